@@ -1,0 +1,11 @@
+pub mod Accepted
+pub mod Ascii
+pub mod Built
+pub mod Clients
+pub mod Elements
+pub mod Exactly
+pub mod Held
+pub mod Judged
+pub mod Rows
+pub mod Tests
+pub mod Within

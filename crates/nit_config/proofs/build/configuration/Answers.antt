@@ -1,0 +1,33 @@
+use Rattle.std.proofs.Common.{◌∙◌, pos, codes, arith}
+use Rattle.toml.specs.View.{table_view}
+use Rattle.nit_config.specs.Tree.{integer_at, screen_of}
+use Rattle.nit_config.specs.Ranges.{has_bad_value, has_bad_label}
+use Rattle.nit_config.proofs.Accepted.{accepted}
+use Rattle.nit_config.proofs.Built.{built_of}
+use Rattle.nit_config.proofs.Clients.{members_of_values, on_clients}
+use Rattle.nit_config.proofs.Held.{wider}
+use Rattle.nit_config.proofs.build.configuration.Goals as goal
+
+pub required_at-width-requires : goal.required_at-width-requires
+required_at-width-requires c = rw c.table_at-screen.ensures (wider (integer_at (codes "width") (pos 0) (screen_of (table_view c.args.top.now))) 1 1024 1 8388608 (accepted _ c.requires.accepted).width (omega arith) (omega arith))
+
+pub required_at-height-requires : goal.required_at-height-requires
+required_at-height-requires c = rw c.table_at-screen.ensures (wider (integer_at (codes "height") (pos 0) (screen_of (table_view c.args.top.now))) 1 768 1 8388608 (accepted _ c.requires.accepted).height (omega arith) (omega arith))
+
+pub script_of-requires : goal.script_of-requires
+script_of-requires c = rw c.table_at.ensures (accepted _ c.requires.accepted).script
+
+pub members-requires-clause-values : goal.members-requires-clause-values
+members-requires-clause-values c = on_clients has_bad_value _ _ c.elements_of.ensures ∙ (accepted _ c.requires.accepted).values
+
+pub members-requires-clause-labels : goal.members-requires-clause-labels
+members-requires-clause-labels c = on_clients has_bad_label _ _ c.elements_of.ensures ∙ (accepted _ c.requires.accepted).labels
+
+pub returns : goal.returns
+returns c = record {
+  width = rw (← c.table_at-screen.ensures) c.required_at-width.ensures;
+  height = rw (← c.table_at-screen.ensures) c.required_at-height.ensures;
+  bar = rw (← c.table_at-screen.ensures) c.boolean_at-bar.ensures;
+  input = rw (← c.table_at.ensures) c.in_ok-input.ensures;
+  clients = built_of _ _ _ (members_of_values _ _ c.elements_of.ensures) c.in_ok-clients.ensures;
+}

@@ -1,0 +1,11 @@
+use Rattle.std.proofs.Common.{◌∙◌, ap}
+use Rattle.std.proofs.lemmas.Bool.{false≢true}
+use Rattle.nit_glyph.specs.Texts.{is_label}
+use Rattle.nit_config.proofs.Held.{label_is_label, label_length}
+use Rattle.nit_config.proofs.build.label_in.Goals as goal
+
+pub text_at-requires : goal.text_at-requires
+text_at-requires c = label_length _ (label_is_label _ c.requires)
+
+pub unreachable-requires : goal.unreachable-requires
+unreachable-requires c = false≢true (c.in-None.ensures.exactly.1 (ap is_label (c.as_bytes.ensures.value ∙ c.text_at.ensures.same) ∙ label_is_label _ c.requires))

@@ -1,0 +1,11 @@
+use Rattle.std.proofs.Common.{pos, arith}
+use Rattle.toml.specs.View.{table_view}
+use Rattle.nit_config.specs.Tree.{integer_at}
+use Rattle.nit_config.proofs.Held.{integer_there, at_least_one, wider}
+use Rattle.nit_config.proofs.build.required_at.Goals as goal
+
+pub number_at-requires : goal.number_at-requires
+number_at-requires c = wider (integer_at c.args.key.now (pos 0) (table_view c.args.table.now)) 1 8388608 0 8388608 c.requires (omega arith) (omega arith)
+
+pub returns : goal.returns
+returns c = integer_there _ _ c.number_at.ensures (at_least_one 8388608 _ _ c.requires c.number_at.ensures)

@@ -1,0 +1,10 @@
+use Rattle.std.proofs.Common.{◌∙◌, ap}
+use Rattle.nit_config.specs.Configuration.{is_file_name}
+use Rattle.nit_config.proofs.Held.{script_is_name, file_name_length}
+use Rattle.nit_config.proofs.build.script_of.Goals as goal
+
+pub text_at-requires : goal.text_at-requires
+text_at-requires c = file_name_length _ (script_is_name _ c.requires)
+
+pub new-requires : goal.new-requires
+new-requires c = ap is_file_name (c.as_bytes.ensures.value ∙ c.text_at.ensures.same) ∙ script_is_name _ c.requires

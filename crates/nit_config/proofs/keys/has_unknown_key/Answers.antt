@@ -1,0 +1,7 @@
+use Rattle.std.proofs.Common.{◌∙◌}
+use Rattle.nit_config.specs.Keys.{place_rows}
+use Rattle.nit_config.proofs.Rows.{on_members}
+use Rattle.nit_config.proofs.keys.has_unknown_key.Goals as goal
+
+pub returns : goal.returns
+returns c = c.some_is_unknown.ensures ∙ on_members (place_rows c.args.place) c.args.table.now.entries

@@ -1,0 +1,9 @@
+use Rattle.std.proofs.Common.{◌∙◌}
+use Rattle.toml.specs.View.{table_view}
+use Rattle.nit_config.specs.Keys.{is_lacking, lacks_key}
+use Rattle.nit_config.proofs.Rows.{on_rows}
+use Rattle.nit_config.proofs.keys.lacks_key.Goals as goal
+
+pub returns : goal.returns
+unfolding lacks_key
+returns c = c.some_is_lacking.ensures ∙ on_rows (λ r. is_lacking r (table_view c.args.table.now)) _ _ c.keys.ensures

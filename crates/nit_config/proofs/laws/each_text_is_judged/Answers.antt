@@ -1,0 +1,5 @@
+use Rattle.nit_config.proofs.Judged.{judged}
+use Rattle.nit_config.proofs.laws.each_text_is_judged.Goals as goal
+
+pub returns : goal.returns
+returns c = judged

@@ -1,0 +1,5 @@
+use Rattle.nit_config.proofs.Within.{still_configured}
+use Rattle.nit_config.proofs.laws.still_is_configured.Goals as goal
+
+pub returns : goal.returns
+returns c = still_configured

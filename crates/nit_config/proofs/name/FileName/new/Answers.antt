@@ -1,0 +1,5 @@
+use Rattle.nit_config.proofs.Ascii.{file_name_utf8}
+use Rattle.nit_config.proofs.name.FileName.new.Goals as goal
+
+pub unreachable-requires : goal.unreachable-requires
+unreachable-requires c = c.in-Err.ensures.cases.0 (file_name_utf8 _ c.requires)

@@ -1,0 +1,7 @@
+use Rattle.std.proofs.Common.{◌∙◌}
+use Rattle.nit_config.specs.Ranges.{has_bad_label}
+use Rattle.nit_config.proofs.Clients.{on_clients}
+use Rattle.nit_config.proofs.refusals.client_has_bad_label.Goals as goal
+
+pub returns : goal.returns
+returns c = c.some_has_bad_label.ensures ∙ on_clients has_bad_label _ _ c.elements_of.ensures

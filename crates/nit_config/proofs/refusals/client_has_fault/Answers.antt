@@ -1,0 +1,8 @@
+use Rattle.std.proofs.Common.{◌∙◌}
+use Rattle.nit_config.specs.Keys.{client_rows}
+use Rattle.nit_config.specs.Refusals.{has_fault}
+use Rattle.nit_config.proofs.Clients.{on_clients}
+use Rattle.nit_config.proofs.refusals.client_has_fault.Goals as goal
+
+pub returns : goal.returns
+returns c = c.some_has_fault.ensures ∙ on_clients (has_fault c.args.fault client_rows) _ _ c.elements_of.ensures

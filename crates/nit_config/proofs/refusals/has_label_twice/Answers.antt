@@ -1,0 +1,8 @@
+use Rattle.std.proofs.Common.{◌∙◌, ap}
+use Rattle.nit_config.specs.Refusals.{stands_twice, has_label_twice}
+use Rattle.nit_config.proofs.Clients.{labels_of}
+use Rattle.nit_config.proofs.refusals.has_label_twice.Goals as goal
+
+pub returns : goal.returns
+unfolding has_label_twice
+returns c = c.stands_twice.ensures ∙ ap stands_twice (labels_of _ _ c.elements_of.ensures)

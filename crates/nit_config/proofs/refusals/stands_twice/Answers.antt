@@ -1,0 +1,22 @@
+use Rattle.std.proofs.Common.{◌∙◌, sym, ap, ◌||◌, ◌+◌, map, drop, List, ℕ}
+use Rattle.toml.specs.View.{view}
+use Rattle.toml.specs.declared.value.Value.{Value}
+use Rattle.nit_config.specs.Tree.{members_of}
+use Rattle.nit_config.specs.Ranges.{label_of}
+use Rattle.nit_config.specs.Refusals.{stands_twice}
+use Rattle.nit_config.proofs.Clients.{twice_compared}
+use Rattle.nit_config.proofs.refusals.stands_twice.Goals as goal
+
+-- the label of a client's value
+abbrev label : Value → List ℕ
+label v = label_of (members_of (view v))
+
+pub returns-then-some_has_label_of : goal.returns-then-some_has_label_of
+returns-then-some_has_label_of c =
+    sym (c.clients.invariant ∙ (twice_compared label c.args.clients.now c.clients.i c.index-clients-i.result _ c.clients-test.true c.index-clients-i.is c.some_has_label_of.ensures
+    ∙ ap (λ b. b || stands_twice (map label (drop (c.clients.i + 1) c.args.clients.now))) c.if-some_has_label_of.true))
+
+pub clients-preserved : goal.clients-preserved
+clients-preserved c =
+    c.clients.invariant ∙ (twice_compared label c.args.clients.now c.clients.i c.index-clients-i.result _ c.clients-test.true c.index-clients-i.is c.some_has_label_of.ensures
+    ∙ ap (λ b. b || stands_twice (map label (drop (c.clients.i + 1) c.args.clients.now))) c.if-some_has_label_of.false)

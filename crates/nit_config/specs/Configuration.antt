@@ -1,0 +1,35 @@
+-- A configuration, as a value.
+use Rattle.std.specs.Prelude.{ℕ, Bool, true, false, ◌&&◌, nat_le, List, [], ◌∷◌, length, slice_index_or, codes, if◌then◌else◌}
+use Rattle.std.specs.List.{list_all}
+use Rattle.nit_config.specs.declared.config.Member.{Member}
+
+-- the screen's size, whether it has a status bar, the name of the input script, and the clients in order
+pub record Configuration : Type 0 where
+  pub width : ℕ
+  pub height : ℕ
+  pub bar : Bool
+  pub input : List ℕ
+  pub clients : List Member
+
+-- 1 to 255 bytes of printable ASCII
+abbrev pub is_file_name : List ℕ → Bool
+is_file_name text = nat_le 1 (length text) && nat_le (length text) 255 && list_all (λ b. nat_le 32 b && nat_le b 126) text
+
+-- the rows of the status bar
+abbrev pub bar_rows : Configuration → ℕ
+bar_rows config = if config.bar then 7 else 0
+
+-- the client of a session; one without a donation where there is none
+abbrev pub member : Configuration → ℕ → Member
+member config session = slice_index_or config.clients session (record { label = []; donation = 0; script = []; layer = 0; clicks = false })
+
+-- the configuration of a picture of one client's script, on a screen of this size
+abbrev pub still_configuration : ℕ → ℕ → Configuration
+still_configuration width height =
+    record {
+      width = width;
+      height = height;
+      bar = false;
+      input = codes "still";
+      clients = record { label = codes "still"; donation = 8388608; script = codes "still"; layer = 0; clicks = true } ∷ [];
+    }

@@ -1,0 +1,59 @@
+-- The refusals of a table, in their order over the whole file.
+use Rattle.std.specs.Prelude.{ℕ, Bool, false, ◌||◌, if◌then◌else◌, nat_lt, List, [], ◌∷◌, length, map, Option, Some, None, bytes_eq}
+use Rattle.std.specs.List.{list_any}
+use Rattle.toml.specs.Data.{Members}
+use Rattle.nit_config.specs.declared.error.ConfigError.{ConfigError}
+use Rattle.nit_config.specs.declared.error.ConfigError.TheVariants as refused
+use Rattle.nit_config.specs.declared.refusals.Fault.{Fault}
+use Rattle.nit_config.specs.declared.refusals.Fault.TheVariants.{OtherKind, Lacking, Unknown}
+use Rattle.nit_config.specs.Keys.{Row, top_rows, screen_rows, input_rows, client_rows, has_other_kind, lacks_key, has_unknown_key}
+use Rattle.nit_config.specs.Ranges.{has_bad_size, has_bad_script, has_bad_value, label_of, has_bad_label}
+use Rattle.nit_config.specs.Tree.{elements_of, screen_of, input_of, clients_of}
+
+-- the table has the fault, by the rows of its place
+abbrev pub has_fault : Fault → List Row → Members → Bool
+has_fault OtherKind rows ms = has_other_kind rows ms
+has_fault Lacking rows ms = lacks_key rows ms
+has_fault Unknown rows ms = has_unknown_key rows ms
+
+-- the top, `screen`, `input` or a client has the fault
+unfoldable pub is_somewhere : Fault → Members → Bool
+is_somewhere fault top =
+    ((has_fault fault top_rows top || has_fault fault screen_rows (screen_of top))
+    || has_fault fault input_rows (input_of top))
+    || list_any (has_fault fault client_rows) (clients_of top)
+
+-- the screen's size, the input script's name, or a value of a client is outside its range
+unfoldable pub has_bad_range : Members → Bool
+has_bad_range top = (has_bad_size (screen_of top) || has_bad_script (input_of top)) || list_any has_bad_value (clients_of top)
+
+-- a text stands twice in the list
+abbrev pub stands_twice : List (List ℕ) → Bool
+stands_twice [] = false
+stands_twice (x ∷ xs) = list_any (bytes_eq x) xs || stands_twice xs
+
+-- two clients have the same label
+unfoldable pub has_label_twice : Members → Bool
+has_label_twice top = stands_twice (map label_of (clients_of top))
+
+-- the first of the refusals whose test holds
+abbrev pub first_of : List (Bool × ConfigError) → Option ConfigError
+first_of [] = None
+first_of (r ∷ rest) = if r.0 then Some r.1 else first_of rest
+
+-- the refusals in their order, each over the whole file before the next; a later test may hold too, where an earlier one does
+abbrev pub refusals : Members → List (Bool × ConfigError)
+refusals top =
+    (is_somewhere OtherKind top, refused.Kind)
+    ∷ (is_somewhere Lacking top, refused.Missing)
+    ∷ (nat_lt (length (elements_of top)) 1, refused.Missing)
+    ∷ (is_somewhere Unknown top, refused.Unknown)
+    ∷ (nat_lt 16 (length (elements_of top)), refused.TooMany)
+    ∷ (has_bad_range top, refused.Range)
+    ∷ (list_any has_bad_label (clients_of top), refused.Label)
+    ∷ (has_label_twice top, refused.Twice)
+    ∷ []
+
+-- the first refusal that applies to a table, or none
+unfoldable pub refusal : Members → Option ConfigError
+refusal top = first_of (refusals top)

@@ -1,0 +1,33 @@
+//! What the relations between texts, configurations and refusals say of each other.
+
+ghost use Rattle.std.specs.Prelude.{◌≡◌, ◌≤◌, ◌⊎◌, ℕ, List};
+ghost use Rattle.nit_config.specs.declared.error.ConfigError.{ConfigError};
+ghost use Rattle.nit_config.specs.Configuration.{Configuration, still_configuration};
+ghost use Rattle.nit_config.specs.Configured.{IsConfigured};
+ghost use Rattle.nit_config.specs.Reading.{Conf, IsRefused};
+
+/// A text has one configuration at most, and that is within the ranges of the format.
+pub fn configuration_is_one()
+    ensures one { (bytes : List ℕ) (a b : Configuration) → Conf bytes a → Conf bytes b → a ≡ b }
+    ensures configured { (bytes : List ℕ) (config : Configuration) → Conf bytes config → IsConfigured config }
+{}
+
+/// A text meets one refusal at most, and none where it has a configuration.
+pub fn refusal_is_one()
+    ensures one { (bytes : List ℕ) (a b : ConfigError) → IsRefused bytes a → IsRefused bytes b → a ≡ b }
+    ensures none { (bytes : List ℕ) (config : Configuration) (error : ConfigError)
+        → Conf bytes config → IsRefused bytes error → ⊥ }
+{}
+
+/// Each text has a configuration or meets a refusal.
+pub fn each_text_is_judged()
+    ensures { (bytes : List ℕ)
+        → ((config : Configuration) × Conf bytes config) ⊎ ((error : ConfigError) × IsRefused bytes error) }
+{}
+
+/// The configuration of a picture of one client's script is within the ranges where the size of its
+/// screen is.
+pub fn still_is_configured()
+    ensures { (width height : ℕ) → 1 ≤ width → width ≤ 1024 → 1 ≤ height → height ≤ 768
+        → IsConfigured (still_configuration width height) }
+{}

@@ -1,0 +1,42 @@
+ghost use Rattle.std.specs.Prelude.{◌≡◌, IsTrue, IfOk, string_bytes};
+ghost use Rattle.nit_config.specs.Configuration.{is_file_name};
+
+use nit_rect::NoMemory;
+use std::alloc::Global;
+use std::marker::Model;
+
+/// The name of a file: 1 to 255 bytes of printable ASCII, 0x20..=0x7E, seen as their list.
+#[derive(Drop)]
+pub struct FileName {
+    text: String,
+}
+
+impl Model for FileName {
+    ghost use Rattle.std.specs.Prelude.{ℕ, List, string_bytes};
+
+    ghost Value = { List ℕ };
+
+    ghost view = { λ n. string_bytes n.text };
+}
+
+impl FileName {
+    /// This name.
+    pub fn new(alloc: Global, text: &[u8]) -> Result<FileName, NoMemory>
+        requires { IsTrue (is_file_name text.now) }
+        ensures { IfOk result (λ n. n ≡ text.now) }
+    {
+        match std::str::from_utf8(text) {
+            Ok(text) => Ok(FileName {
+                text: String::from_str(alloc, text)?,
+            }),
+            Err(_) => unreachable!(),
+        }
+    }
+
+    /// The text.
+    pub fn as_str(&self) -> &str
+        ensures { result.now ≡ self.now }
+    {
+        self.text.as_str()
+    }
+}

@@ -1,0 +1,172 @@
+//! The refusals of a table, in their order over the whole file.
+
+ghost use Rattle.std.specs.Prelude.{◌≡◌, length, map, bytes_eq};
+ghost use Rattle.std.specs.List.{list_any};
+ghost use Rattle.toml.specs.Data.{no_members};
+ghost use Rattle.toml.specs.View.{view, table_view};
+ghost use Rattle.nit_config.specs.Tree.{members_of, elements_of, clients_of};
+ghost use Rattle.nit_config.specs.Keys.{place_rows, client_rows};
+ghost use Rattle.nit_config.specs.Ranges.{has_bad_value, label_of, has_bad_label};
+ghost use Rattle.nit_config.specs.Refusals.{has_fault, is_somewhere, has_bad_range, stands_twice, has_label_twice, refusal};
+
+use crate::error::ConfigError;
+use crate::keys::{Place, has_other_kind, has_unknown_key, lacks_key};
+use crate::ranges::{has_bad_label, has_bad_script, has_bad_size, has_bad_value, label_of};
+use crate::tree::{elements_of, table_at, table_of};
+use toml::{Table, Value};
+
+/// The most clients of a configuration.
+const MAX_CLIENTS: usize = 16;
+
+/// What a table may have wrong by its keys.
+#[derive(Clone, Copy)]
+pub(crate) enum Fault {
+    OtherKind,
+    Lacking,
+    Unknown,
+}
+
+fn has_fault(fault: Fault, place: Place, table: &Table) -> bool
+    ensures { result ≡ has_fault fault (place_rows place) (table_view table.now) }
+{
+    match fault {
+        Fault::OtherKind => has_other_kind(place, table),
+        Fault::Lacking => lacks_key(place, table),
+        Fault::Unknown => has_unknown_key(place, table),
+    }
+}
+
+fn some_has_fault(fault: Fault, clients: &[Value], empty: &Table) -> bool
+    requires { table_view empty.now ≡ no_members }
+    ensures { result ≡ list_any (λ v. has_fault fault client_rows (members_of (view v))) clients.now }
+{
+    clients.iter().any(|client| has_fault(fault, Place::Client, table_of(client, empty)))
+}
+
+fn some_has_bad_value(clients: &[Value], empty: &Table) -> bool
+    requires { table_view empty.now ≡ no_members }
+    ensures { result ≡ list_any (λ v. has_bad_value (members_of (view v))) clients.now }
+{
+    clients
+        .iter()
+        .any(|client| has_bad_value(table_of(client, empty)))
+}
+
+fn some_has_bad_label(clients: &[Value], empty: &Table) -> bool
+    requires { table_view empty.now ≡ no_members }
+    ensures { result ≡ list_any (λ v. has_bad_label (members_of (view v))) clients.now }
+{
+    clients
+        .iter()
+        .any(|client| has_bad_label(table_of(client, empty)))
+}
+
+fn some_has_label_of(first: &Value, clients: &[Value], empty: &Table) -> bool
+    requires { table_view empty.now ≡ no_members }
+    ensures { result ≡ list_any (λ v. bytes_eq (label_of (members_of (view first.now))) (label_of (members_of (view v)))) clients.now }
+{
+    let label = label_of(table_of(first, empty));
+    clients
+        .iter()
+        .any(|client| label == label_of(table_of(client, empty)))
+}
+
+fn stands_twice(clients: &[Value], empty: &Table) -> bool
+    requires { table_view empty.now ≡ no_members }
+    ensures { result ≡ stands_twice (map (λ v. label_of (members_of (view v))) clients.now) }
+{
+    'clients: for i in 0..clients.len() {
+        if some_has_label_of(&clients[i], &clients[i + 1..], empty) {
+            return true;
+        }
+    }
+    false
+}
+
+fn count(top: &Table) -> usize
+    ensures { result ≡ length (elements_of (table_view top.now)) }
+{
+    elements_of(top).len()
+}
+
+fn client_has_fault(fault: Fault, top: &Table, empty: &Table) -> bool
+    requires { table_view empty.now ≡ no_members }
+    ensures { result ≡ list_any (has_fault fault client_rows) (clients_of (table_view top.now)) }
+{
+    some_has_fault(fault, elements_of(top), empty)
+}
+
+fn client_has_bad_value(top: &Table, empty: &Table) -> bool
+    requires { table_view empty.now ≡ no_members }
+    ensures { result ≡ list_any has_bad_value (clients_of (table_view top.now)) }
+{
+    some_has_bad_value(elements_of(top), empty)
+}
+
+fn client_has_bad_label(top: &Table, empty: &Table) -> bool
+    requires { table_view empty.now ≡ no_members }
+    ensures { result ≡ list_any has_bad_label (clients_of (table_view top.now)) }
+{
+    some_has_bad_label(elements_of(top), empty)
+}
+
+fn has_label_twice(top: &Table, empty: &Table) -> bool
+    requires { table_view empty.now ≡ no_members }
+    ensures { result ≡ has_label_twice (table_view top.now) }
+{
+    stands_twice(elements_of(top), empty)
+}
+
+#[tactic(auto, unfolding(crate::specs::Refusals::is_somewhere))]
+fn is_somewhere(fault: Fault, top: &Table, empty: &Table) -> bool
+    requires { table_view empty.now ≡ no_members }
+    ensures { result ≡ is_somewhere fault (table_view top.now) }
+{
+    has_fault(fault, Place::Top, top)
+        || has_fault(fault, Place::Screen, table_at(top, "screen", empty))
+        || has_fault(fault, Place::Input, table_at(top, "input", empty))
+        || client_has_fault(fault, top, empty)
+}
+
+#[tactic(auto, unfolding(crate::specs::Refusals::has_bad_range))]
+fn has_bad_range(top: &Table, empty: &Table) -> bool
+    requires { table_view empty.now ≡ no_members }
+    ensures { result ≡ has_bad_range (table_view top.now) }
+{
+    has_bad_size(table_at(top, "screen", empty))
+        || has_bad_script(table_at(top, "input", empty))
+        || client_has_bad_value(top, empty)
+}
+
+/// The first refusal that applies to a table, or none.
+#[tactic(auto, unfolding(crate::specs::Refusals::refusal))]
+pub(crate) fn refusal(top: &Table, empty: &Table) -> Option<ConfigError>
+    requires { table_view empty.now ≡ no_members }
+    ensures { result ≡ refusal (table_view top.now) }
+{
+    if is_somewhere(Fault::OtherKind, top, empty) {
+        return Some(ConfigError::Kind);
+    }
+    if is_somewhere(Fault::Lacking, top, empty) {
+        return Some(ConfigError::Missing);
+    }
+    if count(top) < 1 {
+        return Some(ConfigError::Missing);
+    }
+    if is_somewhere(Fault::Unknown, top, empty) {
+        return Some(ConfigError::Unknown);
+    }
+    if MAX_CLIENTS < count(top) {
+        return Some(ConfigError::TooMany);
+    }
+    if has_bad_range(top, empty) {
+        return Some(ConfigError::Range);
+    }
+    if client_has_bad_label(top, empty) {
+        return Some(ConfigError::Label);
+    }
+    if has_label_twice(top, empty) {
+        return Some(ConfigError::Twice);
+    }
+    None
+}

@@ -1,0 +1,15 @@
+-- Bytes that are filled up with 0.
+use Rattle.std.proofs.Common.{◌≡◌, ℕ, ◌≤◌, true, List, ◌++◌, length, take, drop, replicate, sym, ◌∙◌, arith, length-append, subst}
+use Rattle.std.proofs.Math.Seq.{take-append_seam, drop-append_seam}
+use Rattle.std.proofs.lemmas.List.{drop-replicate}
+use Rattle.std.proofs.lemmas.Bool.{and_parts, leb-true}
+use Rattle.nit_events.specs.Texts.{is_text, IsPadded}
+
+-- an array of 40 zeros whose beginning was written
+pub padded : (bytes copy : List ℕ) → is_text bytes ≡ true → copy ≡ bytes
+    → IsPadded (copy ++ drop (length bytes) (replicate 40 0)) (length bytes) × (is_text (take (length bytes) (copy ++ drop (length bytes) (replicate 40 0))) ≡ true)
+padded bytes copy is same =
+    let few : length bytes ≤ 40 = leb-true _ _ (and_parts _ _ is).0 in
+    let tail : List ℕ = drop (length bytes) (replicate 40 0) in
+    subst (λ (c : List ℕ). IsPadded (c ++ tail) (length bytes) × (is_text (take (length bytes) (c ++ tail)) ≡ true)) (sym same)
+    (record { fits = omega (arith, length-append bytes tail); zeros = drop-append_seam bytes tail ∙ drop-replicate (length bytes) 40 0 }, rw (take-append_seam bytes tail) is)

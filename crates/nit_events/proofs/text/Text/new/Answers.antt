@@ -1,0 +1,6 @@
+use Rattle.std.proofs.Common.{sym, ◌∙◌}
+use Rattle.nit_events.proofs.Padding.{padded}
+use Rattle.nit_events.proofs.text.Text.new.Goals as goal
+
+pub invariant_of-result : goal.invariant_of-result
+invariant_of-result c = padded c.args.bytes.now c.copy_from_slice.new.self (sym c.is_text.ensures ∙ c.if-not-is_text.false) c.copy_from_slice.ensures.after

@@ -1,0 +1,4 @@
+pub mod Glyphs
+pub mod Padding
+pub mod Tells
+pub mod Tests

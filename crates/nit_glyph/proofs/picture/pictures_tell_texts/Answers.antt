@@ -1,0 +1,5 @@
+use Rattle.nit_glyph.proofs.Tells.{texts_same}
+use Rattle.nit_glyph.proofs.picture.pictures_tell_texts.Goals as goal
+
+pub returns : goal.returns
+returns c = texts_same

@@ -1,0 +1,70 @@
+-- Worked rows of one session and of a small journal, computed from the definitions.
+use Rattle.std.proofs.Common.{◌≡◌, List, [], ◌∷◌, refl, pos, negsuc, map}
+use Rattle.std.specs.Prelude.{codes}
+use Rattle.nit_events.specs.declared.call.Call.{Call}
+use Rattle.nit_events.specs.declared.call.Call.TheVariants.{Buffer, View, Place, Title, Destroy, Refresh, Take, Upgrade, Close}
+use Rattle.nit_events.specs.declared.call.Reply.TheVariants as reply
+use Rattle.nit_events.specs.declared.entry.Entry.{Entry}
+use Rattle.nit_events.specs.declared.entry.Entry.TheVariants as entry
+use Rattle.nit_stack.specs.Sources.{Bare, Word, point}
+use Rattle.nit_config.specs.Configuration.{still_configuration}
+use Rattle.nit_journal.specs.Session.{serve}
+use Rattle.nit_journal.specs.Projections.{Moment, Calls, alone}
+use Rattle.nit_journal.specs.State.{source_of}
+use Rattle.nit_journal.specs.Views.{stack_after_call}
+use Rattle.nit_journal.specs.Journals.{replay}
+
+abbrev calls : List Call → List Moment
+calls xs = map (λ c. Calls c) xs
+
+three_views : alone 512 (calls (View ∷ View ∷ View ∷ [])) ≡ reply.Handle 1 ∷ reply.Handle 2 ∷ reply.OutOfQuota 256 0 ∷ []
+unfolding serve
+three_views = refl
+
+buffers : alone 512 (calls (Buffer 4 4 ∷ Buffer 8 8 ∷ [])) ≡ reply.Done ∷ reply.Done ∷ []
+unfolding serve
+buffers = refl
+
+buffer_beside_view : alone 512 (calls (Buffer 4 4 ∷ View ∷ Buffer 8 8 ∷ [])) ≡ reply.Done ∷ reply.Handle 1 ∷ reply.OutOfQuota 512 256 ∷ []
+unfolding serve
+buffer_beside_view = refl
+
+handles_are_new : alone 8388608 (calls (View ∷ Destroy 1 ∷ View ∷ Place 1 (pos 0) (pos 0) 1 1 ∷ [])) ≡ reply.Handle 1 ∷ reply.Done ∷ reply.Handle 2 ∷ reply.NoSuchView 1 ∷ []
+unfolding serve
+handles_are_new = refl
+
+titles : alone 8388608 (calls (View ∷ Title 1 (codes "log 2") ∷ Title 1 (codes "Log") ∷ Title 1 (codes "abcdefghijklm") ∷ Title 2 [] ∷ []))
+    ≡ reply.Handle 1 ∷ reply.Done ∷ reply.BadTitle ∷ reply.BadTitle ∷ reply.NoSuchView 2 ∷ []
+unfolding serve
+titles = refl
+
+ranges : alone 8388608 (calls (View ∷ Place 1 (pos 32767) (negsuc 32767) 32767 32767 ∷ Place 1 (pos 32768) (pos 0) 1 1 ∷ Refresh (pos 0) (pos 0) 32768 1 ∷ Buffer 4097 1 ∷ Buffer 0 1 ∷ Close ∷ Close ∷ Take ∷ []))
+    ≡ reply.Handle 1 ∷ reply.Done ∷ reply.BadRect ∷ reply.BadRect ∷ reply.BadSize ∷ reply.BadSize ∷ reply.Done ∷ reply.Closed ∷ reply.Closed ∷ []
+unfolding serve
+ranges = refl
+
+upgrades : alone 512 (calls (View ∷ View ∷ Upgrade 256 ∷ View ∷ Upgrade 257 ∷ Upgrade 256 ∷ Upgrade 1 ∷ []))
+    ≡ reply.Handle 1 ∷ reply.Handle 2 ∷ reply.Done ∷ reply.Handle 3 ∷ reply.NoReserve 257 256 ∷ reply.Done ∷ reply.NoReserve 1 0 ∷ []
+unfolding serve
+upgrades = refl
+
+-- a buffer of 4 by 2 in a view at (1, 1)
+abbrev first : List Entry
+first =
+    entry.Call 0 (Buffer 4 2) reply.Done
+    ∷ entry.Call 0 View (reply.Handle 1)
+    ∷ entry.Call 0 (Place 1 (pos 1) (pos 1) 4 2) reply.Done
+    ∷ entry.Final
+    ∷ []
+
+first_at_1_1 : source_of (replay (still_configuration 8 4) first) (point 1 1) ≡ Word 0 0
+unfolding serve stack_after_call
+first_at_1_1 = refl
+
+first_at_4_2 : source_of (replay (still_configuration 8 4) first) (point 4 2) ≡ Word 0 7
+unfolding serve stack_after_call
+first_at_4_2 = refl
+
+first_at_0_0 : source_of (replay (still_configuration 8 4) first) (point 0 0) ≡ Bare
+unfolding serve stack_after_call
+first_at_0_0 = refl

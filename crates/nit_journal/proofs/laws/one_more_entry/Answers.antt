@@ -1,0 +1,8 @@
+use Rattle.nit_journal.proofs.Growing.{replay_more, legal_more}
+use Rattle.nit_journal.proofs.laws.one_more_entry.Goals as goal
+
+pub returns-clause-replayed : goal.returns-clause-replayed
+returns-clause-replayed c = replay_more
+
+pub returns-clause-legal : goal.returns-clause-legal
+returns-clause-legal c = legal_more

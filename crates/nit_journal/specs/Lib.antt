@@ -1,0 +1,11 @@
+pub use Rattle.nit_stack.specs.Sources
+pub use Rattle.nit_stack.specs.Orders
+pub use Rattle.nit_events.specs.Input
+pub use Rattle.nit_config.specs.Configuration
+pub mod Kept
+pub mod Session
+pub mod Views
+pub mod State
+pub mod Journals
+pub mod Projections
+pub mod Whole

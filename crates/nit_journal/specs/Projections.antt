@@ -1,0 +1,53 @@
+-- What one session sees of a journal.
+use Rattle.std.specs.Prelude.{ℕ, ◌==◌, List, [], ◌∷◌, ◌++◌, map, sum, length, if◌then◌else◌}
+use Rattle.nit_events.specs.declared.call.Call.{Call}
+use Rattle.nit_events.specs.declared.call.Reply.{Reply}
+use Rattle.nit_events.specs.declared.event.Item.{Item}
+use Rattle.nit_events.specs.declared.event.Delivery.{Delivery}
+use Rattle.nit_events.specs.declared.entry.Entry.{Entry}
+use Rattle.nit_events.specs.declared.entry.Entry.TheVariants as entry
+use Rattle.nit_events.specs.Input.{deliveries_of}
+use Rattle.nit_slots.specs.Account.{view_slots}
+use Rattle.nit_config.specs.Configuration.{Configuration}
+use Rattle.nit_journal.specs.Session.{Session, opened, serve, receive}
+use Rattle.nit_journal.specs.State.{State}
+
+-- a session calls, or gets an item
+pub data Moment : Type 0 where
+  Calls : Call → Moment
+  Gets : Item → Moment
+
+-- the items of a list of deliveries that go to a session
+abbrev pub items_to : ℕ → List Delivery → List Moment
+items_to s [] = []
+items_to s (d ∷ ds) = if d.sid == s then Gets d.item ∷ items_to s ds else items_to s ds
+
+-- the calls of a session and the items that were routed to it, in order
+abbrev pub projection : ℕ → List Entry → List Moment
+projection s [] = []
+projection s (entry.Call sid call r ∷ rest) = if sid == s then Calls call ∷ projection s rest else projection s rest
+projection s (entry.Input dev routed ∷ rest) = items_to s (deliveries_of routed) ++ projection s rest
+projection s (other ∷ rest) = projection s rest
+
+-- the replies to a session, in order
+abbrev pub replies_to : ℕ → List Entry → List Reply
+replies_to s [] = []
+replies_to s (entry.Call sid call r ∷ rest) = if sid == s then r ∷ replies_to s rest else replies_to s rest
+replies_to s (other ∷ rest) = replies_to s rest
+
+-- the replies of a machine that serves one session alone
+abbrev pub replies_from : Session → List Moment → List Reply
+replies_from s [] = []
+replies_from s (Calls call ∷ rest) = (serve s call).reply ∷ replies_from (serve s call).session rest
+replies_from s (Gets i ∷ rest) = replies_from (receive s i) rest
+
+abbrev pub alone : ℕ → List Moment → List Reply
+alone donation moments = replies_from (opened donation) moments
+
+-- how many slots of views the sessions have for their opening donations
+abbrev pub reserved : Configuration → ℕ
+reserved config = sum (map (λ m. view_slots m.donation) config.clients)
+
+-- how many views there are
+abbrev pub views_in_use : State → ℕ
+views_in_use s = sum (map (λ session. length session.handles) s.sessions)

@@ -1,0 +1,9 @@
+pub use Rattle.nit_word.specs.Inks
+pub use Rattle.nit_word.specs.Sight
+pub use Rattle.nit_script.specs.Spelling
+pub use Rattle.nit_script.specs.Phases
+pub use Rattle.nit_journal.specs.Session
+pub mod Calls
+pub mod Strokes
+pub mod Surfaces
+pub mod Plans

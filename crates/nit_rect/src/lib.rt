@@ -1,0 +1,13 @@
+//! Rectangles of the screen as sets of pixels, and the answer for want of memory of every crate above.
+//!
+//! A [`Rect`] is seen as its four numbers. It covers the pixel (px, py) exactly where
+//! `x <= px < x + w` and `y <= py < y + h`.
+#![tactic(auto)]
+
+mod memory;
+mod point;
+mod rect;
+
+pub use memory::NoMemory;
+pub use point::Point;
+pub use rect::Rect;

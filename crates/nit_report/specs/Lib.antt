@@ -1,0 +1,2 @@
+pub use Rattle.nit_word.specs.Channels
+pub mod Picture

@@ -1,0 +1,28 @@
+//! Bytes that are written one after the other into a slice, without memory.
+
+ghost use Rattle.std.specs.Prelude.{◌≡◌, ◌+◌, ◌≤◌, ◌++◌, length, take};
+ghost use Rattle.std.specs.Fmt.{decimal};
+
+/// Writes a text behind the first `at` bytes, and answers where it ends.
+pub fn text(out: &mut [u8], at: usize, text: &[u8]) -> usize
+    requires { at + length text.now ≤ length out.old }
+    ensures end { result ≡ at + length text.now }
+    ensures written { take result out.new ≡ take at out.old ++ text.now }
+{
+    let end = at + text.len();
+    out[at..end].copy_from_slice(text);
+    end
+}
+
+/// Writes a number in decimal behind the first `at` bytes, and answers where it ends.
+pub fn number(out: &mut [u8], at: usize, n: u32) -> usize
+    requires { at + length (decimal n) ≤ length out.old }
+    ensures end { result ≡ at + length (decimal n) }
+    ensures written { take result out.new ≡ take at out.old ++ decimal n }
+{
+    if n < 10 {
+        return text(out, at, &[b'0' + n as u8]);
+    }
+    let end = number(out, at, n / 10);
+    text(out, end, &[b'0' + (n % 10) as u8])
+}

@@ -1,0 +1,76 @@
+-- Scripts and their texts, for any kind of line: which lines fit, and how each is spelled.
+use Rattle.std.specs.Prelude.{◌≡◌, ◌≢◌, ◌≤◌, ℕ, ◌+◌, List, [], ◌∷◌, ◌++◌, length, Result, Ok, Err}
+use Rattle.std.specs.List.{flat_map, AllByRecursion}
+use Rattle.nit_script.specs.declared.error.ScriptError.{ScriptError}
+use Rattle.nit_script.specs.declared.error.ScriptError.TheVariants.{Bad, TooLong, NoMemory}
+use Rattle.nit_script.specs.declared.line.Line.{Line}
+use Rattle.nit_script.specs.declared.line.InputLine.{InputLine}
+use Rattle.nit_script.specs.Spelling.{FitsLine, FitsInputLine, line_spelling, input_spelling}
+
+-- a line with its line feed
+abbrev pub spelled : {L : Type 0} → (L → List ℕ) → L → List ℕ
+spelled spelling l = spelling l ++ 10 ∷ []
+
+-- The bytes are the spellings of the lines, each with one line feed behind it, and each line fits.
+abbrev pub Reads : {L : Type 0} → (L → Type 0) → (L → List ℕ) → List ℕ → List L → Type 0
+Reads Fits spelling bytes lines = AllByRecursion Fits lines × (bytes ≡ flat_map (spelled spelling) lines)
+
+-- The bytes do not begin with the spelling of a line that fits and a line feed.
+abbrev pub HasNoReading : {L : Type 0} → (L → Type 0) → (L → List ℕ) → List ℕ → Type 0
+HasNoReading {L = L} Fits spelling bytes = (l : L) (rest : List ℕ) → Fits l → bytes ≡ spelled spelling l ++ rest → ⊥
+
+-- The bytes are those of lines that fit, and then a rest.
+abbrev pub Begins : {L : Type 0} → (L → Type 0) → (L → List ℕ) → List ℕ → List L → List ℕ → Type 0
+Begins Fits spelling bytes lines rest = AllByRecursion Fits lines × (bytes ≡ flat_map (spelled spelling) lines ++ rest)
+
+-- The line of this number, from 1, is the first that has no reading, among the first 65,536.
+abbrev pub IsFirstBad : {L : Type 0} → (L → Type 0) → (L → List ℕ) → List ℕ → ℕ → Type 0
+IsFirstBad {L = L} Fits spelling bytes number = (lines : List L) × (rest : List ℕ) × Begins Fits spelling bytes lines rest × (rest ≢ []) × HasNoReading Fits spelling rest × (length lines + 1 ≡ number) × (number ≤ 65536)
+
+-- There are 65,536 lines with a reading, and a byte stands behind them.
+abbrev pub IsTooLong : {L : Type 0} → (L → Type 0) → (L → List ℕ) → List ℕ → Type 0
+IsTooLong {L = L} Fits spelling bytes = (lines : List L) × (rest : List ℕ) × Begins Fits spelling bytes lines rest × (rest ≢ []) × (length lines ≡ 65536)
+
+-- ---- clients' scripts
+
+-- The bytes spell these lines of a client's script.
+abbrev pub ReadsClient : List ℕ → List Line → Type 0
+ReadsClient = Reads FitsLine line_spelling
+
+-- The line of this number is the first without a reading.
+abbrev pub IsFirstBadClient : List ℕ → ℕ → Type 0
+IsFirstBadClient = IsFirstBad FitsLine line_spelling
+
+-- Bytes stand behind 65,536 lines with a reading.
+abbrev pub IsTooLongClient : List ℕ → Type 0
+IsTooLongClient = IsTooLong FitsLine line_spelling
+
+-- ---- input scripts
+
+-- The bytes spell these lines of an input script.
+abbrev pub ReadsInput : List ℕ → List InputLine → Type 0
+ReadsInput = Reads FitsInputLine input_spelling
+
+-- The line of this number is the first without a reading.
+abbrev pub IsFirstBadInput : List ℕ → ℕ → Type 0
+IsFirstBadInput = IsFirstBad FitsInputLine input_spelling
+
+-- Bytes stand behind 65,536 lines with a reading.
+abbrev pub IsTooLongInput : List ℕ → Type 0
+IsTooLongInput = IsTooLong FitsInputLine input_spelling
+
+-- ---- answers
+
+-- The fact holds, or memory ran out.
+abbrev pub UnlessMemory : {A : Type 0} → Result A ScriptError → Type 0 → Type 0
+UnlessMemory (Ok c) P = P
+UnlessMemory (Err (Bad line)) P = P
+UnlessMemory (Err TooLong) P = P
+UnlessMemory (Err NoMemory) P = Unit {0}
+
+-- What reading bytes as a script may answer.
+abbrev pub IsAnswer : {L : Type 0} → (L → Type 0) → (L → List ℕ) → List ℕ → Result (List L) ScriptError → Type 0
+IsAnswer Fits spelling bytes (Ok lines) = Reads Fits spelling bytes lines × (length lines ≤ 65536)
+IsAnswer Fits spelling bytes (Err (Bad line)) = IsFirstBad Fits spelling bytes line
+IsAnswer Fits spelling bytes (Err TooLong) = IsTooLong Fits spelling bytes
+IsAnswer Fits spelling bytes (Err NoMemory) = Unit {0}

@@ -1,0 +1,12 @@
+-- What a part of a line is written as.
+use Rattle.std.specs.Prelude.{ℕ, List}
+use Rattle.nit_script.specs.declared.write.Field.{Field}
+use Rattle.nit_script.specs.declared.write.Field.TheVariants.{Natural, Integer, Colour, Text}
+use Rattle.nit_script.specs.Spelling.{nat, int, colour, text}
+
+-- a field with the space before it
+abbrev pub field_spelling : Field → List ℕ
+field_spelling (Natural n) = nat n
+field_spelling (Integer z) = int z
+field_spelling (Colour c) = colour c
+field_spelling (Text t) = text t

@@ -1,0 +1,61 @@
+//! A whole line in front of bytes.
+
+ghost use Rattle.nit_script.specs.Reading.{Gives};
+ghost use Rattle.nit_script.specs.LineReading.{line_front_at, line_at};
+ghost use Rattle.nit_script.specs.InputReading.{input_front_at, input_at};
+
+use crate::bytes::{take_byte, take_word};
+use crate::call_lines::take_call;
+use crate::device_lines::take_device;
+use crate::line::{InputLine, Line};
+use crate::stroke_lines::take_stroke;
+
+/// The line of a client's script in front, with its line feed, and what follows it.
+#[tactic(auto, unfolding(crate::specs::LineReading::line_at))]
+pub fn take_line(bytes: &[u8]) -> Option<(Line, &[u8])>
+    ensures { Gives (λ x. (x.0, x.1.now)) result (line_at bytes.now) }
+{
+    let Some((line, rest)) = take_line_front(bytes) else {
+        return None;
+    };
+    Some((line, take_byte(rest, b'\n')?))
+}
+
+/// The same up to the line feed.
+#[tactic(auto, unfolding(crate::specs::LineReading::line_front_at, crate::specs::LineReading::phase_at))]
+fn take_line_front(bytes: &[u8]) -> Option<(Line, &[u8])>
+    ensures { Gives (λ x. (x.0, x.1.now)) result (line_front_at bytes.now) }
+{
+    if let Some((call, rest)) = take_call(bytes) {
+        return Some((Line::Call(call), rest));
+    }
+    if let Some((stroke, rest)) = take_stroke(bytes) {
+        return Some((Line::Stroke(stroke), rest));
+    }
+    let rest = take_word(bytes, b"phase")?;
+    Some((Line::Phase, rest))
+}
+
+/// The line of an input script in front, with its line feed, and what follows it.
+#[tactic(auto, unfolding(crate::specs::InputReading::input_at))]
+pub fn take_input_line(bytes: &[u8]) -> Option<(InputLine, &[u8])>
+    ensures { Gives (λ x. (x.0, x.1.now)) result (input_at bytes.now) }
+{
+    let (line, rest) = take_input_front(bytes)?;
+    Some((line, take_byte(rest, b'\n')?))
+}
+
+/// The same up to the line feed.
+#[tactic(auto, unfolding(crate::specs::InputReading::input_front_at, crate::specs::InputReading::shot_at, crate::specs::InputReading::input_phase_at))]
+fn take_input_front(bytes: &[u8]) -> Option<(InputLine, &[u8])>
+    ensures { Gives (λ x. (x.0, x.1.now)) result (input_front_at bytes.now) }
+{
+    if let Some((device, rest)) = take_device(bytes) {
+        return Some((InputLine::Device(device), rest));
+    }
+    if let Some(rest) = take_word(bytes, b"shot") {
+        return Some((InputLine::Shot, rest));
+    }
+    let rest = take_word(bytes, b"phase")?;
+    Some((InputLine::Phase, rest))
+}

@@ -1,0 +1,101 @@
+//! Scripts, line by line.
+
+ghost use Rattle.std.specs.Prelude.{◌≡◌, ◌≤◌, ℕ, List, length, Ok, Err, IfOk};
+ghost use Rattle.nit_script.specs.declared.line.Line.{Line};
+ghost use Rattle.nit_script.specs.declared.line.InputLine.{InputLine};
+ghost use Rattle.nit_script.specs.Spelling.{FitsLine, FitsInputLine, line_spelling, input_spelling};
+ghost use Rattle.nit_script.specs.Grammar.{ReadsClient, IsFirstBadClient, IsTooLongClient, ReadsInput, IsFirstBadInput, IsTooLongInput, UnlessMemory, IsAnswer};
+
+use crate::error::ScriptError;
+use crate::lines::{take_input_line, take_line};
+use crate::script::{Client, Input};
+use std::alloc::Global;
+
+/// How many lines a script may have.
+const MAX_LINES: u32 = 65_536;
+
+/// The client's script that the bytes spell. `Bad` comes exactly where one of the first 65,536 lines has
+/// no reading, and names the first such line, from 1; bytes behind the last line feed are a line without
+/// a reading. `TooLong` comes exactly where each of these has a reading and a byte stands behind them.
+/// Otherwise the script is read, unless memory runs out.
+pub fn parse_client(alloc: Global, bytes: &[u8]) -> Result<Client, ScriptError>
+    // What is read is spelled so, and what is spelled so is read, unless memory runs out.
+    ensures read { IfOk result (λ c. ReadsClient bytes.now c × (length c ≤ 65536)) }
+    ensures reads { (lines : List Line) → ReadsClient bytes.now lines → length lines ≤ 65536 →
+        UnlessMemory result (result ≡ Ok lines) }
+
+    // Exactly the first line without a reading is named.
+    ensures bad { (line : ℕ) → result ≡ Err (ScriptError.Bad line) → IsFirstBadClient bytes.now line }
+    ensures is_bad { (line : ℕ) → IsFirstBadClient bytes.now line →
+        UnlessMemory result (result ≡ Err (ScriptError.Bad line)) }
+
+    // Exactly where bytes stand behind 65,536 lines.
+    ensures long { result ≡ Err ScriptError.TooLong → IsTooLongClient bytes.now }
+    ensures is_long { IsTooLongClient bytes.now → UnlessMemory result (result ≡ Err ScriptError.TooLong) }
+{
+    client_lines(alloc, bytes)
+}
+
+/// The input script that the bytes spell. It refuses as [`parse_client`] does, by the lines of an input
+/// script.
+pub fn parse_input(alloc: Global, bytes: &[u8]) -> Result<Input, ScriptError>
+    // What is read is spelled so, and what is spelled so is read, unless memory runs out.
+    ensures read { IfOk result (λ c. ReadsInput bytes.now c × (length c ≤ 65536)) }
+    ensures reads { (lines : List InputLine) → ReadsInput bytes.now lines → length lines ≤ 65536 →
+        UnlessMemory result (result ≡ Ok lines) }
+
+    // Exactly the first line without a reading is named.
+    ensures bad { (line : ℕ) → result ≡ Err (ScriptError.Bad line) → IsFirstBadInput bytes.now line }
+    ensures is_bad { (line : ℕ) → IsFirstBadInput bytes.now line →
+        UnlessMemory result (result ≡ Err (ScriptError.Bad line)) }
+
+    // Exactly where bytes stand behind 65,536 lines.
+    ensures long { result ≡ Err ScriptError.TooLong → IsTooLongInput bytes.now }
+    ensures is_long { IsTooLongInput bytes.now → UnlessMemory result (result ≡ Err ScriptError.TooLong) }
+{
+    input_lines(alloc, bytes)
+}
+
+fn client_lines(alloc: Global, bytes: &[u8]) -> Result<Client, ScriptError>
+    ensures { IsAnswer FitsLine line_spelling bytes.now result }
+{
+    let mut lines = Vec::new(alloc);
+    let mut rest = bytes;
+    for number in 0..MAX_LINES {
+        if rest.is_empty() {
+            return Ok(Client { lines });
+        }
+        let Some((found, after)) = take_line(rest) else {
+            return Err(ScriptError::Bad { line: number + 1 });
+        };
+        lines.push(found)?;
+        rest = after;
+    }
+    if rest.is_empty() {
+        Ok(Client { lines })
+    } else {
+        Err(ScriptError::TooLong)
+    }
+}
+
+fn input_lines(alloc: Global, bytes: &[u8]) -> Result<Input, ScriptError>
+    ensures { IsAnswer FitsInputLine input_spelling bytes.now result }
+{
+    let mut lines = Vec::new(alloc);
+    let mut rest = bytes;
+    for number in 0..MAX_LINES {
+        if rest.is_empty() {
+            return Ok(Input { lines });
+        }
+        let Some((found, after)) = take_input_line(rest) else {
+            return Err(ScriptError::Bad { line: number + 1 });
+        };
+        lines.push(found)?;
+        rest = after;
+    }
+    if rest.is_empty() {
+        Ok(Input { lines })
+    } else {
+        Err(ScriptError::TooLong)
+    }
+}

@@ -1,0 +1,113 @@
+//! Words and fields at the end of bytes.
+
+ghost use Rattle.std.specs.Prelude.{◌≡◌, ◌++◌, ◌∷◌, [], ◌%◌, OnOk};
+ghost use Rattle.std.specs.List.{flat_map};
+ghost use Rattle.nit_script.specs.Spelling.{nat, int, hex, hex_digits, colour, text};
+ghost use Rattle.nit_script.specs.Printing.{field_spelling};
+
+use nit_events::Text;
+use nit_rect::NoMemory;
+use std::alloc::Global;
+
+/// A field of a line.
+#[derive(Clone, Copy)]
+pub enum Field {
+    Natural(u32),
+    Integer(i32),
+    Colour(u32),
+    Text(Text),
+}
+
+/// Writes a line: its word, its fields, and a line feed.
+pub fn put_line(
+    alloc: Global,
+    out: &mut Vec<u8>,
+    word: &[u8],
+    fields: &[Field],
+) -> Result<(), NoMemory>
+    ensures { OnOk result (out.new.items ≡ out.old.items ++ ((word.now ++ flat_map field_spelling fields.now) ++ 10 ∷ [])) }
+{
+    out.extend_from_slice(word)?;
+    put_fields(alloc, out, fields)?;
+    out.push(b'\n')?;
+    Ok(())
+}
+
+fn put_fields(alloc: Global, out: &mut Vec<u8>, fields: &[Field]) -> Result<(), NoMemory>
+    ensures { OnOk result (out.new.items ≡ out.old.items ++ flat_map field_spelling fields.now) }
+{
+    for field in fields {
+        put_field(alloc, out, field)?;
+    }
+    Ok(())
+}
+
+fn put_field(alloc: Global, out: &mut Vec<u8>, field: &Field) -> Result<(), NoMemory>
+    ensures { OnOk result (out.new.items ≡ out.old.items ++ field_spelling field.now) }
+{
+    match field {
+        Field::Natural(number) => put_natural(alloc, out, *number),
+        Field::Integer(number) => put_integer(alloc, out, *number),
+        Field::Colour(colour) => put_colour(out, *colour),
+        Field::Text(text) => put_text(out, text),
+    }
+}
+
+fn put_natural(alloc: Global, out: &mut Vec<u8>, number: u32) -> Result<(), NoMemory>
+    ensures { OnOk result (out.new.items ≡ out.old.items ++ nat number) }
+{
+    let digits = format!(in alloc; " {number}")?;
+    out.extend_from_slice(digits.as_bytes())?;
+    Ok(())
+}
+
+fn put_integer(alloc: Global, out: &mut Vec<u8>, number: i32) -> Result<(), NoMemory>
+    ensures { OnOk result (out.new.items ≡ out.old.items ++ int number) }
+{
+    let digits = format!(in alloc; " {number}")?;
+    out.extend_from_slice(digits.as_bytes())?;
+    Ok(())
+}
+
+fn put_colour(out: &mut Vec<u8>, number: u32) -> Result<(), NoMemory>
+    ensures { OnOk result (out.new.items ≡ out.old.items ++ colour number) }
+{
+    out.push(b' ')?;
+    out.extend_from_slice(&colour_digits(number))?;
+    Ok(())
+}
+
+fn put_text(out: &mut Vec<u8>, title: &Text) -> Result<(), NoMemory>
+    ensures { OnOk result (out.new.items ≡ out.old.items ++ text title.now) }
+{
+    out.extend_from_slice(b" =")?;
+    out.extend_from_slice(title.as_bytes())?;
+    Ok(())
+}
+
+/// The last six digits of a number in base 16.
+#[tactic(auto, using(crate::proofs::Printed::sixes))]
+fn colour_digits(colour: u32) -> [u8; 6]
+    ensures { result ≡ hex_digits 6 colour }
+{
+    [
+        hex_digit(colour / 0x10_0000),
+        hex_digit(colour / 0x1_0000),
+        hex_digit(colour / 0x1000),
+        hex_digit(colour / 0x100),
+        hex_digit(colour / 0x10),
+        hex_digit(colour),
+    ]
+}
+
+/// The last digit of a number in base 16.
+fn hex_digit(number: u32) -> u8
+    ensures { result ≡ hex (number % 16) }
+{
+    let digit = (number % 16) as u8;
+    if digit < 10 {
+        b'0' + digit
+    } else {
+        b'A' - 10 + digit
+    }
+}

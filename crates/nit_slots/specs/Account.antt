@@ -1,0 +1,62 @@
+-- What a session has, what it uses, and what a request needs and has left. All in units but views and words.
+use Rattle.std.specs.Prelude.{◌≡◌, ℕ, ◌+◌, ◌-◌, ◌*◌, ◌/◌, ◌<◌, ◌≤◌, min}
+use Rattle.nit_slots.specs.declared.need.Need.{Need}
+
+-- the donation, the reserve, the number of views and the number of the buffer's words
+pub record AccountBalance : Type 0 where
+  pub donation : ℕ
+  pub reserve : ℕ
+  pub views : ℕ
+  pub words : ℕ
+
+abbrev pub balance : ℕ → ℕ → ℕ → ℕ → AccountBalance
+balance donation reserve views words = record { donation = donation; reserve = reserve; views = views; words = words }
+
+-- a session opens with 256 to 8388608 units
+abbrev pub IsDonation : ℕ → Type 0
+IsDonation d = (256 ≤ d) × (d ≤ 8388608)
+
+-- the most that a session of this donation can ever have: twice the donation, at most 8388608
+abbrev pub room : ℕ → ℕ
+room d = min (2 * d) 8388608
+
+-- the number of slots that a session of this donation gets for its views
+abbrev pub view_slots : ℕ → ℕ
+view_slots d = min 64 (room d / 256)
+
+-- a session as it opens: the reserve is what the room has beside the donation, and nothing is used
+abbrev pub opened : ℕ → AccountBalance
+opened d = balance d (room d - d) 0 0
+
+-- the cost of these views and words
+abbrev pub used : ℕ → ℕ → ℕ
+used views words = 256 * views + 8 * words
+
+-- what is used is within the donation, and the donation and the reserve together are at most 8388608
+pub record IsCovered (b : AccountBalance) : Type 0 where
+  pub paid : used b.views b.words ≤ b.donation
+  pub bounded : b.donation + b.reserve ≤ 8388608
+
+-- a new view needs the cost of one
+abbrev pub view_need : ℕ
+view_need = 256
+
+-- for a new view there is left what views and words do not use
+abbrev pub view_left : ℕ → ℕ → ℕ → ℕ
+view_left donation views words = donation - used views words
+
+-- a new buffer of w by h needs the cost of its words
+abbrev pub buffer_need : ℕ → ℕ → ℕ
+buffer_need w h = 8 * (w * h)
+
+-- for a new buffer there is left what views do not use, since the old buffer is given back first
+abbrev pub buffer_left : ℕ → ℕ → ℕ
+buffer_left donation views = donation - 256 * views
+
+-- the balance with n units moved from the reserve to the donation
+abbrev pub upgraded : AccountBalance → ℕ → AccountBalance
+upgraded b n = record b { donation = b.donation + n; reserve = b.reserve - n }
+
+-- a refusal is right where more is needed than is left, and it says both numbers
+abbrev pub IsShort : Need → ℕ → ℕ → Type 0
+IsShort e need left = (left < need) × (e.need ≡ need) × (e.left ≡ left)

@@ -1,0 +1,4 @@
+pub mod Account
+pub mod FreeSlots
+pub mod Handles
+pub mod Slots

@@ -1,0 +1,10 @@
+pub mod Rows
+pub mod Lists
+pub mod Places
+pub mod Seats
+pub mod Keeps
+pub mod Stacks
+pub mod Owners
+pub mod Opened
+pub mod Names
+pub mod Has

@@ -1,0 +1,21 @@
+use Rattle.nit_stack.proofs.Names.{any_named, any_session, views_closed, views_put_back, views_put_front}
+use Rattle.nit_stack.proofs.Owners.{owner_of_views}
+use Rattle.nit_stack.proofs.laws.seats_and_views.Goals as goal
+
+pub returns-clause-put_front : goal.returns-clause-put_front
+returns-clause-put_front c = views_put_front
+
+pub returns-clause-put_back : goal.returns-clause-put_back
+returns-clause-put_back c = views_put_back
+
+pub returns-clause-closed : goal.returns-clause-closed
+returns-clause-closed c = views_closed
+
+pub returns-clause-session : goal.returns-clause-session
+returns-clause-session c = any_session
+
+pub returns-clause-named : goal.returns-clause-named
+returns-clause-named c = any_named
+
+pub returns-clause-owner : goal.returns-clause-owner
+returns-clause-owner c = owner_of_views

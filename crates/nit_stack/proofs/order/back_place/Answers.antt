@@ -1,0 +1,18 @@
+use Rattle.std.proofs.Common.{◌≡◌, ◌≤◌, ◌-◌, ◌+◌, ℕ, drop, false, get_or, arith, subst, nat_le}
+use Rattle.std.specs.List.{list_any}
+use Rattle.nit_stack.specs.Slots.{layer_in}
+use Rattle.nit_stack.proofs.Places.{back_at, back_none}
+use Rattle.nit_stack.proofs.order.back_place.Goals as goal
+
+pub returns-then-layer_at-layer-clause-place : goal.returns-then-layer_at-layer-clause-place
+returns-then-layer_at-layer-clause-place c v =
+    let layer = layer_in c.args.slots.now c.args.layers.now in
+    let more : c.loop-i.i ≡ c.loop-i.i - 1 + 1 = omega arith in
+    let low : layer (get_or c.args.order.now (c.loop-i.i - 1) 0) ≤ c.args.layer = omega (arith, c.layer_at.ensures) in
+    back_at layer c.args.layer v c.args.order.now (c.loop-i.i - 1) 0 (omega arith) low (subst (λ (n : ℕ). list_any (λ k. nat_le (layer k) c.args.layer) (drop n c.args.order.now) ≡ false) more c.loop-i.invariant)
+
+pub returns-clause-place : goal.returns-clause-place
+returns-clause-place c v =
+    let layer = layer_in c.args.slots.now c.args.layers.now in
+    let none : c.loop-i.i ≡ 0 = omega arith in
+    back_none layer c.args.layer v c.args.order.now (subst (λ (n : ℕ). list_any (λ k. nat_le (layer k) c.args.layer) (drop n c.args.order.now) ≡ false) none c.loop-i.invariant)

@@ -1,0 +1,8 @@
+use Rattle.std.proofs.Common.{arith}
+use Rattle.nit_stack.proofs.Stacks.{few}
+use Rattle.nit_stack.proofs.stack.Stack.len.Goals as goal
+
+pub overflow_cast-result : goal.overflow_cast-result
+overflow_cast-result c =
+    let n = few _ _ _ _ _ _ _ c.self.invariant.standing in
+    omega (arith, n, c.len.ensures, c.self.inside.order.ok.0)

@@ -1,0 +1,25 @@
+use Rattle.std.proofs.Common.{length, map}
+use Rattle.std.proofs.lemmas.List.{map-set}
+use Rattle.nit_stack.specs.Slots.{seat, size}
+use Rattle.nit_stack.proofs.Keeps.{keeps_size}
+use Rattle.nit_stack.proofs.stack.Stack.set_buffer.Goals as goal
+
+pub invariant_of-self : goal.invariant_of-self
+invariant_of-self c =
+    record {
+      standing = rw (map-set size c.self.inside.sizes.items c.args.sid (c.args.w, c.args.h)) (keeps_size _ c.args.sid (size (c.args.w, c.args.h)) c.self.invariant.standing c.requires.size);
+      space = c.self.invariant.space;
+    }
+
+pub returns : goal.returns
+returns c =
+    let sizes = map-set size c.self.inside.sizes.items c.args.sid (c.args.w, c.args.h) in
+    rw (← c.self.view_is) (λ i. record {
+      views = map (seat c.self.inside.slots.items) c.self.inside.order.items;
+      sizes = sizes i;
+      layers = c.self.inside.layers.items;
+      width = c.self.inside.width;
+      height = c.self.inside.height;
+      bar = c.self.inside.bar;
+      most = length c.self.inside.slots.items;
+    })

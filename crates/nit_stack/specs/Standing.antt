@@ -1,0 +1,165 @@
+-- What contracts see of a stack: its views with their slots, front first, and what the screen and the sessions have.
+use Rattle.std.specs.Prelude.{◌≡◌, ℕ, ◌<◌, ◌≤◌, ◌⊎◌, ◌==◌, Bool, false, nat_lt, ℤ, pos, ◌≤ℤ◌, ◌<ℤ◌, List, [], ◌∷◌, length, find, replicate, slice_index, slice_index_or, All, Option, if◌then◌else◌}
+use Rattle.std.specs.List.{list_any}
+use Rattle.std.specs.Option.{option_map}
+use Rattle.nit_rect.specs.declared.point.Point.{Point}
+use Rattle.nit_rect.specs.Rectangle.{Rectangle, IsPlace, rectangle}
+use Rattle.nit_stack.specs.declared.view.View.{View}
+use Rattle.nit_stack.specs.declared.view.ViewRef.{ViewRef}
+use Rattle.nit_stack.specs.Labels.{is_view}
+use Rattle.nit_stack.specs.Orders.{put_front, put_back, put_above, moved}
+use Rattle.nit_stack.specs.Sources.{Size, no_size}
+
+-- a view, with the number of the slot that keeps it
+pub record Seat : Type 0 where
+  pub slot : ℕ
+  pub view : View
+
+-- The views front first; each session's buffer size and layer; the screen's width and height; the number of bar
+-- rows; and how many slots there are.
+pub record Standing : Type 0 where
+  pub views : List Seat
+  pub sizes : List Size
+  pub layers : List ℕ
+  pub width : ℕ
+  pub height : ℕ
+  pub bar : ℕ
+  pub most : ℕ
+
+-- the name by which a view's slot is handed out
+abbrev pub view_ref : Seat → ViewRef
+view_ref s = record { 0 = s.slot }
+
+-- a view as it is made: an empty rectangle at (0, 0), no offset, an empty title
+abbrev pub fresh : ℕ → ℕ → View
+fresh sid handle = record { sid = sid; handle = handle; rect = rectangle (pos 0) (pos 0) 0 0; ox = pos 0; oy = pos 0; title = [] }
+
+-- a new view in a slot
+abbrev pub fresh_in : ℕ → ℕ → ℕ → Seat
+fresh_in k sid handle = record { slot = k; view = fresh sid handle }
+
+-- no view and no bar, and for each session no buffer and layer 0
+abbrev pub opened : ℕ → ℕ → ℕ → ℕ → Standing
+opened width height sessions most =
+    record { views = []; sizes = replicate sessions no_size; layers = replicate sessions 0; width = width; height = height; bar = 0; most = most }
+
+-- the view stands in this slot
+abbrev pub is_slot : ℕ → Seat → Bool
+is_slot k s = s.slot == k
+
+-- some view stands in this slot
+abbrev pub has : ℕ → List Seat → Bool
+has k views = list_any (is_slot k) views
+
+-- the view in this slot, where there is one
+abbrev pub seat_in : ℕ → List Seat → Option Seat
+seat_in k views = find (is_slot k) views
+
+-- the view is the one of this session and handle
+abbrev pub is_named : ℕ → ℕ → Seat → Bool
+is_named sid handle s = is_view sid handle s.view
+
+-- the view belongs to this session
+abbrev pub is_of_session : ℕ → Seat → Bool
+is_of_session sid s = s.view.sid == sid
+
+-- the layer of a session
+abbrev pub layer_of : List ℕ → ℕ → ℕ
+layer_of layers sid = slice_index layers sid
+
+-- the layer of a view's session
+abbrev pub seat_layer : List ℕ → Seat → ℕ
+seat_layer layers s = layer_of layers s.view.sid
+
+-- the layer of the session of the view in this slot, where there is one
+abbrev pub slot_layer : Standing → ℕ → Option ℕ
+slot_layer s k = option_map (seat_layer s.layers) (seat_in k s.views)
+
+-- the size of a session's buffer
+abbrev pub size_of : List Size → ℕ → Size
+size_of sizes sid = slice_index_or sizes sid no_size
+
+-- a view with another rectangle, another offset, another title
+abbrev pub with_rect : Rectangle → View → View
+with_rect r v = record v { rect = r }
+
+abbrev pub with_offset : ℤ → ℤ → View → View
+with_offset ox oy v = record v { ox = ox; oy = oy }
+
+abbrev pub with_title : List ℕ → View → View
+with_title t v = record v { title = t }
+
+-- a change of a view, in its slot
+abbrev pub on_view : (View → View) → Seat → Seat
+on_view change s = record s { view = change s.view }
+
+-- in front of all of its own layer and of the layers behind
+abbrev pub put_own_front : {A : Type 0} → (A → ℕ) → A → List A → List A
+put_own_front layer a xs = put_front layer (layer a) a xs
+
+-- behind all of its own layer and of the layers in front
+abbrev pub put_own_back : {A : Type 0} → (A → ℕ) → A → List A → List A
+put_own_back layer a xs = put_back layer (layer a) a xs
+
+-- v directly in front of n; unchanged where the two are one
+abbrev pub moved_above : ℕ → ℕ → List Seat → List Seat
+moved_above v n views = if v == n then views else moved (is_slot v) (put_above (is_slot n)) views
+
+-- no element of the list is related to a later one
+abbrev pub NoPair : {A : Type 0} → (A → A → Bool) → List A → Type 0
+NoPair related [] = Unit {0}
+NoPair related (x ∷ xs) = (list_any (related x) xs ≡ false) × NoPair related xs
+
+-- the two stand in one slot
+abbrev pub same_slot : Seat → Seat → Bool
+same_slot a b = b.slot == a.slot
+
+-- the two have the same session and handle
+abbrev pub same_name : Seat → Seat → Bool
+same_name a b = is_named a.view.sid a.view.handle b
+
+-- b has a layer in front of a's
+abbrev pub falls : {A : Type 0} → (A → ℕ) → A → A → Bool
+falls layer a b = nat_lt (layer b) (layer a)
+
+-- a rectangle's numbers are in their range
+abbrev pub IsInRange : Rectangle → Type 0
+IsInRange r = IsPlace r.x × IsPlace r.y × (r.w ≤ 32767) × (r.h ≤ 32767)
+
+-- a view of a stack with so many slots and sessions
+pub record IsSeat (most sessions : ℕ) (s : Seat) : Type 0 where
+  pub slot : s.slot < most
+  pub session : s.view.sid < sessions
+  pub column : IsPlace s.view.ox
+  pub row : IsPlace s.view.oy
+  pub rect : IsInRange s.view.rect
+
+-- a buffer has at most 4096 columns and 4096 rows
+abbrev pub IsSize : Size → Type 0
+IsSize z = (z.w ≤ 4096) × (z.h ≤ 4096)
+
+-- the bar has 0 or 7 rows, and leaves a row of the screen below it
+abbrev pub IsBar : ℕ → ℕ → Type 0
+IsBar rows height = ((rows ≡ 0) ⊎ (rows ≡ 7)) × (rows < height)
+
+-- the screen is 1..=1024 by 1..=768
+abbrev pub IsScreen : ℕ → ℕ → Type 0
+IsScreen width height = (1 ≤ width) × (width ≤ 1024) × (1 ≤ height) × (height ≤ 768)
+
+-- the pixel is on the screen
+abbrev pub IsOnScreen : ℕ → ℕ → Point → Type 0
+IsOnScreen width height p = (pos 0 ≤ℤ p.x) × (p.x <ℤ pos width) × (pos 0 ≤ℤ p.y) × (p.y <ℤ pos height)
+
+-- What holds of every stack: no two views have one slot, nor the same session and handle, and along the list the
+-- layers never fall; every number is in its range.
+pub record IsStanding (s : Standing) : Type 0 where
+  pub slots : NoPair same_slot s.views
+  pub names : NoPair same_name s.views
+  pub layered : NoPair (falls (seat_layer s.layers)) s.views
+  pub seats : All (IsSeat s.most (length s.sizes)) s.views
+  pub sizes : All IsSize s.sizes
+  pub layers : All (λ l. l ≤ 7) s.layers
+  pub sessions : (1 ≤ length s.sizes) × (length s.sizes ≤ 16) × (length s.layers ≡ length s.sizes)
+  pub screen : IsScreen s.width s.height
+  pub bar : IsBar s.bar s.height
+  pub room : s.most ≤ 1024

@@ -1,0 +1,64 @@
+//! What ties changes of views by their slots to changes of the same views by session and handle.
+
+ghost use Rattle.std.specs.Prelude.{◌≡◌, ℕ, ◌==◌, ◌&&◌, ◌||◌, List, false, not, option_map, true};
+ghost use Rattle.std.specs.List.{list_any};
+ghost use Rattle.nit_rect.specs.declared.point.Point.{Point};
+ghost use Rattle.nit_stack.specs.declared.view.View.{View};
+ghost use Rattle.nit_stack.specs.Labels.{is_view};
+ghost use Rattle.nit_stack.specs.Names.{IsNamedBy, is_session, layer_of_seat, view_above, view_layer, views_of};
+ghost use Rattle.nit_stack.specs.Orders.{changed, moved, put_back, put_front, without};
+ghost use Rattle.nit_stack.specs.Sources.{owner, owner_in};
+ghost use Rattle.nit_stack.specs.Standing.{Seat, has, is_named, is_of_session, is_slot, moved_above, on_view, put_own_back, put_own_front};
+
+/// A change of the view in a slot is the same change of the view with that session and handle, among the views
+/// without their slots.
+pub fn slots_and_names()
+    ensures removed { (k sid handle : ℕ) (seats : List Seat) → IsNamedBy k sid handle seats
+        → views_of (without (is_slot k) seats) ≡ without (is_view sid handle) (views_of seats) }
+    ensures changed { (k sid handle : ℕ) (change : View → View) (seats : List Seat) → IsNamedBy k sid handle seats
+        → views_of (changed (is_slot k) (on_view change) seats) ≡ changed (is_view sid handle) change (views_of seats) }
+    ensures moved { (k sid handle : ℕ) (put : Seat → List Seat → List Seat) (put_view : View → List View → List View) (seats : List Seat) → IsNamedBy k sid handle seats
+        → ((s : Seat) (xs : List Seat) → views_of (put s xs) ≡ put_view s.view (views_of xs))
+        → views_of (moved (is_slot k) put seats) ≡ moved (is_view sid handle) put_view (views_of seats) }
+    ensures front { (k sid handle : ℕ) (layer : ℕ → ℕ) (seats : List Seat) → IsNamedBy k sid handle seats
+        → views_of (moved (is_slot k) (put_own_front (layer_of_seat layer)) seats) ≡ moved (is_view sid handle) (put_front (view_layer layer) (layer sid)) (views_of seats) }
+    ensures back { (k sid handle : ℕ) (layer : ℕ → ℕ) (seats : List Seat) → IsNamedBy k sid handle seats
+        → views_of (moved (is_slot k) (put_own_back (layer_of_seat layer)) seats) ≡ moved (is_view sid handle) (put_back (view_layer layer) (layer sid)) (views_of seats) }
+    ensures above { (k n sid handle next : ℕ) (seats : List Seat) → IsNamedBy k sid handle seats → IsNamedBy n sid next seats
+        → views_of (moved_above k n seats) ≡ view_above sid handle next (views_of seats) }
+{}
+
+/// Views with slots and the same views without them: a new view, the views of a session or of a name, the owner of
+/// a pixel.
+pub fn seats_and_views()
+    ensures put_front { (layer : ℕ → ℕ) (l : ℕ) (s : Seat) (seats : List Seat)
+        → views_of (put_front (layer_of_seat layer) l s seats) ≡ put_front (view_layer layer) l s.view (views_of seats) }
+    ensures put_back { (layer : ℕ → ℕ) (l : ℕ) (s : Seat) (seats : List Seat)
+        → views_of (put_back (layer_of_seat layer) l s seats) ≡ put_back (view_layer layer) l s.view (views_of seats) }
+    ensures closed { (sid : ℕ) (seats : List Seat) → views_of (without (is_of_session sid) seats) ≡ without (is_session sid) (views_of seats) }
+    ensures session { (sid : ℕ) (seats : List Seat) → list_any (is_session sid) (views_of seats) ≡ list_any (is_of_session sid) seats }
+    ensures named { (sid handle : ℕ) (seats : List Seat) → list_any (is_view sid handle) (views_of seats) ≡ list_any (is_named sid handle) seats }
+    ensures owner { (rows : ℕ) (seats : List Seat) (p : Point) → owner rows (views_of seats) p ≡ option_map (λ s. s.view) (owner_in (λ s. s.view) rows seats p) }
+{}
+
+/// Which slots have a view after each change, and that all views of a session are gone when each was taken out.
+pub fn slots_after()
+    ensures push_front { (layer : Seat → ℕ) (l : ℕ) (s : Seat) (j : ℕ) (seats : List Seat)
+        → has j (put_front layer l s seats) ≡ (is_slot j s || has j seats) }
+    ensures remove { (j k : ℕ) (seats : List Seat)
+        → has j (without (is_slot k) seats) ≡ (not (j == k) && has j seats) }
+    ensures changed { (j k : ℕ) (change : View → View) (seats : List Seat)
+        → has j (changed (is_slot k) (on_view change) seats) ≡ has j seats }
+    ensures front { (j k : ℕ) (layer : Seat → ℕ) (seats : List Seat) → has k seats ≡ true
+        → has j (moved (is_slot k) (put_own_front layer) seats) ≡ has j seats }
+    ensures back { (j k : ℕ) (layer : Seat → ℕ) (seats : List Seat) → has k seats ≡ true
+        → has j (moved (is_slot k) (put_own_back layer) seats) ≡ has j seats }
+    ensures above { (j k n : ℕ) (seats : List Seat) → has k seats ≡ true
+        → has j (moved_above k n seats) ≡ has j seats }
+
+    ensures one_less { (k sid handle : ℕ) (seats : List Seat) → IsNamedBy k sid handle seats
+        → without (is_of_session sid) (without (is_slot k) seats)
+        ≡ without (is_of_session sid) seats }
+    ensures none_left { (sid : ℕ) (seats : List Seat)
+        → list_any (is_of_session sid) seats ≡ false → without (is_of_session sid) seats ≡ seats }
+{}

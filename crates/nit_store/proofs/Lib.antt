@@ -1,0 +1,4 @@
+pub mod Putting
+pub mod Stored
+pub mod Saying
+pub mod Keeping

@@ -1,0 +1,6 @@
+pub mod Shown
+pub mod Answers
+pub mod Files
+pub mod MemoryStore
+pub mod NeverFails
+pub mod DiskStore

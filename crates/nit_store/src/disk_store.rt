@@ -1,0 +1,96 @@
+//! The real files and the standard output.
+
+ghost use Rattle.std.specs.Prelude.{◌≡◌};
+
+use crate::store::{PutError, ReadError, Store};
+use std::alloc::Global;
+use std::fs::File;
+use std::io::{ErrorKind, Read};
+use std::marker::Model;
+use std::rt::Files;
+use std::{fs, io};
+
+/// The files of the current folder and the standard output. It tells nothing but how often reads and
+/// how often writes failed; each count stays at 2^64 - 1 once it is there.
+#[derive(Drop)]
+pub struct DiskStore<'a, R: Files + Print> {
+    rt: &'a R,
+    alloc: Global,
+    read_faults: u64,
+    write_faults: u64,
+}
+
+impl<'a, R: Files + Print> Model for DiskStore<'a, R> {
+    ghost use Rattle.nit_store.specs.DiskStore.{Faults};
+
+    ghost Value = { Faults };
+
+    ghost view = { λ d. record { reads = d.read_faults; writes = d.write_faults } };
+}
+
+impl<'a, R: Files + Print> DiskStore<'a, R> {
+    ghost use Rattle.nit_store.specs.DiskStore.{CountsWrite};
+
+    /// The store of a runtime, of which nothing failed yet. It takes no memory.
+    pub fn new(rt: &'a R, alloc: Global) -> DiskStore<'a, R>
+        ensures { result ≡ record { reads = 0; writes = 0 } }
+    {
+        DiskStore {
+            rt,
+            alloc,
+            read_faults: 0,
+            write_faults: 0,
+        }
+    }
+
+    /// The answer to a write that came to this end, which is counted where it failed.
+    fn written(&mut self, end: io::Result<()>) -> Result<(), PutError>
+        ensures { CountsWrite self.old self.new result }
+    {
+        match end {
+            Ok(()) => Ok(()),
+            Err(error) if error.kind() == ErrorKind::OutOfMemory => Err(PutError::NoMemory),
+            Err(_) => {
+                self.write_faults = self.write_faults.saturating_add(1);
+                Err(PutError::Failed)
+            }
+        }
+    }
+}
+
+/// The bytes of a file, or the first of them, one more than `max`.
+fn read_file<R: Files>(rt: &R, alloc: Global, name: &str, max: usize) -> io::Result<Vec<u8>> {
+    let file = File::open(rt, name)?;
+    let mut bytes = Vec::new(alloc);
+    file.take((max as u64).saturating_add(1))
+        .read_to_end(&mut bytes)?;
+    Ok(bytes)
+}
+
+impl<'a, R: Files + Print> Store for DiskStore<'a, R> {
+    ghost use Rattle.nit_store.specs.DiskStore.{disk_shown};
+
+    ghost shown = { disk_shown };
+
+    fn read(&mut self, name: &str, max: usize) -> Result<Vec<u8>, ReadError> {
+        match read_file(self.rt, self.alloc, name, max) {
+            Ok(bytes) if bytes.len() > max => Err(ReadError::TooLong),
+            Ok(bytes) => Ok(bytes),
+            Err(error) if error.kind() == ErrorKind::OutOfMemory => Err(ReadError::NoMemory),
+            Err(_) => {
+                self.read_faults = self.read_faults.saturating_add(1);
+                Err(ReadError::Failed)
+            }
+        }
+    }
+
+    fn put(&mut self, name: &str, bytes: &[u8]) -> Result<(), PutError> {
+        let end = fs::write(self.rt, name, bytes);
+        self.written(end)
+    }
+
+    fn say(&mut self, bytes: &[u8]) -> Result<(), PutError> {
+        let end = self.rt.write_all(bytes);
+        self.written(end)
+    }
+}

@@ -1,0 +1,12 @@
+pub mod Sizes
+pub mod Pieces
+pub mod Writing
+pub mod Served
+pub mod Drawing
+pub mod Recorded
+pub mod Wholes
+pub mod Pictured
+pub mod Putting
+pub mod Judging
+pub mod Ends
+pub mod Causes

@@ -1,0 +1,29 @@
+-- What the words of the command line ask for.
+use Rattle.std.specs.Prelude.{ℕ, List, [], ◌∷◌, map, find, codes, Option, Some, None, String, if◌then◌else◌}
+use Rattle.std.specs.List.{range_with_len}
+use Rattle.std.specs.String.{string_bytes}
+use Rattle.std.specs.Str.{bytes_eq}
+use Rattle.std.specs.Fmt.{decimal}
+
+-- the words as lists of bytes
+abbrev pub texts : {Z : Type 0} → List (String Z) → List (List ℕ)
+texts words = map string_bytes words
+
+-- a picture of one client's script, on a screen of this width and height; or nothing that the program does
+pub data Command : Type 0 where
+  Still : (width : ℕ) → (height : ℕ) → (script : List ℕ) → Command
+  NoCommand : Command
+
+-- the number of 1 up to most that a word spells in decimal
+unfoldable pub size_of : ℕ → List ℕ → Option ℕ
+size_of most word = find (λ n. bytes_eq (decimal n) word) (range_with_len 1 most)
+
+abbrev pub still : Option ℕ → Option ℕ → List ℕ → Command
+still (Some width) (Some height) script = Still width height script
+still (Some width) None script = NoCommand
+still None height script = NoCommand
+
+-- `still`, a width of 1 up to 1024, a height of 1 up to 768, and the name of a script
+abbrev pub command : List (List ℕ) → Command
+command (verb ∷ width ∷ height ∷ script ∷ []) = if bytes_eq verb (codes "still") then still (size_of 1024 width) (size_of 768 height) script else NoCommand
+command words = NoCommand

@@ -1,0 +1,19 @@
+pub use Rattle.nit_store.specs.Shown
+pub use Rattle.nit_script.specs.Grammar
+pub use Rattle.nit_plan.specs.Plans
+pub use Rattle.nit_plan.specs.Calls
+pub use Rattle.nit_journal.specs.State
+pub use Rattle.nit_journal.specs.Journals
+pub use Rattle.nit_journal.specs.Whole
+pub use Rattle.nit_config.specs.Configuration
+pub use Rattle.nit_overlay.specs.Shown as Frames
+pub use Rattle.nit_report.specs.Picture
+pub mod Command
+pub mod Small
+pub mod Judged
+pub mod Outputs
+pub mod Sketch
+pub mod Lines
+pub mod Saying
+pub mod Work
+pub mod Answer

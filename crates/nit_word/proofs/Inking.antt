@@ -1,0 +1,35 @@
+-- Words that are 0 or in an ink of words.
+use Rattle.std.proofs.Common.{◌≡◌, ◌∙◌, ℕ, ◌==◌, ◌<◌, Bool, true, false, List, All, length, get_or, refl, arith}
+use Rattle.std.specs.List.{list_any}
+use Rattle.std.proofs.lemmas.List.{get_or_default}
+use Rattle.std.proofs.lemmas.List.Folds.{Any-from_list_any}
+use Rattle.std.proofs.lemmas.Bool.Decides.{nat_tests}
+use Rattle.nit_word.specs.Inks.{IsInked, IsWord}
+use Rattle.nit_word.specs.Sight.{IsLoaded, inked_sight}
+
+among_fits : (ink : List ℕ) (w : ℕ) → All IsWord ink → list_any (λ y. y == w) ink ≡ true → IsWord w
+among_fits ink w fit found =
+    let some = Any-from_list_any (λ y. y == w) ink found in
+    let here : IsWord (get_or ink some.0 some.1) = fit some.0 some.1 some.2 in
+    grind (arith, nat_tests, here, some.3, some.4)
+
+-- 0 is a word, and so is each word of the ink
+inked_fits : (ink : List ℕ) (w : ℕ) → All IsWord ink → IsInked ink w → IsWord w
+inked_fits ink w fit inked = by_zero (w == 0) refl
+  where
+    by_zero : (b : Bool) → (w == 0) ≡ b → IsWord w
+    by_zero true is = grind (arith, nat_tests)
+    by_zero false is = among_fits ink w fit (rw is at inked)
+
+pub all_fit : (ink words : List ℕ) → All IsWord ink → All (IsInked ink) words → All IsWord words
+all_fit ink words fit inked i d lt = inked_fits ink (get_or words i d) fit (inked i d lt)
+
+-- what stands at a place of an inked glass may be loaded there
+pub place_loaded : (owner : ℕ) (words ink : List ℕ) (i w : ℕ) → All IsWord ink → All (IsInked ink) words → i < length words → w ≡ get_or words i w
+    → IsLoaded (inked_sight owner words ink) i w
+place_loaded owner words ink i w fit inked room is =
+    let here : IsInked ink w = rw is (inked i w room) in record {
+      fits = inked_fits ink w fit here;
+      inked = here;
+      told = is ∙ get_or_default words i w 0 room;
+    }

@@ -1,0 +1,3 @@
+pub mod Bits
+pub mod Inking
+pub mod Rows
