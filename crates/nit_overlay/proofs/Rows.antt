@@ -1,5 +1,5 @@
 -- Worked rows of the screen, computed from the definitions.
-use Rattle.std.proofs.Common.{◌≡◌, ℕ, true, false, Option, Some, None, List, [], ◌∷◌, refl, pos, map}
+use Rattle.std.proofs.Common.{◌≡◌, ℕ, None, [], ◌∷◌, refl, pos, map}
 use Rattle.std.specs.Prelude.{codes}
 use Rattle.std.specs.List.{range_with_len}
 use Rattle.nit_rect.specs.Rectangle.{rectangle}

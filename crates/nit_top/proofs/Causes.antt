@@ -11,11 +11,12 @@ use Rattle.nit_store.specs.Shown.{Shown, Rose, saying}
 use Rattle.nit_top.specs.declared.finish.End.{End}
 use Rattle.nit_top.specs.Command.{Command, Still, NoCommand, command}
 use Rattle.nit_top.specs.Judged.{IsRefused, IsValid}
-use Rattle.nit_top.specs.Lines.{line_of, summary_line}
+use Rattle.nit_top.specs.Lines.{line_of}
 use Rattle.nit_top.specs.Saying.{Says}
-use Rattle.nit_top.specs.Answer.{code_of, status_of, Worked, Ended, IsRun, PutFiles, IsPutWhole, IsPutInPart, said_also, Answer}
+use Rattle.nit_top.specs.Answer.{code_of, status_of, Worked, Ended, PutFiles, IsPutWhole, IsPutInPart, IsLine, AsksNames, Answer}
 use Rattle.nit_top.specs.Outputs.{outputs}
-use Rattle.nit_top.proofs.Ends.{no_usage, codes_are, read_rose, reads_stay, write_rose, writes_stay, nothing_put, refused_by, began, files_stay, began_or_not, put_whole, said_stays, none_put, all_put}
+use Rattle.nit_top.proofs.Ends.{IsRun, no_usage, codes_are, read_rose, reads_stay, write_rose, writes_stay, nothing_put, refused_by, began, files_stay, began_or_not, put_whole, none_put, all_put}
+use Rattle.nit_top.proofs.Telling.{work_asked, work_said, says_asks, says_line, is_line}
 use Rattle.nit_top.proofs.Judging.{told_valid, told_refused, no_command, no_script}
 
 -- what saying leaves
@@ -230,13 +231,32 @@ module _ (old : Shown) (mid : Shown) (end : End) (name : List ℕ) (text : List 
       empty_run : (c : Command) → IsRun old c journal → journal ≡ [] → ⊥
       empty_run c r none = let e = r.ran.whole.ends in final_none e.0 _ (sym none ∙ e.1)
 
-  summary : (c : Command) → Worked c old mid end name journal → text ≡ line_of end name (length journal) → status ≡ 0 → new.said ≡ said_also old.said (summary_line (length journal))
-  summary NoCommand w is s = let two : code_of end ≡ 2 = ap code_of w.0 in let z = (said_all s).0 in absurd (omega arith)
-  summary (Still width height script) w is s =
-      let said = said_all s in
-      let by = said_stays old width height script mid journal end w.0 said.0 in
-      let spelled : text ≡ summary_line (length journal) = is ∙ ap (λ (e : End). line_of e name (length journal)) by.0 in
-      ap (λ (t : Shown). t.said) said.1 ∙ ap (λ (l : List ℕ). said_also mid.said l) spelled ∙ ap (λ (o : Option (List ℕ)). said_also o (summary_line (length journal))) by.1
+  rose_later : (c : Command) → Worked c old mid end name journal → Rose mid.write_faults new.write_faults → Rose old.write_faults new.write_faults
+  rose_later c w r = elim (quiet_or_four c w) [ inl four ↦ let f = four.1 in omega arith | inr same ↦ omega arith ]
+
+  the_line : (c : Command) → Worked c old mid end name journal → IsLine c old.files status (length journal) (line_of end name (length journal))
+  the_line c w =
+      is_line c old mid end name journal status w
+      (λ s. (said_all s).0)
+      (λ s. by_status 2 s (λ e. absurd (omega arith)) (λ e. absurd (omega arith)))
+      (λ s. by_status 3 s (λ e. absurd (omega arith)) (λ e. absurd (omega arith)))
+      (λ s. run_code (inr s))
+      (λ s. by_status 6 s (λ e. absurd (omega arith)) (λ e. absurd (omega arith)))
+
+  the_names : (c : Command) → Worked c old mid end name journal → new.asked ≡ mid.asked → AsksNames old new c status
+  the_names c w same =
+      let a = work_asked c old mid end name journal w in
+      record {
+        front = a.front;
+        back = a.back;
+        names = a.names;
+        asked = same ∙ a.asked;
+        script = λ s. a.script (elim s [
+          | inl three ↦ inl (by_status 3 three (λ e. absurd (omega arith)) (λ e. absurd (omega arith)))
+          | inr six ↦ inr (by_status 6 six (λ e. absurd (omega arith)) (λ e. absurd (omega arith)))
+        ]);
+        all = λ s. a.all (run_code s);
+      }
 
   complete : (c : Command) → Worked c old mid end name journal → IsSomeAnd old.files (λ files. (lines : List Line) × IsValid c files lines)
       → (Rose old.read_faults new.read_faults → ⊥) → (Rose old.write_faults new.write_faults → ⊥) → (status ≡ 0) ⊎ (status ≡ 7)
@@ -274,6 +294,11 @@ causes old words new status journal e =
       put_whole = λ s. whole_put old e.mid e.end e.name text new status journal leaves cases c e.worked (said_all old e.mid e.end e.name text new status journal leaves cases s).0;
       put_in_part = λ s. part_at_four old e.mid e.end e.name text new status journal leaves cases c e.worked s;
       at_seven = λ s. part_put old e.mid e.end e.name text new status journal leaves cases c e.worked;
-      summary = summary old e.mid e.end e.name text new status journal leaves cases c e.worked refl;
+      said = (
+        text,
+        the_line old e.mid e.end e.name text new status journal leaves cases c e.worked,
+        says_line old e.mid new text (code_of e.end) status f.said (work_said c old e.mid e.end e.name journal e.worked) (rose_later old e.mid e.end e.name text new status journal leaves cases c e.worked) f.status_is f.says,
+      );
+      asked = the_names old e.mid e.end e.name text new status journal leaves cases c e.worked (says_asks e.mid text new f.said f.says);
       complete = complete old e.mid e.end e.name text new status journal leaves cases c e.worked;
     }

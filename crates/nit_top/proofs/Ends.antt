@@ -9,10 +9,16 @@ use Rattle.nit_store.specs.Answers.{AskedAtMost}
 use Rattle.nit_top.specs.declared.finish.End.{End}
 use Rattle.nit_top.specs.declared.finish.End.TheVariants as ends
 use Rattle.nit_top.specs.Command.{Command, Still}
-use Rattle.nit_top.specs.Judged.{BadLine, TooLong, Judged, IsRefused}
-use Rattle.nit_top.specs.Outputs.{outputs, final_name, final_picture, configuration}
+use Rattle.nit_top.specs.Judged.{BadLine, TooLong, Judged, IsRefused, IsValid}
+use Rattle.nit_top.specs.Outputs.{IsJournal, outputs, final_name, final_picture, configuration}
 use Rattle.nit_top.specs.Work.{Ran, Performed}
-use Rattle.nit_top.specs.Answer.{code_of, IsRun, PutFiles, IsPutWhole, IsPutInPart}
+use Rattle.nit_top.specs.Answer.{code_of, PutFiles, IsPutWhole, IsPutInPart}
+
+-- The journal is that of a run of the command's script, which is valid where the store tells its files.
+pub record IsRun (old : Shown) (c : Command) (journal : List Entry) : Type 0 where
+  pub lines : List Line
+  pub valid : IfSome old.files (λ files. IsValid c files lines)
+  pub ran : IsJournal c lines journal
 
 -- what stays where a name was asked for at most
 pub record Stays (old mid : Shown) : Type 0 where

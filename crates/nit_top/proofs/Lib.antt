@@ -9,4 +9,5 @@ pub mod Pictured
 pub mod Putting
 pub mod Judging
 pub mod Ends
+pub mod Telling
 pub mod Causes

@@ -9,9 +9,9 @@ use Rattle.nit_store.specs.Shown.{Shown, File, Rose}
 use Rattle.nit_top.specs.declared.finish.End.{End}
 use Rattle.nit_top.specs.declared.finish.End.TheVariants as ends
 use Rattle.nit_top.specs.Command.{Command, Still, NoCommand, command}
-use Rattle.nit_top.specs.Judged.{IsRefused, IsValid}
+use Rattle.nit_top.specs.Judged.{Judgement, Valid, BadLine, TooLong, Judged, IsRefusal, IsRefused, IsValid}
 use Rattle.nit_top.specs.Outputs.{outputs, PutEach, IsJournal, final_name}
-use Rattle.nit_top.specs.Lines.{line_of, summary_line}
+use Rattle.nit_top.specs.Lines.{line_of, usage_line, read_fault_line, write_fault_line, bad_script_line, too_long_line, summary_line}
 use Rattle.nit_top.specs.Saying.{Says}
 use Rattle.nit_top.specs.Work.{Performed}
 
@@ -58,12 +58,6 @@ pub record Ended (old : Shown) (words : List (List ℕ)) (new : Shown) (status :
 
 -- ---- what that means for a user
 
--- The journal is that of a run of the command's script, which is valid where the store tells its files.
-pub record IsRun (old : Shown) (c : Command) (journal : List Entry) : Type 0 where
-  pub lines : List Line
-  pub valid : IfSome old.files (λ files. IsValid c files lines)
-  pub ran : IsJournal c lines journal
-
 -- where the store tells its files, it has these files more, put one after the other
 abbrev pub PutFiles : List File → Option (List File) → Option (List File) → Type 0
 PutFiles files None new = new ≡ None
@@ -86,9 +80,57 @@ pub record IsPutInPart (old new : Shown) (c : Command) (journal : List Entry) : 
   pub parts : outputs c lines journal ≡ front ++ back
   pub put : PutFiles front old.files new.files
 
+-- ---- what is said and asked
+
 -- what was said, and this behind it
 abbrev pub said_also : Option (List ℕ) → List ℕ → Option (List ℕ)
 said_also said text = option_map (λ before. before ++ text) said
+
+-- the name of the script that a command reads
+abbrev pub script_name : Command → List ℕ
+script_name (Still width height script) = script
+script_name NoCommand = []
+
+-- the line on a refused script
+abbrev pub refusal_line : List ℕ → Judgement → List ℕ
+refusal_line script (Valid lines) = []
+refusal_line script (BadLine number) = bad_script_line script number
+refusal_line script TooLong = too_long_line script
+
+-- The line of a status. It is a line of the program at 7 too: that of the want of memory, or the one that was
+-- being said when memory ran out.
+pub record IsLine (c : Command) (told : Option (List File)) (status entries : ℕ) (line : List ℕ) : Type 0 where
+  pub summary : status ≡ 0 → line ≡ summary_line entries
+  pub usage : status ≡ 2 → line ≡ usage_line
+  pub read_fault : status ≡ 3 → line ≡ read_fault_line (script_name c)
+  pub write_fault : status ≡ 4 → (line ≡ write_fault_line final_name) ⊎ (line ≡ summary_line entries)
+  pub known : (e : End) × (line ≡ line_of e (named (script_name c) e) entries)
+  pub refusal : status ≡ 6 → (j : Judgement) × IsRefusal j × (line ≡ refusal_line (script_name c) j) × IfSome told (λ files. Judged c files j)
+
+-- The line was said, and nothing else; or a front of it, where a saying failed or memory ran out.
+abbrev pub SaysLine : Shown → Shown → ℕ → List ℕ → Type 0
+SaysLine old new status line =
+    (front : List ℕ) × (back : List ℕ) × (line ≡ front ++ back) × (new.said ≡ said_also old.said front)
+    × ((back ≡ []) ⊎ ((status ≡ 7) ⊎ Rose old.write_faults new.write_faults))
+
+-- the names that a command asks the store for, in order
+abbrev pub names_of : Command → List (List ℕ)
+names_of (Still width height script) = script ∷ final_name ∷ []
+names_of NoCommand = []
+
+-- the names that were asked for, and these behind them
+abbrev pub asked_also : Option (List (List ℕ)) → List (List ℕ) → Option (List (List ℕ))
+asked_also asked names = option_map (λ before. before ++ names) asked
+
+-- A front of these names was asked for, and no other name: the script's alone at 3 and 6, and all of them at 0
+-- and 4.
+pub record AsksNames (old new : Shown) (c : Command) (status : ℕ) : Type 0 where
+  pub front : List (List ℕ)
+  pub back : List (List ℕ)
+  pub names : names_of c ≡ front ++ back
+  pub asked : new.asked ≡ asked_also old.asked front
+  pub script : (status ≡ 3) ⊎ (status ≡ 6) → front ≡ script_name c ∷ []
+  pub all : (status ≡ 0) ⊎ (status ≡ 4) → back ≡ []
 
 pub record Answer (old : Shown) (words : List (List ℕ)) (new : Shown) (status : ℕ) (journal : List Entry) : Type 0 where
   -- there is no other status
@@ -113,8 +155,9 @@ pub record Answer (old : Shown) (words : List (List ℕ)) (new : Shown) (status 
   pub put_in_part : status ≡ 4 → IsPutInPart old new (command words) journal
   -- at 7 so too, or no run was begun: then the journal is empty, and nothing is put
   pub at_seven : status ≡ 7 → ((journal ≡ []) × (new.files ≡ old.files)) ⊎ IsPutInPart old new (command words) journal
-  -- at 0 the summary line is said
-  pub summary : status ≡ 0 → new.said ≡ said_also old.said (summary_line (length journal))
+  -- what is said is the status's line, and what is asked for are names of the command
+  pub said : (line : List ℕ) × IsLine (command words) old.files status (length journal) line × SaysLine old new status line
+  pub asked : AsksNames old new (command words) status
   -- a valid script is run to its end, unless the store fails or memory runs out
   pub complete : IsSomeAnd old.files (λ files. (lines : List Line) × IsValid (command words) files lines)
       → (Rose old.read_faults new.read_faults → ⊥) → (Rose old.write_faults new.write_faults → ⊥) → (status ≡ 0) ⊎ (status ≡ 7)

@@ -1,4 +1,4 @@
-use Rattle.std.proofs.Common.{◌≡◌, ◌+◌, ◌/◌, ◌≤◌, length, arith}
+use Rattle.std.proofs.Common.{◌≡◌, ◌+◌, length, arith}
 use Rattle.std.specs.Fmt.{decimal}
 use Rattle.nit_report.proofs.Decimals.{one_digit, one_digit_more, few_digits}
 use Rattle.nit_report.proofs.picture.+digit_count.Goals as goal

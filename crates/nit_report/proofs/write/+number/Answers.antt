@@ -1,4 +1,4 @@
-use Rattle.std.proofs.Common.{rules, ◌≡◌, ◌+◌, ◌/◌, ◌%◌, ◌≤◌, List, ℕ, [], ◌∷◌, ◌++◌, length, take, arith, ap, sym, ◌∙◌, append_assoc}
+use Rattle.std.proofs.Common.{rules, ◌+◌, ◌/◌, ◌%◌, List, ℕ, [], ◌∷◌, ◌++◌, take, arith, ap, sym, ◌∙◌, append_assoc}
 use Rattle.std.specs.Fmt.{decimal}
 use Rattle.std.proofs.lemmas.Fmt.{decimal_digit, decimal_step}
 use Rattle.nit_report.proofs.Decimals.{one_digit, one_digit_more}
