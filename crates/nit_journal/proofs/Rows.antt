@@ -1,6 +1,9 @@
 -- Worked rows of one session and of a small journal, computed from the definitions.
-use Rattle.std.proofs.Common.{◌≡◌, List, [], ◌∷◌, refl, pos, negsuc, map}
+use Rattle.std.proofs.Common.{◌≡◌, List, [], ◌∷◌, refl, pos, negsuc, map, arith, ◌++◌, Some}
 use Rattle.std.specs.Prelude.{codes}
+use Rattle.nit_events.specs.declared.event.Event.TheVariants as event
+use Rattle.nit_events.specs.declared.device.Device.TheVariants as device
+use Rattle.nit_events.specs.Input.{to, routed_as}
 use Rattle.nit_events.specs.declared.call.Call.{Call}
 use Rattle.nit_events.specs.declared.call.Call.TheVariants.{Buffer, View, Place, Title, Destroy, Refresh, Take, Upgrade, Close}
 use Rattle.nit_events.specs.declared.call.Reply.TheVariants as reply
@@ -10,9 +13,9 @@ use Rattle.nit_stack.specs.Sources.{Bare, Word, point}
 use Rattle.nit_config.specs.Configuration.{still_configuration}
 use Rattle.nit_journal.specs.Session.{serve}
 use Rattle.nit_journal.specs.Projections.{Moment, Calls, alone}
-use Rattle.nit_journal.specs.State.{source_of}
+use Rattle.nit_journal.specs.State.{source_of, route}
 use Rattle.nit_journal.specs.Views.{stack_after_call}
-use Rattle.nit_journal.specs.Journals.{replay}
+use Rattle.nit_journal.specs.Journals.{replay, IsLegal}
 
 abbrev calls : List Call → List Moment
 calls xs = map (λ c. Calls c) xs
@@ -68,3 +71,23 @@ first_at_4_2 = refl
 first_at_0_0 : source_of (replay (still_configuration 8 4) first) (point 0 0) ≡ Bare
 unfolding serve stack_after_call
 first_at_0_0 = refl
+
+-- the view is clicked, and its session takes an event
+abbrev clicked : List Entry
+clicked =
+    entry.Call 0 (Buffer 4 2) reply.Done
+    ∷ entry.Call 0 View (reply.Handle 1)
+    ∷ entry.Call 0 (Place 1 (pos 1) (pos 1) 4 2) reply.Done
+    ∷ entry.Input (device.Motion 2 2) (routed_as (to (Some 0) (event.Motion 2 2)))
+    ∷ entry.Input (device.Press 272) (routed_as (to (Some 0) event.FocusEnter ++ to (Some 0) (event.Press 272)))
+    ∷ entry.Call 0 Take (reply.Event (event.Motion 2 2))
+    ∷ entry.Final
+    ∷ []
+
+clicked_is_legal : IsLegal (still_configuration 8 4) clicked
+unfolding serve stack_after_call route
+clicked_is_legal = ((omega arith, refl), ((omega arith, refl), ((omega arith, refl), (refl, (refl, ((omega arith, refl), refl))))))
+
+clicked_has_the_focus : (replay (still_configuration 8 4) clicked).input.focus ≡ Some 0
+unfolding serve stack_after_call route
+clicked_has_the_focus = refl

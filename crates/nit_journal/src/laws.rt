@@ -1,16 +1,69 @@
 //! Laws of journals, over plain lists.
 
-ghost use Rattle.std.specs.Prelude.{◌≡◌, ◌+◌, ◌++◌, ◌∷◌, [], ℕ, List, length, ◌<◌};
+ghost use Rattle.std.specs.Prelude.{◌≡◌, ◌≢◌, ◌+◌, ◌++◌, ◌∷◌, [], ℕ, List, length, ◌<◌, ◌⊎◌, true, fold, Some, None, option_map};
+ghost use Rattle.nit_events.specs.declared.call.Call.{Call};
+ghost use Rattle.nit_events.specs.declared.call.Call.TheVariants.{Take, Close};
+ghost use Rattle.nit_events.specs.declared.call.Reply.{Reply};
+ghost use Rattle.nit_events.specs.declared.event.Event.{Event};
+ghost use Rattle.nit_events.specs.declared.event.Routed.{Routed};
+ghost use Rattle.nit_events.specs.declared.device.Device.{Device};
+ghost use Rattle.nit_events.specs.declared.device.Device.TheVariants as device;
+ghost use Rattle.nit_events.specs.declared.device.Mode.TheVariants.{Flat, Xray};
+ghost use Rattle.nit_events.specs.declared.event.Status.TheVariants as status;
 ghost use Rattle.nit_events.specs.declared.entry.Entry.{Entry};
-ghost use Rattle.nit_journal.specs.Session.{Session};
-ghost use Rattle.nit_journal.specs.State.{State, after};
-ghost use Rattle.nit_journal.specs.Journals.{replay_from, LegalFrom, IsLegal, Agrees, IsOpen, shots};
-ghost use Rattle.nit_journal.specs.Projections.{projection, replies_to, alone, reserved, views_in_use};
-ghost use Rattle.nit_journal.specs.Whole.{IsWhole};
+ghost use Rattle.nit_events.specs.declared.entry.Entry.TheVariants as entry;
+ghost use Rattle.nit_events.specs.Input.{is_button};
+ghost use Rattle.nit_stack.specs.Sources.{point};
+ghost use Rattle.nit_config.specs.Configuration.{Configuration, member};
+ghost use Rattle.nit_journal.specs.Session.{opened, serve};
+ghost use Rattle.nit_journal.specs.Views.{is_accepted};
+ghost use Rattle.nit_journal.specs.State.{State, session, owner_of, after};
+ghost use Rattle.nit_journal.specs.Journals.{replay_from, replay, LegalFrom, IsLegal, Agrees, IsOpen, shots};
+ghost use Rattle.nit_journal.specs.Projections.{Moment, projection, replies_to, alone};
+ghost use Rattle.nit_journal.specs.Whole.{calls_of};
 
 /// A journal with one more entry: it leads to the state after that entry, and it is legal where the entry
 /// agrees with the state and the shots before it.
 pub fn one_more_entry()
     ensures replayed { (s : State) (journal : List Entry) (e : Entry) → replay_from s (journal ++ e ∷ []) ≡ after (replay_from s journal) e }
     ensures legal { (s : State) (taken : ℕ) (journal : List Entry) (e : Entry) → LegalFrom s taken journal → IsOpen journal → Agrees (replay_from s journal) (taken + shots journal) e → LegalFrom s taken (journal ++ e ∷ []) }
+{}
+
+/// Each session of a legal journal gets the replies of a machine that serves it alone: they come from its
+/// donation, its own calls and the items that were routed to it.
+pub fn isolation()
+    ensures { (config : Configuration) (journal : List Entry) (s : ℕ) → IsLegal config journal → s < length config.clients → replies_to s journal ≡ alone (member config s).donation (projection s journal) }
+{}
+
+/// Two legal journals, of any two configurations, that give a session the same donation. Where it sees the
+/// same in both, it gets the same replies; and where what it sees in the one goes on in the other, so do its
+/// replies.
+pub fn two_worlds()
+    ensures same { (c d : Configuration) (js ks : List Entry) (s t : ℕ) → IsLegal c js → IsLegal d ks → s < length c.clients → t < length d.clients → (member c s).donation ≡ (member d t).donation → projection s js ≡ projection t ks → replies_to s js ≡ replies_to t ks }
+    ensures longer { (c d : Configuration) (js ks : List Entry) (s t : ℕ) → IsLegal c js → IsLegal d ks → s < length c.clients → t < length d.clients → (member c s).donation ≡ (member d t).donation → (more : List Moment) → projection t ks ≡ projection s js ++ more → (rest : List Reply) × (replies_to t ks ≡ replies_to s js ++ rest) }
+{}
+
+/// A call leaves the machine of every other session as it was, and it puts no event into any queue: it can
+/// only take some from the front.
+pub fn calls_touch_no_other()
+    ensures others { (s : State) (sid : ℕ) (call : Call) (r : Reply) (x : ℕ) → x ≢ sid → session (after s (entry.Call sid call r)) x ≡ session s x }
+    ensures queues { (s : State) (sid : ℕ) (call : Call) (r : Reply) (x : ℕ) → (taken : List Event) × ((session s x).queue ≡ taken ++ (session (after s (entry.Call sid call r)) x).queue) }
+{}
+
+/// While a session is live, the user's input changes nothing of its machine but the queue and the count of
+/// lost events. The rest is that of a machine that gets its calls alone: donation, reserve, buffer, handles
+/// and the next handle. So every call but `Take` is answered, and refused for quota or reserve, by its own
+/// donation and calls.
+pub fn quota_is_its_own()
+    ensures machine { (config : Configuration) (journal : List Entry) (s : ℕ) → s < length config.clients → (session (replay config journal) s).status ≡ status.Live → let now = session (replay config journal) s in let by_calls = fold (λ t call. (serve t call).session) (opened (member config s).donation) (calls_of s journal) in now ≡ record by_calls { queue = now.queue; lost = now.lost } }
+    ensures replies { (config : Configuration) (journal : List Entry) (s : ℕ) → s < length config.clients → (session (replay config journal) s).status ≡ status.Live → (call : Call) → call ≢ Take → let by_calls = fold (λ t c. (serve t c).session) (opened (member config s).donation) (calls_of s journal) in (serve (session (replay config journal) s) call).reply ≡ (serve by_calls call).reply }
+{}
+
+/// No call moves the focus, but for an accepted `Close` of the focused session, which leaves none. And a device
+/// event gives the focus to a session only by a click on a pixel of its own: a button is pressed in mode `Flat`
+/// or `Xray`, and the configuration says that the session takes the focus by clicks.
+pub fn focus_is_the_users()
+    ensures calls { (s : State) (sid : ℕ) (call : Call) (r : Reply) → ((after s (entry.Call sid call r)).input.focus ≡ s.input.focus) ⊎ ((call ≡ Close) × (is_accepted r ≡ true) × (s.input.focus ≡ Some sid)) }
+    ensures closed { (s : State) (sid : ℕ) (r : Reply) → is_accepted r ≡ true → s.input.focus ≡ Some sid → (after s (entry.Call sid Close r)).input.focus ≡ None }
+    ensures clicks { (s : State) (dev : Device) (routed : Routed) (x : ℕ) → (after s (entry.Input dev routed)).input.focus ≡ Some x → (s.input.focus ≡ Some x) ⊎ ((k : ℕ) × (dev ≡ device.Press k) × (is_button k ≡ true) × ((s.input.mode ≡ Flat) ⊎ (s.input.mode ≡ Xray)) × (option_map (λ v. v.sid) (owner_of s (point s.input.x s.input.y)) ≡ Some x) × ((member s.config x).clicks ≡ true)) }
 {}

@@ -1,1 +1,3 @@
 pub mod Rectangle
+pub mod Meeting
+pub mod Dividing

@@ -1,7 +1,10 @@
-ghost use Rattle.std.specs.Prelude.{◌≡◌, ◌↔◌, ◌≤◌, IsTrue, IsSome, IfSome};
+ghost use Rattle.std.specs.Prelude.{◌≡◌, ◌↔◌, ◌≤◌, ◌*◌, IsTrue, IsSome, IfSome};
 ghost use Rattle.nit_rect.specs.Rectangle.{IsPlace, rectangle, is_rectangle, spans, covers};
+ghost use Rattle.nit_rect.specs.Meeting.{nothing, HasPixels, IsApart, CoversBoth, LiesIn};
 
 use crate::point::Point;
+use crate::run::Run;
+use crate::strips::Strips;
 use std::marker::Model;
 
 /// A rectangle of pixels: its left column, its top row, its width and its height. The place is
@@ -28,6 +31,8 @@ impl Model for Rect {
 }
 
 impl Rect {
+    ghost use Rattle.nit_rect.specs.Dividing.{IsScreenRectangle, IsDivided};
+
     /// The rectangle of these numbers. None exactly where one is out of range.
     pub fn new(x: i32, y: i32, w: u32, h: u32) -> Option<Rect>
         ensures some { IsSome result ↔ IsTrue (is_rectangle x y w h) }
@@ -50,6 +55,80 @@ impl Rect {
         ensures { result ≡ covers self.now p }
     {
         is_within(self.x, self.w, p.x) && is_within(self.y, self.h, p.y)
+    }
+
+    /// The rectangle of the pixels that both cover. Where there are none it is (0, 0, 0, 0).
+    pub fn meet(&self, r: &Rect) -> Rect
+        ensures both { CoversBoth self.now r.now result }
+        ensures none { IsApart self.now r.now → result ≡ nothing }
+    {
+        let columns = self.columns().meet(r.columns());
+        let rows = self.rows().meet(r.rows());
+        if columns.long == 0 || rows.long == 0 {
+            return Rect {
+                x: 0,
+                y: 0,
+                w: 0,
+                h: 0,
+            };
+        }
+        of_runs(columns, rows)
+    }
+
+    /// Whether `r` covers every pixel of this rectangle. One without pixels is inside all others.
+    pub fn inside(&self, r: &Rect) -> bool
+        ensures { IsTrue result ↔ LiesIn self.now r.now }
+    {
+        let across = self.columns().is_within(r.columns());
+        let down = self.rows().is_within(r.rows());
+        self.area() == 0 || across && down
+    }
+
+    /// The number of pixels.
+    pub fn area(&self) -> u64
+        ensures { result ≡ self.now.w * self.now.h }
+    {
+        self.w as u64 * self.h as u64
+    }
+
+    /// What is left of this rectangle where `cut` is taken out: with the cut, the four strips have each of
+    /// its pixels once. This rectangle lies on a screen of 1024 by 768, and the cut lies in it and has pixels.
+    pub fn strips(&self, cut: &Rect) -> Strips
+        requires screen { IsScreenRectangle self.now }
+        requires inside { LiesIn cut.now self.now }
+        requires pixels { HasPixels cut.now }
+        ensures { IsDivided self.now cut.now result }
+    {
+        let (wide, high) = (self.columns(), self.rows());
+        let (cut_wide, cut_high) = (cut.columns(), cut.rows());
+        let columns = wide.without(cut_wide);
+        let rows = high.without(cut_high);
+        Strips {
+            top: of_runs(wide, rows.before),
+            left: of_runs(columns.before, cut_high),
+            right: of_runs(columns.after, cut_high),
+            bottom: of_runs(wide, rows.after),
+        }
+    }
+
+    fn columns(&self) -> Run
+        ensures from { result.from ≡ self.now.x }
+        ensures long { result.long ≡ self.now.w }
+    {
+        Run {
+            from: self.x,
+            long: self.w,
+        }
+    }
+
+    fn rows(&self) -> Run
+        ensures from { result.from ≡ self.now.y }
+        ensures long { result.long ≡ self.now.h }
+    {
+        Run {
+            from: self.y,
+            long: self.h,
+        }
     }
 
     /// The left column.
@@ -82,6 +161,18 @@ impl Rect {
         ensures range { result ≤ 32767 }
     {
         self.h as u32
+    }
+}
+
+/// The rectangle of these columns and rows.
+fn of_runs(columns: Run, rows: Run) -> Rect
+    ensures { result ≡ rectangle columns.from rows.from columns.long rows.long }
+{
+    Rect {
+        x: columns.from,
+        y: rows.from,
+        w: columns.long,
+        h: rows.long,
     }
 }
 

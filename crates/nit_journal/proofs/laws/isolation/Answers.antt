@@ -1,0 +1,5 @@
+use Rattle.nit_journal.proofs.Isolation.{served_alone}
+use Rattle.nit_journal.proofs.laws.isolation.Goals as goal
+
+pub returns : goal.returns
+returns c = served_alone

@@ -1,0 +1,30 @@
+use Rattle.std.proofs.Common.{◌≡◌, true, false, eq-eqb, sym, ◌∙◌}
+use Rattle.nit_rect.specs.Meeting.{HasPixels}
+use Rattle.nit_rect.proofs.Sets.{is_run_within, none_lie, no_pixels, pixels_of, lies_across, lies_down, tests_lie}
+use Rattle.nit_rect.proofs.rect.Rect.inside.Goals as goal
+
+pub returns-then-area-eq0 : goal.returns-then-area-eq0
+returns-then-area-eq0 c = (
+  λ _. none_lie c.args.self.now c.args.r.now (no_pixels c.args.self.now (sym c.area.ensures ∙ c.if-area-eq0.true)),
+  λ _. eq-eqb c.area.result 0 c.if-area-eq0.true,
+)
+
+pub returns-then-across : goal.returns-then-across
+returns-then-across c =
+    let self = c.args.self.now in
+    let r = c.args.r.now in
+    let some : HasPixels self = pixels_of self (λ none. c.if-area-eq0.false (c.area.ensures ∙ none)) in
+    let across : c.is_within-across.result ≡ is_run_within self.x self.w r.x r.w
+    = rw (c.columns.ensures.from, c.columns.ensures.long, c.columns-2.ensures.from, c.columns-2.ensures.long) at c.is_within-across.ensures in
+    let down : c.is_within-down.result ≡ is_run_within self.y self.h r.y r.h
+    = rw (c.rows.ensures.from, c.rows.ensures.long, c.rows-2.ensures.from, c.rows-2.ensures.long) at c.is_within-down.ensures in
+    (λ is. tests_lie self r (sym across ∙ c.if-across.true) (sym down ∙ is), λ lie. down ∙ lies_down self r some lie)
+
+pub returns-else-across : goal.returns-else-across
+returns-else-across c =
+    let self = c.args.self.now in
+    let r = c.args.r.now in
+    let some : HasPixels self = pixels_of self (λ none. c.if-area-eq0.false (c.area.ensures ∙ none)) in
+    let across : c.is_within-across.result ≡ is_run_within self.x self.w r.x r.w
+    = rw (c.columns.ensures.from, c.columns.ensures.long, c.columns-2.ensures.from, c.columns-2.ensures.long) at c.is_within-across.ensures in
+    (λ is. absurd (let e : true ≡ false = sym is ∙ c.if-across.false in cc), λ lie. across ∙ lies_across self r some lie)

@@ -1,0 +1,8 @@
+use Rattle.std.proofs.Common.{◌∙◌, arith}
+use Rattle.std.proofs.lemmas.Int.{ints}
+use Rattle.nit_rect.proofs.Spans.{spans_earlier}
+use Rattle.nit_rect.proofs.run.Run.meet.Goals as goal
+
+pub returns-else-self-other : goal.returns-else-self-other
+returns-else-self-other c =
+    λ at. c.before-else-self-other.ensures at ∙ spans_earlier c.args.self.from c.args.other.from _ at _ _ (omega (arith, ints)) (omega (arith, ints))

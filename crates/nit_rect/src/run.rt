@@ -1,0 +1,90 @@
+//! Columns or rows that follow one another.
+
+ghost use Rattle.std.specs.Prelude.{◌≡◌, ℤ, ◌+◌, ◌≤◌, ◌&&◌, pos, negsuc, ◌+ℤ◌, ◌≤ℤ◌, int_le, int_lt};
+ghost use Rattle.nit_rect.specs.Rectangle.{spans};
+ghost use Rattle.nit_rect.specs.Dividing.{times_among};
+
+/// The `long` places from `from` on.
+#[derive(Clone, Copy)]
+pub struct Run {
+    pub from: i16,
+    pub long: u16,
+    ghost short: { long ≤ 32767 },
+}
+
+/// What is left of a run round a cut.
+#[derive(Clone, Copy)]
+pub struct Rest {
+    pub before: Run,
+    pub after: Run,
+}
+
+impl Run {
+    /// The first place behind the run.
+    fn end(self) -> i32
+        ensures { result ≡ self.from +ℤ pos self.long }
+    {
+        self.from as i32 + self.long as i32
+    }
+
+    /// The places of the run that lie before `end`.
+    fn before(self, end: i32) -> Run
+        requires low { negsuc 65535 ≤ℤ end }
+        requires high { end ≤ℤ pos 65535 }
+        ensures { (at : ℤ) → spans result.from result.long at ≡ (spans self.from self.long at && int_lt at end) }
+    {
+        let room = end - self.from as i32;
+        if room <= 0 {
+            Run {
+                from: self.from,
+                long: 0,
+            }
+        } else if room < self.long as i32 {
+            Run {
+                from: self.from,
+                long: room as u16,
+            }
+        } else {
+            self
+        }
+    }
+
+    /// The places that both runs have.
+    pub fn meet(self, other: Run) -> Run
+        ensures { (at : ℤ) → spans result.from result.long at ≡ (spans self.from self.long at && spans other.from other.long at) }
+    {
+        if self.from < other.from {
+            other.before(self.end())
+        } else {
+            self.before(other.end())
+        }
+    }
+
+    /// Whether the run neither begins before the other nor ends behind it.
+    pub fn is_within(self, other: Run) -> bool
+        ensures { result ≡ (int_le other.from self.from && int_le (self.from +ℤ pos self.long) (other.from +ℤ pos other.long)) }
+    {
+        other.from <= self.from && self.end() <= other.end()
+    }
+
+    /// What is left of the run round the cut, which lies within it.
+    pub fn without(self, cut: Run) -> Rest
+        requires screen { (self.from +ℤ pos self.long) ≤ℤ pos 1024 }
+        requires begins { self.from ≤ℤ cut.from }
+        requires ends { (cut.from +ℤ pos cut.long) ≤ℤ (self.from +ℤ pos self.long) }
+        ensures { (at : ℤ) → times_among self.from self.long at ≡ times_among result.before.from result.before.long at + times_among result.after.from result.after.long at + times_among cut.from cut.long at }
+    {
+        let before = cut.from as i32 - self.from as i32;
+        let after = self.end() - cut.end();
+        Rest {
+            before: Run {
+                from: self.from,
+                long: before as u16,
+            },
+            after: Run {
+                from: cut.end() as i16,
+                long: after as u16,
+            },
+        }
+    }
+}

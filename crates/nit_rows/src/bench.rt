@@ -1,0 +1,139 @@
+//! A command over a store in memory, and what it left there.
+
+use nit_actor::Open;
+use nit_events::Entry;
+use nit_store::{MemoryStore, have_different_names};
+use nit_top::{Done, nitpicker};
+use std::alloc::{AllocError, Global};
+use std::process::Abort;
+use std::sync::Wait;
+use std::thread::Threads;
+
+/// A script of a red buffer of 4 by 2, in a view at (1, 1).
+pub const FIRST: &str = "buffer 4 2\nfill 0 0 4 2 FF0000\nview\nplace 1 1 1 4 2\n";
+
+/// The words that make its picture.
+pub const STILL_FIRST: [&str; 4] = ["still", "8", "4", "first.nit"];
+
+/// Texts of their own.
+pub fn texts(alloc: Global, words: &[&str]) -> Result<Vec<String>, AllocError> {
+    let mut all = Vec::new(alloc);
+    for word in words {
+        all.push(String::from_str(alloc, word)?)?;
+    }
+    Ok(all)
+}
+
+/// One file.
+pub fn file(alloc: Global, name: &str, bytes: &[u8]) -> Result<Vec<(String, Vec<u8>)>, AllocError> {
+    let mut files = Vec::new(alloc);
+    files.push((String::from_str(alloc, name)?, bytes.to_vec(alloc)?))?;
+    Ok(files)
+}
+
+/// A store with these files, of which the calls with these numbers fail.
+pub fn store(
+    rt: &impl Abort,
+    alloc: Global,
+    files: Vec<(String, Vec<u8>)>,
+    failing: &[u64],
+) -> Result<MemoryStore, AllocError> {
+    assert!(rt; have_different_names(&files));
+    Ok(MemoryStore::new(alloc, files, failing.to_vec(alloc)?))
+}
+
+/// A store with one file, of which no call fails but a read of another name.
+pub fn sound_store(
+    rt: &impl Abort,
+    alloc: Global,
+    name: &str,
+    bytes: &[u8],
+) -> Result<MemoryStore, AllocError> {
+    store(rt, alloc, file(alloc, name, bytes)?, &[])
+}
+
+/// Does what the words ask for.
+pub fn command<R: Threads + Wait + Sync>(
+    rt: &R,
+    alloc: Global,
+    words: &[&str],
+    store: &mut MemoryStore,
+) -> Result<Done, AllocError> {
+    let words = texts(alloc, words)?;
+    Ok(nitpicker(rt, alloc, &words, store, &Open))
+}
+
+/// The bytes under a name.
+pub fn bytes_of<'a>(store: &'a MemoryStore, name: &str) -> Option<&'a [u8]> {
+    for file in store.files() {
+        if file.0.as_str() == name {
+            return Some(file.1.as_slice());
+        }
+    }
+    None
+}
+
+/// The store was asked for these names, in this order.
+pub fn assert_asked(rt: &impl Abort, store: &MemoryStore, names: &[&str]) {
+    assert_eq!(rt; store.asked().len(), names.len());
+    for (asked, name) in store.asked().iter().zip(names) {
+        assert_eq!(rt; asked.as_str(), *name);
+    }
+}
+
+/// The store has files of these names, in the order of their first puts.
+pub fn assert_names(rt: &impl Abort, store: &MemoryStore, names: &[&str]) {
+    assert_eq!(rt; store.files().len(), names.len());
+    for (file, name) in store.files().iter().zip(names) {
+        assert_eq!(rt; file.0.as_str(), *name);
+    }
+}
+
+/// Nothing but this line was said.
+pub fn assert_said(rt: &impl Abort, store: &MemoryStore, line: &str) {
+    assert_eq!(rt; std::str::from_utf8(store.said()), Ok(line));
+}
+
+/// No run was begun.
+pub fn assert_unbegun(rt: &impl Abort, journal: &[Entry]) {
+    assert_eq!(rt; journal.len(), 0);
+}
+
+/// The command was refused before any put: its status, its line, and the names that it asked for.
+pub fn assert_refused(
+    rt: &impl Abort,
+    done: &Done,
+    store: &MemoryStore,
+    status: u8,
+    line: &str,
+    asked: &[&str],
+) {
+    assert_said(rt, store, line);
+    assert_eq!(rt; done.status, status, "at {line:?}");
+    assert_asked(rt, store, asked);
+    assert!(rt; bytes_of(store, "final.ppm").is_none(), "at {line:?}");
+    assert_unbegun(rt, &done.journal);
+}
+
+/// A picture of 8 by 4: R is red, G is green, K is black, and all else is bare.
+pub fn picture(alloc: Global, rows: [&str; 4]) -> Result<Vec<u8>, AllocError> {
+    let head = [
+        0x50, 0x36, 0x0a, 0x38, 0x20, 0x34, 0x0a, 0x32, 0x35, 0x35, 0x0a,
+    ];
+    let mut bytes = head.to_vec(alloc)?;
+    for row in rows {
+        for pixel in row.as_bytes() {
+            bytes.extend_from_slice(&colour(*pixel))?;
+        }
+    }
+    Ok(bytes)
+}
+
+fn colour(pixel: u8) -> [u8; 3] {
+    match pixel {
+        b'R' => [0xFF, 0x00, 0x00],
+        b'G' => [0x00, 0xFF, 0x00],
+        b'K' => [0x00, 0x00, 0x00],
+        _ => [0x00, 0x00, 0x20],
+    }
+}

@@ -1,0 +1,37 @@
+//! Calls that may answer want of memory, where there is enough.
+
+use nit_config::FileName;
+use nit_events::Entry;
+use nit_journal::Journal;
+use nit_slots::{Slots, Table};
+use nit_stack::Stack;
+use std::test::Fail;
+
+#[test]
+fn journal_with_room(rt: HostRuntime) -> Result<(), Fail> {
+    let mut journal = Journal::with_room(rt.alloc(), 1)?;
+    assert_eq!(rt; journal.entries().len(), 0);
+    journal.append(Entry::Final);
+    assert_eq!(rt; journal.entries(), [Entry::Final].as_slice());
+    Ok(())
+}
+
+#[test]
+fn greatest_of_all(rt: HostRuntime) -> Result<(), Fail> {
+    let slots = Slots::new(rt.alloc(), 1024)?;
+    assert_eq!(rt; slots.taken(), 0);
+    let table = Table::new(rt.alloc(), 64)?;
+    assert_eq!(rt; table.last(), None);
+    let stack = Stack::new(rt.alloc(), 1024, 768, 16, 1024)?;
+    assert_eq!(rt; stack.size(), (1024, 768));
+    let journal = Journal::with_room(rt.alloc(), 1_114_113)?;
+    assert_eq!(rt; journal.entries().len(), 0);
+    Ok(())
+}
+
+#[test]
+fn name_of_a_file(rt: HostRuntime) -> Result<(), Fail> {
+    let name = FileName::new(rt.alloc(), b"still")?;
+    assert_eq!(rt; name.as_str(), "still");
+    Ok(())
+}
