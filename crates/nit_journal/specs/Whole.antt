@@ -27,7 +27,7 @@ deeds_of (other ∷ rest) = deeds_of rest
 
 -- without the numbers of the phases
 abbrev pub done : {A : Type 0} → List (ℕ × A) → List A
-done todo = map (λ t. t.1) todo
+done phased = map (λ t. t.1) phased
 
 -- what a client is to do
 abbrev pub to_do : List (List (ℕ × Call)) → ℕ → List (ℕ × Call)

@@ -50,12 +50,6 @@ spans_holds from long at is = and_true (le_tested from at is.low) (lt_tested at 
 pub no_place : (from at : ℤ) → spans from 0 at ≡ false
 no_place from at = grind (arith, ints)
 
-pub first_place : (from : ℤ) (long : ℕ) → 0 < long → spans from long from ≡ true
-first_place from long some = spans_holds from long from record { low = omega (arith, ints); high = omega (arith, ints) }
-
-pub last_place : (from : ℤ) (less : ℕ) → spans from (less + 1) (from +ℤ pos less) ≡ true
-last_place from less = spans_holds from (less + 1) (from +ℤ pos less) record { low = omega (arith, ints); high = omega (arith, ints) }
-
 -- the places before an end
 pub spans_before : (again from end at : ℤ) (long short : ℕ) → again ≡ from → short ≤ long
     → (0 < short → (from +ℤ pos short) ≤ℤ end) → (short < long → end ≤ℤ (from +ℤ pos short))
