@@ -1,7 +1,7 @@
 //! Calls that may answer want of memory, where there is enough.
 
 use nit_config::FileName;
-use nit_events::Entry;
+use nit_events::{Entry, Event, Queue};
 use nit_journal::Journal;
 use nit_slots::{Slots, Table};
 use nit_stack::Stack;
@@ -26,6 +26,16 @@ fn greatest_of_all(rt: HostRuntime) -> Result<(), Fail> {
     assert_eq!(rt; stack.size(), (1024, 768));
     let journal = Journal::with_room(rt.alloc(), 1_114_113)?;
     assert_eq!(rt; journal.entries().len(), 0);
+    Ok(())
+}
+
+#[test]
+fn queue_of_events(rt: HostRuntime) -> Result<(), Fail> {
+    let mut queue = Queue::new(rt.alloc())?;
+    assert!(rt; queue.offer(Event::Press(272)));
+    assert!(rt; queue.offer(Event::Wheel(-1)));
+    assert_eq!(rt; queue.take(), Some(Event::Press(272)));
+    assert_eq!(rt; queue.len(), 1);
     Ok(())
 }
 

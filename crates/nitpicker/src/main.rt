@@ -2,7 +2,7 @@
 #![tactic(auto)]
 
 use nit_actor::Open;
-use nit_store::DiskStore;
+use nit_store::{DiskStore, Store};
 use nit_top::nitpicker;
 use std::alloc::{AllocError, Global};
 use std::env;
@@ -25,10 +25,12 @@ fn words<R: Env + AllocGlobal>(rt: &R) -> Result<Vec<String>, AllocError> {
 
 fn main(rt: HostRuntime) -> ExitCode {
     let alloc: Global = rt.alloc();
+    let mut store = DiskStore::new(&rt, alloc);
     let Ok(words) = words(&rt) else {
+        // Where this cannot be said either, the status alone tells it.
+        let _ = store.say(b"nitpicker: no memory\n");
         return ExitCode::from(NO_MEMORY);
     };
-    let mut store = DiskStore::new(&rt, alloc);
     let done = nitpicker(&rt, alloc, &words, &mut store, &Open);
     ExitCode::from(done.status)
 }
