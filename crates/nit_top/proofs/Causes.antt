@@ -11,11 +11,11 @@ use Rattle.nit_store.specs.Shown.{Shown, Rose, saying}
 use Rattle.nit_top.specs.declared.finish.End.{End}
 use Rattle.nit_top.specs.Command.{Command, Still, NoCommand, command}
 use Rattle.nit_top.specs.Judged.{IsRefused, IsValid}
-use Rattle.nit_top.specs.Lines.{line_of}
+use Rattle.nit_top.specs.Lines.{line_of, summary_line}
 use Rattle.nit_top.specs.Saying.{Says}
-use Rattle.nit_top.specs.Answer.{code_of, status_of, Worked, Ended, PutFiles, IsPutWhole, IsPutInPart, IsLine, AsksNames, Answer}
+use Rattle.nit_top.specs.Answer.{code_of, status_of, Worked, Ended, PutFiles, IsPutWhole, IsPutInPart, said_also, IsLine, AsksNames, Answer}
 use Rattle.nit_top.specs.Outputs.{outputs}
-use Rattle.nit_top.proofs.Ends.{IsRun, no_usage, codes_are, read_rose, reads_stay, write_rose, writes_stay, nothing_put, refused_by, began, files_stay, began_or_not, put_whole, none_put, all_put}
+use Rattle.nit_top.proofs.Ends.{IsRun, no_usage, codes_are, read_rose, reads_stay, write_rose, writes_stay, nothing_put, refused_by, began, files_stay, began_or_not, put_whole, said_stays, none_put, all_put}
 use Rattle.nit_top.proofs.Telling.{work_asked, work_said, says_asks, says_line, is_line}
 use Rattle.nit_top.proofs.Judging.{told_valid, told_refused, no_command, no_script}
 
@@ -231,12 +231,27 @@ module _ (old : Shown) (mid : Shown) (end : End) (name : List ℕ) (text : List 
       empty_run : (c : Command) → IsRun old c journal → journal ≡ [] → ⊥
       empty_run c r none = let e = r.ran.whole.ends in final_none e.0 _ (sym none ∙ e.1)
 
+  summary : (c : Command) → Worked c old mid end name journal → text ≡ line_of end name (length journal) → status ≡ 0 → new.said ≡ said_also old.said (summary_line (length journal))
+  summary NoCommand w is s = let two : code_of end ≡ 2 = ap code_of w.0 in let z = (said_all s).0 in absurd (omega arith)
+  summary (Still width height script) w is s =
+      let said = said_all s in
+      let by = said_stays old width height script mid journal end w.0 said.0 in
+      let spelled : text ≡ summary_line (length journal) = is ∙ ap (λ (e : End). line_of e name (length journal)) by.0 in
+      ap (λ (t : Shown). t.said) said.1 ∙ ap (λ (l : List ℕ). said_also mid.said l) spelled ∙ ap (λ (o : Option (List ℕ)). said_also o (summary_line (length journal))) by.1
+
   rose_later : (c : Command) → Worked c old mid end name journal → Rose mid.write_faults new.write_faults → Rose old.write_faults new.write_faults
   rose_later c w r = elim (quiet_or_four c w) [ inl four ↦ let f = four.1 in omega arith | inr same ↦ omega arith ]
 
-  the_line : (c : Command) → Worked c old mid end name journal → IsLine c old.files status (length journal) (line_of end name (length journal))
+  -- where a put failed, nothing is put
+  none_at_four : (c : Command) → Worked c old mid end name journal → code_of end ≡ 4 → new.files ≡ old.files
+  none_at_four (Still width height script) w e = leaves.files ∙ files_stay old width height script mid journal end w.0 (inl e)
+  none_at_four NoCommand w e = let two : code_of end ≡ 2 = ap code_of w.0 in absurd (omega arith)
+
+  the_line : (c : Command) → Worked c old mid end name journal → IsLine c old.files (new.files ≡ old.files) (IsPutWhole old new c journal) status (length journal) (line_of end name (length journal))
   the_line c w =
-      is_line c old mid end name journal status w
+      is_line c old mid end name journal (new.files ≡ old.files) (IsPutWhole old new c journal) status w
+      (none_at_four c w)
+      (whole_put c w)
       (λ s. (said_all s).0)
       (λ s. by_status 2 s (λ e. absurd (omega arith)) (λ e. absurd (omega arith)))
       (λ s. by_status 3 s (λ e. absurd (omega arith)) (λ e. absurd (omega arith)))
@@ -300,5 +315,6 @@ causes old words new status journal e =
         says_line old e.mid new text (code_of e.end) status f.said (work_said c old e.mid e.end e.name journal e.worked) (rose_later old e.mid e.end e.name text new status journal leaves cases c e.worked) f.status_is f.says,
       );
       asked = the_names old e.mid e.end e.name text new status journal leaves cases c e.worked (says_asks e.mid text new f.said f.says);
+      summary = summary old e.mid e.end e.name text new status journal leaves cases c e.worked refl;
       complete = complete old e.mid e.end e.name text new status journal leaves cases c e.worked;
     }

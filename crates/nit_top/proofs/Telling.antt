@@ -104,10 +104,11 @@ module _ (old : Shown) (width height : ℕ) (name : List ℕ) (mid : Shown) wher
   read_line ends.ReadFault entries c = refl
   read_line e entries c = absurd (omega arith)
 
-  write_line : (e : End) (entries : ℕ) → (code_of e ≡ 0) ⊎ (code_of e ≡ 4) → (line_of e (named name e) entries ≡ write_fault_line final_name) ⊎ (line_of e (named name e) entries ≡ summary_line entries)
-  write_line ends.WriteFault entries c = inl refl
-  write_line ends.Whole entries c = inr refl
-  write_line e entries c = absurd (elim c [ inl x ↦ omega arith | inr x ↦ omega arith ])
+  write_line : (none_put all_put : Type 0) (e : End) (entries : ℕ) → (code_of e ≡ 4 → none_put) → (code_of e ≡ 0 → all_put) → (code_of e ≡ 0) ⊎ (code_of e ≡ 4)
+      → ((line_of e (named name e) entries ≡ write_fault_line final_name) × none_put) ⊎ ((line_of e (named name e) entries ≡ summary_line entries) × all_put)
+  write_line none_put all_put ends.WriteFault entries four zero c = inl (refl, four refl)
+  write_line none_put all_put ends.Whole entries four zero c = inr (refl, zero refl)
+  write_line none_put all_put e entries four zero c = absurd (elim c [ inl x ↦ omega arith | inr x ↦ omega arith ])
 
   whole_line : (e : End) (entries : ℕ) → code_of e ≡ 0 → line_of e (named name e) entries ≡ summary_line entries
   whole_line ends.Whole entries c = refl
@@ -148,20 +149,21 @@ says_line old mid new text code status (Err put.Failed) same later is h = (h.0, 
 says_line old mid new text code status (Err put.NoMemory) same later is h = (h.0, h.1, h.2, ap (λ (s : Shown). s.said) h.3 ∙ ap (λ (o : Option (List ℕ)). said_also o h.0) same, inr (inl is))
 
 -- the line is that of the status, where the codes of these statuses are theirs
-pub is_line : (c : Command) (old mid : Shown) (end : End) (name : List ℕ) (journal : List Entry) (status : ℕ) → Worked c old mid end name journal
+pub is_line : (c : Command) (old mid : Shown) (end : End) (name : List ℕ) (journal : List Entry) (none_put all_put : Type 0) (status : ℕ) → Worked c old mid end name journal
+    → (code_of end ≡ 4 → none_put) → (code_of end ≡ 0 → all_put)
     → (status ≡ 0 → code_of end ≡ 0) → (status ≡ 2 → code_of end ≡ 2) → (status ≡ 3 → code_of end ≡ 3) → (status ≡ 4 → (code_of end ≡ 0) ⊎ (code_of end ≡ 4)) → (status ≡ 6 → code_of end ≡ 6)
-    → IsLine c old.files status (length journal) (line_of end name (length journal))
-is_line (Still width height script) old mid end name journal status w zero_is two_is three_is four_is six_is =
-    subst (λ (n : List ℕ). IsLine (Still width height script) old.files status (length journal) (line_of end n (length journal))) (sym w.1)
+    → IsLine c old.files none_put all_put status (length journal) (line_of end name (length journal))
+is_line (Still width height script) old mid end name journal none_put all_put status w four zero zero_is two_is three_is four_is six_is =
+    subst (λ (n : List ℕ). IsLine (Still width height script) old.files none_put all_put status (length journal) (line_of end n (length journal))) (sym w.1)
     (record {
       summary = λ s. whole_line old width height script mid end (length journal) (zero_is s);
       usage = λ s. absurd (no_usage old width height script mid journal end w.0 (two_is s));
       read_fault = λ s. read_line old width height script mid end (length journal) (three_is s);
-      write_fault = λ s. write_line old width height script mid end (length journal) (four_is s);
+      write_fault = λ s. write_line old width height script mid none_put all_put end (length journal) four zero (four_is s);
       known = (end, refl);
       refusal = λ s. bad_line old width height script mid journal end (length journal) w.0 (six_is s);
     })
-is_line NoCommand old mid end name journal status w zero_is two_is three_is four_is six_is =
+is_line NoCommand old mid end name journal none_put all_put status w four zero zero_is two_is three_is four_is six_is =
     let two : code_of end ≡ 2 = ap code_of w.0 in
     record {
       summary = λ s. let z = zero_is s in absurd (omega arith);

@@ -97,13 +97,14 @@ refusal_line script (Valid lines) = []
 refusal_line script (BadLine number) = bad_script_line script number
 refusal_line script TooLong = too_long_line script
 
--- The line of a status. It is a line of the program at 7 too: that of the want of memory, or the one that was
--- being said when memory ran out.
-pub record IsLine (c : Command) (told : Option (List File)) (status entries : ℕ) (line : List ℕ) : Type 0 where
+-- The line of a status. At 4 it is the one on the write fault where nothing is put, and the summary where all is.
+-- It is a line of the program at 7 too: that of the want of memory, or the one that was being said when memory
+-- ran out.
+pub record IsLine (c : Command) (told : Option (List File)) (none_put all_put : Type 0) (status entries : ℕ) (line : List ℕ) : Type 0 where
   pub summary : status ≡ 0 → line ≡ summary_line entries
   pub usage : status ≡ 2 → line ≡ usage_line
   pub read_fault : status ≡ 3 → line ≡ read_fault_line (script_name c)
-  pub write_fault : status ≡ 4 → (line ≡ write_fault_line final_name) ⊎ (line ≡ summary_line entries)
+  pub write_fault : status ≡ 4 → ((line ≡ write_fault_line final_name) × none_put) ⊎ ((line ≡ summary_line entries) × all_put)
   pub known : (e : End) × (line ≡ line_of e (named (script_name c) e) entries)
   pub refusal : status ≡ 6 → (j : Judgement) × IsRefusal j × (line ≡ refusal_line (script_name c) j) × IfSome told (λ files. Judged c files j)
 
@@ -156,8 +157,10 @@ pub record Answer (old : Shown) (words : List (List ℕ)) (new : Shown) (status 
   -- at 7 so too, or no run was begun: then the journal is empty, and nothing is put
   pub at_seven : status ≡ 7 → ((journal ≡ []) × (new.files ≡ old.files)) ⊎ IsPutInPart old new (command words) journal
   -- what is said is the status's line, and what is asked for are names of the command
-  pub said : (line : List ℕ) × IsLine (command words) old.files status (length journal) line × SaysLine old new status line
+  pub said : (line : List ℕ) × IsLine (command words) old.files (new.files ≡ old.files) (IsPutWhole old new (command words) journal) status (length journal) line × SaysLine old new status line
   pub asked : AsksNames old new (command words) status
+  -- at 0 the summary line is said, and all of it
+  pub summary : status ≡ 0 → new.said ≡ said_also old.said (summary_line (length journal))
   -- a valid script is run to its end, unless the store fails or memory runs out
   pub complete : IsSomeAnd old.files (λ files. (lines : List Line) × IsValid (command words) files lines)
       → (Rose old.read_faults new.read_faults → ⊥) → (Rose old.write_faults new.write_faults → ⊥) → (status ≡ 0) ⊎ (status ≡ 7)
