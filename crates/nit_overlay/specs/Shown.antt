@@ -11,7 +11,7 @@ use Rattle.nit_events.specs.declared.device.Mode.{Mode}
 use Rattle.nit_events.specs.declared.device.Mode.TheVariants.{Flat, Xray, Kill}
 use Rattle.nit_events.specs.Input.{is_same}
 use Rattle.nit_stack.specs.declared.view.View.{View}
-use Rattle.nit_stack.specs.Sources.{point, in_bar, owner}
+use Rattle.nit_stack.specs.Sources.{pixel, in_bar, owner}
 use Rattle.nit_stack.specs.Labels.{label_place}
 
 -- what a frame is made by, but for the words of the clients: the screen's size and the rows of its status bar,
@@ -112,10 +112,6 @@ owner_word s p w (Some v) = view_word s.mode s v p w
 -- The word that the screen shows at a pixel whose raw word is w.
 abbrev pub shown : Scenery → Point → ℕ → ℕ
 shown s p w = if in_bar s.bar p then bar_word s p else owner_word s p w (owner s.bar s.stack p)
-
--- the pixel of a number, row by row from the top, on a screen of this width
-abbrev pub pixel : ℕ → ℕ → Point
-pixel width k = point (k % width) (k / width)
 
 -- The frame: what is shown at each pixel, row by row from the top, where raw has the pixels' raw words.
 unfoldable pub frame : Scenery → List ℕ → List ℕ

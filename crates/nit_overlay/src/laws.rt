@@ -1,7 +1,8 @@
 //! Laws of frames.
 
 ghost use Rattle.std.specs.Prelude.{◌≡◌, ℕ, ◌*◌, ◌<◌, List, length, slice_index};
-ghost use Rattle.nit_overlay.specs.Shown.{Scenery, shown, pixel, frame};
+ghost use Rattle.nit_overlay.specs.Shown.{Scenery, shown, frame};
+ghost use Rattle.nit_stack.specs.Sources.{pixel};
 
 /// A frame has one word for each pixel of the screen, row by row from the top: the word that is shown
 /// there.

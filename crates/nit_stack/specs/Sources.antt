@@ -1,5 +1,5 @@
 -- Who owns a pixel of the screen, and where its word comes from. A stack of views is a list, front first.
-use Rattle.std.specs.Prelude.{ℕ, ◌+◌, ◌*◌, Bool, nat_lt, ℤ, pos, negsuc, ◌-ℤ◌, int_lt, List, find, Option, Some, None, if◌then◌else◌}
+use Rattle.std.specs.Prelude.{ℕ, ◌+◌, ◌*◌, ◌/◌, ◌%◌, Bool, nat_lt, ℤ, pos, negsuc, ◌-ℤ◌, int_lt, List, find, Option, Some, None, if◌then◌else◌}
 use Rattle.nit_rect.specs.declared.point.Point.{Point}
 use Rattle.nit_rect.specs.Rectangle.{covers}
 use Rattle.nit_stack.specs.declared.view.View.{View}
@@ -7,6 +7,10 @@ use Rattle.nit_stack.specs.declared.view.View.{View}
 -- the pixel in this column and row
 abbrev pub point : ℕ → ℕ → Point
 point x y = record { x = pos x; y = pos y }
+
+-- the pixel of a number, row by row from the top, on a screen of this width
+abbrev pub pixel : ℕ → ℕ → Point
+pixel width k = point (k % width) (k / width)
 
 -- the status bar is the topmost rows of the screen, as many as it has
 abbrev pub in_bar : ℕ → Point → Bool

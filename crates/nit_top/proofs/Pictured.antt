@@ -10,12 +10,12 @@ use Rattle.nit_rect.specs.Rectangle.{Rectangle, covers}
 use Rattle.nit_events.specs.declared.entry.Entry.{Entry}
 use Rattle.nit_events.specs.declared.entry.Entry.TheVariants as entry
 use Rattle.nit_stack.specs.declared.view.View.{View}
-use Rattle.nit_stack.specs.Sources.{Size, point, in_bar, source_under, black_or_word, shown_index}
+use Rattle.nit_stack.specs.Sources.{pixel, Size, point, in_bar, source_under, black_or_word, shown_index}
 use Rattle.nit_config.specs.Configuration.{still_configuration}
 use Rattle.nit_script.specs.declared.line.Line.{Line}
 use Rattle.nit_journal.specs.State.{State, buffer_size, source_of}
 use Rattle.nit_journal.specs.Journals.{replay}
-use Rattle.nit_overlay.specs.Shown.{frame, shown, pixel, bar_word, owner_word}
+use Rattle.nit_overlay.specs.Shown.{frame, shown, bar_word, owner_word}
 use Rattle.nit_report.specs.Picture.{picture}
 use Rattle.nit_top.specs.declared.sketch.Sketch.{Sketch}
 use Rattle.nit_top.specs.Small.{first_large}

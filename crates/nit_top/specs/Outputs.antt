@@ -3,12 +3,12 @@ use Rattle.std.specs.Prelude.{◌≡◌, ℕ, ◌*◌, List, [], ◌∷◌, map,
 use Rattle.std.specs.List.{range_with_len}
 use Rattle.nit_word.specs.Channels.{bare_word}
 use Rattle.nit_events.specs.declared.entry.Entry.{Entry}
-use Rattle.nit_stack.specs.Sources.{PixelSource, Bare, Black, Word}
+use Rattle.nit_stack.specs.Sources.{pixel, PixelSource, Bare, Black, Word}
 use Rattle.nit_config.specs.Configuration.{Configuration, bar_rows, member, still_configuration}
 use Rattle.nit_journal.specs.State.{State, source_of}
 use Rattle.nit_journal.specs.Journals.{replay, IsLegal}
 use Rattle.nit_journal.specs.Whole.{IsWhole}
-use Rattle.nit_overlay.specs.Shown.{Scenery, frame, pixel}
+use Rattle.nit_overlay.specs.Shown.{Scenery, frame}
 use Rattle.nit_report.specs.Picture.{picture}
 use Rattle.nit_script.specs.declared.line.Line.{Line}
 use Rattle.nit_plan.specs.Calls.{calls_to_make}

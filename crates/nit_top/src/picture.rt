@@ -2,8 +2,7 @@
 
 ghost use Rattle.std.specs.Prelude.{◌≡◌, ℕ, ◌*◌, ◌<◌, ◌≤◌, ◌/◌, ◌%◌, length, All, Some, IfSome};
 ghost use Rattle.nit_word.specs.Inks.{IsWord};
-ghost use Rattle.nit_stack.specs.Sources.{point};
-ghost use Rattle.nit_overlay.specs.Shown.{pixel};
+ghost use Rattle.nit_stack.specs.Sources.{pixel, point};
 ghost use Rattle.nit_journal.specs.State.{source_of};
 ghost use Rattle.nit_top.specs.Outputs.{word_from, raw_words};
 ghost use Rattle.nit_top.specs.Sketch.{view_at, state_of, IsSmallSketch};

@@ -1,7 +1,8 @@
 use Rattle.std.proofs.Common.{◌*◌, arith}
 use Rattle.std.specs.Prelude.{slice_index}
 use Rattle.std.proofs.lemmas.List.FromFn.{length-map-range_with_len, get_or-map-range_with_len}
-use Rattle.nit_overlay.specs.Shown.{frame, shown, pixel}
+use Rattle.nit_overlay.specs.Shown.{frame, shown}
+use Rattle.nit_stack.specs.Sources.{pixel}
 use Rattle.nit_overlay.proofs.laws.frame_pixels.Goals as goal
 
 pub returns-clause-count : goal.returns-clause-count

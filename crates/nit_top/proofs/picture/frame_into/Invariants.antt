@@ -1,6 +1,6 @@
 use Rattle.std.proofs.Common.{◌≡◌, ℕ, ◌<◌, get_or}
 use Rattle.nit_word.specs.Inks.{IsWord}
-use Rattle.nit_overlay.specs.Shown.{pixel}
+use Rattle.nit_stack.specs.Sources.{pixel}
 use Rattle.nit_journal.specs.State.{source_of}
 use Rattle.nit_top.specs.Outputs.{word_from}
 use Rattle.nit_top.specs.Sketch.{state_of}
