@@ -5,6 +5,8 @@ pub mod Seats
 pub mod Keeps
 pub mod Stacks
 pub mod Owners
+pub mod OwnersByName
 pub mod Opened
 pub mod Names
 pub mod Has
+pub mod NamesAfter

@@ -1,10 +1,11 @@
 -- Views by their slots, and by their sessions and handles.
 use Rattle.std.specs.Prelude.{◌≡◌, ℕ, ◌==◌, Bool, List, map, Option, Some, if◌then◌else◌}
+use Rattle.std.specs.List.{AllByRecursion}
 use Rattle.std.specs.Option.{option_map}
 use Rattle.nit_stack.specs.declared.view.View.{View}
 use Rattle.nit_stack.specs.Labels.{is_view}
 use Rattle.nit_stack.specs.Orders.{moved, put_above}
-use Rattle.nit_stack.specs.Standing.{NoPair, Seat, same_name, same_slot, seat_in}
+use Rattle.nit_stack.specs.Standing.{NoPair, Seat, is_named, is_slot, same_name, same_slot, seat_in}
 
 -- the views without their slots
 abbrev pub views_of : List Seat → List View
@@ -23,6 +24,10 @@ pub record IsNamedBy (k sid handle : ℕ) (seats : List Seat) : Type 0 where
   pub slots : NoPair same_slot seats
   pub names : NoPair same_name seats
   pub name : name_in k seats ≡ Some (sid, handle)
+
+-- The view in slot k is the one of this session and handle; and where the one is not there, neither is the other.
+abbrev pub MeanSame : ℕ → ℕ → ℕ → List Seat → Type 0
+MeanSame k sid handle seats = AllByRecursion (λ s. is_slot k s ≡ is_named sid handle s) seats
 
 -- the layer of a view, by that of its session
 abbrev pub view_layer : (ℕ → ℕ) → View → ℕ

@@ -1,14 +1,16 @@
 //! What ties changes of views by their slots to changes of the same views by session and handle.
 
-ghost use Rattle.std.specs.Prelude.{◌≡◌, ℕ, ◌==◌, ◌&&◌, ◌||◌, List, false, not, option_map, true};
+ghost use Rattle.std.specs.Prelude.{◌≡◌, ℕ, ◌==◌, ◌&&◌, ◌||◌, List, None, Some, false, if◌then◌else◌, not, option_map, true};
+ghost use Rattle.std.specs.Option.{is_some, option_map_or};
 ghost use Rattle.std.specs.List.{list_any};
 ghost use Rattle.nit_rect.specs.declared.point.Point.{Point};
 ghost use Rattle.nit_stack.specs.declared.view.View.{View};
+ghost use Rattle.nit_stack.specs.declared.view.ViewRef.{ViewRef};
 ghost use Rattle.nit_stack.specs.Labels.{is_view};
-ghost use Rattle.nit_stack.specs.Names.{IsNamedBy, is_session, layer_of_seat, view_above, view_layer, views_of};
+ghost use Rattle.nit_stack.specs.Names.{IsNamedBy, MeanSame, is_session, layer_of_seat, name_in, name_of, view_above, view_layer, views_of};
 ghost use Rattle.nit_stack.specs.Orders.{changed, moved, put_back, put_front, without};
 ghost use Rattle.nit_stack.specs.Sources.{owner, owner_in};
-ghost use Rattle.nit_stack.specs.Standing.{Seat, has, is_named, is_of_session, is_slot, moved_above, on_view, put_own_back, put_own_front};
+ghost use Rattle.nit_stack.specs.Standing.{NoPair, Seat, has, is_named, is_of_session, is_slot, moved_above, on_view, put_own_back, put_own_front, same_slot, seat_in, view_ref};
 
 /// A change of the view in a slot is the same change of the view with that session and handle, among the views
 /// without their slots.
@@ -61,4 +63,40 @@ pub fn slots_after()
         ≡ without (is_of_session sid) seats }
     ensures none_left { (sid : ℕ) (seats : List Seat)
         → list_any (is_of_session sid) seats ≡ false → without (is_of_session sid) seats ≡ seats }
+{}
+
+/// The owner of a pixel is the view in its slot, and is told by its slot as by its session and handle.
+pub fn owners_by_slot()
+    ensures seated { (rows : ℕ) (seats : List Seat) (p : Point) (v : ViewRef) (view : View) → NoPair same_slot seats
+        → Some v ≡ option_map view_ref (owner_in (λ s. s.view) rows seats p) → seat_in v.0 seats ≡ Some (record { slot = v.0; view = view })
+        → owner_in (λ s. s.view) rows seats p ≡ Some (record { slot = v.0; view = view }) }
+    ensures mean_same { (k sid handle : ℕ) (seats : List Seat) → IsNamedBy k sid handle seats → MeanSame k sid handle seats }
+    ensures named { (k sid handle rows : ℕ) (seats : List Seat) (p : Point) → MeanSame k sid handle seats
+        → option_map_or (is_slot k) (owner_in (λ s. s.view) rows seats p) false ≡ option_map_or (is_view sid handle) (owner rows (views_of seats) p) false }
+    ensures session { (sid rows : ℕ) (seats : List Seat) (p : Point)
+        → option_map_or (is_of_session sid) (owner_in (λ s. s.view) rows seats p) false ≡ option_map_or (is_session sid) (owner rows (views_of seats) p) false }
+{}
+
+/// The session and handle of the view in each slot after each change, and that a view of a session and handle is
+/// in a slot of that name.
+pub fn names_after()
+    ensures push_front { (layer : Seat → ℕ) (l : ℕ) (s : Seat) (j : ℕ) (seats : List Seat) → has s.slot seats ≡ false
+        → name_in j (put_front layer l s seats) ≡ (if s.slot == j then Some (name_of s) else name_in j seats) }
+    ensures remove { (j k : ℕ) (seats : List Seat)
+        → name_in j (without (is_slot k) seats) ≡ (if j == k then None else name_in j seats) }
+    ensures changed { (j k : ℕ) (change : View → View) (seats : List Seat)
+        → ((v : View) → ((change v).sid ≡ v.sid) × ((change v).handle ≡ v.handle))
+        → name_in j (changed (is_slot k) (on_view change) seats) ≡ name_in j seats }
+    ensures front { (j k : ℕ) (layer : Seat → ℕ) (seats : List Seat) → has k seats ≡ true
+        → name_in j (moved (is_slot k) (put_own_front layer) seats) ≡ name_in j seats }
+    ensures back { (j k : ℕ) (layer : Seat → ℕ) (seats : List Seat) → has k seats ≡ true
+        → name_in j (moved (is_slot k) (put_own_back layer) seats) ≡ name_in j seats }
+    ensures above { (j k n : ℕ) (seats : List Seat) → has k seats ≡ true
+        → name_in j (moved_above k n seats) ≡ name_in j seats }
+
+    ensures has { (j : ℕ) (seats : List Seat) → has j seats ≡ is_some (name_in j seats) }
+    ensures named { (j sid h : ℕ) (seats : List Seat) → name_in j seats ≡ Some (sid, h)
+        → list_any (is_named sid h) seats ≡ true }
+    ensures slot { (sid h : ℕ) (seats : List Seat) → NoPair same_slot seats → list_any (is_named sid h) seats ≡ true
+        → (j : ℕ) × (name_in j seats ≡ Some (sid, h)) }
 {}

@@ -22,7 +22,7 @@ mod showing;
 mod stack;
 mod view;
 
-pub use laws::{seats_and_views, slots_after, slots_and_names};
+pub use laws::{names_after, owners_by_slot, seats_and_views, slots_after, slots_and_names};
 pub use showing::shown_index;
 pub use stack::Stack;
 pub use view::{Piece, Source, View, ViewRef};
