@@ -2,6 +2,8 @@
 use Rattle.std.proofs.Common.{◌≡◌, ℕ, ◌+◌, ◌<◌, List, [], ◌∷◌, ◌++◌, length, refl, sym, ap, subst, ◌∙◌, inl, inr}
 use Rattle.std.proofs.lemmas.Bool.{eq-eqb, ne_eqb, cases_eq}
 use Rattle.nit_events.specs.declared.event.Delivery.{Delivery}
+use Rattle.nit_events.specs.declared.event.Routed.{Routed}
+use Rattle.nit_events.specs.declared.device.Device.{Device}
 use Rattle.nit_events.specs.declared.call.Call.{Call}
 use Rattle.nit_events.specs.declared.call.Reply.{Reply}
 use Rattle.nit_events.specs.declared.entry.Entry.{Entry}
@@ -10,7 +12,7 @@ use Rattle.nit_events.specs.Input.{deliveries_of}
 use Rattle.nit_config.specs.Configuration.{Configuration, member}
 use Rattle.nit_journal.specs.Session.{Session, opened, serve, receive}
 use Rattle.nit_journal.specs.State.{State, opening, session_in, session, delivered, route, after}
-use Rattle.nit_journal.specs.Journals.{LegalFrom, IsLegal}
+use Rattle.nit_journal.specs.Journals.{Agrees, LegalFrom, IsLegal}
 use Rattle.nit_journal.specs.Projections.{Moment, Calls, Gets, items_to, projection, replies_to, replies_from, alone}
 use Rattle.nit_journal.proofs.Sessions.{opens, there_at_first, call_of_its_own, call_of_another, handed, still_handed, handed_to_it, handed_to_another, still_there}
 use Rattle.nit_journal.proofs.Deliveries.{all_kept}
@@ -36,6 +38,10 @@ its_own s sid call r rest lt agrees more =
     ap (λ (q : Reply). q ∷ replies_to sid rest) agrees
     ∙ ap (λ (rs : List Reply). (serve (session s sid) call).reply ∷ rs) (more ∙ ap (λ (t : Session). replies_from t (projection sid rest)) (call_of_its_own s sid call r lt))
 
+-- an entry that agrees keeps all that was routed
+pub entry_keeps_all : (s : State) (taken : ℕ) (dev : Device) (routed : Routed) → Agrees s taken (entry.Input dev routed) → deliveries_of routed ≡ (route s.config s.input s.stack dev).deliveries
+entry_keeps_all s taken dev routed agrees = ap deliveries_of agrees ∙ all_kept s.config s.input s.stack dev
+
 pub isolated : (s : State) (taken : ℕ) (journal : List Entry) (x : ℕ) → LegalFrom s taken journal → x < length s.sessions → replies_to x journal ≡ replies_from (session s x) (projection x journal)
 isolated s taken [] x legal lt = refl
 isolated s taken (entry.Final ∷ rest) x legal lt = subst (λ (js : List Entry). replies_to x js ≡ replies_from (session s x) (projection x js)) (sym legal) refl
@@ -43,7 +49,7 @@ isolated s taken (entry.Shot n ∷ rest) x legal lt = isolated s (taken + 1) res
 isolated s taken (entry.Input dev routed ∷ rest) x legal lt =
     let e = entry.Input dev routed in
     let ds = (route s.config s.input s.stack dev).deliveries in
-    let all : deliveries_of routed ≡ ds = ap deliveries_of legal.0 ∙ all_kept s.config s.input s.stack dev in
+    let all : deliveries_of routed ≡ ds = entry_keeps_all s taken dev routed legal.0 in
     let more : replies_to x rest ≡ replies_from (session (after s e) x) (projection x rest) = isolated (after s e) taken rest x legal.1 (still_there s e x lt) in
     more ∙ sym (items ds s.sessions x (projection x rest) lt) ∙ ap (λ (es : List Delivery). replies_from (session s x) (items_to x es ++ projection x rest)) (sym all)
 isolated s taken (entry.Call sid call r ∷ rest) x legal lt =

@@ -1,3 +1,6 @@
+pub use Rattle.nit_rect.specs.Rectangle
+pub use Rattle.nit_glyph.specs.Texts
+pub use Rattle.nit_slots.specs.Account
 pub use Rattle.nit_stack.specs.Sources
 pub use Rattle.nit_stack.specs.Orders
 pub use Rattle.nit_events.specs.Input

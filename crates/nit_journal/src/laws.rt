@@ -12,12 +12,12 @@ ghost use Rattle.nit_events.specs.declared.device.Mode.TheVariants.{Flat, Xray};
 ghost use Rattle.nit_events.specs.declared.event.Status.TheVariants as status;
 ghost use Rattle.nit_events.specs.declared.entry.Entry.{Entry};
 ghost use Rattle.nit_events.specs.declared.entry.Entry.TheVariants as entry;
-ghost use Rattle.nit_events.specs.Input.{is_button};
+ghost use Rattle.nit_events.specs.Input.{is_button, deliveries_of};
 ghost use Rattle.nit_stack.specs.Sources.{point};
 ghost use Rattle.nit_config.specs.Configuration.{Configuration, member};
 ghost use Rattle.nit_journal.specs.Session.{opened, serve};
 ghost use Rattle.nit_journal.specs.Views.{is_accepted};
-ghost use Rattle.nit_journal.specs.State.{State, session, owner_of, after};
+ghost use Rattle.nit_journal.specs.State.{State, session, owner_of, route, after};
 ghost use Rattle.nit_journal.specs.Journals.{replay_from, replay, LegalFrom, IsLegal, Agrees, IsOpen, shots};
 ghost use Rattle.nit_journal.specs.Projections.{Moment, projection, replies_to, alone};
 ghost use Rattle.nit_journal.specs.Whole.{calls_of};
@@ -27,6 +27,11 @@ ghost use Rattle.nit_journal.specs.Whole.{calls_of};
 pub fn one_more_entry()
     ensures replayed { (s : State) (journal : List Entry) (e : Entry) → replay_from s (journal ++ e ∷ []) ≡ after (replay_from s journal) e }
     ensures legal { (s : State) (taken : ℕ) (journal : List Entry) (e : Entry) → LegalFrom s taken journal → IsOpen journal → Agrees (replay_from s journal) (taken + shots journal) e → LegalFrom s taken (journal ++ e ∷ []) }
+{}
+
+/// An entry of a device event that agrees with the state before it keeps every delivery of the event, in order.
+pub fn deliveries_fit()
+    ensures { (s : State) (taken : ℕ) (dev : Device) (routed : Routed) → Agrees s taken (entry.Input dev routed) → deliveries_of routed ≡ (route s.config s.input s.stack dev).deliveries }
 {}
 
 /// Each session of a legal journal gets the replies of a machine that serves it alone: they come from its

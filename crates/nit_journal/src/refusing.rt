@@ -1,0 +1,130 @@
+//! Why a call of a session is refused, each reason by itself.
+
+ghost use Rattle.std.specs.Prelude.{◌≡◌, ◌&&◌, nat_lt};
+ghost use Rattle.nit_rect.specs.Rectangle.{is_place, is_rectangle};
+ghost use Rattle.nit_glyph.specs.Texts.{is_title};
+ghost use Rattle.nit_slots.specs.Account.{view_need, view_left, buffer_need, buffer_left};
+ghost use Rattle.nit_journal.specs.Session.{◌orelse◌, unless, by_status, is_side, by_quota, by_reserve};
+
+use nit_events::{Reply, Status, Text};
+use nit_glyph::is_title;
+use nit_rect::Rect;
+use nit_slots::Account;
+
+/// The most views that a session may have.
+const MOST_VIEWS: u32 = 64;
+
+/// The longest side of a buffer, in words.
+const LONGEST_SIDE: u32 = 4096;
+
+/// The first of two refusals.
+pub fn first_of(first: Option<Reply>, second: Option<Reply>) -> Option<Reply>
+    ensures { result ≡ first orelse second }
+{
+    first.or(second)
+}
+
+/// A session that is over refuses every call.
+pub fn by_status(status: Status) -> Option<Reply>
+    ensures { result ≡ by_status status }
+{
+    match status {
+        Status::Live => None,
+        Status::Closed => Some(Reply::Closed),
+        Status::Killed => Some(Reply::Killed),
+    }
+}
+
+/// A buffer of w by h has sides of 1..=4096, and the donation pays for it in place of the old one.
+pub fn by_buffer(mut account: Account, w: u32, h: u32) -> Option<Reply>
+    ensures { result ≡ unless (is_side w && is_side h) Reply.BadSize
+        orelse by_quota (buffer_need w h) (buffer_left account.donation account.views) }
+{
+    if !is_side(w) || !is_side(h) {
+        return Some(Reply::BadSize);
+    }
+    match account.try_buffer(w, h) {
+        Ok(()) => None,
+        Err(short) => Some(Reply::OutOfQuota {
+            need: short.need,
+            left: short.left,
+        }),
+    }
+}
+
+/// There are fewer than 64 views, and the donation pays for one more.
+pub fn by_view(mut account: Account) -> Option<Reply>
+    ensures { result ≡ unless (nat_lt account.views 64) Reply.TooManyViews
+        orelse by_quota view_need (view_left account.donation account.views account.words) }
+{
+    if account.views() >= MOST_VIEWS {
+        return Some(Reply::TooManyViews);
+    }
+    match account.try_view() {
+        Ok(()) => None,
+        Err(short) => Some(Reply::OutOfQuota {
+            need: short.need,
+            left: short.left,
+        }),
+    }
+}
+
+/// The donation may still be raised by n units.
+pub fn by_upgrade(mut account: Account, n: u32) -> Option<Reply>
+    ensures { result ≡ by_reserve n account.reserve }
+{
+    match account.upgrade(n) {
+        Ok(()) => None,
+        Err(short) => Some(Reply::NoReserve {
+            need: short.need,
+            left: short.left,
+        }),
+    }
+}
+
+/// The four are the numbers of a rectangle.
+pub fn by_rectangle(x: i32, y: i32, w: u32, h: u32) -> Option<Reply>
+    ensures { result ≡ unless (is_rectangle x y w h) Reply.BadRect }
+{
+    if Rect::new(x, y, w, h).is_some() {
+        None
+    } else {
+        Some(Reply::BadRect)
+    }
+}
+
+/// An offset is -32768..=32767 each way.
+pub fn by_offset(x: i32, y: i32) -> Option<Reply>
+    ensures { result ≡ unless (is_place x && is_place y) Reply.BadRect }
+{
+    if is_place(x) && is_place(y) {
+        None
+    } else {
+        Some(Reply::BadRect)
+    }
+}
+
+/// The text is a title.
+pub fn by_title(text: &Text) -> Option<Reply>
+    ensures { result ≡ unless (is_title text.now) Reply.BadTitle }
+{
+    if is_title(text.as_bytes()) {
+        None
+    } else {
+        Some(Reply::BadTitle)
+    }
+}
+
+/// Whether a buffer may have a side of n words.
+fn is_side(n: u32) -> bool
+    ensures { result ≡ is_side n }
+{
+    1 <= n && n <= LONGEST_SIDE
+}
+
+/// Whether z is in the range of a place.
+fn is_place(z: i32) -> bool
+    ensures { result ≡ is_place z }
+{
+    -32768 <= z && z <= 32767
+}
