@@ -1,0 +1,16 @@
+use Rattle.std.proofs.Common.{◌≡◌, ◌==◌, not, filter, rules}
+use Rattle.arrayvec.proofs.ArrayVecLemmas.{filter-from_retain}
+use Rattle.nit_focus.proofs.Codes.{held_less}
+use Rattle.nit_focus.proofs.held.Held.remove.Goals as goal
+
+pub invariant_of-self : goal.invariant_of-self
+invariant_of-self c =
+    let kept : c.retain.new.self.items ≡ filter (λ j. not (j == c.args.code)) c.self.inside.codes.items
+    = filter-from_retain _ _ _ (λ x b f' y called. search rules) _ _ c.retain.ensures.filtered in
+    rw kept (held_less (λ j. not (j == c.args.code)) c.self.inside.codes.items c.self.invariant)
+
+pub returns : goal.returns
+returns c =
+    let kept : c.retain.new.self.items ≡ filter (λ j. not (j == c.args.code)) c.self.inside.codes.items
+    = filter-from_retain _ _ _ (λ x b f' y called. search rules) _ _ c.retain.ensures.filtered in
+    rw (← c.self.view_is) kept

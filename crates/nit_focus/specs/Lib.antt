@@ -1,0 +1,6 @@
+pub use Rattle.nit_events.specs.Input
+pub use Rattle.nit_events.specs.Ranges
+pub mod Held
+pub mod Outcome
+pub mod Focusing
+pub mod Reach

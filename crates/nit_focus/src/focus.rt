@@ -1,0 +1,130 @@
+ghost use Rattle.std.specs.Prelude.{◌≡◌, ◌<◌, ◌≤◌, false, length, slice_set, IfSome};
+ghost use Rattle.std.specs.List.{All};
+ghost use Rattle.nit_events.specs.Input as input;
+ghost use Rattle.nit_events.specs.Ranges.{IsDevice};
+ghost use Rattle.nit_focus.specs.Focusing.{first_focusing, clicks_on_list, moved, pointer, route, AllOfInput, IsOnScreen};
+ghost use Rattle.nit_focus.specs.Reach.{IsWithinReach, IsItem, HasForgotten, IsForgottenIfKilled};
+
+use crate::state::State;
+use nit_events::{Device, Mode, Routed};
+use nit_rect::Point;
+use std::marker::Model;
+
+/// How many sessions there are at most.
+const SESSIONS: usize = 16;
+
+/// Where the user's input goes. It is seen as the state of the input beside the screen's size and, for each of 16
+/// sessions, whether a click on it moves the focus.
+#[derive(Drop)]
+pub struct Focus {
+    width: u16,
+    height: u16,
+    clicks: [bool; SESSIONS],
+    state: State,
+}
+
+impl Model for Focus {
+    ghost use Rattle.nit_focus.specs.Focusing.{Focusing, IsFocusing};
+
+    ghost Value = { Focusing };
+
+    ghost view = { λ f. record { input = f.state; width = f.width; height = f.height; clicks = f.clicks } };
+
+    ghost invariant = { λ f. IsFocusing (record { input = f.state; width = f.width; height = f.height; clicks = f.clicks }) };
+}
+
+impl Focus {
+    /// Before the user has done anything, on a screen of 1..=1024 by 1..=768 pixels. A click on any session moves
+    /// the focus. It takes no memory.
+    pub fn new(width: u32, height: u32) -> Focus
+        requires narrowest { 1 ≤ width }
+        requires widest { width ≤ 1024 }
+        requires lowest { 1 ≤ height }
+        requires highest { height ≤ 768 }
+        ensures { result ≡ first_focusing width height }
+    {
+        Focus {
+            width: width as u16,
+            height: height as u16,
+            clicks: [true; SESSIONS],
+            state: State::first(),
+        }
+    }
+
+    /// From now on a click on this session, which is below 16, does not move the focus.
+    pub fn no_click(&mut self, sid: u32)
+        requires { sid < 16 }
+        ensures { self.new ≡ record self.old { clicks = slice_set self.old.clicks sid false } }
+    {
+        self.clicks[sid as usize] = false;
+    }
+
+    /// Where the pointer will be after this device event.
+    pub fn clamp(&self, dev: Device) -> Point
+        ensures place { result ≡ pointer (moved self.now dev) }
+        ensures on_screen { IsOnScreen self.now.width self.now.height result }
+    {
+        let (x, y) = self.state.place_after(self.width, self.height, dev);
+        Point {
+            x: x as i32,
+            y: y as i32,
+        }
+    }
+
+    /// One device event, whole: its codes are at most 767, and a wheel turns by -127..=127. `pointed` is the session
+    /// that owns the pixel at [`Focus::clamp`], below 16, or none.
+    ///
+    /// The deliveries stand in their order, at most three, and go to sessions that were receiver, hovered or focused,
+    /// or are pointed. Who is one of the three afterwards is among these too, and was not killed.
+    pub fn input(&mut self, dev: Device, pointed: Option<u32>) -> Routed
+        requires device { IsDevice dev }
+        requires known { IfSome pointed (λ s. s < 16) }
+        ensures state { self.new ≡ record self.old { input = (route self.old pointed dev).state } }
+        ensures routed { result ≡ input.routed_as (route self.old pointed dev).deliveries }
+        ensures all { input.deliveries_of result ≡ (route self.old pointed dev).deliveries }
+        ensures few { length (route self.old pointed dev).deliveries ≤ 3 }
+        ensures reached { All (λ d. IsWithinReach self.old.input pointed d.sid) (input.deliveries_of result) }
+        ensures sessions { All (λ d. d.sid < 16) (input.deliveries_of result) }
+        ensures ranges { All (λ d. IsItem self.old.width self.old.height d.item) (input.deliveries_of result) }
+        ensures kept { AllOfInput (IsWithinReach self.old.input pointed) self.new.input }
+        ensures forgotten { All (λ d. IsForgottenIfKilled self.new.input d.sid d.item) (input.deliveries_of result) }
+    {
+        self.state.move_pointer(self.width, self.height, dev);
+        let clicks = clicks_on(&self.clicks, pointed);
+        self.state.route(clicks, pointed, dev).routed()
+    }
+
+    /// A session that is killed or closed is forgotten: it is not the receiver, the hovered or the focused one.
+    pub fn forget(&mut self, sid: u32)
+        ensures state { self.new ≡ record self.old { input = input.forget self.old.input sid } }
+        ensures forgotten { HasForgotten self.new.input sid }
+    {
+        self.state.forget(sid);
+    }
+
+    /// The mode.
+    pub fn mode(&self) -> Mode
+        ensures { result ≡ self.now.input.mode }
+    {
+        self.state.mode()
+    }
+
+    /// The focused session, below 16; none where no session has the focus.
+    pub fn focus(&self) -> Option<u32>
+        ensures focused { result ≡ self.now.input.focus }
+        ensures known { IfSome result (λ s. s < 16) }
+    {
+        self.state.focus()
+    }
+}
+
+/// Whether by this list a click on the pointed session moves the focus.
+fn clicks_on(clicks: &[bool], pointed: Option<u32>) -> bool
+    requires { IfSome pointed (λ s. s < length clicks.now) }
+    ensures { result ≡ clicks_on_list clicks.now pointed }
+{
+    match pointed {
+        None => false,
+        Some(sid) => clicks[sid as usize],
+    }
+}
