@@ -1,0 +1,5 @@
+use Rattle.nit_place.proofs.Screen.{apart}
+use Rattle.nit_place.proofs.laws.labels_apart.Goals as goal
+
+pub returns : goal.returns
+returns c = apart

@@ -1,0 +1,10 @@
+pub use Rattle.nit_rect.specs.Meeting
+pub use Rattle.nit_rect.specs.Rectangle
+pub use Rattle.nit_stack.specs.Labels
+pub use Rattle.nit_stack.specs.Names
+pub use Rattle.nit_stack.specs.Sources
+pub use Rattle.nit_stack.specs.Standing
+pub mod Edges
+pub mod Least
+pub mod Parts
+pub mod Free

@@ -1,0 +1,67 @@
+//! The place of a label.
+
+ghost use Rattle.std.specs.Prelude.{◌≡◌, ◌≤◌, true, length, option_map, IfSome, Some};
+ghost use Rattle.std.specs.List.{position_or_len};
+ghost use Rattle.nit_stack.specs.Labels.{label_place};
+ghost use Rattle.nit_stack.specs.Names.{views_of};
+ghost use Rattle.nit_stack.specs.Sources.{point};
+ghost use Rattle.nit_stack.specs.Standing.{IsStanding, Seat, has, is_slot, seat_in};
+ghost use Rattle.nit_place.specs.Edges.{IsAtEdges, IsWithinScreen};
+ghost use Rattle.nit_place.specs.Parts.{area_of};
+
+use crate::part::Part;
+use crate::search::search;
+use nit_rect::Point;
+use nit_stack::{Stack, ViewRef};
+
+/// The first place, row by row from the top, at which a label of `w` by `h` lies in pixels that the view owns.
+/// None exactly where there is no such place. The width and the height are 1..=133.
+pub fn place_label(stack: &Stack, v: ViewRef, w: u32, h: u32) -> Option<Point>
+    requires view { has v.0 stack.now.views ≡ true }
+    requires width { (1 ≤ w) × (w ≤ 133) }
+    requires height { (1 ≤ h) × (h ≤ 133) }
+    ensures place { (s : Seat) → seat_in v.0 stack.now.views ≡ Some s
+        → result ≡ option_map (λ q. point q.0 q.1) (label_place stack.now.width stack.now.height stack.now.bar (views_of stack.now.views) s.view w h) }
+    ensures edges { (s : Seat) → seat_in v.0 stack.now.views ≡ Some s
+        → IfSome result (IsAtEdges stack.now.bar (views_of stack.now.views) s.view) }
+    ensures within { IfSome result (IsWithinScreen stack.now.width stack.now.height w h) }
+{
+    let area = area(stack, v);
+    search(stack, views_in_front(stack, v), &area, w, h)
+}
+
+/// What of the view lies on the screen below the bar.
+fn area(stack: &Stack, v: ViewRef) -> Part
+    requires { has v.0 stack.now.views ≡ true }
+    ensures area { (s : Seat) → seat_in v.0 stack.now.views ≡ Some s
+        → result ≡ area_of stack.now.width stack.now.height stack.now.bar s.view.rect }
+    ensures left { result.left ≤ 65535 }
+    ensures top { result.top ≤ 65535 }
+    ensures right { result.right ≤ stack.now.width }
+    ensures bottom { result.bottom ≤ stack.now.height }
+{
+    let (width, height) = stack.size();
+    let part = Part::of(stack.view(v).rect);
+    Part {
+        left: part.left,
+        top: part.top.max(stack.bar()),
+        right: part.right.min(width),
+        bottom: part.bottom.min(height),
+    }
+}
+
+/// How many views stand in front of the view.
+fn views_in_front(stack: &Stack, v: ViewRef) -> u32
+    requires { has v.0 stack.now.views ≡ true }
+    ensures count { result ≡ position_or_len (is_slot v.0) stack.now.views }
+    ensures within { result ≤ length stack.now.views }
+    ensures standing { IsStanding stack.now }
+{
+    let count = stack.len();
+    'views: for i in 0..count {
+        if stack.at(i).0 == v.0 {
+            return i;
+        }
+    }
+    count
+}
