@@ -1,0 +1,227 @@
+-- What is to come after a begin.
+use Rattle.std.proofs.Common.{◌≡◌, ℕ, zero, suc, ◌+◌, ◌<◌, ◌≤◌, not, Bool, true, false, ◌&&◌, ◌||◌, cond, nat_lt, List, [], ◌∷◌, length, map, find, take, get_or, Option, Some, None, refl, ap, ap₂, sym, ◌∙◌, subst, arith, zero-add, inr, sum_by}
+use Rattle.std.specs.Option.{option_map_or}
+use Rattle.std.proofs.lemmas.Bool.{and_parts}
+use Rattle.std.proofs.lemmas.Bool.Decides.{nat_tests}
+use Rattle.std.proofs.lemmas.List.{get_or-map, length-map}
+use Rattle.std.proofs.lemmas.List.Sums.{sum_by-append}
+use Rattle.nit_rect.specs.declared.point.Point.{Point}
+use Rattle.nit_rect.specs.Rectangle.{Rectangle, covers}
+use Rattle.nit_rect.specs.Meeting.{CoversBoth, LiesIn}
+use Rattle.nit_rect.specs.Dividing.{times}
+use Rattle.nit_rect.proofs.Sets.{covers_none}
+use Rattle.nit_stack.specs.declared.view.View.{View}
+use Rattle.nit_stack.specs.declared.view.ViewRef.{ViewRef}
+use Rattle.nit_stack.specs.Sources.{in_bar}
+use Rattle.nit_stack.specs.Standing.{IsOnScreen, NoPair, Seat, Standing, is_slot, same_slot, seat_in}
+use Rattle.nit_damage.specs.declared.cutting.Job.{Job}
+use Rattle.nit_damage.specs.Sets.{covered, is_of_moved, is_owned, once, place_of, seat_covers}
+use Rattle.nit_damage.specs.Cuts.{Cuts, Fits, FitsJobs, IsJob, bar_part, begun, job_to_come, part_below_bar, to_come}
+use Rattle.nit_damage.specs.Cutting.{IsCut, job_at, times_all}
+use Rattle.nit_damage.proofs.Cut.{rest_lies}
+use Rattle.nit_damage.proofs.Jobs.{fits_append, rest_to_come}
+use Rattle.nit_damage.proofs.Screen.{bar_in_bar, bar_is, bar_off, below_is, below_not_in_bar, below_off}
+use Rattle.nit_damage.proofs.Views.{owned_is}
+
+pub at_most_once : (b : Bool) → once b ≤ 1
+at_most_once true = omega arith
+at_most_once false = omega arith
+
+-- one rectangle, of which nothing is cut out yet
+first_job : (s : Standing) (k : ℕ) (r : Rectangle) → k ≤ 4 → LiesIn r (part_below_bar s) → IsJob s k (job_at 0 r)
+first_job s k r low lies = record { place = omega arith; low = omega arith; below_bar = lies; free = λ p here. refl }
+
+first_fits : (s : Standing) (r : Rectangle) → LiesIn r (part_below_bar s) → FitsJobs s (job_at 0 r ∷ [])
+first_fits s r lies zero d below = first_job s 0 r (omega arith) lies
+first_fits s r lies (suc k) d below = absurd (omega arith)
+
+-- what is to come where a rectangle is cut by the views in front of a place
+pub begun_comes : (s : Standing) (from : ℕ) (r : Rectangle) (room : ℕ) (p : Point) → to_come (begun from r room) s p ≡ cond (covered (take from s.views) p) 0 (times r p)
+begun_comes s from r room p = zero-add (0 + job_to_come from s p (job_at 0 r)) ∙ zero-add (job_to_come from s p (job_at 0 r))
+
+pub lies_below : (s : Standing) (r part : Rectangle) → CoversBoth r (part_below_bar s) part → LiesIn part (part_below_bar s)
+lies_below s r part both p here = (and_parts (covers r p) (covers (part_below_bar s) p) (sym (both p) ∙ here)).1
+
+pub begun_fits : (s : Standing) (from : ℕ) (r : Rectangle) (room : ℕ) → length s.views ≤ room → LiesIn r (part_below_bar s) → Fits (begun from r room) s
+begun_fits s from r room enough lies = record {
+  room = enough;
+  jobs = first_fits s r lies;
+  bar = λ no_bar. cc;
+  once = λ p. let e = begun_comes s from r room p in let le = few (covered (take from s.views) p) (covers r p) in omega arith;
+}
+  where
+    few : (b c : Bool) → cond b 0 (once c) ≤ 1
+    few true c = omega arith
+    few false c = at_most_once c
+
+-- a rectangle on the screen, below the bar
+pub gone_comes : (s : Standing) (from : ℕ) (r part : Rectangle) (room : ℕ) → s.bar ≤ s.height → CoversBoth r (part_below_bar s) part
+    → (p : Point) → IsOnScreen s.width s.height p → to_come (begun from part room) s p ≡ once (not (in_bar s.bar p) && covers r p && not (covered (take from s.views) p))
+gone_comes s from r part room fits both p on =
+    begun_comes s from part room p
+    ∙ ap (λ (c : Bool). cond (covered (take from s.views) p) 0 (once c)) (both p)
+    ∙ ap (λ (c : Bool). cond (covered (take from s.views) p) 0 (once (covers r p && c))) (below_is s p fits on)
+    ∙ go (covered (take from s.views) p) (covers r p) (in_bar s.bar p)
+  where
+    go : (b c e : Bool) → cond b 0 (once (c && not e)) ≡ once (not e && c && not b)
+    go true true true = refl
+    go true true false = refl
+    go true false true = refl
+    go true false false = refl
+    go false true true = refl
+    go false true false = refl
+    go false false true = refl
+    go false false false = refl
+
+pub begun_off : (s : Standing) (from : ℕ) (r part : Rectangle) (room : ℕ) → s.bar ≤ s.height → CoversBoth r (part_below_bar s) part
+    → (p : Point) → (IsOnScreen s.width s.height p → ⊥) → to_come (begun from part room) s p ≡ 0
+begun_off s from r part room fits both p off =
+    begun_comes s from part room p
+    ∙ ap (λ (c : Bool). cond (covered (take from s.views) p) 0 (once c)) (both p)
+    ∙ ap (λ (c : Bool). cond (covered (take from s.views) p) 0 (once (covers r p && c))) (below_off s p fits off)
+    ∙ go (covered (take from s.views) p) (covers r p)
+  where
+    go : (b c : Bool) → cond b 0 (once (c && false)) ≡ 0
+    go true c = refl
+    go false true = refl
+    go false false = refl
+
+-- the pixels that a view owns
+pub owned_comes : (s : Standing) (v : ViewRef) (view : View) (r rect part : Rectangle) (room : ℕ) → s.bar ≤ s.height → NoPair same_slot s.views → seat_in v.0 s.views ≡ Some record { slot = v.0; view = view }
+    → CoversBoth view.rect r rect → CoversBoth rect (part_below_bar s) part
+    → (p : Point) → IsOnScreen s.width s.height p → to_come (begun (place_of v.0 s.views) part room) s p ≡ once (is_owned v s r p)
+owned_comes s v view r rect part room fits apart at met both p on =
+    gone_comes s (place_of v.0 s.views) rect part room fits both p on
+    ∙ ap (λ (c : Bool). once (not (in_bar s.bar p) && c && not (covered (take (place_of v.0 s.views) s.views) p))) (met p)
+    ∙ go (in_bar s.bar p) (covers view.rect p) (covers r p) (covered (take (place_of v.0 s.views) s.views) p)
+    (owned_is v.0 p s.views record { slot = v.0; view = view } apart at)
+  where
+    go : (e x c b : Bool) → option_map_or (is_slot v.0) (find (seat_covers p) s.views) false ≡ (x && not b)
+        → once (not e && (x && c) && not b) ≡ once (c && option_map_or (is_slot v.0) (cond e None (find (seat_covers p) s.views)) false)
+    go true x true b h = refl
+    go true x false b h = refl
+    go false x c b h = bools x c b ∙ ap (λ (o : Bool). once (c && o)) (sym h)
+      where
+        bools : (x c b : Bool) → once ((x && c) && not b) ≡ once (c && (x && not b))
+        bools true true true = refl
+        bools true true false = refl
+        bools true false true = refl
+        bools true false false = refl
+        bools false true true = refl
+        bools false true false = refl
+        bools false false true = refl
+        bools false false false = refl
+
+-- two rectangles, the second cut by the first
+pub record IsMoved (s : Standing) (view : View) (old part before : Rectangle) (jobs : List Job) (both : Option Rectangle) : Type 0 where
+  pub bar : s.bar ≤ s.height
+  pub now : CoversBoth view.rect (part_below_bar s) part
+  pub was : CoversBoth old (part_below_bar s) before
+  pub cut : IsCut 0 before view.rect (job_at 0 part ∷ []) jobs both
+
+abbrev pub moved : ℕ → List Job → ℕ → Cuts
+moved from jobs room = record { jobs = jobs; from = from; bar = false; room = room }
+
+both_come : (s : Standing) (from : ℕ) (view : View) (old part before : Rectangle) (jobs : List Job) (both : Option Rectangle) (room : ℕ) → IsMoved s view old part before jobs both
+    → (p : Point) → to_come (moved from jobs room) s p ≡ once (covers (part_below_bar s) p && (covers view.rect p || covers old p) && not (covered (take from s.views) p))
+both_come s from view old part before jobs both room is p =
+    ap (λ (js : List Job). to_come (moved from js room) s p) is.cut.jobs
+    ∙ zero-add (sum_of (job_at 0 part ∷ map (job_at 0) is.cut.rest))
+    ∙ sum_by-append (job_to_come from s p) (job_at 0 part ∷ []) (map (job_at 0) is.cut.rest)
+    ∙ ap₂ (λ (m n : ℕ). m + n) (zero-add (job_to_come from s p (job_at 0 part)) ∙ ap (λ (c : Bool). cond (covered (take from s.views) p) 0 (once c)) (is.now p)) (rest_to_come from 0 s p is.cut.rest)
+    ∙ go (covered (take from s.views) p) (covers view.rect p) (covers old p) (covers (part_below_bar s) p) (times_all is.cut.rest p)
+    (sym (ap once (is.was p)) ∙ is.cut.pixels p ∙ ap (λ (c : Bool). times_all is.cut.rest p + once (c && covers view.rect p)) (is.was p))
+  where
+    sum_of : List Job → ℕ
+    sum_of js = sum_by (job_to_come from s p) js
+
+    go : (b x o f : Bool) (n : ℕ) → once (o && f) ≡ n + once ((o && f) && x) → cond b 0 (once (x && f)) + cond b 0 n ≡ once (f && (x || o) && not b)
+    go true true true true n e = refl
+    go true true true false n e = refl
+    go true true false true n e = refl
+    go true true false false n e = refl
+    go true false true true n e = refl
+    go true false true false n e = refl
+    go true false false true n e = refl
+    go true false false false n e = refl
+    go false true true true n e = omega arith
+    go false true true false n e = omega arith
+    go false true false true n e = omega arith
+    go false true false false n e = omega arith
+    go false false true true n e = omega arith
+    go false false true false n e = omega arith
+    go false false false true n e = omega arith
+    go false false false false n e = omega arith
+
+pub moved_comes : (s : Standing) (v : ViewRef) (view : View) (old part before : Rectangle) (jobs : List Job) (both : Option Rectangle) (room : ℕ) → seat_in v.0 s.views ≡ Some record { slot = v.0; view = view }
+    → IsMoved s view old part before jobs both → (p : Point) → IsOnScreen s.width s.height p → to_come (moved (place_of v.0 s.views) jobs room) s p ≡ once (is_of_moved v s old p)
+moved_comes s v view old part before jobs both room at is p on =
+    both_come s (place_of v.0 s.views) view old part before jobs both room is p
+    ∙ ap (λ (f : Bool). once (f && (covers view.rect p || covers old p) && not (covered (take (place_of v.0 s.views) s.views) p))) (below_is s p (is.bar) on)
+    ∙ ap (λ (o : Option Seat). once (not (in_bar s.bar p) && (option_map_or (seat_covers p) o false || covers old p) && not (covered (take (place_of v.0 s.views) s.views) p))) (sym at)
+
+pub moved_off : (s : Standing) (from : ℕ) (view : View) (old part before : Rectangle) (jobs : List Job) (both : Option Rectangle) (room : ℕ) → IsMoved s view old part before jobs both
+    → (p : Point) → (IsOnScreen s.width s.height p → ⊥) → to_come (moved from jobs room) s p ≡ 0
+moved_off s from view old part before jobs both room is p off =
+    both_come s from view old part before jobs both room is p
+    ∙ ap (λ (f : Bool). once (f && (covers view.rect p || covers old p) && not (covered (take from s.views) p))) (below_off s p (is.bar) off)
+
+pub moved_fits : (s : Standing) (from : ℕ) (view : View) (old part before : Rectangle) (jobs : List Job) (both : Option Rectangle) (room : ℕ) → length s.views ≤ room → IsMoved s view old part before jobs both
+    → Fits (moved from jobs room) s
+moved_fits s from view old part before jobs both room enough is = record {
+  room = enough;
+  jobs = subst (FitsJobs s) (sym is.cut.jobs) (fits_append s (job_at 0 part ∷ []) (map (job_at 0) is.cut.rest) (first_fits s part (lies_below s view.rect part is.now)) rest);
+  bar = λ no_bar. cc;
+  once = λ p. let e = both_come s from view old part before jobs both room is p in
+      let le = at_most_once (covers (part_below_bar s) p && (covers view.rect p || covers old p) && not (covered (take from s.views) p)) in omega arith;
+}
+  where
+    rest : (k : ℕ) (d : Job) → k < length (map (job_at 0) is.cut.rest) → IsJob s (1 + k) (get_or (map (job_at 0) is.cut.rest) k d)
+    rest k d below =
+        let n = length-map is.cut.rest (job_at 0) in
+        let few = is.cut.few in
+        let within : k < length is.cut.rest = omega arith in
+        let job : IsJob s (1 + k) (job_at 0 (get_or is.cut.rest k part)) = first_job s (1 + k) (get_or is.cut.rest k part) (omega arith)
+        (λ p here. lies_below s old before is.was p (rest_lies 0 before view.rect (job_at 0 part ∷ []) jobs both is.cut k part p within here).0) in
+        subst (IsJob s (1 + k)) (sym (get_or-map (job_at 0) is.cut.rest k part d within)) job
+
+-- the whole screen
+abbrev pub whole : Standing → ℕ → Cuts
+whole s room = record (begun 0 (part_below_bar s) room) { bar = nat_lt 0 s.bar }
+
+whole_comes : (s : Standing) (room : ℕ) (p : Point) → to_come (whole s room) s p ≡ times (bar_part s) p + times (part_below_bar s) p
+whole_comes s room p = ap₂ (λ (m n : ℕ). m + n) (go (nat_lt 0 s.bar) refl) (zero-add (times (part_below_bar s) p))
+  where
+    go : (b : Bool) → nat_lt 0 s.bar ≡ b → cond b (times (bar_part s) p) 0 ≡ times (bar_part s) p
+    go true e = refl
+    go false e = let none : s.bar ≡ 0 = grind (arith, nat_tests) in sym (ap once (covers_none (bar_part s) p (inr none)))
+
+pub whole_on : (s : Standing) (room : ℕ) → s.bar ≤ s.height → (p : Point) → IsOnScreen s.width s.height p → to_come (whole s room) s p ≡ 1
+whole_on s room fits p on =
+    whole_comes s room p
+    ∙ ap₂ (λ (b c : Bool). once b + once c) (bar_is s p on) (below_is s p fits on)
+    ∙ go (in_bar s.bar p)
+  where
+    go : (b : Bool) → once b + once (not b) ≡ 1
+    go true = refl
+    go false = refl
+
+pub whole_off : (s : Standing) (room : ℕ) → s.bar ≤ s.height → (p : Point) → (IsOnScreen s.width s.height p → ⊥) → to_come (whole s room) s p ≡ 0
+whole_off s room fits p off = whole_comes s room p ∙ ap₂ (λ (b c : Bool). once b + once c) (bar_off s p fits off) (below_off s p fits off)
+
+pub whole_fits : (s : Standing) (room : ℕ) → length s.views ≤ room → Fits (whole s room) s
+whole_fits s room enough = record {
+  room = enough;
+  jobs = first_fits s (part_below_bar s) (λ p here. here);
+  bar = λ some. grind (arith, nat_tests);
+  once = λ p. let e = whole_comes s room p in let le = apart (covers (bar_part s) p) (covers (part_below_bar s) p) (bar_in_bar s p) (below_not_in_bar s p) in omega arith;
+}
+  where
+    apart : {e : Bool} (b c : Bool) → (b ≡ true → e ≡ true) → (c ≡ true → e ≡ false) → once b + once c ≤ 1
+    apart true true f g = let up = f refl in let down = g refl in absurd cc
+    apart true false f g = omega arith
+    apart false c f g = at_most c
+      where
+        at_most : (d : Bool) → once false + once d ≤ 1
+        at_most true = omega arith
+        at_most false = omega arith

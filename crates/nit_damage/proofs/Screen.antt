@@ -1,0 +1,113 @@
+-- Rectangles of the screen.
+use Rattle.std.proofs.Common.{◌≡◌, ℕ, ◌+◌, ◌-◌, ◌≤◌, Bool, true, false, not, refl, ap, arith}
+use Rattle.std.specs.Prelude.{pos, ◌≤ℤ◌, ◌<ℤ◌}
+use Rattle.std.proofs.lemmas.Int.{ints}
+use Rattle.std.proofs.lemmas.Bool.{and_parts}
+use Rattle.nit_rect.specs.declared.point.Point.{Point}
+use Rattle.nit_rect.specs.Rectangle.{Rectangle, rectangle, covers, spans}
+use Rattle.nit_rect.specs.Meeting.{HasPixels, LiesIn}
+use Rattle.nit_rect.specs.Dividing.{IsScreenRectangle}
+use Rattle.nit_rect.proofs.Spans.{IsSpanned, and_true, same_tests, spans_tells, spans_holds}
+use Rattle.nit_rect.proofs.Sets.{IsWithin, within}
+use Rattle.nit_stack.specs.Sources.{in_bar}
+use Rattle.nit_stack.specs.Standing.{IsOnScreen, IsStanding, Standing}
+use Rattle.nit_damage.specs.Cuts.{bar_part, part_below_bar}
+
+-- a pixel in rows of the screen, from one row on
+pub record IsAmong (width from high : ℕ) (p : Point) : Type 0 where
+  pub left : pos 0 ≤ℤ p.x
+  pub right : p.x <ℤ pos width
+  pub top : pos from ≤ℤ p.y
+  pub bottom : p.y <ℤ pos (from + high)
+
+pub rows_tell : (width from high : ℕ) (p : Point) → covers (rectangle (pos 0) (pos from) width high) p ≡ true → IsAmong width from high p
+rows_tell width from high p is =
+    let both = and_parts (spans (pos 0) width p.x) (spans (pos from) high p.y) is in
+    let across : IsSpanned (pos 0) width p.x = spans_tells (pos 0) width p.x both.0 in
+    let down : IsSpanned (pos from) high p.y = spans_tells (pos from) high p.y both.1 in
+    record { left = across.low; right = omega (arith, ints); top = down.low; bottom = omega (arith, ints) }
+
+pub rows_hold : (width from high : ℕ) (p : Point) → IsAmong width from high p → covers (rectangle (pos 0) (pos from) width high) p ≡ true
+rows_hold width from high p is = and_true
+    (spans_holds (pos 0) width p.x record { low = is.left; high = omega (arith, ints) })
+    (spans_holds (pos from) high p.y record { low = is.top; high = omega (arith, ints) })
+
+in_bar_tells : (bar : ℕ) (p : Point) → in_bar bar p ≡ true → p.y <ℤ pos bar
+in_bar_tells bar p is = omega (arith, ints)
+
+in_bar_holds : (bar : ℕ) (p : Point) → p.y <ℤ pos bar → in_bar bar p ≡ true
+in_bar_holds bar p is = grind (arith, ints)
+
+below_bar_holds : (bar : ℕ) (p : Point) → pos bar ≤ℤ p.y → in_bar bar p ≡ false
+below_bar_holds bar p is = grind (arith, ints)
+
+below_bar_tells : (bar : ℕ) (p : Point) → in_bar bar p ≡ false → pos bar ≤ℤ p.y
+below_bar_tells bar p is = omega (arith, ints)
+
+turned : (b : Bool) → not b ≡ true → b ≡ false
+turned true e = cc
+turned false e = refl
+
+pub below_on_screen : (s : Standing) (p : Point) → s.bar ≤ s.height → covers (part_below_bar s) p ≡ true → IsOnScreen s.width s.height p
+below_on_screen s p fits is =
+    let among : IsAmong s.width s.bar (s.height - s.bar) p = rows_tell s.width s.bar (s.height - s.bar) p is in
+    (among.left, among.right, omega (arith, ints), omega (arith, ints))
+
+pub bar_on_screen : (s : Standing) (p : Point) → s.bar ≤ s.height → covers (bar_part s) p ≡ true → IsOnScreen s.width s.height p
+bar_on_screen s p fits is =
+    let among : IsAmong s.width 0 s.bar p = rows_tell s.width 0 s.bar p is in
+    (among.left, among.right, among.top, omega (arith, ints))
+
+pub below_not_in_bar : (s : Standing) (p : Point) → covers (part_below_bar s) p ≡ true → in_bar s.bar p ≡ false
+below_not_in_bar s p is = below_bar_holds s.bar p (rows_tell s.width s.bar (s.height - s.bar) p is).top
+
+pub bar_in_bar : (s : Standing) (p : Point) → covers (bar_part s) p ≡ true → in_bar s.bar p ≡ true
+bar_in_bar s p is =
+    let among : IsAmong s.width 0 s.bar p = rows_tell s.width 0 s.bar p is in
+    in_bar_holds s.bar p (omega (arith, ints))
+
+-- on the screen the part below the bar is what the bar leaves
+pub below_is : (s : Standing) (p : Point) → s.bar ≤ s.height → IsOnScreen s.width s.height p → covers (part_below_bar s) p ≡ not (in_bar s.bar p)
+below_is s p fits on = same_tests (covers (part_below_bar s) p) (not (in_bar s.bar p))
+    (λ is. ap not (below_not_in_bar s p is))
+    (λ out.
+    let left = on.0 in
+    let right = on.1 in
+    let bottom = on.3 in
+    let top : pos s.bar ≤ℤ p.y = below_bar_tells s.bar p (turned (in_bar s.bar p) out) in
+    rows_hold s.width s.bar (s.height - s.bar) p record { left = left; right = right; top = top; bottom = omega (arith, ints) })
+
+pub bar_is : (s : Standing) (p : Point) → IsOnScreen s.width s.height p → covers (bar_part s) p ≡ in_bar s.bar p
+bar_is s p on = same_tests (covers (bar_part s) p) (in_bar s.bar p)
+    (bar_in_bar s p)
+    (λ is.
+    let low : p.y <ℤ pos s.bar = in_bar_tells s.bar p is in
+    rows_hold s.width 0 s.bar p record { left = on.0; right = on.1; top = on.2; bottom = omega (arith, ints) })
+
+untrue : (b : Bool) → (b ≡ true → ⊥) → b ≡ false
+untrue true no_way = absurd (no_way refl)
+untrue false no_way = refl
+
+-- off the screen neither part has the pixel
+pub below_off : (s : Standing) (p : Point) → s.bar ≤ s.height → (IsOnScreen s.width s.height p → ⊥) → covers (part_below_bar s) p ≡ false
+below_off s p fits off = untrue (covers (part_below_bar s) p) (λ is. off (below_on_screen s p fits is))
+
+pub bar_off : (s : Standing) (p : Point) → s.bar ≤ s.height → (IsOnScreen s.width s.height p → ⊥) → covers (bar_part s) p ≡ false
+bar_off s p fits off = untrue (covers (bar_part s) p) (λ is. off (bar_on_screen s p fits is))
+
+-- the bar leaves rows of the screen
+pub bar_fits : (s : Standing) → IsStanding s → s.bar ≤ s.height
+bar_fits s is = let low = is.bar.1 in omega arith
+
+-- what lies below the bar is a rectangle of the screen
+pub on_screen : (s : Standing) (r : Rectangle) → IsStanding s → HasPixels r → LiesIn r (part_below_bar s) → IsScreenRectangle r
+on_screen s r is some lie =
+    let edges : IsWithin r (part_below_bar s) = within r (part_below_bar s) some lie in
+    let left = edges.left in
+    let right = edges.right in
+    let top = edges.top in
+    let bottom = edges.bottom in
+    let wide = is.screen.1 in
+    let high = is.screen.3 in
+    let low = is.bar.1 in
+    record { left = edges.left; top = omega (arith, ints); right = omega (arith, ints); bottom = omega (arith, ints) }

@@ -1,0 +1,108 @@
+-- What one step of the cutter does.
+use Rattle.std.proofs.Common.{◌≡◌, ℕ, ◌+◌, ◌-◌, ◌*◌, ◌<◌, ◌≤◌, Bool, true, false, cond, List, length, drop, find, take, Option, Some, None, refl, ap, sym, ◌∙◌, arith, add-zero}
+use Rattle.std.specs.Option.{option_map}
+use Rattle.std.specs.Prelude.{IfSome}
+use mathlib.Core.Logic.{dite}
+use native.Mathlib.Decide.{dec_lt}
+use Rattle.std.proofs.lemmas.Bool.{and_parts}
+use Rattle.std.proofs.lemmas.List.{take_all, drop_all, length-take}
+use Rattle.nit_rect.specs.declared.point.Point.{Point}
+use Rattle.nit_rect.specs.Rectangle.{Rectangle, covers}
+use Rattle.nit_rect.specs.Meeting.{HasPixels}
+use Rattle.nit_rect.specs.Dividing.{times}
+use Rattle.nit_rect.proofs.Sets.{covers_none, no_pixels}
+use Rattle.nit_stack.specs.declared.view.ViewRef.{ViewRef}
+use Rattle.nit_stack.specs.Sources.{owner_in}
+use Rattle.nit_stack.specs.Standing.{IsStanding, Seat, Standing, has, view_ref}
+use Rattle.nit_damage.specs.declared.cutting.Job.{Job}
+use Rattle.nit_damage.specs.Sets.{covered, once, seat_covers}
+use Rattle.nit_damage.specs.Cuts.{FitsJobs, IsJob, IsPieceOf, jobs_to_come, weight, weight_of}
+use Rattle.nit_damage.specs.Cutting.{IsStep}
+use Rattle.nit_damage.proofs.Cut.{IsNextCut, cut_fewer, cut_fits, front_count, piece_count}
+use Rattle.nit_damage.proofs.Jobs.{heavy}
+use Rattle.nit_damage.proofs.Screen.{bar_fits, below_not_in_bar, below_on_screen}
+use Rattle.nit_damage.proofs.Views.{front_most, no_view}
+
+lost : (views : ℕ) (jobs : List Job) (j : Job) → weight views jobs < weight views jobs + weight_of views j
+lost views jobs j = let h = heavy (views + 1 - j.at) in omega arith
+
+-- a rectangle without pixels is dropped
+pub dropped : (from : ℕ) (s : Standing) (j : Job) (old : List Job) → FitsJobs s old → j.rect.w * j.rect.h ≡ 0 → IsStep from s j old old None
+dropped from s j old fits none = record {
+  fits = fits;
+  count = λ p. ap (λ (n : ℕ). jobs_to_come from s old p + n) (nothing (covered (drop j.at (take from s.views)) p) p);
+  piece = tt;
+  fewer = lost (length s.views) old j;
+}
+  where
+    nothing : (b : Bool) (p : Point) → cond b 0 (times j.rect p) ≡ 0
+    nothing true p = refl
+    nothing false p = ap once (covers_none j.rect p (no_pixels j.rect none))
+
+-- what a piece below the bar is
+piece_of : (s : Standing) (j : Job) (old : List Job) (r : Rectangle) (owner : Option ViewRef) → IsStanding s → IsJob s (length old) j → HasPixels r
+    → ((p : Point) → covers r p ≡ true → covers j.rect p ≡ true)
+    → ((p : Point) → covers r p ≡ true → option_map view_ref (owner_in (λ x. x.view) s.bar s.views p) ≡ owner)
+    → IfSome owner (λ v. has v.0 s.views ≡ true) → IsPieceOf s record { rect = r; owner = owner }
+piece_of s j old r owner is job some lies owned stands = record {
+  pixels = some;
+  on_screen = λ p here. below_on_screen s p (bar_fits s is) (job.below_bar p (lies p here));
+  owner = λ p here. sym (owned p here);
+  stands = stands;
+}
+
+-- who owns a pixel of a rectangle
+owner_below : (s : Standing) (j : Job) (old : List Job) → IsJob s (length old) j → (p : Point) → covers j.rect p ≡ true
+    → owner_in (λ x. x.view) s.bar s.views p ≡ find (seat_covers p) s.views
+owner_below s j old job p here = ap (λ (b : Bool). cond b None (find (seat_covers p) s.views)) (below_not_in_bar s p (job.below_bar p here))
+
+-- behind the last view the whole rectangle is a piece
+pub bare : (from : ℕ) (s : Standing) (j : Job) (old : List Job) → IsStanding s → FitsJobs s old → IsJob s (length old) j → HasPixels j.rect → length s.views ≤ j.at
+    → IsStep from s j old old (Some record { rect = j.rect; owner = None })
+bare from s j old is fits job some behind = record {
+  fits = fits;
+  count = λ p. ap (λ (n : ℕ). jobs_to_come from s old p + n) (ap (λ (b : Bool). cond b 0 (times j.rect p)) (none p));
+  piece = piece_of s j old j.rect None is job some (λ p here. here)
+      (λ p here. ap (option_map view_ref) (owner_below s j old job p here ∙ no_view p s.views (ap (λ (l : List Seat). covered l p) (sym (take_all j.at s.views behind)) ∙ job.free p here)))
+      tt;
+  fewer = lost (length s.views) old j;
+}
+  where
+    none : (p : Point) → covered (drop j.at (take from s.views)) p ≡ false
+    none p = ap (λ (l : List Seat). covered l p) (drop_all j.at (take from s.views) (let short = length-take from s.views in omega arith))
+
+-- nothing of the rectangle is cut out
+pub past : (from : ℕ) (s : Standing) (j : Job) (x : Seat) (old new : List Job) → IsNextCut s j x old new None → IsStep from s j old new None
+past from s j x old new is = record {
+  fits = cut_fits s j x old new None is;
+  count = λ p. dite (dec_lt j.at from)
+      (λ front. front_count from s j x old new None is front p ∙ sym (add-zero (jobs_to_come from s new p)))
+      (λ behind. piece_count from s j x old new None is (omega arith) p ∙ ap (λ (b : Bool). jobs_to_come from s new p + once b) (is.cut.part p));
+  piece = tt;
+  fewer = cut_fewer s j x old new None is;
+}
+
+-- what is cut out has no piece
+pub hidden : (from : ℕ) (s : Standing) (j : Job) (x : Seat) (old new : List Job) (both : Option Rectangle) → IsNextCut s j x old new both → j.at < from → IsStep from s j old new None
+hidden from s j x old new both is front = record {
+  fits = cut_fits s j x old new both is;
+  count = λ p. front_count from s j x old new both is front p ∙ sym (add-zero (jobs_to_come from s new p));
+  piece = tt;
+  fewer = cut_fewer s j x old new both is;
+}
+
+-- what is cut out is a piece
+pub given : (from : ℕ) (s : Standing) (j : Job) (x : Seat) (old new : List Job) (r : Rectangle) (v : ViewRef) → IsStanding s → IsNextCut s j x old new (Some r) → from ≤ j.at
+    → view_ref x ≡ v → has v.0 s.views ≡ true → IsStep from s j old new (Some record { rect = r; owner = Some v })
+given from s j x old new r v is next behind same stands = record {
+  fits = cut_fits s j x old new (Some r) next;
+  count = λ p. piece_count from s j x old new (Some r) next behind p ∙ ap (λ (b : Bool). jobs_to_come from s new p + once b) (sym (next.cut.part.1 p));
+  piece = piece_of s j old r (Some v) is next.job next.cut.part.0
+      (λ p here. (both p here).0)
+      (λ p here. ap (option_map view_ref) (owner_below s j old next.job p (both p here).0 ∙ front_most p s.views j.at x next.seat (next.job.free p (both p here).0) (both p here).1) ∙ ap (λ (u : ViewRef). Some u) same)
+      stands;
+  fewer = cut_fewer s j x old new (Some r) next;
+}
+  where
+    both : (p : Point) → covers r p ≡ true → (covers j.rect p ≡ true) × (covers x.view.rect p ≡ true)
+    both p here = and_parts (covers j.rect p) (covers x.view.rect p) (sym (next.cut.part.1 p) ∙ here)

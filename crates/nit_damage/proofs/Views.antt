@@ -1,0 +1,129 @@
+-- Places in the stack, and the views that cover a pixel.
+use Rattle.std.proofs.Common.{◌≡◌, ℕ, zero, suc, ◌+◌, ◌<◌, ◌≤◌, ◌==◌, not, Bool, true, false, ◌&&◌, ◌||◌, cond, List, [], ◌∷◌, map, find, take, drop, Option, Some, None, refl, ap, ap₂, sym, ◌∙◌, subst, arith, add-one, drop-cons}
+use Rattle.std.specs.List.{position_or_len}
+use Rattle.std.specs.Option.{option_map, option_map_or}
+use Rattle.std.specs.Prelude.{slice_get}
+use Rattle.std.proofs.lemmas.Bool.{eqb-true}
+use Rattle.std.proofs.lemmas.Option.{slice_get-map, slice_get_within, get_or_from_slice_get}
+use Rattle.nit_rect.specs.declared.point.Point.{Point}
+use Rattle.nit_stack.specs.declared.view.ViewRef.{ViewRef}
+use Rattle.nit_stack.specs.Standing.{NoPair, Seat, is_slot, same_slot, view_ref}
+use Rattle.nit_stack.proofs.Lists.{found_fails}
+use Rattle.nit_damage.specs.Sets.{covered, seat_covers}
+
+-- the view of a slot that is handed out for a place
+pub slot_at : (views : List Seat) (i : ℕ) (v : ViewRef) → slice_get (map view_ref views) i ≡ Some v → (s : Seat) × (slice_get views i ≡ Some s) × (s.slot ≡ v.0)
+slot_at views i v at = go (slice_get views i) (sym (slice_get-map view_ref views i) ∙ at)
+  where
+    go : (o : Option Seat) → option_map view_ref o ≡ Some v → (s : Seat) × (o ≡ Some s) × (s.slot ≡ v.0)
+    go None e = cc
+    go (Some s) e = let same : view_ref s ≡ v = cc in (s, refl, ap (λ (u : ViewRef). u.0) same)
+
+-- the list from a place on
+pub drop_at : {A : Type 0} (xs : List A) (i : ℕ) (x : A) → slice_get xs i ≡ Some x → drop i xs ≡ x ∷ drop (i + 1) xs
+drop_at xs i x at =
+    drop-cons xs i x (slice_get_within xs i x at) ∙ ap₂ (λ y ys. y ∷ ys) (get_or_from_slice_get xs i x x at) (ap (λ (n : ℕ). drop n xs) (sym (add-one i)))
+
+pub position_here : {A : Type 0} (p : A → Bool) (xs : List A) (i : ℕ) (x : A) → slice_get xs i ≡ Some x → p x ≡ true → position_or_len p (drop i xs) ≡ 0
+position_here p xs i x at is = ap (position_or_len p) (drop_at xs i x at) ∙ ap (λ (b : Bool). cond (not b) (1 + position_or_len p (drop (i + 1) xs)) 0) is
+
+pub position_behind : {A : Type 0} (p : A → Bool) (xs : List A) (i : ℕ) (x : A) → slice_get xs i ≡ Some x → p x ≡ false → position_or_len p (drop i xs) ≡ 1 + position_or_len p (drop (i + 1) xs)
+position_behind p xs i x at is = ap (position_or_len p) (drop_at xs i x at) ∙ ap (λ (b : Bool). cond (not b) (1 + position_or_len p (drop (i + 1) xs)) 0) is
+
+-- the front-most of the views that cover a pixel
+pub front_most : (p : Point) (views : List Seat) (i : ℕ) (s : Seat) → slice_get views i ≡ Some s → covered (take i views) p ≡ false → seat_covers p s ≡ true → find (seat_covers p) views ≡ Some s
+front_most p [] i s at none is = cc
+front_most p (x ∷ views) zero s at none is =
+    let same : x ≡ s = cc in
+    let here : seat_covers p x ≡ true = ap (seat_covers p) same ∙ is in
+    ap (λ (b : Bool). cond b (Some x) (find (seat_covers p) views)) here ∙ ap (λ (y : Seat). Some y) same
+front_most p (x ∷ views) (suc i) s at none is = go (seat_covers p x) none (front_most p views i s at)
+  where
+    go : (b : Bool) → (b || covered (take i views) p) ≡ false → (covered (take i views) p ≡ false → seat_covers p s ≡ true → find (seat_covers p) views ≡ Some s)
+        → cond b (Some x) (find (seat_covers p) views) ≡ Some s
+    go true e r = cc
+    go false e r = r e is
+
+pub no_view : (p : Point) (views : List Seat) → covered views p ≡ false → find (seat_covers p) views ≡ None
+no_view p [] none = refl
+no_view p (x ∷ views) none = go (seat_covers p x) none (no_view p views)
+  where
+    go : (b : Bool) → (b || covered views p) ≡ false → (covered views p ≡ false → find (seat_covers p) views ≡ None) → cond b (Some x) (find (seat_covers p) views) ≡ None
+    go true e r = cc
+    go false e r = r e
+
+-- one more view is in front
+pub covered_more : (p : Point) (views : List Seat) (i : ℕ) (s : Seat) → slice_get views i ≡ Some s → covered (take (i + 1) views) p ≡ (covered (take i views) p || seat_covers p s)
+covered_more p views i s at = ap (λ (n : ℕ). covered (take n views) p) (add-one i) ∙ go views i at
+  where
+    later : (a b c d : Bool) → b ≡ (c || d) → (a || b) ≡ ((a || c) || d)
+    later true b c d e = refl
+    later false b c d e = e
+
+    none : (b : Bool) → (b || false) ≡ b
+    none true = refl
+    none false = refl
+
+    go : (xs : List Seat) (k : ℕ) → slice_get xs k ≡ Some s → covered (take (suc k) xs) p ≡ (covered (take k xs) p || seat_covers p s)
+    go [] k e = cc
+    go (x ∷ xs) zero e = let same : x ≡ s = cc in none (seat_covers p x) ∙ ap (seat_covers p) same
+    go (x ∷ xs) (suc k) e = later (seat_covers p x) (covered (take (suc k) xs) p) (covered (take k xs) p) (seat_covers p s) (go xs k e)
+
+-- one view less is to be cut out
+pub covered_less : (p : Point) (views : List Seat) (from at : ℕ) (s : Seat) → slice_get views at ≡ Some s → at < from
+    → covered (drop at (take from views)) p ≡ (seat_covers p s || covered (drop (at + 1) (take from views)) p)
+covered_less p views from at s here before = go views from at here before ∙ ap (λ (n : ℕ). seat_covers p s || covered (drop n (take from views)) p) (sym (add-one at))
+  where
+    go : (xs : List Seat) (n k : ℕ) → slice_get xs k ≡ Some s → k < n → covered (drop k (take n xs)) p ≡ (seat_covers p s || covered (drop (suc k) (take n xs)) p)
+    go [] n k e l = cc
+    go (x ∷ xs) zero k e l = absurd (omega arith)
+    go (x ∷ xs) (suc n) zero e l = let same : x ≡ s = cc in ap (λ (y : Seat). seat_covers p y || covered (take n xs) p) same
+    go (x ∷ xs) (suc n) (suc k) e l = go xs n k e (omega arith)
+
+-- none is
+pub covered_none : (p : Point) (views : List Seat) (from at : ℕ) → from ≤ at → covered (drop at (take from views)) p ≡ false
+covered_none p views zero zero l = refl
+covered_none p views zero (suc k) l = refl
+covered_none p [] (suc n) zero l = refl
+covered_none p [] (suc n) (suc k) l = refl
+covered_none p (x ∷ xs) (suc n) zero l = absurd (omega arith)
+covered_none p (x ∷ xs) (suc n) (suc k) l = covered_none p xs n k (omega arith)
+
+-- a view owns a pixel where it covers it and none in front does
+pub owned_is : (k : ℕ) (p : Point) (views : List Seat) (s : Seat) → NoPair same_slot views → find (is_slot k) views ≡ Some s
+    → option_map_or (is_slot k) (find (seat_covers p) views) false ≡ (seat_covers p s && not (covered (take (position_or_len (is_slot k) views) views) p))
+owned_is k p [] s apart there = cc
+owned_is k p (x ∷ views) s apart there = go (is_slot k x) (seat_covers p x) refl refl there (owned_is k p views s apart.1)
+  where
+    one_more : take (1 + position_or_len (is_slot k) views) (x ∷ views) ≡ x ∷ take (position_or_len (is_slot k) views) views
+    one_more = let e : 1 + position_or_len (is_slot k) views ≡ suc (position_or_len (is_slot k) views) = omega arith in ap (λ (n : ℕ). take n (x ∷ views)) e
+
+    never : (b : Bool) → (b && false) ≡ false
+    never true = refl
+    never false = refl
+
+    always : (b : Bool) → (b && true) ≡ b
+    always true = refl
+    always false = refl
+
+    no_other : (o : Option Seat) → find (seat_covers p) views ≡ o → is_slot k x ≡ true → option_map_or (is_slot k) o false ≡ false
+    no_other None e is = refl
+    no_other (Some y) e is =
+        let other : (y.slot == x.slot) ≡ false = found_fails (seat_covers p) (same_slot x) views y apart.0 e in
+        let same : x.slot ≡ k = eqb-true x.slot k is in
+        subst (λ (n : ℕ). (y.slot == n) ≡ false) same other
+
+    go : (a c : Bool) → is_slot k x ≡ a → seat_covers p x ≡ c → cond a (Some x) (find (is_slot k) views) ≡ Some s
+        → (find (is_slot k) views ≡ Some s → option_map_or (is_slot k) (find (seat_covers p) views) false ≡ (seat_covers p s && not (covered (take (position_or_len (is_slot k) views) views) p)))
+        → option_map_or (is_slot k) (cond c (Some x) (find (seat_covers p) views)) false ≡ (seat_covers p s && not (covered (take (cond (not a) (1 + position_or_len (is_slot k) views) 0) (x ∷ views)) p))
+    go true true d e f r = let same : x ≡ s = cc in d ∙ sym (always (seat_covers p s) ∙ ap (seat_covers p) (sym same) ∙ e)
+    go true false d e f r =
+        let same : x ≡ s = cc in
+        no_other (find (seat_covers p) views) refl d ∙ sym (always (seat_covers p s) ∙ ap (seat_covers p) (sym same) ∙ e)
+    go false true d e f r =
+        d ∙ sym (ap (λ (l : List Seat). seat_covers p s && not (covered l p)) one_more
+        ∙ ap (λ (b : Bool). seat_covers p s && not (b || covered (take (position_or_len (is_slot k) views) views) p)) e
+        ∙ never (seat_covers p s))
+    go false false d e f r =
+        r f ∙ sym (ap (λ (l : List Seat). seat_covers p s && not (covered l p)) one_more
+        ∙ ap (λ (b : Bool). seat_covers p s && not (b || covered (take (position_or_len (is_slot k) views) views) p)) e)

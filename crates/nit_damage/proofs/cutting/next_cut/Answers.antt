@@ -1,0 +1,7 @@
+use Rattle.std.proofs.Common.{subst}
+use Rattle.nit_damage.specs.Cuts.{FitsJobs}
+use Rattle.nit_damage.proofs.Jobs.{last_job}
+use Rattle.nit_damage.proofs.cutting.next_cut.Goals as goal
+
+pub cut_next-piece-requires-clause-job : goal.cut_next-piece-requires-clause-job
+cut_next-piece-requires-clause-job c = last_job c.args.stack.now c.pop.new.self.items c.in-Some.job (subst (FitsJobs c.args.stack.now) c.in-Some.ensures.items c.jobs.invariant.fits)

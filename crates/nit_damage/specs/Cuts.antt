@@ -1,0 +1,86 @@
+-- What a cutter keeps, and which pixels are still to come by it.
+use Rattle.std.specs.Prelude.{◌≡◌, ℕ, ◌+◌, ◌-◌, ◌*◌, ◌^◌, ◌≤◌, ◌<◌, Bool, true, false, pos, List, [], ◌∷◌, length, drop, take, sum_by, slice_index_or, Option, Some, None, IfSome, IsTrue, if◌then◌else◌}
+use Rattle.std.specs.Option.{option_map}
+use Rattle.nit_rect.specs.declared.point.Point.{Point}
+use Rattle.nit_rect.specs.Rectangle.{Rectangle, covers, rectangle}
+use Rattle.nit_rect.specs.Meeting.{HasPixels, LiesIn}
+use Rattle.nit_rect.specs.Dividing.{times}
+use Rattle.nit_stack.specs.declared.view.Piece.{Piece}
+use Rattle.nit_stack.specs.Sources.{owner_in}
+use Rattle.nit_stack.specs.Standing.{IsOnScreen, Standing, has, view_ref}
+use Rattle.nit_damage.specs.declared.cutting.Job.{Job}
+use Rattle.nit_damage.specs.Sets.{once, covered}
+
+-- The rectangles that are still to be cut; the first place in the stack whose view has pieces; whether the bar is
+-- still to come; and for how many views there is room.
+pub record Cuts : Type 0 where
+  pub jobs : List Job
+  pub from : ℕ
+  pub bar : Bool
+  pub room : ℕ
+
+-- the cutter has this rectangle alone, of which no view is cut out yet
+abbrev pub begun : ℕ → Rectangle → ℕ → Cuts
+begun from r room = record { jobs = record { rect = r; at = 0 } ∷ []; from = from; bar = false; room = room }
+
+-- the pixels of the bar
+abbrev pub bar_part : Standing → Rectangle
+bar_part s = rectangle (pos 0) (pos 0) s.width s.bar
+
+-- the pixels of the screen below the bar
+abbrev pub part_below_bar : Standing → Rectangle
+part_below_bar s = rectangle (pos 0) (pos s.bar) s.width (s.height - s.bar)
+
+-- How often the pixel is to come by a rectangle: where a view that is still to be cut out and has no pieces covers it,
+-- it does not come.
+abbrev pub job_to_come : ℕ → Standing → Point → Job → ℕ
+job_to_come from s p j = if covered (drop j.at (take from s.views)) p then 0 else times j.rect p
+
+abbrev pub jobs_to_come : ℕ → Standing → List Job → Point → ℕ
+jobs_to_come from s jobs p = sum_by (job_to_come from s p) jobs
+
+-- how often the pixel is still to come
+abbrev pub to_come : Cuts → Standing → Point → ℕ
+to_come c s p = (if c.bar then times (bar_part s) p else 0) + jobs_to_come c.from s c.jobs p
+
+-- how often a piece has the pixel
+abbrev pub piece_times : Option Piece → Point → ℕ
+piece_times None p = 0
+piece_times (Some piece) p = times piece.rect p
+
+-- The rectangle at place k lies on the screen below the bar, and no view in front of its next one covers a pixel
+-- of it. It is low enough in its list that what is left of it finds room.
+pub record IsJob (s : Standing) (k : ℕ) (j : Job) : Type 0 where
+  pub place : j.at ≤ length s.views
+  pub low : k ≤ 3 * j.at + 4
+  pub below_bar : LiesIn j.rect (part_below_bar s)
+  pub free : (p : Point) → IsTrue (covers j.rect p) → covered (take j.at s.views) p ≡ false
+
+abbrev pub FitsJobs : Standing → List Job → Type 0
+FitsJobs s jobs = (k : ℕ) (d : Job) → k < length jobs → IsJob s k (slice_index_or jobs k d)
+
+-- The cutter has room for the views of the stack, each of its rectangles is cut as far as it says, the bar is to come
+-- only where it has rows, and no pixel is to come twice.
+pub record Fits (c : Cuts) (s : Standing) : Type 0 where
+  pub room : length s.views ≤ c.room
+  pub jobs : FitsJobs s c.jobs
+  pub bar : c.bar ≡ true → 0 < s.bar
+  pub once : (p : Point) → to_come c s p ≤ 1
+
+-- the piece has pixels, each of them lies on the screen and has the piece's owner, and the owner is in the stack
+pub record IsPieceOf (s : Standing) (piece : Piece) : Type 0 where
+  pub pixels : HasPixels piece.rect
+  pub on_screen : (p : Point) → IsTrue (covers piece.rect p) → IsOnScreen s.width s.height p
+  pub owner : (p : Point) → IsTrue (covers piece.rect p) → piece.owner ≡ option_map view_ref (owner_in (λ x. x.view) s.bar s.views p)
+  pub stands : IfSome piece.owner (λ v. has v.0 s.views ≡ true)
+
+-- at least as many as the pieces that a rectangle, or some of them, still gives
+abbrev pub weight_of : ℕ → Job → ℕ
+weight_of views j = 5 ^ (views + 1 - j.at)
+
+abbrev pub weight : ℕ → List Job → ℕ
+weight views jobs = sum_by (weight_of views) jobs
+
+-- at least as many as the pieces that are still to come
+abbrev pub pieces_left : Cuts → Standing → ℕ
+pieces_left c s = once c.bar + weight (length s.views) c.jobs

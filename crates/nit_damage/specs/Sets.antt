@@ -1,0 +1,46 @@
+-- Which pixels of the screen are to be drawn again. A stack of views is a list, front first.
+use Rattle.std.specs.Prelude.{ℕ, Bool, false, not, ◌&&◌, ◌||◌, List, take, Option, Some, None, if◌then◌else◌}
+use Rattle.std.specs.List.{list_any, position_or_len}
+use Rattle.std.specs.Option.{option_map_or}
+use Rattle.nit_rect.specs.declared.point.Point.{Point}
+use Rattle.nit_rect.specs.Rectangle.{Rectangle, covers}
+use Rattle.nit_stack.specs.declared.view.ViewRef.{ViewRef}
+use Rattle.nit_stack.specs.Sources.{in_bar, owner_in}
+use Rattle.nit_stack.specs.Standing.{Seat, Standing, is_slot, seat_in}
+
+-- 1 where it holds, and 0 elsewhere
+abbrev pub once : Bool → ℕ
+once b = if b then 1 else 0
+
+-- the view covers the pixel
+abbrev pub seat_covers : Point → Seat → Bool
+seat_covers p s = covers s.view.rect p
+
+-- some of these views covers the pixel
+abbrev pub covered : List Seat → Point → Bool
+covered views p = list_any (seat_covers p) views
+
+-- the view in this slot covers the pixel
+abbrev pub covered_by : ℕ → List Seat → Point → Bool
+covered_by k views p = option_map_or (seat_covers p) (seat_in k views) false
+
+-- how many views stand in front of the one in this slot
+abbrev pub place_of : ℕ → List Seat → ℕ
+place_of k views = position_or_len (is_slot k) views
+
+-- the views in front of this one; all views, where none is given
+abbrev pub in_front_of : Option ViewRef → List Seat → List Seat
+in_front_of (Some v) views = take (place_of v.0 views) views
+in_front_of None views = views
+
+-- the pixel lies in the rectangle, and this view owns it
+abbrev pub is_owned : ViewRef → Standing → Rectangle → Point → Bool
+is_owned v s r p = covers r p && option_map_or (is_slot v.0) (owner_in (λ x. x.view) s.bar s.views p) false
+
+-- the pixel is below the bar, lies in the rectangle, and no view in front of this one covers it
+abbrev pub is_of_gone : Option ViewRef → Standing → Rectangle → Point → Bool
+is_of_gone at s r p = not (in_bar s.bar p) && covers r p && not (covered (in_front_of at s.views) p)
+
+-- the pixel is below the bar, the view's rectangle or its old one covers it, and no view in front of it does
+abbrev pub is_of_moved : ViewRef → Standing → Rectangle → Point → Bool
+is_of_moved v s old p = not (in_bar s.bar p) && (covered_by v.0 s.views p || covers old p) && not (covered (in_front_of (Some v) s.views) p)

@@ -1,0 +1,101 @@
+//! One cut.
+
+ghost use Rattle.std.specs.Prelude.{◌≡◌, ◌+◌, ◌*◌, ◌≤◌, ◌<◌, [], length, vec_capacity, IfSome, MatchOption};
+ghost use Rattle.nit_rect.specs.declared.point.Point.{Point};
+ghost use Rattle.nit_rect.specs.Dividing.{IsScreenRectangle};
+ghost use Rattle.nit_rect.specs.Meeting.{HasPixels};
+ghost use Rattle.nit_damage.specs.Cuts.{FitsJobs, IsJob, IsPieceOf, jobs_to_come, piece_times, weight};
+ghost use Rattle.nit_damage.specs.Cutting.{IsCut, IsStep};
+
+use nit_rect::Rect;
+use nit_stack::{Piece, Stack};
+
+/// A rectangle of the screen from which the views in front of place `at` are cut out already.
+#[derive(Clone, Copy)]
+pub struct Job {
+    pub rect: Rect,
+    pub at: u32,
+}
+
+/// The next piece below the bar. None exactly where nothing below the bar is to come.
+pub(crate) fn next_cut(jobs: &mut Vec<Job>, from: u32, stack: &Stack) -> Option<Piece>
+    requires fits { FitsJobs stack.now jobs.old.items }
+    requires room { 3 * length stack.now.views + 5 ≤ vec_capacity jobs.old }
+    ensures room { vec_capacity jobs.new ≡ vec_capacity jobs.old }
+    ensures fits { FitsJobs stack.now jobs.new.items }
+    ensures count { (p : Point) → jobs_to_come from stack.now jobs.old.items p
+        ≡ jobs_to_come from stack.now jobs.new.items p + piece_times result p }
+    ensures piece { MatchOption result (jobs.new.items ≡ []) (IsPieceOf stack.now) }
+    ensures fewer { IfSome result (λ _. weight (length stack.now.views) jobs.new.items
+        < weight (length stack.now.views) jobs.old.items) }
+{
+    'jobs: while let Some(job) = jobs.pop() {
+        let piece = cut_next(jobs, job, from, stack);
+        if piece.is_some() {
+            return piece;
+        }
+    }
+    None
+}
+
+/// Cuts the next view out of the job, and puts in what is left. Gives the part that was cut out, where its view is
+/// at place `from` or behind. Behind the last view the whole job is given.
+pub(crate) fn cut_next(jobs: &mut Vec<Job>, job: Job, from: u32, stack: &Stack) -> Option<Piece>
+    requires fits { FitsJobs stack.now jobs.old.items }
+    requires job { IsJob stack.now (length jobs.old.items) job }
+    requires room { 3 * length stack.now.views + 5 ≤ vec_capacity jobs.old }
+    ensures room { vec_capacity jobs.new ≡ vec_capacity jobs.old }
+    ensures step { IsStep from stack.now job jobs.old.items jobs.new.items result }
+{
+    if job.rect.area() == 0 {
+        return None;
+    }
+    if job.at >= stack.len() {
+        return Some(Piece {
+            rect: job.rect,
+            owner: None,
+        });
+    }
+    let v = stack.at(job.at);
+    let view = stack.view(v);
+    let Some(part) = cut_out(jobs, job.rect, view.rect, job.at + 1) else {
+        return None;
+    };
+    if job.at < from {
+        return None;
+    }
+    Some(Piece {
+        rect: part,
+        owner: Some(v),
+    })
+}
+
+/// Puts in what is left of a rectangle of the screen where another is cut out, with the next view at place `at`.
+/// Gives the part that was cut out. None where the two have no pixel in common.
+pub(crate) fn cut_out(jobs: &mut Vec<Job>, rect: Rect, by: Rect, at: u32) -> Option<Rect>
+    requires screen { HasPixels rect → IsScreenRectangle rect }
+    requires room { length jobs.old.items + 4 ≤ vec_capacity jobs.old }
+    ensures room { vec_capacity jobs.new ≡ vec_capacity jobs.old }
+    ensures cut { IsCut at rect by jobs.old.items jobs.new.items result }
+{
+    let part = rect.meet(&by);
+    if part.area() == 0 {
+        jobs.push_reserved(Job { rect, at });
+        return None;
+    }
+    let rest = rect.strips(&part);
+    jobs.push_reserved(Job {
+        rect: rest.bottom,
+        at,
+    });
+    jobs.push_reserved(Job {
+        rect: rest.right,
+        at,
+    });
+    jobs.push_reserved(Job {
+        rect: rest.left,
+        at,
+    });
+    jobs.push_reserved(Job { rect: rest.top, at });
+    Some(part)
+}

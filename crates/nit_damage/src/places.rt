@@ -1,0 +1,58 @@
+//! Rectangles of the screen, and places in the stack.
+
+ghost use Rattle.std.specs.Prelude.{◌≡◌, ◌≤◌, length};
+ghost use Rattle.nit_rect.specs.Meeting.{CoversBoth};
+ghost use Rattle.nit_stack.specs.Standing.{IsScreen};
+ghost use Rattle.nit_damage.specs.Sets.{place_of};
+ghost use Rattle.nit_damage.specs.Cuts.{bar_part, part_below_bar};
+
+use nit_rect::Rect;
+use nit_stack::{Stack, ViewRef};
+
+/// The place of a view in the stack, counted from the front.
+pub(crate) fn place_of(stack: &Stack, v: ViewRef) -> u32
+    ensures place { result ≡ place_of v.0 stack.now.views }
+    ensures within { result ≤ length stack.now.views }
+{
+    let views = stack.len();
+    for place in 0..views {
+        if stack.at(place) == v {
+            return place;
+        }
+    }
+    views
+}
+
+/// The pixels of the bar.
+pub(crate) fn bar_part(stack: &Stack) -> Rect
+    ensures value { result ≡ bar_part stack.now }
+    ensures screen { IsScreen stack.now.width stack.now.height }
+    ensures fits { stack.now.bar ≤ stack.now.height }
+{
+    let (width, _height) = stack.size();
+    let Some(rect) = Rect::new(0, 0, width, stack.bar()) else {
+        unreachable!()
+    };
+    rect
+}
+
+/// The pixels of the screen below the bar.
+pub(crate) fn part_below_bar(stack: &Stack) -> Rect
+    ensures value { result ≡ part_below_bar stack.now }
+    ensures fits { stack.now.bar ≤ stack.now.height }
+{
+    let (width, height) = stack.size();
+    let bar = stack.bar();
+    let Some(rect) = Rect::new(0, bar as i32, width, height - bar) else {
+        unreachable!()
+    };
+    rect
+}
+
+/// The rectangle of the pixels below the bar that a rectangle covers.
+pub(crate) fn below_bar(stack: &Stack, r: &Rect) -> Rect
+    ensures both { CoversBoth r.now (part_below_bar stack.now) result }
+    ensures fits { stack.now.bar ≤ stack.now.height }
+{
+    r.meet(&part_below_bar(stack))
+}
