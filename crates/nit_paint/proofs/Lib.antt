@@ -1,0 +1,7 @@
+pub mod Repaints
+pub mod Glasses
+pub mod Pixels
+pub mod Blocks
+pub mod Owned
+pub mod Rows
+pub mod OneMore

@@ -1,0 +1,11 @@
+use Rattle.nit_paint.proofs.Repaints.{repainted_both, repainted_same, repainted_words}
+use Rattle.nit_paint.proofs.laws.repainted_parts.Goals as goal
+
+pub returns-clause-both : goal.returns-clause-both
+returns-clause-both c = repainted_both
+
+pub returns-clause-same : goal.returns-clause-same
+returns-clause-same c = repainted_same
+
+pub returns-clause-words : goal.returns-clause-words
+returns-clause-words c = repainted_words

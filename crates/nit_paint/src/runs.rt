@@ -1,0 +1,66 @@
+//! Pixels that stand side by side.
+
+ghost use Rattle.std.specs.Prelude.{◌≡◌, ℕ, ◌+◌, ◌^◌, ◌<◌, ◌≤◌, length, IfSome, Some};
+ghost use Rattle.nit_word.specs.Sight.{Sight};
+ghost use Rattle.nit_stack.specs.Sources.{PixelSource, Word};
+ghost use Rattle.nit_paint.specs.Painting.{Repainted, with_glass};
+ghost use Rattle.nit_paint.specs.Runs.{in_run, long, own_word, row_source};
+
+use crate::reach::Reach;
+use nit_word::Glass;
+
+/// The word of a pixel that its view shows, but its buffer does not reach.
+const BLACK: u32 = 0;
+
+/// Gives `count` pixels from `at` on one word, for which nothing is loaded.
+pub(crate) fn fill_run(raw: &mut [u32], at: usize, count: u32, word: u32)
+    requires { at + count ≤ length raw.old }
+    ensures painted { (source : ℕ → PixelSource) (glasses : ℕ → Sight) → ((j : ℕ) → j < count → own_word (source (at + j)) ≡ Some word)
+        → Repainted source (in_run at count) (length raw.old) glasses glasses raw.old raw.new }
+{
+    'pixels: for j in 0..count as usize {
+        raw[at + j] = word;
+    }
+}
+
+/// Loads each of `count` pixels from `at` on once, from the word `from` on.
+fn load_run<G: Glass>(raw: &mut [u32], at: usize, count: u32, glass: &mut G, from: u32)
+    requires pixels { at + count ≤ length raw.old }
+    requires words { from + count ≤ (G.sight glass.old).size }
+    ensures painted { (source : ℕ → PixelSource) (sid : ℕ) (others : ℕ → Sight) → ((j : ℕ) → j < count → source (at + j) ≡ Word sid (from + j))
+        → Repainted source (in_run at count) (length raw.old) (with_glass others sid (G.sight glass.old)) (with_glass others sid (G.sight glass.new)) raw.old raw.new }
+    ensures size { (G.sight glass.new).size ≡ (G.sight glass.old).size }
+    ensures rest { G.rest glass.new ≡ G.rest glass.old }
+{
+    'pixels: for j in 0..count as usize {
+        raw[at + j] = glass.load(from as usize + j);
+    }
+}
+
+/// Paints the pixels of a row from `at` on. The words of the buffer's row begin at `start`; where the buffer
+/// has no such row all pixels are black.
+pub(crate) fn paint_row<G: Glass>(
+    raw: &mut [u32],
+    at: usize,
+    reach: &Reach,
+    start: Option<u32>,
+    glass: &mut G,
+)
+    requires pixels { at + long reach.now ≤ length raw.old }
+    requires words { IfSome start (λ s. s + (reach.now.from + reach.now.words) ≤ (G.sight glass.old).size) }
+    requires fits { IfSome start (λ s. s + (reach.now.from + reach.now.words) ≤ 2 ^ 24) }
+    ensures painted { (source : ℕ → PixelSource) (sid : ℕ) (others : ℕ → Sight) → ((j : ℕ) → j < long reach.now → source (at + j) ≡ row_source sid reach.now start j)
+        → Repainted source (in_run at (long reach.now)) (length raw.old) (with_glass others sid (G.sight glass.old)) (with_glass others sid (G.sight glass.new)) raw.old raw.new }
+    ensures size { (G.sight glass.new).size ≡ (G.sight glass.old).size }
+    ensures rest { G.rest glass.new ≡ G.rest glass.old }
+{
+    let Some(start) = start else {
+        fill_run(raw, at, reach.before + reach.words + reach.after, BLACK);
+        return;
+    };
+    let words = at + reach.before as usize;
+    let after = words + reach.words as usize;
+    fill_run(raw, at, reach.before, BLACK);
+    load_run(raw, words, reach.words, glass, start + reach.from);
+    fill_run(raw, after, reach.after, BLACK);
+}
