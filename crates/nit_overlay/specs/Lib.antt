@@ -1,3 +1,11 @@
 pub use Rattle.nit_word.specs.Channels
+pub use Rattle.nit_word.specs.Inks
 pub use Rattle.nit_stack.specs.Sources
 pub mod Shown
+pub mod Looks
+pub mod Rows
+pub mod Areas
+pub mod Stripes
+pub mod Owners
+pub mod Rules
+pub mod Spans

@@ -1,0 +1,17 @@
+use Rattle.std.proofs.Common.{◌≡◌, arith, ap}
+use Rattle.nit_overlay.specs.Looks.{scenery}
+use Rattle.nit_overlay.specs.Shown.{frame}
+use Rattle.nit_overlay.proofs.overlay.frame_into.Goals as goal
+use Rattle.nit_overlay.proofs.Frames.{is_frame, is_whole, frame_fits}
+
+pub returns-clause-frame : goal.returns-clause-frame
+returns-clause-frame c =
+    is_frame _ c.args.look.now c.args.raw.now c.args.out.now c.overlay_area.new.out c.overlay_area.ensures
+    (λ x y lt less. is_whole c.args.look.now.stack.now.width c.args.look.now.stack.now.height c.size-width.result.0 c.size-width.result.1 x y
+    (ap (λ size. size.0) c.size-width.ensures.size) (ap (λ size. size.1) c.size-width.ensures.size) lt less)
+    (omega arith)
+
+pub returns-clause-words : goal.returns-clause-words
+returns-clause-words c =
+    let is : c.overlay_area.new.out ≡ frame (scenery c.args.look.now) c.args.raw.now = returns-clause-frame c in
+    rw is (frame_fits (scenery c.args.look.now) c.args.raw.now c.requires.raw c.requires.words)

@@ -1,0 +1,8 @@
+use Rattle.nit_stack.specs.Sources.{pixel}
+use Rattle.nit_overlay.specs.Looks.{scenery}
+use Rattle.nit_overlay.specs.Shown.{shown}
+use Rattle.nit_overlay.proofs.Areas.{RowsSoFar}
+use Rattle.nit_overlay.proofs.overlay.overlay_area.Given as goal
+
+abbrev pub invariant-rows : goal.invariant-rows
+invariant-rows l = RowsSoFar (λ k w. shown (scenery l.look) (pixel l.width k) w) l.area l.width l.raw l.initial.out l.out l.y

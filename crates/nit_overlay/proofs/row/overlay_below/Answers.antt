@@ -1,0 +1,17 @@
+use Rattle.std.proofs.Common.{ap, sym, arith, ◌∙◌}
+use Rattle.nit_stack.specs.Sources.{point, owner}
+use Rattle.nit_overlay.specs.Looks.{scenery}
+use Rattle.nit_overlay.specs.Shown.{shown, bar_word, owner_word}
+use Rattle.nit_overlay.proofs.row.overlay_below.Goals as goal
+use Rattle.nit_overlay.proofs.Painting.{further, painted_by}
+use Rattle.nit_overlay.proofs.Runs.{below_bar}
+
+pub pieces-preserved : goal.pieces-preserved
+pieces-preserved c =
+    let s = scenery c.args.look.now in
+    let y = c.args.y in
+    further (λ x w. shown s (point x y) w) c.args.raw.now c.args.out.now c.pieces.out c.overlay_owned.new.out c.args.from c.args.to c.pieces.x c.piece_at-piece.result.end
+    c.pieces.invariant (omega arith) (omega arith)
+    (painted_by _ _ c.args.raw.now c.pieces.out c.overlay_owned.new.out c.pieces.x c.piece_at-piece.result.end
+    (λ k w le lt. ap (λ o. owner_word s (point k y) w o) (sym (c.piece_at-piece.ensures.owner k le lt))
+    ∙ sym (below_bar s.bar y k (bar_word s (point k y)) (owner_word s (point k y) w (owner s.bar s.stack (point k y))) c.requires.below)) c.overlay_owned.ensures)

@@ -1,0 +1,12 @@
+use Rattle.std.proofs.Common.{◌-◌}
+use Rattle.nit_stack.specs.Sources.{point}
+use Rattle.nit_overlay.specs.Looks.{scenery}
+use Rattle.nit_overlay.specs.Shown.{shown}
+use Rattle.nit_overlay.proofs.Painting.{RowSoFar}
+use Rattle.nit_overlay.proofs.row.overlay_below.Given as goal
+
+abbrev pub invariant-pieces : goal.invariant-pieces
+invariant-pieces l = RowSoFar (λ x w. shown (scenery l.look) (point x l.y) w) l.raw l.initial.out l.out l.from l.to l.x
+
+abbrev pub decreases-pieces : goal.decreases-pieces
+decreases-pieces l = l.to - l.x

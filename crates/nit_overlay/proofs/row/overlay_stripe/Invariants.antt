@@ -1,0 +1,11 @@
+use Rattle.std.proofs.Common.{◌-◌}
+use Rattle.nit_overlay.specs.Rules.{word_by}
+use Rattle.nit_overlay.specs.Stripes.{stripe_rule}
+use Rattle.nit_overlay.proofs.Painting.{RowSoFar}
+use Rattle.nit_overlay.proofs.row.overlay_stripe.Given as goal
+
+abbrev pub invariant-runs : goal.invariant-runs
+invariant-runs l = RowSoFar (λ x w. word_by (stripe_rule l.stripe x) x l.y w) l.raw l.initial.out l.out l.from l.to l.x
+
+abbrev pub decreases-runs : goal.decreases-runs
+decreases-runs l = l.to - l.x

@@ -1,0 +1,81 @@
+//! Who owns the pixels of a row.
+
+ghost use Rattle.std.specs.Prelude.{◌≡◌, ℕ, ◌<◌, ◌≤◌, false, pos, length, option_map, slice_get, Some, IfSome};
+ghost use Rattle.nit_stack.specs.Standing.{IsStanding};
+ghost use Rattle.nit_stack.specs.Sources.{in_bar, owner, point};
+ghost use Rattle.nit_stack.specs.Names.{views_of};
+ghost use Rattle.nit_overlay.specs.Looks.{IsLook, scenery};
+ghost use Rattle.nit_overlay.specs.Owners.{IsOwner};
+
+use crate::look::Look;
+use crate::span::reach;
+use nit_events::Mode;
+use nit_rect::Point;
+use nit_stack::{Stack, View, ViewRef};
+
+/// The view that owns a pixel, and the place of its label where labels are drawn.
+#[derive(Clone, Copy)]
+pub(crate) struct Owner {
+    pub view: View,
+    pub place: Option<Point>,
+}
+
+/// What pixels that follow one another in a row have in common: their owner, and the column behind the last.
+#[derive(Clone, Copy)]
+pub(crate) struct Piece {
+    pub owner: Option<Owner>,
+    pub end: u32,
+}
+
+/// The view at place `i` from the front, with its slot.
+fn view_at(stack: &Stack, i: u32) -> (ViewRef, View)
+    requires { i < length stack.now.views }
+    ensures place { slice_get stack.now.views i ≡ Some (record { slot = result.0.0; view = result.1 }) }
+    ensures standing { IsStanding stack.now }
+{
+    let v = stack.at(i);
+    (v, stack.view(v))
+}
+
+/// The view at place `i` from the front as an owner.
+fn owner_at(look: &Look, i: u32, v: ViewRef, view: View) -> Owner
+    requires look { IsLook look.now }
+    requires place { slice_get look.now.stack.now.views i ≡ Some (record { slot = v.0; view = view }) }
+    requires standing { IsStanding look.now.stack.now }
+    ensures view { result.view ≡ view }
+    ensures owner { IsOwner look.now result }
+{
+    let place = match look.mode {
+        Mode::Flat => None,
+        _ => look.places[v.0 as usize],
+    };
+    Owner { view, place }
+}
+
+/// The owner of the pixel in column x of the row y, which lies below the bar, and the column, at most `to`,
+/// up to which the pixels to the right have the same.
+pub(crate) fn piece_at(look: &Look, x: u32, y: u32, to: u32) -> Piece
+    requires look { IsLook look.now }
+    requires before { x < to }
+    requires across { to ≤ 1024 }
+    requires down { y ≤ 768 }
+    requires below { look.now.stack.now.bar ≤ y }
+    ensures after { x < result.end }
+    ensures within { result.end ≤ to }
+    ensures owner { (z : ℕ) → x ≤ z → z < result.end → owner look.now.stack.now.bar (views_of look.now.stack.now.views) (point z y) ≡ option_map (λ o. o.view) result.owner }
+    ensures placed { IfSome result.owner (IsOwner look.now) }
+{
+    let mut end = to;
+    'views: for i in 0..look.stack.len() {
+        let (v, view) = view_at(look.stack, i);
+        let (covered, last) = reach(&view.rect, x, y, end);
+        if covered {
+            return Piece {
+                owner: Some(owner_at(look, i, v, view)),
+                end: last,
+            };
+        }
+        end = last;
+    }
+    Piece { owner: None, end }
+}

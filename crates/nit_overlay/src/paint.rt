@@ -1,0 +1,81 @@
+//! A run of pixels that have one rule.
+
+ghost use Rattle.std.specs.Prelude.{◌≡◌, ℕ, ◌+◌, ◌<◌, ◌≤◌, length, slice_index, All};
+ghost use Rattle.nit_word.specs.Inks.{IsWord};
+ghost use Rattle.nit_overlay.specs.Rows.{IsPainted};
+ghost use Rattle.nit_overlay.specs.Rules.{word_by, IsInTag, IsTagged};
+
+use nit_glyph::{LabelText, label_bit};
+use nit_word::{dim_row, tint_row};
+
+/// A text on the screen, whose picture has its first pixel in this column and row.
+#[derive(Clone, Copy)]
+pub(crate) struct Tag {
+    pub text: LabelText,
+    pub left: u32,
+    pub top: u32,
+}
+
+/// How a pixel is painted.
+#[derive(Clone, Copy)]
+pub(crate) enum Rule {
+    /// With this word.
+    Fill(u32),
+    /// With its raw word.
+    Raw,
+    /// With its raw word, dimmed.
+    Dim,
+    /// With its raw word, tinted.
+    Tint,
+    /// With a dot of a text's picture or the black of its ground.
+    Text(Tag),
+}
+
+/// Paints the pixels of the row y from the column `from` to before `to` by the rule.
+pub(crate) fn paint_part(rule: Rule, raw: &[u32], out: &mut [u32], from: u32, to: u32, y: u32)
+    requires same_length { length out.old ≡ length raw.now }
+    requires words { All IsWord raw.now }
+    requires in_order { from ≤ to }
+    requires within { to ≤ length raw.now }
+    requires across { to ≤ 1024 }
+    requires tagged { IsTagged rule from to y }
+    ensures { IsPainted (λ x w. word_by rule x y w) raw.now out.old out.new from to }
+{
+    let (start, end) = (from as usize, to as usize);
+    paint(rule, &raw[start..end], &mut out[start..end], from, y);
+}
+
+/// Paints `out`, which are pixels of the row y from the column x on, by the rule.
+fn paint(rule: Rule, raw: &[u32], out: &mut [u32], x: u32, y: u32)
+    requires same_length { length out.old ≡ length raw.now }
+    requires words { All IsWord raw.now }
+    requires tagged { IsTagged rule x (x + length raw.now) y }
+    requires across { x + length raw.now ≤ 1024 }
+    ensures { (k : ℕ) → k < length raw.now → slice_index out.new k ≡ word_by rule (x + k) y (slice_index raw.now k) }
+{
+    match rule {
+        Rule::Fill(word) => out.fill(word),
+        Rule::Raw => out.copy_from_slice(raw),
+        Rule::Dim => {
+            out.copy_from_slice(raw);
+            dim_row(out);
+        }
+        Rule::Tint => {
+            out.copy_from_slice(raw);
+            tint_row(out);
+        }
+        Rule::Text(tag) => paint_text(&tag, out, x, y),
+    }
+}
+
+/// Paints `out`, which are pixels of the row y from the column x on, all in the picture of the text.
+fn paint_text(tag: &Tag, out: &mut [u32], x: u32, y: u32)
+    requires tagged { IsInTag tag.now x (x + length out.old) y }
+    requires across { x + length out.old ≤ 1024 }
+    ensures { (k : ℕ) → k < length out.old → slice_index out.new k ≡ word_by (Rule.Text tag.now) (x + k) y 0 }
+{
+    'dots: for (k, word) in out.iter_mut().enumerate() {
+        let dot = label_bit(&tag.text, x + k as u32 - tag.left, y - tag.top);
+        *word = if dot { 0xFFFFFF } else { 0 };
+    }
+}

@@ -1,0 +1,105 @@
+//! Columns or rows of a rectangle, counted so that none is below 0.
+
+ghost use Rattle.std.specs.Prelude.{◌≡◌, ℕ, ◌+◌, ◌<◌, ◌≤◌, ◌==◌, pos, negsuc, ◌+ℤ◌, ◌-ℤ◌, ◌≤ℤ◌};
+ghost use Rattle.std.specs.Ordering.{int_eq};
+ghost use Rattle.nit_rect.specs.Rectangle.{IsPlace, spans, covers};
+ghost use Rattle.nit_stack.specs.Sources.{point};
+ghost use Rattle.nit_overlay.specs.Spans.{moved_of, has, has_at_end};
+
+use nit_rect::Rect;
+
+/// How far columns and rows are moved, so that those left of the screen and above it count from 0 on.
+pub(crate) const SHIFT: u32 = 32768;
+
+/// The columns or rows of a rectangle from `from` to before `to`, each moved by 32768.
+#[derive(Clone, Copy)]
+pub(crate) struct Span {
+    pub from: u32,
+    pub to: u32,
+}
+
+impl Span {
+    /// Whether this column or row of the screen is one of them.
+    fn has(&self, at: u32) -> bool
+        requires { at ≤ 1024 }
+        ensures { result ≡ has self.now at }
+    {
+        self.from <= at + SHIFT && at + SHIFT < self.to
+    }
+
+    /// Whether this column or row of the screen is the first or the last one.
+    pub fn has_at_end(&self, at: u32) -> bool
+        requires { at ≤ 1024 }
+        ensures { result ≡ has_at_end self.now at }
+    {
+        at + SHIFT == self.from || at + SHIFT + 1 == self.to
+    }
+}
+
+fn moved(z: i32) -> u32
+    requires from { negsuc 32767 ≤ℤ z }
+    requires to { z ≤ℤ pos 65535 }
+    ensures { result ≡ moved_of z }
+{
+    (z + 32768) as u32
+}
+
+fn moved_ends(from: i32, long: u32) -> Span
+    requires place { IsPlace from }
+    requires length { long ≤ 32767 }
+    ensures from { result.from ≡ moved_of from }
+    ensures to { result.to ≡ moved_of (from +ℤ pos long) }
+{
+    Span {
+        from: moved(from),
+        to: moved(from + long as i32),
+    }
+}
+
+/// The `long` places from `from` on.
+pub(crate) fn span_of(from: i32, long: u32) -> Span
+    requires place { IsPlace from }
+    requires length { long ≤ 32767 }
+    ensures within { (at : ℕ) → has result at ≡ spans from long (pos at) }
+    ensures first { (at : ℕ) → ((at + 32768) == result.from) ≡ int_eq (pos at) from }
+    ensures last { (at : ℕ) → ((at + 32769) == result.to) ≡ int_eq (pos at) ((from +ℤ pos long) -ℤ pos 1) }
+{
+    moved_ends(from, long)
+}
+
+/// The cut, a moved column, as a column of the screen where it lies between x and `to`, and `to` elsewhere.
+pub(crate) fn up_to(x: u32, to: u32, cut: u32) -> u32
+    requires before { x < to }
+    requires across { to ≤ 1024 }
+    ensures after { x < result }
+    ensures within { result ≤ to }
+    ensures uncut { x + 32768 < cut → result + 32768 ≤ cut }
+{
+    if x + SHIFT < cut && cut < to + SHIFT {
+        cut - SHIFT
+    } else {
+        to
+    }
+}
+
+/// Whether a rectangle covers a pixel, and the column, at most `to`, up to which the same holds of the pixels
+/// to the right.
+pub(crate) fn reach(rect: &Rect, x: u32, y: u32, to: u32) -> (bool, u32)
+    requires before { x < to }
+    requires across { to ≤ 1024 }
+    requires down { y ≤ 768 }
+    ensures after { x < result.1 }
+    ensures within { result.1 ≤ to }
+    ensures same { (z : ℕ) → x ≤ z → z < result.1 → covers rect.now (point z y) ≡ result.0 }
+{
+    let rows = span_of(rect.y(), rect.h());
+    if !rows.has(y) {
+        return (false, to);
+    }
+    let columns = span_of(rect.x(), rect.w());
+    if columns.has(x) {
+        (true, up_to(x, to, columns.to))
+    } else {
+        (false, up_to(x, to, columns.from))
+    }
+}

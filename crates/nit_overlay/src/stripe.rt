@@ -1,0 +1,197 @@
+//! A row of a view.
+
+ghost use Rattle.std.specs.Prelude.{◌≡◌, ℕ, ◌+◌, ◌<◌, ◌≤◌, ◌||◌, ◌==◌, true, false, length, Option, Some, None, IfSome};
+ghost use Rattle.nit_glyph.specs.Pictures.{picture_width, picture_height};
+ghost use Rattle.nit_events.specs.Input.{is_same};
+ghost use Rattle.nit_stack.specs.Sources.{point};
+ghost use Rattle.nit_overlay.specs.declared.paint.Rule.{Rule};
+ghost use Rattle.nit_overlay.specs.Looks.{IsLook, draws_labels, scenery};
+ghost use Rattle.nit_overlay.specs.Owners.{IsOwner};
+ghost use Rattle.nit_overlay.specs.Rules.{word_by, IsTagged};
+ghost use Rattle.nit_overlay.specs.Shown.{by_label, place_of, view_text, view_word, is_on_ring};
+ghost use Rattle.nit_overlay.specs.Spans.{has_at_end};
+ghost use Rattle.nit_overlay.specs.Stripes.{IsMet, in_tag, mode_rule, stripe_rule, tag_rule};
+
+use crate::look::Look;
+use crate::owner::Owner;
+use crate::paint::{Rule, Tag};
+use crate::span::{SHIFT, Span, span_of, up_to};
+use nit_events::Mode;
+use nit_glyph::{LabelText, label_size, label_text};
+use nit_rect::Rect;
+
+const WHITE: u32 = 0xFFFFFF;
+
+const GREY: u32 = 0x808080;
+
+const RED: u32 = 0xFF0000;
+
+/// What a row of a view is painted by.
+#[derive(Clone, Copy)]
+pub(crate) struct Stripe {
+    pub mode: Mode,
+    /// Whether the view's session has the focus.
+    pub focused: bool,
+    /// Whether the row is the first or the last one of the view.
+    pub edge: bool,
+    /// The columns of the view.
+    pub columns: Span,
+    /// The label of the view, where the row meets it.
+    pub tag: Option<Tag>,
+}
+
+/// Pixels that follow one another in a row and have one rule, up to before the column `end`.
+#[derive(Clone, Copy)]
+pub(crate) struct Run {
+    pub rule: Rule,
+    pub end: u32,
+}
+
+fn draws_labels(mode: Mode) -> bool
+    ensures { result ≡ draws_labels mode }
+{
+    match mode {
+        Mode::Flat => false,
+        _ => true,
+    }
+}
+
+fn is_focused(focus: Option<u32>, sid: u32) -> bool
+    ensures { result ≡ is_same focus (Some sid) }
+{
+    match focus {
+        Some(session) => session == sid,
+        None => false,
+    }
+}
+
+/// The number of columns of the picture of a text.
+pub(crate) fn width_of(text: &LabelText) -> u32
+    ensures width { result ≡ picture_width (length text.now) }
+    ensures short { result ≤ 133 }
+{
+    label_size(text.as_bytes().len() as u32).0
+}
+
+/// The label of a view, where labels are drawn and the row y meets it.
+fn tag_at(look: &Look, owner: &Owner, y: u32) -> Option<Tag>
+    requires owner { IsOwner look.now owner.now }
+    ensures undrawn { draws_labels look.now.mode ≡ false → result ≡ None }
+    ensures drawn { draws_labels look.now.mode ≡ true → (rule : Rule) (x w : ℕ) → word_by (tag_rule result x rule) x y w
+        ≡ by_label (view_text (scenery look.now) owner.now.view) (place_of (scenery look.now) owner.now.view) (point x y) (word_by rule x y w) }
+    ensures met { IfSome result (IsMet y) }
+{
+    if !draws_labels(look.mode) {
+        return None;
+    }
+    let place = owner.place?;
+    let (left, top) = (place.x as u32, place.y as u32);
+    if y < top || top + 7 <= y {
+        return None;
+    }
+    let label = &look.labels[owner.view.sid as usize];
+    let text = label_text(label, &owner.view.title);
+    Some(Tag { text, left, top })
+}
+
+/// Whether a row is the first or the last one of a rectangle, and the rectangle's columns.
+fn ring_at(rect: &Rect, y: u32) -> (bool, Span)
+    requires { y ≤ 768 }
+    ensures { (x : ℕ) → (has_at_end result.1 x || result.0) ≡ is_on_ring rect.now (point x y) }
+{
+    let rows = span_of(rect.y(), rect.h());
+    let columns = span_of(rect.x(), rect.w());
+    (rows.has_at_end(y), columns)
+}
+
+/// The row y of a view.
+pub(crate) fn stripe_at(look: &Look, owner: &Owner, y: u32) -> Stripe
+    requires owner { IsOwner look.now owner.now }
+    requires down { y ≤ 768 }
+    ensures words { (x w : ℕ) → word_by (stripe_rule result x) x y w
+        ≡ view_word look.now.mode (scenery look.now) owner.now.view (point x y) w }
+    ensures met { IfSome result.tag (IsMet y) }
+{
+    let (edge, columns) = ring_at(&owner.view.rect, y);
+    Stripe {
+        mode: look.mode,
+        focused: is_focused(look.focus, owner.view.sid),
+        edge,
+        columns,
+        tag: tag_at(look, owner, y),
+    }
+}
+
+/// The rule of a mode outside the label.
+fn mode_rule(mode: Mode, is_ring: bool, is_focused: bool) -> Rule
+    ensures { result ≡ mode_rule mode is_ring is_focused }
+{
+    match (mode, is_ring, is_focused) {
+        (Mode::Flat, _, _) => Rule::Raw,
+        (Mode::Xray, true, true) => Rule::Fill(WHITE),
+        (Mode::Xray, true, false) => Rule::Fill(GREY),
+        (Mode::Xray, false, true) => Rule::Raw,
+        (Mode::Xray, false, false) => Rule::Dim,
+        (Mode::Kill, true, _) => Rule::Fill(RED),
+        (Mode::Kill, false, _) => Rule::Tint,
+    }
+}
+
+/// The column, at most `to`, up to which the pixels from x on lie on the sides of the view as the pixel in
+/// column x does.
+fn side_end(columns: Span, x: u32, to: u32) -> u32
+    requires before { x < to }
+    requires across { to ≤ 1024 }
+    ensures after { x < result }
+    ensures within { result ≤ to }
+    ensures same { (z : ℕ) → x ≤ z → z < result → has_at_end columns z ≡ has_at_end columns x }
+{
+    if columns.has_at_end(x) {
+        return x + 1;
+    }
+    let end = up_to(x, to, columns.from);
+    up_to(x, end, columns.to.saturating_sub(1))
+}
+
+/// The rule of the pixel in column x outside the label, and how far to the right it is the rule.
+fn run_outside(stripe: &Stripe, x: u32, to: u32) -> Run
+    requires before { x < to }
+    requires across { to ≤ 1024 }
+    ensures after { x < result.end }
+    ensures within { result.end ≤ to }
+    ensures same { (z : ℕ) → x ≤ z → z < result.end
+        → mode_rule stripe.now.mode (has_at_end stripe.now.columns z || stripe.now.edge) stripe.now.focused ≡ result.rule }
+{
+    let is_ring = stripe.edge || stripe.columns.has_at_end(x);
+    let rule = mode_rule(stripe.mode, is_ring, stripe.focused);
+    let end = if stripe.edge {
+        to
+    } else {
+        side_end(stripe.columns, x, to)
+    };
+    Run { rule, end }
+}
+
+/// The rule of the pixel in column x of the row y, and how far to the right it is the rule.
+pub(crate) fn run_at(stripe: &Stripe, x: u32, y: u32, to: u32) -> Run
+    requires before { x < to }
+    requires across { to ≤ 1024 }
+    requires met { IfSome stripe.now.tag (IsMet y) }
+    ensures after { x < result.end }
+    ensures within { result.end ≤ to }
+    ensures same { (z : ℕ) → x ≤ z → z < result.end → stripe_rule stripe.now z ≡ result.rule }
+    ensures tagged { IsTagged result.rule x result.end y }
+{
+    let Some(tag) = stripe.tag else {
+        return run_outside(stripe, x, to);
+    };
+    let right = tag.left + width_of(&tag.text);
+    if tag.left <= x && x < right {
+        return Run {
+            rule: Rule::Text(tag),
+            end: up_to(x, to, right + SHIFT),
+        };
+    }
+    let end = up_to(x, to, tag.left + SHIFT);
+    run_outside(stripe, x, end)
+}
