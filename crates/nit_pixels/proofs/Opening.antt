@@ -1,0 +1,29 @@
+-- The seat of a table that was just made.
+use Rattle.std.proofs.Common.{◌≡◌, ◌∙◌, ℕ, ◌<◌, [], length, Some, ap, sym, subst}
+use Rattle.std.specs.Option.{option_map}
+use Rattle.std.proofs.lemmas.List.{length-replicate}
+use Rattle.nit_pixels.specs.declared.steps.Identity.{Identity}
+use Rattle.nit_pixels.specs.Ends.{new_sight, zeros}
+use Rattle.nit_pixels.specs.Seats.{PixelSeat, sight_of, IsOwners}
+use Rattle.nit_pixels.specs.Steps.{owner_view}
+
+pub length-zeros : (n : ℕ) → length (zeros n) ≡ n
+unfolding zeros
+length-zeros n = length-replicate n 0
+
+pub first_sight : (identity : Identity) (s : PixelSeat) → s.table_id.words ≡ identity.words → s.me ≡ (owner_view identity, [])
+    → sight_of s ≡ new_sight identity.owner identity.words identity.ink.items
+first_sight identity s size me = λ i. record {
+  owner = (me i).0.owner;
+  size = size i;
+  ink = (me i).0.ink;
+  words = (me i).0.words;
+  log = Some (me i).0.log;
+}
+
+pub first_owns : (identity : Identity) (s : PixelSeat) → s.table_id.words ≡ identity.words → s.me ≡ (owner_view identity, []) → 0 < identity.words → IsOwners s
+first_owns identity s size me some = (
+  subst (λ (n : ℕ). 0 < n) (sym size) some,
+  ap (λ m. option_map (λ words. length words) m.0.words) me ∙ ap (λ (n : ℕ). Some n) (length-zeros identity.words ∙ sym size),
+  ap (λ m. m.1) me,
+)

@@ -1,0 +1,9 @@
+use Rattle.std.proofs.Common.{rules, sym, subst}
+use Rattle.nit_word.specs.Inks.{IsInked}
+use Rattle.nit_pixels.specs.Ends.{End}
+use Rattle.nit_pixels.proofs.Keeps.{stores_keep, tells_words}
+use Rattle.nit_pixels.proofs.canvas.Canvas.store.Goals as goal
+
+pub store-requires : goal.store-requires
+store-requires c =
+    (search rules, search rules, stores_keep _ _ _ _ _ _ (tells_words _ _ c.self.invariant.0.1) (subst (λ (e : End). IsInked e.sight.ink c.args.w) (sym c.self.view_is) c.requires.word))

@@ -1,0 +1,6 @@
+use Rattle.std.proofs.Common.{rules}
+use Rattle.nit_pixels.proofs.Keeps.{loads_keep}
+use Rattle.nit_pixels.proofs.lens.LensGlass.load.Goals as goal
+
+pub load-requires : goal.load-requires
+load-requires c = (search rules, search rules, loads_keep _ _ _ _ _)

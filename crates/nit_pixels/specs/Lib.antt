@@ -1,0 +1,5 @@
+pub use Rattle.nit_word.specs.Inks
+pub use Rattle.nit_word.specs.Sight
+pub mod Ends
+pub mod Seats
+pub mod Steps

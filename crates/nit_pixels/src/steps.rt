@@ -1,0 +1,70 @@
+//! The rule of the words, and each kind of step on them.
+use atomic_table::{Play, Shared, Split, TableRule};
+use std::collections::LinkedList;
+
+/// The words as threads see them.
+pub(crate) type Words = Shared<(), PixelView, Identity, PixelRule>;
+
+/// What an end knows. No value of it is made.
+pub struct PixelView {
+    /// The number of the owner.
+    pub owner: u32,
+    /// The words that may be stored besides 0.
+    pub ink: LinkedList<u32>,
+    /// The words, in the owner's view alone.
+    pub words: Option<LinkedList<u32>>,
+    /// The place and the word of each load, oldest first.
+    pub log: LinkedList<(usize, u32)>,
+}
+
+/// What is fixed when the words are made.
+#[derive(Drop)]
+pub struct Identity {
+    /// The number of the owner.
+    pub owner: u32,
+    /// How many words there are.
+    pub words: usize,
+    /// The words that may be stored besides 0.
+    pub ink: Vec<u32>,
+}
+
+/// Each word is 0 or in the ink, all views have one owner and one ink, and the one view that tells words
+/// tells those of the table. The first view is the owner's.
+pub struct PixelRule;
+
+impl TableRule<(), PixelView, Identity> for PixelRule {
+    ghost use Rattle.nit_pixels.specs.Steps.{IsRuled, owner_view};
+
+    ghost holds = { IsRuled };
+
+    ghost first = { owner_view };
+}
+
+/// A load, of the owner or of a reader: it is logged, and the owner finds the word that it knows.
+pub(crate) struct Loads;
+
+impl Play<(), PixelView> for Loads {
+    ghost use Rattle.nit_pixels.specs.Steps.{Loaded};
+
+    ghost then = { Loaded };
+}
+
+/// A store of the owner.
+pub(crate) struct Stores;
+
+impl Play<(), PixelView> for Stores {
+    ghost use Rattle.nit_pixels.specs.Steps.{Stored};
+
+    ghost then = { Stored };
+}
+
+/// A reader's view is split off the owner's, which stays.
+pub(crate) struct SplitsOff;
+
+impl Split<PixelView> for SplitsOff {
+    ghost use Rattle.nit_pixels.specs.Steps.{reader_view};
+
+    ghost left = { λ view. view };
+
+    ghost right = { reader_view };
+}
