@@ -1,0 +1,3 @@
+pub mod Counts
+pub mod Fronts
+pub mod Moves

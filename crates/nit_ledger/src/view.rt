@@ -1,0 +1,41 @@
+//! What a book and its shares know, and the rule that holds of all of them.
+use atomic_table::{Table, TableRule};
+use nit_events::Entry;
+use std::alloc::Global;
+use std::collections::LinkedList;
+
+/// The table of a book: one word, which never changes, and a view for the book and for each share.
+pub(crate) type Pages = Table<(), BookView, (), BookRule, Global>;
+
+/// What a share knows. No value of it is made.
+pub struct Token {
+    /// Which share of the book it is.
+    pub number: u64,
+    /// How often it has counted.
+    pub count: u64,
+    /// The entries that the book had when the share last met it.
+    pub seen: LinkedList<Entry>,
+}
+
+/// What a seat of the book's table knows. No value of it is made.
+pub enum BookView {
+    /// The book: its entries, the count of each share, and the share that is taken in.
+    OfBook(LinkedList<Entry>, LinkedList<u64>, Option<Token>),
+    /// A share.
+    OfShare(Token),
+    /// Nothing: the share that it knew was taken in.
+    Spent,
+}
+
+/// There is one view of the book. Each number below the number of its counts is held by one view, and a
+/// share is in step with the book. At the beginning there is no entry and no count.
+pub struct BookRule;
+
+impl TableRule<(), BookView, ()> for BookRule {
+    ghost use Rattle.std.specs.Prelude.{[]};
+    ghost use Rattle.nit_ledger.specs.Views.{IsKept, resting};
+
+    ghost holds = { λ _. IsKept };
+
+    ghost first = { λ _. resting [] [] };
+}
