@@ -1,8 +1,11 @@
 pub mod Donations
 pub mod Inks
+pub mod Lines
+pub mod Machines
 pub mod Paintings
 pub mod Places
 pub mod Rows
 pub mod Sights
+pub mod Steps
 pub mod Words
 pub mod Zeros
