@@ -1,0 +1,12 @@
+use Rattle.std.proofs.Common.{◌∙◌}
+use Rattle.nit_scene.proofs.OneView.{there, titled}
+use Rattle.nit_scene.proofs.server.Server.title.Goals as goal
+
+pub title-requires : goal.title-requires
+title-requires c = there _ _ _ _ _ c.self.invariant c.self.view_is _ _ _ c.slot-v.ensures
+
+pub invariant_of-self : goal.invariant_of-self
+invariant_of-self c = (titled _ _ _ _ _ c.self.invariant c.self.view_is _ _ _ c.slot-v.ensures _ _ _ c.requires.accepted (c.in-Some.ensures.bytes ∙ c.as_bytes.ensures.value) c.title.ensures).server
+
+pub returns : goal.returns
+returns c = (titled _ _ _ _ _ c.self.invariant c.self.view_is _ _ _ c.slot-v.ensures _ _ _ c.requires.accepted (c.in-Some.ensures.bytes ∙ c.as_bytes.ensures.value) c.title.ensures).served

@@ -1,0 +1,17 @@
+pub use Rattle.nit_word.specs.Sight
+pub use Rattle.nit_paint.specs.Painting
+pub use Rattle.nit_stack.specs.Standing
+pub use Rattle.nit_journal.specs.Session
+pub use Rattle.nit_journal.specs.State
+pub use Rattle.nit_journal.specs.Journals
+pub mod Dirty
+pub mod Painted
+pub mod Named
+pub mod Membership
+pub mod Marks
+pub mod Serving
+pub mod Marking
+pub mod Showing
+pub mod Played
+pub mod Seating
+pub mod Opened
