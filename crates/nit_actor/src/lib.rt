@@ -1,6 +1,22 @@
 //! What each actor of a run does, line by line, and the gate that it passes before each line.
+//!
+//! The actors are the clients, in order, and then the user. Where one thread does what all of them do, it
+//! goes by rounds: in each round every actor does its next line, unless it has ended its phase. The line
+//! `phase` is an actor's line of its round. A new phase begins with the round after the one in which the
+//! last actor ended the old one; until then the actors that ended theirs do nothing. A script of which
+//! no line is left has ended its last phase.
+//!
+//! [`Turns`] gives these lines one by one, and takes no memory. The [`laws`] say what rounds are: each
+//! line of every script stands in them once, an actor that does a line has done exactly those before it,
+//! and a journal with the entries of the rounds is whole.
 #![tactic(auto)]
 
 mod gate;
+pub mod laws;
+mod places;
+mod turn;
+mod turns;
 
 pub use gate::{Gate, Open};
+pub use turn::Turn;
+pub use turns::Turns;

@@ -1,0 +1,13 @@
+pub mod Advancing
+pub mod Alone
+pub mod Beginning
+pub mod Counts
+pub mod Lines
+pub mod Rising
+pub mod Rows
+pub mod Scripts
+pub mod Standing
+pub mod Telling
+pub mod Turning
+pub mod Walks
+pub mod Whole

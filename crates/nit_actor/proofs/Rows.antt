@@ -1,0 +1,69 @@
+-- Worked rows of rounds, computed from the definitions.
+use Rattle.std.proofs.Common.{◌≡◌, List, [], ◌∷◌, refl, pos, map}
+use Rattle.nit_events.specs.declared.call.Call.TheVariants.{Buffer, View, Place}
+use Rattle.nit_events.specs.declared.device.Device.TheVariants.{Motion}
+use Rattle.nit_script.specs.declared.line.Stroke.TheVariants.{Fill}
+use Rattle.nit_script.specs.declared.line.Line.{Line}
+use Rattle.nit_script.specs.declared.line.Line.TheVariants as line
+use Rattle.nit_script.specs.declared.line.InputLine.{InputLine}
+use Rattle.nit_script.specs.declared.line.InputLine.TheVariants as input
+use Rattle.nit_journal.specs.Whole.{Does, Shoots}
+use Rattle.nit_actor.specs.declared.turn.Turn.TheVariants.{Client, User}
+use Rattle.nit_actor.specs.Rounds.{rounds}
+use Rattle.nit_actor.specs.Done.{Calls, Acts, acts}
+use Rattle.nit_actor.specs.Places.{turn_of}
+
+-- ---- one actor acts in each phase
+
+first_script : List Line
+first_script = line.Call (Buffer 4 2) ∷ line.Stroke (Fill 0 0 4 2 0xFF0000) ∷ line.Call View ∷ line.Call (Place 1 (pos 0) (pos 0) 4 2) ∷ line.Phase ∷ line.Phase ∷ line.Phase ∷ []
+
+second_script : List Line
+second_script =
+    line.Phase ∷ line.Call (Buffer 4 2) ∷ line.Stroke (Fill 0 0 4 2 0xFF) ∷ line.Call View ∷ line.Call (Place 1 (pos 0) (pos 0) 4 2) ∷ line.Phase ∷ line.Phase
+    ∷ line.Call (Place 1 (pos 4) (pos 2) 4 2) ∷ []
+
+shot_script : List InputLine
+shot_script = input.Phase ∷ input.Phase ∷ input.Shot ∷ input.Phase ∷ []
+
+two_turns : map turn_of (rounds (first_script ∷ second_script ∷ []) shot_script)
+    ≡ Client 0 0 ∷ Client 1 0 ∷ User 0 ∷ Client 0 1 ∷ Client 0 2 ∷ Client 0 3 ∷ Client 0 4
+    ∷ Client 0 5 ∷ Client 1 1 ∷ User 1 ∷ Client 1 2 ∷ Client 1 3 ∷ Client 1 4 ∷ Client 1 5
+    ∷ Client 0 6 ∷ Client 1 6 ∷ User 2 ∷ User 3
+    ∷ Client 1 7 ∷ []
+unfolding first_script second_script shot_script
+two_turns = refl
+
+two_acts : acts (rounds (first_script ∷ second_script ∷ []) shot_script)
+    ≡ Calls 0 (Buffer 4 2) ∷ Calls 0 View ∷ Calls 0 (Place 1 (pos 0) (pos 0) 4 2)
+    ∷ Calls 1 (Buffer 4 2) ∷ Calls 1 View ∷ Calls 1 (Place 1 (pos 0) (pos 0) 4 2)
+    ∷ Acts Shoots ∷ Calls 1 (Place 1 (pos 4) (pos 2) 4 2) ∷ []
+unfolding first_script second_script shot_script
+two_acts = refl
+
+-- ---- phases of different lengths: those that end first wait for the last one
+
+long_first : List Line
+long_first = line.Call View ∷ line.Call View ∷ line.Phase ∷ line.Call View ∷ []
+
+long_second : List Line
+long_second = line.Phase ∷ line.Call View ∷ line.Call View ∷ line.Call View ∷ []
+
+one_motion : List InputLine
+one_motion = input.Phase ∷ input.Device (Motion 1 1) ∷ []
+
+waiting_turns : map turn_of (rounds (long_first ∷ long_second ∷ []) one_motion)
+    ≡ Client 0 0 ∷ Client 1 0 ∷ User 0 ∷ Client 0 1 ∷ Client 0 2
+    ∷ Client 0 3 ∷ Client 1 1 ∷ User 1 ∷ Client 1 2 ∷ Client 1 3 ∷ []
+unfolding long_first long_second one_motion
+waiting_turns = refl
+
+waiting_acts : acts (rounds (long_first ∷ long_second ∷ []) one_motion)
+    ≡ Calls 0 View ∷ Calls 0 View ∷ Calls 0 View ∷ Calls 1 View ∷ Acts (Does (Motion 1 1)) ∷ Calls 1 View ∷ Calls 1 View ∷ []
+unfolding long_first long_second one_motion
+waiting_acts = refl
+
+-- ---- no line at all
+
+nothing : rounds [] [] ≡ []
+nothing = refl
