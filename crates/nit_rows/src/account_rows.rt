@@ -14,6 +14,26 @@ fn views_of_a_small_donation(rt: HostRuntime) {
     assert_eq!(rt; account.views(), 2);
 }
 
+/// The views leave 16,384 units less than the whole donation, in which a buffer of the whole has no room.
+#[test]
+fn views_of_the_greatest_donation(rt: HostRuntime) {
+    let mut account = Account::new(8_388_608);
+    for views in 0..64 {
+        assert!(rt; account.views() == views);
+        assert_eq!(rt; account.try_view(), Ok(()), "at {views}");
+    }
+    assert_eq!(rt; account.views(), 64);
+    assert_eq!(rt;
+        account.try_buffer(4096, 256),
+        Err(Need {
+            need: 8_388_608,
+            left: 8_372_224
+        })
+    );
+    assert_eq!(rt; account.try_buffer(4096, 255), Ok(()));
+    assert_eq!(rt; account.words(), 1_044_480);
+}
+
 #[test]
 fn buffers_of_a_small_donation(rt: HostRuntime) {
     let mut account = Account::new(512);

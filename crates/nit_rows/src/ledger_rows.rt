@@ -1,0 +1,33 @@
+//! A book and two shares of it.
+
+use nit_events::{Call, Entry, Reply};
+use nit_ledger::Book;
+use std::test::Fail;
+
+#[test]
+fn two_shares_append_count_and_meet(rt: HostRuntime) -> Result<(), Fail> {
+    let mut book = Book::new(rt.alloc())?;
+    let mut first = book.share();
+    let mut second = book.share();
+    let viewed = Entry::Call {
+        sid: 0,
+        call: Call::View,
+        reply: Reply::Handle(0),
+    };
+    let closed = Entry::Call {
+        sid: 1,
+        call: Call::Close,
+        reply: Reply::Closed,
+    };
+    book.append(&mut first, &viewed);
+    book.append(&mut second, &closed);
+    book.count(&mut first);
+    book.append(&mut first, &Entry::Final);
+    book.meet(&mut second);
+    can_be_sent(&first);
+    can_be_sent(&book);
+    Ok(())
+}
+
+/// Compiles for what can be sent to another thread.
+fn can_be_sent<T: Send>(_value: &T) {}
