@@ -20,10 +20,11 @@ use Rattle.nit_config.specs.Configuration.{bar_rows}
 use Rattle.nit_journal.specs.Session.{opened, refusal}
 use Rattle.nit_journal.specs.State.{State, buffer_size, layer, session}
 use Rattle.nit_journal.specs.Views.{is_accepted}
+use Rattle.nit_paint.specs.Pieces as pieces
 use Rattle.nit_scene.specs.Dirty.{dirty_by_call, is_word_in, owns_either, session_owns, shows_part, view_owns}
 use Rattle.nit_scene.specs.declared.marks.Mark.{Mark}
 use Rattle.nit_scene.specs.declared.marks.Mark.TheVariants as mark
-use Rattle.nit_scene.specs.Marks.{is_meant, owner_passes, source_in, source_number}
+use Rattle.nit_scene.specs.Marks.{is_meant, owner_passes, source_in}
 use Rattle.nit_scene.specs.Marking.{IsMarkOf, IsMarkOfView}
 use Rattle.nit_scene.specs.Painted.{source_at}
 use Rattle.nit_scene.specs.Serving.{IsServed, IsServing, Serving, size_of_buffer, state_of}
@@ -41,7 +42,7 @@ size_at s h t = ap (λ z. size_of z t) h.sizes ∙ get_or-map size_of_buffer s.s
 source_same : (s : Serving) → IsServing s → (p : Point) → source_in s.stack p ≡ source (buffer_size s.sessions) (bar_rows s.config) (views_of s.stack.views) p
 source_same s h p = λ i. source (λ t. size_at s h t i) (h.screen.2 i) (views_of s.stack.views) p
 
-pub source_of_number : (s : Serving) → IsServing s → (k : ℕ) → source_number s.stack k ≡ source_at (state_of s) k
+pub source_of_number : (s : Serving) → IsServing s → (k : ℕ) → pieces.source_at s.stack k ≡ source_at (state_of s) k
 source_of_number s h k = source_same s h (pixel s.stack.width k) ∙ ap (λ w. source (buffer_size s.sessions) (bar_rows s.config) (views_of s.stack.views) (pixel w k)) h.screen.0
 
 view_meant : (s : Serving) → IsServing s → (k sid handle : ℕ) → MeanSame k sid handle s.stack.views → (p : Point) → owner_passes (is_slot k) s.stack p ≡ view_owns sid handle (state_of s) p

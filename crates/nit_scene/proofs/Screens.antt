@@ -16,9 +16,10 @@ use Rattle.nit_journal.specs.State.{State, session, session_in}
 use Rattle.nit_journal.specs.Views.{is_accepted}
 use Rattle.nit_paint.specs.Painting.{Repainted, no_sight}
 use Rattle.nit_paint.proofs.Repaints.{repainted_none, repainted_same}
+use Rattle.nit_paint.specs.Pieces as pieces
 use Rattle.nit_scene.specs.Dirty.{dirty, dirty_by_call}
 use Rattle.nit_scene.specs.declared.marks.Mark.{Mark}
-use Rattle.nit_scene.specs.Marks.{HoldBuffers, glasses_of_call, is_meant, mark_at, source_number}
+use Rattle.nit_scene.specs.Marks.{HoldBuffers, glasses_of_call, is_meant, mark_at}
 use Rattle.nit_scene.specs.Marking.{IsMarkOf}
 use Rattle.nit_scene.specs.Painted.{Painted, glass_in, pixel_count, source_at}
 use Rattle.nit_scene.specs.Serving.{IsServed, IsServing, Serving, size_of_buffer, state_of, table_words}
@@ -46,7 +47,7 @@ pub painted_by_marks : (before after' : Serving) (sid : ℕ) (call : Call) (r : 
     → n ≡ pixel_count (state_of before)
     → ((k : ℕ) → k < n → mark_at once k ≡ ((false && mark_at old k) || is_meant m before.stack (pixel before.stack.width k)))
     → ((k : ℕ) → k < n → mark_at twice k ≡ ((true && mark_at once k) || is_meant m after'.stack (pixel after'.stack.width k)))
-    → Repainted (source_number after'.stack) (mark_at twice) n glasses glasses' raw raw'
+    → Repainted (pieces.source_at after'.stack) (mark_at twice) n glasses glasses' raw raw'
     → Painted (state_of before) (entry.Call sid call r) (state_of after') glasses glasses' raw raw'
 painted_by_marks before after' sid call r m old once twice n glasses glasses' raw raw' hb ha none s is count first second painted =
     subst (λ (c : ℕ). Repainted (source_at (state_of after')) (λ k. dirty (state_of before) (entry.Call sid call r) (state_of after') (pixel before.config.width k)) c glasses glasses' raw raw') count
@@ -98,7 +99,7 @@ held_by_glasses before after' sights count sid own h config_ count_ tables own_ 
 
 -- all pixels loaded again are those of the last picture
 pub painted_whole : (s : Serving) (n : ℕ) (glasses glasses' : ℕ → Sight) (raw raw' : List ℕ) → IsServing s → n ≡ pixel_count (state_of s)
-    → Repainted (source_number s.stack) (λ k. true) n glasses glasses' raw raw' → Painted (state_of s) entry.Final (state_of s) glasses glasses' raw raw'
+    → Repainted (pieces.source_at s.stack) (λ k. true) n glasses glasses' raw raw' → Painted (state_of s) entry.Final (state_of s) glasses glasses' raw raw'
 painted_whole s n glasses glasses' raw raw' h count painted =
     subst (λ (c : ℕ). Repainted (source_at (state_of s)) (λ k. true) c glasses glasses' raw raw') count
     (repainted_same _ _ _ _ n glasses glasses glasses' glasses' raw raw' (λ k l. refl) (λ k l m. source_of_number s h k) (λ t. refl) (λ t. refl) painted)

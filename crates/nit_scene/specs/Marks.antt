@@ -3,7 +3,7 @@ use Rattle.std.specs.Prelude.{ℕ, ◌<◌, ◌≤◌, Bool, false, List, length
 use Rattle.std.specs.Option.{option_map_or}
 use Rattle.nit_rect.specs.declared.point.Point.{Point}
 use Rattle.nit_word.specs.Sight.{Sight}
-use Rattle.nit_stack.specs.Sources.{PixelSource, pixel, owner_in, source}
+use Rattle.nit_stack.specs.Sources.{PixelSource, owner_in, source}
 use Rattle.nit_stack.specs.Names.{views_of}
 use Rattle.nit_stack.specs.Standing.{Seat, Standing, is_of_session, is_slot, size_of}
 use Rattle.nit_stack.specs.Answers.{word_count}
@@ -19,10 +19,6 @@ owner_passes test s p = option_map_or test (owner_in (λ a. a.view) s.bar s.view
 -- where the word of a pixel of a stack comes from
 abbrev pub source_in : Standing → Point → PixelSource
 source_in s p = source (size_of s.sizes) s.bar (views_of s.views) p
-
--- the same, by the pixel's number
-abbrev pub source_number : Standing → ℕ → PixelSource
-source_number s k = source_in s (pixel s.width k)
 
 -- the pixel is one of those that are meant
 abbrev pub is_meant : Mark → Standing → Point → Bool

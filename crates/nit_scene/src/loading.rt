@@ -7,7 +7,8 @@ ghost use Rattle.nit_stack.specs.Standing.{IsOnScreen, has};
 ghost use Rattle.nit_paint.specs.Painting.{IsHeld, Repainted, loads_of, no_sight};
 ghost use Rattle.nit_scene.specs.Painted.{glass_in};
 ghost use Rattle.nit_scene.specs.Serving.{IsServing};
-ghost use Rattle.nit_scene.specs.Marks.{HoldBuffers, glasses_of_call, mark_at, source_in, source_number};
+ghost use Rattle.nit_paint.specs.Pieces.{source_at};
+ghost use Rattle.nit_scene.specs.Marks.{HoldBuffers, glasses_of_call, mark_at, source_in};
 
 use crate::marks::pixel;
 use crate::server::Server;
@@ -87,7 +88,7 @@ pub(crate) fn repaint<G: Glass, C: Glass>(
     requires pixels { length raw.old ≡ stack.now.width * stack.now.height }
     requires marks { length marks.now ≡ length raw.old }
     requires held { HoldBuffers stack.now (length glasses.old) (glasses_of_call (map G.sight glasses.old) sid (C.sight own.old)) }
-    ensures painted { Repainted (source_number stack.now) (mark_at marks.now) (length raw.old)
+    ensures painted { Repainted (source_at stack.now) (mark_at marks.now) (length raw.old)
         (glasses_of_call (map G.sight glasses.old) sid (C.sight own.old)) (glasses_of_call (map G.sight glasses.new) sid (C.sight own.new)) raw.old raw.new }
     ensures idle { slice_index_or (map G.sight glasses.new) sid no_sight ≡ slice_index_or (map G.sight glasses.old) sid no_sight }
     ensures rest { C.rest own.new ≡ C.rest own.old }
@@ -114,7 +115,7 @@ pub(crate) fn repaint_all<G: Glass, C: Glass>(
     requires pixels { length raw.old.items ≡ server.now.stack.width * server.now.stack.height }
     requires marks { length marks.now.items ≡ length raw.old.items }
     requires held { HoldBuffers server.now.stack (length glasses.old.items) (glasses_of_call (map G.sight glasses.old.items) sid (C.sight own.old)) }
-    ensures painted { Repainted (source_number server.now.stack) (mark_at marks.now.items) (length raw.old.items)
+    ensures painted { Repainted (source_at server.now.stack) (mark_at marks.now.items) (length raw.old.items)
         (glasses_of_call (map G.sight glasses.old.items) sid (C.sight own.old)) (glasses_of_call (map G.sight glasses.new.items) sid (C.sight own.new)) raw.old.items raw.new.items }
     ensures idle { slice_index_or (map G.sight glasses.new.items) sid no_sight ≡ slice_index_or (map G.sight glasses.old.items) sid no_sight }
     ensures long { length raw.new.items ≡ length raw.old.items }
@@ -164,7 +165,7 @@ fn load_pixel_by_owns<C: Glass>(stack: &Stack, p: Point, owns: &mut [C]) -> u32
 fn repaint_by_owns<C: Glass>(stack: &Stack, raw: &mut [u32], owns: &mut [C])
     requires pixels { length raw.old ≡ stack.now.width * stack.now.height }
     requires held { HoldBuffers stack.now (length owns.old) (glass_in (map C.sight owns.old)) }
-    ensures painted { Repainted (source_number stack.now) (λ k. true) (length raw.old)
+    ensures painted { Repainted (source_at stack.now) (λ k. true) (length raw.old)
         (glass_in (map C.sight owns.old)) (glass_in (map C.sight owns.new)) raw.old raw.new }
     ensures rests { map C.rest owns.new ≡ map C.rest owns.old }
 {
@@ -178,7 +179,7 @@ fn repaint_by_owns<C: Glass>(stack: &Stack, raw: &mut [u32], owns: &mut [C])
 pub(crate) fn repaint_whole<C: Glass>(server: &Server, raw: &mut Vec<u32>, owns: &mut [C])
     requires pixels { length raw.old.items ≡ server.now.config.width * server.now.config.height }
     requires held { HoldBuffers server.now.stack (length owns.old) (glass_in (map C.sight owns.old)) }
-    ensures painted { Repainted (source_number server.now.stack) (λ k. true) (length raw.old.items)
+    ensures painted { Repainted (source_at server.now.stack) (λ k. true) (length raw.old.items)
         (glass_in (map C.sight owns.old)) (glass_in (map C.sight owns.new)) raw.old.items raw.new.items }
     ensures long { length raw.new.items ≡ length raw.old.items }
     ensures rests { map C.rest owns.new ≡ map C.rest owns.old }
