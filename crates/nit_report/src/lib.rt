@@ -2,6 +2,6 @@
 #![tactic(auto)]
 
 mod picture;
-mod write;
+pub mod write;
 
 pub use picture::{ppm_into, ppm_len};
