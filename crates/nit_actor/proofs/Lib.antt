@@ -1,3 +1,11 @@
+pub mod UnderWay
+pub mod Turned
+pub mod Shots
+pub mod Lined
+pub mod Called
+pub mod Drawn
+pub mod Copies
+pub mod Names
 pub mod Advancing
 pub mod Alone
 pub mod Beginning

@@ -2,7 +2,13 @@ pub use Rattle.nit_script.specs.Spelling
 pub use Rattle.nit_script.specs.Phases
 pub use Rattle.nit_journal.specs.Whole
 pub use Rattle.nit_plan.specs.Calls
+pub use Rattle.nit_plan.specs.Steps
+pub use Rattle.nit_scene.specs.Played
+pub use Rattle.nit_report.specs.Picture
+pub use Rattle.nit_store.specs.Answers
 pub mod Moves
 pub mod Rounds
 pub mod Done
 pub mod Places
+pub mod Running
+pub mod UnderWay

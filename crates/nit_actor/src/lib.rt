@@ -11,12 +11,17 @@
 //! and a journal with the entries of the rounds is whole.
 #![tactic(auto)]
 
+mod desk;
+mod drawing;
 mod gate;
 pub mod laws;
 mod places;
+mod running;
 mod turn;
 mod turns;
 
+pub use desk::Desk;
 pub use gate::{Gate, Open};
+pub use running::run_rounds;
 pub use turn::Turn;
 pub use turns::Turns;
