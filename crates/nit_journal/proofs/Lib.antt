@@ -5,4 +5,7 @@ pub mod Isolation
 pub mod Queues
 pub mod CallsAlone
 pub mod Focus
+pub mod Reaching
+pub mod Lives
+pub mod Presses
 pub mod Rows

@@ -12,3 +12,5 @@ pub mod State
 pub mod Journals
 pub mod Projections
 pub mod Whole
+pub mod Deliveries
+pub mod Presses

@@ -1,10 +1,12 @@
 //! Laws of journals, over plain lists.
 
-ghost use Rattle.std.specs.Prelude.{◌≡◌, ◌≢◌, ◌+◌, ◌++◌, ◌∷◌, [], ℕ, List, length, ◌<◌, ◌⊎◌, true, fold, Some, None, option_map};
+ghost use Rattle.std.specs.Prelude.{All, ◌≡◌, ◌≢◌, ◌+◌, ◌++◌, ◌∷◌, [], ℕ, List, length, ◌<◌, ◌⊎◌, true, fold, Some, None, option_map};
 ghost use Rattle.nit_events.specs.declared.call.Call.{Call};
 ghost use Rattle.nit_events.specs.declared.call.Call.TheVariants.{Take, Close};
 ghost use Rattle.nit_events.specs.declared.call.Reply.{Reply};
 ghost use Rattle.nit_events.specs.declared.event.Event.{Event};
+ghost use Rattle.nit_events.specs.declared.event.Event.TheVariants as event;
+ghost use Rattle.nit_events.specs.declared.event.Item.TheVariants as item;
 ghost use Rattle.nit_events.specs.declared.event.Routed.{Routed};
 ghost use Rattle.nit_events.specs.declared.device.Device.{Device};
 ghost use Rattle.nit_events.specs.declared.device.Device.TheVariants as device;
@@ -12,15 +14,18 @@ ghost use Rattle.nit_events.specs.declared.device.Mode.TheVariants.{Flat, Xray};
 ghost use Rattle.nit_events.specs.declared.event.Status.TheVariants as status;
 ghost use Rattle.nit_events.specs.declared.entry.Entry.{Entry};
 ghost use Rattle.nit_events.specs.declared.entry.Entry.TheVariants as entry;
-ghost use Rattle.nit_events.specs.Input.{is_button, deliveries_of};
+ghost use Rattle.nit_events.specs.Input.{InputState, is_button, deliveries_of};
+ghost use Rattle.nit_stack.specs.declared.view.View.{View};
 ghost use Rattle.nit_stack.specs.Sources.{point};
 ghost use Rattle.nit_config.specs.Configuration.{Configuration, member};
 ghost use Rattle.nit_journal.specs.Session.{opened, serve};
 ghost use Rattle.nit_journal.specs.Views.{is_accepted};
 ghost use Rattle.nit_journal.specs.State.{State, session, owner_of, route, after};
 ghost use Rattle.nit_journal.specs.Journals.{replay_from, replay, LegalFrom, IsLegal, Agrees, IsOpen, shots};
-ghost use Rattle.nit_journal.specs.Projections.{Moment, projection, replies_to, alone};
+ghost use Rattle.nit_journal.specs.Presses.{IsDown};
+ghost use Rattle.nit_journal.specs.Projections.{Gets, Moment, projection, replies_to, alone};
 ghost use Rattle.nit_journal.specs.Whole.{calls_of};
+ghost use Rattle.nit_journal.specs.Deliveries.{IsKillAlone, IsLive};
 
 /// A journal with one more entry: it leads to the state after that entry, and it is legal where the entry
 /// agrees with the state and the shots before it.
@@ -32,6 +37,24 @@ pub fn one_more_entry()
 /// An entry of a device event that agrees with the state before it keeps every delivery of the event, in order.
 pub fn deliveries_fit()
     ensures { (s : State) (taken : ℕ) (dev : Device) (routed : Routed) → Agrees s taken (entry.Input dev routed) → deliveries_of routed ≡ (route s.config s.input s.stack dev).deliveries }
+{}
+
+/// Where a device event locks a session out, nothing else is delivered.
+pub fn kills_stand_alone()
+    ensures { (config : Configuration) (i : InputState) (stack : List View) (dev : Device) → IsKillAlone (route config i stack dev).deliveries }
+{}
+
+/// In a legal journal each delivery goes to a session that is live in the state before its entry. So it is with
+/// whatever entry of a device event comes next.
+pub fn deliveries_go_to_live_sessions()
+    ensures legal { (config : Configuration) (journal : List Entry) (dev : Device) (routed : Routed) (rest : List Entry) → IsLegal config (journal ++ entry.Input dev routed ∷ rest) → All (λ d. IsLive (replay config journal) d.sid) (deliveries_of routed) }
+    ensures next { (config : Configuration) (journal : List Entry) (dev : Device) → IsLegal config journal → let s = replay config journal in All (λ d. IsLive s d.sid) (route s.config s.input s.stack dev).deliveries }
+{}
+
+/// Among the items that a legal journal routes to a session, each release of a code follows a press of it, with no
+/// other release of it between.
+pub fn releases_follow_presses()
+    ensures { (config : Configuration) (journal : List Entry) (s k : ℕ) (before rest : List Moment) → IsLegal config journal → projection s journal ≡ before ++ Gets (item.Event (event.Release k)) ∷ rest → IsDown k before }
 {}
 
 /// Each session of a legal journal gets the replies of a machine that serves it alone: they come from its
