@@ -1,3 +1,4 @@
+pub mod Attends
 pub mod Calls
 pub mod Clean
 pub mod Comings
@@ -7,8 +8,11 @@ pub mod Glasses
 pub mod Goings
 pub mod Handles
 pub mod Inputs
+pub mod Kills
+pub mod Labelled
 pub mod Lists
 pub mod Loads
+pub mod Losing
 pub mod Meant
 pub mod Members
 pub mod Names

@@ -49,7 +49,7 @@ view_meant : (s : Serving) → IsServing s → (k sid handle : ℕ) → MeanSame
 view_meant s h k sid handle same p =
     owner_named k sid handle s.stack.bar s.stack.views p same ∙ ap (λ rows. option_map_or (is_view sid handle) (owner rows (views_of s.stack.views) p) false) h.screen.2
 
-session_meant : (s : Serving) → IsServing s → (sid : ℕ) (p : Point) → owner_passes (is_of_session sid) s.stack p ≡ session_owns sid (state_of s) p
+pub session_meant : (s : Serving) → IsServing s → (sid : ℕ) (p : Point) → owner_passes (is_of_session sid) s.stack p ≡ session_owns sid (state_of s) p
 session_meant s h sid p =
     owner_of_session sid s.stack.bar s.stack.views p ∙ ap (λ rows. option_map_or (is_session sid) (owner rows (views_of s.stack.views) p) false) h.screen.2
 

@@ -175,6 +175,48 @@ fn repaint_by_owns<C: Glass>(stack: &Stack, raw: &mut [u32], owns: &mut [C])
     }
 }
 
+/// Loads each marked pixel again, by the sessions' own glasses.
+fn repaint_marked_by_owns<C: Glass>(stack: &Stack, marks: &[bool], raw: &mut [u32], owns: &mut [C])
+    requires pixels { length raw.old ≡ stack.now.width * stack.now.height }
+    requires marks { length marks.now ≡ length raw.old }
+    requires held { HoldBuffers stack.now (length owns.old) (glass_in (map C.sight owns.old)) }
+    ensures painted { Repainted (source_at stack.now) (mark_at marks.now) (length raw.old)
+        (glass_in (map C.sight owns.old)) (glass_in (map C.sight owns.new)) raw.old raw.new }
+    ensures rests { map C.rest owns.new ≡ map C.rest owns.old }
+{
+    let (width, _height) = stack.size();
+    'pixels: for k in 0..raw.len() {
+        if !marks[k] {
+            continue;
+        }
+        raw[k] = load_pixel_by_owns(stack, pixel(width, k), owns);
+    }
+}
+
+/// The same, of a server's whole screen, by the scene's glasses.
+pub(crate) fn repaint_marked<G: Glass>(
+    server: &Server,
+    marks: &Vec<bool>,
+    raw: &mut Vec<u32>,
+    glasses: &mut Vec<G>,
+)
+    requires pixels { length raw.old.items ≡ server.now.stack.width * server.now.stack.height }
+    requires marks { length marks.now.items ≡ length raw.old.items }
+    requires held { HoldBuffers server.now.stack (length glasses.old.items) (glass_in (map G.sight glasses.old.items)) }
+    ensures painted { Repainted (source_at server.now.stack) (mark_at marks.now.items) (length raw.old.items)
+        (glass_in (map G.sight glasses.old.items)) (glass_in (map G.sight glasses.new.items)) raw.old.items raw.new.items }
+    ensures long { length raw.new.items ≡ length raw.old.items }
+    ensures rests { map G.rest glasses.new.items ≡ map G.rest glasses.old.items }
+    ensures facts { IsServing server.now }
+{
+    repaint_marked_by_owns(
+        server.stack(),
+        marks.as_slice(),
+        raw.as_mut_slice(),
+        glasses.as_mut_slice(),
+    );
+}
+
 /// The same, of a server's whole screen.
 pub(crate) fn repaint_whole<C: Glass>(server: &Server, raw: &mut Vec<u32>, owns: &mut [C])
     requires pixels { length raw.old.items ≡ server.now.config.width * server.now.config.height }

@@ -1,9 +1,6 @@
 //! The screen with all that it shows.
 
-ghost use Rattle.std.specs.Prelude.{◌≡◌, ℕ, ◌-◌, ◌*◌, ◌^◌, ◌<◌, All, false, length, map};
-ghost use Rattle.nit_overlay.specs.Shown.{frame};
-ghost use Rattle.nit_word.specs.Inks.{IsWord};
-ghost use Rattle.nit_scene.specs.Played.{scenery_of};
+ghost use Rattle.std.specs.Prelude.{◌≡◌, ℕ, ◌-◌, ◌*◌, ◌^◌, ◌<◌, false, length, map};
 ghost use Rattle.nit_events.specs.declared.entry.Entry.TheVariants as entry;
 ghost use Rattle.nit_journal.specs.Session.{serve};
 ghost use Rattle.nit_journal.specs.Views.{is_accepted};
@@ -17,9 +14,8 @@ use crate::loading::{repaint_all, repaint_whole};
 use crate::marking::mark_of;
 use crate::marks::mark_all;
 use crate::server::Server;
-use nit_events::{Call, Mode, Reply};
+use nit_events::{Call, Reply};
 use nit_glyph::Label;
-use nit_overlay::{Look, frame_into};
 use nit_rect::Point;
 use nit_word::Glass;
 use std::marker::Model;
@@ -94,24 +90,6 @@ impl<G: Glass + Drop> Screen<G> {
     {
         self.server.facts();
         repaint_whole(&self.server, &mut self.raw, owns);
-    }
-
-    /// Sets `out`, which has a word for each pixel, to the frame.
-    pub(crate) fn frame(&self, out: &mut [u32])
-        requires out { length out.old ≡ self.now.serving.config.width * self.now.serving.config.height }
-        requires words { All IsWord self.now.raw }
-        ensures frame { out.new ≡ frame (scenery_of (state_of self.now.serving)) self.now.raw }
-        ensures words { All IsWord out.new }
-    {
-        self.server.facts();
-        let look = Look {
-            stack: self.server.stack(),
-            labels: self.labels.as_slice(),
-            mode: Mode::Flat,
-            focus: None,
-            places: self.places.as_slice(),
-        };
-        frame_into(&look, self.raw.as_slice(), out);
     }
 
     /// What holds of the server.

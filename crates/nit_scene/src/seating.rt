@@ -50,7 +50,7 @@ impl Server {
         Reply::Done
     }
 
-    /// The session is over in this way: its views, its buffer and its events are gone.
+    /// The session is over in this way: its views, its buffer and its events are gone, and the input forgets it.
     pub(crate) fn end_session(&mut self, sid: u32, how: Status)
         requires { sid < length self.old.sessions }
         ensures { self.new ≡ with_ended sid how self.old }
@@ -61,6 +61,7 @@ impl Server {
         member.end(how);
         member.facts();
         self.stack.set_buffer(sid, 0, 0);
+        self.focus.forget(sid);
     }
 
     /// All views of a session are gone.
