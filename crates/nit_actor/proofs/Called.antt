@@ -1,4 +1,4 @@
--- A call of the scene where no glass tells a log: the glasses stay as they are.
+-- An event of the scene where no glass tells a log: the glasses stay as they are.
 use Rattle.std.proofs.Common.{◌≡◌, ◌≢◌, ◌∙◌, ℕ, ◌+◌, List, [], ◌∷◌, ◌++◌, map, length, None, refl, sym, ap, subst, inl, inr}
 use Rattle.std.specs.Option.{option_map}
 use Rattle.std.proofs.lemmas.Bool.{eq-eqb, ne_eqb, cases_eq}
@@ -6,6 +6,8 @@ use Rattle.std.proofs.lemmas.List.{ext_get_or, length-map}
 use Rattle.nit_word.specs.Sight.{Sight, seen}
 use Rattle.nit_events.specs.declared.call.Call.{Call}
 use Rattle.nit_events.specs.declared.call.Reply.{Reply}
+use Rattle.nit_events.specs.declared.device.Device.{Device}
+use Rattle.nit_events.specs.declared.event.Routed.{Routed}
 use Rattle.nit_events.specs.declared.entry.Entry.{Entry}
 use Rattle.nit_events.specs.declared.entry.Entry.TheVariants as entry
 use Rattle.nit_config.specs.Configuration.{Configuration}
@@ -65,15 +67,30 @@ same_glasses f old new sid own own' quiet were idle rests =
     let long : length new ≡ length old = sym (length-map new f) ∙ ap (λ xs. length xs) rests ∙ length-map old f in
     ext_get_or no_sight new old long (λ t inside. same_at old new sid own own' quiet were idle t)
 
+-- the same of an event that is no call
+pub same_seen : {R : Type 0} (f : Sight → R) (old new : List Sight) → AreQuiet old → ((t : ℕ) → (loads : List (ℕ × ℕ)) × (glass_in (itself new) t ≡ seen (glass_in (itself old) t) loads)) → map f new ≡ map f old → new ≡ old
+same_seen f old new quiet were rests =
+    let long : length new ≡ length old = sym (length-map new f) ∙ ap (λ xs. length xs) rests ∙ length-map old f in
+    ext_get_or no_sight new old long
+    (λ t inside.
+    let saw = were t in
+    sym (ap (λ (gs : List Sight). glass_in gs t) (same_list new)) ∙ saw.1 ∙ ap (λ (gs : List Sight). seen (glass_in gs t) saw.0) (same_list old) ∙ not_seen (glass_in old t) saw.0 (quiet t))
+
 -- ---- the inks
 
--- a call at the end of a legal journal agrees with the state before it
-last_agrees : (s : State) (taken : ℕ) (journal : List Entry) (sid : ℕ) (call : Call) (r : Reply) → IsOpen journal → LegalFrom s taken (journal ++ entry.Call sid call r ∷ []) → Agrees (replay_from s journal) 0 (entry.Call sid call r)
-last_agrees s taken [] sid call r unended legal = legal.0
-last_agrees s taken (entry.Call t c q ∷ rest) sid call r unended legal = last_agrees (after s (entry.Call t c q)) taken rest sid call r unended legal.1
-last_agrees s taken (entry.Input dev routed ∷ rest) sid call r unended legal = last_agrees (after s (entry.Input dev routed)) taken rest sid call r unended legal.1
-last_agrees s taken (entry.Shot n ∷ rest) sid call r unended legal = last_agrees s (taken + 1) rest sid call r unended legal.1
-last_agrees s taken (entry.Final ∷ rest) sid call r unended legal = absurd unended
+alone_agrees : (s : State) (taken : ℕ) (e : Entry) → LegalFrom s taken (e ∷ []) → Agrees s taken e
+alone_agrees s taken (entry.Call sid call r) legal = legal.0
+alone_agrees s taken (entry.Input dev routed) legal = legal.0
+alone_agrees s taken (entry.Shot number) legal = legal.0
+alone_agrees s taken entry.Final legal = tt
+
+-- an entry at the end of a legal journal agrees with the state before it
+last_agrees : (s : State) (taken : ℕ) (journal : List Entry) (e : Entry) → IsOpen journal → LegalFrom s taken (journal ++ e ∷ []) → (n : ℕ) × Agrees (replay_from s journal) n e
+last_agrees s taken [] e unended legal = (taken, alone_agrees s taken e legal)
+last_agrees s taken (entry.Call t c q ∷ rest) e unended legal = last_agrees (after s (entry.Call t c q)) taken rest e unended legal.1
+last_agrees s taken (entry.Input dev routed ∷ rest) e unended legal = last_agrees (after s (entry.Input dev routed)) taken rest e unended legal.1
+last_agrees s taken (entry.Shot n ∷ rest) e unended legal = last_agrees s (taken + 1) rest e unended legal.1
+last_agrees s taken (entry.Final ∷ rest) e unended legal = absurd unended
 
 -- what the laws of pixels and of journals say
 abbrev pub InkStays : Type 0
@@ -86,6 +103,18 @@ pub state_after : OneMore → (old new : Played Sight) (e : Entry) → new.confi
 state_after more old new e config recorded =
     ap (λ (c : Configuration). replay c new.entries) config ∙ ap (λ (js : List Entry). replay old.config js) recorded ∙ more (opening old.config) old.entries e
 
+-- raw words are in the inks again when an entry was painted
+painted_inked : InkStays → OneMore → (old new : Played Sight) (e : Entry) → IsOpen old.entries → IsLegal new.config new.entries → new.config ≡ old.config → new.entries ≡ old.entries ++ e ∷ []
+    → Painted (state_now old) e (state_now new) (glass_in old.glasses) (glass_in new.glasses) old.raw new.raw → AreInked (state_now old) (glass_in old.glasses) old.raw → AreInked (state_now new) (glass_in new.glasses) new.raw
+painted_inked ink more old new e unended legal config recorded painted inked =
+    let s : State = state_now old in
+    let later : state_now new ≡ after s e = state_after more old new e config recorded in
+    let legal' : IsLegal old.config (old.entries ++ e ∷ []) = subst (λ (js : List Entry). IsLegal old.config js) recorded (subst (λ (c : Configuration). IsLegal c new.entries) config legal) in
+    let (n, agrees) = last_agrees (opening old.config) 0 old.entries e unended legal' in
+    let by : Painted s e (after s e) (glass_in old.glasses) (glass_in new.glasses) old.raw new.raw =
+    subst (λ (x : State). Painted s e x (glass_in old.glasses) (glass_in new.glasses) old.raw new.raw) later painted in
+    subst (λ (x : State). AreInked x (glass_in new.glasses) new.raw) (sym later) (ink s n e (glass_in old.glasses) (glass_in new.glasses) old.raw new.raw agrees by inked)
+
 pub stays_inked : InkStays → OneMore → (old new : Played Sight) (sid : ℕ) (call : Call) (r : Reply) (own own' : Sight) → IsOpen old.entries → IsLegal new.config new.entries → new.config ≡ old.config → new.entries ≡ old.entries ++ entry.Call sid call r ∷ []
     → glass_in old.glasses sid ≡ own → glass_in new.glasses sid ≡ own'
     → Painted (state_now old) (entry.Call sid call r) (state_now new) (glasses_of_call (itself old.glasses) sid own) (glasses_of_call (itself new.glasses) sid own') old.raw new.raw
@@ -93,11 +122,17 @@ pub stays_inked : InkStays → OneMore → (old new : Played Sight) (sid : ℕ) 
 stays_inked ink more old new sid call r own own' unended legal config recorded same same' painted inked =
     let e : Entry = entry.Call sid call r in
     let s : State = state_now old in
-    let later : state_now new ≡ after s e = state_after more old new e config recorded in
-    let legal' : IsLegal old.config (old.entries ++ e ∷ []) = subst (λ (js : List Entry). IsLegal old.config js) recorded (subst (λ (c : Configuration). IsLegal c new.entries) config legal) in
-    let agrees : Agrees s 0 e = last_agrees (opening old.config) 0 old.entries sid call r unended legal' in
-    let by : Painted s e (after s e) (glass_in old.glasses) (glass_in new.glasses) old.raw new.raw =
-    subst (λ (x : State). Painted s e x (glass_in old.glasses) (glass_in new.glasses) old.raw new.raw) later
+    painted_inked ink more old new e unended legal config recorded
     (subst (λ (f : ℕ → Sight). Painted s e (state_now new) (glass_in old.glasses) f old.raw new.raw) (every_of_call new.glasses sid own' same')
-    (subst (λ (f : ℕ → Sight). Painted s e (state_now new) f (glasses_of_call (itself new.glasses) sid own') old.raw new.raw) (every_of_call old.glasses sid own same) painted)) in
-    subst (λ (x : State). AreInked x (glass_in new.glasses) new.raw) (sym later) (ink s 0 e (glass_in old.glasses) (glass_in new.glasses) old.raw new.raw agrees by inked)
+    (subst (λ (f : ℕ → Sight). Painted s e (state_now new) f (glasses_of_call (itself new.glasses) sid own') old.raw new.raw) (every_of_call old.glasses sid own same) painted)) inked
+
+-- the same of what the user does
+pub input_inked : InkStays → OneMore → (old new : Played Sight) (dev : Device) (routed : Routed) → IsOpen old.entries → IsLegal new.config new.entries → new.config ≡ old.config → new.entries ≡ old.entries ++ entry.Input dev routed ∷ []
+    → Painted (state_now old) (entry.Input dev routed) (state_now new) (glass_in (itself old.glasses)) (glass_in (itself new.glasses)) old.raw new.raw
+    → AreInked (state_now old) (glass_in old.glasses) old.raw → AreInked (state_now new) (glass_in new.glasses) new.raw
+input_inked ink more old new dev routed unended legal config recorded painted inked =
+    let e : Entry = entry.Input dev routed in
+    let s : State = state_now old in
+    painted_inked ink more old new e unended legal config recorded
+    (subst (λ (gs : List Sight). Painted s e (state_now new) (glass_in old.glasses) (glass_in gs) old.raw new.raw) (same_list new.glasses)
+    (subst (λ (gs : List Sight). Painted s e (state_now new) (glass_in gs) (glass_in (itself new.glasses)) old.raw new.raw) (same_list old.glasses) painted)) inked

@@ -6,6 +6,8 @@ use Rattle.nit_word.specs.Sight.{Sight}
 use Rattle.nit_stack.specs.Sources.{PixelSource, Bare, Black, Word}
 use Rattle.nit_events.specs.declared.call.Call.{Call}
 use Rattle.nit_events.specs.declared.call.Reply.{Reply}
+use Rattle.nit_events.specs.declared.device.Device.{Device}
+use Rattle.nit_events.specs.declared.event.Routed.{Routed}
 use Rattle.nit_events.specs.declared.entry.Entry.{Entry}
 use Rattle.nit_events.specs.declared.entry.Entry.TheVariants as entry
 use Rattle.nit_script.specs.declared.line.Line.{Line}
@@ -40,6 +42,21 @@ call_more config scripts s (entry.Input dev routed ∷ rest) files sid call r ar
 call_more config scripts s (entry.Final ∷ rest) files sid call r are = call_more config scripts s rest files sid call r are
 call_more config scripts s (entry.Shot k ∷ rest) [] sid call r are = absurd are
 call_more config scripts s (entry.Shot k ∷ rest) (f ∷ files) sid call r are = (are.0, call_more config scripts s rest files sid call r are.1)
+
+pub input_more : (config : Configuration) (scripts : List (List Line)) (s : State) (journal : List Entry) (files : List File) (dev : Device) (routed : Routed) → AreShotsFrom config scripts s journal files
+    → AreShotsFrom config scripts s (journal ++ entry.Input dev routed ∷ []) files
+input_more config scripts s [] files dev routed none = none
+input_more config scripts s (entry.Call t c q ∷ rest) files dev routed are = input_more config scripts (after s (entry.Call t c q)) rest files dev routed are
+input_more config scripts s (entry.Input d r ∷ rest) files dev routed are = input_more config scripts (after s (entry.Input d r)) rest files dev routed are
+input_more config scripts s (entry.Final ∷ rest) files dev routed are = input_more config scripts s rest files dev routed are
+input_more config scripts s (entry.Shot k ∷ rest) [] dev routed are = absurd are
+input_more config scripts s (entry.Shot k ∷ rest) (f ∷ files) dev routed are = (are.0, input_more config scripts s rest files dev routed are.1)
+
+-- what the user does with a device puts no picture
+pub input_puts : (config : Configuration) (scripts : List (List Line)) (dev : Device) (routed : Routed) (before after' : List Entry) (old now : Putting) → after' ≡ before ++ entry.Input dev routed ∷ []
+    → PutsShots config scripts before old now → PutsShots config scripts after' old now
+input_puts config scripts dev routed before after' old now recorded (files, are, puts) =
+    (files, subst (λ (es : List Entry). AreShotsFrom config scripts (opening config) es files) (sym recorded) (input_more config scripts (opening config) before files dev routed are), puts)
 
 line_more : (config : Configuration) (scripts : List (List Line)) (s : State) (files : List File) (sid : ℕ) (l : Line) (before after' : List Entry) → IsRecorded sid l before after' → AreShotsFrom config scripts s before files → AreShotsFrom config scripts s after' files
 line_more config scripts s files sid (line.Call call) before after' recorded are =

@@ -1,5 +1,5 @@
 -- A run that is under way: how it begins, what one turn does, and what holds at its end.
-use Rattle.std.proofs.Common.{◌≡◌, ◌≢◌, ◌∙◌, ℕ, ◌+◌, ◌-◌, ◌<◌, ◌≤◌, Bool, true, false, cond, List, [], ◌∷◌, ◌++◌, map, length, set, take, Option, Some, None, refl, sym, ap, subst, inl, inr, arith, zero-add, add-zero, append-nil, append_assoc, length-append, length-set, get_or-set_same, get_or-set_other}
+use Rattle.std.proofs.Common.{◌≡◌, ◌≢◌, ◌∙◌, ℕ, ◌+◌, ◌<◌, ◌≤◌, Bool, true, false, cond, List, [], ◌∷◌, ◌++◌, map, length, set, take, Option, Some, None, refl, sym, ap, subst, inl, inr, arith, zero-add, add-zero, append-nil, append_assoc, length-append, length-set, get_or-set_same, get_or-set_other}
 use Rattle.std.specs.List.{slice_get, slice_index_or}
 use Rattle.std.proofs.lemmas.Bool.{eq-eqb, ne_eqb, cases_eq, cases_lt}
 use Rattle.std.proofs.lemmas.List.{get_or_past, length-map, length-take-le, map-append}
@@ -7,7 +7,6 @@ use Rattle.std.proofs.lemmas.List.Concat.{flat_map-append}
 use Rattle.std.proofs.lemmas.Option.{slice_get_within}
 use Rattle.nit_rect.specs.declared.point.Point.{Point}
 use Rattle.nit_word.specs.Sight.{Sight}
-use Rattle.nit_events.specs.declared.device.Device.{Device}
 use Rattle.nit_events.specs.declared.entry.Entry.{Entry}
 use Rattle.nit_events.specs.declared.entry.Entry.TheVariants as entry
 use Rattle.nit_stack.specs.declared.view.View.{View}
@@ -18,7 +17,7 @@ use Rattle.nit_script.specs.declared.line.InputLine.{InputLine}
 use Rattle.nit_script.specs.declared.line.InputLine.TheVariants as input
 use Rattle.nit_config.specs.Configuration.{Configuration, bar_rows}
 use Rattle.nit_journal.specs.Journals.{IsLegal, IsOpen, replay, shots}
-use Rattle.nit_journal.specs.State.{State, buffer_size, opening}
+use Rattle.nit_journal.specs.State.{buffer_size, opening}
 use Rattle.nit_plan.specs.Plans.{Painting, blank, ink, painted_from, words_after, words_left}
 use Rattle.nit_plan.specs.Steps.{Planned}
 use Rattle.nit_paint.specs.Painting.{no_sight}
@@ -30,8 +29,7 @@ use Rattle.nit_actor.specs.Rounds.{rounds}
 use Rattle.nit_actor.specs.Places.{turn_of}
 use Rattle.nit_actor.specs.Done.{Act, act_of, acts, acts_of, input_of, line_by, lines_of}
 use Rattle.nit_actor.specs.Running.{IsRun, IsSetUp, donation_of, glass_after, script_in}
-use Rattle.nit_actor.specs.UnderWay.{AreQuiet, HaveInks, IsRecorded, IsUnderWay, IsUserDone}
-use Rattle.nit_actor.proofs.Called.{OneMore}
+use Rattle.nit_actor.specs.UnderWay.{AreQuiet, HaveInks, IsRecorded, IsUnderWay, IsUserRecorded}
 
 -- ---- one move more
 
@@ -185,16 +183,21 @@ after_client scripts lines before now now' owns owns' m left sid number own' w m
         ∙ ap (λ (c : Configuration). glass_after sid (script_in scripts sid) (donation_of c sid) (number + 1)) w.config
         ∙ ap (λ (n : ℕ). glass_after sid (script_in scripts sid) (donation_of before.config sid) n) (sym counted)
 
--- the same for the user, where a shot or nothing was recorded
+user_acts : (l : InputLine) (before after' : List Entry) → IsUserRecorded l before after' → map act_of after' ≡ map act_of before ++ acts_of (ByUser l)
+user_acts (input.Device dev) before after' recorded = ap (map act_of) recorded.1 ∙ map-append act_of before (entry.Input dev recorded.0 ∷ [])
+user_acts input.Shot before after' recorded = ap (map act_of) recorded ∙ map-append act_of before (entry.Shot (shots before + 1) ∷ [])
+user_acts input.Phase before after' recorded = ap (map act_of) recorded ∙ sym (append-nil (map act_of before))
+
+-- the same for the user
 pub after_user : (scripts : List (List Line)) (lines : List InputLine) (before now now' : Played Sight) (owns : List Sight) (m : Move) (left : List Move) (l : InputLine) (w : IsUnderWay scripts lines before now owns (m ∷ left))
-    → m.doing ≡ ByUser l → map act_of now'.entries ≡ map act_of now.entries ++ acts_of (ByUser l) → now'.glasses ≡ now.glasses → now'.config ≡ now.config → IsOpen now'.entries
-    → AreInked (state_now now') (glass_in now'.glasses) now'.raw → length now'.entries + now'.spare ≡ length now.entries + now.spare → IsUnderWay scripts lines before now' owns left
-after_user scripts lines before now now' owns m left l w doing recorded glasses config unended inked spare =
+    → m.doing ≡ ByUser l → now'.glasses ≡ now.glasses → now'.config ≡ now.config → IsOpen now'.entries
+    → AreInked (state_now now') (glass_in now'.glasses) now'.raw → length now'.entries + now'.spare ≡ length now.entries + now.spare → IsUserRecorded l now.entries now'.entries → IsUnderWay scripts lines before now' owns left
+after_user scripts lines before now now' owns m left l w doing glasses config unended inked spare recorded =
     record {
       front = w.front ++ m ∷ [];
       parts = w.parts ∙ sym (append_assoc w.front (m ∷ []) left);
       config = config ∙ w.config;
-      entries = recorded ∙ ap (λ (xs : List Act). xs ++ acts_of (ByUser l)) w.entries ∙ ap (λ (d : Doing). acts w.front ++ acts_of d) (sym doing) ∙ sym (acts_more w.front m);
+      entries = user_acts l now.entries now'.entries recorded ∙ ap (λ (xs : List Act). xs ++ acts_of (ByUser l)) w.entries ∙ ap (λ (d : Doing). acts w.front ++ acts_of d) (sym doing) ∙ sym (acts_more w.front m);
       unended = unended;
       spare = spare ∙ w.spare;
       same = glasses ∙ w.same;
@@ -202,32 +205,6 @@ after_user scripts lines before now now' owns m left l w doing recorded glasses 
       done = λ t inside. w.done t inside ∙ ap (λ (n : ℕ). glass_after t (script_in scripts t) (donation_of before.config t) n) (sym (none_more t w.front m (user_line t l m.doing doing)));
       inked = inked;
     }
-
--- the scene when a shot was taken
-abbrev shot_taken : Played Sight → Played Sight
-shot_taken s = record s { entries = s.entries ++ entry.Shot (shots s.entries + 1) ∷ []; spare = s.spare - 1 }
-
-one_less : (n spare : ℕ) → 1 ≤ spare → n + 1 + (spare - 1) ≡ n + spare
-one_less n spare room = omega (arith, room)
-
-shot_inked : OneMore → (s : Played Sight) → AreInked (state_now s) (glass_in s.glasses) s.raw → AreInked (state_now (shot_taken s)) (glass_in s.glasses) s.raw
-shot_inked more s inked =
-    subst (λ (x : State). AreInked x (glass_in s.glasses) s.raw) (sym (more (opening s.config) s.entries (entry.Shot (shots s.entries + 1)))) inked
-
--- what a user's line leaves
-pub after_user_line : OneMore → (scripts : List (List Line)) (lines : List InputLine) (before now now' : Played Sight) (owns : List Sight) (m : Move) (left : List Move) (l : InputLine) (w : IsUnderWay scripts lines before now owns (m ∷ left))
-    → m.doing ≡ ByUser l → ((dev : Device) → l ≡ input.Device dev → ⊥) → (l ≡ input.Shot → 1 ≤ now.spare) → IsUserDone l now now' → IsOpen now'.entries → IsUnderWay scripts lines before now' owns left
-after_user_line more scripts lines before now now' owns m left (input.Device dev) w doing none room done unended = absurd (none dev refl)
-after_user_line more scripts lines before now now' owns m left input.Phase w doing none room done unended =
-    after_user scripts lines before now now' owns m left input.Phase w doing (ap (λ (p : Played Sight). map act_of p.entries) done ∙ sym (append-nil (map act_of now.entries)))
-    (ap (λ (p : Played Sight). p.glasses) done) (ap (λ (p : Played Sight). p.config) done) unended
-    (subst (λ (p : Played Sight). AreInked (state_now p) (glass_in p.glasses) p.raw) (sym done) w.inked) (ap (λ (p : Played Sight). length p.entries + p.spare) done)
-after_user_line more scripts lines before now now' owns m left input.Shot w doing none room done unended =
-    let e : Entry = entry.Shot (shots now.entries + 1) in
-    after_user scripts lines before now now' owns m left input.Shot w doing (ap (λ (p : Played Sight). map act_of p.entries) done ∙ map-append act_of now.entries (e ∷ []))
-    (ap (λ (p : Played Sight). p.glasses) done) (ap (λ (p : Played Sight). p.config) done) unended
-    (subst (λ (p : Played Sight). AreInked (state_now p) (glass_in p.glasses) p.raw) (sym done) (shot_inked more now w.inked))
-    (ap (λ (p : Played Sight). length p.entries + p.spare) done ∙ ap (λ (n : ℕ). n + (now.spare - 1)) (length-append now.entries (e ∷ [])) ∙ one_less (length now.entries) now.spare (room refl))
 
 -- ---- the beginning
 

@@ -1,16 +1,14 @@
 -- What a run by rounds leaves: its journal, the words of its sessions, and the pictures that it put.
-use Rattle.std.specs.Prelude.{◌≡◌, ℕ, ◌+◌, ◌<◌, List, [], ◌∷◌, ◌++◌, length, codes, slice_get, slice_index_or, Option, Some, None, Result, Ok, Err}
+use Rattle.std.specs.Prelude.{◌≡◌, ℕ, ◌+◌, ◌<◌, List, [], ◌∷◌, ◌++◌, length, codes, slice_index_or, Option, Some, None, Result, Ok, Err}
 use Rattle.std.specs.Fmt.{decimal}
 use Rattle.nit_word.specs.Channels.{bare_word}
 use Rattle.nit_word.specs.Inks.{IsInked}
 use Rattle.nit_word.specs.Sight.{Sight, inked_sight}
-use Rattle.nit_events.specs.declared.device.Device.{Device}
 use Rattle.nit_events.specs.declared.entry.Entry.{Entry}
 use Rattle.nit_events.specs.declared.entry.Entry.TheVariants as entry
 use Rattle.nit_stack.specs.Sources.{PixelSource, Bare, Black, Word}
 use Rattle.nit_script.specs.declared.line.Line.{Line}
 use Rattle.nit_script.specs.declared.line.InputLine.{InputLine}
-use Rattle.nit_script.specs.declared.line.InputLine.TheVariants as input
 use Rattle.nit_config.specs.Configuration.{Configuration, member}
 use Rattle.nit_journal.specs.State.{State, opening, after}
 use Rattle.nit_journal.specs.Journals.{IsLegal, IsOpen}
@@ -42,10 +40,6 @@ donation_of config t = (member config t).donation
 -- the glass of a session of this donation over the words that the first k lines of its script leave
 abbrev pub glass_after : ℕ → List Line → ℕ → ℕ → Sight
 glass_after t script donation k = inked_sight t (words_after script donation k) (ink script)
-
--- no line of the input script is of a device
-abbrev pub HasNoDevice : List InputLine → Type 0
-HasNoDevice lines = (k : ℕ) (dev : Device) → slice_get lines k ≡ Some (input.Device dev) → ⊥
 
 -- There are one script, plan and own glass for each session, in order, and each plan is of its script. The scene's
 -- glasses equal the own ones, on which no line is done.

@@ -1,8 +1,9 @@
 -- A run by rounds that is under way: what one line leaves, and what holds between two turns.
-use Rattle.std.specs.Prelude.{◌≡◌, ℕ, ◌+◌, ◌-◌, ◌<◌, Bool, true, false, List, [], ◌∷◌, ◌++◌, length, map, drop, None}
+use Rattle.std.specs.Prelude.{◌≡◌, ℕ, ◌+◌, ◌<◌, Bool, true, false, List, [], ◌∷◌, ◌++◌, length, map, drop, None}
 use Rattle.nit_word.specs.Sight.{Sight}
 use Rattle.nit_events.specs.declared.call.Call.TheVariants.{Buffer}
 use Rattle.nit_events.specs.declared.call.Reply.{Reply}
+use Rattle.nit_events.specs.declared.event.Routed.{Routed}
 use Rattle.nit_events.specs.declared.entry.Entry.{Entry}
 use Rattle.nit_events.specs.declared.entry.Entry.TheVariants as entry
 use Rattle.nit_script.specs.declared.line.Line.{Line}
@@ -40,10 +41,16 @@ abbrev pub IsRecorded : ℕ → Line → List Entry → List Entry → Type 0
 IsRecorded sid (line.Call call) before after' = (r : Reply) × (after' ≡ before ++ entry.Call sid call r ∷ [])
 IsRecorded sid other before after' = after' ≡ before
 
--- a user's line was done: a shot was recorded, with the next number, or nothing
-abbrev pub IsUserDone : InputLine → Played Sight → Played Sight → Type 0
-IsUserDone input.Shot before after' = after' ≡ record before { entries = before.entries ++ entry.Shot (shots before.entries + 1) ∷ []; spare = before.spare - 1 }
-IsUserDone other before after' = after' ≡ before
+-- a user's line was recorded: what a device did with its deliveries, a shot with the next number, or nothing
+abbrev pub IsUserRecorded : InputLine → List Entry → List Entry → Type 0
+IsUserRecorded (input.Device dev) before after' = (routed : Routed) × (after' ≡ before ++ entry.Input dev routed ∷ [])
+IsUserRecorded input.Shot before after' = after' ≡ before ++ entry.Shot (shots before + 1) ∷ []
+IsUserRecorded input.Phase before after' = after' ≡ before
+
+-- a user's line that is recorded takes a place of the journal
+abbrev pub takes_place : InputLine → Bool
+takes_place input.Phase = false
+takes_place other = true
 
 -- the glasses have the inks of the scripts
 abbrev pub HaveInks : List (List Line) → List Sight → Type 0

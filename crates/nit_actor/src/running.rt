@@ -1,15 +1,16 @@
 //! A run by rounds, on one thread.
 
-ghost use Rattle.std.specs.Prelude.{◌≡◌, ◌+◌, ◌-◌, ◌*◌, ◌<◌, ◌≤◌, ◌++◌, ◌∷◌, [], ℕ, List, None, Some, Option, length, map, slice_get, slice_set};
+ghost use Rattle.std.specs.Prelude.{true, ◌≡◌, ◌+◌, ◌-◌, ◌*◌, ◌<◌, ◌≤◌, ◌++◌, ◌∷◌, [], ℕ, List, None, Some, Option, length, map, slice_get, slice_set};
 ghost use Rattle.nit_word.specs.Sight.{Sight};
 ghost use Rattle.nit_slots.specs.Account.{IsDonation};
 ghost use Rattle.nit_events.specs.declared.call.Call.{Call as CallOf};
 ghost use Rattle.nit_events.specs.declared.call.Reply.{Reply as ReplyOf};
-ghost use Rattle.nit_events.specs.declared.device.Device.{Device};
+ghost use Rattle.nit_events.specs.declared.event.Routed.{Routed as RoutedOf};
 ghost use Rattle.nit_events.specs.declared.entry.Entry.TheVariants as entry;
 ghost use Rattle.nit_script.specs.declared.line.Line.{Line};
 ghost use Rattle.nit_script.specs.declared.line.Line.TheVariants as lines;
-ghost use Rattle.nit_script.specs.declared.line.InputLine.TheVariants as input;
+ghost use Rattle.nit_events.specs.Ranges.{IsDevice};
+ghost use Rattle.nit_script.specs.Spelling.{FitsInputLine};
 ghost use Rattle.nit_journal.specs.Journals.{IsOpen, shots};
 ghost use Rattle.nit_plan.specs.Steps.{IsPlanOf};
 ghost use Rattle.nit_overlay.specs.Shown.{frame};
@@ -21,15 +22,15 @@ ghost use Rattle.nit_actor.specs.Moves.{Move};
 ghost use Rattle.nit_actor.specs.Rounds.{rounds};
 ghost use Rattle.nit_actor.specs.Done.{acts};
 ghost use Rattle.nit_actor.specs.Places.{turn_of};
-ghost use Rattle.nit_actor.specs.Running.{AreNear, HasNoDevice, IsRun, IsSetUp, PutsNext, PutsShots, Putting, donation_of, glass_after, putting, shot_name};
-ghost use Rattle.nit_actor.specs.UnderWay.{AreQuiet, HaveInks, IsPlanned, IsRecorded, IsUnderWay, IsUserDone};
+ghost use Rattle.nit_actor.specs.Running.{AreNear, IsRun, IsSetUp, PutsNext, PutsShots, Putting, donation_of, glass_after, putting, shot_name};
+ghost use Rattle.nit_actor.specs.UnderWay.{AreQuiet, HaveInks, IsPlanned, IsRecorded, IsUnderWay, IsUserRecorded, takes_place};
 
 use crate::desk::Desk;
 use crate::drawing::draw_line;
 use crate::laws::{each_line_once, lines_done, turns_tell};
 use crate::turn::Turn;
 use crate::turns::Turns;
-use nit_events::Call;
+use nit_events::{Call, Device};
 use nit_journal::laws::one_more_entry;
 use nit_plan::Plan;
 use nit_plan::laws::{buffer_within_table, one_more_line};
@@ -118,16 +119,21 @@ fn shoot<S: Store>(scene: &mut Scene<Inked>, desk: &mut Desk<S>)
     desk.put_shot(width, height, number);
 }
 
-/// Does a line of the input script, which is not of a device.
+/// Does a line of the input script: what a device did and a shot are events of the scene.
 fn user_line<S: Store>(scene: &mut Scene<Inked>, line: &InputLine, desk: &mut Desk<S>)
-    requires device { (dev : Device) → line.now ≡ input.Device dev → ⊥ }
-    requires spare { line.now ≡ input.Shot → 1 ≤ scene.old.spare }
+    requires fits { FitsInputLine line.now }
+    requires quiet { AreQuiet scene.old.glasses }
+    requires spare { takes_place line.now ≡ true → 1 ≤ scene.old.spare }
     requires open { IsOpen scene.old.entries }
     requires frame { length desk.old.frame.items ≡ scene.old.config.width * scene.old.config.height }
     requires text { length desk.old.text.items ≡ picture_length scene.old.config.width scene.old.config.height }
     requires inked { AreInked (state_now scene.old) (glass_in scene.old.glasses) scene.old.raw }
-    ensures done { IsUserDone line.now scene.old scene.new }
+    ensures glasses { scene.new.glasses ≡ scene.old.glasses }
+    ensures config { scene.new.config ≡ scene.old.config }
     ensures open { IsOpen scene.new.entries }
+    ensures inked { AreInked (state_now scene.new) (glass_in scene.new.glasses) scene.new.raw }
+    ensures spare { length scene.new.entries + scene.new.spare ≡ length scene.old.entries + scene.old.spare }
+    ensures recorded { IsUserRecorded line.now scene.old.entries scene.new.entries }
     ensures shots { (scripts : List (List Line)) (first : Putting) → HaveInks scripts scene.old.glasses
         → PutsShots scene.old.config scripts scene.old.entries first (putting (S.shown desk.old.store.now) desk.old.fault desk.old.tried)
         → PutsShots scene.old.config scripts scene.new.entries first (putting (S.shown desk.new.store.now) desk.new.fault desk.new.tried) }
@@ -135,11 +141,31 @@ fn user_line<S: Store>(scene: &mut Scene<Inked>, line: &InputLine, desk: &mut De
     ensures text { length desk.new.text.items ≡ length desk.old.text.items }
     ensures same_store { desk.new.store.ghost_name ≡ desk.old.store.ghost_name }
 {
+    one_more_entry();
     match line {
+        InputLine::Device(dev) => serve_device(scene, *dev),
         InputLine::Shot => shoot(scene, desk),
         InputLine::Phase => {}
-        InputLine::Device(_) => unreachable!(),
     }
+}
+
+/// Serves what a device did. No glass of the scene tells a log, so the glasses stay as they are.
+fn serve_device(scene: &mut Scene<Inked>, dev: Device)
+    requires device { IsDevice dev }
+    requires quiet { AreQuiet scene.old.glasses }
+    requires spare { 1 ≤ scene.old.spare }
+    requires open { IsOpen scene.old.entries }
+    requires inked { AreInked (state_now scene.old) (glass_in scene.old.glasses) scene.old.raw }
+    ensures glasses { scene.new.glasses ≡ scene.old.glasses }
+    ensures config { scene.new.config ≡ scene.old.config }
+    ensures open { IsOpen scene.new.entries }
+    ensures inked { AreInked (state_now scene.new) (glass_in scene.new.glasses) scene.new.raw }
+    ensures spare { scene.new.spare ≡ scene.old.spare - 1 }
+    ensures recorded { (routed : RoutedOf) × (scene.new.entries ≡ scene.old.entries ++ entry.Input dev routed ∷ []) }
+{
+    ink_stays();
+    one_more_entry();
+    let _ = scene.input(dev);
 }
 
 /// Does the line of a turn.
@@ -153,7 +179,6 @@ fn do_turn<S: Store>(
     turn: Turn,
 )
     requires planned { IsPlanned scene.old.config scripts.now plans.now }
-    requires input { HasNoDevice input.now }
     requires frame { length desk.old.frame.items ≡ scene.old.config.width * scene.old.config.height }
     requires text { length desk.old.text.items ≡ picture_length scene.old.config.width scene.old.config.height }
     requires next { (before : Played Sight) × (m : Move) × (left : List Move) × IsUnderWay scripts.now input.now before scene.old owns.old (m ∷ left) × (turn_of m ≡ turn) × (length (acts (rounds scripts.now input.now)) ≤ before.spare) }
@@ -178,9 +203,9 @@ fn do_turn<S: Store>(
 }
 
 /// Does all lines of the scripts by rounds, on the calling thread. The scene has no entry, and room for one for
-/// each call and each shot. For each session, in order, there are its script, its plan, and its own glass, which
+/// each call, device event and shot. For each session, in order, there are its script, its plan, and its own glass, which
 /// is equal to the scene's and on which no line is done. The desk's frame has a word for each pixel of the screen,
-/// and its text a byte for each of a picture. No line of the input script is of a device.
+/// and its text a byte for each of a picture.
 ///
 /// Each stroke, and each clearing of an accepted `buffer` line, is made on the own glass and on the scene's. Each
 /// shot is put until a put is refused. The last picture is not taken.
@@ -195,7 +220,6 @@ pub fn run_rounds<S: Store>(
     requires set_up { IsSetUp scene.old.config scripts.now plans.now scene.old.glasses owns.old }
     requires entries { scene.old.entries ≡ [] }
     requires spare { length (acts (rounds scripts.now input.now)) ≤ scene.old.spare }
-    requires input { HasNoDevice input.now }
     requires frame { length desk.old.frame.items ≡ scene.old.config.width * scene.old.config.height }
     requires text { length desk.old.text.items ≡ picture_length scene.old.config.width scene.old.config.height }
     ensures run { IsRun scripts.now input.now scene.old scene.new owns.new }

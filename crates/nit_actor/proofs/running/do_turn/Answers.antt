@@ -3,13 +3,14 @@ use Rattle.std.specs.List.{slice_get}
 use Rattle.std.proofs.lemmas.List.{get_or_default}
 use Rattle.nit_script.specs.declared.line.Line.{Line}
 use Rattle.nit_script.specs.declared.line.InputLine.{InputLine}
+use Rattle.nit_script.specs.Spelling.{FitsInputLine}
 use Rattle.nit_plan.specs.Steps.{Planned, IsPlanOf}
 use Rattle.nit_paint.specs.Painting.{no_sight}
 use Rattle.nit_actor.specs.Moves.{ByUser}
 use Rattle.nit_actor.specs.Running.{donation_of, glass_after, script_in}
-use Rattle.nit_actor.proofs.UnderWay.{after_client, after_user_line, clients_move, users_move}
+use Rattle.nit_actor.proofs.UnderWay.{after_client, after_user, clients_move, users_move}
 use Rattle.nit_actor.proofs.Shots.{line_puts}
-use Rattle.nit_actor.proofs.Turned.{clients_turn, found_here, read_here, read_same, users_turn}
+use Rattle.nit_actor.proofs.Turned.{clients_turn, each_at, found_here, read_here, read_same, users_turn}
 use Rattle.nit_actor.proofs.running.do_turn.Goals as goal
 
 -- ---- a client's turn
@@ -99,7 +100,7 @@ returns-in-Client-clause-shots g c first puts =
 pub bounds-lines-line : goal.bounds-lines-line
 bounds-lines-line g c =
     let (before, m, left, w, is, room) = c.requires.next in
-    let t = users_turn c.turns_tell.ensures.user c.lines_done.ensures.user _ _ before _ _ m left _ c.requires.input w (is ∙ c.in-User.is) room in
+    let t = users_turn c.turns_tell.ensures.user c.lines_done.ensures.user _ _ before _ _ m left _ w (is ∙ c.in-User.is) room in
     subst (λ (ls : List InputLine). c.in-User.line < length ls) (sym c.lines.ensures.value) t.here
 
 pub offset_bounds-lines-line : goal.offset_bounds-lines-line
@@ -107,23 +108,24 @@ offset_bounds-lines-line g c =
     let here = bounds-lines-line g c in
     omega (arith, here, c.lines.ensures.length)
 
-pub user_line-requires-clause-device : goal.user_line-requires-clause-device
-user_line-requires-clause-device g c dev e =
+pub user_line-requires-clause-fits : goal.user_line-requires-clause-fits
+user_line-requires-clause-fits g c =
     let (before, m, left, w, is, room) = c.requires.next in
-    let t = users_turn c.turns_tell.ensures.user c.lines_done.ensures.user _ _ before _ _ m left _ c.requires.input w (is ∙ c.in-User.is) room in
-    t.device _ dev (read_same c.args.input.now c.lines.result.now c.in-User.line _ c.lines.ensures.value t.here) e
+    let t = users_turn c.turns_tell.ensures.user c.lines_done.ensures.user _ _ before _ _ m left _ w (is ∙ c.in-User.is) room in
+    each_at FitsInputLine c.lines.result.now c.in-User.line _ (subst (λ (ls : List InputLine). c.in-User.line < length ls) (sym c.lines.ensures.value) t.here) c.lines.ensures.fits
 
 pub user_line-requires-clause-spare : goal.user_line-requires-clause-spare
-user_line-requires-clause-spare g c e =
+user_line-requires-clause-spare g c takes =
     let (before, m, left, w, is, room) = c.requires.next in
-    let t = users_turn c.turns_tell.ensures.user c.lines_done.ensures.user _ _ before _ _ m left _ c.requires.input w (is ∙ c.in-User.is) room in
-    t.spare _ (read_same c.args.input.now c.lines.result.now c.in-User.line _ c.lines.ensures.value t.here) e
+    let t = users_turn c.turns_tell.ensures.user c.lines_done.ensures.user _ _ before _ _ m left _ w (is ∙ c.in-User.is) room in
+    t.spare _ (read_same c.args.input.now c.lines.result.now c.in-User.line _ c.lines.ensures.value t.here) takes
 
 pub returns-in-User-clause-way : goal.returns-in-User-clause-way
 returns-in-User-clause-way g c before m left w is =
     let (before', m', left', w', is', room) = c.requires.next in
-    let t = users_turn c.turns_tell.ensures.user c.lines_done.ensures.user _ _ before' _ _ m' left' _ c.requires.input w' (is' ∙ c.in-User.is) room in
+    let t = users_turn c.turns_tell.ensures.user c.lines_done.ensures.user _ _ before' _ _ m' left' _ w' (is' ∙ c.in-User.is) room in
     let same = read_same c.args.input.now c.lines.result.now c.in-User.line _ c.lines.ensures.value t.here in
     let move = users_move c.turns_tell.ensures.user c.lines_done.ensures.user _ _ before _ _ m left _ w (is ∙ c.in-User.is) in
-    after_user_line c.one_more_entry.ensures.replayed _ _ before c.args.scene.now c.user_line.new.scene c.args.owns.now m left _ w
-    (move.doing ∙ ap ByUser (found_here c.args.input.now c.in-User.line move.l _ move.here same)) (λ dev e. t.device _ dev same e) (λ e. t.spare _ same e) c.user_line.ensures.done c.user_line.ensures.«open»
+    let does = c.user_line.ensures in
+    after_user _ _ before c.args.scene.now c.user_line.new.scene c.args.owns.now m left _ w (move.doing ∙ ap ByUser (found_here c.args.input.now c.in-User.line move.l _ move.here same))
+    does.glasses does.config does.«open» does.inked does.spare does.recorded
