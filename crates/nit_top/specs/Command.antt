@@ -9,9 +9,11 @@ use Rattle.std.specs.Fmt.{decimal}
 abbrev pub texts : {Z : Type 0} → List (String Z) → List (List ℕ)
 texts words = map string_bytes words
 
--- a picture of one client's script, on a screen of this width and height; or nothing that the program does
+-- a picture of one client's script, on a screen of this width and height; or the run of a configuration, by
+-- turns; or nothing that the program does
 pub data Command : Type 0 where
   Still : (width : ℕ) → (height : ℕ) → (script : List ℕ) → Command
+  Turns : (configuration : List ℕ) → Command
   NoCommand : Command
 
 -- the number of 1 up to most that a word spells in decimal
@@ -23,7 +25,9 @@ still (Some width) (Some height) script = Still width height script
 still (Some width) None script = NoCommand
 still None height script = NoCommand
 
--- `still`, a width of 1 up to 1024, a height of 1 up to 768, and the name of a script
+-- `turns` and the name of a configuration; or `still`, a width of 1 up to 1024, a height of 1 up to 768, and the
+-- name of a script
 abbrev pub command : List (List ℕ) → Command
+command (verb ∷ configuration ∷ []) = if bytes_eq verb (codes "turns") then Turns configuration else NoCommand
 command (verb ∷ width ∷ height ∷ script ∷ []) = if bytes_eq verb (codes "still") then still (size_of 1024 width) (size_of 768 height) script else NoCommand
 command words = NoCommand

@@ -1,33 +1,36 @@
--- What a valid run puts, and what its journal is.
-use Rattle.std.specs.Prelude.{◌≡◌, ℕ, ◌*◌, List, [], ◌∷◌, map, slice_index, slice_index_or, codes}
+-- What a run puts, and what its journal is.
+use Rattle.std.specs.Prelude.{◌≡◌, ℕ, ◌*◌, List, [], ◌∷◌, ◌++◌, map, slice_index, codes}
 use Rattle.std.specs.List.{range_with_len}
 use Rattle.nit_word.specs.Channels.{bare_word}
 use Rattle.nit_events.specs.declared.entry.Entry.{Entry}
+use Rattle.nit_events.specs.declared.entry.Entry.TheVariants as entry
 use Rattle.nit_stack.specs.Sources.{pixel, PixelSource, Bare, Black, Word}
-use Rattle.nit_config.specs.Configuration.{Configuration, bar_rows, member, still_configuration}
-use Rattle.nit_journal.specs.State.{State, source_of}
+use Rattle.nit_config.specs.Configuration.{Configuration}
+use Rattle.nit_journal.specs.State.{State, opening, source_of}
 use Rattle.nit_journal.specs.Journals.{replay, IsLegal}
 use Rattle.nit_journal.specs.Whole.{IsWhole}
-use Rattle.nit_overlay.specs.Shown.{Scenery, frame}
+use Rattle.nit_overlay.specs.Shown.{frame}
+use Rattle.nit_scene.specs.Played.{scenery_of}
 use Rattle.nit_report.specs.Picture.{picture}
 use Rattle.nit_script.specs.declared.line.Line.{Line}
-use Rattle.nit_plan.specs.Calls.{calls_to_make}
+use Rattle.nit_plan.specs.Calls.{calls_to_make, deeds_to_do}
 use Rattle.nit_plan.specs.Plans.{words_left}
-use Rattle.nit_store.specs.Shown.{File, IsPut}
-use Rattle.nit_top.specs.Command.{Command, Still, NoCommand}
+use Rattle.nit_store.specs.Shown.{File}
+use Rattle.nit_actor.specs.Done.{AreRoundsOf}
+use Rattle.nit_actor.specs.Running.{AreShotsFrom, donation_of, script_in}
+use Rattle.nit_top.specs.Setup.{Setup}
 
--- what a state shows, but for the words of the clients
-abbrev pub scenery : State → Scenery
-scenery s =
-    record {
-      width = s.config.width;
-      height = s.config.height;
-      bar = bar_rows s.config;
-      stack = s.stack;
-      labels = map (λ m. m.label) s.config.clients;
-      mode = s.input.mode;
-      focus = s.input.focus;
-    }
+-- the entries are, in order, those of the rounds of the scripts, and then the last picture
+abbrev pub IsByRounds : Setup → List Entry → Type 0
+IsByRounds s journal = (entries : List Entry) × AreRoundsOf entries s.scripts s.input × (journal ≡ entries ++ entry.Final ∷ [])
+
+-- The journal of a run is legal, whole for the clients' scripts and the input script, and by rounds.
+pub record IsJournal (s : Setup) (journal : List Entry) : Type 0 where
+  pub legal : IsLegal s.config journal
+  pub whole : IsWhole (map calls_to_make s.scripts) (deeds_to_do s.input) journal
+  pub rounds : IsByRounds s journal
+
+-- ---- the last picture
 
 -- the word of a pixel by its source, where each session's table has these words
 abbrev pub word_from : (ℕ → List ℕ) → PixelSource → ℕ
@@ -35,45 +38,29 @@ word_from tables Bare = bare_word
 word_from tables Black = 0
 word_from tables (Word session index) = slice_index (tables session) index
 
--- the raw words of a state's pixels, row by row from the top
+-- the raw words of a state's pixels
 abbrev pub raw_words : State → (ℕ → List ℕ) → List ℕ
 raw_words s tables = map (λ k. word_from tables (source_of s (pixel s.config.width k))) (range_with_len 0 (s.config.width * s.config.height))
 
--- the picture of a state
-abbrev pub picture_of : State → (ℕ → List ℕ) → List ℕ
-picture_of s tables = picture s.config.width s.config.height (frame (scenery s) (raw_words s tables))
-
--- a client's script, by its session
-abbrev pub script_of : List (List Line) → ℕ → List Line
-script_of scripts session = slice_index_or scripts session []
+-- the picture of a state, row by row from the top, where each session's table has these words
+abbrev pub picture_by : State → (ℕ → List ℕ) → List ℕ
+picture_by s tables = picture s.config.width s.config.height (frame (scenery_of s) (raw_words s tables))
 
 -- the words that each script leaves in its table
 abbrev pub tables_left : Configuration → List (List Line) → ℕ → List ℕ
-tables_left config scripts session = words_left (script_of scripts session) (member config session).donation
+tables_left config scripts session = words_left (script_in scripts session) (donation_of config session)
 
 -- the last picture of a run: each client's words are those that its script leaves
-abbrev pub final_picture : Configuration → List (List Line) → List Entry → List ℕ
-final_picture config scripts journal = picture_of (replay config journal) (tables_left config scripts)
+abbrev pub final_picture : Setup → List Entry → List ℕ
+final_picture s journal = picture_by (replay s.config journal) (tables_left s.config s.scripts)
 
 abbrev pub final_name : List ℕ
 final_name = codes "final.ppm"
 
--- the configuration of a command
-abbrev pub configuration : Command → Configuration
-configuration (Still width height script) = still_configuration width height
-configuration NoCommand = still_configuration 0 0
+-- ---- the files
 
--- the files that a run puts, in order, with their names
-abbrev pub outputs : Command → List Line → List Entry → List File
-outputs (Still width height script) lines journal = (final_name, final_picture (still_configuration width height) (lines ∷ []) journal) ∷ []
-outputs NoCommand lines journal = []
-
--- files are put one after the other
-abbrev pub PutEach : List File → List File → List File → Type 0
-PutEach [] old new = new ≡ old
-PutEach (f ∷ fs) old new = (mid : List File) × IsPut f.0 f.1 old mid × PutEach fs mid new
-
--- The journal of a valid run is legal, and whole for the script. The user of a picture does nothing.
-pub record IsJournal (c : Command) (lines : List Line) (journal : List Entry) : Type 0 where
-  pub legal : IsLegal (configuration c) journal
-  pub whole : IsWhole (calls_to_make lines ∷ []) [] journal
+-- the files that a run puts, in order: one for each shot, shot-1.ppm and so on, and then final.ppm
+pub record AreOutputs (s : Setup) (journal : List Entry) (files : List File) : Type 0 where
+  pub shots : List File
+  pub each : AreShotsFrom s.config s.scripts (opening s.config) journal shots
+  pub are : files ≡ shots ++ (final_name, final_picture s journal) ∷ []

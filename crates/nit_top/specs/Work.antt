@@ -1,74 +1,170 @@
--- How the work of a command may come to its end, before the line is said.
-use Rattle.std.specs.Prelude.{◌≡◌, ◌⊎◌, ℕ, List, [], ◌∷◌, None, Result, Ok, Err, IfSome}
+-- How the work of a command comes to its end, before the line is said.
+use Rattle.std.specs.Prelude.{◌≡◌, ◌⊎◌, ℕ, ◌+◌, ◌<◌, ◌≤◌, Bool, true, false, List, [], ◌∷◌, ◌++◌, length, map, Option, Some, None, Result, Ok, Err, IfSome, Vec}
+use Rattle.std.specs.Global.{Global}
+use Rattle.nit_config.specs.Configuration.{Configuration}
 use Rattle.nit_events.specs.declared.entry.Entry.{Entry}
+use Rattle.nit_events.specs.declared.entry.Entry.TheVariants as entry
+use Rattle.nit_journal.specs.Journals.{shots}
+use Rattle.nit_rect.specs.declared.memory.NoMemory.{NoMemory}
+use Rattle.nit_script.specs.declared.error.ScriptError.{ScriptError}
+use Rattle.nit_script.specs.declared.error.ScriptError.TheVariants as script
 use Rattle.nit_script.specs.declared.line.Line.{Line}
+use Rattle.nit_script.specs.declared.line.InputLine.{InputLine}
 use Rattle.nit_store.specs.declared.store.PutError.{PutError}
 use Rattle.nit_store.specs.declared.store.PutError.TheVariants as put
-use Rattle.nit_store.specs.Shown.{Shown, bytes_of, asking, ReadFaulted, WriteFaulted, PutIn}
+use Rattle.nit_store.specs.Shown.{Shown, File, bytes_of, asking, ReadFaulted, WriteFaulted}
 use Rattle.nit_store.specs.Answers.{AskedAtMost}
 use Rattle.nit_top.specs.declared.finish.End.{End}
 use Rattle.nit_top.specs.declared.finish.End.TheVariants as end
-use Rattle.nit_top.specs.Command.{Still}
-use Rattle.nit_top.specs.Judged.{Judgement, Valid, BadLine, TooLong, JudgedScript}
-use Rattle.nit_top.specs.Small.{first_large}
-use Rattle.nit_top.specs.Outputs.{IsJournal, final_name, final_picture, configuration}
+use Rattle.nit_top.specs.declared.finish.Fault.{Fault}
+use Rattle.nit_top.specs.declared.finish.Fault.TheVariants as fault
+use Rattle.nit_top.specs.declared.finish.Stop.{Stop}
+use Rattle.nit_top.specs.declared.finish.Worked.{Worked}
+use Rattle.nit_top.specs.declared.run.PutFault.{PutFault}
+use Rattle.nit_top.specs.declared.run.Ran.{Ran}
+use Rattle.nit_top.specs.Command.{Command}
+use Rattle.nit_top.specs.Judged.{SpellScripts, wanted_by, IsClientFault, AreScripts}
+use Rattle.nit_top.specs.Setup.{Setup, HaveSamePhases}
+use Rattle.nit_top.specs.Outputs.{IsJournal, AreOutputs}
+use Rattle.nit_top.specs.Lines.{name_text, line_of}
+use Rattle.nit_top.specs.Answer.{asked_also, PutFiles, Came, Counts}
 
--- the script's bytes are judged so, where the store tells its files
-abbrev pub ToldScript : Shown → List ℕ → Judgement → Type 0
-ToldScript old name j = IfSome old.files (λ files. JudgedScript (bytes_of name files) j)
+-- ---- reading and judging a file
 
--- the bytes of a script, at most 1,048,576, were judged, unless memory ran out
-abbrev pub JudgedBytes : List ℕ → Result (List Line) End → Type 0
-JudgedBytes bytes (Ok lines) = JudgedScript bytes (Valid lines)
-JudgedBytes bytes (Err (end.BadLine number)) = JudgedScript bytes (BadLine number)
-JudgedBytes bytes (Err end.TooLong) = JudgedScript bytes TooLong
-JudgedBytes bytes (Err end.NoMemory) = Unit {0}
-JudgedBytes bytes (Err end.ReadFault) = ⊥
-JudgedBytes bytes (Err end.Usage) = ⊥
-JudgedBytes bytes (Err end.WriteFault) = ⊥
-JudgedBytes bytes (Err end.Whole) = ⊥
+-- the bytes of a file, at most 1,048,576, were judged, unless memory ran out
+abbrev pub JudgedBytes : {V : Type 0} → (List ℕ → V → Type 0) → (List ℕ → Fault → Type 0) → List ℕ → Result V End → Type 0
+JudgedBytes Valid Faulty bytes (Ok v) = Valid bytes v
+JudgedBytes Valid Faulty bytes (Err (end.Refused f)) = Faulty bytes f
+JudgedBytes Valid Faulty bytes (Err end.NoMemory) = Unit {0}
+JudgedBytes Valid Faulty bytes (Err other) = ⊥
 
--- a script was read and judged
-abbrev pub Loaded : Shown → List ℕ → Shown → Result (List Line) End → Type 0
-Loaded old name new (Ok lines) = (new ≡ asking old name) × (first_large lines ≡ None) × ToldScript old name (Valid lines)
-Loaded old name new (Err end.ReadFault) = ReadFaulted (asking old name) new
-Loaded old name new (Err (end.BadLine number)) = (new ≡ asking old name) × ToldScript old name (BadLine number)
-Loaded old name new (Err end.TooLong) = (new ≡ asking old name) × ToldScript old name TooLong
-Loaded old name new (Err end.NoMemory) = AskedAtMost old name new
-Loaded old name new (Err end.Usage) = ⊥
-Loaded old name new (Err end.WriteFault) = ⊥
-Loaded old name new (Err end.Whole) = ⊥
+-- a file was read, where this is the fault of one with too many bytes
+abbrev pub ReadFor : Fault → Shown → List ℕ → Shown → Result (Vec ℕ Global) End → Type 0
+ReadFor long old name new (Ok bytes) = (new ≡ asking old name) × (length bytes.items ≤ 1048576) × IfSome old.files (λ files. bytes.items ≡ bytes_of name files)
+ReadFor long old name new (Err end.ReadFault) = ReadFaulted (asking old name) new
+ReadFor long old name new (Err (end.Refused f)) = (f ≡ long) × (new ≡ asking old name) × IfSome old.files (λ files. 1048576 < length (bytes_of name files))
+ReadFor long old name new (Err end.NoMemory) = AskedAtMost old name new
+ReadFor long old name new (Err other) = ⊥
 
--- how the work ends by what the put of the picture answered
-abbrev pub end_of : {T : Type 0} → Result T PutError → End
-end_of (Ok done) = end.Whole
-end_of (Err put.Failed) = end.WriteFault
-end_of (Err put.NoMemory) = end.NoMemory
+-- how the work ends where bytes are no script
+abbrev pub end_of_script : ScriptError → End
+end_of_script (script.Bad number) = end.Refused (fault.BadLine number)
+end_of_script script.TooLong = end.Refused fault.TooLong
+end_of_script script.NoMemory = end.NoMemory
 
--- the run of a valid script was begun
-pub record Ran (old : Shown) (width height : ℕ) (name : List ℕ) (journal : List Entry) : Type 0 where
-  pub lines : List Line
-  pub valid : ToldScript old name (Valid lines)
-  pub ran : IsJournal (Still width height name) lines journal
+-- where a file of this name was not read, or its bytes have a fault
+abbrev pub StoppedAt : (List ℕ → Fault → Type 0) → Shown → List ℕ → Shown → End → Type 0
+StoppedAt Faulty old name new end.ReadFault = ReadFaulted (asking old name) new
+StoppedAt Faulty old name new (end.Refused f) = (new ≡ asking old name) × IfSome old.files (λ files. Faulty (bytes_of name files) f)
+StoppedAt Faulty old name new end.NoMemory = AskedAtMost old name new
+StoppedAt Faulty old name new other = ⊥
 
--- its last picture was put
-pub record Put (old : Shown) (width height : ℕ) (name : List ℕ) (new : Shown) (journal : List Entry) : Type 0 where
-  pub lines : List Line
-  pub valid : ToldScript old name (Valid lines)
-  pub ran : IsJournal (Still width height name) lines journal
-  pub put : PutIn final_name (final_picture (configuration (Still width height name)) (lines ∷ []) journal) old.files new.files
-  pub rest : new ≡ record (asking (asking old name) final_name) { files = new.files }
+-- a file was read and judged
+abbrev pub Loaded : {V : Type 0} → (List ℕ → V → Type 0) → (List ℕ → Fault → Type 0) → Shown → List ℕ → Shown → Result V Stop → Type 0
+Loaded Valid Faulty old name new (Ok v) = (new ≡ asking old name) × IfSome old.files (λ files. Valid (bytes_of name files) v)
+Loaded Valid Faulty old name new (Err stop) = (name_text stop.name ≡ name) × StoppedAt Faulty old name new stop.end
 
--- want of memory came before the run, or with the put
-abbrev pub Unfinished : Shown → ℕ → ℕ → List ℕ → Shown → List Entry → Type 0
-Unfinished old width height name new journal = (AskedAtMost old name new × (journal ≡ [])) ⊎ (AskedAtMost (asking old name) final_name new × Ran old width height name journal)
+-- ---- the scripts of the clients
 
--- the work of `still` came to this end
-abbrev pub Performed : Shown → ℕ → ℕ → List ℕ → Shown → End → List Entry → Type 0
-Performed old width height name new end.Usage journal = ⊥
-Performed old width height name new end.ReadFault journal = ReadFaulted (asking old name) new × (journal ≡ [])
-Performed old width height name new (end.BadLine number) journal = (new ≡ asking old name) × ToldScript old name (BadLine number) × (journal ≡ [])
-Performed old width height name new end.TooLong journal = (new ≡ asking old name) × ToldScript old name TooLong × (journal ≡ [])
-Performed old width height name new end.WriteFault journal = WriteFaulted (asking (asking old name) final_name) new × Ran old width height name journal
-Performed old width height name new end.NoMemory journal = Unfinished old width height name new journal
-Performed old width height name new end.Whole journal = Put old width height name new journal
+-- the same, with these names at the end of those that were asked for, where they are told
+abbrev pub asking_all : Shown → List (List ℕ) → Shown
+asking_all old names = record old { asked = asked_also old.asked names }
+
+-- The script of one name was not read or is refused, or memory ran out there; those before it are valid.
+pub record StoppedAmong (old : Shown) (names : List (List ℕ)) (new : Shown) (stop : Stop) : Type 0 where
+  pub before : List (List ℕ)
+  pub behind : List (List ℕ)
+  pub parts : names ≡ before ++ name_text stop.name ∷ behind
+  pub scripts : List (List Line)
+  pub valid : IfSome old.files (λ files. AreScripts files before scripts)
+  pub stopped : StoppedAt (IsClientFault (wanted_by scripts)) (asking_all old before) (name_text stop.name) new stop.end
+
+-- the scripts of these names were read and judged, in order
+abbrev pub LoadedAll : Shown → List (List ℕ) → Shown → Result (Vec (List Line) Global) Stop → Type 0
+LoadedAll old names new (Ok scripts) = (new ≡ asking_all old names) × (length scripts.items ≡ length names) × HaveSamePhases scripts.items × IfSome old.files (λ files. SpellScripts files names scripts.items)
+LoadedAll old names new (Err stop) = StoppedAmong old names new stop
+
+-- ---- the run
+
+-- the setup of a run
+abbrev pub setup_of : Configuration → List (List Line) → List InputLine → Setup
+setup_of config scripts input = record { config = config; scripts = scripts; input = input }
+
+-- these files were put, one after the other
+pub record PutAll (old : Shown) (files : List File) (new : Shown) : Type 0 where
+  pub rest : new ≡ record (asking_all old (map (λ f. f.0) files)) { files = new.files }
+  pub put : PutFiles files old.files new.files
+
+-- what a put under this name leaves that was refused so
+abbrev pub PutRefused : Shown → List ℕ → Shown → PutError → Type 0
+PutRefused old name new put.Failed = WriteFaulted (asking old name) new
+PutRefused old name new put.NoMemory = AskedAtMost old name new
+
+-- the files before one of them were put, and that one was refused
+pub record PutUntil (old : Shown) (files : List File) (new : Shown) (name : List ℕ) (error : PutError) : Type 0 where
+  pub front : List File
+  pub bytes : List ℕ
+  pub back : List File
+  pub parts : files ≡ front ++ (name, bytes) ∷ back
+  pub mid : Shown
+  pub put : PutAll old front mid
+  pub refused : PutRefused mid name new error
+
+-- all files were put; or those before one, which was refused, and no other was tried
+abbrev pub Puts : Shown → List File → Shown → Option PutFault → Type 0
+Puts old files new None = PutAll old files new
+Puts old files new (Some fault) = PutUntil old files new (name_text fault.name) fault.error
+
+-- the entry is a shot
+abbrev pub is_shot : Entry → Bool
+is_shot (entry.Shot number) = true
+is_shot other = false
+
+-- the run went to its end
+pub record HasRun (old : Shown) (s : Setup) (new : Shown) (ran : Ran) : Type 0 where
+  pub journal : IsJournal s ran.journal.items
+  pub frames : ran.frames ≡ shots ran.journal.items + 1
+  pub outputs : List File
+  pub are : AreOutputs s ran.journal.items outputs
+  pub puts : Puts old outputs new ran.fault
+
+-- the run went to its end, or was not begun for want of memory
+abbrev pub Runs : Shown → Setup → Shown → Result Ran NoMemory → Type 0
+Runs old s new (Ok ran) = HasRun old s new ran
+Runs old s new (Err error) = new ≡ old
+
+-- ---- the work
+
+-- how the work ends by the refusal of a put
+abbrev pub end_of_put : PutError → End
+end_of_put put.Failed = end.WriteFault
+end_of_put put.NoMemory = end.NoMemory
+
+-- how the work ends after a run, by the put that was refused
+abbrev pub end_of : Option PutFault → End
+end_of None = end.Whole
+end_of (Some f) = end_of_put f.error
+
+-- what the work leaves after a run that went to its end
+pub record IsAfterRun (old : Shown) (s : Setup) (new : Shown) (w : Worked) : Type 0 where
+  pub ran : Ran
+  pub has_run : HasRun old s new ran
+  pub end_is : w.stop.end ≡ end_of ran.fault
+  pub name_is : IfSome ran.fault (λ f. w.stop.name ≡ f.name)
+  pub journal_is : w.journal.items ≡ ran.journal.items
+  pub clients_are : w.clients ≡ length s.scripts
+  pub frames_are : w.frames ≡ ran.frames
+
+-- a setup was run, or memory ran out before and nothing was done
+abbrev pub Performed : Shown → Setup → Shown → Worked → Type 0
+Performed old s new w = IsAfterRun old s new w ⊎ ((w.stop.end ≡ end.NoMemory) × (new ≡ old) × (w.journal.items ≡ []))
+
+-- the line on how the work came to its end
+abbrev pub line_on : Worked → List ℕ
+line_on w = line_of w.stop.end (name_text w.stop.name) (record { clients = w.clients; entries = length w.journal.items; frames = w.frames })
+
+-- the work of a command came to its end
+pub record Ends (c : Command) (old new : Shown) (w : Worked) : Type 0 where
+  pub came : Came c old new.files new.asked w.journal.items w.stop.end (line_on w)
+  pub counts : Counts old new w.stop.end
+  pub said : new.said ≡ old.said

@@ -1,18 +1,25 @@
 //! The top call: from the words of the command line to the files that are put and the line that is said.
 //!
-//! The words `still W H SCRIPT` make one picture of one client's script. The work is: read the script and
-//! judge it; take all memory; do its lines; put `final.ppm`; say how it went.
+//! | words | what is done |
+//! |---|---|
+//! | `still W H SCRIPT` | the run of one client's script, whose user does nothing, on a screen of W by H |
+//! | `turns CONFIG` | the run of a configuration's clients and its input script, all by turns |
+//!
+//! Either way the work is: read the files and judge them one by one; take all memory; run, and put the
+//! pictures; say how it went. What a run is made of, its configuration and its scripts, is called its setup.
 #![tactic(auto)]
 
+mod desk;
 mod finish;
+mod last;
+pub mod laws;
 mod load;
-mod picture;
+mod opening;
+mod perform;
 mod run;
 mod say;
-mod sketch;
-mod small;
-mod still;
 mod top;
+mod user;
 mod words;
 
 pub use finish::Done;

@@ -1,13 +1,15 @@
 //! The top call.
 
-ghost use Rattle.std.specs.Prelude.{◌≡◌, length};
-ghost use Rattle.nit_top.specs.Command.{texts};
-ghost use Rattle.nit_top.specs.Answer.{Answer, Ended, Finished, named};
+ghost use Rattle.std.specs.Prelude.{◌≡◌};
+ghost use Rattle.nit_top.specs.Command.{Turns, command, texts};
+ghost use Rattle.nit_top.specs.Answer.{Answer};
+ghost use Rattle.nit_top.specs.Ended.{Ended, Finished};
 
-use crate::finish::{Done, End, status};
+use crate::finish::{Done, End, Worked, at, status, unbegun};
+use crate::load::load_config;
+use crate::perform;
 use crate::say::tell;
-use crate::still::{Worked, perform, unbegun};
-use crate::words::parse_words;
+use crate::words::{Asked, parse_words};
 use nit_actor::Gate;
 use nit_store::Store;
 use std::alloc::Global;
@@ -37,34 +39,44 @@ pub fn nitpicker_alone<S: Store>(alloc: Global, words: &[String], store: &mut S)
 
 /// Does the work, and says how it came to its end.
 fn work<S: Store>(alloc: Global, words: &[String], store: &mut S) -> Done
-    ensures { Ended (S.shown store.old) (texts words.now) (S.shown store.new) result.status result.journal.items }
+    ensures { Ended (S.shown store.old) (command (texts words.now)) (S.shown store.new) result.status result.journal.items }
 {
-    let Some(asked) = parse_words(words) else {
-        return finish(store, unbegun(alloc, End::Usage), "");
-    };
-    let worked = perform(alloc, store, asked);
-    let name = named(worked.end, asked.script);
-    finish(store, worked, name)
-}
-
-/// The name of the file that the line names.
-fn named(end: End, script: &str) -> &str
-    ensures { result.now ≡ named script.now end }
-{
-    match end {
-        End::WriteFault => "final.ppm",
-        _ => script,
+    match parse_words(words) {
+        None => finish(store, unbegun(alloc, at(End::Usage, ""))),
+        Some(
+            Asked::Still {
+                width,
+                height,
+                script,
+            },
+        ) => {
+            let worked = perform::still(alloc, store, width, height, script);
+            finish(store, worked)
+        }
+        Some(Asked::Turns { config }) => turns(alloc, store, config),
     }
 }
 
-/// Says how the work came to its end.
-fn finish<S: Store>(store: &mut S, worked: Worked, name: &str) -> Done
-    ensures said { Finished (S.shown store.old) worked.end name.now (length worked.journal.items) (S.shown store.new) result.status }
-    ensures journal { result.journal.items ≡ worked.journal.items }
+/// Runs the configuration of this name by turns.
+fn turns<S: Store>(alloc: Global, store: &mut S, name: &str) -> Done
+    ensures { Ended (S.shown store.old) (Turns name.now) (S.shown store.new) result.status result.journal.items }
 {
-    let said = tell(store, worked.end, name, worked.journal.len() as u64);
+    let config = match load_config(alloc, store, name) {
+        Ok(config) => config,
+        Err(stop) => return finish(store, unbegun(alloc, stop)),
+    };
+    let worked = perform::turns(alloc, store, &config);
+    finish(store, worked)
+}
+
+/// Says how the work came to its end.
+fn finish<S: Store>(store: &mut S, worked: Worked) -> Done
+    ensures said { Finished (S.shown store.old) worked.entry (S.shown store.new) result.status }
+    ensures journal { result.journal.items ≡ worked.entry.journal.items }
+{
+    let said = tell(store, &worked);
     Done {
-        status: status(worked.end, said),
+        status: status(worked.stop.end, said),
         journal: worked.journal,
     }
 }

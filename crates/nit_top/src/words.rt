@@ -1,36 +1,55 @@
 //! The words of the command line.
 
 ghost use Rattle.std.specs.Prelude.{◌≡◌, ◌<◌, ◌≤◌, IfSome, IfNone, Some};
-ghost use Rattle.nit_top.specs.Command.{Still, NoCommand, texts, size_of, command};
+ghost use Rattle.nit_top.specs.Command.{NoCommand, texts, size_of, still, command};
+ghost use Rattle.nit_top.specs.Asked.{asks_for, IsInRange};
 
 use nit_script::natural;
 
-/// A picture of this size is made of the script of this name.
+/// What the words ask for.
 #[derive(Clone, Copy, Debug)]
-pub struct Asked<'a> {
-    pub width: u32,
-    pub height: u32,
-    pub script: &'a str,
+pub enum Asked<'a> {
+    /// A picture of this size, made of the script of this name.
+    Still {
+        width: u32,
+        height: u32,
+        script: &'a str,
+    },
+    /// The run of the configuration of this name, by turns.
+    Turns {
+        config: &'a str,
+    },
 }
 
 /// What the words ask for. None where they are no command.
 pub fn parse_words(words: &[String]) -> Option<Asked<'_>>
-    ensures some { IfSome result (λ a. command (texts words.now) ≡ Still a.width a.height a.script.now) }
+    ensures some { IfSome result (λ a. command (texts words.now) ≡ asks_for a) }
     ensures none { IfNone result (command (texts words.now) ≡ NoCommand) }
-    ensures size { IfSome result (λ a. (0 < a.width) × (a.width ≤ 1024) × (0 < a.height) × (a.height ≤ 768)) }
+    ensures range { IfSome result IsInRange }
 {
-    let [verb, width, height, script] = words else {
-        return None;
-    };
-    if verb.as_str() != "still" {
-        return None;
+    match words {
+        [verb, config] if verb.as_str() == "turns" => Some(Asked::Turns {
+            config: config.as_str(),
+        }),
+        [verb, width, height, script] if verb.as_str() == "still" => {
+            still(width.as_str(), height.as_str(), script.as_str())
+        }
+        _ => None,
     }
-    let width = size(width.as_str(), 1024)?;
-    let height = size(height.as_str(), 768)?;
-    Some(Asked {
+}
+
+/// A picture of the size that these words spell, made of this script.
+fn still<'a>(width: &str, height: &str, script: &'a str) -> Option<Asked<'a>>
+    ensures some { IfSome result (λ a. still (size_of 1024 width.now) (size_of 768 height.now) script.entry.now ≡ asks_for a) }
+    ensures none { IfNone result (still (size_of 1024 width.now) (size_of 768 height.now) script.entry.now ≡ NoCommand) }
+    ensures range { IfSome result IsInRange }
+{
+    let width = size(width, 1024)?;
+    let height = size(height, 768)?;
+    Some(Asked::Still {
         width,
         height,
-        script: script.as_str(),
+        script,
     })
 }
 

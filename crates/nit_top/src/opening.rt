@@ -1,0 +1,135 @@
+//! The memory of a run, all of which is taken before its first round.
+
+ghost use Rattle.std.specs.Prelude.{◌≡◌, ◌+◌, ◌*◌, ◌<◌, ◌≤◌, IfOk, length, map, sum};
+ghost use Rattle.nit_config.specs.Configured.{IsConfigured};
+ghost use Rattle.nit_slots.specs.Account.{IsDonation};
+ghost use Rattle.nit_report.specs.Picture.{picture_length};
+ghost use Rattle.nit_actor.specs.Running.{glass_after};
+ghost use Rattle.nit_top.specs.Setup.{IsRunnable};
+ghost use Rattle.nit_top.specs.Opened.{IsOpened, glasses_of, plans_of};
+ghost use Rattle.nit_top.specs.Work.{setup_of};
+
+use nit_actor::laws::each_line_once;
+use nit_config::Config;
+use nit_plan::laws::{buffer_within_table, one_more_line};
+use nit_plan::{Plan, blank_words, ink_of, plan_of};
+use nit_rect::NoMemory;
+use nit_report::ppm_len;
+use nit_scene::Scene;
+use nit_script::{Client, Input};
+use nit_slots::room;
+use nit_word::Inked;
+use std::alloc::Global;
+
+/// How many units a word of a session's table costs.
+const WORD_UNITS: u32 = 8;
+
+/// A run before its first round: the scene, and for each client its plan and its own glass; and the room for a
+/// picture, as a frame and as the bytes of a file.
+#[derive(Drop)]
+pub struct Opened {
+    pub scene: Scene<Inked>,
+    pub owns: Vec<Inked>,
+    pub plans: Vec<Plan>,
+    pub frame: Vec<u32>,
+    pub text: Vec<u8>,
+}
+
+/// Takes all memory of a run. The journal has room for an entry for each line of the scripts, and for the last
+/// picture.
+pub fn open(
+    alloc: Global,
+    config: &Config,
+    scripts: &[Client],
+    input: &Input,
+) -> Result<Opened, NoMemory>
+    requires { IsRunnable (setup_of config.now scripts.now input.now) }
+    ensures { IfOk result (λ o. IsOpened (setup_of config.now scripts.now input.now) o) }
+{
+    each_line_once();
+    buffer_within_table();
+    let plans = plans_of(alloc, config, scripts)?;
+    let owns = glasses_of(alloc, config, scripts)?;
+    let glasses = glasses_of(alloc, config, scripts)?;
+    let lines = line_count(scripts, input);
+    let scene = Scene::new(alloc, config, glasses, lines + 1)?;
+    let frame = blank_frame(alloc, config)?;
+    let text = blank_text(alloc, config)?;
+    Ok(Opened {
+        scene,
+        owns,
+        plans,
+        frame,
+        text,
+    })
+}
+
+/// The plan of each client's script.
+fn plans_of(alloc: Global, config: &Config, scripts: &[Client]) -> Result<Vec<Plan>, NoMemory>
+    requires configured { IsConfigured config.now }
+    requires each { length scripts.now ≡ length config.now.clients }
+    ensures { IfOk result (λ v. v.items ≡ plans_of config.now scripts.now) }
+{
+    let clients = config.clients.as_slice();
+    let mut plans = Vec::new(alloc);
+    for (sid, script) in scripts.iter().enumerate() {
+        plans.push(plan_of(alloc, script, clients[sid].donation)?)?;
+    }
+    Ok(plans)
+}
+
+/// A glass for each client, in order, on which no line is done.
+fn glasses_of(alloc: Global, config: &Config, scripts: &[Client]) -> Result<Vec<Inked>, NoMemory>
+    requires configured { IsConfigured config.now }
+    requires each { length scripts.now ≡ length config.now.clients }
+    ensures { IfOk result (λ v. v.items ≡ glasses_of config.now scripts.now) }
+{
+    let clients = config.clients.as_slice();
+    let mut glasses = Vec::new(alloc);
+    for (sid, script) in scripts.iter().enumerate() {
+        glasses.push(glass(alloc, sid as u32, script, clients[sid].donation)?)?;
+    }
+    Ok(glasses)
+}
+
+/// The glass of a session that opens with this donation: the words of its table are 0, and its ink is that of
+/// the script.
+fn glass(alloc: Global, sid: u32, script: &Client, donation: u32) -> Result<Inked, NoMemory>
+    requires { IsDonation donation }
+    ensures { IfOk result (λ g. g ≡ glass_after sid script.now donation 0) }
+{
+    one_more_line();
+    let words = blank_words(alloc, (room(donation) / WORD_UNITS) as usize)?;
+    let ink = ink_of(alloc, script.lines())?;
+    Ok(Inked::new(sid, words, ink))
+}
+
+/// How many lines all scripts have.
+fn line_count(scripts: &[Client], input: &Input) -> usize
+    requires { length scripts.now ≤ 16 }
+    ensures count { result ≡ sum (map length scripts.now) + length input.now }
+    ensures most { result ≤ 1114112 }
+{
+    let mut count = input.lines().len();
+    for script in scripts {
+        count += script.lines().len();
+    }
+    count
+}
+
+/// A word for each pixel of the screen.
+fn blank_frame(alloc: Global, config: &Config) -> Result<Vec<u32>, NoMemory>
+    requires { IsConfigured config.now }
+    ensures { IfOk result (λ v. length v.items ≡ config.now.width * config.now.height) }
+{
+    let pixels = config.width as usize * config.height as usize;
+    Ok(vec![in alloc; 0; pixels]?)
+}
+
+/// A byte for each of a picture of the screen.
+fn blank_text(alloc: Global, config: &Config) -> Result<Vec<u8>, NoMemory>
+    requires { IsConfigured config.now }
+    ensures { IfOk result (λ v. length v.items ≡ picture_length config.now.width config.now.height) }
+{
+    Ok(vec![in alloc; 0; ppm_len(config.width, config.height)]?)
+}

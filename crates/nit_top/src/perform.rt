@@ -1,0 +1,133 @@
+//! The work of a command: what is to be run, the run, and how it came to its end.
+
+ghost use Rattle.std.specs.Prelude.{◌≡◌, ◌<◌, ◌≤◌, ◌∷◌, [], ℕ, List, IfOk, IfSome};
+ghost use Rattle.nit_config.specs.Configuration.{still_configuration};
+ghost use Rattle.nit_config.specs.Configured.{IsConfigured};
+ghost use Rattle.nit_store.specs.Shown.{Shown, bytes_of, asking};
+ghost use Rattle.nit_top.specs.Judged.{IsConfig};
+ghost use Rattle.nit_top.specs.Command.{Still, Turns};
+ghost use Rattle.nit_top.specs.Setup.{IsRunnable};
+ghost use Rattle.nit_top.specs.Work.{Ends, Performed, setup_of, end_of};
+
+use crate::finish::{End, Stop, Worked, at, unbegun};
+use crate::load::{load_client, load_input, load_scripts, wanted_by};
+use crate::run::{PutFault, run};
+use crate::user::idle_user;
+use nit_config::{Config, FileName, Member};
+use nit_glyph::Label;
+use nit_rect::NoMemory;
+use nit_script::{Client, Input};
+use nit_store::{PutError, Store};
+use std::alloc::Global;
+
+/// Makes the picture of the script of this name.
+pub fn still<'a, S: Store>(
+    alloc: Global,
+    store: &mut S,
+    width: u32,
+    height: u32,
+    script: &'a str,
+) -> Worked<'a>
+    requires { (0 < width) × (width ≤ 1024) × (0 < height) × (height ≤ 768) }
+    ensures { Ends (Still width height script.entry.now) (S.shown store.old) (S.shown store.new) result }
+{
+    let client = match load_client(alloc, store, script, None) {
+        Ok(client) => client,
+        Err(stop) => return unbegun(alloc, stop),
+    };
+    let Ok(config) = still_configuration(alloc, width, height) else {
+        return unbegun(alloc, at(End::NoMemory, script));
+    };
+    let Ok(input) = idle_user(alloc, client.lines()) else {
+        return unbegun(alloc, at(End::NoMemory, script));
+    };
+    perform(alloc, store, &config, &[client], &input)
+}
+
+/// The configuration of a picture of one client's script.
+fn still_configuration(alloc: Global, width: u32, height: u32) -> Result<Config, NoMemory>
+    ensures { IfOk result (λ config. config ≡ still_configuration width height) }
+{
+    let mut clients = Vec::new(alloc);
+    clients.push(still_member(alloc)?)?;
+    Ok(Config {
+        width,
+        height,
+        bar: false,
+        input: FileName::new(alloc, b"still")?,
+        clients,
+    })
+}
+
+/// The client of a picture.
+fn still_member(alloc: Global) -> Result<Member, NoMemory>
+    ensures { IfOk result (λ m. (still_configuration 1 1).clients ≡ m ∷ []) }
+{
+    let Some(label) = Label::new(b"still") else {
+        unreachable!()
+    };
+    Ok(Member {
+        label,
+        donation: 8_388_608,
+        script: FileName::new(alloc, b"still")?,
+        layer: 0,
+        clicks: true,
+    })
+}
+
+/// Runs the scripts of a configuration.
+pub fn turns<'a, S: Store>(alloc: Global, store: &mut S, config: &'a Config) -> Worked<'a>
+    requires { IsConfigured config.now }
+    ensures { (name : List ℕ) → (first : Shown) → (S.shown store.old) ≡ asking first name
+        → IfSome first.files (λ files. IsConfig (bytes_of name files) config.entry.now)
+        → Ends (Turns name) first (S.shown store.new) result }
+{
+    let scripts = match load_scripts(alloc, store, &config.clients) {
+        Ok(scripts) => scripts,
+        Err(stop) => return unbegun(alloc, stop),
+    };
+    let input = match load_input(alloc, store, config.input.as_str(), wanted_by(&scripts)) {
+        Ok(input) => input,
+        Err(stop) => return unbegun(alloc, stop),
+    };
+    perform(alloc, store, config, &scripts, &input)
+}
+
+/// Runs a setup. A run that is not begun leaves everything.
+fn perform<S: Store>(
+    alloc: Global,
+    store: &mut S,
+    config: &Config,
+    scripts: &[Client],
+    input: &Input,
+) -> Worked<'static>
+    requires { IsRunnable (setup_of config.now scripts.now input.now) }
+    ensures { Performed (S.shown store.old) (setup_of config.now scripts.now input.now) (S.shown store.new) result }
+{
+    let Ok(ran) = run(alloc, config, scripts, input, store) else {
+        return unbegun(alloc, at(End::NoMemory, ""));
+    };
+    Worked {
+        stop: stop_after(ran.fault),
+        journal: ran.journal,
+        clients: scripts.len(),
+        frames: ran.frames,
+    }
+}
+
+/// How the work ends after a run, by the put that was refused.
+fn stop_after(fault: Option<PutFault>) -> Stop<'static>
+    ensures end { result.end ≡ end_of fault }
+    ensures name { IfSome fault (λ f. result.name ≡ f.name) }
+{
+    let Some(fault) = fault else {
+        return at(End::Whole, "");
+    };
+    Stop {
+        end: match fault.error {
+            PutError::Failed => End::WriteFault,
+            PutError::NoMemory => End::NoMemory,
+        },
+        name: fault.name,
+    }
+}
