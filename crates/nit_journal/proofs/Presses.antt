@@ -341,24 +341,18 @@ module _ (x k : ℕ) where
   routing clicks pointed i (device.Release j) = release i j
 
   -- a move of the pointer leaves who holds what
-  moved : (width height : ℕ) (i : InputState) (dev : Device) → Holds i → Holds (Input.pointer_after width height i dev)
+  moved : (width height : ℕ) (i : InputState) (dev : Device) → Holds (Input.pointer_after width height i dev) → Holds i
   moved width height i (device.Motion h v) t = t
   moved width height i (device.Wheel n) t = t
   moved width height i (device.Press j) t = t
   moved width height i (device.Release j) t = t
-
-  moved_back : (width height : ℕ) (i : InputState) (dev : Device) → Holds (Input.pointer_after width height i dev) → Holds i
-  moved_back width height i (device.Motion h v) t = t
-  moved_back width height i (device.Wheel n) t = t
-  moved_back width height i (device.Press j) t = t
-  moved_back width height i (device.Release j) t = t
 
   route_step : (config : Configuration) (i : InputState) (stack : List View) (dev : Device) → IsStep i (route config i stack dev)
   unfolding route
   route_step config i stack dev = λ b was.
       let now = Input.pointer_after config.width config.height i dev in
       let pointed = option_map (λ (v : View). v.sid) (owner (bar_rows config) stack (point now.x now.y)) in
-      routing (clicks_on config pointed) pointed now dev b (λ t. was (moved_back config.width config.height i dev t))
+      routing (clicks_on config pointed) pointed now dev b (λ t. was (moved config.width config.height i dev t))
 
   -- ---- a whole journal
 
