@@ -1,0 +1,43 @@
+buffer 800 500
+fill 0 0 640 16 00FF00
+fill 0 20 640 16 00FF00
+fill 0 40 640 16 00FF00
+fill 0 60 640 16 00FF00
+fill 0 80 640 16 00FF00
+fill 0 100 640 16 00FF00
+fill 0 120 640 16 00FF00
+fill 0 140 640 16 00FF00
+fill 0 160 640 16 00FF00
+fill 0 180 640 16 00FF00
+fill 0 200 640 16 00FF00
+fill 0 220 640 16 00FF00
+fill 0 240 640 16 00FF00
+fill 0 260 640 16 00FF00
+fill 0 280 640 16 00FF00
+fill 0 300 640 16 00FF00
+fill 0 320 640 16 00FF00
+fill 0 340 640 16 00FF00
+fill 0 360 640 16 00FF00
+fill 0 380 640 16 00FF00
+fill 0 400 640 16 00FF00
+fill 0 420 640 16 00FF00
+fill 0 440 640 16 00FF00
+fill 0 460 640 16 00FF00
+fill 0 480 640 16 00FF00
+view
+view
+view
+view
+view
+place 1 40 30 400 250
+place 2 80 60 400 250
+place 3 120 90 400 250
+place 4 160 120 400 250
+place 5 200 150 400 250
+title 1 =tab 1
+title 2 =tab 2
+title 3 =tab 3
+title 4 =tab 4
+title 5 =tab 5
+refresh 0 0 800 500
+phase
