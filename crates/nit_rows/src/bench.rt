@@ -3,7 +3,7 @@
 use nit_actor::Open;
 use nit_events::Entry;
 use nit_store::{MemoryStore, have_different_names};
-use nit_top::{Done, nitpicker};
+use nit_top::{Done, nitpicker, nitpicker_alone};
 use std::alloc::{AllocError, Global};
 use std::process::Abort;
 use std::sync::Wait;
@@ -28,6 +28,18 @@ pub fn texts(alloc: Global, words: &[&str]) -> Result<Vec<String>, AllocError> {
 pub fn file(alloc: Global, name: &str, bytes: &[u8]) -> Result<Vec<(String, Vec<u8>)>, AllocError> {
     let mut files = Vec::new(alloc);
     files.push((String::from_str(alloc, name)?, bytes.to_vec(alloc)?))?;
+    Ok(files)
+}
+
+/// Files of these names and texts.
+pub fn files(alloc: Global, named: &[(&str, &str)]) -> Result<Vec<(String, Vec<u8>)>, AllocError> {
+    let mut files = Vec::new(alloc);
+    for (name, text) in named {
+        files.push((
+            String::from_str(alloc, name)?,
+            text.as_bytes().to_vec(alloc)?,
+        ))?;
+    }
     Ok(files)
 }
 
@@ -61,6 +73,12 @@ pub fn command<R: Threads + Wait + Sync>(
 ) -> Result<Done, AllocError> {
     let words = texts(alloc, words)?;
     Ok(nitpicker(rt, alloc, &words, store, &Open))
+}
+
+/// Does what the words ask for, on one thread.
+pub fn alone(alloc: Global, words: &[&str], store: &mut MemoryStore) -> Result<Done, AllocError> {
+    let words = texts(alloc, words)?;
+    Ok(nitpicker_alone(alloc, &words, store))
 }
 
 /// The bytes under a name.
@@ -115,12 +133,28 @@ pub fn assert_refused(
     assert_unbegun(rt, &done.journal);
 }
 
-/// A picture of 8 by 4: R is red, G is green, K is black, and all else is bare.
-pub fn picture(alloc: Global, rows: [&str; 4]) -> Result<Vec<u8>, AllocError> {
-    let head = [
-        0x50, 0x36, 0x0a, 0x38, 0x20, 0x34, 0x0a, 0x32, 0x35, 0x35, 0x0a,
-    ];
-    let mut bytes = head.to_vec(alloc)?;
+/// The file of this name is the picture of these rows.
+pub fn assert_shown(
+    rt: &impl Abort,
+    alloc: Global,
+    store: &MemoryStore,
+    name: &str,
+    size: &str,
+    rows: &[&str],
+) -> Result<(), AllocError> {
+    let picture = picture(alloc, size, rows)?;
+    assert_eq!(rt;
+        bytes_of(store, name),
+        Some(picture.as_slice()),
+        "at {name:?}"
+    );
+    Ok(())
+}
+
+/// A picture of this width and height, as `8 4`: R is red, G is green, B is blue, K is black, W is white, and all else
+/// is bare.
+pub fn picture(alloc: Global, size: &str, rows: &[&str]) -> Result<Vec<u8>, AllocError> {
+    let mut bytes = format!(in alloc; "P6\n{size}\n255\n")?.into_bytes();
     for row in rows {
         for pixel in row.as_bytes() {
             bytes.extend_from_slice(&colour(*pixel))?;
@@ -133,7 +167,9 @@ fn colour(pixel: u8) -> [u8; 3] {
     match pixel {
         b'R' => [0xFF, 0x00, 0x00],
         b'G' => [0x00, 0xFF, 0x00],
+        b'B' => [0x00, 0x00, 0xFF],
         b'K' => [0x00, 0x00, 0x00],
+        b'W' => [0xFF, 0xFF, 0xFF],
         _ => [0x00, 0x00, 0x20],
     }
 }
