@@ -23,8 +23,7 @@ use Rattle.nit_report.specs.Picture.{picture}
 use Rattle.nit_paint.specs.Painting.{IsHeld}
 use Rattle.nit_scene.specs.Painted.{Painted, glass_in, pixel_count, source_at}
 use Rattle.nit_scene.specs.Played.{Played, scenery_of, state_now}
-use Rattle.nit_top.specs.Opened.{HaveTables}
-use Rattle.nit_top.specs.Outputs.{picture_by, raw_words, word_from}
+use Rattle.nit_top.specs.Outputs.{HaveTables, picture_by, raw_words, word_from}
 use Rattle.nit_top.proofs.PerClient.{itself_at}
 
 -- ---- sessions

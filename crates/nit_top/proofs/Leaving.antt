@@ -8,8 +8,8 @@ use Rattle.nit_events.specs.declared.entry.Entry.TheVariants as entry
 use Rattle.nit_script.specs.declared.line.Line.{Line}
 use Rattle.nit_script.specs.declared.line.InputLine.{InputLine}
 use Rattle.nit_config.specs.Configuration.{Configuration}
-use Rattle.nit_journal.specs.State.{State, after, opening}
-use Rattle.nit_journal.specs.Journals.{IsLegal, replay, replay_from, shots}
+use Rattle.nit_journal.specs.State.{State, opening}
+use Rattle.nit_journal.specs.Journals.{IsLegal, replay, shots}
 use Rattle.nit_journal.specs.Whole.{IsWhole}
 use Rattle.nit_plan.specs.Calls.{calls_to_make, deeds_to_do}
 use Rattle.nit_scene.specs.Played.{Played, state_now}
@@ -19,10 +19,10 @@ use Rattle.nit_actor.specs.Running.{AreShotsFrom, IsRun, Putting, PutsAll, PutsS
 use Rattle.nit_top.specs.declared.run.PutFault.{PutFault}
 use Rattle.nit_top.specs.declared.run.Ran.{Ran}
 use Rattle.nit_top.specs.Setup.{Setup}
-use Rattle.nit_top.specs.Opened.{HaveTables}
-use Rattle.nit_top.specs.Outputs.{AreOutputs, IsJournal, final_name, final_picture, picture_by, tables_left}
+use Rattle.nit_top.specs.Outputs.{HaveTables, AreOutputs, IsJournal, final_name, final_picture, picture_by, tables_left}
 use Rattle.nit_top.specs.Work.{HasRun, Puts, is_shot}
 use Rattle.nit_top.proofs.Pictures.{final_more}
+use Rattle.nit_top.proofs.LastWords.{OneMore}
 use Rattle.nit_top.proofs.PerClient.{left_tables}
 
 -- ---- shots
@@ -40,15 +40,12 @@ shots_counted (entry.Final ∷ rest) = sum_by-cons _ entry.Final rest ∙ let mo
 abbrev pub WholeLaw : Type 0
 WholeLaw = (scripts : List (List Line)) (input : List InputLine) (journal : List Entry) → AreRoundsOf journal scripts input → IsWhole (map calls_to_make scripts) (deeds_to_do input) (journal ++ entry.Final ∷ [])
 
-abbrev pub OneMoreLaw : Type 0
-OneMoreLaw = (s : State) (journal : List Entry) (e : Entry) → replay_from s (journal ++ e ∷ []) ≡ after (replay_from s journal) e
-
 -- what is put at the end, whatever was put before
 abbrev pub PutsLast : State → List Sight → Putting → Shown → Option PutFault → Type 0
 PutsLast s owns at new fault = (tables : ℕ → List ℕ) (first : Shown) (tried : ℕ) (files : List File) → HaveTables owns tables → PutsAll files (putting first None tried) at → Puts first (files ++ (final_name, picture_by s tables) ∷ []) new fault
 
 pub run_leaves : (s : Setup) (start mid last : Played Sight) (owns : List Sight) (first new : Shown) (tried : ℕ) (at : Putting) (fault : Option PutFault) (ran : Ran)
-    → WholeLaw → OneMoreLaw → start.config ≡ s.config → IsRun s.scripts s.input start mid owns → last.entries ≡ mid.entries ++ entry.Final ∷ [] → last.config ≡ mid.config → IsLegal last.config last.entries
+    → WholeLaw → OneMore → start.config ≡ s.config → IsRun s.scripts s.input start mid owns → last.entries ≡ mid.entries ++ entry.Final ∷ [] → last.config ≡ mid.config → IsLegal last.config last.entries
     → PutsShots start.config s.scripts mid.entries (putting first None tried) at → PutsLast (state_now mid) owns at new fault
     → ran.journal.items ≡ last.entries → ran.frames ≡ shots last.entries + 1 → ran.fault ≡ fault → HasRun first s new ran
 run_leaves s start mid last owns first new tried at fault ran whole more begun run ended same legal (files, shots_, puts) puts_last journal frames refused = record {

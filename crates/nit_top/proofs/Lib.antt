@@ -5,6 +5,7 @@ pub mod Scripts
 pub mod Ending
 pub mod Setups
 pub mod Judging
+pub mod SaidLines
 pub mod Causes
 pub mod Puts
 pub mod Pictures

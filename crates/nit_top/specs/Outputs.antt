@@ -1,7 +1,8 @@
 -- What a run puts, and what its journal is.
-use Rattle.std.specs.Prelude.{◌≡◌, ℕ, ◌*◌, List, [], ◌∷◌, ◌++◌, map, slice_index, codes}
+use Rattle.std.specs.Prelude.{◌≡◌, ℕ, ◌*◌, ◌<◌, List, [], ◌∷◌, ◌++◌, length, map, slice_index, codes, Some}
 use Rattle.std.specs.List.{range_with_len}
 use Rattle.nit_word.specs.Channels.{bare_word}
+use Rattle.nit_word.specs.Sight.{Sight}
 use Rattle.nit_events.specs.declared.entry.Entry.{Entry}
 use Rattle.nit_events.specs.declared.entry.Entry.TheVariants as entry
 use Rattle.nit_stack.specs.Sources.{pixel, PixelSource, Bare, Black, Word}
@@ -10,6 +11,7 @@ use Rattle.nit_journal.specs.State.{State, opening, source_of}
 use Rattle.nit_journal.specs.Journals.{replay, IsLegal}
 use Rattle.nit_journal.specs.Whole.{IsWhole}
 use Rattle.nit_overlay.specs.Shown.{frame}
+use Rattle.nit_scene.specs.Painted.{glass_in}
 use Rattle.nit_scene.specs.Played.{scenery_of}
 use Rattle.nit_report.specs.Picture.{picture}
 use Rattle.nit_script.specs.declared.line.Line.{Line}
@@ -45,6 +47,10 @@ raw_words s tables = map (λ k. word_from tables (source_of s (pixel s.config.wi
 -- the picture of a state, row by row from the top, where each session's table has these words
 abbrev pub picture_by : State → (ℕ → List ℕ) → List ℕ
 picture_by s tables = picture s.config.width s.config.height (frame (scenery_of s) (raw_words s tables))
+
+-- each glass tells the words of its session's table
+abbrev pub HaveTables : List Sight → (ℕ → List ℕ) → Type 0
+HaveTables glasses tables = (t : ℕ) → t < length glasses → (glass_in glasses t).words ≡ Some (tables t)
 
 -- the words that each script leaves in its table
 abbrev pub tables_left : Configuration → List (List Line) → ℕ → List ℕ

@@ -7,6 +7,10 @@
 //!
 //! Either way the work is: read the files and judge them one by one; take all memory; run, and put the
 //! pictures; say how it went. What a run is made of, its configuration and its scripts, is called its setup.
+//!
+//! A run goes by rounds on one scene, on the calling thread, and takes no memory. It puts the picture of each shot
+//! as `shot-1.ppm` and so on, and then `final.ppm`, in which each client's words are those that its script leaves.
+//! After a put that was refused no other is tried, and the run goes on to its end.
 #![tactic(auto)]
 
 mod desk;

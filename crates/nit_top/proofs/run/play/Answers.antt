@@ -6,8 +6,7 @@ use Rattle.nit_scene.specs.Played.{state_now}
 use Rattle.nit_scene.specs.Showing.{IsGlass}
 use Rattle.nit_store.specs.Shown.{Shown}
 use Rattle.nit_actor.specs.Running.{putting}
-use Rattle.nit_top.specs.Opened.{HaveTables}
-use Rattle.nit_top.specs.Outputs.{final_name}
+use Rattle.nit_top.specs.Outputs.{HaveTables, final_name}
 use Rattle.nit_top.specs.Work.{HasRun, Puts, setup_of}
 use Rattle.nit_top.proofs.LastWords.{written_whole}
 use Rattle.nit_top.proofs.Leaving.{PutsLast, run_leaves}
