@@ -25,7 +25,7 @@ no_reading {at = at} g bytes none l rest fits e = none_some (at bytes) (l, rest)
 
 -- ---- a line more
 
-nothing_spelled : {L : Type 0} (spelling : L → List ℕ) (l : L) (rest : List ℕ) → [] ≡ spelled spelling l ++ rest → ⊥
+pub nothing_spelled : {L : Type 0} (spelling : L → List ℕ) (l : L) (rest : List ℕ) → [] ≡ spelled spelling l ++ rest → ⊥
 nothing_spelled spelling l rest e = absurd (omega (arith, ap length e, length-append (spelled spelling l) rest, length-append (spelling l) (10 ∷ [])))
 
 fits_push : {L : Type 0} (Fits : L → Type 0) (lines : List L) (l : L) → AllByRecursion Fits lines → Fits l → AllByRecursion Fits (lines ++ l ∷ [])
@@ -36,7 +36,7 @@ flat_map_push : {L : Type 0} (f : L → List ℕ) (lines : List L) (l : L) → f
 flat_map_push f [] l = append-nil (f l)
 flat_map_push f (x ∷ lines) l = ap (λ (r : List ℕ). f x ++ r) (flat_map_push f lines l) ∙ sym (append_assoc (f x) (flat_map f lines) (f l))
 
-begins_more : {L : Type 0} {Fits : L → Type 0} {spelling : L → List ℕ} {at : List ℕ → Option (L × List ℕ)} → IsReader Fits spelling at
+pub begins_more : {L : Type 0} {Fits : L → Type 0} {spelling : L → List ℕ} {at : List ℕ → Option (L × List ℕ)} → IsReader Fits spelling at
     → (bytes : List ℕ) (lines : List L) (rest : List ℕ) (l : L) (after : List ℕ) → Begins Fits spelling bytes lines rest → at rest ≡ Some (l, after) → Begins Fits spelling bytes (lines ++ l ∷ []) after
 begins_more {Fits = Fits} {spelling = spelling} g bytes lines rest l after so_far e =
     let t = g.takes rest l after e in
@@ -94,14 +94,14 @@ most_lines {Fits = Fits} {spelling = spelling} g bytes xs ys r s p stuck q =
     ]
 
 -- lines up to a rest with no reading are these and no others
-same_lines : {L : Type 0} {Fits : L → Type 0} {spelling : L → List ℕ} {at : List ℕ → Option (L × List ℕ)} → IsReader Fits spelling at
+pub same_lines : {L : Type 0} {Fits : L → Type 0} {spelling : L → List ℕ} {at : List ℕ → Option (L × List ℕ)} → IsReader Fits spelling at
     → (bytes : List ℕ) (xs ys : List L) (r s : List ℕ) → Begins Fits spelling bytes xs r → HasNoReading Fits spelling r → Begins Fits spelling bytes ys s → HasNoReading Fits spelling s → (xs ≡ ys) × (r ≡ s)
 same_lines {L = L} {Fits = Fits} {spelling = spelling} g bytes xs ys r s p stuck q stuck' =
     let m = most_lines g bytes xs ys r s p stuck q in
     let none = stuck_ends Fits spelling s m.0 r stuck' m.2 in
     (m.1 ∙ ap (λ (t : List L). ys ++ t) none.0 ∙ append-nil ys, sym none.1)
 
-reads_begins : {L : Type 0} (Fits : L → Type 0) (spelling : L → List ℕ) (bytes : List ℕ) (lines : List L) → Reads Fits spelling bytes lines → Begins Fits spelling bytes lines []
+pub reads_begins : {L : Type 0} (Fits : L → Type 0) (spelling : L → List ℕ) (bytes : List ℕ) (lines : List L) → Reads Fits spelling bytes lines → Begins Fits spelling bytes lines []
 reads_begins Fits spelling bytes lines h = (h.0, h.1 ∙ sym (append-nil (flat_map (spelled spelling) lines)))
 
 pub begins_reads : {L : Type 0} (Fits : L → Type 0) (spelling : L → List ℕ) (bytes : List ℕ) (lines : List L) (rest : List ℕ) → Begins Fits spelling bytes lines rest → rest ≡ [] → Reads Fits spelling bytes lines

@@ -3,7 +3,7 @@ pub use Rattle.nit_events.specs.Texts
 pub mod Spelling
 pub mod Grammar
 pub mod Phases
--- what the private readers and writers do, which no public clause cites
+-- what the readers and writers of parts of a line do; the scripts' own clauses cite none of it
 pub mod Reading
 pub mod CallReading
 pub mod LineReading

@@ -36,7 +36,11 @@ mod script;
 mod stroke_lines;
 mod write;
 
+pub use bytes::{take_byte, take_word};
+pub use call_lines::take_call;
+pub use device_lines::take_device;
 pub use error::ScriptError;
+pub use fields::natural_field;
 pub use laws::{
     client_first_bad_is_one, client_phases_count, client_reading_is_one, client_reading_is_whole,
     input_first_bad_is_one, input_phases_count, input_reading_is_one, input_reading_is_whole,
@@ -44,5 +48,5 @@ pub use laws::{
 pub use line::{InputLine, Line, Stroke};
 pub use numbers::natural;
 pub use parse::{parse_client, parse_input};
-pub use print::{print_client, print_input};
+pub use print::{print_client, print_input, put_call, put_device};
 pub use script::{Client, Input};

@@ -2,11 +2,11 @@
 
 ghost use Rattle.std.specs.Prelude.{◌≡◌, ◌++◌, IfOk, OnOk};
 ghost use Rattle.nit_script.specs.Spelling.{call_spelling, device_spelling, stroke_spelling, line_spelling, input_spelling};
-ghost use Rattle.nit_script.specs.Grammar.{spelled, ReadsClient, ReadsInput};
+ghost use Rattle.nit_script.specs.Grammar.{ReadsClient, ReadsInput};
 
 use crate::line::{InputLine, Line, Stroke};
 use crate::script::{Client, Input};
-use crate::write::{Field, put_line};
+use crate::write::{Field, put_words};
 use nit_events::{Call, Device};
 use nit_rect::NoMemory;
 use std::alloc::Global;
@@ -17,7 +17,8 @@ pub fn print_client(alloc: Global, c: &Client) -> Result<Vec<u8>, NoMemory>
 {
     let mut out = Vec::new(alloc);
     for line in c.lines() {
-        put_client_line(alloc, &mut out, line)?;
+        put_line(alloc, &mut out, line)?;
+        out.push(b'\n')?;
     }
     Ok(out)
 }
@@ -29,71 +30,73 @@ pub fn print_input(alloc: Global, i: &Input) -> Result<Vec<u8>, NoMemory>
     let mut out = Vec::new(alloc);
     for line in i.lines() {
         put_input_line(alloc, &mut out, line)?;
+        out.push(b'\n')?;
     }
     Ok(out)
 }
 
-fn put_client_line(alloc: Global, out: &mut Vec<u8>, line: &Line) -> Result<(), NoMemory>
-    ensures { OnOk result (out.new.items ≡ out.old.items ++ spelled line_spelling line.now) }
+fn put_line(alloc: Global, out: &mut Vec<u8>, line: &Line) -> Result<(), NoMemory>
+    ensures { OnOk result (out.new.items ≡ out.old.items ++ line_spelling line.now) }
 {
     match line {
         Line::Call(call) => put_call(alloc, out, call),
         Line::Stroke(stroke) => put_stroke(alloc, out, stroke),
-        Line::Phase => put_line(alloc, out, b"phase", &[]),
+        Line::Phase => put_words(alloc, out, b"phase", &[]),
     }
 }
 
 fn put_input_line(alloc: Global, out: &mut Vec<u8>, line: &InputLine) -> Result<(), NoMemory>
-    ensures { OnOk result (out.new.items ≡ out.old.items ++ spelled input_spelling line.now) }
+    ensures { OnOk result (out.new.items ≡ out.old.items ++ input_spelling line.now) }
 {
     match line {
         InputLine::Device(device) => put_device(alloc, out, device),
-        InputLine::Shot => put_line(alloc, out, b"shot", &[]),
-        InputLine::Phase => put_line(alloc, out, b"phase", &[]),
+        InputLine::Shot => put_words(alloc, out, b"shot", &[]),
+        InputLine::Phase => put_words(alloc, out, b"phase", &[]),
     }
 }
 
+/// Writes a call as a script spells it, without a line feed. It can be refused for want of memory alone.
 #[tactic(auto, using(crate::proofs::Printed::ends))]
-fn put_call(alloc: Global, out: &mut Vec<u8>, call: &Call) -> Result<(), NoMemory>
-    ensures { OnOk result (out.new.items ≡ out.old.items ++ spelled call_spelling call.now) }
+pub fn put_call(alloc: Global, out: &mut Vec<u8>, call: &Call) -> Result<(), NoMemory>
+    ensures { OnOk result (out.new.items ≡ out.old.items ++ call_spelling call.now) }
 {
     use Field::{Integer, Natural};
 
     match *call {
-        Call::Buffer(w, h) => put_line(alloc, out, b"buffer", &[Natural(w), Natural(h)]),
-        Call::View => put_line(alloc, out, b"view", &[]),
+        Call::Buffer(w, h) => put_words(alloc, out, b"buffer", &[Natural(w), Natural(h)]),
+        Call::View => put_words(alloc, out, b"view", &[]),
         Call::Place(v, x, y, w, h) => {
             let fields = [Natural(v), Integer(x), Integer(y), Natural(w), Natural(h)];
-            put_line(alloc, out, b"place", &fields)
+            put_words(alloc, out, b"place", &fields)
         }
         Call::Offset(v, x, y) => {
-            put_line(alloc, out, b"offset", &[Natural(v), Integer(x), Integer(y)])
+            put_words(alloc, out, b"offset", &[Natural(v), Integer(x), Integer(y)])
         }
-        Call::Front(v) => put_line(alloc, out, b"front", &[Natural(v)]),
-        Call::Back(v) => put_line(alloc, out, b"back", &[Natural(v)]),
-        Call::Above(v, n) => put_line(alloc, out, b"above", &[Natural(v), Natural(n)]),
-        Call::Title(v, text) => put_line(alloc, out, b"title", &[Natural(v), Field::Text(text)]),
-        Call::Destroy(v) => put_line(alloc, out, b"destroy", &[Natural(v)]),
+        Call::Front(v) => put_words(alloc, out, b"front", &[Natural(v)]),
+        Call::Back(v) => put_words(alloc, out, b"back", &[Natural(v)]),
+        Call::Above(v, n) => put_words(alloc, out, b"above", &[Natural(v), Natural(n)]),
+        Call::Title(v, text) => put_words(alloc, out, b"title", &[Natural(v), Field::Text(text)]),
+        Call::Destroy(v) => put_words(alloc, out, b"destroy", &[Natural(v)]),
         Call::Refresh(x, y, w, h) => {
             let fields = [Integer(x), Integer(y), Natural(w), Natural(h)];
-            put_line(alloc, out, b"refresh", &fields)
+            put_words(alloc, out, b"refresh", &fields)
         }
-        Call::Take => put_line(alloc, out, b"take", &[]),
-        Call::Upgrade(n) => put_line(alloc, out, b"upgrade", &[Natural(n)]),
-        Call::Close => put_line(alloc, out, b"close", &[]),
+        Call::Take => put_words(alloc, out, b"take", &[]),
+        Call::Upgrade(n) => put_words(alloc, out, b"upgrade", &[Natural(n)]),
+        Call::Close => put_words(alloc, out, b"close", &[]),
     }
 }
 
 #[tactic(auto, using(crate::proofs::Printed::ends))]
 fn put_stroke(alloc: Global, out: &mut Vec<u8>, stroke: &Stroke) -> Result<(), NoMemory>
-    ensures { OnOk result (out.new.items ≡ out.old.items ++ spelled stroke_spelling stroke.now) }
+    ensures { OnOk result (out.new.items ≡ out.old.items ++ stroke_spelling stroke.now) }
 {
     use Field::{Colour, Natural};
 
     match *stroke {
         Stroke::Fill { x, y, w, h, c } => {
             let fields = [Natural(x), Natural(y), Natural(w), Natural(h), Colour(c)];
-            put_line(alloc, out, b"fill", &fields)
+            put_words(alloc, out, b"fill", &fields)
         }
         Stroke::Check { x, y, w, h, c, d } => {
             let fields = [
@@ -104,28 +107,30 @@ fn put_stroke(alloc: Global, out: &mut Vec<u8>, stroke: &Stroke) -> Result<(), N
                 Colour(c),
                 Colour(d),
             ];
-            put_line(alloc, out, b"check", &fields)
+            put_words(alloc, out, b"check", &fields)
         }
     }
 }
 
+/// Writes what the user does as an input script spells it, without a line feed. It can be refused for want
+/// of memory alone.
 #[tactic(auto, using(crate::proofs::Printed::ends))]
-fn put_device(alloc: Global, out: &mut Vec<u8>, device: &Device) -> Result<(), NoMemory>
-    ensures { OnOk result (out.new.items ≡ out.old.items ++ spelled device_spelling device.now) }
+pub fn put_device(alloc: Global, out: &mut Vec<u8>, device: &Device) -> Result<(), NoMemory>
+    ensures { OnOk result (out.new.items ≡ out.old.items ++ device_spelling device.now) }
 {
     use Field::{Integer, Natural};
 
     match *device {
-        Device::Press(code) => put_line(alloc, out, b"press", &[Natural(code as u32)]),
-        Device::Release(code) => put_line(alloc, out, b"release", &[Natural(code as u32)]),
+        Device::Press(code) => put_words(alloc, out, b"press", &[Natural(code as u32)]),
+        Device::Release(code) => put_words(alloc, out, b"release", &[Natural(code as u32)]),
         Device::Motion(x, y) => {
-            put_line(
+            put_words(
                 alloc,
                 out,
                 b"motion",
                 &[Natural(x as u32), Natural(y as u32)],
             )
         }
-        Device::Wheel(turn) => put_line(alloc, out, b"wheel", &[Integer(turn as i32)]),
+        Device::Wheel(turn) => put_words(alloc, out, b"wheel", &[Integer(turn as i32)]),
     }
 }

@@ -1,6 +1,6 @@
 //! Words and fields at the end of bytes.
 
-ghost use Rattle.std.specs.Prelude.{◌≡◌, ◌++◌, ◌∷◌, [], ◌%◌, OnOk};
+ghost use Rattle.std.specs.Prelude.{◌≡◌, ◌++◌, ◌%◌, OnOk};
 ghost use Rattle.std.specs.List.{flat_map};
 ghost use Rattle.nit_script.specs.Spelling.{nat, int, hex, hex_digits, colour, text};
 ghost use Rattle.nit_script.specs.Printing.{field_spelling};
@@ -18,19 +18,17 @@ pub enum Field {
     Text(Text),
 }
 
-/// Writes a line: its word, its fields, and a line feed.
-pub fn put_line(
+/// Writes a word and its fields.
+pub fn put_words(
     alloc: Global,
     out: &mut Vec<u8>,
     word: &[u8],
     fields: &[Field],
 ) -> Result<(), NoMemory>
-    ensures { OnOk result (out.new.items ≡ out.old.items ++ ((word.now ++ flat_map field_spelling fields.now) ++ 10 ∷ [])) }
+    ensures { OnOk result (out.new.items ≡ out.old.items ++ (word.now ++ flat_map field_spelling fields.now)) }
 {
     out.extend_from_slice(word)?;
-    put_fields(alloc, out, fields)?;
-    out.push(b'\n')?;
-    Ok(())
+    put_fields(alloc, out, fields)
 }
 
 fn put_fields(alloc: Global, out: &mut Vec<u8>, fields: &[Field]) -> Result<(), NoMemory>
