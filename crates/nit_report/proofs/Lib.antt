@@ -1,1 +1,7 @@
 pub mod Decimals
+mod Rows
+pub mod EventLaws
+pub mod DeliveryLaws
+pub mod ReplyLaws
+pub mod EntryLaws
+pub mod Journals

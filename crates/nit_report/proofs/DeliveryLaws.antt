@@ -1,0 +1,118 @@
+-- Deliveries are read exactly, up to three in a row.
+use Rattle.std.proofs.Common.{◌≡◌, ℕ, zero, suc, ◌≤◌, Bool, true, false, eqb, List, [], ◌∷◌, ◌++◌, length, Option, Some, None, refl, sym, ap, subst, ◌∙◌, arith, append_assoc}
+use Rattle.std.specs.Prelude.{codes}
+use Rattle.std.specs.List.{flat_map, AllByRecursion}
+use Rattle.std.proofs.lemmas.Bool.{eqb-true, true≢false}
+use Rattle.std.proofs.lemmas.List.{length-append}
+use Rattle.std.proofs.lemmas.Option.{some_pair_parts}
+use Rattle.nit_events.specs.declared.event.Item.{Item}
+use Rattle.nit_events.specs.declared.event.Delivery.{Delivery}
+use Rattle.nit_events.specs.declared.event.Routed.{Routed}
+use Rattle.nit_events.specs.Input.{delivery, deliveries_of, routed_as}
+use Rattle.nit_script.proofs.Digits.{stops}
+use Rattle.nit_script.proofs.Exact.{Exact, both, spaced}
+use Rattle.nit_script.proofs.LineKinds.{IsKind, kind}
+use Rattle.nit_report.specs.EntrySpelling.{delivery_spelling}
+use Rattle.nit_report.specs.EntryReading.{delivery_at, in_front, deliveries_at, routed_at}
+use Rattle.nit_report.specs.JournalText.{FitsDelivery, FitsRouted}
+use Rattle.nit_report.proofs.EventLaws.{sessions, items}
+
+-- ---- ends of lines
+
+-- a line feed stands first
+abbrev pub ends : List ℕ → Bool
+ends [] = false
+ends (b ∷ rest) = eqb b 10
+
+pub line_end : (rest : List ℕ) → ends rest ≡ true → (more : List ℕ) × (rest ≡ 10 ∷ more)
+line_end [] ok = absurd (true≢false (sym ok))
+line_end (b ∷ rest) ok = (rest, ap (λ (c : ℕ). c ∷ rest) (eqb-true _ _ ok))
+
+-- ---- one delivery
+
+one : IsKind delivery_at delivery_spelling FitsDelivery stops (λ (p : ℕ × Item). record { sid = p.0; item = p.1 })
+unfolding delivery_at
+one = kind (both sessions (spaced items) (λ _ _ _. refl)) delivery_spelling FitsDelivery (codes " >") _ (λ p h. h) (λ p h. h) (λ p. refl)
+
+one_again : (d : Delivery) (rest : List ℕ) → FitsDelivery d → stops rest ≡ true → delivery_at (delivery_spelling d ++ rest) ≡ Some (d, rest)
+one_again d rest fits ok = one.again (d.sid, d.item) rest fits ok
+
+none_at_end : (rest : List ℕ) → ends rest ≡ true → delivery_at rest ≡ None
+unfolding delivery_at
+none_at_end rest ok = ap delivery_at (line_end rest ok).1
+
+-- ---- several
+
+abbrev all : List Delivery → List ℕ
+all ds = flat_map delivery_spelling ds
+
+-- what is read in front is spelled so
+record Told (n : ℕ) (bytes : List ℕ) (read : List Delivery × List ℕ) : Type 0 where
+  spelled : bytes ≡ all read.0 ++ read.1
+  fits : AllByRecursion FitsDelivery read.0
+  few : length read.0 ≤ n
+
+many_takes : (n : ℕ) (bytes : List ℕ) → Told n bytes (deliveries_at n bytes)
+many_takes zero bytes = record { spelled = refl; fits = tt; few = omega arith }
+many_takes (suc n) bytes = by_first (λ rest. many_takes n rest) (delivery_at bytes) refl
+  where
+    by_first : ((rest : List ℕ) → Told n rest (deliveries_at n rest)) → (o : Option (Delivery × List ℕ)) → delivery_at bytes ≡ o → Told (suc n) bytes (in_front o (deliveries_at n) bytes)
+    by_first behind None was = record { spelled = refl; fits = tt; few = omega arith }
+    by_first behind (Some (d, rest)) was =
+        let t = one.takes bytes d rest was in
+        let more = behind rest in record {
+          spelled = t.0 ∙ ap (λ (r : List ℕ). delivery_spelling d ++ r) more.spelled ∙ sym (append_assoc (delivery_spelling d) (all (deliveries_at n rest).0) (deliveries_at n rest).1);
+          fits = (t.1, more.fits);
+          few = omega (arith, more.few);
+        }
+
+-- no digit stands first
+pub stops_behind : (ds : List Delivery) (rest : List ℕ) → ends rest ≡ true → stops (all ds ++ rest) ≡ true
+stops_behind [] rest ok = ap stops (line_end rest ok).1
+stops_behind (d ∷ ds) rest ok = refl
+
+many_again : (n : ℕ) (ds : List Delivery) (rest : List ℕ) → length ds ≤ n → AllByRecursion FitsDelivery ds → ends rest ≡ true → deliveries_at n (all ds ++ rest) ≡ (ds, rest)
+many_again zero [] rest le fits ok = refl
+many_again zero (d ∷ ds) rest le fits ok = absurd (omega arith)
+many_again (suc n) [] rest le fits ok = ap (λ (o : Option (Delivery × List ℕ)). in_front o (deliveries_at n) rest) (none_at_end rest ok)
+many_again (suc n) (d ∷ ds) rest le fits ok =
+    let first : delivery_at (all (d ∷ ds) ++ rest) ≡ Some (d, all ds ++ rest) =
+    ap delivery_at (append_assoc (delivery_spelling d) (all ds) rest) ∙ one_again d (all ds ++ rest) fits.0 (stops_behind ds rest ok) in
+    let behind : deliveries_at n (all ds ++ rest) ≡ (ds, rest) = many_again n ds rest (omega arith) fits.1 ok in
+    ap (λ (o : Option (Delivery × List ℕ)). in_front o (deliveries_at n) (all (d ∷ ds) ++ rest)) first ∙ ap (λ (p : List Delivery × List ℕ). (d ∷ p.0, p.1)) behind
+
+-- ---- as an entry keeps them
+
+-- three deliveries are kept
+kept : (ds : List Delivery) → length ds ≤ 3 → deliveries_of (routed_as ds) ≡ ds
+kept [] le = refl
+kept (a ∷ []) le = refl
+kept (a ∷ b ∷ []) le = refl
+kept (a ∷ b ∷ c ∷ []) le = refl
+kept (a ∷ b ∷ c ∷ d ∷ ds) le = absurd (omega arith)
+
+at_most_one : (o : Option Delivery) → length (delivery o) ≤ 1
+at_most_one None = omega arith
+at_most_one (Some d) = omega arith
+
+few_deliveries : (r : Routed) → length (deliveries_of r) ≤ 3
+few_deliveries r =
+    omega (arith, length-append (delivery r.a ++ delivery r.b) (delivery r.c), length-append (delivery r.a) (delivery r.b), at_most_one r.a, at_most_one r.b, at_most_one r.c)
+
+routed_takes : (bytes : List ℕ) (r : Routed) (rest : List ℕ) → routed_at bytes ≡ Some (r, rest) → (bytes ≡ all (deliveries_of r) ++ rest) × FitsRouted r
+unfolding routed_at
+routed_takes bytes r rest e =
+    let read = deliveries_at 3 bytes in
+    let told = many_takes 3 bytes in
+    let same = some_pair_parts (routed_as read.0) r read.1 rest e in
+    let keeps : read.0 ≡ deliveries_of (routed_as read.0) = sym (kept read.0 told.few) in
+    let whole : bytes ≡ all (deliveries_of (routed_as read.0)) ++ rest = told.spelled ∙ ap (λ (ds : List Delivery). all ds ++ read.1) keeps ∙ ap (λ (t : List ℕ). all (deliveries_of (routed_as read.0)) ++ t) same.1 in
+    subst (λ (z : Routed). (bytes ≡ all (deliveries_of z) ++ rest) × FitsRouted z) same.0 (whole, (subst (λ (ds : List Delivery). AllByRecursion FitsDelivery ds) keeps told.fits, ap routed_as keeps))
+
+routed_again : (r : Routed) (rest : List ℕ) → FitsRouted r → ends rest ≡ true → routed_at (all (deliveries_of r) ++ rest) ≡ Some (r, rest)
+unfolding routed_at
+routed_again r rest fits ok =
+    ap (λ (p : List Delivery × List ℕ). Some (routed_as p.0, p.1)) (many_again 3 (deliveries_of r) rest (few_deliveries r) fits.0 ok) ∙ ap (λ (z : Routed). Some (z, rest)) (sym fits.1)
+
+pub routes : Exact routed_at (λ r. all (deliveries_of r)) FitsRouted ends
+routes = record { takes = λ bytes r rest e. routed_takes bytes r rest e; again = λ r rest fits ok. routed_again r rest fits ok }

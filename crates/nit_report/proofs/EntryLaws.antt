@@ -1,0 +1,86 @@
+-- Entries are read exactly.
+use Rattle.std.proofs.Common.{◌≡◌, ℕ, List, ◌∷◌, ◌++◌, Some, refl, sym, ap, ◌∙◌}
+use Rattle.std.specs.Prelude.{codes}
+use Rattle.nit_events.specs.declared.call.Call.{Call}
+use Rattle.nit_events.specs.declared.call.Reply.{Reply}
+use Rattle.nit_events.specs.declared.device.Device.{Device}
+use Rattle.nit_events.specs.declared.event.Routed.{Routed}
+use Rattle.nit_events.specs.declared.entry.Entry.{Entry}
+use Rattle.nit_events.specs.declared.entry.Entry.TheVariants as entry
+use Rattle.nit_events.specs.Input.{deliveries_of}
+use Rattle.nit_script.specs.CallReading.{call_at}
+use Rattle.nit_script.specs.InputReading.{device_at}
+use Rattle.nit_script.specs.Spelling.{call_spelling, device_spelling, FitsCall, FitsDevice}
+use Rattle.nit_script.proofs.Digits.{stops}
+use Rattle.nit_script.proofs.Exact.{Exact, both, spaced, nothing, anything}
+use Rattle.nit_script.proofs.LineKinds.{Takes, IsKind, kind, first_takes, ended_takes, ended_again}
+use Rattle.nit_script.proofs.CallLaws.{call_takes, call_again}
+use Rattle.nit_script.proofs.InputLaws.{device_takes, device_again}
+use Rattle.nit_script.proofs.Scripts.{IsReader}
+use Rattle.nit_report.specs.EntrySpelling.{entry_spelling}
+use Rattle.nit_report.specs.EntryReading.{behind_reply_at, answered_at, input_at, shot_at, final_at, entry_front_at, entry_at}
+use Rattle.nit_report.specs.JournalText.{FitsEntry}
+use Rattle.nit_report.proofs.EventLaws.{first_some, sessions, shots}
+use Rattle.nit_report.proofs.DeliveryLaws.{ends, line_end, routes, stops_behind}
+use Rattle.nit_report.proofs.ReplyLaws.{replies}
+
+-- a call in front of the end of its line
+calls : Exact call_at call_spelling FitsCall ends
+calls = record {
+  takes = λ bytes c rest e. call_takes bytes c rest e;
+  again = λ c rest fits ok.
+      let e = line_end rest ok in
+      ap (λ (r : List ℕ). call_at (call_spelling c ++ r)) e.1 ∙ call_again c e.0 fits ∙ ap (λ (r : List ℕ). Some (c, r)) (sym e.1);
+}
+
+devices : Exact device_at device_spelling FitsDevice stops
+devices = record { takes = λ bytes d rest e. device_takes bytes d rest e; again = λ d rest fits ok. device_again d rest fits ok }
+
+abbrev behind : Call → List ℕ
+behind c = codes " < " ++ call_spelling c
+
+behind_kind : IsKind behind_reply_at behind FitsCall ends (λ (c : Call). c)
+unfolding behind_reply_at
+behind_kind = kind calls behind FitsCall (codes " < ") _ (λ c h. h) (λ c h. h) (λ c. refl)
+
+behind_replies : Exact behind_reply_at behind FitsCall ends
+behind_replies = record { takes = λ bytes c rest e. behind_kind.takes bytes c rest e; again = λ c rest fits ok. behind_kind.again c rest fits ok }
+
+-- ---- kinds of entries
+
+answers : IsKind answered_at entry_spelling FitsEntry ends (λ (p : ℕ × (Reply × Call)). entry.Call p.0 p.1.1 p.1.0)
+unfolding answered_at
+answers = kind (both sessions (both (spaced replies) behind_replies (λ _ _ _. refl)) (λ _ _ _. refl)) entry_spelling FitsEntry (codes "call") _ (λ p h. (h.0, h.1.0, h.1.1)) (λ p h. (h.0, (h.1, h.2))) (λ p. refl)
+
+inputs : IsKind input_at entry_spelling FitsEntry ends (λ (p : Device × Routed). entry.Input p.0 p.1)
+unfolding input_at
+inputs = kind (both devices routes (λ r rest ok. stops_behind (deliveries_of r) rest ok)) entry_spelling FitsEntry (codes "input ") _ (λ p h. h) (λ p h. h) (λ p. refl)
+
+shots_taken : IsKind shot_at entry_spelling FitsEntry stops (λ (n : ℕ). entry.Shot n)
+unfolding shot_at
+shots_taken = kind shots entry_spelling FitsEntry (codes "shot") _ (λ n h. h) (λ n h. h) (λ n. refl)
+
+finals : IsKind final_at entry_spelling FitsEntry anything (λ (_ : Unit {0}). entry.Final)
+unfolding final_at
+finals = kind nothing entry_spelling FitsEntry (codes "final") _ (λ p h. tt) (λ p h. tt) (λ p. refl)
+
+front_takes : Takes entry_front_at entry_spelling FitsEntry
+unfolding entry_front_at
+front_takes =
+    first_takes answered_at _ entry_spelling FitsEntry answers.takes
+    (first_takes input_at _ entry_spelling FitsEntry inputs.takes (first_takes shot_at final_at entry_spelling FitsEntry shots_taken.takes finals.takes))
+
+front_again : (e : Entry) (rest : List ℕ) → FitsEntry e → entry_front_at (entry_spelling e ++ 10 ∷ rest) ≡ Some (e, 10 ∷ rest)
+unfolding entry_front_at answered_at input_at shot_at final_at
+front_again (entry.Call sid c r) rest fits = first_some _ _ _ (answers.again (sid, (r, c)) (10 ∷ rest) fits refl)
+front_again (entry.Input dev routed) rest fits = first_some _ _ _ (inputs.again (dev, routed) (10 ∷ rest) fits refl)
+front_again (entry.Shot number) rest fits = first_some _ _ _ (shots_taken.again number (10 ∷ rest) fits refl)
+front_again entry.Final rest fits = refl
+
+-- an entry's line is read exactly
+pub journal_reader : IsReader FitsEntry entry_spelling entry_at
+unfolding entry_at
+journal_reader = record {
+  takes = λ bytes e rest h. ended_takes entry_front_at entry_spelling FitsEntry front_takes bytes e rest h;
+  again = λ e rest fits. ended_again entry_front_at entry_spelling e rest (front_again e rest fits);
+}

@@ -1,0 +1,101 @@
+-- Numbers of sessions and shots, events and items are read exactly.
+use Rattle.std.proofs.Common.{◌≡◌, ℕ, true, List, ◌++◌, Option, Some, refl, arith}
+use Rattle.std.specs.Prelude.{codes}
+use Rattle.std.proofs.lemmas.Bool.{and_parts, and_from, leb-true, le-leb}
+use Rattle.nit_events.specs.declared.device.Device.{Device}
+use Rattle.nit_events.specs.declared.device.Device.TheVariants as device
+use Rattle.nit_events.specs.declared.event.Event.{Event}
+use Rattle.nit_events.specs.declared.event.Event.TheVariants as event
+use Rattle.nit_events.specs.declared.event.Item.{Item}
+use Rattle.nit_events.specs.declared.event.Item.TheVariants as item
+use Rattle.nit_script.specs.Reading.{first_of, at_made}
+use Rattle.nit_script.specs.InputReading.{device_at, press_at, release_at, motion_at, wheel_at}
+use Rattle.nit_script.specs.Spelling.{nat, device_spelling, FitsDevice}
+use Rattle.nit_script.proofs.Digits.{stops}
+use Rattle.nit_script.proofs.Exact.{Exact, tested, nothing, anything, nat_fields}
+use Rattle.nit_script.proofs.LineKinds.{Takes, IsKind, kind, first_takes, made_takes}
+use Rattle.nit_script.proofs.InputLaws.{device_takes, device_again}
+use Rattle.nit_report.specs.EntrySpelling.{event_spelling, item_spelling}
+use Rattle.nit_report.specs.EntryReading.{is_session, is_shot, session_field, shot_field, told, leave_at, focus_enter_at, focus_leave_at, event_at, kill_at, item_at}
+use Rattle.nit_report.specs.JournalText.{FitsSession, FitsShot, FitsEvent, FitsItem}
+
+-- the first of two that is there is the first
+pub first_some : {A : Type 0} (o p : Option A) (x : A) → o ≡ Some x → first_of o p ≡ Some x
+first_some o p x e = rw e refl
+
+-- ---- numbers within their bounds
+
+pub sessions : Exact session_field nat FitsSession stops
+sessions = tested nat_fields is_session FitsSession (λ n h. leb-true _ _ h) (λ n h. (omega arith, le-leb _ _ h))
+
+pub shots : Exact shot_field nat FitsShot stops
+shots = tested nat_fields is_shot FitsShot (λ n h. let p = and_parts _ _ h in (leb-true _ _ p.0, leb-true _ _ p.1)) (λ n h. (omega arith, and_from _ _ (le-leb _ _ h.0) (le-leb _ _ h.1)))
+
+-- ---- events
+
+told_is : (d : Device) → device_spelling d ≡ event_spelling (told d)
+told_is (device.Press k) = refl
+told_is (device.Release k) = refl
+told_is (device.Motion x y) = refl
+told_is (device.Wheel n) = refl
+
+told_fits : (d : Device) → FitsDevice d → FitsEvent (told d)
+told_fits (device.Press k) h = h
+told_fits (device.Release k) h = h
+told_fits (device.Motion x y) h = h
+told_fits (device.Wheel n) h = h
+
+told_again : (d : Device) (rest : List ℕ) → FitsDevice d → stops rest ≡ true → at_made told device_at (device_spelling d ++ rest) ≡ Some (told d, rest)
+told_again d rest fits ok = rw (device_again d rest fits ok) refl
+
+leaves : IsKind leave_at event_spelling FitsEvent anything (λ (_ : Unit {0}). event.Leave)
+unfolding leave_at
+leaves = kind nothing event_spelling FitsEvent (codes "leave") _ (λ p h. tt) (λ p h. tt) (λ p. refl)
+
+focus_enters : IsKind focus_enter_at event_spelling FitsEvent anything (λ (_ : Unit {0}). event.FocusEnter)
+unfolding focus_enter_at
+focus_enters = kind nothing event_spelling FitsEvent (codes "focus-enter") _ (λ p h. tt) (λ p h. tt) (λ p. refl)
+
+focus_leaves : IsKind focus_leave_at event_spelling FitsEvent anything (λ (_ : Unit {0}). event.FocusLeave)
+unfolding focus_leave_at
+focus_leaves = kind nothing event_spelling FitsEvent (codes "focus-leave") _ (λ p h. tt) (λ p h. tt) (λ p. refl)
+
+event_takes : Takes event_at event_spelling FitsEvent
+unfolding event_at
+event_takes =
+    first_takes (at_made told device_at) _ event_spelling FitsEvent (made_takes device_at device_spelling FitsDevice told event_spelling FitsEvent device_takes told_is told_fits)
+    (first_takes leave_at _ event_spelling FitsEvent leaves.takes (first_takes focus_enter_at focus_leave_at event_spelling FitsEvent focus_enters.takes focus_leaves.takes))
+
+event_again : (e : Event) (rest : List ℕ) → FitsEvent e → stops rest ≡ true → event_at (event_spelling e ++ rest) ≡ Some (e, rest)
+unfolding event_at device_at press_at release_at motion_at wheel_at leave_at focus_enter_at focus_leave_at
+event_again (event.Press k) rest fits ok = first_some _ _ _ (told_again (device.Press k) rest fits ok)
+event_again (event.Release k) rest fits ok = first_some _ _ _ (told_again (device.Release k) rest fits ok)
+event_again (event.Motion x y) rest fits ok = first_some _ _ _ (told_again (device.Motion x y) rest fits ok)
+event_again (event.Wheel n) rest fits ok = first_some _ _ _ (told_again (device.Wheel n) rest fits ok)
+event_again event.Leave rest fits ok = refl
+event_again event.FocusEnter rest fits ok = refl
+event_again event.FocusLeave rest fits ok = refl
+
+pub events : Exact event_at event_spelling FitsEvent stops
+events = record { takes = λ bytes e rest h. event_takes bytes e rest h; again = λ e rest fits ok. event_again e rest fits ok }
+
+-- ---- items
+
+kills : IsKind kill_at item_spelling FitsItem anything (λ (_ : Unit {0}). item.Kill)
+unfolding kill_at
+kills = kind nothing item_spelling FitsItem (codes "kill") _ (λ p h. tt) (λ p h. tt) (λ p. refl)
+
+item_takes : Takes item_at item_spelling FitsItem
+unfolding item_at
+item_takes = first_takes (at_made item.Event event_at) kill_at item_spelling FitsItem (made_takes event_at event_spelling FitsEvent item.Event item_spelling FitsItem event_takes (λ e. refl) (λ e h. h)) kills.takes
+
+made_again : (e : Event) (rest : List ℕ) → FitsEvent e → stops rest ≡ true → at_made item.Event event_at (event_spelling e ++ rest) ≡ Some (item.Event e, rest)
+made_again e rest fits ok = rw (event_again e rest fits ok) refl
+
+item_again : (i : Item) (rest : List ℕ) → FitsItem i → stops rest ≡ true → item_at (item_spelling i ++ rest) ≡ Some (i, rest)
+unfolding item_at kill_at event_at device_at press_at release_at motion_at wheel_at leave_at focus_enter_at focus_leave_at
+item_again (item.Event e) rest fits ok = first_some _ _ _ (made_again e rest fits ok)
+item_again item.Kill rest fits ok = refl
+
+pub items : Exact item_at item_spelling FitsItem stops
+items = record { takes = λ bytes i rest h. item_takes bytes i rest h; again = λ i rest fits ok. item_again i rest fits ok }

@@ -1,0 +1,10 @@
+use Rattle.std.proofs.Common.{sym, ◌∙◌}
+use Rattle.nit_script.proofs.Scripts.{same_read}
+use Rattle.nit_report.proofs.EntryLaws.{journal_reader}
+use Rattle.nit_report.proofs.laws.journal_reading_is_one.Goals as goal
+
+pub returns-clause-entries : goal.returns-clause-entries
+returns-clause-entries c = λ bytes a b p q. same_read journal_reader bytes a b p q
+
+pub returns-clause-bytes : goal.returns-clause-bytes
+returns-clause-bytes c = λ entries a b p q. p.1 ∙ sym q.1

@@ -1,0 +1,14 @@
+use Rattle.nit_report.proofs.Journals.{read_is, is_read, is_bad, answer_at}
+use Rattle.nit_report.proofs.parse.parse_journal.Goals as goal
+
+pub returns-clause-read : goal.returns-clause-read
+returns-clause-read c = read_is (λ v. v.items) _ _ c.entries_of.ensures
+
+pub returns-clause-reads : goal.returns-clause-reads
+returns-clause-reads c = λ entries h. is_read (λ v. v.items) _ _ entries c.entries_of.ensures h
+
+pub returns-clause-bad : goal.returns-clause-bad
+returns-clause-bad c = λ line e. answer_at (λ v. v.items) _ _ _ c.entries_of.ensures e
+
+pub returns-clause-is_bad : goal.returns-clause-is_bad
+returns-clause-is_bad c = λ line h. is_bad (λ v. v.items) _ _ line c.entries_of.ensures h
