@@ -3,6 +3,9 @@ pub mod Turned
 pub mod Shots
 pub mod Lined
 pub mod Called
+pub mod Moved
+pub mod Held
+pub mod Drawings
 pub mod Drawn
 pub mod Copies
 pub mod Names

@@ -11,4 +11,5 @@ pub mod Rounds
 pub mod Done
 pub mod Places
 pub mod Running
+pub mod Drawn
 pub mod UnderWay
