@@ -15,13 +15,14 @@ use Rattle.nit_plan.specs.Calls.{calls_to_make, deeds_to_do}
 use Rattle.nit_scene.specs.Played.{Played, state_now}
 use Rattle.nit_store.specs.Shown.{File, Shown}
 use Rattle.nit_actor.specs.Done.{AreRoundsOf}
-use Rattle.nit_actor.specs.Running.{AreShotsFrom, IsRun, Putting, PutsAll, PutsShots, putting}
+use Rattle.nit_actor.specs.Rounds.{rounds}
+use Rattle.nit_actor.specs.Running.{IsRun, Putting, PutsAll, putting}
+use Rattle.nit_actor.specs.Drawn.{PutsShots, shots_of}
 use Rattle.nit_top.specs.declared.run.PutFault.{PutFault}
 use Rattle.nit_top.specs.declared.run.Ran.{Ran}
 use Rattle.nit_top.specs.Setup.{Setup}
 use Rattle.nit_top.specs.Outputs.{HaveTables, AreOutputs, IsJournal, final_name, final_picture, picture_by, tables_left}
 use Rattle.nit_top.specs.Work.{HasRun, Puts, is_shot}
-use Rattle.nit_top.proofs.Pictures.{final_more}
 use Rattle.nit_top.proofs.LastWords.{OneMore}
 use Rattle.nit_top.proofs.PerClient.{left_tables}
 
@@ -46,18 +47,24 @@ PutsLast s owns at new fault = (tables : ℕ → List ℕ) (first : Shown) (trie
 
 pub run_leaves : (s : Setup) (start mid last : Played Sight) (owns : List Sight) (first new : Shown) (tried : ℕ) (at : Putting) (fault : Option PutFault) (ran : Ran)
     → WholeLaw → OneMore → start.config ≡ s.config → IsRun s.scripts s.input start mid owns → last.entries ≡ mid.entries ++ entry.Final ∷ [] → last.config ≡ mid.config → IsLegal last.config last.entries
-    → PutsShots start.config s.scripts mid.entries (putting first None tried) at → PutsLast (state_now mid) owns at new fault
+    → PutsShots start.config s.scripts (rounds s.scripts s.input) (putting first None tried) at → PutsLast (state_now mid) owns at new fault
     → ran.journal.items ≡ last.entries → ran.frames ≡ shots last.entries + 1 → ran.fault ≡ fault → HasRun first s new ran
-run_leaves s start mid last owns first new tried at fault ran whole more begun run ended same legal (files, shots_, puts) puts_last journal frames refused = record {
+run_leaves s start mid last owns first new tried at fault ran whole more begun run ended same legal shots_ puts_last journal frames refused = record {
   journal = subst (λ (j : List Entry). IsJournal s j) (sym journal) is_journal;
   frames = frames ∙ ap (λ (j : List Entry). shots j + 1) (sym journal);
   outputs = files ++ (final_name, final_picture s last.entries) ∷ [];
-  are = subst (λ (j : List Entry). AreOutputs s j (files ++ (final_name, final_picture s last.entries) ∷ [])) (sym journal) are_outputs;
+  are = subst (λ (j : List Entry). AreOutputs s j (files ++ (final_name, final_picture s last.entries) ∷ [])) (sym journal) refl;
   puts =
       subst (λ (f : Option PutFault). Puts first (files ++ (final_name, final_picture s last.entries) ∷ []) new f) (sym refused)
       (subst (λ (p : List ℕ). Puts first (files ++ (final_name, p) ∷ []) new fault) picture_is (puts_last (tables_left s.config s.scripts) first tried files tables puts));
 }
   where
+    files : List File
+    files = shots_of s.config s.scripts s.input
+
+    puts : PutsAll files (putting first None tried) at
+    puts = subst (λ (c : Configuration). PutsShots c s.scripts (rounds s.scripts s.input) (putting first None tried) at) begun shots_
+
     config : mid.config ≡ s.config
     config = run.config ∙ begun
 
@@ -66,14 +73,6 @@ run_leaves s start mid last owns first new tried at fault ran whole more begun r
       legal = subst (λ (c : Configuration). IsLegal c last.entries) (same ∙ config) legal;
       whole = subst (λ (j : List Entry). IsWhole (map calls_to_make s.scripts) (deeds_to_do s.input) j) (sym ended) (whole s.scripts s.input mid.entries run.entries);
       rounds = (mid.entries, run.entries, ended);
-    }
-
-    are_outputs : AreOutputs s last.entries (files ++ (final_name, final_picture s last.entries) ∷ [])
-    are_outputs = record {
-      shots = files;
-      each = subst (λ (j : List Entry). AreShotsFrom s.config s.scripts (opening s.config) j files) (sym ended)
-          (final_more s.config s.scripts (opening s.config) mid.entries files (subst (λ (c : Configuration). AreShotsFrom c s.scripts (opening c) mid.entries files) begun shots_));
-      are = refl;
     }
 
     tables : HaveTables owns (tables_left s.config s.scripts)

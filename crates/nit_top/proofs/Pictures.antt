@@ -1,29 +1,23 @@
--- The files of a journal's shots.
+-- The pictures of a run whose user takes no shot.
 use Rattle.std.proofs.Common.{◌≡◌, ℕ, zero, suc, List, [], ◌∷◌, ◌++◌, replicate, refl, ap, ◌∙◌}
-use Rattle.std.specs.Prelude.{count_by}
+use Rattle.std.specs.Prelude.{count_by, fold}
 use Rattle.nit_events.specs.declared.entry.Entry.{Entry}
 use Rattle.nit_events.specs.declared.entry.Entry.TheVariants as entry
 use Rattle.nit_config.specs.Configuration.{Configuration}
 use Rattle.nit_journal.specs.Journals.{shots}
-use Rattle.nit_journal.specs.State.{State, after, opening}
 use Rattle.nit_journal.specs.Whole.{Deed, deeds_of, done}
 use Rattle.nit_plan.specs.Calls.{deeds_from}
 use Rattle.nit_script.specs.declared.line.Line.{Line}
+use Rattle.nit_script.specs.declared.line.InputLine.{InputLine}
 use Rattle.nit_script.specs.declared.line.InputLine.TheVariants as input
 use Rattle.nit_script.specs.Phases.{is_phase}
 use Rattle.nit_store.specs.Shown.{File}
-use Rattle.nit_actor.specs.Running.{AreShotsFrom}
+use Rattle.nit_actor.specs.Moves.{Doing, ByClient, ByUser, Move}
+use Rattle.nit_actor.specs.Rounds.{rounds}
+use Rattle.nit_actor.specs.Done.{input_by_user, input_of}
+use Rattle.nit_actor.specs.Drawn.{Drawing, after_move, drawn, opening_drawing, shots_after}
 use Rattle.nit_top.specs.Setup.{still_setup}
 use Rattle.nit_top.specs.Outputs.{IsJournal, AreOutputs, final_name, final_picture}
-
--- the last picture puts no file of a shot
-pub final_more : (config : Configuration) (scripts : List (List Line)) (s : State) (journal : List Entry) (files : List File) → AreShotsFrom config scripts s journal files → AreShotsFrom config scripts s (journal ++ entry.Final ∷ []) files
-final_more config scripts s [] files none = none
-final_more config scripts s (entry.Call t c q ∷ rest) files are = final_more config scripts (after s (entry.Call t c q)) rest files are
-final_more config scripts s (entry.Input dev routed ∷ rest) files are = final_more config scripts (after s (entry.Input dev routed)) rest files are
-final_more config scripts s (entry.Final ∷ rest) files are = final_more config scripts s rest files are
-final_more config scripts s (entry.Shot k ∷ rest) [] are = absurd are
-final_more config scripts s (entry.Shot k ∷ rest) (f ∷ files) are = (are.0, final_more config scripts s rest files are.1)
 
 -- ---- a user who does nothing
 
@@ -41,22 +35,39 @@ no_shots (entry.Input d r ∷ rest) e = absurd (some_deed _ _ e)
 no_shots (entry.Call s c r ∷ rest) e = no_shots rest e
 no_shots (entry.Final ∷ rest) e = no_shots rest e
 
-no_files : (config : Configuration) (scripts : List (List Line)) (s : State) (journal : List Entry) (files : List File) → deeds_of journal ≡ [] → AreShotsFrom config scripts s journal files → files ≡ []
-no_files config scripts s [] files e none = none
-no_files config scripts s (entry.Shot n ∷ rest) files e are = absurd (some_deed _ _ e)
-no_files config scripts s (entry.Input d r ∷ rest) files e are = absurd (some_deed _ _ e)
-no_files config scripts s (entry.Call t c r ∷ rest) files e are = no_files config scripts (after s (entry.Call t c r)) rest files e are
-no_files config scripts s (entry.Final ∷ rest) files e are = no_files config scripts s rest files e are
+phase_first : (n : ℕ) (l : InputLine) (rest : List InputLine) → l ∷ rest ≡ replicate n input.Phase → (l ≡ input.Phase) × ((k : ℕ) × (rest ≡ replicate k input.Phase))
+phase_first zero l rest e = absurd cc
+phase_first (suc n) l rest e = (cc, (n, cc))
+
+-- a move that may be of a user who only ends phases makes no picture
+one_move : (config : Configuration) (doing : Doing) (d : Drawing) (rest : List InputLine) (n : ℕ) → input_by_user doing ++ rest ≡ replicate n input.Phase → (shots_after config doing d ≡ d.shots) × ((k : ℕ) × (rest ≡ replicate k input.Phase))
+one_move config (ByClient sid l) d rest n e = (refl, (n, e))
+one_move config (ByUser input.Phase) d rest n e = (refl, (phase_first n input.Phase rest e).1)
+one_move config (ByUser (input.Device dev)) d rest n e = (refl, (phase_first n (input.Device dev) rest e).1)
+one_move config (ByUser input.Shot) d rest n e = absurd (let is : input.Shot ≡ input.Phase = (phase_first n input.Shot rest e).0 in cc)
+
+no_picture_from : (config : Configuration) (scripts : List (List Line)) (moves : List Move) (d : Drawing) (n : ℕ) → input_of moves ≡ replicate n input.Phase → (fold (after_move config scripts) d moves).shots ≡ d.shots
+no_picture_from config scripts [] d n e = refl
+no_picture_from config scripts (m ∷ moves) d n e =
+    let one = one_move config m.doing d (input_of moves) n e in
+    no_picture_from config scripts moves (after_move config scripts d m) one.1.0 one.1.1 ∙ one.0
+
+no_picture : (config : Configuration) (scripts : List (List Line)) (moves : List Move) (n : ℕ) → input_of moves ≡ replicate n input.Phase → (drawn config scripts moves).shots ≡ []
+unfolding drawn
+no_picture config scripts moves n e = no_picture_from config scripts moves (opening_drawing config) n e
 
 nothing_done : (width height : ℕ) (lines : List Line) (journal : List Entry) → IsJournal (still_setup width height lines) journal → deeds_of journal ≡ []
 nothing_done width height lines journal j = j.whole.deeds ∙ ap done (no_deeds (count_by is_phase lines) 0)
 
-pub one_file : (width height : ℕ) (lines : List Line) (journal : List Entry) (files : List File) → IsJournal (still_setup width height lines) journal → AreOutputs (still_setup width height lines) journal files
+-- what the law of rounds says
+abbrev pub UserOnce : Type 0
+UserOnce = (scripts : List (List Line)) (lines : List InputLine) → input_of (rounds scripts lines) ≡ lines
+
+pub one_file : UserOnce → (width height : ℕ) (lines : List Line) (journal : List Entry) (files : List File) → IsJournal (still_setup width height lines) journal → AreOutputs (still_setup width height lines) journal files
     → files ≡ (final_name, final_picture (still_setup width height lines) journal) ∷ []
-one_file width height lines journal files j a =
+one_file once width height lines journal files j are =
     let s = still_setup width height lines in
-    let none : a.shots ≡ [] = no_files s.config s.scripts (opening s.config) journal a.shots (nothing_done width height lines journal j) a.each in
-    a.are ∙ ap (λ (fs : List File). fs ++ (final_name, final_picture s journal) ∷ []) none
+    are ∙ ap (λ (fs : List File). fs ++ (final_name, final_picture s journal) ∷ []) (no_picture s.config s.scripts (rounds s.scripts s.input) (count_by is_phase lines) (once s.scripts s.input))
 
 pub no_shot : (width height : ℕ) (lines : List Line) (journal : List Entry) → IsJournal (still_setup width height lines) journal → shots journal ≡ 0
 no_shot width height lines journal j = no_shots journal (nothing_done width height lines journal j)

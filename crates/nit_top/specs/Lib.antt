@@ -15,6 +15,7 @@ pub use Rattle.nit_report.specs.Picture
 pub use Rattle.nit_scene.specs.Played
 pub use Rattle.nit_actor.specs.Done
 pub use Rattle.nit_actor.specs.Running
+pub use Rattle.nit_actor.specs.Drawn
 pub mod Command
 pub mod Asked
 pub mod Setup

@@ -1,13 +1,12 @@
 -- What a run puts, and what its journal is.
-use Rattle.std.specs.Prelude.{◌≡◌, ℕ, ◌*◌, ◌<◌, List, [], ◌∷◌, ◌++◌, length, map, slice_index, codes, Some}
+use Rattle.std.specs.Prelude.{◌≡◌, ℕ, ◌*◌, ◌<◌, List, [], ◌∷◌, ◌++◌, length, map, codes, Some}
 use Rattle.std.specs.List.{range_with_len}
-use Rattle.nit_word.specs.Channels.{bare_word}
 use Rattle.nit_word.specs.Sight.{Sight}
 use Rattle.nit_events.specs.declared.entry.Entry.{Entry}
 use Rattle.nit_events.specs.declared.entry.Entry.TheVariants as entry
-use Rattle.nit_stack.specs.Sources.{pixel, PixelSource, Bare, Black, Word}
+use Rattle.nit_stack.specs.Sources.{pixel}
 use Rattle.nit_config.specs.Configuration.{Configuration}
-use Rattle.nit_journal.specs.State.{State, opening, source_of}
+use Rattle.nit_journal.specs.State.{State, source_of}
 use Rattle.nit_journal.specs.Journals.{replay, IsLegal}
 use Rattle.nit_journal.specs.Whole.{IsWhole}
 use Rattle.nit_overlay.specs.Shown.{frame}
@@ -19,7 +18,8 @@ use Rattle.nit_plan.specs.Calls.{calls_to_make, deeds_to_do}
 use Rattle.nit_plan.specs.Plans.{words_left}
 use Rattle.nit_store.specs.Shown.{File}
 use Rattle.nit_actor.specs.Done.{AreRoundsOf}
-use Rattle.nit_actor.specs.Running.{AreShotsFrom, donation_of, script_in}
+use Rattle.nit_actor.specs.Running.{donation_of, script_in}
+use Rattle.nit_actor.specs.Drawn.{shots_of, word_from}
 use Rattle.nit_top.specs.Setup.{Setup}
 
 -- the entries are, in order, those of the rounds of the scripts, and then the last picture
@@ -33,12 +33,6 @@ pub record IsJournal (s : Setup) (journal : List Entry) : Type 0 where
   pub rounds : IsByRounds s journal
 
 -- ---- the last picture
-
--- the word of a pixel by its source, where each session's table has these words
-abbrev pub word_from : (ℕ → List ℕ) → PixelSource → ℕ
-word_from tables Bare = bare_word
-word_from tables Black = 0
-word_from tables (Word session index) = slice_index (tables session) index
 
 -- the raw words of a state's pixels
 abbrev pub raw_words : State → (ℕ → List ℕ) → List ℕ
@@ -65,8 +59,7 @@ final_name = codes "final.ppm"
 
 -- ---- the files
 
--- the files that a run puts, in order: one for each shot, shot-1.ppm and so on, and then final.ppm
-pub record AreOutputs (s : Setup) (journal : List Entry) (files : List File) : Type 0 where
-  pub shots : List File
-  pub each : AreShotsFrom s.config s.scripts (opening s.config) journal shots
-  pub are : files ≡ shots ++ (final_name, final_picture s journal) ∷ []
+-- The files that a run puts, in order: one for each shot, shot-1.ppm and so on, and then final.ppm. The shots are those
+-- that the configuration and the scripts alone draw.
+abbrev pub AreOutputs : Setup → List Entry → List File → Type 0
+AreOutputs s journal files = files ≡ shots_of s.config s.scripts s.input ++ (final_name, final_picture s journal) ∷ []
