@@ -9,9 +9,15 @@ mod bad_config_rows;
 #[cfg(test)]
 mod bench;
 #[cfg(test)]
+mod entries;
+#[cfg(test)]
 mod failing_rows;
 #[cfg(test)]
+mod input_rows;
+#[cfg(test)]
 mod layer_rows;
+#[cfg(test)]
+mod mode_rows;
 #[cfg(test)]
 mod refused_rows;
 #[cfg(test)]

@@ -1,4 +1,5 @@
-//! Worked rows of what is read and planned before a run: configurations, scripts, plans and rounds.
+//! Worked rows of what is read and planned before a run, and of what is told after it: configurations, scripts, plans,
+//! rounds, and the texts of journals and events.
 //!
 //! They also run the calls that take the memory of a run, where there is enough. Each expected value stands in the
 //! rows as it was worked out by hand, and never comes from the code. The crate has nothing but these tests.
@@ -14,3 +15,5 @@ mod plan_rows;
 mod print_rows;
 #[cfg(test)]
 mod round_rows;
+#[cfg(test)]
+mod text_rows;
