@@ -6,6 +6,7 @@ pub mod Called
 pub mod Moved
 pub mod Held
 pub mod Drawings
+pub mod Replayed
 pub mod Drawn
 pub mod Copies
 pub mod Names

@@ -9,6 +9,9 @@
 //! [`Turns`] gives these lines one by one, and takes no memory. The [`laws`] say what rounds are: each
 //! line of every script stands in them once, an actor that does a line has done exactly those before it,
 //! and a journal with the entries of the rounds is whole.
+//!
+//! [`run_rounds`] does all of them on a scene, and puts the pictures of the shots by a [`Desk`]. What a shot shows is
+//! drawn from the configuration and the scripts alone, line by line.
 #![tactic(auto)]
 
 mod desk;

@@ -1,25 +1,20 @@
 -- What a run puts, and what its journal is.
-use Rattle.std.specs.Prelude.{◌≡◌, ℕ, ◌*◌, ◌<◌, List, [], ◌∷◌, ◌++◌, length, map, codes, Some}
-use Rattle.std.specs.List.{range_with_len}
+use Rattle.std.specs.Prelude.{◌≡◌, ℕ, ◌<◌, List, [], ◌∷◌, ◌++◌, length, map, codes, Some}
 use Rattle.nit_word.specs.Sight.{Sight}
 use Rattle.nit_events.specs.declared.entry.Entry.{Entry}
 use Rattle.nit_events.specs.declared.entry.Entry.TheVariants as entry
-use Rattle.nit_stack.specs.Sources.{pixel}
 use Rattle.nit_config.specs.Configuration.{Configuration}
-use Rattle.nit_journal.specs.State.{State, source_of}
+use Rattle.nit_journal.specs.State.{State}
 use Rattle.nit_journal.specs.Journals.{replay, IsLegal}
 use Rattle.nit_journal.specs.Whole.{IsWhole}
-use Rattle.nit_overlay.specs.Shown.{frame}
-use Rattle.nit_scene.specs.Painted.{glass_in}
-use Rattle.nit_scene.specs.Played.{scenery_of}
-use Rattle.nit_report.specs.Picture.{picture}
+use Rattle.nit_scene.specs.Painted.{glass_in, source_at}
 use Rattle.nit_script.specs.declared.line.Line.{Line}
 use Rattle.nit_plan.specs.Calls.{calls_to_make, deeds_to_do}
 use Rattle.nit_plan.specs.Plans.{words_left}
 use Rattle.nit_store.specs.Shown.{File}
 use Rattle.nit_actor.specs.Done.{AreRoundsOf}
 use Rattle.nit_actor.specs.Running.{donation_of, script_in}
-use Rattle.nit_actor.specs.Drawn.{shots_of, word_from}
+use Rattle.nit_actor.specs.Drawn.{picture_of, shots_of, word_from, words_of}
 use Rattle.nit_top.specs.Setup.{Setup}
 
 -- the entries are, in order, those of the rounds of the scripts, and then the last picture
@@ -34,13 +29,17 @@ pub record IsJournal (s : Setup) (journal : List Entry) : Type 0 where
 
 -- ---- the last picture
 
--- the raw words of a state's pixels
-abbrev pub raw_words : State → (ℕ → List ℕ) → List ℕ
-raw_words s tables = map (λ k. word_from tables (source_of s (pixel s.config.width k))) (range_with_len 0 (s.config.width * s.config.height))
+-- the word of a pixel by its number, where each session's table has these words
+abbrev pub raw_word : State → (ℕ → List ℕ) → ℕ → ℕ
+raw_word s tables k = word_from tables (source_at s k)
 
--- the picture of a state, row by row from the top, where each session's table has these words
+-- the words of all pixels, so
+abbrev pub raw_words : State → (ℕ → List ℕ) → List ℕ
+raw_words s tables = words_of s (raw_word s tables)
+
+-- the picture of a state where each session's table has these words
 abbrev pub picture_by : State → (ℕ → List ℕ) → List ℕ
-picture_by s tables = picture s.config.width s.config.height (frame (scenery_of s) (raw_words s tables))
+picture_by s tables = picture_of s.config s (raw_word s tables)
 
 -- each glass tells the words of its session's table
 abbrev pub HaveTables : List Sight → (ℕ → List ℕ) → Type 0
