@@ -29,7 +29,8 @@ with_pixels r = if r.w * r.h == 0 then [] else r ∷ []
 
 -- the cutter has this rectangle alone, where it has pixels; no view is cut out of it yet
 abbrev pub begun : ℕ → Rectangle → ℕ → Cuts
-begun from r room = record { jobs = map (job_at 0) (with_pixels r); from = from; bar = false; room = room }
+begun from r room =
+    record { jobs = map (job_at 0) (with_pixels r); from = from; bar = false; room = room }
 
 -- the pixels of the bar
 abbrev pub bar_part : Standing → Rectangle
@@ -56,8 +57,9 @@ abbrev pub piece_times : Option Piece → Point → ℕ
 piece_times None p = 0
 piece_times (Some piece) p = times piece.rect p
 
--- The rectangle at place k has pixels and lies on the screen below the bar, and no view in front of its next one covers
--- a pixel of it. It is low enough in its list that what is left of it finds room.
+-- The rectangle at place k has pixels and lies on the screen below the bar, and no view in front of
+-- its next one covers a pixel of it. It is low enough in its list that what is left of it finds
+-- room.
 pub record IsJob (s : Standing) (k : ℕ) (j : Job) : Type 0 where
   pub pixels : HasPixels j.rect
   pub place : j.at ≤ length s.views

@@ -14,8 +14,9 @@ use Rattle.nit_damage.specs.Cuts.{FitsJobs, IsPieceOf, job_at, job_to_come, jobs
 abbrev pub times_all : List Rectangle → Point → ℕ
 times_all rs p = sum_by (λ r. times r p) rs
 
--- A rectangle is cut by another: at most four are put in as its rest, none without pixels, which have each of its pixels
--- once that the other does not cover. The part that both cover is told where it has pixels.
+-- A rectangle is cut by another: at most four are put in as its rest, none of them without pixels.
+-- They have each of its pixels once that the other does not cover. The part that both cover is told
+-- where it has pixels.
 pub record IsCut (at : ℕ) (rect by : Rectangle) (old new : List Job) (both : Option Rectangle) : Type 0 where
   pub rest : List Rectangle
   pub few : length rest ≤ 4

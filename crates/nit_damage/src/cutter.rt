@@ -104,8 +104,8 @@ impl Cutter {
         self.begin_behind(stack, r, place);
     }
 
-    /// Begins with the pixels of a rectangle below the bar that none of the first `place` views covers. From the number of
-    /// views on, these are all views.
+    /// Begins with the pixels of a rectangle below the bar that none of the first `place` views
+    /// covers. Where `place` is the number of views or more, these are all views.
     pub fn begin_behind(&mut self, stack: &Stack, r: Rect, place: u32)
         requires { length stack.now.views ≤ self.old.room }
         ensures room { self.new.room ≡ self.old.room }

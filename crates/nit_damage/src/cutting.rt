@@ -10,7 +10,8 @@ ghost use Rattle.nit_damage.specs.Cutting.{IsCut, IsStep};
 use nit_rect::Rect;
 use nit_stack::{Piece, Stack};
 
-/// A rectangle of the screen, with pixels, from which the views in front of place `at` are cut out already.
+/// A rectangle of the screen with pixels, from which the views in front of place `at` are cut out
+/// already.
 #[derive(Clone, Copy)]
 pub struct Job {
     pub rect: Rect,

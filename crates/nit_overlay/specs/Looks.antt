@@ -27,8 +27,8 @@ pixel_at q = point q.0 q.1
 abbrev pub IsPlaced : Look → Seat → Type 0
 IsPlaced look s = slice_get look.places.now s.slot ≡ Some (option_map pixel_at (place_of (scenery look) s.view))
 
--- There is a label for each session, and the focus is on a session. Where labels are drawn, each view's label stands
--- where it is to.
+-- There is a label for each session, and the focus is on a session. Where labels are drawn, each
+-- view's label stands where it is to.
 pub record IsLook (look : Look) : Type 0 where
   pub labels : length look.labels.now ≡ length look.stack.now.sizes
   pub focus : IfSome look.focus (λ session. session < length look.stack.now.sizes)

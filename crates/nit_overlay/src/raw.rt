@@ -10,16 +10,18 @@ ghost use Rattle.nit_overlay.specs.Rows.{IsPainted};
 use crate::area::{Area, area_of};
 use nit_rect::Rect;
 
-/// Sets the words of the screen's pixels that lie in the rectangle to their raw words; all other words stay.
-/// In mode Flat these are what is shown below the bar, where a pixel without an owner has the word of the bare
-/// screen. `raw` and `out` have a word for each pixel of a screen of `width` by `height`, row by row from the
-/// top. The rectangle may reach past the screen. No memory is taken.
+/// Sets the words of the screen's pixels that lie in the rectangle to their raw words; all other
+/// words stay. In mode Flat these are what is shown below the bar, where each pixel without an
+/// owner has the word of the bare screen. `raw` and `out` have a word for each pixel of a screen
+/// of `width` by `height`, row by row from the top. The rectangle may reach past the screen. No
+/// memory is taken.
 pub fn raw_rect(raw: &[u32], r: Rect, width: u32, height: u32, out: &mut [u32])
     requires screen { IsScreen width height }
     requires raw { length raw.now ≡ width * height }
     requires out { length out.old ≡ width * height }
     ensures pixels { (k : ℕ) → k < width * height
-        → slice_index out.new k ≡ (if covers r (pixel width k) then slice_index raw.now k else slice_index out.old k) }
+        → slice_index out.new k
+        ≡ (if covers r (pixel width k) then slice_index raw.now k else slice_index out.old k) }
     ensures length { length out.new ≡ length out.old }
 {
     let area = area_of(&r, width, height);
@@ -32,7 +34,8 @@ fn copy_area(raw: &[u32], area: &Area, width: u32, height: u32, out: &mut [u32])
     requires raw { length raw.now ≡ width * height }
     requires out { length out.old ≡ width * height }
     requires area { IsArea width height area.now }
-    ensures { IsOverlaid (λ k w. w) (λ k. in_area area.now (k % width) (k / width)) raw.now out.old out.new (width * height) }
+    ensures { IsOverlaid (λ k w. w) (λ k. in_area area.now (k % width) (k / width))
+        raw.now out.old out.new (width * height) }
 {
     'rows: for y in area.top..area.bottom {
         let at = y as usize * width as usize;

@@ -101,12 +101,14 @@ pub fn names_after()
         → (j : ℕ) × (name_in j seats ≡ Some (sid, h)) }
 {}
 
-/// Views by their places: the view of a slot that is handed out for a place, its own place again, and the views from a
-/// place on.
+/// Views by their places: the view of a slot that is handed out for a place, its own place again,
+/// and the views from a place on.
 pub fn views_at_places()
-    ensures slot { (views : List Seat) (i : ℕ) (v : ViewRef) → slice_get (map view_ref views) i ≡ Some v
+    ensures slot { (views : List Seat) (i : ℕ) (v : ViewRef)
+        → slice_get (map view_ref views) i ≡ Some v
         → (s : Seat) × (slice_get views i ≡ Some s) × (s.slot ≡ v.0) }
-    ensures place { (views : List Seat) (i : ℕ) (s : Seat) → NoPair same_slot views → slice_get views i ≡ Some s
+    ensures place { (views : List Seat) (i : ℕ) (s : Seat)
+        → NoPair same_slot views → slice_get views i ≡ Some s
         → place_of s.slot views ≡ i }
     ensures rest { (views : List Seat) (i : ℕ) (s : Seat) → slice_get views i ≡ Some s
         → drop i views ≡ s ∷ drop (i + 1) views }

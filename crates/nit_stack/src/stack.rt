@@ -254,7 +254,8 @@ impl Stack {
         ref_at(self.order.as_slice(), place + 1)
     }
 
-    /// How many views stand in front of this one: its place, from 0. All of them, where the view does not stand.
+    /// How many views stand in front of this one: its place, from 0. All of them, where the view
+    /// does not stand.
     pub fn place_of(&self, v: ViewRef) -> u32
         ensures place { result ≡ place_of v.0 self.now.views }
         ensures within { result ≤ length self.now.views }
