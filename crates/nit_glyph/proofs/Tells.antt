@@ -6,7 +6,7 @@ use Rattle.std.specs.Option.{option_map}
 use Rattle.std.proofs.lemmas.Bool.{agree_below, and_parts, le-leb, eqb-true}
 use Rattle.std.proofs.lemmas.Grind.{same_number_lists}
 use Rattle.std.proofs.lemmas.List.Sums.{AllPass-from_list_all}
-use Rattle.nit_glyph.specs.declared.table.TheConstants.{GLYPHS}
+use Rattle.nit_glyph.specs.Glyphs.{glyphs}
 use Rattle.nit_glyph.specs.Pictures.{glyph_rows, glyph_row, row_has_dot, dot, IsOfGlyphs, SamePicture}
 use Rattle.nit_glyph.proofs.Tests.{implies, agree}
 
@@ -27,7 +27,7 @@ abbrev tells : Glyph → Glyph → Bool
 tells g h = not (same_dots g.1 h.1) || g.0 == h.0
 
 -- no two glyphs of the table have equal dots, by computing
-table_tells : list_all (λ g. list_all (λ h. tells g h) GLYPHS) GLYPHS ≡ true
+table_tells : list_all (λ g. list_all (λ h. tells g h) glyphs) glyphs ≡ true
 table_tells = refl
 
 -- the rows of a character in a table
@@ -71,12 +71,12 @@ glyph_in [] c some = absurd (cc)
 glyph_in (g ∷ table) c some = found_step g table c (g.0 == c) refl (glyph_in table c) some
 
 -- what has rows has a glyph in the table of all glyphs
-glyph_of : (c : ℕ) → is_some (glyph_rows c) ≡ true → (g : Glyph) × IsGlyphOf GLYPHS c g
+glyph_of : (c : ℕ) → is_some (glyph_rows c) ≡ true → (g : Glyph) × IsGlyphOf glyphs c g
 unfolding glyph_rows
-glyph_of c some = glyph_in GLYPHS c some
+glyph_of c some = glyph_in glyphs c some
 
 -- a row of a character is that of its glyph
-row_of : (c : ℕ) (g : Glyph) (j : ℕ) → IsGlyphOf GLYPHS c g → glyph_row c j ≡ slice_index g.1 j
+row_of : (c : ℕ) (g : Glyph) (j : ℕ) → IsGlyphOf glyphs c g → glyph_row c j ≡ slice_index g.1 j
 unfolding glyph_rows
 row_of c g j is = ap (λ o. slice_index (unwrap_or o []) j) is.rows
 
@@ -88,7 +88,7 @@ char_same c d some_c some_d same =
     let second = glyph_of d some_d in
     let g : Glyph = first.0 in
     let h : Glyph = second.0 in
-    let told : tells g h ≡ true = second.1.passes (λ x. tells g x) (first.1.passes (λ x. list_all (λ y. tells x y) GLYPHS) table_tells) in
+    let told : tells g h ≡ true = second.1.passes (λ x. tells g x) (first.1.passes (λ x. list_all (λ y. tells x y) glyphs) table_tells) in
     let dots : same_dots g.1 h.1 ≡ true =
     agree (λ j. same_row (slice_index g.1 j) (slice_index h.1 j)) (λ _. true) 5
     (λ j lt.

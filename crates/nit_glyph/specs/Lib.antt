@@ -1,3 +1,4 @@
+pub mod Glyphs
 pub mod Padded
 pub mod Pictures
 pub mod Texts

@@ -1,12 +1,12 @@
--- The picture of a text, by the table of the glyphs.
+-- The picture of a text.
 use Rattle.std.specs.Prelude.{◌≡◌, ℕ, ◌+◌, ◌-◌, ◌*◌, ◌/◌, ◌%◌, ◌<◌, ◌==◌, zero, suc, Bool, false, ◌&&◌, nat_le, List, [], Option, is_some, find, length, slice_index, unwrap_or, bit_and, IsTrue}
 use Rattle.std.specs.List.{list_all}
 use Rattle.std.specs.Option.{option_map}
-use Rattle.nit_glyph.specs.declared.table.TheConstants.{GLYPHS}
+use Rattle.nit_glyph.specs.Glyphs.{glyphs}
 
 -- the five rows of a character's glyph, from the top, by the table; none where the table has no such character
 unfoldable pub glyph_rows : ℕ → Option (List ℕ)
-glyph_rows c = option_map (λ g. g.1) (find (λ g. g.0 == c) GLYPHS)
+glyph_rows c = option_map (λ g. g.1) (find (λ g. g.0 == c) glyphs)
 
 -- one row of a character's glyph, which is 0 where it has none
 abbrev pub glyph_row : ℕ → ℕ → ℕ

@@ -13,7 +13,7 @@ use Rattle.nit_ledger.specs.declared.view.Token.{Token}
 use Rattle.nit_ledger.specs.declared.view.BookView.{BookView}
 use Rattle.nit_ledger.specs.declared.view.BookView.TheVariants.{OfBook, OfShare, Spent}
 use Rattle.nit_ledger.specs.Books.{raised_by}
-use Rattle.nit_ledger.specs.Views.{token, Agrees, Fits, IsKept, resting, holding, Done, Bears, Stands}
+use Rattle.nit_ledger.specs.Views.{token, Agrees, Fits, IsBookAt, IsKept, resting, holding, Done, Bears, Stands}
 use Rattle.nit_ledger.proofs.Fronts.{front_self, front_trans}
 
 at_snoc : {A : Type 0} (l : List A) (a b : A) (j : ℕ) → get_elem? (l ++ a ∷ []) j ≡ some b → (get_elem? l j ≡ some b) ⊎ ((j ≡ length l) × (a ≡ b))
@@ -88,8 +88,14 @@ by_number holder views m to n hit miss =
     (λ (e : n ≡ m → ⊥). subst (λ (k : ℕ). Stands views k n) (sym (moved_else holder m to n e)) (miss e))
     (cases_eq n m)
 
+-- the book's view is at its seat after a step of that seat, where a view is put behind the others
+booked_push : (views : List BookView) (id : ℕ) (v w : BookView) (es : List Entry) (cs : List ℕ) (taken : Option Token) → get_elem? views id ≡ some v
+    → IsBookAt (set views id (OfBook es cs taken) ++ w ∷ []) id es cs
+booked_push views id v w es cs taken at =
+    (taken, at_longer (set views id (OfBook es cs taken)) (w ∷ []) id _ (set_here views id _ (at_within views id v at)))
+
 pub begins : (words : List ℕ) → IsKept (opening {S = Unit {0}} words [] (OfBook [] [] None))
-begins words = record { entries = []; counts = []; seat = 0; holder = λ n. 0; fits = one; held = λ n lt. absurd (omega arith) }
+begins words = record { entries = []; counts = []; seat = 0; holder = λ n. 0; book = (None, refl); fits = one; held = λ n lt. absurd (omega arith) }
   where
     one : (by : ℕ) (v : BookView) → get_elem? (OfBook [] [] None ∷ []) by ≡ some v → Fits [] [] 0 (λ n. 0) by v
     one zero v e = subst (Fits [] [] 0 (λ n. 0) 0) (some-injective _ _ e) (refl, refl, refl, tt)
@@ -118,6 +124,7 @@ opens id es cs s kept at =
       counts = cs ++ 0 ∷ [];
       seat = id;
       holder = holder;
+      book = booked_push s.views id (resting es cs) (OfShare (token (length cs) 0 es)) es (cs ++ 0 ∷ []) None at;
       fits = over_snoc F (set s.views id w) (OfShare (token (length cs) 0 es))
           (over_set F s.views id w
           (λ j u apart e. other_fits es es cs (cs ++ 0 ∷ []) id kept.holder holder j u apart (opened_part es cs kept.holder to j) (settled s kept id es cs None at j u e))
@@ -149,6 +156,7 @@ takes id es cs other t s kept at apart there =
       counts = cs;
       seat = id;
       holder = holder;
+      book = (Some t, set_else (set s.views id w) other id Spent (λ q. apart (sym q)) ∙ set_here s.views id w (at_within s.views id (resting es cs) at));
       fits = λ j u e. last s.views id es cs other t kept.holder all theirs j u e;
       held = λ n lt. by_number kept.holder (set (set s.views id w) other Spent) t.number id n
           (λ e. stands_set (set s.views id w) other Spent id n (λ q. apart (sym q)) (stands_here s.views id (OfBook es cs None) w n at (sym e)))
@@ -184,6 +192,7 @@ gives id es cs t s kept at =
       counts = cs;
       seat = id;
       holder = holder;
+      book = booked_push s.views id (holding es cs t) (OfShare t) es cs None at;
       fits = over_snoc F (set s.views id w) (OfShare t)
           (over_set F s.views id w
           (λ j u apart e. other_fits es es cs cs id kept.holder holder j u apart (taken_part es cs kept.holder t.number to id j mine.1 apart) (all j u e))
@@ -235,6 +244,7 @@ does slots id es cs t added risen s kept homes at fits =
         counts = cs';
         seat = id;
         holder = kept.holder;
+        book = (Some t', set_here s.views id w (at_within s.views id (holding es cs t) at));
         fits = over_set F s.views id w
             (λ j u apart x. other_fits es es' cs cs' id kept.holder kept.holder j u apart (grown_part es cs added risen kept.holder t.number id j mine.1 apart) (all j u x))
             (refl, refl, refl, (record { below = omega (arith, length-set cs t.number (slice_index cs t.number + risen)); counted = get_or-set_same cs t.number (slice_index cs t.number + risen) 0 mine.0.below ∙ ap (λ (k : ℕ). k + risen) mine.0.counted; front = front_self es' }, mine.1));

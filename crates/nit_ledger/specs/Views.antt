@@ -48,13 +48,19 @@ Bears n Spent = ⊥
 abbrev pub Stands : List BookView → ℕ → ℕ → Type 0
 Stands views by n = (v : BookView) × (get_elem? views by ≡ some v) × Bears n v
 
--- The rule: there are entries, counts, the one seat of the book, and a seat that holds each number. Each view fits these, and the
--- holder of each number below the number of counts has the share of that number.
+-- the view of this seat is a book's, with these entries and counts
+abbrev pub IsBookAt : List BookView → ℕ → List Entry → List ℕ → Type 0
+IsBookAt views seat es cs = (taken : Option Token) × (get_elem? views seat ≡ some (OfBook es cs taken))
+
+-- The rule: there are entries, counts, the one seat of the book, and a seat that holds each number. The book's view stands at its
+-- seat. Each view fits these, so no other seat has a book's view, and no number has two shares. The holder of each number below the
+-- number of counts has the share of that number.
 pub record IsKept (s : State (Unit {0}) BookView) : Type 0 where
   pub entries : List Entry
   pub counts : List ℕ
   pub seat : ℕ
   pub holder : ℕ → ℕ
+  pub book : IsBookAt s.views seat entries counts
   pub fits : (by : ℕ) (v : BookView) → get_elem? s.views by ≡ some v → Fits entries counts seat holder by v
   pub held : (n : ℕ) → n < length counts → Stands s.views (holder n) n
 
@@ -76,9 +82,10 @@ token_of (OfBook es cs t) = token 0 0 []
 token_of (OfShare t) = t
 token_of Spent = token 0 0 []
 
--- a share is taken in
+-- a share is taken in, where none is
 abbrev pub with_share : BookView → BookView → BookView
-with_share (OfBook es cs t) v = OfBook es cs (Some (token_of v))
+with_share (OfBook es cs None) v = holding es cs (token_of v)
+with_share (OfBook es cs (Some t)) v = holding es cs t
 with_share (OfShare t) v = OfShare t
 with_share Spent v = Spent
 
@@ -96,13 +103,13 @@ share_in (OfShare t) = Spent
 share_in Spent = Spent
 
 -- the share that is taken in was in step; entries are added, its count and the book's count at its number rise, and it has seen all
--- entries
+-- entries; where none is taken in, nothing changes
 abbrev pub Changed : List Entry → ℕ → BookView → BookView → Type 0
 Changed added risen (OfBook es cs (Some t)) w =
     (w ≡ holding (es ++ added) (raised_by cs t.number risen) (token t.number (t.count + risen) (es ++ added))) × Agrees es cs t
-Changed added risen (OfBook es cs None) w = Unit {0}
-Changed added risen (OfShare t) w = Unit {0}
-Changed added risen Spent w = Unit {0}
+Changed added risen (OfBook es cs None) w = w ≡ resting es cs
+Changed added risen (OfShare t) w = w ≡ OfShare t
+Changed added risen Spent w = w ≡ Spent
 
 -- what a step tells, in which the share that is taken in does this
 abbrev pub Done : List Entry → ℕ → Step (Unit {0}) → Me (Unit {0}) BookView → ℕ → Me (Unit {0}) BookView → Type 0

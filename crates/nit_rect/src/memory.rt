@@ -2,7 +2,7 @@ use std::alloc::{AllocError, AllocFailed};
 use std::error::Error;
 use std::fmt;
 
-/// Memory ran out. What the call was lent is as it was before.
+/// Memory ran out. What a public call was lent is as it was before.
 #[derive(Clone, Copy, Debug, PartialEq, Eq)]
 pub struct NoMemory;
 

@@ -1,6 +1,8 @@
 -- Lines written piece by piece.
-use Rattle.std.proofs.Common.{◌≡◌, ℕ, ◌+◌, ◌*◌, ◌/◌, ◌%◌, List, [], ◌∷◌, ◌++◌, refl, arith}
+use Rattle.std.proofs.Common.{◌≡◌, ℕ, ◌+◌, ◌*◌, ◌/◌, ◌%◌, List, [], ◌∷◌, ◌++◌, length, take, refl, arith}
+use Rattle.std.proofs.Math.Seq.{take-append_seam, take-length}
 use Rattle.std.proofs.lemmas.List.{append-nil}
+use Rattle.nit_script.specs.Printing.{IsFront}
 use Rattle.nit_script.specs.Spelling.{hex, hex_digits}
 
 pub ruleset ends = (append-nil)
@@ -23,3 +25,13 @@ six_digits c = rw (two c, three c, four c, five c) refl
     five c = omega arith
 
 pub ruleset sixes = (six_digits)
+
+-- all bytes are a front of themselves
+pub front_same : (xs : List ℕ) → IsFront xs xs
+front_same xs = take-length xs
+
+-- and of themselves with more behind them
+pub front_more : (xs ys zs : List ℕ) → zs ≡ xs ++ ys → IsFront xs zs
+front_more xs ys zs more = rw more (take-append_seam xs ys)
+
+pub ruleset fronts = (front_same, front_more)

@@ -1,8 +1,12 @@
 -- What a part of a line is written as.
-use Rattle.std.specs.Prelude.{ℕ, List}
+use Rattle.std.specs.Prelude.{◌≡◌, ℕ, List, length, take}
 use Rattle.nit_script.specs.declared.write.Field.{Field}
 use Rattle.nit_script.specs.declared.write.Field.TheVariants.{Natural, Integer, Colour, Text}
 use Rattle.nit_script.specs.Spelling.{nat, int, colour, text}
+
+-- some bytes are the front of others
+abbrev pub IsFront : List ℕ → List ℕ → Type 0
+IsFront front bytes = take (length front) bytes ≡ front
 
 -- a field with the space before it
 abbrev pub field_spelling : Field → List ℕ

@@ -1,6 +1,6 @@
 //! Scripts written as bytes.
 
-ghost use Rattle.std.specs.Prelude.{◌≡◌, ◌++◌, IfOk, OnOk};
+ghost use Rattle.std.specs.Prelude.{◌≡◌, ◌++◌, IfOk, OnOk, OnErr};
 ghost use Rattle.nit_script.specs.Spelling.{call_spelling, device_spelling, stroke_spelling, line_spelling, input_spelling};
 ghost use Rattle.nit_script.specs.Grammar.{ReadsClient, ReadsInput};
 
@@ -55,10 +55,12 @@ fn put_input_line(alloc: Global, out: &mut Vec<u8>, line: &InputLine) -> Result<
     }
 }
 
-/// Writes a call as a script spells it, without a line feed. It can be refused for want of memory alone.
+/// Writes a call behind `out` as a script spells it, without a line feed. It can be refused for want of memory
+/// alone, and `out` has then the bytes that it had.
 #[tactic(auto, using(crate::proofs::Printed::ends))]
 pub fn put_call(alloc: Global, out: &mut Vec<u8>, call: &Call) -> Result<(), NoMemory>
-    ensures { OnOk result (out.new.items ≡ out.old.items ++ call_spelling call.now) }
+    ensures written { OnOk result (out.new.items ≡ out.old.items ++ call_spelling call.now) }
+    ensures unchanged { OnErr result (out.new.items ≡ out.old.items) }
 {
     use Field::{Integer, Natural};
 
@@ -112,11 +114,12 @@ fn put_stroke(alloc: Global, out: &mut Vec<u8>, stroke: &Stroke) -> Result<(), N
     }
 }
 
-/// Writes what the user does as an input script spells it, without a line feed. It can be refused for want
-/// of memory alone.
+/// Writes what the user does behind `out` as an input script spells it, without a line feed. It can be refused
+/// for want of memory alone, and `out` has then the bytes that it had.
 #[tactic(auto, using(crate::proofs::Printed::ends))]
 pub fn put_device(alloc: Global, out: &mut Vec<u8>, device: &Device) -> Result<(), NoMemory>
-    ensures { OnOk result (out.new.items ≡ out.old.items ++ device_spelling device.now) }
+    ensures written { OnOk result (out.new.items ≡ out.old.items ++ device_spelling device.now) }
+    ensures unchanged { OnErr result (out.new.items ≡ out.old.items) }
 {
     use Field::{Integer, Natural};
 

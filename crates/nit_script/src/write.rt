@@ -1,9 +1,9 @@
 //! Words and fields at the end of bytes.
 
-ghost use Rattle.std.specs.Prelude.{◌≡◌, ◌++◌, ◌%◌, OnOk};
+ghost use Rattle.std.specs.Prelude.{◌≡◌, ◌++◌, ◌%◌, OnOk, OnErr};
 ghost use Rattle.std.specs.List.{flat_map};
 ghost use Rattle.nit_script.specs.Spelling.{nat, int, hex, hex_digits, colour, text};
-ghost use Rattle.nit_script.specs.Printing.{field_spelling};
+ghost use Rattle.nit_script.specs.Printing.{IsFront, field_spelling};
 
 use nit_events::Text;
 use nit_rect::NoMemory;
@@ -18,21 +18,43 @@ pub enum Field {
     Text(Text),
 }
 
-/// Writes a word and its fields.
+/// Writes a word and its fields. Where memory runs out, what was written is cut off again.
 pub fn put_words(
     alloc: Global,
     out: &mut Vec<u8>,
     word: &[u8],
     fields: &[Field],
 ) -> Result<(), NoMemory>
-    ensures { OnOk result (out.new.items ≡ out.old.items ++ (word.now ++ flat_map field_spelling fields.now)) }
+    ensures written { OnOk result (out.new.items ≡ out.old.items ++ (word.now ++ flat_map field_spelling fields.now)) }
+    ensures unchanged { OnErr result (out.new.items ≡ out.old.items) }
+{
+    let before = out.len();
+    let written = put_parts(alloc, out, word, fields);
+    if written.is_err() {
+        out.truncate(before);
+    }
+    written
+}
+
+/// Writes a word and its fields, or a front of them.
+#[tactic(auto, using(crate::proofs::Printed::fronts))]
+fn put_parts(
+    alloc: Global,
+    out: &mut Vec<u8>,
+    word: &[u8],
+    fields: &[Field],
+) -> Result<(), NoMemory>
+    ensures written { OnOk result (out.new.items ≡ out.old.items ++ (word.now ++ flat_map field_spelling fields.now)) }
+    ensures kept { OnErr result (IsFront out.old.items out.new.items) }
 {
     out.extend_from_slice(word)?;
     put_fields(alloc, out, fields)
 }
 
+#[tactic(auto, using(crate::proofs::Printed::fronts))]
 fn put_fields(alloc: Global, out: &mut Vec<u8>, fields: &[Field]) -> Result<(), NoMemory>
-    ensures { OnOk result (out.new.items ≡ out.old.items ++ flat_map field_spelling fields.now) }
+    ensures written { OnOk result (out.new.items ≡ out.old.items ++ flat_map field_spelling fields.now) }
+    ensures kept { OnErr result (IsFront out.old.items out.new.items) }
 {
     for field in fields {
         put_field(alloc, out, field)?;
@@ -41,7 +63,8 @@ fn put_fields(alloc: Global, out: &mut Vec<u8>, fields: &[Field]) -> Result<(), 
 }
 
 fn put_field(alloc: Global, out: &mut Vec<u8>, field: &Field) -> Result<(), NoMemory>
-    ensures { OnOk result (out.new.items ≡ out.old.items ++ field_spelling field.now) }
+    ensures written { OnOk result (out.new.items ≡ out.old.items ++ field_spelling field.now) }
+    ensures kept { OnErr result (IsFront out.old.items out.new.items) }
 {
     match field {
         Field::Natural(number) => put_natural(alloc, out, *number),
@@ -51,32 +74,40 @@ fn put_field(alloc: Global, out: &mut Vec<u8>, field: &Field) -> Result<(), NoMe
     }
 }
 
+#[tactic(auto, using(crate::proofs::Printed::fronts))]
 fn put_natural(alloc: Global, out: &mut Vec<u8>, number: u32) -> Result<(), NoMemory>
-    ensures { OnOk result (out.new.items ≡ out.old.items ++ nat number) }
+    ensures written { OnOk result (out.new.items ≡ out.old.items ++ nat number) }
+    ensures kept { OnErr result (IsFront out.old.items out.new.items) }
 {
     let digits = format!(in alloc; " {number}")?;
     out.extend_from_slice(digits.as_bytes())?;
     Ok(())
 }
 
+#[tactic(auto, using(crate::proofs::Printed::fronts))]
 fn put_integer(alloc: Global, out: &mut Vec<u8>, number: i32) -> Result<(), NoMemory>
-    ensures { OnOk result (out.new.items ≡ out.old.items ++ int number) }
+    ensures written { OnOk result (out.new.items ≡ out.old.items ++ int number) }
+    ensures kept { OnErr result (IsFront out.old.items out.new.items) }
 {
     let digits = format!(in alloc; " {number}")?;
     out.extend_from_slice(digits.as_bytes())?;
     Ok(())
 }
 
+#[tactic(auto, using(crate::proofs::Printed::fronts))]
 fn put_colour(out: &mut Vec<u8>, number: u32) -> Result<(), NoMemory>
-    ensures { OnOk result (out.new.items ≡ out.old.items ++ colour number) }
+    ensures written { OnOk result (out.new.items ≡ out.old.items ++ colour number) }
+    ensures kept { OnErr result (IsFront out.old.items out.new.items) }
 {
     out.push(b' ')?;
     out.extend_from_slice(&colour_digits(number))?;
     Ok(())
 }
 
+#[tactic(auto, using(crate::proofs::Printed::fronts))]
 fn put_text(out: &mut Vec<u8>, title: &Text) -> Result<(), NoMemory>
-    ensures { OnOk result (out.new.items ≡ out.old.items ++ text title.now) }
+    ensures written { OnOk result (out.new.items ≡ out.old.items ++ text title.now) }
+    ensures kept { OnErr result (IsFront out.old.items out.new.items) }
 {
     out.extend_from_slice(b" =")?;
     out.extend_from_slice(title.as_bytes())?;

@@ -1,5 +1,6 @@
-use Rattle.std.proofs.Common.{rules, ◌+◌, ◌/◌, ◌%◌, List, ℕ, [], ◌∷◌, ◌++◌, take, arith, ap, sym, ◌∙◌, append_assoc}
+use Rattle.std.proofs.Common.{rules, ◌≡◌, ◌+◌, ◌/◌, ◌%◌, List, ℕ, [], ◌∷◌, ◌++◌, take, drop, arith, ap, sym, ◌∙◌, append_assoc}
 use Rattle.std.specs.Fmt.{decimal}
+use Rattle.std.proofs.lemmas.List.{drop-drop}
 use Rattle.std.proofs.lemmas.Fmt.{decimal_digit, decimal_step}
 use Rattle.nit_report.proofs.Decimals.{one_digit, one_digit_more}
 use Rattle.nit_report.proofs.write.+number.Goals as goal
@@ -28,3 +29,12 @@ returns-clause-written t c =
     c.text-2.ensures.written ∙ ap (λ (s : List ℕ). s ++ (48 + c.args.n % 10) ∷ []) c.number-end.ensures.written
     ∙ append_assoc (take c.args.at c.args.out.now) (decimal (c.args.n / 10)) ((48 + c.args.n % 10) ∷ [])
     ∙ ap (λ (ds : List ℕ). take c.args.at c.args.out.now ++ ds) (sym (decimal_step c.args.n c.if-n-lt10.false (omega arith)))
+
+-- lists that are the same behind m elements are so behind one more
+behind_one_more : (m n : ℕ) (xs ys : List ℕ) → n ≡ m + 1 → drop m xs ≡ drop m ys → drop n xs ≡ drop n ys
+behind_one_more m n xs ys more same =
+    ap (λ k. drop k xs) more ∙ sym (drop-drop 1 m xs) ∙ ap (drop 1) same ∙ drop-drop 1 m ys ∙ ap (λ k. drop k ys) (sym more)
+
+pub returns-clause-behind : goal.returns-clause-behind
+returns-clause-behind t c =
+    c.text-2.ensures.behind ∙ behind_one_more c.number-end.result _ _ _ c.text-2.ensures.end c.number-end.ensures.behind
