@@ -1,5 +1,5 @@
 -- What a `Focus` stands for, and what a device event makes of it.
-use Rattle.std.specs.Prelude.{◌≡◌, ℕ, ◌<◌, ◌≤◌, pos, ◌≤ℤ◌, ◌<ℤ◌, Bool, true, false, List, length, replicate, slice_index_or, Option, Some, None, IfSome}
+use Rattle.std.specs.Prelude.{◌≡◌, ℕ, ◌<◌, ◌≤◌, pos, Bool, true, false, List, length, replicate, slice_index_or, Option, Some, None, IfSome}
 use Rattle.nit_rect.specs.declared.point.Point.{Point}
 use Rattle.nit_events.specs.declared.device.Device.{Device}
 use Rattle.nit_events.specs.Input.{InputState, Routing, first_input, pointer_after, routing}
@@ -24,10 +24,6 @@ clicks_on_list clicks (Some sid) = slice_index_or clicks sid false
 -- where the pointer is
 abbrev pub pointer : InputState → Point
 pointer i = record { x = pos i.x; y = pos i.y }
-
--- a pixel of a screen of this size
-abbrev pub IsOnScreen : ℕ → ℕ → Point → Type 0
-IsOnScreen width height p = (pos 0 ≤ℤ p.x) × (p.x <ℤ pos width) × (pos 0 ≤ℤ p.y) × (p.y <ℤ pos height)
 
 -- the state once the pointer has moved
 abbrev pub moved : Focusing → Device → InputState

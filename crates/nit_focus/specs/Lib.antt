@@ -1,3 +1,4 @@
+pub use Rattle.nit_rect.specs.Screen
 pub use Rattle.nit_events.specs.Input
 pub use Rattle.nit_events.specs.Ranges
 pub mod Held

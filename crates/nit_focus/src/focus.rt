@@ -1,8 +1,9 @@
 ghost use Rattle.std.specs.Prelude.{◌≡◌, ◌<◌, ◌≤◌, false, length, slice_set, IfSome};
 ghost use Rattle.std.specs.List.{All};
+ghost use Rattle.nit_rect.specs.Screen.{IsOnScreen};
 ghost use Rattle.nit_events.specs.Input as input;
 ghost use Rattle.nit_events.specs.Ranges.{IsDevice};
-ghost use Rattle.nit_focus.specs.Focusing.{first_focusing, clicks_on_list, moved, pointer, route, AllOfInput, IsOnScreen};
+ghost use Rattle.nit_focus.specs.Focusing.{first_focusing, clicks_on_list, moved, pointer, route, AllOfInput};
 ghost use Rattle.nit_focus.specs.Reach.{IsWithinReach, IsItem, HasForgotten, IsForgottenIfKilled};
 
 use crate::state::State;

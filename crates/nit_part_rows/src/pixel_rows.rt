@@ -21,6 +21,8 @@ fn both_ends_see_what_was_stored(rt: HostRuntime) -> Result<(), Fail> {
     assert_eq!(rt; canvas.load(0), 0);
     assert_eq!(rt; lens.load(1), RED);
     assert_eq!(rt; canvas.load(1), RED);
+    canvas.store(1, 0);
+    assert_eq!(rt; lens.load(1), 0);
     Ok(())
 }
 

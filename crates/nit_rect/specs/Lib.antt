@@ -1,3 +1,4 @@
 pub mod Rectangle
 pub mod Meeting
 pub mod Dividing
+pub mod Screen

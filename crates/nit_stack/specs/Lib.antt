@@ -1,4 +1,5 @@
 pub use Rattle.nit_rect.specs.Rectangle
+pub use Rattle.nit_rect.specs.Screen
 pub mod Sources
 pub mod Orders
 pub mod Labels

@@ -1,9 +1,9 @@
 -- What contracts see of a stack: its views with their slots, front first, and what the screen and the sessions have.
-use Rattle.std.specs.Prelude.{◌≡◌, ℕ, ◌<◌, ◌≤◌, ◌⊎◌, ◌==◌, Bool, false, nat_lt, ℤ, pos, ◌≤ℤ◌, ◌<ℤ◌, List, [], ◌∷◌, length, find, replicate, slice_index, slice_index_or, All, Option, if◌then◌else◌}
+use Rattle.std.specs.Prelude.{◌≡◌, ℕ, ◌<◌, ◌≤◌, ◌⊎◌, ◌==◌, Bool, false, nat_lt, ℤ, pos, List, [], ◌∷◌, length, find, replicate, slice_index, slice_index_or, All, Option, if◌then◌else◌}
 use Rattle.std.specs.List.{list_any, position_or_len}
 use Rattle.std.specs.Option.{option_map}
-use Rattle.nit_rect.specs.declared.point.Point.{Point}
 use Rattle.nit_rect.specs.Rectangle.{Rectangle, IsPlace, rectangle}
+pub use Rattle.nit_rect.specs.Screen.{IsOnScreen}
 use Rattle.nit_stack.specs.declared.view.View.{View}
 use Rattle.nit_stack.specs.declared.view.ViewRef.{ViewRef}
 use Rattle.nit_stack.specs.Labels.{is_view}
@@ -149,10 +149,6 @@ IsBar rows height = ((rows ≡ 0) ⊎ (rows ≡ 7)) × (rows < height)
 -- the screen is 1..=1024 by 1..=768
 abbrev pub IsScreen : ℕ → ℕ → Type 0
 IsScreen width height = (1 ≤ width) × (width ≤ 1024) × (1 ≤ height) × (height ≤ 768)
-
--- the pixel is on the screen
-abbrev pub IsOnScreen : ℕ → ℕ → Point → Type 0
-IsOnScreen width height p = (pos 0 ≤ℤ p.x) × (p.x <ℤ pos width) × (pos 0 ≤ℤ p.y) × (p.y <ℤ pos height)
 
 -- What holds of every stack: no two views have one slot, nor the same session and handle, and along the list the
 -- layers never fall; every number is in its range.

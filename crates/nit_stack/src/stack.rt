@@ -3,9 +3,10 @@
 ghost use Rattle.std.specs.Prelude.{◌≡◌, ℕ, ◌+◌, ◌<◌, ◌≤◌, [], false, true, length, map, nat_lt, option_map, slice_get, slice_set, IfOk, IfSome, Some};
 ghost use Rattle.std.specs.List.{list_any};
 ghost use Rattle.nit_rect.specs.Rectangle.{IsPlace};
+ghost use Rattle.nit_rect.specs.Screen.{IsOnScreen};
 ghost use Rattle.nit_stack.specs.Sources.{owner_in, source};
 ghost use Rattle.nit_stack.specs.Orders.{changed, moved, put_front, without};
-ghost use Rattle.nit_stack.specs.Standing.{IsStanding, IsBar, IsInRange, IsScreen, IsOnScreen, fresh, fresh_in, has, is_named, is_of_session, is_slot, layer_of, moved_above, on_view, opened, place_of, put_own_front, put_own_back, seat_in, seat_layer, size_of, slot_layer, view_ref, with_offset, with_rect, with_title};
+ghost use Rattle.nit_stack.specs.Standing.{IsStanding, IsBar, IsInRange, IsScreen, fresh, fresh_in, has, is_named, is_of_session, is_slot, layer_of, moved_above, on_view, opened, place_of, put_own_front, put_own_back, seat_in, seat_layer, size_of, slot_layer, view_ref, with_offset, with_rect, with_title};
 ghost use Rattle.nit_stack.specs.Names.{views_of};
 ghost use Rattle.nit_stack.specs.Answers.{IfWord, pixel_source, session_of, source_owner, word_count};
 
