@@ -5,15 +5,14 @@ ghost use Rattle.nit_events.specs.declared.entry.Entry.TheVariants as entry;
 ghost use Rattle.nit_journal.specs.Session.{serve};
 ghost use Rattle.nit_journal.specs.Views.{is_accepted};
 ghost use Rattle.nit_journal.specs.State.{after, session, session_in};
-ghost use Rattle.nit_scene.specs.Marks.{glasses_of_call};
+ghost use Rattle.nit_repaint.specs.Glasses.{glasses_of_call};
 ghost use Rattle.nit_scene.specs.Painted.{Painted, glass_in};
 ghost use Rattle.nit_scene.specs.Serving.{IsServing, state_of};
 ghost use Rattle.nit_scene.specs.Showing.{IsGlassOf};
 
-use crate::loading::{repaint_all, repaint_whole};
-use crate::marking::mark_of;
-use crate::marks::mark_all;
+use crate::repainting::{load_whole, serve_call};
 use crate::server::Server;
+use nit_damage::Cutter;
 use nit_events::{Call, Reply};
 use nit_glyph::Label;
 use nit_rect::Point;
@@ -26,7 +25,7 @@ pub(crate) struct Screen<G: Glass + Drop> {
     pub(crate) server: Server,
     pub(crate) glasses: Vec<G>,
     pub(crate) raw: Vec<u32>,
-    pub(crate) marks: Vec<bool>,
+    pub(crate) cutter: Cutter,
     pub(crate) labels: Vec<Label>,
     pub(crate) places: Vec<Option<Point>>,
 }
@@ -39,7 +38,7 @@ impl<G: Glass + Drop> Model for Screen<G> {
 
     ghost view = { λ s. record { serving = s.server; raw = s.raw.items; glasses = s.glasses.items } };
 
-    ghost invariant = { λ s. IsScreen s.server (map G.sight s.glasses.items) s.raw.items s.marks.items s.labels.items (length s.places.items) };
+    ghost invariant = { λ s. IsScreen s.server (map G.sight s.glasses.items) s.raw.items s.cutter.room s.labels.items (length s.places.items) };
 }
 
 impl<G: Glass + Drop> Screen<G> {
@@ -61,21 +60,16 @@ impl<G: Glass + Drop> Screen<G> {
         if let Some(reply) = self.server.refused(sid, call) {
             return reply;
         }
-        let Some(mark) = mark_of(&self.server, sid, call) else {
-            return self.server.accept(sid, call);
-        };
-        mark_all(&self.server, &mark, false, &mut self.marks);
-        let reply = self.server.accept(sid, call);
-        mark_all(&self.server, &mark, true, &mut self.marks);
-        repaint_all(
-            &self.server,
-            &self.marks,
+        self.server.facts();
+        serve_call(
+            &mut self.server,
+            &mut self.cutter,
             &mut self.raw,
             &mut self.glasses,
             sid,
+            call,
             own,
-        );
-        reply
+        )
     }
 
     /// Loads every pixel again by these glasses, one for each session.
@@ -89,7 +83,7 @@ impl<G: Glass + Drop> Screen<G> {
         ensures rests { map C.rest owns.new ≡ map C.rest owns.old }
     {
         self.server.facts();
-        repaint_whole(&self.server, &mut self.raw, owns);
+        load_whole(&self.server, &mut self.cutter, &mut self.raw, owns);
     }
 
     /// What holds of the server.
