@@ -1,25 +1,24 @@
 -- What is to come after a begin.
-use Rattle.std.proofs.Common.{◌≡◌, ℕ, zero, suc, ◌+◌, ◌<◌, ◌≤◌, not, Bool, true, false, ◌&&◌, ◌||◌, cond, nat_lt, List, [], ◌∷◌, length, map, find, take, get_or, Option, Some, None, refl, ap, ap₂, sym, ◌∙◌, subst, arith, zero-add, inr, sum_by}
-use Rattle.std.specs.Option.{option_map_or}
+use Rattle.std.proofs.Common.{◌≡◌, ℕ, zero, suc, ◌+◌, ◌*◌, ◌<◌, ◌≤◌, ◌==◌, not, Bool, true, false, ◌&&◌, ◌||◌, cond, nat_lt, List, [], ◌∷◌, ◌++◌, length, map, find, take, get_or, Option, Some, None, refl, ap, ap₂, sym, ◌∙◌, subst, arith, zero-add, inr, sum_by}
+use Rattle.std.specs.Option.{option_map, option_map_or}
 use Rattle.std.proofs.lemmas.Bool.{and_parts}
 use Rattle.std.proofs.lemmas.Bool.Decides.{nat_tests}
 use Rattle.std.proofs.lemmas.List.{get_or-map, length-map}
 use Rattle.std.proofs.lemmas.List.Sums.{sum_by-append}
 use Rattle.nit_rect.specs.declared.point.Point.{Point}
 use Rattle.nit_rect.specs.Rectangle.{Rectangle, covers}
-use Rattle.nit_rect.specs.Meeting.{CoversBoth, LiesIn}
+use Rattle.nit_rect.specs.Meeting.{CoversBoth, HasPixels, LiesIn}
 use Rattle.nit_rect.specs.Dividing.{times}
 use Rattle.nit_rect.proofs.Sets.{covers_none}
-use Rattle.nit_stack.specs.declared.view.View.{View}
 use Rattle.nit_stack.specs.declared.view.ViewRef.{ViewRef}
 use Rattle.nit_stack.specs.Sources.{in_bar}
-use Rattle.nit_stack.specs.Standing.{IsOnScreen, NoPair, Seat, Standing, is_slot, same_slot, seat_in}
+use Rattle.nit_stack.specs.Standing.{IsOnScreen, NoPair, Seat, Standing, is_slot, place_of, same_slot, seat_in}
 use Rattle.nit_damage.specs.declared.cutting.Job.{Job}
-use Rattle.nit_damage.specs.Sets.{covered, is_of_moved, is_owned, once, place_of, seat_covers}
-use Rattle.nit_damage.specs.Cuts.{Cuts, Fits, FitsJobs, IsJob, bar_part, begun, job_to_come, part_below_bar, to_come}
-use Rattle.nit_damage.specs.Cutting.{IsCut, job_at, times_all}
+use Rattle.nit_damage.specs.Sets.{covered, is_behind, is_of_moved, is_owned, once, seat_covers}
+use Rattle.nit_damage.specs.Cuts.{Cuts, Fits, FitsJobs, IsJob, bar_part, begun, job_at, job_to_come, jobs_to_come, part_below_bar, to_come, with_pixels}
+use Rattle.nit_damage.specs.Cutting.{IsCut, times_all}
 use Rattle.nit_damage.proofs.Cut.{rest_lies}
-use Rattle.nit_damage.proofs.Jobs.{fits_append, rest_to_come}
+use Rattle.nit_damage.proofs.Jobs.{all_have_pixels, at_most_one, fits_append, rest_to_come, same_times}
 use Rattle.nit_damage.proofs.Screen.{bar_in_bar, bar_is, bar_off, below_is, below_not_in_bar, below_off}
 use Rattle.nit_damage.proofs.Views.{owned_is}
 
@@ -28,16 +27,29 @@ at_most_once true = omega arith
 at_most_once false = omega arith
 
 -- one rectangle, of which nothing is cut out yet
-first_job : (s : Standing) (k : ℕ) (r : Rectangle) → k ≤ 4 → LiesIn r (part_below_bar s) → IsJob s k (job_at 0 r)
-first_job s k r low lies = record { place = omega arith; low = omega arith; below_bar = lies; free = λ p here. refl }
+first_job : (s : Standing) (k : ℕ) (r : Rectangle) → k ≤ 4 → HasPixels r → LiesIn r (part_below_bar s) → IsJob s k (job_at 0 r)
+first_job s k r low some lies = record { pixels = some; place = omega arith; low = omega arith; below_bar = lies; free = λ p here. refl }
 
-first_fits : (s : Standing) (r : Rectangle) → LiesIn r (part_below_bar s) → FitsJobs s (job_at 0 r ∷ [])
-first_fits s r lies zero d below = first_job s 0 r (omega arith) lies
-first_fits s r lies (suc k) d below = absurd (omega arith)
+first_fits : (s : Standing) (r : Rectangle) → LiesIn r (part_below_bar s) → FitsJobs s (map (job_at 0) (with_pixels r))
+first_fits s r lies k d below =
+    let few = at_most_one r in
+    let n = length-map (with_pixels r) (job_at 0) in
+    let within : k < length (with_pixels r) = omega arith in
+    let same = only (r.w * r.h == 0) k within in
+    let job = first_job s k (get_or (with_pixels r) k r) (omega arith) (all_have_pixels r k r within) (λ p here. lies p (ap (λ (q : Rectangle). covers q p) (sym same) ∙ here)) in
+    subst (IsJob s k) (sym (get_or-map (job_at 0) (with_pixels r) k r d within)) job
+  where
+    only : (b : Bool) (i : ℕ) → i < length (cond b [] (r ∷ [])) → get_or (cond b [] (r ∷ [])) i r ≡ r
+    only true i l = absurd (omega arith)
+    only false zero l = refl
+    only false (suc i) l = absurd (omega arith)
 
 -- what is to come where a rectangle is cut by the views in front of a place
+first_to_come : (s : Standing) (from : ℕ) (r : Rectangle) (p : Point) → jobs_to_come from s (map (job_at 0) (with_pixels r)) p ≡ cond (covered (take from s.views) p) 0 (times r p)
+first_to_come s from r p = rest_to_come from 0 s p (with_pixels r) ∙ ap (λ (n : ℕ). cond (covered (take from s.views) p) 0 n) (same_times r p)
+
 pub begun_comes : (s : Standing) (from : ℕ) (r : Rectangle) (room : ℕ) (p : Point) → to_come (begun from r room) s p ≡ cond (covered (take from s.views) p) 0 (times r p)
-begun_comes s from r room p = zero-add (0 + job_to_come from s p (job_at 0 r)) ∙ zero-add (job_to_come from s p (job_at 0 r))
+begun_comes s from r room p = zero-add (jobs_to_come from s (map (job_at 0) (with_pixels r)) p) ∙ first_to_come s from r p
 
 pub lies_below : (s : Standing) (r part : Rectangle) → CoversBoth r (part_below_bar s) part → LiesIn part (part_below_bar s)
 lies_below s r part both p here = (and_parts (covers r p) (covers (part_below_bar s) p) (sym (both p) ∙ here)).1
@@ -56,7 +68,7 @@ begun_fits s from r room enough lies = record {
 
 -- a rectangle on the screen, below the bar
 pub gone_comes : (s : Standing) (from : ℕ) (r part : Rectangle) (room : ℕ) → s.bar ≤ s.height → CoversBoth r (part_below_bar s) part
-    → (p : Point) → IsOnScreen s.width s.height p → to_come (begun from part room) s p ≡ once (not (in_bar s.bar p) && covers r p && not (covered (take from s.views) p))
+    → (p : Point) → IsOnScreen s.width s.height p → to_come (begun from part room) s p ≡ once (is_behind from s r p)
 gone_comes s from r part room fits both p on =
     begun_comes s from part room p
     ∙ ap (λ (c : Bool). cond (covered (take from s.views) p) 0 (once c)) (both p)
@@ -86,15 +98,21 @@ begun_off s from r part room fits both p off =
     go false true = refl
     go false false = refl
 
+-- a view in its slot, by its rectangle
+seat_of : (o : Option Seat) (r : Rectangle) → option_map (λ (a : Seat). a.view.rect) o ≡ Some r → (x : Seat) × (o ≡ Some x) × (x.view.rect ≡ r)
+seat_of None r e = cc
+seat_of (Some x) r e = let same : x.view.rect ≡ r = cc in (x, refl, same)
+
 -- the pixels that a view owns
-pub owned_comes : (s : Standing) (v : ViewRef) (view : View) (r rect part : Rectangle) (room : ℕ) → s.bar ≤ s.height → NoPair same_slot s.views → seat_in v.0 s.views ≡ Some record { slot = v.0; view = view }
-    → CoversBoth view.rect r rect → CoversBoth rect (part_below_bar s) part
+pub owned_comes : (s : Standing) (v : ViewRef) (own r rect part : Rectangle) (room : ℕ) → s.bar ≤ s.height → NoPair same_slot s.views → option_map (λ (a : Seat). a.view.rect) (seat_in v.0 s.views) ≡ Some own
+    → CoversBoth own r rect → CoversBoth rect (part_below_bar s) part
     → (p : Point) → IsOnScreen s.width s.height p → to_come (begun (place_of v.0 s.views) part room) s p ≡ once (is_owned v s r p)
-owned_comes s v view r rect part room fits apart at met both p on =
+owned_comes s v own r rect part room fits apart at met both p on =
+    let x = seat_of (seat_in v.0 s.views) own at in
     gone_comes s (place_of v.0 s.views) rect part room fits both p on
     ∙ ap (λ (c : Bool). once (not (in_bar s.bar p) && c && not (covered (take (place_of v.0 s.views) s.views) p))) (met p)
-    ∙ go (in_bar s.bar p) (covers view.rect p) (covers r p) (covered (take (place_of v.0 s.views) s.views) p)
-    (owned_is v.0 p s.views record { slot = v.0; view = view } apart at)
+    ∙ go (in_bar s.bar p) (covers own p) (covers r p) (covered (take (place_of v.0 s.views) s.views) p)
+    (owned_is v.0 p s.views x.0 apart x.1 ∙ ap (λ (q : Rectangle). covers q p && not (covered (take (place_of v.0 s.views) s.views) p)) x.2)
   where
     go : (e x c b : Bool) → option_map_or (is_slot v.0) (find (seat_covers p) s.views) false ≡ (x && not b)
         → once (not e && (x && c) && not b) ≡ once (c && option_map_or (is_slot v.0) (cond e None (find (seat_covers p) s.views)) false)
@@ -113,24 +131,24 @@ owned_comes s v view r rect part room fits apart at met both p on =
         bools false false false = refl
 
 -- two rectangles, the second cut by the first
-pub record IsMoved (s : Standing) (view : View) (old part before : Rectangle) (jobs : List Job) (both : Option Rectangle) : Type 0 where
+pub record IsMoved (s : Standing) (rect old part before : Rectangle) (jobs : List Job) (both : Option Rectangle) : Type 0 where
   pub bar : s.bar ≤ s.height
-  pub now : CoversBoth view.rect (part_below_bar s) part
+  pub now : CoversBoth rect (part_below_bar s) part
   pub was : CoversBoth old (part_below_bar s) before
-  pub cut : IsCut 0 before view.rect (job_at 0 part ∷ []) jobs both
+  pub cut : IsCut 0 before rect (map (job_at 0) (with_pixels part)) jobs both
 
 abbrev pub moved : ℕ → List Job → ℕ → Cuts
 moved from jobs room = record { jobs = jobs; from = from; bar = false; room = room }
 
-both_come : (s : Standing) (from : ℕ) (view : View) (old part before : Rectangle) (jobs : List Job) (both : Option Rectangle) (room : ℕ) → IsMoved s view old part before jobs both
-    → (p : Point) → to_come (moved from jobs room) s p ≡ once (covers (part_below_bar s) p && (covers view.rect p || covers old p) && not (covered (take from s.views) p))
-both_come s from view old part before jobs both room is p =
+both_come : (s : Standing) (from : ℕ) (rect old part before : Rectangle) (jobs : List Job) (both : Option Rectangle) (room : ℕ) → IsMoved s rect old part before jobs both
+    → (p : Point) → to_come (moved from jobs room) s p ≡ once (covers (part_below_bar s) p && (covers rect p || covers old p) && not (covered (take from s.views) p))
+both_come s from rect old part before jobs both room is p =
     ap (λ (js : List Job). to_come (moved from js room) s p) is.cut.jobs
-    ∙ zero-add (sum_of (job_at 0 part ∷ map (job_at 0) is.cut.rest))
-    ∙ sum_by-append (job_to_come from s p) (job_at 0 part ∷ []) (map (job_at 0) is.cut.rest)
-    ∙ ap₂ (λ (m n : ℕ). m + n) (zero-add (job_to_come from s p (job_at 0 part)) ∙ ap (λ (c : Bool). cond (covered (take from s.views) p) 0 (once c)) (is.now p)) (rest_to_come from 0 s p is.cut.rest)
-    ∙ go (covered (take from s.views) p) (covers view.rect p) (covers old p) (covers (part_below_bar s) p) (times_all is.cut.rest p)
-    (sym (ap once (is.was p)) ∙ is.cut.pixels p ∙ ap (λ (c : Bool). times_all is.cut.rest p + once (c && covers view.rect p)) (is.was p))
+    ∙ zero-add (sum_of (map (job_at 0) (with_pixels part) ++ map (job_at 0) is.cut.rest))
+    ∙ sum_by-append (job_to_come from s p) (map (job_at 0) (with_pixels part)) (map (job_at 0) is.cut.rest)
+    ∙ ap₂ (λ (m n : ℕ). m + n) (first_to_come s from part p ∙ ap (λ (c : Bool). cond (covered (take from s.views) p) 0 (once c)) (is.now p)) (rest_to_come from 0 s p is.cut.rest)
+    ∙ go (covered (take from s.views) p) (covers rect p) (covers old p) (covers (part_below_bar s) p) (times_all is.cut.rest p)
+    (sym (ap once (is.was p)) ∙ is.cut.pixels p ∙ ap (λ (c : Bool). times_all is.cut.rest p + once (c && covers rect p)) (is.was p))
   where
     sum_of : List Job → ℕ
     sum_of js = sum_by (job_to_come from s p) js
@@ -153,44 +171,50 @@ both_come s from view old part before jobs both room is p =
     go false false false true n e = omega arith
     go false false false false n e = omega arith
 
-pub moved_comes : (s : Standing) (v : ViewRef) (view : View) (old part before : Rectangle) (jobs : List Job) (both : Option Rectangle) (room : ℕ) → seat_in v.0 s.views ≡ Some record { slot = v.0; view = view }
-    → IsMoved s view old part before jobs both → (p : Point) → IsOnScreen s.width s.height p → to_come (moved (place_of v.0 s.views) jobs room) s p ≡ once (is_of_moved v s old p)
-moved_comes s v view old part before jobs both room at is p on =
-    both_come s (place_of v.0 s.views) view old part before jobs both room is p
-    ∙ ap (λ (f : Bool). once (f && (covers view.rect p || covers old p) && not (covered (take (place_of v.0 s.views) s.views) p))) (below_is s p (is.bar) on)
-    ∙ ap (λ (o : Option Seat). once (not (in_bar s.bar p) && (option_map_or (seat_covers p) o false || covers old p) && not (covered (take (place_of v.0 s.views) s.views) p))) (sym at)
+pub moved_comes : (s : Standing) (v : ViewRef) (rect old part before : Rectangle) (jobs : List Job) (both : Option Rectangle) (room : ℕ) → option_map (λ (a : Seat). a.view.rect) (seat_in v.0 s.views) ≡ Some rect
+    → IsMoved s rect old part before jobs both → (p : Point) → IsOnScreen s.width s.height p → to_come (moved (place_of v.0 s.views) jobs room) s p ≡ once (is_of_moved v s old p)
+moved_comes s v rect old part before jobs both room at is p on =
+    both_come s (place_of v.0 s.views) rect old part before jobs both room is p
+    ∙ ap (λ (f : Bool). once (f && (covers rect p || covers old p) && not (covered (take (place_of v.0 s.views) s.views) p))) (below_is s p (is.bar) on)
+    ∙ ap (λ (c : Bool). once (not (in_bar s.bar p) && (c || covers old p) && not (covered (take (place_of v.0 s.views) s.views) p))) (sym (own (seat_in v.0 s.views) at))
+  where
+    own : (o : Option Seat) → option_map (λ (a : Seat). a.view.rect) o ≡ Some rect → option_map_or (seat_covers p) o false ≡ covers rect p
+    own None e = cc
+    own (Some x) e = let same : x.view.rect ≡ rect = cc in ap (λ (q : Rectangle). covers q p) same
 
-pub moved_off : (s : Standing) (from : ℕ) (view : View) (old part before : Rectangle) (jobs : List Job) (both : Option Rectangle) (room : ℕ) → IsMoved s view old part before jobs both
+pub moved_off : (s : Standing) (from : ℕ) (rect old part before : Rectangle) (jobs : List Job) (both : Option Rectangle) (room : ℕ) → IsMoved s rect old part before jobs both
     → (p : Point) → (IsOnScreen s.width s.height p → ⊥) → to_come (moved from jobs room) s p ≡ 0
-moved_off s from view old part before jobs both room is p off =
-    both_come s from view old part before jobs both room is p
-    ∙ ap (λ (f : Bool). once (f && (covers view.rect p || covers old p) && not (covered (take from s.views) p))) (below_off s p (is.bar) off)
+moved_off s from rect old part before jobs both room is p off =
+    both_come s from rect old part before jobs both room is p
+    ∙ ap (λ (f : Bool). once (f && (covers rect p || covers old p) && not (covered (take from s.views) p))) (below_off s p (is.bar) off)
 
-pub moved_fits : (s : Standing) (from : ℕ) (view : View) (old part before : Rectangle) (jobs : List Job) (both : Option Rectangle) (room : ℕ) → length s.views ≤ room → IsMoved s view old part before jobs both
+pub moved_fits : (s : Standing) (from : ℕ) (rect old part before : Rectangle) (jobs : List Job) (both : Option Rectangle) (room : ℕ) → length s.views ≤ room → IsMoved s rect old part before jobs both
     → Fits (moved from jobs room) s
-moved_fits s from view old part before jobs both room enough is = record {
+moved_fits s from rect old part before jobs both room enough is = record {
   room = enough;
-  jobs = subst (FitsJobs s) (sym is.cut.jobs) (fits_append s (job_at 0 part ∷ []) (map (job_at 0) is.cut.rest) (first_fits s part (lies_below s view.rect part is.now)) rest);
+  jobs = subst (FitsJobs s) (sym is.cut.jobs) (fits_append s (map (job_at 0) (with_pixels part)) (map (job_at 0) is.cut.rest) (first_fits s part (lies_below s rect part is.now)) rest);
   bar = λ no_bar. cc;
-  once = λ p. let e = both_come s from view old part before jobs both room is p in
-      let le = at_most_once (covers (part_below_bar s) p && (covers view.rect p || covers old p) && not (covered (take from s.views) p)) in omega arith;
+  once = λ p. let e = both_come s from rect old part before jobs both room is p in
+      let le = at_most_once (covers (part_below_bar s) p && (covers rect p || covers old p) && not (covered (take from s.views) p)) in omega arith;
 }
   where
-    rest : (k : ℕ) (d : Job) → k < length (map (job_at 0) is.cut.rest) → IsJob s (1 + k) (get_or (map (job_at 0) is.cut.rest) k d)
+    rest : (k : ℕ) (d : Job) → k < length (map (job_at 0) is.cut.rest) → IsJob s (length (map (job_at 0) (with_pixels part)) + k) (get_or (map (job_at 0) is.cut.rest) k d)
     rest k d below =
         let n = length-map is.cut.rest (job_at 0) in
         let few = is.cut.few in
+        let m = length-map (with_pixels part) (job_at 0) in
+        let one = at_most_one part in
         let within : k < length is.cut.rest = omega arith in
-        let job : IsJob s (1 + k) (job_at 0 (get_or is.cut.rest k part)) = first_job s (1 + k) (get_or is.cut.rest k part) (omega arith)
-        (λ p here. lies_below s old before is.was p (rest_lies 0 before view.rect (job_at 0 part ∷ []) jobs both is.cut k part p within here).0) in
-        subst (IsJob s (1 + k)) (sym (get_or-map (job_at 0) is.cut.rest k part d within)) job
+        let job : IsJob s (length (map (job_at 0) (with_pixels part)) + k) (job_at 0 (get_or is.cut.rest k part)) = first_job s (length (map (job_at 0) (with_pixels part)) + k) (get_or is.cut.rest k part) (omega arith) (is.cut.some k part within)
+        (λ p here. lies_below s old before is.was p (rest_lies 0 before rect (map (job_at 0) (with_pixels part)) jobs both is.cut k part p within here).0) in
+        subst (IsJob s (length (map (job_at 0) (with_pixels part)) + k)) (sym (get_or-map (job_at 0) is.cut.rest k part d within)) job
 
 -- the whole screen
 abbrev pub whole : Standing → ℕ → Cuts
 whole s room = record (begun 0 (part_below_bar s) room) { bar = nat_lt 0 s.bar }
 
 whole_comes : (s : Standing) (room : ℕ) (p : Point) → to_come (whole s room) s p ≡ times (bar_part s) p + times (part_below_bar s) p
-whole_comes s room p = ap₂ (λ (m n : ℕ). m + n) (go (nat_lt 0 s.bar) refl) (zero-add (times (part_below_bar s) p))
+whole_comes s room p = ap₂ (λ (m n : ℕ). m + n) (go (nat_lt 0 s.bar) refl) (first_to_come s 0 (part_below_bar s) p)
   where
     go : (b : Bool) → nat_lt 0 s.bar ≡ b → cond b (times (bar_part s) p) 0 ≡ times (bar_part s) p
     go true e = refl

@@ -1,9 +1,11 @@
 -- One cut of a rectangle by another.
-use Rattle.std.proofs.Common.{◌≡◌, ℕ, ◌+◌, ◌*◌, ◌<◌, ◌≤◌, Bool, true, false, ◌&&◌, ◌||◌, cond, List, [], ◌∷◌, ◌++◌, length, map, drop, take, get_or, Option, Some, None, refl, ap, sym, ◌∙◌, subst, arith, zero-add, add-zero, append_assoc}
+use Rattle.std.proofs.Common.{◌≡◌, ℕ, ◌+◌, ◌*◌, ◌<◌, ◌≤◌, Bool, true, false, ◌&&◌, ◌||◌, cond, List, ◌++◌, length, map, drop, take, get_or, Option, Some, None, refl, ap, sym, ◌∙◌, subst, arith, append_assoc}
+use Rattle.std.specs.Option.{option_map}
 use Rattle.std.specs.Prelude.{slice_get}
 use Rattle.std.proofs.lemmas.Int.{ints}
 use Rattle.std.proofs.lemmas.Bool.{and_parts}
-use Rattle.std.proofs.lemmas.List.{get_or-map, length-map}
+use Rattle.std.proofs.lemmas.List.{get_or-map, length-append, length-map, map-append}
+use Rattle.std.proofs.lemmas.List.Elements.{All-append}
 use Rattle.std.proofs.lemmas.List.Sums.{get_or-le-sum_by, sum_by-append}
 use Rattle.std.proofs.lemmas.Option.{slice_get_within}
 use Rattle.nit_rect.specs.declared.point.Point.{Point}
@@ -12,12 +14,14 @@ use Rattle.nit_rect.specs.Rectangle.{Rectangle, covers}
 use Rattle.nit_rect.specs.Meeting.{CoversBoth, HasPixels, IsApart, LiesIn}
 use Rattle.nit_rect.specs.Dividing.{IsDivided, times}
 use Rattle.nit_rect.proofs.Sets.{IsWithin, covers_none, no_pixels, within}
-use Rattle.nit_stack.specs.Standing.{Seat, Standing}
+use Rattle.nit_stack.specs.declared.view.ViewRef.{ViewRef}
+use Rattle.nit_stack.specs.Standing.{Seat, Standing, view_ref}
+use Rattle.nit_stack.proofs.ViewPlaces.{slot_at}
 use Rattle.nit_damage.specs.declared.cutting.Job.{Job}
 use Rattle.nit_damage.specs.Sets.{covered, once, seat_covers}
-use Rattle.nit_damage.specs.Cuts.{FitsJobs, IsJob, job_to_come, jobs_to_come, weight, weight_of}
-use Rattle.nit_damage.specs.Cutting.{IsCut, job_at, times_all}
-use Rattle.nit_damage.proofs.Jobs.{cut_in_front, fits_append, lighter, rest_to_come, rest_weighs}
+use Rattle.nit_damage.specs.Cuts.{FitsJobs, IsJob, job_at, job_to_come, jobs_to_come, weight, weight_of, with_pixels}
+use Rattle.nit_damage.specs.Cutting.{IsCut, times_all}
+use Rattle.nit_damage.proofs.Jobs.{all_have_pixels, at_most_one, cut_in_front, fits_append, lighter, rest_to_come, rest_weighs, same_times}
 use Rattle.nit_damage.proofs.Views.{covered_less, covered_more, covered_none}
 
 -- what both cover lies in the first
@@ -40,26 +44,50 @@ pub apart : (a b both : Rectangle) → CoversBoth a b both → both.w * both.h �
 apart a b both is none p = sym (is p) ∙ covers_none both p (no_pixels both none)
 
 -- a cut where there is nothing to cut out
-pub uncut : (at : ℕ) (rect by both : Rectangle) (old new : List Job) → CoversBoth rect by both → both.w * both.h ≡ 0 → new ≡ old ++ job_at at rect ∷ [] → IsCut at rect by old new None
+pub uncut : (at : ℕ) (rect by both : Rectangle) (old new : List Job) → CoversBoth rect by both → both.w * both.h ≡ 0 → new ≡ old ++ map (job_at at) (with_pixels rect) → IsCut at rect by old new None
 uncut at rect by both old new is none pushed = record {
-  rest = rect ∷ [];
-  few = omega arith;
+  rest = with_pixels rect;
+  few = let one = at_most_one rect in omega arith;
+  some = all_have_pixels rect;
   jobs = pushed;
-  pixels = λ p. sym (ap (λ (b : Bool). 0 + times rect p + once b) (apart rect by both is none p) ∙ add-zero (0 + times rect p) ∙ zero-add (times rect p));
+  pixels = λ p. let all = same_times rect p in let nothing : once (covers rect p && covers by p) ≡ 0 = ap once (apart rect by both is none p) in omega arith;
   part = apart rect by both is none;
 }
 
 -- a cut that leaves four strips
 pub cut_in_four : (at : ℕ) (rect by both : Rectangle) (s : Strips) (old new : List Job) → CoversBoth rect by both → HasPixels both → IsDivided rect both s
-    → new ≡ (((old ++ job_at at s.bottom ∷ []) ++ job_at at s.right ∷ []) ++ job_at at s.left ∷ []) ++ job_at at s.top ∷ []
+    → new ≡ (((old ++ map (job_at at) (with_pixels s.bottom)) ++ map (job_at at) (with_pixels s.right)) ++ map (job_at at) (with_pixels s.left)) ++ map (job_at at) (with_pixels s.top)
     → IsCut at rect by old new (Some both)
 cut_in_four at rect by both s old new is some divided pushed = record {
-  rest = s.bottom ∷ s.right ∷ s.left ∷ s.top ∷ [];
-  few = omega arith;
-  jobs = pushed ∙ simp append_assoc;
-  pixels = λ p. let parts = divided p in let part : times both p ≡ once (covers rect p && covers by p) = ap once (is p) in omega arith;
+  rest = strips;
+  few = few;
+  some = All-append HasPixels ((with_pixels s.bottom ++ with_pixels s.right) ++ with_pixels s.left) (with_pixels s.top)
+      (All-append HasPixels (with_pixels s.bottom ++ with_pixels s.right) (with_pixels s.left)
+      (All-append HasPixels (with_pixels s.bottom) (with_pixels s.right) (all_have_pixels s.bottom) (all_have_pixels s.right)) (all_have_pixels s.left))
+      (all_have_pixels s.top);
+  jobs = pushed ∙ simp (map-append, append_assoc);
+  pixels = λ p. let parts = divided p in let sum = all_times p in let part : times both p ≡ once (covers rect p && covers by p) = ap once (is p) in omega arith;
   part = (some, is);
 }
+  where
+    strips : List Rectangle
+    strips = ((with_pixels s.bottom ++ with_pixels s.right) ++ with_pixels s.left) ++ with_pixels s.top
+
+    few : length (((with_pixels s.bottom ++ with_pixels s.right) ++ with_pixels s.left) ++ with_pixels s.top) ≤ 4
+    few =
+        let a = at_most_one s.bottom in
+        let b = at_most_one s.right in
+        let c = at_most_one s.left in
+        let d = at_most_one s.top in
+        rw (length-append, length-append, length-append) (omega arith)
+
+    all_times : (p : Point) → times_all (((with_pixels s.bottom ++ with_pixels s.right) ++ with_pixels s.left) ++ with_pixels s.top) p ≡ times s.bottom p + times s.right p + times s.left p + times s.top p
+    all_times p =
+        let one : (r : Rectangle) → times_all (with_pixels r) p ≡ times r p = λ r. same_times r p in
+        let a = sum_by-append (λ (r : Rectangle). times r p) ((with_pixels s.bottom ++ with_pixels s.right) ++ with_pixels s.left) (with_pixels s.top) in
+        let b = sum_by-append (λ (r : Rectangle). times r p) (with_pixels s.bottom ++ with_pixels s.right) (with_pixels s.left) in
+        let c = sum_by-append (λ (r : Rectangle). times r p) (with_pixels s.bottom) (with_pixels s.right) in
+        omega (arith, a, b, c, one s.bottom, one s.right, one s.left, one s.top)
 
 -- a pixel of the rest is one of the rectangle that the other does not cover
 lies_apart : (here there : Bool) (rest : ℕ) → cond here 1 0 ≡ rest + once (here && there) → 1 ≤ rest → (here ≡ true) × (there ≡ false)
@@ -85,11 +113,12 @@ pub record IsNextCut (s : Standing) (j : Job) (x : Seat) (old new : List Job) (b
   pub cut : IsCut (j.at + 1) j.rect x.view.rect old new both
 
 rest_job : (s : Standing) (j : Job) (x : Seat) (old new : List Job) (both : Option Rectangle) (is : IsNextCut s j x old new both) (k : ℕ) (r : Rectangle)
-    → k ≤ 3 → ((p : Point) → covers r p ≡ true → (covers j.rect p ≡ true) × (covers x.view.rect p ≡ false)) → IsJob s (length old + k) (job_at (j.at + 1) r)
-rest_job s j x old new both is k r few lies =
+    → k ≤ 3 → HasPixels r → ((p : Point) → covers r p ≡ true → (covers j.rect p ≡ true) × (covers x.view.rect p ≡ false)) → IsJob s (length old + k) (job_at (j.at + 1) r)
+rest_job s j x old new both is k r few some lies =
     let low = is.job.low in
     let before : j.at < length s.views = slice_get_within s.views j.at x is.seat in
     record {
+      pixels = some;
       place = omega arith;
       low = omega arith;
       below_bar = λ p here. is.job.below_bar p (lies p here).0;
@@ -105,7 +134,7 @@ cut_fits s j x old new both is = subst (FitsJobs s) (sym is.cut.jobs) (fits_appe
     let n = length-map is.cut.rest (job_at (j.at + 1)) in
     let few = is.cut.few in
     let within : k < length is.cut.rest = omega arith in
-    let job : IsJob s (length old + k) (job_at (j.at + 1) (get_or is.cut.rest k j.rect)) = rest_job s j x old new both is k (get_or is.cut.rest k j.rect) (omega arith)
+    let job : IsJob s (length old + k) (job_at (j.at + 1) (get_or is.cut.rest k j.rect)) = rest_job s j x old new both is k (get_or is.cut.rest k j.rect) (omega arith) (is.cut.some k j.rect within)
     (λ p here. rest_lies (j.at + 1) j.rect x.view.rect old new both is.cut k j.rect p within here) in
     subst (IsJob s (length old + k)) (sym (get_or-map (job_at (j.at + 1)) is.cut.rest k j.rect d within)) job))
 
@@ -148,3 +177,16 @@ piece_count from s j x old new both is behind p =
   where
     regroup : (a b c d : ℕ) → d ≡ b + c → a + b + c ≡ a + d
     regroup a b c d e = omega arith
+
+-- the next view of a rectangle, by its place and its rectangle
+pub next_view : (s : Standing) (j : Job) (v : ViewRef) (by : Rectangle) (old new : List Job) (both : Option Rectangle) → FitsJobs s old → IsJob s (length old) j
+    → slice_get (map view_ref s.views) j.at ≡ Some v → option_map (λ (a : Seat). a.view.rect) (slice_get s.views j.at) ≡ Some by → IsCut (j.at + 1) j.rect by old new both
+    → (x : Seat) × (view_ref x ≡ v) × IsNextCut s j x old new both
+next_view s j v by old new both fits job at rect cut =
+    let found = slot_at s.views j.at v at in
+    let same = rect_is (slice_get s.views j.at) found.0 by found.1 rect in
+    (found.0, ap (λ (n : ℕ). record { 0 = n }) found.2, record { fits = fits; job = job; seat = found.1; cut = subst (λ (r : Rectangle). IsCut (j.at + 1) j.rect r old new both) (sym same) cut })
+  where
+    rect_is : (o : Option Seat) (x : Seat) (r : Rectangle) → o ≡ Some x → option_map (λ (a : Seat). a.view.rect) o ≡ Some r → x.view.rect ≡ r
+    rect_is None x r e f = cc
+    rect_is (Some y) x r e f = cc

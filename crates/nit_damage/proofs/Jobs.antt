@@ -1,19 +1,45 @@
 -- Lists of rectangles that are still to be cut.
-use Rattle.std.proofs.Common.{◌≡◌, ℕ, zero, suc, ◌+◌, ◌-◌, ◌*◌, ◌^◌, ◌<◌, ◌≤◌, Bool, true, false, ◌&&◌, ◌||◌, cond, List, [], ◌∷◌, ◌++◌, length, map, drop, take, get_or, slice_index_or, refl, ap, sym, ◌∙◌, subst, arith, zero-add, add-zero, length-append}
+use Rattle.std.proofs.Common.{◌≡◌, ℕ, zero, suc, ◌+◌, ◌-◌, ◌*◌, ◌^◌, ◌<◌, ◌≤◌, ◌==◌, Bool, true, false, ◌&&◌, ◌||◌, cond, All, List, [], ◌∷◌, ◌++◌, length, map, drop, take, get_or, slice_index_or, refl, ap, sym, ◌∙◌, subst, arith, zero-add, add-zero, length-append}
 use mathlib.Core.Logic.{dite}
 use native.Mathlib.Decide.{ℕ_discrete, dec_lt}
 use Rattle.std.specs.List.{fold}
+use Rattle.std.proofs.lemmas.Bool.{eq-eqb, eqb-true}
+use Rattle.std.proofs.lemmas.List.Elements.{All-cons, All-nil}
 use Rattle.std.proofs.lemmas.List.{get_or_append_left, get_or_push, get_or-append-add}
 use Rattle.std.proofs.lemmas.List.Folds.{fold-map}
 use Rattle.std.proofs.Math.Nat.{pow-suc}
 use Rattle.nit_rect.specs.declared.point.Point.{Point}
 use Rattle.nit_rect.specs.Rectangle.{Rectangle}
+use Rattle.nit_rect.specs.Meeting.{HasPixels}
 use Rattle.nit_rect.specs.Dividing.{times}
+use Rattle.nit_rect.proofs.Sets.{covers_none, no_pixels, pixels_of}
 use Rattle.nit_stack.specs.Standing.{Standing}
 use Rattle.nit_damage.specs.declared.cutting.Job.{Job}
 use Rattle.nit_damage.specs.Sets.{covered, once}
-use Rattle.nit_damage.specs.Cuts.{FitsJobs, IsJob, job_to_come, jobs_to_come, weight, weight_of}
-use Rattle.nit_damage.specs.Cutting.{job_at, times_all}
+use Rattle.nit_damage.specs.Cuts.{FitsJobs, IsJob, job_at, job_to_come, jobs_to_come, weight, weight_of, with_pixels}
+use Rattle.nit_damage.specs.Cutting.{times_all}
+
+-- a rectangle, where it has pixels
+pub same_times : (r : Rectangle) (p : Point) → times_all (with_pixels r) p ≡ times r p
+same_times r p = go (r.w * r.h == 0) refl
+  where
+    go : (b : Bool) → (r.w * r.h == 0) ≡ b → times_all (cond b [] (r ∷ [])) p ≡ times r p
+    go true e = sym (ap once (covers_none r p (no_pixels r (eqb-true (r.w * r.h) 0 e))))
+    go false e = zero-add (times r p)
+
+pub at_most_one : (r : Rectangle) → length (with_pixels r) ≤ 1
+at_most_one r = go (r.w * r.h == 0)
+  where
+    go : (b : Bool) → length (cond b [] (r ∷ [])) ≤ 1
+    go true = omega arith
+    go false = omega arith
+
+pub all_have_pixels : (r : Rectangle) → All HasPixels (with_pixels r)
+all_have_pixels r = go (r.w * r.h == 0) refl
+  where
+    go : (b : Bool) → (r.w * r.h == 0) ≡ b → All HasPixels (cond b [] (r ∷ []))
+    go true e = All-nil HasPixels
+    go false e = All-cons HasPixels r [] (pixels_of r (λ none. let no = sym (eq-eqb (r.w * r.h) 0 none) ∙ e in cc)) (All-nil HasPixels)
 
 -- what is left of a rectangle, at one pixel
 pub rest_to_come : (from at : ℕ) (s : Standing) (p : Point) (rest : List Rectangle)

@@ -3,8 +3,8 @@ use Rattle.std.proofs.Common.{◌≡◌, ℕ, true, false, [], ◌∷◌, Some, 
 use Rattle.nit_rect.specs.Rectangle.{Rectangle, rectangle}
 use Rattle.nit_stack.specs.declared.view.ViewRef.{ViewRef}
 use Rattle.nit_stack.specs.Sources.{point}
-use Rattle.nit_stack.specs.Standing.{Seat, Standing}
-use Rattle.nit_damage.specs.Sets.{is_of_gone, is_of_moved, is_owned, place_of}
+use Rattle.nit_stack.specs.Standing.{Seat, Standing, place_of}
+use Rattle.nit_damage.specs.Sets.{is_of_gone, is_of_moved, is_owned}
 use Rattle.nit_damage.specs.Cuts.{begun, to_come}
 
 abbrev seat : ℕ → Rectangle → Seat

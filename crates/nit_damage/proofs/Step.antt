@@ -1,5 +1,5 @@
 -- What one step of the cutter does.
-use Rattle.std.proofs.Common.{◌≡◌, ℕ, ◌+◌, ◌-◌, ◌*◌, ◌<◌, ◌≤◌, Bool, true, false, cond, List, length, drop, find, take, Option, Some, None, refl, ap, sym, ◌∙◌, arith, add-zero}
+use Rattle.std.proofs.Common.{◌≡◌, ℕ, ◌+◌, ◌-◌, ◌<◌, ◌≤◌, Bool, true, false, cond, List, length, drop, find, take, Option, Some, None, ap, sym, ◌∙◌, arith, add-zero}
 use Rattle.std.specs.Option.{option_map}
 use Rattle.std.specs.Prelude.{IfSome}
 use mathlib.Core.Logic.{dite}
@@ -10,7 +10,6 @@ use Rattle.nit_rect.specs.declared.point.Point.{Point}
 use Rattle.nit_rect.specs.Rectangle.{Rectangle, covers}
 use Rattle.nit_rect.specs.Meeting.{HasPixels}
 use Rattle.nit_rect.specs.Dividing.{times}
-use Rattle.nit_rect.proofs.Sets.{covers_none, no_pixels}
 use Rattle.nit_stack.specs.declared.view.ViewRef.{ViewRef}
 use Rattle.nit_stack.specs.Sources.{owner_in}
 use Rattle.nit_stack.specs.Standing.{IsStanding, Seat, Standing, has, view_ref}
@@ -25,19 +24,6 @@ use Rattle.nit_damage.proofs.Views.{front_most, no_view}
 
 lost : (views : ℕ) (jobs : List Job) (j : Job) → weight views jobs < weight views jobs + weight_of views j
 lost views jobs j = let h = heavy (views + 1 - j.at) in omega arith
-
--- a rectangle without pixels is dropped
-pub dropped : (from : ℕ) (s : Standing) (j : Job) (old : List Job) → FitsJobs s old → j.rect.w * j.rect.h ≡ 0 → IsStep from s j old old None
-dropped from s j old fits none = record {
-  fits = fits;
-  count = λ p. ap (λ (n : ℕ). jobs_to_come from s old p + n) (nothing (covered (drop j.at (take from s.views)) p) p);
-  piece = tt;
-  fewer = lost (length s.views) old j;
-}
-  where
-    nothing : (b : Bool) (p : Point) → cond b 0 (times j.rect p) ≡ 0
-    nothing true p = refl
-    nothing false p = ap once (covers_none j.rect p (no_pixels j.rect none))
 
 -- what a piece below the bar is
 piece_of : (s : Standing) (j : Job) (old : List Job) (r : Rectangle) (owner : Option ViewRef) → IsStanding s → IsJob s (length old) j → HasPixels r
@@ -57,12 +43,12 @@ owner_below : (s : Standing) (j : Job) (old : List Job) → IsJob s (length old)
 owner_below s j old job p here = ap (λ (b : Bool). cond b None (find (seat_covers p) s.views)) (below_not_in_bar s p (job.below_bar p here))
 
 -- behind the last view the whole rectangle is a piece
-pub bare : (from : ℕ) (s : Standing) (j : Job) (old : List Job) → IsStanding s → FitsJobs s old → IsJob s (length old) j → HasPixels j.rect → length s.views ≤ j.at
+pub bare : (from : ℕ) (s : Standing) (j : Job) (old : List Job) → IsStanding s → FitsJobs s old → IsJob s (length old) j → length s.views ≤ j.at
     → IsStep from s j old old (Some record { rect = j.rect; owner = None })
-bare from s j old is fits job some behind = record {
+bare from s j old is fits job behind = record {
   fits = fits;
   count = λ p. ap (λ (n : ℕ). jobs_to_come from s old p + n) (ap (λ (b : Bool). cond b 0 (times j.rect p)) (none p));
-  piece = piece_of s j old j.rect None is job some (λ p here. here)
+  piece = piece_of s j old j.rect None is job job.pixels (λ p here. here)
       (λ p here. ap (option_map view_ref) (owner_below s j old job p here ∙ no_view p s.views (ap (λ (l : List Seat). covered l p) (sym (take_all j.at s.views behind)) ∙ job.free p here)))
       tt;
   fewer = lost (length s.views) old j;

@@ -1,34 +1,14 @@
--- Places in the stack, and the views that cover a pixel.
-use Rattle.std.proofs.Common.{◌≡◌, ℕ, zero, suc, ◌+◌, ◌<◌, ◌≤◌, ◌==◌, not, Bool, true, false, ◌&&◌, ◌||◌, cond, List, [], ◌∷◌, map, find, take, drop, Option, Some, None, refl, ap, ap₂, sym, ◌∙◌, subst, arith, add-one, drop-cons}
+-- The views that cover a pixel.
+use Rattle.std.proofs.Common.{◌≡◌, ℕ, zero, suc, ◌+◌, ◌<◌, ◌≤◌, ◌==◌, not, Bool, true, false, ◌&&◌, ◌||◌, cond, List, [], ◌∷◌, find, take, drop, Option, Some, None, refl, ap, sym, ◌∙◌, subst, arith, add-one}
 use Rattle.std.specs.List.{position_or_len}
-use Rattle.std.specs.Option.{option_map, option_map_or}
+use Rattle.std.specs.Option.{option_map_or}
 use Rattle.std.specs.Prelude.{slice_get}
 use Rattle.std.proofs.lemmas.Bool.{eqb-true}
-use Rattle.std.proofs.lemmas.Option.{slice_get-map, slice_get_within, get_or_from_slice_get}
 use Rattle.nit_rect.specs.declared.point.Point.{Point}
-use Rattle.nit_stack.specs.declared.view.ViewRef.{ViewRef}
-use Rattle.nit_stack.specs.Standing.{NoPair, Seat, is_slot, same_slot, view_ref}
+use Rattle.nit_stack.specs.Sources.{in_bar, owner_in}
+use Rattle.nit_stack.specs.Standing.{NoPair, Seat, Standing, has, is_slot, place_of, same_slot, seat_in}
 use Rattle.nit_stack.proofs.Lists.{found_fails}
-use Rattle.nit_damage.specs.Sets.{covered, seat_covers}
-
--- the view of a slot that is handed out for a place
-pub slot_at : (views : List Seat) (i : ℕ) (v : ViewRef) → slice_get (map view_ref views) i ≡ Some v → (s : Seat) × (slice_get views i ≡ Some s) × (s.slot ≡ v.0)
-slot_at views i v at = go (slice_get views i) (sym (slice_get-map view_ref views i) ∙ at)
-  where
-    go : (o : Option Seat) → option_map view_ref o ≡ Some v → (s : Seat) × (o ≡ Some s) × (s.slot ≡ v.0)
-    go None e = cc
-    go (Some s) e = let same : view_ref s ≡ v = cc in (s, refl, ap (λ (u : ViewRef). u.0) same)
-
--- the list from a place on
-pub drop_at : {A : Type 0} (xs : List A) (i : ℕ) (x : A) → slice_get xs i ≡ Some x → drop i xs ≡ x ∷ drop (i + 1) xs
-drop_at xs i x at =
-    drop-cons xs i x (slice_get_within xs i x at) ∙ ap₂ (λ y ys. y ∷ ys) (get_or_from_slice_get xs i x x at) (ap (λ (n : ℕ). drop n xs) (sym (add-one i)))
-
-pub position_here : {A : Type 0} (p : A → Bool) (xs : List A) (i : ℕ) (x : A) → slice_get xs i ≡ Some x → p x ≡ true → position_or_len p (drop i xs) ≡ 0
-position_here p xs i x at is = ap (position_or_len p) (drop_at xs i x at) ∙ ap (λ (b : Bool). cond (not b) (1 + position_or_len p (drop (i + 1) xs)) 0) is
-
-pub position_behind : {A : Type 0} (p : A → Bool) (xs : List A) (i : ℕ) (x : A) → slice_get xs i ≡ Some x → p x ≡ false → position_or_len p (drop i xs) ≡ 1 + position_or_len p (drop (i + 1) xs)
-position_behind p xs i x at is = ap (position_or_len p) (drop_at xs i x at) ∙ ap (λ (b : Bool). cond (not b) (1 + position_or_len p (drop (i + 1) xs)) 0) is
+use Rattle.nit_damage.specs.Sets.{covered, is_behind, seat_covers}
 
 -- the front-most of the views that cover a pixel
 pub front_most : (p : Point) (views : List Seat) (i : ℕ) (s : Seat) → slice_get views i ≡ Some s → covered (take i views) p ≡ false → seat_covers p s ≡ true → find (seat_covers p) views ≡ Some s
@@ -127,3 +107,24 @@ owned_is k p (x ∷ views) s apart there = go (is_slot k x) (seat_covers p x) re
     go false false d e f r =
         r f ∙ sym (ap (λ (l : List Seat). seat_covers p s && not (covered l p)) one_more
         ∙ ap (λ (b : Bool). seat_covers p s && not (b || covered (take (position_or_len (is_slot k) views) views) p)) e)
+
+-- the same below the bar and in it
+pub owned_behind : (s : Standing) (k : ℕ) (x : Seat) (p : Point) → NoPair same_slot s.views → seat_in k s.views ≡ Some x
+    → option_map_or (is_slot k) (owner_in (λ a. a.view) s.bar s.views p) false ≡ is_behind (place_of k s.views) s x.view.rect p
+owned_behind s k x p apart there = go (in_bar s.bar p)
+  where
+    go : (b : Bool) → option_map_or (is_slot k) (cond b None (find (seat_covers p) s.views)) false ≡ (not b && seat_covers p x && not (covered (take (place_of k s.views) s.views) p))
+    go true = refl
+    go false = owned_is k p s.views x apart there
+
+-- a view that does not stand owns nothing
+pub owned_by_none : (s : Standing) (k : ℕ) (p : Point) → has k s.views ≡ false → option_map_or (is_slot k) (owner_in (λ a. a.view) s.bar s.views p) false ≡ false
+owned_by_none s k p gone = go (in_bar s.bar p)
+  where
+    found : (o : Option Seat) → find (seat_covers p) s.views ≡ o → option_map_or (is_slot k) o false ≡ false
+    found None e = refl
+    found (Some x) e = found_fails (seat_covers p) (is_slot k) s.views x gone e
+
+    go : (b : Bool) → option_map_or (is_slot k) (cond b None (find (seat_covers p) s.views)) false ≡ false
+    go true = refl
+    go false = found (find (seat_covers p) s.views) refl

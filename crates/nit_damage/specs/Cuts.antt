@@ -1,5 +1,5 @@
 -- What a cutter keeps, and which pixels are still to come by it.
-use Rattle.std.specs.Prelude.{◌≡◌, ℕ, ◌+◌, ◌-◌, ◌*◌, ◌^◌, ◌≤◌, ◌<◌, Bool, true, false, pos, List, [], ◌∷◌, length, drop, take, sum_by, slice_index_or, Option, Some, None, IfSome, IsTrue, if◌then◌else◌}
+use Rattle.std.specs.Prelude.{◌≡◌, ℕ, ◌+◌, ◌-◌, ◌*◌, ◌^◌, ◌≤◌, ◌<◌, ◌==◌, Bool, true, false, pos, List, [], ◌∷◌, length, map, drop, take, sum_by, slice_index_or, Option, Some, None, IfSome, IsTrue, if◌then◌else◌}
 use Rattle.std.specs.Option.{option_map}
 use Rattle.nit_rect.specs.declared.point.Point.{Point}
 use Rattle.nit_rect.specs.Rectangle.{Rectangle, covers, rectangle}
@@ -19,9 +19,17 @@ pub record Cuts : Type 0 where
   pub bar : Bool
   pub room : ℕ
 
--- the cutter has this rectangle alone, of which no view is cut out yet
+-- a rectangle whose next view is at this place
+abbrev pub job_at : ℕ → Rectangle → Job
+job_at at r = record { rect = r; at = at }
+
+-- the rectangle, where it has pixels
+abbrev pub with_pixels : Rectangle → List Rectangle
+with_pixels r = if r.w * r.h == 0 then [] else r ∷ []
+
+-- the cutter has this rectangle alone, where it has pixels; no view is cut out of it yet
 abbrev pub begun : ℕ → Rectangle → ℕ → Cuts
-begun from r room = record { jobs = record { rect = r; at = 0 } ∷ []; from = from; bar = false; room = room }
+begun from r room = record { jobs = map (job_at 0) (with_pixels r); from = from; bar = false; room = room }
 
 -- the pixels of the bar
 abbrev pub bar_part : Standing → Rectangle
@@ -48,9 +56,10 @@ abbrev pub piece_times : Option Piece → Point → ℕ
 piece_times None p = 0
 piece_times (Some piece) p = times piece.rect p
 
--- The rectangle at place k lies on the screen below the bar, and no view in front of its next one covers a pixel
--- of it. It is low enough in its list that what is left of it finds room.
+-- The rectangle at place k has pixels and lies on the screen below the bar, and no view in front of its next one covers
+-- a pixel of it. It is low enough in its list that what is left of it finds room.
 pub record IsJob (s : Standing) (k : ℕ) (j : Job) : Type 0 where
+  pub pixels : HasPixels j.rect
   pub place : j.at ≤ length s.views
   pub low : k ≤ 3 * j.at + 4
   pub below_bar : LiesIn j.rect (part_below_bar s)

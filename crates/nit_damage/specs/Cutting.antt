@@ -1,5 +1,5 @@
 -- One cut.
-use Rattle.std.specs.Prelude.{◌≡◌, ℕ, ◌+◌, ◌≤◌, ◌<◌, ◌&&◌, List, ◌++◌, length, map, sum_by, Option, IfSome, MatchOption}
+use Rattle.std.specs.Prelude.{All, ◌≡◌, ℕ, ◌+◌, ◌≤◌, ◌<◌, ◌&&◌, List, ◌++◌, length, map, sum_by, Option, IfSome, MatchOption}
 use Rattle.nit_rect.specs.declared.point.Point.{Point}
 use Rattle.nit_rect.specs.Rectangle.{Rectangle, covers}
 use Rattle.nit_rect.specs.Meeting.{CoversBoth, HasPixels, IsApart}
@@ -8,21 +8,18 @@ use Rattle.nit_damage.specs.declared.cutting.Job.{Job}
 use Rattle.nit_stack.specs.declared.view.Piece.{Piece}
 use Rattle.nit_stack.specs.Standing.{Standing}
 use Rattle.nit_damage.specs.Sets.{once}
-use Rattle.nit_damage.specs.Cuts.{FitsJobs, IsPieceOf, job_to_come, jobs_to_come, piece_times, weight, weight_of}
-
--- a rectangle whose next view is at this place
-abbrev pub job_at : ℕ → Rectangle → Job
-job_at at r = record { rect = r; at = at }
+use Rattle.nit_damage.specs.Cuts.{FitsJobs, IsPieceOf, job_at, job_to_come, jobs_to_come, piece_times, weight, weight_of}
 
 -- How often rectangles have the pixel, together.
 abbrev pub times_all : List Rectangle → Point → ℕ
 times_all rs p = sum_by (λ r. times r p) rs
 
--- A rectangle is cut by another: at most four are put in as its rest, which have each of its pixels once that the
--- other does not cover. The part that both cover is told where it has pixels.
+-- A rectangle is cut by another: at most four are put in as its rest, none without pixels, which have each of its pixels
+-- once that the other does not cover. The part that both cover is told where it has pixels.
 pub record IsCut (at : ℕ) (rect by : Rectangle) (old new : List Job) (both : Option Rectangle) : Type 0 where
   pub rest : List Rectangle
   pub few : length rest ≤ 4
+  pub some : All HasPixels rest
   pub jobs : new ≡ old ++ map (job_at at) rest
   pub pixels : (p : Point) → times rect p ≡ times_all rest p + once (covers rect p && covers by p)
   pub part : MatchOption both (IsApart rect by) (λ r. HasPixels r × CoversBoth rect by r)

@@ -1,12 +1,12 @@
 -- Which pixels of the screen are to be drawn again. A stack of views is a list, front first.
 use Rattle.std.specs.Prelude.{ℕ, Bool, false, not, ◌&&◌, ◌||◌, List, take, Option, Some, None, if◌then◌else◌}
-use Rattle.std.specs.List.{list_any, position_or_len}
+use Rattle.std.specs.List.{list_any}
 use Rattle.std.specs.Option.{option_map_or}
 use Rattle.nit_rect.specs.declared.point.Point.{Point}
 use Rattle.nit_rect.specs.Rectangle.{Rectangle, covers}
 use Rattle.nit_stack.specs.declared.view.ViewRef.{ViewRef}
 use Rattle.nit_stack.specs.Sources.{in_bar, owner_in}
-use Rattle.nit_stack.specs.Standing.{Seat, Standing, is_slot, seat_in}
+use Rattle.nit_stack.specs.Standing.{Seat, Standing, is_slot, place_of, seat_in}
 
 -- 1 where it holds, and 0 elsewhere
 abbrev pub once : Bool → ℕ
@@ -24,10 +24,6 @@ covered views p = list_any (seat_covers p) views
 abbrev pub covered_by : ℕ → List Seat → Point → Bool
 covered_by k views p = option_map_or (seat_covers p) (seat_in k views) false
 
--- how many views stand in front of the one in this slot
-abbrev pub place_of : ℕ → List Seat → ℕ
-place_of k views = position_or_len (is_slot k) views
-
 -- the views in front of this one; all views, where none is given
 abbrev pub in_front_of : Option ViewRef → List Seat → List Seat
 in_front_of (Some v) views = take (place_of v.0 views) views
@@ -36,6 +32,10 @@ in_front_of None views = views
 -- the pixel lies in the rectangle, and this view owns it
 abbrev pub is_owned : ViewRef → Standing → Rectangle → Point → Bool
 is_owned v s r p = covers r p && option_map_or (is_slot v.0) (owner_in (λ x. x.view) s.bar s.views p) false
+
+-- the pixel is below the bar, lies in the rectangle, and none of the first so many views covers it
+abbrev pub is_behind : ℕ → Standing → Rectangle → Point → Bool
+is_behind place s r p = not (in_bar s.bar p) && covers r p && not (covered (take place s.views) p)
 
 -- the pixel is below the bar, lies in the rectangle, and no view in front of this one covers it
 abbrev pub is_of_gone : Option ViewRef → Standing → Rectangle → Point → Bool

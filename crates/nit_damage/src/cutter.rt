@@ -7,11 +7,11 @@ ghost use Rattle.nit_rect.specs.Rectangle.{Rectangle, covers};
 ghost use Rattle.nit_rect.specs.Meeting.{HasPixels};
 ghost use Rattle.nit_stack.specs.Sources.{owner_in};
 ghost use Rattle.nit_stack.specs.Standing.{IsOnScreen, Standing, has, view_ref};
-ghost use Rattle.nit_damage.specs.Sets.{once, is_owned, is_of_moved, is_of_gone};
+ghost use Rattle.nit_damage.specs.Sets.{once, is_behind, is_owned, is_of_moved, is_of_gone};
 ghost use Rattle.nit_damage.specs.Cuts.{Fits, begun, piece_times, pieces_left, to_come};
 
-use crate::cutting::{Job, cut_out, next_cut};
-use crate::places::{bar_part, below_bar, part_below_bar, place_of};
+use crate::cutting::{Job, cut_out, next_cut, put_in};
+use crate::places::{bar_part, below_bar, part_below_bar};
 use nit_rect::{NoMemory, Rect};
 use nit_stack::{Piece, Stack, ViewRef};
 use std::alloc::Global;
@@ -64,8 +64,8 @@ impl Cutter {
         ensures off_screen { (p : Point) → ¬ IsOnScreen stack.now.width stack.now.height p
             → to_come self.new stack.now p ≡ 0 }
     {
-        let rect = stack.view(v).rect.meet(&r);
-        self.begin(place_of(stack, v), below_bar(stack, &rect));
+        let rect = stack.rect(v).meet(&r);
+        self.begin(stack.place_of(v), below_bar(stack, &rect));
     }
 
     /// Begins with the pixels below the bar of a view that was moved: those of its rectangle or of its old one that no
@@ -80,8 +80,8 @@ impl Cutter {
         ensures off_screen { (p : Point) → ¬ IsOnScreen stack.now.width stack.now.height p
             → to_come self.new stack.now p ≡ 0 }
     {
-        let rect = stack.view(v).rect;
-        self.begin(place_of(stack, v), below_bar(stack, &rect));
+        let rect = stack.rect(v);
+        self.begin(stack.place_of(v), below_bar(stack, &rect));
         let _both = cut_out(&mut self.jobs, below_bar(stack, &old), rect, 0);
     }
 
@@ -97,11 +97,25 @@ impl Cutter {
         ensures off_screen { (p : Point) → ¬ IsOnScreen stack.now.width stack.now.height p
             → to_come self.new stack.now p ≡ 0 }
     {
-        let from = match at {
-            Some(v) => place_of(stack, v),
+        let place = match at {
+            Some(v) => stack.place_of(v),
             None => stack.len(),
         };
-        self.begin(from, below_bar(stack, &r));
+        self.begin_behind(stack, r, place);
+    }
+
+    /// Begins with the pixels of a rectangle below the bar that none of the first `place` views covers. From the number of
+    /// views on, these are all views.
+    pub fn begin_behind(&mut self, stack: &Stack, r: Rect, place: u32)
+        requires { length stack.now.views ≤ self.old.room }
+        ensures room { self.new.room ≡ self.old.room }
+        ensures fits { Fits self.new stack.now }
+        ensures to_come { (p : Point) → IsOnScreen stack.now.width stack.now.height p
+            → to_come self.new stack.now p ≡ once (is_behind place stack.now r p) }
+        ensures off_screen { (p : Point) → ¬ IsOnScreen stack.now.width stack.now.height p
+            → to_come self.new stack.now p ≡ 0 }
+    {
+        self.begin(place, below_bar(stack, &r));
     }
 
     /// Begins with all pixels of the screen.
@@ -124,7 +138,7 @@ impl Cutter {
         ensures { self.new ≡ begun from rect self.old.room }
     {
         self.jobs.clear();
-        self.jobs.push_reserved(Job { rect, at: 0 });
+        put_in(&mut self.jobs, rect, 0);
         self.from = from;
         self.bar = false;
     }

@@ -1,16 +1,16 @@
 //! One cut.
 
-ghost use Rattle.std.specs.Prelude.{◌≡◌, ◌+◌, ◌*◌, ◌≤◌, ◌<◌, [], length, vec_capacity, IfSome, MatchOption};
+ghost use Rattle.std.specs.Prelude.{◌≡◌, ◌+◌, ◌++◌, ◌*◌, ◌≤◌, ◌<◌, [], length, map, vec_capacity, IfSome, MatchOption};
 ghost use Rattle.nit_rect.specs.declared.point.Point.{Point};
 ghost use Rattle.nit_rect.specs.Dividing.{IsScreenRectangle};
 ghost use Rattle.nit_rect.specs.Meeting.{HasPixels};
-ghost use Rattle.nit_damage.specs.Cuts.{FitsJobs, IsJob, IsPieceOf, jobs_to_come, piece_times, weight};
+ghost use Rattle.nit_damage.specs.Cuts.{FitsJobs, IsJob, IsPieceOf, job_at, jobs_to_come, piece_times, weight, with_pixels};
 ghost use Rattle.nit_damage.specs.Cutting.{IsCut, IsStep};
 
 use nit_rect::Rect;
 use nit_stack::{Piece, Stack};
 
-/// A rectangle of the screen from which the views in front of place `at` are cut out already.
+/// A rectangle of the screen, with pixels, from which the views in front of place `at` are cut out already.
 #[derive(Clone, Copy)]
 pub struct Job {
     pub rect: Rect,
@@ -47,9 +47,6 @@ pub(crate) fn cut_next(jobs: &mut Vec<Job>, job: Job, from: u32, stack: &Stack) 
     ensures room { vec_capacity jobs.new ≡ vec_capacity jobs.old }
     ensures step { IsStep from stack.now job jobs.old.items jobs.new.items result }
 {
-    if job.rect.area() == 0 {
-        return None;
-    }
     if job.at >= stack.len() {
         return Some(Piece {
             rect: job.rect,
@@ -57,8 +54,7 @@ pub(crate) fn cut_next(jobs: &mut Vec<Job>, job: Job, from: u32, stack: &Stack) 
         });
     }
     let v = stack.at(job.at);
-    let view = stack.view(v);
-    let Some(part) = cut_out(jobs, job.rect, view.rect, job.at + 1) else {
+    let Some(part) = cut_out(jobs, job.rect, stack.rect(v), job.at + 1) else {
         return None;
     };
     if job.at < from {
@@ -80,22 +76,26 @@ pub(crate) fn cut_out(jobs: &mut Vec<Job>, rect: Rect, by: Rect, at: u32) -> Opt
 {
     let part = rect.meet(&by);
     if part.area() == 0 {
-        jobs.push_reserved(Job { rect, at });
+        put_in(jobs, rect, at);
         return None;
     }
     let rest = rect.strips(&part);
-    jobs.push_reserved(Job {
-        rect: rest.bottom,
-        at,
-    });
-    jobs.push_reserved(Job {
-        rect: rest.right,
-        at,
-    });
-    jobs.push_reserved(Job {
-        rect: rest.left,
-        at,
-    });
-    jobs.push_reserved(Job { rect: rest.top, at });
+    put_in(jobs, rest.bottom, at);
+    put_in(jobs, rest.right, at);
+    put_in(jobs, rest.left, at);
+    put_in(jobs, rest.top, at);
     Some(part)
+}
+
+/// Puts in a rectangle with the next view at place `at`, where it has pixels.
+pub(crate) fn put_in(jobs: &mut Vec<Job>, rect: Rect, at: u32)
+    requires room { length jobs.old.items < vec_capacity jobs.old }
+    ensures room { vec_capacity jobs.new ≡ vec_capacity jobs.old }
+    ensures items { jobs.new.items ≡ jobs.old.items ++ map (job_at at) (with_pixels rect) }
+    ensures one { length jobs.new.items ≤ length jobs.old.items + 1 }
+{
+    if rect.area() == 0 {
+        return;
+    }
+    jobs.push_reserved(Job { rect, at });
 }

@@ -1,7 +1,8 @@
 //! Which pixels of the screen are to be drawn again, cut into rectangles with one owner each.
 //!
-//! A [`Cutter`] is given a set of pixels by one of four begins: those of a rectangle that a view owns, those of a
-//! view that was moved, those of a view that is gone, or the whole screen. [`Cutter::next`] then hands out pieces, one
+//! A [`Cutter`] is given a set of pixels by one of five begins: those of a rectangle that a view owns, those of a
+//! view that was moved, those of a view that is gone, those of a rectangle behind the first so many views, or the whole
+//! screen. [`Cutter::next`] then hands out pieces, one
 //! after the other. Each piece has pixels and one owner, and every pixel of the set comes in one piece, once.
 //!
 //! A cutter is seen as the lists that it keeps and its room. How often a pixel is still to come is told by
@@ -14,7 +15,9 @@
 
 mod cutter;
 mod cutting;
+mod laws;
 mod places;
 
 pub use cutter::Cutter;
+pub use laws::owned_pixels;
 pub use nit_stack::Piece;

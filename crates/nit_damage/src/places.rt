@@ -1,27 +1,12 @@
-//! Rectangles of the screen, and places in the stack.
+//! Rectangles of the screen.
 
-ghost use Rattle.std.specs.Prelude.{◌≡◌, ◌≤◌, length};
+ghost use Rattle.std.specs.Prelude.{◌≡◌, ◌≤◌};
 ghost use Rattle.nit_rect.specs.Meeting.{CoversBoth};
 ghost use Rattle.nit_stack.specs.Standing.{IsScreen};
-ghost use Rattle.nit_damage.specs.Sets.{place_of};
 ghost use Rattle.nit_damage.specs.Cuts.{bar_part, part_below_bar};
 
 use nit_rect::Rect;
-use nit_stack::{Stack, ViewRef};
-
-/// The place of a view in the stack, counted from the front.
-pub(crate) fn place_of(stack: &Stack, v: ViewRef) -> u32
-    ensures place { result ≡ place_of v.0 stack.now.views }
-    ensures within { result ≤ length stack.now.views }
-{
-    let views = stack.len();
-    for place in 0..views {
-        if stack.at(place) == v {
-            return place;
-        }
-    }
-    views
-}
+use nit_stack::Stack;
 
 /// The pixels of the bar.
 pub(crate) fn bar_part(stack: &Stack) -> Rect

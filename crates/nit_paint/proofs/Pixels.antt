@@ -1,9 +1,12 @@
 -- Pixels that stand side by side: what one more does, and how runs of them go together.
-use Rattle.std.proofs.Common.{◌≡◌, ℕ, ◌+◌, ◌-◌, ◌<◌, ◌==◌, ◌&&◌, ◌||◌, nat_lt, true, false, List, [], ◌∷◌, length, set, Option, Some, None, refl, ap, sym, ◌∙◌, subst, arith}
+use Rattle.std.proofs.Common.{◌≡◌, ℕ, zero, suc, ◌+◌, ◌-◌, ◌<◌, ◌≤◌, ◌==◌, ◌&&◌, ◌||◌, cond, nat_lt, Bool, true, false, slice_index_or, List, [], ◌∷◌, length, set, get_or, Option, Some, None, inl, inr, refl, rules, ap, sym, ◌∙◌, subst, arith}
+use Rattle.std.proofs.lemmas.Bool.{cases_lt}
 use Rattle.std.proofs.lemmas.Bool.Decides.{nat_tests}
+use Rattle.std.proofs.lemmas.List.{places}
+use borrow.Rule.Slice.PartMut.{put_mid}
 use Rattle.nit_word.specs.Sight.{Sight, IsLoaded, seen}
 use Rattle.nit_stack.specs.Sources.{PixelSource, Bare, Black, Word, black_or_word}
-use Rattle.nit_paint.specs.Painting.{IsHeld, Repainted, with_glass, loads_of}
+use Rattle.nit_paint.specs.Painting.{IsAmongLoads, IsHeld, Repainted, is_word_of, loads_of, times_shown, with_glass}
 use Rattle.nit_paint.specs.Runs.{in_run, index_from, long, own_word, reached, row_source}
 use Rattle.nit_paint.specs.declared.reach.Reach.{Reach}
 use Rattle.nit_paint.proofs.Glasses.{held_by_load, seen_by_load, seen_none}
@@ -41,15 +44,80 @@ own_held glasses Bare w e = cc
 own_held glasses Black w e = cc
 own_held glasses (Word t i) w e = cc
 
-own_seen : (glasses : ℕ → Sight) (s : PixelSource) (w t : ℕ) → own_word s ≡ Some w → glasses t ≡ seen (glasses t) (loads_of s w t)
-own_seen glasses Bare w t e = seen_none (glasses t)
-own_seen glasses Black w t e = seen_none (glasses t)
-own_seen glasses (Word u i) w t e = cc
+own_among : (loads : ℕ → List (ℕ × ℕ)) (s : PixelSource) (w : ℕ) → own_word s ≡ Some w → IsAmongLoads loads s w
+own_among loads Bare w e = tt
+own_among loads Black w e = tt
+own_among loads (Word t i) w e = cc
 
-pub filled_more : (source : ℕ → PixelSource) (at j w n : ℕ) (glasses : ℕ → Sight) (raw raw' : List ℕ) → at + j < n → at + j < length raw' → own_word (source (at + j)) ≡ Some w
-    → Repainted source (in_run at j) n glasses glasses raw raw' → Repainted source (in_run at (j + 1)) n glasses glasses raw (set raw' (at + j) w)
-filled_more source at j w n glasses raw raw' l m own r =
-    one_more source at j w n glasses glasses glasses raw raw' l m (own_held glasses (source (at + j)) w own) (λ t. own_seen glasses (source (at + j)) w t own) r
+-- where no marked pixel shows a word of a glass
+none_shown : (source : ℕ → PixelSource) (d : ℕ → Bool) (w t i n : ℕ) → ((k : ℕ) → k < n → d k ≡ true → own_word (source k) ≡ Some w) → times_shown source d t i n ≡ 0
+none_shown source d w t i zero own = refl
+none_shown source d w t i (suc n) own =
+    let rest = none_shown source d w t i n (λ k l. own k (omega arith)) in
+    let last = one (d n) (source n) (own n (omega arith)) in
+    omega arith
+  where
+    one : (b : Bool) (s : PixelSource) → (b ≡ true → own_word s ≡ Some w) → cond {A = ℕ} (b && is_word_of t i s) 1 0 ≡ 0
+    one false s h = refl
+    one true Bare h = refl
+    one true Black h = refl
+    one true (Word u j) h = let e = h refl in cc
+
+-- a run that is put back into the screen
+pub put_run : (at count n w : ℕ) (raw mid : List ℕ) → n ≡ count → at + count ≤ length raw → length mid ≡ count → ((j : ℕ) → j < length mid → get_or mid j 0 ≡ w)
+    → ((k : ℕ) → in_run at count k ≡ true → get_or (put_mid at n raw mid) k 0 ≡ w) × ((k : ℕ) → in_run at count k ≡ false → get_or (put_mid at n raw mid) k 0 ≡ get_or raw k 0)
+put_run at count n w raw mid e room long same = (λ k m. inside k m, λ k m. outside k m)
+  where
+    put_in : (i : ℕ) → i < n → get_or (put_mid at n raw mid) (at + i) 0 ≡ get_or mid i 0
+    put_in i lt = search (rules, places)
+
+    put_before : (k : ℕ) → k < at → get_or (put_mid at n raw mid) k 0 ≡ get_or raw k 0
+    put_before k lt = search (rules, places)
+
+    put_after : (k : ℕ) → at + n ≤ k → get_or (put_mid at n raw mid) k 0 ≡ get_or raw k 0
+    put_after k le = search (rules, places)
+
+    inside : (k : ℕ) → in_run at count k ≡ true → get_or (put_mid at n raw mid) k 0 ≡ w
+    inside k m =
+        let low : at ≤ k = grind (arith, nat_tests) in
+        let high : k < at + count = grind (arith, nat_tests) in
+        let i : at + (k - at) ≡ k = omega arith in
+        subst (λ (j : ℕ). get_or (put_mid at n raw mid) j 0 ≡ w) i (put_in (k - at) (omega arith) ∙ same (k - at) (omega arith))
+
+    outside : (k : ℕ) → in_run at count k ≡ false → get_or (put_mid at n raw mid) k 0 ≡ get_or raw k 0
+    outside k m =
+        elim (cases_lt k at) [
+          | inl less ↦ put_before k less
+          | inr ge ↦ let past : at + n ≤ k = grind (arith, nat_tests) in put_after k past
+        ]
+
+-- a run of one word, for which nothing is loaded
+pub filled : (source : ℕ → PixelSource) (at count w n : ℕ) (glasses : ℕ → Sight) (raw raw' : List ℕ)
+    → ((k : ℕ) → in_run at count k ≡ true → slice_index_or raw' k 0 ≡ w) → ((k : ℕ) → in_run at count k ≡ false → slice_index_or raw' k 0 ≡ slice_index_or raw k 0)
+    → at + count ≤ n → ((j : ℕ) → j < count → own_word (source (at + j)) ≡ Some w) → Repainted source (in_run at count) n glasses glasses raw raw'
+filled source at count w n glasses raw raw' word rest fits own = record {
+  loads = λ t. [];
+  sights = λ t. seen_none (glasses t);
+  marked = λ k l m. subst (λ (x : ℕ). IsHeld glasses (source k) x × IsAmongLoads (λ t. []) (source k) x) (sym (word k m))
+      (own_held glasses (source k) w (own_at k m), own_among (λ t. []) (source k) w (own_at k m));
+  others = λ k out. rest k (outside k (in_run at count k) refl out);
+  counts = λ t i. sym (none_shown source (in_run at count) w t i n (λ k l m. own_at k m));
+}
+  where
+    within : (k : ℕ) → in_run at count k ≡ true → (at ≤ k) × (k < at + count)
+    within k m = (grind (arith, nat_tests), grind (arith, nat_tests))
+
+    own_at : (k : ℕ) → in_run at count k ≡ true → own_word (source k) ≡ Some w
+    own_at k m =
+        let place = within k m in
+        let low = place.0 in
+        let high = place.1 in
+        let e : at + (k - at) ≡ k = omega arith in
+        subst (λ (j : ℕ). own_word (source j) ≡ Some w) e (own (k - at) (omega arith))
+
+    outside : (k : ℕ) (b : Bool) → in_run at count k ≡ b → (k < n → in_run at count k ≡ false) → in_run at count k ≡ false
+    outside k false e out = e
+    outside k true e out = let place = within k e in let high = place.1 in out (omega arith)
 
 pub loaded_more : (source : ℕ → PixelSource) (at j w n sid i : ℕ) (others : ℕ → Sight) (first g g' : Sight) (raw raw' : List ℕ) → at + j < n → at + j < length raw'
     → source (at + j) ≡ Word sid i → IsLoaded g i w → g' ≡ seen g ((i, w) ∷ [])

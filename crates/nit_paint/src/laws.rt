@@ -27,13 +27,20 @@ pub fn one_more_pixel()
         → Repainted source is_marked n before mid raw raw' → Repainted source is_marked (n + 1) before after raw (slice_set raw' n w) }
 {}
 
-/// Two parts of a screen that have no pixel in common make one, where one is painted after the other; the same
-/// marks, sources and glasses may be told in other words; and where each pixel held a word each holds a word then.
+/// Two parts of a screen that have no pixel in common make one, where one is painted after the other, also under
+/// another name of what they are together; the same marks, sources and glasses may be told in other words, and so may
+/// the number of pixels; and where each pixel held a word each holds a word then.
 pub fn repainted_parts()
     ensures both { (source : ℕ → PixelSource) (is_first is_last : ℕ → Bool) (n : ℕ) (before between after : ℕ → Sight) (raw first last : List ℕ)
         → ((k : ℕ) → k < n → (is_first k && is_last k) ≡ false)
         → Repainted source is_first n before between raw first → Repainted source is_last n between after first last
         → Repainted source (λ k. is_first k || is_last k) n before after raw last }
+    ensures union { (source : ℕ → PixelSource) (is_first is_last is_marked : ℕ → Bool) (n : ℕ) (before between after : ℕ → Sight) (raw first last : List ℕ)
+        → ((k : ℕ) → (is_first k && is_last k) ≡ false) → ((k : ℕ) → (is_first k || is_last k) ≡ is_marked k)
+        → Repainted source is_first n before between raw first → Repainted source is_last n between after first last
+        → Repainted source is_marked n before after raw last }
+    ensures count { (source : ℕ → PixelSource) (is_marked : ℕ → Bool) (m n : ℕ) (before after : ℕ → Sight) (raw raw' : List ℕ)
+        → m ≡ n → Repainted source is_marked m before after raw raw' → Repainted source is_marked n before after raw raw' }
     ensures same { (source source' : ℕ → PixelSource) (is_marked is_marked' : ℕ → Bool) (n : ℕ) (before before' after after' : ℕ → Sight) (raw raw' : List ℕ)
         → ((k : ℕ) → k < n → is_marked k ≡ is_marked' k) → ((k : ℕ) → k < n → is_marked k ≡ true → source k ≡ source' k)
         → ((t : ℕ) → before t ≡ before' t) → ((t : ℕ) → after t ≡ after' t)

@@ -18,9 +18,7 @@ pub(crate) fn fill_run(raw: &mut [u32], at: usize, count: u32, word: u32)
     ensures painted { (source : ℕ → PixelSource) (glasses : ℕ → Sight) → ((j : ℕ) → j < count → own_word (source (at + j)) ≡ Some word)
         → Repainted source (in_run at count) (length raw.old) glasses glasses raw.old raw.new }
 {
-    'pixels: for j in 0..count as usize {
-        raw[at + j] = word;
-    }
+    raw[at..at + count as usize].fill(word);
 }
 
 /// Loads each of `count` pixels from `at` on once, from the word `from` on.

@@ -4,6 +4,7 @@ pub mod Places
 pub mod Seats
 pub mod Keeps
 pub mod Stacks
+pub mod ViewPlaces
 pub mod Owners
 pub mod OwnersByName
 pub mod Opened

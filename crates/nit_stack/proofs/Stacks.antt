@@ -10,7 +10,7 @@ use Rattle.std.proofs.lemmas.List.Elements.{All-cons, All-filter}
 use Rattle.nit_stack.specs.declared.view.View.{View}
 use Rattle.nit_stack.specs.declared.view.ViewRef.{ViewRef}
 use Rattle.nit_stack.specs.Orders.{changed, moved, put_above, put_front, without}
-use Rattle.nit_stack.specs.Standing.{Seat, IsSeat, IsStanding, NoPair, fresh, has, is_slot, layer_of, moved_above, on_view, put_own_back, put_own_front, same_slot, seat_layer, view_ref}
+use Rattle.nit_stack.specs.Standing.{Seat, IsSeat, IsStanding, NoPair, fresh, has, is_slot, layer_of, moved_above, on_view, place_of, put_own_back, put_own_front, same_slot, seat_layer, view_ref}
 use Rattle.nit_stack.specs.Slots.{IsKept, seat, layer_in, size, standing}
 use Rattle.nit_stack.proofs.Lists.{list_any-map, map-map}
 use Rattle.nit_stack.proofs.Places.{NoPair-filter, map-put_above, map-put_back, map-put_front, map-without, others_apart}
@@ -112,11 +112,8 @@ written_slot order slots sizes layers w h b k v is below session =
     (omega arith, subst (λ (u : View). u.sid < length layers) (sym at) (omega (arith, session, is.sessions.2)))
 
 -- no more views than slots
-pub few : (order : List ℕ) (slots : List View) (sizes : List (ℕ × ℕ)) (layers : List ℕ) (w h b : ℕ) → IsStanding (standing order slots sizes layers w h b) → length order ≤ 1024
-few order slots sizes layers w h b is =
-    let n = counted slots (length slots) order is.slots (all_below slots (length slots) (length (map size sizes)) order is.seats) in
-    let m = is.room in
-    omega (arith, n, m)
+pub few : (order : List ℕ) (slots : List View) (sizes : List (ℕ × ℕ)) (layers : List ℕ) (w h b : ℕ) → IsStanding (standing order slots sizes layers w h b) → length order ≤ length slots
+few order slots sizes layers w h b is = counted slots (length slots) order is.slots (all_below slots (length slots) (length (map size sizes)) order is.seats)
 
 -- places
 pub slots_in_order : (slots : List View) (order : List ℕ) → map view_ref (map (seat slots) order) ≡ map (λ k. record { 0 = k }) order
@@ -169,3 +166,8 @@ ref_behind slots order v i h at =
 pub ref_stands : (slots : List View) (order : List ℕ) (i : ℕ) (r : Option ViewRef) → r ≡ option_map (λ k. record { 0 = k }) (slice_get order i) → IfSome r (λ v. has v.0 (map (seat slots) order) ≡ true)
 ref_stands slots order i None e = tt
 ref_stands slots order i (Some v) e = there_at slots order i v.0 (ref_slot slots order i v (ref_at slots order i ∙ sym e))
+
+-- the place of a view among all is that of its slot in the order
+pub place_in_order : (slots : List View) (order : List ℕ) (k : ℕ) → position_or_len (λ j. j == k) order ≡ place_of k (map (seat slots) order)
+place_in_order slots [] k = refl
+place_in_order slots (j ∷ order) k = ap (λ (n : ℕ). cond (not (j == k)) (1 + n) 0) (place_in_order slots order k)

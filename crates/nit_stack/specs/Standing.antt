@@ -1,6 +1,6 @@
 -- What contracts see of a stack: its views with their slots, front first, and what the screen and the sessions have.
 use Rattle.std.specs.Prelude.{◌≡◌, ℕ, ◌<◌, ◌≤◌, ◌⊎◌, ◌==◌, Bool, false, nat_lt, ℤ, pos, ◌≤ℤ◌, ◌<ℤ◌, List, [], ◌∷◌, length, find, replicate, slice_index, slice_index_or, All, Option, if◌then◌else◌}
-use Rattle.std.specs.List.{list_any}
+use Rattle.std.specs.List.{list_any, position_or_len}
 use Rattle.std.specs.Option.{option_map}
 use Rattle.nit_rect.specs.declared.point.Point.{Point}
 use Rattle.nit_rect.specs.Rectangle.{Rectangle, IsPlace, rectangle}
@@ -54,6 +54,10 @@ has k views = list_any (is_slot k) views
 -- the view in this slot, where there is one
 abbrev pub seat_in : ℕ → List Seat → Option Seat
 seat_in k views = find (is_slot k) views
+
+-- how many views stand in front of the one in this slot; all of them, where none is in this slot
+abbrev pub place_of : ℕ → List Seat → ℕ
+place_of k views = position_or_len (is_slot k) views
 
 -- the view is the one of this session and handle
 abbrev pub is_named : ℕ → ℕ → Seat → Bool

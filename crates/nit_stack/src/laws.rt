@@ -1,6 +1,6 @@
 //! What ties changes of views by their slots to changes of the same views by session and handle.
 
-ghost use Rattle.std.specs.Prelude.{◌≡◌, ℕ, ◌==◌, ◌&&◌, ◌||◌, List, None, Some, false, if◌then◌else◌, not, option_map, true};
+ghost use Rattle.std.specs.Prelude.{◌≡◌, ℕ, ◌+◌, ◌==◌, ◌&&◌, ◌||◌, List, ◌∷◌, None, Some, drop, false, if◌then◌else◌, map, not, option_map, slice_get, true};
 ghost use Rattle.std.specs.Option.{is_some, option_map_or};
 ghost use Rattle.std.specs.List.{list_any};
 ghost use Rattle.nit_rect.specs.declared.point.Point.{Point};
@@ -10,7 +10,7 @@ ghost use Rattle.nit_stack.specs.Labels.{is_view};
 ghost use Rattle.nit_stack.specs.Names.{IsNamedBy, MeanSame, is_session, layer_of_seat, name_in, name_of, view_above, view_layer, views_of};
 ghost use Rattle.nit_stack.specs.Orders.{changed, moved, put_back, put_front, without};
 ghost use Rattle.nit_stack.specs.Sources.{owner, owner_in};
-ghost use Rattle.nit_stack.specs.Standing.{NoPair, Seat, has, is_named, is_of_session, is_slot, moved_above, on_view, put_own_back, put_own_front, same_slot, seat_in, view_ref};
+ghost use Rattle.nit_stack.specs.Standing.{NoPair, Seat, has, is_named, is_of_session, is_slot, moved_above, on_view, place_of, put_own_back, put_own_front, same_slot, seat_in, view_ref};
 
 /// A change of the view in a slot is the same change of the view with that session and handle, among the views
 /// without their slots.
@@ -99,4 +99,15 @@ pub fn names_after()
         → list_any (is_named sid h) seats ≡ true }
     ensures slot { (sid h : ℕ) (seats : List Seat) → NoPair same_slot seats → list_any (is_named sid h) seats ≡ true
         → (j : ℕ) × (name_in j seats ≡ Some (sid, h)) }
+{}
+
+/// Views by their places: the view of a slot that is handed out for a place, its own place again, and the views from a
+/// place on.
+pub fn views_at_places()
+    ensures slot { (views : List Seat) (i : ℕ) (v : ViewRef) → slice_get (map view_ref views) i ≡ Some v
+        → (s : Seat) × (slice_get views i ≡ Some s) × (s.slot ≡ v.0) }
+    ensures place { (views : List Seat) (i : ℕ) (s : Seat) → NoPair same_slot views → slice_get views i ≡ Some s
+        → place_of s.slot views ≡ i }
+    ensures rest { (views : List Seat) (i : ℕ) (s : Seat) → slice_get views i ≡ Some s
+        → drop i views ≡ s ∷ drop (i + 1) views }
 {}

@@ -13,7 +13,7 @@
 //!
 //! A [`ViewRef`] is the number of a slot, which is used again once its view is gone. What is done to the view of a
 //! slot is the same as what is done to the view of that session and handle: [`slots_and_names`] and
-//! [`seats_and_views`] say so.
+//! [`seats_and_views`] say so. A view's place is how many views stand in front of it ([`Stack::place_of`]).
 #![tactic(auto)]
 
 mod laws;
@@ -22,7 +22,9 @@ mod showing;
 mod stack;
 mod view;
 
-pub use laws::{names_after, owners_by_slot, seats_and_views, slots_after, slots_and_names};
+pub use laws::{
+    names_after, owners_by_slot, seats_and_views, slots_after, slots_and_names, views_at_places,
+};
 pub use showing::shown_index;
 pub use stack::Stack;
 pub use view::{Piece, Source, View, ViewRef};

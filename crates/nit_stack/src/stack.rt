@@ -1,11 +1,11 @@
 //! The stack.
 
-ghost use Rattle.std.specs.Prelude.{◌≡◌, ℕ, ◌+◌, ◌<◌, ◌≤◌, [], false, true, length, map, option_map, slice_get, slice_set, IfOk, IfSome, Some};
+ghost use Rattle.std.specs.Prelude.{◌≡◌, ℕ, ◌+◌, ◌<◌, ◌≤◌, [], false, true, length, map, nat_lt, option_map, slice_get, slice_set, IfOk, IfSome, Some};
 ghost use Rattle.std.specs.List.{list_any};
 ghost use Rattle.nit_rect.specs.Rectangle.{IsPlace};
 ghost use Rattle.nit_stack.specs.Sources.{owner_in, source};
 ghost use Rattle.nit_stack.specs.Orders.{changed, moved, put_front, without};
-ghost use Rattle.nit_stack.specs.Standing.{IsStanding, IsBar, IsInRange, IsScreen, IsOnScreen, fresh, fresh_in, has, is_named, is_of_session, is_slot, layer_of, moved_above, on_view, opened, put_own_front, put_own_back, seat_in, seat_layer, size_of, slot_layer, view_ref, with_offset, with_rect, with_title};
+ghost use Rattle.nit_stack.specs.Standing.{IsStanding, IsBar, IsInRange, IsScreen, IsOnScreen, fresh, fresh_in, has, is_named, is_of_session, is_slot, layer_of, moved_above, on_view, opened, place_of, put_own_front, put_own_back, seat_in, seat_layer, size_of, slot_layer, view_ref, with_offset, with_rect, with_title};
 ghost use Rattle.nit_stack.specs.Names.{views_of};
 ghost use Rattle.nit_stack.specs.Answers.{IfWord, pixel_source, session_of, source_owner, word_count};
 
@@ -217,9 +217,10 @@ impl Stack {
         self.slots[v.0 as usize].title = t;
     }
 
-    /// The number of views.
+    /// The number of views, at most as many as there are slots.
     pub fn len(&self) -> u32
         ensures count { result ≡ length self.now.views }
+        ensures most { result ≤ self.now.most }
         ensures standing { IsStanding self.now }
     {
         self.order.len() as u32
@@ -251,6 +252,28 @@ impl Stack {
     {
         let place = place_of(self.order.as_slice(), v.0);
         ref_at(self.order.as_slice(), place + 1)
+    }
+
+    /// How many views stand in front of this one: its place, from 0. All of them, where the view does not stand.
+    pub fn place_of(&self, v: ViewRef) -> u32
+        ensures place { result ≡ place_of v.0 self.now.views }
+        ensures within { result ≤ length self.now.views }
+        ensures stands { nat_lt result (length self.now.views) ≡ has v.0 self.now.views }
+        ensures view { has v.0 self.now.views ≡ true
+            → slice_get (map view_ref self.now.views) result ≡ Some v }
+    {
+        place_of(self.order.as_slice(), v.0) as u32
+    }
+
+    /// The rectangle of a view.
+    pub fn rect(&self, v: ViewRef) -> Rect
+        requires { has v.0 self.now.views ≡ true }
+        ensures rect { option_map (λ s. s.view.rect) (seat_in v.0 self.now.views) ≡ Some result }
+        ensures place { (i : ℕ) → slice_get (map view_ref self.now.views) i ≡ Some v
+            → option_map (λ s. s.view.rect) (slice_get self.now.views i) ≡ Some result }
+        ensures standing { IsStanding self.now }
+    {
+        self.slots[v.0 as usize].rect
     }
 
     /// The record of a view.

@@ -1,8 +1,14 @@
-use Rattle.nit_paint.proofs.Repaints.{repainted_both, repainted_same, repainted_words}
+use Rattle.nit_paint.proofs.Repaints.{other_count, repainted_both, repainted_same, repainted_union, repainted_words}
 use Rattle.nit_paint.proofs.laws.repainted_parts.Goals as goal
 
 pub returns-clause-both : goal.returns-clause-both
 returns-clause-both c = repainted_both
+
+pub returns-clause-union : goal.returns-clause-union
+returns-clause-union c = repainted_union
+
+pub returns-clause-count : goal.returns-clause-count
+returns-clause-count c = other_count
 
 pub returns-clause-same : goal.returns-clause-same
 returns-clause-same c = repainted_same

@@ -1,10 +1,17 @@
-use Rattle.std.proofs.Common.{arith}
-use Rattle.nit_paint.proofs.Pixels.{filled_more, run_none}
+use Rattle.std.proofs.Common.{◌≡◌, ℕ, ◌+◌, ◌-◌, ◌<◌, length, get_or, arith, rules}
+use Rattle.std.proofs.lemmas.List.{places}
+use Rattle.nit_paint.proofs.Pixels.{filled, put_run}
 use Rattle.nit_paint.proofs.runs.fill_run.Goals as goal
 
-pub pixels-init : goal.pixels-init
-pixels-init c source glasses own = run_none source _ _ glasses _
-
-pub pixels-preserved : goal.pixels-preserved
-pixels-preserved c source glasses own =
-    filled_more source _ _ _ _ glasses _ _ (omega arith) (omega arith) (own c.pixels.j (omega arith)) (c.pixels.invariant source glasses own)
+pub returns : goal.returns
+returns c = record {
+  painted =
+      λ source glasses own.
+      let at = c.args.at in
+      let count = c.args.count in
+      let n : at + count - at ≡ count = omega arith in
+      let long : length c.fill.new.self ≡ count = omega (arith, c.fill.ensures.len) in
+      let same : (j : ℕ) → j < length c.fill.new.self → get_or c.fill.new.self j 0 ≡ c.args.word = λ j less. search (rules, places) in
+      let put = put_run at count (at + count - at) c.args.word c.args.raw.now c.fill.new.self n c.requires long same in
+      filled source at count c.args.word (length c.args.raw.now) glasses c.args.raw.now _ put.0 put.1 c.requires own;
+}

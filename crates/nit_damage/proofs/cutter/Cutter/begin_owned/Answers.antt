@@ -1,5 +1,5 @@
 use Rattle.std.proofs.Common.{◌≡◌, ℕ, ap, sym, ◌∙◌, subst}
-use Rattle.nit_damage.specs.Sets.{place_of}
+use Rattle.nit_stack.specs.Standing.{place_of}
 use Rattle.nit_damage.specs.Cuts.{Cuts, Fits, begun, to_come}
 use Rattle.nit_damage.proofs.Begun.{begun_fits, begun_off, lies_below, owned_comes}
 use Rattle.nit_damage.proofs.cutter.Cutter.begin_owned.Goals as goal
@@ -15,8 +15,8 @@ returns-clause-fits c = subst (λ (d : Cuts). Fits d c.args.stack.now) (sym (kep
 pub returns-clause-to_come : goal.returns-clause-to_come
 returns-clause-to_come c p on =
     ap (λ (d : Cuts). to_come d c.args.stack.now p) (kept c)
-    ∙ owned_comes c.args.stack.now c.args.v c.view.result c.args.r c.meet-rect.result c.below_bar.result c.args.self.now.room
-    c.below_bar.ensures.fits c.view.ensures.standing.slots c.view.ensures.value c.meet-rect.ensures.both c.below_bar.ensures.both p on
+    ∙ owned_comes c.args.stack.now c.args.v c.rect.result c.args.r c.meet-rect.result c.below_bar.result c.args.self.now.room
+    c.below_bar.ensures.fits c.rect.ensures.standing.slots c.rect.ensures.rect c.meet-rect.ensures.both c.below_bar.ensures.both p on
 
 pub returns-clause-off_screen : goal.returns-clause-off_screen
 returns-clause-off_screen c p off =
