@@ -1,5 +1,5 @@
 -- The views in front of a place, when one view is taken out.
-use Rattle.std.proofs.Common.{◌≡◌, ℕ, zero, suc, ◌+◌, ◌<◌, ◌≤◌, not, Bool, true, false, ◌||◌, cond, List, [], ◌∷◌, length, map, take, get_or, Some, refl, ap, sym, ◌∙◌, arith}
+use Rattle.std.proofs.Common.{◌≡◌, ℕ, zero, suc, ◌+◌, ◌<◌, ◌≤◌, not, Bool, true, false, ◌||◌, cond, List, [], ◌∷◌, length, take, get_or, Some, refl, ap, sym, ◌∙◌, arith}
 use Rattle.std.specs.List.{list_any, position_or_len}
 use Rattle.std.specs.Prelude.{slice_get}
 use Rattle.std.proofs.lemmas.Bool.{eq-eqb, eqb-true, false≢true}
@@ -9,9 +9,7 @@ use Rattle.nit_rect.specs.declared.point.Point.{Point}
 use Rattle.nit_stack.specs.declared.view.View.{View}
 use Rattle.nit_stack.specs.Names.{views_of}
 use Rattle.nit_stack.specs.Orders.{without}
-use Rattle.nit_stack.specs.Standing.{NoPair, Seat, is_slot, same_slot, view_ref}
-use Rattle.nit_stack.specs.declared.view.ViewRef.{ViewRef}
-use Rattle.nit_damage.proofs.Views.{slot_at}
+use Rattle.nit_stack.specs.Standing.{Seat, is_slot, same_slot}
 use Rattle.nit_damage.specs.Sets.{covered, seat_covers}
 
 one_more : (n : ℕ) → 1 + n ≡ suc n
@@ -66,18 +64,6 @@ other_slot views i s x apart at = other (is_slot s.slot x) refl
         let equal : same_slot x (get_or views i s) ≡ true = eq-eqb _ _ (ap (λ (y : Seat). y.slot) here ∙ sym (eqb-true x.slot s.slot e)) in
         absurd (false≢true (sym apart ∙ list_any_at (same_slot x) views i s (slice_get_within views i s at) equal))
 
--- a slot stands at one place alone
-pub place_is : (views : List Seat) (i : ℕ) (s : Seat) → NoPair same_slot views → slice_get views i ≡ Some s → position_or_len (is_slot s.slot) views ≡ i
-place_is [] i s apart at = cc
-place_is (x ∷ views) zero s apart at =
-    let same : x ≡ s = cc in
-    let here : is_slot s.slot x ≡ true = eq-eqb x.slot s.slot (ap (λ (y : Seat). y.slot) same) in
-    ap (λ (b : Bool). cond (not b) (1 + position_or_len (is_slot s.slot) views) 0) here
-place_is (x ∷ views) (suc i) s apart at =
-    let r = place_is views i s apart.1 at in
-    let none : is_slot s.slot x ≡ false = other_slot views i s x apart.0 at in
-    ap (λ (b : Bool). cond (not b) (1 + position_or_len (is_slot s.slot) views) 0) none ∙ ap (λ (n : ℕ). 1 + n) r ∙ one_more i
-
 -- a place in front of the end is that of a view
 pub stands_there : {A : Type 0} (is : A → Bool) (xs : List A) → position_or_len is xs < length xs → list_any is xs ≡ true
 stands_there is [] l = absurd (omega arith)
@@ -94,11 +80,6 @@ stands_nowhere is (x ∷ xs) l = go (is x) l (stands_nowhere is xs)
     go : (b : Bool) → length (x ∷ xs) ≤ cond (not b) (1 + position_or_len is xs) 0 → (length xs ≤ position_or_len is xs → list_any is xs ≡ false) → (b || list_any is xs) ≡ false
     go true m r = absurd (omega arith)
     go false m r = r (omega arith)
-
-pub place_at : (views : List Seat) (i : ℕ) (v : ViewRef) → NoPair same_slot views → slice_get (map view_ref views) i ≡ Some v → position_or_len (is_slot v.0) views ≡ i
-place_at views i v apart at =
-    let f = slot_at views i v at in
-    ap (λ (n : ℕ). position_or_len (is_slot n) views) (sym f.2) ∙ place_is views i f.0 apart f.1
 
 pub without_none : {A : Type 0} (is : A → Bool) (xs : List A) → list_any is xs ≡ false → without is xs ≡ xs
 without_none is [] h = refl

@@ -4,7 +4,7 @@ use Rattle.std.specs.List.{list_any}
 use Rattle.std.specs.Option.{option_map_or}
 use Rattle.std.specs.Prelude.{slice_get}
 use Rattle.std.proofs.lemmas.Bool.{eq-eqb, false≢true, ne_eqb}
-use Rattle.nit_damage.proofs.Views.{drop_at}
+use Rattle.nit_stack.proofs.ViewPlaces.{drop_at}
 use Rattle.nit_rect.specs.declared.point.Point.{Point}
 use Rattle.nit_stack.specs.declared.view.View.{View}
 use Rattle.nit_stack.specs.Names.{views_of}
@@ -20,7 +20,8 @@ use Rattle.nit_paint.specs.Pieces.{source_at}
 use Rattle.nit_paint.proofs.Repaints.{repainted_same, repainted_union}
 use Rattle.nit_stack.specs.Standing.{NoPair, Seat, Standing, is_of_session, is_slot, same_slot, seat_in, size_of}
 use Rattle.nit_stack.proofs.Lists.{found_fails, found_passes}
-use Rattle.nit_damage.specs.Sets.{place_of, seat_covers}
+use Rattle.nit_stack.specs.Standing.{place_of}
+use Rattle.nit_damage.specs.Sets.{seat_covers}
 use Rattle.nit_repaint.specs.OneView.{IsChange, slot_owns_either}
 use Rattle.nit_repaint.specs.Glasses.{HoldBuffers}
 use Rattle.nit_repaint.specs.Owned.{owner_passes, source_in}

@@ -1,12 +1,10 @@
 -- A change of one view of a stack, told by the view's slot.
-use Rattle.std.specs.Prelude.{◌≡◌, ℕ, ◌⊎◌, Bool, not, ◌&&◌, ◌||◌, take, Some}
+use Rattle.std.specs.Prelude.{◌≡◌, ℕ, ◌⊎◌, Bool, ◌||◌, Some}
 use Rattle.nit_rect.specs.declared.point.Point.{Point}
-use Rattle.nit_rect.specs.Rectangle.{Rectangle, covers}
+use Rattle.nit_rect.specs.Rectangle.{Rectangle}
 use Rattle.nit_stack.specs.Names.{views_of}
 use Rattle.nit_stack.specs.Orders.{without}
-use Rattle.nit_stack.specs.Sources.{in_bar}
-use Rattle.nit_stack.specs.Standing.{NoPair, Seat, Standing, is_slot, same_slot, seat_in}
-use Rattle.nit_damage.specs.Sets.{covered, place_of}
+use Rattle.nit_stack.specs.Standing.{NoPair, Seat, Standing, is_slot, place_of, same_slot, seat_in}
 use Rattle.nit_repaint.specs.Owned.{owner_passes}
 
 -- The view in slot k stood at a place with a rectangle before. All other views stand as they stood.
@@ -25,7 +23,3 @@ pub record IsChange (k at : ℕ) (rect : Rectangle) (before after : Standing) : 
 abbrev pub slot_owns_either : ℕ → Standing → Standing → Point → Bool
 slot_owns_either k before after p =
     owner_passes (is_slot k) before p || owner_passes (is_slot k) after p
-
--- the pixel is below the bar, lies in the rectangle, and none of the first so many views covers it
-abbrev pub is_behind : ℕ → Standing → Rectangle → Point → Bool
-is_behind place s r p = not (in_bar s.bar p) && covers r p && not (covered (take place s.views) p)

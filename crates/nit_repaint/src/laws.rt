@@ -8,7 +8,7 @@ ghost use Rattle.nit_stack.specs.Standing.{
     IsStanding, Seat, Standing, is_of_session, is_slot, moved_above, on_view, put_own_back,
     put_own_front, seat_in, seat_layer, size_of, with_offset, with_rect
 };
-ghost use Rattle.nit_damage.specs.Sets.{place_of};
+ghost use Rattle.nit_stack.specs.Standing.{place_of};
 ghost use Rattle.nit_repaint.specs.OneView.{IsChange};
 ghost use Rattle.nit_repaint.specs.Owned.{is_word_in, owner_passes, source_in};
 ghost use Rattle.nit_repaint.specs.Parts.{wanted};

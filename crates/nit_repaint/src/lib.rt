@@ -30,6 +30,6 @@ mod pieces;
 mod whole;
 
 pub use buffers::paint_session;
-pub use changes::{paint_changed, place_of};
+pub use changes::paint_changed;
 pub use pieces::paint_to_come;
 pub use whole::{Nobody, paint_whole};

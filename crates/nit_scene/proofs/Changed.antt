@@ -44,7 +44,7 @@ use Rattle.nit_config.specs.Configuration.{bar_rows}
 use Rattle.nit_journal.specs.Session.{refusal}
 use Rattle.nit_journal.specs.State.{State, layer, session}
 use Rattle.nit_journal.specs.Views.{after_accepted, is_accepted}
-use Rattle.nit_damage.specs.Sets.{place_of}
+use Rattle.nit_stack.specs.Standing.{place_of}
 use Rattle.nit_repaint.specs.OneView.{IsChange, slot_owns_either}
 use Rattle.nit_repaint.proofs.Fronts.{without_none}
 use Rattle.nit_repaint.proofs.Uncovered.{none_left}
