@@ -128,21 +128,28 @@ first_row f a width raw old some order = record {
   };
 }
 
+-- a row whose words are told by their indexes
+pub next_part : (f : ℕ → ℕ → ℕ) (a : Area) (width y : ℕ) (raw old now new : List ℕ) → a.left ≤ a.right → a.right ≤ width → y < a.bottom → RowsSoFar f a width raw old now y
+    → IsPainted f raw now new (y * width + a.left) (y * width + a.right) → RowsSoFar f a width raw old new (y + 1)
+next_part f a width y raw old now new order short less far part = record {
+  after = omega (arith, far.after);
+  inside = omega arith;
+  whole =
+      let e : y * width + width ≡ (y + 1) * width = omega arith in
+      subst (IsOverlaid f (λ k. in_area a (k % width) (k / width)) raw old new) e
+      (one_more f (λ k. in_area a (k % width) (k / width)) raw old now new (y * width) width a.left a.right order short far.whole
+      (λ x lt. in_the_row a width y x far.after less lt) part);
+}
+
+-- a row that was painted by its columns
 pub next_row : (f : ℕ → ℕ → ℕ) (a : Area) (width y n : ℕ) (raw old now mid : List ℕ) → n ≡ width → a.left ≤ a.right → a.right ≤ width → y < a.bottom
     → y * width + n ≤ length now → length mid ≡ n → RowsSoFar f a width raw old now y
     → IsPainted (λ x w. f (y * width + x) w) (between (y * width) (y * width + width) raw) (between (y * width) (y * width + width) now) mid a.left a.right
     → RowsSoFar f a width raw old (put_mid (y * width) n now mid) (y + 1)
-next_row f a width y n raw old now mid is order short less room long far row = record {
-  after = omega (arith, far.after);
-  inside = omega arith;
-  whole =
-      let e : y * width + n ≡ (y + 1) * width = omega arith in
-      subst (IsOverlaid f (λ k. in_area a (k % width) (k / width)) raw old (put_mid (y * width) n now mid)) e
-      (one_more f (λ k. in_area a (k % width) (k / width)) raw old now (put_mid (y * width) n now mid) (y * width) n a.left a.right order (omega arith) far.whole
-      (λ x lt. in_the_row a width y x far.after less (omega arith))
-      (put_back f raw now mid (y * width) n a.left a.right room long order (omega arith)
-      (subst (λ m. IsPainted (λ x w. f (y * width + x) w) (between (y * width) (y * width + m) raw) (between (y * width) (y * width + m) now) mid a.left a.right) (sym is) row)));
-}
+next_row f a width y n raw old now mid is order short less room long far row =
+    next_part f a width y raw old now (put_mid (y * width) n now mid) order short less far
+    (put_back f raw now mid (y * width) n a.left a.right room long order (omega arith)
+    (subst (λ m. IsPainted (λ x w. f (y * width + x) w) (between (y * width) (y * width + m) raw) (between (y * width) (y * width + m) now) mid a.left a.right) (sym is) row))
 
 pub last_row : (f : ℕ → ℕ → ℕ) (a : Area) (width count : ℕ) (raw old now : List ℕ) → 0 < width → a.bottom * width ≤ count → RowsSoFar f a width raw old now a.bottom
     → IsOverlaid f (λ k. in_area a (k % width) (k / width)) raw old now count

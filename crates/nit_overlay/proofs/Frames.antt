@@ -28,6 +28,14 @@ pub get_or-frame : (s : Scenery) (raw : List ℕ) (k : ℕ) → k < s.width * s.
 unfolding frame
 get_or-frame s raw k less = get_or-map-range_with_len (λ k. shown s (pixel s.width k) (slice_index raw k)) 0 (s.width * s.height) k k 0 less (omega arith)
 
+-- equal words make equal frames
+pub same_frame : (s : Scenery) (a b : List ℕ) → ((k : ℕ) → k < s.width * s.height → slice_index a k ≡ slice_index b k) → frame s a ≡ frame s b
+same_frame s a b same =
+    same_number_lists (frame s a) (frame s b) (length-frame s a ∙ sym (length-frame s b))
+    (λ k lt.
+    let within : k < s.width * s.height = omega (arith, length-frame s a) in
+    get_or-frame s a k within ∙ ap (λ (w : ℕ). shown s (pixel s.width k) w) (same k within) ∙ sym (get_or-frame s b k within))
+
 -- ---- each word that is shown is below 2^24
 
 either : (b : Bool) (x y : ℕ) → IsWord x → IsWord y → IsWord (cond b x y)

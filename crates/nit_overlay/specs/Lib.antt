@@ -2,6 +2,7 @@ pub use Rattle.nit_word.specs.Channels
 pub use Rattle.nit_word.specs.Inks
 pub use Rattle.nit_stack.specs.Sources
 pub mod Shown
+pub mod Kept
 pub mod Looks
 pub mod Rows
 pub mod Areas

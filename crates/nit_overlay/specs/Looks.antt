@@ -1,5 +1,5 @@
 -- What a look shows, and when it is one.
-use Rattle.std.specs.Prelude.{◌≡◌, ℕ, ◌<◌, ◌≤◌, Bool, true, false, length, slice_get, All, Some, option_map, IfSome, IsTrue}
+use Rattle.std.specs.Prelude.{◌≡◌, ℕ, ◌<◌, Bool, true, false, length, slice_get, All, Some, option_map, IfSome, IsTrue}
 use Rattle.nit_rect.specs.declared.point.Point.{Point}
 use Rattle.nit_events.specs.declared.device.Mode.{Mode}
 use Rattle.nit_events.specs.declared.device.Mode.TheVariants.{Flat}
@@ -27,10 +27,9 @@ pixel_at q = point q.0 q.1
 abbrev pub IsPlaced : Look → Seat → Type 0
 IsPlaced look s = slice_get look.places.now s.slot ≡ Some (option_map pixel_at (place_of (scenery look) s.view))
 
--- There is a label for each session, the focus is on a session, and there is a place for each slot. Where labels
--- are drawn, each view's label stands where it is to.
+-- There is a label for each session, and the focus is on a session. Where labels are drawn, each view's label stands
+-- where it is to.
 pub record IsLook (look : Look) : Type 0 where
   pub labels : length look.labels.now ≡ length look.stack.now.sizes
   pub focus : IfSome look.focus (λ session. session < length look.stack.now.sizes)
-  pub slots : look.stack.now.most ≤ length look.places.now
   pub places : IsTrue (draws_labels look.mode) → All (IsPlaced look) look.stack.now.views

@@ -30,7 +30,6 @@ is_look look width place stack texts places focus at =
     record {
       labels = ap length texts ∙ sym (ap (λ (s : Standing). length s.sizes) stack);
       focus = subst (λ (s : Standing). IfSome look.focus (λ session. session < length s.sizes)) (sym stack) focus;
-      slots = omega (arith, ap (λ (s : Standing). s.most) stack, ap length places);
       places =
           λ drawn.
           subst (λ (s : Standing). All (IsPlaced look) s.views) (sym stack)
