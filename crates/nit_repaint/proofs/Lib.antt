@@ -7,3 +7,4 @@ pub mod Uncovered
 pub mod Moves
 pub mod Wanted
 pub mod Parts
+pub mod Copied

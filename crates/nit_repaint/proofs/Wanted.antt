@@ -29,7 +29,7 @@ use Rattle.nit_stack.proofs.ViewPlaces.{place_is}
 
 -- ---- pixels by their numbers
 
-lt_once : (b : Bool) → nat_lt 0 (once b) ≡ b
+pub lt_once : (b : Bool) → nat_lt 0 (once b) ≡ b
 lt_once true = refl
 lt_once false = refl
 

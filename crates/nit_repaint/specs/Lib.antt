@@ -7,6 +7,7 @@ pub use Rattle.nit_paint.specs.Pieces
 pub mod Owned
 pub mod Glasses
 pub mod Coming
+pub mod Copied
 pub mod OneView
 pub mod Parts
 pub mod Uncovered

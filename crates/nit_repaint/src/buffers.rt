@@ -22,7 +22,7 @@ use nit_stack::{Stack, View};
 use nit_word::Glass;
 
 /// The rectangle at which a view shows what is wanted of it.
-fn wanted_rect(stack: &Stack, view: &View, part: &Option<Rect>) -> Rect
+pub(crate) fn wanted_rect(stack: &Stack, view: &View, part: &Option<Rect>) -> Rect
     requires session { view.now.sid < length stack.now.sizes }
     requires offset { IsPlace view.now.ox × IsPlace view.now.oy }
     ensures same { (p : Point) → IsOnScreen stack.now.width stack.now.height p

@@ -19,7 +19,7 @@ use nit_word::Glass;
 
 /// Begins with what a view owned before a change or owns after it. Before, it stood at this place
 /// from the front, with this rectangle. It may be gone now.
-fn begin_changed(cutter: &mut Cutter, stack: &Stack, v: ViewRef, place: u32, rect: Rect)
+pub(crate) fn begin_changed(cutter: &mut Cutter, stack: &Stack, v: ViewRef, place: u32, rect: Rect)
     requires room { length stack.now.views ≤ cutter.old.room }
     ensures room { cutter.new.room ≡ cutter.old.room }
     ensures fits { Fits cutter.new stack.now }

@@ -27,9 +27,11 @@ mod changes;
 pub mod laws;
 mod part;
 mod pieces;
+mod showing;
 mod whole;
 
 pub use buffers::paint_session;
 pub use changes::paint_changed;
 pub use pieces::paint_to_come;
+pub use showing::{show_changed, show_session};
 pub use whole::{Nobody, paint_whole};

@@ -1,6 +1,6 @@
 //! A server before its first entry.
 
-ghost use Rattle.std.specs.Prelude.{◌≡◌, ◌+◌, ◌-◌, ◌<◌, ◌≤◌, IfOk, length, All, IsTrue, map, []};
+ghost use Rattle.std.specs.Prelude.{◌≡◌, ◌+◌, ◌-◌, ◌<◌, ◌≤◌, IfOk, length, All, IsTrue, map, [], if◌then◌else◌};
 ghost use Rattle.nit_events.specs.declared.entry.Entry.TheVariants as entry;
 ghost use Rattle.nit_slots.specs.Account.{view_slots};
 ghost use Rattle.nit_config.specs.Configured.{IsConfigured, IsConfiguredMember};

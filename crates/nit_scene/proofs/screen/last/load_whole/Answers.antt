@@ -1,4 +1,4 @@
-use Rattle.std.proofs.Common.{◌≡◌, ◌≤◌, ◌++◌, ◌*◌, ℕ, List, drop, length, map, true, ap, sym, ◌∙◌, subst, arith}
+use Rattle.std.proofs.Common.{◌≡◌, ◌≤◌, ◌*◌, ℕ, List, drop, length, map, true, ap, sym, ◌∙◌, subst, arith}
 use Rattle.nit_word.specs.Sight.{Sight}
 use Rattle.nit_stack.specs.Standing.{Standing}
 use Rattle.nit_paint.specs.Painting.{Repainted}

@@ -1,4 +1,4 @@
-use Rattle.std.proofs.Common.{◌≡◌, ◌++◌, ℕ, List, ap, drop, length, map, arith}
+use Rattle.std.proofs.Common.{◌≡◌, ℕ, List, ap, drop, length, map, arith}
 use Rattle.nit_word.specs.Sight.{Sight}
 use Rattle.nit_stack.specs.Sources.{pixel}
 use Rattle.nit_stack.specs.Standing.{Standing}
