@@ -13,14 +13,14 @@ use Rattle.nit_paint.specs.Painting.{Repainted}
 use Rattle.nit_paint.specs.Pieces as pieces
 use Rattle.nit_paint.proofs.Repaints.{repainted_same}
 use Rattle.nit_scene.specs.Dirty.{dirty, dirty_by_call}
-use Rattle.nit_scene.proofs.Marks.{Mark, OfView, OfSession, OfPart}
+use Rattle.nit_scene.proofs.Marks.{OfView}
 use Rattle.nit_scene.proofs.Marks.{IsMarkOf}
 use Rattle.nit_scene.specs.Painted.{Painted, glass_in, pixel_count, source_at}
 use Rattle.nit_paint.specs.Painting.{no_sight}
 use Rattle.nit_repaint.proofs.Glasses.{nobody_calls}
 use Rattle.nit_scene.proofs.Meant.{meant, part_meant, session_meant, source_of_number}
 use Rattle.nit_rect.specs.declared.point.Point.{Point}
-use Rattle.nit_stack.specs.Sources.{PixelSource, Bare, Black, Word}
+use Rattle.nit_stack.specs.Sources.{PixelSource}
 use Rattle.nit_stack.specs.Standing.{size_of}
 use Rattle.nit_repaint.specs.Owned.{owner_passes, source_in}
 use Rattle.nit_repaint.specs.Glasses.{glasses_of_call}
@@ -34,7 +34,7 @@ use Rattle.nit_events.specs.declared.call.Reply.{Reply}
 use Rattle.nit_stack.specs.declared.view.View.{View as ViewOf}
 use Rattle.nit_stack.specs.Labels.{is_view}
 use Rattle.nit_stack.specs.Names.{IsNamedBy, MeanSame, name_of, views_of}
-use Rattle.nit_stack.specs.Orders.{changed, moved, put_above, put_back, put_front, without}
+use Rattle.nit_stack.specs.Orders.{moved, put_above, put_back, put_front, without}
 use Rattle.nit_stack.specs.Standing.{IsSeat, IsStanding, NoPair, Seat, Standing, has, is_named, is_slot, same_slot, seat_in}
 use Rattle.nit_stack.proofs.Lists.{All_found, any_found, find-map, found_fails, found_passes, found_some, list_any-map}
 use Rattle.nit_stack.proofs.Names.{agree_by}
@@ -50,7 +50,7 @@ use Rattle.nit_repaint.proofs.Fronts.{without_none}
 use Rattle.nit_repaint.proofs.Uncovered.{none_left}
 use Rattle.nit_repaint.proofs.Moves.{find_moved, place_changed, without_changed, without_moved}
 use Rattle.nit_scene.specs.Serving.{IsServed, IsServing, Serving, state_of}
-use Rattle.nit_scene.specs.CallKinds.{IsClean, IsOn, IsPartOf}
+use Rattle.nit_scene.specs.CallKinds.{IsClean, IsOn, IsPartOf, IsQuiet}
 use Rattle.std.proofs.Math.ListN.{length-set}
 use Rattle.nit_events.specs.declared.event.Status.{Status}
 use Rattle.nit_events.specs.Input.{forget}
@@ -191,41 +191,35 @@ change_of_call before after' sid handle k call r seat hb ha none s on by there =
 -- ---- what is painted
 
 -- the pixels of a change are those that the entry makes dirty
-pub painted_by_change : (before after' : Serving) (sid handle : ℕ) (v : ViewRef) (call : Call) (r : Reply) (n : ℕ) (glasses glasses' : ℕ → Sight) (raw raw' : List ℕ)
-    → IsServing before → IsServing after' → refusal (session (state_of before) sid) call ≡ None → IsServed sid call r before after' → IsOn handle call → IsNamedBy v.0 sid handle before.stack.views
-    → n ≡ pixel_count (state_of before)
-    → Repainted (pieces.source_at after'.stack) (λ k. slot_owns_either v.0 before.stack after'.stack (pixel after'.stack.width k)) n glasses glasses' raw raw'
-    → Painted (state_of before) (entry.Call sid call r) (state_of after') glasses glasses' raw raw'
-painted_by_change before after' sid handle v call r n glasses glasses' raw raw' hb ha none s on by count painted =
-    subst (λ (c : ℕ). Repainted (source_at (state_of after')) (λ k. dirty (state_of before) (entry.Call sid call r) (state_of after') (pixel before.config.width k)) c glasses glasses' raw raw') count
-    (repainted_same _ _ _ _ n glasses glasses glasses' glasses' raw raw' marks (λ k l m. source_of_number after' ha k) (λ t. refl) (λ t. refl) painted)
-  where
-    accepted_ : is_accepted r ≡ true
-    accepted_ = ap is_accepted s.replied ∙ accepted_reply (session (state_of before) sid) call none
+module _ (before after' : Serving) (sid handle : ℕ) (v : ViewRef) (call : Call) (r : Reply) (hb : IsServing before) (ha : IsServing after') (none : refusal (session (state_of before) sid) call ≡ None)
+    (s : IsServed sid call r before after') (on : IsOn handle call) (by : IsNamedBy v.0 sid handle before.stack.views) where
+  mark_ : (c : Call) → IsOn handle c → IsMarkOf before sid c (Some (OfView v))
+  mark_ (Place u x y w h) on = (v, refl, subst (λ (m : ℕ). IsNamedBy v.0 sid m before.stack.views) (sym on) by)
+  mark_ (Offset u ox oy) on = (v, refl, subst (λ (m : ℕ). IsNamedBy v.0 sid m before.stack.views) (sym on) by)
+  mark_ (Front u) on = (v, refl, subst (λ (m : ℕ). IsNamedBy v.0 sid m before.stack.views) (sym on) by)
+  mark_ (Back u) on = (v, refl, subst (λ (m : ℕ). IsNamedBy v.0 sid m before.stack.views) (sym on) by)
+  mark_ (Above u n) on = (v, refl, subst (λ (m : ℕ). IsNamedBy v.0 sid m before.stack.views) (sym on) by)
+  mark_ (Buffer w h) on = absurd on
+  mark_ View on = absurd on
+  mark_ (Title u text) on = absurd on
+  mark_ (Destroy u) on = (v, refl, subst (λ (m : ℕ). IsNamedBy v.0 sid m before.stack.views) (sym on) by)
+  mark_ (Refresh x y w h) on = absurd on
+  mark_ Take on = absurd on
+  mark_ (Upgrade n) on = absurd on
+  mark_ Close on = absurd on
 
-    width_ : after'.stack.width ≡ before.config.width
-    width_ = ha.screen.0 ∙ ap (λ (t : State). t.config.width) s.state
+  pub dirty_by_change : (k : ℕ) → slot_owns_either v.0 before.stack after'.stack (pixel after'.stack.width k) ≡ dirty (state_of before) (entry.Call sid call r) (state_of after') (pixel before.config.width k)
+  dirty_by_change k =
+      ap (λ (w : ℕ). slot_owns_either v.0 before.stack after'.stack (pixel w k)) (ha.screen.0 ∙ ap (λ (t : State). t.config.width) s.state)
+      ∙ meant before after' hb ha sid (pixel before.config.width k) call r (OfView v) none s (mark_ call on)
+      ∙ sym (ap (λ (b : Bool). b && dirty_by_call sid call (state_of before) (state_of after') (pixel before.config.width k)) (ap is_accepted s.replied ∙ accepted_reply (session (state_of before) sid) call none))
 
-    mark_ : (c : Call) → IsOn handle c → IsMarkOf before sid c (Some (OfView v))
-    mark_ (Place u x y w h) on = (v, refl, subst (λ (m : ℕ). IsNamedBy v.0 sid m before.stack.views) (sym on) by)
-    mark_ (Offset u ox oy) on = (v, refl, subst (λ (m : ℕ). IsNamedBy v.0 sid m before.stack.views) (sym on) by)
-    mark_ (Front u) on = (v, refl, subst (λ (m : ℕ). IsNamedBy v.0 sid m before.stack.views) (sym on) by)
-    mark_ (Back u) on = (v, refl, subst (λ (m : ℕ). IsNamedBy v.0 sid m before.stack.views) (sym on) by)
-    mark_ (Above u n) on = (v, refl, subst (λ (m : ℕ). IsNamedBy v.0 sid m before.stack.views) (sym on) by)
-    mark_ (Buffer w h) on = absurd on
-    mark_ View on = absurd on
-    mark_ (Title u text) on = absurd on
-    mark_ (Destroy u) on = (v, refl, subst (λ (m : ℕ). IsNamedBy v.0 sid m before.stack.views) (sym on) by)
-    mark_ (Refresh x y w h) on = absurd on
-    mark_ Take on = absurd on
-    mark_ (Upgrade n) on = absurd on
-    mark_ Close on = absurd on
-
-    marks : (k : ℕ) → k < n → slot_owns_either v.0 before.stack after'.stack (pixel after'.stack.width k) ≡ dirty (state_of before) (entry.Call sid call r) (state_of after') (pixel before.config.width k)
-    marks k l =
-        ap (λ (w : ℕ). slot_owns_either v.0 before.stack after'.stack (pixel w k)) width_
-        ∙ meant before after' hb ha sid (pixel before.config.width k) call r (OfView v) none s (mark_ call on)
-        ∙ sym (ap (λ (b : Bool). b && dirty_by_call sid call (state_of before) (state_of after') (pixel before.config.width k)) accepted_)
+  pub painted_by_change : (n : ℕ) (glasses glasses' : ℕ → Sight) (raw raw' : List ℕ) → n ≡ pixel_count (state_of before)
+      → Repainted (pieces.source_at after'.stack) (λ k. slot_owns_either v.0 before.stack after'.stack (pixel after'.stack.width k)) n glasses glasses' raw raw'
+      → Painted (state_of before) (entry.Call sid call r) (state_of after') glasses glasses' raw raw'
+  painted_by_change n glasses glasses' raw raw' count painted =
+      subst (λ (c : ℕ). Repainted (source_at (state_of after')) (λ k. dirty (state_of before) (entry.Call sid call r) (state_of after') (pixel before.config.width k)) c glasses glasses' raw raw') count
+      (repainted_same _ _ _ _ n glasses glasses glasses' glasses' raw raw' (λ k l. dirty_by_change k) (λ k l m. source_of_number after' ha k) (λ t. refl) (λ t. refl) painted)
 
 -- ---- room for the views
 
@@ -318,25 +312,20 @@ wanted_dirty before after' sid part Take p ha on = absurd on
 wanted_dirty before after' sid part (Upgrade n) p ha on = absurd on
 wanted_dirty before after' sid part Close p ha on = absurd on
 
-pub painted_by_views : (before after' : Serving) (sid : ℕ) (part : Option Rectangle) (call : Call) (r : Reply) (n : ℕ) (glasses glasses' : ℕ → Sight) (raw raw' : List ℕ)
-    → IsServing after' → refusal (session (state_of before) sid) call ≡ None → IsServed sid call r before after' → IsPartOf part call → n ≡ pixel_count (state_of before)
-    → Repainted (pieces.source_at after'.stack) (λ k. wanted sid part after'.stack (pixel after'.stack.width k)) n glasses glasses' raw raw'
-    → Painted (state_of before) (entry.Call sid call r) (state_of after') glasses glasses' raw raw'
-painted_by_views before after' sid part call r n glasses glasses' raw raw' ha none s on count painted =
-    subst (λ (c : ℕ). Repainted (source_at (state_of after')) (λ k. dirty (state_of before) (entry.Call sid call r) (state_of after') (pixel before.config.width k)) c glasses glasses' raw raw') count
-    (repainted_same _ _ _ _ n glasses glasses glasses' glasses' raw raw' marks (λ k l m. source_of_number after' ha k) (λ t. refl) (λ t. refl) painted)
-  where
-    accepted_ : is_accepted r ≡ true
-    accepted_ = ap is_accepted s.replied ∙ accepted_reply (session (state_of before) sid) call none
+module _ (before after' : Serving) (sid : ℕ) (part : Option Rectangle) (call : Call) (r : Reply) (ha : IsServing after') (none : refusal (session (state_of before) sid) call ≡ None)
+    (s : IsServed sid call r before after') (on : IsPartOf part call) where
+  pub dirty_by_views : (k : ℕ) → wanted sid part after'.stack (pixel after'.stack.width k) ≡ dirty (state_of before) (entry.Call sid call r) (state_of after') (pixel before.config.width k)
+  dirty_by_views k =
+      ap (λ (w : ℕ). wanted sid part after'.stack (pixel w k)) (ha.screen.0 ∙ ap (λ (t : State). t.config.width) s.state)
+      ∙ wanted_dirty before after' sid part call (pixel before.config.width k) ha on
+      ∙ sym (ap (λ (b : Bool). b && dirty_by_call sid call (state_of before) (state_of after') (pixel before.config.width k)) (ap is_accepted s.replied ∙ accepted_reply (session (state_of before) sid) call none))
 
-    width_ : after'.stack.width ≡ before.config.width
-    width_ = ha.screen.0 ∙ ap (λ (t : State). t.config.width) s.state
-
-    marks : (k : ℕ) → k < n → wanted sid part after'.stack (pixel after'.stack.width k) ≡ dirty (state_of before) (entry.Call sid call r) (state_of after') (pixel before.config.width k)
-    marks k l =
-        ap (λ (w : ℕ). wanted sid part after'.stack (pixel w k)) width_
-        ∙ wanted_dirty before after' sid part call (pixel before.config.width k) ha on
-        ∙ sym (ap (λ (b : Bool). b && dirty_by_call sid call (state_of before) (state_of after') (pixel before.config.width k)) accepted_)
+  pub painted_by_views : (n : ℕ) (glasses glasses' : ℕ → Sight) (raw raw' : List ℕ) → n ≡ pixel_count (state_of before)
+      → Repainted (pieces.source_at after'.stack) (λ k. wanted sid part after'.stack (pixel after'.stack.width k)) n glasses glasses' raw raw'
+      → Painted (state_of before) (entry.Call sid call r) (state_of after') glasses glasses' raw raw'
+  painted_by_views n glasses glasses' raw raw' count painted =
+      subst (λ (c : ℕ). Repainted (source_at (state_of after')) (λ k. dirty (state_of before) (entry.Call sid call r) (state_of after') (pixel before.config.width k)) c glasses glasses' raw raw') count
+      (repainted_same _ _ _ _ n glasses glasses glasses' glasses' raw raw' (λ k l. dirty_by_views k) (λ k l m. source_of_number after' ha k) (λ t. refl) (λ t. refl) painted)
 
 -- what is said of a stack and of slices that were handed out, in the words of their owners
 pub handed_on : (P : Standing → ℕ → (ℕ → Sight) → (ℕ → Sight) → List ℕ → List ℕ → Type 0) (t s : Standing) (n m : ℕ) (a a' b b' : ℕ → Sight) (raw old raw' new : List ℕ) → t ≡ s → n ≡ m → a ≡ a' → b ≡ b' → raw ≡ old → raw' ≡ new
@@ -409,14 +398,14 @@ no_right : (a b : Bool) → b ≡ false → (a && b) ≡ false
 no_right true b e = e
 no_right false b e = refl
 
-clean_call : (before after' : State) (sid : ℕ) (call : Call) (r : Reply) (p : Point) → IsClean call → dirty before (entry.Call sid call r) after' p ≡ false
+pub clean_call : (before after' : State) (sid : ℕ) (call : Call) (r : Reply) (p : Point) → IsClean call → dirty before (entry.Call sid call r) after' p ≡ false
 clean_call before after' sid call r p is = no_right (is_accepted r) _ (go call is)
   where
     go : (c : Call) → IsClean c → dirty_by_call sid c before after' p ≡ false
     go View is = refl
     go (Title v text) is = refl
-    go Take is = refl
-    go (Upgrade n) is = refl
+    go Take is = absurd is
+    go (Upgrade n) is = absurd is
     go (Place v x y w h) is = absurd is
     go (Offset v ox oy) is = absurd is
     go (Front v) is = absurd is
@@ -426,6 +415,27 @@ clean_call before after' sid call r p is = no_right (is_accepted r) _ (go call i
     go (Buffer w h) is = absurd is
     go (Refresh x y w h) is = absurd is
     go Close is = absurd is
+
+quiet_call : (before after' : State) (sid : ℕ) (call : Call) (r : Reply) (p : Point) → IsQuiet call → dirty before (entry.Call sid call r) after' p ≡ false
+quiet_call before after' sid call r p is = no_right (is_accepted r) _ (go call is)
+  where
+    go : (c : Call) → IsQuiet c → dirty_by_call sid c before after' p ≡ false
+    go Take is = refl
+    go (Upgrade n) is = refl
+    go View is = absurd is
+    go (Title v text) is = absurd is
+    go (Place v x y w h) is = absurd is
+    go (Offset v ox oy) is = absurd is
+    go (Front v) is = absurd is
+    go (Back v) is = absurd is
+    go (Above v n) is = absurd is
+    go (Destroy v) is = absurd is
+    go (Buffer w h) is = absurd is
+    go (Refresh x y w h) is = absurd is
+    go Close is = absurd is
+
+pub quiet_painted : (before after' : State) (sid : ℕ) (call : Call) (r : Reply) (glasses : ℕ → Sight) (raw : List ℕ) → IsQuiet call → Painted before (entry.Call sid call r) after' glasses glasses raw raw
+quiet_painted before after' sid call r glasses raw is = unpainted before (entry.Call sid call r) after' glasses raw (λ p. quiet_call before after' sid call r p is)
 
 pub clean_painted : (before after' : State) (sid : ℕ) (call : Call) (r : Reply) (glasses : ℕ → Sight) (raw : List ℕ) → IsClean call → Painted before (entry.Call sid call r) after' glasses glasses raw raw
 clean_painted before after' sid call r glasses raw is = unpainted before (entry.Call sid call r) after' glasses raw (λ p. clean_call before after' sid call r p is)

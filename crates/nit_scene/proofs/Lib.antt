@@ -30,3 +30,4 @@ pub mod Stacks
 pub mod Stepping
 pub mod Beginning
 pub mod Marks
+pub mod Keeps

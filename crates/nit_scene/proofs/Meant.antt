@@ -23,7 +23,7 @@ use Rattle.nit_journal.specs.Views.{is_accepted}
 use Rattle.nit_paint.specs.Pieces as pieces
 use Rattle.nit_scene.specs.Dirty.{dirty_by_call, owns_either, session_owns, shows_part, view_owns}
 use Rattle.nit_repaint.specs.Owned.{is_word_in, owner_passes, source_in}
-use Rattle.nit_scene.proofs.Marks.{Mark, OfView, OfSession, OfPart, is_meant}
+use Rattle.nit_scene.proofs.Marks.{Mark, OfSession, OfPart, is_meant}
 use Rattle.nit_scene.proofs.Marks.{IsMarkOf, IsMarkOfView}
 use Rattle.nit_scene.specs.Painted.{source_at}
 use Rattle.nit_scene.specs.Serving.{IsServed, IsServing, Serving, size_of_buffer, state_of}

@@ -1,5 +1,5 @@
 -- What a call does to a screen.
-use Rattle.std.proofs.Common.{◌≡◌, ℕ, ◌*◌, ◌<◌, ◌≤◌, ◌==◌, Bool, true, false, cond, ◌&&◌, ◌||◌, List, length, slice_index_or, Some, None, refl, ap, sym, subst, ◌∙◌}
+use Rattle.std.proofs.Common.{◌≡◌, ℕ, ◌*◌, ◌<◌, ◌≤◌, ◌==◌, Bool, true, false, cond, ◌&&◌, List, length, slice_index_or, None, refl, ap, sym, subst, ◌∙◌}
 use Rattle.std.proofs.lemmas.Bool.{eqb-true}
 use Rattle.std.proofs.lemmas.List.{length-map}
 use Rattle.nit_rect.specs.declared.point.Point.{Point}
@@ -11,21 +11,18 @@ use Rattle.nit_events.specs.declared.entry.Entry.TheVariants as entry
 use Rattle.nit_stack.specs.Answers.{word_count}
 use Rattle.nit_stack.specs.Sources.{pixel}
 use Rattle.nit_config.specs.Configuration.{Configuration}
-use Rattle.nit_journal.specs.Session.{refusal}
-use Rattle.nit_journal.specs.State.{State, session, session_in}
+use Rattle.nit_journal.specs.State.{State, session_in}
 use Rattle.nit_journal.specs.Views.{is_accepted}
 use Rattle.nit_paint.specs.Painting.{Repainted, no_sight}
 use Rattle.nit_paint.proofs.Repaints.{repainted_none, repainted_same}
 use Rattle.nit_paint.specs.Pieces as pieces
 use Rattle.nit_scene.specs.Dirty.{dirty, dirty_by_call}
 use Rattle.nit_repaint.specs.Glasses.{HoldBuffers, glasses_of_call}
-use Rattle.nit_scene.proofs.Marks.{Mark}
 use Rattle.nit_scene.proofs.Marks.{IsMarkOf}
 use Rattle.nit_scene.specs.Painted.{Painted, glass_in, pixel_count, source_at}
 use Rattle.nit_scene.specs.Serving.{IsServed, IsServing, Serving, size_of_buffer, state_of, table_words}
 use Rattle.nit_scene.specs.Showing.{IsGlassOf}
-use Rattle.nit_scene.proofs.Meant.{meant, size_at, source_of_number, unmeant}
-use Rattle.nit_scene.proofs.Refused.{accepted_reply}
+use Rattle.nit_scene.proofs.Meant.{size_at, source_of_number, unmeant}
 
 -- an entry that makes nothing dirty
 pub unpainted : (s : State) (e : Entry) (s' : State) (glasses : ℕ → Sight) (raw : List ℕ) → ((p : Point) → dirty s e s' p ≡ false) → Painted s e s' glasses glasses raw raw

@@ -20,10 +20,14 @@ IsPartOf part (Buffer w h) = part ≡ None
 IsPartOf part (Refresh x y w h) = part ≡ Some (rectangle x y w h)
 IsPartOf part other = ⊥
 
--- a call that makes no pixel dirty
+-- a call that makes no pixel dirty, but changes the views or their titles
 abbrev pub IsClean : Call → Type 0
 IsClean View = Unit {0}
 IsClean (Title v text) = Unit {0}
-IsClean Take = Unit {0}
-IsClean (Upgrade n) = Unit {0}
 IsClean other = ⊥
+
+-- a call that changes nothing of what is shown
+abbrev pub IsQuiet : Call → Type 0
+IsQuiet Take = Unit {0}
+IsQuiet (Upgrade n) = Unit {0}
+IsQuiet other = ⊥

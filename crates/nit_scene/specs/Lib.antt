@@ -21,3 +21,4 @@ pub mod Seating
 pub mod Opened
 pub mod Labelled
 pub mod CallKinds
+pub mod Kept

@@ -1,7 +1,7 @@
 //! The screen with all that it shows.
 
-ghost use Rattle.std.specs.Prelude.{◌≡◌, ◌+◌, ◌-◌, ◌<◌, length, ℕ, ◌*◌, map};
-ghost use Rattle.nit_rect.specs.declared.point.Point.{Point};
+ghost use Rattle.std.specs.Prelude.{◌≡◌, ◌<◌, All, length, ℕ, ◌*◌, map};
+ghost use Rattle.nit_word.specs.Inks.{IsWord};
 ghost use Rattle.nit_scene.specs.Painted.{glass_in};
 ghost use Rattle.nit_scene.specs.Serving.{IsServing};
 ghost use Rattle.nit_scene.specs.Showing.{IsGlassOf};
@@ -12,36 +12,32 @@ mod input;
 mod labels;
 mod last;
 mod opening;
+mod pixels;
 mod sessions;
 mod views;
 
+use crate::screen::pixels::Pixels;
 use crate::server::Server;
-use nit_damage::Cutter;
-use nit_glyph::Label;
-use nit_rect::Point;
 use nit_word::Glass;
 use std::marker::Model;
 
-/// The server with the words that its screen shows.
+/// The server with the words that its screen shows, and the glasses of the sessions.
 #[derive(Drop)]
 pub(crate) struct Screen<G: Glass + Drop> {
     pub(crate) server: Server,
     pub(crate) glasses: Vec<G>,
-    pub(crate) raw: Vec<u32>,
-    pub(crate) cutter: Cutter,
-    pub(crate) labels: Vec<Label>,
-    pub(crate) places: Vec<Option<Point>>,
+    pub(crate) pixels: Pixels,
 }
 
 impl<G: Glass + Drop> Model for Screen<G> {
-    ghost use Rattle.std.specs.Prelude.{length, map};
+    ghost use Rattle.std.specs.Prelude.{map};
     ghost use Rattle.nit_scene.specs.Showing.{IsScreen, Showing};
 
     ghost Value = { Showing G };
 
-    ghost view = { λ s. record { serving = s.server; raw = s.raw.items; glasses = s.glasses.items } };
+    ghost view = { λ s. record { serving = s.server; raw = s.pixels.raw.items; glasses = s.glasses.items } };
 
-    ghost invariant = { λ s. IsScreen s.server (map G.sight s.glasses.items) s.raw.items s.cutter.room s.labels.items (length s.places.items) };
+    ghost invariant = { λ s. IsScreen s.server (map G.sight s.glasses.items) s.pixels };
 }
 
 impl<G: Glass + Drop> Screen<G> {
@@ -57,11 +53,12 @@ impl<G: Glass + Drop> Screen<G> {
     /// What holds of the server.
     pub(crate) fn facts(&self)
         ensures serving { IsServing self.now.serving }
+        ensures words { All IsWord self.now.raw }
         ensures pixels { length self.now.raw ≡ self.now.serving.config.width * self.now.serving.config.height }
         ensures glasses { length self.now.glasses ≡ length self.now.serving.config.clients }
         ensures tables { (t : ℕ) → t < length self.now.serving.config.clients → IsGlassOf self.now.serving t (glass_in (map G.sight self.now.glasses) t) }
     {
-        let _ = &self.raw;
+        let _ = &self.pixels;
         self.server.facts();
     }
 }

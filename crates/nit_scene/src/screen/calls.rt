@@ -10,12 +10,14 @@ ghost use Rattle.nit_journal.specs.State.{session, session_in, after};
 ghost use Rattle.nit_journal.specs.Views.{is_accepted};
 ghost use Rattle.nit_paint.specs.Painting.{no_sight};
 ghost use Rattle.nit_repaint.specs.Glasses.{glasses_of_call};
-ghost use Rattle.nit_scene.specs.CallKinds.{IsClean};
+ghost use Rattle.nit_scene.specs.CallKinds.{IsClean, IsQuiet};
+ghost use Rattle.nit_scene.specs.Kept.{ArePixels};
 ghost use Rattle.nit_scene.specs.Painted.{Painted, glass_in};
 ghost use Rattle.nit_scene.specs.Serving.{IsServed, state_of};
 ghost use Rattle.nit_scene.specs.Showing.{IsGlassOf};
 
 use crate::screen::Screen;
+use crate::screen::pixels::{Pixels, show_views};
 use crate::screen::sessions::{change_buffer, close};
 use crate::screen::views::change_view;
 use crate::server::Server;
@@ -48,8 +50,7 @@ impl<G: Glass + Drop> Screen<G> {
         self.server.facts();
         serve_call(
             &mut self.server,
-            &mut self.cutter,
-            &mut self.raw,
+            &mut self.pixels,
             &mut self.glasses,
             sid,
             call,
@@ -61,8 +62,7 @@ impl<G: Glass + Drop> Screen<G> {
 /// Serves an accepted call, and loads again exactly the pixels that it makes dirty.
 pub(crate) fn serve_call<G: Glass, C: Glass>(
     server: &mut Server,
-    cutter: &mut Cutter,
-    raw: &mut Vec<u32>,
+    pixels: &mut Pixels,
     glasses: &mut Vec<G>,
     sid: u32,
     call: &Call,
@@ -71,16 +71,14 @@ pub(crate) fn serve_call<G: Glass, C: Glass>(
     requires session { sid < length server.old.sessions }
     requires accepted { refusal (session_in server.old.sessions sid) call.now ≡ None }
     requires handles { (session_in server.old.sessions sid).next < 2 ^ 32 - 1 }
-    requires room { server.old.stack.most ≤ cutter.old.room }
-    requires pixels { length raw.old.items ≡ server.old.config.width * server.old.config.height }
+    requires pixels { ArePixels server.old pixels.old }
     requires glasses { length glasses.old.items ≡ length server.old.config.clients }
     requires tables { (t : ℕ) → t < length server.old.config.clients → IsGlassOf server.old t (glass_in (map G.sight glasses.old.items) t) }
     requires own { IsGlassOf server.old sid (C.sight own.old) }
     ensures served { IsServed sid call.now result server.old server.new }
-    ensures room { cutter.new.room ≡ cutter.old.room }
+    ensures pixels { ArePixels server.new pixels.new }
     ensures painted { Painted (state_of server.old) (entry.Call sid call.now result) (state_of server.new)
-        (glasses_of_call (map G.sight glasses.old.items) sid (C.sight own.old)) (glasses_of_call (map G.sight glasses.new.items) sid (C.sight own.new)) raw.old.items raw.new.items }
-    ensures count { length raw.new.items ≡ length raw.old.items }
+        (glasses_of_call (map G.sight glasses.old.items) sid (C.sight own.old)) (glasses_of_call (map G.sight glasses.new.items) sid (C.sight own.new)) pixels.old.raw.items pixels.new.raw.items }
     ensures idle { slice_index_or (map G.sight glasses.new.items) sid no_sight ≡ slice_index_or (map G.sight glasses.old.items) sid no_sight }
     ensures rest { C.rest own.new ≡ C.rest own.old }
     ensures rests { map G.rest glasses.new.items ≡ map G.rest glasses.old.items }
@@ -92,30 +90,57 @@ pub(crate) fn serve_call<G: Glass, C: Glass>(
         | Call::Back(handle)
         | Call::Above(handle, _)
         | Call::Destroy(handle) => {
-            change_view(server, cutter, raw, glasses, sid, handle, call, own)
+            change_view(server, pixels, glasses, sid, handle, call, own)
         }
-        Call::Buffer(..) => change_buffer(server, cutter, raw, glasses, sid, &None, call, own),
+        Call::Buffer(..) => change_buffer(server, pixels, glasses, sid, &None, call, own),
         Call::Refresh(x, y, w, h) => {
             let part = part(x, y, w, h);
-            change_buffer(server, cutter, raw, glasses, sid, &part, call, own)
+            change_buffer(server, pixels, glasses, sid, &part, call, own)
         }
-        Call::Close => close(server, cutter, raw, glasses, sid, own),
-        Call::View | Call::Title(..) | Call::Take | Call::Upgrade(_) => {
-            serve_clean(server, sid, call)
-        }
+        Call::Close => close(server, pixels, glasses, sid, own),
+        Call::View | Call::Title(..) => serve_clean(server, pixels, sid, call),
+        Call::Take | Call::Upgrade(_) => serve_quiet(server, pixels, sid, call),
     }
 }
 
 /// Serves an accepted call that makes no pixel dirty.
-fn serve_clean(server: &mut Server, sid: u32, call: &Call) -> Reply
+fn serve_clean(server: &mut Server, pixels: &mut Pixels, sid: u32, call: &Call) -> Reply
     requires session { sid < length server.old.sessions }
     requires accepted { refusal (session_in server.old.sessions sid) call.now ≡ None }
     requires handles { (session_in server.old.sessions sid).next < 2 ^ 32 - 1 }
     requires clean { IsClean call.now }
+    requires pixels { ArePixels server.old pixels.old }
     ensures served { IsServed sid call.now result server.old server.new }
-    ensures painted { (glasses : ℕ → Sight) (raw : List ℕ) → Painted (state_of server.old) (entry.Call sid call.now result) (state_of server.new) glasses glasses raw raw }
+    ensures pixels { ArePixels server.new pixels.new }
+    ensures raw { pixels.new.raw ≡ pixels.old.raw }
+    ensures painted { (glasses : ℕ → Sight) (raw : List ℕ)
+        → Painted (state_of server.old) (entry.Call sid call.now result) (state_of server.new)
+        glasses glasses raw raw }
 {
-    server.accept(sid, call)
+    server.facts();
+    let reply = server.accept(sid, call);
+    server.facts();
+    show_views(server.mode(), server, pixels);
+    reply
+}
+
+/// Serves an accepted call that changes nothing of what is shown.
+fn serve_quiet(server: &mut Server, pixels: &Pixels, sid: u32, call: &Call) -> Reply
+    requires session { sid < length server.old.sessions }
+    requires accepted { refusal (session_in server.old.sessions sid) call.now ≡ None }
+    requires handles { (session_in server.old.sessions sid).next < 2 ^ 32 - 1 }
+    requires quiet { IsQuiet call.now }
+    requires pixels { ArePixels server.old pixels.now }
+    ensures served { IsServed sid call.now result server.old server.new }
+    ensures pixels { ArePixels server.new pixels.now }
+    ensures painted { (glasses : ℕ → Sight) (raw : List ℕ)
+        → Painted (state_of server.old) (entry.Call sid call.now result) (state_of server.new)
+        glasses glasses raw raw }
+{
+    server.facts();
+    let reply = server.accept(sid, call);
+    server.facts();
+    reply
 }
 
 /// The part of a session's buffer.

@@ -16,6 +16,7 @@ ghost use Rattle.nit_scene.specs.Seating.{with_ended};
 ghost use Rattle.nit_scene.specs.Serving.{state_of};
 
 use crate::screen::Screen;
+use crate::screen::pixels::show_input;
 use crate::screen::sessions::kill_session;
 use crate::server::killed;
 use nit_events::{Device, Routed};
@@ -37,30 +38,21 @@ impl<G: Glass + Drop> Screen<G> {
         ensures quiet { kills (deliveries_of result) ≡ false → (self.new.raw ≡ self.old.raw) × (self.new.glasses ≡ self.old.glasses) }
     {
         kills_stand_alone();
+        self.server.facts();
+        let mode = self.server.mode();
+        let focus = self.server.focus();
         let routed = self.server.route(dev);
         if let Some(sid) = killed(&routed) {
-            self.kill(sid);
+            kill_session(
+                &mut self.server,
+                sid,
+                &mut self.pixels,
+                &mut self.glasses,
+            );
             return routed;
         }
         self.server.tell_all(&routed);
+        show_input(&self.server, mode, focus, &mut self.pixels);
         routed
-    }
-
-    /// A session is locked out: exactly the pixels that it owned are loaded again, through the glasses of the others.
-    fn kill(&mut self, sid: u32)
-        requires { sid < length self.old.serving.sessions }
-        ensures serving { self.new.serving ≡ with_ended sid status.Killed self.old.serving }
-        ensures painted { Repainted (source_at (state_of self.new.serving)) (λ k. session_owns sid (state_of self.old.serving) (pixel self.old.serving.config.width k)) (pixel_count (state_of self.old.serving))
-            (glass_in (map G.sight self.old.glasses)) (glass_in (map G.sight self.new.glasses)) self.old.raw self.new.raw }
-        ensures rests { map G.rest self.new.glasses ≡ map G.rest self.old.glasses }
-    {
-        self.server.facts();
-        kill_session(
-            &mut self.server,
-            sid,
-            &mut self.cutter,
-            &mut self.raw,
-            &mut self.glasses,
-        );
     }
 }

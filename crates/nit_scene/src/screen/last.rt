@@ -10,6 +10,7 @@ ghost use Rattle.nit_scene.specs.Serving.{IsServing, state_of};
 ghost use Rattle.nit_scene.specs.Showing.{IsGlassOf};
 
 use crate::screen::Screen;
+use crate::screen::pixels::redraw;
 use crate::server::Server;
 use nit_damage::Cutter;
 use nit_repaint::paint_whole;
@@ -27,7 +28,13 @@ impl<G: Glass + Drop> Screen<G> {
         ensures rests { map C.rest owns.new ≡ map C.rest owns.old }
     {
         self.server.facts();
-        load_whole(&self.server, &mut self.cutter, &mut self.raw, owns);
+        load_whole(
+            &self.server,
+            &mut self.pixels.cutter,
+            &mut self.pixels.raw,
+            owns,
+        );
+        redraw(&self.server, &mut self.pixels);
     }
 }
 

@@ -10,6 +10,7 @@ ghost use Rattle.nit_scene.specs.Serving.{state_of};
 ghost use Rattle.nit_scene.specs.Showing.{IsGlass};
 
 use crate::screen::Screen;
+use crate::screen::pixels::{Pixels, redraw};
 use crate::server::Server;
 use nit_config::Config;
 use nit_damage::Cutter;
@@ -37,19 +38,37 @@ impl<G: Glass + Drop> Screen<G> {
     {
         let server = Server::new(alloc, config)?;
         server.facts();
-        let raw = bare_words(alloc, config)?;
-        let cutter = Cutter::with_room(alloc, MOST_VIEWS as u32)?;
-        let labels = labels_of(alloc, config)?;
-        let places = no_places(alloc)?;
+        let mut pixels = bare_pixels(alloc, config)?;
+        redraw(&server, &mut pixels);
         Ok(Screen {
             server,
             glasses,
-            raw,
-            cutter,
-            labels,
-            places,
+            pixels,
         })
     }
+}
+
+/// The pixels of a bare screen, of which no frame is made yet.
+fn bare_pixels(alloc: Global, config: &Config) -> Result<Pixels, NoMemory>
+    requires { IsConfigured config.now }
+    ensures raw { IfOk result (λ p. p.raw.items
+        ≡ replicate (config.now.width * config.now.height) bare_word) }
+    ensures frame { IfOk result (λ p. length p.frame.items ≡ config.now.width * config.now.height) }
+    ensures named { IfOk result (λ p. p.labels.items ≡ map (λ m. m.label) config.now.clients) }
+    ensures room { IfOk result (λ p. (1024 ≤ p.cutter.room) × (1024 ≤ length p.places.items)) }
+{
+    let cutter = Cutter::with_room(alloc, MOST_VIEWS as u32)?;
+    let raw = bare_words(alloc, config)?;
+    let frame = bare_words(alloc, config)?;
+    let labels = labels_of(alloc, config)?;
+    let places = no_places(alloc)?;
+    Ok(Pixels {
+        cutter,
+        raw,
+        frame,
+        labels,
+        places,
+    })
 }
 
 /// The labels of the clients, in order.

@@ -13,11 +13,13 @@ ghost use Rattle.nit_repaint.specs.Glasses.{HoldBuffers, glasses_of_call};
 ghost use Rattle.nit_repaint.specs.Parts.{wanted};
 ghost use Rattle.nit_scene.specs.CallKinds.{IsPartOf};
 ghost use Rattle.nit_scene.specs.Dirty.{session_owns};
+ghost use Rattle.nit_scene.specs.Kept.{ArePixels, CanShowBy};
 ghost use Rattle.nit_scene.specs.Painted.{Painted, glass_in, pixel_count, source_at as scene_source_at};
 ghost use Rattle.nit_scene.specs.Seating.{with_ended};
 ghost use Rattle.nit_scene.specs.Serving.{IsServing, IsServed, state_of};
 ghost use Rattle.nit_scene.specs.Showing.{IsGlassOf};
 
+use crate::screen::pixels::{Pixels, redraw, show_part};
 use crate::screen::views::take_views_away;
 use crate::server::Server;
 use nit_damage::Cutter;
@@ -30,8 +32,7 @@ use nit_word::Glass;
 /// buffer, and loads them again.
 pub(crate) fn change_buffer<G: Glass, C: Glass>(
     server: &mut Server,
-    cutter: &mut Cutter,
-    raw: &mut Vec<u32>,
+    pixels: &mut Pixels,
     glasses: &mut Vec<G>,
     sid: u32,
     part: &Option<Rect>,
@@ -42,16 +43,14 @@ pub(crate) fn change_buffer<G: Glass, C: Glass>(
     requires accepted { refusal (session_in server.old.sessions sid) call.now ≡ None }
     requires handles { (session_in server.old.sessions sid).next < 2 ^ 32 - 1 }
     requires on { IsPartOf part.now call.now }
-    requires room { server.old.stack.most ≤ cutter.old.room }
-    requires pixels { length raw.old.items ≡ server.old.config.width * server.old.config.height }
+    requires pixels { ArePixels server.old pixels.old }
     requires glasses { length glasses.old.items ≡ length server.old.config.clients }
     requires tables { (t : ℕ) → t < length server.old.config.clients → IsGlassOf server.old t (glass_in (map G.sight glasses.old.items) t) }
     requires own { IsGlassOf server.old sid (C.sight own.old) }
     ensures served { IsServed sid call.now result server.old server.new }
-    ensures room { cutter.new.room ≡ cutter.old.room }
+    ensures pixels { ArePixels server.new pixels.new }
     ensures painted { Painted (state_of server.old) (entry.Call sid call.now result) (state_of server.new)
-        (glasses_of_call (map G.sight glasses.old.items) sid (C.sight own.old)) (glasses_of_call (map G.sight glasses.new.items) sid (C.sight own.new)) raw.old.items raw.new.items }
-    ensures count { length raw.new.items ≡ length raw.old.items }
+        (glasses_of_call (map G.sight glasses.old.items) sid (C.sight own.old)) (glasses_of_call (map G.sight glasses.new.items) sid (C.sight own.new)) pixels.old.raw.items pixels.new.raw.items }
     ensures idle { slice_index_or (map G.sight glasses.new.items) sid no_sight ≡ slice_index_or (map G.sight glasses.old.items) sid no_sight }
     ensures rest { C.rest own.new ≡ C.rest own.old }
     ensures rests { map G.rest glasses.new.items ≡ map G.rest glasses.old.items }
@@ -59,7 +58,16 @@ pub(crate) fn change_buffer<G: Glass, C: Glass>(
     server.facts();
     let reply = server.accept(sid, call);
     server.facts();
-    paint_views(server, sid, part, cutter, raw, glasses, own);
+    paint_views(
+        server,
+        sid,
+        part,
+        &mut pixels.cutter,
+        &mut pixels.raw,
+        glasses,
+        own,
+    );
+    show_part(server.mode(), server, sid, part, pixels);
     reply
 }
 
@@ -99,24 +107,21 @@ fn paint_views<G: Glass, C: Glass>(
 /// Serves a session's accepted `Close`, and loads again exactly the pixels that it owned.
 pub(crate) fn close<G: Glass, C: Glass>(
     server: &mut Server,
-    cutter: &mut Cutter,
-    raw: &mut Vec<u32>,
+    pixels: &mut Pixels,
     glasses: &mut Vec<G>,
     sid: u32,
     own: &mut C,
 ) -> Reply
     requires session { sid < length server.old.sessions }
     requires accepted { refusal (session_in server.old.sessions sid) (call.Close) ≡ None }
-    requires room { server.old.stack.most ≤ cutter.old.room }
-    requires pixels { length raw.old.items ≡ server.old.config.width * server.old.config.height }
+    requires pixels { ArePixels server.old pixels.old }
     requires glasses { length glasses.old.items ≡ length server.old.config.clients }
     requires tables { (t : ℕ) → t < length server.old.config.clients → IsGlassOf server.old t (glass_in (map G.sight glasses.old.items) t) }
     requires own { IsGlassOf server.old sid (C.sight own.old) }
     ensures served { IsServed sid (call.Close) result server.old server.new }
-    ensures room { cutter.new.room ≡ cutter.old.room }
+    ensures pixels { ArePixels server.new pixels.new }
     ensures painted { Painted (state_of server.old) (entry.Call sid (call.Close) result) (state_of server.new)
-        (glasses_of_call (map G.sight glasses.old.items) sid (C.sight own.old)) (glasses_of_call (map G.sight glasses.new.items) sid (C.sight own.new)) raw.old.items raw.new.items }
-    ensures count { length raw.new.items ≡ length raw.old.items }
+        (glasses_of_call (map G.sight glasses.old.items) sid (C.sight own.old)) (glasses_of_call (map G.sight glasses.new.items) sid (C.sight own.new)) pixels.old.raw.items pixels.new.raw.items }
     ensures idle { slice_index_or (map G.sight glasses.new.items) sid no_sight ≡ slice_index_or (map G.sight glasses.old.items) sid no_sight }
     ensures rest { C.rest own.new ≡ C.rest own.old }
     ensures rests { map G.rest glasses.new.items ≡ map G.rest glasses.old.items }
@@ -126,12 +131,13 @@ pub(crate) fn close<G: Glass, C: Glass>(
         server,
         sid,
         Status::Closed,
-        cutter,
-        raw,
+        &mut pixels.cutter,
+        &mut pixels.raw,
         glasses,
         sid,
         own,
     );
+    redraw(server, pixels);
     Reply::Done
 }
 
@@ -139,20 +145,17 @@ pub(crate) fn close<G: Glass, C: Glass>(
 pub(crate) fn kill_session<G: Glass>(
     server: &mut Server,
     of: u32,
-    cutter: &mut Cutter,
-    raw: &mut Vec<u32>,
+    pixels: &mut Pixels,
     glasses: &mut Vec<G>,
 )
     requires session { of < length server.old.sessions }
-    requires room { server.old.stack.most ≤ cutter.old.room }
-    requires pixels { length raw.old.items ≡ server.old.config.width * server.old.config.height }
+    requires can { CanShowBy server.old pixels.old }
     requires glasses { length glasses.old.items ≡ length server.old.config.clients }
     requires tables { (t : ℕ) → t < length server.old.config.clients → IsGlassOf server.old t (glass_in (map G.sight glasses.old.items) t) }
     ensures server { server.new ≡ with_ended of status.Killed server.old }
-    ensures room { cutter.new.room ≡ cutter.old.room }
+    ensures pixels { ArePixels server.new pixels.new }
     ensures painted { Repainted (scene_source_at (state_of server.new)) (λ k. session_owns of (state_of server.old) (pixel server.old.config.width k)) (pixel_count (state_of server.old))
-        (glass_in (map G.sight glasses.old.items)) (glass_in (map G.sight glasses.new.items)) raw.old.items raw.new.items }
-    ensures count { length raw.new.items ≡ length raw.old.items }
+        (glass_in (map G.sight glasses.old.items)) (glass_in (map G.sight glasses.new.items)) pixels.old.raw.items pixels.new.raw.items }
     ensures rests { map G.rest glasses.new.items ≡ map G.rest glasses.old.items }
 {
     server.facts();
@@ -161,12 +164,13 @@ pub(crate) fn kill_session<G: Glass>(
         server,
         of,
         Status::Killed,
-        cutter,
-        raw,
+        &mut pixels.cutter,
+        &mut pixels.raw,
         glasses,
         nobody,
         &mut Nobody,
     );
+    redraw(server, pixels);
 }
 
 /// Ends a session that has views, in this way, and loads again exactly the pixels that it owned.

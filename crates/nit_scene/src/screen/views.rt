@@ -14,11 +14,13 @@ ghost use Rattle.nit_repaint.specs.OneView.{IsChange, slot_owns_either};
 ghost use Rattle.nit_repaint.specs.Owned.{owner_passes};
 ghost use Rattle.nit_repaint.specs.Uncovered.{IsTaken, uncovered, without_session};
 ghost use Rattle.nit_scene.specs.CallKinds.{IsOn};
+ghost use Rattle.nit_scene.specs.Kept.{ArePixels};
 ghost use Rattle.nit_scene.specs.Painted.{Painted, glass_in};
 ghost use Rattle.nit_scene.specs.Seating.{without_views};
 ghost use Rattle.nit_scene.specs.Serving.{IsServed, state_of};
 ghost use Rattle.nit_scene.specs.Showing.{IsGlassOf};
 
+use crate::screen::pixels::{Pixels, show_view};
 use crate::server::Server;
 use nit_damage::Cutter;
 use nit_events::{Call, Reply};
@@ -31,8 +33,7 @@ use nit_word::Glass;
 /// Serves an accepted call on a view that stands in this slot, and loads again what the view owned before or owns after.
 pub(crate) fn change_view<G: Glass, C: Glass>(
     server: &mut Server,
-    cutter: &mut Cutter,
-    raw: &mut Vec<u32>,
+    pixels: &mut Pixels,
     glasses: &mut Vec<G>,
     sid: u32,
     handle: u32,
@@ -43,16 +44,14 @@ pub(crate) fn change_view<G: Glass, C: Glass>(
     requires accepted { refusal (session_in server.old.sessions sid) call.now ≡ None }
     requires handles { (session_in server.old.sessions sid).next < 2 ^ 32 - 1 }
     requires on { IsOn handle call.now }
-    requires room { server.old.stack.most ≤ cutter.old.room }
-    requires pixels { length raw.old.items ≡ server.old.config.width * server.old.config.height }
+    requires pixels { ArePixels server.old pixels.old }
     requires glasses { length glasses.old.items ≡ length server.old.config.clients }
     requires tables { (t : ℕ) → t < length server.old.config.clients → IsGlassOf server.old t (glass_in (map G.sight glasses.old.items) t) }
     requires own { IsGlassOf server.old sid (C.sight own.old) }
     ensures served { IsServed sid call.now result server.old server.new }
-    ensures room { cutter.new.room ≡ cutter.old.room }
+    ensures pixels { ArePixels server.new pixels.new }
     ensures painted { Painted (state_of server.old) (entry.Call sid call.now result) (state_of server.new)
-        (glasses_of_call (map G.sight glasses.old.items) sid (C.sight own.old)) (glasses_of_call (map G.sight glasses.new.items) sid (C.sight own.new)) raw.old.items raw.new.items }
-    ensures count { length raw.new.items ≡ length raw.old.items }
+        (glasses_of_call (map G.sight glasses.old.items) sid (C.sight own.old)) (glasses_of_call (map G.sight glasses.new.items) sid (C.sight own.new)) pixels.old.raw.items pixels.new.raw.items }
     ensures idle { slice_index_or (map G.sight glasses.new.items) sid no_sight ≡ slice_index_or (map G.sight glasses.old.items) sid no_sight }
     ensures rest { C.rest own.new ≡ C.rest own.old }
     ensures rests { map G.rest glasses.new.items ≡ map G.rest glasses.old.items }
@@ -62,7 +61,18 @@ pub(crate) fn change_view<G: Glass, C: Glass>(
     let (place, rect) = stood(server, v);
     let reply = server.accept(sid, call);
     server.facts();
-    paint_change(server, v, place, rect, cutter, raw, glasses, sid, own);
+    paint_change(
+        server,
+        v,
+        place,
+        rect,
+        &mut pixels.cutter,
+        &mut pixels.raw,
+        glasses,
+        sid,
+        own,
+    );
+    show_view(server.mode(), server, v, place, rect, pixels);
     reply
 }
 

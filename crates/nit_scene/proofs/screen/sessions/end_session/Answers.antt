@@ -1,4 +1,4 @@
-use Rattle.std.proofs.Common.{◌≡◌, ◌*◌, ◌≤◌, length, sym, ◌∙◌, arith}
+use Rattle.std.proofs.Common.{◌*◌, sym, ◌∙◌, arith}
 use Rattle.nit_scene.proofs.Changed.{ended_painted, ended_server, few_views}
 use Rattle.nit_scene.proofs.screen.sessions.end_session.Goals as goal
 

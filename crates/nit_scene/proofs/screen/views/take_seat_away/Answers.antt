@@ -1,4 +1,4 @@
-use Rattle.std.proofs.Common.{◌≡◌, ℕ, refl, ap, sym, ◌∙◌, subst}
+use Rattle.std.proofs.Common.{ℕ, refl, ap, sym, ◌∙◌, subst}
 use Rattle.nit_stack.specs.Names.{IsNamedBy}
 use Rattle.nit_stack.specs.Sources.{pixel}
 use Rattle.nit_repaint.specs.OneView.{IsChange}
