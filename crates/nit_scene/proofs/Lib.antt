@@ -4,7 +4,6 @@ pub mod Clean
 pub mod Comings
 pub mod Counting
 pub mod Firsts
-pub mod Glasses
 pub mod Goings
 pub mod Handles
 pub mod Inputs
@@ -14,6 +13,7 @@ pub mod Lists
 pub mod Loads
 pub mod Losing
 pub mod Meant
+mod Changed
 pub mod Members
 pub mod Names
 pub mod OneSession
@@ -29,3 +29,5 @@ pub mod Sizes
 pub mod Stacks
 pub mod Stepping
 pub mod Beginning
+pub mod Marks
+pub mod Keeps

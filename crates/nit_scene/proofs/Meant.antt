@@ -21,11 +21,10 @@ use Rattle.nit_journal.specs.Session.{opened, refusal}
 use Rattle.nit_journal.specs.State.{State, buffer_size, layer, session}
 use Rattle.nit_journal.specs.Views.{is_accepted}
 use Rattle.nit_paint.specs.Pieces as pieces
-use Rattle.nit_scene.specs.Dirty.{dirty_by_call, is_word_in, owns_either, session_owns, shows_part, view_owns}
-use Rattle.nit_scene.specs.declared.marks.Mark.{Mark}
-use Rattle.nit_scene.specs.declared.marks.Mark.TheVariants as mark
-use Rattle.nit_scene.specs.Marks.{is_meant, owner_passes, source_in}
-use Rattle.nit_scene.specs.Marking.{IsMarkOf, IsMarkOfView}
+use Rattle.nit_scene.specs.Dirty.{dirty_by_call, owns_either, session_owns, shows_part, view_owns}
+use Rattle.nit_repaint.specs.Owned.{is_word_in, owner_passes, source_in}
+use Rattle.nit_scene.proofs.Marks.{Mark, OfSession, OfPart, is_meant}
+use Rattle.nit_scene.proofs.Marks.{IsMarkOf, IsMarkOfView}
 use Rattle.nit_scene.specs.Painted.{source_at}
 use Rattle.nit_scene.specs.Serving.{IsServed, IsServing, Serving, size_of_buffer, state_of}
 use Rattle.nit_scene.proofs.Calls.{stack_accepted}
@@ -53,7 +52,7 @@ pub session_meant : (s : Serving) → IsServing s → (sid : ℕ) (p : Point) �
 session_meant s h sid p =
     owner_of_session sid s.stack.bar s.stack.views p ∙ ap (λ rows. option_map_or (is_session sid) (owner rows (views_of s.stack.views) p) false) h.screen.2
 
-part_meant : (s : Serving) → IsServing s → (sid : ℕ) (part : Rectangle) (p : Point) → is_meant (mark.Part sid part) s.stack p ≡ shows_part sid part (state_of s) p
+pub part_meant : (s : Serving) → IsServing s → (sid : ℕ) (part : Rectangle) (p : Point) → is_meant (OfPart sid part) s.stack p ≡ shows_part sid part (state_of s) p
 part_meant s h sid part p = λ i. is_word_in sid (size_at s h sid i).w part (source_same s h p i)
 
 -- ---- before and after
@@ -98,10 +97,10 @@ module _ (before after' : Serving) (hb : IsServing before) (ha : IsServing after
       let same_after = view_meant after' ha k sid handle (kept k h.2) p in
       ap either (one h.1) ∙ (λ i. same_before i || same_after i)
 
-  by_session : (m : Mark) → Some m ≡ Some (mark.Session sid) → either m ≡ (session_owns sid (state_of before) p || session_owns sid (state_of after') p)
+  by_session : (m : Mark) → Some m ≡ Some (OfSession sid) → either m ≡ (session_owns sid (state_of before) p || session_owns sid (state_of after') p)
   by_session m e = ap either (one e) ∙ (λ i. session_meant before hb sid p i || session_meant after' ha sid p i)
 
-  by_part : (part : Rectangle) (m : Mark) → Some m ≡ Some (mark.Part sid part) → either m ≡ (shows_part sid part (state_of before) p || shows_part sid part (state_of after') p)
+  by_part : (part : Rectangle) (m : Mark) → Some m ≡ Some (OfPart sid part) → either m ≡ (shows_part sid part (state_of before) p || shows_part sid part (state_of after') p)
   by_part part m e = ap either (one e) ∙ (λ i. part_meant before hb sid part p i || part_meant after' ha sid part p i)
 
   -- the pixels of the marks, before or after, are those that the call makes dirty

@@ -1,5 +1,5 @@
 -- What a call does to a screen.
-use Rattle.std.proofs.Common.{◌≡◌, ℕ, ◌*◌, ◌<◌, ◌≤◌, ◌==◌, Bool, true, false, cond, ◌&&◌, ◌||◌, List, length, slice_index_or, Some, None, refl, ap, sym, subst, ◌∙◌}
+use Rattle.std.proofs.Common.{◌≡◌, ℕ, ◌*◌, ◌<◌, ◌≤◌, ◌==◌, Bool, true, false, cond, ◌&&◌, List, length, slice_index_or, None, refl, ap, sym, subst, ◌∙◌}
 use Rattle.std.proofs.lemmas.Bool.{eqb-true}
 use Rattle.std.proofs.lemmas.List.{length-map}
 use Rattle.nit_rect.specs.declared.point.Point.{Point}
@@ -11,21 +11,18 @@ use Rattle.nit_events.specs.declared.entry.Entry.TheVariants as entry
 use Rattle.nit_stack.specs.Answers.{word_count}
 use Rattle.nit_stack.specs.Sources.{pixel}
 use Rattle.nit_config.specs.Configuration.{Configuration}
-use Rattle.nit_journal.specs.Session.{refusal}
-use Rattle.nit_journal.specs.State.{State, session, session_in}
+use Rattle.nit_journal.specs.State.{State, session_in}
 use Rattle.nit_journal.specs.Views.{is_accepted}
 use Rattle.nit_paint.specs.Painting.{Repainted, no_sight}
 use Rattle.nit_paint.proofs.Repaints.{repainted_none, repainted_same}
 use Rattle.nit_paint.specs.Pieces as pieces
 use Rattle.nit_scene.specs.Dirty.{dirty, dirty_by_call}
-use Rattle.nit_scene.specs.declared.marks.Mark.{Mark}
-use Rattle.nit_scene.specs.Marks.{HoldBuffers, glasses_of_call, is_meant, mark_at}
-use Rattle.nit_scene.specs.Marking.{IsMarkOf}
+use Rattle.nit_repaint.specs.Glasses.{HoldBuffers, glasses_of_call}
+use Rattle.nit_scene.proofs.Marks.{IsMarkOf}
 use Rattle.nit_scene.specs.Painted.{Painted, glass_in, pixel_count, source_at}
 use Rattle.nit_scene.specs.Serving.{IsServed, IsServing, Serving, size_of_buffer, state_of, table_words}
 use Rattle.nit_scene.specs.Showing.{IsGlassOf}
-use Rattle.nit_scene.proofs.Meant.{meant, size_at, source_of_number, unmeant}
-use Rattle.nit_scene.proofs.Refused.{accepted_reply}
+use Rattle.nit_scene.proofs.Meant.{size_at, source_of_number, unmeant}
 
 -- an entry that makes nothing dirty
 pub unpainted : (s : State) (e : Entry) (s' : State) (glasses : ℕ → Sight) (raw : List ℕ) → ((p : Point) → dirty s e s' p ≡ false) → Painted s e s' glasses glasses raw raw
@@ -40,31 +37,6 @@ right_fails false b e = refl
 
 pub unmarked_clean : (s : Serving) (before after' : State) (sid : ℕ) (call : Call) (r : Reply) (p : Point) → IsMarkOf s sid call None → dirty before (entry.Call sid call r) after' p ≡ false
 unmarked_clean s before after' sid call r p is = right_fails (is_accepted r) _ (unmeant s sid call is before after' p)
-
--- the marks of a call, and the words that they have loaded, are those of the entry
-pub painted_by_marks : (before after' : Serving) (sid : ℕ) (call : Call) (r : Reply) (m : Mark) (old once twice : List Bool) (n : ℕ) (glasses glasses' : ℕ → Sight) (raw raw' : List ℕ)
-    → IsServing before → IsServing after' → refusal (session (state_of before) sid) call ≡ None → IsServed sid call r before after' → IsMarkOf before sid call (Some m)
-    → n ≡ pixel_count (state_of before)
-    → ((k : ℕ) → k < n → mark_at once k ≡ ((false && mark_at old k) || is_meant m before.stack (pixel before.stack.width k)))
-    → ((k : ℕ) → k < n → mark_at twice k ≡ ((true && mark_at once k) || is_meant m after'.stack (pixel after'.stack.width k)))
-    → Repainted (pieces.source_at after'.stack) (mark_at twice) n glasses glasses' raw raw'
-    → Painted (state_of before) (entry.Call sid call r) (state_of after') glasses glasses' raw raw'
-painted_by_marks before after' sid call r m old once twice n glasses glasses' raw raw' hb ha none s is count first second painted =
-    subst (λ (c : ℕ). Repainted (source_at (state_of after')) (λ k. dirty (state_of before) (entry.Call sid call r) (state_of after') (pixel before.config.width k)) c glasses glasses' raw raw') count
-    (repainted_same _ _ _ _ n glasses glasses glasses' glasses' raw raw' marks (λ k l m. source_of_number after' ha k) (λ t. refl) (λ t. refl) painted)
-  where
-    accepted_ : is_accepted r ≡ true
-    accepted_ = ap is_accepted s.replied ∙ accepted_reply (session (state_of before) sid) call none
-
-    width_ : after'.stack.width ≡ before.config.width
-    width_ = ha.screen.0 ∙ ap (λ (t : State). t.config.width) s.state
-
-    marks : (k : ℕ) → k < n → mark_at twice k ≡ dirty (state_of before) (entry.Call sid call r) (state_of after') (pixel before.config.width k)
-    marks k l =
-        second k l
-        ∙ (λ i. (first k l ∙ ap (λ w. is_meant m before.stack (pixel w k)) hb.screen.0) i || is_meant m after'.stack (pixel (width_ i) k))
-        ∙ meant before after' hb ha sid (pixel before.config.width k) call r m none s is
-        ∙ sym (ap (λ (b : Bool). b && dirty_by_call sid call (state_of before) (state_of after') (pixel before.config.width k)) accepted_)
 
 -- ---- the glasses
 

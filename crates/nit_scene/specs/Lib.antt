@@ -2,6 +2,8 @@ pub use Rattle.nit_word.specs.Sight
 pub use Rattle.nit_events.specs.Input
 pub use Rattle.nit_events.specs.Ranges
 pub use Rattle.nit_paint.specs.Painting
+pub use Rattle.nit_repaint.specs.Glasses
+pub use Rattle.nit_repaint.specs.Owned
 pub use Rattle.nit_stack.specs.Standing
 pub use Rattle.nit_journal.specs.Session
 pub use Rattle.nit_journal.specs.State
@@ -11,12 +13,12 @@ pub mod Dirty
 pub mod Painted
 pub mod Named
 pub mod Membership
-pub mod Marks
 pub mod Serving
 pub mod Attending
-pub mod Marking
 pub mod Showing
 pub mod Played
 pub mod Seating
 pub mod Opened
 pub mod Labelled
+pub mod CallKinds
+pub mod Kept

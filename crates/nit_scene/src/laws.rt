@@ -1,6 +1,15 @@
 //! Laws of the pixels that an entry does not make dirty, and of the names of views.
 
-ghost use Rattle.std.specs.Prelude.{◌≡◌, ℕ, List, false};
+ghost use Rattle.std.specs.Prelude.{◌≡◌, ℕ, List, None, Some, false};
+ghost use Rattle.nit_events.specs.declared.call.Call.{Call};
+ghost use Rattle.nit_events.specs.declared.call.Reply.{Reply};
+ghost use Rattle.nit_journal.specs.Session.{refusal};
+ghost use Rattle.nit_journal.specs.State.{session};
+ghost use Rattle.nit_stack.specs.Names.{IsNamedBy};
+ghost use Rattle.nit_stack.specs.Standing.{Seat, place_of, seat_in};
+ghost use Rattle.nit_repaint.specs.OneView.{IsChange};
+ghost use Rattle.nit_scene.specs.CallKinds.{IsOn};
+ghost use Rattle.nit_scene.specs.Serving.{IsServed, IsServing, Serving, state_of};
 ghost use Rattle.nit_rect.specs.declared.point.Point.{Point};
 ghost use Rattle.nit_word.specs.Sight.{Sight};
 ghost use Rattle.nit_events.specs.declared.entry.Entry.{Entry};
@@ -47,4 +56,11 @@ pub fn names_stay_own()
     ensures new { (s : State) (taken : ℕ) (e : Entry) → AreBelowNext s → Agrees s taken e → IsNewlyNamed e s.stack }
     ensures below { (s : State) (taken : ℕ) (e : Entry) → AreBelowNext s → Agrees s taken e → AreBelowNext (after s e) }
     ensures legal { (config : Configuration) (journal : List Entry) → IsLegal config journal → HaveOwnNames (replay config journal).stack × AreBelowNext (replay config journal) }
+{}
+
+/// An accepted call on a view is a change of the view in its slot.
+pub(crate) fn calls_change_one_view()
+    ensures { (before after' : Serving) (sid handle k : ℕ) (call : Call) (r : Reply) (seat : Seat) → IsServing before → IsServing after' → refusal (session (state_of before) sid) call ≡ None
+        → IsServed sid call r before after' → IsOn handle call → IsNamedBy k sid handle before.stack.views → seat_in k before.stack.views ≡ Some seat
+        → IsChange k (place_of k before.stack.views) seat.view.rect before.stack after'.stack }
 {}

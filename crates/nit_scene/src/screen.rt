@@ -1,105 +1,64 @@
 //! The screen with all that it shows.
 
-ghost use Rattle.std.specs.Prelude.{◌≡◌, ℕ, ◌-◌, ◌*◌, ◌^◌, ◌<◌, false, length, map};
-ghost use Rattle.nit_events.specs.declared.entry.Entry.TheVariants as entry;
-ghost use Rattle.nit_journal.specs.Session.{serve};
-ghost use Rattle.nit_journal.specs.Views.{is_accepted};
-ghost use Rattle.nit_journal.specs.State.{after, session, session_in};
-ghost use Rattle.nit_scene.specs.Marks.{glasses_of_call};
-ghost use Rattle.nit_scene.specs.Painted.{Painted, glass_in};
-ghost use Rattle.nit_scene.specs.Serving.{IsServing, state_of};
+ghost use Rattle.std.specs.Prelude.{◌≡◌, ◌<◌, All, length, ℕ, ◌*◌, map};
+ghost use Rattle.nit_word.specs.Inks.{IsWord};
+ghost use Rattle.nit_scene.specs.Painted.{glass_in};
+ghost use Rattle.nit_scene.specs.Serving.{IsServing};
 ghost use Rattle.nit_scene.specs.Showing.{IsGlassOf};
 
-use crate::loading::{repaint_all, repaint_whole};
-use crate::marking::mark_of;
-use crate::marks::mark_all;
+mod calls;
+mod frames;
+mod input;
+mod labels;
+mod last;
+mod opening;
+mod pixels;
+mod sessions;
+mod views;
+
+use crate::screen::pixels::Pixels;
 use crate::server::Server;
-use nit_events::{Call, Reply};
-use nit_glyph::Label;
-use nit_rect::Point;
 use nit_word::Glass;
 use std::marker::Model;
 
-/// The server with the words that its screen shows.
+/// The server with the words that its screen shows, and the glasses of the sessions.
 #[derive(Drop)]
 pub(crate) struct Screen<G: Glass + Drop> {
     pub(crate) server: Server,
     pub(crate) glasses: Vec<G>,
-    pub(crate) raw: Vec<u32>,
-    pub(crate) marks: Vec<bool>,
-    pub(crate) labels: Vec<Label>,
-    pub(crate) places: Vec<Option<Point>>,
+    pub(crate) pixels: Pixels,
 }
 
 impl<G: Glass + Drop> Model for Screen<G> {
-    ghost use Rattle.std.specs.Prelude.{length, map};
+    ghost use Rattle.std.specs.Prelude.{map};
     ghost use Rattle.nit_scene.specs.Showing.{IsScreen, Showing};
 
     ghost Value = { Showing G };
 
-    ghost view = { λ s. record { serving = s.server; raw = s.raw.items; glasses = s.glasses.items } };
+    ghost view = { λ s. record { serving = s.server; raw = s.pixels.raw.items; glasses = s.glasses.items } };
 
-    ghost invariant = { λ s. IsScreen s.server (map G.sight s.glasses.items) s.raw.items s.marks.items s.labels.items (length s.places.items) };
+    ghost invariant = { λ s. IsScreen s.server (map G.sight s.glasses.items) s.pixels };
 }
 
 impl<G: Glass + Drop> Screen<G> {
-    /// Serves a call of a session: exactly the pixels that it makes dirty are loaded again.
-    pub(crate) fn call<C: Glass>(&mut self, sid: u32, call: &Call, own: &mut C) -> Reply
-        requires session { sid < length self.old.serving.sessions }
-        requires handles { (session_in self.old.serving.sessions sid).next < 2 ^ 32 - 1 }
-        requires own { IsGlassOf self.old.serving sid (C.sight own.old) }
-        ensures reply { result ≡ (serve (session (state_of self.old.serving) sid) call.now).reply }
-        ensures state { state_of self.new.serving ≡ after (state_of self.old.serving) (entry.Call sid call.now result) }
-        ensures painted { Painted (state_of self.old.serving) (entry.Call sid call.now result) (state_of self.new.serving)
-            (glasses_of_call (map G.sight self.old.glasses) sid (C.sight own.old)) (glasses_of_call (map G.sight self.new.glasses) sid (C.sight own.new)) self.old.raw self.new.raw }
-        ensures idle { glass_in (map G.sight self.new.glasses) sid ≡ glass_in (map G.sight self.old.glasses) sid }
-        ensures rest { C.rest own.new ≡ C.rest own.old }
-        ensures rests { map G.rest self.new.glasses ≡ map G.rest self.old.glasses }
-        ensures refused { is_accepted result ≡ false
-            → (self.new.raw ≡ self.old.raw) × (self.new.glasses ≡ self.old.glasses) × (C.sight own.new ≡ C.sight own.old) }
-    {
-        if let Some(reply) = self.server.refused(sid, call) {
-            return reply;
-        }
-        let Some(mark) = mark_of(&self.server, sid, call) else {
-            return self.server.accept(sid, call);
-        };
-        mark_all(&self.server, &mark, false, &mut self.marks);
-        let reply = self.server.accept(sid, call);
-        mark_all(&self.server, &mark, true, &mut self.marks);
-        repaint_all(
-            &self.server,
-            &self.marks,
-            &mut self.raw,
-            &mut self.glasses,
-            sid,
-            own,
-        );
-        reply
-    }
-
-    /// Loads every pixel again by these glasses, one for each session.
-    pub(crate) fn load_all<C: Glass>(&mut self, owns: &mut [C])
-        requires owns { length owns.old ≡ length self.old.serving.config.clients }
-        requires tables { (t : ℕ) → t < length self.old.serving.config.clients → IsGlassOf self.old.serving t (glass_in (map C.sight owns.old) t) }
-        ensures serving { self.new.serving ≡ self.old.serving }
-        ensures glasses { self.new.glasses ≡ self.old.glasses }
-        ensures painted { Painted (state_of self.old.serving) entry.Final (state_of self.new.serving)
-            (glass_in (map C.sight owns.old)) (glass_in (map C.sight owns.new)) self.old.raw self.new.raw }
-        ensures rests { map C.rest owns.new ≡ map C.rest owns.old }
+    /// The server.
+    pub(crate) fn server(&self) -> &Server
+        ensures server { result.now ≡ self.now.serving }
+        ensures facts { IsServing self.now.serving }
     {
         self.server.facts();
-        repaint_whole(&self.server, &mut self.raw, owns);
+        &self.server
     }
 
     /// What holds of the server.
     pub(crate) fn facts(&self)
         ensures serving { IsServing self.now.serving }
+        ensures words { All IsWord self.now.raw }
         ensures pixels { length self.now.raw ≡ self.now.serving.config.width * self.now.serving.config.height }
         ensures glasses { length self.now.glasses ≡ length self.now.serving.config.clients }
         ensures tables { (t : ℕ) → t < length self.now.serving.config.clients → IsGlassOf self.now.serving t (glass_in (map G.sight self.now.glasses) t) }
     {
-        let _ = &self.raw;
+        let _ = &self.pixels;
         self.server.facts();
     }
 }

@@ -1,0 +1,10 @@
+pub mod Screen
+pub mod Glasses
+pub mod Coming
+pub mod Fronts
+pub mod Owning
+pub mod Uncovered
+pub mod Moves
+pub mod Wanted
+pub mod Parts
+pub mod Copied

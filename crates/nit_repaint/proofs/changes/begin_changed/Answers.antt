@@ -1,0 +1,46 @@
+use Rattle.std.proofs.Common.{◌≡◌, false, refl, ap, ◌∙◌, arith}
+use Rattle.std.specs.List.{list_any}
+use Rattle.nit_stack.specs.Standing.{is_slot}
+use Rattle.nit_stack.proofs.Lists.{found_some}
+use Rattle.nit_damage.specs.Sets.{once}
+use Rattle.nit_repaint.proofs.Owning.{fallen_owns, gone_owns, moved_owns}
+use Rattle.nit_repaint.proofs.Fronts.{stands_nowhere, stands_there}
+use Rattle.nit_repaint.proofs.changes.begin_changed.Goals as goal
+
+pub returns-then-len-now-clause-to_come : goal.returns-then-len-now-clause-to_come
+returns-then-len-now-clause-to_come c before change p on =
+    let s = c.args.stack.now in
+    let e = c.place_of-now.ensures.place in
+    let n = c.len.ensures.count in
+    let t = c.if-len-now.true in
+    let none : list_any (is_slot c.args.v.0) s.views ≡ false = stands_nowhere (is_slot c.args.v.0) s.views (omega (arith, e, n, t)) in
+    c.begin_behind.ensures.to_come p on ∙ ap once (gone_owns c.args.v.0 c.args.place c.args.rect before s p change none)
+
+pub returns-then-place-now-clause-to_come : goal.returns-then-place-now-clause-to_come
+returns-then-place-now-clause-to_come c before change p on =
+    let s = c.args.stack.now in
+    let e = c.place_of-now.ensures.place in
+    let n = c.len.ensures.count in
+    let t = c.if-len-now.false in
+    let u = c.if-place-now.true in
+    let there = found_some (is_slot c.args.v.0) s.views (stands_there (is_slot c.args.v.0) s.views (omega (arith, e, n, t))) in
+    c.begin_behind-then-place-now.ensures.to_come p on
+    ∙ ap once (fallen_owns c.args.v.0 c.args.place c.args.rect before s p change there.0 c.len.ensures.standing.slots there.1 (omega (arith, e, u)))
+
+pub begin_moved-requires-clause-view : goal.begin_moved-requires-clause-view
+begin_moved-requires-clause-view c =
+    let e = c.place_of-now.ensures.place in
+    let n = c.len.ensures.count in
+    let t = c.if-len-now.false in
+    stands_there (is_slot c.args.v.0) c.args.stack.now.views (omega (arith, e, n, t))
+
+pub returns-clause-to_come : goal.returns-clause-to_come
+returns-clause-to_come c before change p on =
+    let s = c.args.stack.now in
+    let e = c.place_of-now.ensures.place in
+    let n = c.len.ensures.count in
+    let t = c.if-len-now.false in
+    let u = c.if-place-now.false in
+    let there = found_some (is_slot c.args.v.0) s.views (stands_there (is_slot c.args.v.0) s.views (omega (arith, e, n, t))) in
+    c.begin_moved.ensures.to_come p on
+    ∙ ap once (moved_owns c.args.v.0 c.args.place c.args.rect before s p change c.args.v there.0 refl c.len.ensures.standing.slots there.1 (omega (arith, e, u)))

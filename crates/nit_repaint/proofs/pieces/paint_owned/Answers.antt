@@ -1,0 +1,14 @@
+use Rattle.std.proofs.Common.{map}
+use Rattle.nit_repaint.specs.Glasses.{glasses_of_call}
+use Rattle.nit_repaint.proofs.Glasses.{held_words, shown_session}
+use Rattle.nit_repaint.proofs.pieces.paint_owned.Goals as goal
+
+pub paint_shown-requires-clause-session : goal.paint_shown-requires-clause-session
+paint_shown-requires-clause-session g c = shown_session c.args.stack.now c.args.piece.now c.args.v _ c.requires.owner c.session_of-session.ensures.session
+
+pub paint_shown-requires-clause-glass : goal.paint_shown-requires-clause-glass
+paint_shown-requires-clause-glass g c = (c.requires.held c.session_of-session.result c.session_of-session.ensures.within).0
+
+pub paint_shown-requires-clause-words : goal.paint_shown-requires-clause-words
+paint_shown-requires-clause-words g c =
+    held_words c.args.stack.now c.args.piece.now c.args.v c.session_of-session.result _ (glasses_of_call (map g.G.Glass.sight c.args.glasses.now) c.args.sid (g.C.Glass.sight c.args.own.now)) c.requires.owner c.session_of-session.ensures.session c.session_of-session.ensures.within c.requires.held

@@ -1,0 +1,48 @@
+//! Loading by one list of glasses alone, where no session calls.
+
+ghost use Rattle.std.specs.Prelude.{◌≡◌, ◌*◌, ◌≤◌, length, map, true};
+ghost use Rattle.nit_paint.specs.Painting.{Repainted};
+ghost use Rattle.nit_paint.specs.Pieces.{source_at};
+ghost use Rattle.nit_repaint.specs.Glasses.{HoldBuffers, glass_in};
+
+use crate::pieces::paint_to_come;
+use nit_damage::Cutter;
+use nit_stack::Stack;
+use nit_word::Glass;
+use std::marker::Model;
+
+/// The glass of no session. It has no words, so that nothing is ever loaded through it.
+#[derive(Drop)]
+pub struct Nobody;
+
+impl Glass for Nobody {
+    ghost use Rattle.nit_paint.specs.Painting.{no_sight};
+
+    type Rest = ();
+
+    ghost sight = { λ g. no_sight };
+
+    ghost rest = { λ g. tt };
+
+    fn load(&mut self, i: usize) -> u32 {
+        unreachable!()
+    }
+}
+
+/// Loads all pixels of the screen again, each through its session's glass of this list. It has one
+/// for each session, and at most 16.
+pub fn paint_whole<C: Glass>(cutter: &mut Cutter, stack: &Stack, raw: &mut [u32], owns: &mut [C])
+    requires room { length stack.now.views ≤ cutter.old.room }
+    requires pixels { length raw.old ≡ stack.now.width * stack.now.height }
+    requires few { length owns.old ≤ 16 }
+    requires held { HoldBuffers stack.now (length owns.old) (glass_in (map C.sight owns.old)) }
+    ensures room { cutter.new.room ≡ cutter.old.room }
+    ensures painted { Repainted (source_at stack.now) (λ k. true) (length raw.old)
+        (glass_in (map C.sight owns.old)) (glass_in (map C.sight owns.new)) raw.old raw.new }
+    ensures count { length raw.new ≡ length raw.old }
+    ensures rests { map C.rest owns.new ≡ map C.rest owns.old }
+{
+    cutter.begin_all(stack);
+    let nobody = owns.len() as u32;
+    paint_to_come(cutter, stack, raw, owns, nobody, &mut Nobody);
+}

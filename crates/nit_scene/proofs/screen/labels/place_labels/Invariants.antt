@@ -1,0 +1,6 @@
+use Rattle.std.proofs.Common.{length}
+use Rattle.nit_scene.proofs.Labelled.{LabelledSoFar}
+use Rattle.nit_scene.proofs.screen.labels.place_labels.Given as goal
+
+abbrev pub invariant-views : goal.invariant-views
+invariant-views l = LabelledSoFar l.stack l.labels l.i (length l.initial.places) l.places

@@ -1,0 +1,32 @@
+use Rattle.std.proofs.Common.{length, map, refl, sym, ap, subst}
+use Rattle.nit_events.specs.declared.call.Call.TheVariants as call
+use Rattle.nit_events.specs.declared.call.Reply.TheVariants as reply
+use Rattle.nit_scene.specs.Serving.{IsServed, Serving}
+use Rattle.nit_paint.proofs.Repaints.{repainted_words}
+use Rattle.nit_scene.proofs.Changed.{close_painted}
+use Rattle.nit_scene.proofs.Goings.{closed}
+use Rattle.nit_scene.proofs.Keeps.{can_still}
+use Rattle.nit_scene.proofs.Screens.{held_by_glasses}
+use Rattle.nit_scene.proofs.screen.sessions.close.Goals as goal
+
+pub end_session-requires-clause-held : goal.end_session-requires-clause-held
+end_session-requires-clause-held g c =
+    let gs = c.args.glasses.now.items in
+    held_by_glasses c.args.server.now c.args.server.now (map g.G.Glass.sight gs) (length gs) c.args.sid (g.C.Glass.sight c.args.own.now) c.facts.ensures refl c.requires.glasses c.requires.tables c.requires.own
+
+pub returns-clause-served : goal.returns-clause-served
+returns-clause-served g c =
+    subst (λ (s : Serving). IsServed c.args.sid (call.Close) reply.Done c.args.server.now s) (sym c.end_session.ensures.server) (closed c.args.server.now c.args.sid c.requires.accepted)
+
+pub redraw-requires : goal.redraw-requires
+redraw-requires g c =
+    let s = c.args.server.now in
+    let s' = c.end_session.new.server in
+    let p = c.args.pixels.now in
+    let raw' = c.end_session.new.raw.items in
+    let e = c.end_session.ensures in
+    record { can = can_still s s' p.raw.items raw' p.frame.items p.cutter.room c.end_session.new.cutter.room p.labels.items (length p.places.items)
+    (ap (λ (t : Serving). t.config) e.server) (ap (λ (t : Serving). t.stack.most) e.server) e.count (repainted_words _ _ _ _ _ p.raw.items raw' e.count e.painted c.requires.pixels.0.words) e.room c.requires.pixels.0 }
+
+pub returns-clause-painted : goal.returns-clause-painted
+returns-clause-painted g c = rw c.redraw.ensures.raw (close_painted c.args.server.now c.end_session.new.server c.args.sid _ _ c.args.pixels.now.raw.items c.end_session.new.raw.items c.end_session.ensures.painted)

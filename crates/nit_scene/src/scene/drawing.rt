@@ -1,0 +1,36 @@
+//! Words that are set in the scene's own glasses, where these are such that can be drawn in.
+
+ghost use Rattle.std.specs.Prelude.{◌≡◌, ◌<◌, length, slice_index_or, slice_set};
+ghost use Rattle.nit_word.specs.Inks.{IsInked};
+ghost use Rattle.nit_word.specs.Sight.{stored};
+ghost use Rattle.nit_journal.specs.State.{session};
+ghost use Rattle.nit_paint.specs.Painting.{no_sight};
+
+use crate::scene::Scene;
+use crate::screen::Screen;
+use nit_word::Inked;
+
+impl Scene<Inked> {
+    /// Sets the word at place `i` of the scene's glass for the session `sid` to `w`, which is 0 or in the glass's ink.
+    /// Nothing else changes, and nothing is loaded.
+    pub fn draw(&mut self, sid: u32, i: usize, w: u32)
+        requires session { sid < length self.old.config.clients }
+        requires place { i < (slice_index_or self.old.glasses sid no_sight).size }
+        requires word { IsInked (slice_index_or self.old.glasses sid no_sight).ink w }
+        ensures { self.new ≡ record self.old { glasses = slice_set self.old.glasses sid (stored (slice_index_or self.old.glasses sid no_sight) i w) } }
+    {
+        self.screen.facts();
+        self.screen.draw(sid, i, w);
+    }
+}
+
+impl Screen<Inked> {
+    fn draw(&mut self, sid: u32, i: usize, w: u32)
+        requires session { sid < length self.old.glasses }
+        requires place { i < (slice_index_or self.old.glasses sid no_sight).size }
+        requires word { IsInked (slice_index_or self.old.glasses sid no_sight).ink w }
+        ensures { self.new ≡ record self.old { glasses = slice_set self.old.glasses sid (stored (slice_index_or self.old.glasses sid no_sight) i w) } }
+    {
+        self.glasses[sid as usize].store(i, w);
+    }
+}

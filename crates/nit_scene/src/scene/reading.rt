@@ -1,0 +1,65 @@
+//! What can be read of a scene.
+
+ghost use Rattle.std.specs.Prelude.{◌≡◌, ◌+◌, ◌-◌, ◌<◌, length};
+ghost use Rattle.nit_config.specs.Configured.{IsConfigured};
+ghost use Rattle.nit_journal.specs.Projections.{reserved, views_in_use};
+ghost use Rattle.nit_journal.specs.State.{session};
+ghost use Rattle.nit_scene.specs.Played.{state_now};
+
+use crate::scene::Scene;
+use nit_events::Status;
+use nit_word::Glass;
+
+/// How many slots of views the sessions have for their opening donations, how many views there are, and how many
+/// sessions.
+#[derive(Clone, Copy, Debug, PartialEq, Eq)]
+pub struct Counts {
+    pub reserved: u32,
+    pub used: u32,
+    pub sessions: u32,
+}
+
+impl<G: Glass + Drop> Scene<G> {
+    /// How many slots of views the sessions have for their opening donations, how many views there are now, and how
+    /// many sessions.
+    pub fn counts(&self) -> Counts
+        ensures reserved { result.reserved ≡ reserved self.now.config }
+        ensures used { result.used ≡ views_in_use (state_now self.now) }
+        ensures sessions { result.sessions ≡ length self.now.config.clients }
+    {
+        self.screen.server().counts()
+    }
+
+    /// The width, 1..=1024, and the height, 1..=768, of the screen, in pixels.
+    pub fn size(&self) -> (u32, u32)
+        ensures size { result ≡ (self.now.config.width, self.now.config.height) }
+        ensures configured { IsConfigured self.now.config }
+    {
+        let config = &self.screen.server().config;
+        (config.width, config.height)
+    }
+
+    /// How many events the session `sid` has lost, since its queue held 64.
+    pub fn lost(&self, sid: u32) -> u64
+        requires { sid < length self.now.config.clients }
+        ensures { result ≡ (session (state_now self.now) sid).lost }
+    {
+        self.screen.server().lost(sid)
+    }
+
+    /// How many events wait for the session `sid`.
+    pub fn left(&self, sid: u32) -> u32
+        requires { sid < length self.now.config.clients }
+        ensures { result ≡ length (session (state_now self.now) sid).queue }
+    {
+        self.screen.server().left(sid)
+    }
+
+    /// Whether the session `sid` is served, or has ended.
+    pub fn status(&self, sid: u32) -> Status
+        requires { sid < length self.now.config.clients }
+        ensures { result ≡ (session (state_now self.now) sid).status }
+    {
+        self.screen.server().status(sid)
+    }
+}

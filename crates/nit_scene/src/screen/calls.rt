@@ -1,0 +1,155 @@
+//! Calls of sessions, and exactly the pixels that they make dirty.
+
+ghost use Rattle.std.specs.Prelude.{◌≡◌, ◌+◌, ◌-◌, ◌^◌, ◌<◌, ◌≤◌, true, None, length, ℕ, ◌*◌, List, false, Some, map, slice_index_or};
+ghost use Rattle.nit_rect.specs.Rectangle.{is_rectangle, rectangle};
+ghost use Rattle.nit_word.specs.Sight.{Sight};
+ghost use Rattle.nit_events.specs.declared.call.Call.TheVariants as call;
+ghost use Rattle.nit_events.specs.declared.entry.Entry.TheVariants as entry;
+ghost use Rattle.nit_journal.specs.Session.{refusal, serve, accepted};
+ghost use Rattle.nit_journal.specs.State.{session, session_in, after};
+ghost use Rattle.nit_journal.specs.Views.{is_accepted};
+ghost use Rattle.nit_paint.specs.Painting.{no_sight};
+ghost use Rattle.nit_repaint.specs.Glasses.{glasses_of_call};
+ghost use Rattle.nit_scene.specs.CallKinds.{IsClean, IsQuiet};
+ghost use Rattle.nit_scene.specs.Kept.{ArePixels};
+ghost use Rattle.nit_scene.specs.Painted.{Painted, glass_in};
+ghost use Rattle.nit_scene.specs.Serving.{IsServed, state_of};
+ghost use Rattle.nit_scene.specs.Showing.{IsGlassOf};
+
+use crate::screen::Screen;
+use crate::screen::pixels::{Pixels, show_views};
+use crate::screen::sessions::{change_buffer, close};
+use crate::screen::views::change_view;
+use crate::server::Server;
+use nit_damage::Cutter;
+use nit_events::{Call, Reply};
+use nit_glyph::Title;
+use nit_rect::Rect;
+use nit_stack::View;
+use nit_word::Glass;
+
+impl<G: Glass + Drop> Screen<G> {
+    /// Serves a call of a session: exactly the pixels that it makes dirty are loaded again.
+    pub(crate) fn call<C: Glass>(&mut self, sid: u32, call: &Call, own: &mut C) -> Reply
+        requires session { sid < length self.old.serving.sessions }
+        requires handles { (session_in self.old.serving.sessions sid).next < 2 ^ 32 - 1 }
+        requires own { IsGlassOf self.old.serving sid (C.sight own.old) }
+        ensures reply { result ≡ (serve (session (state_of self.old.serving) sid) call.now).reply }
+        ensures state { state_of self.new.serving ≡ after (state_of self.old.serving) (entry.Call sid call.now result) }
+        ensures painted { Painted (state_of self.old.serving) (entry.Call sid call.now result) (state_of self.new.serving)
+            (glasses_of_call (map G.sight self.old.glasses) sid (C.sight own.old)) (glasses_of_call (map G.sight self.new.glasses) sid (C.sight own.new)) self.old.raw self.new.raw }
+        ensures idle { glass_in (map G.sight self.new.glasses) sid ≡ glass_in (map G.sight self.old.glasses) sid }
+        ensures rest { C.rest own.new ≡ C.rest own.old }
+        ensures rests { map G.rest self.new.glasses ≡ map G.rest self.old.glasses }
+        ensures refused { is_accepted result ≡ false
+            → (self.new.raw ≡ self.old.raw) × (self.new.glasses ≡ self.old.glasses) × (C.sight own.new ≡ C.sight own.old) }
+    {
+        if let Some(reply) = self.server.refused(sid, call) {
+            return reply;
+        }
+        self.server.facts();
+        serve_call(
+            &mut self.server,
+            &mut self.pixels,
+            &mut self.glasses,
+            sid,
+            call,
+            own,
+        )
+    }
+}
+
+/// Serves an accepted call, and loads again exactly the pixels that it makes dirty.
+pub(crate) fn serve_call<G: Glass, C: Glass>(
+    server: &mut Server,
+    pixels: &mut Pixels,
+    glasses: &mut Vec<G>,
+    sid: u32,
+    call: &Call,
+    own: &mut C,
+) -> Reply
+    requires session { sid < length server.old.sessions }
+    requires accepted { refusal (session_in server.old.sessions sid) call.now ≡ None }
+    requires handles { (session_in server.old.sessions sid).next < 2 ^ 32 - 1 }
+    requires pixels { ArePixels server.old pixels.old }
+    requires glasses { length glasses.old.items ≡ length server.old.config.clients }
+    requires tables { (t : ℕ) → t < length server.old.config.clients → IsGlassOf server.old t (glass_in (map G.sight glasses.old.items) t) }
+    requires own { IsGlassOf server.old sid (C.sight own.old) }
+    ensures served { IsServed sid call.now result server.old server.new }
+    ensures pixels { ArePixels server.new pixels.new }
+    ensures painted { Painted (state_of server.old) (entry.Call sid call.now result) (state_of server.new)
+        (glasses_of_call (map G.sight glasses.old.items) sid (C.sight own.old)) (glasses_of_call (map G.sight glasses.new.items) sid (C.sight own.new)) pixels.old.raw.items pixels.new.raw.items }
+    ensures idle { slice_index_or (map G.sight glasses.new.items) sid no_sight ≡ slice_index_or (map G.sight glasses.old.items) sid no_sight }
+    ensures rest { C.rest own.new ≡ C.rest own.old }
+    ensures rests { map G.rest glasses.new.items ≡ map G.rest glasses.old.items }
+{
+    match *call {
+        Call::Place(handle, ..)
+        | Call::Offset(handle, ..)
+        | Call::Front(handle)
+        | Call::Back(handle)
+        | Call::Above(handle, _)
+        | Call::Destroy(handle) => {
+            change_view(server, pixels, glasses, sid, handle, call, own)
+        }
+        Call::Buffer(..) => change_buffer(server, pixels, glasses, sid, &None, call, own),
+        Call::Refresh(x, y, w, h) => {
+            let part = part(x, y, w, h);
+            change_buffer(server, pixels, glasses, sid, &part, call, own)
+        }
+        Call::Close => close(server, pixels, glasses, sid, own),
+        Call::View | Call::Title(..) => serve_clean(server, pixels, sid, call),
+        Call::Take | Call::Upgrade(_) => serve_quiet(server, pixels, sid, call),
+    }
+}
+
+/// Serves an accepted call that makes no pixel dirty.
+fn serve_clean(server: &mut Server, pixels: &mut Pixels, sid: u32, call: &Call) -> Reply
+    requires session { sid < length server.old.sessions }
+    requires accepted { refusal (session_in server.old.sessions sid) call.now ≡ None }
+    requires handles { (session_in server.old.sessions sid).next < 2 ^ 32 - 1 }
+    requires clean { IsClean call.now }
+    requires pixels { ArePixels server.old pixels.old }
+    ensures served { IsServed sid call.now result server.old server.new }
+    ensures pixels { ArePixels server.new pixels.new }
+    ensures raw { pixels.new.raw ≡ pixels.old.raw }
+    ensures painted { (glasses : ℕ → Sight) (raw : List ℕ)
+        → Painted (state_of server.old) (entry.Call sid call.now result) (state_of server.new)
+        glasses glasses raw raw }
+{
+    server.facts();
+    let reply = server.accept(sid, call);
+    server.facts();
+    show_views(server.mode(), server, pixels);
+    reply
+}
+
+/// Serves an accepted call that changes nothing of what is shown.
+fn serve_quiet(server: &mut Server, pixels: &Pixels, sid: u32, call: &Call) -> Reply
+    requires session { sid < length server.old.sessions }
+    requires accepted { refusal (session_in server.old.sessions sid) call.now ≡ None }
+    requires handles { (session_in server.old.sessions sid).next < 2 ^ 32 - 1 }
+    requires quiet { IsQuiet call.now }
+    requires pixels { ArePixels server.old pixels.now }
+    ensures served { IsServed sid call.now result server.old server.new }
+    ensures pixels { ArePixels server.new pixels.now }
+    ensures painted { (glasses : ℕ → Sight) (raw : List ℕ)
+        → Painted (state_of server.old) (entry.Call sid call.now result) (state_of server.new)
+        glasses glasses raw raw }
+{
+    server.facts();
+    let reply = server.accept(sid, call);
+    server.facts();
+    reply
+}
+
+/// The part of a session's buffer.
+fn part(x: i32, y: i32, w: u32, h: u32) -> Option<Rect>
+    requires { is_rectangle x y w h ≡ true }
+    ensures { result ≡ Some (rectangle x y w h) }
+{
+    match Rect::new(x, y, w, h) {
+        Some(rect) => Some(rect),
+        None => unreachable!(),
+    }
+}

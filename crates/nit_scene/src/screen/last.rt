@@ -1,0 +1,60 @@
+//! The whole screen, for the last picture.
+
+ghost use Rattle.std.specs.Prelude.{◌≡◌, ◌+◌, ◌<◌, ◌≤◌, true, length, ℕ, ◌*◌, map};
+ghost use Rattle.nit_events.specs.declared.entry.Entry.TheVariants as entry;
+ghost use Rattle.nit_paint.specs.Painting.{Repainted};
+ghost use Rattle.nit_paint.specs.Pieces.{source_at};
+ghost use Rattle.nit_repaint.specs.Glasses.{HoldBuffers};
+ghost use Rattle.nit_scene.specs.Painted.{Painted, glass_in};
+ghost use Rattle.nit_scene.specs.Serving.{IsServing, state_of};
+ghost use Rattle.nit_scene.specs.Showing.{IsGlassOf};
+
+use crate::screen::Screen;
+use crate::screen::pixels::redraw;
+use crate::server::Server;
+use nit_damage::Cutter;
+use nit_repaint::paint_whole;
+use nit_word::Glass;
+
+impl<G: Glass + Drop> Screen<G> {
+    /// Loads every pixel again by these glasses, one for each session.
+    pub(crate) fn load_all<C: Glass>(&mut self, owns: &mut [C])
+        requires owns { length owns.old ≡ length self.old.serving.config.clients }
+        requires tables { (t : ℕ) → t < length self.old.serving.config.clients → IsGlassOf self.old.serving t (glass_in (map C.sight owns.old) t) }
+        ensures serving { self.new.serving ≡ self.old.serving }
+        ensures glasses { self.new.glasses ≡ self.old.glasses }
+        ensures painted { Painted (state_of self.old.serving) entry.Final (state_of self.new.serving)
+            (glass_in (map C.sight owns.old)) (glass_in (map C.sight owns.new)) self.old.raw self.new.raw }
+        ensures rests { map C.rest owns.new ≡ map C.rest owns.old }
+    {
+        self.server.facts();
+        load_whole(
+            &self.server,
+            &mut self.pixels.cutter,
+            &mut self.pixels.raw,
+            owns,
+        );
+        redraw(&self.server, &mut self.pixels);
+    }
+}
+
+/// Loads each pixel of the screen again, by the sessions' own glasses.
+pub(crate) fn load_whole<C: Glass>(
+    server: &Server,
+    cutter: &mut Cutter,
+    raw: &mut Vec<u32>,
+    owns: &mut [C],
+)
+    requires room { server.now.stack.most ≤ cutter.old.room }
+    requires pixels { length raw.old.items ≡ server.now.config.width * server.now.config.height }
+    requires few { length owns.old ≤ 16 }
+    requires held { HoldBuffers server.now.stack (length owns.old) (glass_in (map C.sight owns.old)) }
+    ensures room { cutter.new.room ≡ cutter.old.room }
+    ensures painted { Repainted (source_at server.now.stack) (λ k. true) (length raw.old.items)
+        (glass_in (map C.sight owns.old)) (glass_in (map C.sight owns.new)) raw.old.items raw.new.items }
+    ensures long { length raw.new.items ≡ length raw.old.items }
+    ensures rests { map C.rest owns.new ≡ map C.rest owns.old }
+    ensures facts { IsServing server.now }
+{
+    paint_whole(cutter, server.stack(), raw.as_mut_slice(), owns);
+}

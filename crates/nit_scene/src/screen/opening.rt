@@ -1,0 +1,100 @@
+//! A screen before its first entry.
+
+ghost use Rattle.std.specs.Prelude.{◌≡◌, ◌+◌, ◌-◌, ◌<◌, ◌≤◌, None, IfOk, length, ℕ, ◌*◌, map, replicate};
+ghost use Rattle.nit_rect.specs.declared.point.Point.{Point};
+ghost use Rattle.nit_word.specs.Channels.{bare_word};
+ghost use Rattle.nit_config.specs.Configured.{IsConfigured};
+ghost use Rattle.nit_journal.specs.State.{opening};
+ghost use Rattle.nit_scene.specs.Painted.{glass_in};
+ghost use Rattle.nit_scene.specs.Serving.{state_of};
+ghost use Rattle.nit_scene.specs.Showing.{IsGlass};
+
+use crate::screen::Screen;
+use crate::screen::pixels::{Pixels, redraw};
+use crate::server::Server;
+use nit_config::Config;
+use nit_damage::Cutter;
+use nit_glyph::Label;
+use nit_rect::{NoMemory, Point};
+use nit_word::{BARE, Glass};
+use std::alloc::Global;
+
+/// The most views that all sessions together may have.
+const MOST_VIEWS: usize = 1024;
+
+impl<G: Glass + Drop> Screen<G> {
+    /// A screen of this configuration without any view.
+    pub(crate) fn new(
+        alloc: Global,
+        config: &Config,
+        glasses: Vec<G>,
+    ) -> Result<Screen<G>, NoMemory>
+        requires config { IsConfigured config.now }
+        requires glasses { length glasses.items ≡ length config.now.clients }
+        requires tables { (t : ℕ) → t < length config.now.clients → IsGlass config.now t (glass_in (map G.sight glasses.items) t) }
+        ensures state { IfOk result (λ s. state_of s.serving ≡ opening config.now) }
+        ensures raw { IfOk result (λ s. s.raw ≡ replicate (config.now.width * config.now.height) bare_word) }
+        ensures glasses { IfOk result (λ s. s.glasses ≡ glasses.items) }
+    {
+        let server = Server::new(alloc, config)?;
+        server.facts();
+        let mut pixels = bare_pixels(alloc, config)?;
+        redraw(&server, &mut pixels);
+        Ok(Screen {
+            server,
+            glasses,
+            pixels,
+        })
+    }
+}
+
+/// The pixels of a bare screen, of which no frame is made yet.
+fn bare_pixels(alloc: Global, config: &Config) -> Result<Pixels, NoMemory>
+    requires { IsConfigured config.now }
+    ensures raw { IfOk result (λ p. p.raw.items
+        ≡ replicate (config.now.width * config.now.height) bare_word) }
+    ensures frame { IfOk result (λ p. length p.frame.items ≡ config.now.width * config.now.height) }
+    ensures named { IfOk result (λ p. p.labels.items ≡ map (λ m. m.label) config.now.clients) }
+    ensures room { IfOk result (λ p. (1024 ≤ p.cutter.room) × (1024 ≤ length p.places.items)) }
+{
+    let cutter = Cutter::with_room(alloc, MOST_VIEWS as u32)?;
+    let raw = bare_words(alloc, config)?;
+    let frame = bare_words(alloc, config)?;
+    let labels = labels_of(alloc, config)?;
+    let places = no_places(alloc)?;
+    Ok(Pixels {
+        cutter,
+        raw,
+        frame,
+        labels,
+        places,
+    })
+}
+
+/// The labels of the clients, in order.
+fn labels_of(alloc: Global, config: &Config) -> Result<Vec<Label>, NoMemory>
+    ensures { IfOk result (λ v. v.items ≡ map (λ m. m.label) config.now.clients) }
+{
+    let mut labels = Vec::new(alloc);
+    for client in config.clients.as_slice() {
+        labels.push(client.label)?;
+    }
+    Ok(labels)
+}
+
+/// The bare word for each pixel of the screen.
+fn bare_words(alloc: Global, config: &Config) -> Result<Vec<u32>, NoMemory>
+    requires { IsConfigured config.now }
+    ensures words { IfOk result (λ v. v.items ≡ replicate (config.now.width * config.now.height) bare_word) }
+    ensures count { IfOk result (λ v. length v.items ≡ config.now.width * config.now.height) }
+{
+    let pixels = config.width as usize * config.height as usize;
+    Ok(vec![in alloc; BARE; pixels]?)
+}
+
+/// Room for the place of each view's label.
+fn no_places(alloc: Global) -> Result<Vec<Option<Point>>, NoMemory>
+    ensures { IfOk result (λ v. 1024 ≤ length v.items) }
+{
+    Ok(vec![in alloc; None; MOST_VIEWS]?)
+}

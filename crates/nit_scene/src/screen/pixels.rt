@@ -1,0 +1,314 @@
+//! The pixels of a screen, and the frame that is kept of them.
+
+ghost use Rattle.std.specs.Prelude.{
+    ◌≡◌, ℕ, ◌*◌, ◌<◌, ◌≤◌, All, IsTrue, Option, length, map, pos, slice_index, if◌then◌else◌
+};
+ghost use Rattle.nit_rect.specs.Rectangle.{covers, rectangle};
+ghost use Rattle.nit_word.specs.Inks.{IsWord};
+ghost use Rattle.nit_events.specs.declared.device.Mode.TheVariants.{Flat};
+ghost use Rattle.nit_stack.specs.Sources.{pixel};
+ghost use Rattle.nit_stack.specs.Standing.{Standing};
+ghost use Rattle.nit_repaint.specs.Copied.{IsCopied};
+ghost use Rattle.nit_repaint.specs.OneView.{IsChange, slot_owns_either};
+ghost use Rattle.nit_repaint.specs.Parts.{wanted};
+ghost use Rattle.nit_overlay.specs.Looks.{draws_labels};
+ghost use Rattle.nit_overlay.specs.Shown.{frame, shown};
+ghost use Rattle.nit_scene.specs.Kept.{ArePixels, CanShowBy};
+ghost use Rattle.nit_scene.specs.Played.{scenery_of};
+ghost use Rattle.nit_scene.specs.Serving.{IsServing, state_of};
+
+use crate::screen::labels::place_drawn;
+use crate::server::Server;
+use nit_damage::Cutter;
+use nit_events::Mode;
+use nit_glyph::Label;
+use nit_overlay::{Look, frame_into, overlay_rect};
+use nit_rect::{Point, Rect};
+use nit_repaint::{show_changed, show_session};
+use nit_stack::ViewRef;
+
+/// The raw word of each pixel of a screen and the frame of them, each row by row from the top, with
+/// what they are cut and shown by: the labels of the sessions, and the places of the views' labels.
+#[derive(Drop)]
+pub struct Pixels {
+    pub cutter: Cutter,
+    pub raw: Vec<u32>,
+    pub frame: Vec<u32>,
+    pub labels: Vec<Label>,
+    pub places: Vec<Option<Point>>,
+}
+
+/// Sets `out` to the whole frame. Where the mode draws labels, their places are worked out first.
+fn frame_of(
+    server: &Server,
+    labels: &[Label],
+    places: &mut [Option<Point>],
+    raw: &[u32],
+    out: &mut [u32],
+)
+    requires named { labels.now ≡ map (λ m. m.label) server.now.config.clients }
+    requires placed { server.now.stack.most ≤ length places.old }
+    requires pixels { length raw.now ≡ server.now.config.width * server.now.config.height }
+    requires out { length out.old ≡ server.now.config.width * server.now.config.height }
+    requires words { All IsWord raw.now }
+    ensures shown { out.new ≡ frame (scenery_of (state_of server.now)) raw.now }
+    ensures places { length places.new ≡ length places.old }
+{
+    server.facts();
+    let mode = server.mode();
+    place_drawn(mode, server.stack(), labels, places);
+    let look = Look {
+        stack: server.stack(),
+        labels,
+        mode,
+        focus: server.focus(),
+        places,
+    };
+    frame_into(&look, raw, out);
+}
+
+/// Makes the whole frame again.
+pub(crate) fn redraw(server: &Server, pixels: &mut Pixels)
+    requires can { CanShowBy server.now pixels.old }
+    ensures pixels { ArePixels server.now pixels.new }
+    ensures raw { pixels.new.raw ≡ pixels.old.raw }
+{
+    frame_of(
+        server,
+        pixels.labels.as_slice(),
+        pixels.places.as_mut_slice(),
+        pixels.raw.as_slice(),
+        pixels.frame.as_mut_slice(),
+    );
+}
+
+/// Shows again, after the input went on, what was shown in this mode with this focus: the bar where
+/// the focus moved in mode Flat, the whole frame where the mode changed or the focus moved in another
+/// mode, and nothing else.
+pub(crate) fn show_input(server: &Server, mode: Mode, focus: Option<u32>, pixels: &mut Pixels)
+    requires can { CanShowBy server.now pixels.old }
+    requires before { pixels.old.frame.items
+        ≡ frame (record (scenery_of (state_of server.now)) { mode = mode; focus = focus })
+        pixels.old.raw.items }
+    ensures pixels { ArePixels server.now pixels.new }
+    ensures raw { pixels.new.raw ≡ pixels.old.raw }
+{
+    if server.mode() != mode {
+        redraw(server, pixels);
+        return;
+    }
+    if server.focus() == focus {
+        return;
+    }
+    match mode {
+        Mode::Flat => redraw_bar(server, pixels),
+        _ => redraw(server, pixels),
+    }
+}
+
+/// Draws the bar again, after the focus moved in mode Flat.
+fn redraw_bar(server: &Server, pixels: &mut Pixels)
+    requires flat { server.now.input.mode ≡ Flat }
+    requires can { CanShowBy server.now pixels.old }
+    ensures can { CanShowBy server.now pixels.new }
+    ensures raw { pixels.new.raw ≡ pixels.old.raw }
+    ensures shown { (focus : Option ℕ) → pixels.old.frame.items
+        ≡ frame (record (scenery_of (state_of server.now)) { focus = focus }) pixels.old.raw.items
+        → pixels.new.frame.items ≡ frame (scenery_of (state_of server.now)) pixels.new.raw.items }
+{
+    bar_of(
+        server,
+        pixels.labels.as_slice(),
+        pixels.places.as_slice(),
+        pixels.raw.as_slice(),
+        pixels.frame.as_mut_slice(),
+    );
+}
+
+/// Sets the pixels of the bar to what is shown there in mode Flat.
+fn bar_of(
+    server: &Server,
+    labels: &[Label],
+    places: &[Option<Point>],
+    raw: &[u32],
+    out: &mut [u32],
+)
+    requires flat { server.now.input.mode ≡ Flat }
+    requires named { labels.now ≡ map (λ m. m.label) server.now.config.clients }
+    requires pixels { length raw.now ≡ server.now.config.width * server.now.config.height }
+    requires out { length out.old ≡ server.now.config.width * server.now.config.height }
+    requires words { All IsWord raw.now }
+    ensures facts { IsServing server.now }
+    ensures shown { (k : ℕ) → k < server.now.config.width * server.now.config.height
+        → slice_index out.new k
+        ≡ (if covers (rectangle (pos 0) (pos 0) server.now.config.width server.now.stack.bar)
+            (pixel server.now.config.width k)
+        then shown (scenery_of (state_of server.now)) (pixel server.now.config.width k)
+            (slice_index raw.now k)
+        else slice_index out.old k) }
+    ensures length { length out.new ≡ length out.old }
+{
+    server.facts();
+    let look = Look {
+        stack: server.stack(),
+        labels,
+        mode: Mode::Flat,
+        focus: server.focus(),
+        places,
+    };
+    overlay_rect(&look, raw, bar_rect(server), out);
+}
+
+/// The rectangle of the bar. It has no pixel where there is no bar.
+fn bar_rect(server: &Server) -> Rect
+    ensures { result ≡ rectangle (pos 0) (pos 0) server.now.config.width server.now.stack.bar }
+{
+    server.facts();
+    let stack = server.stack();
+    let (width, _height) = stack.size();
+    let Some(rect) = Rect::new(0, 0, width, stack.bar()) else {
+        unreachable!()
+    };
+    rect
+}
+
+/// Shows again what a view owned before a change, or owns after it, once it was loaded: these pixels
+/// in mode Flat, and the whole frame in the others.
+pub(crate) fn show_view(
+    mode: Mode,
+    server: &Server,
+    v: ViewRef,
+    place: u32,
+    rect: Rect,
+    pixels: &mut Pixels,
+)
+    requires mode { mode ≡ server.now.input.mode }
+    requires can { CanShowBy server.now pixels.old }
+    ensures can { CanShowBy server.now pixels.new }
+    ensures raw { pixels.new.raw ≡ pixels.old.raw }
+    ensures flat { mode ≡ Flat → (before : Standing) → IsChange v.0 place rect before server.now.stack
+        → IsCopied (λ k. slot_owns_either v.0 before server.now.stack (pixel server.now.stack.width k))
+        (length pixels.new.raw.items) pixels.new.raw.items pixels.old.frame.items pixels.new.frame.items }
+    ensures labelled { IsTrue (draws_labels mode)
+        → pixels.new.frame.items ≡ frame (scenery_of (state_of server.now)) pixels.new.raw.items }
+{
+    match mode {
+        Mode::Flat => copy_view(
+            server,
+            v,
+            place,
+            rect,
+            &mut pixels.cutter,
+            &pixels.raw,
+            &mut pixels.frame,
+        ),
+        _ => redraw(server, pixels),
+    }
+}
+
+/// Sets the frame to the raw words of what a view owned before a change, or owns after it.
+fn copy_view(
+    server: &Server,
+    v: ViewRef,
+    place: u32,
+    rect: Rect,
+    cutter: &mut Cutter,
+    raw: &Vec<u32>,
+    out: &mut Vec<u32>,
+)
+    requires room { server.now.stack.most ≤ cutter.old.room }
+    requires pixels { length raw.now.items ≡ server.now.config.width * server.now.config.height }
+    requires out { length out.old.items ≡ length raw.now.items }
+    ensures room { cutter.new.room ≡ cutter.old.room }
+    ensures shown { (before : Standing) → IsChange v.0 place rect before server.now.stack
+        → IsCopied (λ k. slot_owns_either v.0 before server.now.stack (pixel server.now.stack.width k))
+        (length raw.now.items) raw.now.items out.old.items out.new.items }
+    ensures count { length out.new.items ≡ length out.old.items }
+{
+    show_changed(
+        cutter,
+        server.stack(),
+        v,
+        place,
+        rect,
+        raw.as_slice(),
+        out.as_mut_slice(),
+    );
+}
+
+/// Shows again what views of a session own and what of it shows this part of its buffer, or all of it,
+/// once it was loaded: these pixels in mode Flat, and the whole frame in the others.
+pub(crate) fn show_part(
+    mode: Mode,
+    server: &Server,
+    of: u32,
+    part: &Option<Rect>,
+    pixels: &mut Pixels,
+)
+    requires mode { mode ≡ server.now.input.mode }
+    requires can { CanShowBy server.now pixels.old }
+    ensures can { CanShowBy server.now pixels.new }
+    ensures raw { pixels.new.raw ≡ pixels.old.raw }
+    ensures flat { mode ≡ Flat
+        → IsCopied (λ k. wanted of part.now server.now.stack (pixel server.now.stack.width k))
+        (length pixels.new.raw.items) pixels.new.raw.items pixels.old.frame.items pixels.new.frame.items }
+    ensures labelled { IsTrue (draws_labels mode)
+        → pixels.new.frame.items ≡ frame (scenery_of (state_of server.now)) pixels.new.raw.items }
+{
+    match mode {
+        Mode::Flat => copy_part(
+            server,
+            of,
+            part,
+            &mut pixels.cutter,
+            &pixels.raw,
+            &mut pixels.frame,
+        ),
+        _ => redraw(server, pixels),
+    }
+}
+
+/// Sets the frame to the raw words of what views of a session own, or of what of it shows a part of its
+/// buffer.
+fn copy_part(
+    server: &Server,
+    of: u32,
+    part: &Option<Rect>,
+    cutter: &mut Cutter,
+    raw: &Vec<u32>,
+    out: &mut Vec<u32>,
+)
+    requires room { server.now.stack.most ≤ cutter.old.room }
+    requires pixels { length raw.now.items ≡ server.now.config.width * server.now.config.height }
+    requires out { length out.old.items ≡ length raw.now.items }
+    ensures room { cutter.new.room ≡ cutter.old.room }
+    ensures shown { IsCopied
+        (λ k. wanted of part.now server.now.stack (pixel server.now.stack.width k))
+        (length raw.now.items) raw.now.items out.old.items out.new.items }
+{
+    show_session(
+        cutter,
+        server.stack(),
+        of,
+        part,
+        raw.as_slice(),
+        out.as_mut_slice(),
+    );
+}
+
+/// Shows again all, in the modes that draw labels, where the views or their titles changed and no pixel
+/// was loaded. In mode Flat the frame stays.
+pub(crate) fn show_views(mode: Mode, server: &Server, pixels: &mut Pixels)
+    requires mode { mode ≡ server.now.input.mode }
+    requires can { CanShowBy server.now pixels.old }
+    ensures can { CanShowBy server.now pixels.new }
+    ensures raw { pixels.new.raw ≡ pixels.old.raw }
+    ensures flat { mode ≡ Flat → pixels.new.frame ≡ pixels.old.frame }
+    ensures labelled { IsTrue (draws_labels mode)
+        → pixels.new.frame.items ≡ frame (scenery_of (state_of server.now)) pixels.new.raw.items }
+{
+    match mode {
+        Mode::Flat => {}
+        _ => redraw(server, pixels),
+    }
+}
