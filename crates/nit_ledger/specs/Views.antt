@@ -50,11 +50,13 @@ Stands views by n = (v : BookView) × (get_elem? views by ≡ some v) × Bears n
 
 -- the view of this seat is a book's, with these entries and counts
 abbrev pub IsBookAt : List BookView → ℕ → List Entry → List ℕ → Type 0
-IsBookAt views seat es cs = (taken : Option Token) × (get_elem? views seat ≡ some (OfBook es cs taken))
+IsBookAt views seat es cs =
+    (taken : Option Token) × (get_elem? views seat ≡ some (OfBook es cs taken))
 
--- The rule: there are entries, counts, the one seat of the book, and a seat that holds each number. The book's view stands at its
--- seat. Each view fits these, so no other seat has a book's view, and no number has two shares. The holder of each number below the
--- number of counts has the share of that number.
+-- The rule: there are entries, counts, the one seat of the book, and a seat that holds each number.
+-- The book's view stands at its seat. Each view fits these, so no other seat has a book's view, and
+-- no number has two shares. The holder of each number below the number of counts has the share of
+-- that number.
 pub record IsKept (s : State (Unit {0}) BookView) : Type 0 where
   pub entries : List Entry
   pub counts : List ℕ
@@ -102,8 +104,8 @@ share_in (OfBook es cs None) = Spent
 share_in (OfShare t) = Spent
 share_in Spent = Spent
 
--- the share that is taken in was in step; entries are added, its count and the book's count at its number rise, and it has seen all
--- entries; where none is taken in, nothing changes
+-- the share that is taken in was in step; entries are added, its count and the book's count at its
+-- number rise, and it has seen all entries; where none is taken in, nothing changes
 abbrev pub Changed : List Entry → ℕ → BookView → BookView → Type 0
 Changed added risen (OfBook es cs (Some t)) w =
     (w ≡ holding (es ++ added) (raised_by cs t.number risen) (token t.number (t.count + risen) (es ++ added))) × Agrees es cs t

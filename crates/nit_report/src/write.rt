@@ -15,7 +15,8 @@ pub fn text(out: &mut [u8], at: usize, text: &[u8]) -> usize
     end
 }
 
-/// Writes a number in decimal behind the first `at` bytes, and answers where it ends. All other bytes stay.
+/// Writes a number in decimal behind the first `at` bytes, and answers where it ends. All other
+/// bytes stay.
 pub fn number(out: &mut [u8], at: usize, n: u32) -> usize
     requires { at + length (decimal n) ≤ length out.old }
     ensures end { result ≡ at + length (decimal n) }

@@ -25,7 +25,8 @@ pub fn put_words(
     word: &[u8],
     fields: &[Field],
 ) -> Result<(), NoMemory>
-    ensures written { OnOk result (out.new.items ≡ out.old.items ++ (word.now ++ flat_map field_spelling fields.now)) }
+    ensures written { OnOk result (out.new.items
+        ≡ out.old.items ++ (word.now ++ flat_map field_spelling fields.now)) }
     ensures unchanged { OnErr result (out.new.items ≡ out.old.items) }
 {
     let before = out.len();
@@ -44,7 +45,8 @@ fn put_parts(
     word: &[u8],
     fields: &[Field],
 ) -> Result<(), NoMemory>
-    ensures written { OnOk result (out.new.items ≡ out.old.items ++ (word.now ++ flat_map field_spelling fields.now)) }
+    ensures written { OnOk result (out.new.items
+        ≡ out.old.items ++ (word.now ++ flat_map field_spelling fields.now)) }
     ensures kept { OnErr result (IsFront out.old.items out.new.items) }
 {
     out.extend_from_slice(word)?;
@@ -53,7 +55,8 @@ fn put_parts(
 
 #[tactic(auto, using(crate::proofs::Printed::fronts))]
 fn put_fields(alloc: Global, out: &mut Vec<u8>, fields: &[Field]) -> Result<(), NoMemory>
-    ensures written { OnOk result (out.new.items ≡ out.old.items ++ flat_map field_spelling fields.now) }
+    ensures written { OnOk result (out.new.items
+        ≡ out.old.items ++ flat_map field_spelling fields.now) }
     ensures kept { OnErr result (IsFront out.old.items out.new.items) }
 {
     for field in fields {
