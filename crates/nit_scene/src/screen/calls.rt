@@ -89,9 +89,7 @@ pub(crate) fn serve_call<G: Glass, C: Glass>(
         | Call::Front(handle)
         | Call::Back(handle)
         | Call::Above(handle, _)
-        | Call::Destroy(handle) => {
-            change_view(server, pixels, glasses, sid, handle, call, own)
-        }
+        | Call::Destroy(handle) => { change_view(server, pixels, glasses, sid, handle, call, own) }
         Call::Buffer(..) => change_buffer(server, pixels, glasses, sid, &None, call, own),
         Call::Refresh(x, y, w, h) => {
             let part = part(x, y, w, h);

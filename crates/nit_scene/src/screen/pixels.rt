@@ -1,7 +1,19 @@
 //! The pixels of a screen, and the frame that is kept of them.
 
 ghost use Rattle.std.specs.Prelude.{
-    ◌≡◌, ℕ, ◌*◌, ◌<◌, ◌≤◌, All, IsTrue, Option, length, map, pos, slice_index, if◌then◌else◌
+  ◌≡◌,
+  ℕ,
+  ◌*◌,
+  ◌<◌,
+  ◌≤◌,
+  All,
+  IsTrue,
+  Option,
+  length,
+  map,
+  pos,
+  slice_index,
+  if◌then◌else◌,
 };
 ghost use Rattle.nit_rect.specs.Rectangle.{covers, rectangle};
 ghost use Rattle.nit_word.specs.Inks.{IsWord};
@@ -126,13 +138,7 @@ fn redraw_bar(server: &Server, pixels: &mut Pixels)
 }
 
 /// Sets the pixels of the bar to what is shown there in mode Flat.
-fn bar_of(
-    server: &Server,
-    labels: &[Label],
-    places: &[Option<Point>],
-    raw: &[u32],
-    out: &mut [u32],
-)
+fn bar_of(server: &Server, labels: &[Label], places: &[Option<Point>], raw: &[u32], out: &mut [u32])
     requires flat { server.now.input.mode ≡ Flat }
     requires named { labels.now ≡ map (λ m. m.label) server.now.config.clients }
     requires pixels { length raw.now ≡ server.now.config.width * server.now.config.height }
@@ -142,9 +148,9 @@ fn bar_of(
     ensures shown { (k : ℕ) → k < server.now.config.width * server.now.config.height
         → slice_index out.new k
         ≡ (if covers (rectangle (pos 0) (pos 0) server.now.config.width server.now.stack.bar)
-            (pixel server.now.config.width k)
+        (pixel server.now.config.width k)
         then shown (scenery_of (state_of server.now)) (pixel server.now.config.width k)
-            (slice_index raw.now k)
+        (slice_index raw.now k)
         else slice_index out.old k) }
     ensures length { length out.new ≡ length out.old }
 {
