@@ -13,4 +13,3 @@ on_screen width height k l = (omega (arith, ints), omega (arith, ints, column), 
 
     column : k % width < width
     column = grind (arith, rows)
-

@@ -120,9 +120,10 @@ one_more test s p i x apart there at = let r = go (in_bar s.bar p) in record { a
         × ((option_map_or test (cond b None (find (seat_covers p) (take i s.views))) false && (option_map_or (is_slot x.slot) (cond b None (find (seat_covers p) s.views)) false && test x)) ≡ false)
     go true = (refl, refl)
     go false =
-        let f = found (find (seat_covers p) (take i s.views)) refl in
-        (ap (λ (b : Bool). option_map_or test (find (seat_covers p) (take i s.views)) false || (b && test x)) own ∙ f.0 ∙ ap (λ (o : Option Seat). option_map_or test o false) (sym more),
-        ap (λ (b : Bool). option_map_or test (find (seat_covers p) (take i s.views)) false && (b && test x)) own ∙ f.1)
+        let f = found (find (seat_covers p) (take i s.views)) refl in (
+          ap (λ (b : Bool). option_map_or test (find (seat_covers p) (take i s.views)) false || (b && test x)) own ∙ f.0 ∙ ap (λ (o : Option Seat). option_map_or test o false) (sym more),
+          ap (λ (b : Bool). option_map_or test (find (seat_covers p) (take i s.views)) false && (b && test x)) own ∙ f.1,
+        )
 
 -- ---- one view
 

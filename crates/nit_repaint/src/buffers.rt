@@ -1,7 +1,16 @@
 //! Loading again what views of one session show.
 
 ghost use Rattle.std.specs.Prelude.{
-    ◌≡◌, ◌*◌, ◌<◌, ◌≤◌, ◌&&◌, Some, length, map, slice_get, true
+  ◌≡◌,
+  ◌*◌,
+  ◌<◌,
+  ◌≤◌,
+  ◌&&◌,
+  Some,
+  length,
+  map,
+  slice_get,
+  true,
 };
 ghost use Rattle.nit_rect.specs.declared.point.Point.{Point};
 ghost use Rattle.nit_rect.specs.Rectangle.{IsPlace, covers};
@@ -60,7 +69,7 @@ fn paint_seat<G: Glass, C: Glass>(
     ensures painted { (s : Seat) → slice_get stack.now.views i ≡ Some s
         → Repainted (source_at stack.now)
         (λ k. let p = pixel stack.now.width k in
-            owner_passes (is_slot s.slot) stack.now p && is_wanted of part.now stack.now p s)
+        owner_passes (is_slot s.slot) stack.now p && is_wanted of part.now stack.now p s)
         (length raw.old)
         (glasses_of_call (map G.sight glasses.old) sid (C.sight own.old))
         (glasses_of_call (map G.sight glasses.new) sid (C.sight own.new))

@@ -5,8 +5,20 @@ ghost use Rattle.nit_rect.specs.declared.point.Point.{Point};
 ghost use Rattle.nit_rect.specs.Rectangle.{Rectangle};
 ghost use Rattle.nit_stack.specs.Orders.{changed, moved, without};
 ghost use Rattle.nit_stack.specs.Standing.{
-    IsStanding, Seat, Standing, is_of_session, is_slot, moved_above, on_view, put_own_back,
-    put_own_front, seat_in, seat_layer, size_of, with_offset, with_rect
+  IsStanding,
+  Seat,
+  Standing,
+  is_of_session,
+  is_slot,
+  moved_above,
+  on_view,
+  put_own_back,
+  put_own_front,
+  seat_in,
+  seat_layer,
+  size_of,
+  with_offset,
+  with_rect,
 };
 ghost use Rattle.nit_stack.specs.Standing.{place_of};
 ghost use Rattle.nit_repaint.specs.OneView.{IsChange};

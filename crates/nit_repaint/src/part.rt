@@ -16,7 +16,11 @@ fn clipped(place: i32, most: u32) -> u32
     ensures within { result ≤ most }
     ensures same { (c : ℕ) → c < most → nat_le result c ≡ int_le place (pos c) }
 {
-    if place < 0 { 0 } else { (place as u32).min(most) }
+    if place < 0 {
+        0
+    } else {
+        (place as u32).min(most)
+    }
 }
 
 /// The places of a screen of `most` at which a view shows the `long` places of a buffer from `from`

@@ -74,7 +74,7 @@ fn show_seat(
     ensures room { cutter.new.room ≡ cutter.old.room }
     ensures shown { (s : Seat) → slice_get stack.now.views i ≡ Some s
         → IsCopied (λ k. let p = pixel stack.now.width k in
-            owner_passes (is_slot s.slot) stack.now p && is_wanted of part.now stack.now p s)
+        owner_passes (is_slot s.slot) stack.now p && is_wanted of part.now stack.now p s)
         (length raw.now) raw.now frame.old frame.new }
     ensures count { length frame.new ≡ length frame.old }
 {

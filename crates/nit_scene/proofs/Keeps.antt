@@ -127,7 +127,6 @@ pub record IsRedrawn (s : Scenery) (chosen : ℕ → Bool) (raw old new : List �
 module _ (s : State) (taken sid : ℕ) (call : Call) (r : Reply) (glasses glasses' : ℕ → Sight) (raw raw' old new : List ℕ)
     (agrees : Agrees s taken (entry.Call sid call r)) (painted : Painted s (entry.Call sid call r) (after s (entry.Call sid call r)) glasses glasses' raw raw')
     (same_input : (after s (entry.Call sid call r)).input ≡ s.input) (many : length raw' ≡ pixel_count s) where
-
   abbrev pub s' : State
   s' = after s (entry.Call sid call r)
 
@@ -151,7 +150,7 @@ module _ (s : State) (taken sid : ℕ) (call : Call) (r : Reply) (glasses glasse
       let p = pixel s.config.width k in
       ap (λ (w : ℕ). shown (scenery_of s') p w) (painted.others k (λ lt. d))
       ∙ flat_same (scenery_of s) (scenery_of s') p (slice_index raw k) flat (ap (λ (i : InputState). i.mode) same_input ∙ flat) refl b
-        (owned s' p ∙ ap has_owner (call_is_clean s taken sid call r p agrees d) ∙ sym (owned s p))
+      (owned s' p ∙ ap has_owner (call_is_clean s taken sid call r p agrees d) ∙ sym (owned s p))
 
   -- what is shown at a dirty pixel is its raw word
   dirty_shown : s.input.mode ≡ Flat → (k : ℕ) → k < pixel_count s → dirty_at k ≡ true → (b : Bool) → in_bar (bar_rows s.config) (pixel s.config.width k) ≡ b
@@ -172,12 +171,12 @@ module _ (s : State) (taken sid : ℕ) (call : Call) (r : Reply) (glasses glasse
 
   pub kept_flat : s.input.mode ≡ Flat → IsCopied dirty_at (length raw') raw' old new → old ≡ frame (scenery_of s) raw → new ≡ frame (scenery_of s') raw'
   kept_flat flat copied was = renewed (scenery_of s) (scenery_of s') dirty_at raw raw' old new (record {
-      size = (refl, refl);
-      count = copied.count ∙ ap length was ∙ length-frame (scenery_of s) raw;
-      set = λ k l d. copied.words k (within k l) ∙ ap (λ (b : Bool). cond b (slice_index raw' k) (slice_index old k)) d ∙ sym (dirty_shown flat k l d (in_bar (bar_rows s.config) (pixel s.config.width k)) refl);
-      left = λ k l d. copied.words k (within k l) ∙ ap (λ (b : Bool). cond b (slice_index raw' k) (slice_index old k)) d;
-      same = λ k l d. clean_shown flat k l d (in_bar (bar_rows s.config) (pixel s.config.width k)) refl;
-    }) was
+    size = (refl, refl);
+    count = copied.count ∙ ap length was ∙ length-frame (scenery_of s) raw;
+    set = λ k l d. copied.words k (within k l) ∙ ap (λ (b : Bool). cond b (slice_index raw' k) (slice_index old k)) d ∙ sym (dirty_shown flat k l d (in_bar (bar_rows s.config) (pixel s.config.width k)) refl);
+    left = λ k l d. copied.words k (within k l) ∙ ap (λ (b : Bool). cond b (slice_index raw' k) (slice_index old k)) d;
+    same = λ k l d. clean_shown flat k l d (in_bar (bar_rows s.config) (pixel s.config.width k)) refl;
+  }) was
     where
       within : (k : ℕ) → k < pixel_count s → k < length raw'
       within k l = subst (λ (n : ℕ). k < n) (sym many) l

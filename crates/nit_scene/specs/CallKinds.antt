@@ -1,4 +1,5 @@
--- Calls by the pixels that they make dirty: those of one view, those of the session's views, or none.
+-- Calls by the pixels that they make dirty: those of one view, those of the session's views, or
+-- none.
 use Rattle.std.specs.Prelude.{◌≡◌, ℕ, Option, Some, None}
 use Rattle.nit_events.specs.declared.call.Call.{Call}
 use Rattle.nit_events.specs.declared.call.Call.TheVariants.{Place, Offset, Front, Back, Above, Destroy, Buffer, Refresh, View, Title, Take, Upgrade}
@@ -14,7 +15,8 @@ IsOn handle (Above v n) = v ≡ handle
 IsOn handle (Destroy v) = v ≡ handle
 IsOn handle other = ⊥
 
--- a call that asks for all pixels of its session's views, or for those that show this part of its buffer
+-- a call that asks for all pixels of its session's views, or for those that show this part of its
+-- buffer
 abbrev pub IsPartOf : Option Rectangle → Call → Type 0
 IsPartOf part (Buffer w h) = part ≡ None
 IsPartOf part (Refresh x y w h) = part ≡ Some (rectangle x y w h)

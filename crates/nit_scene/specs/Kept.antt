@@ -7,8 +7,10 @@ use Rattle.nit_scene.specs.Played.{scenery_of}
 use Rattle.nit_scene.specs.Serving.{Serving, state_of}
 
 -- A frame can be made: a raw word for each pixel, each below 2^24, a word of the frame for each,
--- room to cut out every view, the label of each session, and room for the place of each view's label.
-pub record CanShow (s : Serving) (raw shown : List ℕ) (room : ℕ) (labels : List (List ℕ)) (places : ℕ) : Type 0 where
+-- room to cut out every view, the label of each session, and room for the place of each view's
+-- label.
+pub record CanShow (s : Serving) (raw shown : List ℕ) (room : ℕ) (labels : List (List ℕ))
+    (places : ℕ) : Type 0 where
   pub words : All IsWord raw
   pub pixels : length raw ≡ s.config.width * s.config.height
   pub each : length shown ≡ s.config.width * s.config.height
@@ -18,7 +20,8 @@ pub record CanShow (s : Serving) (raw shown : List ℕ) (room : ℕ) (labels : L
 
 -- the pixels have all that a frame of the server is made by
 abbrev pub CanShowBy : Serving → Pixels → Type 0
-CanShowBy s p = CanShow s p.raw.items p.frame.items p.cutter.room p.labels.items (length p.places.items)
+CanShowBy s p =
+    CanShow s p.raw.items p.frame.items p.cutter.room p.labels.items (length p.places.items)
 
 -- and the frame is the one of the server's state and of the raw words
 abbrev pub ArePixels : Serving → Pixels → Type 0

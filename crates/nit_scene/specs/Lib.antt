@@ -9,6 +9,8 @@ pub use Rattle.nit_journal.specs.Session
 pub use Rattle.nit_journal.specs.State
 pub use Rattle.nit_journal.specs.Journals
 pub use Rattle.nit_journal.specs.Deliveries
+pub use Rattle.nit_journal.specs.Presses
+pub use Rattle.nit_journal.specs.Projections
 pub mod Dirty
 pub mod Painted
 pub mod Named
@@ -22,3 +24,4 @@ pub mod Opened
 pub mod Labelled
 pub mod CallKinds
 pub mod Kept
+pub mod Alone

@@ -22,45 +22,57 @@ ghost use Rattle.nit_scene.specs.Named.{HaveOwnNames, IsNewlyNamed, AreBelowNext
 
 use nit_journal::laws::deliveries_fit;
 
-/// A pixel that an entry does not make dirty has the source that it had before. The entry agrees with the state
-/// before it.
+/// A pixel that an entry does not make dirty has the source that it had before. The entry agrees
+/// with the state before it.
 pub fn clean_pixels_keep_their_source()
-    ensures { (s : State) (taken : ℕ) (e : Entry) (p : Point) → Agrees s taken e → dirty s e (after s e) p ≡ false → source_of (after s e) p ≡ source_of s p }
+    ensures { (s : State) (taken : ℕ) (e : Entry) (p : Point) → Agrees s taken e → dirty s e
+        (after s e) p ≡ false → source_of (after s e) p ≡ source_of s p }
 {
     deliveries_fit();
 }
 
-/// Where each raw word is the bare one, 0 or a word, as its pixel's source wants it, that holds again when the
-/// dirty pixels of an entry were loaded.
+/// Where each raw word is the bare one, 0 or a word, as its pixel's source wants it, that holds
+/// again when the dirty pixels of an entry were loaded.
 pub fn raw_stays_raw()
-    ensures { (s : State) (taken : ℕ) (e : Entry) (glasses glasses_after : ℕ → Sight) (raw raw_after : List ℕ) → Agrees s taken e
-        → Painted s e (after s e) glasses glasses_after raw raw_after → AreRaw s raw → AreRaw (after s e) raw_after }
+    ensures { (s : State) (taken : ℕ) (e : Entry) (glasses glasses_after : ℕ → Sight)
+        (raw raw_after : List ℕ) → Agrees s taken e
+        → Painted s e (after s e) glasses glasses_after raw raw_after → AreRaw s raw → AreRaw
+        (after s e) raw_after }
 {
     deliveries_fit();
 }
 
-/// Where each raw word that comes from a session is 0 or in its glass's ink, that holds again when the dirty pixels
-/// of an entry were loaded. The loads leave the inks as they are.
+/// Where each raw word that comes from a session is 0 or in its glass's ink, that holds again when
+/// the dirty pixels of an entry were loaded. The loads leave the inks as they are.
 pub fn ink_stays()
-    ensures { (s : State) (taken : ℕ) (e : Entry) (glasses glasses_after : ℕ → Sight) (raw raw_after : List ℕ) → Agrees s taken e
-        → Painted s e (after s e) glasses glasses_after raw raw_after → AreInked s glasses raw → AreInked (after s e) glasses_after raw_after }
+    ensures { (s : State) (taken : ℕ) (e : Entry) (glasses glasses_after : ℕ → Sight)
+        (raw raw_after : List ℕ) → Agrees s taken e
+        → Painted s e (after s e) glasses glasses_after raw raw_after → AreInked s glasses raw
+        → AreInked (after s e) glasses_after raw_after }
 {
     deliveries_fit();
 }
 
-/// No two views have the same session and handle: an entry keeps that where the view that it makes has a new name.
-/// It has one where each view's handle is below the next one of its session, and an entry that agrees keeps that
-/// too. So all of it holds in each state that a legal journal leads to.
+/// No two views have the same session and handle: an entry keeps that where the view that it makes
+/// has a new name. It has one where each view's handle is below the next one of its session, and an
+/// entry that agrees keeps that too. So all of it holds in each state that a legal journal leads
+/// to.
 pub fn names_stay_own()
-    ensures own { (s : State) (e : Entry) → HaveOwnNames s.stack → IsNewlyNamed e s.stack → HaveOwnNames (after s e).stack }
-    ensures new { (s : State) (taken : ℕ) (e : Entry) → AreBelowNext s → Agrees s taken e → IsNewlyNamed e s.stack }
-    ensures below { (s : State) (taken : ℕ) (e : Entry) → AreBelowNext s → Agrees s taken e → AreBelowNext (after s e) }
-    ensures legal { (config : Configuration) (journal : List Entry) → IsLegal config journal → HaveOwnNames (replay config journal).stack × AreBelowNext (replay config journal) }
+    ensures own { (s : State) (e : Entry) → HaveOwnNames s.stack → IsNewlyNamed e s.stack
+        → HaveOwnNames (after s e).stack }
+    ensures new { (s : State) (taken : ℕ) (e : Entry) → AreBelowNext s → Agrees s taken e
+        → IsNewlyNamed e s.stack }
+    ensures below { (s : State) (taken : ℕ) (e : Entry) → AreBelowNext s → Agrees s taken e
+        → AreBelowNext (after s e) }
+    ensures legal { (config : Configuration) (journal : List Entry) → IsLegal config journal
+        → HaveOwnNames (replay config journal).stack × AreBelowNext (replay config journal) }
 {}
 
 /// An accepted call on a view is a change of the view in its slot.
 pub(crate) fn calls_change_one_view()
-    ensures { (before after' : Serving) (sid handle k : ℕ) (call : Call) (r : Reply) (seat : Seat) → IsServing before → IsServing after' → refusal (session (state_of before) sid) call ≡ None
-        → IsServed sid call r before after' → IsOn handle call → IsNamedBy k sid handle before.stack.views → seat_in k before.stack.views ≡ Some seat
+    ensures { (before after' : Serving) (sid handle k : ℕ) (call : Call) (r : Reply) (seat : Seat)
+        → IsServing before → IsServing after' → refusal (session (state_of before) sid) call ≡ None
+        → IsServed sid call r before after' → IsOn handle call
+        → IsNamedBy k sid handle before.stack.views → seat_in k before.stack.views ≡ Some seat
         → IsChange k (place_of k before.stack.views) seat.view.rect before.stack after'.stack }
 {}

@@ -54,9 +54,11 @@ impl<G: Glass + Drop> Screen<G> {
     pub(crate) fn facts(&self)
         ensures serving { IsServing self.now.serving }
         ensures words { All IsWord self.now.raw }
-        ensures pixels { length self.now.raw ≡ self.now.serving.config.width * self.now.serving.config.height }
+        ensures pixels { length self.now.raw
+            ≡ self.now.serving.config.width * self.now.serving.config.height }
         ensures glasses { length self.now.glasses ≡ length self.now.serving.config.clients }
-        ensures tables { (t : ℕ) → t < length self.now.serving.config.clients → IsGlassOf self.now.serving t (glass_in (map G.sight self.now.glasses) t) }
+        ensures tables { (t : ℕ) → t < length self.now.serving.config.clients
+            → IsGlassOf self.now.serving t (glass_in (map G.sight self.now.glasses) t) }
     {
         let _ = &self.pixels;
         self.server.facts();

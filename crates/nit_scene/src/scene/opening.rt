@@ -1,6 +1,19 @@
 //! A scene before its first entry.
 
-ghost use Rattle.std.specs.Prelude.{◌≡◌, ◌+◌, ◌-◌, ◌<◌, ◌≤◌, IfOk, length, ℕ, ◌*◌, map, [], replicate};
+ghost use Rattle.std.specs.Prelude.{
+  ◌≡◌,
+  ◌+◌,
+  ◌-◌,
+  ◌<◌,
+  ◌≤◌,
+  IfOk,
+  length,
+  ℕ,
+  ◌*◌,
+  map,
+  [],
+  replicate,
+};
 ghost use Rattle.nit_word.specs.Channels.{bare_word};
 ghost use Rattle.nit_slots.specs.Slots.{spare};
 ghost use Rattle.nit_config.specs.Configured.{IsConfigured};
@@ -17,9 +30,10 @@ use nit_word::Glass;
 use std::alloc::Global;
 
 impl<G: Glass + Drop> Scene<G> {
-    /// A scene of this configuration without any view, whose journal is empty and has room for `room` entries, at most
-    /// 1,114,113. There is a glass for each client, in order, with the session's number as owner and a word for each
-    /// place of its table of pixels. All memory that the scene will ever use is taken here.
+    /// A scene of this configuration without any view, whose journal is empty and has room for
+    /// `room` entries, at most 1,114,113. There is a glass for each client, in order, with the
+    /// session's number as owner and a word for each place of its table of pixels. All memory that
+    /// the scene will ever use is taken here.
     pub fn new(
         alloc: Global,
         config: &Config,
@@ -29,7 +43,8 @@ impl<G: Glass + Drop> Scene<G> {
         requires config { IsConfigured config.now }
         requires room { room ≤ 1114113 }
         requires glasses { length glasses.items ≡ length config.now.clients }
-        requires tables { (t : ℕ) → t < length config.now.clients → IsGlass config.now t (glass_in (map G.sight glasses.items) t) }
+        requires tables { (t : ℕ) → t < length config.now.clients → IsGlass config.now t
+            (glass_in (map G.sight glasses.items) t) }
         ensures { IfOk result (λ s. s ≡ record {
           config = config.now;
           entries = [];

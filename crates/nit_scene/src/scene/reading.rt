@@ -10,8 +10,8 @@ use crate::scene::Scene;
 use nit_events::Status;
 use nit_word::Glass;
 
-/// How many slots of views the sessions have for their opening donations, how many views there are, and how many
-/// sessions.
+/// How many slots of views the sessions have for their opening donations, how many views there are,
+/// and how many sessions.
 #[derive(Clone, Copy, Debug, PartialEq, Eq)]
 pub struct Counts {
     pub reserved: u32,
@@ -20,8 +20,8 @@ pub struct Counts {
 }
 
 impl<G: Glass + Drop> Scene<G> {
-    /// How many slots of views the sessions have for their opening donations, how many views there are now, and how
-    /// many sessions.
+    /// How many slots of views the sessions have for their opening donations, how many views there
+    /// are now, and how many sessions.
     pub fn counts(&self) -> Counts
         ensures reserved { result.reserved ≡ reserved self.now.config }
         ensures used { result.used ≡ views_in_use (state_now self.now) }

@@ -1,6 +1,23 @@
 //! Calls of sessions, and exactly the pixels that they make dirty.
 
-ghost use Rattle.std.specs.Prelude.{◌≡◌, ◌+◌, ◌-◌, ◌^◌, ◌<◌, ◌≤◌, true, None, length, ℕ, ◌*◌, List, false, Some, map, slice_index_or};
+ghost use Rattle.std.specs.Prelude.{
+  ◌≡◌,
+  ◌+◌,
+  ◌-◌,
+  ◌^◌,
+  ◌<◌,
+  ◌≤◌,
+  true,
+  None,
+  length,
+  ℕ,
+  ◌*◌,
+  List,
+  false,
+  Some,
+  map,
+  slice_index_or,
+};
 ghost use Rattle.nit_rect.specs.Rectangle.{is_rectangle, rectangle};
 ghost use Rattle.nit_word.specs.Sight.{Sight};
 ghost use Rattle.nit_events.specs.declared.call.Call.TheVariants as call;
@@ -35,14 +52,20 @@ impl<G: Glass + Drop> Screen<G> {
         requires handles { (session_in self.old.serving.sessions sid).next < 2 ^ 32 - 1 }
         requires own { IsGlassOf self.old.serving sid (C.sight own.old) }
         ensures reply { result ≡ (serve (session (state_of self.old.serving) sid) call.now).reply }
-        ensures state { state_of self.new.serving ≡ after (state_of self.old.serving) (entry.Call sid call.now result) }
-        ensures painted { Painted (state_of self.old.serving) (entry.Call sid call.now result) (state_of self.new.serving)
-            (glasses_of_call (map G.sight self.old.glasses) sid (C.sight own.old)) (glasses_of_call (map G.sight self.new.glasses) sid (C.sight own.new)) self.old.raw self.new.raw }
-        ensures idle { glass_in (map G.sight self.new.glasses) sid ≡ glass_in (map G.sight self.old.glasses) sid }
+        ensures state { state_of self.new.serving ≡ after (state_of self.old.serving)
+            (entry.Call sid call.now result) }
+        ensures painted { Painted (state_of self.old.serving) (entry.Call sid call.now result)
+            (state_of self.new.serving)
+            (glasses_of_call (map G.sight self.old.glasses) sid (C.sight own.old))
+            (glasses_of_call (map G.sight self.new.glasses) sid (C.sight own.new))
+            self.old.raw self.new.raw }
+        ensures idle { glass_in (map G.sight self.new.glasses) sid ≡ glass_in
+            (map G.sight self.old.glasses) sid }
         ensures rest { C.rest own.new ≡ C.rest own.old }
         ensures rests { map G.rest self.new.glasses ≡ map G.rest self.old.glasses }
         ensures refused { is_accepted result ≡ false
-            → (self.new.raw ≡ self.old.raw) × (self.new.glasses ≡ self.old.glasses) × (C.sight own.new ≡ C.sight own.old) }
+            → (self.new.raw ≡ self.old.raw) × (self.new.glasses ≡ self.old.glasses) ×
+            (C.sight own.new ≡ C.sight own.old) }
     {
         if let Some(reply) = self.server.refused(sid, call) {
             return reply;
@@ -73,13 +96,18 @@ pub(crate) fn serve_call<G: Glass, C: Glass>(
     requires handles { (session_in server.old.sessions sid).next < 2 ^ 32 - 1 }
     requires pixels { ArePixels server.old pixels.old }
     requires glasses { length glasses.old.items ≡ length server.old.config.clients }
-    requires tables { (t : ℕ) → t < length server.old.config.clients → IsGlassOf server.old t (glass_in (map G.sight glasses.old.items) t) }
+    requires tables { (t : ℕ) → t < length server.old.config.clients → IsGlassOf server.old t
+        (glass_in (map G.sight glasses.old.items) t) }
     requires own { IsGlassOf server.old sid (C.sight own.old) }
     ensures served { IsServed sid call.now result server.old server.new }
     ensures pixels { ArePixels server.new pixels.new }
-    ensures painted { Painted (state_of server.old) (entry.Call sid call.now result) (state_of server.new)
-        (glasses_of_call (map G.sight glasses.old.items) sid (C.sight own.old)) (glasses_of_call (map G.sight glasses.new.items) sid (C.sight own.new)) pixels.old.raw.items pixels.new.raw.items }
-    ensures idle { slice_index_or (map G.sight glasses.new.items) sid no_sight ≡ slice_index_or (map G.sight glasses.old.items) sid no_sight }
+    ensures painted { Painted (state_of server.old) (entry.Call sid call.now result)
+        (state_of server.new)
+        (glasses_of_call (map G.sight glasses.old.items) sid (C.sight own.old))
+        (glasses_of_call (map G.sight glasses.new.items) sid (C.sight own.new))
+        pixels.old.raw.items pixels.new.raw.items }
+    ensures idle { glass_in (map G.sight glasses.new.items) sid ≡ glass_in
+        (map G.sight glasses.old.items) sid }
     ensures rest { C.rest own.new ≡ C.rest own.old }
     ensures rests { map G.rest glasses.new.items ≡ map G.rest glasses.old.items }
 {
@@ -89,9 +117,7 @@ pub(crate) fn serve_call<G: Glass, C: Glass>(
         | Call::Front(handle)
         | Call::Back(handle)
         | Call::Above(handle, _)
-        | Call::Destroy(handle) => {
-            change_view(server, pixels, glasses, sid, handle, call, own)
-        }
+        | Call::Destroy(handle) => { change_view(server, pixels, glasses, sid, handle, call, own) }
         Call::Buffer(..) => change_buffer(server, pixels, glasses, sid, &None, call, own),
         Call::Refresh(x, y, w, h) => {
             let part = part(x, y, w, h);

@@ -27,15 +27,20 @@ impl<G: Glass + Drop> Screen<G> {
     /// Serves a device event. Exactly the pixels of a session that is locked out are loaded again.
     pub(crate) fn input(&mut self, dev: Device) -> Routed
         requires device { IsDevice dev }
-        requires live { All (λ d. IsLive (state_of self.old.serving) d.sid) (routing_of self.old.serving dev).deliveries }
+        requires live { All (λ d. IsLive (state_of self.old.serving) d.sid)
+            (routing_of self.old.serving dev).deliveries }
         requires lost { MayLose 3 self.old.serving }
         ensures routed { result ≡ routed_as (routing_of self.old.serving dev).deliveries }
         ensures delivered { deliveries_of result ≡ (routing_of self.old.serving dev).deliveries }
-        ensures state { state_of self.new.serving ≡ after (state_of self.old.serving) (entry.Input dev result) }
-        ensures painted { Painted (state_of self.old.serving) (entry.Input dev result) (state_of self.new.serving)
-            (glass_in (map G.sight self.old.glasses)) (glass_in (map G.sight self.new.glasses)) self.old.raw self.new.raw }
+        ensures state { state_of self.new.serving ≡ after (state_of self.old.serving)
+            (entry.Input dev result) }
+        ensures painted { Painted (state_of self.old.serving) (entry.Input dev result)
+            (state_of self.new.serving)
+            (glass_in (map G.sight self.old.glasses)) (glass_in (map G.sight self.new.glasses))
+            self.old.raw self.new.raw }
         ensures rests { map G.rest self.new.glasses ≡ map G.rest self.old.glasses }
-        ensures quiet { kills (deliveries_of result) ≡ false → (self.new.raw ≡ self.old.raw) × (self.new.glasses ≡ self.old.glasses) }
+        ensures quiet { kills (deliveries_of result) ≡ false → (self.new.raw ≡ self.old.raw) ×
+            (self.new.glasses ≡ self.old.glasses) }
     {
         kills_stand_alone();
         self.server.facts();
@@ -43,12 +48,7 @@ impl<G: Glass + Drop> Screen<G> {
         let focus = self.server.focus();
         let routed = self.server.route(dev);
         if let Some(sid) = killed(&routed) {
-            kill_session(
-                &mut self.server,
-                sid,
-                &mut self.pixels,
-                &mut self.glasses,
-            );
+            kill_session(&mut self.server, sid, &mut self.pixels, &mut self.glasses);
             return routed;
         }
         self.server.tell_all(&routed);

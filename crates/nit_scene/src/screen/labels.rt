@@ -1,6 +1,16 @@
 //! Where the labels of the views stand.
 
-ghost use Rattle.std.specs.Prelude.{◌≡◌, ◌-◌, ◌<◌, ◌≤◌, length, IsTrue, Some, slice_get, option_map};
+ghost use Rattle.std.specs.Prelude.{
+  ◌≡◌,
+  ◌-◌,
+  ◌<◌,
+  ◌≤◌,
+  length,
+  IsTrue,
+  Some,
+  slice_get,
+  option_map,
+};
 ghost use Rattle.nit_rect.specs.declared.point.Point.{Point};
 ghost use Rattle.nit_stack.specs.Standing.{Seat};
 ghost use Rattle.nit_overlay.specs.Looks.{draws_labels, pixel_at};
@@ -26,8 +36,8 @@ pub(crate) fn place_drawn(mode: Mode, stack: &Stack, labels: &[Label], places: &
     }
 }
 
-/// Sets `places` at the slot of each view of the stack to the place of the view's label, or to none where it fits
-/// nowhere. `labels` has the label of each session. No memory is taken.
+/// Sets `places` at the slot of each view of the stack to the place of the view's label, or to none
+/// where it fits nowhere. `labels` has the label of each session. No memory is taken.
 fn place_labels(stack: &Stack, labels: &[Label], places: &mut [Option<Point>])
     requires labels { length labels.now ≡ length stack.now.sizes }
     requires slots { stack.now.most ≤ length places.old }
@@ -45,7 +55,8 @@ fn place_labels(stack: &Stack, labels: &[Label], places: &mut [Option<Point>])
 fn place_of_view(stack: &Stack, labels: &[Label], i: u32) -> Option<Point>
     requires labels { length labels.now ≡ length stack.now.sizes }
     requires view { i < length stack.now.views }
-    ensures { (s : Seat) → slice_get stack.now.views i ≡ Some s → result ≡ option_map pixel_at (place_of (labelled stack.now labels.now) s.view) }
+    ensures { (s : Seat) → slice_get stack.now.views i ≡ Some s → result ≡ option_map pixel_at
+        (place_of (labelled stack.now labels.now) s.view) }
 {
     let v = stack.at(i);
     let view = stack.view(v);

@@ -20,11 +20,14 @@ impl<G: Glass + Drop> Screen<G> {
     /// Loads every pixel again by these glasses, one for each session.
     pub(crate) fn load_all<C: Glass>(&mut self, owns: &mut [C])
         requires owns { length owns.old ≡ length self.old.serving.config.clients }
-        requires tables { (t : ℕ) → t < length self.old.serving.config.clients → IsGlassOf self.old.serving t (glass_in (map C.sight owns.old) t) }
+        requires tables { (t : ℕ) → t < length self.old.serving.config.clients
+            → IsGlassOf self.old.serving t (glass_in (map C.sight owns.old) t) }
         ensures serving { self.new.serving ≡ self.old.serving }
         ensures glasses { self.new.glasses ≡ self.old.glasses }
-        ensures painted { Painted (state_of self.old.serving) entry.Final (state_of self.new.serving)
-            (glass_in (map C.sight owns.old)) (glass_in (map C.sight owns.new)) self.old.raw self.new.raw }
+        ensures painted { Painted (state_of self.old.serving) entry.Final
+            (state_of self.new.serving)
+            (glass_in (map C.sight owns.old)) (glass_in (map C.sight owns.new))
+            self.old.raw self.new.raw }
         ensures rests { map C.rest owns.new ≡ map C.rest owns.old }
     {
         self.server.facts();
@@ -48,10 +51,12 @@ pub(crate) fn load_whole<C: Glass>(
     requires room { server.now.stack.most ≤ cutter.old.room }
     requires pixels { length raw.old.items ≡ server.now.config.width * server.now.config.height }
     requires few { length owns.old ≤ 16 }
-    requires held { HoldBuffers server.now.stack (length owns.old) (glass_in (map C.sight owns.old)) }
+    requires held { HoldBuffers server.now.stack (length owns.old)
+        (glass_in (map C.sight owns.old)) }
     ensures room { cutter.new.room ≡ cutter.old.room }
     ensures painted { Repainted (source_at server.now.stack) (λ k. true) (length raw.old.items)
-        (glass_in (map C.sight owns.old)) (glass_in (map C.sight owns.new)) raw.old.items raw.new.items }
+        (glass_in (map C.sight owns.old)) (glass_in (map C.sight owns.new))
+        raw.old.items raw.new.items }
     ensures long { length raw.new.items ≡ length raw.old.items }
     ensures rests { map C.rest owns.new ≡ map C.rest owns.old }
     ensures facts { IsServing server.now }

@@ -1,6 +1,19 @@
 //! A screen before its first entry.
 
-ghost use Rattle.std.specs.Prelude.{◌≡◌, ◌+◌, ◌-◌, ◌<◌, ◌≤◌, None, IfOk, length, ℕ, ◌*◌, map, replicate};
+ghost use Rattle.std.specs.Prelude.{
+  ◌≡◌,
+  ◌+◌,
+  ◌-◌,
+  ◌<◌,
+  ◌≤◌,
+  None,
+  IfOk,
+  length,
+  ℕ,
+  ◌*◌,
+  map,
+  replicate,
+};
 ghost use Rattle.nit_rect.specs.declared.point.Point.{Point};
 ghost use Rattle.nit_word.specs.Channels.{bare_word};
 ghost use Rattle.nit_config.specs.Configured.{IsConfigured};
@@ -31,9 +44,11 @@ impl<G: Glass + Drop> Screen<G> {
     ) -> Result<Screen<G>, NoMemory>
         requires config { IsConfigured config.now }
         requires glasses { length glasses.items ≡ length config.now.clients }
-        requires tables { (t : ℕ) → t < length config.now.clients → IsGlass config.now t (glass_in (map G.sight glasses.items) t) }
+        requires tables { (t : ℕ) → t < length config.now.clients → IsGlass config.now t
+            (glass_in (map G.sight glasses.items) t) }
         ensures state { IfOk result (λ s. state_of s.serving ≡ opening config.now) }
-        ensures raw { IfOk result (λ s. s.raw ≡ replicate (config.now.width * config.now.height) bare_word) }
+        ensures raw { IfOk result (λ s. s.raw ≡ replicate
+            (config.now.width * config.now.height) bare_word) }
         ensures glasses { IfOk result (λ s. s.glasses ≡ glasses.items) }
     {
         let server = Server::new(alloc, config)?;
@@ -85,7 +100,8 @@ fn labels_of(alloc: Global, config: &Config) -> Result<Vec<Label>, NoMemory>
 /// The bare word for each pixel of the screen.
 fn bare_words(alloc: Global, config: &Config) -> Result<Vec<u32>, NoMemory>
     requires { IsConfigured config.now }
-    ensures words { IfOk result (λ v. v.items ≡ replicate (config.now.width * config.now.height) bare_word) }
+    ensures words { IfOk result (λ v. v.items ≡ replicate
+        (config.now.width * config.now.height) bare_word) }
     ensures count { IfOk result (λ v. length v.items ≡ config.now.width * config.now.height) }
 {
     let pixels = config.width as usize * config.height as usize;

@@ -1,7 +1,19 @@
 //! The pixels of a screen, and the frame that is kept of them.
 
 ghost use Rattle.std.specs.Prelude.{
-    ◌≡◌, ℕ, ◌*◌, ◌<◌, ◌≤◌, All, IsTrue, Option, length, map, pos, slice_index, if◌then◌else◌
+  ◌≡◌,
+  ℕ,
+  ◌*◌,
+  ◌<◌,
+  ◌≤◌,
+  All,
+  IsTrue,
+  Option,
+  length,
+  map,
+  pos,
+  slice_index,
+  if◌then◌else◌,
 };
 ghost use Rattle.nit_rect.specs.Rectangle.{covers, rectangle};
 ghost use Rattle.nit_word.specs.Inks.{IsWord};
@@ -83,8 +95,8 @@ pub(crate) fn redraw(server: &Server, pixels: &mut Pixels)
 }
 
 /// Shows again, after the input went on, what was shown in this mode with this focus: the bar where
-/// the focus moved in mode Flat, the whole frame where the mode changed or the focus moved in another
-/// mode, and nothing else.
+/// the focus moved in mode Flat, the whole frame where the mode changed or the focus moved in
+/// another mode, and nothing else.
 pub(crate) fn show_input(server: &Server, mode: Mode, focus: Option<u32>, pixels: &mut Pixels)
     requires can { CanShowBy server.now pixels.old }
     requires before { pixels.old.frame.items
@@ -126,13 +138,7 @@ fn redraw_bar(server: &Server, pixels: &mut Pixels)
 }
 
 /// Sets the pixels of the bar to what is shown there in mode Flat.
-fn bar_of(
-    server: &Server,
-    labels: &[Label],
-    places: &[Option<Point>],
-    raw: &[u32],
-    out: &mut [u32],
-)
+fn bar_of(server: &Server, labels: &[Label], places: &[Option<Point>], raw: &[u32], out: &mut [u32])
     requires flat { server.now.input.mode ≡ Flat }
     requires named { labels.now ≡ map (λ m. m.label) server.now.config.clients }
     requires pixels { length raw.now ≡ server.now.config.width * server.now.config.height }
@@ -142,9 +148,9 @@ fn bar_of(
     ensures shown { (k : ℕ) → k < server.now.config.width * server.now.config.height
         → slice_index out.new k
         ≡ (if covers (rectangle (pos 0) (pos 0) server.now.config.width server.now.stack.bar)
-            (pixel server.now.config.width k)
+        (pixel server.now.config.width k)
         then shown (scenery_of (state_of server.now)) (pixel server.now.config.width k)
-            (slice_index raw.now k)
+        (slice_index raw.now k)
         else slice_index out.old k) }
     ensures length { length out.new ≡ length out.old }
 {
@@ -172,8 +178,8 @@ fn bar_rect(server: &Server) -> Rect
     rect
 }
 
-/// Shows again what a view owned before a change, or owns after it, once it was loaded: these pixels
-/// in mode Flat, and the whole frame in the others.
+/// Shows again what a view owned before a change, or owns after it, once it was loaded: these
+/// pixels in mode Flat, and the whole frame in the others.
 pub(crate) fn show_view(
     mode: Mode,
     server: &Server,
@@ -186,9 +192,12 @@ pub(crate) fn show_view(
     requires can { CanShowBy server.now pixels.old }
     ensures can { CanShowBy server.now pixels.new }
     ensures raw { pixels.new.raw ≡ pixels.old.raw }
-    ensures flat { mode ≡ Flat → (before : Standing) → IsChange v.0 place rect before server.now.stack
-        → IsCopied (λ k. slot_owns_either v.0 before server.now.stack (pixel server.now.stack.width k))
-        (length pixels.new.raw.items) pixels.new.raw.items pixels.old.frame.items pixels.new.frame.items }
+    ensures flat { mode ≡ Flat → (before : Standing)
+        → IsChange v.0 place rect before server.now.stack
+        → IsCopied (λ k. slot_owns_either v.0 before server.now.stack
+        (pixel server.now.stack.width k))
+        (length pixels.new.raw.items) pixels.new.raw.items
+        pixels.old.frame.items pixels.new.frame.items }
     ensures labelled { IsTrue (draws_labels mode)
         → pixels.new.frame.items ≡ frame (scenery_of (state_of server.now)) pixels.new.raw.items }
 {
@@ -221,7 +230,8 @@ fn copy_view(
     requires out { length out.old.items ≡ length raw.now.items }
     ensures room { cutter.new.room ≡ cutter.old.room }
     ensures shown { (before : Standing) → IsChange v.0 place rect before server.now.stack
-        → IsCopied (λ k. slot_owns_either v.0 before server.now.stack (pixel server.now.stack.width k))
+        → IsCopied (λ k. slot_owns_either v.0 before server.now.stack
+        (pixel server.now.stack.width k))
         (length raw.now.items) raw.now.items out.old.items out.new.items }
     ensures count { length out.new.items ≡ length out.old.items }
 {
@@ -236,8 +246,8 @@ fn copy_view(
     );
 }
 
-/// Shows again what views of a session own and what of it shows this part of its buffer, or all of it,
-/// once it was loaded: these pixels in mode Flat, and the whole frame in the others.
+/// Shows again what views of a session own and what of it shows this part of its buffer, or all of
+/// it, once it was loaded: these pixels in mode Flat, and the whole frame in the others.
 pub(crate) fn show_part(
     mode: Mode,
     server: &Server,
@@ -251,7 +261,8 @@ pub(crate) fn show_part(
     ensures raw { pixels.new.raw ≡ pixels.old.raw }
     ensures flat { mode ≡ Flat
         → IsCopied (λ k. wanted of part.now server.now.stack (pixel server.now.stack.width k))
-        (length pixels.new.raw.items) pixels.new.raw.items pixels.old.frame.items pixels.new.frame.items }
+        (length pixels.new.raw.items) pixels.new.raw.items
+        pixels.old.frame.items pixels.new.frame.items }
     ensures labelled { IsTrue (draws_labels mode)
         → pixels.new.frame.items ≡ frame (scenery_of (state_of server.now)) pixels.new.raw.items }
 {
@@ -268,8 +279,8 @@ pub(crate) fn show_part(
     }
 }
 
-/// Sets the frame to the raw words of what views of a session own, or of what of it shows a part of its
-/// buffer.
+/// Sets the frame to the raw words of what views of a session own, or of what of it shows a part of
+/// its buffer.
 fn copy_part(
     server: &Server,
     of: u32,
@@ -296,8 +307,8 @@ fn copy_part(
     );
 }
 
-/// Shows again all, in the modes that draw labels, where the views or their titles changed and no pixel
-/// was loaded. In mode Flat the frame stays.
+/// Shows again all, in the modes that draw labels, where the views or their titles changed and no
+/// pixel was loaded. In mode Flat the frame stays.
 pub(crate) fn show_views(mode: Mode, server: &Server, pixels: &mut Pixels)
     requires mode { mode ≡ server.now.input.mode }
     requires can { CanShowBy server.now pixels.old }

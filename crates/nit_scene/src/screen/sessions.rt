@@ -1,6 +1,18 @@
 //! Calls on a whole session, its end, and exactly the pixels that they make dirty.
 
-ghost use Rattle.std.specs.Prelude.{◌≡◌, ◌-◌, ◌^◌, ◌<◌, ◌≤◌, None, length, ℕ, ◌*◌, map, slice_index_or};
+ghost use Rattle.std.specs.Prelude.{
+  ◌≡◌,
+  ◌-◌,
+  ◌^◌,
+  ◌<◌,
+  ◌≤◌,
+  None,
+  length,
+  ℕ,
+  ◌*◌,
+  map,
+  slice_index_or,
+};
 ghost use Rattle.nit_events.specs.declared.call.Call.TheVariants as call;
 ghost use Rattle.nit_events.specs.declared.entry.Entry.TheVariants as entry;
 ghost use Rattle.nit_events.specs.declared.event.Status.TheVariants as status;
@@ -14,7 +26,12 @@ ghost use Rattle.nit_repaint.specs.Parts.{wanted};
 ghost use Rattle.nit_scene.specs.CallKinds.{IsPartOf};
 ghost use Rattle.nit_scene.specs.Dirty.{session_owns};
 ghost use Rattle.nit_scene.specs.Kept.{ArePixels, CanShowBy};
-ghost use Rattle.nit_scene.specs.Painted.{Painted, glass_in, pixel_count, source_at as scene_source_at};
+ghost use Rattle.nit_scene.specs.Painted.{
+  Painted,
+  glass_in,
+  pixel_count,
+  source_at as scene_source_at,
+};
 ghost use Rattle.nit_scene.specs.Seating.{with_ended};
 ghost use Rattle.nit_scene.specs.Serving.{IsServing, IsServed, state_of};
 ghost use Rattle.nit_scene.specs.Showing.{IsGlassOf};
@@ -28,8 +45,8 @@ use nit_rect::Rect;
 use nit_repaint::{Nobody, paint_session};
 use nit_word::Glass;
 
-/// Serves an accepted call that asks for the pixels of all views of its session, or of those that show this part of its
-/// buffer, and loads them again.
+/// Serves an accepted call that asks for the pixels of all views of its session, or of those that
+/// show this part of its buffer, and loads them again.
 pub(crate) fn change_buffer<G: Glass, C: Glass>(
     server: &mut Server,
     pixels: &mut Pixels,
@@ -45,13 +62,18 @@ pub(crate) fn change_buffer<G: Glass, C: Glass>(
     requires on { IsPartOf part.now call.now }
     requires pixels { ArePixels server.old pixels.old }
     requires glasses { length glasses.old.items ≡ length server.old.config.clients }
-    requires tables { (t : ℕ) → t < length server.old.config.clients → IsGlassOf server.old t (glass_in (map G.sight glasses.old.items) t) }
+    requires tables { (t : ℕ) → t < length server.old.config.clients → IsGlassOf server.old t
+        (glass_in (map G.sight glasses.old.items) t) }
     requires own { IsGlassOf server.old sid (C.sight own.old) }
     ensures served { IsServed sid call.now result server.old server.new }
     ensures pixels { ArePixels server.new pixels.new }
-    ensures painted { Painted (state_of server.old) (entry.Call sid call.now result) (state_of server.new)
-        (glasses_of_call (map G.sight glasses.old.items) sid (C.sight own.old)) (glasses_of_call (map G.sight glasses.new.items) sid (C.sight own.new)) pixels.old.raw.items pixels.new.raw.items }
-    ensures idle { slice_index_or (map G.sight glasses.new.items) sid no_sight ≡ slice_index_or (map G.sight glasses.old.items) sid no_sight }
+    ensures painted { Painted (state_of server.old) (entry.Call sid call.now result)
+        (state_of server.new)
+        (glasses_of_call (map G.sight glasses.old.items) sid (C.sight own.old))
+        (glasses_of_call (map G.sight glasses.new.items) sid (C.sight own.new))
+        pixels.old.raw.items pixels.new.raw.items }
+    ensures idle { glass_in (map G.sight glasses.new.items) sid ≡ glass_in
+        (map G.sight glasses.old.items) sid }
     ensures rest { C.rest own.new ≡ C.rest own.old }
     ensures rests { map G.rest glasses.new.items ≡ map G.rest glasses.old.items }
 {
@@ -83,12 +105,18 @@ fn paint_views<G: Glass, C: Glass>(
 )
     requires room { length server.now.stack.views ≤ cutter.old.room }
     requires pixels { length raw.old.items ≡ server.now.stack.width * server.now.stack.height }
-    requires held { HoldBuffers server.now.stack (length glasses.old.items) (glasses_of_call (map G.sight glasses.old.items) sid (C.sight own.old)) }
+    requires held { HoldBuffers server.now.stack (length glasses.old.items)
+        (glasses_of_call (map G.sight glasses.old.items) sid (C.sight own.old)) }
     ensures room { cutter.new.room ≡ cutter.old.room }
-    ensures painted { Repainted (source_at server.now.stack) (λ k. wanted sid part.now server.now.stack (pixel server.now.stack.width k)) (length raw.old.items)
-        (glasses_of_call (map G.sight glasses.old.items) sid (C.sight own.old)) (glasses_of_call (map G.sight glasses.new.items) sid (C.sight own.new)) raw.old.items raw.new.items }
+    ensures painted { Repainted (source_at server.now.stack)
+        (λ k. wanted sid part.now server.now.stack (pixel server.now.stack.width k))
+        (length raw.old.items)
+        (glasses_of_call (map G.sight glasses.old.items) sid (C.sight own.old))
+        (glasses_of_call (map G.sight glasses.new.items) sid (C.sight own.new))
+        raw.old.items raw.new.items }
     ensures count { length raw.new.items ≡ length raw.old.items }
-    ensures idle { slice_index_or (map G.sight glasses.new.items) sid no_sight ≡ slice_index_or (map G.sight glasses.old.items) sid no_sight }
+    ensures idle { glass_in (map G.sight glasses.new.items) sid ≡ glass_in
+        (map G.sight glasses.old.items) sid }
     ensures rest { C.rest own.new ≡ C.rest own.old }
     ensures rests { map G.rest glasses.new.items ≡ map G.rest glasses.old.items }
 {
@@ -116,13 +144,18 @@ pub(crate) fn close<G: Glass, C: Glass>(
     requires accepted { refusal (session_in server.old.sessions sid) (call.Close) ≡ None }
     requires pixels { ArePixels server.old pixels.old }
     requires glasses { length glasses.old.items ≡ length server.old.config.clients }
-    requires tables { (t : ℕ) → t < length server.old.config.clients → IsGlassOf server.old t (glass_in (map G.sight glasses.old.items) t) }
+    requires tables { (t : ℕ) → t < length server.old.config.clients → IsGlassOf server.old t
+        (glass_in (map G.sight glasses.old.items) t) }
     requires own { IsGlassOf server.old sid (C.sight own.old) }
     ensures served { IsServed sid (call.Close) result server.old server.new }
     ensures pixels { ArePixels server.new pixels.new }
-    ensures painted { Painted (state_of server.old) (entry.Call sid (call.Close) result) (state_of server.new)
-        (glasses_of_call (map G.sight glasses.old.items) sid (C.sight own.old)) (glasses_of_call (map G.sight glasses.new.items) sid (C.sight own.new)) pixels.old.raw.items pixels.new.raw.items }
-    ensures idle { slice_index_or (map G.sight glasses.new.items) sid no_sight ≡ slice_index_or (map G.sight glasses.old.items) sid no_sight }
+    ensures painted { Painted (state_of server.old) (entry.Call sid (call.Close) result)
+        (state_of server.new)
+        (glasses_of_call (map G.sight glasses.old.items) sid (C.sight own.old))
+        (glasses_of_call (map G.sight glasses.new.items) sid (C.sight own.new))
+        pixels.old.raw.items pixels.new.raw.items }
+    ensures idle { glass_in (map G.sight glasses.new.items) sid ≡ glass_in
+        (map G.sight glasses.old.items) sid }
     ensures rest { C.rest own.new ≡ C.rest own.old }
     ensures rests { map G.rest glasses.new.items ≡ map G.rest glasses.old.items }
 {
@@ -141,7 +174,8 @@ pub(crate) fn close<G: Glass, C: Glass>(
     Reply::Done
 }
 
-/// Locks a session out, and loads again exactly the pixels that it owned, through the glasses of the others.
+/// Locks a session out, and loads again exactly the pixels that it owned, through the glasses of
+/// the others.
 pub(crate) fn kill_session<G: Glass>(
     server: &mut Server,
     of: u32,
@@ -151,11 +185,15 @@ pub(crate) fn kill_session<G: Glass>(
     requires session { of < length server.old.sessions }
     requires can { CanShowBy server.old pixels.old }
     requires glasses { length glasses.old.items ≡ length server.old.config.clients }
-    requires tables { (t : ℕ) → t < length server.old.config.clients → IsGlassOf server.old t (glass_in (map G.sight glasses.old.items) t) }
+    requires tables { (t : ℕ) → t < length server.old.config.clients → IsGlassOf server.old t
+        (glass_in (map G.sight glasses.old.items) t) }
     ensures server { server.new ≡ with_ended of status.Killed server.old }
     ensures pixels { ArePixels server.new pixels.new }
-    ensures painted { Repainted (scene_source_at (state_of server.new)) (λ k. session_owns of (state_of server.old) (pixel server.old.config.width k)) (pixel_count (state_of server.old))
-        (glass_in (map G.sight glasses.old.items)) (glass_in (map G.sight glasses.new.items)) pixels.old.raw.items pixels.new.raw.items }
+    ensures painted { Repainted (scene_source_at (state_of server.new))
+        (λ k. session_owns of (state_of server.old) (pixel server.old.config.width k))
+        (pixel_count (state_of server.old))
+        (glass_in (map G.sight glasses.old.items)) (glass_in (map G.sight glasses.new.items))
+        pixels.old.raw.items pixels.new.raw.items }
     ensures rests { map G.rest glasses.new.items ≡ map G.rest glasses.old.items }
 {
     server.facts();
@@ -187,14 +225,20 @@ fn end_session<G: Glass, C: Glass>(
     requires session { of < length server.old.sessions }
     requires room { server.old.stack.most ≤ cutter.old.room }
     requires pixels { length raw.old.items ≡ server.old.config.width * server.old.config.height }
-    requires held { HoldBuffers server.old.stack (length glasses.old.items) (glasses_of_call (map G.sight glasses.old.items) sid (C.sight own.old)) }
+    requires held { HoldBuffers server.old.stack (length glasses.old.items)
+        (glasses_of_call (map G.sight glasses.old.items) sid (C.sight own.old)) }
     ensures server { server.new ≡ with_ended of how server.old }
     ensures facts { IsServing server.old × IsServing server.new }
     ensures room { cutter.new.room ≡ cutter.old.room }
-    ensures painted { Repainted (scene_source_at (state_of server.new)) (λ k. session_owns of (state_of server.old) (pixel server.old.config.width k)) (pixel_count (state_of server.old))
-        (glasses_of_call (map G.sight glasses.old.items) sid (C.sight own.old)) (glasses_of_call (map G.sight glasses.new.items) sid (C.sight own.new)) raw.old.items raw.new.items }
+    ensures painted { Repainted (scene_source_at (state_of server.new))
+        (λ k. session_owns of (state_of server.old) (pixel server.old.config.width k))
+        (pixel_count (state_of server.old))
+        (glasses_of_call (map G.sight glasses.old.items) sid (C.sight own.old))
+        (glasses_of_call (map G.sight glasses.new.items) sid (C.sight own.new))
+        raw.old.items raw.new.items }
     ensures count { length raw.new.items ≡ length raw.old.items }
-    ensures idle { slice_index_or (map G.sight glasses.new.items) sid no_sight ≡ slice_index_or (map G.sight glasses.old.items) sid no_sight }
+    ensures idle { glass_in (map G.sight glasses.new.items) sid ≡ glass_in
+        (map G.sight glasses.old.items) sid }
     ensures rest { C.rest own.new ≡ C.rest own.old }
     ensures rests { map G.rest glasses.new.items ≡ map G.rest glasses.old.items }
 {

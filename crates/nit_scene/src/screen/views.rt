@@ -1,7 +1,24 @@
 //! Calls on one view, and exactly the pixels that they make dirty.
 
 ghost use Rattle.std.specs.List.{list_any};
-ghost use Rattle.std.specs.Prelude.{◌≡◌, ◌+◌, ◌-◌, ◌^◌, ◌<◌, ◌≤◌, true, None, length, ℕ, ◌*◌, false, drop, Some, map, slice_index_or};
+ghost use Rattle.std.specs.Prelude.{
+  ◌≡◌,
+  ◌+◌,
+  ◌-◌,
+  ◌^◌,
+  ◌<◌,
+  ◌≤◌,
+  true,
+  None,
+  length,
+  ℕ,
+  ◌*◌,
+  false,
+  drop,
+  Some,
+  map,
+  slice_index_or,
+};
 ghost use Rattle.nit_events.specs.declared.entry.Entry.TheVariants as entry;
 ghost use Rattle.nit_stack.specs.Sources.{pixel};
 ghost use Rattle.nit_stack.specs.Standing.{Seat, Standing, has, is_of_session, place_of, seat_in};
@@ -30,7 +47,8 @@ use nit_repaint::paint_changed;
 use nit_stack::ViewRef;
 use nit_word::Glass;
 
-/// Serves an accepted call on a view that stands in this slot, and loads again what the view owned before or owns after.
+/// Serves an accepted call on a view that stands in this slot, and loads again what the view owned
+/// before or owns after.
 pub(crate) fn change_view<G: Glass, C: Glass>(
     server: &mut Server,
     pixels: &mut Pixels,
@@ -46,13 +64,18 @@ pub(crate) fn change_view<G: Glass, C: Glass>(
     requires on { IsOn handle call.now }
     requires pixels { ArePixels server.old pixels.old }
     requires glasses { length glasses.old.items ≡ length server.old.config.clients }
-    requires tables { (t : ℕ) → t < length server.old.config.clients → IsGlassOf server.old t (glass_in (map G.sight glasses.old.items) t) }
+    requires tables { (t : ℕ) → t < length server.old.config.clients → IsGlassOf server.old t
+        (glass_in (map G.sight glasses.old.items) t) }
     requires own { IsGlassOf server.old sid (C.sight own.old) }
     ensures served { IsServed sid call.now result server.old server.new }
     ensures pixels { ArePixels server.new pixels.new }
-    ensures painted { Painted (state_of server.old) (entry.Call sid call.now result) (state_of server.new)
-        (glasses_of_call (map G.sight glasses.old.items) sid (C.sight own.old)) (glasses_of_call (map G.sight glasses.new.items) sid (C.sight own.new)) pixels.old.raw.items pixels.new.raw.items }
-    ensures idle { slice_index_or (map G.sight glasses.new.items) sid no_sight ≡ slice_index_or (map G.sight glasses.old.items) sid no_sight }
+    ensures painted { Painted (state_of server.old) (entry.Call sid call.now result)
+        (state_of server.new)
+        (glasses_of_call (map G.sight glasses.old.items) sid (C.sight own.old))
+        (glasses_of_call (map G.sight glasses.new.items) sid (C.sight own.new))
+        pixels.old.raw.items pixels.new.raw.items }
+    ensures idle { glass_in (map G.sight glasses.new.items) sid ≡ glass_in
+        (map G.sight glasses.old.items) sid }
     ensures rest { C.rest own.new ≡ C.rest own.old }
     ensures rests { map G.rest glasses.new.items ≡ map G.rest glasses.old.items }
 {
@@ -80,7 +103,8 @@ pub(crate) fn change_view<G: Glass, C: Glass>(
 fn stood(server: &Server, v: ViewRef) -> (u32, Rect)
     requires { has v.0 server.now.stack.views ≡ true }
     ensures place { result.0 ≡ place_of v.0 server.now.stack.views }
-    ensures seat { (s : Seat) × (seat_in v.0 server.now.stack.views ≡ Some s) × (s.view.rect ≡ result.1) }
+    ensures seat { (s : Seat) × (seat_in v.0 server.now.stack.views ≡ Some s) ×
+        (s.view.rect ≡ result.1) }
 {
     let stack = server.stack();
     let view = stack.view(v);
@@ -101,12 +125,19 @@ fn paint_change<G: Glass, C: Glass>(
 )
     requires room { length server.now.stack.views ≤ cutter.old.room }
     requires pixels { length raw.old.items ≡ server.now.stack.width * server.now.stack.height }
-    requires held { HoldBuffers server.now.stack (length glasses.old.items) (glasses_of_call (map G.sight glasses.old.items) sid (C.sight own.old)) }
+    requires held { HoldBuffers server.now.stack (length glasses.old.items)
+        (glasses_of_call (map G.sight glasses.old.items) sid (C.sight own.old)) }
     ensures room { cutter.new.room ≡ cutter.old.room }
-    ensures painted { (before : Standing) → IsChange v.0 place rect before server.now.stack → Repainted (source_at server.now.stack) (λ k. slot_owns_either v.0 before server.now.stack (pixel server.now.stack.width k)) (length raw.old.items)
-        (glasses_of_call (map G.sight glasses.old.items) sid (C.sight own.old)) (glasses_of_call (map G.sight glasses.new.items) sid (C.sight own.new)) raw.old.items raw.new.items }
+    ensures painted { (before : Standing) → IsChange v.0 place rect before server.now.stack
+        → Repainted (source_at server.now.stack)
+        (λ k. slot_owns_either v.0 before server.now.stack (pixel server.now.stack.width k))
+        (length raw.old.items)
+        (glasses_of_call (map G.sight glasses.old.items) sid (C.sight own.old))
+        (glasses_of_call (map G.sight glasses.new.items) sid (C.sight own.new))
+        raw.old.items raw.new.items }
     ensures count { length raw.new.items ≡ length raw.old.items }
-    ensures idle { slice_index_or (map G.sight glasses.new.items) sid no_sight ≡ slice_index_or (map G.sight glasses.old.items) sid no_sight }
+    ensures idle { glass_in (map G.sight glasses.new.items) sid ≡ glass_in
+        (map G.sight glasses.old.items) sid }
     ensures rest { C.rest own.new ≡ C.rest own.old }
     ensures rests { map G.rest glasses.new.items ≡ map G.rest glasses.old.items }
 {
@@ -130,7 +161,8 @@ fn view_count(server: &Server) -> u32
     server.stack().len()
 }
 
-/// Takes all views of a session away, from the rear one to the front one, and paints what they uncover.
+/// Takes all views of a session away, from the rear one to the front one, and paints what they
+/// uncover.
 pub(crate) fn take_views_away<G: Glass, C: Glass>(
     server: &mut Server,
     of: u32,
@@ -143,15 +175,21 @@ pub(crate) fn take_views_away<G: Glass, C: Glass>(
     requires session { of < length server.old.sessions }
     requires room { length server.old.stack.views ≤ cutter.old.room }
     requires pixels { length raw.old.items ≡ server.old.stack.width * server.old.stack.height }
-    requires held { HoldBuffers server.old.stack (length glasses.old.items) (glasses_of_call (map G.sight glasses.old.items) sid (C.sight own.old)) }
+    requires held { HoldBuffers server.old.stack (length glasses.old.items)
+        (glasses_of_call (map G.sight glasses.old.items) sid (C.sight own.old)) }
     ensures left { without_views of server.new ≡ without_views of server.old }
     ensures stack { server.new.stack ≡ without_session of server.old.stack }
     ensures session { of < length server.new.sessions }
     ensures room { cutter.new.room ≡ cutter.old.room }
-    ensures painted { Repainted (source_at (without_session of server.old.stack)) (λ k. owner_passes (is_of_session of) server.old.stack (pixel server.old.stack.width k)) (length raw.old.items)
-        (glasses_of_call (map G.sight glasses.old.items) sid (C.sight own.old)) (glasses_of_call (map G.sight glasses.new.items) sid (C.sight own.new)) raw.old.items raw.new.items }
+    ensures painted { Repainted (source_at (without_session of server.old.stack))
+        (λ k. owner_passes (is_of_session of) server.old.stack (pixel server.old.stack.width k))
+        (length raw.old.items)
+        (glasses_of_call (map G.sight glasses.old.items) sid (C.sight own.old))
+        (glasses_of_call (map G.sight glasses.new.items) sid (C.sight own.new))
+        raw.old.items raw.new.items }
     ensures count { length raw.new.items ≡ length raw.old.items }
-    ensures idle { slice_index_or (map G.sight glasses.new.items) sid no_sight ≡ slice_index_or (map G.sight glasses.old.items) sid no_sight }
+    ensures idle { glass_in (map G.sight glasses.new.items) sid ≡ glass_in
+        (map G.sight glasses.old.items) sid }
     ensures rest { C.rest own.new ≡ C.rest own.old }
     ensures rests { map G.rest glasses.new.items ≡ map G.rest glasses.old.items }
 {
@@ -162,8 +200,8 @@ pub(crate) fn take_views_away<G: Glass, C: Glass>(
     }
 }
 
-/// Takes the view at a place away, where it is one of the session, and paints what it uncovers. No view behind it is
-/// one of the session.
+/// Takes the view at a place away, where it is one of the session, and paints what it uncovers. No
+/// view behind it is one of the session.
 fn take_seat_away<G: Glass, C: Glass>(
     server: &mut Server,
     i: u32,
@@ -179,15 +217,21 @@ fn take_seat_away<G: Glass, C: Glass>(
     requires session { of < length server.old.sessions }
     requires room { length server.old.stack.views ≤ cutter.old.room }
     requires pixels { length raw.old.items ≡ server.old.stack.width * server.old.stack.height }
-    requires held { HoldBuffers server.old.stack (length glasses.old.items) (glasses_of_call (map G.sight glasses.old.items) sid (C.sight own.old)) }
+    requires held { HoldBuffers server.old.stack (length glasses.old.items)
+        (glasses_of_call (map G.sight glasses.old.items) sid (C.sight own.old)) }
     ensures taken { IsTaken of i server.old.stack server.new.stack }
     ensures left { without_views of server.new ≡ without_views of server.old }
     ensures session { of < length server.new.sessions }
     ensures room { cutter.new.room ≡ cutter.old.room }
-    ensures painted { Repainted (source_at (without_session of server.old.stack)) (λ k. uncovered of server.old.stack server.new.stack (pixel server.old.stack.width k)) (length raw.old.items)
-        (glasses_of_call (map G.sight glasses.old.items) sid (C.sight own.old)) (glasses_of_call (map G.sight glasses.new.items) sid (C.sight own.new)) raw.old.items raw.new.items }
+    ensures painted { Repainted (source_at (without_session of server.old.stack))
+        (λ k. uncovered of server.old.stack server.new.stack (pixel server.old.stack.width k))
+        (length raw.old.items)
+        (glasses_of_call (map G.sight glasses.old.items) sid (C.sight own.old))
+        (glasses_of_call (map G.sight glasses.new.items) sid (C.sight own.new))
+        raw.old.items raw.new.items }
     ensures count { length raw.new.items ≡ length raw.old.items }
-    ensures idle { slice_index_or (map G.sight glasses.new.items) sid no_sight ≡ slice_index_or (map G.sight glasses.old.items) sid no_sight }
+    ensures idle { glass_in (map G.sight glasses.new.items) sid ≡ glass_in
+        (map G.sight glasses.old.items) sid }
     ensures rest { C.rest own.new ≡ C.rest own.old }
     ensures rests { map G.rest glasses.new.items ≡ map G.rest glasses.old.items }
 {

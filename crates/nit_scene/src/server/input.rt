@@ -1,6 +1,22 @@
 //! The user's input at a server: who is pointed at, and who is told what.
 
-ghost use Rattle.std.specs.Prelude.{◌≡◌, ◌-◌, ◌<◌, ◌≤◌, true, None, length, All, ℕ, false, Some, slice_index_or, [], IfSome, ◌∷◌};
+ghost use Rattle.std.specs.Prelude.{
+  ◌≡◌,
+  ◌-◌,
+  ◌<◌,
+  ◌≤◌,
+  true,
+  None,
+  length,
+  All,
+  ℕ,
+  false,
+  Some,
+  slice_index_or,
+  [],
+  IfSome,
+  ◌∷◌,
+};
 ghost use Rattle.nit_events.specs.Input.{deliveries_of, routed_as, delivery, first_input};
 ghost use Rattle.nit_events.specs.Ranges.{IsDevice};
 ghost use Rattle.nit_events.specs.declared.event.Item.TheVariants as item;
@@ -8,7 +24,16 @@ ghost use Rattle.nit_focus.specs.Reach.{IsForgottenIfKilled};
 ghost use Rattle.nit_config.specs.Configured.{IsConfigured};
 ghost use Rattle.nit_journal.specs.Deliveries.{kills, is_kill};
 ghost use Rattle.nit_journal.specs.State.{session, route};
-ghost use Rattle.nit_scene.specs.Attending.{MayLose, routing_of, IsAttending, client_in, killed_in, pointed_by, with_delivered, with_routed};
+ghost use Rattle.nit_scene.specs.Attending.{
+  MayLose,
+  routing_of,
+  IsAttending,
+  client_in,
+  killed_in,
+  pointed_by,
+  with_delivered,
+  with_routed,
+};
 
 use crate::server::Server;
 use nit_config::Config;
@@ -37,13 +62,15 @@ impl Server {
         ensures server { self.new ≡ with_routed dev self.old }
         ensures routed { result ≡ routed_as (routing_of self.old dev).deliveries }
         ensures all { deliveries_of result ≡ (routing_of self.old dev).deliveries }
-        ensures forgotten { All (λ d. IsForgottenIfKilled self.new.input d.sid d.item) (deliveries_of result) }
+        ensures forgotten { All (λ d. IsForgottenIfKilled self.new.input d.sid d.item)
+            (deliveries_of result) }
     {
         let pointed = self.pointed(dev);
         self.focus.input(dev, pointed)
     }
 
-    /// The session of the view that owns the pixel under the pointer, once a device event has moved it.
+    /// The session of the view that owns the pixel under the pointer, once a device event has moved
+    /// it.
     fn pointed(&self, dev: Device) -> Option<u32>
         ensures session { result ≡ pointed_by self.now dev }
         ensures known { IfSome result (λ t. t < length self.now.config.clients) }
@@ -89,7 +116,8 @@ impl Server {
     fn tell_event(&mut self, sid: u32, event: Event)
         requires session { sid < length self.old.sessions }
         requires lost { MayLose 1 self.old }
-        ensures { self.new ≡ with_delivered (record { sid = sid; item = item.Event event } ∷ []) self.old }
+        ensures { self.new ≡ with_delivered (record { sid = sid; item = item.Event event }
+            ∷ []) self.old }
     {
         self.members[sid as usize].tell(event);
     }
@@ -110,7 +138,8 @@ pub(crate) fn killed(routed: &Routed) -> Option<u32>
     }
 }
 
-/// The user's input before its first event: a click moves the focus to those clients that take it so.
+/// The user's input before its first event: a click moves the focus to those clients that take it
+/// so.
 pub(crate) fn opened_focus(config: &Config) -> Focus
     requires { IsConfigured config.now }
     ensures attending { IsAttending config.now result }
@@ -126,7 +155,8 @@ fn set_clicks(focus: &mut Focus, clients: &[nit_config::Member])
     requires few { length clients.now ≤ 16 }
     requires all { (t : ℕ) → t < 16 → slice_index_or focus.old.clicks t false ≡ true }
     ensures rest { focus.new ≡ record focus.old { clicks = focus.new.clicks } }
-    ensures clicks { (t : ℕ) → t < length clients.now → slice_index_or focus.new.clicks t false ≡ (client_in clients.now t).clicks }
+    ensures clicks { (t : ℕ) → t < length clients.now → slice_index_or focus.new.clicks t false ≡
+        (client_in clients.now t).clicks }
 {
     for (sid, client) in clients.iter().enumerate() {
         if client.clicks {

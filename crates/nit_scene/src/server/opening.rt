@@ -1,6 +1,19 @@
 //! A server before its first entry.
 
-ghost use Rattle.std.specs.Prelude.{◌≡◌, ◌+◌, ◌-◌, ◌<◌, ◌≤◌, IfOk, length, All, IsTrue, map, [], if◌then◌else◌};
+ghost use Rattle.std.specs.Prelude.{
+  ◌≡◌,
+  ◌+◌,
+  ◌-◌,
+  ◌<◌,
+  ◌≤◌,
+  IfOk,
+  length,
+  All,
+  IsTrue,
+  map,
+  [],
+  if◌then◌else◌,
+};
 ghost use Rattle.nit_events.specs.declared.entry.Entry.TheVariants as entry;
 ghost use Rattle.nit_slots.specs.Account.{view_slots};
 ghost use Rattle.nit_config.specs.Configured.{IsConfigured, IsConfiguredMember};
@@ -22,7 +35,8 @@ use std::alloc::Global;
 const BAR_ROWS: u32 = 7;
 
 impl Server {
-    /// A server of this configuration, before its first entry. All memory that it will ever use is taken here.
+    /// A server of this configuration, before its first entry. All memory that it will ever use is
+    /// taken here.
     pub(crate) fn new(alloc: Global, config: &Config) -> Result<Server, NoMemory>
         requires { IsConfigured config.now }
         ensures { IfOk result (λ s. state_of s ≡ opening config.now) }

@@ -1,7 +1,19 @@
 //! Accepted calls that change a session alone, and its end.
 
 ghost use Rattle.std.specs.List.{list_any};
-ghost use Rattle.std.specs.Prelude.{◌≡◌, ◌-◌, ◌<◌, true, None, length, false, Some, [], IfSome, IfNone};
+ghost use Rattle.std.specs.Prelude.{
+  ◌≡◌,
+  ◌-◌,
+  ◌<◌,
+  true,
+  None,
+  length,
+  false,
+  Some,
+  [],
+  IfSome,
+  IfNone,
+};
 ghost use Rattle.nit_events.specs.declared.call.Call.TheVariants as call;
 ghost use Rattle.nit_stack.specs.Standing.{is_of_session};
 ghost use Rattle.nit_journal.specs.Session.{has_view, refusal, accepted};
@@ -27,7 +39,8 @@ impl Server {
     /// Nothing of a server changes.
     pub(crate) fn refresh(&mut self, sid: u32, x: i32, y: i32, w: u32, h: u32) -> Reply
         requires session { sid < length self.old.sessions }
-        requires accepted { refusal (session_in self.old.sessions sid) (call.Refresh x y w h) ≡ None }
+        requires accepted { refusal (session_in self.old.sessions sid) (call.Refresh x y w h)
+            ≡ None }
         ensures { IsServed sid (call.Refresh x y w h) result self.old self.new }
     {
         Reply::Done
@@ -62,7 +75,8 @@ impl Server {
         Reply::Done
     }
 
-    /// The session is over in this way: its views, its buffer and its events are gone, and the input forgets it.
+    /// The session is over in this way: its views, its buffer and its events are gone, and the
+    /// input forgets it.
     pub(crate) fn end_session(&mut self, sid: u32, how: Status)
         requires { sid < length self.old.sessions }
         ensures { self.new ≡ with_ended sid how self.old }
@@ -91,7 +105,8 @@ impl Server {
         requires { sid < length self.now.sessions }
         ensures held { IfSome result (λ h. has_view (session_in self.now.sessions sid) h ≡ true) }
         ensures no_handle { IfNone result ((session_in self.now.sessions sid).handles ≡ []) }
-        ensures no_view { IfNone result (list_any (is_of_session sid) self.now.stack.views ≡ false) }
+        ensures no_view { IfNone result (list_any (is_of_session sid) self.now.stack.views
+            ≡ false) }
     {
         let member = &self.members[sid as usize];
         member.facts();

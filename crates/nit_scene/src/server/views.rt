@@ -34,7 +34,8 @@ impl Server {
     /// The view has this rectangle.
     pub(crate) fn place(&mut self, sid: u32, handle: u32, x: i32, y: i32, w: u32, h: u32) -> Reply
         requires session { sid < length self.old.sessions }
-        requires accepted { refusal (session_in self.old.sessions sid) (call.Place handle x y w h) ≡ None }
+        requires accepted { refusal (session_in self.old.sessions sid) (call.Place handle x y w h)
+            ≡ None }
         ensures { IsServed sid (call.Place handle x y w h) result self.old self.new }
     {
         let Some(rect) = Rect::new(x, y, w, h) else {
@@ -48,7 +49,8 @@ impl Server {
     /// The view has this offset.
     pub(crate) fn offset(&mut self, sid: u32, handle: u32, ox: i32, oy: i32) -> Reply
         requires session { sid < length self.old.sessions }
-        requires accepted { refusal (session_in self.old.sessions sid) (call.Offset handle ox oy) ≡ None }
+        requires accepted { refusal (session_in self.old.sessions sid) (call.Offset handle ox oy)
+            ≡ None }
         ensures { IsServed sid (call.Offset handle ox oy) result self.old self.new }
     {
         let v = self.slot(sid, handle);
@@ -81,7 +83,8 @@ impl Server {
     /// The view stands directly in front of the next one.
     pub(crate) fn above(&mut self, sid: u32, handle: u32, next: u32) -> Reply
         requires session { sid < length self.old.sessions }
-        requires accepted { refusal (session_in self.old.sessions sid) (call.Above handle next) ≡ None }
+        requires accepted { refusal (session_in self.old.sessions sid) (call.Above handle next)
+            ≡ None }
         ensures { IsServed sid (call.Above handle next) result self.old self.new }
     {
         let v = self.slot(sid, handle);
@@ -93,7 +96,8 @@ impl Server {
     /// The view has this title.
     pub(crate) fn title(&mut self, sid: u32, handle: u32, text: Text) -> Reply
         requires session { sid < length self.old.sessions }
-        requires accepted { refusal (session_in self.old.sessions sid) (call.Title handle text) ≡ None }
+        requires accepted { refusal (session_in self.old.sessions sid) (call.Title handle text)
+            ≡ None }
         ensures { IsServed sid (call.Title handle text) result self.old self.new }
     {
         let Some(title) = Title::new(text.as_bytes()) else {
@@ -107,7 +111,8 @@ impl Server {
     /// The view is gone.
     pub(crate) fn destroy(&mut self, sid: u32, handle: u32) -> Reply
         requires session { sid < length self.old.sessions }
-        requires accepted { refusal (session_in self.old.sessions sid) (call.Destroy handle) ≡ None }
+        requires accepted { refusal (session_in self.old.sessions sid) (call.Destroy handle)
+            ≡ None }
         ensures { IsServed sid (call.Destroy handle) result self.old self.new }
     {
         self.remove_view(sid, handle);
@@ -133,7 +138,8 @@ impl Server {
     /// The view at place `i` from the front, with its slot.
     pub(crate) fn seated(&self, i: u32) -> (ViewRef, View)
         requires { i < length self.now.stack.views }
-        ensures place { slice_get self.now.stack.views i ≡ Some (record { slot = result.0.0; view = result.1 }) }
+        ensures place { slice_get self.now.stack.views i ≡ Some
+            (record { slot = result.0.0; view = result.1 }) }
         ensures session { result.1.sid < length self.now.sessions }
         ensures held { has_view (session_in self.now.sessions result.1.sid) result.1.handle ≡ true }
         ensures named { IsNamedBy result.0.0 result.1.sid result.1.handle self.now.stack.views }

@@ -31,14 +31,16 @@ returns-clause-pixels c =
     let p = c.args.pixels.now in
     let p' = c.show_views.new.pixels in
     let e = c.show_views.ensures in
-    let none : ℕ → Sight = λ t. no_sight in
-    (e.can, kept_served s s' c.args.sid c.args.call.now c.accept-reply.result none none p.raw.items p'.raw.items p.frame.items p'.frame.items (λ (k : ℕ). false)
-    c.requires.session (λ q. subst IsClean q c.requires.clean) c.accept-reply.ensures
-    (rw e.raw (clean_painted (state_of s) (state_of s') c.args.sid c.args.call.now c.accept-reply.result none p.raw.items c.requires.clean)) (ap (λ w. length w.items) e.raw ∙ c.requires.pixels.0.pixels)
-    (λ k. sym (clean_call (state_of s) (state_of s') c.args.sid c.args.call.now c.accept-reply.result (pixel s.config.width k) c.requires.clean))
-    (λ m. subst (λ (new : List ℕ). IsCopied (λ (k : ℕ). false) (length p'.raw.items) p'.raw.items p.frame.items new) (sym (ap (λ w. w.items) (e.flat (c.mode.ensures ∙ m))))
-    (nothing_copied (λ (k : ℕ). false) (length p'.raw.items) p'.raw.items p.frame.items (λ k l. refl)))
-    (λ m. e.labelled (subst (λ (x : Mode). IsTrue (draws_labels x)) (sym c.mode.ensures) m)) c.requires.pixels.1)
+    let none : ℕ → Sight = λ t. no_sight in (
+      e.can,
+      kept_served s s' c.args.sid c.args.call.now c.accept-reply.result none none p.raw.items p'.raw.items p.frame.items p'.frame.items (λ (k : ℕ). false)
+          c.requires.session (λ q. subst IsClean q c.requires.clean) c.accept-reply.ensures
+          (rw e.raw (clean_painted (state_of s) (state_of s') c.args.sid c.args.call.now c.accept-reply.result none p.raw.items c.requires.clean)) (ap (λ w. length w.items) e.raw ∙ c.requires.pixels.0.pixels)
+          (λ k. sym (clean_call (state_of s) (state_of s') c.args.sid c.args.call.now c.accept-reply.result (pixel s.config.width k) c.requires.clean))
+          (λ m. subst (λ (new : List ℕ). IsCopied (λ (k : ℕ). false) (length p'.raw.items) p'.raw.items p.frame.items new) (sym (ap (λ w. w.items) (e.flat (c.mode.ensures ∙ m))))
+          (nothing_copied (λ (k : ℕ). false) (length p'.raw.items) p'.raw.items p.frame.items (λ k l. refl)))
+          (λ m. e.labelled (subst (λ (x : Mode). IsTrue (draws_labels x)) (sym c.mode.ensures) m)) c.requires.pixels.1,
+    )
 
 pub returns-clause-painted : goal.returns-clause-painted
 returns-clause-painted c glasses raw = clean_painted (state_of c.args.server.now) (state_of c.accept-reply.new.self) c.args.sid c.args.call.now c.accept-reply.result glasses raw c.requires.clean

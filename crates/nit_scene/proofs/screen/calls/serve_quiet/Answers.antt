@@ -10,12 +10,13 @@ pub returns-clause-pixels : goal.returns-clause-pixels
 returns-clause-pixels c =
     let s = c.args.server.now in
     let s' = c.accept-reply.new.self in
-    let p = c.args.pixels.now in
-    (can_still s s' p.raw.items p.raw.items p.frame.items p.cutter.room p.cutter.room p.labels.items (length p.places.items)
-    (same_config c.args.sid c.args.call.now c.accept-reply.result s s' c.accept-reply.ensures)
-    (same_most s s' c.args.sid c.args.call.now c.accept-reply.result c.facts.ensures c.facts-2.ensures c.accept-reply.ensures)
-    refl c.requires.pixels.0.words refl c.requires.pixels.0,
-    c.requires.pixels.1 ∙ ap (λ (sc : Scenery). frame sc p.raw.items) (sym (quiet_scenery s s' c.args.sid c.args.call.now c.accept-reply.result c.requires.accepted c.accept-reply.ensures c.requires.quiet)))
+    let p = c.args.pixels.now in (
+      can_still s s' p.raw.items p.raw.items p.frame.items p.cutter.room p.cutter.room p.labels.items (length p.places.items)
+          (same_config c.args.sid c.args.call.now c.accept-reply.result s s' c.accept-reply.ensures)
+          (same_most s s' c.args.sid c.args.call.now c.accept-reply.result c.facts.ensures c.facts-2.ensures c.accept-reply.ensures)
+          refl c.requires.pixels.0.words refl c.requires.pixels.0,
+      c.requires.pixels.1 ∙ ap (λ (sc : Scenery). frame sc p.raw.items) (sym (quiet_scenery s s' c.args.sid c.args.call.now c.accept-reply.result c.requires.accepted c.accept-reply.ensures c.requires.quiet)),
+    )
 
 pub returns-clause-painted : goal.returns-clause-painted
 returns-clause-painted c glasses raw = quiet_painted (state_of c.args.server.now) (state_of c.accept-reply.new.self) c.args.sid c.args.call.now c.accept-reply.result glasses raw c.requires.quiet

@@ -52,11 +52,13 @@ returns-clause-pixels g c =
     let p' = c.show_part.new.pixels in
     let e = c.show_part.ensures in
     let painted = painted_by_views s s' c.args.sid c.args.part.now c.args.call.now c.accept-reply.result c.facts-2.ensures c.requires.accepted c.accept-reply.ensures c.requires.on
-    (length p.raw.items) (glasses_of_call (map g.G.Glass.sight c.args.glasses.now.items) c.args.sid (g.C.Glass.sight c.args.own.now)) (glasses_of_call (map g.G.Glass.sight c.paint_views.new.glasses.items) c.args.sid (g.C.Glass.sight c.paint_views.new.own)) p.raw.items c.paint_views.new.raw.items c.requires.pixels.0.pixels c.paint_views.ensures.painted in
-    (e.can, kept_served s s' c.args.sid c.args.call.now c.accept-reply.result (glasses_of_call (map g.G.Glass.sight c.args.glasses.now.items) c.args.sid (g.C.Glass.sight c.args.own.now)) (glasses_of_call (map g.G.Glass.sight c.paint_views.new.glasses.items) c.args.sid (g.C.Glass.sight c.paint_views.new.own)) p.raw.items p'.raw.items p.frame.items p'.frame.items (λ (k : ℕ). wanted c.args.sid c.args.part.now s'.stack (pixel s'.stack.width k))
-    c.requires.session (λ q. subst (IsPartOf c.args.part.now) q c.requires.on) c.accept-reply.ensures (rw e.raw painted) (ap (λ w. length w.items) e.raw ∙ c.paint_views.ensures.count ∙ c.requires.pixels.0.pixels)
-    (dirty_by_views s s' c.args.sid c.args.part.now c.args.call.now c.accept-reply.result c.facts-2.ensures c.requires.accepted c.accept-reply.ensures c.requires.on)
-    (λ m. e.flat (c.mode.ensures ∙ m)) (λ m. e.labelled (subst (λ (x : Mode). IsTrue (draws_labels x)) (sym c.mode.ensures) m)) c.requires.pixels.1)
+    (length p.raw.items) (glasses_of_call (map g.G.Glass.sight c.args.glasses.now.items) c.args.sid (g.C.Glass.sight c.args.own.now)) (glasses_of_call (map g.G.Glass.sight c.paint_views.new.glasses.items) c.args.sid (g.C.Glass.sight c.paint_views.new.own)) p.raw.items c.paint_views.new.raw.items c.requires.pixels.0.pixels c.paint_views.ensures.painted in (
+      e.can,
+      kept_served s s' c.args.sid c.args.call.now c.accept-reply.result (glasses_of_call (map g.G.Glass.sight c.args.glasses.now.items) c.args.sid (g.C.Glass.sight c.args.own.now)) (glasses_of_call (map g.G.Glass.sight c.paint_views.new.glasses.items) c.args.sid (g.C.Glass.sight c.paint_views.new.own)) p.raw.items p'.raw.items p.frame.items p'.frame.items (λ (k : ℕ). wanted c.args.sid c.args.part.now s'.stack (pixel s'.stack.width k))
+          c.requires.session (λ q. subst (IsPartOf c.args.part.now) q c.requires.on) c.accept-reply.ensures (rw e.raw painted) (ap (λ w. length w.items) e.raw ∙ c.paint_views.ensures.count ∙ c.requires.pixels.0.pixels)
+          (dirty_by_views s s' c.args.sid c.args.part.now c.args.call.now c.accept-reply.result c.facts-2.ensures c.requires.accepted c.accept-reply.ensures c.requires.on)
+          (λ m. e.flat (c.mode.ensures ∙ m)) (λ m. e.labelled (subst (λ (x : Mode). IsTrue (draws_labels x)) (sym c.mode.ensures) m)) c.requires.pixels.1,
+    )
 
 pub returns-clause-painted : goal.returns-clause-painted
 returns-clause-painted g c =

@@ -25,8 +25,10 @@ redraw-requires g c =
     let p = c.args.pixels.now in
     let raw' = c.end_session.new.raw.items in
     let e = c.end_session.ensures in
-    record { can = can_still s s' p.raw.items raw' p.frame.items p.cutter.room c.end_session.new.cutter.room p.labels.items (length p.places.items)
-    (ap (λ (t : Serving). t.config) e.server) (ap (λ (t : Serving). t.stack.most) e.server) e.count (repainted_words _ _ _ _ _ p.raw.items raw' e.count e.painted c.requires.pixels.0.words) e.room c.requires.pixels.0 }
+    record {
+      can = can_still s s' p.raw.items raw' p.frame.items p.cutter.room c.end_session.new.cutter.room p.labels.items (length p.places.items)
+          (ap (λ (t : Serving). t.config) e.server) (ap (λ (t : Serving). t.stack.most) e.server) e.count (repainted_words _ _ _ _ _ p.raw.items raw' e.count e.painted c.requires.pixels.0.words) e.room c.requires.pixels.0;
+    }
 
 pub returns-clause-painted : goal.returns-clause-painted
 returns-clause-painted g c = rw c.redraw.ensures.raw (close_painted c.args.server.now c.end_session.new.server c.args.sid _ _ c.args.pixels.now.raw.items c.end_session.new.raw.items c.end_session.ensures.painted)

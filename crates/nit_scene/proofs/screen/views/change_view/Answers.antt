@@ -62,11 +62,13 @@ returns-clause-pixels g c =
     change_stood s s' c.args.sid c.args.handle c.slot-v.result.0 c.args.call.now c.accept-reply.result c.stood-place.result.0 c.stood-place.result.1 c.facts.ensures c.facts-2.ensures c.requires.accepted c.accept-reply.ensures c.requires.on c.slot-v.ensures
     c.stood-place.ensures.place c.stood-place.ensures.seat in
     let painted = painted_by_change s s' c.args.sid c.args.handle v c.args.call.now c.accept-reply.result c.facts.ensures c.facts-2.ensures c.requires.accepted c.accept-reply.ensures c.requires.on c.slot-v.ensures
-    (length p.raw.items) (glasses_of_call (map g.G.Glass.sight c.args.glasses.now.items) c.args.sid (g.C.Glass.sight c.args.own.now)) (glasses_of_call (map g.G.Glass.sight c.paint_change.new.glasses.items) c.args.sid (g.C.Glass.sight c.paint_change.new.own)) p.raw.items c.paint_change.new.raw.items c.requires.pixels.0.pixels (c.paint_change.ensures.painted s.stack change) in
-    (e.can, kept_served s s' c.args.sid c.args.call.now c.accept-reply.result (glasses_of_call (map g.G.Glass.sight c.args.glasses.now.items) c.args.sid (g.C.Glass.sight c.args.own.now)) (glasses_of_call (map g.G.Glass.sight c.paint_change.new.glasses.items) c.args.sid (g.C.Glass.sight c.paint_change.new.own)) p.raw.items p'.raw.items p.frame.items p'.frame.items (λ (k : ℕ). slot_owns_either v.0 s.stack s'.stack (pixel s'.stack.width k))
-    c.requires.session (λ q. subst (IsOn c.args.handle) q c.requires.on) c.accept-reply.ensures (rw e.raw painted) (ap (λ w. length w.items) e.raw ∙ c.paint_change.ensures.count ∙ c.requires.pixels.0.pixels)
-    (dirty_by_change s s' c.args.sid c.args.handle v c.args.call.now c.accept-reply.result c.facts.ensures c.facts-2.ensures c.requires.accepted c.accept-reply.ensures c.requires.on c.slot-v.ensures)
-    (λ m. e.flat (c.mode.ensures ∙ m) s.stack change) (λ m. e.labelled (subst (λ (x : Mode). IsTrue (draws_labels x)) (sym c.mode.ensures) m)) c.requires.pixels.1)
+    (length p.raw.items) (glasses_of_call (map g.G.Glass.sight c.args.glasses.now.items) c.args.sid (g.C.Glass.sight c.args.own.now)) (glasses_of_call (map g.G.Glass.sight c.paint_change.new.glasses.items) c.args.sid (g.C.Glass.sight c.paint_change.new.own)) p.raw.items c.paint_change.new.raw.items c.requires.pixels.0.pixels (c.paint_change.ensures.painted s.stack change) in (
+      e.can,
+      kept_served s s' c.args.sid c.args.call.now c.accept-reply.result (glasses_of_call (map g.G.Glass.sight c.args.glasses.now.items) c.args.sid (g.C.Glass.sight c.args.own.now)) (glasses_of_call (map g.G.Glass.sight c.paint_change.new.glasses.items) c.args.sid (g.C.Glass.sight c.paint_change.new.own)) p.raw.items p'.raw.items p.frame.items p'.frame.items (λ (k : ℕ). slot_owns_either v.0 s.stack s'.stack (pixel s'.stack.width k))
+          c.requires.session (λ q. subst (IsOn c.args.handle) q c.requires.on) c.accept-reply.ensures (rw e.raw painted) (ap (λ w. length w.items) e.raw ∙ c.paint_change.ensures.count ∙ c.requires.pixels.0.pixels)
+          (dirty_by_change s s' c.args.sid c.args.handle v c.args.call.now c.accept-reply.result c.facts.ensures c.facts-2.ensures c.requires.accepted c.accept-reply.ensures c.requires.on c.slot-v.ensures)
+          (λ m. e.flat (c.mode.ensures ∙ m) s.stack change) (λ m. e.labelled (subst (λ (x : Mode). IsTrue (draws_labels x)) (sym c.mode.ensures) m)) c.requires.pixels.1,
+    )
 
 pub returns-clause-painted : goal.returns-clause-painted
 returns-clause-painted g c =
