@@ -152,7 +152,3 @@ abbrev pub reads : Command → Configuration → List (List ℕ)
 reads (Still width height script) config = script ∷ []
 reads (Turns configuration) config = configuration ∷ names_in config
 reads NoCommand config = []
-
--- the list begins with the front
-abbrev pub IsFront : {A : Type 0} → List A → List A → Type 0
-IsFront {A = A} front all = (back : List A) × (all ≡ front ++ back)

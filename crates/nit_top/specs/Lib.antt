@@ -24,6 +24,8 @@ pub mod Outputs
 pub mod Opened
 pub mod Lines
 pub mod Saying
+pub mod FilesRead
+pub mod Course
 pub mod Answer
 pub mod Work
 pub mod Ended

@@ -1,5 +1,6 @@
 -- How the work of a command comes to its end, before the line is said.
 use Rattle.std.specs.Prelude.{◌≡◌, ◌⊎◌, ℕ, ◌+◌, ◌<◌, ◌≤◌, Bool, true, false, List, [], ◌∷◌, ◌++◌, length, map, Option, Some, None, Result, Ok, Err, IfSome, Vec}
+use Rattle.std.specs.List.{AllByRecursion}
 use Rattle.std.specs.Global.{Global}
 use Rattle.nit_config.specs.Configuration.{Configuration}
 use Rattle.nit_events.specs.declared.entry.Entry.{Entry}
@@ -10,6 +11,7 @@ use Rattle.nit_script.specs.declared.error.ScriptError.{ScriptError}
 use Rattle.nit_script.specs.declared.error.ScriptError.TheVariants as script
 use Rattle.nit_script.specs.declared.line.Line.{Line}
 use Rattle.nit_script.specs.declared.line.InputLine.{InputLine}
+use Rattle.nit_script.specs.Spelling.{FitsLine}
 use Rattle.nit_store.specs.declared.store.PutError.{PutError}
 use Rattle.nit_store.specs.declared.store.PutError.TheVariants as put
 use Rattle.nit_store.specs.Shown.{Shown, File, bytes_of, asking, ReadFaulted, WriteFaulted}
@@ -24,10 +26,11 @@ use Rattle.nit_top.specs.declared.run.PutFault.{PutFault}
 use Rattle.nit_top.specs.declared.run.Ran.{Ran}
 use Rattle.nit_top.specs.Command.{Command}
 use Rattle.nit_top.specs.Judged.{SpellScripts, wanted_by, IsClientFault, AreScripts}
-use Rattle.nit_top.specs.Setup.{Setup, HaveSamePhases}
+use Rattle.nit_top.specs.Setup.{Setup, AreLines, HaveSamePhases}
 use Rattle.nit_top.specs.Outputs.{IsJournal, AreOutputs}
 use Rattle.nit_top.specs.Lines.{name_text, line_of}
-use Rattle.nit_top.specs.Answer.{asked_also, PutFiles, Came, Counts}
+use Rattle.nit_top.specs.Course.{Course, PutFiles, asked_also}
+use Rattle.nit_top.specs.Answer.{Came, Counts}
 
 -- ---- reading and judging a file
 
@@ -76,12 +79,23 @@ pub record StoppedAmong (old : Shown) (names : List (List ℕ)) (new : Shown) (s
   pub behind : List (List ℕ)
   pub parts : names ≡ before ++ name_text stop.name ∷ behind
   pub scripts : List (List Line)
+  pub count : length scripts ≡ length before
+  pub lines : AllByRecursion (AreLines FitsLine) scripts
+  pub phases : HaveSamePhases scripts
   pub valid : IfSome old.files (λ files. AreScripts files before scripts)
   pub stopped : StoppedAt (IsClientFault (wanted_by scripts)) (asking_all old before) (name_text stop.name) new stop.end
 
+-- The scripts of these names were read, and are valid.
+pub record SoFar (old : Shown) (names : List (List ℕ)) (scripts : List (List Line)) (now : Shown) : Type 0 where
+  pub asked : now ≡ asking_all old names
+  pub count : length scripts ≡ length names
+  pub lines : AllByRecursion (AreLines FitsLine) scripts
+  pub phases : HaveSamePhases scripts
+  pub valid : IfSome old.files (λ files. SpellScripts files names scripts)
+
 -- the scripts of these names were read and judged, in order
 abbrev pub LoadedAll : Shown → List (List ℕ) → Shown → Result (Vec (List Line) Global) Stop → Type 0
-LoadedAll old names new (Ok scripts) = (new ≡ asking_all old names) × (length scripts.items ≡ length names) × HaveSamePhases scripts.items × IfSome old.files (λ files. SpellScripts files names scripts.items)
+LoadedAll old names new (Ok scripts) = SoFar old names scripts.items new
 LoadedAll old names new (Err stop) = StoppedAmong old names new stop
 
 -- ---- the run
@@ -165,6 +179,7 @@ line_on w = line_of w.stop.end (name_text w.stop.name) (record { clients = w.cli
 
 -- the work of a command came to its end
 pub record Ends (c : Command) (old new : Shown) (w : Worked) : Type 0 where
-  pub came : Came c old new.files new.asked w.journal.items w.stop.end (line_on w)
+  pub course : Course old c w.journal.items
+  pub came : Came course new.files new.asked w.stop.end (line_on w)
   pub counts : Counts old new w.stop.end
   pub said : new.said ≡ old.said
