@@ -13,4 +13,5 @@ pub mod Done
 pub mod Places
 pub mod Running
 pub mod Drawn
+pub mod Shots
 pub mod UnderWay

@@ -12,3 +12,4 @@ pub mod Pictures
 pub mod PerClient
 pub mod LastWords
 pub mod Leaving
+pub mod Headlines

@@ -103,9 +103,9 @@ take_front before behind xs same = ap (λ (n : ℕ). take n (before ++ behind)) 
 get_behind : {A B : Type 0} (before : List A) (x : A) (behind : List A) (xs : List B) → length xs ≡ length before → slice_get (before ++ x ∷ behind) (length xs) ≡ Some x
 get_behind before x behind xs same = ap (λ (n : ℕ). slice_get (before ++ x ∷ behind) n) same ∙ at before
   where
-    at : (as : List A) → slice_get (as ++ x ∷ behind) (length as) ≡ Some x
+    at : (ys : List A) → slice_get (ys ++ x ∷ behind) (length ys) ≡ Some x
     at [] = refl
-    at (a ∷ as) = at as
+    at (y ∷ ys) = at ys
 
 -- ---- `turns`
 

@@ -7,7 +7,8 @@ use Rattle.nit_top.specs.Command.{Command}
 use Rattle.nit_top.specs.Setup.{Setup}
 use Rattle.nit_top.specs.Judged.{reads}
 use Rattle.nit_top.specs.FilesRead.{FilesRead, HasRead, AreAllFiles, names_read, next_name}
-use Rattle.nit_top.specs.Outputs.{IsJournal, AreOutputs}
+use Rattle.nit_top.specs.Outputs.{AreOutputs}
+use Rattle.nit_top.specs.Headline.{Headline}
 use Rattle.nit_top.specs.Lines.{Totals}
 
 -- ---- files, and names that are asked for
@@ -28,13 +29,13 @@ asked_also asked names = option_map (λ before. before ++ names) asked
 
 -- ---- the run
 
--- The run of a command was begun: this is what was run, what its journal is, and what it is to put.
+-- The run of a command was begun: this is what was run, and these are the files that it is to put.
 pub record IsRun (old : Shown) (c : Command) (journal : List Entry) : Type 0 where
   pub setup : Setup
   pub files_are : AreAllFiles c old.files setup
-  pub ran : IsJournal setup journal
   pub outputs : List File
   pub are : AreOutputs setup journal outputs
+  pub headline : Headline setup journal outputs
 
 -- A run was begun, and this is it; or none was begun, and the journal is empty.
 pub data Course (old : Shown) (c : Command) (journal : List Entry) : Type 0 where

@@ -16,6 +16,7 @@ pub use Rattle.nit_scene.specs.Played
 pub use Rattle.nit_actor.specs.Done
 pub use Rattle.nit_actor.specs.Running
 pub use Rattle.nit_actor.specs.Drawn
+pub use Rattle.nit_actor.specs.Shots
 pub mod Command
 pub mod Asked
 pub mod Setup
@@ -24,6 +25,7 @@ pub mod Outputs
 pub mod Opened
 pub mod Lines
 pub mod Saying
+pub mod Headline
 pub mod FilesRead
 pub mod Course
 pub mod Answer

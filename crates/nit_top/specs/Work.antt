@@ -28,6 +28,7 @@ use Rattle.nit_top.specs.Command.{Command}
 use Rattle.nit_top.specs.Judged.{SpellScripts, wanted_by, IsClientFault, AreScripts}
 use Rattle.nit_top.specs.Setup.{Setup, AreLines, HaveSamePhases}
 use Rattle.nit_top.specs.Outputs.{IsJournal, AreOutputs}
+use Rattle.nit_top.specs.Headline.{Headline}
 use Rattle.nit_top.specs.Lines.{name_text, line_of}
 use Rattle.nit_top.specs.Course.{Course, PutFiles, asked_also}
 use Rattle.nit_top.specs.Answer.{Came, Counts}
@@ -163,6 +164,7 @@ end_of (Some f) = end_of_put f.error
 pub record IsAfterRun (old : Shown) (s : Setup) (new : Shown) (w : Worked) : Type 0 where
   pub ran : Ran
   pub has_run : HasRun old s new ran
+  pub headline : Headline s ran.journal.items has_run.outputs
   pub end_is : w.stop.end ≡ end_of ran.fault
   pub name_is : IfSome ran.fault (λ f. w.stop.name ≡ f.name)
   pub journal_is : w.journal.items ≡ ran.journal.items

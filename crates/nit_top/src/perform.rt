@@ -10,6 +10,7 @@ ghost use Rattle.nit_top.specs.Setup.{IsRunnable};
 ghost use Rattle.nit_top.specs.Work.{Ends, Performed, setup_of, end_of};
 
 use crate::finish::{End, Stop, Worked, at, unbegun};
+use crate::laws::headline;
 use crate::load::{load_client, load_input, load_scripts, wanted_by};
 use crate::run::{PutFault, run};
 use crate::user::idle_user;
@@ -104,6 +105,7 @@ fn perform<S: Store>(
     requires { IsRunnable (setup_of config.now scripts.now input.now) }
     ensures { Performed (S.shown store.old) (setup_of config.now scripts.now input.now) (S.shown store.new) result }
 {
+    headline();
     let Ok(ran) = run(alloc, config, scripts, input, store) else {
         return unbegun(alloc, at(End::NoMemory, ""));
     };
