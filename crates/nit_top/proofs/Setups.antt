@@ -13,6 +13,7 @@ use Rattle.nit_script.specs.declared.line.Line.{Line}
 use Rattle.nit_script.specs.declared.line.InputLine.{InputLine}
 use Rattle.nit_script.specs.declared.line.InputLine.TheVariants as input
 use Rattle.nit_script.specs.Phases.{is_phase, phases, is_input_phase, input_phases}
+use Rattle.nit_script.specs.Spelling.{FitsLine, FitsInputLine}
 use Rattle.nit_store.specs.Shown.{Shown, bytes_of, asking}
 use Rattle.nit_top.specs.declared.finish.Fault.{Fault}
 use Rattle.nit_top.specs.declared.finish.Stop.{Stop}
@@ -101,7 +102,7 @@ take_front : {A B : Type 0} (before behind : List A) (xs : List B) → length xs
 take_front before behind xs same = ap (λ (n : ℕ). take n (before ++ behind)) same ∙ take-append_seam before behind
 
 get_behind : {A B : Type 0} (before : List A) (x : A) (behind : List A) (xs : List B) → length xs ≡ length before → slice_get (before ++ x ∷ behind) (length xs) ≡ Some x
-get_behind before x behind xs same = ap (λ (n : ℕ). slice_get (before ++ x ∷ behind) n) same ∙ at before
+get_behind {A = A} before x behind xs same = ap (λ (n : ℕ). slice_get (before ++ x ∷ behind) n) same ∙ at before
   where
     at : (ys : List A) → slice_get (ys ++ x ∷ behind) (length ys) ≡ Some x
     at [] = refl
