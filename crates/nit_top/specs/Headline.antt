@@ -30,7 +30,8 @@ use Rattle.nit_scene.specs.Painted.{pixel_count}
 use Rattle.nit_scene.specs.Played.{scenery_of}
 use Rattle.nit_report.specs.Picture.{picture}
 use Rattle.nit_store.specs.Shown.{File}
-use Rattle.nit_actor.specs.Running.{script_in, shot_name}
+use Rattle.nit_plan.specs.Sessions.{script_in}
+use Rattle.nit_actor.specs.Running.{shot_name}
 use Rattle.nit_actor.specs.Shots.{drawn_by_shot}
 use Rattle.nit_top.specs.Setup.{Setup}
 use Rattle.nit_top.specs.Outputs.{IsJournal, AreOutputs, final_name, raw_word, tables_left}
