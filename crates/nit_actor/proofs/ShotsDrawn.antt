@@ -56,13 +56,6 @@ shots_in_more (f ∷ front) m = by (shoots f.doing) (cond (shoots m.doing) 1 0) 
 
 -- ---- one line
 
-shots_both : (xs ys : List Entry) → shots (xs ++ ys) ≡ shots xs + shots ys
-shots_both [] ys = omega arith
-shots_both (entry.Call t c q ∷ rest) ys = shots_both rest ys
-shots_both (entry.Input dev routed ∷ rest) ys = shots_both rest ys
-shots_both (entry.Final ∷ rest) ys = shots_both rest ys
-shots_both (entry.Shot k ∷ rest) ys = let more = shots_both rest ys in omega (arith, more)
-
 -- entries without a shot have no file
 no_file : (P : List Entry → List ℕ → Type 0) (before put rest : List Entry) (files : List File) → shots put ≡ 0 → ShotsBehind P (before ++ put) rest files → ShotsBehind P before (put ++ rest) files
 no_file P before [] rest files none h = subst (λ (es : List Entry). ShotsBehind P es rest files) (append-nil before) h

@@ -1,5 +1,5 @@
 -- How far a command has read its files.
-use Rattle.std.specs.Prelude.{◌≡◌, ℕ, List, [], ◌∷◌, length, take, slice_get, Option, Some, None, IfSome}
+use Rattle.std.specs.Prelude.{◌≡◌, ℕ, true, List, [], ◌∷◌, length, take, slice_get, Option, Some, None, IfSome}
 use Rattle.std.specs.List.{AllByRecursion}
 use Rattle.nit_config.specs.Configuration.{Configuration}
 use Rattle.nit_config.specs.Configured.{IsConfigured}
@@ -47,11 +47,10 @@ pub record AreFirstFiles (configuration : List ℕ) (told : Option (List File)) 
   pub phases : HaveSamePhases scripts
   pub valid : IfSome told (λ files. IsConfig (bytes_of configuration files) config × AreScripts files (first_names config scripts) scripts)
 
--- for `still` the setup is that of a picture of this size, whatever the script; for `turns` it is that of a
--- configuration
+-- for `still` the setup is that of a picture of this size, whatever the script; for `turns` it has texts
 abbrev pub IsSetupOf : Command → Setup → Type 0
 IsSetupOf (Still width height script) s = (lines : List Line) × (s ≡ still_setup width height lines)
-IsSetupOf (Turns configuration) s = Unit {0}
+IsSetupOf (Turns configuration) s = s.texts ≡ true
 IsSetupOf NoCommand s = ⊥
 
 -- The setup can be run, and is one of the command. Where the store tells its files, it is what these are.

@@ -1,5 +1,5 @@
 -- The headline: what a run promises of its journal and of its pictures.
-use Rattle.std.specs.Prelude.{◌≡◌, ◌⊎◌, ℕ, ◌+◌, ◌<◌, true, List, [], ◌∷◌, ◌++◌, length, slice_index, All, Contains, Option, Some, None, option_map}
+use Rattle.std.specs.Prelude.{◌≡◌, ◌⊎◌, ℕ, ◌+◌, ◌<◌, true, List, [], ◌∷◌, ◌++◌, length, slice_index, All, Contains, Option, Some, None, option_map, if◌then◌else◌}
 use Rattle.nit_events.specs.declared.call.Call.{Call}
 use Rattle.nit_events.specs.declared.call.Call.TheVariants.{Close}
 use Rattle.nit_events.specs.declared.call.Reply.{Reply}
@@ -18,7 +18,7 @@ use Rattle.nit_config.specs.Configuration.{Configuration, donation_of, member}
 use Rattle.nit_journal.specs.Deliveries.{IsLive}
 use Rattle.nit_journal.specs.Journals.{replay, shots}
 use Rattle.nit_journal.specs.Presses.{IsDown}
-use Rattle.nit_journal.specs.Projections.{Gets, Moment, alone, own_machine, projection, replies_to}
+use Rattle.nit_journal.specs.Projections.{Gets, Moment, alone, alone_machine, own_machine, projection, replies_to}
 use Rattle.nit_journal.specs.Session.{serve}
 use Rattle.nit_journal.specs.State.{State, owner_of}
 use Rattle.nit_journal.specs.Views.{is_accepted}
@@ -29,12 +29,13 @@ use Rattle.nit_overlay.specs.Shown.{shown}
 use Rattle.nit_scene.specs.Painted.{pixel_count}
 use Rattle.nit_scene.specs.Played.{scenery_of}
 use Rattle.nit_report.specs.Picture.{picture}
+use Rattle.nit_report.specs.EventsText.{events_text}
 use Rattle.nit_store.specs.Shown.{File}
 use Rattle.nit_plan.specs.Sessions.{script_in}
 use Rattle.nit_actor.specs.Running.{shot_name}
 use Rattle.nit_actor.specs.Shots.{drawn_by_shot}
 use Rattle.nit_top.specs.Setup.{Setup}
-use Rattle.nit_top.specs.Outputs.{IsJournal, AreOutputs, final_name, raw_word, tables_left}
+use Rattle.nit_top.specs.Outputs.{IsJournal, AreOutputs, ending_of, events_name, final_name, journal_file, raw_word, tables_left}
 
 -- ---- each client
 
@@ -51,6 +52,13 @@ pub record IsServedAlone (config : Configuration) (scripts : List (List Line)) (
   -- so it is where an upgrade is refused for want of reserve
   pub reserve : (front rest : List Entry) (call : Call) (need left : ℕ) → journal ≡ front ++ entry.Call sid call (reply.NoReserve need left) ∷ rest
       → (left < need) × ((serve (own_machine config sid front) call).reply ≡ reply.NoReserve need left)
+
+-- The texts of a run. What a client's text tells of it is told of the machine that serves it alone: the events that it
+-- took stand among its replies, and how it ended is how that machine ends.
+pub record AreTexts (config : Configuration) (journal : List Entry) (outputs : List File) : Type 0 where
+  pub events : (sid : ℕ) → sid < length config.clients
+      → Contains outputs (events_name (member config sid).label, events_text journal sid (ending_of (alone_machine (donation_of config sid) (projection sid journal))))
+  pub journal_too : Contains outputs (journal_file journal)
 
 -- ---- the user's input, and the focus
 
@@ -121,7 +129,9 @@ pub record Headline (s : Setup) (journal : List Entry) (outputs : List File) : T
   pub shots_show : (front rest : List Entry) (number : ℕ) → journal ≡ front ++ entry.Shot number ∷ rest → HasPicture s.config outputs (shot_name number) (replay s.config front) (HoldsAtShot s front)
   -- final.ppm shows the state at the end, with the words that the scripts leave
   pub final_shows : HasPicture s.config outputs final_name (replay s.config journal) (HoldsAtEnd s journal)
+  -- the texts are there, where the run has them
+  pub texts : s.texts ≡ true → AreTexts s.config journal outputs
   -- there is no other file
-  pub count : length outputs ≡ shots journal + 1
+  pub count : length outputs ≡ shots journal + 1 + (if s.texts then length s.config.clients + 1 else 0)
   -- the configuration and the scripts alone determine the journal and the files
   pub only : (other : List Entry) (files : List File) → IsJournal s other → AreOutputs s other files → (other ≡ journal) × (files ≡ outputs)

@@ -1,4 +1,5 @@
 pub use Rattle.nit_store.specs.Shown
+pub use Rattle.nit_store.specs.Puts
 pub use Rattle.nit_script.specs.Grammar
 pub use Rattle.nit_script.specs.Spelling
 pub use Rattle.nit_script.specs.Phases
@@ -13,6 +14,8 @@ pub use Rattle.nit_config.specs.Configured
 pub use Rattle.nit_config.specs.Reading
 pub use Rattle.nit_overlay.specs.Shown as Frames
 pub use Rattle.nit_report.specs.Picture
+pub use Rattle.nit_report.specs.EventsText
+pub use Rattle.nit_report.specs.JournalText
 pub use Rattle.nit_scene.specs.Played
 pub use Rattle.nit_actor.specs.Done
 pub use Rattle.nit_actor.specs.Running

@@ -1,5 +1,5 @@
 -- How the work of a command comes to its end, before the line is said.
-use Rattle.std.specs.Prelude.{◌≡◌, ◌⊎◌, ℕ, ◌+◌, ◌<◌, ◌≤◌, Bool, true, false, List, [], ◌∷◌, ◌++◌, length, map, Option, Some, None, Result, Ok, Err, IfSome, Vec}
+use Rattle.std.specs.Prelude.{◌≡◌, ◌⊎◌, ℕ, ◌+◌, ◌<◌, ◌≤◌, Bool, true, false, List, [], ◌∷◌, ◌++◌, length, map, Option, Some, None, option_map, Result, Ok, Err, IfSome, Vec}
 use Rattle.std.specs.List.{AllByRecursion}
 use Rattle.std.specs.Global.{Global}
 use Rattle.nit_config.specs.Configuration.{Configuration}
@@ -14,8 +14,9 @@ use Rattle.nit_script.specs.declared.line.InputLine.{InputLine}
 use Rattle.nit_script.specs.Spelling.{FitsLine}
 use Rattle.nit_store.specs.declared.store.PutError.{PutError}
 use Rattle.nit_store.specs.declared.store.PutError.TheVariants as put
-use Rattle.nit_store.specs.Shown.{Shown, File, bytes_of, asking, ReadFaulted, WriteFaulted}
+use Rattle.nit_store.specs.Shown.{Shown, File, bytes_of, asking, ReadFaulted}
 use Rattle.nit_store.specs.Answers.{AskedAtMost}
+use Rattle.nit_store.specs.Puts.{Putting, PutsAll, Refusal, unrefused}
 use Rattle.nit_top.specs.declared.finish.End.{End}
 use Rattle.nit_top.specs.declared.finish.End.TheVariants as end
 use Rattle.nit_top.specs.declared.finish.Fault.{Fault}
@@ -30,7 +31,7 @@ use Rattle.nit_top.specs.Setup.{Setup, AreLines, HaveSamePhases}
 use Rattle.nit_top.specs.Outputs.{IsJournal, AreOutputs}
 use Rattle.nit_top.specs.Headline.{Headline}
 use Rattle.nit_top.specs.Lines.{name_text, line_of}
-use Rattle.nit_top.specs.Course.{Course, PutFiles, asked_also}
+use Rattle.nit_top.specs.Course.{Course, asked_also}
 use Rattle.nit_top.specs.Answer.{Came, Counts}
 
 -- ---- reading and judging a file
@@ -101,34 +102,17 @@ LoadedAll old names new (Err stop) = StoppedAmong old names new stop
 
 -- ---- the run
 
--- the setup of a run
-abbrev pub setup_of : Configuration → List (List Line) → List InputLine → Setup
-setup_of config scripts input = record { config = config; scripts = scripts; input = input }
+-- the setup of a run, with texts or without
+abbrev pub setup_of : Configuration → List (List Line) → List InputLine → Bool → Setup
+setup_of config scripts input texts = record { config = config; scripts = scripts; input = input; texts = texts }
 
--- these files were put, one after the other
-pub record PutAll (old : Shown) (files : List File) (new : Shown) : Type 0 where
-  pub rest : new ≡ record (asking_all old (map (λ f. f.0) files)) { files = new.files }
-  pub put : PutFiles files old.files new.files
+-- the put that was refused
+abbrev pub refusal_of : PutFault → Refusal
+refusal_of f = record { name = name_text f.name; error = f.error }
 
--- what a put under this name leaves that was refused so
-abbrev pub PutRefused : Shown → List ℕ → Shown → PutError → Type 0
-PutRefused old name new put.Failed = WriteFaulted (asking old name) new
-PutRefused old name new put.NoMemory = AskedAtMost old name new
-
--- the files before one of them were put, and that one was refused
-pub record PutUntil (old : Shown) (files : List File) (new : Shown) (name : List ℕ) (error : PutError) : Type 0 where
-  pub front : List File
-  pub bytes : List ℕ
-  pub back : List File
-  pub parts : files ≡ front ++ (name, bytes) ∷ back
-  pub mid : Shown
-  pub put : PutAll old front mid
-  pub refused : PutRefused mid name new error
-
--- all files were put; or those before one, which was refused, and no other was tried
-abbrev pub Puts : Shown → List File → Shown → Option PutFault → Type 0
-Puts old files new None = PutAll old files new
-Puts old files new (Some fault) = PutUntil old files new (name_text fault.name) fault.error
+-- what the store shows, and the put that was refused, if one was
+abbrev pub putting : Shown → Option PutFault → Putting
+putting shown fault = record { shown = shown; refused = option_map refusal_of fault }
 
 -- the entry is a shot
 abbrev pub is_shot : Entry → Bool
@@ -141,7 +125,7 @@ pub record HasRun (old : Shown) (s : Setup) (new : Shown) (ran : Ran) : Type 0 w
   pub frames : ran.frames ≡ shots ran.journal.items + 1
   pub outputs : List File
   pub are : AreOutputs s ran.journal.items outputs
-  pub puts : Puts old outputs new ran.fault
+  pub puts : PutsAll outputs (unrefused old) (putting new ran.fault)
 
 -- the run went to its end, or was not begun for want of memory
 abbrev pub Runs : Shown → Setup → Shown → Result Ran NoMemory → Type 0
