@@ -21,7 +21,8 @@ use Rattle.nit_actor.specs.Done.{AreRoundsOf, acts}
 use Rattle.nit_actor.specs.Running.{shot_name}
 use Rattle.nit_actor.specs.Drawn.{Drawing, after_move, drawn, opening_drawing, picture_of, shots_after, shots_of, state_after, entry_of}
 use Rattle.nit_actor.specs.Shots.{ShotsBehind, AreShotsOf, shoots, moves_before, drawn_by_shot, IsDrawnPicture}
-use Rattle.nit_actor.proofs.Replayed.{Behind, PutBy, behind, none_left}
+use Rattle.nit_actor.proofs.Shots.{shots_both}
+use Rattle.nit_actor.proofs.Replayed.{PutBy, behind, none_left}
 
 -- ---- the moves before a shot
 

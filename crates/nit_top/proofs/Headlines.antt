@@ -1,10 +1,10 @@
 -- What the headline says, from the laws of the crates below.
-use Rattle.std.proofs.Common.{◌≡◌, ◌∙◌, ℕ, ◌+◌, ◌*◌, ◌<◌, true, List, [], ◌∷◌, ◌++◌, length, map, Option, Some, None, refl, sym, ap, subst, inl, inr, ◌⊎◌, zero-add}
+use Rattle.std.proofs.Common.{◌≡◌, ◌∙◌, ℕ, suc, ◌+◌, ◌*◌, ◌<◌, Bool, true, false, cond, List, [], ◌∷◌, ◌++◌, length, map, Option, Some, None, refl, sym, ap, subst, arith, inl, inr, ◌⊎◌, zero-add}
 use Rattle.std.specs.Prelude.{slice_get, slice_index, option_map, Contains}
 use Rattle.std.specs.List.{range_with_len}
-use Rattle.std.proofs.lemmas.List.{length_push, map-append}
-use Rattle.std.proofs.lemmas.List.Elements.{Contains-append_left, Contains-push}
-use Rattle.std.proofs.lemmas.List.FromFn.{get_or-map-range_with_len}
+use Rattle.std.proofs.lemmas.List.{length_push, length-append, map-append}
+use Rattle.std.proofs.lemmas.List.Elements.{Contains-append_left, Contains-append_right, Contains-push}
+use Rattle.std.proofs.lemmas.List.FromFn.{get_or-map-range_with_len, length-map-range_with_len}
 use Rattle.std.proofs.lemmas.Option.{slice_get_within, get_or_from_slice_get}
 use Rattle.nit_events.specs.declared.call.Call.{Call}
 use Rattle.nit_events.specs.declared.call.Call.TheVariants.{Close}
@@ -17,9 +17,11 @@ use Rattle.nit_events.specs.declared.entry.Entry.TheVariants as entry
 use Rattle.nit_events.specs.declared.event.Routed.{Routed}
 use Rattle.nit_events.specs.Input.{is_button}
 use Rattle.nit_stack.specs.Sources.{pixel, point}
-use Rattle.nit_config.specs.Configuration.{Configuration, member}
+use Rattle.nit_config.specs.Configuration.{Configuration, donation_of, member}
 use Rattle.nit_journal.specs.Journals.{IsLegal, replay, shots}
-use Rattle.nit_journal.specs.State.{State, after, owner_of}
+use Rattle.nit_journal.specs.Projections.{alone_machine, projection}
+use Rattle.nit_journal.specs.Session.{Session}
+use Rattle.nit_journal.specs.State.{State, after, owner_of, session}
 use Rattle.nit_journal.specs.Views.{is_accepted}
 use Rattle.nit_journal.specs.Whole.{Act, Ends, act_of}
 use Rattle.nit_script.specs.declared.line.Line.{Line}
@@ -27,6 +29,7 @@ use Rattle.nit_script.specs.declared.line.InputLine.{InputLine}
 use Rattle.nit_overlay.specs.Shown.{Scenery, shown, frame}
 use Rattle.nit_scene.specs.Painted.{pixel_count}
 use Rattle.nit_scene.specs.Played.{scenery_of}
+use Rattle.nit_report.specs.EventsText.{events_text}
 use Rattle.nit_store.specs.Shown.{File}
 use Rattle.nit_actor.specs.Done.{AreRoundsOf, acts}
 use Rattle.nit_actor.specs.Rounds.{rounds}
@@ -35,8 +38,9 @@ use Rattle.nit_actor.specs.Drawn.{picture_of, shots_of, words_of}
 use Rattle.nit_actor.specs.Shots.{AreShotsOf, IsDrawnPicture, drawn_by_shot}
 use Rattle.nit_actor.proofs.ShotsDrawn.{file_of_shot, shot_files}
 use Rattle.nit_top.specs.Setup.{Setup}
-use Rattle.nit_top.specs.Outputs.{IsJournal, AreOutputs, final_name, final_picture, raw_word, tables_left}
-use Rattle.nit_top.specs.Headline.{IsClickOn, focus_after, ShowsBy, HasPicture, HoldsAtShot, HoldsAtEnd}
+use Rattle.nit_top.specs.Outputs.{IsJournal, AreOutputs, ending_of, events_file, events_files, events_name, final_name, final_picture, journal_file, raw_word, tables_left, text_files}
+use Rattle.nit_top.specs.Headline.{AreTexts, IsClickOn, focus_after, ShowsBy, HasPicture, HoldsAtShot, HoldsAtEnd}
+use Rattle.nit_top.proofs.Leaving.{with_texts}
 
 -- ---- the focus
 
@@ -93,12 +97,19 @@ has_picture count each config files name bytes s word is has = (frame (scenery_o
 contains_at : {X : Type 0} (xs : List X) (k : ℕ) (x : X) → slice_get xs k ≡ Some x → Contains xs x
 contains_at xs k x e = (k, slice_get_within xs k x e, get_or_from_slice_get xs k x x e)
 
+contains_map : {X : Type 0} (f : ℕ → X) (n k : ℕ) → k < n → Contains (map f (range_with_len 0 n)) (f k)
+contains_map f n k inside = (k, subst (λ (m : ℕ). k < m) (sym (length-map-range_with_len f 0 n)) inside, get_or-map-range_with_len f 0 n k k (f k) inside (zero-add k))
+
 -- ---- the files of a run by rounds
 
 -- what the law of shots says
 abbrev pub ShotsLaw : Type 0
 ShotsLaw = (config : Configuration) (scripts : List (List Line)) (input : List InputLine) (journal : List Entry) → IsLegal config journal → AreRoundsOf journal scripts input
     → AreShotsOf (IsDrawnPicture config scripts input) (journal ++ entry.Final ∷ []) (shots_of config scripts input)
+
+-- what the law of machines says
+abbrev pub MachinesLaw : Type 0
+MachinesLaw = (config : Configuration) (journal : List Entry) (sid : ℕ) → IsLegal config journal → sid < length config.clients → session (replay config journal) sid ≡ alone_machine (donation_of config sid) (projection sid journal)
 
 abbrev pub FrontsLaw : Type 0
 FrontsLaw = (config : Configuration) (front rest : List Entry) → IsLegal config (front ++ rest) → IsLegal config front
@@ -112,25 +123,56 @@ module _ (s : Setup) (journal : List Entry) (outputs : List File) (j : IsJournal
       subst (λ (es : List Entry). AreShotsOf (IsDrawnPicture s.config s.scripts s.input) es shot_list) (sym j.rounds.2)
       (law s.config s.scripts s.input j.rounds.0 (fronts s.config j.rounds.0 (entry.Final ∷ []) (subst (λ (es : List Entry). IsLegal s.config es) j.rounds.2 j.legal)) j.rounds.1)
 
+  abbrev last_file : File
+  last_file = (final_name, final_picture s journal)
+
+  -- a file among the shots, the last picture, or a text, is among all
+  among_shots : (f : File) → Contains shot_list f → Contains outputs f
+  among_shots f has = subst (λ (fs : List File). Contains fs f) (sym are) (Contains-append_left shot_list (last_file ∷ text_files s journal) f has)
+
+  the_last : Contains outputs last_file
+  the_last = subst (λ (fs : List File). Contains fs last_file) (sym are) (Contains-append_right shot_list (last_file ∷ text_files s journal) last_file (Contains-append_left (last_file ∷ []) (text_files s journal) last_file (Contains-push [] last_file)))
+
+  among_texts : (f : File) → Contains (text_files s journal) f → Contains outputs f
+  among_texts f has = subst (λ (fs : List File). Contains fs f) (sym are) (Contains-append_right shot_list (last_file ∷ text_files s journal) f (Contains-append_right (last_file ∷ []) (text_files s journal) f has))
+
   pub shot_shows : ShotsLaw → FrontsLaw → FrameCount → FrameEach → (front rest : List Entry) (number : ℕ) → journal ≡ front ++ entry.Shot number ∷ rest
       → HasPicture s.config outputs (shot_name number) (replay s.config front) (HoldsAtShot s front)
   shot_shows law fronts count each front rest number parts =
       let file = file_of_shot (IsDrawnPicture s.config s.scripts s.input) front number rest shot_list (subst (λ (es : List Entry). AreShotsOf (IsDrawnPicture s.config s.scripts s.input) es shot_list) parts (shots_along law fronts)) in
       has_picture count each s.config outputs (shot_name number) file.0 (replay s.config front) (drawn_by_shot s.config s.scripts s.input (shots front)).word file.2
-      (subst (λ (fs : List File). Contains fs (shot_name number, file.0)) (sym are)
-      (Contains-append_left shot_list ((final_name, final_picture s journal) ∷ []) (shot_name number, file.0) (contains_at shot_list (shots front) (shot_name number, file.0) file.1)))
+      (among_shots (shot_name number, file.0) (contains_at shot_list (shots front) (shot_name number, file.0) file.1))
 
   pub end_shows : FrameCount → FrameEach → (replay s.config journal).config ≡ s.config → HasPicture s.config outputs final_name (replay s.config journal) (HoldsAtEnd s journal)
   end_shows count each same =
       let t = replay s.config journal in
       let word = raw_word t (tables_left s.config s.scripts) in
-      has_picture count each s.config outputs final_name (final_picture s journal) t word (ap (λ (c : Configuration). picture_of c t word) same)
-      (subst (λ (fs : List File). Contains fs (final_name, final_picture s journal)) (sym are) (Contains-push shot_list (final_name, final_picture s journal)))
+      has_picture count each s.config outputs final_name (final_picture s journal) t word (ap (λ (c : Configuration). picture_of c t word) same) the_last
 
-  pub files_counted : ShotsLaw → FrontsLaw → length outputs ≡ shots journal + 1
+  -- the texts
+  pub texts_tell : MachinesLaw → s.texts ≡ true → AreTexts s.config journal outputs
+  texts_tell law has = record {
+    events = λ sid inside.
+        let f = events_file s.config journal sid in
+        let there : Contains (events_files s.config journal) f = contains_map (events_file s.config journal) (length s.config.clients) sid inside in
+        let told : Contains outputs f = among_texts f (subst (λ (fs : List File). Contains fs f) (sym on) (Contains-append_left (events_files s.config journal) (journal_file journal ∷ []) f there)) in
+        subst (λ (m : Session). Contains outputs (events_name (member s.config sid).label, events_text journal sid (ending_of m))) (law s.config journal sid j.legal inside) told;
+    journal_too = among_texts (journal_file journal) (subst (λ (fs : List File). Contains fs (journal_file journal)) (sym on) (Contains-push (events_files s.config journal) (journal_file journal)));
+  }
+    where
+      on : text_files s journal ≡ events_files s.config journal ++ journal_file journal ∷ []
+      on = with_texts s journal has
+
+  pub files_counted : ShotsLaw → FrontsLaw → length outputs ≡ shots journal + 1 + cond s.texts (length s.config.clients + 1) 0
   files_counted law fronts =
-      ap length are ∙ length_push shot_list (final_name, final_picture s journal)
-      ∙ ap (λ (n : ℕ). n + 1) (shot_files (IsDrawnPicture s.config s.scripts s.input) [] journal shot_list (shots_along law fronts))
+      let pictures : length shot_list ≡ shots journal = shot_files (IsDrawnPicture s.config s.scripts s.input) [] journal shot_list (shots_along law fronts) in
+      let all : length outputs ≡ length shot_list + suc (length (text_files s journal)) = ap length are ∙ length-append shot_list (last_file ∷ text_files s journal) in
+      let texts : length (text_files s journal) ≡ cond s.texts (length s.config.clients + 1) 0 = count_texts s.texts in
+      omega (arith, pictures, all, texts)
+    where
+      count_texts : (b : Bool) → length (cond b (events_files s.config journal ++ journal_file journal ∷ []) []) ≡ cond b (length s.config.clients + 1) 0
+      count_texts true = length_push (events_files s.config journal) (journal_file journal) ∙ ap (λ (n : ℕ). n + 1) (length-map-range_with_len (events_file s.config journal) 0 (length s.config.clients))
+      count_texts false = refl
 
 -- ---- one setup, one run
 
@@ -146,4 +188,4 @@ same_journal law s js ks j k = law s.config js ks j.legal k.legal (acts_of_run s
 
 pub same_files : ActsLaw → (s : Setup) (js ks : List Entry) (fs gs : List File) → IsJournal s js → IsJournal s ks → AreOutputs s js fs → AreOutputs s ks gs → fs ≡ gs
 same_files law s js ks fs gs j k f g =
-    f ∙ ap (λ (es : List Entry). shots_of s.config s.scripts s.input ++ (final_name, final_picture s es) ∷ []) (same_journal law s js ks j k) ∙ sym g
+    f ∙ ap (λ (es : List Entry). shots_of s.config s.scripts s.input ++ (final_name, final_picture s es) ∷ text_files s es) (same_journal law s js ks j k) ∙ sym g

@@ -1,5 +1,5 @@
 -- What the files make of a command, and that it can be run.
-use Rattle.std.proofs.Common.{◌≡◌, ℕ, zero, suc, ◌+◌, ◌≤◌, List, [], ◌∷◌, ◌++◌, length, replicate, take, Some, None, refl, sym, ap, subst, ◌∙◌, arith, inl, inr, append_assoc, ◌*◌, cond}
+use Rattle.std.proofs.Common.{◌≡◌, true, ℕ, zero, suc, ◌+◌, ◌≤◌, List, [], ◌∷◌, ◌++◌, length, replicate, take, Some, None, refl, sym, ap, subst, ◌∙◌, arith, inl, inr, append_assoc, ◌*◌, cond}
 use Rattle.std.specs.Prelude.{IfSome, count_by, slice_get}
 use Rattle.std.proofs.lemmas.List.{length-map, length-replicate, take_all}
 use Rattle.std.proofs.Math.Seq.{take-append_seam}
@@ -46,7 +46,7 @@ all_phases (first ∷ rest) lines some same right =
 
 -- the setup of a configuration
 pub turns_runnable : (config : Configuration) (scripts : List (List Line)) (lines : List InputLine) → IsConfigured config → length scripts ≡ length (script_names config) → AllByRecursion (AreLines FitsLine) scripts → HaveSamePhases scripts
-    → AreLines FitsInputLine lines → wrong_input (wanted_by scripts) lines ≡ None → IsRunnable (setup_of config scripts lines)
+    → AreLines FitsInputLine lines → wrong_input (wanted_by scripts) lines ≡ None → IsRunnable (setup_of config scripts lines true)
 turns_runnable config scripts lines configured counted fit same input_fits right =
     let count : length scripts ≡ length config.clients = counted ∙ length-map config.clients (λ m. m.script) in
     let some : 1 ≤ length scripts = let c = configured.count.0 in omega arith in
@@ -175,17 +175,17 @@ module _ (name : List ℕ) (first : Shown) where
           (λ files v q. inr (config, v.0, inr (record { scripts = scripts; valid = v.1; name_is = refl; fault = q }))) (valid_too (script_names config) scripts valid_scripts) p)
           mid stop w (asked_now ∙ ap (λ (ns : List (List ℕ)). asking_all first (name ∷ ns)) (sym all_names)) is h at none
 
-      pub turns_ends : (now new : Shown) (lines : List InputLine) (w : Worked) → now ≡ asking mid config.input → IfSome mid.files (λ files. IsInput (wanted_by scripts) (bytes_of config.input files) lines) → IsRunnable (setup_of config scripts lines)
-          → Performed now (setup_of config scripts lines) new w → Ends turns first new w
+      pub turns_ends : (now new : Shown) (lines : List InputLine) (w : Worked) → now ≡ asking mid config.input → IfSome mid.files (λ files. IsInput (wanted_by scripts) (bytes_of config.input files) lines) → IsRunnable (setup_of config scripts lines true)
+          → Performed now (setup_of config scripts lines true) new w → Ends turns first new w
       turns_ends now new lines w read valid runnable h =
-          performed_ends turns first now new (setup_of config scripts lines) w
+          performed_ends turns first now new (setup_of config scripts lines true) w
           (read ∙ ap (λ (s : Shown). asking s config.input) asked_now ∙ asking_more first (name ∷ script_names config) config.input)
           (record {
             runnable = runnable;
-            of_command = tt;
+            of_command = refl;
             valid =
-                told_so_both (λ files. IsConfig (bytes_of name files) config × AreScripts files (script_names config) scripts) (λ files. IsInput (wanted_by scripts) (bytes_of config.input files) lines) (λ files. IsValid turns files (setup_of config scripts lines)) first.files
-                (λ files v q. (v.0, record { scripts = v.1; input = q })) (valid_too (script_names config) scripts valid_scripts)
+                told_so_both (λ files. IsConfig (bytes_of name files) config × AreScripts files (script_names config) scripts) (λ files. IsInput (wanted_by scripts) (bytes_of config.input files) lines) (λ files. IsValid turns files (setup_of config scripts lines true)) first.files
+                (λ files v q. (v.0, record { scripts = v.1; input = q }, refl)) (valid_too (script_names config) scripts valid_scripts)
                 (subst (λ (s : Shown). IfSome s.files (λ files. IsInput (wanted_by scripts) (bytes_of config.input files) lines)) asked_now valid);
           })
           h

@@ -42,7 +42,7 @@ pub fn still<'a, S: Store>(
     let Ok(input) = idle_user(alloc, client.lines()) else {
         return unbegun(alloc, at(End::NoMemory, script));
     };
-    perform(alloc, store, &config, &[client], &input)
+    perform(alloc, store, &config, &[client], &input, false)
 }
 
 /// The configuration of a picture of one client's script.
@@ -91,22 +91,23 @@ pub fn turns<'a, S: Store>(alloc: Global, store: &mut S, config: &'a Config) -> 
         Ok(input) => input,
         Err(stop) => return unbegun(alloc, stop),
     };
-    perform(alloc, store, config, &scripts, &input)
+    perform(alloc, store, config, &scripts, &input, true)
 }
 
-/// Runs a setup. A run that is not begun leaves everything.
+/// Runs a setup, with texts or without. A run that is not begun leaves everything.
 fn perform<S: Store>(
     alloc: Global,
     store: &mut S,
     config: &Config,
     scripts: &[Client],
     input: &Input,
+    texts: bool,
 ) -> Worked<'static>
-    requires { IsRunnable (setup_of config.now scripts.now input.now) }
-    ensures { Performed (S.shown store.old) (setup_of config.now scripts.now input.now) (S.shown store.new) result }
+    requires { IsRunnable (setup_of config.now scripts.now input.now texts) }
+    ensures { Performed (S.shown store.old) (setup_of config.now scripts.now input.now texts) (S.shown store.new) result }
 {
     headline();
-    let Ok(ran) = run(alloc, config, scripts, input, store) else {
+    let Ok(ran) = run(alloc, config, scripts, input, texts, store) else {
         return unbegun(alloc, at(End::NoMemory, ""));
     };
     Worked {

@@ -7,7 +7,7 @@ use Rattle.nit_journal.specs.Journals.{IsLegal, replay}
 use Rattle.nit_journal.specs.State.{opening, after}
 use Rattle.nit_journal.specs.Whole.{done}
 use Rattle.nit_plan.specs.Calls.{calls_to_make}
-use Rattle.nit_top.proofs.Headlines.{focus_by_call, focus_by_click, shot_shows, end_shows, files_counted}
+use Rattle.nit_top.proofs.Headlines.{focus_by_call, focus_by_click, shot_shows, end_shows, texts_tell, files_counted}
 use Rattle.nit_top.proofs.laws.headline.Goals as goal
 
 pub returns : goal.returns
@@ -38,6 +38,7 @@ returns c = λ s journal outputs runnable j are.
       };
       shots_show = shot_shows s journal outputs j are law fronts c.frame_pixels.ensures.count c.frame_pixels.ensures.each;
       final_shows = end_shows s journal outputs j are c.frame_pixels.ensures.count c.frame_pixels.ensures.each (c.configuration_stays.ensures.configuration config journal);
+      texts = texts_tell s journal outputs j are c.machines_stand_alone.ensures;
       count = files_counted s journal outputs j are law fronts;
       only = λ other files k more. (c.one_setup_one_run.ensures.journal s other journal k j, c.one_setup_one_run.ensures.files s other journal files outputs k j more are);
     }
