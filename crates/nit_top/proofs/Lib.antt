@@ -13,3 +13,5 @@ pub mod PerClient
 pub mod LastWords
 pub mod Leaving
 pub mod Headlines
+pub mod Naming
+pub mod Texting

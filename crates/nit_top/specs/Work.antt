@@ -21,6 +21,7 @@ use Rattle.nit_top.specs.declared.finish.End.{End}
 use Rattle.nit_top.specs.declared.finish.End.TheVariants as end
 use Rattle.nit_top.specs.declared.finish.Fault.{Fault}
 use Rattle.nit_top.specs.declared.finish.Fault.TheVariants as fault
+use Rattle.nit_top.specs.declared.finish.Name.TheVariants as name
 use Rattle.nit_top.specs.declared.finish.Stop.{Stop}
 use Rattle.nit_top.specs.declared.finish.Worked.{Worked}
 use Rattle.nit_top.specs.declared.run.PutFault.{PutFault}
@@ -30,7 +31,7 @@ use Rattle.nit_top.specs.Judged.{SpellScripts, wanted_by, IsClientFault, AreScri
 use Rattle.nit_top.specs.Setup.{Setup, AreLines, HaveSamePhases}
 use Rattle.nit_top.specs.Outputs.{IsJournal, AreOutputs}
 use Rattle.nit_top.specs.Headline.{Headline}
-use Rattle.nit_top.specs.Lines.{name_text, line_of}
+use Rattle.nit_top.specs.Lines.{name_text, output_name, line_of}
 use Rattle.nit_top.specs.Course.{Course, asked_also}
 use Rattle.nit_top.specs.Answer.{Came, Counts}
 
@@ -108,7 +109,7 @@ setup_of config scripts input texts = record { config = config; scripts = script
 
 -- the put that was refused
 abbrev pub refusal_of : PutFault → Refusal
-refusal_of f = record { name = name_text f.name; error = f.error }
+refusal_of f = record { name = output_name f.file; error = f.error }
 
 -- what the store shows, and the put that was refused, if one was
 abbrev pub putting : Shown → Option PutFault → Putting
@@ -150,7 +151,7 @@ pub record IsAfterRun (old : Shown) (s : Setup) (new : Shown) (w : Worked) : Typ
   pub has_run : HasRun old s new ran
   pub headline : Headline s ran.journal.items has_run.outputs
   pub end_is : w.stop.end ≡ end_of ran.fault
-  pub name_is : IfSome ran.fault (λ f. w.stop.name ≡ f.name)
+  pub name_is : IfSome ran.fault (λ f. w.stop.name ≡ name.Put f.file)
   pub journal_is : w.journal.items ≡ ran.journal.items
   pub clients_are : w.clients ≡ length s.scripts
   pub frames_are : w.frames ≡ ran.frames

@@ -9,7 +9,7 @@ ghost use Rattle.nit_top.specs.Command.{Still, Turns};
 ghost use Rattle.nit_top.specs.Setup.{IsRunnable};
 ghost use Rattle.nit_top.specs.Work.{Ends, Performed, setup_of, end_of};
 
-use crate::finish::{End, Stop, Worked, at, unbegun};
+use crate::finish::{End, Name, Stop, Worked, at, unbegun};
 use crate::laws::headline;
 use crate::load::{load_client, load_input, load_scripts, wanted_by};
 use crate::run::{PutFault, run};
@@ -95,14 +95,14 @@ pub fn turns<'a, S: Store>(alloc: Global, store: &mut S, config: &'a Config) -> 
 }
 
 /// Runs a setup, with texts or without. A run that is not begun leaves everything.
-fn perform<S: Store>(
+fn perform<'a, S: Store>(
     alloc: Global,
     store: &mut S,
     config: &Config,
     scripts: &[Client],
     input: &Input,
     texts: bool,
-) -> Worked<'static>
+) -> Worked<'a>
     requires { IsRunnable (setup_of config.now scripts.now input.now texts) }
     ensures { Performed (S.shown store.old) (setup_of config.now scripts.now input.now texts) (S.shown store.new) result }
 {
@@ -119,9 +119,9 @@ fn perform<S: Store>(
 }
 
 /// How the work ends after a run, by the put that was refused.
-fn stop_after(fault: Option<PutFault>) -> Stop<'static>
+fn stop_after<'a>(fault: Option<PutFault>) -> Stop<'a>
     ensures end { result.end ≡ end_of fault }
-    ensures name { IfSome fault (λ f. result.name ≡ f.name) }
+    ensures name { IfSome fault (λ f. result.name ≡ Name.Put f.file) }
 {
     let Some(fault) = fault else {
         return at(End::Whole, "");
@@ -131,6 +131,6 @@ fn stop_after(fault: Option<PutFault>) -> Stop<'static>
             PutError::Failed => End::WriteFault,
             PutError::NoMemory => End::NoMemory,
         },
-        name: fault.name,
+        name: Name::Put(fault.file),
     }
 }

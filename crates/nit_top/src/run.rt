@@ -9,7 +9,7 @@ ghost use Rattle.nit_top.specs.Outputs.{events_files, journal_file};
 ghost use Rattle.nit_top.specs.Work.{HasRun, Runs, is_shot, putting, setup_of};
 
 use crate::desk::{put_final, refused_shot};
-use crate::finish::Name;
+use crate::finish::Output;
 use crate::last::draw_last;
 use crate::opening::{Opened, open};
 use crate::texts::{put_events, put_journal};
@@ -30,7 +30,7 @@ use std::alloc::Global;
 /// A put that was refused.
 #[derive(Clone, Copy, Debug)]
 pub struct PutFault {
-    pub name: Name<'static>,
+    pub file: Output,
     pub error: PutError,
 }
 
@@ -137,8 +137,8 @@ fn leave_texts<S: Store>(
 
 /// What a run leaves that has this journal.
 fn left(journal: Vec<Entry>, fault: Option<PutFault>) -> Ran
-    ensures journal { result.journal.items ≡ journal.entry.items }
-    ensures frames { result.frames ≡ shots journal.entry.items + 1 }
+    ensures journal { result.journal.items ≡ journal.items }
+    ensures frames { result.frames ≡ shots journal.items + 1 }
     ensures fault { result.fault ≡ fault }
 {
     Ran {

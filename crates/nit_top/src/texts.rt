@@ -5,11 +5,12 @@ ghost use Rattle.nit_journal.specs.State.{session};
 ghost use Rattle.nit_report.specs.EventsText.{events_text};
 ghost use Rattle.nit_scene.specs.Played.{state_now};
 ghost use Rattle.nit_store.specs.Puts.{PutsAll, PutsFile, PutsNext, unrefused};
+ghost use Rattle.nit_top.specs.Lines.{output_name};
 ghost use Rattle.nit_top.specs.Outputs.{ending_of, events_files, events_name, journal_file};
 ghost use Rattle.nit_top.specs.Work.{putting};
 
 use crate::desk::put_next;
-use crate::finish::Name;
+use crate::finish::{LabelBytes, Output};
 use crate::run::PutFault;
 use nit_config::Member;
 use nit_events::Entry;
@@ -36,6 +37,8 @@ pub fn put_events<S: Store>(
     requires { clients.now ≡ scene.now.config.clients }
     ensures { PutsAll (events_files scene.now.config scene.now.entries) (putting (S.shown store.old) fault) (putting (S.shown store.new) result) }
 {
+    // so the clients are at most 16
+    let _ = scene.size();
     let mut fault = fault;
     for (sid, client) in clients.iter().enumerate() {
         fault = put_events_of(alloc, store, fault, &client.label, scene, sid as u32);
@@ -80,11 +83,11 @@ fn ending(scene: &Scene<Inked>, sid: u32) -> Ending
 
 /// The refused put of the events of the client of this label.
 fn refused_events(label: &Label, error: PutError) -> PutFault
-    ensures name { result.name ≡ Name.Events label.now }
+    ensures file { output_name result.file ≡ events_name label.now }
     ensures error { result.error ≡ error }
 {
     PutFault {
-        name: Name::Events(*label),
+        file: Output::Events(LabelBytes::new(label)),
         error,
     }
 }
@@ -94,7 +97,7 @@ fn put_named<S: Store>(store: &mut S, label: &Label, bytes: &[u8]) -> Option<Put
     ensures { PutsFile (events_name label.now, bytes.now) (unrefused (S.shown store.old)) (putting (S.shown store.new) result) }
 {
     let mut name = [0; NAME_BYTES];
-    let end = write_name(&mut name, label);
+    let end = write_name(&mut name, label.as_bytes());
     let Ok(name) = str::from_utf8(&name[..end]) else {
         unreachable!()
     };
@@ -105,13 +108,14 @@ fn put_named<S: Store>(store: &mut S, label: &Label, bytes: &[u8]) -> Option<Put
 }
 
 /// Writes the name of the events of the client of this label to the front of `out`, and answers where it ends.
-fn write_name(out: &mut [u8], label: &Label) -> usize
-    requires { length out.old ≡ 31 }
+fn write_name(out: &mut [u8], label: &[u8]) -> usize
+    requires out { length out.old ≡ 31 }
+    requires label { length label.now ≤ 20 }
     ensures end { result ≤ length out.new }
     ensures name { take result out.new ≡ events_name label.now }
 {
     let at = text(out, 0, b"events-");
-    let at = text(out, at, label.as_bytes());
+    let at = text(out, at, label);
     text(out, at, b".txt")
 }
 
@@ -128,11 +132,10 @@ pub fn put_journal<S: Store>(
     if fault.is_some() {
         return fault;
     }
-    let name = "journal.txt";
     match journal_text(alloc, journal) {
-        Ok(bytes) => put_next(store, None, Name::Text(name), name, &bytes),
+        Ok(bytes) => put_next(store, None, Output::Journal, "journal.txt", &bytes),
         Err(_) => Some(PutFault {
-            name: Name::Text(name),
+            file: Output::Journal,
             error: PutError::NoMemory,
         }),
     }
