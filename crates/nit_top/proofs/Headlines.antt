@@ -86,9 +86,11 @@ FrameEach = (s : Scenery) (raw : List ℕ) (k : ℕ) → k < s.width * s.height 
 shows : FrameCount → FrameEach → (s : State) (word : ℕ → ℕ) → ShowsBy s (λ k w. w ≡ word k) (frame (scenery_of s) (words_of s word))
 shows count each s word = record {
   count = count (scenery_of s) (words_of s word);
-  each = λ k inside.
-      (word k, refl,
-      each (scenery_of s) (words_of s word) k inside ∙ ap (λ (w : ℕ). shown (scenery_of s) (pixel s.config.width k) w) (get_or-map-range_with_len word 0 (pixel_count s) k k 0 inside (zero-add k)));
+  each = λ k inside. (
+    word k,
+    refl,
+    each (scenery_of s) (words_of s word) k inside ∙ ap (λ (w : ℕ). shown (scenery_of s) (pixel s.config.width k) w) (get_or-map-range_with_len word 0 (pixel_count s) k k 0 inside (zero-add k)),
+  );
 }
 
 has_picture : FrameCount → FrameEach → (config : Configuration) (files : List File) (name bytes : List ℕ) (s : State) (word : ℕ → ℕ) → bytes ≡ picture_of config s word → Contains files (name, bytes) → HasPicture config files name s (λ k w. w ≡ word k)

@@ -16,20 +16,33 @@ use Rattle.nit_top.specs.Course.{Course, WithRun, IsNotBegun, IsLastRead, IsPutW
 -- ---- how the work came to its end
 
 -- what that end means, and the line on it
-abbrev pub Came : {old : Shown} {c : Command} {journal : List Entry} → Course old c journal → Option (List File) → Option (List (List ℕ)) → End → List ℕ → Type 0
-Came {c = c} course files asked ends.Usage line = (c ≡ NoCommand) × IsNotBegun course files asked × (line ≡ usage_line)
-Came course files asked ends.ReadFault line = (name : List ℕ) × IsLastRead course files asked name × (line ≡ read_fault_line name)
+abbrev pub Came : {old : Shown} {c : Command} {journal : List Entry} → Course old c journal
+    → Option (List File) → Option (List (List ℕ)) → End → List ℕ → Type 0
+Came {c = c} course files asked ends.Usage line =
+    (c ≡ NoCommand) × IsNotBegun course files asked × (line ≡ usage_line)
+Came course files asked ends.ReadFault line =
+    (name : List ℕ) × IsLastRead course files asked name × (line ≡ read_fault_line name)
 Came {old = old} {c = c} course files asked (ends.Refused f) line =
-    (name : List ℕ) × IsLastRead course files asked name × IfSome old.files (λ told. Judged c told (Refused name f)) × (line ≡ fault_line name f)
-Came course files asked ends.WriteFault line = (name : List ℕ) × WithRun course (λ run. IsRefusedAt run files asked name) × (line ≡ write_fault_line name)
-Came course files asked ends.NoMemory line = (IsNotBegun course files asked ⊎ WithRun course (λ run. IsCutShort run files asked)) × (line ≡ no_memory_line)
-Came course files asked ends.Whole line = WithRun course (λ run. IsPutWhole run files asked × (line ≡ summary_line (totals run)))
+    (name : List ℕ) × IsLastRead course files asked name
+    × IfSome old.files (λ told. Judged c told (Refused name f)) × (line ≡ fault_line name f)
+Came course files asked ends.WriteFault line =
+    (name : List ℕ) × WithRun course (λ run. IsRefusedAt run files asked name)
+    × (line ≡ write_fault_line name)
+Came course files asked ends.NoMemory line =
+    (IsNotBegun course files asked ⊎ WithRun course (λ run. IsCutShort run files asked))
+    × (line ≡ no_memory_line)
+Came course files asked ends.Whole line =
+    WithRun course (λ run. IsPutWhole run files asked × (line ≡ summary_line (totals run)))
 
 -- which counts of failures rose in the work
 abbrev pub Counts : Shown → Shown → End → Type 0
-Counts old new ends.ReadFault = Rose old.read_faults new.read_faults × (new.write_faults ≡ old.write_faults)
-Counts old new ends.WriteFault = (new.read_faults ≡ old.read_faults) × Rose old.write_faults new.write_faults × (old.write_faults ≤ new.write_faults)
-Counts old new other = (new.read_faults ≡ old.read_faults) × (new.write_faults ≡ old.write_faults)
+Counts old new ends.ReadFault =
+    Rose old.read_faults new.read_faults × (new.write_faults ≡ old.write_faults)
+Counts old new ends.WriteFault =
+    (new.read_faults ≡ old.read_faults) × Rose old.write_faults new.write_faults
+    × (old.write_faults ≤ new.write_faults)
+Counts old new other =
+    (new.read_faults ≡ old.read_faults) × (new.write_faults ≡ old.write_faults)
 
 -- ---- the line
 
@@ -59,16 +72,20 @@ pub record SayingFailed (old new : Shown) (code : ℕ) : Type 0 where
   pub put : code ≡ 4 → Rose old.write_faults between
   pub said : Rose between new.write_faults
 
--- The line was said, and nothing else; or a front of it, where the saying was refused or memory ran out in it.
+-- The line was said, and nothing else; or a front of it, where the saying was refused or memory ran
+-- out in it.
 pub record SaysLine (old new : Shown) (code status : ℕ) (line : List ℕ) : Type 0 where
   pub front : List ℕ
   pub back : List ℕ
   pub parts : line ≡ front ++ back
   pub said : new.said ≡ said_also old.said front
-  pub whole : ((status ≡ code) × (back ≡ [])) ⊎ ((status ≡ 7) ⊎ ((status ≡ (if code == 0 then 4 else code)) × SayingFailed old new code))
+  pub whole : ((status ≡ code) × (back ≡ []))
+      ⊎ ((status ≡ 7)
+      ⊎ ((status ≡ (if code == 0 then 4 else code)) × SayingFailed old new code))
 
 -- The work came to this end, and the line on it was said, or a front of it.
-pub record IsSaid {old : Shown} {c : Command} {journal : List Entry} (course : Course old c journal) (new : Shown) (status : ℕ) : Type 0 where
+pub record IsSaid {old : Shown} {c : Command} {journal : List Entry} (course : Course old c journal)
+    (new : Shown) (status : ℕ) : Type 0 where
   pub end : End
   pub line : List ℕ
   pub came : Came course new.files new.asked end line
@@ -82,7 +99,12 @@ pub record IsSaid {old : Shown} {c : Command} {journal : List Entry} (course : C
 abbrev pub NoFault : ℕ → ℕ → Type 0
 NoFault before now = Rose before now → ⊥
 
-pub record Answer (old : Shown) (words : List (List ℕ)) (new : Shown) (status : ℕ) (journal : List Entry) : Type 0 where
+-- the status is one of those with which the work ends before a run
+abbrev pub IsEarly : ℕ → Type 0
+IsEarly status = IsTrue (list_any (λ s. s == status) (2 ∷ 3 ∷ 5 ∷ 6 ∷ []))
+
+pub record Answer (old : Shown) (words : List (List ℕ)) (new : Shown) (status : ℕ)
+    (journal : List Entry) : Type 0 where
   -- a run was begun, and this is it; or none was begun, and the journal is empty
   pub course : Course old (command words) journal
   -- there is no other status
@@ -98,24 +120,38 @@ pub record Answer (old : Shown) (words : List (List ℕ)) (new : Shown) (status 
   pub write_failed : old.write_faults < new.write_faults → status ≡ 0 → ⊥
   -- 5 exactly where the configuration is refused
   pub bad_config : status ≡ 5 → IfSome old.files (λ files. IsRefused 5 (command words) files)
-  pub is_bad_config : NoFault old.read_faults new.read_faults → IsSomeAnd old.files (λ files. IsRefused 5 (command words) files) → (status ≡ 5) ⊎ (status ≡ 7)
+  pub is_bad_config : NoFault old.read_faults new.read_faults
+      → IsSomeAnd old.files (λ files. IsRefused 5 (command words) files)
+      → (status ≡ 5) ⊎ (status ≡ 7)
   -- 6 exactly where a script is the first file that is refused
   pub refused : status ≡ 6 → IfSome old.files (λ files. IsRefused 6 (command words) files)
-  pub is_refused : NoFault old.read_faults new.read_faults → IsSomeAnd old.files (λ files. IsRefused 6 (command words) files) → (status ≡ 6) ⊎ (status ≡ 7)
+  pub is_refused : NoFault old.read_faults new.read_faults
+      → IsSomeAnd old.files (λ files. IsRefused 6 (command words) files)
+      → (status ≡ 6) ⊎ (status ≡ 7)
   -- where the work ends before a run, nothing is put and the journal is empty
-  pub nothing_put : IsTrue (list_any (λ s. s == status) (2 ∷ 3 ∷ 5 ∷ 6 ∷ [])) → (new.files ≡ old.files) × (journal ≡ [])
-  -- there the names that are asked for are those of valid files that were read, and at most the next one
-  pub asked : IsTrue (list_any (λ s. s == status) (2 ∷ 3 ∷ 5 ∷ 6 ∷ [])) → IsNotBegun course new.files new.asked
+  pub nothing_put : IsEarly status → (new.files ≡ old.files) × (journal ≡ [])
+  -- there the names that are asked for are those of valid files that were read, and at most the next
+  -- one
+  pub asked : IsEarly status → IsNotBegun course new.files new.asked
   -- at 0 a run was begun, and all is put that it puts, and nothing else
   pub put_whole : status ≡ 0 → WithRun course (λ run. IsPutWhole run new.files new.asked)
   -- at 0 the summary line of this run is said, and all of it
-  pub summary : status ≡ 0 → WithRun course (λ run. new.said ≡ said_also old.said (summary_line (totals run)))
-  -- at 4 a run was begun: all is put, and the line was refused; or the files before one are put, and that one was refused
-  pub put_in_part : status ≡ 4 → WithRun course (λ run. IsPutWhole run new.files new.asked ⊎ ((name : List ℕ) × IsRefusedAt run new.files new.asked name))
-  -- at 7 it is as at 0 or 4, or memory ran out at a file that the run was to put; or no run was begun, and nothing is put
-  pub at_seven : status ≡ 7 → IsNotBegun course new.files new.asked ⊎ WithRun course (λ run. IsPutWhole run new.files new.asked ⊎ IsCutShort run new.files new.asked)
+  pub summary : status ≡ 0
+      → WithRun course (λ run. new.said ≡ said_also old.said (summary_line (totals run)))
+  -- at 4 a run was begun: all is put, and the line was refused; or the files before one are put, and
+  -- that one was refused
+  pub put_in_part : status ≡ 4
+      → WithRun course (λ run. IsPutWhole run new.files new.asked
+      ⊎ ((name : List ℕ) × IsRefusedAt run new.files new.asked name))
+  -- at 7 it is as at 0 or 4, or memory ran out at a file that the run was to put; or no run was begun,
+  -- and nothing is put
+  pub at_seven : status ≡ 7
+      → IsNotBegun course new.files new.asked
+      ⊎ WithRun course (λ run. IsPutWhole run new.files new.asked
+      ⊎ IsCutShort run new.files new.asked)
   -- the line on how the work came to its end is what is said, and the status goes by both
   pub said : IsSaid course new status
   -- valid files are run to the end, unless the store fails or memory runs out
   pub complete : IsSomeAnd old.files (λ files. (s : Setup) × IsValid (command words) files s)
-      → NoFault old.read_faults new.read_faults → NoFault old.write_faults new.write_faults → (status ≡ 0) ⊎ (status ≡ 7)
+      → NoFault old.read_faults new.read_faults → NoFault old.write_faults new.write_faults
+      → (status ≡ 0) ⊎ (status ≡ 7)

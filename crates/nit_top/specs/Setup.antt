@@ -9,8 +9,8 @@ use Rattle.nit_script.specs.declared.line.InputLine.TheVariants as input
 use Rattle.nit_script.specs.Phases.{is_phase, phases, input_phases}
 use Rattle.nit_script.specs.Spelling.{FitsLine, FitsInputLine}
 
--- the configuration, the clients' scripts in its order, and the input script; and whether the texts of the events and of
--- the journal are put behind the pictures
+-- the configuration, the clients' scripts in its order, and the input script; and whether the texts
+-- of the events and of the journal are put behind the pictures
 pub record Setup : Type 0 where
   pub config : Configuration
   pub scripts : List (List Line)
@@ -23,7 +23,12 @@ idle_user lines = replicate (count_by is_phase lines) input.Phase
 
 -- the setup of a picture of one client's script, without texts
 abbrev pub still_setup : ℕ → ℕ → List Line → Setup
-still_setup width height lines = record { config = still_configuration width height; scripts = lines ∷ []; input = idle_user lines; texts = false }
+still_setup width height lines = record {
+  config = still_configuration width height;
+  scripts = lines ∷ [];
+  input = idle_user lines;
+  texts = false;
+}
 
 -- all scripts have as many phases as the first
 abbrev pub HaveSamePhases : List (List Line) → Type 0
@@ -34,8 +39,8 @@ HaveSamePhases (first ∷ rest) = AllByRecursion (λ lines. phases lines ≡ pha
 abbrev pub AreLines : {L : Type 0} → (L → Type 0) → List L → Type 0
 AreLines Fits lines = AllByRecursion Fits lines × (length lines ≤ 65536)
 
--- The configuration is within its ranges, and there is a script for each client. All scripts have as many phases as the
--- input script, and each has at most 65,536 lines, all within the grammar.
+-- The configuration is within its ranges, and there is a script for each client. All scripts have as
+-- many phases as the input script, and each has at most 65,536 lines, all within the grammar.
 pub record IsRunnable (s : Setup) : Type 0 where
   pub configured : IsConfigured s.config
   pub scripts : length s.scripts ≡ length s.config.clients
