@@ -23,3 +23,4 @@ pub mod Telling
 pub mod Turning
 pub mod Walks
 pub mod Whole
+pub mod ShotsDrawn

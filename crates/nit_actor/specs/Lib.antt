@@ -8,10 +8,12 @@ pub use Rattle.nit_plan.specs.Sessions
 pub use Rattle.nit_scene.specs.Played
 pub use Rattle.nit_report.specs.Picture
 pub use Rattle.nit_store.specs.Answers
+pub use Rattle.nit_store.specs.Puts
 pub mod Moves
 pub mod Rounds
 pub mod Done
 pub mod Places
 pub mod Running
 pub mod Drawn
+pub mod Shots
 pub mod UnderWay

@@ -12,3 +12,4 @@ pub mod Reaching
 pub mod Lives
 pub mod Presses
 pub mod Rows
+pub mod Machines

@@ -45,6 +45,16 @@ replies_from s (Gets i ∷ rest) = replies_from (receive s i) rest
 abbrev pub alone : ℕ → List Moment → List Reply
 alone donation moments = replies_from (opened donation) moments
 
+-- what these moments leave of a machine
+abbrev pub after_moments : Session → List Moment → Session
+after_moments s [] = s
+after_moments s (Calls call ∷ rest) = after_moments (serve s call).session rest
+after_moments s (Gets i ∷ rest) = after_moments (receive s i) rest
+
+-- the machine that serves one session alone, behind these moments
+abbrev pub alone_machine : ℕ → List Moment → Session
+alone_machine donation moments = after_moments (opened donation) moments
+
 -- the machine that opens with a session's donation and gets the session's own calls of a journal, and no
 -- item
 abbrev pub own_machine : Configuration → ℕ → List Entry → Session

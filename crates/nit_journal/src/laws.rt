@@ -24,7 +24,7 @@ ghost use Rattle.nit_journal.specs.Views.{is_accepted};
 ghost use Rattle.nit_journal.specs.State.{State, session, owner_of, route, after};
 ghost use Rattle.nit_journal.specs.Journals.{replay_from, replay, LegalFrom, IsLegal, Agrees, IsOpen, shots};
 ghost use Rattle.nit_journal.specs.Presses.{IsDown};
-ghost use Rattle.nit_journal.specs.Projections.{Gets, Moment, projection, replies_to, alone, own_machine};
+ghost use Rattle.nit_journal.specs.Projections.{Gets, Moment, projection, replies_to, alone, alone_machine, own_machine};
 ghost use Rattle.nit_journal.specs.Whole.{act_of};
 ghost use Rattle.nit_journal.specs.Deliveries.{IsKillAlone, IsLive};
 
@@ -110,6 +110,15 @@ pub fn isolation()
     ensures { (config : Configuration) (journal : List Entry) (s : ℕ)
         → IsLegal config journal → s < length config.clients
         → replies_to s journal ≡ alone (donation_of config s) (projection s journal) }
+{}
+
+/// The machine of each session, behind a legal journal, is the one that serves it alone: what it lost, what
+/// is still queued and whether it is served come from its donation, its own calls and the items that were
+/// routed to it.
+pub fn machines_stand_alone()
+    ensures { (config : Configuration) (journal : List Entry) (s : ℕ)
+        → IsLegal config journal → s < length config.clients
+        → session (replay config journal) s ≡ alone_machine (donation_of config s) (projection s journal) }
 {}
 
 /// Two legal journals, of any two configurations, that give a session the same donation. Where it

@@ -11,6 +11,7 @@
 
 mod disk_store;
 mod files;
+pub mod laws;
 mod memory_store;
 mod never_fails;
 mod store;

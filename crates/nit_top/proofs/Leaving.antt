@@ -1,5 +1,5 @@
 -- What a run leaves: its journal, and its files.
-use Rattle.std.proofs.Common.{◌≡◌, ◌∙◌, ℕ, ◌+◌, List, [], ◌∷◌, ◌++◌, map, Option, None, refl, sym, ap, subst, arith}
+use Rattle.std.proofs.Common.{◌≡◌, ◌∙◌, ℕ, ◌+◌, Bool, true, false, cond, List, [], ◌∷◌, ◌++◌, map, refl, sym, ap, subst, arith}
 use Rattle.std.specs.Prelude.{count_by}
 use Rattle.std.proofs.lemmas.List.Sums.{sum_by-cons}
 use Rattle.nit_word.specs.Sight.{Sight}
@@ -14,15 +14,16 @@ use Rattle.nit_journal.specs.Whole.{IsWhole}
 use Rattle.nit_plan.specs.Calls.{calls_to_make, deeds_to_do}
 use Rattle.nit_scene.specs.Played.{Played, state_now}
 use Rattle.nit_store.specs.Shown.{File, Shown}
+use Rattle.nit_store.specs.Puts.{Putting, PutsAll, PutsNext, unrefused}
+use Rattle.nit_store.proofs.Puts.{puts_both}
 use Rattle.nit_actor.specs.Done.{AreRoundsOf}
 use Rattle.nit_actor.specs.Rounds.{rounds}
-use Rattle.nit_actor.specs.Running.{IsRun, Putting, PutsAll, putting}
+use Rattle.nit_actor.specs.Running.{IsRun}
 use Rattle.nit_actor.specs.Drawn.{PutsShots, shots_of}
-use Rattle.nit_top.specs.declared.run.PutFault.{PutFault}
 use Rattle.nit_top.specs.declared.run.Ran.{Ran}
 use Rattle.nit_top.specs.Setup.{Setup}
-use Rattle.nit_top.specs.Outputs.{HaveTables, AreOutputs, IsJournal, final_name, final_picture, picture_by, tables_left}
-use Rattle.nit_top.specs.Work.{HasRun, Puts, is_shot}
+use Rattle.nit_top.specs.Outputs.{HaveTables, AreOutputs, IsJournal, events_files, final_name, final_picture, journal_file, picture_by, tables_left, text_files}
+use Rattle.nit_top.specs.Work.{HasRun, is_shot, putting}
 use Rattle.nit_top.proofs.LastWords.{OneMore}
 use Rattle.nit_top.proofs.PerClient.{left_tables}
 
@@ -42,28 +43,36 @@ abbrev pub WholeLaw : Type 0
 WholeLaw = (scripts : List (List Line)) (input : List InputLine) (journal : List Entry) → AreRoundsOf journal scripts input → IsWhole (map calls_to_make scripts) (deeds_to_do input) (journal ++ entry.Final ∷ [])
 
 -- what is put at the end, whatever was put before
-abbrev pub PutsLast : State → List Sight → Putting → Shown → Option PutFault → Type 0
-PutsLast s owns at new fault = (tables : ℕ → List ℕ) (first : Shown) (tried : ℕ) (files : List File) → HaveTables owns tables → PutsAll files (putting first None tried) at → Puts first (files ++ (final_name, picture_by s tables) ∷ []) new fault
+abbrev pub PutsLast : State → List Sight → Putting → Putting → Type 0
+PutsLast s owns at new = (tables : ℕ → List ℕ) → HaveTables owns tables → PutsNext (final_name, picture_by s tables) at new
 
-pub run_leaves : (s : Setup) (start mid last : Played Sight) (owns : List Sight) (first new : Shown) (tried : ℕ) (at : Putting) (fault : Option PutFault) (ran : Ran)
+-- the texts of a run that has them, and of one that has none
+pub with_texts : (s : Setup) (journal : List Entry) → s.texts ≡ true → text_files s journal ≡ events_files s.config journal ++ journal_file journal ∷ []
+with_texts s journal is = ap (λ (b : Bool). cond b (events_files s.config journal ++ journal_file journal ∷ []) []) is
+
+pub without_texts : (s : Setup) (journal : List Entry) → s.texts ≡ false → text_files s journal ≡ []
+without_texts s journal is = ap (λ (b : Bool). cond b (events_files s.config journal ++ journal_file journal ∷ []) []) is
+
+pub run_leaves : (s : Setup) (start mid last : Played Sight) (owns : List Sight) (first new : Shown) (at final : Putting) (ran : Ran)
     → WholeLaw → OneMore → start.config ≡ s.config → IsRun s.scripts s.input start mid owns → last.entries ≡ mid.entries ++ entry.Final ∷ [] → last.config ≡ mid.config → IsLegal last.config last.entries
-    → PutsShots start.config s.scripts (rounds s.scripts s.input) (putting first None tried) at → PutsLast (state_now mid) owns at new fault
-    → ran.journal.items ≡ last.entries → ran.frames ≡ shots last.entries + 1 → ran.fault ≡ fault → HasRun first s new ran
-run_leaves s start mid last owns first new tried at fault ran whole more begun run ended same legal shots_ puts_last journal frames refused = record {
+    → PutsShots start.config s.scripts (rounds s.scripts s.input) (unrefused first) at → PutsLast (state_now mid) owns at final → PutsAll (text_files s last.entries) final (putting new ran.fault)
+    → ran.journal.items ≡ last.entries → ran.frames ≡ shots last.entries + 1 → HasRun first s new ran
+run_leaves s start mid last owns first new at final ran whole more begun run ended same legal shots_ puts_last puts_texts journal frames = record {
   journal = subst (λ (j : List Entry). IsJournal s j) (sym journal) is_journal;
   frames = frames ∙ ap (λ (j : List Entry). shots j + 1) (sym journal);
-  outputs = files ++ (final_name, final_picture s last.entries) ∷ [];
-  are = subst (λ (j : List Entry). AreOutputs s j (files ++ (final_name, final_picture s last.entries) ∷ [])) (sym journal) refl;
-  puts =
-      subst (λ (f : Option PutFault). Puts first (files ++ (final_name, final_picture s last.entries) ∷ []) new f) (sym refused)
-      (subst (λ (p : List ℕ). Puts first (files ++ (final_name, p) ∷ []) new fault) picture_is (puts_last (tables_left s.config s.scripts) first tried files tables puts));
+  outputs = outputs;
+  are = subst (λ (j : List Entry). AreOutputs s j outputs) (sym journal) refl;
+  puts = all_puts;
 }
   where
     files : List File
     files = shots_of s.config s.scripts s.input
 
-    puts : PutsAll files (putting first None tried) at
-    puts = subst (λ (c : Configuration). PutsShots c s.scripts (rounds s.scripts s.input) (putting first None tried) at) begun shots_
+    last_file : File
+    last_file = (final_name, final_picture s last.entries)
+
+    outputs : List File
+    outputs = files ++ last_file ∷ text_files s last.entries
 
     config : mid.config ≡ s.config
     config = run.config ∙ begun
@@ -83,3 +92,12 @@ run_leaves s start mid last owns first new tried at fault ran whole more begun r
 
     picture_is : picture_by (state_now mid) (tables_left s.config s.scripts) ≡ final_picture s last.entries
     picture_is = ap (λ (t : State). picture_by t (tables_left s.config s.scripts)) state_is
+
+    shots_put : PutsAll files (unrefused first) at
+    shots_put = subst (λ (c : Configuration). PutsShots c s.scripts (rounds s.scripts s.input) (unrefused first) at) begun shots_
+
+    last_put : PutsNext last_file at final
+    last_put = subst (λ (p : List ℕ). PutsNext (final_name, p) at final) picture_is (puts_last (tables_left s.config s.scripts) tables)
+
+    all_puts : PutsAll outputs (unrefused first) (putting new ran.fault)
+    all_puts = puts_both files (last_file ∷ text_files s last.entries) (unrefused first) at (putting new ran.fault) shots_put (final, last_put, puts_texts)

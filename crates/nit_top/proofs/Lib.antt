@@ -12,3 +12,6 @@ pub mod Pictures
 pub mod PerClient
 pub mod LastWords
 pub mod Leaving
+pub mod Headlines
+pub mod Naming
+pub mod Texting

@@ -1,8 +1,10 @@
 -- What the files make of a command, and that it can be run.
-use Rattle.std.proofs.Common.{◌≡◌, ℕ, ◌+◌, ◌≤◌, List, [], ◌∷◌, ◌++◌, length, replicate, Some, None, refl, sym, ap, subst, ◌∙◌, arith, inl, inr, append_assoc, ◌*◌, cond}
-use Rattle.std.specs.Prelude.{IfSome, count_by}
-use Rattle.std.proofs.lemmas.List.{append-nil, length-map}
+use Rattle.std.proofs.Common.{◌≡◌, true, ℕ, zero, suc, ◌+◌, ◌≤◌, List, [], ◌∷◌, ◌++◌, length, replicate, take, Some, None, refl, sym, ap, subst, ◌∙◌, arith, inl, inr, append_assoc, ◌*◌, cond}
+use Rattle.std.specs.Prelude.{IfSome, count_by, slice_get}
+use Rattle.std.proofs.lemmas.List.{length-map, length-replicate, take_all}
+use Rattle.std.proofs.Math.Seq.{take-append_seam}
 use Rattle.std.proofs.lemmas.List.Folds.{sum_by-replicate}
+use Rattle.std.proofs.lemmas.List.Sums.{count_by-le-length}
 use Rattle.std.specs.List.{AllByRecursion}
 use Rattle.nit_config.specs.Configuration.{Configuration}
 use Rattle.nit_config.specs.Configured.{IsConfigured}
@@ -11,16 +13,17 @@ use Rattle.nit_script.specs.declared.line.Line.{Line}
 use Rattle.nit_script.specs.declared.line.InputLine.{InputLine}
 use Rattle.nit_script.specs.declared.line.InputLine.TheVariants as input
 use Rattle.nit_script.specs.Phases.{is_phase, phases, is_input_phase, input_phases}
+use Rattle.nit_script.specs.Spelling.{FitsLine, FitsInputLine}
 use Rattle.nit_store.specs.Shown.{Shown, bytes_of, asking}
 use Rattle.nit_top.specs.declared.finish.Fault.{Fault}
 use Rattle.nit_top.specs.declared.finish.Stop.{Stop}
 use Rattle.nit_top.specs.declared.finish.Worked.{Worked}
 use Rattle.nit_top.specs.Command.{Command, Still, Turns}
-use Rattle.nit_top.specs.Setup.{still_setup, HaveSamePhases, IsRunnable}
+use Rattle.nit_top.specs.Setup.{AreLines, still_setup, idle_user, HaveSamePhases, IsRunnable}
 use Rattle.nit_top.specs.Judged.{IsConfig, IsConfigFault, IsClient, IsClientFault, IsInput, IsInputFault, SpellScripts, AreScripts, script_names, wanted_by, wrong_phases, wrong_input, Judged, Refused, IsValid, names_in}
+use Rattle.nit_top.specs.FilesRead.{FilesRead, NoFile, FirstFiles, HasRead, first_names}
 use Rattle.nit_top.specs.Lines.{name_text}
-use Rattle.nit_top.specs.Answer.{MayRead}
-use Rattle.nit_top.specs.Work.{asking_all, StoppedAt, StoppedAmong, setup_of, Performed, Ends}
+use Rattle.nit_top.specs.Work.{asking_all, SoFar, StoppedAt, StoppedAmong, setup_of, Performed, Ends}
 use Rattle.nit_top.proofs.Asking.{asking_none, asking_both, asking_more}
 use Rattle.nit_top.proofs.Scripts.{told_so, told_so_both, phases_are}
 use Rattle.nit_top.proofs.Ending.{stopped_ends, performed_ends}
@@ -42,21 +45,31 @@ all_phases (first ∷ rest) lines some same right =
     (sym is, all_so (λ ls. phases ls ≡ phases first) (λ ls. phases ls ≡ input_phases lines) rest (λ ls e. e ∙ sym is) same)
 
 -- the setup of a configuration
-pub turns_runnable : (config : Configuration) (scripts : List (List Line)) (lines : List InputLine) → IsConfigured config → length scripts ≡ length (script_names config) → HaveSamePhases scripts → wrong_input (wanted_by scripts) lines ≡ None → IsRunnable (setup_of config scripts lines)
-turns_runnable config scripts lines configured counted same right =
+pub turns_runnable : (config : Configuration) (scripts : List (List Line)) (lines : List InputLine) → IsConfigured config → length scripts ≡ length (script_names config) → AllByRecursion (AreLines FitsLine) scripts → HaveSamePhases scripts
+    → AreLines FitsInputLine lines → wrong_input (wanted_by scripts) lines ≡ None → IsRunnable (setup_of config scripts lines true)
+turns_runnable config scripts lines configured counted fit same input_fits right =
     let count : length scripts ≡ length config.clients = counted ∙ length-map config.clients (λ m. m.script) in
     let some : 1 ≤ length scripts = let c = configured.count.0 in omega arith in
-    record { configured = configured; scripts = count; phases = all_phases scripts lines some same right }
+    record { configured = configured; scripts = count; phases = all_phases scripts lines some same right; lines = fit; input_lines = input_fits }
 
 -- ---- a user who does nothing
 
-pub still_runnable : (width height : ℕ) (lines : List Line) → 1 ≤ width → width ≤ 1024 → 1 ≤ height → height ≤ 768 → IsRunnable (still_setup width height lines)
-still_runnable width height lines some few tall short = record {
+idle_fits : (n : ℕ) → AllByRecursion FitsInputLine (replicate n input.Phase)
+idle_fits zero = tt
+idle_fits (suc n) = (tt, idle_fits n)
+
+pub still_runnable : (width height : ℕ) (lines : List Line) → 1 ≤ width → width ≤ 1024 → 1 ≤ height → height ≤ 768 → AreLines FitsLine lines → IsRunnable (still_setup width height lines)
+still_runnable width height lines some few tall short fits = record {
   configured = still_configured width height some few tall short;
   scripts = refl;
   phases = (ap (λ (n : ℕ). n + 1) (sym (count_all (count_by is_phase lines))), tt);
+  lines = (fits, tt);
+  input_lines = (idle_fits (count_by is_phase lines), idle_few);
 }
   where
+    idle_few : length (idle_user lines) ≤ 65536
+    idle_few = let long = length-replicate (count_by is_phase lines) input.Phase in let most = count_by-le-length is_phase lines in let max = fits.1 in omega arith
+
     count_all : (n : ℕ) → count_by is_input_phase (replicate n input.Phase) ≡ n
     count_all n = let one : n * 1 ≡ n = omega arith in sum_by-replicate (λ x. cond (is_input_phase x) 1 0) n input.Phase ∙ one
 
@@ -68,15 +81,32 @@ module _ (width height : ℕ) (script : List ℕ) (old : Shown) where
 
   pub still_stopped : (new : Shown) (stop : Stop) (w : Worked) → name_text stop.name ≡ script → StoppedAt (IsClientFault None) old script new stop.end → w.stop ≡ stop → w.journal.items ≡ [] → Ends still old new w
   still_stopped new stop w is h at none =
-      stopped_ends still old [] script (IsClientFault None) new ([], refl) (script ∷ [], refl)
+      stopped_ends still old NoFile tt script refl (IsClientFault None) new
       (λ f p. told_so (λ files. IsClientFault None (bytes_of script files) f) (λ files. Judged still files (Refused script f)) old.files (λ files q. (refl, q)) p)
       old stop w (asking_none old) is h at none
 
-  pub still_ends : (mid new : Shown) (lines : List Line) (w : Worked) → mid ≡ asking old script → IfSome old.files (λ files. IsClient None (bytes_of script files) lines) → Performed mid (still_setup width height lines) new w → Ends still old new w
-  still_ends mid new lines w asked valid h =
-      performed_ends still tt old mid new (still_setup width height lines) w asked
-      (told_so (λ files. IsClient None (bytes_of script files) lines) (λ files. IsValid still files (still_setup width height lines)) old.files (λ files q. (lines, q, refl)) valid)
-      refl ([], refl) h
+  pub still_ends : (mid new : Shown) (lines : List Line) (w : Worked) → mid ≡ asking old script → IfSome old.files (λ files. IsClient None (bytes_of script files) lines) → IsRunnable (still_setup width height lines) → Performed mid (still_setup width height lines) new w → Ends still old new w
+  still_ends mid new lines w asked valid runnable h =
+      performed_ends still old mid new (still_setup width height lines) w asked
+      (record {
+        runnable = runnable;
+        of_command = (lines, refl);
+        valid = told_so (λ files. IsClient None (bytes_of script files) lines) (λ files. IsValid still files (still_setup width height lines)) old.files (λ files q. (lines, q, refl)) valid;
+      })
+      h
+
+-- ---- lists
+
+-- the first items of a list, as many as another list has
+take_front : {A B : Type 0} (before behind : List A) (xs : List B) → length xs ≡ length before → take (length xs) (before ++ behind) ≡ before
+take_front before behind xs same = ap (λ (n : ℕ). take n (before ++ behind)) same ∙ take-append_seam before behind
+
+get_behind : {A B : Type 0} (before : List A) (x : A) (behind : List A) (xs : List B) → length xs ≡ length before → slice_get (before ++ x ∷ behind) (length xs) ≡ Some x
+get_behind {A = A} before x behind xs same = ap (λ (n : ℕ). slice_get (before ++ x ∷ behind) n) same ∙ at before
+  where
+    at : (ys : List A) → slice_get (ys ++ x ∷ behind) (length ys) ≡ Some x
+    at [] = refl
+    at (y ∷ ys) = at ys
 
 -- ---- `turns`
 
@@ -86,57 +116,76 @@ module _ (name : List ℕ) (first : Shown) where
 
   pub config_stopped : (new : Shown) (stop : Stop) (w : Worked) → name_text stop.name ≡ name → StoppedAt IsConfigFault first name new stop.end → w.stop ≡ stop → w.journal.items ≡ [] → Ends turns first new w
   config_stopped new stop w is h at none =
-      stopped_ends turns first [] name IsConfigFault new (inl ([], refl)) (inl (name ∷ [], refl))
+      stopped_ends turns first NoFile tt name refl IsConfigFault new
       (λ f p. told_so (λ files. IsConfigFault (bytes_of name files) f) (λ files. Judged turns files (Refused name f)) first.files (λ files q. inl (refl, q)) p)
       first stop w (asking_none first) is h at none
 
-  module _ (config : Configuration) (is_config : IfSome first.files (λ files. IsConfig (bytes_of name files) config)) where
+  module _ (config : Configuration) (configured : IsConfigured config) (is_config : IfSome first.files (λ files. IsConfig (bytes_of name files) config)) where
     -- the names behind that of the configuration
     behind : (before : List (List ℕ)) → asking_all (asking first name) before ≡ asking_all first (name ∷ before)
     behind before = asking_both first (name ∷ []) before
 
-    front : (before back : List (List ℕ)) → names_in config ≡ before ++ back → MayRead turns first.files (name ∷ before)
-    front before back parts = inr (config, is_config, (back, ap (λ (ns : List (List ℕ)). name ∷ ns) parts))
+    -- the configuration and these scripts are valid
+    valid_too : (names : List (List ℕ)) (scripts : List (List Line)) → IfSome first.files (λ files. AreScripts files names scripts) → IfSome first.files (λ files. IsConfig (bytes_of name files) config × AreScripts files names scripts)
+    valid_too names scripts valid =
+        told_so_both (λ files. IsConfig (bytes_of name files) config) (λ files. AreScripts files names scripts) (λ files. IsConfig (bytes_of name files) config × AreScripts files names scripts) first.files (λ files p q. (p, q)) is_config valid
+
+    -- the first files were read
+    first_files : (names : List (List ℕ)) (scripts : List (List Line)) → AllByRecursion (AreLines FitsLine) scripts → HaveSamePhases scripts → first_names config scripts ≡ names → IfSome first.files (λ files. AreScripts files names scripts)
+        → HasRead turns first.files (FirstFiles config scripts)
+    first_files names scripts lines phases are valid = record {
+      configured = configured;
+      lines = lines;
+      phases = phases;
+      valid = subst (λ (ns : List (List ℕ)). IfSome first.files (λ files. IsConfig (bytes_of name files) config × AreScripts files ns scripts)) (sym are) (valid_too names scripts valid);
+    }
 
     pub scripts_stopped : (old new : Shown) (stop : Stop) (w : Worked) → old ≡ asking first name → StoppedAmong old (script_names config) new stop → w.stop ≡ stop → w.journal.items ≡ [] → Ends turns first new w
     scripts_stopped old new stop w start among at none =
         let a : StoppedAmong (asking first name) (script_names config) new stop = subst (λ (s : Shown). StoppedAmong s (script_names config) new stop) start among in
         let n : List ℕ = name_text stop.name in
+        let are : first_names config a.scripts ≡ a.before = ap (λ (ns : List (List ℕ)). take (length a.scripts) ns) a.parts ∙ take_front a.before (n ∷ a.behind) a.scripts a.count in
         let parts : names_in config ≡ a.before ++ (n ∷ (a.behind ++ config.input ∷ [])) = ap (λ (ns : List (List ℕ)). ns ++ config.input ∷ []) a.parts ∙ append_assoc a.before (n ∷ a.behind) (config.input ∷ []) in
-        stopped_ends turns first (name ∷ a.before) n (IsClientFault (wanted_by a.scripts)) new
-        (front (a.before ++ n ∷ []) (a.behind ++ config.input ∷ []) (parts ∙ sym (append_assoc a.before (n ∷ []) (a.behind ++ config.input ∷ []))))
-        (front a.before (n ∷ (a.behind ++ config.input ∷ [])) parts)
+        stopped_ends turns first (FirstFiles config a.scripts) (first_files a.before a.scripts a.lines a.phases are a.valid) n
+        (ap (λ (ns : List (List ℕ)). slice_get ns (length a.scripts)) parts ∙ get_behind a.before n (a.behind ++ config.input ∷ []) a.scripts a.count)
+        (IsClientFault (wanted_by a.scripts)) new
         (λ f p. told_so_both (λ files. IsConfig (bytes_of name files) config × AreScripts files a.before a.scripts) (λ files. IsClientFault (wanted_by a.scripts) (bytes_of n files) f) (λ files. Judged turns files (Refused n f)) first.files
         (λ files v q. inr (config, v.0, inl (record { before = a.before; behind = a.behind; parts = a.parts; scripts = a.scripts; valid = v.1; fault = q })))
-        (told_so_both (λ files. IsConfig (bytes_of name files) config) (λ files. AreScripts files a.before a.scripts) (λ files. IsConfig (bytes_of name files) config × AreScripts files a.before a.scripts) first.files (λ files p q. (p, q)) is_config a.valid) p)
-        (asking_all (asking first name) a.before) stop w (behind a.before) refl a.stopped at none
+        (valid_too a.before a.scripts a.valid) p)
+        (asking_all (asking first name) a.before) stop w (behind a.before ∙ ap (λ (ns : List (List ℕ)). asking_all first (name ∷ ns)) (sym are)) refl a.stopped at none
 
-    module _ (old mid : Shown) (start : old ≡ asking first name) (scripts : List (List Line)) (asked : mid ≡ asking_all old (script_names config)) (same : HaveSamePhases scripts)
-        (spelled : IfSome old.files (λ files. SpellScripts files (script_names config) scripts)) where
+    module _ (old mid : Shown) (start : old ≡ asking first name) (scripts : List (List Line)) (far : SoFar old (script_names config) scripts mid) where
       asked_now : mid ≡ asking_all first (name ∷ script_names config)
-      asked_now = asked ∙ ap (λ (s : Shown). asking_all s (script_names config)) start ∙ behind (script_names config)
+      asked_now = far.asked ∙ ap (λ (s : Shown). asking_all s (script_names config)) start ∙ behind (script_names config)
 
-      -- the configuration and its scripts are valid
-      valid_so_far : IfSome first.files (λ files. IsConfig (bytes_of name files) config × AreScripts files (script_names config) scripts)
-      valid_so_far =
-          told_so_both (λ files. IsConfig (bytes_of name files) config) (λ files. SpellScripts files (script_names config) scripts) (λ files. IsConfig (bytes_of name files) config × AreScripts files (script_names config) scripts) first.files
-          (λ files p q. (p, (q, same))) is_config (subst (λ (s : Shown). IfSome s.files (λ files. SpellScripts files (script_names config) scripts)) start spelled)
+      -- the scripts are valid
+      valid_scripts : IfSome first.files (λ files. AreScripts files (script_names config) scripts)
+      valid_scripts =
+          told_so (λ files. SpellScripts files (script_names config) scripts) (λ files. AreScripts files (script_names config) scripts) first.files (λ files p. (p, far.phases))
+          (subst (λ (s : Shown). IfSome s.files (λ files. SpellScripts files (script_names config) scripts)) start far.valid)
+
+      all_names : first_names config scripts ≡ script_names config
+      all_names = take_all (length scripts) (script_names config) (let same = far.count in omega arith)
 
       pub input_stopped : (new : Shown) (stop : Stop) (w : Worked) → name_text stop.name ≡ config.input → StoppedAt (IsInputFault (wanted_by scripts)) mid config.input new stop.end → w.stop ≡ stop → w.journal.items ≡ [] → Ends turns first new w
       input_stopped new stop w is h at none =
-          stopped_ends turns first (name ∷ script_names config) config.input (IsInputFault (wanted_by scripts)) new
-          (front (names_in config) [] (sym (append-nil (names_in config)))) (front (script_names config) (config.input ∷ []) refl)
+          stopped_ends turns first (FirstFiles config scripts) (first_files (script_names config) scripts far.lines far.phases all_names valid_scripts) config.input (get_behind (script_names config) config.input [] scripts far.count)
+          (IsInputFault (wanted_by scripts)) new
           (λ f p. told_so_both (λ files. IsConfig (bytes_of name files) config × AreScripts files (script_names config) scripts) (λ files. IsInputFault (wanted_by scripts) (bytes_of config.input files) f) (λ files. Judged turns files (Refused config.input f)) first.files
-          (λ files v q. inr (config, v.0, inr (record { scripts = scripts; valid = v.1; name_is = refl; fault = q }))) valid_so_far p)
-          mid stop w asked_now is h at none
+          (λ files v q. inr (config, v.0, inr (record { scripts = scripts; valid = v.1; name_is = refl; fault = q }))) (valid_too (script_names config) scripts valid_scripts) p)
+          mid stop w (asked_now ∙ ap (λ (ns : List (List ℕ)). asking_all first (name ∷ ns)) (sym all_names)) is h at none
 
-      pub turns_ends : (now new : Shown) (lines : List InputLine) (w : Worked) → now ≡ asking mid config.input → IfSome mid.files (λ files. IsInput (wanted_by scripts) (bytes_of config.input files) lines) → length scripts ≡ length (script_names config)
-          → Performed now (setup_of config scripts lines) new w → Ends turns first new w
-      turns_ends now new lines w read valid counted h =
-          performed_ends turns tt first now new (setup_of config scripts lines) w
+      pub turns_ends : (now new : Shown) (lines : List InputLine) (w : Worked) → now ≡ asking mid config.input → IfSome mid.files (λ files. IsInput (wanted_by scripts) (bytes_of config.input files) lines) → IsRunnable (setup_of config scripts lines true)
+          → Performed now (setup_of config scripts lines true) new w → Ends turns first new w
+      turns_ends now new lines w read valid runnable h =
+          performed_ends turns first now new (setup_of config scripts lines true) w
           (read ∙ ap (λ (s : Shown). asking s config.input) asked_now ∙ asking_more first (name ∷ script_names config) config.input)
-          (told_so_both (λ files. IsConfig (bytes_of name files) config × AreScripts files (script_names config) scripts) (λ files. IsInput (wanted_by scripts) (bytes_of config.input files) lines) (λ files. IsValid turns files (setup_of config scripts lines)) first.files
-          (λ files v q. (v.0, record { scripts = v.1; input = q })) valid_so_far
-          (subst (λ (s : Shown). IfSome s.files (λ files. IsInput (wanted_by scripts) (bytes_of config.input files) lines)) asked_now valid))
-          (counted ∙ length-map config.clients (λ m. m.script))
-          (front (names_in config) [] (sym (append-nil (names_in config)))) h
+          (record {
+            runnable = runnable;
+            of_command = refl;
+            valid =
+                told_so_both (λ files. IsConfig (bytes_of name files) config × AreScripts files (script_names config) scripts) (λ files. IsInput (wanted_by scripts) (bytes_of config.input files) lines) (λ files. IsValid turns files (setup_of config scripts lines true)) first.files
+                (λ files v q. (v.0, record { scripts = v.1; input = q }, refl)) (valid_too (script_names config) scripts valid_scripts)
+                (subst (λ (s : Shown). IfSome s.files (λ files. IsInput (wanted_by scripts) (bytes_of config.input files) lines)) asked_now valid);
+          })
+          h

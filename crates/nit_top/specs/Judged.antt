@@ -1,6 +1,6 @@
 -- What the files make of the command that names them. They are judged one by one, in the order in which they are
 -- read.
-use Rattle.std.specs.Prelude.{◌≡◌, ◌⊎◌, ℕ, ◌<◌, ◌≤◌, ◌==◌, List, [], ◌∷◌, ◌++◌, length, map, Option, Some, None, if◌then◌else◌}
+use Rattle.std.specs.Prelude.{◌≡◌, ◌⊎◌, ℕ, ◌<◌, ◌≤◌, ◌==◌, true, List, [], ◌∷◌, ◌++◌, length, map, Option, Some, None, if◌then◌else◌}
 use Rattle.std.specs.List.{AllZip}
 use Rattle.nit_config.specs.Configuration.{Configuration}
 use Rattle.nit_config.specs.Reading.{Conf, IsRefused as IsRefusedConfig}
@@ -120,7 +120,7 @@ pub data Judgement : Type 0 where
 abbrev pub Judged : Command → List File → Judgement → Type 0
 Judged (Still width height script) files (Valid s) = (lines : List Line) × IsClient None (bytes_of script files) lines × (s ≡ still_setup width height lines)
 Judged (Still width height script) files (Refused name f) = (name ≡ script) × IsClientFault None (bytes_of script files) f
-Judged (Turns configuration) files (Valid s) = IsConfig (bytes_of configuration files) s.config × AreRead files s
+Judged (Turns configuration) files (Valid s) = IsConfig (bytes_of configuration files) s.config × AreRead files s × (s.texts ≡ true)
 Judged (Turns configuration) files (Refused name f) =
     ((name ≡ configuration) × IsConfigFault (bytes_of configuration files) f)
     ⊎ ((config : Configuration) × IsConfig (bytes_of configuration files) config × (IsFirstFault files (script_names config) name f ⊎ IsInputsFault files config name f))
@@ -152,7 +152,3 @@ abbrev pub reads : Command → Configuration → List (List ℕ)
 reads (Still width height script) config = script ∷ []
 reads (Turns configuration) config = configuration ∷ names_in config
 reads NoCommand config = []
-
--- the list begins with the front
-abbrev pub IsFront : {A : Type 0} → List A → List A → Type 0
-IsFront {A = A} front all = (back : List A) × (all ≡ front ++ back)

@@ -1,4 +1,5 @@
 pub use Rattle.nit_store.specs.Shown
+pub use Rattle.nit_store.specs.Puts
 pub use Rattle.nit_script.specs.Grammar
 pub use Rattle.nit_script.specs.Spelling
 pub use Rattle.nit_script.specs.Phases
@@ -13,10 +14,13 @@ pub use Rattle.nit_config.specs.Configured
 pub use Rattle.nit_config.specs.Reading
 pub use Rattle.nit_overlay.specs.Shown as Frames
 pub use Rattle.nit_report.specs.Picture
+pub use Rattle.nit_report.specs.EventsText
+pub use Rattle.nit_report.specs.JournalText
 pub use Rattle.nit_scene.specs.Played
 pub use Rattle.nit_actor.specs.Done
 pub use Rattle.nit_actor.specs.Running
 pub use Rattle.nit_actor.specs.Drawn
+pub use Rattle.nit_actor.specs.Shots
 pub mod Command
 pub mod Asked
 pub mod Setup
@@ -25,6 +29,9 @@ pub mod Outputs
 pub mod Opened
 pub mod Lines
 pub mod Saying
+pub mod Headline
+pub mod FilesRead
+pub mod Course
 pub mod Answer
 pub mod Work
 pub mod Ended

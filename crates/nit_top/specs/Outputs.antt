@@ -1,10 +1,12 @@
 -- What a run puts, and what its journal is.
-use Rattle.std.specs.Prelude.{◌≡◌, ℕ, ◌<◌, List, [], ◌∷◌, ◌++◌, length, map, codes, Some}
+use Rattle.std.specs.Prelude.{◌≡◌, ℕ, ◌<◌, List, [], ◌∷◌, ◌++◌, length, map, codes, Some, if◌then◌else◌}
+use Rattle.std.specs.List.{range_with_len}
 use Rattle.nit_word.specs.Sight.{Sight}
 use Rattle.nit_events.specs.declared.entry.Entry.{Entry}
 use Rattle.nit_events.specs.declared.entry.Entry.TheVariants as entry
-use Rattle.nit_config.specs.Configuration.{Configuration, donation_of}
-use Rattle.nit_journal.specs.State.{State}
+use Rattle.nit_config.specs.Configuration.{Configuration, donation_of, member}
+use Rattle.nit_journal.specs.Session.{Session}
+use Rattle.nit_journal.specs.State.{State, session}
 use Rattle.nit_journal.specs.Journals.{replay, IsLegal}
 use Rattle.nit_journal.specs.Whole.{IsWhole}
 use Rattle.nit_scene.specs.Painted.{glass_in, source_at}
@@ -12,6 +14,9 @@ use Rattle.nit_script.specs.declared.line.Line.{Line}
 use Rattle.nit_plan.specs.Calls.{calls_to_make, deeds_to_do}
 use Rattle.nit_plan.specs.Plans.{words_left}
 use Rattle.nit_plan.specs.Sessions.{script_in}
+use Rattle.nit_report.specs.declared.events.Ending.{Ending}
+use Rattle.nit_report.specs.EventsText.{events_text}
+use Rattle.nit_report.specs.JournalText.{journal_text}
 use Rattle.nit_store.specs.Shown.{File}
 use Rattle.nit_actor.specs.Done.{AreRoundsOf}
 use Rattle.nit_actor.specs.Drawn.{picture_of, shots_of, word_from, words_of}
@@ -19,9 +24,12 @@ use Rattle.nit_top.specs.Setup.{Setup}
 
 -- the entries are, in order, those of the rounds of the scripts, and then the last picture
 abbrev pub IsByRounds : Setup → List Entry → Type 0
-IsByRounds s journal = (entries : List Entry) × AreRoundsOf entries s.scripts s.input × (journal ≡ entries ++ entry.Final ∷ [])
+IsByRounds s journal =
+    (entries : List Entry) × AreRoundsOf entries s.scripts s.input
+    × (journal ≡ entries ++ entry.Final ∷ [])
 
--- The journal of a run is legal, whole for the clients' scripts and the input script, and by rounds.
+-- The journal of a run is legal, whole for the clients' scripts and the input script, and by
+-- rounds.
 pub record IsJournal (s : Setup) (journal : List Entry) : Type 0 where
   pub legal : IsLegal s.config journal
   pub whole : IsWhole (map calls_to_make s.scripts) (deeds_to_do s.input) journal
@@ -43,11 +51,13 @@ picture_by s tables = picture_of s.config s (raw_word s tables)
 
 -- each glass tells the words of its session's table
 abbrev pub HaveTables : List Sight → (ℕ → List ℕ) → Type 0
-HaveTables glasses tables = (t : ℕ) → t < length glasses → (glass_in glasses t).words ≡ Some (tables t)
+HaveTables glasses tables =
+    (t : ℕ) → t < length glasses → (glass_in glasses t).words ≡ Some (tables t)
 
 -- the words that each script leaves in its table
 abbrev pub tables_left : Configuration → List (List Line) → ℕ → List ℕ
-tables_left config scripts session = words_left (script_in scripts session) (donation_of config session)
+tables_left config scripts session =
+    words_left (script_in scripts session) (donation_of config session)
 
 -- the last picture of a run: each client's words are those that its script leaves
 abbrev pub final_picture : Setup → List Entry → List ℕ
@@ -56,9 +66,43 @@ final_picture s journal = picture_by (replay s.config journal) (tables_left s.co
 abbrev pub final_name : List ℕ
 final_name = codes "final.ppm"
 
+-- ---- the texts
+
+abbrev pub events_name : List ℕ → List ℕ
+events_name label = codes "events-" ++ (label ++ codes ".txt")
+
+abbrev pub journal_name : List ℕ
+journal_name = codes "journal.txt"
+
+-- how a session ended: how many events it lost, how many are still queued, and whether it is served
+abbrev pub ending_of : Session → Ending
+ending_of s = record { lost = s.lost; left = length s.queue; status = s.status }
+
+-- the events that a client took, and how its session ended
+abbrev pub events_file : Configuration → List Entry → ℕ → File
+events_file config journal sid = (
+  events_name (member config sid).label,
+  events_text journal sid (ending_of (session (replay config journal) sid)),
+)
+
+-- the events of each client, in the order of the configuration
+abbrev pub events_files : Configuration → List Entry → List File
+events_files config journal =
+    map (events_file config journal) (range_with_len 0 (length config.clients))
+
+abbrev pub journal_file : List Entry → File
+journal_file journal = (journal_name, journal_text journal)
+
+-- the texts of a run, where it has them: the events of each client, and then the journal
+abbrev pub text_files : Setup → List Entry → List File
+text_files s journal =
+    if s.texts then events_files s.config journal ++ journal_file journal ∷ [] else []
+
 -- ---- the files
 
--- The files that a run puts, in order: one for each shot, shot-1.ppm and so on, and then final.ppm. The shots are those
--- that the configuration and the scripts alone draw.
+-- The files that a run puts, in order: one for each shot, shot-1.ppm and so on, then final.ppm, and
+-- then the texts. The shots are those that the configuration and the scripts alone draw.
 abbrev pub AreOutputs : Setup → List Entry → List File → Type 0
-AreOutputs s journal files = files ≡ shots_of s.config s.scripts s.input ++ (final_name, final_picture s journal) ∷ []
+AreOutputs s journal files =
+    files ≡ shots_of s.config s.scripts s.input
+    ++ (final_name, final_picture s journal) ∷ text_files s journal

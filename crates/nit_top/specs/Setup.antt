@@ -1,5 +1,5 @@
 -- What a run is made of.
-use Rattle.std.specs.Prelude.{◌≡◌, ℕ, List, [], ◌∷◌, length, replicate, count_by}
+use Rattle.std.specs.Prelude.{◌≡◌, ℕ, ◌≤◌, Bool, false, List, [], ◌∷◌, length, replicate, count_by}
 use Rattle.std.specs.List.{AllByRecursion}
 use Rattle.nit_config.specs.Configuration.{Configuration, still_configuration}
 use Rattle.nit_config.specs.Configured.{IsConfigured}
@@ -7,29 +7,43 @@ use Rattle.nit_script.specs.declared.line.Line.{Line}
 use Rattle.nit_script.specs.declared.line.InputLine.{InputLine}
 use Rattle.nit_script.specs.declared.line.InputLine.TheVariants as input
 use Rattle.nit_script.specs.Phases.{is_phase, phases, input_phases}
+use Rattle.nit_script.specs.Spelling.{FitsLine, FitsInputLine}
 
--- the configuration, the clients' scripts in its order, and the input script
+-- the configuration, the clients' scripts in its order, and the input script; and whether the texts
+-- of the events and of the journal are put behind the pictures
 pub record Setup : Type 0 where
   pub config : Configuration
   pub scripts : List (List Line)
   pub input : List InputLine
+  pub texts : Bool
 
 -- a user who does nothing: one line `phase` for each line `phase` of a client's script
 abbrev pub idle_user : List Line → List InputLine
 idle_user lines = replicate (count_by is_phase lines) input.Phase
 
--- the setup of a picture of one client's script
+-- the setup of a picture of one client's script, without texts
 abbrev pub still_setup : ℕ → ℕ → List Line → Setup
-still_setup width height lines = record { config = still_configuration width height; scripts = lines ∷ []; input = idle_user lines }
+still_setup width height lines = record {
+  config = still_configuration width height;
+  scripts = lines ∷ [];
+  input = idle_user lines;
+  texts = false;
+}
 
 -- all scripts have as many phases as the first
 abbrev pub HaveSamePhases : List (List Line) → Type 0
 HaveSamePhases [] = Unit {0}
 HaveSamePhases (first ∷ rest) = AllByRecursion (λ lines. phases lines ≡ phases first) rest
 
--- The configuration is within its ranges, there is a script for each client, and all scripts have as many phases as
--- the input script.
+-- at most 65,536 lines, each within the grammar
+abbrev pub AreLines : {L : Type 0} → (L → Type 0) → List L → Type 0
+AreLines Fits lines = AllByRecursion Fits lines × (length lines ≤ 65536)
+
+-- The configuration is within its ranges, and there is a script for each client. All scripts have as
+-- many phases as the input script, and each has at most 65,536 lines, all within the grammar.
 pub record IsRunnable (s : Setup) : Type 0 where
   pub configured : IsConfigured s.config
   pub scripts : length s.scripts ≡ length s.config.clients
   pub phases : AllByRecursion (λ lines. phases lines ≡ input_phases s.input) s.scripts
+  pub lines : AllByRecursion (AreLines FitsLine) s.scripts
+  pub input_lines : AreLines FitsInputLine s.input

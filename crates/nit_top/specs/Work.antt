@@ -1,5 +1,6 @@
 -- How the work of a command comes to its end, before the line is said.
-use Rattle.std.specs.Prelude.{◌≡◌, ◌⊎◌, ℕ, ◌+◌, ◌<◌, ◌≤◌, Bool, true, false, List, [], ◌∷◌, ◌++◌, length, map, Option, Some, None, Result, Ok, Err, IfSome, Vec}
+use Rattle.std.specs.Prelude.{◌≡◌, ◌⊎◌, ℕ, ◌+◌, ◌<◌, ◌≤◌, Bool, true, false, List, [], ◌∷◌, ◌++◌, length, map, Option, Some, None, option_map, Result, Ok, Err, IfSome, Vec}
+use Rattle.std.specs.List.{AllByRecursion}
 use Rattle.std.specs.Global.{Global}
 use Rattle.nit_config.specs.Configuration.{Configuration}
 use Rattle.nit_events.specs.declared.entry.Entry.{Entry}
@@ -10,24 +11,29 @@ use Rattle.nit_script.specs.declared.error.ScriptError.{ScriptError}
 use Rattle.nit_script.specs.declared.error.ScriptError.TheVariants as script
 use Rattle.nit_script.specs.declared.line.Line.{Line}
 use Rattle.nit_script.specs.declared.line.InputLine.{InputLine}
+use Rattle.nit_script.specs.Spelling.{FitsLine}
 use Rattle.nit_store.specs.declared.store.PutError.{PutError}
 use Rattle.nit_store.specs.declared.store.PutError.TheVariants as put
-use Rattle.nit_store.specs.Shown.{Shown, File, bytes_of, asking, ReadFaulted, WriteFaulted}
+use Rattle.nit_store.specs.Shown.{Shown, File, bytes_of, asking, ReadFaulted}
 use Rattle.nit_store.specs.Answers.{AskedAtMost}
+use Rattle.nit_store.specs.Puts.{Putting, PutsAll, Refusal, unrefused}
 use Rattle.nit_top.specs.declared.finish.End.{End}
 use Rattle.nit_top.specs.declared.finish.End.TheVariants as end
 use Rattle.nit_top.specs.declared.finish.Fault.{Fault}
 use Rattle.nit_top.specs.declared.finish.Fault.TheVariants as fault
+use Rattle.nit_top.specs.declared.finish.Name.TheVariants as name
 use Rattle.nit_top.specs.declared.finish.Stop.{Stop}
 use Rattle.nit_top.specs.declared.finish.Worked.{Worked}
 use Rattle.nit_top.specs.declared.run.PutFault.{PutFault}
 use Rattle.nit_top.specs.declared.run.Ran.{Ran}
 use Rattle.nit_top.specs.Command.{Command}
 use Rattle.nit_top.specs.Judged.{SpellScripts, wanted_by, IsClientFault, AreScripts}
-use Rattle.nit_top.specs.Setup.{Setup, HaveSamePhases}
+use Rattle.nit_top.specs.Setup.{Setup, AreLines, HaveSamePhases}
 use Rattle.nit_top.specs.Outputs.{IsJournal, AreOutputs}
-use Rattle.nit_top.specs.Lines.{name_text, line_of}
-use Rattle.nit_top.specs.Answer.{asked_also, PutFiles, Came, Counts}
+use Rattle.nit_top.specs.Headline.{Headline}
+use Rattle.nit_top.specs.Lines.{name_text, output_name, line_of}
+use Rattle.nit_top.specs.Course.{Course, asked_also}
+use Rattle.nit_top.specs.Answer.{Came, Counts}
 
 -- ---- reading and judging a file
 
@@ -76,44 +82,38 @@ pub record StoppedAmong (old : Shown) (names : List (List ℕ)) (new : Shown) (s
   pub behind : List (List ℕ)
   pub parts : names ≡ before ++ name_text stop.name ∷ behind
   pub scripts : List (List Line)
+  pub count : length scripts ≡ length before
+  pub lines : AllByRecursion (AreLines FitsLine) scripts
+  pub phases : HaveSamePhases scripts
   pub valid : IfSome old.files (λ files. AreScripts files before scripts)
   pub stopped : StoppedAt (IsClientFault (wanted_by scripts)) (asking_all old before) (name_text stop.name) new stop.end
 
+-- The scripts of these names were read, and are valid.
+pub record SoFar (old : Shown) (names : List (List ℕ)) (scripts : List (List Line)) (now : Shown) : Type 0 where
+  pub asked : now ≡ asking_all old names
+  pub count : length scripts ≡ length names
+  pub lines : AllByRecursion (AreLines FitsLine) scripts
+  pub phases : HaveSamePhases scripts
+  pub valid : IfSome old.files (λ files. SpellScripts files names scripts)
+
 -- the scripts of these names were read and judged, in order
 abbrev pub LoadedAll : Shown → List (List ℕ) → Shown → Result (Vec (List Line) Global) Stop → Type 0
-LoadedAll old names new (Ok scripts) = (new ≡ asking_all old names) × (length scripts.items ≡ length names) × HaveSamePhases scripts.items × IfSome old.files (λ files. SpellScripts files names scripts.items)
+LoadedAll old names new (Ok scripts) = SoFar old names scripts.items new
 LoadedAll old names new (Err stop) = StoppedAmong old names new stop
 
 -- ---- the run
 
--- the setup of a run
-abbrev pub setup_of : Configuration → List (List Line) → List InputLine → Setup
-setup_of config scripts input = record { config = config; scripts = scripts; input = input }
+-- the setup of a run, with texts or without
+abbrev pub setup_of : Configuration → List (List Line) → List InputLine → Bool → Setup
+setup_of config scripts input texts = record { config = config; scripts = scripts; input = input; texts = texts }
 
--- these files were put, one after the other
-pub record PutAll (old : Shown) (files : List File) (new : Shown) : Type 0 where
-  pub rest : new ≡ record (asking_all old (map (λ f. f.0) files)) { files = new.files }
-  pub put : PutFiles files old.files new.files
+-- the put that was refused
+abbrev pub refusal_of : PutFault → Refusal
+refusal_of f = record { name = output_name f.file; error = f.error }
 
--- what a put under this name leaves that was refused so
-abbrev pub PutRefused : Shown → List ℕ → Shown → PutError → Type 0
-PutRefused old name new put.Failed = WriteFaulted (asking old name) new
-PutRefused old name new put.NoMemory = AskedAtMost old name new
-
--- the files before one of them were put, and that one was refused
-pub record PutUntil (old : Shown) (files : List File) (new : Shown) (name : List ℕ) (error : PutError) : Type 0 where
-  pub front : List File
-  pub bytes : List ℕ
-  pub back : List File
-  pub parts : files ≡ front ++ (name, bytes) ∷ back
-  pub mid : Shown
-  pub put : PutAll old front mid
-  pub refused : PutRefused mid name new error
-
--- all files were put; or those before one, which was refused, and no other was tried
-abbrev pub Puts : Shown → List File → Shown → Option PutFault → Type 0
-Puts old files new None = PutAll old files new
-Puts old files new (Some fault) = PutUntil old files new (name_text fault.name) fault.error
+-- what the store shows, and the put that was refused, if one was
+abbrev pub putting : Shown → Option PutFault → Putting
+putting shown fault = record { shown = shown; refused = option_map refusal_of fault }
 
 -- the entry is a shot
 abbrev pub is_shot : Entry → Bool
@@ -126,7 +126,7 @@ pub record HasRun (old : Shown) (s : Setup) (new : Shown) (ran : Ran) : Type 0 w
   pub frames : ran.frames ≡ shots ran.journal.items + 1
   pub outputs : List File
   pub are : AreOutputs s ran.journal.items outputs
-  pub puts : Puts old outputs new ran.fault
+  pub puts : PutsAll outputs (unrefused old) (putting new ran.fault)
 
 -- the run went to its end, or was not begun for want of memory
 abbrev pub Runs : Shown → Setup → Shown → Result Ran NoMemory → Type 0
@@ -149,8 +149,9 @@ end_of (Some f) = end_of_put f.error
 pub record IsAfterRun (old : Shown) (s : Setup) (new : Shown) (w : Worked) : Type 0 where
   pub ran : Ran
   pub has_run : HasRun old s new ran
+  pub headline : Headline s ran.journal.items has_run.outputs
   pub end_is : w.stop.end ≡ end_of ran.fault
-  pub name_is : IfSome ran.fault (λ f. w.stop.name ≡ f.name)
+  pub name_is : IfSome ran.fault (λ f. w.stop.name ≡ name.Put f.file)
   pub journal_is : w.journal.items ≡ ran.journal.items
   pub clients_are : w.clients ≡ length s.scripts
   pub frames_are : w.frames ≡ ran.frames
@@ -165,6 +166,7 @@ line_on w = line_of w.stop.end (name_text w.stop.name) (record { clients = w.cli
 
 -- the work of a command came to its end
 pub record Ends (c : Command) (old new : Shown) (w : Worked) : Type 0 where
-  pub came : Came c old new.files new.asked w.journal.items w.stop.end (line_on w)
+  pub course : Course old c w.journal.items
+  pub came : Came course new.files new.asked w.stop.end (line_on w)
   pub counts : Counts old new w.stop.end
   pub said : new.said ≡ old.said

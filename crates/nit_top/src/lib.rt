@@ -22,6 +22,7 @@ mod opening;
 mod perform;
 mod run;
 mod say;
+mod texts;
 mod top;
 mod user;
 mod words;

@@ -5,9 +5,7 @@ ghost use Rattle.nit_config.specs.Configured.{IsConfigured};
 ghost use Rattle.nit_slots.specs.Account.{IsDonation};
 ghost use Rattle.nit_report.specs.Picture.{picture_length};
 ghost use Rattle.nit_actor.specs.Running.{glass_after};
-ghost use Rattle.nit_top.specs.Setup.{IsRunnable};
 ghost use Rattle.nit_top.specs.Opened.{IsOpened, glasses_of, plans_of};
-ghost use Rattle.nit_top.specs.Work.{setup_of};
 
 use nit_actor::laws::each_line_once;
 use nit_config::Config;
@@ -43,8 +41,9 @@ pub fn open(
     scripts: &[Client],
     input: &Input,
 ) -> Result<Opened, NoMemory>
-    requires { IsRunnable (setup_of config.now scripts.now input.now) }
-    ensures { IfOk result (λ o. IsOpened (setup_of config.now scripts.now input.now) o) }
+    requires configured { IsConfigured config.now }
+    requires each { length scripts.now ≡ length config.now.clients }
+    ensures { IfOk result (λ o. IsOpened config.now scripts.now input.now o) }
 {
     each_line_once();
     buffer_within_table();

@@ -9,7 +9,8 @@ ghost use Rattle.nit_top.specs.Command.{Still, Turns};
 ghost use Rattle.nit_top.specs.Setup.{IsRunnable};
 ghost use Rattle.nit_top.specs.Work.{Ends, Performed, setup_of, end_of};
 
-use crate::finish::{End, Stop, Worked, at, unbegun};
+use crate::finish::{End, Name, Stop, Worked, at, unbegun};
+use crate::laws::headline;
 use crate::load::{load_client, load_input, load_scripts, wanted_by};
 use crate::run::{PutFault, run};
 use crate::user::idle_user;
@@ -41,7 +42,7 @@ pub fn still<'a, S: Store>(
     let Ok(input) = idle_user(alloc, client.lines()) else {
         return unbegun(alloc, at(End::NoMemory, script));
     };
-    perform(alloc, store, &config, &[client], &input)
+    perform(alloc, store, &config, &[client], &input, false)
 }
 
 /// The configuration of a picture of one client's script.
@@ -90,21 +91,23 @@ pub fn turns<'a, S: Store>(alloc: Global, store: &mut S, config: &'a Config) -> 
         Ok(input) => input,
         Err(stop) => return unbegun(alloc, stop),
     };
-    perform(alloc, store, config, &scripts, &input)
+    perform(alloc, store, config, &scripts, &input, true)
 }
 
-/// Runs a setup. A run that is not begun leaves everything.
-fn perform<S: Store>(
+/// Runs a setup, with texts or without. A run that is not begun leaves everything.
+fn perform<'a, S: Store>(
     alloc: Global,
     store: &mut S,
     config: &Config,
     scripts: &[Client],
     input: &Input,
-) -> Worked<'static>
-    requires { IsRunnable (setup_of config.now scripts.now input.now) }
-    ensures { Performed (S.shown store.old) (setup_of config.now scripts.now input.now) (S.shown store.new) result }
+    texts: bool,
+) -> Worked<'a>
+    requires { IsRunnable (setup_of config.now scripts.now input.now texts) }
+    ensures { Performed (S.shown store.old) (setup_of config.now scripts.now input.now texts) (S.shown store.new) result }
 {
-    let Ok(ran) = run(alloc, config, scripts, input, store) else {
+    headline();
+    let Ok(ran) = run(alloc, config, scripts, input, texts, store) else {
         return unbegun(alloc, at(End::NoMemory, ""));
     };
     Worked {
@@ -116,9 +119,9 @@ fn perform<S: Store>(
 }
 
 /// How the work ends after a run, by the put that was refused.
-fn stop_after(fault: Option<PutFault>) -> Stop<'static>
+fn stop_after<'a>(fault: Option<PutFault>) -> Stop<'a>
     ensures end { result.end ≡ end_of fault }
-    ensures name { IfSome fault (λ f. result.name ≡ f.name) }
+    ensures name { IfSome fault (λ f. result.name ≡ Name.Put f.file) }
 {
     let Some(fault) = fault else {
         return at(End::Whole, "");
@@ -128,6 +131,6 @@ fn stop_after(fault: Option<PutFault>) -> Stop<'static>
             PutError::Failed => End::WriteFault,
             PutError::NoMemory => End::NoMemory,
         },
-        name: fault.name,
+        name: Name::Put(fault.file),
     }
 }

@@ -1,24 +1,28 @@
 //! The run of a setup.
 
-ghost use Rattle.std.specs.Prelude.{◌≡◌, ◌+◌, ◌≤◌, length};
+ghost use Rattle.std.specs.Prelude.{◌≡◌, ◌+◌, ◌≤◌, ◌++◌, ◌∷◌, [], length};
 ghost use Rattle.nit_journal.specs.Journals.{shots};
+ghost use Rattle.nit_store.specs.Puts.{PutsAll};
 ghost use Rattle.nit_top.specs.Opened.{IsOpened};
 ghost use Rattle.nit_top.specs.Setup.{IsRunnable};
-ghost use Rattle.nit_top.specs.Work.{HasRun, Runs, is_shot, setup_of};
+ghost use Rattle.nit_top.specs.Outputs.{events_files, journal_file};
+ghost use Rattle.nit_top.specs.Work.{HasRun, Runs, is_shot, putting, setup_of};
 
 use crate::desk::{put_final, refused_shot};
-use crate::finish::Name;
+use crate::finish::Output;
 use crate::last::draw_last;
 use crate::opening::{Opened, open};
+use crate::texts::{put_events, put_journal};
 use nit_actor::laws::rounds_are_whole;
 use nit_actor::{Desk, run_rounds};
-use nit_config::Config;
+use nit_config::{Config, Member};
 use nit_events::Entry;
 use nit_journal::laws::one_more_entry;
 use nit_plan::laws::{buffer_within_table, one_more_line};
 use nit_rect::NoMemory;
 use nit_scene::Scene;
 use nit_script::{Client, Input};
+use nit_store::laws::puts_go_on;
 use nit_store::{PutError, Store};
 use nit_word::Inked;
 use std::alloc::Global;
@@ -26,7 +30,7 @@ use std::alloc::Global;
 /// A put that was refused.
 #[derive(Clone, Copy, Debug)]
 pub struct PutFault {
-    pub name: Name<'static>,
+    pub file: Output,
     pub error: PutError,
 }
 
@@ -41,29 +45,39 @@ pub struct Ran {
     pub fault: Option<PutFault>,
 }
 
-/// Takes all memory of a run, and does it by rounds, up to its end. Each shot is put as it is taken, and then
-/// the last picture, until a put is refused. Where memory runs out before the first round, nothing was done.
+/// Takes all memory of a run, and does it by rounds, up to its end. Each shot is put as it is taken, then the last picture,
+/// and then the texts where the run has them, until a put is refused. Where memory runs out before the first round, nothing
+/// was done.
 pub fn run<S: Store>(
     alloc: Global,
     config: &Config,
     scripts: &[Client],
     input: &Input,
+    texts: bool,
     store: &mut S,
 ) -> Result<Ran, NoMemory>
-    requires { IsRunnable (setup_of config.now scripts.now input.now) }
-    ensures { Runs (S.shown store.old) (setup_of config.now scripts.now input.now) (S.shown store.new) result }
+    requires { IsRunnable (setup_of config.now scripts.now input.now texts) }
+    ensures { Runs (S.shown store.old) (setup_of config.now scripts.now input.now texts) (S.shown store.new) result }
 {
     let Ok(opened) = open(alloc, config, scripts, input) else {
         return Err(NoMemory);
     };
-    Ok(play(opened, scripts, input, store))
+    Ok(play(alloc, opened, config, scripts, input, texts, store))
 }
 
-/// Does the rounds, and takes the last picture. It takes no memory.
-fn play<S: Store>(opened: Opened, scripts: &[Client], input: &Input, store: &mut S) -> Ran
-    requires runnable { IsRunnable (setup_of opened.scene.config scripts.now input.now) }
-    requires opened { IsOpened (setup_of opened.scene.config scripts.now input.now) opened }
-    ensures { HasRun (S.shown store.old) (setup_of opened.scene.config scripts.now input.now) (S.shown store.new) result }
+/// Does the rounds, takes the last picture, and puts the texts where the run has them. The rounds take no memory.
+fn play<S: Store>(
+    alloc: Global,
+    opened: Opened,
+    config: &Config,
+    scripts: &[Client],
+    input: &Input,
+    texts: bool,
+    store: &mut S,
+) -> Ran
+    requires runnable { IsRunnable (setup_of config.now scripts.now input.now texts) }
+    requires opened { IsOpened config.now scripts.now input.now opened }
+    ensures { HasRun (S.shown store.old) (setup_of config.now scripts.now input.now texts) (S.shown store.new) result }
 {
     rounds_are_whole();
     one_more_entry();
@@ -94,16 +108,39 @@ fn play<S: Store>(opened: Opened, scripts: &[Client], input: &Input, store: &mut
     } = desk;
     draw_last(&mut scene, &mut owns, &mut frame, &mut text);
     let fault = put_final(store, refused, &text);
-    leave(scene, fault)
+    if texts {
+        leave_texts(alloc, store, fault, &config.clients, scene)
+    } else {
+        left(scene.into_journal().into_entries(), fault)
+    }
 }
 
-/// What a run leaves that ended with this scene.
-fn leave(scene: Scene<Inked>, fault: Option<PutFault>) -> Ran
+/// What a run leaves that ended with this scene, and puts its texts.
+fn leave_texts<S: Store>(
+    alloc: Global,
+    store: &mut S,
+    fault: Option<PutFault>,
+    clients: &[Member],
+    scene: Scene<Inked>,
+) -> Ran
+    requires { clients.now ≡ scene.config.clients }
     ensures journal { result.journal.items ≡ scene.entries }
     ensures frames { result.frames ≡ shots scene.entries + 1 }
+    ensures puts { PutsAll (events_files scene.config scene.entries ++ journal_file scene.entries ∷ []) (putting (S.shown store.old) fault) (putting (S.shown store.new) result.fault) }
+{
+    puts_go_on();
+    let fault = put_events(alloc, store, fault, clients, &scene);
+    let journal = scene.into_journal().into_entries();
+    let fault = put_journal(alloc, store, fault, &journal);
+    left(journal, fault)
+}
+
+/// What a run leaves that has this journal.
+fn left(journal: Vec<Entry>, fault: Option<PutFault>) -> Ran
+    ensures journal { result.journal.items ≡ journal.items }
+    ensures frames { result.frames ≡ shots journal.items + 1 }
     ensures fault { result.fault ≡ fault }
 {
-    let journal = scene.into_journal().into_entries();
     Ran {
         frames: shot_count(&journal) + 1,
         journal,

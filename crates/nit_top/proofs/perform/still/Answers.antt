@@ -1,4 +1,4 @@
-use Rattle.std.proofs.Common.{◌≡◌, ◌∙◌, ◌∷◌, [], ℕ, List, None, sym, ap, subst, inl, arith}
+use Rattle.std.proofs.Common.{◌≡◌, ◌∙◌, false, ◌∷◌, [], ℕ, List, None, sym, ap, subst, inl, arith}
 use Rattle.nit_script.specs.declared.line.Line.{Line}
 use Rattle.nit_script.specs.declared.line.InputLine.{InputLine}
 use Rattle.nit_config.specs.Configuration.{Configuration, still_configuration}
@@ -10,8 +10,8 @@ use Rattle.nit_top.specs.Work.{StoppedAt, Performed, setup_of}
 use Rattle.nit_top.proofs.Setups.{still_stopped, still_runnable, still_ends}
 use Rattle.nit_top.proofs.perform.still.Goals as goal
 
-same_setup : (width height : ℕ) (config : Configuration) (lines read : List Line) (input : List InputLine) → config ≡ still_configuration width height → read ≡ lines → input ≡ idle_user read → setup_of config (lines ∷ []) input ≡ still_setup width height lines
-same_setup width height config lines read input c r i = let u : input ≡ idle_user lines = i ∙ ap idle_user r in λ j. record { config = c j; scripts = lines ∷ []; input = u j }
+same_setup : (width height : ℕ) (config : Configuration) (lines read : List Line) (input : List InputLine) → config ≡ still_configuration width height → read ≡ lines → input ≡ idle_user read → setup_of config (lines ∷ []) input false ≡ still_setup width height lines
+same_setup width height config lines read input c r i = let u : input ≡ idle_user lines = i ∙ ap idle_user r in λ j. record { config = c j; scripts = lines ∷ []; input = u j; texts = false }
 
 pub returns-in-Err : goal.returns-in-Err
 returns-in-Err g c =
@@ -40,7 +40,7 @@ perform-requires g c =
     let height = c.args.height in
     let size = c.requires in
     subst (λ (s : Setup). IsRunnable s) (sym (same_setup width height c.in-Ok-still_configuration.config c.in-Ok.client c.lines.result.now c.in-Ok-idle_user.input c.in-Ok-still_configuration.ensures c.lines.ensures.value c.in-Ok-idle_user.ensures))
-    (still_runnable width height c.in-Ok.client (omega (arith, size.0)) size.1 (omega (arith, size.2)) size.3)
+    (still_runnable width height c.in-Ok.client (omega (arith, size.0)) size.1 (omega (arith, size.2)) size.3 c.in-Ok.ensures.lines)
 
 pub returns : goal.returns
 returns g c =
@@ -50,4 +50,5 @@ returns g c =
     let new = g.S.Store.shown c.perform.new.store in
     let loaded = c.in-Ok.ensures.loaded in
     still_ends width height c.args.script.now (g.S.Store.shown c.args.store.now) mid new c.in-Ok.client c.perform.result loaded.0 loaded.1
+    (still_runnable width height c.in-Ok.client (omega (arith, c.requires.0)) c.requires.1 (omega (arith, c.requires.2)) c.requires.3 c.in-Ok.ensures.lines)
     (subst (λ (s : Setup). Performed mid s new c.perform.result) (same_setup width height c.in-Ok-still_configuration.config c.in-Ok.client c.lines.result.now c.in-Ok-idle_user.input c.in-Ok-still_configuration.ensures c.lines.ensures.value c.in-Ok-idle_user.ensures) c.perform.ensures)

@@ -1,17 +1,26 @@
-use Rattle.std.proofs.Common.{rules, ◌≡◌, ◌∙◌, ◌<◌, ◌++◌, ◌∷◌, [], List, length, ℕ, ap, sym, subst, refl}
+use Rattle.std.proofs.Common.{rules, ◌≡◌, ◌∙◌, ◌<◌, ◌++◌, ◌∷◌, [], List, Option, length, ℕ, ◌+◌, ap, sym, subst, refl}
 use Rattle.nit_word.specs.Sight.{Sight}
+use Rattle.nit_events.specs.declared.entry.Entry.{Entry}
+use Rattle.nit_journal.specs.Kept.{Kept}
+use Rattle.nit_journal.specs.Journals.{shots}
 use Rattle.nit_config.specs.Configuration.{Configuration}
 use Rattle.nit_scene.specs.Painted.{glass_in}
 use Rattle.nit_scene.specs.Played.{state_now}
 use Rattle.nit_scene.specs.Showing.{IsGlass}
-use Rattle.nit_store.specs.Shown.{Shown}
-use Rattle.nit_actor.specs.Running.{putting}
-use Rattle.nit_top.specs.Outputs.{HaveTables, final_name}
-use Rattle.nit_top.specs.Work.{HasRun, Puts, setup_of}
+use Rattle.nit_store.specs.Shown.{File, Shown}
+use Rattle.nit_store.specs.Puts.{PutsAll, PutsNext, Putting, Refusal}
+use Rattle.nit_actor.specs.Running.{putting as desk_putting}
+use Rattle.nit_top.specs.declared.run.PutFault.{PutFault}
+use Rattle.nit_top.specs.Outputs.{HaveTables, events_files, final_name, journal_file, text_files}
+use Rattle.nit_top.specs.Work.{HasRun, putting, setup_of}
 use Rattle.nit_top.proofs.LastWords.{written_whole}
-use Rattle.nit_top.proofs.Leaving.{PutsLast, run_leaves}
-use Rattle.nit_top.proofs.PerClient.{left_glass}
+use Rattle.nit_top.proofs.Leaving.{PutsLast, run_leaves, with_texts, without_texts}
+use Rattle.nit_top.proofs.PerClient.{AreLeft, left_glass}
 use Rattle.nit_top.proofs.run.play.Goals as goal
+
+-- a put behind what a desk shows
+behind_desk : (shown : Shown) (o p : Option Refusal) (f : File) (new : Putting) → o ≡ p → PutsNext f (record { shown = shown; refused = o }) new → PutsNext f (record { shown = shown; refused = p }) new
+behind_desk shown o p f new same next = subst (λ (q : Option Refusal). PutsNext f (record { shown = shown; refused = q }) new) same next
 
 pub draw_last-requires-clause-tables : goal.draw_last-requires-clause-tables
 draw_last-requires-clause-tables g c = λ t inside.
@@ -19,28 +28,62 @@ draw_last-requires-clause-tables g c = λ t inside.
     let run = c.run_rounds.ensures.run in
     let owns : c.deref_mut-2.result.now ≡ c.run_rounds.new.owns = c.deref_mut-2.ensures.value ∙ written_whole opened.owns.len c.run_rounds.new.owns opened.owns.items (c.run_rounds.auto.owns ∙ c.deref_mut.ensures.len) in
     let there : t < length c.args.scripts.now = subst (λ (n : ℕ). t < n) (ap (λ (gs : List Sight). length gs) owns ∙ run.owns_each) inside in
-    subst (λ (k : Configuration). IsGlass k t (glass_in c.deref_mut-2.result.now t)) (sym run.config)
-    (subst (λ (gs : List Sight). IsGlass opened.scene.config t (glass_in gs t)) (sym owns)
-    (left_glass c.buffer_within_table.ensures.words c.one_more_line.ensures.done opened.scene.config c.args.scripts.now c.run_rounds.new.owns t c.requires.runnable.configured c.requires.runnable.scripts run.words there))
+    let are : AreLeft c.args.config.now c.args.scripts.now c.run_rounds.new.owns = subst (λ (k : Configuration). AreLeft k c.args.scripts.now c.run_rounds.new.owns) c.requires.opened.configuration run.words in
+    subst (λ (k : Configuration). IsGlass k t (glass_in c.deref_mut-2.result.now t)) (sym (run.config ∙ c.requires.opened.configuration))
+    (subst (λ (gs : List Sight). IsGlass c.args.config.now t (glass_in gs t)) (sym owns)
+    (left_glass c.buffer_within_table.ensures.words c.one_more_line.ensures.done c.args.config.now c.args.scripts.now c.run_rounds.new.owns t c.requires.runnable.configured c.requires.runnable.scripts are there))
+
+pub returns-then-texts : goal.returns-then-texts
+returns-then-texts g c =
+    let opened = c.args.opened in
+    let shown = g.S.Store.shown in
+    let mid = c.run_rounds.new.scene in
+    let ended = c.draw_last.new.scene in
+    let desk = c.run_rounds.new.desk in
+    let s = setup_of c.args.config.now c.args.scripts.now c.args.input.now c.args.texts in
+    let first = shown c.args.store.now in
+    let at = desk_putting (shown desk.store.now) desk.fault desk.tried in
+    let final = putting (shown c.put_final-fault.new.store) c.put_final-fault.result in
+    let owns : c.deref_mut-2.result.now ≡ c.run_rounds.new.owns = c.deref_mut-2.ensures.value ∙ written_whole opened.owns.len c.run_rounds.new.owns opened.owns.items (c.run_rounds.auto.owns ∙ c.deref_mut.ensures.len) in
+    let text : c.deref-2.result.now ≡ c.draw_last.new.text = c.deref-2.ensures.value ∙ written_whole desk.text.len c.draw_last.new.text desk.text.items (c.draw_last.auto.text ∙ c.deref_mut-4.ensures.len) in
+    let config : ended.config ≡ c.args.config.now = c.draw_last.ensures.config ∙ c.run_rounds.ensures.run.config ∙ c.requires.opened.configuration in
+    let puts : PutsLast (state_now mid) c.run_rounds.new.owns at final =
+    λ tables have.
+    subst (λ (bytes : List ℕ). PutsNext (final_name, bytes) at final)
+    (text ∙ c.draw_last.ensures.picture tables (subst (λ (gs : List Sight). HaveTables gs tables) (sym owns) have))
+    (behind_desk (shown desk.store.now) _ at.refused (final_name, c.deref-2.result.now) final c.refused_shot-refused.ensures c.put_final-fault.ensures) in
+    let texts : PutsAll (text_files s ended.entries) final (putting (shown c.leave_texts.new.store) c.leave_texts.result.fault) =
+    subst (λ (fs : List File). PutsAll fs final (putting (shown c.leave_texts.new.store) c.leave_texts.result.fault)) (sym (with_texts s ended.entries c.if-texts.true))
+    (subst (λ (k : Configuration). PutsAll (events_files k ended.entries ++ journal_file ended.entries ∷ []) final (putting (shown c.leave_texts.new.store) c.leave_texts.result.fault)) config c.leave_texts.ensures.puts) in
+    subst (λ (new : Shown). HasRun first s new c.leave_texts.result) (search rules)
+    (run_leaves s opened.scene mid ended c.run_rounds.new.owns first (shown c.leave_texts.new.store) at final c.leave_texts.result
+    c.rounds_are_whole.ensures c.one_more_entry.ensures.replayed c.requires.opened.configuration c.run_rounds.ensures.run c.draw_last.ensures.recorded c.draw_last.ensures.config c.draw_last.ensures.legal
+    c.run_rounds.ensures.shots puts texts c.leave_texts.ensures.journal c.leave_texts.ensures.frames)
 
 pub returns : goal.returns
 returns g c =
     let opened = c.args.opened in
     let shown = g.S.Store.shown in
     let mid = c.run_rounds.new.scene in
+    let ended = c.draw_last.new.scene in
     let desk = c.run_rounds.new.desk in
-    let s = setup_of opened.scene.config c.args.scripts.now c.args.input.now in
+    let s = setup_of c.args.config.now c.args.scripts.now c.args.input.now c.args.texts in
     let first = shown c.args.store.now in
-    let last = shown c.put_final-fault.new.store in
-    let at = putting (shown desk.store.now) desk.fault desk.tried in
+    let at = desk_putting (shown desk.store.now) desk.fault desk.tried in
+    let final = putting (shown c.put_final-fault.new.store) c.put_final-fault.result in
     let owns : c.deref_mut-2.result.now ≡ c.run_rounds.new.owns = c.deref_mut-2.ensures.value ∙ written_whole opened.owns.len c.run_rounds.new.owns opened.owns.items (c.run_rounds.auto.owns ∙ c.deref_mut.ensures.len) in
     let text : c.deref-2.result.now ≡ c.draw_last.new.text = c.deref-2.ensures.value ∙ written_whole desk.text.len c.draw_last.new.text desk.text.items (c.draw_last.auto.text ∙ c.deref_mut-4.ensures.len) in
-    let puts : PutsLast (state_now mid) c.run_rounds.new.owns at last c.put_final-fault.result =
-    λ tables start tried files have before.
-    subst (λ (bytes : List ℕ). Puts start (files ++ (final_name, bytes) ∷ []) last c.put_final-fault.result)
+    let puts : PutsLast (state_now mid) c.run_rounds.new.owns at final =
+    λ tables have.
+    subst (λ (bytes : List ℕ). PutsNext (final_name, bytes) at final)
     (text ∙ c.draw_last.ensures.picture tables (subst (λ (gs : List Sight). HaveTables gs tables) (sym owns) have))
-    (c.put_final-fault.ensures start files (c.refused_shot-refused.ensures start tried files before)) in
-    subst (λ (new : Shown). HasRun first s new c.leave.result) (search rules)
-    (run_leaves s opened.scene mid c.draw_last.new.scene c.run_rounds.new.owns first last 0 at c.put_final-fault.result c.leave.result
-    c.rounds_are_whole.ensures c.one_more_entry.ensures.replayed refl c.run_rounds.ensures.run c.draw_last.ensures.recorded c.draw_last.ensures.config c.draw_last.ensures.legal
-    c.run_rounds.ensures.shots puts c.leave.ensures.journal c.leave.ensures.frames c.leave.ensures.fault)
+    (behind_desk (shown desk.store.now) _ at.refused (final_name, c.deref-2.result.now) final c.refused_shot-refused.ensures c.put_final-fault.ensures) in
+    let texts : PutsAll (text_files s ended.entries) final (putting (shown c.put_final-fault.new.store) c.left.result.fault) =
+    subst (λ (fs : List File). PutsAll fs final (putting (shown c.put_final-fault.new.store) c.left.result.fault)) (sym (without_texts s ended.entries c.if-texts.false))
+    (ap (λ (o : Option PutFault). putting (shown c.put_final-fault.new.store) o) c.left.ensures.fault) in
+    let journal : c.left.result.journal.items ≡ ended.entries = c.left.ensures.journal ∙ c.into_entries.ensures ∙ ap (λ (k : Kept). k.entries) c.into_journal.ensures.entries in
+    let frames : c.left.result.frames ≡ shots ended.entries + 1 = c.left.ensures.frames ∙ ap (λ (es : List Entry). shots es + 1) (c.into_entries.ensures ∙ ap (λ (k : Kept). k.entries) c.into_journal.ensures.entries) in
+    subst (λ (new : Shown). HasRun first s new c.left.result) (search rules)
+    (run_leaves s opened.scene mid ended c.run_rounds.new.owns first (shown c.put_final-fault.new.store) at final c.left.result
+    c.rounds_are_whole.ensures c.one_more_entry.ensures.replayed c.requires.opened.configuration c.run_rounds.ensures.run c.draw_last.ensures.recorded c.draw_last.ensures.config c.draw_last.ensures.legal
+    c.run_rounds.ensures.shots puts texts journal frames)

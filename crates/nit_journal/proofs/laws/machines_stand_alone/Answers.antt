@@ -1,0 +1,5 @@
+use Rattle.nit_journal.proofs.Machines.{stands_alone}
+use Rattle.nit_journal.proofs.laws.machines_stand_alone.Goals as goal
+
+pub returns : goal.returns
+returns c = stands_alone

@@ -1,0 +1,11 @@
+use Rattle.nit_store.proofs.Puts.{puts_more, puts_both, none_behind}
+use Rattle.nit_store.proofs.laws.puts_go_on.Goals as goal
+
+pub returns-clause-next : goal.returns-clause-next
+returns-clause-next c = puts_more
+
+pub returns-clause-both : goal.returns-clause-both
+returns-clause-both c = puts_both
+
+pub returns-clause-stopped : goal.returns-clause-stopped
+returns-clause-stopped c = none_behind

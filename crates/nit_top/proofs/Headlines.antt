@@ -1,0 +1,193 @@
+-- What the headline says, from the laws of the crates below.
+use Rattle.std.proofs.Common.{◌≡◌, ◌∙◌, ℕ, suc, ◌+◌, ◌*◌, ◌<◌, Bool, true, false, cond, List, [], ◌∷◌, ◌++◌, length, map, Option, Some, None, refl, sym, ap, subst, arith, inl, inr, ◌⊎◌, zero-add}
+use Rattle.std.specs.Prelude.{slice_get, slice_index, option_map, Contains}
+use Rattle.std.specs.List.{range_with_len}
+use Rattle.std.proofs.lemmas.List.{length_push, length-append, map-append}
+use Rattle.std.proofs.lemmas.List.Elements.{Contains-append_left, Contains-append_right, Contains-push}
+use Rattle.std.proofs.lemmas.List.FromFn.{get_or-map-range_with_len, length-map-range_with_len}
+use Rattle.std.proofs.lemmas.Option.{slice_get_within, get_or_from_slice_get}
+use Rattle.nit_events.specs.declared.call.Call.{Call}
+use Rattle.nit_events.specs.declared.call.Call.TheVariants.{Close}
+use Rattle.nit_events.specs.declared.call.Reply.{Reply}
+use Rattle.nit_events.specs.declared.device.Device.{Device}
+use Rattle.nit_events.specs.declared.device.Device.TheVariants as device
+use Rattle.nit_events.specs.declared.device.Mode.TheVariants.{Flat, Xray}
+use Rattle.nit_events.specs.declared.entry.Entry.{Entry}
+use Rattle.nit_events.specs.declared.entry.Entry.TheVariants as entry
+use Rattle.nit_events.specs.declared.event.Routed.{Routed}
+use Rattle.nit_events.specs.Input.{is_button}
+use Rattle.nit_stack.specs.Sources.{pixel, point}
+use Rattle.nit_config.specs.Configuration.{Configuration, donation_of, member}
+use Rattle.nit_journal.specs.Journals.{IsLegal, replay, shots}
+use Rattle.nit_journal.specs.Projections.{alone_machine, projection}
+use Rattle.nit_journal.specs.Session.{Session}
+use Rattle.nit_journal.specs.State.{State, after, owner_of, session}
+use Rattle.nit_journal.specs.Views.{is_accepted}
+use Rattle.nit_journal.specs.Whole.{Act, Ends, act_of}
+use Rattle.nit_script.specs.declared.line.Line.{Line}
+use Rattle.nit_script.specs.declared.line.InputLine.{InputLine}
+use Rattle.nit_overlay.specs.Shown.{Scenery, shown, frame}
+use Rattle.nit_scene.specs.Painted.{pixel_count}
+use Rattle.nit_scene.specs.Played.{scenery_of}
+use Rattle.nit_report.specs.EventsText.{events_text}
+use Rattle.nit_store.specs.Shown.{File}
+use Rattle.nit_actor.specs.Done.{AreRoundsOf, acts}
+use Rattle.nit_actor.specs.Rounds.{rounds}
+use Rattle.nit_actor.specs.Running.{shot_name}
+use Rattle.nit_actor.specs.Drawn.{picture_of, shots_of, words_of}
+use Rattle.nit_actor.specs.Shots.{AreShotsOf, IsDrawnPicture, drawn_by_shot}
+use Rattle.nit_actor.proofs.ShotsDrawn.{file_of_shot, shot_files}
+use Rattle.nit_top.specs.Setup.{Setup}
+use Rattle.nit_top.specs.Outputs.{IsJournal, AreOutputs, ending_of, events_file, events_files, events_name, final_name, final_picture, journal_file, raw_word, tables_left, text_files}
+use Rattle.nit_top.specs.Headline.{AreTexts, IsClickOn, focus_after, ShowsBy, HasPicture, HoldsAtShot, HoldsAtEnd}
+use Rattle.nit_top.proofs.Leaving.{with_texts}
+
+-- ---- the focus
+
+-- what a call may do to the focus
+abbrev pub FocusByCall : State → ℕ → Call → Reply → Type 0
+FocusByCall s sid call r = ((after s (entry.Call sid call r)).input.focus ≡ s.input.focus) ⊎ ((call ≡ Close) × (is_accepted r ≡ true) × (s.input.focus ≡ Some sid))
+
+abbrev pub FocusClosed : State → ℕ → Reply → Type 0
+FocusClosed s sid r = is_accepted r ≡ true → s.input.focus ≡ Some sid → (after s (entry.Call sid Close r)).input.focus ≡ None
+
+pub focus_by_call : (config : Configuration) (front : List Entry) (sid : ℕ) (call : Call) (r : Reply) → replay config (front ++ entry.Call sid call r ∷ []) ≡ after (replay config front) (entry.Call sid call r)
+    → FocusByCall (replay config front) sid call r → FocusClosed (replay config front) sid r
+    → (focus_after config (front ++ entry.Call sid call r ∷ []) ≡ focus_after config front)
+    ⊎ ((call ≡ Close) × (is_accepted r ≡ true) × (focus_after config front ≡ Some sid) × (focus_after config (front ++ entry.Call sid call r ∷ []) ≡ None))
+focus_by_call config front sid call r leads (inl same) closed = inl (ap (λ (s : State). s.input.focus) leads ∙ same)
+focus_by_call config front sid call r leads (inr (is, accepted, had)) closed =
+    let none : (after (replay config front) (entry.Call sid call r)).input.focus ≡ None = subst (λ (k : Call). (after (replay config front) (entry.Call sid k r)).input.focus ≡ None) (sym is) (closed accepted had) in
+    inr (is, accepted, had, ap (λ (s : State). s.input.focus) leads ∙ none)
+
+-- what gives the focus to a session
+abbrev pub FocusByClick : State → Device → ℕ → Type 0
+FocusByClick s dev x =
+    (s.input.focus ≡ Some x)
+    ⊎ ((k : ℕ) × (dev ≡ device.Press k) × (is_button k ≡ true) × ((s.input.mode ≡ Flat) ⊎ (s.input.mode ≡ Xray)) × (option_map (λ v. v.sid) (owner_of s (point s.input.x s.input.y)) ≡ Some x) × ((member s.config x).clicks ≡ true))
+
+pub focus_by_click : (config : Configuration) (front : List Entry) (dev : Device) (routed : Routed) (x : ℕ) → replay config (front ++ entry.Input dev routed ∷ []) ≡ after (replay config front) (entry.Input dev routed)
+    → ((after (replay config front) (entry.Input dev routed)).input.focus ≡ Some x → FocusByClick (replay config front) dev x)
+    → focus_after config (front ++ entry.Input dev routed ∷ []) ≡ Some x → (focus_after config front ≡ Some x) ⊎ IsClickOn (replay config front) dev x
+focus_by_click config front dev routed x leads law has = elim (law (sym (ap (λ (s : State). s.input.focus) leads) ∙ has)) [
+  | inl had ↦ inl had
+  | inr click ↦ inr (record { code = click.0; pressed = click.1; button = click.2; mode = click.3; owns = click.4; by_clicks = click.5 })
+]
+
+-- ---- a picture
+
+-- what the law of frames says
+abbrev pub FrameCount : Type 0
+FrameCount = (s : Scenery) (raw : List ℕ) → length (frame s raw) ≡ s.width * s.height
+
+abbrev pub FrameEach : Type 0
+FrameEach = (s : Scenery) (raw : List ℕ) (k : ℕ) → k < s.width * s.height → slice_index (frame s raw) k ≡ shown s (pixel s.width k) (slice_index raw k)
+
+shows : FrameCount → FrameEach → (s : State) (word : ℕ → ℕ) → ShowsBy s (λ k w. w ≡ word k) (frame (scenery_of s) (words_of s word))
+shows count each s word = record {
+  count = count (scenery_of s) (words_of s word);
+  each = λ k inside. (
+    word k,
+    refl,
+    each (scenery_of s) (words_of s word) k inside ∙ ap (λ (w : ℕ). shown (scenery_of s) (pixel s.config.width k) w) (get_or-map-range_with_len word 0 (pixel_count s) k k 0 inside (zero-add k)),
+  );
+}
+
+has_picture : FrameCount → FrameEach → (config : Configuration) (files : List File) (name bytes : List ℕ) (s : State) (word : ℕ → ℕ) → bytes ≡ picture_of config s word → Contains files (name, bytes) → HasPicture config files name s (λ k w. w ≡ word k)
+has_picture count each config files name bytes s word is has = (frame (scenery_of s) (words_of s word), subst (λ (b : List ℕ). Contains files (name, b)) is has, shows count each s word)
+
+contains_at : {X : Type 0} (xs : List X) (k : ℕ) (x : X) → slice_get xs k ≡ Some x → Contains xs x
+contains_at xs k x e = (k, slice_get_within xs k x e, get_or_from_slice_get xs k x x e)
+
+contains_map : {X : Type 0} (f : ℕ → X) (n k : ℕ) → k < n → Contains (map f (range_with_len 0 n)) (f k)
+contains_map f n k inside = (k, subst (λ (m : ℕ). k < m) (sym (length-map-range_with_len f 0 n)) inside, get_or-map-range_with_len f 0 n k k (f k) inside (zero-add k))
+
+-- ---- the files of a run by rounds
+
+-- what the law of shots says
+abbrev pub ShotsLaw : Type 0
+ShotsLaw = (config : Configuration) (scripts : List (List Line)) (input : List InputLine) (journal : List Entry) → IsLegal config journal → AreRoundsOf journal scripts input
+    → AreShotsOf (IsDrawnPicture config scripts input) (journal ++ entry.Final ∷ []) (shots_of config scripts input)
+
+-- what the law of machines says
+abbrev pub MachinesLaw : Type 0
+MachinesLaw = (config : Configuration) (journal : List Entry) (sid : ℕ) → IsLegal config journal → sid < length config.clients → session (replay config journal) sid ≡ alone_machine (donation_of config sid) (projection sid journal)
+
+abbrev pub FrontsLaw : Type 0
+FrontsLaw = (config : Configuration) (front rest : List Entry) → IsLegal config (front ++ rest) → IsLegal config front
+
+module _ (s : Setup) (journal : List Entry) (outputs : List File) (j : IsJournal s journal) (are : AreOutputs s journal outputs) where
+  abbrev shot_list : List File
+  shot_list = shots_of s.config s.scripts s.input
+
+  shots_along : ShotsLaw → FrontsLaw → AreShotsOf (IsDrawnPicture s.config s.scripts s.input) journal shot_list
+  shots_along law fronts =
+      subst (λ (es : List Entry). AreShotsOf (IsDrawnPicture s.config s.scripts s.input) es shot_list) (sym j.rounds.2)
+      (law s.config s.scripts s.input j.rounds.0 (fronts s.config j.rounds.0 (entry.Final ∷ []) (subst (λ (es : List Entry). IsLegal s.config es) j.rounds.2 j.legal)) j.rounds.1)
+
+  abbrev last_file : File
+  last_file = (final_name, final_picture s journal)
+
+  -- a file among the shots, the last picture, or a text, is among all
+  among_shots : (f : File) → Contains shot_list f → Contains outputs f
+  among_shots f has = subst (λ (fs : List File). Contains fs f) (sym are) (Contains-append_left shot_list (last_file ∷ text_files s journal) f has)
+
+  the_last : Contains outputs last_file
+  the_last = subst (λ (fs : List File). Contains fs last_file) (sym are) (Contains-append_right shot_list (last_file ∷ text_files s journal) last_file (Contains-append_left (last_file ∷ []) (text_files s journal) last_file (Contains-push [] last_file)))
+
+  among_texts : (f : File) → Contains (text_files s journal) f → Contains outputs f
+  among_texts f has = subst (λ (fs : List File). Contains fs f) (sym are) (Contains-append_right shot_list (last_file ∷ text_files s journal) f (Contains-append_right (last_file ∷ []) (text_files s journal) f has))
+
+  pub shot_shows : ShotsLaw → FrontsLaw → FrameCount → FrameEach → (front rest : List Entry) (number : ℕ) → journal ≡ front ++ entry.Shot number ∷ rest
+      → HasPicture s.config outputs (shot_name number) (replay s.config front) (HoldsAtShot s front)
+  shot_shows law fronts count each front rest number parts =
+      let file = file_of_shot (IsDrawnPicture s.config s.scripts s.input) front number rest shot_list (subst (λ (es : List Entry). AreShotsOf (IsDrawnPicture s.config s.scripts s.input) es shot_list) parts (shots_along law fronts)) in
+      has_picture count each s.config outputs (shot_name number) file.0 (replay s.config front) (drawn_by_shot s.config s.scripts s.input (shots front)).word file.2
+      (among_shots (shot_name number, file.0) (contains_at shot_list (shots front) (shot_name number, file.0) file.1))
+
+  pub end_shows : FrameCount → FrameEach → (replay s.config journal).config ≡ s.config → HasPicture s.config outputs final_name (replay s.config journal) (HoldsAtEnd s journal)
+  end_shows count each same =
+      let t = replay s.config journal in
+      let word = raw_word t (tables_left s.config s.scripts) in
+      has_picture count each s.config outputs final_name (final_picture s journal) t word (ap (λ (c : Configuration). picture_of c t word) same) the_last
+
+  -- the texts
+  pub texts_tell : MachinesLaw → s.texts ≡ true → AreTexts s.config journal outputs
+  texts_tell law has = record {
+    events = λ sid inside.
+        let f = events_file s.config journal sid in
+        let there : Contains (events_files s.config journal) f = contains_map (events_file s.config journal) (length s.config.clients) sid inside in
+        let told : Contains outputs f = among_texts f (subst (λ (fs : List File). Contains fs f) (sym on) (Contains-append_left (events_files s.config journal) (journal_file journal ∷ []) f there)) in
+        subst (λ (m : Session). Contains outputs (events_name (member s.config sid).label, events_text journal sid (ending_of m))) (law s.config journal sid j.legal inside) told;
+    journal_too = among_texts (journal_file journal) (subst (λ (fs : List File). Contains fs (journal_file journal)) (sym on) (Contains-push (events_files s.config journal) (journal_file journal)));
+  }
+    where
+      on : text_files s journal ≡ events_files s.config journal ++ journal_file journal ∷ []
+      on = with_texts s journal has
+
+  pub files_counted : ShotsLaw → FrontsLaw → length outputs ≡ shots journal + 1 + cond s.texts (length s.config.clients + 1) 0
+  files_counted law fronts =
+      let pictures : length shot_list ≡ shots journal = shot_files (IsDrawnPicture s.config s.scripts s.input) [] journal shot_list (shots_along law fronts) in
+      let all : length outputs ≡ length shot_list + suc (length (text_files s journal)) = ap length are ∙ length-append shot_list (last_file ∷ text_files s journal) in
+      let texts : length (text_files s journal) ≡ cond s.texts (length s.config.clients + 1) 0 = count_texts s.texts in
+      omega (arith, pictures, all, texts)
+    where
+      count_texts : (b : Bool) → length (cond b (events_files s.config journal ++ journal_file journal ∷ []) []) ≡ cond b (length s.config.clients + 1) 0
+      count_texts true = length_push (events_files s.config journal) (journal_file journal) ∙ ap (λ (n : ℕ). n + 1) (length-map-range_with_len (events_file s.config journal) 0 (length s.config.clients))
+      count_texts false = refl
+
+-- ---- one setup, one run
+
+-- what the law of acts says
+abbrev pub ActsLaw : Type 0
+ActsLaw = (config : Configuration) (js ks : List Entry) → IsLegal config js → IsLegal config ks → map act_of js ≡ map act_of ks → js ≡ ks
+
+acts_of_run : (s : Setup) (journal : List Entry) → IsJournal s journal → map act_of journal ≡ acts (rounds s.scripts s.input) ++ Ends ∷ []
+acts_of_run s journal j = ap (λ (es : List Entry). map act_of es) j.rounds.2 ∙ map-append act_of j.rounds.0 (entry.Final ∷ []) ∙ ap (λ (done : List Act). done ++ Ends ∷ []) j.rounds.1
+
+pub same_journal : ActsLaw → (s : Setup) (js ks : List Entry) → IsJournal s js → IsJournal s ks → js ≡ ks
+same_journal law s js ks j k = law s.config js ks j.legal k.legal (acts_of_run s js j ∙ sym (acts_of_run s ks k))
+
+pub same_files : ActsLaw → (s : Setup) (js ks : List Entry) (fs gs : List File) → IsJournal s js → IsJournal s ks → AreOutputs s js fs → AreOutputs s ks gs → fs ≡ gs
+same_files law s js ks fs gs j k f g =
+    f ∙ ap (λ (es : List Entry). shots_of s.config s.scripts s.input ++ (final_name, final_picture s es) ∷ text_files s es) (same_journal law s js ks j k) ∙ sym g

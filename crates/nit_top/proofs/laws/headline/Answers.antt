@@ -1,0 +1,44 @@
+use Rattle.std.proofs.Common.{◌≡◌, ◌∙◌, ◌++◌, ◌∷◌, [], ℕ, ◌<◌, List, length, map, sym, ap, subst}
+use Rattle.std.proofs.lemmas.List.{length-map, get_or-map}
+use Rattle.nit_events.specs.declared.call.Reply.TheVariants as reply
+use Rattle.nit_events.specs.declared.entry.Entry.{Entry}
+use Rattle.nit_events.specs.declared.entry.Entry.TheVariants as entry
+use Rattle.nit_journal.specs.Journals.{IsLegal, replay}
+use Rattle.nit_journal.specs.State.{opening, after}
+use Rattle.nit_journal.specs.Whole.{done}
+use Rattle.nit_plan.specs.Calls.{calls_to_make}
+use Rattle.nit_top.proofs.Headlines.{focus_by_call, focus_by_click, shot_shows, end_shows, texts_tell, files_counted}
+use Rattle.nit_top.proofs.laws.headline.Goals as goal
+
+pub returns : goal.returns
+returns c = λ s journal outputs runnable j are.
+    let config = s.config in
+    let same : (front : List Entry) (e : Entry) → replay config (front ++ e ∷ []) ≡ after (replay config front) e = λ front e. c.one_more_entry.ensures.replayed (opening config) front e in
+    let legal : (all : List Entry) → journal ≡ all → IsLegal config all = λ all parts. subst (λ (es : List Entry). IsLegal config es) parts j.legal in
+    let law = c.shots_as_replayed.ensures.along in
+    let fronts = c.fronts_are_legal.ensures.legal in
+    record {
+      one_journal = j;
+      clients = λ sid inside.
+          let there : sid < length s.scripts = subst (λ (n : ℕ). sid < n) (sym runnable.scripts) inside in
+          record {
+            calls = j.whole.calls sid (subst (λ (n : ℕ). sid < n) (sym (length-map s.scripts calls_to_make)) there) ∙ ap done (get_or-map calls_to_make s.scripts sid [] [] there);
+            replies = c.isolation.ensures config journal sid j.legal inside;
+            quota = λ front rest call need left parts. c.refusals_are_its_own.ensures.quota config front rest sid call need left (legal (front ++ entry.Call sid call (reply.OutOfQuota need left) ∷ rest) parts);
+            reserve = λ front rest call need left parts. c.refusals_are_its_own.ensures.reserve config front rest sid call need left (legal (front ++ entry.Call sid call (reply.NoReserve need left) ∷ rest) parts);
+          };
+      routed = record {
+        deliveries = λ front rest dev routed parts. c.deliveries_go_to_live_sessions.ensures.legal config front dev routed rest (legal (front ++ entry.Input dev routed ∷ rest) parts);
+        releases = λ sid code before rest parts. c.releases_follow_presses.ensures config journal sid code before rest j.legal parts;
+      };
+      focus = record {
+        calls = λ front rest sid call r parts.
+            focus_by_call config front sid call r (same front (entry.Call sid call r)) (c.focus_is_the_users.ensures.calls (replay config front) sid call r) (c.focus_is_the_users.ensures.closed (replay config front) sid r);
+        clicks = λ front rest dev routed sid parts. focus_by_click config front dev routed sid (same front (entry.Input dev routed)) (c.focus_is_the_users.ensures.clicks (replay config front) dev routed sid);
+      };
+      shots_show = shot_shows s journal outputs j are law fronts c.frame_pixels.ensures.count c.frame_pixels.ensures.each;
+      final_shows = end_shows s journal outputs j are c.frame_pixels.ensures.count c.frame_pixels.ensures.each (c.configuration_stays.ensures.configuration config journal);
+      texts = texts_tell s journal outputs j are c.machines_stand_alone.ensures;
+      count = files_counted s journal outputs j are law fronts;
+      only = λ other files k more. (c.one_setup_one_run.ensures.journal s other journal k j, c.one_setup_one_run.ensures.files s other journal files outputs k j more are);
+    }

@@ -1,0 +1,8 @@
+use Rattle.std.proofs.Common.{◌∙◌, sym, ap, subst}
+use Rattle.std.specs.Str.{IsUtf8}
+use Rattle.nit_top.specs.Outputs.{events_name}
+use Rattle.nit_top.proofs.Naming.{name_is_text}
+use Rattle.nit_top.proofs.texts.put_named.Goals as goal
+
+pub unreachable-requires : goal.unreachable-requires
+unreachable-requires g c = c.in_default.ensures.cases.0 (subst IsUtf8 (sym (c.write_name-end.ensures.name ∙ ap events_name c.as_bytes.ensures.bytes)) (name_is_text c.args.label.now c.as_bytes.ensures.label))

@@ -1,0 +1,128 @@
+-- How far a command came: the files that it read, the run, and the files that were put.
+use Rattle.std.specs.Prelude.{◌≡◌, ◌⊎◌, ℕ, ◌+◌, List, [], ◌∷◌, ◌++◌, length, map, Option, Some, None, option_map}
+use Rattle.nit_events.specs.declared.entry.Entry.{Entry}
+use Rattle.nit_journal.specs.Journals.{shots}
+use Rattle.nit_store.specs.Shown.{Shown, File, IsPut}
+use Rattle.nit_top.specs.Command.{Command}
+use Rattle.nit_top.specs.Setup.{Setup}
+use Rattle.nit_top.specs.Judged.{reads}
+use Rattle.nit_top.specs.FilesRead.{FilesRead, HasRead, AreAllFiles, names_read, next_name}
+use Rattle.nit_top.specs.Outputs.{AreOutputs}
+use Rattle.nit_top.specs.Headline.{Headline}
+use Rattle.nit_top.specs.Lines.{Totals}
+
+-- ---- files, and names that are asked for
+
+-- files are put one after the other
+abbrev pub PutEach : List File → List File → List File → Type 0
+PutEach [] old new = new ≡ old
+PutEach (f ∷ fs) old new = (mid : List File) × IsPut f.0 f.1 old mid × PutEach fs mid new
+
+-- where the store tells its files, it has these files more, put one after the other
+abbrev pub PutFiles : List File → Option (List File) → Option (List File) → Type 0
+PutFiles files None new = new ≡ None
+PutFiles files (Some old) new = (all : List File) × (new ≡ Some all) × PutEach files old all
+
+-- the names that were asked for, and these behind them
+abbrev pub asked_also : Option (List (List ℕ)) → List (List ℕ) → Option (List (List ℕ))
+asked_also asked names = option_map (λ before. before ++ names) asked
+
+-- ---- the run
+
+-- The run of a command was begun: this is what was run, and these are the files that it is to put.
+pub record IsRun (old : Shown) (c : Command) (journal : List Entry) : Type 0 where
+  pub setup : Setup
+  pub files_are : AreAllFiles c old.files setup
+  pub outputs : List File
+  pub are : AreOutputs setup journal outputs
+  pub headline : Headline setup journal outputs
+
+-- A run was begun, and this is it; or none was begun, and the journal is empty.
+pub data Course (old : Shown) (c : Command) (journal : List Entry) : Type 0 where
+  Begun : IsRun old c journal → Course old c journal
+  NotBegun : journal ≡ [] → Course old c journal
+
+-- a run was begun, and this holds of it
+abbrev pub WithRun : {old : Shown} {c : Command} {journal : List Entry}
+    → Course old c journal → (IsRun old c journal → Type 0) → Type 0
+WithRun (Begun run) Holds = Holds run
+WithRun (NotBegun empty) Holds = ⊥
+
+-- no run was begun
+abbrev pub WithoutRun : {old : Shown} {c : Command} {journal : List Entry}
+    → Course old c journal → Type 0
+WithoutRun (Begun run) = ⊥
+WithoutRun (NotBegun empty) = Unit {0}
+
+-- how many clients, journal entries and pictures a run had
+abbrev pub totals : {old : Shown} {c : Command} {journal : List Entry} → IsRun old c journal → Totals
+totals {journal = journal} run = record {
+  clients = length run.setup.config.clients;
+  entries = length journal;
+  frames = shots journal + 1;
+}
+
+-- ---- before a run
+
+-- No run was begun, and no file was put. The files that were read are valid, and they and at most the
+-- next one were asked for.
+pub record IsNotBegun {old : Shown} {c : Command} {journal : List Entry} (course : Course old c journal)
+    (files : Option (List File)) (asked : Option (List (List ℕ))) : Type 0 where
+  pub none : WithoutRun course
+  pub same : files ≡ old.files
+  pub read : FilesRead
+  pub valid : HasRead c old.files read
+  pub asks : (asked ≡ asked_also old.asked (names_read c read))
+      ⊎ ((name : List ℕ) × (next_name c read ≡ Some name)
+      × (asked ≡ asked_also old.asked (names_read c read ++ name ∷ [])))
+
+-- No run was begun, and no file was put. The file of this name was asked for last, behind those that
+-- were read, which are valid.
+pub record IsLastRead {old : Shown} {c : Command} {journal : List Entry} (course : Course old c journal)
+    (files : Option (List File)) (asked : Option (List (List ℕ))) (name : List ℕ) : Type 0 where
+  pub none : WithoutRun course
+  pub same : files ≡ old.files
+  pub read : FilesRead
+  pub valid : HasRead c old.files read
+  pub next : next_name c read ≡ Some name
+  pub asks : asked ≡ asked_also old.asked (names_read c read ++ name ∷ [])
+
+-- ---- what a run put
+
+-- the names that a run asked for: those that the command reads, and then these
+abbrev pub asked_in : {old : Shown} {c : Command} {journal : List Entry}
+    → IsRun old c journal → List (List ℕ) → Option (List (List ℕ))
+asked_in {old = old} {c = c} run names = asked_also old.asked (reads c run.setup.config ++ names)
+
+abbrev pub names_of : List File → List (List ℕ)
+names_of files = map (λ f. f.0) files
+
+-- All that the run puts was put, and nothing else.
+pub record IsPutWhole {old : Shown} {c : Command} {journal : List Entry} (run : IsRun old c journal)
+    (files : Option (List File)) (asked : Option (List (List ℕ))) : Type 0 where
+  pub put : PutFiles run.outputs old.files files
+  pub asks : asked ≡ asked_in run (names_of run.outputs)
+
+-- The files before one of those that the run puts were put, and nothing else. These names were asked
+-- for behind theirs.
+pub record IsPutBefore {old : Shown} {c : Command} {journal : List Entry} (run : IsRun old c journal)
+    (files : Option (List File)) (asked : Option (List (List ℕ)))
+    (name : List ℕ) (more : List (List ℕ)) : Type 0 where
+  pub front : List File
+  pub bytes : List ℕ
+  pub back : List File
+  pub parts : run.outputs ≡ front ++ (name, bytes) ∷ back
+  pub put : PutFiles front old.files files
+  pub asks : asked ≡ asked_in run (names_of front ++ more)
+
+-- the files before this one were put, and it was refused
+abbrev pub IsRefusedAt : {old : Shown} {c : Command} {journal : List Entry} → IsRun old c journal
+    → Option (List File) → Option (List (List ℕ)) → List ℕ → Type 0
+IsRefusedAt run files asked name = IsPutBefore run files asked name (name ∷ [])
+
+-- the files before one were put, and then memory ran out: that one was asked for, or was not
+abbrev pub IsCutShort : {old : Shown} {c : Command} {journal : List Entry} → IsRun old c journal
+    → Option (List File) → Option (List (List ℕ)) → Type 0
+IsCutShort run files asked =
+    (name : List ℕ)
+    × (IsPutBefore run files asked name (name ∷ []) ⊎ IsPutBefore run files asked name [])

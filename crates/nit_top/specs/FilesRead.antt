@@ -1,0 +1,75 @@
+-- How far a command has read its files.
+use Rattle.std.specs.Prelude.{◌≡◌, ℕ, true, List, [], ◌∷◌, length, take, slice_get, Option, Some, None, IfSome}
+use Rattle.std.specs.List.{AllByRecursion}
+use Rattle.nit_config.specs.Configuration.{Configuration}
+use Rattle.nit_config.specs.Configured.{IsConfigured}
+use Rattle.nit_script.specs.declared.line.Line.{Line}
+use Rattle.nit_script.specs.Spelling.{FitsLine}
+use Rattle.nit_store.specs.Shown.{File, bytes_of}
+use Rattle.nit_top.specs.Command.{Command, Still, Turns, NoCommand}
+use Rattle.nit_top.specs.Setup.{Setup, AreLines, HaveSamePhases, IsRunnable, still_setup}
+use Rattle.nit_top.specs.Judged.{IsConfig, AreScripts, IsValid, names_in, reads, script_names}
+
+-- The files that a command has read, each of which is valid: none; its configuration, and the scripts
+-- of the first clients; or all files, which make this setup.
+pub data FilesRead : Type 0 where
+  NoFile : FilesRead
+  FirstFiles : (config : Configuration) → (scripts : List (List Line)) → FilesRead
+  AllFiles : Setup → FilesRead
+
+-- the names of the first scripts of a configuration, as many as these
+abbrev pub first_names : Configuration → List (List Line) → List (List ℕ)
+first_names config scripts = take (length scripts) (script_names config)
+
+-- the names of the files that were read, in order
+abbrev pub names_read : Command → FilesRead → List (List ℕ)
+names_read c NoFile = []
+names_read (Still width height script) (FirstFiles config scripts) = []
+names_read (Turns configuration) (FirstFiles config scripts) =
+    configuration ∷ first_names config scripts
+names_read NoCommand (FirstFiles config scripts) = []
+names_read c (AllFiles s) = reads c s.config
+
+-- the name of the file that the command reads next
+abbrev pub next_name : Command → FilesRead → Option (List ℕ)
+next_name (Still width height script) NoFile = Some script
+next_name (Turns configuration) NoFile = Some configuration
+next_name NoCommand NoFile = None
+next_name c (FirstFiles config scripts) = slice_get (names_in config) (length scripts)
+next_name c (AllFiles s) = None
+
+-- ---- what was read is valid
+
+-- The configuration is within its ranges. The first scripts are within the grammar, and have as many
+-- phases as the first of them. Where the store tells its files, these are the configuration and the
+-- scripts that it names.
+pub record AreFirstFiles (configuration : List ℕ) (told : Option (List File)) (config : Configuration)
+    (scripts : List (List Line)) : Type 0 where
+  pub configured : IsConfigured config
+  pub lines : AllByRecursion (AreLines FitsLine) scripts
+  pub phases : HaveSamePhases scripts
+  pub valid : IfSome told (λ files. IsConfig (bytes_of configuration files) config
+      × AreScripts files (first_names config scripts) scripts)
+
+-- for `still` the setup is that of a picture of this size, whatever the script; for `turns` it has
+-- texts
+abbrev pub IsSetupOf : Command → Setup → Type 0
+IsSetupOf (Still width height script) s = (lines : List Line) × (s ≡ still_setup width height lines)
+IsSetupOf (Turns configuration) s = s.texts ≡ true
+IsSetupOf NoCommand s = ⊥
+
+-- The setup can be run, and is one of the command. Where the store tells its files, it is what these
+-- are.
+pub record AreAllFiles (c : Command) (told : Option (List File)) (s : Setup) : Type 0 where
+  pub runnable : IsRunnable s
+  pub of_command : IsSetupOf c s
+  pub valid : IfSome told (λ files. IsValid c files s)
+
+-- the files that a command has read are its files, and are valid
+abbrev pub HasRead : Command → Option (List File) → FilesRead → Type 0
+HasRead c told NoFile = Unit {0}
+HasRead (Still width height script) told (FirstFiles config scripts) = ⊥
+HasRead (Turns configuration) told (FirstFiles config scripts) =
+    AreFirstFiles configuration told config scripts
+HasRead NoCommand told (FirstFiles config scripts) = ⊥
+HasRead c told (AllFiles s) = AreAllFiles c told s

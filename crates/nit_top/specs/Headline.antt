@@ -1,0 +1,168 @@
+-- The headline: what a run promises of its journal and of its pictures.
+use Rattle.std.specs.Prelude.{◌≡◌, ◌⊎◌, ℕ, ◌+◌, ◌<◌, true, List, [], ◌∷◌, ◌++◌, length, slice_index, All, Contains, Option, Some, None, option_map, if◌then◌else◌}
+use Rattle.nit_events.specs.declared.call.Call.{Call}
+use Rattle.nit_events.specs.declared.call.Call.TheVariants.{Close}
+use Rattle.nit_events.specs.declared.call.Reply.{Reply}
+use Rattle.nit_events.specs.declared.call.Reply.TheVariants as reply
+use Rattle.nit_events.specs.declared.device.Device.{Device}
+use Rattle.nit_events.specs.declared.device.Device.TheVariants as device
+use Rattle.nit_events.specs.declared.device.Mode.TheVariants.{Flat, Xray}
+use Rattle.nit_events.specs.declared.entry.Entry.{Entry}
+use Rattle.nit_events.specs.declared.entry.Entry.TheVariants as entry
+use Rattle.nit_events.specs.declared.event.Event.TheVariants as event
+use Rattle.nit_events.specs.declared.event.Item.TheVariants as item
+use Rattle.nit_events.specs.declared.event.Routed.{Routed}
+use Rattle.nit_events.specs.Input.{is_button, deliveries_of}
+use Rattle.nit_stack.specs.Sources.{pixel, point}
+use Rattle.nit_config.specs.Configuration.{Configuration, donation_of, member}
+use Rattle.nit_journal.specs.Deliveries.{IsLive}
+use Rattle.nit_journal.specs.Journals.{replay, shots}
+use Rattle.nit_journal.specs.Presses.{IsDown}
+use Rattle.nit_journal.specs.Projections.{Gets, Moment, alone, alone_machine, own_machine, projection, replies_to}
+use Rattle.nit_journal.specs.Session.{serve}
+use Rattle.nit_journal.specs.State.{State, owner_of}
+use Rattle.nit_journal.specs.Views.{is_accepted}
+use Rattle.nit_journal.specs.Whole.{calls_of, done}
+use Rattle.nit_script.specs.declared.line.Line.{Line}
+use Rattle.nit_plan.specs.Calls.{calls_to_make}
+use Rattle.nit_overlay.specs.Shown.{shown}
+use Rattle.nit_scene.specs.Painted.{pixel_count}
+use Rattle.nit_scene.specs.Played.{scenery_of}
+use Rattle.nit_report.specs.Picture.{picture}
+use Rattle.nit_report.specs.EventsText.{events_text}
+use Rattle.nit_store.specs.Shown.{File}
+use Rattle.nit_plan.specs.Sessions.{script_in}
+use Rattle.nit_actor.specs.Running.{shot_name}
+use Rattle.nit_actor.specs.Shots.{drawn_by_shot}
+use Rattle.nit_top.specs.Setup.{Setup}
+use Rattle.nit_top.specs.Outputs.{IsJournal, AreOutputs, ending_of, events_name, final_name, journal_file, raw_word, tables_left}
+
+-- ---- each client
+
+-- A client is served as if it were alone.
+pub record IsServedAlone (config : Configuration) (scripts : List (List Line))
+    (journal : List Entry) (sid : ℕ) : Type 0 where
+  -- its calls are those of its script, in order, each once
+  pub calls : calls_of sid journal ≡ done (calls_to_make (script_in scripts sid))
+  -- its replies are those of a machine that opens with its donation, and gets its calls and what the
+  -- user's input routes to it
+  pub replies : replies_to sid journal ≡ alone (donation_of config sid) (projection sid journal)
+  -- where a call of it is refused for quota, less is left than the call needs; and a machine that got
+  -- its own calls before that one, and nothing else, refuses it with the same numbers
+  pub quota : (front rest : List Entry) (call : Call) (need left : ℕ)
+      → journal ≡ front ++ entry.Call sid call (reply.OutOfQuota need left) ∷ rest
+      → (left < need)
+      × ((serve (own_machine config sid front) call).reply ≡ reply.OutOfQuota need left)
+  -- so it is where an upgrade is refused for want of reserve
+  pub reserve : (front rest : List Entry) (call : Call) (need left : ℕ)
+      → journal ≡ front ++ entry.Call sid call (reply.NoReserve need left) ∷ rest
+      → (left < need)
+      × ((serve (own_machine config sid front) call).reply ≡ reply.NoReserve need left)
+
+-- ---- the user's input, and the focus
+
+-- The user's input goes to those whom it is meant for.
+pub record IsRoutedRight (config : Configuration) (journal : List Entry) : Type 0 where
+  -- each delivery goes to a session that is live in the state before its entry
+  pub deliveries : (front rest : List Entry) (dev : Device) (routed : Routed)
+      → journal ≡ front ++ entry.Input dev routed ∷ rest
+      → All (λ d. IsLive (replay config front) d.sid) (deliveries_of routed)
+  -- each release that is routed to a session follows a press of the same code to it, with no release
+  -- of it between
+  pub releases : (sid code : ℕ) (before rest : List Moment)
+      → projection sid journal ≡ before ++ Gets (item.Event (event.Release code)) ∷ rest
+      → IsDown code before
+
+-- the focused session after these entries
+abbrev pub focus_after : Configuration → List Entry → Option ℕ
+focus_after config journal = (replay config journal).input.focus
+
+-- In this state the device event is a click on a session: a button is pressed in mode Flat or Xray,
+-- the pointer stands on a pixel that a view of the session owns, and the session takes the focus by
+-- clicks.
+pub record IsClickOn (s : State) (dev : Device) (sid : ℕ) : Type 0 where
+  pub code : ℕ
+  pub pressed : dev ≡ device.Press code
+  pub button : is_button code ≡ true
+  pub mode : (s.input.mode ≡ Flat) ⊎ (s.input.mode ≡ Xray)
+  pub owns : option_map (λ v. v.sid) (owner_of s (point s.input.x s.input.y)) ≡ Some sid
+  pub by_clicks : (member s.config sid).clicks ≡ true
+
+-- The user alone gives the focus.
+pub record IsFocusTheUsers (config : Configuration) (journal : List Entry) : Type 0 where
+  -- a call leaves it as it is, but for the close of the focused session, which leaves none
+  pub calls : (front rest : List Entry) (sid : ℕ) (call : Call) (r : Reply)
+      → journal ≡ front ++ entry.Call sid call r ∷ rest
+      → (focus_after config (front ++ entry.Call sid call r ∷ []) ≡ focus_after config front)
+      ⊎ ((call ≡ Close) × (is_accepted r ≡ true) × (focus_after config front ≡ Some sid)
+      × (focus_after config (front ++ entry.Call sid call r ∷ []) ≡ None))
+  -- a device event gives it to a session only by a click on the session
+  pub clicks : (front rest : List Entry) (dev : Device) (routed : Routed) (sid : ℕ)
+      → journal ≡ front ++ entry.Input dev routed ∷ rest
+      → focus_after config (front ++ entry.Input dev routed ∷ []) ≡ Some sid
+      → (focus_after config front ≡ Some sid) ⊎ IsClickOn (replay config front) dev sid
+
+-- ---- the pictures
+
+-- The frame has a word for each pixel. It is the one that the state shows there (`shown`: the word of
+-- the topmost view, or what the mode puts over it, or the bar) of a word that the pixel may hold.
+pub record ShowsBy (s : State) (MayHold : ℕ → ℕ → Type 0) (words : List ℕ) : Type 0 where
+  pub count : length words ≡ pixel_count s
+  pub each : (k : ℕ) → k < pixel_count s
+      → (w : ℕ) × MayHold k w
+      × (slice_index words k ≡ shown (scenery_of s) (pixel s.config.width k) w)
+
+-- among the files is one of this name that is a picture of the state, by words that its pixels may
+-- hold
+abbrev pub HasPicture : Configuration → List File → List ℕ → State → (ℕ → ℕ → Type 0) → Type 0
+HasPicture config files name s MayHold =
+    (words : List ℕ) × Contains files (name, picture config.width config.height words)
+    × ShowsBy s MayHold words
+
+-- the word that a pixel holds when a shot is taken behind these entries: the one that the rounds have
+-- drawn there by then
+abbrev pub HoldsAtShot : Setup → List Entry → ℕ → ℕ → Type 0
+HoldsAtShot s before k w = w ≡ (drawn_by_shot s.config s.scripts s.input (shots before)).word k
+
+-- the word that a pixel holds in the last picture: that of the bare screen, 0, or the one that the
+-- script of its session leaves at its source
+abbrev pub HoldsAtEnd : Setup → List Entry → ℕ → ℕ → Type 0
+HoldsAtEnd s journal k w = w ≡ raw_word (replay s.config journal) (tables_left s.config s.scripts) k
+
+-- ---- the texts
+
+-- The texts of a run. What a client's text tells is told of the machine that serves it alone: the
+-- events that it took stand among its replies, and how it ended is how that machine ends.
+pub record AreTexts (config : Configuration) (journal : List Entry) (outputs : List File) : Type 0 where
+  pub events : (sid : ℕ) → sid < length config.clients
+      → let machine = alone_machine (donation_of config sid) (projection sid journal) in
+      Contains outputs
+      (events_name (member config sid).label, events_text journal sid (ending_of machine))
+  pub journal_too : Contains outputs (journal_file journal)
+
+-- ---- all
+
+pub record Headline (s : Setup) (journal : List Entry) (outputs : List File) : Type 0 where
+  -- there is one journal: it is legal, whole for the scripts, and has the order of the rounds
+  pub one_journal : IsJournal s journal
+  -- each client is served as if it were alone
+  pub clients : (sid : ℕ) → sid < length s.config.clients
+      → IsServedAlone s.config s.scripts journal sid
+  -- the user's input goes to live sessions, and no release comes without its press
+  pub routed : IsRoutedRight s.config journal
+  -- the user alone gives the focus
+  pub focus : IsFocusTheUsers s.config journal
+  -- each shot of the journal has its file, which shows the state that the entries before it lead to
+  pub shots_show : (front rest : List Entry) (number : ℕ)
+      → journal ≡ front ++ entry.Shot number ∷ rest
+      → HasPicture s.config outputs (shot_name number) (replay s.config front) (HoldsAtShot s front)
+  -- final.ppm shows the state at the end, with the words that the scripts leave
+  pub final_shows :
+      HasPicture s.config outputs final_name (replay s.config journal) (HoldsAtEnd s journal)
+  -- the texts are there, where the run has them
+  pub texts : s.texts ≡ true → AreTexts s.config journal outputs
+  -- there is no other file
+  pub count : length outputs ≡ shots journal + 1 + (if s.texts then length s.config.clients + 1 else 0)
+  -- the configuration and the scripts alone determine the journal and the files
+  pub only : (other : List Entry) (files : List File) → IsJournal s other → AreOutputs s other files
+      → (other ≡ journal) × (files ≡ outputs)
