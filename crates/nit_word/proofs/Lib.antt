@@ -1,4 +1,7 @@
 pub mod Bits
+pub mod InkedRows
 pub mod Inking
+pub mod SetWords
+pub mod SideBySide
 pub mod Zeros
 pub mod Rows

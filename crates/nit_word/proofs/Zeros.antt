@@ -1,5 +1,5 @@
 -- Words that are all 0.
-use Rattle.std.proofs.Common.{◌≡◌, ℕ, zero, suc, List, All, length, replicate, refl, subst, sym}
+use Rattle.std.proofs.Common.{◌≡◌, ℕ, zero, suc, List, length, replicate, refl, subst, sym}
 use Rattle.std.specs.Prelude.{slice_index}
 use Rattle.std.proofs.lemmas.List.{length-replicate}
 use Rattle.nit_word.specs.Inks.{IsInked}

@@ -1,9 +1,11 @@
 //! A glass over words of its own that shows a fixed ink alone.
-ghost use Rattle.std.specs.Prelude.{◌≡◌, ◌<◌, All};
+ghost use Rattle.std.specs.Prelude.{◌≡◌, ℕ, ◌+◌, ◌<◌, ◌≤◌, All, length};
 ghost use Rattle.nit_word.specs.Inks.{IsInked, IsWord};
+ghost use Rattle.nit_word.specs.Setting.{in_turn, is_between, put_from, set_where, with_words};
 ghost use Rattle.nit_word.specs.Sight.{Sight, inked_sight, stored};
 
 use crate::glass::Glass;
+use crate::setting::{alternate_words, fill_words, put_words};
 use std::marker::Model;
 
 /// Words of one owner that the glass tells, each 0 or in its ink. The ink never changes, and the glass
@@ -41,6 +43,39 @@ impl Inked {
         ensures { self.new ≡ stored self.old i w }
     {
         self.words[i] = w;
+    }
+
+    /// Sets the words at the places from `from` to before `to`, which is at most the glass's size, to `w`,
+    /// which is 0 or in the ink. Nothing else changes.
+    pub fn fill(&mut self, from: usize, to: usize, w: u32)
+        requires order { from ≤ to }
+        requires room { to ≤ self.old.size }
+        requires word { IsInked self.old.ink w }
+        ensures { self.new ≡ with_words (set_where (is_between from to) (λ n. w)) self.old }
+    {
+        fill_words(&mut self.words, from, to, w);
+    }
+
+    /// Sets the words at the places from `from` to before `to`, which is at most the glass's size, to `c`
+    /// and `d` in turn, the first one to `c`. Each is 0 or in the ink. Nothing else changes.
+    pub fn alternate(&mut self, from: usize, to: usize, c: u32, d: u32)
+        requires order { from ≤ to }
+        requires room { to ≤ self.old.size }
+        requires first { IsInked self.old.ink c }
+        requires second { IsInked self.old.ink d }
+        ensures { self.new ≡ with_words (set_where (is_between from to) (in_turn from c d)) self.old }
+    {
+        alternate_words(&mut self.words, from, to, c, d);
+    }
+
+    /// Sets the words at the places from `from` on to those of the row, which reaches at most to the
+    /// glass's last word. Each is 0 or in the ink. Nothing else changes.
+    pub fn put(&mut self, from: usize, row: &[u32])
+        requires room { from + length row.now ≤ self.old.size }
+        requires inked { All (IsInked self.old.ink) row.now }
+        ensures { self.new ≡ with_words (put_from from row.now) self.old }
+    {
+        put_words(&mut self.words, from, row);
     }
 
     /// The words of the glass in their order, each below 2^24, and 0 or in the ink.

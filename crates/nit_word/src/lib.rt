@@ -11,6 +11,7 @@
 mod glass;
 mod inked;
 mod plain;
+mod setting;
 mod shade;
 
 pub use glass::Glass;

@@ -1,0 +1,69 @@
+-- The words of places that a line does not set.
+use Rattle.std.proofs.Common.{◌≡◌, ◌∙◌, ℕ, ◌+◌, ◌-◌, ◌*◌, ◌/◌, ◌%◌, ◌≤◌, ◌<◌, ◌&&◌, nat_lt, Bool, true, false, cond, List, length, get_or, drop, refl, sym, ap, arith}
+use mathlib.Core.Logic.{dite}
+use native.Mathlib.Decide.{dec_lt}
+use Rattle.std.specs.Prelude.{Some, slice_index}
+use Rattle.std.specs.List.{slice_get}
+use Rattle.std.proofs.Math.ListN.{get_or-eq_default}
+use Rattle.std.proofs.lemmas.Bool.Decides.{nat_tests}
+use Rattle.std.proofs.lemmas.List.{get_or-append_right, get_or-drop}
+use Rattle.std.proofs.lemmas.Nat.{mod_below}
+use Rattle.nit_word.specs.Zeros.{zeros}
+use Rattle.nit_word.proofs.SetWords.{word_at}
+use Rattle.nit_word.proofs.Zeros.{length-zeros}
+use Rattle.nit_events.specs.declared.call.Call.TheVariants.{Buffer}
+use Rattle.nit_script.specs.declared.line.Stroke.{Stroke}
+use Rattle.nit_script.specs.declared.line.Line.{Line}
+use Rattle.nit_script.specs.declared.line.Line.TheVariants as line
+use Rattle.nit_plan.specs.declared.plan.Step.{Step}
+use Rattle.nit_plan.specs.Strokes.{is_stroked, place_colour, stroked, cleared}
+use Rattle.nit_plan.specs.Plans.{static, words_after}
+use Rattle.nit_plan.specs.Steps.{accepts, is_set_by, step_of, words_by_step}
+use Rattle.nit_plan.proofs.Lines.{words_next}
+use Rattle.nit_plan.proofs.Places.{row_of, some_column, stroke_set, stroked_long, whole}
+
+-- a place of the buffer is in one of its columns and rows
+in_buffer : (w h n : ℕ) → n < w * h → (n % w < w) × (n / w < h)
+in_buffer w h n inside = (mod_below n w (some_column n w h inside), row_of n w h (omega arith))
+
+none_stroked : (w h : ℕ) (s : Stroke) (n : ℕ) → (nat_lt (n % w) w && nat_lt (n / w) h && is_stroked s (n % w) (n / w)) ≡ false → whole w h s n ≡ false
+none_stroked w h s n outside =
+    dite (dec_lt n (w * h))
+    (λ inside. let at = in_buffer w h n inside in grind (arith, nat_tests, at.0, at.1, outside))
+    (λ behind. grind (arith, nat_tests))
+
+stroke_stays : (w h : ℕ) (s : Stroke) (words : List ℕ) (n : ℕ) → (nat_lt (n % w) w && nat_lt (n / w) h && is_stroked s (n % w) (n / w)) ≡ false
+    → slice_index (stroked (record { w = w; h = h }) s words) n ≡ slice_index words n
+stroke_stays w h s words n outside =
+    dite (dec_lt n (length words))
+    (λ told.
+    ap (λ (ws : List ℕ). get_or ws n 0) (stroke_set w h s words) ∙ word_at (whole w h s) (place_colour w s) words n told
+    ∙ ap (λ b. cond b (place_colour w s n) (get_or words n 0)) (none_stroked w h s n outside))
+    (λ past.
+    get_or-eq_default (stroked (record { w = w; h = h }) s words) 0 (omega (arith, stroked_long (record { w = w; h = h }) s words)) ∙ sym (get_or-eq_default words 0 (omega arith)))
+
+cleared_stays : (w h : ℕ) (words : List ℕ) (n : ℕ) → w * h ≤ n → slice_index (cleared w h words) n ≡ slice_index words n
+unfolding cleared
+cleared_stays w h words n behind =
+    get_or-append_right (zeros (w * h)) (drop (w * h) words) (w * h) n 0 (length-zeros (w * h)) behind ∙ get_or-drop (w * h) words (n - w * h) 0 ∙ ap (λ (m : ℕ). get_or words m 0) (omega arith)
+
+buffer_stays : (took : Bool) (w h : ℕ) (words : List ℕ) (n : ℕ) → (took && nat_lt (n % w) w && nat_lt (n / w) h) ≡ false
+    → slice_index (cond took (cleared w h words) words) n ≡ slice_index words n
+buffer_stays false w h words n outside = refl
+buffer_stays true w h words n outside =
+    dite (dec_lt n (w * h))
+    (λ inside. let at = in_buffer w h n inside in absurd (grind (arith, nat_tests, at.0, at.1, outside)))
+    (λ behind. cleared_stays w h words n (omega arith))
+
+step_stays : (l : Line) (step : Step) (words : List ℕ) (n : ℕ) → is_set_by l step (n % step.w) (n / step.w) ≡ false → slice_index (words_by_step l step words) n ≡ slice_index words n
+step_stays (line.Call (Buffer w h)) step words n outside = buffer_stays (accepts step.expect) step.w step.h words n outside
+step_stays (line.Call other) step words n outside = refl
+step_stays (line.Stroke s) step words n outside = stroke_stays step.w step.h s words n outside
+step_stays line.Phase step words n outside = refl
+
+pub line_stays : (script : List Line) (donation k n : ℕ) (l : Line) → slice_get script k ≡ Some l
+    → let step = step_of (static script donation k) (static script donation (k + 1)) l in is_set_by l step (n % step.w) (n / step.w) ≡ false
+    → slice_index (words_after script donation (k + 1)) n ≡ slice_index (words_after script donation k) n
+line_stays script donation k n l here outside =
+    let step : Step = step_of (static script donation k) (static script donation (k + 1)) l in
+    ap (λ (ws : List ℕ). slice_index ws n) (sym (words_next script donation k l step here refl)) ∙ step_stays l step (words_after script donation k) n outside

@@ -1,0 +1,87 @@
+-- Words side by side that were set.
+use Rattle.std.proofs.Common.{◌≡◌, ◌≢◌, ◌∙◌, ℕ, ◌+◌, ◌-◌, ◌%◌, ◌==◌, ◌≤◌, ◌<◌, true, false, cond, List, length, get_or, take, drop, replicate, ◌++◌, refl, ap, arith}
+use mathlib.Core.Logic.{dite}
+use native.Mathlib.Decide.{dec_lt}
+use Rattle.std.specs.Prelude.{slice_index}
+use Rattle.std.proofs.lemmas.Bool.Decides.{nat_tests}
+use Rattle.std.proofs.lemmas.List.{get_or_append_left, get_or-append_right, get_or-take, get_or-drop, get_or-replicate, length-append, length-drop, length-replicate, length-take-le}
+use borrow.Rule.Slice.PartMut.{mid_of, put_mid}
+use Rattle.nit_word.specs.Setting.{set_where, is_between, in_turn, put_from}
+use Rattle.nit_word.proofs.SetWords.{are_set, set_long, word_at}
+
+put_long : (from n : ℕ) (words part : List ℕ) → from + n ≤ length words → length part ≡ n → length (put_mid from n words part) ≡ length words
+put_long from n words part room long =
+    omega (arith, room, long, length-append (take from words) (part ++ drop n (drop from words)), length-append part (drop n (drop from words)), length-take-le from words (omega arith), length-drop n (drop from words), length-drop from words)
+
+at_place : (from n : ℕ) (c : ℕ → ℕ) (words part : List ℕ) (k : ℕ) → from + n ≤ length words → length part ≡ n → ((i : ℕ) → i < n → get_or part i 0 ≡ c (from + i))
+    → get_or (put_mid from n words part) k 0 ≡ cond (is_between from (from + n) k) (c k) (get_or words k 0)
+at_place from n c words part k room long each =
+    let before : length (take from words) ≡ from = length-take-le from words (omega arith) in
+    dite (dec_lt k from)
+    (λ front.
+    let none : is_between from (from + n) k ≡ false = grind (arith, nat_tests) in
+    rw none (get_or_append_left (take from words) (part ++ drop n (drop from words)) 0 k (omega (arith, before)) ∙ get_or-take from words k 0 front))
+    (λ past.
+    let rest : get_or (put_mid from n words part) k 0 ≡ get_or (part ++ drop n (drop from words)) (k - from) 0 = get_or-append_right (take from words) (part ++ drop n (drop from words)) from k 0 before (omega arith) in
+    dite (dec_lt k (from + n))
+    (λ inside.
+    let some : is_between from (from + n) k ≡ true = grind (arith, nat_tests) in
+    rw some (rest ∙ get_or_append_left part (drop n (drop from words)) 0 (k - from) (omega (arith, long)) ∙ each (k - from) (omega arith) ∙ ap c (omega arith)))
+    (λ behind.
+    let none : is_between from (from + n) k ≡ false = grind (arith, nat_tests) in
+    rw none (rest ∙ get_or-append_right part (drop n (drop from words)) n (k - from) 0 long (omega arith) ∙ get_or-drop n (drop from words) (k - from - n) 0 ∙ get_or-drop from words (n + (k - from - n)) 0
+    ∙ ap (λ (m : ℕ). get_or words m 0) (omega arith))))
+
+pub part_set : (from n : ℕ) (c : ℕ → ℕ) (words part : List ℕ) → from + n ≤ length words → length part ≡ n → ((i : ℕ) → i < n → get_or part i 0 ≡ c (from + i))
+    → put_mid from n words part ≡ set_where (is_between from (from + n)) c words
+part_set from n c words part room long each =
+    are_set (is_between from (from + n)) c words (put_mid from n words part) (put_long from n words part room long) (λ k inside. at_place from n c words part k room long each)
+
+-- the part of words from one number to before another
+mid_long : (from n : ℕ) (words : List ℕ) → from + n ≤ length words → length (mid_of from n words) ≡ n
+mid_long from n words room = length-take-le n (drop from words) (omega (arith, length-drop from words))
+
+from_to : (from to : ℕ) (c : ℕ → ℕ) (words : List ℕ) → from ≤ to → set_where (is_between from (from + (to - from))) c words ≡ set_where (is_between from to) c words
+from_to from to c words order = ap (λ (last : ℕ). set_where (is_between from last) c words) (omega arith)
+
+pub filled : (from to w : ℕ) (words part : List ℕ) → from ≤ to → to ≤ length words → part ≡ replicate (length (mid_of from (to - from) words)) w
+    → put_mid from (to - from) words part ≡ set_where (is_between from to) (λ n. w) words
+filled from to w words part order room is =
+    let n : ℕ = to - from in
+    let all : part ≡ replicate n w = is ∙ ap (λ (m : ℕ). replicate m w) (mid_long from n words (omega arith)) in
+    part_set from n (λ k. w) words part (omega arith) (ap length all ∙ length-replicate n w) (λ i inside. ap (λ (ws : List ℕ). get_or ws i 0) all ∙ get_or-replicate n i w 0 inside)
+    ∙ from_to from to (λ k. w) words order
+
+later_turn : (from c d i : ℕ) → in_turn 0 c d i ≡ in_turn from c d (from + i)
+later_turn from c d i = ap (λ (m : ℕ). cond (m % 2 == 0) c d) (omega arith)
+
+-- the same by the number of the place
+pub turn_there : (from c d i : ℕ) → in_turn 0 c d (i - from) ≡ in_turn from c d i
+turn_there from c d i = ap (λ (m : ℕ). cond (m % 2 == 0) c d) (omega arith)
+
+pub alternated : (from to c d : ℕ) (words part : List ℕ) → from ≤ to → to ≤ length words
+    → part ≡ set_where (is_between 0 (length (mid_of from (to - from) words))) (in_turn 0 c d) (mid_of from (to - from) words)
+    → put_mid from (to - from) words part ≡ set_where (is_between from to) (in_turn from c d) words
+alternated from to c d words part order room is =
+    let n : ℕ = to - from in
+    let mid : List ℕ = mid_of from n words in
+    let long : length mid ≡ n = mid_long from n words (omega arith) in
+    part_set from n (in_turn from c d) words part (omega arith) (ap length is ∙ set_long (is_between 0 (length mid)) (in_turn 0 c d) mid ∙ long)
+    (λ i inside.
+    let some : is_between 0 (length mid) i ≡ true = grind (arith, nat_tests, long) in
+    ap (λ (ws : List ℕ). get_or ws i 0) is ∙ word_at (is_between 0 (length mid)) (in_turn 0 c d) mid i (omega (arith, long)) ∙ ap (λ b. cond b (in_turn 0 c d i) (get_or mid i 0)) some ∙ later_turn from c d i)
+    ∙ from_to from to (in_turn from c d) words order
+
+pub put : (from : ℕ) (row words part : List ℕ) → from + length row ≤ length words → part ≡ row → put_mid from (from + length row - from) words part ≡ put_from from row words
+put from row words part room is =
+    let long : from + length row - from ≡ length row = omega arith in
+    ap (λ (n : ℕ). put_mid from n words part) long
+    ∙ part_set from (length row) (λ n. slice_index row (n - from)) words part room (ap length is)
+    (λ i inside. ap (λ (ws : List ℕ). get_or ws i 0) is ∙ ap (λ (m : ℕ). get_or row m 0) (omega arith))
+
+-- whose turn it is
+pub first_turn : (c d i : ℕ) → i % 2 ≡ 0 → c ≡ in_turn 0 c d i
+first_turn c d i even = let test : ((i - 0) % 2 == 0) ≡ true = grind (arith, nat_tests) in rw test refl
+
+pub second_turn : (c d i : ℕ) → i % 2 ≢ 0 → d ≡ in_turn 0 c d i
+second_turn c d i odd = let test : ((i - 0) % 2 == 0) ≡ false = grind (arith, nat_tests) in rw test refl

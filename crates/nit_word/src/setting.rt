@@ -1,0 +1,38 @@
+//! Words that are set side by side.
+ghost use Rattle.std.specs.Prelude.{◌≡◌, ℕ, ◌+◌, ◌≤◌, length};
+ghost use Rattle.nit_word.specs.Setting.{in_turn, is_between, put_from, set_where};
+
+/// Sets the words from the number `from` to before `to` to `w`.
+pub(crate) fn fill_words(words: &mut [u32], from: usize, to: usize, w: u32)
+    requires order { from ≤ to }
+    requires room { to ≤ length words.old }
+    ensures { words.new ≡ set_where (is_between from to) (λ n. w) words.old }
+{
+    words[from..to].fill(w);
+}
+
+/// Sets the words from the number `from` to before `to` to `c` and `d` in turn, the first one to `c`.
+pub(crate) fn alternate_words(words: &mut [u32], from: usize, to: usize, c: u32, d: u32)
+    requires order { from ≤ to }
+    requires room { to ≤ length words.old }
+    ensures { words.new ≡ set_where (is_between from to) (in_turn from c d) words.old }
+{
+    take_turns(&mut words[from..to], c, d);
+}
+
+/// Sets the words to `c` and `d` in turn, the first one to `c`.
+fn take_turns(words: &mut [u32], c: u32, d: u32)
+    ensures { words.new ≡ set_where (is_between 0 (length words.old)) (in_turn 0 c d) words.old }
+{
+    'words: for (i, word) in words.iter_mut().enumerate() {
+        *word = if i % 2 == 0 { c } else { d };
+    }
+}
+
+/// Sets the words from the number `from` on to those of the row.
+pub(crate) fn put_words(words: &mut [u32], from: usize, row: &[u32])
+    requires { from + length row.now ≤ length words.old }
+    ensures { words.new ≡ put_from from row.now words.old }
+{
+    words[from..from + row.len()].copy_from_slice(row);
+}
