@@ -55,7 +55,8 @@ after_moments s (Gets i ∷ rest) = after_moments (receive s i) rest
 abbrev pub alone_machine : ℕ → List Moment → Session
 alone_machine donation moments = after_moments (opened donation) moments
 
--- the machine that opens with a session's donation and gets the session's own calls of a journal, and no item
+-- the machine that opens with a session's donation and gets the session's own calls of a journal, and no
+-- item
 abbrev pub own_machine : Configuration → ℕ → List Entry → Session
 own_machine config sid journal = after_calls (opened (donation_of config sid)) (calls_of sid journal)
 
