@@ -152,9 +152,13 @@ module _ (config : Configuration) (scripts : List (List Line)) (lines : List Inp
             b.legal b.acts_left in
             let file : File = (shot_name (length d.shots + 1), picture_of config d.state d.word) in
             let named : shot_name (length d.shots + 1) ≡ shot_name (taken + 1) = ap (λ (n : ℕ). shot_name (n + 1)) h.pictures in
-            let here : ShotsBehind IsPicture before (entry.Shot (taken + 1) ∷ b.rest) (file ∷ more.files) =
-            (picture_of config d.state d.word, more.files, ap (λ (n : List ℕ). (n, picture_of config d.state d.word) ∷ more.files) named, picture_here front m left taken before d parts is_shot h,
-            subst (λ (es : List Entry). ShotsBehind IsPicture (before ++ es) b.rest more.files) t.itself more.are) in
+            let here : ShotsBehind IsPicture before (entry.Shot (taken + 1) ∷ b.rest) (file ∷ more.files) = (
+              picture_of config d.state d.word,
+              more.files,
+              ap (λ (n : List ℕ). (n, picture_of config d.state d.word) ∷ more.files) named,
+              picture_here front m left taken before d parts is_shot h,
+              subst (λ (es : List Entry). ShotsBehind IsPicture (before ++ es) b.rest more.files) t.itself more.are,
+            ) in
             record {
               files = file ∷ more.files;
               drawn_too = more.drawn_too ∙ ap (λ (fs : List File). fs ++ more.files) (t.more d) ∙ append_assoc d.shots (file ∷ []) more.files;

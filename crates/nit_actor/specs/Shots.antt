@@ -13,13 +13,16 @@ use Rattle.nit_actor.specs.Rounds.{rounds}
 use Rattle.nit_actor.specs.Running.{shot_name}
 use Rattle.nit_actor.specs.Drawn.{Drawing, drawn, picture_of}
 
--- The files are those of the shots among some entries, in order, where these stand behind others: each is named by the
--- shot's number, and is a picture that the entries before the shot allow.
-abbrev pub ShotsBehind : (List Entry → List ℕ → Type 0) → List Entry → List Entry → List File → Type 0
+-- The files are those of the shots among some entries, in order, where these stand behind others: each
+-- is named by the shot's number, and is a picture that the entries before the shot allow.
+abbrev pub ShotsBehind : (List Entry → List ℕ → Type 0) → List Entry → List Entry → List File
+    → Type 0
 ShotsBehind IsPicture before [] files = files ≡ []
 ShotsBehind IsPicture before (entry.Shot number ∷ rest) files =
-    (bytes : List ℕ) × (more : List File) × (files ≡ (shot_name number, bytes) ∷ more) × IsPicture before bytes × ShotsBehind IsPicture (before ++ entry.Shot number ∷ []) rest more
-ShotsBehind IsPicture before (other ∷ rest) files = ShotsBehind IsPicture (before ++ other ∷ []) rest files
+    (bytes : List ℕ) × (more : List File) × (files ≡ (shot_name number, bytes) ∷ more)
+    × IsPicture before bytes × ShotsBehind IsPicture (before ++ entry.Shot number ∷ []) rest more
+ShotsBehind IsPicture before (other ∷ rest) files =
+    ShotsBehind IsPicture (before ++ other ∷ []) rest files
 
 -- the files are those of the shots of a journal
 abbrev pub AreShotsOf : (List Entry → List ℕ → Type 0) → List Entry → List File → Type 0
@@ -36,13 +39,18 @@ shoots other = false
 abbrev pub moves_before : ℕ → List Move → List Move
 moves_before taken [] = []
 moves_before zero (m ∷ rest) = if shoots m.doing then [] else m ∷ moves_before zero rest
-moves_before (suc taken) (m ∷ rest) = m ∷ moves_before (if shoots m.doing then taken else suc taken) rest
+moves_before (suc taken) (m ∷ rest) =
+    m ∷ moves_before (if shoots m.doing then taken else suc taken) rest
 
 -- what the rounds have drawn when the shot is taken that stands behind so many others
 abbrev pub drawn_by_shot : Configuration → List (List Line) → List InputLine → ℕ → Drawing
-drawn_by_shot config scripts lines taken = drawn config scripts (moves_before taken (rounds scripts lines))
+drawn_by_shot config scripts lines taken =
+    drawn config scripts (moves_before taken (rounds scripts lines))
 
--- The picture of a shot of a run by rounds: it shows the state that the entries before the shot lead to, and each pixel
--- holds the word that is drawn by then.
-abbrev pub IsDrawnPicture : Configuration → List (List Line) → List InputLine → List Entry → List ℕ → Type 0
-IsDrawnPicture config scripts lines before bytes = bytes ≡ picture_of config (replay config before) (drawn_by_shot config scripts lines (shots before)).word
+-- The picture of a shot of a run by rounds: it shows the state that the entries before the shot lead
+-- to, and each pixel holds the word that is drawn by then.
+abbrev pub IsDrawnPicture : Configuration → List (List Line) → List InputLine → List Entry → List ℕ
+    → Type 0
+IsDrawnPicture config scripts lines before bytes =
+    let word = (drawn_by_shot config scripts lines (shots before)).word in
+    bytes ≡ picture_of config (replay config before) word

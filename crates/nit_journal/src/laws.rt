@@ -112,13 +112,14 @@ pub fn isolation()
         → replies_to s journal ≡ alone (donation_of config s) (projection s journal) }
 {}
 
-/// The machine of each session, behind a legal journal, is the one that serves it alone: what it lost, what
-/// is still queued and whether it is served come from its donation, its own calls and the items that were
-/// routed to it.
+/// The machine of each session, behind a legal journal, is the one that serves it alone: what it
+/// lost, what is still queued and whether it is served come from its donation, its own calls and
+/// the items that were routed to it.
 pub fn machines_stand_alone()
     ensures { (config : Configuration) (journal : List Entry) (s : ℕ)
         → IsLegal config journal → s < length config.clients
-        → session (replay config journal) s ≡ alone_machine (donation_of config s) (projection s journal) }
+        → session (replay config journal) s
+        ≡ alone_machine (donation_of config s) (projection s journal) }
 {}
 
 /// Two legal journals, of any two configurations, that give a session the same donation. Where it

@@ -19,7 +19,8 @@ abbrev pub refusal_by : {T : Type 0} → List ℕ → Result T PutError → Opti
 refusal_by name (Ok done) = None
 refusal_by name (Err e) = Some (record { name = name; error = e })
 
--- A file is put, and a refusal is kept. Want of memory for its bytes counts as a put that is refused.
+-- A file is put, and a refusal is kept. Want of memory for its bytes counts as a put that is
+-- refused.
 pub record PutsFile (file : File) (old new : Putting) : Type 0 where
   pub answer : Result (Unit {0}) PutError
   pub put : AfterPut old.shown file.0 file.1 new.shown answer

@@ -4,8 +4,8 @@ ghost use Rattle.std.specs.Prelude.{◌≡◌, ◌++◌, ◌∷◌, [], List, So
 ghost use Rattle.nit_store.specs.Shown.{File};
 ghost use Rattle.nit_store.specs.Puts.{Putting, PutsAll, PutsNext, Refusal};
 
-/// Files are put one after the other, until a put is refused. One more file, or more files, may be put behind them, and
-/// behind a refusal nothing changes.
+/// Files are put one after the other, until a put is refused. One more file, or more files, may be put
+/// behind them, and behind a refusal nothing changes.
 pub fn puts_go_on()
     ensures next { (files : List File) (file : File) (old mid new : Putting)
         → PutsAll files old mid → PutsNext file mid new → PutsAll (files ++ file ∷ []) old new }

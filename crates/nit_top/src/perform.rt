@@ -104,7 +104,8 @@ fn perform<'a, S: Store>(
     texts: bool,
 ) -> Worked<'a>
     requires { IsRunnable (setup_of config.now scripts.now input.now texts) }
-    ensures { Performed (S.shown store.old) (setup_of config.now scripts.now input.now texts) (S.shown store.new) result }
+    ensures { Performed (S.shown store.old) (setup_of config.now scripts.now input.now texts)
+        (S.shown store.new) result }
 {
     headline();
     let Ok(ran) = run(alloc, config, scripts, input, texts, store) else {

@@ -45,9 +45,9 @@ pub struct Ran {
     pub fault: Option<PutFault>,
 }
 
-/// Takes all memory of a run, and does it by rounds, up to its end. Each shot is put as it is taken, then the last picture,
-/// and then the texts where the run has them, until a put is refused. Where memory runs out before the first round, nothing
-/// was done.
+/// Takes all memory of a run, and does it by rounds, up to its end. Each shot is put as it is taken, then
+/// the last picture, and then the texts where the run has them, until a put is refused. Where memory runs
+/// out before the first round, nothing was done.
 pub fn run<S: Store>(
     alloc: Global,
     config: &Config,
@@ -57,7 +57,8 @@ pub fn run<S: Store>(
     store: &mut S,
 ) -> Result<Ran, NoMemory>
     requires { IsRunnable (setup_of config.now scripts.now input.now texts) }
-    ensures { Runs (S.shown store.old) (setup_of config.now scripts.now input.now texts) (S.shown store.new) result }
+    ensures { Runs (S.shown store.old) (setup_of config.now scripts.now input.now texts)
+        (S.shown store.new) result }
 {
     let Ok(opened) = open(alloc, config, scripts, input) else {
         return Err(NoMemory);
@@ -65,7 +66,8 @@ pub fn run<S: Store>(
     Ok(play(alloc, opened, config, scripts, input, texts, store))
 }
 
-/// Does the rounds, takes the last picture, and puts the texts where the run has them. The rounds take no memory.
+/// Does the rounds, takes the last picture, and puts the texts where the run has them. The rounds take no
+/// memory.
 fn play<S: Store>(
     alloc: Global,
     opened: Opened,
@@ -77,7 +79,8 @@ fn play<S: Store>(
 ) -> Ran
     requires runnable { IsRunnable (setup_of config.now scripts.now input.now texts) }
     requires opened { IsOpened config.now scripts.now input.now opened }
-    ensures { HasRun (S.shown store.old) (setup_of config.now scripts.now input.now texts) (S.shown store.new) result }
+    ensures { HasRun (S.shown store.old) (setup_of config.now scripts.now input.now texts)
+        (S.shown store.new) result }
 {
     rounds_are_whole();
     one_more_entry();
@@ -126,7 +129,8 @@ fn leave_texts<S: Store>(
     requires { clients.now ≡ scene.config.clients }
     ensures journal { result.journal.items ≡ scene.entries }
     ensures frames { result.frames ≡ shots scene.entries + 1 }
-    ensures puts { PutsAll (events_files scene.config scene.entries ++ journal_file scene.entries ∷ []) (putting (S.shown store.old) fault) (putting (S.shown store.new) result.fault) }
+    ensures puts { PutsAll (events_files scene.config scene.entries ++ journal_file scene.entries ∷ [])
+        (putting (S.shown store.old) fault) (putting (S.shown store.new) result.fault) }
 {
     puts_go_on();
     let fault = put_events(alloc, store, fault, clients, &scene);
