@@ -23,3 +23,5 @@ pub mod Telling
 pub mod Turning
 pub mod Walks
 pub mod Whole
+pub mod Roles
+pub mod Pictures

@@ -13,3 +13,7 @@ pub mod Places
 pub mod Running
 pub mod Drawn
 pub mod UnderWay
+pub mod Roles
+pub mod Pictures
+pub mod Crews
+pub mod InStep

@@ -14,17 +14,27 @@
 //! drawn from the configuration and the scripts alone, line by line.
 #![tactic(auto)]
 
+mod actor;
+mod beside;
+mod crew;
 mod desk;
 mod drawing;
 mod gate;
 pub mod laws;
+mod mine;
 mod places;
 mod running;
+mod single;
 mod turn;
 mod turns;
+mod user;
 
+pub use actor::run_actor;
+pub use beside::{Mine, run_beside};
 pub use desk::Desk;
 pub use gate::{Gate, Open};
+pub use mine::run_mine;
 pub use running::run_rounds;
+pub use single::run_alone;
 pub use turn::Turn;
 pub use turns::Turns;
