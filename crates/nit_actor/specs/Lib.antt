@@ -1,5 +1,6 @@
 pub use Rattle.nit_script.specs.Spelling
 pub use Rattle.nit_script.specs.Phases
+pub use Rattle.nit_config.specs.Configuration
 pub use Rattle.nit_journal.specs.Whole
 pub use Rattle.nit_plan.specs.Calls
 pub use Rattle.nit_plan.specs.Steps

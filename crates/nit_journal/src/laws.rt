@@ -1,9 +1,10 @@
 //! Laws of journals, over plain lists.
 
-ghost use Rattle.std.specs.Prelude.{All, ◌≡◌, ◌≢◌, ◌+◌, ◌++◌, ◌∷◌, [], ℕ, List, length, ◌<◌, ◌⊎◌, true, fold, Some, None, option_map};
+ghost use Rattle.std.specs.Prelude.{All, ◌≡◌, ◌≢◌, ◌+◌, ◌++◌, ◌∷◌, [], ℕ, List, length, ◌<◌, ◌⊎◌, true, map, Some, None, option_map};
 ghost use Rattle.nit_events.specs.declared.call.Call.{Call};
 ghost use Rattle.nit_events.specs.declared.call.Call.TheVariants.{Take, Close};
 ghost use Rattle.nit_events.specs.declared.call.Reply.{Reply};
+ghost use Rattle.nit_events.specs.declared.call.Reply.TheVariants as reply;
 ghost use Rattle.nit_events.specs.declared.event.Event.{Event};
 ghost use Rattle.nit_events.specs.declared.event.Event.TheVariants as event;
 ghost use Rattle.nit_events.specs.declared.event.Item.TheVariants as item;
@@ -17,21 +18,55 @@ ghost use Rattle.nit_events.specs.declared.entry.Entry.TheVariants as entry;
 ghost use Rattle.nit_events.specs.Input.{InputState, is_button, deliveries_of};
 ghost use Rattle.nit_stack.specs.declared.view.View.{View};
 ghost use Rattle.nit_stack.specs.Sources.{point};
-ghost use Rattle.nit_config.specs.Configuration.{Configuration, member};
-ghost use Rattle.nit_journal.specs.Session.{opened, serve};
+ghost use Rattle.nit_config.specs.Configuration.{Configuration, donation_of, member};
+ghost use Rattle.nit_journal.specs.Session.{serve};
 ghost use Rattle.nit_journal.specs.Views.{is_accepted};
 ghost use Rattle.nit_journal.specs.State.{State, session, owner_of, route, after};
 ghost use Rattle.nit_journal.specs.Journals.{replay_from, replay, LegalFrom, IsLegal, Agrees, IsOpen, shots};
 ghost use Rattle.nit_journal.specs.Presses.{IsDown};
-ghost use Rattle.nit_journal.specs.Projections.{Gets, Moment, projection, replies_to, alone};
-ghost use Rattle.nit_journal.specs.Whole.{calls_of};
+ghost use Rattle.nit_journal.specs.Projections.{Gets, Moment, projection, replies_to, alone, own_machine};
+ghost use Rattle.nit_journal.specs.Whole.{act_of};
 ghost use Rattle.nit_journal.specs.Deliveries.{IsKillAlone, IsLive};
 
 /// A journal with one more entry: it leads to the state after that entry, and it is legal where the entry
-/// agrees with the state and the shots before it.
+/// agrees with the state and the shots before it, and only there.
 pub fn one_more_entry()
-    ensures replayed { (s : State) (journal : List Entry) (e : Entry) → replay_from s (journal ++ e ∷ []) ≡ after (replay_from s journal) e }
-    ensures legal { (s : State) (taken : ℕ) (journal : List Entry) (e : Entry) → LegalFrom s taken journal → IsOpen journal → Agrees (replay_from s journal) (taken + shots journal) e → LegalFrom s taken (journal ++ e ∷ []) }
+    ensures replayed { (s : State) (journal : List Entry) (e : Entry)
+        → replay_from s (journal ++ e ∷ []) ≡ after (replay_from s journal) e }
+    ensures legal { (s : State) (taken : ℕ) (journal : List Entry) (e : Entry)
+        → LegalFrom s taken journal → IsOpen journal
+        → Agrees (replay_from s journal) (taken + shots journal) e
+        → LegalFrom s taken (journal ++ e ∷ []) }
+    ensures agrees { (s : State) (taken : ℕ) (journal : List Entry) (e : Entry)
+        → LegalFrom s taken (journal ++ e ∷ [])
+        → Agrees (replay_from s journal) (taken + shots journal) e }
+{}
+
+/// A front of a legal journal is legal. Where an entry stands behind it, the last picture was not
+/// taken in it, and that entry agrees with the state that the front leads to and with its shots.
+pub fn fronts_are_legal()
+    ensures legal { (config : Configuration) (front rest : List Entry)
+        → IsLegal config (front ++ rest) → IsLegal config front }
+    ensures unended { (config : Configuration) (front : List Entry) (e : Entry) (rest : List Entry)
+        → IsLegal config (front ++ e ∷ rest) → IsOpen front }
+    ensures agrees { (config : Configuration) (front : List Entry) (e : Entry) (rest : List Entry)
+        → IsLegal config (front ++ e ∷ rest) → Agrees (replay config front) (shots front) e }
+{}
+
+/// Two legal journals of one configuration are equal where their entries are of the same: the same
+/// calls of the same sessions, the same device events, shots and last picture, in the same order.
+pub fn same_acts_same_journal()
+    ensures { (config : Configuration) (js ks : List Entry)
+        → IsLegal config js → IsLegal config ks → map act_of js ≡ map act_of ks → js ≡ ks }
+{}
+
+/// No entry changes the configuration, and whatever happens there is one session for each client.
+pub fn configuration_stays()
+    ensures step { (s : State) (e : Entry) → (after s e).config ≡ s.config }
+    ensures configuration { (config : Configuration) (journal : List Entry)
+        → (replay config journal).config ≡ config }
+    ensures sessions { (config : Configuration) (journal : List Entry)
+        → length (replay config journal).sessions ≡ length config.clients }
 {}
 
 /// An entry of a device event that agrees with the state before it keeps every delivery of the event, in order.
@@ -60,15 +95,15 @@ pub fn releases_follow_presses()
 /// Each session of a legal journal gets the replies of a machine that serves it alone: they come from its
 /// donation, its own calls and the items that were routed to it.
 pub fn isolation()
-    ensures { (config : Configuration) (journal : List Entry) (s : ℕ) → IsLegal config journal → s < length config.clients → replies_to s journal ≡ alone (member config s).donation (projection s journal) }
+    ensures { (config : Configuration) (journal : List Entry) (s : ℕ) → IsLegal config journal → s < length config.clients → replies_to s journal ≡ alone (donation_of config s) (projection s journal) }
 {}
 
 /// Two legal journals, of any two configurations, that give a session the same donation. Where it sees the
 /// same in both, it gets the same replies; and where what it sees in the one goes on in the other, so do its
 /// replies.
 pub fn two_worlds()
-    ensures same { (c d : Configuration) (js ks : List Entry) (s t : ℕ) → IsLegal c js → IsLegal d ks → s < length c.clients → t < length d.clients → (member c s).donation ≡ (member d t).donation → projection s js ≡ projection t ks → replies_to s js ≡ replies_to t ks }
-    ensures longer { (c d : Configuration) (js ks : List Entry) (s t : ℕ) → IsLegal c js → IsLegal d ks → s < length c.clients → t < length d.clients → (member c s).donation ≡ (member d t).donation → (more : List Moment) → projection t ks ≡ projection s js ++ more → (rest : List Reply) × (replies_to t ks ≡ replies_to s js ++ rest) }
+    ensures same { (c d : Configuration) (js ks : List Entry) (s t : ℕ) → IsLegal c js → IsLegal d ks → s < length c.clients → t < length d.clients → donation_of c s ≡ donation_of d t → projection s js ≡ projection t ks → replies_to s js ≡ replies_to t ks }
+    ensures longer { (c d : Configuration) (js ks : List Entry) (s t : ℕ) → IsLegal c js → IsLegal d ks → s < length c.clients → t < length d.clients → donation_of c s ≡ donation_of d t → (more : List Moment) → projection t ks ≡ projection s js ++ more → (rest : List Reply) × (replies_to t ks ≡ replies_to s js ++ rest) }
 {}
 
 /// A call leaves the machine of every other session as it was, and it puts no event into any queue: it can
@@ -83,8 +118,26 @@ pub fn calls_touch_no_other()
 /// and the next handle. So every call but `Take` is answered, and refused for quota or reserve, by its own
 /// donation and calls.
 pub fn quota_is_its_own()
-    ensures machine { (config : Configuration) (journal : List Entry) (s : ℕ) → s < length config.clients → (session (replay config journal) s).status ≡ status.Live → let now = session (replay config journal) s in let by_calls = fold (λ t call. (serve t call).session) (opened (member config s).donation) (calls_of s journal) in now ≡ record by_calls { queue = now.queue; lost = now.lost } }
-    ensures replies { (config : Configuration) (journal : List Entry) (s : ℕ) → s < length config.clients → (session (replay config journal) s).status ≡ status.Live → (call : Call) → call ≢ Take → let by_calls = fold (λ t c. (serve t c).session) (opened (member config s).donation) (calls_of s journal) in (serve (session (replay config journal) s) call).reply ≡ (serve by_calls call).reply }
+    ensures machine { (config : Configuration) (journal : List Entry) (s : ℕ)
+        → s < length config.clients → (session (replay config journal) s).status ≡ status.Live
+        → let now = session (replay config journal) s in
+        now ≡ record (own_machine config s journal) { queue = now.queue; lost = now.lost } }
+    ensures replies { (config : Configuration) (journal : List Entry) (s : ℕ)
+        → s < length config.clients → (session (replay config journal) s).status ≡ status.Live
+        → (call : Call) → call ≢ Take
+        → (serve (session (replay config journal) s) call).reply ≡ (serve (own_machine config s journal) call).reply }
+{}
+
+/// Where a legal journal refuses a call for want of quota or reserve, less is left than the call needs,
+/// and the machine that got the session's own calls before it, and nothing else, refuses it with the same
+/// numbers.
+pub fn refusals_are_its_own()
+    ensures quota { (config : Configuration) (front rest : List Entry) (sid : ℕ) (call : Call) (need left : ℕ)
+        → IsLegal config (front ++ entry.Call sid call (reply.OutOfQuota need left) ∷ rest)
+        → (left < need) × ((serve (own_machine config sid front) call).reply ≡ reply.OutOfQuota need left) }
+    ensures reserve { (config : Configuration) (front rest : List Entry) (sid : ℕ) (call : Call) (need left : ℕ)
+        → IsLegal config (front ++ entry.Call sid call (reply.NoReserve need left) ∷ rest)
+        → (left < need) × ((serve (own_machine config sid front) call).reply ≡ reply.NoReserve need left) }
 {}
 
 /// No call moves the focus, but for an accepted `Close` of the focused session, which leaves none. And a device
