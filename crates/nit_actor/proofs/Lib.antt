@@ -25,3 +25,5 @@ pub mod Walks
 pub mod Whole
 pub mod Roles
 pub mod Pictures
+pub mod InStep
+pub mod OneClient

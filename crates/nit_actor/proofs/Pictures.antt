@@ -58,6 +58,35 @@ files_both Pic front (entry.Shot n ∷ es) fs files more (bytes, others, is, pic
     (bytes, others ++ more, ap (λ (gs : List File). gs ++ more) is, pic,
       files_both Pic (front ++ entry.Shot n ∷ []) es fs others more rest (subst (λ (js : List Entry). ShotsBehind Pic js fs more) (sym (behind front es (entry.Shot n))) are))
 
+-- there are as many as shots
+pub as_many_files : (Pic : Picturing) (front es : List Entry) (files : List File) → ShotsBehind Pic front es files → length files ≡ shots es
+as_many_files Pic front [] files none = ap length none
+as_many_files Pic front (entry.Call s c r ∷ es) files are = as_many_files Pic (front ++ entry.Call s c r ∷ []) es files are
+as_many_files Pic front (entry.Input dev routed ∷ es) files are = as_many_files Pic (front ++ entry.Input dev routed ∷ []) es files are
+as_many_files Pic front (entry.Final ∷ es) files are = as_many_files Pic (front ++ entry.Final ∷ []) es files are
+as_many_files Pic front (entry.Shot n ∷ es) files (bytes, others, is, pic, rest) =
+    ap length is ∙ ap suc (as_many_files Pic (front ++ entry.Shot n ∷ []) es others rest)
+
+-- and the one of a shot is a picture that the entries before it allow
+abbrev HasFile : Picturing → List Entry → ℕ → ℕ → List File → Type 0
+HasFile Pic known at number files = (bytes : List ℕ) × (slice_get files at ≡ Some (shot_name number, bytes)) × Pic known bytes
+
+after_one : (Pic : Picturing) (front es : List Entry) (e : Entry) (at number : ℕ) (files : List File) → HasFile Pic ((front ++ e ∷ []) ++ es) at number files → HasFile Pic (front ++ (e ∷ es)) at number files
+after_one Pic front es e at number files (bytes, there, pic) = (bytes, there, subst (λ (js : List Entry). Pic js bytes) (behind front es e) pic)
+
+pub file_of_a_shot : (Pic : Picturing) (front es rest : List Entry) (number : ℕ) (files : List File) → ShotsBehind Pic front (es ++ entry.Shot number ∷ rest) files → HasFile Pic (front ++ es) (shots es) number files
+file_of_a_shot Pic front [] rest number files (bytes, others, is, pic, more) =
+    (bytes, ap (λ (fs : List File). slice_get fs 0) is, subst (λ (js : List Entry). Pic js bytes) (sym (nothing front)) pic)
+file_of_a_shot Pic front (entry.Call s c r ∷ es) rest number files are =
+    after_one Pic front es (entry.Call s c r) (shots es) number files (file_of_a_shot Pic (front ++ entry.Call s c r ∷ []) es rest number files are)
+file_of_a_shot Pic front (entry.Input dev routed ∷ es) rest number files are =
+    after_one Pic front es (entry.Input dev routed) (shots es) number files (file_of_a_shot Pic (front ++ entry.Input dev routed ∷ []) es rest number files are)
+file_of_a_shot Pic front (entry.Final ∷ es) rest number files are =
+    after_one Pic front es entry.Final (shots es) number files (file_of_a_shot Pic (front ++ entry.Final ∷ []) es rest number files are)
+file_of_a_shot Pic front (entry.Shot n ∷ es) rest number files (bytes, others, is, pic, more) =
+    let (found, there, allowed) = file_of_a_shot Pic (front ++ entry.Shot n ∷ []) es rest number others more in
+    (found, ap (λ (fs : List File). slice_get fs (suc (shots es))) is ∙ there, subst (λ (js : List Entry). Pic js found) (behind front es (entry.Shot n)) allowed)
+
 -- pictures are put, and then further ones
 pub puts_both : (files more : List File) (old mid new : Putting) → PutsAll files old mid → PutsAll more mid new → PutsAll (files ++ more) old new
 puts_both [] more old mid new same rest = subst (λ (x : Putting). PutsAll more x new) same rest
@@ -136,7 +165,7 @@ quiet_phase input next before after' known (between, told) =
     record { more = between; grown = sym told; quiet = none_between input next inputs.Phase before between [] after' known (sym told ∙ sym (nothing (before ++ between))) refl }
 
 pub puts_shot : (parts : Parts) (input : List InputLine) (next number width height : ℕ) (words : List ℕ) (before after' : List Entry) (p q : Putting)
-    → IsNextKnown input next inputs.Shot before after' → TellsShot parts before number after' words → (width, height) ≡ (parts.config.width, parts.config.height)
+    → IsNextKnown input next inputs.Shot before after' → TellsShot parts before number after' words → ◌≡◌ {A = ℕ × ℕ} (width, height) (parts.config.width, parts.config.height)
     → PutsNext (shot_name number, picture width height words) p q → PutsShotsBehind parts before after' p q
 puts_shot parts input next number width height words before after' p q known tells size put =
     let Pic = IsNearPicture parts.config parts.scripts in

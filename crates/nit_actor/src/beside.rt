@@ -85,15 +85,15 @@ impl<'h, 'a, 's, N: Name, K: Calls, S: Store> Own<Pass<'a>, Work<'h, 'a, N, K>>
         × (length after'.desk.text.items ≡ length before.desk.text.items)
         × (after'.desk.store.ghost_name ≡ before.desk.store.ghost_name) };
 
-    fn run_mine<R: Wait>(&mut self, rt: &R, crew: &Work<'h, 'a, N, K>, passes: &mut [Pass<'a>]) {
-        run_turns(
-            rt,
-            crew.hall,
-            crew.calls,
-            passes,
-            &mut self.user,
-            &mut self.desk,
-        );
+    fn run_mine<R: Wait>(
+        self,
+        rt: &R,
+        crew: &Work<'h, 'a, N, K>,
+        passes: &mut [Pass<'a>],
+    ) -> Self {
+        let Mine { mut user, mut desk } = self;
+        run_turns(rt, crew.hall, crew.calls, passes, &mut user, &mut desk);
+        Mine { user, desk }
     }
 }
 
@@ -162,7 +162,8 @@ pub fn run_beside<'a, 's, N: Name + Send + Sync, G: Gate, S: Store, R: Threads +
         hall,
         calls: &calls,
     };
-    let mut mine = run_crew(rt, &crew, raised, passes, waiting, back, mine);
-    run_left(rt, hall, &calls, back, &mut mine.user, &mut mine.desk);
-    mine
+    let mine = run_crew(rt, &crew, raised, passes, waiting, back, mine);
+    let Mine { mut user, mut desk } = mine;
+    run_left(rt, hall, &calls, back, &mut user, &mut desk);
+    Mine { user, desk }
 }

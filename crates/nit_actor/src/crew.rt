@@ -40,11 +40,11 @@ pub(crate) trait Own<P, W: Crew<P>> {
     ghost kept: { Self → Self → Type 0 };
 
     /// Runs the passes whose threads could not be started, by turns with what is the caller's own.
-    fn run_mine<R: Wait>(&mut self, rt: &R, crew: &W, passes: &mut [P])
+    fn run_mine<R: Wait>(self, rt: &R, crew: &W, passes: &mut [P]) -> Self
         requires fits { All (λ p. W.fits (W.role p)) passes.old }
-        requires ready { ready self.old }
+        requires ready { ready self }
         ensures same { map W.role passes.new ≡ map W.role passes.old }
-        ensures kept { kept self.old self.new };
+        ensures kept { kept self result };
 }
 
 /// The pass that comes back has the role of the one that went.
@@ -130,36 +130,37 @@ fn run_rest<
     raised: &'s [AtomicBool],
     passes: &mut Vec<P>,
     waiting: &mut Vec<P>,
-    own: &mut U,
-)
+    own: U,
+) -> U
     requires fits { All (λ p. W.fits (W.role p)) passes.old.items }
     requires waiting { All (λ p. W.fits (W.role p)) waiting.old.items }
-    requires ready { U.ready own.old }
+    requires ready { U.ready own }
     requires flags { vec_len passes.old ≤ length raised.now }
     requires room { vec_len passes.old + vec_len waiting.old ≤ vec_capacity waiting.old }
     ensures passes { map W.role passes.new.items ≡ map W.role passes.old.items }
     ensures waiting { map W.role waiting.new.items ≡ map W.role waiting.old.items }
-    ensures kept { U.kept own.old own.new }
+    ensures kept { U.kept own result }
     ensures passes_room { vec_capacity passes.new ≡ vec_capacity passes.old }
     ensures waiting_room { vec_capacity waiting.new ≡ vec_capacity waiting.old }
 {
     let Some(pass) = passes.pop() else {
-        own.run_mine(rt, crew, waiting.as_mut_slice());
-        return;
+        return own.run_mine(rt, crew, waiting.as_mut_slice());
     };
     let flag = &raised[passes.len()];
     match start::<E, P, W, R>(scope, rt, crew, flag, pass) {
         Started::There(child) => {
-            run_rest(scope, rt, crew, raised, passes, waiting, own);
+            let own = run_rest(scope, rt, crew, raised, passes, waiting, own);
             passes.push_reserved(child.join(rt));
+            own
         }
         Started::Here(pass) => {
             waiting.push_reserved(pass);
-            run_rest(scope, rt, crew, raised, passes, waiting, own);
+            let own = run_rest(scope, rt, crew, raised, passes, waiting, own);
             let Some(pass) = waiting.pop() else {
                 unreachable!()
             };
             passes.push_reserved(pass);
+            own
         }
     }
 }
@@ -196,16 +197,7 @@ fn run_all<P: Send + Drop, U: Own<P, W> + Drop, W: Crew<P> + Sync, R: Threads + 
         {
             let mut passes = passes;
             let mut waiting = waiting;
-            let mut own = own;
-            run_rest(
-                scope,
-                rt,
-                crew,
-                raised,
-                &mut passes,
-                &mut waiting,
-                &mut own,
-            );
+            let own = run_rest(scope, rt, crew, raised, &mut passes, &mut waiting, own);
             (passes, own)
         },
     )

@@ -91,22 +91,24 @@ fn do_turn<'a, N: Name, K: Calls, R: Wait>(
     ensures fits { All (λ p. IsRoleIn N.parts (role_of p)) passes.new }
 {
     'passes: for pass in passes.iter_mut() {
-        if pass.phase() == phase {
-            do_next(rt, hall, calls, pass);
-        }
+        do_pass_turn(rt, hall, calls, pass, phase);
     }
 }
 
-/// Does the next line of a pass, where it has one.
-fn do_next<'a, N: Name, K: Calls, R: Wait>(
+/// The pass does its next line, if it has one and is in this phase.
+fn do_pass_turn<'a, N: Name, K: Calls, R: Wait>(
     rt: &R,
     hall: &Hall<'a, N>,
     calls: &K,
     pass: &mut Pass<'a>,
+    phase: u32,
 )
     requires fits { IsRoleIn N.parts (role_of pass.old) }
     ensures same { role_of pass.new ≡ role_of pass.old }
 {
+    if pass.phase() != phase {
+        return;
+    }
     if let Some(line) = pass.next() {
         do_line(rt, hall, calls, pass, &line, true);
     }
