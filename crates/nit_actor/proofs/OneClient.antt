@@ -1,7 +1,7 @@
 -- A run of one client, whose user does nothing but end phases, is by rounds.
 use Rattle.std.proofs.Common.{◌≡◌, ◌∙◌, ℕ, zero, suc, ◌+◌, ◌<◌, ◌==◌, Bool, true, false, List, [], ◌∷◌, ◌++◌, length, map, get_or, refl, sym, ap, subst, arith}
 use Rattle.std.specs.Prelude.{if◌then◌else◌}
-use Rattle.std.proofs.lemmas.Bool.{eq-eqb}
+use Rattle.std.proofs.lemmas.Bool.{eq-eqb, ne_eqb}
 use Rattle.nit_events.specs.declared.call.Call.{Call}
 use Rattle.nit_events.specs.declared.entry.Entry.{Entry}
 use Rattle.nit_events.specs.declared.entry.Entry.TheVariants as entry
@@ -26,6 +26,13 @@ some_line : (l : Line) (ls : List Line) (b : Bool) → b ≡ true → (if b then
 some_line l ls true e none = cc
 some_line l ls false e none = absurd (cc)
 
+other_line : (l : Line) (ls : List Line) (b : Bool) → b ≡ false → (if b then l ∷ [] else []) ++ ls ≡ [] → ls ≡ []
+other_line l ls true e none = absurd (cc)
+other_line l ls false e none = none
+
+first_alone : (l : Line) (ms : List Move) → ((t : ℕ) → line_by (suc t) (ByClient zero l) ++ lines_of (suc t) ms ≡ []) → (t : ℕ) → lines_of (suc t) ms ≡ []
+first_alone l ms others t = other_line l (lines_of (suc t) ms) (zero == suc t) (ne_eqb zero (suc t) (λ e. absurd (omega (arith, e)))) (others t)
+
 some_deed : (d : ℕ × Deed) (ds : List (ℕ × Deed)) → d ∷ ds ≡ [] → ⊥
 some_deed d ds e = cc
 
@@ -35,9 +42,9 @@ IsAlone ms = (p q : ℕ) → ((t : ℕ) → lines_of (suc t) ms ≡ []) → deed
 
 one_more : (d : Doing) (ms : List Move) → IsAlone ms → (p q : ℕ) → ((t : ℕ) → line_by (suc t) d ++ lines_of (suc t) ms ≡ []) → deeds_from q (input_by_user d ++ input_of ms) ≡ []
     → acts_of d ++ acts ms ≡ map (Calls 0) (done (calls_from p (line_by 0 d ++ lines_of 0 ms)))
-one_more (ByClient zero (line.Call c)) ms rest p q others idle = ap (λ (xs : List Act). Calls 0 c ∷ xs) (rest p q others idle)
-one_more (ByClient zero (line.Stroke s)) ms rest p q others idle = rest p q others idle
-one_more (ByClient zero line.Phase) ms rest p q others idle = rest (suc p) q others idle
+one_more (ByClient zero (line.Call c)) ms rest p q others idle = ap (λ (xs : List Act). Calls 0 c ∷ xs) (rest p q (first_alone (line.Call c) ms others) idle)
+one_more (ByClient zero (line.Stroke s)) ms rest p q others idle = rest p q (first_alone (line.Stroke s) ms others) idle
+one_more (ByClient zero line.Phase) ms rest p q others idle = rest (suc p) q (first_alone line.Phase ms others) idle
 one_more (ByClient (suc s) l) ms rest p q others idle = absurd (some_line l (lines_of (suc s) ms) (suc s == suc s) (eq-eqb (suc s) (suc s) refl) (others s))
 one_more (ByUser (input.Device d)) ms rest p q others idle = absurd (some_deed _ _ idle)
 one_more (ByUser input.Shot) ms rest p q others idle = absurd (some_deed _ _ idle)
