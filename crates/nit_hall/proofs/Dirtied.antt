@@ -41,7 +41,7 @@ pub last_is_last : (config : Configuration) (journal : List Entry) (e : Entry) (
 last_is_last config journal e k front f rest is last = ⊎_elim
     (λ (a : (front ≡ journal) × (f ≡ e) × (rest ≡ [])). a)
     (λ (b : (less : List Entry) × (rest ≡ less ++ e ∷ []) × (journal ≡ front ++ f ∷ less)).
-        absurd (true_false (is_dirtied config journal e k) is (subst (λ (js : List Entry). is_dirtied config js e k ≡ false) (sym b.2) (last.clean_behind b.0 e [] b.1))))
+    absurd (true_false (is_dirtied config journal e k) is (subst (λ (js : List Entry). is_dirtied config js e k ≡ false) (sym b.2) (last.clean_behind b.0 e [] b.1))))
     (split_last front f rest journal e (sym last.split))
 
 -- where an entry leaves the pixel clean, the last one that made it dirty stands in front of it
@@ -49,7 +49,7 @@ pub last_before : (config : Configuration) (journal : List Entry) (e : Entry) (k
     → IsLastDirtied config (journal ++ e ∷ []) k front f rest → (less : List Entry) × IsLastDirtied config journal k front f less
 last_before config journal e k front f rest clean last = ⊎_elim
     (λ (a : (front ≡ journal) × (f ≡ e) × (rest ≡ [])).
-        absurd (true_false (is_dirtied config journal e k) (subst (λ (x : Entry). is_dirtied config journal x k ≡ true) a.1 (subst (λ (js : List Entry). is_dirtied config js f k ≡ true) a.0 last.dirty_here)) clean))
+    absurd (true_false (is_dirtied config journal e k) (subst (λ (x : Entry). is_dirtied config journal x k ≡ true) a.1 (subst (λ (js : List Entry). is_dirtied config js f k ≡ true) a.0 last.dirty_here)) clean))
     (λ (b : (less : List Entry) × (rest ≡ less ++ e ∷ []) × (journal ≡ front ++ f ∷ less)). (
       b.0,
       record {
@@ -91,11 +91,11 @@ last_more config journal e k front f rest clean last =
       split = ap (λ (js : List Entry). js ++ e ∷ []) last.split ∙ append_assoc front (f ∷ rest) (e ∷ []);
       dirty_here = last.dirty_here;
       clean_behind = λ between g more at. ⊎_elim
-      (λ (a : (between ≡ rest) × (g ≡ e) × (more ≡ [])).
+          (λ (a : (between ≡ rest) × (g ≡ e) × (more ≡ [])).
           subst (λ (x : Entry). is_dirtied config (front ++ f ∷ between) x k ≡ false) (sym a.1)
           (subst (λ (js : List Entry). is_dirtied config (front ++ f ∷ js) e k ≡ false) (sym a.0) (subst (λ (js : List Entry). is_dirtied config js e k ≡ false) last.split clean)))
-      (λ (b : (less : List Entry) × (more ≡ less ++ e ∷ []) × (rest ≡ between ++ g ∷ less)). last.clean_behind between g b.0 b.2)
-      (split_last between g more rest e (sym at));
+          (λ (b : (less : List Entry) × (more ≡ less ++ e ∷ []) × (rest ≡ between ++ g ∷ less)). last.clean_behind between g b.0 b.2)
+          (split_last between g more rest e (sym at));
     }
 
 found_more : (config : Configuration) (journal : List Entry) (e : Entry) (k : ℕ) → NoneDirties config journal k ⊎ OneIsLast config journal k → NoneDirties config (journal ++ e ∷ []) k ⊎ OneIsLast config (journal ++ e ∷ []) k
@@ -143,9 +143,9 @@ pub one_last : (config : Configuration) (journal : List Entry) (k : ℕ) (front 
 one_last config journal k front other_front e other rest other_rest a b = ⊎_elim
     (λ (x : (front ≡ other_front) × (e ≡ other) × (rest ≡ other_rest)). x)
     (λ (m : ((between : List Entry) × (rest ≡ between ++ other ∷ other_rest) × (other_front ≡ front ++ e ∷ between)) ⊎ ((between : List Entry) × (other_rest ≡ between ++ e ∷ rest) × (front ≡ other_front ++ other ∷ between))). ⊎_elim
-        (λ (x : (between : List Entry) × (rest ≡ between ++ other ∷ other_rest) × (other_front ≡ front ++ e ∷ between)).
-            absurd (true_false (is_dirtied config other_front other k) b.dirty_here (subst (λ (js : List Entry). is_dirtied config js other k ≡ false) (sym x.2) (a.clean_behind x.0 other other_rest x.1))))
-        (λ (y : (between : List Entry) × (other_rest ≡ between ++ e ∷ rest) × (front ≡ other_front ++ other ∷ between)).
-            absurd (true_false (is_dirtied config front e k) a.dirty_here (subst (λ (js : List Entry). is_dirtied config js e k ≡ false) (sym y.2) (b.clean_behind y.0 e rest y.1))))
-        m)
+    (λ (x : (between : List Entry) × (rest ≡ between ++ other ∷ other_rest) × (other_front ≡ front ++ e ∷ between)).
+    absurd (true_false (is_dirtied config other_front other k) b.dirty_here (subst (λ (js : List Entry). is_dirtied config js other k ≡ false) (sym x.2) (a.clean_behind x.0 other other_rest x.1))))
+    (λ (y : (between : List Entry) × (other_rest ≡ between ++ e ∷ rest) × (front ≡ other_front ++ other ∷ between)).
+    absurd (true_false (is_dirtied config front e k) a.dirty_here (subst (λ (js : List Entry). is_dirtied config js e k ≡ false) (sym y.2) (b.clean_behind y.0 e rest y.1))))
+    m)
     (two_places front e rest other_front other other_rest (sym a.split ∙ b.split))

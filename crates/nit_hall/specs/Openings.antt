@@ -7,12 +7,11 @@ use Rattle.nit_config.specs.Configuration.{Configuration}
 use Rattle.nit_plan.specs.Plans.{table_size}
 use Rattle.nit_plan.specs.Steps.{Planned, IsPlanOf}
 use Rattle.nit_pixels.specs.Ends.{End, new_sight, reader_sight}
-use Rattle.nit_pixels.specs.declared.standing.Standing.{Standing}
 use Rattle.nit_ledger.specs.Books.{BookName}
 use Rattle.nit_hall.specs.Parts.{Parts, plan_in, script_in, donation_of}
 use Rattle.nit_hall.specs.Lines.{lines_of_all}
 use Rattle.nit_hall.specs.Passes.{PassModel, UserPassModel}
-use Rattle.nit_hall.specs.Rooms.{RoomModel, lenses, stands}
+use Rattle.nit_hall.specs.Rooms.{RoomModel}
 
 -- there are a script and a plan for each client, in order, and each plan is of its script
 pub record IsSetting (config : Configuration) (scripts : List (List Line)) (plans : List Planned)

@@ -1,5 +1,5 @@
 -- What contracts see of a room, and what holds of it.
-use Rattle.std.specs.Prelude.{◌≡◌, ◌⊎◌, ℕ, ◌+◌, ◌-◌, ◌<◌, ◌≤◌, ◌==◌, if◌then◌else◌, Bool}
+use Rattle.std.specs.Prelude.{◌≡◌, ◌⊎◌, ℕ, ◌+◌, ◌-◌, ◌<◌, ◌≤◌, ◌==◌, if◌then◌else◌}
 use Rattle.std.specs.Prelude.{List, [], ◌∷◌, ◌++◌, length, map, sum, take, count_by, slice_index}
 use Rattle.std.specs.List.Sorted.{IsNonDecreasing}
 use Rattle.nit_word.specs.Sight.{Sight}
@@ -107,7 +107,7 @@ pub record Follows (scripts : List (List Line)) (input : List InputLine) (counts
 abbrev pub AllServed : List (List Line) → List InputLine → List ℕ → Type 0
 AllServed scripts input counts =
     ((t : ℕ) → t < length scripts
-        → slice_index counts t ≡ length (served (script_in scripts t)))
+    → slice_index counts t ≡ length (served (script_in scripts t)))
     × (slice_index counts (length scripts) ≡ length input)
 
 -- how many phases each client has ended by its count, in order, and last how many the user has

@@ -75,9 +75,9 @@ impl<'a, N: Name> Kept<'a, N> {
         ensures told { Tells pass.old.seen (call_entry pass.old result) pass.new.seen }
         ensures legal { IsLegal N.parts.config pass.new.seen }
         ensures pass { pass.new ≡ record pass.old {
-            next = pass.old.next + 1;
-            seen = pass.new.seen;
-            sight = pass.new.sight;
+          next = pass.old.next + 1;
+          seen = pass.new.seen;
+          sight = pass.new.sight;
         } }
     {
         self.room.serve(pass)
@@ -90,9 +90,9 @@ impl<'a, N: Name> Kept<'a, N> {
         ensures grows { IsPrefix pass.old.seen pass.new.seen }
         ensures legal { IsLegal N.parts.config pass.new.seen }
         ensures pass { pass.new ≡ record pass.old {
-            next = pass.old.next + 1;
-            phase = pass.old.phase + 1;
-            seen = pass.new.seen;
+          next = pass.old.next + 1;
+          phase = pass.old.phase + 1;
+          seen = pass.new.seen;
         } }
     {
         self.room.arrive(pass);
@@ -117,9 +117,9 @@ impl<'a, N: Name> Kept<'a, N> {
         ensures grows { IsPrefix user.old.seen user.new.seen }
         ensures legal { IsLegal N.parts.config user.new.seen }
         ensures user { user.new ≡ record user.old {
-            next = user.old.next + 1;
-            phase = user.old.phase + 1;
-            seen = user.new.seen;
+          next = user.old.next + 1;
+          phase = user.old.phase + 1;
+          seen = user.new.seen;
         } }
     {
         self.room.arrive_user(user);
@@ -173,9 +173,9 @@ impl<'a, N: Name> Hall<'a, N> {
         ensures told { Tells pass.old.seen (call_entry pass.old result) pass.new.seen }
         ensures legal { IsLegal N.parts.config pass.new.seen }
         ensures pass { pass.new ≡ record pass.old {
-            next = pass.old.next + 1;
-            seen = pass.new.seen;
-            sight = pass.new.sight;
+          next = pass.old.next + 1;
+          seen = pass.new.seen;
+          sight = pass.new.sight;
         } }
     {
         let mut kept = self
@@ -192,9 +192,9 @@ impl<'a, N: Name> Hall<'a, N> {
         ensures grows { IsPrefix pass.old.seen pass.new.seen }
         ensures legal { IsLegal N.parts.config pass.new.seen }
         ensures pass { pass.new ≡ record pass.old {
-            next = pass.old.next + 1;
-            phase = pass.old.phase + 1;
-            seen = pass.new.seen;
+          next = pass.old.next + 1;
+          phase = pass.old.phase + 1;
+          seen = pass.new.seen;
         } }
     {
         let mut kept = self
@@ -229,9 +229,9 @@ impl<'a, N: Name> Hall<'a, N> {
         ensures grows { IsPrefix user.old.seen user.new.seen }
         ensures legal { IsLegal N.parts.config user.new.seen }
         ensures user { user.new ≡ record user.old {
-            next = user.old.next + 1;
-            phase = user.old.phase + 1;
-            seen = user.new.seen;
+          next = user.old.next + 1;
+          phase = user.old.phase + 1;
+          seen = user.new.seen;
         } }
     {
         let mut kept = self

@@ -93,17 +93,17 @@ impl<'a> Room<'a> {
         requires inks { HaveInks scripts.now scene.glasses }
         requires counts { book.counts ≡ replicate (length scripts.now + 1) 0 }
         ensures { result ≡ record {
-            parts = record {
-              name = book.name;
-              config = scene.entry.config;
-              scripts = scripts.entry.now;
-              plans = plans.entry.now;
-              input = input.entry.now;
-            };
-            scene = scene.entry;
-            counts = book.counts;
-            phase = 0;
-            arrived = 0;
+          parts = record {
+            name = book.name;
+            config = scene.entry.config;
+            scripts = scripts.entry.now;
+            plans = plans.entry.now;
+            input = input.entry.now;
+          };
+          scene = scene.entry;
+          counts = book.counts;
+          phase = 0;
+          arrived = 0;
         } }
     {
         Room {

@@ -50,12 +50,12 @@ impl<'a> UserPass<'a> {
     pub(crate) fn new(input: &'a Input, share: Share) -> UserPass<'a>
         requires { (share.count ≡ 0) × (share.seen ≡ []) }
         ensures { result ≡ record {
-            number = share.number;
-            next = 0;
-            phase = 0;
-            name = share.name;
-            input = input.entry.now;
-            seen = share.seen;
+          number = share.number;
+          next = 0;
+          phase = 0;
+          name = share.name;
+          input = input.entry.now;
+          seen = share.seen;
         } }
     {
         UserPass {

@@ -34,9 +34,9 @@ impl<'a> Room<'a> {
         ensures room { self.new ≡ with_entry self.old pass.old.sid (call_entry pass.old result)
             self.new.scene.raw self.new.scene.glasses }
         ensures pass { pass.new ≡ record pass.old {
-            next = pass.old.next + 1;
-            seen = self.new.scene.entries;
-            sight = pass.new.sight;
+          next = pass.old.next + 1;
+          seen = self.new.scene.entries;
+          sight = pass.new.sight;
         } }
         ensures before { IsPrefix pass.old.seen self.old.scene.entries }
         ensures counted { slice_index self.old.counts pass.old.sid
@@ -61,12 +61,7 @@ impl<'a> Room<'a> {
         clean_pixels_keep_their_source();
         self.meet(pass);
         let call = pass.next_call();
-        stroke(
-            &mut pass.canvas,
-            pass.script,
-            pass.plan,
-            pass.next as usize,
-        );
+        stroke(&mut pass.canvas, pass.script, pass.plan, pass.next as usize);
         let reply = self.scene.call(pass.sid, &call, &mut pass.canvas);
         let entry = Entry::Call {
             sid: pass.sid,

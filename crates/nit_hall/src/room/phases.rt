@@ -21,9 +21,9 @@ impl<'a> Room<'a> {
         requires next { IsAtPhase pass.old }
         ensures room { self.new ≡ arrived_one self.old pass.old.sid }
         ensures pass { pass.new ≡ record pass.old {
-            next = pass.old.next + 1;
-            phase = pass.old.phase + 1;
-            seen = self.old.scene.entries;
+          next = pass.old.next + 1;
+          phase = pass.old.phase + 1;
+          seen = self.old.scene.entries;
         } }
         ensures before { IsPrefix pass.old.seen self.old.scene.entries }
         ensures counted { slice_index self.old.counts pass.old.sid
@@ -47,9 +47,9 @@ impl<'a> Room<'a> {
         requires next { IsAtUserPhase user.old }
         ensures room { self.new ≡ arrived_one self.old (length self.old.parts.scripts) }
         ensures user { user.new ≡ record user.old {
-            next = user.old.next + 1;
-            phase = user.old.phase + 1;
-            seen = self.old.scene.entries;
+          next = user.old.next + 1;
+          phase = user.old.phase + 1;
+          seen = self.old.scene.entries;
         } }
         ensures before { IsPrefix user.old.seen self.old.scene.entries }
         ensures counted { slice_index self.old.counts (length self.old.parts.scripts)

@@ -1,5 +1,3 @@
-use Rattle.std.proofs.Common.{◌≡◌, ◌∙◌, ℕ, List, ap, sym}
-use Rattle.nit_hall.specs.Passes.{PassModel}
 use Rattle.nit_hall.proofs.Serving.{pass_met}
 use Rattle.nit_hall.proofs.room.Room.meet.Goals as goal
 
