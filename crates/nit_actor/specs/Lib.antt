@@ -1,8 +1,10 @@
 pub use Rattle.nit_script.specs.Spelling
 pub use Rattle.nit_script.specs.Phases
+pub use Rattle.nit_config.specs.Configuration
 pub use Rattle.nit_journal.specs.Whole
 pub use Rattle.nit_plan.specs.Calls
 pub use Rattle.nit_plan.specs.Steps
+pub use Rattle.nit_plan.specs.Sessions
 pub use Rattle.nit_scene.specs.Played
 pub use Rattle.nit_report.specs.Picture
 pub use Rattle.nit_store.specs.Answers

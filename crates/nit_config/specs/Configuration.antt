@@ -23,6 +23,10 @@ bar_rows config = if config.bar then 7 else 0
 abbrev pub member : Configuration → ℕ → Member
 member config session = slice_index_or config.clients session (record { label = []; donation = 0; script = []; layer = 0; clicks = false })
 
+-- what a session opens with, in units
+abbrev pub donation_of : Configuration → ℕ → ℕ
+donation_of config session = (member config session).donation
+
 -- the configuration of a picture of one client's script, on a screen of this size
 abbrev pub still_configuration : ℕ → ℕ → Configuration
 still_configuration width height =

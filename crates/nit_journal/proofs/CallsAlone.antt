@@ -1,7 +1,7 @@
 -- While a session is live, the user's input is seen in its queue and its losses alone. The rest of it is as its
 -- calls alone would have it.
 use Rattle.std.proofs.Common.{◌≡◌, ℕ, ◌+◌, ◌<◌, Bool, true, false, List, [], ◌∷◌, ◌++◌, length, Option, Some, None, refl, sym, ap, subst, ◌∙◌, inl, inr}
-use Rattle.std.specs.Prelude.{nat_lt, fold, if◌then◌else◌}
+use Rattle.std.specs.Prelude.{nat_lt, if◌then◌else◌}
 use Rattle.std.proofs.lemmas.Bool.{eq-eqb, ne_eqb, cases_eq}
 use Rattle.nit_events.specs.declared.event.Event.{Event}
 use Rattle.nit_events.specs.declared.event.Delivery.{Delivery}
@@ -14,10 +14,11 @@ use Rattle.nit_events.specs.declared.call.Call.TheVariants.{Take}
 use Rattle.nit_events.specs.declared.call.Reply.{Reply}
 use Rattle.nit_events.specs.declared.entry.Entry.{Entry}
 use Rattle.nit_events.specs.declared.entry.Entry.TheVariants as entry
-use Rattle.nit_config.specs.Configuration.{Configuration, member}
-use Rattle.nit_journal.specs.Session.{Session, opened, ◌orelse◌, by_status, by_call, refusal, taking, accepted, by_refusal, serve, by_life, receive}
+use Rattle.nit_config.specs.Configuration.{Configuration, donation_of}
+use Rattle.nit_journal.specs.Session.{Session, opened, ◌orelse◌, by_status, by_call, refusal, taking, accepted, by_refusal, serve, after_calls, by_life, receive}
 use Rattle.nit_journal.specs.State.{State, opening, session_in, session, delivered, route, after}
 use Rattle.nit_journal.specs.Journals.{replay_from, replay}
+use Rattle.nit_journal.specs.Projections.{own_machine}
 use Rattle.nit_journal.specs.Whole.{calls_of}
 use Rattle.nit_journal.proofs.Sessions.{opens, there_at_first, call_of_its_own, call_of_another, handed, still_handed, handed_to_it, handed_to_another, still_there}
 
@@ -103,11 +104,7 @@ matches_delivered (d ∷ ds) sessions u x lt h =
       | inr other ↦ subst (λ (t : Session). Matches t u) (sym (handed_to_another d sessions x other)) h
     ])
 
--- a machine that gets calls alone
-abbrev by_calls : Session → List Call → Session
-by_calls u calls = fold (λ t call. (serve t call).session) u calls
-
-matches_replayed : (journal : List Entry) (s : State) (u : Session) (x : ℕ) → x < length s.sessions → Matches (session s x) u → Matches (session (replay_from s journal) x) (by_calls u (calls_of x journal))
+matches_replayed : (journal : List Entry) (s : State) (u : Session) (x : ℕ) → x < length s.sessions → Matches (session s x) u → Matches (session (replay_from s journal) x) (after_calls u (calls_of x journal))
 matches_replayed [] s u x lt h = h
 matches_replayed (entry.Input dev routed ∷ rest) s u x lt h =
     matches_replayed rest (after s (entry.Input dev routed)) u x (still_there s (entry.Input dev routed) x lt) (matches_delivered (route s.config s.input s.stack dev).deliveries s.sessions u x lt h)
@@ -126,17 +123,17 @@ matches_replayed (entry.Call sid call r ∷ rest) s u x lt h =
           rw (ne_eqb sid x other) (matches_replayed rest (after s e) u x there here)
     ]
 
-matches_calls : (config : Configuration) (journal : List Entry) (s : ℕ) → s < length config.clients → Matches (session (replay config journal) s) (by_calls (opened (member config s).donation) (calls_of s journal))
-matches_calls config journal s lt = matches_replayed journal (opening config) (opened (member config s).donation) s (there_at_first config s lt) (λ live. ap quiet (opens config s lt))
+matches_calls : (config : Configuration) (journal : List Entry) (s : ℕ) → s < length config.clients → Matches (session (replay config journal) s) (own_machine config s journal)
+matches_calls config journal s lt = matches_replayed journal (opening config) (opened (donation_of config s)) s (there_at_first config s lt) (λ live. ap quiet (opens config s lt))
 
 pub as_its_calls_have_it : (config : Configuration) (journal : List Entry) (s : ℕ) → s < length config.clients → (session (replay config journal) s).status ≡ status.Live
-    → session (replay config journal) s ≡ record (by_calls (opened (member config s).donation) (calls_of s journal)) { queue = (session (replay config journal) s).queue; lost = (session (replay config journal) s).lost }
+    → session (replay config journal) s ≡ record (own_machine config s journal) { queue = (session (replay config journal) s).queue; lost = (session (replay config journal) s).lost }
 as_its_calls_have_it config journal s lt live =
     let now = session (replay config journal) s in
     ap (λ (t : Session). record t { queue = now.queue; lost = now.lost }) (matches_calls config journal s lt live)
 
 pub answered_alike : (config : Configuration) (journal : List Entry) (s : ℕ) → s < length config.clients → (session (replay config journal) s).status ≡ status.Live
-    → (call : Call) → (call ≡ Take → ⊥) → (serve (session (replay config journal) s) call).reply ≡ (serve (by_calls (opened (member config s).donation) (calls_of s journal)) call).reply
+    → (call : Call) → (call ≡ Take → ⊥) → (serve (session (replay config journal) s) call).reply ≡ (serve (own_machine config s journal) call).reply
 answered_alike config journal s lt live call h =
-    let calls = by_calls (opened (member config s).donation) (calls_of s journal) in
-    replied (session (replay config journal) s) call h ∙ ap (λ (t : Session). (serve t call).reply) (matches_calls config journal s lt live) ∙ sym (replied calls call h)
+    let own = own_machine config s journal in
+    replied (session (replay config journal) s) call h ∙ ap (λ (t : Session). (serve t call).reply) (matches_calls config journal s lt live) ∙ sym (replied own call h)

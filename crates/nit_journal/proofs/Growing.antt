@@ -1,10 +1,11 @@
--- Journals that grow at their end.
-use Rattle.std.proofs.Common.{◌≡◌, ℕ, ◌+◌, suc, List, [], ◌∷◌, ◌++◌, refl, subst, arith}
+-- Journals that grow at their end, and fronts of journals.
+use Rattle.std.proofs.Common.{◌≡◌, ℕ, ◌+◌, suc, List, [], ◌∷◌, ◌++◌, refl, subst, arith, zero-add}
 use Rattle.std.proofs.lemmas.List.Sums.{fold-append}
 use Rattle.nit_events.specs.declared.entry.Entry.{Entry}
 use Rattle.nit_events.specs.declared.entry.Entry.TheVariants as entry
-use Rattle.nit_journal.specs.State.{State, after}
-use Rattle.nit_journal.specs.Journals.{replay_from, LegalFrom, Agrees, IsOpen, shots}
+use Rattle.nit_config.specs.Configuration.{Configuration}
+use Rattle.nit_journal.specs.State.{State, opening, after}
+use Rattle.nit_journal.specs.Journals.{replay_from, replay, LegalFrom, IsLegal, Agrees, IsOpen, shots}
 
 pub replay_more : (s : State) (journal : List Entry) (e : Entry) → replay_from s (journal ++ e ∷ []) ≡ after (replay_from s journal) e
 replay_more s journal e = fold-append after s journal (e ∷ [])
@@ -26,3 +27,47 @@ legal_more s taken (entry.Shot n ∷ rest) e legal open_yet agrees =
     let counted : taken + suc (shots rest) ≡ (taken + 1) + shots rest = omega arith in
     (legal.0, legal_more s (taken + 1) rest e legal.1 open_yet (subst (λ (n : ℕ). Agrees (replay_from s rest) n e) counted agrees))
 legal_more s taken (entry.Final ∷ rest) e legal open_yet agrees = absurd open_yet
+
+-- ---- fronts
+
+none_in_front : (front rest : List Entry) → front ++ rest ≡ [] → front ≡ []
+none_in_front [] rest none = refl
+none_in_front (j ∷ front) rest none = cc
+
+some_behind : (front : List Entry) (e : Entry) (rest : List Entry) → front ++ e ∷ rest ≡ [] → ⊥
+some_behind [] e rest none = cc
+some_behind (j ∷ front) e rest none = cc
+
+pub front_legal : (s : State) (taken : ℕ) (front rest : List Entry) → LegalFrom s taken (front ++ rest) → LegalFrom s taken front
+front_legal s taken [] rest legal = tt
+front_legal s taken (entry.Call sid call r ∷ front) rest legal = (legal.0, front_legal (after s (entry.Call sid call r)) taken front rest legal.1)
+front_legal s taken (entry.Input dev routed ∷ front) rest legal = (legal.0, front_legal (after s (entry.Input dev routed)) taken front rest legal.1)
+front_legal s taken (entry.Shot number ∷ front) rest legal = (legal.0, front_legal s (taken + 1) front rest legal.1)
+front_legal s taken (entry.Final ∷ front) rest legal = none_in_front front rest legal
+
+pub front_open : (s : State) (taken : ℕ) (front : List Entry) (e : Entry) (rest : List Entry) → LegalFrom s taken (front ++ e ∷ rest) → IsOpen front
+front_open s taken [] e rest legal = tt
+front_open s taken (entry.Call sid call r ∷ front) e rest legal = front_open (after s (entry.Call sid call r)) taken front e rest legal.1
+front_open s taken (entry.Input dev routed ∷ front) e rest legal = front_open (after s (entry.Input dev routed)) taken front e rest legal.1
+front_open s taken (entry.Shot number ∷ front) e rest legal = front_open s (taken + 1) front e rest legal.1
+front_open s taken (entry.Final ∷ front) e rest legal = absurd (some_behind front e rest legal)
+
+first_agrees : (s : State) (taken : ℕ) (e : Entry) (rest : List Entry) → LegalFrom s taken (e ∷ rest) → Agrees s taken e
+first_agrees s taken (entry.Call sid call r) rest legal = legal.0
+first_agrees s taken (entry.Input dev routed) rest legal = legal.0
+first_agrees s taken (entry.Shot number) rest legal = legal.0
+first_agrees s taken entry.Final rest legal = tt
+
+pub next_agrees : (s : State) (taken : ℕ) (front : List Entry) (e : Entry) (rest : List Entry) → LegalFrom s taken (front ++ e ∷ rest) → Agrees (replay_from s front) (taken + shots front) e
+next_agrees s taken [] e rest legal =
+    let none : taken ≡ taken + 0 = omega arith in
+    subst (λ (n : ℕ). Agrees s n e) none (first_agrees s taken e rest legal)
+next_agrees s taken (entry.Call sid call r ∷ front) e rest legal = next_agrees (after s (entry.Call sid call r)) taken front e rest legal.1
+next_agrees s taken (entry.Input dev routed ∷ front) e rest legal = next_agrees (after s (entry.Input dev routed)) taken front e rest legal.1
+next_agrees s taken (entry.Shot number ∷ front) e rest legal =
+    let counted : (taken + 1) + shots front ≡ taken + suc (shots front) = omega arith in
+    subst (λ (n : ℕ). Agrees (replay_from s front) n e) counted (next_agrees s (taken + 1) front e rest legal.1)
+next_agrees s taken (entry.Final ∷ front) e rest legal = absurd (some_behind front e rest legal)
+
+pub agrees_behind : (config : Configuration) (front : List Entry) (e : Entry) (rest : List Entry) → IsLegal config (front ++ e ∷ rest) → Agrees (replay config front) (shots front) e
+agrees_behind config front e rest legal = subst (λ (n : ℕ). Agrees (replay config front) n e) (zero-add (shots front)) (next_agrees (opening config) 0 front e rest legal)

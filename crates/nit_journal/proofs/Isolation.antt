@@ -9,7 +9,7 @@ use Rattle.nit_events.specs.declared.call.Reply.{Reply}
 use Rattle.nit_events.specs.declared.entry.Entry.{Entry}
 use Rattle.nit_events.specs.declared.entry.Entry.TheVariants as entry
 use Rattle.nit_events.specs.Input.{deliveries_of}
-use Rattle.nit_config.specs.Configuration.{Configuration, member}
+use Rattle.nit_config.specs.Configuration.{Configuration, donation_of}
 use Rattle.nit_journal.specs.Session.{Session, opened, serve, receive}
 use Rattle.nit_journal.specs.State.{State, opening, session_in, session, delivered, route, after}
 use Rattle.nit_journal.specs.Journals.{Agrees, LegalFrom, IsLegal}
@@ -65,7 +65,7 @@ isolated s taken (entry.Call sid call r ∷ rest) x legal lt =
           rw (ne_eqb sid x other) theirs
     ]
 
-pub served_alone : (config : Configuration) (journal : List Entry) (s : ℕ) → IsLegal config journal → s < length config.clients → replies_to s journal ≡ alone (member config s).donation (projection s journal)
+pub served_alone : (config : Configuration) (journal : List Entry) (s : ℕ) → IsLegal config journal → s < length config.clients → replies_to s journal ≡ alone (donation_of config s) (projection s journal)
 served_alone config journal s legal lt = isolated (opening config) 0 journal s legal (there_at_first config s lt) ∙ ap (λ (t : Session). replies_from t (projection s journal)) (opens config s lt)
 
 -- ---- two worlds
@@ -79,15 +79,15 @@ longer t (Calls call ∷ moments) more =
 longer t (Gets i ∷ moments) more = longer (receive t i) moments more
 
 pub two_fronts : (c d : Configuration) (js ks : List Entry) (s t : ℕ) → IsLegal c js → IsLegal d ks → s < length c.clients → t < length d.clients
-    → (member c s).donation ≡ (member d t).donation → (more : List Moment) → projection t ks ≡ projection s js ++ more
+    → donation_of c s ≡ donation_of d t → (more : List Moment) → projection t ks ≡ projection s js ++ more
     → (rest : List Reply) × (replies_to t ks ≡ replies_to s js ++ rest)
 two_fronts c d js ks s t p q lt ld same more longer_by =
-    let there = longer (opened (member d t).donation) (projection s js) more in
-    let mine : replies_to s js ≡ alone (member d t).donation (projection s js) = served_alone c js s p lt ∙ ap (λ (n : ℕ). alone n (projection s js)) same in
-    let theirs : replies_to t ks ≡ alone (member d t).donation (projection s js ++ more) = served_alone d ks t q ld ∙ ap (alone (member d t).donation) longer_by in
+    let there = longer (opened (donation_of d t)) (projection s js) more in
+    let mine : replies_to s js ≡ alone (donation_of d t) (projection s js) = served_alone c js s p lt ∙ ap (λ (n : ℕ). alone n (projection s js)) same in
+    let theirs : replies_to t ks ≡ alone (donation_of d t) (projection s js ++ more) = served_alone d ks t q ld ∙ ap (alone (donation_of d t)) longer_by in
     (there.0, theirs ∙ there.1 ∙ ap (λ (rs : List Reply). rs ++ there.0) (sym mine))
 
 pub two_worlds : (c d : Configuration) (js ks : List Entry) (s t : ℕ) → IsLegal c js → IsLegal d ks → s < length c.clients → t < length d.clients
-    → (member c s).donation ≡ (member d t).donation → projection s js ≡ projection t ks → replies_to s js ≡ replies_to t ks
+    → donation_of c s ≡ donation_of d t → projection s js ≡ projection t ks → replies_to s js ≡ replies_to t ks
 two_worlds c d js ks s t p q lt ld same seen =
-    served_alone c js s p lt ∙ ap (λ (n : ℕ). alone n (projection s js)) same ∙ ap (alone (member d t).donation) seen ∙ sym (served_alone d ks t q ld)
+    served_alone c js s p lt ∙ ap (λ (n : ℕ). alone n (projection s js)) same ∙ ap (alone (donation_of d t)) seen ∙ sym (served_alone d ks t q ld)

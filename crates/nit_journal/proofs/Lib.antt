@@ -1,9 +1,12 @@
 pub mod Growing
+pub mod Along
+pub mod SameActs
 pub mod Sessions
 pub mod Deliveries
 pub mod Isolation
 pub mod Queues
 pub mod CallsAlone
+pub mod Lacking
 pub mod Focus
 pub mod Reaching
 pub mod Lives

@@ -30,8 +30,9 @@ use Rattle.nit_config.specs.Configuration.{Configuration}
 use Rattle.nit_journal.specs.Session.{Session, ◌orelse◌, opened, accepted, by_call, by_refusal, by_status, refusal, serve, receive, by_life, taking}
 use Rattle.nit_journal.specs.State.{State, opening, session_in, session, layer, input_after_call, delivered, route, routed_to, after}
 use Rattle.nit_journal.specs.Views.{is_accepted, new_view, after_accepted, stack_after_call, after_delivery, after_deliveries}
-use Rattle.nit_journal.specs.Journals.{Agrees, LegalFrom, IsLegal, replay_from, replay}
+use Rattle.nit_journal.specs.Journals.{Agrees, LegalFrom, IsLegal, replay_from, replay, shots}
 use Rattle.nit_journal.specs.Deliveries.{IsLive, is_kill}
+use Rattle.nit_journal.proofs.Growing.{agrees_behind, front_legal}
 use Rattle.nit_journal.proofs.Isolation.{entry_keeps_all}
 use Rattle.nit_journal.proofs.Reaching.{IsStep, IsTold, Knows, known_but, route_step}
 use Rattle.nit_journal.proofs.Sessions.{handed, handed_length, handed_to_another, still_there}
@@ -304,21 +305,9 @@ told_are_live config journal dev legal =
 
 -- ---- the entries of a legal journal
 
--- what stands before an entry is legal, and an input entry there agrees
-front_of : (s : State) (taken : ℕ) (journal : List Entry) (dev : Device) (routed : Routed) (rest : List Entry) → LegalFrom s taken (journal ++ entry.Input dev routed ∷ rest)
-    → LegalFrom s taken journal × ((n : ℕ) → Agrees (replay_from s journal) n (entry.Input dev routed))
-front_of s taken [] dev routed rest legal = (tt, λ n. legal.0)
-front_of s taken (entry.Call sid call r ∷ js) dev routed rest legal =
-    let more = front_of (after s (entry.Call sid call r)) taken js dev routed rest legal.1 in ((legal.0, more.0), more.1)
-front_of s taken (entry.Input d q ∷ js) dev routed rest legal =
-    let more = front_of (after s (entry.Input d q)) taken js dev routed rest legal.1 in ((legal.0, more.0), more.1)
-front_of s taken (entry.Shot number ∷ js) dev routed rest legal =
-    let more = front_of s (taken + 1) js dev routed rest legal.1 in ((legal.0, more.0), more.1)
-front_of s taken (entry.Final ∷ []) dev routed rest legal = cc
-front_of s taken (entry.Final ∷ j ∷ js) dev routed rest legal = cc
-
 pub deliveries_are_live : (config : Configuration) (journal : List Entry) (dev : Device) (routed : Routed) (rest : List Entry) → IsLegal config (journal ++ entry.Input dev routed ∷ rest)
     → All (λ d. IsLive (replay config journal) d.sid) (deliveries_of routed)
 deliveries_are_live config journal dev routed rest legal =
-    let before = front_of (opening config) 0 journal dev routed rest legal in
-    All-same (λ d. IsLive (replay config journal) d.sid) (deliveries_of routed) _ (entry_keeps_all (replay config journal) 0 dev routed (before.1 0)) (told_are_live config journal dev before.0)
+    let e = entry.Input dev routed in
+    All-same (λ d. IsLive (replay config journal) d.sid) (deliveries_of routed) _ (entry_keeps_all (replay config journal) (shots journal) dev routed (agrees_behind config journal e rest legal))
+    (told_are_live config journal dev (front_legal (opening config) 0 journal (e ∷ rest) legal))

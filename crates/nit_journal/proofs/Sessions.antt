@@ -8,13 +8,14 @@ use Rattle.nit_events.specs.declared.call.Reply.{Reply}
 use Rattle.nit_events.specs.declared.entry.Entry.{Entry}
 use Rattle.nit_events.specs.declared.entry.Entry.TheVariants as entry
 use Rattle.nit_config.specs.declared.config.Member.{Member}
-use Rattle.nit_config.specs.Configuration.{Configuration, member}
+use Rattle.nit_config.specs.Configuration.{Configuration, donation_of}
 use Rattle.nit_journal.specs.Session.{Session, opened, serve, receive}
 use Rattle.nit_journal.specs.State.{State, opening, session_in, session, delivered, route, after}
+use Rattle.nit_journal.specs.Journals.{replay_from, replay}
 
 -- ---- before the first entry
 
-pub opens : (config : Configuration) (s : ℕ) → s < length config.clients → session (opening config) s ≡ opened (member config s).donation
+pub opens : (config : Configuration) (s : ℕ) → s < length config.clients → session (opening config) s ≡ opened (donation_of config s)
 opens config s lt = get_or-map (λ (m : Member). opened m.donation) config.clients s (record { label = []; donation = 0; script = []; layer = 0; clicks = false }) (opened 0) lt
 
 pub there_at_first : (config : Configuration) (s : ℕ) → s < length config.clients → s < length (opening config).sessions
@@ -55,7 +56,7 @@ delivered_length [] sessions = refl
 delivered_length (d ∷ ds) sessions = delivered_length ds (handed d sessions) ∙ handed_length d sessions
 
 -- no entry adds a session or takes one away
-as_many : (s : State) (e : Entry) → length (after s e).sessions ≡ length s.sessions
+pub as_many : (s : State) (e : Entry) → length (after s e).sessions ≡ length s.sessions
 as_many s (entry.Call sid call r) = length-set s.sessions sid (serve (session s sid) call).session
 as_many s (entry.Input dev routed) = delivered_length (route s.config s.input s.stack dev).deliveries s.sessions
 as_many s (entry.Shot n) = refl
@@ -63,3 +64,26 @@ as_many s entry.Final = refl
 
 pub still_there : (s : State) (e : Entry) (x : ℕ) → x < length s.sessions → x < length (after s e).sessions
 still_there s e x lt = subst (λ (n : ℕ). x < n) (sym (as_many s e)) lt
+
+-- ---- a whole journal
+
+-- no entry changes the configuration
+pub same_config : (s : State) (e : Entry) → (after s e).config ≡ s.config
+same_config s (entry.Call sid call r) = refl
+same_config s (entry.Input dev routed) = refl
+same_config s (entry.Shot n) = refl
+same_config s entry.Final = refl
+
+pub kept_config : (s : State) (journal : List Entry) → (replay_from s journal).config ≡ s.config
+kept_config s [] = refl
+kept_config s (e ∷ journal) = kept_config (after s e) journal ∙ same_config s e
+
+kept_many : (s : State) (journal : List Entry) → length (replay_from s journal).sessions ≡ length s.sessions
+kept_many s [] = refl
+kept_many s (e ∷ journal) = kept_many (after s e) journal ∙ as_many s e
+
+pub same_throughout : (config : Configuration) (journal : List Entry) → (replay config journal).config ≡ config
+same_throughout config journal = kept_config (opening config) journal
+
+pub as_many_as_clients : (config : Configuration) (journal : List Entry) → length (replay config journal).sessions ≡ length config.clients
+as_many_as_clients config journal = kept_many (opening config) journal ∙ length-map config.clients (λ (m : Member). opened m.donation)

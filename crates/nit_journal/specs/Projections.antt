@@ -8,9 +8,10 @@ use Rattle.nit_events.specs.declared.entry.Entry.{Entry}
 use Rattle.nit_events.specs.declared.entry.Entry.TheVariants as entry
 use Rattle.nit_events.specs.Input.{deliveries_of}
 use Rattle.nit_slots.specs.Account.{view_slots}
-use Rattle.nit_config.specs.Configuration.{Configuration}
-use Rattle.nit_journal.specs.Session.{Session, opened, serve, receive}
+use Rattle.nit_config.specs.Configuration.{Configuration, donation_of}
+use Rattle.nit_journal.specs.Session.{Session, opened, serve, after_calls, receive}
 use Rattle.nit_journal.specs.State.{State}
+use Rattle.nit_journal.specs.Whole.{calls_of}
 
 -- a session calls, or gets an item
 pub data Moment : Type 0 where
@@ -43,6 +44,11 @@ replies_from s (Gets i ∷ rest) = replies_from (receive s i) rest
 
 abbrev pub alone : ℕ → List Moment → List Reply
 alone donation moments = replies_from (opened donation) moments
+
+-- the machine that opens with a session's donation and gets the session's own calls of a journal, and no
+-- item
+abbrev pub own_machine : Configuration → ℕ → List Entry → Session
+own_machine config sid journal = after_calls (opened (donation_of config sid)) (calls_of sid journal)
 
 -- how many slots of views the sessions have for their opening donations
 abbrev pub reserved : Configuration → ℕ

@@ -1,5 +1,5 @@
 -- The machine of one session. It knows no other session, no stack and no slots.
-use Rattle.std.specs.Prelude.{ℕ, ◌+◌, ◌-◌, ◌*◌, Bool, ◌&&◌, not, nat_lt, nat_le, ◌==◌, List, [], ◌∷◌, ◌++◌, length, filter, Option, Some, None, if◌then◌else◌}
+use Rattle.std.specs.Prelude.{ℕ, ◌+◌, ◌-◌, ◌*◌, Bool, ◌&&◌, not, nat_lt, nat_le, ◌==◌, List, [], ◌∷◌, ◌++◌, length, filter, fold, Option, Some, None, if◌then◌else◌}
 use Rattle.std.specs.List.{list_any}
 use Rattle.nit_rect.specs.Rectangle.{is_place, is_rectangle}
 use Rattle.nit_events.specs.declared.event.Event.{Event}
@@ -121,6 +121,10 @@ by_refusal s call None = accepted s call
 -- what a session answers to a call, and what the call leaves of it
 unfoldable pub serve : Session → Call → Answered
 serve s call = by_refusal s call (refusal s call)
+
+-- what these calls leave of a session that gets nothing else
+abbrev pub after_calls : Session → List Call → Session
+after_calls s calls = fold (λ t call. (serve t call).session) s calls
 
 -- ---- what the user's input does to it
 

@@ -12,6 +12,19 @@ pub data Deed : Type 0 where
   Does : Device → Deed
   Shoots : Deed
 
+-- what an entry is of: a session's call, the user's deed, or the last picture
+pub data Act : Type 0 where
+  Calls : ℕ → Call → Act
+  Acts : Deed → Act
+  Ends : Act
+
+-- what an entry is of, without its reply, its deliveries and its number
+abbrev pub act_of : Entry → Act
+act_of (entry.Call sid call r) = Calls sid call
+act_of (entry.Input dev routed) = Acts (Does dev)
+act_of (entry.Shot number) = Acts Shoots
+act_of entry.Final = Ends
+
 -- the calls of a session, in order
 abbrev pub calls_of : ℕ → List Entry → List Call
 calls_of s [] = []
