@@ -17,8 +17,8 @@ use Rattle.nit_script.specs.Phases.{is_phase}
 use Rattle.nit_journal.specs.Whole.{Act, Calls, act_of}
 use Rattle.nit_plan.specs.Calls.{deeds_from, deeds_to_do}
 use Rattle.nit_hall.specs.Lines.{calls_in}
-use Rattle.nit_hall.specs.Places.{call_at, Place, UserPlace, Belongs, UserBelongs}
-use Rattle.nit_hall.specs.Rooms.{Chamber, after_arrival, arrived_one}
+use Rattle.nit_hall.specs.Passes.{call_at, PassModel, UserPassModel, Belongs, UserBelongs}
+use Rattle.nit_hall.specs.Rooms.{RoomModel, after_arrival, arrived_one}
 use Rattle.nit_actor.specs.Roles.{Role, role_of}
 use Rattle.nit_actor.specs.InStep.{AreInStep, acts_to_be, idle_user}
 
@@ -71,11 +71,11 @@ idle_phase ls =
 
 -- ---- one line of the client's
 
-pub step_on : (r r' : Chamber) (p p' : Place) (u : UserPlace) (l : Line) (seen : List Entry) (sight : Sight)
+pub step_on : (r r' : RoomModel) (p p' : PassModel) (u : UserPassModel) (l : Line) (seen : List Entry) (sight : Sight)
     → AreInStep r p u → slice_get p.script p.next ≡ Some l → is_phase l ≡ false
     → r'.parts ≡ r.parts → r'.phase ≡ r.phase → r'.arrived ≡ r.arrived → p' ≡ record p { next = p.next + 1; seen = seen; sight = sight } → AreInStep r' p' u
 step_on r r' p p' u l seen sight s at other parts phase arrived is =
-    subst (λ (q : Place). AreInStep r' q u) (sym is)
+    subst (λ (q : PassModel). AreInStep r' q u) (sym is)
     (record {
       one = ap (λ x. length x.scripts) parts ∙ s.one;
       belongs = subst (λ x. Belongs x (record p { next = p.next + 1; seen = seen; sight = sight })) (sym parts)
@@ -90,7 +90,7 @@ step_on r r' p p' u l seen sight s at other parts phase arrived is =
 -- ---- the end of a phase
 
 -- the user is at a line that ends a phase too
-pub user_at_phase : (r : Chamber) (p : Place) (u : UserPlace) → AreInStep r p u → slice_get p.script p.next ≡ Some line.Phase → slice_get u.input u.next ≡ Some input.Phase
+pub user_at_phase : (r : RoomModel) (p : PassModel) (u : UserPassModel) → AreInStep r p u → slice_get p.script p.next ≡ Some line.Phase → slice_get u.input u.next ≡ Some input.Phase
 user_at_phase r p u s at =
     first_left u.next u.input input.Phase (idle_user (drop (p.next + 1) p.script)) (s.idle ∙ ap idle_user (rest_line p.script p.next line.Phase at) ∙ idle_phase (drop (p.next + 1) p.script))
 
@@ -100,7 +100,7 @@ one_arrived n phase arrived one none = ap (λ (x : ℕ). after_arrival x phase a
 both_arrived : (n phase arrived : ℕ) → n ≡ 1 → arrived ≡ 1 → after_arrival n phase arrived ≡ (phase + 1, 0)
 both_arrived n phase arrived one has = ap (λ (x : ℕ). after_arrival x phase arrived) one ∙ ap (λ (x : ℕ). after_arrival 1 phase x) has
 
-pub phase_on : (r : Chamber) (p : Place) (u : UserPlace) (n m : ℕ) (seen known : List Entry) → AreInStep r p u → slice_get p.script p.next ≡ Some line.Phase
+pub phase_on : (r : RoomModel) (p : PassModel) (u : UserPassModel) (n m : ℕ) (seen known : List Entry) → AreInStep r p u → slice_get p.script p.next ≡ Some line.Phase
     → AreInStep (arrived_one (arrived_one r n) m) (record p { next = p.next + 1; phase = p.phase + 1; seen = seen }) (record u { next = u.next + 1; phase = u.phase + 1; seen = known })
 phase_on r p u n m seen known s at =
     let first = one_arrived (length r.parts.scripts) r.phase r.arrived s.one s.arrived in
@@ -116,18 +116,18 @@ phase_on r p u n m seen known s at =
       idle = others_left u.next u.input input.Phase (idle_user (drop (p.next + 1) p.script)) (s.idle ∙ ap idle_user (rest_line p.script p.next line.Phase at) ∙ idle_phase (drop (p.next + 1) p.script));
     }
 
-pub phase_ended : (r r1 r2 : Chamber) (p p' : Place) (u u' : UserPlace) (n m : ℕ) (seen known : List Entry) → AreInStep r p u → slice_get p.script p.next ≡ Some line.Phase
+pub phase_ended : (r r1 r2 : RoomModel) (p p' : PassModel) (u u' : UserPassModel) (n m : ℕ) (seen known : List Entry) → AreInStep r p u → slice_get p.script p.next ≡ Some line.Phase
     → r1 ≡ arrived_one r n → r2 ≡ arrived_one r1 m
     → p' ≡ record p { next = p.next + 1; phase = p.phase + 1; seen = seen } → u' ≡ record u { next = u.next + 1; phase = u.phase + 1; seen = known } → AreInStep r2 p' u'
 phase_ended r r1 r2 p p' u u' n m seen known s at first second passed user_passed =
-    let rooms : r2 ≡ arrived_one (arrived_one r n) m = second ∙ ap (λ (x : Chamber). arrived_one x m) first in
-    subst (λ (x : Chamber). AreInStep x p' u') (sym rooms) (subst (λ (x : Place). AreInStep (arrived_one (arrived_one r n) m) x u') (sym passed)
-    (subst (λ (x : UserPlace). AreInStep (arrived_one (arrived_one r n) m) (record p { next = p.next + 1; phase = p.phase + 1; seen = seen }) x) (sym user_passed)
+    let rooms : r2 ≡ arrived_one (arrived_one r n) m = second ∙ ap (λ (x : RoomModel). arrived_one x m) first in
+    subst (λ (x : RoomModel). AreInStep x p' u') (sym rooms) (subst (λ (x : PassModel). AreInStep (arrived_one (arrived_one r n) m) x u') (sym passed)
+    (subst (λ (x : UserPassModel). AreInStep (arrived_one (arrived_one r n) m) (record p { next = p.next + 1; phase = p.phase + 1; seen = seen }) x) (sym user_passed)
     (phase_on r p u n m seen known s at)))
 
 -- ---- at the end
 
-pub user_ended : (r : Chamber) (p : Place) (u : UserPlace) → AreInStep r p u → p.next ≡ length p.script → u.next ≤ length u.input → u.next ≡ length u.input
+pub user_ended : (r : RoomModel) (p : PassModel) (u : UserPassModel) → AreInStep r p u → p.next ≡ length p.script → u.next ≤ length u.input → u.next ≡ length u.input
 user_ended r p u s ended within =
     let none : drop u.next u.input ≡ [] = s.idle ∙ ap idle_user (nothing_left p.script p.next ended) in
     omega (arith, ap length none, length-drop u.next u.input, within)
@@ -138,21 +138,21 @@ acts_behind : (es : List Entry) (e : Entry) (more : List Act) → map act_of (es
 acts_behind [] e more = refl
 acts_behind (x ∷ es) e more = ap (λ (xs : List Act). act_of x ∷ xs) (acts_behind es e more)
 
-pub call_recorded : (entries now : List Entry) (p p' : Place) (c : Call) (r : Reply) (seen : List Entry) (sight : Sight) → slice_get p.script p.next ≡ Some (line.Call c)
+pub call_recorded : (entries now : List Entry) (p p' : PassModel) (c : Call) (r : Reply) (seen : List Entry) (sight : Sight) → slice_get p.script p.next ≡ Some (line.Call c)
     → now ≡ entries ++ entry.Call p.sid c r ∷ [] → p' ≡ record p { next = p.next + 1; seen = seen; sight = sight } → acts_to_be now p' ≡ acts_to_be entries p
 call_recorded entries now p p' c r seen sight at recorded is =
-    ap (λ (x : Place). acts_to_be now x) is ∙ ap (λ (es : List Entry). map act_of es ++ map (Calls p.sid) (calls_in (drop (p.next + 1) p.script))) recorded
+    ap (λ (x : PassModel). acts_to_be now x) is ∙ ap (λ (es : List Entry). map act_of es ++ map (Calls p.sid) (calls_in (drop (p.next + 1) p.script))) recorded
     ∙ acts_behind entries (entry.Call p.sid c r) (map (Calls p.sid) (calls_in (drop (p.next + 1) p.script)))
     ∙ ap (λ (ls : List Line). map act_of entries ++ map (Calls p.sid) (calls_in ls)) (sym (rest_line p.script p.next (line.Call c) at))
 
 -- a line that is no call records nothing
-pub nothing_recorded : (entries now : List Entry) (p p' : Place) (l : Line) → slice_get p.script p.next ≡ Some l → ((ls : List Line) → calls_in (l ∷ ls) ≡ calls_in ls)
+pub nothing_recorded : (entries now : List Entry) (p p' : PassModel) (l : Line) → slice_get p.script p.next ≡ Some l → ((ls : List Line) → calls_in (l ∷ ls) ≡ calls_in ls)
     → now ≡ entries → role_of p' ≡ role_of p → p'.next ≡ p.next + 1 → acts_to_be now p' ≡ acts_to_be entries p
 nothing_recorded entries now p p' l at none same role next =
     ap (λ (es : List Entry). acts_to_be es p') same ∙ ap₂ (λ (r : Role) (n : ℕ). map act_of entries ++ map (Calls r.sid) (calls_in (drop n r.script))) role next
     ∙ ap (λ (cs : List Call). map act_of entries ++ map (Calls p.sid) cs) (sym (none (drop (p.next + 1) p.script)) ∙ ap calls_in (sym (rest_line p.script p.next l at)))
 
-pub all_recorded : (p : Place) (entries : List Entry) → p.next ≡ length p.script → acts_to_be entries p ≡ map act_of entries
+pub all_recorded : (p : PassModel) (entries : List Entry) → p.next ≡ length p.script → acts_to_be entries p ≡ map act_of entries
 all_recorded p entries ended = ap (λ (ls : List Line). map act_of entries ++ map (Calls p.sid) (calls_in ls)) (nothing_left p.script p.next ended) ∙ nothing_behind (map act_of entries)
   where
     nothing_behind : (xs : List Act) → xs ++ [] ≡ xs

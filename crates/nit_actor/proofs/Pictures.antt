@@ -16,8 +16,8 @@ use Rattle.nit_report.specs.Picture.{picture}
 use Rattle.nit_store.specs.Shown.{File}
 use Rattle.nit_hall.specs.Lines.{deeds_in}
 use Rattle.nit_hall.specs.Parts.{Parts}
-use Rattle.nit_hall.specs.Rooms.{Tells, TellsShot}
-use Rattle.nit_hall.proofs.Along.{deeds_of-append}
+use Rattle.nit_hall.specs.Told.{Tells, TellsShot}
+use Rattle.nit_journal.proofs.Along.{deeds_of-append}
 use Rattle.nit_hall.proofs.Lines.{deeds_line}
 use Rattle.nit_actor.specs.Running.{Putting, PutsAll, PutsNext, shot_name}
 use Rattle.nit_actor.specs.Pictures.{ShotsBehind, IsNearPicture, GrowsQuietly, PutsShotsBehind}

@@ -4,6 +4,7 @@ pub use Rattle.nit_config.specs.Configuration
 pub use Rattle.nit_journal.specs.Whole
 pub use Rattle.nit_plan.specs.Calls
 pub use Rattle.nit_plan.specs.Steps
+pub use Rattle.nit_plan.specs.Sessions
 pub use Rattle.nit_scene.specs.Played
 pub use Rattle.nit_report.specs.Picture
 pub use Rattle.nit_store.specs.Answers

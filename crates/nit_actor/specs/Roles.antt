@@ -4,8 +4,9 @@ use Rattle.nit_script.specs.declared.line.Line.{Line}
 use Rattle.nit_script.specs.declared.line.InputLine.{InputLine}
 use Rattle.nit_plan.specs.Steps.{Planned}
 use Rattle.nit_ledger.specs.Books.{BookName}
-use Rattle.nit_hall.specs.Parts.{Parts, donation_of}
-use Rattle.nit_hall.specs.Places.{Place, UserPlace}
+use Rattle.nit_config.specs.Configuration.{donation_of}
+use Rattle.nit_hall.specs.Parts.{Parts}
+use Rattle.nit_hall.specs.Passes.{PassModel, UserPassModel}
 
 -- a client's: its number, the name of its room's book, its script, the plan of it, and its donation
 pub record Role : Type 0 where
@@ -16,7 +17,7 @@ pub record Role : Type 0 where
   pub donation : ℕ
 
 -- the role of a client's pass
-abbrev pub role_of : Place → Role
+abbrev pub role_of : PassModel → Role
 role_of p = record {
   sid = p.sid;
   name = p.name;
@@ -32,7 +33,7 @@ pub record UserRole : Type 0 where
   pub input : List InputLine
 
 -- the role of the user's pass
-abbrev pub user_role_of : UserPlace → UserRole
+abbrev pub user_role_of : UserPassModel → UserRole
 user_role_of u = record { number = u.number; name = u.name; input = u.input }
 
 -- the role is that of the client of its number in this opening

@@ -1,7 +1,7 @@
 //! What a client's thread does.
 
 ghost use Rattle.std.specs.Prelude.{◌≡◌, ◌+◌, Some, length, slice_get};
-ghost use Rattle.nit_hall.specs.Places.{Belongs};
+ghost use Rattle.nit_hall.specs.Passes.{Belongs};
 ghost use Rattle.nit_actor.specs.Roles.{role_of};
 
 use crate::gate::{Calls, Gate, Hook};

@@ -3,7 +3,7 @@
 ghost use Rattle.std.specs.Prelude.{◌≡◌, ◌*◌, ◌≤◌, All, [], length, map, vec_len, vec_capacity};
 ghost use base.Fml.{ftrue};
 ghost use Rattle.nit_report.specs.Picture.{picture_length};
-ghost use Rattle.nit_hall.specs.Places.{Belongs, UserBelongs};
+ghost use Rattle.nit_hall.specs.Passes.{Belongs, UserBelongs};
 ghost use Rattle.nit_actor.specs.Running.{putting};
 ghost use Rattle.nit_actor.specs.Roles.{Role, IsRoleIn, role_of, user_role_of};
 ghost use Rattle.nit_actor.specs.Pictures.{PutsShotsBehind};
@@ -67,7 +67,7 @@ impl<'h, 'a, 's, N: Name, K: Calls, S: Store> Own<Pass<'a>, Work<'h, 'a, N, K>>
 {
     ghost use Rattle.std.specs.Prelude.{◌≡◌, ◌*◌, length};
     ghost use Rattle.nit_report.specs.Picture.{picture_length};
-    ghost use Rattle.nit_hall.specs.Places.{UserBelongs};
+    ghost use Rattle.nit_hall.specs.Passes.{UserBelongs};
     ghost use Rattle.nit_actor.specs.Running.{putting};
     ghost use Rattle.nit_actor.specs.Roles.{user_role_of};
     ghost use Rattle.nit_actor.specs.Pictures.{PutsShotsBehind};

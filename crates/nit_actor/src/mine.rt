@@ -2,7 +2,7 @@
 
 ghost use Rattle.std.specs.Prelude.{◌≡◌, ◌*◌, All, IfNone, IsSome, length, map};
 ghost use Rattle.nit_report.specs.Picture.{picture_length};
-ghost use Rattle.nit_hall.specs.Places.{Belongs, UserBelongs};
+ghost use Rattle.nit_hall.specs.Passes.{Belongs, UserBelongs};
 ghost use Rattle.nit_actor.specs.Running.{putting};
 ghost use Rattle.nit_actor.specs.Roles.{IsRoleIn, role_of, user_role_of};
 ghost use Rattle.nit_actor.specs.Pictures.{PutsShotsBehind};

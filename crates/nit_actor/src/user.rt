@@ -3,8 +3,8 @@
 ghost use Rattle.std.specs.Prelude.{◌≡◌, ◌*◌, ◌+◌, All, Some, length, slice_get};
 ghost use Rattle.nit_word.specs.Inks.{IsWord};
 ghost use Rattle.nit_report.specs.Picture.{picture_length};
-ghost use Rattle.nit_hall.specs.Rooms.{TellsShot};
-ghost use Rattle.nit_hall.specs.Places.{UserBelongs, IsAtDevice, IsAtShot, IsAtUserPhase};
+ghost use Rattle.nit_hall.specs.Told.{TellsShot};
+ghost use Rattle.nit_hall.specs.Passes.{UserBelongs, IsAtDevice, IsAtShot, IsAtUserPhase};
 ghost use Rattle.nit_actor.specs.Running.{putting};
 ghost use Rattle.nit_actor.specs.Roles.{user_role_of};
 ghost use Rattle.nit_actor.specs.Pictures.{GrowsQuietly, PutsShotsBehind};

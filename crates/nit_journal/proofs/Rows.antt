@@ -11,8 +11,8 @@ use Rattle.nit_events.specs.declared.entry.Entry.{Entry}
 use Rattle.nit_events.specs.declared.entry.Entry.TheVariants as entry
 use Rattle.nit_stack.specs.Sources.{Bare, Word, point}
 use Rattle.nit_config.specs.Configuration.{still_configuration}
-use Rattle.nit_journal.specs.Session.{serve}
-use Rattle.nit_journal.specs.Projections.{Moment, Calls, alone}
+use Rattle.nit_journal.specs.Session.{opened, serve}
+use Rattle.nit_journal.specs.Projections.{Moment, Calls, alone, own_machine}
 use Rattle.nit_journal.specs.State.{source_of, route}
 use Rattle.nit_journal.specs.Views.{stack_after_call}
 use Rattle.nit_journal.specs.Journals.{replay, IsLegal}
@@ -87,6 +87,11 @@ clicked =
 clicked_is_legal : IsLegal (still_configuration 8 4) clicked
 unfolding serve stack_after_call route
 clicked_is_legal = ((omega arith, refl), ((omega arith, refl), ((omega arith, refl), (refl, (refl, ((omega arith, refl), refl))))))
+
+-- its own calls alone: the machine knows nothing of the user, and has no event to take
+clicked_by_itself : own_machine (still_configuration 8 4) 0 clicked ≡ record (opened 8388608) { bw = 4; bh = 2; next = 2; handles = 1 ∷ [] }
+unfolding serve
+clicked_by_itself = refl
 
 clicked_has_the_focus : (replay (still_configuration 8 4) clicked).input.focus ≡ Some 0
 unfolding serve stack_after_call route

@@ -45,7 +45,8 @@ replies_from s (Gets i ∷ rest) = replies_from (receive s i) rest
 abbrev pub alone : ℕ → List Moment → List Reply
 alone donation moments = replies_from (opened donation) moments
 
--- the machine that opens with a session's donation and gets the session's own calls of a journal, and no item
+-- the machine that opens with a session's donation and gets the session's own calls of a journal, and no
+-- item
 abbrev pub own_machine : Configuration → ℕ → List Entry → Session
 own_machine config sid journal = after_calls (opened (donation_of config sid)) (calls_of sid journal)
 

@@ -28,8 +28,8 @@ ghost use Rattle.nit_journal.specs.Projections.{Gets, Moment, projection, replie
 ghost use Rattle.nit_journal.specs.Whole.{act_of};
 ghost use Rattle.nit_journal.specs.Deliveries.{IsKillAlone, IsLive};
 
-/// A journal with one more entry: it leads to the state after that entry, and it is legal where the entry
-/// agrees with the state and the shots before it, and only there.
+/// A journal with one more entry: it leads to the state after that entry, and it is legal where the
+/// entry agrees with the state and the shots before it, and only there.
 pub fn one_more_entry()
     ensures replayed { (s : State) (journal : List Entry) (e : Entry)
         → replay_from s (journal ++ e ∷ []) ≡ after (replay_from s journal) e }
@@ -69,54 +69,78 @@ pub fn configuration_stays()
         → length (replay config journal).sessions ≡ length config.clients }
 {}
 
-/// An entry of a device event that agrees with the state before it keeps every delivery of the event, in order.
+/// An entry of a device event that agrees with the state before it keeps every delivery of the
+/// event, in order.
 pub fn deliveries_fit()
-    ensures { (s : State) (taken : ℕ) (dev : Device) (routed : Routed) → Agrees s taken (entry.Input dev routed) → deliveries_of routed ≡ (route s.config s.input s.stack dev).deliveries }
+    ensures { (s : State) (taken : ℕ) (dev : Device) (routed : Routed)
+        → Agrees s taken (entry.Input dev routed)
+        → deliveries_of routed ≡ (route s.config s.input s.stack dev).deliveries }
 {}
 
 /// Where a device event locks a session out, nothing else is delivered.
 pub fn kills_stand_alone()
-    ensures { (config : Configuration) (i : InputState) (stack : List View) (dev : Device) → IsKillAlone (route config i stack dev).deliveries }
+    ensures { (config : Configuration) (i : InputState) (stack : List View) (dev : Device)
+        → IsKillAlone (route config i stack dev).deliveries }
 {}
 
-/// In a legal journal each delivery goes to a session that is live in the state before its entry. So it is with
-/// whatever entry of a device event comes next.
+/// In a legal journal each delivery goes to a session that is live in the state before its entry.
+/// So it is with whatever entry of a device event comes next.
 pub fn deliveries_go_to_live_sessions()
-    ensures legal { (config : Configuration) (journal : List Entry) (dev : Device) (routed : Routed) (rest : List Entry) → IsLegal config (journal ++ entry.Input dev routed ∷ rest) → All (λ d. IsLive (replay config journal) d.sid) (deliveries_of routed) }
-    ensures next { (config : Configuration) (journal : List Entry) (dev : Device) → IsLegal config journal → let s = replay config journal in All (λ d. IsLive s d.sid) (route s.config s.input s.stack dev).deliveries }
+    ensures legal { (config : Configuration) (journal : List Entry)
+        → (dev : Device) (routed : Routed) (rest : List Entry)
+        → IsLegal config (journal ++ entry.Input dev routed ∷ rest)
+        → All (λ d. IsLive (replay config journal) d.sid) (deliveries_of routed) }
+    ensures next { (config : Configuration) (journal : List Entry) (dev : Device)
+        → IsLegal config journal → let s = replay config journal in
+        All (λ d. IsLive s d.sid) (route s.config s.input s.stack dev).deliveries }
 {}
 
-/// Among the items that a legal journal routes to a session, each release of a code follows a press of it, with no
-/// other release of it between.
+/// Among the items that a legal journal routes to a session, each release of a code follows a press
+/// of it, with no other release of it between.
 pub fn releases_follow_presses()
-    ensures { (config : Configuration) (journal : List Entry) (s k : ℕ) (before rest : List Moment) → IsLegal config journal → projection s journal ≡ before ++ Gets (item.Event (event.Release k)) ∷ rest → IsDown k before }
+    ensures { (config : Configuration) (journal : List Entry) (s k : ℕ) (before rest : List Moment)
+        → IsLegal config journal
+        → projection s journal ≡ before ++ Gets (item.Event (event.Release k)) ∷ rest
+        → IsDown k before }
 {}
 
-/// Each session of a legal journal gets the replies of a machine that serves it alone: they come from its
-/// donation, its own calls and the items that were routed to it.
+/// Each session of a legal journal gets the replies of a machine that serves it alone: they come
+/// from its donation, its own calls and the items that were routed to it.
 pub fn isolation()
-    ensures { (config : Configuration) (journal : List Entry) (s : ℕ) → IsLegal config journal → s < length config.clients → replies_to s journal ≡ alone (donation_of config s) (projection s journal) }
+    ensures { (config : Configuration) (journal : List Entry) (s : ℕ)
+        → IsLegal config journal → s < length config.clients
+        → replies_to s journal ≡ alone (donation_of config s) (projection s journal) }
 {}
 
-/// Two legal journals, of any two configurations, that give a session the same donation. Where it sees the
-/// same in both, it gets the same replies; and where what it sees in the one goes on in the other, so do its
-/// replies.
+/// Two legal journals, of any two configurations, that give a session the same donation. Where it
+/// sees the same in both, it gets the same replies; and where what it sees in the one goes on in
+/// the other, so do its replies.
 pub fn two_worlds()
-    ensures same { (c d : Configuration) (js ks : List Entry) (s t : ℕ) → IsLegal c js → IsLegal d ks → s < length c.clients → t < length d.clients → donation_of c s ≡ donation_of d t → projection s js ≡ projection t ks → replies_to s js ≡ replies_to t ks }
-    ensures longer { (c d : Configuration) (js ks : List Entry) (s t : ℕ) → IsLegal c js → IsLegal d ks → s < length c.clients → t < length d.clients → donation_of c s ≡ donation_of d t → (more : List Moment) → projection t ks ≡ projection s js ++ more → (rest : List Reply) × (replies_to t ks ≡ replies_to s js ++ rest) }
+    ensures same { (c d : Configuration) (js ks : List Entry) (s t : ℕ)
+        → IsLegal c js → IsLegal d ks → s < length c.clients → t < length d.clients
+        → donation_of c s ≡ donation_of d t
+        → projection s js ≡ projection t ks → replies_to s js ≡ replies_to t ks }
+    ensures longer { (c d : Configuration) (js ks : List Entry) (s t : ℕ)
+        → IsLegal c js → IsLegal d ks → s < length c.clients → t < length d.clients
+        → donation_of c s ≡ donation_of d t
+        → (more : List Moment) → projection t ks ≡ projection s js ++ more
+        → (rest : List Reply) × (replies_to t ks ≡ replies_to s js ++ rest) }
 {}
 
-/// A call leaves the machine of every other session as it was, and it puts no event into any queue: it can
-/// only take some from the front.
+/// A call leaves the machine of every other session as it was, and it puts no event into any queue:
+/// it can only take some from the front.
 pub fn calls_touch_no_other()
-    ensures others { (s : State) (sid : ℕ) (call : Call) (r : Reply) (x : ℕ) → x ≢ sid → session (after s (entry.Call sid call r)) x ≡ session s x }
-    ensures queues { (s : State) (sid : ℕ) (call : Call) (r : Reply) (x : ℕ) → (taken : List Event) × ((session s x).queue ≡ taken ++ (session (after s (entry.Call sid call r)) x).queue) }
+    ensures others { (s : State) (sid : ℕ) (call : Call) (r : Reply) (x : ℕ)
+        → x ≢ sid → session (after s (entry.Call sid call r)) x ≡ session s x }
+    ensures queues { (s : State) (sid : ℕ) (call : Call) (r : Reply) (x : ℕ)
+        → let now = session (after s (entry.Call sid call r)) x in
+        (taken : List Event) × ((session s x).queue ≡ taken ++ now.queue) }
 {}
 
-/// While a session is live, the user's input changes nothing of its machine but the queue and the count of
-/// lost events. The rest is that of a machine that gets its calls alone: donation, reserve, buffer, handles
-/// and the next handle. So every call but `Take` is answered, and refused for quota or reserve, by its own
-/// donation and calls.
+/// While a session is live, the user's input changes nothing of its machine but the queue and the
+/// count of lost events. The rest is that of a machine that gets its calls alone: donation,
+/// reserve, buffer, handles and the next handle. So every call but `Take` is answered, and refused
+/// for quota or reserve, by its own donation and calls.
 pub fn quota_is_its_own()
     ensures machine { (config : Configuration) (journal : List Entry) (s : ℕ)
         → s < length config.clients → (session (replay config journal) s).status ≡ status.Live
@@ -125,26 +149,42 @@ pub fn quota_is_its_own()
     ensures replies { (config : Configuration) (journal : List Entry) (s : ℕ)
         → s < length config.clients → (session (replay config journal) s).status ≡ status.Live
         → (call : Call) → call ≢ Take
-        → (serve (session (replay config journal) s) call).reply ≡ (serve (own_machine config s journal) call).reply }
+        → let now = session (replay config journal) s in
+        (serve now call).reply ≡ (serve (own_machine config s journal) call).reply }
 {}
 
-/// Where a legal journal refuses a call for want of quota or reserve, less is left than the call needs,
-/// and the machine that got the session's own calls before it, and nothing else, refuses it with the same
-/// numbers.
+/// Where a legal journal refuses a call for want of quota or reserve, less is left than the call
+/// needs. And the machine that got the session's own calls before it, and nothing else, refuses it
+/// with the same numbers.
 pub fn refusals_are_its_own()
-    ensures quota { (config : Configuration) (front rest : List Entry) (sid : ℕ) (call : Call) (need left : ℕ)
+    ensures quota { (config : Configuration) (front rest : List Entry)
+        → (sid : ℕ) (call : Call) (need left : ℕ)
         → IsLegal config (front ++ entry.Call sid call (reply.OutOfQuota need left) ∷ rest)
-        → (left < need) × ((serve (own_machine config sid front) call).reply ≡ reply.OutOfQuota need left) }
-    ensures reserve { (config : Configuration) (front rest : List Entry) (sid : ℕ) (call : Call) (need left : ℕ)
+        → let refused = reply.OutOfQuota need left in
+        (left < need) × ((serve (own_machine config sid front) call).reply ≡ refused) }
+    ensures reserve { (config : Configuration) (front rest : List Entry)
+        → (sid : ℕ) (call : Call) (need left : ℕ)
         → IsLegal config (front ++ entry.Call sid call (reply.NoReserve need left) ∷ rest)
-        → (left < need) × ((serve (own_machine config sid front) call).reply ≡ reply.NoReserve need left) }
+        → let refused = reply.NoReserve need left in
+        (left < need) × ((serve (own_machine config sid front) call).reply ≡ refused) }
 {}
 
-/// No call moves the focus, but for an accepted `Close` of the focused session, which leaves none. And a device
-/// event gives the focus to a session only by a click on a pixel of its own: a button is pressed in mode `Flat`
-/// or `Xray`, and the configuration says that the session takes the focus by clicks.
+/// No call moves the focus, but for an accepted `Close` of the focused session, which leaves none.
+/// And a device event gives the focus to a session only by a click on a pixel of its own: a button
+/// is pressed in mode `Flat` or `Xray`, and the configuration says that the session takes the focus
+/// by clicks.
 pub fn focus_is_the_users()
-    ensures calls { (s : State) (sid : ℕ) (call : Call) (r : Reply) → ((after s (entry.Call sid call r)).input.focus ≡ s.input.focus) ⊎ ((call ≡ Close) × (is_accepted r ≡ true) × (s.input.focus ≡ Some sid)) }
-    ensures closed { (s : State) (sid : ℕ) (r : Reply) → is_accepted r ≡ true → s.input.focus ≡ Some sid → (after s (entry.Call sid Close r)).input.focus ≡ None }
-    ensures clicks { (s : State) (dev : Device) (routed : Routed) (x : ℕ) → (after s (entry.Input dev routed)).input.focus ≡ Some x → (s.input.focus ≡ Some x) ⊎ ((k : ℕ) × (dev ≡ device.Press k) × (is_button k ≡ true) × ((s.input.mode ≡ Flat) ⊎ (s.input.mode ≡ Xray)) × (option_map (λ v. v.sid) (owner_of s (point s.input.x s.input.y)) ≡ Some x) × ((member s.config x).clicks ≡ true)) }
+    ensures calls { (s : State) (sid : ℕ) (call : Call) (r : Reply)
+        → ((after s (entry.Call sid call r)).input.focus ≡ s.input.focus)
+        ⊎ ((call ≡ Close) × (is_accepted r ≡ true) × (s.input.focus ≡ Some sid)) }
+    ensures closed { (s : State) (sid : ℕ) (r : Reply)
+        → is_accepted r ≡ true → s.input.focus ≡ Some sid
+        → (after s (entry.Call sid Close r)).input.focus ≡ None }
+    ensures clicks { (s : State) (dev : Device) (routed : Routed) (x : ℕ)
+        → (after s (entry.Input dev routed)).input.focus ≡ Some x
+        → (s.input.focus ≡ Some x)
+        ⊎ ((k : ℕ) × (dev ≡ device.Press k) × (is_button k ≡ true)
+        × ((s.input.mode ≡ Flat) ⊎ (s.input.mode ≡ Xray))
+        × (option_map (λ v. v.sid) (owner_of s (point s.input.x s.input.y)) ≡ Some x)
+        × ((member s.config x).clicks ≡ true)) }
 {}

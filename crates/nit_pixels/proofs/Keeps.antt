@@ -1,5 +1,5 @@
 -- Each kind of step keeps the rule of the pixel words.
-use Rattle.std.proofs.Common.{◌≡◌, ◌≢◌, ℕ, zero, suc, List, [], ◌∷◌, ◌++◌, length, get_or, set, replicate, slice_index, All, Option, Some, None, IfSome, IsSome, refl, ap, sym, ◌∙◌, subst, ⊎_elim}
+use Rattle.std.proofs.Common.{◌≡◌, ◌≢◌, ℕ, zero, suc, List, [], ◌∷◌, ◌++◌, length, get_or, set, slice_index, All, Option, Some, None, IfSome, IsSome, refl, ap, sym, ◌∙◌, subst, ⊎_elim}
 use mathlib.Core.Option.{some, none, some-injective, some-ne-none}
 use lib.ListN.{get_elem?}
 use lib.Seq.{set-get_or}
@@ -7,11 +7,12 @@ use Rattle.std.specs.Option.{option_map}
 use Rattle.atomic_table.specs.Table.{step, keeps, opening, Allows, Splits}
 use Rattle.atomic_table.proofs.Lists.{at_set, at_snoc, set_again}
 use Rattle.nit_word.specs.Inks.{IsInked, IsWord}
+use Rattle.nit_word.specs.Zeros.{zeros}
+use Rattle.nit_word.proofs.Inking.{inked_fits}
+use Rattle.nit_word.proofs.Zeros.{zero_inked}
 use Rattle.nit_pixels.specs.declared.steps.PixelView.{PixelView}
 use Rattle.nit_pixels.specs.declared.steps.Identity.{Identity}
-use Rattle.nit_pixels.specs.Ends.{zeros}
 use Rattle.nit_pixels.specs.Steps.{owner_view, reader_view, view_loaded, view_stored, IsViewOf, IsRuled, Sat, Loaded, Stored}
-use Rattle.nit_pixels.proofs.Inks.{inked_fits}
 
 -- of two views that tell words both stand at one place
 abbrev OneOwner : List PixelView → Type 0
@@ -21,20 +22,11 @@ only : (a v : PixelView) (j : ℕ) → get_elem? (a ∷ []) j ≡ some v → (j 
 only a v zero e = (refl, some-injective a v e)
 only a v (suc j) e = absurd (some-ne-none v (sym e))
 
-all_zero : (n i : ℕ) → slice_index (replicate n 0) i ≡ 0
-all_zero zero i = refl
-all_zero (suc n) zero = refl
-all_zero (suc n) (suc i) = all_zero n i
-
-zero_at : (n i : ℕ) → slice_index (zeros n) i ≡ 0
-unfolding zeros
-zero_at n i = all_zero n i
-
 -- making the table
 pub opens : (identity : Identity) → All IsWord identity.ink.items → IsRuled identity (opening (zeros identity.words) [] (owner_view identity))
 opens identity fits = record {
   ink_fits = fits;
-  inked = λ i. subst (IsInked identity.ink.items) (sym (zero_at identity.words i)) refl;
+  inked = zero_inked identity.ink.items identity.words;
   views = λ j v at. subst (IsViewOf identity (zeros identity.words)) (only (owner_view identity) v j at).1 (refl, refl, refl);
   one_owner = λ j k v w p q _ _. (only (owner_view identity) v j p).0 ∙ sym (only (owner_view identity) w k q).0;
 }

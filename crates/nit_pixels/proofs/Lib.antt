@@ -1,3 +1,2 @@
-pub mod Inks
 pub mod Keeps
 pub mod Opening

@@ -1,15 +1,11 @@
 -- The seat of a table that was just made.
 use Rattle.std.proofs.Common.{◌≡◌, ◌∙◌, ℕ, ◌<◌, [], length, Some, ap, sym, subst}
 use Rattle.std.specs.Option.{option_map}
-use Rattle.std.proofs.lemmas.List.{length-replicate}
+use Rattle.nit_word.proofs.Zeros.{length-zeros}
 use Rattle.nit_pixels.specs.declared.steps.Identity.{Identity}
-use Rattle.nit_pixels.specs.Ends.{new_sight, zeros}
+use Rattle.nit_pixels.specs.Ends.{new_sight}
 use Rattle.nit_pixels.specs.Seats.{PixelSeat, sight_of, IsOwners}
 use Rattle.nit_pixels.specs.Steps.{owner_view}
-
-pub length-zeros : (n : ℕ) → length (zeros n) ≡ n
-unfolding zeros
-length-zeros n = length-replicate n 0
 
 pub first_sight : (identity : Identity) (s : PixelSeat) → s.table_id.words ≡ identity.words → s.me ≡ (owner_view identity, [])
     → sight_of s ≡ new_sight identity.owner identity.words identity.ink.items

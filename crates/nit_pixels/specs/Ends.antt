@@ -1,7 +1,8 @@
 -- What contracts see of a buffer, of its key and of its ends.
-use Rattle.std.specs.Prelude.{ℕ, List, [], Some, None, replicate}
+use Rattle.std.specs.Prelude.{ℕ, List, [], Some, None}
 use Rattle.atomic_table.specs.Seated.{TableId}
 use Rattle.nit_word.specs.Sight.{Sight}
+use Rattle.nit_word.specs.Zeros.{zeros}
 use Rattle.nit_pixels.specs.declared.standing.Standing.{Standing}
 
 -- which buffer it is
@@ -12,10 +13,6 @@ BufferName = TableId
 pub record End : Type 0 where
   pub sight : Sight
   pub stand : Standing
-
--- so many words that are 0
-unfoldable pub zeros : ℕ → List ℕ
-zeros n = replicate n 0
 
 -- the owner's sight of a new buffer: all words are 0, and nothing was loaded
 abbrev pub new_sight : ℕ → ℕ → List ℕ → Sight

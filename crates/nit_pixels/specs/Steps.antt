@@ -5,9 +5,9 @@ use mathlib.Core.Option.{some}
 use lib.ListN.{get_elem?}
 use Rattle.atomic_table.specs.Table.{State, Me, Step}
 use Rattle.nit_word.specs.Inks.{IsInked, IsWord}
+use Rattle.nit_word.specs.Zeros.{zeros}
 use Rattle.nit_pixels.specs.declared.steps.PixelView.{PixelView}
 use Rattle.nit_pixels.specs.declared.steps.Identity.{Identity}
-use Rattle.nit_pixels.specs.Ends.{zeros}
 
 -- the owner's view of words that are all 0
 abbrev pub owner_view : Identity → PixelView

@@ -1,7 +1,8 @@
 //! A buffer of pixel words, and the right to be its owner.
 ghost use Rattle.std.specs.Prelude.{◌≡◌, ◌≤◌, All, IfOk};
 ghost use Rattle.nit_word.specs.Inks.{IsWord};
-ghost use Rattle.nit_pixels.specs.Ends.{new_sight, zeros};
+ghost use Rattle.nit_word.specs.Zeros.{zeros};
+ghost use Rattle.nit_pixels.specs.Ends.{new_sight};
 
 use crate::canvas::Canvas;
 use crate::steps::{Identity, PixelRule, PixelView};
@@ -81,7 +82,7 @@ impl PixelBuffer {
 }
 
 /// So many words that are 0.
-#[tactic(auto, unfolding(crate::specs::Ends::zeros))]
+#[tactic(auto, unfolding(nit_word::specs::Zeros::zeros))]
 fn zero_words(alloc: Global, count: usize) -> Result<Vec<u64>, NoMemory>
     requires { count ≤ 1048576 }
     ensures { IfOk result (λ v. v.items ≡ zeros count) }

@@ -4,6 +4,7 @@ pub use Rattle.nit_script.specs.Spelling
 pub use Rattle.nit_script.specs.Phases
 pub use Rattle.nit_plan.specs.Plans
 pub use Rattle.nit_plan.specs.Calls
+pub use Rattle.nit_plan.specs.Sessions
 pub use Rattle.nit_journal.specs.State
 pub use Rattle.nit_journal.specs.Journals
 pub use Rattle.nit_journal.specs.Whole

@@ -11,9 +11,9 @@ use Rattle.nit_scene.specs.Painted.{glass_in, source_at}
 use Rattle.nit_script.specs.declared.line.Line.{Line}
 use Rattle.nit_plan.specs.Calls.{calls_to_make, deeds_to_do}
 use Rattle.nit_plan.specs.Plans.{words_left}
+use Rattle.nit_plan.specs.Sessions.{script_in}
 use Rattle.nit_store.specs.Shown.{File}
 use Rattle.nit_actor.specs.Done.{AreRoundsOf}
-use Rattle.nit_actor.specs.Running.{script_in}
 use Rattle.nit_actor.specs.Drawn.{picture_of, shots_of, word_from, words_of}
 use Rattle.nit_top.specs.Setup.{Setup}
 

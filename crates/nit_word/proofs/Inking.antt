@@ -14,7 +14,7 @@ among_fits ink w fit found =
     grind (arith, nat_tests, here, some.3, some.4)
 
 -- 0 is a word, and so is each word of the ink
-inked_fits : (ink : List ℕ) (w : ℕ) → All IsWord ink → IsInked ink w → IsWord w
+pub inked_fits : (ink : List ℕ) (w : ℕ) → All IsWord ink → IsInked ink w → IsWord w
 inked_fits ink w fit inked = by_zero (w == 0) refl
   where
     by_zero : (b : Bool) → (w == 0) ≡ b → IsWord w

@@ -1,3 +1,4 @@
 pub mod Bits
 pub mod Inking
+pub mod Zeros
 pub mod Rows

@@ -1,3 +1,4 @@
 pub mod Channels
 pub mod Inks
 pub mod Sight
+pub mod Zeros

@@ -1,5 +1,5 @@
 use Rattle.std.proofs.Common.{◌≡◌, ◌-◌, length}
-use Rattle.nit_hall.specs.Places.{Belongs}
+use Rattle.nit_hall.specs.Passes.{Belongs}
 use Rattle.nit_actor.specs.Roles.{role_of}
 use Rattle.nit_actor.proofs.actor.run_lines.Given as goal
 

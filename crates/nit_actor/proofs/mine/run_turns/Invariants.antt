@@ -1,6 +1,6 @@
 use Rattle.std.proofs.Common.{◌≡◌, map, length}
 use Rattle.std.specs.Prelude.{All}
-use Rattle.nit_hall.specs.Places.{Place}
+use Rattle.nit_hall.specs.Passes.{PassModel}
 use Rattle.nit_actor.specs.Running.{putting}
 use Rattle.nit_actor.specs.Roles.{IsRoleIn, role_of, user_role_of}
 use Rattle.nit_actor.specs.Pictures.{PutsShotsBehind}
@@ -8,8 +8,8 @@ use Rattle.nit_actor.proofs.mine.run_turns.Given as goal
 
 abbrev pub invariant-turns : goal.invariant-turns
 invariant-turns g l = record {
-  same : map (λ (p : Place). role_of p) l.passes ≡ map (λ (p : Place). role_of p) l.initial.passes;
-  fit : All (λ (p : Place). IsRoleIn g.N.Name.parts (role_of p)) l.passes;
+  same : map (λ (p : PassModel). role_of p) l.passes ≡ map (λ (p : PassModel). role_of p) l.initial.passes;
+  fit : All (λ (p : PassModel). IsRoleIn g.N.Name.parts (role_of p)) l.passes;
   user_same : user_role_of l.user ≡ user_role_of l.initial.user;
   frame : length l.desk.frame.items ≡ length l.initial.desk.frame.items;
   text : length l.desk.text.items ≡ length l.initial.desk.text.items;

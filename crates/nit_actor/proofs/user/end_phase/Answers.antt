@@ -1,6 +1,6 @@
 use Rattle.std.proofs.Common.{◌∙◌, take, ap}
 use Rattle.nit_hall.specs.Lines.{deeds_in}
-use Rattle.nit_hall.specs.Places.{UserPlace}
+use Rattle.nit_hall.specs.Passes.{UserPassModel}
 use Rattle.nit_actor.proofs.Pictures.{quiet_phase}
 use Rattle.nit_actor.proofs.user.end_phase.Goals as goal
 
@@ -11,6 +11,6 @@ returns-clause-seen g c =
     (record {
       line_is = c.requires.next;
       before_is = c.next-known.ensures.known;
-      after_is = c.next-known-2.ensures.known ∙ ap (λ (v : UserPlace). deeds_in (take v.next v.input)) c.arrive_user.ensures.user;
+      after_is = c.next-known-2.ensures.known ∙ ap (λ (v : UserPassModel). deeds_in (take v.next v.input)) c.arrive_user.ensures.user;
     })
     c.arrive_user.ensures.grows

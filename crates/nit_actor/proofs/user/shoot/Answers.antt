@@ -1,6 +1,6 @@
 use Rattle.std.proofs.Common.{◌∙◌, take, ap}
 use Rattle.nit_hall.specs.Lines.{deeds_in}
-use Rattle.nit_hall.specs.Places.{UserPlace}
+use Rattle.nit_hall.specs.Passes.{UserPassModel}
 use Rattle.nit_actor.proofs.Pictures.{puts_shot}
 use Rattle.nit_actor.proofs.user.shoot.Goals as goal
 
@@ -12,6 +12,6 @@ returns-clause-put g c =
     (record {
       line_is = c.requires.next;
       before_is = c.next-known.ensures.known;
-      after_is = c.next-known-2.ensures.known ∙ ap (λ (v : UserPlace). deeds_in (take v.next v.input)) t.ensures.user;
+      after_is = c.next-known-2.ensures.known ∙ ap (λ (v : UserPassModel). deeds_in (take v.next v.input)) t.ensures.user;
     })
     t.ensures.told c.size.ensures.size c.put_shot.ensures.put

@@ -1,0 +1,8 @@
+use Rattle.nit_plan.proofs.InkedWords.{word_inked, left_inked}
+use Rattle.nit_plan.proofs.laws.words_inked.Goals as goal
+
+pub returns-clause-after : goal.returns-clause-after
+returns-clause-after c = word_inked
+
+pub returns-clause-left : goal.returns-clause-left
+returns-clause-left c = left_inked

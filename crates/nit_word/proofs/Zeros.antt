@@ -1,0 +1,24 @@
+-- Words that are all 0.
+use Rattle.std.proofs.Common.{◌≡◌, ℕ, zero, suc, List, All, length, replicate, refl, subst, sym}
+use Rattle.std.specs.Prelude.{slice_index}
+use Rattle.std.proofs.lemmas.List.{length-replicate}
+use Rattle.nit_word.specs.Inks.{IsInked}
+use Rattle.nit_word.specs.Zeros.{zeros}
+
+pub length-zeros : (n : ℕ) → length (zeros n) ≡ n
+unfolding zeros
+length-zeros n = length-replicate n 0
+
+all_zero : (n i : ℕ) → slice_index (replicate n 0) i ≡ 0
+all_zero zero i = refl
+all_zero (suc n) zero = refl
+all_zero (suc n) (suc i) = all_zero n i
+
+-- the word at any place is 0, also behind the last one
+pub zero_at : (n i : ℕ) → slice_index (zeros n) i ≡ 0
+unfolding zeros
+zero_at n i = all_zero n i
+
+-- so it is in every ink
+pub zero_inked : (ink : List ℕ) (n i : ℕ) → IsInked ink (slice_index (zeros n) i)
+zero_inked ink n i = subst (IsInked ink) (sym (zero_at n i)) refl
