@@ -11,7 +11,7 @@ use Rattle.nit_script.specs.declared.line.Line.TheVariants as line
 use Rattle.nit_script.specs.declared.line.InputLine.{InputLine}
 use Rattle.nit_script.specs.Phases.{is_phase}
 use Rattle.nit_ledger.specs.Books.{raised}
-use Rattle.nit_hall.specs.Parts.{script_in}
+use Rattle.nit_plan.specs.Sessions.{script_in}
 use Rattle.nit_hall.specs.Lines.{is_served, served, phases_before, input_phases_before}
 use Rattle.nit_hall.specs.Rooms.{IsServedPhase, after_arrival, phases_ended}
 use Rattle.nit_hall.proofs.Lines.{count_cons, front_filter, served_counted}

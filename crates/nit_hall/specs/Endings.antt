@@ -10,7 +10,8 @@ use Rattle.nit_journal.specs.State.{State}
 use Rattle.nit_plan.specs.Plans.{ink, words_after, words_left}
 use Rattle.nit_scene.specs.Painted.{pixel_count, source_at}
 use Rattle.nit_scene.specs.Showing.{IsGlass}
-use Rattle.nit_hall.specs.Parts.{script_in, donation_of}
+use Rattle.nit_config.specs.Configuration.{donation_of}
+use Rattle.nit_plan.specs.Sessions.{script_in}
 use Rattle.nit_hall.specs.Lines.{served}
 use Rattle.nit_hall.specs.Passes.{PassModel}
 use Rattle.nit_hall.specs.Rooms.{RoomModel, without_final}

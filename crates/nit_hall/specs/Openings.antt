@@ -1,5 +1,6 @@
 -- What a room is opened with, and what it and its passes are then.
-use Rattle.std.specs.Prelude.{◌≡◌, ℕ, ◌+◌, ◌*◌, ◌<◌, List, [], length, map, replicate, slice_get, Some}
+use Rattle.std.specs.Prelude.{◌≡◌, ℕ, ◌+◌, ◌*◌, ◌<◌, List, [], length, map, replicate}
+use Rattle.std.specs.Prelude.{slice_get, Some}
 use Rattle.nit_word.specs.Channels.{bare_word}
 use Rattle.nit_script.specs.declared.line.Line.{Line}
 use Rattle.nit_script.specs.declared.line.InputLine.{InputLine}
@@ -8,7 +9,9 @@ use Rattle.nit_plan.specs.Plans.{table_size}
 use Rattle.nit_plan.specs.Steps.{Planned, IsPlanOf}
 use Rattle.nit_pixels.specs.Ends.{End, new_sight, reader_sight}
 use Rattle.nit_ledger.specs.Books.{BookName}
-use Rattle.nit_hall.specs.Parts.{Parts, plan_in, script_in, donation_of}
+use Rattle.nit_config.specs.Configuration.{donation_of}
+use Rattle.nit_plan.specs.Sessions.{plan_in, script_in}
+use Rattle.nit_hall.specs.Parts.{Parts}
 use Rattle.nit_hall.specs.Lines.{lines_of_all}
 use Rattle.nit_hall.specs.Passes.{PassModel, UserPassModel}
 use Rattle.nit_hall.specs.Rooms.{RoomModel}
@@ -21,8 +24,8 @@ pub record IsSetting (config : Configuration) (scripts : List (List Line)) (plan
   pub planned : (k : ℕ) → k < length scripts
       → IsPlanOf (script_in scripts k) (donation_of config k) (plan_in plans k)
 
--- there is a canvas for each client, in order, with the client's number as owner, the ink of its plan,
--- a word for each place of its table, and words 0
+-- there is a canvas for each client, in order, with the client's number as owner, the ink of its
+-- plan, a word for each place of its table, and words 0
 pub record AreBlank (config : Configuration) (plans : List Planned) (canvases : List End)
     : Type 0 where
   pub canvas_each : length canvases ≡ length config.clients
@@ -30,7 +33,8 @@ pub record AreBlank (config : Configuration) (plans : List Planned) (canvases : 
       → c.sight ≡ new_sight k (table_size (donation_of config k)) (plan_in plans k).ink
 
 -- the parts of an opening
-abbrev pub parts_of : BookName → Configuration → List (List Line) → List Planned → List InputLine → Parts
+abbrev pub parts_of : BookName → Configuration → List (List Line) → List Planned → List InputLine
+    → Parts
 parts_of name config scripts plans input =
     record { name = name; config = config; scripts = scripts; plans = plans; input = input }
 

@@ -1,6 +1,6 @@
 -- What contracts see of a client's pass and of the user's.
 use Rattle.std.specs.Prelude.{◌≡◌, ℕ, ◌+◌, ◌≤◌, List, length, take, slice_get, Option, Some}
-use Rattle.nit_word.specs.Sight.{Sight}
+use Rattle.nit_word.specs.Sight.{Sight, seen}
 use Rattle.nit_events.specs.declared.call.Call.{Call}
 use Rattle.nit_events.specs.declared.call.Call.TheVariants as call
 use Rattle.nit_events.specs.declared.call.Reply.{Reply}
@@ -22,8 +22,10 @@ use Rattle.nit_plan.specs.Surfaces.{with_words}
 use Rattle.nit_paint.specs.Painting.{no_sight}
 use Rattle.nit_pixels.specs.declared.standing.Standing.{Standing}
 use Rattle.nit_ledger.specs.Books.{BookName, Part}
-use Rattle.nit_hall.specs.Lines.{served, calls_in, deeds_in, phases_before, input_phases_before}
-use Rattle.nit_hall.specs.Parts.{Parts, donation_of}
+use Rattle.nit_plan.specs.Calls.{calls_in}
+use Rattle.nit_hall.specs.Lines.{served, deeds_in, phases_before, input_phases_before}
+use Rattle.nit_config.specs.Configuration.{donation_of}
+use Rattle.nit_hall.specs.Parts.{Parts}
 
 -- A client's pass: its number, how many lines of its script are done, and how many phases; the name
 -- of its room's book, its script, plan and donation; the entries that it knows; what it sees of its
@@ -41,8 +43,8 @@ pub record PassModel : Type 0 where
   pub stand : Standing
 
 -- The user's pass: its number, which is the number of clients; how many lines of the input script
--- are done, and how many phases; the name of its room's book, the input script, and the entries that
--- it knows.
+-- are done, and how many phases; the name of its room's book, the input script, and the entries
+-- that it knows.
 pub record UserPassModel : Type 0 where
   pub number : ℕ
   pub next : ℕ
@@ -64,8 +66,8 @@ pub record IsPass (p : PassModel) (share : Part) : Type 0 where
   pub painted : IsPaintedTo p.script p.donation p.plan p.next p.sight
   pub told : p.sight.words ≡ Some (words_after p.script p.donation p.next)
 
--- The same of the user's. All its lines are served by the room, and what it knows of the journal has
--- exactly its own lines so far.
+-- The same of the user's. All its lines are served by the room, and what it knows of the journal
+-- has exactly its own lines so far.
 pub record IsUserPass (u : UserPassModel) (share : Part) : Type 0 where
   pub number : share.number ≡ u.number
   pub counted : share.count ≡ u.next
@@ -103,6 +105,10 @@ call_entry p r = entry.Call p.sid (next_call p) r
 -- what the pass sees of its words when its next line has set them
 abbrev pub sight_after_line : PassModel → Sight
 sight_after_line p = with_words (λ words. words_after p.script p.donation (p.next + 1)) p.sight
+
+-- the sight after some loads: a told log has them at its end, and all else is as before
+abbrev pub HasLoaded : Sight → Sight → Type 0
+HasLoaded before after = (loads : List (ℕ × ℕ)) × (after ≡ seen before loads)
 
 -- the device event of a line; any other line has none
 abbrev pub device_at : Option InputLine → Device

@@ -17,13 +17,15 @@ use Rattle.nit_pixels.specs.declared.standing.Standing.{Standing}
 use Rattle.nit_ledger.specs.Books.{raised}
 use Rattle.nit_scene.specs.Painted.{glass_in}
 use Rattle.nit_scene.specs.Played.{Played}
-use Rattle.nit_hall.specs.Parts.{Parts, script_in}
-use Rattle.nit_hall.specs.Lines.{served, calls_in, deeds_in, lines_of_all}
+use Rattle.nit_plan.specs.Sessions.{script_in}
+use Rattle.nit_hall.specs.Parts.{Parts}
+use Rattle.nit_plan.specs.Calls.{calls_in}
+use Rattle.nit_hall.specs.Lines.{served, deeds_in, lines_of_all}
 use Rattle.nit_hall.specs.Near.{AreNear}
 
--- What the room was opened with; its scene, whose glasses are the readers' ends of the clients' words;
--- how many lines were served for each client in order, and last for the user; the phase that is
--- served, and how many actors have ended it. Phases count from 0.
+-- What the room was opened with; its scene, whose glasses are the readers' ends of the clients'
+-- words; how many lines were served for each client in order, and last for the user; the phase that
+-- is served, and how many actors have ended it. Phases count from 0.
 pub record RoomModel : Type 0 where
   pub parts : Parts
   pub scene : Played End
@@ -138,8 +140,10 @@ pub record IsRoom (r : RoomModel) : Type 0 where
   pub legal : IsLegal r.parts.config r.scene.entries
   pub sessions : length r.parts.scripts ≡ length r.parts.config.clients
   pub clients : length r.parts.scripts ≤ 16
-  pub follows : Follows r.parts.scripts r.parts.input r.counts r.phase (without_final r.scene.entries)
-  pub phases : IsServedPhase r.phase r.arrived (phases_ended r.parts.scripts r.parts.input r.counts)
+  pub follows : Follows r.parts.scripts r.parts.input r.counts r.phase
+      (without_final r.scene.entries)
+  pub phases : IsServedPhase r.phase r.arrived
+      (phases_ended r.parts.scripts r.parts.input r.counts)
   pub inks : HaveInks r.parts.scripts r.scene.glasses
   pub near : AreNear r.parts.config r.parts.scripts r.scene.entries r.scene.raw
   pub room : length r.scene.entries + r.scene.spare ≡ lines_of_all r.parts.scripts r.parts.input + 1

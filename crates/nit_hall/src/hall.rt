@@ -5,7 +5,8 @@ ghost use mathlib.Core.List.{IsPrefix};
 ghost use Rattle.nit_word.specs.Inks.{IsWord};
 ghost use Rattle.nit_journal.specs.Journals.{IsLegal, IsOpen};
 ghost use Rattle.nit_hall.specs.Passes.{Belongs, UserBelongs, IsAtCall, IsAtPhase, IsAtUserPhase};
-ghost use Rattle.nit_hall.specs.Passes.{IsAtDevice, IsAtShot, call_entry, device_entry};
+ghost use Rattle.nit_hall.specs.Passes.{HasLoaded, IsAtDevice, IsAtShot, call_entry, device_entry};
+ghost use Rattle.nit_hall.specs.Passes.{sight_after_line};
 ghost use Rattle.nit_hall.specs.Told.{IsMeasured, Tells, TellsShot};
 
 use crate::pass::Pass;
@@ -79,6 +80,7 @@ impl<'a, N: Name> Kept<'a, N> {
           seen = pass.new.seen;
           sight = pass.new.sight;
         } }
+        ensures sight { HasLoaded (sight_after_line pass.old) pass.new.sight }
     {
         self.room.serve(pass)
     }
@@ -141,9 +143,9 @@ impl<'a, N: Name> Kept<'a, N> {
 }
 
 /// A room that threads share. It stands behind a lock, and each call of it but
-/// [`wait_ready`](Hall::wait_ready) does one line of an actor whole. A call waits until the actor is
-/// ready, and no contract says that it returns. How large the screen is and how many clients there are
-/// is read without the lock.
+/// [`wait_ready`](Hall::wait_ready) does one line of an actor whole. A call waits until the actor
+/// is ready, and no contract says that it returns. How large the
+/// screen is and how many clients there are is read without the lock.
 #[derive(Drop)]
 pub struct Hall<'a, N: Name> {
     room: Mutex<Kept<'a, N>>,
@@ -189,9 +191,10 @@ impl<'a, N: Name> Hall<'a, N> {
         self.clients
     }
 
-    /// Waits until the pass is ready, and serves its next line, which is a call ([`Room::serve`]). The
-    /// last entry that the pass then knows is this call with the reply, and what it knows is legal: so
-    /// the reply is the one that the entries before it lead to. The pass is of this opening.
+    /// Waits until the pass is ready, and serves its next line, which is a call ([`Room::serve`]).
+    /// The last entry that the pass then knows is this call with the reply, and what it knows is
+    /// legal: so the reply is the one that the entries before it lead to. The pass is of this
+    /// opening.
     pub fn serve_next<R: Wait>(&self, rt: &R, pass: &mut Pass<'a>) -> Reply
         requires belongs { Belongs N.parts pass.old }
         requires next { IsAtCall pass.old }
@@ -202,6 +205,7 @@ impl<'a, N: Name> Hall<'a, N> {
           seen = pass.new.seen;
           sight = pass.new.sight;
         } }
+        ensures sight { HasLoaded (sight_after_line pass.old) pass.new.sight }
     {
         let mut kept = self
             .moved
@@ -209,8 +213,8 @@ impl<'a, N: Name> Hall<'a, N> {
         kept.serve(pass)
     }
 
-    /// Waits until the pass is ready, and ends its phase ([`Room::arrive`]). Its next line ends a phase,
-    /// and it is of this opening.
+    /// Waits until the pass is ready, and ends its phase ([`Room::arrive`]). Its next line ends a
+    /// phase, and it is of this opening.
     pub fn arrive<R: Wait>(&self, rt: &R, pass: &mut Pass<'a>)
         requires belongs { Belongs N.parts pass.old }
         requires next { IsAtPhase pass.old }
@@ -229,9 +233,9 @@ impl<'a, N: Name> Hall<'a, N> {
         self.moved.notify_all();
     }
 
-    /// Waits until the user is ready, and does its next line, which is of a device ([`Room::user`]). The
-    /// last entry that the user's pass then knows is this event with what it delivered. The pass is of
-    /// this opening.
+    /// Waits until the user is ready, and does its next line, which is of a device
+    /// ([`Room::user`]). The last entry that the user's pass then knows is this event with what it
+    /// delivered. The pass is of this opening.
     pub fn user_next<R: Wait>(&self, rt: &R, user: &mut UserPass<'a>) -> Routed
         requires belongs { UserBelongs N.parts user.old }
         requires next { IsAtDevice user.old }
@@ -246,8 +250,8 @@ impl<'a, N: Name> Hall<'a, N> {
         kept.user(user)
     }
 
-    /// Waits until the user is ready, and ends its phase ([`Room::arrive_user`]). Its next line ends a
-    /// phase, and its pass is of this opening.
+    /// Waits until the user is ready, and ends its phase ([`Room::arrive_user`]). Its next line
+    /// ends a phase, and its pass is of this opening.
     pub fn arrive_user<R: Wait>(&self, rt: &R, user: &mut UserPass<'a>)
         requires belongs { UserBelongs N.parts user.old }
         requires next { IsAtUserPhase user.old }
@@ -266,9 +270,9 @@ impl<'a, N: Name> Hall<'a, N> {
         self.moved.notify_all();
     }
 
-    /// Waits until the user is ready, and does its next line, which is `shot` ([`Room::shoot`]): sets
-    /// `out`, which has a word for each pixel, to a frame of the journal in front of the shot. Gives the
-    /// number of the shot, from 1. The user's pass is of this opening.
+    /// Waits until the user is ready, and does its next line, which is `shot` ([`Room::shoot`]):
+    /// sets `out`, which has a word for each pixel, to a frame of the journal in front of the shot.
+    /// Gives the number of the shot, from 1. The user's pass is of this opening.
     pub fn shoot<R: Wait>(&self, rt: &R, user: &mut UserPass<'a>, out: &mut [u32]) -> u32
         requires belongs { UserBelongs N.parts user.old }
         requires next { IsAtShot user.old }

@@ -26,9 +26,9 @@ use nit_scene::Scene;
 use nit_script::{Client, Input};
 use std::marker::Model;
 
-/// All sessions on one screen, and which lines of which scripts were served. Contracts see its scene,
-/// what it was opened with, the counts of its book, the phase that is served, and how many actors have
-/// ended it.
+/// All sessions on one screen, and which lines of which scripts were served. Contracts see its
+/// scene, what it was opened with, the counts of its book, the phase that is served, and how many
+/// actors have ended it.
 #[derive(Drop)]
 pub struct Room<'a> {
     scene: Scene<Lens<'a>>,
@@ -146,8 +146,8 @@ impl<'a> Room<'a> {
         self.scripts.len() as u32
     }
 
-    /// The scene. Its journal is legal and follows the scripts, and each pixel's raw word is one that
-    /// the journal allows.
+    /// The scene. Its journal is legal and follows the scripts, and each pixel's raw word is one
+    /// that the journal allows.
     pub fn scene(&self) -> &Scene<Lens<'a>>
         ensures scene { result.now ≡ self.now.scene }
         ensures config { self.now.scene.config ≡ self.now.parts.config }

@@ -11,8 +11,8 @@ use nit_ledger::Share;
 use nit_script::{Input, InputLine};
 use std::marker::Model;
 
-/// The user's place in the input script, with its share of the room's book. It can be sent to another
-/// thread.
+/// The user's place in the input script, with its share of the room's book. It can be sent to
+/// another thread.
 #[derive(Drop)]
 pub struct UserPass<'a> {
     pub(crate) next: u32,
@@ -91,8 +91,8 @@ impl<'a> UserPass<'a> {
         self.next as usize == self.input.lines().len()
     }
 
-    /// The next line, or `None` where the pass is done. The user's entries that the pass knows are those
-    /// of its done lines.
+    /// The next line, or `None` where the pass is done. The user's entries that the pass knows are
+    /// those of its done lines.
     pub fn next(&self) -> Option<InputLine>
         ensures line { result ≡ slice_get self.now.input self.now.next }
         ensures end { IfNone result (self.now.next ≡ length self.now.input) }

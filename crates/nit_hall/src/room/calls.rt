@@ -10,7 +10,8 @@ ghost use Rattle.nit_scene.specs.Marks.{glasses_of_call};
 ghost use Rattle.nit_scene.specs.Painted.{Painted, glass_in};
 ghost use Rattle.nit_scene.specs.Played.{state_now};
 ghost use Rattle.nit_hall.specs.Lines.{served};
-ghost use Rattle.nit_hall.specs.Passes.{Belongs, IsAtCall, call_entry, next_call, sight_after_line};
+ghost use Rattle.nit_hall.specs.Passes.{Belongs, HasLoaded, IsAtCall, call_entry, next_call};
+ghost use Rattle.nit_hall.specs.Passes.{sight_after_line};
 ghost use Rattle.nit_hall.specs.Rooms.{lenses, stands, with_entry};
 
 use crate::pass::Pass;
@@ -21,10 +22,10 @@ use nit_plan::stroke;
 use nit_scene::laws::clean_pixels_keep_their_source;
 
 impl<'a> Room<'a> {
-    /// Serves the next line of the pass, which is a call: it is the scene's call of that very line. A
-    /// `buffer` line that the plan accepts sets the words of the new buffer to 0 first. The client's own
-    /// pixels are loaded by the pass, and all others by the readers' ends. The pass is of this room's
-    /// opening and ready.
+    /// Serves the next line of the pass, which is a call: it is the scene's call of that very line.
+    /// A `buffer` line that the plan accepts sets the words of the new buffer to 0 first. The
+    /// client's own pixels are loaded by the pass, and all others by the readers' ends. The pass is
+    /// of this room's opening and ready.
     pub fn serve(&mut self, pass: &mut Pass<'a>) -> Reply
         requires belongs { Belongs self.old.parts pass.old }
         requires ready { pass.old.phase ≡ self.old.phase }
@@ -38,6 +39,7 @@ impl<'a> Room<'a> {
           seen = self.new.scene.entries;
           sight = pass.new.sight;
         } }
+        ensures sight { HasLoaded (sight_after_line pass.old) pass.new.sight }
         ensures before { IsPrefix pass.old.seen self.old.scene.entries }
         ensures counted { slice_index self.old.counts pass.old.sid
             ≡ length (served (take pass.old.next pass.old.script)) }

@@ -12,7 +12,8 @@ ghost use Rattle.nit_journal.specs.State.{route};
 ghost use Rattle.nit_scene.specs.Painted.{Painted, glass_in};
 ghost use Rattle.nit_scene.specs.Played.{scenery_of, state_now};
 ghost use Rattle.nit_hall.specs.Near.{IsNearFrame};
-ghost use Rattle.nit_hall.specs.Passes.{UserBelongs, IsAtDevice, IsAtShot, device_entry, next_device};
+ghost use Rattle.nit_hall.specs.Passes.{UserBelongs, IsAtDevice, IsAtShot};
+ghost use Rattle.nit_hall.specs.Passes.{device_entry, next_device};
 ghost use Rattle.nit_hall.specs.Rooms.{lenses, stands, with_entry};
 
 use crate::room::Room;
@@ -22,8 +23,8 @@ use nit_journal::laws::one_more_entry;
 use nit_scene::laws::clean_pixels_keep_their_source;
 
 impl<'a> Room<'a> {
-    /// Does the user's next line, which is of a device: it is the scene's input of that very line. The
-    /// user's pass is of this room's opening and ready.
+    /// Does the user's next line, which is of a device: it is the scene's input of that very line.
+    /// The user's pass is of this room's opening and ready.
     pub fn user(&mut self, user: &mut UserPass<'a>) -> Routed
         requires belongs { UserBelongs self.old.parts user.old }
         requires ready { user.old.phase ≡ self.old.phase }
@@ -60,8 +61,9 @@ impl<'a> Room<'a> {
         routed
     }
 
-    /// Does the user's next line, which is `shot`: sets `out`, which has a word for each pixel, to the
-    /// frame. Gives the number of the shot, from 1. The user's pass is of this room's opening and ready.
+    /// Does the user's next line, which is `shot`: sets `out`, which has a word for each pixel, to
+    /// the frame. Gives the number of the shot, from 1. The user's pass is of this room's opening
+    /// and ready.
     pub fn shoot(&mut self, user: &mut UserPass<'a>, out: &mut [u32]) -> u32
         requires belongs { UserBelongs self.old.parts user.old }
         requires ready { user.old.phase ≡ self.old.phase }

@@ -23,9 +23,9 @@ use nit_plan::laws::one_more_line;
 use nit_scene::laws::clean_pixels_keep_their_source;
 
 impl<'a> Room<'a> {
-    /// Takes the last picture: loads every pixel again through the passes, one for each client in order,
-    /// sets `out`, which has a word for each pixel, to the frame, and ends the journal. All passes and
-    /// the user's are of this room's opening and done, and the journal is not ended.
+    /// Takes the last picture: loads every pixel again through the passes, one for each client in
+    /// order, sets `out`, which has a word for each pixel, to the frame, and ends the journal. All
+    /// passes and the user's are of this room's opening and done, and the journal is not ended.
     pub fn finish(&mut self, passes: &mut [Pass<'a>], user: &mut UserPass<'a>, out: &mut [u32])
         requires passes { AreDone self.old.parts passes.old }
         requires user { IsDoneUser self.old.parts user.old }
@@ -34,8 +34,8 @@ impl<'a> Room<'a> {
         ensures whole { IsWhole (map calls_to_make self.old.parts.scripts)
             (deeds_to_do self.old.parts.input) self.new.scene.entries }
         ensures legal { IsLegal self.old.parts.config self.new.scene.entries }
-        ensures frame { out.new ≡ frame (scenery_of (state_now self.old.scene))
-            (words_left_in self.old.parts.config self.old.parts.scripts (state_now self.old.scene)) }
+        ensures frame { let s = state_now self.old.scene in out.new ≡ frame (scenery_of s)
+            (words_left_in self.old.parts.config self.old.parts.scripts s) }
         ensures words { All IsWord out.new }
         ensures room { self.new ≡ with_final self.old self.new.scene.raw }
         ensures before { (k : ℕ) (p : PassModel) → slice_get passes.old k ≡ Some p

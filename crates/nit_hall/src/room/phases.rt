@@ -13,8 +13,8 @@ use crate::user::UserPass;
 use nit_plan::laws::one_more_line;
 
 impl<'a> Room<'a> {
-    /// The pass, whose next line ends a phase, has ended it. Once all clients and the user have, the
-    /// next phase is served. The pass is of this room's opening and ready.
+    /// The pass, whose next line ends a phase, has ended it. Once all clients and the user have,
+    /// the next phase is served. The pass is of this room's opening and ready.
     pub fn arrive(&mut self, pass: &mut Pass<'a>)
         requires belongs { Belongs self.old.parts pass.old }
         requires ready { pass.old.phase ≡ self.old.phase }
@@ -39,8 +39,8 @@ impl<'a> Room<'a> {
         (self.phase, self.arrived) = after_arrival(self.scripts.len(), self.phase, self.arrived);
     }
 
-    /// The user, whose next line ends a phase, has ended it. Once all clients have too, the next phase
-    /// is served. The user's pass is of this room's opening and ready.
+    /// The user, whose next line ends a phase, has ended it. Once all clients have too, the next
+    /// phase is served. The user's pass is of this room's opening and ready.
     pub fn arrive_user(&mut self, user: &mut UserPass<'a>)
         requires belongs { UserBelongs self.old.parts user.old }
         requires ready { user.old.phase ≡ self.old.phase }
