@@ -24,3 +24,7 @@ pub mod Turning
 pub mod Walks
 pub mod Whole
 pub mod ShotsDrawn
+pub mod Roles
+pub mod Pictures
+pub mod InStep
+pub mod OneClient

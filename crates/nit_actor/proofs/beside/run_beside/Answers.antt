@@ -1,0 +1,14 @@
+use Rattle.std.proofs.Common.{◌∙◌}
+use Rattle.nit_actor.proofs.Roles.{roles_back, fit_again, roles_fit}
+use Rattle.nit_actor.proofs.Pictures.{puts_also}
+use Rattle.nit_actor.proofs.beside.run_beside.Goals as goal
+
+pub run_left-requires-clause-passes : goal.run_left-requires-clause-passes
+run_left-requires-clause-passes g c =
+    fit_again g.N.Name.parts c.run_crew-mine.new.back.items c.args.passes.items (roles_back _ _ c.run_crew-mine.ensures.passes) (roles_fit g.N.Name.parts c.args.passes.items c.requires.passes)
+
+pub returns-clause-same : goal.returns-clause-same
+returns-clause-same g c = c.run_left.ensures.same ∙ roles_back _ _ c.run_crew-mine.ensures.passes
+
+pub returns-clause-put : goal.returns-clause-put
+returns-clause-put g c = puts_also g.N.Name.parts _ _ _ _ _ _ c.run_crew-mine.ensures.kept.1 c.run_left.ensures.put

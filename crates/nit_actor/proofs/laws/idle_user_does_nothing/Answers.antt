@@ -1,0 +1,5 @@
+use Rattle.nit_actor.proofs.InStep.{idle_deeds}
+use Rattle.nit_actor.proofs.laws.idle_user_does_nothing.Goals as goal
+
+pub returns : goal.returns
+returns c = idle_deeds

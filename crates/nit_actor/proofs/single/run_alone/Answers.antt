@@ -1,0 +1,19 @@
+use Rattle.std.proofs.Common.{◌∙◌, sym}
+use Rattle.nit_actor.proofs.InStep.{user_ended, all_recorded}
+use Rattle.nit_actor.proofs.single.run_alone.Goals as goal
+
+pub lines-preserved : goal.lines-preserved
+lines-preserved c =
+    let i = c.lines.invariant in
+    let e = c.do_line.ensures in
+    record {
+      step = e.step;
+      open_now = e.«open»;
+      same = e.same ∙ i.same;
+      user_same = e.user_same ∙ i.user_same;
+      parts = e.parts ∙ i.parts;
+      recorded = e.recorded ∙ i.recorded;
+    }
+
+pub returns-clause-user_done : goal.returns-clause-user_done
+returns-clause-user_done c = user_ended c.lines.room c.lines.pass c.lines.user c.lines.invariant.step c.in_default.ensures.end c.done-within.ensures.within

@@ -1,0 +1,16 @@
+use Rattle.std.proofs.Common.{◌∙◌, take, ap}
+use Rattle.nit_hall.specs.Lines.{deeds_in}
+use Rattle.nit_hall.specs.Passes.{UserPassModel, next_device}
+use Rattle.nit_actor.proofs.Pictures.{quiet_device}
+use Rattle.nit_actor.proofs.user.do_device.Goals as goal
+
+pub returns-clause-seen : goal.returns-clause-seen
+returns-clause-seen g c =
+    let u = c.args.user.now in
+    quiet_device u.input u.next (next_device u) c.user_next.result u.seen c.user_next.new.user.seen
+    (record {
+      line_is = c.requires.next;
+      before_is = c.next-known.ensures.known;
+      after_is = c.next-known-2.ensures.known ∙ ap (λ (v : UserPassModel). deeds_in (take v.next v.input)) c.user_next.ensures.user;
+    })
+    c.user_next.ensures.told

@@ -1,0 +1,72 @@
+//! What a client's thread does.
+
+ghost use Rattle.std.specs.Prelude.{◌≡◌, ◌+◌, Some, length, slice_get};
+ghost use Rattle.nit_hall.specs.Passes.{Belongs};
+ghost use Rattle.nit_actor.specs.Roles.{role_of};
+
+use crate::gate::{Calls, Gate, Hook};
+use nit_hall::{Hall, Name, Pass};
+use nit_script::Line;
+use std::sync::Wait;
+
+/// Does all lines of the pass that are left, and passes the gate before each, outside the lock. A call
+/// and the end of a phase wait until the room serves the pass's phase. A stroke takes no lock, but that one
+/// that stands directly behind the end of a phase waits so before it passes the gate.
+pub fn run_actor<'a, N: Name, G: Gate, R: Wait>(
+    rt: &R,
+    hall: &Hall<'a, N>,
+    gate: &G,
+    pass: &mut Pass<'a>,
+)
+    requires belongs { Belongs N.parts pass.old }
+    ensures same { role_of pass.new ≡ role_of pass.old }
+    ensures done { pass.new.next ≡ length pass.new.script }
+{
+    run_lines(rt, hall, &Hook(gate), pass)
+}
+
+/// The same, with what is called before each line.
+pub(crate) fn run_lines<'a, N: Name, K: Calls, R: Wait>(
+    rt: &R,
+    hall: &Hall<'a, N>,
+    calls: &K,
+    pass: &mut Pass<'a>,
+)
+    requires belongs { Belongs N.parts pass.old }
+    ensures same { role_of pass.new ≡ role_of pass.old }
+    ensures done { pass.new.next ≡ length pass.new.script }
+{
+    let mut arrived = false;
+    'lines: while let Some(line) = pass.next() {
+        do_line(rt, hall, calls, pass, &line, arrived);
+        arrived = matches!(line, Line::Phase);
+    }
+}
+
+/// Does the next line of the pass, which is this one. Where the pass has just `arrived` at the end of a
+/// phase, a stroke waits until the room serves the next one.
+pub(crate) fn do_line<'a, N: Name, K: Calls, R: Wait>(
+    rt: &R,
+    hall: &Hall<'a, N>,
+    calls: &K,
+    pass: &mut Pass<'a>,
+    line: &Line,
+    arrived: bool,
+)
+    requires belongs { Belongs N.parts pass.old }
+    requires next { slice_get pass.old.script pass.old.next ≡ Some line.now }
+    ensures same { role_of pass.new ≡ role_of pass.old }
+    ensures next { pass.new.next ≡ pass.old.next + 1 }
+{
+    if arrived && matches!(line, Line::Stroke(_)) {
+        hall.wait_ready(rt, pass);
+    }
+    calls.call(pass.sid(), pass.line() + 1);
+    match line {
+        Line::Call(_) => {
+            hall.serve_next(rt, pass);
+        }
+        Line::Stroke(_) => pass.stroke(),
+        Line::Phase => hall.arrive(rt, pass),
+    }
+}

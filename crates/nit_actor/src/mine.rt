@@ -1,0 +1,171 @@
+//! What the calling thread does: the user, and the passes whose threads could not be started, by turns.
+
+ghost use Rattle.std.specs.Prelude.{◌≡◌, ◌*◌, All, IfNone, IsSome, length, map};
+ghost use Rattle.nit_report.specs.Picture.{picture_length};
+ghost use Rattle.nit_hall.specs.Passes.{Belongs, UserBelongs};
+ghost use Rattle.nit_actor.specs.Running.{putting};
+ghost use Rattle.nit_actor.specs.Roles.{IsRoleIn, role_of, user_role_of};
+ghost use Rattle.nit_actor.specs.Pictures.{PutsShotsBehind};
+
+use crate::actor::do_line;
+use crate::desk::Desk;
+use crate::gate::{Calls, Gate, Hook};
+use crate::user::do_user_line;
+use nit_hall::{Hall, Name, Pass, UserPass};
+use nit_store::Store;
+use std::sync::Wait;
+
+/// Does all lines of these passes and of the user that are left, by turns, and puts the pictures of the shots until a
+/// put is refused. In each turn those of the least phase that has a line left do a line each, so the thread waits only
+/// where each that is not done has ended its phase. Each passes the gate before its line, outside the lock.
+pub fn run_mine<'a, N: Name, G: Gate, S: Store, R: Wait>(
+    rt: &R,
+    hall: &Hall<'a, N>,
+    gate: &G,
+    passes: &mut [Pass<'a>],
+    user: &mut UserPass<'a>,
+    desk: &mut Desk<S>,
+)
+    requires passes { All (Belongs N.parts) passes.old }
+    requires user { UserBelongs N.parts user.old }
+    requires frame { length desk.old.frame.items ≡ N.parts.config.width * N.parts.config.height }
+    requires text { length desk.old.text.items ≡ picture_length N.parts.config.width N.parts.config.height }
+    ensures same { map role_of passes.new ≡ map role_of passes.old }
+    ensures done { All (λ p. p.next ≡ length p.script) passes.new }
+    ensures user_same { user_role_of user.new ≡ user_role_of user.old }
+    ensures user_done { user.new.next ≡ length user.new.input }
+    ensures put { PutsShotsBehind N.parts user.old.seen user.new.seen
+        (putting (S.shown desk.old.store.now) desk.old.fault desk.old.tried)
+        (putting (S.shown desk.new.store.now) desk.new.fault desk.new.tried) }
+    ensures frame { length desk.new.frame.items ≡ length desk.old.frame.items }
+    ensures text { length desk.new.text.items ≡ length desk.old.text.items }
+    ensures same_store { desk.new.store.ghost_name ≡ desk.old.store.ghost_name }
+{
+    run_turns(rt, hall, &Hook(gate), passes, user, desk)
+}
+
+/// The same, with what is called before each line.
+pub(crate) fn run_turns<'a, N: Name, K: Calls, S: Store, R: Wait>(
+    rt: &R,
+    hall: &Hall<'a, N>,
+    calls: &K,
+    passes: &mut [Pass<'a>],
+    user: &mut UserPass<'a>,
+    desk: &mut Desk<S>,
+)
+    requires passes { All (λ p. IsRoleIn N.parts (role_of p)) passes.old }
+    requires user { UserBelongs N.parts user.old }
+    requires frame { length desk.old.frame.items ≡ N.parts.config.width * N.parts.config.height }
+    requires text { length desk.old.text.items ≡ picture_length N.parts.config.width N.parts.config.height }
+    ensures same { map role_of passes.new ≡ map role_of passes.old }
+    ensures done { All (λ p. p.next ≡ length p.script) passes.new }
+    ensures user_same { user_role_of user.new ≡ user_role_of user.old }
+    ensures user_done { user.new.next ≡ length user.new.input }
+    ensures put { PutsShotsBehind N.parts user.old.seen user.new.seen
+        (putting (S.shown desk.old.store.now) desk.old.fault desk.old.tried)
+        (putting (S.shown desk.new.store.now) desk.new.fault desk.new.tried) }
+    ensures frame { length desk.new.frame.items ≡ length desk.old.frame.items }
+    ensures text { length desk.new.text.items ≡ length desk.old.text.items }
+    ensures same_store { desk.new.store.ghost_name ≡ desk.old.store.ghost_name }
+{
+    'turns: for _ in rt.forever() {
+        let Some(phase) = least_phase(passes, user) else {
+            return;
+        };
+        do_turn(rt, hall, calls, passes, phase);
+        do_user_turn(rt, hall, calls, user, phase, desk);
+    }
+    unreachable!()
+}
+
+/// Each pass that is in this phase does its next line, if it has one.
+fn do_turn<'a, N: Name, K: Calls, R: Wait>(
+    rt: &R,
+    hall: &Hall<'a, N>,
+    calls: &K,
+    passes: &mut [Pass<'a>],
+    phase: u32,
+)
+    requires fits { All (λ p. IsRoleIn N.parts (role_of p)) passes.old }
+    ensures same { map role_of passes.new ≡ map role_of passes.old }
+    ensures fits { All (λ p. IsRoleIn N.parts (role_of p)) passes.new }
+{
+    'passes: for pass in passes.iter_mut() {
+        do_pass_turn(rt, hall, calls, pass, phase);
+    }
+}
+
+/// The pass does its next line, if it has one and is in this phase.
+fn do_pass_turn<'a, N: Name, K: Calls, R: Wait>(
+    rt: &R,
+    hall: &Hall<'a, N>,
+    calls: &K,
+    pass: &mut Pass<'a>,
+    phase: u32,
+)
+    requires fits { IsRoleIn N.parts (role_of pass.old) }
+    ensures same { role_of pass.new ≡ role_of pass.old }
+{
+    if pass.phase() != phase {
+        return;
+    }
+    if let Some(line) = pass.next() {
+        do_line(rt, hall, calls, pass, &line, true);
+    }
+}
+
+/// The user does its next line, if it has one and is in this phase.
+fn do_user_turn<'a, N: Name, K: Calls, S: Store, R: Wait>(
+    rt: &R,
+    hall: &Hall<'a, N>,
+    calls: &K,
+    user: &mut UserPass<'a>,
+    phase: u32,
+    desk: &mut Desk<S>,
+)
+    requires belongs { UserBelongs N.parts user.old }
+    requires frame { length desk.old.frame.items ≡ N.parts.config.width * N.parts.config.height }
+    requires text { length desk.old.text.items ≡ picture_length N.parts.config.width N.parts.config.height }
+    ensures same { user_role_of user.new ≡ user_role_of user.old }
+    ensures put { PutsShotsBehind N.parts user.old.seen user.new.seen
+        (putting (S.shown desk.old.store.now) desk.old.fault desk.old.tried)
+        (putting (S.shown desk.new.store.now) desk.new.fault desk.new.tried) }
+    ensures frame { length desk.new.frame.items ≡ length desk.old.frame.items }
+    ensures text { length desk.new.text.items ≡ length desk.old.text.items }
+    ensures same_store { desk.new.store.ghost_name ≡ desk.old.store.ghost_name }
+{
+    if user.phase() != phase {
+        return;
+    }
+    if let Some(line) = user.next() {
+        do_user_line(rt, hall, calls, user, &line, desk);
+    }
+}
+
+/// The least phase of those that are not done, or `None` where all are done.
+fn least_phase(passes: &[Pass<'_>], user: &UserPass<'_>) -> Option<u32>
+    ensures passes { IfNone result (All (λ p. p.next ≡ length p.script) passes.now) }
+    ensures user { IfNone result (user.now.next ≡ length user.now.input) }
+{
+    let mut least = None;
+    'passes: for pass in passes {
+        if !pass.done() {
+            least = lesser(pass.phase(), least);
+        }
+    }
+    if user.done() {
+        least
+    } else {
+        lesser(user.phase(), least)
+    }
+}
+
+/// The lesser of a phase and of one that may be there.
+fn lesser(phase: u32, other: Option<u32>) -> Option<u32>
+    ensures { IsSome result }
+{
+    match other {
+        Some(other) if other < phase => Some(other),
+        _ => Some(phase),
+    }
+}

@@ -1,0 +1,115 @@
+//! The user's lines, over a hall.
+
+ghost use Rattle.std.specs.Prelude.{◌≡◌, ◌*◌, ◌+◌, All, Some, length, slice_get};
+ghost use Rattle.nit_word.specs.Inks.{IsWord};
+ghost use Rattle.nit_report.specs.Picture.{picture_length};
+ghost use Rattle.nit_hall.specs.Told.{TellsShot};
+ghost use Rattle.nit_hall.specs.Passes.{UserBelongs, IsAtDevice, IsAtShot, IsAtUserPhase};
+ghost use Rattle.nit_actor.specs.Running.{putting};
+ghost use Rattle.nit_actor.specs.Roles.{user_role_of};
+ghost use Rattle.nit_actor.specs.Pictures.{GrowsQuietly, PutsShotsBehind};
+
+use crate::desk::Desk;
+use crate::gate::Calls;
+use nit_hall::{Hall, Name, UserPass};
+use nit_script::InputLine;
+use nit_store::Store;
+use std::sync::Wait;
+
+/// Does the user's next line, which is of a device.
+fn do_device<'a, N: Name, R: Wait>(rt: &R, hall: &Hall<'a, N>, user: &mut UserPass<'a>)
+    requires belongs { UserBelongs N.parts user.old }
+    requires next { IsAtDevice user.old }
+    ensures same { user_role_of user.new ≡ user_role_of user.old }
+    ensures seen { GrowsQuietly user.old.seen user.new.seen }
+{
+    let _known = user.next();
+    hall.user_next(rt, user);
+    let _known = user.next();
+}
+
+/// Does the user's next line, which ends a phase.
+fn end_phase<'a, N: Name, R: Wait>(rt: &R, hall: &Hall<'a, N>, user: &mut UserPass<'a>)
+    requires belongs { UserBelongs N.parts user.old }
+    requires next { IsAtUserPhase user.old }
+    ensures same { user_role_of user.new ≡ user_role_of user.old }
+    ensures seen { GrowsQuietly user.old.seen user.new.seen }
+{
+    let _known = user.next();
+    hall.arrive_user(rt, user);
+    let _known = user.next();
+}
+
+/// Does the user's next line, which is `shot`, and sets `frame` to what it shows. Gives the shot's number.
+fn take_shot<'a, N: Name, R: Wait>(
+    rt: &R,
+    hall: &Hall<'a, N>,
+    user: &mut UserPass<'a>,
+    frame: &mut Vec<u32>,
+) -> u32
+    requires belongs { UserBelongs N.parts user.old }
+    requires next { IsAtShot user.old }
+    requires frame { length frame.old.items ≡ N.parts.config.width * N.parts.config.height }
+    ensures told { TellsShot N.parts user.old.seen result user.new.seen frame.new.items }
+    ensures words { All IsWord frame.new.items }
+    ensures frame { length frame.new.items ≡ length frame.old.items }
+    ensures user { user.new ≡ record user.old { next = user.old.next + 1; seen = user.new.seen } }
+{
+    hall.shoot(rt, user, frame)
+}
+
+/// Does the user's next line, which is `shot`, and puts its picture unless a put was refused before.
+fn shoot<'a, N: Name, S: Store, R: Wait>(
+    rt: &R,
+    hall: &Hall<'a, N>,
+    user: &mut UserPass<'a>,
+    desk: &mut Desk<S>,
+)
+    requires belongs { UserBelongs N.parts user.old }
+    requires next { IsAtShot user.old }
+    requires frame { length desk.old.frame.items ≡ N.parts.config.width * N.parts.config.height }
+    requires text { length desk.old.text.items ≡ picture_length N.parts.config.width N.parts.config.height }
+    ensures same { user_role_of user.new ≡ user_role_of user.old }
+    ensures put { PutsShotsBehind N.parts user.old.seen user.new.seen
+        (putting (S.shown desk.old.store.now) desk.old.fault desk.old.tried)
+        (putting (S.shown desk.new.store.now) desk.new.fault desk.new.tried) }
+    ensures frame { length desk.new.frame.items ≡ length desk.old.frame.items }
+    ensures text { length desk.new.text.items ≡ length desk.old.text.items }
+    ensures same_store { desk.new.store.ghost_name ≡ desk.old.store.ghost_name }
+{
+    let (width, height) = hall.size();
+    let _known = user.next();
+    let number = take_shot(rt, hall, user, &mut desk.frame);
+    desk.put_shot(width, height, number);
+    let _known = user.next();
+}
+
+/// Does the user's next line, which is this one, and passes the gate before it. The picture of a shot is put,
+/// unless a put was refused before.
+pub(crate) fn do_user_line<'a, N: Name, K: Calls, S: Store, R: Wait>(
+    rt: &R,
+    hall: &Hall<'a, N>,
+    calls: &K,
+    user: &mut UserPass<'a>,
+    line: &InputLine,
+    desk: &mut Desk<S>,
+)
+    requires belongs { UserBelongs N.parts user.old }
+    requires next { slice_get user.old.input user.old.next ≡ Some line.now }
+    requires frame { length desk.old.frame.items ≡ N.parts.config.width * N.parts.config.height }
+    requires text { length desk.old.text.items ≡ picture_length N.parts.config.width N.parts.config.height }
+    ensures same { user_role_of user.new ≡ user_role_of user.old }
+    ensures put { PutsShotsBehind N.parts user.old.seen user.new.seen
+        (putting (S.shown desk.old.store.now) desk.old.fault desk.old.tried)
+        (putting (S.shown desk.new.store.now) desk.new.fault desk.new.tried) }
+    ensures frame { length desk.new.frame.items ≡ length desk.old.frame.items }
+    ensures text { length desk.new.text.items ≡ length desk.old.text.items }
+    ensures same_store { desk.new.store.ghost_name ≡ desk.old.store.ghost_name }
+{
+    calls.call(hall.clients(), user.line() + 1);
+    match line {
+        InputLine::Device(_) => do_device(rt, hall, user),
+        InputLine::Phase => end_phase(rt, hall, user),
+        InputLine::Shot => shoot(rt, hall, user, desk),
+    }
+}

@@ -1,0 +1,7 @@
+use Rattle.nit_journal.specs.Journals.{replay}
+use Rattle.nit_scene.specs.Painted.{source_at}
+use Rattle.nit_hall.proofs.Near.{near_word}
+use Rattle.nit_hall.proofs.laws.near_words.Goals as goal
+
+pub returns : goal.returns
+returns c = λ config scripts journal k w near. near_word config scripts journal k (source_at (replay config journal) k) w near

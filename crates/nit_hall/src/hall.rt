@@ -1,0 +1,313 @@
+//! The room behind a lock.
+
+ghost use Rattle.std.specs.Prelude.{◌≡◌, ◌==◌, ◌+◌, ◌*◌, ◌≤◌, All, length};
+ghost use mathlib.Core.List.{IsPrefix};
+ghost use Rattle.nit_word.specs.Inks.{IsWord};
+ghost use Rattle.nit_journal.specs.Journals.{IsLegal, IsOpen};
+ghost use Rattle.nit_hall.specs.Passes.{Belongs, UserBelongs, IsAtCall, IsAtPhase, IsAtUserPhase};
+ghost use Rattle.nit_hall.specs.Passes.{HasLoaded, IsAtDevice, IsAtShot, call_entry, device_entry};
+ghost use Rattle.nit_hall.specs.Passes.{sight_after_line};
+ghost use Rattle.nit_hall.specs.Told.{IsMeasured, Tells, TellsShot};
+
+use crate::pass::Pass;
+use crate::room::Room;
+use crate::user::UserPass;
+use nit_events::{Reply, Routed};
+use std::marker::{Brand, Model, PhantomData};
+use std::sync::{Condvar, Mutex, Wait};
+
+/// Which opening it is: the name of its book, its configuration, scripts, plans and input script.
+/// Contracts alone know it, and a run picks it once, after [`open`](crate::open).
+pub trait Name {
+    ghost use Rattle.nit_hall.specs.Parts.{Parts};
+
+    ghost parts: { Parts };
+}
+
+impl Name for Brand {
+    ghost use Rattle.std.specs.Prelude.{[], false};
+    ghost use Rattle.nit_ledger.specs.Seats.{no_name};
+
+    ghost parts = { record {
+      name = no_name;
+      config = record { width = 0; height = 0; bar = false; input = []; clients = [] };
+      scripts = [];
+      plans = [];
+      input = [];
+    } };
+}
+
+/// What lies under the lock: a room of the opening that `N` names, without its last picture.
+#[derive(Drop)]
+struct Kept<'a, N: Name> {
+    room: Room<'a>,
+    of: PhantomData<N>,
+}
+
+impl<'a, N: Name> Model for Kept<'a, N> {
+    ghost use Rattle.std.specs.Prelude.{◌≡◌};
+    ghost use Rattle.nit_journal.specs.Journals.{IsOpen};
+    ghost use Rattle.nit_hall.specs.Rooms.{RoomModel};
+
+    ghost Value = { RoomModel };
+
+    ghost view = { λ k. k.room };
+
+    ghost invariant = { λ k. (k.room.parts ≡ N.parts) × IsOpen k.room.scene.entries };
+}
+
+impl<'a, N: Name> Kept<'a, N> {
+    fn ready(&self, pass: &Pass<'a>) -> bool
+        ensures { result ≡ (pass.now.phase == self.now.phase) }
+    {
+        self.room.ready(pass)
+    }
+
+    fn ready_user(&self, user: &UserPass<'a>) -> bool
+        ensures { result ≡ (user.now.phase == self.now.phase) }
+    {
+        self.room.ready_user(user)
+    }
+
+    fn serve(&mut self, pass: &mut Pass<'a>) -> Reply
+        requires belongs { Belongs N.parts pass.old }
+        requires ready { pass.old.phase ≡ self.old.phase }
+        requires next { IsAtCall pass.old }
+        ensures told { Tells pass.old.seen (call_entry pass.old result) pass.new.seen }
+        ensures legal { IsLegal N.parts.config pass.new.seen }
+        ensures pass { pass.new ≡ record pass.old {
+          next = pass.old.next + 1;
+          seen = pass.new.seen;
+          sight = pass.new.sight;
+        } }
+        ensures sight { HasLoaded (sight_after_line pass.old) pass.new.sight }
+    {
+        self.room.serve(pass)
+    }
+
+    fn arrive(&mut self, pass: &mut Pass<'a>)
+        requires belongs { Belongs N.parts pass.old }
+        requires ready { pass.old.phase ≡ self.old.phase }
+        requires next { IsAtPhase pass.old }
+        ensures grows { IsPrefix pass.old.seen pass.new.seen }
+        ensures legal { IsLegal N.parts.config pass.new.seen }
+        ensures pass { pass.new ≡ record pass.old {
+          next = pass.old.next + 1;
+          phase = pass.old.phase + 1;
+          seen = pass.new.seen;
+        } }
+    {
+        self.room.arrive(pass);
+    }
+
+    fn user(&mut self, user: &mut UserPass<'a>) -> Routed
+        requires belongs { UserBelongs N.parts user.old }
+        requires ready { user.old.phase ≡ self.old.phase }
+        requires next { IsAtDevice user.old }
+        ensures told { Tells user.old.seen (device_entry user.old result) user.new.seen }
+        ensures legal { IsLegal N.parts.config user.new.seen }
+        ensures user { user.new
+            ≡ record user.old { next = user.old.next + 1; seen = user.new.seen } }
+    {
+        self.room.user(user)
+    }
+
+    fn arrive_user(&mut self, user: &mut UserPass<'a>)
+        requires belongs { UserBelongs N.parts user.old }
+        requires ready { user.old.phase ≡ self.old.phase }
+        requires next { IsAtUserPhase user.old }
+        ensures grows { IsPrefix user.old.seen user.new.seen }
+        ensures legal { IsLegal N.parts.config user.new.seen }
+        ensures user { user.new ≡ record user.old {
+          next = user.old.next + 1;
+          phase = user.old.phase + 1;
+          seen = user.new.seen;
+        } }
+    {
+        self.room.arrive_user(user);
+    }
+
+    fn shoot(&mut self, user: &mut UserPass<'a>, out: &mut [u32]) -> u32
+        requires belongs { UserBelongs N.parts user.old }
+        requires ready { user.old.phase ≡ self.old.phase }
+        requires next { IsAtShot user.old }
+        requires out { length out.old ≡ N.parts.config.width * N.parts.config.height }
+        ensures told { TellsShot N.parts user.old.seen result user.new.seen out.new }
+        ensures legal { IsLegal N.parts.config user.new.seen }
+        ensures words { All IsWord out.new }
+        ensures user { user.new
+            ≡ record user.old { next = user.old.next + 1; seen = user.new.seen } }
+    {
+        self.room.shoot(user, out)
+    }
+}
+
+/// A room that threads share. It stands behind a lock, and each call of it but
+/// [`wait_ready`](Hall::wait_ready) does one line of an actor whole. A call waits until the actor
+/// is ready, and no contract says that it returns. How large the
+/// screen is and how many clients there are is read without the lock.
+#[derive(Drop)]
+pub struct Hall<'a, N: Name> {
+    room: Mutex<Kept<'a, N>>,
+    moved: Condvar,
+    width: u32,
+    height: u32,
+    clients: u32,
+    ghost measured: { IsMeasured N.parts width height clients },
+}
+
+impl<'a, N: Name> Hall<'a, N> {
+    /// The room behind a lock. It is of the opening that `N` names, and its journal is not ended.
+    pub fn new(room: Room<'a>) -> Hall<'a, N>
+        requires parts { room.parts ≡ N.parts }
+        requires open { IsOpen room.scene.entries }
+    {
+        let (width, height) = room.size();
+        let clients = room.clients();
+        Hall {
+            room: Mutex::new(Kept {
+                room,
+                of: PhantomData,
+            }),
+            moved: Condvar::new(),
+            width,
+            height,
+            clients,
+        }
+    }
+
+    /// The width and the height of the screen in pixels, at most 1024 and 768. It takes no lock.
+    pub fn size(&self) -> (u32, u32)
+        ensures size { result ≡ (N.parts.config.width, N.parts.config.height) }
+        ensures screen { (result.0 ≤ 1024) × (result.1 ≤ 768) }
+    {
+        (self.width, self.height)
+    }
+
+    /// How many clients there are. It takes no lock.
+    pub fn clients(&self) -> u32
+        ensures { result ≡ length N.parts.scripts }
+    {
+        self.clients
+    }
+
+    /// Waits until the pass is ready, and serves its next line, which is a call ([`Room::serve`]).
+    /// The last entry that the pass then knows is this call with the reply, and what it knows is
+    /// legal: so the reply is the one that the entries before it lead to. The pass is of this
+    /// opening.
+    pub fn serve_next<R: Wait>(&self, rt: &R, pass: &mut Pass<'a>) -> Reply
+        requires belongs { Belongs N.parts pass.old }
+        requires next { IsAtCall pass.old }
+        ensures told { Tells pass.old.seen (call_entry pass.old result) pass.new.seen }
+        ensures legal { IsLegal N.parts.config pass.new.seen }
+        ensures pass { pass.new ≡ record pass.old {
+          next = pass.old.next + 1;
+          seen = pass.new.seen;
+          sight = pass.new.sight;
+        } }
+        ensures sight { HasLoaded (sight_after_line pass.old) pass.new.sight }
+    {
+        let mut kept = self
+            .moved
+            .wait_while(rt, self.room.lock(rt), |kept| !kept.ready(pass));
+        kept.serve(pass)
+    }
+
+    /// Waits until the pass is ready, and ends its phase ([`Room::arrive`]). Its next line ends a
+    /// phase, and it is of this opening.
+    pub fn arrive<R: Wait>(&self, rt: &R, pass: &mut Pass<'a>)
+        requires belongs { Belongs N.parts pass.old }
+        requires next { IsAtPhase pass.old }
+        ensures grows { IsPrefix pass.old.seen pass.new.seen }
+        ensures legal { IsLegal N.parts.config pass.new.seen }
+        ensures pass { pass.new ≡ record pass.old {
+          next = pass.old.next + 1;
+          phase = pass.old.phase + 1;
+          seen = pass.new.seen;
+        } }
+    {
+        let mut kept = self
+            .moved
+            .wait_while(rt, self.room.lock(rt), |kept| !kept.ready(pass));
+        kept.arrive(pass);
+        self.moved.notify_all();
+    }
+
+    /// Waits until the user is ready, and does its next line, which is of a device
+    /// ([`Room::user`]). The last entry that the user's pass then knows is this event with what it
+    /// delivered. The pass is of this opening.
+    pub fn user_next<R: Wait>(&self, rt: &R, user: &mut UserPass<'a>) -> Routed
+        requires belongs { UserBelongs N.parts user.old }
+        requires next { IsAtDevice user.old }
+        ensures told { Tells user.old.seen (device_entry user.old result) user.new.seen }
+        ensures legal { IsLegal N.parts.config user.new.seen }
+        ensures user { user.new
+            ≡ record user.old { next = user.old.next + 1; seen = user.new.seen } }
+    {
+        let mut kept = self
+            .moved
+            .wait_while(rt, self.room.lock(rt), |kept| !kept.ready_user(user));
+        kept.user(user)
+    }
+
+    /// Waits until the user is ready, and ends its phase ([`Room::arrive_user`]). Its next line
+    /// ends a phase, and its pass is of this opening.
+    pub fn arrive_user<R: Wait>(&self, rt: &R, user: &mut UserPass<'a>)
+        requires belongs { UserBelongs N.parts user.old }
+        requires next { IsAtUserPhase user.old }
+        ensures grows { IsPrefix user.old.seen user.new.seen }
+        ensures legal { IsLegal N.parts.config user.new.seen }
+        ensures user { user.new ≡ record user.old {
+          next = user.old.next + 1;
+          phase = user.old.phase + 1;
+          seen = user.new.seen;
+        } }
+    {
+        let mut kept = self
+            .moved
+            .wait_while(rt, self.room.lock(rt), |kept| !kept.ready_user(user));
+        kept.arrive_user(user);
+        self.moved.notify_all();
+    }
+
+    /// Waits until the user is ready, and does its next line, which is `shot` ([`Room::shoot`]):
+    /// sets `out`, which has a word for each pixel, to a frame of the journal in front of the shot.
+    /// Gives the number of the shot, from 1. The user's pass is of this opening.
+    pub fn shoot<R: Wait>(&self, rt: &R, user: &mut UserPass<'a>, out: &mut [u32]) -> u32
+        requires belongs { UserBelongs N.parts user.old }
+        requires next { IsAtShot user.old }
+        requires out { length out.old ≡ N.parts.config.width * N.parts.config.height }
+        ensures told { TellsShot N.parts user.old.seen result user.new.seen out.new }
+        ensures legal { IsLegal N.parts.config user.new.seen }
+        ensures words { All IsWord out.new }
+        ensures user { user.new
+            ≡ record user.old { next = user.old.next + 1; seen = user.new.seen } }
+    {
+        let mut kept = self
+            .moved
+            .wait_while(rt, self.room.lock(rt), |kept| !kept.ready_user(user));
+        kept.shoot(user, out)
+    }
+
+    /// Returns once the pass is ready. No contract tells what it waited for.
+    pub fn wait_ready<R: Wait>(&self, rt: &R, pass: &Pass<'a>) {
+        self.moved
+            .wait_while(rt, self.room.lock(rt), |kept| !kept.ready(pass));
+    }
+
+    /// The room. It is of this opening, and its journal is not ended.
+    pub fn into_room(self) -> Room<'a>
+        ensures parts { result.parts ≡ N.parts }
+        ensures open { IsOpen result.scene.entries }
+    {
+        let Hall {
+            room,
+            moved: _,
+            width: _,
+            height: _,
+            clients: _,
+        } = self;
+        let Kept { room, of: _ } = room.into_inner();
+        room
+    }
+}

@@ -1,0 +1,208 @@
+//! The room: one event is one call of it.
+
+mod calls;
+mod deeds;
+mod last;
+mod phases;
+
+ghost use Rattle.std.specs.Prelude.{◌≡◌, ◌+◌, ◌*◌, ◌≤◌, ◌==◌, [], length, replicate};
+ghost use Rattle.std.specs.Prelude.{take, slice_index, Some};
+ghost use mathlib.Core.List.{IsPrefix};
+ghost use Rattle.nit_word.specs.Channels.{bare_word};
+ghost use Rattle.nit_journal.specs.Journals.{IsLegal};
+ghost use Rattle.nit_plan.specs.Painting.{IsPaintedTo};
+ghost use Rattle.nit_plan.specs.Plans.{words_after};
+ghost use Rattle.nit_hall.specs.Passes.{Belongs, UserBelongs};
+ghost use Rattle.nit_hall.specs.Near.{AreNear};
+ghost use Rattle.nit_hall.specs.Lines.{served, lines_of_all};
+ghost use Rattle.nit_hall.specs.Rooms.{HaveInks, IsRoom, without_final};
+
+use crate::pass::Pass;
+use crate::user::UserPass;
+use nit_ledger::Book;
+use nit_pixels::Lens;
+use nit_plan::Plan;
+use nit_scene::Scene;
+use nit_script::{Client, Input};
+use std::marker::Model;
+
+/// All sessions on one screen, and which lines of which scripts were served. Contracts see its
+/// scene, what it was opened with, the counts of its book, the phase that is served, and how many
+/// actors have ended it.
+#[derive(Drop)]
+pub struct Room<'a> {
+    scene: Scene<Lens<'a>>,
+    book: Book,
+    scripts: &'a [Client],
+    plans: &'a [Plan],
+    input: &'a Input,
+    phase: u32,
+    arrived: u32,
+}
+
+impl<'a> Model for Room<'a> {
+    ghost use Rattle.std.specs.Prelude.{◌≡◌};
+    ghost use Rattle.nit_hall.specs.Rooms.{RoomModel, IsRoom, without_final};
+
+    ghost Value = { RoomModel };
+
+    ghost view = { λ r. record {
+      parts = record {
+        name = r.book.name;
+        config = r.scene.config;
+        scripts = r.scripts.now;
+        plans = r.plans.now;
+        input = r.input.now;
+      };
+      scene = r.scene;
+      counts = r.book.counts;
+      phase = r.phase;
+      arrived = r.arrived;
+    } };
+
+    ghost invariant = { λ r. IsRoom (record {
+      parts = record {
+        name = r.book.name;
+        config = r.scene.config;
+        scripts = r.scripts.now;
+        plans = r.plans.now;
+        input = r.input.now;
+      };
+      scene = r.scene;
+      counts = r.book.counts;
+      phase = r.phase;
+      arrived = r.arrived;
+    }) × (r.book.entries ≡ without_final r.scene.entries) };
+}
+
+impl<'a> Room<'a> {
+    /// The room of a scene without an entry, and of a book without an entry, with a share for each
+    /// client in order and one for the user, which have counted nothing.
+    pub(crate) fn new(
+        scene: Scene<Lens<'a>>,
+        book: Book,
+        scripts: &'a [Client],
+        plans: &'a [Plan],
+        input: &'a Input,
+    ) -> Room<'a>
+        requires clients { (length scripts.now ≡ length scene.config.clients)
+            × (length scripts.now ≤ 16) }
+        requires entries { (scene.entries ≡ []) × (book.entries ≡ []) }
+        requires room { scene.spare ≡ lines_of_all scripts.now input.now + 1 }
+        requires raw { scene.raw ≡ replicate (scene.config.width * scene.config.height) bare_word }
+        requires inks { HaveInks scripts.now scene.glasses }
+        requires counts { book.counts ≡ replicate (length scripts.now + 1) 0 }
+        ensures { result ≡ record {
+          parts = record {
+            name = book.name;
+            config = scene.entry.config;
+            scripts = scripts.entry.now;
+            plans = plans.entry.now;
+            input = input.entry.now;
+          };
+          scene = scene.entry;
+          counts = book.counts;
+          phase = 0;
+          arrived = 0;
+        } }
+    {
+        Room {
+            scene,
+            book,
+            scripts,
+            plans,
+            input,
+            phase: 0,
+            arrived: 0,
+        }
+    }
+
+    /// Whether the pass is in the phase that is served.
+    pub fn ready(&self, pass: &Pass<'a>) -> bool
+        ensures { result ≡ (pass.now.phase == self.now.phase) }
+    {
+        pass.phase == self.phase
+    }
+
+    /// Whether the user is in the phase that is served.
+    pub fn ready_user(&self, user: &UserPass<'a>) -> bool
+        ensures { result ≡ (user.now.phase == self.now.phase) }
+    {
+        user.phase == self.phase
+    }
+
+    /// The width and the height of the screen in pixels.
+    pub(crate) fn size(&self) -> (u32, u32)
+        ensures size { result ≡ (self.now.parts.config.width, self.now.parts.config.height) }
+        ensures screen { (result.0 ≤ 1024) × (result.1 ≤ 768) }
+    {
+        self.scene.size()
+    }
+
+    /// How many clients there are.
+    pub(crate) fn clients(&self) -> u32
+        ensures { result ≡ length self.now.parts.scripts }
+    {
+        self.scripts.len() as u32
+    }
+
+    /// The scene. Its journal is legal and follows the scripts, and each pixel's raw word is one
+    /// that the journal allows.
+    pub fn scene(&self) -> &Scene<Lens<'a>>
+        ensures scene { result.now ≡ self.now.scene }
+        ensures config { self.now.scene.config ≡ self.now.parts.config }
+        ensures legal { IsLegal self.now.parts.config self.now.scene.entries }
+        ensures near { AreNear self.now.parts.config self.now.parts.scripts self.now.scene.entries
+            self.now.scene.raw }
+        ensures kept { IsRoom self.now }
+    {
+        &self.scene
+    }
+
+    /// The scene.
+    pub fn into_scene(self) -> Scene<Lens<'a>>
+        ensures { result ≡ self.entry.scene }
+    {
+        let Room {
+            scene,
+            book: _,
+            scripts: _,
+            plans: _,
+            input: _,
+            phase: _,
+            arrived: _,
+        } = self;
+        scene
+    }
+
+    /// Shows the pass what is in the book. Its share is the book's at its number.
+    fn meet(&mut self, pass: &mut Pass<'a>)
+        requires { Belongs self.old.parts pass.old }
+        ensures room { self.new ≡ self.old }
+        ensures pass { pass.new
+            ≡ record pass.old { seen = without_final self.old.scene.entries } }
+        ensures before { IsPrefix pass.old.seen (without_final self.old.scene.entries) }
+        ensures counted { slice_index self.old.counts pass.old.sid
+            ≡ length (served (take pass.old.next pass.old.script)) }
+        ensures owner { pass.old.sight.owner ≡ pass.old.sid }
+        ensures painted { IsPaintedTo pass.old.script pass.old.donation pass.old.plan pass.old.next
+            pass.old.sight }
+        ensures told { pass.old.sight.words
+            ≡ Some (words_after pass.old.script pass.old.donation pass.old.next) }
+    {
+        self.book.meet(&mut pass.share);
+    }
+
+    /// Shows the user's pass what is in the book. Its share is the book's at its number.
+    fn meet_user(&mut self, user: &mut UserPass<'a>)
+        requires { UserBelongs self.old.parts user.old }
+        ensures room { self.new ≡ self.old }
+        ensures user { user.new
+            ≡ record user.old { seen = without_final self.old.scene.entries } }
+        ensures before { IsPrefix user.old.seen (without_final self.old.scene.entries) }
+        ensures counted { slice_index self.old.counts (length self.old.parts.scripts)
+            ≡ user.old.next }
+    {
+        self.book.meet(&mut user.share);
+    }
+}

@@ -1,0 +1,77 @@
+//! A call of a client's.
+
+ghost use Rattle.std.specs.Prelude.{◌≡◌, ◌+◌, length, take, slice_index, false};
+ghost use mathlib.Core.List.{IsPrefix};
+ghost use Rattle.nit_journal.specs.Journals.{IsLegal, IsOpen};
+ghost use Rattle.nit_journal.specs.Session.{serve};
+ghost use Rattle.nit_journal.specs.State.{session};
+ghost use Rattle.nit_journal.specs.Views.{is_accepted};
+ghost use Rattle.nit_scene.specs.Marks.{glasses_of_call};
+ghost use Rattle.nit_scene.specs.Painted.{Painted, glass_in};
+ghost use Rattle.nit_scene.specs.Played.{state_now};
+ghost use Rattle.nit_hall.specs.Lines.{served};
+ghost use Rattle.nit_hall.specs.Passes.{Belongs, HasLoaded, IsAtCall, call_entry, next_call};
+ghost use Rattle.nit_hall.specs.Passes.{sight_after_line};
+ghost use Rattle.nit_hall.specs.Rooms.{lenses, stands, with_entry};
+
+use crate::pass::Pass;
+use crate::room::Room;
+use nit_events::{Entry, Reply};
+use nit_journal::laws::one_more_entry;
+use nit_plan::stroke;
+use nit_scene::laws::clean_pixels_keep_their_source;
+
+impl<'a> Room<'a> {
+    /// Serves the next line of the pass, which is a call: it is the scene's call of that very line.
+    /// A `buffer` line that the plan accepts sets the words of the new buffer to 0 first. The
+    /// client's own pixels are loaded by the pass, and all others by the readers' ends. The pass is
+    /// of this room's opening and ready.
+    pub fn serve(&mut self, pass: &mut Pass<'a>) -> Reply
+        requires belongs { Belongs self.old.parts pass.old }
+        requires ready { pass.old.phase ≡ self.old.phase }
+        requires next { IsAtCall pass.old }
+        ensures reply { result
+            ≡ (serve (session (state_now self.old.scene) pass.old.sid) (next_call pass.old)).reply }
+        ensures room { self.new ≡ with_entry self.old pass.old.sid (call_entry pass.old result)
+            self.new.scene.raw self.new.scene.glasses }
+        ensures pass { pass.new ≡ record pass.old {
+          next = pass.old.next + 1;
+          seen = self.new.scene.entries;
+          sight = pass.new.sight;
+        } }
+        ensures sight { HasLoaded (sight_after_line pass.old) pass.new.sight }
+        ensures before { IsPrefix pass.old.seen self.old.scene.entries }
+        ensures counted { slice_index self.old.counts pass.old.sid
+            ≡ length (served (take pass.old.next pass.old.script)) }
+        ensures legal { IsLegal self.old.parts.config self.new.scene.entries }
+        ensures open { IsOpen self.new.scene.entries }
+        ensures painted { Painted (state_now self.old.scene) (call_entry pass.old result)
+            (state_now self.new.scene)
+            (glasses_of_call (lenses self.old.scene) pass.old.sid (sight_after_line pass.old))
+            (glasses_of_call (lenses self.new.scene) pass.old.sid pass.new.sight)
+            self.old.scene.raw self.new.scene.raw }
+        ensures idle { glass_in (lenses self.new.scene) pass.old.sid
+            ≡ glass_in (lenses self.old.scene) pass.old.sid }
+        ensures stands { stands self.new.scene ≡ stands self.old.scene }
+        ensures refused { is_accepted result ≡ false
+            → (state_now self.new.scene ≡ state_now self.old.scene)
+            × (self.new.scene.raw ≡ self.old.scene.raw)
+            × (self.new.scene.glasses ≡ self.old.scene.glasses)
+            × (pass.new.sight ≡ sight_after_line pass.old) }
+    {
+        one_more_entry();
+        clean_pixels_keep_their_source();
+        self.meet(pass);
+        let call = pass.next_call();
+        stroke(&mut pass.canvas, pass.script, pass.plan, pass.next as usize);
+        let reply = self.scene.call(pass.sid, &call, &mut pass.canvas);
+        let entry = Entry::Call {
+            sid: pass.sid,
+            call,
+            reply,
+        };
+        self.book.append(&mut pass.share, &entry);
+        pass.next += 1;
+        reply
+    }
+}

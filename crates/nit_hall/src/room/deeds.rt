@@ -1,0 +1,97 @@
+//! What the user does, and a shot.
+
+ghost use Rattle.std.specs.Prelude.{◌≡◌, ◌+◌, ◌*◌, All, false, length, slice_index};
+ghost use mathlib.Core.List.{IsPrefix};
+ghost use Rattle.nit_word.specs.Inks.{IsWord};
+ghost use Rattle.nit_events.specs.declared.entry.Entry.TheVariants as entry;
+ghost use Rattle.nit_events.specs.Input.{deliveries_of, routed_as};
+ghost use Rattle.nit_overlay.specs.Shown.{frame};
+ghost use Rattle.nit_journal.specs.Deliveries.{kills};
+ghost use Rattle.nit_journal.specs.Journals.{IsLegal, IsOpen, shots};
+ghost use Rattle.nit_journal.specs.State.{route};
+ghost use Rattle.nit_scene.specs.Painted.{Painted, glass_in};
+ghost use Rattle.nit_scene.specs.Played.{scenery_of, state_now};
+ghost use Rattle.nit_hall.specs.Near.{IsNearFrame};
+ghost use Rattle.nit_hall.specs.Passes.{UserBelongs, IsAtDevice, IsAtShot};
+ghost use Rattle.nit_hall.specs.Passes.{device_entry, next_device};
+ghost use Rattle.nit_hall.specs.Rooms.{lenses, stands, with_entry};
+
+use crate::room::Room;
+use crate::user::UserPass;
+use nit_events::{Entry, Routed};
+use nit_journal::laws::one_more_entry;
+use nit_scene::laws::clean_pixels_keep_their_source;
+
+impl<'a> Room<'a> {
+    /// Does the user's next line, which is of a device: it is the scene's input of that very line.
+    /// The user's pass is of this room's opening and ready.
+    pub fn user(&mut self, user: &mut UserPass<'a>) -> Routed
+        requires belongs { UserBelongs self.old.parts user.old }
+        requires ready { user.old.phase ≡ self.old.phase }
+        requires next { IsAtDevice user.old }
+        ensures routed { let s = state_now self.old.scene in
+            result ≡ routed_as (route s.config s.input s.stack (next_device user.old)).deliveries }
+        ensures delivered { let s = state_now self.old.scene in deliveries_of result
+            ≡ (route s.config s.input s.stack (next_device user.old)).deliveries }
+        ensures room { self.new ≡ with_entry self.old (length self.old.parts.scripts)
+            (device_entry user.old result) self.new.scene.raw self.new.scene.glasses }
+        ensures user { user.new
+            ≡ record user.old { next = user.old.next + 1; seen = self.new.scene.entries } }
+        ensures before { IsPrefix user.old.seen self.old.scene.entries }
+        ensures counted { slice_index self.old.counts (length self.old.parts.scripts)
+            ≡ user.old.next }
+        ensures legal { IsLegal self.old.parts.config self.new.scene.entries }
+        ensures open { IsOpen self.new.scene.entries }
+        ensures painted { Painted (state_now self.old.scene) (device_entry user.old result)
+            (state_now self.new.scene) (glass_in (lenses self.old.scene))
+            (glass_in (lenses self.new.scene)) self.old.scene.raw self.new.scene.raw }
+        ensures stands { stands self.new.scene ≡ stands self.old.scene }
+        ensures quiet { kills (deliveries_of result) ≡ false
+            → (self.new.scene.raw ≡ self.old.scene.raw)
+            × (self.new.scene.glasses ≡ self.old.scene.glasses) }
+    {
+        one_more_entry();
+        clean_pixels_keep_their_source();
+        self.meet_user(user);
+        let dev = user.next_device();
+        let routed = self.scene.input(dev);
+        let entry = Entry::Input { dev, routed };
+        self.book.append(&mut user.share, &entry);
+        user.next += 1;
+        routed
+    }
+
+    /// Does the user's next line, which is `shot`: sets `out`, which has a word for each pixel, to
+    /// the frame. Gives the number of the shot, from 1. The user's pass is of this room's opening
+    /// and ready.
+    pub fn shoot(&mut self, user: &mut UserPass<'a>, out: &mut [u32]) -> u32
+        requires belongs { UserBelongs self.old.parts user.old }
+        requires ready { user.old.phase ≡ self.old.phase }
+        requires next { IsAtShot user.old }
+        requires out { length out.old ≡ self.old.parts.config.width * self.old.parts.config.height }
+        ensures number { result ≡ shots self.old.scene.entries + 1 }
+        ensures frame { out.new ≡ frame (scenery_of (state_now self.old.scene)) self.old.scene.raw }
+        ensures near { IsNearFrame self.old.parts.config self.old.parts.scripts
+            self.old.scene.entries out.new }
+        ensures words { All IsWord out.new }
+        ensures room { self.new ≡ with_entry self.old (length self.old.parts.scripts)
+            (entry.Shot result) self.old.scene.raw self.old.scene.glasses }
+        ensures user { user.new
+            ≡ record user.old { next = user.old.next + 1; seen = self.new.scene.entries } }
+        ensures before { IsPrefix user.old.seen self.old.scene.entries }
+        ensures counted { slice_index self.old.counts (length self.old.parts.scripts)
+            ≡ user.old.next }
+        ensures legal { IsLegal self.old.parts.config self.new.scene.entries }
+        ensures open { IsOpen self.new.scene.entries }
+    {
+        one_more_entry();
+        clean_pixels_keep_their_source();
+        self.meet_user(user);
+        let _few = user.input.lines().len();
+        let number = self.scene.shot(out);
+        let entry = Entry::Shot { number };
+        self.book.append(&mut user.share, &entry);
+        user.next += 1;
+        number
+    }
+}
