@@ -123,6 +123,7 @@ fn take_steps(scene: &mut Scene<Inked>, first: &mut Inked, second: &mut Inked, s
     requires first { IsGlass scene.old.config 0 first.old }
     requires second { IsGlass scene.old.config 1 second.old }
     ensures config { scene.new.config ≡ scene.old.config }
+    ensures two { length scene.new.config.clients ≡ 2 }
     ensures open { IsOpen scene.new.entries }
     ensures spare { scene.old.spare ≤ scene.new.spare + length steps.now }
     ensures first { IsGlass scene.new.config 0 first.new }
@@ -150,12 +151,7 @@ fn frame_anew(alloc: Global, config: &Config, steps: &[Step]) -> Result<Vec<u32>
 }
 
 /// The frame that a scene keeps after these steps is the one that is made anew.
-fn assert_kept(
-    rt: &impl Abort,
-    alloc: Global,
-    config: &Config,
-    steps: &[Step],
-) -> Result<(), Fail>
+fn assert_kept(rt: &impl Abort, alloc: Global, config: &Config, steps: &[Step]) -> Result<(), Fail>
     requires config { IsConfigured config.now }
     requires two { length config.now.clients ≡ 2 }
     requires few { length steps.now < ROOM }
@@ -165,17 +161,17 @@ fn assert_kept(
     let mut second = glass(alloc, config, 1, 0x0000FF)?;
     take_steps(&mut scene, &mut first, &mut second, steps);
     let anew = frame_anew(alloc, config, steps)?;
-    assert_eq!(rt; scene.frame(), anew.as_slice(), "after {} steps", steps.len());
+    assert_eq!(rt;
+        scene.frame(),
+        anew.as_slice(),
+        "after {} steps",
+        steps.len()
+    );
     Ok(())
 }
 
 /// It is so after each step of a run.
-fn assert_run(
-    rt: &impl Abort,
-    alloc: Global,
-    text: &str,
-    steps: &[Step],
-) -> Result<(), Fail> {
+fn assert_run(rt: &impl Abort, alloc: Global, text: &str, steps: &[Step]) -> Result<(), Fail> {
     let config = read_config(alloc, text.as_bytes())?;
     assert!(rt; config.clients.len() == 2);
     assert!(rt; steps.len() < ROOM);
