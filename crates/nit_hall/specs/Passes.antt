@@ -18,7 +18,7 @@ use Rattle.nit_journal.specs.Whole.{calls_of, deeds_of}
 use Rattle.nit_plan.specs.Plans.{words_after}
 use Rattle.nit_plan.specs.Steps.{Planned}
 use Rattle.nit_plan.specs.Painting.{IsPaintedTo}
-use Rattle.nit_plan.specs.Surfaces.{with_words}
+use Rattle.nit_word.specs.Setting.{with_words}
 use Rattle.nit_paint.specs.Painting.{no_sight}
 use Rattle.nit_pixels.specs.declared.standing.Standing.{Standing}
 use Rattle.nit_ledger.specs.Books.{BookName, Part}
