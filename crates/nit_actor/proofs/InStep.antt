@@ -79,7 +79,7 @@ step_on r r' p p' u l seen sight s at other parts phase arrived is =
     (record {
       one = ap (λ x. length x.scripts) parts ∙ s.one;
       belongs = subst (λ x. Belongs x (record p { next = p.next + 1; seen = seen; sight = sight })) (sym parts)
-        (record { name = s.belongs.name; script = s.belongs.script; plan = s.belongs.plan; donation = s.belongs.donation });
+          (record { name = s.belongs.name; script = s.belongs.script; plan = s.belongs.plan; donation = s.belongs.donation });
       user_belongs = subst (λ x. UserBelongs x u) (sym parts) s.user_belongs;
       phase = s.phase ∙ sym phase;
       user_phase = s.user_phase ∙ sym phase;

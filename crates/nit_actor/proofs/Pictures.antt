@@ -54,9 +54,13 @@ files_both Pic front (entry.Input dev routed ∷ es) fs files more first are =
     files_both Pic (front ++ entry.Input dev routed ∷ []) es fs files more first (subst (λ (js : List Entry). ShotsBehind Pic js fs more) (sym (behind front es (entry.Input dev routed))) are)
 files_both Pic front (entry.Final ∷ es) fs files more first are =
     files_both Pic (front ++ entry.Final ∷ []) es fs files more first (subst (λ (js : List Entry). ShotsBehind Pic js fs more) (sym (behind front es entry.Final)) are)
-files_both Pic front (entry.Shot n ∷ es) fs files more (bytes, others, is, pic, rest) are =
-    (bytes, others ++ more, ap (λ (gs : List File). gs ++ more) is, pic,
-      files_both Pic (front ++ entry.Shot n ∷ []) es fs others more rest (subst (λ (js : List Entry). ShotsBehind Pic js fs more) (sym (behind front es (entry.Shot n))) are))
+files_both Pic front (entry.Shot n ∷ es) fs files more (bytes, others, is, pic, rest) are = (
+  bytes,
+  others ++ more,
+  ap (λ (gs : List File). gs ++ more) is,
+  pic,
+  files_both Pic (front ++ entry.Shot n ∷ []) es fs others more rest (subst (λ (js : List Entry). ShotsBehind Pic js fs more) (sym (behind front es (entry.Shot n))) are),
+)
 
 -- there are as many as shots
 pub as_many_files : (Pic : Picturing) (front es : List Entry) (files : List File) → ShotsBehind Pic front es files → length files ≡ shots es

@@ -73,5 +73,5 @@ pub fit_again : (parts : Parts) (ps qs : List PassModel) → roles ps ≡ roles 
 fit_again parts ps qs e all = λ k d inside.
     let long = roles_long ps qs e in
     let same : role_of (slice_index_or ps k d) ≡ role_of (slice_index_or qs k d) =
-        role_at ps k d ∙ ap (λ (rs : List Role). slice_index_or rs k (role_of d)) e ∙ sym (role_at qs k d) in
+    role_at ps k d ∙ ap (λ (rs : List Role). slice_index_or rs k (role_of d)) e ∙ sym (role_at qs k d) in
     subst (λ (r : Role). IsRoleIn parts r) (sym same) (all k d (omega (arith, long, inside)))

@@ -14,8 +14,9 @@ use Rattle.nit_hall.specs.Rooms.{RoomModel}
 abbrev pub idle_user : List Line → List InputLine
 idle_user lines = replicate (count_by is_phase lines) input.Phase
 
--- The room has one client. Its pass and the user's are in the phase that is served, which no actor has ended; and what
--- is left of the input script is one line `phase` for each that is left of the client's.
+-- The room has one client. Its pass and the user's are in the phase that is served, which no actor
+-- has ended; and what is left of the input script is one line `phase` for each that is left of the
+-- client's.
 pub record AreInStep (r : RoomModel) (p : PassModel) (u : UserPassModel) : Type 0 where
   pub one : length r.parts.scripts ≡ 1
   pub belongs : Belongs r.parts p

@@ -4,14 +4,14 @@ ghost use Rattle.std.specs.Prelude.{◌≡◌, ◌+◌, Some, length, slice_get}
 ghost use Rattle.nit_hall.specs.Passes.{Belongs};
 ghost use Rattle.nit_actor.specs.Roles.{role_of};
 
-use crate::gate::{Calls, Gate, Hook};
+use crate::gate::{AtGate, Checkpoint, Gate};
 use nit_hall::{Hall, Name, Pass};
 use nit_script::Line;
 use std::sync::Wait;
 
-/// Does all lines of the pass that are left, and passes the gate before each, outside the lock. A call
-/// and the end of a phase wait until the room serves the pass's phase. A stroke takes no lock, but that one
-/// that stands directly behind the end of a phase waits so before it passes the gate.
+/// Does all lines of the pass that are left, and passes the gate before each, outside the lock. A
+/// call and the end of a phase wait until the room serves the pass's phase. A stroke takes no lock,
+/// but that one that stands directly behind the end of a phase waits so before it passes the gate.
 pub fn run_actor<'a, N: Name, G: Gate, R: Wait>(
     rt: &R,
     hall: &Hall<'a, N>,
@@ -22,14 +22,14 @@ pub fn run_actor<'a, N: Name, G: Gate, R: Wait>(
     ensures same { role_of pass.new ≡ role_of pass.old }
     ensures done { pass.new.next ≡ length pass.new.script }
 {
-    run_lines(rt, hall, &Hook(gate), pass)
+    run_lines(rt, hall, &AtGate(gate), pass)
 }
 
 /// The same, with what is called before each line.
-pub(crate) fn run_lines<'a, N: Name, K: Calls, R: Wait>(
+pub(crate) fn run_lines<'a, N: Name, K: Checkpoint, R: Wait>(
     rt: &R,
     hall: &Hall<'a, N>,
-    calls: &K,
+    checkpoint: &K,
     pass: &mut Pass<'a>,
 )
     requires belongs { Belongs N.parts pass.old }
@@ -38,17 +38,17 @@ pub(crate) fn run_lines<'a, N: Name, K: Calls, R: Wait>(
 {
     let mut arrived = false;
     'lines: while let Some(line) = pass.next() {
-        do_line(rt, hall, calls, pass, &line, arrived);
+        do_line(rt, hall, checkpoint, pass, &line, arrived);
         arrived = matches!(line, Line::Phase);
     }
 }
 
-/// Does the next line of the pass, which is this one. Where the pass has just `arrived` at the end of a
-/// phase, a stroke waits until the room serves the next one.
-pub(crate) fn do_line<'a, N: Name, K: Calls, R: Wait>(
+/// Does the next line of the pass, which is this one. Where the pass has just `arrived` at the end
+/// of a phase, a stroke waits until the room serves the next one.
+pub(crate) fn do_line<'a, N: Name, K: Checkpoint, R: Wait>(
     rt: &R,
     hall: &Hall<'a, N>,
-    calls: &K,
+    checkpoint: &K,
     pass: &mut Pass<'a>,
     line: &Line,
     arrived: bool,
@@ -61,7 +61,7 @@ pub(crate) fn do_line<'a, N: Name, K: Calls, R: Wait>(
     if arrived && matches!(line, Line::Stroke(_)) {
         hall.wait_ready(rt, pass);
     }
-    calls.call(pass.sid(), pass.line() + 1);
+    checkpoint.reach(pass.sid(), pass.line() + 1);
     match line {
         Line::Call(_) => {
             hall.serve_next(rt, pass);

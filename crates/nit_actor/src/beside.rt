@@ -1,4 +1,5 @@
-//! All actors of a run beside each other: each client on a thread of its own, the user on the calling one.
+//! All actors of a run beside each other: each client on a thread of its own, the user on the
+//! calling one.
 
 ghost use Rattle.std.specs.Prelude.{◌≡◌, ◌*◌, ◌≤◌, All, [], length, map, vec_len, vec_capacity};
 ghost use base.Fml.{ftrue};
@@ -11,7 +12,7 @@ ghost use Rattle.nit_actor.specs.Pictures.{PutsShotsBehind};
 use crate::actor::run_lines;
 use crate::crew::{Crew, Own, run_crew};
 use crate::desk::Desk;
-use crate::gate::{Calls, Gate, Hook};
+use crate::gate::{AtGate, Checkpoint, Gate};
 use crate::mine::run_turns;
 use nit_hall::{Hall, Name, Pass, UserPass};
 use nit_store::Store;
@@ -20,7 +21,8 @@ use std::sync::Wait;
 use std::sync::atomic::AtomicBool;
 use std::thread::Threads;
 
-/// What the calling thread has of its own: the user's pass, and the desk for the pictures of the shots.
+/// What the calling thread has of its own: the user's pass, and the desk for the pictures of the
+/// shots.
 #[derive(Drop)]
 pub struct Mine<'a, 's, S> {
     pub user: UserPass<'a>,
@@ -39,16 +41,19 @@ impl Model for PassRole {
 /// What all threads of a run share.
 struct Work<'h, 'a, N: Name, K> {
     hall: &'h Hall<'a, N>,
-    calls: &'h K,
+    checkpoint: &'h K,
 }
 
 impl<'h, 'a, N: Name, K> Drop for Work<'h, 'a, N, K> {
     fn drop(self) {
-        let Self { hall: _, calls: _ } = self;
+        let Self {
+            hall: _,
+            checkpoint: _,
+        } = self;
     }
 }
 
-impl<'h, 'a, N: Name, K: Calls> Crew<Pass<'a>> for Work<'h, 'a, N, K> {
+impl<'h, 'a, N: Name, K: Checkpoint> Crew<Pass<'a>> for Work<'h, 'a, N, K> {
     ghost use Rattle.nit_actor.specs.Roles.{IsRoleIn, role_of};
 
     type Role = PassRole;
@@ -58,13 +63,12 @@ impl<'h, 'a, N: Name, K: Calls> Crew<Pass<'a>> for Work<'h, 'a, N, K> {
     ghost fits = { λ r. IsRoleIn N.parts r.role };
 
     fn run<R: Wait>(&self, rt: &R, pass: &mut Pass<'a>) {
-        run_lines(rt, self.hall, self.calls, pass);
+        run_lines(rt, self.hall, self.checkpoint, pass);
     }
 }
 
-impl<'h, 'a, 's, N: Name, K: Calls, S: Store> Own<Pass<'a>, Work<'h, 'a, N, K>>
-    for Mine<'a, 's, S>
-{
+impl<'h, 'a, 's, N: Name, K: Checkpoint, S: Store> Own<Pass<'a>, Work<'h, 'a, N, K>>
+    for Mine<'a, 's, S> {
     ghost use Rattle.std.specs.Prelude.{◌≡◌, ◌*◌, length};
     ghost use Rattle.nit_report.specs.Picture.{picture_length};
     ghost use Rattle.nit_hall.specs.Passes.{UserBelongs};
@@ -79,29 +83,24 @@ impl<'h, 'a, 's, N: Name, K: Calls, S: Store> Own<Pass<'a>, Work<'h, 'a, N, K>>
     ghost kept = { λ before after'.
         (user_role_of after'.user ≡ user_role_of before.user)
         × PutsShotsBehind N.parts before.user.seen after'.user.seen
-            (putting (S.shown before.desk.store.now) before.desk.fault before.desk.tried)
-            (putting (S.shown after'.desk.store.now) after'.desk.fault after'.desk.tried)
+        (putting (S.shown before.desk.store.now) before.desk.fault before.desk.tried)
+        (putting (S.shown after'.desk.store.now) after'.desk.fault after'.desk.tried)
         × (length after'.desk.frame.items ≡ length before.desk.frame.items)
         × (length after'.desk.text.items ≡ length before.desk.text.items)
         × (after'.desk.store.ghost_name ≡ before.desk.store.ghost_name) };
 
-    fn run_mine<R: Wait>(
-        self,
-        rt: &R,
-        crew: &Work<'h, 'a, N, K>,
-        passes: &mut [Pass<'a>],
-    ) -> Self {
+    fn run_mine<R: Wait>(self, rt: &R, crew: &Work<'h, 'a, N, K>, passes: &mut [Pass<'a>]) -> Self {
         let Mine { mut user, mut desk } = self;
-        run_turns(rt, crew.hall, crew.calls, passes, &mut user, &mut desk);
+        run_turns(rt, crew.hall, crew.checkpoint, passes, &mut user, &mut desk);
         Mine { user, desk }
     }
 }
 
 /// Does what is left of all passes and of the user, on the calling thread.
-fn run_left<'a, N: Name, K: Calls, S: Store, R: Wait>(
+fn run_left<'a, N: Name, K: Checkpoint, S: Store, R: Wait>(
     rt: &R,
     hall: &Hall<'a, N>,
-    calls: &K,
+    checkpoint: &K,
     passes: &mut Vec<Pass<'a>>,
     user: &mut UserPass<'a>,
     desk: &mut Desk<S>,
@@ -109,7 +108,8 @@ fn run_left<'a, N: Name, K: Calls, S: Store, R: Wait>(
     requires passes { All (λ p. IsRoleIn N.parts (role_of p)) passes.old.items }
     requires user { UserBelongs N.parts user.old }
     requires frame { length desk.old.frame.items ≡ N.parts.config.width * N.parts.config.height }
-    requires text { length desk.old.text.items ≡ picture_length N.parts.config.width N.parts.config.height }
+    requires text { length desk.old.text.items
+        ≡ picture_length N.parts.config.width N.parts.config.height }
     ensures same { map role_of passes.new.items ≡ map role_of passes.old.items }
     ensures done { All (λ p. p.next ≡ length p.script) passes.new.items }
     ensures user_same { user_role_of user.new ≡ user_role_of user.old }
@@ -121,14 +121,15 @@ fn run_left<'a, N: Name, K: Calls, S: Store, R: Wait>(
     ensures text { length desk.new.text.items ≡ length desk.old.text.items }
     ensures same_store { desk.new.store.ghost_name ≡ desk.old.store.ghost_name }
 {
-    run_turns(rt, hall, calls, passes, user, desk)
+    run_turns(rt, hall, checkpoint, passes, user, desk)
 }
 
-/// Does all lines of all scripts: each pass on a thread of its own, and on the calling thread the user, by turns with
-/// the passes whose threads could not be started. The pictures of the shots are put meanwhile, until a put is refused.
-/// Each pass comes back in `back`, at its place and with all its lines done. No memory is taken but by the store:
-/// `waiting` is empty and has room for all passes, and there is a flag for each pass, which is not raised. Where the
-/// flag of a pass is raised, its thread leaves it as it is, and the calling thread steps it at the end.
+/// Does all lines of all scripts: each pass on a thread of its own, and on the calling thread the
+/// user, by turns with the passes whose threads could not be started. The pictures of the shots are
+/// put meanwhile, until a put is refused. Each pass comes back in `back`, at its place and with all
+/// its lines done. No memory is taken but by the store: `waiting` is empty and has room for all
+/// passes, and there is a flag for each pass, which is not raised. Where the flag of a pass is
+/// raised, its thread leaves it as it is, and the calling thread steps it at the end.
 pub fn run_beside<'a, 's, N: Name + Send + Sync, G: Gate, S: Store, R: Threads + Wait + Sync>(
     rt: &R,
     hall: &Hall<'a, N>,
@@ -142,7 +143,8 @@ pub fn run_beside<'a, 's, N: Name + Send + Sync, G: Gate, S: Store, R: Threads +
     requires passes { All (Belongs N.parts) passes.items }
     requires user { UserBelongs N.parts mine.user }
     requires frame { length mine.desk.frame.items ≡ N.parts.config.width * N.parts.config.height }
-    requires text { length mine.desk.text.items ≡ picture_length N.parts.config.width N.parts.config.height }
+    requires text { length mine.desk.text.items
+        ≡ picture_length N.parts.config.width N.parts.config.height }
     requires waiting { waiting.items ≡ [] }
     requires flags { vec_len passes ≤ length raised.now }
     requires room { vec_len passes ≤ vec_capacity waiting }
@@ -157,13 +159,13 @@ pub fn run_beside<'a, 's, N: Name + Send + Sync, G: Gate, S: Store, R: Threads +
     ensures text { length result.desk.text.items ≡ length mine.entry.desk.text.items }
     ensures same_store { result.desk.store.ghost_name ≡ mine.entry.desk.store.ghost_name }
 {
-    let calls = Hook(gate);
+    let checkpoint = AtGate(gate);
     let crew = Work {
         hall,
-        calls: &calls,
+        checkpoint: &checkpoint,
     };
     let mine = run_crew(rt, &crew, raised, passes, waiting, back, mine);
     let Mine { mut user, mut desk } = mine;
-    run_left(rt, hall, &calls, back, &mut user, &mut desk);
+    run_left(rt, hall, &checkpoint, back, &mut user, &mut desk);
     Mine { user, desk }
 }

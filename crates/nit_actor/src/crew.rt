@@ -1,7 +1,7 @@
 //! A thread for each pass, whatever a pass is, and what the calling thread does meanwhile.
 //!
-//! A closure whose result names a lifetime says nothing of its result. So what starts threads is generic in the type
-//! of a pass, and what is known of a pass that comes back is its role alone.
+//! A closure whose result names a lifetime says nothing of its result. So what starts threads is
+//! generic in the type of a pass, and what is known of a pass that comes back is its role alone.
 
 ghost use Rattle.std.specs.Prelude.{◌≡◌, ◌+◌, ◌≤◌, All, [], length, map, vec_len, vec_capacity};
 ghost use Rattle.nit_actor.specs.Crews.{IsStarted};
@@ -30,8 +30,8 @@ pub(crate) trait Crew<P> {
         ensures same { role pass.new ≡ role pass.old };
 }
 
-/// What the calling thread has of its own, and goes on with while the others run. No other thread has it, so what it
-/// stands on need not be sent.
+/// What the calling thread has of its own, and goes on with while the others run. No other thread
+/// has it, so what it stands on need not be sent.
 pub(crate) trait Own<P, W: Crew<P>> {
     ghost use Rattle.std.specs.Prelude.{◌≡◌, All, map};
 
@@ -83,8 +83,8 @@ fn stepped<P, W: Crew<P>, R: Wait>(rt: &R, crew: &W, raised: &AtomicBool, pass: 
     pass
 }
 
-/// Starts the thread of one pass. Where none can be started the closure comes back; called under the raised flag, it
-/// hands the pass back as it went.
+/// Starts the thread of one pass. Where none can be started the closure comes back; called under
+/// the raised flag, it hands the pass back as it went.
 fn start<'s, E, P: Send + Drop + 's, W: Crew<P> + Sync, R: Threads + Wait + Sync>(
     scope: &Scope<'s, E>,
     rt: &'s R,
@@ -114,16 +114,10 @@ fn start<'s, E, P: Send + Drop + 's, W: Crew<P> + Sync, R: Threads + Wait + Sync
     }
 }
 
-/// Starts the thread of each pass, from the last to the first, then runs what is here, and waits for the
-/// threads. Each pass comes back at its place. `waiting` has room for those whose threads could not be started.
-fn run_rest<
-    's,
-    E,
-    P: Send + Drop + 's,
-    U: Own<P, W>,
-    W: Crew<P> + Sync,
-    R: Threads + Wait + Sync,
->(
+/// Starts the thread of each pass, from the last to the first, then runs what is here, and waits
+/// for the threads. Each pass comes back at its place. `waiting` has room for those whose threads
+/// could not be started.
+fn run_rest<'s, E, P: Send + Drop + 's, U: Own<P, W>, W: Crew<P> + Sync, R: Threads + Wait + Sync>(
     scope: &Scope<'s, E>,
     rt: &'s R,
     crew: &'s W,
@@ -165,8 +159,8 @@ fn run_rest<
     }
 }
 
-/// Runs each pass on a thread of its own, or here where none can be started. The passes come back in order, and what is
-/// the caller's own beside them.
+/// Runs each pass on a thread of its own, or here where none can be started. The passes come back
+/// in order, and what is the caller's own beside them.
 fn run_all<P: Send + Drop, U: Own<P, W> + Drop, W: Crew<P> + Sync, R: Threads + Wait + Sync>(
     rt: &R,
     crew: &W,
@@ -203,8 +197,8 @@ fn run_all<P: Send + Drop, U: Own<P, W> + Drop, W: Crew<P> + Sync, R: Threads + 
     )
 }
 
-/// The same, with the passes given back in `back`, and what is the caller's own alone as the result: a store that it
-/// lends keeps its last value only so.
+/// The same, with the passes given back in `back`, and what is the caller's own alone as the
+/// result: a store that it lends keeps its last value only so.
 pub(crate) fn run_crew<
     P: Send + Drop,
     U: Own<P, W> + Drop,

@@ -1,32 +1,36 @@
-//! What each actor of a run does, line by line, and the gate that actors on threads pass before each line.
+//! What each actor of a run does, line by line, and the gate that actors on threads pass before
+//! each line.
 //!
-//! The actors are the clients, in order, and then the user. Their lines are done in one of three ways.
+//! The actors are the clients, in order, and then the user. Their lines are done in one of three
+//! ways.
 //!
 //! # By rounds, on one thread
 //!
-//! In each round every actor does its next line, unless it has ended its phase. The line `phase` is an actor's
-//! line of its round. A new phase begins with the round after the one in which the last actor ended the old
-//! one; until then the actors that ended theirs do nothing. A script of which no line is left has ended its
-//! last phase.
+//! In each round every actor does its next line, unless it has ended its phase. The line `phase` is
+//! an actor's line of its round. A new phase begins with the round after the one in which the last
+//! actor ended the old one; until then the actors that ended theirs do nothing. A script of which
+//! no line is left has ended its last phase.
 //!
-//! [`Turns`] gives these lines one by one, and takes no memory. The [`laws`] say what rounds are: each
-//! line of every script stands in them once, an actor that does a line has done exactly those before it,
-//! and a journal with the entries of the rounds is whole.
+//! [`Turns`] gives these lines one by one, and takes no memory. The [`laws`] say what rounds are:
+//! each line of every script stands in them once, an actor that does a line has done exactly those
+//! before it, and a journal with the entries of the rounds is whole.
 //!
-//! [`run_rounds`] does all of them on a scene, and puts the pictures of the shots by a [`Desk`]. What a shot
-//! shows is drawn from the configuration and the scripts alone, line by line.
+//! [`run_rounds`] does all of them on a scene, and puts the pictures of the shots by a [`Desk`].
+//! What a shot shows is drawn from the configuration and the scripts alone, line by line.
 //!
 //! # On threads
 //!
-//! [`run_actor`] does all lines of one client's pass over a hall. [`run_mine`] does those of the user and of
-//! some passes by turns, and puts the pictures of the shots by a [`Desk`] while other threads run. [`run_beside`]
-//! starts a thread for each pass and does the rest on the calling thread. All of them may wait, and what
-//! they promise holds if they return. Which line comes when is up to the threads; that each actor's lines are
-//! done in order, each once, is kept by the hall and shows when all passes are done.
+//! [`run_actor`] does all lines of one client's pass over a hall. [`run_mine`] does those of the
+//! user and of some passes by turns, and puts the pictures of the shots by a [`Desk`] while other
+//! threads run. [`run_beside`] starts a thread for each pass and does the rest on the calling
+//! thread. All of them may wait, and what they promise holds if they return. Which line comes when
+//! is up to the threads; that each actor's lines are done in order, each once, is kept by the hall
+//! and shows when all passes are done.
 //!
 //! # Alone
 //!
-//! [`run_alone`] does the lines of one client, on a room without a lock. The user only ends phases with it.
+//! [`run_alone`] does the lines of one client, on a room without a lock. The user only ends phases
+//! with it.
 #![tactic(auto)]
 
 mod actor;

@@ -1,4 +1,5 @@
-//! What the calling thread does: the user, and the passes whose threads could not be started, by turns.
+//! What the calling thread does: the user, and the passes whose threads could not be started, by
+//! turns.
 
 ghost use Rattle.std.specs.Prelude.{◌≡◌, ◌*◌, All, IfNone, IsSome, length, map};
 ghost use Rattle.nit_report.specs.Picture.{picture_length};
@@ -9,15 +10,16 @@ ghost use Rattle.nit_actor.specs.Pictures.{PutsShotsBehind};
 
 use crate::actor::do_line;
 use crate::desk::Desk;
-use crate::gate::{Calls, Gate, Hook};
+use crate::gate::{AtGate, Checkpoint, Gate};
 use crate::user::do_user_line;
 use nit_hall::{Hall, Name, Pass, UserPass};
 use nit_store::Store;
 use std::sync::Wait;
 
-/// Does all lines of these passes and of the user that are left, by turns, and puts the pictures of the shots until a
-/// put is refused. In each turn those of the least phase that has a line left do a line each, so the thread waits only
-/// where each that is not done has ended its phase. Each passes the gate before its line, outside the lock.
+/// Does all lines of these passes and of the user that are left, by turns, and puts the pictures of
+/// the shots until a put is refused. In each turn those of the least phase that has a line left do
+/// a line each, so the thread waits only where each that is not done has ended its phase. Each
+/// passes the gate before its line, outside the lock.
 pub fn run_mine<'a, N: Name, G: Gate, S: Store, R: Wait>(
     rt: &R,
     hall: &Hall<'a, N>,
@@ -29,7 +31,8 @@ pub fn run_mine<'a, N: Name, G: Gate, S: Store, R: Wait>(
     requires passes { All (Belongs N.parts) passes.old }
     requires user { UserBelongs N.parts user.old }
     requires frame { length desk.old.frame.items ≡ N.parts.config.width * N.parts.config.height }
-    requires text { length desk.old.text.items ≡ picture_length N.parts.config.width N.parts.config.height }
+    requires text { length desk.old.text.items
+        ≡ picture_length N.parts.config.width N.parts.config.height }
     ensures same { map role_of passes.new ≡ map role_of passes.old }
     ensures done { All (λ p. p.next ≡ length p.script) passes.new }
     ensures user_same { user_role_of user.new ≡ user_role_of user.old }
@@ -41,14 +44,14 @@ pub fn run_mine<'a, N: Name, G: Gate, S: Store, R: Wait>(
     ensures text { length desk.new.text.items ≡ length desk.old.text.items }
     ensures same_store { desk.new.store.ghost_name ≡ desk.old.store.ghost_name }
 {
-    run_turns(rt, hall, &Hook(gate), passes, user, desk)
+    run_turns(rt, hall, &AtGate(gate), passes, user, desk)
 }
 
 /// The same, with what is called before each line.
-pub(crate) fn run_turns<'a, N: Name, K: Calls, S: Store, R: Wait>(
+pub(crate) fn run_turns<'a, N: Name, K: Checkpoint, S: Store, R: Wait>(
     rt: &R,
     hall: &Hall<'a, N>,
-    calls: &K,
+    checkpoint: &K,
     passes: &mut [Pass<'a>],
     user: &mut UserPass<'a>,
     desk: &mut Desk<S>,
@@ -56,7 +59,8 @@ pub(crate) fn run_turns<'a, N: Name, K: Calls, S: Store, R: Wait>(
     requires passes { All (λ p. IsRoleIn N.parts (role_of p)) passes.old }
     requires user { UserBelongs N.parts user.old }
     requires frame { length desk.old.frame.items ≡ N.parts.config.width * N.parts.config.height }
-    requires text { length desk.old.text.items ≡ picture_length N.parts.config.width N.parts.config.height }
+    requires text { length desk.old.text.items
+        ≡ picture_length N.parts.config.width N.parts.config.height }
     ensures same { map role_of passes.new ≡ map role_of passes.old }
     ensures done { All (λ p. p.next ≡ length p.script) passes.new }
     ensures user_same { user_role_of user.new ≡ user_role_of user.old }
@@ -72,17 +76,17 @@ pub(crate) fn run_turns<'a, N: Name, K: Calls, S: Store, R: Wait>(
         let Some(phase) = least_phase(passes, user) else {
             return;
         };
-        do_turn(rt, hall, calls, passes, phase);
-        do_user_turn(rt, hall, calls, user, phase, desk);
+        do_turn(rt, hall, checkpoint, passes, phase);
+        do_user_turn(rt, hall, checkpoint, user, phase, desk);
     }
     unreachable!()
 }
 
 /// Each pass that is in this phase does its next line, if it has one.
-fn do_turn<'a, N: Name, K: Calls, R: Wait>(
+fn do_turn<'a, N: Name, K: Checkpoint, R: Wait>(
     rt: &R,
     hall: &Hall<'a, N>,
-    calls: &K,
+    checkpoint: &K,
     passes: &mut [Pass<'a>],
     phase: u32,
 )
@@ -91,15 +95,15 @@ fn do_turn<'a, N: Name, K: Calls, R: Wait>(
     ensures fits { All (λ p. IsRoleIn N.parts (role_of p)) passes.new }
 {
     'passes: for pass in passes.iter_mut() {
-        do_pass_turn(rt, hall, calls, pass, phase);
+        do_pass_turn(rt, hall, checkpoint, pass, phase);
     }
 }
 
 /// The pass does its next line, if it has one and is in this phase.
-fn do_pass_turn<'a, N: Name, K: Calls, R: Wait>(
+fn do_pass_turn<'a, N: Name, K: Checkpoint, R: Wait>(
     rt: &R,
     hall: &Hall<'a, N>,
-    calls: &K,
+    checkpoint: &K,
     pass: &mut Pass<'a>,
     phase: u32,
 )
@@ -110,22 +114,23 @@ fn do_pass_turn<'a, N: Name, K: Calls, R: Wait>(
         return;
     }
     if let Some(line) = pass.next() {
-        do_line(rt, hall, calls, pass, &line, true);
+        do_line(rt, hall, checkpoint, pass, &line, true);
     }
 }
 
 /// The user does its next line, if it has one and is in this phase.
-fn do_user_turn<'a, N: Name, K: Calls, S: Store, R: Wait>(
+fn do_user_turn<'a, N: Name, K: Checkpoint, S: Store, R: Wait>(
     rt: &R,
     hall: &Hall<'a, N>,
-    calls: &K,
+    checkpoint: &K,
     user: &mut UserPass<'a>,
     phase: u32,
     desk: &mut Desk<S>,
 )
     requires belongs { UserBelongs N.parts user.old }
     requires frame { length desk.old.frame.items ≡ N.parts.config.width * N.parts.config.height }
-    requires text { length desk.old.text.items ≡ picture_length N.parts.config.width N.parts.config.height }
+    requires text { length desk.old.text.items
+        ≡ picture_length N.parts.config.width N.parts.config.height }
     ensures same { user_role_of user.new ≡ user_role_of user.old }
     ensures put { PutsShotsBehind N.parts user.old.seen user.new.seen
         (putting (S.shown desk.old.store.now) desk.old.fault desk.old.tried)
@@ -138,7 +143,7 @@ fn do_user_turn<'a, N: Name, K: Calls, S: Store, R: Wait>(
         return;
     }
     if let Some(line) = user.next() {
-        do_user_line(rt, hall, calls, user, &line, desk);
+        do_user_line(rt, hall, checkpoint, user, &line, desk);
     }
 }
 

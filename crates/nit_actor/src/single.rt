@@ -11,9 +11,9 @@ ghost use Rattle.nit_actor.specs.Roles.{role_of, user_role_of};
 use nit_hall::{Pass, Room, UserPass};
 use nit_script::Line;
 
-/// Does all lines of one client that are left, and the lines `phase` of a user who does nothing else. The user ends each
-/// phase together with the client, so the pass is always ready and nothing waits. The calls of the lines
-/// are recorded, in order, and nothing else is. It takes no memory.
+/// Does all lines of one client that are left, and the lines `phase` of a user who does nothing
+/// else. The user ends each phase together with the client, so the pass is always ready and nothing
+/// waits. The calls of the lines are recorded, in order, and nothing else is. It takes no memory.
 pub fn run_alone<'a>(room: &mut Room<'a>, pass: &mut Pass<'a>, user: &mut UserPass<'a>)
     requires step { AreInStep room.old pass.old user.old }
     requires open { IsOpen room.old.scene.entries }
@@ -23,7 +23,9 @@ pub fn run_alone<'a>(room: &mut Room<'a>, pass: &mut Pass<'a>, user: &mut UserPa
     ensures user_done { user.new.next ≡ length user.new.input }
     ensures parts { room.new.parts ≡ room.old.parts }
     ensures open { IsOpen room.new.scene.entries }
-    ensures recorded { map act_of room.new.scene.entries ≡ map act_of room.old.scene.entries ++ map (Calls pass.old.sid) (calls_in (drop pass.old.next pass.old.script)) }
+    ensures recorded { map act_of room.new.scene.entries
+        ≡ map act_of room.old.scene.entries
+        ++ map (Calls pass.old.sid) (calls_in (drop pass.old.next pass.old.script)) }
 {
     'lines: while let Some(line) = pass.next() {
         do_line(room, pass, user, &line);
@@ -42,7 +44,8 @@ fn do_line<'a>(room: &mut Room<'a>, pass: &mut Pass<'a>, user: &mut UserPass<'a>
     ensures next { pass.new.next ≡ pass.old.next + 1 }
     ensures user_same { user_role_of user.new ≡ user_role_of user.old }
     ensures parts { room.new.parts ≡ room.old.parts }
-    ensures recorded { acts_to_be room.new.scene.entries pass.new ≡ acts_to_be room.old.scene.entries pass.old }
+    ensures recorded { acts_to_be room.new.scene.entries pass.new
+        ≡ acts_to_be room.old.scene.entries pass.old }
 {
     match line {
         Line::Call(_) => {

@@ -10,7 +10,7 @@ ghost use Rattle.nit_actor.specs.Roles.{user_role_of};
 ghost use Rattle.nit_actor.specs.Pictures.{GrowsQuietly, PutsShotsBehind};
 
 use crate::desk::Desk;
-use crate::gate::Calls;
+use crate::gate::Checkpoint;
 use nit_hall::{Hall, Name, UserPass};
 use nit_script::InputLine;
 use nit_store::Store;
@@ -40,7 +40,8 @@ fn end_phase<'a, N: Name, R: Wait>(rt: &R, hall: &Hall<'a, N>, user: &mut UserPa
     let _known = user.next();
 }
 
-/// Does the user's next line, which is `shot`, and sets `frame` to what it shows. Gives the shot's number.
+/// Does the user's next line, which is `shot`, and sets `frame` to what it shows. Gives the shot's
+/// number.
 fn take_shot<'a, N: Name, R: Wait>(
     rt: &R,
     hall: &Hall<'a, N>,
@@ -58,7 +59,8 @@ fn take_shot<'a, N: Name, R: Wait>(
     hall.shoot(rt, user, frame)
 }
 
-/// Does the user's next line, which is `shot`, and puts its picture unless a put was refused before.
+/// Does the user's next line, which is `shot`, and puts its picture unless a put was refused
+/// before.
 fn shoot<'a, N: Name, S: Store, R: Wait>(
     rt: &R,
     hall: &Hall<'a, N>,
@@ -68,7 +70,8 @@ fn shoot<'a, N: Name, S: Store, R: Wait>(
     requires belongs { UserBelongs N.parts user.old }
     requires next { IsAtShot user.old }
     requires frame { length desk.old.frame.items ≡ N.parts.config.width * N.parts.config.height }
-    requires text { length desk.old.text.items ≡ picture_length N.parts.config.width N.parts.config.height }
+    requires text { length desk.old.text.items
+        ≡ picture_length N.parts.config.width N.parts.config.height }
     ensures same { user_role_of user.new ≡ user_role_of user.old }
     ensures put { PutsShotsBehind N.parts user.old.seen user.new.seen
         (putting (S.shown desk.old.store.now) desk.old.fault desk.old.tried)
@@ -84,12 +87,12 @@ fn shoot<'a, N: Name, S: Store, R: Wait>(
     let _known = user.next();
 }
 
-/// Does the user's next line, which is this one, and passes the gate before it. The picture of a shot is put,
-/// unless a put was refused before.
-pub(crate) fn do_user_line<'a, N: Name, K: Calls, S: Store, R: Wait>(
+/// Does the user's next line, which is this one, and passes the gate before it. The picture of a
+/// shot is put, unless a put was refused before.
+pub(crate) fn do_user_line<'a, N: Name, K: Checkpoint, S: Store, R: Wait>(
     rt: &R,
     hall: &Hall<'a, N>,
-    calls: &K,
+    checkpoint: &K,
     user: &mut UserPass<'a>,
     line: &InputLine,
     desk: &mut Desk<S>,
@@ -97,7 +100,8 @@ pub(crate) fn do_user_line<'a, N: Name, K: Calls, S: Store, R: Wait>(
     requires belongs { UserBelongs N.parts user.old }
     requires next { slice_get user.old.input user.old.next ≡ Some line.now }
     requires frame { length desk.old.frame.items ≡ N.parts.config.width * N.parts.config.height }
-    requires text { length desk.old.text.items ≡ picture_length N.parts.config.width N.parts.config.height }
+    requires text { length desk.old.text.items
+        ≡ picture_length N.parts.config.width N.parts.config.height }
     ensures same { user_role_of user.new ≡ user_role_of user.old }
     ensures put { PutsShotsBehind N.parts user.old.seen user.new.seen
         (putting (S.shown desk.old.store.now) desk.old.fault desk.old.tried)
@@ -106,7 +110,7 @@ pub(crate) fn do_user_line<'a, N: Name, K: Calls, S: Store, R: Wait>(
     ensures text { length desk.new.text.items ≡ length desk.old.text.items }
     ensures same_store { desk.new.store.ghost_name ≡ desk.old.store.ghost_name }
 {
-    calls.call(hall.clients(), user.line() + 1);
+    checkpoint.reach(hall.clients(), user.line() + 1);
     match line {
         InputLine::Device(_) => do_device(rt, hall, user),
         InputLine::Phase => end_phase(rt, hall, user),

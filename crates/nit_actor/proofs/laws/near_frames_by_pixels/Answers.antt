@@ -18,5 +18,5 @@ returns-clause-each c = λ config scripts journal words k (raw, near, is) inside
       w,
       near k inside,
       ap (λ (ws : List ℕ). slice_index ws k) is ∙ c.frame_pixels.ensures.each s raw k inside
-      ∙ ap (λ (config : Configuration). shown s (pixel config.width k) w) (same_throughout config journal),
+          ∙ ap (λ (config : Configuration). shown s (pixel config.width k) w) (same_throughout config journal),
     )

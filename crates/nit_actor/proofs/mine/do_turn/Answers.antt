@@ -13,5 +13,5 @@ passes-preserved g c =
     record {
       same = roles_set c.passes.passes c.passes.pass-index c.do_pass_turn.new.pass _ (omega arith) e ∙ i.same;
       fit = All-set (λ (p : PassModel). IsRoleIn g.N.Name.parts (role_of p)) c.passes.passes c.passes.pass-index c.do_pass_turn.new.pass
-      (subst (λ (r : Role). IsRoleIn g.N.Name.parts r) (sym e) (i.fit c.passes.pass-index _ (omega arith))) i.fit;
+          (subst (λ (r : Role). IsRoleIn g.N.Name.parts r) (sym e) (i.fit c.passes.pass-index _ (omega arith))) i.fit;
     }

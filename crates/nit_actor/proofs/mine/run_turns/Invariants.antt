@@ -14,7 +14,7 @@ invariant-turns g l = record {
   frame : length l.desk.frame.items ≡ length l.initial.desk.frame.items;
   text : length l.desk.text.items ≡ length l.initial.desk.text.items;
   put : PutsShotsBehind g.N.Name.parts l.initial.user.seen l.user.seen
-    (putting (g.S.Store.shown l.initial.desk.store.now) l.initial.desk.fault l.initial.desk.tried)
-    (putting (g.S.Store.shown l.desk.store.now) l.desk.fault l.desk.tried);
+      (putting (g.S.Store.shown l.initial.desk.store.now) l.initial.desk.fault l.initial.desk.tried)
+      (putting (g.S.Store.shown l.desk.store.now) l.desk.fault l.desk.tried);
   same_store : l.desk.store.ghost_name ≡ l.initial.desk.store.ghost_name;
 }
