@@ -94,8 +94,8 @@ booked_push : (views : List BookView) (id : ℕ) (v w : BookView) (es : List Ent
 booked_push views id v w es cs taken at =
     (taken, at_longer (set views id (OfBook es cs taken)) (w ∷ []) id _ (set_here views id _ (at_within views id v at)))
 
-pub begins : (words : List ℕ) → IsKept (opening {S = Unit {0}} words [] (OfBook [] [] None))
-begins words = record { entries = []; counts = []; seat = 0; holder = λ n. 0; book = (None, refl); fits = one; held = λ n lt. absurd (omega arith) }
+pub begins : IsKept (opening {S = Unit {0}} (0 ∷ []) [] (OfBook [] [] None))
+begins = record { entries = []; counts = []; seat = 0; holder = λ n. 0; word = refl; book = (None, refl); fits = one; held = λ n lt. absurd (omega arith) }
   where
     one : (by : ℕ) (v : BookView) → get_elem? (OfBook [] [] None ∷ []) by ≡ some v → Fits [] [] 0 (λ n. 0) by v
     one zero v e = subst (Fits [] [] 0 (λ n. 0) 0) (some-injective _ _ e) (refl, refl, refl, tt)
@@ -124,6 +124,7 @@ opens id es cs s kept at =
       counts = cs ++ 0 ∷ [];
       seat = id;
       holder = holder;
+      word = kept.word;
       book = booked_push s.views id (resting es cs) (OfShare (token (length cs) 0 es)) es (cs ++ 0 ∷ []) None at;
       fits = over_snoc F (set s.views id w) (OfShare (token (length cs) 0 es))
           (over_set F s.views id w
@@ -156,6 +157,7 @@ takes id es cs other t s kept at apart there =
       counts = cs;
       seat = id;
       holder = holder;
+      word = kept.word;
       book = (Some t, set_else (set s.views id w) other id Spent (λ q. apart (sym q)) ∙ set_here s.views id w (at_within s.views id (resting es cs) at));
       fits = λ j u e. last s.views id es cs other t kept.holder all theirs j u e;
       held = λ n lt. by_number kept.holder (set (set s.views id w) other Spent) t.number id n
@@ -192,6 +194,7 @@ gives id es cs t s kept at =
       counts = cs;
       seat = id;
       holder = holder;
+      word = kept.word;
       book = booked_push s.views id (holding es cs t) (OfShare t) es cs None at;
       fits = over_snoc F (set s.views id w) (OfShare t)
           (over_set F s.views id w
@@ -244,6 +247,7 @@ does slots id es cs t added risen s kept homes at fits =
         counts = cs';
         seat = id;
         holder = kept.holder;
+        word = ap (λ (ws : List ℕ). set ws 0 (slice_index ws 0)) kept.word;
         book = (Some t', set_here s.views id w (at_within s.views id (holding es cs t) at));
         fits = over_set F s.views id w
             (λ j u apart x. other_fits es es' cs cs' id kept.holder kept.holder j u apart (grown_part es cs added risen kept.holder t.number id j mine.1 apart) (all j u x))

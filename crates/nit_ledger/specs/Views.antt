@@ -56,12 +56,13 @@ IsBookAt views seat es cs =
 -- The rule: there are entries, counts, the one seat of the book, and a seat that holds each number.
 -- The book's view stands at its seat. Each view fits these, so no other seat has a book's view, and
 -- no number has two shares. The holder of each number below the number of counts has the share of
--- that number.
+-- that number. The one word is 0.
 pub record IsKept (s : State (Unit {0}) BookView) : Type 0 where
   pub entries : List Entry
   pub counts : List ℕ
   pub seat : ℕ
   pub holder : ℕ → ℕ
+  pub word : s.words ≡ 0 ∷ []
   pub book : IsBookAt s.views seat entries counts
   pub fits : (by : ℕ) (v : BookView) → get_elem? s.views by ≡ some v → Fits entries counts seat holder by v
   pub held : (n : ℕ) → n < length counts → Stands s.views (holder n) n

@@ -29,7 +29,7 @@ pub enum BookView {
 
 /// There is exactly one view of the book. Each number below the number of its counts is held by
 /// exactly one view: by a share's, or by the book's where the share is taken in. Each share is in
-/// step with the book. At the beginning there is no entry and no count.
+/// step with the book. The one word is 0. At the beginning there is no entry and no count.
 pub struct BookRule;
 
 impl TableRule<(), BookView, ()> for BookRule {

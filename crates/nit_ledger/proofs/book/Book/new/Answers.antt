@@ -1,6 +1,5 @@
-use Rattle.std.proofs.Common.{[], ◌∷◌}
 use Rattle.nit_ledger.proofs.Moves.{begins}
 use Rattle.nit_ledger.proofs.book.Book.new.Goals as goal
 
 pub of_words-requires : goal.of_words-requires
-of_words-requires c = begins (0 ∷ [])
+of_words-requires c = begins
