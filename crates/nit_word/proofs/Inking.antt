@@ -1,7 +1,7 @@
 -- Words that are 0 or in an ink of words.
-use Rattle.std.proofs.Common.{◌≡◌, ◌∙◌, ℕ, ◌==◌, ◌<◌, Bool, true, false, List, All, length, get_or, refl, arith}
+use Rattle.std.proofs.Common.{◌≡◌, ℕ, ◌==◌, ◌<◌, Bool, true, false, List, All, length, get_or, refl, arith}
+use Rattle.std.specs.Prelude.{slice_index}
 use Rattle.std.specs.List.{list_any}
-use Rattle.std.proofs.lemmas.List.{get_or_default}
 use Rattle.std.proofs.lemmas.List.Folds.{Any-from_list_any}
 use Rattle.std.proofs.lemmas.Bool.Decides.{nat_tests}
 use Rattle.nit_word.specs.Inks.{IsInked, IsWord}
@@ -25,11 +25,11 @@ pub all_fit : (ink words : List ℕ) → All IsWord ink → All (IsInked ink) wo
 all_fit ink words fit inked i d lt = inked_fits ink (get_or words i d) fit (inked i d lt)
 
 -- what stands at a place of an inked glass may be loaded there
-pub place_loaded : (owner : ℕ) (words ink : List ℕ) (i w : ℕ) → All IsWord ink → All (IsInked ink) words → i < length words → w ≡ get_or words i w
+pub place_loaded : (owner : ℕ) (words ink : List ℕ) (i w : ℕ) → All IsWord ink → All (IsInked ink) words → i < length words → w ≡ slice_index words i
     → IsLoaded (inked_sight owner words ink) i w
 place_loaded owner words ink i w fit inked room is =
-    let here : IsInked ink w = rw is (inked i w room) in record {
+    let here : IsInked ink w = rw is (inked i 0 room) in record {
       fits = inked_fits ink w fit here;
       inked = here;
-      told = is ∙ get_or_default words i w 0 room;
+      told = is;
     }

@@ -1,13 +1,14 @@
 -- Words side by side that were set.
-use Rattle.std.proofs.Common.{◌≡◌, ◌≢◌, ◌∙◌, ℕ, ◌+◌, ◌-◌, ◌%◌, ◌==◌, ◌≤◌, ◌<◌, true, false, cond, List, length, get_or, take, drop, replicate, ◌++◌, refl, ap, arith}
+use Rattle.std.proofs.Common.{◌≡◌, ◌≢◌, ◌∙◌, ℕ, ◌+◌, ◌-◌, ◌%◌, ◌==◌, ◌≤◌, ◌<◌, true, false, cond, List, length, get_or, take, drop, replicate, ◌++◌, refl, ap, arith, ◌||◌, min, sym}
 use mathlib.Core.Logic.{dite}
 use native.Mathlib.Decide.{dec_lt}
 use Rattle.std.specs.Prelude.{slice_index}
+use Rattle.std.proofs.Math.ListN.{get_or-eq_default}
 use Rattle.std.proofs.lemmas.Bool.Decides.{nat_tests}
 use Rattle.std.proofs.lemmas.List.{get_or_append_left, get_or-append_right, get_or-take, get_or-drop, get_or-replicate, length-append, length-drop, length-replicate, length-take-le}
 use borrow.Rule.Slice.PartMut.{mid_of, put_mid}
-use Rattle.nit_word.specs.Setting.{set_where, is_between, in_turn, put_from}
-use Rattle.nit_word.proofs.SetWords.{are_set, set_long, word_at}
+use Rattle.nit_word.specs.Setting.{set_where, is_between, in_turn}
+use Rattle.nit_word.proofs.SetWords.{are_set, both_set, same_colours, set_long, word_at}
 
 put_long : (from n : ℕ) (words part : List ℕ) → from + n ≤ length words → length part ≡ n → length (put_mid from n words part) ≡ length words
 put_long from n words part room long =
@@ -72,12 +73,29 @@ alternated from to c d words part order room is =
     ap (λ (ws : List ℕ). get_or ws i 0) is ∙ word_at (is_between 0 (length mid)) (in_turn 0 c d) mid i (omega (arith, long)) ∙ ap (λ b. cond b (in_turn 0 c d i) (get_or mid i 0)) some ∙ later_turn from c d i)
     ∙ from_to from to (in_turn from c d) words order
 
-pub put : (from : ℕ) (row words part : List ℕ) → from + length row ≤ length words → part ≡ row → put_mid from (from + length row - from) words part ≡ put_from from row words
-put from row words part room is =
-    let long : from + length row - from ≡ length row = omega arith in
-    ap (λ (n : ℕ). put_mid from n words part) long
-    ∙ part_set from (length row) (λ n. slice_index row (n - from)) words part room (ap length is)
-    (λ i inside. ap (λ (ws : List ℕ). get_or ws i 0) is ∙ ap (λ (m : ℕ). get_or row m 0) (omega arith))
+joined : (from end to k : ℕ) → from ≤ end → end ≤ to → (is_between from end k || is_between end to k) ≡ is_between from to k
+joined from end to k low high = grind (arith, nat_tests)
+
+pub copied : (from to : ℕ) (others words part : List ℕ) → from ≤ to → to ≤ length words → to ≤ length others → part ≡ take (to - from) (drop from others)
+    → put_mid from (to - from) words part ≡ set_where (is_between from to) (slice_index others) words
+copied from to others words part order room known is =
+    part_set from (to - from) (slice_index others) words part (omega arith) (ap length is ∙ mid_long from (to - from) others (omega arith))
+    (λ i inside. ap (λ (ws : List ℕ). get_or ws i 0) is ∙ get_or-take (to - from) (drop from others) i 0 inside ∙ get_or-drop from others i 0)
+    ∙ from_to from to (slice_index others) words order
+
+-- the others have none of the words, or some of them
+pub none_copied : (from to : ℕ) (others words : List ℕ) → length others ≤ from → set_where (is_between from to) (λ n. 0) words ≡ set_where (is_between from to) (slice_index others) words
+none_copied from to others words short =
+    same_colours (is_between from to) (λ n. 0) (slice_index others) words
+    (λ k inside. let after : from ≤ k = grind (arith, nat_tests) in sym (get_or-eq_default others 0 (omega arith)))
+
+pub some_copied : (from to : ℕ) (others words : List ℕ) → from ≤ to → from ≤ length others
+    → set_where (is_between (min to (length others)) to) (λ n. 0) (set_where (is_between from (min to (length others))) (slice_index others) words) ≡ set_where (is_between from to) (slice_index others) words
+some_copied from to others words order known =
+    let end : ℕ = min to (length others) in
+    same_colours (is_between end to) (λ n. 0) (slice_index others) (set_where (is_between from end) (slice_index others) words)
+    (λ k inside. let range : (end ≤ k) × (k < to) = (grind (arith, nat_tests), grind (arith, nat_tests)) in sym (get_or-eq_default others 0 (omega (arith, range.0, range.1))))
+    ∙ both_set (is_between from end) (is_between end to) (is_between from to) (slice_index others) words (λ k. joined from end to k (omega arith) (omega arith))
 
 -- whose turn it is
 pub first_turn : (c d i : ℕ) → i % 2 ≡ 0 → c ≡ in_turn 0 c d i

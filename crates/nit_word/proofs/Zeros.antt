@@ -1,5 +1,5 @@
 -- Words that are all 0.
-use Rattle.std.proofs.Common.{◌≡◌, ℕ, zero, suc, List, length, replicate, refl, subst, sym}
+use Rattle.std.proofs.Common.{◌≡◌, ◌∙◌, ℕ, zero, suc, ◌+◌, List, ◌∷◌, ◌++◌, length, replicate, refl, subst, sym, ap, arith, zero-add}
 use Rattle.std.specs.Prelude.{slice_index}
 use Rattle.std.proofs.lemmas.List.{length-replicate}
 use Rattle.nit_word.specs.Inks.{IsInked}
@@ -22,3 +22,9 @@ zero_at n i = all_zero n i
 -- so it is in every ink
 pub zero_inked : (ink : List ℕ) (n i : ℕ) → IsInked ink (slice_index (zeros n) i)
 zero_inked ink n i = subst (IsInked ink) (sym (zero_at n i)) refl
+
+-- more of them
+pub zeros_joined : (m n : ℕ) → zeros m ++ zeros n ≡ zeros (m + n)
+unfolding zeros
+zeros_joined zero n = ap (λ k. replicate k 0) (sym (zero-add n))
+zeros_joined (suc m) n = let one : suc (m + n) ≡ suc m + n = omega arith in ap (λ ws. 0 ∷ ws) (zeros_joined m n) ∙ ap (λ k. replicate k 0) one

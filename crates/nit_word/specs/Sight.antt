@@ -1,5 +1,5 @@
 -- What contracts see of a glass.
-use Rattle.std.specs.Prelude.{◌≡◌, ℕ, List, ◌++◌, length, slice_index, slice_set, Option, None, Some, IfSome}
+use Rattle.std.specs.Prelude.{◌≡◌, ℕ, List, [], ◌++◌, length, slice_index, slice_set, Option, None, Some, IfSome}
 use Rattle.std.specs.Option.{option_map}
 use Rattle.nit_word.specs.Inks.{IsInked, IsWord}
 
@@ -21,6 +21,15 @@ pub record IsLoaded (sight : Sight) (i w : ℕ) : Type 0 where
 -- where words are told, every place has one
 abbrev pub TellsAll : Sight → Type 0
 TellsAll sight = IfSome sight.words (λ words. length words ≡ sight.size)
+
+-- the told words, and none where no words are told
+abbrev pub told_words : Option (List ℕ) → List ℕ
+told_words (Some words) = words
+told_words None = []
+
+-- the told word at a place, and 0 where none is told
+abbrev pub told_at : Sight → ℕ → ℕ
+told_at sight i = slice_index (told_words sight.words) i
 
 -- the sight after these loads: a told log has them at its end, and all else is as before
 abbrev pub seen : Sight → List (ℕ × ℕ) → Sight

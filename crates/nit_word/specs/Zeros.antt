@@ -1,6 +1,10 @@
 -- Words that are all 0.
-use Rattle.std.specs.Prelude.{ℕ, List, replicate}
+use Rattle.std.specs.Prelude.{ℕ, ◌-◌, List, ◌++◌, length, replicate}
 
 -- so many words that are 0
 unfoldable pub zeros : ℕ → List ℕ
 zeros n = replicate n 0
+
+-- these words, and behind them as many that are 0 as it takes for so many in all
+abbrev pub padded : ℕ → List ℕ → List ℕ
+padded size words = words ++ zeros (size - length words)

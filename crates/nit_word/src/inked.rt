@@ -1,11 +1,13 @@
 //! A glass over words of its own that shows a fixed ink alone.
-ghost use Rattle.std.specs.Prelude.{◌≡◌, ℕ, ◌+◌, ◌<◌, ◌≤◌, All, length};
+ghost use Rattle.std.specs.Prelude.{◌≡◌, ℕ, ◌<◌, ◌≤◌, All, IfOk};
 ghost use Rattle.nit_word.specs.Inks.{IsInked, IsWord};
-ghost use Rattle.nit_word.specs.Setting.{in_turn, is_between, put_from, set_where, with_words};
-ghost use Rattle.nit_word.specs.Sight.{Sight, inked_sight, stored};
+ghost use Rattle.nit_word.specs.Setting.{in_turn, is_between, set_where, with_words};
+ghost use Rattle.nit_word.specs.Sight.{Sight, inked_sight, stored, told_at};
+ghost use Rattle.nit_word.specs.Zeros.{padded, zeros};
 
 use crate::glass::Glass;
-use crate::setting::{alternate_words, fill_words, put_words};
+use crate::words::Words;
+use std::alloc::{AllocError, Global};
 use std::marker::Model;
 
 /// Words of one owner that the glass tells, each 0 or in its ink. The ink never changes, and the glass
@@ -13,16 +15,16 @@ use std::marker::Model;
 #[derive(Drop)]
 pub struct Inked {
     owner: u32,
-    words: Vec<u32>,
+    words: Words,
     ink: Vec<u32>,
 }
 
 impl Model for Inked {
     ghost Value = { Sight };
 
-    ghost view = { λ g. inked_sight g.owner g.words.items g.ink.items };
+    ghost view = { λ g. inked_sight g.owner g.words g.ink.items };
 
-    ghost invariant = { λ g. All IsWord g.ink.items × All (IsInked g.ink.items) g.words.items };
+    ghost invariant = { λ g. All IsWord g.ink.items × All (IsInked g.ink.items) g.words };
 }
 
 impl Inked {
@@ -32,7 +34,28 @@ impl Inked {
         requires words { All (IsInked ink.items) words.items }
         ensures { result ≡ inked_sight owner words.items ink.items }
     {
-        Inked { owner, words, ink }
+        Inked {
+            owner,
+            words: Words::of(words),
+            ink,
+        }
+    }
+
+    /// A glass over so many words, which are 0, of this ink. Each word of the ink is below 2^24. No call on
+    /// the glass takes memory, and words behind the last one that was set take no time.
+    ///
+    /// # Errors
+    ///
+    /// `AllocError` where memory runs out.
+    pub fn blank(alloc: Global, owner: u32, size: usize, ink: Vec<u32>) -> Result<Inked, AllocError>
+        requires ink { All IsWord ink.items }
+        ensures { IfOk result (λ g. g ≡ inked_sight owner (zeros size) ink.items) }
+    {
+        Ok(Inked {
+            owner,
+            words: Words::blank(alloc, size)?,
+            ink,
+        })
     }
 
     /// Sets the word at place `i`, which is below the glass's size, to `w`, which is 0 or in the ink.
@@ -42,7 +65,7 @@ impl Inked {
         requires word { IsInked self.old.ink w }
         ensures { self.new ≡ stored self.old i w }
     {
-        self.words[i] = w;
+        self.words.set(i, w);
     }
 
     /// Sets the words at the places from `from` to before `to`, which is at most the glass's size, to `w`,
@@ -53,7 +76,7 @@ impl Inked {
         requires word { IsInked self.old.ink w }
         ensures { self.new ≡ with_words (set_where (is_between from to) (λ n. w)) self.old }
     {
-        fill_words(&mut self.words, from, to, w);
+        self.words.fill(from, to, w);
     }
 
     /// Sets the words at the places from `from` to before `to`, which is at most the glass's size, to `c`
@@ -65,26 +88,28 @@ impl Inked {
         requires second { IsInked self.old.ink d }
         ensures { self.new ≡ with_words (set_where (is_between from to) (in_turn from c d)) self.old }
     {
-        alternate_words(&mut self.words, from, to, c, d);
+        self.words.alternate(from, to, c, d);
     }
 
-    /// Sets the words at the places from `from` on to those of the row, which reaches at most to the
-    /// glass's last word. Each is 0 or in the ink. Nothing else changes.
-    pub fn put(&mut self, from: usize, row: &[u32])
-        requires room { from + length row.now ≤ self.old.size }
-        requires inked { All (IsInked self.old.ink) row.now }
-        ensures { self.new ≡ with_words (put_from from row.now) self.old }
+    /// Sets the words at the places from `from` to before `to`, which is at most the glass's size, to those
+    /// that another glass of the same ink tells there, and to 0 where it tells none. Nothing else changes.
+    pub fn copy(&mut self, from: usize, to: usize, other: &Inked)
+        requires order { from ≤ to }
+        requires room { to ≤ self.old.size }
+        requires ink { other.now.ink ≡ self.old.ink }
+        ensures { self.new ≡ with_words (set_where (is_between from to) (told_at other.now)) self.old }
     {
-        put_words(&mut self.words, from, row);
+        self.words.copy(from, to, &other.words);
     }
 
-    /// The words of the glass in their order, each below 2^24, and 0 or in the ink.
+    /// The words of the glass in their order, each below 2^24, and 0 or in the ink. Those that are left out
+    /// at the end are 0.
     pub fn words(&self) -> &[u32]
-        ensures sight { self.now ≡ inked_sight self.now.owner result.now self.now.ink }
+        ensures sight { self.now ≡ inked_sight self.now.owner (padded self.now.size result.now) self.now.ink }
         ensures fits { All IsWord result.now }
         ensures inked { All (IsInked self.now.ink) result.now }
     {
-        &self.words
+        self.words.reached()
     }
 }
 
@@ -96,6 +121,6 @@ impl Glass for Inked {
     ghost rest = { λ _. tt };
 
     fn load(&mut self, i: usize) -> u32 {
-        self.words[i]
+        self.words.get(i)
     }
 }

@@ -13,6 +13,7 @@ mod inked;
 mod plain;
 mod setting;
 mod shade;
+mod words;
 
 pub use glass::Glass;
 pub use inked::Inked;

@@ -1,6 +1,6 @@
 //! Words that are set side by side.
-ghost use Rattle.std.specs.Prelude.{◌≡◌, ℕ, ◌+◌, ◌≤◌, length};
-ghost use Rattle.nit_word.specs.Setting.{in_turn, is_between, put_from, set_where};
+ghost use Rattle.std.specs.Prelude.{◌≡◌, ℕ, ◌≤◌, length, slice_index};
+ghost use Rattle.nit_word.specs.Setting.{in_turn, is_between, set_where};
 
 /// Sets the words from the number `from` to before `to` to `w`.
 pub(crate) fn fill_words(words: &mut [u32], from: usize, to: usize, w: u32)
@@ -29,10 +29,28 @@ fn take_turns(words: &mut [u32], c: u32, d: u32)
     }
 }
 
-/// Sets the words from the number `from` on to those of the row.
-pub(crate) fn put_words(words: &mut [u32], from: usize, row: &[u32])
-    requires { from + length row.now ≤ length words.old }
-    ensures { words.new ≡ put_from from row.now words.old }
+/// Sets the words from the number `from` to before `to` to those of the others that have these numbers,
+/// and to 0 behind the last of the others.
+pub(crate) fn copy_words(words: &mut [u32], from: usize, to: usize, others: &[u32])
+    requires order { from ≤ to }
+    requires room { to ≤ length words.old }
+    ensures { words.new ≡ set_where (is_between from to) (slice_index others.now) words.old }
 {
-    words[from..from + row.len()].copy_from_slice(row);
+    if others.len() <= from {
+        fill_words(words, from, to, 0);
+        return;
+    }
+    let end = to.min(others.len());
+    copy_part(words, from, end, others);
+    fill_words(words, end, to, 0);
+}
+
+/// Sets the words from the number `from` to before `to` to those of the others that have these numbers.
+fn copy_part(words: &mut [u32], from: usize, to: usize, others: &[u32])
+    requires order { from ≤ to }
+    requires room { to ≤ length words.old }
+    requires others { to ≤ length others.now }
+    ensures { words.new ≡ set_where (is_between from to) (slice_index others.now) words.old }
+{
+    words[from..to].copy_from_slice(&others[from..to]);
 }

@@ -1,0 +1,19 @@
+use Rattle.std.proofs.Common.{◌∙◌, ℕ, List, All, ap, length, subst, sym}
+use Rattle.std.specs.Prelude.{slice_index}
+use Rattle.nit_word.specs.Inks.{IsInked}
+use Rattle.nit_word.specs.Setting.{is_between, set_where, with_words}
+use Rattle.nit_word.specs.Sight.{Sight, told_at}
+use Rattle.nit_word.proofs.SetWords.{set_long}
+use Rattle.nit_word.proofs.InkedRows.{copied_inked, sight_changed}
+use Rattle.nit_word.proofs.inked.Inked.copy.Goals as goal
+
+pub invariant_of-self : goal.invariant_of-self
+invariant_of-self c =
+    let same = ap (λ (g : Sight). g.ink) c.other.view_is ∙ c.requires.ink ∙ sym (ap (λ (g : Sight). g.ink) c.self.view_is) in
+    (c.self.invariant.0, copied_inked _ c.args.from c.args.to _ _ _ (subst (λ (ink : List ℕ). All (IsInked ink) c.other.inside.words) same c.other.invariant.1) c.self.invariant.1 c.copy.ensures)
+
+pub returns : goal.returns
+returns c =
+    sight_changed (set_where (is_between c.args.from c.args.to) (slice_index c.other.inside.words)) _ _ _ _ _ c.self.view_is c.copy.ensures
+    (ap length c.copy.ensures ∙ set_long (is_between c.args.from c.args.to) (slice_index c.other.inside.words) _)
+    ∙ ap (λ (g : Sight). with_words (set_where (is_between c.args.from c.args.to) (told_at g)) c.args.self.now) c.other.view_is
