@@ -20,7 +20,7 @@ use Rattle.nit_config.specs.Configuration.{Configuration, bar_rows, donation_of}
 use Rattle.nit_journal.specs.Deliveries.{IsLive}
 use Rattle.nit_journal.specs.Journals.{Agrees, IsLegal, replay, replay_from, shots}
 use Rattle.nit_journal.specs.Projections.{Moment, Calls, Gets, alone_machine, items_to, projection}
-use Rattle.nit_journal.specs.Session.{Session, opened, serve}
+use Rattle.nit_journal.specs.Session.{Session, opened}
 use Rattle.nit_journal.specs.State.{State, after, clicks_on, input_after_call, opening, route, session}
 use Rattle.nit_journal.specs.Views.{is_accepted}
 use Rattle.nit_journal.specs.Whole.{Deed, Does, Shoots, act_of, calls_of, deeds_of, done}
@@ -36,7 +36,7 @@ use Rattle.nit_actor.specs.Done.{acts}
 use Rattle.nit_actor.specs.Rounds.{rounds}
 use Rattle.nit_top.specs.Setup.{Setup, AreLines, IsRunnable}
 use Rattle.nit_top.specs.Outputs.{IsJournal}
-use Rattle.nit_top.proofs.RoutesFit.{ItemsFit, PointsFit, RouteFits, moved_fits, routing_fits}
+use Rattle.nit_top.proofs.RoutesFit.{ItemsFit, PointsFit, moved_fits, routing_fits}
 use Rattle.nit_top.proofs.MachinesFit.{IsFine, MomentFits, answer_fits, calls_among, moments_fine, opens_fine}
 
 -- ---- lists

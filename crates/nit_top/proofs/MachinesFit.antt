@@ -1,5 +1,5 @@
 -- What the machine of a session answers is within the format of texts.
-use Rattle.std.proofs.Common.{◌≡◌, ◌∙◌, ℕ, ◌+◌, ◌-◌, ◌*◌, ◌<◌, ◌≤◌, ◌^◌, Bool, true, false, cond, ◌&&◌, not, nat_lt, nat_le, min, List, [], ◌∷◌, ◌++◌, length, Option, Some, None, refl, sym, ap, subst, arith}
+use Rattle.std.proofs.Common.{◌≡◌, ℕ, ◌+◌, ◌*◌, ◌<◌, ◌≤◌, ◌^◌, Bool, true, false, cond, ◌&&◌, nat_lt, nat_le, List, [], ◌∷◌, ◌++◌, length, Option, Some, None, refl, subst, arith}
 use Rattle.std.specs.List.{AllByRecursion}
 use Rattle.std.proofs.Math.Nat.{min-le_right, mul-le-mul_left, mul-le-mul_right}
 use Rattle.std.proofs.lemmas.Bool.{and_parts, leb-true}
@@ -14,8 +14,8 @@ use Rattle.nit_events.specs.declared.call.Call.TheVariants.{Buffer, View, Place,
 use Rattle.nit_events.specs.declared.call.Reply.{Reply}
 use Rattle.nit_events.specs.declared.call.Reply.TheVariants as reply
 use Rattle.nit_glyph.specs.Texts.{is_title}
-use Rattle.nit_slots.specs.Account.{room, buffer_need, buffer_left, view_need, view_left}
-use Rattle.nit_journal.specs.Session.{Session, Answered, ◌orelse◌, accepted, by_call, by_handle, by_life, by_quota, by_refusal, by_reserve, by_status, has_view, is_side, opened, queued, receive, refusal, serve, taking, unless}
+use Rattle.nit_slots.specs.Account.{buffer_need, buffer_left, view_need, view_left}
+use Rattle.nit_journal.specs.Session.{Session, Answered, ◌orelse◌, accepted, by_call, by_handle, by_life, by_quota, by_refusal, by_reserve, by_status, has_view, is_side, opened, receive, refusal, serve, taking, unless}
 use Rattle.nit_journal.specs.Projections.{Moment, Calls, Gets, after_moments}
 use Rattle.nit_script.specs.Spelling.{FitsCall}
 use Rattle.nit_report.specs.JournalText.{FitsEvent, FitsItem, FitsReply}

@@ -1,4 +1,4 @@
-use Rattle.std.proofs.Common.{◌≡◌, ◌∙◌, ◌++◌, ◌∷◌, [], ℕ, ◌<◌, List, length, map, sym, ap, subst}
+use Rattle.std.proofs.Common.{◌≡◌, ◌∙◌, ◌++◌, ◌∷◌, [], ℕ, ◌<◌, List, length, sym, ap, subst}
 use Rattle.std.proofs.lemmas.List.{length-map, get_or-map}
 use Rattle.nit_events.specs.declared.call.Reply.TheVariants as reply
 use Rattle.nit_events.specs.declared.entry.Entry.{Entry}
