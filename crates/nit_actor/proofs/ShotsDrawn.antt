@@ -7,7 +7,6 @@ use Rattle.std.proofs.lemmas.List.Sums.{fold-append}
 use Rattle.nit_events.specs.declared.entry.Entry.{Entry}
 use Rattle.nit_events.specs.declared.entry.Entry.TheVariants as entry
 use Rattle.nit_script.specs.declared.line.Line.{Line}
-use Rattle.nit_script.specs.declared.line.Line.TheVariants as line
 use Rattle.nit_script.specs.declared.line.InputLine.{InputLine}
 use Rattle.nit_script.specs.declared.line.InputLine.TheVariants as input
 use Rattle.nit_config.specs.Configuration.{Configuration}
@@ -19,7 +18,7 @@ use Rattle.nit_actor.specs.Moves.{Doing, ByClient, ByUser, Move}
 use Rattle.nit_actor.specs.Rounds.{rounds}
 use Rattle.nit_actor.specs.Done.{AreRoundsOf, acts}
 use Rattle.nit_actor.specs.Running.{shot_name}
-use Rattle.nit_actor.specs.Drawn.{Drawing, after_move, drawn, opening_drawing, picture_of, shots_after, shots_of, state_after, entry_of}
+use Rattle.nit_actor.specs.Drawn.{Drawing, after_move, drawn, opening_drawing, picture_of, shots_after, shots_of}
 use Rattle.nit_actor.specs.Shots.{ShotsBehind, AreShotsOf, shoots, moves_before, drawn_by_shot, IsDrawnPicture}
 use Rattle.nit_actor.proofs.Shots.{shots_both}
 use Rattle.nit_actor.proofs.Replayed.{PutBy, behind, none_left}

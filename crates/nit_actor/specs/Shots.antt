@@ -8,7 +8,7 @@ use Rattle.nit_script.specs.declared.line.InputLine.TheVariants as input
 use Rattle.nit_config.specs.Configuration.{Configuration}
 use Rattle.nit_journal.specs.Journals.{replay, shots}
 use Rattle.nit_store.specs.Shown.{File}
-use Rattle.nit_actor.specs.Moves.{Doing, ByClient, ByUser, Move}
+use Rattle.nit_actor.specs.Moves.{Doing, ByUser, Move}
 use Rattle.nit_actor.specs.Rounds.{rounds}
 use Rattle.nit_actor.specs.Running.{shot_name}
 use Rattle.nit_actor.specs.Drawn.{Drawing, drawn, picture_of}

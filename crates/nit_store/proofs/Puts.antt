@@ -1,5 +1,5 @@
 -- Files that are put one after the other: one more, more, and none behind a refusal.
-use Rattle.std.proofs.Common.{◌≡◌, ◌∙◌, List, [], ◌∷◌, ◌++◌, Option, Some, None, refl, sym, ap, subst}
+use Rattle.std.proofs.Common.{◌≡◌, ◌∙◌, List, [], ◌∷◌, ◌++◌, Option, Some, None, refl, ap, subst}
 use Rattle.nit_store.specs.Shown.{File}
 use Rattle.nit_store.specs.Puts.{Putting, PutsAll, PutsNext, PutsUnless, Refusal}
 

@@ -1,7 +1,7 @@
 -- What the headline says, from the laws of the crates below.
-use Rattle.std.proofs.Common.{◌≡◌, ◌∙◌, ℕ, suc, ◌+◌, ◌*◌, ◌<◌, Bool, true, false, cond, List, [], ◌∷◌, ◌++◌, length, map, Option, Some, None, refl, sym, ap, subst, arith, inl, inr, ◌⊎◌, zero-add}
+use Rattle.std.proofs.Common.{◌≡◌, ◌∙◌, ℕ, suc, ◌+◌, ◌*◌, ◌<◌, Bool, true, false, cond, List, [], ◌∷◌, ◌++◌, length, map, Some, None, refl, sym, ap, subst, arith, inl, inr, ◌⊎◌, zero-add}
 use Rattle.std.specs.Prelude.{slice_get, slice_index, option_map, Contains}
-use Rattle.std.specs.List.{range_with_len}
+use Rattle.std.specs.List.{AllByRecursion, range_with_len}
 use Rattle.std.proofs.lemmas.List.{length_push, length-append, map-append}
 use Rattle.std.proofs.lemmas.List.Elements.{Contains-append_left, Contains-append_right, Contains-push}
 use Rattle.std.proofs.lemmas.List.FromFn.{get_or-map-range_with_len, length-map-range_with_len}
@@ -30,6 +30,7 @@ use Rattle.nit_overlay.specs.Shown.{Scenery, shown, frame}
 use Rattle.nit_scene.specs.Painted.{pixel_count}
 use Rattle.nit_scene.specs.Played.{scenery_of}
 use Rattle.nit_report.specs.EventsText.{events_text}
+use Rattle.nit_report.specs.JournalText.{FitsEntry}
 use Rattle.nit_store.specs.Shown.{File}
 use Rattle.nit_actor.specs.Done.{AreRoundsOf, acts}
 use Rattle.nit_actor.specs.Rounds.{rounds}
@@ -152,14 +153,15 @@ module _ (s : Setup) (journal : List Entry) (outputs : List File) (j : IsJournal
       has_picture count each s.config outputs final_name (final_picture s journal) t word (ap (λ (c : Configuration). picture_of c t word) same) the_last
 
   -- the texts
-  pub texts_tell : MachinesLaw → s.texts ≡ true → AreTexts s.config journal outputs
-  texts_tell law has = record {
+  pub texts_tell : MachinesLaw → AllByRecursion FitsEntry journal → s.texts ≡ true → AreTexts s.config journal outputs
+  texts_tell law fits has = record {
     events = λ sid inside.
         let f = events_file s.config journal sid in
         let there : Contains (events_files s.config journal) f = contains_map (events_file s.config journal) (length s.config.clients) sid inside in
         let told : Contains outputs f = among_texts f (subst (λ (fs : List File). Contains fs f) (sym on) (Contains-append_left (events_files s.config journal) (journal_file journal ∷ []) f there)) in
         subst (λ (m : Session). Contains outputs (events_name (member s.config sid).label, events_text journal sid (ending_of m))) (law s.config journal sid j.legal inside) told;
     journal_too = among_texts (journal_file journal) (subst (λ (fs : List File). Contains fs (journal_file journal)) (sym on) (Contains-push (events_files s.config journal) (journal_file journal)));
+    reads = (fits, refl);
   }
     where
       on : text_files s journal ≡ events_files s.config journal ++ journal_file journal ∷ []

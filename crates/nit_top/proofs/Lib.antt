@@ -15,3 +15,6 @@ pub mod Leaving
 pub mod Headlines
 pub mod Naming
 pub mod Texting
+pub mod RoutesFit
+pub mod MachinesFit
+pub mod Fitting

@@ -21,7 +21,7 @@ use Rattle.nit_top.specs.declared.finish.Worked.{Worked}
 use Rattle.nit_top.specs.Command.{Command, Still, Turns}
 use Rattle.nit_top.specs.Setup.{AreLines, still_setup, idle_user, HaveSamePhases, IsRunnable}
 use Rattle.nit_top.specs.Judged.{IsConfig, IsConfigFault, IsClient, IsClientFault, IsInput, IsInputFault, SpellScripts, AreScripts, script_names, wanted_by, wrong_phases, wrong_input, Judged, Refused, IsValid, names_in}
-use Rattle.nit_top.specs.FilesRead.{FilesRead, NoFile, FirstFiles, HasRead, first_names}
+use Rattle.nit_top.specs.FilesRead.{NoFile, FirstFiles, HasRead, first_names}
 use Rattle.nit_top.specs.Lines.{name_text}
 use Rattle.nit_top.specs.Work.{asking_all, SoFar, StoppedAt, StoppedAmong, setup_of, Performed, Ends}
 use Rattle.nit_top.proofs.Asking.{asking_none, asking_both, asking_more}

@@ -30,6 +30,7 @@ use Rattle.nit_scene.specs.Painted.{pixel_count}
 use Rattle.nit_scene.specs.Played.{scenery_of}
 use Rattle.nit_report.specs.Picture.{picture}
 use Rattle.nit_report.specs.EventsText.{events_text}
+use Rattle.nit_report.specs.JournalText.{ReadsJournal, journal_text}
 use Rattle.nit_store.specs.Shown.{File}
 use Rattle.nit_plan.specs.Sessions.{script_in}
 use Rattle.nit_actor.specs.Running.{shot_name}
@@ -132,13 +133,15 @@ HoldsAtEnd s journal k w = w ≡ raw_word (replay s.config journal) (tables_left
 -- ---- the texts
 
 -- The texts of a run. What a client's text tells is told of the machine that serves it alone: the
--- events that it took stand among its replies, and how it ended is how that machine ends.
+-- events that it took stand among its replies, and how it ended is how that machine ends. The text of
+-- the journal is read back as the journal.
 pub record AreTexts (config : Configuration) (journal : List Entry) (outputs : List File) : Type 0 where
   pub events : (sid : ℕ) → sid < length config.clients
       → let machine = alone_machine (donation_of config sid) (projection sid journal) in
       Contains outputs
       (events_name (member config sid).label, events_text journal sid (ending_of machine))
   pub journal_too : Contains outputs (journal_file journal)
+  pub reads : ReadsJournal (journal_text journal) journal
 
 -- ---- all
 

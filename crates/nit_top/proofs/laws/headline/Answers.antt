@@ -1,4 +1,4 @@
-use Rattle.std.proofs.Common.{◌≡◌, ◌∙◌, ◌++◌, ◌∷◌, [], ℕ, ◌<◌, List, length, map, sym, ap, subst}
+use Rattle.std.proofs.Common.{◌≡◌, ◌∙◌, ◌++◌, ◌∷◌, [], ℕ, ◌<◌, List, length, sym, ap, subst}
 use Rattle.std.proofs.lemmas.List.{length-map, get_or-map}
 use Rattle.nit_events.specs.declared.call.Reply.TheVariants as reply
 use Rattle.nit_events.specs.declared.entry.Entry.{Entry}
@@ -38,7 +38,7 @@ returns c = λ s journal outputs runnable j are.
       };
       shots_show = shot_shows s journal outputs j are law fronts c.frame_pixels.ensures.count c.frame_pixels.ensures.each;
       final_shows = end_shows s journal outputs j are c.frame_pixels.ensures.count c.frame_pixels.ensures.each (c.configuration_stays.ensures.configuration config journal);
-      texts = texts_tell s journal outputs j are c.machines_stand_alone.ensures;
+      texts = texts_tell s journal outputs j are c.machines_stand_alone.ensures (c.journals_fit.ensures s journal runnable j);
       count = files_counted s journal outputs j are law fronts;
       only = λ other files k more. (c.one_setup_one_run.ensures.journal s other journal k j, c.one_setup_one_run.ensures.files s other journal files outputs k j more are);
     }

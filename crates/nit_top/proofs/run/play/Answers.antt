@@ -1,4 +1,4 @@
-use Rattle.std.proofs.Common.{rules, ◌≡◌, ◌∙◌, ◌<◌, ◌++◌, ◌∷◌, [], List, Option, length, ℕ, ◌+◌, ap, sym, subst, refl}
+use Rattle.std.proofs.Common.{rules, ◌≡◌, ◌∙◌, ◌<◌, ◌++◌, ◌∷◌, [], List, Option, length, ℕ, ◌+◌, ap, sym, subst}
 use Rattle.nit_word.specs.Sight.{Sight}
 use Rattle.nit_events.specs.declared.entry.Entry.{Entry}
 use Rattle.nit_journal.specs.Kept.{Kept}
