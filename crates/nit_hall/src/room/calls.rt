@@ -6,7 +6,7 @@ ghost use Rattle.nit_journal.specs.Journals.{IsLegal, IsOpen};
 ghost use Rattle.nit_journal.specs.Session.{serve};
 ghost use Rattle.nit_journal.specs.State.{session};
 ghost use Rattle.nit_journal.specs.Views.{is_accepted};
-ghost use Rattle.nit_scene.specs.Marks.{glasses_of_call};
+ghost use Rattle.nit_repaint.specs.Glasses.{glasses_of_call};
 ghost use Rattle.nit_scene.specs.Painted.{Painted, glass_in};
 ghost use Rattle.nit_scene.specs.Played.{state_now};
 ghost use Rattle.nit_hall.specs.Lines.{served};
