@@ -2,7 +2,7 @@
 use Rattle.std.proofs.Common.{◌≡◌, ℕ, ◌+◌, ◌*◌, ◌/◌, ◌%◌, List, [], ◌∷◌, ◌++◌, length, take, refl, arith}
 use Rattle.std.proofs.Math.Seq.{take-append_seam, take-length}
 use Rattle.std.proofs.lemmas.List.{append-nil}
-use Rattle.nit_script.specs.Printing.{IsFront}
+use Rattle.nit_script.specs.Printing.{KeepsBytes}
 use Rattle.nit_script.specs.Spelling.{hex, hex_digits}
 
 pub ruleset ends = (append-nil)
@@ -26,12 +26,12 @@ six_digits c = rw (two c, three c, four c, five c) refl
 
 pub ruleset sixes = (six_digits)
 
--- all bytes are a front of themselves
-pub front_same : (xs : List ℕ) → IsFront xs xs
-front_same xs = take-length xs
+-- bytes that stay are kept
+pub keeps_same : (xs : List ℕ) → KeepsBytes xs xs
+keeps_same xs = take-length xs
 
--- and of themselves with more behind them
-pub front_more : (xs ys zs : List ℕ) → zs ≡ xs ++ ys → IsFront xs zs
-front_more xs ys zs more = rw more (take-append_seam xs ys)
+-- and so are those with more behind them
+pub keeps_more : (xs ys zs : List ℕ) → zs ≡ xs ++ ys → KeepsBytes xs zs
+keeps_more xs ys zs more = rw more (take-append_seam xs ys)
 
-pub ruleset fronts = (front_same, front_more)
+pub ruleset keeps = (keeps_same, keeps_more)

@@ -4,9 +4,9 @@ use Rattle.nit_script.specs.declared.write.Field.{Field}
 use Rattle.nit_script.specs.declared.write.Field.TheVariants.{Natural, Integer, Colour, Text}
 use Rattle.nit_script.specs.Spelling.{nat, int, colour, text}
 
--- some bytes are the front of others
-abbrev pub IsFront : List ℕ → List ℕ → Type 0
-IsFront front bytes = take (length front) bytes ≡ front
+-- the bytes that were there before stand in front now
+abbrev pub KeepsBytes : List ℕ → List ℕ → Type 0
+KeepsBytes before now = take (length before) now ≡ before
 
 -- a field with the space before it
 abbrev pub field_spelling : Field → List ℕ

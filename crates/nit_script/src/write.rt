@@ -3,7 +3,7 @@
 ghost use Rattle.std.specs.Prelude.{◌≡◌, ◌++◌, ◌%◌, OnOk, OnErr};
 ghost use Rattle.std.specs.List.{flat_map};
 ghost use Rattle.nit_script.specs.Spelling.{nat, int, hex, hex_digits, colour, text};
-ghost use Rattle.nit_script.specs.Printing.{IsFront, field_spelling};
+ghost use Rattle.nit_script.specs.Printing.{KeepsBytes, field_spelling};
 
 use nit_events::Text;
 use nit_rect::NoMemory;
@@ -38,7 +38,7 @@ pub fn put_words(
 }
 
 /// Writes a word and its fields, or a front of them.
-#[tactic(auto, using(crate::proofs::Printed::fronts))]
+#[tactic(auto, using(crate::proofs::Printed::keeps))]
 fn put_parts(
     alloc: Global,
     out: &mut Vec<u8>,
@@ -47,17 +47,17 @@ fn put_parts(
 ) -> Result<(), NoMemory>
     ensures written { OnOk result (out.new.items
         ≡ out.old.items ++ (word.now ++ flat_map field_spelling fields.now)) }
-    ensures kept { OnErr result (IsFront out.old.items out.new.items) }
+    ensures kept { OnErr result (KeepsBytes out.old.items out.new.items) }
 {
     out.extend_from_slice(word)?;
     put_fields(alloc, out, fields)
 }
 
-#[tactic(auto, using(crate::proofs::Printed::fronts))]
+#[tactic(auto, using(crate::proofs::Printed::keeps))]
 fn put_fields(alloc: Global, out: &mut Vec<u8>, fields: &[Field]) -> Result<(), NoMemory>
     ensures written { OnOk result (out.new.items
         ≡ out.old.items ++ flat_map field_spelling fields.now) }
-    ensures kept { OnErr result (IsFront out.old.items out.new.items) }
+    ensures kept { OnErr result (KeepsBytes out.old.items out.new.items) }
 {
     for field in fields {
         put_field(alloc, out, field)?;
@@ -67,7 +67,7 @@ fn put_fields(alloc: Global, out: &mut Vec<u8>, fields: &[Field]) -> Result<(), 
 
 fn put_field(alloc: Global, out: &mut Vec<u8>, field: &Field) -> Result<(), NoMemory>
     ensures written { OnOk result (out.new.items ≡ out.old.items ++ field_spelling field.now) }
-    ensures kept { OnErr result (IsFront out.old.items out.new.items) }
+    ensures kept { OnErr result (KeepsBytes out.old.items out.new.items) }
 {
     match field {
         Field::Natural(number) => put_natural(alloc, out, *number),
@@ -77,40 +77,40 @@ fn put_field(alloc: Global, out: &mut Vec<u8>, field: &Field) -> Result<(), NoMe
     }
 }
 
-#[tactic(auto, using(crate::proofs::Printed::fronts))]
+#[tactic(auto, using(crate::proofs::Printed::keeps))]
 fn put_natural(alloc: Global, out: &mut Vec<u8>, number: u32) -> Result<(), NoMemory>
     ensures written { OnOk result (out.new.items ≡ out.old.items ++ nat number) }
-    ensures kept { OnErr result (IsFront out.old.items out.new.items) }
+    ensures kept { OnErr result (KeepsBytes out.old.items out.new.items) }
 {
     let digits = format!(in alloc; " {number}")?;
     out.extend_from_slice(digits.as_bytes())?;
     Ok(())
 }
 
-#[tactic(auto, using(crate::proofs::Printed::fronts))]
+#[tactic(auto, using(crate::proofs::Printed::keeps))]
 fn put_integer(alloc: Global, out: &mut Vec<u8>, number: i32) -> Result<(), NoMemory>
     ensures written { OnOk result (out.new.items ≡ out.old.items ++ int number) }
-    ensures kept { OnErr result (IsFront out.old.items out.new.items) }
+    ensures kept { OnErr result (KeepsBytes out.old.items out.new.items) }
 {
     let digits = format!(in alloc; " {number}")?;
     out.extend_from_slice(digits.as_bytes())?;
     Ok(())
 }
 
-#[tactic(auto, using(crate::proofs::Printed::fronts))]
+#[tactic(auto, using(crate::proofs::Printed::keeps))]
 fn put_colour(out: &mut Vec<u8>, number: u32) -> Result<(), NoMemory>
     ensures written { OnOk result (out.new.items ≡ out.old.items ++ colour number) }
-    ensures kept { OnErr result (IsFront out.old.items out.new.items) }
+    ensures kept { OnErr result (KeepsBytes out.old.items out.new.items) }
 {
     out.push(b' ')?;
     out.extend_from_slice(&colour_digits(number))?;
     Ok(())
 }
 
-#[tactic(auto, using(crate::proofs::Printed::fronts))]
+#[tactic(auto, using(crate::proofs::Printed::keeps))]
 fn put_text(out: &mut Vec<u8>, title: &Text) -> Result<(), NoMemory>
     ensures written { OnOk result (out.new.items ≡ out.old.items ++ text title.now) }
-    ensures kept { OnErr result (IsFront out.old.items out.new.items) }
+    ensures kept { OnErr result (KeepsBytes out.old.items out.new.items) }
 {
     out.extend_from_slice(b" =")?;
     out.extend_from_slice(title.as_bytes())?;

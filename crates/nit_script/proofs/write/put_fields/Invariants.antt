@@ -1,9 +1,9 @@
 use Rattle.std.proofs.Common.{◌≡◌, ◌++◌, drop}
 use Rattle.std.specs.List.{flat_map}
-use Rattle.nit_script.specs.Printing.{IsFront, field_spelling}
+use Rattle.nit_script.specs.Printing.{KeepsBytes, field_spelling}
 use Rattle.nit_script.proofs.write.put_fields.Given as goal
 
 abbrev pub invariant-loop-field : goal.invariant-loop-field
 invariant-loop-field l =
     (l.out.items ++ flat_map field_spelling (drop l.field-index l.fields) ≡ l.fn.out.items ++ flat_map field_spelling l.fields)
-    × IsFront l.fn.out.items l.out.items
+    × KeepsBytes l.fn.out.items l.out.items
