@@ -13,10 +13,10 @@ use Rattle.nit_place.proofs.Steps.{fails_of, three}
 use Rattle.nit_place.proofs.Grid.{IsOnlyWithin, all_in_grid, found_least, one_least}
 
 -- an owned pixel is on the screen, and its owner has the view's name
-record IsOwned (width height rows : ℕ) (stack : List View) (v : View) (x y : ℕ) : Type 0 where
-  in_width : x < width
-  in_height : y < height
-  owner : is_owner v.sid v.handle (owner rows stack (point x y)) ≡ true
+pub record IsOwned (width height rows : ℕ) (stack : List View) (v : View) (x y : ℕ) : Type 0 where
+  pub in_width : x < width
+  pub in_height : y < height
+  pub owner : is_owner v.sid v.handle (owner rows stack (point x y)) ≡ true
 
 owned : (width height rows : ℕ) (stack : List View) (v : View) (x y : ℕ) → owns width height rows stack v (point x y) ≡ true → IsOwned width height rows stack v x y
 owned width height rows stack v x y e =
@@ -25,7 +25,7 @@ owned width height rows stack v x y e =
     let row : ltb y height ≡ true = parts.1 in
     record { in_width = grind (arith, nat_tests); in_height = grind (arith, nat_tests); owner = parts.2 }
 
-pixel_owned : (width height rows : ℕ) (stack : List View) (v : View) (w h x y : ℕ) → fits width height rows stack v w h x y ≡ true
+pub pixel_owned : (width height rows : ℕ) (stack : List View) (v : View) (w h x y : ℕ) → fits width height rows stack v w h x y ≡ true
     → (i j : ℕ) → x ≤ i → i < x + w → y ≤ j → j < y + h → IsOwned width height rows stack v i j
 pixel_owned width height rows stack v w h x y all i j left right top bottom =
     owned width height rows stack v i j (all_in_grid (owns width height rows stack v) point x y w h all i j left right top bottom)

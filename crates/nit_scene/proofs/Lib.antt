@@ -9,6 +9,7 @@ pub mod Handles
 pub mod Inputs
 pub mod Kills
 pub mod Labelled
+pub mod LabelsShown
 pub mod Lists
 pub mod Loads
 pub mod Losing

@@ -22,6 +22,7 @@ pub mod Played
 pub mod Seating
 pub mod Opened
 pub mod Labelled
+pub mod LabelsShown
 pub mod CallKinds
 pub mod Kept
 pub mod Alone

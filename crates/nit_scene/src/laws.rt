@@ -1,4 +1,4 @@
-//! Laws of the pixels that an entry does not make dirty, and of the names of views.
+//! Laws of the pixels that an entry does not make dirty, of the names of views, and of their labels.
 
 ghost use Rattle.std.specs.Prelude.{◌≡◌, ℕ, List, None, Some, false};
 ghost use Rattle.nit_events.specs.declared.call.Call.{Call};
@@ -16,7 +16,10 @@ ghost use Rattle.nit_events.specs.declared.entry.Entry.{Entry};
 ghost use Rattle.nit_config.specs.Configuration.{Configuration};
 ghost use Rattle.nit_journal.specs.State.{State, source_of, after};
 ghost use Rattle.nit_journal.specs.Journals.{Agrees, IsLegal, replay};
+ghost use Rattle.nit_overlay.specs.Shown.{frame};
 ghost use Rattle.nit_scene.specs.Dirty.{dirty};
+ghost use Rattle.nit_scene.specs.LabelsShown.{ShowsLabels};
+ghost use Rattle.nit_scene.specs.Played.{scenery_of};
 ghost use Rattle.nit_scene.specs.Painted.{Painted, AreRaw, AreInked};
 ghost use Rattle.nit_scene.specs.Named.{HaveOwnNames, IsNewlyNamed, AreBelowNext};
 
@@ -66,6 +69,15 @@ pub fn names_stay_own()
         → AreBelowNext (after s e) }
     ensures legal { (config : Configuration) (journal : List Entry) → IsLegal config journal
         → HaveOwnNames (replay config journal).stack × AreBelowNext (replay config journal) }
+{}
+
+/// Every frame of a state that a legal journal leads to shows the labels, if its mode draws them:
+/// each view for whose label there is a place has its whole label there, and no two labels share a
+/// pixel. Which raw words the frame is made of does not matter.
+pub fn labels_stand()
+    ensures { (config : Configuration) (journal : List Entry) (raw : List ℕ) → IsLegal config journal
+        → ShowsLabels (scenery_of (replay config journal))
+        (frame (scenery_of (replay config journal)) raw) }
 {}
 
 /// An accepted call on a view is a change of the view in its slot.

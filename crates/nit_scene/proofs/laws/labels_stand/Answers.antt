@@ -1,0 +1,5 @@
+use Rattle.nit_scene.proofs.LabelsShown.{labels_stand}
+use Rattle.nit_scene.proofs.laws.labels_stand.Goals as goal
+
+pub returns : goal.returns
+returns c = labels_stand
