@@ -1,3 +1,4 @@
+pub use Rattle.nit_word.specs.Setting
 pub use Rattle.nit_word.specs.Sight
 pub use Rattle.nit_events.specs.Input
 pub use Rattle.nit_events.specs.Ranges

@@ -10,7 +10,7 @@ ghost use Rattle.nit_top.specs.Opened.{IsOpened, glasses_of, plans_of};
 use nit_actor::laws::each_line_once;
 use nit_config::Config;
 use nit_plan::laws::{buffer_within_table, one_more_line};
-use nit_plan::{Plan, blank_words, ink_of, plan_of};
+use nit_plan::{Plan, ink_of, plan_of};
 use nit_rect::NoMemory;
 use nit_report::ppm_len;
 use nit_scene::Scene;
@@ -98,9 +98,8 @@ fn glass(alloc: Global, sid: u32, script: &Client, donation: u32) -> Result<Inke
     ensures { IfOk result (λ g. g ≡ glass_after sid script.now donation 0) }
 {
     one_more_line();
-    let words = blank_words(alloc, (room(donation) / WORD_UNITS) as usize)?;
     let ink = ink_of(alloc, script.lines())?;
-    Ok(Inked::new(sid, words, ink))
+    Ok(Inked::blank(alloc, sid, (room(donation) / WORD_UNITS) as usize, ink)?)
 }
 
 /// How many lines all scripts have.

@@ -1,0 +1,10 @@
+use Rattle.std.proofs.Common.{◌≡◌, set}
+use Rattle.nit_word.specs.Setting.{with_words}
+use Rattle.nit_word.specs.Sight.{told_at}
+use Rattle.nit_scene.specs.Painted.{glass_in}
+use Rattle.nit_actor.proofs.Copies.{rows_to}
+use Rattle.nit_actor.proofs.drawing.copy_area.Given as goal
+
+abbrev pub invariant-rows : goal.invariant-rows
+invariant-rows l =
+    l.scene ≡ record l.initial.scene { glasses = set l.initial.scene.glasses l.sid (with_words (rows_to l.w l.area (told_at l.own) l.j) (glass_in l.initial.scene.glasses l.sid)) }
