@@ -16,9 +16,14 @@
 //! item is an event or `kill`. An event is a device's line or `leave`, `focus-enter` or `focus-leave`.
 #![tactic(auto)]
 
+mod drawn_lines;
 mod entries;
 mod error;
+mod generated_client;
+mod generated_config;
 mod events;
+mod generated_user;
+mod generator;
 mod journal;
 mod laws;
 mod parse;
@@ -26,10 +31,13 @@ mod picture;
 mod reading;
 mod replies;
 mod spelling;
+mod stream;
 pub mod write;
 
 pub use error::JournalError;
 pub use events::{Ending, events_text};
+pub use generated_config::gen_config;
+pub use generator::{Files, generate};
 pub use journal::journal_text;
 pub use laws::{journal_first_bad_is_one, journal_reading_is_one};
 pub use parse::parse_journal;
