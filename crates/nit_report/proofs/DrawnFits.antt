@@ -1,15 +1,13 @@
 -- Drawn lines are within the grammar of scripts.
-use Rattle.std.proofs.Common.{◌≡◌, ℕ, zero, suc, ◌+◌, ◌-◌, ◌*◌, ◌/◌, ◌%◌, ◌<◌, ◌≤◌, ◌^◌, ℤ, pos, negsuc, ◌-ℤ◌, Bool, true, false, cond, ltb, List, [], ◌∷◌, ◌++◌, refl, sym, arith, slice_index_or, rules}
+use Rattle.std.proofs.Common.{◌≡◌, ℕ, zero, suc, ◌+◌, ◌-◌, ◌/◌, ◌%◌, ◌<◌, ◌≤◌, ◌^◌, pos, negsuc, ◌-ℤ◌, Bool, true, false, cond, ltb, List, [], ◌∷◌, ◌++◌, refl, arith, slice_index_or, rules}
 use Rattle.std.specs.List.{flat_map, range_with_len, AllByRecursion}
-use Rattle.std.proofs.lemmas.Bool.{ltb-true}
 use Rattle.nit_events.specs.declared.call.Call.TheVariants as call
 use Rattle.nit_script.specs.declared.line.Line.{Line}
 use Rattle.nit_script.specs.declared.line.Line.TheVariants as line
 use Rattle.nit_script.specs.declared.line.InputLine.{InputLine}
-use Rattle.nit_script.specs.declared.line.InputLine.TheVariants as input
 use Rattle.nit_script.specs.Spelling.{FitsInt, FitsLine, FitsInputLine}
-use Rattle.nit_report.specs.Drawing.{Draw, following, below, just, in_turn, for_each}
-use Rattle.nit_report.specs.Generator.{colour, backdrop, some_part, filled, checked, refreshed, from_outside, placed, shifted, titled, some_view, kinds, busy, opening, views, places, titles, busy_lines, phase_end, first_phase, second_phase, client_script, moved, click, clicks, user_phase_end, xray_shot, user_phases, user_script, seed}
+use Rattle.nit_report.specs.Drawing.{Draw, following, just, in_turn, for_each}
+use Rattle.nit_report.specs.Generator.{colour, backdrop, some_part, filled, checked, refreshed, from_outside, placed, shifted, titled, some_view, kinds, opening, views, places, titles, busy_lines, phase_end, first_phase, second_phase, client_script, moved, click, clicks, user_phase_end, xray_shot, user_phases, user_script, seed}
 use Rattle.nit_report.proofs.Titles.{is_title}
 
 -- ---- draws of which all values have a property

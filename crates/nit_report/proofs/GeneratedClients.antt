@@ -1,11 +1,9 @@
 -- The configuration of a generated run is within the ranges of the format.
-use Rattle.std.proofs.Common.{◌≡◌, ◌≢◌, ℕ, ◌+◌, ◌<◌, ◌≤◌, ◌^◌, true, false, List, [], ◌∷◌, ◌++◌, map, length, get_or, IsTrue, refl, sym, ap, subst, ◌∙◌, arith, le-leb, drop}
-use Rattle.std.specs.Prelude.{codes, All, AllPairs}
+use Rattle.std.proofs.Common.{◌≡◌, ◌≢◌, ℕ, ◌+◌, ◌<◌, true, map, get_or, IsTrue, refl, sym, ap, subst, ◌∙◌, arith, le-leb, drop}
 use Rattle.std.specs.List.{range_with_len}
-use Rattle.std.specs.Fmt.{decimal}
 use Rattle.std.proofs.lemmas.Bool.{false≢true}
 use Rattle.std.proofs.lemmas.Fmt.{decimal_digit, decimal_injective}
-use Rattle.std.proofs.lemmas.List.FromFn.{length-map-range_with_len, get_or-map-range_with_len}
+use Rattle.std.proofs.lemmas.List.FromFn.{get_or-map-range_with_len}
 use Rattle.nit_glyph.specs.Texts.{is_label_byte, is_label}
 use Rattle.nit_config.specs.declared.config.Member.{Member}
 use Rattle.nit_config.specs.Configuration.{is_file_name}

@@ -1,5 +1,5 @@
 -- The texts of a generated run spell its scripts.
-use Rattle.std.proofs.Common.{◌≡◌, ℕ, ◌+◌, zero, suc, List, map, refl}
+use Rattle.std.proofs.Common.{ℕ, ◌+◌, zero, suc, map, refl}
 use Rattle.std.specs.List.{range_with_len, AllZip}
 use Rattle.nit_script.specs.Grammar.{ReadsClient, ReadsInput}
 use Rattle.nit_report.specs.Generator.{client_script, client_text, user_script, user_text}

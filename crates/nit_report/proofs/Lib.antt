@@ -1,5 +1,6 @@
 pub mod Decimals
 mod Rows
+mod GeneratedRows
 pub mod EventLaws
 pub mod DeliveryLaws
 pub mod ReplyLaws

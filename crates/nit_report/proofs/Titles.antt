@@ -1,8 +1,8 @@
 -- The titles of generated views.
-use Rattle.std.proofs.Common.{◌≡◌, ℕ, ◌+◌, ◌/◌, ◌%◌, ◌≤◌, ◌<◌, ◌^◌, true, List, [], ◌∷◌, ◌++◌, length, IsTrue, refl, subst, sym, ap, ◌∙◌, arith, ◌⊎◌, inl, inr}
+use Rattle.std.proofs.Common.{◌≡◌, ℕ, ◌+◌, ◌/◌, ◌%◌, ◌≤◌, ◌<◌, true, List, [], ◌∷◌, ◌++◌, length, IsTrue, refl, ap, ◌∙◌, arith, inl, inr}
 use Rattle.std.specs.Fmt.{decimal}
 use Rattle.std.proofs.lemmas.Fmt.{decimal_digit, decimal_step}
-use Rattle.std.proofs.lemmas.Bool.{le-leb, and_from, cases_lt}
+use Rattle.std.proofs.lemmas.Bool.{le-leb, cases_lt}
 use Rattle.nit_events.specs.Texts.{is_printable, is_text}
 
 -- a digit is printable

@@ -6,7 +6,8 @@ use Rattle.std.specs.List.{flat_map, range_with_len}
 unfoldable pub following : ℕ → ℕ
 following s = (s * 1664525 + 1013904223) % 2 ^ 32
 
--- a draw: from the number at which the stream stands to the value, and the number at which it stands then
+-- a draw: from the number at which the stream stands to the value, and to the number at which it
+-- stands then
 abbrev pub Draw : Type 0 → Type 0
 Draw A = ℕ → A × ℕ
 
@@ -40,6 +41,7 @@ abbrev pub Draws : {A : Type 0} → Draw A → ℕ → A → ℕ → Type 0
 Draws d s x after = (x ≡ (d s).0) × (after ≡ (d s).1)
 
 -- The draws were made in turn, and their values stand behind those that were there.
-pub record Appends {A : Type 0} (draws : List (Draw A)) (s : ℕ) (before : List A) (after : ℕ) (now : List A) : Type 0 where
+pub record Appends {A : Type 0} (draws : List (Draw A)) (s : ℕ) (before : List A) (after : ℕ)
+    (now : List A) : Type 0 where
   pub values : now ≡ before ++ (in_turn draws s).0
   pub stream : after ≡ (in_turn draws s).1

@@ -1,5 +1,7 @@
 -- The files of a generated run: a configuration, the scripts of eight clients, and the user's script.
-use Rattle.std.specs.Prelude.{ℕ, ◌+◌, ◌*◌, ◌%◌, ◌^◌, ℤ, pos, ◌-ℤ◌, Bool, true, false, List, [], ◌∷◌, ◌++◌, map, slice_index_or, codes}
+-- The lines of each script are drawn from a stream of its own.
+use Rattle.std.specs.Prelude.{ℕ, ◌+◌, ◌*◌, ◌%◌, ◌^◌, ℤ, pos, ◌-ℤ◌, Bool, true, false}
+use Rattle.std.specs.Prelude.{List, [], ◌∷◌, ◌++◌, map, slice_index_or, codes}
 use Rattle.std.specs.List.{flat_map, range_with_len}
 use Rattle.std.specs.Fmt.{decimal}
 use Rattle.nit_config.specs.declared.config.Member.{Member}
@@ -108,7 +110,7 @@ kinds =
     ∷ (some_view >>= shifted)
     ∷ []
 
--- the line of this number, from 0, of the second phase
+-- the line of this number, from 0, of the second phase; one of the eight kinds is always there
 abbrev pub busy : ℕ → Draw Line
 busy j = slice_index_or kinds (j % 8) (just (line.Call call.Take))
 
@@ -138,7 +140,8 @@ busy_lines = for_each 0 1944 (λ j. busy j ∷ [])
 abbrev pub phase_end : List (Draw Line)
 phase_end = just line.Phase ∷ []
 
--- a client: its views in the first phase, what it does with them in the second, and nothing in the third
+-- a client: its views in the first phase, what it does with them in the second, and nothing in the
+-- third
 abbrev pub first_phase : List (Draw Line)
 first_phase = opening ++ views ++ places ++ titles ++ phase_end
 
@@ -171,13 +174,18 @@ user_phase_end = just input.Phase ∷ []
 
 -- a shot in X-ray mode
 abbrev pub xray_shot : List (Draw InputLine)
-xray_shot = just (input.Device (device.Press 70)) ∷ just input.Shot ∷ just (input.Device (device.Press 70)) ∷ []
+xray_shot =
+    just (input.Device (device.Press 70))
+    ∷ just input.Shot
+    ∷ just (input.Device (device.Press 70))
+    ∷ []
 
 -- the user: nothing in the first phase, fifty clicks in the second, and a shot in the third
 abbrev pub user_phases : List (Draw InputLine)
 user_phases = user_phase_end ++ clicks ++ user_phase_end ++ xray_shot
 
--- the number at which a stream of the run of number n begins: 0 to 7 for the clients, and 8 for the user
+-- the number at which a stream of the run of number n begins: the streams 0 to 7 are the clients',
+-- and 8 is the user's
 abbrev pub seed : ℕ → ℕ → ℕ
 seed n stream = (9 * n + stream) % 2 ^ 32
 
@@ -226,22 +234,44 @@ script_name c = client_label c ++ codes ".nit"
 -- a client in the text of the configuration, behind an empty line
 abbrev pub client_block : ℕ → List ℕ
 client_block c =
-    codes "\n[[client]]\nlabel = \"" ++ client_label c ++ codes "\"\ndonation = 262144\nscript = \"" ++ script_name c ++ codes "\"\n"
+    codes "\n[[client]]\nlabel = \"" ++ client_label c
+    ++ codes "\"\ndonation = 262144\nscript = \"" ++ script_name c ++ codes "\"\n"
 
 -- the text of the configuration
 unfoldable pub config_text : List ℕ
-config_text = codes "[screen]\nwidth = 320\nheight = 240\n\n[input]\nscript = \"gen.in\"\n" ++ flat_map client_block (range_with_len 0 8)
+config_text =
+    codes "[screen]\nwidth = 320\nheight = 240\n\n[input]\nscript = \"gen.in\"\n"
+    ++ flat_map client_block (range_with_len 0 8)
 
 -- the files of the run of number n
 abbrev pub generated : ℕ → Generated
-generated n = record { config = config_text; clients = map (client_text n) (range_with_len 0 8); input = user_text n }
+generated n =
+    record {
+      config = config_text;
+      clients = map (client_text n) (range_with_len 0 8);
+      input = user_text n;
+    }
 
 -- ---- the configuration
 
 -- a client of the configuration
 abbrev pub generated_member : ℕ → Member
-generated_member c = record { label = client_label c; donation = 262144; script = script_name c; layer = 0; clicks = true }
+generated_member c =
+    record {
+      label = client_label c;
+      donation = 262144;
+      script = script_name c;
+      layer = 0;
+      clicks = true;
+    }
 
 -- the configuration of every generated run
 unfoldable pub generated_configuration : Configuration
-generated_configuration = record { width = 320; height = 240; bar = false; input = codes "gen.in"; clients = map generated_member (range_with_len 0 8) }
+generated_configuration =
+    record {
+      width = 320;
+      height = 240;
+      bar = false;
+      input = codes "gen.in";
+      clients = map generated_member (range_with_len 0 8);
+    }

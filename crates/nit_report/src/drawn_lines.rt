@@ -2,7 +2,8 @@
 
 ghost use Rattle.std.specs.Prelude.{◌≡◌, ◌<◌, ◌≤◌};
 ghost use Rattle.nit_report.specs.Drawing.{Draws};
-ghost use Rattle.nit_report.specs.Generator.{colour, backdrop, some_part, filled, checked, refreshed, from_outside, placed, shifted, some_view, moved};
+ghost use Rattle.nit_report.specs.Generator.{colour, backdrop, some_part, filled, checked, refreshed};
+ghost use Rattle.nit_report.specs.Generator.{from_outside, placed, shifted, some_view, moved};
 
 use crate::stream::Stream;
 use nit_events::{Call, Device};
@@ -20,16 +21,20 @@ const CHANNEL: u32 = 256;
 /// The greatest width and height of a part of the buffer.
 const PARTS: (u32, u32) = (64, 48);
 
-/// How many columns and rows a view may stand at, and how far the first of them lie outside the screen.
-const PLACES: (u32, u32) = (340, 260);
+/// How far the first place of a view lies outside the screen, and its first offset below 0.
 const OUTSIDE: i32 = 20;
 
-/// The least width and height of a view, and how many there are.
-const LEAST: (u32, u32) = (20, 10);
-const SIZES: (u32, u32) = (100, 60);
+/// How many columns and rows a view may stand at.
+const PLACES: (u32, u32) = (340, 260);
 
-/// How many offsets there are in each direction, from -20 on.
+/// How many offsets a view may have in each direction.
 const OFFSETS: u32 = 41;
+
+/// The least width and height of a view.
+const LEAST: (u32, u32) = (20, 10);
+
+/// How many widths and heights a view may have.
+const SIZES: (u32, u32) = (100, 60);
 
 /// The pointer is moved within these columns and rows.
 const SCREEN: (u32, u32) = (320, 240);
@@ -50,7 +55,13 @@ pub fn backdrop(stream: &mut Stream) -> Line
 {
     let c = colour(stream);
     let (w, h) = BUFFER;
-    Line::Stroke(Stroke::Fill { x: 0, y: 0, w, h, c })
+    Line::Stroke(Stroke::Fill {
+        x: 0,
+        y: 0,
+        w,
+        h,
+        c,
+    })
 }
 
 /// A part of the buffer.

@@ -3,7 +3,8 @@
 ghost use Rattle.std.specs.Prelude.{◌≡◌, ◌≤◌, ◌++◌, ℕ, [], ◌∷◌, codes, IfOk, OnOk};
 ghost use Rattle.std.specs.Fmt.{decimal};
 ghost use Rattle.nit_report.specs.Drawing.{Draws, Appends};
-ghost use Rattle.nit_report.specs.Generator.{views, places, titles, busy, first_phase, second_phase, client_script};
+ghost use Rattle.nit_report.specs.Generator.{views, places, titles, busy};
+ghost use Rattle.nit_report.specs.Generator.{first_phase, second_phase, client_script};
 
 use crate::drawn_lines::{
     BUFFER, VIEWS, backdrop, checked, filled, placed, refreshed, shifted, some_view,
@@ -35,7 +36,8 @@ pub fn client_script(alloc: Global, n: u32, client: u32) -> Result<Client, NoMem
 
 /// A buffer, and the views with their places and titles.
 fn put_first_phase(stream: &mut Stream, lines: &mut Vec<Line>) -> Result<(), NoMemory>
-    ensures { OnOk result (Appends first_phase stream.old lines.old.items stream.new lines.new.items) }
+    ensures { OnOk result
+        (Appends first_phase stream.old lines.old.items stream.new lines.new.items) }
 {
     push(lines, Line::Call(Call::Buffer(BUFFER.0, BUFFER.1)))?;
     push(lines, backdrop(stream))?;
@@ -87,7 +89,8 @@ fn title(view: u32) -> Text
 }
 
 fn put_second_phase(stream: &mut Stream, lines: &mut Vec<Line>) -> Result<(), NoMemory>
-    ensures { OnOk result (Appends second_phase stream.old lines.old.items stream.new lines.new.items) }
+    ensures { OnOk result
+        (Appends second_phase stream.old lines.old.items stream.new lines.new.items) }
 {
     for j in 0..BUSY_LINES {
         push(lines, busy(stream, j))?;

@@ -4,7 +4,8 @@ ghost use Rattle.std.specs.Prelude.{◌≡◌, ◌+◌, ◌≤◌, [], ◌∷◌
 ghost use Rattle.std.specs.Fmt.{decimal};
 ghost use Rattle.nit_glyph.specs.Texts.{is_label};
 ghost use Rattle.nit_config.specs.Configured.{IsConfigured};
-ghost use Rattle.nit_report.specs.Generator.{client_label, script_name, client_block, config_text, generated_member, generated_configuration};
+ghost use Rattle.nit_report.specs.Generator.{client_label, script_name, client_block, config_text};
+ghost use Rattle.nit_report.specs.Generator.{generated_member, generated_configuration};
 
 use crate::spelling::put_text;
 use nit_config::{Config, FileName, Member};

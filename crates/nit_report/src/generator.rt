@@ -3,7 +3,8 @@
 ghost use Rattle.std.specs.Prelude.{◌≡◌, ◌≤◌, map, IfOk};
 ghost use Rattle.std.specs.List.{range_with_len, AllZip};
 ghost use Rattle.nit_script.specs.Grammar.{ReadsClient, ReadsInput};
-ghost use Rattle.nit_report.specs.Generator.{client_script, client_text, user_script, user_text, generated};
+ghost use Rattle.nit_report.specs.Generator.{client_script, client_text, user_script, user_text};
+ghost use Rattle.nit_report.specs.Generator.{generated};
 
 use crate::generated_client::client_script;
 use crate::generated_config::{CLIENTS, config_text};
@@ -30,7 +31,11 @@ impl Model for Files {
 
     ghost Value = { Generated };
 
-    ghost view = { λ f. record { config = f.config.items; clients = map (λ v. v.items) f.clients.items; input = f.input.items } };
+    ghost view = { λ f. record {
+      config = f.config.items;
+      clients = map (λ v. v.items) f.clients.items;
+      input = f.input.items;
+    } };
 }
 
 /// The files of the generated run of number n. It can be refused for want of memory alone.
@@ -39,7 +44,8 @@ pub fn generate(alloc: Global, n: u32) -> Result<Files, NoMemory>
     ensures files { IfOk result (λ f. f ≡ generated n) }
 
     // Each script spells its lines.
-    ensures reads { IfOk result (λ f. AllZip ReadsClient f.clients (map (client_script n) (range_with_len 0 8))) }
+    ensures reads { IfOk result (λ f.
+        AllZip ReadsClient f.clients (map (client_script n) (range_with_len 0 8))) }
     ensures user_reads { IfOk result (λ f. ReadsInput f.input (user_script n)) }
 {
     let config = config_text(alloc)?;
@@ -53,7 +59,8 @@ pub fn generate(alloc: Global, n: u32) -> Result<Files, NoMemory>
 }
 
 fn client_texts(alloc: Global, n: u32) -> Result<Vec<Vec<u8>>, NoMemory>
-    ensures { IfOk result (λ vs. map (λ v. v.items) vs.items ≡ map (client_text n) (range_with_len 0 8)) }
+    ensures { IfOk result (λ vs.
+        map (λ v. v.items) vs.items ≡ map (client_text n) (range_with_len 0 8)) }
 {
     let mut texts = Vec::with_capacity(alloc, CLIENTS as usize)?;
     for client in 0..CLIENTS {

@@ -1,4 +1,4 @@
-use Rattle.std.proofs.Common.{[], ◌∷◌, refl}
+use Rattle.std.proofs.Common.{refl}
 use Rattle.nit_events.specs.declared.call.Call.TheVariants as call
 use Rattle.nit_script.specs.declared.line.Line.TheVariants as line
 use Rattle.nit_report.specs.Drawing.{just}

@@ -1,8 +1,6 @@
-use Rattle.std.proofs.Common.{ℕ, ◌-◌, [], ◌∷◌}
-use Rattle.nit_events.specs.declared.call.Call.TheVariants as call
-use Rattle.nit_script.specs.declared.line.Line.TheVariants as line
-use Rattle.nit_report.specs.Drawing.{Appends, for_each, just}
-use Rattle.nit_report.specs.Generator.{titled, busy}
+use Rattle.std.proofs.Common.{[], ◌∷◌}
+use Rattle.nit_report.specs.Drawing.{Appends, for_each}
+use Rattle.nit_report.specs.Generator.{busy}
 use Rattle.nit_report.proofs.generated_client.put_second_phase.Given as goal
 
 abbrev pub invariant-loop-j : goal.invariant-loop-j

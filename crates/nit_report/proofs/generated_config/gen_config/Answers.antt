@@ -1,9 +1,8 @@
-use Rattle.std.proofs.Common.{◌≡◌, ℕ, ◌+◌, List, [], ◌∷◌, ◌++◌, map, sym, ap, subst, ◌∙◌, arith}
+use Rattle.std.proofs.Common.{◌≡◌, ℕ, ◌+◌, List, [], ◌∷◌, ◌++◌, map, sym, arith}
 use Rattle.std.specs.Prelude.{codes, false}
 use Rattle.std.specs.List.{range_with_len}
 use Rattle.std.proofs.lemmas.List.FromFn.{map-range_with_len_more}
 use Rattle.nit_config.specs.declared.config.Member.{Member}
-use Rattle.nit_config.specs.Configuration.{Configuration}
 use Rattle.nit_config.specs.Configured.{IsConfigured}
 use Rattle.nit_report.specs.Generator.{generated_member, generated_configuration}
 use Rattle.nit_report.proofs.GeneratedClients.{generated_is_configured}
