@@ -21,8 +21,8 @@ pub struct Ending {
     pub status: Status,
 }
 
-/// The text of the events of a session: a line for each event that it took, in order, and then a line each
-/// for `lost`, `left` and `state`. It can be refused for want of memory alone.
+/// The text of the events of a session: a line for each event that it took, in order, and then a line
+/// each for `lost`, `left` and `state`. It can be refused for want of memory alone.
 pub fn events_text(
     alloc: Global,
     entries: &[Entry],
@@ -35,13 +35,14 @@ pub fn events_text(
     for entry in entries {
         put_taken(alloc, &mut out, sid, entry)?;
     }
-    put_ending(alloc, &mut out, end)?;
+    put_ending(&mut out, end)?;
     Ok(out)
 }
 
 /// Writes the event that the session takes in this entry, where it takes one.
 fn put_taken(alloc: Global, out: &mut Vec<u8>, sid: u32, entry: &Entry) -> Result<(), NoMemory>
-    ensures { OnOk result (out.new.items ≡ out.old.items ++ flat_map (spelled event_spelling) (taken sid entry.now)) }
+    ensures { OnOk result (out.new.items
+        ≡ out.old.items ++ flat_map (spelled event_spelling) (taken sid entry.now)) }
 {
     match *entry {
         Entry::Call {
@@ -60,11 +61,11 @@ fn put_line(alloc: Global, out: &mut Vec<u8>, event: &Event) -> Result<(), NoMem
     put_text(out, b"\n")
 }
 
-fn put_ending(alloc: Global, out: &mut Vec<u8>, end: &Ending) -> Result<(), NoMemory>
+fn put_ending(out: &mut Vec<u8>, end: &Ending) -> Result<(), NoMemory>
     ensures { OnOk result (out.new.items ≡ out.old.items ++ ending_text end.now) }
 {
-    put_counted(alloc, out, b"lost", end.lost)?;
-    put_counted(alloc, out, b"\nleft", end.left as u64)?;
+    put_counted(out, b"lost", end.lost)?;
+    put_counted(out, b"\nleft", end.left as u64)?;
     put_text(out, b"\nstate ")?;
     put_status(out, end.status)?;
     put_text(out, b"\n")

@@ -2,9 +2,11 @@
 
 ghost use Rattle.std.specs.Prelude.{◌≡◌, ◌++◌, OnOk};
 ghost use Rattle.std.specs.List.{flat_map};
+ghost use Rattle.std.specs.Fmt.{decimal};
 ghost use Rattle.nit_events.specs.declared.call.Reply.TheVariants as reply;
 ghost use Rattle.nit_script.specs.Spelling.{nat};
-ghost use Rattle.nit_report.specs.EntrySpelling.{event_spelling, item_spelling, delivery_spelling, reply_spelling};
+ghost use Rattle.nit_report.specs.EntrySpelling.{event_spelling, item_spelling};
+ghost use Rattle.nit_report.specs.EntrySpelling.{delivery_spelling, reply_spelling};
 
 use nit_events::{Delivery, Device, Event, Item, Reply};
 use nit_rect::NoMemory;
@@ -19,40 +21,41 @@ pub fn put_text(out: &mut Vec<u8>, text: &[u8]) -> Result<(), NoMemory>
     Ok(())
 }
 
-/// Writes a number in decimal, with a space before it.
-pub fn put_number(alloc: Global, out: &mut Vec<u8>, number: u64) -> Result<(), NoMemory>
-    ensures { OnOk result (out.new.items ≡ out.old.items ++ nat number) }
+/// Writes a number in decimal.
+fn put_decimal(out: &mut Vec<u8>, number: u64) -> Result<(), NoMemory>
+    ensures { OnOk result (out.new.items ≡ out.old.items ++ decimal number) }
 {
-    let digits = format!(in alloc; " {number}")?;
-    out.extend_from_slice(digits.as_bytes())?;
+    if number < 10 {
+        out.push(b'0' + number as u8)?;
+        return Ok(());
+    }
+    put_decimal(out, number / 10)?;
+    out.push(b'0' + (number % 10) as u8)?;
     Ok(())
 }
 
+/// Writes a number with a space before it.
+pub fn put_number(out: &mut Vec<u8>, number: u64) -> Result<(), NoMemory>
+    ensures { OnOk result (out.new.items ≡ out.old.items ++ nat number) }
+{
+    put_text(out, b" ")?;
+    put_decimal(out, number)
+}
+
 /// Writes a word and one number.
-pub fn put_counted(
-    alloc: Global,
-    out: &mut Vec<u8>,
-    word: &[u8],
-    number: u64,
-) -> Result<(), NoMemory>
+pub fn put_counted(out: &mut Vec<u8>, word: &[u8], number: u64) -> Result<(), NoMemory>
     ensures { OnOk result (out.new.items ≡ out.old.items ++ (word.now ++ nat number)) }
 {
-    out.extend_from_slice(word)?;
-    put_number(alloc, out, number)
+    put_text(out, word)?;
+    put_number(out, number)
 }
 
 /// Writes a word, what is needed and what is left.
-fn put_refused(
-    alloc: Global,
-    out: &mut Vec<u8>,
-    word: &[u8],
-    need: u64,
-    left: u64,
-) -> Result<(), NoMemory>
+fn put_refused(out: &mut Vec<u8>, word: &[u8], need: u64, left: u64) -> Result<(), NoMemory>
     ensures { OnOk result (out.new.items ≡ out.old.items ++ (word.now ++ (nat need ++ nat left))) }
 {
-    put_counted(alloc, out, word, need)?;
-    put_number(alloc, out, left)
+    put_counted(out, word, need)?;
+    put_number(out, left)
 }
 
 /// Writes an event.
@@ -83,7 +86,7 @@ fn put_item(alloc: Global, out: &mut Vec<u8>, item: &Item) -> Result<(), NoMemor
 pub fn put_delivery(alloc: Global, out: &mut Vec<u8>, delivery: &Delivery) -> Result<(), NoMemory>
     ensures { OnOk result (out.new.items ≡ out.old.items ++ delivery_spelling delivery.now) }
 {
-    put_counted(alloc, out, b" >", delivery.sid as u64)?;
+    put_counted(out, b" >", delivery.sid as u64)?;
     put_text(out, b" ")?;
     put_item(alloc, out, &delivery.item)
 }
@@ -94,16 +97,16 @@ pub fn put_reply(alloc: Global, out: &mut Vec<u8>, reply: &Reply) -> Result<(), 
 {
     match *reply {
         Reply::Done => put_text(out, b"done"),
-        Reply::Handle(view) => put_counted(alloc, out, b"handle", view as u64),
+        Reply::Handle(view) => put_counted(out, b"handle", view as u64),
         Reply::Event(event) => put_taken(alloc, out, &event),
         Reply::NoEvent => put_text(out, b"no-event"),
-        Reply::NoSuchView(view) => put_counted(alloc, out, b"no-such-view", view as u64),
+        Reply::NoSuchView(view) => put_counted(out, b"no-such-view", view as u64),
         Reply::BadRect => put_text(out, b"bad-rect"),
         Reply::BadSize => put_text(out, b"bad-size"),
         Reply::BadTitle => put_text(out, b"bad-title"),
         Reply::TooManyViews => put_text(out, b"too-many-views"),
-        Reply::OutOfQuota { need, left } => put_refused(alloc, out, b"out-of-quota", need, left),
-        Reply::NoReserve { need, left } => put_refused(alloc, out, b"no-reserve", need, left),
+        Reply::OutOfQuota { need, left } => put_refused(out, b"out-of-quota", need, left),
+        Reply::NoReserve { need, left } => put_refused(out, b"no-reserve", need, left),
         Reply::Closed => put_text(out, b"closed"),
         Reply::Killed => put_text(out, b"killed"),
     }
@@ -111,7 +114,8 @@ pub fn put_reply(alloc: Global, out: &mut Vec<u8>, reply: &Reply) -> Result<(), 
 
 /// Writes the reply that has an event.
 fn put_taken(alloc: Global, out: &mut Vec<u8>, event: &Event) -> Result<(), NoMemory>
-    ensures { OnOk result (out.new.items ≡ out.old.items ++ reply_spelling (reply.Event event.now)) }
+    ensures { OnOk result
+        (out.new.items ≡ out.old.items ++ reply_spelling (reply.Event event.now)) }
 {
     put_text(out, b"event ")?;
     put_event(alloc, out, event)

@@ -1,5 +1,6 @@
 //! Worked rows of what is read and planned before a run, and of what is told after it: configurations, scripts, plans,
-//! rounds, and the texts of journals and events.
+//! rounds, the texts of journals and events,
+//! and the files of a generated run.
 //!
 //! They also run the calls that take the memory of a run, where there is enough. Each expected value stands in the
 //! rows as it was worked out by hand, and never comes from the code. The crate has nothing but these tests.
@@ -7,6 +8,8 @@
 
 #[cfg(test)]
 mod config_rows;
+#[cfg(test)]
+mod generated_rows;
 #[cfg(test)]
 mod memory_rows;
 #[cfg(test)]

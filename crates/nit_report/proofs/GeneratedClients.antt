@@ -1,0 +1,48 @@
+-- The configuration of a generated run is within the ranges of the format.
+use Rattle.std.proofs.Common.{◌≡◌, ◌≢◌, ℕ, ◌+◌, ◌<◌, true, map, get_or, IsTrue, refl, sym, ap, subst, ◌∙◌, arith, le-leb, drop}
+use Rattle.std.specs.List.{range_with_len}
+use Rattle.std.proofs.lemmas.Bool.{false≢true}
+use Rattle.std.proofs.lemmas.Fmt.{decimal_digit, decimal_injective}
+use Rattle.std.proofs.lemmas.List.FromFn.{get_or-map-range_with_len}
+use Rattle.nit_glyph.specs.Texts.{is_label_byte, is_label}
+use Rattle.nit_config.specs.declared.config.Member.{Member}
+use Rattle.nit_config.specs.Configuration.{is_file_name}
+use Rattle.nit_config.specs.Configured.{IsConfiguredMember, IsConfigured}
+use Rattle.nit_report.specs.Generator.{client_label, script_name, generated_member, generated_configuration}
+use Rattle.nit_report.proofs.Titles.{digit_is_printable}
+
+label_byte : (d : ℕ) → d < 10 → is_label_byte (48 + d) ≡ true
+label_byte d lt = grind (arith, le-leb)
+
+label_is : (c : ℕ) → c < 10 → IsTrue (is_label (client_label c))
+label_is c lt = rw (decimal_digit c lt, label_byte c lt) refl
+
+name_is : (c : ℕ) → c < 10 → IsTrue (is_file_name (script_name c))
+name_is c lt = rw (decimal_digit c lt, digit_is_printable c lt) refl
+
+labels_differ : (i j : ℕ) → i < j → j < 8 → client_label i ≢ client_label j
+labels_differ i j less few same = let e = decimal_injective i j (omega arith) (omega arith) (ap (drop 1) same) in absurd (omega arith)
+
+member_configured : (c : ℕ) → c < 8 → IsConfiguredMember (generated_member c)
+member_configured c few = record {
+  label = label_is c (omega arith);
+  donation = (omega arith, omega arith);
+  script = name_is c (omega arith);
+  layer = omega arith;
+}
+
+-- the client of a number
+client_at : (k : ℕ) (d : Member) → k < 8 → get_or (map generated_member (range_with_len 0 8)) k d ≡ generated_member k
+client_at k d few = get_or-map-range_with_len generated_member 0 8 k k d few (omega arith)
+
+pub generated_is_configured : IsConfigured generated_configuration
+unfolding generated_configuration
+generated_is_configured = record {
+  width = (omega arith, omega arith);
+  height = (omega arith, omega arith);
+  bar = λ there. absurd (false≢true there);
+  input = refl;
+  count = (omega arith, omega arith);
+  clients = λ k d few. subst IsConfiguredMember (sym (client_at k d few)) (member_configured k few);
+  labels = λ i j d less few same. labels_differ i j less few (ap (λ (m : Member). m.label) (sym (client_at i d (omega arith))) ∙ same ∙ ap (λ (m : Member). m.label) (client_at j d few));
+}

@@ -1,0 +1,21 @@
+-- The titles of generated views.
+use Rattle.std.proofs.Common.{◌≡◌, ℕ, ◌+◌, ◌/◌, ◌%◌, ◌≤◌, ◌<◌, true, List, [], ◌∷◌, ◌++◌, length, IsTrue, refl, ap, ◌∙◌, arith, inl, inr}
+use Rattle.std.specs.Fmt.{decimal}
+use Rattle.std.proofs.lemmas.Fmt.{decimal_digit, decimal_step}
+use Rattle.std.proofs.lemmas.Bool.{le-leb, cases_lt}
+use Rattle.nit_events.specs.Texts.{is_printable, is_text}
+
+-- a digit is printable
+pub digit_is_printable : (d : ℕ) → d < 10 → is_printable (48 + d) ≡ true
+digit_is_printable d lt = grind (arith, le-leb)
+
+-- two digits at most
+two_digits : (v : ℕ) → 10 ≤ v → v ≤ 99 → decimal v ≡ (48 + v / 10) ∷ (48 + v % 10) ∷ []
+two_digits v le few = decimal_step v le (omega arith) ∙ ap (λ (ds : List ℕ). ds ++ (48 + v % 10) ∷ []) (decimal_digit (v / 10) (omega arith))
+
+pub is_title : (v : ℕ) → v ≤ 99 → (length (decimal v) ≤ 2) × IsTrue (is_text (119 ∷ decimal v))
+is_title v few =
+    elim (cases_lt v 10) [
+      | inl lt ↦ rw (decimal_digit v lt, digit_is_printable v lt) (omega arith, refl)
+      | inr le ↦ rw (two_digits v le few, digit_is_printable (v / 10) (omega arith), digit_is_printable (v % 10) (omega arith)) (omega arith, refl)
+    ]

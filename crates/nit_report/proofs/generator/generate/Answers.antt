@@ -1,0 +1,12 @@
+use Rattle.std.proofs.Common.{ℕ, List, map, sym, subst}
+use Rattle.std.specs.List.{range_with_len, AllZip}
+use Rattle.nit_script.specs.Grammar.{ReadsClient, ReadsInput}
+use Rattle.nit_report.specs.Generator.{client_script, user_script}
+use Rattle.nit_report.proofs.GeneratedTexts.{clients_read, user_reads}
+use Rattle.nit_report.proofs.generator.generate.Goals as goal
+
+pub returns-clause-reads : goal.returns-clause-reads
+returns-clause-reads c = subst (λ (texts : List (List ℕ)). AllZip ReadsClient texts (map (client_script c.args.n) (range_with_len 0 8))) (sym c.in_ok-clients.ensures) (clients_read c.args.n 0 8)
+
+pub returns-clause-user_reads : goal.returns-clause-user_reads
+returns-clause-user_reads c = subst (λ (text : List ℕ). ReadsInput text (user_script c.args.n)) (sym c.in_ok-input.ensures) (user_reads c.args.n)
