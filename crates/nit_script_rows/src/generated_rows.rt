@@ -65,7 +65,11 @@ fn run_7(rt: HostRuntime) -> Result<(), Fail> {
     assert_file(&rt, &files.input, 2252, 0xC21D1337);
     let first = files.clients.first().expect(&rt, "the first client");
     assert!(rt; first.starts_with(FIRST_LINES.as_bytes()));
-    assert!(rt; files.input.starts_with(b"phase\nmotion 314 49\npress 272\nrelease 272\nwheel 1\nmotion 270 200\n"));
+    assert!(rt;
+        files.input.starts_with(
+            b"phase\nmotion 314 49\npress 272\nrelease 272\nwheel 1\nmotion 270 200\n"
+        )
+    );
     Ok(())
 }
 
