@@ -16,7 +16,7 @@ use Rattle.nit_script.specs.declared.line.InputLine.TheVariants as input
 use Rattle.nit_script.specs.Phases.{is_phase}
 use Rattle.nit_journal.specs.Whole.{Act, Calls, act_of}
 use Rattle.nit_plan.specs.Calls.{deeds_from, deeds_to_do}
-use Rattle.nit_hall.specs.Lines.{calls_in}
+use Rattle.nit_plan.specs.Calls.{calls_in}
 use Rattle.nit_hall.specs.Passes.{call_at, PassModel, UserPassModel, Belongs, UserBelongs}
 use Rattle.nit_hall.specs.Rooms.{RoomModel, after_arrival, arrived_one}
 use Rattle.nit_actor.specs.Roles.{Role, role_of}

@@ -19,8 +19,11 @@ use Rattle.nit_hall.specs.Parts.{Parts}
 use Rattle.nit_hall.specs.Told.{Tells, TellsShot}
 use Rattle.nit_journal.proofs.Along.{deeds_of-append}
 use Rattle.nit_hall.proofs.Lines.{deeds_line}
-use Rattle.nit_actor.specs.Running.{Putting, PutsAll, PutsNext, shot_name}
-use Rattle.nit_actor.specs.Pictures.{ShotsBehind, IsNearPicture, GrowsQuietly, PutsShotsBehind}
+use Rattle.nit_store.specs.Puts.{Putting, PutsAll, PutsNext}
+use Rattle.nit_actor.specs.Running.{shot_name}
+use Rattle.nit_actor.proofs.Shots.{shots_both}
+use Rattle.nit_actor.specs.Shots.{ShotsBehind}
+use Rattle.nit_actor.specs.Pictures.{IsNearPicture, GrowsQuietly, PutsShotsBehind}
 
 abbrev Picturing : Type 1
 Picturing = List Entry → List ℕ → Type 0
@@ -72,7 +75,7 @@ as_many_files Pic front (entry.Shot n ∷ es) files (bytes, others, is, pic, res
     ap length is ∙ ap suc (as_many_files Pic (front ++ entry.Shot n ∷ []) es others rest)
 
 -- and the one of a shot is a picture that the entries before it allow
-abbrev HasFile : Picturing → List Entry → ℕ → ℕ → List File → Type 0
+abbrev pub HasFile : Picturing → List Entry → ℕ → ℕ → List File → Type 0
 HasFile Pic known at number files = (bytes : List ℕ) × (slice_get files at ≡ Some (shot_name number, bytes)) × Pic known bytes
 
 after_one : (Pic : Picturing) (front es : List Entry) (e : Entry) (at number : ℕ) (files : List File) → HasFile Pic ((front ++ e ∷ []) ++ es) at number files → HasFile Pic (front ++ (e ∷ es)) at number files
@@ -125,13 +128,6 @@ no_shots (entry.Input dev routed ∷ es) none = absurd (omega (arith, none))
 no_shots (entry.Shot n ∷ es) none = absurd (omega (arith, none))
 no_shots (entry.Final ∷ es) none = no_shots es none
 
-shots_append : (es fs : List Entry) → shots (es ++ fs) ≡ shots es + shots fs
-shots_append [] fs = omega arith
-shots_append (entry.Call s c r ∷ es) fs = shots_append es fs
-shots_append (entry.Input dev routed ∷ es) fs = shots_append es fs
-shots_append (entry.Final ∷ es) fs = shots_append es fs
-shots_append (entry.Shot n ∷ es) fs = let more = shots_append es fs in omega (arith, more)
-
 -- the user did the next line of the input script, and knows just its own deeds before and after it
 pub record IsNextKnown (input : List InputLine) (next : ℕ) (l : InputLine) (before after' : List Entry) : Type 0 where
   pub line_is : slice_get input next ≡ Some l
@@ -160,7 +156,7 @@ quiet_device input next dev routed before after' known (between, told) =
     record {
       more = between ++ entry.Input dev routed ∷ [];
       grown = told ∙ append_assoc before between (entry.Input dev routed ∷ []);
-      quiet = shots_append between (entry.Input dev routed ∷ []) ∙ ap (λ (n : ℕ). n + 0) none;
+      quiet = shots_both between (entry.Input dev routed ∷ []) ∙ ap (λ (n : ℕ). n + 0) none;
     }
 
 pub quiet_phase : (input : List InputLine) (next : ℕ) (before after' : List Entry)

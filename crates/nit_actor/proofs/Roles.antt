@@ -55,12 +55,12 @@ fits_belongs parts p r = record { name = r.name; script = r.script; plan = r.pla
 pub roles_fit : (parts : Parts) (ps : List PassModel) → All (λ (p : PassModel). Belongs parts p) ps → All (λ (p : PassModel). IsRoleIn parts (role_of p)) ps
 roles_fit parts ps all = λ k d inside. role_fits parts (slice_index_or ps k d) (all k d inside)
 
-role_at : (ps : List PassModel) (k : ℕ) (d : PassModel) → role_of (slice_index_or ps k d) ≡ slice_index_or (roles ps) k (role_of d)
+pub role_at : (ps : List PassModel) (k : ℕ) (d : PassModel) → role_of (slice_index_or ps k d) ≡ slice_index_or (roles ps) k (role_of d)
 role_at [] k d = refl
 role_at (p ∷ ps) zero d = refl
 role_at (p ∷ ps) (suc k) d = role_at ps k d
 
-roles_long : (ps qs : List PassModel) → roles ps ≡ roles qs → length ps ≡ length qs
+pub roles_long : (ps qs : List PassModel) → roles ps ≡ roles qs → length ps ≡ length qs
 roles_long ps qs e = sym (long ps) ∙ ap (λ (rs : List Role). length rs) e ∙ long qs
   where
     long : (ps : List PassModel) → length (roles ps) ≡ length ps

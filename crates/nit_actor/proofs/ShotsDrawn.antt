@@ -21,6 +21,7 @@ use Rattle.nit_actor.specs.Running.{shot_name}
 use Rattle.nit_actor.specs.Drawn.{Drawing, after_move, drawn, opening_drawing, picture_of, shots_after, shots_of}
 use Rattle.nit_actor.specs.Shots.{ShotsBehind, AreShotsOf, shoots, moves_before, drawn_by_shot, IsDrawnPicture}
 use Rattle.nit_actor.proofs.Shots.{shots_both}
+use Rattle.nit_actor.proofs.Pictures.{as_many_files, file_of_a_shot}
 use Rattle.nit_actor.proofs.Replayed.{PutBy, behind, none_left}
 
 -- ---- the moves before a shot
@@ -199,42 +200,14 @@ module _ (config : Configuration) (scripts : List (List Line)) (lines : List Inp
   pub shots_drawn : (journal : List Entry) → IsLegal config journal → AreRoundsOf journal scripts lines → AreShotsOf IsPicture (journal ++ entry.Final ∷ []) (shots_of config scripts lines)
   shots_drawn journal legal is = with_final [] journal (shots_of config scripts lines) (drawn_along journal legal is)
 
--- ---- a shot among them
-
-pub shot_files : (P : List Entry → List ℕ → Type 0) (before journal : List Entry) (files : List File) → ShotsBehind P before journal files → length files ≡ shots journal
-shot_files P before [] files h = ap length h
-shot_files P before (entry.Shot k ∷ rest) files h = ap length h.2 ∙ (let more = shot_files P (before ++ entry.Shot k ∷ []) rest h.1 h.4 in omega (arith, more))
-shot_files P before (entry.Call t c q ∷ rest) files h = shot_files P (before ++ entry.Call t c q ∷ []) rest files h
-shot_files P before (entry.Input dev routed ∷ rest) files h = shot_files P (before ++ entry.Input dev routed ∷ []) rest files h
-shot_files P before (entry.Final ∷ rest) files h = shot_files P (before ++ entry.Final ∷ []) rest files h
-
--- the file of a shot behind some others
-abbrev pub ItsFile : (List Entry → List ℕ → Type 0) → List Entry → ℕ → ℕ → List File → Type 0
-ItsFile P before k number files = (bytes : List ℕ) × (slice_get files k ≡ Some (shot_name number, bytes)) × P before bytes
-
-its_file : (P : List Entry → List ℕ → Type 0) (before front : List Entry) (number : ℕ) (rest : List Entry) (files : List File) → ShotsBehind P before (front ++ entry.Shot number ∷ rest) files → ItsFile P (before ++ front) (shots front) number files
-its_file P before [] number rest files h = (h.0, ap (λ (fs : List File). slice_get fs 0) h.2, subst (λ (es : List Entry). P es h.0) (sym (append-nil before)) h.3)
-its_file P before (entry.Shot k ∷ front) number rest files h =
-    let more = its_file P (before ++ entry.Shot k ∷ []) front number rest h.1 h.4 in
-    (more.0, ap (λ (fs : List File). slice_get fs (suc (shots front))) h.2 ∙ more.1, subst (λ (es : List Entry). P es more.0) (append_assoc before (entry.Shot k ∷ []) front) more.2)
-its_file P before (entry.Call t c q ∷ front) number rest files h =
-    subst (λ (es : List Entry). ItsFile P es (shots front) number files) (append_assoc before (entry.Call t c q ∷ []) front) (its_file P (before ++ entry.Call t c q ∷ []) front number rest files h)
-its_file P before (entry.Input dev routed ∷ front) number rest files h =
-    subst (λ (es : List Entry). ItsFile P es (shots front) number files) (append_assoc before (entry.Input dev routed ∷ []) front) (its_file P (before ++ entry.Input dev routed ∷ []) front number rest files h)
-its_file P before (entry.Final ∷ front) number rest files h =
-    subst (λ (es : List Entry). ItsFile P es (shots front) number files) (append_assoc before (entry.Final ∷ []) front) (its_file P (before ++ entry.Final ∷ []) front number rest files h)
-
-pub file_of_shot : (P : List Entry → List ℕ → Type 0) (front : List Entry) (number : ℕ) (rest : List Entry) (files : List File) → AreShotsOf P (front ++ entry.Shot number ∷ rest) files → ItsFile P front (shots front) number files
-file_of_shot P front number rest files h = its_file P [] front number rest files h
-
 -- ---- the shots of a run by rounds
 
 module _ (config : Configuration) (scripts : List (List Line)) (lines : List InputLine) where
   pub drawn_counted : (journal : List Entry) → IsLegal config journal → AreRoundsOf journal scripts lines → length (shots_of config scripts lines) ≡ shots journal
-  drawn_counted journal legal is = shot_files (IsDrawnPicture config scripts lines) [] journal (shots_of config scripts lines) (drawn_along config scripts lines journal legal is)
+  drawn_counted journal legal is = as_many_files (IsDrawnPicture config scripts lines) [] journal (shots_of config scripts lines) (drawn_along config scripts lines journal legal is)
 
   pub drawn_each : (front rest : List Entry) (number : ℕ) → IsLegal config (front ++ entry.Shot number ∷ rest) → AreRoundsOf (front ++ entry.Shot number ∷ rest) scripts lines
       → slice_get (shots_of config scripts lines) (shots front) ≡ Some (shot_name number, picture_of config (replay config front) (drawn_by_shot config scripts lines (shots front)).word)
   drawn_each front rest number legal is =
-      let file = file_of_shot (IsDrawnPicture config scripts lines) front number rest (shots_of config scripts lines) (drawn_along config scripts lines (front ++ entry.Shot number ∷ rest) legal is) in
+      let file = file_of_a_shot (IsDrawnPicture config scripts lines) [] front rest number (shots_of config scripts lines) (drawn_along config scripts lines (front ++ entry.Shot number ∷ rest) legal is) in
       file.1 ∙ ap (λ (bytes : List ℕ). Some (shot_name number, bytes)) file.2

@@ -9,7 +9,8 @@ use Rattle.nit_report.specs.Picture.{picture}
 use Rattle.nit_store.specs.Shown.{File}
 use Rattle.nit_hall.specs.Near.{IsNearFrame}
 use Rattle.nit_hall.specs.Parts.{Parts}
-use Rattle.nit_actor.specs.Running.{Putting, PutsAll, shot_name}
+use Rattle.nit_store.specs.Puts.{Putting, PutsAll}
+use Rattle.nit_actor.specs.Shots.{ShotsBehind, AreShotsOf}
 
 -- The bytes are the picture of a frame of the state that these entries lead to, in which each pixel
 -- holds a word that it may hold after them.
@@ -18,22 +19,10 @@ IsNearPicture config scripts entries bytes =
     (words : List ℕ) × IsNearFrame config scripts entries words
     × (bytes ≡ picture config.width config.height words)
 
--- Behind the entries `front` stand these ones. The files are, in order, one for each shot among
--- them: its name is by the shot's number, and its bytes are a picture that the entries before the
--- shot allow.
-abbrev pub ShotsBehind : (List Entry → List ℕ → Type 0) → List Entry → List Entry → List File
-    → Type 0
-ShotsBehind IsPicture front [] files = files ≡ []
-ShotsBehind IsPicture front (entry.Shot number ∷ rest) files =
-    (bytes : List ℕ) × (more : List File) × (files ≡ (shot_name number, bytes) ∷ more)
-    × IsPicture front bytes × ShotsBehind IsPicture (front ++ entry.Shot number ∷ []) rest more
-ShotsBehind IsPicture front (other ∷ rest) files =
-    ShotsBehind IsPicture (front ++ other ∷ []) rest files
-
--- the files are those of the shots of a journal, in order
+-- the files are those of the shots of a journal, in order, and each is a picture that the entries
+-- before its shot allow
 abbrev pub AreNearShots : Configuration → List (List Line) → List Entry → List File → Type 0
-AreNearShots config scripts journal files =
-    ShotsBehind (IsNearPicture config scripts) [] journal files
+AreNearShots config scripts journal files = AreShotsOf (IsNearPicture config scripts) journal files
 
 -- there are further entries now, and no shot among them
 pub record GrowsQuietly (before after' : List Entry) : Type 0 where

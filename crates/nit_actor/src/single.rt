@@ -2,7 +2,7 @@
 
 ghost use Rattle.std.specs.Prelude.{◌≡◌, ◌+◌, ◌++◌, Some, drop, length, map, slice_get};
 ghost use Rattle.nit_journal.specs.Journals.{IsOpen};
-ghost use Rattle.nit_hall.specs.Lines.{calls_in};
+ghost use Rattle.nit_plan.specs.Calls.{calls_in};
 ghost use Rattle.nit_hall.specs.Passes.{IsAtPhase};
 ghost use Rattle.nit_journal.specs.Whole.{Calls, act_of};
 ghost use Rattle.nit_actor.specs.InStep.{AreInStep, acts_to_be};
