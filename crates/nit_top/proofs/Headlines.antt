@@ -37,7 +37,7 @@ use Rattle.nit_actor.specs.Rounds.{rounds}
 use Rattle.nit_actor.specs.Running.{shot_name}
 use Rattle.nit_actor.specs.Drawn.{picture_of, shots_of, words_of}
 use Rattle.nit_actor.specs.Shots.{AreShotsOf, IsDrawnPicture, drawn_by_shot}
-use Rattle.nit_actor.proofs.ShotsDrawn.{file_of_shot, shot_files}
+use Rattle.nit_actor.proofs.Pictures.{as_many_files, file_of_a_shot}
 use Rattle.nit_top.specs.Setup.{Setup}
 use Rattle.nit_top.specs.Outputs.{IsJournal, AreOutputs, ending_of, events_file, events_files, events_name, final_name, final_picture, journal_file, raw_word, tables_left, text_files}
 use Rattle.nit_top.specs.Headline.{AreTexts, IsClickOn, focus_after, ShowsBy, HasPicture, HoldsAtShot, HoldsAtEnd}
@@ -142,7 +142,7 @@ module _ (s : Setup) (journal : List Entry) (outputs : List File) (j : IsJournal
   pub shot_shows : ShotsLaw → FrontsLaw → FrameCount → FrameEach → (front rest : List Entry) (number : ℕ) → journal ≡ front ++ entry.Shot number ∷ rest
       → HasPicture s.config outputs (shot_name number) (replay s.config front) (HoldsAtShot s front)
   shot_shows law fronts count each front rest number parts =
-      let file = file_of_shot (IsDrawnPicture s.config s.scripts s.input) front number rest shot_list (subst (λ (es : List Entry). AreShotsOf (IsDrawnPicture s.config s.scripts s.input) es shot_list) parts (shots_along law fronts)) in
+      let file = file_of_a_shot (IsDrawnPicture s.config s.scripts s.input) [] front rest number shot_list (subst (λ (es : List Entry). AreShotsOf (IsDrawnPicture s.config s.scripts s.input) es shot_list) parts (shots_along law fronts)) in
       has_picture count each s.config outputs (shot_name number) file.0 (replay s.config front) (drawn_by_shot s.config s.scripts s.input (shots front)).word file.2
       (among_shots (shot_name number, file.0) (contains_at shot_list (shots front) (shot_name number, file.0) file.1))
 
@@ -169,7 +169,7 @@ module _ (s : Setup) (journal : List Entry) (outputs : List File) (j : IsJournal
 
   pub files_counted : ShotsLaw → FrontsLaw → length outputs ≡ shots journal + 1 + cond s.texts (length s.config.clients + 1) 0
   files_counted law fronts =
-      let pictures : length shot_list ≡ shots journal = shot_files (IsDrawnPicture s.config s.scripts s.input) [] journal shot_list (shots_along law fronts) in
+      let pictures : length shot_list ≡ shots journal = as_many_files (IsDrawnPicture s.config s.scripts s.input) [] journal shot_list (shots_along law fronts) in
       let all : length outputs ≡ length shot_list + suc (length (text_files s journal)) = ap length are ∙ length-append shot_list (last_file ∷ text_files s journal) in
       let texts : length (text_files s journal) ≡ cond s.texts (length s.config.clients + 1) 0 = count_texts s.texts in
       omega (arith, pictures, all, texts)
