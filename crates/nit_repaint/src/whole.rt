@@ -11,21 +11,22 @@ use nit_stack::Stack;
 use nit_word::Glass;
 use std::marker::Model;
 
-/// The glass of no session. It has no words, so that nothing is ever loaded through it.
+/// A glass of no session, with `N` words, each of which is 0. Where nobody calls, the one without words
+/// stands for the caller's, and nothing is loaded through it.
 #[derive(Drop)]
-pub struct Nobody;
+pub struct Nobody<const N: usize>;
 
-impl Glass for Nobody {
+impl<const N: usize> Glass for Nobody<N> {
     ghost use Rattle.nit_paint.specs.Painting.{no_sight};
 
     type Rest = ();
 
-    ghost sight = { λ g. no_sight };
+    ghost sight = { λ g. record no_sight { size = N } };
 
     ghost rest = { λ g. tt };
 
-    fn load(&mut self, i: usize) -> u32 {
-        unreachable!()
+    fn load(&mut self, _i: usize) -> u32 {
+        0
     }
 }
 
@@ -44,5 +45,5 @@ pub fn paint_whole<C: Glass>(cutter: &mut Cutter, stack: &Stack, raw: &mut [u32]
 {
     cutter.begin_all(stack);
     let nobody = owns.len() as u32;
-    paint_to_come(cutter, stack, raw, owns, nobody, &mut Nobody);
+    paint_to_come(cutter, stack, raw, owns, nobody, &mut Nobody::<0>);
 }

@@ -206,7 +206,7 @@ pub(crate) fn kill_session<G: Glass>(
         &mut pixels.raw,
         glasses,
         nobody,
-        &mut Nobody,
+        &mut Nobody::<0>,
     );
     redraw(server, pixels);
 }
