@@ -1,10 +1,9 @@
 -- The entries of a run's journal are within the format of texts.
 use Rattle.std.proofs.Common.{◌≡◌, ◌∙◌, ℕ, zero, suc, ◌+◌, ◌*◌, ◌<◌, ◌≤◌, Bool, true, false, cond, List, [], ◌∷◌, ◌++◌, length, map, get_or, refl, sym, ap, subst, arith, zero-add, append_assoc}
-use Rattle.std.specs.Prelude.{sum, All, option_map, ◌==◌}
+use Rattle.std.specs.Prelude.{All, option_map, ◌==◌}
 use Rattle.std.specs.List.{AllByRecursion}
 use Rattle.std.proofs.lemmas.Bool.{eq-eqb}
-use Rattle.std.proofs.lemmas.List.{get_or-map, length-append, length-map, length_push}
-use Rattle.std.proofs.lemmas.List.Sums.{sum_by-cons}
+use Rattle.std.proofs.lemmas.List.{get_or-map, length-append, length-map}
 use Rattle.nit_events.specs.declared.call.Call.{Call}
 use Rattle.nit_events.specs.declared.call.Call.TheVariants.{Close}
 use Rattle.nit_events.specs.declared.call.Reply.{Reply}
@@ -23,7 +22,8 @@ use Rattle.nit_journal.specs.Projections.{Moment, Calls, Gets, alone_machine, it
 use Rattle.nit_journal.specs.Session.{Session, opened}
 use Rattle.nit_journal.specs.State.{State, after, clicks_on, input_after_call, opening, route, session}
 use Rattle.nit_journal.specs.Views.{is_accepted}
-use Rattle.nit_journal.specs.Whole.{Deed, Does, Shoots, act_of, calls_of, deeds_of, done}
+use Rattle.nit_journal.specs.Whole.{Deed, Does, Shoots, calls_of, deeds_of, done}
+use Rattle.nit_journal.proofs.Along.{calls_of-append}
 use Rattle.nit_script.specs.declared.line.Line.{Line}
 use Rattle.nit_script.specs.declared.line.Line.TheVariants as line
 use Rattle.nit_script.specs.declared.line.InputLine.{InputLine}
@@ -31,9 +31,6 @@ use Rattle.nit_script.specs.declared.line.InputLine.TheVariants as input
 use Rattle.nit_script.specs.Spelling.{FitsCall, FitsDevice, FitsInputLine, FitsLine}
 use Rattle.nit_plan.specs.Calls.{calls_from, calls_to_make, deeds_from}
 use Rattle.nit_report.specs.JournalText.{FitsDelivery, FitsEntry, FitsItem, FitsReply}
-use Rattle.nit_actor.specs.Moves.{Move}
-use Rattle.nit_actor.specs.Done.{acts}
-use Rattle.nit_actor.specs.Rounds.{rounds}
 use Rattle.nit_top.specs.Setup.{Setup, AreLines, IsRunnable}
 use Rattle.nit_top.specs.Outputs.{IsJournal}
 use Rattle.nit_top.proofs.RoutesFit.{ItemsFit, PointsFit, moved_fits, routing_fits}
@@ -73,6 +70,12 @@ deeds_few phase [] = omega arith
 deeds_few phase (input.Device d ∷ rest) = let more = deeds_few phase rest in omega arith
 deeds_few phase (input.Shot ∷ rest) = let more = deeds_few phase rest in omega arith
 deeds_few phase (input.Phase ∷ rest) = let more = deeds_few (suc phase) rest in omega arith
+
+calls_short : (phase : ℕ) (lines : List Line) → length (done (calls_from phase lines)) ≤ length lines
+calls_short phase [] = omega arith
+calls_short phase (line.Call c ∷ rest) = let more = calls_short phase rest in omega arith
+calls_short phase (line.Stroke x ∷ rest) = let more = calls_short phase rest in omega arith
+calls_short phase (line.Phase ∷ rest) = let more = calls_short (suc phase) rest in omega arith
 
 -- ---- what stands in a journal
 
@@ -170,22 +173,18 @@ item_calls x (d ∷ ds) more = by (d.sid == x) (item_calls x ds more)
     by true g = g
     by false g = g
 
-calls_few : (x : ℕ) (front : List Entry) → calls_among (projection x front) ≤ length front
+calls_few : (x : ℕ) (front : List Entry) → calls_among (projection x front) ≤ length (calls_of x front)
 calls_few x [] = omega arith
 calls_few x (entry.Call sid call r ∷ front) = by (sid == x) (calls_few x front)
   where
-    by : (b : Bool) → calls_among (projection x front) ≤ length front → calls_among (cond b (Calls call ∷ projection x front) (projection x front)) ≤ suc (length front)
+    by : (b : Bool) → calls_among (projection x front) ≤ length (calls_of x front) → calls_among (cond b (Calls call ∷ projection x front) (projection x front)) ≤ length (cond b (call ∷ calls_of x front) (calls_of x front))
     by true g = omega arith
-    by false g = omega arith
+    by false g = g
 calls_few x (entry.Input dev routed ∷ front) = let same = item_calls x (deliveries_of routed) (projection x front) in let more = calls_few x front in omega arith
-calls_few x (entry.Shot n ∷ front) = let more = calls_few x front in omega arith
-calls_few x (entry.Final ∷ front) = let more = calls_few x front in omega arith
+calls_few x (entry.Shot n ∷ front) = calls_few x front
+calls_few x (entry.Final ∷ front) = calls_few x front
 
--- ---- how many entries there are
-
-sum_small : (scripts : List (List Line)) → AllByRecursion (AreLines FitsLine) scripts → sum (map length scripts) ≤ 65536 * length scripts
-sum_small [] h = omega arith
-sum_small (x ∷ scripts) h = let first = h.0.1 in let more = sum_small scripts h.1 in let all = sum_by-cons (λ (n : ℕ). n) (length x) (map length scripts) in omega arith
+-- ---- all entries
 
 all_from : {A : Type 0} (P : A → Type 0) (xs : List A) → All P xs → AllByRecursion P xs
 all_from P [] h = tt
@@ -204,35 +203,32 @@ pub record Laws : Type 0 where
   pub machines : (config : Configuration) (journal : List Entry) (sid : ℕ) → IsLegal config journal → sid < length config.clients → session (replay config journal) sid ≡ alone_machine (donation_of config sid) (projection sid journal)
   pub kept : (t : State) (taken : ℕ) (dev : Device) (routed : Routed) → Agrees t taken (entry.Input dev routed) → deliveries_of routed ≡ (route t.config t.input t.stack dev).deliveries
   pub live : (config : Configuration) (front : List Entry) (dev : Device) (routed : Routed) (rest : List Entry) → IsLegal config (front ++ entry.Input dev routed ∷ rest) → All (λ d. IsLive (replay config front) d.sid) (deliveries_of routed)
-  pub count : (scripts : List (List Line)) (lines : List InputLine) → length (rounds scripts lines) ≡ sum (map length scripts) + length lines
-  pub acts_few : (moves : List Move) → length (acts moves) ≤ length moves
 
 module _ (laws : Laws) (s : Setup) (runnable : IsRunnable s) (journal : List Entry) (j : IsJournal s journal) where
   legal_at : (all : List Entry) → journal ≡ all → IsLegal s.config all
   legal_at all parts = subst (λ (es : List Entry). IsLegal s.config es) parts j.legal
 
-  few_entries : length journal ≤ 1114113
-  few_entries =
-      let entries = j.rounds.0 in
-      let acted : length entries ≡ length (acts (rounds s.scripts s.input)) = sym (length-map entries act_of) ∙ ap length j.rounds.1 in
-      let all : length journal ≡ length entries + 1 = ap length j.rounds.2 ∙ length_push entries entry.Final in
-      let counted = laws.count s.scripts s.input in
-      let few = laws.acts_few (rounds s.scripts s.input) in
-      let small = sum_small s.scripts runnable.lines in
-      let clients = runnable.configured.count.1 in
-      let scripts = runnable.scripts in
-      let lines = runnable.input_lines.1 in
-      omega arith
+  -- the calls of a client are those of its script
+  calls_are : (sid : ℕ) → sid < length s.scripts → calls_of sid journal ≡ done (calls_to_make (get_or s.scripts sid []))
+  calls_are sid there = j.whole.calls sid (subst (λ (n : ℕ). sid < n) (sym (length-map s.scripts calls_to_make)) there) ∙ ap done (get_or-map calls_to_make s.scripts sid [] [] there)
 
-  short_front : (front : List Entry) (e : Entry) (rest : List Entry) → journal ≡ front ++ e ∷ rest → length front ≤ 1114113
-  short_front front e rest parts = let all = ap length parts ∙ length-append front (e ∷ rest) in let few = few_entries in omega arith
+  -- so a front has few of them
+  front_few : (front : List Entry) (e : Entry) (rest : List Entry) (sid : ℕ) → journal ≡ front ++ e ∷ rest → sid < length s.config.clients → calls_among (projection sid front) ≤ 65536
+  front_few front e rest sid parts inside =
+      let there : sid < length s.scripts = subst (λ (n : ℕ). sid < n) (sym runnable.scripts) inside in
+      let script = get_or s.scripts sid [] in
+      let lines = (all_at (AreLines FitsLine) s.scripts sid [] there runnable.lines).1 in
+      let short = calls_short 0 script in
+      let few = calls_few sid front in
+      let all = ap length (sym (calls_are sid there) ∙ ap (calls_of sid) parts ∙ calls_of-append sid front (e ∷ rest)) ∙ length-append (calls_of sid front) (calls_of sid (e ∷ rest)) in
+      omega arith
 
   call_fits : (front : List Entry) (sid : ℕ) (call : Call) (r : Reply) (rest : List Entry) → journal ≡ front ++ entry.Call sid call r ∷ rest → sid < length s.config.clients → FitsCall call
   call_fits front sid call r rest parts inside =
       let there : sid < length s.scripts = subst (λ (n : ℕ). sid < n) (sym runnable.scripts) inside in
       let script = get_or s.scripts sid [] in
       let fits : AllByRecursion FitsCall (done (calls_to_make script)) = calls_fit 0 script (all_at (AreLines FitsLine) s.scripts sid [] there runnable.lines).0 in
-      let calls : calls_of sid journal ≡ done (calls_to_make script) = j.whole.calls sid (subst (λ (n : ℕ). sid < n) (sym (length-map s.scripts calls_to_make)) there) ∙ ap done (get_or-map calls_to_make s.scripts sid [] [] there) in
+      let calls : calls_of sid journal ≡ done (calls_to_make script) = calls_are sid there in
       call_there front sid call r rest (subst (λ (es : List Entry). AllByRecursion FitsCall (calls_of sid es)) parts (subst (λ (cs : List Call). AllByRecursion FitsCall cs) (sym calls) fits))
 
   dev_fits : (front : List Entry) (dev : Device) (routed : Routed) (rest : List Entry) → journal ≡ front ++ entry.Input dev routed ∷ rest → FitsDevice dev
@@ -276,7 +272,7 @@ module _ (laws : Laws) (s : Setup) (runnable : IsRunnable s) (journal : List Ent
   fine_at front e rest sid parts inside =
       let legal = laws.fronts s.config front (e ∷ rest) (legal_at (front ++ e ∷ rest) parts) in
       let moments : AllByRecursion MomentFits (projection sid front) = moments_fit sid front (all_by_front EntryGood front (λ before x after' is. good_at before x (after' ++ e ∷ rest) (within_front front e rest before x after' parts is))) in
-      let few : 0 + calls_among (projection sid front) ≤ 2000000 = let short = short_front front e rest parts in let calls = calls_few sid front in omega arith in
+      let few : 0 + calls_among (projection sid front) ≤ 2000000 = let few = front_few front e rest sid parts inside in omega arith in
       let donation : donation_of s.config sid ≤ 8388608 = (runnable.configured.clients sid _ inside).donation.1 in
       subst (λ (t : Session). IsFine t (calls_among (projection sid front))) (sym (laws.machines s.config front sid legal inside))
       (subst (λ (n : ℕ). IsFine (alone_machine (donation_of s.config sid) (projection sid front)) n) (zero-add (calls_among (projection sid front)))
@@ -290,7 +286,7 @@ module _ (laws : Laws) (s : Setup) (runnable : IsRunnable s) (journal : List Ent
       let e = entry.Call sid call r in
       let inside = caller front sid call r rest parts in
       let agrees = laws.agrees s.config front e rest (legal_at (front ++ e ∷ rest) parts) in
-      let few : calls_among (projection sid front) ≤ 2000000 = let short = short_front front e rest parts in let calls = calls_few sid front in omega arith in
+      let few : calls_among (projection sid front) ≤ 2000000 = let few = front_few front e rest sid parts inside in omega arith in
       let fits = call_fits front sid call r rest parts inside in
       (session_small sid inside, subst FitsReply (sym agrees.1) (answer_fits (session (replay s.config front) sid) (calls_among (projection sid front)) call (fine_at front e rest sid parts inside) few fits), fits)
   entry_fits front (entry.Input dev routed) rest parts =

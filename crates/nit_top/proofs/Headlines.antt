@@ -21,6 +21,7 @@ use Rattle.nit_config.specs.Configuration.{Configuration, donation_of, member}
 use Rattle.nit_journal.specs.Journals.{IsLegal, replay, shots}
 use Rattle.nit_journal.specs.Projections.{alone_machine, projection}
 use Rattle.nit_journal.specs.Session.{Session}
+use Rattle.nit_journal.proofs.Sessions.{same_throughout}
 use Rattle.nit_journal.specs.State.{State, after, owner_of, session}
 use Rattle.nit_journal.specs.Views.{is_accepted}
 use Rattle.nit_journal.specs.Whole.{Act, Ends, act_of}
@@ -37,10 +38,12 @@ use Rattle.nit_actor.specs.Rounds.{rounds}
 use Rattle.nit_actor.specs.Running.{shot_name}
 use Rattle.nit_actor.specs.Drawn.{picture_of, shots_of, words_of}
 use Rattle.nit_actor.specs.Shots.{AreShotsOf, IsDrawnPicture, drawn_by_shot}
+use Rattle.nit_actor.specs.Pictures.{AreNearShots, IsNearPicture}
+use Rattle.nit_hall.specs.Near.{IsNear, IsNearFrame}
 use Rattle.nit_actor.proofs.Pictures.{as_many_files, file_of_a_shot}
 use Rattle.nit_top.specs.Setup.{Setup}
 use Rattle.nit_top.specs.Outputs.{IsJournal, AreOutputs, ending_of, events_file, events_files, events_name, final_name, final_picture, journal_file, raw_word, tables_left, text_files}
-use Rattle.nit_top.specs.Headline.{AreTexts, IsClickOn, focus_after, ShowsBy, HasPicture, HoldsAtShot, HoldsAtEnd}
+use Rattle.nit_top.specs.Headline.{AreTexts, IsClickOn, focus_after, ShowsBy, HasPicture, HoldsAtShot, HoldsByWay, HoldsAtEnd}
 use Rattle.nit_top.proofs.Leaving.{with_texts}
 
 -- ---- the focus
@@ -110,6 +113,15 @@ abbrev pub ShotsLaw : Type 0
 ShotsLaw = (config : Configuration) (scripts : List (List Line)) (input : List InputLine) (journal : List Entry) → IsLegal config journal → AreRoundsOf journal scripts input
     → AreShotsOf (IsDrawnPicture config scripts input) (journal ++ entry.Final ∷ []) (shots_of config scripts input)
 
+-- what the laws of pictures beside others say
+pub record NearLaws : Type 0 where
+  pub counted : (config : Configuration) (scripts : List (List Line)) (journal : List Entry) (files : List File) → AreNearShots config scripts journal files → length files ≡ shots journal
+  pub files : (config : Configuration) (scripts : List (List Line)) (front rest : List Entry) (number : ℕ) (files : List File) → AreNearShots config scripts (front ++ entry.Shot number ∷ rest) files
+      → (bytes : List ℕ) × (slice_get files (shots front) ≡ Some (shot_name number, bytes)) × IsNearPicture config scripts front bytes
+  pub count : (config : Configuration) (scripts : List (List Line)) (journal : List Entry) (words : List ℕ) → IsNearFrame config scripts journal words → length words ≡ pixel_count (replay config journal)
+  pub each : (config : Configuration) (scripts : List (List Line)) (journal : List Entry) (words : List ℕ) (k : ℕ) → IsNearFrame config scripts journal words → k < pixel_count (replay config journal)
+      → (w : ℕ) × IsNear config scripts journal k w × (slice_index words k ≡ shown (scenery_of (replay config journal)) (pixel config.width k) w)
+
 -- what the law of machines says
 abbrev pub MachinesLaw : Type 0
 MachinesLaw = (config : Configuration) (journal : List Entry) (sid : ℕ) → IsLegal config journal → sid < length config.clients → session (replay config journal) sid ≡ alone_machine (donation_of config sid) (projection sid journal)
@@ -119,32 +131,62 @@ FrontsLaw = (config : Configuration) (front rest : List Entry) → IsLegal confi
 
 module _ (s : Setup) (journal : List Entry) (outputs : List File) (j : IsJournal s journal) (are : AreOutputs s journal outputs) where
   abbrev shot_list : List File
-  shot_list = shots_of s.config s.scripts s.input
+  shot_list = are.0
 
-  shots_along : ShotsLaw → FrontsLaw → AreShotsOf (IsDrawnPicture s.config s.scripts s.input) journal shot_list
-  shots_along law fronts =
-      subst (λ (es : List Entry). AreShotsOf (IsDrawnPicture s.config s.scripts s.input) es shot_list) (sym j.rounds.2)
-      (law s.config s.scripts s.input j.rounds.0 (fronts s.config j.rounds.0 (entry.Final ∷ []) (subst (λ (es : List Entry). IsLegal s.config es) j.rounds.2 j.legal)) j.rounds.1)
+  abbrev IsDrawn : List Entry → List ℕ → Type 0
+  IsDrawn = IsDrawnPicture s.config s.scripts s.input
+
+  drawn_along : s.beside ≡ false → ShotsLaw → FrontsLaw → AreShotsOf IsDrawn journal shot_list
+  drawn_along alone law fronts =
+      let r = j.rounds alone in
+      let entries = r.0 in
+      subst (λ (fs : List File). AreShotsOf IsDrawn journal fs) (sym (are.1.by_rounds alone))
+      (subst (λ (es : List Entry). AreShotsOf IsDrawn es (shots_of s.config s.scripts s.input)) (sym r.2)
+      (law s.config s.scripts s.input entries (fronts s.config entries (entry.Final ∷ []) (subst (λ (es : List Entry). IsLegal s.config es) r.2 j.legal)) r.1))
 
   abbrev last_file : File
   last_file = (final_name, final_picture s journal)
 
   -- a file among the shots, the last picture, or a text, is among all
   among_shots : (f : File) → Contains shot_list f → Contains outputs f
-  among_shots f has = subst (λ (fs : List File). Contains fs f) (sym are) (Contains-append_left shot_list (last_file ∷ text_files s journal) f has)
+  among_shots f has = subst (λ (fs : List File). Contains fs f) (sym are.2) (Contains-append_left shot_list (last_file ∷ text_files s journal) f has)
 
   the_last : Contains outputs last_file
-  the_last = subst (λ (fs : List File). Contains fs last_file) (sym are) (Contains-append_right shot_list (last_file ∷ text_files s journal) last_file (Contains-append_left (last_file ∷ []) (text_files s journal) last_file (Contains-push [] last_file)))
+  the_last = subst (λ (fs : List File). Contains fs last_file) (sym are.2) (Contains-append_right shot_list (last_file ∷ text_files s journal) last_file (Contains-append_left (last_file ∷ []) (text_files s journal) last_file (Contains-push [] last_file)))
 
   among_texts : (f : File) → Contains (text_files s journal) f → Contains outputs f
-  among_texts f has = subst (λ (fs : List File). Contains fs f) (sym are) (Contains-append_right shot_list (last_file ∷ text_files s journal) f (Contains-append_right (last_file ∷ []) (text_files s journal) f has))
+  among_texts f has = subst (λ (fs : List File). Contains fs f) (sym are.2) (Contains-append_right shot_list (last_file ∷ text_files s journal) f (Contains-append_right (last_file ∷ []) (text_files s journal) f has))
 
-  pub shot_shows : ShotsLaw → FrontsLaw → FrameCount → FrameEach → (front rest : List Entry) (number : ℕ) → journal ≡ front ++ entry.Shot number ∷ rest
-      → HasPicture s.config outputs (shot_name number) (replay s.config front) (HoldsAtShot s front)
-  shot_shows law fronts count each front rest number parts =
-      let file = file_of_a_shot (IsDrawnPicture s.config s.scripts s.input) [] front rest number shot_list (subst (λ (es : List Entry). AreShotsOf (IsDrawnPicture s.config s.scripts s.input) es shot_list) parts (shots_along law fronts)) in
+  -- the file of a shot by rounds, and of one beside others
+  drawn_shows : s.beside ≡ false → ShotsLaw → FrontsLaw → FrameCount → FrameEach → (front rest : List Entry) (number : ℕ) → journal ≡ front ++ entry.Shot number ∷ rest
+      → HasPicture s.config outputs (shot_name number) (replay s.config front) (HoldsByWay false s front)
+  drawn_shows alone law fronts count each front rest number parts =
+      let file = file_of_a_shot IsDrawn [] front rest number shot_list (subst (λ (es : List Entry). AreShotsOf IsDrawn es shot_list) parts (drawn_along alone law fronts)) in
       has_picture count each s.config outputs (shot_name number) file.0 (replay s.config front) (drawn_by_shot s.config s.scripts s.input (shots front)).word file.2
       (among_shots (shot_name number, file.0) (contains_at shot_list (shots front) (shot_name number, file.0) file.1))
+
+  near_shows : s.beside ≡ true → NearLaws → (front rest : List Entry) (number : ℕ) → journal ≡ front ++ entry.Shot number ∷ rest
+      → HasPicture s.config outputs (shot_name number) (replay s.config front) (HoldsByWay true s front)
+  near_shows together near front rest number parts =
+      let t = replay s.config front in
+      let (bytes, there, (words, frame_is, is)) = near.files s.config s.scripts front rest number shot_list (subst (λ (es : List Entry). AreNearShots s.config s.scripts es shot_list) parts (are.1.beside together)) in (
+        words,
+        subst (λ (b : List ℕ). Contains outputs (shot_name number, b)) is (among_shots (shot_name number, bytes) (contains_at shot_list (shots front) (shot_name number, bytes) there)),
+        record {
+          count = near.count s.config s.scripts front words frame_is;
+          each = λ k inside.
+              let (w, may, shows_it) = near.each s.config s.scripts front words k frame_is inside in
+              (w, may, shows_it ∙ ap (λ (c : Configuration). shown (scenery_of t) (pixel c.width k) w) (sym (same_throughout s.config front)));
+        },
+      )
+
+  pub shot_shows : ShotsLaw → FrontsLaw → FrameCount → FrameEach → NearLaws → (front rest : List Entry) (number : ℕ) → journal ≡ front ++ entry.Shot number ∷ rest
+      → HasPicture s.config outputs (shot_name number) (replay s.config front) (HoldsAtShot s front)
+  shot_shows law fronts count each near front rest number parts = by s.beside refl
+    where
+      by : (b : Bool) → s.beside ≡ b → HasPicture s.config outputs (shot_name number) (replay s.config front) (HoldsByWay b s front)
+      by false alone = drawn_shows alone law fronts count each front rest number parts
+      by true together = near_shows together near front rest number parts
 
   pub end_shows : FrameCount → FrameEach → (replay s.config journal).config ≡ s.config → HasPicture s.config outputs final_name (replay s.config journal) (HoldsAtEnd s journal)
   end_shows count each same =
@@ -167,10 +209,17 @@ module _ (s : Setup) (journal : List Entry) (outputs : List File) (j : IsJournal
       on : text_files s journal ≡ events_files s.config journal ++ journal_file journal ∷ []
       on = with_texts s journal has
 
-  pub files_counted : ShotsLaw → FrontsLaw → length outputs ≡ shots journal + 1 + cond s.texts (length s.config.clients + 1) 0
-  files_counted law fronts =
-      let pictures : length shot_list ≡ shots journal = as_many_files (IsDrawnPicture s.config s.scripts s.input) [] journal shot_list (shots_along law fronts) in
-      let all : length outputs ≡ length shot_list + suc (length (text_files s journal)) = ap length are ∙ length-append shot_list (last_file ∷ text_files s journal) in
+  shots_counted : ShotsLaw → FrontsLaw → NearLaws → length shot_list ≡ shots journal
+  shots_counted law fronts near = by s.beside refl
+    where
+      by : (b : Bool) → s.beside ≡ b → length shot_list ≡ shots journal
+      by false alone = as_many_files IsDrawn [] journal shot_list (drawn_along alone law fronts)
+      by true together = near.counted s.config s.scripts journal shot_list (are.1.beside together)
+
+  pub files_counted : ShotsLaw → FrontsLaw → NearLaws → length outputs ≡ shots journal + 1 + cond s.texts (length s.config.clients + 1) 0
+  files_counted law fronts near =
+      let pictures = shots_counted law fronts near in
+      let all : length outputs ≡ length shot_list + suc (length (text_files s journal)) = ap length are.2 ∙ length-append shot_list (last_file ∷ text_files s journal) in
       let texts : length (text_files s journal) ≡ cond s.texts (length s.config.clients + 1) 0 = count_texts s.texts in
       omega (arith, pictures, all, texts)
     where
@@ -184,12 +233,17 @@ module _ (s : Setup) (journal : List Entry) (outputs : List File) (j : IsJournal
 abbrev pub ActsLaw : Type 0
 ActsLaw = (config : Configuration) (js ks : List Entry) → IsLegal config js → IsLegal config ks → map act_of js ≡ map act_of ks → js ≡ ks
 
-acts_of_run : (s : Setup) (journal : List Entry) → IsJournal s journal → map act_of journal ≡ acts (rounds s.scripts s.input) ++ Ends ∷ []
-acts_of_run s journal j = ap (λ (es : List Entry). map act_of es) j.rounds.2 ∙ map-append act_of j.rounds.0 (entry.Final ∷ []) ∙ ap (λ (done : List Act). done ++ Ends ∷ []) j.rounds.1
+acts_of_run : (s : Setup) (journal : List Entry) → s.beside ≡ false → IsJournal s journal → map act_of journal ≡ acts (rounds s.scripts s.input) ++ Ends ∷ []
+acts_of_run s journal alone j =
+    let r = j.rounds alone in
+    ap (λ (es : List Entry). map act_of es) r.2 ∙ map-append act_of r.0 (entry.Final ∷ []) ∙ ap (λ (done : List Act). done ++ Ends ∷ []) r.1
 
-pub same_journal : ActsLaw → (s : Setup) (js ks : List Entry) → IsJournal s js → IsJournal s ks → js ≡ ks
-same_journal law s js ks j k = law s.config js ks j.legal k.legal (acts_of_run s js j ∙ sym (acts_of_run s ks k))
+pub same_journal : ActsLaw → (s : Setup) (js ks : List Entry) → s.beside ≡ false → IsJournal s js → IsJournal s ks → js ≡ ks
+same_journal law s js ks alone j k = law s.config js ks j.legal k.legal (acts_of_run s js alone j ∙ sym (acts_of_run s ks alone k))
 
-pub same_files : ActsLaw → (s : Setup) (js ks : List Entry) (fs gs : List File) → IsJournal s js → IsJournal s ks → AreOutputs s js fs → AreOutputs s ks gs → fs ≡ gs
-same_files law s js ks fs gs j k f g =
-    f ∙ ap (λ (es : List Entry). shots_of s.config s.scripts s.input ++ (final_name, final_picture s es) ∷ text_files s es) (same_journal law s js ks j k) ∙ sym g
+pub same_files : ActsLaw → (s : Setup) (js ks : List Entry) (fs gs : List File) → s.beside ≡ false → IsJournal s js → IsJournal s ks → AreOutputs s js fs → AreOutputs s ks gs → fs ≡ gs
+same_files law s js ks fs gs alone j k f g =
+    let drawn = shots_of s.config s.scripts s.input in
+    f.2 ∙ ap (λ (shots : List File). shots ++ (final_name, final_picture s js) ∷ text_files s js) (f.1.by_rounds alone)
+    ∙ ap (λ (es : List Entry). drawn ++ (final_name, final_picture s es) ∷ text_files s es) (same_journal law s js ks alone j k)
+    ∙ sym (g.2 ∙ ap (λ (shots : List File). shots ++ (final_name, final_picture s ks) ∷ text_files s ks) (g.1.by_rounds alone))

@@ -15,7 +15,7 @@ use Rattle.nit_script.proofs.Scripts.{IsReader, same_read, read_and_bad, read_an
 use Rattle.nit_store.specs.Shown.{File, bytes_of}
 use Rattle.nit_top.specs.declared.finish.Fault.{Fault}
 use Rattle.nit_top.specs.declared.finish.Fault.TheVariants as fault
-use Rattle.nit_top.specs.Command.{Command, Still, Turns, NoCommand}
+use Rattle.nit_top.specs.Command.{Command, Still, Run, NoCommand}
 use Rattle.nit_top.specs.Setup.{Setup, HaveSamePhases}
 use Rattle.nit_top.specs.Judged.{IsConfig, IsConfigFault, IsScript, IsNoScript, IsFaulty, wrong_phases, wrong_client, wrong_input, IsClientFault, IsInputFault, wanted_by, script_names, SpellScripts, AreScripts, IsFirstFault, IsInputsFault, AreRead, Judged, Refused, IsValid, fault_code, IsRefused}
 
@@ -102,8 +102,8 @@ inputs_fault_not files s name f v r =
 -- files that make a command valid are not refused
 pub valid_not_refused : (c : Command) (files : List File) (s : Setup) (name : List ℕ) (f : Fault) → IsValid c files s → Judged c files (Refused name f) → ⊥
 valid_not_refused (Still width height script) files s name f v r = not_faulty client_reader (wrong_client None) (bytes_of script files) v.0 f v.1.0 v.1.1 r.1
-valid_not_refused (Turns configuration) files s name f v (inl r) = config_not_both (bytes_of configuration files) s.config f v.0 r.1
-valid_not_refused (Turns configuration) files s name f v (inr (config, is, r)) =
+valid_not_refused (Run beside configuration) files s name f v (inl r) = config_not_both (bytes_of configuration files) s.config f v.0 r.1
+valid_not_refused (Run beside configuration) files s name f v (inr (config, is, r)) =
     let same : config ≡ s.config = one_configuration (bytes_of configuration files) config s.config is.1 v.0.1 in
     elim r [
       | inl first ↦ first_fault_not files (script_names s.config) s.scripts name f v.1.scripts (subst (λ (k : Configuration). IsFirstFault files (script_names k) name f) same first)
@@ -153,10 +153,10 @@ script_code files config name f (inr r) = input_code (wanted_by r.scripts) (byte
 -- two refusals of the same files have the same status
 pub codes_agree : (c : Command) (files : List File) (m n : List ℕ) (f g : Fault) → Judged c files (Refused m f) → Judged c files (Refused n g) → fault_code f ≡ fault_code g
 codes_agree (Still width height script) files m n f g p q = client_code None (bytes_of script files) f p.1 ∙ sym (client_code None (bytes_of script files) g q.1)
-codes_agree (Turns configuration) files m n f g (inl p) (inl q) = config_code (bytes_of configuration files) f p.1 ∙ sym (config_code (bytes_of configuration files) g q.1)
-codes_agree (Turns configuration) files m n f g (inl p) (inr q) = absurd (config_not_both (bytes_of configuration files) q.0 f q.1 p.1)
-codes_agree (Turns configuration) files m n f g (inr p) (inl q) = absurd (config_not_both (bytes_of configuration files) p.0 g p.1 q.1)
-codes_agree (Turns configuration) files m n f g (inr p) (inr q) = script_code files p.0 m f p.2 ∙ sym (script_code files q.0 n g q.2)
+codes_agree (Run beside configuration) files m n f g (inl p) (inl q) = config_code (bytes_of configuration files) f p.1 ∙ sym (config_code (bytes_of configuration files) g q.1)
+codes_agree (Run beside configuration) files m n f g (inl p) (inr q) = absurd (config_not_both (bytes_of configuration files) q.0 f q.1 p.1)
+codes_agree (Run beside configuration) files m n f g (inr p) (inl q) = absurd (config_not_both (bytes_of configuration files) p.0 g p.1 q.1)
+codes_agree (Run beside configuration) files m n f g (inr p) (inr q) = script_code files p.0 m f p.2 ∙ sym (script_code files q.0 n g q.2)
 codes_agree NoCommand files m n f g p q = absurd p
 
 -- ---- where the store tells its files

@@ -12,6 +12,7 @@ pub mod Pictures
 pub mod PerClient
 pub mod LastWords
 pub mod Leaving
+pub mod Besides
 pub mod Headlines
 pub mod Naming
 pub mod Texting

@@ -67,7 +67,8 @@ pub one_file : UserOnce → (width height : ℕ) (lines : List Line) (journal : 
     → files ≡ (final_name, final_picture (still_setup width height lines) journal) ∷ []
 one_file once width height lines journal files j are =
     let s = still_setup width height lines in
-    are ∙ ap (λ (fs : List File). fs ++ (final_name, final_picture s journal) ∷ []) (no_picture s.config s.scripts (rounds s.scripts s.input) (count_by is_phase lines) (once s.scripts s.input))
+    are.2 ∙ ap (λ (fs : List File). fs ++ (final_name, final_picture s journal) ∷ [])
+    (are.1.by_rounds refl ∙ no_picture s.config s.scripts (rounds s.scripts s.input) (count_by is_phase lines) (once s.scripts s.input))
 
 pub no_shot : (width height : ℕ) (lines : List Line) (journal : List Entry) → IsJournal (still_setup width height lines) journal → shots journal ≡ 0
 no_shot width height lines journal j = no_shots journal (nothing_done width height lines journal j)

@@ -1,5 +1,5 @@
 -- What the files make of a command, and that it can be run.
-use Rattle.std.proofs.Common.{◌≡◌, true, ℕ, zero, suc, ◌+◌, ◌≤◌, List, [], ◌∷◌, ◌++◌, length, replicate, take, Some, None, refl, sym, ap, subst, ◌∙◌, arith, inl, inr, append_assoc, ◌*◌, cond}
+use Rattle.std.proofs.Common.{◌≡◌, Bool, true, ℕ, zero, suc, ◌+◌, ◌≤◌, List, [], ◌∷◌, ◌++◌, length, replicate, take, Some, None, Err, refl, sym, ap, subst, ◌∙◌, arith, inl, inr, append_assoc, ◌*◌, cond}
 use Rattle.std.specs.Prelude.{IfSome, count_by, slice_get}
 use Rattle.std.proofs.lemmas.List.{length-map, length-replicate, take_all}
 use Rattle.std.proofs.Math.Seq.{take-append_seam}
@@ -18,12 +18,12 @@ use Rattle.nit_store.specs.Shown.{Shown, bytes_of, asking}
 use Rattle.nit_top.specs.declared.finish.Fault.{Fault}
 use Rattle.nit_top.specs.declared.finish.Stop.{Stop}
 use Rattle.nit_top.specs.declared.finish.Worked.{Worked}
-use Rattle.nit_top.specs.Command.{Command, Still, Turns}
+use Rattle.nit_top.specs.Command.{Command, Still, Run}
 use Rattle.nit_top.specs.Setup.{AreLines, still_setup, idle_user, HaveSamePhases, IsRunnable}
 use Rattle.nit_top.specs.Judged.{IsConfig, IsConfigFault, IsClient, IsClientFault, IsInput, IsInputFault, SpellScripts, AreScripts, script_names, wanted_by, wrong_phases, wrong_input, Judged, Refused, IsValid, names_in}
 use Rattle.nit_top.specs.FilesRead.{NoFile, FirstFiles, HasRead, first_names}
 use Rattle.nit_top.specs.Lines.{name_text}
-use Rattle.nit_top.specs.Work.{asking_all, SoFar, StoppedAt, StoppedAmong, setup_of, Performed, Ends}
+use Rattle.nit_top.specs.Work.{asking_all, SoFar, StoppedAt, StoppedAmong, HasReadScripts, ReadScripts, setup_of, Performed, Ends}
 use Rattle.nit_top.proofs.Asking.{asking_none, asking_both, asking_more}
 use Rattle.nit_top.proofs.Scripts.{told_so, told_so_both, phases_are}
 use Rattle.nit_top.proofs.Ending.{stopped_ends, performed_ends}
@@ -45,9 +45,9 @@ all_phases (first ∷ rest) lines some same right =
     (sym is, all_so (λ ls. phases ls ≡ phases first) (λ ls. phases ls ≡ input_phases lines) rest (λ ls e. e ∙ sym is) same)
 
 -- the setup of a configuration
-pub turns_runnable : (config : Configuration) (scripts : List (List Line)) (lines : List InputLine) → IsConfigured config → length scripts ≡ length (script_names config) → AllByRecursion (AreLines FitsLine) scripts → HaveSamePhases scripts
-    → AreLines FitsInputLine lines → wrong_input (wanted_by scripts) lines ≡ None → IsRunnable (setup_of config scripts lines true)
-turns_runnable config scripts lines configured counted fit same input_fits right =
+pub run_runnable : (beside : Bool) (config : Configuration) (scripts : List (List Line)) (lines : List InputLine) → IsConfigured config → length scripts ≡ length (script_names config) → AllByRecursion (AreLines FitsLine) scripts → HaveSamePhases scripts
+    → AreLines FitsInputLine lines → wrong_input (wanted_by scripts) lines ≡ None → IsRunnable (setup_of config scripts lines true beside)
+run_runnable beside config scripts lines configured counted fit same input_fits right =
     let count : length scripts ≡ length config.clients = counted ∙ length-map config.clients (λ m. m.script) in
     let some : 1 ≤ length scripts = let c = configured.count.0 in omega arith in
     record { configured = configured; scripts = count; phases = all_phases scripts lines some same right; lines = fit; input_lines = input_fits }
@@ -108,16 +108,16 @@ get_behind {A = A} before x behind xs same = ap (λ (n : ℕ). slice_get (before
     at [] = refl
     at (y ∷ ys) = at ys
 
--- ---- `turns`
+-- ---- `turns` and `run`
 
-module _ (name : List ℕ) (first : Shown) where
-  abbrev turns : Command
-  turns = Turns name
+module _ (beside : Bool) (name : List ℕ) (first : Shown) where
+  abbrev run : Command
+  run = Run beside name
 
-  pub config_stopped : (new : Shown) (stop : Stop) (w : Worked) → name_text stop.name ≡ name → StoppedAt IsConfigFault first name new stop.end → w.stop ≡ stop → w.journal.items ≡ [] → Ends turns first new w
+  pub config_stopped : (new : Shown) (stop : Stop) (w : Worked) → name_text stop.name ≡ name → StoppedAt IsConfigFault first name new stop.end → w.stop ≡ stop → w.journal.items ≡ [] → Ends run first new w
   config_stopped new stop w is h at none =
-      stopped_ends turns first NoFile tt name refl IsConfigFault new
-      (λ f p. told_so (λ files. IsConfigFault (bytes_of name files) f) (λ files. Judged turns files (Refused name f)) first.files (λ files q. inl (refl, q)) p)
+      stopped_ends run first NoFile tt name refl IsConfigFault new
+      (λ f p. told_so (λ files. IsConfigFault (bytes_of name files) f) (λ files. Judged run files (Refused name f)) first.files (λ files q. inl (refl, q)) p)
       first stop w (asking_none first) is h at none
 
   module _ (config : Configuration) (configured : IsConfigured config) (is_config : IfSome first.files (λ files. IsConfig (bytes_of name files) config)) where
@@ -132,7 +132,7 @@ module _ (name : List ℕ) (first : Shown) where
 
     -- the first files were read
     first_files : (names : List (List ℕ)) (scripts : List (List Line)) → AllByRecursion (AreLines FitsLine) scripts → HaveSamePhases scripts → first_names config scripts ≡ names → IfSome first.files (λ files. AreScripts files names scripts)
-        → HasRead turns first.files (FirstFiles config scripts)
+        → HasRead run first.files (FirstFiles config scripts)
     first_files names scripts lines phases are valid = record {
       configured = configured;
       lines = lines;
@@ -140,16 +140,16 @@ module _ (name : List ℕ) (first : Shown) where
       valid = subst (λ (ns : List (List ℕ)). IfSome first.files (λ files. IsConfig (bytes_of name files) config × AreScripts files ns scripts)) (sym are) (valid_too names scripts valid);
     }
 
-    pub scripts_stopped : (old new : Shown) (stop : Stop) (w : Worked) → old ≡ asking first name → StoppedAmong old (script_names config) new stop → w.stop ≡ stop → w.journal.items ≡ [] → Ends turns first new w
+    pub scripts_stopped : (old new : Shown) (stop : Stop) (w : Worked) → old ≡ asking first name → StoppedAmong old (script_names config) new stop → w.stop ≡ stop → w.journal.items ≡ [] → Ends run first new w
     scripts_stopped old new stop w start among at none =
         let a : StoppedAmong (asking first name) (script_names config) new stop = subst (λ (s : Shown). StoppedAmong s (script_names config) new stop) start among in
         let n : List ℕ = name_text stop.name in
         let are : first_names config a.scripts ≡ a.before = ap (λ (ns : List (List ℕ)). take (length a.scripts) ns) a.parts ∙ take_front a.before (n ∷ a.behind) a.scripts a.count in
         let parts : names_in config ≡ a.before ++ (n ∷ (a.behind ++ config.input ∷ [])) = ap (λ (ns : List (List ℕ)). ns ++ config.input ∷ []) a.parts ∙ append_assoc a.before (n ∷ a.behind) (config.input ∷ []) in
-        stopped_ends turns first (FirstFiles config a.scripts) (first_files a.before a.scripts a.lines a.phases are a.valid) n
+        stopped_ends run first (FirstFiles config a.scripts) (first_files a.before a.scripts a.lines a.phases are a.valid) n
         (ap (λ (ns : List (List ℕ)). slice_get ns (length a.scripts)) parts ∙ get_behind a.before n (a.behind ++ config.input ∷ []) a.scripts a.count)
         (IsClientFault (wanted_by a.scripts)) new
-        (λ f p. told_so_both (λ files. IsConfig (bytes_of name files) config × AreScripts files a.before a.scripts) (λ files. IsClientFault (wanted_by a.scripts) (bytes_of n files) f) (λ files. Judged turns files (Refused n f)) first.files
+        (λ f p. told_so_both (λ files. IsConfig (bytes_of name files) config × AreScripts files a.before a.scripts) (λ files. IsClientFault (wanted_by a.scripts) (bytes_of n files) f) (λ files. Judged run files (Refused n f)) first.files
         (λ files v q. inr (config, v.0, inl (record { before = a.before; behind = a.behind; parts = a.parts; scripts = a.scripts; valid = v.1; fault = q })))
         (valid_too a.before a.scripts a.valid) p)
         (asking_all (asking first name) a.before) stop w (behind a.before ∙ ap (λ (ns : List (List ℕ)). asking_all first (name ∷ ns)) (sym are)) refl a.stopped at none
@@ -167,25 +167,36 @@ module _ (name : List ℕ) (first : Shown) where
       all_names : first_names config scripts ≡ script_names config
       all_names = take_all (length scripts) (script_names config) (let same = far.count in omega arith)
 
-      pub input_stopped : (new : Shown) (stop : Stop) (w : Worked) → name_text stop.name ≡ config.input → StoppedAt (IsInputFault (wanted_by scripts)) mid config.input new stop.end → w.stop ≡ stop → w.journal.items ≡ [] → Ends turns first new w
+      pub input_stopped : (new : Shown) (stop : Stop) (w : Worked) → name_text stop.name ≡ config.input → StoppedAt (IsInputFault (wanted_by scripts)) mid config.input new stop.end → w.stop ≡ stop → w.journal.items ≡ [] → Ends run first new w
       input_stopped new stop w is h at none =
-          stopped_ends turns first (FirstFiles config scripts) (first_files (script_names config) scripts far.lines far.phases all_names valid_scripts) config.input (get_behind (script_names config) config.input [] scripts far.count)
+          stopped_ends run first (FirstFiles config scripts) (first_files (script_names config) scripts far.lines far.phases all_names valid_scripts) config.input (get_behind (script_names config) config.input [] scripts far.count)
           (IsInputFault (wanted_by scripts)) new
-          (λ f p. told_so_both (λ files. IsConfig (bytes_of name files) config × AreScripts files (script_names config) scripts) (λ files. IsInputFault (wanted_by scripts) (bytes_of config.input files) f) (λ files. Judged turns files (Refused config.input f)) first.files
+          (λ f p. told_so_both (λ files. IsConfig (bytes_of name files) config × AreScripts files (script_names config) scripts) (λ files. IsInputFault (wanted_by scripts) (bytes_of config.input files) f) (λ files. Judged run files (Refused config.input f)) first.files
           (λ files v q. inr (config, v.0, inr (record { scripts = scripts; valid = v.1; name_is = refl; fault = q }))) (valid_too (script_names config) scripts valid_scripts) p)
           mid stop w (asked_now ∙ ap (λ (ns : List (List ℕ)). asking_all first (name ∷ ns)) (sym all_names)) is h at none
 
-      pub turns_ends : (now new : Shown) (lines : List InputLine) (w : Worked) → now ≡ asking mid config.input → IfSome mid.files (λ files. IsInput (wanted_by scripts) (bytes_of config.input files) lines) → IsRunnable (setup_of config scripts lines true)
-          → Performed now (setup_of config scripts lines true) new w → Ends turns first new w
-      turns_ends now new lines w read valid runnable h =
-          performed_ends turns first now new (setup_of config scripts lines true) w
+      pub run_ends : (now new : Shown) (lines : List InputLine) (w : Worked) → now ≡ asking mid config.input → IfSome mid.files (λ files. IsInput (wanted_by scripts) (bytes_of config.input files) lines) → IsRunnable (setup_of config scripts lines true beside)
+          → Performed now (setup_of config scripts lines true beside) new w → Ends run first new w
+      run_ends now new lines w read valid runnable h =
+          performed_ends run first now new (setup_of config scripts lines true beside) w
           (read ∙ ap (λ (s : Shown). asking s config.input) asked_now ∙ asking_more first (name ∷ script_names config) config.input)
           (record {
             runnable = runnable;
-            of_command = refl;
+            of_command = (refl, refl);
             valid =
-                told_so_both (λ files. IsConfig (bytes_of name files) config × AreScripts files (script_names config) scripts) (λ files. IsInput (wanted_by scripts) (bytes_of config.input files) lines) (λ files. IsValid turns files (setup_of config scripts lines true)) first.files
-                (λ files v q. (v.0, record { scripts = v.1; input = q }, refl)) (valid_too (script_names config) scripts valid_scripts)
+                told_so_both (λ files. IsConfig (bytes_of name files) config × AreScripts files (script_names config) scripts) (λ files. IsInput (wanted_by scripts) (bytes_of config.input files) lines) (λ files. IsValid run files (setup_of config scripts lines true beside)) first.files
+                (λ files v q. (v.0, record { scripts = v.1; input = q }, refl, refl)) (valid_too (script_names config) scripts valid_scripts)
                 (subst (λ (s : Shown). IfSome s.files (λ files. IsInput (wanted_by scripts) (bytes_of config.input files) lines)) asked_now valid);
           })
           h
+
+-- ---- all scripts of a configuration
+
+module _ (beside : Bool) (name : List ℕ) (first : Shown) (config : Configuration) (configured : IsConfigured config) (is_config : IfSome first.files (λ files. IsConfig (bytes_of name files) config)) (old : Shown) (start : old ≡ asking first name) where
+  pub not_read : (new : Shown) (stop : Stop) (w : Worked) → ReadScripts config old new (Err stop) → w.stop ≡ stop → w.journal.items ≡ [] → Ends (Run beside name) first new w
+  not_read new stop w (inl among) at none = scripts_stopped beside name first config configured is_config old new stop w start among at none
+  not_read new stop w (inr s) at none = input_stopped beside name first config configured is_config old s.between start s.scripts s.clients new stop w s.name_is s.stopped at none
+
+  pub all_read : (scripts : List (List Line)) (lines : List InputLine) (now new : Shown) (w : Worked) → HasReadScripts config old scripts lines now → IsRunnable (setup_of config scripts lines true beside)
+      → Performed now (setup_of config scripts lines true beside) new w → Ends (Run beside name) first new w
+  all_read scripts lines now new w h runnable performed = run_ends beside name first config configured is_config old h.between start scripts h.clients now new lines w h.asked h.valid runnable performed

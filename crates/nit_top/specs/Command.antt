@@ -1,5 +1,5 @@
 -- What the words of the command line ask for.
-use Rattle.std.specs.Prelude.{ℕ, List, [], ◌∷◌, map, find, codes, Option, Some, None, String, if◌then◌else◌}
+use Rattle.std.specs.Prelude.{ℕ, Bool, true, false, List, [], ◌∷◌, map, find, codes, Option, Some, None, String, if◌then◌else◌}
 use Rattle.std.specs.List.{range_with_len}
 use Rattle.std.specs.String.{string_bytes}
 use Rattle.std.specs.Str.{bytes_eq}
@@ -9,12 +9,18 @@ use Rattle.std.specs.Fmt.{decimal}
 abbrev pub texts : {Z : Type 0} → List (String Z) → List (List ℕ)
 texts words = map string_bytes words
 
--- a picture of one client's script, on a screen of this width and height; or the run of a configuration, by
--- turns; or nothing that the program does
+-- a picture of one client's script, on a screen of this width and height; or the run of a configuration, with its
+-- clients beside each other on threads of their own, or by turns; or nothing that the program does
 pub data Command : Type 0 where
   Still : (width : ℕ) → (height : ℕ) → (script : List ℕ) → Command
-  Turns : (configuration : List ℕ) → Command
+  Run : (beside : Bool) → (configuration : List ℕ) → Command
   NoCommand : Command
+
+-- the command starts threads
+abbrev pub starts_threads : Command → Bool
+starts_threads (Still width height script) = false
+starts_threads (Run beside configuration) = beside
+starts_threads NoCommand = false
 
 -- the number of 1 up to most that a word spells in decimal
 unfoldable pub size_of : ℕ → List ℕ → Option ℕ
@@ -25,9 +31,14 @@ still (Some width) (Some height) script = Still width height script
 still (Some width) None script = NoCommand
 still None height script = NoCommand
 
--- `turns` and the name of a configuration; or `still`, a width of 1 up to 1024, a height of 1 up to 768, and the
--- name of a script
+-- `turns` or `run`, and the name of a configuration
+abbrev pub run_of : List ℕ → List ℕ → Command
+run_of verb configuration =
+    if bytes_eq verb (codes "turns") then Run false configuration
+    else (if bytes_eq verb (codes "run") then Run true configuration else NoCommand)
+
+-- one of those; or `still`, a width of 1 up to 1024, a height of 1 up to 768, and the name of a script
 abbrev pub command : List (List ℕ) → Command
-command (verb ∷ configuration ∷ []) = if bytes_eq verb (codes "turns") then Turns configuration else NoCommand
+command (verb ∷ configuration ∷ []) = run_of verb configuration
 command (verb ∷ width ∷ height ∷ script ∷ []) = if bytes_eq verb (codes "still") then still (size_of 1024 width) (size_of 768 height) script else NoCommand
 command words = NoCommand

@@ -6,7 +6,7 @@ use Rattle.nit_config.specs.Configured.{IsConfigured}
 use Rattle.nit_script.specs.declared.line.Line.{Line}
 use Rattle.nit_script.specs.Spelling.{FitsLine}
 use Rattle.nit_store.specs.Shown.{File, bytes_of}
-use Rattle.nit_top.specs.Command.{Command, Still, Turns, NoCommand}
+use Rattle.nit_top.specs.Command.{Command, Still, Run, NoCommand}
 use Rattle.nit_top.specs.Setup.{Setup, AreLines, HaveSamePhases, IsRunnable, still_setup}
 use Rattle.nit_top.specs.Judged.{IsConfig, AreScripts, IsValid, names_in, reads, script_names}
 
@@ -25,7 +25,7 @@ first_names config scripts = take (length scripts) (script_names config)
 abbrev pub names_read : Command → FilesRead → List (List ℕ)
 names_read c NoFile = []
 names_read (Still width height script) (FirstFiles config scripts) = []
-names_read (Turns configuration) (FirstFiles config scripts) =
+names_read (Run beside configuration) (FirstFiles config scripts) =
     configuration ∷ first_names config scripts
 names_read NoCommand (FirstFiles config scripts) = []
 names_read c (AllFiles s) = reads c s.config
@@ -33,7 +33,7 @@ names_read c (AllFiles s) = reads c s.config
 -- the name of the file that the command reads next
 abbrev pub next_name : Command → FilesRead → Option (List ℕ)
 next_name (Still width height script) NoFile = Some script
-next_name (Turns configuration) NoFile = Some configuration
+next_name (Run beside configuration) NoFile = Some configuration
 next_name NoCommand NoFile = None
 next_name c (FirstFiles config scripts) = slice_get (names_in config) (length scripts)
 next_name c (AllFiles s) = None
@@ -51,11 +51,11 @@ pub record AreFirstFiles (configuration : List ℕ) (told : Option (List File)) 
   pub valid : IfSome told (λ files. IsConfig (bytes_of configuration files) config
       × AreScripts files (first_names config scripts) scripts)
 
--- for `still` the setup is that of a picture of this size, whatever the script; for `turns` it has
--- texts
+-- for `still` the setup is that of a picture of this size, whatever the script; for `turns` and `run`
+-- it has texts, and its clients are beside each other for `run` alone
 abbrev pub IsSetupOf : Command → Setup → Type 0
 IsSetupOf (Still width height script) s = (lines : List Line) × (s ≡ still_setup width height lines)
-IsSetupOf (Turns configuration) s = s.texts ≡ true
+IsSetupOf (Run beside configuration) s = (s.texts ≡ true) × (s.beside ≡ beside)
 IsSetupOf NoCommand s = ⊥
 
 -- The setup can be run, and is one of the command. Where the store tells its files, it is what these
@@ -69,7 +69,7 @@ pub record AreAllFiles (c : Command) (told : Option (List File)) (s : Setup) : T
 abbrev pub HasRead : Command → Option (List File) → FilesRead → Type 0
 HasRead c told NoFile = Unit {0}
 HasRead (Still width height script) told (FirstFiles config scripts) = ⊥
-HasRead (Turns configuration) told (FirstFiles config scripts) =
+HasRead (Run beside configuration) told (FirstFiles config scripts) =
     AreFirstFiles configuration told config scripts
 HasRead NoCommand told (FirstFiles config scripts) = ⊥
 HasRead c told (AllFiles s) = AreAllFiles c told s

@@ -1,5 +1,5 @@
 -- The headline: what a run promises of its journal and of its pictures.
-use Rattle.std.specs.Prelude.{◌≡◌, ◌⊎◌, ℕ, ◌+◌, ◌<◌, true, List, [], ◌∷◌, ◌++◌, length, slice_index, All, Contains, Option, Some, None, option_map, if◌then◌else◌}
+use Rattle.std.specs.Prelude.{◌≡◌, ◌⊎◌, ℕ, ◌+◌, ◌<◌, Bool, true, false, List, [], ◌∷◌, ◌++◌, length, slice_index, All, Contains, Option, Some, None, option_map, if◌then◌else◌}
 use Rattle.nit_events.specs.declared.call.Call.{Call}
 use Rattle.nit_events.specs.declared.call.Call.TheVariants.{Close}
 use Rattle.nit_events.specs.declared.call.Reply.{Reply}
@@ -33,6 +33,7 @@ use Rattle.nit_report.specs.EventsText.{events_text}
 use Rattle.nit_report.specs.JournalText.{ReadsJournal, journal_text}
 use Rattle.nit_store.specs.Shown.{File}
 use Rattle.nit_plan.specs.Sessions.{script_in}
+use Rattle.nit_hall.specs.Near.{IsNear}
 use Rattle.nit_actor.specs.Running.{shot_name}
 use Rattle.nit_actor.specs.Shots.{drawn_by_shot}
 use Rattle.nit_top.specs.Setup.{Setup}
@@ -120,10 +121,17 @@ HasPicture config files name s MayHold =
     (words : List ℕ) × Contains files (name, picture config.width config.height words)
     × ShowsBy s MayHold words
 
--- the word that a pixel holds when a shot is taken behind these entries: the one that the rounds have
--- drawn there by then
+-- A word that a pixel may hold when a shot is taken behind these entries. By rounds it is the one that
+-- the rounds have drawn there by then. Beside each other it is one that the entries allow: where the last
+-- entry that made the pixel dirty is a call of the session whose word it shows, the one that the session's
+-- script had left there with that call; and else 0 or a colour of its script.
+abbrev pub HoldsByWay : Bool → Setup → List Entry → ℕ → ℕ → Type 0
+HoldsByWay false s before k w =
+    w ≡ (drawn_by_shot s.config s.scripts s.input (shots before)).word k
+HoldsByWay true s before k w = IsNear s.config s.scripts before k w
+
 abbrev pub HoldsAtShot : Setup → List Entry → ℕ → ℕ → Type 0
-HoldsAtShot s before k w = w ≡ (drawn_by_shot s.config s.scripts s.input (shots before)).word k
+HoldsAtShot s before k w = HoldsByWay s.beside s before k w
 
 -- the word that a pixel holds in the last picture: that of the bare screen, 0, or the one that the
 -- script of its session leaves at its source
@@ -146,7 +154,8 @@ pub record AreTexts (config : Configuration) (journal : List Entry) (outputs : L
 -- ---- all
 
 pub record Headline (s : Setup) (journal : List Entry) (outputs : List File) : Type 0 where
-  -- there is one journal: it is legal, whole for the scripts, and has the order of the rounds
+  -- there is one journal: it is legal, whole for the scripts, and where the clients are not beside each
+  -- other it has the order of the rounds
   pub one_journal : IsJournal s journal
   -- each client is served as if it were alone
   pub clients : (sid : ℕ) → sid < length s.config.clients
@@ -166,6 +175,6 @@ pub record Headline (s : Setup) (journal : List Entry) (outputs : List File) : T
   pub texts : s.texts ≡ true → AreTexts s.config journal outputs
   -- there is no other file
   pub count : length outputs ≡ shots journal + 1 + (if s.texts then length s.config.clients + 1 else 0)
-  -- the configuration and the scripts alone determine the journal and the files
-  pub only : (other : List Entry) (files : List File) → IsJournal s other → AreOutputs s other files
-      → (other ≡ journal) × (files ≡ outputs)
+  -- by rounds the configuration and the scripts alone determine the journal and the files
+  pub only : s.beside ≡ false → (other : List Entry) (files : List File)
+      → IsJournal s other → AreOutputs s other files → (other ≡ journal) × (files ≡ outputs)

@@ -12,7 +12,7 @@ use Rattle.nit_script.specs.Phases.{phases, input_phases}
 use Rattle.nit_store.specs.Shown.{File, bytes_of}
 use Rattle.nit_top.specs.declared.finish.Fault.{Fault}
 use Rattle.nit_top.specs.declared.finish.Fault.TheVariants as fault
-use Rattle.nit_top.specs.Command.{Command, Still, Turns, NoCommand}
+use Rattle.nit_top.specs.Command.{Command, Still, Run, NoCommand}
 use Rattle.nit_top.specs.Setup.{Setup, still_setup, HaveSamePhases}
 
 -- ---- a configuration
@@ -120,8 +120,9 @@ pub data Judgement : Type 0 where
 abbrev pub Judged : Command → List File → Judgement → Type 0
 Judged (Still width height script) files (Valid s) = (lines : List Line) × IsClient None (bytes_of script files) lines × (s ≡ still_setup width height lines)
 Judged (Still width height script) files (Refused name f) = (name ≡ script) × IsClientFault None (bytes_of script files) f
-Judged (Turns configuration) files (Valid s) = IsConfig (bytes_of configuration files) s.config × AreRead files s × (s.texts ≡ true)
-Judged (Turns configuration) files (Refused name f) =
+Judged (Run beside configuration) files (Valid s) =
+    IsConfig (bytes_of configuration files) s.config × AreRead files s × (s.texts ≡ true) × (s.beside ≡ beside)
+Judged (Run beside configuration) files (Refused name f) =
     ((name ≡ configuration) × IsConfigFault (bytes_of configuration files) f)
     ⊎ ((config : Configuration) × IsConfig (bytes_of configuration files) config × (IsFirstFault files (script_names config) name f ⊎ IsInputsFault files config name f))
 Judged NoCommand files j = ⊥
@@ -150,5 +151,5 @@ names_in config = script_names config ++ config.input ∷ []
 -- the names that a command reads, in order, where its configuration is this one
 abbrev pub reads : Command → Configuration → List (List ℕ)
 reads (Still width height script) config = script ∷ []
-reads (Turns configuration) config = configuration ∷ names_in config
+reads (Run beside configuration) config = configuration ∷ names_in config
 reads NoCommand config = []

@@ -21,12 +21,15 @@ pub use Rattle.nit_actor.specs.Done
 pub use Rattle.nit_actor.specs.Running
 pub use Rattle.nit_actor.specs.Drawn
 pub use Rattle.nit_actor.specs.Shots
+pub use Rattle.nit_actor.specs.Pictures
+pub use Rattle.nit_hall.specs.Near
 pub mod Command
 pub mod Asked
 pub mod Setup
 pub mod Judged
 pub mod Outputs
 pub mod Opened
+pub mod Besides
 pub mod Lines
 pub mod Saying
 pub mod Headline

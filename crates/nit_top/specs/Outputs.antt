@@ -1,5 +1,5 @@
 -- What a run puts, and what its journal is.
-use Rattle.std.specs.Prelude.{◌≡◌, ℕ, ◌<◌, List, [], ◌∷◌, ◌++◌, length, map, codes, Some, if◌then◌else◌}
+use Rattle.std.specs.Prelude.{◌≡◌, ℕ, ◌<◌, true, false, List, [], ◌∷◌, ◌++◌, length, map, codes, Some, if◌then◌else◌}
 use Rattle.std.specs.List.{range_with_len}
 use Rattle.nit_word.specs.Sight.{Sight}
 use Rattle.nit_events.specs.declared.entry.Entry.{Entry}
@@ -20,6 +20,7 @@ use Rattle.nit_report.specs.JournalText.{journal_text}
 use Rattle.nit_store.specs.Shown.{File}
 use Rattle.nit_actor.specs.Done.{AreRoundsOf}
 use Rattle.nit_actor.specs.Drawn.{picture_of, shots_of, word_from, words_of}
+use Rattle.nit_actor.specs.Pictures.{AreNearShots}
 use Rattle.nit_top.specs.Setup.{Setup}
 
 -- the entries are, in order, those of the rounds of the scripts, and then the last picture
@@ -28,12 +29,12 @@ IsByRounds s journal =
     (entries : List Entry) × AreRoundsOf entries s.scripts s.input
     × (journal ≡ entries ++ entry.Final ∷ [])
 
--- The journal of a run is legal, whole for the clients' scripts and the input script, and by
--- rounds.
+-- The journal of a run is legal, and whole for the clients' scripts and the input script. Where the
+-- clients are not beside each other it is by rounds.
 pub record IsJournal (s : Setup) (journal : List Entry) : Type 0 where
   pub legal : IsLegal s.config journal
   pub whole : IsWhole (map calls_to_make s.scripts) (deeds_to_do s.input) journal
-  pub rounds : IsByRounds s journal
+  pub rounds : s.beside ≡ false → IsByRounds s journal
 
 -- ---- the last picture
 
@@ -100,9 +101,16 @@ text_files s journal =
 
 -- ---- the files
 
+-- The files of the shots. By rounds they are those that the configuration and the scripts alone draw.
+-- Beside each other, each shows the state that the entries before its shot lead to, by words that its
+-- pixels may hold then.
+pub record AreShots (s : Setup) (journal : List Entry) (files : List File) : Type 0 where
+  pub by_rounds : s.beside ≡ false → files ≡ shots_of s.config s.scripts s.input
+  pub beside : s.beside ≡ true → AreNearShots s.config s.scripts journal files
+
 -- The files that a run puts, in order: one for each shot, shot-1.ppm and so on, then final.ppm, and
--- then the texts. The shots are those that the configuration and the scripts alone draw.
+-- then the texts.
 abbrev pub AreOutputs : Setup → List Entry → List File → Type 0
 AreOutputs s journal files =
-    files ≡ shots_of s.config s.scripts s.input
-    ++ (final_name, final_picture s journal) ∷ text_files s journal
+    (shots : List File) × AreShots s journal shots
+    × (files ≡ shots ++ (final_name, final_picture s journal) ∷ text_files s journal)

@@ -9,25 +9,28 @@ use Rattle.nit_script.specs.declared.line.InputLine.TheVariants as input
 use Rattle.nit_script.specs.Phases.{is_phase, phases, input_phases}
 use Rattle.nit_script.specs.Spelling.{FitsLine, FitsInputLine}
 
--- the configuration, the clients' scripts in its order, and the input script; and whether the texts
--- of the events and of the journal are put behind the pictures
+-- The configuration, the clients' scripts in its order, and the input script. Texts: those of the events
+-- and of the journal are put behind the pictures. Beside: the clients run beside each other, each on a
+-- thread of its own; else all run by rounds, on one thread.
 pub record Setup : Type 0 where
   pub config : Configuration
   pub scripts : List (List Line)
   pub input : List InputLine
   pub texts : Bool
+  pub beside : Bool
 
 -- a user who does nothing: one line `phase` for each line `phase` of a client's script
 abbrev pub idle_user : List Line → List InputLine
 idle_user lines = replicate (count_by is_phase lines) input.Phase
 
--- the setup of a picture of one client's script, without texts
+-- the setup of a picture of one client's script, by rounds and without texts
 abbrev pub still_setup : ℕ → ℕ → List Line → Setup
 still_setup width height lines = record {
   config = still_configuration width height;
   scripts = lines ∷ [];
   input = idle_user lines;
   texts = false;
+  beside = false;
 }
 
 -- all scripts have as many phases as the first

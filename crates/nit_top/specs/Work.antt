@@ -27,7 +27,8 @@ use Rattle.nit_top.specs.declared.finish.Worked.{Worked}
 use Rattle.nit_top.specs.declared.run.PutFault.{PutFault}
 use Rattle.nit_top.specs.declared.run.Ran.{Ran}
 use Rattle.nit_top.specs.Command.{Command}
-use Rattle.nit_top.specs.Judged.{SpellScripts, wanted_by, IsClientFault, AreScripts}
+use Rattle.nit_top.specs.declared.perform.Scripts.{Scripts}
+use Rattle.nit_top.specs.Judged.{SpellScripts, wanted_by, script_names, IsClientFault, IsInput, IsInputFault, AreScripts}
 use Rattle.nit_top.specs.Setup.{Setup, AreLines, HaveSamePhases}
 use Rattle.nit_top.specs.Outputs.{IsJournal, AreOutputs}
 use Rattle.nit_top.specs.Headline.{Headline}
@@ -101,11 +102,34 @@ abbrev pub LoadedAll : Shown → List (List ℕ) → Shown → Result (Vec (List
 LoadedAll old names new (Ok scripts) = SoFar old names scripts.items new
 LoadedAll old names new (Err stop) = StoppedAmong old names new stop
 
+-- ---- all scripts of a configuration
+
+-- The scripts of the clients were read, and then the input script, and all are valid.
+pub record HasReadScripts (config : Configuration) (old : Shown) (scripts : List (List Line)) (input : List InputLine) (now : Shown) : Type 0 where
+  pub between : Shown
+  pub clients : SoFar old (script_names config) scripts between
+  pub asked : now ≡ asking between config.input
+  pub valid : IfSome between.files (λ files. IsInput (wanted_by scripts) (bytes_of config.input files) input)
+
+-- The scripts of the clients are valid. The input script was not read or is refused, or memory ran out there.
+pub record StoppedAtInput (config : Configuration) (old new : Shown) (stop : Stop) : Type 0 where
+  pub scripts : List (List Line)
+  pub between : Shown
+  pub clients : SoFar old (script_names config) scripts between
+  pub name_is : name_text stop.name ≡ config.input
+  pub stopped : StoppedAt (IsInputFault (wanted_by scripts)) between config.input new stop.end
+
+-- the scripts of a configuration were read and judged, in order
+abbrev pub ReadScripts : Configuration → Shown → Shown → Result Scripts Stop → Type 0
+ReadScripts config old new (Ok s) = HasReadScripts config old s.clients.items s.input new
+ReadScripts config old new (Err stop) = StoppedAmong old (script_names config) new stop ⊎ StoppedAtInput config old new stop
+
 -- ---- the run
 
--- the setup of a run, with texts or without
-abbrev pub setup_of : Configuration → List (List Line) → List InputLine → Bool → Setup
-setup_of config scripts input texts = record { config = config; scripts = scripts; input = input; texts = texts }
+-- the setup of a run, with texts or without, and with its clients beside each other or by rounds
+abbrev pub setup_of : Configuration → List (List Line) → List InputLine → Bool → Bool → Setup
+setup_of config scripts input texts beside =
+    record { config = config; scripts = scripts; input = input; texts = texts; beside = beside }
 
 -- the put that was refused
 abbrev pub refusal_of : PutFault → Refusal

@@ -4,22 +4,27 @@
 //! |---|---|
 //! | `still W H SCRIPT` | the run of one client's script, whose user does nothing, on a screen of W by H |
 //! | `turns CONFIG` | the run of a configuration's clients and its input script, all by turns |
+//! | `run CONFIG` | the same, with each client on a thread of its own |
 //!
-//! Either way the work is: read the files and judge them one by one; take all memory of the rounds; run,
+//! In each case the work is: read the files and judge them one by one; take all memory of the run; run,
 //! and put the files; say how it went. What a run is made of, its configuration and its scripts, is called
 //! its setup.
 //!
-//! A run goes by rounds on one scene, on the calling thread. It puts the picture of each shot as
-//! `shot-1.ppm` and so on, and then `final.ppm`, in which each client's words are those that its script
-//! leaves. `turns` puts texts behind them: `events-LABEL.txt` for each client, and `journal.txt`. After a
-//! put that was refused no other is tried, and the run goes on to its end.
+//! `still` and `turns` go by rounds on one scene, on the calling thread. `run` opens a hall, in which the
+//! clients' calls are served one at a time, and each client draws on words of its own without a lock; the user
+//! is on the calling thread. The files are the same: the picture of each shot as `shot-1.ppm` and so on, and
+//! then `final.ppm`, in which each client's words are those that its script leaves. `turns` and `run` put texts
+//! behind them: `events-LABEL.txt` for each client, and `journal.txt`. After a put that was refused no other
+//! is tried, and the run goes on to its end.
 #![tactic(auto)]
 
+mod beside;
 mod desk;
 mod finish;
 mod last;
 pub mod laws;
 mod load;
+mod memory;
 mod opening;
 mod perform;
 mod run;
@@ -30,4 +35,4 @@ mod user;
 mod words;
 
 pub use finish::Done;
-pub use top::{nitpicker, nitpicker_alone};
+pub use top::{nitpicker, nitpicker_alone, starts_threads};

@@ -1,8 +1,10 @@
 //! The memory of a run, all of which is taken before its first round.
 
-ghost use Rattle.std.specs.Prelude.{◌≡◌, ◌+◌, ◌*◌, ◌<◌, ◌≤◌, IfOk, length, map, sum};
+ghost use Rattle.std.specs.Prelude.{◌≡◌, ◌+◌, ◌*◌, ◌<◌, ◌≤◌, All, IfOk, length, map, sum};
+ghost use Rattle.nit_word.specs.Inks.{IsWord};
 ghost use Rattle.nit_config.specs.Configured.{IsConfigured};
 ghost use Rattle.nit_slots.specs.Account.{IsDonation};
+ghost use Rattle.nit_plan.specs.Plans.{table_size};
 ghost use Rattle.nit_report.specs.Picture.{picture_length};
 ghost use Rattle.nit_actor.specs.Running.{glass_after};
 ghost use Rattle.nit_top.specs.Opened.{IsOpened, glasses_of, plans_of};
@@ -63,11 +65,12 @@ pub fn open(
     })
 }
 
-/// The plan of each client's script.
-fn plans_of(alloc: Global, config: &Config, scripts: &[Client]) -> Result<Vec<Plan>, NoMemory>
+/// The plan of each client's script. Its ink is of words below 2^24.
+pub fn plans_of(alloc: Global, config: &Config, scripts: &[Client]) -> Result<Vec<Plan>, NoMemory>
     requires configured { IsConfigured config.now }
     requires each { length scripts.now ≡ length config.now.clients }
-    ensures { IfOk result (λ v. v.items ≡ plans_of config.now scripts.now) }
+    ensures plans { IfOk result (λ v. v.items ≡ plans_of config.now scripts.now) }
+    ensures words { IfOk result (λ v. All (λ p. All IsWord p.ink) v.items) }
 {
     let clients = config.clients.as_slice();
     let mut plans = Vec::new(alloc);
@@ -99,7 +102,16 @@ fn glass(alloc: Global, sid: u32, script: &Client, donation: u32) -> Result<Inke
 {
     one_more_line();
     let ink = ink_of(alloc, script.lines())?;
-    Ok(Inked::blank(alloc, sid, (room(donation) / WORD_UNITS) as usize, ink)?)
+    Ok(Inked::blank(alloc, sid, table_words(donation) as usize, ink)?)
+}
+
+/// How many words the table of a session has that opens with this donation.
+pub fn table_words(donation: u32) -> u32
+    requires { IsDonation donation }
+    ensures size { result ≡ table_size donation }
+    ensures range { (1 ≤ result) × (result ≤ 1048576) }
+{
+    room(donation) / WORD_UNITS
 }
 
 /// How many lines all scripts have.
@@ -116,7 +128,7 @@ fn line_count(scripts: &[Client], input: &Input) -> usize
 }
 
 /// A word for each pixel of the screen.
-fn blank_frame(alloc: Global, config: &Config) -> Result<Vec<u32>, NoMemory>
+pub fn blank_frame(alloc: Global, config: &Config) -> Result<Vec<u32>, NoMemory>
     requires { IsConfigured config.now }
     ensures { IfOk result (λ v. length v.items ≡ config.now.width * config.now.height) }
 {
@@ -125,7 +137,7 @@ fn blank_frame(alloc: Global, config: &Config) -> Result<Vec<u32>, NoMemory>
 }
 
 /// A byte for each of a picture of the screen.
-fn blank_text(alloc: Global, config: &Config) -> Result<Vec<u8>, NoMemory>
+pub fn blank_text(alloc: Global, config: &Config) -> Result<Vec<u8>, NoMemory>
     requires { IsConfigured config.now }
     ensures { IfOk result (λ v. length v.items ≡ picture_length config.now.width config.now.height) }
 {

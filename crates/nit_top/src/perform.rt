@@ -1,25 +1,29 @@
 //! The work of a command: what is to be run, the run, and how it came to its end.
 
-ghost use Rattle.std.specs.Prelude.{◌≡◌, ◌<◌, ◌≤◌, ◌∷◌, [], ℕ, List, IfOk, IfSome};
+ghost use Rattle.std.specs.Prelude.{false, true, Bool, ◌≡◌, ◌<◌, ◌≤◌, ◌∷◌, [], ℕ, List, IfOk, IfSome};
 ghost use Rattle.nit_config.specs.Configuration.{still_configuration};
 ghost use Rattle.nit_config.specs.Configured.{IsConfigured};
 ghost use Rattle.nit_store.specs.Shown.{Shown, bytes_of, asking};
 ghost use Rattle.nit_top.specs.Judged.{IsConfig};
-ghost use Rattle.nit_top.specs.Command.{Still, Turns};
+ghost use Rattle.nit_top.specs.Command.{Run, Still};
 ghost use Rattle.nit_top.specs.Setup.{IsRunnable};
-ghost use Rattle.nit_top.specs.Work.{Ends, Performed, setup_of, end_of};
+ghost use Rattle.nit_top.specs.Work.{Ends, Performed, ReadScripts, setup_of, end_of};
 
+use crate::beside::run_beside;
 use crate::finish::{End, Name, Stop, Worked, at, unbegun};
 use crate::laws::headline;
 use crate::load::{load_client, load_input, load_scripts, wanted_by};
-use crate::run::{PutFault, run};
+use crate::run::{PutFault, Ran, run};
 use crate::user::idle_user;
+use nit_actor::Gate;
 use nit_config::{Config, FileName, Member};
 use nit_glyph::Label;
 use nit_rect::NoMemory;
 use nit_script::{Client, Input};
 use nit_store::{PutError, Store};
 use std::alloc::Global;
+use std::sync::Wait;
+use std::thread::Threads;
 
 /// Makes the picture of the script of this name.
 pub fn still<'a, S: Store>(
@@ -76,25 +80,69 @@ fn still_member(alloc: Global) -> Result<Member, NoMemory>
     })
 }
 
-/// Runs the scripts of a configuration.
+/// Runs the scripts of a configuration by turns.
 pub fn turns<'a, S: Store>(alloc: Global, store: &mut S, config: &'a Config) -> Worked<'a>
     requires { IsConfigured config.now }
     ensures { (name : List ℕ) → (first : Shown) → (S.shown store.old) ≡ asking first name
         → IfSome first.files (λ files. IsConfig (bytes_of name files) config.entry.now)
-        → Ends (Turns name) first (S.shown store.new) result }
+        → Ends (Run false name) first (S.shown store.new) result }
 {
-    let scripts = match load_scripts(alloc, store, &config.clients) {
+    let scripts = match read_scripts(alloc, store, config) {
         Ok(scripts) => scripts,
         Err(stop) => return unbegun(alloc, stop),
     };
-    let input = match load_input(alloc, store, config.input.as_str(), wanted_by(&scripts)) {
-        Ok(input) => input,
-        Err(stop) => return unbegun(alloc, stop),
-    };
-    perform(alloc, store, config, &scripts, &input, true)
+    perform(alloc, store, config, &scripts.clients, &scripts.input, true)
 }
 
-/// Runs a setup, with texts or without. A run that is not begun leaves everything.
+/// Runs the scripts of a configuration with each client on a thread of its own.
+pub fn beside<'a, R: Threads + Wait + Sync, S: Store, G: Gate>(
+    rt: &R,
+    alloc: Global,
+    store: &mut S,
+    config: &'a Config,
+    gate: &G,
+) -> Worked<'a>
+    requires { IsConfigured config.now }
+    ensures { (name : List ℕ) → (first : Shown) → (S.shown store.old) ≡ asking first name
+        → IfSome first.files (λ files. IsConfig (bytes_of name files) config.entry.now)
+        → Ends (Run true name) first (S.shown store.new) result }
+{
+    let scripts = match read_scripts(alloc, store, config) {
+        Ok(scripts) => scripts,
+        Err(stop) => return unbegun(alloc, stop),
+    };
+    perform_beside(rt, alloc, store, config, &scripts, gate)
+}
+
+/// The scripts of a configuration's clients, in its order, and its input script.
+#[derive(Drop)]
+struct Scripts {
+    clients: Vec<Client>,
+    input: Input,
+}
+
+/// Reads the scripts of a configuration, and judges each as it is read.
+fn read_scripts<'a, S: Store>(
+    alloc: Global,
+    store: &mut S,
+    config: &'a Config,
+) -> Result<Scripts, Stop<'a>>
+    requires { IsConfigured config.now }
+    ensures read { ReadScripts config.entry.now (S.shown store.old) (S.shown store.new) result }
+    ensures runnable { IfOk result (λ s. (beside : Bool)
+        → IsRunnable (setup_of config.entry.now s.clients.items s.input true beside)) }
+{
+    let clients = match load_scripts(alloc, store, &config.clients) {
+        Ok(clients) => clients,
+        Err(stop) => return Err(stop),
+    };
+    match load_input(alloc, store, config.input.as_str(), wanted_by(&clients)) {
+        Ok(input) => Ok(Scripts { clients, input }),
+        Err(stop) => Err(stop),
+    }
+}
+
+/// Runs a setup by rounds, with texts or without. A run that is not begun leaves everything.
 fn perform<'a, S: Store>(
     alloc: Global,
     store: &mut S,
@@ -103,18 +151,52 @@ fn perform<'a, S: Store>(
     input: &Input,
     texts: bool,
 ) -> Worked<'a>
-    requires { IsRunnable (setup_of config.now scripts.now input.now texts) }
-    ensures { Performed (S.shown store.old) (setup_of config.now scripts.now input.now texts)
+    requires { IsRunnable (setup_of config.now scripts.now input.now texts false) }
+    ensures { Performed (S.shown store.old) (setup_of config.now scripts.now input.now texts false)
         (S.shown store.new) result }
 {
     headline();
     let Ok(ran) = run(alloc, config, scripts, input, texts, store) else {
         return unbegun(alloc, at(End::NoMemory, ""));
     };
+    worked_by(ran, scripts.len())
+}
+
+/// Runs a setup with texts, each client on a thread of its own. A run that is not begun leaves
+/// everything.
+fn perform_beside<'a, R: Threads + Wait + Sync, S: Store, G: Gate>(
+    rt: &R,
+    alloc: Global,
+    store: &mut S,
+    config: &Config,
+    scripts: &Scripts,
+    gate: &G,
+) -> Worked<'a>
+    requires { IsRunnable (setup_of config.now scripts.now.clients.items scripts.now.input true true) }
+    ensures { Performed (S.shown store.old)
+        (setup_of config.now scripts.now.clients.items scripts.now.input true true)
+        (S.shown store.new) result }
+{
+    headline();
+    let clients = scripts.clients.as_slice();
+    let Ok(ran) = run_beside(rt, alloc, gate, config, clients, &scripts.input, store) else {
+        return unbegun(alloc, at(End::NoMemory, ""));
+    };
+    worked_by(ran, clients.len())
+}
+
+/// What the work leaves after a run of so many clients.
+fn worked_by<'a>(ran: Ran, clients: usize) -> Worked<'a>
+    ensures end { result.stop.end ≡ end_of ran.fault }
+    ensures name { IfSome ran.fault (λ f. result.stop.name ≡ Name.Put f.file) }
+    ensures journal { result.journal.items ≡ ran.journal.items }
+    ensures clients { result.clients ≡ clients }
+    ensures frames { result.frames ≡ ran.frames }
+{
     Worked {
         stop: stop_after(ran.fault),
         journal: ran.journal,
-        clients: scripts.len(),
+        clients,
         frames: ran.frames,
     }
 }

@@ -1,6 +1,6 @@
 //! The run of a setup.
 
-ghost use Rattle.std.specs.Prelude.{◌≡◌, ◌+◌, ◌≤◌, ◌++◌, ◌∷◌, [], length};
+ghost use Rattle.std.specs.Prelude.{false, ◌≡◌, ◌+◌, ◌≤◌, ◌++◌, ◌∷◌, [], length};
 ghost use Rattle.nit_journal.specs.Journals.{shots};
 ghost use Rattle.nit_store.specs.Puts.{PutsAll};
 ghost use Rattle.nit_top.specs.Opened.{IsOpened};
@@ -24,7 +24,7 @@ use nit_scene::Scene;
 use nit_script::{Client, Input};
 use nit_store::laws::puts_go_on;
 use nit_store::{PutError, Store};
-use nit_word::Inked;
+use nit_word::Glass;
 use std::alloc::Global;
 
 /// A put that was refused.
@@ -56,8 +56,8 @@ pub fn run<S: Store>(
     texts: bool,
     store: &mut S,
 ) -> Result<Ran, NoMemory>
-    requires { IsRunnable (setup_of config.now scripts.now input.now texts) }
-    ensures { Runs (S.shown store.old) (setup_of config.now scripts.now input.now texts)
+    requires { IsRunnable (setup_of config.now scripts.now input.now texts false) }
+    ensures { Runs (S.shown store.old) (setup_of config.now scripts.now input.now texts false)
         (S.shown store.new) result }
 {
     let Ok(opened) = open(alloc, config, scripts, input) else {
@@ -77,9 +77,9 @@ fn play<S: Store>(
     texts: bool,
     store: &mut S,
 ) -> Ran
-    requires runnable { IsRunnable (setup_of config.now scripts.now input.now texts) }
+    requires runnable { IsRunnable (setup_of config.now scripts.now input.now texts false) }
     requires opened { IsOpened config.now scripts.now input.now opened }
-    ensures { HasRun (S.shown store.old) (setup_of config.now scripts.now input.now texts)
+    ensures { HasRun (S.shown store.old) (setup_of config.now scripts.now input.now texts false)
         (S.shown store.new) result }
 {
     rounds_are_whole();
@@ -119,12 +119,12 @@ fn play<S: Store>(
 }
 
 /// What a run leaves that ended with this scene, and puts its texts.
-fn leave_texts<S: Store>(
+pub fn leave_texts<S: Store, G: Glass + Drop>(
     alloc: Global,
     store: &mut S,
     fault: Option<PutFault>,
     clients: &[Member],
-    scene: Scene<Inked>,
+    scene: Scene<G>,
 ) -> Ran
     requires { clients.now ≡ scene.config.clients }
     ensures journal { result.journal.items ≡ scene.entries }

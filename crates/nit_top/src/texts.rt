@@ -19,7 +19,7 @@ use nit_report::write::text;
 use nit_report::{Ending, events_text, journal_text};
 use nit_scene::Scene;
 use nit_store::{PutError, Store};
-use nit_word::Inked;
+use nit_word::Glass;
 use std::alloc::Global;
 
 /// The most bytes that the name of a client's events has.
@@ -27,12 +27,12 @@ const NAME_BYTES: usize = 31;
 
 /// Puts the events of each client of the scene, in order, until a put is refused. Gives that put, if there
 /// is one. Want of memory for a text counts as a put that is refused.
-pub fn put_events<S: Store>(
+pub fn put_events<S: Store, G: Glass + Drop>(
     alloc: Global,
     store: &mut S,
     fault: Option<PutFault>,
     clients: &[Member],
-    scene: &Scene<Inked>,
+    scene: &Scene<G>,
 ) -> Option<PutFault>
     requires { clients.now ≡ scene.now.config.clients }
     ensures { PutsAll (events_files scene.now.config scene.now.entries)
@@ -48,12 +48,12 @@ pub fn put_events<S: Store>(
 }
 
 /// Puts the events of one client, which has this label, unless a put was refused before.
-fn put_events_of<S: Store>(
+fn put_events_of<S: Store, G: Glass + Drop>(
     alloc: Global,
     store: &mut S,
     fault: Option<PutFault>,
     label: &Label,
-    scene: &Scene<Inked>,
+    scene: &Scene<G>,
     sid: u32,
 ) -> Option<PutFault>
     requires { sid < length scene.now.config.clients }
@@ -72,7 +72,7 @@ fn put_events_of<S: Store>(
 }
 
 /// How the session `sid` has ended, or stands.
-fn ending(scene: &Scene<Inked>, sid: u32) -> Ending
+fn ending<G: Glass + Drop>(scene: &Scene<G>, sid: u32) -> Ending
     requires { sid < length scene.now.config.clients }
     ensures { result ≡ ending_of (session (state_now scene.now) sid) }
 {

@@ -1,7 +1,7 @@
 //! The top call.
 
-ghost use Rattle.std.specs.Prelude.{◌≡◌};
-ghost use Rattle.nit_top.specs.Command.{Turns, command, texts};
+ghost use Rattle.std.specs.Prelude.{false, true, ◌≡◌};
+ghost use Rattle.nit_top.specs.Command.{Run, command, starts_threads, texts};
 ghost use Rattle.nit_top.specs.Answer.{Answer};
 ghost use Rattle.nit_top.specs.Ended.{Ended, Finished};
 
@@ -17,28 +17,41 @@ use std::sync::Wait;
 use std::thread::Threads;
 
 /// Does what the words of the command line ask for, over this store: reads, puts files, and says a line.
-/// The words are those behind the program's name. The gate is for commands that start threads.
+/// The words are those behind the program's name. Each actor passes the gate before each of its lines where
+/// the command starts threads; it is not passed else.
 pub fn nitpicker<R: Threads + Wait + Sync, S: Store, G: Gate>(
-    _rt: &R,
+    rt: &R,
     alloc: Global,
     words: &[String],
     store: &mut S,
-    _gate: &G,
+    gate: &G,
 ) -> Done
     ensures { Answer (S.shown store.old) (texts words.now) (S.shown store.new) result.status result.journal.items }
 {
-    nitpicker_alone(alloc, words, store)
+    match parse_words(words) {
+        Some(Asked::Run { config }) => beside(rt, alloc, store, config, gate),
+        _ => nitpicker_alone(alloc, words, store),
+    }
 }
 
 /// The same for words that start no thread. It waits for nobody, and returns.
 pub fn nitpicker_alone<S: Store>(alloc: Global, words: &[String], store: &mut S) -> Done
+    requires { starts_threads (command (texts words.now)) ≡ false }
     ensures { Answer (S.shown store.old) (texts words.now) (S.shown store.new) result.status result.journal.items }
 {
     work(alloc, words, store)
 }
 
-/// Does the work, and says how it came to its end.
+/// Whether the words ask for a command that starts threads, which is `run`.
+pub fn starts_threads(words: &[String]) -> bool
+    ensures { result ≡ starts_threads (command (texts words.now)) }
+{
+    matches!(parse_words(words), Some(Asked::Run { .. }))
+}
+
+/// Does the work on the calling thread, and says how it came to its end.
 fn work<S: Store>(alloc: Global, words: &[String], store: &mut S) -> Done
+    requires { starts_threads (command (texts words.now)) ≡ false }
     ensures { Ended (S.shown store.old) (command (texts words.now)) (S.shown store.new) result.status result.journal.items }
 {
     match parse_words(words) {
@@ -54,18 +67,37 @@ fn work<S: Store>(alloc: Global, words: &[String], store: &mut S) -> Done
             finish(store, worked)
         }
         Some(Asked::Turns { config }) => turns(alloc, store, config),
+        Some(Asked::Run { .. }) => unreachable!(),
     }
 }
 
 /// Runs the configuration of this name by turns.
 fn turns<S: Store>(alloc: Global, store: &mut S, name: &str) -> Done
-    ensures { Ended (S.shown store.old) (Turns name.now) (S.shown store.new) result.status result.journal.items }
+    ensures { Ended (S.shown store.old) (Run false name.now) (S.shown store.new) result.status result.journal.items }
 {
     let config = match load_config(alloc, store, name) {
         Ok(config) => config,
         Err(stop) => return finish(store, unbegun(alloc, stop)),
     };
     let worked = perform::turns(alloc, store, &config);
+    finish(store, worked)
+}
+
+/// Runs the configuration of this name with each client on a thread of its own.
+fn beside<R: Threads + Wait + Sync, S: Store, G: Gate>(
+    rt: &R,
+    alloc: Global,
+    store: &mut S,
+    name: &str,
+    gate: &G,
+) -> Done
+    ensures { Ended (S.shown store.old) (Run true name.now) (S.shown store.new) result.status result.journal.items }
+{
+    let config = match load_config(alloc, store, name) {
+        Ok(config) => config,
+        Err(stop) => return finish(store, unbegun(alloc, stop)),
+    };
+    let worked = perform::beside(rt, alloc, store, &config, gate);
     finish(store, worked)
 }
 

@@ -7,7 +7,7 @@ use Rattle.nit_journal.specs.Journals.{IsLegal, replay}
 use Rattle.nit_journal.specs.State.{opening, after}
 use Rattle.nit_journal.specs.Whole.{done}
 use Rattle.nit_plan.specs.Calls.{calls_to_make}
-use Rattle.nit_top.proofs.Headlines.{focus_by_call, focus_by_click, shot_shows, end_shows, texts_tell, files_counted}
+use Rattle.nit_top.proofs.Headlines.{NearLaws, focus_by_call, focus_by_click, shot_shows, end_shows, texts_tell, files_counted}
 use Rattle.nit_top.proofs.laws.headline.Goals as goal
 
 pub returns : goal.returns
@@ -17,6 +17,12 @@ returns c = λ s journal outputs runnable j are.
     let legal : (all : List Entry) → journal ≡ all → IsLegal config all = λ all parts. subst (λ (es : List Entry). IsLegal config es) parts j.legal in
     let law = c.shots_as_replayed.ensures.along in
     let fronts = c.fronts_are_legal.ensures.legal in
+    let near : NearLaws = record {
+      counted = c.each_shot_has_its_file.ensures.count;
+      files = c.each_shot_has_its_file.ensures.each;
+      count = c.near_frames_by_pixels.ensures.count;
+      each = c.near_frames_by_pixels.ensures.each;
+    } in
     record {
       one_journal = j;
       clients = λ sid inside.
@@ -36,9 +42,10 @@ returns c = λ s journal outputs runnable j are.
             focus_by_call config front sid call r (same front (entry.Call sid call r)) (c.focus_is_the_users.ensures.calls (replay config front) sid call r) (c.focus_is_the_users.ensures.closed (replay config front) sid r);
         clicks = λ front rest dev routed sid parts. focus_by_click config front dev routed sid (same front (entry.Input dev routed)) (c.focus_is_the_users.ensures.clicks (replay config front) dev routed sid);
       };
-      shots_show = shot_shows s journal outputs j are law fronts c.frame_pixels.ensures.count c.frame_pixels.ensures.each;
+      shots_show = shot_shows s journal outputs j are law fronts c.frame_pixels.ensures.count c.frame_pixels.ensures.each near;
       final_shows = end_shows s journal outputs j are c.frame_pixels.ensures.count c.frame_pixels.ensures.each (c.configuration_stays.ensures.configuration config journal);
       texts = texts_tell s journal outputs j are c.machines_stand_alone.ensures (c.journals_fit.ensures s journal runnable j);
-      count = files_counted s journal outputs j are law fronts;
-      only = λ other files k more. (c.one_setup_one_run.ensures.journal s other journal k j, c.one_setup_one_run.ensures.files s other journal files outputs k j more are);
+      count = files_counted s journal outputs j are law fronts near;
+      only = λ alone other files k more.
+          (c.one_setup_one_run.ensures.journal s other journal alone k j, c.one_setup_one_run.ensures.files s other journal files outputs alone k j more are);
     }

@@ -11,7 +11,5 @@ returns c = λ s journal runnable j.
       machines = c.machines_stand_alone.ensures;
       kept = c.deliveries_fit.ensures;
       live = c.deliveries_go_to_live_sessions.ensures.legal;
-      count = c.each_line_once.ensures.count;
-      acts_few = c.each_line_once.ensures.acts;
     })
     s runnable journal j

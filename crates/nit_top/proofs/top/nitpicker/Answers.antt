@@ -1,0 +1,10 @@
+use Rattle.std.proofs.Common.{◌∙◌, sym, subst, ap, refl}
+use Rattle.nit_top.specs.Command.{Command}
+use Rattle.nit_top.specs.Ended.{Ended}
+use Rattle.nit_top.proofs.Causes.{causes}
+use Rattle.nit_top.proofs.top.nitpicker.Goals as goal
+
+pub returns-in-Some-Run : goal.returns-in-Some-Run
+returns-in-Some-Run g c =
+    let asked = rw c.in-Some-Run.field-0-is at c.in-Some-Run.ensures.some in
+    causes _ _ _ _ _ (subst (λ (k : Command). Ended (g.S.Store.shown c.args.store.now) k (g.S.Store.shown c.beside.new.store) c.beside.result.status c.beside.result.journal.items) (sym asked) c.beside.ensures)
