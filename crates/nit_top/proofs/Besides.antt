@@ -1,5 +1,5 @@
 -- A run whose clients are beside each other: its beginning, and what it leaves.
-use Rattle.std.proofs.Common.{◌≡◌, ◌∙◌, Bool, true, false, cond, ℕ, zero, suc, ◌+◌, ◌<◌, ◌≤◌, List, [], ◌∷◌, ◌++◌, length, length-append, map, take, Option, Some, None, refl, sym, ap, subst, arith, append_assoc, zero-add}
+use Rattle.std.proofs.Common.{◌≡◌, ◌∙◌, true, false, ℕ, zero, suc, ◌+◌, ◌<◌, List, [], ◌∷◌, ◌++◌, length, length-append, map, take, Some, refl, sym, ap, subst, arith, append_assoc, zero-add}
 use Rattle.std.specs.Prelude.{All, slice_get, slice_index_or}
 use Rattle.std.specs.List.{range_with_len}
 use Rattle.std.proofs.lemmas.List.{append-nil, take_all}
@@ -36,7 +36,7 @@ use Rattle.nit_hall.specs.Openings.{AreBlank, IsOpening, IsSetting, first_pass, 
 use Rattle.nit_hall.specs.Endings.{left_word, words_left_in}
 use Rattle.nit_hall.proofs.Lines.{deeds_done}
 use Rattle.nit_actor.specs.Drawn.{picture_of, word_from, words_of}
-use Rattle.nit_actor.specs.Roles.{Role, IsRoleIn, UserRole, role_of, user_role_of}
+use Rattle.nit_actor.specs.Roles.{Role, UserRole, role_of, user_role_of}
 use Rattle.nit_actor.specs.Pictures.{AreNearShots, IsNearPicture, PutsShotsBehind}
 use Rattle.nit_actor.specs.Shots.{ShotsBehind}
 use Rattle.nit_actor.proofs.Pictures.{files_both, no_files}
@@ -45,7 +45,7 @@ use Rattle.nit_top.specs.declared.run.Ran.{Ran}
 use Rattle.nit_top.specs.Setup.{Setup}
 use Rattle.nit_top.specs.Besides.{AreBuffers, AreKeysBlank, IsReady, IsKnownWhole}
 use Rattle.nit_top.specs.Opened.{plans_of}
-use Rattle.nit_top.specs.Outputs.{AreOutputs, AreShots, IsJournal, events_files, final_name, final_picture, journal_file, raw_word, tables_left, text_files}
+use Rattle.nit_top.specs.Outputs.{AreOutputs, IsJournal, events_files, final_name, final_picture, journal_file, raw_word, tables_left, text_files}
 use Rattle.nit_top.specs.Work.{HasRun, putting, setup_of}
 use Rattle.nit_top.proofs.LastWords.{OneMore}
 

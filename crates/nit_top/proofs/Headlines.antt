@@ -147,15 +147,22 @@ module _ (s : Setup) (journal : List Entry) (outputs : List File) (j : IsJournal
   abbrev last_file : File
   last_file = (final_name, final_picture s journal)
 
+  -- the files behind those that are made
+  abbrev own : List File
+  own = shot_list ++ last_file ∷ text_files s journal
+
+  among_own : (f : File) → Contains own f → Contains outputs f
+  among_own f has = subst (λ (fs : List File). Contains fs f) (sym are.2) (Contains-append_right s.made own f has)
+
   -- a file among the shots, the last picture, or a text, is among all
   among_shots : (f : File) → Contains shot_list f → Contains outputs f
-  among_shots f has = subst (λ (fs : List File). Contains fs f) (sym are.2) (Contains-append_left shot_list (last_file ∷ text_files s journal) f has)
+  among_shots f has = among_own f (Contains-append_left shot_list (last_file ∷ text_files s journal) f has)
 
   the_last : Contains outputs last_file
-  the_last = subst (λ (fs : List File). Contains fs last_file) (sym are.2) (Contains-append_right shot_list (last_file ∷ text_files s journal) last_file (Contains-append_left (last_file ∷ []) (text_files s journal) last_file (Contains-push [] last_file)))
+  the_last = among_own last_file (Contains-append_right shot_list (last_file ∷ text_files s journal) last_file (Contains-append_left (last_file ∷ []) (text_files s journal) last_file (Contains-push [] last_file)))
 
   among_texts : (f : File) → Contains (text_files s journal) f → Contains outputs f
-  among_texts f has = subst (λ (fs : List File). Contains fs f) (sym are.2) (Contains-append_right shot_list (last_file ∷ text_files s journal) f (Contains-append_right (last_file ∷ []) (text_files s journal) f has))
+  among_texts f has = among_own f (Contains-append_right shot_list (last_file ∷ text_files s journal) f (Contains-append_right (last_file ∷ []) (text_files s journal) f has))
 
   -- the file of a shot by rounds, and of one beside others
   drawn_shows : s.beside ≡ false → ShotsLaw → FrontsLaw → FrameCount → FrameEach → (front rest : List Entry) (number : ℕ) → journal ≡ front ++ entry.Shot number ∷ rest
@@ -216,12 +223,13 @@ module _ (s : Setup) (journal : List Entry) (outputs : List File) (j : IsJournal
       by false alone = as_many_files IsDrawn [] journal shot_list (drawn_along alone law fronts)
       by true together = near.counted s.config s.scripts journal shot_list (are.1.beside together)
 
-  pub files_counted : ShotsLaw → FrontsLaw → NearLaws → length outputs ≡ shots journal + 1 + cond s.texts (length s.config.clients + 1) 0
+  pub files_counted : ShotsLaw → FrontsLaw → NearLaws → length outputs ≡ length s.made + (shots journal + 1 + cond s.texts (length s.config.clients + 1) 0)
   files_counted law fronts near =
       let pictures = shots_counted law fronts near in
-      let all : length outputs ≡ length shot_list + suc (length (text_files s journal)) = ap length are.2 ∙ length-append shot_list (last_file ∷ text_files s journal) in
+      let behind : length own ≡ length shot_list + suc (length (text_files s journal)) = length-append shot_list (last_file ∷ text_files s journal) in
+      let all : length outputs ≡ length s.made + length own = ap length are.2 ∙ length-append s.made own in
       let texts : length (text_files s journal) ≡ cond s.texts (length s.config.clients + 1) 0 = count_texts s.texts in
-      omega (arith, pictures, all, texts)
+      omega (arith, pictures, behind, all, texts)
     where
       count_texts : (b : Bool) → length (cond b (events_files s.config journal ++ journal_file journal ∷ []) []) ≡ cond b (length s.config.clients + 1) 0
       count_texts true = length_push (events_files s.config journal) (journal_file journal) ∙ ap (λ (n : ℕ). n + 1) (length-map-range_with_len (events_file s.config journal) 0 (length s.config.clients))
@@ -244,6 +252,6 @@ same_journal law s js ks alone j k = law s.config js ks j.legal k.legal (acts_of
 pub same_files : ActsLaw → (s : Setup) (js ks : List Entry) (fs gs : List File) → s.beside ≡ false → IsJournal s js → IsJournal s ks → AreOutputs s js fs → AreOutputs s ks gs → fs ≡ gs
 same_files law s js ks fs gs alone j k f g =
     let drawn = shots_of s.config s.scripts s.input in
-    f.2 ∙ ap (λ (shots : List File). shots ++ (final_name, final_picture s js) ∷ text_files s js) (f.1.by_rounds alone)
-    ∙ ap (λ (es : List Entry). drawn ++ (final_name, final_picture s es) ∷ text_files s es) (same_journal law s js ks alone j k)
-    ∙ sym (g.2 ∙ ap (λ (shots : List File). shots ++ (final_name, final_picture s ks) ∷ text_files s ks) (g.1.by_rounds alone))
+    f.2 ∙ ap (λ (shots : List File). s.made ++ (shots ++ (final_name, final_picture s js) ∷ text_files s js)) (f.1.by_rounds alone)
+    ∙ ap (λ (es : List Entry). s.made ++ (drawn ++ (final_name, final_picture s es) ∷ text_files s es)) (same_journal law s js ks alone j k)
+    ∙ sym (g.2 ∙ ap (λ (shots : List File). s.made ++ (shots ++ (final_name, final_picture s ks) ∷ text_files s ks)) (g.1.by_rounds alone))

@@ -15,7 +15,7 @@ use Rattle.nit_script.proofs.Scripts.{IsReader, same_read, read_and_bad, read_an
 use Rattle.nit_store.specs.Shown.{File, bytes_of}
 use Rattle.nit_top.specs.declared.finish.Fault.{Fault}
 use Rattle.nit_top.specs.declared.finish.Fault.TheVariants as fault
-use Rattle.nit_top.specs.Command.{Command, Still, Run, NoCommand}
+use Rattle.nit_top.specs.Command.{Command, Still, Run, Gen, NoCommand}
 use Rattle.nit_top.specs.Setup.{Setup, HaveSamePhases}
 use Rattle.nit_top.specs.Judged.{IsConfig, IsConfigFault, IsScript, IsNoScript, IsFaulty, wrong_phases, wrong_client, wrong_input, IsClientFault, IsInputFault, wanted_by, script_names, SpellScripts, AreScripts, IsFirstFault, IsInputsFault, AreRead, Judged, Refused, IsValid, fault_code, IsRefused}
 
@@ -109,6 +109,7 @@ valid_not_refused (Run beside configuration) files s name f v (inr (config, is, 
       | inl first ↦ first_fault_not files (script_names s.config) s.scripts name f v.1.scripts (subst (λ (k : Configuration). IsFirstFault files (script_names k) name f) same first)
       | inr inputs ↦ inputs_fault_not files s name f v.1 (subst (λ (k : Configuration). IsInputsFault files k name f) same inputs)
     ]
+valid_not_refused (Gen number) files s name f v r = r
 valid_not_refused NoCommand files s name f v r = v
 
 config_code : (bytes : List ℕ) (f : Fault) → IsConfigFault bytes f → fault_code f ≡ 5
@@ -157,6 +158,7 @@ codes_agree (Run beside configuration) files m n f g (inl p) (inl q) = config_co
 codes_agree (Run beside configuration) files m n f g (inl p) (inr q) = absurd (config_not_both (bytes_of configuration files) q.0 f q.1 p.1)
 codes_agree (Run beside configuration) files m n f g (inr p) (inl q) = absurd (config_not_both (bytes_of configuration files) p.0 g p.1 q.1)
 codes_agree (Run beside configuration) files m n f g (inr p) (inr q) = script_code files p.0 m f p.2 ∙ sym (script_code files q.0 n g q.2)
+codes_agree (Gen number) files m n f g p q = absurd p
 codes_agree NoCommand files m n f g p q = absurd p
 
 -- ---- where the store tells its files

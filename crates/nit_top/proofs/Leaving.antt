@@ -54,15 +54,15 @@ pub without_texts : (s : Setup) (journal : List Entry) → s.texts ≡ false →
 without_texts s journal is = ap (λ (b : Bool). cond b (events_files s.config journal ++ journal_file journal ∷ []) []) is
 
 pub run_leaves : (s : Setup) (start mid last : Played Sight) (owns : List Sight) (first new : Shown) (at final : Putting) (ran : Ran)
-    → WholeLaw → OneMore → s.beside ≡ false → start.config ≡ s.config → IsRun s.scripts s.input start mid owns → last.entries ≡ mid.entries ++ entry.Final ∷ [] → last.config ≡ mid.config → IsLegal last.config last.entries
+    → WholeLaw → OneMore → s.beside ≡ false → s.made ≡ [] → start.config ≡ s.config → IsRun s.scripts s.input start mid owns → last.entries ≡ mid.entries ++ entry.Final ∷ [] → last.config ≡ mid.config → IsLegal last.config last.entries
     → PutsShots start.config s.scripts (rounds s.scripts s.input) (unrefused first) at → PutsLast (state_now mid) owns at final → PutsAll (text_files s last.entries) final (putting new ran.fault)
     → ran.journal.items ≡ last.entries → ran.frames ≡ shots last.entries + 1 → HasRun first s new ran
-run_leaves s start mid last owns first new at final ran whole more alone begun run ended same legal shots_ puts_last puts_texts journal frames = record {
+run_leaves s start mid last owns first new at final ran whole more alone none begun run ended same legal shots_ puts_last puts_texts journal frames = record {
   journal = subst (λ (j : List Entry). IsJournal s j) (sym journal) is_journal;
   frames = frames ∙ ap (λ (j : List Entry). shots j + 1) (sym journal);
   outputs = outputs;
   are = subst (λ (j : List Entry). AreOutputs s j outputs) (sym journal)
-      (files, record { by_rounds = λ is. refl; beside = λ together. absurd (not_both (sym alone ∙ together)) }, refl);
+      (files, record { by_rounds = λ is. refl; beside = λ together. absurd (not_both (sym alone ∙ together)) }, sym (ap (λ (made : List File). made ++ outputs) none));
   puts = all_puts;
 }
   where

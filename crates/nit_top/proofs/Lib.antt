@@ -4,6 +4,7 @@ pub mod Asking
 pub mod Scripts
 pub mod Ending
 pub mod Setups
+pub mod GeneratedRuns
 pub mod Judging
 pub mod SaidLines
 pub mod Causes

@@ -182,10 +182,10 @@ module _ (beside : Bool) (name : List ℕ) (first : Shown) where
           (read ∙ ap (λ (s : Shown). asking s config.input) asked_now ∙ asking_more first (name ∷ script_names config) config.input)
           (record {
             runnable = runnable;
-            of_command = (refl, refl);
+            of_command = (refl, refl, refl);
             valid =
                 told_so_both (λ files. IsConfig (bytes_of name files) config × AreScripts files (script_names config) scripts) (λ files. IsInput (wanted_by scripts) (bytes_of config.input files) lines) (λ files. IsValid run files (setup_of config scripts lines true beside)) first.files
-                (λ files v q. (v.0, record { scripts = v.1; input = q }, refl, refl)) (valid_too (script_names config) scripts valid_scripts)
+                (λ files v q. (v.0, record { scripts = v.1; input = q }, refl, refl, refl)) (valid_too (script_names config) scripts valid_scripts)
                 (subst (λ (s : Shown). IfSome s.files (λ files. IsInput (wanted_by scripts) (bytes_of config.input files) lines)) asked_now valid);
           })
           h

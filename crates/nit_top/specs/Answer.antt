@@ -7,11 +7,11 @@ use Rattle.nit_store.specs.declared.store.PutError.TheVariants as put
 use Rattle.nit_store.specs.Shown.{Shown, File, Rose}
 use Rattle.nit_top.specs.declared.finish.End.{End}
 use Rattle.nit_top.specs.declared.finish.End.TheVariants as ends
-use Rattle.nit_top.specs.Command.{NoCommand, Command, command}
+use Rattle.nit_top.specs.Command.{Gen, NoCommand, Command, command}
 use Rattle.nit_top.specs.Setup.{Setup}
 use Rattle.nit_top.specs.Judged.{Refused, Judged, IsRefused, IsValid, fault_code}
 use Rattle.nit_top.specs.Lines.{usage_line, read_fault_line, write_fault_line, fault_line, summary_line, no_memory_line}
-use Rattle.nit_top.specs.Course.{Course, WithRun, IsNotBegun, IsLastRead, IsPutWhole, IsRefusedAt, IsCutShort, totals}
+use Rattle.nit_top.specs.Course.{Course, WithRun, IsNotBegun, IsLastRead, IsMadeBefore, IsMadeInPart, IsPutWhole, IsRefusedAt, IsCutShort, totals}
 
 -- ---- how the work came to its end
 
@@ -26,10 +26,12 @@ Came {old = old} {c = c} course files asked (ends.Refused f) line =
     (name : List ℕ) × IsLastRead course files asked name
     × IfSome old.files (λ told. Judged c told (Refused name f)) × (line ≡ fault_line name f)
 Came course files asked ends.WriteFault line =
-    (name : List ℕ) × WithRun course (λ run. IsRefusedAt run files asked name)
+    (name : List ℕ)
+    × (IsMadeBefore course files asked name ⊎ WithRun course (λ run. IsRefusedAt run files asked name))
     × (line ≡ write_fault_line name)
 Came course files asked ends.NoMemory line =
-    (IsNotBegun course files asked ⊎ WithRun course (λ run. IsCutShort run files asked))
+    (IsNotBegun course files asked
+    ⊎ (IsMadeInPart course files asked ⊎ WithRun course (λ run. IsCutShort run files asked)))
     × (line ≡ no_memory_line)
 Came course files asked ends.Whole line =
     WithRun course (λ run. IsPutWhole run files asked × (line ≡ summary_line (totals run)))
@@ -99,6 +101,11 @@ pub record IsSaid {old : Shown} {c : Command} {journal : List Entry} (course : C
 abbrev pub NoFault : ℕ → ℕ → Type 0
 NoFault before now = Rose before now → ⊥
 
+-- the files that the command reads are valid; a generated run reads none
+abbrev pub HasValidFiles : Command → Option (List File) → Type 0
+HasValidFiles (Gen number) told = Unit {0}
+HasValidFiles c told = IsSomeAnd told (λ files. (s : Setup) × IsValid c files s)
+
 -- the status is one of those with which the work ends before a run
 abbrev pub IsEarly : ℕ → Type 0
 IsEarly status = IsTrue (list_any (λ s. s == status) (2 ∷ 3 ∷ 5 ∷ 6 ∷ []))
@@ -139,19 +146,21 @@ pub record Answer (old : Shown) (words : List (List ℕ)) (new : Shown) (status 
   pub summary : status ≡ 0
       → WithRun course (λ run. new.said ≡ said_also old.said (summary_line (totals run)))
   -- at 4 a run was begun: all is put, and the line was refused; or the files before one are put, and
-  -- that one was refused
+  -- that one was refused; or none was begun, and that one is among the files that the command makes
   pub put_in_part : status ≡ 4
-      → WithRun course (λ run. IsPutWhole run new.files new.asked
+      → ((name : List ℕ) × IsMadeBefore course new.files new.asked name)
+      ⊎ WithRun course (λ run. IsPutWhole run new.files new.asked
       ⊎ ((name : List ℕ) × IsRefusedAt run new.files new.asked name))
-  -- at 7 it is as at 0 or 4, or memory ran out at a file that the run was to put; or no run was begun,
-  -- and nothing is put
+  -- at 7 it is as at 0 or 4, or memory ran out at a file that the run was to put; or no run was begun, and
+  -- nothing is put but the first files that the command makes
   pub at_seven : status ≡ 7
       → IsNotBegun course new.files new.asked
+      ⊎ (IsMadeInPart course new.files new.asked
       ⊎ WithRun course (λ run. IsPutWhole run new.files new.asked
-      ⊎ IsCutShort run new.files new.asked)
+      ⊎ IsCutShort run new.files new.asked))
   -- the line on how the work came to its end is what is said, and the status goes by both
   pub said : IsSaid course new status
   -- valid files are run to the end, unless the store fails or memory runs out
-  pub complete : IsSomeAnd old.files (λ files. (s : Setup) × IsValid (command words) files s)
+  pub complete : HasValidFiles (command words) old.files
       → NoFault old.read_faults new.read_faults → NoFault old.write_faults new.write_faults
       → (status ≡ 0) ⊎ (status ≡ 7)

@@ -1,5 +1,5 @@
 -- A run whose clients are beside each other: what it begins with, and what its user knows at its end.
-use Rattle.std.specs.Prelude.{◌≡◌, ◌++◌, ℕ, ◌*◌, ◌<◌, ◌≤◌, List, [], All, length, map, slice_get, Some, vec_len, vec_capacity}
+use Rattle.std.specs.Prelude.{◌≡◌, ◌++◌, ℕ, ◌*◌, ◌≤◌, List, [], All, length, map, slice_get, Some, vec_len, vec_capacity}
 use Rattle.nit_events.specs.declared.entry.Entry.{Entry}
 use Rattle.nit_config.specs.Configuration.{Configuration, donation_of}
 use Rattle.nit_plan.specs.Steps.{Planned}

@@ -1,5 +1,5 @@
 -- What the words of the command line ask for.
-use Rattle.std.specs.Prelude.{ℕ, Bool, true, false, List, [], ◌∷◌, map, find, codes, Option, Some, None, String, if◌then◌else◌}
+use Rattle.std.specs.Prelude.{ℕ, ◌^◌, Bool, true, false, List, [], ◌∷◌, map, find, codes, Option, Some, None, String, if◌then◌else◌}
 use Rattle.std.specs.List.{range_with_len}
 use Rattle.std.specs.String.{string_bytes}
 use Rattle.std.specs.Str.{bytes_eq}
@@ -10,35 +10,48 @@ abbrev pub texts : {Z : Type 0} → List (String Z) → List (List ℕ)
 texts words = map string_bytes words
 
 -- a picture of one client's script, on a screen of this width and height; or the run of a configuration, with its
--- clients beside each other on threads of their own, or by turns; or nothing that the program does
+-- clients beside each other on threads of their own, or by turns; or the generated run of this number, with its
+-- clients beside each other; or nothing that the program does
 pub data Command : Type 0 where
   Still : (width : ℕ) → (height : ℕ) → (script : List ℕ) → Command
   Run : (beside : Bool) → (configuration : List ℕ) → Command
+  Gen : (number : ℕ) → Command
   NoCommand : Command
 
 -- the command starts threads
 abbrev pub starts_threads : Command → Bool
 starts_threads (Still width height script) = false
 starts_threads (Run beside configuration) = beside
+starts_threads (Gen number) = true
 starts_threads NoCommand = false
 
--- the number of 1 up to most that a word spells in decimal
-unfoldable pub size_of : ℕ → List ℕ → Option ℕ
-size_of most word = find (λ n. bytes_eq (decimal n) word) (range_with_len 1 most)
+-- the number that a word spells in decimal, among so many from the first one on
+unfoldable pub number_among : ℕ → ℕ → List ℕ → Option ℕ
+number_among first count word = find (λ n. bytes_eq (decimal n) word) (range_with_len first count)
+
+-- the number of 1 up to most that a word spells
+abbrev pub size_of : ℕ → List ℕ → Option ℕ
+size_of most word = number_among 1 most word
 
 abbrev pub still : Option ℕ → Option ℕ → List ℕ → Command
 still (Some width) (Some height) script = Still width height script
 still (Some width) None script = NoCommand
 still None height script = NoCommand
 
--- `turns` or `run`, and the name of a configuration
+-- a generated run, by the number that a word spells in at most nine digits
+abbrev pub gen : Option ℕ → Command
+gen (Some number) = Gen number
+gen None = NoCommand
+
+-- `turns` or `run`, and the name of a configuration; or `gen`, and a number
 abbrev pub run_of : List ℕ → List ℕ → Command
-run_of verb configuration =
-    if bytes_eq verb (codes "turns") then Run false configuration
-    else (if bytes_eq verb (codes "run") then Run true configuration else NoCommand)
+run_of verb word =
+    if bytes_eq verb (codes "turns") then Run false word
+    else (if bytes_eq verb (codes "run") then Run true word
+    else (if bytes_eq verb (codes "gen") then gen (number_among 0 (10 ^ 9) word) else NoCommand))
 
 -- one of those; or `still`, a width of 1 up to 1024, a height of 1 up to 768, and the name of a script
 abbrev pub command : List (List ℕ) → Command
-command (verb ∷ configuration ∷ []) = run_of verb configuration
+command (verb ∷ word ∷ []) = run_of verb word
 command (verb ∷ width ∷ height ∷ script ∷ []) = if bytes_eq verb (codes "still") then still (size_of 1024 width) (size_of 768 height) script else NoCommand
 command words = NoCommand

@@ -3,8 +3,8 @@ use Rattle.std.specs.Prelude.{◌≡◌, ◌⊎◌, ℕ, ◌+◌, List, [], ◌�
 use Rattle.nit_events.specs.declared.entry.Entry.{Entry}
 use Rattle.nit_journal.specs.Journals.{shots}
 use Rattle.nit_store.specs.Shown.{Shown, File, IsPut}
-use Rattle.nit_top.specs.Command.{Command}
-use Rattle.nit_top.specs.Setup.{Setup}
+use Rattle.nit_top.specs.Command.{Command, Gen}
+use Rattle.nit_top.specs.Setup.{Setup, generated_files}
 use Rattle.nit_top.specs.Judged.{reads}
 use Rattle.nit_top.specs.FilesRead.{FilesRead, HasRead, AreAllFiles, names_read, next_name}
 use Rattle.nit_top.specs.Outputs.{AreOutputs}
@@ -22,6 +22,9 @@ PutEach (f ∷ fs) old new = (mid : List File) × IsPut f.0 f.1 old mid × PutEa
 abbrev pub PutFiles : List File → Option (List File) → Option (List File) → Type 0
 PutFiles files None new = new ≡ None
 PutFiles files (Some old) new = (all : List File) × (new ≡ Some all) × PutEach files old all
+
+abbrev pub names_of : List File → List (List ℕ)
+names_of files = map (λ f. f.0) files
 
 -- the names that were asked for, and these behind them
 abbrev pub asked_also : Option (List (List ℕ)) → List (List ℕ) → Option (List (List ℕ))
@@ -87,15 +90,45 @@ pub record IsLastRead {old : Shown} {c : Command} {journal : List Entry} (course
   pub next : next_name c read ≡ Some name
   pub asks : asked ≡ asked_also old.asked (names_read c read ++ name ∷ [])
 
+-- ---- the files that are made before a run
+
+-- the files that a command makes, and puts before its run
+abbrev pub made_by : Command → List File
+made_by (Gen number) = generated_files number
+made_by other = []
+
+-- No run was begun. Of the files that the command makes, all before these last ones were put, and nothing
+-- else. These names were asked for behind theirs.
+pub record IsMadeUpTo {old : Shown} {c : Command} {journal : List Entry} (course : Course old c journal)
+    (files : Option (List File)) (asked : Option (List (List ℕ)))
+    (last : List File) (more : List (List ℕ)) : Type 0 where
+  pub none : WithoutRun course
+  pub front : List File
+  pub parts : made_by c ≡ front ++ last
+  pub put : PutFiles front old.files files
+  pub asks : asked ≡ asked_also old.asked (names_of front ++ more)
+
+-- no run was begun: of the files that the command makes, those before this one were put, and it was asked for
+abbrev pub IsMadeBefore : {old : Shown} {c : Command} {journal : List Entry} → Course old c journal
+    → Option (List File) → Option (List (List ℕ)) → List ℕ → Type 0
+IsMadeBefore course files asked name =
+    (bytes : List ℕ) × (behind : List File)
+    × IsMadeUpTo course files asked ((name, bytes) ∷ behind) (name ∷ [])
+
+-- no run was begun: memory ran out when some of the files that the command makes were put, or all; the next
+-- one was asked for, or was not
+abbrev pub IsMadeInPart : {old : Shown} {c : Command} {journal : List Entry} → Course old c journal
+    → Option (List File) → Option (List (List ℕ)) → Type 0
+IsMadeInPart course files asked =
+    ((name : List ℕ) × IsMadeBefore course files asked name)
+    ⊎ ((last : List File) × IsMadeUpTo course files asked last [])
+
 -- ---- what a run put
 
 -- the names that a run asked for: those that the command reads, and then these
 abbrev pub asked_in : {old : Shown} {c : Command} {journal : List Entry}
     → IsRun old c journal → List (List ℕ) → Option (List (List ℕ))
 asked_in {old = old} {c = c} run names = asked_also old.asked (reads c run.setup.config ++ names)
-
-abbrev pub names_of : List File → List (List ℕ)
-names_of files = map (λ f. f.0) files
 
 -- All that the run puts was put, and nothing else.
 pub record IsPutWhole {old : Shown} {c : Command} {journal : List Entry} (run : IsRun old c journal)

@@ -174,7 +174,8 @@ pub record Headline (s : Setup) (journal : List Entry) (outputs : List File) : T
   -- the texts are there, where the run has them
   pub texts : s.texts ≡ true → AreTexts s.config journal outputs
   -- there is no other file
-  pub count : length outputs ≡ shots journal + 1 + (if s.texts then length s.config.clients + 1 else 0)
+  pub count : length outputs
+      ≡ length s.made + (shots journal + 1 + (if s.texts then length s.config.clients + 1 else 0))
   -- by rounds the configuration and the scripts alone determine the journal and the files
   pub only : s.beside ≡ false → (other : List Entry) (files : List File)
       → IsJournal s other → AreOutputs s other files → (other ≡ journal) × (files ≡ outputs)

@@ -12,8 +12,8 @@ use Rattle.nit_script.specs.Phases.{phases, input_phases}
 use Rattle.nit_store.specs.Shown.{File, bytes_of}
 use Rattle.nit_top.specs.declared.finish.Fault.{Fault}
 use Rattle.nit_top.specs.declared.finish.Fault.TheVariants as fault
-use Rattle.nit_top.specs.Command.{Command, Still, Run, NoCommand}
-use Rattle.nit_top.specs.Setup.{Setup, still_setup, HaveSamePhases}
+use Rattle.nit_top.specs.Command.{Command, Still, Run, Gen, NoCommand}
+use Rattle.nit_top.specs.Setup.{Setup, generated_setup, still_setup, HaveSamePhases}
 
 -- ---- a configuration
 
@@ -121,10 +121,12 @@ abbrev pub Judged : Command → List File → Judgement → Type 0
 Judged (Still width height script) files (Valid s) = (lines : List Line) × IsClient None (bytes_of script files) lines × (s ≡ still_setup width height lines)
 Judged (Still width height script) files (Refused name f) = (name ≡ script) × IsClientFault None (bytes_of script files) f
 Judged (Run beside configuration) files (Valid s) =
-    IsConfig (bytes_of configuration files) s.config × AreRead files s × (s.texts ≡ true) × (s.beside ≡ beside)
+    IsConfig (bytes_of configuration files) s.config × AreRead files s × (s.texts ≡ true) × (s.beside ≡ beside) × (s.made ≡ [])
 Judged (Run beside configuration) files (Refused name f) =
     ((name ≡ configuration) × IsConfigFault (bytes_of configuration files) f)
     ⊎ ((config : Configuration) × IsConfig (bytes_of configuration files) config × (IsFirstFault files (script_names config) name f ⊎ IsInputsFault files config name f))
+Judged (Gen number) files (Valid s) = s ≡ generated_setup number
+Judged (Gen number) files (Refused name f) = ⊥
 Judged NoCommand files j = ⊥
 
 abbrev pub IsValid : Command → List File → Setup → Type 0
@@ -152,4 +154,5 @@ names_in config = script_names config ++ config.input ∷ []
 abbrev pub reads : Command → Configuration → List (List ℕ)
 reads (Still width height script) config = script ∷ []
 reads (Run beside configuration) config = configuration ∷ names_in config
+reads (Gen number) config = []
 reads NoCommand config = []

@@ -108,9 +108,9 @@ pub record AreShots (s : Setup) (journal : List Entry) (files : List File) : Typ
   pub by_rounds : s.beside ≡ false → files ≡ shots_of s.config s.scripts s.input
   pub beside : s.beside ≡ true → AreNearShots s.config s.scripts journal files
 
--- The files that a run puts, in order: one for each shot, shot-1.ppm and so on, then final.ppm, and
--- then the texts.
+-- The files that a run puts, in order: those that are made before it, one for each shot, shot-1.ppm and so
+-- on, then final.ppm, and then the texts.
 abbrev pub AreOutputs : Setup → List Entry → List File → Type 0
 AreOutputs s journal files =
     (shots : List File) × AreShots s journal shots
-    × (files ≡ shots ++ (final_name, final_picture s journal) ∷ text_files s journal)
+    × (files ≡ s.made ++ (shots ++ (final_name, final_picture s journal) ∷ text_files s journal))

@@ -1,6 +1,6 @@
 -- What a run is made of.
-use Rattle.std.specs.Prelude.{◌≡◌, ℕ, ◌≤◌, Bool, false, List, [], ◌∷◌, length, replicate, count_by}
-use Rattle.std.specs.List.{AllByRecursion}
+use Rattle.std.specs.Prelude.{◌≡◌, ℕ, ◌≤◌, Bool, false, true, List, [], ◌∷◌, ◌++◌, length, map, codes, replicate, count_by}
+use Rattle.std.specs.List.{AllByRecursion, range_with_len}
 use Rattle.nit_config.specs.Configuration.{Configuration, still_configuration}
 use Rattle.nit_config.specs.Configured.{IsConfigured}
 use Rattle.nit_script.specs.declared.line.Line.{Line}
@@ -8,16 +8,19 @@ use Rattle.nit_script.specs.declared.line.InputLine.{InputLine}
 use Rattle.nit_script.specs.declared.line.InputLine.TheVariants as input
 use Rattle.nit_script.specs.Phases.{is_phase, phases, input_phases}
 use Rattle.nit_script.specs.Spelling.{FitsLine, FitsInputLine}
+use Rattle.nit_report.specs.Generator.{client_script, client_text, config_text, generated_configuration, script_name, user_script, user_text}
+use Rattle.nit_store.specs.Shown.{File}
 
 -- The configuration, the clients' scripts in its order, and the input script. Texts: those of the events
 -- and of the journal are put behind the pictures. Beside: the clients run beside each other, each on a
--- thread of its own; else all run by rounds, on one thread.
+-- thread of its own; else all run by rounds, on one thread. Made: files that are put before the run.
 pub record Setup : Type 0 where
   pub config : Configuration
   pub scripts : List (List Line)
   pub input : List InputLine
   pub texts : Bool
   pub beside : Bool
+  pub made : List File
 
 -- a user who does nothing: one line `phase` for each line `phase` of a client's script
 abbrev pub idle_user : List Line → List InputLine
@@ -31,6 +34,28 @@ still_setup width height lines = record {
   input = idle_user lines;
   texts = false;
   beside = false;
+  made = [];
+}
+
+-- the scripts of the first so many clients of a generated run
+abbrev pub script_files : ℕ → ℕ → List File
+script_files n count = map (λ c. (script_name c, client_text n c)) (range_with_len 0 count)
+
+-- the files of a generated run in the order in which they are put: its configuration, the scripts of its eight
+-- clients, and the input script
+abbrev pub generated_files : ℕ → List File
+generated_files n =
+    (codes "gen.toml", config_text) ∷ script_files n 8 ++ (codes "gen.in", user_text n) ∷ []
+
+-- the setup of a generated run
+abbrev pub generated_setup : ℕ → Setup
+generated_setup n = record {
+  config = generated_configuration;
+  scripts = map (client_script n) (range_with_len 0 8);
+  input = user_script n;
+  texts = true;
+  beside = true;
+  made = generated_files n;
 }
 
 -- all scripts have as many phases as the first

@@ -126,10 +126,11 @@ ReadScripts config old new (Err stop) = StoppedAmong old (script_names config) n
 
 -- ---- the run
 
--- the setup of a run, with texts or without, and with its clients beside each other or by rounds
+-- the setup of a run, with texts or without, and with its clients beside each other or by rounds; no file is
+-- made before it
 abbrev pub setup_of : Configuration → List (List Line) → List InputLine → Bool → Bool → Setup
 setup_of config scripts input texts beside =
-    record { config = config; scripts = scripts; input = input; texts = texts; beside = beside }
+    record { config = config; scripts = scripts; input = input; texts = texts; beside = beside; made = [] }
 
 -- the put that was refused
 abbrev pub refusal_of : PutFault → Refusal

@@ -5,10 +5,11 @@
 //! | `still W H SCRIPT` | the run of one client's script, whose user does nothing, on a screen of W by H |
 //! | `turns CONFIG` | the run of a configuration's clients and its input script, all by turns |
 //! | `run CONFIG` | the same, with each client on a thread of its own |
+//! | `gen N` | the files of the generated run of number N are put, and then run as `run` does |
 //!
 //! In each case the work is: read the files and judge them one by one; take all memory of the run; run,
 //! and put the files; say how it went. What a run is made of, its configuration and its scripts, is called
-//! its setup.
+//! its setup. A generated run reads no file: its files are made, and put before the run.
 //!
 //! `still` and `turns` go by rounds on one scene, on the calling thread. `run` opens a hall, in which the
 //! clients' calls are served one at a time, and each client draws on words of its own without a lock; the user
@@ -21,6 +22,7 @@
 mod beside;
 mod desk;
 mod finish;
+mod generated;
 mod last;
 pub mod laws;
 mod load;

@@ -116,9 +116,9 @@ pub fn beside<'a, R: Threads + Wait + Sync, S: Store, G: Gate>(
 
 /// The scripts of a configuration's clients, in its order, and its input script.
 #[derive(Drop)]
-struct Scripts {
-    clients: Vec<Client>,
-    input: Input,
+pub struct Scripts {
+    pub clients: Vec<Client>,
+    pub input: Input,
 }
 
 /// Reads the scripts of a configuration, and judges each as it is read.
@@ -164,7 +164,7 @@ fn perform<'a, S: Store>(
 
 /// Runs a setup with texts, each client on a thread of its own. A run that is not begun leaves
 /// everything.
-fn perform_beside<'a, R: Threads + Wait + Sync, S: Store, G: Gate>(
+pub fn perform_beside<'a, R: Threads + Wait + Sync, S: Store, G: Gate>(
     rt: &R,
     alloc: Global,
     store: &mut S,
@@ -202,7 +202,7 @@ fn worked_by<'a>(ran: Ran, clients: usize) -> Worked<'a>
 }
 
 /// How the work ends after a run, by the put that was refused.
-fn stop_after<'a>(fault: Option<PutFault>) -> Stop<'a>
+pub fn stop_after<'a>(fault: Option<PutFault>) -> Stop<'a>
     ensures end { result.end ≡ end_of fault }
     ensures name { IfSome fault (λ f. result.name ≡ Name.Put f.file) }
 {

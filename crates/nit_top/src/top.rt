@@ -1,11 +1,12 @@
 //! The top call.
 
-ghost use Rattle.std.specs.Prelude.{false, true, ◌≡◌};
-ghost use Rattle.nit_top.specs.Command.{Run, command, starts_threads, texts};
+ghost use Rattle.std.specs.Prelude.{false, true, ◌≡◌, ◌^◌, ◌<◌};
+ghost use Rattle.nit_top.specs.Command.{Gen, Run, command, starts_threads, texts};
 ghost use Rattle.nit_top.specs.Answer.{Answer};
 ghost use Rattle.nit_top.specs.Ended.{Ended, Finished};
 
 use crate::finish::{Done, End, Worked, at, status, unbegun};
+use crate::generated::generated;
 use crate::load::load_config;
 use crate::perform;
 use crate::say::tell;
@@ -30,6 +31,7 @@ pub fn nitpicker<R: Threads + Wait + Sync, S: Store, G: Gate>(
 {
     match parse_words(words) {
         Some(Asked::Run { config }) => beside(rt, alloc, store, config, gate),
+        Some(Asked::Gen { number }) => made(rt, alloc, store, number, gate),
         _ => nitpicker_alone(alloc, words, store),
     }
 }
@@ -42,11 +44,14 @@ pub fn nitpicker_alone<S: Store>(alloc: Global, words: &[String], store: &mut S)
     work(alloc, words, store)
 }
 
-/// Whether the words ask for a command that starts threads, which is `run`.
+/// Whether the words ask for a command that starts threads, which is `run` or `gen`.
 pub fn starts_threads(words: &[String]) -> bool
     ensures { result ≡ starts_threads (command (texts words.now)) }
 {
-    matches!(parse_words(words), Some(Asked::Run { .. }))
+    matches!(
+        parse_words(words),
+        Some(Asked::Run { .. } | Asked::Gen { .. })
+    )
 }
 
 /// Does the work on the calling thread, and says how it came to its end.
@@ -67,7 +72,7 @@ fn work<S: Store>(alloc: Global, words: &[String], store: &mut S) -> Done
             finish(store, worked)
         }
         Some(Asked::Turns { config }) => turns(alloc, store, config),
-        Some(Asked::Run { .. }) => unreachable!(),
+        Some(Asked::Run { .. } | Asked::Gen { .. }) => unreachable!(),
     }
 }
 
@@ -98,6 +103,21 @@ fn beside<R: Threads + Wait + Sync, S: Store, G: Gate>(
         Err(stop) => return finish(store, unbegun(alloc, stop)),
     };
     let worked = perform::beside(rt, alloc, store, &config, gate);
+    finish(store, worked)
+}
+
+/// Makes the files of the generated run of this number, and runs it with each client on a thread of its own.
+fn made<R: Threads + Wait + Sync, S: Store, G: Gate>(
+    rt: &R,
+    alloc: Global,
+    store: &mut S,
+    number: u32,
+    gate: &G,
+) -> Done
+    requires { number < 10 ^ 9 }
+    ensures { Ended (S.shown store.old) (Gen number) (S.shown store.new) result.status result.journal.items }
+{
+    let worked = generated(rt, alloc, store, number, gate);
     finish(store, worked)
 }
 

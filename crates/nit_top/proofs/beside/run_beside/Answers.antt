@@ -1,6 +1,5 @@
-use Rattle.std.proofs.Common.{◌≡◌, ◌∙◌, ◌<◌, List, length, ap, sym, subst}
+use Rattle.std.proofs.Common.{◌∙◌, List, length, ap}
 use Rattle.nit_plan.specs.Steps.{Planned}
-use Rattle.nit_hall.specs.Openings.{IsOpening}
 use Rattle.nit_top.proofs.Besides.{is_ready, plans_long, setting}
 use Rattle.nit_top.proofs.beside.run_beside.Goals as goal
 

@@ -1,7 +1,6 @@
-use Rattle.std.proofs.Common.{rules, ◌≡◌, ◌∙◌, ◌+◌, ◌++◌, ◌∷◌, [], true, List, Option, map, ap, sym, subst, refl}
+use Rattle.std.proofs.Common.{rules, ◌≡◌, ◌∙◌, ◌++◌, ◌∷◌, [], Option, map, ap, sym, subst}
 use Rattle.nit_config.specs.Configuration.{Configuration}
-use Rattle.nit_events.specs.declared.entry.Entry.{Entry}
-use Rattle.nit_journal.specs.Journals.{IsLegal, shots}
+use Rattle.nit_journal.specs.Journals.{IsLegal}
 use Rattle.nit_journal.specs.Whole.{IsWhole}
 use Rattle.nit_plan.specs.Calls.{calls_to_make, deeds_to_do}
 use Rattle.nit_store.specs.Shown.{File, Shown}
@@ -9,7 +8,6 @@ use Rattle.nit_store.specs.Puts.{PutsAll, PutsNext, Putting, Refusal}
 use Rattle.nit_hall.specs.Parts.{Parts}
 use Rattle.nit_hall.specs.Passes.{AreDone, IsDoneUser}
 use Rattle.nit_actor.specs.Running.{putting as desk_putting}
-use Rattle.nit_top.specs.Besides.{IsKnownWhole}
 use Rattle.nit_top.specs.Outputs.{events_files, final_name, final_picture, journal_file}
 use Rattle.nit_top.specs.Work.{HasRun, putting}
 use Rattle.nit_top.proofs.Besides.{all_done, beside_leaves, setup_in, user_done}

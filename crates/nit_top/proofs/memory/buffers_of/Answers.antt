@@ -1,8 +1,8 @@
-use Rattle.std.proofs.Common.{◌≡◌, ◌∙◌, ◌+◌, ◌<◌, ◌++◌, ◌∷◌, [], ℕ, List, length, map, ap, sym, subst, arith}
+use Rattle.std.proofs.Common.{◌≡◌, ◌∙◌, ◌+◌, ◌<◌, ◌++◌, ◌∷◌, [], ℕ, List, length, map, ap, sym, subst}
 use Rattle.std.specs.Prelude.{slice_index_or}
 use Rattle.std.proofs.lemmas.List.{length_push, get_or_default, map_push}
 use Rattle.nit_config.specs.declared.config.Member.{Member}
-use Rattle.nit_config.specs.Configuration.{Configuration, donation_of, member}
+use Rattle.nit_config.specs.Configuration.{Configuration, donation_of}
 use Rattle.nit_plan.specs.Plans.{table_size}
 use Rattle.nit_plan.specs.Sessions.{plan_in}
 use Rattle.nit_plan.specs.Steps.{Planned}

@@ -1,8 +1,6 @@
-use Rattle.std.proofs.Common.{◌∙◌, List, true, ap, length, subst, inl, inr, refl}
+use Rattle.std.proofs.Common.{◌∙◌, List, true, ap, length, subst, inl}
 use Rattle.nit_script.specs.declared.line.Line.{Line}
-use Rattle.nit_store.specs.Shown.{Shown}
-use Rattle.nit_top.specs.Setup.{IsRunnable}
-use Rattle.nit_top.specs.Work.{HasRun, Runs, setup_of}
+use Rattle.nit_top.specs.Work.{HasRun, setup_of}
 use Rattle.nit_top.proofs.perform.perform_beside.Goals as goal
 
 pub returns : goal.returns

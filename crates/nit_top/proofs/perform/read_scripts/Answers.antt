@@ -1,10 +1,10 @@
-use Rattle.std.proofs.Common.{◌≡◌, ◌∙◌, true, ℕ, List, Option, None, length, map, sym, ap, subst, inl, inr}
+use Rattle.std.proofs.Common.{◌≡◌, ◌∙◌, ℕ, List, Option, None, length, map, ap, subst, inl}
 use Rattle.std.specs.Prelude.{IfSome}
 use Rattle.nit_config.specs.declared.config.Member.{Member}
 use Rattle.nit_config.specs.Configuration.{Configuration}
 use Rattle.nit_store.specs.Shown.{bytes_of, asking}
-use Rattle.nit_top.specs.Judged.{IsInput, IsInputFault, script_names, wanted_by, wrong_input}
-use Rattle.nit_top.specs.Work.{SoFar, StoppedAt, StoppedAmong}
+use Rattle.nit_top.specs.Judged.{IsInput, script_names, wanted_by, wrong_input}
+use Rattle.nit_top.specs.Work.{SoFar, StoppedAmong}
 use Rattle.nit_top.proofs.Setups.{run_runnable}
 use Rattle.nit_top.proofs.perform.read_scripts.Goals as goal
 

@@ -11,7 +11,7 @@ use Rattle.nit_top.proofs.Setups.{still_stopped, still_runnable, still_ends}
 use Rattle.nit_top.proofs.perform.still.Goals as goal
 
 same_setup : (width height : ℕ) (config : Configuration) (lines read : List Line) (input : List InputLine) → config ≡ still_configuration width height → read ≡ lines → input ≡ idle_user read → setup_of config (lines ∷ []) input false false ≡ still_setup width height lines
-same_setup width height config lines read input c r i = let u : input ≡ idle_user lines = i ∙ ap idle_user r in λ j. record { config = c j; scripts = lines ∷ []; input = u j; texts = false; beside = false }
+same_setup width height config lines read input c r i = let u : input ≡ idle_user lines = i ∙ ap idle_user r in λ j. record { config = c j; scripts = lines ∷ []; input = u j; texts = false; beside = false; made = [] }
 
 pub returns-in-Err : goal.returns-in-Err
 returns-in-Err g c =

@@ -57,7 +57,7 @@ returns-then-texts g c =
     (subst (λ (k : Configuration). PutsAll (events_files k ended.entries ++ journal_file ended.entries ∷ []) final (putting (shown c.leave_texts.new.store) c.leave_texts.result.fault)) config c.leave_texts.ensures.puts) in
     subst (λ (new : Shown). HasRun first s new c.leave_texts.result) (search rules)
     (run_leaves s opened.scene mid ended c.run_rounds.new.owns first (shown c.leave_texts.new.store) at final c.leave_texts.result
-    c.rounds_are_whole.ensures c.one_more_entry.ensures.replayed refl c.requires.opened.configuration c.run_rounds.ensures.run c.draw_last.ensures.recorded c.draw_last.ensures.config c.draw_last.ensures.legal
+    c.rounds_are_whole.ensures c.one_more_entry.ensures.replayed refl refl c.requires.opened.configuration c.run_rounds.ensures.run c.draw_last.ensures.recorded c.draw_last.ensures.config c.draw_last.ensures.legal
     c.run_rounds.ensures.shots puts texts c.leave_texts.ensures.journal c.leave_texts.ensures.frames)
 
 pub returns : goal.returns
@@ -85,5 +85,5 @@ returns g c =
     let frames : c.left.result.frames ≡ shots ended.entries + 1 = c.left.ensures.frames ∙ ap (λ (es : List Entry). shots es + 1) (c.into_entries.ensures ∙ ap (λ (k : Kept). k.entries) c.into_journal.ensures.entries) in
     subst (λ (new : Shown). HasRun first s new c.left.result) (search rules)
     (run_leaves s opened.scene mid ended c.run_rounds.new.owns first (shown c.put_final-fault.new.store) at final c.left.result
-    c.rounds_are_whole.ensures c.one_more_entry.ensures.replayed refl c.requires.opened.configuration c.run_rounds.ensures.run c.draw_last.ensures.recorded c.draw_last.ensures.config c.draw_last.ensures.legal
+    c.rounds_are_whole.ensures c.one_more_entry.ensures.replayed refl refl c.requires.opened.configuration c.run_rounds.ensures.run c.draw_last.ensures.recorded c.draw_last.ensures.config c.draw_last.ensures.legal
     c.run_rounds.ensures.shots puts texts journal frames)

@@ -1,0 +1,7 @@
+use Rattle.nit_store.specs.Puts.{PutsAll}
+use Rattle.nit_top.specs.Setup.{script_files}
+use Rattle.nit_top.specs.Work.{putting}
+use Rattle.nit_top.proofs.generated.put_scripts.Given as goal
+
+abbrev pub invariant-clients : goal.invariant-clients
+invariant-clients g l = PutsAll (script_files l.number l.client) (putting (g.S.Store.shown l.initial.store) l.initial.refused) (putting (g.S.Store.shown l.store) l.refused)

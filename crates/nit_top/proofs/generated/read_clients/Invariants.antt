@@ -1,0 +1,7 @@
+use Rattle.std.proofs.Common.{◌≡◌, map}
+use Rattle.std.specs.List.{range_with_len}
+use Rattle.nit_report.specs.Generator.{client_script}
+use Rattle.nit_top.proofs.generated.read_clients.Given as goal
+
+abbrev pub invariant-clients : goal.invariant-clients
+invariant-clients l = l.scripts.items ≡ map (client_script l.number) (range_with_len 0 l.client)

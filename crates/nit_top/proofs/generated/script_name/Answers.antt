@@ -1,0 +1,6 @@
+use Rattle.std.proofs.Common.{sym}
+use Rattle.nit_top.proofs.GeneratedRuns.{name_bytes}
+use Rattle.nit_top.proofs.generated.script_name.Goals as goal
+
+pub returns : goal.returns
+returns c = sym (name_bytes c.args.client c.requires)
