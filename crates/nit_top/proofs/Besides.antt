@@ -60,7 +60,7 @@ at_get [] k x d e = absurd cc
 at_get (y ∷ ys) zero x d e = (omega arith, cc)
 at_get (y ∷ ys) (suc k) x d e = let rest = at_get ys k x d e in (let n = rest.0 in omega (arith, n), rest.1)
 
-get_at : {X : Type 0} (xs : List X) (k : ℕ) (d : X) → k < length xs → slice_get xs k ≡ Some (slice_index_or xs k d)
+pub get_at : {X : Type 0} (xs : List X) (k : ℕ) (d : X) → k < length xs → slice_get xs k ≡ Some (slice_index_or xs k d)
 get_at [] k d inside = absurd (omega arith)
 get_at (y ∷ ys) zero d inside = refl
 get_at (y ∷ ys) (suc k) d inside = get_at ys k d (omega arith)

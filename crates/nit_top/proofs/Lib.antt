@@ -14,6 +14,7 @@ pub mod PerClient
 pub mod LastWords
 pub mod Leaving
 pub mod Besides
+pub mod OneAlone
 pub mod Headlines
 pub mod Naming
 pub mod Texting

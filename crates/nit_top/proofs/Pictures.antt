@@ -52,7 +52,7 @@ no_picture_from config scripts (m ∷ moves) d n e =
     let one = one_move config m.doing d (input_of moves) n e in
     no_picture_from config scripts moves (after_move config scripts d m) one.1.0 one.1.1 ∙ one.0
 
-no_picture : (config : Configuration) (scripts : List (List Line)) (moves : List Move) (n : ℕ) → input_of moves ≡ replicate n input.Phase → (drawn config scripts moves).shots ≡ []
+pub no_picture : (config : Configuration) (scripts : List (List Line)) (moves : List Move) (n : ℕ) → input_of moves ≡ replicate n input.Phase → (drawn config scripts moves).shots ≡ []
 unfolding drawn
 no_picture config scripts moves n e = no_picture_from config scripts moves (opening_drawing config) n e
 

@@ -19,7 +19,8 @@ use Rattle.nit_top.specs.declared.finish.Fault.{Fault}
 use Rattle.nit_top.specs.declared.finish.Stop.{Stop}
 use Rattle.nit_top.specs.declared.finish.Worked.{Worked}
 use Rattle.nit_top.specs.Command.{Command, Still, Run}
-use Rattle.nit_top.specs.Setup.{AreLines, still_setup, idle_user, HaveSamePhases, IsRunnable}
+use Rattle.nit_actor.specs.InStep.{idle_user}
+use Rattle.nit_top.specs.Setup.{AreLines, still_setup, HaveSamePhases, IsRunnable}
 use Rattle.nit_top.specs.Judged.{IsConfig, IsConfigFault, IsClient, IsClientFault, IsInput, IsInputFault, SpellScripts, AreScripts, script_names, wanted_by, wrong_phases, wrong_input, Judged, Refused, IsValid, names_in}
 use Rattle.nit_top.specs.FilesRead.{NoFile, FirstFiles, HasRead, first_names}
 use Rattle.nit_top.specs.Lines.{name_text}

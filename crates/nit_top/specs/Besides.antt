@@ -1,5 +1,6 @@
--- A run whose clients are beside each other: what it begins with, and what its user knows at its end.
-use Rattle.std.specs.Prelude.{◌≡◌, ◌++◌, ℕ, ◌*◌, ◌≤◌, List, [], All, length, map, slice_get, Some, vec_len, vec_capacity}
+-- A run in a room: what it begins with, with its clients beside each other or one alone, and what its user
+-- knows at its end.
+use Rattle.std.specs.Prelude.{◌∷◌, ◌≡◌, ◌++◌, ℕ, ◌*◌, ◌≤◌, List, [], All, length, map, slice_get, Some, vec_len, vec_capacity}
 use Rattle.nit_events.specs.declared.entry.Entry.{Entry}
 use Rattle.nit_config.specs.Configuration.{Configuration, donation_of}
 use Rattle.nit_plan.specs.Steps.{Planned}
@@ -12,6 +13,9 @@ use Rattle.nit_pixels.specs.Ends.{End, BufferName, new_sight}
 use Rattle.nit_hall.specs.Parts.{Parts}
 use Rattle.nit_hall.specs.Passes.{PassModel, UserPassModel, Belongs, UserBelongs}
 use Rattle.nit_hall.specs.Rooms.{RoomModel}
+use Rattle.nit_script.specs.declared.line.Line.{Line}
+use Rattle.nit_script.specs.declared.line.InputLine.{InputLine}
+use Rattle.nit_actor.specs.InStep.{AreInStep, idle_user}
 use Rattle.nit_top.specs.declared.memory.Memory.{Memory}
 
 -- the key of this number is to words 0, one for each place of the table of its session, with the ink of
@@ -51,3 +55,17 @@ pub record IsReady (parts : Parts) (r : RoomModel) (ps : List PassModel) (u : Us
 abbrev pub IsKnownWhole : List Entry → List Entry → Type 0
 IsKnownWhole known journal =
     (rest : List Entry) × (journal ≡ known ++ rest) × (deeds_of rest ≡ [])
+
+-- there is one client, and the user does nothing but end the client's phases
+abbrev pub IsAlone : List (List Line) → List InputLine → Type 0
+IsAlone scripts lines =
+    (script : List Line) × (scripts ≡ script ∷ []) × (lines ≡ idle_user script)
+
+-- The run of this opening can begin, it has one client whose user does nothing, and no actor has done a
+-- line.
+pub record IsReadyAlone (parts : Parts) (r : RoomModel) (ps : List PassModel) (u : UserPassModel)
+    : Type 0 where
+  pub ready : IsReady parts r ps u
+  pub alone : IsAlone parts.scripts parts.input
+  pub one_client : length parts.config.clients ≡ 1
+  pub step : (p : PassModel) → slice_get ps 0 ≡ Some p → AreInStep r p u

@@ -1,13 +1,13 @@
 -- What a run is made of.
-use Rattle.std.specs.Prelude.{◌≡◌, ℕ, ◌≤◌, Bool, false, true, List, [], ◌∷◌, ◌++◌, length, map, codes, replicate, count_by}
+use Rattle.std.specs.Prelude.{◌≡◌, ℕ, ◌≤◌, Bool, false, true, List, [], ◌∷◌, ◌++◌, length, map, codes}
 use Rattle.std.specs.List.{AllByRecursion, range_with_len}
 use Rattle.nit_config.specs.Configuration.{Configuration, still_configuration}
 use Rattle.nit_config.specs.Configured.{IsConfigured}
 use Rattle.nit_script.specs.declared.line.Line.{Line}
 use Rattle.nit_script.specs.declared.line.InputLine.{InputLine}
-use Rattle.nit_script.specs.declared.line.InputLine.TheVariants as input
-use Rattle.nit_script.specs.Phases.{is_phase, phases, input_phases}
+use Rattle.nit_script.specs.Phases.{phases, input_phases}
 use Rattle.nit_script.specs.Spelling.{FitsLine, FitsInputLine}
+use Rattle.nit_actor.specs.InStep.{idle_user}
 use Rattle.nit_report.specs.Generator.{client_script, client_text, config_text, generated_configuration, script_name, user_script, user_text}
 use Rattle.nit_store.specs.Shown.{File}
 
@@ -21,10 +21,6 @@ pub record Setup : Type 0 where
   pub texts : Bool
   pub beside : Bool
   pub made : List File
-
--- a user who does nothing: one line `phase` for each line `phase` of a client's script
-abbrev pub idle_user : List Line → List InputLine
-idle_user lines = replicate (count_by is_phase lines) input.Phase
 
 -- the setup of a picture of one client's script, by rounds and without texts
 abbrev pub still_setup : ℕ → ℕ → List Line → Setup

@@ -111,7 +111,7 @@ fn run_named<'a, N: Name + Send + Sync, R: Threads + Wait + Sync, S: Store, G: G
 }
 
 /// Takes the last picture by the passes, and sets `text` to its bytes. Gives the scene, whose journal is whole.
-fn last_picture<'a>(
+pub fn last_picture<'a>(
     room: Room<'a>,
     passes: Vec<Pass<'a>>,
     user: UserPass<'a>,

@@ -19,6 +19,7 @@
 //! is tried, and the run goes on to its end.
 #![tactic(auto)]
 
+mod alone;
 mod beside;
 mod desk;
 mod finish;

@@ -5,10 +5,12 @@ ghost use Rattle.nit_config.specs.Configuration.{still_configuration};
 ghost use Rattle.nit_config.specs.Configured.{IsConfigured};
 ghost use Rattle.nit_store.specs.Shown.{Shown, bytes_of, asking};
 ghost use Rattle.nit_top.specs.Judged.{IsConfig};
+ghost use Rattle.nit_top.specs.Besides.{IsAlone};
 ghost use Rattle.nit_top.specs.Command.{Run, Still};
 ghost use Rattle.nit_top.specs.Setup.{IsRunnable};
 ghost use Rattle.nit_top.specs.Work.{Ends, Performed, ReadScripts, setup_of, end_of};
 
+use crate::alone::run_one;
 use crate::beside::run_beside;
 use crate::finish::{End, Name, Stop, Worked, at, unbegun};
 use crate::laws::headline;
@@ -46,7 +48,7 @@ pub fn still<'a, S: Store>(
     let Ok(input) = idle_user(alloc, client.lines()) else {
         return unbegun(alloc, at(End::NoMemory, script));
     };
-    perform(alloc, store, &config, &[client], &input, false)
+    perform_alone(alloc, store, &config, &[client], &input)
 }
 
 /// The configuration of a picture of one client's script.
@@ -91,7 +93,7 @@ pub fn turns<'a, S: Store>(alloc: Global, store: &mut S, config: &'a Config) -> 
         Ok(scripts) => scripts,
         Err(stop) => return unbegun(alloc, stop),
     };
-    perform(alloc, store, config, &scripts.clients, &scripts.input, true)
+    perform(alloc, store, config, &scripts.clients, &scripts.input)
 }
 
 /// Runs the scripts of a configuration with each client on a thread of its own.
@@ -142,21 +144,40 @@ fn read_scripts<'a, S: Store>(
     }
 }
 
-/// Runs a setup by rounds, with texts or without. A run that is not begun leaves everything.
+/// Runs a setup by rounds, with texts. A run that is not begun leaves everything.
 fn perform<'a, S: Store>(
     alloc: Global,
     store: &mut S,
     config: &Config,
     scripts: &[Client],
     input: &Input,
-    texts: bool,
 ) -> Worked<'a>
-    requires { IsRunnable (setup_of config.now scripts.now input.now texts false) }
-    ensures { Performed (S.shown store.old) (setup_of config.now scripts.now input.now texts false)
+    requires { IsRunnable (setup_of config.now scripts.now input.now true false) }
+    ensures { Performed (S.shown store.old) (setup_of config.now scripts.now input.now true false)
         (S.shown store.new) result }
 {
     headline();
-    let Ok(ran) = run(alloc, config, scripts, input, texts, store) else {
+    let Ok(ran) = run(alloc, config, scripts, input, store) else {
+        return unbegun(alloc, at(End::NoMemory, ""));
+    };
+    worked_by(ran, scripts.len())
+}
+
+/// Runs one client whose user does nothing, without texts. A run that is not begun leaves everything.
+fn perform_alone<'a, S: Store>(
+    alloc: Global,
+    store: &mut S,
+    config: &Config,
+    scripts: &[Client],
+    input: &Input,
+) -> Worked<'a>
+    requires runnable { IsRunnable (setup_of config.now scripts.now input.now false false) }
+    requires alone { IsAlone scripts.now input.now }
+    ensures { Performed (S.shown store.old) (setup_of config.now scripts.now input.now false false)
+        (S.shown store.new) result }
+{
+    headline();
+    let Ok(ran) = run_one(alloc, config, scripts, input, store) else {
         return unbegun(alloc, at(End::NoMemory, ""));
     };
     worked_by(ran, scripts.len())

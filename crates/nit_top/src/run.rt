@@ -1,6 +1,6 @@
 //! The run of a setup.
 
-ghost use Rattle.std.specs.Prelude.{false, ◌≡◌, ◌+◌, ◌≤◌, ◌++◌, ◌∷◌, [], length};
+ghost use Rattle.std.specs.Prelude.{false, true, ◌≡◌, ◌+◌, ◌≤◌, ◌++◌, ◌∷◌, [], length};
 ghost use Rattle.nit_journal.specs.Journals.{shots};
 ghost use Rattle.nit_store.specs.Puts.{PutsAll};
 ghost use Rattle.nit_top.specs.Opened.{IsOpened};
@@ -46,40 +46,37 @@ pub struct Ran {
 }
 
 /// Takes all memory of a run, and does it by rounds, up to its end. Each shot is put as it is taken, then
-/// the last picture, and then the texts where the run has them, until a put is refused. Where memory runs
-/// out before the first round, nothing was done.
+/// the last picture, and then the texts, until a put is refused. Where memory runs out before the first
+/// round, nothing was done.
 pub fn run<S: Store>(
     alloc: Global,
     config: &Config,
     scripts: &[Client],
     input: &Input,
-    texts: bool,
     store: &mut S,
 ) -> Result<Ran, NoMemory>
-    requires { IsRunnable (setup_of config.now scripts.now input.now texts false) }
-    ensures { Runs (S.shown store.old) (setup_of config.now scripts.now input.now texts false)
+    requires { IsRunnable (setup_of config.now scripts.now input.now true false) }
+    ensures { Runs (S.shown store.old) (setup_of config.now scripts.now input.now true false)
         (S.shown store.new) result }
 {
     let Ok(opened) = open(alloc, config, scripts, input) else {
         return Err(NoMemory);
     };
-    Ok(play(alloc, opened, config, scripts, input, texts, store))
+    Ok(play(alloc, opened, config, scripts, input, store))
 }
 
-/// Does the rounds, takes the last picture, and puts the texts where the run has them. The rounds take no
-/// memory.
+/// Does the rounds, takes the last picture, and puts the texts. The rounds take no memory.
 fn play<S: Store>(
     alloc: Global,
     opened: Opened,
     config: &Config,
     scripts: &[Client],
     input: &Input,
-    texts: bool,
     store: &mut S,
 ) -> Ran
-    requires runnable { IsRunnable (setup_of config.now scripts.now input.now texts false) }
+    requires runnable { IsRunnable (setup_of config.now scripts.now input.now true false) }
     requires opened { IsOpened config.now scripts.now input.now opened }
-    ensures { HasRun (S.shown store.old) (setup_of config.now scripts.now input.now texts false)
+    ensures { HasRun (S.shown store.old) (setup_of config.now scripts.now input.now true false)
         (S.shown store.new) result }
 {
     rounds_are_whole();
@@ -111,11 +108,7 @@ fn play<S: Store>(
     } = desk;
     draw_last(&mut scene, &mut owns, &mut frame, &mut text);
     let fault = put_final(store, refused, &text);
-    if texts {
-        leave_texts(alloc, store, fault, &config.clients, scene)
-    } else {
-        left(scene.into_journal().into_entries(), fault)
-    }
+    leave_texts(alloc, store, fault, &config.clients, scene)
 }
 
 /// What a run leaves that ended with this scene, and puts its texts.
@@ -140,7 +133,7 @@ pub fn leave_texts<S: Store, G: Glass + Drop>(
 }
 
 /// What a run leaves that has this journal.
-fn left(journal: Vec<Entry>, fault: Option<PutFault>) -> Ran
+pub fn left(journal: Vec<Entry>, fault: Option<PutFault>) -> Ran
     ensures journal { result.journal.items ≡ journal.items }
     ensures frames { result.frames ≡ shots journal.items + 1 }
     ensures fault { result.fault ≡ fault }

@@ -1,10 +1,11 @@
-use Rattle.std.proofs.Common.{◌≡◌, ◌∙◌, false, ◌∷◌, [], ℕ, List, None, sym, ap, subst, inl, arith}
+use Rattle.std.proofs.Common.{◌≡◌, ◌∙◌, false, ◌∷◌, [], ℕ, List, None, sym, ap, subst, inl, refl, arith}
 use Rattle.nit_script.specs.declared.line.Line.{Line}
 use Rattle.nit_script.specs.declared.line.InputLine.{InputLine}
 use Rattle.nit_config.specs.Configuration.{Configuration, still_configuration}
 use Rattle.nit_top.specs.declared.finish.End.{End}
 use Rattle.nit_top.specs.Judged.{IsClientFault}
-use Rattle.nit_top.specs.Setup.{Setup, still_setup, idle_user, IsRunnable}
+use Rattle.nit_actor.specs.InStep.{idle_user}
+use Rattle.nit_top.specs.Setup.{Setup, still_setup, IsRunnable}
 use Rattle.nit_top.specs.Lines.{name_text}
 use Rattle.nit_top.specs.Work.{StoppedAt, Performed, setup_of}
 use Rattle.nit_top.proofs.Setups.{still_stopped, still_runnable, still_ends}
@@ -34,21 +35,24 @@ returns-in_default-idle_user g c =
     still_stopped c.args.width c.args.height c.args.script.now old new c.at-in_default-idle_user.result c.unbegun-in_default-idle_user.result (ap name_text c.at-in_default-idle_user.ensures.1)
     (subst (λ (e : End). StoppedAt (IsClientFault None) old c.args.script.now new e) (sym c.at-in_default-idle_user.ensures.0) (inl loaded.0)) c.unbegun-in_default-idle_user.ensures.stop c.unbegun-in_default-idle_user.ensures.journal
 
-pub perform-requires : goal.perform-requires
-perform-requires g c =
+pub perform_alone-requires-clause-runnable : goal.perform_alone-requires-clause-runnable
+perform_alone-requires-clause-runnable g c =
     let width = c.args.width in
     let height = c.args.height in
     let size = c.requires in
     subst (λ (s : Setup). IsRunnable s) (sym (same_setup width height c.in-Ok-still_configuration.config c.in-Ok.client c.lines.result.now c.in-Ok-idle_user.input c.in-Ok-still_configuration.ensures c.lines.ensures.value c.in-Ok-idle_user.ensures))
     (still_runnable width height c.in-Ok.client (omega (arith, size.0)) size.1 (omega (arith, size.2)) size.3 c.in-Ok.ensures.lines)
 
+pub perform_alone-requires-clause-alone : goal.perform_alone-requires-clause-alone
+perform_alone-requires-clause-alone g c = (c.in-Ok.client, refl, c.in-Ok-idle_user.ensures ∙ ap idle_user c.lines.ensures.value)
+
 pub returns : goal.returns
 returns g c =
     let width = c.args.width in
     let height = c.args.height in
     let mid = g.S.Store.shown c.load_client.new.store in
-    let new = g.S.Store.shown c.perform.new.store in
+    let new = g.S.Store.shown c.perform_alone.new.store in
     let loaded = c.in-Ok.ensures.loaded in
-    still_ends width height c.args.script.now (g.S.Store.shown c.args.store.now) mid new c.in-Ok.client c.perform.result loaded.0 loaded.1
+    still_ends width height c.args.script.now (g.S.Store.shown c.args.store.now) mid new c.in-Ok.client c.perform_alone.result loaded.0 loaded.1
     (still_runnable width height c.in-Ok.client (omega (arith, c.requires.0)) c.requires.1 (omega (arith, c.requires.2)) c.requires.3 c.in-Ok.ensures.lines)
-    (subst (λ (s : Setup). Performed mid s new c.perform.result) (same_setup width height c.in-Ok-still_configuration.config c.in-Ok.client c.lines.result.now c.in-Ok-idle_user.input c.in-Ok-still_configuration.ensures c.lines.ensures.value c.in-Ok-idle_user.ensures) c.perform.ensures)
+    (subst (λ (s : Setup). Performed mid s new c.perform_alone.result) (same_setup width height c.in-Ok-still_configuration.config c.in-Ok.client c.lines.result.now c.in-Ok-idle_user.input c.in-Ok-still_configuration.ensures c.lines.ensures.value c.in-Ok-idle_user.ensures) c.perform_alone.ensures)

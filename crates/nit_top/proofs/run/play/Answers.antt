@@ -1,4 +1,4 @@
-use Rattle.std.proofs.Common.{rules, ◌≡◌, ◌∙◌, ◌<◌, ◌++◌, ◌∷◌, [], List, Option, length, ℕ, ◌+◌, ap, sym, subst, refl, false}
+use Rattle.std.proofs.Common.{rules, ◌≡◌, ◌∙◌, ◌<◌, ◌++◌, ◌∷◌, [], List, Option, length, ℕ, ◌+◌, ap, sym, subst, refl, false, true}
 use Rattle.nit_word.specs.Sight.{Sight}
 use Rattle.nit_events.specs.declared.entry.Entry.{Entry}
 use Rattle.nit_journal.specs.Kept.{Kept}
@@ -33,14 +33,14 @@ draw_last-requires-clause-tables g c = λ t inside.
     (subst (λ (gs : List Sight). IsGlass c.args.config.now t (glass_in gs t)) (sym owns)
     (left_glass c.buffer_within_table.ensures.words c.one_more_line.ensures.done c.args.config.now c.args.scripts.now c.run_rounds.new.owns t c.requires.runnable.configured c.requires.runnable.scripts are there))
 
-pub returns-then-texts : goal.returns-then-texts
-returns-then-texts g c =
+pub returns : goal.returns
+returns g c =
     let opened = c.args.opened in
     let shown = g.S.Store.shown in
     let mid = c.run_rounds.new.scene in
     let ended = c.draw_last.new.scene in
     let desk = c.run_rounds.new.desk in
-    let s = setup_of c.args.config.now c.args.scripts.now c.args.input.now c.args.texts false in
+    let s = setup_of c.args.config.now c.args.scripts.now c.args.input.now true false in
     let first = shown c.args.store.now in
     let at = desk_putting (shown desk.store.now) desk.fault desk.tried in
     let final = putting (shown c.put_final-fault.new.store) c.put_final-fault.result in
@@ -53,37 +53,9 @@ returns-then-texts g c =
     (text ∙ c.draw_last.ensures.picture tables (subst (λ (gs : List Sight). HaveTables gs tables) (sym owns) have))
     (behind_desk (shown desk.store.now) _ at.refused (final_name, c.deref-2.result.now) final c.refused_shot-refused.ensures c.put_final-fault.ensures) in
     let texts : PutsAll (text_files s ended.entries) final (putting (shown c.leave_texts.new.store) c.leave_texts.result.fault) =
-    subst (λ (fs : List File). PutsAll fs final (putting (shown c.leave_texts.new.store) c.leave_texts.result.fault)) (sym (with_texts s ended.entries c.if-texts.true))
+    subst (λ (fs : List File). PutsAll fs final (putting (shown c.leave_texts.new.store) c.leave_texts.result.fault)) (sym (with_texts s ended.entries refl))
     (subst (λ (k : Configuration). PutsAll (events_files k ended.entries ++ journal_file ended.entries ∷ []) final (putting (shown c.leave_texts.new.store) c.leave_texts.result.fault)) config c.leave_texts.ensures.puts) in
     subst (λ (new : Shown). HasRun first s new c.leave_texts.result) (search rules)
     (run_leaves s opened.scene mid ended c.run_rounds.new.owns first (shown c.leave_texts.new.store) at final c.leave_texts.result
     c.rounds_are_whole.ensures c.one_more_entry.ensures.replayed refl refl c.requires.opened.configuration c.run_rounds.ensures.run c.draw_last.ensures.recorded c.draw_last.ensures.config c.draw_last.ensures.legal
     c.run_rounds.ensures.shots puts texts c.leave_texts.ensures.journal c.leave_texts.ensures.frames)
-
-pub returns : goal.returns
-returns g c =
-    let opened = c.args.opened in
-    let shown = g.S.Store.shown in
-    let mid = c.run_rounds.new.scene in
-    let ended = c.draw_last.new.scene in
-    let desk = c.run_rounds.new.desk in
-    let s = setup_of c.args.config.now c.args.scripts.now c.args.input.now c.args.texts false in
-    let first = shown c.args.store.now in
-    let at = desk_putting (shown desk.store.now) desk.fault desk.tried in
-    let final = putting (shown c.put_final-fault.new.store) c.put_final-fault.result in
-    let owns : c.deref_mut-2.result.now ≡ c.run_rounds.new.owns = c.deref_mut-2.ensures.value ∙ written_whole opened.owns.len c.run_rounds.new.owns opened.owns.items (c.run_rounds.auto.owns ∙ c.deref_mut.ensures.len) in
-    let text : c.deref-2.result.now ≡ c.draw_last.new.text = c.deref-2.ensures.value ∙ written_whole desk.text.len c.draw_last.new.text desk.text.items (c.draw_last.auto.text ∙ c.deref_mut-4.ensures.len) in
-    let puts : PutsLast (state_now mid) c.run_rounds.new.owns at final =
-    λ tables have.
-    subst (λ (bytes : List ℕ). PutsNext (final_name, bytes) at final)
-    (text ∙ c.draw_last.ensures.picture tables (subst (λ (gs : List Sight). HaveTables gs tables) (sym owns) have))
-    (behind_desk (shown desk.store.now) _ at.refused (final_name, c.deref-2.result.now) final c.refused_shot-refused.ensures c.put_final-fault.ensures) in
-    let texts : PutsAll (text_files s ended.entries) final (putting (shown c.put_final-fault.new.store) c.left.result.fault) =
-    subst (λ (fs : List File). PutsAll fs final (putting (shown c.put_final-fault.new.store) c.left.result.fault)) (sym (without_texts s ended.entries c.if-texts.false))
-    (ap (λ (o : Option PutFault). putting (shown c.put_final-fault.new.store) o) c.left.ensures.fault) in
-    let journal : c.left.result.journal.items ≡ ended.entries = c.left.ensures.journal ∙ c.into_entries.ensures ∙ ap (λ (k : Kept). k.entries) c.into_journal.ensures.entries in
-    let frames : c.left.result.frames ≡ shots ended.entries + 1 = c.left.ensures.frames ∙ ap (λ (es : List Entry). shots es + 1) (c.into_entries.ensures ∙ ap (λ (k : Kept). k.entries) c.into_journal.ensures.entries) in
-    subst (λ (new : Shown). HasRun first s new c.left.result) (search rules)
-    (run_leaves s opened.scene mid ended c.run_rounds.new.owns first (shown c.put_final-fault.new.store) at final c.left.result
-    c.rounds_are_whole.ensures c.one_more_entry.ensures.replayed refl refl c.requires.opened.configuration c.run_rounds.ensures.run c.draw_last.ensures.recorded c.draw_last.ensures.config c.draw_last.ensures.legal
-    c.run_rounds.ensures.shots puts texts journal frames)

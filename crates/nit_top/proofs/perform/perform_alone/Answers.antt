@@ -1,0 +1,15 @@
+use Rattle.std.proofs.Common.{false, inl}
+use Rattle.nit_top.specs.Work.{setup_of}
+use Rattle.nit_top.proofs.perform.perform_alone.Goals as goal
+
+pub returns : goal.returns
+returns g c = inl (record {
+  ran = c.in-Ok.ran;
+  has_run = c.in-Ok.ensures;
+  headline = c.headline.ensures (setup_of c.args.config.now c.args.scripts.now c.args.input.now false false) c.in-Ok.ran.journal.items c.in-Ok.ensures.outputs c.requires.runnable c.in-Ok.ensures.journal c.in-Ok.ensures.are;
+  end_is = c.worked_by.ensures.end;
+  name_is = c.worked_by.ensures.name;
+  journal_is = c.worked_by.ensures.journal;
+  clients_are = c.worked_by.ensures.clients;
+  frames_are = c.worked_by.ensures.frames;
+})
