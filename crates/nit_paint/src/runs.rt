@@ -30,9 +30,7 @@ fn load_run<G: Glass>(raw: &mut [u32], at: usize, count: u32, glass: &mut G, fro
     ensures size { (G.sight glass.new).size ≡ (G.sight glass.old).size }
     ensures rest { G.rest glass.new ≡ G.rest glass.old }
 {
-    'pixels: for j in 0..count as usize {
-        raw[at + j] = glass.load(from as usize + j);
-    }
+    glass.load_row(from as usize, &mut raw[at..at + count as usize]);
 }
 
 /// Paints the pixels of a row from `at` on. The words of the buffer's row begin at `start`; where the buffer
