@@ -11,7 +11,7 @@ use Rattle.nit_word.specs.Sight.{Sight, IsLoaded, IsLoadedRow, seen}
 use Rattle.nit_word.proofs.Loads.{loaded_after, more_taken, seen_none, seen_twice}
 use Rattle.nit_word.proofs.SideBySide.{at_place}
 use Rattle.nit_stack.specs.Sources.{PixelSource, Bare, Black, Word, black_or_word}
-use Rattle.nit_paint.specs.Painting.{IsAmongLoads, IsHeld, Repainted, is_word_of, loads_of, times_shown, with_glass}
+use Rattle.nit_paint.specs.Painting.{IsAmongLoads, IsHeld, Repainted, no_sight, is_word_of, loads_of, times_shown, with_glass}
 use Rattle.nit_paint.specs.Runs.{in_run, index_from, long, own_word, reached, row_source}
 use Rattle.nit_paint.specs.declared.reach.Reach.{Reach}
 use Rattle.nit_paint.proofs.Glasses.{held_by_load, seen_by_load}
@@ -218,6 +218,19 @@ after_it r i =
     let b : nat_lt (r.before + r.words + i) r.before ≡ false = grind (arith, nat_tests) in
     let d : nat_lt (r.before + r.words + i) (r.before + r.words) ≡ false = grind (arith, nat_tests) in
     rw (b, d) refl
+
+-- no other pixel changes, whatever the row shows
+pub row_others : (at n : ℕ) (r : Reach) (start : Option ℕ) (g g' : Sight) (raw raw' : List ℕ)
+    → ((source : ℕ → PixelSource) (sid : ℕ) (others : ℕ → Sight) → ((j : ℕ) → j < long r → source (at + j) ≡ row_source sid r start j)
+    → Repainted source (in_run at (long r)) n (with_glass others sid g) (with_glass others sid g') raw raw')
+    → (k : ℕ) → in_run at (long r) k ≡ false → slice_index_or raw' k 0 ≡ slice_index_or raw k 0
+row_others at n r start g g' raw raw' painted k out =
+    (painted (λ i. row_source 0 r start (i - at)) 0 (λ t. no_sight) (λ j l. let e : at + j - at ≡ j = omega arith in ap (row_source 0 r start) e)).others k (λ l. out)
+
+pub bare_others : (at count n : ℕ) (raw raw' : List ℕ)
+    → ((source : ℕ → PixelSource) (glasses : ℕ → Sight) → ((j : ℕ) → j < count → own_word (source (at + j)) ≡ Some 32) → Repainted source (in_run at count) n glasses glasses raw raw')
+    → (k : ℕ) → in_run at count k ≡ false → slice_index_or raw' k 0 ≡ slice_index_or raw k 0
+bare_others at count n raw raw' painted k out = (painted (λ i. Bare) (λ t. no_sight) (λ j l. refl)).others k (λ l. out)
 
 module _ (source : ℕ → PixelSource) (at sid : ℕ) (r : Reach) where
   pub all_black : ((j : ℕ) → j < long r → source (at + j) ≡ row_source sid r None j) → (j : ℕ) → j < r.before + r.words + r.after → own_word (source (at + j)) ≡ Some 0

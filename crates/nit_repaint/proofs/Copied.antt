@@ -1,5 +1,5 @@
 -- Words of a frame that are copied, one set of pixels after the other.
-use Rattle.std.proofs.Common.{◌≡◌, ℕ, ◌+◌, ◌*◌, ◌<◌, ◌≤◌, ◌||◌, Bool, true, false, cond, nat_lt, List, length, refl, ap, sym, ◌∙◌, subst, arith, take_all}
+use Rattle.std.proofs.Common.{◌≡◌, ℕ, ◌+◌, ◌*◌, ◌<◌, ◌≤◌, Bool, true, false, cond, nat_lt, List, length, refl, ap, ◌∙◌, subst, arith, take_all}
 use Rattle.std.specs.Prelude.{◌&&◌, IsTrue, Option, None, Some, slice_get, slice_index}
 use Rattle.std.specs.Option.{option_map_or}
 use Rattle.std.proofs.lemmas.Bool.Decides.{nat_tests}
@@ -10,37 +10,18 @@ use Rattle.nit_stack.specs.Sources.{in_bar, owner_in, pixel}
 use Rattle.nit_stack.specs.Standing.{IsOnScreen, NoPair, Seat, Standing, is_slot, same_slot, seat_in}
 use Rattle.nit_damage.specs.Cuts.{Cuts, to_come}
 use Rattle.nit_damage.specs.Sets.{once}
+use Rattle.nit_paint.specs.Copied.{IsCopied}
+use Rattle.nit_paint.proofs.Copied.{copied_same, copied_then, nothing_copied}
 use Rattle.nit_repaint.specs.Coming.{has_come, is_to_come}
-use Rattle.nit_repaint.specs.Copied.{IsCopied}
 use Rattle.nit_repaint.specs.Owned.{owner_passes}
 use Rattle.nit_repaint.specs.Parts.{is_wanted, wanted, wanted_of_first}
 use Rattle.nit_repaint.proofs.Coming.{all_count}
 use Rattle.nit_repaint.proofs.Screen.{on_screen}
 use Rattle.nit_repaint.proofs.Wanted.{lt_once, one_more}
 
--- none is chosen
-pub nothing_copied : (chosen : ℕ → Bool) (n : ℕ) (raw frame : List ℕ) → ((k : ℕ) → k < n → chosen k ≡ false) → IsCopied chosen n raw frame frame
-nothing_copied chosen n raw frame none = record { words = λ k l. ap (λ (b : Bool). cond b (slice_index raw k) (slice_index frame k)) (sym (none k l)); count = refl }
-
--- the same choice in other words
-pub copied_same : (chosen other : ℕ → Bool) (n : ℕ) (raw old new : List ℕ) → ((k : ℕ) → k < n → chosen k ≡ other k) → IsCopied chosen n raw old new → IsCopied other n raw old new
-copied_same chosen other n raw old new same is = record {
-  words = λ k l. is.words k l ∙ ap (λ (b : Bool). cond b (slice_index raw k) (slice_index old k)) (same k l);
-  count = is.count;
-}
-
--- two choices, one after the other
-pub copied_union : (first last chosen : ℕ → Bool) (n : ℕ) (raw old mid new : List ℕ) → ((k : ℕ) → (first k || last k) ≡ chosen k) → IsCopied first n raw old mid → IsCopied last n raw mid new → IsCopied chosen n raw old new
-copied_union first last chosen n raw old mid new both one two = record {
-  words = λ k l. two.words k l ∙ ap (λ (w : ℕ). cond (last k) (slice_index raw k) w) (one.words k l) ∙ go k (first k) (last k) ∙ ap (λ (b : Bool). cond b (slice_index raw k) (slice_index old k)) (both k);
-  count = two.count ∙ one.count;
-}
-  where
-    go : (k : ℕ) (a b : Bool) → cond b (slice_index raw k) (cond a (slice_index raw k) (slice_index old k)) ≡ cond (a || b) (slice_index raw k) (slice_index old k)
-    go k true true = refl
-    go k true false = refl
-    go k false true = refl
-    go k false false = refl
+-- the same number of words in other words
+pub other_length : (chosen : ℕ → Bool) (m n : ℕ) (raw old new : List ℕ) → m ≡ n → IsCopied chosen m raw old new → IsCopied chosen n raw old new
+other_length chosen m n raw old new e is = subst (λ (k : ℕ). IsCopied chosen k raw old new) e is
 
 -- ---- pieces
 
@@ -51,22 +32,13 @@ none_shown s n c raw frame = nothing_copied (has_come c c s) n raw frame (λ k l
     never m = grind (arith, nat_tests)
 
 -- one more piece
-pub one_shown : (s : Standing) (n : ℕ) (before now next : Cuts) (r : Rectangle) (raw frame shown new : List ℕ)
+pub one_shown : (s : Standing) (n : ℕ) (before now next : Cuts) (r : Rectangle) (raw raw' frame shown new : List ℕ)
     → ((p : Point) → to_come now s p ≤ to_come before s p) → ((p : Point) → to_come now s p ≡ to_come next s p + times r p) → ((p : Point) → IsTrue (covers r p) → to_come now s p ≡ 1)
-    → IsCopied (λ k. covers r (pixel s.width k)) n raw shown new
-    → IsCopied (has_come before now s) n raw frame shown → IsCopied (has_come before next s) n raw frame new
-one_shown s n before now next r raw frame shown new less count came piece far =
-    copied_union (has_come before now s) (λ k. covers r (pixel s.width k)) (has_come before next s) n raw frame shown new
-    (λ k. all_count _ _ _ _ (less (pixel s.width k)) (count (pixel s.width k)) (came (pixel s.width k))) far piece
-
--- what a call has copied, by the size of the screen that it was given
-pub piece_shown : (s : Standing) (n : ℕ) (z : ℕ × ℕ) (r : Rectangle) (raw old new : List ℕ) → z ≡ (s.width, s.height) → n ≡ s.width * s.height
-    → ((k : ℕ) → k < z.0 * z.1 → slice_index new k ≡ cond (covers r (pixel z.0 k)) (slice_index raw k) (slice_index old k)) → length new ≡ length old
-    → IsCopied (λ k. covers r (pixel s.width k)) n raw old new
-piece_shown s n z r raw old new size count set long = record {
-  words = λ k l. subst (λ (y : ℕ × ℕ). (k : ℕ) → k < y.0 * y.1 → slice_index new k ≡ cond (covers r (pixel y.0 k)) (slice_index raw k) (slice_index old k)) size set k (subst (λ (m : ℕ). k < m) count l);
-  count = long;
-}
+    → ((k : ℕ) → covers r (pixel s.width k) ≡ false → slice_index raw' k ≡ slice_index raw k)
+    → IsCopied (has_come before now s) n raw frame shown → IsCopied (λ k. covers r (pixel s.width k)) n raw' shown new → IsCopied (has_come before next s) n raw' frame new
+one_shown s n before now next r raw raw' frame shown new less count came still far piece =
+    copied_then (has_come before now s) (λ k. covers r (pixel s.width k)) (has_come before next s) n raw raw' frame shown new
+    (λ k. all_count _ _ _ _ (less (pixel s.width k)) (count (pixel s.width k)) (came (pixel s.width k))) still far piece
 
 -- all of them
 pub all_shown : (s : Standing) (n : ℕ) (before now : Cuts) (raw frame new : List ℕ) → ((p : Point) → to_come now s p ≡ 0) → IsCopied (has_come before now s) n raw frame new → IsCopied (is_to_come before s) n raw frame new
@@ -90,13 +62,14 @@ module _ (s : Standing) (n sid : ℕ) (part : Option Rectangle) where
       go true test = refl
       go false test = refl
 
-  pub next_shown : (i : ℕ) (x : Seat) (raw frame mid new : List ℕ) → NoPair same_slot s.views → seat_in x.slot s.views ≡ Some x → slice_get s.views i ≡ Some x
+  pub next_shown : (i : ℕ) (x : Seat) (raw raw' frame mid new : List ℕ) → NoPair same_slot s.views → seat_in x.slot s.views ≡ Some x → slice_get s.views i ≡ Some x
+      → ((k : ℕ) → (let p = pixel s.width k in owner_passes (is_slot x.slot) s p && is_wanted sid part s p x) ≡ false → slice_index raw' k ≡ slice_index raw k)
       → IsCopied (λ k. wanted_of_first i sid part s (pixel s.width k)) n raw frame mid
-      → IsCopied (λ k. let p = pixel s.width k in owner_passes (is_slot x.slot) s p && is_wanted sid part s p x) n raw mid new
-      → IsCopied (λ k. wanted_of_first (i + 1) sid part s (pixel s.width k)) n raw frame new
-  next_shown i x raw frame mid new apart there at first second =
-      copied_union _ _ (λ k. wanted_of_first (i + 1) sid part s (pixel s.width k)) n raw frame mid new
-      (λ k. (one_more (is_wanted sid part s (pixel s.width k)) s (pixel s.width k) i x apart there at).all) first second
+      → IsCopied (λ k. let p = pixel s.width k in owner_passes (is_slot x.slot) s p && is_wanted sid part s p x) n raw' mid new
+      → IsCopied (λ k. wanted_of_first (i + 1) sid part s (pixel s.width k)) n raw' frame new
+  next_shown i x raw raw' frame mid new apart there at still first second =
+      copied_then _ _ (λ k. wanted_of_first (i + 1) sid part s (pixel s.width k)) n raw raw' frame mid new
+      (λ k. (one_more (is_wanted sid part s (pixel s.width k)) s (pixel s.width k) i x apart there at).all) still first second
 
   pub last_shown : (i : ℕ) (raw frame new : List ℕ) → length s.views ≤ i → IsCopied (λ k. wanted_of_first i sid part s (pixel s.width k)) n raw frame new → IsCopied (λ k. wanted sid part s (pixel s.width k)) n raw frame new
   last_shown i raw frame new all is =

@@ -30,7 +30,7 @@ use Rattle.nit_journal.specs.State.{State, after, buffer_size, layer, session, s
 use Rattle.nit_journal.specs.Journals.{Agrees}
 use Rattle.nit_journal.specs.Views.{is_accepted}
 use Rattle.nit_paint.specs.Painting.{IsHeld}
-use Rattle.nit_repaint.specs.Copied.{IsCopied}
+use Rattle.nit_paint.specs.Copied.{IsCopied}
 use Rattle.nit_repaint.specs.Owned.{is_word_in}
 use Rattle.nit_overlay.specs.Looks.{draws_labels}
 use Rattle.nit_overlay.specs.Shown.{Scenery, bar_word, frame, owner_word, shown, view_word}
@@ -40,7 +40,7 @@ use Rattle.nit_scene.specs.Dirty.{dirty, dirty_by_call, is_owned, shows_part, vi
 use Rattle.nit_scene.specs.Painted.{Painted, pixel_count}
 use Rattle.nit_scene.specs.Played.{scenery_of}
 use Rattle.nit_damage.proofs.Screen.{rows_hold}
-use Rattle.nit_repaint.proofs.Copied.{copied_same}
+use Rattle.nit_paint.proofs.Copied.{copied_same}
 use Rattle.nit_repaint.proofs.Screen.{on_screen}
 use Rattle.nit_scene.specs.Attending.{with_delivered, with_routed}
 use Rattle.nit_scene.specs.CallKinds.{IsQuiet}
@@ -256,12 +256,12 @@ quiet_scenery before after' sid call r none served quiet = ap scenery_of served.
 -- ---- what a frame is made by
 
 -- it stays where the server keeps its configuration and its slots, and the words of the pixels were loaded
-pub can_still : (s s' : Serving) (raw raw' shown_ : List ℕ) (room room' : ℕ) (labels : List (List ℕ)) (places : ℕ) → s'.config ≡ s.config → s'.stack.most ≡ s.stack.most
-    → length raw' ≡ length raw → All IsWord raw' → room' ≡ room → CanShow s raw shown_ room labels places → CanShow s' raw' shown_ room' labels places
-can_still s s' raw raw' shown_ room room' labels places config most long words room_ h = record {
+pub can_still : (s s' : Serving) (raw raw' shown_ shown_' : List ℕ) (room room' : ℕ) (labels : List (List ℕ)) (places : ℕ) → s'.config ≡ s.config → s'.stack.most ≡ s.stack.most
+    → length raw' ≡ length raw → length shown_' ≡ length shown_ → All IsWord raw' → room' ≡ room → CanShow s raw shown_ room labels places → CanShow s' raw' shown_' room' labels places
+can_still s s' raw raw' shown_ shown_' room room' labels places config most long same_long words room_ h = record {
   words = words;
   pixels = long ∙ h.pixels ∙ area;
-  each = h.each ∙ area;
+  each = same_long ∙ h.each ∙ area;
   cuts = let m = h.cuts in omega (arith, m, most, room_);
   named = h.named ∙ ap (λ (c : Configuration). map (λ m. m.label) c.clients) (sym config);
   placed = let m = h.placed in omega (arith, m, most);
@@ -309,6 +309,12 @@ pub bare_are_words : (n : ℕ) → All IsWord (replicate n bare_word)
 bare_are_words n = All-replicate IsWord n bare_word (omega arith)
 
 -- what was set is told of a stack, of raw words and of a frame that were handed out, in the words of their owners
-pub shown_on : (P : Standing → List ℕ → List ℕ → List ℕ → Type 0) (t s : Standing) (raw raw' old old' new new' : List ℕ) → t ≡ s → raw ≡ raw' → old ≡ old' → new ≡ new' → P t raw old new → P s raw' old' new'
-shown_on P t s raw raw' old old' new new' e f g h told =
-    subst (λ (x : Standing). P x raw' old' new') e (subst (λ (x : List ℕ). P t x old' new') f (subst (λ (x : List ℕ). P t raw x new') g (subst (λ (x : List ℕ). P t raw old x) h told)))
+pub shown_on : (P : Standing → ℕ → List ℕ → List ℕ → List ℕ → Type 0) (t s : Standing) (n m : ℕ) (raw raw' old old' new new' : List ℕ) → t ≡ s → n ≡ m → raw ≡ raw' → old ≡ old' → new ≡ new'
+    → P t n raw old new → P s m raw' old' new'
+shown_on P t s n m raw raw' old old' new new' e d f g h told =
+    subst (λ (x : Standing). P x m raw' old' new') e (subst (λ (k : ℕ). P t k raw' old' new') d
+    (subst (λ (x : List ℕ). P t n x old' new') f (subst (λ (x : List ℕ). P t n raw x new') g (subst (λ (x : List ℕ). P t n raw old x) h told))))
+
+-- the raw words and the frame stay as they are
+pub copied_on : (chosen : ℕ → Bool) (n m : ℕ) (raw raw' old new new' : List ℕ) → n ≡ m → raw ≡ raw' → new ≡ new' → IsCopied chosen n raw old new → IsCopied chosen m raw' old new'
+copied_on chosen n m raw raw' old new new' d f h is = subst (λ (k : ℕ). IsCopied chosen k raw' old new') d (subst (λ (x : List ℕ). IsCopied chosen n x old new') f (subst (λ (x : List ℕ). IsCopied chosen n raw old x) h is))

@@ -10,7 +10,7 @@ use borrow.Rule.Slice.PartMut.{mid_of, put_mid}
 use Rattle.nit_word.specs.Setting.{set_where, is_between, in_turn}
 use Rattle.nit_word.proofs.SetWords.{are_set, both_set, same_colours, set_long, word_at}
 
-put_long : (from n : ℕ) (words part : List ℕ) → from + n ≤ length words → length part ≡ n → length (put_mid from n words part) ≡ length words
+pub put_long : (from n : ℕ) (words part : List ℕ) → from + n ≤ length words → length part ≡ n → length (put_mid from n words part) ≡ length words
 put_long from n words part room long =
     omega (arith, room, long, length-append (take from words) (part ++ drop n (drop from words)), length-append part (drop n (drop from words)), length-take-le from words (omega arith), length-drop n (drop from words), length-drop from words)
 
