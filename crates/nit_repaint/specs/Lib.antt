@@ -5,9 +5,12 @@ pub use Rattle.nit_damage.specs.Sets
 pub use Rattle.nit_paint.specs.Copied
 pub use Rattle.nit_paint.specs.Painting
 pub use Rattle.nit_paint.specs.Pieces
+pub use Rattle.nit_overlay.specs.Looks
+pub use Rattle.nit_overlay.specs.Shown
 pub mod Owned
 pub mod Glasses
 pub mod Coming
 pub mod OneView
 pub mod Parts
+pub mod Showing
 pub mod Uncovered

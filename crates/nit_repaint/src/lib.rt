@@ -19,7 +19,7 @@
 //! glasses of the scene. The promise is `Repainted` of nit_paint: exactly the marked pixels were
 //! loaded, each once, and what they hold then. Each row that was loaded is set in the frame at once,
 //! while it is near; so in mode Flat, where a view's pixels show their raw words, the frame is done
-//! too (`IsCopied`).
+//! too (`IsCopied`). In the other modes [`show_session`] sets what was loaded to what is shown there.
 //!
 //! Nothing is known here of sessions' rights, of the journal or of input. No call takes memory.
 #![tactic(auto)]
@@ -29,9 +29,11 @@ mod changes;
 pub mod laws;
 mod part;
 mod pieces;
+mod showing;
 mod whole;
 
 pub use buffers::paint_session;
 pub use changes::paint_changed;
 pub use pieces::paint_to_come;
+pub use showing::show_session;
 pub use whole::{Nobody, paint_whole};

@@ -37,7 +37,7 @@ ghost use Rattle.nit_scene.specs.Seating.{with_ended};
 ghost use Rattle.nit_scene.specs.Serving.{IsServing, IsServed, state_of};
 ghost use Rattle.nit_scene.specs.Showing.{IsGlassOf};
 
-use crate::screen::pixels::{Pixels, redraw, show_views};
+use crate::screen::pixels::{Pixels, redraw, show_part};
 use crate::screen::views::take_views_away;
 use crate::server::Server;
 use nit_damage::Cutter;
@@ -91,7 +91,7 @@ pub(crate) fn change_buffer<G: Glass, C: Glass>(
         glasses,
         own,
     );
-    show_views(server.mode(), server, pixels);
+    show_part(server.mode(), server, sid, part, pixels);
     reply
 }
 

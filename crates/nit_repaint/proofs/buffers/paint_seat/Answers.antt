@@ -6,7 +6,7 @@ use Rattle.nit_damage.specs.Sets.{once}
 use Rattle.nit_repaint.specs.Owned.{owner_passes}
 use Rattle.nit_repaint.specs.Parts.{is_wanted}
 use Rattle.std.specs.Prelude.{◌&&◌}
-use Rattle.nit_paint.proofs.Copied.{nothing_copied}
+use Rattle.nit_paint.proofs.Copied.{nothing_set}
 use Rattle.nit_repaint.proofs.Copied.{shown_as}
 use Rattle.nit_repaint.proofs.Wanted.{comes_as, one, seat_not, seat_set}
 use Rattle.nit_repaint.proofs.buffers.paint_seat.Goals as goal
@@ -20,7 +20,7 @@ returns-then-view-of-clause-painted g c s at =
 pub returns-then-view-of-clause-shown : goal.returns-then-view-of-clause-shown
 returns-then-view-of-clause-shown g c s at =
     let stack = c.args.stack.now in
-    nothing_copied (λ (k : ℕ). owner_passes (is_slot s.slot) stack (pixel stack.width k) && is_wanted c.args.of c.args.part.now stack (pixel stack.width k) s) _ _ _
+    nothing_set (λ (k : ℕ). owner_passes (is_slot s.slot) stack (pixel stack.width k) && is_wanted c.args.of c.args.part.now stack (pixel stack.width k) s) _ _ _
     (λ k l. seat_not stack c.view-view.result s c.at-v.result.0 c.args.of c.args.part.now (pixel stack.width k) (one (sym (c.view-view.ensures.place c.args.i c.at-v.ensures.place) ∙ at)) c.if-view-of.true)
 
 pub returns-clause-shown : goal.returns-clause-shown

@@ -1,4 +1,5 @@
 use Rattle.std.proofs.Common.{◌∙◌, refl, arith}
+use Rattle.std.specs.Prelude.{slice_index}
 use Rattle.nit_paint.specs.Pieces.{source_at}
 use Rattle.nit_paint.proofs.Repaints.{other_count}
 use Rattle.nit_repaint.proofs.Glasses.{still_held}
@@ -10,7 +11,7 @@ pub views-init : goal.views-init
 views-init g c = record {
   room = refl;
   painted = none_wanted (source_at c.args.stack.now) c.args.stack.now _ c.args.of c.args.part.now _ c.args.raw.now;
-  shown = first_shown c.args.stack.now _ c.args.of c.args.part.now c.args.raw.now c.args.frame.now;
+  shown = first_shown c.args.stack.now _ c.args.of c.args.part.now (slice_index c.args.raw.now) c.args.frame.now;
   count = refl;
   idle = refl;
   rest = refl;

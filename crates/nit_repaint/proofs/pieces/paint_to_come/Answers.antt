@@ -1,4 +1,5 @@
 use Rattle.std.proofs.Common.{◌∙◌, refl, arith}
+use Rattle.std.specs.Prelude.{slice_index}
 use Rattle.nit_paint.specs.Pieces.{source_at}
 use Rattle.nit_paint.proofs.Repaints.{other_count}
 use Rattle.nit_repaint.proofs.Coming.{all_came, none_came, one_came}
@@ -12,7 +13,7 @@ pieces-init g c = record {
   room = refl;
   less = λ p. omega arith;
   painted = none_came (source_at c.args.stack.now) c.args.stack.now _ c.args.cutter.now _ c.args.raw.now;
-  shown = none_shown c.args.stack.now _ c.args.cutter.now c.args.raw.now c.args.frame.now;
+  shown = none_shown c.args.stack.now _ c.args.cutter.now (slice_index c.args.raw.now) c.args.frame.now;
   count = refl;
   idle = refl;
   rest = refl;

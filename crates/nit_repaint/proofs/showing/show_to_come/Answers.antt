@@ -1,0 +1,34 @@
+use Rattle.std.proofs.Common.{length, refl, ◌∙◌, arith}
+use Rattle.nit_repaint.specs.Showing.{shown_at}
+use Rattle.nit_repaint.proofs.Copied.{all_shown, none_shown, one_shown, piece_shown}
+use Rattle.nit_repaint.proofs.showing.show_to_come.Goals as goal
+
+pub pieces-init : goal.pieces-init
+pieces-init c = record {
+  fits = c.requires.fits;
+  room = refl;
+  less = λ p. omega arith;
+  shown = none_shown c.args.look.now.stack.now (length c.args.raw.now) c.args.cutter.now (shown_at c.args.look.now c.args.raw.now) c.args.frame.now;
+}
+
+pub overlay_rect-requires-clause-out : goal.overlay_rect-requires-clause-out
+overlay_rect-requires-clause-out c = c.pieces.invariant.shown.count ∙ c.requires.frame ∙ c.requires.pixels
+
+pub pieces-preserved : goal.pieces-preserved
+pieces-preserved c =
+    let s = c.args.look.now.stack.now in
+    let n = length c.args.raw.now in
+    let i = c.pieces.invariant in
+    let e = c.in-Some.ensures in
+    record {
+      fits = e.fits;
+      room = e.room ∙ i.room;
+      less = λ p. let was = i.less p in let now = e.count p in omega arith;
+      shown = one_shown s n c.args.cutter.now c.pieces.cutter c.next.new.self c.in-Some.piece.rect (shown_at c.args.look.now c.args.raw.now) (shown_at c.args.look.now c.args.raw.now) c.args.frame.now c.pieces.frame c.overlay_rect.new.out
+          i.less e.count e.came (λ k out. refl) i.shown
+          (piece_shown s n c.in-Some.piece.rect (shown_at c.args.look.now c.args.raw.now) c.pieces.frame c.overlay_rect.new.out c.requires.pixels c.overlay_rect.ensures.pixels c.overlay_rect.ensures.length);
+    }
+
+pub returns-clause-shown : goal.returns-clause-shown
+returns-clause-shown c =
+    all_shown c.args.look.now.stack.now (length c.args.raw.now) c.args.cutter.now c.pieces.cutter (shown_at c.args.look.now c.args.raw.now) c.args.frame.now c.pieces.frame c.in_default.ensures.came c.pieces.invariant.shown
