@@ -3,8 +3,7 @@
 //! A frame has one word for each pixel of the screen, row by row from the top. [`frame_into`] makes it
 //! from the raw words of the pixels, which the clients have painted, and from a [`Look`]: the stack of
 //! views, the labels, the mode, the focus and the places of the labels. [`overlay_rect`] does the same for
-//! the pixels of a rectangle alone, and [`raw_rect`] copies the raw words of a rectangle. None
-//! takes memory.
+//! the pixels of a rectangle alone. None takes memory.
 //!
 //! The first rule that applies to a pixel gives its word.
 //!
@@ -20,8 +19,8 @@
 //!
 //! A frame may be kept: where just the pixels whose shown word may differ are set to what is shown
 //! now, it is the new frame ([`laws::kept_frames`]). In mode Flat and below the bar the shown word
-//! depends on the raw word, and on whether the pixel has an owner, alone. So there [`raw_rect`]
-//! renews what was painted.
+//! depends on the raw word, and on whether the pixel has an owner, alone. So there the raw words of
+//! what was painted are the frame's.
 //!
 //! A row is painted by pieces that have one owner or none, and a piece by runs that have one rule. So the
 //! stack is searched once for each piece, and not for each pixel.
@@ -34,11 +33,9 @@ mod look;
 mod overlay;
 mod owner;
 mod paint;
-mod raw;
 mod row;
 mod span;
 mod stripe;
 
 pub use look::Look;
 pub use overlay::{frame_into, overlay_rect};
-pub use raw::raw_rect;

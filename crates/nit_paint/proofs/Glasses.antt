@@ -1,25 +1,10 @@
 -- What loads do to glasses.
-use Rattle.std.proofs.Common.{◌≡◌, ℕ, ◌==◌, Bool, true, false, cond, List, [], ◌∷◌, ◌++◌, Option, Some, None, refl, ap, sym, ◌∙◌, subst, append_assoc, append-nil}
-use Rattle.std.specs.Option.{option_map}
+use Rattle.std.proofs.Common.{◌≡◌, ℕ, ◌==◌, Bool, true, false, cond, List, [], ◌∷◌, refl, ap, sym, ◌∙◌, subst}
 use Rattle.std.proofs.lemmas.Bool.{eq-eqb}
 use Rattle.nit_word.specs.Sight.{Sight, IsLoaded, seen}
+use Rattle.nit_word.proofs.Loads.{seen_none}
 use Rattle.nit_stack.specs.Sources.{Word}
 use Rattle.nit_paint.specs.Painting.{IsHeld, loads_of, with_glass}
-
--- no load, and one list of loads after another
-pub seen_none : (s : Sight) → s ≡ seen s []
-seen_none s = λ i. record { owner = s.owner; size = s.size; ink = s.ink; words = s.words; log = same s.log i }
-  where
-    same : (o : Option (List (ℕ × ℕ))) → o ≡ option_map (λ log. log ++ []) o
-    same None = refl
-    same (Some l) = ap Some (sym (append-nil l))
-
-pub seen_twice : (s : Sight) (a b : List (ℕ × ℕ)) → seen (seen s a) b ≡ seen s (a ++ b)
-seen_twice s a b = λ i. record { owner = s.owner; size = s.size; ink = s.ink; words = s.words; log = same s.log i }
-  where
-    same : (o : Option (List (ℕ × ℕ))) → option_map (λ log. log ++ b) (option_map (λ log. log ++ a) o) ≡ option_map (λ log. log ++ (a ++ b)) o
-    same None = refl
-    same (Some l) = ap Some (append_assoc l a b)
 
 -- one glass of many, before and after one load
 own_glass : (others : ℕ → Sight) (sid : ℕ) (g : Sight) → with_glass others sid g sid ≡ g

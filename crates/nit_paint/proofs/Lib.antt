@@ -1,4 +1,5 @@
 pub mod Repaints
+pub mod Copied
 pub mod Glasses
 pub mod Pixels
 pub mod Blocks

@@ -1,16 +1,21 @@
 -- Pixels that stand side by side: what one more does, and how runs of them go together.
-use Rattle.std.proofs.Common.{◌≡◌, ℕ, zero, suc, ◌+◌, ◌-◌, ◌<◌, ◌≤◌, ◌==◌, ◌&&◌, ◌||◌, cond, nat_lt, Bool, true, false, slice_index_or, List, [], ◌∷◌, length, set, get_or, Option, Some, None, inl, inr, refl, rules, ap, sym, ◌∙◌, subst, arith}
+use Rattle.std.proofs.Common.{add-one, ◌++◌, take, length-set, get_or-set_same, get_or-set_other, le_refl, ◌≡◌, ℕ, zero, suc, ◌+◌, ◌-◌, ◌<◌, ◌≤◌, ◌==◌, ◌&&◌, ◌||◌, cond, nat_lt, Bool, true, false, slice_index_or, List, [], ◌∷◌, length, set, get_or, Option, Some, None, inl, inr, refl, rules, ap, sym, ◌∙◌, subst, arith}
+use mathlib.Core.Logic.{dite}
+use native.Mathlib.Decide.{ℕ_discrete}
+use Rattle.std.specs.List.{enumerate_from}
 use Rattle.std.proofs.lemmas.Bool.{cases_lt}
 use Rattle.std.proofs.lemmas.Bool.Decides.{nat_tests}
-use Rattle.std.proofs.lemmas.List.{places}
+use Rattle.std.proofs.lemmas.List.{places, set-get_or, take_all}
 use borrow.Rule.Slice.PartMut.{put_mid}
-use Rattle.nit_word.specs.Sight.{Sight, IsLoaded, seen}
+use Rattle.nit_word.specs.Sight.{Sight, IsLoaded, IsLoadedRow, seen}
+use Rattle.nit_word.proofs.Loads.{loaded_after, more_taken, seen_none, seen_twice}
+use Rattle.nit_word.proofs.SideBySide.{at_place}
 use Rattle.nit_stack.specs.Sources.{PixelSource, Bare, Black, Word, black_or_word}
-use Rattle.nit_paint.specs.Painting.{IsAmongLoads, IsHeld, Repainted, is_word_of, loads_of, times_shown, with_glass}
+use Rattle.nit_paint.specs.Painting.{IsAmongLoads, IsHeld, Repainted, no_sight, is_word_of, loads_of, times_shown, with_glass}
 use Rattle.nit_paint.specs.Runs.{in_run, index_from, long, own_word, reached, row_source}
 use Rattle.nit_paint.specs.declared.reach.Reach.{Reach}
-use Rattle.nit_paint.proofs.Glasses.{held_by_load, seen_by_load, seen_none}
-use Rattle.nit_paint.proofs.Repaints.{other_count, repainted_none, repainted_one, repainted_union}
+use Rattle.nit_paint.proofs.Glasses.{held_by_load, seen_by_load}
+use Rattle.nit_paint.proofs.Repaints.{other_count, repainted_none, repainted_one, repainted_there, repainted_union}
 
 -- runs as sets
 no_run : (at k : ℕ) → in_run at 0 k ≡ false
@@ -28,7 +33,7 @@ run_parts at a b k = grind (arith, nat_tests)
 parts_apart : (at a b k : ℕ) → (in_run at a k && in_run (at + a) b k) ≡ false
 parts_apart at a b k = grind (arith, nat_tests)
 
-pub run_none : (source : ℕ → PixelSource) (at n : ℕ) (glasses : ℕ → Sight) (raw : List ℕ) → Repainted source (in_run at 0) n glasses glasses raw raw
+run_none : (source : ℕ → PixelSource) (at n : ℕ) (glasses : ℕ → Sight) (raw : List ℕ) → Repainted source (in_run at 0) n glasses glasses raw raw
 run_none source at n glasses raw = repainted_none source (in_run at 0) n glasses raw (λ k l. no_run at k)
 
 -- the next pixel
@@ -119,7 +124,7 @@ filled source at count w n glasses raw raw' word rest fits own = record {
     outside k false e out = e
     outside k true e out = let place = within k e in let high = place.1 in out (omega arith)
 
-pub loaded_more : (source : ℕ → PixelSource) (at j w n sid i : ℕ) (others : ℕ → Sight) (first g g' : Sight) (raw raw' : List ℕ) → at + j < n → at + j < length raw'
+loaded_more : (source : ℕ → PixelSource) (at j w n sid i : ℕ) (others : ℕ → Sight) (first g g' : Sight) (raw raw' : List ℕ) → at + j < n → at + j < length raw'
     → source (at + j) ≡ Word sid i → IsLoaded g i w → g' ≡ seen g ((i, w) ∷ [])
     → Repainted source (in_run at j) n (with_glass others sid first) (with_glass others sid g) raw raw'
     → Repainted source (in_run at (j + 1)) n (with_glass others sid first) (with_glass others sid g') raw (set raw' (at + j) w)
@@ -127,6 +132,61 @@ loaded_more source at j w n sid i others first g g' raw raw' l m is loaded saw r
     one_more source at j w n (with_glass others sid first) (with_glass others sid g) (with_glass others sid g') raw raw' l m
     (subst (λ (s : PixelSource). IsHeld (with_glass others sid g) s w) (sym is) (held_by_load others sid i w g loaded))
     (λ t. seen_by_load others sid i w g g' saw t ∙ ap (λ (s : PixelSource). seen (with_glass others sid g t) (loads_of s w t)) (sym is)) r
+
+-- the words of a row that were put into the screen so far
+abbrev written : ℕ → List ℕ → List ℕ → ℕ → List ℕ
+written at row raw zero = raw
+written at row raw (suc j) = set (written at row raw j) (at + j) (get_or row j 0)
+
+written_long : (at : ℕ) (row raw : List ℕ) (j : ℕ) → length (written at row raw j) ≡ length raw
+written_long at row raw zero = refl
+written_long at row raw (suc j) = length-set (written at row raw j) (at + j) (get_or row j 0) ∙ written_long at row raw j
+
+written_at : (at : ℕ) (row raw : List ℕ) (j k : ℕ) → at + j ≤ length raw → get_or (written at row raw j) k 0 ≡ cond (in_run at j k) (get_or row (k - at) 0) (get_or raw k 0)
+written_at at row raw zero k room = ap (λ b. cond b (get_or row (k - at) 0) (get_or raw k 0)) (sym (no_run at k))
+written_at at row raw (suc j) k room =
+    let before = written_at at row raw j k (omega arith) in
+    let long = written_long at row raw j in
+    dite (ℕ_discrete k (at + j))
+    (λ e.
+    let some : in_run at (suc j) k ≡ true = grind (arith, nat_tests) in
+    let place : j ≡ k - at = omega arith in
+    rw some (ap (λ (i : ℕ). get_or (set (written at row raw j) (at + j) (get_or row j 0)) i 0) e ∙ get_or-set_same (written at row raw j) (at + j) (get_or row j 0) 0 (omega (arith, long)) ∙ ap (λ (i : ℕ). get_or row i 0) place))
+    (λ ne.
+    let same : in_run at j k ≡ in_run at (suc j) k = grind (arith, nat_tests) in
+    get_or-set_other (written at row raw j) (at + j) k (get_or row j 0) 0 ne ∙ before ∙ ap (λ b. cond b (get_or row (k - at) 0) (get_or raw k 0)) same)
+
+-- the first so many pixels of a row that was loaded in one go
+row_written : (source : ℕ → PixelSource) (at n sid from : ℕ) (others : ℕ → Sight) (g : Sight) (raw row : List ℕ) → at + length row ≤ n → n ≡ length raw
+    → ((j : ℕ) → j < length row → source (at + j) ≡ Word sid (from + j)) → IsLoadedRow g from row → (j : ℕ) → j ≤ length row
+    → Repainted source (in_run at j) n (with_glass others sid g) (with_glass others sid (seen g (enumerate_from from (take j row)))) raw (written at row raw j)
+row_written source at n sid from others g raw row fits count is loaded zero few =
+    subst (λ (s : Sight). Repainted source (in_run at 0) n (with_glass others sid g) (with_glass others sid s) raw raw) (seen_none g) (run_none source at n (with_glass others sid g) raw)
+row_written source at n sid from others g raw row fits count is loaded (suc j) few =
+    let far = row_written source at n sid from others g raw row fits count is loaded j (omega arith) in
+    let before : List (ℕ × ℕ) = enumerate_from from (take j row) in
+    let w : ℕ = get_or row j 0 in
+    let long = written_long at row raw j in
+    let more : enumerate_from from (take (j + 1) row) ≡ before ++ (from + j, w) ∷ [] =
+    ap (λ (xs : List ℕ). enumerate_from from (take (j + 1) xs)) (sym (set-get_or row j 0)) ∙ more_taken from j w row (omega arith) in
+    let saw : seen g (enumerate_from from (take (j + 1) row)) ≡ seen (seen g before) ((from + j, w) ∷ []) = ap (seen g) more ∙ sym (seen_twice g before ((from + j, w) ∷ [])) in
+    subst (λ (k : ℕ). Repainted source (in_run at k) n (with_glass others sid g) (with_glass others sid (seen g (enumerate_from from (take k row)))) raw (written at row raw (suc j))) (add-one j)
+    (loaded_more source at j w n sid (from + j) others g (seen g before) (seen g (enumerate_from from (take (j + 1) row))) raw (written at row raw j) (omega arith) (omega (arith, long, count)) (is j (omega arith))
+    (loaded_after g before (from + j) w (loaded j (omega arith))) saw far)
+
+-- a row that was loaded in one go and put into the screen
+pub row_loaded : (source : ℕ → PixelSource) (at count m sid from : ℕ) (others : ℕ → Sight) (g g' : Sight) (raw row : List ℕ) → length row ≡ count → m ≡ count → at + count ≤ length raw
+    → ((j : ℕ) → j < count → source (at + j) ≡ Word sid (from + j)) → IsLoadedRow g from row → g' ≡ seen g (enumerate_from from row)
+    → Repainted source (in_run at count) (length raw) (with_glass others sid g) (with_glass others sid g') raw (put_mid at m raw row)
+row_loaded source at count m sid from others g g' raw row long all fits is loaded saw =
+    let done = row_written source at (length raw) sid from others g raw row (omega arith) refl (λ j l. is j (omega arith)) loaded (length row) (le_refl (length row)) in
+    let sight : seen g (enumerate_from from (take (length row) row)) ≡ g' = ap (λ (xs : List ℕ). seen g (enumerate_from from xs)) (take_all (length row) row (le_refl (length row))) ∙ sym saw in
+    repainted_there source (in_run at count) (length raw) (with_glass others sid g) (with_glass others sid g') raw (written at row raw count) (put_mid at m raw row)
+    (λ k. written_at at row raw count k fits
+    ∙ sym (at_place at m (λ i. get_or row (i - at) 0) raw row k (omega (arith, all)) (long ∙ sym all) (λ i inside. let e : i ≡ at + i - at = omega arith in ap (λ (j : ℕ). get_or row j 0) e)
+    ∙ ap (λ (j : ℕ). cond (in_run at j k) (get_or row (k - at) 0) (get_or raw k 0)) all))
+    (subst (λ (j : ℕ). Repainted source (in_run at j) (length raw) (with_glass others sid g) (with_glass others sid g') raw (written at row raw j)) long
+    (subst (λ (s : Sight). Repainted source (in_run at (length row)) (length raw) (with_glass others sid g) (with_glass others sid s) raw (written at row raw (length row))) sight done))
 
 -- one run behind another
 runs_both : (source : ℕ → PixelSource) (at a b n : ℕ) (before mid after : ℕ → Sight) (raw first last : List ℕ)
@@ -158,6 +218,19 @@ after_it r i =
     let b : nat_lt (r.before + r.words + i) r.before ≡ false = grind (arith, nat_tests) in
     let d : nat_lt (r.before + r.words + i) (r.before + r.words) ≡ false = grind (arith, nat_tests) in
     rw (b, d) refl
+
+-- no other pixel changes, whatever the row shows
+pub row_others : (at n : ℕ) (r : Reach) (start : Option ℕ) (g g' : Sight) (raw raw' : List ℕ)
+    → ((source : ℕ → PixelSource) (sid : ℕ) (others : ℕ → Sight) → ((j : ℕ) → j < long r → source (at + j) ≡ row_source sid r start j)
+    → Repainted source (in_run at (long r)) n (with_glass others sid g) (with_glass others sid g') raw raw')
+    → (k : ℕ) → in_run at (long r) k ≡ false → slice_index_or raw' k 0 ≡ slice_index_or raw k 0
+row_others at n r start g g' raw raw' painted k out =
+    (painted (λ i. row_source 0 r start (i - at)) 0 (λ t. no_sight) (λ j l. let e : at + j - at ≡ j = omega arith in ap (row_source 0 r start) e)).others k (λ l. out)
+
+pub bare_others : (at count n : ℕ) (raw raw' : List ℕ)
+    → ((source : ℕ → PixelSource) (glasses : ℕ → Sight) → ((j : ℕ) → j < count → own_word (source (at + j)) ≡ Some 32) → Repainted source (in_run at count) n glasses glasses raw raw')
+    → (k : ℕ) → in_run at count k ≡ false → slice_index_or raw' k 0 ≡ slice_index_or raw k 0
+bare_others at count n raw raw' painted k out = (painted (λ i. Bare) (λ t. no_sight) (λ j l. refl)).others k (λ l. out)
 
 module _ (source : ℕ → PixelSource) (at sid : ℕ) (r : Reach) where
   pub all_black : ((j : ℕ) → j < long r → source (at + j) ≡ row_source sid r None j) → (j : ℕ) → j < r.before + r.words + r.after → own_word (source (at + j)) ≡ Some 0

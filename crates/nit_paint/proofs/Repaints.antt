@@ -9,9 +9,9 @@ use Rattle.std.proofs.lemmas.List.Sums.{sum_by-append}
 use Rattle.std.proofs.lemmas.List.Elements.{Contains-append_left, Contains-append_right, Contains-push}
 use Rattle.nit_word.specs.Inks.{IsWord}
 use Rattle.nit_word.specs.Sight.{Sight, IsLoaded, seen}
+use Rattle.nit_word.proofs.Loads.{seen_none, seen_twice}
 use Rattle.nit_stack.specs.Sources.{PixelSource, Bare, Black, Word}
 use Rattle.nit_paint.specs.Painting.{IsAmongLoads, IsHeld, Repainted, is_word_of, loads_at, times_shown, loads_of}
-use Rattle.nit_paint.proofs.Glasses.{seen_none, seen_twice}
 
 -- the pixel holds what it may, and its load is among these
 abbrev pub Shows : (ℕ → Sight) → (ℕ → List (ℕ × ℕ)) → PixelSource → ℕ → Type 0
@@ -138,6 +138,17 @@ repainted_union source d e union n before mid after raw first last apart all r s
 -- the same number of pixels in other words
 pub other_count : (source : ℕ → PixelSource) (d : ℕ → Bool) (m n : ℕ) (before after : ℕ → Sight) (raw raw' : List ℕ) → m ≡ n → Repainted source d m before after raw raw' → Repainted source d n before after raw raw'
 other_count source d m n before after raw raw' e r = subst (λ (k : ℕ). Repainted source d k before after raw raw') e r
+
+-- the same words of the screen in another list
+pub repainted_there : (source : ℕ → PixelSource) (d : ℕ → Bool) (n : ℕ) (before after : ℕ → Sight) (raw now other : List ℕ) → ((k : ℕ) → slice_index_or now k 0 ≡ slice_index_or other k 0)
+    → Repainted source d n before after raw now → Repainted source d n before after raw other
+repainted_there source d n before after raw now other same r = record {
+  loads = r.loads;
+  sights = r.sights;
+  marked = λ k l m. subst (λ (w : ℕ). Shows before r.loads (source k) w) (same k) (r.marked k l m);
+  others = λ k out. sym (same k) ∙ r.others k out;
+  counts = r.counts;
+}
 
 -- one pixel alone
 before_it : (source : ℕ → PixelSource) (k t i n : ℕ) → n ≤ k → times_shown source (λ j. j == k) t i n ≡ 0

@@ -3,6 +3,7 @@
 ghost use Rattle.std.specs.Prelude.{◌≡◌, ℕ, ◌+◌, ◌^◌, ◌<◌, ◌≤◌, length, IfSome, Some};
 ghost use Rattle.nit_word.specs.Sight.{Sight};
 ghost use Rattle.nit_stack.specs.Sources.{PixelSource, Word};
+ghost use Rattle.nit_paint.specs.Copied.{IsCopied};
 ghost use Rattle.nit_paint.specs.Painting.{Repainted, with_glass};
 ghost use Rattle.nit_paint.specs.Runs.{in_run, long, own_word, row_source};
 
@@ -21,6 +22,16 @@ pub(crate) fn fill_run(raw: &mut [u32], at: usize, count: u32, word: u32)
     raw[at..at + count as usize].fill(word);
 }
 
+/// Sets `count` words of a frame from `at` on to the raw words.
+pub(crate) fn show_run(raw: &[u32], frame: &mut [u32], at: usize, count: u32)
+    requires pixels { at + count ≤ length raw.now }
+    requires frame { length frame.old ≡ length raw.now }
+    ensures { IsCopied (in_run at count) (length raw.now) raw.now frame.old frame.new }
+{
+    let end = at + count as usize;
+    frame[at..end].copy_from_slice(&raw[at..end]);
+}
+
 /// Loads each of `count` pixels from `at` on once, from the word `from` on.
 fn load_run<G: Glass>(raw: &mut [u32], at: usize, count: u32, glass: &mut G, from: u32)
     requires pixels { at + count ≤ length raw.old }
@@ -30,9 +41,7 @@ fn load_run<G: Glass>(raw: &mut [u32], at: usize, count: u32, glass: &mut G, fro
     ensures size { (G.sight glass.new).size ≡ (G.sight glass.old).size }
     ensures rest { G.rest glass.new ≡ G.rest glass.old }
 {
-    'pixels: for j in 0..count as usize {
-        raw[at + j] = glass.load(from as usize + j);
-    }
+    glass.load_row(from as usize, &mut raw[at..at + count as usize]);
 }
 
 /// Paints the pixels of a row from `at` on. The words of the buffer's row begin at `start`; where the buffer

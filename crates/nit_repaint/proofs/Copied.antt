@@ -1,5 +1,5 @@
--- Words of a frame that are copied, one set of pixels after the other.
-use Rattle.std.proofs.Common.{◌≡◌, ℕ, ◌+◌, ◌*◌, ◌<◌, ◌≤◌, ◌||◌, Bool, true, false, cond, nat_lt, List, length, refl, ap, sym, ◌∙◌, subst, arith, take_all}
+-- Words of a frame that are set, one set of pixels after the other.
+use Rattle.std.proofs.Common.{◌≡◌, ℕ, ◌+◌, ◌*◌, ◌<◌, ◌≤◌, Bool, true, false, cond, nat_lt, List, length, refl, ap, ◌∙◌, subst, arith, take_all}
 use Rattle.std.specs.Prelude.{◌&&◌, IsTrue, Option, None, Some, slice_get, slice_index}
 use Rattle.std.specs.Option.{option_map_or}
 use Rattle.std.proofs.lemmas.Bool.Decides.{nat_tests}
@@ -10,95 +10,73 @@ use Rattle.nit_stack.specs.Sources.{in_bar, owner_in, pixel}
 use Rattle.nit_stack.specs.Standing.{IsOnScreen, NoPair, Seat, Standing, is_slot, same_slot, seat_in}
 use Rattle.nit_damage.specs.Cuts.{Cuts, to_come}
 use Rattle.nit_damage.specs.Sets.{once}
+use Rattle.nit_paint.specs.Copied.{AreSet}
+use Rattle.nit_paint.proofs.Copied.{nothing_set, set_same, set_then}
 use Rattle.nit_repaint.specs.Coming.{has_come, is_to_come}
-use Rattle.nit_repaint.specs.Copied.{IsCopied}
 use Rattle.nit_repaint.specs.Owned.{owner_passes}
 use Rattle.nit_repaint.specs.Parts.{is_wanted, wanted, wanted_of_first}
 use Rattle.nit_repaint.proofs.Coming.{all_count}
 use Rattle.nit_repaint.proofs.Screen.{on_screen}
 use Rattle.nit_repaint.proofs.Wanted.{lt_once, one_more}
 
--- none is chosen
-pub nothing_copied : (chosen : ℕ → Bool) (n : ℕ) (raw frame : List ℕ) → ((k : ℕ) → k < n → chosen k ≡ false) → IsCopied chosen n raw frame frame
-nothing_copied chosen n raw frame none = record { words = λ k l. ap (λ (b : Bool). cond b (slice_index raw k) (slice_index frame k)) (sym (none k l)); count = refl }
-
--- the same choice in other words
-pub copied_same : (chosen other : ℕ → Bool) (n : ℕ) (raw old new : List ℕ) → ((k : ℕ) → k < n → chosen k ≡ other k) → IsCopied chosen n raw old new → IsCopied other n raw old new
-copied_same chosen other n raw old new same is = record {
-  words = λ k l. is.words k l ∙ ap (λ (b : Bool). cond b (slice_index raw k) (slice_index old k)) (same k l);
-  count = is.count;
-}
-
--- two choices, one after the other
-pub copied_union : (first last chosen : ℕ → Bool) (n : ℕ) (raw old mid new : List ℕ) → ((k : ℕ) → (first k || last k) ≡ chosen k) → IsCopied first n raw old mid → IsCopied last n raw mid new → IsCopied chosen n raw old new
-copied_union first last chosen n raw old mid new both one two = record {
-  words = λ k l. two.words k l ∙ ap (λ (w : ℕ). cond (last k) (slice_index raw k) w) (one.words k l) ∙ go k (first k) (last k) ∙ ap (λ (b : Bool). cond b (slice_index raw k) (slice_index old k)) (both k);
-  count = two.count ∙ one.count;
-}
-  where
-    go : (k : ℕ) (a b : Bool) → cond b (slice_index raw k) (cond a (slice_index raw k) (slice_index old k)) ≡ cond (a || b) (slice_index raw k) (slice_index old k)
-    go k true true = refl
-    go k true false = refl
-    go k false true = refl
-    go k false false = refl
+-- the same number of words in other words
+pub other_length : (chosen : ℕ → Bool) (m n : ℕ) (word : ℕ → ℕ) (old new : List ℕ) → m ≡ n → AreSet chosen m word old new → AreSet chosen n word old new
+other_length chosen m n word old new e is = subst (λ (k : ℕ). AreSet chosen k word old new) e is
 
 -- ---- pieces
 
-pub none_shown : (s : Standing) (n : ℕ) (c : Cuts) (raw frame : List ℕ) → IsCopied (has_come c c s) n raw frame frame
-none_shown s n c raw frame = nothing_copied (has_come c c s) n raw frame (λ k l. never (to_come c s (pixel s.width k)))
+pub none_shown : (s : Standing) (n : ℕ) (c : Cuts) (word : ℕ → ℕ) (frame : List ℕ) → AreSet (has_come c c s) n word frame frame
+none_shown s n c word frame = nothing_set (has_come c c s) n word frame (λ k l. never (to_come c s (pixel s.width k)))
   where
     never : (m : ℕ) → nat_lt m m ≡ false
     never m = grind (arith, nat_tests)
 
 -- one more piece
-pub one_shown : (s : Standing) (n : ℕ) (before now next : Cuts) (r : Rectangle) (raw frame shown new : List ℕ)
+pub one_shown : (s : Standing) (n : ℕ) (before now next : Cuts) (r : Rectangle) (word word' : ℕ → ℕ) (frame shown new : List ℕ)
     → ((p : Point) → to_come now s p ≤ to_come before s p) → ((p : Point) → to_come now s p ≡ to_come next s p + times r p) → ((p : Point) → IsTrue (covers r p) → to_come now s p ≡ 1)
-    → IsCopied (λ k. covers r (pixel s.width k)) n raw shown new
-    → IsCopied (has_come before now s) n raw frame shown → IsCopied (has_come before next s) n raw frame new
-one_shown s n before now next r raw frame shown new less count came piece far =
-    copied_union (has_come before now s) (λ k. covers r (pixel s.width k)) (has_come before next s) n raw frame shown new
-    (λ k. all_count _ _ _ _ (less (pixel s.width k)) (count (pixel s.width k)) (came (pixel s.width k))) far piece
+    → ((k : ℕ) → covers r (pixel s.width k) ≡ false → word' k ≡ word k)
+    → AreSet (has_come before now s) n word frame shown → AreSet (λ k. covers r (pixel s.width k)) n word' shown new → AreSet (has_come before next s) n word' frame new
+one_shown s n before now next r word word' frame shown new less count came still far piece =
+    set_then (has_come before now s) (λ k. covers r (pixel s.width k)) (has_come before next s) n word word' frame shown new
+    (λ k. all_count _ _ _ _ (less (pixel s.width k)) (count (pixel s.width k)) (came (pixel s.width k))) still far piece
 
--- what a call has copied, by the size of the screen that it was given
-pub piece_shown : (s : Standing) (n : ℕ) (z : ℕ × ℕ) (r : Rectangle) (raw old new : List ℕ) → z ≡ (s.width, s.height) → n ≡ s.width * s.height
-    → ((k : ℕ) → k < z.0 * z.1 → slice_index new k ≡ cond (covers r (pixel z.0 k)) (slice_index raw k) (slice_index old k)) → length new ≡ length old
-    → IsCopied (λ k. covers r (pixel s.width k)) n raw old new
-piece_shown s n z r raw old new size count set long = record {
-  words = λ k l. subst (λ (y : ℕ × ℕ). (k : ℕ) → k < y.0 * y.1 → slice_index new k ≡ cond (covers r (pixel y.0 k)) (slice_index raw k) (slice_index old k)) size set k (subst (λ (m : ℕ). k < m) count l);
-  count = long;
-}
+-- what a call has set, of the whole screen
+pub piece_shown : (s : Standing) (n : ℕ) (r : Rectangle) (word : ℕ → ℕ) (old new : List ℕ) → n ≡ s.width * s.height
+    → ((k : ℕ) → k < s.width * s.height → slice_index new k ≡ cond (covers r (pixel s.width k)) (word k) (slice_index old k)) → length new ≡ length old → AreSet (λ k. covers r (pixel s.width k)) n word old new
+piece_shown s n r word old new count set long = record { words = λ k l. set k (subst (λ (m : ℕ). k < m) count l); count = long }
 
 -- all of them
-pub all_shown : (s : Standing) (n : ℕ) (before now : Cuts) (raw frame new : List ℕ) → ((p : Point) → to_come now s p ≡ 0) → IsCopied (has_come before now s) n raw frame new → IsCopied (is_to_come before s) n raw frame new
-all_shown s n before now raw frame new none far =
-    copied_same (has_come before now s) (is_to_come before s) n raw frame new (λ k l. ap (λ (m : ℕ). nat_lt m (to_come before s (pixel s.width k))) (none (pixel s.width k))) far
+pub all_shown : (s : Standing) (n : ℕ) (before now : Cuts) (word : ℕ → ℕ) (frame new : List ℕ) → ((p : Point) → to_come now s p ≡ 0) → AreSet (has_come before now s) n word frame new → AreSet (is_to_come before s) n word frame new
+all_shown s n before now word frame new none far =
+    set_same (has_come before now s) (is_to_come before s) n word frame new (λ k l. ap (λ (m : ℕ). nat_lt m (to_come before s (pixel s.width k))) (none (pixel s.width k))) far
 
 -- what comes by a set of pixels is that set
-pub shown_as : (s : Standing) (c : Cuts) (set : Point → Bool) (n : ℕ) (raw old new : List ℕ) → n ≡ s.width * s.height
-    → ((p : Point) → IsOnScreen s.width s.height p → to_come c s p ≡ once (set p)) → IsCopied (is_to_come c s) n raw old new → IsCopied (λ k. set (pixel s.width k)) n raw old new
-shown_as s c set n raw old new count come is =
-    copied_same (is_to_come c s) (λ k. set (pixel s.width k)) n raw old new
+pub shown_as : (s : Standing) (c : Cuts) (set : Point → Bool) (n : ℕ) (word : ℕ → ℕ) (old new : List ℕ) → n ≡ s.width * s.height
+    → ((p : Point) → IsOnScreen s.width s.height p → to_come c s p ≡ once (set p)) → AreSet (is_to_come c s) n word old new → AreSet (λ k. set (pixel s.width k)) n word old new
+shown_as s c set n word old new count come is =
+    set_same (is_to_come c s) (λ k. set (pixel s.width k)) n word old new
     (λ k l. ap (λ (m : ℕ). nat_lt 0 m) (come (pixel s.width k) (on_screen s.width s.height k (subst (λ (m : ℕ). k < m) count l))) ∙ lt_once (set (pixel s.width k))) is
 
 -- ---- one view after the other
 
 module _ (s : Standing) (n sid : ℕ) (part : Option Rectangle) where
-  pub first_shown : (raw frame : List ℕ) → IsCopied (λ k. wanted_of_first 0 sid part s (pixel s.width k)) n raw frame frame
-  first_shown raw frame = nothing_copied _ n raw frame (λ k l. go (in_bar s.bar (pixel s.width k)) (is_wanted sid part s (pixel s.width k)))
+  pub first_shown : (word : ℕ → ℕ) (frame : List ℕ) → AreSet (λ k. wanted_of_first 0 sid part s (pixel s.width k)) n word frame frame
+  first_shown word frame = nothing_set _ n word frame (λ k l. go (in_bar s.bar (pixel s.width k)) (is_wanted sid part s (pixel s.width k)))
     where
       go : (b : Bool) (test : Seat → Bool) → option_map_or test (cond {A = Option Seat} b None None) false ≡ false
       go true test = refl
       go false test = refl
 
-  pub next_shown : (i : ℕ) (x : Seat) (raw frame mid new : List ℕ) → NoPair same_slot s.views → seat_in x.slot s.views ≡ Some x → slice_get s.views i ≡ Some x
-      → IsCopied (λ k. wanted_of_first i sid part s (pixel s.width k)) n raw frame mid
-      → IsCopied (λ k. let p = pixel s.width k in owner_passes (is_slot x.slot) s p && is_wanted sid part s p x) n raw mid new
-      → IsCopied (λ k. wanted_of_first (i + 1) sid part s (pixel s.width k)) n raw frame new
-  next_shown i x raw frame mid new apart there at first second =
-      copied_union _ _ (λ k. wanted_of_first (i + 1) sid part s (pixel s.width k)) n raw frame mid new
-      (λ k. (one_more (is_wanted sid part s (pixel s.width k)) s (pixel s.width k) i x apart there at).all) first second
+  pub next_shown : (i : ℕ) (x : Seat) (word word' : ℕ → ℕ) (frame mid new : List ℕ) → NoPair same_slot s.views → seat_in x.slot s.views ≡ Some x → slice_get s.views i ≡ Some x
+      → ((k : ℕ) → (let p = pixel s.width k in owner_passes (is_slot x.slot) s p && is_wanted sid part s p x) ≡ false → word' k ≡ word k)
+      → AreSet (λ k. wanted_of_first i sid part s (pixel s.width k)) n word frame mid
+      → AreSet (λ k. let p = pixel s.width k in owner_passes (is_slot x.slot) s p && is_wanted sid part s p x) n word' mid new
+      → AreSet (λ k. wanted_of_first (i + 1) sid part s (pixel s.width k)) n word' frame new
+  next_shown i x word word' frame mid new apart there at still first second =
+      set_then _ _ (λ k. wanted_of_first (i + 1) sid part s (pixel s.width k)) n word word' frame mid new
+      (λ k. (one_more (is_wanted sid part s (pixel s.width k)) s (pixel s.width k) i x apart there at).all) still first second
 
-  pub last_shown : (i : ℕ) (raw frame new : List ℕ) → length s.views ≤ i → IsCopied (λ k. wanted_of_first i sid part s (pixel s.width k)) n raw frame new → IsCopied (λ k. wanted sid part s (pixel s.width k)) n raw frame new
-  last_shown i raw frame new all is =
-      copied_same _ _ n raw frame new
+  pub last_shown : (i : ℕ) (word : ℕ → ℕ) (frame new : List ℕ) → length s.views ≤ i → AreSet (λ k. wanted_of_first i sid part s (pixel s.width k)) n word frame new → AreSet (λ k. wanted sid part s (pixel s.width k)) n word frame new
+  last_shown i word frame new all is =
+      set_same _ _ n word frame new
       (λ k l. ap (λ (xs : List Seat). option_map_or (is_wanted sid part s (pixel s.width k)) (owner_in (λ a. a.view) s.bar xs (pixel s.width k)) false) (take_all i s.views all)) is

@@ -2,12 +2,15 @@ pub use Rattle.nit_word.specs.Sight
 pub use Rattle.nit_stack.specs.Standing
 pub use Rattle.nit_damage.specs.Cuts
 pub use Rattle.nit_damage.specs.Sets
+pub use Rattle.nit_paint.specs.Copied
 pub use Rattle.nit_paint.specs.Painting
 pub use Rattle.nit_paint.specs.Pieces
+pub use Rattle.nit_overlay.specs.Looks
+pub use Rattle.nit_overlay.specs.Shown
 pub mod Owned
 pub mod Glasses
 pub mod Coming
-pub mod Copied
 pub mod OneView
 pub mod Parts
+pub mod Showing
 pub mod Uncovered

@@ -1,6 +1,6 @@
 //! Loading exactly the damage of a screen again.
 //!
-//! A screen has a raw word for each pixel. When the stack of views has changed, or what a session has
+//! A screen has a raw word for each pixel, and a frame of the words that it shows. When the stack of views has changed, or what a session has
 //! drawn, some of these words have to be loaded again through the glasses of the sessions, each once,
 //! and no other. The calls of this crate do that for one kind of change each:
 //!
@@ -17,7 +17,9 @@
 //! rectangles with one owner each, and paints these one after the other ([`paint_to_come`]). A view
 //! of the session that calls is painted through the glass that it hands in, all others through the
 //! glasses of the scene. The promise is `Repainted` of nit_paint: exactly the marked pixels were
-//! loaded, each once, and what they hold then.
+//! loaded, each once, and what they hold then. Each row that was loaded is set in the frame at once,
+//! while it is near; so in mode Flat, where a view's pixels show their raw words, the frame is done
+//! too (`IsCopied`). In the other modes [`show_session`] sets what was loaded to what is shown there.
 //!
 //! Nothing is known here of sessions' rights, of the journal or of input. No call takes memory.
 #![tactic(auto)]
@@ -33,5 +35,5 @@ mod whole;
 pub use buffers::paint_session;
 pub use changes::paint_changed;
 pub use pieces::paint_to_come;
-pub use showing::{show_changed, show_session};
+pub use showing::show_session;
 pub use whole::{Nobody, paint_whole};

@@ -30,8 +30,9 @@ use Rattle.nit_journal.specs.State.{State, after, buffer_size, layer, session, s
 use Rattle.nit_journal.specs.Journals.{Agrees}
 use Rattle.nit_journal.specs.Views.{is_accepted}
 use Rattle.nit_paint.specs.Painting.{IsHeld}
-use Rattle.nit_repaint.specs.Copied.{IsCopied}
+use Rattle.nit_paint.specs.Copied.{AreSet, IsCopied}
 use Rattle.nit_repaint.specs.Owned.{is_word_in}
+use Rattle.nit_repaint.specs.Parts.{wanted}
 use Rattle.nit_overlay.specs.Looks.{draws_labels}
 use Rattle.nit_overlay.specs.Shown.{Scenery, bar_word, frame, owner_word, shown, view_word}
 use Rattle.nit_overlay.proofs.Frames.{length-frame}
@@ -40,11 +41,11 @@ use Rattle.nit_scene.specs.Dirty.{dirty, dirty_by_call, is_owned, shows_part, vi
 use Rattle.nit_scene.specs.Painted.{Painted, pixel_count}
 use Rattle.nit_scene.specs.Played.{scenery_of}
 use Rattle.nit_damage.proofs.Screen.{rows_hold}
-use Rattle.nit_repaint.proofs.Copied.{copied_same}
+use Rattle.nit_paint.proofs.Copied.{set_same}
 use Rattle.nit_repaint.proofs.Screen.{on_screen}
 use Rattle.nit_scene.specs.Attending.{with_delivered, with_routed}
-use Rattle.nit_scene.specs.CallKinds.{IsQuiet}
-use Rattle.nit_scene.specs.Kept.{CanShow}
+use Rattle.nit_scene.specs.CallKinds.{IsPartOf, IsQuiet}
+use Rattle.nit_scene.specs.Kept.{CanShow, shown_by}
 use Rattle.nit_scene.specs.Serving.{IsServed, Serving, state_of}
 use Rattle.nit_scene.proofs.Calls.{call_is_clean, stack_accepted}
 use Rattle.nit_scene.proofs.Refused.{accepted_reply}
@@ -226,7 +227,7 @@ kept_served before after' sid call r glasses glasses' raw raw' old new chosen wi
     now : Holds (after s (entry.Call sid call r))
     now p e f l w =
         kept_call s 0 sid call r glasses glasses' raw raw' old new (within, served.replied) p (still s sid call r other) many
-        (record { flat = λ m. copied_same chosen (λ (k : ℕ). dirty s (entry.Call sid call r) (after s (entry.Call sid call r)) (pixel s.config.width k)) (length raw') raw' old new (λ k lt. e k) (f m); labelled = l }) w
+        (record { flat = λ m. set_same chosen (λ (k : ℕ). dirty s (entry.Call sid call r) (after s (entry.Call sid call r)) (pixel s.config.width k)) (length raw') (slice_index raw') old new (λ k lt. e k) (f m); labelled = l }) w
 
 -- a call that changes nothing of what is shown
 pub quiet_scenery : (before after' : Serving) (sid : ℕ) (call : Call) (r : Reply) → refusal (session (state_of before) sid) call ≡ None → IsServed sid call r before after' → IsQuiet call → scenery_of (state_of after') ≡ scenery_of (state_of before)
@@ -253,15 +254,68 @@ quiet_scenery before after' sid call r none served quiet = ap scenery_of served.
     go (Refresh x y w h) q e = absurd q
     go Close q e = absurd q
 
+-- a call that asks for pixels of its session's views
+part_scenery : (before after' : Serving) (sid : ℕ) (part : Option Rectangle) (call : Call) (r : Reply) → refusal (session (state_of before) sid) call ≡ None → IsServed sid call r before after' → IsPartOf part call
+    → scenery_of (state_of after') ≡ scenery_of (state_of before)
+part_scenery before after' sid part call r none served of = ap scenery_of served.state ∙ go call of accepted_
+  where
+    s : State
+    s = state_of before
+
+    accepted_ : is_accepted r ≡ true
+    accepted_ = ap is_accepted served.replied ∙ accepted_reply (session s sid) call none
+
+    go : (c : Call) → IsPartOf part c → is_accepted r ≡ true → scenery_of (after s (entry.Call sid c r)) ≡ scenery_of s
+    go (Buffer w h) q e = ap (λ (vs : List ViewOf). record (scenery_of s) { stack = vs }) (stack_accepted (layer s.config) sid (Buffer w h) r s.stack e)
+    go (Refresh x y w h) q e = ap (λ (vs : List ViewOf). record (scenery_of s) { stack = vs }) (stack_accepted (layer s.config) sid (Refresh x y w h) r s.stack e)
+    go View q e = absurd q
+    go (Place v x y w h) q e = absurd q
+    go (Offset v ox oy) q e = absurd q
+    go (Front v) q e = absurd q
+    go (Back v) q e = absurd q
+    go (Above v n) q e = absurd q
+    go (Title v text) q e = absurd q
+    go (Destroy v) q e = absurd q
+    go Take q e = absurd q
+    go (Upgrade n) q e = absurd q
+    go Close q e = absurd q
+
+-- where labels are drawn, the dirty pixels got their raw words, and then what is shown there
+pub kept_part : (before after' : Serving) (sid : ℕ) (part : Option Rectangle) (call : Call) (r : Reply) (glasses glasses' : ℕ → Sight) (raw raw' old mid new : List ℕ) (chosen : ℕ → Bool)
+    → refusal (session (state_of before) sid) call ≡ None → IsServed sid call r before after' → IsPartOf part call
+    → Painted (state_of before) (entry.Call sid call r) (state_of after') glasses glasses' raw raw'
+    → length raw' ≡ pixel_count (state_of before) → ((k : ℕ) → chosen k ≡ dirty (state_of before) (entry.Call sid call r) (state_of after') (pixel before.config.width k))
+    → IsCopied chosen (length raw') raw' old mid → AreSet chosen (length raw') (shown_by (state_of after') raw') mid new
+    → old ≡ frame (scenery_of (state_of before)) raw → new ≡ frame (scenery_of (state_of after')) raw'
+kept_part before after' sid part call r glasses glasses' raw raw' old mid new chosen none served of painted many is_dirty one two was = renewed (scenery_of s) (scenery_of s') chosen raw raw' old new (record {
+  size = (ap (λ (sc : Scenery). sc.width) same, ap (λ (sc : Scenery). sc.height) same);
+  count = two.count ∙ one.count ∙ ap length was ∙ length-frame (scenery_of s) raw ∙ ap (λ (sc : Scenery). sc.width * sc.height) (sym same);
+  set = λ k l d. two.words k (within k l) ∙ ap (λ (b : Bool). cond b (shown_by s' raw' k) (slice_index mid k)) d;
+  left = λ k l d. two.words k (within k l) ∙ ap (λ (b : Bool). cond b (shown_by s' raw' k) (slice_index mid k)) d ∙ one.words k (within k l) ∙ ap (λ (b : Bool). cond b (slice_index raw' k) (slice_index old k)) d;
+  same = λ k l d. ap (λ (sc : Scenery). shown sc (pixel s'.config.width k) (slice_index raw' k)) same ∙ ap (shown (scenery_of s) (pixel s'.config.width k)) (painted.others k (λ lt. sym (is_dirty k) ∙ d));
+}) was
+  where
+    s : State
+    s = state_of before
+
+    s' : State
+    s' = state_of after'
+
+    same : scenery_of s' ≡ scenery_of s
+    same = part_scenery before after' sid part call r none served of
+
+    within : (k : ℕ) → k < (scenery_of s').width * (scenery_of s').height → k < length raw'
+    within k l = subst (λ (n : ℕ). k < n) (ap (λ (sc : Scenery). sc.width * sc.height) same ∙ sym many) l
+
 -- ---- what a frame is made by
 
 -- it stays where the server keeps its configuration and its slots, and the words of the pixels were loaded
-pub can_still : (s s' : Serving) (raw raw' shown_ : List ℕ) (room room' : ℕ) (labels : List (List ℕ)) (places : ℕ) → s'.config ≡ s.config → s'.stack.most ≡ s.stack.most
-    → length raw' ≡ length raw → All IsWord raw' → room' ≡ room → CanShow s raw shown_ room labels places → CanShow s' raw' shown_ room' labels places
-can_still s s' raw raw' shown_ room room' labels places config most long words room_ h = record {
+pub can_still : (s s' : Serving) (raw raw' shown_ shown_' : List ℕ) (room room' : ℕ) (labels : List (List ℕ)) (places : ℕ) → s'.config ≡ s.config → s'.stack.most ≡ s.stack.most
+    → length raw' ≡ length raw → length shown_' ≡ length shown_ → All IsWord raw' → room' ≡ room → CanShow s raw shown_ room labels places → CanShow s' raw' shown_' room' labels places
+can_still s s' raw raw' shown_ shown_' room room' labels places config most long same_long words room_ h = record {
   words = words;
   pixels = long ∙ h.pixels ∙ area;
-  each = h.each ∙ area;
+  each = same_long ∙ h.each ∙ area;
   cuts = let m = h.cuts in omega (arith, m, most, room_);
   named = h.named ∙ ap (λ (c : Configuration). map (λ m. m.label) c.clients) (sym config);
   placed = let m = h.placed in omega (arith, m, most);
@@ -309,6 +363,20 @@ pub bare_are_words : (n : ℕ) → All IsWord (replicate n bare_word)
 bare_are_words n = All-replicate IsWord n bare_word (omega arith)
 
 -- what was set is told of a stack, of raw words and of a frame that were handed out, in the words of their owners
-pub shown_on : (P : Standing → List ℕ → List ℕ → List ℕ → Type 0) (t s : Standing) (raw raw' old old' new new' : List ℕ) → t ≡ s → raw ≡ raw' → old ≡ old' → new ≡ new' → P t raw old new → P s raw' old' new'
-shown_on P t s raw raw' old old' new new' e f g h told =
-    subst (λ (x : Standing). P x raw' old' new') e (subst (λ (x : List ℕ). P t x old' new') f (subst (λ (x : List ℕ). P t raw x new') g (subst (λ (x : List ℕ). P t raw old x) h told)))
+pub shown_on : (P : Standing → ℕ → List ℕ → List ℕ → List ℕ → Type 0) (t s : Standing) (n m : ℕ) (raw raw' old old' new new' : List ℕ) → t ≡ s → n ≡ m → raw ≡ raw' → old ≡ old' → new ≡ new'
+    → P t n raw old new → P s m raw' old' new'
+shown_on P t s n m raw raw' old old' new new' e d f g h told =
+    subst (λ (x : Standing). P x m raw' old' new') e (subst (λ (k : ℕ). P t k raw' old' new') d
+    (subst (λ (x : List ℕ). P t n x old' new') f (subst (λ (x : List ℕ). P t n raw x new') g (subst (λ (x : List ℕ). P t n raw old x) h told))))
+
+-- the raw words and the frame stay as they are
+pub copied_on : (chosen : ℕ → Bool) (n m : ℕ) (raw raw' old new new' : List ℕ) → n ≡ m → raw ≡ raw' → new ≡ new' → IsCopied chosen n raw old new → IsCopied chosen m raw' old new'
+copied_on chosen n m raw raw' old new new' d f h is = subst (λ (k : ℕ). IsCopied chosen k raw' old new') d (subst (λ (x : List ℕ). IsCopied chosen n x old new') f (subst (λ (x : List ℕ). IsCopied chosen n raw old x) h is))
+
+-- what was shown of a session's views by a look, in the words of the server
+pub part_shown : (s : Serving) (t : Standing) (sc : Scenery) (sid : ℕ) (part : Option Rectangle) (raw old new : List ℕ) → t ≡ s.stack → sc ≡ scenery_of (state_of s)
+    → AreSet (λ k. wanted sid part t (pixel t.width k)) (length raw) (λ k. shown sc (pixel sc.width k) (slice_index raw k)) old new
+    → AreSet (λ k. wanted sid part s.stack (pixel s.stack.width k)) (length raw) (shown_by (state_of s) raw) old new
+part_shown s t sc sid part raw old new e f told =
+    subst (λ (x : Standing). AreSet (λ k. wanted sid part x (pixel x.width k)) (length raw) (shown_by (state_of s) raw) old new) e
+    (subst (λ (x : Scenery). AreSet (λ k. wanted sid part t (pixel t.width k)) (length raw) (λ k. shown x (pixel x.width k) (slice_index raw k)) old new) f told)

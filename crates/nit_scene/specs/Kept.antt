@@ -1,7 +1,9 @@
 -- A frame that is kept, with what it is made by.
-use Rattle.std.specs.Prelude.{◌≡◌, ℕ, ◌*◌, ◌≤◌, All, List, length, map}
+use Rattle.std.specs.Prelude.{◌≡◌, ℕ, ◌*◌, ◌≤◌, All, List, length, map, slice_index}
 use Rattle.nit_word.specs.Inks.{IsWord}
-use Rattle.nit_overlay.specs.Shown.{frame}
+use Rattle.nit_stack.specs.Sources.{pixel}
+use Rattle.nit_journal.specs.State.{State}
+use Rattle.nit_overlay.specs.Shown.{frame, shown}
 use Rattle.nit_scene.specs.declared.screen.pixels.Pixels.{Pixels}
 use Rattle.nit_scene.specs.Played.{scenery_of}
 use Rattle.nit_scene.specs.Serving.{Serving, state_of}
@@ -17,6 +19,10 @@ pub record CanShow (s : Serving) (raw shown : List ℕ) (room : ℕ) (labels : L
   pub cuts : s.stack.most ≤ room
   pub named : labels ≡ map (λ m. m.label) s.config.clients
   pub placed : s.stack.most ≤ places
+
+-- what is shown at the pixel of a number, by the raw words
+abbrev pub shown_by : State → List ℕ → ℕ → ℕ
+shown_by s raw k = shown (scenery_of s) (pixel s.config.width k) (slice_index raw k)
 
 -- the pixels have all that a frame of the server is made by
 abbrev pub CanShowBy : Serving → Pixels → Type 0

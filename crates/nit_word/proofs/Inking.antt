@@ -1,11 +1,11 @@
 -- Words that are 0 or in an ink of words.
-use Rattle.std.proofs.Common.{◌≡◌, ℕ, ◌==◌, ◌<◌, Bool, true, false, List, All, length, get_or, refl, arith}
+use Rattle.std.proofs.Common.{◌+◌, ◌≤◌, ◌≡◌, ℕ, ◌==◌, ◌<◌, Bool, true, false, List, All, length, get_or, refl, arith}
 use Rattle.std.specs.Prelude.{slice_index}
 use Rattle.std.specs.List.{list_any}
 use Rattle.std.proofs.lemmas.List.Folds.{Any-from_list_any}
 use Rattle.std.proofs.lemmas.Bool.Decides.{nat_tests}
 use Rattle.nit_word.specs.Inks.{IsInked, IsWord}
-use Rattle.nit_word.specs.Sight.{IsLoaded, inked_sight}
+use Rattle.nit_word.specs.Sight.{IsLoaded, IsLoadedRow, inked_sight}
 
 among_fits : (ink : List ℕ) (w : ℕ) → All IsWord ink → list_any (λ y. y == w) ink ≡ true → IsWord w
 among_fits ink w fit found =
@@ -33,3 +33,8 @@ place_loaded owner words ink i w fit inked room is =
       inked = here;
       told = is;
     }
+
+-- what stands side by side there may be loaded as a row
+pub row_loaded : (owner : ℕ) (words ink row : List ℕ) (from : ℕ) → All IsWord ink → All (IsInked ink) words → from + length row ≤ length words
+    → ((j : ℕ) → j < length row → slice_index row j ≡ slice_index words (from + j)) → IsLoadedRow (inked_sight owner words ink) from row
+row_loaded owner words ink row from fit inked room is j inside = place_loaded owner words ink (from + j) (slice_index row j) fit inked (omega arith) (is j inside)

@@ -1,6 +1,7 @@
 pub mod Bits
 pub mod InkedRows
 pub mod Inking
+pub mod Loads
 pub mod Padding
 pub mod Rows
 pub mod SetWords

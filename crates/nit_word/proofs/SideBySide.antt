@@ -10,11 +10,11 @@ use borrow.Rule.Slice.PartMut.{mid_of, put_mid}
 use Rattle.nit_word.specs.Setting.{set_where, is_between, in_turn}
 use Rattle.nit_word.proofs.SetWords.{are_set, both_set, same_colours, set_long, word_at}
 
-put_long : (from n : ℕ) (words part : List ℕ) → from + n ≤ length words → length part ≡ n → length (put_mid from n words part) ≡ length words
+pub put_long : (from n : ℕ) (words part : List ℕ) → from + n ≤ length words → length part ≡ n → length (put_mid from n words part) ≡ length words
 put_long from n words part room long =
     omega (arith, room, long, length-append (take from words) (part ++ drop n (drop from words)), length-append part (drop n (drop from words)), length-take-le from words (omega arith), length-drop n (drop from words), length-drop from words)
 
-at_place : (from n : ℕ) (c : ℕ → ℕ) (words part : List ℕ) (k : ℕ) → from + n ≤ length words → length part ≡ n → ((i : ℕ) → i < n → get_or part i 0 ≡ c (from + i))
+pub at_place : (from n : ℕ) (c : ℕ → ℕ) (words part : List ℕ) (k : ℕ) → from + n ≤ length words → length part ≡ n → ((i : ℕ) → i < n → get_or part i 0 ≡ c (from + i))
     → get_or (put_mid from n words part) k 0 ≡ cond (is_between from (from + n) k) (c k) (get_or words k 0)
 at_place from n c words part k room long each =
     let before : length (take from words) ≡ from = length-take-le from words (omega arith) in
@@ -96,6 +96,24 @@ some_copied from to others words order known =
     same_colours (is_between end to) (λ n. 0) (slice_index others) (set_where (is_between from end) (slice_index others) words)
     (λ k inside. let range : (end ≤ k) × (k < to) = (grind (arith, nat_tests), grind (arith, nat_tests)) in sym (get_or-eq_default others 0 (omega (arith, range.0, range.1))))
     ∙ both_set (is_between from end) (is_between end to) (is_between from to) (slice_index others) words (λ k. joined from end to k (omega arith) (omega arith))
+
+-- a row of the words from one number on, and of 0 behind the last of them
+pub row_read : (from known : ℕ) (words row part now : List ℕ) → known ≡ min (length row) (length words - from) → from < length words → part ≡ take (from + known - from) (drop from words)
+    → now ≡ set_where (is_between known (length row)) (λ n. 0) (part ++ drop known row) → (j : ℕ) → j < length row → get_or now j 0 ≡ get_or words (from + j) 0
+row_read from known words row part now least some is all j inside =
+    let rest : length (drop from words) ≡ length words - from = length-drop from words in
+    let same : from + known - from ≡ known = omega arith in
+    let front_is : part ≡ take known (drop from words) = is ∙ ap (λ (n : ℕ). take n (drop from words)) same in
+    let long : length part ≡ known = ap length front_is ∙ length-take-le known (drop from words) (omega (arith, least, rest)) in
+    let whole : length (part ++ drop known row) ≡ length row = omega (arith, least, long, length-append part (drop known row), length-drop known row) in
+    ap (λ (ws : List ℕ). get_or ws j 0) all ∙ word_at (is_between known (length row)) (λ n. 0) (part ++ drop known row) j (omega (arith, whole))
+    ∙ dite (dec_lt j known)
+    (λ front.
+    let none : is_between known (length row) j ≡ false = grind (arith, nat_tests) in
+    rw none (get_or_append_left part (drop known row) 0 j (omega (arith, long)) ∙ ap (λ (ws : List ℕ). get_or ws j 0) front_is ∙ get_or-take known (drop from words) j 0 front ∙ get_or-drop from words j 0))
+    (λ behind.
+    let some_ : is_between known (length row) j ≡ true = grind (arith, nat_tests) in
+    rw some_ (sym (get_or-eq_default words 0 (omega (arith, least)))))
 
 -- whose turn it is
 pub first_turn : (c d i : ℕ) → i % 2 ≡ 0 → c ≡ in_turn 0 c d i

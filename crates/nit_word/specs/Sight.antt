@@ -1,5 +1,5 @@
 -- What contracts see of a glass.
-use Rattle.std.specs.Prelude.{◌≡◌, ℕ, List, [], ◌++◌, length, slice_index, slice_set, Option, None, Some, IfSome}
+use Rattle.std.specs.Prelude.{◌≡◌, ℕ, List, [], ◌+◌, ◌<◌, ◌++◌, length, slice_index, slice_set, Option, None, Some, IfSome}
 use Rattle.std.specs.Option.{option_map}
 use Rattle.nit_word.specs.Inks.{IsInked, IsWord}
 
@@ -17,6 +17,10 @@ pub record IsLoaded (sight : Sight) (i w : ℕ) : Type 0 where
   pub fits : IsWord w
   pub inked : IsInked sight.ink w
   pub told : IfSome sight.words (λ words. w ≡ slice_index words i)
+
+-- what was loaded of a row of places, the first of which is `from`
+abbrev pub IsLoadedRow : Sight → ℕ → List ℕ → Type 0
+IsLoadedRow sight from row = (j : ℕ) → j < length row → IsLoaded sight (from + j) (slice_index row j)
 
 -- where words are told, every place has one
 abbrev pub TellsAll : Sight → Type 0

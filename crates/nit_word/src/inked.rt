@@ -123,4 +123,8 @@ impl Glass for Inked {
     fn load(&mut self, i: usize) -> u32 {
         self.words.get(i)
     }
+
+    fn load_row(&mut self, from: usize, row: &mut [u32]) {
+        self.words.read(from, row);
+    }
 }

@@ -59,4 +59,8 @@ impl Glass for Plain {
     fn load(&mut self, i: usize) -> u32 {
         self.words[i]
     }
+
+    fn load_row(&mut self, from: usize, row: &mut [u32]) {
+        row.copy_from_slice(&self.words[from..from + row.len()]);
+    }
 }

@@ -1,5 +1,5 @@
 //! Words that are set side by side.
-ghost use Rattle.std.specs.Prelude.{◌≡◌, ℕ, ◌≤◌, length, slice_index};
+ghost use Rattle.std.specs.Prelude.{◌≡◌, ℕ, ◌+◌, ◌<◌, ◌≤◌, length, slice_index};
 ghost use Rattle.nit_word.specs.Setting.{in_turn, is_between, set_where};
 
 /// Sets the words from the number `from` to before `to` to `w`.
@@ -53,4 +53,20 @@ fn copy_part(words: &mut [u32], from: usize, to: usize, others: &[u32])
     ensures { words.new ≡ set_where (is_between from to) (slice_index others.now) words.old }
 {
     words[from..to].copy_from_slice(&others[from..to]);
+}
+
+/// Sets a row to the words from the number `from` on, and to 0 behind the last of them.
+pub(crate) fn read_words(words: &[u32], from: usize, row: &mut [u32])
+    ensures count { length row.new ≡ length row.old }
+    ensures words { (j : ℕ) → j < length row.old
+        → slice_index row.new j ≡ slice_index words.now (from + j) }
+{
+    let count = row.len();
+    if words.len() <= from {
+        row.fill(0);
+        return;
+    }
+    let known = count.min(words.len() - from);
+    row[..known].copy_from_slice(&words[from..from + known]);
+    fill_words(row, known, count, 0);
 }

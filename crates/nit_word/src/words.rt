@@ -3,7 +3,7 @@ ghost use Rattle.std.specs.Prelude.{◌≡◌, ℕ, ◌+◌, ◌-◌, ◌<◌, �
 ghost use Rattle.nit_word.specs.Setting.{in_turn, is_between, set_where};
 ghost use Rattle.nit_word.specs.Zeros.{padded, zeros};
 
-use crate::setting::{alternate_words, copy_words, fill_words};
+use crate::setting::{alternate_words, copy_words, fill_words, read_words};
 use std::alloc::{AllocError, Global};
 use std::marker::Model;
 
@@ -68,6 +68,16 @@ impl Words {
         } else {
             0
         }
+    }
+
+    /// Sets a row to the words from the number `from` on.
+    pub(crate) fn read(&self, from: usize, row: &mut [u32])
+        requires { from + length row.old ≤ length self.now }
+        ensures count { length row.new ≡ length row.old }
+        ensures words { (j : ℕ) → j < length row.old
+            → slice_index row.new j ≡ slice_index self.now (from + j) }
+    {
+        read_words(&self.reached, from, row);
     }
 
     /// Sets the word of this number to `w`.

@@ -19,13 +19,11 @@ ghost use Rattle.nit_rect.specs.Rectangle.{covers, rectangle};
 ghost use Rattle.nit_word.specs.Inks.{IsWord};
 ghost use Rattle.nit_events.specs.declared.device.Mode.TheVariants.{Flat};
 ghost use Rattle.nit_stack.specs.Sources.{pixel};
-ghost use Rattle.nit_stack.specs.Standing.{Standing};
-ghost use Rattle.nit_repaint.specs.Copied.{IsCopied};
-ghost use Rattle.nit_repaint.specs.OneView.{IsChange, slot_owns_either};
+ghost use Rattle.nit_paint.specs.Copied.{AreSet};
 ghost use Rattle.nit_repaint.specs.Parts.{wanted};
 ghost use Rattle.nit_overlay.specs.Looks.{draws_labels};
 ghost use Rattle.nit_overlay.specs.Shown.{frame, shown};
-ghost use Rattle.nit_scene.specs.Kept.{ArePixels, CanShowBy};
+ghost use Rattle.nit_scene.specs.Kept.{ArePixels, CanShowBy, shown_by};
 ghost use Rattle.nit_scene.specs.Played.{scenery_of};
 ghost use Rattle.nit_scene.specs.Serving.{IsServing, state_of};
 
@@ -36,8 +34,7 @@ use nit_events::Mode;
 use nit_glyph::Label;
 use nit_overlay::{Look, frame_into, overlay_rect};
 use nit_rect::{Point, Rect};
-use nit_repaint::{show_changed, show_session};
-use nit_stack::ViewRef;
+use nit_repaint::show_session;
 
 /// The raw word of each pixel of a screen and the frame of them, each row by row from the top, with
 /// what they are cut and shown by: the labels of the sessions, and the places of the views' labels.
@@ -178,137 +175,8 @@ fn bar_rect(server: &Server) -> Rect
     rect
 }
 
-/// Shows again what a view owned before a change, or owns after it, once it was loaded: these
-/// pixels in mode Flat, and the whole frame in the others.
-pub(crate) fn show_view(
-    mode: Mode,
-    server: &Server,
-    v: ViewRef,
-    place: u32,
-    rect: Rect,
-    pixels: &mut Pixels,
-)
-    requires mode { mode ≡ server.now.input.mode }
-    requires can { CanShowBy server.now pixels.old }
-    ensures can { CanShowBy server.now pixels.new }
-    ensures raw { pixels.new.raw ≡ pixels.old.raw }
-    ensures flat { mode ≡ Flat → (before : Standing)
-        → IsChange v.0 place rect before server.now.stack
-        → IsCopied (λ k. slot_owns_either v.0 before server.now.stack
-        (pixel server.now.stack.width k))
-        (length pixels.new.raw.items) pixels.new.raw.items
-        pixels.old.frame.items pixels.new.frame.items }
-    ensures labelled { IsTrue (draws_labels mode)
-        → pixels.new.frame.items ≡ frame (scenery_of (state_of server.now)) pixels.new.raw.items }
-{
-    match mode {
-        Mode::Flat => copy_view(
-            server,
-            v,
-            place,
-            rect,
-            &mut pixels.cutter,
-            &pixels.raw,
-            &mut pixels.frame,
-        ),
-        _ => redraw(server, pixels),
-    }
-}
-
-/// Sets the frame to the raw words of what a view owned before a change, or owns after it.
-fn copy_view(
-    server: &Server,
-    v: ViewRef,
-    place: u32,
-    rect: Rect,
-    cutter: &mut Cutter,
-    raw: &Vec<u32>,
-    out: &mut Vec<u32>,
-)
-    requires room { server.now.stack.most ≤ cutter.old.room }
-    requires pixels { length raw.now.items ≡ server.now.config.width * server.now.config.height }
-    requires out { length out.old.items ≡ length raw.now.items }
-    ensures room { cutter.new.room ≡ cutter.old.room }
-    ensures shown { (before : Standing) → IsChange v.0 place rect before server.now.stack
-        → IsCopied (λ k. slot_owns_either v.0 before server.now.stack
-        (pixel server.now.stack.width k))
-        (length raw.now.items) raw.now.items out.old.items out.new.items }
-    ensures count { length out.new.items ≡ length out.old.items }
-{
-    show_changed(
-        cutter,
-        server.stack(),
-        v,
-        place,
-        rect,
-        raw.as_slice(),
-        out.as_mut_slice(),
-    );
-}
-
-/// Shows again what views of a session own and what of it shows this part of its buffer, or all of
-/// it, once it was loaded: these pixels in mode Flat, and the whole frame in the others.
-pub(crate) fn show_part(
-    mode: Mode,
-    server: &Server,
-    of: u32,
-    part: &Option<Rect>,
-    pixels: &mut Pixels,
-)
-    requires mode { mode ≡ server.now.input.mode }
-    requires can { CanShowBy server.now pixels.old }
-    ensures can { CanShowBy server.now pixels.new }
-    ensures raw { pixels.new.raw ≡ pixels.old.raw }
-    ensures flat { mode ≡ Flat
-        → IsCopied (λ k. wanted of part.now server.now.stack (pixel server.now.stack.width k))
-        (length pixels.new.raw.items) pixels.new.raw.items
-        pixels.old.frame.items pixels.new.frame.items }
-    ensures labelled { IsTrue (draws_labels mode)
-        → pixels.new.frame.items ≡ frame (scenery_of (state_of server.now)) pixels.new.raw.items }
-{
-    match mode {
-        Mode::Flat => copy_part(
-            server,
-            of,
-            part,
-            &mut pixels.cutter,
-            &pixels.raw,
-            &mut pixels.frame,
-        ),
-        _ => redraw(server, pixels),
-    }
-}
-
-/// Sets the frame to the raw words of what views of a session own, or of what of it shows a part of
-/// its buffer.
-fn copy_part(
-    server: &Server,
-    of: u32,
-    part: &Option<Rect>,
-    cutter: &mut Cutter,
-    raw: &Vec<u32>,
-    out: &mut Vec<u32>,
-)
-    requires room { server.now.stack.most ≤ cutter.old.room }
-    requires pixels { length raw.now.items ≡ server.now.config.width * server.now.config.height }
-    requires out { length out.old.items ≡ length raw.now.items }
-    ensures room { cutter.new.room ≡ cutter.old.room }
-    ensures shown { IsCopied
-        (λ k. wanted of part.now server.now.stack (pixel server.now.stack.width k))
-        (length raw.now.items) raw.now.items out.old.items out.new.items }
-{
-    show_session(
-        cutter,
-        server.stack(),
-        of,
-        part,
-        raw.as_slice(),
-        out.as_mut_slice(),
-    );
-}
-
-/// Shows again all, in the modes that draw labels, where the views or their titles changed and no
-/// pixel was loaded. In mode Flat the frame stays.
+/// Shows again all, in the modes that draw labels, where views or their titles changed.
+/// In mode Flat the frame stays: it has the words of the pixels that were loaded.
 pub(crate) fn show_views(mode: Mode, server: &Server, pixels: &mut Pixels)
     requires mode { mode ≡ server.now.input.mode }
     requires can { CanShowBy server.now pixels.old }
@@ -322,4 +190,88 @@ pub(crate) fn show_views(mode: Mode, server: &Server, pixels: &mut Pixels)
         Mode::Flat => {}
         _ => redraw(server, pixels),
     }
+}
+
+/// Shows again, in the modes that draw labels, what views of a session own and what of it shows this
+/// part of its buffer, or all of it, once it was loaded. In mode Flat the frame stays.
+pub(crate) fn show_part(
+    mode: Mode,
+    server: &Server,
+    of: u32,
+    part: &Option<Rect>,
+    pixels: &mut Pixels,
+)
+    requires mode { mode ≡ server.now.input.mode }
+    requires can { CanShowBy server.now pixels.old }
+    ensures can { CanShowBy server.now pixels.new }
+    ensures raw { pixels.new.raw ≡ pixels.old.raw }
+    ensures flat { mode ≡ Flat → pixels.new.frame ≡ pixels.old.frame }
+    ensures labelled { IsTrue (draws_labels mode) → AreSet
+        (λ k. wanted of part.now server.now.stack (pixel server.now.stack.width k))
+        (length pixels.new.raw.items) (shown_by (state_of server.now) pixels.new.raw.items)
+        pixels.old.frame.items pixels.new.frame.items }
+{
+    match mode {
+        Mode::Flat => {}
+        _ => overlay_part(server, of, part, pixels),
+    }
+}
+
+/// Sets the frame to what is shown at what views of a session own, or at what of it shows a part of
+/// its buffer.
+fn overlay_part(server: &Server, of: u32, part: &Option<Rect>, pixels: &mut Pixels)
+    requires can { CanShowBy server.now pixels.old }
+    ensures can { CanShowBy server.now pixels.new }
+    ensures raw { pixels.new.raw ≡ pixels.old.raw }
+    ensures shown { AreSet
+        (λ k. wanted of part.now server.now.stack (pixel server.now.stack.width k))
+        (length pixels.new.raw.items) (shown_by (state_of server.now) pixels.new.raw.items)
+        pixels.old.frame.items pixels.new.frame.items }
+{
+    part_of(
+        server,
+        of,
+        part,
+        &mut pixels.cutter,
+        pixels.labels.as_slice(),
+        pixels.places.as_mut_slice(),
+        pixels.raw.as_slice(),
+        pixels.frame.as_mut_slice(),
+    );
+}
+
+/// The same, of a frame by itself. Where the labels stand is worked out first.
+fn part_of(
+    server: &Server,
+    of: u32,
+    part: &Option<Rect>,
+    cutter: &mut Cutter,
+    labels: &[Label],
+    places: &mut [Option<Point>],
+    raw: &[u32],
+    out: &mut [u32],
+)
+    requires room { server.now.stack.most ≤ cutter.old.room }
+    requires named { labels.now ≡ map (λ m. m.label) server.now.config.clients }
+    requires placed { server.now.stack.most ≤ length places.old }
+    requires pixels { length raw.now ≡ server.now.config.width * server.now.config.height }
+    requires out { length out.old ≡ server.now.config.width * server.now.config.height }
+    requires words { All IsWord raw.now }
+    ensures room { cutter.new.room ≡ cutter.old.room }
+    ensures shown { AreSet
+        (λ k. wanted of part.now server.now.stack (pixel server.now.stack.width k))
+        (length raw.now) (shown_by (state_of server.now) raw.now) out.old out.new }
+    ensures places { length places.new ≡ length places.old }
+{
+    server.facts();
+    let mode = server.mode();
+    place_drawn(mode, server.stack(), labels, places);
+    let look = Look {
+        stack: server.stack(),
+        labels,
+        mode,
+        focus: server.focus(),
+        places,
+    };
+    show_session(cutter, &look, of, part, raw, out);
 }

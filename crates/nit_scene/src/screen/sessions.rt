@@ -19,6 +19,7 @@ ghost use Rattle.nit_events.specs.declared.event.Status.TheVariants as status;
 ghost use Rattle.nit_stack.specs.Sources.{pixel};
 ghost use Rattle.nit_journal.specs.Session.{refusal, accepted};
 ghost use Rattle.nit_journal.specs.State.{session, session_in};
+ghost use Rattle.nit_paint.specs.Copied.{IsCopied};
 ghost use Rattle.nit_paint.specs.Painting.{Repainted, no_sight};
 ghost use Rattle.nit_paint.specs.Pieces.{source_at};
 ghost use Rattle.nit_repaint.specs.Glasses.{HoldBuffers, glasses_of_call};
@@ -86,6 +87,7 @@ pub(crate) fn change_buffer<G: Glass, C: Glass>(
         part,
         &mut pixels.cutter,
         &mut pixels.raw,
+        &mut pixels.frame,
         glasses,
         own,
     );
@@ -93,18 +95,20 @@ pub(crate) fn change_buffer<G: Glass, C: Glass>(
     reply
 }
 
-/// Loads again what is wanted of a session's views.
+/// Loads again what is wanted of a session's views. The frame gets the raw words.
 fn paint_views<G: Glass, C: Glass>(
     server: &Server,
     sid: u32,
     part: &Option<Rect>,
     cutter: &mut Cutter,
     raw: &mut Vec<u32>,
+    frame: &mut Vec<u32>,
     glasses: &mut Vec<G>,
     own: &mut C,
 )
     requires room { length server.now.stack.views ≤ cutter.old.room }
     requires pixels { length raw.old.items ≡ server.now.stack.width * server.now.stack.height }
+    requires frame { length frame.old.items ≡ length raw.old.items }
     requires held { HoldBuffers server.now.stack (length glasses.old.items)
         (glasses_of_call (map G.sight glasses.old.items) sid (C.sight own.old)) }
     ensures room { cutter.new.room ≡ cutter.old.room }
@@ -114,7 +118,11 @@ fn paint_views<G: Glass, C: Glass>(
         (glasses_of_call (map G.sight glasses.old.items) sid (C.sight own.old))
         (glasses_of_call (map G.sight glasses.new.items) sid (C.sight own.new))
         raw.old.items raw.new.items }
+    ensures shown { IsCopied
+        (λ k. wanted sid part.now server.now.stack (pixel server.now.stack.width k))
+        (length raw.old.items) raw.new.items frame.old.items frame.new.items }
     ensures count { length raw.new.items ≡ length raw.old.items }
+    ensures each { length frame.new.items ≡ length frame.old.items }
     ensures idle { glass_in (map G.sight glasses.new.items) sid ≡ glass_in
         (map G.sight glasses.old.items) sid }
     ensures rest { C.rest own.new ≡ C.rest own.old }
@@ -126,6 +134,7 @@ fn paint_views<G: Glass, C: Glass>(
         sid,
         part,
         raw.as_mut_slice(),
+        frame.as_mut_slice(),
         glasses.as_mut_slice(),
         sid,
         own,
@@ -166,6 +175,7 @@ pub(crate) fn close<G: Glass, C: Glass>(
         Status::Closed,
         &mut pixels.cutter,
         &mut pixels.raw,
+        &mut pixels.frame,
         glasses,
         sid,
         own,
@@ -204,6 +214,7 @@ pub(crate) fn kill_session<G: Glass>(
         Status::Killed,
         &mut pixels.cutter,
         &mut pixels.raw,
+        &mut pixels.frame,
         glasses,
         nobody,
         &mut Nobody::<0>,
@@ -218,6 +229,7 @@ fn end_session<G: Glass, C: Glass>(
     how: Status,
     cutter: &mut Cutter,
     raw: &mut Vec<u32>,
+    frame: &mut Vec<u32>,
     glasses: &mut Vec<G>,
     sid: u32,
     own: &mut C,
@@ -225,6 +237,7 @@ fn end_session<G: Glass, C: Glass>(
     requires session { of < length server.old.sessions }
     requires room { server.old.stack.most ≤ cutter.old.room }
     requires pixels { length raw.old.items ≡ server.old.config.width * server.old.config.height }
+    requires frame { length frame.old.items ≡ length raw.old.items }
     requires held { HoldBuffers server.old.stack (length glasses.old.items)
         (glasses_of_call (map G.sight glasses.old.items) sid (C.sight own.old)) }
     ensures server { server.new ≡ with_ended of how server.old }
@@ -237,13 +250,14 @@ fn end_session<G: Glass, C: Glass>(
         (glasses_of_call (map G.sight glasses.new.items) sid (C.sight own.new))
         raw.old.items raw.new.items }
     ensures count { length raw.new.items ≡ length raw.old.items }
+    ensures each { length frame.new.items ≡ length frame.old.items }
     ensures idle { glass_in (map G.sight glasses.new.items) sid ≡ glass_in
         (map G.sight glasses.old.items) sid }
     ensures rest { C.rest own.new ≡ C.rest own.old }
     ensures rests { map G.rest glasses.new.items ≡ map G.rest glasses.old.items }
 {
     server.facts();
-    take_views_away(server, of, cutter, raw, glasses, sid, own);
+    take_views_away(server, of, cutter, raw, frame, glasses, sid, own);
     server.end_session(of, how);
     server.facts();
 }

@@ -24,6 +24,7 @@ ghost use Rattle.nit_stack.specs.Sources.{pixel};
 ghost use Rattle.nit_stack.specs.Standing.{Seat, Standing, has, is_of_session, place_of, seat_in};
 ghost use Rattle.nit_journal.specs.Session.{refusal, accepted};
 ghost use Rattle.nit_journal.specs.State.{session, session_in};
+ghost use Rattle.nit_paint.specs.Copied.{IsCopied};
 ghost use Rattle.nit_paint.specs.Painting.{Repainted, no_sight};
 ghost use Rattle.nit_paint.specs.Pieces.{source_at};
 ghost use Rattle.nit_repaint.specs.Glasses.{HoldBuffers, glasses_of_call};
@@ -37,7 +38,7 @@ ghost use Rattle.nit_scene.specs.Seating.{without_views};
 ghost use Rattle.nit_scene.specs.Serving.{IsServed, state_of};
 ghost use Rattle.nit_scene.specs.Showing.{IsGlassOf};
 
-use crate::screen::pixels::{Pixels, show_view};
+use crate::screen::pixels::{Pixels, show_views};
 use crate::server::Server;
 use nit_damage::Cutter;
 use nit_events::{Call, Reply};
@@ -91,11 +92,12 @@ pub(crate) fn change_view<G: Glass, C: Glass>(
         rect,
         &mut pixels.cutter,
         &mut pixels.raw,
+        &mut pixels.frame,
         glasses,
         sid,
         own,
     );
-    show_view(server.mode(), server, v, place, rect, pixels);
+    show_views(server.mode(), server, pixels);
     reply
 }
 
@@ -111,7 +113,8 @@ fn stood(server: &Server, v: ViewRef) -> (u32, Rect)
     (stack.place_of(v), view.rect)
 }
 
-/// Loads again what a view owned before or owns now: it stood at this place with this rectangle.
+/// Loads again what a view owned before or owns now: it stood at this place with this rectangle. The
+/// frame gets the raw words.
 fn paint_change<G: Glass, C: Glass>(
     server: &Server,
     v: ViewRef,
@@ -119,12 +122,14 @@ fn paint_change<G: Glass, C: Glass>(
     rect: Rect,
     cutter: &mut Cutter,
     raw: &mut Vec<u32>,
+    frame: &mut Vec<u32>,
     glasses: &mut Vec<G>,
     sid: u32,
     own: &mut C,
 )
     requires room { length server.now.stack.views ≤ cutter.old.room }
     requires pixels { length raw.old.items ≡ server.now.stack.width * server.now.stack.height }
+    requires frame { length frame.old.items ≡ length raw.old.items }
     requires held { HoldBuffers server.now.stack (length glasses.old.items)
         (glasses_of_call (map G.sight glasses.old.items) sid (C.sight own.old)) }
     ensures room { cutter.new.room ≡ cutter.old.room }
@@ -135,7 +140,12 @@ fn paint_change<G: Glass, C: Glass>(
         (glasses_of_call (map G.sight glasses.old.items) sid (C.sight own.old))
         (glasses_of_call (map G.sight glasses.new.items) sid (C.sight own.new))
         raw.old.items raw.new.items }
+    ensures shown { (before : Standing) → IsChange v.0 place rect before server.now.stack
+        → IsCopied (λ k. slot_owns_either v.0 before server.now.stack
+        (pixel server.now.stack.width k))
+        (length raw.old.items) raw.new.items frame.old.items frame.new.items }
     ensures count { length raw.new.items ≡ length raw.old.items }
+    ensures each { length frame.new.items ≡ length frame.old.items }
     ensures idle { glass_in (map G.sight glasses.new.items) sid ≡ glass_in
         (map G.sight glasses.old.items) sid }
     ensures rest { C.rest own.new ≡ C.rest own.old }
@@ -148,6 +158,7 @@ fn paint_change<G: Glass, C: Glass>(
         place,
         rect,
         raw.as_mut_slice(),
+        frame.as_mut_slice(),
         glasses.as_mut_slice(),
         sid,
         own,
@@ -168,6 +179,7 @@ pub(crate) fn take_views_away<G: Glass, C: Glass>(
     of: u32,
     cutter: &mut Cutter,
     raw: &mut Vec<u32>,
+    frame: &mut Vec<u32>,
     glasses: &mut Vec<G>,
     sid: u32,
     own: &mut C,
@@ -175,6 +187,7 @@ pub(crate) fn take_views_away<G: Glass, C: Glass>(
     requires session { of < length server.old.sessions }
     requires room { length server.old.stack.views ≤ cutter.old.room }
     requires pixels { length raw.old.items ≡ server.old.stack.width * server.old.stack.height }
+    requires frame { length frame.old.items ≡ length raw.old.items }
     requires held { HoldBuffers server.old.stack (length glasses.old.items)
         (glasses_of_call (map G.sight glasses.old.items) sid (C.sight own.old)) }
     ensures left { without_views of server.new ≡ without_views of server.old }
@@ -188,6 +201,7 @@ pub(crate) fn take_views_away<G: Glass, C: Glass>(
         (glasses_of_call (map G.sight glasses.new.items) sid (C.sight own.new))
         raw.old.items raw.new.items }
     ensures count { length raw.new.items ≡ length raw.old.items }
+    ensures each { length frame.new.items ≡ length frame.old.items }
     ensures idle { glass_in (map G.sight glasses.new.items) sid ≡ glass_in
         (map G.sight glasses.old.items) sid }
     ensures rest { C.rest own.new ≡ C.rest own.old }
@@ -196,7 +210,7 @@ pub(crate) fn take_views_away<G: Glass, C: Glass>(
     let mut i = view_count(server);
     'views: while 0 < i {
         i -= 1;
-        take_seat_away(server, i, of, cutter, raw, glasses, sid, own);
+        take_seat_away(server, i, of, cutter, raw, frame, glasses, sid, own);
     }
 }
 
@@ -208,6 +222,7 @@ fn take_seat_away<G: Glass, C: Glass>(
     of: u32,
     cutter: &mut Cutter,
     raw: &mut Vec<u32>,
+    frame: &mut Vec<u32>,
     glasses: &mut Vec<G>,
     sid: u32,
     own: &mut C,
@@ -217,6 +232,7 @@ fn take_seat_away<G: Glass, C: Glass>(
     requires session { of < length server.old.sessions }
     requires room { length server.old.stack.views ≤ cutter.old.room }
     requires pixels { length raw.old.items ≡ server.old.stack.width * server.old.stack.height }
+    requires frame { length frame.old.items ≡ length raw.old.items }
     requires held { HoldBuffers server.old.stack (length glasses.old.items)
         (glasses_of_call (map G.sight glasses.old.items) sid (C.sight own.old)) }
     ensures taken { IsTaken of i server.old.stack server.new.stack }
@@ -230,6 +246,7 @@ fn take_seat_away<G: Glass, C: Glass>(
         (glasses_of_call (map G.sight glasses.new.items) sid (C.sight own.new))
         raw.old.items raw.new.items }
     ensures count { length raw.new.items ≡ length raw.old.items }
+    ensures each { length frame.new.items ≡ length frame.old.items }
     ensures idle { glass_in (map G.sight glasses.new.items) sid ≡ glass_in
         (map G.sight glasses.old.items) sid }
     ensures rest { C.rest own.new ≡ C.rest own.old }
@@ -241,5 +258,7 @@ fn take_seat_away<G: Glass, C: Glass>(
         return;
     }
     server.remove_view(of, view.handle);
-    paint_change(server, v, i, view.rect, cutter, raw, glasses, sid, own);
+    paint_change(
+        server, v, i, view.rect, cutter, raw, frame, glasses, sid, own,
+    );
 }

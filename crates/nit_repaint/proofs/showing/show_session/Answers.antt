@@ -1,4 +1,5 @@
 use Rattle.std.proofs.Common.{◌∙◌, length, refl, arith}
+use Rattle.nit_repaint.specs.Showing.{shown_at}
 use Rattle.nit_repaint.proofs.Copied.{first_shown, last_shown, next_shown}
 use Rattle.nit_repaint.proofs.Wanted.{seat_here, seat_there}
 use Rattle.nit_repaint.proofs.showing.show_session.Goals as goal
@@ -6,21 +7,23 @@ use Rattle.nit_repaint.proofs.showing.show_session.Goals as goal
 pub views-init : goal.views-init
 views-init c = record {
   room = refl;
-  shown = first_shown c.args.stack.now (length c.args.raw.now) c.args.of c.args.part.now c.args.raw.now c.args.frame.now;
+  shown = first_shown c.args.look.now.stack.now (length c.args.raw.now) c.args.of c.args.part.now (shown_at c.args.look.now c.args.raw.now) c.args.frame.now;
 }
 
 pub views-preserved : goal.views-preserved
 views-preserved c =
-    let s = c.args.stack.now in
+    let s = c.args.look.now.stack.now in
+    let word = shown_at c.args.look.now c.args.raw.now in
     let v = c.views.invariant in
     let e = c.show_seat.ensures in
     let x = seat_there s.views c.views.i (omega (arith, c.views-test.true, c.len-views.ensures.count)) in
     record {
       room = e.room ∙ v.room;
-      shown = next_shown s (length c.args.raw.now) c.args.of c.args.part.now c.views.i x.0 c.args.raw.now c.args.frame.now c.views.frame c.show_seat.new.frame
-          c.len-views.ensures.standing.slots (seat_here s.views c.views.i x.0 c.len-views.ensures.standing.slots x.1) x.1 v.shown (e.shown x.0 x.1);
+      shown = next_shown s (length c.args.raw.now) c.args.of c.args.part.now c.views.i x.0 word word c.args.frame.now c.views.frame c.show_seat.new.frame
+          c.len-views.ensures.standing.slots (seat_here s.views c.views.i x.0 c.len-views.ensures.standing.slots x.1) x.1 (λ k out. refl) v.shown (e.shown x.0 x.1);
     }
 
 pub returns-clause-shown : goal.returns-clause-shown
 returns-clause-shown c =
-    last_shown c.args.stack.now (length c.args.raw.now) c.args.of c.args.part.now c.views.i c.args.raw.now c.args.frame.now c.views.frame (omega (arith, c.views-test.false, c.len-views.ensures.count)) c.views.invariant.shown
+    last_shown c.args.look.now.stack.now (length c.args.raw.now) c.args.of c.args.part.now c.views.i (shown_at c.args.look.now c.args.raw.now) c.args.frame.now c.views.frame
+    (omega (arith, c.views-test.false, c.len-views.ensures.count)) c.views.invariant.shown

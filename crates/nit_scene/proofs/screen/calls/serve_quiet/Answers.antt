@@ -11,10 +11,10 @@ returns-clause-pixels c =
     let s = c.args.server.now in
     let s' = c.accept-reply.new.self in
     let p = c.args.pixels.now in (
-      can_still s s' p.raw.items p.raw.items p.frame.items p.cutter.room p.cutter.room p.labels.items (length p.places.items)
+      can_still s s' p.raw.items p.raw.items p.frame.items p.frame.items p.cutter.room p.cutter.room p.labels.items (length p.places.items)
           (same_config c.args.sid c.args.call.now c.accept-reply.result s s' c.accept-reply.ensures)
           (same_most s s' c.args.sid c.args.call.now c.accept-reply.result c.facts.ensures c.facts-2.ensures c.accept-reply.ensures)
-          refl c.requires.pixels.0.words refl c.requires.pixels.0,
+          refl refl c.requires.pixels.0.words refl c.requires.pixels.0,
       c.requires.pixels.1 ∙ ap (λ (sc : Scenery). frame sc p.raw.items) (sym (quiet_scenery s s' c.args.sid c.args.call.now c.accept-reply.result c.requires.accepted c.accept-reply.ensures c.requires.quiet)),
     )
 

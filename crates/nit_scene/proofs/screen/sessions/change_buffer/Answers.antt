@@ -1,14 +1,15 @@
-use Rattle.std.proofs.Common.{ℕ, ◌*◌, length, map, ap, sym, subst, ◌∙◌, arith}
+use Rattle.std.proofs.Common.{ℕ, ◌*◌, Bool, List, refl, length, map, ap, sym, subst, ◌∙◌, arith}
 use Rattle.nit_config.specs.Configuration.{Configuration}
 use Rattle.std.specs.Prelude.{IsTrue}
 use Rattle.nit_events.specs.declared.device.Mode.{Mode}
 use Rattle.nit_stack.specs.Sources.{pixel}
 use Rattle.nit_paint.proofs.Repaints.{repainted_words}
+use Rattle.nit_paint.specs.Copied.{IsCopied}
 use Rattle.nit_repaint.specs.Parts.{wanted}
 use Rattle.nit_overlay.specs.Looks.{draws_labels}
 use Rattle.nit_scene.specs.CallKinds.{IsPartOf}
 use Rattle.nit_repaint.specs.Glasses.{glasses_of_call}
-use Rattle.nit_scene.proofs.Keeps.{can_still, kept_served}
+use Rattle.nit_scene.proofs.Keeps.{can_still, copied_on, kept_part, kept_served}
 use Rattle.nit_scene.proofs.Changed.{dirty_by_views, few_views, painted_by_views, same_most}
 use Rattle.nit_scene.proofs.Screens.{held_by_glasses, same_config}
 use Rattle.nit_scene.proofs.screen.sessions.change_buffer.Goals as goal
@@ -37,10 +38,10 @@ show_part-requires-clause-can g c =
     let s' = c.accept-reply.new.self in
     let p = c.args.pixels.now in
     let raw' = c.paint_views.new.raw.items in
-    can_still s s' p.raw.items raw' p.frame.items p.cutter.room c.paint_views.new.cutter.room p.labels.items (length p.places.items)
+    can_still s s' p.raw.items raw' p.frame.items c.paint_views.new.frame.items p.cutter.room c.paint_views.new.cutter.room p.labels.items (length p.places.items)
     (same_config c.args.sid c.args.call.now c.accept-reply.result s s' c.accept-reply.ensures)
     (same_most s s' c.args.sid c.args.call.now c.accept-reply.result c.facts.ensures c.facts-2.ensures c.accept-reply.ensures)
-    c.paint_views.ensures.count (repainted_words _ _ _ _ _ p.raw.items raw' c.paint_views.ensures.count c.paint_views.ensures.painted c.requires.pixels.0.words)
+    c.paint_views.ensures.count c.paint_views.ensures.shown.count (repainted_words _ _ _ _ _ p.raw.items raw' c.paint_views.ensures.count c.paint_views.ensures.painted c.requires.pixels.0.words)
     c.paint_views.ensures.room c.requires.pixels.0
 
 -- the pixels that are shown again are the dirty ones
@@ -51,13 +52,25 @@ returns-clause-pixels g c =
     let p = c.args.pixels.now in
     let p' = c.show_part.new.pixels in
     let e = c.show_part.ensures in
-    let painted = painted_by_views s s' c.args.sid c.args.part.now c.args.call.now c.accept-reply.result c.facts-2.ensures c.requires.accepted c.accept-reply.ensures c.requires.on
-    (length p.raw.items) (glasses_of_call (map g.G.Glass.sight c.args.glasses.now.items) c.args.sid (g.C.Glass.sight c.args.own.now)) (glasses_of_call (map g.G.Glass.sight c.paint_views.new.glasses.items) c.args.sid (g.C.Glass.sight c.paint_views.new.own)) p.raw.items c.paint_views.new.raw.items c.requires.pixels.0.pixels c.paint_views.ensures.painted in (
+    let call = c.args.call.now in
+    let reply = c.accept-reply.result in
+    let glasses = glasses_of_call (map g.G.Glass.sight c.args.glasses.now.items) c.args.sid (g.C.Glass.sight c.args.own.now) in
+    let glasses' = glasses_of_call (map g.G.Glass.sight c.paint_views.new.glasses.items) c.args.sid (g.C.Glass.sight c.paint_views.new.own) in
+    let mid = c.paint_views.new.frame.items in
+    let chosen : ℕ → Bool = λ k. wanted c.args.sid c.args.part.now s'.stack (pixel s'.stack.width k) in
+    let painted = painted_by_views s s' c.args.sid c.args.part.now call reply c.facts-2.ensures c.requires.accepted c.accept-reply.ensures c.requires.on
+    (length p.raw.items) glasses glasses' p.raw.items c.paint_views.new.raw.items c.requires.pixels.0.pixels c.paint_views.ensures.painted in
+    let many = ap (λ w. length w.items) e.raw ∙ c.paint_views.ensures.count ∙ c.requires.pixels.0.pixels in
+    let is_dirty = dirty_by_views s s' c.args.sid c.args.part.now call reply c.facts-2.ensures c.requires.accepted c.accept-reply.ensures c.requires.on in
+    let far : IsCopied chosen (length p'.raw.items) p'.raw.items p.frame.items mid =
+    copied_on chosen (length p.raw.items) (length p'.raw.items) c.paint_views.new.raw.items p'.raw.items p.frame.items mid mid (sym (ap (λ w. length w.items) e.raw ∙ c.paint_views.ensures.count)) (sym (ap (λ w. w.items) e.raw)) refl c.paint_views.ensures.shown in (
       e.can,
-      kept_served s s' c.args.sid c.args.call.now c.accept-reply.result (glasses_of_call (map g.G.Glass.sight c.args.glasses.now.items) c.args.sid (g.C.Glass.sight c.args.own.now)) (glasses_of_call (map g.G.Glass.sight c.paint_views.new.glasses.items) c.args.sid (g.C.Glass.sight c.paint_views.new.own)) p.raw.items p'.raw.items p.frame.items p'.frame.items (λ (k : ℕ). wanted c.args.sid c.args.part.now s'.stack (pixel s'.stack.width k))
-          c.requires.session (λ q. subst (IsPartOf c.args.part.now) q c.requires.on) c.accept-reply.ensures (rw e.raw painted) (ap (λ w. length w.items) e.raw ∙ c.paint_views.ensures.count ∙ c.requires.pixels.0.pixels)
-          (dirty_by_views s s' c.args.sid c.args.part.now c.args.call.now c.accept-reply.result c.facts-2.ensures c.requires.accepted c.accept-reply.ensures c.requires.on)
-          (λ m. e.flat (c.mode.ensures ∙ m)) (λ m. e.labelled (subst (λ (x : Mode). IsTrue (draws_labels x)) (sym c.mode.ensures) m)) c.requires.pixels.1,
+      kept_served s s' c.args.sid call reply glasses glasses' p.raw.items p'.raw.items p.frame.items p'.frame.items chosen
+          c.requires.session (λ q. subst (IsPartOf c.args.part.now) q c.requires.on) c.accept-reply.ensures (rw e.raw painted) many is_dirty
+          (λ m. subst (λ (new : List ℕ). IsCopied chosen (length p'.raw.items) p'.raw.items p.frame.items new) (sym (ap (λ w. w.items) (e.flat (c.mode.ensures ∙ m)))) far)
+          (λ m. kept_part s s' c.args.sid c.args.part.now call reply glasses glasses' p.raw.items p'.raw.items p.frame.items mid p'.frame.items chosen
+          c.requires.accepted c.accept-reply.ensures c.requires.on (rw e.raw painted) many is_dirty far (e.labelled (subst (λ (x : Mode). IsTrue (draws_labels x)) (sym c.mode.ensures) m)) c.requires.pixels.1)
+          c.requires.pixels.1,
     )
 
 pub returns-clause-painted : goal.returns-clause-painted

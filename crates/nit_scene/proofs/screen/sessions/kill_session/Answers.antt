@@ -24,8 +24,8 @@ redraw-requires g c =
     let raw' = c.end_session.new.raw.items in
     let e = c.end_session.ensures in
     record {
-      can = can_still s s' p.raw.items raw' p.frame.items p.cutter.room c.end_session.new.cutter.room p.labels.items (length p.places.items)
-          (ap (λ (t : Serving). t.config) e.server) (ap (λ (t : Serving). t.stack.most) e.server) e.count (repainted_words _ _ _ _ _ p.raw.items raw' e.count e.painted c.requires.can.words) e.room c.requires.can;
+      can = can_still s s' p.raw.items raw' p.frame.items c.end_session.new.frame.items p.cutter.room c.end_session.new.cutter.room p.labels.items (length p.places.items)
+          (ap (λ (t : Serving). t.config) e.server) (ap (λ (t : Serving). t.stack.most) e.server) e.count e.each (repainted_words _ _ _ _ _ p.raw.items raw' e.count e.painted c.requires.can.words) e.room c.requires.can;
     }
 
 pub returns-clause-painted : goal.returns-clause-painted

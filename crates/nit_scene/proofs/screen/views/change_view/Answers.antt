@@ -8,7 +8,7 @@ use Rattle.nit_repaint.specs.OneView.{IsChange, slot_owns_either}
 use Rattle.nit_overlay.specs.Looks.{draws_labels}
 use Rattle.nit_scene.specs.CallKinds.{IsOn}
 use Rattle.nit_repaint.specs.Glasses.{glasses_of_call}
-use Rattle.nit_scene.proofs.Keeps.{can_still, kept_served}
+use Rattle.nit_scene.proofs.Keeps.{can_still, copied_on, kept_served}
 use Rattle.nit_scene.proofs.Changed.{change_stood, dirty_by_change, few_views, named_stands, painted_by_change, same_most}
 use Rattle.nit_scene.proofs.Screens.{held_by_glasses, same_config}
 use Rattle.nit_scene.proofs.screen.views.change_view.Goals as goal
@@ -34,8 +34,8 @@ paint_change-requires-clause-held g c =
     (same_config c.args.sid c.args.call.now c.accept-reply.result c.args.server.now c.accept-reply.new.self c.accept-reply.ensures)
     c.requires.glasses c.requires.tables c.requires.own
 
-pub show_view-requires-clause-can : goal.show_view-requires-clause-can
-show_view-requires-clause-can g c =
+pub show_views-requires-clause-can : goal.show_views-requires-clause-can
+show_views-requires-clause-can g c =
     let s = c.args.server.now in
     let s' = c.accept-reply.new.self in
     let p = c.args.pixels.now in
@@ -43,10 +43,10 @@ show_view-requires-clause-can g c =
     let change : IsChange c.slot-v.result.0 c.stood-place.result.0 c.stood-place.result.1 s.stack s'.stack =
     change_stood s s' c.args.sid c.args.handle c.slot-v.result.0 c.args.call.now c.accept-reply.result c.stood-place.result.0 c.stood-place.result.1 c.facts.ensures c.facts-2.ensures c.requires.accepted c.accept-reply.ensures c.requires.on c.slot-v.ensures
     c.stood-place.ensures.place c.stood-place.ensures.seat in
-    can_still s s' p.raw.items raw' p.frame.items p.cutter.room c.paint_change.new.cutter.room p.labels.items (length p.places.items)
+    can_still s s' p.raw.items raw' p.frame.items c.paint_change.new.frame.items p.cutter.room c.paint_change.new.cutter.room p.labels.items (length p.places.items)
     (same_config c.args.sid c.args.call.now c.accept-reply.result s s' c.accept-reply.ensures)
     (same_most s s' c.args.sid c.args.call.now c.accept-reply.result c.facts.ensures c.facts-2.ensures c.accept-reply.ensures)
-    c.paint_change.ensures.count (repainted_words _ _ _ _ _ p.raw.items raw' c.paint_change.ensures.count (c.paint_change.ensures.painted s.stack change) c.requires.pixels.0.words)
+    c.paint_change.ensures.count c.paint_change.ensures.each (repainted_words _ _ _ _ _ p.raw.items raw' c.paint_change.ensures.count (c.paint_change.ensures.painted s.stack change) c.requires.pixels.0.words)
     c.paint_change.ensures.room c.requires.pixels.0
 
 -- the pixels that are shown again are the dirty ones
@@ -55,9 +55,9 @@ returns-clause-pixels g c =
     let s = c.args.server.now in
     let s' = c.accept-reply.new.self in
     let p = c.args.pixels.now in
-    let p' = c.show_view.new.pixels in
+    let p' = c.show_views.new.pixels in
     let v = c.slot-v.result in
-    let e = c.show_view.ensures in
+    let e = c.show_views.ensures in
     let change : IsChange c.slot-v.result.0 c.stood-place.result.0 c.stood-place.result.1 s.stack s'.stack =
     change_stood s s' c.args.sid c.args.handle c.slot-v.result.0 c.args.call.now c.accept-reply.result c.stood-place.result.0 c.stood-place.result.1 c.facts.ensures c.facts-2.ensures c.requires.accepted c.accept-reply.ensures c.requires.on c.slot-v.ensures
     c.stood-place.ensures.place c.stood-place.ensures.seat in
@@ -67,7 +67,8 @@ returns-clause-pixels g c =
       kept_served s s' c.args.sid c.args.call.now c.accept-reply.result (glasses_of_call (map g.G.Glass.sight c.args.glasses.now.items) c.args.sid (g.C.Glass.sight c.args.own.now)) (glasses_of_call (map g.G.Glass.sight c.paint_change.new.glasses.items) c.args.sid (g.C.Glass.sight c.paint_change.new.own)) p.raw.items p'.raw.items p.frame.items p'.frame.items (λ (k : ℕ). slot_owns_either v.0 s.stack s'.stack (pixel s'.stack.width k))
           c.requires.session (λ q. subst (IsOn c.args.handle) q c.requires.on) c.accept-reply.ensures (rw e.raw painted) (ap (λ w. length w.items) e.raw ∙ c.paint_change.ensures.count ∙ c.requires.pixels.0.pixels)
           (dirty_by_change s s' c.args.sid c.args.handle v c.args.call.now c.accept-reply.result c.facts.ensures c.facts-2.ensures c.requires.accepted c.accept-reply.ensures c.requires.on c.slot-v.ensures)
-          (λ m. e.flat (c.mode.ensures ∙ m) s.stack change) (λ m. e.labelled (subst (λ (x : Mode). IsTrue (draws_labels x)) (sym c.mode.ensures) m)) c.requires.pixels.1,
+          (λ m. copied_on _ _ _ _ _ _ _ _ (sym (ap (λ w. length w.items) e.raw ∙ c.paint_change.ensures.count)) (sym (ap (λ w. w.items) e.raw)) (sym (ap (λ w. w.items) (e.flat (c.mode.ensures ∙ m)))) (c.paint_change.ensures.shown s.stack change))
+          (λ m. e.labelled (subst (λ (x : Mode). IsTrue (draws_labels x)) (sym c.mode.ensures) m)) c.requires.pixels.1,
     )
 
 pub returns-clause-painted : goal.returns-clause-painted
@@ -77,5 +78,5 @@ returns-clause-painted g c =
     let change : IsChange c.slot-v.result.0 c.stood-place.result.0 c.stood-place.result.1 s.stack s'.stack =
     change_stood s s' c.args.sid c.args.handle c.slot-v.result.0 c.args.call.now c.accept-reply.result c.stood-place.result.0 c.stood-place.result.1 c.facts.ensures c.facts-2.ensures c.requires.accepted c.accept-reply.ensures c.requires.on c.slot-v.ensures
     c.stood-place.ensures.place c.stood-place.ensures.seat in
-    rw c.show_view.ensures.raw (painted_by_change s s' c.args.sid c.args.handle c.slot-v.result c.args.call.now c.accept-reply.result c.facts.ensures c.facts-2.ensures c.requires.accepted c.accept-reply.ensures c.requires.on c.slot-v.ensures
+    rw c.show_views.ensures.raw (painted_by_change s s' c.args.sid c.args.handle c.slot-v.result c.args.call.now c.accept-reply.result c.facts.ensures c.facts-2.ensures c.requires.accepted c.accept-reply.ensures c.requires.on c.slot-v.ensures
     _ _ _ c.args.pixels.now.raw.items c.paint_change.new.raw.items c.requires.pixels.0.pixels (c.paint_change.ensures.painted s.stack change))
