@@ -10,8 +10,8 @@ use nit_plan::Area;
 use nit_scene::Scene;
 use nit_word::Inked;
 
-/// Sets the words of the area's places in the scene's glass for the session to those of its own glass, which has
-/// the same ink. The buffer has `w` columns, and all places of the area.
+/// Sets the words of the area's places in the scene's glass for the session to those of its own
+/// glass, which has the same ink. The buffer has `w` columns, and all places of the area.
 pub(crate) fn copy_area(scene: &mut Scene<Inked>, sid: u32, own: &Inked, w: u32, area: Area)
     requires session { sid < length scene.old.config.clients }
     requires glasses { sid < length scene.old.glasses }
@@ -22,7 +22,8 @@ pub(crate) fn copy_area(scene: &mut Scene<Inked>, sid: u32, own: &Inked, w: u32,
     requires ink { own.now.ink ≡ (glass_in scene.old.glasses sid).ink }
     ensures { scene.new ≡ record scene.old {
       glasses = slice_set scene.old.glasses sid
-          (with_words (set_where (is_word_in w area) (told_at own.now)) (glass_in scene.old.glasses sid));
+          (with_words (set_where (is_word_in w area) (told_at own.now))
+          (glass_in scene.old.glasses sid));
     } }
 {
     'rows: for j in area.y..area.y + area.h {

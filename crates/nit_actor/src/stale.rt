@@ -1,7 +1,25 @@
-//! What is drawn on a session's own glass, and not yet on the scene's. The scene loads a session's words by
-//! its own glass of it only in events of others, so several strokes in a row are copied at once.
+//! What is drawn on a session's own glass, and not yet on the scene's.
+//!
+//! The scene loads a session's words by its own glass of it only in events of others. So strokes in
+//! a row that cover each other are copied once.
 
-ghost use Rattle.std.specs.Prelude.{◌≡◌, ◌+◌, ◌<◌, ◌≤◌, ◌&&◌, ◌||◌, Bool, true, ℕ, None, Some, IfSome, length, nat_le, slice_set};
+ghost use Rattle.std.specs.Prelude.{
+  ◌≡◌,
+  ◌+◌,
+  ◌<◌,
+  ◌≤◌,
+  ◌&&◌,
+  ◌||◌,
+  Bool,
+  true,
+  ℕ,
+  None,
+  Some,
+  IfSome,
+  length,
+  nat_le,
+  slice_set,
+};
 ghost use Rattle.nit_scene.specs.Painted.{glass_in};
 ghost use Rattle.nit_actor.specs.Stale.{AreBehind, FitsInto, IsBehind, IsButFor, is_stale};
 
@@ -30,7 +48,8 @@ fn lies_among(first: u32, count: u32, other: u32, others: u32) -> bool
 fn lies_in(inner: &Stale, outer: &Stale) -> bool
     requires inner { (n : ℕ) × FitsInto n inner.now }
     requires outer { (n : ℕ) × FitsInto n outer.now }
-    ensures { result ≡ true → (n : ℕ) → is_stale (Some inner.now) n ≡ true → is_stale (Some outer.now) n ≡ true }
+    ensures { result ≡ true → (n : ℕ) → is_stale (Some inner.now) n ≡ true
+        → is_stale (Some outer.now) n ≡ true }
 {
     if inner.area.w == 0 || inner.area.h == 0 {
         return true;
@@ -40,17 +59,21 @@ fn lies_in(inner: &Stale, outer: &Stale) -> bool
         && lies_among(inner.area.y, inner.area.h, outer.area.y, outer.area.h)
 }
 
-/// What is stale when two areas of the own glass are: the larger one where it has all words of the other. Else
-/// the words of the earlier one are copied first.
+/// What is stale when two areas of the own glass are: the larger one where it has all words of the
+/// other. Else the words of the earlier one are copied first.
 fn merge(scene: &mut Scene<Inked>, own: &Inked, earlier: Stale, later: Stale) -> Stale
     requires session { later.sid < length scene.old.config.clients }
     requires glasses { later.sid < length scene.old.glasses }
     requires same { earlier.sid ≡ later.sid }
     requires earlier { FitsInto own.now.size earlier }
     requires later { FitsInto own.now.size later }
-    requires but { IsButFor (λ n. is_stale (Some earlier) n || is_stale (Some later) n) (glass_in scene.old.glasses later.sid) own.now }
-    ensures scene { scene.new ≡ record scene.old { glasses = slice_set scene.old.glasses later.sid (glass_in scene.new.glasses later.sid) } }
-    ensures behind { IsBehind (Some result) later.sid (glass_in scene.new.glasses later.sid) own.now }
+    requires but { IsButFor (λ n. is_stale (Some earlier) n || is_stale (Some later) n)
+        (glass_in scene.old.glasses later.sid) own.now }
+    ensures scene { scene.new ≡ record scene.old {
+      glasses = slice_set scene.old.glasses later.sid (glass_in scene.new.glasses later.sid);
+    } }
+    ensures behind { IsBehind (Some result) later.sid (glass_in scene.new.glasses later.sid)
+        own.now }
 {
     if lies_in(&later, &earlier) {
         return earlier;
@@ -74,9 +97,13 @@ pub(crate) fn add(
     requires same { IfSome stale (λ a. a.sid ≡ later.sid) }
     requires earlier { IfSome stale (FitsInto own.now.size) }
     requires later { FitsInto own.now.size later }
-    requires but { IsButFor (λ n. is_stale stale n || is_stale (Some later) n) (glass_in scene.old.glasses later.sid) own.now }
-    ensures scene { scene.new ≡ record scene.old { glasses = slice_set scene.old.glasses later.sid (glass_in scene.new.glasses later.sid) } }
-    ensures behind { IsBehind (Some result) later.sid (glass_in scene.new.glasses later.sid) own.now }
+    requires but { IsButFor (λ n. is_stale stale n || is_stale (Some later) n)
+        (glass_in scene.old.glasses later.sid) own.now }
+    ensures scene { scene.new ≡ record scene.old {
+      glasses = slice_set scene.old.glasses later.sid (glass_in scene.new.glasses later.sid);
+    } }
+    ensures behind { IsBehind (Some result) later.sid (glass_in scene.new.glasses later.sid)
+        own.now }
 {
     match stale {
         Some(earlier) => merge(scene, own, earlier, later),
