@@ -9,6 +9,7 @@ pub mod Drawings
 pub mod Replayed
 pub mod Drawn
 pub mod Copies
+pub mod Behind
 pub mod Names
 pub mod Advancing
 pub mod Alone

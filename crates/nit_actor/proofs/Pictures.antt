@@ -1,5 +1,5 @@
 -- The pictures of the shots of a journal that grows beside the user.
-use Rattle.std.proofs.Common.{◌≡◌, ◌∙◌, ℕ, zero, suc, ◌+◌, List, [], ◌∷◌, ◌++◌, length, take, refl, sym, ap, subst, arith, length-append, append_assoc, Some}
+use Rattle.std.proofs.Common.{◌≡◌, ◌∙◌, ℕ, suc, ◌+◌, List, [], ◌∷◌, ◌++◌, length, take, refl, sym, ap, subst, arith, length-append, append_assoc, Some}
 use Rattle.std.specs.Prelude.{slice_get}
 use mathlib.Core.List.{IsPrefix}
 use Rattle.nit_events.specs.declared.device.Device.{Device}
@@ -8,10 +8,8 @@ use Rattle.nit_events.specs.declared.entry.Entry.{Entry}
 use Rattle.nit_events.specs.declared.entry.Entry.TheVariants as entry
 use Rattle.nit_script.specs.declared.line.InputLine.{InputLine}
 use Rattle.nit_script.specs.declared.line.InputLine.TheVariants as inputs
-use Rattle.nit_script.specs.declared.line.Line.{Line}
-use Rattle.nit_config.specs.Configuration.{Configuration}
 use Rattle.nit_journal.specs.Journals.{shots}
-use Rattle.nit_journal.specs.Whole.{Deed, Does, Shoots, deeds_of}
+use Rattle.nit_journal.specs.Whole.{Deed, deeds_of}
 use Rattle.nit_report.specs.Picture.{picture}
 use Rattle.nit_store.specs.Shown.{File}
 use Rattle.nit_hall.specs.Lines.{deeds_in}

@@ -1,5 +1,5 @@
 -- One client and a user who does nothing, stepped together.
-use Rattle.std.specs.Prelude.{◌≡◌, ℕ, List, ◌++◌, length, drop, map, replicate, count_by}
+use Rattle.std.specs.Prelude.{◌≡◌, List, ◌++◌, length, drop, map, replicate, count_by}
 use Rattle.nit_events.specs.declared.entry.Entry.{Entry}
 use Rattle.nit_script.specs.declared.line.Line.{Line}
 use Rattle.nit_script.specs.declared.line.InputLine.{InputLine}

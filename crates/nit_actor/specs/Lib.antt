@@ -17,6 +17,7 @@ pub mod Running
 pub mod Drawn
 pub mod Shots
 pub mod UnderWay
+pub mod Stale
 pub mod Roles
 pub mod Pictures
 pub mod Crews

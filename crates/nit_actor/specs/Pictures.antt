@@ -1,7 +1,6 @@
 -- The pictures of the shots of a journal that threads made, and which of them were put.
-use Rattle.std.specs.Prelude.{◌≡◌, ℕ, List, [], ◌∷◌, ◌++◌}
+use Rattle.std.specs.Prelude.{◌≡◌, ℕ, List, ◌++◌}
 use Rattle.nit_events.specs.declared.entry.Entry.{Entry}
-use Rattle.nit_events.specs.declared.entry.Entry.TheVariants as entry
 use Rattle.nit_script.specs.declared.line.Line.{Line}
 use Rattle.nit_config.specs.Configuration.{Configuration}
 use Rattle.nit_journal.specs.Journals.{shots}

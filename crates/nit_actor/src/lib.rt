@@ -35,6 +35,7 @@
 
 mod actor;
 mod beside;
+mod copying;
 mod crew;
 mod desk;
 mod drawing;
@@ -44,6 +45,7 @@ mod mine;
 mod places;
 mod running;
 mod single;
+mod stale;
 mod turn;
 mod turns;
 mod user;

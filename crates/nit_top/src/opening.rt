@@ -1,10 +1,12 @@
 //! The memory of a run, all of which is taken before its first round.
 
-ghost use Rattle.std.specs.Prelude.{◌≡◌, ◌+◌, ◌*◌, ◌<◌, ◌≤◌, All, IfOk, length, map, sum};
+ghost use Rattle.std.specs.Prelude.{◌≡◌, ◌+◌, ◌*◌, ◌<◌, ◌≤◌, All, IfOk, length, map, sum, List};
 ghost use Rattle.nit_word.specs.Inks.{IsWord};
 ghost use Rattle.nit_config.specs.Configured.{IsConfigured};
 ghost use Rattle.nit_slots.specs.Account.{IsDonation};
+ghost use Rattle.nit_script.specs.declared.line.Line.{Line};
 ghost use Rattle.nit_plan.specs.Plans.{table_size};
+ghost use Rattle.nit_plan.specs.Steps.{IsPlanOf};
 ghost use Rattle.nit_report.specs.Picture.{picture_length};
 ghost use Rattle.nit_actor.specs.Running.{glass_after};
 ghost use Rattle.nit_top.specs.Opened.{IsOpened, glasses_of, plans_of};
@@ -12,7 +14,7 @@ ghost use Rattle.nit_top.specs.Opened.{IsOpened, glasses_of, plans_of};
 use nit_actor::laws::each_line_once;
 use nit_config::Config;
 use nit_plan::laws::{buffer_within_table, one_more_line};
-use nit_plan::{Plan, ink_of, plan_of};
+use nit_plan::{Plan, plan_of};
 use nit_rect::NoMemory;
 use nit_report::ppm_len;
 use nit_scene::Scene;
@@ -50,8 +52,8 @@ pub fn open(
     each_line_once();
     buffer_within_table();
     let plans = plans_of(alloc, config, scripts)?;
-    let owns = glasses_of(alloc, config, scripts)?;
-    let glasses = glasses_of(alloc, config, scripts)?;
+    let owns = glasses_of(alloc, config, scripts, &plans)?;
+    let glasses = glasses_of(alloc, config, scripts, &plans)?;
     let lines = line_count(scripts, input);
     let scene = Scene::new(alloc, config, glasses, lines + 1)?;
     let frame = blank_frame(alloc, config)?;
@@ -80,28 +82,38 @@ pub fn plans_of(alloc: Global, config: &Config, scripts: &[Client]) -> Result<Ve
     Ok(plans)
 }
 
-/// A glass for each client, in order, on which no line is done.
-fn glasses_of(alloc: Global, config: &Config, scripts: &[Client]) -> Result<Vec<Inked>, NoMemory>
+/// A glass for each client, in order, on which no line is done. The plans are those of the scripts.
+fn glasses_of(
+    alloc: Global,
+    config: &Config,
+    scripts: &[Client],
+    plans: &[Plan],
+) -> Result<Vec<Inked>, NoMemory>
     requires configured { IsConfigured config.now }
     requires each { length scripts.now ≡ length config.now.clients }
+    requires long { length plans.now ≡ length config.now.clients }
+    requires plans { plans.now ≡ plans_of config.now scripts.now }
+    requires words { All (λ p. All IsWord p.ink) plans.now }
     ensures { IfOk result (λ v. v.items ≡ glasses_of config.now scripts.now) }
 {
     let clients = config.clients.as_slice();
     let mut glasses = Vec::new(alloc);
-    for (sid, script) in scripts.iter().enumerate() {
-        glasses.push(glass(alloc, sid as u32, script, clients[sid].donation)?)?;
+    for (sid, plan) in plans.iter().enumerate() {
+        glasses.push(glass(alloc, sid as u32, plan, clients[sid].donation)?)?;
     }
     Ok(glasses)
 }
 
-/// The glass of a session that opens with this donation: the words of its table are 0, and its ink is that of
-/// the script.
-fn glass(alloc: Global, sid: u32, script: &Client, donation: u32) -> Result<Inked, NoMemory>
-    requires { IsDonation donation }
-    ensures { IfOk result (λ g. g ≡ glass_after sid script.now donation 0) }
+/// The glass of a session that opens with this donation: the words of its table are 0, and its ink
+/// is that of the plan.
+fn glass(alloc: Global, sid: u32, plan: &Plan, donation: u32) -> Result<Inked, NoMemory>
+    requires donation { IsDonation donation }
+    requires words { All IsWord plan.now.ink }
+    ensures { (script : List Line) → IsPlanOf script donation plan.now
+        → IfOk result (λ g. g ≡ glass_after sid script donation 0) }
 {
     one_more_line();
-    let ink = ink_of(alloc, script.lines())?;
+    let ink = plan.ink().to_vec(alloc)?;
     Ok(Inked::blank(alloc, sid, table_words(donation) as usize, ink)?)
 }
 

@@ -1,5 +1,4 @@
 use Rattle.std.proofs.Common.{◌∙◌}
-use Rattle.nit_actor.proofs.Roles.{fit_again}
 use Rattle.nit_actor.proofs.Pictures.{puts_also}
 use Rattle.nit_actor.proofs.mine.run_turns.Goals as goal
 

@@ -3,7 +3,7 @@ use Rattle.nit_word.specs.Setting.{with_words}
 use Rattle.nit_word.specs.Sight.{told_at}
 use Rattle.nit_scene.specs.Painted.{glass_in}
 use Rattle.nit_actor.proofs.Copies.{rows_to}
-use Rattle.nit_actor.proofs.drawing.copy_area.Given as goal
+use Rattle.nit_actor.proofs.copying.copy_area.Given as goal
 
 abbrev pub invariant-rows : goal.invariant-rows
 invariant-rows l =

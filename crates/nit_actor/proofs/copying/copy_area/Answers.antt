@@ -1,7 +1,7 @@
 use Rattle.std.proofs.Common.{arith}
 use Rattle.nit_word.specs.Sight.{told_at}
 use Rattle.nit_actor.proofs.Copies.{all_drawn, begun, row_drawn}
-use Rattle.nit_actor.proofs.drawing.copy_area.Goals as goal
+use Rattle.nit_actor.proofs.copying.copy_area.Goals as goal
 
 pub rows-init : goal.rows-init
 rows-init c = begun c.args.scene.now c.args.sid c.args.w c.args.area (told_at c.args.own.now)

@@ -1,0 +1,16 @@
+use Rattle.nit_scene.specs.Painted.{glass_in}
+use Rattle.std.proofs.Common.{Some, refl}
+use Rattle.nit_actor.specs.Stale.{is_stale}
+use Rattle.nit_actor.proofs.Behind.{copied_first}
+use Rattle.nit_actor.proofs.Copies.{glass_there}
+use Rattle.nit_actor.proofs.stale.merge.Goals as goal
+
+pub returns-clause-behind : goal.returns-clause-behind
+returns-clause-behind c =
+    let a = c.args in
+    record {
+      of = refl;
+      fits = c.requires.later;
+      but = copied_first (is_stale (Some a.earlier)) (is_stale (Some a.later)) (glass_in a.scene.now.glasses a.later.sid) a.own.now _ c.requires.but
+          (glass_there a.scene.now c.copy_area.new.scene a.later.sid _ c.copy_area.ensures c.requires.glasses);
+    }
