@@ -1,0 +1,146 @@
+-- Records written from left to right.
+use Rattle.std.proofs.Common.{◌≡◌, ℕ, suc, ◌+◌, ◌<◌, ◌≤◌, ◌^◌, ◌-◌, ◌/◌, add-zero, Result, Ok, Err, Bool, true, false, List, [], ◌∷◌, ◌++◌, length, take, drop, map, refl, inl, inr, sym, ap, ap₂, ◌∙◌, arith, append_assoc}
+use Rattle.std.specs.Prelude.{◌==◌, slice_index, slice_set, cond, IsErr}
+use Rattle.std.specs.List.{flat_map, filter, range_with_len, All, prefix_len}
+use Rattle.std.proofs.lemmas.Nat.{mul-le}
+use Rattle.std.proofs.lemmas.List.FromFn.{length-map-range_with_len, get_or-map-range_with_len}
+use Rattle.nit_capture.specs.Appending.{Appends}
+use Rattle.nit_capture.proofs.RecordsRead.{words_fit}
+use Rattle.std.proofs.lemmas.Bool.{eq-eqb, ne_eqb, cases_eq}
+use Rattle.std.proofs.lemmas.List.{append-nil, take_all, length-drop, get_or-drop, drop-drop, nil_from_length, take_more_set}
+use Rattle.std.proofs.lemmas.List.Concat.{flat_map-append}
+use Rattle.std.proofs.lemmas.List.FromFn.{map-range_with_len_more}
+use Rattle.nit_word.specs.Inks.{IsWord}
+use Rattle.nit_capture.specs.Tiles.{IsPicture, IsSize, tiles_along, tile_count, area, place, tile, differs}
+use Rattle.nit_capture.specs.Film.{two_bytes, runs, run_bytes, tile_bytes, changed, record_of}
+use Rattle.nit_capture.proofs.Differing.{range_more}
+use Rattle.nit_capture.proofs.RunsRead.{First, first_run, longer, apart, runs_one, no_runs}
+
+filter-join : (f : ℕ → Bool) (xs : List ℕ) (x : ℕ) → filter f (xs ++ x ∷ []) ≡ filter f xs ++ cond (f x) (x ∷ []) []
+filter-join f [] x = refl
+filter-join f (y ∷ xs) x = by (f y) (filter-join f xs x)
+  where
+    by : (b : Bool) → filter f (xs ++ x ∷ []) ≡ filter f xs ++ cond (f x) (x ∷ []) [] → cond b (y ∷ filter f (xs ++ x ∷ [])) (filter f (xs ++ x ∷ [])) ≡ cond b (y ∷ filter f xs) (filter f xs) ++ cond (f x) (x ∷ []) []
+    by true e = ap (λ (l : List ℕ). y ∷ l) e
+    by false e = e
+
+pub one_changed : (f : ℕ → Bool) (n : ℕ) → f n ≡ true → filter f (range_with_len 0 (n + 1)) ≡ filter f (range_with_len 0 n) ++ n ∷ []
+one_changed f n e = ap (filter f) (range_more n) ∙ filter-join f (range_with_len 0 n) n ∙ ap (λ (b : Bool). filter f (range_with_len 0 n) ++ cond b (n ∷ []) []) e
+
+pub none_changed : (f : ℕ → Bool) (n : ℕ) → f n ≡ false → filter f (range_with_len 0 (n + 1)) ≡ filter f (range_with_len 0 n)
+none_changed f n e = ap (filter f) (range_more n) ∙ filter-join f (range_with_len 0 n) n ∙ ap (λ (b : Bool). filter f (range_with_len 0 n) ++ cond b (n ∷ []) []) e ∙ append-nil (filter f (range_with_len 0 n))
+
+-- one more tile is written
+pub tile_written : (f : ℕ → Bool) (g : ℕ → List ℕ) (n : ℕ) (front now after : List ℕ) → f n ≡ true → now ≡ front ++ flat_map g (filter f (range_with_len 0 n)) → after ≡ now ++ g n → after ≡ front ++ flat_map g (filter f (range_with_len 0 (n + 1)))
+tile_written f g n front now after is e more =
+    let done : List ℕ = filter f (range_with_len 0 n) in
+    more ∙ ap (λ (l : List ℕ). l ++ g n) e ∙ append_assoc front (flat_map g done) (g n)
+    ∙ ap (λ (l : List ℕ). front ++ (flat_map g done ++ l)) (sym (append-nil (g n)))
+    ∙ ap (λ (l : List ℕ). front ++ l) (sym (flat_map-append g done (n ∷ [])))
+    ∙ ap (λ (us : List ℕ). front ++ flat_map g us) (sym (one_changed f n is))
+
+pub tile_left : (f : ℕ → Bool) (g : ℕ → List ℕ) (n : ℕ) (front now : List ℕ) → f n ≡ false → now ≡ front ++ flat_map g (filter f (range_with_len 0 n)) → now ≡ front ++ flat_map g (filter f (range_with_len 0 (n + 1)))
+tile_left f g n front now is e = e ∙ ap (λ (us : List ℕ). front ++ flat_map g us) (sym (none_changed f n is))
+
+-- a run is the pixels that follow with its word
+pub run_split : (word : ℕ) (after : List ℕ) → runs (word ∷ after) ≡ (prefix_len (λ x. x == word) after, word) ∷ runs (drop (prefix_len (λ x. x == word) after) after)
+run_split word [] = runs_one word ∙ ap (λ (r : List (ℕ × ℕ)). (0, word) ∷ r) (sym no_runs)
+run_split word (x ∷ after) = elim (cases_eq x word) [
+  | inl e ↦
+      let again = run_split word after in
+      let f : First word after = record { more = prefix_len (λ y. y == word) after; others = runs (drop (prefix_len (λ y. y == word) after) after); is = again } in
+      let test : (x == word) ≡ true = eq-eqb x word e in
+      let one : prefix_len (λ y. y == word) after + 1 ≡ suc (prefix_len (λ y. y == word) after) = omega arith in
+      let same : runs (word ∷ x ∷ after) ≡ runs (word ∷ word ∷ after) = ap (λ (y : ℕ). runs (word ∷ y ∷ after)) e in
+      let split = longer word after f in
+      let count : prefix_len (λ y. y == word) (x ∷ after) ≡ suc (prefix_len (λ y. y == word) after) = rw test (omega arith) in
+      rw count (same ∙ split ∙ ap (λ (n : ℕ). (n, word) ∷ f.others) one)
+  | inr ne ↦
+      let f = first_run x after in
+      let test : (x == word) ≡ false = ne_eqb x word ne in
+      let count : prefix_len (λ y. y == word) (x ∷ after) ≡ 0 = rw test refl in
+      rw count (apart word x after f ne ∙ ap (λ (r : List (ℕ × ℕ)). (0, word) ∷ r) (sym f.is))
+]
+
+-- what is written, and what is left to be written
+pub record Written (start out rest whole : List ℕ) : Type 0 where
+  pub done : List ℕ
+  pub is : out ≡ start ++ done
+  pub left : done ++ rest ≡ whole
+
+-- ---- runs
+
+first_split : (xs : List ℕ) → 0 < length xs → runs xs ≡ (prefix_len (λ x. x == slice_index xs 0) (drop 1 xs), slice_index xs 0) ∷ runs (drop (1 + prefix_len (λ x. x == slice_index xs 0) (drop 1 xs)) xs)
+first_split [] lt = absurd (omega arith)
+first_split (word ∷ after) lt =
+    let e : 1 + prefix_len (λ x. x == word) after ≡ suc (prefix_len (λ x. x == word) after) = omega arith in
+    run_split word after ∙ ap (λ (n : ℕ). (prefix_len (λ x. x == word) after, word) ∷ runs (drop n (word ∷ after))) (sym e)
+
+pub tail_is : (words : List ℕ) (at : ℕ) → take (length words - at) (drop at words) ≡ drop at words
+tail_is words at = take_all (length words - at) (drop at words) (omega (arith, length-drop at words))
+
+pub run_written : (start out now words whole : List ℕ) (at more : ℕ) → at < length words → Written start out (flat_map run_bytes (runs (drop at words))) whole
+    → more ≡ prefix_len (λ x. x == slice_index (drop at words) 0) (drop 1 (drop at words)) → now ≡ out ++ run_bytes (more, slice_index words at)
+    → Written start now (flat_map run_bytes (runs (drop (at + (1 + more)) words))) whole
+run_written start out now words whole at more lt before is e =
+    let head : slice_index (drop at words) 0 ≡ slice_index words at = get_or-drop at words 0 0 ∙ ap (slice_index words) (add-zero at) in
+    let split = first_split (drop at words) (omega (arith, length-drop at words)) in
+    let rest : drop (1 + more) (drop at words) ≡ drop (at + (1 + more)) words = drop-drop (1 + more) at words in
+    let all : runs (drop at words) ≡ (more, slice_index words at) ∷ runs (drop (at + (1 + more)) words) =
+    split ∙ ap (λ (n : ℕ). (n, slice_index (drop at words) 0) ∷ runs (drop (1 + n) (drop at words))) (sym is)
+    ∙ ap₂ (λ (x : ℕ) (l : List ℕ). (more, x) ∷ runs l) head rest in
+    let text : flat_map run_bytes (runs (drop at words)) ≡ run_bytes (more, slice_index words at) ++ flat_map run_bytes (runs (drop (at + (1 + more)) words)) = ap (flat_map run_bytes) all in
+    record {
+      done = before.done ++ run_bytes (more, slice_index words at);
+      is = e ∙ ap (λ (l : List ℕ). l ++ run_bytes (more, slice_index words at)) before.is ∙ append_assoc start before.done (run_bytes (more, slice_index words at));
+      left = append_assoc before.done (run_bytes (more, slice_index words at)) (flat_map run_bytes (runs (drop (at + (1 + more)) words))) ∙ ap (λ (l : List ℕ). before.done ++ l) (sym text) ∙ before.left;
+    }
+
+pub runs_written : (start out words whole : List ℕ) (at : ℕ) → length words ≤ at → Written start out (flat_map run_bytes (runs (drop at words))) whole → out ≡ start ++ whole
+runs_written start out words whole at le w =
+    let none : drop at words ≡ [] = nil_from_length (drop at words) (omega (arith, length-drop at words)) in
+    let rest : flat_map run_bytes (runs (drop at words)) ≡ [] = ap (λ (l : List ℕ). flat_map run_bytes (runs l)) none ∙ ap (flat_map run_bytes) no_runs in
+    w.is ∙ ap (λ (l : List ℕ). start ++ l) (sym (append-nil w.done) ∙ ap (λ (l : List ℕ). w.done ++ l) (sym rest) ∙ w.left)
+
+-- ---- tiles
+
+pub words_more : (f : ℕ → ℕ) (words : List ℕ) (k v : ℕ) → k < length words → take k words ≡ map f (range_with_len 0 k) → v ≡ f k → take (k + 1) (slice_set words k v) ≡ map f (range_with_len 0 (k + 1))
+words_more f words k v lt e is =
+    take_more_set words k v lt ∙ ap₂ (λ (l : List ℕ) (x : ℕ). l ++ x ∷ []) e is ∙ sym (map-range_with_len_more f 0 k k (omega arith))
+
+pub tiles_few : (w h : ℕ) → IsSize w h → tile_count w h ≤ 3072
+unfolding tile_count tiles_along
+tiles_few w h s = mul-le ((w + 15) / 16) ((h + 15) / 16) 64 48 (omega (arith, s.columns)) (omega (arith, s.rows))
+
+pub map_fits : (f : ℕ → ℕ) (n : ℕ) → ((i : ℕ) → f i < 2 ^ 24) → All IsWord (map f (range_with_len 0 n))
+map_fits f n fits k d lt =
+    let size : k < n = omega (arith, length-map-range_with_len f 0 n) in
+    rw (get_or-map-range_with_len f 0 n k k d size (omega arith)) (fits k)
+
+pub tile_fits : (w h t : ℕ) (p : List ℕ) → IsPicture w h p → All IsWord (tile w h p t)
+tile_fits w h t p is = map_fits (λ j. slice_index p (place w t j)) (area w h t) (λ i. words_fit p is.words (place w t i))
+
+-- what is appended behind a first part
+pub appends_behind : {T E : Type 0} (r : Result T E) (start front middle more whole now : List ℕ) → Appends r middle more now → middle ≡ start ++ front → whole ≡ front ++ more → Appends r start whole now
+appends_behind (Ok x) start front middle more whole now a m e = a ∙ ap (λ (l : List ℕ). l ++ more) m ∙ append_assoc start front more ∙ ap (λ (l : List ℕ). start ++ l) (sym e)
+appends_behind (Err x) start front middle more whole now a m e = (front ++ a.0, a.1 ∙ ap (λ (l : List ℕ). l ++ a.0) m ∙ append_assoc start front a.0)
+
+pub appends_part : {T E : Type 0} (r : Result T E) (start more now part : List ℕ) → IsErr r → now ≡ start ++ part → Appends r start more now
+appends_part (Ok x) start more now part is e = absurd cc
+appends_part (Err x) start more now part is e = (part, e)
+
+-- one more tile is looked at
+pub tile_done : (f : ℕ → Bool) (g : ℕ → List ℕ) (n : ℕ) (front now after : List ℕ) → now ≡ front ++ flat_map g (filter f (range_with_len 0 n)) → after ≡ now ++ cond (f n) (g n) [] → after ≡ front ++ flat_map g (filter f (range_with_len 0 (n + 1)))
+tile_done f g n front now after is more = either (f n) refl more
+  where
+    either : (b : Bool) → f n ≡ b → after ≡ now ++ cond b (g n) [] → after ≡ front ++ flat_map g (filter f (range_with_len 0 (n + 1)))
+    either true e m = tile_written f g n front now after e is m
+    either false e m = m ∙ append-nil now ∙ tile_left f g n front now e is
+
+pub record_written : (w h : ℕ) (before picture start out : List ℕ) (n : ℕ) → n ≤ tile_count w h → tile_count w h ≤ n
+    → out ≡ (start ++ 1 ∷ two_bytes (length (changed w h before picture))) ++ flat_map (tile_bytes w h picture) (filter (differs w h before picture) (range_with_len 0 n)) → out ≡ start ++ record_of w h before picture
+unfolding record_of
+record_written w h before picture start out n le ge e =
+    let same : n ≡ tile_count w h = omega arith in
+    e ∙ ap (λ (k : ℕ). (start ++ 1 ∷ two_bytes (length (changed w h before picture))) ++ flat_map (tile_bytes w h picture) (filter (differs w h before picture) (range_with_len 0 k))) same
+    ∙ append_assoc start (1 ∷ two_bytes (length (changed w h before picture))) (flat_map (tile_bytes w h picture) (changed w h before picture))
