@@ -1,10 +1,10 @@
 -- The part of a picture inside a rectangle.
-use Rattle.std.proofs.Common.{◌≡◌, ℕ, zero, suc, ◌+◌, ◌-◌, ◌*◌, ◌/◌, ◌%◌, ◌^◌, ◌<◌, ◌≤◌, List, [], ◌∷◌, ◌++◌, length, take, map, refl, sym, ap, ap₂, subst, ◌∙◌, arith, mul_comm, length-append, w32, to_z, of_z}
+use Rattle.std.proofs.Common.{◌≡◌, ℕ, zero, suc, ◌+◌, ◌-◌, ◌*◌, ◌/◌, ◌%◌, ◌^◌, ◌<◌, ◌≤◌, List, [], ◌∷◌, ◌++◌, length, take, drop, map, refl, sym, ap, ap₂, subst, ◌∙◌, arith, mul_comm, length-append, w32, to_z, of_z}
 use Rattle.std.specs.Prelude.{ℤ, pos, negsuc, ◌+ℤ◌, ◌≤ℤ◌, nat_abs, slice_index}
 use Rattle.std.specs.List.{flat_map, range_with_len, All}
 use Rattle.std.proofs.lemmas.Int.{ints, to_z-of_z}
-use Rattle.std.proofs.lemmas.List.{take_all}
-use Rattle.std.proofs.lemmas.Nat.{mul-add-lt, div_below, mod_below}
+use Rattle.std.proofs.lemmas.List.{take_all, get_or-take, get_or-drop}
+use Rattle.std.proofs.lemmas.Nat.{mul-add-lt, div_below, mod_below, div-mul-add, mod-mul-add}
 use Rattle.nit_word.specs.Inks.{IsWord}
 use Rattle.nit_word.specs.Channels.{red, green, blue, word_of}
 use Rattle.nit_rect.specs.Rectangle.{Rectangle, IsPlace}
@@ -12,10 +12,10 @@ use Rattle.nit_rect.specs.Meeting.{HasPixels, LiesIn}
 use Rattle.nit_rect.proofs.Sets.{within}
 use Rattle.nit_capture.specs.Tiles.{IsPicture}
 use Rattle.nit_capture.specs.Film.{channels}
-use Rattle.nit_capture.specs.Cut.{screen, cut_place, cut, cut_bytes, pixel_at, Shows}
+use Rattle.nit_capture.specs.Cut.{screen, cut_place, cut_row_place, cut, cut_pixel, cut_bytes, pixel_at, Shows}
 use Rattle.nit_capture.specs.Capture.{CaptureModel}
 use Rattle.nit_capture.proofs.RunsRead.{AreBytes}
-use Rattle.nit_capture.proofs.TilesRead.{same_map}
+use Rattle.nit_capture.proofs.Differing.{same_map}
 use Rattle.nit_capture.proofs.RecordsRead.{words_fit}
 use Rattle.nit_capture.proofs.RecordsWritten.{map_fits}
 
@@ -51,7 +51,40 @@ cut_within width height r k some on lt =
     let c = in_cut r k some lt in
     mul-add-lt (nat_abs r.y + k / r.w) width (nat_abs r.x + k % r.w) height (omega (arith, on.bottom, c.down)) (omega (arith, on.right, c.across))
 
+-- the place of a pixel in a row
+pub cut_in_row : (width : ℕ) (r : Rectangle) (row j : ℕ) → j < r.w → cut_place width r (row * r.w + j) ≡ cut_row_place width r row + j
+unfolding cut_place cut_row_place
+cut_in_row width r row j lt =
+    ap₂ (λ (a b : ℕ). (nat_abs r.y + a) * width + (nat_abs r.x + b)) (div-mul-add row r.w j lt) (mod-mul-add row r.w j lt) ∙ omega arith
+
+pub cut_row_within : (width height : ℕ) (r : Rectangle) (row : ℕ) → HasPixels r → OnScreen width height r → row < r.h → cut_row_place width r row + r.w ≤ width * height
+unfolding cut_row_place
+cut_row_within width height r row some on lt =
+    let wide : 0 < r.w = some.0 in
+    let last = mul-add-lt (nat_abs r.y + row) width (nat_abs r.x + (r.w - 1)) height (omega (arith, on.bottom)) (omega (arith, on.right)) in
+    omega (arith, last)
+
 -- ---- words of bytes
+
+-- a pixel of a part of the bytes
+pub pixel_in_part : (bytes : List ℕ) (from n j : ℕ) → 3 * j + 3 ≤ n → pixel_at (take n (drop from bytes)) (3 * j) ≡ pixel_at bytes (from + 3 * j)
+unfolding pixel_at
+pixel_in_part bytes from n j le =
+    let part : List ℕ = take n (drop from bytes) in
+    let at : (i : ℕ) → i < n → slice_index part i ≡ slice_index bytes (from + i) = λ i lt. get_or-take n (drop from bytes) i 0 lt ∙ get_or-drop from bytes i 0 in
+    let r = at (3 * j) (omega arith) in
+    let g : slice_index part (3 * j + 1) ≡ slice_index bytes (from + 3 * j + 1) = at (3 * j + 1) (omega arith) ∙ ap (slice_index bytes) (omega arith) in
+    let b : slice_index part (3 * j + 2) ≡ slice_index bytes (from + 3 * j + 2) = at (3 * j + 2) (omega arith) ∙ ap (slice_index bytes) (omega arith) in
+    ap₂ (λ (x y : ℕ). word_of x y (slice_index part (3 * j + 2))) r g ∙ ap (word_of (slice_index bytes (from + 3 * j)) (slice_index bytes (from + 3 * j + 1))) b
+
+pub pixel_in_row : (width height : ℕ) (r : Rectangle) (bytes : List ℕ) (row j : ℕ) → j < r.w
+    → pixel_at (take (3 * r.w) (drop (length bytes - 3 * (width * height) + 3 * cut_row_place width r row) bytes)) (3 * j) ≡ cut_pixel width height r bytes (row * r.w + j)
+pixel_in_row width height r bytes row j lt =
+    let first : ℕ = length bytes - 3 * (width * height) in
+    let at : ℕ = cut_row_place width r row in
+    let e : first + 3 * at + 3 * j ≡ first + 3 * (at + j) = omega arith in
+    pixel_in_part bytes (first + 3 * at) (3 * r.w) j (omega arith)
+    ∙ ap (pixel_at bytes) (e ∙ ap (λ (n : ℕ). first + 3 * n) (sym (cut_in_row width r row j lt)))
 
 pub pixel_fits : (bytes : List ℕ) (i : ℕ) → AreBytes bytes → pixel_at bytes i < 2 ^ 24
 unfolding pixel_at
@@ -110,14 +143,17 @@ cut_shown width height r bytes frame some on s =
     ap₂ (λ (l : List ℕ) (n : ℕ). pixel_at l (n + 3 * cut_place width r k)) s.bytes_are first
     ∙ pixel_shown s.front frame (cut_place width r k) s.picture.words (let lt = cut_within width height r k some on (omega arith) in omega (arith, lt, s.picture.size)))
 
-pub cut_is_whole : (width height : ℕ) (r : Rectangle) (bytes into : List ℕ) (n : ℕ) → AreBytes bytes → length into ≡ r.w * r.h → length into ≤ n → n ≤ r.w * r.h
-    → take n into ≡ map (λ k. pixel_at bytes (length bytes - 3 * (width * height) + 3 * cut_place width r k)) (range_with_len 0 n) → IsPicture r.w r.h into
+-- all rows are cut
+pub all_cut : (width height : ℕ) (r : Rectangle) (bytes into : List ℕ) (rows : ℕ) → length into ≡ r.w * r.h → rows ≤ r.h → r.h ≤ rows
+    → take (rows * r.w) into ≡ map (cut_pixel width height r bytes) (range_with_len 0 (rows * r.w)) → into ≡ cut_bytes width height r bytes
 unfolding cut_bytes
-cut_is_whole width height r bytes into n are size le ge e =
-    let whole : take n into ≡ into = take_all n into le in
-    let same : n ≡ r.w * r.h = omega arith in
-    let is : into ≡ cut_bytes width height r bytes = sym whole ∙ e ∙ ap (λ (m : ℕ). map (λ k. pixel_at bytes (length bytes - 3 * (width * height) + 3 * cut_place width r k)) (range_with_len 0 m)) same in
-    record { size = size; words = subst (All IsWord) (sym is) (cut_bytes_fit width height r bytes are) }
+all_cut width height r bytes into rows size le ge e =
+    let same : rows ≡ r.h = omega arith in
+    let all : rows * r.w ≡ r.w * r.h = ap (λ (n : ℕ). n * r.w) same ∙ mul_comm r.h r.w in
+    sym (take_all (rows * r.w) into (omega (arith, all, size))) ∙ e ∙ ap (λ (n : ℕ). map (cut_pixel width height r bytes) (range_with_len 0 n)) all
+
+pub cut_is_picture : (width height : ℕ) (r : Rectangle) (bytes into : List ℕ) → AreBytes bytes → length into ≡ r.w * r.h → into ≡ cut_bytes width height r bytes → IsPicture r.w r.h into
+cut_is_picture width height r bytes into are size is = record { size = size; words = subst (All IsWord) (sym is) (cut_bytes_fit width height r bytes are) }
 
 -- a capture of these numbers and this picture
 abbrev pub with_picture : ℕ → ℕ → Rectangle → List ℕ → CaptureModel

@@ -11,7 +11,7 @@ use Rattle.nit_rect.proofs.Sets.{within}
 use Rattle.nit_capture.specs.Tiles.{IsPicture, IsSize, black}
 use Rattle.nit_capture.specs.Film.{record_of, records, stream, HasRecord}
 use Rattle.nit_capture.specs.Cut.{screen, cut_place, cut, AgreeInside, AllAgree}
-use Rattle.nit_capture.proofs.TilesRead.{same_map}
+use Rattle.nit_capture.proofs.Differing.{same_map}
 use Rattle.nit_capture.proofs.RecordsRead.{one_record, no_record}
 use Rattle.nit_capture.proofs.Cuts.{in_cut}
 

@@ -1,5 +1,6 @@
 pub mod TilePlaces
 pub mod Differing
+pub mod PixelRows
 pub mod ReadingSteps
 pub mod NumbersRead
 pub mod Pictures

@@ -10,7 +10,7 @@ use Rattle.nit_capture.specs.Film.{runs, run_bytes}
 use Rattle.nit_capture.specs.Reading.{◌>>=◌, run_at, no_word, pixels_at, tile_at}
 use Rattle.nit_rect.proofs.Spans.{same_tests}
 use Rattle.nit_capture.proofs.TilePlaces.{place_within, same_place, lies_at}
-use Rattle.nit_capture.proofs.Differing.{differs_at, differs_where, unlike, like}
+use Rattle.nit_capture.proofs.Differing.{same_map, differs_at, differs_where, unlike, like}
 use Rattle.nit_capture.proofs.RunsRead.{AreBytes, Continues, run_takes, run_again, tile_spelled, tile_spelled_back}
 
 -- the value of a step that did not fail
@@ -230,10 +230,6 @@ pub same_filter : (f g : ℕ → Bool) (t count : ℕ) → ((u : ℕ) → t ≤ 
 same_filter f g t zero same = refl
 same_filter f g t (suc count) same =
     ap₂ (λ (b : Bool) (r : List ℕ). cond b (t ∷ r) r) (same t (omega arith) (omega arith)) (same_filter f g (t + 1) count (λ u low high. same u (omega arith) (omega arith)))
-
-pub same_map : (f g : ℕ → ℕ) (t count : ℕ) → ((u : ℕ) → t ≤ u → u < t + count → f u ≡ g u) → map f (range_with_len t count) ≡ map g (range_with_len t count)
-same_map f g t zero same = refl
-same_map f g t (suc count) same = ap₂ (λ (x : ℕ) (r : List ℕ). x ∷ r) (same t (omega arith) (omega arith)) (same_map f g (t + 1) count (λ u low high. same u (omega arith) (omega arith)))
 
 pub same_pixels : (w h : ℕ) (a b : List ℕ) (t : ℕ) → ((k : ℕ) → k < area w h t → slice_index a (place w t k) ≡ slice_index b (place w t k)) → tile w h a t ≡ tile w h b t
 same_pixels w h a b t same = same_map (λ j. slice_index a (place w t j)) (λ j. slice_index b (place w t j)) 0 (area w h t) (λ u low high. same u (omega arith))

@@ -14,6 +14,10 @@ screen width height = rectangle (pos 0) (pos 0) width height
 unfoldable pub cut_place : ℕ → Rectangle → ℕ → ℕ
 cut_place width r k = (nat_abs r.y + k / r.w) * width + (nat_abs r.x + k % r.w)
 
+-- where it has the first pixel of a row of the rectangle
+unfoldable pub cut_row_place : ℕ → Rectangle → ℕ → ℕ
+cut_row_place width r row = (nat_abs r.y + row) * width + nat_abs r.x
+
 -- the part of a screen's picture inside a rectangle on it
 abbrev pub cut : ℕ → Rectangle → List ℕ → List ℕ
 cut width r frame = map (λ k. slice_index frame (cut_place width r k)) (range_with_len 0 (r.w * r.h))
@@ -41,6 +45,10 @@ pub record Shows (width height : ℕ) (bytes frame : List ℕ) : Type 0 where
 unfoldable pub pixel_at : List ℕ → ℕ → ℕ
 pixel_at bytes i = word_of (slice_index bytes i) (slice_index bytes (i + 1)) (slice_index bytes (i + 2))
 
--- the part inside a rectangle of the picture of the screen that is the last `3 * (width * height)` bytes
+-- pixel k of a rectangle, in the picture of the screen that is the last `3 * (width * height)` bytes
+abbrev pub cut_pixel : ℕ → ℕ → Rectangle → List ℕ → ℕ → ℕ
+cut_pixel width height r bytes k = pixel_at bytes (length bytes - 3 * (width * height) + 3 * cut_place width r k)
+
+-- the part of that picture inside the rectangle
 unfoldable pub cut_bytes : ℕ → ℕ → Rectangle → List ℕ → List ℕ
-cut_bytes width height r bytes = map (λ k. pixel_at bytes (length bytes - 3 * (width * height) + 3 * cut_place width r k)) (range_with_len 0 (r.w * r.h))
+cut_bytes width height r bytes = map (cut_pixel width height r bytes) (range_with_len 0 (r.w * r.h))

@@ -53,6 +53,10 @@ area w h t = high w h t * wide w t
 unfoldable pub place : ℕ → ℕ → ℕ → ℕ
 place w t k = (top_of w t + k / wide w t) * w + (left_of w t + k % wide w t)
 
+-- where the picture has the first pixel of a row of tile t
+unfoldable pub row_place : ℕ → ℕ → ℕ → ℕ
+row_place w t row = (top_of w t + row) * w + left_of w t
+
 -- the pixels of tile t, by rows, from pixel k on, so many
 abbrev pub pixels : ℕ → List ℕ → ℕ → ℕ → ℕ → List ℕ
 pixels w picture t k count = map (λ j. slice_index picture (place w t j)) (range_with_len k count)

@@ -1,7 +1,7 @@
 //! Where a picture has the pixels of a tile.
 
-ghost use Rattle.std.specs.Prelude.{◌≡◌, ◌≤◌, ◌<◌, ◌*◌, length, slice_index};
-ghost use Rattle.nit_capture.specs.Tiles.{IsSize, tiles_along, tile_count, left_of, top_of, wide, high, area, place, differs};
+ghost use Rattle.std.specs.Prelude.{◌≡◌, ◌≢◌, ◌≤◌, ◌<◌, ◌+◌, ◌*◌, true, false, length};
+ghost use Rattle.nit_capture.specs.Tiles.{IsSize, tiles_along, tile_count, left_of, top_of, wide, high, area, place, row_place, differs};
 
 /// How many columns and rows a tile has that is not cut off.
 pub const SIDE: usize = 16;
@@ -55,7 +55,7 @@ impl Grid {
 
     /// How many columns a tile has.
     #[tactic(auto, unfolding(crate::specs::Tiles::wide))]
-    fn wide(self, tile: usize) -> usize
+    pub fn wide(self, tile: usize) -> usize
         ensures value { result ≡ wide self.width tile }
         ensures some { 1 ≤ result }
         ensures few { result ≤ 16 }
@@ -63,14 +63,35 @@ impl Grid {
         SIDE.min(self.width - self.left(tile))
     }
 
+    /// How many rows a tile has.
+    #[tactic(auto, unfolding(crate::specs::Tiles::high))]
+    pub fn high(self, tile: usize) -> usize
+        requires { tile < tile_count self.width self.height }
+        ensures value { result ≡ high self.width self.height tile }
+        ensures few { result ≤ 16 }
+    {
+        SIDE.min(self.height - self.top(tile))
+    }
+
+    /// Where the picture has the first pixel of a row of a tile.
+    #[tactic(auto, unfolding(crate::specs::Tiles::row_place))]
+    pub fn row(self, tile: usize, row: usize) -> usize
+        requires tile { tile < tile_count self.width self.height }
+        requires row { row < high self.width self.height tile }
+        ensures value { result ≡ row_place self.width tile row }
+        ensures within { result + wide self.width tile ≤ self.width * self.height }
+    {
+        (self.top(tile) + row) * self.width + self.left(tile)
+    }
+
     /// How many pixels a tile has.
-    #[tactic(auto, unfolding(crate::specs::Tiles::area, crate::specs::Tiles::high))]
+    #[tactic(auto, unfolding(crate::specs::Tiles::area))]
     pub fn area(self, tile: usize) -> usize
         requires { tile < tile_count self.width self.height }
         ensures value { result ≡ area self.width self.height tile }
         ensures few { result ≤ 256 }
     {
-        SIDE.min(self.height - self.top(tile)) * self.wide(tile)
+        self.high(tile) * self.wide(tile)
     }
 
     /// Where the picture has a pixel of a tile.
@@ -96,12 +117,21 @@ impl Grid {
         requires now { length now.now ≡ self.width * self.height }
         ensures { result ≡ differs self.width self.height before.now now.now tile }
     {
-        for pixel in 0..self.area(tile) {
-            let at = self.place(tile, pixel);
-            if before[at] != now[at] {
+        let wide = self.wide(tile);
+        for row in 0..self.high(tile) {
+            let at = self.row(tile, row);
+            if !same_words(&before[at..at + wide], &now[at..at + wide]) {
                 return true;
             }
         }
         false
     }
+}
+
+/// Whether two lists of words are equal.
+fn same_words(a: &[u32], b: &[u32]) -> bool
+    ensures yes { result ≡ true → a.now ≡ b.now }
+    ensures no { result ≡ false → a.now ≢ b.now }
+{
+    a == b
 }
