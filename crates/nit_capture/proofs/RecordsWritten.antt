@@ -1,5 +1,5 @@
 -- Records written from left to right.
-use Rattle.std.proofs.Common.{◌≡◌, ℕ, suc, ◌+◌, ◌<◌, ◌≤◌, ◌^◌, ◌-◌, ◌/◌, add-zero, Result, Ok, Err, Bool, true, false, List, [], ◌∷◌, ◌++◌, length, take, drop, map, refl, inl, inr, sym, ap, ap₂, ◌∙◌, arith, append_assoc}
+use Rattle.std.proofs.Common.{◌≡◌, ℕ, suc, ◌+◌, ◌<◌, ◌≤◌, ◌^◌, ◌-◌, ◌/◌, ◌%◌, add-zero, Result, Ok, Err, Bool, true, false, List, [], ◌∷◌, ◌++◌, length, take, drop, map, refl, inl, inr, sym, ap, ap₂, ◌∙◌, arith, append_assoc, length-append}
 use Rattle.std.specs.Prelude.{◌==◌, slice_index, slice_set, cond, IsErr}
 use Rattle.std.specs.List.{flat_map, filter, range_with_len, All, prefix_len}
 use Rattle.std.proofs.lemmas.Nat.{mul-le}
@@ -129,7 +129,7 @@ pub appends_part : {T E : Type 0} (r : Result T E) (start more now part : List �
 appends_part (Ok x) start more now part is e = absurd cc
 appends_part (Err x) start more now part is e = (part, e)
 
--- one more tile is looked at
+-- one more tile is looked at: what was appended, and how many tiles were
 pub tile_done : (f : ℕ → Bool) (g : ℕ → List ℕ) (n : ℕ) (front now after : List ℕ) → now ≡ front ++ flat_map g (filter f (range_with_len 0 n)) → after ≡ now ++ cond (f n) (g n) [] → after ≡ front ++ flat_map g (filter f (range_with_len 0 (n + 1)))
 tile_done f g n front now after is more = either (f n) refl more
   where
@@ -137,10 +137,30 @@ tile_done f g n front now after is more = either (f n) refl more
     either true e m = tile_written f g n front now after e is m
     either false e m = m ∙ append-nil now ∙ tile_left f g n front now e is
 
-pub record_written : (w h : ℕ) (before picture start out : List ℕ) (n : ℕ) → n ≤ tile_count w h → tile_count w h ≤ n
-    → out ≡ (start ++ 1 ∷ two_bytes (length (changed w h before picture))) ++ flat_map (tile_bytes w h picture) (filter (differs w h before picture) (range_with_len 0 n)) → out ≡ start ++ record_of w h before picture
+pub tile_counted : (f : ℕ → Bool) (n count one : ℕ) → count ≡ length (filter f (range_with_len 0 n)) → one ≡ cond (f n) 1 0 → count + one ≡ length (filter f (range_with_len 0 (n + 1)))
+tile_counted f n count one is more = either (f n) refl more
+  where
+    either : (b : Bool) → f n ≡ b → one ≡ cond b 1 0 → count + one ≡ length (filter f (range_with_len 0 (n + 1)))
+    either true e m = omega (arith, is, m, ap (length {A = ℕ}) (one_changed f n e) ∙ length-append (filter f (range_with_len 0 n)) (n ∷ []))
+    either false e m = omega (arith, is, m, ap (length {A = ℕ}) (none_changed f n e))
+
+pub one_at_most : (b : Bool) (n : ℕ) → n ≡ cond b 1 0 → n ≤ 1
+one_at_most true n e = omega arith
+one_at_most false n e = omega arith
+
+-- the two bytes of a number, set where two bytes were left for it
+number_put : (start tiles : List ℕ) (a b : ℕ) → slice_set (slice_set ((start ++ 1 ∷ 0 ∷ 0 ∷ []) ++ tiles) (suc (length start)) a) (suc (suc (length start))) b ≡ start ++ 1 ∷ a ∷ b ∷ tiles
+number_put [] tiles a b = refl
+number_put (x ∷ start) tiles a b = ap (λ (l : List ℕ). x ∷ l) (number_put start tiles a b)
+
+-- the whole record, where its tiles stand and their number is set
+pub number_set : (w h : ℕ) (before picture start now : List ℕ) (n at : ℕ) → at ≡ length start → n ≡ length (changed w h before picture)
+    → now ≡ (start ++ 1 ∷ 0 ∷ 0 ∷ []) ++ flat_map (tile_bytes w h picture) (changed w h before picture)
+    → slice_set (slice_set now (at + 1) (n % 256)) (at + 1 + 1) (n / 256) ≡ start ++ record_of w h before picture
 unfolding record_of
-record_written w h before picture start out n le ge e =
-    let same : n ≡ tile_count w h = omega arith in
-    e ∙ ap (λ (k : ℕ). (start ++ 1 ∷ two_bytes (length (changed w h before picture))) ++ flat_map (tile_bytes w h picture) (filter (differs w h before picture) (range_with_len 0 k))) same
-    ∙ append_assoc start (1 ∷ two_bytes (length (changed w h before picture))) (flat_map (tile_bytes w h picture) (changed w h before picture))
+number_set w h before picture start now n at front is e =
+    let tiles : List ℕ = flat_map (tile_bytes w h picture) (changed w h before picture) in
+    let one : at + 1 ≡ suc (length start) = omega arith in
+    let two : at + 1 + 1 ≡ suc (suc (length start)) = omega arith in
+    rw (e, two, one) (number_put start tiles (n % 256) (n / 256))
+    ∙ ap (λ (k : ℕ). start ++ (1 ∷ two_bytes k ++ tiles)) is
