@@ -7,6 +7,7 @@ pub mod Pictures
 pub mod RunsRead
 pub mod TilesRead
 pub mod RecordsRead
+pub mod RunsWritten
 pub mod RecordsWritten
 pub mod Cuts
 pub mod FilmLaws

@@ -17,6 +17,7 @@ mod grid;
 mod laws;
 mod player;
 mod reading;
+mod runs;
 mod writing;
 
 pub use capture::Capture;
