@@ -38,7 +38,7 @@ unfolding turn_at
 turn_cases w h t zero frame bytes x e = inl (record { is = cc })
 turn_cases w h t (suc left) frame bytes x e = turned w h t left frame bytes x (is_next t bytes) refl e
 
--- ---- two_bytes bytes
+-- ---- two bytes
 
 two_are : (t : ℕ) (bytes : List ℕ) → AreBytes bytes → is_next t bytes ≡ true → bytes ≡ two_bytes t ++ behind_two bytes
 two_are t [] are e = absurd cc

@@ -65,11 +65,11 @@ place_within w h t k some lt below =
     let p = pixel_within w h t k some below in
     mul-add-lt (top_of w t + k / wide w t) w (left_of w t + k % wide w t) h (omega arith) (omega arith)
 
--- two_bytes sums of tiles_along and a rest
+-- two sums of sixteens and a rest
 same_parts : (a b r s : ℕ) → r < 16 → s < 16 → 16 * a + r ≡ 16 * b + s → (a ≡ b) × (r ≡ s)
 same_parts a b r s p q e = (omega arith, omega arith)
 
--- two_bytes numbers of one quotient and one rest
+-- two numbers of one quotient and one rest
 same_whole : (a b m : ℕ) → a / m ≡ b / m → a % m ≡ b % m → a ≡ b
 same_whole a b m p q = sym (div-add-mod' a m) ∙ ap₂ (λ (x y : ℕ). x * m + y) p q ∙ div-add-mod' b m
 

@@ -110,7 +110,7 @@ impl Grid {
         down * self.width + across
     }
 
-    /// Whether a tile of two_bytes pictures differs in some pixel.
+    /// Whether a tile of two pictures differs in some pixel.
     pub fn differs(self, before: &[u32], now: &[u32], tile: usize) -> bool
         requires tile { tile < tile_count self.width self.height }
         requires before { length before.now ≡ self.width * self.height }

@@ -1,9 +1,8 @@
 //! A film's bytes, played picture by picture.
 
-ghost use Rattle.std.specs.Prelude.{◌≡◌, ◌≢◌, ◌≤◌, ◌<◌, ◌*◌, ◌++◌, ◌∷◌, ℕ, List, [], length, IsSome, IfSome, ◌↔◌, All};
-ghost use Rattle.nit_word.specs.Inks.{IsWord};
+ghost use Rattle.std.specs.Prelude.{◌≡◌, ◌≢◌, ◌∷◌, ℕ, List, [], IsSome, IfSome, true, false};
 ghost use Rattle.nit_capture.specs.Tiles.{IsSize, IsPicture};
-ghost use Rattle.nit_capture.specs.Film.{HasHeader, HasRecord};
+ghost use Rattle.nit_capture.specs.Film.{HasRecord};
 ghost use Rattle.nit_capture.specs.declared.player.Played.TheVariants.{Frame, End, Bad};
 
 use crate::grid::Grid;
@@ -93,7 +92,7 @@ impl<'a> Player<'a> {
         ensures size { (self.new.width ≡ self.old.width) × (self.new.height ≡ self.old.height) }
         ensures picture { IsPicture self.old.width self.old.height frame.new }
     {
-        if let [0] = self.rest {
+        if is_end(self.rest) {
             return Played::End;
         }
         let grid = Grid {
@@ -111,4 +110,12 @@ impl<'a> Player<'a> {
             }
         }
     }
+}
+
+/// Whether bytes are the end of a film.
+fn is_end(bytes: &[u8]) -> bool
+    ensures yes { result ≡ true → bytes.now ≡ 0 ∷ [] }
+    ensures no { result ≡ false → bytes.now ≢ 0 ∷ [] }
+{
+    matches!(bytes, [0])
 }

@@ -1,16 +1,15 @@
-use Rattle.std.proofs.Common.{arith, ◌≡◌, ℕ, List, [], ◌∷◌, sym, ap, subst}
+use Rattle.std.proofs.Common.{arith, ◌≡◌, ℕ, List, [], ◌∷◌, sym, ap, subst, ◌∙◌}
 use Rattle.std.specs.Prelude.{slice_index}
-use Rattle.std.proofs.lemmas.Grind.{common_steps}
 use Rattle.nit_capture.specs.Player.{PlayerModel}
 use Rattle.nit_capture.specs.Tiles.{IsPicture}
 use Rattle.nit_capture.specs.Film.{HasRecord}
 use Rattle.nit_capture.proofs.RecordsRead.{record_take, no_record, none_read}
 use Rattle.nit_capture.proofs.player.Player.next.Goals as goal
 
-pub returns-in-0-clause-is_frame : goal.returns-in-0-clause-is_frame
-returns-in-0-clause-is_frame c =
+pub returns-then-is_end-clause-is_frame : goal.returns-then-is_end-clause-is_frame
+returns-then-is_end-clause-is_frame c =
     λ now rest r.
-    let e : c.args.self.now.rest ≡ 0 ∷ [] = grind (arith, common_steps) in
+    let e : c.args.self.now.rest ≡ 0 ∷ [] = sym (ap (λ (p : PlayerModel). p.rest) c.self.view_is) ∙ c.is_end.ensures.yes c.if-is_end.true in
     absurd (no_record c.args.self.now.width c.args.self.now.height c.args.frame.now c.args.self.now.rest now rest r (ap (λ (l : List ℕ). slice_index l 0) e))
 
 pub returns-in-Some-clause-frame : goal.returns-in-Some-clause-frame
