@@ -13,7 +13,6 @@ use Rattle.nit_rect.proofs.Sets.{within}
 use Rattle.nit_capture.specs.Tiles.{IsPicture}
 use Rattle.nit_capture.specs.Film.{channels}
 use Rattle.nit_capture.specs.Cut.{screen, cut_place, cut_row_place, cut, cut_pixel, cut_bytes, pixel_at, Shows}
-use Rattle.nit_capture.specs.Capture.{CaptureModel}
 use Rattle.nit_capture.proofs.RunsRead.{AreBytes}
 use Rattle.nit_capture.proofs.Differing.{same_map}
 use Rattle.nit_capture.proofs.RecordsRead.{words_fit}
@@ -154,10 +153,6 @@ all_cut width height r bytes into rows size le ge e =
 
 pub cut_is_picture : (width height : ℕ) (r : Rectangle) (bytes into : List ℕ) → AreBytes bytes → length into ≡ r.w * r.h → into ≡ cut_bytes width height r bytes → IsPicture r.w r.h into
 cut_is_picture width height r bytes into are size is = record { size = size; words = subst (All IsWord) (sym is) (cut_bytes_fit width height r bytes are) }
-
--- a capture of these numbers and this picture
-abbrev pub with_picture : ℕ → ℕ → Rectangle → List ℕ → CaptureModel
-with_picture width height r before = record { width = width; height = height; rect = r; before = before }
 
 -- a place is a number of 32 bits
 pub place_is : (z : ℤ) → IsPlace z → to_z w32 (of_z w32 z) ≡ z

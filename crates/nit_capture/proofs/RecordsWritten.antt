@@ -1,20 +1,18 @@
 -- Records written from left to right.
-use Rattle.std.proofs.Common.{◌≡◌, ℕ, suc, ◌+◌, ◌<◌, ◌≤◌, ◌^◌, ◌-◌, ◌/◌, ◌%◌, add-zero, Result, Ok, Err, Bool, true, false, List, [], ◌∷◌, ◌++◌, length, take, drop, map, refl, inl, inr, sym, ap, ap₂, ◌∙◌, arith, append_assoc, length-append}
-use Rattle.std.specs.Prelude.{◌==◌, slice_index, slice_set, cond, IsErr}
-use Rattle.std.specs.List.{flat_map, filter, range_with_len, All, prefix_len}
+use Rattle.std.proofs.Common.{◌≡◌, ℕ, suc, ◌+◌, ◌<◌, ◌≤◌, ◌^◌, ◌/◌, ◌%◌, Result, Ok, Err, Bool, true, false, List, [], ◌∷◌, ◌++◌, length, take, map, refl, sym, ap, ap₂, ◌∙◌, arith, append_assoc, length-append}
+use Rattle.std.specs.Prelude.{slice_index, slice_set, cond, IsErr}
+use Rattle.std.specs.List.{flat_map, filter, range_with_len, All}
 use Rattle.std.proofs.lemmas.Nat.{mul-le}
 use Rattle.std.proofs.lemmas.List.FromFn.{length-map-range_with_len, get_or-map-range_with_len}
 use Rattle.nit_capture.specs.Appending.{Appends}
 use Rattle.nit_capture.proofs.RecordsRead.{words_fit}
-use Rattle.std.proofs.lemmas.Bool.{eq-eqb, ne_eqb, cases_eq}
-use Rattle.std.proofs.lemmas.List.{append-nil, take_all, length-drop, get_or-drop, drop-drop, nil_from_length, take_more_set}
+use Rattle.std.proofs.lemmas.List.{append-nil, take_more_set}
 use Rattle.std.proofs.lemmas.List.Concat.{flat_map-append}
 use Rattle.std.proofs.lemmas.List.FromFn.{map-range_with_len_more}
 use Rattle.nit_word.specs.Inks.{IsWord}
-use Rattle.nit_capture.specs.Tiles.{IsPicture, IsSize, tiles_along, tile_count, area, place, tile, differs}
-use Rattle.nit_capture.specs.Film.{two_bytes, runs, run_bytes, tile_bytes, changed, record_of}
+use Rattle.nit_capture.specs.Tiles.{IsPicture, IsSize, tiles_along, tile_count, area, place, tile}
+use Rattle.nit_capture.specs.Film.{two_bytes, tile_bytes, changed, record_of}
 use Rattle.nit_capture.proofs.Differing.{range_more}
-use Rattle.nit_capture.proofs.RunsRead.{First, first_run, longer, apart, runs_one, no_runs}
 
 filter-join : (f : ℕ → Bool) (xs : List ℕ) (x : ℕ) → filter f (xs ++ x ∷ []) ≡ filter f xs ++ cond (f x) (x ∷ []) []
 filter-join f [] x = refl

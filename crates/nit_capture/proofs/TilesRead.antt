@@ -1,5 +1,5 @@
 -- What is read as a record is one, and what is a record is read.
-use Rattle.std.proofs.Common.{◌≡◌, ℕ, zero, suc, ◌+◌, ◌*◌, ◌^◌, ◌<◌, ◌≤◌, ◌⊎◌, inl, inr, Bool, true, false, not, ◌||◌, List, ◌∷◌, ◌++◌, length, map, Option, Some, None, refl, sym, ap, ap₂, subst, ◌∙◌, arith, lit<}
+use Rattle.std.proofs.Common.{◌≡◌, ℕ, zero, suc, ◌+◌, ◌*◌, ◌^◌, ◌<◌, ◌≤◌, ◌⊎◌, inl, inr, Bool, true, false, not, ◌||◌, List, ◌∷◌, ◌++◌, length, Option, Some, None, refl, sym, ap, ap₂, subst, ◌∙◌, arith, lit<}
 use Rattle.std.specs.Prelude.{◌==◌, slice_index, slice_set, cond}
 use Rattle.std.specs.List.{flat_map, filter, range_with_len}
 use Rattle.std.proofs.lemmas.Bool.{cases_eq, true≢false}

@@ -10,8 +10,8 @@ ghost use Rattle.nit_capture.specs.Cut.{screen, pixel_at, cut_pixel, cut_row_pla
 use crate::grid::Grid;
 use nit_rect::Rect;
 
-/// Writes the pixels of a rectangle on the screen into the words, by rows, as the last bytes of the picture
-/// have them.
+/// Writes the pixels of a rectangle on the screen into the words, by rows, as the last bytes of the
+/// picture have them.
 pub fn cut_into(into: &mut Vec<u32>, grid: Grid, rect: &Rect, ppm: &[u8])
     requires inside { LiesIn rect.now (screen grid.width grid.height) }
     requires pixels { HasPixels rect.now }
@@ -46,7 +46,8 @@ fn row_bytes<'a>(grid: Grid, rect: &Rect, ppm: &'a [u8], row: usize) -> &'a [u8]
     requires bytes { 3 * (grid.width * grid.height) ≤ length ppm.now }
     requires row { row < rect.now.h }
     ensures length { length result.now ≡ 3 * rect.now.w }
-    ensures pixels { (j : ℕ) → j < rect.now.w → pixel_at result.now (3 * j) ≡ cut_pixel grid.width grid.height rect.now ppm.now (row * rect.now.w + j) }
+    ensures pixels { (j : ℕ) → j < rect.now.w → pixel_at result.now (3 * j)
+        ≡ cut_pixel grid.width grid.height rect.now ppm.now (row * rect.now.w + j) }
     ensures bytes { (i : ℕ) → slice_index result.now i < 256 }
 {
     let first = ppm.len() - 3 * (grid.width * grid.height);
@@ -77,7 +78,8 @@ fn natural(at: i32) -> usize
 /// Writes the word of each three bytes.
 fn words_into(into: &mut [u32], bytes: &[u8])
     requires { length bytes.now ≡ 3 * length into.old }
-    ensures { into.new ≡ map (λ k. pixel_at bytes.now (3 * k)) (range_with_len 0 (length into.old)) }
+    ensures { into.new
+        ≡ map (λ k. pixel_at bytes.now (3 * k)) (range_with_len 0 (length into.old)) }
 {
     for pixel in 0..into.len() {
         into[pixel] = word_at(bytes, 3 * pixel);

@@ -1,7 +1,8 @@
 //! Where a picture has the pixels of a tile.
 
 ghost use Rattle.std.specs.Prelude.{◌≡◌, ◌≢◌, ◌≤◌, ◌<◌, ◌+◌, ◌*◌, true, false, length};
-ghost use Rattle.nit_capture.specs.Tiles.{IsSize, tiles_along, tile_count, left_of, top_of, wide, high, area, place, row_place, differs};
+ghost use Rattle.nit_capture.specs.Tiles.{IsSize, tiles_along, tile_count, left_of, top_of};
+ghost use Rattle.nit_capture.specs.Tiles.{wide, high, area, place, row_place, differs};
 
 /// How many columns and rows a tile has that is not cut off.
 pub const SIDE: usize = 16;

@@ -2,7 +2,6 @@
 
 ghost use Rattle.std.specs.Prelude.{◌≡◌, ◌≢◌, ◌∷◌, ℕ, List, [], IsSome, IfSome, true, false};
 ghost use Rattle.nit_capture.specs.Tiles.{IsSize, IsPicture};
-ghost use Rattle.nit_capture.specs.Film.{HasRecord};
 ghost use Rattle.nit_capture.specs.declared.player.Played.TheVariants.{Frame, End, Bad};
 
 use crate::grid::Grid;
@@ -40,11 +39,11 @@ impl<'a> Model for Player<'a> {
 }
 
 impl<'a> Player<'a> {
-    ghost use Rattle.nit_capture.specs.Player.{PlayerModel, Begins};
+    ghost use Rattle.nit_capture.specs.Player.{PlayerModel, Begins, GoesOn};
 
-    /// A player of the film whose stream the bytes are. None exactly where the bytes do not begin with
-    /// `NCAP`, a width of 1 to 1024 and a height of 1 to 768, in pixels. What follows is looked at only
-    /// when it is played.
+    /// A player of the film whose stream the bytes are. None exactly where the bytes do not begin
+    /// with `NCAP`, a width of 1 to 1024 and a height of 1 to 768, in pixels. What follows is
+    /// looked at only when it is played.
     pub fn new(bytes: &'a [u8]) -> Option<Player<'a>>
         ensures begins { IfSome result (λ p. Begins bytes.now p) }
         ensures exact { (p : PlayerModel) → Begins bytes.now p → IsSome result }
@@ -73,17 +72,19 @@ impl<'a> Player<'a> {
         (self.width as u32, self.height as u32)
     }
 
-    /// Plays the next picture into the frame. The frame has a word below 2^24 for each pixel, by rows. It has
-    /// the picture before, and is black (all 0) at first.
+    /// Plays the next picture into the frame. The frame has a word below 2^24 for each pixel, by
+    /// rows. It has the picture before, and is black (all 0) at first.
     ///
-    /// `Frame` comes exactly where the bytes that are left begin with a record behind that picture; then the
-    /// record's picture is in the frame. `End` comes exactly where the one byte 0 is left, and then comes
-    /// again. In all other cases `Bad` comes, and from then on: the frame may then have a part of a picture.
+    /// `Frame` comes exactly where the bytes that are left begin with a record behind that picture;
+    /// then the record's picture is in the frame. `End` comes exactly where the one byte 0 is left,
+    /// and then comes again. In all other cases `Bad` comes, and from then on: the frame may then
+    /// have a part of a picture.
     pub fn next(&mut self, frame: &mut [u32]) -> Played
         requires { IsPicture self.old.width self.old.height frame.old }
         // Each answer comes exactly where it should.
-        ensures frame { result ≡ Frame → HasRecord self.old.width self.old.height frame.old self.old.rest frame.new self.new.rest }
-        ensures is_frame { (now rest : List ℕ) → HasRecord self.old.width self.old.height frame.old self.old.rest now rest → result ≡ Frame }
+        ensures frame { result ≡ Frame → GoesOn self.old frame.old frame.new self.new.rest }
+        ensures is_frame { (now rest : List ℕ) →
+            GoesOn self.old frame.old now rest → result ≡ Frame }
         ensures end { result ≡ End → self.old.rest ≡ 0 ∷ [] }
         ensures is_end { self.old.rest ≡ 0 ∷ [] → result ≡ End }
         // What is left.

@@ -1,6 +1,7 @@
 //! The runs of a tile's pixels.
 
-ghost use Rattle.std.specs.Prelude.{◌≡◌, ◌≤◌, ◌<◌, ◌*◌, ◌+◌, ◌==◌, length, take, drop, All, slice_index};
+ghost use Rattle.std.specs.Prelude.{◌≡◌, ◌≤◌, ◌<◌, ◌*◌, ◌+◌, ◌==◌};
+ghost use Rattle.std.specs.Prelude.{length, take, drop, All, slice_index};
 ghost use Rattle.std.specs.List.{flat_map, prefix_len};
 ghost use Rattle.nit_word.specs.Inks.{IsWord};
 ghost use Rattle.nit_capture.specs.Film.{runs, run_bytes};

@@ -11,7 +11,8 @@ use std::test::Fail;
 /// A picture of a screen.
 #[derive(Clone, Copy)]
 enum Picture {
-    /// 8 by 4: the part of 4 by 2 at the top left, the part at the bottom right, and the bare screen.
+    /// 8 by 4: the part of 4 by 2 at the top left, the part at the bottom right, and the bare
+    /// screen.
     Parts(u32, u32),
     /// 20 by 18: the first pixel, the last one, and all others.
     Ends(u32, u32, u32),

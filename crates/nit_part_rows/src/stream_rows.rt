@@ -1,6 +1,7 @@
 //! Streams of films that are cut off, and streams in which one byte is another one.
 //!
-//! What each of them plays was worked out by a reader and a writer that stand apart from this repository.
+//! What each of them plays was worked out by a reader and a writer that stand apart from this
+//! repository.
 
 ghost use Rattle.std.specs.Prelude.{IfOk};
 ghost use Rattle.nit_capture.specs.Tiles.{IsSize, IsPicture};
@@ -28,8 +29,8 @@ use Course::{Bad, End, NoFilm};
 /// Lengths from one to another one, and what so many of the first bytes play.
 type Front = (usize, usize, Course);
 
-/// A place, bytes from one to another one, and what the stream plays where one of them stands there that
-/// is not the stream's own.
+/// A place, bytes from one to another one, and what the stream plays where one of them stands there
+/// that is not the stream's own.
 type Change = (usize, u8, u8, Course);
 
 /// Fronts of the film of the part at the top left.

@@ -1,5 +1,4 @@
-use Rattle.std.proofs.Common.{◌+◌, ◌*◌, ◌<◌, arith, refl}
-use Rattle.std.specs.Prelude.{nat_abs}
+use Rattle.std.proofs.Common.{arith, refl}
 use Rattle.nit_capture.specs.Cut.{cut_row_place}
 use Rattle.nit_capture.proofs.Cuts.{on_screen, cut_row_within, place_is}
 use Rattle.nit_capture.proofs.PixelRows.{place_small}

@@ -1,4 +1,4 @@
-use Rattle.std.proofs.Common.{◌*◌, ◌<◌, length, ℕ, arith}
+use Rattle.std.proofs.Common.{◌*◌, arith}
 use Rattle.nit_capture.specs.Cut.{pixel_at}
 use Rattle.nit_capture.proofs.RecordsWritten.{words_more}
 use Rattle.nit_capture.proofs.cut.words_into.Goals as goal

@@ -1,4 +1,4 @@
-use Rattle.std.proofs.Common.{◌≡◌, ◌*◌, take, map, length}
+use Rattle.std.proofs.Common.{◌≡◌, ◌*◌, take, map}
 use Rattle.std.specs.List.{range_with_len}
 use Rattle.nit_capture.specs.Cut.{pixel_at}
 use Rattle.nit_capture.proofs.cut.words_into.Given as goal

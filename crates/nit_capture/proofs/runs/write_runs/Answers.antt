@@ -1,4 +1,4 @@
-use Rattle.std.proofs.Common.{◌∙◌, ◌≡◌, ◌+◌, ◌-◌, ◌++◌, arith, ap, take, List, ℕ}
+use Rattle.std.proofs.Common.{◌∙◌, ◌+◌, ◌++◌, arith, ap, take, List, ℕ}
 use Rattle.std.proofs.lemmas.List.{length-drop}
 use Rattle.std.proofs.lemmas.Slice.{take-put_mid}
 use Rattle.nit_capture.proofs.RunsWritten.{run_written, runs_written, tail_is}

@@ -1,4 +1,4 @@
-use Rattle.std.proofs.Common.{rules, ◌∙◌, ap, ◌∷◌, [], ◌++◌, List, ℕ}
+use Rattle.std.proofs.Common.{rules, ◌∙◌, ap, ◌++◌, List, ℕ}
 use Rattle.std.specs.List.{flat_map}
 use Rattle.nit_capture.specs.Film.{tile_bytes, changed}
 use Rattle.nit_capture.proofs.RecordsWritten.{number_set}

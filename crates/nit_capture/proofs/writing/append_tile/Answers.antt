@@ -1,4 +1,4 @@
-use Rattle.std.proofs.Common.{arith, refl, ◌∙◌}
+use Rattle.std.proofs.Common.{arith, refl}
 use Rattle.nit_capture.specs.Film.{two_bytes, tile_bytes}
 use Rattle.nit_capture.proofs.RecordsWritten.{tiles_few, tile_fits, appends_behind}
 use Rattle.nit_capture.proofs.writing.append_tile.Goals as goal

@@ -1,8 +1,8 @@
 use Rattle.std.proofs.Common.{arith, ◌≡◌, ◌*◌, ◌≤◌, ◌++◌, ◌∙◌, sym, ap, ap₂, subst, ℕ, List, length}
 use Rattle.nit_capture.specs.Cut.{Shows, cut, cut_bytes}
-use Rattle.nit_capture.specs.Capture.{CaptureModel}
+use Rattle.nit_capture.specs.Capture.{CaptureModel, capture_of}
 use Rattle.nit_capture.specs.Film.{record_of}
-use Rattle.nit_capture.proofs.Cuts.{with_picture, cut_shown, on_screen}
+use Rattle.nit_capture.proofs.Cuts.{cut_shown, on_screen}
 use Rattle.nit_capture.proofs.capture.Capture.picture.Goals as goal
 
 pub cut_into-requires-clause-bytes : goal.cut_into-requires-clause-bytes
@@ -38,8 +38,8 @@ returns-clause-left c =
     let i = c.self.invariant in
     let on = on_screen inside.width inside.height inside.rect i.0.pixels i.0.inside in
     let now = c.swap.ensures.x_after in
-    subst (λ (f : CaptureModel). with_picture inside.width inside.height inside.rect c.swap.new.x.items ≡ record f { before = cut_bytes f.width f.height f.rect c.args.ppm.now }) c.self.view_is
-    (ap (with_picture inside.width inside.height inside.rect) (ap (λ v. v.items) now ∙ c.cut_into.ensures.value))
+    subst (λ (f : CaptureModel). capture_of inside.width inside.height inside.rect c.swap.new.x.items ≡ record f { before = cut_bytes f.width f.height f.rect c.args.ppm.now }) c.self.view_is
+    (ap (capture_of inside.width inside.height inside.rect) (ap (λ v. v.items) now ∙ c.cut_into.ensures.value))
 
 pub returns-clause-appended : goal.returns-clause-appended
 returns-clause-appended c =
@@ -62,5 +62,5 @@ returns-clause-kept c =
     let i = c.self.invariant in
     let on = on_screen inside.width inside.height inside.rect i.0.pixels i.0.inside in
     let now = c.swap.ensures.x_after in
-    subst (λ (f : CaptureModel). (frame : List ℕ) → Shows f.width f.height c.args.ppm.now frame → with_picture inside.width inside.height inside.rect c.swap.new.x.items ≡ record f { before = cut f.width f.rect frame }) c.self.view_is
-    (λ frame s. ap (with_picture inside.width inside.height inside.rect) (ap (λ v. v.items) now ∙ c.cut_into.ensures.value ∙ cut_shown inside.width inside.height inside.rect c.args.ppm.now frame i.0.pixels on s))
+    subst (λ (f : CaptureModel). (frame : List ℕ) → Shows f.width f.height c.args.ppm.now frame → capture_of inside.width inside.height inside.rect c.swap.new.x.items ≡ record f { before = cut f.width f.rect frame }) c.self.view_is
+    (λ frame s. ap (capture_of inside.width inside.height inside.rect) (ap (λ v. v.items) now ∙ c.cut_into.ensures.value ∙ cut_shown inside.width inside.height inside.rect c.args.ppm.now frame i.0.pixels on s))
