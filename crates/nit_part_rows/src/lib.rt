@@ -1,10 +1,10 @@
 //! Worked rows of the parts: what each of them answers by itself, and two or three together.
 //!
 //! The parts here are those that know nothing of scripts, configurations and journals: words, glyphs, the stack of
-//! views, sessions' accounts, the user's input, queues, labels, cuts, painting, frames, shared words and the book of
-//! entries.
+//! views, sessions' accounts, the user's input, queues, labels, cuts, painting, frames, shared words, the book of
+//! entries, and films.
 //!
-//! Each expected value stands in the rows as it was worked out by hand, and never comes from the code. Only
+//! Each expected value stands in the rows as it was worked out apart from the code, and never comes from it. Only
 //! rows of shaded words are compared with the same words shaded one by one. The crate has nothing but these tests.
 #![tactic(auto)]
 
@@ -12,6 +12,8 @@
 mod account_rows;
 #[cfg(test)]
 mod damage_rows;
+#[cfg(test)]
+mod film_rows;
 #[cfg(test)]
 mod focus_rows;
 #[cfg(test)]
@@ -32,5 +34,7 @@ mod queue_rows;
 mod shade_rows;
 #[cfg(test)]
 mod stack_rows;
+#[cfg(test)]
+mod stream_rows;
 #[cfg(test)]
 mod text_rows;

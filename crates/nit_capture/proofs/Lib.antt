@@ -1,0 +1,13 @@
+pub mod TilePlaces
+pub mod Differing
+pub mod PixelRows
+pub mod ReadingSteps
+pub mod NumbersRead
+pub mod Pictures
+pub mod RunsRead
+pub mod TilesRead
+pub mod RecordsRead
+pub mod RunsWritten
+pub mod RecordsWritten
+pub mod Cuts
+pub mod FilmLaws

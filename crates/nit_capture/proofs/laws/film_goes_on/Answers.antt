@@ -1,0 +1,5 @@
+use Rattle.nit_capture.proofs.FilmLaws.{goes_on}
+use Rattle.nit_capture.proofs.laws.film_goes_on.Goals as goal
+
+pub returns : goal.returns
+returns c = goes_on

@@ -1,0 +1,5 @@
+use Rattle.nit_capture.proofs.FilmLaws.{one_stream}
+use Rattle.nit_capture.proofs.laws.film_is_one.Goals as goal
+
+pub returns : goal.returns
+returns c = one_stream
