@@ -5,6 +5,7 @@ pub mod Scripts
 pub mod Ending
 pub mod Setups
 pub mod GeneratedRuns
+pub mod EntryCounts
 pub mod Judging
 pub mod SaidLines
 pub mod Causes

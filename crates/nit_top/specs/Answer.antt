@@ -10,7 +10,7 @@ use Rattle.nit_top.specs.declared.finish.End.TheVariants as ends
 use Rattle.nit_top.specs.Command.{Gen, NoCommand, Command, command}
 use Rattle.nit_top.specs.Setup.{Setup}
 use Rattle.nit_top.specs.Judged.{Refused, Judged, IsRefused, IsValid, fault_code}
-use Rattle.nit_top.specs.Lines.{usage_line, read_fault_line, write_fault_line, fault_line, summary_line, no_memory_line}
+use Rattle.nit_top.specs.Lines.{usage_line, read_fault_line, write_fault_line, fault_line, generated_line, summary_line, no_memory_line}
 use Rattle.nit_top.specs.Course.{Course, WithRun, IsNotBegun, IsLastRead, IsMadeBefore, IsMadeInPart, IsPutWhole, IsRefusedAt, IsCutShort, totals}
 
 -- ---- how the work came to its end
@@ -145,6 +145,9 @@ pub record Answer (old : Shown) (words : List (List ℕ)) (new : Shown) (status 
   -- at 0 the summary line of this run is said, and all of it
   pub summary : status ≡ 0
       → WithRun course (λ run. new.said ≡ said_also old.said (summary_line (totals run)))
+  -- and it is the same line for every generated run
+  pub one_line : (number : ℕ) → command words ≡ Gen number → status ≡ 0
+      → new.said ≡ said_also old.said generated_line
   -- at 4 a run was begun: all is put, and the line was refused; or the files before one are put, and
   -- that one was refused; or none was begun, and that one is among the files that the command makes
   pub put_in_part : status ≡ 4

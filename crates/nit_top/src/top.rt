@@ -7,6 +7,7 @@ ghost use Rattle.nit_top.specs.Ended.{Ended, Finished};
 
 use crate::finish::{Done, End, Worked, at, status, unbegun};
 use crate::generated::generated;
+use crate::laws::generated_runs_count;
 use crate::load::load_config;
 use crate::perform;
 use crate::say::tell;
@@ -29,6 +30,7 @@ pub fn nitpicker<R: Threads + Wait + Sync, S: Store, G: Gate>(
 ) -> Done
     ensures { Answer (S.shown store.old) (texts words.now) (S.shown store.new) result.status result.journal.items }
 {
+    generated_runs_count();
     match parse_words(words) {
         Some(Asked::Run { config }) => beside(rt, alloc, store, config, gate),
         Some(Asked::Gen { number }) => made(rt, alloc, store, number, gate),
@@ -41,6 +43,7 @@ pub fn nitpicker_alone<S: Store>(alloc: Global, words: &[String], store: &mut S)
     requires { starts_threads (command (texts words.now)) ≡ false }
     ensures { Answer (S.shown store.old) (texts words.now) (S.shown store.new) result.status result.journal.items }
 {
+    generated_runs_count();
     work(alloc, words, store)
 }
 

@@ -7,9 +7,9 @@ use Rattle.nit_top.proofs.top.nitpicker.Goals as goal
 pub returns-in-Some-Run : goal.returns-in-Some-Run
 returns-in-Some-Run g c =
     let asked = rw c.in-Some-Run.field-0-is at c.in-Some-Run.ensures.some in
-    causes _ _ _ _ _ (subst (λ (k : Command). Ended (g.S.Store.shown c.args.store.now) k (g.S.Store.shown c.beside.new.store) c.beside.result.status c.beside.result.journal.items) (sym asked) c.beside.ensures)
+    causes c.generated_runs_count.ensures _ _ _ _ _ (subst (λ (k : Command). Ended (g.S.Store.shown c.args.store.now) k (g.S.Store.shown c.beside.new.store) c.beside.result.status c.beside.result.journal.items) (sym asked) c.beside.ensures)
 
 pub returns-in-Some-Gen : goal.returns-in-Some-Gen
 returns-in-Some-Gen g c =
     let asked = rw c.in-Some-Gen.field-0-is at c.in-Some-Gen.ensures.some in
-    causes _ _ _ _ _ (subst (λ (k : Command). Ended (g.S.Store.shown c.args.store.now) k (g.S.Store.shown c.made.new.store) c.made.result.status c.made.result.journal.items) (sym asked) c.made.ensures)
+    causes c.generated_runs_count.ensures _ _ _ _ _ (subst (λ (k : Command). Ended (g.S.Store.shown c.args.store.now) k (g.S.Store.shown c.made.new.store) c.made.result.status c.made.result.journal.items) (sym asked) c.made.ensures)
