@@ -6,7 +6,7 @@ use Rattle.std.proofs.lemmas.Bool.{cases_lt}
 use Rattle.std.proofs.lemmas.List.{ext_get_or, get_or_past, set-set}
 use Rattle.std.proofs.lemmas.Option.{same_Some}
 use Rattle.nit_word.specs.Setting.{set_where, with_words}
-use Rattle.nit_word.specs.Sight.{Sight, told_at, told_words}
+use Rattle.nit_word.specs.Sight.{Sight, inked_sight, told_at, told_words}
 use Rattle.nit_word.proofs.SetWords.{set_long, word_at}
 use Rattle.nit_script.specs.declared.line.Line.{Line}
 use Rattle.nit_plan.specs.declared.area.Area.{Area}
@@ -132,6 +132,16 @@ as_but t script donation k (Some a) there own is behind = behind.but
 sized : ℕ → List Line → List ℕ → ℕ → Sight
 sized t script words size = record { owner = t; size = size; ink = ink script; words = Some words; log = None }
 
+-- a line that sets no word
+pub nothing_drawn : AreLong → StayElsewhere → (t : ℕ) (script : List Line) (donation k : ℕ) (l : Line) → IsDonation donation → slice_get script k ≡ Some l
+    → ((step : Step) (i j : ℕ) → is_set_by l step i j ≡ false) → glass_after t script donation k ≡ glass_after t script donation (k + 1)
+nothing_drawn long stay t script donation k l opens here none =
+    let step = step_of (static script donation k) (static script donation (k + 1)) l in
+    let as_long : length (words_after script donation k) ≡ length (words_after script donation (k + 1)) = long script donation k opens.1 ∙ sym (long script donation (k + 1) opens.1) in
+    ap (λ (ws : List ℕ). inked_sight t ws (ink script))
+    (ext_get_or 0 (words_after script donation k) (words_after script donation (k + 1)) as_long
+    (λ n inside. sym (stay script donation k n l here (none step (n % step.w) (n / step.w)))))
+
 -- what a line sets is stale too
 pub drawn_but : AreLong → StayElsewhere → (t : ℕ) (script : List Line) (donation k : ℕ) (l : Line) (step : Step) (area : Area) (p : ℕ → Bool) (there own own' : Sight) → IsDonation donation → slice_get script k ≡ Some l
     → step ≡ step_of (static script donation k) (static script donation (k + 1)) l → ((i j : ℕ) → is_in_area area i j ≡ is_set_by l step i j)
@@ -186,9 +196,12 @@ all_own glasses glasses' owns owns' sid there own others gs os =
     ∙ sym (set-set glasses sid (glass_in owns sid) own) ∙ ap (λ (xs : List Sight). set xs sid own) others ∙ sym os
 
 -- what is stale after a turn of a session is of it
-pub behind_again : (a : Stale) (glasses glasses' owns owns' : List Sight) (sid : ℕ) (there own : Sight) → sid < length owns
-    → set glasses sid (glass_in owns sid) ≡ owns → glasses' ≡ set glasses sid there → owns' ≡ set owns sid own → IsBehindBy a sid there own → AreBehind (Some a) glasses' owns'
-behind_again a glasses glasses' owns owns' sid there own inside others gs os b =
+pub behind_again : (stale : Option Stale) (glasses glasses' owns owns' : List Sight) (sid : ℕ) (there own : Sight) → sid < length owns
+    → set glasses sid (glass_in owns sid) ≡ owns → glasses' ≡ set glasses sid there → owns' ≡ set owns sid own → IsBehind stale sid there own → AreBehind stale glasses' owns'
+behind_again None glasses glasses' owns owns' sid there own inside others gs os b =
+    gs ∙ ap (λ (g : Sight). set glasses sid g) b ∙ sym (set-set glasses sid (glass_in owns sid) own)
+    ∙ ap (λ (xs : List Sight). set xs sid own) others ∙ sym os
+behind_again (Some a) glasses glasses' owns owns' sid there own inside others gs os b =
     subst (λ (t : ℕ). (t < length owns') × (set glasses' t (glass_in owns' t) ≡ owns') × IsBehindBy a t (glass_in glasses' t) (glass_in owns' t)) (sym b.of)
     (subst (λ (n : ℕ). sid < n) (sym (ap length os ∙ length-set owns sid own)) inside, all, now)
   where
