@@ -41,11 +41,11 @@ fn empty_store(rt: &impl Abort, alloc: Global, failing: &[u64]) -> Result<Memory
     store(rt, alloc, Vec::new(alloc), failing)
 }
 
-/// Three generated runs put 21 files each, and say the same.
+/// Runs of the least and the greatest number put 21 files each, and say the same.
 #[test]
 fn generated_runs(rt: HostRuntime) -> Result<(), Fail> {
     let alloc = rt.alloc();
-    for number in ["7", "0", "999999999"] {
+    for number in ["0", "999999999"] {
         let mut store = empty_store(&rt, alloc, &[])?;
         let done = command(&rt, alloc, &["gen", number], &mut store)?;
         assert_said(&rt, &store, LINE);
