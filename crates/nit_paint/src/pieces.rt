@@ -19,8 +19,8 @@ use nit_word::{BARE, Glass};
 /// Paints a piece of the screen that a view owns, by the glass of the view's session. A pixel to which the
 /// session's buffer does not reach gets 0. Any other is loaded once, at the index that it shows, and gets what the
 /// glass gives there: a word below 2^24 that is 0 or in its ink. Nothing else is loaded, no other pixel changes, and
-/// of the glass nothing but its log. The frame gets the same words at the same pixels. `raw` and `frame` have one
-/// word for each pixel of the screen, row by row from the top.
+/// of the glass nothing but its log. The frame gets the same words at the same pixels. `raw` and
+/// `frame` have one word for each pixel of the screen, row by row from the top.
 pub fn paint_view<G: Glass>(
     stack: &Stack,
     raw: &mut [u32],
@@ -35,7 +35,8 @@ pub fn paint_view<G: Glass>(
     requires words { words_shown stack.now piece.now ≤ (G.sight glass.old).size }
     ensures painted { (others : ℕ → Sight) → Repainted (source_at stack.now) (has_pixel stack.now.width piece.now.rect) (length raw.old)
         (with_glass others (session_shown stack.now piece.now) (G.sight glass.old)) (with_glass others (session_shown stack.now piece.now) (G.sight glass.new)) raw.old raw.new }
-    ensures shown { IsCopied (has_pixel stack.now.width piece.now.rect) (length raw.old) raw.new frame.old frame.new }
+    ensures shown { IsCopied (has_pixel stack.now.width piece.now.rect) (length raw.old)
+        raw.new frame.old frame.new }
     ensures kept { (loads : List (ℕ × ℕ)) × (G.sight glass.new ≡ seen (G.sight glass.old) loads) }
     ensures rest { G.rest glass.new ≡ G.rest glass.old }
     ensures count { length raw.new ≡ length raw.old }
@@ -52,16 +53,17 @@ pub fn paint_view<G: Glass>(
     paint_rows(raw, frame, &block, &reach, row, (w, h), glass);
 }
 
-/// Paints a piece of the screen that no view owns: each pixel gets 0x000020, the word of the bare screen, and the
-/// frame gets it too. Nothing is loaded, and no other pixel changes. `raw` and `frame` have one word for each pixel
-/// of the screen, row by row from the top.
+/// Paints a piece of the screen that no view owns: each pixel gets 0x000020, the word of the bare
+/// screen, and the frame gets it too. Nothing is loaded, and no other pixel changes. `raw` and
+/// `frame` have one word for each pixel of the screen, row by row from the top.
 pub fn paint_bare(stack: &Stack, raw: &mut [u32], frame: &mut [u32], piece: &Piece)
     requires raw { length raw.old ≡ stack.now.width * stack.now.height }
     requires frame { length frame.old ≡ length raw.old }
     requires piece { IsPiece stack.now piece.now }
     requires bare { piece.now.owner ≡ None }
     ensures painted { (glasses : ℕ → Sight) → Repainted (source_at stack.now) (has_pixel stack.now.width piece.now.rect) (length raw.old) glasses glasses raw.old raw.new }
-    ensures shown { IsCopied (has_pixel stack.now.width piece.now.rect) (length raw.old) raw.new frame.old frame.new }
+    ensures shown { IsCopied (has_pixel stack.now.width piece.now.rect) (length raw.old)
+        raw.new frame.old frame.new }
     ensures count { length raw.new ≡ length raw.old }
     ensures words { All IsWord raw.old → All IsWord raw.new }
 {
@@ -70,8 +72,8 @@ pub fn paint_bare(stack: &Stack, raw: &mut [u32], frame: &mut [u32], piece: &Pie
     bare_rows(raw, frame, &block);
 }
 
-/// Paints a block, in the frame too, by a buffer of `size.0` columns and `size.1` rows. The block's first row would show the
-/// buffer's row `row`.
+/// Paints a block, in the frame too, by a buffer of `size.0` columns and `size.1` rows. The block's
+/// first row would show the buffer's row `row`.
 fn paint_rows<G: Glass>(
     raw: &mut [u32],
     frame: &mut [u32],
@@ -91,7 +93,8 @@ fn paint_rows<G: Glass>(
     ensures painted { (source : ℕ → PixelSource) (sid : ℕ) (others : ℕ → Sight)
         → ((j i : ℕ) → j < block.now.tall → i < block.now.wide → source (row_at block.now j + i) ≡ black_or_word sid (index_at size.0 (reached reach.now i) (among (row +ℤ pos j) size.1)))
         → Repainted source (in_rows block.now block.now.tall) (length raw.old) (with_glass others sid (G.sight glass.old)) (with_glass others sid (G.sight glass.new)) raw.old raw.new }
-    ensures shown { IsCopied (in_rows block.now block.now.tall) (length raw.old) raw.new frame.old frame.new }
+    ensures shown { IsCopied (in_rows block.now block.now.tall) (length raw.old)
+        raw.new frame.old frame.new }
     ensures rest { G.rest glass.new ≡ G.rest glass.old }
 {
     'rows: for j in 0..block.tall {
@@ -109,7 +112,8 @@ fn bare_rows(raw: &mut [u32], frame: &mut [u32], block: &Block)
     ensures painted { (source : ℕ → PixelSource) (glasses : ℕ → Sight)
         → ((j i : ℕ) → j < block.now.tall → i < block.now.wide → source (row_at block.now j + i) ≡ Bare)
         → Repainted source (in_rows block.now block.now.tall) (length raw.old) glasses glasses raw.old raw.new }
-    ensures shown { IsCopied (in_rows block.now block.now.tall) (length raw.old) raw.new frame.old frame.new }
+    ensures shown { IsCopied (in_rows block.now block.now.tall) (length raw.old)
+        raw.new frame.old frame.new }
 {
     'rows: for j in 0..block.tall {
         let at = (block.top + j) * block.width + block.left;

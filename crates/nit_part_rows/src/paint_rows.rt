@@ -49,8 +49,8 @@ fn paint<G: Glass>(
     Ok(())
 }
 
-/// The view moves its buffer by one column: its first column is black, and it shows three columns. The frame gets
-/// the same words, and no other.
+/// The view moves its buffer by one column: its first column is black, and it shows three columns.
+/// The frame gets the same words, and no other.
 #[test]
 fn moved_by_one_column(rt: HostRuntime) -> Result<(), Fail> {
     let alloc = rt.alloc();

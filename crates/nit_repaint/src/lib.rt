@@ -1,8 +1,9 @@
 //! Loading exactly the damage of a screen again.
 //!
-//! A screen has a raw word for each pixel, and a frame of the words that it shows. When the stack of views has changed, or what a session has
-//! drawn, some of these words have to be loaded again through the glasses of the sessions, each once,
-//! and no other. The calls of this crate do that for one kind of change each:
+//! A screen has a raw word for each pixel, and a frame of the words that it shows. When the stack
+//! of views has changed, or what a session has drawn, some of the raw words have to be loaded again
+//! through the glasses of the sessions, each once, and no other. The calls of this crate do that
+//! for one kind of change each:
 //!
 //! - [`paint_changed`]: one view has moved, has another rectangle or offset, or is gone. What it
 //!   owned before or owns now is loaded.
@@ -17,9 +18,10 @@
 //! rectangles with one owner each, and paints these one after the other ([`paint_to_come`]). A view
 //! of the session that calls is painted through the glass that it hands in, all others through the
 //! glasses of the scene. The promise is `Repainted` of nit_paint: exactly the marked pixels were
-//! loaded, each once, and what they hold then. Each row that was loaded is set in the frame at once,
-//! while it is near; so in mode Flat, where a view's pixels show their raw words, the frame is done
-//! too (`IsCopied`). In the other modes [`show_session`] sets what was loaded to what is shown there.
+//! loaded, each once, and what they hold then. Each row that was loaded is set in the frame at
+//! once, while it is near; so in mode Flat, where a view's pixels show their raw words, the frame
+//! is done too (`IsCopied`). In the other modes [`show_session`] sets what was loaded to what is
+//! shown there.
 //!
 //! Nothing is known here of sessions' rights, of the journal or of input. No call takes memory.
 #![tactic(auto)]

@@ -43,8 +43,8 @@ fn show_to_come(cutter: &mut Cutter, look: &Look, raw: &[u32], frame: &mut [u32]
     }
 }
 
-/// Sets the frame to what is shown at each pixel that is wanted of the view at a place, where it is one
-/// of the session.
+/// Sets the frame to what is shown at each pixel that is wanted of the view at a place, where it is
+/// one of the session.
 fn show_seat(
     cutter: &mut Cutter,
     look: &Look,

@@ -22,9 +22,10 @@ pub trait Glass {
         ensures sight { sight self.new ≡ seen (sight self.old) ((i, result) ∷ []) }
         ensures rest { rest self.new ≡ rest self.old };
 
-    /// Loads as many words as the row has, each once, the first one at place `from` and each other one
-    /// at the next place, and sets the row to them. All these places are below the glass's size. Of
-    /// each word holds what [`load`](Glass::load) says, and a log has the loads in this order.
+    /// Loads as many words as the row has, each once, the first one at place `from` and each other
+    /// one at the next place, and sets the row to them. All these places are below the glass's
+    /// size. Of each word holds what [`load`](Glass::load) says, and a log has the loads in this
+    /// order.
     fn load_row(&mut self, from: usize, row: &mut [u32])
         requires places { from + length row.old ≤ (sight self.old).size }
         requires range { from + length row.old < 2 ^ 64 }

@@ -192,8 +192,8 @@ pub(crate) fn show_views(mode: Mode, server: &Server, pixels: &mut Pixels)
     }
 }
 
-/// Shows again, in the modes that draw labels, what views of a session own and what of it shows this
-/// part of its buffer, or all of it, once it was loaded. In mode Flat the frame stays.
+/// Shows again, in the modes that draw labels, what views of a session own and what of it shows
+/// this part of its buffer, or all of it, once it was loaded. In mode Flat the frame stays.
 pub(crate) fn show_part(
     mode: Mode,
     server: &Server,

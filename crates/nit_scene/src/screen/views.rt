@@ -113,8 +113,8 @@ fn stood(server: &Server, v: ViewRef) -> (u32, Rect)
     (stack.place_of(v), view.rect)
 }
 
-/// Loads again what a view owned before or owns now: it stood at this place with this rectangle. The
-/// frame gets the raw words.
+/// Loads again what a view owned before or owns now: it stood at this place with this rectangle.
+/// The frame gets the raw words.
 fn paint_change<G: Glass, C: Glass>(
     server: &Server,
     v: ViewRef,
