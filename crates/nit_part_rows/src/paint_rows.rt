@@ -17,12 +17,10 @@ fn paint<G: Glass>(
     ox: i32,
     oy: i32,
     raw: &mut [u32],
-    frame: &mut [u32],
     glass: &mut G,
 ) -> Result<(), NoMemory>
     requires offset { IsPlace ox × IsPlace oy }
     requires raw { length raw.old ≡ 32 }
-    requires frame { length frame.old ≡ 32 }
     requires words { 8 ≤ (G.sight glass.old).size }
 {
     let mut stack = Stack::new(alloc, 8, 4, 1, 1)?;
@@ -40,37 +38,29 @@ fn paint<G: Glass>(
         rect: viewed,
         owner: Some(ViewRef(0)),
     };
-    paint_view(&stack, raw, frame, &of_view, glass);
+    paint_view(&stack, raw, &of_view, glass);
     let bare = Piece {
         rect: beside,
         owner: None,
     };
-    paint_bare(&stack, raw, frame, &bare);
+    paint_bare(&stack, raw, &bare);
     Ok(())
 }
 
 /// The view moves its buffer by one column: its first column is black, and it shows three columns.
-/// The frame gets the same words, and no other.
 #[test]
 fn moved_by_one_column(rt: HostRuntime) -> Result<(), Fail> {
     let alloc = rt.alloc();
     let words = vec![in alloc; 11, 12, 13, 14, 21, 22, 23, 24]?;
     let mut glass = Plain::new(0, words);
     let mut raw = [7; 32];
-    let mut frame = [9; 32];
-    paint(alloc, 1, 0, &mut raw, &mut frame, &mut glass)?;
+    paint(alloc, 1, 0, &mut raw, &mut glass)?;
     #[rattlefmt::skip]
     let want = [
         7, 7, 7, 7, 7, 32, 32, 32, 7, 0, 11, 12, 13, 32, 32, 32, 7, 0, 21, 22, 23, 32, 32, 32, 7,
         7, 7, 7, 7, 32, 32, 32,
     ];
     assert_eq!(rt; raw, want);
-    #[rattlefmt::skip]
-    let shown = [
-        9, 9, 9, 9, 9, 32, 32, 32, 9, 0, 11, 12, 13, 32, 32, 32, 9, 0, 21, 22, 23, 32, 32, 32, 9,
-        9, 9, 9, 9, 32, 32, 32,
-    ];
-    assert_eq!(rt; frame, shown);
     Ok(())
 }
 
@@ -82,8 +72,7 @@ fn moved_to_the_left_and_up(rt: HostRuntime) -> Result<(), Fail> {
     let words = vec![in alloc; 255, 255, 255, 255, 256, 0, 255, 256]?;
     let mut glass = Inked::new(0, words, ink);
     let mut raw = [7; 32];
-    let mut frame = [9; 32];
-    paint(alloc, -1, -1, &mut raw, &mut frame, &mut glass)?;
+    paint(alloc, -1, -1, &mut raw, &mut glass)?;
     #[rattlefmt::skip]
     let want = [
         7, 7, 7, 7, 7, 32, 32, 32, 7, 0, 255, 256, 0, 32, 32, 32, 7, 0, 0, 0, 0, 32, 32, 32, 7, 7,
@@ -100,8 +89,7 @@ fn not_moved(rt: HostRuntime) -> Result<(), Fail> {
     let words = vec![in alloc; 11, 12, 13, 14, 21, 22, 23, 24]?;
     let mut glass = Plain::new(0, words);
     let mut raw = [7; 32];
-    let mut frame = [9; 32];
-    paint(alloc, 0, 0, &mut raw, &mut frame, &mut glass)?;
+    paint(alloc, 0, 0, &mut raw, &mut glass)?;
     #[rattlefmt::skip]
     let want = [
         7, 7, 7, 7, 7, 32, 32, 32, 7, 11, 12, 13, 14, 32, 32, 32, 7, 21, 22, 23, 24, 32, 32, 32, 7,

@@ -12,7 +12,7 @@ ghost use Rattle.nit_repaint.specs.Glasses.{HoldBuffers, glass_in, glasses_of_ca
 
 use nit_damage::Cutter;
 use nit_paint::laws::pieces_of_owners;
-use nit_paint::{paint_bare, paint_view};
+use nit_paint::{show_bare, show_view};
 use nit_stack::{Piece, Stack, ViewRef};
 use nit_word::Glass;
 
@@ -57,10 +57,10 @@ fn paint_shown<G: Glass, C: Glass>(
     ensures rests { map G.rest glasses.new ≡ map G.rest glasses.old }
 {
     if session == sid {
-        paint_view(stack, raw, frame, piece, own);
+        show_view(stack, raw, frame, piece, own);
     } else {
         let glass = &mut glasses[session as usize];
-        paint_view(stack, raw, frame, piece, glass);
+        show_view(stack, raw, frame, piece, glass);
     }
 }
 
@@ -128,7 +128,7 @@ pub(crate) fn paint_piece<G: Glass, C: Glass>(
 {
     match piece.owner {
         Some(v) => paint_owned(stack, v, piece, raw, frame, glasses, sid, own),
-        None => paint_bare(stack, raw, frame, piece),
+        None => show_bare(stack, raw, frame, piece),
     }
 }
 

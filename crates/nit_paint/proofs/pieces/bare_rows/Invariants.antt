@@ -1,14 +1,11 @@
 use Rattle.std.proofs.Common.{◌≡◌, ℕ, ◌+◌, ◌<◌, length}
 use Rattle.nit_word.specs.Sight.{Sight}
 use Rattle.nit_stack.specs.Sources.{Bare, PixelSource}
-use Rattle.nit_paint.specs.Copied.{IsCopied}
 use Rattle.nit_paint.specs.Painting.{Repainted}
 use Rattle.nit_paint.specs.Runs.{in_rows, row_at}
 use Rattle.nit_paint.proofs.pieces.bare_rows.Given as goal
 
 abbrev pub invariant-rows : goal.invariant-rows
-invariant-rows l = record {
-  painted : (source : ℕ → PixelSource) (glasses : ℕ → Sight) → ((j i : ℕ) → j < l.block.tall → i < l.block.wide → source (row_at l.block j + i) ≡ Bare)
-      → Repainted source (in_rows l.block l.j) (length l.initial.raw) glasses glasses l.initial.raw l.raw;
-  shown : IsCopied (in_rows l.block l.j) (length l.initial.raw) l.raw l.initial.frame l.frame;
-}
+invariant-rows l =
+    (source : ℕ → PixelSource) (glasses : ℕ → Sight) → ((j i : ℕ) → j < l.block.tall → i < l.block.wide → source (row_at l.block j + i) ≡ Bare)
+    → Repainted source (in_rows l.block l.j) (length l.initial.raw) glasses glasses l.initial.raw l.raw

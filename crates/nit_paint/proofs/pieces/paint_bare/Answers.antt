@@ -1,5 +1,5 @@
 use Rattle.nit_paint.specs.Painting.{no_sight}
-use Rattle.nit_paint.proofs.Owned.{bare_told, whole_piece, whole_shown, width_is}
+use Rattle.nit_paint.proofs.Owned.{bare_told, whole_piece, width_is}
 use Rattle.nit_paint.proofs.Repaints.{repainted_words}
 use Rattle.nit_paint.proofs.pieces.paint_bare.Goals as goal
 
@@ -8,13 +8,7 @@ returns-clause-painted c glasses =
     let b = c.new-block.result in
     let is = c.new-block.ensures.rectangle in
     let width = width_is b.width c.size-width.result c.args.stack.now.width c.args.stack.now.height c.new-block.ensures.width c.size-width.ensures.size in
-    whole_piece _ b _ _ _ _ _ _ _ is width (c.bare_rows.ensures.painted _ glasses (bare_told c.args.stack.now c.args.piece.now b is width b.across c.requires.piece c.requires.bare))
-
-pub returns-clause-shown : goal.returns-clause-shown
-returns-clause-shown c =
-    let b = c.new-block.result in
-    let width = width_is b.width c.size-width.result c.args.stack.now.width c.args.stack.now.height c.new-block.ensures.width c.size-width.ensures.size in
-    whole_shown b _ _ _ _ _ _ c.new-block.ensures.rectangle width c.bare_rows.ensures.shown
+    whole_piece _ b _ _ _ _ _ _ _ is width (c.bare_rows.ensures _ glasses (bare_told c.args.stack.now c.args.piece.now b is width b.across c.requires.piece c.requires.bare))
 
 pub returns-clause-words : goal.returns-clause-words
 returns-clause-words c = repainted_words _ _ _ _ _ _ _ c.bare_rows.auto.raw (returns-clause-painted c (λ t. no_sight))

@@ -6,12 +6,11 @@ use mir.Val.{of_z, to_z}
 use Rattle.std.proofs.lemmas.Int.{ints, to_z-of_z}
 use Rattle.nit_stack.specs.Sources.{among, black_or_word, index_at}
 use Rattle.nit_paint.specs.Runs.{reached}
-use Rattle.nit_paint.proofs.Blocks.{no_rows_shown, row_told, rows_end, rows_more, rows_none, rows_shown}
-use Rattle.nit_paint.proofs.Pixels.{row_others}
+use Rattle.nit_paint.proofs.Blocks.{row_told, rows_end, rows_more, rows_none}
 use Rattle.nit_paint.proofs.pieces.paint_rows.Goals as goal
 
 pub rows-init : goal.rows-init
-rows-init g c = record { painted = λ source sid others told. rows_none source c.args.block.now _ _ _; shown = no_rows_shown c.args.block.now _ _ _; size = refl; rest = refl }
+rows-init g c = record { painted = λ source sid others told. rows_none source c.args.block.now _ _ _; size = refl; rest = refl }
 
 pub rows-preserved : goal.rows-preserved
 rows-preserved g c =
@@ -22,8 +21,6 @@ rows-preserved g c =
           let start = c.row_start-start.ensures.start ∙ ap (λ z. option_map (λ y. y * c.args.size.0) (among z c.args.size.1)) (omega (arith, ints)) in
           rows_more source c.args.block.now c.rows.j _ _ _ _ _ _ _ _ _ _ (omega arith) (omega arith) refl c.requires.long c.rows.auto.raw (i.painted source sid others told)
           (e.painted source sid others (row_told source _ sid c.args.size.0 c.args.block.now.wide c.args.reach.now _ _ start c.requires.long (λ k l. told c.rows.j k c.rows-test.true l)));
-      shown = rows_shown c.args.block.now c.rows.j _ _ _ _ _ _ _ _ _ (omega arith) (omega arith) refl c.requires.long (c.paint_row.auto.raw ∙ c.rows.auto.raw)
-          (row_others _ _ c.args.reach.now _ _ _ _ _ e.painted) i.shown c.show_run.ensures;
       size = e.size ∙ i.size;
       rest = e.rest ∙ i.rest;
     }

@@ -2,7 +2,6 @@ use Rattle.std.proofs.Common.{◌≡◌, ℕ, ◌+◌, ◌<◌, length}
 use Rattle.std.specs.Prelude.{pos, ◌+ℤ◌}
 use Rattle.nit_word.specs.Sight.{Sight}
 use Rattle.nit_stack.specs.Sources.{PixelSource, among, black_or_word, index_at}
-use Rattle.nit_paint.specs.Copied.{IsCopied}
 use Rattle.nit_paint.specs.Painting.{Repainted, with_glass}
 use Rattle.nit_paint.specs.Runs.{in_rows, reached, row_at}
 use Rattle.nit_paint.proofs.pieces.paint_rows.Given as goal
@@ -12,7 +11,6 @@ invariant-rows g l = record {
   painted : (source : ℕ → PixelSource) (sid : ℕ) (others : ℕ → Sight)
       → ((j i : ℕ) → j < l.block.tall → i < l.block.wide → source (row_at l.block j + i) ≡ black_or_word sid (index_at l.size.0 (reached l.reach i) (among (l.fn.row +ℤ pos j) l.size.1)))
       → Repainted source (in_rows l.block l.j) (length l.initial.raw) (with_glass others sid (g.G.Glass.sight l.initial.glass)) (with_glass others sid (g.G.Glass.sight l.glass)) l.initial.raw l.raw;
-  shown : IsCopied (in_rows l.block l.j) (length l.initial.raw) l.raw l.initial.frame l.frame;
   size : (g.G.Glass.sight l.glass).size ≡ (g.G.Glass.sight l.initial.glass).size;
   rest : g.G.Glass.rest l.glass ≡ g.G.Glass.rest l.initial.glass;
 }

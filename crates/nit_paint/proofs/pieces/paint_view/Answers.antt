@@ -3,7 +3,7 @@ use Rattle.std.proofs.lemmas.Int.{ints}
 use Rattle.nit_paint.specs.Painting.{no_sight}
 use Rattle.nit_paint.specs.Pieces.{session_shown}
 use Rattle.nit_paint.proofs.Glasses.{own_seen_by}
-use Rattle.nit_paint.proofs.Owned.{rows_fit, seat_stands, view_told, whole_piece, whole_shown, width_is}
+use Rattle.nit_paint.proofs.Owned.{rows_fit, seat_stands, view_told, whole_piece, width_is}
 use Rattle.nit_paint.proofs.Repaints.{repainted_words}
 use Rattle.nit_paint.proofs.pieces.paint_view.Goals as goal
 
@@ -41,12 +41,6 @@ returns-clause-painted g c others =
     (c.paint_rows.ensures.painted _ _ others
     (view_told c.args.stack.now c.args.piece.now b is width b.across c.requires.piece c.in-Some.v c.view-view.result _ _ _ _ c.new-reach.result c.in-Some.is c.view-view.ensures.standing c.view-view.ensures.value
     c.buffer-w.ensures.size (omega (arith, ints)) (omega (arith, ints)) c.new-reach.ensures.places))
-
-pub returns-clause-shown : goal.returns-clause-shown
-returns-clause-shown g c =
-    let b = c.new-block.result in
-    let width = width_is b.width c.size-width.result c.args.stack.now.width c.args.stack.now.height c.new-block.ensures.width c.size-width.ensures.size in
-    whole_shown b _ _ _ _ _ _ c.new-block.ensures.rectangle width c.paint_rows.ensures.shown
 
 pub returns-clause-kept : goal.returns-clause-kept
 returns-clause-kept g c =

@@ -1,0 +1,36 @@
+use Rattle.std.proofs.Common.{◌≡◌, ◌∙◌, ◌*◌, ap, arith, refl, sym}
+use Rattle.std.specs.Prelude.{pos, ◌+ℤ◌}
+use Rattle.std.specs.Option.{option_map}
+use mir.Syntax.{w32}
+use mir.Val.{of_z, to_z}
+use Rattle.std.proofs.lemmas.Int.{ints, to_z-of_z}
+use Rattle.nit_stack.specs.Sources.{among, black_or_word, index_at}
+use Rattle.nit_paint.specs.Runs.{reached}
+use Rattle.nit_paint.proofs.Blocks.{no_rows_shown, row_told, rows_end, rows_more, rows_none, rows_shown}
+use Rattle.nit_paint.proofs.Pixels.{row_others}
+use Rattle.nit_paint.proofs.shown.show_rows.Goals as goal
+
+pub rows-init : goal.rows-init
+rows-init g c = record { painted = λ source sid others told. rows_none source c.args.block.now _ _ _; shown = no_rows_shown c.args.block.now _ _ _; size = refl; rest = refl }
+
+pub rows-preserved : goal.rows-preserved
+rows-preserved g c =
+    let i = c.rows.invariant in
+    let e = c.paint_row.ensures in
+    record {
+      painted = λ source sid others told.
+          let start = c.row_start-start.ensures.start ∙ ap (λ z. option_map (λ y. y * c.args.size.0) (among z c.args.size.1)) (omega (arith, ints)) in
+          rows_more source c.args.block.now c.rows.j _ _ _ _ _ _ _ _ _ _ (omega arith) (omega arith) refl c.requires.long c.rows.auto.raw (i.painted source sid others told)
+          (e.painted source sid others (row_told source _ sid c.args.size.0 c.args.block.now.wide c.args.reach.now _ _ start c.requires.long (λ k l. told c.rows.j k c.rows-test.true l)));
+      shown = rows_shown c.args.block.now c.rows.j _ _ _ _ _ _ _ _ _ (omega arith) (omega arith) refl c.requires.long (c.paint_row.auto.raw ∙ c.rows.auto.raw)
+          (row_others _ _ c.args.reach.now _ _ _ _ _ e.painted) i.shown c.show_run.ensures;
+      size = e.size ∙ i.size;
+      rest = e.rest ∙ i.rest;
+    }
+
+pub returns-clause-painted : goal.returns-clause-painted
+returns-clause-painted g c source sid others told =
+    let same : c.args.row ≡ to_z w32 (of_z w32 c.args.row) = sym (to_z-of_z w32 c.args.row c.ranges.row) in
+    rows_end source c.args.block.now _ _ _ _ _ _ _ (omega arith)
+    (c.rows.invariant.painted source sid others
+    (λ j i l m. told j i l m ∙ ap (λ z. black_or_word sid (index_at c.args.size.0 (reached c.args.reach.now i) (among (z +ℤ pos j) c.args.size.1))) same))

@@ -1,0 +1,58 @@
+use Rattle.std.proofs.Common.{arith}
+use Rattle.std.proofs.lemmas.Int.{ints}
+use Rattle.nit_paint.specs.Painting.{no_sight}
+use Rattle.nit_paint.specs.Pieces.{session_shown}
+use Rattle.nit_paint.proofs.Glasses.{own_seen_by}
+use Rattle.nit_paint.proofs.Owned.{rows_fit, seat_stands, view_told, whole_piece, whole_shown, width_is}
+use Rattle.nit_paint.proofs.Repaints.{repainted_words}
+use Rattle.nit_paint.proofs.shown.show_view.Goals as goal
+
+pub buffer-w-requires : goal.buffer-w-requires
+buffer-w-requires g c =
+    let s = c.args.stack.now in
+    let seat = seat_stands s c.in-Some.v c.view-view.result c.view-view.ensures.standing c.view-view.ensures.value in
+    seat.session
+
+pub buffer_place-column-requires-clause-offset : goal.buffer_place-column-requires-clause-offset
+buffer_place-column-requires-clause-offset g c =
+    let seat = seat_stands c.args.stack.now c.in-Some.v c.view-view.result c.view-view.ensures.standing c.view-view.ensures.value in
+    let column = seat.column in
+    (omega (arith, ints), omega (arith, ints))
+
+pub buffer_place-row-requires-clause-offset : goal.buffer_place-row-requires-clause-offset
+buffer_place-row-requires-clause-offset g c =
+    let seat = seat_stands c.args.stack.now c.in-Some.v c.view-view.result c.view-view.ensures.standing c.view-view.ensures.value in
+    let row = seat.row in
+    (omega (arith, ints), omega (arith, ints))
+
+pub show_rows-requires-clause-pixels : goal.show_rows-requires-clause-pixels
+show_rows-requires-clause-pixels g c =
+    let b = c.new-block.result in
+    let width = width_is b.width c.size-width.result c.args.stack.now.width c.args.stack.now.height c.new-block.ensures.width c.size-width.ensures.size in
+    let fit = rows_fit c.args.stack.now c.args.piece.now b c.new-block.ensures.rectangle width b.across c.requires.piece in
+    rw c.requires.raw fit
+
+pub returns-clause-painted : goal.returns-clause-painted
+returns-clause-painted g c others =
+    let b = c.new-block.result in
+    let is = c.new-block.ensures.rectangle in
+    let width = width_is b.width c.size-width.result c.args.stack.now.width c.args.stack.now.height c.new-block.ensures.width c.size-width.ensures.size in
+    whole_piece _ b _ _ _ _ _ _ _ is width
+    (c.show_rows.ensures.painted _ _ others
+    (view_told c.args.stack.now c.args.piece.now b is width b.across c.requires.piece c.in-Some.v c.view-view.result _ _ _ _ c.new-reach.result c.in-Some.is c.view-view.ensures.standing c.view-view.ensures.value
+    c.buffer-w.ensures.size (omega (arith, ints)) (omega (arith, ints)) c.new-reach.ensures.places))
+
+pub returns-clause-shown : goal.returns-clause-shown
+returns-clause-shown g c =
+    let b = c.new-block.result in
+    let width = width_is b.width c.size-width.result c.args.stack.now.width c.args.stack.now.height c.new-block.ensures.width c.size-width.ensures.size in
+    whole_shown b _ _ _ _ _ _ c.new-block.ensures.rectangle width c.show_rows.ensures.shown
+
+pub returns-clause-kept : goal.returns-clause-kept
+returns-clause-kept g c =
+    let r = returns-clause-painted g c (λ t. no_sight) in
+    let sid = session_shown c.args.stack.now c.args.piece.now in
+    (r.loads sid, own_seen_by (λ t. no_sight) sid _ _ r.loads r.sights)
+
+pub returns-clause-words : goal.returns-clause-words
+returns-clause-words g c = repainted_words _ _ _ _ _ _ _ c.show_rows.auto.raw (returns-clause-painted g c (λ t. no_sight))

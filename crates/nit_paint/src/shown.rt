@@ -1,0 +1,123 @@
+//! Pieces of the screen and of the frame that shows it, row by row.
+
+ghost use Rattle.std.specs.Prelude.{◌≡◌, ℕ, ◌+◌, ◌*◌, ◌<◌, ◌≤◌, All, List, length, pos, negsuc, ◌+ℤ◌, ◌≤ℤ◌, IsSomeAnd, None, true};
+ghost use Rattle.nit_word.specs.Inks.{IsWord};
+ghost use Rattle.nit_word.specs.Sight.{Sight, seen};
+ghost use Rattle.nit_stack.specs.Sources.{Bare, PixelSource, among, black_or_word, index_at};
+ghost use Rattle.nit_stack.specs.Standing.{has};
+ghost use Rattle.nit_paint.specs.Copied.{IsCopied};
+ghost use Rattle.nit_paint.specs.Painting.{Repainted, with_glass};
+ghost use Rattle.nit_paint.specs.Pieces.{IsPiece, has_pixel, session_shown, source_at, words_shown};
+ghost use Rattle.nit_paint.specs.Runs.{in_rows, long, reached, row_at};
+
+use crate::block::Block;
+use crate::reach::{Reach, buffer_place, row_start};
+use crate::runs::{fill_run, paint_row, show_run};
+use nit_stack::{Piece, Stack};
+use nit_word::{BARE, Glass};
+
+/// Paints a piece of the screen that a view owns, by the glass of the view's session. A pixel to which the
+/// session's buffer does not reach gets 0. Any other is loaded once, at the index that it shows, and gets what the
+/// glass gives there: a word below 2^24 that is 0 or in its ink. Nothing else is loaded, no other pixel changes, and
+/// of the glass nothing but its log. The frame gets the same words at the same pixels. `raw` and
+/// `frame` have one word for each pixel of the screen, row by row from the top.
+pub fn show_view<G: Glass>(
+    stack: &Stack,
+    raw: &mut [u32],
+    frame: &mut [u32],
+    piece: &Piece,
+    glass: &mut G,
+)
+    requires raw { length raw.old ≡ stack.now.width * stack.now.height }
+    requires frame { length frame.old ≡ length raw.old }
+    requires piece { IsPiece stack.now piece.now }
+    requires view { IsSomeAnd piece.now.owner (λ v. has v.0 stack.now.views ≡ true) }
+    requires words { words_shown stack.now piece.now ≤ (G.sight glass.old).size }
+    ensures painted { (others : ℕ → Sight) → Repainted (source_at stack.now) (has_pixel stack.now.width piece.now.rect) (length raw.old)
+        (with_glass others (session_shown stack.now piece.now) (G.sight glass.old)) (with_glass others (session_shown stack.now piece.now) (G.sight glass.new)) raw.old raw.new }
+    ensures shown { IsCopied (has_pixel stack.now.width piece.now.rect) (length raw.old)
+        raw.new frame.old frame.new }
+    ensures kept { (loads : List (ℕ × ℕ)) × (G.sight glass.new ≡ seen (G.sight glass.old) loads) }
+    ensures rest { G.rest glass.new ≡ G.rest glass.old }
+    ensures count { length raw.new ≡ length raw.old }
+    ensures words { All IsWord raw.old → All IsWord raw.new }
+{
+    let Some(v) = piece.owner else { unreachable!() };
+    let view = stack.view(v);
+    let (w, h) = stack.buffer(view.sid);
+    let (width, _height) = stack.size();
+    let block = Block::new(&piece.rect, width);
+    let column = buffer_place(piece.rect.x(), view.rect.x(), view.ox);
+    let row = buffer_place(piece.rect.y(), view.rect.y(), view.oy);
+    let reach = Reach::new(column, block.wide, w);
+    show_rows(raw, frame, &block, &reach, row, (w, h), glass);
+}
+
+/// Paints a piece of the screen that no view owns: each pixel gets 0x000020, the word of the bare
+/// screen, and the frame gets it too. Nothing is loaded, and no other pixel changes. `raw` and
+/// `frame` have one word for each pixel of the screen, row by row from the top.
+pub fn show_bare(stack: &Stack, raw: &mut [u32], frame: &mut [u32], piece: &Piece)
+    requires raw { length raw.old ≡ stack.now.width * stack.now.height }
+    requires frame { length frame.old ≡ length raw.old }
+    requires piece { IsPiece stack.now piece.now }
+    requires bare { piece.now.owner ≡ None }
+    ensures painted { (glasses : ℕ → Sight) → Repainted (source_at stack.now) (has_pixel stack.now.width piece.now.rect) (length raw.old) glasses glasses raw.old raw.new }
+    ensures shown { IsCopied (has_pixel stack.now.width piece.now.rect) (length raw.old)
+        raw.new frame.old frame.new }
+    ensures count { length raw.new ≡ length raw.old }
+    ensures words { All IsWord raw.old → All IsWord raw.new }
+{
+    let (width, _height) = stack.size();
+    let block = Block::new(&piece.rect, width);
+    show_bare_rows(raw, frame, &block);
+}
+
+/// Paints a block, in the frame too, by a buffer of `size.0` columns and `size.1` rows. The block's
+/// first row would show the buffer's row `row`.
+fn show_rows<G: Glass>(
+    raw: &mut [u32],
+    frame: &mut [u32],
+    block: &Block,
+    reach: &Reach,
+    row: i32,
+    size: (u32, u32),
+    glass: &mut G,
+)
+    requires pixels { block.now.width * (block.now.top + block.now.tall) ≤ length raw.old }
+    requires frame { length frame.old ≡ length raw.old }
+    requires row { (negsuc 99999 ≤ℤ row) × (row ≤ℤ pos 99999) }
+    requires size { (size.0 ≤ 4096) × (size.1 ≤ 4096) }
+    requires long { long reach.now ≡ block.now.wide }
+    requires columns { reach.now.from + reach.now.words ≤ size.0 }
+    requires words { size.0 * size.1 ≤ (G.sight glass.old).size }
+    ensures painted { (source : ℕ → PixelSource) (sid : ℕ) (others : ℕ → Sight)
+        → ((j i : ℕ) → j < block.now.tall → i < block.now.wide → source (row_at block.now j + i) ≡ black_or_word sid (index_at size.0 (reached reach.now i) (among (row +ℤ pos j) size.1)))
+        → Repainted source (in_rows block.now block.now.tall) (length raw.old) (with_glass others sid (G.sight glass.old)) (with_glass others sid (G.sight glass.new)) raw.old raw.new }
+    ensures shown { IsCopied (in_rows block.now block.now.tall) (length raw.old)
+        raw.new frame.old frame.new }
+    ensures rest { G.rest glass.new ≡ G.rest glass.old }
+{
+    'rows: for j in 0..block.tall {
+        let at = (block.top + j) * block.width + block.left;
+        let start = row_start(row + j as i32, size.0, size.1);
+        paint_row(raw, at as usize, reach, start, glass);
+        show_run(raw, frame, at as usize, block.wide);
+    }
+}
+
+/// Gives each pixel of a block, in the frame too, the word of the bare screen.
+fn show_bare_rows(raw: &mut [u32], frame: &mut [u32], block: &Block)
+    requires pixels { block.now.width * (block.now.top + block.now.tall) ≤ length raw.old }
+    requires frame { length frame.old ≡ length raw.old }
+    ensures painted { (source : ℕ → PixelSource) (glasses : ℕ → Sight)
+        → ((j i : ℕ) → j < block.now.tall → i < block.now.wide → source (row_at block.now j + i) ≡ Bare)
+        → Repainted source (in_rows block.now block.now.tall) (length raw.old) glasses glasses raw.old raw.new }
+    ensures shown { IsCopied (in_rows block.now block.now.tall) (length raw.old)
+        raw.new frame.old frame.new }
+{
+    'rows: for j in 0..block.tall {
+        let at = (block.top + j) * block.width + block.left;
+        fill_run(raw, at as usize, block.wide, BARE);
+        show_run(raw, frame, at as usize, block.wide);
+    }
+}
