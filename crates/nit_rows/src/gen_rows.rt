@@ -1,6 +1,7 @@
 //! Generated runs. Whatever the number, and whatever the threads do, they say the same line.
 
 use crate::bench::{assert_asked, assert_names, assert_said, command, store};
+use crate::sessions::assert_alone;
 use nit_store::MemoryStore;
 use std::alloc::{AllocError, Global};
 use std::process::Abort;
@@ -41,7 +42,8 @@ fn empty_store(rt: &impl Abort, alloc: Global, failing: &[u64]) -> Result<Memory
     store(rt, alloc, Vec::new(alloc), failing)
 }
 
-/// Runs of the least and the greatest number put 21 files each, and say the same.
+/// Runs of the least and the greatest number put 21 files each, and say the same. The replies of each client are
+/// its own.
 #[test]
 fn generated_runs(rt: HostRuntime) -> Result<(), Fail> {
     let alloc = rt.alloc();
@@ -51,6 +53,7 @@ fn generated_runs(rt: HostRuntime) -> Result<(), Fail> {
         assert_said(&rt, &store, LINE);
         assert_eq!(rt; done.status, 0, "at {number:?}");
         assert_eq!(rt; done.journal.len(), 12260, "at {number:?}");
+        assert_alone(&rt, alloc, &done.journal, 8)?;
         assert_names(&rt, &store, &NAMES);
         assert_asked(&rt, &store, &NAMES);
     }

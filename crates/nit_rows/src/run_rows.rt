@@ -4,13 +4,17 @@ use crate::bench::{
     assert_asked, assert_bytes, assert_names, assert_said, assert_shown, bytes_of, command, files,
     run_at, store,
 };
+use crate::sessions::assert_alone;
 use crate::two_rows::{
     A, B, CONFIG, EVENTS, FILES, FINAL, INPUT, JOURNAL, NAMES, SHOT, SUMMARY, journal,
 };
 use nit_actor::{Gate, Open};
 use std::alloc::{AllocError, Global};
+use std::process::Abort;
+use std::sync::Wait;
 use std::sync::atomic::{AtomicBool, Ordering};
 use std::test::Fail;
+use std::thread::Threads;
 
 /// The words that ask for the run of the two clients.
 const RUN_TWO: [&str; 2] = ["run", "two.toml"];
@@ -233,11 +237,17 @@ fn is_stormy(bytes: &[u8]) -> bool {
     })
 }
 
-/// One client paints the whole screen over and over, another one calls without end, and the user takes shots. What is
-/// fixed is the line, the colours of the shots, and the last picture.
+/// One client paints the whole screen over and over, another one calls without end, and the user takes shots, twenty
+/// times. What is fixed is the line, each client's replies, the colours of the shots, and the last picture.
 #[test]
-fn storm(rt: HostRuntime) -> Result<(), Fail> {
-    let alloc = rt.alloc();
+fn storms(rt: HostRuntime) -> Result<(), Fail> {
+    for _round in 0..20 {
+        storm(&rt, rt.alloc())?;
+    }
+    Ok(())
+}
+
+fn storm<R: Abort + Threads + Wait + Sync>(rt: &R, alloc: Global) -> Result<(), Fail> {
     let config = "[screen]\nwidth = 64\nheight = 48\n\n[input]\nscript = \"storm.in\"\n\n\
                   [[client]]\nlabel = \"a\"\ndonation = 65536\nscript = \"a.nit\"\n\n\
                   [[client]]\nlabel = \"b\"\ndonation = 65536\nscript = \"b.nit\"\n";
@@ -258,10 +268,11 @@ fn storm(rt: HostRuntime) -> Result<(), Fail> {
         ("b.nit", b.as_str()),
         ("storm.in", input.as_str()),
     ];
-    let mut store = store(&rt, alloc, files(alloc, &named)?, &[])?;
-    let done = command(&rt, alloc, &["run", "storm.toml"], &mut store)?;
-    assert_said(&rt, &store, "nitpicker: clients 2 entries 2027 frames 21\n");
+    let mut store = store(rt, alloc, files(alloc, &named)?, &[])?;
+    let done = command(rt, alloc, &["run", "storm.toml"], &mut store)?;
+    assert_said(rt, &store, "nitpicker: clients 2 entries 2027 frames 21\n");
     assert_eq!(rt; done.status, 0);
+    assert_alone(rt, alloc, &done.journal, 2)?;
     for number in 1..21 {
         let name = format!(in alloc; "shot-{number}.ppm")?;
         let shot = bytes_of(&store, name.as_str()).ok_or("no shot")?;
