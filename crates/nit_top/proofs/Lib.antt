@@ -8,6 +8,7 @@ pub mod GeneratedRuns
 pub mod EntryCounts
 pub mod Judging
 pub mod SaidLines
+pub mod EndCodes
 pub mod Causes
 pub mod Puts
 pub mod Pictures

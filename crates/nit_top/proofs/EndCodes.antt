@@ -1,0 +1,86 @@
+-- The codes of the ways that a command ends, and what the counts of faults say of them.
+use Rattle.std.proofs.Common.{◌≡◌, ℕ, ◌≤◌, [], ◌∷◌, refl, sym, subst, ◌∙◌, arith, inl, inr, ◌⊎◌}
+use Rattle.std.specs.Prelude.{IsTrue, ◌==◌}
+use Rattle.std.specs.List.{list_any}
+use Rattle.nit_store.specs.Shown.{Shown, Rose}
+use Rattle.nit_top.specs.declared.finish.End.{End}
+use Rattle.nit_top.specs.declared.finish.End.TheVariants as ends
+use Rattle.nit_top.specs.declared.finish.Fault.{Fault}
+use Rattle.nit_top.specs.declared.finish.Fault.TheVariants as fault
+use Rattle.nit_top.specs.Judged.{fault_code}
+use Rattle.nit_top.specs.Answer.{Counts, code_of, IsEarly}
+
+-- ---- codes
+
+-- a refusal has one of two codes
+pub fault_codes : (f : Fault) → (fault_code f ≡ 5) ⊎ (fault_code f ≡ 6)
+fault_codes (fault.BadConfig e) = inl refl
+fault_codes fault.LongConfig = inl refl
+fault_codes (fault.BadLine n) = inr refl
+fault_codes fault.TooLong = inr refl
+fault_codes fault.PhasesDiffer = inr refl
+
+pub not_fault : (f : Fault) (n : ℕ) → fault_code f ≡ n → (n ≡ 5 → ⊥) → (n ≡ 6 → ⊥) → ⊥
+not_fault f n e five six = elim (fault_codes f) [ inl x ↦ five (sym e ∙ x) | inr x ↦ six (sym e ∙ x) ]
+
+abbrev pub Known : ℕ → Type 0
+Known n = IsTrue (list_any (λ s. s == n) (0 ∷ 2 ∷ 3 ∷ 4 ∷ 5 ∷ 6 ∷ 7 ∷ []))
+
+pub known_fault : (f : Fault) → Known (fault_code f)
+known_fault f = elim (fault_codes f) [ inl x ↦ subst Known (sym x) refl | inr x ↦ subst Known (sym x) refl ]
+
+pub known_code : (e : End) → Known (code_of e)
+known_code ends.Usage = refl
+known_code ends.ReadFault = refl
+known_code (ends.Refused f) = known_fault f
+known_code ends.WriteFault = refl
+known_code ends.NoMemory = refl
+known_code ends.Whole = refl
+
+pub early_not : (n m : ℕ) → IsEarly n → (IsEarly m → ⊥) → n ≡ m → ⊥
+early_not n m early not e = not (subst IsEarly e early)
+
+pub not_early_0 : IsEarly 0 → ⊥
+not_early_0 h = cc
+
+pub not_early_4 : IsEarly 4 → ⊥
+not_early_4 h = cc
+
+pub not_early_7 : IsEarly 7 → ⊥
+not_early_7 h = cc
+
+-- ---- the counts
+
+pub reads_by : (old mid : Shown) (e : End) → Counts old mid e → ((code_of e ≡ 3) × Rose old.read_faults mid.read_faults) ⊎ (mid.read_faults ≡ old.read_faults)
+reads_by old mid ends.Usage h = inr h.0
+reads_by old mid ends.ReadFault h = inl (refl, h.0)
+reads_by old mid (ends.Refused f) h = inr h.0
+reads_by old mid ends.WriteFault h = inr h.0
+reads_by old mid ends.NoMemory h = inr h.0
+reads_by old mid ends.Whole h = inr h.0
+
+pub read_rose : (old mid : Shown) (e : End) → Counts old mid e → code_of e ≡ 3 → Rose old.read_faults mid.read_faults
+read_rose old mid ends.ReadFault h c = h.0
+read_rose old mid (ends.Refused f) h c = absurd (not_fault f 3 c (λ x. absurd (omega arith)) (λ x. absurd (omega arith)))
+read_rose old mid e h c = absurd (omega arith)
+
+pub writes_by : (old mid : Shown) (e : End) → Counts old mid e → ((code_of e ≡ 4) × Rose old.write_faults mid.write_faults) ⊎ (mid.write_faults ≡ old.write_faults)
+writes_by old mid ends.Usage h = inr h.1
+writes_by old mid ends.ReadFault h = inr h.1
+writes_by old mid (ends.Refused f) h = inr h.1
+writes_by old mid ends.WriteFault h = inl (refl, h.1)
+writes_by old mid ends.NoMemory h = inr h.1
+writes_by old mid ends.Whole h = inr h.1
+
+pub write_rose : (old mid : Shown) (e : End) → Counts old mid e → code_of e ≡ 4 → Rose old.write_faults mid.write_faults
+write_rose old mid ends.WriteFault h c = h.1
+write_rose old mid (ends.Refused f) h c = absurd (not_fault f 4 c (λ x. absurd (omega arith)) (λ x. absurd (omega arith)))
+write_rose old mid e h c = absurd (omega arith)
+
+pub writes_later : (old mid : Shown) (e : End) → Counts old mid e → old.write_faults ≤ mid.write_faults
+writes_later old mid ends.WriteFault h = h.2
+writes_later old mid ends.Usage h = let same = h.1 in omega arith
+writes_later old mid ends.ReadFault h = let same = h.1 in omega arith
+writes_later old mid (ends.Refused f) h = let same = h.1 in omega arith
+writes_later old mid ends.NoMemory h = let same = h.1 in omega arith
+writes_later old mid ends.Whole h = let same = h.1 in omega arith
