@@ -308,8 +308,8 @@ def some_part(rng, config):
 
 
 def break_kind(rng, config):
-    part = some_part(rng, config)
-    key = rng.choice([key for key in part if key != "script"] or ["script"])
+    parts = [config["screen"], config["input"], *config["client"]]
+    part, key = rng.choice([(part, key) for part in parts for key in part])
     now = part[key]
     part[key] = rng.choice([other for other in ("8", 8, True, 0.5, [8], ["click"])
                             if type(other) is not type(now)])
