@@ -78,7 +78,7 @@ class Client:
         word = rng.choices(
             ["view", "place", "fill", "check", "title", "front", "back", "above", "offset",
              "refresh", "take", "destroy", "buffer", "upgrade", "close"],
-            [8, 14, 10, 7, 6, 7, 6, 6, 5, 7, 12, 2, 3, 3, 0.1])[0]
+            [8, 14, 10, 7, 6, 7, 6, 6, 5, 7, 12, 2, 3, 3, 0.3])[0]
         if word == "view":
             self.views += 1
         if word in ("view", "take", "close"):
@@ -138,7 +138,8 @@ class User:
 
 
 def pick_donation(rng):
-    return rng.choice([256, 1000, rng.randint(256, 20000)] + [20000, 65536, 65536, 262144] * 2)
+    small = rng.choice([256, 511, 512, 767, 1000])
+    return rng.choice([small, rng.randint(256, 20000)] + [20000, 65536, 65536, 262144] * 2)
 
 
 def pick_label(rng, taken):

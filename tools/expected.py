@@ -50,12 +50,27 @@ def file_of(case, name):
     return data
 
 
+def table_of(text):
+    """The table of a TOML text. The crate `toml` also reads an inline table over several lines."""
+    try:
+        return tomllib.loads(text)
+    except tomllib.TOMLDecodeError:
+        return tomllib.loads(re.sub(r"\{[^{}]*\}", in_one_line, text))
+
+
+def in_one_line(match):
+    """An inline table without its line feeds, but as it is where one of them parts a string."""
+    lines = match[0].split("\n")
+    parted = any(line.count('"') % 2 or line.count("'") % 2 for line in lines)
+    return match[0] if parted else " ".join(lines)
+
+
 def config_of(case, name):
     data = file_of(case, name)
     if len(data) > model.MOST_BYTES:
         raise Refused(5, f"{name}: bad configuration: too long")
     try:
-        table = tomllib.loads(data.decode())
+        table = table_of(data.decode())
         kind = model.refusal(table)
     except (tomllib.TOMLDecodeError, UnicodeDecodeError):
         kind = "syntax"
