@@ -1,0 +1,2 @@
+view
+title 1 =wwwwwwwwwwwwwwwwwwwwwwwwwwwwwwwwwwwwwwwww

@@ -1,0 +1,2 @@
+view
+fill 0 0 4 2 ff0000
