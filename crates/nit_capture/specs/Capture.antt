@@ -23,7 +23,8 @@ pub record IsCapture (c : CaptureModel) : Type 0 where
 
 -- a capture of these numbers and this last picture
 abbrev pub capture_of : ℕ → ℕ → Rectangle → List ℕ → CaptureModel
-capture_of width height r before = record { width = width; height = height; rect = r; before = before }
+capture_of width height r before =
+    record { width = width; height = height; rect = r; before = before }
 
 -- a capture that has no picture yet
 abbrev pub begun : ℕ → ℕ → Rectangle → CaptureModel

@@ -20,11 +20,14 @@ cut_row_place width r row = (nat_abs r.y + row) * width + nat_abs r.x
 
 -- the part of a screen's picture inside a rectangle on it
 abbrev pub cut : ℕ → Rectangle → List ℕ → List ℕ
-cut width r frame = map (λ k. slice_index frame (cut_place width r k)) (range_with_len 0 (r.w * r.h))
+cut width r frame =
+    map (λ k. slice_index frame (cut_place width r k)) (range_with_len 0 (r.w * r.h))
 
 -- two pictures of a screen have the same word at each pixel that the rectangle covers
 abbrev pub AgreeInside : ℕ → Rectangle → List ℕ → List ℕ → Type 0
-AgreeInside width r a b = (x y : ℕ) → IsTrue (covers r (record { x = pos x; y = pos y })) → slice_index a (y * width + x) ≡ slice_index b (y * width + x)
+AgreeInside width r a b =
+    (x y : ℕ) → IsTrue (covers r (record { x = pos x; y = pos y }))
+    → slice_index a (y * width + x) ≡ slice_index b (y * width + x)
 
 -- two lists of pictures of a screen agree inside the rectangle, picture by picture
 abbrev pub AllAgree : ℕ → Rectangle → List (List ℕ) → List (List ℕ) → Type 0
@@ -43,11 +46,13 @@ pub record Shows (width height : ℕ) (bytes frame : List ℕ) : Type 0 where
 
 -- the word of the three bytes from this place on
 unfoldable pub pixel_at : List ℕ → ℕ → ℕ
-pixel_at bytes i = word_of (slice_index bytes i) (slice_index bytes (i + 1)) (slice_index bytes (i + 2))
+pixel_at bytes i =
+    word_of (slice_index bytes i) (slice_index bytes (i + 1)) (slice_index bytes (i + 2))
 
 -- pixel k of a rectangle, in the picture of the screen that is the last `3 * (width * height)` bytes
 abbrev pub cut_pixel : ℕ → ℕ → Rectangle → List ℕ → ℕ → ℕ
-cut_pixel width height r bytes k = pixel_at bytes (length bytes - 3 * (width * height) + 3 * cut_place width r k)
+cut_pixel width height r bytes k =
+    pixel_at bytes (length bytes - 3 * (width * height) + 3 * cut_place width r k)
 
 -- the part of that picture inside the rectangle
 unfoldable pub cut_bytes : ℕ → ℕ → Rectangle → List ℕ → List ℕ

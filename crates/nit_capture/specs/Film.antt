@@ -18,7 +18,8 @@ channels word = red word ∷ green word ∷ blue word ∷ []
 -- its word, and else is a run of its own.
 unfoldable pub joined : ℕ → List (ℕ × ℕ) → List (ℕ × ℕ)
 joined word [] = (0, word) ∷ []
-joined word (run ∷ runs) = if run.1 == word then (run.0 + 1, word) ∷ runs else (0, word) ∷ run ∷ runs
+joined word (run ∷ runs) =
+    if run.1 == word then (run.0 + 1, word) ∷ runs else (0, word) ∷ run ∷ runs
 
 -- the runs of pixels, each as long as equal pixels last
 unfoldable pub runs : List ℕ → List (ℕ × ℕ)
@@ -41,7 +42,9 @@ changed w h before now = filter (differs w h before now) (range_with_len 0 (tile
 
 -- the record of a picture behind another one: 1, how many tiles differ, and these tiles
 unfoldable pub record_of : ℕ → ℕ → List ℕ → List ℕ → List ℕ
-record_of w h before now = 1 ∷ two_bytes (length (changed w h before now)) ++ flat_map (tile_bytes w h now) (changed w h before now)
+record_of w h before now =
+    1 ∷ two_bytes (length (changed w h before now))
+    ++ flat_map (tile_bytes w h now) (changed w h before now)
 
 -- the records of pictures, each behind the one before it
 abbrev pub records : ℕ → ℕ → List ℕ → List (List ℕ) → List ℕ

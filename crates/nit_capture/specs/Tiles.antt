@@ -67,4 +67,6 @@ tile w h picture t = pixels w picture t 0 (area w h t)
 
 -- whether tile t of two pictures differs in some pixel
 unfoldable pub differs : ℕ → ℕ → List ℕ → List ℕ → ℕ → Bool
-differs w h before now t = list_any (λ k. not (slice_index before (place w t k) == slice_index now (place w t k))) (range_with_len 0 (area w h t))
+differs w h before now t =
+    list_any (λ k. not (slice_index before (place w t k) == slice_index now (place w t k)))
+    (range_with_len 0 (area w h t))

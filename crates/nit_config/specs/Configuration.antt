@@ -13,7 +13,9 @@ pub record Configuration : Type 0 where
 
 -- 1 to 255 bytes of printable ASCII
 abbrev pub is_file_name : List ℕ → Bool
-is_file_name text = nat_le 1 (length text) && nat_le (length text) 255 && list_all (λ b. nat_le 32 b && nat_le b 126) text
+is_file_name text =
+    nat_le 1 (length text) && nat_le (length text) 255
+    && list_all (λ b. nat_le 32 b && nat_le b 126) text
 
 -- the rows of the status bar
 abbrev pub bar_rows : Configuration → ℕ
@@ -21,7 +23,9 @@ bar_rows config = if config.bar then 7 else 0
 
 -- the client of a session; one without a donation where there is none
 abbrev pub member : Configuration → ℕ → Member
-member config session = slice_index_or config.clients session (record { label = []; donation = 0; script = []; layer = 0; clicks = false })
+member config session =
+    slice_index_or config.clients session
+    (record { label = []; donation = 0; script = []; layer = 0; clicks = false })
 
 -- what a session opens with, in units
 abbrev pub donation_of : Configuration → ℕ → ℕ
@@ -35,5 +39,11 @@ still_configuration width height =
       height = height;
       bar = false;
       input = codes "still";
-      clients = record { label = codes "still"; donation = 8388608; script = codes "still"; layer = 0; clicks = true } ∷ [];
+      clients = record {
+        label = codes "still";
+        donation = 8388608;
+        script = codes "still";
+        layer = 0;
+        clicks = true;
+      } ∷ [];
     }

@@ -25,11 +25,15 @@ optional n k = record { name = n; kind = k; is_required = false }
 
 -- the keys of the top
 abbrev pub top_rows : List Row
-top_rows = required (codes "screen") Table ∷ required (codes "input") Table ∷ required (codes "client") Tables ∷ []
+top_rows =
+    required (codes "screen") Table ∷ required (codes "input") Table
+    ∷ required (codes "client") Tables ∷ []
 
 -- the keys of `screen`
 abbrev pub screen_rows : List Row
-screen_rows = required (codes "width") Integer ∷ required (codes "height") Integer ∷ optional (codes "bar") Boolean ∷ []
+screen_rows =
+    required (codes "width") Integer ∷ required (codes "height") Integer
+    ∷ optional (codes "bar") Boolean ∷ []
 
 -- the keys of `input`
 abbrev pub input_rows : List Row
@@ -38,7 +42,8 @@ input_rows = required (codes "script") Text ∷ []
 -- the keys of a client
 abbrev pub client_rows : List Row
 client_rows =
-    required (codes "label") Text ∷ required (codes "donation") Integer ∷ required (codes "script") Text
+    required (codes "label") Text ∷ required (codes "donation") Integer
+    ∷ required (codes "script") Text
     ∷ optional (codes "layer") Integer ∷ optional (codes "focus") Text ∷ []
 
 -- the keys of a place
@@ -61,7 +66,8 @@ is_of_kind Integer d = is_some (as_integer d)
 is_of_kind Boolean d = is_some (as_bool d)
 is_of_kind Text d = is_some (as_str d)
 is_of_kind Table d = is_some (as_table d)
-is_of_kind Tables d = option_map_or (λ ds. list_all (λ e. is_some (as_table e)) (list_of ds)) (as_array d) false
+is_of_kind Tables d =
+    option_map_or (λ ds. list_all (λ e. is_some (as_table e)) (list_of ds)) (as_array d) false
 
 -- the key is there and its value is of another kind
 abbrev pub is_of_other_kind : Row → Members → Bool

@@ -15,7 +15,8 @@ unfoldable pub has_bad_size : Members → Bool
 has_bad_size screen =
     (is_outside (pos 1) (pos 1024) (integer_at (codes "width") (pos 0) screen)
     || is_outside (pos 1) (pos 768) (integer_at (codes "height") (pos 0) screen))
-    || (boolean_at (codes "bar") false screen && int_lt (integer_at (codes "height") (pos 0) screen) (pos 8))
+    || (boolean_at (codes "bar") false screen
+    && int_lt (integer_at (codes "height") (pos 0) screen) (pos 8))
 
 -- the script has no name of a file
 unfoldable pub has_bad_script : Members → Bool

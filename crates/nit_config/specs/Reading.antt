@@ -15,7 +15,8 @@ pub record HoldsClient (client : Members) (m : Member) : Type 0 where
   pub donation : get_member (codes "donation") client ≡ Some (integer (pos m.donation))
   pub script : get_member (codes "script") client ≡ Some (string m.script)
   pub layer : pos m.layer ≡ integer_at (codes "layer") (pos 0) client
-  pub clicks : m.clicks ≡ bytes_eq (string_at (codes "focus") (codes "click") client) (codes "click")
+  pub clicks : m.clicks
+      ≡ bytes_eq (string_at (codes "focus") (codes "click") client) (codes "click")
 
 -- the configuration holds the values of a table, its clients one by one, with no bar where that key is not there
 pub record HoldsTable (top : Members) (config : Configuration) : Type 0 where

@@ -25,7 +25,9 @@ is_somewhere fault top =
 
 -- the screen's size, the input script's name, or a value of a client is outside its range
 unfoldable pub has_bad_range : Members → Bool
-has_bad_range top = (has_bad_size (screen_of top) || has_bad_script (input_of top)) || list_any has_bad_value (clients_of top)
+has_bad_range top =
+    (has_bad_size (screen_of top) || has_bad_script (input_of top))
+    || list_any has_bad_value (clients_of top)
 
 -- a text stands twice in the list
 abbrev pub stands_twice : List (List ℕ) → Bool

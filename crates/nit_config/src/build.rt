@@ -19,7 +19,9 @@ use toml::{Table, Value};
 
 /// The integer at a key, or another. It is in the widest of the ranges, 0 to 8,388,608.
 fn number_at(table: &Table, key: &str, other: u32) -> u32
-    requires { is_outside (pos 0) (pos 8388608) (integer_at key.now (pos other) (table_view table.now)) ≡ false }
+    requires { is_outside (pos 0) (pos 8388608)
+        (integer_at key.now (pos other) (table_view table.now))
+        ≡ false }
     ensures { pos result ≡ integer_at key.now (pos other) (table_view table.now) }
 {
     integer_at(table, key, i64::from(other)) as u32
@@ -27,7 +29,8 @@ fn number_at(table: &Table, key: &str, other: u32) -> u32
 
 /// The integer at a key that is not 0, and so is there.
 fn required_at(table: &Table, key: &str) -> u32
-    requires { is_outside (pos 1) (pos 8388608) (integer_at key.now (pos 0) (table_view table.now)) ≡ false }
+    requires { is_outside (pos 1) (pos 8388608) (integer_at key.now (pos 0) (table_view table.now))
+        ≡ false }
     ensures { get_member key.now (table_view table.now) ≡ Some (integer (pos result)) }
 {
     number_at(table, key, 0)
@@ -44,7 +47,8 @@ fn text_at<'a>(table: &'a Table, key: &str) -> &'a str
 
 fn script_of(alloc: Global, table: &Table) -> Result<FileName, NoMemory>
     requires { has_bad_script (table_view table.now) ≡ false }
-    ensures { IfOk result (λ name. get_member (codes "script") (table_view table.now) ≡ Some (string name)) }
+    ensures { IfOk result
+        (λ name. get_member (codes "script") (table_view table.now) ≡ Some (string name)) }
 {
     FileName::new(alloc, text_at(table, "script").as_bytes())
 }
@@ -81,7 +85,8 @@ fn members(alloc: Global, clients: &[Value], empty: &Table) -> Result<Vec<Member
     requires empty { table_view empty.now ≡ no_members }
     requires values { list_any (λ v. has_bad_value (members_of (view v))) clients.now ≡ false }
     requires labels { list_any (λ v. has_bad_label (members_of (view v))) clients.now ≡ false }
-    ensures { IfOk result (λ ms. AllZip HoldsClient (map (λ v. members_of (view v)) clients.now) ms.items) }
+    ensures { IfOk result
+        (λ ms. AllZip HoldsClient (map (λ v. members_of (view v)) clients.now) ms.items) }
 {
     let mut members = Vec::new(alloc);
     'clients: for i in 0..clients.len() {

@@ -36,5 +36,11 @@ impl Model for Config {
 
     ghost Value = { Configuration };
 
-    ghost view = { λ c. record { width = c.width; height = c.height; bar = c.bar; input = c.input; clients = c.clients.items } };
+    ghost view = { λ c. record {
+      width = c.width;
+      height = c.height;
+      bar = c.bar;
+      input = c.input;
+      clients = c.clients.items;
+    } };
 }

@@ -197,7 +197,8 @@ fn is_named(place: Place, name: &str) -> bool
 }
 
 fn some_is_unknown(place: Place, table: &Table) -> bool
-    ensures { result ≡ list_any (λ k. not (is_named (place_rows place) (string_bytes k))) (keys table.now) }
+    ensures { result
+        ≡ list_any (λ k. not (is_named (place_rows place) (string_bytes k))) (keys table.now) }
 {
     table.keys().any(|name| !is_named(place, name.as_str()))
 }

@@ -9,12 +9,14 @@ ghost use Rattle.nit_config.specs.Reading.{Conf, IsRefused};
 /// A text has one configuration at most, and that is within the ranges of the format.
 pub fn configuration_is_one()
     ensures one { (bytes : List ℕ) (a b : Configuration) → Conf bytes a → Conf bytes b → a ≡ b }
-    ensures configured { (bytes : List ℕ) (config : Configuration) → Conf bytes config → IsConfigured config }
+    ensures configured { (bytes : List ℕ) (config : Configuration) → Conf bytes config
+        → IsConfigured config }
 {}
 
 /// A text meets one refusal at most, and none where it has a configuration.
 pub fn refusal_is_one()
-    ensures one { (bytes : List ℕ) (a b : ConfigError) → IsRefused bytes a → IsRefused bytes b → a ≡ b }
+    ensures one { (bytes : List ℕ) (a b : ConfigError) → IsRefused bytes a → IsRefused bytes b
+        → a ≡ b }
     ensures none { (bytes : List ℕ) (config : Configuration) (error : ConfigError)
         → Conf bytes config → IsRefused bytes error → ⊥ }
 {}
@@ -22,7 +24,8 @@ pub fn refusal_is_one()
 /// Each text has a configuration or meets a refusal.
 pub fn each_text_is_judged()
     ensures { (bytes : List ℕ)
-        → ((config : Configuration) × Conf bytes config) ⊎ ((error : ConfigError) × IsRefused bytes error) }
+        → ((config : Configuration) × Conf bytes config)
+        ⊎ ((error : ConfigError) × IsRefused bytes error) }
 {}
 
 /// The configuration of a picture of one client's script is within the ranges where the size of its

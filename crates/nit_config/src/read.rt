@@ -25,8 +25,10 @@ pub fn read_config(alloc: Global, bytes: &[u8]) -> Result<Config, ConfigError>
     ensures configured { IfOk result (λ config. IsConfigured config) }
 
     // And where the bytes are a configuration or meet a refusal, that is the answer, unless memory runs out.
-    ensures read { (config : Configuration) → Conf bytes.now config → UnlessMemory result (result ≡ Ok config) }
-    ensures refused { (error : ConfigError) → IsRefused bytes.now error → UnlessMemory result (result ≡ Err error) }
+    ensures read { (config : Configuration) → Conf bytes.now config
+        → UnlessMemory result (result ≡ Ok config) }
+    ensures refused { (error : ConfigError) → IsRefused bytes.now error
+        → UnlessMemory result (result ≡ Err error) }
 {
     read_table(alloc, bytes)
 }

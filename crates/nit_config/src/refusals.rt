@@ -38,7 +38,8 @@ fn has_fault(fault: Fault, place: Place, table: &Table) -> bool
 
 fn some_has_fault(fault: Fault, clients: &[Value], empty: &Table) -> bool
     requires { table_view empty.now ≡ no_members }
-    ensures { result ≡ list_any (λ v. has_fault fault client_rows (members_of (view v))) clients.now }
+    ensures { result
+        ≡ list_any (λ v. has_fault fault client_rows (members_of (view v))) clients.now }
 {
     clients.iter().any(|client| has_fault(fault, Place::Client, table_of(client, empty)))
 }
@@ -63,7 +64,8 @@ fn some_has_bad_label(clients: &[Value], empty: &Table) -> bool
 
 fn some_has_label_of(first: &Value, clients: &[Value], empty: &Table) -> bool
     requires { table_view empty.now ≡ no_members }
-    ensures { result ≡ list_any (λ v. bytes_eq (label_of (members_of (view first.now))) (label_of (members_of (view v)))) clients.now }
+    ensures { result ≡ list_any (λ v. bytes_eq (label_of (members_of (view first.now)))
+        (label_of (members_of (view v)))) clients.now }
 {
     let label = label_of(table_of(first, empty));
     clients

@@ -82,7 +82,8 @@ pub record Fits (c : Cuts) (s : Standing) : Type 0 where
 pub record IsPieceOf (s : Standing) (piece : Piece) : Type 0 where
   pub pixels : HasPixels piece.rect
   pub on_screen : (p : Point) → IsTrue (covers piece.rect p) → IsOnScreen s.width s.height p
-  pub owner : (p : Point) → IsTrue (covers piece.rect p) → piece.owner ≡ option_map view_ref (owner_in (λ x. x.view) s.bar s.views p)
+  pub owner : (p : Point) → IsTrue (covers piece.rect p)
+      → piece.owner ≡ option_map view_ref (owner_in (λ x. x.view) s.bar s.views p)
   pub stands : IfSome piece.owner (λ v. has v.0 s.views ≡ true)
 
 -- at least as many as the pieces that a rectangle, or some of them, still gives

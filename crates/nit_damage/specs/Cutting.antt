@@ -17,7 +17,8 @@ times_all rs p = sum_by (λ r. times r p) rs
 -- A rectangle is cut by another: at most four are put in as its rest, none of them without pixels.
 -- They have each of its pixels once that the other does not cover. The part that both cover is told
 -- where it has pixels.
-pub record IsCut (at : ℕ) (rect by : Rectangle) (old new : List Job) (both : Option Rectangle) : Type 0 where
+pub record IsCut (at : ℕ) (rect by : Rectangle) (old new : List Job)
+    (both : Option Rectangle) : Type 0 where
   pub rest : List Rectangle
   pub few : length rest ≤ 4
   pub some : All HasPixels rest
@@ -27,8 +28,12 @@ pub record IsCut (at : ℕ) (rect by : Rectangle) (old new : List Job) (both : O
 
 -- A rectangle was taken out of the list, and its next view cut out of it: what is left fits the stack, each pixel that
 -- was to come is still to come or comes by the piece, and less is left to be cut.
-pub record IsStep (from : ℕ) (s : Standing) (j : Job) (old new : List Job) (result : Option Piece) : Type 0 where
+pub record IsStep (from : ℕ) (s : Standing) (j : Job) (old new : List Job)
+    (result : Option Piece) : Type 0 where
   pub fits : FitsJobs s new
-  pub count : (p : Point) → jobs_to_come from s old p + job_to_come from s p j ≡ jobs_to_come from s new p + piece_times result p
+  pub count : (p : Point)
+      → jobs_to_come from s old p + job_to_come from s p j
+      ≡ jobs_to_come from s new p + piece_times result p
   pub piece : IfSome result (IsPieceOf s)
-  pub fewer : weight (length s.views) new < weight (length s.views) old + weight_of (length s.views) j
+  pub fewer : weight (length s.views) new
+      < weight (length s.views) old + weight_of (length s.views) j

@@ -31,7 +31,8 @@ in_front_of None views = views
 
 -- the pixel lies in the rectangle, and this view owns it
 abbrev pub is_owned : ViewRef → Standing → Rectangle → Point → Bool
-is_owned v s r p = covers r p && option_map_or (is_slot v.0) (owner_in (λ x. x.view) s.bar s.views p) false
+is_owned v s r p =
+    covers r p && option_map_or (is_slot v.0) (owner_in (λ x. x.view) s.bar s.views p) false
 
 -- the pixel is below the bar, lies in the rectangle, and none of the first so many views covers it
 abbrev pub is_behind : ℕ → Standing → Rectangle → Point → Bool
@@ -43,4 +44,6 @@ is_of_gone at s r p = not (in_bar s.bar p) && covers r p && not (covered (in_fro
 
 -- the pixel is below the bar, the view's rectangle or its old one covers it, and no view in front of it does
 abbrev pub is_of_moved : ViewRef → Standing → Rectangle → Point → Bool
-is_of_moved v s old p = not (in_bar s.bar p) && (covered_by v.0 s.views p || covers old p) && not (covered (in_front_of (Some v) s.views) p)
+is_of_moved v s old p =
+    not (in_bar s.bar p) && (covered_by v.0 s.views p || covers old p)
+    && not (covered (in_front_of (Some v) s.views) p)

@@ -148,17 +148,22 @@ impl Cutter {
         requires { Fits self.old stack.now }
         ensures room { self.new.room ≡ self.old.room }
         ensures fits { Fits self.new stack.now }
-        ensures count { (p : Point) → to_come self.old stack.now p ≡ to_come self.new stack.now p + piece_times result p }
+        ensures count { (p : Point)
+            → to_come self.old stack.now p ≡ to_come self.new stack.now p + piece_times result p }
         ensures came { MatchOption result
             ((p : Point) → to_come self.old stack.now p ≡ 0)
-            (λ piece. (p : Point) → IsTrue (covers piece.rect p) → to_come self.old stack.now p ≡ 1) }
+            (λ piece. (p : Point) → IsTrue (covers piece.rect p)
+            → to_come self.old stack.now p ≡ 1) }
         ensures pixels { IfSome result (λ piece. HasPixels piece.rect) }
         ensures on_screen { IfSome result (λ piece. (p : Point) → IsTrue (covers piece.rect p)
             → IsOnScreen stack.now.width stack.now.height p) }
         ensures owner { IfSome result (λ piece. (p : Point) → IsTrue (covers piece.rect p)
-            → piece.owner ≡ option_map view_ref (owner_in (λ s. s.view) stack.now.bar stack.now.views p)) }
-        ensures stands { IfSome result (λ piece. IfSome piece.owner (λ v. has v.0 stack.now.views ≡ true)) }
-        ensures fewer { IfSome result (λ _. pieces_left self.new stack.now < pieces_left self.old stack.now) }
+            → piece.owner
+            ≡ option_map view_ref (owner_in (λ s. s.view) stack.now.bar stack.now.views p)) }
+        ensures stands { IfSome result
+            (λ piece. IfSome piece.owner (λ v. has v.0 stack.now.views ≡ true)) }
+        ensures fewer { IfSome result
+            (λ _. pieces_left self.new stack.now < pieces_left self.old stack.now) }
     {
         if self.bar {
             self.bar = false;

@@ -24,7 +24,8 @@ pub record InputState : Type 0 where
 
 -- before the user has done anything
 abbrev pub first_input : InputState
-first_input = record { mode = Flat; x = 0; y = 0; held = []; receiver = None; hover = None; focus = None }
+first_input =
+    record { mode = Flat; x = 0; y = 0; held = []; receiver = None; hover = None; focus = None }
 
 -- what a device event leaves, and what it delivers, in order
 pub record Routing : Type 0 where
@@ -43,7 +44,12 @@ unless_it_is s t = if is_same (Some s) t then None else t
 
 -- a session that is killed or closed is forgotten
 abbrev pub forget : InputState → ℕ → InputState
-forget i s = record i { receiver = unless_it_is s i.receiver; hover = unless_it_is s i.hover; focus = unless_it_is s i.focus }
+forget i s =
+    record i {
+      receiver = unless_it_is s i.receiver;
+      hover = unless_it_is s i.hover;
+      focus = unless_it_is s i.focus;
+    }
 
 -- a button's code; any other code but a mode key's is a key's
 abbrev pub is_button : ℕ → Bool
@@ -70,13 +76,18 @@ ignored i = record { state = i; deliveries = [] }
 
 -- where the pointer is after a device event, on a screen of this size
 abbrev pub pointer_after : ℕ → ℕ → InputState → Device → InputState
-pointer_after width height i (device.Motion x y) = record i { x = min x (width - 1); y = min y (height - 1) }
+pointer_after width height i (device.Motion x y) =
+    record i { x = min x (width - 1); y = min y (height - 1) }
 pointer_after width height i other = i
 
 -- While nothing is held, a motion or a turn of the wheel goes to the pointed session in mode Flat, and to
 -- none in the other modes.
 abbrev pub hovering : Mode → Option ℕ → InputState → Event → Routing
-hovering Flat pointed i e = record { state = record i { hover = pointed }; deliveries = (if is_same i.hover pointed then [] else to i.hover event.Leave) ++ to pointed e }
+hovering Flat pointed i e =
+    record {
+      state = record i { hover = pointed };
+      deliveries = (if is_same i.hover pointed then [] else to i.hover event.Leave) ++ to pointed e;
+    }
 hovering other pointed i e = ignored i
 
 -- A motion or a turn of the wheel goes to the receiver while something is held.
@@ -95,7 +106,8 @@ kill_mode other = Kill
 
 -- The mode becomes another. Where it was Flat, the hovered session is left.
 abbrev pub leaving : Mode → InputState → Mode → Routing
-leaving Flat i new = record { state = record i { mode = new; hover = None }; deliveries = to i.hover event.Leave }
+leaving Flat i new =
+    record { state = record i { mode = new; hover = None }; deliveries = to i.hover event.Leave }
 leaving other i new = record { state = record i { mode = new }; deliveries = [] }
 
 -- A mode key is ignored while something is held.
@@ -113,12 +125,16 @@ takes_focus clicks (Some s) = clicks
 abbrev pub focusing : Bool → Option ℕ → InputState → Routing
 focusing clicks pointed i =
     if takes_focus clicks pointed && not (is_same pointed i.focus)
-    then record { state = record i { focus = pointed }; deliveries = to i.focus event.FocusLeave ++ to pointed event.FocusEnter }
+    then record {
+      state = record i { focus = pointed };
+      deliveries = to i.focus event.FocusLeave ++ to pointed event.FocusEnter;
+    }
     else ignored i
 
 -- then this session receives what is pressed
 abbrev pub received : Option ℕ → Event → Routing → Routing
-received s e r = record { state = record r.state { receiver = s }; deliveries = r.deliveries ++ to s e }
+received s e r =
+    record { state = record r.state { receiver = s }; deliveries = r.deliveries ++ to s e }
 
 -- and then nobody does
 abbrev pub unreceived : Routing → Routing
@@ -127,13 +143,22 @@ unreceived r = record r { state = record r.state { receiver = None } }
 -- the pointed session is killed, and forgotten
 abbrev pub killing : Option ℕ → InputState → Routing
 killing None i = ignored (record i { mode = Flat })
-killing (Some s) i = record { state = forget (record i { mode = Flat }) s; deliveries = record { sid = s; item = item.Kill } ∷ [] }
+killing (Some s) i =
+    record {
+      state = forget (record i { mode = Flat }) s;
+      deliveries = record { sid = s; item = item.Kill } ∷ [];
+    }
 
 -- the first code to go down, by the mode
 abbrev pub first_press : Mode → Bool → Option ℕ → InputState → ℕ → Routing
-first_press Flat clicks pointed i k = if is_button k then received pointed (event.Press k) (focusing clicks pointed i) else received i.focus (event.Press k) (ignored i)
-first_press Xray clicks pointed i k = unreceived (if is_button k then focusing clicks pointed i else ignored i)
-first_press Kill clicks pointed i k = unreceived (if k == kill_button then killing pointed i else ignored i)
+first_press Flat clicks pointed i k =
+    if is_button k
+    then received pointed (event.Press k) (focusing clicks pointed i)
+    else received i.focus (event.Press k) (ignored i)
+first_press Xray clicks pointed i k =
+    unreceived (if is_button k then focusing clicks pointed i else ignored i)
+first_press Kill clicks pointed i k =
+    unreceived (if k == kill_button then killing pointed i else ignored i)
 
 -- a code is held as well
 abbrev pub holding : InputState → ℕ → InputState
@@ -142,7 +167,8 @@ holding i k = record i { held = i.held ++ k ∷ [] }
 -- a code that is no mode key goes down: it is held, and the receiver of a first press is chosen by the mode
 abbrev pub pressing : List ℕ → Bool → Option ℕ → InputState → ℕ → Routing
 pressing [] clicks pointed i k = first_press i.mode clicks pointed (holding i k) k
-pressing (j ∷ js) clicks pointed i k = record { state = holding i k; deliveries = to i.receiver (event.Press k) }
+pressing (j ∷ js) clicks pointed i k =
+    record { state = holding i k; deliveries = to i.receiver (event.Press k) }
 
 -- the code is held down
 abbrev pub is_held : InputState → ℕ → Bool
@@ -164,7 +190,10 @@ letting_go (k ∷ ks) i = record i { held = k ∷ ks }
 abbrev pub release : InputState → ℕ → Routing
 release i k =
     if is_held i k
-    then record { state = letting_go (filter (λ j. not (j == k)) i.held) i; deliveries = to i.receiver (event.Release k) }
+    then record {
+      state = letting_go (filter (λ j. not (j == k)) i.held) i;
+      deliveries = to i.receiver (event.Release k);
+    }
     else ignored i
 
 -- One device event: the pointer has moved already, `pointed` is the session under it, and `clicks` tells

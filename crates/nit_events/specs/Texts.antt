@@ -21,6 +21,8 @@ pub record IsPadded (bytes : List ℕ) (len : ℕ) : Type 0 where
 pub length_again : (bytes : List ℕ) (len : ℕ) → IsPadded bytes len → length (take len bytes) ≡ len
 length_again bytes len p = length-take-le len bytes p.fits
 
-pub bytes_again : (bytes : List ℕ) (len : ℕ) → IsPadded bytes len → take len bytes ++ replicate (40 - length (take len bytes)) 0 ≡ bytes
+pub bytes_again : (bytes : List ℕ) (len : ℕ) → IsPadded bytes len
+    → take len bytes ++ replicate (40 - length (take len bytes)) 0 ≡ bytes
 bytes_again bytes len p =
-    ap (λ (n : ℕ). take len bytes ++ replicate (40 - n) 0) (length_again bytes len p) ∙ ap (λ (zs : List ℕ). take len bytes ++ zs) (sym p.zeros) ∙ take-append-drop len bytes
+    ap (λ (n : ℕ). take len bytes ++ replicate (40 - n) 0) (length_again bytes len p)
+    ∙ ap (λ (zs : List ℕ). take len bytes ++ zs) (sym p.zeros) ∙ take-append-drop len bytes

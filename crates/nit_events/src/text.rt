@@ -26,7 +26,10 @@ impl Model for Text {
 
     ghost inverse = { λ s. record { bytes = s ++ replicate (40 - length s) 0; len = length s } };
 
-    ghost inverse_ok = { λ t h i. record { bytes = bytes_again t.bytes t.len h.0 i; len = length_again t.bytes t.len h.0 i } };
+    ghost inverse_ok = { λ t h i. record {
+      bytes = bytes_again t.bytes t.len h.0 i;
+      len = length_again t.bytes t.len h.0 i;
+    } };
 }
 
 impl Text {

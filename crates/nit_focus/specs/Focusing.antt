@@ -14,7 +14,8 @@ pub record Focusing : Type 0 where
 
 -- before the user has done anything; a click on any session moves the focus
 abbrev pub first_focusing : ℕ → ℕ → Focusing
-first_focusing width height = record { input = first_input; width = width; height = height; clicks = replicate 16 true }
+first_focusing width height =
+    record { input = first_input; width = width; height = height; clicks = replicate 16 true }
 
 -- by this list, a click on the pointed session moves the focus
 abbrev pub clicks_on_list : List Bool → Option ℕ → Bool

@@ -8,7 +8,8 @@ use Rattle.nit_events.specs.Ranges.{IsEvent}
 
 -- the session is the receiver, the hovered, the focused or the pointed one
 abbrev pub IsWithinReach : InputState → Option ℕ → ℕ → Type 0
-IsWithinReach i pointed s = (i.receiver ≡ Some s) ⊎ (i.hover ≡ Some s) ⊎ (i.focus ≡ Some s) ⊎ (pointed ≡ Some s)
+IsWithinReach i pointed s =
+    (i.receiver ≡ Some s) ⊎ (i.hover ≡ Some s) ⊎ (i.focus ≡ Some s) ⊎ (pointed ≡ Some s)
 
 -- the numbers of an item are in range, and a motion is to a pixel of a screen of this size
 abbrev pub IsItem : ℕ → ℕ → Item → Type 0

@@ -29,9 +29,15 @@ impl Model for Focus {
 
     ghost Value = { Focusing };
 
-    ghost view = { λ f. record { input = f.state; width = f.width; height = f.height; clicks = f.clicks } };
+    ghost view = { λ f. record {
+      input = f.state;
+      width = f.width;
+      height = f.height;
+      clicks = f.clicks;
+    } };
 
-    ghost invariant = { λ f. IsFocusing (record { input = f.state; width = f.width; height = f.height; clicks = f.clicks }) };
+    ghost invariant = { λ f. IsFocusing
+        (record { input = f.state; width = f.width; height = f.height; clicks = f.clicks }) };
 }
 
 impl Focus {
@@ -84,11 +90,14 @@ impl Focus {
         ensures routed { result ≡ input.routed_as (route self.old pointed dev).deliveries }
         ensures all { input.deliveries_of result ≡ (route self.old pointed dev).deliveries }
         ensures few { length (route self.old pointed dev).deliveries ≤ 3 }
-        ensures reached { All (λ d. IsWithinReach self.old.input pointed d.sid) (input.deliveries_of result) }
+        ensures reached { All (λ d. IsWithinReach self.old.input pointed d.sid)
+            (input.deliveries_of result) }
         ensures sessions { All (λ d. d.sid < 16) (input.deliveries_of result) }
-        ensures ranges { All (λ d. IsItem self.old.width self.old.height d.item) (input.deliveries_of result) }
+        ensures ranges { All (λ d. IsItem self.old.width self.old.height d.item)
+            (input.deliveries_of result) }
         ensures kept { AllOfInput (IsWithinReach self.old.input pointed) self.new.input }
-        ensures forgotten { All (λ d. IsForgottenIfKilled self.new.input d.sid d.item) (input.deliveries_of result) }
+        ensures forgotten { All (λ d. IsForgottenIfKilled self.new.input d.sid d.item)
+            (input.deliveries_of result) }
     {
         self.state.move_pointer(self.width, self.height, dev);
         let clicks = clicks_on(&self.clicks, pointed);

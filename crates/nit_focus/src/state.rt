@@ -35,7 +35,15 @@ impl Model for State {
 
     ghost Value = { InputState };
 
-    ghost view = { λ s. record { mode = s.mode; x = s.x; y = s.y; held = s.held; receiver = s.receiver; hover = s.hover; focus = s.focus } };
+    ghost view = { λ s. record {
+      mode = s.mode;
+      x = s.x;
+      y = s.y;
+      held = s.held;
+      receiver = s.receiver;
+      hover = s.hover;
+      focus = s.focus;
+    } };
 }
 
 impl State {
@@ -187,7 +195,8 @@ impl State {
     fn pressing(&mut self, clicks: bool, pointed: Option<u32>, code: u16) -> Told
         requires known { IsCode code }
         requires up { input.is_held self.old code ≡ false }
-        ensures { outcome self.new result ≡ input.pressing self.old.held clicks pointed self.old code }
+        ensures { outcome self.new result
+            ≡ input.pressing self.old.held clicks pointed self.old code }
     {
         let is_first = self.held.is_empty();
         self.held.add(code);
@@ -200,7 +209,8 @@ impl State {
 
     /// The first code to go down, by the mode.
     fn first_press(&mut self, clicks: bool, pointed: Option<u32>, code: u16) -> Told
-        ensures { outcome self.new result ≡ input.first_press self.old.mode clicks pointed self.old code }
+        ensures { outcome self.new result
+            ≡ input.first_press self.old.mode clicks pointed self.old code }
     {
         match self.mode {
             Mode::Flat => self.flat_press(clicks, pointed, code),

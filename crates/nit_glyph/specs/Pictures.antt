@@ -23,7 +23,8 @@ row_has_dot row (suc (suc (suc _))) = false
 -- column 0 is the margin, and then each character has four columns; its five rows are the rows 1 to 5
 unfoldable pub dot : List ℕ → ℕ → ℕ → Bool
 dot text x y =
-    nat_le 1 x && nat_le 1 y && nat_le y 5 && row_has_dot (glyph_row (slice_index text ((x - 1) / 4)) (y - 1)) ((x - 1) % 4)
+    nat_le 1 x && nat_le 1 y && nat_le y 5
+    && row_has_dot (glyph_row (slice_index text ((x - 1) / 4)) (y - 1)) ((x - 1) % 4)
 
 -- the columns of the picture of n characters
 abbrev pub picture_width : ℕ → ℕ

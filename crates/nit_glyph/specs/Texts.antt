@@ -5,7 +5,8 @@ use Rattle.std.specs.Char.{is_ascii_lowercase, is_ascii_digit}
 
 -- a byte of a label: `a` to `z`, `0` to `9`, `-`, `.` or `_`
 abbrev pub is_label_byte : ℕ → Bool
-is_label_byte c = is_ascii_lowercase c || is_ascii_digit c || list_any (λ mark. mark == c) (codes "-._")
+is_label_byte c =
+    is_ascii_lowercase c || is_ascii_digit c || list_any (λ mark. mark == c) (codes "-._")
 
 -- a byte of a title: one of a label, or the space
 abbrev pub is_title_byte : ℕ → Bool

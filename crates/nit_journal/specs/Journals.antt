@@ -24,17 +24,23 @@ shots (other ∷ rest) = shots rest
 -- An entry agrees with the state before it, and with the number of shots before it: a call is one of a
 -- session and has its machine's reply; a device event is routed as the state says; shots count from 1.
 abbrev pub Agrees : State → ℕ → Entry → Type 0
-Agrees s taken (entry.Call sid call r) = (sid < length s.sessions) × (r ≡ (serve (session s sid) call).reply)
-Agrees s taken (entry.Input dev routed) = routed ≡ routed_as (route s.config s.input s.stack dev).deliveries
+Agrees s taken (entry.Call sid call r) =
+    (sid < length s.sessions) × (r ≡ (serve (session s sid) call).reply)
+Agrees s taken (entry.Input dev routed) =
+    routed ≡ routed_as (route s.config s.input s.stack dev).deliveries
 Agrees s taken (entry.Shot number) = number ≡ taken + 1
 Agrees s taken entry.Final = Unit {0}
 
 -- each entry agrees with the state that those before it lead to, and `Final` stands nowhere but at the end
 abbrev pub LegalFrom : State → ℕ → List Entry → Type 0
 LegalFrom s taken [] = Unit {0}
-LegalFrom s taken (entry.Call sid call r ∷ rest) = Agrees s taken (entry.Call sid call r) × LegalFrom (after s (entry.Call sid call r)) taken rest
-LegalFrom s taken (entry.Input dev routed ∷ rest) = Agrees s taken (entry.Input dev routed) × LegalFrom (after s (entry.Input dev routed)) taken rest
-LegalFrom s taken (entry.Shot number ∷ rest) = Agrees s taken (entry.Shot number) × LegalFrom s (taken + 1) rest
+LegalFrom s taken (entry.Call sid call r ∷ rest) =
+    Agrees s taken (entry.Call sid call r) × LegalFrom (after s (entry.Call sid call r)) taken rest
+LegalFrom s taken (entry.Input dev routed ∷ rest) =
+    Agrees s taken (entry.Input dev routed)
+    × LegalFrom (after s (entry.Input dev routed)) taken rest
+LegalFrom s taken (entry.Shot number ∷ rest) =
+    Agrees s taken (entry.Shot number) × LegalFrom s (taken + 1) rest
 LegalFrom s taken (entry.Final ∷ rest) = rest ≡ []
 
 abbrev pub IsLegal : Configuration → List Entry → Type 0

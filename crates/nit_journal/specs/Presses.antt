@@ -12,4 +12,6 @@ is_release k other = false
 
 -- the code is down for the session: it got the press of it, and no release of it since then
 abbrev pub IsDown : ℕ → List Moment → Type 0
-IsDown k moments = (early late : List Moment) × (moments ≡ early ++ Gets (item.Event (event.Press k)) ∷ late) × (list_any (is_release k) late ≡ false)
+IsDown k moments =
+    (early late : List Moment) × (moments ≡ early ++ Gets (item.Event (event.Press k)) ∷ late)
+    × (list_any (is_release k) late ≡ false)

@@ -26,14 +26,17 @@ items_to s (d ∷ ds) = if d.sid == s then Gets d.item ∷ items_to s ds else it
 -- the calls of a session and the items that were routed to it, in order
 abbrev pub projection : ℕ → List Entry → List Moment
 projection s [] = []
-projection s (entry.Call sid call r ∷ rest) = if sid == s then Calls call ∷ projection s rest else projection s rest
-projection s (entry.Input dev routed ∷ rest) = items_to s (deliveries_of routed) ++ projection s rest
+projection s (entry.Call sid call r ∷ rest) =
+    if sid == s then Calls call ∷ projection s rest else projection s rest
+projection s (entry.Input dev routed ∷ rest) =
+    items_to s (deliveries_of routed) ++ projection s rest
 projection s (other ∷ rest) = projection s rest
 
 -- the replies to a session, in order
 abbrev pub replies_to : ℕ → List Entry → List Reply
 replies_to s [] = []
-replies_to s (entry.Call sid call r ∷ rest) = if sid == s then r ∷ replies_to s rest else replies_to s rest
+replies_to s (entry.Call sid call r ∷ rest) =
+    if sid == s then r ∷ replies_to s rest else replies_to s rest
 replies_to s (other ∷ rest) = replies_to s rest
 
 -- the replies of a machine that serves one session alone
@@ -58,7 +61,8 @@ alone_machine donation moments = after_moments (opened donation) moments
 -- the machine that opens with a session's donation and gets the session's own calls of a journal, and no
 -- item
 abbrev pub own_machine : Configuration → ℕ → List Entry → Session
-own_machine config sid journal = after_calls (opened (donation_of config sid)) (calls_of sid journal)
+own_machine config sid journal =
+    after_calls (opened (donation_of config sid)) (calls_of sid journal)
 
 -- how many slots of views the sessions have for their opening donations
 abbrev pub reserved : Configuration → ℕ

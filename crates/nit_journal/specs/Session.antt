@@ -29,7 +29,18 @@ pub record Session : Type 0 where
 
 -- a session as it opens with a donation
 abbrev pub opened : ℕ → Session
-opened donation = record { donation = donation; reserve = room donation - donation; status = status.Live; bw = 0; bh = 0; next = 1; handles = []; queue = []; lost = 0 }
+opened donation =
+    record {
+      donation = donation;
+      reserve = room donation - donation;
+      status = status.Live;
+      bw = 0;
+      bh = 0;
+      next = 1;
+      handles = [];
+      queue = [];
+      lost = 0;
+    }
 
 -- ---- refusals
 
@@ -68,8 +79,12 @@ by_reserve need left = unless (nat_le need left) (reply.NoReserve need left)
 
 -- the first refusal that a call meets at a live session
 abbrev pub by_call : Session → Call → Option Reply
-by_call s (Buffer w h) = unless (is_side w && is_side h) reply.BadSize orelse by_quota (buffer_need w h) (buffer_left s.donation (length s.handles))
-by_call s View = unless (nat_lt (length s.handles) 64) reply.TooManyViews orelse by_quota view_need (view_left s.donation (length s.handles) (s.bw * s.bh))
+by_call s (Buffer w h) =
+    unless (is_side w && is_side h) reply.BadSize
+    orelse by_quota (buffer_need w h) (buffer_left s.donation (length s.handles))
+by_call s View =
+    unless (nat_lt (length s.handles) 64) reply.TooManyViews
+    orelse by_quota view_need (view_left s.donation (length s.handles) (s.bw * s.bh))
 by_call s (Place v x y w h) = by_handle s v orelse unless (is_rectangle x y w h) reply.BadRect
 by_call s (Offset v ox oy) = by_handle s v orelse unless (is_place ox && is_place oy) reply.BadRect
 by_call s (Front v) = by_handle s v
@@ -106,10 +121,14 @@ taking (e ∷ es) s = answered (reply.Event e) (record s { queue = es })
 -- a call that is not refused
 abbrev pub accepted : Session → Call → Answered
 accepted s (Buffer w h) = answered reply.Done (record s { bw = w; bh = h })
-accepted s View = answered (reply.Handle s.next) (record s { next = s.next + 1; handles = s.handles ++ s.next ∷ [] })
-accepted s (Destroy v) = answered reply.Done (record s { handles = filter (λ h. not (h == v)) s.handles })
+accepted s View =
+    answered (reply.Handle s.next)
+    (record s { next = s.next + 1; handles = s.handles ++ s.next ∷ [] })
+accepted s (Destroy v) =
+    answered reply.Done (record s { handles = filter (λ h. not (h == v)) s.handles })
 accepted s Take = taking s.queue s
-accepted s (Upgrade n) = answered reply.Done (record s { donation = s.donation + n; reserve = s.reserve - n })
+accepted s (Upgrade n) =
+    answered reply.Done (record s { donation = s.donation + n; reserve = s.reserve - n })
 accepted s Close = answered reply.Done (ended status.Closed s)
 accepted s other = answered reply.Done s
 
@@ -130,7 +149,10 @@ after_calls s calls = fold (λ t call. (serve t call).session) s calls
 
 -- an event is queued, and lost where 64 are queued
 abbrev pub queued : Event → Session → Session
-queued e s = if nat_lt (length s.queue) 64 then record s { queue = s.queue ++ e ∷ [] } else record s { lost = s.lost + 1 }
+queued e s =
+    if nat_lt (length s.queue) 64
+    then record s { queue = s.queue ++ e ∷ [] }
+    else record s { lost = s.lost + 1 }
 
 abbrev pub given : Item → Session → Session
 given (item.Event e) s = queued e s

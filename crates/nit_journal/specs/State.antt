@@ -25,7 +25,13 @@ pub record State : Type 0 where
 
 -- before the first entry
 abbrev pub opening : Configuration → State
-opening config = record { config = config; sessions = map (λ m. opened m.donation) config.clients; stack = []; input = first_input }
+opening config =
+    record {
+      config = config;
+      sessions = map (λ m. opened m.donation) config.clients;
+      stack = [];
+      input = first_input;
+    }
 
 -- a session of the state; one without a donation where there is none
 abbrev pub session_in : List Session → ℕ → Session
@@ -40,7 +46,8 @@ layer config sid = (member config sid).layer
 
 -- the size of a session's buffer
 abbrev pub buffer_size : List Session → ℕ → Size
-buffer_size sessions sid = record { w = (session_in sessions sid).bw; h = (session_in sessions sid).bh }
+buffer_size sessions sid =
+    record { w = (session_in sessions sid).bw; h = (session_in sessions sid).bh }
 
 -- the view that owns a pixel, and where the pixel's word comes from
 abbrev pub owner_of : State → Point → Option View
@@ -72,10 +79,16 @@ route config i stack dev =
 -- each delivery is an item of its session, in order
 abbrev pub delivered : List Delivery → List Session → List Session
 delivered [] sessions = sessions
-delivered (d ∷ ds) sessions = delivered ds (slice_set sessions d.sid (receive (session_in sessions d.sid) d.item))
+delivered (d ∷ ds) sessions =
+    delivered ds (slice_set sessions d.sid (receive (session_in sessions d.sid) d.item))
 
 abbrev pub routed_to : Routing → State → State
-routed_to r s = record s { sessions = delivered r.deliveries s.sessions; stack = after_deliveries r.deliveries s.stack; input = r.state }
+routed_to r s =
+    record s {
+      sessions = delivered r.deliveries s.sessions;
+      stack = after_deliveries r.deliveries s.stack;
+      input = r.state;
+    }
 
 -- the state after an entry; a picture changes nothing
 abbrev pub after : State → Entry → State

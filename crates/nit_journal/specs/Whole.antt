@@ -28,7 +28,8 @@ act_of entry.Final = Ends
 -- the calls of a session, in order
 abbrev pub calls_of : ℕ → List Entry → List Call
 calls_of s [] = []
-calls_of s (entry.Call sid call r ∷ rest) = if sid == s then call ∷ calls_of s rest else calls_of s rest
+calls_of s (entry.Call sid call r ∷ rest) =
+    if sid == s then call ∷ calls_of s rest else calls_of s rest
 calls_of s (other ∷ rest) = calls_of s rest
 
 -- the device events and shots, in order
@@ -58,14 +59,19 @@ left (t ∷ ts) = ts
 -- the phases of the entries of a journal, each entry being what its actor does next
 abbrev pub phases_along : List (List (ℕ × Call)) → List (ℕ × Deed) → List Entry → List ℕ
 phases_along clients user [] = []
-phases_along clients user (entry.Call sid call r ∷ rest) = next_phase (to_do clients sid) ∷ phases_along (slice_set clients sid (left (to_do clients sid))) user rest
-phases_along clients user (entry.Input dev routed ∷ rest) = next_phase user ∷ phases_along clients (left user) rest
-phases_along clients user (entry.Shot number ∷ rest) = next_phase user ∷ phases_along clients (left user) rest
+phases_along clients user (entry.Call sid call r ∷ rest) =
+    next_phase (to_do clients sid)
+    ∷ phases_along (slice_set clients sid (left (to_do clients sid))) user rest
+phases_along clients user (entry.Input dev routed ∷ rest) =
+    next_phase user ∷ phases_along clients (left user) rest
+phases_along clients user (entry.Shot number ∷ rest) =
+    next_phase user ∷ phases_along clients (left user) rest
 phases_along clients user (entry.Final ∷ rest) = phases_along clients user rest
 
 -- The calls of each client are those that it is to make, in order, each once; so are the user's device events
 -- and shots; the phases never fall; and the last picture comes last.
-pub record IsWhole (clients : List (List (ℕ × Call))) (user : List (ℕ × Deed)) (journal : List Entry) : Type 0 where
+pub record IsWhole (clients : List (List (ℕ × Call))) (user : List (ℕ × Deed))
+    (journal : List Entry) : Type 0 where
   pub calls : (sid : ℕ) → sid < length clients → calls_of sid journal ≡ done (to_do clients sid)
   pub deeds : deeds_of journal ≡ done user
   pub phases : IsNonDecreasing (phases_along clients user journal)

@@ -40,7 +40,8 @@ impl Journal {
     /// The entry is last. It takes no memory.
     pub fn append(&mut self, entry: Entry)
         requires { 1 ≤ self.old.spare }
-        ensures { self.new ≡ record { entries = self.old.entries ++ entry ∷ []; spare = self.old.spare - 1 } }
+        ensures { self.new
+            ≡ record { entries = self.old.entries ++ entry ∷ []; spare = self.old.spare - 1 } }
     {
         // The check finds the types inside an `Entry` only where the function names them.
         let _types: Option<(Call, Reply)> = None;

@@ -31,7 +31,8 @@ raised counts number = raised_by counts number 1
 
 -- a share of this number, count and `seen` is in step with these entries and counts: its number is below the number of counts, its
 -- count is the one there, and it has seen a front of the entries
-pub record InStep (entries : List Entry) (counts : List ℕ) (number count : ℕ) (seen : List Entry) : Type 0 where
+pub record InStep (entries : List Entry) (counts : List ℕ) (number count : ℕ)
+    (seen : List Entry) : Type 0 where
   pub below : number < length counts
   pub counted : slice_index counts number ≡ count
   pub front : IsPrefix seen entries

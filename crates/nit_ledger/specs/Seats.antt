@@ -63,11 +63,26 @@ ledger_of s = record { name = s.table_id; entries = entries_at s; counts = count
 
 -- no book's name
 abbrev pub no_name : BookName
-no_name = record { words = 0; slots = 0; views_name = 0; atom = 0; block = 0; offset = 0; slot_names = [] }
+no_name =
+    record {
+      words = 0;
+      slots = 0;
+      views_name = 0;
+      atom = 0;
+      block = 0;
+      offset = 0;
+      slot_names = [];
+    }
 
 -- what contracts see of a share, by its seat
 abbrev pub part_of : Option BookSeat → Part
-part_of (Some s) = record { name = s.table_id; number = (token_at s).number; count = (token_at s).count; seen = (token_at s).seen }
+part_of (Some s) =
+    record {
+      name = s.table_id;
+      number = (token_at s).number;
+      count = (token_at s).count;
+      seen = (token_at s).seen;
+    }
 part_of None = record { name = no_name; number = 0; count = 0; seen = [] }
 
 -- between two calls a share has its seat

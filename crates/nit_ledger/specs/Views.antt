@@ -33,7 +33,8 @@ AgreesIn es cs seat holder (Some t) = Agrees es cs t × (holder t.number ≡ sea
 -- What the rule says of the view of the seat `by`: a book's view is that of the one seat and has the one list of entries and of
 -- counts; a share's is that of the holder of its number, and the share is in step.
 abbrev pub Fits : List Entry → List ℕ → ℕ → (ℕ → ℕ) → ℕ → BookView → Type 0
-Fits es cs seat holder by (OfBook e c t) = (by ≡ seat) × (e ≡ es) × (c ≡ cs) × AgreesIn es cs seat holder t
+Fits es cs seat holder by (OfBook e c t) =
+    (by ≡ seat) × (e ≡ es) × (c ≡ cs) × AgreesIn es cs seat holder t
 Fits es cs seat holder by (OfShare t) = (holder t.number ≡ by) × Agrees es cs t
 Fits es cs seat holder by Spent = Unit {0}
 
@@ -64,7 +65,8 @@ pub record IsKept (s : State (Unit {0}) BookView) : Type 0 where
   pub holder : ℕ → ℕ
   pub word : s.words ≡ 0 ∷ []
   pub book : IsBookAt s.views seat entries counts
-  pub fits : (by : ℕ) (v : BookView) → get_elem? s.views by ≡ some v → Fits entries counts seat holder by v
+  pub fits : (by : ℕ) (v : BookView) → get_elem? s.views by ≡ some v
+      → Fits entries counts seat holder by v
   pub held : (n : ℕ) → n < length counts → Stands s.views (holder n) n
 
 -- a new share is split off: the book has one more count
@@ -109,11 +111,13 @@ share_in Spent = Spent
 -- number rise, and it has seen all entries; where none is taken in, nothing changes
 abbrev pub Changed : List Entry → ℕ → BookView → BookView → Type 0
 Changed added risen (OfBook es cs (Some t)) w =
-    (w ≡ holding (es ++ added) (raised_by cs t.number risen) (token t.number (t.count + risen) (es ++ added))) × Agrees es cs t
+    (w ≡ holding (es ++ added) (raised_by cs t.number risen)
+    (token t.number (t.count + risen) (es ++ added))) × Agrees es cs t
 Changed added risen (OfBook es cs None) w = w ≡ resting es cs
 Changed added risen (OfShare t) w = w ≡ OfShare t
 Changed added risen Spent w = w ≡ Spent
 
 -- what a step tells, in which the share that is taken in does this
-abbrev pub Done : List Entry → ℕ → Step (Unit {0}) → Me (Unit {0}) BookView → ℕ → Me (Unit {0}) BookView → Type 0
+abbrev pub Done : List Entry → ℕ → Step (Unit {0}) → Me (Unit {0}) BookView → ℕ
+    → Me (Unit {0}) BookView → Type 0
 Done added risen step before n after = Changed added risen before.0 after.0 × (after.1 ≡ before.1)

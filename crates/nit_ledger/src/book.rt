@@ -46,7 +46,12 @@ impl Book {
     pub fn share(&mut self) -> Share
         requires { length self.old.counts < 64 }
         ensures book { self.new ≡ record self.old { counts = self.old.counts ++ 0 ∷ [] } }
-        ensures share { result ≡ record { name = self.old.name; number = length self.old.counts; count = 0; seen = self.old.entries } }
+        ensures share { result ≡ record {
+          name = self.old.name;
+          number = length self.old.counts;
+          count = 0;
+          seen = self.old.entries;
+        } }
     {
         Share {
             seat: Some(split_off(&self.pages, &mut self.seat)),
@@ -57,8 +62,12 @@ impl Book {
     /// entries.
     pub fn append(&mut self, share: &mut Share, e: &Entry)
         requires { share.old.name ≡ self.old.name }
-        ensures book { self.new ≡ record self.old { entries = self.old.entries ++ e.now ∷ []; counts = raised self.old.counts share.old.number } }
-        ensures share { share.new ≡ record share.old { count = share.old.count + 1; seen = self.new.entries } }
+        ensures book { self.new ≡ record self.old {
+          entries = self.old.entries ++ e.now ∷ [];
+          counts = raised self.old.counts share.old.number;
+        } }
+        ensures share { share.new
+            ≡ record share.old { count = share.old.count + 1; seen = self.new.entries } }
         ensures before { IsShareOf self.old share.old }
     {
         self.add::<Brand>(share, e);
@@ -68,8 +77,10 @@ impl Book {
     /// all entries.
     pub fn count(&mut self, share: &mut Share)
         requires { share.old.name ≡ self.old.name }
-        ensures book { self.new ≡ record self.old { counts = raised self.old.counts share.old.number } }
-        ensures share { share.new ≡ record share.old { count = share.old.count + 1; seen = self.old.entries } }
+        ensures book { self.new
+            ≡ record self.old { counts = raised self.old.counts share.old.number } }
+        ensures share { share.new
+            ≡ record share.old { count = share.old.count + 1; seen = self.old.entries } }
         ensures before { IsShareOf self.old share.old }
     {
         self.turn::<Counting>(share);
@@ -89,8 +100,12 @@ impl Book {
     fn add<X: Item>(&mut self, share: &mut Share, e: &Entry)
         requires name { share.old.name ≡ self.old.name }
         requires entry { e.now ≡ X.entry }
-        ensures book { self.new ≡ record self.old { entries = self.old.entries ++ e.now ∷ []; counts = raised self.old.counts share.old.number } }
-        ensures share { share.new ≡ record share.old { count = share.old.count + 1; seen = self.new.entries } }
+        ensures book { self.new ≡ record self.old {
+          entries = self.old.entries ++ e.now ∷ [];
+          counts = raised self.old.counts share.old.number;
+        } }
+        ensures share { share.new
+            ≡ record share.old { count = share.old.count + 1; seen = self.new.entries } }
         ensures before { IsShareOf self.old share.old }
     {
         let _ = e;
@@ -100,8 +115,14 @@ impl Book {
     /// The share is taken in, does its deed and is given back.
     fn turn<D: Deed>(&mut self, share: &mut Share)
         requires { share.old.name ≡ self.old.name }
-        ensures book { self.new ≡ record self.old { entries = self.old.entries ++ D.added; counts = raised_by self.old.counts share.old.number D.risen } }
-        ensures share { share.new ≡ record share.old { count = share.old.count + D.risen; seen = self.old.entries ++ D.added } }
+        ensures book { self.new ≡ record self.old {
+          entries = self.old.entries ++ D.added;
+          counts = raised_by self.old.counts share.old.number D.risen;
+        } }
+        ensures share { share.new ≡ record share.old {
+          count = share.old.count + D.risen;
+          seen = self.old.entries ++ D.added;
+        } }
         ensures before { IsShareOf self.old share.old }
     {
         let Some(seat) = share.seat.take() else {

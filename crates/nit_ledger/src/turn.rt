@@ -13,20 +13,25 @@ use atomic_table::Seat;
 pub(crate) fn split_off(pages: &Pages, book: &mut Seat<(), BookView>) -> Seat<(), BookView>
     requires pages { IsSeatOf pages.now.shared.table_id book.old }
     requires book { IsResting book.old }
-    ensures pages { (book.new.table_id ≡ book.old.table_id) × (result.table_id ≡ book.old.table_id) }
-    ensures book { book.new.me ≡ (resting (entries_at book.old) (counts_at book.old ++ 0 ∷ []), []) }
-    ensures share { result.me ≡ (OfShare (token (length (counts_at book.old)) 0 (entries_at book.old)), []) }
+    ensures pages { (book.new.table_id ≡ book.old.table_id)
+        × (result.table_id ≡ book.old.table_id) }
+    ensures book { book.new.me
+        ≡ (resting (entries_at book.old) (counts_at book.old ++ 0 ∷ []), []) }
+    ensures share { result.me
+        ≡ (OfShare (token (length (counts_at book.old)) 0 (entries_at book.old)), []) }
 {
     pages.shared.split_seat::<Opens>(book)
 }
 
 /// Takes a share in.
 pub(crate) fn take_in(pages: &Pages, book: &mut Seat<(), BookView>, share: Seat<(), BookView>)
-    requires pages { IsSeatOf pages.now.shared.table_id book.old × (share.table_id ≡ book.old.table_id) }
+    requires pages { IsSeatOf pages.now.shared.table_id book.old
+        × (share.table_id ≡ book.old.table_id) }
     requires book { IsResting book.old }
     requires share { IsShares share }
     ensures pages { book.new.table_id ≡ book.old.table_id }
-    ensures book { book.new.me ≡ (holding (entries_at book.old) (counts_at book.old) (token_at share), []) }
+    ensures book { book.new.me
+        ≡ (holding (entries_at book.old) (counts_at book.old) (token_at share), []) }
 {
     pages.shared.join_seat::<Carries>(book, share);
 }
@@ -36,7 +41,12 @@ pub(crate) fn deed<D: Deed>(pages: &Pages, book: &mut Seat<(), BookView>)
     requires pages { IsSeatOf pages.now.shared.table_id book.old }
     requires book { IsHolding book.old }
     ensures pages { book.new.table_id ≡ book.old.table_id }
-    ensures book { let t = taken_at book.old in let es = entries_at book.old ++ D.added in book.new.me ≡ (holding es (raised_by (counts_at book.old) t.number D.risen) (token t.number (t.count + D.risen) es), []) }
+    ensures book { let t = taken_at book.old in let es = entries_at book.old ++ D.added in
+        book.new.me ≡ (
+          holding es (raised_by (counts_at book.old) t.number D.risen)
+              (token t.number (t.count + D.risen) es),
+          [],
+        ) }
     ensures before { Agrees (entries_at book.old) (counts_at book.old) (taken_at book.old) }
 {
     pages.shared.load::<Does<D>>(book, 0);
@@ -46,7 +56,8 @@ pub(crate) fn deed<D: Deed>(pages: &Pages, book: &mut Seat<(), BookView>)
 pub(crate) fn give_back(pages: &Pages, book: &mut Seat<(), BookView>) -> Seat<(), BookView>
     requires pages { IsSeatOf pages.now.shared.table_id book.old }
     requires book { IsHolding book.old }
-    ensures pages { (book.new.table_id ≡ book.old.table_id) × (result.table_id ≡ book.old.table_id) }
+    ensures pages { (book.new.table_id ≡ book.old.table_id)
+        × (result.table_id ≡ book.old.table_id) }
     ensures book { book.new.me ≡ (resting (entries_at book.old) (counts_at book.old), []) }
     ensures share { result.me ≡ (OfShare (taken_at book.old), []) }
 {

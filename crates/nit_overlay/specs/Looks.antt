@@ -12,7 +12,15 @@ use Rattle.nit_overlay.specs.Shown.{Scenery, place_of}
 -- what frames are made by: the screen, the bar and the views of the stack, and what else the look has
 abbrev pub scenery : Look → Scenery
 scenery look =
-    record { width = look.stack.now.width; height = look.stack.now.height; bar = look.stack.now.bar; stack = views_of look.stack.now.views; labels = look.labels.now; mode = look.mode; focus = look.focus }
+    record {
+      width = look.stack.now.width;
+      height = look.stack.now.height;
+      bar = look.stack.now.bar;
+      stack = views_of look.stack.now.views;
+      labels = look.labels.now;
+      mode = look.mode;
+      focus = look.focus;
+    }
 
 -- labels are drawn in all modes but Flat
 abbrev pub draws_labels : Mode → Bool
@@ -25,7 +33,8 @@ pixel_at q = point q.0 q.1
 
 -- at the slot of a view stands the place of its label, or that it has none
 abbrev pub IsPlaced : Look → Seat → Type 0
-IsPlaced look s = slice_get look.places.now s.slot ≡ Some (option_map pixel_at (place_of (scenery look) s.view))
+IsPlaced look s =
+    slice_get look.places.now s.slot ≡ Some (option_map pixel_at (place_of (scenery look) s.view))
 
 -- There is a label for each session, and the focus is on a session. Where labels are drawn, each
 -- view's label stands where it is to.

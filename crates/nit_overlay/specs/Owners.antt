@@ -8,4 +8,5 @@ use Rattle.nit_overlay.specs.Looks.{draws_labels, pixel_at, scenery}
 -- its session has a label, and where labels are drawn it has the place of its label
 pub record IsOwner (look : Look) (o : Owner) : Type 0 where
   pub session : o.view.sid < length look.labels.now
-  pub place : IsTrue (draws_labels look.mode) → o.place ≡ option_map pixel_at (place_of (scenery look) o.view)
+  pub place : IsTrue (draws_labels look.mode)
+      → o.place ≡ option_map pixel_at (place_of (scenery look) o.view)

@@ -65,7 +65,8 @@ screen_place (negsuc n) = 0
 
 -- the picture of a text that stands at a column and row of the screen has this pixel
 abbrev pub is_in_picture : List ℕ → ℕ → ℕ → Point → Bool
-is_in_picture text x y p = covers (rectangle (pos x) (pos y) (picture_width (length text)) picture_height) p
+is_in_picture text x y p =
+    covers (rectangle (pos x) (pos y) (picture_width (length text)) picture_height) p
 
 -- whether it has a dot there
 abbrev pub has_dot : List ℕ → ℕ → ℕ → Point → Bool
@@ -94,16 +95,21 @@ by_mode Kill false is_focused w = tint w
 -- the view's own pixel, or its label where that stands there
 abbrev pub by_label : List ℕ → Option (ℕ × ℕ) → Point → ℕ → ℕ
 by_label text None p w = w
-by_label text (Some q) p w = if is_in_picture text q.0 q.1 p then ink_of (has_dot text q.0 q.1 p) else w
+by_label text (Some q) p w =
+    if is_in_picture text q.0 q.1 p then ink_of (has_dot text q.0 q.1 p) else w
 
 -- where the label of a view stands
 abbrev pub place_of : Scenery → View → Option (ℕ × ℕ)
-place_of s v = label_place s.width s.height s.bar s.stack v (picture_width (length (view_text s v))) picture_height
+place_of s v =
+    label_place s.width s.height s.bar s.stack v (picture_width (length (view_text s v)))
+    picture_height
 
 -- a pixel of a view, with its raw word
 abbrev pub view_word : Mode → Scenery → View → Point → ℕ → ℕ
 view_word Flat s v p w = w
-view_word mode s v p w = by_label (view_text s v) (place_of s v) p (by_mode mode (is_on_ring v.rect p) (is_same s.focus (Some v.sid)) w)
+view_word mode s v p w =
+    by_label (view_text s v) (place_of s v) p
+    (by_mode mode (is_on_ring v.rect p) (is_same s.focus (Some v.sid)) w)
 
 abbrev pub owner_word : Scenery → Point → ℕ → Option View → ℕ
 owner_word s p w None = bare_word
@@ -115,4 +121,5 @@ shown s p w = if in_bar s.bar p then bar_word s p else owner_word s p w (owner s
 
 -- The frame: what is shown at each pixel, row by row from the top, where raw has the pixels' raw words.
 unfoldable pub frame : Scenery → List ℕ → List ℕ
-frame s raw = map (λ k. shown s (pixel s.width k) (slice_index raw k)) (range_with_len 0 (s.width * s.height))
+frame s raw =
+    map (λ k. shown s (pixel s.width k) (slice_index raw k)) (range_with_len 0 (s.width * s.height))

@@ -22,7 +22,8 @@ pub(crate) struct Area {
 fn clipped(places: Span, most: u32) -> (u32, u32)
     ensures in_order { result.0 ≤ result.1 }
     ensures within { result.1 ≤ most }
-    ensures same { (at : ℕ) → at < most → (nat_le result.0 at && nat_lt at result.1) ≡ has places at }
+    ensures same { (at : ℕ) → at < most
+        → (nat_le result.0 at && nat_lt at result.1) ≡ has places at }
 {
     let end = places.to.saturating_sub(SHIFT).min(most);
     let start = places.from.saturating_sub(SHIFT).min(end);
@@ -32,7 +33,8 @@ fn clipped(places: Span, most: u32) -> (u32, u32)
 /// The pixels that the rectangle covers of a screen of `width` by `height`.
 pub(crate) fn area_of(rect: &Rect, width: u32, height: u32) -> Area
     ensures area { IsArea width height result }
-    ensures same { (x y : ℕ) → x < width → y < height → in_area result x y ≡ covers rect.now (point x y) }
+    ensures same { (x y : ℕ) → x < width → y < height
+        → in_area result x y ≡ covers rect.now (point x y) }
 {
     let (left, right) = clipped(span_of(rect.x(), rect.w()), width);
     let (top, bottom) = clipped(span_of(rect.y(), rect.h()), height);

@@ -53,7 +53,8 @@ pub(crate) fn overlay_bar(look: &Look, y: u32, from: u32, to: u32, raw: &[u32], 
     requires within { to ≤ length raw.now }
     requires across { to ≤ 1024 }
     requires down { y < 7 }
-    ensures { IsPainted (λ x w. bar_word (scenery look.now) (point x y)) raw.now out.old out.new from to }
+    ensures { IsPainted (λ x w. bar_word (scenery look.now) (point x y))
+        raw.now out.old out.new from to }
 {
     let text = text_of(look);
     let tag = Tag {

@@ -13,7 +13,8 @@ ghost use Rattle.nit_stack.specs.Sources.{in_bar, owner, pixel};
 /// there. Where all raw words are below 2^24, so are its words. Equal raw words make equal frames.
 pub fn frame_pixels()
     ensures count { (s : Scenery) (raw : List ℕ) → length (frame s raw) ≡ s.width * s.height }
-    ensures each { (s : Scenery) (raw : List ℕ) (k : ℕ) → k < s.width * s.height → slice_index (frame s raw) k ≡ shown s (pixel s.width k) (slice_index raw k) }
+    ensures each { (s : Scenery) (raw : List ℕ) (k : ℕ) → k < s.width * s.height
+        → slice_index (frame s raw) k ≡ shown s (pixel s.width k) (slice_index raw k) }
     ensures words { (s : Scenery) (raw : List ℕ) → length raw ≡ s.width * s.height
         → All IsWord raw → All IsWord (frame s raw) }
     ensures same { (s : Scenery) (raw raw' : List ℕ)

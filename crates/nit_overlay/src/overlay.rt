@@ -23,7 +23,9 @@ pub fn overlay_rect(look: &Look, raw: &[u32], r: Rect, out: &mut [u32])
     requires out { length out.old ≡ look.now.stack.now.width * look.now.stack.now.height }
     requires words { All IsWord raw.now }
     ensures pixels { (k : ℕ) → k < look.now.stack.now.width * look.now.stack.now.height
-        → slice_index out.new k ≡ (if covers r (pixel look.now.stack.now.width k) then shown (scenery look.now) (pixel look.now.stack.now.width k) (slice_index raw.now k) else slice_index out.old k) }
+        → slice_index out.new k ≡ (if covers r (pixel look.now.stack.now.width k)
+        then shown (scenery look.now) (pixel look.now.stack.now.width k) (slice_index raw.now k)
+        else slice_index out.old k) }
     ensures length { length out.new ≡ length out.old }
 {
     let (width, height) = look.stack.size();

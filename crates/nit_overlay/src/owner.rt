@@ -30,7 +30,8 @@ pub(crate) struct Piece {
 /// The view at place `i` from the front, with its slot.
 fn view_at(stack: &Stack, i: u32) -> (ViewRef, View)
     requires { i < length stack.now.views }
-    ensures place { slice_get stack.now.views i ≡ Some (record { slot = result.0.0; view = result.1 }) }
+    ensures place { slice_get stack.now.views i
+        ≡ Some (record { slot = result.0.0; view = result.1 }) }
     ensures standing { IsStanding stack.now }
 {
     let v = stack.at(i);
@@ -40,7 +41,8 @@ fn view_at(stack: &Stack, i: u32) -> (ViewRef, View)
 /// The view at place `i` from the front as an owner.
 fn owner_at(look: &Look, i: u32, v: ViewRef, view: View) -> Owner
     requires look { IsLook look.now }
-    requires place { slice_get look.now.stack.now.views i ≡ Some (record { slot = v.0; view = view }) }
+    requires place { slice_get look.now.stack.now.views i
+        ≡ Some (record { slot = v.0; view = view }) }
     requires standing { IsStanding look.now.stack.now }
     ensures view { result.view ≡ view }
     ensures owner { IsOwner look.now result }
@@ -62,7 +64,9 @@ pub(crate) fn piece_at(look: &Look, x: u32, y: u32, to: u32) -> Piece
     requires below { look.now.stack.now.bar ≤ y }
     ensures after { x < result.end }
     ensures within { result.end ≤ to }
-    ensures owner { (z : ℕ) → x ≤ z → z < result.end → owner look.now.stack.now.bar (views_of look.now.stack.now.views) (point z y) ≡ option_map (λ o. o.view) result.owner }
+    ensures owner { (z : ℕ) → x ≤ z → z < result.end
+        → owner look.now.stack.now.bar (views_of look.now.stack.now.views) (point z y)
+        ≡ option_map (λ o. o.view) result.owner }
     ensures placed { IfSome result.owner (IsOwner look.now) }
 {
     let mut end = to;

@@ -51,7 +51,8 @@ fn paint(rule: Rule, raw: &[u32], out: &mut [u32], x: u32, y: u32)
     requires words { All IsWord raw.now }
     requires tagged { IsTagged rule x (x + length raw.now) y }
     requires across { x + length raw.now ≤ 1024 }
-    ensures { (k : ℕ) → k < length raw.now → slice_index out.new k ≡ word_by rule (x + k) y (slice_index raw.now k) }
+    ensures { (k : ℕ) → k < length raw.now
+        → slice_index out.new k ≡ word_by rule (x + k) y (slice_index raw.now k) }
 {
     match rule {
         Rule::Fill(word) => out.fill(word),
@@ -72,7 +73,8 @@ fn paint(rule: Rule, raw: &[u32], out: &mut [u32], x: u32, y: u32)
 fn paint_text(tag: &Tag, out: &mut [u32], x: u32, y: u32)
     requires tagged { IsInTag tag.now x (x + length out.old) y }
     requires across { x + length out.old ≤ 1024 }
-    ensures { (k : ℕ) → k < length out.old → slice_index out.new k ≡ word_by (Rule.Text tag.now) (x + k) y 0 }
+    ensures { (k : ℕ) → k < length out.old
+        → slice_index out.new k ≡ word_by (Rule.Text tag.now) (x + k) y 0 }
 {
     'dots: for (k, word) in out.iter_mut().enumerate() {
         let dot = label_bit(&tag.text, x + k as u32 - tag.left, y - tag.top);

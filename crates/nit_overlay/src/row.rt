@@ -26,7 +26,8 @@ fn overlay_stripe(stripe: &Stripe, y: u32, from: u32, to: u32, raw: &[u32], out:
     requires in_order { from ≤ to }
     requires within { to ≤ length raw.now }
     requires across { to ≤ 1024 }
-    ensures { IsPainted (λ x w. word_by (stripe_rule stripe.now x) x y w) raw.now out.old out.new from to }
+    ensures { IsPainted (λ x w. word_by (stripe_rule stripe.now x) x y w) raw.now out.old out.new
+        from to }
 {
     let mut x = from;
     'runs: while x < to {
@@ -53,7 +54,9 @@ fn overlay_owned(
     requires within { to ≤ length raw.now }
     requires across { to ≤ 1024 }
     requires down { y ≤ 768 }
-    ensures { IsPainted (λ x w. owner_word (scenery look.now) (point x y) w (option_map (λ o. o.view) owner)) raw.now out.old out.new from to }
+    ensures { IsPainted
+        (λ x w. owner_word (scenery look.now) (point x y) w (option_map (λ o. o.view) owner))
+        raw.now out.old out.new from to }
 {
     match owner {
         Some(owner) => {
@@ -74,7 +77,8 @@ fn overlay_below(look: &Look, y: u32, from: u32, to: u32, raw: &[u32], out: &mut
     requires across { to ≤ 1024 }
     requires down { y ≤ 768 }
     requires below { look.now.stack.now.bar ≤ y }
-    ensures { IsPainted (λ x w. shown (scenery look.now) (point x y) w) raw.now out.old out.new from to }
+    ensures { IsPainted (λ x w. shown (scenery look.now) (point x y) w)
+        raw.now out.old out.new from to }
 {
     let mut x = from;
     'pieces: while x < to {
@@ -93,7 +97,8 @@ pub(crate) fn overlay_row(look: &Look, y: u32, from: u32, to: u32, raw: &[u32], 
     requires within { to ≤ length raw.now }
     requires across { to ≤ 1024 }
     requires down { y ≤ 768 }
-    ensures { IsPainted (λ x w. shown (scenery look.now) (point x y) w) raw.now out.old out.new from to }
+    ensures { IsPainted (λ x w. shown (scenery look.now) (point x y) w)
+        raw.now out.old out.new from to }
 {
     if y < look.stack.bar() {
         overlay_bar(look, y, from, to, raw, out);

@@ -62,7 +62,8 @@ pub(crate) fn span_of(from: i32, long: u32) -> Span
     requires length { long ≤ 32767 }
     ensures within { (at : ℕ) → has result at ≡ spans from long (pos at) }
     ensures first { (at : ℕ) → ((at + 32768) == result.from) ≡ int_eq (pos at) from }
-    ensures last { (at : ℕ) → ((at + 32769) == result.to) ≡ int_eq (pos at) ((from +ℤ pos long) -ℤ pos 1) }
+    ensures last { (at : ℕ)
+        → ((at + 32769) == result.to) ≡ int_eq (pos at) ((from +ℤ pos long) -ℤ pos 1) }
 {
     moved_ends(from, long)
 }

@@ -77,8 +77,10 @@ pub(crate) fn width_of(text: &LabelText) -> u32
 fn tag_at(look: &Look, owner: &Owner, y: u32) -> Option<Tag>
     requires owner { IsOwner look.now owner.now }
     ensures undrawn { draws_labels look.now.mode ≡ false → result ≡ None }
-    ensures drawn { draws_labels look.now.mode ≡ true → (rule : Rule) (x w : ℕ) → word_by (tag_rule result x rule) x y w
-        ≡ by_label (view_text (scenery look.now) owner.now.view) (place_of (scenery look.now) owner.now.view) (point x y) (word_by rule x y w) }
+    ensures drawn { draws_labels look.now.mode ≡ true → (rule : Rule) (x w : ℕ)
+        → word_by (tag_rule result x rule) x y w
+        ≡ by_label (view_text (scenery look.now) owner.now.view)
+        (place_of (scenery look.now) owner.now.view) (point x y) (word_by rule x y w) }
     ensures met { IfSome result (IsMet y) }
 {
     if !draws_labels(look.mode) {
@@ -160,7 +162,9 @@ fn run_outside(stripe: &Stripe, x: u32, to: u32) -> Run
     ensures after { x < result.end }
     ensures within { result.end ≤ to }
     ensures same { (z : ℕ) → x ≤ z → z < result.end
-        → mode_rule stripe.now.mode (has_at_end stripe.now.columns z || stripe.now.edge) stripe.now.focused ≡ result.rule }
+        → mode_rule stripe.now.mode (has_at_end stripe.now.columns z || stripe.now.edge)
+        stripe.now.focused
+        ≡ result.rule }
 {
     let is_ring = stripe.edge || stripe.columns.has_at_end(x);
     let rule = mode_rule(stripe.mode, is_ring, stripe.focused);

@@ -16,7 +16,8 @@ pub record End : Type 0 where
 
 -- the owner's sight of a new buffer: all words are 0, and nothing was loaded
 abbrev pub new_sight : ℕ → ℕ → List ℕ → Sight
-new_sight owner size ink = record { owner = owner; size = size; ink = ink; words = Some (zeros size); log = Some [] }
+new_sight owner size ink =
+    record { owner = owner; size = size; ink = ink; words = Some (zeros size); log = Some [] }
 
 -- a new reader's sight of an owner's buffer: no words are told, and nothing was loaded
 abbrev pub reader_sight : Sight → Sight

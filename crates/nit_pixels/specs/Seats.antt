@@ -12,7 +12,14 @@ PixelSeat = Seat (Unit {0}) PixelView
 
 -- the sight of a seat: what its view knows, and as many words as the table has
 abbrev pub sight_of : PixelSeat → Sight
-sight_of s = record { owner = s.me.0.owner; size = s.table_id.words; ink = s.me.0.ink; words = s.me.0.words; log = Some s.me.0.log }
+sight_of s =
+    record {
+      owner = s.me.0.owner;
+      size = s.table_id.words;
+      ink = s.me.0.ink;
+      words = s.me.0.words;
+      log = Some s.me.0.log;
+    }
 
 -- what an end with this seat is seen as
 abbrev pub end_of : PixelSeat → End
@@ -20,7 +27,9 @@ end_of s = record { sight = sight_of s; stand = record { buffer = s.table_id; se
 
 -- an owner's seat: there is a word, and its view tells all of them
 abbrev pub IsOwners : PixelSeat → Type 0
-IsOwners s = (0 < s.table_id.words) × (option_map (λ words. length words) s.me.0.words ≡ Some s.table_id.words) × (s.me.1 ≡ [])
+IsOwners s =
+    (0 < s.table_id.words)
+    × (option_map (λ words. length words) s.me.0.words ≡ Some s.table_id.words) × (s.me.1 ≡ [])
 
 -- a reader's seat: its view tells no words
 abbrev pub IsReaders : PixelSeat → Type 0

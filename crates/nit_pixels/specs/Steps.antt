@@ -11,7 +11,13 @@ use Rattle.nit_pixels.specs.declared.steps.Identity.{Identity}
 
 -- the owner's view of words that are all 0
 abbrev pub owner_view : Identity → PixelView
-owner_view identity = record { owner = identity.owner; ink = identity.ink.items; words = Some (zeros identity.words); log = [] }
+owner_view identity =
+    record {
+      owner = identity.owner;
+      ink = identity.ink.items;
+      words = Some (zeros identity.words);
+      log = [];
+    }
 
 -- a reader's view beside this one: it tells no words, and nothing was loaded
 abbrev pub reader_view : PixelView → PixelView
@@ -19,15 +25,24 @@ reader_view view = record { owner = view.owner; ink = view.ink; words = None; lo
 
 -- the view after w was loaded at place i
 abbrev pub view_loaded : PixelView → ℕ → ℕ → PixelView
-view_loaded view i w = record { owner = view.owner; ink = view.ink; words = view.words; log = view.log ++ (i, w) ∷ [] }
+view_loaded view i w =
+    record { owner = view.owner; ink = view.ink; words = view.words; log = view.log ++ (i, w) ∷ [] }
 
 -- the view after w was stored at place i
 abbrev pub view_stored : PixelView → ℕ → ℕ → PixelView
-view_stored view i w = record { owner = view.owner; ink = view.ink; words = option_map (λ words. slice_set words i w) view.words; log = view.log }
+view_stored view i w =
+    record {
+      owner = view.owner;
+      ink = view.ink;
+      words = option_map (λ words. slice_set words i w) view.words;
+      log = view.log;
+    }
 
 -- the view has the owner and the ink, and where it tells words they are these
 abbrev pub IsViewOf : Identity → List ℕ → PixelView → Type 0
-IsViewOf identity words view = (view.owner ≡ identity.owner) × (view.ink ≡ identity.ink.items) × IfSome view.words (λ told. told ≡ words)
+IsViewOf identity words view =
+    (view.owner ≡ identity.owner) × (view.ink ≡ identity.ink.items)
+    × IfSome view.words (λ told. told ≡ words)
 
 -- a state of the words, and of the views of all ends
 abbrev pub PixelState : Type 0
@@ -38,8 +53,10 @@ PixelState = State (Unit {0}) PixelView
 pub record IsRuled (identity : Identity) (s : PixelState) : Type 0 where
   pub ink_fits : All IsWord identity.ink.items
   pub inked : (i : ℕ) → IsInked identity.ink.items (slice_index s.words i)
-  pub views : (j : ℕ) (view : PixelView) → get_elem? s.views j ≡ some view → IsViewOf identity s.words view
-  pub one_owner : (j k : ℕ) (v w : PixelView) → get_elem? s.views j ≡ some v → get_elem? s.views k ≡ some w → IsSome v.words → IsSome w.words → j ≡ k
+  pub views : (j : ℕ) (view : PixelView) → get_elem? s.views j ≡ some view
+      → IsViewOf identity s.words view
+  pub one_owner : (j k : ℕ) (v w : PixelView) → get_elem? s.views j ≡ some v
+      → get_elem? s.views k ≡ some w → IsSome v.words → IsSome w.words → j ≡ k
 
 -- a seat: its view, and no slot of the table
 abbrev pub Sat : Type 0

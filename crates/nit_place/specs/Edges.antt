@@ -25,11 +25,13 @@ in_front v stack = before_first (is_view v.sid v.handle) stack
 
 -- the left column of a view's part on the screen, or the right edge of a view in front of it
 abbrev pub IsColumn : List View → View → ℤ → Type 0
-IsColumn stack v x = (x ≡ pos (on_screen v.rect.x)) ⊎ Any (λ u. x ≡ right_of u.rect) (in_front v stack)
+IsColumn stack v x =
+    (x ≡ pos (on_screen v.rect.x)) ⊎ Any (λ u. x ≡ right_of u.rect) (in_front v stack)
 
 -- the top row of a view's part on the screen below the bar, or the bottom of a view in front of it
 abbrev pub IsRow : ℕ → List View → View → ℤ → Type 0
-IsRow rows stack v y = (y ≡ pos (max (on_screen v.rect.y) rows)) ⊎ Any (λ u. y ≡ below u.rect) (in_front v stack)
+IsRow rows stack v y =
+    (y ≡ pos (max (on_screen v.rect.y) rows)) ⊎ Any (λ u. y ≡ below u.rect) (in_front v stack)
 
 -- the column and the row stand at such edges
 pub record IsAtEdges (rows : ℕ) (stack : List View) (v : View) (q : Point) : Type 0 where

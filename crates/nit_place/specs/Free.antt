@@ -9,7 +9,8 @@ use Rattle.nit_place.specs.declared.search.Row.TheVariants.{Free, Full}
 -- the part shares a pixel with the rectangle of w by h at (x, y)
 abbrev pub meets : ℕ → ℕ → ℕ → ℕ → Part → Bool
 meets x y w h r =
-    nat_lt r.left (x + w) && (nat_lt x r.right && (nat_lt r.top (y + h) && (nat_lt y r.bottom && (nat_lt r.left r.right && nat_lt r.top r.bottom))))
+    nat_lt r.left (x + w) && (nat_lt x r.right && (nat_lt r.top (y + h)
+    && (nat_lt y r.bottom && (nat_lt r.left r.right && nat_lt r.top r.bottom))))
 
 -- the rectangle lies in the area, and no part in front meets it
 pub record IsFree (front : ℕ → Part) (n : ℕ) (area : Part) (w h x y : ℕ) : Type 0 where
@@ -26,7 +27,9 @@ IsEdge front n edge at = (k : ℕ) × (k < n) × (0 < at) × (at ≡ edge (front
 -- a part in front that is in the way; none where none is
 abbrev pub IsBlocking : (ℕ → Part) → ℕ → ℕ → ℕ → ℕ → ℕ → Option Part → Type 0
 IsBlocking front n x y w h None = (k : ℕ) → k < n → meets x y w h (front k) ≡ false
-IsBlocking front n x y w h (Some r) = (k : ℕ) × (k < n) × (r ≡ front k) × (meets x y w h r ≡ true) × (r.right ≤ 65535) × (r.bottom ≤ 65535)
+IsBlocking front n x y w h (Some r) =
+    (k : ℕ) × (k < n) × (r ≡ front k) × (meets x y w h r ≡ true) × (r.right ≤ 65535)
+    × (r.bottom ≤ 65535)
 
 -- whichever part has its right edge further right
 abbrev pub further : Option Part → Part → Part
@@ -47,7 +50,8 @@ pub record IsLeastInRow (front : ℕ → Part) (n : ℕ) (area : Part) (w h y x 
 
 -- The rectangle is free neither in the row y nor in the rows below it that come before the next one; in no row below
 -- where there is no next one.
-pub record IsFull (front : ℕ → Part) (n : ℕ) (area : Part) (w h y : ℕ) (next : Option ℕ) : Type 0 where
+pub record IsFull (front : ℕ → Part) (n : ℕ) (area : Part) (w h y : ℕ) (next : Option ℕ)
+    : Type 0 where
   pub none : (x' y' : ℕ) → y ≤ y' → IfSome next (λ b. y' < b) → IsFree front n area w h x' y' → ⊥
   pub edge : IfSome next (λ b. (y < b) × (b ≤ 65535) × IsEdge front n (λ r. r.bottom) b)
 
@@ -65,4 +69,5 @@ pub record IsLeastFree (front : ℕ → Part) (n : ℕ) (area : Part) (w h x y :
 -- the least place as a point; none where the rectangle is free nowhere
 abbrev pub IsSearched : (ℕ → Part) → ℕ → Part → ℕ → ℕ → Option Point → Type 0
 IsSearched front n area w h None = (x y : ℕ) → IsFree front n area w h x y → ⊥
-IsSearched front n area w h (Some q) = (x : ℕ) × (y : ℕ) × (q ≡ point x y) × IsLeastFree front n area w h x y
+IsSearched front n area w h (Some q) =
+    (x : ℕ) × (y : ℕ) × (q ≡ point x y) × IsLeastFree front n area w h x y

@@ -9,8 +9,10 @@ ghost use Rattle.nit_place.specs.Least.{IsLeast};
 
 /// Two labels that stand where they fit views of different names share no pixel. Each has a size of its own.
 pub fn labels_apart()
-    ensures { (width height rows : ℕ) (stack : List View) (v u : View) (w h x y w' h' x' y' : ℕ) → is_view v.sid v.handle u ≡ false
-        → fits width height rows stack v w h x y ≡ true → fits width height rows stack u w' h' x' y' ≡ true
+    ensures { (width height rows : ℕ) (stack : List View) (v u : View) (w h x y w' h' x' y' : ℕ)
+        → is_view v.sid v.handle u ≡ false
+        → fits width height rows stack v w h x y ≡ true
+        → fits width height rows stack u w' h' x' y' ≡ true
         → IsApart (rectangle (pos x) (pos y) w h) (rectangle (pos x') (pos y') w' h') }
 {}
 
@@ -19,8 +21,12 @@ pub fn labels_apart()
 pub fn least_place()
     ensures least { (width height rows : ℕ) (stack : List View) (v : View) (w h : ℕ) → 1 ≤ w → 1 ≤ h
         → IsLeast (fits width height rows stack v w h) (label_place width height rows stack v w h) }
-    ensures only { (width height rows : ℕ) (stack : List View) (v : View) (w h : ℕ) (o : Option (ℕ × ℕ)) → 1 ≤ w → 1 ≤ h
-        → IsLeast (fits width height rows stack v w h) o → o ≡ label_place width height rows stack v w h }
-    ensures within { (width height rows : ℕ) (stack : List View) (v : View) (w h x y : ℕ) → 1 ≤ w → 1 ≤ h
+    ensures only { (width height rows : ℕ) (stack : List View) (v : View) (w h : ℕ)
+        (o : Option (ℕ × ℕ))
+        → 1 ≤ w → 1 ≤ h
+        → IsLeast (fits width height rows stack v w h) o
+        → o ≡ label_place width height rows stack v w h }
+    ensures within { (width height rows : ℕ) (stack : List View) (v : View) (w h x y : ℕ) → 1 ≤ w
+        → 1 ≤ h
         → fits width height rows stack v w h x y ≡ true → (x + w ≤ width) × (y + h ≤ height) }
 {}

@@ -21,7 +21,10 @@ pub fn place_label(stack: &Stack, v: ViewRef, w: u32, h: u32) -> Option<Point>
     requires width { (1 ≤ w) × (w ≤ 133) }
     requires height { (1 ≤ h) × (h ≤ 133) }
     ensures place { (s : Seat) → seat_in v.0 stack.now.views ≡ Some s
-        → result ≡ option_map (λ q. point q.0 q.1) (label_place stack.now.width stack.now.height stack.now.bar (views_of stack.now.views) s.view w h) }
+        → result
+        ≡ option_map (λ q. point q.0 q.1)
+        (label_place stack.now.width stack.now.height stack.now.bar (views_of stack.now.views)
+        s.view w h) }
     ensures edges { (s : Seat) → seat_in v.0 stack.now.views ≡ Some s
         → IfSome result (IsAtEdges stack.now.bar (views_of stack.now.views) s.view) }
     ensures within { IfSome result (IsWithinScreen stack.now.width stack.now.height w h) }

@@ -50,7 +50,8 @@ pub fn area_set(line: &Line, step: Step) -> Area
 /// below 10^9.
 fn within(area: Area, w: u32, h: u32) -> Area
     requires { (area.x < 10 ^ 9) × (area.y < 10 ^ 9) × (area.w < 10 ^ 9) × (area.h < 10 ^ 9) }
-    ensures places { (i j : ℕ) → is_in_area result i j ≡ (nat_lt i w && nat_lt j h && is_in_area area i j) }
+    ensures places { (i j : ℕ)
+        → is_in_area result i j ≡ (nat_lt i w && nat_lt j h && is_in_area area i j) }
     ensures inside { (result.x + result.w ≤ w) × (result.y + result.h ≤ h) }
 {
     let x = area.x.min(w);
@@ -67,7 +68,8 @@ fn within(area: Area, w: u32, h: u32) -> Area
 pub(crate) fn stroke_area(stroke: &Stroke) -> Area
     requires { FitsStroke stroke.now }
     ensures places { (i j : ℕ) → is_stroked stroke.now i j ≡ is_in_area result i j }
-    ensures fits { (result.x < 10 ^ 9) × (result.y < 10 ^ 9) × (result.w < 10 ^ 9) × (result.h < 10 ^ 9) }
+    ensures fits { (result.x < 10 ^ 9) × (result.y < 10 ^ 9) × (result.w < 10 ^ 9)
+        × (result.h < 10 ^ 9) }
 {
     match *stroke {
         Stroke::Fill { x, y, w, h, .. } | Stroke::Check { x, y, w, h, .. } => Area { x, y, w, h },

@@ -17,7 +17,10 @@ times r p = if covers r p then 1 else 0
 
 -- the four strips and the cut have each pixel of the rectangle once, and no other
 abbrev pub IsDivided : Rectangle → Rectangle → Strips → Type 0
-IsDivided r cut s = (p : Point) → times r p ≡ times s.top p + times s.left p + times s.right p + times s.bottom p + times cut p
+IsDivided r cut s =
+    (p : Point)
+    → times r p
+    ≡ times s.top p + times s.left p + times s.right p + times s.bottom p + times cut p
 
 -- how often the places from `from` on have this one
 abbrev pub times_among : ℤ → ℕ → ℤ → ℕ

@@ -31,7 +31,8 @@ impl Run {
     fn before(self, end: i32) -> Run
         requires low { negsuc 65535 ≤ℤ end }
         requires high { end ≤ℤ pos 65535 }
-        ensures { (at : ℤ) → spans result.from result.long at ≡ (spans self.from self.long at && int_lt at end) }
+        ensures { (at : ℤ)
+            → spans result.from result.long at ≡ (spans self.from self.long at && int_lt at end) }
     {
         let room = end - self.from as i32;
         if room <= 0 {
@@ -51,7 +52,9 @@ impl Run {
 
     /// The places that both runs have.
     pub fn meet(self, other: Run) -> Run
-        ensures { (at : ℤ) → spans result.from result.long at ≡ (spans self.from self.long at && spans other.from other.long at) }
+        ensures { (at : ℤ)
+            → spans result.from result.long at
+            ≡ (spans self.from self.long at && spans other.from other.long at) }
     {
         if self.from < other.from {
             other.before(self.end())
@@ -62,7 +65,8 @@ impl Run {
 
     /// Whether the run neither begins before the other nor ends behind it.
     pub fn is_within(self, other: Run) -> bool
-        ensures { result ≡ (int_le other.from self.from && int_le (self.from +ℤ pos self.long) (other.from +ℤ pos other.long)) }
+        ensures { result ≡ (int_le other.from self.from
+            && int_le (self.from +ℤ pos self.long) (other.from +ℤ pos other.long)) }
     {
         other.from <= self.from && self.end() <= other.end()
     }
@@ -72,7 +76,11 @@ impl Run {
         requires screen { (self.from +ℤ pos self.long) ≤ℤ pos 1024 }
         requires begins { self.from ≤ℤ cut.from }
         requires ends { (cut.from +ℤ pos cut.long) ≤ℤ (self.from +ℤ pos self.long) }
-        ensures { (at : ℤ) → times_among self.from self.long at ≡ times_among result.before.from result.before.long at + times_among result.after.from result.after.long at + times_among cut.from cut.long at }
+        ensures { (at : ℤ)
+            → times_among self.from self.long at
+            ≡ times_among result.before.from result.before.long at
+            + times_among result.after.from result.after.long at
+            + times_among cut.from cut.long at }
     {
         let before = cut.from as i32 - self.from as i32;
         let after = self.end() - cut.end();

@@ -59,7 +59,9 @@ focus_leave_at = at_kind (codes "focus-leave") nothing_at (λ _. event.FocusLeav
 
 -- any event
 unfoldable pub event_at : List ℕ → Option (Event × List ℕ)
-event_at bytes = first_of (at_made told device_at bytes) (first_of (leave_at bytes) (first_of (focus_enter_at bytes) (focus_leave_at bytes)))
+event_at bytes =
+    first_of (at_made told device_at bytes)
+    (first_of (leave_at bytes) (first_of (focus_enter_at bytes) (focus_leave_at bytes)))
 
 -- `kill`
 unfoldable pub kill_at : List ℕ → Option (Item × List ℕ)
@@ -71,10 +73,13 @@ item_at bytes = first_of (at_made item.Event event_at bytes) (kill_at bytes)
 
 -- ` >`, a session's number and an item
 unfoldable pub delivery_at : List ℕ → Option (Delivery × List ℕ)
-delivery_at = at_kind (codes " >") (at_both session_field (at_spaced item_at)) (λ p. record { sid = p.0; item = p.1 })
+delivery_at =
+    at_kind (codes " >") (at_both session_field (at_spaced item_at))
+    (λ p. record { sid = p.0; item = p.1 })
 
 -- one more in front of what is read behind it, where it is there
-abbrev pub in_front : Option (Delivery × List ℕ) → (List ℕ → List Delivery × List ℕ) → List ℕ → List Delivery × List ℕ
+abbrev pub in_front : Option (Delivery × List ℕ) → (List ℕ → List Delivery × List ℕ) → List ℕ
+    → List Delivery × List ℕ
 in_front (Some (d, rest)) behind bytes = (d ∷ (behind rest).0, (behind rest).1)
 in_front None behind bytes = ([], bytes)
 
@@ -101,13 +106,17 @@ lacking_at w make = at_kind w (at_both nat_field nat_field) make
 unfoldable pub done_at : List ℕ → Option (Reply × List ℕ)
 done_at bytes =
     first_of (plain_at (codes "done") reply.Done bytes)
-    (first_of (plain_at (codes "no-event") reply.NoEvent bytes) (first_of (plain_at (codes "closed") reply.Closed bytes) (plain_at (codes "killed") reply.Killed bytes)))
+    (first_of (plain_at (codes "no-event") reply.NoEvent bytes)
+    (first_of (plain_at (codes "closed") reply.Closed bytes)
+    (plain_at (codes "killed") reply.Killed bytes)))
 
 -- what was asked for is out of range
 unfoldable pub bad_at : List ℕ → Option (Reply × List ℕ)
 bad_at bytes =
     first_of (plain_at (codes "bad-rect") reply.BadRect bytes)
-    (first_of (plain_at (codes "bad-size") reply.BadSize bytes) (first_of (plain_at (codes "bad-title") reply.BadTitle bytes) (plain_at (codes "too-many-views") reply.TooManyViews bytes)))
+    (first_of (plain_at (codes "bad-size") reply.BadSize bytes)
+    (first_of (plain_at (codes "bad-title") reply.BadTitle bytes)
+    (plain_at (codes "too-many-views") reply.TooManyViews bytes)))
 
 -- the event that was taken
 unfoldable pub taken_at : List ℕ → Option (Reply × List ℕ)
@@ -131,7 +140,10 @@ reserve_at = lacking_at (codes "no-reserve") (λ p. reply.NoReserve p.0 p.1)
 
 -- a reply with an event or with numbers
 unfoldable pub holding_at : List ℕ → Option (Reply × List ℕ)
-holding_at bytes = first_of (taken_at bytes) (first_of (handle_at bytes) (first_of (no_view_at bytes) (first_of (quota_at bytes) (reserve_at bytes))))
+holding_at bytes =
+    first_of (taken_at bytes)
+    (first_of (handle_at bytes)
+    (first_of (no_view_at bytes) (first_of (quota_at bytes) (reserve_at bytes))))
 
 -- any reply
 unfoldable pub reply_at : List ℕ → Option (Reply × List ℕ)
@@ -145,7 +157,9 @@ behind_reply_at = at_kind (codes " < ") call_at (λ c. c)
 
 -- `call`, a session, a reply and a call
 unfoldable pub answered_at : List ℕ → Option (Entry × List ℕ)
-answered_at = at_kind (codes "call") (at_both session_field (at_both (at_spaced reply_at) behind_reply_at)) (λ p. entry.Call p.0 p.1.1 p.1.0)
+answered_at =
+    at_kind (codes "call") (at_both session_field (at_both (at_spaced reply_at) behind_reply_at))
+    (λ p. entry.Call p.0 p.1.1 p.1.0)
 
 -- `input`, a device event and its deliveries
 unfoldable pub input_at : List ℕ → Option (Entry × List ℕ)
@@ -161,7 +175,9 @@ final_at = at_kind (codes "final") nothing_at (λ _. entry.Final)
 
 -- an entry's line up to its line feed
 unfoldable pub entry_front_at : List ℕ → Option (Entry × List ℕ)
-entry_front_at bytes = first_of (answered_at bytes) (first_of (input_at bytes) (first_of (shot_at bytes) (final_at bytes)))
+entry_front_at bytes =
+    first_of (answered_at bytes)
+    (first_of (input_at bytes) (first_of (shot_at bytes) (final_at bytes)))
 
 -- an entry's line with its line feed
 unfoldable pub entry_at : List ℕ → Option (Entry × List ℕ)

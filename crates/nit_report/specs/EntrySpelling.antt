@@ -50,7 +50,9 @@ reply_spelling reply.Killed = codes "killed"
 
 -- an entry's line, without its line feed: a call's reply stands before the call
 abbrev pub entry_spelling : Entry → List ℕ
-entry_spelling (entry.Call sid call r) = codes "call" ++ (nat sid ++ (32 ∷ (reply_spelling r ++ (codes " < " ++ call_spelling call))))
-entry_spelling (entry.Input dev routed) = codes "input " ++ (device_spelling dev ++ flat_map delivery_spelling (deliveries_of routed))
+entry_spelling (entry.Call sid call r) =
+    codes "call" ++ (nat sid ++ (32 ∷ (reply_spelling r ++ (codes " < " ++ call_spelling call))))
+entry_spelling (entry.Input dev routed) =
+    codes "input " ++ (device_spelling dev ++ flat_map delivery_spelling (deliveries_of routed))
 entry_spelling (entry.Shot number) = codes "shot" ++ nat number
 entry_spelling entry.Final = codes "final"

@@ -27,8 +27,10 @@ status_spelling status.Killed = codes "killed"
 -- how many events were lost, how many are left, and whether the session is served, a line each
 abbrev pub ending_text : Ending → List ℕ
 ending_text end =
-    codes "lost" ++ (nat end.lost ++ (10 ∷ (codes "left" ++ (nat end.left ++ (10 ∷ (codes "state " ++ (status_spelling end.status ++ 10 ∷ [])))))))
+    codes "lost" ++ (nat end.lost ++ (10 ∷ (codes "left" ++ (nat end.left
+    ++ (10 ∷ (codes "state " ++ (status_spelling end.status ++ 10 ∷ [])))))))
 
 -- a line for each event that the session took, in order, and then how it ended
 abbrev pub events_text : List Entry → ℕ → Ending → List ℕ
-events_text entries s end = flat_map (spelled event_spelling) (flat_map (taken s) entries) ++ ending_text end
+events_text entries s end =
+    flat_map (spelled event_spelling) (flat_map (taken s) entries) ++ ending_text end

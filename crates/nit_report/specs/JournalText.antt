@@ -77,7 +77,8 @@ ReadsJournal = Reads FitsEntry entry_spelling
 -- The line of this number, from 1, is the first that spells no entry.
 abbrev pub IsFirstBadEntry : List ℕ → ℕ → Type 0
 IsFirstBadEntry bytes number =
-    (entries : List Entry) × (rest : List ℕ) × Begins FitsEntry entry_spelling bytes entries rest × (rest ≢ []) × HasNoReading FitsEntry entry_spelling rest × (length entries + 1 ≡ number)
+    (entries : List Entry) × (rest : List ℕ) × Begins FitsEntry entry_spelling bytes entries rest
+    × (rest ≢ []) × HasNoReading FitsEntry entry_spelling rest × (length entries + 1 ≡ number)
 
 -- The fact holds, or memory ran out.
 abbrev pub UnlessNoMemory : {V : Type 0} → Result V JournalError → Type 0 → Type 0
@@ -86,7 +87,8 @@ UnlessNoMemory (Err (Bad line)) P = P
 UnlessNoMemory (Err NoMemory) P = Unit {0}
 
 -- What reading bytes as a journal may answer. The entries are seen by a view.
-abbrev pub IsJournalAnswer : {V : Type 0} → (V → List Entry) → List ℕ → Result V JournalError → Type 0
+abbrev pub IsJournalAnswer : {V : Type 0} → (V → List Entry) → List ℕ → Result V JournalError
+    → Type 0
 IsJournalAnswer view bytes (Ok v) = ReadsJournal bytes (view v)
 IsJournalAnswer view bytes (Err (Bad line)) = IsFirstBadEntry bytes line
 IsJournalAnswer view bytes (Err NoMemory) = Unit {0}

@@ -21,7 +21,8 @@ pub fn parse_journal(alloc: Global, bytes: &[u8]) -> Result<Vec<Entry>, JournalE
         UnlessNoMemory result (IsOkAnd result (λ v. v.items ≡ entries)) }
 
     // Exactly the first line that spells no entry is named.
-    ensures bad { (line : ℕ) → result ≡ Err (JournalError.Bad line) → IsFirstBadEntry bytes.now line }
+    ensures bad { (line : ℕ) → result ≡ Err (JournalError.Bad line)
+        → IsFirstBadEntry bytes.now line }
     ensures is_bad { (line : ℕ) → IsFirstBadEntry bytes.now line →
         UnlessNoMemory result (result ≡ Err (JournalError.Bad line)) }
 {

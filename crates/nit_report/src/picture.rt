@@ -56,7 +56,8 @@ fn write_header(out: &mut [u8], w: u32, h: u32) -> usize
 fn write_pixels(out: &mut [u8], at: usize, frame: &[u32])
     requires room { at + 3 * length frame.now ≤ length out.old }
     requires words { All IsWord frame.now }
-    ensures { take (at + 3 * length frame.now) out.new ≡ take at out.old ++ flat_map channels frame.now }
+    ensures { take (at + 3 * length frame.now) out.new
+        ≡ take at out.old ++ flat_map channels frame.now }
 {
     let mut end = at;
     for word in frame {

@@ -16,7 +16,9 @@ view_at = at_kind (codes "view") nothing_at (λ _. View)
 
 -- `refresh`, a place, a width and a height
 unfoldable pub refresh_at : List ℕ → Option (Call × List ℕ)
-refresh_at = at_kind (codes "refresh") (at_both int_field (at_both int_field (at_both nat_field nat_field))) (λ p. Refresh p.0 p.1.0 p.1.1.0 p.1.1.1)
+refresh_at =
+    at_kind (codes "refresh") (at_both int_field (at_both int_field (at_both nat_field nat_field)))
+    (λ p. Refresh p.0 p.1.0 p.1.1.0 p.1.1.1)
 
 -- `take`
 unfoldable pub take_at : List ℕ → Option (Call × List ℕ)
@@ -32,17 +34,26 @@ close_at = at_kind (codes "close") nothing_at (λ _. Close)
 
 -- any of these
 unfoldable pub session_call_at : List ℕ → Option (Call × List ℕ)
-session_call_at bytes = first_of (buffer_at bytes) (first_of (view_at bytes) (first_of (refresh_at bytes) (first_of (take_at bytes) (first_of (upgrade_at bytes) (close_at bytes)))))
+session_call_at bytes =
+    first_of (buffer_at bytes)
+    (first_of (view_at bytes)
+    (first_of (refresh_at bytes)
+    (first_of (take_at bytes) (first_of (upgrade_at bytes) (close_at bytes)))))
 
 -- ---- calls that name a view
 
 -- `place`, a view, a place, a width and a height
 unfoldable pub place_at : List ℕ → Option (Call × List ℕ)
-place_at = at_kind (codes "place") (at_both nat_field (at_both int_field (at_both int_field (at_both nat_field nat_field)))) (λ p. Place p.0 p.1.0 p.1.1.0 p.1.1.1.0 p.1.1.1.1)
+place_at =
+    at_kind (codes "place")
+    (at_both nat_field (at_both int_field (at_both int_field (at_both nat_field nat_field))))
+    (λ p. Place p.0 p.1.0 p.1.1.0 p.1.1.1.0 p.1.1.1.1)
 
 -- `offset`, a view and an offset
 unfoldable pub offset_at : List ℕ → Option (Call × List ℕ)
-offset_at = at_kind (codes "offset") (at_both nat_field (at_both int_field int_field)) (λ p. Offset p.0 p.1.0 p.1.1)
+offset_at =
+    at_kind (codes "offset") (at_both nat_field (at_both int_field int_field))
+    (λ p. Offset p.0 p.1.0 p.1.1)
 
 -- `front` and a view
 unfoldable pub front_at : List ℕ → Option (Call × List ℕ)
@@ -66,7 +77,12 @@ destroy_at = at_kind (codes "destroy") nat_field (λ v. Destroy v)
 
 -- any of these
 unfoldable pub view_call_at : List ℕ → Option (Call × List ℕ)
-view_call_at bytes = first_of (place_at bytes) (first_of (offset_at bytes) (first_of (front_at bytes) (first_of (back_at bytes) (first_of (above_at bytes) (first_of (title_at bytes) (destroy_at bytes))))))
+view_call_at bytes =
+    first_of (place_at bytes)
+    (first_of (offset_at bytes)
+    (first_of (front_at bytes)
+    (first_of (back_at bytes)
+    (first_of (above_at bytes) (first_of (title_at bytes) (destroy_at bytes))))))
 
 -- any call
 unfoldable pub call_at : List ℕ → Option (Call × List ℕ)

@@ -13,23 +13,30 @@ spelled spelling l = spelling l ++ 10 ∷ []
 
 -- The bytes are the spellings of the lines, each with one line feed behind it, and each line fits.
 abbrev pub Reads : {L : Type 0} → (L → Type 0) → (L → List ℕ) → List ℕ → List L → Type 0
-Reads Fits spelling bytes lines = AllByRecursion Fits lines × (bytes ≡ flat_map (spelled spelling) lines)
+Reads Fits spelling bytes lines =
+    AllByRecursion Fits lines × (bytes ≡ flat_map (spelled spelling) lines)
 
 -- The bytes do not begin with the spelling of a line that fits and a line feed.
 abbrev pub HasNoReading : {L : Type 0} → (L → Type 0) → (L → List ℕ) → List ℕ → Type 0
-HasNoReading {L = L} Fits spelling bytes = (l : L) (rest : List ℕ) → Fits l → bytes ≡ spelled spelling l ++ rest → ⊥
+HasNoReading {L = L} Fits spelling bytes =
+    (l : L) (rest : List ℕ) → Fits l → bytes ≡ spelled spelling l ++ rest → ⊥
 
 -- The bytes are those of lines that fit, and then a rest.
 abbrev pub Begins : {L : Type 0} → (L → Type 0) → (L → List ℕ) → List ℕ → List L → List ℕ → Type 0
-Begins Fits spelling bytes lines rest = AllByRecursion Fits lines × (bytes ≡ flat_map (spelled spelling) lines ++ rest)
+Begins Fits spelling bytes lines rest =
+    AllByRecursion Fits lines × (bytes ≡ flat_map (spelled spelling) lines ++ rest)
 
 -- The line of this number, from 1, is the first that has no reading, among the first 65,536.
 abbrev pub IsFirstBad : {L : Type 0} → (L → Type 0) → (L → List ℕ) → List ℕ → ℕ → Type 0
-IsFirstBad {L = L} Fits spelling bytes number = (lines : List L) × (rest : List ℕ) × Begins Fits spelling bytes lines rest × (rest ≢ []) × HasNoReading Fits spelling rest × (length lines + 1 ≡ number) × (number ≤ 65536)
+IsFirstBad {L = L} Fits spelling bytes number =
+    (lines : List L) × (rest : List ℕ) × Begins Fits spelling bytes lines rest × (rest ≢ [])
+    × HasNoReading Fits spelling rest × (length lines + 1 ≡ number) × (number ≤ 65536)
 
 -- There are 65,536 lines with a reading, and a byte stands behind them.
 abbrev pub IsTooLong : {L : Type 0} → (L → Type 0) → (L → List ℕ) → List ℕ → Type 0
-IsTooLong {L = L} Fits spelling bytes = (lines : List L) × (rest : List ℕ) × Begins Fits spelling bytes lines rest × (rest ≢ []) × (length lines ≡ 65536)
+IsTooLong {L = L} Fits spelling bytes =
+    (lines : List L) × (rest : List ℕ) × Begins Fits spelling bytes lines rest × (rest ≢ [])
+    × (length lines ≡ 65536)
 
 -- ---- clients' scripts
 
@@ -69,7 +76,8 @@ UnlessMemory (Err TooLong) P = P
 UnlessMemory (Err NoMemory) P = Unit {0}
 
 -- What reading bytes as a script may answer.
-abbrev pub IsAnswer : {L : Type 0} → (L → Type 0) → (L → List ℕ) → List ℕ → Result (List L) ScriptError → Type 0
+abbrev pub IsAnswer : {L : Type 0} → (L → Type 0) → (L → List ℕ) → List ℕ
+    → Result (List L) ScriptError → Type 0
 IsAnswer Fits spelling bytes (Ok lines) = Reads Fits spelling bytes lines × (length lines ≤ 65536)
 IsAnswer Fits spelling bytes (Err (Bad line)) = IsFirstBad Fits spelling bytes line
 IsAnswer Fits spelling bytes (Err TooLong) = IsTooLong Fits spelling bytes

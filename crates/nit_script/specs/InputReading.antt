@@ -48,7 +48,9 @@ wheel_at = at_kind (codes "wheel") turn_field (λ n. Wheel n)
 
 -- what the user does
 unfoldable pub device_at : List ℕ → Option (Device × List ℕ)
-device_at bytes = first_of (press_at bytes) (first_of (release_at bytes) (first_of (motion_at bytes) (wheel_at bytes)))
+device_at bytes =
+    first_of (press_at bytes)
+    (first_of (release_at bytes) (first_of (motion_at bytes) (wheel_at bytes)))
 
 -- `shot`
 unfoldable pub shot_at : List ℕ → Option (InputLine × List ℕ)
@@ -60,7 +62,9 @@ input_phase_at = at_kind (codes "phase") nothing_at (λ _. input.Phase)
 
 -- a line of an input script up to its line feed
 unfoldable pub input_front_at : List ℕ → Option (InputLine × List ℕ)
-input_front_at bytes = first_of (at_made input.Device device_at bytes) (first_of (shot_at bytes) (input_phase_at bytes))
+input_front_at bytes =
+    first_of (at_made input.Device device_at bytes)
+    (first_of (shot_at bytes) (input_phase_at bytes))
 
 -- a line of an input script with its line feed
 unfoldable pub input_at : List ℕ → Option (InputLine × List ℕ)

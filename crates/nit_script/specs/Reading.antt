@@ -42,26 +42,30 @@ abbrev pub at_spaced : {A : Type 0} → (List ℕ → Option (A × List ℕ)) �
 at_spaced f bytes = byte_at 32 bytes >>= f
 
 -- one field, and then another
-abbrev pub at_both : {A B : Type 0} → (List ℕ → Option (A × List ℕ)) → (List ℕ → Option (B × List ℕ)) → List ℕ → Option ((A × B) × List ℕ)
+abbrev pub at_both : {A B : Type 0} → (List ℕ → Option (A × List ℕ))
+    → (List ℕ → Option (B × List ℕ)) → List ℕ → Option ((A × B) × List ℕ)
 at_both f g bytes = do
   x ← f bytes
   y ← g x.1
   Some ((x.0, y.0), y.1)
 
 -- what is made of a field
-abbrev pub at_made : {A B : Type 0} → (A → B) → (List ℕ → Option (A × List ℕ)) → List ℕ → Option (B × List ℕ)
+abbrev pub at_made : {A B : Type 0} → (A → B) → (List ℕ → Option (A × List ℕ)) → List ℕ
+    → Option (B × List ℕ)
 at_made make f bytes = do
   x ← f bytes
   Some (make x.0, x.1)
 
 -- a field that passes a test
-abbrev pub at_tested : {A : Type 0} → (A → Bool) → (List ℕ → Option (A × List ℕ)) → List ℕ → Option (A × List ℕ)
+abbrev pub at_tested : {A : Type 0} → (A → Bool) → (List ℕ → Option (A × List ℕ)) → List ℕ
+    → Option (A × List ℕ)
 at_tested test f bytes = do
   x ← f bytes
   if test x.0 then Some (x.0, x.1) else None
 
 -- a word, and what is made of the fields behind it
-abbrev pub at_kind : {A L : Type 0} → List ℕ → (List ℕ → Option (A × List ℕ)) → (A → L) → List ℕ → Option (L × List ℕ)
+abbrev pub at_kind : {A L : Type 0} → List ℕ → (List ℕ → Option (A × List ℕ)) → (A → L) → List ℕ
+    → Option (L × List ℕ)
 at_kind w f make bytes = do
   fields ← word_at w bytes
   x ← f fields
@@ -78,7 +82,9 @@ at_ended f bytes = do
 
 -- 1 to 9 digits, the first of several not 0
 abbrev pub is_number : List ℕ → Bool
-is_number ds = nat_lt 0 (length ds) && nat_le (length ds) 9 && (not (slice_index ds 0 == 48) || (length ds == 1))
+is_number ds =
+    nat_lt 0 (length ds) && nat_le (length ds) 9
+    && (not (slice_index ds 0 == 48) || (length ds == 1))
 
 -- the digits in front, where they are a number
 unfoldable pub nat_at : List ℕ → Option (ℕ × List ℕ)
@@ -108,7 +114,10 @@ int_at bytes = signed_at bytes (byte_at 45 bytes)
 
 -- the value of a digit in base 16
 abbrev pub hex_value : ℕ → Option ℕ
-hex_value c = if is_in_range 48 57 c then Some (c - 48) else (if is_in_range 65 70 c then Some (c - 55) else None)
+hex_value c =
+    if is_in_range 48 57 c
+    then Some (c - 48)
+    else (if is_in_range 65 70 c then Some (c - 55) else None)
 
 -- one digit in base 16
 abbrev pub nibble_at : List ℕ → Option (ℕ × List ℕ)
@@ -121,11 +130,14 @@ Nibbles = ℕ × (ℕ × (ℕ × (ℕ × (ℕ × ℕ))))
 
 -- six digits in base 16
 abbrev pub nibbles_at : List ℕ → Option (Nibbles × List ℕ)
-nibbles_at = at_both nibble_at (at_both nibble_at (at_both nibble_at (at_both nibble_at (at_both nibble_at nibble_at))))
+nibbles_at =
+    at_both nibble_at
+    (at_both nibble_at (at_both nibble_at (at_both nibble_at (at_both nibble_at nibble_at))))
 
 -- the number that they make
 abbrev pub value_of_nibbles : Nibbles → ℕ
-value_of_nibbles p = ((((p.0 * 16 + p.1.0) * 16 + p.1.1.0) * 16 + p.1.1.1.0) * 16 + p.1.1.1.1.0) * 16 + p.1.1.1.1.1
+value_of_nibbles p =
+    ((((p.0 * 16 + p.1.0) * 16 + p.1.1.0) * 16 + p.1.1.1.0) * 16 + p.1.1.1.1.0) * 16 + p.1.1.1.1.1
 
 -- a colour
 unfoldable pub colour_at : List ℕ → Option (ℕ × List ℕ)

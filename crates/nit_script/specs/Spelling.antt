@@ -90,7 +90,8 @@ FitsDevice (device.Wheel n) = IsTurn n
 -- the numbers and the colours of a stroke are within the grammar
 abbrev pub FitsStroke : Stroke → Type 0
 FitsStroke (Fill x y w h c) = FitsNat x × FitsNat y × FitsNat w × FitsNat h × FitsColour c
-FitsStroke (Check x y w h c d) = FitsNat x × FitsNat y × FitsNat w × FitsNat h × FitsColour c × FitsColour d
+FitsStroke (Check x y w h c d) =
+    FitsNat x × FitsNat y × FitsNat w × FitsNat h × FitsColour c × FitsColour d
 
 -- what a line of a client's script holds is within the grammar
 abbrev pub FitsLine : Line → Type 0
@@ -110,7 +111,8 @@ FitsInputLine input.Phase = Unit {0}
 abbrev pub call_spelling : Call → List ℕ
 call_spelling (call.Buffer w h) = codes "buffer" ++ (nat w ++ nat h)
 call_spelling call.View = codes "view"
-call_spelling (call.Place v x y w h) = codes "place" ++ (nat v ++ (int x ++ (int y ++ (nat w ++ nat h))))
+call_spelling (call.Place v x y w h) =
+    codes "place" ++ (nat v ++ (int x ++ (int y ++ (nat w ++ nat h))))
 call_spelling (call.Offset v x y) = codes "offset" ++ (nat v ++ (int x ++ int y))
 call_spelling (call.Front v) = codes "front" ++ nat v
 call_spelling (call.Back v) = codes "back" ++ nat v
@@ -131,8 +133,10 @@ device_spelling (device.Wheel n) = codes "wheel" ++ int n
 
 -- a stroke's word, its numbers and its colours in order
 abbrev pub stroke_spelling : Stroke → List ℕ
-stroke_spelling (Fill x y w h c) = codes "fill" ++ (nat x ++ (nat y ++ (nat w ++ (nat h ++ colour c))))
-stroke_spelling (Check x y w h c d) = codes "check" ++ (nat x ++ (nat y ++ (nat w ++ (nat h ++ (colour c ++ colour d)))))
+stroke_spelling (Fill x y w h c) =
+    codes "fill" ++ (nat x ++ (nat y ++ (nat w ++ (nat h ++ colour c))))
+stroke_spelling (Check x y w h c d) =
+    codes "check" ++ (nat x ++ (nat y ++ (nat w ++ (nat h ++ (colour c ++ colour d)))))
 
 -- a line of a client's script
 abbrev pub line_spelling : Line → List ℕ

@@ -8,8 +8,10 @@ ghost use Rattle.nit_script.specs.Phases.{is_phase, phases, is_input_phase, inpu
 
 /// A text has one reading as a client's script at most, and a list of lines has one text.
 pub fn client_reading_is_one()
-    ensures lines { (bytes : List ℕ) (a b : List Line) → ReadsClient bytes a → ReadsClient bytes b → a ≡ b }
-    ensures bytes { (lines : List Line) (a b : List ℕ) → ReadsClient a lines → ReadsClient b lines → a ≡ b }
+    ensures lines { (bytes : List ℕ) (a b : List Line) → ReadsClient bytes a → ReadsClient bytes b
+        → a ≡ b }
+    ensures bytes { (lines : List Line) (a b : List ℕ) → ReadsClient a lines → ReadsClient b lines
+        → a ≡ b }
 {}
 
 /// A text with a reading has no first bad line, and is not too long where the reading has at most 65,536
@@ -23,14 +25,18 @@ pub fn client_reading_is_whole()
 
 /// A text has one first bad line at most, and none where it is too long.
 pub fn client_first_bad_is_one()
-    ensures one { (bytes : List ℕ) (a b : ℕ) → IsFirstBadClient bytes a → IsFirstBadClient bytes b → a ≡ b }
-    ensures not_long { (bytes : List ℕ) (line : ℕ) → IsFirstBadClient bytes line → IsTooLongClient bytes → ⊥ }
+    ensures one { (bytes : List ℕ) (a b : ℕ) → IsFirstBadClient bytes a → IsFirstBadClient bytes b
+        → a ≡ b }
+    ensures not_long { (bytes : List ℕ) (line : ℕ) → IsFirstBadClient bytes line
+        → IsTooLongClient bytes → ⊥ }
 {}
 
 /// A text has one reading as an input script at most, and a list of lines has one text.
 pub fn input_reading_is_one()
-    ensures lines { (bytes : List ℕ) (a b : List InputLine) → ReadsInput bytes a → ReadsInput bytes b → a ≡ b }
-    ensures bytes { (lines : List InputLine) (a b : List ℕ) → ReadsInput a lines → ReadsInput b lines → a ≡ b }
+    ensures lines { (bytes : List ℕ) (a b : List InputLine) → ReadsInput bytes a
+        → ReadsInput bytes b → a ≡ b }
+    ensures bytes { (lines : List InputLine) (a b : List ℕ) → ReadsInput a lines
+        → ReadsInput b lines → a ≡ b }
 {}
 
 /// A text with a reading has no first bad line, and is not too long where the reading has at most 65,536
@@ -44,8 +50,10 @@ pub fn input_reading_is_whole()
 
 /// A text has one first bad line at most, and none where it is too long.
 pub fn input_first_bad_is_one()
-    ensures one { (bytes : List ℕ) (a b : ℕ) → IsFirstBadInput bytes a → IsFirstBadInput bytes b → a ≡ b }
-    ensures not_long { (bytes : List ℕ) (line : ℕ) → IsFirstBadInput bytes line → IsTooLongInput bytes → ⊥ }
+    ensures one { (bytes : List ℕ) (a b : ℕ) → IsFirstBadInput bytes a → IsFirstBadInput bytes b
+        → a ≡ b }
+    ensures not_long { (bytes : List ℕ) (line : ℕ) → IsFirstBadInput bytes line
+        → IsTooLongInput bytes → ⊥ }
 {}
 
 /// A client's script of no lines has one phase, and each line `phase` behind it ends one more.
@@ -59,5 +67,6 @@ pub fn client_phases_count()
 pub fn input_phases_count()
     ensures first { input_phases [] ≡ 1 }
     ensures more { (lines : List InputLine) (line : InputLine) →
-        input_phases (lines ++ line ∷ []) ≡ (if is_input_phase line then input_phases lines + 1 else input_phases lines) }
+        input_phases (lines ++ line ∷ [])
+        ≡ (if is_input_phase line then input_phases lines + 1 else input_phases lines) }
 {}

@@ -25,13 +25,15 @@ pub fn parse_client(alloc: Global, bytes: &[u8]) -> Result<Client, ScriptError>
         UnlessMemory result (result ≡ Ok lines) }
 
     // Exactly the first line without a reading is named.
-    ensures bad { (line : ℕ) → result ≡ Err (ScriptError.Bad line) → IsFirstBadClient bytes.now line }
+    ensures bad { (line : ℕ) → result ≡ Err (ScriptError.Bad line)
+        → IsFirstBadClient bytes.now line }
     ensures is_bad { (line : ℕ) → IsFirstBadClient bytes.now line →
         UnlessMemory result (result ≡ Err (ScriptError.Bad line)) }
 
     // Exactly where bytes stand behind 65,536 lines.
     ensures long { result ≡ Err ScriptError.TooLong → IsTooLongClient bytes.now }
-    ensures is_long { IsTooLongClient bytes.now → UnlessMemory result (result ≡ Err ScriptError.TooLong) }
+    ensures is_long { IsTooLongClient bytes.now
+        → UnlessMemory result (result ≡ Err ScriptError.TooLong) }
 {
     client_lines(alloc, bytes)
 }
@@ -45,13 +47,15 @@ pub fn parse_input(alloc: Global, bytes: &[u8]) -> Result<Input, ScriptError>
         UnlessMemory result (result ≡ Ok lines) }
 
     // Exactly the first line without a reading is named.
-    ensures bad { (line : ℕ) → result ≡ Err (ScriptError.Bad line) → IsFirstBadInput bytes.now line }
+    ensures bad { (line : ℕ) → result ≡ Err (ScriptError.Bad line)
+        → IsFirstBadInput bytes.now line }
     ensures is_bad { (line : ℕ) → IsFirstBadInput bytes.now line →
         UnlessMemory result (result ≡ Err (ScriptError.Bad line)) }
 
     // Exactly where bytes stand behind 65,536 lines.
     ensures long { result ≡ Err ScriptError.TooLong → IsTooLongInput bytes.now }
-    ensures is_long { IsTooLongInput bytes.now → UnlessMemory result (result ≡ Err ScriptError.TooLong) }
+    ensures is_long { IsTooLongInput bytes.now
+        → UnlessMemory result (result ≡ Err ScriptError.TooLong) }
 {
     input_lines(alloc, bytes)
 }

@@ -10,7 +10,8 @@ pub record AccountBalance : Type 0 where
   pub words : ℕ
 
 abbrev pub balance : ℕ → ℕ → ℕ → ℕ → AccountBalance
-balance donation reserve views words = record { donation = donation; reserve = reserve; views = views; words = words }
+balance donation reserve views words =
+    record { donation = donation; reserve = reserve; views = views; words = words }
 
 -- a session opens with 256 to 8388608 units
 abbrev pub IsDonation : ℕ → Type 0

@@ -53,7 +53,12 @@ impl Model for Account {
 
     ghost invariant = { λ a. IsCovered (balance a.donation a.reserve a.views a.words) };
 
-    ghost inverse = { λ b. record { donation = b.donation; reserve = b.reserve; views = b.views; words = b.words } };
+    ghost inverse = { λ b. record {
+      donation = b.donation;
+      reserve = b.reserve;
+      views = b.views;
+      words = b.words;
+    } };
 }
 
 impl Account {

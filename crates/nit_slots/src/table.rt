@@ -55,7 +55,8 @@ impl Table {
         ensures was_free { is_taken slots.old result.1 ≡ false }
         ensures table { self.new
             ≡ record self.old { pairs = self.old.pairs ++ result ∷ []; next = self.old.next + 1 } }
-        ensures slots { slots.new ≡ record slots.old { taken = with_slot slots.old.taken result.1 } }
+        ensures slots { slots.new
+            ≡ record slots.old { taken = with_slot slots.old.taken result.1 } }
         ensures more_taken { length slots.new.taken ≡ length slots.old.taken + 1 }
     {
         let view = (self.next, slots.take());

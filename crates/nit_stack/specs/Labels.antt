@@ -7,7 +7,8 @@ use Rattle.nit_stack.specs.Sources.{point, owner}
 
 -- the pixels of a rectangle from a column and a row on, row by row from the top
 abbrev pub pixels : ℕ → ℕ → ℕ → ℕ → List Point
-pixels x y w h = flat_map (λ row. map (λ column. point column row) (range_with_len x w)) (range_with_len y h)
+pixels x y w h =
+    flat_map (λ row. map (λ column. point column row) (range_with_len x w)) (range_with_len y h)
 
 -- a view of a session is named by its handle
 abbrev pub is_view : ℕ → ℕ → View → Bool
@@ -19,7 +20,9 @@ is_owner sid handle (Some v) = is_view sid handle v
 
 -- the pixel is on a screen of this size, and this view owns it
 abbrev pub owns : ℕ → ℕ → ℕ → List View → View → Point → Bool
-owns width height rows stack v p = int_lt p.x (pos width) && int_lt p.y (pos height) && is_owner v.sid v.handle (owner rows stack p)
+owns width height rows stack v p =
+    int_lt p.x (pos width) && int_lt p.y (pos height)
+    && is_owner v.sid v.handle (owner rows stack p)
 
 -- a rectangle of w by h with its first pixel at this column and row lies in pixels that the view owns
 abbrev pub fits : ℕ → ℕ → ℕ → List View → View → ℕ → ℕ → ℕ → ℕ → Bool
@@ -29,4 +32,5 @@ fits width height rows stack v w h x y = list_all (owns width height rows stack 
 -- pixels that its view owns. None where there is no such place.
 abbrev pub label_place : ℕ → ℕ → ℕ → List View → View → ℕ → ℕ → Option (ℕ × ℕ)
 label_place width height rows stack v w h =
-    find (λ q. fits width height rows stack v w h q.0 q.1) (flat_map (λ y. map (λ x. (x, y)) (range_with_len 0 width)) (range_with_len 0 height))
+    find (λ q. fits width height rows stack v w h q.0 q.1)
+    (flat_map (λ y. map (λ x. (x, y)) (range_with_len 0 width)) (range_with_len 0 height))

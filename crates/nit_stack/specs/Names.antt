@@ -39,7 +39,10 @@ layer_of_seat layer s = layer s.view.sid
 
 -- one view of a session directly in front of another; unchanged where the two are one
 abbrev pub view_above : ℕ → ℕ → ℕ → List View → List View
-view_above sid handle next views = if handle == next then views else moved (is_view sid handle) (put_above (is_view sid next)) views
+view_above sid handle next views =
+    if handle == next
+    then views
+    else moved (is_view sid handle) (put_above (is_view sid next)) views
 
 -- the view belongs to this session
 abbrev pub is_session : ℕ → View → Bool

@@ -5,12 +5,14 @@ use Rattle.std.specs.List.{list_any}
 -- directly in front of the first one of this layer or of a layer behind, or last where there is none
 abbrev pub put_front : {A : Type 0} → (A → ℕ) → ℕ → A → List A → List A
 put_front layer l v [] = v ∷ []
-put_front layer l v (x ∷ xs) = if nat_le l (layer x) then v ∷ (x ∷ xs) else x ∷ put_front layer l v xs
+put_front layer l v (x ∷ xs) =
+    if nat_le l (layer x) then v ∷ (x ∷ xs) else x ∷ put_front layer l v xs
 
 -- directly behind the last one of this layer or of a layer in front, or first where there is none
 abbrev pub put_back : {A : Type 0} → (A → ℕ) → ℕ → A → List A → List A
 put_back layer l v [] = v ∷ []
-put_back layer l v (x ∷ xs) = if list_any (λ y. nat_le (layer y) l) (x ∷ xs) then x ∷ put_back layer l v xs else v ∷ (x ∷ xs)
+put_back layer l v (x ∷ xs) =
+    if list_any (λ y. nat_le (layer y) l) (x ∷ xs) then x ∷ put_back layer l v xs else v ∷ (x ∷ xs)
 
 -- directly in front of the first one that is meant, or last where there is none
 abbrev pub put_above : {A : Type 0} → (A → Bool) → A → List A → List A

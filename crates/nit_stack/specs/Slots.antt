@@ -19,8 +19,17 @@ size z = record { w = z.0; h = z.1 }
 -- what contracts see, by the fields of the code
 abbrev pub standing : List ℕ → List View → List (ℕ × ℕ) → List ℕ → ℕ → ℕ → ℕ → Standing
 standing order slots sizes layers width height bar =
-    record { views = map (seat slots) order; sizes = map size sizes; layers = layers; width = width; height = height; bar = bar; most = length slots }
+    record {
+      views = map (seat slots) order;
+      sizes = map size sizes;
+      layers = layers;
+      width = width;
+      height = height;
+      bar = bar;
+      most = length slots;
+    }
 
 -- the slot is there, and so is the layer of its view's session
 abbrev pub IsKept : List View → List ℕ → ℕ → Type 0
-IsKept slots layers k = (k < length slots) × ((slice_index_or slots k (fresh 0 0)).sid < length layers)
+IsKept slots layers k =
+    (k < length slots) × ((slice_index_or slots k (fresh 0 0)).sid < length layers)

@@ -54,7 +54,9 @@ index_at columns None y = None
 
 -- which word of its session's buffer a view shows at a pixel, where the buffer reaches so far
 abbrev pub shown_index : Size → View → Point → Option ℕ
-shown_index size v p = index_at size.w (among (buffer_place p.x v.rect.x v.ox) size.w) (among (buffer_place p.y v.rect.y v.oy) size.h)
+shown_index size v p =
+    index_at size.w (among (buffer_place p.x v.rect.x v.ox) size.w)
+    (among (buffer_place p.y v.rect.y v.oy) size.h)
 
 -- Where the word of a pixel comes from: it is the bare screen's where the pixel has no owner, black where
 -- the owner reaches past its session's buffer, and otherwise a word of a session's buffer.

@@ -32,7 +32,15 @@ view_ref s = record { 0 = s.slot }
 
 -- a view as it is made: an empty rectangle at (0, 0), no offset, an empty title
 abbrev pub fresh : ℕ → ℕ → View
-fresh sid handle = record { sid = sid; handle = handle; rect = rectangle (pos 0) (pos 0) 0 0; ox = pos 0; oy = pos 0; title = [] }
+fresh sid handle =
+    record {
+      sid = sid;
+      handle = handle;
+      rect = rectangle (pos 0) (pos 0) 0 0;
+      ox = pos 0;
+      oy = pos 0;
+      title = [];
+    }
 
 -- a new view in a slot
 abbrev pub fresh_in : ℕ → ℕ → ℕ → Seat
@@ -41,7 +49,15 @@ fresh_in k sid handle = record { slot = k; view = fresh sid handle }
 -- no view and no bar, and for each session no buffer and layer 0
 abbrev pub opened : ℕ → ℕ → ℕ → ℕ → Standing
 opened width height sessions most =
-    record { views = []; sizes = replicate sessions no_size; layers = replicate sessions 0; width = width; height = height; bar = 0; most = most }
+    record {
+      views = [];
+      sizes = replicate sessions no_size;
+      layers = replicate sessions 0;
+      width = width;
+      height = height;
+      bar = 0;
+      most = most;
+    }
 
 -- the view stands in this slot
 abbrev pub is_slot : ℕ → Seat → Bool

@@ -17,16 +17,26 @@ ghost use Rattle.nit_stack.specs.Standing.{NoPair, Seat, has, is_named, is_of_se
 pub fn slots_and_names()
     ensures removed { (k sid handle : ℕ) (seats : List Seat) → IsNamedBy k sid handle seats
         → views_of (without (is_slot k) seats) ≡ without (is_view sid handle) (views_of seats) }
-    ensures changed { (k sid handle : ℕ) (change : View → View) (seats : List Seat) → IsNamedBy k sid handle seats
-        → views_of (changed (is_slot k) (on_view change) seats) ≡ changed (is_view sid handle) change (views_of seats) }
-    ensures moved { (k sid handle : ℕ) (put : Seat → List Seat → List Seat) (put_view : View → List View → List View) (seats : List Seat) → IsNamedBy k sid handle seats
+    ensures changed { (k sid handle : ℕ) (change : View → View) (seats : List Seat)
+        → IsNamedBy k sid handle seats
+        → views_of (changed (is_slot k) (on_view change) seats)
+        ≡ changed (is_view sid handle) change (views_of seats) }
+    ensures moved { (k sid handle : ℕ) (put : Seat → List Seat → List Seat)
+        (put_view : View → List View → List View) (seats : List Seat)
+        → IsNamedBy k sid handle seats
         → ((s : Seat) (xs : List Seat) → views_of (put s xs) ≡ put_view s.view (views_of xs))
-        → views_of (moved (is_slot k) put seats) ≡ moved (is_view sid handle) put_view (views_of seats) }
-    ensures front { (k sid handle : ℕ) (layer : ℕ → ℕ) (seats : List Seat) → IsNamedBy k sid handle seats
-        → views_of (moved (is_slot k) (put_own_front (layer_of_seat layer)) seats) ≡ moved (is_view sid handle) (put_front (view_layer layer) (layer sid)) (views_of seats) }
-    ensures back { (k sid handle : ℕ) (layer : ℕ → ℕ) (seats : List Seat) → IsNamedBy k sid handle seats
-        → views_of (moved (is_slot k) (put_own_back (layer_of_seat layer)) seats) ≡ moved (is_view sid handle) (put_back (view_layer layer) (layer sid)) (views_of seats) }
-    ensures above { (k n sid handle next : ℕ) (seats : List Seat) → IsNamedBy k sid handle seats → IsNamedBy n sid next seats
+        → views_of (moved (is_slot k) put seats)
+        ≡ moved (is_view sid handle) put_view (views_of seats) }
+    ensures front { (k sid handle : ℕ) (layer : ℕ → ℕ) (seats : List Seat)
+        → IsNamedBy k sid handle seats
+        → views_of (moved (is_slot k) (put_own_front (layer_of_seat layer)) seats)
+        ≡ moved (is_view sid handle) (put_front (view_layer layer) (layer sid)) (views_of seats) }
+    ensures back { (k sid handle : ℕ) (layer : ℕ → ℕ) (seats : List Seat)
+        → IsNamedBy k sid handle seats
+        → views_of (moved (is_slot k) (put_own_back (layer_of_seat layer)) seats)
+        ≡ moved (is_view sid handle) (put_back (view_layer layer) (layer sid)) (views_of seats) }
+    ensures above { (k n sid handle next : ℕ) (seats : List Seat) → IsNamedBy k sid handle seats
+        → IsNamedBy n sid next seats
         → views_of (moved_above k n seats) ≡ view_above sid handle next (views_of seats) }
 {}
 
@@ -34,13 +44,20 @@ pub fn slots_and_names()
 /// a pixel.
 pub fn seats_and_views()
     ensures put_front { (layer : ℕ → ℕ) (l : ℕ) (s : Seat) (seats : List Seat)
-        → views_of (put_front (layer_of_seat layer) l s seats) ≡ put_front (view_layer layer) l s.view (views_of seats) }
+        → views_of (put_front (layer_of_seat layer) l s seats)
+        ≡ put_front (view_layer layer) l s.view (views_of seats) }
     ensures put_back { (layer : ℕ → ℕ) (l : ℕ) (s : Seat) (seats : List Seat)
-        → views_of (put_back (layer_of_seat layer) l s seats) ≡ put_back (view_layer layer) l s.view (views_of seats) }
-    ensures closed { (sid : ℕ) (seats : List Seat) → views_of (without (is_of_session sid) seats) ≡ without (is_session sid) (views_of seats) }
-    ensures session { (sid : ℕ) (seats : List Seat) → list_any (is_session sid) (views_of seats) ≡ list_any (is_of_session sid) seats }
-    ensures named { (sid handle : ℕ) (seats : List Seat) → list_any (is_view sid handle) (views_of seats) ≡ list_any (is_named sid handle) seats }
-    ensures owner { (rows : ℕ) (seats : List Seat) (p : Point) → owner rows (views_of seats) p ≡ option_map (λ s. s.view) (owner_in (λ s. s.view) rows seats p) }
+        → views_of (put_back (layer_of_seat layer) l s seats)
+        ≡ put_back (view_layer layer) l s.view (views_of seats) }
+    ensures closed { (sid : ℕ) (seats : List Seat)
+        → views_of (without (is_of_session sid) seats) ≡ without (is_session sid) (views_of seats) }
+    ensures session { (sid : ℕ) (seats : List Seat)
+        → list_any (is_session sid) (views_of seats) ≡ list_any (is_of_session sid) seats }
+    ensures named { (sid handle : ℕ) (seats : List Seat)
+        → list_any (is_view sid handle) (views_of seats) ≡ list_any (is_named sid handle) seats }
+    ensures owner { (rows : ℕ) (seats : List Seat) (p : Point)
+        → owner rows (views_of seats) p
+        ≡ option_map (λ s. s.view) (owner_in (λ s. s.view) rows seats p) }
 {}
 
 /// Which slots have a view after each change, and that all views of a session are gone when each was taken out.
@@ -67,21 +84,29 @@ pub fn slots_after()
 
 /// The owner of a pixel is the view in its slot, and is told by its slot as by its session and handle.
 pub fn owners_by_slot()
-    ensures seated { (rows : ℕ) (seats : List Seat) (p : Point) (v : ViewRef) (view : View) → NoPair same_slot seats
-        → Some v ≡ option_map view_ref (owner_in (λ s. s.view) rows seats p) → seat_in v.0 seats ≡ Some (record { slot = v.0; view = view })
+    ensures seated { (rows : ℕ) (seats : List Seat) (p : Point) (v : ViewRef) (view : View)
+        → NoPair same_slot seats
+        → Some v ≡ option_map view_ref (owner_in (λ s. s.view) rows seats p)
+        → seat_in v.0 seats ≡ Some (record { slot = v.0; view = view })
         → owner_in (λ s. s.view) rows seats p ≡ Some (record { slot = v.0; view = view }) }
-    ensures mean_same { (k sid handle : ℕ) (seats : List Seat) → IsNamedBy k sid handle seats → MeanSame k sid handle seats }
-    ensures named { (k sid handle rows : ℕ) (seats : List Seat) (p : Point) → MeanSame k sid handle seats
-        → option_map_or (is_slot k) (owner_in (λ s. s.view) rows seats p) false ≡ option_map_or (is_view sid handle) (owner rows (views_of seats) p) false }
+    ensures mean_same { (k sid handle : ℕ) (seats : List Seat) → IsNamedBy k sid handle seats
+        → MeanSame k sid handle seats }
+    ensures named { (k sid handle rows : ℕ) (seats : List Seat) (p : Point)
+        → MeanSame k sid handle seats
+        → option_map_or (is_slot k) (owner_in (λ s. s.view) rows seats p) false
+        ≡ option_map_or (is_view sid handle) (owner rows (views_of seats) p) false }
     ensures session { (sid rows : ℕ) (seats : List Seat) (p : Point)
-        → option_map_or (is_of_session sid) (owner_in (λ s. s.view) rows seats p) false ≡ option_map_or (is_session sid) (owner rows (views_of seats) p) false }
+        → option_map_or (is_of_session sid) (owner_in (λ s. s.view) rows seats p) false
+        ≡ option_map_or (is_session sid) (owner rows (views_of seats) p) false }
 {}
 
 /// The session and handle of the view in each slot after each change, and that a view of a session and handle is
 /// in a slot of that name.
 pub fn names_after()
-    ensures push_front { (layer : Seat → ℕ) (l : ℕ) (s : Seat) (j : ℕ) (seats : List Seat) → has s.slot seats ≡ false
-        → name_in j (put_front layer l s seats) ≡ (if s.slot == j then Some (name_of s) else name_in j seats) }
+    ensures push_front { (layer : Seat → ℕ) (l : ℕ) (s : Seat) (j : ℕ) (seats : List Seat)
+        → has s.slot seats ≡ false
+        → name_in j (put_front layer l s seats)
+        ≡ (if s.slot == j then Some (name_of s) else name_in j seats) }
     ensures remove { (j k : ℕ) (seats : List Seat)
         → name_in j (without (is_slot k) seats) ≡ (if j == k then None else name_in j seats) }
     ensures changed { (j k : ℕ) (change : View → View) (seats : List Seat)
@@ -97,7 +122,8 @@ pub fn names_after()
     ensures has { (j : ℕ) (seats : List Seat) → has j seats ≡ is_some (name_in j seats) }
     ensures named { (j sid h : ℕ) (seats : List Seat) → name_in j seats ≡ Some (sid, h)
         → list_any (is_named sid h) seats ≡ true }
-    ensures slot { (sid h : ℕ) (seats : List Seat) → NoPair same_slot seats → list_any (is_named sid h) seats ≡ true
+    ensures slot { (sid h : ℕ) (seats : List Seat) → NoPair same_slot seats
+        → list_any (is_named sid h) seats ≡ true
         → (j : ℕ) × (name_in j seats ≡ Some (sid, h)) }
 {}
 

@@ -103,7 +103,8 @@ impl MemoryStore {
           calls = one_more self.old.calls;
           asked = self.old.asked ++ name.now ∷ [];
         }) }
-        ensures err { OnErr result (self.new ≡ record self.old { calls = one_more self.old.calls }) }
+        ensures err { OnErr result
+            (self.new ≡ record self.old { calls = one_more self.old.calls }) }
     {
         let fails = self.count_call();
         self.asked.push(String::from_str(self.alloc, name)?)?;
@@ -123,7 +124,8 @@ impl MemoryStore {
     /// Counts a put or a saying that failed.
     fn fail_write(&mut self) -> PutError
         ensures answer { result ≡ PutError.Failed }
-        ensures after { self.new ≡ record self.old { write_faults = one_more self.old.write_faults } }
+        ensures after { self.new
+            ≡ record self.old { write_faults = one_more self.old.write_faults } }
         ensures later { self.old.write_faults ≤ self.new.write_faults }
     {
         self.write_faults = self.write_faults.saturating_add(1);
@@ -151,7 +153,8 @@ impl Store for MemoryStore {
     /// As in the trait. It fails exactly where the call is to fail or the name is not there, unless
     /// there is no memory to keep the name that was asked for.
     fn read(&mut self, name: &str, max: usize) -> Result<Vec<u8>, ReadError>
-        ensures answer { AfterRead (memory_shown self.old) name.now max (memory_shown self.new) result }
+        ensures answer { AfterRead (memory_shown self.old) name.now max (memory_shown self.new)
+            result }
         ensures counted { CountsCall self.old self.new }
         ensures fails { FailsToRead self.old name.now →
             IsErrOf result ReadError.Failed ⊎ IsErrOf result ReadError.NoMemory }
@@ -181,7 +184,8 @@ impl Store for MemoryStore {
         ensures fails_only { IsErrOf result PutError.Failed → FailsNext self.old }
         ensures adds_one { IsErrOf result PutError.Failed →
             self.new.write_faults ≡ one_more self.old.write_faults }
-        ensures placed { OnOk result (self.new.files ≡ with_file name.now bytes.now self.old.files) }
+        ensures placed { OnOk result
+            (self.new.files ≡ with_file name.now bytes.now self.old.files) }
     {
         if self.count_asking(name)? {
             return Err(self.fail_write());

@@ -76,7 +76,8 @@ impl Store for NeverFails {
     fn put(&mut self, name: &str, bytes: &[u8]) -> Result<(), PutError>
         ensures answer { AfterPut (shelf_shown self.old) name.now bytes.now
             (shelf_shown self.new) result }
-        ensures placed { OnOk result (self.new.files ≡ with_file name.now bytes.now self.old.files) }
+        ensures placed { OnOk result
+            (self.new.files ≡ with_file name.now bytes.now self.old.files) }
     {
         self.files.put(self.alloc, name, bytes)?;
         Ok(())

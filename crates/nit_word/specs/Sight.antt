@@ -20,7 +20,8 @@ pub record IsLoaded (sight : Sight) (i w : ℕ) : Type 0 where
 
 -- what was loaded of a row of places, the first of which is `from`
 abbrev pub IsLoadedRow : Sight → ℕ → List ℕ → Type 0
-IsLoadedRow sight from row = (j : ℕ) → j < length row → IsLoaded sight (from + j) (slice_index row j)
+IsLoadedRow sight from row =
+    (j : ℕ) → j < length row → IsLoaded sight (from + j) (slice_index row j)
 
 -- where words are told, every place has one
 abbrev pub TellsAll : Sight → Type 0
@@ -41,11 +42,13 @@ seen sight loads = record sight { log = option_map (λ log. log ++ loads) sight.
 
 -- the sight of a glass that tells its words, which are its ink, and tells no log
 abbrev pub plain_sight : ℕ → List ℕ → Sight
-plain_sight owner words = record { owner = owner; size = length words; ink = words; words = Some words; log = None }
+plain_sight owner words =
+    record { owner = owner; size = length words; ink = words; words = Some words; log = None }
 
 -- the sight of a glass of fixed ink that tells its words and tells no log
 abbrev pub inked_sight : ℕ → List ℕ → List ℕ → Sight
-inked_sight owner words ink = record { owner = owner; size = length words; ink = ink; words = Some words; log = None }
+inked_sight owner words ink =
+    record { owner = owner; size = length words; ink = ink; words = Some words; log = None }
 
 -- the sight after w was stored at place i: told words have it there, and all else is as before
 abbrev pub stored : Sight → ℕ → ℕ → Sight

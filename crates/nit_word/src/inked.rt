@@ -86,7 +86,8 @@ impl Inked {
         requires room { to ≤ self.old.size }
         requires first { IsInked self.old.ink c }
         requires second { IsInked self.old.ink d }
-        ensures { self.new ≡ with_words (set_where (is_between from to) (in_turn from c d)) self.old }
+        ensures { self.new
+            ≡ with_words (set_where (is_between from to) (in_turn from c d)) self.old }
     {
         self.words.alternate(from, to, c, d);
     }
@@ -97,7 +98,8 @@ impl Inked {
         requires order { from ≤ to }
         requires room { to ≤ self.old.size }
         requires ink { other.now.ink ≡ self.old.ink }
-        ensures { self.new ≡ with_words (set_where (is_between from to) (told_at other.now)) self.old }
+        ensures { self.new
+            ≡ with_words (set_where (is_between from to) (told_at other.now)) self.old }
     {
         self.words.copy(from, to, &other.words);
     }
@@ -105,7 +107,8 @@ impl Inked {
     /// The words of the glass in their order, each below 2^24, and 0 or in the ink. Those that are left out
     /// at the end are 0.
     pub fn words(&self) -> &[u32]
-        ensures sight { self.now ≡ inked_sight self.now.owner (padded self.now.size result.now) self.now.ink }
+        ensures sight { self.now
+            ≡ inked_sight self.now.owner (padded self.now.size result.now) self.now.ink }
         ensures fits { All IsWord result.now }
         ensures inked { All (IsInked self.now.ink) result.now }
     {
