@@ -9,12 +9,12 @@ use Rattle.nit_word.specs.Inks.{IsWord}
 use Rattle.nit_word.specs.Channels.{red, green, blue, word_of}
 use Rattle.nit_rect.specs.Rectangle.{Rectangle, IsPlace}
 use Rattle.nit_rect.specs.Meeting.{HasPixels, LiesIn}
-use Rattle.nit_rect.proofs.Sets.{within}
+use Rattle.nit_rect.proofs.ForCallers.{within}
 use Rattle.nit_capture.specs.Tiles.{IsPicture}
 use Rattle.nit_capture.specs.Film.{channels}
 use Rattle.nit_capture.specs.Cut.{screen, cut_place, cut_row_place, cut, cut_pixel, cut_bytes, pixel_at, Shows}
 use Rattle.nit_capture.proofs.RunsRead.{AreBytes}
-use Rattle.nit_capture.proofs.Differing.{same_map}
+use Rattle.nit_capture.proofs.TileDifferences.{same_map}
 use Rattle.nit_capture.proofs.RecordsRead.{words_fit}
 use Rattle.nit_capture.proofs.RecordsWritten.{map_fits}
 

@@ -6,12 +6,11 @@ use Rattle.std.proofs.lemmas.Int.{ints}
 use Rattle.std.proofs.lemmas.List.{length-replicate}
 use Rattle.nit_rect.specs.Rectangle.{Rectangle, spans}
 use Rattle.nit_rect.specs.Meeting.{HasPixels, LiesIn}
-use Rattle.nit_rect.proofs.Spans.{and_true, spans_holds}
-use Rattle.nit_rect.proofs.Sets.{within}
+use Rattle.nit_rect.proofs.ForCallers.{and_true, spans_holds, within}
 use Rattle.nit_capture.specs.Tiles.{IsPicture, IsSize, black}
 use Rattle.nit_capture.specs.Film.{record_of, records, stream, HasRecord}
 use Rattle.nit_capture.specs.Cut.{screen, cut_place, cut, AgreeInside, AllAgree}
-use Rattle.nit_capture.proofs.Differing.{same_map}
+use Rattle.nit_capture.proofs.TileDifferences.{same_map}
 use Rattle.nit_capture.proofs.RecordsRead.{one_record, no_record}
 use Rattle.nit_capture.proofs.Cuts.{in_cut}
 

@@ -1,5 +1,5 @@
-pub mod TilePlaces
-pub mod Differing
+pub mod Tiles
+pub mod TileDifferences
 pub mod PixelRows
 pub mod ReadingSteps
 pub mod NumbersRead

@@ -9,8 +9,8 @@ use borrow.Rule.Slice.PartMut.{put_mid}
 use Rattle.std.proofs.lemmas.Slice.{take-put_mid}
 use Rattle.std.proofs.lemmas.List.FromFn.{map-range_with_len_more, length-map-range_with_len, get_or-map-range_with_len}
 use Rattle.nit_capture.specs.Tiles.{wide, high, area, top_of, left_of, place, row_place, tile_count, pixels, differs, IsSize}
-use Rattle.nit_capture.proofs.TilePlaces.{wide_some, high_some}
-use Rattle.nit_capture.proofs.Differing.{same_tile, same_pixel, same_map}
+use Rattle.nit_capture.proofs.Tiles.{wide_some, high_some}
+use Rattle.nit_capture.proofs.TileDifferences.{same_tile, same_pixel, same_map}
 
 pub next_row : (row wide : ℕ) → (row + 1) * wide ≡ row * wide + wide
 next_row row wide = omega arith
@@ -105,10 +105,6 @@ pub place_small : (w h : ℕ) → IsSize w h → w * h ≤ 786432
 place_small w h s = mul-le w h 1024 768 s.columns s.rows
 
 -- ---- a row that was copied
-
-pub length_put : (a k : ℕ) (xs ys : List ℕ) → a + k ≤ length xs → length ys ≡ k → length (put_mid a k xs ys) ≡ length xs
-length_put a k xs ys le e =
-    omega (arith, length-append (take a xs) (ys ++ drop k (drop a xs)), length-append ys (drop k (drop a xs)), length-take a xs, length-drop k (drop a xs), length-drop a xs)
 
 pub part_taken : (w h t row : ℕ) (p : List ℕ) → 1 ≤ w → t < tile_count w h → row < high w h t → length p ≡ w * h → length (take (wide w t) (drop (row_place w t row) p)) ≡ wide w t
 part_taken w h t row p some below lt size = part_long p (row_place w t row) (wide w t) (omega (arith, row_within w h t row some below lt, size))

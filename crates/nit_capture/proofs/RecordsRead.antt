@@ -9,9 +9,9 @@ use Rattle.std.proofs.lemmas.Option.{some_pair_parts}
 use Rattle.nit_capture.specs.Tiles.{tile_count, area, place, tile, differs}
 use Rattle.nit_capture.specs.Film.{two_bytes, runs, run_bytes, tile_bytes, changed, record_of, HasRecord}
 use Rattle.nit_capture.specs.Reading.{◌>>=◌, tile_at, is_next, behind_two, turn_at, tiles_at, record_at}
-use Rattle.nit_capture.proofs.Differing.{differs_at, differs_where, same_tile, same_pixel}
+use Rattle.nit_capture.proofs.TileDifferences.{differs_at, differs_where, same_tile, same_pixel}
 use Rattle.nit_capture.proofs.RunsRead.{AreBytes}
-use Rattle.nit_capture.proofs.ReadingSteps.{turn_none_left, turn_other, turn_taken}
+use Rattle.nit_capture.proofs.ReadingSteps.{turn_none_left, turn_other, turn_taken, tiles_read}
 use Rattle.nit_capture.proofs.TilesRead.{bind_some, IsOther, TookTile, tile_take, tile_again, rest_changed, same_differs, same_filter, same_pixels, other_tile, same_picture}
 
 -- ---- what one turn did
@@ -154,11 +154,6 @@ pub record Given (w h t : ℕ) (frame p : List ℕ) : Type 0 where
   pub fits : (i : ℕ) → slice_index p i < 2 ^ 24
   pub before : (u k : ℕ) → u < t → k < area w h u → slice_index p (place w u k) ≡ slice_index frame (place w u k)
 
-next_turn : (w h count t left : ℕ) (frame bytes : List ℕ) (x : List ℕ × (ℕ × List ℕ)) → turn_at w h t left frame bytes ≡ Some x → tiles_at w h (suc count) t left frame bytes ≡ tiles_at w h count (t + 1) x.1.0 x.0 x.1.1
-unfolding tiles_at
-next_turn w h count t zero frame bytes x e = rw e refl
-next_turn w h count t (suc left) frame bytes x e = rw e refl
-
 none_at_end : (w h t : ℕ) (frame bytes : List ℕ) → tiles_at w h 0 t 0 frame bytes ≡ Some (frame, bytes)
 unfolding tiles_at
 none_at_end w h t frame bytes = refl
@@ -209,7 +204,7 @@ skip_again w h count t frame bytes p rest sum g e is again =
       ];
     } in
     ap (λ (vs : List ℕ). tiles_at w h (suc count) t (length vs) frame bytes) skip
-    ∙ next_turn w h count t (length us) frame bytes (frame, (length us, bytes)) turn
+    ∙ tiles_read w h count t (length us) frame bytes (frame, (length us, bytes)) turn
     ∙ again frame bytes given here
 
 take_again : (w h count t : ℕ) (frame bytes p rest : List ℕ) → t + suc count ≡ tile_count w h → Given w h t frame p
@@ -241,7 +236,7 @@ take_again w h count t frame bytes p rest sum g e is again =
       ];
     } in
     ap (λ (vs : List ℕ). tiles_at w h (suc count) t (length vs) frame bytes) take
-    ∙ next_turn w h count t (suc (length us)) frame bytes (k.picture, (length us, tail)) turn
+    ∙ tiles_read w h count t (suc (length us)) frame bytes (k.picture, (length us, tail)) turn
     ∙ ap (λ (vs : List ℕ). tiles_at w h count (t + 1) (length vs) k.picture tail) later
     ∙ again k.picture tail given (ap (λ (vs : List ℕ). flat_map (tile_bytes w h p) vs ++ rest) later)
 

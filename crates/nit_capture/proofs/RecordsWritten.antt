@@ -12,7 +12,7 @@ use Rattle.std.proofs.lemmas.List.FromFn.{map-range_with_len_more}
 use Rattle.nit_word.specs.Inks.{IsWord}
 use Rattle.nit_capture.specs.Tiles.{IsPicture, IsSize, tiles_along, tile_count, area, place, tile}
 use Rattle.nit_capture.specs.Film.{two_bytes, tile_bytes, changed, record_of}
-use Rattle.nit_capture.proofs.Differing.{range_more}
+use Rattle.nit_capture.proofs.TileDifferences.{range_more}
 
 filter-join : (f : ℕ → Bool) (xs : List ℕ) (x : ℕ) → filter f (xs ++ x ∷ []) ≡ filter f xs ++ cond (f x) (x ∷ []) []
 filter-join f [] x = refl

@@ -2,15 +2,15 @@
 use Rattle.std.proofs.Common.{◌≡◌, ℕ, zero, suc, ◌+◌, ◌*◌, ◌^◌, ◌<◌, ◌≤◌, ◌⊎◌, inl, inr, Bool, true, false, not, ◌||◌, List, ◌∷◌, ◌++◌, length, Option, Some, None, refl, sym, ap, ap₂, subst, ◌∙◌, arith, lit<}
 use Rattle.std.specs.Prelude.{◌==◌, slice_index, slice_set, cond}
 use Rattle.std.specs.List.{flat_map, filter, range_with_len}
-use Rattle.std.proofs.lemmas.Bool.{cases_eq, true≢false}
+use Rattle.std.proofs.lemmas.Bool.{cases_eq, true≢false, or_cases}
 use Rattle.std.proofs.lemmas.List.{ext_get_or, length-set, get_or-set_same, get_or-set_other}
 use Rattle.std.proofs.lemmas.Option.{cond_some}
 use Rattle.nit_capture.specs.Tiles.{tile_count, area, place, pixels, tile, differs}
 use Rattle.nit_capture.specs.Film.{runs, run_bytes}
 use Rattle.nit_capture.specs.Reading.{◌>>=◌, run_at, no_word, pixels_at, tile_at}
-use Rattle.nit_rect.proofs.Spans.{same_tests}
-use Rattle.nit_capture.proofs.TilePlaces.{place_within, same_place, lies_at}
-use Rattle.nit_capture.proofs.Differing.{same_map, differs_at, differs_where, unlike, like}
+use Rattle.nit_rect.proofs.ForCallers.{same_tests}
+use Rattle.nit_capture.proofs.Tiles.{place_within, same_place, lies_at}
+use Rattle.nit_capture.proofs.TileDifferences.{same_map, differs_at, differs_where, unlike, like}
 use Rattle.nit_capture.proofs.RunsRead.{AreBytes, Continues, run_takes, run_again, tile_spelled, tile_spelled_back}
 
 -- the value of a step that did not fail
@@ -30,10 +30,6 @@ pub record IsFresh (w t k end : ℕ) (frame p : List ℕ) : Type 0 where
   pub low : k ≤ at
   pub high : at < end
   pub unequal : slice_index frame (place w t at) ≡ slice_index p (place w t at) → ⊥
-
-or_true : (b c : Bool) → (b || c) ≡ true → (b ≡ true) ⊎ (c ≡ true)
-or_true true c e = inl refl
-or_true false c e = inr e
 
 or_of_right : (b c : Bool) → c ≡ true → (b || c) ≡ true
 or_of_right true c e = refl
@@ -91,7 +87,7 @@ pixels_take w h t (suc left) k more word new frame bytes p rest here sum are e =
           others = λ i no. later.others i (λ j low high same. no j (omega arith) (omega arith) same) ∙ get_or-set_other frame (place w t k) i x.0 0 (λ same. no k (omega arith) (omega arith) (sym same));
           size = later.size ∙ length-set frame (place w t k) x.0;
           fresh = elim later.fresh [
-            | inl is ↦ elim (or_true new (not (slice_index frame (place w t k) == x.0)) is) [
+            | inl is ↦ elim (or_cases new (not (slice_index frame (place w t k) == x.0)) is) [
               | inl was ↦ inl was
               | inr here' ↦ inr (record { at = k; low = omega arith; high = omega arith; unequal = λ same. like (slice_index frame (place w t k)) x.0 here' (same ∙ mine) })
             ]

@@ -36,7 +36,7 @@ impl Grid {
     }
 
     /// The left column of a tile.
-    #[tactic(auto, using(crate::proofs::TilePlaces::left_within), unfolding(crate::specs::Tiles::left_of))]
+    #[tactic(auto, using(crate::proofs::Tiles::left_fits), unfolding(crate::specs::Tiles::left_of))]
     fn left(self, tile: usize) -> usize
         ensures value { result ≡ left_of self.width tile }
         ensures within { result < self.width }
@@ -45,7 +45,7 @@ impl Grid {
     }
 
     /// The top row of a tile.
-    #[tactic(auto, using(crate::proofs::TilePlaces::top_within), unfolding(crate::specs::Tiles::top_of))]
+    #[tactic(auto, using(crate::proofs::Tiles::top_fits), unfolding(crate::specs::Tiles::top_of))]
     fn top(self, tile: usize) -> usize
         requires { tile < tile_count self.width self.height }
         ensures value { result ≡ top_of self.width tile }

@@ -9,6 +9,7 @@ use Rattle.nit_config.specs.Configuration.{Configuration}
 use Rattle.nit_config.specs.Tree.{ReadsTable}
 use Rattle.nit_config.specs.Refusals.{refusal}
 use Rattle.nit_config.specs.Reading.{HoldsClient, HoldsTable, Conf, HasNoTable, HasRefusedTable, IsRefused, UnlessMemory, IsAnswer}
+use Rattle.std.proofs.lemmas.Option.{same_Some}
 
 same_integer : (m n : ℕ) → Some (integer (pos m)) ≡ Some (integer (pos n)) → m ≡ n
 same_integer m n q = cc
@@ -48,19 +49,13 @@ same_values top a b p q =
     let clients = same_members _ a.clients b.clients p.clients q.clients in
     λ i. record { width = width i; height = height i; bar = bar i; input = input i; clients = clients i }
 
-same_table : (a b : Members) → Some a ≡ Some b → a ≡ b
-same_table a b q = cc
-
 same_top : (bytes : List ℕ) (a b : Members) → ReadsTable bytes a → ReadsTable bytes b → a ≡ b
-same_top bytes a b p q = same_table a b (sym p.table ∙ q.table)
+same_top bytes a b p q = same_Some a b (sym p.table ∙ q.table)
 
 pub one_configuration : (bytes : List ℕ) (a b : Configuration) → Conf bytes a → Conf bytes b → a ≡ b
 one_configuration bytes a b p q =
     let P : Members → Type 0 = λ t. HoldsTable t b in
     same_values p.top a b p.holds (subst P (same_top bytes q.top p.top q.read p.read) q.holds)
-
-same_error : (a b : ConfigError) → Some a ≡ Some b → a ≡ b
-same_error a b q = cc
 
 none_some : (a : ConfigError) → None ≡ Some a → ⊥
 none_some a q = cc
@@ -78,7 +73,7 @@ kind_of_refusal bytes Twice h = inr h
 kind_of_refusal bytes NoMemory h = absurd h
 
 one_of_table : (bytes : List ℕ) (a b : ConfigError) → HasRefusedTable bytes a → HasRefusedTable bytes b → a ≡ b
-one_of_table bytes a b p q = same_error a b (sym p.first ∙ (ap refusal (same_top bytes p.top q.top p.read q.read) ∙ q.first))
+one_of_table bytes a b p q = same_Some a b (sym p.first ∙ (ap refusal (same_top bytes p.top q.top p.read q.read) ∙ q.first))
 
 pub one_refusal : (bytes : List ℕ) (a b : ConfigError) → IsRefused bytes a → IsRefused bytes b → a ≡ b
 one_refusal bytes a b p q =

@@ -1,11 +1,12 @@
-pub mod Accepted
+pub mod RefusalTests
 pub mod Ascii
-pub mod Built
+pub mod MemberLists
 pub mod Clients
 pub mod Elements
 pub mod Exactly
-pub mod Held
-pub mod Judged
+pub mod HeldValues
+pub mod EachText
 pub mod Rows
 pub mod Tests
 pub mod Within
+pub mod ForCallers

@@ -1,7 +1,7 @@
 -- A configuration that holds the values of an accepted table is within the ranges of the format.
 use Rattle.std.proofs.Common.{◌≡◌, ◌≢◌, ◌∙◌, ℕ, ◌≤◌, pos, false, nat_lt, List, [], ◌∷◌, length, map, bytes_eq, Result, Ok, Err, IfOk, All, AllPairs, refl, sym, ap, suc, arith}
 use Rattle.std.specs.List.{list_any, AllZip}
-use Rattle.std.proofs.lemmas.Bool.{false≢true}
+use Rattle.std.proofs.lemmas.Bool.{false≢true, or_parts}
 use Rattle.std.proofs.lemmas.Bool.Decides.{nat_tests}
 use Rattle.std.proofs.lemmas.List.{length-map}
 use Rattle.std.proofs.lemmas.List.Elements.{All-nil, All-cons}
@@ -17,16 +17,15 @@ use Rattle.nit_config.specs.Tree.{elements_of, clients_of, members_of}
 use Rattle.nit_config.specs.Ranges.{is_outside, has_bad_script, has_bad_focus, has_bad_value, label_of, has_bad_label}
 use Rattle.nit_config.specs.Refusals.{stands_twice, has_label_twice}
 use Rattle.nit_config.specs.Reading.{HoldsClient, HoldsTable, Conf, IsAnswer}
-use Rattle.nit_config.proofs.Accepted.{IsAccepted, accepted}
-use Rattle.nit_config.proofs.Held.{inside, inside_held, bar_fits_held, string_held, script_is_name, label_is_label}
-use Rattle.nit_config.proofs.Tests.{neither}
+use Rattle.nit_config.proofs.RefusalTests.{IsAccepted, accepted}
+use Rattle.nit_config.proofs.HeldValues.{inside, inside_held, bar_fits_held, string_held, script_is_name, label_is_label}
 
 member_within : (t : Members) (m : Member) → HoldsClient t m → has_bad_value t ≡ false → has_bad_label t ≡ false → IsConfiguredMember m
 unfolding has_bad_value
 member_within t m held value label =
-    let all = neither _ (has_bad_focus t) value in
-    let parts = neither _ (has_bad_script t) all.0 in
-    let numbers = neither _ _ parts.0 in
+    let all = or_parts _ (has_bad_focus t) value in
+    let parts = or_parts _ (has_bad_script t) all.0 in
+    let numbers = or_parts _ _ parts.0 in
     record {
       label = ap is_label (sym (string_held _ _ held.label)) ∙ label_is_label t label;
       donation = inside_held _ 256 8388608 m.donation held.donation numbers.0;
@@ -39,8 +38,8 @@ members_within [] [] held values labels = All-nil IsConfiguredMember
 members_within [] (m ∷ ms) held values labels = absurd held
 members_within (t ∷ ts) [] held values labels = absurd held
 members_within (t ∷ ts) (m ∷ ms) held values labels =
-    let v = neither (has_bad_value t) (list_any has_bad_value ts) values in
-    let l = neither (has_bad_label t) (list_any has_bad_label ts) labels in
+    let v = or_parts (has_bad_value t) (list_any has_bad_value ts) values in
+    let l = or_parts (has_bad_label t) (list_any has_bad_label ts) labels in
     All-cons IsConfiguredMember m ms (member_within t m held.0 v.0 l.0) (members_within ts ms held.1 v.1 l.1)
 
 -- a text that is equal to no label
@@ -49,7 +48,7 @@ other_labels text [] [] held none = All-nil (λ m. text ≢ m.label)
 other_labels text [] (m ∷ ms) held none = absurd held
 other_labels text (t ∷ ts) [] held none = absurd held
 other_labels text (t ∷ ts) (m ∷ ms) held none =
-    let parts = neither (bytes_eq text (label_of t)) (list_any (bytes_eq text) (map label_of ts)) none in
+    let parts = or_parts (bytes_eq text (label_of t)) (list_any (bytes_eq text) (map label_of ts)) none in
     let other : text ≢ m.label = λ same. false≢true (sym parts.0 ∙ (bytes_eq-Decides text (label_of t)).1 (same ∙ sym (string_held _ _ held.0.label))) in
     All-cons (λ n. text ≢ n.label) m ms other (other_labels text ts ms held.1 parts.1)
 
@@ -58,7 +57,7 @@ labels_differ [] [] held none = λ i j d less short. absurd (omega arith)
 labels_differ [] (m ∷ ms) held none = absurd held
 labels_differ (t ∷ ts) [] held none = absurd held
 labels_differ (t ∷ ts) (m ∷ ms) held none =
-    let parts = neither (list_any (bytes_eq (label_of t)) (map label_of ts)) (stands_twice (map label_of ts)) none in
+    let parts = or_parts (list_any (bytes_eq (label_of t)) (map label_of ts)) (stands_twice (map label_of ts)) none in
     let first : list_any (bytes_eq m.label) (map label_of ts) ≡ false = rw (string_held _ _ held.0.label) at parts.0 in
     AllPairs-cons (λ a b. a.label ≢ b.label) m ms (other_labels m.label ts ms held.1 first) (labels_differ ts ms held.1 parts.1)
 

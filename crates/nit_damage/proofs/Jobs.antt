@@ -12,7 +12,7 @@ use Rattle.nit_rect.specs.declared.point.Point.{Point}
 use Rattle.nit_rect.specs.Rectangle.{Rectangle}
 use Rattle.nit_rect.specs.Meeting.{HasPixels}
 use Rattle.nit_rect.specs.Dividing.{times}
-use Rattle.nit_rect.proofs.Sets.{covers_none, no_pixels, pixels_of}
+use Rattle.nit_rect.proofs.ForCallers.{covers_none, no_pixels, pixels_of}
 use Rattle.nit_stack.specs.Standing.{Standing}
 use Rattle.nit_damage.specs.declared.cutting.Job.{Job}
 use Rattle.nit_damage.specs.Sets.{covered, once}

@@ -1,8 +1,9 @@
 pub mod Views
 pub mod Screen
 pub mod Jobs
-pub mod Cut
-pub mod Step
-pub mod Begun
-pub mod Next
+pub mod RectangleCuts
+pub mod CutterSteps
+pub mod ToCome
+pub mod NextPiece
 pub mod Rows
+pub mod ForCallers

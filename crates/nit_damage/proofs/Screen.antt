@@ -2,13 +2,12 @@
 use Rattle.std.proofs.Common.{◌≡◌, ℕ, ◌+◌, ◌-◌, ◌≤◌, Bool, true, false, not, refl, ap, arith}
 use Rattle.std.specs.Prelude.{pos, ◌≤ℤ◌, ◌<ℤ◌}
 use Rattle.std.proofs.lemmas.Int.{ints}
-use Rattle.std.proofs.lemmas.Bool.{and_parts}
+use Rattle.std.proofs.lemmas.Bool.{and_parts, false_from_ne_true, not-true}
 use Rattle.nit_rect.specs.declared.point.Point.{Point}
 use Rattle.nit_rect.specs.Rectangle.{Rectangle, rectangle, covers, spans}
 use Rattle.nit_rect.specs.Meeting.{HasPixels, LiesIn}
 use Rattle.nit_rect.specs.Dividing.{IsScreenRectangle}
-use Rattle.nit_rect.proofs.Spans.{IsSpanned, and_true, same_tests, spans_tells, spans_holds}
-use Rattle.nit_rect.proofs.Sets.{IsWithin, within}
+use Rattle.nit_rect.proofs.ForCallers.{IsSpanned, and_true, same_tests, spans_tells, spans_holds, IsWithin, within}
 use Rattle.nit_stack.specs.Sources.{in_bar}
 use Rattle.nit_stack.specs.Standing.{IsOnScreen, IsStanding, Standing}
 use Rattle.nit_damage.specs.Cuts.{bar_part, part_below_bar}
@@ -44,10 +43,6 @@ below_bar_holds bar p is = grind (arith, ints)
 below_bar_tells : (bar : ℕ) (p : Point) → in_bar bar p ≡ false → pos bar ≤ℤ p.y
 below_bar_tells bar p is = omega (arith, ints)
 
-turned : (b : Bool) → not b ≡ true → b ≡ false
-turned true e = cc
-turned false e = refl
-
 pub below_on_screen : (s : Standing) (p : Point) → s.bar ≤ s.height → covers (part_below_bar s) p ≡ true → IsOnScreen s.width s.height p
 below_on_screen s p fits is =
     let among : IsAmong s.width s.bar (s.height - s.bar) p = rows_tell s.width s.bar (s.height - s.bar) p is in
@@ -74,7 +69,7 @@ below_is s p fits on = same_tests (covers (part_below_bar s) p) (not (in_bar s.b
     let left = on.0 in
     let right = on.1 in
     let bottom = on.3 in
-    let top : pos s.bar ≤ℤ p.y = below_bar_tells s.bar p (turned (in_bar s.bar p) out) in
+    let top : pos s.bar ≤ℤ p.y = below_bar_tells s.bar p (not-true (in_bar s.bar p) out) in
     rows_hold s.width s.bar (s.height - s.bar) p record { left = left; right = right; top = top; bottom = omega (arith, ints) })
 
 pub bar_is : (s : Standing) (p : Point) → IsOnScreen s.width s.height p → covers (bar_part s) p ≡ in_bar s.bar p
@@ -84,16 +79,12 @@ bar_is s p on = same_tests (covers (bar_part s) p) (in_bar s.bar p)
     let low : p.y <ℤ pos s.bar = in_bar_tells s.bar p is in
     rows_hold s.width 0 s.bar p record { left = on.0; right = on.1; top = on.2; bottom = omega (arith, ints) })
 
-untrue : (b : Bool) → (b ≡ true → ⊥) → b ≡ false
-untrue true no_way = absurd (no_way refl)
-untrue false no_way = refl
-
 -- off the screen neither part has the pixel
 pub below_off : (s : Standing) (p : Point) → s.bar ≤ s.height → (IsOnScreen s.width s.height p → ⊥) → covers (part_below_bar s) p ≡ false
-below_off s p fits off = untrue (covers (part_below_bar s) p) (λ is. off (below_on_screen s p fits is))
+below_off s p fits off = false_from_ne_true (covers (part_below_bar s) p) (λ is. off (below_on_screen s p fits is))
 
 pub bar_off : (s : Standing) (p : Point) → s.bar ≤ s.height → (IsOnScreen s.width s.height p → ⊥) → covers (bar_part s) p ≡ false
-bar_off s p fits off = untrue (covers (bar_part s) p) (λ is. off (bar_on_screen s p fits is))
+bar_off s p fits off = false_from_ne_true (covers (bar_part s) p) (λ is. off (bar_on_screen s p fits is))
 
 -- the bar leaves rows of the screen
 pub bar_fits : (s : Standing) → IsStanding s → s.bar ≤ s.height

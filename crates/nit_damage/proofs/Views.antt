@@ -7,7 +7,7 @@ use Rattle.std.proofs.lemmas.Bool.{eqb-true}
 use Rattle.nit_rect.specs.declared.point.Point.{Point}
 use Rattle.nit_stack.specs.Sources.{in_bar, owner_in}
 use Rattle.nit_stack.specs.Standing.{NoPair, Seat, Standing, has, is_slot, place_of, same_slot, seat_in}
-use Rattle.nit_stack.proofs.Lists.{found_fails}
+use Rattle.nit_stack.proofs.ForCallers.{found_fails}
 use Rattle.nit_damage.specs.Sets.{covered, is_behind, seat_covers}
 
 -- the front-most of the views that cover a pixel

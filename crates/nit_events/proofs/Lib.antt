@@ -1,2 +1,4 @@
-pub mod Padding
+pub mod TextBytes
 pub mod Rows
+pub mod Choices
+pub mod ForCallers

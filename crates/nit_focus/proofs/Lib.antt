@@ -1,3 +1,4 @@
 pub mod Codes
 pub mod Steps
 pub mod Routes
+pub mod ForCallers

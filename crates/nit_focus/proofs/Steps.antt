@@ -18,6 +18,7 @@ use Rattle.nit_events.specs.Input.{InputState, Routing}
 use Rattle.nit_events.specs.Input as input
 use Rattle.nit_focus.specs.Focusing.{AllOfInput}
 use Rattle.nit_focus.specs.Reach.{HasForgotten, IsForgottenIfKilled}
+use Rattle.nit_events.proofs.ForCallers.{either}
 
 -- a delivery is to such a session and is such an item, and a session that is killed is forgotten in this state
 pub record IsDelivery (P : ℕ → Type 0) (Q : Item → Type 0) (i : InputState) (d : Delivery) : Type 0 where
@@ -52,10 +53,6 @@ brought i (device.Motion x y) = item.Event (event.Motion i.x i.y)
 brought i (device.Wheel n) = item.Event (event.Wheel n)
 brought i (device.Press k) = item.Event (event.Press k)
 brought i (device.Release k) = item.Event (event.Release k)
-
-either : (S : Routing → Type 0) (b : Bool) (r t : Routing) → S r → S t → S (if b then r else t)
-either S true r t p q = p
-either S false r t p q = q
 
 -- ---- who is forgotten
 

@@ -1,4 +1,4 @@
 pub mod Glyphs
-pub mod Padding
-pub mod Tells
+pub mod ZerosBehind
+pub mod PicturesTell
 pub mod Tests

@@ -1,4 +1,4 @@
-pub mod Growing
+pub mod JournalFronts
 pub mod Along
 pub mod SameActs
 pub mod Sessions
@@ -6,10 +6,12 @@ pub mod Deliveries
 pub mod Isolation
 pub mod Queues
 pub mod CallsAlone
-pub mod Lacking
+pub mod QuotaRefusals
 pub mod Focus
-pub mod Reaching
+pub mod KnownSessions
 pub mod Lives
 pub mod Presses
 pub mod Rows
 pub mod Machines
+pub mod CallRefusals
+pub mod ForCallers

@@ -25,17 +25,18 @@ use Rattle.nit_events.specs.Input.{InputState, Routing, deliveries_of, forget}
 use Rattle.nit_stack.specs.declared.view.View.{View as ViewOf}
 use Rattle.nit_stack.specs.Labels.{is_view}
 use Rattle.nit_stack.specs.Orders.{put_front, put_back, put_above, without, changed, moved, put_again}
-use Rattle.nit_stack.proofs.Places.{Put, Put-front, Put-back, Put-above}
+use Rattle.nit_stack.proofs.ForCallers.{Put, Put-front, Put-back, Put-above}
 use Rattle.nit_config.specs.Configuration.{Configuration}
 use Rattle.nit_journal.specs.Session.{Session, ◌orelse◌, opened, accepted, by_call, by_refusal, by_status, refusal, serve, receive, by_life, taking}
 use Rattle.nit_journal.specs.State.{State, opening, session_in, session, layer, input_after_call, delivered, route, routed_to, after}
 use Rattle.nit_journal.specs.Views.{is_accepted, new_view, after_accepted, stack_after_call, after_delivery, after_deliveries}
 use Rattle.nit_journal.specs.Journals.{Agrees, LegalFrom, IsLegal, replay_from, replay, shots}
 use Rattle.nit_journal.specs.Deliveries.{IsLive, is_kill}
-use Rattle.nit_journal.proofs.Growing.{agrees_behind, front_legal}
+use Rattle.nit_journal.proofs.JournalFronts.{agrees_behind, front_legal}
 use Rattle.nit_journal.proofs.Isolation.{entry_keeps_all}
-use Rattle.nit_journal.proofs.Reaching.{IsStep, IsTold, Knows, known_but, route_step}
-use Rattle.nit_journal.proofs.Sessions.{handed, handed_length, handed_to_another, still_there}
+use Rattle.nit_journal.proofs.KnownSessions.{IsStep, IsTold, Knows, known_but, route_step}
+use Rattle.nit_journal.proofs.Sessions.{handed, handed_length, handed_to_another, still_there, delivered_length}
+use Rattle.std.proofs.lemmas.Option.{IfSome_then}
 
 -- the views' sessions have this
 abbrev pub HaveAll : (ℕ → Type 0) → List ViewOf → Type 0
@@ -45,12 +46,8 @@ pub record AreLive (s : State) : Type 0 where
   pub known : Knows (IsLive s) s.input
   pub views : HaveAll (IsLive s) s.stack
 
-weaker : (P Q : ℕ → Type 0) → ((t : ℕ) → P t → Q t) → (o : Option ℕ) → IfSome o P → IfSome o Q
-weaker P Q f None p = tt
-weaker P Q f (Some t) p = f t p
-
 knows_weaker : (P Q : ℕ → Type 0) → ((t : ℕ) → P t → Q t) → (i : InputState) → Knows P i → Knows Q i
-knows_weaker P Q f i k = record { receiver = weaker P Q f i.receiver k.receiver; hover = weaker P Q f i.hover k.hover; focus = weaker P Q f i.focus k.focus }
+knows_weaker P Q f i k = record { receiver = IfSome_then i.receiver k.receiver f; hover = IfSome_then i.hover k.hover f; focus = IfSome_then i.focus k.focus f }
 
 -- ---- the views
 
@@ -239,10 +236,6 @@ deliveries_have P (d ∷ ds) stack all = deliveries_have P ds (after_delivery d 
     one : (sid : ℕ) (i : Item) → HaveAll P (after_delivery (record { sid = sid; item = i }) stack)
     one sid (item.Event e) = all
     one sid item.Kill = without_has P (λ v. v.sid == sid) stack all
-
-pub delivered_length : (ds : List Delivery) (sessions : List Session) → length (delivered ds sessions) ≡ length sessions
-delivered_length [] sessions = refl
-delivered_length (d ∷ ds) sessions = delivered_length ds (handed d sessions) ∙ handed_length d sessions
 
 live_after_routing : (s : State) (r : Routing) → AreLive s → IsStep (IsLive s) r → AreLive (routed_to r s)
 live_after_routing s r h (inl step) = record {

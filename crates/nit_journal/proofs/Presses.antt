@@ -29,6 +29,7 @@ use Rattle.nit_journal.specs.Journals.{IsLegal, LegalFrom}
 use Rattle.nit_journal.specs.Projections.{Moment, Calls, Gets, items_to, projection}
 use Rattle.nit_journal.specs.Presses.{IsDown, is_release}
 use Rattle.nit_journal.proofs.Isolation.{entry_keeps_all}
+use Rattle.nit_events.proofs.ForCallers.{either}
 
 -- ---- whether a code is down
 
@@ -90,10 +91,6 @@ down_is k b seen (m ∷ ms) was e =
     subst (IsDown k) (append_assoc seen (m ∷ []) ms) (down_is k (next k m b) (seen ++ m ∷ []) ms (more_down k b seen m was) e)
 
 -- ---- one session and one code
-
-either : (S : Routing → Type 0) (b : Bool) (r t : Routing) → S r → S t → S (if b then r else t)
-either S true r t p q = p
-either S false r t p q = q
 
 abbrev is_stroke : Item → Bool
 is_stroke (item.Event (event.Press j)) = true

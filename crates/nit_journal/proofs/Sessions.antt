@@ -51,7 +51,7 @@ handed_to_another d sessions x other = get_or-set_other sessions d.sid x (receiv
 
 -- ---- any entry
 
-delivered_length : (ds : List Delivery) (sessions : List Session) → length (delivered ds sessions) ≡ length sessions
+pub delivered_length : (ds : List Delivery) (sessions : List Session) → length (delivered ds sessions) ≡ length sessions
 delivered_length [] sessions = refl
 delivered_length (d ∷ ds) sessions = delivered_length ds (handed d sessions) ∙ handed_length d sessions
 

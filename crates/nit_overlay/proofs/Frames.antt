@@ -19,6 +19,7 @@ use Rattle.nit_overlay.specs.declared.look.Look.{Look}
 use Rattle.nit_overlay.specs.Areas.{IsShownIn, in_area}
 use Rattle.nit_overlay.specs.Looks.{scenery}
 use Rattle.nit_overlay.specs.Shown.{Scenery, bar_word, by_label, by_mode, frame, has_dot, ink_of, is_in_picture, owner_word, shown, view_word, white, grey}
+use Rattle.nit_word.proofs.ForCallers.{column_and_row}
 
 pub length-frame : (s : Scenery) (raw : List ℕ) → length (frame s raw) ≡ s.width * s.height
 unfolding frame
@@ -70,19 +71,13 @@ shown_fits s p w fits = either (in_bar s.bar p) (bar_word s p) (owner_word s p w
 
 -- ---- an area that is shown
 
--- a pixel of the screen
-row_below : (width height k : ℕ) → k < width * height → (k % width < width) × (k / width < height)
-row_below width height k lt =
-    let some : 0 < width = grind arith in
-    (omega arith, (div-lt_iff_lt-mul some).1 (omega arith))
-
 -- where the area has the pixels of a rectangle
 pub rect_shown : (a : Area) (look : Look) (r : Rectangle) (raw old now : List ℕ) → IsShownIn a look raw old now
     → ((x y : ℕ) → x < look.stack.now.width → y < look.stack.now.height → in_area a x y ≡ covers r (point x y))
     → (k : ℕ) → k < look.stack.now.width * look.stack.now.height
     → get_or now k 0 ≡ cond (covers r (pixel look.stack.now.width k)) (shown (scenery look) (pixel look.stack.now.width k) (get_or raw k 0)) (get_or old k 0)
 rect_shown a look r raw old now all same k lt =
-    let on = row_below look.stack.now.width look.stack.now.height k lt in
+    let on = column_and_row look.stack.now.width look.stack.now.height k lt in
     all.words k lt
     ∙ ap (λ b. cond b (shown (scenery look) (pixel look.stack.now.width k) (get_or raw k 0)) (get_or old k 0)) (same (k % look.stack.now.width) (k / look.stack.now.width) on.0 on.1)
 
@@ -95,7 +90,7 @@ all_shown : (a : Area) (look : Look) (raw old now : List ℕ) → IsShownIn a lo
     → (k : ℕ) → k < look.stack.now.width * look.stack.now.height
     → get_or now k 0 ≡ shown (scenery look) (pixel look.stack.now.width k) (get_or raw k 0)
 all_shown a look raw old now all same k lt =
-    let on = row_below look.stack.now.width look.stack.now.height k lt in
+    let on = column_and_row look.stack.now.width look.stack.now.height k lt in
     all.words k lt
     ∙ ap (λ b. cond b (shown (scenery look) (pixel look.stack.now.width k) (get_or raw k 0)) (get_or old k 0)) (same (k % look.stack.now.width) (k / look.stack.now.width) on.0 on.1)
 

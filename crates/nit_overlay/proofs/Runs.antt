@@ -2,15 +2,12 @@
 use Rattle.std.proofs.Common.{[], ◌∷◌, zero, suc, ◌≡◌, ℕ, ◌<◌, ◌≤◌, Bool, true, false, cond, List, None, Some, length, find, arith, ◌∙◌, ap, refl}
 use Rattle.std.specs.Prelude.{slice_get}
 use Rattle.std.proofs.lemmas.Bool.{le-ltb}
-use Rattle.std.proofs.lemmas.Option.{slice_get_within}
+use Rattle.std.proofs.lemmas.Option.{slice_get_within, same_Some}
 use Rattle.nit_rect.specs.Rectangle.{covers}
 use Rattle.nit_stack.specs.declared.view.View.{View}
 use Rattle.nit_stack.specs.Standing.{Seat}
 use Rattle.nit_stack.specs.Sources.{owner, in_bar, point}
 use Rattle.nit_stack.specs.Names.{views_of}
-
-one : {A : Type 0} {x y : A} → Some x ≡ Some y → x ≡ y
-one e = cc
 
 find_none : (p : View → Bool) (seats : List Seat) → ((k : ℕ) (s : Seat) → slice_get seats k ≡ Some s → p s.view ≡ false) → find p (views_of seats) ≡ None
 find_none p [] fails = refl
@@ -20,7 +17,7 @@ find_first : (p : View → Bool) (seats : List Seat) (n : ℕ) (s : Seat) → sl
     → ((k : ℕ) (t : Seat) → k < n → slice_get seats k ≡ Some t → p t.view ≡ false) → p s.view ≡ true → find p (views_of seats) ≡ Some s.view
 find_first p [] n s is fails here = cc
 find_first p (t ∷ seats) zero s is fails here =
-    let same : t ≡ s = one is in
+    let same : t ≡ s = same_Some _ _ is in
     let e : p t.view ≡ true = ap (λ u. p u.view) same ∙ here in rw e (ap (λ u. Some u.view) same)
 find_first p (t ∷ seats) (suc n) s is fails here =
     rw (fails 0 t (omega arith) refl) (find_first p seats n s is (λ k u less. fails (suc k) u (omega arith)) here)

@@ -8,8 +8,7 @@ use Rattle.atomic_table.specs.Table.{step, keeps, opening, Allows, Splits}
 use Rattle.atomic_table.proofs.Lists.{at_set, at_snoc, set_again}
 use Rattle.nit_word.specs.Inks.{IsInked, IsWord}
 use Rattle.nit_word.specs.Zeros.{zeros}
-use Rattle.nit_word.proofs.Inking.{inked_fits}
-use Rattle.nit_word.proofs.Zeros.{zero_inked}
+use Rattle.nit_word.proofs.ForCallers.{inked_fits, zero_inked}
 use Rattle.nit_pixels.specs.declared.steps.PixelView.{PixelView}
 use Rattle.nit_pixels.specs.declared.steps.Identity.{Identity}
 use Rattle.nit_pixels.specs.Steps.{owner_view, reader_view, view_loaded, view_stored, IsViewOf, IsRuled, Sat, Loaded, Stored}

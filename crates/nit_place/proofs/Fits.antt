@@ -1,7 +1,7 @@
 -- A label fits by its pixels exactly where it is free by the edges of views.
 use Rattle.std.proofs.Common.{◌≡◌, ℕ, ◌+◌, ◌-◌, ◌<◌, ◌≤◌, ◌∙◌, Bool, true, false, ◌&&◌, cond, List, find, max, Option, None, slice_index_or, arith, ap₂, sym, refl, subst, ltb, leb}
 use Rattle.std.specs.Prelude.{ℤ, pos, negsuc, int_le, int_lt}
-use Rattle.std.proofs.lemmas.Bool.{le-leb, le-ltb, lt-ltb}
+use Rattle.std.proofs.lemmas.Bool.{le-leb, le-ltb, lt-ltb, false_from_ne_true}
 use Rattle.std.proofs.lemmas.Bool.Decides.{nat_tests}
 use Rattle.std.proofs.lemmas.List.{get_or_default}
 use Rattle.nit_rect.specs.Rectangle.{Rectangle, covers}
@@ -13,7 +13,7 @@ use Rattle.nit_place.specs.declared.part.Part.{Part}
 use Rattle.nit_place.specs.Edges.{on_screen, right_of, below}
 use Rattle.nit_place.specs.Free.{meets, IsFree}
 use Rattle.nit_place.specs.Parts.{area_of, part_at, part_of}
-use Rattle.nit_place.proofs.Steps.{fails_of, three}
+use Rattle.nit_place.proofs.Steps.{three}
 use Rattle.nit_place.proofs.Moves.{Meets, meets-true, meets-of}
 use Rattle.nit_place.proofs.Grid.{all_in_grid, all_of_grid}
 use Rattle.nit_place.proofs.Names.{IsFirstAt, StandsAt, owned_by, owner_of}
@@ -106,7 +106,7 @@ owns_holds width height rows stack n v at x y own =
     record {
       fails =
           λ k lt.
-          fails_of (covers (slice_index_or stack k v).rect (point x y))
+          false_from_ne_true (covers (slice_index_or stack k v).rect (point x y))
           (λ e.
           let same = get_or_default stack k v (fresh 0 0) (omega (arith, at.within)) in
           own.clear k lt (covers_tells (slice_index_or stack k (fresh 0 0)).rect x y (subst (λ (u : View). covers u.rect (point x y) ≡ true) same e)));
@@ -132,7 +132,7 @@ fits_free width height rows stack n v at w h x y wide high all =
       to_bottom = omega (arith, last.covered.bottom, last.in_height);
       clear =
           λ k lt.
-          fails_of (meets x y w h (part_at stack k))
+          false_from_ne_true (meets x y w h (part_at stack k))
           (λ met.
           let m : Meets (part_at stack k) x y w h = meets-true x y w h (part_at stack k) met in
           let px : ℕ = max x (part_at stack k).left in

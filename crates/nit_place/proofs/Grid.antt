@@ -5,6 +5,7 @@ use Rattle.std.specs.Option.{option_map, option_or}
 use Rattle.std.proofs.lemmas.Bool.{and_parts, cases_lt}
 use Rattle.std.proofs.lemmas.List.Folds.{find-append, list_all-append, list_all-map}
 use Rattle.nit_place.specs.Least.{IsBefore, IsLeast}
+use Rattle.nit_stack.proofs.ForCallers.{find-map}
 
 -- ---- all of a range, all of a grid
 
@@ -66,15 +67,6 @@ first_step p a n false (Some k) e (from, to, holds, before) =
 first_in : (p : ℕ → Bool) (a n : ℕ) → IsFirst p a n (find p (range_with_len a n))
 first_in p a zero = λ k from to. absurd (omega arith)
 first_in p a (suc n) = first_step p a n (p a) (find p (range_with_len (a + 1) n)) refl (first_in p (a + 1) n)
-
-find-map : {A B : Type 0} (p : B → Bool) (f : A → B) (xs : List A) → find p (map f xs) ≡ option_map f (find (λ x. p (f x)) xs)
-find-map p f [] = refl
-find-map p f (x ∷ xs) = go (p (f x)) (find-map p f xs)
-  where
-    go : (b : Bool) → find p (map f xs) ≡ option_map f (find (λ x. p (f x)) xs)
-        → cond b (Some (f x)) (find p (map f xs)) ≡ option_map f (cond b (Some x) (find (λ x. p (f x)) xs))
-    go true r = refl
-    go false r = r
 
 -- ---- the least place of a screen
 

@@ -6,3 +6,4 @@ pub mod Names
 pub mod Fits
 pub mod Screen
 pub mod Places
+pub mod ForCallers

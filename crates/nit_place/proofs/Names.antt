@@ -2,7 +2,7 @@
 use Rattle.std.proofs.Common.{◌≡◌, ℕ, zero, suc, ◌<◌, ◌∙◌, Bool, true, false, List, [], ◌∷◌, length, take, find, Some, slice_index_or, arith, ap, sym, subst, inl, inr}
 use Rattle.std.specs.List.{list_any, position_or_len, AllPairs, Any, before_first}
 use Rattle.std.specs.Prelude.{slice_get}
-use Rattle.std.proofs.lemmas.Bool.{cases_lt}
+use Rattle.std.proofs.lemmas.Bool.{cases_lt, false_from_ne_true}
 use Rattle.std.proofs.lemmas.Bool.Decides.{nat_tests}
 use Rattle.std.proofs.lemmas.List.{get_or-map, get_or-take, get_or_default, length-map, length-take-le}
 use Rattle.std.proofs.lemmas.List.Folds.{find_at, list_any_at}
@@ -12,7 +12,6 @@ use Rattle.nit_stack.specs.declared.view.View.{View}
 use Rattle.nit_stack.specs.Labels.{is_owner, is_view}
 use Rattle.nit_stack.specs.Names.{views_of}
 use Rattle.nit_stack.specs.Standing.{NoPair, Seat, same_name}
-use Rattle.nit_place.proofs.Steps.{fails_of}
 
 -- no view has the name of a later one
 abbrev pub NamesDiffer : List View → Type 0
@@ -26,7 +25,7 @@ pub record StandsAt (stack : List View) (n : ℕ) (v : View) : Type 0 where
 
 fails_there : (p : Seat → Bool) (seats : List Seat) (j : ℕ) (d : Seat) → list_any p seats ≡ false → j < length seats → p (slice_index_or seats j d) ≡ false
 fails_there p seats j d none lt =
-    fails_of (p (slice_index_or seats j d)) (λ e. let some : list_any p seats ≡ true = list_any_at p seats j d lt e in cc)
+    false_from_ne_true (p (slice_index_or seats j d)) (λ e. let some : list_any p seats ≡ true = list_any_at p seats j d lt e in cc)
 
 seats_differ : (seats : List Seat) → NoPair same_name seats → AllPairs (λ a b. same_name a b ≡ false) seats
 seats_differ [] h i j d lt within = absurd (omega arith)
@@ -48,7 +47,7 @@ pub own_name : (v : View) → is_view v.sid v.handle v ≡ true
 own_name v = grind (arith, nat_tests)
 
 -- either view may come first
-name_both : (a b : View) → is_view a.sid a.handle b ≡ is_view b.sid b.handle a
+pub name_both : (a b : View) → is_view a.sid a.handle b ≡ is_view b.sid b.handle a
 name_both a b = grind (arith, nat_tests)
 
 -- no view in front has its name

@@ -18,11 +18,11 @@ use Rattle.nit_place.specs.Edges.{IsAtEdges, IsColumn, IsRow, IsWithinScreen, be
 use Rattle.nit_place.specs.Free.{IsEdge, IsFree, IsLeastFree, IsSearched}
 use Rattle.nit_place.specs.Least.{IsBefore, IsLeast}
 use Rattle.nit_place.specs.Parts.{area_of, part_at}
-use Rattle.nit_place.proofs.Steps.{fails_of}
 use Rattle.nit_place.proofs.Seats.{view_at}
 use Rattle.nit_place.proofs.Names.{StandsAt, names_differ, some_in_front}
 use Rattle.nit_place.proofs.Fits.{fits_free, free_fits}
 use Rattle.nit_place.proofs.Screen.{least_only}
+use Rattle.std.proofs.lemmas.Bool.{false_from_ne_true}
 
 -- a view stands behind those that its slot is looked for among
 pub stands : (seats : List Seat) (k : ℕ) (s : Seat) → NoPair same_name seats → seat_in k seats ≡ Some s → StandsAt (views_of seats) (position_or_len (is_slot k) seats) s.view
@@ -40,7 +40,7 @@ least_free : (width height rows : ℕ) (stack : List View) (n : ℕ) (v : View) 
     → IsLeastFree (part_at stack) n (area_of width height rows v.rect) w h x y → IsLeast (fits width height rows stack v w h) (Some (x, y))
 least_free width height rows stack n v at w h x y wide high found = (
   free_fits width height rows stack n v at w h x y found.in_row.free,
-  λ x' y' before. fails_of (fits width height rows stack v w h x' y') (λ all. none x' y' before (fits_free width height rows stack n v at w h x' y' wide high all)),
+  λ x' y' before. false_from_ne_true (fits width height rows stack v w h x' y') (λ all. none x' y' before (fits_free width height rows stack n v at w h x' y' wide high all)),
 )
   where
     none : (x' y' : ℕ) → IsBefore (x', y') (x, y) → IsFree (part_at stack) n (area_of width height rows v.rect) w h x' y' → ⊥
@@ -53,7 +53,7 @@ pub place_is : (width height rows : ℕ) (stack : List View) (n : ℕ) (v : View
 place_is width height rows stack n v at w h wide high None none =
     ap (option_map (λ (q : ℕ × ℕ). point q.0 q.1))
     (least_only width height rows stack v w h None wide high
-    (λ x y. fails_of (fits width height rows stack v w h x y) (λ all. none x y (fits_free width height rows stack n v at w h x y wide high all))))
+    (λ x y. false_from_ne_true (fits width height rows stack v w h x y) (λ all. none x y (fits_free width height rows stack n v at w h x y wide high all))))
 place_is width height rows stack n v at w h wide high (Some q) (x, y, is, found) =
     ap (λ (p : Point). Some p) is
     ∙ ap (option_map (λ (q : ℕ × ℕ). point q.0 q.1))

@@ -1,7 +1,7 @@
 -- What a label that fits has of the screen, and that no two views own one pixel.
 use Rattle.std.proofs.Common.{◌≡◌, ℕ, ◌+◌, ◌-◌, ◌<◌, ◌≤◌, true, false, ◌&&◌, List, Option, Some, None, arith, ltb}
 use Rattle.std.specs.Prelude.{ℤ, pos, negsuc}
-use Rattle.std.proofs.lemmas.Bool.{and_parts}
+use Rattle.std.proofs.lemmas.Bool.{and_parts, false_from_ne_true}
 use Rattle.std.proofs.lemmas.Bool.Decides.{nat_tests}
 use Rattle.nit_rect.specs.Meeting.{IsApart}
 use Rattle.nit_rect.specs.Rectangle.{rectangle, covers}
@@ -9,7 +9,7 @@ use Rattle.nit_stack.specs.declared.view.View.{View}
 use Rattle.nit_stack.specs.Labels.{fits, is_owner, is_view, label_place, owns}
 use Rattle.nit_stack.specs.Sources.{owner, point}
 use Rattle.nit_place.specs.Least.{IsLeast}
-use Rattle.nit_place.proofs.Steps.{fails_of, three}
+use Rattle.nit_place.proofs.Steps.{three}
 use Rattle.nit_place.proofs.Grid.{IsOnlyWithin, all_in_grid, found_least, one_least}
 
 -- an owned pixel is on the screen, and its owner has the view's name
@@ -82,7 +82,7 @@ apart width height rows stack v u w h x y w' h' x' y' other first second p = go 
     go : (a b : ℤ)
         → (covers (rectangle (pos x) (pos y) w h) (record { x = a; y = b }) && covers (rectangle (pos x') (pos y') w' h') (record { x = a; y = b })) ≡ false
     go (pos i) (pos j) =
-        fails_of (covers (rectangle (pos x) (pos y) w h) (point i j) && covers (rectangle (pos x') (pos y') w' h') (point i j))
+        false_from_ne_true (covers (rectangle (pos x) (pos y) w h) (point i j) && covers (rectangle (pos x') (pos y') w' h') (point i j))
         (λ both.
         let parts = and_parts (covers (rectangle (pos x) (pos y) w h) (point i j)) (covers (rectangle (pos x') (pos y') w' h') (point i j)) both in
         let one : IsPixel x y w h i j = label_pixel x y w h i j parts.0 in

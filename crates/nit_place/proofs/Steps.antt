@@ -1,20 +1,15 @@
 -- Numbers below a bound, and tests that fail.
 use Rattle.std.proofs.Common.{◌≡◌, ℕ, ◌+◌, ◌<◌, Bool, true, false, ◌&&◌, arith, refl, subst, inl, inr, eqb}
-use Rattle.std.proofs.lemmas.Bool.{cases_lt, eqb-true}
+use Rattle.std.proofs.lemmas.Bool.{cases_lt, eqb-true, false_from_ne_true}
 
 -- a number below n + 1 is below n or is n
 pub below_more : (n : ℕ) (P : ℕ → Type 0) → ((k : ℕ) → k < n → P k) → P n → (k : ℕ) → k < n + 1 → P k
 below_more n P before here k lt =
     elim (cases_lt k n) [ inl less ↦ before k less | inr le ↦ let e : n ≡ k = omega arith in subst P e here ]
 
--- a test that does not hold fails
-pub fails_of : (b : Bool) → (b ≡ true → ⊥) → b ≡ false
-fails_of true no_true = absurd (no_true refl)
-fails_of false no_true = refl
-
 -- two numbers that are not equal
 pub unlike : (a b : ℕ) → (a ≡ b → ⊥) → eqb a b ≡ false
-unlike a b other = fails_of (eqb a b) (λ e. other (eqb-true a b e))
+unlike a b other = false_from_ne_true (eqb a b) (λ e. other (eqb-true a b e))
 
 -- the parts of a threefold test
 pub three : (a b c : Bool) → (a && b && c) ≡ true → (a ≡ true) × (b ≡ true) × (c ≡ true)

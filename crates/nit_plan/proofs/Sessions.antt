@@ -9,7 +9,7 @@ use Rattle.nit_journal.specs.Session.{Session, opened, after_calls}
 use Rattle.nit_journal.specs.State.{session}
 use Rattle.nit_journal.specs.Journals.{replay}
 use Rattle.nit_journal.specs.Whole.{calls_of, done}
-use Rattle.nit_journal.proofs.CallsAlone.{as_its_calls_have_it}
+use Rattle.nit_journal.proofs.ForCallers.{as_its_calls_have_it}
 use Rattle.nit_events.specs.declared.entry.Entry.{Entry}
 use Rattle.nit_plan.specs.Calls.{calls_from, calls_in}
 use Rattle.nit_plan.specs.Plans.{Painting, blank, painted_from, after_line, static}

@@ -4,7 +4,7 @@ use Rattle.std.specs.Prelude.{ℤ, pos, ◌+ℤ◌, ◌≤ℤ◌, ◌<ℤ◌, in
 use mathlib.Core.Logic.{dite}
 use native.Mathlib.Decide.{dec_lt}
 use Rattle.std.proofs.lemmas.Int.{ints, by_lt_z}
-use Rattle.std.proofs.lemmas.Bool.{and_parts}
+use Rattle.std.proofs.lemmas.Bool.{and_parts, false_from_ne_true}
 use Rattle.nit_rect.specs.Rectangle.{spans}
 use Rattle.nit_rect.specs.Dividing.{times_among}
 
@@ -84,12 +84,8 @@ spans_later a b at m n later = same_tests _ _
 pub spans_earlier : (a b end at : ℤ) (m n : ℕ) → end ≡ b +ℤ pos n → b ≤ℤ a → (spans a m at && int_lt at end) ≡ (spans a m at && spans b n at)
 spans_earlier a b end at m n is later = rw is (spans_later b a at n m later ∙ and_turned (spans b n at) (spans a m at))
 
-untrue : (b : Bool) → (b ≡ true → ⊥) → b ≡ false
-untrue true no_way = absurd (no_way refl)
-untrue false no_way = refl
-
 pub spans_nowhere : (from : ℤ) (long : ℕ) (at : ℤ) → (IsSpanned from long at → ⊥) → spans from long at ≡ false
-spans_nowhere from long at no_way = untrue _ (λ is. no_way (spans_tells from long at is))
+spans_nowhere from long at no_way = false_from_ne_true _ (λ is. no_way (spans_tells from long at is))
 
 -- the same answer for two runs
 spans_alike : (a b at : ℤ) (m n : ℕ) → (IsSpanned a m at → IsSpanned b n at) → (IsSpanned b n at → IsSpanned a m at) → spans a m at ≡ spans b n at

@@ -9,13 +9,12 @@ use Rattle.nit_events.specs.declared.event.Item.{Item}
 use Rattle.nit_events.specs.declared.event.Delivery.{Delivery}
 use Rattle.nit_events.specs.declared.event.Routed.{Routed}
 use Rattle.nit_events.specs.Input.{delivery, deliveries_of, routed_as}
-use Rattle.nit_script.proofs.Digits.{stops}
-use Rattle.nit_script.proofs.Exact.{Exact, both, spaced}
-use Rattle.nit_script.proofs.LineKinds.{IsKind, kind}
+use Rattle.nit_script.proofs.ForCallers.{stops, Exact, both, spaced, IsKind, kind}
 use Rattle.nit_report.specs.EntrySpelling.{delivery_spelling}
 use Rattle.nit_report.specs.EntryReading.{delivery_at, in_front, deliveries_at, routed_at}
 use Rattle.nit_report.specs.JournalText.{FitsDelivery, FitsRouted}
 use Rattle.nit_report.proofs.EventLaws.{sessions, items}
+use Rattle.nit_events.proofs.ForCallers.{at_most_one}
 
 -- ---- ends of lines
 
@@ -90,10 +89,6 @@ kept (a ∷ []) le = refl
 kept (a ∷ b ∷ []) le = refl
 kept (a ∷ b ∷ c ∷ []) le = refl
 kept (a ∷ b ∷ c ∷ d ∷ ds) le = absurd (omega arith)
-
-at_most_one : (o : Option Delivery) → length (delivery o) ≤ 1
-at_most_one None = omega arith
-at_most_one (Some d) = omega arith
 
 few_deliveries : (r : Routed) → length (deliveries_of r) ≤ 3
 few_deliveries r =

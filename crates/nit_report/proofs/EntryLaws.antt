@@ -11,12 +11,7 @@ use Rattle.nit_events.specs.Input.{deliveries_of}
 use Rattle.nit_script.specs.CallReading.{call_at}
 use Rattle.nit_script.specs.InputReading.{device_at}
 use Rattle.nit_script.specs.Spelling.{call_spelling, device_spelling, FitsCall, FitsDevice}
-use Rattle.nit_script.proofs.Digits.{stops}
-use Rattle.nit_script.proofs.Exact.{Exact, both, spaced, nothing, anything}
-use Rattle.nit_script.proofs.LineKinds.{Takes, IsKind, kind, first_takes, ended_takes, ended_again}
-use Rattle.nit_script.proofs.CallLaws.{call_takes, call_again}
-use Rattle.nit_script.proofs.InputLaws.{device_takes, device_again}
-use Rattle.nit_script.proofs.Scripts.{IsReader}
+use Rattle.nit_script.proofs.ForCallers.{stops, Exact, both, spaced, nothing, anything, Takes, IsKind, kind, first_takes, ended_takes, ended_again, call_takes, call_again, device_takes, device_again, IsReader}
 use Rattle.nit_report.specs.EntrySpelling.{entry_spelling}
 use Rattle.nit_report.specs.EntryReading.{behind_reply_at, answered_at, input_at, shot_at, final_at, entry_front_at, entry_at}
 use Rattle.nit_report.specs.JournalText.{FitsEntry}

@@ -11,10 +11,7 @@ use Rattle.nit_events.specs.declared.event.Item.TheVariants as item
 use Rattle.nit_script.specs.Reading.{first_of, at_made}
 use Rattle.nit_script.specs.InputReading.{device_at, press_at, release_at, motion_at, wheel_at}
 use Rattle.nit_script.specs.Spelling.{nat, device_spelling, FitsDevice}
-use Rattle.nit_script.proofs.Digits.{stops}
-use Rattle.nit_script.proofs.Exact.{Exact, tested, nothing, anything, nat_fields}
-use Rattle.nit_script.proofs.LineKinds.{Takes, IsKind, kind, first_takes, made_takes}
-use Rattle.nit_script.proofs.InputLaws.{device_takes, device_again}
+use Rattle.nit_script.proofs.ForCallers.{stops, Exact, tested, nothing, anything, nat_fields, Takes, IsKind, kind, first_takes, made_takes, device_takes, device_again}
 use Rattle.nit_report.specs.EntrySpelling.{event_spelling, item_spelling}
 use Rattle.nit_report.specs.EntryReading.{is_session, is_shot, session_field, shot_field, told, leave_at, focus_enter_at, focus_leave_at, event_at, kill_at, item_at}
 use Rattle.nit_report.specs.JournalText.{FitsSession, FitsShot, FitsEvent, FitsItem}
@@ -49,15 +46,12 @@ told_again : (d : Device) (rest : List ℕ) → FitsDevice d → stops rest ≡ 
 told_again d rest fits ok = rw (device_again d rest fits ok) refl
 
 leaves : IsKind leave_at event_spelling FitsEvent anything (λ (_ : Unit {0}). event.Leave)
-unfolding leave_at
 leaves = kind nothing event_spelling FitsEvent (codes "leave") _ (λ p h. tt) (λ p h. tt) (λ p. refl)
 
 focus_enters : IsKind focus_enter_at event_spelling FitsEvent anything (λ (_ : Unit {0}). event.FocusEnter)
-unfolding focus_enter_at
 focus_enters = kind nothing event_spelling FitsEvent (codes "focus-enter") _ (λ p h. tt) (λ p h. tt) (λ p. refl)
 
 focus_leaves : IsKind focus_leave_at event_spelling FitsEvent anything (λ (_ : Unit {0}). event.FocusLeave)
-unfolding focus_leave_at
 focus_leaves = kind nothing event_spelling FitsEvent (codes "focus-leave") _ (λ p h. tt) (λ p h. tt) (λ p. refl)
 
 event_takes : Takes event_at event_spelling FitsEvent
@@ -67,7 +61,7 @@ event_takes =
     (first_takes leave_at _ event_spelling FitsEvent leaves.takes (first_takes focus_enter_at focus_leave_at event_spelling FitsEvent focus_enters.takes focus_leaves.takes))
 
 event_again : (e : Event) (rest : List ℕ) → FitsEvent e → stops rest ≡ true → event_at (event_spelling e ++ rest) ≡ Some (e, rest)
-unfolding event_at device_at press_at release_at motion_at wheel_at leave_at focus_enter_at focus_leave_at
+unfolding event_at device_at press_at release_at motion_at wheel_at
 event_again (event.Press k) rest fits ok = first_some _ _ _ (told_again (device.Press k) rest fits ok)
 event_again (event.Release k) rest fits ok = first_some _ _ _ (told_again (device.Release k) rest fits ok)
 event_again (event.Motion x y) rest fits ok = first_some _ _ _ (told_again (device.Motion x y) rest fits ok)
@@ -93,7 +87,7 @@ made_again : (e : Event) (rest : List ℕ) → FitsEvent e → stops rest ≡ tr
 made_again e rest fits ok = rw (event_again e rest fits ok) refl
 
 item_again : (i : Item) (rest : List ℕ) → FitsItem i → stops rest ≡ true → item_at (item_spelling i ++ rest) ≡ Some (i, rest)
-unfolding item_at kill_at event_at device_at press_at release_at motion_at wheel_at leave_at focus_enter_at focus_leave_at
+unfolding item_at kill_at event_at device_at press_at release_at motion_at wheel_at
 item_again (item.Event e) rest fits ok = first_some _ _ _ (made_again e rest fits ok)
 item_again item.Kill rest fits ok = refl
 

@@ -5,7 +5,7 @@ use Rattle.std.specs.List.{flat_map}
 use Rattle.std.proofs.lemmas.List.{length-append}
 use Rattle.nit_events.specs.declared.entry.Entry.{Entry}
 use Rattle.nit_script.specs.Grammar.{spelled, Begins}
-use Rattle.nit_script.proofs.Scripts.{begins_more, no_reading, nothing_spelled, reads_begins, same_lines, same_read}
+use Rattle.nit_script.proofs.ForCallers.{begins_more, no_reading, nothing_spelled, reads_begins, same_lines, same_read}
 use Rattle.nit_report.specs.declared.error.JournalError.{JournalError}
 use Rattle.nit_report.specs.declared.error.JournalError.TheVariants.{Bad, NoMemory}
 use Rattle.nit_report.specs.EntrySpelling.{entry_spelling}

@@ -12,3 +12,4 @@ pub mod DrawnCounts
 pub mod GeneratedClients
 pub mod GeneratedTexts
 pub mod Journals
+pub mod ForCallers

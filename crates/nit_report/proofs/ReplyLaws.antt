@@ -5,9 +5,7 @@ use Rattle.nit_events.specs.declared.event.Event.{Event}
 use Rattle.nit_events.specs.declared.call.Reply.{Reply}
 use Rattle.nit_events.specs.declared.call.Reply.TheVariants as reply
 use Rattle.nit_script.specs.Reading.{first_of}
-use Rattle.nit_script.proofs.Digits.{stops}
-use Rattle.nit_script.proofs.Exact.{Exact, both, spaced, nothing, anything, nat_fields}
-use Rattle.nit_script.proofs.LineKinds.{Takes, IsKind, kind, first_takes}
+use Rattle.nit_script.proofs.ForCallers.{stops, Exact, both, spaced, nothing, anything, nat_fields, Takes, IsKind, kind, first_takes}
 use Rattle.nit_report.specs.EntrySpelling.{reply_spelling}
 use Rattle.nit_report.specs.EntryReading.{plain_at, done_at, bad_at, taken_at, handle_at, no_view_at, quota_at, reserve_at, holding_at, reply_at}
 use Rattle.nit_report.specs.JournalText.{FitsReply}

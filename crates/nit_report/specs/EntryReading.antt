@@ -46,15 +46,15 @@ told (device.Motion x y) = event.Motion x y
 told (device.Wheel n) = event.Wheel n
 
 -- `leave`
-unfoldable pub leave_at : List ℕ → Option (Event × List ℕ)
+abbrev pub leave_at : List ℕ → Option (Event × List ℕ)
 leave_at = at_kind (codes "leave") nothing_at (λ _. event.Leave)
 
 -- `focus-enter`
-unfoldable pub focus_enter_at : List ℕ → Option (Event × List ℕ)
+abbrev pub focus_enter_at : List ℕ → Option (Event × List ℕ)
 focus_enter_at = at_kind (codes "focus-enter") nothing_at (λ _. event.FocusEnter)
 
 -- `focus-leave`
-unfoldable pub focus_leave_at : List ℕ → Option (Event × List ℕ)
+abbrev pub focus_leave_at : List ℕ → Option (Event × List ℕ)
 focus_leave_at = at_kind (codes "focus-leave") nothing_at (λ _. event.FocusLeave)
 
 -- any event

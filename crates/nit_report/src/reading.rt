@@ -38,7 +38,7 @@ pub fn shot_field(bytes: &[u8]) -> Option<(u32, &[u8])>
 }
 
 /// An event.
-#[tactic(auto, unfolding(crate::specs::EntryReading::event_at, crate::specs::EntryReading::leave_at, crate::specs::EntryReading::focus_enter_at, crate::specs::EntryReading::focus_leave_at))]
+#[tactic(auto, unfolding(crate::specs::EntryReading::event_at))]
 pub fn take_event(bytes: &[u8]) -> Option<(Event, &[u8])>
     ensures { Gives (λ x. (x.0, x.1.now)) result (event_at bytes.now) }
 {

@@ -72,11 +72,9 @@ device_again (Wheel z) rest fits ok = rw (wheels.again z rest fits ok) refl
 -- ---- lines
 
 shots : IsKind shot_at input_spelling FitsInputLine anything (λ (_ : Unit {0}). input.Shot)
-unfolding shot_at
 shots = kind nothing input_spelling FitsInputLine (codes "shot") _ (λ p h. tt) (λ p h. tt) (λ p. refl)
 
 phases : IsKind input_phase_at input_spelling FitsInputLine anything (λ (_ : Unit {0}). input.Phase)
-unfolding input_phase_at
 phases = kind nothing input_spelling FitsInputLine (codes "phase") _ (λ p h. tt) (λ p h. tt) (λ p. refl)
 
 front_takes : Takes input_front_at input_spelling FitsInputLine
@@ -86,7 +84,7 @@ front_takes =
     (first_takes shot_at input_phase_at input_spelling FitsInputLine shots.takes phases.takes)
 
 front_again : (l : InputLine) (rest : List ℕ) → FitsInputLine l → input_front_at (input_spelling l ++ 10 ∷ rest) ≡ Some (l, 10 ∷ rest)
-unfolding input_front_at device_at press_at release_at motion_at wheel_at shot_at input_phase_at
+unfolding input_front_at device_at press_at release_at motion_at wheel_at
 front_again (input.Device d) rest fits = rw (device_again d (10 ∷ rest) fits refl) refl
 front_again input.Shot rest fits = refl
 front_again input.Phase rest fits = refl

@@ -5,4 +5,5 @@ pub mod CallLaws
 pub mod LineLaws
 pub mod InputLaws
 pub mod Scripts
-pub mod Printed
+pub mod LinePieces
+pub mod ForCallers

@@ -34,7 +34,6 @@ stroke_again (Fill x y w h c) rest fits = rw (fills.again (x, (y, (w, (h, c)))) 
 stroke_again (Check x y w h c d) rest fits = rw (checks.again (x, (y, (w, (h, (c, d))))) (10 ∷ rest) fits refl) refl
 
 phases : IsKind phase_at line_spelling FitsLine anything (λ (_ : Unit {0}). line.Phase)
-unfolding phase_at
 phases = kind nothing line_spelling FitsLine (codes "phase") _ (λ p h. tt) (λ p h. tt) (λ p. refl)
 
 front_takes : Takes line_front_at line_spelling FitsLine
@@ -44,7 +43,7 @@ front_takes =
     (first_takes (at_made line.Stroke stroke_at) phase_at line_spelling FitsLine (made_takes stroke_at stroke_spelling FitsStroke line.Stroke line_spelling FitsLine stroke_takes (λ s. refl) (λ s h. h)) phases.takes)
 
 front_again : (l : Line) (rest : List ℕ) → FitsLine l → line_front_at (line_spelling l ++ 10 ∷ rest) ≡ Some (l, 10 ∷ rest)
-unfolding line_front_at call_at session_call_at view_call_at buffer_at view_at refresh_at take_at upgrade_at close_at place_at offset_at front_at back_at above_at title_at destroy_at stroke_at fill_at check_at phase_at
+unfolding line_front_at call_at session_call_at view_call_at buffer_at view_at refresh_at take_at upgrade_at close_at place_at offset_at front_at back_at above_at title_at destroy_at stroke_at fill_at check_at
 front_again (line.Call c) rest fits = rw (call_again c rest fits) refl
 front_again (line.Stroke (Fill x y w h c)) rest fits = rw (stroke_again (Fill x y w h c) rest fits) refl
 front_again (line.Stroke (Check x y w h c d)) rest fits = rw (stroke_again (Check x y w h c d) rest fits) refl

@@ -28,7 +28,7 @@ no_reading {at = at} g bytes none l rest fits e = none_some (at bytes) (l, rest)
 pub nothing_spelled : {L : Type 0} (spelling : L → List ℕ) (l : L) (rest : List ℕ) → [] ≡ spelled spelling l ++ rest → ⊥
 nothing_spelled spelling l rest e = absurd (omega (arith, ap length e, length-append (spelled spelling l) rest, length-append (spelling l) (10 ∷ [])))
 
-fits_push : {L : Type 0} (Fits : L → Type 0) (lines : List L) (l : L) → AllByRecursion Fits lines → Fits l → AllByRecursion Fits (lines ++ l ∷ [])
+pub fits_push : {L : Type 0} (Fits : L → Type 0) (lines : List L) (l : L) → AllByRecursion Fits lines → Fits l → AllByRecursion Fits (lines ++ l ∷ [])
 fits_push Fits [] l all fits = (fits, tt)
 fits_push Fits (x ∷ lines) l all fits = (all.0, fits_push Fits lines l all.1 fits)
 

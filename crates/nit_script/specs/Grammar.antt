@@ -7,6 +7,10 @@ use Rattle.nit_script.specs.declared.line.Line.{Line}
 use Rattle.nit_script.specs.declared.line.InputLine.{InputLine}
 use Rattle.nit_script.specs.Spelling.{FitsLine, FitsInputLine, line_spelling, input_spelling}
 
+-- how many lines a script has at most
+abbrev pub most_lines : ℕ
+most_lines = 65536
+
 -- a line with its line feed
 abbrev pub spelled : {L : Type 0} → (L → List ℕ) → L → List ℕ
 spelled spelling l = spelling l ++ 10 ∷ []
@@ -30,13 +34,17 @@ Begins Fits spelling bytes lines rest =
 abbrev pub IsFirstBad : {L : Type 0} → (L → Type 0) → (L → List ℕ) → List ℕ → ℕ → Type 0
 IsFirstBad {L = L} Fits spelling bytes number =
     (lines : List L) × (rest : List ℕ) × Begins Fits spelling bytes lines rest × (rest ≢ [])
-    × HasNoReading Fits spelling rest × (length lines + 1 ≡ number) × (number ≤ 65536)
+    × HasNoReading Fits spelling rest × (length lines + 1 ≡ number) × (number ≤ most_lines)
 
 -- There are 65,536 lines with a reading, and a byte stands behind them.
 abbrev pub IsTooLong : {L : Type 0} → (L → Type 0) → (L → List ℕ) → List ℕ → Type 0
 IsTooLong {L = L} Fits spelling bytes =
     (lines : List L) × (rest : List ℕ) × Begins Fits spelling bytes lines rest × (rest ≢ [])
-    × (length lines ≡ 65536)
+    × (length lines ≡ most_lines)
+
+-- lines that fit, as many as a script has at most
+abbrev pub IsScript : {L : Type 0} → (L → Type 0) → List L → Type 0
+IsScript Fits lines = AllByRecursion Fits lines × (length lines ≤ most_lines)
 
 -- ---- clients' scripts
 
@@ -78,7 +86,8 @@ UnlessMemory (Err NoMemory) P = Unit {0}
 -- What reading bytes as a script may answer.
 abbrev pub IsAnswer : {L : Type 0} → (L → Type 0) → (L → List ℕ) → List ℕ
     → Result (List L) ScriptError → Type 0
-IsAnswer Fits spelling bytes (Ok lines) = Reads Fits spelling bytes lines × (length lines ≤ 65536)
+IsAnswer Fits spelling bytes (Ok lines) =
+    Reads Fits spelling bytes lines × (length lines ≤ most_lines)
 IsAnswer Fits spelling bytes (Err (Bad line)) = IsFirstBad Fits spelling bytes line
 IsAnswer Fits spelling bytes (Err TooLong) = IsTooLong Fits spelling bytes
 IsAnswer Fits spelling bytes (Err NoMemory) = Unit {0}

@@ -53,11 +53,11 @@ device_at bytes =
     (first_of (release_at bytes) (first_of (motion_at bytes) (wheel_at bytes)))
 
 -- `shot`
-unfoldable pub shot_at : List ℕ → Option (InputLine × List ℕ)
+abbrev pub shot_at : List ℕ → Option (InputLine × List ℕ)
 shot_at = at_kind (codes "shot") nothing_at (λ _. input.Shot)
 
 -- `phase`
-unfoldable pub input_phase_at : List ℕ → Option (InputLine × List ℕ)
+abbrev pub input_phase_at : List ℕ → Option (InputLine × List ℕ)
 input_phase_at = at_kind (codes "phase") nothing_at (λ _. input.Phase)
 
 -- a line of an input script up to its line feed

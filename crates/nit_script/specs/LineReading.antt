@@ -28,7 +28,7 @@ unfoldable pub stroke_at : List ℕ → Option (Stroke × List ℕ)
 stroke_at bytes = first_of (fill_at bytes) (check_at bytes)
 
 -- `phase`
-unfoldable pub phase_at : List ℕ → Option (Line × List ℕ)
+abbrev pub phase_at : List ℕ → Option (Line × List ℕ)
 phase_at = at_kind (codes "phase") nothing_at (λ _. line.Phase)
 
 -- a line of a client's script up to its line feed

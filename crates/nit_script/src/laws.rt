@@ -3,7 +3,7 @@
 ghost use Rattle.std.specs.Prelude.{◌≡◌, ◌≤◌, ℕ, ◌+◌, List, [], ◌∷◌, ◌++◌, length, if◌then◌else◌};
 ghost use Rattle.nit_script.specs.declared.line.Line.{Line};
 ghost use Rattle.nit_script.specs.declared.line.InputLine.{InputLine};
-ghost use Rattle.nit_script.specs.Grammar.{ReadsClient, IsFirstBadClient, IsTooLongClient, ReadsInput, IsFirstBadInput, IsTooLongInput};
+ghost use Rattle.nit_script.specs.Grammar.{ReadsClient, IsFirstBadClient, IsTooLongClient, ReadsInput, IsFirstBadInput, IsTooLongInput, most_lines};
 ghost use Rattle.nit_script.specs.Phases.{is_phase, phases, is_input_phase, input_phases};
 
 /// A text has one reading as a client's script at most, and a list of lines has one text.
@@ -20,7 +20,7 @@ pub fn client_reading_is_whole()
     ensures not_bad { (bytes : List ℕ) (lines : List Line) (line : ℕ) →
         ReadsClient bytes lines → IsFirstBadClient bytes line → ⊥ }
     ensures not_long { (bytes : List ℕ) (lines : List Line) →
-        ReadsClient bytes lines → length lines ≤ 65536 → IsTooLongClient bytes → ⊥ }
+        ReadsClient bytes lines → length lines ≤ most_lines → IsTooLongClient bytes → ⊥ }
 {}
 
 /// A text has one first bad line at most, and none where it is too long.
@@ -45,7 +45,7 @@ pub fn input_reading_is_whole()
     ensures not_bad { (bytes : List ℕ) (lines : List InputLine) (line : ℕ) →
         ReadsInput bytes lines → IsFirstBadInput bytes line → ⊥ }
     ensures not_long { (bytes : List ℕ) (lines : List InputLine) →
-        ReadsInput bytes lines → length lines ≤ 65536 → IsTooLongInput bytes → ⊥ }
+        ReadsInput bytes lines → length lines ≤ most_lines → IsTooLongInput bytes → ⊥ }
 {}
 
 /// A text has one first bad line at most, and none where it is too long.

@@ -22,7 +22,7 @@ pub fn take_line(bytes: &[u8]) -> Option<(Line, &[u8])>
 }
 
 /// The same up to the line feed.
-#[tactic(auto, unfolding(crate::specs::LineReading::line_front_at, crate::specs::LineReading::phase_at))]
+#[tactic(auto, unfolding(crate::specs::LineReading::line_front_at))]
 fn take_line_front(bytes: &[u8]) -> Option<(Line, &[u8])>
     ensures { Gives (λ x. (x.0, x.1.now)) result (line_front_at bytes.now) }
 {
@@ -46,7 +46,7 @@ pub fn take_input_line(bytes: &[u8]) -> Option<(InputLine, &[u8])>
 }
 
 /// The same up to the line feed.
-#[tactic(auto, unfolding(crate::specs::InputReading::input_front_at, crate::specs::InputReading::shot_at, crate::specs::InputReading::input_phase_at))]
+#[tactic(auto, unfolding(crate::specs::InputReading::input_front_at))]
 fn take_input_front(bytes: &[u8]) -> Option<(InputLine, &[u8])>
     ensures { Gives (λ x. (x.0, x.1.now)) result (input_front_at bytes.now) }
 {

@@ -4,7 +4,7 @@ ghost use Rattle.std.specs.Prelude.{◌≡◌, ◌≤◌, ℕ, List, length, Ok,
 ghost use Rattle.nit_script.specs.declared.line.Line.{Line};
 ghost use Rattle.nit_script.specs.declared.line.InputLine.{InputLine};
 ghost use Rattle.nit_script.specs.Spelling.{FitsLine, FitsInputLine, line_spelling, input_spelling};
-ghost use Rattle.nit_script.specs.Grammar.{ReadsClient, IsFirstBadClient, IsTooLongClient, ReadsInput, IsFirstBadInput, IsTooLongInput, UnlessMemory, IsAnswer};
+ghost use Rattle.nit_script.specs.Grammar.{ReadsClient, IsFirstBadClient, IsTooLongClient, ReadsInput, IsFirstBadInput, IsTooLongInput, UnlessMemory, IsAnswer, most_lines};
 
 use crate::error::ScriptError;
 use crate::lines::{take_input_line, take_line};
@@ -12,7 +12,7 @@ use crate::script::{Client, Input};
 use std::alloc::Global;
 
 /// How many lines a script may have.
-const MAX_LINES: u32 = 65_536;
+const MOST_LINES: u32 = 65_536;
 
 /// The client's script that the bytes spell. `Bad` comes exactly where one of the first 65,536 lines has
 /// no reading, and names the first such line, from 1; bytes behind the last line feed are a line without
@@ -20,9 +20,10 @@ const MAX_LINES: u32 = 65_536;
 /// Otherwise the script is read, unless memory runs out.
 pub fn parse_client(alloc: Global, bytes: &[u8]) -> Result<Client, ScriptError>
     // What is read is spelled so, and what is spelled so is read, unless memory runs out.
-    ensures read { IfOk result (λ c. ReadsClient bytes.now c × (length c ≤ 65536)) }
-    ensures reads { (lines : List Line) → ReadsClient bytes.now lines → length lines ≤ 65536 →
-        UnlessMemory result (result ≡ Ok lines) }
+    ensures read { IfOk result (λ c. ReadsClient bytes.now c × (length c ≤ most_lines)) }
+    ensures reads { (lines : List Line)
+        → ReadsClient bytes.now lines → length lines ≤ most_lines
+        → UnlessMemory result (result ≡ Ok lines) }
 
     // Exactly the first line without a reading is named.
     ensures bad { (line : ℕ) → result ≡ Err (ScriptError.Bad line)
@@ -42,9 +43,10 @@ pub fn parse_client(alloc: Global, bytes: &[u8]) -> Result<Client, ScriptError>
 /// script.
 pub fn parse_input(alloc: Global, bytes: &[u8]) -> Result<Input, ScriptError>
     // What is read is spelled so, and what is spelled so is read, unless memory runs out.
-    ensures read { IfOk result (λ c. ReadsInput bytes.now c × (length c ≤ 65536)) }
-    ensures reads { (lines : List InputLine) → ReadsInput bytes.now lines → length lines ≤ 65536 →
-        UnlessMemory result (result ≡ Ok lines) }
+    ensures read { IfOk result (λ c. ReadsInput bytes.now c × (length c ≤ most_lines)) }
+    ensures reads { (lines : List InputLine)
+        → ReadsInput bytes.now lines → length lines ≤ most_lines
+        → UnlessMemory result (result ≡ Ok lines) }
 
     // Exactly the first line without a reading is named.
     ensures bad { (line : ℕ) → result ≡ Err (ScriptError.Bad line)
@@ -65,7 +67,7 @@ fn client_lines(alloc: Global, bytes: &[u8]) -> Result<Client, ScriptError>
 {
     let mut lines = Vec::new(alloc);
     let mut rest = bytes;
-    for number in 0..MAX_LINES {
+    for number in 0..MOST_LINES {
         if rest.is_empty() {
             return Ok(Client { lines });
         }
@@ -87,7 +89,7 @@ fn input_lines(alloc: Global, bytes: &[u8]) -> Result<Input, ScriptError>
 {
     let mut lines = Vec::new(alloc);
     let mut rest = bytes;
-    for number in 0..MAX_LINES {
+    for number in 0..MOST_LINES {
         if rest.is_empty() {
             return Ok(Input { lines });
         }

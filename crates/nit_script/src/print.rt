@@ -57,7 +57,7 @@ fn put_input_line(alloc: Global, out: &mut Vec<u8>, line: &InputLine) -> Result<
 
 /// Writes a call behind `out` as a script spells it, without a line feed. It can be refused for
 /// want of memory alone, and `out` has then the bytes that it had.
-#[tactic(auto, using(crate::proofs::Printed::ends))]
+#[tactic(auto, using(crate::proofs::LinePieces::ends))]
 pub fn put_call(alloc: Global, out: &mut Vec<u8>, call: &Call) -> Result<(), NoMemory>
     ensures written { OnOk result (out.new.items ≡ out.old.items ++ call_spelling call.now) }
     ensures unchanged { OnErr result (out.new.items ≡ out.old.items) }
@@ -89,7 +89,7 @@ pub fn put_call(alloc: Global, out: &mut Vec<u8>, call: &Call) -> Result<(), NoM
     }
 }
 
-#[tactic(auto, using(crate::proofs::Printed::ends))]
+#[tactic(auto, using(crate::proofs::LinePieces::ends))]
 fn put_stroke(alloc: Global, out: &mut Vec<u8>, stroke: &Stroke) -> Result<(), NoMemory>
     ensures { OnOk result (out.new.items ≡ out.old.items ++ stroke_spelling stroke.now) }
 {
@@ -116,7 +116,7 @@ fn put_stroke(alloc: Global, out: &mut Vec<u8>, stroke: &Stroke) -> Result<(), N
 
 /// Writes what the user does behind `out` as an input script spells it, without a line feed. It can
 /// be refused for want of memory alone, and `out` has then the bytes that it had.
-#[tactic(auto, using(crate::proofs::Printed::ends))]
+#[tactic(auto, using(crate::proofs::LinePieces::ends))]
 pub fn put_device(alloc: Global, out: &mut Vec<u8>, device: &Device) -> Result<(), NoMemory>
     ensures written { OnOk result (out.new.items ≡ out.old.items ++ device_spelling device.now) }
     ensures unchanged { OnErr result (out.new.items ≡ out.old.items) }

@@ -1,6 +1,7 @@
 ghost use Rattle.std.specs.Prelude.{◌≡◌, ◌≤◌, length};
 ghost use Rattle.std.specs.List.{AllByRecursion};
 ghost use Rattle.nit_script.specs.Spelling.{FitsLine, FitsInputLine};
+ghost use Rattle.nit_script.specs.Grammar.{most_lines};
 
 use crate::line::{InputLine, Line};
 use std::marker::Model;
@@ -17,12 +18,13 @@ impl Model for Client {
     ghost use Rattle.std.specs.List.{AllByRecursion};
     ghost use Rattle.nit_script.specs.declared.line.Line.{Line};
     ghost use Rattle.nit_script.specs.Spelling.{FitsLine};
+    ghost use Rattle.nit_script.specs.Grammar.{IsScript};
 
     ghost Value = { List Line };
 
     ghost view = { λ c. c.lines.items };
 
-    ghost invariant = { λ c. AllByRecursion FitsLine c.lines.items × (length c.lines.items ≤ 65536) };
+    ghost invariant = { λ c. IsScript FitsLine c.lines.items };
 }
 
 impl Client {
@@ -30,7 +32,7 @@ impl Client {
     pub fn lines(&self) -> &[Line]
         ensures value { result.now ≡ self.now }
         ensures fits { AllByRecursion FitsLine result.now }
-        ensures length { length result.now ≤ 65536 }
+        ensures length { length result.now ≤ most_lines }
     {
         &self.lines
     }
@@ -48,12 +50,13 @@ impl Model for Input {
     ghost use Rattle.std.specs.List.{AllByRecursion};
     ghost use Rattle.nit_script.specs.declared.line.InputLine.{InputLine};
     ghost use Rattle.nit_script.specs.Spelling.{FitsInputLine};
+    ghost use Rattle.nit_script.specs.Grammar.{IsScript};
 
     ghost Value = { List InputLine };
 
     ghost view = { λ i. i.lines.items };
 
-    ghost invariant = { λ i. AllByRecursion FitsInputLine i.lines.items × (length i.lines.items ≤ 65536) };
+    ghost invariant = { λ i. IsScript FitsInputLine i.lines.items };
 }
 
 impl Input {
@@ -61,7 +64,7 @@ impl Input {
     pub fn lines(&self) -> &[InputLine]
         ensures value { result.now ≡ self.now }
         ensures fits { AllByRecursion FitsInputLine result.now }
-        ensures length { length result.now ≤ 65536 }
+        ensures length { length result.now ≤ most_lines }
     {
         &self.lines
     }

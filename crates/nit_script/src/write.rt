@@ -38,7 +38,7 @@ pub fn put_words(
 }
 
 /// Writes a word and its fields, or a front of them.
-#[tactic(auto, using(crate::proofs::Printed::keeps))]
+#[tactic(auto, using(crate::proofs::LinePieces::keeps))]
 fn put_parts(
     alloc: Global,
     out: &mut Vec<u8>,
@@ -53,7 +53,7 @@ fn put_parts(
     put_fields(alloc, out, fields)
 }
 
-#[tactic(auto, using(crate::proofs::Printed::keeps))]
+#[tactic(auto, using(crate::proofs::LinePieces::keeps))]
 fn put_fields(alloc: Global, out: &mut Vec<u8>, fields: &[Field]) -> Result<(), NoMemory>
     ensures written { OnOk result (out.new.items
         ≡ out.old.items ++ flat_map field_spelling fields.now) }
@@ -77,7 +77,7 @@ fn put_field(alloc: Global, out: &mut Vec<u8>, field: &Field) -> Result<(), NoMe
     }
 }
 
-#[tactic(auto, using(crate::proofs::Printed::keeps))]
+#[tactic(auto, using(crate::proofs::LinePieces::keeps))]
 fn put_natural(alloc: Global, out: &mut Vec<u8>, number: u32) -> Result<(), NoMemory>
     ensures written { OnOk result (out.new.items ≡ out.old.items ++ nat number) }
     ensures kept { OnErr result (KeepsBytes out.old.items out.new.items) }
@@ -87,7 +87,7 @@ fn put_natural(alloc: Global, out: &mut Vec<u8>, number: u32) -> Result<(), NoMe
     Ok(())
 }
 
-#[tactic(auto, using(crate::proofs::Printed::keeps))]
+#[tactic(auto, using(crate::proofs::LinePieces::keeps))]
 fn put_integer(alloc: Global, out: &mut Vec<u8>, number: i32) -> Result<(), NoMemory>
     ensures written { OnOk result (out.new.items ≡ out.old.items ++ int number) }
     ensures kept { OnErr result (KeepsBytes out.old.items out.new.items) }
@@ -97,7 +97,7 @@ fn put_integer(alloc: Global, out: &mut Vec<u8>, number: i32) -> Result<(), NoMe
     Ok(())
 }
 
-#[tactic(auto, using(crate::proofs::Printed::keeps))]
+#[tactic(auto, using(crate::proofs::LinePieces::keeps))]
 fn put_colour(out: &mut Vec<u8>, number: u32) -> Result<(), NoMemory>
     ensures written { OnOk result (out.new.items ≡ out.old.items ++ colour number) }
     ensures kept { OnErr result (KeepsBytes out.old.items out.new.items) }
@@ -107,7 +107,7 @@ fn put_colour(out: &mut Vec<u8>, number: u32) -> Result<(), NoMemory>
     Ok(())
 }
 
-#[tactic(auto, using(crate::proofs::Printed::keeps))]
+#[tactic(auto, using(crate::proofs::LinePieces::keeps))]
 fn put_text(out: &mut Vec<u8>, title: &Text) -> Result<(), NoMemory>
     ensures written { OnOk result (out.new.items ≡ out.old.items ++ text title.now) }
     ensures kept { OnErr result (KeepsBytes out.old.items out.new.items) }
@@ -118,7 +118,7 @@ fn put_text(out: &mut Vec<u8>, title: &Text) -> Result<(), NoMemory>
 }
 
 /// The last six digits of a number in base 16.
-#[tactic(auto, using(crate::proofs::Printed::sixes))]
+#[tactic(auto, using(crate::proofs::LinePieces::sixes))]
 fn colour_digits(colour: u32) -> [u8; 6]
     ensures { result ≡ hex_digits 6 colour }
 {

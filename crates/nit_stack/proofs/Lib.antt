@@ -7,7 +7,8 @@ pub mod Stacks
 pub mod ViewPlaces
 pub mod Owners
 pub mod OwnersByName
-pub mod Opened
+pub mod NewStacks
 pub mod Names
 pub mod Has
 pub mod NamesAfter
+pub mod ForCallers

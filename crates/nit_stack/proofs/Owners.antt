@@ -15,9 +15,7 @@ use Rattle.nit_stack.specs.Slots.{seat}
 use Rattle.nit_stack.proofs.Lists.{find-map, found_fails}
 use Rattle.nit_stack.proofs.Seats.{flip}
 use Rattle.nit_stack.proofs.Stacks.{ref_stands}
-
-one : {A : Type 0} {x y : A} → Some x ≡ Some y → x ≡ y
-one e = cc
+use Rattle.std.proofs.lemmas.Option.{same_Some}
 
 map_twice : {A B C : Type 0} (g : B → C) (f : A → B) (o : Option A) → option_map g (option_map f o) ≡ option_map (λ x. g (f x)) o
 map_twice g f None = refl
@@ -52,7 +50,7 @@ found_in_slot q (x ∷ views) s h f = go (q x) f (found_in_slot q views s h.1)
 
     go : (b : Bool) → cond b (Some x) (find q views) ≡ Some s → (find q views ≡ Some s → seat_in s.slot views ≡ Some s) → cond (x.slot == s.slot) (Some x) (seat_in s.slot views) ≡ Some s
     go true f r =
-        let same : x ≡ s = one f in
+        let same : x ≡ s = same_Some _ _ f in
         subst (λ (z : Seat). cond (x.slot == z.slot) (Some x) (seat_in z.slot views) ≡ Some z) same (ap (λ (b : Bool). cond b (Some x) (seat_in x.slot views)) (itself x.slot))
     go false f r =
         let other : (x.slot == s.slot) ≡ false = flip x.slot s.slot ∙ found_fails q (same_slot x) views s h.0 f in
@@ -68,7 +66,7 @@ owner_is rows views p v view h owned at = go (in_bar rows p) owned
   where
     slot_of : (o : Option Seat) → Some v ≡ option_map view_ref o → (s : Seat) × (o ≡ Some s) × (s.slot ≡ v.0)
     slot_of None e = cc
-    slot_of (Some s) e = let same : v ≡ view_ref s = one e in (s, refl, ap (λ (u : ViewRef). u.0) (sym same))
+    slot_of (Some s) e = let same : v ≡ view_ref s = same_Some _ _ e in (s, refl, ap (λ (u : ViewRef). u.0) (sym same))
 
     go : (b : Bool) → Some v ≡ option_map view_ref (cond b None (find (λ (s : Seat). covers s.view.rect p) views)) → cond b None (find (λ (s : Seat). covers s.view.rect p) views) ≡ Some (record { slot = v.0; view = view })
     go true e = cc

@@ -1,5 +1,6 @@
-pub mod Putting
-pub mod Stored
-pub mod Saying
-pub mod Keeping
+pub mod NamedFiles
+pub mod FileLists
+pub mod SaidLines
+pub mod CallEffects
 pub mod Puts
+pub mod ForCallers

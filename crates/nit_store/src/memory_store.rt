@@ -175,7 +175,7 @@ impl Store for MemoryStore {
 
     /// As in the trait. It fails exactly where the call is to fail, unless there is no memory to keep
     /// the name that was asked for. A new name becomes the last file.
-    #[tactic(auto, using(crate::proofs::Putting::put_in))]
+    #[tactic(auto, using(crate::proofs::NamedFiles::put_in))]
     fn put(&mut self, name: &str, bytes: &[u8]) -> Result<(), PutError>
         ensures answer { AfterPut (memory_shown self.old) name.now bytes.now
             (memory_shown self.new) result }

@@ -72,7 +72,7 @@ impl Store for NeverFails {
     }
 
     /// As in the trait. A new name becomes the last file.
-    #[tactic(auto, using(crate::proofs::Putting::put_in))]
+    #[tactic(auto, using(crate::proofs::NamedFiles::put_in))]
     fn put(&mut self, name: &str, bytes: &[u8]) -> Result<(), PutError>
         ensures answer { AfterPut (shelf_shown self.old) name.now bytes.now
             (shelf_shown self.new) result }

@@ -9,7 +9,7 @@ use Rattle.nit_word.specs.Inks.{IsInked}
 use Rattle.nit_word.specs.Setting.{set_where, is_between, in_turn, with_words}
 use Rattle.nit_word.specs.Sight.{Sight, inked_sight}
 use Rattle.nit_word.specs.Zeros.{padded, zeros}
-use Rattle.nit_word.proofs.Padding.{padded_at}
+use Rattle.nit_word.proofs.ReachedWords.{padded_at}
 use Rattle.nit_word.proofs.SetWords.{set_long, word_at}
 use Rattle.nit_word.proofs.Zeros.{zero_inked}
 
@@ -25,7 +25,7 @@ all_inked ink p c words new old k d inside =
 pub filled_inked : (ink : List ℕ) (from to w : ℕ) (words now : List ℕ) → IsInked ink w → All (IsInked ink) words → now ≡ set_where (is_between from to) (λ k. w) words → All (IsInked ink) now
 filled_inked ink from to w words now new old is = rw is (all_inked ink (is_between from to) (λ k. w) words (λ k inside. new) old)
 
-one_of : (ink : List ℕ) (b : Bool) (c d : ℕ) → IsInked ink c → IsInked ink d → IsInked ink (cond b c d)
+pub one_of : (ink : List ℕ) (b : Bool) (c d : ℕ) → IsInked ink c → IsInked ink d → IsInked ink (cond b c d)
 one_of ink true c d first second = first
 one_of ink false c d first second = second
 

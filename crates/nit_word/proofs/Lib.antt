@@ -1,9 +1,11 @@
 pub mod Bits
 pub mod InkedRows
-pub mod Inking
+pub mod WordsInInk
 pub mod Loads
-pub mod Padding
+pub mod ReachedWords
 pub mod Rows
 pub mod SetWords
 pub mod SideBySide
 pub mod Zeros
+pub mod RowPlaces
+pub mod ForCallers

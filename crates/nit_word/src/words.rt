@@ -17,13 +17,13 @@ pub(crate) struct Words {
 
 impl Model for Words {
     ghost use Rattle.std.specs.Prelude.{ℕ, List, ◌≤◌, length, vec_capacity};
-    ghost use Rattle.nit_word.specs.Zeros.{padded};
+    ghost use Rattle.nit_word.specs.Zeros.{padded, HasRoom};
 
     ghost Value = { List ℕ };
 
     ghost view = { λ w. padded w.size w.reached.items };
 
-    ghost invariant = { λ w. (length w.reached.items ≤ w.size) × (w.size ≤ vec_capacity w.reached) };
+    ghost invariant = { λ w. HasRoom (length w.reached.items) w.size (vec_capacity w.reached) };
 }
 
 impl Words {

@@ -1,7 +1,8 @@
 use Rattle.std.proofs.Common.{◌≡◌, ◌+◌, ◌-◌, ◌*◌, ◌∙◌, ◌<◌, ℕ, take, length, arith, ap, subst}
 use Rattle.nit_capture.specs.Tiles.{wide, high, area, pixels}
-use Rattle.nit_capture.proofs.PixelRows.{row_copied, row_room, length_put, part_taken}
+use Rattle.nit_capture.proofs.PixelRows.{row_copied, row_room, part_taken}
 use Rattle.nit_capture.proofs.writing.tile_words.Goals as goal
+use Rattle.nit_word.proofs.ForCallers.{put_long}
 
 pub loop-row-preserved : goal.loop-row-preserved
 loop-row-preserved c =
@@ -18,7 +19,7 @@ loop-row-preserved c =
     let taken : length c.copy_from_slice.new.self ≡ wide w t = ap (length {A = ℕ}) part ∙ part_taken w h t row c.args.picture.now some c.requires.tile lt c.requires.picture in
     rw c.wide-wide.ensures.value (record {
       value = row_copied w h t row _ c.args.picture.now c.loop-row.words c.copy_from_slice.new.self some c.requires.tile lt c.requires.picture (omega (arith, room, c.loop-row.invariant.size)) c.loop-row.invariant.value part;
-      size = length_put (row * wide w t) _ c.loop-row.words c.copy_from_slice.new.self (omega (arith, room, c.loop-row.invariant.size)) (omega (arith, taken)) ∙ c.loop-row.invariant.size;
+      size = put_long (row * wide w t) _ c.loop-row.words c.copy_from_slice.new.self (omega (arith, room, c.loop-row.invariant.size)) (omega (arith, taken)) ∙ c.loop-row.invariant.size;
     })
 
 pub returns : goal.returns

@@ -2,10 +2,10 @@ use Rattle.std.proofs.Common.{◌∙◌, pos, codes, arith}
 use Rattle.toml.specs.View.{table_view}
 use Rattle.nit_config.specs.Tree.{integer_at, screen_of}
 use Rattle.nit_config.specs.Ranges.{has_bad_value, has_bad_label}
-use Rattle.nit_config.proofs.Accepted.{accepted}
-use Rattle.nit_config.proofs.Built.{built_of}
+use Rattle.nit_config.proofs.RefusalTests.{accepted}
+use Rattle.nit_config.proofs.MemberLists.{built_of}
 use Rattle.nit_config.proofs.Clients.{members_of_values, on_clients}
-use Rattle.nit_config.proofs.Held.{wider}
+use Rattle.nit_config.proofs.HeldValues.{wider}
 use Rattle.nit_config.proofs.build.configuration.Goals as goal
 
 pub required_at-width-requires : goal.required_at-width-requires

@@ -1,6 +1,6 @@
 use Rattle.toml.specs.View.{view}
 use Rattle.nit_config.specs.Tree.{members_of}
-use Rattle.nit_config.proofs.Built.{built_more}
+use Rattle.nit_config.proofs.MemberLists.{built_more}
 use Rattle.nit_config.proofs.build.members.Goals as goal
 
 pub clients-preserved : goal.clients-preserved

@@ -1,6 +1,6 @@
 use Rattle.std.proofs.Common.{◌∙◌, ap}
 use Rattle.nit_config.specs.Configuration.{is_file_name}
-use Rattle.nit_config.proofs.Held.{script_is_name, file_name_length}
+use Rattle.nit_config.proofs.HeldValues.{script_is_name, file_name_length}
 use Rattle.nit_config.proofs.build.script_of.Goals as goal
 
 pub text_at-requires : goal.text_at-requires

@@ -1,5 +1,5 @@
 use Rattle.nit_journal.specs.State.{opening}
-use Rattle.nit_journal.proofs.Growing.{front_legal, front_open, agrees_behind}
+use Rattle.nit_journal.proofs.JournalFronts.{front_legal, front_open, agrees_behind}
 use Rattle.nit_journal.proofs.laws.fronts_are_legal.Goals as goal
 
 pub returns-clause-legal : goal.returns-clause-legal

@@ -7,7 +7,7 @@ use Rattle.nit_overlay.specs.Areas.{IsOverlaid, in_area}
 use Rattle.nit_overlay.specs.Shown.{shown}
 use Rattle.nit_overlay.proofs.overlay.overlay_area.Goals as goal
 use Rattle.nit_overlay.proofs.Areas.{RowsSoFar, next_row, last_row}
-use Rattle.nit_overlay.proofs.Painting.{painted_by}
+use Rattle.nit_overlay.proofs.RowParts.{painted_by}
 
 pub rows-preserved : goal.rows-preserved
 rows-preserved c =

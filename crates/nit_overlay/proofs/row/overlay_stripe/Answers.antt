@@ -2,7 +2,7 @@ use Rattle.std.proofs.Common.{ap, sym, arith}
 use Rattle.nit_overlay.specs.Rules.{word_by}
 use Rattle.nit_overlay.specs.Stripes.{stripe_rule}
 use Rattle.nit_overlay.proofs.row.overlay_stripe.Goals as goal
-use Rattle.nit_overlay.proofs.Painting.{further, painted_by}
+use Rattle.nit_overlay.proofs.RowParts.{further, painted_by}
 
 pub runs-preserved : goal.runs-preserved
 runs-preserved c =

@@ -1,7 +1,7 @@
 use Rattle.std.proofs.Common.{◌-◌}
 use Rattle.nit_overlay.specs.Rules.{word_by}
 use Rattle.nit_overlay.specs.Stripes.{stripe_rule}
-use Rattle.nit_overlay.proofs.Painting.{RowSoFar}
+use Rattle.nit_overlay.proofs.RowParts.{RowSoFar}
 use Rattle.nit_overlay.proofs.row.overlay_stripe.Given as goal
 
 abbrev pub invariant-runs : goal.invariant-runs

@@ -1,6 +1,6 @@
 use Rattle.std.proofs.Common.{◌<◌, ◌*◌, ◌+◌, ◌/◌, arith}
 use Rattle.nit_capture.specs.Tiles.{wide, place, top_of}
-use Rattle.nit_capture.proofs.TilePlaces.{high_some, pixel_within, place_within}
+use Rattle.nit_capture.proofs.Tiles.{high_some, pixel_within, place_within}
 use Rattle.std.proofs.lemmas.Nat.{mul-lt}
 use Rattle.nit_capture.proofs.grid.Grid.place.Goals as goal
 

@@ -1,6 +1,6 @@
 use Rattle.std.proofs.Common.{arith}
 use Rattle.nit_capture.specs.Tiles.{row_place}
-use Rattle.nit_capture.proofs.TilePlaces.{high_some}
+use Rattle.nit_capture.proofs.Tiles.{high_some}
 use Rattle.nit_capture.proofs.PixelRows.{row_within, place_small}
 use Rattle.nit_capture.proofs.grid.Grid.row.Goals as goal
 

@@ -1,7 +1,7 @@
 use Rattle.std.proofs.Common.{◌≡◌, ℕ, nat_lt, ap, ap₂, sym, ◌∙◌, subst}
 use Rattle.nit_rect.specs.Rectangle.{Rectangle}
 use Rattle.nit_damage.specs.Cuts.{Cuts, Fits, begun, to_come}
-use Rattle.nit_damage.proofs.Begun.{whole, whole_fits, whole_off, whole_on}
+use Rattle.nit_damage.proofs.ToCome.{whole, whole_fits, whole_off, whole_on}
 use Rattle.nit_damage.proofs.cutter.Cutter.begin_all.Goals as goal
 
 -- what the cutter keeps

@@ -3,7 +3,7 @@ use Rattle.nit_damage.specs.declared.cutting.Job.{Job}
 use Rattle.nit_stack.specs.Standing.{place_of}
 use Rattle.nit_damage.specs.Cuts.{Cuts, Fits, begun, to_come}
 use Rattle.nit_damage.specs.Cutting.{IsCut}
-use Rattle.nit_damage.proofs.Begun.{IsMoved, lies_below, moved, moved_comes, moved_fits, moved_off}
+use Rattle.nit_damage.proofs.ToCome.{IsMoved, lies_below, moved, moved_comes, moved_fits, moved_off}
 use Rattle.nit_damage.proofs.Screen.{on_screen}
 use Rattle.nit_damage.proofs.cutter.Cutter.begin_moved.Goals as goal
 

@@ -1,7 +1,7 @@
 use Rattle.std.proofs.Common.{◌≡◌, ℕ, ap, sym, ◌∙◌, subst}
 use Rattle.nit_stack.specs.Standing.{place_of}
 use Rattle.nit_damage.specs.Cuts.{Cuts, Fits, begun, to_come}
-use Rattle.nit_damage.proofs.Begun.{begun_fits, begun_off, lies_below, owned_comes}
+use Rattle.nit_damage.proofs.ToCome.{begun_fits, begun_off, lies_below, owned_comes}
 use Rattle.nit_damage.proofs.cutter.Cutter.begin_owned.Goals as goal
 
 -- what the cutter keeps

@@ -1,7 +1,7 @@
 use Rattle.std.proofs.Common.{◌≡◌, ◌≤◌, length, Some, None, false, true, ap, arith, sym, ◌∙◌, subst}
 use Rattle.nit_rect.specs.Rectangle.{Rectangle}
 use Rattle.nit_damage.specs.Cuts.{Cuts, Fits, FitsJobs}
-use Rattle.nit_damage.proofs.Next.{IsNext, bar_next, below_next, next_came, next_fits, next_on_screen, next_owner, next_pixels, next_stands}
+use Rattle.nit_damage.proofs.NextPiece.{IsNext, bar_next, below_next, next_came, next_fits, next_on_screen, next_owner, next_pixels, next_stands}
 use Rattle.nit_damage.proofs.cutter.Cutter.next.Goals as goal
 
 -- the bar

@@ -1,5 +1,5 @@
 use Rattle.std.proofs.Common.{sym, ◌∙◌}
-use Rattle.nit_events.proofs.Padding.{padded}
+use Rattle.nit_events.proofs.TextBytes.{padded}
 use Rattle.nit_events.proofs.text.Text.new.Goals as goal
 
 pub invariant_of-result : goal.invariant_of-result

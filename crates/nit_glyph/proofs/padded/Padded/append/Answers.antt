@@ -1,5 +1,5 @@
 use Rattle.std.proofs.Common.{arith, ◌∙◌, ap, ◌++◌, length}
-use Rattle.nit_glyph.proofs.Padding.{take-padded, padded-append}
+use Rattle.nit_glyph.proofs.ZerosBehind.{take-padded, padded-append}
 use Rattle.nit_glyph.proofs.padded.Padded.append.Goals as goal
 
 pub invariant_of-self : goal.invariant_of-self

@@ -1,9 +1,9 @@
 use Rattle.std.proofs.Common.{◌∙◌, ap, length, arith}
-use Rattle.nit_word.proofs.Zeros.{length-zeros}
+use Rattle.nit_word.proofs.ForCallers.{length-zeros}
 use Rattle.nit_pixels.specs.declared.steps.Identity.{Identity}
 use Rattle.nit_pixels.specs.Ends.{new_sight}
 use Rattle.nit_pixels.proofs.Keeps.{opens}
-use Rattle.nit_pixels.proofs.Opening.{first_sight, first_owns}
+use Rattle.nit_pixels.proofs.NewTables.{first_sight, first_owns}
 use Rattle.nit_pixels.proofs.buffer.PixelBuffer.new.Goals as goal
 
 pub of_words-requires : goal.of_words-requires

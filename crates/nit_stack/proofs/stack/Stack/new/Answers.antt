@@ -1,6 +1,6 @@
 use Rattle.std.proofs.Common.{◌≡◌, arith, length, rules, subst, sym}
 use Rattle.nit_stack.specs.Standing.{IsStanding}
-use Rattle.nit_stack.proofs.Opened.{opened_as, opened_stands}
+use Rattle.nit_stack.proofs.NewStacks.{opened_as, opened_stands}
 use Rattle.nit_stack.proofs.stack.Stack.new.Goals as goal
 
 pub invariant_of-result : goal.invariant_of-result

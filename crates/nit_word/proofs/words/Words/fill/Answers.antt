@@ -1,6 +1,6 @@
 use Rattle.std.proofs.Common.{◌∙◌, length, ap, sym, arith}
 use Rattle.nit_word.specs.Setting.{is_between}
-use Rattle.nit_word.proofs.Padding.{IsSetIn, none_past, reached_long, set_in, whole_long}
+use Rattle.nit_word.proofs.ReachedWords.{IsSetIn, none_past, reached_long, set_in, whole_long}
 use Rattle.nit_word.proofs.words.Words.fill.Goals as goal
 
 pub reach-requires : goal.reach-requires

@@ -1,6 +1,6 @@
 use Rattle.std.proofs.Common.{◌∙◌, ℕ, ap}
 use Rattle.nit_word.specs.Zeros.{padded}
-use Rattle.nit_word.proofs.Padding.{all_reached}
+use Rattle.nit_word.proofs.ReachedWords.{all_reached}
 use Rattle.nit_word.proofs.words.Words.of.Goals as goal
 
 pub returns : goal.returns

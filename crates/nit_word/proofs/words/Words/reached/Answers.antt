@@ -1,6 +1,6 @@
 use Rattle.std.proofs.Common.{◌∙◌, List, ℕ, ap, sym}
 use Rattle.nit_word.specs.Zeros.{padded}
-use Rattle.nit_word.proofs.Padding.{whole_long}
+use Rattle.nit_word.proofs.ReachedWords.{whole_long}
 use Rattle.nit_word.proofs.words.Words.reached.Goals as goal
 
 pub returns : goal.returns

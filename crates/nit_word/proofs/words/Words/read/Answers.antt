@@ -1,6 +1,6 @@
 use Rattle.std.proofs.Common.{◌∙◌, ◌+◌, List, ℕ, ap, sym}
 use Rattle.std.specs.Prelude.{slice_index}
-use Rattle.nit_word.proofs.Padding.{padded_at}
+use Rattle.nit_word.proofs.ReachedWords.{padded_at}
 use Rattle.nit_word.proofs.words.Words.read.Goals as goal
 
 pub returns-clause-words : goal.returns-clause-words

@@ -8,7 +8,8 @@ use Rattle.nit_config.specs.Tree.{ReadsTable, integer_at, boolean_at, elements_o
 use Rattle.nit_config.specs.Ranges.{is_outside, has_bad_size, has_bad_script, has_bad_value, has_bad_label}
 use Rattle.nit_config.specs.Refusals.{has_bad_range, has_label_twice, first_of, refusals, refusal}
 use Rattle.nit_config.specs.Reading.{IsRefused, IsAnswer}
-use Rattle.nit_config.proofs.Tests.{neither}
+use Rattle.std.proofs.lemmas.Option.{same_Some}
+use Rattle.std.proofs.lemmas.Bool.{or_parts}
 
 -- where there is no first refusal, no test holds
 none_applies : (rs : List (Bool × ConfigError)) → first_of rs ≡ None → AllByRecursion (λ r. r.0 ≡ false) rs
@@ -36,10 +37,10 @@ by_name : (top : Members) → nat_lt (length (elements_of top)) 1 ≡ false → 
     → has_bad_range top ≡ false → list_any has_bad_label (clients_of top) ≡ false → has_label_twice top ≡ false → IsAccepted top
 unfolding has_bad_range has_bad_size
 by_name top some few range labels differ =
-    let all = neither _ (list_any has_bad_value (clients_of top)) range in
-    let tables = neither (has_bad_size (screen_of top)) (has_bad_script (input_of top)) all.0 in
-    let screen = neither _ _ tables.0 in
-    let sizes = neither _ _ screen.0 in
+    let all = or_parts _ (list_any has_bad_value (clients_of top)) range in
+    let tables = or_parts (has_bad_size (screen_of top)) (has_bad_script (input_of top)) all.0 in
+    let screen = or_parts _ _ tables.0 in
+    let sizes = or_parts _ _ screen.0 in
     record {
       width = sizes.0;
       height = sizes.1;
@@ -57,13 +58,10 @@ accepted top h =
     let none = no_test_holds top h in
     by_name top none.1.1.0 none.1.1.1.1.0 none.1.1.1.1.1.0 none.1.1.1.1.1.1.0 none.1.1.1.1.1.1.1.0
 
-same_error : (a b : ConfigError) → Some a ≡ Some b → a ≡ b
-same_error a b q = cc
-
 -- an error of no test is not the first
 never_first : (x : ConfigError) (rs : List (Bool × ConfigError)) → AllByRecursion (λ r. r.1 ≢ x) rs → first_of rs ≡ Some x → ⊥
 never_first x [] others h = cc
-never_first x ((true, e) ∷ rs) others h = others.0 (same_error e x h)
+never_first x ((true, e) ∷ rs) others h = others.0 (same_Some e x h)
 never_first x ((false, e) ∷ rs) others h = never_first x rs others.1 h
 
 never : (top : Members) (x : ConfigError) → Kind ≢ x → Missing ≢ x → Unknown ≢ x → TooMany ≢ x → Range ≢ x → Label ≢ x → Twice ≢ x → refusal top ≡ Some x → ⊥

@@ -9,8 +9,7 @@ use Rattle.std.proofs.lemmas.Bool.Decides.{nat_tests}
 use Rattle.std.proofs.lemmas.List.{get_or-append_right, get_or-drop}
 use Rattle.std.proofs.lemmas.Nat.{mod_below}
 use Rattle.nit_word.specs.Zeros.{zeros}
-use Rattle.nit_word.proofs.SetWords.{word_at}
-use Rattle.nit_word.proofs.Zeros.{length-zeros}
+use Rattle.nit_word.proofs.ForCallers.{word_at, length-zeros, column_and_row}
 use Rattle.nit_events.specs.declared.call.Call.TheVariants.{Buffer}
 use Rattle.nit_script.specs.declared.line.Stroke.{Stroke}
 use Rattle.nit_script.specs.declared.line.Line.{Line}
@@ -22,14 +21,10 @@ use Rattle.nit_plan.specs.Steps.{accepts, is_set_by, step_of, words_by_step}
 use Rattle.nit_plan.proofs.Lines.{words_next}
 use Rattle.nit_plan.proofs.Places.{row_of, some_column, stroke_set, stroked_long, whole}
 
--- a place of the buffer is in one of its columns and rows
-in_buffer : (w h n : ℕ) → n < w * h → (n % w < w) × (n / w < h)
-in_buffer w h n inside = (mod_below n w (some_column n w h inside), row_of n w h (omega arith))
-
 none_stroked : (w h : ℕ) (s : Stroke) (n : ℕ) → (nat_lt (n % w) w && nat_lt (n / w) h && is_stroked s (n % w) (n / w)) ≡ false → whole w h s n ≡ false
 none_stroked w h s n outside =
     dite (dec_lt n (w * h))
-    (λ inside. let at = in_buffer w h n inside in grind (arith, nat_tests, at.0, at.1, outside))
+    (λ inside. let at = column_and_row w h n inside in grind (arith, nat_tests, at.0, at.1, outside))
     (λ behind. grind (arith, nat_tests))
 
 stroke_stays : (w h : ℕ) (s : Stroke) (words : List ℕ) (n : ℕ) → (nat_lt (n % w) w && nat_lt (n / w) h && is_stroked s (n % w) (n / w)) ≡ false
@@ -52,7 +47,7 @@ buffer_stays : (took : Bool) (w h : ℕ) (words : List ℕ) (n : ℕ) → (took 
 buffer_stays false w h words n outside = refl
 buffer_stays true w h words n outside =
     dite (dec_lt n (w * h))
-    (λ inside. let at = in_buffer w h n inside in absurd (grind (arith, nat_tests, at.0, at.1, outside)))
+    (λ inside. let at = column_and_row w h n inside in absurd (grind (arith, nat_tests, at.0, at.1, outside)))
     (λ behind. cleared_stays w h words n (omega arith))
 
 step_stays : (l : Line) (step : Step) (words : List ℕ) (n : ℕ) → is_set_by l step (n % step.w) (n / step.w) ≡ false → slice_index (words_by_step l step words) n ≡ slice_index words n

@@ -9,7 +9,7 @@ use Rattle.nit_rect.specs.declared.point.Point.{Point}
 use Rattle.nit_rect.specs.Rectangle.{Rectangle, covers}
 use Rattle.nit_rect.specs.Meeting.{CoversBoth, HasPixels, LiesIn}
 use Rattle.nit_rect.specs.Dividing.{times}
-use Rattle.nit_rect.proofs.Sets.{covers_none}
+use Rattle.nit_rect.proofs.ForCallers.{covers_none}
 use Rattle.nit_stack.specs.declared.view.ViewRef.{ViewRef}
 use Rattle.nit_stack.specs.Sources.{in_bar}
 use Rattle.nit_stack.specs.Standing.{IsOnScreen, NoPair, Seat, Standing, is_slot, place_of, same_slot, seat_in}
@@ -17,7 +17,7 @@ use Rattle.nit_damage.specs.declared.cutting.Job.{Job}
 use Rattle.nit_damage.specs.Sets.{covered, is_behind, is_of_moved, is_owned, once, seat_covers}
 use Rattle.nit_damage.specs.Cuts.{Cuts, Fits, FitsJobs, IsJob, bar_part, begun, job_at, job_to_come, jobs_to_come, part_below_bar, to_come, with_pixels}
 use Rattle.nit_damage.specs.Cutting.{IsCut, times_all}
-use Rattle.nit_damage.proofs.Cut.{rest_lies}
+use Rattle.nit_damage.proofs.RectangleCuts.{rest_lies}
 use Rattle.nit_damage.proofs.Jobs.{all_have_pixels, at_most_one, fits_append, rest_to_come, same_times}
 use Rattle.nit_damage.proofs.Screen.{bar_in_bar, bar_is, bar_off, below_is, below_not_in_bar, below_off}
 use Rattle.nit_damage.proofs.Views.{owned_is}

@@ -1,7 +1,7 @@
 -- The seat of a table that was just made.
 use Rattle.std.proofs.Common.{◌≡◌, ◌∙◌, ℕ, ◌<◌, [], length, Some, ap, sym, subst}
 use Rattle.std.specs.Option.{option_map}
-use Rattle.nit_word.proofs.Zeros.{length-zeros}
+use Rattle.nit_word.proofs.ForCallers.{length-zeros}
 use Rattle.nit_pixels.specs.declared.steps.Identity.{Identity}
 use Rattle.nit_pixels.specs.Ends.{new_sight}
 use Rattle.nit_pixels.specs.Seats.{PixelSeat, sight_of, IsOwners}

@@ -8,9 +8,9 @@ pub some_tiles : (n : ℕ) → 1 ≤ n → 1 ≤ tiles_along n
 unfolding tiles_along
 some_tiles n some = omega arith
 
-pub left_within : (w t : ℕ) → 1 ≤ w → left_of w t < w
+pub left_fits : (w t : ℕ) → 1 ≤ w → left_of w t < w
 unfolding left_of tiles_along
-left_within w t some =
+left_fits w t some =
     let across : 0 < (w + 15) / 16 = omega arith in
     let column : t % ((w + 15) / 16) < (w + 15) / 16 = mod_below t ((w + 15) / 16) across in
     omega arith
@@ -22,9 +22,9 @@ row_below w h t some lt =
     let turned : tiles_along w * tiles_along h ≡ tiles_along h * tiles_along w = mul_comm (tiles_along w) (tiles_along h) in
     div_below t (tiles_along w) (tiles_along h) (some_tiles w some) (omega (arith, lt, turned))
 
-pub top_within : (w h t : ℕ) → 1 ≤ w → t < tile_count w h → top_of w t < h
+pub top_fits : (w h t : ℕ) → 1 ≤ w → t < tile_count w h → top_of w t < h
 unfolding top_of tiles_along
-top_within w h t some lt =
+top_fits w h t some lt =
     let row : t / ((w + 15) / 16) < (h + 15) / 16 = row_below w h t some lt in
     omega arith
 
@@ -35,7 +35,7 @@ pub record Wide (w t : ℕ) : Type 0 where
 
 pub wide_some : (w t : ℕ) → 1 ≤ w → Wide w t
 unfolding wide
-wide_some w t some = let within = left_within w t some in record { some = omega arith; few = omega arith; within = omega arith }
+wide_some w t some = let within = left_fits w t some in record { some = omega arith; few = omega arith; within = omega arith }
 
 pub record High (w h t : ℕ) : Type 0 where
   pub some : 1 ≤ high w h t
@@ -44,7 +44,7 @@ pub record High (w h t : ℕ) : Type 0 where
 
 pub high_some : (w h t : ℕ) → 1 ≤ w → t < tile_count w h → High w h t
 unfolding high
-high_some w h t some lt = let within = top_within w h t some lt in record { some = omega arith; few = omega arith; within = omega arith }
+high_some w h t some lt = let within = top_fits w h t some lt in record { some = omega arith; few = omega arith; within = omega arith }
 
 -- where a pixel lies within its tile
 pub record Within (w h t k : ℕ) : Type 0 where

@@ -19,7 +19,7 @@ use Rattle.nit_journal.specs.Session.{Session, ◌orelse◌, unless, by_status, 
 use Rattle.nit_journal.specs.State.{session}
 use Rattle.nit_journal.specs.Journals.{IsLegal, Agrees, replay, shots}
 use Rattle.nit_journal.specs.Projections.{own_machine}
-use Rattle.nit_journal.proofs.Growing.{agrees_behind}
+use Rattle.nit_journal.proofs.JournalFronts.{agrees_behind}
 use Rattle.nit_journal.proofs.Sessions.{as_many_as_clients}
 use Rattle.nit_journal.proofs.CallsAlone.{answered_alike}
 

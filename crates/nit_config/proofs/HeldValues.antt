@@ -1,13 +1,13 @@
 -- What a value that is held says of the values with a default, and back.
 use Rattle.std.proofs.Common.{◌≡◌, ℕ, zero, suc, ◌≤◌, ℤ, pos, negsuc, Bool, true, false, ◌&&◌, nat_le, int_lt, List, [], ◌∷◌, length, codes, Option, Some, None, unwrap_or, option_and_then, ap, sym, arith}
-use Rattle.std.proofs.lemmas.Bool.{and_parts}
+use Rattle.std.proofs.lemmas.Bool.{and_parts, or_parts}
 use Rattle.std.proofs.lemmas.Bool.Decides.{nat_tests}
 use Rattle.toml.specs.Data.{Data, Members, string, integer, float, boolean, datetime, array, table, as_integer, as_str}
 use Rattle.nit_glyph.specs.Texts.{is_label}
 use Rattle.nit_config.specs.Configuration.{is_file_name}
 use Rattle.nit_config.specs.Tree.{string_at}
 use Rattle.nit_config.specs.Ranges.{is_outside, has_bad_script, label_of, has_bad_label}
-use Rattle.nit_config.proofs.Tests.{neither, truth}
+use Rattle.nit_config.proofs.Tests.{truth}
 
 pos_zero : (n : ℕ) → pos n ≡ pos 0 → 1 ≤ n → ⊥
 pos_zero zero e h = absurd (omega arith)
@@ -42,8 +42,8 @@ string_there (Some (table t)) s e h = absurd (empty_text s e h)
 -- what is not outside a range is inside it
 pub inside : (low high n : ℕ) → is_outside (pos low) (pos high) (pos n) ≡ false → (low ≤ n) × (n ≤ high)
 inside low high n h =
-    let below : int_lt (pos n) (pos low) ≡ false = (neither (int_lt (pos n) (pos low)) (int_lt (pos high) (pos n)) h).0 in
-    let above : int_lt (pos high) (pos n) ≡ false = (neither (int_lt (pos n) (pos low)) (int_lt (pos high) (pos n)) h).1 in
+    let below : int_lt (pos n) (pos low) ≡ false = (or_parts (int_lt (pos n) (pos low)) (int_lt (pos high) (pos n)) h).0 in
+    let above : int_lt (pos high) (pos n) ≡ false = (or_parts (int_lt (pos n) (pos low)) (int_lt (pos high) (pos n)) h).1 in
     (grind (arith, nat_tests), grind (arith, nat_tests))
 
 -- what is inside a range is inside a wider one

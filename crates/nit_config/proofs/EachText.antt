@@ -2,7 +2,7 @@
 use Rattle.std.proofs.Common.{◌≡◌, ◌∙◌, ◌⊎◌, inl, inr, ℕ, ◌≤◌, ℤ, pos, negsuc, Bool, true, false, List, [], ◌∷◌, bytes_eq, codes, Option, Some, None, unwrap_or, option_and_then, IsUtf8, refl, sym, ap, arith}
 use Rattle.std.specs.List.{list_any, AllZip}
 use Rattle.std.specs.Str.{is_utf8}
-use Rattle.std.proofs.lemmas.Bool.{false≢true}
+use Rattle.std.proofs.lemmas.Bool.{false≢true, or_parts}
 use Rattle.std.proofs.lemmas.Str.{IsUtf8-from_is_utf8, is_utf8-from_IsUtf8}
 use Rattle.toml.specs.Data.{Data, Members, integer, as_integer}
 use Rattle.toml.specs.Parse.{parse_document}
@@ -14,9 +14,8 @@ use Rattle.nit_config.specs.Tree.{ReadsTable, integer_at, string_at, boolean_at,
 use Rattle.nit_config.specs.Ranges.{is_outside, has_bad_script, has_bad_focus, has_bad_value, label_of, has_bad_label}
 use Rattle.nit_config.specs.Refusals.{refusal}
 use Rattle.nit_config.specs.Reading.{HoldsClient, HoldsTable, Conf, IsRefused}
-use Rattle.nit_config.proofs.Accepted.{IsAccepted, accepted, refused_by}
-use Rattle.nit_config.proofs.Held.{inside, integer_there, string_there, script_is_name, label_is_label, file_name_length, label_length}
-use Rattle.nit_config.proofs.Tests.{neither}
+use Rattle.nit_config.proofs.RefusalTests.{IsAccepted, accepted, refused_by}
+use Rattle.nit_config.proofs.HeldValues.{inside, integer_there, string_there, script_is_name, label_is_label, file_name_length, label_length}
 
 -- a natural number, and 0 for a negative one
 nat_of : ℤ → ℕ
@@ -40,9 +39,9 @@ number_there o low high above h =
 client_holds : (t : Members) → has_bad_value t ≡ false → has_bad_label t ≡ false → (m : Member) × HoldsClient t m
 unfolding has_bad_value
 client_holds t value label =
-    let all = neither _ (has_bad_focus t) value in
-    let parts = neither _ (has_bad_script t) all.0 in
-    let numbers = neither _ _ parts.0 in (
+    let all = or_parts _ (has_bad_focus t) value in
+    let parts = or_parts _ (has_bad_script t) all.0 in
+    let numbers = or_parts _ _ parts.0 in (
       record {
         label = label_of t;
         donation = nat_of (integer_at (codes "donation") (pos 0) t);
@@ -62,8 +61,8 @@ client_holds t value label =
 clients_hold : (ts : List Members) → list_any has_bad_value ts ≡ false → list_any has_bad_label ts ≡ false → (ms : List Member) × AllZip HoldsClient ts ms
 clients_hold [] values labels = ([], tt)
 clients_hold (t ∷ ts) values labels =
-    let v = neither (has_bad_value t) (list_any has_bad_value ts) values in
-    let l = neither (has_bad_label t) (list_any has_bad_label ts) labels in
+    let v = or_parts (has_bad_value t) (list_any has_bad_value ts) values in
+    let l = or_parts (has_bad_label t) (list_any has_bad_label ts) labels in
     let first = client_holds t v.0 l.0 in
     let rest = clients_hold ts v.1 l.1 in
     (first.0 ∷ rest.0, (first.1, rest.1))

@@ -13,10 +13,10 @@ use Rattle.nit_rect.specs.declared.strips.Strips.{Strips}
 use Rattle.nit_rect.specs.Rectangle.{Rectangle, covers}
 use Rattle.nit_rect.specs.Meeting.{CoversBoth, HasPixels, IsApart, LiesIn}
 use Rattle.nit_rect.specs.Dividing.{IsDivided, times}
-use Rattle.nit_rect.proofs.Sets.{IsWithin, covers_none, no_pixels, within}
+use Rattle.nit_rect.proofs.ForCallers.{IsWithin, covers_none, no_pixels, within}
 use Rattle.nit_stack.specs.declared.view.ViewRef.{ViewRef}
 use Rattle.nit_stack.specs.Standing.{Seat, Standing, view_ref}
-use Rattle.nit_stack.proofs.ViewPlaces.{slot_at}
+use Rattle.nit_stack.proofs.ForCallers.{slot_at}
 use Rattle.nit_damage.specs.declared.cutting.Job.{Job}
 use Rattle.nit_damage.specs.Sets.{covered, once, seat_covers}
 use Rattle.nit_damage.specs.Cuts.{FitsJobs, IsJob, job_at, job_to_come, jobs_to_come, weight, weight_of, with_pixels}

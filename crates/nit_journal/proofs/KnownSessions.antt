@@ -21,6 +21,7 @@ use Rattle.nit_stack.specs.Sources.{in_bar, owner, point}
 use Rattle.nit_config.specs.Configuration.{Configuration, bar_rows}
 use Rattle.nit_journal.specs.State.{clicks_on, route}
 use Rattle.nit_journal.specs.Deliveries.{IsKillAlone, is_kill, kills}
+use Rattle.nit_events.proofs.ForCallers.{either}
 
 -- this holds of the receiver, the hovered session and the focused one, where there are such
 pub record Knows (P : ℕ → Type 0) (i : InputState) : Type 0 where
@@ -46,10 +47,6 @@ pub record IsKilling (P : ℕ → Type 0) (r : Routing) : Type 0 where
 
 abbrev pub IsStep : (ℕ → Type 0) → Routing → Type 0
 IsStep P r = IsHarmless P r ⊎ IsKilling P r
-
-either : (S : Routing → Type 0) (b : Bool) (r t : Routing) → S r → S t → S (if b then r else t)
-either S true r t p q = p
-either S false r t p q = q
 
 -- ---- who is forgotten
 

@@ -17,7 +17,7 @@ use Rattle.nit_damage.specs.declared.cutting.Job.{Job}
 use Rattle.nit_damage.specs.Sets.{covered, once, seat_covers}
 use Rattle.nit_damage.specs.Cuts.{FitsJobs, IsJob, IsPieceOf, jobs_to_come, weight, weight_of}
 use Rattle.nit_damage.specs.Cutting.{IsStep}
-use Rattle.nit_damage.proofs.Cut.{IsNextCut, cut_fewer, cut_fits, front_count, piece_count}
+use Rattle.nit_damage.proofs.RectangleCuts.{IsNextCut, cut_fewer, cut_fits, front_count, piece_count}
 use Rattle.nit_damage.proofs.Jobs.{heavy}
 use Rattle.nit_damage.proofs.Screen.{bar_fits, below_not_in_bar, below_on_screen}
 use Rattle.nit_damage.proofs.Views.{front_most, no_view}

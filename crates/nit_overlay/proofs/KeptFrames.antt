@@ -27,7 +27,7 @@ renewed before now chosen raw raw' old new r was = ext_get_or 0 new (frame now r
         ∙ sym (r.same k l e) ∙ sym (get_or-frame now raw' k l)
 
 -- in mode Flat, below the bar
-flat_shown : (s : Scenery) (p : Point) (w : ℕ) → s.mode ≡ Flat → in_bar s.bar p ≡ false → shown s p w ≡ cond (is_some (owner s.bar s.stack p)) w bare_word
+pub flat_shown : (s : Scenery) (p : Point) (w : ℕ) → s.mode ≡ Flat → in_bar s.bar p ≡ false → shown s p w ≡ cond (is_some (owner s.bar s.stack p)) w bare_word
 flat_shown s p w flat below = ap (λ (b : Bool). cond b (bar_word s p) (owner_word s p w (owner s.bar s.stack p))) below ∙ go (owner s.bar s.stack p)
   where
     go : (o : Option View) → owner_word s p w o ≡ cond (is_some o) w bare_word

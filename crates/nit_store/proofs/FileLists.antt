@@ -10,7 +10,8 @@ use Rattle.std.proofs.lemmas.Bool.Decides.{nat_tests}
 use Rattle.std.proofs.lemmas.List.Quantifiers.{position-Some}
 use Rattle.nit_store.specs.Shown.{File}
 use Rattle.nit_store.specs.Files.{files_of, with_file}
-use Rattle.nit_store.proofs.Putting.{is_name}
+use Rattle.nit_store.proofs.NamedFiles.{is_name}
+use Rattle.std.proofs.lemmas.Bool.{not-true}
 
 abbrev pub Stored : Type 0
 Stored = String Global × Vec ℕ Global
@@ -38,17 +39,13 @@ none_false : (b : Bool) (n : ℕ) → cond b (Some n) None ≡ None → b ≡ fa
 none_false true n e = absurd cc
 none_false false n e = refl
 
-not_false : (b : Bool) → not b ≡ true → b ≡ false
-not_false true e = absurd cc
-not_false false e = refl
-
 -- where no place is found, no file has the name
 nowhere : (fs : List Stored) (name : List ℕ) (d : Stored) → position (has_name name) fs ≡ None → (k : ℕ) → k < length fs → has_name name (get_or fs k d) ≡ false
 nowhere fs name d none k lt =
     let n = position_or_len (has_name name) fs in
     let past : nat_lt n (length fs) ≡ false = none_false (nat_lt n (length fs)) n none in
     let inside : k < n = grind (arith, nat_tests) in
-    not_false (has_name name (get_or fs k d)) (prefix_len_passes (λ (x : Stored). not (has_name name x)) fs k d inside)
+    not-true (has_name name (get_or fs k d)) (prefix_len_passes (λ (x : Stored). not (has_name name x)) fs k d inside)
 
 put_behind : (fs : List Stored) (name bytes : List ℕ) (d y : Stored) → ((k : ℕ) → k < length fs → has_name name (get_or fs k d) ≡ false) → view_of y ≡ (name, bytes) → files_of (fs ++ y ∷ []) ≡ with_file name bytes (files_of fs)
 put_behind [] name bytes d y each is = ap (λ (r : File). r ∷ []) is

@@ -1,0 +1,14 @@
+-- What holds of a choice, and how long the list of one delivery is.
+use Rattle.std.proofs.Common.{◌≤◌, Bool, true, false, Option, None, Some, length, arith}
+use Rattle.std.specs.Prelude.{if◌then◌else◌}
+use Rattle.nit_events.specs.declared.event.Delivery.{Delivery}
+use Rattle.nit_events.specs.Input.{delivery}
+
+-- what holds of both holds of either
+pub either : {A : Type 0} (P : A → Type 0) (b : Bool) (x y : A) → P x → P y → P (if b then x else y)
+either P true x y p q = p
+either P false x y p q = q
+
+pub at_most_one : (told : Option Delivery) → length (delivery told) ≤ 1
+at_most_one None = omega arith
+at_most_one (Some d) = omega arith

@@ -1,0 +1,5 @@
+-- What other crates cite of plans: places in rows, lines, and sights that are alike.
+pub use Rattle.nit_plan.proofs.Lines.{line_here}
+pub use Rattle.nit_plan.proofs.Places.{above, none_begun, row_added, rows_done, whole}
+pub use Rattle.nit_plan.proofs.Sessions.{calls_done}
+pub use Rattle.nit_plan.proofs.Sights.{alike, changed, for_any, unchanged}

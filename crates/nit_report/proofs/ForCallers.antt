@@ -1,0 +1,3 @@
+-- What other crates cite of texts: the digits of a number, and lists of which each element has a property.
+pub use Rattle.nit_report.proofs.Decimals.{few_digits}
+pub use Rattle.nit_report.proofs.DrawnFits.{all_append}

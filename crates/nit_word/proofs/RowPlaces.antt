@@ -1,0 +1,16 @@
+-- Places among rows, one behind the other: the column and the row of each.
+use Rattle.std.proofs.Common.{ℕ, ◌+◌, ◌*◌, ◌/◌, ◌%◌, ◌<◌, ◌≤◌, arith}
+use Rattle.std.proofs.Math.Nat.{div-lt_iff_lt-mul, mul-le-mul_right}
+use Rattle.std.proofs.lemmas.Nat.{div-add-mod', mod_below}
+
+-- a place among the rows is in one of the columns and in one of the rows
+pub column_and_row : (width height k : ℕ) → k < width * height → (k % width < width) × (k / width < height)
+column_and_row width height k lt =
+    let some : 0 < width = grind arith in
+    (omega arith, (div-lt_iff_lt-mul some).1 (omega arith))
+
+-- a place in a row above another lies before it
+pub before_row : (n w j : ℕ) → 0 < w → n / w < j → n < j * w
+before_row n w j some higher =
+    let rows : (n / w + 1) * w ≤ j * w = mul-le-mul_right w (omega arith) in
+    omega (arith, div-add-mod' n w, mod_below n w some)
