@@ -12,7 +12,8 @@ use Rattle.nit_capture.specs.Reading.{◌>>=◌, tile_at, is_next, behind_two, t
 use Rattle.nit_capture.proofs.TileDifferences.{differs_at, differs_where, same_tile, same_pixel}
 use Rattle.nit_capture.proofs.RunsRead.{AreBytes}
 use Rattle.nit_capture.proofs.ReadingSteps.{turn_none_left, turn_other, turn_taken, tiles_read}
-use Rattle.nit_capture.proofs.TilesRead.{bind_some, IsOther, TookTile, tile_take, tile_again, rest_changed, same_differs, same_filter, same_pixels, other_tile, same_picture}
+use Rattle.nit_capture.proofs.TilesRead.{IsOther, TookTile, tile_take, tile_again, rest_changed, same_differs, same_filter, same_pixels, other_tile, same_picture}
+use Rattle.nit_rect.proofs.ForCallers.{bind_some}
 
 -- ---- what one turn did
 

@@ -1,5 +1,5 @@
 -- What is read as a record is one, and what is a record is read.
-use Rattle.std.proofs.Common.{◌≡◌, ℕ, zero, suc, ◌+◌, ◌*◌, ◌^◌, ◌<◌, ◌≤◌, ◌⊎◌, inl, inr, Bool, true, false, not, ◌||◌, List, ◌∷◌, ◌++◌, length, Option, Some, None, refl, sym, ap, ap₂, subst, ◌∙◌, arith, lit<}
+use Rattle.std.proofs.Common.{◌≡◌, ℕ, zero, suc, ◌+◌, ◌*◌, ◌^◌, ◌<◌, ◌≤◌, ◌⊎◌, inl, inr, Bool, true, false, not, ◌||◌, List, ◌∷◌, ◌++◌, length, Some, refl, sym, ap, ap₂, subst, ◌∙◌, arith, lit<}
 use Rattle.std.specs.Prelude.{◌==◌, slice_index, slice_set, cond}
 use Rattle.std.specs.List.{flat_map, filter, range_with_len}
 use Rattle.std.proofs.lemmas.Bool.{cases_eq, true≢false, or_cases}
@@ -7,16 +7,11 @@ use Rattle.std.proofs.lemmas.List.{ext_get_or, length-set, get_or-set_same, get_
 use Rattle.std.proofs.lemmas.Option.{cond_some}
 use Rattle.nit_capture.specs.Tiles.{tile_count, area, place, pixels, tile, differs}
 use Rattle.nit_capture.specs.Film.{runs, run_bytes}
-use Rattle.nit_capture.specs.Reading.{◌>>=◌, run_at, no_word, pixels_at, tile_at}
-use Rattle.nit_rect.proofs.ForCallers.{same_tests}
+use Rattle.nit_capture.specs.Reading.{run_at, no_word, pixels_at, tile_at}
+use Rattle.nit_rect.proofs.ForCallers.{same_tests, bind_some}
 use Rattle.nit_capture.proofs.Tiles.{place_within, same_place, lies_at}
 use Rattle.nit_capture.proofs.TileDifferences.{same_map, differs_at, differs_where, unlike, like}
 use Rattle.nit_capture.proofs.RunsRead.{AreBytes, Continues, run_takes, run_again, tile_spelled, tile_spelled_back}
-
--- the value of a step that did not fail
-pub bind_some : {A B : Type 0} (r : Option A) (f : A → Option B) (y : B) → (r >>= f) ≡ Some y → (x : A) × (r ≡ Some x) × (f x ≡ Some y)
-bind_some (Some x) f y e = (x, refl, e)
-bind_some None f y e = absurd cc
 
 -- ---- the pixels of a tile
 

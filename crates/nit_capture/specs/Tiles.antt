@@ -2,6 +2,7 @@
 use Rattle.std.specs.Prelude.{◌≡◌, ◌≤◌, ℕ, ◌+◌, ◌-◌, ◌*◌, ◌/◌, ◌%◌, min, Bool, not, ◌==◌, List, map, length, replicate, slice_index}
 use Rattle.std.specs.List.{range_with_len, list_any, All}
 use Rattle.nit_word.specs.Inks.{IsWord}
+use Rattle.nit_rect.specs.Limits.{most_width, most_height}
 
 -- a picture of w by h has a word for each pixel, row by row from the top
 pub record IsPicture (w h : ℕ) (picture : List ℕ) : Type 0 where
@@ -16,8 +17,8 @@ black w h = replicate (w * h) 0
 pub record IsSize (w h : ℕ) : Type 0 where
   pub some_columns : 1 ≤ w
   pub some_rows : 1 ≤ h
-  pub columns : w ≤ 1024
-  pub rows : h ≤ 768
+  pub columns : w ≤ most_width
+  pub rows : h ≤ most_height
 
 -- ---- tiles of 16 by 16, cut off at the right and lower edge, and numbered by rows from 0
 

@@ -6,6 +6,7 @@ ghost use Rattle.nit_capture.specs.declared.player.Played.TheVariants.{Frame, En
 
 use crate::grid::Grid;
 use crate::reading::take_record;
+use nit_rect::{MOST_HEIGHT, MOST_WIDTH};
 use std::marker::Model;
 
 /// What playing on gave.
@@ -53,7 +54,11 @@ impl<'a> Player<'a> {
         };
         let width = *w0 as usize + *w1 as usize * 256;
         let height = *h0 as usize + *h1 as usize * 256;
-        if 1 <= width && width <= 1024 && 1 <= height && height <= 768 {
+        if 1 <= width
+            && width <= MOST_WIDTH as usize
+            && 1 <= height
+            && height <= MOST_HEIGHT as usize
+        {
             Some(Player {
                 width,
                 height,

@@ -2,6 +2,7 @@
 use Rattle.std.specs.Prelude.{ℕ, Bool, true, false, ◌&&◌, nat_le, List, [], ◌∷◌, length, slice_index_or, codes, if◌then◌else◌}
 use Rattle.std.specs.List.{list_all}
 use Rattle.nit_config.specs.declared.config.Member.{Member}
+use Rattle.nit_rect.specs.Limits.{most_units}
 
 -- the screen's size, whether it has a status bar, the name of the input script, and the clients in order
 pub record Configuration : Type 0 where
@@ -41,7 +42,7 @@ still_configuration width height =
       input = codes "still";
       clients = record {
         label = codes "still";
-        donation = 8388608;
+        donation = most_units;
         script = codes "still";
         layer = 0;
         clicks = true;

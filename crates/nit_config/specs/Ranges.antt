@@ -5,6 +5,7 @@ use Rattle.toml.specs.Data.{Members}
 use Rattle.nit_glyph.specs.Texts.{is_label}
 use Rattle.nit_config.specs.Configuration.{is_file_name}
 use Rattle.nit_config.specs.Tree.{integer_at, string_at, boolean_at}
+use Rattle.nit_rect.specs.Limits.{most_width, most_height, most_units, least_units}
 
 -- the integer is outside low..=high
 abbrev pub is_outside : ℤ → ℤ → ℤ → Bool
@@ -13,8 +14,8 @@ is_outside low high z = int_lt z low || int_lt high z
 -- the width or the height is outside its range, or the bar does not fit
 unfoldable pub has_bad_size : Members → Bool
 has_bad_size screen =
-    (is_outside (pos 1) (pos 1024) (integer_at (codes "width") (pos 0) screen)
-    || is_outside (pos 1) (pos 768) (integer_at (codes "height") (pos 0) screen))
+    (is_outside (pos 1) (pos most_width) (integer_at (codes "width") (pos 0) screen)
+    || is_outside (pos 1) (pos most_height) (integer_at (codes "height") (pos 0) screen))
     || (boolean_at (codes "bar") false screen
     && int_lt (integer_at (codes "height") (pos 0) screen) (pos 8))
 
@@ -31,7 +32,7 @@ has_bad_focus client =
 -- a value of the client is outside its range
 unfoldable pub has_bad_value : Members → Bool
 has_bad_value client =
-    ((is_outside (pos 256) (pos 8388608) (integer_at (codes "donation") (pos 0) client)
+    ((is_outside (pos least_units) (pos most_units) (integer_at (codes "donation") (pos 0) client)
     || is_outside (pos 0) (pos 7) (integer_at (codes "layer") (pos 0) client))
     || has_bad_script client)
     || has_bad_focus client

@@ -9,6 +9,7 @@ use Rattle.nit_config.specs.declared.refusals.Fault.TheVariants.{OtherKind, Lack
 use Rattle.nit_config.specs.Keys.{Row, top_rows, screen_rows, input_rows, client_rows, has_other_kind, lacks_key, has_unknown_key}
 use Rattle.nit_config.specs.Ranges.{has_bad_size, has_bad_script, has_bad_value, label_of, has_bad_label}
 use Rattle.nit_config.specs.Tree.{elements_of, screen_of, input_of, clients_of}
+use Rattle.nit_rect.specs.Limits.{most_sessions}
 
 -- the table has the fault, by the rows of its place
 abbrev pub has_fault : Fault → List Row → Members → Bool
@@ -50,7 +51,7 @@ refusals top =
     ∷ (is_somewhere Lacking top, refused.Missing)
     ∷ (nat_lt (length (elements_of top)) 1, refused.Missing)
     ∷ (is_somewhere Unknown top, refused.Unknown)
-    ∷ (nat_lt 16 (length (elements_of top)), refused.TooMany)
+    ∷ (nat_lt most_sessions (length (elements_of top)), refused.TooMany)
     ∷ (has_bad_range top, refused.Range)
     ∷ (list_any has_bad_label (clients_of top), refused.Label)
     ∷ (has_label_twice top, refused.Twice)

@@ -8,6 +8,7 @@ ghost use Rattle.nit_config.specs.Tree.{integer_at, string_at, members_of};
 ghost use Rattle.nit_config.specs.Ranges.{is_outside, has_bad_script, has_bad_value, has_bad_label};
 ghost use Rattle.nit_config.specs.Refusals.{refusal};
 ghost use Rattle.nit_config.specs.Reading.{HoldsClient, HoldsTable};
+ghost use Rattle.nit_rect.specs.Limits.{most_units};
 
 use crate::config::{Config, Member};
 use crate::name::FileName;
@@ -19,7 +20,7 @@ use toml::{Table, Value};
 
 /// The integer at a key, or another. It is in the widest of the ranges, 0 to 8,388,608.
 fn number_at(table: &Table, key: &str, other: u32) -> u32
-    requires { is_outside (pos 0) (pos 8388608)
+    requires { is_outside (pos 0) (pos most_units)
         (integer_at key.now (pos other) (table_view table.now))
         ≡ false }
     ensures { pos result ≡ integer_at key.now (pos other) (table_view table.now) }
@@ -29,7 +30,8 @@ fn number_at(table: &Table, key: &str, other: u32) -> u32
 
 /// The integer at a key that is not 0, and so is there.
 fn required_at(table: &Table, key: &str) -> u32
-    requires { is_outside (pos 1) (pos 8388608) (integer_at key.now (pos 0) (table_view table.now))
+    requires { is_outside (pos 1) (pos most_units)
+        (integer_at key.now (pos 0) (table_view table.now))
         ≡ false }
     ensures { get_member key.now (table_view table.now) ≡ Some (integer (pos result)) }
 {

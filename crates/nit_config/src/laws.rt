@@ -5,6 +5,7 @@ ghost use Rattle.nit_config.specs.declared.error.ConfigError.{ConfigError};
 ghost use Rattle.nit_config.specs.Configuration.{Configuration, still_configuration};
 ghost use Rattle.nit_config.specs.Configured.{IsConfigured};
 ghost use Rattle.nit_config.specs.Reading.{Conf, IsRefused};
+ghost use Rattle.nit_rect.specs.Limits.{most_width, most_height};
 
 /// A text has one configuration at most, and that is within the ranges of the format.
 pub fn configuration_is_one()
@@ -31,6 +32,7 @@ pub fn each_text_is_judged()
 /// The configuration of a picture of one client's script is within the ranges where the size of its
 /// screen is.
 pub fn still_is_configured()
-    ensures { (width height : ℕ) → 1 ≤ width → width ≤ 1024 → 1 ≤ height → height ≤ 768
+    ensures { (width height : ℕ) → 1 ≤ width → width ≤ most_width
+        → 1 ≤ height → height ≤ most_height
         → IsConfigured (still_configuration width height) }
 {}

@@ -7,7 +7,11 @@ ghost use Rattle.nit_config.specs.Configuration.{is_file_name};
 ghost use Rattle.nit_config.specs.Ranges.{is_outside, has_bad_size, has_bad_script, has_bad_focus, has_bad_value, label_of, has_bad_label};
 
 use crate::tree::{boolean_at, integer_at, string_at};
+use nit_rect::{LEAST_UNITS, MOST_HEIGHT, MOST_UNITS, MOST_WIDTH};
 use toml::Table;
+
+/// The most bytes of a file's name.
+const MOST_NAME: usize = 255;
 
 fn is_outside(low: i64, high: i64, number: i64) -> bool
     ensures { result ≡ is_outside low high number }
@@ -24,7 +28,7 @@ fn is_printable(text: &[u8]) -> bool
 fn is_file_name(text: &[u8]) -> bool
     ensures { result ≡ is_file_name text.now }
 {
-    !text.is_empty() && text.len() <= 255 && is_printable(text)
+    !text.is_empty() && text.len() <= MOST_NAME && is_printable(text)
 }
 
 /// Whether the width or the height of a screen is outside its range, or the bar does not fit.
@@ -34,8 +38,8 @@ pub(crate) fn has_bad_size(screen: &Table) -> bool
 {
     let width = integer_at(screen, "width", 0);
     let height = integer_at(screen, "height", 0);
-    is_outside(1, 1024, width)
-        || is_outside(1, 768, height)
+    is_outside(1, i64::from(MOST_WIDTH), width)
+        || is_outside(1, i64::from(MOST_HEIGHT), height)
         || (boolean_at(screen, "bar", false) && height < 8)
 }
 
@@ -60,7 +64,8 @@ fn has_bad_focus(client: &Table) -> bool
 pub(crate) fn has_bad_value(client: &Table) -> bool
     ensures { result ≡ has_bad_value (table_view client.now) }
 {
-    is_outside(256, 8_388_608, integer_at(client, "donation", 0))
+    let donation = integer_at(client, "donation", 0);
+    is_outside(i64::from(LEAST_UNITS), i64::from(MOST_UNITS), donation)
         || is_outside(0, 7, integer_at(client, "layer", 0))
         || has_bad_script(client)
         || has_bad_focus(client)

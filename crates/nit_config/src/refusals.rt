@@ -13,10 +13,8 @@ use crate::error::ConfigError;
 use crate::keys::{Place, has_other_kind, has_unknown_key, lacks_key};
 use crate::ranges::{has_bad_label, has_bad_script, has_bad_size, has_bad_value, label_of};
 use crate::tree::{elements_of, table_at, table_of};
+use nit_rect::MOST_SESSIONS;
 use toml::{Table, Value};
-
-/// The most clients of a configuration.
-const MAX_CLIENTS: usize = 16;
 
 /// What a table may have wrong by its keys.
 #[derive(Clone, Copy)]
@@ -158,7 +156,7 @@ pub(crate) fn refusal(top: &Table, empty: &Table) -> Option<ConfigError>
     if is_somewhere(Fault::Unknown, top, empty) {
         return Some(ConfigError::Unknown);
     }
-    if MAX_CLIENTS < count(top) {
+    if MOST_SESSIONS < count(top) {
         return Some(ConfigError::TooMany);
     }
     if has_bad_range(top, empty) {

@@ -6,8 +6,7 @@ use Rattle.nit_rect.specs.Rectangle.{Rectangle, covers, rectangle}
 use Rattle.nit_rect.specs.Meeting.{HasPixels, LiesIn}
 use Rattle.nit_rect.specs.Dividing.{times}
 use Rattle.nit_stack.specs.declared.view.Piece.{Piece}
-use Rattle.nit_stack.specs.Sources.{owner_in}
-use Rattle.nit_stack.specs.Standing.{IsOnScreen, Standing, has, view_ref}
+use Rattle.nit_stack.specs.Standing.{IsOnScreen, Standing, has, view_ref, seat_owner}
 use Rattle.nit_damage.specs.declared.cutting.Job.{Job}
 use Rattle.nit_damage.specs.Sets.{once, covered}
 
@@ -83,7 +82,7 @@ pub record IsPieceOf (s : Standing) (piece : Piece) : Type 0 where
   pub pixels : HasPixels piece.rect
   pub on_screen : (p : Point) → IsTrue (covers piece.rect p) → IsOnScreen s.width s.height p
   pub owner : (p : Point) → IsTrue (covers piece.rect p)
-      → piece.owner ≡ option_map view_ref (owner_in (λ x. x.view) s.bar s.views p)
+      → piece.owner ≡ option_map view_ref (seat_owner s.bar s.views p)
   pub stands : IfSome piece.owner (λ v. has v.0 s.views ≡ true)
 
 -- at least as many as the pieces that a rectangle, or some of them, still gives

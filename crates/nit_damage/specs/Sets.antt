@@ -5,8 +5,8 @@ use Rattle.std.specs.Option.{option_map_or}
 use Rattle.nit_rect.specs.declared.point.Point.{Point}
 use Rattle.nit_rect.specs.Rectangle.{Rectangle, covers}
 use Rattle.nit_stack.specs.declared.view.ViewRef.{ViewRef}
-use Rattle.nit_stack.specs.Sources.{in_bar, owner_in}
-use Rattle.nit_stack.specs.Standing.{Seat, Standing, is_slot, place_of, seat_in}
+use Rattle.nit_stack.specs.Sources.{in_bar}
+use Rattle.nit_stack.specs.Standing.{Seat, Standing, is_slot, place_of, seat_in, seat_owner}
 
 -- 1 where it holds, and 0 elsewhere
 abbrev pub once : Bool → ℕ
@@ -32,7 +32,7 @@ in_front_of None views = views
 -- the pixel lies in the rectangle, and this view owns it
 abbrev pub is_owned : ViewRef → Standing → Rectangle → Point → Bool
 is_owned v s r p =
-    covers r p && option_map_or (is_slot v.0) (owner_in (λ x. x.view) s.bar s.views p) false
+    covers r p && option_map_or (is_slot v.0) (seat_owner s.bar s.views p) false
 
 -- the pixel is below the bar, lies in the rectangle, and none of the first so many views covers it
 abbrev pub is_behind : ℕ → Standing → Rectangle → Point → Bool

@@ -5,10 +5,10 @@ ghost use Rattle.std.specs.Option.{option_map};
 ghost use Rattle.nit_rect.specs.declared.point.Point.{Point};
 ghost use Rattle.nit_rect.specs.Rectangle.{Rectangle, covers};
 ghost use Rattle.nit_rect.specs.Meeting.{HasPixels};
-ghost use Rattle.nit_stack.specs.Sources.{owner_in};
-ghost use Rattle.nit_stack.specs.Standing.{IsOnScreen, Standing, has, view_ref};
+ghost use Rattle.nit_stack.specs.Standing.{IsOnScreen, Standing, has, view_ref, seat_owner};
 ghost use Rattle.nit_damage.specs.Sets.{once, is_behind, is_owned, is_of_moved, is_of_gone};
 ghost use Rattle.nit_damage.specs.Cuts.{Fits, begun, piece_times, pieces_left, to_come};
+ghost use Rattle.nit_rect.specs.Limits.{most_slots};
 
 use crate::cutting::{Job, cut_out, next_cut, put_in};
 use crate::places::{bar_part, below_bar, part_below_bar};
@@ -40,7 +40,7 @@ impl Model for Cutter {
 impl Cutter {
     /// A cutter with room for stacks of at most this many views, 0..=1024. Nothing is to come.
     pub fn with_room(alloc: Global, views: u32) -> Result<Cutter, NoMemory>
-        requires { views ≤ 1024 }
+        requires { views ≤ most_slots }
         ensures room { IfOk result (λ c. c.room ≡ views) }
         ensures nothing { IfOk result (λ c. (s : Standing) (p : Point) → to_come c s p ≡ 0) }
     {
@@ -159,7 +159,7 @@ impl Cutter {
             → IsOnScreen stack.now.width stack.now.height p) }
         ensures owner { IfSome result (λ piece. (p : Point) → IsTrue (covers piece.rect p)
             → piece.owner
-            ≡ option_map view_ref (owner_in (λ s. s.view) stack.now.bar stack.now.views p)) }
+            ≡ option_map view_ref (seat_owner stack.now.bar stack.now.views p)) }
         ensures stands { IfSome result
             (λ piece. IfSome piece.owner (λ v. has v.0 stack.now.views ≡ true)) }
         ensures fewer { IfSome result

@@ -1,9 +1,17 @@
--- The ranges of codes and wheels.
-use Rattle.std.specs.Prelude.{ℕ, ◌≤◌, ℤ, pos, negsuc, ◌≤ℤ◌}
+-- The ranges of codes and wheels, and how many events wait.
+use Rattle.std.specs.Prelude.{ℕ, ◌≤◌, ℤ, pos, negsuc, ◌≤ℤ◌, ◌≡◌}
 use Rattle.nit_events.specs.declared.event.Event.{Event}
 use Rattle.nit_events.specs.declared.event.Event.TheVariants as event
 use Rattle.nit_events.specs.declared.device.Device.{Device}
 use Rattle.nit_events.specs.declared.device.Device.TheVariants as device
+
+-- how many events wait for a session at most
+abbrev pub most_waiting : ℕ
+most_waiting = 64
+
+-- a queue has room for so many events, and so many wait at most
+abbrev pub IsQueue : ℕ → ℕ → Type 0
+IsQueue room long = (room ≡ most_waiting) × (long ≤ most_waiting)
 
 -- the code of a key or button
 abbrev pub IsCode : ℕ → Type 0

@@ -8,21 +8,29 @@ use Rattle.std.proofs.lemmas.List.{length-take-le, take-append-drop}
 abbrev pub is_printable : ℕ → Bool
 is_printable b = nat_le 32 b && nat_le b 126
 
+-- how many bytes a text has at most
+abbrev pub most_text : ℕ
+most_text = 40
+
 -- at most 40 printable bytes
 abbrev pub is_text : List ℕ → Bool
-is_text bytes = nat_le (length bytes) 40 && list_all is_printable bytes
+is_text bytes = nat_le (length bytes) most_text && list_all is_printable bytes
+
+-- bytes, filled up with 0
+abbrev pub filled : List ℕ → List ℕ
+filled bytes = bytes ++ replicate (most_text - length bytes) 0
 
 -- behind its first `len` bytes, an array of 40 is filled with 0
 pub record IsPadded (bytes : List ℕ) (len : ℕ) : Type 0 where
   pub fits : len ≤ length bytes
-  pub zeros : drop len bytes ≡ replicate (40 - len) 0
+  pub zeros : drop len bytes ≡ replicate (most_text - len) 0
 
 -- so its first bytes give the array again
 pub length_again : (bytes : List ℕ) (len : ℕ) → IsPadded bytes len → length (take len bytes) ≡ len
 length_again bytes len p = length-take-le len bytes p.fits
 
 pub bytes_again : (bytes : List ℕ) (len : ℕ) → IsPadded bytes len
-    → take len bytes ++ replicate (40 - length (take len bytes)) 0 ≡ bytes
+    → take len bytes ++ replicate (most_text - length (take len bytes)) 0 ≡ bytes
 bytes_again bytes len p =
-    ap (λ (n : ℕ). take len bytes ++ replicate (40 - n) 0) (length_again bytes len p)
+    ap (λ (n : ℕ). take len bytes ++ replicate (most_text - n) 0) (length_again bytes len p)
     ∙ ap (λ (zs : List ℕ). take len bytes ++ zs) (sym p.zeros) ∙ take-append-drop len bytes

@@ -1,5 +1,6 @@
 ghost use Rattle.std.specs.Prelude.{◌≡◌, ◌↔◌, ◌<◌, ◌≤◌, [], ◌∷◌, ◌++◌, length, IsTrue, IsNone, IfNone, IfSome, IfOk};
 ghost use Rattle.std.specs.Bool.{OnTrue, OnFalse};
+ghost use Rattle.nit_events.specs.Ranges.{most_waiting};
 
 use crate::event::Event;
 use circular_buffer::HeapCircularBuffer;
@@ -17,14 +18,15 @@ pub struct Queue {
 }
 
 impl Model for Queue {
-    ghost use Rattle.std.specs.Prelude.{◌≡◌, ◌≤◌, List, length};
+    ghost use Rattle.std.specs.Prelude.{List, length};
     ghost use Rattle.nit_events.specs.declared.event.Event.{Event};
+    ghost use Rattle.nit_events.specs.Ranges.{IsQueue};
 
     ghost Value = { List Event };
 
     ghost view = { λ q. q.events.items };
 
-    ghost invariant = { λ q. (q.events.capacity ≡ 64) × (length q.events.items ≤ 64) };
+    ghost invariant = { λ q. IsQueue q.events.capacity (length q.events.items) };
 }
 
 impl Queue {
@@ -38,9 +40,9 @@ impl Queue {
 
     /// Puts the event behind all others. False exactly where 64 wait already; the queue is then unchanged.
     pub fn offer(&mut self, e: Event) -> bool
-        ensures room { IsTrue result ↔ (length self.old < 64) }
+        ensures room { IsTrue result ↔ (length self.old < most_waiting) }
         ensures last { OnTrue result (self.new ≡ self.old ++ e ∷ []) }
-        ensures full { OnFalse result ((length self.old ≡ 64) × (self.new ≡ self.old)) }
+        ensures full { OnFalse result ((length self.old ≡ most_waiting) × (self.new ≡ self.old)) }
     {
         self.events.try_push_back(e).is_ok()
     }
@@ -57,7 +59,7 @@ impl Queue {
     /// How many events wait.
     pub fn len(&self) -> u32
         ensures value { result ≡ length self.now }
-        ensures most { result ≤ 64 }
+        ensures most { result ≤ most_waiting }
     {
         self.events.len() as u32
     }

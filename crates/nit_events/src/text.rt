@@ -10,13 +10,13 @@ const MOST: usize = 40;
 /// Up to 40 bytes of printable ASCII, 0x20..=0x7E, seen as their list.
 #[derive(Clone, Copy, Debug, PartialEq, Eq)]
 pub struct Text {
-    bytes: [u8; 40],
+    bytes: [u8; MOST],
     len: u8,
 }
 
 impl Model for Text {
-    ghost use Rattle.std.specs.Prelude.{◌≡◌, ℕ, ◌-◌, ◌++◌, List, length, take, drop, replicate, true};
-    ghost use Rattle.nit_events.specs.Texts.{is_text, IsPadded, bytes_again, length_again};
+    ghost use Rattle.std.specs.Prelude.{◌≡◌, ℕ, List, length, take, drop, true};
+    ghost use Rattle.nit_events.specs.Texts.{is_text, IsPadded, bytes_again, filled, length_again};
 
     ghost Value = { List ℕ };
 
@@ -24,7 +24,7 @@ impl Model for Text {
 
     ghost invariant = { λ t. IsPadded t.bytes t.len × (is_text (take t.len t.bytes) ≡ true) };
 
-    ghost inverse = { λ s. record { bytes = s ++ replicate (40 - length s) 0; len = length s } };
+    ghost inverse = { λ s. record { bytes = filled s; len = length s } };
 
     ghost inverse_ok = { λ t h i. record {
       bytes = bytes_again t.bytes t.len h.0 i;
@@ -41,7 +41,7 @@ impl Text {
         if !is_text(bytes) {
             return None;
         }
-        let mut kept = [0u8; 40];
+        let mut kept = [0u8; MOST];
         kept[..bytes.len()].copy_from_slice(bytes);
         Some(Text {
             bytes: kept,

@@ -3,6 +3,7 @@ use Rattle.std.specs.Prelude.{◌≡◌, ℕ, ◌<◌, ◌≤◌, pos, Bool, tru
 use Rattle.nit_rect.specs.declared.point.Point.{Point}
 use Rattle.nit_events.specs.declared.device.Device.{Device}
 use Rattle.nit_events.specs.Input.{InputState, Routing, first_input, pointer_after, routing}
+use Rattle.nit_rect.specs.Limits.{most_sessions, most_width, most_height}
 
 -- the state of the user's input; the screen's size; and for each of 16 sessions whether a click on it moves the
 -- focus
@@ -15,7 +16,12 @@ pub record Focusing : Type 0 where
 -- before the user has done anything; a click on any session moves the focus
 abbrev pub first_focusing : ℕ → ℕ → Focusing
 first_focusing width height =
-    record { input = first_input; width = width; height = height; clicks = replicate 16 true }
+    record {
+      input = first_input;
+      width = width;
+      height = height;
+      clicks = replicate most_sessions true;
+    }
 
 -- by this list, a click on the pointed session moves the focus
 abbrev pub clicks_on_list : List Bool → Option ℕ → Bool
@@ -43,10 +49,10 @@ pub record AllOfInput (P : ℕ → Type 0) (i : InputState) : Type 0 where
 -- the screen has a size that is allowed, the pointer is on it, and each session is one of 16
 pub record IsFocusing (f : Focusing) : Type 0 where
   pub narrowest : 1 ≤ f.width
-  pub widest : f.width ≤ 1024
+  pub widest : f.width ≤ most_width
   pub lowest : 1 ≤ f.height
-  pub highest : f.height ≤ 768
+  pub highest : f.height ≤ most_height
   pub column : f.input.x < f.width
   pub row : f.input.y < f.height
-  pub settings : length f.clicks ≡ 16
-  pub sessions : AllOfInput (λ s. s < 16) f.input
+  pub settings : length f.clicks ≡ most_sessions
+  pub sessions : AllOfInput (λ s. s < most_sessions) f.input

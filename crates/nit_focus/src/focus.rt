@@ -5,14 +5,12 @@ ghost use Rattle.nit_events.specs.Input as input;
 ghost use Rattle.nit_events.specs.Ranges.{IsDevice};
 ghost use Rattle.nit_focus.specs.Focusing.{first_focusing, clicks_on_list, moved, pointer, route, AllOfInput};
 ghost use Rattle.nit_focus.specs.Reach.{IsWithinReach, IsItem, HasForgotten, IsForgottenIfKilled};
+ghost use Rattle.nit_rect.specs.Limits.{most_width, most_height, most_sessions};
 
 use crate::state::State;
 use nit_events::{Device, Mode, Routed};
-use nit_rect::Point;
+use nit_rect::{MOST_SESSIONS, Point};
 use std::marker::Model;
-
-/// How many sessions there are at most.
-const SESSIONS: usize = 16;
 
 /// Where the user's input goes. It is seen as the state of the input beside the screen's size and, for each of 16
 /// sessions, whether a click on it moves the focus.
@@ -20,7 +18,7 @@ const SESSIONS: usize = 16;
 pub struct Focus {
     width: u16,
     height: u16,
-    clicks: [bool; SESSIONS],
+    clicks: [bool; MOST_SESSIONS],
     state: State,
 }
 
@@ -45,22 +43,22 @@ impl Focus {
     /// the focus. It takes no memory.
     pub fn new(width: u32, height: u32) -> Focus
         requires narrowest { 1 ≤ width }
-        requires widest { width ≤ 1024 }
+        requires widest { width ≤ most_width }
         requires lowest { 1 ≤ height }
-        requires highest { height ≤ 768 }
+        requires highest { height ≤ most_height }
         ensures { result ≡ first_focusing width height }
     {
         Focus {
             width: width as u16,
             height: height as u16,
-            clicks: [true; SESSIONS],
+            clicks: [true; MOST_SESSIONS],
             state: State::first(),
         }
     }
 
     /// From now on a click on this session, which is below 16, does not move the focus.
     pub fn no_click(&mut self, sid: u32)
-        requires { sid < 16 }
+        requires { sid < most_sessions }
         ensures { self.new ≡ record self.old { clicks = slice_set self.old.clicks sid false } }
     {
         self.clicks[sid as usize] = false;
@@ -85,14 +83,14 @@ impl Focus {
     /// or are pointed. Who is one of the three afterwards is among these too, and was not killed.
     pub fn input(&mut self, dev: Device, pointed: Option<u32>) -> Routed
         requires device { IsDevice dev }
-        requires known { IfSome pointed (λ s. s < 16) }
+        requires known { IfSome pointed (λ s. s < most_sessions) }
         ensures state { self.new ≡ record self.old { input = (route self.old pointed dev).state } }
         ensures routed { result ≡ input.routed_as (route self.old pointed dev).deliveries }
         ensures all { input.deliveries_of result ≡ (route self.old pointed dev).deliveries }
         ensures few { length (route self.old pointed dev).deliveries ≤ 3 }
         ensures reached { All (λ d. IsWithinReach self.old.input pointed d.sid)
             (input.deliveries_of result) }
-        ensures sessions { All (λ d. d.sid < 16) (input.deliveries_of result) }
+        ensures sessions { All (λ d. d.sid < most_sessions) (input.deliveries_of result) }
         ensures ranges { All (λ d. IsItem self.old.width self.old.height d.item)
             (input.deliveries_of result) }
         ensures kept { AllOfInput (IsWithinReach self.old.input pointed) self.new.input }
@@ -122,7 +120,7 @@ impl Focus {
     /// The focused session, below 16; none where no session has the focus.
     pub fn focus(&self) -> Option<u32>
         ensures focused { result ≡ self.now.input.focus }
-        ensures known { IfSome result (λ s. s < 16) }
+        ensures known { IfSome result (λ s. s < most_sessions) }
     {
         self.state.focus()
     }

@@ -1,7 +1,7 @@
 -- Whoever the input knows, and whoever has a view, is live in every state that a legal journal leads to. So whoever is
 -- told anything is live.
 use Rattle.std.proofs.Common.{◌≡◌, ◌≢◌, ℕ, zero, suc, ◌+◌, ◌<◌, ◌==◌, Bool, true, false, cond, List, [], ◌∷◌, ◌++◌, length, find, set, Option, Some, None, inl, inr, refl, ap, subst, sym, ◌∙◌}
-use Rattle.std.specs.Prelude.{not, nat_lt, IfSome, if◌then◌else◌, All}
+use Rattle.std.specs.Prelude.{not, nat_lt, if◌then◌else◌, All}
 use Rattle.std.specs.List.{insert}
 use Rattle.std.proofs.lemmas.Bool.{eqb-false}
 use Rattle.std.proofs.lemmas.List.{get_or-set_other}

@@ -18,7 +18,7 @@ use Rattle.nit_events.specs.declared.call.Call.TheVariants.{Close}
 use Rattle.nit_events.specs.declared.call.Reply.{Reply}
 use Rattle.nit_events.specs.declared.entry.Entry.{Entry}
 use Rattle.nit_events.specs.declared.entry.Entry.TheVariants as entry
-use Rattle.nit_events.specs.Input.{InputState, Routing, deliveries_of}
+use Rattle.nit_events.specs.Input.{InputState, Routing}
 use Rattle.nit_events.specs.Input
 use Rattle.nit_stack.specs.declared.view.View.{View}
 use Rattle.nit_stack.specs.Sources.{owner, point}

@@ -12,7 +12,9 @@ use Rattle.nit_events.specs.declared.call.Call.TheVariants.{Buffer, View, Place,
 use Rattle.nit_events.specs.declared.call.Reply.{Reply}
 use Rattle.nit_events.specs.declared.call.Reply.TheVariants as reply
 use Rattle.nit_glyph.specs.Texts.{is_title}
-use Rattle.nit_slots.specs.Account.{room, view_need, view_left, buffer_need, buffer_left}
+use Rattle.nit_slots.specs.Account.{room, view_need, view_left, buffer_need, buffer_left, most_views}
+use Rattle.nit_rect.specs.Limits.{most_side}
+use Rattle.nit_events.specs.Ranges.{most_waiting}
 
 -- its donation and reserve in units; whether it is served; the width and height of its buffer; the handle of
 -- its next view; its handles; its queued events; how many events were lost
@@ -68,7 +70,7 @@ by_handle s v = unless (has_view s v) (reply.NoSuchView v)
 
 -- a side of a buffer is 1..=4096
 abbrev pub is_side : ℕ → Bool
-is_side n = nat_le 1 n && nat_le n 4096
+is_side n = nat_le 1 n && nat_le n most_side
 
 -- need is not over what is left of the donation
 abbrev pub by_quota : ℕ → ℕ → Option Reply
@@ -83,7 +85,7 @@ by_call s (Buffer w h) =
     unless (is_side w && is_side h) reply.BadSize
     orelse by_quota (buffer_need w h) (buffer_left s.donation (length s.handles))
 by_call s View =
-    unless (nat_lt (length s.handles) 64) reply.TooManyViews
+    unless (nat_lt (length s.handles) most_views) reply.TooManyViews
     orelse by_quota view_need (view_left s.donation (length s.handles) (s.bw * s.bh))
 by_call s (Place v x y w h) = by_handle s v orelse unless (is_rectangle x y w h) reply.BadRect
 by_call s (Offset v ox oy) = by_handle s v orelse unless (is_place ox && is_place oy) reply.BadRect
@@ -150,7 +152,7 @@ after_calls s calls = fold (λ t call. (serve t call).session) s calls
 -- an event is queued, and lost where 64 are queued
 abbrev pub queued : Event → Session → Session
 queued e s =
-    if nat_lt (length s.queue) 64
+    if nat_lt (length s.queue) most_waiting
     then record s { queue = s.queue ++ e ∷ [] }
     else record s { lost = s.lost + 1 }
 

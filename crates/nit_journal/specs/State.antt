@@ -1,14 +1,16 @@
 -- The state that the entries of a journal lead to.
-use Rattle.std.specs.Prelude.{ℕ, Bool, false, List, [], ◌∷◌, map, slice_index_or, slice_set, Option, Some, None, option_map, if◌then◌else◌}
+use Rattle.std.specs.Prelude.{ℕ, Bool, false, List, [], ◌∷◌, map, slice_index_or, slice_set, Option, Some, None, option_map, if◌then◌else◌, ◌≡◌, ◌⊎◌, true}
 use Rattle.nit_rect.specs.declared.point.Point.{Point}
 use Rattle.nit_events.specs.declared.event.Delivery.{Delivery}
 use Rattle.nit_events.specs.declared.device.Device.{Device}
+use Rattle.nit_events.specs.declared.device.Device.TheVariants as device
+use Rattle.nit_events.specs.declared.device.Mode.TheVariants.{Flat, Xray}
 use Rattle.nit_events.specs.declared.call.Call.{Call}
 use Rattle.nit_events.specs.declared.call.Call.TheVariants.{Close}
 use Rattle.nit_events.specs.declared.call.Reply.{Reply}
 use Rattle.nit_events.specs.declared.entry.Entry.{Entry}
 use Rattle.nit_events.specs.declared.entry.Entry.TheVariants as entry
-use Rattle.nit_events.specs.Input.{InputState, Routing, first_input, forget, pointer_after, routing}
+use Rattle.nit_events.specs.Input.{InputState, Routing, first_input, forget, pointer_after, routing, is_button}
 use Rattle.nit_stack.specs.declared.view.View.{View}
 use Rattle.nit_stack.specs.Sources.{Size, PixelSource, point, owner, source}
 use Rattle.nit_config.specs.Configuration.{Configuration, bar_rows, member}
@@ -52,6 +54,15 @@ buffer_size sessions sid =
 -- the view that owns a pixel, and where the pixel's word comes from
 abbrev pub owner_of : State → Point → Option View
 owner_of s p = owner (bar_rows s.config) s.stack p
+
+-- The user presses a button on a pixel of this session, in mode Flat or Xray, and the session takes the focus by
+-- clicks.
+abbrev pub IsClickOn : State → Device → ℕ → Type 0
+IsClickOn s dev x =
+    (k : ℕ) × (dev ≡ device.Press k) × (is_button k ≡ true)
+    × ((s.input.mode ≡ Flat) ⊎ (s.input.mode ≡ Xray))
+    × (option_map (λ v. v.sid) (owner_of s (point s.input.x s.input.y)) ≡ Some x)
+    × ((member s.config x).clicks ≡ true)
 
 abbrev pub source_of : State → Point → PixelSource
 source_of s p = source (buffer_size s.sessions) (bar_rows s.config) s.stack p

@@ -1,6 +1,6 @@
 //! Laws of journals, over plain lists.
 
-ghost use Rattle.std.specs.Prelude.{All, ◌≡◌, ◌≢◌, ◌+◌, ◌++◌, ◌∷◌, [], ℕ, List, length, ◌<◌, ◌⊎◌, true, map, Some, None, option_map};
+ghost use Rattle.std.specs.Prelude.{All, ◌≡◌, ◌≢◌, ◌+◌, ◌++◌, ◌∷◌, [], ℕ, List, length, ◌<◌, ◌⊎◌, true, map, Some, None};
 ghost use Rattle.nit_events.specs.declared.call.Call.{Call};
 ghost use Rattle.nit_events.specs.declared.call.Call.TheVariants.{Take, Close};
 ghost use Rattle.nit_events.specs.declared.call.Reply.{Reply};
@@ -10,18 +10,15 @@ ghost use Rattle.nit_events.specs.declared.event.Event.TheVariants as event;
 ghost use Rattle.nit_events.specs.declared.event.Item.TheVariants as item;
 ghost use Rattle.nit_events.specs.declared.event.Routed.{Routed};
 ghost use Rattle.nit_events.specs.declared.device.Device.{Device};
-ghost use Rattle.nit_events.specs.declared.device.Device.TheVariants as device;
-ghost use Rattle.nit_events.specs.declared.device.Mode.TheVariants.{Flat, Xray};
 ghost use Rattle.nit_events.specs.declared.event.Status.TheVariants as status;
 ghost use Rattle.nit_events.specs.declared.entry.Entry.{Entry};
 ghost use Rattle.nit_events.specs.declared.entry.Entry.TheVariants as entry;
-ghost use Rattle.nit_events.specs.Input.{InputState, is_button, deliveries_of};
+ghost use Rattle.nit_events.specs.Input.{InputState, deliveries_of};
 ghost use Rattle.nit_stack.specs.declared.view.View.{View};
-ghost use Rattle.nit_stack.specs.Sources.{point};
-ghost use Rattle.nit_config.specs.Configuration.{Configuration, donation_of, member};
+ghost use Rattle.nit_config.specs.Configuration.{Configuration, donation_of};
 ghost use Rattle.nit_journal.specs.Session.{serve};
 ghost use Rattle.nit_journal.specs.Views.{is_accepted};
-ghost use Rattle.nit_journal.specs.State.{State, session, owner_of, route, after};
+ghost use Rattle.nit_journal.specs.State.{State, session, route, after, IsClickOn};
 ghost use Rattle.nit_journal.specs.Journals.{replay_from, replay, LegalFrom, IsLegal, Agrees, IsOpen, shots};
 ghost use Rattle.nit_journal.specs.Presses.{IsDown};
 ghost use Rattle.nit_journal.specs.Projections.{Gets, Moment, projection, replies_to, alone, alone_machine, own_machine};
@@ -192,9 +189,5 @@ pub fn focus_is_the_users()
         → (after s (entry.Call sid Close r)).input.focus ≡ None }
     ensures clicks { (s : State) (dev : Device) (routed : Routed) (x : ℕ)
         → (after s (entry.Input dev routed)).input.focus ≡ Some x
-        → (s.input.focus ≡ Some x)
-        ⊎ ((k : ℕ) × (dev ≡ device.Press k) × (is_button k ≡ true)
-        × ((s.input.mode ≡ Flat) ⊎ (s.input.mode ≡ Xray))
-        × (option_map (λ v. v.sid) (owner_of s (point s.input.x s.input.y)) ≡ Some x)
-        × ((member s.config x).clicks ≡ true)) }
+        → (s.input.focus ≡ Some x) ⊎ IsClickOn s dev x }
 {}

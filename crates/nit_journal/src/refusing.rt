@@ -3,19 +3,13 @@
 ghost use Rattle.std.specs.Prelude.{◌≡◌, ◌&&◌, nat_lt};
 ghost use Rattle.nit_rect.specs.Rectangle.{is_place, is_rectangle};
 ghost use Rattle.nit_glyph.specs.Texts.{is_title};
-ghost use Rattle.nit_slots.specs.Account.{view_need, view_left, buffer_need, buffer_left};
+ghost use Rattle.nit_slots.specs.Account.{view_need, view_left, buffer_need, buffer_left, most_views};
 ghost use Rattle.nit_journal.specs.Session.{◌orelse◌, unless, by_status, is_side, by_quota, by_reserve};
 
 use nit_events::{Reply, Status, Text};
 use nit_glyph::is_title;
-use nit_rect::Rect;
-use nit_slots::Account;
-
-/// The most views that a session may have.
-const MOST_VIEWS: u32 = 64;
-
-/// The longest side of a buffer, in words.
-const LONGEST_SIDE: u32 = 4096;
+use nit_rect::{MOST_SIDE, Rect};
+use nit_slots::{Account, MOST_VIEWS};
 
 /// The first of two refusals.
 pub fn first_of(first: Option<Reply>, second: Option<Reply>) -> Option<Reply>
@@ -54,7 +48,7 @@ pub fn by_buffer(mut account: Account, w: u32, h: u32) -> Option<Reply>
 
 /// There are fewer than 64 views, and the donation pays for one more.
 pub fn by_view(mut account: Account) -> Option<Reply>
-    ensures { result ≡ unless (nat_lt account.views 64) Reply.TooManyViews
+    ensures { result ≡ unless (nat_lt account.views most_views) Reply.TooManyViews
         orelse by_quota view_need (view_left account.donation account.views account.words) }
 {
     if account.views() >= MOST_VIEWS {
@@ -119,7 +113,7 @@ pub fn by_title(text: &Text) -> Option<Reply>
 fn is_side(n: u32) -> bool
     ensures { result ≡ is_side n }
 {
-    1 <= n && n <= LONGEST_SIDE
+    1 <= n && n <= MOST_SIDE
 }
 
 /// Whether z is in the range of a place.

@@ -4,6 +4,10 @@ use mathlib.Core.List.{IsPrefix}
 use Rattle.atomic_table.specs.Seated.{TableId}
 use Rattle.nit_events.specs.declared.entry.Entry.{Entry}
 
+-- shares of one book
+abbrev pub most_shares : ℕ
+most_shares = 64
+
 -- which book it is
 abbrev pub BookName : Type 0
 BookName = TableId

@@ -1,6 +1,6 @@
 //! A book, and what its shares do at it.
 ghost use Rattle.std.specs.Prelude.{◌≡◌, ◌+◌, ◌<◌, [], ◌∷◌, ◌++◌, length, IfOk};
-ghost use Rattle.nit_ledger.specs.Books.{raised, raised_by, IsShareOf};
+ghost use Rattle.nit_ledger.specs.Books.{raised, raised_by, IsShareOf, most_shares};
 
 use crate::share::Share;
 use crate::steps::{Adding, Counting, Deed, Item, Looking};
@@ -44,7 +44,7 @@ impl Book {
     /// A new share, whose number is the number of shares before. It has counted nothing and has seen all
     /// entries. The book has fewer than 64 shares.
     pub fn share(&mut self) -> Share
-        requires { length self.old.counts < 64 }
+        requires { length self.old.counts < most_shares }
         ensures book { self.new ≡ record self.old { counts = self.old.counts ++ 0 ∷ [] } }
         ensures share { result ≡ record {
           name = self.old.name;

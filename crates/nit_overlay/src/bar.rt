@@ -6,6 +6,7 @@ ghost use Rattle.nit_stack.specs.Sources.{point};
 ghost use Rattle.nit_overlay.specs.Looks.{IsLook, scenery};
 ghost use Rattle.nit_overlay.specs.Rows.{IsPainted};
 ghost use Rattle.nit_overlay.specs.Shown.{bar_text, bar_word, mode_word};
+ghost use Rattle.nit_rect.specs.Limits.{most_width};
 
 use crate::look::Look;
 use crate::paint::{Rule, Tag, paint_part};
@@ -51,7 +52,7 @@ pub(crate) fn overlay_bar(look: &Look, y: u32, from: u32, to: u32, raw: &[u32], 
     requires words { All IsWord raw.now }
     requires in_order { from ≤ to }
     requires within { to ≤ length raw.now }
-    requires across { to ≤ 1024 }
+    requires across { to ≤ most_width }
     requires down { y < 7 }
     ensures { IsPainted (λ x w. bar_word (scenery look.now) (point x y))
         raw.now out.old out.new from to }

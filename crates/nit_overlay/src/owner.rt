@@ -6,6 +6,7 @@ ghost use Rattle.nit_stack.specs.Sources.{in_bar, owner, point};
 ghost use Rattle.nit_stack.specs.Names.{views_of};
 ghost use Rattle.nit_overlay.specs.Looks.{IsLook, scenery};
 ghost use Rattle.nit_overlay.specs.Owners.{IsOwner};
+ghost use Rattle.nit_rect.specs.Limits.{most_width, most_height};
 
 use crate::look::Look;
 use crate::span::reach;
@@ -59,8 +60,8 @@ fn owner_at(look: &Look, i: u32, v: ViewRef, view: View) -> Owner
 pub(crate) fn piece_at(look: &Look, x: u32, y: u32, to: u32) -> Piece
     requires look { IsLook look.now }
     requires before { x < to }
-    requires across { to ≤ 1024 }
-    requires down { y ≤ 768 }
+    requires across { to ≤ most_width }
+    requires down { y ≤ most_height }
     requires below { look.now.stack.now.bar ≤ y }
     ensures after { x < result.end }
     ensures within { result.end ≤ to }

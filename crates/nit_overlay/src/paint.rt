@@ -4,6 +4,7 @@ ghost use Rattle.std.specs.Prelude.{◌≡◌, ℕ, ◌+◌, ◌<◌, ◌≤◌,
 ghost use Rattle.nit_word.specs.Inks.{IsWord};
 ghost use Rattle.nit_overlay.specs.Rows.{IsPainted};
 ghost use Rattle.nit_overlay.specs.Rules.{word_by, IsInTag, IsTagged};
+ghost use Rattle.nit_rect.specs.Limits.{most_width};
 
 use nit_glyph::{LabelText, label_bit};
 use nit_word::{dim_row, tint_row};
@@ -37,7 +38,7 @@ pub(crate) fn paint_part(rule: Rule, raw: &[u32], out: &mut [u32], from: u32, to
     requires words { All IsWord raw.now }
     requires in_order { from ≤ to }
     requires within { to ≤ length raw.now }
-    requires across { to ≤ 1024 }
+    requires across { to ≤ most_width }
     requires tagged { IsTagged rule from to y }
     ensures { IsPainted (λ x w. word_by rule x y w) raw.now out.old out.new from to }
 {
@@ -50,7 +51,7 @@ fn paint(rule: Rule, raw: &[u32], out: &mut [u32], x: u32, y: u32)
     requires same_length { length out.old ≡ length raw.now }
     requires words { All IsWord raw.now }
     requires tagged { IsTagged rule x (x + length raw.now) y }
-    requires across { x + length raw.now ≤ 1024 }
+    requires across { x + length raw.now ≤ most_width }
     ensures { (k : ℕ) → k < length raw.now
         → slice_index out.new k ≡ word_by rule (x + k) y (slice_index raw.now k) }
 {
@@ -72,7 +73,7 @@ fn paint(rule: Rule, raw: &[u32], out: &mut [u32], x: u32, y: u32)
 /// Paints `out`, which are pixels of the row y from the column x on, all in the picture of the text.
 fn paint_text(tag: &Tag, out: &mut [u32], x: u32, y: u32)
     requires tagged { IsInTag tag.now x (x + length out.old) y }
-    requires across { x + length out.old ≤ 1024 }
+    requires across { x + length out.old ≤ most_width }
     ensures { (k : ℕ) → k < length out.old
         → slice_index out.new k ≡ word_by (Rule.Text tag.now) (x + k) y 0 }
 {

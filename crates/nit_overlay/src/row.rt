@@ -10,6 +10,7 @@ ghost use Rattle.nit_overlay.specs.Rows.{IsPainted};
 ghost use Rattle.nit_overlay.specs.Rules.{word_by};
 ghost use Rattle.nit_overlay.specs.Shown.{owner_word, shown};
 ghost use Rattle.nit_overlay.specs.Stripes.{IsMet, stripe_rule};
+ghost use Rattle.nit_rect.specs.Limits.{most_width, most_height};
 
 use crate::bar::overlay_bar;
 use crate::look::Look;
@@ -25,7 +26,7 @@ fn overlay_stripe(stripe: &Stripe, y: u32, from: u32, to: u32, raw: &[u32], out:
     requires words { All IsWord raw.now }
     requires in_order { from ≤ to }
     requires within { to ≤ length raw.now }
-    requires across { to ≤ 1024 }
+    requires across { to ≤ most_width }
     ensures { IsPainted (λ x w. word_by (stripe_rule stripe.now x) x y w) raw.now out.old out.new
         from to }
 {
@@ -52,8 +53,8 @@ fn overlay_owned(
     requires words { All IsWord raw.now }
     requires in_order { from ≤ to }
     requires within { to ≤ length raw.now }
-    requires across { to ≤ 1024 }
-    requires down { y ≤ 768 }
+    requires across { to ≤ most_width }
+    requires down { y ≤ most_height }
     ensures { IsPainted
         (λ x w. owner_word (scenery look.now) (point x y) w (option_map (λ o. o.view) owner))
         raw.now out.old out.new from to }
@@ -74,8 +75,8 @@ fn overlay_below(look: &Look, y: u32, from: u32, to: u32, raw: &[u32], out: &mut
     requires words { All IsWord raw.now }
     requires in_order { from ≤ to }
     requires within { to ≤ length raw.now }
-    requires across { to ≤ 1024 }
-    requires down { y ≤ 768 }
+    requires across { to ≤ most_width }
+    requires down { y ≤ most_height }
     requires below { look.now.stack.now.bar ≤ y }
     ensures { IsPainted (λ x w. shown (scenery look.now) (point x y) w)
         raw.now out.old out.new from to }
@@ -95,8 +96,8 @@ pub(crate) fn overlay_row(look: &Look, y: u32, from: u32, to: u32, raw: &[u32], 
     requires words { All IsWord raw.now }
     requires in_order { from ≤ to }
     requires within { to ≤ length raw.now }
-    requires across { to ≤ 1024 }
-    requires down { y ≤ 768 }
+    requires across { to ≤ most_width }
+    requires down { y ≤ most_height }
     ensures { IsPainted (λ x w. shown (scenery look.now) (point x y) w)
         raw.now out.old out.new from to }
 {

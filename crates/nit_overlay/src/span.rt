@@ -5,6 +5,7 @@ ghost use Rattle.std.specs.Ordering.{int_eq};
 ghost use Rattle.nit_rect.specs.Rectangle.{IsPlace, spans, covers};
 ghost use Rattle.nit_stack.specs.Sources.{point};
 ghost use Rattle.nit_overlay.specs.Spans.{moved_of, has, has_at_end};
+ghost use Rattle.nit_rect.specs.Limits.{most_width, most_length, most_edge, most_height};
 
 use nit_rect::Rect;
 
@@ -21,7 +22,7 @@ pub(crate) struct Span {
 impl Span {
     /// Whether this column or row of the screen is one of them.
     fn has(&self, at: u32) -> bool
-        requires { at ≤ 1024 }
+        requires { at ≤ most_width }
         ensures { result ≡ has self.now at }
     {
         self.from <= at + SHIFT && at + SHIFT < self.to
@@ -29,7 +30,7 @@ impl Span {
 
     /// Whether this column or row of the screen is the first or the last one.
     pub fn has_at_end(&self, at: u32) -> bool
-        requires { at ≤ 1024 }
+        requires { at ≤ most_width }
         ensures { result ≡ has_at_end self.now at }
     {
         at + SHIFT == self.from || at + SHIFT + 1 == self.to
@@ -37,8 +38,8 @@ impl Span {
 }
 
 fn moved(z: i32) -> u32
-    requires from { negsuc 32767 ≤ℤ z }
-    requires to { z ≤ℤ pos 65535 }
+    requires from { negsuc most_length ≤ℤ z }
+    requires to { z ≤ℤ pos most_edge }
     ensures { result ≡ moved_of z }
 {
     (z + 32768) as u32
@@ -46,7 +47,7 @@ fn moved(z: i32) -> u32
 
 fn moved_ends(from: i32, long: u32) -> Span
     requires place { IsPlace from }
-    requires length { long ≤ 32767 }
+    requires length { long ≤ most_length }
     ensures from { result.from ≡ moved_of from }
     ensures to { result.to ≡ moved_of (from +ℤ pos long) }
 {
@@ -59,7 +60,7 @@ fn moved_ends(from: i32, long: u32) -> Span
 /// The `long` places from `from` on.
 pub(crate) fn span_of(from: i32, long: u32) -> Span
     requires place { IsPlace from }
-    requires length { long ≤ 32767 }
+    requires length { long ≤ most_length }
     ensures within { (at : ℕ) → has result at ≡ spans from long (pos at) }
     ensures first { (at : ℕ) → ((at + 32768) == result.from) ≡ int_eq (pos at) from }
     ensures last { (at : ℕ)
@@ -71,7 +72,7 @@ pub(crate) fn span_of(from: i32, long: u32) -> Span
 /// The cut, a moved column, as a column of the screen where it lies between x and `to`, and `to` elsewhere.
 pub(crate) fn up_to(x: u32, to: u32, cut: u32) -> u32
     requires before { x < to }
-    requires across { to ≤ 1024 }
+    requires across { to ≤ most_width }
     ensures after { x < result }
     ensures within { result ≤ to }
     ensures uncut { x + 32768 < cut → result + 32768 ≤ cut }
@@ -87,8 +88,8 @@ pub(crate) fn up_to(x: u32, to: u32, cut: u32) -> u32
 /// to the right.
 pub(crate) fn reach(rect: &Rect, x: u32, y: u32, to: u32) -> (bool, u32)
     requires before { x < to }
-    requires across { to ≤ 1024 }
-    requires down { y ≤ 768 }
+    requires across { to ≤ most_width }
+    requires down { y ≤ most_height }
     ensures after { x < result.1 }
     ensures within { result.1 ≤ to }
     ensures same { (z : ℕ) → x ≤ z → z < result.1 → covers rect.now (point z y) ≡ result.0 }

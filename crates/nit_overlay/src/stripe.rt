@@ -11,6 +11,7 @@ ghost use Rattle.nit_overlay.specs.Rules.{word_by, IsTagged};
 ghost use Rattle.nit_overlay.specs.Shown.{by_label, place_of, view_text, view_word, is_on_ring};
 ghost use Rattle.nit_overlay.specs.Spans.{has_at_end};
 ghost use Rattle.nit_overlay.specs.Stripes.{IsMet, in_tag, mode_rule, stripe_rule, tag_rule};
+ghost use Rattle.nit_rect.specs.Limits.{most_height, most_width};
 
 use crate::look::Look;
 use crate::owner::Owner;
@@ -98,7 +99,7 @@ fn tag_at(look: &Look, owner: &Owner, y: u32) -> Option<Tag>
 
 /// Whether a row is the first or the last one of a rectangle, and the rectangle's columns.
 fn ring_at(rect: &Rect, y: u32) -> (bool, Span)
-    requires { y ≤ 768 }
+    requires { y ≤ most_height }
     ensures { (x : ℕ) → (has_at_end result.1 x || result.0) ≡ is_on_ring rect.now (point x y) }
 {
     let rows = span_of(rect.y(), rect.h());
@@ -109,7 +110,7 @@ fn ring_at(rect: &Rect, y: u32) -> (bool, Span)
 /// The row y of a view.
 pub(crate) fn stripe_at(look: &Look, owner: &Owner, y: u32) -> Stripe
     requires owner { IsOwner look.now owner.now }
-    requires down { y ≤ 768 }
+    requires down { y ≤ most_height }
     ensures words { (x w : ℕ) → word_by (stripe_rule result x) x y w
         ≡ view_word look.now.mode (scenery look.now) owner.now.view (point x y) w }
     ensures met { IfSome result.tag (IsMet y) }
@@ -143,7 +144,7 @@ fn mode_rule(mode: Mode, is_ring: bool, is_focused: bool) -> Rule
 /// column x does.
 fn side_end(columns: Span, x: u32, to: u32) -> u32
     requires before { x < to }
-    requires across { to ≤ 1024 }
+    requires across { to ≤ most_width }
     ensures after { x < result }
     ensures within { result ≤ to }
     ensures same { (z : ℕ) → x ≤ z → z < result → has_at_end columns z ≡ has_at_end columns x }
@@ -158,7 +159,7 @@ fn side_end(columns: Span, x: u32, to: u32) -> u32
 /// The rule of the pixel in column x outside the label, and how far to the right it is the rule.
 fn run_outside(stripe: &Stripe, x: u32, to: u32) -> Run
     requires before { x < to }
-    requires across { to ≤ 1024 }
+    requires across { to ≤ most_width }
     ensures after { x < result.end }
     ensures within { result.end ≤ to }
     ensures same { (z : ℕ) → x ≤ z → z < result.end
@@ -179,7 +180,7 @@ fn run_outside(stripe: &Stripe, x: u32, to: u32) -> Run
 /// The rule of the pixel in column x of the row y, and how far to the right it is the rule.
 pub(crate) fn run_at(stripe: &Stripe, x: u32, y: u32, to: u32) -> Run
     requires before { x < to }
-    requires across { to ≤ 1024 }
+    requires across { to ≤ most_width }
     requires met { IfSome stripe.now.tag (IsMet y) }
     ensures after { x < result.end }
     ensures within { result.end ≤ to }

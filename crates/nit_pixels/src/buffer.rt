@@ -3,6 +3,7 @@ ghost use Rattle.std.specs.Prelude.{◌≡◌, ◌≤◌, All, IfOk};
 ghost use Rattle.nit_word.specs.Inks.{IsWord};
 ghost use Rattle.nit_word.specs.Zeros.{zeros};
 ghost use Rattle.nit_pixels.specs.Ends.{new_sight};
+ghost use Rattle.nit_rect.specs.Limits.{most_words};
 
 use crate::canvas::Canvas;
 use crate::steps::{Identity, PixelRule, PixelView};
@@ -54,7 +55,7 @@ impl PixelBuffer {
         words: u32,
         ink: &[u32],
     ) -> Result<(PixelBuffer, Key), NoMemory>
-        requires words { (1 ≤ words) × (words ≤ 1048576) }
+        requires words { (1 ≤ words) × (words ≤ most_words) }
         requires ink { All IsWord ink.now }
         ensures sight { IfOk result (λ made. made.1.sight ≡ new_sight owner words ink.now) }
         ensures key { IfOk result (λ made. made.1.stand.buffer ≡ made.0) }
@@ -84,7 +85,7 @@ impl PixelBuffer {
 /// So many words that are 0.
 #[tactic(auto, unfolding(nit_word::specs::Zeros::zeros))]
 fn zero_words(alloc: Global, count: usize) -> Result<Vec<u64>, NoMemory>
-    requires { count ≤ 1048576 }
+    requires { count ≤ most_words }
     ensures { IfOk result (λ v. v.items ≡ zeros count) }
 {
     Ok(vec![in alloc; 0u64; count]?)

@@ -5,6 +5,7 @@ use Rattle.nit_stack.specs.Sources.{point}
 use Rattle.nit_place.specs.declared.part.Part.{Part}
 use Rattle.nit_place.specs.declared.search.Row.{Row}
 use Rattle.nit_place.specs.declared.search.Row.TheVariants.{Free, Full}
+use Rattle.nit_rect.specs.Limits.{most_edge}
 
 -- the part shares a pixel with the rectangle of w by h at (x, y)
 abbrev pub meets : ℕ → ℕ → ℕ → ℕ → Part → Bool
@@ -28,8 +29,8 @@ IsEdge front n edge at = (k : ℕ) × (k < n) × (0 < at) × (at ≡ edge (front
 abbrev pub IsBlocking : (ℕ → Part) → ℕ → ℕ → ℕ → ℕ → ℕ → Option Part → Type 0
 IsBlocking front n x y w h None = (k : ℕ) → k < n → meets x y w h (front k) ≡ false
 IsBlocking front n x y w h (Some r) =
-    (k : ℕ) × (k < n) × (r ≡ front k) × (meets x y w h r ≡ true) × (r.right ≤ 65535)
-    × (r.bottom ≤ 65535)
+    (k : ℕ) × (k < n) × (r ≡ front k) × (meets x y w h r ≡ true) × (r.right ≤ most_edge)
+    × (r.bottom ≤ most_edge)
 
 -- whichever part has its right edge further right
 abbrev pub further : Option Part → Part → Part
@@ -43,7 +44,7 @@ nearer (Some a) b = min a b
 
 -- the least column of the row y at which the rectangle is free
 pub record IsLeastInRow (front : ℕ → Part) (n : ℕ) (area : Part) (w h y x : ℕ) : Type 0 where
-  pub small : x ≤ 65535
+  pub small : x ≤ most_edge
   pub free : IsFree front n area w h x y
   pub least : (x' : ℕ) → x' < x → IsFree front n area w h x' y → ⊥
   pub column : (x ≡ area.left) ⊎ IsEdge front n (λ r. r.right) x
@@ -53,7 +54,7 @@ pub record IsLeastInRow (front : ℕ → Part) (n : ℕ) (area : Part) (w h y x 
 pub record IsFull (front : ℕ → Part) (n : ℕ) (area : Part) (w h y : ℕ) (next : Option ℕ)
     : Type 0 where
   pub none : (x' y' : ℕ) → y ≤ y' → IfSome next (λ b. y' < b) → IsFree front n area w h x' y' → ⊥
-  pub edge : IfSome next (λ b. (y < b) × (b ≤ 65535) × IsEdge front n (λ r. r.bottom) b)
+  pub edge : IfSome next (λ b. (y < b) × (b ≤ most_edge) × IsEdge front n (λ r. r.bottom) b)
 
 -- what a row has for the rectangle
 abbrev pub IsRowSearched : (ℕ → Part) → ℕ → Part → ℕ → ℕ → ℕ → Row → Type 0

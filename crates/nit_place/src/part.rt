@@ -5,6 +5,7 @@ ghost use Rattle.nit_stack.specs.Names.{views_of};
 ghost use Rattle.nit_place.specs.Edges.{on_screen};
 ghost use Rattle.nit_place.specs.Free.{meets};
 ghost use Rattle.nit_place.specs.Parts.{part_at, part_of};
+ghost use Rattle.nit_rect.specs.Limits.{most_edge};
 
 use nit_rect::Rect;
 use nit_stack::Stack;
@@ -22,10 +23,10 @@ impl Part {
     /// What of a rectangle has columns and rows from 0 on.
     pub(crate) fn of(r: Rect) -> Part
         ensures part { result ≡ part_of r }
-        ensures left { result.left ≤ 65535 }
-        ensures top { result.top ≤ 65535 }
-        ensures right { result.right ≤ 65535 }
-        ensures bottom { result.bottom ≤ 65535 }
+        ensures left { result.left ≤ most_edge }
+        ensures top { result.top ≤ most_edge }
+        ensures right { result.right ≤ most_edge }
+        ensures bottom { result.bottom ≤ most_edge }
     {
         Part {
             left: on_screen(r.x()),
@@ -39,8 +40,8 @@ impl Part {
     pub(crate) fn at(stack: &Stack, i: u32) -> Part
         requires { i < length stack.now.views }
         ensures part { result ≡ part_at (views_of stack.now.views) i }
-        ensures right { result.right ≤ 65535 }
-        ensures bottom { result.bottom ≤ 65535 }
+        ensures right { result.right ≤ most_edge }
+        ensures bottom { result.bottom ≤ most_edge }
     {
         let view = stack.view(stack.at(i));
         Part::of(view.rect)
@@ -61,9 +62,9 @@ impl Part {
 
 /// A column or row of the screen. 0 where it is left of the screen or above it.
 fn on_screen(at: i32) -> u32
-    requires { at ≤ℤ pos 65535 }
+    requires { at ≤ℤ pos most_edge }
     ensures place { result ≡ on_screen at }
-    ensures range { result ≤ 65535 }
+    ensures range { result ≤ most_edge }
 {
     if at < 0 { 0 } else { at as u32 }
 }

@@ -8,6 +8,7 @@ ghost use Rattle.nit_stack.specs.Sources.{point};
 ghost use Rattle.nit_stack.specs.Standing.{IsStanding, Seat, has, is_slot, seat_in};
 ghost use Rattle.nit_place.specs.Edges.{IsAtEdges, IsWithinScreen};
 ghost use Rattle.nit_place.specs.Parts.{area_of};
+ghost use Rattle.nit_rect.specs.Limits.{most_edge};
 
 use crate::part::Part;
 use crate::search::search;
@@ -38,8 +39,8 @@ fn area(stack: &Stack, v: ViewRef) -> Part
     requires { has v.0 stack.now.views ≡ true }
     ensures area { (s : Seat) → seat_in v.0 stack.now.views ≡ Some s
         → result ≡ area_of stack.now.width stack.now.height stack.now.bar s.view.rect }
-    ensures left { result.left ≤ 65535 }
-    ensures top { result.top ≤ 65535 }
+    ensures left { result.left ≤ most_edge }
+    ensures top { result.top ≤ most_edge }
     ensures right { result.right ≤ stack.now.width }
     ensures bottom { result.bottom ≤ stack.now.height }
 {

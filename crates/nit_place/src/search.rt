@@ -4,6 +4,7 @@ ghost use Rattle.std.specs.Prelude.{◌≡◌, ◌+◌, ◌≤◌, length};
 ghost use Rattle.nit_stack.specs.Names.{views_of};
 ghost use Rattle.nit_place.specs.Free.{IsBlocking, IsRowSearched, IsSearched, further, nearer};
 ghost use Rattle.nit_place.specs.Parts.{part_at};
+ghost use Rattle.nit_rect.specs.Limits.{most_edge};
 
 use crate::part::Part;
 use nit_rect::Point;
@@ -65,7 +66,7 @@ fn blocking(stack: &Stack, front: u32, x: u32, y: u32, w: u32, h: u32) -> Option
 /// is free nowhere.
 fn place_in_row(stack: &Stack, front: u32, area: &Part, w: u32, h: u32, y: u32) -> Row
     requires front { front ≤ length stack.now.views }
-    requires left { area.now.left ≤ 65535 }
+    requires left { area.now.left ≤ most_edge }
     requires from_top { area.now.top ≤ y }
     requires to_bottom { y + h ≤ area.now.bottom }
     requires width { w ≤ 133 }
@@ -88,8 +89,8 @@ fn place_in_row(stack: &Stack, front: u32, area: &Part, w: u32, h: u32, y: u32) 
 /// The least place, by row and then by column, at which the rectangle of `w` by `h` lies free in the area.
 pub(crate) fn search(stack: &Stack, front: u32, area: &Part, w: u32, h: u32) -> Option<Point>
     requires front { front ≤ length stack.now.views }
-    requires left { area.now.left ≤ 65535 }
-    requires top { area.now.top ≤ 65535 }
+    requires left { area.now.left ≤ most_edge }
+    requires top { area.now.top ≤ most_edge }
     requires width { w ≤ 133 }
     requires height { h ≤ 133 }
     ensures { IsSearched (part_at (views_of stack.now.views)) front area.now w h result }

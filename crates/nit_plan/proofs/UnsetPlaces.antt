@@ -1,5 +1,5 @@
 -- The words of places that a line does not set.
-use Rattle.std.proofs.Common.{◌≡◌, ◌∙◌, ℕ, ◌+◌, ◌-◌, ◌*◌, ◌/◌, ◌%◌, ◌≤◌, ◌<◌, ◌&&◌, nat_lt, Bool, true, false, cond, List, length, get_or, drop, refl, sym, ap, arith}
+use Rattle.std.proofs.Common.{◌≡◌, ◌∙◌, ℕ, ◌+◌, ◌-◌, ◌*◌, ◌/◌, ◌%◌, ◌≤◌, ◌&&◌, nat_lt, Bool, true, false, cond, List, length, get_or, drop, refl, sym, ap, arith}
 use mathlib.Core.Logic.{dite}
 use native.Mathlib.Decide.{dec_lt}
 use Rattle.std.specs.Prelude.{Some, slice_index}
@@ -7,7 +7,6 @@ use Rattle.std.specs.List.{slice_get}
 use Rattle.std.proofs.Math.ListN.{get_or-eq_default}
 use Rattle.std.proofs.lemmas.Bool.Decides.{nat_tests}
 use Rattle.std.proofs.lemmas.List.{get_or-append_right, get_or-drop}
-use Rattle.std.proofs.lemmas.Nat.{mod_below}
 use Rattle.nit_word.specs.Zeros.{zeros}
 use Rattle.nit_word.proofs.ForCallers.{word_at, length-zeros, column_and_row}
 use Rattle.nit_events.specs.declared.call.Call.TheVariants.{Buffer}
@@ -19,7 +18,7 @@ use Rattle.nit_plan.specs.Strokes.{is_stroked, place_colour, stroked, cleared}
 use Rattle.nit_plan.specs.Plans.{static, words_after}
 use Rattle.nit_plan.specs.Steps.{accepts, is_set_by, step_of, words_by_step}
 use Rattle.nit_plan.proofs.Lines.{words_next}
-use Rattle.nit_plan.proofs.Places.{row_of, some_column, stroke_set, stroked_long, whole}
+use Rattle.nit_plan.proofs.Places.{stroke_set, stroked_long, whole}
 
 none_stroked : (w h : ℕ) (s : Stroke) (n : ℕ) → (nat_lt (n % w) w && nat_lt (n / w) h && is_stroked s (n % w) (n / w)) ≡ false → whole w h s n ≡ false
 none_stroked w h s n outside =

@@ -1,3 +1,4 @@
--- What other crates cite of rectangles: as sets of pixels, and tests on runs of places.
+-- What other crates cite of rectangles: as sets of pixels, and tests on runs of places; and of steps that may give nothing.
+pub use Rattle.nit_rect.proofs.Options.{bind_some}
 pub use Rattle.nit_rect.proofs.Sets.{IsWithin, covers_none, no_pixels, pixels_of, within}
 pub use Rattle.nit_rect.proofs.Spans.{IsSpanned, and_true, le_tested, same_tests, spans_holds, spans_tells}

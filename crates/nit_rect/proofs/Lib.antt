@@ -1,3 +1,4 @@
 pub mod Spans
 pub mod Sets
+pub mod Options
 pub mod ForCallers

@@ -3,13 +3,14 @@ use Rattle.std.specs.Prelude.{◌≡◌, ℕ, ◌+◌, ℤ, pos, ◌+ℤ◌, ◌
 use Rattle.nit_rect.specs.Rectangle.{Rectangle, spans, covers}
 use Rattle.nit_rect.specs.declared.point.Point.{Point}
 use Rattle.nit_rect.specs.declared.strips.Strips.{Strips}
+use Rattle.nit_rect.specs.Limits.{most_width, most_height}
 
 -- it lies in the box from (0, 0) to below (1024, 768)
 pub record IsScreenRectangle (r : Rectangle) : Type 0 where
   pub left : pos 0 ≤ℤ r.x
   pub top : pos 0 ≤ℤ r.y
-  pub right : (r.x +ℤ pos r.w) ≤ℤ pos 1024
-  pub bottom : (r.y +ℤ pos r.h) ≤ℤ pos 768
+  pub right : (r.x +ℤ pos r.w) ≤ℤ pos most_width
+  pub bottom : (r.y +ℤ pos r.h) ≤ℤ pos most_height
 
 -- how often a rectangle has the pixel: once or not at all
 abbrev pub times : Rectangle → Point → ℕ

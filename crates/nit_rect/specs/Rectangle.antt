@@ -1,6 +1,7 @@
 -- Rectangles as sets of pixels.
 use Rattle.std.specs.Prelude.{ℕ, Bool, ◌&&◌, ℤ, pos, negsuc, ◌+ℤ◌, ◌≤ℤ◌, int_lt, int_le, nat_le}
 use Rattle.nit_rect.specs.declared.point.Point.{Point}
+use Rattle.nit_rect.specs.Limits.{most_length}
 
 -- a left column, a top row, a width and a height
 pub record Rectangle : Type 0 where
@@ -14,14 +15,14 @@ rectangle x y w h = record { x = x; y = y; w = w; h = h }
 
 -- a column or row is -32768..=32767
 abbrev pub is_place : ℤ → Bool
-is_place z = int_le (negsuc 32767) z && int_le z (pos 32767)
+is_place z = int_le (negsuc most_length) z && int_le z (pos most_length)
 
 abbrev pub IsPlace : ℤ → Type 0
-IsPlace z = (negsuc 32767 ≤ℤ z) × (z ≤ℤ pos 32767)
+IsPlace z = (negsuc most_length ≤ℤ z) × (z ≤ℤ pos most_length)
 
 -- a width or height is 0..=32767
 abbrev pub is_length : ℕ → Bool
-is_length n = nat_le n 32767
+is_length n = nat_le n most_length
 
 -- four numbers in the range of a rectangle
 abbrev pub is_rectangle : ℤ → ℤ → ℕ → ℕ → Bool

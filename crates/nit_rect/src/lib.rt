@@ -4,12 +4,14 @@
 //! `x <= px < x + w` and `y <= py < y + h`. Rectangles meet, lie in one another and are cut as these sets.
 #![tactic(auto)]
 
+mod limits;
 mod memory;
 mod point;
 mod rect;
 mod run;
 mod strips;
 
+pub use limits::{LEAST_UNITS, MOST_HEIGHT, MOST_SESSIONS, MOST_SIDE, MOST_UNITS, MOST_WIDTH};
 pub use memory::NoMemory;
 pub use point::Point;
 pub use rect::Rect;

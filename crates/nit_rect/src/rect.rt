@@ -1,11 +1,21 @@
 ghost use Rattle.std.specs.Prelude.{◌≡◌, ◌↔◌, ◌≤◌, ◌*◌, IsTrue, IsSome, IfSome};
 ghost use Rattle.nit_rect.specs.Rectangle.{IsPlace, rectangle, is_rectangle, spans, covers};
 ghost use Rattle.nit_rect.specs.Meeting.{nothing, HasPixels, IsApart, CoversBoth, LiesIn};
+ghost use Rattle.nit_rect.specs.Limits.{most_length};
 
 use crate::point::Point;
 use crate::run::Run;
 use crate::strips::Strips;
 use std::marker::Model;
+
+/// The first column and the first row.
+const FIRST: i32 = -32_768;
+
+/// The last column and the last row.
+const LAST: i32 = 32_767;
+
+/// The greatest width and height.
+const MOST: u32 = 32_767;
 
 /// A rectangle of pixels: its left column, its top row, its width and its height. The place is
 /// -32768..=32767 each way, and the lengths are 0..=32767.
@@ -150,7 +160,7 @@ impl Rect {
     /// The number of columns.
     pub fn w(&self) -> u32
         ensures value { result ≡ self.now.w }
-        ensures range { result ≤ 32767 }
+        ensures range { result ≤ most_length }
     {
         self.w as u32
     }
@@ -158,7 +168,7 @@ impl Rect {
     /// The number of rows.
     pub fn h(&self) -> u32
         ensures value { result ≡ self.now.h }
-        ensures range { result ≤ 32767 }
+        ensures range { result ≤ most_length }
     {
         self.h as u32
     }
@@ -180,7 +190,7 @@ fn of_runs(columns: Run, rows: Run) -> Rect
 fn in_range(x: i32, y: i32, w: u32, h: u32) -> bool
     ensures { result ≡ is_rectangle x y w h }
 {
-    -32768 <= x && x <= 32767 && -32768 <= y && y <= 32767 && w <= 32767 && h <= 32767
+    FIRST <= x && x <= LAST && FIRST <= y && y <= LAST && w <= MOST && h <= MOST
 }
 
 /// Whether `at` is among the `long` places from `from` on.

@@ -3,13 +3,14 @@
 ghost use Rattle.std.specs.Prelude.{◌≡◌, ℤ, ◌+◌, ◌≤◌, ◌&&◌, pos, negsuc, ◌+ℤ◌, ◌≤ℤ◌, int_le, int_lt};
 ghost use Rattle.nit_rect.specs.Rectangle.{spans};
 ghost use Rattle.nit_rect.specs.Dividing.{times_among};
+ghost use Rattle.nit_rect.specs.Limits.{most_length, most_edge, most_width};
 
 /// The `long` places from `from` on.
 #[derive(Clone, Copy)]
 pub struct Run {
     pub from: i16,
     pub long: u16,
-    ghost short: { long ≤ 32767 },
+    ghost short: { long ≤ most_length },
 }
 
 /// What is left of a run round a cut.
@@ -29,8 +30,8 @@ impl Run {
 
     /// The places of the run that lie before `end`.
     fn before(self, end: i32) -> Run
-        requires low { negsuc 65535 ≤ℤ end }
-        requires high { end ≤ℤ pos 65535 }
+        requires low { negsuc most_edge ≤ℤ end }
+        requires high { end ≤ℤ pos most_edge }
         ensures { (at : ℤ)
             → spans result.from result.long at ≡ (spans self.from self.long at && int_lt at end) }
     {
@@ -73,7 +74,7 @@ impl Run {
 
     /// What is left of the run round the cut, which lies within it.
     pub fn without(self, cut: Run) -> Rest
-        requires screen { (self.from +ℤ pos self.long) ≤ℤ pos 1024 }
+        requires screen { (self.from +ℤ pos self.long) ≤ℤ pos most_width }
         requires begins { self.from ≤ℤ cut.from }
         requires ends { (cut.from +ℤ pos cut.long) ≤ℤ (self.from +ℤ pos self.long) }
         ensures { (at : ℤ)

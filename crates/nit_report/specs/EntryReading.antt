@@ -17,6 +17,7 @@ use Rattle.nit_events.specs.Input.{routed_as}
 use Rattle.nit_script.specs.Reading.{first_of, nothing_at, at_spaced, at_both, at_made, at_tested, at_kind, at_ended, nat_field}
 use Rattle.nit_script.specs.CallReading.{call_at}
 use Rattle.nit_script.specs.InputReading.{device_at}
+use Rattle.nit_script.specs.Grammar.{most_lines}
 
 -- ---- numbers
 
@@ -26,7 +27,7 @@ is_session n = nat_le n 15
 
 -- the number of a shot
 abbrev pub is_shot : ℕ → Bool
-is_shot n = nat_le 1 n && nat_le n 65536
+is_shot n = nat_le 1 n && nat_le n most_lines
 
 -- a session's number behind a space
 abbrev pub session_field : List ℕ → Option (ℕ × List ℕ)

@@ -14,7 +14,7 @@ use Rattle.nit_events.specs.declared.entry.Entry.TheVariants as entry
 use Rattle.nit_events.specs.Input.{deliveries_of, routed_as}
 use Rattle.nit_events.specs.Ranges.{IsCode, IsTurn}
 use Rattle.nit_script.specs.Spelling.{FitsNat, FitsPlace, FitsCall, FitsDevice}
-use Rattle.nit_script.specs.Grammar.{spelled, Reads, HasNoReading, Begins}
+use Rattle.nit_script.specs.Grammar.{spelled, Reads, HasNoReading, Begins, most_lines}
 use Rattle.nit_report.specs.EntrySpelling.{entry_spelling}
 use Rattle.nit_report.specs.declared.error.JournalError.{JournalError}
 use Rattle.nit_report.specs.declared.error.JournalError.TheVariants.{Bad, NoMemory}
@@ -27,7 +27,7 @@ journal_text entries = flat_map (spelled entry_spelling) entries
 
 -- the number of a shot
 abbrev pub FitsShot : ℕ → Type 0
-FitsShot n = (1 ≤ n) × (n ≤ 65536)
+FitsShot n = (1 ≤ n) × (n ≤ most_lines)
 
 -- a session's number
 abbrev pub FitsSession : ℕ → Type 0

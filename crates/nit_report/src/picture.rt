@@ -5,13 +5,14 @@ ghost use Rattle.std.specs.List.{flat_map};
 ghost use Rattle.std.specs.Fmt.{decimal};
 ghost use Rattle.nit_word.specs.Inks.{IsWord};
 ghost use Rattle.nit_report.specs.Picture.{header, channels, picture, picture_length};
+ghost use Rattle.nit_rect.specs.Limits.{most_width, most_height};
 
 use crate::write::{number, text};
 
 /// How many bytes the picture of a screen has.
 pub fn ppm_len(w: u32, h: u32) -> usize
-    requires width { w ≤ 1024 }
-    requires height { h ≤ 768 }
+    requires width { w ≤ most_width }
+    requires height { h ≤ most_height }
     ensures { result ≡ picture_length w h }
 {
     let digits = digit_count(w) + digit_count(h);
@@ -21,7 +22,7 @@ pub fn ppm_len(w: u32, h: u32) -> usize
 
 /// Writes the picture of a frame, which has a word for each pixel of the screen, row by row from the top.
 pub fn ppm_into(out: &mut [u8], w: u32, h: u32, frame: &[u32])
-    requires screen { (w ≤ 1024) × (h ≤ 768) }
+    requires screen { (w ≤ most_width) × (h ≤ most_height) }
     requires length { length out.old ≡ picture_length w h }
     requires pixels { length frame.now ≡ w * h }
     requires words { All IsWord frame.now }

@@ -14,6 +14,7 @@ use Rattle.nit_events.specs.Texts.{is_text, is_printable}
 use Rattle.nit_script.specs.Reading.{◌>>=◌, byte_at, word_at, at_spaced, at_both, nothing_at, nat_at, int_at, signed_at, negative, positive, colour_at, hex_value, nibble_at, at_made, at_tested, Nibbles, nibbles_at, value_of_nibbles, text_at, nat_field, int_field, colour_field, text_field}
 use Rattle.nit_script.specs.Spelling.{FitsNat, FitsInt, FitsColour, FitsText, nat, int, hex, hex_digits, colour, text}
 use Rattle.nit_script.proofs.Digits.{stops, nat_takes, nat_again}
+use Rattle.nit_rect.proofs.ForCallers.{bind_some}
 
 -- At bytes that do not stop it, a reader takes what text spells of a value that fits.
 pub record Exact {A : Type 0} (at : List ℕ → Option (A × List ℕ)) (text : A → List ℕ) (Fits : A → Type 0) (stop : List ℕ → Bool) : Type 0 where
@@ -22,11 +23,6 @@ pub record Exact {A : Type 0} (at : List ℕ → Option (A × List ℕ)) (text :
 
 abbrev pub anything : List ℕ → Bool
 anything rest = true
-
--- the value of a step that did not fail
-pub bind_some : {A B : Type 0} (r : Option A) (f : A → Option B) (y : B) → (r >>= f) ≡ Some y → (x : A) × (r ≡ Some x) × (f x ≡ Some y)
-bind_some (Some x) f y e = (x, refl, e)
-bind_some None f y e = absurd cc
 
 -- ---- bytes and words
 

@@ -3,7 +3,8 @@ use Rattle.std.proofs.Common.{◌≡◌, ℕ, Bool, true, List, [], ◌∷◌, �
 use Rattle.std.proofs.lemmas.Option.{some_pair_parts}
 use Rattle.nit_script.specs.Reading.{◌>>=◌, first_of, byte_at, word_at, at_made, at_kind, at_ended}
 use Rattle.nit_script.specs.Grammar.{spelled}
-use Rattle.nit_script.proofs.Exact.{Exact, bind_some, byte_takes, word_takes, word_again}
+use Rattle.nit_script.proofs.Exact.{Exact, byte_takes, word_takes, word_again}
+use Rattle.nit_rect.proofs.ForCallers.{bind_some}
 
 -- What is read is spelled so, and fits.
 abbrev pub Takes : {L : Type 0} → (List ℕ → Option (L × List ℕ)) → (L → List ℕ) → (L → Type 0) → Type 0

@@ -47,6 +47,6 @@ pub use laws::{
 };
 pub use line::{InputLine, Line, Stroke};
 pub use numbers::natural;
-pub use parse::{parse_client, parse_input};
+pub use parse::{MOST_LINES, parse_client, parse_input};
 pub use print::{print_client, print_input, put_call, put_device};
 pub use script::{Client, Input};

@@ -12,7 +12,7 @@ use crate::script::{Client, Input};
 use std::alloc::Global;
 
 /// How many lines a script may have.
-const MOST_LINES: u32 = 65_536;
+pub const MOST_LINES: u32 = 65_536;
 
 /// The client's script that the bytes spell. `Bad` comes exactly where one of the first 65,536 lines has
 /// no reading, and names the first such line, from 1; bytes behind the last line feed are a line without

@@ -1,6 +1,7 @@
 -- What a session has, what it uses, and what a request needs and has left. All in units but views and words.
 use Rattle.std.specs.Prelude.{◌≡◌, ℕ, ◌+◌, ◌-◌, ◌*◌, ◌/◌, ◌<◌, ◌≤◌, min}
 use Rattle.nit_slots.specs.declared.need.Need.{Need}
+use Rattle.nit_rect.specs.Limits.{least_units, most_units}
 
 -- the donation, the reserve, the number of views and the number of the buffer's words
 pub record AccountBalance : Type 0 where
@@ -15,15 +16,31 @@ balance donation reserve views words =
 
 -- a session opens with 256 to 8388608 units
 abbrev pub IsDonation : ℕ → Type 0
-IsDonation d = (256 ≤ d) × (d ≤ 8388608)
+IsDonation d = (least_units ≤ d) × (d ≤ most_units)
 
 -- the most that a session of this donation can ever have: twice the donation, at most 8388608
 abbrev pub room : ℕ → ℕ
-room d = min (2 * d) 8388608
+room d = min (2 * d) most_units
+
+-- what a view costs, and so what a new one needs
+abbrev pub view_need : ℕ
+view_need = 256
+
+-- what a word of a buffer costs
+abbrev pub word_need : ℕ
+word_need = 8
+
+-- views of one session
+abbrev pub most_views : ℕ
+most_views = 64
 
 -- the number of slots that a session of this donation gets for its views
 abbrev pub view_slots : ℕ → ℕ
-view_slots d = min 64 (room d / 256)
+view_slots d = min most_views (room d / view_need)
+
+-- the number of words that a session of this donation can ever pay for
+abbrev pub table_size : ℕ → ℕ
+table_size donation = room donation / word_need
 
 -- a session as it opens: the reserve is what the room has beside the donation, and nothing is used
 abbrev pub opened : ℕ → AccountBalance
@@ -31,16 +48,12 @@ opened d = balance d (room d - d) 0 0
 
 -- the cost of these views and words
 abbrev pub used : ℕ → ℕ → ℕ
-used views words = 256 * views + 8 * words
+used views words = view_need * views + word_need * words
 
 -- what is used is within the donation, and the donation and the reserve together are at most 8388608
 pub record IsCovered (b : AccountBalance) : Type 0 where
   pub paid : used b.views b.words ≤ b.donation
-  pub bounded : b.donation + b.reserve ≤ 8388608
-
--- a new view needs the cost of one
-abbrev pub view_need : ℕ
-view_need = 256
+  pub bounded : b.donation + b.reserve ≤ most_units
 
 -- for a new view there is left what views and words do not use
 abbrev pub view_left : ℕ → ℕ → ℕ → ℕ
@@ -48,11 +61,11 @@ view_left donation views words = donation - used views words
 
 -- a new buffer of w by h needs the cost of its words
 abbrev pub buffer_need : ℕ → ℕ → ℕ
-buffer_need w h = 8 * (w * h)
+buffer_need w h = word_need * (w * h)
 
 -- for a new buffer there is left what views do not use, since the old buffer is given back first
 abbrev pub buffer_left : ℕ → ℕ → ℕ
-buffer_left donation views = donation - 256 * views
+buffer_left donation views = donation - view_need * views
 
 -- the balance with n units moved from the reserve to the donation
 abbrev pub upgraded : AccountBalance → ℕ → AccountBalance

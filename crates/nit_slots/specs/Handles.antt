@@ -1,5 +1,5 @@
 -- The views that a session holds, each as its handle and its slot.
-use Rattle.std.specs.Prelude.{ℕ, ◌+◌, ◌≤◌, Bool, not, List, [], ◌∷◌, length, filter, find, Option, option_map, ◌==◌}
+use Rattle.std.specs.Prelude.{ℕ, ◌+◌, ◌≤◌, Bool, not, List, [], ◌∷◌, length, filter, find, Option, option_map, ◌==◌, ◌^◌, ◌-◌}
 use Rattle.std.specs.List.{list_any}
 
 -- the pairs of a handle and its slot in the order of creation, the next handle, and the most pairs at a time
@@ -7,6 +7,10 @@ pub record HandleTable : Type 0 where
   pub pairs : List (ℕ × ℕ)
   pub next : ℕ
   pub most : ℕ
+
+-- the last handle of a session
+abbrev pub last_handle : ℕ
+last_handle = 2 ^ 32 - 1
 
 -- the handle is held
 abbrev pub is_held : List (ℕ × ℕ) → ℕ → Bool

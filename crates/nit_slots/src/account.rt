@@ -1,14 +1,13 @@
 ghost use Rattle.std.specs.Prelude.{◌≡◌, ◌+◌, ◌-◌, ◌*◌, ◌<◌, ◌≤◌, OnOk, IfErr};
-ghost use Rattle.nit_slots.specs.Account.{room, view_slots, IsDonation, opened, IsCovered, view_need, view_left, buffer_need, buffer_left, upgraded, IsShort};
+ghost use Rattle.nit_slots.specs.Account.{room, view_slots, IsDonation, opened, IsCovered, view_need, view_left, buffer_need, buffer_left, upgraded, IsShort, most_views};
+ghost use Rattle.nit_rect.specs.Limits.{most_side};
 
 use crate::need::Need;
+use nit_rect::MOST_UNITS;
 use std::marker::Model;
 
-/// The most that donation and reserve come to, in units.
-const MOST_UNITS: u32 = 8_388_608;
-
 /// The most views that a session has slots for.
-const MOST_VIEWS: u32 = 64;
+pub const MOST_VIEWS: u32 = 64;
 
 /// The cost of a view, in units.
 const VIEW_UNITS: u32 = 256;
@@ -78,7 +77,7 @@ impl Account {
     /// Pays for one more view, where there are fewer than 64. Refused exactly where its 256 units are more
     /// than what views and words leave of the donation; the account is then unchanged.
     pub fn try_view(&mut self) -> Result<(), Need>
-        requires { self.old.views < 64 }
+        requires { self.old.views < most_views }
         ensures paid { OnOk result
             ((view_need ≤ view_left self.old.donation self.old.views self.old.words)
             × (self.new ≡ record self.old { views = self.old.views + 1 })) }
@@ -96,8 +95,8 @@ impl Account {
     /// its 8 units a word are more than what views leave of the donation, as the old buffer is given back
     /// first; the account is then unchanged.
     pub fn try_buffer(&mut self, w: u32, h: u32) -> Result<(), Need>
-        requires width { (1 ≤ w) × (w ≤ 4096) }
-        requires height { (1 ≤ h) × (h ≤ 4096) }
+        requires width { (1 ≤ w) × (w ≤ most_side) }
+        requires height { (1 ≤ h) × (h ≤ most_side) }
         ensures paid { OnOk result
             ((buffer_need w h ≤ buffer_left self.old.donation self.old.views)
             × (self.new ≡ record self.old { words = w * h })) }

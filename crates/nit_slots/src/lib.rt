@@ -15,7 +15,7 @@ mod need;
 mod slots;
 mod table;
 
-pub use account::{Account, room, view_slots};
+pub use account::{Account, MOST_VIEWS, room, view_slots};
 pub use need::Need;
 pub use slots::Slots;
 pub use table::Table;

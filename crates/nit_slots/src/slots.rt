@@ -1,6 +1,7 @@
 ghost use Rattle.std.specs.Prelude.{◌≡◌, ◌+◌, ◌<◌, ◌≤◌, true, false, [], IfOk, length, vec_capacity};
 ghost use Rattle.std.specs.List.{range_with_len};
 ghost use Rattle.nit_slots.specs.Slots.{is_taken, spare, with_slot, without_slot, IsOccupancy};
+ghost use Rattle.nit_rect.specs.Limits.{most_slots};
 
 use nit_rect::NoMemory;
 use std::alloc::{AllocError, Global};
@@ -32,7 +33,7 @@ impl Model for Slots {
 impl Slots {
     /// This many slots, at most 1024, of which none is taken. All memory for them is taken here.
     pub fn new(alloc: Global, total: u32) -> Result<Slots, NoMemory>
-        requires { total ≤ 1024 }
+        requires { total ≤ most_slots }
         ensures { IfOk result (λ s. s ≡ record { total = total; taken = [] }) }
     {
         let free = numbers_below(alloc, total)?;

@@ -1,6 +1,7 @@
 ghost use Rattle.std.specs.Prelude.{◌≡◌, ◌+◌, ◌-◌, ◌^◌, ◌<◌, ◌≤◌, ◌↔◌, true, false, [], ◌∷◌, ◌++◌, IfOk, IsSome, IsNone, IfSome, IsSomeAnd, All, length, vec_capacity};
 ghost use Rattle.nit_slots.specs.Slots.{is_taken, spare, with_slot, without_slot};
-ghost use Rattle.nit_slots.specs.Handles.{is_held, slot_of, without_handle, IsTable};
+ghost use Rattle.nit_slots.specs.Handles.{is_held, slot_of, without_handle, IsTable, last_handle};
+ghost use Rattle.nit_slots.specs.Account.{most_views};
 
 use crate::slots::Slots;
 use nit_rect::NoMemory;
@@ -33,7 +34,7 @@ impl Model for Table {
 impl Table {
     /// A table of no view, with room for `most` at a time, at most 64. All memory for them is taken here.
     pub fn new(alloc: Global, most: u32) -> Result<Table, NoMemory>
-        requires { most ≤ 64 }
+        requires { most ≤ most_views }
         ensures { IfOk result (λ t. t ≡ record { pairs = []; next = 1; most = most }) }
     {
         Ok(Table {
@@ -48,7 +49,7 @@ impl Table {
     pub fn create(&mut self, slots: &mut Slots) -> (u32, u32)
         requires free { 0 < spare slots.old }
         requires room { length self.old.pairs < self.old.most }
-        requires next { self.old.next < 2 ^ 32 - 1 }
+        requires next { self.old.next < last_handle }
         ensures handle { result.0 ≡ self.old.next }
         ensures was_not_held { is_held self.old.pairs result.0 ≡ false }
         ensures below { result.1 < slots.old.total }

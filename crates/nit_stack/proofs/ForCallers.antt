@@ -6,6 +6,6 @@ pub use Rattle.nit_stack.proofs.Names.{agree_by, views_above, views_backed, view
 pub use Rattle.nit_stack.proofs.NamesAfter.{has-name, name-above, name-back, name-changed, name-front, name-put_front, name-without, name_has_slot}
 pub use Rattle.nit_stack.proofs.Owners.{found_in_slot, owner_is, owner_of_views, source_bare, source_is}
 pub use Rattle.nit_stack.proofs.OwnersByName.{owner_named, owner_of_session}
-pub use Rattle.nit_stack.proofs.Places.{Put, Put-above, Put-back, Put-front, both_fail, insert_apart, map-without}
+pub use Rattle.nit_stack.proofs.Places.{Put, Put-above, Put-back, Put-front, insert_apart, map-without}
 pub use Rattle.nit_stack.proofs.Seats.{flip}
 pub use Rattle.nit_stack.proofs.ViewPlaces.{drop_at, place_is, slot_at}

@@ -62,9 +62,6 @@ NoPair-filter r p (x ∷ xs) h = go (p x) (NoPair-filter r p xs h.1)
     go true t = (none_kept p (r x) xs h.0, t)
     go false t = t
 
-pub both_fail : (a b : Bool) → a ≡ false → b ≡ false → (a || b) ≡ false
-both_fail a b = or_from a b
-
 pub insert_apart : {A : Type 0} (r : A → A → Bool) → ((a b : A) → r a b ≡ r b a) → (xs : List A) (i : ℕ) (v : A) → list_any (r v) xs ≡ false → NoPair r xs → NoPair r (insert xs i v)
 insert_apart r s xs zero v n h = (n, h)
 insert_apart r s [] (suc i) v n h = (refl, tt)

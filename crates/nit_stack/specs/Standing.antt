@@ -3,12 +3,14 @@ use Rattle.std.specs.Prelude.{◌≡◌, ℕ, ◌<◌, ◌≤◌, ◌⊎◌, ◌
 use Rattle.std.specs.List.{list_any, position_or_len}
 use Rattle.std.specs.Option.{option_map}
 use Rattle.nit_rect.specs.Rectangle.{Rectangle, IsPlace, rectangle}
+use Rattle.nit_rect.specs.declared.point.Point.{Point}
 pub use Rattle.nit_rect.specs.Screen.{IsOnScreen}
 use Rattle.nit_stack.specs.declared.view.View.{View}
 use Rattle.nit_stack.specs.declared.view.ViewRef.{ViewRef}
 use Rattle.nit_stack.specs.Labels.{is_view}
 use Rattle.nit_stack.specs.Orders.{put_front, put_back, put_above, moved}
-use Rattle.nit_stack.specs.Sources.{Size, no_size}
+use Rattle.nit_stack.specs.Sources.{Size, no_size, owner_in}
+use Rattle.nit_rect.specs.Limits.{most_length, most_side, most_width, most_height, most_sessions, most_slots}
 
 -- a view, with the number of the slot that keeps it
 pub record Seat : Type 0 where
@@ -142,9 +144,13 @@ same_name a b = is_named a.view.sid a.view.handle b
 abbrev pub falls : {A : Type 0} → (A → ℕ) → A → A → Bool
 falls layer a b = nat_lt (layer b) (layer a)
 
+-- the view with its slot that owns a pixel
+abbrev pub seat_owner : ℕ → List Seat → Point → Option Seat
+seat_owner rows seats p = owner_in (λ s. s.view) rows seats p
+
 -- a rectangle's numbers are in their range
 abbrev pub IsInRange : Rectangle → Type 0
-IsInRange r = IsPlace r.x × IsPlace r.y × (r.w ≤ 32767) × (r.h ≤ 32767)
+IsInRange r = IsPlace r.x × IsPlace r.y × (r.w ≤ most_length) × (r.h ≤ most_length)
 
 -- a view of a stack with so many slots and sessions
 pub record IsSeat (most sessions : ℕ) (s : Seat) : Type 0 where
@@ -156,7 +162,7 @@ pub record IsSeat (most sessions : ℕ) (s : Seat) : Type 0 where
 
 -- a buffer has at most 4096 columns and 4096 rows
 abbrev pub IsSize : Size → Type 0
-IsSize z = (z.w ≤ 4096) × (z.h ≤ 4096)
+IsSize z = (z.w ≤ most_side) × (z.h ≤ most_side)
 
 -- the bar has 0 or 7 rows, and leaves a row of the screen below it
 abbrev pub IsBar : ℕ → ℕ → Type 0
@@ -164,7 +170,7 @@ IsBar rows height = ((rows ≡ 0) ⊎ (rows ≡ 7)) × (rows < height)
 
 -- the screen is 1..=1024 by 1..=768
 abbrev pub IsScreen : ℕ → ℕ → Type 0
-IsScreen width height = (1 ≤ width) × (width ≤ 1024) × (1 ≤ height) × (height ≤ 768)
+IsScreen width height = (1 ≤ width) × (width ≤ most_width) × (1 ≤ height) × (height ≤ most_height)
 
 -- What holds of every stack: no two views have one slot, nor the same session and handle, and along the list the
 -- layers never fall; every number is in its range.
@@ -175,7 +181,8 @@ pub record IsStanding (s : Standing) : Type 0 where
   pub seats : All (IsSeat s.most (length s.sizes)) s.views
   pub sizes : All IsSize s.sizes
   pub layers : All (λ l. l ≤ 7) s.layers
-  pub sessions : (1 ≤ length s.sizes) × (length s.sizes ≤ 16) × (length s.layers ≡ length s.sizes)
+  pub sessions : (1 ≤ length s.sizes) × (length s.sizes ≤ most_sessions)
+      × (length s.layers ≡ length s.sizes)
   pub screen : IsScreen s.width s.height
   pub bar : IsBar s.bar s.height
-  pub room : s.most ≤ 1024
+  pub room : s.most ≤ most_slots

@@ -9,8 +9,8 @@ ghost use Rattle.nit_stack.specs.declared.view.ViewRef.{ViewRef};
 ghost use Rattle.nit_stack.specs.Labels.{is_view};
 ghost use Rattle.nit_stack.specs.Names.{IsNamedBy, MeanSame, is_session, layer_of_seat, name_in, name_of, view_above, view_layer, views_of};
 ghost use Rattle.nit_stack.specs.Orders.{changed, moved, put_back, put_front, without};
-ghost use Rattle.nit_stack.specs.Sources.{owner, owner_in};
-ghost use Rattle.nit_stack.specs.Standing.{NoPair, Seat, has, is_named, is_of_session, is_slot, moved_above, on_view, place_of, put_own_back, put_own_front, same_slot, seat_in, view_ref};
+ghost use Rattle.nit_stack.specs.Sources.{owner};
+ghost use Rattle.nit_stack.specs.Standing.{NoPair, Seat, has, is_named, is_of_session, is_slot, moved_above, on_view, place_of, put_own_back, put_own_front, same_slot, seat_in, view_ref, seat_owner};
 
 /// A change of the view in a slot is the same change of the view with that session and handle, among the views
 /// without their slots.
@@ -56,8 +56,7 @@ pub fn seats_and_views()
     ensures named { (sid handle : ℕ) (seats : List Seat)
         → list_any (is_view sid handle) (views_of seats) ≡ list_any (is_named sid handle) seats }
     ensures owner { (rows : ℕ) (seats : List Seat) (p : Point)
-        → owner rows (views_of seats) p
-        ≡ option_map (λ s. s.view) (owner_in (λ s. s.view) rows seats p) }
+        → owner rows (views_of seats) p ≡ option_map (λ s. s.view) (seat_owner rows seats p) }
 {}
 
 /// Which slots have a view after each change, and that all views of a session are gone when each was taken out.
@@ -86,17 +85,17 @@ pub fn slots_after()
 pub fn owners_by_slot()
     ensures seated { (rows : ℕ) (seats : List Seat) (p : Point) (v : ViewRef) (view : View)
         → NoPair same_slot seats
-        → Some v ≡ option_map view_ref (owner_in (λ s. s.view) rows seats p)
+        → Some v ≡ option_map view_ref (seat_owner rows seats p)
         → seat_in v.0 seats ≡ Some (record { slot = v.0; view = view })
-        → owner_in (λ s. s.view) rows seats p ≡ Some (record { slot = v.0; view = view }) }
+        → seat_owner rows seats p ≡ Some (record { slot = v.0; view = view }) }
     ensures mean_same { (k sid handle : ℕ) (seats : List Seat) → IsNamedBy k sid handle seats
         → MeanSame k sid handle seats }
     ensures named { (k sid handle rows : ℕ) (seats : List Seat) (p : Point)
         → MeanSame k sid handle seats
-        → option_map_or (is_slot k) (owner_in (λ s. s.view) rows seats p) false
+        → option_map_or (is_slot k) (seat_owner rows seats p) false
         ≡ option_map_or (is_view sid handle) (owner rows (views_of seats) p) false }
     ensures session { (sid rows : ℕ) (seats : List Seat) (p : Point)
-        → option_map_or (is_of_session sid) (owner_in (λ s. s.view) rows seats p) false
+        → option_map_or (is_of_session sid) (seat_owner rows seats p) false
         ≡ option_map_or (is_session sid) (owner rows (views_of seats) p) false }
 {}
 

@@ -3,6 +3,7 @@
 ghost use Rattle.std.specs.Prelude.{◌≡◌, ◌≤◌, ◌<◌, ◌*◌, ◌-ℤ◌, IfSome};
 ghost use Rattle.nit_rect.specs.Rectangle.{IsPlace};
 ghost use Rattle.nit_stack.specs.Sources.{among, buffer_place, shown_index};
+ghost use Rattle.nit_rect.specs.Limits.{most_side};
 
 use crate::view::View;
 use nit_rect::Point;
@@ -10,7 +11,7 @@ use nit_rect::Point;
 /// The index of the word that the view shows at a pixel of the screen, where its session's buffer is
 /// `w` by `h` and reaches so far.
 pub fn shown_index(view: &View, w: u32, h: u32, p: Point) -> Option<u32>
-    requires size { (w ≤ 4096) × (h ≤ 4096) }
+    requires size { (w ≤ most_side) × (h ≤ most_side) }
     requires offset { IsPlace view.now.ox × IsPlace view.now.oy }
     requires pixel { IsPlace p.x × IsPlace p.y }
     ensures index { result ≡ shown_index (record { w = w; h = h }) view.now p }

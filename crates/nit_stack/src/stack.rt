@@ -4,11 +4,12 @@ ghost use Rattle.std.specs.Prelude.{◌≡◌, ℕ, ◌+◌, ◌<◌, ◌≤◌,
 ghost use Rattle.std.specs.List.{list_any};
 ghost use Rattle.nit_rect.specs.Rectangle.{IsPlace};
 ghost use Rattle.nit_rect.specs.Screen.{IsOnScreen};
-ghost use Rattle.nit_stack.specs.Sources.{owner_in, source};
+ghost use Rattle.nit_stack.specs.Sources.{source};
 ghost use Rattle.nit_stack.specs.Orders.{changed, moved, put_front, without};
-ghost use Rattle.nit_stack.specs.Standing.{IsStanding, IsBar, IsInRange, IsScreen, fresh, fresh_in, has, is_named, is_of_session, is_slot, layer_of, moved_above, on_view, opened, place_of, put_own_front, put_own_back, seat_in, seat_layer, size_of, slot_layer, view_ref, with_offset, with_rect, with_title};
+ghost use Rattle.nit_stack.specs.Standing.{IsStanding, IsBar, IsInRange, IsScreen, fresh, fresh_in, has, is_named, is_of_session, is_slot, layer_of, moved_above, on_view, opened, place_of, put_own_front, put_own_back, seat_in, seat_layer, size_of, slot_layer, view_ref, with_offset, with_rect, with_title, seat_owner};
 ghost use Rattle.nit_stack.specs.Names.{views_of};
 ghost use Rattle.nit_stack.specs.Answers.{IfWord, pixel_source, session_of, source_owner, word_count};
+ghost use Rattle.nit_rect.specs.Limits.{most_sessions, most_slots, most_side};
 
 use crate::order::{covering, place_of, put_in_above, put_in_back, put_in_front, ref_at, take_out};
 use crate::showing::shown_index;
@@ -59,8 +60,8 @@ impl Stack {
         most: u32,
     ) -> Result<Stack, NoMemory>
         requires screen { IsScreen width height }
-        requires sessions { (1 ≤ sessions) × (sessions ≤ 16) }
-        requires most { most ≤ 1024 }
+        requires sessions { (1 ≤ sessions) × (sessions ≤ most_sessions) }
+        requires most { most ≤ most_slots }
         ensures { IfOk result (λ s. s ≡ opened width height sessions most) }
     {
         let order = Vec::with_capacity(alloc, most as usize)?;
@@ -100,7 +101,7 @@ impl Stack {
     /// Gives a session's buffer a size, 0..=4096 each way.
     pub fn set_buffer(&mut self, sid: u32, w: u32, h: u32)
         requires session { sid < length self.old.sizes }
-        requires size { (w ≤ 4096) × (h ≤ 4096) }
+        requires size { (w ≤ most_side) × (h ≤ most_side) }
         ensures { self.new ≡ record self.old {
           sizes = slice_set self.old.sizes sid (record { w = w; h = h });
         } }
@@ -293,7 +294,7 @@ impl Stack {
     pub fn buffer(&self, sid: u32) -> (u32, u32)
         requires { sid < length self.now.sizes }
         ensures size { record { w = result.0; h = result.1 } ≡ size_of self.now.sizes sid }
-        ensures range { (result.0 ≤ 4096) × (result.1 ≤ 4096) }
+        ensures range { (result.0 ≤ most_side) × (result.1 ≤ most_side) }
     {
         self.sizes[sid as usize]
     }
@@ -316,8 +317,7 @@ impl Stack {
 
     /// The front-most view that covers the pixel. None exactly where no view covers it or it lies in the bar.
     pub fn owner(&self, p: Point) -> Option<ViewRef>
-        ensures owner { result
-            ≡ option_map view_ref (owner_in (λ s. s.view) self.now.bar self.now.views p) }
+        ensures owner { result ≡ option_map view_ref (seat_owner self.now.bar self.now.views p) }
         ensures stands { IfSome result (λ v. has v.0 self.now.views ≡ true) }
         ensures standing { IsStanding self.now }
     {
@@ -333,7 +333,7 @@ impl Stack {
         ensures source { pixel_source self.now.views result
             ≡ source (size_of self.now.sizes) self.now.bar (views_of self.now.views) p }
         ensures owner { source_owner result
-            ≡ option_map view_ref (owner_in (λ s. s.view) self.now.bar self.now.views p) }
+            ≡ option_map view_ref (seat_owner self.now.bar self.now.views p) }
         ensures within { IfWord result
             (λ v i. i < word_count (size_of self.now.sizes (session_of self.now.views v.0))) }
         ensures stands { IfSome (source_owner result) (λ v. has v.0 self.now.views ≡ true) }

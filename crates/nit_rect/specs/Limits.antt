@@ -1,0 +1,44 @@
+-- The limits that several crates share, each with a name.
+use Rattle.std.specs.Prelude.{ℕ}
+
+-- ---- places
+
+-- the last column and the last row, and the greatest width and height of a rectangle
+abbrev pub most_length : ℕ
+most_length = 32767
+
+-- no rectangle ends further to the right or further down
+abbrev pub most_edge : ℕ
+most_edge = 65535
+
+-- the columns and the rows of a screen
+abbrev pub most_width : ℕ
+most_width = 1024
+
+abbrev pub most_height : ℕ
+most_height = 768
+
+-- the columns and the rows of a buffer
+abbrev pub most_side : ℕ
+most_side = 4096
+
+-- ---- sessions
+
+-- sessions on one screen
+abbrev pub most_sessions : ℕ
+most_sessions = 16
+
+-- views of all sessions together
+abbrev pub most_slots : ℕ
+most_slots = 1024
+
+-- what a session opens with at least, which is what a view costs, and what it ever has at most, in units
+abbrev pub least_units : ℕ
+least_units = 256
+
+abbrev pub most_units : ℕ
+most_units = 8388608
+
+-- words that a session can pay for
+abbrev pub most_words : ℕ
+most_words = 1048576

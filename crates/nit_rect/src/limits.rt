@@ -1,0 +1,19 @@
+//! The limits that several crates share.
+
+/// The columns of the widest screen.
+pub const MOST_WIDTH: u32 = 1024;
+
+/// The rows of the highest screen.
+pub const MOST_HEIGHT: u32 = 768;
+
+/// The longest side of a buffer, in words.
+pub const MOST_SIDE: u32 = 4096;
+
+/// The most sessions on one screen.
+pub const MOST_SESSIONS: usize = 16;
+
+/// What a session opens with at least, in units.
+pub const LEAST_UNITS: u32 = 256;
+
+/// What a session ever has at most, in units.
+pub const MOST_UNITS: u32 = 8_388_608;
