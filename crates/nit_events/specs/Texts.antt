@@ -16,9 +16,9 @@ most_text = 40
 abbrev pub is_text : List ℕ → Bool
 is_text bytes = nat_le (length bytes) most_text && list_all is_printable bytes
 
--- bytes, filled up with 0
-abbrev pub filled : List ℕ → List ℕ
-filled bytes = bytes ++ replicate (most_text - length bytes) 0
+-- bytes, and behind them as many that are 0 as a text has room for
+abbrev pub with_zeros : List ℕ → List ℕ
+with_zeros bytes = bytes ++ replicate (most_text - length bytes) 0
 
 -- behind its first `len` bytes, an array of 40 is filled with 0
 pub record IsPadded (bytes : List ℕ) (len : ℕ) : Type 0 where

@@ -16,7 +16,7 @@ pub struct Text {
 
 impl Model for Text {
     ghost use Rattle.std.specs.Prelude.{◌≡◌, ℕ, List, length, take, drop, true};
-    ghost use Rattle.nit_events.specs.Texts.{is_text, IsPadded, bytes_again, filled, length_again};
+    ghost use Rattle.nit_events.specs.Texts.{is_text, IsPadded, bytes_again, with_zeros, length_again};
 
     ghost Value = { List ℕ };
 
@@ -24,7 +24,7 @@ impl Model for Text {
 
     ghost invariant = { λ t. IsPadded t.bytes t.len × (is_text (take t.len t.bytes) ≡ true) };
 
-    ghost inverse = { λ s. record { bytes = filled s; len = length s } };
+    ghost inverse = { λ s. record { bytes = with_zeros s; len = length s } };
 
     ghost inverse_ok = { λ t h i. record {
       bytes = bytes_again t.bytes t.len h.0 i;

@@ -43,8 +43,8 @@ IsTooLong {L = L} Fits spelling bytes =
     × (length lines ≡ most_lines)
 
 -- lines that fit, as many as a script has at most
-abbrev pub IsScript : {L : Type 0} → (L → Type 0) → List L → Type 0
-IsScript Fits lines = AllByRecursion Fits lines × (length lines ≤ most_lines)
+abbrev pub FitsScript : {L : Type 0} → (L → Type 0) → List L → Type 0
+FitsScript Fits lines = AllByRecursion Fits lines × (length lines ≤ most_lines)
 
 -- ---- clients' scripts
 

@@ -18,13 +18,13 @@ impl Model for Client {
     ghost use Rattle.std.specs.List.{AllByRecursion};
     ghost use Rattle.nit_script.specs.declared.line.Line.{Line};
     ghost use Rattle.nit_script.specs.Spelling.{FitsLine};
-    ghost use Rattle.nit_script.specs.Grammar.{IsScript};
+    ghost use Rattle.nit_script.specs.Grammar.{FitsScript};
 
     ghost Value = { List Line };
 
     ghost view = { λ c. c.lines.items };
 
-    ghost invariant = { λ c. IsScript FitsLine c.lines.items };
+    ghost invariant = { λ c. FitsScript FitsLine c.lines.items };
 }
 
 impl Client {
@@ -50,13 +50,13 @@ impl Model for Input {
     ghost use Rattle.std.specs.List.{AllByRecursion};
     ghost use Rattle.nit_script.specs.declared.line.InputLine.{InputLine};
     ghost use Rattle.nit_script.specs.Spelling.{FitsInputLine};
-    ghost use Rattle.nit_script.specs.Grammar.{IsScript};
+    ghost use Rattle.nit_script.specs.Grammar.{FitsScript};
 
     ghost Value = { List InputLine };
 
     ghost view = { λ i. i.lines.items };
 
-    ghost invariant = { λ i. IsScript FitsInputLine i.lines.items };
+    ghost invariant = { λ i. FitsScript FitsInputLine i.lines.items };
 }
 
 impl Input {
