@@ -1,7 +1,6 @@
 -- One list that is both the raw words and the frame: they differ in the first words, where the bar stands.
 use Rattle.std.proofs.Common.{◌≡◌, ℕ, suc, ◌+◌, ◌-◌, ◌*◌, ◌/◌, ◌%◌, ◌<◌, ◌≤◌, ◌++◌, All, Bool, true, false, cond, nat_lt, List, drop, length, get_or, replicate, Option, None, refl, ap, sym, ◌∙◌, subst, arith, take}
-use Rattle.std.specs.Prelude.{IsTrue, slice_index, pos}
-use Rattle.std.specs.Option.{is_some}
+use Rattle.std.specs.Prelude.{IsTrue, slice_index}
 use Rattle.std.proofs.Math.Nat.{mul-le-mul_right}
 use Rattle.std.proofs.lemmas.Bool.{false≢true}
 use Rattle.std.proofs.lemmas.Bool.Decides.{nat_tests}
@@ -10,7 +9,6 @@ use Rattle.std.proofs.lemmas.Nat.{rows}
 use Rattle.std.proofs.lemmas.List.{ext_get_or, get_or-append_right, get_or-drop, get_or-replicate, get_or-take, get_or_append_left, length-append, length-drop, length-replicate, length-take-le}
 use Rattle.std.proofs.lemmas.List.Elements.{All-append, All-drop, All-replicate}
 use Rattle.nit_rect.specs.declared.point.Point.{Point}
-use Rattle.nit_rect.specs.Rectangle.{covers, rectangle}
 use Rattle.nit_word.specs.Channels.{bare_word}
 use Rattle.nit_word.specs.Inks.{IsWord}
 use Rattle.nit_word.specs.Sight.{Sight}
@@ -24,7 +22,7 @@ use Rattle.nit_events.specs.declared.entry.Entry.TheVariants as entry
 use Rattle.nit_stack.specs.declared.view.View.{View as ViewOf}
 use Rattle.nit_stack.specs.Sources.{PixelSource, Bare, covering, in_bar, owner, pixel, source_under}
 use Rattle.nit_config.specs.Configuration.{Configuration, bar_rows}
-use Rattle.nit_journal.specs.State.{State, buffer_size, source_of}
+use Rattle.nit_journal.specs.State.{State, buffer_size}
 use Rattle.nit_paint.specs.Painting.{IsAmongLoads, IsHeld, Repainted}
 use Rattle.nit_paint.specs.Copied.{IsCopied}
 use Rattle.nit_overlay.specs.Looks.{draws_labels}

@@ -1,5 +1,5 @@
 -- A frame that is kept, with what it is made by.
-use Rattle.std.specs.Prelude.{◌≡◌, ℕ, ◌*◌, ◌≤◌, ◌++◌, Bool, true, false, All, IsTrue, List, drop, length, map, replicate, slice_index, if◌then◌else◌}
+use Rattle.std.specs.Prelude.{◌≡◌, ℕ, ◌*◌, ◌≤◌, ◌++◌, Bool, true, All, IsTrue, List, drop, length, map, replicate, slice_index, if◌then◌else◌}
 use Rattle.nit_word.specs.Channels.{bare_word}
 use Rattle.nit_word.specs.Inks.{IsWord}
 use Rattle.nit_stack.specs.Sources.{pixel}

@@ -1,4 +1,4 @@
-use Rattle.std.proofs.Common.{length, arith, true}
+use Rattle.std.proofs.Common.{length, arith}
 use Rattle.nit_paint.specs.Pieces.{source_at}
 use Rattle.nit_repaint.proofs.Glasses.{all_painted, held_by_all}
 use Rattle.nit_repaint.proofs.whole.paint_whole.Goals as goal

@@ -1,4 +1,4 @@
-use Rattle.std.proofs.Common.{◌≡◌, ◌<◌, List, ℕ, ap, length, sym, subst, ◌∙◌, arith}
+use Rattle.std.proofs.Common.{◌<◌, ap, length, sym, ◌∙◌, arith}
 use Rattle.nit_overlay.specs.Looks.{draws_labels}
 use Rattle.nit_scene.proofs.OneList.{made_one}
 use Rattle.nit_scene.proofs.screen.lists.join.Goals as goal

@@ -1,6 +1,5 @@
-use Rattle.std.proofs.Common.{◌≡◌, ◌<◌, ◌++◌, ℕ, List, Bool, cond, drop, length, take, sym, ap, subst, ◌∙◌, arith}
-use Rattle.std.specs.Prelude.{pos, slice_index}
-use Rattle.nit_rect.specs.Rectangle.{covers, rectangle}
+use Rattle.std.proofs.Common.{◌≡◌, ◌<◌, ◌++◌, ℕ, List, Bool, cond, drop, length, take, sym, ap, ◌∙◌, arith}
+use Rattle.std.specs.Prelude.{slice_index}
 use Rattle.nit_stack.specs.Sources.{in_bar, pixel}
 use Rattle.nit_overlay.specs.Shown.{shown}
 use Rattle.nit_scene.specs.Played.{scenery_of}
