@@ -1,19 +1,16 @@
 -- Rows of a block of the screen, and the pixels of each.
-use Rattle.std.proofs.Common.{◌≡◌, ℕ, zero, suc, ◌+◌, ◌*◌, ◌/◌, ◌%◌, ◌<◌, ◌≤◌, ◌==◌, ◌&&◌, ◌||◌, nat_le, nat_lt, Bool, true, false, cond, List, length, get_or, Option, Some, None, refl, ap, sym, ◌∙◌, subst, arith}
+use Rattle.std.proofs.Common.{◌≡◌, ℕ, zero, suc, ◌+◌, ◌*◌, ◌/◌, ◌%◌, ◌<◌, ◌≤◌, ◌==◌, ◌&&◌, ◌||◌, nat_le, nat_lt, Bool, true, false, cond, List, length, Option, Some, None, refl, ap, sym, ◌∙◌, subst, arith}
 use Rattle.std.specs.Option.{option_map}
-use Rattle.std.specs.Prelude.{slice_index}
 use mathlib.Core.Logic.{dite}
 use native.Mathlib.Decide.{ℕ_discrete, dec_lt}
 use Rattle.std.proofs.Math.Nat.{mul-le-mul_right}
 use Rattle.std.proofs.lemmas.Bool.Decides.{nat_tests}
 use Rattle.nit_word.specs.Sight.{Sight}
 use Rattle.nit_stack.specs.Sources.{PixelSource, black_or_word, index_at}
-use Rattle.nit_paint.specs.Copied.{IsCopied}
 use Rattle.nit_paint.specs.Painting.{Repainted}
 use Rattle.nit_paint.specs.Runs.{in_rows, in_run, index_from, long, reached, row_at, row_source}
 use Rattle.nit_paint.specs.declared.block.Block.{Block}
 use Rattle.nit_paint.specs.declared.reach.Reach.{Reach}
-use Rattle.nit_paint.proofs.Copied.{nothing_set, set_then}
 use Rattle.nit_paint.proofs.Repaints.{other_count, repainted_none, repainted_union}
 
 -- the column and the row of a pixel say whether it is one of a run within a row
@@ -56,18 +53,6 @@ rows_more source b j at wide n m before mid after raw first last fits some is al
 pub rows_end : (source : ℕ → PixelSource) (b : Block) (j rows n : ℕ) (before after : ℕ → Sight) (raw raw' : List ℕ) → j ≡ rows
     → Repainted source (in_rows b j) n before after raw raw' → Repainted source (in_rows b rows) n before after raw raw'
 rows_end source b j rows n before after raw raw' e r = subst (λ (z : ℕ). Repainted source (in_rows b z) n before after raw raw') e r
-
--- the rows of the frame
-pub no_rows_shown : (b : Block) (n : ℕ) (raw frame : List ℕ) → IsCopied (in_rows b 0) n raw frame frame
-no_rows_shown b n raw frame = nothing_set (in_rows b 0) n (slice_index raw) frame (λ k l. no_rows b k)
-
-pub rows_shown : (b : Block) (j at wide n m : ℕ) (raw raw' old mid new : List ℕ) → b.left + b.wide ≤ b.width → 0 < b.width → at ≡ row_at b j → wide ≡ b.wide → m ≡ n
-    → ((k : ℕ) → in_run at wide k ≡ false → get_or raw' k 0 ≡ get_or raw k 0)
-    → IsCopied (in_rows b j) n raw old mid → IsCopied (in_run at b.wide) m raw' mid new → IsCopied (in_rows b (j + 1)) n raw' old new
-rows_shown b j at wide n m raw raw' old mid new fits some is all count still one two =
-    set_then (in_rows b j) (in_run (row_at b j) b.wide) (in_rows b (j + 1)) n (slice_index raw) (slice_index raw') old mid new (row_next b fits some j)
-    (λ k out. still k ((λ i. in_run (is i) (all i) k) ∙ out)) one
-    (subst (λ (z : ℕ). IsCopied (in_run z b.wide) n raw' mid new) is (subst (λ (z : ℕ). IsCopied (in_run at b.wide) z raw' mid new) count two))
 
 -- the index of a word by its column, and by its row's first word
 by_start : (w : ℕ) (column row : Option ℕ) → index_at w column row ≡ index_from (option_map (λ y. y * w) row) column

@@ -1,6 +1,6 @@
 -- What the pixels of a piece show, by its owner.
 use Rattle.std.proofs.Common.{◌≡◌, ℕ, ◌+◌, ◌*◌, ◌/◌, ◌%◌, ◌<◌, ◌≤◌, List, length, Some, None, refl, ap, sym, ◌∙◌, subst, arith}
-use Rattle.std.specs.Prelude.{slice_index, pos, ℤ, ◌+ℤ◌, ◌-ℤ◌, IsTrue}
+use Rattle.std.specs.Prelude.{pos, ℤ, ◌+ℤ◌, ◌-ℤ◌, IsTrue}
 use Rattle.std.specs.Option.{option_map, option_map_or}
 use Rattle.std.proofs.Math.Nat.{mul-le-mul_left}
 use Rattle.std.proofs.lemmas.Bool.Decides.{nat_tests}
@@ -18,13 +18,11 @@ use Rattle.nit_stack.specs.Answers.{session_of}
 use Rattle.nit_stack.proofs.Lists.{All_found}
 use Rattle.nit_stack.proofs.Owners.{source_bare, source_is}
 use Rattle.nit_word.specs.Sight.{Sight}
-use Rattle.nit_paint.specs.Copied.{IsCopied}
 use Rattle.nit_paint.specs.Painting.{Repainted}
 use Rattle.nit_paint.specs.Pieces.{IsPiece, has_pixel, session_shown, source_at}
 use Rattle.nit_paint.specs.Runs.{in_rows, reached, row_at}
 use Rattle.nit_paint.specs.declared.block.Block.{Block}
 use Rattle.nit_paint.specs.declared.reach.Reach.{Reach}
-use Rattle.nit_paint.proofs.Copied.{set_same}
 use Rattle.nit_paint.proofs.Repaints.{repainted_same}
 
 -- a width that is the screen's
@@ -93,12 +91,6 @@ pub whole_piece : (source : ℕ → PixelSource) (b : Block) (width n : ℕ) (re
 whole_piece source b width n rect before after raw raw' is across r =
     repainted_same source source (in_rows b b.tall) (has_pixel width rect) n before before after after raw raw'
     (λ k l. ap (λ w. has_pixel w (rectangle (pos b.left) (pos b.top) b.wide b.tall) k) across ∙ ap (λ z. has_pixel width z k) (sym is)) (λ k l m. refl) (λ t. refl) (λ t. refl) r
-
--- and so is the frame
-pub whole_shown : (b : Block) (width n : ℕ) (rect : Rectangle) (raw old new : List ℕ) → rect ≡ rectangle (pos b.left) (pos b.top) b.wide b.tall → b.width ≡ width
-    → IsCopied (in_rows b b.tall) n raw old new → IsCopied (has_pixel width rect) n raw old new
-whole_shown b width n rect raw old new is across shown =
-    set_same (in_rows b b.tall) (has_pixel width rect) n (slice_index raw) old new (λ k l. ap (λ w. has_pixel w (rectangle (pos b.left) (pos b.top) b.wide b.tall) k) across ∙ ap (λ z. has_pixel width z k) (sym is)) shown
 
 -- a rectangle with pixels covers its first one and its last one
 first_of : (r : Rectangle) → HasPixels r → IsTrue (covers r (record { x = r.x; y = r.y }))

@@ -2,9 +2,8 @@
 //!
 //! A [`Piece`](nit_stack::Piece) is a rectangle of the screen whose pixels have one owner. [`paint_view`] paints
 //! a piece of a view by one load for each pixel to which its session's buffer reaches, and [`paint_bare`] one
-//! that no view owns. [`show_view`] and [`show_bare`] do the same, and set the same pixels of a frame while the
-//! words are at hand. All say by one fact, `Repainted`, which pixels changed, to what, and what was loaded for
-//! them. None takes memory.
+//! that no view owns. Both say by one fact, `Repainted`, which pixels changed, to what, and what was loaded for
+//! them. Neither takes memory.
 //!
 //! `Repainted` tells pixels by their numbers and glasses by the numbers of their sessions. [`laws`] has what follows
 //! of it alone: how two parts of a screen that are painted one after the other make one.
@@ -15,7 +14,5 @@ pub mod laws;
 mod pieces;
 mod reach;
 mod runs;
-mod shown;
 
 pub use pieces::{paint_bare, paint_view};
-pub use shown::{show_bare, show_view};

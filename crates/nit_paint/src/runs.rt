@@ -3,7 +3,6 @@
 ghost use Rattle.std.specs.Prelude.{◌≡◌, ℕ, ◌+◌, ◌^◌, ◌<◌, ◌≤◌, length, IfSome, Some};
 ghost use Rattle.nit_word.specs.Sight.{Sight};
 ghost use Rattle.nit_stack.specs.Sources.{PixelSource, Word};
-ghost use Rattle.nit_paint.specs.Copied.{IsCopied};
 ghost use Rattle.nit_paint.specs.Painting.{Repainted, with_glass};
 ghost use Rattle.nit_paint.specs.Runs.{in_run, long, own_word, row_source};
 
@@ -20,16 +19,6 @@ pub(crate) fn fill_run(raw: &mut [u32], at: usize, count: u32, word: u32)
         → Repainted source (in_run at count) (length raw.old) glasses glasses raw.old raw.new }
 {
     raw[at..at + count as usize].fill(word);
-}
-
-/// Sets `count` words of a frame from `at` on to the raw words.
-pub(crate) fn show_run(raw: &[u32], frame: &mut [u32], at: usize, count: u32)
-    requires pixels { at + count ≤ length raw.now }
-    requires frame { length frame.old ≡ length raw.now }
-    ensures { IsCopied (in_run at count) (length raw.now) raw.now frame.old frame.new }
-{
-    let end = at + count as usize;
-    frame[at..end].copy_from_slice(&raw[at..end]);
 }
 
 /// Loads each of `count` pixels from `at` on once, from the word `from` on.

@@ -19,10 +19,6 @@ use Rattle.nit_repaint.proofs.Coming.{all_count}
 use Rattle.nit_repaint.proofs.Screen.{on_screen}
 use Rattle.nit_repaint.proofs.Wanted.{lt_once, one_more}
 
--- the same number of words in other words
-pub other_length : (chosen : ℕ → Bool) (m n : ℕ) (word : ℕ → ℕ) (old new : List ℕ) → m ≡ n → AreSet chosen m word old new → AreSet chosen n word old new
-other_length chosen m n word old new e is = subst (λ (k : ℕ). AreSet chosen k word old new) e is
-
 -- ---- pieces
 
 pub none_shown : (s : Standing) (n : ℕ) (c : Cuts) (word : ℕ → ℕ) (frame : List ℕ) → AreSet (has_come c c s) n word frame frame

@@ -16,7 +16,6 @@ ghost use Rattle.nit_rect.specs.declared.point.Point.{Point};
 ghost use Rattle.nit_rect.specs.Rectangle.{IsPlace, covers};
 ghost use Rattle.nit_stack.specs.Sources.{pixel};
 ghost use Rattle.nit_stack.specs.Standing.{IsOnScreen, Seat, is_slot, size_of};
-ghost use Rattle.nit_paint.specs.Copied.{IsCopied};
 ghost use Rattle.nit_paint.specs.Painting.{Repainted};
 ghost use Rattle.nit_paint.specs.Pieces.{source_at};
 ghost use Rattle.nit_repaint.specs.Glasses.{HoldBuffers, glass_in, glasses_of_call};
@@ -57,7 +56,6 @@ fn paint_seat<G: Glass, C: Glass>(
     of: u32,
     part: &Option<Rect>,
     raw: &mut [u32],
-    frame: &mut [u32],
     glasses: &mut [G],
     sid: u32,
     own: &mut C,
@@ -65,7 +63,6 @@ fn paint_seat<G: Glass, C: Glass>(
     requires place { i < length stack.now.views }
     requires room { length stack.now.views ≤ cutter.old.room }
     requires pixels { length raw.old ≡ stack.now.width * stack.now.height }
-    requires frame { length frame.old ≡ length raw.old }
     requires held { HoldBuffers stack.now (length glasses.old)
         (glasses_of_call (map G.sight glasses.old) sid (C.sight own.old)) }
     ensures room { cutter.new.room ≡ cutter.old.room }
@@ -77,10 +74,6 @@ fn paint_seat<G: Glass, C: Glass>(
         (glasses_of_call (map G.sight glasses.old) sid (C.sight own.old))
         (glasses_of_call (map G.sight glasses.new) sid (C.sight own.new))
         raw.old raw.new }
-    ensures shown { (s : Seat) → slice_get stack.now.views i ≡ Some s
-        → IsCopied (λ k. let p = pixel stack.now.width k in
-        owner_passes (is_slot s.slot) stack.now p && is_wanted of part.now stack.now p s)
-        (length raw.old) raw.new frame.old frame.new }
     ensures count { length raw.new ≡ length raw.old }
     ensures idle { glass_in (map G.sight glasses.new) sid ≡ glass_in (map G.sight glasses.old) sid }
     ensures rest { C.rest own.new ≡ C.rest own.old }
@@ -94,25 +87,23 @@ fn paint_seat<G: Glass, C: Glass>(
     }
     let rect = wanted_rect(stack, &view, part);
     cutter.begin_owned(stack, v, rect);
-    paint_to_come(cutter, stack, raw, frame, glasses, sid, own);
+    paint_to_come(cutter, stack, raw, glasses, sid, own);
 }
 
 /// Loads again exactly the pixels that views of the session `of` own and that show `part` of its
-/// buffer, or all that they own where no part is given, and sets the frame to their raw words.
+/// buffer, or all that they own where no part is given.
 pub fn paint_session<G: Glass, C: Glass>(
     cutter: &mut Cutter,
     stack: &Stack,
     of: u32,
     part: &Option<Rect>,
     raw: &mut [u32],
-    frame: &mut [u32],
     glasses: &mut [G],
     sid: u32,
     own: &mut C,
 )
     requires room { length stack.now.views ≤ cutter.old.room }
     requires pixels { length raw.old ≡ stack.now.width * stack.now.height }
-    requires frame { length frame.old ≡ length raw.old }
     requires held { HoldBuffers stack.now (length glasses.old)
         (glasses_of_call (map G.sight glasses.old) sid (C.sight own.old)) }
     ensures room { cutter.new.room ≡ cutter.old.room }
@@ -121,8 +112,6 @@ pub fn paint_session<G: Glass, C: Glass>(
         (glasses_of_call (map G.sight glasses.old) sid (C.sight own.old))
         (glasses_of_call (map G.sight glasses.new) sid (C.sight own.new))
         raw.old raw.new }
-    ensures shown { IsCopied (λ k. wanted of part.now stack.now (pixel stack.now.width k))
-        (length raw.old) raw.new frame.old frame.new }
     ensures count { length raw.new ≡ length raw.old }
     ensures idle { glass_in (map G.sight glasses.new) sid ≡ glass_in (map G.sight glasses.old) sid }
     ensures rest { C.rest own.new ≡ C.rest own.old }
@@ -130,6 +119,6 @@ pub fn paint_session<G: Glass, C: Glass>(
 {
     let views = stack.len();
     'views: for i in 0..views {
-        paint_seat(cutter, stack, i, of, part, raw, frame, glasses, sid, own);
+        paint_seat(cutter, stack, i, of, part, raw, glasses, sid, own);
     }
 }

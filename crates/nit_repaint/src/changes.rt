@@ -6,7 +6,6 @@ ghost use Rattle.nit_stack.specs.Sources.{pixel};
 ghost use Rattle.nit_stack.specs.Standing.{IsOnScreen, Standing};
 ghost use Rattle.nit_damage.specs.Cuts.{Fits, to_come};
 ghost use Rattle.nit_damage.specs.Sets.{once};
-ghost use Rattle.nit_paint.specs.Copied.{IsCopied};
 ghost use Rattle.nit_paint.specs.Painting.{Repainted};
 ghost use Rattle.nit_paint.specs.Pieces.{source_at};
 ghost use Rattle.nit_repaint.specs.Glasses.{HoldBuffers, glass_in, glasses_of_call};
@@ -42,8 +41,7 @@ pub(crate) fn begin_changed(cutter: &mut Cutter, stack: &Stack, v: ViewRef, plac
 
 /// Loads again exactly what the view in slot `v` owned before a change, or owns after it. Before, it
 /// stood at `place`, counted from the front, with the rectangle `rect`. It may be gone now. All
-/// other views stand as they stood, and it has kept its place or its rectangle. The frame gets the
-/// raw words of these pixels.
+/// other views stand as they stood, and it has kept its place or its rectangle.
 pub fn paint_changed<G: Glass, C: Glass>(
     cutter: &mut Cutter,
     stack: &Stack,
@@ -51,14 +49,12 @@ pub fn paint_changed<G: Glass, C: Glass>(
     place: u32,
     rect: Rect,
     raw: &mut [u32],
-    frame: &mut [u32],
     glasses: &mut [G],
     sid: u32,
     own: &mut C,
 )
     requires room { length stack.now.views ≤ cutter.old.room }
     requires pixels { length raw.old ≡ stack.now.width * stack.now.height }
-    requires frame { length frame.old ≡ length raw.old }
     requires held { HoldBuffers stack.now (length glasses.old)
         (glasses_of_call (map G.sight glasses.old) sid (C.sight own.old)) }
     ensures room { cutter.new.room ≡ cutter.old.room }
@@ -68,15 +64,11 @@ pub fn paint_changed<G: Glass, C: Glass>(
         (glasses_of_call (map G.sight glasses.old) sid (C.sight own.old))
         (glasses_of_call (map G.sight glasses.new) sid (C.sight own.new))
         raw.old raw.new }
-    ensures shown { (before : Standing) → IsChange v.0 place rect before stack.now
-        → IsCopied (λ k. slot_owns_either v.0 before stack.now (pixel stack.now.width k))
-        (length raw.old) raw.new frame.old frame.new }
     ensures count { length raw.new ≡ length raw.old }
-    ensures each { length frame.new ≡ length frame.old }
     ensures idle { glass_in (map G.sight glasses.new) sid ≡ glass_in (map G.sight glasses.old) sid }
     ensures rest { C.rest own.new ≡ C.rest own.old }
     ensures rests { map G.rest glasses.new ≡ map G.rest glasses.old }
 {
     begin_changed(cutter, stack, v, place, rect);
-    paint_to_come(cutter, stack, raw, frame, glasses, sid, own);
+    paint_to_come(cutter, stack, raw, glasses, sid, own);
 }

@@ -18,10 +18,8 @@
 //! rectangles with one owner each, and paints these one after the other ([`paint_to_come`]). A view
 //! of the session that calls is painted through the glass that it hands in, all others through the
 //! glasses of the scene. The promise is `Repainted` of nit_paint: exactly the marked pixels were
-//! loaded, each once, and what they hold then. Each row that was loaded is set in the frame at
-//! once, while it is near; so in mode Flat, where a view's pixels show their raw words, the frame
-//! is done too (`IsCopied`). In the other modes [`show_session`] sets what was loaded to what is
-//! shown there.
+//! loaded, each once, and what they hold then. In mode Flat a view's pixels show their raw words.
+//! In the other modes [`show_session`] sets what was loaded to what is shown there.
 //!
 //! Nothing is known here of sessions' rights, of the journal or of input. No call takes memory.
 #![tactic(auto)]

@@ -3,7 +3,6 @@
 ghost use Rattle.std.specs.Prelude.{◌≡◌, ◌*◌, ◌<◌, ◌≤◌, Some, IfSome, IsSomeAnd, length, map, true};
 ghost use Rattle.nit_stack.specs.Answers.{session_of};
 ghost use Rattle.nit_stack.specs.Standing.{has};
-ghost use Rattle.nit_paint.specs.Copied.{IsCopied};
 ghost use Rattle.nit_paint.specs.Painting.{Repainted};
 ghost use Rattle.nit_paint.specs.Pieces.{IsPiece, has_pixel, session_shown, source_at, words_shown};
 ghost use Rattle.nit_damage.specs.Cuts.{Fits};
@@ -12,7 +11,7 @@ ghost use Rattle.nit_repaint.specs.Glasses.{HoldBuffers, glass_in, glasses_of_ca
 
 use nit_damage::Cutter;
 use nit_paint::laws::pieces_of_owners;
-use nit_paint::{show_bare, show_view};
+use nit_paint::{paint_bare, paint_view};
 use nit_stack::{Piece, Stack, ViewRef};
 use nit_word::Glass;
 
@@ -31,13 +30,11 @@ fn paint_shown<G: Glass, C: Glass>(
     session: u32,
     piece: &Piece,
     raw: &mut [u32],
-    frame: &mut [u32],
     glasses: &mut [G],
     sid: u32,
     own: &mut C,
 )
     requires pixels { length raw.old ≡ stack.now.width * stack.now.height }
-    requires frame { length frame.old ≡ length raw.old }
     requires piece { IsPiece stack.now piece.now }
     requires owner { IsSomeAnd piece.now.owner (λ v. has v.0 stack.now.views ≡ true) }
     requires session { session_shown stack.now piece.now ≡ session }
@@ -49,18 +46,16 @@ fn paint_shown<G: Glass, C: Glass>(
         (glasses_of_call (map G.sight glasses.old) sid (C.sight own.old))
         (glasses_of_call (map G.sight glasses.new) sid (C.sight own.new))
         raw.old raw.new }
-    ensures shown { IsCopied (has_pixel stack.now.width piece.now.rect) (length raw.old)
-        raw.new frame.old frame.new }
     ensures count { length raw.new ≡ length raw.old }
     ensures idle { glass_in (map G.sight glasses.new) sid ≡ glass_in (map G.sight glasses.old) sid }
     ensures rest { C.rest own.new ≡ C.rest own.old }
     ensures rests { map G.rest glasses.new ≡ map G.rest glasses.old }
 {
     if session == sid {
-        show_view(stack, raw, frame, piece, own);
+        paint_view(stack, raw, piece, own);
     } else {
         let glass = &mut glasses[session as usize];
-        show_view(stack, raw, frame, piece, glass);
+        paint_view(stack, raw, piece, glass);
     }
 }
 
@@ -70,13 +65,11 @@ fn paint_owned<G: Glass, C: Glass>(
     v: ViewRef,
     piece: &Piece,
     raw: &mut [u32],
-    frame: &mut [u32],
     glasses: &mut [G],
     sid: u32,
     own: &mut C,
 )
     requires pixels { length raw.old ≡ stack.now.width * stack.now.height }
-    requires frame { length frame.old ≡ length raw.old }
     requires piece { IsPiece stack.now piece.now }
     requires owner { piece.now.owner ≡ Some v }
     requires stands { has v.0 stack.now.views ≡ true }
@@ -87,15 +80,13 @@ fn paint_owned<G: Glass, C: Glass>(
         (glasses_of_call (map G.sight glasses.old) sid (C.sight own.old))
         (glasses_of_call (map G.sight glasses.new) sid (C.sight own.new))
         raw.old raw.new }
-    ensures shown { IsCopied (has_pixel stack.now.width piece.now.rect) (length raw.old)
-        raw.new frame.old frame.new }
     ensures count { length raw.new ≡ length raw.old }
     ensures idle { glass_in (map G.sight glasses.new) sid ≡ glass_in (map G.sight glasses.old) sid }
     ensures rest { C.rest own.new ≡ C.rest own.old }
     ensures rests { map G.rest glasses.new ≡ map G.rest glasses.old }
 {
     let session = session_of(stack, v);
-    paint_shown(stack, session, piece, raw, frame, glasses, sid, own);
+    paint_shown(stack, session, piece, raw, glasses, sid, own);
 }
 
 /// Paints a piece. Each session has a glass with a word for each of its buffer's.
@@ -103,13 +94,11 @@ pub(crate) fn paint_piece<G: Glass, C: Glass>(
     stack: &Stack,
     piece: &Piece,
     raw: &mut [u32],
-    frame: &mut [u32],
     glasses: &mut [G],
     sid: u32,
     own: &mut C,
 )
     requires pixels { length raw.old ≡ stack.now.width * stack.now.height }
-    requires frame { length frame.old ≡ length raw.old }
     requires piece { IsPiece stack.now piece.now }
     requires stands { IfSome piece.now.owner (λ v. has v.0 stack.now.views ≡ true) }
     requires held { HoldBuffers stack.now (length glasses.old)
@@ -119,16 +108,14 @@ pub(crate) fn paint_piece<G: Glass, C: Glass>(
         (glasses_of_call (map G.sight glasses.old) sid (C.sight own.old))
         (glasses_of_call (map G.sight glasses.new) sid (C.sight own.new))
         raw.old raw.new }
-    ensures shown { IsCopied (has_pixel stack.now.width piece.now.rect) (length raw.old)
-        raw.new frame.old frame.new }
     ensures count { length raw.new ≡ length raw.old }
     ensures idle { glass_in (map G.sight glasses.new) sid ≡ glass_in (map G.sight glasses.old) sid }
     ensures rest { C.rest own.new ≡ C.rest own.old }
     ensures rests { map G.rest glasses.new ≡ map G.rest glasses.old }
 {
     match piece.owner {
-        Some(v) => paint_owned(stack, v, piece, raw, frame, glasses, sid, own),
-        None => show_bare(stack, raw, frame, piece),
+        Some(v) => paint_owned(stack, v, piece, raw, glasses, sid, own),
+        None => paint_bare(stack, raw, piece),
     }
 }
 
@@ -139,14 +126,12 @@ pub fn paint_to_come<G: Glass, C: Glass>(
     cutter: &mut Cutter,
     stack: &Stack,
     raw: &mut [u32],
-    frame: &mut [u32],
     glasses: &mut [G],
     sid: u32,
     own: &mut C,
 )
     requires fits { Fits cutter.old stack.now }
     requires pixels { length raw.old ≡ stack.now.width * stack.now.height }
-    requires frame { length frame.old ≡ length raw.old }
     requires held { HoldBuffers stack.now (length glasses.old)
         (glasses_of_call (map G.sight glasses.old) sid (C.sight own.old)) }
     ensures room { cutter.new.room ≡ cutter.old.room }
@@ -155,8 +140,6 @@ pub fn paint_to_come<G: Glass, C: Glass>(
         (glasses_of_call (map G.sight glasses.old) sid (C.sight own.old))
         (glasses_of_call (map G.sight glasses.new) sid (C.sight own.new))
         raw.old raw.new }
-    ensures shown { IsCopied (is_to_come cutter.old stack.now) (length raw.old)
-        raw.new frame.old frame.new }
     ensures count { length raw.new ≡ length raw.old }
     ensures idle { glass_in (map G.sight glasses.new) sid ≡ glass_in (map G.sight glasses.old) sid }
     ensures rest { C.rest own.new ≡ C.rest own.old }
@@ -165,6 +148,6 @@ pub fn paint_to_come<G: Glass, C: Glass>(
     pieces_of_owners();
     let _screen = stack.size();
     'pieces: while let Some(piece) = cutter.next(stack) {
-        paint_piece(stack, &piece, raw, frame, glasses, sid, own);
+        paint_piece(stack, &piece, raw, glasses, sid, own);
     }
 }

@@ -1,7 +1,6 @@
 //! Loading by one list of glasses alone, where no session calls.
 
 ghost use Rattle.std.specs.Prelude.{◌≡◌, ◌*◌, ◌≤◌, length, map, true};
-ghost use Rattle.nit_paint.specs.Copied.{IsCopied};
 ghost use Rattle.nit_paint.specs.Painting.{Repainted};
 ghost use Rattle.nit_paint.specs.Pieces.{source_at};
 ghost use Rattle.nit_repaint.specs.Glasses.{HoldBuffers, glass_in};
@@ -18,7 +17,6 @@ use std::marker::Model;
 pub struct Nobody<const N: usize>;
 
 impl<const N: usize> Glass for Nobody<N> {
-    ghost use Rattle.nit_paint.specs.Copied.{IsCopied};
     ghost use Rattle.nit_paint.specs.Painting.{no_sight};
 
     type Rest = ();
@@ -33,27 +31,19 @@ impl<const N: usize> Glass for Nobody<N> {
 }
 
 /// Loads all pixels of the screen again, each through its session's glass of this list. It has one
-/// for each session, and at most 16. The frame gets all raw words.
-pub fn paint_whole<C: Glass>(
-    cutter: &mut Cutter,
-    stack: &Stack,
-    raw: &mut [u32],
-    frame: &mut [u32],
-    owns: &mut [C],
-)
+/// for each session, and at most 16.
+pub fn paint_whole<C: Glass>(cutter: &mut Cutter, stack: &Stack, raw: &mut [u32], owns: &mut [C])
     requires room { length stack.now.views ≤ cutter.old.room }
     requires pixels { length raw.old ≡ stack.now.width * stack.now.height }
-    requires frame { length frame.old ≡ length raw.old }
     requires few { length owns.old ≤ 16 }
     requires held { HoldBuffers stack.now (length owns.old) (glass_in (map C.sight owns.old)) }
     ensures room { cutter.new.room ≡ cutter.old.room }
     ensures painted { Repainted (source_at stack.now) (λ k. true) (length raw.old)
         (glass_in (map C.sight owns.old)) (glass_in (map C.sight owns.new)) raw.old raw.new }
-    ensures shown { IsCopied (λ k. true) (length raw.old) raw.new frame.old frame.new }
     ensures count { length raw.new ≡ length raw.old }
     ensures rests { map C.rest owns.new ≡ map C.rest owns.old }
 {
     cutter.begin_all(stack);
     let nobody = owns.len() as u32;
-    paint_to_come(cutter, stack, raw, frame, owns, nobody, &mut Nobody::<0>);
+    paint_to_come(cutter, stack, raw, owns, nobody, &mut Nobody::<0>);
 }

@@ -2,7 +2,6 @@
 use Rattle.std.proofs.Common.{◌≡◌, ℕ, ◌*◌, ◌<◌, ◌&&◌, ◌||◌, All, Bool, true, false, cond, List, length, map, replicate, Option, Some, None, refl, ap, sym, ◌∙◌, subst, arith}
 use Rattle.std.specs.Prelude.{IsTrue, slice_index, pos}
 use Rattle.std.specs.Option.{is_some, option_map_or}
-use Rattle.std.proofs.lemmas.Bool.{false≢true}
 use Rattle.std.proofs.lemmas.Int.{ints}
 use Rattle.std.proofs.lemmas.List.Elements.{All-replicate}
 use Rattle.nit_rect.specs.declared.point.Point.{Point}
@@ -65,17 +64,17 @@ owned_source sizes p (Some v) = go (shown_index (sizes v.sid) v p)
     go None = refl
     go (Some i) = refl
 
-bare_source : (x : PixelSource) → has_owner x ≡ false → x ≡ Bare
+pub bare_source : (x : PixelSource) → has_owner x ≡ false → x ≡ Bare
 bare_source Bare e = refl
 bare_source Black e = cc
 bare_source (Word t i) e = cc
 
 -- whether a pixel has an owner, by its source
-owned : (t : State) (p : Point) → is_some (owner (bar_rows t.config) t.stack p) ≡ has_owner (source_of t p)
+pub owned : (t : State) (p : Point) → is_some (owner (bar_rows t.config) t.stack p) ≡ has_owner (source_of t p)
 owned t p = owned_source (buffer_size t.sessions) p (owner (bar_rows t.config) t.stack p)
 
 -- below the bar, mode Flat shows the raw word where there is an owner
-flat_shown : (s : Scenery) (p : Point) (w : ℕ) → s.mode ≡ Flat → in_bar s.bar p ≡ false → shown s p w ≡ cond (is_some (owner s.bar s.stack p)) w bare_word
+pub flat_shown : (s : Scenery) (p : Point) (w : ℕ) → s.mode ≡ Flat → in_bar s.bar p ≡ false → shown s p w ≡ cond (is_some (owner s.bar s.stack p)) w bare_word
 flat_shown s p w flat below = ap (λ (b : Bool). cond b (bar_word s p) (owner_word s p w (owner s.bar s.stack p))) below ∙ go (owner s.bar s.stack p)
   where
     go : (o : Option ViewOf) → owner_word s p w o ≡ cond (is_some o) w bare_word
@@ -281,17 +280,17 @@ part_scenery before after' sid part call r none served of = ap scenery_of served
     go Close q e = absurd q
 
 -- where labels are drawn, the dirty pixels got their raw words, and then what is shown there
-pub kept_part : (before after' : Serving) (sid : ℕ) (part : Option Rectangle) (call : Call) (r : Reply) (glasses glasses' : ℕ → Sight) (raw raw' old mid new : List ℕ) (chosen : ℕ → Bool)
+pub kept_part : (before after' : Serving) (sid : ℕ) (part : Option Rectangle) (call : Call) (r : Reply) (glasses glasses' : ℕ → Sight) (raw raw' old new : List ℕ) (chosen : ℕ → Bool)
     → refusal (session (state_of before) sid) call ≡ None → IsServed sid call r before after' → IsPartOf part call
     → Painted (state_of before) (entry.Call sid call r) (state_of after') glasses glasses' raw raw'
     → length raw' ≡ pixel_count (state_of before) → ((k : ℕ) → chosen k ≡ dirty (state_of before) (entry.Call sid call r) (state_of after') (pixel before.config.width k))
-    → IsCopied chosen (length raw') raw' old mid → AreSet chosen (length raw') (shown_by (state_of after') raw') mid new
+    → AreSet chosen (length raw') (shown_by (state_of after') raw') old new
     → old ≡ frame (scenery_of (state_of before)) raw → new ≡ frame (scenery_of (state_of after')) raw'
-kept_part before after' sid part call r glasses glasses' raw raw' old mid new chosen none served of painted many is_dirty one two was = renewed (scenery_of s) (scenery_of s') chosen raw raw' old new (record {
+kept_part before after' sid part call r glasses glasses' raw raw' old new chosen none served of painted many is_dirty two was = renewed (scenery_of s) (scenery_of s') chosen raw raw' old new (record {
   size = (ap (λ (sc : Scenery). sc.width) same, ap (λ (sc : Scenery). sc.height) same);
-  count = two.count ∙ one.count ∙ ap length was ∙ length-frame (scenery_of s) raw ∙ ap (λ (sc : Scenery). sc.width * sc.height) (sym same);
-  set = λ k l d. two.words k (within k l) ∙ ap (λ (b : Bool). cond b (shown_by s' raw' k) (slice_index mid k)) d;
-  left = λ k l d. two.words k (within k l) ∙ ap (λ (b : Bool). cond b (shown_by s' raw' k) (slice_index mid k)) d ∙ one.words k (within k l) ∙ ap (λ (b : Bool). cond b (slice_index raw' k) (slice_index old k)) d;
+  count = two.count ∙ ap length was ∙ length-frame (scenery_of s) raw ∙ ap (λ (sc : Scenery). sc.width * sc.height) (sym same);
+  set = λ k l d. two.words k (within k l) ∙ ap (λ (b : Bool). cond b (shown_by s' raw' k) (slice_index old k)) d;
+  left = λ k l d. two.words k (within k l) ∙ ap (λ (b : Bool). cond b (shown_by s' raw' k) (slice_index old k)) d;
   same = λ k l d. ap (λ (sc : Scenery). shown sc (pixel s'.config.width k) (slice_index raw' k)) same ∙ ap (shown (scenery_of s) (pixel s'.config.width k)) (painted.others k (λ lt. sym (is_dirty k) ∙ d));
 }) was
   where
@@ -310,68 +309,39 @@ kept_part before after' sid part call r glasses glasses' raw raw' old mid new ch
 -- ---- what a frame is made by
 
 -- it stays where the server keeps its configuration and its slots, and the words of the pixels were loaded
-pub can_still : (s s' : Serving) (raw raw' shown_ shown_' : List ℕ) (room room' : ℕ) (labels : List (List ℕ)) (places : ℕ) → s'.config ≡ s.config → s'.stack.most ≡ s.stack.most
-    → length raw' ≡ length raw → length shown_' ≡ length shown_ → All IsWord raw' → room' ≡ room → CanShow s raw shown_ room labels places → CanShow s' raw' shown_' room' labels places
-can_still s s' raw raw' shown_ shown_' room room' labels places config most long same_long words room_ h = record {
+pub can_still : (s s' : Serving) (raw raw' shown_ : List ℕ) (room room' : ℕ) (labels : List (List ℕ)) (places bar : ℕ) → s'.config ≡ s.config → s'.stack.most ≡ s.stack.most
+    → length raw' ≡ length raw → All IsWord raw' → room' ≡ room → CanShow s raw shown_ room labels places bar → CanShow s' raw' shown_ room' labels places bar
+can_still s s' raw raw' shown_ room room' labels places bar config most long words room_ h = record {
   words = words;
   pixels = long ∙ h.pixels ∙ area;
-  each = same_long ∙ h.each ∙ area;
+  each = h.each ∙ area;
   cuts = let m = h.cuts in omega (arith, m, most, room_);
   named = h.named ∙ ap (λ (c : Configuration). map (λ m. m.label) c.clients) (sym config);
   placed = let m = h.placed in omega (arith, m, most);
+  bar = h.bar ∙ ap (λ (c : Configuration). c.width * bar_rows c) (sym config);
+  fits = let m = h.fits in omega (arith, m, long);
 }
   where
     area : s.config.width * s.config.height ≡ s'.config.width * s'.config.height
     area = ap (λ (c : Configuration). c.width * c.height) (sym config)
 
 -- a device event that kills nobody changes the input and queues alone
-pub input_scenery : (s mid s' : Serving) (dev : Device) (ds : List Delivery) → mid ≡ with_routed dev s → s' ≡ with_delivered ds mid
-    → scenery_of (state_of s) ≡ record (scenery_of (state_of s')) { mode = s.input.mode; focus = s.input.focus }
-input_scenery s mid s' dev ds one two = sym (ap as_before one) ∙ sym (ap as_before two)
+pub input_scenery : (s mid now : Serving) (dev : Device) (ds : List Delivery) → mid ≡ with_routed dev s → now ≡ with_delivered ds mid
+    → scenery_of (state_of s) ≡ record (scenery_of (state_of now)) { mode = s.input.mode; focus = s.input.focus }
+input_scenery s mid now dev ds one two = sym (ap as_before one) ∙ sym (ap as_before two)
   where
     as_before : Serving → Scenery
     as_before t = record (scenery_of (state_of t)) { mode = s.input.mode; focus = s.input.focus }
 
 -- the bar's rectangle has all pixels of the bar
-bar_covered : (width height bar k : ℕ) → k < width * height → in_bar bar (pixel width k) ≡ true → covers (rectangle (pos 0) (pos 0) width bar) (pixel width k) ≡ true
+pub bar_covered : (width height bar k : ℕ) → k < width * height → in_bar bar (pixel width k) ≡ true → covers (rectangle (pos 0) (pos 0) width bar) (pixel width k) ≡ true
 bar_covered width height bar k l b =
     let on = on_screen width height k l in
     rows_hold width 0 bar (pixel width k) (record { left = on.0; right = on.1; top = on.2; bottom = omega (arith, ints) })
 
-outside_bar : (width height bar k : ℕ) → k < width * height → covers (rectangle (pos 0) (pos 0) width bar) (pixel width k) ≡ false → in_bar bar (pixel width k) ≡ false
-outside_bar width height bar k l c = go (in_bar bar (pixel width k)) refl
-  where
-    go : (b : Bool) → in_bar bar (pixel width k) ≡ b → in_bar bar (pixel width k) ≡ false
-    go false e = e
-    go true e = absurd (false≢true (sym c ∙ bar_covered width height bar k l e))
-
--- the bar was drawn again, after the focus moved in mode Flat
-pub bar_redrawn : (now : Scenery) (focus : Option ℕ) (rows : ℕ) (raw old new : List ℕ) → now.mode ≡ Flat → rows ≡ now.bar
-    → ((k : ℕ) → k < now.width * now.height → slice_index new k ≡ cond (covers (rectangle (pos 0) (pos 0) now.width rows) (pixel now.width k)) (shown now (pixel now.width k) (slice_index raw k)) (slice_index old k))
-    → length new ≡ now.width * now.height → old ≡ frame (record now { focus = focus }) raw → new ≡ frame now raw
-bar_redrawn now focus rows raw old new flat bar set long was =
-    renewed (record now { focus = focus }) now (λ k. covers (rectangle (pos 0) (pos 0) now.width rows) (pixel now.width k)) raw raw old new (record {
-      size = (refl, refl);
-      count = long;
-      set = λ k l e. set k l ∙ ap (λ (b : Bool). cond b (shown now (pixel now.width k) (slice_index raw k)) (slice_index old k)) e;
-      left = λ k l e. set k l ∙ ap (λ (b : Bool). cond b (shown now (pixel now.width k) (slice_index raw k)) (slice_index old k)) e;
-      same = λ k l e. flat_same (record now { focus = focus }) now (pixel now.width k) (slice_index raw k) flat flat refl (ap (λ (n : ℕ). in_bar n (pixel now.width k)) (sym bar) ∙ outside_bar now.width now.height rows k l e) refl;
-    }) was
-
 -- the bare screen's words
 pub bare_are_words : (n : ℕ) → All IsWord (replicate n bare_word)
 bare_are_words n = All-replicate IsWord n bare_word (omega arith)
-
--- what was set is told of a stack, of raw words and of a frame that were handed out, in the words of their owners
-pub shown_on : (P : Standing → ℕ → List ℕ → List ℕ → List ℕ → Type 0) (t s : Standing) (n m : ℕ) (raw raw' old old' new new' : List ℕ) → t ≡ s → n ≡ m → raw ≡ raw' → old ≡ old' → new ≡ new'
-    → P t n raw old new → P s m raw' old' new'
-shown_on P t s n m raw raw' old old' new new' e d f g h told =
-    subst (λ (x : Standing). P x m raw' old' new') e (subst (λ (k : ℕ). P t k raw' old' new') d
-    (subst (λ (x : List ℕ). P t n x old' new') f (subst (λ (x : List ℕ). P t n raw x new') g (subst (λ (x : List ℕ). P t n raw old x) h told))))
-
--- the raw words and the frame stay as they are
-pub copied_on : (chosen : ℕ → Bool) (n m : ℕ) (raw raw' old new new' : List ℕ) → n ≡ m → raw ≡ raw' → new ≡ new' → IsCopied chosen n raw old new → IsCopied chosen m raw' old new'
-copied_on chosen n m raw raw' old new new' d f h is = subst (λ (k : ℕ). IsCopied chosen k raw' old new') d (subst (λ (x : List ℕ). IsCopied chosen n x old new') f (subst (λ (x : List ℕ). IsCopied chosen n raw old x) h is))
 
 -- what was shown of a session's views by a look, in the words of the server
 pub part_shown : (s : Serving) (t : Standing) (sc : Scenery) (sid : ℕ) (part : Option Rectangle) (raw old new : List ℕ) → t ≡ s.stack → sc ≡ scenery_of (state_of s)

@@ -32,3 +32,4 @@ pub mod Stepping
 pub mod Beginning
 pub mod Marks
 pub mod Keeps
+pub mod OneList

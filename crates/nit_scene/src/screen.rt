@@ -11,6 +11,7 @@ mod frames;
 mod input;
 mod labels;
 mod last;
+mod lists;
 mod opening;
 mod pixels;
 mod sessions;
@@ -31,11 +32,12 @@ pub(crate) struct Screen<G: Glass + Drop> {
 
 impl<G: Glass + Drop> Model for Screen<G> {
     ghost use Rattle.std.specs.Prelude.{map};
+    ghost use Rattle.nit_scene.specs.Kept.{raw_of};
     ghost use Rattle.nit_scene.specs.Showing.{IsScreen, Showing};
 
     ghost Value = { Showing G };
 
-    ghost view = { λ s. record { serving = s.server; raw = s.pixels.raw.items; glasses = s.glasses.items } };
+    ghost view = { λ s. record { serving = s.server; raw = raw_of s.pixels; glasses = s.glasses.items } };
 
     ghost invariant = { λ s. IsScreen s.server (map G.sight s.glasses.items) s.pixels };
 }

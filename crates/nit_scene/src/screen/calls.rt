@@ -28,12 +28,14 @@ ghost use Rattle.nit_journal.specs.Views.{is_accepted};
 ghost use Rattle.nit_paint.specs.Painting.{no_sight};
 ghost use Rattle.nit_repaint.specs.Glasses.{glasses_of_call};
 ghost use Rattle.nit_scene.specs.CallKinds.{IsClean, IsQuiet};
-ghost use Rattle.nit_scene.specs.Kept.{ArePixels};
-ghost use Rattle.nit_scene.specs.Painted.{Painted, glass_in};
+ghost use Rattle.nit_events.specs.declared.device.Mode.TheVariants.{Flat};
+ghost use Rattle.nit_scene.specs.Kept.{ArePixels, raw_of};
+ghost use Rattle.nit_scene.specs.Painted.{AreRaw, Painted, glass_in};
 ghost use Rattle.nit_scene.specs.Serving.{IsServed, state_of};
 ghost use Rattle.nit_scene.specs.Showing.{IsGlassOf};
 
 use crate::screen::Screen;
+use crate::screen::lists::make_one;
 use crate::screen::pixels::{Pixels, show_views};
 use crate::screen::sessions::{change_buffer, close};
 use crate::screen::views::change_view;
@@ -51,6 +53,7 @@ impl<G: Glass + Drop> Screen<G> {
         requires session { sid < length self.old.serving.sessions }
         requires handles { (session_in self.old.serving.sessions sid).next < 2 ^ 32 - 1 }
         requires own { IsGlassOf self.old.serving sid (C.sight own.old) }
+        requires raw { AreRaw (state_of self.old.serving) self.old.raw }
         ensures reply { result ≡ (serve (session (state_of self.old.serving) sid) call.now).reply }
         ensures state { state_of self.new.serving ≡ after (state_of self.old.serving)
             (entry.Call sid call.now result) }
@@ -98,6 +101,7 @@ pub(crate) fn serve_call<G: Glass, C: Glass>(
     requires glasses { length glasses.old.items ≡ length server.old.config.clients }
     requires tables { (t : ℕ) → t < length server.old.config.clients → IsGlassOf server.old t
         (glass_in (map G.sight glasses.old.items) t) }
+    requires raw { AreRaw (state_of server.old) (raw_of pixels.old) }
     requires own { IsGlassOf server.old sid (C.sight own.old) }
     ensures served { IsServed sid call.now result server.old server.new }
     ensures pixels { ArePixels server.new pixels.new }
@@ -105,7 +109,41 @@ pub(crate) fn serve_call<G: Glass, C: Glass>(
         (state_of server.new)
         (glasses_of_call (map G.sight glasses.old.items) sid (C.sight own.old))
         (glasses_of_call (map G.sight glasses.new.items) sid (C.sight own.new))
-        pixels.old.raw.items pixels.new.raw.items }
+        (raw_of pixels.old) (raw_of pixels.new) }
+    ensures idle { glass_in (map G.sight glasses.new.items) sid ≡ glass_in
+        (map G.sight glasses.old.items) sid }
+    ensures rest { C.rest own.new ≡ C.rest own.old }
+    ensures rests { map G.rest glasses.new.items ≡ map G.rest glasses.old.items }
+{
+    make_one(server, pixels);
+    serve_accepted(server, pixels, glasses, sid, call, own)
+}
+
+/// The same, where in mode Flat one list is both the raw words and the frame.
+fn serve_accepted<G: Glass, C: Glass>(
+    server: &mut Server,
+    pixels: &mut Pixels,
+    glasses: &mut Vec<G>,
+    sid: u32,
+    call: &Call,
+    own: &mut C,
+) -> Reply
+    requires session { sid < length server.old.sessions }
+    requires accepted { refusal (session_in server.old.sessions sid) call.now ≡ None }
+    requires handles { (session_in server.old.sessions sid).next < 2 ^ 32 - 1 }
+    requires pixels { ArePixels server.old pixels.old }
+    requires one { server.old.input.mode ≡ Flat → pixels.old.is_apart ≡ false }
+    requires glasses { length glasses.old.items ≡ length server.old.config.clients }
+    requires tables { (t : ℕ) → t < length server.old.config.clients → IsGlassOf server.old t
+        (glass_in (map G.sight glasses.old.items) t) }
+    requires own { IsGlassOf server.old sid (C.sight own.old) }
+    ensures served { IsServed sid call.now result server.old server.new }
+    ensures pixels { ArePixels server.new pixels.new }
+    ensures painted { Painted (state_of server.old) (entry.Call sid call.now result)
+        (state_of server.new)
+        (glasses_of_call (map G.sight glasses.old.items) sid (C.sight own.old))
+        (glasses_of_call (map G.sight glasses.new.items) sid (C.sight own.new))
+        (raw_of pixels.old) (raw_of pixels.new) }
     ensures idle { glass_in (map G.sight glasses.new.items) sid ≡ glass_in
         (map G.sight glasses.old.items) sid }
     ensures rest { C.rest own.new ≡ C.rest own.old }
@@ -138,7 +176,7 @@ fn serve_clean(server: &mut Server, pixels: &mut Pixels, sid: u32, call: &Call) 
     requires pixels { ArePixels server.old pixels.old }
     ensures served { IsServed sid call.now result server.old server.new }
     ensures pixels { ArePixels server.new pixels.new }
-    ensures raw { pixels.new.raw ≡ pixels.old.raw }
+    ensures raw { raw_of pixels.new ≡ raw_of pixels.old }
     ensures painted { (glasses : ℕ → Sight) (raw : List ℕ)
         → Painted (state_of server.old) (entry.Call sid call.now result) (state_of server.new)
         glasses glasses raw raw }

@@ -20,6 +20,6 @@ impl<G: Glass + Drop> Screen<G> {
     {
         frame_pixels();
         self.server.facts();
-        self.pixels.frame.as_slice()
+        self.pixels.frame()
     }
 }

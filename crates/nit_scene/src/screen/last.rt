@@ -35,7 +35,6 @@ impl<G: Glass + Drop> Screen<G> {
             &self.server,
             &mut self.pixels.cutter,
             &mut self.pixels.raw,
-            &mut self.pixels.frame,
             owns,
         );
         redraw(&self.server, &mut self.pixels);
@@ -47,12 +46,10 @@ pub(crate) fn load_whole<C: Glass>(
     server: &Server,
     cutter: &mut Cutter,
     raw: &mut Vec<u32>,
-    frame: &mut Vec<u32>,
     owns: &mut [C],
 )
     requires room { server.now.stack.most ≤ cutter.old.room }
     requires pixels { length raw.old.items ≡ server.now.config.width * server.now.config.height }
-    requires frame { length frame.old.items ≡ length raw.old.items }
     requires few { length owns.old ≤ 16 }
     requires held { HoldBuffers server.now.stack (length owns.old)
         (glass_in (map C.sight owns.old)) }
@@ -61,15 +58,8 @@ pub(crate) fn load_whole<C: Glass>(
         (glass_in (map C.sight owns.old)) (glass_in (map C.sight owns.new))
         raw.old.items raw.new.items }
     ensures long { length raw.new.items ≡ length raw.old.items }
-    ensures each { length frame.new.items ≡ length frame.old.items }
     ensures rests { map C.rest owns.new ≡ map C.rest owns.old }
     ensures facts { IsServing server.now }
 {
-    paint_whole(
-        cutter,
-        server.stack(),
-        raw.as_mut_slice(),
-        frame.as_mut_slice(),
-        owns,
-    );
+    paint_whole(cutter, server.stack(), raw.as_mut_slice(), owns);
 }

@@ -13,9 +13,11 @@ ghost use Rattle.std.specs.Prelude.{
   ◌*◌,
   map,
   replicate,
+  true,
 };
 ghost use Rattle.nit_rect.specs.declared.point.Point.{Point};
 ghost use Rattle.nit_word.specs.Channels.{bare_word};
+ghost use Rattle.nit_config.specs.Configuration.{bar_rows};
 ghost use Rattle.nit_config.specs.Configured.{IsConfigured};
 ghost use Rattle.nit_journal.specs.State.{opening};
 ghost use Rattle.nit_scene.specs.Painted.{glass_in};
@@ -53,7 +55,7 @@ impl<G: Glass + Drop> Screen<G> {
     {
         let server = Server::new(alloc, config)?;
         server.facts();
-        let mut pixels = bare_pixels(alloc, config)?;
+        let mut pixels = bare_pixels(alloc, config, bar_pixels(&server))?;
         redraw(&server, &mut pixels);
         Ok(Screen {
             server,
@@ -64,10 +66,12 @@ impl<G: Glass + Drop> Screen<G> {
 }
 
 /// The pixels of a bare screen, of which no frame is made yet.
-fn bare_pixels(alloc: Global, config: &Config) -> Result<Pixels, NoMemory>
+fn bare_pixels(alloc: Global, config: &Config, bar: usize) -> Result<Pixels, NoMemory>
     requires { IsConfigured config.now }
     ensures raw { IfOk result (λ p. p.raw.items
         ≡ replicate (config.now.width * config.now.height) bare_word) }
+    ensures apart { IfOk result (λ p. p.is_apart ≡ true) }
+    ensures bar { IfOk result (λ p. p.bar ≡ bar) }
     ensures frame { IfOk result (λ p. length p.frame.items ≡ config.now.width * config.now.height) }
     ensures named { IfOk result (λ p. p.labels.items ≡ map (λ m. m.label) config.now.clients) }
     ensures room { IfOk result (λ p. (1024 ≤ p.cutter.room) × (1024 ≤ length p.places.items)) }
@@ -81,9 +85,22 @@ fn bare_pixels(alloc: Global, config: &Config) -> Result<Pixels, NoMemory>
         cutter,
         raw,
         frame,
+        is_apart: true,
+        bar,
         labels,
         places,
     })
+}
+
+/// How many pixels the bar has.
+fn bar_pixels(server: &Server) -> usize
+    ensures bar { result ≡ server.now.config.width * bar_rows server.now.config }
+    ensures fits { result ≤ server.now.config.width * server.now.config.height }
+{
+    server.facts();
+    let stack = server.stack();
+    let (width, _height) = stack.size();
+    width as usize * stack.bar() as usize
 }
 
 /// The labels of the clients, in order.

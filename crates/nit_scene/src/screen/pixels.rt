@@ -13,6 +13,7 @@ ghost use Rattle.std.specs.Prelude.{
   map,
   pos,
   slice_index,
+  true,
   if◌then◌else◌,
 };
 ghost use Rattle.nit_rect.specs.Rectangle.{covers, rectangle};
@@ -23,11 +24,12 @@ ghost use Rattle.nit_paint.specs.Copied.{AreSet};
 ghost use Rattle.nit_repaint.specs.Parts.{wanted};
 ghost use Rattle.nit_overlay.specs.Looks.{draws_labels};
 ghost use Rattle.nit_overlay.specs.Shown.{frame, shown};
-ghost use Rattle.nit_scene.specs.Kept.{ArePixels, CanShowBy, shown_by};
+ghost use Rattle.nit_scene.specs.Kept.{ArePixels, CanShowBy, kept_frame, raw_of, shown_by};
 ghost use Rattle.nit_scene.specs.Played.{scenery_of};
 ghost use Rattle.nit_scene.specs.Serving.{IsServing, state_of};
 
 use crate::screen::labels::place_drawn;
+use crate::screen::lists::{put_bar_in, take_bar_off};
 use crate::server::Server;
 use nit_damage::Cutter;
 use nit_events::Mode;
@@ -38,13 +40,34 @@ use nit_repaint::show_session;
 
 /// The raw word of each pixel of a screen and the frame of them, each row by row from the top, with
 /// what they are cut and shown by: the labels of the sessions, and the places of the views' labels.
+///
+/// Where labels are drawn, the raw words stand apart from the frame. In mode Flat one list is both:
+/// `raw` has the frame, which differs from the raw words in the pixels of the bar alone, and `frame`
+/// has words of no meaning. So a pixel is written once when it is loaded.
 #[derive(Drop)]
 pub struct Pixels {
     pub cutter: Cutter,
     pub raw: Vec<u32>,
     pub frame: Vec<u32>,
+    /// Whether the raw words stand apart from the frame.
+    pub is_apart: bool,
+    /// How many pixels the bar has. They are the first ones.
+    pub bar: usize,
     pub labels: Vec<Label>,
     pub places: Vec<Option<Point>>,
+}
+
+impl Pixels {
+    /// The frame.
+    pub(crate) fn frame(&self) -> &[u32]
+        ensures { result.now ≡ kept_frame self.now }
+    {
+        if self.is_apart {
+            self.frame.as_slice()
+        } else {
+            self.raw.as_slice()
+        }
+    }
 }
 
 /// Sets `out` to the whole frame. Where the mode draws labels, their places are worked out first.
@@ -76,12 +99,14 @@ fn frame_of(
     frame_into(&look, raw, out);
 }
 
-/// Makes the whole frame again.
+/// Makes the whole frame again, apart from the raw words.
 pub(crate) fn redraw(server: &Server, pixels: &mut Pixels)
     requires can { CanShowBy server.now pixels.old }
     ensures pixels { ArePixels server.now pixels.new }
-    ensures raw { pixels.new.raw ≡ pixels.old.raw }
+    ensures raw { raw_of pixels.new ≡ raw_of pixels.old }
 {
+    take_bar_off(&mut pixels.raw, pixels.is_apart, pixels.bar);
+    pixels.is_apart = true;
     frame_of(
         server,
         pixels.labels.as_slice(),
@@ -96,11 +121,12 @@ pub(crate) fn redraw(server: &Server, pixels: &mut Pixels)
 /// another mode, and nothing else.
 pub(crate) fn show_input(server: &Server, mode: Mode, focus: Option<u32>, pixels: &mut Pixels)
     requires can { CanShowBy server.now pixels.old }
-    requires before { pixels.old.frame.items
+    requires before { kept_frame pixels.old
         ≡ frame (record (scenery_of (state_of server.now)) { mode = mode; focus = focus })
-        pixels.old.raw.items }
+        (raw_of pixels.old) }
+    requires apart { IsTrue (draws_labels mode) → pixels.old.is_apart ≡ true }
     ensures pixels { ArePixels server.now pixels.new }
-    ensures raw { pixels.new.raw ≡ pixels.old.raw }
+    ensures raw { raw_of pixels.new ≡ raw_of pixels.old }
 {
     if server.mode() != mode {
         redraw(server, pixels);
@@ -119,12 +145,15 @@ pub(crate) fn show_input(server: &Server, mode: Mode, focus: Option<u32>, pixels
 fn redraw_bar(server: &Server, pixels: &mut Pixels)
     requires flat { server.now.input.mode ≡ Flat }
     requires can { CanShowBy server.now pixels.old }
-    ensures can { CanShowBy server.now pixels.new }
-    ensures raw { pixels.new.raw ≡ pixels.old.raw }
-    ensures shown { (focus : Option ℕ) → pixels.old.frame.items
-        ≡ frame (record (scenery_of (state_of server.now)) { focus = focus }) pixels.old.raw.items
-        → pixels.new.frame.items ≡ frame (scenery_of (state_of server.now)) pixels.new.raw.items }
+    ensures raw { raw_of pixels.new ≡ raw_of pixels.old }
+    ensures pixels { (focus : Option ℕ) → kept_frame pixels.old
+        ≡ frame (record (scenery_of (state_of server.now)) { focus = focus }) (raw_of pixels.old)
+        → ArePixels server.now pixels.new }
 {
+    if pixels.is_apart {
+        redraw(server, pixels);
+        return;
+    }
     bar_of(
         server,
         pixels.labels.as_slice(),
@@ -132,6 +161,7 @@ fn redraw_bar(server: &Server, pixels: &mut Pixels)
         pixels.raw.as_slice(),
         pixels.frame.as_mut_slice(),
     );
+    put_bar_in(&mut pixels.raw, &pixels.frame, pixels.bar);
 }
 
 /// Sets the pixels of the bar to what is shown there in mode Flat.
@@ -176,15 +206,14 @@ fn bar_rect(server: &Server) -> Rect
 }
 
 /// Shows again all, in the modes that draw labels, where views or their titles changed.
-/// In mode Flat the frame stays: it has the words of the pixels that were loaded.
+/// In mode Flat nothing is to be done: one list has the words that were loaded and the frame.
 pub(crate) fn show_views(mode: Mode, server: &Server, pixels: &mut Pixels)
     requires mode { mode ≡ server.now.input.mode }
     requires can { CanShowBy server.now pixels.old }
     ensures can { CanShowBy server.now pixels.new }
-    ensures raw { pixels.new.raw ≡ pixels.old.raw }
-    ensures flat { mode ≡ Flat → pixels.new.frame ≡ pixels.old.frame }
-    ensures labelled { IsTrue (draws_labels mode)
-        → pixels.new.frame.items ≡ frame (scenery_of (state_of server.now)) pixels.new.raw.items }
+    ensures raw { raw_of pixels.new ≡ raw_of pixels.old }
+    ensures flat { mode ≡ Flat → pixels.new ≡ pixels.old }
+    ensures labelled { IsTrue (draws_labels mode) → ArePixels server.now pixels.new }
 {
     match mode {
         Mode::Flat => {}
@@ -205,7 +234,8 @@ pub(crate) fn show_part(
     requires can { CanShowBy server.now pixels.old }
     ensures can { CanShowBy server.now pixels.new }
     ensures raw { pixels.new.raw ≡ pixels.old.raw }
-    ensures flat { mode ≡ Flat → pixels.new.frame ≡ pixels.old.frame }
+    ensures kept { (pixels.new.is_apart ≡ pixels.old.is_apart) × (pixels.new.bar ≡ pixels.old.bar) }
+    ensures flat { mode ≡ Flat → pixels.new ≡ pixels.old }
     ensures labelled { IsTrue (draws_labels mode) → AreSet
         (λ k. wanted of part.now server.now.stack (pixel server.now.stack.width k))
         (length pixels.new.raw.items) (shown_by (state_of server.now) pixels.new.raw.items)
@@ -223,6 +253,7 @@ fn overlay_part(server: &Server, of: u32, part: &Option<Rect>, pixels: &mut Pixe
     requires can { CanShowBy server.now pixels.old }
     ensures can { CanShowBy server.now pixels.new }
     ensures raw { pixels.new.raw ≡ pixels.old.raw }
+    ensures kept { (pixels.new.is_apart ≡ pixels.old.is_apart) × (pixels.new.bar ≡ pixels.old.bar) }
     ensures shown { AreSet
         (λ k. wanted of part.now server.now.stack (pixel server.now.stack.width k))
         (length pixels.new.raw.items) (shown_by (state_of server.now) pixels.new.raw.items)

@@ -7,6 +7,7 @@ ghost use Rattle.std.specs.Prelude.{
   ◌<◌,
   ◌≤◌,
   None,
+  false,
   length,
   ℕ,
   ◌*◌,
@@ -19,14 +20,14 @@ ghost use Rattle.nit_events.specs.declared.event.Status.TheVariants as status;
 ghost use Rattle.nit_stack.specs.Sources.{pixel};
 ghost use Rattle.nit_journal.specs.Session.{refusal, accepted};
 ghost use Rattle.nit_journal.specs.State.{session, session_in};
-ghost use Rattle.nit_paint.specs.Copied.{IsCopied};
 ghost use Rattle.nit_paint.specs.Painting.{Repainted, no_sight};
 ghost use Rattle.nit_paint.specs.Pieces.{source_at};
 ghost use Rattle.nit_repaint.specs.Glasses.{HoldBuffers, glasses_of_call};
 ghost use Rattle.nit_repaint.specs.Parts.{wanted};
 ghost use Rattle.nit_scene.specs.CallKinds.{IsPartOf};
 ghost use Rattle.nit_scene.specs.Dirty.{session_owns};
-ghost use Rattle.nit_scene.specs.Kept.{ArePixels, CanShowBy};
+ghost use Rattle.nit_events.specs.declared.device.Mode.TheVariants.{Flat};
+ghost use Rattle.nit_scene.specs.Kept.{ArePixels, CanShowBy, raw_of};
 ghost use Rattle.nit_scene.specs.Painted.{
   Painted,
   glass_in,
@@ -62,6 +63,7 @@ pub(crate) fn change_buffer<G: Glass, C: Glass>(
     requires handles { (session_in server.old.sessions sid).next < 2 ^ 32 - 1 }
     requires on { IsPartOf part.now call.now }
     requires pixels { ArePixels server.old pixels.old }
+    requires one { server.old.input.mode ≡ Flat → pixels.old.is_apart ≡ false }
     requires glasses { length glasses.old.items ≡ length server.old.config.clients }
     requires tables { (t : ℕ) → t < length server.old.config.clients → IsGlassOf server.old t
         (glass_in (map G.sight glasses.old.items) t) }
@@ -72,7 +74,7 @@ pub(crate) fn change_buffer<G: Glass, C: Glass>(
         (state_of server.new)
         (glasses_of_call (map G.sight glasses.old.items) sid (C.sight own.old))
         (glasses_of_call (map G.sight glasses.new.items) sid (C.sight own.new))
-        pixels.old.raw.items pixels.new.raw.items }
+        (raw_of pixels.old) (raw_of pixels.new) }
     ensures idle { glass_in (map G.sight glasses.new.items) sid ≡ glass_in
         (map G.sight glasses.old.items) sid }
     ensures rest { C.rest own.new ≡ C.rest own.old }
@@ -87,7 +89,6 @@ pub(crate) fn change_buffer<G: Glass, C: Glass>(
         part,
         &mut pixels.cutter,
         &mut pixels.raw,
-        &mut pixels.frame,
         glasses,
         own,
     );
@@ -95,20 +96,18 @@ pub(crate) fn change_buffer<G: Glass, C: Glass>(
     reply
 }
 
-/// Loads again what is wanted of a session's views. The frame gets the raw words.
+/// Loads again what is wanted of a session's views.
 fn paint_views<G: Glass, C: Glass>(
     server: &Server,
     sid: u32,
     part: &Option<Rect>,
     cutter: &mut Cutter,
     raw: &mut Vec<u32>,
-    frame: &mut Vec<u32>,
     glasses: &mut Vec<G>,
     own: &mut C,
 )
     requires room { length server.now.stack.views ≤ cutter.old.room }
     requires pixels { length raw.old.items ≡ server.now.stack.width * server.now.stack.height }
-    requires frame { length frame.old.items ≡ length raw.old.items }
     requires held { HoldBuffers server.now.stack (length glasses.old.items)
         (glasses_of_call (map G.sight glasses.old.items) sid (C.sight own.old)) }
     ensures room { cutter.new.room ≡ cutter.old.room }
@@ -118,11 +117,7 @@ fn paint_views<G: Glass, C: Glass>(
         (glasses_of_call (map G.sight glasses.old.items) sid (C.sight own.old))
         (glasses_of_call (map G.sight glasses.new.items) sid (C.sight own.new))
         raw.old.items raw.new.items }
-    ensures shown { IsCopied
-        (λ k. wanted sid part.now server.now.stack (pixel server.now.stack.width k))
-        (length raw.old.items) raw.new.items frame.old.items frame.new.items }
     ensures count { length raw.new.items ≡ length raw.old.items }
-    ensures each { length frame.new.items ≡ length frame.old.items }
     ensures idle { glass_in (map G.sight glasses.new.items) sid ≡ glass_in
         (map G.sight glasses.old.items) sid }
     ensures rest { C.rest own.new ≡ C.rest own.old }
@@ -134,7 +129,6 @@ fn paint_views<G: Glass, C: Glass>(
         sid,
         part,
         raw.as_mut_slice(),
-        frame.as_mut_slice(),
         glasses.as_mut_slice(),
         sid,
         own,
@@ -162,7 +156,7 @@ pub(crate) fn close<G: Glass, C: Glass>(
         (state_of server.new)
         (glasses_of_call (map G.sight glasses.old.items) sid (C.sight own.old))
         (glasses_of_call (map G.sight glasses.new.items) sid (C.sight own.new))
-        pixels.old.raw.items pixels.new.raw.items }
+        (raw_of pixels.old) (raw_of pixels.new) }
     ensures idle { glass_in (map G.sight glasses.new.items) sid ≡ glass_in
         (map G.sight glasses.old.items) sid }
     ensures rest { C.rest own.new ≡ C.rest own.old }
@@ -175,7 +169,6 @@ pub(crate) fn close<G: Glass, C: Glass>(
         Status::Closed,
         &mut pixels.cutter,
         &mut pixels.raw,
-        &mut pixels.frame,
         glasses,
         sid,
         own,
@@ -203,7 +196,7 @@ pub(crate) fn kill_session<G: Glass>(
         (λ k. session_owns of (state_of server.old) (pixel server.old.config.width k))
         (pixel_count (state_of server.old))
         (glass_in (map G.sight glasses.old.items)) (glass_in (map G.sight glasses.new.items))
-        pixels.old.raw.items pixels.new.raw.items }
+        (raw_of pixels.old) (raw_of pixels.new) }
     ensures rests { map G.rest glasses.new.items ≡ map G.rest glasses.old.items }
 {
     server.facts();
@@ -214,7 +207,6 @@ pub(crate) fn kill_session<G: Glass>(
         Status::Killed,
         &mut pixels.cutter,
         &mut pixels.raw,
-        &mut pixels.frame,
         glasses,
         nobody,
         &mut Nobody::<0>,
@@ -229,7 +221,6 @@ fn end_session<G: Glass, C: Glass>(
     how: Status,
     cutter: &mut Cutter,
     raw: &mut Vec<u32>,
-    frame: &mut Vec<u32>,
     glasses: &mut Vec<G>,
     sid: u32,
     own: &mut C,
@@ -237,7 +228,6 @@ fn end_session<G: Glass, C: Glass>(
     requires session { of < length server.old.sessions }
     requires room { server.old.stack.most ≤ cutter.old.room }
     requires pixels { length raw.old.items ≡ server.old.config.width * server.old.config.height }
-    requires frame { length frame.old.items ≡ length raw.old.items }
     requires held { HoldBuffers server.old.stack (length glasses.old.items)
         (glasses_of_call (map G.sight glasses.old.items) sid (C.sight own.old)) }
     ensures server { server.new ≡ with_ended of how server.old }
@@ -250,14 +240,13 @@ fn end_session<G: Glass, C: Glass>(
         (glasses_of_call (map G.sight glasses.new.items) sid (C.sight own.new))
         raw.old.items raw.new.items }
     ensures count { length raw.new.items ≡ length raw.old.items }
-    ensures each { length frame.new.items ≡ length frame.old.items }
     ensures idle { glass_in (map G.sight glasses.new.items) sid ≡ glass_in
         (map G.sight glasses.old.items) sid }
     ensures rest { C.rest own.new ≡ C.rest own.old }
     ensures rests { map G.rest glasses.new.items ≡ map G.rest glasses.old.items }
 {
     server.facts();
-    take_views_away(server, of, cutter, raw, frame, glasses, sid, own);
+    take_views_away(server, of, cutter, raw, glasses, sid, own);
     server.end_session(of, how);
     server.facts();
 }

@@ -24,7 +24,6 @@ ghost use Rattle.nit_stack.specs.Sources.{pixel};
 ghost use Rattle.nit_stack.specs.Standing.{Seat, Standing, has, is_of_session, place_of, seat_in};
 ghost use Rattle.nit_journal.specs.Session.{refusal, accepted};
 ghost use Rattle.nit_journal.specs.State.{session, session_in};
-ghost use Rattle.nit_paint.specs.Copied.{IsCopied};
 ghost use Rattle.nit_paint.specs.Painting.{Repainted, no_sight};
 ghost use Rattle.nit_paint.specs.Pieces.{source_at};
 ghost use Rattle.nit_repaint.specs.Glasses.{HoldBuffers, glasses_of_call};
@@ -32,7 +31,8 @@ ghost use Rattle.nit_repaint.specs.OneView.{IsChange, slot_owns_either};
 ghost use Rattle.nit_repaint.specs.Owned.{owner_passes};
 ghost use Rattle.nit_repaint.specs.Uncovered.{IsTaken, uncovered, without_session};
 ghost use Rattle.nit_scene.specs.CallKinds.{IsOn};
-ghost use Rattle.nit_scene.specs.Kept.{ArePixels};
+ghost use Rattle.nit_events.specs.declared.device.Mode.TheVariants.{Flat};
+ghost use Rattle.nit_scene.specs.Kept.{ArePixels, raw_of};
 ghost use Rattle.nit_scene.specs.Painted.{Painted, glass_in};
 ghost use Rattle.nit_scene.specs.Seating.{without_views};
 ghost use Rattle.nit_scene.specs.Serving.{IsServed, state_of};
@@ -64,6 +64,7 @@ pub(crate) fn change_view<G: Glass, C: Glass>(
     requires handles { (session_in server.old.sessions sid).next < 2 ^ 32 - 1 }
     requires on { IsOn handle call.now }
     requires pixels { ArePixels server.old pixels.old }
+    requires one { server.old.input.mode ≡ Flat → pixels.old.is_apart ≡ false }
     requires glasses { length glasses.old.items ≡ length server.old.config.clients }
     requires tables { (t : ℕ) → t < length server.old.config.clients → IsGlassOf server.old t
         (glass_in (map G.sight glasses.old.items) t) }
@@ -74,7 +75,7 @@ pub(crate) fn change_view<G: Glass, C: Glass>(
         (state_of server.new)
         (glasses_of_call (map G.sight glasses.old.items) sid (C.sight own.old))
         (glasses_of_call (map G.sight glasses.new.items) sid (C.sight own.new))
-        pixels.old.raw.items pixels.new.raw.items }
+        (raw_of pixels.old) (raw_of pixels.new) }
     ensures idle { glass_in (map G.sight glasses.new.items) sid ≡ glass_in
         (map G.sight glasses.old.items) sid }
     ensures rest { C.rest own.new ≡ C.rest own.old }
@@ -92,7 +93,6 @@ pub(crate) fn change_view<G: Glass, C: Glass>(
         rect,
         &mut pixels.cutter,
         &mut pixels.raw,
-        &mut pixels.frame,
         glasses,
         sid,
         own,
@@ -114,7 +114,6 @@ fn stood(server: &Server, v: ViewRef) -> (u32, Rect)
 }
 
 /// Loads again what a view owned before or owns now: it stood at this place with this rectangle.
-/// The frame gets the raw words.
 fn paint_change<G: Glass, C: Glass>(
     server: &Server,
     v: ViewRef,
@@ -122,14 +121,12 @@ fn paint_change<G: Glass, C: Glass>(
     rect: Rect,
     cutter: &mut Cutter,
     raw: &mut Vec<u32>,
-    frame: &mut Vec<u32>,
     glasses: &mut Vec<G>,
     sid: u32,
     own: &mut C,
 )
     requires room { length server.now.stack.views ≤ cutter.old.room }
     requires pixels { length raw.old.items ≡ server.now.stack.width * server.now.stack.height }
-    requires frame { length frame.old.items ≡ length raw.old.items }
     requires held { HoldBuffers server.now.stack (length glasses.old.items)
         (glasses_of_call (map G.sight glasses.old.items) sid (C.sight own.old)) }
     ensures room { cutter.new.room ≡ cutter.old.room }
@@ -140,12 +137,7 @@ fn paint_change<G: Glass, C: Glass>(
         (glasses_of_call (map G.sight glasses.old.items) sid (C.sight own.old))
         (glasses_of_call (map G.sight glasses.new.items) sid (C.sight own.new))
         raw.old.items raw.new.items }
-    ensures shown { (before : Standing) → IsChange v.0 place rect before server.now.stack
-        → IsCopied (λ k. slot_owns_either v.0 before server.now.stack
-        (pixel server.now.stack.width k))
-        (length raw.old.items) raw.new.items frame.old.items frame.new.items }
     ensures count { length raw.new.items ≡ length raw.old.items }
-    ensures each { length frame.new.items ≡ length frame.old.items }
     ensures idle { glass_in (map G.sight glasses.new.items) sid ≡ glass_in
         (map G.sight glasses.old.items) sid }
     ensures rest { C.rest own.new ≡ C.rest own.old }
@@ -158,7 +150,6 @@ fn paint_change<G: Glass, C: Glass>(
         place,
         rect,
         raw.as_mut_slice(),
-        frame.as_mut_slice(),
         glasses.as_mut_slice(),
         sid,
         own,
@@ -179,7 +170,6 @@ pub(crate) fn take_views_away<G: Glass, C: Glass>(
     of: u32,
     cutter: &mut Cutter,
     raw: &mut Vec<u32>,
-    frame: &mut Vec<u32>,
     glasses: &mut Vec<G>,
     sid: u32,
     own: &mut C,
@@ -187,7 +177,6 @@ pub(crate) fn take_views_away<G: Glass, C: Glass>(
     requires session { of < length server.old.sessions }
     requires room { length server.old.stack.views ≤ cutter.old.room }
     requires pixels { length raw.old.items ≡ server.old.stack.width * server.old.stack.height }
-    requires frame { length frame.old.items ≡ length raw.old.items }
     requires held { HoldBuffers server.old.stack (length glasses.old.items)
         (glasses_of_call (map G.sight glasses.old.items) sid (C.sight own.old)) }
     ensures left { without_views of server.new ≡ without_views of server.old }
@@ -201,7 +190,6 @@ pub(crate) fn take_views_away<G: Glass, C: Glass>(
         (glasses_of_call (map G.sight glasses.new.items) sid (C.sight own.new))
         raw.old.items raw.new.items }
     ensures count { length raw.new.items ≡ length raw.old.items }
-    ensures each { length frame.new.items ≡ length frame.old.items }
     ensures idle { glass_in (map G.sight glasses.new.items) sid ≡ glass_in
         (map G.sight glasses.old.items) sid }
     ensures rest { C.rest own.new ≡ C.rest own.old }
@@ -210,7 +198,7 @@ pub(crate) fn take_views_away<G: Glass, C: Glass>(
     let mut i = view_count(server);
     'views: while 0 < i {
         i -= 1;
-        take_seat_away(server, i, of, cutter, raw, frame, glasses, sid, own);
+        take_seat_away(server, i, of, cutter, raw, glasses, sid, own);
     }
 }
 
@@ -222,7 +210,6 @@ fn take_seat_away<G: Glass, C: Glass>(
     of: u32,
     cutter: &mut Cutter,
     raw: &mut Vec<u32>,
-    frame: &mut Vec<u32>,
     glasses: &mut Vec<G>,
     sid: u32,
     own: &mut C,
@@ -232,7 +219,6 @@ fn take_seat_away<G: Glass, C: Glass>(
     requires session { of < length server.old.sessions }
     requires room { length server.old.stack.views ≤ cutter.old.room }
     requires pixels { length raw.old.items ≡ server.old.stack.width * server.old.stack.height }
-    requires frame { length frame.old.items ≡ length raw.old.items }
     requires held { HoldBuffers server.old.stack (length glasses.old.items)
         (glasses_of_call (map G.sight glasses.old.items) sid (C.sight own.old)) }
     ensures taken { IsTaken of i server.old.stack server.new.stack }
@@ -246,7 +232,6 @@ fn take_seat_away<G: Glass, C: Glass>(
         (glasses_of_call (map G.sight glasses.new.items) sid (C.sight own.new))
         raw.old.items raw.new.items }
     ensures count { length raw.new.items ≡ length raw.old.items }
-    ensures each { length frame.new.items ≡ length frame.old.items }
     ensures idle { glass_in (map G.sight glasses.new.items) sid ≡ glass_in
         (map G.sight glasses.old.items) sid }
     ensures rest { C.rest own.new ≡ C.rest own.old }
@@ -258,7 +243,5 @@ fn take_seat_away<G: Glass, C: Glass>(
         return;
     }
     server.remove_view(of, view.handle);
-    paint_change(
-        server, v, i, view.rect, cutter, raw, frame, glasses, sid, own,
-    );
+    paint_change(server, v, i, view.rect, cutter, raw, glasses, sid, own);
 }

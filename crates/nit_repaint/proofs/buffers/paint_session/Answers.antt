@@ -1,9 +1,7 @@
 use Rattle.std.proofs.Common.{◌∙◌, refl, arith}
-use Rattle.std.specs.Prelude.{slice_index}
 use Rattle.nit_paint.specs.Pieces.{source_at}
 use Rattle.nit_paint.proofs.Repaints.{other_count}
 use Rattle.nit_repaint.proofs.Glasses.{still_held}
-use Rattle.nit_repaint.proofs.Copied.{first_shown, last_shown, next_shown, other_length}
 use Rattle.nit_repaint.proofs.Wanted.{all_wanted, none_wanted, one_wanted, seat_here, seat_there}
 use Rattle.nit_repaint.proofs.buffers.paint_session.Goals as goal
 
@@ -11,7 +9,6 @@ pub views-init : goal.views-init
 views-init g c = record {
   room = refl;
   painted = none_wanted (source_at c.args.stack.now) c.args.stack.now _ c.args.of c.args.part.now _ c.args.raw.now;
-  shown = first_shown c.args.stack.now _ c.args.of c.args.part.now (slice_index c.args.raw.now) c.args.frame.now;
   count = refl;
   idle = refl;
   rest = refl;
@@ -32,16 +29,11 @@ views-preserved g c =
       room = e.room ∙ v.room;
       painted = one_wanted (source_at s) s _ c.args.of c.args.part.now c.views.i x.0 _ _ _ _ _ _ c.len-views.ensures.standing.slots (seat_here s.views c.views.i x.0 c.len-views.ensures.standing.slots x.1) x.1 v.painted
           (other_count _ _ _ _ _ _ _ _ v.count (e.painted x.0 x.1));
-      shown = next_shown s _ c.args.of c.args.part.now c.views.i x.0 _ _ _ _ _ c.len-views.ensures.standing.slots (seat_here s.views c.views.i x.0 c.len-views.ensures.standing.slots x.1) x.1
-          (λ k out. (e.painted x.0 x.1).others k (λ l. out)) v.shown (other_length _ _ _ _ _ _ v.count (e.shown x.0 x.1));
       count = e.count ∙ v.count;
       idle = e.idle ∙ v.idle;
       rest = e.rest ∙ v.rest;
       rests = e.rests ∙ v.rests;
     }
-
-pub returns-clause-shown : goal.returns-clause-shown
-returns-clause-shown g c = last_shown c.args.stack.now _ c.args.of c.args.part.now c.views.i _ _ _ (omega (arith, c.views-test.false, c.len-views.ensures.count)) c.views.invariant.shown
 
 pub returns-clause-painted : goal.returns-clause-painted
 returns-clause-painted g c =

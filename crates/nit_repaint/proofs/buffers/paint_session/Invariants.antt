@@ -1,6 +1,5 @@
 use Rattle.std.proofs.Common.{◌≡◌, length, map, slice_index_or}
 use Rattle.nit_stack.specs.Sources.{pixel}
-use Rattle.nit_paint.specs.Copied.{IsCopied}
 use Rattle.nit_paint.specs.Painting.{Repainted, no_sight}
 use Rattle.nit_paint.specs.Pieces.{source_at}
 use Rattle.nit_repaint.specs.Glasses.{glasses_of_call}
@@ -12,7 +11,6 @@ invariant-views g l = record {
   room : l.cutter.room ≡ l.initial.cutter.room;
   painted : Repainted (source_at l.stack) (λ k. wanted_of_first l.i l.of l.part l.stack (pixel l.stack.width k)) (length l.initial.raw)
       (glasses_of_call (map g.G.Glass.sight l.initial.glasses) l.sid (g.C.Glass.sight l.initial.own)) (glasses_of_call (map g.G.Glass.sight l.glasses) l.sid (g.C.Glass.sight l.own)) l.initial.raw l.raw;
-  shown : IsCopied (λ k. wanted_of_first l.i l.of l.part l.stack (pixel l.stack.width k)) (length l.initial.raw) l.raw l.initial.frame l.frame;
   count : length l.raw ≡ length l.initial.raw;
   idle : slice_index_or (map g.G.Glass.sight l.glasses) l.sid no_sight ≡ slice_index_or (map g.G.Glass.sight l.initial.glasses) l.sid no_sight;
   rest : g.C.Glass.rest l.own ≡ g.C.Glass.rest l.initial.own;

@@ -1,9 +1,7 @@
 use Rattle.std.proofs.Common.{◌∙◌, refl, arith}
-use Rattle.std.specs.Prelude.{slice_index}
 use Rattle.nit_paint.specs.Pieces.{source_at}
 use Rattle.nit_paint.proofs.Repaints.{other_count}
 use Rattle.nit_repaint.proofs.Coming.{all_came, none_came, one_came}
-use Rattle.nit_repaint.proofs.Copied.{all_shown, none_shown, one_shown, other_length}
 use Rattle.nit_repaint.proofs.Glasses.{screen_of, still_held}
 use Rattle.nit_repaint.proofs.pieces.paint_to_come.Goals as goal
 
@@ -13,7 +11,6 @@ pieces-init g c = record {
   room = refl;
   less = λ p. omega arith;
   painted = none_came (source_at c.args.stack.now) c.args.stack.now _ c.args.cutter.now _ c.args.raw.now;
-  shown = none_shown c.args.stack.now _ c.args.cutter.now (slice_index c.args.raw.now) c.args.frame.now;
   count = refl;
   idle = refl;
   rest = refl;
@@ -40,16 +37,11 @@ pieces-preserved g c =
       less = λ p. let was = i.less p in let now = e.count p in omega arith;
       painted = one_came (source_at c.args.stack.now) c.args.stack.now _ c.args.cutter.now c.pieces.cutter c.next.new.self c.in-Some.piece.rect _ _ _ _ _ _
           c.requires.fits.once i.less e.count e.came i.painted (other_count _ _ _ _ _ _ _ _ i.count p'.painted);
-      shown = one_shown c.args.stack.now _ c.args.cutter.now c.pieces.cutter c.next.new.self c.in-Some.piece.rect _ _ _ _ _ i.less e.count e.came
-          (λ k out. p'.painted.others k (λ l. out)) i.shown (other_length _ _ _ _ _ _ i.count p'.shown);
       count = p'.count ∙ i.count;
       idle = p'.idle ∙ i.idle;
       rest = p'.rest ∙ i.rest;
       rests = p'.rests ∙ i.rests;
     }
-
-pub returns-clause-shown : goal.returns-clause-shown
-returns-clause-shown g c = all_shown c.args.stack.now _ c.args.cutter.now c.pieces.cutter _ _ _ c.in_default.ensures.came c.pieces.invariant.shown
 
 pub returns-clause-painted : goal.returns-clause-painted
 returns-clause-painted g c =

@@ -1,7 +1,6 @@
 use Rattle.std.proofs.Common.{◌≡◌, ◌≤◌, length, map, slice_index_or}
 use Rattle.nit_rect.specs.declared.point.Point.{Point}
 use Rattle.nit_damage.specs.Cuts.{Fits, pieces_left, to_come}
-use Rattle.nit_paint.specs.Copied.{IsCopied}
 use Rattle.nit_paint.specs.Painting.{Repainted, no_sight}
 use Rattle.nit_paint.specs.Pieces.{source_at}
 use Rattle.nit_repaint.specs.Coming.{has_come}
@@ -15,7 +14,6 @@ invariant-pieces g l = record {
   less : (p : Point) → to_come l.cutter l.stack p ≤ to_come l.initial.cutter l.stack p;
   painted : Repainted (source_at l.stack) (has_come l.initial.cutter l.cutter l.stack) (length l.initial.raw)
       (glasses_of_call (map g.G.Glass.sight l.initial.glasses) l.sid (g.C.Glass.sight l.initial.own)) (glasses_of_call (map g.G.Glass.sight l.glasses) l.sid (g.C.Glass.sight l.own)) l.initial.raw l.raw;
-  shown : IsCopied (has_come l.initial.cutter l.cutter l.stack) (length l.initial.raw) l.raw l.initial.frame l.frame;
   count : length l.raw ≡ length l.initial.raw;
   idle : slice_index_or (map g.G.Glass.sight l.glasses) l.sid no_sight ≡ slice_index_or (map g.G.Glass.sight l.initial.glasses) l.sid no_sight;
   rest : g.C.Glass.rest l.own ≡ g.C.Glass.rest l.initial.own;

@@ -1,7 +1,5 @@
-use Rattle.std.proofs.Common.{length, arith, true}
-use Rattle.nit_rect.specs.declared.point.Point.{Point}
+use Rattle.std.proofs.Common.{length, arith}
 use Rattle.nit_paint.specs.Pieces.{source_at}
-use Rattle.nit_repaint.proofs.Copied.{shown_as}
 use Rattle.nit_repaint.proofs.Glasses.{all_painted, held_by_all}
 use Rattle.nit_repaint.proofs.whole.paint_whole.Goals as goal
 
@@ -12,7 +10,3 @@ pub returns-clause-painted : goal.returns-clause-painted
 returns-clause-painted g c =
     all_painted g.C.Glass.sight (source_at c.args.stack.now) c.args.stack.now c.begin_all.new.self _ (length c.args.owns.now) c.args.owns.now c.paint_to_come.new.glasses _ _ c.requires.pixels (omega arith) (omega (arith, c.paint_to_come.auto.glasses))
     c.begin_all.ensures.to_come c.paint_to_come.ensures.painted
-
-pub returns-clause-shown : goal.returns-clause-shown
-returns-clause-shown g c =
-    shown_as c.args.stack.now c.begin_all.new.self (λ (p : Point). true) _ _ _ _ c.requires.pixels c.begin_all.ensures.to_come c.paint_to_come.ensures.shown

@@ -1,14 +1,16 @@
-use Rattle.std.proofs.Common.{ℕ, List, false, length, refl, ap, sym, subst, ◌∙◌}
+use Rattle.std.proofs.Common.{ℕ, false, length, refl, ap, sym, subst, ◌∙◌}
 use Rattle.std.specs.Prelude.{IsTrue, slice_index}
 use Rattle.nit_events.specs.declared.device.Mode.{Mode}
 use Rattle.nit_stack.specs.Sources.{pixel}
 use Rattle.nit_word.specs.Sight.{Sight}
-use Rattle.nit_paint.specs.Copied.{IsCopied}
 use Rattle.nit_paint.proofs.Copied.{nothing_set}
 use Rattle.nit_overlay.specs.Looks.{draws_labels}
 use Rattle.nit_paint.specs.Painting.{no_sight}
 use Rattle.nit_scene.specs.CallKinds.{IsClean}
+use Rattle.std.proofs.lemmas.Bool.{false≢true}
+use Rattle.nit_scene.specs.Kept.{IsFrameOf, kept_frame, raw_of}
 use Rattle.nit_scene.specs.Serving.{state_of}
+use Rattle.nit_scene.proofs.OneList.{by_mode, raw_long}
 use Rattle.nit_scene.proofs.Changed.{clean_call, clean_painted, same_most}
 use Rattle.nit_scene.proofs.Keeps.{can_still, kept_served}
 use Rattle.nit_scene.proofs.Screens.{same_config}
@@ -19,28 +21,30 @@ show_views-requires-clause-can c =
     let s = c.args.server.now in
     let s' = c.accept-reply.new.self in
     let p = c.args.pixels.now in
-    can_still s s' p.raw.items p.raw.items p.frame.items p.frame.items p.cutter.room p.cutter.room p.labels.items (length p.places.items)
+    can_still s s' p.raw.items p.raw.items p.frame.items p.cutter.room p.cutter.room p.labels.items (length p.places.items) p.bar
     (same_config c.args.sid c.args.call.now c.accept-reply.result s s' c.accept-reply.ensures)
     (same_most s s' c.args.sid c.args.call.now c.accept-reply.result c.facts.ensures c.facts-2.ensures c.accept-reply.ensures)
-    refl refl c.requires.pixels.0.words refl c.requires.pixels.0
+    refl c.requires.pixels.0.words refl c.requires.pixels.0
 
 pub returns-clause-pixels : goal.returns-clause-pixels
 returns-clause-pixels c =
     let s = c.args.server.now in
     let s' = c.accept-reply.new.self in
     let p = c.args.pixels.now in
-    let p' = c.show_views.new.pixels in
     let e = c.show_views.ensures in
-    let none : ℕ → Sight = λ t. no_sight in (
+    let none : ℕ → Sight = λ t. no_sight in
+    by_mode s'.input.mode
+    (λ m. (
       e.can,
-      kept_served s s' c.args.sid c.args.call.now c.accept-reply.result none none p.raw.items p'.raw.items p.frame.items p'.frame.items (λ (k : ℕ). false)
+      subst (IsFrameOf s') (sym (e.flat (c.mode.ensures ∙ m))) (kept_served s s' c.args.sid c.args.call.now c.accept-reply.result none none (raw_of p) (raw_of p) (kept_frame p) (kept_frame p) (λ (k : ℕ). false)
           c.requires.session (λ q. subst IsClean q c.requires.clean) c.accept-reply.ensures
-          (rw e.raw (clean_painted (state_of s) (state_of s') c.args.sid c.args.call.now c.accept-reply.result none p.raw.items c.requires.clean)) (ap (λ w. length w.items) e.raw ∙ c.requires.pixels.0.pixels)
+          (clean_painted (state_of s) (state_of s') c.args.sid c.args.call.now c.accept-reply.result none (raw_of p) c.requires.clean) (raw_long p.is_apart p.bar p.raw.items c.requires.pixels.0.fits ∙ c.requires.pixels.0.pixels)
           (λ k. sym (clean_call (state_of s) (state_of s') c.args.sid c.args.call.now c.accept-reply.result (pixel s.config.width k) c.requires.clean))
-          (λ m. subst (λ (new : List ℕ). IsCopied (λ (k : ℕ). false) (length p'.raw.items) p'.raw.items p.frame.items new) (sym (ap (λ w. w.items) (e.flat (c.mode.ensures ∙ m))))
-          (nothing_set (λ (k : ℕ). false) (length p'.raw.items) (slice_index p'.raw.items) p.frame.items (λ k l. refl)))
-          (λ m. e.labelled (subst (λ (x : Mode). IsTrue (draws_labels x)) (sym c.mode.ensures) m)) c.requires.pixels.1,
-    )
+          (λ n. nothing_set (λ (k : ℕ). false) (length (raw_of p)) (slice_index (raw_of p)) (kept_frame p) (λ k l. refl))
+          (λ d. absurd (false≢true (sym (ap draws_labels m) ∙ d))) c.requires.pixels.1),
+      λ d. absurd (false≢true (sym (ap draws_labels m) ∙ d)),
+    ))
+    (λ m. e.labelled (subst (λ (x : Mode). IsTrue (draws_labels x)) (sym c.mode.ensures) m))
 
 pub returns-clause-painted : goal.returns-clause-painted
 returns-clause-painted c glasses raw = clean_painted (state_of c.args.server.now) (state_of c.accept-reply.new.self) c.args.sid c.args.call.now c.accept-reply.result glasses raw c.requires.clean

@@ -1,4 +1,8 @@
-use Rattle.std.proofs.Common.{length, refl, ap, sym, ◌∙◌}
+use Rattle.std.proofs.Common.{length, refl, ap, sym, subst, ◌∙◌}
+use Rattle.std.specs.Prelude.{IsTrue}
+use Rattle.nit_events.specs.declared.device.Mode.{Mode}
+use Rattle.nit_overlay.specs.Looks.{draws_labels}
+use Rattle.nit_scene.specs.Kept.{raw_of}
 use Rattle.nit_overlay.specs.Shown.{Scenery, frame}
 use Rattle.nit_scene.specs.Serving.{state_of}
 use Rattle.nit_scene.proofs.Changed.{quiet_painted, same_most}
@@ -10,12 +14,14 @@ pub returns-clause-pixels : goal.returns-clause-pixels
 returns-clause-pixels c =
     let s = c.args.server.now in
     let s' = c.accept-reply.new.self in
-    let p = c.args.pixels.now in (
-      can_still s s' p.raw.items p.raw.items p.frame.items p.frame.items p.cutter.room p.cutter.room p.labels.items (length p.places.items)
+    let p = c.args.pixels.now in
+    let same = quiet_scenery s s' c.args.sid c.args.call.now c.accept-reply.result c.requires.accepted c.accept-reply.ensures c.requires.quiet in (
+      can_still s s' p.raw.items p.raw.items p.frame.items p.cutter.room p.cutter.room p.labels.items (length p.places.items) p.bar
           (same_config c.args.sid c.args.call.now c.accept-reply.result s s' c.accept-reply.ensures)
           (same_most s s' c.args.sid c.args.call.now c.accept-reply.result c.facts.ensures c.facts-2.ensures c.accept-reply.ensures)
-          refl refl c.requires.pixels.0.words refl c.requires.pixels.0,
-      c.requires.pixels.1 ∙ ap (λ (sc : Scenery). frame sc p.raw.items) (sym (quiet_scenery s s' c.args.sid c.args.call.now c.accept-reply.result c.requires.accepted c.accept-reply.ensures c.requires.quiet)),
+          refl c.requires.pixels.0.words refl c.requires.pixels.0,
+      c.requires.pixels.1 ∙ ap (λ (sc : Scenery). frame sc (raw_of p)) (sym same),
+      λ d. c.requires.pixels.2 (subst (λ (m : Mode). IsTrue (draws_labels m)) (ap (λ (sc : Scenery). sc.mode) same) d),
     )
 
 pub returns-clause-painted : goal.returns-clause-painted

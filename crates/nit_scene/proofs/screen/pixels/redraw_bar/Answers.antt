@@ -1,21 +1,27 @@
-use Rattle.std.proofs.Common.{◌≡◌, cond, drop, length, sym, ap, ◌∙◌, arith}
-use Rattle.std.specs.Prelude.{pos, slice_index}
-use Rattle.nit_rect.specs.Rectangle.{covers, rectangle}
-use Rattle.nit_stack.specs.Sources.{pixel}
+use Rattle.std.proofs.Common.{◌≡◌, ◌<◌, ◌++◌, ℕ, List, Bool, cond, drop, length, take, sym, ap, ◌∙◌, arith}
+use Rattle.std.specs.Prelude.{slice_index}
+use Rattle.nit_stack.specs.Sources.{in_bar, pixel}
 use Rattle.nit_overlay.specs.Shown.{shown}
 use Rattle.nit_scene.specs.Played.{scenery_of}
 use Rattle.nit_scene.specs.Serving.{state_of}
 use Rattle.nit_scene.proofs.Changed.{put_back_whole}
-use Rattle.nit_scene.proofs.Keeps.{bar_redrawn}
+use Rattle.nit_scene.proofs.Keeps.{bar_covered}
+use Rattle.nit_scene.proofs.OneList.{bar_again}
 use Rattle.nit_scene.proofs.screen.pixels.redraw_bar.Goals as goal
 
-pub returns-clause-shown : goal.returns-clause-shown
-returns-clause-shown c focus was =
+pub returns-clause-pixels : goal.returns-clause-pixels
+returns-clause-pixels c focus was =
+    let s = c.args.server.now in
     let p = c.args.pixels.now in
     let e = c.bar_of.ensures in
+    let sc = scenery_of (state_of s) in
+    let some : 0 < s.config.width = let a = e.facts.standing.screen.0 in let b = e.facts.screen.0 in omega (arith, a, b) in
     let same_words : length c.bar_of.new.out ≡ p.frame.len = omega (arith, e.length, c.as_mut_slice.ensures.len) in
-    let whole = put_back_whole p.frame.len c.bar_of.new.out (drop (length c.bar_of.new.out) p.frame.items) same_words in
-    let sc = scenery_of (state_of c.args.server.now) in
-    sym whole ∙ bar_redrawn sc focus c.args.server.now.stack.bar p.raw.items p.frame.items c.bar_of.new.out c.requires.flat e.facts.screen.2
-    (λ k l. e.shown k l ∙ (λ i. cond (covers (rectangle (pos 0) (pos 0) sc.width c.args.server.now.stack.bar) (pixel sc.width k)) (shown sc (pixel sc.width k) (slice_index (c.as_slice-3.ensures.value i) k)) (slice_index (c.as_mut_slice.ensures.value i) k)))
-    (e.length ∙ ap length c.as_mut_slice.ensures.value ∙ c.requires.can.each) was
+    let made = take p.frame.len (c.bar_of.new.out ++ drop (length c.bar_of.new.out) p.frame.items) in
+    let whole : c.bar_of.new.out ≡ made = put_back_whole p.frame.len c.bar_of.new.out (drop (length c.bar_of.new.out) p.frame.items) same_words in
+    rw c.put_bar_in.ensures (bar_again s p.is_apart focus p.bar p.raw.items p.frame.items made p.cutter.room p.labels.items (length p.places.items) c.if-pixels.false c.requires.flat some c.requires.can
+    (ap length (sym whole) ∙ e.length ∙ ap length c.as_mut_slice.ensures.value)
+    (λ k l in_. ap (λ (xs : List ℕ). slice_index xs k) (sym whole) ∙ e.shown k l
+    ∙ ap (λ (b : Bool). cond b (shown sc (pixel s.config.width k) (slice_index c.as_slice-3.result.now k)) (slice_index c.as_mut_slice.result.now k)) (bar_covered s.config.width s.config.height s.stack.bar k l (ap (λ (n : ℕ). in_bar n (pixel s.config.width k)) e.facts.screen.2 ∙ in_))
+    ∙ ap (λ (xs : List ℕ). shown sc (pixel s.config.width k) (slice_index xs k)) c.as_slice-3.ensures.value)
+    was)

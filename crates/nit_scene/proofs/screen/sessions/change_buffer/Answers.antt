@@ -1,15 +1,22 @@
-use Rattle.std.proofs.Common.{ℕ, ◌*◌, Bool, List, refl, length, map, ap, sym, subst, ◌∙◌, arith}
+use Rattle.std.proofs.Common.{◌≡◌, ◌<◌, ℕ, ◌*◌, Bool, true, cond, length, map, ap, sym, subst, ◌∙◌, arith}
 use Rattle.nit_config.specs.Configuration.{Configuration}
 use Rattle.std.specs.Prelude.{IsTrue}
 use Rattle.nit_events.specs.declared.device.Mode.{Mode}
 use Rattle.nit_stack.specs.Sources.{pixel}
 use Rattle.nit_paint.proofs.Repaints.{repainted_words}
-use Rattle.nit_paint.specs.Copied.{IsCopied}
 use Rattle.nit_repaint.specs.Parts.{wanted}
 use Rattle.nit_overlay.specs.Looks.{draws_labels}
 use Rattle.nit_scene.specs.CallKinds.{IsPartOf}
 use Rattle.nit_repaint.specs.Glasses.{glasses_of_call}
-use Rattle.nit_scene.proofs.Keeps.{can_still, copied_on, kept_part, kept_served}
+use Rattle.std.proofs.lemmas.Bool.{false≢true}
+use Rattle.nit_events.specs.declared.call.Call.TheVariants.{Close}
+use Rattle.nit_events.specs.declared.entry.Entry.TheVariants as entry
+use Rattle.nit_overlay.specs.Shown.{frame}
+use Rattle.nit_scene.specs.Kept.{IsFrameOf, raw_in}
+use Rattle.nit_scene.specs.Played.{scenery_of}
+use Rattle.nit_scene.specs.Serving.{state_of}
+use Rattle.nit_scene.proofs.Keeps.{can_still, kept_part}
+use Rattle.nit_scene.proofs.OneList.{bar_kept, by_mode, entry_painted_in, flat_kept, mode_stays}
 use Rattle.nit_scene.proofs.Changed.{dirty_by_views, few_views, painted_by_views, same_most}
 use Rattle.nit_scene.proofs.Screens.{held_by_glasses, same_config}
 use Rattle.nit_scene.proofs.screen.sessions.change_buffer.Goals as goal
@@ -38,10 +45,10 @@ show_part-requires-clause-can g c =
     let s' = c.accept-reply.new.self in
     let p = c.args.pixels.now in
     let raw' = c.paint_views.new.raw.items in
-    can_still s s' p.raw.items raw' p.frame.items c.paint_views.new.frame.items p.cutter.room c.paint_views.new.cutter.room p.labels.items (length p.places.items)
+    can_still s s' p.raw.items raw' p.frame.items p.cutter.room c.paint_views.new.cutter.room p.labels.items (length p.places.items) p.bar
     (same_config c.args.sid c.args.call.now c.accept-reply.result s s' c.accept-reply.ensures)
     (same_most s s' c.args.sid c.args.call.now c.accept-reply.result c.facts.ensures c.facts-2.ensures c.accept-reply.ensures)
-    c.paint_views.ensures.count c.paint_views.ensures.shown.count (repainted_words _ _ _ _ _ p.raw.items raw' c.paint_views.ensures.count c.paint_views.ensures.painted c.requires.pixels.0.words)
+    c.paint_views.ensures.count (repainted_words _ _ _ _ _ p.raw.items raw' c.paint_views.ensures.count c.paint_views.ensures.painted c.requires.pixels.0.words)
     c.paint_views.ensures.room c.requires.pixels.0
 
 -- the pixels that are shown again are the dirty ones
@@ -56,24 +63,37 @@ returns-clause-pixels g c =
     let reply = c.accept-reply.result in
     let glasses = glasses_of_call (map g.G.Glass.sight c.args.glasses.now.items) c.args.sid (g.C.Glass.sight c.args.own.now) in
     let glasses' = glasses_of_call (map g.G.Glass.sight c.paint_views.new.glasses.items) c.args.sid (g.C.Glass.sight c.paint_views.new.own) in
-    let mid = c.paint_views.new.frame.items in
     let chosen : ℕ → Bool = λ k. wanted c.args.sid c.args.part.now s'.stack (pixel s'.stack.width k) in
     let painted = painted_by_views s s' c.args.sid c.args.part.now call reply c.facts-2.ensures c.requires.accepted c.accept-reply.ensures c.requires.on
     (length p.raw.items) glasses glasses' p.raw.items c.paint_views.new.raw.items c.requires.pixels.0.pixels c.paint_views.ensures.painted in
     let many = ap (λ w. length w.items) e.raw ∙ c.paint_views.ensures.count ∙ c.requires.pixels.0.pixels in
     let is_dirty = dirty_by_views s s' c.args.sid c.args.part.now call reply c.facts-2.ensures c.requires.accepted c.accept-reply.ensures c.requires.on in
-    let far : IsCopied chosen (length p'.raw.items) p'.raw.items p.frame.items mid =
-    copied_on chosen (length p.raw.items) (length p'.raw.items) c.paint_views.new.raw.items p'.raw.items p.frame.items mid mid (sym (ap (λ w. length w.items) e.raw ∙ c.paint_views.ensures.count)) (sym (ap (λ w. w.items) e.raw)) refl c.paint_views.ensures.shown in (
+    let bar_ = bar_kept s s' p.bar (same_config c.args.sid call reply s s' c.accept-reply.ensures) c.requires.pixels.0.bar in
+    let other : call ≡ Close → ⊥ = λ q. subst (IsPartOf c.args.part.now) q c.requires.on in
+    let some : 0 < s.config.width = let a = c.facts.ensures.standing.screen.0 in let b = c.facts.ensures.screen.0 in omega (arith, a, b) in
+    by_mode s'.input.mode
+    (λ m. (
       e.can,
-      kept_served s s' c.args.sid call reply glasses glasses' p.raw.items p'.raw.items p.frame.items p'.frame.items chosen
-          c.requires.session (λ q. subst (IsPartOf c.args.part.now) q c.requires.on) c.accept-reply.ensures (rw e.raw painted) many is_dirty
-          (λ m. subst (λ (new : List ℕ). IsCopied chosen (length p'.raw.items) p'.raw.items p.frame.items new) (sym (ap (λ w. w.items) (e.flat (c.mode.ensures ∙ m)))) far)
-          (λ m. kept_part s s' c.args.sid c.args.part.now call reply glasses glasses' p.raw.items p'.raw.items p.frame.items mid p'.frame.items chosen
-          c.requires.accepted c.accept-reply.ensures c.requires.on (rw e.raw painted) many is_dirty far (e.labelled (subst (λ (x : Mode). IsTrue (draws_labels x)) (sym c.mode.ensures) m)) c.requires.pixels.1)
-          c.requires.pixels.1,
-    )
+      subst (IsFrameOf s') (sym (e.flat (c.mode.ensures ∙ m))) (flat_kept s s' c.args.sid call reply glasses glasses' p.is_apart p.bar p.raw.items c.paint_views.new.raw.items p.frame.items p.cutter.room p.labels.items (length p.places.items) chosen
+          c.requires.session other c.accept-reply.ensures some c.requires.pixels.0 c.paint_views.ensures.count bar_ painted is_dirty c.requires.one m c.requires.pixels.1),
+      λ d. absurd (false≢true (sym (ap draws_labels m) ∙ d)),
+    ))
+    (λ m.
+    let apart : p.is_apart ≡ true = c.requires.pixels.2 (subst (λ (x : Mode). IsTrue (draws_labels x)) (mode_stays s s' c.args.sid call reply other c.accept-reply.ensures) m) in
+    let was : p.frame.items ≡ frame (scenery_of (state_of s)) p.raw.items = subst (λ (b : Bool). cond b p.frame.items p.raw.items ≡ frame (scenery_of (state_of s)) (raw_in b p.bar p.raw.items)) apart c.requires.pixels.1 in (
+      e.can,
+      subst (λ (b : Bool). cond b p'.frame.items p'.raw.items ≡ frame (scenery_of (state_of s')) (raw_in b p'.bar p'.raw.items)) (sym (e.kept.0 ∙ apart))
+          (kept_part s s' c.args.sid c.args.part.now call reply glasses glasses' p.raw.items p'.raw.items p.frame.items p'.frame.items chosen
+          c.requires.accepted c.accept-reply.ensures c.requires.on (rw e.raw painted) many is_dirty (e.labelled (subst (λ (x : Mode). IsTrue (draws_labels x)) (sym c.mode.ensures) m)) was),
+      λ d. e.kept.0 ∙ apart,
+    ))
 
 pub returns-clause-painted : goal.returns-clause-painted
 returns-clause-painted g c =
-    rw c.show_part.ensures.raw (painted_by_views c.args.server.now c.accept-reply.new.self c.args.sid c.args.part.now c.args.call.now c.accept-reply.result c.facts-2.ensures c.requires.accepted c.accept-reply.ensures c.requires.on
-    _ _ _ c.args.pixels.now.raw.items c.paint_views.new.raw.items c.requires.pixels.0.pixels c.paint_views.ensures.painted)
+    let s = c.args.server.now in
+    let s' = c.accept-reply.new.self in
+    let p = c.args.pixels.now in
+    let e = c.show_part.ensures in
+    rw e.kept.0 (rw e.kept.1 (rw e.raw (entry_painted_in p.is_apart p.bar (state_of s) (entry.Call c.args.sid c.args.call.now c.accept-reply.result) (state_of s') _ _ p.raw.items c.paint_views.new.raw.items (bar_kept s s' p.bar (same_config c.args.sid c.args.call.now c.accept-reply.result s s' c.accept-reply.ensures) c.requires.pixels.0.bar)
+    (painted_by_views s s' c.args.sid c.args.part.now c.args.call.now c.accept-reply.result c.facts-2.ensures c.requires.accepted c.accept-reply.ensures c.requires.on
+    _ _ _ p.raw.items c.paint_views.new.raw.items c.requires.pixels.0.pixels c.paint_views.ensures.painted))))

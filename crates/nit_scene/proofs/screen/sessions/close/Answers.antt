@@ -1,11 +1,13 @@
 use Rattle.std.proofs.Common.{length, map, refl, sym, ap, subst}
 use Rattle.nit_events.specs.declared.call.Call.TheVariants as call
 use Rattle.nit_events.specs.declared.call.Reply.TheVariants as reply
-use Rattle.nit_scene.specs.Serving.{IsServed, Serving}
+use Rattle.nit_scene.specs.Serving.{IsServed, Serving, state_of}
 use Rattle.nit_paint.proofs.Repaints.{repainted_words}
 use Rattle.nit_scene.proofs.Changed.{close_painted}
 use Rattle.nit_scene.proofs.Goings.{closed}
+use Rattle.nit_events.specs.declared.entry.Entry.TheVariants as entry
 use Rattle.nit_scene.proofs.Keeps.{can_still}
+use Rattle.nit_scene.proofs.OneList.{bar_kept, entry_painted_in}
 use Rattle.nit_scene.proofs.Screens.{held_by_glasses}
 use Rattle.nit_scene.proofs.screen.sessions.close.Goals as goal
 
@@ -26,9 +28,14 @@ redraw-requires g c =
     let raw' = c.end_session.new.raw.items in
     let e = c.end_session.ensures in
     record {
-      can = can_still s s' p.raw.items raw' p.frame.items c.end_session.new.frame.items p.cutter.room c.end_session.new.cutter.room p.labels.items (length p.places.items)
-          (ap (λ (t : Serving). t.config) e.server) (ap (λ (t : Serving). t.stack.most) e.server) e.count e.each (repainted_words _ _ _ _ _ p.raw.items raw' e.count e.painted c.requires.pixels.0.words) e.room c.requires.pixels.0;
+      can = can_still s s' p.raw.items raw' p.frame.items p.cutter.room c.end_session.new.cutter.room p.labels.items (length p.places.items) p.bar
+          (ap (λ (t : Serving). t.config) e.server) (ap (λ (t : Serving). t.stack.most) e.server) e.count (repainted_words _ _ _ _ _ p.raw.items raw' e.count e.painted c.requires.pixels.0.words) e.room c.requires.pixels.0;
     }
 
 pub returns-clause-painted : goal.returns-clause-painted
-returns-clause-painted g c = rw c.redraw.ensures.raw (close_painted c.args.server.now c.end_session.new.server c.args.sid _ _ c.args.pixels.now.raw.items c.end_session.new.raw.items c.end_session.ensures.painted)
+returns-clause-painted g c =
+    let s = c.args.server.now in
+    let s' = c.end_session.new.server in
+    let p = c.args.pixels.now in
+    rw c.redraw.ensures.raw (entry_painted_in p.is_apart p.bar (state_of s) (entry.Call c.args.sid call.Close reply.Done) (state_of s') _ _ p.raw.items c.end_session.new.raw.items (bar_kept s s' p.bar (ap (λ (t : Serving). t.config) c.end_session.ensures.server) c.requires.pixels.0.bar)
+    (close_painted s s' c.args.sid _ _ p.raw.items c.end_session.new.raw.items c.end_session.ensures.painted))

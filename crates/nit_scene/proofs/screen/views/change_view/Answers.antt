@@ -1,4 +1,4 @@
-use Rattle.std.proofs.Common.{◌*◌, ℕ, length, map, ap, sym, ◌∙◌, subst, arith}
+use Rattle.std.proofs.Common.{◌*◌, ◌<◌, ℕ, length, map, ap, sym, ◌∙◌, subst, arith}
 use Rattle.nit_config.specs.Configuration.{Configuration}
 use Rattle.std.specs.Prelude.{IsTrue}
 use Rattle.nit_events.specs.declared.device.Mode.{Mode}
@@ -8,7 +8,12 @@ use Rattle.nit_repaint.specs.OneView.{IsChange, slot_owns_either}
 use Rattle.nit_overlay.specs.Looks.{draws_labels}
 use Rattle.nit_scene.specs.CallKinds.{IsOn}
 use Rattle.nit_repaint.specs.Glasses.{glasses_of_call}
-use Rattle.nit_scene.proofs.Keeps.{can_still, copied_on, kept_served}
+use Rattle.nit_events.specs.declared.entry.Entry.TheVariants as entry
+use Rattle.std.proofs.lemmas.Bool.{false≢true}
+use Rattle.nit_scene.specs.Kept.{IsFrameOf}
+use Rattle.nit_scene.specs.Serving.{state_of}
+use Rattle.nit_scene.proofs.Keeps.{can_still}
+use Rattle.nit_scene.proofs.OneList.{bar_kept, by_mode, entry_painted_in, flat_kept}
 use Rattle.nit_scene.proofs.Changed.{change_stood, dirty_by_change, few_views, named_stands, painted_by_change, same_most}
 use Rattle.nit_scene.proofs.Screens.{held_by_glasses, same_config}
 use Rattle.nit_scene.proofs.screen.views.change_view.Goals as goal
@@ -43,10 +48,10 @@ show_views-requires-clause-can g c =
     let change : IsChange c.slot-v.result.0 c.stood-place.result.0 c.stood-place.result.1 s.stack s'.stack =
     change_stood s s' c.args.sid c.args.handle c.slot-v.result.0 c.args.call.now c.accept-reply.result c.stood-place.result.0 c.stood-place.result.1 c.facts.ensures c.facts-2.ensures c.requires.accepted c.accept-reply.ensures c.requires.on c.slot-v.ensures
     c.stood-place.ensures.place c.stood-place.ensures.seat in
-    can_still s s' p.raw.items raw' p.frame.items c.paint_change.new.frame.items p.cutter.room c.paint_change.new.cutter.room p.labels.items (length p.places.items)
+    can_still s s' p.raw.items raw' p.frame.items p.cutter.room c.paint_change.new.cutter.room p.labels.items (length p.places.items) p.bar
     (same_config c.args.sid c.args.call.now c.accept-reply.result s s' c.accept-reply.ensures)
     (same_most s s' c.args.sid c.args.call.now c.accept-reply.result c.facts.ensures c.facts-2.ensures c.accept-reply.ensures)
-    c.paint_change.ensures.count c.paint_change.ensures.each (repainted_words _ _ _ _ _ p.raw.items raw' c.paint_change.ensures.count (c.paint_change.ensures.painted s.stack change) c.requires.pixels.0.words)
+    c.paint_change.ensures.count (repainted_words _ _ _ _ _ p.raw.items raw' c.paint_change.ensures.count (c.paint_change.ensures.painted s.stack change) c.requires.pixels.0.words)
     c.paint_change.ensures.room c.requires.pixels.0
 
 -- the pixels that are shown again are the dirty ones
@@ -62,14 +67,20 @@ returns-clause-pixels g c =
     change_stood s s' c.args.sid c.args.handle c.slot-v.result.0 c.args.call.now c.accept-reply.result c.stood-place.result.0 c.stood-place.result.1 c.facts.ensures c.facts-2.ensures c.requires.accepted c.accept-reply.ensures c.requires.on c.slot-v.ensures
     c.stood-place.ensures.place c.stood-place.ensures.seat in
     let painted = painted_by_change s s' c.args.sid c.args.handle v c.args.call.now c.accept-reply.result c.facts.ensures c.facts-2.ensures c.requires.accepted c.accept-reply.ensures c.requires.on c.slot-v.ensures
-    (length p.raw.items) (glasses_of_call (map g.G.Glass.sight c.args.glasses.now.items) c.args.sid (g.C.Glass.sight c.args.own.now)) (glasses_of_call (map g.G.Glass.sight c.paint_change.new.glasses.items) c.args.sid (g.C.Glass.sight c.paint_change.new.own)) p.raw.items c.paint_change.new.raw.items c.requires.pixels.0.pixels (c.paint_change.ensures.painted s.stack change) in (
+    (length p.raw.items) (glasses_of_call (map g.G.Glass.sight c.args.glasses.now.items) c.args.sid (g.C.Glass.sight c.args.own.now)) (glasses_of_call (map g.G.Glass.sight c.paint_change.new.glasses.items) c.args.sid (g.C.Glass.sight c.paint_change.new.own)) p.raw.items c.paint_change.new.raw.items c.requires.pixels.0.pixels (c.paint_change.ensures.painted s.stack change) in
+    let bar_ = bar_kept s s' p.bar (same_config c.args.sid c.args.call.now c.accept-reply.result s s' c.accept-reply.ensures) c.requires.pixels.0.bar in
+    let some : 0 < s.config.width = let a = c.facts.ensures.standing.screen.0 in let b = c.facts.ensures.screen.0 in omega (arith, a, b) in
+    by_mode s'.input.mode
+    (λ m. (
       e.can,
-      kept_served s s' c.args.sid c.args.call.now c.accept-reply.result (glasses_of_call (map g.G.Glass.sight c.args.glasses.now.items) c.args.sid (g.C.Glass.sight c.args.own.now)) (glasses_of_call (map g.G.Glass.sight c.paint_change.new.glasses.items) c.args.sid (g.C.Glass.sight c.paint_change.new.own)) p.raw.items p'.raw.items p.frame.items p'.frame.items (λ (k : ℕ). slot_owns_either v.0 s.stack s'.stack (pixel s'.stack.width k))
-          c.requires.session (λ q. subst (IsOn c.args.handle) q c.requires.on) c.accept-reply.ensures (rw e.raw painted) (ap (λ w. length w.items) e.raw ∙ c.paint_change.ensures.count ∙ c.requires.pixels.0.pixels)
+      subst (IsFrameOf s') (sym (e.flat (c.mode.ensures ∙ m))) (flat_kept s s' c.args.sid c.args.call.now c.accept-reply.result _ _ p.is_apart p.bar p.raw.items c.paint_change.new.raw.items p.frame.items p.cutter.room p.labels.items (length p.places.items)
+          (λ (k : ℕ). slot_owns_either v.0 s.stack s'.stack (pixel s'.stack.width k))
+          c.requires.session (λ q. subst (IsOn c.args.handle) q c.requires.on) c.accept-reply.ensures some c.requires.pixels.0 c.paint_change.ensures.count bar_ painted
           (dirty_by_change s s' c.args.sid c.args.handle v c.args.call.now c.accept-reply.result c.facts.ensures c.facts-2.ensures c.requires.accepted c.accept-reply.ensures c.requires.on c.slot-v.ensures)
-          (λ m. copied_on _ _ _ _ _ _ _ _ (sym (ap (λ w. length w.items) e.raw ∙ c.paint_change.ensures.count)) (sym (ap (λ w. w.items) e.raw)) (sym (ap (λ w. w.items) (e.flat (c.mode.ensures ∙ m)))) (c.paint_change.ensures.shown s.stack change))
-          (λ m. e.labelled (subst (λ (x : Mode). IsTrue (draws_labels x)) (sym c.mode.ensures) m)) c.requires.pixels.1,
-    )
+          c.requires.one m c.requires.pixels.1),
+      λ d. absurd (false≢true (sym (ap draws_labels m) ∙ d)),
+    ))
+    (λ m. e.labelled (subst (λ (x : Mode). IsTrue (draws_labels x)) (sym c.mode.ensures) m))
 
 pub returns-clause-painted : goal.returns-clause-painted
 returns-clause-painted g c =
@@ -78,5 +89,7 @@ returns-clause-painted g c =
     let change : IsChange c.slot-v.result.0 c.stood-place.result.0 c.stood-place.result.1 s.stack s'.stack =
     change_stood s s' c.args.sid c.args.handle c.slot-v.result.0 c.args.call.now c.accept-reply.result c.stood-place.result.0 c.stood-place.result.1 c.facts.ensures c.facts-2.ensures c.requires.accepted c.accept-reply.ensures c.requires.on c.slot-v.ensures
     c.stood-place.ensures.place c.stood-place.ensures.seat in
-    rw c.show_views.ensures.raw (painted_by_change s s' c.args.sid c.args.handle c.slot-v.result c.args.call.now c.accept-reply.result c.facts.ensures c.facts-2.ensures c.requires.accepted c.accept-reply.ensures c.requires.on c.slot-v.ensures
-    _ _ _ c.args.pixels.now.raw.items c.paint_change.new.raw.items c.requires.pixels.0.pixels (c.paint_change.ensures.painted s.stack change))
+    let bar_ = bar_kept s s' c.args.pixels.now.bar (same_config c.args.sid c.args.call.now c.accept-reply.result s s' c.accept-reply.ensures) c.requires.pixels.0.bar in
+    rw c.show_views.ensures.raw (entry_painted_in c.args.pixels.now.is_apart c.args.pixels.now.bar (state_of s) (entry.Call c.args.sid c.args.call.now c.accept-reply.result) (state_of s') _ _ c.args.pixels.now.raw.items c.paint_change.new.raw.items bar_
+    (painted_by_change s s' c.args.sid c.args.handle c.slot-v.result c.args.call.now c.accept-reply.result c.facts.ensures c.facts-2.ensures c.requires.accepted c.accept-reply.ensures c.requires.on c.slot-v.ensures
+    _ _ _ c.args.pixels.now.raw.items c.paint_change.new.raw.items c.requires.pixels.0.pixels (c.paint_change.ensures.painted s.stack change)))

@@ -20,7 +20,6 @@ views-init g c =
       room = refl;
       painted = repainted_none _ (λ (k : ℕ). uncovered c.args.of s s (pixel s.width k)) _ _ c.args.raw.now.items (λ k l. stays_clean c.args.of s (pixel s.width k));
       count = refl;
-      each = refl;
       many = refl;
       idle = refl;
       rest = refl;
@@ -46,9 +45,6 @@ take_seat_away-requires-clause-room g c =
 pub take_seat_away-requires-clause-pixels : goal.take_seat_away-requires-clause-pixels
 take_seat_away-requires-clause-pixels g c = c.views.invariant.count ∙ c.requires.pixels ∙ sym (ap (λ (t : Standing). t.width * t.height) c.views.invariant.taken.rest)
 
-pub take_seat_away-requires-clause-frame : goal.take_seat_away-requires-clause-frame
-take_seat_away-requires-clause-frame g c = c.views.invariant.each ∙ c.requires.frame ∙ sym c.views.invariant.count
-
 pub take_seat_away-requires-clause-held : goal.take_seat_away-requires-clause-held
 take_seat_away-requires-clause-held g c =
     let i = c.views.invariant in
@@ -69,7 +65,6 @@ views-preserved g c =
       room = e.room ∙ i.room;
       painted = painted_more c.args.of (c.views.i - 1) _ s mid c.take_seat_away.new.server.stack _ _ _ _ _ _ first e.taken i.painted (other_count _ _ _ _ _ _ _ _ i.count e.painted);
       count = e.count ∙ i.count;
-      each = e.each ∙ i.each;
       many = sym (length-map c.take_seat_away.new.glasses.items g.G.Glass.rest) ∙ ap length e.rests ∙ length-map c.views.glasses.items g.G.Glass.rest ∙ i.many;
       idle = e.idle ∙ i.idle;
       rest = e.rest ∙ i.rest;

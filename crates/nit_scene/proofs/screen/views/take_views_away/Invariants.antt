@@ -16,7 +16,6 @@ invariant-views g l = record {
   painted : Repainted (source_at (without_session l.of l.initial.server.stack)) (λ k. uncovered l.of l.initial.server.stack l.server.stack (pixel l.initial.server.stack.width k)) (length l.initial.raw.items)
       (glasses_of_call (map g.G.Glass.sight l.initial.glasses.items) l.sid (g.C.Glass.sight l.initial.own)) (glasses_of_call (map g.G.Glass.sight l.glasses.items) l.sid (g.C.Glass.sight l.own)) l.initial.raw.items l.raw.items;
   count : length l.raw.items ≡ length l.initial.raw.items;
-  each : length l.frame.items ≡ length l.initial.frame.items;
   many : length l.glasses.items ≡ length l.initial.glasses.items;
   idle : slice_index_or (map g.G.Glass.sight l.glasses.items) l.sid no_sight ≡ slice_index_or (map g.G.Glass.sight l.initial.glasses.items) l.sid no_sight;
   rest : g.C.Glass.rest l.own ≡ g.C.Glass.rest l.initial.own;
