@@ -54,6 +54,7 @@ impl<'h, 'a, N: Name, K> Drop for Work<'h, 'a, N, K> {
 }
 
 impl<'h, 'a, N: Name, K: Checkpoint> Crew<Pass<'a>> for Work<'h, 'a, N, K> {
+    ghost use Rattle.std.specs.Prelude.{◌≡◌, length};
     ghost use Rattle.nit_actor.specs.Roles.{IsRoleIn, role_of};
 
     type Role = PassRole;
@@ -61,6 +62,8 @@ impl<'h, 'a, N: Name, K: Checkpoint> Crew<Pass<'a>> for Work<'h, 'a, N, K> {
     ghost role = { λ p. record { role = role_of p } };
 
     ghost fits = { λ r. IsRoleIn N.parts r.role };
+
+    ghost ended = { λ p. p.next ≡ length p.script };
 
     fn run<R: Wait>(&self, rt: &R, pass: &mut Pass<'a>) {
         run_lines(rt, self.hall, self.checkpoint, pass);
@@ -82,6 +85,7 @@ impl<'h, 'a, 's, N: Name, K: Checkpoint, S: Store> Own<Pass<'a>, Work<'h, 'a, N,
 
     ghost kept = { λ before after'.
         (user_role_of after'.user ≡ user_role_of before.user)
+        × (after'.user.next ≡ length after'.user.input)
         × PutsShotsBehind N.parts before.user.seen after'.user.seen
         (putting (S.shown before.desk.store.now) before.desk.fault before.desk.tried)
         (putting (S.shown after'.desk.store.now) after'.desk.fault after'.desk.tried)

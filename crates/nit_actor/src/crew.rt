@@ -25,9 +25,13 @@ pub(crate) trait Crew<P> {
     /// A pass of this role may be run.
     ghost fits: { Self.Role → Type 0 };
 
+    /// Nothing of the pass is left to run.
+    ghost ended: { P → Type 0 };
+
     fn run<R: Wait>(&self, rt: &R, pass: &mut P)
         requires fits { fits (role pass.old) }
-        ensures same { role pass.new ≡ role pass.old };
+        ensures same { role pass.new ≡ role pass.old }
+        ensures done { ended pass.new };
 }
 
 /// What the calling thread has of its own, and goes on with while the others run. No other thread
@@ -44,6 +48,7 @@ pub(crate) trait Own<P, W: Crew<P>> {
         requires fits { All (λ p. W.fits (W.role p)) passes.old }
         requires ready { ready self }
         ensures same { map W.role passes.new ≡ map W.role passes.old }
+        ensures done { All W.ended passes.new }
         ensures kept { kept self result };
 }
 

@@ -18,6 +18,7 @@ pub mod Leaving
 pub mod Besides
 pub mod OneAlone
 pub mod Headlines
+pub mod Events
 pub mod Naming
 pub mod Texting
 pub mod RoutesFit

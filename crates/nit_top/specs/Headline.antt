@@ -1,5 +1,6 @@
 -- The headline: what a run promises of its journal and of its pictures.
 use Rattle.std.specs.Prelude.{◌≡◌, ◌⊎◌, ℕ, ◌+◌, ◌<◌, Bool, true, false, List, [], ◌∷◌, ◌++◌, length, slice_index, All, Contains, Option, Some, None, option_map, if◌then◌else◌}
+use Rattle.std.specs.List.{flat_map}
 use Rattle.nit_events.specs.declared.call.Call.{Call}
 use Rattle.nit_events.specs.declared.call.Call.TheVariants.{Close}
 use Rattle.nit_events.specs.declared.call.Reply.{Reply}
@@ -9,6 +10,7 @@ use Rattle.nit_events.specs.declared.device.Device.TheVariants as device
 use Rattle.nit_events.specs.declared.device.Mode.TheVariants.{Flat, Xray}
 use Rattle.nit_events.specs.declared.entry.Entry.{Entry}
 use Rattle.nit_events.specs.declared.entry.Entry.TheVariants as entry
+use Rattle.nit_events.specs.declared.event.Event.{Event}
 use Rattle.nit_events.specs.declared.event.Event.TheVariants as event
 use Rattle.nit_events.specs.declared.event.Item.TheVariants as item
 use Rattle.nit_events.specs.declared.event.Routed.{Routed}
@@ -29,7 +31,7 @@ use Rattle.nit_overlay.specs.Shown.{shown}
 use Rattle.nit_scene.specs.Painted.{pixel_count}
 use Rattle.nit_scene.specs.Played.{scenery_of}
 use Rattle.nit_report.specs.Picture.{picture}
-use Rattle.nit_report.specs.EventsText.{events_text}
+use Rattle.nit_report.specs.EventsText.{events_text, taken}
 use Rattle.nit_report.specs.JournalText.{ReadsJournal, journal_text}
 use Rattle.nit_store.specs.Shown.{File}
 use Rattle.nit_plan.specs.Sessions.{script_in}
@@ -41,6 +43,12 @@ use Rattle.nit_top.specs.Outputs.{IsJournal, AreOutputs, ending_of, events_name,
 
 -- ---- each client
 
+-- the events among replies, in order
+abbrev pub events_among : List Reply → List Event
+events_among [] = []
+events_among (reply.Event e ∷ rest) = e ∷ events_among rest
+events_among (other ∷ rest) = events_among rest
+
 -- A client is served as if it were alone.
 pub record IsServedAlone (config : Configuration) (scripts : List (List Line))
     (journal : List Entry) (sid : ℕ) : Type 0 where
@@ -49,6 +57,9 @@ pub record IsServedAlone (config : Configuration) (scripts : List (List Line))
   -- its replies are those of a machine that opens with its donation, and gets its calls and what the
   -- user's input routes to it
   pub replies : replies_to sid journal ≡ alone (donation_of config sid) (projection sid journal)
+  -- the events that it takes are those that this machine hands out, in order
+  pub events : flat_map (taken sid) journal
+      ≡ events_among (alone (donation_of config sid) (projection sid journal))
   -- where a call of it is refused for quota, less is left than the call needs; and a machine that got
   -- its own calls before that one, and nothing else, refuses it with the same numbers
   pub quota : (front rest : List Entry) (call : Call) (need left : ℕ)
@@ -141,8 +152,8 @@ HoldsAtEnd s journal k w = w ≡ raw_word (replay s.config journal) (tables_left
 -- ---- the texts
 
 -- The texts of a run. What a client's text tells is told of the machine that serves it alone: the
--- events that it took stand among its replies, and how it ended is how that machine ends. The text of
--- the journal is read back as the journal.
+-- events that it took are those that this machine hands out (`events` of its clause), and how it ended
+-- is how that machine ends. The text of the journal is read back as the journal.
 pub record AreTexts (config : Configuration) (journal : List Entry) (outputs : List File) : Type 0 where
   pub events : (sid : ℕ) → sid < length config.clients
       → let machine = alone_machine (donation_of config sid) (projection sid journal) in

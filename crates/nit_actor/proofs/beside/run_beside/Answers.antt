@@ -11,4 +11,4 @@ pub returns-clause-same : goal.returns-clause-same
 returns-clause-same g c = c.run_left.ensures.same ∙ roles_back _ _ c.run_crew-mine.ensures.passes
 
 pub returns-clause-put : goal.returns-clause-put
-returns-clause-put g c = puts_also g.N.Name.parts _ _ _ _ _ _ c.run_crew-mine.ensures.kept.1 c.run_left.ensures.put
+returns-clause-put g c = puts_also g.N.Name.parts _ _ _ _ _ _ c.run_crew-mine.ensures.kept.2 c.run_left.ensures.put
