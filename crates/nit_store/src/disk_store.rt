@@ -5,7 +5,7 @@ ghost use Rattle.std.specs.Prelude.{◌≡◌};
 use crate::store::{PutError, ReadError, Store};
 use std::alloc::Global;
 use std::fs::File;
-use std::io::{ErrorKind, Read};
+use std::io::{ErrorKind, Read, Write};
 use std::marker::Model;
 use std::rt::Files;
 use std::{fs, io};
@@ -67,6 +67,43 @@ fn read_file<R: Files>(rt: &R, alloc: Global, name: &str, max: usize) -> io::Res
     Ok(bytes)
 }
 
+/// How many files may be written beside one of a name at the same time, or be left there.
+const MOST_PARTS: u32 = 1000;
+
+/// A new file beside the one of this name, and its name. It is no file that stood there before, and
+/// no other run writes it.
+fn create_part<R: Files>(rt: &R, alloc: Global, name: &str) -> io::Result<(String, R::File)> {
+    for number in 1..=MOST_PARTS {
+        let part = format!(in alloc; "{name}.{number}.part")?;
+        match File::create_new(rt, &part) {
+            Ok(file) => return Ok((part, file)),
+            Err(error) if error.kind() == ErrorKind::AlreadyExists => {}
+            Err(error) => return Err(error),
+        }
+    }
+    Err(io::Error::from(ErrorKind::AlreadyExists))
+}
+
+/// Writes these bytes into a file, and closes it.
+fn write_whole<W: Write + Drop>(mut file: W, bytes: &[u8]) -> io::Result<()> {
+    file.write_all(bytes)
+}
+
+/// Puts these bytes under a name. They are written beside the file of this name, which is replaced
+/// once they are whole; a refusal leaves it, and takes away what was written.
+fn put_file<R: Files>(rt: &R, alloc: Global, name: &str, bytes: &[u8]) -> io::Result<()> {
+    let (part, file) = create_part(rt, alloc, name)?;
+    let end = match write_whole(file, bytes) {
+        Ok(()) => fs::rename(rt, &part, name),
+        refused => refused,
+    };
+    if end.is_err() {
+        // Where it cannot be taken away either, it stays.
+        let _ = fs::remove_file(rt, &part);
+    }
+    end
+}
+
 impl<'a, R: Files + Print> Store for DiskStore<'a, R> {
     ghost use Rattle.nit_store.specs.DiskStore.{disk_shown};
 
@@ -85,7 +122,7 @@ impl<'a, R: Files + Print> Store for DiskStore<'a, R> {
     }
 
     fn put(&mut self, name: &str, bytes: &[u8]) -> Result<(), PutError> {
-        let end = fs::write(self.rt, name, bytes);
+        let end = put_file(self.rt, self.alloc, name, bytes);
         self.written(end)
     }
 
