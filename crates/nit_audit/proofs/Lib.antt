@@ -1,0 +1,10 @@
+mod Machines
+mod GoodEntries
+mod OneVerdict
+mod Whole
+mod KeyedViews
+mod CallEntries
+mod NextEntry
+mod EachEntry
+mod InputEntries
+mod FirstState
