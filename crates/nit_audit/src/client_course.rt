@@ -5,7 +5,7 @@ ghost use Rattle.nit_journal.specs.Whole.{left, next_phase};
 ghost use Rattle.nit_plan.specs.Calls.{calls_from, calls_to_make};
 ghost use Rattle.nit_audit.specs.Underway.{BeginsWithCall, IsNext};
 
-use crate::same_call::same_call;
+use crate::same::same_call;
 use nit_events::Call;
 use nit_script::{Client, Line};
 use std::marker::Model;

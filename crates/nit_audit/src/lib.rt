@@ -17,7 +17,7 @@ mod keys;
 pub mod laws;
 mod machine;
 mod replay;
-mod same_call;
+mod same;
 mod user_course;
 mod views;
 

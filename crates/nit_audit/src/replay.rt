@@ -4,7 +4,11 @@ ghost use Rattle.std.specs.Prelude.{◌≡◌, ◌+◌, ◌^◌, ◌<◌, ◌≤
 ghost use Rattle.nit_events.specs.declared.entry.Entry.TheVariants as entry;
 ghost use Rattle.nit_events.specs.Input.{deliveries_of, delivery, first_input, routed_as};
 ghost use Rattle.nit_events.specs.Ranges.{IsDevice};
+ghost use Rattle.nit_rect.specs.Rectangle.{is_rectangle, rectangle};
+ghost use Rattle.nit_glyph.specs.Texts.{is_title};
 ghost use Rattle.nit_stack.specs.declared.view.View.{View};
+ghost use Rattle.nit_stack.specs.Labels.{is_view};
+ghost use Rattle.nit_stack.specs.Orders.{changed};
 ghost use Rattle.nit_config.specs.Configuration.{bar_rows, member};
 ghost use Rattle.nit_config.specs.Configured.{IsConfigured, IsConfiguredMember};
 ghost use Rattle.nit_journal.specs.Session.{accepted, opened, refusal};
@@ -14,9 +18,10 @@ ghost use Rattle.nit_audit.specs.Played.{input_closing, IsReplay, IsSound, IsSte
 
 use crate::keys::{Change, Which};
 use crate::machine::Machine;
+use crate::same::{same_deliveries, same_reply};
 use crate::views::Views;
 use nit_config::Config;
-use nit_events::{Call, Delivery, Device, Item, Reply, Routed};
+use nit_events::{Call, Delivery, Device, Item, Reply, Routed, Text};
 use nit_focus::Focus;
 use nit_glyph::Title;
 use nit_rect::{NoMemory, Rect};
@@ -82,10 +87,10 @@ impl Replay {
         }
         if let Some(refused) = self.refused(sid, call) {
             self.count();
-            return Ok(is_same(&refused, reply));
+            return Ok(same_reply(&refused, reply));
         }
         let answer = self.accept(sid, call);
-        if !is_same(&answer, reply) {
+        if !same_reply(&answer, reply) {
             return Ok(false);
         }
         self.settle(config, sid, call, reply)?;
@@ -160,7 +165,7 @@ impl Replay {
         ensures { IsStep config.now (entry.Input dev routed.now) self.old self.new result }
     {
         let told = self.route(config, dev);
-        if !is_routed(&told, routed) {
+        if !same_deliveries(&told, routed) {
             return false;
         }
         self.deliver(told.a);
@@ -215,52 +220,6 @@ impl Replay {
     }
 }
 
-/// Whether the two replies are the same.
-fn is_same(a: &Reply, b: &Reply) -> bool
-    ensures { IsTrue result ↔ (a.now ≡ b.now) }
-{
-    *a == *b
-}
-
-/// Whether the deliveries are the same.
-fn is_routed(a: &Routed, b: &Routed) -> bool
-    ensures { IsTrue result ↔ (a.now ≡ b.now) }
-{
-    is_told(&a.a, &b.a) && is_told(&a.b, &b.b) && is_told(&a.c, &b.c)
-}
-
-/// Whether the two are the same delivery, or none.
-fn is_told(a: &Option<Delivery>, b: &Option<Delivery>) -> bool
-    ensures { IsTrue result ↔ (a.now ≡ b.now) }
-{
-    match *a {
-        Some(d) => match *b {
-            Some(e) => d.sid == e.sid && is_item(&d.item, &e.item),
-            None => false,
-        },
-        None => match *b {
-            Some(_) => false,
-            None => true,
-        },
-    }
-}
-
-/// Whether the two items are the same.
-fn is_item(a: &Item, b: &Item) -> bool
-    ensures { IsTrue result ↔ (a.now ≡ b.now) }
-{
-    match *a {
-        Item::Event(e) => match *b {
-            Item::Event(f) => e == f,
-            Item::Kill => false,
-        },
-        Item::Kill => match *b {
-            Item::Event(_) => false,
-            Item::Kill => true,
-        },
-    }
-}
-
 /// A session gets an item.
 fn give(machines: &mut Vec<Machine>, sid: u32, item: Item)
     requires { (t : ℕ) → (session_in machines.old.items t).lost < 2 ^ 32 - 1 }
@@ -300,19 +259,9 @@ fn restack(
                 views.create(config, sid, handle)?;
             }
         }
-        Call::Place(v, x, y, w, h) => {
-            let Some(rect) = Rect::new(x, y, w, h) else {
-                unreachable!()
-            };
-            views.change(sid, v, Change::Rectangle(rect));
-        }
+        Call::Place(v, x, y, w, h) => place(views, sid, v, (x, y, w, h)),
         Call::Offset(v, ox, oy) => views.change(sid, v, Change::Offset(ox, oy)),
-        Call::Title(v, text) => {
-            let Some(title) = Title::new(text.as_bytes()) else {
-                unreachable!()
-            };
-            views.change(sid, v, Change::Title(title));
-        }
+        Call::Title(v, text) => retitle(views, sid, v, &text),
         Call::Front(v) => views.front(config, sid, v)?,
         Call::Back(v) => views.back(config, sid, v)?,
         Call::Above(v, n) => {
@@ -325,6 +274,30 @@ fn restack(
         Call::Buffer(..) | Call::Refresh(..) | Call::Take | Call::Upgrade(_) => {}
     }
     Ok(())
+}
+
+/// The view has another rectangle, of this place and size.
+fn place(views: &mut Views, sid: u32, v: u32, at: (i32, i32, u32, u32))
+    requires { IsTrue (is_rectangle at.0 at.1 at.2 at.3) }
+    ensures { views.new ≡ changed (is_view sid v)
+        (λ view. record view { rect = rectangle at.0 at.1 at.2 at.3 }) views.old }
+{
+    let Some(rect) = Rect::new(at.0, at.1, at.2, at.3) else {
+        unreachable!()
+    };
+    views.change(sid, v, Change::Rectangle(rect));
+}
+
+/// The view has another title, of this text.
+fn retitle(views: &mut Views, sid: u32, v: u32, text: &Text)
+    requires { IsTrue (is_title text.now) }
+    ensures { views.new ≡ changed (is_view sid v) (λ view. record view { title = text.now })
+        views.old }
+{
+    let Some(title) = Title::new(text.as_bytes()) else {
+        unreachable!()
+    };
+    views.change(sid, v, Change::Title(title));
 }
 
 /// The rows of the status bar.
