@@ -1,8 +1,8 @@
-mod Machines
-mod GoodEntries
-mod OneVerdict
-mod Whole
-mod KeyedViews
+mod ServeLemmas
+mod GoodEntryLemmas
+mod VerdictLemmas
+mod GoodAndWhole
+mod KeyLemmas
 mod CallEntries
 mod NextEntry
 mod EachEntry

@@ -16,19 +16,19 @@ view_or None = new_view 0 0
 view_or (Some v) = v
 
 -- the record under a key
-abbrev pub view_at : Slab View → ℕ → View
-view_at records key = view_or (get records key)
+abbrev pub view_under : Slab View → ℕ → View
+view_under records key = view_or (get records key)
 
 -- the views, front first
 abbrev pub views_at : Slab View → List ℕ → List View
-views_at records keys = map (view_at records) keys
+views_at records keys = map (view_under records) keys
 
 -- the key has a record, of one of 16 sessions
 abbrev pub HasView : Slab View → ℕ → Type 0
 HasView records key = IsSomeAnd (get records key) (λ v. v.sid < 16)
 
-abbrev pub AreKept : Slab View → List ℕ → Type 0
-AreKept records keys = AllByRecursion (HasView records) keys
+abbrev pub AllHaveViews : Slab View → List ℕ → Type 0
+AllHaveViews records keys = AllByRecursion (HasView records) keys
 
 -- which views are meant: one of a session, by its handle, or all of a session
 abbrev pub is_meant : Which → View → Bool
@@ -51,9 +51,9 @@ taken_if w None = None
 taken_if w (Some v) = if is_meant w v then None else Some v
 
 -- the key is among these
-abbrev pub is_among : List ℕ → ℕ → Bool
-is_among keys key = list_any (λ k. k == key) keys
+abbrev pub has_key : List ℕ → ℕ → Bool
+has_key keys key = list_any (λ k. k == key) keys
 
 -- what the records under these keys became
 abbrev pub swept : (Option View → Option View) → List ℕ → Slab View → ℕ → Option View
-swept f keys records key = if is_among keys key then f (get records key) else get records key
+swept f keys records key = if has_key keys key then f (get records key) else get records key

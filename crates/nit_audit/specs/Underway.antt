@@ -13,7 +13,7 @@ use Rattle.nit_config.specs.Configuration.{Configuration}
 use Rattle.nit_journal.specs.State.{State, after, opening}
 use Rattle.nit_journal.specs.Journals.{LegalFrom, Agrees}
 use Rattle.nit_journal.specs.Whole.{Deed, Does, Shoots, calls_of, deeds_of, done, left, next_phase, to_do, phases_along}
-use Rattle.nit_audit.specs.Good.{IsAllDone}
+use Rattle.nit_audit.specs.GoodEntries.{IsAllDone}
 
 -- the state; how many shots were taken; what the clients and the user are still to do; and the
 -- phase of what was done last
@@ -25,8 +25,8 @@ pub record Audited : Type 0 where
   pub phase : ℕ
 
 -- before the first entry
-abbrev pub begun : Configuration → List (List (ℕ × Call)) → List (ℕ × Deed) → Audited
-begun config clients user =
+abbrev pub first_audited : Configuration → List (List (ℕ × Call)) → List (ℕ × Deed) → Audited
+first_audited config clients user =
     record { state = opening config; taken = 0; clients = clients; user = user; phase = 0 }
 
 -- these entries are good behind those so far

@@ -9,10 +9,10 @@ ghost use Rattle.nit_journal.specs.Journals.{IsLegal};
 ghost use Rattle.nit_journal.specs.Projections.{alone, projection, replies_to};
 ghost use Rattle.nit_journal.specs.Whole.{Does, IsWhole, Shoots, left, next_phase, to_do};
 ghost use Rattle.nit_plan.specs.Calls.{calls_to_make, deeds_to_do};
-ghost use Rattle.nit_audit.specs.Good.{IsGood};
-ghost use Rattle.nit_audit.specs.Verdicts.{IsVerdict};
-ghost use Rattle.nit_audit.specs.Underway.{IsNext, IsNothingLeft, begun};
-ghost use Rattle.nit_audit.specs.Played.{IsFollowing, IsGone, IsReplay, audited};
+ghost use Rattle.nit_audit.specs.GoodEntries.{IsGood};
+ghost use Rattle.nit_audit.specs.Verdict.{IsVerdict};
+ghost use Rattle.nit_audit.specs.Underway.{IsNext, IsNothingLeft, first_audited};
+ghost use Rattle.nit_audit.specs.AuditReplay.{IsFollowing, IsGone, IsReplay, audited};
 
 use crate::client_course::ClientCourse;
 use crate::laws::{yes_is_legal_and_whole, yes_is_served_alone};
@@ -107,9 +107,9 @@ struct Underway<'a> {
 }
 
 impl<'a> Model for Underway<'a> {
-    ghost use Rattle.nit_audit.specs.Played.{Parts};
+    ghost use Rattle.nit_audit.specs.AuditReplay.{UnderwayModel};
 
-    ghost Value = { Parts };
+    ghost Value = { UnderwayModel };
 
     ghost view = { λ a. record {
       replay = a.replay;
@@ -131,8 +131,8 @@ impl<'a> Underway<'a> {
         requires scripts { length scripts.now ≡ length config.now.clients }
         ensures kept { IfOk result (λ a. IsReplay config.now a.replay) }
         ensures none { IfOk result (λ a. a.replay.count ≡ 0) }
-        ensures begun { IfOk result (λ a. audited config.now a
-            ≡ begun config.now (map calls_to_make scripts.now) (deeds_to_do input.now)) }
+        ensures first { IfOk result (λ a. audited config.now a
+            ≡ first_audited config.now (map calls_to_make scripts.now) (deeds_to_do input.now)) }
     {
         Ok(Underway {
             replay: Replay::new(alloc, config)?,

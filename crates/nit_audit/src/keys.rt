@@ -9,7 +9,7 @@ ghost use Rattle.nit_stack.specs.Orders.{put_back, without};
 ghost use Rattle.nit_config.specs.Configuration.{member};
 ghost use Rattle.nit_journal.specs.State.{layer};
 ghost use Rattle.nit_journal.specs.Views.{new_view};
-ghost use Rattle.nit_audit.specs.Keys.{AreKept, HasView, changed_if, is_meant, swept, taken_if, view_at, with_change};
+ghost use Rattle.nit_audit.specs.Keys.{AllHaveViews, HasView, changed_if, is_meant, swept, taken_if, view_under, with_change};
 
 use nit_config::Config;
 use nit_glyph::Title;
@@ -55,8 +55,8 @@ pub(crate) fn new_view(sid: u32, handle: u32) -> View
 }
 
 /// The record under a key; a new view of no session where there is none.
-pub(crate) fn view_at(records: &Slab<View>, key: usize) -> View
-    ensures { result ≡ view_at records.now key }
+pub(crate) fn view_under(records: &Slab<View>, key: usize) -> View
+    ensures { result ≡ view_under records.now key }
 {
     match records.get(key) {
         Some(view) => *view,
@@ -86,11 +86,11 @@ fn is_meant(which: Which, view: &View) -> bool
 
 /// The front-most view that covers the pixel.
 pub(crate) fn covering(records: &Slab<View>, keys: &[usize], p: Point) -> Option<u32>
-    ensures { result ≡ option_map (λ k. (view_at records.now k).sid)
-        (find (λ k. covers (view_at records.now k).rect p) keys.now) }
+    ensures { result ≡ option_map (λ k. (view_under records.now k).sid)
+        (find (λ k. covers (view_under records.now k).rect p) keys.now) }
 {
     for key in keys {
-        let view = view_at(records, *key);
+        let view = view_under(records, *key);
         if view.rect.covers(p) {
             return Some(view.sid);
         }
@@ -100,10 +100,10 @@ pub(crate) fn covering(records: &Slab<View>, keys: &[usize], p: Point) -> Option
 
 /// The front-most key whose view is meant.
 pub(crate) fn first_key(records: &Slab<View>, keys: &[usize], which: Which) -> Option<usize>
-    ensures { result ≡ find (λ k. is_meant which (view_at records.now k)) keys.now }
+    ensures { result ≡ find (λ k. is_meant which (view_under records.now k)) keys.now }
 {
     for key in keys {
-        if is_meant(which, &view_at(records, *key)) {
+        if is_meant(which, &view_under(records, *key)) {
             return Some(*key);
         }
     }
@@ -113,11 +113,11 @@ pub(crate) fn first_key(records: &Slab<View>, keys: &[usize], which: Which) -> O
 /// The place of the front-most key whose view is meant. The number of keys where there is none.
 pub(crate) fn place_of(records: &Slab<View>, keys: &[usize], which: Which) -> usize
     ensures place { result
-        ≡ position_or_len (λ k. is_meant which (view_at records.now k)) keys.now }
+        ≡ position_or_len (λ k. is_meant which (view_under records.now k)) keys.now }
     ensures within { result ≤ length keys.now }
 {
     for (i, key) in keys.iter().enumerate() {
-        if is_meant(which, &view_at(records, *key)) {
+        if is_meant(which, &view_under(records, *key)) {
             return i;
         }
     }
@@ -128,11 +128,11 @@ pub(crate) fn place_of(records: &Slab<View>, keys: &[usize], which: Which) -> us
 /// is none.
 pub(crate) fn front_place(records: &Slab<View>, keys: &[usize], config: &Config, low: u32) -> usize
     ensures place { result ≡ position_or_len
-        (λ k. nat_le low (layer config.now (view_at records.now k).sid)) keys.now }
+        (λ k. nat_le low (layer config.now (view_under records.now k).sid)) keys.now }
     ensures within { result ≤ length keys.now }
 {
     for (i, key) in keys.iter().enumerate() {
-        if low <= layer_of(config, view_at(records, *key).sid) {
+        if low <= layer_of(config, view_under(records, *key).sid) {
             return i;
         }
     }
@@ -143,11 +143,11 @@ pub(crate) fn front_place(records: &Slab<View>, keys: &[usize], config: &Config,
 /// is none.
 pub(crate) fn back_place(records: &Slab<View>, keys: &[usize], config: &Config, high: u32) -> usize
     ensures place { (v : ℕ) → insert keys.now result v
-        ≡ put_back (λ k. layer config.now (view_at records.now k).sid) high v keys.now }
+        ≡ put_back (λ k. layer config.now (view_under records.now k).sid) high v keys.now }
     ensures within { result ≤ length keys.now }
 {
     for i in (0..keys.len()).rev() {
-        if layer_of(config, view_at(records, keys[i]).sid) <= high {
+        if layer_of(config, view_under(records, keys[i]).sid) <= high {
             return i + 1;
         }
     }
@@ -157,9 +157,9 @@ pub(crate) fn back_place(records: &Slab<View>, keys: &[usize], config: &Config, 
 /// Takes the keys out whose views are meant. Their records stay.
 pub(crate) fn take_out(records: &Slab<View>, keys: &mut Vec<usize>, which: Which)
     ensures { keys.new.items
-        ≡ without (λ k. is_meant which (view_at records.now k)) keys.old.items }
+        ≡ without (λ k. is_meant which (view_under records.now k)) keys.old.items }
 {
-    keys.retain(|key| !is_meant(which, &view_at(records, *key)));
+    keys.retain(|key| !is_meant(which, &view_under(records, *key)));
 }
 
 /// Takes the keys out that have no record any more.
@@ -174,7 +174,7 @@ pub(crate) fn put_in(keys: &mut Vec<usize>, place: usize, key: usize) -> Result<
     requires { place ≤ vec_len keys.old }
     ensures put { OnOk result (keys.new.items ≡ insert keys.old.items place key) }
     ensures kept { (records : SlabOf ViewOf) → HasView records key
-        → AreKept records keys.old.items → AreKept records keys.new.items }
+        → AllHaveViews records keys.old.items → AllHaveViews records keys.new.items }
 {
     keys.insert(place, key)?;
     Ok(())

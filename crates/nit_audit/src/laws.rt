@@ -9,8 +9,8 @@ ghost use Rattle.nit_journal.specs.Projections.{alone, projection, replies_to};
 ghost use Rattle.nit_journal.specs.Whole.{Deed, IsWhole};
 ghost use Rattle.nit_audit.specs.declared.auditing.Verdict.{Verdict};
 ghost use Rattle.nit_audit.specs.declared.auditing.Verdict.TheVariants as verdict;
-ghost use Rattle.nit_audit.specs.Good.{IsGoodFor};
-ghost use Rattle.nit_audit.specs.Verdicts.{IsVerdict};
+ghost use Rattle.nit_audit.specs.GoodEntries.{IsGoodFor};
+ghost use Rattle.nit_audit.specs.Verdict.{IsVerdict};
 
 use nit_journal::laws::isolation;
 

@@ -14,7 +14,7 @@ ghost use Rattle.nit_config.specs.Configured.{IsConfigured, IsConfiguredMember};
 ghost use Rattle.nit_journal.specs.Session.{accepted, opened, refusal};
 ghost use Rattle.nit_journal.specs.State.{delivered, layer, opening, session_in};
 ghost use Rattle.nit_journal.specs.Views.{after_accepted, after_deliveries};
-ghost use Rattle.nit_audit.specs.Played.{input_closing, IsReplay, IsSound, IsStep, routing_of, state_of};
+ghost use Rattle.nit_audit.specs.AuditReplay.{input_closing, IsReplay, IsSound, IsReplayAnswer, replay_routing, state_of_replay};
 
 use crate::keys::{Change, Which};
 use crate::machine::Machine;
@@ -39,9 +39,9 @@ pub(crate) struct Replay {
 }
 
 impl Model for Replay {
-    ghost use Rattle.nit_audit.specs.Played.{Replayed};
+    ghost use Rattle.nit_audit.specs.AuditReplay.{ReplayModel};
 
-    ghost Value = { Replayed };
+    ghost Value = { ReplayModel };
 
     ghost view = { λ r. record {
       sessions = r.machines.items;
@@ -57,7 +57,7 @@ impl Replay {
     pub(crate) fn new(alloc: Global, config: &Config) -> Result<Replay, NoMemory>
         requires { IsConfigured config.now }
         ensures kept { IfOk result (λ r. IsReplay config.now r) }
-        ensures state { IfOk result (λ r. state_of config.now r ≡ opening config.now) }
+        ensures state { IfOk result (λ r. state_of_replay config.now r ≡ opening config.now) }
         ensures none { IfOk result (λ r. (r.shots ≡ 0) × (r.count ≡ 0)) }
     {
         Ok(Replay {
@@ -79,8 +79,8 @@ impl Replay {
     ) -> Result<bool, NoMemory>
         requires kept { IsReplay config.now self.old }
         requires few { self.old.count < 2 ^ 27 }
-        ensures { IfOk result (λ agrees.
-            IsStep config.now (entry.Call sid call.now reply.now) self.old self.new agrees) }
+        ensures { IfOk result (IsReplayAnswer config.now (entry.Call sid call.now reply.now)
+            self.old self.new) }
     {
         if !self.knows(sid) {
             return Ok(false);
@@ -162,7 +162,7 @@ impl Replay {
         requires kept { IsReplay config.now self.old }
         requires few { self.old.count < 2 ^ 27 }
         requires device { IsDevice dev }
-        ensures { IsStep config.now (entry.Input dev routed.now) self.old self.new result }
+        ensures { IsReplayAnswer config.now (entry.Input dev routed.now) self.old self.new result }
     {
         let told = self.route(config, dev);
         if !same_deliveries(&told, routed) {
@@ -179,10 +179,10 @@ impl Replay {
     fn route(&mut self, config: &Config, dev: Device) -> Routed
         requires kept { IsReplay config.now self.old }
         requires device { IsDevice dev }
-        ensures routed { result ≡ routed_as (routing_of config.now self.old dev).deliveries }
-        ensures all { deliveries_of result ≡ (routing_of config.now self.old dev).deliveries }
+        ensures routed { result ≡ routed_as (replay_routing config.now self.old dev).deliveries }
+        ensures all { deliveries_of result ≡ (replay_routing config.now self.old dev).deliveries }
         ensures input { self.new ≡ record self.old {
-          focus = record self.old.focus { input = (routing_of config.now self.old dev).state };
+          focus = record self.old.focus { input = (replay_routing config.now self.old dev).state };
         } }
     {
         let pointed = self.views.owner(rows_of(config), self.focus.clamp(dev));
@@ -193,7 +193,7 @@ impl Replay {
     pub(crate) fn shot(&mut self, config: &Config, number: u32) -> bool
         requires kept { IsReplay config.now self.old }
         requires few { self.old.count < 2 ^ 27 }
-        ensures { IsStep config.now (entry.Shot number) self.old self.new result }
+        ensures { IsReplayAnswer config.now (entry.Shot number) self.old self.new result }
     {
         if number != self.shots + 1 {
             return false;

@@ -29,13 +29,13 @@ pub(crate) struct Views {
 impl Model for Views {
     ghost use Rattle.std.specs.Prelude.{List};
     ghost use Rattle.nit_stack.specs.declared.view.View.{View};
-    ghost use Rattle.nit_audit.specs.Keys.{AreKept, views_at};
+    ghost use Rattle.nit_audit.specs.Keys.{AllHaveViews, views_at};
 
     ghost Value = { List View };
 
     ghost view = { λ v. views_at v.records v.keys.items };
 
-    ghost invariant = { λ v. AreKept v.records v.keys.items };
+    ghost invariant = { λ v. AllHaveViews v.records v.keys.items };
 }
 
 impl Views {

@@ -2,9 +2,9 @@ use Rattle.std.proofs.Common.{map}
 use Rattle.nit_journal.specs.Journals.{IsLegal}
 use Rattle.nit_journal.specs.Whole.{IsWhole}
 use Rattle.nit_plan.specs.Calls.{calls_to_make, deeds_to_do}
-use Rattle.nit_audit.specs.Good.{IsGood}
-use Rattle.nit_audit.specs.Verdicts.{IsVerdict}
-use Rattle.nit_audit.proofs.OneVerdict.{answered_yes, if_ok_yes}
+use Rattle.nit_audit.specs.GoodEntries.{IsGood}
+use Rattle.nit_audit.specs.Verdict.{IsVerdict}
+use Rattle.nit_audit.proofs.VerdictLemmas.{answered_yes, if_ok_yes}
 use Rattle.nit_audit.proofs.EachEntry.{only_one}
 use Rattle.nit_audit.proofs.auditing.audit.Goals as goal
 

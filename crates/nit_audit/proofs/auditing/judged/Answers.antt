@@ -1,6 +1,6 @@
 use Rattle.std.proofs.Common.{◌≡◌, length, map, arith}
 use Rattle.nit_plan.specs.Calls.{calls_to_make, deeds_to_do}
-use Rattle.nit_audit.specs.Underway.{begun}
+use Rattle.nit_audit.specs.Underway.{first_audited}
 use Rattle.nit_audit.proofs.EachEntry.{ahead_on, followed_of, many_still, verdict_bad, verdict_ended, verdict_unended}
 use Rattle.nit_audit.proofs.auditing.judged.Goals as goal
 
@@ -20,7 +20,7 @@ entries-preserved c =
       kept = f.kept;
       count = omega (arith, f.count, c.entries.invariant.count);
       many = many_still c.args.config.now c.index-entries-i.result c.entries.underway c.follow.new.self (length c.args.config.now.clients) f c.entries.invariant.many;
-      ahead = ahead_on (begun c.args.config.now (map calls_to_make c.args.scripts.now) (deeds_to_do c.args.input.now)) c.args.entries.now c.args.config.now c.entries.underway c.follow.new.self c.entries.i c.index-entries-i.result c.entries-test.true c.index-entries-i.is c.in_default.not-Final c.entries.invariant.ahead f;
+      ahead = ahead_on (first_audited c.args.config.now (map calls_to_make c.args.scripts.now) (deeds_to_do c.args.input.now)) c.args.entries.now c.args.config.now c.entries.underway c.follow.new.self c.entries.i c.index-entries-i.result c.entries-test.true c.index-entries-i.is c.in_default.not-Final c.entries.invariant.ahead f;
     }
 
 pub returns : goal.returns

@@ -1,6 +1,6 @@
-use Rattle.nit_audit.specs.Good.{IsGoodFor}
-use Rattle.nit_audit.proofs.GoodEntries.{good_fewer}
-use Rattle.nit_audit.proofs.OneVerdict.{one_verdict}
+use Rattle.nit_audit.specs.GoodEntries.{IsGoodFor}
+use Rattle.nit_audit.proofs.GoodEntryLemmas.{good_fewer}
+use Rattle.nit_audit.proofs.VerdictLemmas.{one_verdict}
 use Rattle.nit_audit.proofs.laws.verdict_is_one.Goals as goal
 
 pub returns : goal.returns

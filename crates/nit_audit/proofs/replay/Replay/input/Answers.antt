@@ -1,5 +1,5 @@
 use Rattle.std.proofs.Common.{◌∙◌, sym, ap, rules}
-use Rattle.nit_audit.specs.Played.{Replayed}
+use Rattle.nit_audit.specs.AuditReplay.{ReplayModel}
 use Rattle.nit_audit.proofs.InputEntries.{input_played, room_left, routed_parts}
 use Rattle.nit_audit.proofs.replay.Replay.input.Goals as goal
 
@@ -8,8 +8,8 @@ returns-then-not-same_deliveries c = λ agrees. let same = c.same_deliveries.ens
 
 pub deliver-requires-3 : goal.deliver-requires-3
 deliver-requires-3 c =
-    room_left c.args.config.now c.args.self.now c.route-told.new.self c.deliver.new.self c.deliver-2.new.self c.route-told.result c.requires.kept c.requires.few (ap (λ (r : Replayed). r.sessions) c.route-told.ensures.input)
-    (ap (λ (r : Replayed). r.sessions) c.deliver.ensures) (ap (λ (r : Replayed). r.sessions) c.deliver-2.ensures)
+    room_left c.args.config.now c.args.self.now c.route-told.new.self c.deliver.new.self c.deliver-2.new.self c.route-told.result c.requires.kept c.requires.few (ap (λ (r : ReplayModel). r.sessions) c.route-told.ensures.input)
+    (ap (λ (r : ReplayModel). r.sessions) c.deliver.ensures) (ap (λ (r : ReplayModel). r.sessions) c.deliver-2.ensures)
 
 pub returns : goal.returns
 returns c =

@@ -3,8 +3,8 @@ use Rattle.std.specs.Prelude.{IfSome, ◌<◌}
 use Rattle.std.proofs.lemmas.Int.{ints}
 use Rattle.nit_rect.specs.Rectangle.{covers}
 use Rattle.nit_stack.specs.Sources.{in_bar}
-use Rattle.nit_audit.specs.Keys.{view_at}
-use Rattle.nit_audit.proofs.KeyedViews.{owner_below, owner_small}
+use Rattle.nit_audit.specs.Keys.{view_under}
+use Rattle.nit_audit.proofs.KeyLemmas.{owner_below, owner_small}
 use Rattle.nit_audit.proofs.views.Views.owner.Goals as goal
 
 pub returns-clause-owner : goal.returns-clause-owner
@@ -16,4 +16,4 @@ returns-clause-owner c =
 pub returns-clause-known : goal.returns-clause-known
 returns-clause-known c =
     let found = rw c.as_slice.ensures.value at c.covering.ensures in
-    subst (λ (o : Option ℕ). IfSome o (λ s. s < 16)) (sym found) (owner_small c.self.inside.records c.self.inside.keys.items (λ k. covers (view_at c.self.inside.records k).rect c.args.p) _ c.self.invariant refl)
+    subst (λ (o : Option ℕ). IfSome o (λ s. s < 16)) (sym found) (owner_small c.self.inside.records c.self.inside.keys.items (λ k. covers (view_under c.self.inside.records k).rect c.args.p) _ c.self.invariant refl)

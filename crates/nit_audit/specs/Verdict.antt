@@ -11,7 +11,7 @@ abbrev pub IsEnded : List Entry → Type 0
 IsEnded entries = (front : List Entry) × (entries ≡ front ++ entry.Final ∷ [])
 
 -- the first k entries are not good, and any fewer are
-pub record IsFirstBad (Good : List Entry → Type 0) (entries : List Entry) (k : ℕ) : Type 0 where
+pub record IsLeastBad (Good : List Entry → Type 0) (entries : List Entry) (k : ℕ) : Type 0 where
   pub within : k ≤ length entries
   pub bad : Good (take k entries) → ⊥
   pub before : (j : ℕ) → j < k → Good (take j entries)
@@ -25,10 +25,10 @@ pub record IsUnended (Good : List Entry → Type 0) (entries : List Entry) (k : 
 -- the verdict on entries, where this says which are good
 abbrev pub IsVerdict : (List Entry → Type 0) → List Entry → Verdict → Type 0
 IsVerdict Good entries verdict.Yes = Good entries × IsEnded entries
-IsVerdict Good entries (verdict.No k) = IsFirstBad Good entries k ⊎ IsUnended Good entries k
+IsVerdict Good entries (verdict.No k) = IsLeastBad Good entries k ⊎ IsUnended Good entries k
 
 -- the verdict on entries that stand behind n others
 abbrev pub IsVerdictFrom : (List Entry → Type 0) → ℕ → List Entry → Verdict → Type 0
 IsVerdictFrom Good n entries verdict.Yes = Good entries × IsEnded entries
 IsVerdictFrom Good n entries (verdict.No k) =
-    (j : ℕ) × (k ≡ n + j) × (IsFirstBad Good entries j ⊎ IsUnended Good entries j)
+    (j : ℕ) × (k ≡ n + j) × (IsLeastBad Good entries j ⊎ IsUnended Good entries j)

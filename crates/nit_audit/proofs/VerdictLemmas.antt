@@ -12,7 +12,7 @@ use Rattle.nit_events.specs.declared.entry.Entry.TheVariants as entry
 use Rattle.nit_journal.specs.Journals.{IsOpen}
 use Rattle.nit_audit.specs.declared.auditing.Verdict.{Verdict}
 use Rattle.nit_audit.specs.declared.auditing.Verdict.TheVariants as verdict
-use Rattle.nit_audit.specs.Verdicts.{IsEnded, IsFirstBad, IsVerdict, IsVerdictFrom}
+use Rattle.nit_audit.specs.Verdict.{IsEnded, IsLeastBad, IsVerdict, IsVerdictFrom}
 
 -- ---- one more entry in front
 
@@ -80,7 +80,7 @@ pub verdict_for : (G H : List Entry → Type 0) (entries : List Entry) (v : Verd
 verdict_for G H entries verdict.Yes on back h = (on entries h.0, h.1)
 verdict_for G H entries (verdict.No k) on back (j, is, inl bad) =
     let same : j ≡ k = omega (arith, is) in
-    inl (subst (λ (n : ℕ). IsFirstBad H entries n) same (record { within = bad.within; bad = λ g. bad.bad (back (take j entries) g); before = λ i lt. on (take i entries) (bad.before i lt) }))
+    inl (subst (λ (n : ℕ). IsLeastBad H entries n) same (record { within = bad.within; bad = λ g. bad.bad (back (take j entries) g); before = λ i lt. on (take i entries) (bad.before i lt) }))
 verdict_for G H entries (verdict.No k) on back (j, is, inr un) =
     inr (record { behind = omega (arith, is, un.behind); good = on entries un.good; unended = un.unended })
 
@@ -121,7 +121,7 @@ open_not_ended (entry.Input dev routed ∷ rest) o h = not_ended_more (entry.Inp
 open_not_ended (entry.Shot number ∷ rest) o h = not_ended_more (entry.Shot number) rest (λ is. absurd (not_shot number is)) (λ again. open_not_ended rest o again) h
 
 -- the first bad place is one
-one_place : (G : List Entry → Type 0) (entries : List Entry) (j k : ℕ) → IsFirstBad G entries j → IsFirstBad G entries k → j ≡ k
+one_place : (G : List Entry → Type 0) (entries : List Entry) (j k : ℕ) → IsLeastBad G entries j → IsLeastBad G entries k → j ≡ k
 one_place G entries j k a b = go (cases_lt j k) (cases_lt k j)
   where
     go : (j < k) ⊎ (k ≤ j) → (k < j) ⊎ (j ≤ k) → j ≡ k

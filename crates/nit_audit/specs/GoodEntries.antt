@@ -14,7 +14,8 @@ use Rattle.nit_plan.specs.Calls.{calls_to_make, deeds_to_do}
 
 -- the clients have made all their calls, and the user has done all
 pub record IsAllDone
-    (clients : List (List (ℕ × Call))) (user : List (ℕ × Deed)) (entries : List Entry) : Type 0 where
+    (clients : List (List (ℕ × Call))) (user : List (ℕ × Deed)) (entries : List Entry)
+    : Type 0 where
   pub calls : (sid : ℕ) → sid < length clients → calls_of sid entries ≡ done (to_do clients sid)
   pub deeds : deeds_of entries ≡ done user
 

@@ -9,8 +9,8 @@ use Rattle.nit_config.specs.Configuration.{Configuration}
 use Rattle.nit_journal.specs.State.{State, after, opening}
 use Rattle.nit_journal.specs.Journals.{IsLegal, LegalFrom}
 use Rattle.nit_journal.specs.Whole.{Deed, IsWhole, calls_of, deeds_of}
-use Rattle.nit_audit.specs.Good.{IsAllDone, IsGoodFor}
-use Rattle.nit_audit.specs.Verdicts.{IsEnded}
+use Rattle.nit_audit.specs.GoodEntries.{IsAllDone, IsGoodFor}
+use Rattle.nit_audit.specs.Verdict.{IsEnded}
 
 -- ---- what the last picture adds
 
