@@ -55,6 +55,10 @@ pub read_is : {V : Type 0} (view : V → List Entry) (bytes : List ℕ) (r : Res
 read_is view bytes (Ok v) a = a
 read_is view bytes (Err e) a = tt
 
+pub few_are_read : {V : Type 0} (view : V → List Entry) (bytes : List ℕ) (r : Result V JournalError) → IsJournalAnswer view bytes r → IfOk r (λ v. length (view v) ≤ length bytes)
+few_are_read view bytes (Ok v) a = omega (arith, few (view v), ap length a.1)
+few_are_read view bytes (Err e) a = tt
+
 pub is_read : {V : Type 0} (view : V → List Entry) (bytes : List ℕ) (r : Result V JournalError) (entries : List Entry) → IsJournalAnswer view bytes r → ReadsJournal bytes entries → UnlessNoMemory r (IsOkAnd r (λ v. view v ≡ entries))
 is_read view bytes (Ok v) entries a h = same_read journal_reader bytes (view v) entries a h
 is_read view bytes (Err (Bad n)) entries a h = absurd (read_and_bad bytes entries n h a)

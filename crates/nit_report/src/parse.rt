@@ -19,6 +19,8 @@ pub fn parse_journal(alloc: Global, bytes: &[u8]) -> Result<Vec<Entry>, JournalE
     ensures read { IfOk result (λ v. ReadsJournal bytes.now v.items) }
     ensures reads { (entries : List Entry) → ReadsJournal bytes.now entries →
         UnlessNoMemory result (IsOkAnd result (λ v. v.items ≡ entries)) }
+    // There are no more entries than bytes.
+    ensures few { IfOk result (λ v. length v.items ≤ length bytes.now) }
 
     // Exactly the first line that spells no entry is named.
     ensures bad { (line : ℕ) → result ≡ Err (JournalError.Bad line)

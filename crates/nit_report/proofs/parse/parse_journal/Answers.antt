@@ -1,4 +1,4 @@
-use Rattle.nit_report.proofs.Journals.{read_is, is_read, is_bad, answer_at}
+use Rattle.nit_report.proofs.Journals.{read_is, few_are_read, is_read, is_bad, answer_at}
 use Rattle.nit_report.proofs.parse.parse_journal.Goals as goal
 
 pub returns-clause-read : goal.returns-clause-read
@@ -12,3 +12,6 @@ returns-clause-bad c = λ line e. answer_at (λ v. v.items) _ _ _ c.entries_of.e
 
 pub returns-clause-is_bad : goal.returns-clause-is_bad
 returns-clause-is_bad c = λ line h. is_bad (λ v. v.items) _ _ line c.entries_of.ensures h
+
+pub returns-clause-few : goal.returns-clause-few
+returns-clause-few c = few_are_read (λ v. v.items) _ _ c.entries_of.ensures

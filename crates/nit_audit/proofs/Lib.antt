@@ -1,0 +1,10 @@
+mod ServeLemmas
+mod GoodEntryLemmas
+mod VerdictLemmas
+mod GoodAndWhole
+mod KeyLemmas
+mod CallEntries
+mod NextEntry
+mod EachEntry
+mod InputEntries
+mod FirstState

@@ -1,0 +1,153 @@
+-- What is answered of entries, one at a time.
+use Rattle.std.proofs.Common.{◌≡◌, ◌∙◌, ℕ, zero, suc, ◌+◌, ◌<◌, ◌≤◌, Bool, true, false, List, [], ◌∷◌, ◌++◌, take, inl, inr, refl, sym, ap, subst, arith}
+use Rattle.std.specs.Prelude.{◌≢◌, ◌⊎◌, ◌↔◌, IfOk, Result, Ok, Err}
+use Rattle.std.proofs.lemmas.Bool.{cases_lt, false≢true}
+use mathlib.Core.List.{cons≢nil}
+use Rattle.nit_events.specs.declared.call.Call.{Call}
+use Rattle.nit_events.specs.declared.call.Reply.{Reply}
+use Rattle.nit_events.specs.declared.device.Device.{Device}
+use Rattle.nit_events.specs.declared.event.Routed.{Routed}
+use Rattle.nit_events.specs.declared.entry.Entry.{Entry}
+use Rattle.nit_events.specs.declared.entry.Entry.TheVariants as entry
+use Rattle.nit_journal.specs.Journals.{IsOpen}
+use Rattle.nit_audit.specs.declared.auditing.Verdict.{Verdict}
+use Rattle.nit_audit.specs.declared.auditing.Verdict.TheVariants as verdict
+use Rattle.nit_audit.specs.Verdict.{IsEnded, IsLeastBad, IsVerdict, IsVerdictFrom}
+
+-- ---- one more entry in front
+
+-- no entry but the last picture ends an open list
+open_more : (e : Entry) (rest : List Entry) → e ≢ entry.Final → IsOpen rest → IsOpen (e ∷ rest)
+open_more (entry.Call sid call r) rest o h = h
+open_more (entry.Input dev routed) rest o h = h
+open_more (entry.Shot number) rest o h = h
+open_more entry.Final rest o h = absurd (o refl)
+
+pub front_verdict : (G H : List Entry → Type 0) (n : ℕ) (e : Entry) (rest : List Entry) (v : Verdict) → e ≢ entry.Final → G [] → ((xs : List Entry) → G (e ∷ xs) → H xs) → ((xs : List Entry) → H xs → G (e ∷ xs))
+    → IsVerdictFrom H (n + 1) rest v → IsVerdictFrom G n (e ∷ rest) v
+front_verdict G H n e rest verdict.Yes o none on back h = (back rest h.0, (e ∷ h.1.0, ap (λ (xs : List Entry). e ∷ xs) h.1.1))
+front_verdict G H n e rest (verdict.No k) o none on back (j, is, inl bad) = (
+  suc j,
+  omega (arith, is),
+  inl (record {
+    within = omega (arith, bad.within);
+    bad = λ g. bad.bad (on (take j rest) g);
+    before = before;
+  }),
+)
+  where
+    before : (i : ℕ) → i < suc j → G (take i (e ∷ rest))
+    before zero lt = none
+    before (suc i) lt = back (take i rest) (bad.before i (omega (arith, lt)))
+front_verdict G H n e rest (verdict.No k) o none on back (j, is, inr un) = (
+  suc j,
+  omega (arith, is),
+  inr (record {
+    behind = omega (arith, un.behind);
+    good = back rest un.good;
+    unended = open_more e rest o un.unended;
+  }),
+)
+
+-- the entry in front is not good
+pub front_bad : (G : List Entry → Type 0) (n : ℕ) (e : Entry) (rest : List Entry) → G [] → (G (e ∷ []) → ⊥) → IsVerdictFrom G n (e ∷ rest) (verdict.No (n + 1))
+front_bad G n e rest none bad = (1, refl, inl (record { within = omega arith; bad = bad; before = before }))
+  where
+    before : (i : ℕ) → i < 1 → G (take i (e ∷ rest))
+    before zero lt = none
+    before (suc i) lt = absurd (omega (arith, lt))
+
+-- nothing comes any more, and the last picture is not there
+pub none_behind : (G : List Entry → Type 0) (n : ℕ) → G [] → IsVerdictFrom G n [] (verdict.No (n + 1))
+none_behind G n none = (1, refl, inr (record { behind = refl; good = none; unended = tt }))
+
+-- the last picture is the last entry
+pub final_last : (G : List Entry → Type 0) (n : ℕ) → G (entry.Final ∷ []) → IsVerdictFrom G n (entry.Final ∷ []) verdict.Yes
+final_last G n good = (good, ([], refl))
+
+-- an entry stands behind the last picture
+pub final_behind : (G : List Entry → Type 0) (n : ℕ) (e : Entry) (rest : List Entry) → G [] → G (entry.Final ∷ []) → (G (entry.Final ∷ e ∷ []) → ⊥) → IsVerdictFrom G n (entry.Final ∷ e ∷ rest) (verdict.No (n + 2))
+final_behind G n e rest none good bad = (2, refl, inl (record { within = omega arith; bad = bad; before = before }))
+  where
+    before : (i : ℕ) → i < 2 → G (take i (entry.Final ∷ e ∷ rest))
+    before zero lt = none
+    before (suc zero) lt = good
+    before (suc (suc i)) lt = absurd (omega (arith, lt))
+
+-- ---- the whole list
+
+pub verdict_for : (G H : List Entry → Type 0) (entries : List Entry) (v : Verdict) → ((xs : List Entry) → G xs → H xs) → ((xs : List Entry) → H xs → G xs) → IsVerdictFrom G 0 entries v → IsVerdict H entries v
+verdict_for G H entries verdict.Yes on back h = (on entries h.0, h.1)
+verdict_for G H entries (verdict.No k) on back (j, is, inl bad) =
+    let same : j ≡ k = omega (arith, is) in
+    inl (subst (λ (n : ℕ). IsLeastBad H entries n) same (record { within = bad.within; bad = λ g. bad.bad (back (take j entries) g); before = λ i lt. on (take i entries) (bad.before i lt) }))
+verdict_for G H entries (verdict.No k) on back (j, is, inr un) =
+    inr (record { behind = omega (arith, is, un.behind); good = on entries un.good; unended = un.unended })
+
+-- ---- one verdict
+
+abbrev is_final : Entry → Bool
+is_final entry.Final = true
+is_final other = false
+
+not_call : (sid : ℕ) (call : Call) (r : Reply) → entry.Call sid call r ≡ entry.Final → ⊥
+not_call sid call r is = false≢true (ap is_final is)
+
+not_input : (dev : Device) (routed : Routed) → entry.Input dev routed ≡ entry.Final → ⊥
+not_input dev routed is = false≢true (ap is_final is)
+
+not_shot : (number : ℕ) → entry.Shot number ≡ entry.Final → ⊥
+not_shot number is = false≢true (ap is_final is)
+
+not_ended_more : (e : Entry) (rest : List Entry) → e ≢ entry.Final → (IsEnded rest → ⊥) → IsEnded (e ∷ rest) → ⊥
+not_ended_more e rest o again (front, is) = shorter front is
+  where
+    shorter : (front : List Entry) → e ∷ rest ≡ front ++ entry.Final ∷ [] → ⊥
+    shorter [] is = o (cc)
+    shorter (f ∷ front) is = again (front, cc)
+
+not_ended_none : IsEnded [] → ⊥
+not_ended_none (front, is) = cut front is
+  where
+    cut : (front : List Entry) → [] ≡ front ++ entry.Final ∷ [] → ⊥
+    cut [] is = cons≢nil (sym is)
+    cut (f ∷ front) is = cons≢nil (sym is)
+
+open_not_ended : (entries : List Entry) → IsOpen entries → IsEnded entries → ⊥
+open_not_ended [] o h = not_ended_none h
+open_not_ended (entry.Final ∷ rest) o h = o
+open_not_ended (entry.Call sid call r ∷ rest) o h = not_ended_more (entry.Call sid call r) rest (λ is. absurd (not_call sid call r is)) (λ again. open_not_ended rest o again) h
+open_not_ended (entry.Input dev routed ∷ rest) o h = not_ended_more (entry.Input dev routed) rest (λ is. absurd (not_input dev routed is)) (λ again. open_not_ended rest o again) h
+open_not_ended (entry.Shot number ∷ rest) o h = not_ended_more (entry.Shot number) rest (λ is. absurd (not_shot number is)) (λ again. open_not_ended rest o again) h
+
+-- the first bad place is one
+one_place : (G : List Entry → Type 0) (entries : List Entry) (j k : ℕ) → IsLeastBad G entries j → IsLeastBad G entries k → j ≡ k
+one_place G entries j k a b = go (cases_lt j k) (cases_lt k j)
+  where
+    go : (j < k) ⊎ (k ≤ j) → (k < j) ⊎ (j ≤ k) → j ≡ k
+    go (inl lt) other = absurd (a.bad (b.before j lt))
+    go (inr le) (inl lt) = absurd (b.bad (a.before k lt))
+    go (inr le) (inr ge) = omega (arith, le, ge)
+
+pub one_verdict : (G : List Entry → Type 0) → ((k : ℕ) (xs : List Entry) → G xs → G (take k xs)) → (entries : List Entry) (a b : Verdict) → IsVerdict G entries a → IsVerdict G entries b → a ≡ b
+one_verdict G fewer entries verdict.Yes verdict.Yes h i = refl
+one_verdict G fewer entries verdict.Yes (verdict.No k) h (inl bad) = absurd (bad.bad (fewer k entries h.0))
+one_verdict G fewer entries verdict.Yes (verdict.No k) h (inr un) = absurd (open_not_ended entries un.unended h.1)
+one_verdict G fewer entries (verdict.No k) verdict.Yes (inl bad) i = absurd (bad.bad (fewer k entries i.0))
+one_verdict G fewer entries (verdict.No k) verdict.Yes (inr un) i = absurd (open_not_ended entries un.unended i.1)
+one_verdict G fewer entries (verdict.No j) (verdict.No k) (inl a) (inl b) = ap verdict.No (one_place G entries j k a b)
+one_verdict G fewer entries (verdict.No j) (verdict.No k) (inl a) (inr b) = absurd (a.bad (fewer j entries b.good))
+one_verdict G fewer entries (verdict.No j) (verdict.No k) (inr a) (inl b) = absurd (b.bad (fewer k entries a.good))
+one_verdict G fewer entries (verdict.No j) (verdict.No k) (inr a) (inr b) = ap verdict.No (a.behind ∙ sym b.behind)
+
+-- ---- an answer of the call
+
+-- a verdict that was answered holds
+pub answered_yes : {E : Type 0} (Is : Verdict → Type 0) (r : Result Verdict E) → IfOk r Is → r ≡ Ok verdict.Yes → Is verdict.Yes
+answered_yes {E} Is r h e = subst (λ (q : Result Verdict E). IfOk q Is) e h
+
+-- `Yes` is answered exactly where something holds that follows from it and gives it
+pub if_ok_yes : {E : Type 0} (Is : Verdict → Type 0) (Says : Type 0) (r : Result Verdict E) → IfOk r Is → IfOk r (λ v. (other : Verdict) → Is other → v ≡ other) → (Is verdict.Yes → Says) → (Says → Is verdict.Yes)
+    → IfOk r (λ v. (v ≡ verdict.Yes) ↔ Says)
+if_ok_yes {E} Is Says (Ok v) h only says comes = (λ is. says (subst Is is h), λ s. only verdict.Yes (comes s))
+if_ok_yes {E} Is Says (Err e) h only says comes = tt

@@ -1,0 +1,8 @@
+use Rattle.std.proofs.Common.{◌≡◌, ◌+◌, drop, nat_le}
+use Rattle.std.specs.List.{position_or_len}
+use Rattle.nit_journal.specs.State.{layer}
+use Rattle.nit_audit.specs.Keys.{view_under}
+use Rattle.nit_audit.proofs.keys.front_place.Given as goal
+
+abbrev pub invariant-loop-i : goal.invariant-loop-i
+invariant-loop-i l = position_or_len (λ k. nat_le l.low (layer l.config (view_under l.records k).sid)) (drop l.i l.keys) + l.i ≡ position_or_len (λ k. nat_le l.low (layer l.config (view_under l.records k).sid)) l.keys

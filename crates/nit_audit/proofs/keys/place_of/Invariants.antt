@@ -1,0 +1,7 @@
+use Rattle.std.proofs.Common.{◌≡◌, ◌+◌, drop}
+use Rattle.std.specs.List.{position_or_len}
+use Rattle.nit_audit.specs.Keys.{is_meant, view_under}
+use Rattle.nit_audit.proofs.keys.place_of.Given as goal
+
+abbrev pub invariant-loop-i : goal.invariant-loop-i
+invariant-loop-i l = position_or_len (λ k. is_meant l.which (view_under l.records k)) (drop l.i l.keys) + l.i ≡ position_or_len (λ k. is_meant l.which (view_under l.records k)) l.keys

@@ -1,0 +1,7 @@
+use Rattle.std.proofs.Common.{sym, subst}
+use Rattle.nit_audit.specs.Keys.{AllHaveViews, HasView}
+use Rattle.nit_audit.proofs.KeyLemmas.{all_insert}
+use Rattle.nit_audit.proofs.keys.put_in.Goals as goal
+
+pub returns-clause-kept : goal.returns-clause-kept
+returns-clause-kept c records has kept = subst (AllHaveViews records) (sym c.in_ok-insert.ensures.items) (all_insert (HasView records) c.args.keys.now.items c.args.place c.args.key has kept)

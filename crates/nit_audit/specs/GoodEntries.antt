@@ -1,0 +1,39 @@
+-- Entries that a run may have made so far.
+use Rattle.std.specs.Prelude.{◌≡◌, ℕ, ◌<◌, List, ◌∷◌, ◌++◌, map, length}
+use Rattle.std.specs.List.Sorted.{IsNonDecreasing}
+use mathlib.Core.List.{IsPrefix}
+use Rattle.nit_events.specs.declared.call.Call.{Call}
+use Rattle.nit_events.specs.declared.entry.Entry.{Entry}
+use Rattle.nit_events.specs.declared.entry.Entry.TheVariants as entry
+use Rattle.nit_script.specs.declared.line.Line.{Line}
+use Rattle.nit_script.specs.declared.line.InputLine.{InputLine}
+use Rattle.nit_config.specs.Configuration.{Configuration}
+use Rattle.nit_journal.specs.Journals.{IsLegal}
+use Rattle.nit_journal.specs.Whole.{Deed, calls_of, deeds_of, done, to_do, phases_along}
+use Rattle.nit_plan.specs.Calls.{calls_to_make, deeds_to_do}
+
+-- the clients have made all their calls, and the user has done all
+pub record IsAllDone
+    (clients : List (List (ℕ × Call))) (user : List (ℕ × Deed)) (entries : List Entry)
+    : Type 0 where
+  pub calls : (sid : ℕ) → sid < length clients → calls_of sid entries ≡ done (to_do clients sid)
+  pub deeds : deeds_of entries ≡ done user
+
+-- The entries are legal. The calls of each client are the first ones that it is to make, and the
+-- device events and shots are the first ones that the user is to do. Their phases never fall. A
+-- last picture is taken when all is done.
+pub record IsGoodFor
+    (config : Configuration) (clients : List (List (ℕ × Call))) (user : List (ℕ × Deed))
+    (entries : List Entry) : Type 0 where
+  pub legal : IsLegal config entries
+  pub calls : (sid : ℕ) → sid < length clients
+      → IsPrefix (calls_of sid entries) (done (to_do clients sid))
+  pub deeds : IsPrefix (deeds_of entries) (done user)
+  pub phases : IsNonDecreasing (phases_along clients user entries)
+  pub final : (front rest : List Entry) → entries ≡ front ++ entry.Final ∷ rest
+      → IsAllDone clients user front
+
+-- by the scripts of the clients and of the user
+abbrev pub IsGood : Configuration → List (List Line) → List InputLine → List Entry → Type 0
+IsGood config scripts input entries =
+    IsGoodFor config (map calls_to_make scripts) (deeds_to_do input) entries

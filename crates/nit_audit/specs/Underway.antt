@@ -1,0 +1,95 @@
+-- An audit under way: what the entries so far lead to, and which entry may come next.
+use Rattle.std.specs.Prelude.{◌≡◌, ℕ, ◌+◌, ◌<◌, ◌≤◌, List, [], ◌∷◌, ◌++◌, length, slice_set}
+use Rattle.std.specs.List.Sorted.{IsNonDecreasing}
+use mathlib.Core.List.{IsPrefix}
+use Rattle.nit_events.specs.declared.call.Call.{Call}
+use Rattle.nit_events.specs.declared.entry.Entry.{Entry}
+use Rattle.nit_events.specs.declared.entry.Entry.TheVariants as entry
+use Rattle.nit_script.specs.declared.line.Line.{Line}
+use Rattle.nit_script.specs.declared.line.Line.TheVariants as line
+use Rattle.nit_script.specs.declared.line.InputLine.{InputLine}
+use Rattle.nit_script.specs.declared.line.InputLine.TheVariants as input
+use Rattle.nit_config.specs.Configuration.{Configuration}
+use Rattle.nit_journal.specs.State.{State, after, opening}
+use Rattle.nit_journal.specs.Journals.{LegalFrom, Agrees}
+use Rattle.nit_journal.specs.Whole.{Deed, Does, Shoots, calls_of, deeds_of, done, left, next_phase, to_do, phases_along}
+use Rattle.nit_audit.specs.GoodEntries.{IsAllDone}
+
+-- the state; how many shots were taken; what the clients and the user are still to do; and the
+-- phase of what was done last
+pub record Audited : Type 0 where
+  pub state : State
+  pub taken : ℕ
+  pub clients : List (List (ℕ × Call))
+  pub user : List (ℕ × Deed)
+  pub phase : ℕ
+
+-- before the first entry
+abbrev pub first_audited : Configuration → List (List (ℕ × Call)) → List (ℕ × Deed) → Audited
+first_audited config clients user =
+    record { state = opening config; taken = 0; clients = clients; user = user; phase = 0 }
+
+-- these entries are good behind those so far
+pub record IsGoodFrom (a : Audited) (entries : List Entry) : Type 0 where
+  pub legal : LegalFrom a.state a.taken entries
+  pub calls : (sid : ℕ) → sid < length a.clients
+      → IsPrefix (calls_of sid entries) (done (to_do a.clients sid))
+  pub deeds : IsPrefix (deeds_of entries) (done a.user)
+  pub phases : IsNonDecreasing (a.phase ∷ phases_along a.clients a.user entries)
+  pub final : (front rest : List Entry) → entries ≡ front ++ entry.Final ∷ rest
+      → IsAllDone a.clients a.user front
+
+-- this is done next, in this phase or a later one
+abbrev pub IsNext : {A : Type 0} → ℕ → A → List (ℕ × A) → Type 0
+IsNext phase x [] = ⊥
+IsNext phase x (t ∷ ts) = (phase ≤ t.0) × (x ≡ t.1)
+
+-- nothing is left to do
+pub record IsNothingLeft (clients : List (List (ℕ × Call))) (user : List (ℕ × Deed)) : Type 0 where
+  pub calls : (sid : ℕ) → sid < length clients → to_do clients sid ≡ []
+  pub deeds : user ≡ []
+
+-- the entry's actor does what it is to do next; the last picture comes when nothing is left
+abbrev pub IsDue : Audited → Entry → Type 0
+IsDue a (entry.Call sid call r) = IsNext a.phase call (to_do a.clients sid)
+IsDue a (entry.Input dev routed) = IsNext a.phase (Does dev) a.user
+IsDue a (entry.Shot number) = IsNext a.phase Shoots a.user
+IsDue a entry.Final = IsNothingLeft a.clients a.user
+
+-- the entry is good behind those so far
+pub record MayFollow (a : Audited) (e : Entry) : Type 0 where
+  pub due : IsDue a e
+  pub agrees : Agrees a.state a.taken e
+
+-- what is left to do and the phase, after an entry
+abbrev pub user_on : Audited → Audited
+user_on a = record a { user = left a.user; phase = next_phase a.user }
+
+-- with one more entry
+abbrev pub followed : Audited → Entry → Audited
+followed a (entry.Call sid call r) =
+    record a {
+      state = after a.state (entry.Call sid call r);
+      clients = slice_set a.clients sid (left (to_do a.clients sid));
+      phase = next_phase (to_do a.clients sid);
+    }
+followed a (entry.Input dev routed) =
+    record (user_on a) { state = after a.state (entry.Input dev routed) }
+followed a (entry.Shot number) = record (user_on a) { taken = a.taken + 1 }
+followed a entry.Final = a
+
+-- each client has a session
+abbrev pub IsMatched : Audited → Type 0
+IsMatched a = length a.clients ≡ length a.state.sessions
+
+-- the next line of a client's script is a call, where there is one
+abbrev pub BeginsWithCall : List Line → Type 0
+BeginsWithCall [] = Unit {0}
+BeginsWithCall (line.Call call ∷ rest) = Unit {0}
+BeginsWithCall (other ∷ rest) = ⊥
+
+-- the next line of the input script is a device event or a shot, where there is one
+abbrev pub BeginsWithDeed : List InputLine → Type 0
+BeginsWithDeed [] = Unit {0}
+BeginsWithDeed (input.Phase ∷ rest) = ⊥
+BeginsWithDeed (other ∷ rest) = Unit {0}

@@ -1,0 +1,239 @@
+//! One session, done again.
+
+ghost use Rattle.std.specs.Prelude.{◌≡◌, ◌+◌, ◌-◌, ◌^◌, ◌<◌, ◌≤◌, not, filter, ◌==◌, None, IfOk, vec_capacity};
+ghost use Rattle.std.specs.List.{list_any};
+ghost use Rattle.nit_slots.specs.Account.{IsDonation};
+ghost use Rattle.nit_events.specs.declared.call.Call.TheVariants.{View, Destroy, Take};
+ghost use Rattle.nit_journal.specs.Session.{opened, refusal, by_call, by_handle, accepted, ended, queued, receive};
+
+use nit_events::{Call, Event, Item, Queue, Reply, Status};
+use nit_journal::refusing::{
+    by_buffer, by_offset, by_rectangle, by_status, by_title, by_upgrade, by_view, first_of,
+};
+use nit_rect::NoMemory;
+use nit_slots::Account;
+use std::alloc::Global;
+use std::marker::Model;
+
+/// The most views that a session may have.
+const MOST_VIEWS: usize = 64;
+
+/// A session, seen as the machine of one.
+#[derive(Drop)]
+pub(crate) struct Machine {
+    account: Account,
+    status: Status,
+    w: u32,
+    h: u32,
+    next: u32,
+    handles: Vec<u32>,
+    queue: Queue,
+    lost: u32,
+}
+
+impl Model for Machine {
+    ghost use Rattle.std.specs.Prelude.{◌≤◌, vec_capacity};
+    ghost use Rattle.nit_plan.specs.Machines.{IsKept};
+    ghost use Rattle.nit_journal.specs.Session.{Session};
+
+    ghost Value = { Session };
+
+    ghost view = { λ m. record {
+      donation = m.account.donation;
+      reserve = m.account.reserve;
+      status = m.status;
+      bw = m.w;
+      bh = m.h;
+      next = m.next;
+      handles = m.handles.items;
+      queue = m.queue;
+      lost = m.lost;
+    } };
+
+    ghost invariant = { λ m. record {
+      kept : IsKept m.account m.w m.h m.next m.handles.items;
+      space : 64 ≤ vec_capacity m.handles;
+    } };
+}
+
+impl Machine {
+    /// A session that opens with this donation, 256..=8388608 units. All memory that it will ever
+    /// use is taken here.
+    pub(crate) fn new(alloc: Global, donation: u32) -> Result<Machine, NoMemory>
+        requires { IsDonation donation }
+        ensures { IfOk result (λ m. m ≡ opened donation) }
+    {
+        Ok(Machine {
+            account: Account::new(donation),
+            status: Status::Live,
+            w: 0,
+            h: 0,
+            next: 1,
+            handles: Vec::with_capacity(alloc, MOST_VIEWS)?,
+            queue: Queue::new(alloc)?,
+            lost: 0,
+        })
+    }
+
+    /// A session that is live gets an item.
+    pub(crate) fn receive(&mut self, item: Item)
+        requires { self.old.lost < 2 ^ 32 - 1 }
+        ensures { self.new ≡ receive self.old item }
+    {
+        match self.status {
+            Status::Live => match item {
+                Item::Event(e) => self.offer(e),
+                Item::Kill => self.end(Status::Killed),
+            },
+            Status::Closed | Status::Killed => {}
+        }
+    }
+
+    /// The first refusal that the call meets. None where it is to be accepted.
+    pub(crate) fn refused(&self, call: &Call) -> Option<Reply>
+        ensures { result ≡ refusal self.now call.now }
+    {
+        first_of(by_status(self.status), self.by_call(call))
+    }
+
+    /// The first refusal that the call meets at a live session.
+    fn by_call(&self, call: &Call) -> Option<Reply>
+        ensures { result ≡ by_call self.now call.now }
+    {
+        match *call {
+            Call::Buffer(w, h) => by_buffer(self.account, w, h),
+            Call::View => by_view(self.account),
+            Call::Place(v, x, y, w, h) => first_of(self.by_handle(v), by_rectangle(x, y, w, h)),
+            Call::Offset(v, x, y) => first_of(self.by_handle(v), by_offset(x, y)),
+            Call::Front(v) | Call::Back(v) | Call::Destroy(v) => self.by_handle(v),
+            Call::Above(v, n) => first_of(self.by_handle(v), self.by_handle(n)),
+            Call::Title(v, text) => first_of(self.by_handle(v), by_title(&text)),
+            Call::Refresh(x, y, w, h) => by_rectangle(x, y, w, h),
+            Call::Upgrade(n) => by_upgrade(self.account, n),
+            Call::Take | Call::Close => None,
+        }
+    }
+
+    /// The session has a view of this handle.
+    fn by_handle(&self, v: u32) -> Option<Reply>
+        ensures { result ≡ by_handle self.now v }
+    {
+        if holds(&self.handles, v) {
+            None
+        } else {
+            Some(Reply::NoSuchView(v))
+        }
+    }
+
+    /// Serves a call that is not refused.
+    pub(crate) fn accept(&mut self, call: &Call) -> Reply
+        requires accepted { refusal self.old call.now ≡ None }
+        requires next { self.old.next < 2 ^ 32 - 1 }
+        ensures reply { result ≡ (accepted self.old call.now).reply }
+        ensures session { self.new ≡ (accepted self.old call.now).session }
+    {
+        match *call {
+            Call::Buffer(w, h) => {
+                let paid = self.account.try_buffer(w, h);
+                prove!(paid.is_ok());
+                self.w = w;
+                self.h = h;
+                Reply::Done
+            }
+            Call::View => self.create(),
+            Call::Destroy(v) => {
+                self.destroy(v);
+                Reply::Done
+            }
+            Call::Take => self.take(),
+            Call::Upgrade(n) => {
+                let raised = self.account.upgrade(n);
+                prove!(raised.is_ok());
+                Reply::Done
+            }
+            Call::Close => {
+                self.end(Status::Closed);
+                Reply::Done
+            }
+            Call::Place(..)
+            | Call::Offset(..)
+            | Call::Front(_)
+            | Call::Back(_)
+            | Call::Above(..)
+            | Call::Title(..)
+            | Call::Refresh(..) => Reply::Done,
+        }
+    }
+
+    /// The new view of an accepted `View`.
+    fn create(&mut self) -> Reply
+        requires accepted { refusal self.old View ≡ None }
+        requires next { self.old.next < 2 ^ 32 - 1 }
+        ensures reply { result ≡ (accepted self.old View).reply }
+        ensures session { self.new ≡ (accepted self.old View).session }
+    {
+        let paid = self.account.try_view();
+        prove!(paid.is_ok());
+        let handle = self.next;
+        self.handles.push_reserved(handle);
+        self.next += 1;
+        Reply::Handle(handle)
+    }
+
+    /// The view of an accepted `Destroy(v)` is gone.
+    fn destroy(&mut self, v: u32)
+        requires { refusal self.old (Destroy v) ≡ None }
+        ensures { self.new ≡ (accepted self.old (Destroy v)).session }
+    {
+        self.account.drop_view();
+        remove(&mut self.handles, v);
+    }
+
+    /// The oldest event is taken out and answered, or that there is none.
+    fn take(&mut self) -> Reply
+        ensures reply { result ≡ (accepted self.old Take).reply }
+        ensures session { self.new ≡ (accepted self.old Take).session }
+    {
+        match self.queue.take() {
+            Some(e) => Reply::Event(e),
+            None => Reply::NoEvent,
+        }
+    }
+
+    /// The session is over.
+    fn end(&mut self, how: Status)
+        ensures { self.new ≡ ended how self.old }
+    {
+        self.account.clear();
+        self.status = how;
+        self.w = 0;
+        self.h = 0;
+        self.handles.clear();
+        self.queue.clear();
+    }
+
+    /// An event joins the queue, or is lost where 64 wait.
+    fn offer(&mut self, e: Event)
+        requires { self.old.lost < 2 ^ 32 - 1 }
+        ensures { self.new ≡ queued e self.old }
+    {
+        if !self.queue.offer(e) {
+            self.lost += 1;
+        }
+    }
+}
+
+/// Whether v is among the handles.
+fn holds(handles: &[u32], v: u32) -> bool
+    ensures { result ≡ list_any (λ h. h == v) handles.now }
+{
+    handles.iter().any(|h| *h == v)
+}
+
+/// Takes v out of the handles.
+fn remove(handles: &mut Vec<u32>, v: u32)
+    ensures items { handles.new.items ≡ filter (λ h. not (h == v)) handles.old.items }
+    ensures capacity { vec_capacity handles.new ≡ vec_capacity handles.old }
+{
+    handles.retain(|h| *h != v);
+}

@@ -1,0 +1,119 @@
+//! What the input script has still to do.
+
+ghost use Rattle.std.specs.Prelude.{◌≡◌, ◌↔◌, ◌+◌, ◌≤◌, [], IsTrue, IfSome, IfNone, length};
+ghost use Rattle.std.specs.List.{AllByRecursion};
+ghost use Rattle.nit_events.specs.Ranges.{IsDevice};
+ghost use Rattle.nit_script.specs.Spelling.{FitsInputLine};
+ghost use Rattle.nit_journal.specs.Whole.{Does, Shoots, left, next_phase};
+ghost use Rattle.nit_plan.specs.Calls.{deeds_from, deeds_to_do};
+ghost use Rattle.nit_audit.specs.Underway.{BeginsWithDeed, IsNext};
+
+use nit_events::Device;
+use nit_script::{Input, InputLine};
+use std::marker::Model;
+
+/// The lines that are left of the input script, and the number of the phase that they begin in. It
+/// is seen as the device events and shots that are still to come, each with its phase.
+#[derive(Drop)]
+pub(crate) struct UserCourse<'a> {
+    lines: &'a [InputLine],
+    phase: u32,
+}
+
+impl<'a> Model for UserCourse<'a> {
+    ghost use Rattle.std.specs.Prelude.{ℕ, ◌+◌, ◌≤◌, List, length};
+    ghost use Rattle.std.specs.List.{AllByRecursion};
+    ghost use Rattle.nit_script.specs.Spelling.{FitsInputLine};
+    ghost use Rattle.nit_journal.specs.Whole.{Deed};
+    ghost use Rattle.nit_plan.specs.Calls.{deeds_from};
+
+    ghost Value = { List (ℕ × Deed) };
+
+    ghost view = { λ c. deeds_from c.phase c.lines.now };
+
+    ghost invariant = { λ c. (c.phase + length c.lines.now ≤ 65536)
+        × AllByRecursion FitsInputLine c.lines.now };
+}
+
+impl<'a> UserCourse<'a> {
+    /// All of the script.
+    pub(crate) fn new(script: &'a Input) -> UserCourse<'a>
+        ensures { result ≡ deeds_to_do script.now }
+    {
+        UserCourse {
+            lines: script.lines(),
+            phase: 0,
+        }
+    }
+
+    /// The user does this next, in the phase `from` or a later one: answers that phase. None
+    /// exactly where it is not so.
+    pub(crate) fn act(&mut self, from: u32, dev: Device) -> Option<u32>
+        ensures done { IfSome result (λ phase. IsNext from (Does dev) self.old
+            × (phase ≡ next_phase self.old)) }
+        ensures left { IfSome result (λ _. self.new ≡ left self.old) }
+        ensures range { IfSome result (λ _. IsDevice dev) }
+        ensures not_next { IfNone result (IsNext from (Does dev) self.old → ⊥) }
+    {
+        let (phase, lines) = next_deed(self.lines, self.phase);
+        let Some((line, rest)) = lines.split_first() else {
+            return None;
+        };
+        if *line != InputLine::Device(dev) || phase < from {
+            return None;
+        }
+        self.lines = rest;
+        self.phase = phase;
+        Some(phase)
+    }
+
+    /// A picture is taken next, in the phase `from` or a later one: answers that phase. None
+    /// exactly where it is not so.
+    pub(crate) fn shoot(&mut self, from: u32) -> Option<u32>
+        ensures done { IfSome result (λ phase. IsNext from Shoots self.old
+            × (phase ≡ next_phase self.old)) }
+        ensures left { IfSome result (λ _. self.new ≡ left self.old) }
+        ensures not_next { IfNone result (IsNext from Shoots self.old → ⊥) }
+    {
+        let (phase, lines) = next_deed(self.lines, self.phase);
+        let Some((line, rest)) = lines.split_first() else {
+            return None;
+        };
+        if *line != InputLine::Shot || phase < from {
+            return None;
+        }
+        self.lines = rest;
+        self.phase = phase;
+        Some(phase)
+    }
+
+    /// Whether nothing is left to do.
+    pub(crate) fn is_done(&self) -> bool
+        ensures { IsTrue result ↔ (self.now ≡ []) }
+    {
+        let (_phase, lines) = next_deed(self.lines, self.phase);
+        lines.is_empty()
+    }
+}
+
+/// The lines from the next device event or shot on, and the phase that it is in. Ends of phases
+/// before it are passed by.
+fn next_deed(lines: &[InputLine], phase: u32) -> (u32, &[InputLine])
+    requires few { phase + length lines.now ≤ 65536 }
+    requires fits { AllByRecursion FitsInputLine lines.now }
+    ensures deeds { deeds_from result.0 result.1.now ≡ deeds_from phase lines.now }
+    ensures begins { BeginsWithDeed result.1.now }
+    ensures few { result.0 + length result.1.now ≤ 65536 }
+    ensures fits { AllByRecursion FitsInputLine result.1.now }
+{
+    let mut rest = lines;
+    let mut at = phase;
+    'lines: while let Some((line, behind)) = rest.split_first() {
+        match *line {
+            InputLine::Device(_) | InputLine::Shot => return (at, rest),
+            InputLine::Phase => at += 1,
+        }
+        rest = behind;
+    }
+    (at, rest)
+}
