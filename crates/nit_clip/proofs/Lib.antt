@@ -1,0 +1,5 @@
+pub mod Boards
+pub mod Legality
+pub mod LineLaws
+pub mod Placing
+pub mod Replies
