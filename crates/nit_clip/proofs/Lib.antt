@@ -1,5 +1,5 @@
-pub mod Boards
-pub mod Legality
-pub mod LineLaws
-pub mod Placing
-pub mod Replies
+pub mod ClipboardLemmas
+pub mod LegalClipLemmas
+pub mod ClipLineLaws
+pub mod WholeClipLemmas
+pub mod OneMoreClip

@@ -5,19 +5,19 @@ use Rattle.nit_clip.specs.declared.error.ClipError.{ClipError}
 use Rattle.nit_clip.specs.declared.error.ClipError.TheVariants.{Bad, TooLong, NoMemory}
 use Rattle.nit_clip.specs.declared.line.ClipLine.{ClipLine}
 use Rattle.nit_clip.specs.declared.line.ClipLine.TheVariants as line
-use Rattle.nit_clip.specs.ClipSpelling.{FitsLine, line_spelling}
+use Rattle.nit_clip.specs.ClipSpelling.{FitsClipLine, clip_line_spelling}
 
 -- The bytes spell these lines of a clip script.
 abbrev pub ReadsClip : List ℕ → List ClipLine → Type 0
-ReadsClip = Reads FitsLine line_spelling
+ReadsClip = Reads FitsClipLine clip_line_spelling
 
 -- The line of this number is the first without a reading.
 abbrev pub IsFirstBadClip : List ℕ → ℕ → Type 0
-IsFirstBadClip = IsFirstBad FitsLine line_spelling
+IsFirstBadClip = IsFirstBad FitsClipLine clip_line_spelling
 
 -- Bytes stand behind 65,536 lines with a reading.
 abbrev pub IsTooLongClip : List ℕ → Type 0
-IsTooLongClip = IsTooLong FitsLine line_spelling
+IsTooLongClip = IsTooLong FitsClipLine clip_line_spelling
 
 -- the line ends a phase
 abbrev pub is_clip_phase : ClipLine → Bool
@@ -36,8 +36,8 @@ UnlessMemory (Err TooLong) P = P
 UnlessMemory (Err NoMemory) P = Unit {0}
 
 -- What reading bytes as a clip script may answer.
-abbrev pub IsClipAnswer : List ℕ → Result (List ClipLine) ClipError → Type 0
-IsClipAnswer bytes (Ok lines) = ReadsClip bytes lines × (length lines ≤ 65536)
-IsClipAnswer bytes (Err (Bad line)) = IsFirstBadClip bytes line
-IsClipAnswer bytes (Err TooLong) = IsTooLongClip bytes
-IsClipAnswer bytes (Err NoMemory) = Unit {0}
+abbrev pub IsClipScriptAnswer : List ℕ → Result (List ClipLine) ClipError → Type 0
+IsClipScriptAnswer bytes (Ok lines) = ReadsClip bytes lines × (length lines ≤ 65536)
+IsClipScriptAnswer bytes (Err (Bad line)) = IsFirstBadClip bytes line
+IsClipScriptAnswer bytes (Err TooLong) = IsTooLongClip bytes
+IsClipScriptAnswer bytes (Err NoMemory) = Unit {0}

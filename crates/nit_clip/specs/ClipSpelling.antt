@@ -14,39 +14,39 @@ use Rattle.nit_clip.specs.declared.line.ClipLine.TheVariants as line
 -- ---- what has a spelling
 
 -- the text is within the grammar
-abbrev pub FitsCall : ClipCall → Type 0
-FitsCall (call.Copy t) = FitsText t
-FitsCall call.Paste = Unit {0}
+abbrev pub FitsClipCall : ClipCall → Type 0
+FitsClipCall (call.Copy t) = FitsText t
+FitsClipCall call.Paste = Unit {0}
 
-abbrev pub FitsLine : ClipLine → Type 0
-FitsLine (line.Call c) = FitsCall c
-FitsLine line.Phase = Unit {0}
+abbrev pub FitsClipLine : ClipLine → Type 0
+FitsClipLine (line.Call c) = FitsClipCall c
+FitsClipLine line.Phase = Unit {0}
 
 -- ---- lines, without their line feed
 
 -- a call: `copy =` and the text directly after it, or `paste`
-abbrev pub call_spelling : ClipCall → List ℕ
-call_spelling (call.Copy t) = codes "copy" ++ text t
-call_spelling call.Paste = codes "paste"
+abbrev pub clip_call_spelling : ClipCall → List ℕ
+clip_call_spelling (call.Copy t) = codes "copy" ++ text t
+clip_call_spelling call.Paste = codes "paste"
 
 -- a line of a clip script
-abbrev pub line_spelling : ClipLine → List ℕ
-line_spelling (line.Call c) = call_spelling c
-line_spelling line.Phase = codes "phase"
+abbrev pub clip_line_spelling : ClipLine → List ℕ
+clip_line_spelling (line.Call c) = clip_call_spelling c
+clip_line_spelling line.Phase = codes "phase"
 
 -- a reply, with the text that was pasted
-abbrev pub reply_spelling : ClipReply → List ℕ
-reply_spelling reply.Copied = codes "copied"
-reply_spelling (reply.Pasted t) = codes "pasted" ++ text t
-reply_spelling reply.Empty = codes "empty"
-reply_spelling reply.NotFocused = codes "not-focused"
+abbrev pub clip_reply_spelling : ClipReply → List ℕ
+clip_reply_spelling reply.Copied = codes "copied"
+clip_reply_spelling (reply.Pasted t) = codes "pasted" ++ text t
+clip_reply_spelling reply.Empty = codes "empty"
+clip_reply_spelling reply.NotFocused = codes "not-focused"
 
 -- an entry: its place, its session, the reply, and then the call
-abbrev pub entry_spelling : ClipEntry → List ℕ
-entry_spelling e =
+abbrev pub clip_entry_spelling : ClipEntry → List ℕ
+clip_entry_spelling e =
     codes "clip" ++ (nat e.at ++ (nat e.sid
-    ++ (32 ∷ (reply_spelling e.reply ++ (codes " < " ++ call_spelling e.call)))))
+    ++ (32 ∷ (clip_reply_spelling e.reply ++ (codes " < " ++ clip_call_spelling e.call)))))
 
 -- the text of a clip list: a line for each entry, in order
 abbrev pub clip_text : List ClipEntry → List ℕ
-clip_text entries = flat_map (spelled entry_spelling) entries
+clip_text entries = flat_map (spelled clip_entry_spelling) entries

@@ -6,7 +6,7 @@ use Rattle.nit_events.specs.declared.entry.Entry.TheVariants as entry
 use Rattle.nit_journal.specs.Configuration.{Configuration}
 use Rattle.nit_journal.specs.Journals.{replay}
 use Rattle.nit_clip.specs.declared.call.ClipEntry.{ClipEntry}
-use Rattle.nit_clip.specs.Board.{AreAnswered, NeverFall}
+use Rattle.nit_clip.specs.Clipboard.{AreAnswered, NeverFall}
 
 -- how many entries stand before the last picture
 abbrev pub before_final : List Entry → ℕ

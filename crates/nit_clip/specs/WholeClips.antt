@@ -37,7 +37,7 @@ calls_up_to phase calls = filter (λ t. nat_le t.0 phase) calls
 
 -- A clip call of this phase stands behind all calls that its client makes in the phases up to this
 -- one, and before every entry of a later phase.
-pub record IsPlaced (clients : List (List (ℕ × Call))) (user : List (ℕ × Deed))
+pub record IsInPhase (clients : List (List (ℕ × Call))) (user : List (ℕ × Deed))
     (journal : List Entry) (phase : ℕ) (e : ClipEntry) : Type 0 where
   pub behind :
       length (calls_up_to phase (to_do clients e.sid)) ≤ length (calls_of e.sid (take e.at journal))
@@ -48,12 +48,12 @@ abbrev pub one_clip_done : List (List (ℕ × ClipCall)) → ℕ → List (List 
 one_clip_done scripts sid = slice_set scripts sid (left (clips_to_do scripts sid))
 
 -- each entry is what its client does next with the clipboard, in the phase of that
-abbrev pub ArePlaced : List (List (ℕ × Call)) → List (ℕ × Deed) → List Entry
+abbrev pub AreInPhases : List (List (ℕ × Call)) → List (ℕ × Deed) → List Entry
     → List (List (ℕ × ClipCall)) → List ClipEntry → Type 0
-ArePlaced clients user journal scripts [] = Unit {0}
-ArePlaced clients user journal scripts (e ∷ rest) =
-    IsPlaced clients user journal (next_phase (clips_to_do scripts e.sid)) e
-    × ArePlaced clients user journal (one_clip_done scripts e.sid) rest
+AreInPhases clients user journal scripts [] = Unit {0}
+AreInPhases clients user journal scripts (e ∷ rest) =
+    IsInPhase clients user journal (next_phase (clips_to_do scripts e.sid)) e
+    × AreInPhases clients user journal (one_clip_done scripts e.sid) rest
 
 -- what each client is still to do with the clipboard behind these entries
 abbrev pub left_after :
@@ -68,4 +68,4 @@ pub record IsWholeClips (clients : List (List (ℕ × Call))) (user : List (ℕ 
     : Type 0 where
   pub calls : (sid : ℕ) → sid < length scripts
       → clip_calls_of sid clips ≡ done (clips_to_do scripts sid)
-  pub placed : ArePlaced clients user journal scripts clips
+  pub placed : AreInPhases clients user journal scripts clips

@@ -1,7 +1,7 @@
 //! The clip list as the server keeps it. Its room is taken at the start; a call takes no memory.
 
 ghost use Rattle.std.specs.Prelude.{◌≡◌, ◌-◌, ◌≤◌, ◌++◌, ◌∷◌, [], IfOk};
-ghost use Rattle.nit_clip.specs.Board.{AreAnswered, NeverFall, answer, pasted, has_focus, held, kept, last_at};
+ghost use Rattle.nit_clip.specs.Clipboard.{AreAnswered, NeverFall, clip_answer, pasted, has_focus, clipboard_of, clipboard_after, last_at};
 
 use crate::call::{ClipCall, ClipEntry, ClipReply};
 use nit_events::Text;
@@ -15,21 +15,21 @@ use std::marker::Model;
 pub struct Clip {
     entries: Vec<ClipEntry>,
     spare: usize,
-    board: Option<Text>,
+    clipboard: Option<Text>,
     last: u32,
 }
 
 impl Model for Clip {
     ghost use Rattle.std.specs.Prelude.{vec_len, vec_capacity};
-    ghost use Rattle.nit_clip.specs.KeptClips.{ClipModel, IsKept};
+    ghost use Rattle.nit_clip.specs.Clip.{ClipModel, IsClip};
 
     ghost Value = { ClipModel };
 
     ghost view = { λ c. record { entries = c.entries.items; spare = c.spare } };
 
     ghost invariant = { λ c.
-        IsKept c.entries.items (vec_len c.entries) c.spare (vec_capacity c.entries)
-            c.board c.last };
+        IsClip c.entries.items (vec_len c.entries) c.spare (vec_capacity c.entries)
+        c.clipboard c.last };
 }
 
 impl Clip {
@@ -41,7 +41,7 @@ impl Clip {
         Ok(Clip {
             entries: Vec::with_capacity(alloc, n)?,
             spare: n,
-            board: None,
+            clipboard: None,
             last: 0,
         })
     }
@@ -51,15 +51,15 @@ impl Clip {
     pub fn serve(&mut self, at: u32, sid: u32, focus: Option<u32>, call: &ClipCall) -> ClipReply
         requires room { 1 ≤ self.old.spare }
         requires place { last_at 0 self.old.entries ≤ at }
-        ensures reply { result ≡ answer (held self.old.entries) focus sid call.now }
+        ensures reply { result ≡ clip_answer (clipboard_of self.old.entries) focus sid call.now }
         ensures recorded { self.new ≡ record {
           entries = self.old.entries
               ++ record { at = at; sid = sid; focus = focus; call = call.now; reply = result } ∷ [];
           spare = self.old.spare - 1;
         } }
     {
-        let reply = reply_to(&self.board, focus, sid, call);
-        self.board = kept(&self.board, call, &reply);
+        let reply = reply_to(&self.clipboard, focus, sid, call);
+        self.clipboard = clipboard_after(&self.clipboard, call, &reply);
         self.last = at;
         self.spare -= 1;
         self.entries.push_reserved(ClipEntry {
@@ -84,37 +84,37 @@ impl Clip {
 }
 
 /// The answer to a call, by what the clipboard holds.
-fn reply_to(board: &Option<Text>, focus: Option<u32>, sid: u32, call: &ClipCall) -> ClipReply
-    ensures { result ≡ answer board.now focus sid call.now }
+fn reply_to(clipboard: &Option<Text>, focus: Option<u32>, sid: u32, call: &ClipCall) -> ClipReply
+    ensures { result ≡ clip_answer clipboard.now focus sid call.now }
 {
     if !has_focus(focus, sid) {
         return ClipReply::NotFocused;
     }
     match call {
         ClipCall::Copy(_) => ClipReply::Copied,
-        ClipCall::Paste => pasted(board),
+        ClipCall::Paste => pasted(clipboard),
     }
 }
 
-fn pasted(board: &Option<Text>) -> ClipReply
-    ensures { result ≡ pasted board.now }
+fn pasted(clipboard: &Option<Text>) -> ClipReply
+    ensures { result ≡ pasted clipboard.now }
 {
-    match board {
+    match clipboard {
         Some(text) => ClipReply::Pasted(*text),
         None => ClipReply::Empty,
     }
 }
 
 /// What the clipboard holds after a call that was answered so.
-fn kept(board: &Option<Text>, call: &ClipCall, reply: &ClipReply) -> Option<Text>
-    ensures { result ≡ kept board.now call.now reply.now }
+fn clipboard_after(clipboard: &Option<Text>, call: &ClipCall, reply: &ClipReply) -> Option<Text>
+    ensures { result ≡ clipboard_after clipboard.now call.now reply.now }
 {
     let ClipReply::Copied = reply else {
-        return *board;
+        return *clipboard;
     };
     match call {
         ClipCall::Copy(text) => Some(*text),
-        ClipCall::Paste => *board,
+        ClipCall::Paste => *clipboard,
     }
 }
 

@@ -15,9 +15,9 @@ ghost use Rattle.nit_clip.specs.declared.call.ClipReply.TheVariants as reply;
 ghost use Rattle.nit_clip.specs.declared.call.ClipEntry.{ClipEntry};
 ghost use Rattle.nit_clip.specs.declared.line.ClipLine.{ClipLine};
 ghost use Rattle.nit_clip.specs.ClipGrammar.{ReadsClip, IsFirstBadClip, IsTooLongClip, is_clip_phase, clip_phases};
-ghost use Rattle.nit_clip.specs.Board.{answer, held, last_at, IsAnswerBy};
+ghost use Rattle.nit_clip.specs.Clipboard.{clip_answer, clipboard_of, last_at, IsClipAnswer};
 ghost use Rattle.nit_clip.specs.LegalClips.{IsLegalClips, before_final};
-ghost use Rattle.nit_clip.specs.WholeClips.{clips_to_do, clip_calls_of, left_after, IsPlaced, ArePlaced};
+ghost use Rattle.nit_clip.specs.WholeClips.{clips_to_do, clip_calls_of, left_after, IsInPhase, AreInPhases};
 
 /// A text has one reading as a clip script at most, and a list of lines has one text.
 pub fn clip_reading_is_one()
@@ -74,7 +74,7 @@ pub fn one_more_clip()
         → IsLegalClips config journal clips → IsOpen journal
         → c.at ≡ length journal → c.sid < length config.clients
         → c.focus ≡ (replay config journal).input.focus
-        → c.reply ≡ answer (held clips) c.focus c.sid c.call
+        → c.reply ≡ clip_answer (clipboard_of clips) c.focus c.sid c.call
         → IsLegalClips config journal (clips ++ c ∷ []) }
 {}
 
@@ -94,8 +94,8 @@ pub fn placed_clips_stay()
         → (journal : List Entry) (e : Entry)
         → (scripts : List (List (ℕ × ClipCall))) (clips : List ClipEntry)
         → AllByRecursion (λ c. c.at ≤ before_final journal) clips
-        → ArePlaced clients user journal scripts clips
-        → ArePlaced clients user (journal ++ e ∷ []) scripts clips }
+        → AreInPhases clients user journal scripts clips
+        → AreInPhases clients user (journal ++ e ∷ []) scripts clips }
 {}
 
 /// So does one more clip call, where it stands in the phase of what its client does next with the
@@ -103,10 +103,10 @@ pub fn placed_clips_stay()
 pub fn one_more_placed()
     ensures { (clients : List (List (ℕ × Call))) (user : List (ℕ × Deed)) (journal : List Entry)
         → (scripts : List (List (ℕ × ClipCall))) (clips : List ClipEntry) (c : ClipEntry)
-        → ArePlaced clients user journal scripts clips
+        → AreInPhases clients user journal scripts clips
         → let next = clips_to_do (left_after scripts clips) c.sid in
-        IsPlaced clients user journal (next_phase next) c
-        → ArePlaced clients user journal scripts (clips ++ c ∷ []) }
+        IsInPhase clients user journal (next_phase next) c
+        → AreInPhases clients user journal scripts (clips ++ c ∷ []) }
 {}
 
 /// What a client is still to do with the clipboard stands behind as many clip calls as it has made.
@@ -121,12 +121,12 @@ pub fn left_to_do()
 /// that there is none.
 pub fn answers_by_any_clipboard()
     ensures told { (focus : Option ℕ) (sid : ℕ) (c : ClipCall) (r : ClipReply)
-        → IsAnswerBy focus sid c r → r ≡ reply.NotFocused → focus ≡ Some sid → ⊥ }
+        → IsClipAnswer focus sid c r → r ≡ reply.NotFocused → focus ≡ Some sid → ⊥ }
     ensures is_told { (focus : Option ℕ) (sid : ℕ) (c : ClipCall) (r : ClipReply)
-        → IsAnswerBy focus sid c r → (focus ≡ Some sid → ⊥) → r ≡ reply.NotFocused }
+        → IsClipAnswer focus sid c r → (focus ≡ Some sid → ⊥) → r ≡ reply.NotFocused }
     ensures copied { (focus : Option ℕ) (sid : ℕ) (t : List ℕ) (r : ClipReply)
-        → IsAnswerBy focus sid (call.Copy t) r → focus ≡ Some sid → r ≡ reply.Copied }
+        → IsClipAnswer focus sid (call.Copy t) r → focus ≡ Some sid → r ≡ reply.Copied }
     ensures pasted { (focus : Option ℕ) (sid : ℕ) (r : ClipReply)
-        → IsAnswerBy focus sid call.Paste r → focus ≡ Some sid
+        → IsClipAnswer focus sid call.Paste r → focus ≡ Some sid
         → (r ≡ reply.Empty) ⊎ ((t : List ℕ) × (r ≡ reply.Pasted t)) }
 {}

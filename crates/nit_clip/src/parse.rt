@@ -3,8 +3,8 @@
 ghost use Rattle.std.specs.Prelude.{◌≡◌, ◌≤◌, ℕ, List, length, Ok, Err, IfOk};
 ghost use Rattle.nit_script.specs.Reading.{Gives};
 ghost use Rattle.nit_clip.specs.declared.line.ClipLine.{ClipLine};
-ghost use Rattle.nit_clip.specs.ClipGrammar.{ReadsClip, IsFirstBadClip, IsTooLongClip, UnlessMemory, IsClipAnswer};
-ghost use Rattle.nit_clip.specs.ClipReading.{copy_at, call_at, line_front_at, line_at};
+ghost use Rattle.nit_clip.specs.ClipGrammar.{ReadsClip, IsFirstBadClip, IsTooLongClip, UnlessMemory, IsClipScriptAnswer};
+ghost use Rattle.nit_clip.specs.ClipReaders.{copy_at, paste_at, clip_call_at, clip_phase_at, clip_front_at, clip_line_at};
 
 use crate::call::ClipCall;
 use crate::error::ClipError;
@@ -41,7 +41,7 @@ pub fn parse_clip(alloc: Global, bytes: &[u8]) -> Result<ClipScript, ClipError>
 }
 
 fn clip_lines(alloc: Global, bytes: &[u8]) -> Result<ClipScript, ClipError>
-    ensures { IsClipAnswer bytes.now result }
+    ensures { IsClipScriptAnswer bytes.now result }
 {
     let mut lines = Vec::new(alloc);
     let mut rest = bytes;
@@ -63,9 +63,9 @@ fn clip_lines(alloc: Global, bytes: &[u8]) -> Result<ClipScript, ClipError>
 }
 
 /// The line in front, with its line feed, and what follows it.
-#[tactic(auto, unfolding(crate::specs::ClipReading::line_at))]
+#[tactic(auto, unfolding(crate::specs::ClipReaders::clip_line_at))]
 fn take_line(bytes: &[u8]) -> Option<(ClipLine, &[u8])>
-    ensures { Gives (λ x. (x.0, x.1.now)) result (line_at bytes.now) }
+    ensures { Gives (λ x. (x.0, x.1.now)) result (clip_line_at bytes.now) }
 {
     let Some((line, rest)) = take_front(bytes) else {
         return None;
@@ -74,30 +74,36 @@ fn take_line(bytes: &[u8]) -> Option<(ClipLine, &[u8])>
 }
 
 /// The same up to the line feed.
-#[tactic(auto, unfolding(crate::specs::ClipReading::line_front_at, crate::specs::ClipReading::phase_at))]
+#[tactic(auto, unfolding(crate::specs::ClipReaders::clip_front_at))]
 fn take_front(bytes: &[u8]) -> Option<(ClipLine, &[u8])>
-    ensures { Gives (λ x. (x.0, x.1.now)) result (line_front_at bytes.now) }
+    ensures { Gives (λ x. (x.0, x.1.now)) result (clip_front_at bytes.now) }
 {
     if let Some((call, rest)) = take_call(bytes) {
         return Some((ClipLine::Call(call), rest));
     }
+    take_phase(bytes)
+}
+
+#[tactic(auto, unfolding(crate::specs::ClipReaders::clip_phase_at))]
+fn take_phase(bytes: &[u8]) -> Option<(ClipLine, &[u8])>
+    ensures { Gives (λ x. (x.0, x.1.now)) result (clip_phase_at bytes.now) }
+{
     let rest = take_word(bytes, b"phase")?;
     Some((ClipLine::Phase, rest))
 }
 
 /// The call in front.
-#[tactic(auto, unfolding(crate::specs::ClipReading::call_at, crate::specs::ClipReading::paste_at))]
+#[tactic(auto, unfolding(crate::specs::ClipReaders::clip_call_at))]
 fn take_call(bytes: &[u8]) -> Option<(ClipCall, &[u8])>
-    ensures { Gives (λ x. (x.0, x.1.now)) result (call_at bytes.now) }
+    ensures { Gives (λ x. (x.0, x.1.now)) result (clip_call_at bytes.now) }
 {
     if let Some(found) = take_copy(bytes) {
         return Some(found);
     }
-    let rest = take_word(bytes, b"paste")?;
-    Some((ClipCall::Paste, rest))
+    take_paste(bytes)
 }
 
-#[tactic(auto, unfolding(crate::specs::ClipReading::copy_at))]
+#[tactic(auto, unfolding(crate::specs::ClipReaders::copy_at))]
 fn take_copy(bytes: &[u8]) -> Option<(ClipCall, &[u8])>
     ensures { Gives (λ x. (x.0, x.1.now)) result (copy_at bytes.now) }
 {
@@ -106,4 +112,12 @@ fn take_copy(bytes: &[u8]) -> Option<(ClipCall, &[u8])>
         return None;
     };
     Some((ClipCall::Copy(text), rest))
+}
+
+#[tactic(auto, unfolding(crate::specs::ClipReaders::paste_at))]
+fn take_paste(bytes: &[u8]) -> Option<(ClipCall, &[u8])>
+    ensures { Gives (λ x. (x.0, x.1.now)) result (paste_at bytes.now) }
+{
+    let rest = take_word(bytes, b"paste")?;
+    Some((ClipCall::Paste, rest))
 }

@@ -4,25 +4,26 @@ ghost use Rattle.std.specs.Prelude.{◌≡◌, ◌≤◌, ◌+◌, ◌*◌, ◌+
 ghost use Rattle.nit_script.specs.declared.line.Line.{Line};
 ghost use Rattle.nit_script.specs.Phases.{phases};
 ghost use Rattle.nit_plan.specs.Plans.{static, words_left};
-ghost use Rattle.nit_nested.specs.Frames.{frame_lines, told_words};
-ghost use Rattle.nit_nested.specs.Scripts.{NestModel, first_forbidden, lines_of, count_lines, script_of};
-ghost use Rattle.nit_nested.specs.Shown.{CanPay, lines_before_end, ShowsFrames};
+ghost use Rattle.nit_nested.specs.FrameLines.{frame_lines, words_of_lines};
+ghost use Rattle.nit_nested.specs.FrameScript.{first_forbidden, count_lines};
+ghost use Rattle.nit_nested.specs.Nest.{NestModel, lines_of_frames, nest_script};
+ghost use Rattle.nit_nested.specs.ShownFrames.{CanPay, lines_before_end, ShowsFrames};
 
 /// The lines of a frame tell its words.
 pub fn lines_tell_their_frame()
     ensures { (w h : ℕ) (words : List ℕ)
-        → length words ≡ w * h → told_words (frame_lines w h words) ≡ words }
+        → length words ≡ w * h → words_of_lines (frame_lines w h words) ≡ words }
 {}
 
 /// The script that shows frames has as many phases as the script that it was made of.
 pub fn phases_stay()
-    ensures { (n : NestModel) (own : List Line) → phases (script_of n own) ≡ phases own }
+    ensures { (n : NestModel) (own : List Line) → phases (nest_script n own) ≡ phases own }
 {}
 
 /// Its lines are the `buffer` line, those of all frames, and those of the script it was made of.
 pub fn lines_are_counted()
     ensures { (n : NestModel) (own : List Line) → phases own ≡ length n.frames
-        → length (script_of n own) ≡ 1 + count_lines (lines_of n) + length own }
+        → length (nest_script n own) ≡ 1 + count_lines (lines_of_frames n) + length own }
 {}
 
 /// The last phase of a script ends with its last line.
@@ -45,8 +46,8 @@ pub fn last_frame_is_left()
 pub fn buffer_stays()
     ensures wide { (n : NestModel) (own : List Line) (donation k : ℕ)
         → first_forbidden 1 own ≡ None → CanPay donation n.w n.h → 1 ≤ k
-        → (static (script_of n own) donation k).bw ≡ n.w }
+        → (static (nest_script n own) donation k).bw ≡ n.w }
     ensures tall { (n : NestModel) (own : List Line) (donation k : ℕ)
         → first_forbidden 1 own ≡ None → CanPay donation n.w n.h → 1 ≤ k
-        → (static (script_of n own) donation k).bh ≡ n.h }
+        → (static (nest_script n own) donation k).bh ≡ n.h }
 {}

@@ -3,8 +3,9 @@
 ghost use Rattle.std.specs.Prelude.{◌≡◌, ◌++◌, ◌+◌, ◌*◌, ◌≤◌, ◌∷◌, [], ℕ, List, Option, Some, None, length, All, IfOk, OnOk, OnErr};
 ghost use Rattle.std.specs.List.{AllByRecursion};
 ghost use Rattle.nit_script.specs.Spelling.{FitsColour};
-ghost use Rattle.nit_nested.specs.Scripts.{IsScreenSize, UnlessMemory, frame_answer, script_answer};
-ghost use Rattle.nit_nested.specs.Shown.{CanPay, ShowsFrames};
+ghost use Rattle.nit_stack.specs.Standing.{IsScreen};
+ghost use Rattle.nit_nested.specs.Nest.{UnlessMemory, frame_answer, script_answer};
+ghost use Rattle.nit_nested.specs.ShownFrames.{CanPay, ShowsFrames};
 
 use crate::error::NestError;
 use crate::frame::Frame;
@@ -29,21 +30,20 @@ pub struct Nest {
 
 impl Model for Nest {
     ghost use Rattle.std.specs.Prelude.{map};
-    ghost use Rattle.nit_nested.specs.Frames.{told_words};
-    ghost use Rattle.nit_nested.specs.Scripts.{NestModel};
-    ghost use Rattle.nit_nested.specs.Keeping.{IsKept};
+    ghost use Rattle.nit_nested.specs.FrameLines.{words_of_lines};
+    ghost use Rattle.nit_nested.specs.Nest.{NestModel, IsNest};
 
     ghost Value = { NestModel };
 
-    ghost view = { λ n. record { w = n.w; h = n.h; frames = map told_words n.frames.items } };
+    ghost view = { λ n. record { w = n.w; h = n.h; frames = map words_of_lines n.frames.items } };
 
-    ghost invariant = { λ n. IsKept n.w n.h n.frames.items n.held };
+    ghost invariant = { λ n. IsNest n.w n.h n.frames.items n.held };
 }
 
 impl Nest {
     /// No frame yet, for a screen of this size. It takes no memory.
     pub fn new(alloc: Global, w: u32, h: u32) -> Nest
-        requires { IsScreenSize w h }
+        requires { IsScreen w h }
         ensures { result ≡ record { w = w; h = h; frames = [] } }
     {
         Nest {
@@ -109,7 +109,7 @@ impl Nest {
         if MAX_LINES < 1 + self.held + own.len() {
             return Err(NestError::TooLong);
         }
-        let Ok(lines) = weaving::made(self.alloc, self.w, self.h, frames, own) else {
+        let Ok(lines) = weaving::frame_script(self.alloc, self.w, self.h, frames, own) else {
             return Err(NestError::NoMemory);
         };
         Ok(Client { lines })

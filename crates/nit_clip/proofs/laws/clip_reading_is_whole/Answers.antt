@@ -1,5 +1,5 @@
 use Rattle.nit_script.proofs.Scripts.{read_and_bad, read_and_long}
-use Rattle.nit_clip.proofs.LineLaws.{clip_reader}
+use Rattle.nit_clip.proofs.ClipLineLaws.{clip_reader}
 use Rattle.nit_clip.proofs.laws.clip_reading_is_whole.Goals as goal
 
 pub returns-clause-not_bad : goal.returns-clause-not_bad

@@ -14,14 +14,15 @@ use Rattle.nit_word.specs.Zeros.{zeros}
 use Rattle.nit_word.proofs.Zeros.{length-zeros}
 use Rattle.nit_plan.specs.Strokes.{cleared}
 use Rattle.nit_plan.specs.Plans.{Painting, blank, painted_from, after_line}
-use Rattle.nit_nested.specs.Frames.{Run, runs, fills, row_lines, rows_lines, frame_lines, IsFrame, told_words}
-use Rattle.nit_nested.specs.Scripts.{NestModel, is_forbidden, first_forbidden, woven, made}
-use Rattle.nit_nested.specs.Keeping.{IsKept}
+use Rattle.nit_nested.specs.FrameLines.{Run, row_runs, fills, row_lines, rows_lines, frame_lines, IsFrame, words_of_lines}
+use Rattle.nit_nested.specs.FrameScript.{is_forbidden, first_forbidden, woven, frame_script}
+use Rattle.nit_nested.specs.Nest.{NestModel}
+use Rattle.nit_nested.specs.Nest.{IsNest}
 use Rattle.nit_plan.proofs.Lines.{buffer_size}
-use Rattle.nit_nested.proofs.Answering.{kept_frames}
-use Rattle.nit_nested.specs.Shown.{lines_before_end, CanPay, ShowsFrames}
-use Rattle.nit_nested.proofs.Fitting.{phase_lines_more}
-use Rattle.nit_nested.proofs.Strokes.{Shows, line_shows, frame_shows}
+use Rattle.nit_nested.proofs.ScriptAnswers.{kept_frames}
+use Rattle.nit_nested.specs.ShownFrames.{lines_before_end, CanPay, ShowsFrames}
+use Rattle.nit_nested.proofs.GrammarLemmas.{phase_lines_more}
+use Rattle.nit_nested.proofs.FillLemmas.{Shows, line_shows, frame_shows}
 
 -- ---- where phases end
 
@@ -34,7 +35,7 @@ rows_before k w y zero words more = omega arith
 rows_before k w y (suc n) words more =
     let row : List Line = row_lines y (take w words) in
     let rest : List Line = rows_lines w (y + 1) n (drop w words) in
-    ap (lines_before_end k) (append_assoc row rest more) ∙ fills_before k 0 y (runs (take w words)) (rest ++ more)
+    ap (lines_before_end k) (append_assoc row rest more) ∙ fills_before k 0 y (row_runs (take w words)) (rest ++ more)
     ∙ omega (arith, rows_before k w (y + 1) n (drop w words) more, length-append row rest)
 
 -- no phase ends within the lines of a frame
@@ -93,7 +94,7 @@ unfolding cleared
 cleared_room w h words = omega (arith, length-append (zeros (w * h)) (drop (w * h) words), length-zeros (w * h))
 
 pub made_shows : (w h : ℕ) (frames : List (List ℕ)) (own : List Line) (donation k : ℕ) → 0 < w → AllByRecursion (IsFrame w h) frames → first_forbidden 1 own ≡ None → phases own ≡ length frames → CanPay donation w h → k < length frames
-    → Shows w h (get_or frames k []) (at_end k (blank donation) (made w h (map (frame_lines w h) frames) own))
+    → Shows w h (get_or frames k []) (at_end k (blank donation) (frame_script w h (map (frame_lines w h) frames) own))
 made_shows w h [] own donation k some all none counted pays within = absurd (omega (arith, within))
 made_shows w h (f ∷ fs) own donation k some all none counted pays within =
     let p : Painting = after_line (blank donation) (line.Call (Buffer w h)) in
@@ -105,11 +106,11 @@ made_shows w h (f ∷ fs) own donation k some all none counted pays within =
     (frame_shows w h f p some all.0.0 size.0 size.1 room))
 
 -- the same, by what is kept
-pub kept_shows : (n : NestModel) (w h held : ℕ) (frames : List (List Line)) (own lines : List Line) → n ≡ kept_frames w h frames → IsKept w h frames held → first_forbidden 1 own ≡ None → phases own ≡ length frames
-    → lines ≡ made w h frames own → (donation : ℕ) → CanPay donation n.w n.h → ShowsFrames n.w n.h n.frames lines donation
+pub kept_shows : (n : NestModel) (w h held : ℕ) (frames : List (List Line)) (own lines : List Line) → n ≡ kept_frames w h frames → IsNest w h frames held → first_forbidden 1 own ≡ None → phases own ≡ length frames
+    → lines ≡ frame_script w h frames own → (donation : ℕ) → CanPay donation n.w n.h → ShowsFrames n.w n.h n.frames lines donation
 kept_shows n w h held frames own lines is kept none counted are =
     subst (λ (m : NestModel). (donation : ℕ) → CanPay donation m.w m.h → ShowsFrames m.w m.h m.frames lines donation) (sym is)
     (λ donation pays k within.
-    let all : lines ≡ made w h (map (frame_lines w h) (map told_words frames)) own = are ∙ ap (λ (fs : List (List Line)). made w h fs own) kept.lines in
+    let all : lines ≡ frame_script w h (map (frame_lines w h) (map words_of_lines frames)) own = are ∙ ap (λ (fs : List (List Line)). frame_script w h fs own) kept.lines in
     ap (λ (ls : List Line). take (w * h) (at_end k (blank donation) ls).words) all
-    ∙ (made_shows w h (map told_words frames) own donation k (omega (arith, kept.size.0)) kept.words none (counted ∙ sym (length-map frames told_words)) pays within).shown)
+    ∙ (made_shows w h (map words_of_lines frames) own donation k (omega (arith, kept.size.0)) kept.words none (counted ∙ sym (length-map frames words_of_lines)) pays within).shown)

@@ -15,16 +15,16 @@ pub record Run : Type 0 where
 
 -- a word in front: it joins the first run where that has the same word, and is a run of its own
 -- elsewhere
-abbrev pub joined : ℕ → List Run → List Run
-joined c [] = record { long = 1; word = c } ∷ []
-joined c (r ∷ rest) =
+abbrev pub run_joined : ℕ → List Run → List Run
+run_joined c [] = record { long = 1; word = c } ∷ []
+run_joined c (r ∷ rest) =
     if r.word == c then record r { long = r.long + 1 } ∷ rest
     else record { long = 1; word = c } ∷ r ∷ rest
 
 -- the runs of equal words of a row, each as long as can be
-abbrev pub runs : List ℕ → List Run
-runs [] = []
-runs (c ∷ words) = joined c (runs words)
+abbrev pub row_runs : List ℕ → List Run
+row_runs [] = []
+row_runs (c ∷ words) = run_joined c (row_runs words)
 
 -- runs from column x of row y on, each as a `fill` of one row
 abbrev pub fills : ℕ → ℕ → List Run → List Line
@@ -33,7 +33,7 @@ fills x y (r ∷ rest) = line.Stroke (Fill x y r.long 1 r.word) ∷ fills (x + r
 
 -- a row of words
 abbrev pub row_lines : ℕ → List ℕ → List Line
-row_lines y row = fills 0 y (runs row)
+row_lines y row = fills 0 y (row_runs row)
 
 -- so many rows of w words, from row y on
 abbrev pub rows_lines : ℕ → ℕ → ℕ → List ℕ → List Line
@@ -53,9 +53,9 @@ IsFrame w h words = (length words ≡ w * h) × AllByRecursion FitsColour words
 -- ---- the words that the lines of a frame tell
 
 -- a `fill` of one row tells as many words as it has columns
-abbrev pub run_words : Line → List ℕ
-run_words (line.Stroke (Fill x y w h c)) = replicate w c
-run_words other = []
+abbrev pub words_of_line : Line → List ℕ
+words_of_line (line.Stroke (Fill x y w h c)) = replicate w c
+words_of_line other = []
 
-abbrev pub told_words : List Line → List ℕ
-told_words lines = flat_map run_words lines
+abbrev pub words_of_lines : List Line → List ℕ
+words_of_lines lines = flat_map words_of_line lines

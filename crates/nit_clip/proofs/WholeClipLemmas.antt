@@ -10,8 +10,8 @@ use Rattle.nit_journal.specs.Whole.{Deed, calls_of, to_do, next_phase, left, pha
 use Rattle.nit_clip.specs.declared.call.ClipCall.{ClipCall}
 use Rattle.nit_clip.specs.declared.call.ClipEntry.{ClipEntry}
 use Rattle.nit_clip.specs.LegalClips.{before_final}
-use Rattle.nit_clip.specs.WholeClips.{calls_up_to, clips_to_do, left_after, IsPlaced, ArePlaced, one_clip_done, clip_calls_of}
-use Rattle.nit_clip.proofs.Legality.{before_all}
+use Rattle.nit_clip.specs.WholeClips.{calls_up_to, clips_to_do, left_after, IsInPhase, AreInPhases, one_clip_done, clip_calls_of}
+use Rattle.nit_clip.proofs.LegalClipLemmas.{before_all}
 
 take_none : {A : Type 0} (n : ℕ) (xs ys : List A) → n ≤ 0 → take n xs ≡ take n ys
 take_none zero xs ys none = refl
@@ -29,20 +29,20 @@ phases_stay clients user (entry.Input dev routed ∷ rest) e (suc n) few = ap (�
 phases_stay clients user (entry.Shot number ∷ rest) e zero few = refl
 phases_stay clients user (entry.Shot number ∷ rest) e (suc n) few = ap (λ (ps : List ℕ). next_phase user ∷ ps) (phases_stay clients (left user) rest e n (omega (arith, few)))
 
-placed_stays : (clients : List (List (ℕ × Call))) (user : List (ℕ × Deed)) (journal : List Entry) (e : Entry) (phase : ℕ) (c : ClipEntry) → c.at ≤ before_final journal → IsPlaced clients user journal phase c → IsPlaced clients user (journal ++ e ∷ []) phase c
+placed_stays : (clients : List (List (ℕ × Call))) (user : List (ℕ × Deed)) (journal : List Entry) (e : Entry) (phase : ℕ) (c : ClipEntry) → c.at ≤ before_final journal → IsInPhase clients user journal phase c → IsInPhase clients user (journal ++ e ∷ []) phase c
 placed_stays clients user journal e phase c within placed = record {
   behind = subst (λ (es : List Entry). length (calls_up_to phase (to_do clients c.sid)) ≤ length (calls_of c.sid es)) (sym (take-append-le c.at journal (e ∷ []) (omega (arith, within, before_all journal)))) placed.behind;
   before = subst (λ (ps : List ℕ). AllByRecursion (λ p. p ≤ phase) ps) (sym (phases_stay clients user journal e c.at within)) placed.before;
 }
 
 pub all_placed_stay : (clients : List (List (ℕ × Call))) (user : List (ℕ × Deed)) (journal : List Entry) (e : Entry) (scripts : List (List (ℕ × ClipCall))) (clips : List ClipEntry)
-    → AllByRecursion (λ c. c.at ≤ before_final journal) clips → ArePlaced clients user journal scripts clips → ArePlaced clients user (journal ++ e ∷ []) scripts clips
+    → AllByRecursion (λ c. c.at ≤ before_final journal) clips → AreInPhases clients user journal scripts clips → AreInPhases clients user (journal ++ e ∷ []) scripts clips
 all_placed_stay clients user journal e scripts [] within placed = tt
 all_placed_stay clients user journal e scripts (c ∷ clips) within placed =
     (placed_stays clients user journal e (next_phase (clips_to_do scripts c.sid)) c within.0 placed.0, all_placed_stay clients user journal e _ clips within.1 placed.1)
 
 pub placed_more : (clients : List (List (ℕ × Call))) (user : List (ℕ × Deed)) (journal : List Entry) (scripts : List (List (ℕ × ClipCall))) (clips : List ClipEntry) (c : ClipEntry)
-    → ArePlaced clients user journal scripts clips → IsPlaced clients user journal (next_phase (clips_to_do (left_after scripts clips) c.sid)) c → ArePlaced clients user journal scripts (clips ++ c ∷ [])
+    → AreInPhases clients user journal scripts clips → IsInPhase clients user journal (next_phase (clips_to_do (left_after scripts clips) c.sid)) c → AreInPhases clients user journal scripts (clips ++ c ∷ [])
 placed_more clients user journal scripts [] c placed here = (here, tt)
 placed_more clients user journal scripts (e ∷ clips) c placed here = (placed.0, placed_more clients user journal _ clips c placed.1 here)
 

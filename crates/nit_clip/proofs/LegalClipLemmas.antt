@@ -8,10 +8,10 @@ use Rattle.nit_journal.specs.Configuration.{Configuration}
 use Rattle.nit_journal.specs.Journals.{replay, IsOpen}
 use Rattle.nit_clip.specs.declared.call.ClipEntry.{ClipEntry}
 use Rattle.nit_clip.specs.declared.call.ClipReply.TheVariants as reply
-use Rattle.nit_clip.specs.Board.{answer, held, held_after, last_at, AreAnsweredFrom}
+use Rattle.nit_clip.specs.Clipboard.{clip_answer, clipboard_of, clipboard_after_entry, last_at, AreAnsweredFrom}
 use Rattle.nit_clip.specs.LegalClips.{before_final, IsThere, IsLegalClips}
-use Rattle.nit_clip.proofs.Boards.{is_told}
-use Rattle.nit_clip.proofs.Replies.{answered_more, ordered_more, all_more}
+use Rattle.nit_clip.proofs.ClipboardLemmas.{is_told}
+use Rattle.nit_clip.proofs.OneMoreClip.{answered_more, ordered_more, all_more}
 
 pub before_all : (journal : List Entry) → before_final journal ≤ length journal
 before_all [] = omega arith
@@ -56,7 +56,7 @@ pub last_within : (config : Configuration) (journal : List Entry) (clips : List 
 last_within config journal clips legal = last_there config journal 0 clips (omega arith) legal.there
 
 pub legal_more : (config : Configuration) (journal : List Entry) (clips : List ClipEntry) (c : ClipEntry) → IsLegalClips config journal clips → IsOpen journal → c.at ≡ length journal → c.sid < length config.clients → c.focus ≡ (replay config journal).input.focus
-    → c.reply ≡ answer (held clips) c.focus c.sid c.call → IsLegalClips config journal (clips ++ c ∷ [])
+    → c.reply ≡ clip_answer (clipboard_of clips) c.focus c.sid c.call → IsLegalClips config journal (clips ++ c ∷ [])
 legal_more config journal clips c legal opened at session focus is =
     let whole : take c.at journal ≡ journal = take_all c.at journal (omega (arith, at)) in
     record {
@@ -71,13 +71,13 @@ legal_more config journal clips c legal opened at session focus is =
 
 -- ---- a session that never has the focus
 
-never_from : (config : Configuration) (journal : List Entry) (board : Option (List ℕ)) (clips : List ClipEntry) (sid : ℕ)
+never_from : (config : Configuration) (journal : List Entry) (clipboard : Option (List ℕ)) (clips : List ClipEntry) (sid : ℕ)
     → ((k : ℕ) → k ≤ before_final journal → (replay config (take k journal)).input.focus ≡ Some sid → ⊥)
-    → AllByRecursion (IsThere config journal) clips → AreAnsweredFrom board clips → AllByRecursion (λ c. c.sid ≡ sid → c.reply ≡ reply.NotFocused) clips
-never_from config journal board [] sid never there answered = tt
-never_from config journal board (c ∷ clips) sid never there answered = (
-  (λ own. is_told c.focus c.sid c.call c.reply (board, answered.0) (λ has. never c.at there.0.within (sym there.0.focus ∙ has ∙ ap (λ (s : ℕ). Some s) own))),
-  never_from config journal (held_after board c) clips sid never there.1 answered.1,
+    → AllByRecursion (IsThere config journal) clips → AreAnsweredFrom clipboard clips → AllByRecursion (λ c. c.sid ≡ sid → c.reply ≡ reply.NotFocused) clips
+never_from config journal clipboard [] sid never there answered = tt
+never_from config journal clipboard (c ∷ clips) sid never there answered = (
+  (λ own. is_told c.focus c.sid c.call c.reply (clipboard, answered.0) (λ has. never c.at there.0.within (sym there.0.focus ∙ has ∙ ap (λ (s : ℕ). Some s) own))),
+  never_from config journal (clipboard_after_entry clipboard c) clips sid never there.1 answered.1,
 )
 
 pub never_focused : (config : Configuration) (journal : List Entry) (clips : List ClipEntry) (sid : ℕ) → IsLegalClips config journal clips

@@ -13,17 +13,18 @@ has_focus (Some s) sid = s == sid
 
 -- what the clipboard holds after a call that was answered so: the text that was copied, or what it
 -- held before
-abbrev pub kept : Option (List ℕ) → ClipCall → ClipReply → Option (List ℕ)
-kept held (call.Copy t) reply.Copied = Some t
-kept held other r = held
+abbrev pub clipboard_after : Option (List ℕ) → ClipCall → ClipReply → Option (List ℕ)
+clipboard_after clipboard (call.Copy t) reply.Copied = Some t
+clipboard_after clipboard other r = clipboard
 
-abbrev pub held_after : Option (List ℕ) → ClipEntry → Option (List ℕ)
-held_after held e = kept held e.call e.reply
+-- the same after an entry
+abbrev pub clipboard_after_entry : Option (List ℕ) → ClipEntry → Option (List ℕ)
+clipboard_after_entry clipboard e = clipboard_after clipboard e.call e.reply
 
 -- what the clipboard holds after these entries: the text of the last `Copy` that was answered
 -- `Copied`
-abbrev pub held : List ClipEntry → Option (List ℕ)
-held entries = fold held_after None entries
+abbrev pub clipboard_of : List ClipEntry → Option (List ℕ)
+clipboard_of entries = fold clipboard_after_entry None entries
 
 -- what is pasted from a clipboard
 abbrev pub pasted : Option (List ℕ) → ClipReply
@@ -31,23 +32,25 @@ pasted (Some t) = reply.Pasted t
 pasted None = reply.Empty
 
 -- what the focused session is answered
-abbrev pub answered : Option (List ℕ) → ClipCall → ClipReply
-answered held (call.Copy t) = reply.Copied
-answered held call.Paste = pasted held
+abbrev pub focused_answer : Option (List ℕ) → ClipCall → ClipReply
+focused_answer clipboard (call.Copy t) = reply.Copied
+focused_answer clipboard call.Paste = pasted clipboard
 
 -- what a session is answered, by what the clipboard holds and which session has the focus
-abbrev pub answer : Option (List ℕ) → Option ℕ → ℕ → ClipCall → ClipReply
-answer held focus sid c = if has_focus focus sid then answered held c else reply.NotFocused
+abbrev pub clip_answer : Option (List ℕ) → Option ℕ → ℕ → ClipCall → ClipReply
+clip_answer clipboard focus sid c =
+    if has_focus focus sid then focused_answer clipboard c else reply.NotFocused
 
 -- a session is answered so by some clipboard, where this one has the focus
-abbrev pub IsAnswerBy : Option ℕ → ℕ → ClipCall → ClipReply → Type 0
-IsAnswerBy focus sid c r = (held : Option (List ℕ)) × (r ≡ answer held focus sid c)
+abbrev pub IsClipAnswer : Option ℕ → ℕ → ClipCall → ClipReply → Type 0
+IsClipAnswer focus sid c r = (clipboard : Option (List ℕ)) × (r ≡ clip_answer clipboard focus sid c)
 
 -- each reply is the answer by the focus of its entry and by the entries before it
 abbrev pub AreAnsweredFrom : Option (List ℕ) → List ClipEntry → Type 0
-AreAnsweredFrom held [] = Unit {0}
-AreAnsweredFrom held (e ∷ rest) =
-    (e.reply ≡ answer held e.focus e.sid e.call) × AreAnsweredFrom (held_after held e) rest
+AreAnsweredFrom clipboard [] = Unit {0}
+AreAnsweredFrom clipboard (e ∷ rest) =
+    (e.reply ≡ clip_answer clipboard e.focus e.sid e.call)
+    × AreAnsweredFrom (clipboard_after_entry clipboard e) rest
 
 abbrev pub AreAnswered : List ClipEntry → Type 0
 AreAnswered entries = AreAnsweredFrom None entries
