@@ -4,7 +4,7 @@ use nit_clip::{Clip, ClipCall, ClipError, ClipLine, ClipReply, clip_text, parse_
 use nit_events::Text;
 use std::test::Fail;
 
-/// Two clients with a script of three phases each. The first asks without the focus, and then copies
+/// Two clients with a script of three phases each. The first asks without the focus, then copies
 /// and pastes with it; the second never has it.
 #[test]
 fn two_clients(rt: HostRuntime) -> Result<(), Fail> {
