@@ -3,3 +3,4 @@ pub mod LegalClipLemmas
 pub mod ClipLineLaws
 pub mod WholeClipLemmas
 pub mod OneMoreClip
+pub mod ClipScriptLemmas

@@ -21,6 +21,12 @@ clips_from phase (line.Phase ∷ rest) = clips_from (suc phase) rest
 abbrev pub clips_to_make : List ClipLine → List (ℕ × ClipCall)
 clips_to_make lines = clips_from 0 lines
 
+-- the clip calls among lines, without their phases
+abbrev pub clip_calls_in : List ClipLine → List ClipCall
+clip_calls_in [] = []
+clip_calls_in (line.Call c ∷ rest) = c ∷ clip_calls_in rest
+clip_calls_in (line.Phase ∷ rest) = clip_calls_in rest
+
 -- what a client is to do with the clipboard
 abbrev pub clips_to_do : List (List (ℕ × ClipCall)) → ℕ → List (ℕ × ClipCall)
 clips_to_do scripts sid = slice_index_or scripts sid []

@@ -1,23 +1,24 @@
 //! What the definitions of clip scripts and clip lists say of each other, over plain lists: a text
 //! has one reading, and a clip list stays legal and in its phases while the journal grows.
 
-ghost use Rattle.std.specs.Prelude.{◌≡◌, ◌≤◌, ◌<◌, ◌+◌, ◌++◌, ◌∷◌, [], ◌⊎◌, ℕ, List, Option, Some, length, take, drop, if◌then◌else◌};
-ghost use Rattle.std.specs.List.{AllByRecursion};
+ghost use Rattle.std.specs.Prelude.{◌≡◌, ◌≤◌, ◌<◌, ◌+◌, ◌++◌, ◌∷◌, [], ◌⊎◌, ℕ, List, Option, Some, length, take, drop, count_by, if◌then◌else◌};
+ghost use Rattle.std.specs.List.{AllByRecursion, slice_get};
 ghost use Rattle.nit_events.specs.declared.call.Call.{Call};
 ghost use Rattle.nit_events.specs.declared.entry.Entry.{Entry};
 ghost use Rattle.nit_journal.specs.Configuration.{Configuration};
 ghost use Rattle.nit_journal.specs.Journals.{replay, IsOpen};
-ghost use Rattle.nit_journal.specs.Whole.{Deed, next_phase};
+ghost use Rattle.nit_journal.specs.Whole.{Deed, done, next_phase};
 ghost use Rattle.nit_clip.specs.declared.call.ClipCall.{ClipCall};
 ghost use Rattle.nit_clip.specs.declared.call.ClipCall.TheVariants as call;
 ghost use Rattle.nit_clip.specs.declared.call.ClipReply.{ClipReply};
 ghost use Rattle.nit_clip.specs.declared.call.ClipReply.TheVariants as reply;
 ghost use Rattle.nit_clip.specs.declared.call.ClipEntry.{ClipEntry};
 ghost use Rattle.nit_clip.specs.declared.line.ClipLine.{ClipLine};
+ghost use Rattle.nit_clip.specs.declared.line.ClipLine.TheVariants as line;
 ghost use Rattle.nit_clip.specs.ClipGrammar.{ReadsClip, IsFirstBadClip, IsTooLongClip, is_clip_phase, clip_phases};
 ghost use Rattle.nit_clip.specs.Clipboard.{clip_answer, clipboard_of, last_at, IsClipAnswer};
 ghost use Rattle.nit_clip.specs.LegalClips.{IsLegalClips, before_final};
-ghost use Rattle.nit_clip.specs.WholeClips.{clips_to_do, clip_calls_of, left_after, IsInPhase, AreInPhases};
+ghost use Rattle.nit_clip.specs.WholeClips.{clips_to_make, clip_calls_in, clips_to_do, clip_calls_of, left_after, IsInPhase, AreInPhases};
 
 /// A text has one reading as a clip script at most, and a list of lines has one text.
 pub fn clip_reading_is_one()
@@ -50,6 +51,22 @@ pub fn clip_phases_count()
     ensures more { (lines : List ClipLine) (line : ClipLine) →
         clip_phases (lines ++ line ∷ [])
         ≡ (if is_clip_phase line then clip_phases lines + 1 else clip_phases lines) }
+{}
+
+/// The clip calls of a script: they are those that it has its client make. One more line adds its
+/// call, if it is one. The next call is done in the phase that the lines before it lead to.
+pub fn calls_of_a_clip_script()
+    ensures all { (lines : List ClipLine) → clip_calls_in lines ≡ done (clips_to_make lines) }
+    ensures call { (lines : List ClipLine) (k : ℕ) (c : ClipCall)
+        → slice_get lines k ≡ Some (line.Call c)
+        → clip_calls_in (take (k + 1) lines) ≡ clip_calls_in (take k lines) ++ c ∷ [] }
+    ensures end { (lines : List ClipLine) (k : ℕ)
+        → slice_get lines k ≡ Some line.Phase
+        → clip_calls_in (take (k + 1) lines) ≡ clip_calls_in (take k lines) }
+    ensures phase { (lines : List ClipLine) (k : ℕ) (c : ClipCall)
+        → slice_get lines k ≡ Some (line.Call c)
+        → let made = length (clip_calls_in (take k lines)) in
+        next_phase (drop made (clips_to_make lines)) ≡ count_by is_clip_phase (take k lines) }
 {}
 
 /// The list without entries is legal for any journal.
