@@ -40,7 +40,7 @@ pub use bytes::{take_byte, take_word};
 pub use call_lines::take_call;
 pub use device_lines::take_device;
 pub use error::ScriptError;
-pub use fields::natural_field;
+pub use fields::{natural_field, text_field};
 pub use laws::{
     client_first_bad_is_one, client_phases_count, client_reading_is_one, client_reading_is_whole,
     input_first_bad_is_one, input_phases_count, input_reading_is_one, input_reading_is_whole,

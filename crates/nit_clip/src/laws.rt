@@ -1,0 +1,149 @@
+//! What the definitions of clip scripts and clip lists say of each other, over plain lists: a text
+//! has one reading, and a clip list stays legal and in its phases while the journal grows.
+
+ghost use Rattle.std.specs.Prelude.{◌≡◌, ◌≤◌, ◌<◌, ◌+◌, ◌++◌, ◌∷◌, [], ◌⊎◌, ℕ, List, Option, Some, length, take, drop, count_by, if◌then◌else◌};
+ghost use Rattle.std.specs.List.{AllByRecursion, slice_get};
+ghost use Rattle.nit_events.specs.declared.call.Call.{Call};
+ghost use Rattle.nit_events.specs.declared.entry.Entry.{Entry};
+ghost use Rattle.nit_journal.specs.Configuration.{Configuration};
+ghost use Rattle.nit_journal.specs.Journals.{replay, IsOpen};
+ghost use Rattle.nit_journal.specs.Whole.{Deed, done, next_phase};
+ghost use Rattle.nit_clip.specs.declared.call.ClipCall.{ClipCall};
+ghost use Rattle.nit_clip.specs.declared.call.ClipCall.TheVariants as call;
+ghost use Rattle.nit_clip.specs.declared.call.ClipReply.{ClipReply};
+ghost use Rattle.nit_clip.specs.declared.call.ClipReply.TheVariants as reply;
+ghost use Rattle.nit_clip.specs.declared.call.ClipEntry.{ClipEntry};
+ghost use Rattle.nit_clip.specs.declared.line.ClipLine.{ClipLine};
+ghost use Rattle.nit_clip.specs.declared.line.ClipLine.TheVariants as line;
+ghost use Rattle.nit_clip.specs.ClipGrammar.{ReadsClip, IsFirstBadClip, IsTooLongClip, is_clip_phase, clip_phases};
+ghost use Rattle.nit_clip.specs.Clipboard.{clip_answer, clipboard_of, last_at, IsClipAnswer};
+ghost use Rattle.nit_clip.specs.LegalClips.{IsLegalClips, before_final};
+ghost use Rattle.nit_clip.specs.WholeClips.{clips_to_make, clip_calls_in, clips_to_do, clip_calls_of, left_after, IsInPhase, AreInPhases};
+
+/// A text has one reading as a clip script at most, and a list of lines has one text.
+pub fn clip_reading_is_one()
+    ensures lines { (bytes : List ℕ) (a b : List ClipLine) →
+        ReadsClip bytes a → ReadsClip bytes b → a ≡ b }
+    ensures bytes { (lines : List ClipLine) (a b : List ℕ) →
+        ReadsClip a lines → ReadsClip b lines → a ≡ b }
+{}
+
+/// A text with a reading has no first bad line, and is not too long where the reading has at most
+/// 65,536 lines.
+pub fn clip_reading_is_whole()
+    ensures not_bad { (bytes : List ℕ) (lines : List ClipLine) (line : ℕ) →
+        ReadsClip bytes lines → IsFirstBadClip bytes line → ⊥ }
+    ensures not_long { (bytes : List ℕ) (lines : List ClipLine) →
+        ReadsClip bytes lines → length lines ≤ 65536 → IsTooLongClip bytes → ⊥ }
+{}
+
+/// A text has one first bad line at most, and none where it is too long.
+pub fn clip_first_bad_is_one()
+    ensures one { (bytes : List ℕ) (a b : ℕ) →
+        IsFirstBadClip bytes a → IsFirstBadClip bytes b → a ≡ b }
+    ensures not_long { (bytes : List ℕ) (line : ℕ) →
+        IsFirstBadClip bytes line → IsTooLongClip bytes → ⊥ }
+{}
+
+/// A clip script of no lines has one phase, and each line `phase` behind it ends one more.
+pub fn clip_phases_count()
+    ensures first { clip_phases [] ≡ 1 }
+    ensures more { (lines : List ClipLine) (line : ClipLine) →
+        clip_phases (lines ++ line ∷ [])
+        ≡ (if is_clip_phase line then clip_phases lines + 1 else clip_phases lines) }
+{}
+
+/// The clip calls of a script: they are those that it has its client make. One more line adds its
+/// call, if it is one. The next call is done in the phase that the lines before it lead to.
+pub fn calls_of_a_clip_script()
+    ensures all { (lines : List ClipLine) → clip_calls_in lines ≡ done (clips_to_make lines) }
+    ensures call { (lines : List ClipLine) (k : ℕ) (c : ClipCall)
+        → slice_get lines k ≡ Some (line.Call c)
+        → clip_calls_in (take (k + 1) lines) ≡ clip_calls_in (take k lines) ++ c ∷ [] }
+    ensures end { (lines : List ClipLine) (k : ℕ)
+        → slice_get lines k ≡ Some line.Phase
+        → clip_calls_in (take (k + 1) lines) ≡ clip_calls_in (take k lines) }
+    ensures phase { (lines : List ClipLine) (k : ℕ) (c : ClipCall)
+        → slice_get lines k ≡ Some (line.Call c)
+        → let made = length (clip_calls_in (take k lines)) in
+        next_phase (drop made (clips_to_make lines)) ≡ count_by is_clip_phase (take k lines) }
+{}
+
+/// The list without entries is legal for any journal.
+pub fn no_clips()
+    ensures { (config : Configuration) (journal : List Entry) → IsLegalClips config journal [] }
+{}
+
+/// A clip list that is legal for a journal is legal for a journal with one more entry.
+pub fn one_more_entry()
+    ensures { (config : Configuration) (journal : List Entry) (e : Entry) (clips : List ClipEntry)
+        → IsLegalClips config journal clips → IsLegalClips config (journal ++ e ∷ []) clips }
+{}
+
+/// One more clip call, behind all entries of a journal whose last picture was not taken yet: its
+/// place is not below that of the last one, and the list stays legal where the call is one of a
+/// session, has the focus of the journal's state, and the answer by that.
+pub fn one_more_clip()
+    ensures place { (config : Configuration) (journal : List Entry) (clips : List ClipEntry)
+        → IsLegalClips config journal clips → last_at 0 clips ≤ length journal }
+    ensures legal { (config : Configuration) (journal : List Entry)
+        → (clips : List ClipEntry) (c : ClipEntry)
+        → IsLegalClips config journal clips → IsOpen journal
+        → c.at ≡ length journal → c.sid < length config.clients
+        → c.focus ≡ (replay config journal).input.focus
+        → c.reply ≡ clip_answer (clipboard_of clips) c.focus c.sid c.call
+        → IsLegalClips config journal (clips ++ c ∷ []) }
+{}
+
+/// A session that never has the focus before the last picture gets `NotFocused` at each of its clip
+/// calls.
+pub fn sessions_without_focus()
+    ensures { (config : Configuration) (journal : List Entry) (clips : List ClipEntry) (sid : ℕ)
+        → IsLegalClips config journal clips
+        → ((k : ℕ) → k ≤ before_final journal
+        → (replay config (take k journal)).input.focus ≡ Some sid → ⊥)
+        → AllByRecursion (λ c. c.sid ≡ sid → c.reply ≡ reply.NotFocused) clips }
+{}
+
+/// Clip calls that stand in their phases stand there when the journal has one more entry.
+pub fn placed_clips_stay()
+    ensures { (clients : List (List (ℕ × Call))) (user : List (ℕ × Deed))
+        → (journal : List Entry) (e : Entry)
+        → (scripts : List (List (ℕ × ClipCall))) (clips : List ClipEntry)
+        → AllByRecursion (λ c. c.at ≤ before_final journal) clips
+        → AreInPhases clients user journal scripts clips
+        → AreInPhases clients user (journal ++ e ∷ []) scripts clips }
+{}
+
+/// So does one more clip call, where it stands in the phase of what its client does next with the
+/// clipboard.
+pub fn one_more_placed()
+    ensures { (clients : List (List (ℕ × Call))) (user : List (ℕ × Deed)) (journal : List Entry)
+        → (scripts : List (List (ℕ × ClipCall))) (clips : List ClipEntry) (c : ClipEntry)
+        → AreInPhases clients user journal scripts clips
+        → let next = clips_to_do (left_after scripts clips) c.sid in
+        IsInPhase clients user journal (next_phase next) c
+        → AreInPhases clients user journal scripts (clips ++ c ∷ []) }
+{}
+
+/// What a client is still to do with the clipboard stands behind as many clip calls as it has made.
+pub fn left_to_do()
+    ensures { (scripts : List (List (ℕ × ClipCall))) (clips : List ClipEntry) (sid : ℕ)
+        → clips_to_do (left_after scripts clips) sid
+        ≡ drop (length (clip_calls_of sid clips)) (clips_to_do scripts sid) }
+{}
+
+/// What a session is answered by any clipboard: it is told that it has not the focus exactly where
+/// another session has it, or none. Otherwise a `Copy` is done, and a `Paste` gives a text or says
+/// that there is none.
+pub fn answers_by_any_clipboard()
+    ensures told { (focus : Option ℕ) (sid : ℕ) (c : ClipCall) (r : ClipReply)
+        → IsClipAnswer focus sid c r → r ≡ reply.NotFocused → focus ≡ Some sid → ⊥ }
+    ensures is_told { (focus : Option ℕ) (sid : ℕ) (c : ClipCall) (r : ClipReply)
+        → IsClipAnswer focus sid c r → (focus ≡ Some sid → ⊥) → r ≡ reply.NotFocused }
+    ensures copied { (focus : Option ℕ) (sid : ℕ) (t : List ℕ) (r : ClipReply)
+        → IsClipAnswer focus sid (call.Copy t) r → focus ≡ Some sid → r ≡ reply.Copied }
+    ensures pasted { (focus : Option ℕ) (sid : ℕ) (r : ClipReply)
+        → IsClipAnswer focus sid call.Paste r → focus ≡ Some sid
+        → (r ≡ reply.Empty) ⊎ ((t : List ℕ) × (r ≡ reply.Pasted t)) }
+{}

@@ -1,0 +1,53 @@
+//! What the definitions of frames and scripts say of each other.
+
+ghost use Rattle.std.specs.Prelude.{◌≡◌, ◌≤◌, ◌+◌, ◌*◌, ◌++◌, ◌∷◌, [], ℕ, List, None, length, take};
+ghost use Rattle.nit_script.specs.declared.line.Line.{Line};
+ghost use Rattle.nit_script.specs.Phases.{phases};
+ghost use Rattle.nit_plan.specs.Plans.{static, words_left};
+ghost use Rattle.nit_nested.specs.FrameLines.{frame_lines, words_of_lines};
+ghost use Rattle.nit_nested.specs.FrameScript.{first_forbidden, count_lines};
+ghost use Rattle.nit_nested.specs.Nest.{NestModel, lines_of_frames, nest_script};
+ghost use Rattle.nit_nested.specs.ShownFrames.{CanPay, lines_before_end, ShowsFrames};
+
+/// The lines of a frame tell its words.
+pub fn lines_tell_their_frame()
+    ensures { (w h : ℕ) (words : List ℕ)
+        → length words ≡ w * h → words_of_lines (frame_lines w h words) ≡ words }
+{}
+
+/// The script that shows frames has as many phases as the script that it was made of.
+pub fn phases_stay()
+    ensures { (n : NestModel) (own : List Line) → phases (nest_script n own) ≡ phases own }
+{}
+
+/// Its lines are the `buffer` line, those of all frames, and those of the script it was made of.
+pub fn lines_are_counted()
+    ensures { (n : NestModel) (own : List Line) → phases own ≡ length n.frames
+        → length (nest_script n own) ≡ 1 + count_lines (lines_of_frames n) + length own }
+{}
+
+/// The last phase of a script ends with its last line.
+pub fn last_phase_is_whole()
+    ensures { (script : List Line) (k : ℕ)
+        → phases script ≡ k + 1 → lines_before_end k script ≡ length script }
+{}
+
+/// A script of as many phases as frames that shows each of them leaves the last one.
+pub fn last_frame_is_left()
+    ensures { (w h : ℕ) (front : List (List ℕ)) (last : List ℕ)
+        → (script : List Line) (donation : ℕ)
+        → ShowsFrames w h (front ++ last ∷ []) script donation
+        → phases script ≡ length front + 1
+        → take (w * h) (words_left script donation) ≡ last }
+{}
+
+/// From its first line on the script that shows frames has a buffer of the screen's size, where its
+/// session can pay for it.
+pub fn buffer_stays()
+    ensures wide { (n : NestModel) (own : List Line) (donation k : ℕ)
+        → first_forbidden 1 own ≡ None → CanPay donation n.w n.h → 1 ≤ k
+        → (static (nest_script n own) donation k).bw ≡ n.w }
+    ensures tall { (n : NestModel) (own : List Line) (donation k : ℕ)
+        → first_forbidden 1 own ≡ None → CanPay donation n.w n.h → 1 ≤ k
+        → (static (nest_script n own) donation k).bh ≡ n.h }
+{}
