@@ -59,9 +59,12 @@ def table_of(text):
 
 
 def in_one_line(match):
-    """An inline table without its line feeds, but as it is where one of them parts a string."""
+    """An inline table without its line feeds, but as it is where one of them parts a string, the
+    parts of a key, or a key from its value."""
     lines = match[0].split("\n")
     parted = any(line.count('"') % 2 or line.count("'") % 2 for line in lines)
+    parted |= any(line.rstrip(" \t\r").endswith(("=", ".")) for line in lines[:-1])
+    parted |= any(line.lstrip(" \t").startswith(("=", ".")) for line in lines[1:])
     return match[0] if parted else " ".join(lines)
 
 
