@@ -21,6 +21,7 @@ fn do_device<'a, N: Name, R: Wait>(rt: &R, hall: &Hall<'a, N>, user: &mut UserPa
     requires belongs { UserBelongs N.parts user.old }
     requires next { IsAtDevice user.old }
     ensures same { user_role_of user.new ≡ user_role_of user.old }
+    ensures next { user.new.next ≡ user.old.next + 1 }
     ensures seen { GrowsQuietly user.old.seen user.new.seen }
 {
     let _known = user.next();
@@ -33,6 +34,7 @@ fn end_phase<'a, N: Name, R: Wait>(rt: &R, hall: &Hall<'a, N>, user: &mut UserPa
     requires belongs { UserBelongs N.parts user.old }
     requires next { IsAtUserPhase user.old }
     ensures same { user_role_of user.new ≡ user_role_of user.old }
+    ensures next { user.new.next ≡ user.old.next + 1 }
     ensures seen { GrowsQuietly user.old.seen user.new.seen }
 {
     let _known = user.next();
@@ -73,6 +75,7 @@ fn shoot<'a, N: Name, S: Store, R: Wait>(
     requires text { length desk.old.text.items
         ≡ picture_length N.parts.config.width N.parts.config.height }
     ensures same { user_role_of user.new ≡ user_role_of user.old }
+    ensures next { user.new.next ≡ user.old.next + 1 }
     ensures put { PutsShotsBehind N.parts user.old.seen user.new.seen
         (putting (S.shown desk.old.store.now) desk.old.fault desk.old.tried)
         (putting (S.shown desk.new.store.now) desk.new.fault desk.new.tried) }
@@ -103,6 +106,7 @@ pub(crate) fn do_user_line<'a, N: Name, K: Checkpoint, S: Store, R: Wait>(
     requires text { length desk.old.text.items
         ≡ picture_length N.parts.config.width N.parts.config.height }
     ensures same { user_role_of user.new ≡ user_role_of user.old }
+    ensures next { user.new.next ≡ user.old.next + 1 }
     ensures put { PutsShotsBehind N.parts user.old.seen user.new.seen
         (putting (S.shown desk.old.store.now) desk.old.fault desk.old.tried)
         (putting (S.shown desk.new.store.now) desk.new.fault desk.new.tried) }
