@@ -35,7 +35,7 @@ pub enum Verdict {
     No { entry: u32 },
 }
 
-/// Whether these entries are those of a run by this configuration and these scripts. There are a
+/// Whether these entries are those of a run by this configuration and these scripts. There is a
 /// script for each client, in order, and at most 2^27 entries.
 pub fn audit(
     alloc: Global,
