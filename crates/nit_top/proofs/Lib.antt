@@ -23,3 +23,4 @@ pub mod Texting
 pub mod RoutesFit
 pub mod MachinesFit
 pub mod Fitting
+pub mod FilmPictures
