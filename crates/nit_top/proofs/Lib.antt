@@ -24,3 +24,5 @@ pub mod RoutesFit
 pub mod MachinesFit
 pub mod Fitting
 pub mod FilmPictures
+pub mod FilmFiles
+pub mod CaptureEnds

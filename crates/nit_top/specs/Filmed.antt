@@ -1,6 +1,7 @@
 -- What a run leaves that is filmed.
-use Rattle.std.specs.Prelude.{◌≡◌, ◌⊎◌, ℕ, ◌+◌, List, [], ◌∷◌, ◌++◌, length, Result, Ok, Err, IfSome}
+use Rattle.std.specs.Prelude.{◌≡◌, ◌⊎◌, ℕ, ◌+◌, List, [], ◌∷◌, ◌++◌, length, Option, Result, Ok, Err, IfSome}
 use Rattle.nit_rect.specs.declared.memory.NoMemory.{NoMemory}
+use Rattle.nit_events.specs.declared.entry.Entry.{Entry}
 use Rattle.nit_journal.specs.Journals.{shots}
 use Rattle.nit_config.specs.Configuration.{Configuration}
 use Rattle.nit_capture.specs.Capture.{CaptureModel, begun}
@@ -11,6 +12,7 @@ use Rattle.nit_top.specs.declared.finish.End.TheVariants as end
 use Rattle.nit_top.specs.declared.finish.Name.TheVariants as name
 use Rattle.nit_top.specs.declared.finish.Worked.{Worked}
 use Rattle.nit_top.specs.declared.region.Region.{Region}
+use Rattle.nit_top.specs.declared.run.PutFault.{PutFault}
 use Rattle.nit_top.specs.declared.run.Ran.{Ran}
 use Rattle.nit_top.specs.Setup.{Setup}
 use Rattle.nit_top.specs.Outputs.{IsJournal, AreOutputs}
@@ -22,24 +24,26 @@ use Rattle.nit_top.specs.Work.{putting, end_of}
 abbrev pub begun_of : Region → Configuration → CaptureModel
 begun_of region config = begun config.width config.height (rectangle_of region)
 
--- The run went to its end, and the film of a region was put behind its files.
-pub record HasFilmed (region : Region) (old : Shown) (s : Setup) (new : Shown) (ran : Ran) : Type 0 where
-  pub journal : IsJournal s ran.journal.items
-  pub frames : ran.frames ≡ shots ran.journal.items + 1
+-- A run with this journal and so many pictures went to its end, and the film of a region was put behind its
+-- files; this put was refused, if one was.
+pub record HasFilmed (region : Region) (old : Shown) (s : Setup) (new : Shown) (journal : List Entry)
+    (frames : ℕ) (fault : Option PutFault) : Type 0 where
+  pub is_journal : IsJournal s journal
+  pub frames_are : frames ≡ shots journal + 1
   pub outputs : List File
-  pub are : AreOutputs s ran.journal.items outputs
+  pub are : AreOutputs s journal outputs
   pub puts : PutsAll (outputs ++ (film_name, film_of region s.config (pictures_in are)) ∷ [])
-      (unrefused old) (putting new ran.fault)
+      (unrefused old) (putting new fault)
 
 -- the run went to its end, or was not begun for want of memory
 abbrev pub RunsFilmed : Region → Shown → Setup → Shown → Result Ran NoMemory → Type 0
-RunsFilmed region old s new (Ok ran) = HasFilmed region old s new ran
+RunsFilmed region old s new (Ok ran) = HasFilmed region old s new ran.journal.items ran.frames ran.fault
 RunsFilmed region old s new (Err error) = new ≡ old
 
 -- what the work leaves after a run that went to its end
 pub record IsAfterFilm (region : Region) (old : Shown) (s : Setup) (new : Shown) (w : Worked) : Type 0 where
   pub ran : Ran
-  pub has_run : HasFilmed region old s new ran
+  pub has_run : HasFilmed region old s new ran.journal.items ran.frames ran.fault
   pub headline : Headline s ran.journal.items has_run.outputs
   pub end_is : w.stop.end ≡ end_of ran.fault
   pub name_is : IfSome ran.fault (λ f. w.stop.name ≡ name.Put f.file)
