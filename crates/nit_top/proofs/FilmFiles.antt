@@ -7,8 +7,8 @@ use Rattle.std.proofs.lemmas.List.{append-nil}
 use Rattle.nit_events.specs.declared.entry.Entry.{Entry}
 use Rattle.nit_events.specs.declared.entry.Entry.TheVariants as entry
 use Rattle.nit_config.specs.Configuration.{Configuration, member}
-use Rattle.nit_journal.specs.State.{State, opening}
-use Rattle.nit_journal.specs.Journals.{IsLegal, LegalFrom, after, shots}
+use Rattle.nit_journal.specs.State.{State, after, opening}
+use Rattle.nit_journal.specs.Journals.{IsLegal, LegalFrom, shots}
 use Rattle.nit_capture.specs.Capture.{CaptureModel, taken_bytes}
 use Rattle.nit_capture.specs.Film.{header, records, stream}
 use Rattle.nit_store.specs.declared.store.PutError.{PutError}
@@ -204,7 +204,7 @@ pub record IsFilmEnd (region : Region) (s : Setup) (begun now : CaptureModel) (c
   pub whole_is : is_whole ≡ true → whole ≡ true
   pub ended_is : is_whole ≡ true → ended ≡ true
   pub all_shots : is_whole ≡ true → count + 1 ≡ frames
-  pub few : count < 2 ^ 32
+  pub few : count ≤ 4294967295
   pub put : is_whole ≡ true → PutsNext (film_name, bytes ++ 0 ∷ []) (putting mid fault) (putting new fault')
   pub not_put : is_whole ≡ false → (other : List ℕ) → PutsNext (film_name, other) (putting mid fault) (putting new fault')
 

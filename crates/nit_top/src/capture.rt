@@ -1,6 +1,6 @@
 //! The run of a configuration that is filmed.
 
-ghost use Rattle.std.specs.Prelude.{false, true, ◌≡◌, ◌++◌, ◌∷◌, [], ℕ, List, IfSome};
+ghost use Rattle.std.specs.Prelude.{false, true, ◌≡◌, ◌≤◌, ◌+◌, ◌++◌, ◌∷◌, [], ℕ, List, IfSome};
 ghost use Rattle.nit_config.specs.Configured.{IsConfigured};
 ghost use Rattle.nit_capture.specs.Film.{header};
 ghost use Rattle.nit_store.specs.Shown.{Shown, bytes_of, asking};
@@ -76,6 +76,7 @@ fn perform_filmed<'a, R: Threads + Wait + Sync, S: Store, G: Gate>(
         (S.shown store.new) result }
 {
     headline();
+    let clients = scripts.clients.as_slice();
     let rect = region.rect(config.width, config.height);
     let Ok(film) = Film::new(alloc, config.width, config.height, rect) else {
         return unbegun(alloc, at(End::NoMemory, ""));
@@ -83,7 +84,7 @@ fn perform_filmed<'a, R: Threads + Wait + Sync, S: Store, G: Gate>(
     let Ok(ran) = run_filmed::<Brand, R, S, G>(rt, alloc, gate, config, scripts, film, store) else {
         return unbegun(alloc, at(End::NoMemory, ""));
     };
-    worked_by(ran, scripts.clients.len())
+    worked_by(ran, clients.len())
 }
 
 /// Runs a setup through a store that adds its pictures to this film, which F names, and puts the film last.
@@ -125,8 +126,18 @@ fn run_filmed<F: Filming, R: Threads + Wait + Sync, S: Store, G: Gate>(
     let Ok(ran) = ran else {
         return Err(NoMemory);
     };
-    let whole = whole && ended && count as usize + 1 == ran.frames;
+    let whole = has_all(whole, ended, count, ran.frames);
     Ok(end_film(store, film, whole, ran))
+}
+
+/// Whether a film that is whole has so many pictures, the last one among them.
+fn has_all(whole: bool, ended: bool, shots: u32, pictures: usize) -> bool
+    ensures whole { result ≡ true → whole ≡ true }
+    ensures ended { result ≡ true → ended ≡ true }
+    ensures pictures { result ≡ true → shots + 1 ≡ pictures }
+    ensures few { shots ≤ 4294967295 }
+{
+    whole && ended && shots as usize + 1 == pictures
 }
 
 /// Puts a film behind the files of a run, unless a put was refused before. One that is not whole is not put,
