@@ -67,13 +67,21 @@ run_of verb word =
     else (if bytes_eq verb (codes "run") then Run true word
     else (if bytes_eq verb (codes "gen") then gen (natural_of word) else NoCommand))
 
--- one of those; or `still`, a width of 1 up to 1024, a height of 1 up to 768, and the name of a script; or
+-- `still`, a width of 1 up to 1024, a height of 1 up to 768, and the name of a script
+abbrev pub still_of : List ℕ → List ℕ → List ℕ → List ℕ → Command
+still_of verb width height script =
+    if bytes_eq verb (codes "still") then still (size_of 1024 width) (size_of 768 height) script else NoCommand
+
 -- `capture`, the name of a configuration, and the four numbers of a region
-abbrev pub command : List (List ℕ) → Command
-command (verb ∷ word ∷ []) = run_of verb word
-command (verb ∷ width ∷ height ∷ script ∷ []) = if bytes_eq verb (codes "still") then still (size_of 1024 width) (size_of 768 height) script else NoCommand
-command (verb ∷ configuration ∷ x ∷ y ∷ w ∷ h ∷ []) =
+abbrev pub capture_of : List ℕ → List ℕ → List ℕ → List ℕ → List ℕ → List ℕ → Command
+capture_of verb configuration x y w h =
     if bytes_eq verb (codes "capture")
     then capture configuration (natural_of x) (natural_of y) (natural_of w) (natural_of h)
     else NoCommand
+
+-- what all words ask for
+abbrev pub command : List (List ℕ) → Command
+command (verb ∷ word ∷ []) = run_of verb word
+command (verb ∷ width ∷ height ∷ script ∷ []) = still_of verb width height script
+command (verb ∷ configuration ∷ x ∷ y ∷ w ∷ h ∷ []) = capture_of verb configuration x y w h
 command words = NoCommand

@@ -99,6 +99,7 @@ fn run_filmed<F: Filming, R: Threads + Wait + Sync, S: Store, G: Gate>(
 ) -> Result<Ran, NoMemory>
     requires runnable { IsRunnable (setup_of config.now scripts.now.clients.items scripts.now.input true true) }
     requires begun { film.capture ≡ F.begun }
+    requires name { store.ghost_name ≡ F.name }
     requires header { film.bytes.items ≡ header F.begun.rect.w F.begun.rect.h }
     ensures { (region : Region) → F.begun ≡ begun_of region config.now
         → RunsFilmed region (S.shown store.old)

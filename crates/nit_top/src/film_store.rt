@@ -12,11 +12,14 @@ use std::marker::{Brand, PhantomData};
 /// The most shots that a run has.
 const MOST_SHOTS: u32 = 65_536;
 
-/// Which film it is: the capture that it began with. Contracts alone know it, and a run picks it once.
+/// Which film it is: the capture that it began with, and the name of the reference to the store behind it.
+/// Contracts alone know it, and a run picks it once.
 pub trait Filming {
+    ghost use Rattle.std.specs.Borrow.{GName};
     ghost use Rattle.nit_capture.specs.Capture.{CaptureModel};
 
     ghost begun: { CaptureModel };
+    ghost name: { GName };
 }
 
 impl Filming for Brand {
@@ -25,6 +28,7 @@ impl Filming for Brand {
     ghost use Rattle.nit_capture.specs.Capture.{begun};
 
     ghost begun = { begun 0 0 (rectangle (pos 0) (pos 0) 0 0) };
+    ghost name = { 0 };
 }
 
 /// A store in front of another one. What is put goes on to that one, and the pictures of the shots and the
@@ -40,6 +44,7 @@ pub struct FilmStore<'s, S: Store, F: Filming> {
     /// Whether all pictures came in their order, and none was refused.
     pub whole: bool,
     pub of: PhantomData<F>,
+    ghost same: { store.ghost_name ≡ F.name },
     ghost screen: { film.capture ≡ with_last F.begun film.capture.before },
     ghost tie: { IsFilmOf whole F.begun film.capture (picture_names count ended)
         (S.shown store.now).files film.bytes.items },

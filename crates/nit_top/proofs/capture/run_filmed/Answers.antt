@@ -1,4 +1,4 @@
-use Rattle.std.proofs.Common.{rules, ◌≡◌, ℕ, List, true, refl, sym, subst}
+use Rattle.std.proofs.Common.{rules, ◌≡◌, ◌∙◌, ℕ, List, true, refl, sym, subst}
 use Rattle.nit_events.specs.declared.entry.Entry.{Entry}
 use Rattle.nit_script.specs.declared.line.Line.{Line}
 use Rattle.nit_store.specs.Shown.{Shown}
@@ -8,7 +8,9 @@ use Rattle.nit_top.proofs.FilmFiles.{film_leaves}
 use Rattle.nit_top.proofs.capture.run_filmed.Goals as goal
 
 pub returns-in_default : goal.returns-in_default
-returns-in_default g c = λ region same. subst (λ (new : Shown). new ≡ g.S.Store.shown c.args.store.now) (search rules) c.in_default.ensures
+returns-in_default g c = λ region same.
+    let link = c.run_beside-ran.new.store.same ∙ sym c.requires.name in
+    subst (λ (new : Shown). new ≡ g.S.Store.shown c.args.store.now) (search (rules, link)) c.in_default.ensures
 
 pub returns : goal.returns
 returns g c = λ region same.
@@ -35,6 +37,7 @@ returns g c = λ region same.
       put = end.ensures.whole;
       not_put = end.ensures.not_whole;
     }) in
-    subst (λ (new : Shown). HasFilmed region first s new end.result.journal.items end.result.frames end.result.fault) (search rules)
+    let link = front.same ∙ sym c.requires.name in
+    subst (λ (new : Shown). HasFilmed region first s new end.result.journal.items end.result.frames end.result.fault) (search (rules, link))
     (subst (λ (j : List Entry). HasFilmed region first s (shown end.new.store) j end.result.frames end.result.fault) (sym end.ensures.journal)
     (subst (λ (n : ℕ). HasFilmed region first s (shown end.new.store) ran.journal.items n end.result.fault) (sym end.ensures.frames) filmed))

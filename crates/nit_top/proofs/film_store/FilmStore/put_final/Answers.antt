@@ -21,6 +21,7 @@ invariant_of-self-2 g c =
     film_grows begun self.film.capture now.capture names self.film.bytes.items now.bytes.items old new c.args.name.now c.args.bytes.now c.in_ok-put_filmed.field-0
     (subst (λ (name : List ℕ). AllByRecursion (λ n. n ≢ name) names) (sym c.requires.name) (before_last self.count)) done.put self.screen done.capture done.film start in
     record {
+      same = self.same;
       screen = done.screen ∙ ap (λ (k : CaptureModel). with_last k now.capture.before) self.screen;
       tie = subst (λ (ns : List (List ℕ)). IsFilmOf true begun now.capture ns new.files now.bytes.items) (ap (λ (name : List ℕ). names ++ name ∷ []) c.requires.name ∙ sym (last_more self.count)) grown;
     }

@@ -22,6 +22,7 @@ invariant_of-self-2 g c =
     film_grows begun self.film.capture now.capture names self.film.bytes.items now.bytes.items old new c.args.name.now c.args.bytes.now c.in_ok-put_filmed.field-0
     (subst (λ (name : List ℕ). AllByRecursion (λ n. n ≢ name) names) (sym c.requires.name) (before_shot self.count c.requires.few)) done.put self.screen done.capture done.film start in
     record {
+      same = self.same;
       screen = done.screen ∙ ap (λ (k : CaptureModel). with_last k now.capture.before) self.screen;
       tie = subst (λ (b : Bool). IsFilmOf true begun now.capture (picture_names (self.count + 1) b) new.files now.bytes.items) (sym c.requires.going)
           (subst (λ (ns : List (List ℕ)). IsFilmOf true begun now.capture ns new.files now.bytes.items) (ap (λ (name : List ℕ). names ++ name ∷ []) c.requires.name ∙ sym (one_shot_more self.count)) grown);
