@@ -152,8 +152,8 @@ HoldsAtEnd s journal k w = w ≡ raw_word (replay s.config journal) (tables_left
 -- ---- the texts
 
 -- The texts of a run. What a client's text tells is told of the machine that serves it alone: the
--- events that it took are those that this machine hands out (`events` of its clause), and how it ended
--- is how that machine ends. The text of the journal is read back as the journal.
+-- events that it took are those that this machine hands out (`events` of `IsServedAlone`), and how
+-- it ended is how that machine ends. The text of the journal is read back as the journal.
 pub record AreTexts (config : Configuration) (journal : List Entry) (outputs : List File) : Type 0 where
   pub events : (sid : ℕ) → sid < length config.clients
       → let machine = alone_machine (donation_of config sid) (projection sid journal) in
