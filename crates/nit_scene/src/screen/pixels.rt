@@ -42,8 +42,8 @@ use nit_repaint::show_session;
 /// what they are cut and shown by: the labels of the sessions, and the places of the views' labels.
 ///
 /// Where labels are drawn, the raw words stand apart from the frame. In mode Flat one list is both:
-/// `raw` has the frame, which differs from the raw words in the pixels of the bar alone, and `frame`
-/// has words of no meaning. So a pixel is written once when it is loaded.
+/// `raw` has the frame, which differs from the raw words in the pixels of the bar alone, and the
+/// words of `frame` have no meaning. So a pixel is written once when it is loaded.
 #[derive(Drop)]
 pub struct Pixels {
     pub cutter: Cutter,
