@@ -1,6 +1,6 @@
 -- How the work of a capture comes to its end: as that of a run does before it is begun, and with the film behind
 -- the files of one that was.
-use Rattle.std.proofs.Common.{◌≡◌, ℕ, true, false, List, [], ◌∷◌, ◌++◌, Option, Some, refl, sym, ap, subst, ◌∙◌, inl, inr}
+use Rattle.std.proofs.Common.{◌≡◌, ℕ, true, false, List, [], ◌∷◌, ◌++◌, Option, refl, sym, ap, ◌∙◌, inl, inr}
 use Rattle.nit_events.specs.declared.entry.Entry.{Entry}
 use Rattle.nit_events.specs.declared.entry.Entry.TheVariants as entry
 use Rattle.nit_store.specs.Shown.{Shown, File}

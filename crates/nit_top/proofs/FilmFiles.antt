@@ -1,21 +1,19 @@
 -- The film that a store has made is that of the files that were put.
-use Rattle.std.proofs.Common.{◌≡◌, ◌≢◌, ℕ, zero, suc, ◌+◌, ◌<◌, ◌≤◌, ◌^◌, Bool, true, false, List, [], ◌∷◌, ◌++◌, map, length, Option, Some, None, Result, Ok, Err, refl, sym, ap, subst, ◌∙◌, arith, append_assoc, inl, inr, zero-add}
+use Rattle.std.proofs.Common.{◌≡◌, ◌≢◌, ℕ, zero, suc, ◌+◌, ◌<◌, ◌≤◌, ◌^◌, Bool, true, false, List, [], ◌∷◌, ◌++◌, map, length, Option, Some, None, Result, Ok, Err, refl, sym, ap, subst, ◌∙◌, arith, append_assoc}
 use Rattle.std.specs.Prelude.{codes, option_map, slice_index, unwrap_or}
-use Rattle.std.specs.Fmt.{decimal}
 use Rattle.std.specs.List.{AllByRecursion, range_with_len}
-use Rattle.std.proofs.lemmas.List.{append-nil}
 use Rattle.nit_events.specs.declared.entry.Entry.{Entry}
 use Rattle.nit_events.specs.declared.entry.Entry.TheVariants as entry
 use Rattle.nit_config.specs.Configuration.{Configuration, member}
 use Rattle.nit_journal.specs.State.{State, after, opening}
 use Rattle.nit_journal.specs.Journals.{IsLegal, LegalFrom, shots}
 use Rattle.nit_capture.specs.Capture.{CaptureModel, taken_bytes}
-use Rattle.nit_capture.specs.Film.{header, records, stream}
+use Rattle.nit_capture.specs.Film.{header, records}
 use Rattle.nit_store.specs.declared.store.PutError.{PutError}
 use Rattle.nit_store.specs.declared.store.PutError.TheVariants as put
-use Rattle.nit_store.specs.Shown.{Shown, File, IsPut, PutIn, bytes_of, file_at}
+use Rattle.nit_store.specs.Shown.{Shown, File, PutIn, bytes_of, file_at}
 use Rattle.nit_store.specs.Answers.{AfterPut}
-use Rattle.nit_store.specs.Puts.{PutsAll, PutsFile, PutsNext, Putting, unrefused}
+use Rattle.nit_store.specs.Puts.{PutsAll, PutsNext, Putting, unrefused}
 use Rattle.nit_store.proofs.Puts.{puts_more}
 use Rattle.nit_actor.specs.Running.{shot_name}
 use Rattle.nit_actor.specs.Pictures.{IsNearPicture}
@@ -28,7 +26,7 @@ use Rattle.nit_top.specs.Filmed.{HasFilmed, begun_of}
 use Rattle.nit_top.specs.Filming.{HasTaken, IsFilmOf, bytes_under, picture_names}
 use Rattle.nit_top.specs.Films.{film_name, film_of, pictures_in}
 use Rattle.nit_top.specs.Setup.{Setup}
-use Rattle.nit_top.specs.Outputs.{AreOutputs, AreShots, events_file, events_files, events_name, final_name, final_picture, journal_file, text_files}
+use Rattle.nit_top.specs.Outputs.{AreOutputs, events_file, events_files, events_name, final_name, final_picture, journal_file, text_files}
 use Rattle.nit_top.specs.Work.{HasRun, putting, refusal_of}
 use Rattle.nit_top.proofs.FilmPictures.{shots_apart}
 use Rattle.nit_top.proofs.Leaving.{with_texts}
@@ -47,8 +45,7 @@ numbered P s taken before [] files legal is = (subst (λ (fs : List File). Numbe
 numbered P s taken before (entry.Call sid call r ∷ es) files legal are = numbered P (after s (entry.Call sid call r)) taken (before ++ entry.Call sid call r ∷ []) es files legal.1 are
 numbered P s taken before (entry.Input dev routed ∷ es) files legal are = numbered P (after s (entry.Input dev routed)) taken (before ++ entry.Input dev routed ∷ []) es files legal.1 are
 numbered P s taken before (entry.Shot number ∷ es) files legal (bytes, more, is, picture, rest) =
-    let others = numbered P s (taken + 1) (before ++ entry.Shot number ∷ []) es more legal.1 rest in
-    (
+    let others = numbered P s (taken + 1) (before ++ entry.Shot number ∷ []) es more legal.1 rest in (
       subst (λ (fs : List File). Numbered (taken + 1) fs) (sym is) (ap shot_name legal.0, others.0),
       ap (λ (fs : List File). length fs) is ∙ ap (λ (n : ℕ). suc n) others.1,
     )

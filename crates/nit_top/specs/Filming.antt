@@ -1,7 +1,7 @@
 -- A film that is made of the pictures that a store is given.
 use Rattle.std.specs.Prelude.{◌≡◌, ℕ, Bool, true, List, [], ◌∷◌, ◌++◌, map, Option, Some, if◌then◌else◌}
 use Rattle.std.specs.List.{range_with_len}
-use Rattle.nit_capture.specs.Capture.{CaptureModel, taken_bytes, with_last}
+use Rattle.nit_capture.specs.Capture.{CaptureModel, taken_bytes}
 use Rattle.nit_capture.specs.Film.{header, records}
 use Rattle.nit_store.specs.Shown.{File, bytes_of}
 use Rattle.nit_actor.specs.Running.{shot_name}

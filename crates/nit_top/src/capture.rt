@@ -12,12 +12,13 @@ ghost use Rattle.nit_top.specs.declared.region.Region.{Region};
 ghost use Rattle.nit_top.specs.Regions.{IsShort, is_outside};
 ghost use Rattle.nit_top.specs.Setup.{IsRunnable};
 ghost use Rattle.nit_top.specs.Filmed.{PerformedFilmed, RunsFilmed, begun_of};
-ghost use Rattle.nit_top.specs.Work.{Ends, putting, setup_of};
+ghost use Rattle.nit_top.specs.Work.{Ends, Runs, putting, setup_of};
+ghost use Rattle.nit_top.specs.Filming.{IsFilmOf, picture_names};
 
 use crate::beside::run_beside;
 use crate::desk::put_next;
 use crate::film::Film;
-use crate::film_store::{FilmStore, Filming};
+use crate::film_store::{FilmStore, Filming, Reel};
 use crate::finish::{End, Output, Worked, at, unbegun};
 use crate::laws::headline;
 use crate::perform::{Scripts, read_scripts, worked_by};
@@ -81,14 +82,14 @@ fn perform_filmed<'a, R: Threads + Wait + Sync, S: Store, G: Gate>(
     let Ok(film) = Film::new(alloc, config.width, config.height, rect) else {
         return unbegun(alloc, at(End::NoMemory, ""));
     };
-    let Ok(ran) = run_filmed::<Brand, R, S, G>(rt, alloc, gate, config, scripts, film, store) else {
+    let Ok(ran) = run_filmed(rt, alloc, gate, config, scripts, film, store) else {
         return unbegun(alloc, at(End::NoMemory, ""));
     };
     worked_by(ran, clients.len())
 }
 
-/// Runs a setup through a store that adds its pictures to this film, which F names, and puts the film last.
-fn run_filmed<F: Filming, R: Threads + Wait + Sync, S: Store, G: Gate>(
+/// Runs a setup through a store that adds its pictures to this film, and puts the film last.
+fn run_filmed<R: Threads + Wait + Sync, S: Store, G: Gate>(
     rt: &R,
     alloc: Global,
     gate: &G,
@@ -97,21 +98,78 @@ fn run_filmed<F: Filming, R: Threads + Wait + Sync, S: Store, G: Gate>(
     film: Film,
     store: &mut S,
 ) -> Result<Ran, NoMemory>
-    requires runnable { IsRunnable (setup_of config.now scripts.now.clients.items scripts.now.input true true) }
-    requires begun { film.capture ≡ F.begun }
-    requires name { store.ghost_name ≡ F.name }
-    requires header { film.bytes.items ≡ header F.begun.rect.w F.begun.rect.h }
-    ensures { (region : Region) → F.begun ≡ begun_of region config.now
+    requires runnable { IsRunnable
+        (setup_of config.now scripts.now.clients.items scripts.now.input true true) }
+    requires header { film.bytes.items ≡ header film.capture.rect.w film.capture.rect.h }
+    ensures { (region : Region) → film.capture ≡ begun_of region config.now
         → RunsFilmed region (S.shown store.old)
         (setup_of config.now scripts.now.clients.items scripts.now.input true true)
         (S.shown store.new) result }
 {
-    let mut front: FilmStore<'_, S, F> = FilmStore {
+    let reel = Reel {
         store,
         film,
         count: 0,
         ended: false,
         whole: true,
+    };
+    let Reeled { reel, ran } = film_named::<Brand, R, S, G>(rt, alloc, gate, config, scripts, reel);
+    let Reel {
+        store,
+        film,
+        count,
+        ended,
+        whole,
+    } = reel;
+    let Ok(ran) = ran else {
+        return Err(NoMemory);
+    };
+    let whole = has_all(whole, ended, count, ran.frames);
+    Ok(end_film(store, film, whole, ran))
+}
+
+/// What a run through the store of a film leaves.
+#[derive(Drop)]
+struct Reeled<'s, S> {
+    reel: Reel<'s, S>,
+    ran: Result<Ran, NoMemory>,
+}
+
+/// Runs a setup through the store of a film, which F names.
+fn film_named<'s, F: Filming, R: Threads + Wait + Sync, S: Store, G: Gate>(
+    rt: &R,
+    alloc: Global,
+    gate: &G,
+    config: &Config,
+    scripts: &Scripts,
+    reel: Reel<'s, S>,
+) -> Reeled<'s, S>
+    requires runnable { IsRunnable
+        (setup_of config.now scripts.now.clients.items scripts.now.input true true) }
+    requires begun { reel.film.capture ≡ F.begun }
+    requires name { reel.store.ghost_name ≡ F.name }
+    requires header { reel.film.bytes.items ≡ header F.begun.rect.w F.begun.rect.h }
+    requires fresh { (reel.count ≡ 0) × (reel.ended ≡ false) }
+    ensures same_store { result.reel.store.ghost_name ≡ reel.entry.store.ghost_name }
+    ensures ran { Runs (S.shown reel.entry.store.now)
+        (setup_of config.now scripts.now.clients.items scripts.now.input true true)
+        (S.shown result.reel.store.now) result.ran }
+    ensures film { let r = result.reel in IsFilmOf r.whole F.begun r.film.capture
+        (picture_names r.count r.ended) (S.shown r.store.now).files r.film.bytes.items }
+{
+    let Reel {
+        store,
+        film,
+        count,
+        ended,
+        whole,
+    } = reel;
+    let mut front: FilmStore<'s, S, F> = FilmStore {
+        store,
+        film,
+        count,
+        ended,
+        whole,
         of: PhantomData,
     };
     let clients = scripts.clients.as_slice();
@@ -124,11 +182,14 @@ fn run_filmed<F: Filming, R: Threads + Wait + Sync, S: Store, G: Gate>(
         whole,
         of: _,
     } = front;
-    let Ok(ran) = ran else {
-        return Err(NoMemory);
+    let reel = Reel {
+        store,
+        film,
+        count,
+        ended,
+        whole,
     };
-    let whole = has_all(whole, ended, count, ran.frames);
-    Ok(end_film(store, film, whole, ran))
+    Reeled { reel, ran }
 }
 
 /// Whether a film that is whole has so many pictures, the last one among them.

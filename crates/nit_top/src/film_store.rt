@@ -19,6 +19,7 @@ pub trait Filming {
     ghost use Rattle.nit_capture.specs.Capture.{CaptureModel};
 
     ghost begun: { CaptureModel };
+
     ghost name: { GName };
 }
 
@@ -28,7 +29,21 @@ impl Filming for Brand {
     ghost use Rattle.nit_capture.specs.Capture.{begun};
 
     ghost begun = { begun 0 0 (rectangle (pos 0) (pos 0) 0 0) };
+
     ghost name = { 0 };
+}
+
+/// A store, and the film of the pictures that were put into it.
+#[derive(Drop)]
+pub struct Reel<'s, S> {
+    pub store: &'s mut S,
+    pub film: Film,
+    /// How many shots are in the film.
+    pub count: u32,
+    /// Whether the last picture is in it.
+    pub ended: bool,
+    /// Whether all pictures came in their order, and none was refused.
+    pub whole: bool,
 }
 
 /// A store in front of another one. What is put goes on to that one, and the pictures of the shots and the

@@ -1,4 +1,4 @@
-use Rattle.std.proofs.Common.{◌∙◌, Bool, true, ap, subst, sym}
+use Rattle.std.proofs.Common.{◌∙◌, true, ap, sym}
 use Rattle.nit_config.specs.Configuration.{Configuration}
 use Rattle.nit_top.specs.Regions.{is_outside}
 use Rattle.nit_top.specs.declared.finish.Stop.{Stop}

@@ -1,4 +1,4 @@
-use Rattle.std.proofs.Common.{◌≢◌, ◌∙◌, ◌+◌, ◌++◌, ◌∷◌, [], Bool, ℕ, List, true, false, ap, subst, sym}
+use Rattle.std.proofs.Common.{◌≢◌, ◌∙◌, ◌++◌, ◌∷◌, [], Bool, ℕ, List, true, false, ap, subst, sym}
 use Rattle.std.specs.List.{AllByRecursion}
 use Rattle.nit_capture.specs.Capture.{CaptureModel, with_last}
 use Rattle.nit_top.specs.Filming.{IsFilmOf, picture_names}
