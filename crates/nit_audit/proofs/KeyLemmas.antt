@@ -10,8 +10,7 @@ use Rattle.nit_rect.specs.Rectangle.{covers}
 use Rattle.nit_stack.specs.declared.view.View.{View}
 use Rattle.nit_stack.specs.Orders.{changed, moved, put_above, put_back, put_front, put_again, without}
 use Rattle.nit_stack.specs.Sources.{in_bar, owner}
-use Rattle.nit_stack.proofs.Lists.{find-map, map-insert, map-map}
-use Rattle.nit_stack.proofs.Places.{above_is, front_is, map-put_above, map-put_back, map-put_front, map-without, moved_found}
+use Rattle.nit_stack.proofs.ForCallers.{find-map, map-insert, map-map, above_is, front_is, map-put_above, map-put_back, map-put_front, map-without, moved_found}
 use Rattle.nit_audit.specs.declared.keys.Change.{Change}
 use Rattle.nit_audit.specs.declared.keys.Change.TheVariants as change
 use Rattle.nit_audit.specs.declared.keys.Which.{Which}

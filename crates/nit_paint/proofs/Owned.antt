@@ -15,8 +15,7 @@ use Rattle.nit_stack.specs.declared.view.ViewRef.{ViewRef}
 use Rattle.nit_stack.specs.Sources.{Bare, PixelSource, among, black_or_word, buffer_place, index_at, owner_in, pixel, point, shown_index}
 use Rattle.nit_stack.specs.Standing.{IsOnScreen, IsScreen, IsSeat, IsStanding, Standing, is_slot, seat_in, size_of, view_ref}
 use Rattle.nit_stack.specs.Answers.{session_of}
-use Rattle.nit_stack.proofs.Lists.{All_found}
-use Rattle.nit_stack.proofs.Owners.{source_bare, source_is}
+use Rattle.nit_stack.proofs.ForCallers.{All_found, source_bare, source_is}
 use Rattle.nit_word.specs.Sight.{Sight}
 use Rattle.nit_paint.specs.Painting.{Repainted}
 use Rattle.nit_paint.specs.Pieces.{IsPiece, has_pixel, session_shown, source_at}

@@ -5,8 +5,7 @@ use Rattle.nit_stack.specs.declared.view.View.{View}
 use Rattle.nit_stack.specs.Names.{views_of}
 use Rattle.nit_stack.specs.Orders.{changed, moved, put_above, put_again, without}
 use Rattle.nit_stack.specs.Standing.{IsStanding, Seat, Standing, is_slot, moved_above, on_view, put_own_back, put_own_front, seat_in, seat_layer}
-use Rattle.nit_stack.proofs.Lists.{found_passes}
-use Rattle.nit_stack.proofs.Places.{Put, Put-above, Put-back, Put-front}
+use Rattle.nit_stack.proofs.ForCallers.{found_passes, Put, Put-above, Put-back, Put-front}
 use Rattle.nit_stack.specs.Standing.{place_of}
 use Rattle.nit_repaint.specs.OneView.{IsChange}
 use Rattle.nit_repaint.proofs.Fronts.{without_none}

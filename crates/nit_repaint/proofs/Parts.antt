@@ -7,7 +7,7 @@ use Rattle.std.proofs.lemmas.Nat.{rows}
 use Rattle.nit_rect.specs.declared.point.Point.{Point}
 use Rattle.nit_rect.specs.Rectangle.{Rectangle, covers, rectangle, spans}
 use Rattle.nit_rect.specs.Meeting.{CoversBoth}
-use Rattle.nit_rect.proofs.Spans.{IsSpanned, le_tested, same_tests, spans_holds, spans_tells}
+use Rattle.nit_rect.proofs.ForCallers.{IsSpanned, le_tested, same_tests, spans_holds, spans_tells}
 use Rattle.nit_stack.specs.declared.view.View.{View}
 use Rattle.nit_stack.specs.Sources.{among, buffer_place, index_at, point, shown_index}
 use Rattle.nit_stack.specs.Standing.{IsOnScreen}

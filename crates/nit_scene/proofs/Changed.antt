@@ -8,16 +8,16 @@ use Rattle.nit_word.specs.Sight.{Sight}
 use Rattle.nit_events.specs.declared.entry.Entry.TheVariants as entry
 use Rattle.nit_stack.specs.declared.view.ViewRef.{ViewRef}
 use Rattle.nit_stack.specs.Sources.{pixel}
-use Rattle.nit_stack.proofs.Seats.{flip}
+use Rattle.nit_stack.proofs.ForCallers.{flip, All_found, any_found, find-map, found_fails, found_passes, found_some, list_any-map, agree_by, Put, Put-above, Put-back, Put-front, map-without, owner_of_views}
 use Rattle.nit_paint.specs.Painting.{Repainted}
 use Rattle.nit_paint.specs.Pieces as pieces
-use Rattle.nit_paint.proofs.Repaints.{repainted_same}
+use Rattle.nit_paint.proofs.ForCallers.{repainted_same}
 use Rattle.nit_scene.specs.Dirty.{dirty, dirty_by_call}
 use Rattle.nit_scene.proofs.Marks.{OfView}
 use Rattle.nit_scene.proofs.Marks.{IsMarkOf}
 use Rattle.nit_scene.specs.Painted.{Painted, glass_in, pixel_count, source_at}
 use Rattle.nit_paint.specs.Painting.{no_sight}
-use Rattle.nit_repaint.proofs.Glasses.{nobody_calls}
+use Rattle.nit_repaint.proofs.ForCallers.{nobody_calls, all_of_session, part_of_session, without_none, none_left, find_moved, place_changed, without_changed, without_moved}
 use Rattle.nit_scene.proofs.Meant.{meant, part_meant, session_meant, source_of_number}
 use Rattle.nit_rect.specs.declared.point.Point.{Point}
 use Rattle.nit_stack.specs.Sources.{PixelSource}
@@ -25,7 +25,6 @@ use Rattle.nit_stack.specs.Standing.{size_of}
 use Rattle.nit_repaint.specs.Owned.{owner_passes, source_in}
 use Rattle.nit_repaint.specs.Glasses.{glasses_of_call}
 use Rattle.nit_repaint.specs.Parts.{wanted}
-use Rattle.nit_repaint.proofs.Wanted.{all_of_session, part_of_session}
 use Rattle.std.specs.Option.{option_map}
 use Rattle.nit_rect.specs.Rectangle.{Rectangle, rectangle}
 use Rattle.nit_events.specs.declared.call.Call.{Call}
@@ -36,9 +35,6 @@ use Rattle.nit_stack.specs.Labels.{is_view}
 use Rattle.nit_stack.specs.Names.{IsNamedBy, MeanSame, name_of, views_of}
 use Rattle.nit_stack.specs.Orders.{moved, put_above, put_back, put_front, without}
 use Rattle.nit_stack.specs.Standing.{IsSeat, IsStanding, NoPair, Seat, Standing, has, is_named, is_slot, same_slot, seat_in}
-use Rattle.nit_stack.proofs.Lists.{All_found, any_found, find-map, found_fails, found_passes, found_some, list_any-map}
-use Rattle.nit_stack.proofs.Names.{agree_by}
-use Rattle.nit_stack.proofs.Places.{Put, Put-above, Put-back, Put-front, map-without}
 use Rattle.nit_slots.specs.Account.{view_slots}
 use Rattle.nit_config.specs.Configuration.{bar_rows}
 use Rattle.nit_journal.specs.Session.{refusal}
@@ -46,9 +42,6 @@ use Rattle.nit_journal.specs.State.{State, layer, session}
 use Rattle.nit_journal.specs.Views.{after_accepted, is_accepted}
 use Rattle.nit_stack.specs.Standing.{place_of}
 use Rattle.nit_repaint.specs.OneView.{IsChange, slot_owns_either}
-use Rattle.nit_repaint.proofs.Fronts.{without_none}
-use Rattle.nit_repaint.proofs.Uncovered.{none_left}
-use Rattle.nit_repaint.proofs.Moves.{find_moved, place_changed, without_changed, without_moved}
 use Rattle.nit_scene.specs.Serving.{IsServed, IsServing, Serving, state_of}
 use Rattle.nit_scene.specs.CallKinds.{IsClean, IsOn, IsPartOf, IsQuiet}
 use Rattle.std.proofs.Math.ListN.{length-set}
@@ -58,7 +51,6 @@ use Rattle.nit_stack.specs.Sources.{no_size}
 use Rattle.nit_journal.specs.Session.{Session, ended, opened}
 use Rattle.std.proofs.lemmas.List.{set-set}
 use Rattle.nit_stack.specs.Sources.{Size, black_or_word, in_bar, shown_index, source_under}
-use Rattle.nit_stack.proofs.Owners.{owner_of_views}
 use Rattle.nit_rect.specs.Rectangle.{covers}
 use Rattle.nit_repaint.specs.Uncovered.{without_session}
 use Rattle.nit_scene.specs.Dirty.{session_owns}

@@ -34,14 +34,13 @@ use Rattle.nit_repaint.specs.Owned.{is_word_in}
 use Rattle.nit_repaint.specs.Parts.{wanted}
 use Rattle.nit_overlay.specs.Looks.{draws_labels}
 use Rattle.nit_overlay.specs.Shown.{Scenery, bar_word, frame, owner_word, shown, view_word}
-use Rattle.nit_overlay.proofs.Frames.{length-frame}
-use Rattle.nit_overlay.proofs.Kept.{flat_same, renewed}
+use Rattle.nit_overlay.proofs.ForCallers.{length-frame, flat_same, renewed}
 use Rattle.nit_scene.specs.Dirty.{dirty, dirty_by_call, is_owned, shows_part, view_owns}
 use Rattle.nit_scene.specs.Painted.{Painted, pixel_count}
 use Rattle.nit_scene.specs.Played.{scenery_of}
-use Rattle.nit_damage.proofs.Screen.{rows_hold}
-use Rattle.nit_paint.proofs.Copied.{set_same}
-use Rattle.nit_repaint.proofs.Screen.{on_screen}
+use Rattle.nit_damage.proofs.ForCallers.{rows_hold}
+use Rattle.nit_paint.proofs.ForCallers.{set_same}
+use Rattle.nit_repaint.proofs.ForCallers.{on_screen}
 use Rattle.nit_scene.specs.Attending.{with_delivered, with_routed}
 use Rattle.nit_scene.specs.CallKinds.{IsPartOf, IsQuiet}
 use Rattle.nit_scene.specs.Kept.{CanShow, shown_by}

@@ -20,8 +20,8 @@ use Rattle.nit_journal.specs.Journals.{IsLegal, replay}
 use Rattle.nit_journal.specs.State.{State}
 use Rattle.nit_overlay.specs.Looks.{draws_labels}
 use Rattle.nit_overlay.specs.Shown.{Scenery, bar_word, frame, has_dot, ink_of, is_in_picture, owner_word, place_of, shown, view_text, view_word}
-use Rattle.nit_overlay.proofs.Frames.{get_or-frame}
-use Rattle.nit_place.proofs.Screen.{apart, fits_within, pixel_owned}
+use Rattle.nit_overlay.proofs.ForCallers.{get_or-frame}
+use Rattle.nit_place.proofs.ForCallers.{apart, fits_within, pixel_owned}
 use Rattle.nit_scene.specs.LabelsShown.{AreLabelsApart, IsLabelShown, ShowsLabels, label_width}
 use Rattle.nit_scene.specs.Named.{HaveOwnNames}
 use Rattle.nit_scene.specs.Played.{IsPlayed, scenery_of}

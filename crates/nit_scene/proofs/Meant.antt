@@ -14,8 +14,7 @@ use Rattle.nit_stack.specs.Names.{IsNamedBy, MeanSame, is_session, views_of}
 use Rattle.nit_stack.specs.Orders.{without}
 use Rattle.nit_stack.specs.Sources.{in_bar, owner, pixel, source}
 use Rattle.nit_stack.specs.Standing.{is_of_session, is_slot, size_of}
-use Rattle.nit_stack.proofs.Names.{agree_by}
-use Rattle.nit_stack.proofs.OwnersByName.{owner_named, owner_of_session}
+use Rattle.nit_stack.proofs.ForCallers.{agree_by, owner_named, owner_of_session, found_fails}
 use Rattle.nit_config.specs.Configuration.{bar_rows}
 use Rattle.nit_journal.specs.Session.{opened, refusal}
 use Rattle.nit_journal.specs.State.{State, buffer_size, layer, session}
@@ -29,7 +28,6 @@ use Rattle.nit_scene.specs.Painted.{source_at}
 use Rattle.nit_scene.specs.Serving.{IsServed, IsServing, Serving, size_of_buffer, state_of}
 use Rattle.nit_scene.proofs.Calls.{stack_accepted}
 use Rattle.nit_scene.proofs.Lists.{none_left}
-use Rattle.nit_stack.proofs.Lists.{found_fails}
 use Rattle.nit_scene.proofs.Refused.{accepted_reply, served_accepted}
 
 -- ---- a stack, and the state that it is of

@@ -27,8 +27,7 @@ use Rattle.nit_paint.specs.Painting.{IsAmongLoads, IsHeld, Repainted}
 use Rattle.nit_paint.specs.Copied.{IsCopied}
 use Rattle.nit_overlay.specs.Looks.{draws_labels}
 use Rattle.nit_overlay.specs.Shown.{Scenery, bar_word, frame, owner_word, shown}
-use Rattle.nit_overlay.proofs.Frames.{frame_fits, get_or-frame, length-frame}
-use Rattle.nit_overlay.proofs.Kept.{flat_same, renewed}
+use Rattle.nit_overlay.proofs.ForCallers.{frame_fits, get_or-frame, length-frame, flat_same, renewed}
 use Rattle.nit_scene.specs.Kept.{CanShow, raw_in, unbarred}
 use Rattle.nit_scene.specs.Painted.{AreRaw, IsRawOf, Painted, pixel_count, source_at}
 use Rattle.nit_scene.specs.Played.{scenery_of}

@@ -14,7 +14,7 @@ use Rattle.nit_config.specs.Configuration.{Configuration}
 use Rattle.nit_journal.specs.State.{State, session_in}
 use Rattle.nit_journal.specs.Views.{is_accepted}
 use Rattle.nit_paint.specs.Painting.{Repainted, no_sight}
-use Rattle.nit_paint.proofs.Repaints.{repainted_none, repainted_same}
+use Rattle.nit_paint.proofs.ForCallers.{repainted_none, repainted_same}
 use Rattle.nit_paint.specs.Pieces as pieces
 use Rattle.nit_scene.specs.Dirty.{dirty, dirty_by_call}
 use Rattle.nit_repaint.specs.Glasses.{HoldBuffers, glasses_of_call}

@@ -4,7 +4,7 @@ use Rattle.nit_rect.specs.declared.point.Point.{Point}
 use Rattle.nit_stack.specs.Sources.{pixel}
 use Rattle.nit_stack.specs.Standing.{is_slot}
 use Rattle.nit_damage.specs.Sets.{once}
-use Rattle.nit_paint.proofs.Copied.{nothing_set}
+use Rattle.nit_paint.proofs.ForCallers.{nothing_set}
 use Rattle.nit_repaint.specs.Owned.{owner_passes}
 use Rattle.nit_repaint.specs.Parts.{is_wanted}
 use Rattle.nit_repaint.proofs.Copied.{shown_as}

@@ -3,7 +3,7 @@ use Rattle.std.specs.Prelude.{IsTrue, slice_index}
 use Rattle.nit_events.specs.declared.device.Mode.{Mode}
 use Rattle.nit_stack.specs.Sources.{pixel}
 use Rattle.nit_word.specs.Sight.{Sight}
-use Rattle.nit_paint.proofs.Copied.{nothing_set}
+use Rattle.nit_paint.proofs.ForCallers.{nothing_set}
 use Rattle.nit_overlay.specs.Looks.{draws_labels}
 use Rattle.nit_paint.specs.Painting.{no_sight}
 use Rattle.nit_scene.specs.CallKinds.{IsClean}

@@ -3,7 +3,7 @@ use Rattle.nit_config.specs.Configuration.{Configuration}
 use Rattle.std.specs.Prelude.{IsTrue}
 use Rattle.nit_events.specs.declared.device.Mode.{Mode}
 use Rattle.nit_stack.specs.Sources.{pixel}
-use Rattle.nit_paint.proofs.Repaints.{repainted_words}
+use Rattle.nit_paint.proofs.ForCallers.{repainted_words}
 use Rattle.nit_repaint.specs.OneView.{IsChange, slot_owns_either}
 use Rattle.nit_overlay.specs.Looks.{draws_labels}
 use Rattle.nit_scene.specs.CallKinds.{IsOn}
