@@ -29,10 +29,10 @@ pub width_is : (w : ℕ) (size : ℕ × ℕ) (width height : ℕ) → w ≡ size
 width_is w size width height e f = e ∙ ap (λ z. z.0) f
 
 -- the column and the row of a pixel of a block
-row_of : (width y x : ℕ) → x < width → (y * width + x) / width ≡ y
+pub row_of : (width y x : ℕ) → x < width → (y * width + x) / width ≡ y
 row_of width y x l = grind (arith, rows)
 
-column_of : (width y x : ℕ) → x < width → (y * width + x) % width ≡ x
+pub column_of : (width y x : ℕ) → x < width → (y * width + x) % width ≡ x
 column_of width y x l = grind (arith, rows)
 
 at_point : (b : Block) (j i : ℕ) → b.left + b.wide ≤ b.width → i < b.wide → pixel b.width (row_at b j + i) ≡ point (b.left + i) (b.top + j)
