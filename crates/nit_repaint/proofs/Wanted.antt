@@ -152,9 +152,6 @@ seat_not s view x slot sid part p same other =
     let no : (x.view.sid == sid) ≡ false = ap (λ (y : Seat). y.view.sid == sid) (sym same) ∙ ne_eqb view.sid sid other in
     ap (λ (b : Bool). owner_passes (is_slot x.slot) s p && (b && wants part (size_of s.sizes sid) x.view p)) no ∙ never (owner_passes (is_slot x.slot) s p)
 
-pub one : {A : Type 0} {x y : A} → Some x ≡ Some y → x ≡ y
-one e = cc
-
 -- ---- the first so many views
 
 module _ (source : ℕ → PixelSource) (s : Standing) (n sid : ℕ) (part : Option Rectangle) where
