@@ -17,7 +17,8 @@ use Rattle.nit_scene.specs.Played.{scenery_of}
 use Rattle.nit_scene.specs.Serving.{state_of}
 use Rattle.nit_scene.proofs.Keeps.{can_still, kept_part}
 use Rattle.nit_scene.proofs.OneList.{bar_kept, by_mode, entry_painted_in, flat_kept, mode_stays}
-use Rattle.nit_scene.proofs.Changed.{dirty_by_views, few_views, painted_by_views, same_most}
+use Rattle.nit_scene.proofs.SessionViews.{dirty_by_views, painted_by_views}
+use Rattle.nit_scene.proofs.StackRoom.{few_views, same_most}
 use Rattle.nit_scene.proofs.Screens.{held_by_glasses, same_config}
 use Rattle.nit_scene.proofs.screen.sessions.change_buffer.Goals as goal
 

@@ -14,7 +14,8 @@ use Rattle.nit_scene.specs.Kept.{IsFrameOf}
 use Rattle.nit_scene.specs.Serving.{state_of}
 use Rattle.nit_scene.proofs.Keeps.{can_still}
 use Rattle.nit_scene.proofs.OneList.{bar_kept, by_mode, entry_painted_in, flat_kept}
-use Rattle.nit_scene.proofs.Changed.{change_stood, dirty_by_change, few_views, named_stands, painted_by_change, same_most}
+use Rattle.nit_scene.proofs.Changed.{change_stood, dirty_by_change, named_stands, painted_by_change}
+use Rattle.nit_scene.proofs.StackRoom.{few_views, same_most}
 use Rattle.nit_scene.proofs.Screens.{held_by_glasses, same_config}
 use Rattle.nit_scene.proofs.screen.views.change_view.Goals as goal
 
