@@ -7,7 +7,7 @@ use Rattle.std.proofs.lemmas.List.{ext_get_or, get_or_past, set-set}
 use Rattle.std.proofs.lemmas.Option.{same_Some}
 use Rattle.nit_word.specs.Setting.{set_where, with_words}
 use Rattle.nit_word.specs.Sight.{Sight, inked_sight, told_at, told_words}
-use Rattle.nit_word.proofs.SetWords.{set_long, word_at}
+use Rattle.nit_word.proofs.ForCallers.{set_long, word_at}
 use Rattle.nit_script.specs.declared.line.Line.{Line}
 use Rattle.nit_plan.specs.declared.area.Area.{Area}
 use Rattle.nit_plan.specs.declared.plan.Step.{Step}

@@ -29,3 +29,4 @@ pub mod Roles
 pub mod Pictures
 pub mod InStep
 pub mod OneClient
+pub mod ForCallers

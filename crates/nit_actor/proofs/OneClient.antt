@@ -12,7 +12,7 @@ use Rattle.nit_config.specs.Configuration.{Configuration}
 use Rattle.nit_journal.specs.State.{State, after, opening}
 use Rattle.nit_journal.specs.Journals.{IsLegal, LegalFrom}
 use Rattle.nit_journal.specs.Whole.{Act, Calls, Deed, act_of, calls_of, deeds_of, done, IsWhole}
-use Rattle.nit_journal.proofs.Sessions.{as_many, as_many_as_clients}
+use Rattle.nit_journal.proofs.ForCallers.{as_many, as_many_as_clients}
 use Rattle.nit_plan.specs.Calls.{calls_from, calls_to_make, deeds_from, deeds_to_do}
 use Rattle.nit_actor.specs.Moves.{Doing, ByClient, ByUser, Move}
 use Rattle.nit_actor.specs.Rounds.{rounds}

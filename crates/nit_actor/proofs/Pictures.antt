@@ -15,8 +15,8 @@ use Rattle.nit_store.specs.Shown.{File}
 use Rattle.nit_hall.specs.Lines.{deeds_in}
 use Rattle.nit_hall.specs.Parts.{Parts}
 use Rattle.nit_hall.specs.Told.{Tells, TellsShot}
-use Rattle.nit_journal.proofs.Along.{deeds_of-append}
-use Rattle.nit_hall.proofs.Lines.{deeds_line}
+use Rattle.nit_journal.proofs.ForCallers.{deeds_of-append}
+use Rattle.nit_hall.proofs.ForCallers.{deeds_line}
 use Rattle.nit_store.specs.Puts.{Putting, PutsAll, PutsNext}
 use Rattle.nit_actor.specs.Running.{shot_name}
 use Rattle.nit_actor.proofs.Shots.{shots_both}

@@ -10,8 +10,7 @@ use Rattle.nit_rect.specs.Rectangle.{covers}
 use Rattle.nit_stack.specs.declared.view.View.{View}
 use Rattle.nit_stack.specs.Orders.{changed, moved, put_above, put_back, put_front, put_again, without}
 use Rattle.nit_stack.specs.Sources.{in_bar, owner}
-use Rattle.nit_stack.proofs.Lists.{find-map, map-insert, map-map}
-use Rattle.nit_stack.proofs.Places.{above_is, front_is, map-put_above, map-put_back, map-put_front, map-without, moved_found}
+use Rattle.nit_stack.proofs.ForCallers.{find-map, map-insert, map-map, above_is, front_is, map-put_above, map-put_back, map-put_front, map-without, moved_found, map_twice}
 use Rattle.nit_audit.specs.declared.keys.Change.{Change}
 use Rattle.nit_audit.specs.declared.keys.Change.TheVariants as change
 use Rattle.nit_audit.specs.declared.keys.Which.{Which}
@@ -216,10 +215,6 @@ raised is next records keys key place found at =
     ∙ moves is (put_above next) (put_above (λ k. next (view_under records k))) records keys key found (λ ks. map-put_above (view_under records) next key ks)
 
 -- ---- the owner of a pixel
-
-map_twice : {A B C : Type 0} (g : B → C) (f : A → B) (o : Option A) → option_map g (option_map f o) ≡ option_map (λ x. g (f x)) o
-map_twice g f None = refl
-map_twice g f (Some x) = refl
 
 pub owner_below : (rows : ℕ) (p : Point) (records : Slab View) (keys : List ℕ) → in_bar rows p ≡ false
     → option_map (λ k. (view_under records k).sid) (find (λ k. covers (view_under records k).rect p) keys) ≡ option_map (λ v. v.sid) (owner rows (views_at records keys) p)

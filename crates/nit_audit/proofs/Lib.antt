@@ -1,4 +1,3 @@
-mod ServeLemmas
 mod GoodEntryLemmas
 mod VerdictLemmas
 mod GoodAndWhole

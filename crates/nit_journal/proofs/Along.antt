@@ -54,7 +54,7 @@ Todo = List (List (ℕ × Call))
 abbrev one_done : Todo → ℕ → Todo
 one_done clients s = set clients s (left (to_do clients s))
 
-drop_left : {A : Type 0} (n : ℕ) (xs : List (ℕ × A)) → drop n (left xs) ≡ drop (suc n) xs
+pub drop_left : {A : Type 0} (n : ℕ) (xs : List (ℕ × A)) → drop n (left xs) ≡ drop (suc n) xs
 drop_left zero [] = refl
 drop_left (suc n) [] = refl
 drop_left n (x ∷ xs) = refl

@@ -1,5 +1,5 @@
 -- What other crates cite of journals: calls, sessions and states along them, and what a refusal tells.
-pub use Rattle.nit_journal.proofs.Along.{IsUsers, calls_of-append, calls_other, calls_own, calls_same, deeds_of-append, deeds_same, phases_call, phases_deed, phases_final}
+pub use Rattle.nit_journal.proofs.Along.{IsUsers, calls_of-append, calls_other, calls_own, calls_same, deeds_of-append, deeds_same, drop_left, phases_call, phases_deed, phases_final}
 pub use Rattle.nit_journal.proofs.CallRefusals.{first_none, holds_of, second_none, serve_accepted, serve_refused, within_quota, within_reserve}
 pub use Rattle.nit_journal.proofs.CallsAlone.{as_its_calls_have_it}
 pub use Rattle.nit_journal.proofs.Deliveries.{all_kept}

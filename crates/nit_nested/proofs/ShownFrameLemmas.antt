@@ -11,14 +11,14 @@ use Rattle.nit_script.specs.declared.line.Line.TheVariants as line
 use Rattle.nit_script.specs.Phases.{is_phase, phases}
 use Rattle.nit_journal.specs.Session.{opened}
 use Rattle.nit_word.specs.Zeros.{zeros}
-use Rattle.nit_word.proofs.Zeros.{length-zeros}
+use Rattle.nit_word.proofs.ForCallers.{length-zeros}
 use Rattle.nit_plan.specs.Strokes.{cleared}
 use Rattle.nit_plan.specs.Plans.{Painting, blank, painted_from, after_line}
 use Rattle.nit_nested.specs.FrameLines.{Run, row_runs, fills, row_lines, rows_lines, frame_lines, IsFrame, words_of_lines}
 use Rattle.nit_nested.specs.FrameScript.{is_forbidden, first_forbidden, woven, frame_script}
 use Rattle.nit_nested.specs.Nest.{NestModel}
 use Rattle.nit_nested.specs.Nest.{IsNest}
-use Rattle.nit_plan.proofs.Lines.{buffer_size}
+use Rattle.nit_plan.proofs.ForCallers.{buffer_size}
 use Rattle.nit_nested.proofs.ScriptAnswers.{kept_frames}
 use Rattle.nit_nested.specs.ShownFrames.{lines_before_end, CanPay, ShowsFrames}
 use Rattle.nit_nested.proofs.GrammarLemmas.{phase_lines_more}

@@ -2,7 +2,7 @@
 use Rattle.std.proofs.Common.{◌≡◌, ℕ, ◌==◌, Bool, true, false, cond, List, [], ◌∷◌, refl, ap, sym, ◌∙◌, subst}
 use Rattle.std.proofs.lemmas.Bool.{eq-eqb}
 use Rattle.nit_word.specs.Sight.{Sight, IsLoaded, seen}
-use Rattle.nit_word.proofs.Loads.{seen_none}
+use Rattle.nit_word.proofs.ForCallers.{seen_none}
 use Rattle.nit_stack.specs.Sources.{Word}
 use Rattle.nit_paint.specs.Painting.{IsHeld, loads_of, with_glass}
 

@@ -6,3 +6,4 @@ pub mod Blocks
 pub mod Owned
 pub mod Rows
 pub mod OneMore
+pub mod ForCallers

@@ -5,7 +5,7 @@ use native.Mathlib.Decide.{ℕ_discrete}
 use Rattle.std.proofs.lemmas.Bool.{false≢true}
 use Rattle.std.proofs.lemmas.List.Sums.{sum_by-append}
 use Rattle.nit_word.specs.Sight.{Sight, seen}
-use Rattle.nit_word.proofs.Loads.{seen_twice}
+use Rattle.nit_word.proofs.ForCallers.{seen_twice}
 use Rattle.nit_stack.specs.Sources.{PixelSource}
 use Rattle.nit_paint.specs.Painting.{IsHeld, IsAmongLoads, Repainted, is_word_of, loads_of, times_shown}
 use Rattle.nit_paint.proofs.Repaints.{among_first, among_last, among_own, one_load, since}

@@ -15,8 +15,7 @@ use Rattle.nit_stack.specs.declared.view.ViewRef.{ViewRef}
 use Rattle.nit_stack.specs.Sources.{Bare, PixelSource, among, black_or_word, buffer_place, index_at, owner_in, pixel, point, shown_index}
 use Rattle.nit_stack.specs.Standing.{IsOnScreen, IsScreen, IsSeat, IsStanding, Standing, is_slot, seat_in, size_of, view_ref}
 use Rattle.nit_stack.specs.Answers.{session_of}
-use Rattle.nit_stack.proofs.Lists.{All_found}
-use Rattle.nit_stack.proofs.Owners.{source_bare, source_is}
+use Rattle.nit_stack.proofs.ForCallers.{All_found, source_bare, source_is}
 use Rattle.nit_word.specs.Sight.{Sight}
 use Rattle.nit_paint.specs.Painting.{Repainted}
 use Rattle.nit_paint.specs.Pieces.{IsPiece, has_pixel, session_shown, source_at}
@@ -30,10 +29,10 @@ pub width_is : (w : ℕ) (size : ℕ × ℕ) (width height : ℕ) → w ≡ size
 width_is w size width height e f = e ∙ ap (λ z. z.0) f
 
 -- the column and the row of a pixel of a block
-row_of : (width y x : ℕ) → x < width → (y * width + x) / width ≡ y
+pub row_of : (width y x : ℕ) → x < width → (y * width + x) / width ≡ y
 row_of width y x l = grind (arith, rows)
 
-column_of : (width y x : ℕ) → x < width → (y * width + x) % width ≡ x
+pub column_of : (width y x : ℕ) → x < width → (y * width + x) % width ≡ x
 column_of width y x l = grind (arith, rows)
 
 at_point : (b : Block) (j i : ℕ) → b.left + b.wide ≤ b.width → i < b.wide → pixel b.width (row_at b j + i) ≡ point (b.left + i) (b.top + j)

@@ -8,8 +8,7 @@ use Rattle.std.proofs.lemmas.Bool.Decides.{nat_tests}
 use Rattle.std.proofs.lemmas.List.{places, set-get_or, take_all}
 use borrow.Rule.Slice.PartMut.{put_mid}
 use Rattle.nit_word.specs.Sight.{Sight, IsLoaded, IsLoadedRow, seen}
-use Rattle.nit_word.proofs.Loads.{loaded_after, more_taken, seen_none, seen_twice}
-use Rattle.nit_word.proofs.SideBySide.{at_place}
+use Rattle.nit_word.proofs.ForCallers.{loaded_after, more_taken, seen_none, seen_twice, at_place}
 use Rattle.nit_stack.specs.Sources.{PixelSource, Bare, Black, Word, black_or_word}
 use Rattle.nit_paint.specs.Painting.{IsAmongLoads, IsHeld, Repainted, no_sight, is_word_of, loads_of, times_shown, with_glass}
 use Rattle.nit_paint.specs.Runs.{in_run, index_from, long, own_word, reached, row_source}

@@ -9,7 +9,7 @@ use Rattle.std.proofs.lemmas.List.Sums.{sum_by-append}
 use Rattle.std.proofs.lemmas.List.Elements.{Contains-append_left, Contains-append_right, Contains-push}
 use Rattle.nit_word.specs.Inks.{IsWord}
 use Rattle.nit_word.specs.Sight.{Sight, IsLoaded, seen}
-use Rattle.nit_word.proofs.Loads.{seen_none, seen_twice}
+use Rattle.nit_word.proofs.ForCallers.{seen_none, seen_twice}
 use Rattle.nit_stack.specs.Sources.{PixelSource, Bare, Black, Word}
 use Rattle.nit_paint.specs.Painting.{IsAmongLoads, IsHeld, Repainted, is_word_of, loads_at, times_shown, loads_of}
 

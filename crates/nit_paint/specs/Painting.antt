@@ -45,14 +45,20 @@ loads_at i loads = count_by (λ load. load.0 == i) loads
 -- how many of the first n pixels are marked and show the word at i of session t
 abbrev pub times_shown : (ℕ → PixelSource) → (ℕ → Bool) → ℕ → ℕ → ℕ → ℕ
 times_shown source is_marked t i zero = 0
-times_shown source is_marked t i (suc n) = times_shown source is_marked t i n + (if (is_marked n && is_word_of t i (source n)) then 1 else 0)
+times_shown source is_marked t i (suc n) =
+    times_shown source is_marked t i n
+    + (if (is_marked n && is_word_of t i (source n)) then 1 else 0)
 
 -- Of the first n pixels of a screen exactly the marked ones were loaded again, by their sources: each marked pixel
 -- holds what it may hold, and a word of a glass was loaded for it in this; every other pixel is as before; each word
 -- was loaded as often as it is shown by marked pixels; and nothing else was loaded or changed.
-pub record Repainted (source : ℕ → PixelSource) (is_marked : ℕ → Bool) (n : ℕ) (before after : ℕ → Sight) (raw raw' : List ℕ) : Type 0 where
+pub record Repainted (source : ℕ → PixelSource) (is_marked : ℕ → Bool) (n : ℕ)
+    (before after : ℕ → Sight) (raw raw' : List ℕ) : Type 0 where
   pub loads : ℕ → List (ℕ × ℕ)
   pub sights : (t : ℕ) → after t ≡ seen (before t) (loads t)
-  pub marked : (k : ℕ) → k < n → is_marked k ≡ true → IsHeld before (source k) (slice_index_or raw' k 0) × IsAmongLoads loads (source k) (slice_index_or raw' k 0)
-  pub others : (k : ℕ) → (k < n → is_marked k ≡ false) → slice_index_or raw' k 0 ≡ slice_index_or raw k 0
+  pub marked : (k : ℕ) → k < n → is_marked k ≡ true
+      → IsHeld before (source k) (slice_index_or raw' k 0)
+      × IsAmongLoads loads (source k) (slice_index_or raw' k 0)
+  pub others : (k : ℕ) → (k < n → is_marked k ≡ false)
+      → slice_index_or raw' k 0 ≡ slice_index_or raw k 0
   pub counts : (t i : ℕ) → loads_at i (loads t) ≡ times_shown source is_marked t i n

@@ -23,7 +23,8 @@ pub record IsPiece (s : Standing) (piece : Piece) : Type 0 where
   pub screen : IsScreenRectangle piece.rect
   pub right : (piece.rect.x +ℤ pos piece.rect.w) ≤ℤ pos s.width
   pub bottom : (piece.rect.y +ℤ pos piece.rect.h) ≤ℤ pos s.height
-  pub owned : (p : Point) → IsTrue (covers piece.rect p) → option_map view_ref (owner_in (λ seat. seat.view) s.bar s.views p) ≡ piece.owner
+  pub owned : (p : Point) → IsTrue (covers piece.rect p)
+      → option_map view_ref (owner_in (λ seat. seat.view) s.bar s.views p) ≡ piece.owner
 
 -- the session of the view that owns the piece, where one does
 abbrev pub session_shown : Standing → Piece → ℕ

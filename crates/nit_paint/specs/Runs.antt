@@ -19,7 +19,9 @@ own_word (Word t i) = None
 
 -- the buffer's column that the pixel at place j of a row shows, where the buffer reaches so far
 abbrev pub reached : Reach → ℕ → Option ℕ
-reached r j = if nat_lt j r.before then None else (if nat_lt j (r.before + r.words) then Some (r.from + (j - r.before)) else None)
+reached r j =
+    if nat_lt j r.before then None
+    else (if nat_lt j (r.before + r.words) then Some (r.from + (j - r.before)) else None)
 
 -- how many pixels the row has
 abbrev pub long : Reach → ℕ

@@ -25,7 +25,8 @@ impl Block {
         requires screen { IsScreenRectangle r.now }
         requires right { (r.now.x +ℤ pos r.now.w) ≤ℤ pos width }
         requires width { (1 ≤ width) × (width ≤ 1024) }
-        ensures rectangle { r.now ≡ rectangle (pos result.left) (pos result.top) result.wide result.tall }
+        ensures rectangle { r.now
+            ≡ rectangle (pos result.left) (pos result.top) result.wide result.tall }
         ensures width { result.width ≡ width }
     {
         Block {

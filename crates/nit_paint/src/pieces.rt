@@ -24,8 +24,12 @@ pub fn paint_view<G: Glass>(stack: &Stack, raw: &mut [u32], piece: &Piece, glass
     requires piece { IsPiece stack.now piece.now }
     requires view { IsSomeAnd piece.now.owner (λ v. has v.0 stack.now.views ≡ true) }
     requires words { words_shown stack.now piece.now ≤ (G.sight glass.old).size }
-    ensures painted { (others : ℕ → Sight) → Repainted (source_at stack.now) (has_pixel stack.now.width piece.now.rect) (length raw.old)
-        (with_glass others (session_shown stack.now piece.now) (G.sight glass.old)) (with_glass others (session_shown stack.now piece.now) (G.sight glass.new)) raw.old raw.new }
+    ensures painted { (others : ℕ → Sight)
+        → Repainted (source_at stack.now) (has_pixel stack.now.width piece.now.rect)
+        (length raw.old)
+        (with_glass others (session_shown stack.now piece.now) (G.sight glass.old))
+        (with_glass others (session_shown stack.now piece.now) (G.sight glass.new))
+        raw.old raw.new }
     ensures kept { (loads : List (ℕ × ℕ)) × (G.sight glass.new ≡ seen (G.sight glass.old) loads) }
     ensures rest { G.rest glass.new ≡ G.rest glass.old }
     ensures count { length raw.new ≡ length raw.old }
@@ -48,7 +52,9 @@ pub fn paint_bare(stack: &Stack, raw: &mut [u32], piece: &Piece)
     requires raw { length raw.old ≡ stack.now.width * stack.now.height }
     requires piece { IsPiece stack.now piece.now }
     requires bare { piece.now.owner ≡ None }
-    ensures painted { (glasses : ℕ → Sight) → Repainted (source_at stack.now) (has_pixel stack.now.width piece.now.rect) (length raw.old) glasses glasses raw.old raw.new }
+    ensures painted { (glasses : ℕ → Sight)
+        → Repainted (source_at stack.now) (has_pixel stack.now.width piece.now.rect)
+        (length raw.old) glasses glasses raw.old raw.new }
     ensures count { length raw.new ≡ length raw.old }
     ensures words { All IsWord raw.old → All IsWord raw.new }
 {
@@ -74,8 +80,12 @@ fn paint_rows<G: Glass>(
     requires columns { reach.now.from + reach.now.words ≤ size.0 }
     requires words { size.0 * size.1 ≤ (G.sight glass.old).size }
     ensures painted { (source : ℕ → PixelSource) (sid : ℕ) (others : ℕ → Sight)
-        → ((j i : ℕ) → j < block.now.tall → i < block.now.wide → source (row_at block.now j + i) ≡ black_or_word sid (index_at size.0 (reached reach.now i) (among (row +ℤ pos j) size.1)))
-        → Repainted source (in_rows block.now block.now.tall) (length raw.old) (with_glass others sid (G.sight glass.old)) (with_glass others sid (G.sight glass.new)) raw.old raw.new }
+        → ((j i : ℕ) → j < block.now.tall → i < block.now.wide
+        → source (row_at block.now j + i)
+        ≡ black_or_word sid (index_at size.0 (reached reach.now i) (among (row +ℤ pos j) size.1)))
+        → Repainted source (in_rows block.now block.now.tall) (length raw.old)
+        (with_glass others sid (G.sight glass.old))
+        (with_glass others sid (G.sight glass.new)) raw.old raw.new }
     ensures rest { G.rest glass.new ≡ G.rest glass.old }
 {
     'rows: for j in 0..block.tall {
@@ -89,8 +99,10 @@ fn paint_rows<G: Glass>(
 fn bare_rows(raw: &mut [u32], block: &Block)
     requires { block.now.width * (block.now.top + block.now.tall) ≤ length raw.old }
     ensures { (source : ℕ → PixelSource) (glasses : ℕ → Sight)
-        → ((j i : ℕ) → j < block.now.tall → i < block.now.wide → source (row_at block.now j + i) ≡ Bare)
-        → Repainted source (in_rows block.now block.now.tall) (length raw.old) glasses glasses raw.old raw.new }
+        → ((j i : ℕ) → j < block.now.tall → i < block.now.wide
+        → source (row_at block.now j + i) ≡ Bare)
+        → Repainted source (in_rows block.now block.now.tall)
+        (length raw.old) glasses glasses raw.old raw.new }
 {
     'rows: for j in 0..block.tall {
         let at = (block.top + j) * block.width + block.left;

@@ -15,7 +15,8 @@ const BLACK: u32 = 0;
 /// Gives `count` pixels from `at` on one word, for which nothing is loaded.
 pub(crate) fn fill_run(raw: &mut [u32], at: usize, count: u32, word: u32)
     requires { at + count ≤ length raw.old }
-    ensures painted { (source : ℕ → PixelSource) (glasses : ℕ → Sight) → ((j : ℕ) → j < count → own_word (source (at + j)) ≡ Some word)
+    ensures painted { (source : ℕ → PixelSource) (glasses : ℕ → Sight)
+        → ((j : ℕ) → j < count → own_word (source (at + j)) ≡ Some word)
         → Repainted source (in_run at count) (length raw.old) glasses glasses raw.old raw.new }
 {
     raw[at..at + count as usize].fill(word);
@@ -25,8 +26,11 @@ pub(crate) fn fill_run(raw: &mut [u32], at: usize, count: u32, word: u32)
 fn load_run<G: Glass>(raw: &mut [u32], at: usize, count: u32, glass: &mut G, from: u32)
     requires pixels { at + count ≤ length raw.old }
     requires words { from + count ≤ (G.sight glass.old).size }
-    ensures painted { (source : ℕ → PixelSource) (sid : ℕ) (others : ℕ → Sight) → ((j : ℕ) → j < count → source (at + j) ≡ Word sid (from + j))
-        → Repainted source (in_run at count) (length raw.old) (with_glass others sid (G.sight glass.old)) (with_glass others sid (G.sight glass.new)) raw.old raw.new }
+    ensures painted { (source : ℕ → PixelSource) (sid : ℕ) (others : ℕ → Sight)
+        → ((j : ℕ) → j < count → source (at + j) ≡ Word sid (from + j))
+        → Repainted source (in_run at count) (length raw.old)
+        (with_glass others sid (G.sight glass.old))
+        (with_glass others sid (G.sight glass.new)) raw.old raw.new }
     ensures size { (G.sight glass.new).size ≡ (G.sight glass.old).size }
     ensures rest { G.rest glass.new ≡ G.rest glass.old }
 {
@@ -43,10 +47,14 @@ pub(crate) fn paint_row<G: Glass>(
     glass: &mut G,
 )
     requires pixels { at + long reach.now ≤ length raw.old }
-    requires words { IfSome start (λ s. s + (reach.now.from + reach.now.words) ≤ (G.sight glass.old).size) }
+    requires words { IfSome start
+        (λ s. s + (reach.now.from + reach.now.words) ≤ (G.sight glass.old).size) }
     requires fits { IfSome start (λ s. s + (reach.now.from + reach.now.words) ≤ 2 ^ 24) }
-    ensures painted { (source : ℕ → PixelSource) (sid : ℕ) (others : ℕ → Sight) → ((j : ℕ) → j < long reach.now → source (at + j) ≡ row_source sid reach.now start j)
-        → Repainted source (in_run at (long reach.now)) (length raw.old) (with_glass others sid (G.sight glass.old)) (with_glass others sid (G.sight glass.new)) raw.old raw.new }
+    ensures painted { (source : ℕ → PixelSource) (sid : ℕ) (others : ℕ → Sight)
+        → ((j : ℕ) → j < long reach.now → source (at + j) ≡ row_source sid reach.now start j)
+        → Repainted source (in_run at (long reach.now)) (length raw.old)
+        (with_glass others sid (G.sight glass.old))
+        (with_glass others sid (G.sight glass.new)) raw.old raw.new }
     ensures size { (G.sight glass.new).size ≡ (G.sight glass.old).size }
     ensures rest { G.rest glass.new ≡ G.rest glass.old }
 {

@@ -10,7 +10,7 @@ use Rattle.nit_stack.specs.Sources.{PixelSource, pixel}
 use Rattle.nit_stack.specs.Standing.{Standing}
 use Rattle.nit_paint.specs.Painting.{Repainted}
 use Rattle.nit_paint.specs.Pieces.{has_pixel}
-use Rattle.nit_paint.proofs.Repaints.{repainted_none, repainted_same, repainted_union}
+use Rattle.nit_paint.proofs.ForCallers.{repainted_none, repainted_same, repainted_union}
 use Rattle.nit_damage.specs.Cuts.{Cuts, to_come}
 use Rattle.nit_repaint.specs.Coming.{has_come, is_to_come}
 

@@ -11,7 +11,7 @@ use Rattle.nit_stack.specs.Standing.{IsOnScreen, NoPair, Seat, Standing, is_slot
 use Rattle.nit_damage.specs.Cuts.{Cuts, to_come}
 use Rattle.nit_damage.specs.Sets.{once}
 use Rattle.nit_paint.specs.Copied.{AreSet}
-use Rattle.nit_paint.proofs.Copied.{nothing_set, set_same, set_then}
+use Rattle.nit_paint.proofs.ForCallers.{nothing_set, set_same, set_then}
 use Rattle.nit_repaint.specs.Coming.{has_come, is_to_come}
 use Rattle.nit_repaint.specs.Owned.{owner_passes}
 use Rattle.nit_repaint.specs.Parts.{is_wanted, wanted, wanted_of_first}

@@ -12,7 +12,7 @@ use Rattle.nit_paint.specs.Pieces.{session_shown, words_shown}
 use Rattle.nit_stack.specs.Answers.{session_of, word_count}
 use Rattle.nit_stack.specs.Standing.{IsScreen, Standing, size_of}
 use Rattle.nit_paint.specs.Painting.{Repainted, no_sight, with_glass}
-use Rattle.nit_paint.proofs.Repaints.{repainted_same}
+use Rattle.nit_paint.proofs.ForCallers.{repainted_same}
 use Rattle.nit_repaint.specs.Glasses.{HoldBuffers, glass_in, glasses_of_call}
 use Rattle.nit_rect.specs.declared.point.Point.{Point}
 use Rattle.nit_stack.specs.Sources.{pixel}

@@ -8,3 +8,4 @@ pub mod Moves
 pub mod Wanted
 pub mod Parts
 pub mod Copied
+pub mod ForCallers

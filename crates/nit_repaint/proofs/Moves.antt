@@ -1,12 +1,12 @@
 -- Changes of one view leave the others as they stood.
 use Rattle.std.proofs.Common.{◌≡◌, ℕ, zero, suc, ◌+◌, inl, inr, ◌==◌, not, Bool, true, false, ◌||◌, cond, List, [], ◌∷◌, find, Option, Some, None, refl, ap, sym, ◌∙◌}
 use Rattle.std.specs.List.{list_any, position_or_len, insert}
+use Rattle.std.proofs.lemmas.Option.{same_Some}
 use Rattle.nit_stack.specs.declared.view.View.{View}
 use Rattle.nit_stack.specs.Names.{views_of}
 use Rattle.nit_stack.specs.Orders.{changed, moved, put_above, put_again, without}
 use Rattle.nit_stack.specs.Standing.{IsStanding, Seat, Standing, is_slot, moved_above, on_view, put_own_back, put_own_front, seat_in, seat_layer}
-use Rattle.nit_stack.proofs.Lists.{found_passes}
-use Rattle.nit_stack.proofs.Places.{Put, Put-above, Put-back, Put-front}
+use Rattle.nit_stack.proofs.ForCallers.{found_passes, Put, Put-above, Put-back, Put-front}
 use Rattle.nit_stack.specs.Standing.{place_of}
 use Rattle.nit_repaint.specs.OneView.{IsChange}
 use Rattle.nit_repaint.proofs.Fronts.{without_none}
@@ -67,9 +67,6 @@ module _ {A : Type 0} (is : A → Bool) where
 
 -- ---- stacks
 
-one : {A : Type 0} {x y : A} → Some x ≡ Some y → x ≡ y
-one e = cc
-
 module _ (s : Standing) (k : ℕ) (seat : Seat) (standing : IsStanding s) (there : seat_in k s.views ≡ Some seat) where
   -- it has another rectangle or offset, at its place
   pub changes : (change : View → View) → IsChange k (place_of k s.views) seat.view.rect s (record s { views = changed (is_slot k) (on_view change) s.views })
@@ -90,7 +87,7 @@ module _ (s : Standing) (k : ℕ) (seat : Seat) (standing : IsStanding s) (there
     place = refl;
     bar = refl;
     others = ap views_of (sym (without_moved (is_slot k) put puts s.views));
-    kept = λ x e. inl (ap (λ (a : Seat). a.view.rect) (one (sym e ∙ find_moved (is_slot k) put puts s.views ∙ there)));
+    kept = λ x e. inl (ap (λ (a : Seat). a.view.rect) (same_Some _ _ (sym e ∙ find_moved (is_slot k) put puts s.views ∙ there)));
   }
 
   stays : IsChange k (place_of k s.views) seat.view.rect s s

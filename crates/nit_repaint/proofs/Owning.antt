@@ -8,10 +8,10 @@ use Rattle.nit_stack.specs.declared.view.ViewRef.{ViewRef}
 use Rattle.nit_stack.specs.Orders.{without}
 use Rattle.nit_stack.specs.Sources.{in_bar}
 use Rattle.nit_stack.specs.Standing.{NoPair, Seat, Standing, is_slot, same_slot, seat_in}
-use Rattle.nit_stack.proofs.Lists.{found_fails}
+use Rattle.nit_stack.proofs.ForCallers.{found_fails}
 use Rattle.nit_stack.specs.Standing.{place_of}
 use Rattle.nit_damage.specs.Sets.{covered, is_behind, is_of_moved, seat_covers}
-use Rattle.nit_damage.proofs.Views.{owned_is}
+use Rattle.nit_damage.proofs.ForCallers.{owned_is}
 use Rattle.nit_repaint.specs.OneView.{IsChange, slot_owns_either}
 use Rattle.nit_repaint.specs.Owned.{owner_passes}
 use Rattle.nit_repaint.proofs.Fronts.{covers_more, same_covered, take_front, without_none}

@@ -1,16 +1,16 @@
 -- Where a view shows a part of its session's buffer.
-use Rattle.std.proofs.Common.{◌≡◌, ℕ, ◌+◌, ◌-◌, ◌*◌, ◌/◌, ◌%◌, ◌<◌, ◌≤◌, Bool, true, false, ◌&&◌, nat_le, nat_lt, cond, Some, None, refl, ap, sym, ◌∙◌, arith}
+use Rattle.std.proofs.Common.{◌≡◌, ℕ, ◌+◌, ◌-◌, ◌<◌, ◌≤◌, Bool, true, false, ◌&&◌, nat_le, nat_lt, cond, Some, None, refl, ap, sym, ◌∙◌, arith}
 use Rattle.std.specs.Prelude.{ℤ, pos, negsuc, ◌+ℤ◌, ◌≤ℤ◌, ◌<ℤ◌, int_le}
 use Rattle.std.proofs.lemmas.Bool.Decides.{nat_tests}
 use Rattle.std.proofs.lemmas.Int.{ints}
-use Rattle.std.proofs.lemmas.Nat.{rows}
 use Rattle.nit_rect.specs.declared.point.Point.{Point}
 use Rattle.nit_rect.specs.Rectangle.{Rectangle, covers, rectangle, spans}
 use Rattle.nit_rect.specs.Meeting.{CoversBoth}
-use Rattle.nit_rect.proofs.Spans.{IsSpanned, le_tested, same_tests, spans_holds, spans_tells}
+use Rattle.nit_rect.proofs.ForCallers.{IsSpanned, le_tested, same_tests, spans_holds, spans_tells}
 use Rattle.nit_stack.specs.declared.view.View.{View}
 use Rattle.nit_stack.specs.Sources.{among, buffer_place, index_at, point, shown_index}
 use Rattle.nit_stack.specs.Standing.{IsOnScreen}
+use Rattle.nit_paint.proofs.ForCallers.{row_of, column_of}
 use Rattle.nit_repaint.specs.Parts.{is_index_in}
 
 -- a place of the screen stands for a number of any sign
@@ -77,12 +77,6 @@ passes : (b : Bool) → (b && (true && true)) ≡ b
 passes true = refl
 passes false = refl
 
-row_is : (w y x : ℕ) → x < w → (y * w + x) / w ≡ y
-row_is w y x l = grind (arith, rows)
-
-column_is : (w y x : ℕ) → x < w → (y * w + x) % w ≡ x
-column_is w y x l = grind (arith, rows)
-
 spans_all : (w m : ℕ) → spans (pos 0) w (pos m) ≡ nat_lt m w
 spans_all w m = same_tests _ _
     (λ is. let s : IsSpanned (pos 0) w (pos m) = spans_tells (pos 0) w (pos m) is in let high = s.high in let l : m < w = omega (arith, ints) in grind (arith, nat_tests))
@@ -109,8 +103,8 @@ index_in part w h (pos m) (pos n) =
     go true false e = fails_then (covers part (point m n)) true
     go true true e =
         let l : m < w = grind (arith, nat_tests) in
-        let x = column_is w n m l in
-        let y = row_is w n m l in
+        let x = column_of w n m l in
+        let y = row_of w n m l in
         passes (covers part (point m n)) ∙ (λ i. covers part (point (sym x i) (sym y i)))
 
 -- the pixels of the screen at which a view shows a part

@@ -4,7 +4,7 @@ use Rattle.std.specs.List.{list_any}
 use Rattle.std.specs.Option.{option_map_or}
 use Rattle.std.specs.Prelude.{slice_get}
 use Rattle.std.proofs.lemmas.Bool.{eq-eqb, false≢true, ne_eqb}
-use Rattle.nit_stack.proofs.ViewPlaces.{drop_at}
+use Rattle.nit_stack.proofs.ForCallers.{drop_at, owner_of_views, found_fails, found_passes}
 use Rattle.nit_rect.specs.declared.point.Point.{Point}
 use Rattle.nit_stack.specs.declared.view.View.{View}
 use Rattle.nit_stack.specs.Names.{views_of}
@@ -13,13 +13,11 @@ use Rattle.nit_word.specs.Sight.{Sight, seen}
 use Rattle.nit_repaint.proofs.Glasses.{still_held}
 use Rattle.std.proofs.lemmas.List.{drop_all}
 use Rattle.nit_stack.specs.Sources.{in_bar, pixel, source_under}
-use Rattle.nit_stack.proofs.Owners.{owner_of_views}
 use Rattle.std.specs.Option.{option_map}
 use Rattle.nit_paint.specs.Painting.{Repainted}
 use Rattle.nit_paint.specs.Pieces.{source_at}
-use Rattle.nit_paint.proofs.Repaints.{repainted_same, repainted_union}
+use Rattle.nit_paint.proofs.ForCallers.{repainted_same, repainted_union}
 use Rattle.nit_stack.specs.Standing.{NoPair, Seat, Standing, is_of_session, is_slot, same_slot, seat_in, size_of}
-use Rattle.nit_stack.proofs.Lists.{found_fails, found_passes}
 use Rattle.nit_stack.specs.Standing.{place_of}
 use Rattle.nit_damage.specs.Sets.{seat_covers}
 use Rattle.nit_repaint.specs.OneView.{IsChange, slot_owns_either}

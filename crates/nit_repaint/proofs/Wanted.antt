@@ -10,22 +10,21 @@ use Rattle.nit_word.specs.Sight.{Sight}
 use Rattle.nit_stack.specs.declared.view.ViewRef.{ViewRef}
 use Rattle.nit_stack.specs.declared.view.View.{View}
 use Rattle.nit_stack.specs.Sources.{PixelSource, black_or_word, in_bar, owner_in, pixel, shown_index, source_under}
-use Rattle.nit_stack.proofs.Owners.{owner_of_views}
+use Rattle.nit_stack.proofs.ForCallers.{owner_of_views, place_is}
 use Rattle.std.specs.Option.{option_map}
 use Rattle.nit_stack.specs.Standing.{IsOnScreen, NoPair, Seat, Standing, is_of_session, is_slot, same_slot, seat_in, size_of}
 use Rattle.nit_paint.specs.Painting.{Repainted}
-use Rattle.nit_paint.proofs.Repaints.{repainted_none, repainted_same, repainted_union}
+use Rattle.nit_paint.proofs.ForCallers.{repainted_none, repainted_same, repainted_union}
 use Rattle.nit_damage.specs.Cuts.{Cuts, to_come}
 use Rattle.nit_stack.specs.Standing.{place_of}
 use Rattle.nit_damage.specs.Sets.{covered, is_owned, once, seat_covers}
-use Rattle.nit_damage.proofs.Views.{owned_is}
+use Rattle.nit_damage.proofs.ForCallers.{owned_is}
 use Rattle.nit_repaint.specs.Coming.{is_to_come}
 use Rattle.nit_repaint.specs.Owned.{is_word_in, owner_passes, source_in}
 use Rattle.nit_repaint.specs.Parts.{is_index_in, is_wanted, wanted, wanted_of_first, wants}
 use Rattle.nit_repaint.proofs.Screen.{on_screen}
 use Rattle.nit_repaint.proofs.Owning.{owned_by}
 use Rattle.nit_repaint.proofs.Fronts.{other_slot}
-use Rattle.nit_stack.proofs.ViewPlaces.{place_is}
 
 -- ---- pixels by their numbers
 
@@ -152,9 +151,6 @@ pub seat_not : (s : Standing) (view : View) (x : Seat) (slot sid : ℕ) (part : 
 seat_not s view x slot sid part p same other =
     let no : (x.view.sid == sid) ≡ false = ap (λ (y : Seat). y.view.sid == sid) (sym same) ∙ ne_eqb view.sid sid other in
     ap (λ (b : Bool). owner_passes (is_slot x.slot) s p && (b && wants part (size_of s.sizes sid) x.view p)) no ∙ never (owner_passes (is_slot x.slot) s p)
-
-pub one : {A : Type 0} {x y : A} → Some x ≡ Some y → x ≡ y
-one e = cc
 
 -- ---- the first so many views
 

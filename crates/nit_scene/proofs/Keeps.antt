@@ -4,6 +4,7 @@ use Rattle.std.specs.Prelude.{IsTrue, slice_index, pos}
 use Rattle.std.specs.Option.{is_some, option_map_or}
 use Rattle.std.proofs.lemmas.Int.{ints}
 use Rattle.std.proofs.lemmas.List.Elements.{All-replicate}
+use Rattle.std.proofs.lemmas.Bool.{or_from}
 use Rattle.nit_rect.specs.declared.point.Point.{Point}
 use Rattle.nit_rect.specs.Rectangle.{Rectangle, covers, rectangle}
 use Rattle.nit_word.specs.Inks.{IsWord}
@@ -33,15 +34,14 @@ use Rattle.nit_paint.specs.Copied.{AreSet, IsCopied}
 use Rattle.nit_repaint.specs.Owned.{is_word_in}
 use Rattle.nit_repaint.specs.Parts.{wanted}
 use Rattle.nit_overlay.specs.Looks.{draws_labels}
-use Rattle.nit_overlay.specs.Shown.{Scenery, bar_word, frame, owner_word, shown, view_word}
-use Rattle.nit_overlay.proofs.Frames.{length-frame}
-use Rattle.nit_overlay.proofs.Kept.{flat_same, renewed}
+use Rattle.nit_overlay.specs.Shown.{Scenery, bar_word, frame, owner_word, shown}
+use Rattle.nit_overlay.proofs.ForCallers.{length-frame, flat_same, renewed, flat_shown}
 use Rattle.nit_scene.specs.Dirty.{dirty, dirty_by_call, is_owned, shows_part, view_owns}
 use Rattle.nit_scene.specs.Painted.{Painted, pixel_count}
 use Rattle.nit_scene.specs.Played.{scenery_of}
-use Rattle.nit_damage.proofs.Screen.{rows_hold}
-use Rattle.nit_paint.proofs.Copied.{set_same}
-use Rattle.nit_repaint.proofs.Screen.{on_screen}
+use Rattle.nit_damage.proofs.ForCallers.{rows_hold}
+use Rattle.nit_paint.proofs.ForCallers.{set_same}
+use Rattle.nit_repaint.proofs.ForCallers.{on_screen}
 use Rattle.nit_scene.specs.Attending.{with_delivered, with_routed}
 use Rattle.nit_scene.specs.CallKinds.{IsPartOf, IsQuiet}
 use Rattle.nit_scene.specs.Kept.{CanShow, shown_by}
@@ -73,14 +73,6 @@ bare_source (Word t i) e = cc
 pub owned : (t : State) (p : Point) → is_some (owner (bar_rows t.config) t.stack p) ≡ has_owner (source_of t p)
 owned t p = owned_source (buffer_size t.sessions) p (owner (bar_rows t.config) t.stack p)
 
--- below the bar, mode Flat shows the raw word where there is an owner
-pub flat_shown : (s : Scenery) (p : Point) (w : ℕ) → s.mode ≡ Flat → in_bar s.bar p ≡ false → shown s p w ≡ cond (is_some (owner s.bar s.stack p)) w bare_word
-flat_shown s p w flat below = ap (λ (b : Bool). cond b (bar_word s p) (owner_word s p w (owner s.bar s.stack p))) below ∙ go (owner s.bar s.stack p)
-  where
-    go : (o : Option ViewOf) → owner_word s p w o ≡ cond (is_some o) w bare_word
-    go None = refl
-    go (Some v) = ap (λ (m : Mode). view_word m s v p w) flat
-
 -- ---- no call makes a pixel of the bar dirty
 
 bar_unowned : (test : ViewOf → Bool) (t : State) (p : Point) → in_bar (bar_rows t.config) p ≡ true → is_owned test t p ≡ false
@@ -93,14 +85,11 @@ never : (b : Bool) → (b && false) ≡ false
 never true = refl
 never false = refl
 
-either : (a b : Bool) → a ≡ false → b ≡ false → (a || b) ≡ false
-either a b p q = λ i. p i || q i
-
 pub bar_clean : (s : State) (sid : ℕ) (call : Call) (r : Reply) (p : Point) → in_bar (bar_rows s.config) p ≡ true → dirty s (entry.Call sid call r) (after s (entry.Call sid call r)) p ≡ false
 bar_clean s sid call r p e = ap (λ (b : Bool). is_accepted r && b) (go call) ∙ never (is_accepted r)
   where
     view_clean : (c : Call) (v : ℕ) → (view_owns sid v s p || view_owns sid v (after s (entry.Call sid c r)) p) ≡ false
-    view_clean c v = either _ _ (bar_unowned (is_view sid v) s p e) (bar_unowned (is_view sid v) (after s (entry.Call sid c r)) p e)
+    view_clean c v = or_from _ _ (bar_unowned (is_view sid v) s p e) (bar_unowned (is_view sid v) (after s (entry.Call sid c r)) p e)
 
     go : (c : Call) → dirty_by_call sid c s (after s (entry.Call sid c r)) p ≡ false
     go (Place v x y w h) = view_clean (Place v x y w h) v

@@ -15,25 +15,21 @@ use Rattle.nit_events.specs.declared.entry.Entry.{Entry}
 use Rattle.nit_stack.specs.declared.view.View.{View}
 use Rattle.nit_stack.specs.Labels.{fits, is_owner, is_view}
 use Rattle.nit_stack.specs.Sources.{covering, in_bar, owner, pixel, point}
+use Rattle.nit_stack.proofs.ForCallers.{found_passes}
 use Rattle.nit_config.specs.Configuration.{Configuration}
 use Rattle.nit_journal.specs.Journals.{IsLegal, replay}
 use Rattle.nit_journal.specs.State.{State}
 use Rattle.nit_overlay.specs.Looks.{draws_labels}
 use Rattle.nit_overlay.specs.Shown.{Scenery, bar_word, frame, has_dot, ink_of, is_in_picture, owner_word, place_of, shown, view_text, view_word}
-use Rattle.nit_overlay.proofs.Frames.{get_or-frame}
-use Rattle.nit_place.proofs.Screen.{apart, fits_within, pixel_owned}
+use Rattle.nit_overlay.proofs.ForCallers.{get_or-frame}
+use Rattle.nit_place.proofs.ForCallers.{apart, fits_within, pixel_owned, name_both}
 use Rattle.nit_scene.specs.LabelsShown.{AreLabelsApart, IsLabelShown, ShowsLabels, label_width}
 use Rattle.nit_scene.specs.Named.{HaveOwnNames}
 use Rattle.nit_scene.specs.Played.{IsPlayed, scenery_of}
 use Rattle.nit_scene.specs.Serving.{Serving, state_of}
-use Rattle.nit_scene.proofs.Firsts.{found_passes}
 use Rattle.nit_scene.proofs.Handles.{named_throughout}
 
 -- ---- views by their names
-
--- two views have one name, whichever comes first
-one_name : (v u : View) → is_view v.sid v.handle u ≡ is_view u.sid u.handle v
-one_name v u = grind (arith, nat_tests)
 
 -- what is found is one of the list
 is_among : (v : View) (p : View → Bool) (xs : List View) → is_owner v.sid v.handle (find p xs) ≡ true
@@ -65,7 +61,7 @@ found_itself p (x ∷ xs) own (suc i) d v within at found = go (p x) found (foun
     go : (b : Bool) → is_owner v.sid v.handle (cond b (Some x) (find p xs)) ≡ true
         → (is_owner v.sid v.handle (find p xs) ≡ true → find p xs ≡ Some v) → cond b (Some x) (find p xs) ≡ Some v
     go true h later =
-        let named : is_view x.sid x.handle (slice_index_or xs i d) ≡ true = ap (is_view x.sid x.handle) at ∙ one_name x v ∙ h in
+        let named : is_view x.sid x.handle (slice_index_or xs i d) ≡ true = ap (is_view x.sid x.handle) at ∙ name_both x v ∙ h in
         let some = list_any_at (is_view x.sid x.handle) xs i d (omega arith) named in
         let none = own.0 in
         cc

@@ -15,6 +15,10 @@ pub mod Loads
 pub mod Losing
 pub mod Meant
 mod Changed
+mod StackRoom
+mod SessionViews
+mod SessionEnds
+mod QuietCalls
 pub mod Members
 pub mod Names
 pub mod OneSession

@@ -3,6 +3,7 @@ use Rattle.std.proofs.Common.{◌≡◌, ℕ, Bool, true, false, cond, ◌||◌,
 use Rattle.std.proofs.Math.ListN.{get_or-map}
 use Rattle.std.proofs.lemmas.List.{set-get_or}
 use Rattle.std.specs.Option.{option_map_or}
+use Rattle.std.proofs.lemmas.Option.{same_Some}
 use Rattle.nit_rect.specs.declared.point.Point.{Point}
 use Rattle.nit_rect.specs.Rectangle.{Rectangle, covers, rectangle}
 use Rattle.nit_events.specs.declared.call.Call.{Call}
@@ -14,23 +15,22 @@ use Rattle.nit_stack.specs.Names.{IsNamedBy, MeanSame, is_session, views_of}
 use Rattle.nit_stack.specs.Orders.{without}
 use Rattle.nit_stack.specs.Sources.{in_bar, owner, pixel, source}
 use Rattle.nit_stack.specs.Standing.{is_of_session, is_slot, size_of}
-use Rattle.nit_stack.proofs.Names.{agree_by}
-use Rattle.nit_stack.proofs.OwnersByName.{owner_named, owner_of_session}
+use Rattle.nit_stack.proofs.ForCallers.{agree_by, owner_named, owner_of_session, found_fails}
 use Rattle.nit_config.specs.Configuration.{bar_rows}
 use Rattle.nit_journal.specs.Session.{opened, refusal}
 use Rattle.nit_journal.specs.State.{State, buffer_size, layer, session}
 use Rattle.nit_journal.specs.Views.{is_accepted}
+use Rattle.nit_journal.proofs.ForCallers.{serve_accepted}
 use Rattle.nit_paint.specs.Pieces as pieces
 use Rattle.nit_scene.specs.Dirty.{dirty_by_call, owns_either, session_owns, shows_part, view_owns}
 use Rattle.nit_repaint.specs.Owned.{is_word_in, owner_passes, source_in}
+use Rattle.nit_repaint.proofs.ForCallers.{none_left}
 use Rattle.nit_scene.proofs.Marks.{Mark, OfSession, OfPart, is_meant}
 use Rattle.nit_scene.proofs.Marks.{IsMarkOf, IsMarkOfView}
 use Rattle.nit_scene.specs.Painted.{source_at}
 use Rattle.nit_scene.specs.Serving.{IsServed, IsServing, Serving, size_of_buffer, state_of}
 use Rattle.nit_scene.proofs.Calls.{stack_accepted}
-use Rattle.nit_scene.proofs.Lists.{none_left}
-use Rattle.nit_stack.proofs.Lists.{found_fails}
-use Rattle.nit_scene.proofs.Refused.{accepted_reply, served_accepted}
+use Rattle.nit_scene.proofs.Refused.{accepted_reply}
 
 -- ---- a stack, and the state that it is of
 
@@ -82,9 +82,6 @@ gone_owns sid rows p stack = go (in_bar rows p)
     go true = refl
     go false = found (find (λ v. covers v.rect p) (without (is_session sid) stack)) refl
 
-one : {A : Type 0} {x y : A} → Some x ≡ Some y → x ≡ y
-one e = cc
-
 module _ (before after' : Serving) (hb : IsServing before) (ha : IsServing after') (sid : ℕ) (p : Point) where
   abbrev either : Mark → Bool
   either m = is_meant m before.stack p || is_meant m after'.stack p
@@ -95,13 +92,13 @@ module _ (before after' : Serving) (hb : IsServing before) (ha : IsServing after
       let k = h.0.0 in
       let same_before = view_meant before hb k sid handle (agree_by k sid handle before.stack.views h.2) p in
       let same_after = view_meant after' ha k sid handle (kept k h.2) p in
-      ap either (one h.1) ∙ (λ i. same_before i || same_after i)
+      ap either (same_Some _ _ h.1) ∙ (λ i. same_before i || same_after i)
 
   by_session : (m : Mark) → Some m ≡ Some (OfSession sid) → either m ≡ (session_owns sid (state_of before) p || session_owns sid (state_of after') p)
-  by_session m e = ap either (one e) ∙ (λ i. session_meant before hb sid p i || session_meant after' ha sid p i)
+  by_session m e = ap either (same_Some _ _ e) ∙ (λ i. session_meant before hb sid p i || session_meant after' ha sid p i)
 
   by_part : (part : Rectangle) (m : Mark) → Some m ≡ Some (OfPart sid part) → either m ≡ (shows_part sid part (state_of before) p || shows_part sid part (state_of after') p)
-  by_part part m e = ap either (one e) ∙ (λ i. part_meant before hb sid part p i || part_meant after' ha sid part p i)
+  by_part part m e = ap either (same_Some _ _ e) ∙ (λ i. part_meant before hb sid part p i || part_meant after' ha sid part p i)
 
   -- the pixels of the marks, before or after, are those that the call makes dirty
   pub meant : (call : Call) (r : Reply) (m : Mark) → refusal (session (state_of before) sid) call ≡ None → IsServed sid call r before after' → IsMarkOf before sid call (Some m)
@@ -125,7 +122,7 @@ module _ (before after' : Serving) (hb : IsServing before) (ha : IsServing after
       ∙ ap (λ (stack : List ViewOf). option_map_or (is_session sid) (owner (bar_rows before.config) stack p) false) (stack_accepted (layer before.config) sid (Buffer w h) r (views_of before.stack.views) accepted_)))
   meant (Refresh x y w h) r m none s is =
       let accepted_ = ap is_accepted s.replied ∙ accepted_reply (session (state_of before) sid) (Refresh x y w h) none in
-      let sessions_ = ap (λ a. set before.sessions sid a.session) (served_accepted (session (state_of before) sid) (Refresh x y w h) none) ∙ set-get_or before.sessions sid (opened 0) in
+      let sessions_ = ap (λ a. set before.sessions sid a.session) (serve_accepted (session (state_of before) sid) (Refresh x y w h) none) ∙ set-get_or before.sessions sid (opened 0) in
       let stack_ = stack_accepted (layer before.config) sid (Refresh x y w h) r (views_of before.stack.views) accepted_ in
       let same : state_of after' ≡ state_of before = s.state ∙ (λ i. record { config = before.config; sessions = sessions_ i; stack = stack_ i; input = before.input }) in
       by_part (rectangle x y w h) m is ∙ none_before _ _ (sym (ap (λ (t : State). shows_part sid (rectangle x y w h) t p) same))

@@ -27,14 +27,13 @@ use Rattle.nit_paint.specs.Painting.{IsAmongLoads, IsHeld, Repainted}
 use Rattle.nit_paint.specs.Copied.{IsCopied}
 use Rattle.nit_overlay.specs.Looks.{draws_labels}
 use Rattle.nit_overlay.specs.Shown.{Scenery, bar_word, frame, owner_word, shown}
-use Rattle.nit_overlay.proofs.Frames.{frame_fits, get_or-frame, length-frame}
-use Rattle.nit_overlay.proofs.Kept.{flat_same, renewed}
+use Rattle.nit_overlay.proofs.ForCallers.{frame_fits, get_or-frame, length-frame, flat_same, renewed, flat_shown}
 use Rattle.nit_scene.specs.Kept.{CanShow, raw_in, unbarred}
 use Rattle.nit_scene.specs.Painted.{AreRaw, IsRawOf, Painted, pixel_count, source_at}
 use Rattle.nit_scene.specs.Played.{scenery_of}
 use Rattle.nit_scene.specs.Dirty.{dirty}
 use Rattle.nit_scene.specs.Serving.{IsServed, Serving, state_of}
-use Rattle.nit_scene.proofs.Keeps.{bar_clean, bare_source, flat_shown, has_owner, kept_served, owned, still}
+use Rattle.nit_scene.proofs.Keeps.{bar_clean, bare_source, has_owner, kept_served, owned, still}
 
 -- ---- the raw words of such a list
 

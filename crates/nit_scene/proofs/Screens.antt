@@ -8,21 +8,23 @@ use Rattle.nit_events.specs.declared.call.Call.{Call}
 use Rattle.nit_events.specs.declared.call.Reply.{Reply}
 use Rattle.nit_events.specs.declared.entry.Entry.{Entry}
 use Rattle.nit_events.specs.declared.entry.Entry.TheVariants as entry
+use Rattle.nit_slots.specs.Account.{table_size}
 use Rattle.nit_stack.specs.Answers.{word_count}
 use Rattle.nit_stack.specs.Sources.{pixel}
-use Rattle.nit_config.specs.Configuration.{Configuration}
+use Rattle.nit_config.specs.Configuration.{Configuration, member}
 use Rattle.nit_journal.specs.State.{State, session_in}
 use Rattle.nit_journal.specs.Views.{is_accepted}
 use Rattle.nit_paint.specs.Painting.{Repainted, no_sight}
-use Rattle.nit_paint.proofs.Repaints.{repainted_none, repainted_same}
+use Rattle.nit_paint.proofs.ForCallers.{repainted_none, repainted_same}
 use Rattle.nit_paint.specs.Pieces as pieces
 use Rattle.nit_scene.specs.Dirty.{dirty, dirty_by_call}
 use Rattle.nit_repaint.specs.Glasses.{HoldBuffers, glasses_of_call}
 use Rattle.nit_scene.proofs.Marks.{IsMarkOf}
 use Rattle.nit_scene.specs.Painted.{Painted, glass_in, pixel_count, source_at}
-use Rattle.nit_scene.specs.Serving.{IsServed, IsServing, Serving, size_of_buffer, state_of, table_words}
+use Rattle.nit_scene.specs.Serving.{IsServed, IsServing, Serving, size_of_buffer, state_of}
 use Rattle.nit_scene.specs.Showing.{IsGlassOf}
 use Rattle.nit_scene.proofs.Meant.{size_at, source_of_number, unmeant}
+use Rattle.nit_scene.proofs.Calls.{right_fails}
 
 -- an entry that makes nothing dirty
 pub unpainted : (s : State) (e : Entry) (s' : State) (glasses : ℕ → Sight) (raw : List ℕ) → ((p : Point) → dirty s e s' p ≡ false) → Painted s e s' glasses glasses raw raw
@@ -30,10 +32,6 @@ unpainted s e s' glasses raw clean = repainted_none (source_at s') _ (pixel_coun
 
 pub refused_clean : (s s' : State) (sid : ℕ) (call : Call) (r : Reply) (p : Point) → is_accepted r ≡ false → dirty s (entry.Call sid call r) s' p ≡ false
 refused_clean s s' sid call r p e = ap (λ (b : Bool). b && dirty_by_call sid call s s' p) e
-
-right_fails : (a b : Bool) → b ≡ false → (a && b) ≡ false
-right_fails true b e = e
-right_fails false b e = refl
 
 pub unmarked_clean : (s : Serving) (before after' : State) (sid : ℕ) (call : Call) (r : Reply) (p : Point) → IsMarkOf s sid call None → dirty before (entry.Call sid call r) after' p ≡ false
 unmarked_clean s before after' sid call r p is = right_fails (is_accepted r) _ (unmeant s sid call is before after' p)
@@ -46,7 +44,7 @@ same_config sid call r before after' s = ap (λ (t : State). t.config) s.state
 
 -- each session has a glass with a word for each of its buffer's
 pub holds : (s : Serving) (glasses : ℕ → Sight) (count : ℕ) → IsServing s → count ≡ length s.config.clients
-    → ((t : ℕ) → t < length s.config.clients → (glasses t).size ≡ table_words s.config t) → HoldBuffers s.stack count glasses
+    → ((t : ℕ) → t < length s.config.clients → (glasses t).size ≡ table_size (member s.config t).donation) → HoldBuffers s.stack count glasses
 holds s glasses count h count_ sizes_ = λ t l.
     let sessions_ : t < length s.sessions = subst (λ (n : ℕ). t < n) (ap length h.sizes ∙ length-map s.sessions size_of_buffer) l in
     let clients_ : t < length s.config.clients = subst (λ (n : ℕ). t < n) h.each sessions_ in
@@ -60,13 +58,13 @@ pub held_by_glasses : (before after' : Serving) (sights : List Sight) (count sid
     → HoldBuffers after'.stack count (glasses_of_call sights sid own)
 held_by_glasses before after' sights count sid own h config_ count_ tables own_ =
     holds after' (glasses_of_call sights sid own) count h (count_ ∙ ap (λ (c : Configuration). length c.clients) (sym config_))
-    (λ t l. glass_size t (subst (λ (c : Configuration). t < length c.clients) config_ l) ∙ ap (λ (c : Configuration). table_words c t) (sym config_))
+    (λ t l. glass_size t (subst (λ (c : Configuration). t < length c.clients) config_ l) ∙ ap (λ (c : Configuration). table_size (member c t).donation) (sym config_))
   where
-    glass_size : (t : ℕ) → t < length before.config.clients → (glasses_of_call sights sid own t).size ≡ table_words before.config t
+    glass_size : (t : ℕ) → t < length before.config.clients → (glasses_of_call sights sid own t).size ≡ table_size (member before.config t).donation
     glass_size t l = go (t == sid) refl
       where
-        go : (b : Bool) → (t == sid) ≡ b → (cond b own (slice_index_or sights t no_sight)).size ≡ table_words before.config t
-        go true e = own_.1 ∙ ap (table_words before.config) (sym (eqb-true t sid e))
+        go : (b : Bool) → (t == sid) ≡ b → (cond b own (slice_index_or sights t no_sight)).size ≡ table_size (member before.config t).donation
+        go true e = own_.1 ∙ ap (λ (n : ℕ). table_size (member before.config n).donation) (sym (eqb-true t sid e))
         go false e = (tables t l).1
 
 -- all pixels loaded again are those of the last picture
@@ -83,10 +81,10 @@ pub tables_kept : (before after' : Serving) (sights sights' : List Sight) (sid :
 tables_kept before after' sights sights' sid own own' loads config_ seen_ idle_ tables t l =
     let l' = subst (λ (c : Configuration). t < length c.clients) config_ l in
     let old = tables t l' in
-    let to = ap (λ (c : Configuration). table_words c t) (sym config_) in
+    let to = ap (λ (c : Configuration). table_size (member c t).donation) (sym config_) in
     go (t == sid) refl old.0 (old.1 ∙ to)
   where
-    go : (b : Bool) → (t == sid) ≡ b → (glass_in sights t).owner ≡ t → (glass_in sights t).size ≡ table_words after'.config t → IsGlassOf after' t (glass_in sights' t)
+    go : (b : Bool) → (t == sid) ≡ b → (glass_in sights t).owner ≡ t → (glass_in sights t).size ≡ table_size (member after'.config t).donation → IsGlassOf after' t (glass_in sights' t)
     go true e o z = let is = eqb-true t sid e in let kept = ap (glass_in sights') is ∙ idle_ ∙ sym (ap (glass_in sights) is) in (ap (λ (x : Sight). x.owner) kept ∙ o, ap (λ (x : Sight). x.size) kept ∙ z)
     go false e o z =
         let kept = subst (λ (b : Bool). cond b own' (slice_index_or sights' t no_sight) ≡ seen (cond b own (slice_index_or sights t no_sight)) (loads t)) e (seen_ t) in

@@ -75,7 +75,8 @@ pub fn names_stay_own()
 /// each view for whose label there is a place has its whole label there, and no two labels share a
 /// pixel. Which raw words the frame is made of does not matter.
 pub fn labels_stand()
-    ensures { (config : Configuration) (journal : List Entry) (raw : List ℕ) → IsLegal config journal
+    ensures { (config : Configuration) (journal : List Entry) (raw : List ℕ)
+        → IsLegal config journal
         → ShowsLabels (scenery_of (replay config journal))
         (frame (scenery_of (replay config journal)) raw) }
 {}

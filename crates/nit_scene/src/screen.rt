@@ -37,7 +37,11 @@ impl<G: Glass + Drop> Model for Screen<G> {
 
     ghost Value = { Showing G };
 
-    ghost view = { λ s. record { serving = s.server; raw = raw_of s.pixels; glasses = s.glasses.items } };
+    ghost view = { λ s. record {
+      serving = s.server;
+      raw = raw_of s.pixels;
+      glasses = s.glasses.items;
+    } };
 
     ghost invariant = { λ s. IsScreen s.server (map G.sight s.glasses.items) s.pixels };
 }

@@ -17,7 +17,7 @@ use Rattle.nit_stack.proofs.Seats.{flip}
 use Rattle.nit_stack.proofs.Stacks.{ref_stands}
 use Rattle.std.proofs.lemmas.Option.{same_Some}
 
-map_twice : {A B C : Type 0} (g : B → C) (f : A → B) (o : Option A) → option_map g (option_map f o) ≡ option_map (λ x. g (f x)) o
+pub map_twice : {A B C : Type 0} (g : B → C) (f : A → B) (o : Option A) → option_map g (option_map f o) ≡ option_map (λ x. g (f x)) o
 map_twice g f None = refl
 map_twice g f (Some x) = refl
 

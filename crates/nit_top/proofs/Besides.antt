@@ -14,8 +14,7 @@ use Rattle.nit_config.specs.Configuration.{Configuration, donation_of}
 use Rattle.nit_journal.specs.State.{State, opening}
 use Rattle.nit_journal.specs.Journals.{IsLegal, IsOpen, replay, shots}
 use Rattle.nit_journal.specs.Whole.{Deed, IsWhole, deeds_of}
-use Rattle.nit_journal.proofs.Along.{deeds_of-append}
-use Rattle.nit_journal.proofs.Sessions.{same_throughout}
+use Rattle.nit_journal.proofs.ForCallers.{deeds_of-append, same_throughout}
 use Rattle.nit_plan.specs.Calls.{calls_to_make, deeds_to_do}
 use Rattle.nit_plan.specs.Plans.{table_size}
 use Rattle.nit_plan.specs.Sessions.{plan_in}
@@ -27,20 +26,19 @@ use Rattle.nit_scene.specs.Painted.{source_at, pixel_count}
 use Rattle.nit_scene.specs.Played.{scenery_of}
 use Rattle.nit_store.specs.Shown.{File, Shown}
 use Rattle.nit_store.specs.Puts.{Putting, PutsAll, PutsNext, unrefused}
-use Rattle.nit_store.proofs.Puts.{puts_both}
+use Rattle.nit_store.proofs.ForCallers.{puts_both}
 use Rattle.nit_hall.specs.Lines.{deeds_in}
 use Rattle.nit_hall.specs.Parts.{Parts}
 use Rattle.nit_hall.specs.Passes.{PassModel, UserPassModel, Belongs, UserBelongs, AreDone, IsDoneUser}
 use Rattle.nit_hall.specs.Rooms.{RoomModel}
 use Rattle.nit_hall.specs.Openings.{AreBlank, IsOpening, IsSetting, first_pass, parts_of}
 use Rattle.nit_hall.specs.Endings.{left_word, words_left_in}
-use Rattle.nit_hall.proofs.Lines.{deeds_done}
+use Rattle.nit_hall.proofs.ForCallers.{deeds_done}
 use Rattle.nit_actor.specs.Drawn.{picture_of, word_from, words_of}
 use Rattle.nit_actor.specs.Roles.{Role, UserRole, role_of, user_role_of}
 use Rattle.nit_actor.specs.Pictures.{AreNearShots, IsNearPicture, PutsShotsBehind}
 use Rattle.nit_actor.specs.Shots.{ShotsBehind}
-use Rattle.nit_actor.proofs.Pictures.{files_both, no_files}
-use Rattle.nit_actor.proofs.Roles.{fit_again, fits_belongs, role_at, roles_fit, roles_long}
+use Rattle.nit_actor.proofs.ForCallers.{files_both, no_files, fit_again, fits_belongs, role_at, roles_fit, roles_long}
 use Rattle.nit_top.specs.declared.run.Ran.{Ran}
 use Rattle.nit_top.specs.Setup.{Setup}
 use Rattle.nit_top.specs.Besides.{AreBuffers, AreKeysBlank, IsReady, IsKnownWhole}

@@ -13,8 +13,7 @@ use Rattle.nit_events.specs.declared.entry.Entry.TheVariants as entry
 use Rattle.nit_journal.specs.Journals.{IsLegal, IsOpen, LegalFrom, shots}
 use Rattle.nit_journal.specs.State.{State, after, opening}
 use Rattle.nit_journal.specs.Whole.{Deed, Does, Shoots, calls_of, deeds_of, done, to_do}
-use Rattle.nit_journal.proofs.Growing.{front_open}
-use Rattle.nit_journal.proofs.Sessions.{as_many, as_many_as_clients}
+use Rattle.nit_journal.proofs.ForCallers.{front_open, as_many, as_many_as_clients}
 use Rattle.nit_script.specs.declared.line.Line.{Line}
 use Rattle.nit_script.specs.declared.line.Line.TheVariants as line
 use Rattle.nit_script.specs.declared.line.InputLine.{InputLine}

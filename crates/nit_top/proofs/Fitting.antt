@@ -23,7 +23,7 @@ use Rattle.nit_journal.specs.Session.{Session, opened}
 use Rattle.nit_journal.specs.State.{State, after, clicks_on, input_after_call, opening, route, session}
 use Rattle.nit_journal.specs.Views.{is_accepted}
 use Rattle.nit_journal.specs.Whole.{Deed, Does, Shoots, calls_of, deeds_of, done}
-use Rattle.nit_journal.proofs.Along.{calls_of-append}
+use Rattle.nit_journal.proofs.ForCallers.{calls_of-append}
 use Rattle.nit_script.specs.declared.line.Line.{Line}
 use Rattle.nit_script.specs.declared.line.Line.TheVariants as line
 use Rattle.nit_script.specs.declared.line.InputLine.{InputLine}

@@ -9,7 +9,7 @@ use Rattle.std.proofs.lemmas.Str.{IsUtf8-from_ascii}
 use Rattle.std.specs.Str.{IsAscii, IsUtf8}
 use Rattle.std.specs.Global.{Global}
 use Rattle.std.specs.Option.{is_some}
-use Rattle.nit_store.proofs.Puts.{puts_more}
+use Rattle.nit_store.proofs.ForCallers.{puts_more}
 use Rattle.nit_config.specs.Configuration.{Configuration}
 use Rattle.nit_config.specs.Configured.{IsConfigured}
 use Rattle.nit_events.specs.declared.entry.Entry.{Entry}

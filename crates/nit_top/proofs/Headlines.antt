@@ -21,7 +21,7 @@ use Rattle.nit_config.specs.Configuration.{Configuration, donation_of, member}
 use Rattle.nit_journal.specs.Journals.{IsLegal, replay, shots}
 use Rattle.nit_journal.specs.Projections.{alone_machine, projection}
 use Rattle.nit_journal.specs.Session.{Session}
-use Rattle.nit_journal.proofs.Sessions.{same_throughout}
+use Rattle.nit_journal.proofs.ForCallers.{same_throughout}
 use Rattle.nit_journal.specs.State.{State, after, owner_of, session}
 use Rattle.nit_journal.specs.Views.{is_accepted}
 use Rattle.nit_journal.specs.Whole.{Act, Ends, act_of}
@@ -40,7 +40,7 @@ use Rattle.nit_actor.specs.Drawn.{picture_of, shots_of, words_of}
 use Rattle.nit_actor.specs.Shots.{AreShotsOf, IsDrawnPicture, drawn_by_shot}
 use Rattle.nit_actor.specs.Pictures.{AreNearShots, IsNearPicture}
 use Rattle.nit_hall.specs.Near.{IsNear, IsNearFrame}
-use Rattle.nit_actor.proofs.Pictures.{as_many_files, file_of_a_shot}
+use Rattle.nit_actor.proofs.ForCallers.{as_many_files, file_of_a_shot}
 use Rattle.nit_top.specs.Setup.{Setup}
 use Rattle.nit_top.specs.Outputs.{IsJournal, AreOutputs, ending_of, events_file, events_files, events_name, final_name, final_picture, journal_file, raw_word, tables_left, text_files}
 use Rattle.nit_top.specs.Headline.{AreTexts, IsClickOn, focus_after, ShowsBy, HasPicture, HoldsAtShot, HoldsByWay, HoldsAtEnd}

@@ -5,13 +5,11 @@ use Rattle.std.specs.List.{AllByRecursion}
 use Rattle.std.proofs.lemmas.Bool.{cases_Bool}
 use Rattle.std.proofs.lemmas.Bool.Decides.{nat_tests}
 use Rattle.nit_config.specs.Configuration.{Configuration}
-use Rattle.nit_config.proofs.Exactly.{one_configuration, not_both}
+use Rattle.nit_config.proofs.ForCallers.{one_configuration, not_both}
 use Rattle.nit_script.specs.declared.line.Line.{Line}
 use Rattle.nit_script.specs.Phases.{phases, input_phases}
 use Rattle.nit_script.specs.Spelling.{FitsLine, FitsInputLine, line_spelling, input_spelling}
-use Rattle.nit_script.proofs.LineLaws.{client_reader}
-use Rattle.nit_script.proofs.InputLaws.{input_reader}
-use Rattle.nit_script.proofs.Scripts.{IsReader, same_read, read_and_bad, read_and_long}
+use Rattle.nit_script.proofs.ForCallers.{client_reader, input_reader, IsReader, same_read, read_and_bad, read_and_long}
 use Rattle.nit_store.specs.Shown.{File, bytes_of}
 use Rattle.nit_top.specs.declared.finish.Fault.{Fault}
 use Rattle.nit_top.specs.declared.finish.Fault.TheVariants as fault

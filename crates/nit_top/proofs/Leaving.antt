@@ -15,7 +15,7 @@ use Rattle.nit_plan.specs.Calls.{calls_to_make, deeds_to_do}
 use Rattle.nit_scene.specs.Played.{Played, state_now}
 use Rattle.nit_store.specs.Shown.{File, Shown}
 use Rattle.nit_store.specs.Puts.{Putting, PutsAll, PutsNext, unrefused}
-use Rattle.nit_store.proofs.Puts.{puts_both}
+use Rattle.nit_store.proofs.ForCallers.{puts_both}
 use Rattle.nit_actor.specs.Done.{AreRoundsOf}
 use Rattle.nit_actor.specs.Rounds.{rounds}
 use Rattle.nit_actor.specs.Running.{IsRun}

@@ -8,7 +8,7 @@ use Rattle.std.proofs.lemmas.List.Sums.{count_by-le-length}
 use Rattle.std.specs.List.{AllByRecursion}
 use Rattle.nit_config.specs.Configuration.{Configuration}
 use Rattle.nit_config.specs.Configured.{IsConfigured}
-use Rattle.nit_config.proofs.Within.{still_configured}
+use Rattle.nit_config.proofs.ForCallers.{still_configured}
 use Rattle.nit_script.specs.declared.line.Line.{Line}
 use Rattle.nit_script.specs.declared.line.InputLine.{InputLine}
 use Rattle.nit_script.specs.declared.line.InputLine.TheVariants as input

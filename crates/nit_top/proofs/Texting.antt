@@ -10,7 +10,7 @@ use Rattle.nit_events.specs.declared.entry.Entry.{Entry}
 use Rattle.nit_report.specs.EventsText.{events_text}
 use Rattle.nit_store.specs.Shown.{File}
 use Rattle.nit_store.specs.Puts.{Putting, PutsAll, PutsNext}
-use Rattle.nit_store.proofs.Puts.{puts_more}
+use Rattle.nit_store.proofs.ForCallers.{puts_more}
 use Rattle.nit_top.specs.Outputs.{ending_of, events_file, events_name}
 use Rattle.nit_top.proofs.PerClient.{at_member}
 

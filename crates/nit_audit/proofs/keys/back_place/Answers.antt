@@ -1,6 +1,6 @@
 use Rattle.std.proofs.Common.{◌≡◌, ◌≤◌, ◌-◌, ◌+◌, ℕ, drop, false, get_or, arith, subst, nat_le}
 use Rattle.std.specs.List.{list_any}
-use Rattle.nit_stack.proofs.Places.{back_at, back_none}
+use Rattle.nit_stack.proofs.ForCallers.{back_at, back_none}
 use Rattle.nit_journal.specs.State.{layer}
 use Rattle.nit_audit.specs.Keys.{view_under}
 use Rattle.nit_audit.proofs.keys.back_place.Goals as goal

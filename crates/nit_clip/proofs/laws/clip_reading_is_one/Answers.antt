@@ -1,5 +1,5 @@
 use Rattle.std.proofs.Common.{sym, ◌∙◌}
-use Rattle.nit_script.proofs.Scripts.{same_read}
+use Rattle.nit_script.proofs.ForCallers.{same_read}
 use Rattle.nit_clip.proofs.ClipLineLaws.{clip_reader}
 use Rattle.nit_clip.proofs.laws.clip_reading_is_one.Goals as goal
 

@@ -1,6 +1,6 @@
 use Rattle.std.proofs.Common.{◌∙◌, refl, arith}
 use Rattle.nit_paint.specs.Pieces.{source_at}
-use Rattle.nit_paint.proofs.Repaints.{other_count}
+use Rattle.nit_paint.proofs.ForCallers.{other_count}
 use Rattle.nit_repaint.proofs.Glasses.{still_held}
 use Rattle.nit_repaint.proofs.Wanted.{all_wanted, none_wanted, one_wanted, seat_here, seat_there}
 use Rattle.nit_repaint.proofs.buffers.paint_session.Goals as goal

@@ -1,7 +1,7 @@
 use Rattle.std.proofs.Common.{◌≡◌, false, refl, ap, ◌∙◌, arith}
 use Rattle.std.specs.List.{list_any}
 use Rattle.nit_stack.specs.Standing.{is_slot}
-use Rattle.nit_stack.proofs.Lists.{found_some}
+use Rattle.nit_stack.proofs.ForCallers.{found_some}
 use Rattle.nit_damage.specs.Sets.{once}
 use Rattle.nit_repaint.proofs.Owning.{fallen_owns, gone_owns, moved_owns}
 use Rattle.nit_repaint.proofs.Fronts.{stands_nowhere, stands_there}

@@ -2,7 +2,7 @@ use Rattle.std.proofs.Common.{◌≡◌, ℕ, Some, refl, ap, ◌∙◌}
 use Rattle.std.proofs.lemmas.Bool.{eqb-true}
 use Rattle.nit_stack.specs.Orders.{without}
 use Rattle.nit_stack.specs.Standing.{is_slot, with_offset, with_rect}
-use Rattle.nit_stack.proofs.Lists.{found_passes}
+use Rattle.nit_stack.proofs.ForCallers.{found_passes}
 use Rattle.nit_stack.specs.Standing.{place_of}
 use Rattle.nit_repaint.proofs.Uncovered.{gone_change}
 use Rattle.nit_repaint.proofs.Moves.{changes, moves_above, moves_back, moves_front}

@@ -1,6 +1,6 @@
 use Rattle.std.proofs.Common.{◌∙◌, refl, arith}
 use Rattle.nit_paint.specs.Pieces.{source_at}
-use Rattle.nit_paint.proofs.Repaints.{other_count}
+use Rattle.nit_paint.proofs.ForCallers.{other_count}
 use Rattle.nit_repaint.proofs.Coming.{all_came, none_came, one_came}
 use Rattle.nit_repaint.proofs.Glasses.{screen_of, still_held}
 use Rattle.nit_repaint.proofs.pieces.paint_to_come.Goals as goal

@@ -1,21 +1,22 @@
 use Rattle.std.proofs.Common.{ℕ, ap, sym, ◌∙◌}
 use Rattle.std.specs.Prelude.{◌&&◌}
+use Rattle.std.proofs.lemmas.Option.{same_Some}
 use Rattle.nit_rect.specs.declared.point.Point.{Point}
 use Rattle.nit_stack.specs.Sources.{pixel}
 use Rattle.nit_stack.specs.Standing.{is_slot}
 use Rattle.nit_damage.specs.Sets.{once}
-use Rattle.nit_paint.proofs.Copied.{nothing_set}
+use Rattle.nit_paint.proofs.ForCallers.{nothing_set}
 use Rattle.nit_repaint.specs.Owned.{owner_passes}
 use Rattle.nit_repaint.specs.Parts.{is_wanted}
 use Rattle.nit_repaint.proofs.Copied.{shown_as}
-use Rattle.nit_repaint.proofs.Wanted.{one, seat_not, seat_set}
+use Rattle.nit_repaint.proofs.Wanted.{seat_not, seat_set}
 use Rattle.nit_repaint.proofs.showing.show_seat.Goals as goal
 
 pub returns-then-view-of-clause-shown : goal.returns-then-view-of-clause-shown
 returns-then-view-of-clause-shown c s at =
     let stack = c.args.look.now.stack.now in
     nothing_set (λ (k : ℕ). owner_passes (is_slot s.slot) stack (pixel stack.width k) && is_wanted c.args.of c.args.part.now stack (pixel stack.width k) s) _ _ _
-    (λ k l. seat_not stack c.view-view.result s c.at-v.result.0 c.args.of c.args.part.now (pixel stack.width k) (one (sym (c.view-view.ensures.place c.args.i c.at-v.ensures.place) ∙ at)) c.if-view-of.true)
+    (λ k l. seat_not stack c.view-view.result s c.at-v.result.0 c.args.of c.args.part.now (pixel stack.width k) (same_Some _ _ (sym (c.view-view.ensures.place c.args.i c.at-v.ensures.place) ∙ at)) c.if-view-of.true)
 
 pub returns-clause-shown : goal.returns-clause-shown
 returns-clause-shown c s at =
@@ -23,7 +24,7 @@ returns-clause-shown c s at =
     shown_as stack c.begin_owned.new.self (λ (p : Point). owner_passes (is_slot s.slot) stack p && is_wanted c.args.of c.args.part.now stack p s) _ _ _ _ c.requires.pixels
     (λ p on. c.begin_owned.ensures.to_come p on
     ∙ ap once (seat_set stack c.wanted_rect-rect.result c.at-v.result c.view-view.result s c.args.of c.args.part.now p c.view-view.ensures.standing.slots c.view-view.ensures.value
-    (one (sym (c.view-view.ensures.place c.args.i c.at-v.ensures.place) ∙ at)) c.if-view-of.false (c.wanted_rect-rect.ensures.same p on)))
+    (same_Some _ _ (sym (c.view-view.ensures.place c.args.i c.at-v.ensures.place) ∙ at)) c.if-view-of.false (c.wanted_rect-rect.ensures.same p on)))
     c.show_to_come.ensures.shown
 
 pub returns-clause-count : goal.returns-clause-count

@@ -1,7 +1,7 @@
 use Rattle.std.proofs.Common.{ℕ, List, ◌++◌, [], sym, ap, subst, refl}
 use Rattle.std.specs.Prelude.{codes}
 use Rattle.std.proofs.lemmas.Result.{err_from_is_err_and}
-use Rattle.nit_store.proofs.Saying.{saying-nil}
+use Rattle.nit_store.proofs.ForCallers.{saying-nil}
 use Rattle.nit_top.specs.Lines.{label_text}
 use Rattle.nit_top.specs.Saying.{Says}
 use Rattle.nit_top.specs.Outputs.{events_name}

@@ -3,7 +3,7 @@ use Rattle.std.specs.Prelude.{IsTrue, slice_index}
 use Rattle.nit_events.specs.declared.device.Mode.{Mode}
 use Rattle.nit_stack.specs.Sources.{pixel}
 use Rattle.nit_word.specs.Sight.{Sight}
-use Rattle.nit_paint.proofs.Copied.{nothing_set}
+use Rattle.nit_paint.proofs.ForCallers.{nothing_set}
 use Rattle.nit_overlay.specs.Looks.{draws_labels}
 use Rattle.nit_paint.specs.Painting.{no_sight}
 use Rattle.nit_scene.specs.CallKinds.{IsClean}
@@ -11,7 +11,8 @@ use Rattle.std.proofs.lemmas.Bool.{false≢true}
 use Rattle.nit_scene.specs.Kept.{IsFrameOf, kept_frame, raw_of}
 use Rattle.nit_scene.specs.Serving.{state_of}
 use Rattle.nit_scene.proofs.OneList.{by_mode, raw_long}
-use Rattle.nit_scene.proofs.Changed.{clean_call, clean_painted, same_most}
+use Rattle.nit_scene.proofs.QuietCalls.{clean_call, clean_painted}
+use Rattle.nit_scene.proofs.StackRoom.{same_most}
 use Rattle.nit_scene.proofs.Keeps.{can_still, kept_served}
 use Rattle.nit_scene.proofs.Screens.{same_config}
 use Rattle.nit_scene.proofs.screen.calls.serve_clean.Goals as goal

@@ -5,7 +5,8 @@ use Rattle.nit_overlay.specs.Looks.{draws_labels}
 use Rattle.nit_scene.specs.Kept.{raw_of}
 use Rattle.nit_overlay.specs.Shown.{Scenery, frame}
 use Rattle.nit_scene.specs.Serving.{state_of}
-use Rattle.nit_scene.proofs.Changed.{quiet_painted, same_most}
+use Rattle.nit_scene.proofs.QuietCalls.{quiet_painted}
+use Rattle.nit_scene.proofs.StackRoom.{same_most}
 use Rattle.nit_scene.proofs.Keeps.{can_still, quiet_scenery}
 use Rattle.nit_scene.proofs.Screens.{same_config}
 use Rattle.nit_scene.proofs.screen.calls.serve_quiet.Goals as goal

@@ -5,7 +5,9 @@ use Rattle.nit_paint.specs.Painting.{Repainted}
 use Rattle.nit_paint.specs.Pieces.{source_at}
 use Rattle.nit_repaint.specs.Glasses.{HoldBuffers}
 use Rattle.nit_scene.specs.Painted.{glass_in}
-use Rattle.nit_scene.proofs.Changed.{few_views, handed_on, put_back_whole}
+use Rattle.nit_scene.proofs.StackRoom.{few_views}
+use Rattle.nit_scene.proofs.SessionViews.{handed_on}
+use Rattle.nit_scene.proofs.Lists.{put_back_whole}
 use Rattle.nit_scene.proofs.screen.last.load_whole.Goals as goal
 
 pub paint_whole-requires-clause-room : goal.paint_whole-requires-clause-room

@@ -1,7 +1,7 @@
 use Rattle.std.proofs.Common.{◌≤◌, ap, length, sym, subst, ◌∙◌, arith}
 use Rattle.nit_stack.specs.Names.{views_of}
 use Rattle.nit_stack.specs.Standing.{Standing}
-use Rattle.nit_scene.proofs.Changed.{few_views}
+use Rattle.nit_scene.proofs.StackRoom.{few_views}
 use Rattle.nit_scene.proofs.Keeps.{part_shown}
 use Rattle.nit_scene.proofs.screen.pixels.part_of.Goals as goal
 

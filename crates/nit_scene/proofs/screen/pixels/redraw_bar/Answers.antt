@@ -4,7 +4,7 @@ use Rattle.nit_stack.specs.Sources.{in_bar, pixel}
 use Rattle.nit_overlay.specs.Shown.{shown}
 use Rattle.nit_scene.specs.Played.{scenery_of}
 use Rattle.nit_scene.specs.Serving.{state_of}
-use Rattle.nit_scene.proofs.Changed.{put_back_whole}
+use Rattle.nit_scene.proofs.Lists.{put_back_whole}
 use Rattle.nit_scene.proofs.Keeps.{bar_covered}
 use Rattle.nit_scene.proofs.OneList.{bar_again}
 use Rattle.nit_scene.proofs.screen.pixels.redraw_bar.Goals as goal

@@ -3,7 +3,7 @@ use Rattle.nit_config.specs.Configuration.{Configuration}
 use Rattle.std.specs.Prelude.{IsTrue}
 use Rattle.nit_events.specs.declared.device.Mode.{Mode}
 use Rattle.nit_stack.specs.Sources.{pixel}
-use Rattle.nit_paint.proofs.Repaints.{repainted_words}
+use Rattle.nit_paint.proofs.ForCallers.{repainted_words}
 use Rattle.nit_repaint.specs.Parts.{wanted}
 use Rattle.nit_overlay.specs.Looks.{draws_labels}
 use Rattle.nit_scene.specs.CallKinds.{IsPartOf}
@@ -17,7 +17,8 @@ use Rattle.nit_scene.specs.Played.{scenery_of}
 use Rattle.nit_scene.specs.Serving.{state_of}
 use Rattle.nit_scene.proofs.Keeps.{can_still, kept_part}
 use Rattle.nit_scene.proofs.OneList.{bar_kept, by_mode, entry_painted_in, flat_kept, mode_stays}
-use Rattle.nit_scene.proofs.Changed.{dirty_by_views, few_views, painted_by_views, same_most}
+use Rattle.nit_scene.proofs.SessionViews.{dirty_by_views, painted_by_views}
+use Rattle.nit_scene.proofs.StackRoom.{few_views, same_most}
 use Rattle.nit_scene.proofs.Screens.{held_by_glasses, same_config}
 use Rattle.nit_scene.proofs.screen.sessions.change_buffer.Goals as goal
 

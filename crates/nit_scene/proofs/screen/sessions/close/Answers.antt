@@ -2,8 +2,8 @@ use Rattle.std.proofs.Common.{length, map, refl, sym, ap, subst}
 use Rattle.nit_events.specs.declared.call.Call.TheVariants as call
 use Rattle.nit_events.specs.declared.call.Reply.TheVariants as reply
 use Rattle.nit_scene.specs.Serving.{IsServed, Serving, state_of}
-use Rattle.nit_paint.proofs.Repaints.{repainted_words}
-use Rattle.nit_scene.proofs.Changed.{close_painted}
+use Rattle.nit_paint.proofs.ForCallers.{repainted_words}
+use Rattle.nit_scene.proofs.SessionEnds.{close_painted}
 use Rattle.nit_scene.proofs.Goings.{closed}
 use Rattle.nit_events.specs.declared.entry.Entry.TheVariants as entry
 use Rattle.nit_scene.proofs.Keeps.{can_still}

@@ -1,5 +1,6 @@
 use Rattle.std.proofs.Common.{◌*◌, sym, ◌∙◌, arith}
-use Rattle.nit_scene.proofs.Changed.{ended_painted, ended_server, few_views}
+use Rattle.nit_scene.proofs.SessionEnds.{ended_painted, ended_server}
+use Rattle.nit_scene.proofs.StackRoom.{few_views}
 use Rattle.nit_scene.proofs.screen.sessions.end_session.Goals as goal
 
 pub take_views_away-requires-clause-room : goal.take_views_away-requires-clause-room

@@ -1,10 +1,10 @@
 use Rattle.std.proofs.Common.{◌≡◌, ℕ, ◌<◌, ◌≤◌, length, map, ap, subst, sym, ◌∙◌, arith}
 use Rattle.std.proofs.lemmas.List.{length-map}
-use Rattle.nit_repaint.proofs.Glasses.{held_by_all}
+use Rattle.nit_repaint.proofs.ForCallers.{held_by_all}
 use Rattle.nit_scene.specs.Painted.{glass_in}
-use Rattle.nit_paint.proofs.Repaints.{repainted_words}
+use Rattle.nit_paint.proofs.ForCallers.{repainted_words}
 use Rattle.nit_scene.specs.Serving.{Serving, state_of}
-use Rattle.nit_scene.proofs.Changed.{nobody_ends}
+use Rattle.nit_scene.proofs.SessionEnds.{nobody_ends}
 use Rattle.nit_scene.proofs.Keeps.{can_still}
 use Rattle.nit_scene.proofs.OneList.{bar_is_bare, bar_kept, painted_in}
 use Rattle.nit_scene.proofs.Screens.{holds}

@@ -6,7 +6,8 @@ use Rattle.nit_paint.specs.Painting.{Repainted}
 use Rattle.nit_paint.specs.Pieces.{source_at}
 use Rattle.nit_repaint.specs.Parts.{wanted}
 use Rattle.nit_repaint.specs.Glasses.{glasses_of_call}
-use Rattle.nit_scene.proofs.Changed.{handed_on, put_back_whole}
+use Rattle.nit_scene.proofs.SessionViews.{handed_on}
+use Rattle.nit_scene.proofs.Lists.{put_back_whole}
 use Rattle.nit_scene.proofs.screen.sessions.paint_views.Goals as goal
 
 pub returns-clause-painted : goal.returns-clause-painted

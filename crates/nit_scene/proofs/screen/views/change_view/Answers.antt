@@ -3,7 +3,7 @@ use Rattle.nit_config.specs.Configuration.{Configuration}
 use Rattle.std.specs.Prelude.{IsTrue}
 use Rattle.nit_events.specs.declared.device.Mode.{Mode}
 use Rattle.nit_stack.specs.Sources.{pixel}
-use Rattle.nit_paint.proofs.Repaints.{repainted_words}
+use Rattle.nit_paint.proofs.ForCallers.{repainted_words}
 use Rattle.nit_repaint.specs.OneView.{IsChange, slot_owns_either}
 use Rattle.nit_overlay.specs.Looks.{draws_labels}
 use Rattle.nit_scene.specs.CallKinds.{IsOn}
@@ -14,7 +14,8 @@ use Rattle.nit_scene.specs.Kept.{IsFrameOf}
 use Rattle.nit_scene.specs.Serving.{state_of}
 use Rattle.nit_scene.proofs.Keeps.{can_still}
 use Rattle.nit_scene.proofs.OneList.{bar_kept, by_mode, entry_painted_in, flat_kept}
-use Rattle.nit_scene.proofs.Changed.{change_stood, dirty_by_change, few_views, named_stands, painted_by_change, same_most}
+use Rattle.nit_scene.proofs.Changed.{change_stood, dirty_by_change, named_stands, painted_by_change}
+use Rattle.nit_scene.proofs.StackRoom.{few_views, same_most}
 use Rattle.nit_scene.proofs.Screens.{held_by_glasses, same_config}
 use Rattle.nit_scene.proofs.screen.views.change_view.Goals as goal
 

@@ -3,9 +3,8 @@ use Rattle.nit_stack.specs.Names.{IsNamedBy}
 use Rattle.nit_stack.specs.Sources.{pixel}
 use Rattle.nit_repaint.specs.OneView.{IsChange}
 use Rattle.nit_repaint.specs.Uncovered.{uncovered}
-use Rattle.nit_stack.proofs.ViewPlaces.{place_is}
-use Rattle.nit_repaint.proofs.Uncovered.{gone_change, gone_painted, gone_room, goes, goes_painted, stays, stays_clean}
-use Rattle.nit_repaint.proofs.Wanted.{seat_here}
+use Rattle.nit_stack.proofs.ForCallers.{place_is}
+use Rattle.nit_repaint.proofs.ForCallers.{gone_change, gone_painted, gone_room, goes, goes_painted, stays, stays_clean, seat_here}
 use Rattle.nit_scene.specs.Seating.{without_views}
 use Rattle.nit_scene.proofs.Changed.{gone_by_slot}
 use Rattle.nit_scene.proofs.Goings.{one_less}

@@ -4,9 +4,9 @@ use Rattle.std.specs.List.{list_any}
 use Rattle.std.proofs.lemmas.List.{length-map}
 use Rattle.nit_stack.specs.Sources.{pixel}
 use Rattle.nit_stack.specs.Standing.{Standing, is_of_session}
-use Rattle.nit_paint.proofs.Repaints.{other_count, repainted_none}
+use Rattle.nit_paint.proofs.ForCallers.{other_count, repainted_none}
 use Rattle.nit_repaint.specs.Uncovered.{IsTaken, uncovered}
-use Rattle.nit_repaint.proofs.Uncovered.{all_painted, all_taken, painted_more, stays_clean, taken_held, taken_more, taken_none}
+use Rattle.nit_repaint.proofs.ForCallers.{all_painted, all_taken, painted_more, stays_clean, taken_held, taken_more, taken_none}
 use Rattle.nit_repaint.specs.Glasses.{glasses_of_call}
 use Rattle.nit_scene.proofs.screen.views.take_views_away.Goals as goal
 
