@@ -2,7 +2,7 @@
 use Rattle.std.proofs.Common.{◌≡◌, ◌∙◌, ℕ, ◌+◌, ◌/◌, ◌%◌, ◌<◌, ◌≤◌, ◌||◌, Bool, true, false, cond, List, length, set, Option, Some, None, refl, sym, ap, subst, inl, inr, length-set, get_or-set_same}
 use Rattle.std.specs.Prelude.{slice_index}
 use Rattle.std.specs.List.{slice_get}
-use Rattle.std.proofs.lemmas.Bool.{cases_lt}
+use Rattle.std.proofs.lemmas.Bool.{cases_lt, or_parts}
 use Rattle.std.proofs.lemmas.List.{ext_get_or, get_or_past, set-set}
 use Rattle.std.proofs.lemmas.Option.{same_Some}
 use Rattle.nit_word.specs.Setting.{set_where, with_words}
@@ -26,10 +26,6 @@ use Rattle.nit_actor.proofs.Copies.{with_glass_of}
 use Rattle.nit_actor.proofs.Drawn.{AreLong, StayElsewhere}
 
 -- ---- words
-
-chosen_or : (a b : Bool) → (a || b) ≡ false → (a ≡ false) × (b ≡ false)
-chosen_or true b is = absurd (cc)
-chosen_or false b is = (refl, is)
 
 -- fewer words may differ
 pub but_fewer : (p q : ℕ → Bool) (there own : Sight) → ((n : ℕ) → q n ≡ false → p n ≡ false) → IsButFor p there own → IsButFor q there own
@@ -172,7 +168,7 @@ drawn_but long stay t script donation k l step area p there own own' opens here 
 
     same : (n : ℕ) → (p n || is_word_in step.w area n) ≡ false → slice_index new n ≡ slice_index b.old n
     same n not =
-        let neither = chosen_or (p n) (is_word_in step.w area n) not in
+        let neither = or_parts (p n) (is_word_in step.w area n) not in
         let outside : is_set_by l step (n % step.w) (n / step.w) ≡ false = sym (set (n % step.w) (n / step.w)) ∙ neither.1 in
         stay script donation k n l here (subst (λ (st : Step). is_set_by l st (n % st.w) (n / st.w) ≡ false) is outside)
         ∙ ap (λ (ws : List ℕ). slice_index ws n) before ∙ b.same n neither.0

@@ -1,9 +1,8 @@
 -- One client and a user who does nothing, stepped together.
 use Rattle.std.proofs.Common.{◌≡◌, ◌∙◌, ℕ, zero, suc, ◌+◌, ◌≤◌, Bool, false, cond, List, [], ◌∷◌, ◌++◌, length, drop, map, replicate, Option, Some, refl, sym, ap, ap₂, subst, arith}
 use Rattle.std.specs.Prelude.{slice_get, count_by}
-use Rattle.std.proofs.lemmas.List.{drop_more, length-drop}
+use Rattle.std.proofs.lemmas.List.{length-drop}
 use Rattle.std.proofs.lemmas.List.Sums.{sum_by-cons}
-use Rattle.std.proofs.lemmas.Option.{get_or_from_slice_get, slice_get_within}
 use Rattle.nit_word.specs.Sight.{Sight}
 use Rattle.nit_events.specs.declared.call.Call.{Call}
 use Rattle.nit_events.specs.declared.call.Reply.{Reply}
@@ -18,13 +17,11 @@ use Rattle.nit_plan.specs.Calls.{deeds_from, deeds_to_do}
 use Rattle.nit_plan.specs.Calls.{calls_in}
 use Rattle.nit_hall.specs.Passes.{call_at, PassModel, UserPassModel, Belongs, UserBelongs}
 use Rattle.nit_hall.specs.Rooms.{RoomModel, after_arrival, arrived_one}
+use Rattle.nit_stack.proofs.ForCallers.{drop_at}
 use Rattle.nit_actor.specs.Roles.{Role, role_of}
 use Rattle.nit_actor.specs.InStep.{AreInStep, acts_to_be, idle_user}
 
 -- ---- what is left of a list
-
-rest_line : {X : Type 0} (xs : List X) (k : ℕ) (x : X) → slice_get xs k ≡ Some x → drop k xs ≡ x ∷ drop (k + 1) xs
-rest_line xs k x at = drop_more xs k x (slice_get_within xs k x at) ∙ ap (λ y. y ∷ drop (k + 1) xs) (get_or_from_slice_get xs k x x at)
 
 first_left : {X : Type 0} (k : ℕ) (xs : List X) (x : X) (ys : List X) → drop k xs ≡ x ∷ ys → slice_get xs k ≡ Some x
 first_left zero [] x ys e = absurd (cc)
@@ -35,7 +32,7 @@ first_left (suc k) (y ∷ xs) x ys e = first_left k xs x ys e
 others_left : {X : Type 0} (k : ℕ) (xs : List X) (x : X) (ys : List X) → drop k xs ≡ x ∷ ys → drop (k + 1) xs ≡ ys
 others_left k xs x ys e =
     let at = first_left k xs x ys e in
-    let same : x ∷ drop (k + 1) xs ≡ x ∷ ys = sym (rest_line xs k x at) ∙ e in
+    let same : x ∷ drop (k + 1) xs ≡ x ∷ ys = sym (drop_at xs k x at) ∙ e in
     cc
 
 nothing_left : (ls : List Line) (k : ℕ) → k ≡ length ls → drop k ls ≡ []
@@ -83,7 +80,7 @@ step_on r r' p p' u l seen sight s at other parts phase arrived is =
       phase = s.phase ∙ sym phase;
       user_phase = s.user_phase ∙ sym phase;
       arrived = arrived ∙ s.arrived;
-      idle = s.idle ∙ ap idle_user (rest_line p.script p.next l at) ∙ idle_on l (drop (p.next + 1) p.script) other;
+      idle = s.idle ∙ ap idle_user (drop_at p.script p.next l at) ∙ idle_on l (drop (p.next + 1) p.script) other;
     })
 
 -- ---- the end of a phase
@@ -91,7 +88,7 @@ step_on r r' p p' u l seen sight s at other parts phase arrived is =
 -- the user is at a line that ends a phase too
 pub user_at_phase : (r : RoomModel) (p : PassModel) (u : UserPassModel) → AreInStep r p u → slice_get p.script p.next ≡ Some line.Phase → slice_get u.input u.next ≡ Some input.Phase
 user_at_phase r p u s at =
-    first_left u.next u.input input.Phase (idle_user (drop (p.next + 1) p.script)) (s.idle ∙ ap idle_user (rest_line p.script p.next line.Phase at) ∙ idle_phase (drop (p.next + 1) p.script))
+    first_left u.next u.input input.Phase (idle_user (drop (p.next + 1) p.script)) (s.idle ∙ ap idle_user (drop_at p.script p.next line.Phase at) ∙ idle_phase (drop (p.next + 1) p.script))
 
 one_arrived : (n phase arrived : ℕ) → n ≡ 1 → arrived ≡ 0 → after_arrival n phase arrived ≡ (phase, 1)
 one_arrived n phase arrived one none = ap (λ (x : ℕ). after_arrival x phase arrived) one ∙ ap (λ (x : ℕ). after_arrival 1 phase x) none
@@ -112,7 +109,7 @@ phase_on r p u n m seen known s at =
       phase = ap (λ (x : ℕ). x + 1) s.phase ∙ sym served;
       user_phase = ap (λ (x : ℕ). x + 1) s.user_phase ∙ sym served;
       arrived = ap (λ x. x.1) then;
-      idle = others_left u.next u.input input.Phase (idle_user (drop (p.next + 1) p.script)) (s.idle ∙ ap idle_user (rest_line p.script p.next line.Phase at) ∙ idle_phase (drop (p.next + 1) p.script));
+      idle = others_left u.next u.input input.Phase (idle_user (drop (p.next + 1) p.script)) (s.idle ∙ ap idle_user (drop_at p.script p.next line.Phase at) ∙ idle_phase (drop (p.next + 1) p.script));
     }
 
 pub phase_ended : (r r1 r2 : RoomModel) (p p' : PassModel) (u u' : UserPassModel) (n m : ℕ) (seen known : List Entry) → AreInStep r p u → slice_get p.script p.next ≡ Some line.Phase
@@ -142,14 +139,14 @@ pub call_recorded : (entries now : List Entry) (p p' : PassModel) (c : Call) (r 
 call_recorded entries now p p' c r seen sight at recorded is =
     ap (λ (x : PassModel). acts_to_be now x) is ∙ ap (λ (es : List Entry). map act_of es ++ map (Calls p.sid) (calls_in (drop (p.next + 1) p.script))) recorded
     ∙ acts_behind entries (entry.Call p.sid c r) (map (Calls p.sid) (calls_in (drop (p.next + 1) p.script)))
-    ∙ ap (λ (ls : List Line). map act_of entries ++ map (Calls p.sid) (calls_in ls)) (sym (rest_line p.script p.next (line.Call c) at))
+    ∙ ap (λ (ls : List Line). map act_of entries ++ map (Calls p.sid) (calls_in ls)) (sym (drop_at p.script p.next (line.Call c) at))
 
 -- a line that is no call records nothing
 pub nothing_recorded : (entries now : List Entry) (p p' : PassModel) (l : Line) → slice_get p.script p.next ≡ Some l → ((ls : List Line) → calls_in (l ∷ ls) ≡ calls_in ls)
     → now ≡ entries → role_of p' ≡ role_of p → p'.next ≡ p.next + 1 → acts_to_be now p' ≡ acts_to_be entries p
 nothing_recorded entries now p p' l at none same role next =
     ap (λ (es : List Entry). acts_to_be es p') same ∙ ap₂ (λ (r : Role) (n : ℕ). map act_of entries ++ map (Calls r.sid) (calls_in (drop n r.script))) role next
-    ∙ ap (λ (cs : List Call). map act_of entries ++ map (Calls p.sid) cs) (sym (none (drop (p.next + 1) p.script)) ∙ ap calls_in (sym (rest_line p.script p.next l at)))
+    ∙ ap (λ (cs : List Call). map act_of entries ++ map (Calls p.sid) cs) (sym (none (drop (p.next + 1) p.script)) ∙ ap calls_in (sym (drop_at p.script p.next l at)))
 
 pub all_recorded : (p : PassModel) (entries : List Entry) → p.next ≡ length p.script → acts_to_be entries p ≡ map act_of entries
 all_recorded p entries ended = ap (λ (ls : List Line). map act_of entries ++ map (Calls p.sid) (calls_in ls)) (nothing_left p.script p.next ended) ∙ nothing_behind (map act_of entries)

@@ -17,7 +17,8 @@ use Rattle.nit_hall.specs.Parts.{Parts}
 use Rattle.nit_hall.specs.Told.{Tells, TellsShot}
 use Rattle.nit_journal.proofs.ForCallers.{deeds_of-append}
 use Rattle.nit_hall.proofs.ForCallers.{deeds_line}
-use Rattle.nit_store.specs.Puts.{Putting, PutsAll, PutsNext}
+use Rattle.nit_store.specs.Puts.{Putting, PutsNext}
+use Rattle.nit_store.proofs.ForCallers.{puts_both}
 use Rattle.nit_actor.specs.Running.{shot_name}
 use Rattle.nit_actor.proofs.Shots.{shots_both}
 use Rattle.nit_actor.specs.Shots.{ShotsBehind}
@@ -91,11 +92,6 @@ file_of_a_shot Pic front (entry.Final ∷ es) rest number files are =
 file_of_a_shot Pic front (entry.Shot n ∷ es) rest number files (bytes, others, is, pic, more) =
     let (found, there, allowed) = file_of_a_shot Pic (front ++ entry.Shot n ∷ []) es rest number others more in
     (found, ap (λ (fs : List File). slice_get fs (suc (shots es))) is ∙ there, subst (λ (js : List Entry). Pic js found) (behind front es (entry.Shot n)) allowed)
-
--- pictures are put, and then further ones
-pub puts_both : (files more : List File) (old mid new : Putting) → PutsAll files old mid → PutsAll more mid new → PutsAll (files ++ more) old new
-puts_both [] more old mid new same rest = subst (λ (x : Putting). PutsAll more x new) same rest
-puts_both (f ∷ files) more old mid new (next, first, others) rest = (next, first, puts_both files more next mid new others rest)
 
 -- ---- what the user comes to know
 

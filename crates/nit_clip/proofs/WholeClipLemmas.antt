@@ -7,6 +7,7 @@ use Rattle.nit_events.specs.declared.call.Call.{Call}
 use Rattle.nit_events.specs.declared.entry.Entry.{Entry}
 use Rattle.nit_events.specs.declared.entry.Entry.TheVariants as entry
 use Rattle.nit_journal.specs.Whole.{Deed, calls_of, to_do, next_phase, left, phases_along}
+use Rattle.nit_journal.proofs.ForCallers.{drop_left}
 use Rattle.nit_clip.specs.declared.call.ClipCall.{ClipCall}
 use Rattle.nit_clip.specs.declared.call.ClipEntry.{ClipEntry}
 use Rattle.nit_clip.specs.LegalClips.{before_final}
@@ -50,11 +51,6 @@ placed_more clients user journal scripts (e ∷ clips) c placed here = (placed.0
 
 abbrev Scripts : Type 0
 Scripts = List (List (ℕ × ClipCall))
-
-drop_left : {A : Type 0} (n : ℕ) (xs : List (ℕ × A)) → drop n (left xs) ≡ drop (suc n) xs
-drop_left zero [] = refl
-drop_left (suc n) [] = refl
-drop_left n (x ∷ xs) = refl
 
 left_other : (scripts : Scripts) (s t : ℕ) → s ≢ t → clips_to_do (one_clip_done scripts s) t ≡ clips_to_do scripts t
 left_other scripts s t ne = get_or-set_other scripts s t (left (clips_to_do scripts s)) [] (λ e. ne (sym e))
