@@ -24,7 +24,7 @@ pub not_fault : (f : Fault) (n : ℕ) → fault_code f ≡ n → (n ≡ 5 → �
 not_fault f n e five six = elim (fault_codes f) [ inl x ↦ five (sym e ∙ x) | inr x ↦ six (sym e ∙ x) ]
 
 abbrev pub Known : ℕ → Type 0
-Known n = IsTrue (list_any (λ s. s == n) (0 ∷ 2 ∷ 3 ∷ 4 ∷ 5 ∷ 6 ∷ 7 ∷ []))
+Known n = IsTrue (list_any (λ s. s == n) (0 ∷ 2 ∷ 3 ∷ 4 ∷ 5 ∷ 6 ∷ 7 ∷ 10 ∷ []))
 
 pub known_fault : (f : Fault) → Known (fault_code f)
 known_fault f = elim (fault_codes f) [ inl x ↦ subst Known (sym x) refl | inr x ↦ subst Known (sym x) refl ]
@@ -35,6 +35,7 @@ known_code ends.ReadFault = refl
 known_code (ends.Refused f) = known_fault f
 known_code ends.WriteFault = refl
 known_code ends.NoMemory = refl
+known_code ends.Outside = refl
 known_code ends.Whole = refl
 
 pub early_not : (n m : ℕ) → IsEarly n → (IsEarly m → ⊥) → n ≡ m → ⊥
@@ -57,6 +58,7 @@ reads_by old mid ends.ReadFault h = inl (refl, h.0)
 reads_by old mid (ends.Refused f) h = inr h.0
 reads_by old mid ends.WriteFault h = inr h.0
 reads_by old mid ends.NoMemory h = inr h.0
+reads_by old mid ends.Outside h = inr h.0
 reads_by old mid ends.Whole h = inr h.0
 
 pub read_rose : (old mid : Shown) (e : End) → Counts old mid e → code_of e ≡ 3 → Rose old.read_faults mid.read_faults
@@ -70,6 +72,7 @@ writes_by old mid ends.ReadFault h = inr h.1
 writes_by old mid (ends.Refused f) h = inr h.1
 writes_by old mid ends.WriteFault h = inl (refl, h.1)
 writes_by old mid ends.NoMemory h = inr h.1
+writes_by old mid ends.Outside h = inr h.1
 writes_by old mid ends.Whole h = inr h.1
 
 pub write_rose : (old mid : Shown) (e : End) → Counts old mid e → code_of e ≡ 4 → Rose old.write_faults mid.write_faults
@@ -83,4 +86,5 @@ writes_later old mid ends.Usage h = let same = h.1 in omega arith
 writes_later old mid ends.ReadFault h = let same = h.1 in omega arith
 writes_later old mid (ends.Refused f) h = let same = h.1 in omega arith
 writes_later old mid ends.NoMemory h = let same = h.1 in omega arith
+writes_later old mid ends.Outside h = let same = h.1 in omega arith
 writes_later old mid ends.Whole h = let same = h.1 in omega arith

@@ -283,5 +283,5 @@ module _ (n : ℕ) (old : Shown) where
   -- ---- the whole
 
   pub generated_ends : IsRunnable s → BothLaw → HeadlineLaw → (mid new : Shown) (w : Worked) → PutsAll (generated_files n) (unrefused old) (unrefused mid) → Performed mid (unmade n) new w → Ends (Gen n) old new w
-  generated_ends runnable both headline mid new w made (inl after) = performed_ends (Gen n) old old new s w (asking_none old) (files_are n old.files runnable) (inl (run_too runnable both headline mid new w made after))
+  generated_ends runnable both headline mid new w made (inl after) = performed_ends (Gen n) old old new s w (λ config pictures. refl, λ config. refl) (asking_none old) (files_are n old.files runnable) (inl (run_too runnable both headline mid new w made after))
   generated_ends runnable both headline mid new w made (inr (is, same, empty)) = subst (λ (t : Shown). Ends (Gen n) old t w) (sym same) (made_whole mid w made is empty)

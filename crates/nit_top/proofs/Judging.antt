@@ -1,5 +1,5 @@
 -- Files are judged in one way.
-use Rattle.std.proofs.Common.{◌≡◌, ℕ, true, List, [], ◌∷◌, ◌++◌, Option, Some, None, refl, sym, ap, subst, ◌∙◌, arith, inl, inr, ◌⊎◌}
+use Rattle.std.proofs.Common.{◌≡◌, ℕ, Bool, true, List, [], ◌∷◌, ◌++◌, Option, Some, None, refl, sym, ap, subst, ◌∙◌, arith, inl, inr, ◌⊎◌}
 use Rattle.std.specs.Prelude.{IfSome, IsSomeAnd, ◌==◌}
 use Rattle.std.specs.List.{AllByRecursion}
 use Rattle.std.proofs.lemmas.Bool.{cases_Bool}
@@ -15,9 +15,11 @@ use Rattle.nit_script.proofs.Scripts.{IsReader, same_read, read_and_bad, read_an
 use Rattle.nit_store.specs.Shown.{File, bytes_of}
 use Rattle.nit_top.specs.declared.finish.Fault.{Fault}
 use Rattle.nit_top.specs.declared.finish.Fault.TheVariants as fault
-use Rattle.nit_top.specs.Command.{Command, Still, Run, Gen, NoCommand}
+use Rattle.nit_top.specs.Command.{Command, Still, Run, Gen, Capture, NoCommand}
 use Rattle.nit_top.specs.Setup.{Setup, HaveSamePhases}
-use Rattle.nit_top.specs.Judged.{IsConfig, IsConfigFault, IsScript, IsNoScript, IsFaulty, wrong_phases, wrong_client, wrong_input, IsClientFault, IsInputFault, wanted_by, script_names, SpellScripts, AreScripts, IsFirstFault, IsInputsFault, AreRead, Judged, Refused, IsValid, fault_code, IsRefused}
+use Rattle.nit_top.specs.Judged.{IsConfig, IsConfigFault, IsScript, IsNoScript, IsFaulty, wrong_phases, wrong_client, wrong_input, IsClientFault, IsInputFault, wanted_by, script_names, SpellScripts, AreScripts, IsFirstFault, IsInputsFault, AreRead, Judged, JudgedRun, Refused, Valid, IsValid, fault_code, IsRefused}
+use Rattle.nit_top.specs.Films.{is_outside_of}
+use Rattle.nit_top.specs.Answer.{IsValidSo}
 
 some_none : (f : Fault) → Some f ≡ None → ⊥
 some_none f e = cc
@@ -99,17 +101,22 @@ inputs_fault_not files s name f v r =
 
 -- ---- a command
 
--- files that make a command valid are not refused
-pub valid_not_refused : (c : Command) (files : List File) (s : Setup) (name : List ℕ) (f : Fault) → IsValid c files s → Judged c files (Refused name f) → ⊥
-valid_not_refused (Still width height script) files s name f v r = not_faulty client_reader (wrong_client None) (bytes_of script files) v.0 f v.1.0 v.1.1 r.1
-valid_not_refused (Run beside configuration) files s name f v (inl r) = config_not_both (bytes_of configuration files) s.config f v.0 r.1
-valid_not_refused (Run beside configuration) files s name f v (inr (config, is, r)) =
+-- files that make a run valid are not refused
+run_not_refused : (beside : Bool) (configuration : List ℕ) (files : List File) (s : Setup) (name : List ℕ) (f : Fault) → JudgedRun beside configuration files (Valid s) → JudgedRun beside configuration files (Refused name f) → ⊥
+run_not_refused beside configuration files s name f v (inl r) = config_not_both (bytes_of configuration files) s.config f v.0 r.1
+run_not_refused beside configuration files s name f v (inr (config, is, r)) =
     let same : config ≡ s.config = one_configuration (bytes_of configuration files) config s.config is.1 v.0.1 in
     elim r [
       | inl first ↦ first_fault_not files (script_names s.config) s.scripts name f v.1.scripts (subst (λ (k : Configuration). IsFirstFault files (script_names k) name f) same first)
       | inr inputs ↦ inputs_fault_not files s name f v.1 (subst (λ (k : Configuration). IsInputsFault files k name f) same inputs)
     ]
+
+-- files that make a command valid are not refused
+pub valid_not_refused : (c : Command) (files : List File) (s : Setup) (name : List ℕ) (f : Fault) → IsValid c files s → Judged c files (Refused name f) → ⊥
+valid_not_refused (Still width height script) files s name f v r = not_faulty client_reader (wrong_client None) (bytes_of script files) v.0 f v.1.0 v.1.1 r.1
+valid_not_refused (Run beside configuration) files s name f v r = run_not_refused beside configuration files s name f v r
 valid_not_refused (Gen number) files s name f v r = r
+valid_not_refused (Capture configuration region) files s name f v r = run_not_refused true configuration files s name f v r
 valid_not_refused NoCommand files s name f v r = v
 
 config_code : (bytes : List ℕ) (f : Fault) → IsConfigFault bytes f → fault_code f ≡ 5
@@ -151,14 +158,19 @@ script_code : (files : List File) (config : Configuration) (name : List ℕ) (f 
 script_code files config name f (inl r) = client_code (wanted_by r.scripts) (bytes_of name files) f r.fault
 script_code files config name f (inr r) = input_code (wanted_by r.scripts) (bytes_of name files) f r.fault
 
+-- two refusals of the files of a run have the same status
+run_codes : (beside : Bool) (configuration : List ℕ) (files : List File) (m n : List ℕ) (f g : Fault) → JudgedRun beside configuration files (Refused m f) → JudgedRun beside configuration files (Refused n g) → fault_code f ≡ fault_code g
+run_codes beside configuration files m n f g (inl p) (inl q) = config_code (bytes_of configuration files) f p.1 ∙ sym (config_code (bytes_of configuration files) g q.1)
+run_codes beside configuration files m n f g (inl p) (inr q) = absurd (config_not_both (bytes_of configuration files) q.0 f q.1 p.1)
+run_codes beside configuration files m n f g (inr p) (inl q) = absurd (config_not_both (bytes_of configuration files) p.0 g p.1 q.1)
+run_codes beside configuration files m n f g (inr p) (inr q) = script_code files p.0 m f p.2 ∙ sym (script_code files q.0 n g q.2)
+
 -- two refusals of the same files have the same status
 pub codes_agree : (c : Command) (files : List File) (m n : List ℕ) (f g : Fault) → Judged c files (Refused m f) → Judged c files (Refused n g) → fault_code f ≡ fault_code g
 codes_agree (Still width height script) files m n f g p q = client_code None (bytes_of script files) f p.1 ∙ sym (client_code None (bytes_of script files) g q.1)
-codes_agree (Run beside configuration) files m n f g (inl p) (inl q) = config_code (bytes_of configuration files) f p.1 ∙ sym (config_code (bytes_of configuration files) g q.1)
-codes_agree (Run beside configuration) files m n f g (inl p) (inr q) = absurd (config_not_both (bytes_of configuration files) q.0 f q.1 p.1)
-codes_agree (Run beside configuration) files m n f g (inr p) (inl q) = absurd (config_not_both (bytes_of configuration files) p.0 g p.1 q.1)
-codes_agree (Run beside configuration) files m n f g (inr p) (inr q) = script_code files p.0 m f p.2 ∙ sym (script_code files q.0 n g q.2)
+codes_agree (Run beside configuration) files m n f g p q = run_codes beside configuration files m n f g p q
 codes_agree (Gen number) files m n f g p q = absurd p
+codes_agree (Capture configuration region) files m n f g p q = run_codes true configuration files m n f g p q
 codes_agree NoCommand files m n f g p q = absurd p
 
 -- ---- where the store tells its files
@@ -167,9 +179,9 @@ pub told_valid : (c : Command) (told : Option (List File)) (s : Setup) (status :
 told_valid c None s status v r = r
 told_valid c (Some files) s status v r = valid_not_refused c files s r.0 r.1 v r.2
 
-pub told_refused : (c : Command) (told : Option (List File)) (name : List ℕ) (f : Fault) → IfSome told (λ files. Judged c files (Refused name f)) → IsSomeAnd told (λ files. (s : Setup) × IsValid c files s) → ⊥
-told_refused c None name f r v = v
-told_refused c (Some files) name f r v = valid_not_refused c files v.0 name f v.1 r
+pub told_refused : (c : Command) (told : Option (List File)) (name : List ℕ) (f : Fault) → IfSome told (λ files. Judged c files (Refused name f)) → (outside : Bool) → IsSomeAnd told (IsValidSo c outside) → ⊥
+told_refused c None name f r outside v = v
+told_refused c (Some files) name f r outside v = valid_not_refused c files v.0 name f v.1 r
 
 pub told_codes : (c : Command) (told : Option (List File)) (name : List ℕ) (f : Fault) (status : ℕ) → IfSome told (λ files. Judged c files (Refused name f)) → IsSomeAnd told (λ files. IsRefused status c files) → fault_code f ≡ status
 told_codes c None name f status p r = absurd r
@@ -180,6 +192,24 @@ pub no_refusal : (told : Option (List File)) (status : ℕ) → IsSomeAnd told (
 no_refusal None status r = r
 no_refusal (Some files) status r = r.2
 
-pub no_setup : (told : Option (List File)) → IsSomeAnd told (λ files. (s : Setup) × IsValid NoCommand files s) → ⊥
-no_setup None v = v
-no_setup (Some files) v = v.1
+pub no_setup : (told : Option (List File)) (outside : Bool) → IsSomeAnd told (IsValidSo NoCommand outside) → ⊥
+no_setup None outside v = v
+no_setup (Some files) outside v = v.1
+
+-- ---- where the region lies
+
+-- the same files have the same screen
+same_side : (c : Command) (files : List File) (s t : Setup) → IsValid c files s → IsValid c files t → is_outside_of c s.config ≡ is_outside_of c t.config
+same_side (Still width height script) files s t v w = refl
+same_side (Run beside configuration) files s t v w = refl
+same_side (Gen number) files s t v w = refl
+same_side (Capture configuration region) files s t v w = ap (λ (k : Configuration). is_outside_of (Capture configuration region) k) (one_configuration (bytes_of configuration files) s.config t.config v.0.1 w.0.1)
+same_side NoCommand files s t v w = absurd v
+
+pub told_side : (c : Command) (told : Option (List File)) (s : Setup) (outside : Bool) → IfSome told (λ files. IsValid c files s) → IsSomeAnd told (IsValidSo c outside) → is_outside_of c s.config ≡ outside
+told_side c None s outside v w = absurd w
+told_side c (Some files) s outside v w = same_side c files s w.0 v w.1 ∙ w.2
+
+pub told_outside : (c : Command) (told : Option (List File)) (s : Setup) (outside : Bool) → IfSome told (λ files. IsValid c files s) → is_outside_of c s.config ≡ outside → IfSome told (IsValidSo c outside)
+told_outside c None s outside v is = tt
+told_outside c (Some files) s outside v is = (s, v, is)

@@ -23,3 +23,6 @@ pub mod Texting
 pub mod RoutesFit
 pub mod MachinesFit
 pub mod Fitting
+pub mod FilmPictures
+pub mod FilmFiles
+pub mod CaptureEnds

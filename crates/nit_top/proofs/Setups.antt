@@ -21,8 +21,8 @@ use Rattle.nit_top.specs.declared.finish.Worked.{Worked}
 use Rattle.nit_top.specs.Command.{Command, Still, Run}
 use Rattle.nit_actor.specs.InStep.{idle_user}
 use Rattle.nit_top.specs.Setup.{AreLines, still_setup, HaveSamePhases, IsRunnable}
-use Rattle.nit_top.specs.Judged.{IsConfig, IsConfigFault, IsClient, IsClientFault, IsInput, IsInputFault, SpellScripts, AreScripts, script_names, wanted_by, wrong_phases, wrong_input, Judged, Refused, IsValid, names_in}
-use Rattle.nit_top.specs.FilesRead.{NoFile, FirstFiles, HasRead, first_names}
+use Rattle.nit_top.specs.Judged.{IsConfig, IsConfigFault, IsClient, IsClientFault, IsInput, IsInputFault, SpellScripts, AreScripts, script_names, wanted_by, wrong_phases, wrong_input, Judged, Refused, IsValid, names_in, reads}
+use Rattle.nit_top.specs.FilesRead.{NoFile, FirstFiles, HasRead, AreAllFiles, first_names}
 use Rattle.nit_top.specs.Lines.{name_text}
 use Rattle.nit_top.specs.Work.{asking_all, SoFar, StoppedAt, StoppedAmong, HasReadScripts, ReadScripts, setup_of, Performed, Ends}
 use Rattle.nit_top.proofs.Asking.{asking_none, asking_both, asking_more}
@@ -88,7 +88,7 @@ module _ (width height : ℕ) (script : List ℕ) (old : Shown) where
 
   pub still_ends : (mid new : Shown) (lines : List Line) (w : Worked) → mid ≡ asking old script → IfSome old.files (λ files. IsClient None (bytes_of script files) lines) → IsRunnable (still_setup width height lines) → Performed mid (still_setup width height lines) new w → Ends still old new w
   still_ends mid new lines w asked valid runnable h =
-      performed_ends still old mid new (still_setup width height lines) w asked
+      performed_ends still old mid new (still_setup width height lines) w (λ config pictures. refl, λ config. refl) asked
       (record {
         runnable = runnable;
         of_command = (lines, refl);
@@ -176,20 +176,20 @@ module _ (beside : Bool) (name : List ℕ) (first : Shown) where
           (λ files v q. inr (config, v.0, inr (record { scripts = scripts; valid = v.1; name_is = refl; fault = q }))) (valid_too (script_names config) scripts valid_scripts) p)
           mid stop w (asked_now ∙ ap (λ (ns : List (List ℕ)). asking_all first (name ∷ ns)) (sym all_names)) is h at none
 
-      pub run_ends : (now new : Shown) (lines : List InputLine) (w : Worked) → now ≡ asking mid config.input → IfSome mid.files (λ files. IsInput (wanted_by scripts) (bytes_of config.input files) lines) → IsRunnable (setup_of config scripts lines true beside)
-          → Performed now (setup_of config scripts lines true beside) new w → Ends run first new w
-      run_ends now new lines w read valid runnable h =
-          performed_ends run first now new (setup_of config scripts lines true beside) w
-          (read ∙ ap (λ (s : Shown). asking s config.input) asked_now ∙ asking_more first (name ∷ script_names config) config.input)
-          (record {
-            runnable = runnable;
-            of_command = (refl, refl, refl);
-            valid =
-                told_so_both (λ files. IsConfig (bytes_of name files) config × AreScripts files (script_names config) scripts) (λ files. IsInput (wanted_by scripts) (bytes_of config.input files) lines) (λ files. IsValid run files (setup_of config scripts lines true beside)) first.files
-                (λ files v q. (v.0, record { scripts = v.1; input = q }, refl, refl, refl)) (valid_too (script_names config) scripts valid_scripts)
-                (subst (λ (s : Shown). IfSome s.files (λ files. IsInput (wanted_by scripts) (bytes_of config.input files) lines)) asked_now valid);
-          })
-          h
+      -- all names were asked for
+      all_asked : (now : Shown) → now ≡ asking mid config.input → now ≡ asking_all first (reads run config)
+      all_asked now read = read ∙ ap (λ (s : Shown). asking s config.input) asked_now ∙ asking_more first (name ∷ script_names config) config.input
+
+      -- all files are valid
+      all_files : (lines : List InputLine) → IfSome mid.files (λ files. IsInput (wanted_by scripts) (bytes_of config.input files) lines) → IsRunnable (setup_of config scripts lines true beside) → AreAllFiles run first.files (setup_of config scripts lines true beside)
+      all_files lines valid runnable = record {
+        runnable = runnable;
+        of_command = (refl, refl, refl);
+        valid =
+            told_so_both (λ files. IsConfig (bytes_of name files) config × AreScripts files (script_names config) scripts) (λ files. IsInput (wanted_by scripts) (bytes_of config.input files) lines) (λ files. IsValid run files (setup_of config scripts lines true beside)) first.files
+            (λ files v q. (v.0, record { scripts = v.1; input = q }, refl, refl, refl)) (valid_too (script_names config) scripts valid_scripts)
+            (subst (λ (s : Shown). IfSome s.files (λ files. IsInput (wanted_by scripts) (bytes_of config.input files) lines)) asked_now valid);
+      }
 
 -- ---- all scripts of a configuration
 
@@ -198,6 +198,16 @@ module _ (beside : Bool) (name : List ℕ) (first : Shown) (config : Configurati
   not_read new stop w (inl among) at none = scripts_stopped beside name first config configured is_config old new stop w start among at none
   not_read new stop w (inr s) at none = input_stopped beside name first config configured is_config old s.between start s.scripts s.clients new stop w s.name_is s.stopped at none
 
+  -- what was read, where all is valid
+  pub read_whole : (scripts : List (List Line)) (lines : List InputLine) (now : Shown) → HasReadScripts config old scripts lines now → IsRunnable (setup_of config scripts lines true beside)
+      → (now ≡ asking_all first (reads (Run beside name) config)) × AreAllFiles (Run beside name) first.files (setup_of config scripts lines true beside)
+  read_whole scripts lines now h runnable = (
+    all_asked beside name first config configured is_config old h.between start scripts h.clients now h.asked,
+    all_files beside name first config configured is_config old h.between start scripts h.clients lines h.valid runnable,
+  )
+
   pub all_read : (scripts : List (List Line)) (lines : List InputLine) (now new : Shown) (w : Worked) → HasReadScripts config old scripts lines now → IsRunnable (setup_of config scripts lines true beside)
       → Performed now (setup_of config scripts lines true beside) new w → Ends (Run beside name) first new w
-  all_read scripts lines now new w h runnable performed = run_ends beside name first config configured is_config old h.between start scripts h.clients now new lines w h.asked h.valid runnable performed
+  all_read scripts lines now new w h runnable performed =
+      let all = read_whole scripts lines now h runnable in
+      performed_ends (Run beside name) first now new (setup_of config scripts lines true beside) w (λ k pictures. refl, λ k. refl) all.0 all.1 performed

@@ -1,5 +1,5 @@
 -- What the top call answers, and why.
-use Rattle.std.specs.Prelude.{◌≡◌, ◌⊎◌, ℕ, ◌<◌, ◌≤◌, ◌==◌, IsTrue, List, [], ◌∷◌, ◌++◌, Option, option_map, Result, Ok, Err, IfSome, IsSomeAnd, if◌then◌else◌}
+use Rattle.std.specs.Prelude.{◌≡◌, ◌⊎◌, ℕ, ◌<◌, ◌≤◌, ◌==◌, Bool, true, false, IsTrue, List, [], ◌∷◌, ◌++◌, Option, option_map, Result, Ok, Err, IfSome, IsSomeAnd, if◌then◌else◌}
 use Rattle.std.specs.List.{list_any}
 use Rattle.nit_events.specs.declared.entry.Entry.{Entry}
 use Rattle.nit_store.specs.declared.store.PutError.{PutError}
@@ -10,8 +10,9 @@ use Rattle.nit_top.specs.declared.finish.End.TheVariants as ends
 use Rattle.nit_top.specs.Command.{Gen, NoCommand, Command, command}
 use Rattle.nit_top.specs.Setup.{Setup}
 use Rattle.nit_top.specs.Judged.{Refused, Judged, IsRefused, IsValid, fault_code}
-use Rattle.nit_top.specs.Lines.{usage_line, read_fault_line, write_fault_line, fault_line, generated_line, summary_line, no_memory_line}
-use Rattle.nit_top.specs.Course.{Course, WithRun, IsNotBegun, IsLastRead, IsMadeBefore, IsMadeInPart, IsPutWhole, IsRefusedAt, IsCutShort, totals}
+use Rattle.nit_top.specs.Films.{is_outside_of}
+use Rattle.nit_top.specs.Lines.{usage_line, read_fault_line, write_fault_line, outside_line, fault_line, generated_line, summary_line, no_memory_line}
+use Rattle.nit_top.specs.Course.{Course, WithRun, IsNotBegun, IsOutside, IsLastRead, IsMadeBefore, IsMadeInPart, IsPutWhole, IsRefusedAt, IsCutShort, totals}
 
 -- ---- how the work came to its end
 
@@ -25,6 +26,7 @@ Came course files asked ends.ReadFault line =
 Came {old = old} {c = c} course files asked (ends.Refused f) line =
     (name : List ℕ) × IsLastRead course files asked name
     × IfSome old.files (λ told. Judged c told (Refused name f)) × (line ≡ fault_line name f)
+Came course files asked ends.Outside line = IsOutside course files asked × (line ≡ outside_line)
 Came course files asked ends.WriteFault line =
     (name : List ℕ)
     × (IsMadeBefore course files asked name ⊎ WithRun course (λ run. IsRefusedAt run files asked name))
@@ -55,6 +57,7 @@ code_of ends.ReadFault = 3
 code_of (ends.Refused f) = fault_code f
 code_of ends.WriteFault = 4
 code_of ends.NoMemory = 7
+code_of ends.Outside = 10
 code_of ends.Whole = 0
 
 -- A refusal of the line makes 4 of 0; want of memory makes 7 of any status.
@@ -101,21 +104,26 @@ pub record IsSaid {old : Shown} {c : Command} {journal : List Entry} (course : C
 abbrev pub NoFault : ℕ → ℕ → Type 0
 NoFault before now = Rose before now → ⊥
 
--- the files that the command reads are valid; a generated run reads none
+-- the files are valid, and this is whether the region that the command films does not lie on their screen
+abbrev pub IsValidSo : Command → Bool → List File → Type 0
+IsValidSo c outside files = (s : Setup) × IsValid c files s × (is_outside_of c s.config ≡ outside)
+
+-- the files that the command reads are valid, and a region that it films lies on the screen; a generated run
+-- reads none
 abbrev pub HasValidFiles : Command → Option (List File) → Type 0
 HasValidFiles (Gen number) told = Unit {0}
-HasValidFiles c told = IsSomeAnd told (λ files. (s : Setup) × IsValid c files s)
+HasValidFiles c told = IsSomeAnd told (IsValidSo c false)
 
 -- the status is one of those with which the work ends before a run
 abbrev pub IsEarly : ℕ → Type 0
-IsEarly status = IsTrue (list_any (λ s. s == status) (2 ∷ 3 ∷ 5 ∷ 6 ∷ []))
+IsEarly status = IsTrue (list_any (λ s. s == status) (2 ∷ 3 ∷ 5 ∷ 6 ∷ 10 ∷ []))
 
 pub record Answer (old : Shown) (words : List (List ℕ)) (new : Shown) (status : ℕ)
     (journal : List Entry) : Type 0 where
   -- a run was begun, and this is it; or none was begun, and the journal is empty
   pub course : Course old (command words) journal
   -- there is no other status
-  pub statuses : IsTrue (list_any (λ s. s == status) (0 ∷ 2 ∷ 3 ∷ 4 ∷ 5 ∷ 6 ∷ 7 ∷ []))
+  pub statuses : IsTrue (list_any (λ s. s == status) (0 ∷ 2 ∷ 3 ∷ 4 ∷ 5 ∷ 6 ∷ 7 ∷ 10 ∷ []))
   -- 2 exactly where the words are no command; 7 is free
   pub usage : status ≡ 2 → command words ≡ NoCommand
   pub is_usage : command words ≡ NoCommand → (status ≡ 2) ⊎ (status ≡ 7)
@@ -135,6 +143,10 @@ pub record Answer (old : Shown) (words : List (List ℕ)) (new : Shown) (status 
   pub is_refused : NoFault old.read_faults new.read_faults
       → IsSomeAnd old.files (λ files. IsRefused 6 (command words) files)
       → (status ≡ 6) ⊎ (status ≡ 7)
+  -- 10 exactly where the files are valid and the region that is to be filmed does not lie on the screen
+  pub outside : status ≡ 10 → IfSome old.files (IsValidSo (command words) true)
+  pub is_outside : NoFault old.read_faults new.read_faults
+      → IsSomeAnd old.files (IsValidSo (command words) true) → (status ≡ 10) ⊎ (status ≡ 7)
   -- where the work ends before a run, nothing is put and the journal is empty
   pub nothing_put : IsEarly status → (new.files ≡ old.files) × (journal ≡ [])
   -- there the names that are asked for are those of valid files that were read, and at most the next
@@ -163,7 +175,7 @@ pub record Answer (old : Shown) (words : List (List ℕ)) (new : Shown) (status 
       ⊎ IsCutShort run new.files new.asked))
   -- the line on how the work came to its end is what is said, and the status goes by both
   pub said : IsSaid course new status
-  -- valid files are run to the end, unless the store fails or memory runs out
+  -- valid files, with a region on the screen, are run to the end, unless the store fails or memory runs out
   pub complete : HasValidFiles (command words) old.files
       → NoFault old.read_faults new.read_faults → NoFault old.write_faults new.write_faults
       → (status ≡ 0) ⊎ (status ≡ 7)

@@ -4,6 +4,7 @@ use Rattle.std.specs.List.{range_with_len}
 use Rattle.std.specs.String.{string_bytes}
 use Rattle.std.specs.Str.{bytes_eq}
 use Rattle.std.specs.Fmt.{decimal}
+use Rattle.nit_top.specs.declared.region.Region.{Region}
 
 -- the words as lists of bytes
 abbrev pub texts : {Z : Type 0} → List (String Z) → List (List ℕ)
@@ -11,11 +12,13 @@ texts words = map string_bytes words
 
 -- a picture of one client's script, on a screen of this width and height; or the run of a configuration, with its
 -- clients beside each other on threads of their own, or by turns; or the generated run of this number, with its
--- clients beside each other; or nothing that the program does
+-- clients beside each other; or such a run of a configuration and the film of a region; or nothing that the
+-- program does
 pub data Command : Type 0 where
   Still : (width : ℕ) → (height : ℕ) → (script : List ℕ) → Command
   Run : (beside : Bool) → (configuration : List ℕ) → Command
   Gen : (number : ℕ) → Command
+  Capture : (configuration : List ℕ) → (region : Region) → Command
   NoCommand : Command
 
 -- the command starts threads
@@ -23,11 +26,16 @@ abbrev pub starts_threads : Command → Bool
 starts_threads (Still width height script) = false
 starts_threads (Run beside configuration) = beside
 starts_threads (Gen number) = true
+starts_threads (Capture configuration region) = true
 starts_threads NoCommand = false
 
 -- the number that a word spells in decimal, among so many from the first one on
 unfoldable pub number_among : ℕ → ℕ → List ℕ → Option ℕ
 number_among first count word = find (λ n. bytes_eq (decimal n) word) (range_with_len first count)
+
+-- the number that a word spells in at most nine digits
+abbrev pub natural_of : List ℕ → Option ℕ
+natural_of word = number_among 0 (10 ^ 9) word
 
 -- the number of 1 up to most that a word spells
 abbrev pub size_of : ℕ → List ℕ → Option ℕ
@@ -43,15 +51,37 @@ abbrev pub gen : Option ℕ → Command
 gen (Some number) = Gen number
 gen None = NoCommand
 
+-- the film of a region, where all four numbers are there
+abbrev pub capture : List ℕ → Option ℕ → Option ℕ → Option ℕ → Option ℕ → Command
+capture configuration (Some x) (Some y) (Some w) (Some h) =
+    Capture configuration (record { x = x; y = y; w = w; h = h })
+capture configuration (Some x) (Some y) (Some w) None = NoCommand
+capture configuration (Some x) (Some y) None h = NoCommand
+capture configuration (Some x) None w h = NoCommand
+capture configuration None y w h = NoCommand
+
 -- `turns` or `run`, and the name of a configuration; or `gen`, and a number
 abbrev pub run_of : List ℕ → List ℕ → Command
 run_of verb word =
     if bytes_eq verb (codes "turns") then Run false word
     else (if bytes_eq verb (codes "run") then Run true word
-    else (if bytes_eq verb (codes "gen") then gen (number_among 0 (10 ^ 9) word) else NoCommand))
+    else (if bytes_eq verb (codes "gen") then gen (natural_of word) else NoCommand))
 
--- one of those; or `still`, a width of 1 up to 1024, a height of 1 up to 768, and the name of a script
+-- `still`, a width of 1 up to 1024, a height of 1 up to 768, and the name of a script
+abbrev pub still_of : List ℕ → List ℕ → List ℕ → List ℕ → Command
+still_of verb width height script =
+    if bytes_eq verb (codes "still") then still (size_of 1024 width) (size_of 768 height) script else NoCommand
+
+-- `capture`, the name of a configuration, and the four numbers of a region
+abbrev pub capture_of : List ℕ → List ℕ → List ℕ → List ℕ → List ℕ → List ℕ → Command
+capture_of verb configuration x y w h =
+    if bytes_eq verb (codes "capture")
+    then capture configuration (natural_of x) (natural_of y) (natural_of w) (natural_of h)
+    else NoCommand
+
+-- what all words ask for
 abbrev pub command : List (List ℕ) → Command
 command (verb ∷ word ∷ []) = run_of verb word
-command (verb ∷ width ∷ height ∷ script ∷ []) = if bytes_eq verb (codes "still") then still (size_of 1024 width) (size_of 768 height) script else NoCommand
+command (verb ∷ width ∷ height ∷ script ∷ []) = still_of verb width height script
+command (verb ∷ configuration ∷ x ∷ y ∷ w ∷ h ∷ []) = capture_of verb configuration x y w h
 command words = NoCommand

@@ -1,5 +1,5 @@
 -- How far a command came: the files that it read, the run, and the files that were put.
-use Rattle.std.specs.Prelude.{◌≡◌, ◌⊎◌, ℕ, ◌+◌, List, [], ◌∷◌, ◌++◌, length, map, Option, Some, None, option_map}
+use Rattle.std.specs.Prelude.{◌≡◌, ◌⊎◌, ℕ, ◌+◌, true, false, List, [], ◌∷◌, ◌++◌, length, map, Option, Some, None, option_map}
 use Rattle.nit_events.specs.declared.entry.Entry.{Entry}
 use Rattle.nit_journal.specs.Journals.{shots}
 use Rattle.nit_store.specs.Shown.{Shown, File, IsPut}
@@ -8,6 +8,7 @@ use Rattle.nit_top.specs.Setup.{Setup, generated_files}
 use Rattle.nit_top.specs.Judged.{reads}
 use Rattle.nit_top.specs.FilesRead.{FilesRead, HasRead, AreAllFiles, names_read, next_name}
 use Rattle.nit_top.specs.Outputs.{AreOutputs}
+use Rattle.nit_top.specs.Films.{added_by, is_outside_of, pictures_in}
 use Rattle.nit_top.specs.Headline.{Headline}
 use Rattle.nit_top.specs.Lines.{Totals}
 
@@ -32,13 +33,17 @@ asked_also asked names = option_map (λ before. before ++ names) asked
 
 -- ---- the run
 
--- The run of a command was begun: this is what was run, and these are the files that it is to put.
+-- The run of a command was begun: this is what was run, and these are its own files. All that it is to put
+-- are these, and behind them what the command adds. A region that it films lies on the screen.
 pub record IsRun (old : Shown) (c : Command) (journal : List Entry) : Type 0 where
   pub setup : Setup
   pub files_are : AreAllFiles c old.files setup
+  pub inside : is_outside_of c setup.config ≡ false
   pub outputs : List File
   pub are : AreOutputs setup journal outputs
   pub headline : Headline setup journal outputs
+  pub puts : List File
+  pub puts_are : puts ≡ outputs ++ added_by c setup.config (pictures_in are)
 
 -- A run was begun, and this is it; or none was begun, and the journal is empty.
 pub data Course (old : Shown) (c : Command) (journal : List Entry) : Type 0 where
@@ -90,6 +95,17 @@ pub record IsLastRead {old : Shown} {c : Command} {journal : List Entry} (course
   pub next : next_name c read ≡ Some name
   pub asks : asked ≡ asked_also old.asked (names_read c read ++ name ∷ [])
 
+-- No run was begun, and no file was put. All files were read and are valid, and the region that the command
+-- films does not lie on the screen of their configuration.
+pub record IsOutside {old : Shown} {c : Command} {journal : List Entry} (course : Course old c journal)
+    (files : Option (List File)) (asked : Option (List (List ℕ))) : Type 0 where
+  pub none : WithoutRun course
+  pub same : files ≡ old.files
+  pub setup : Setup
+  pub valid : AreAllFiles c old.files setup
+  pub outside : is_outside_of c setup.config ≡ true
+  pub asks : asked ≡ asked_also old.asked (reads c setup.config)
+
 -- ---- the files that are made before a run
 
 -- the files that a command makes, and puts before its run
@@ -133,8 +149,8 @@ asked_in {old = old} {c = c} run names = asked_also old.asked (reads c run.setup
 -- All that the run puts was put, and nothing else.
 pub record IsPutWhole {old : Shown} {c : Command} {journal : List Entry} (run : IsRun old c journal)
     (files : Option (List File)) (asked : Option (List (List ℕ))) : Type 0 where
-  pub put : PutFiles run.outputs old.files files
-  pub asks : asked ≡ asked_in run (names_of run.outputs)
+  pub put : PutFiles run.puts old.files files
+  pub asks : asked ≡ asked_in run (names_of run.puts)
 
 -- The files before one of those that the run puts were put, and nothing else. These names were asked
 -- for behind theirs.
@@ -144,7 +160,7 @@ pub record IsPutBefore {old : Shown} {c : Command} {journal : List Entry} (run :
   pub front : List File
   pub bytes : List ℕ
   pub back : List File
-  pub parts : run.outputs ≡ front ++ (name, bytes) ∷ back
+  pub parts : run.puts ≡ front ++ (name, bytes) ∷ back
   pub put : PutFiles front old.files files
   pub asks : asked ≡ asked_in run (names_of front ++ more)
 

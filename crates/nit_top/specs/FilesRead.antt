@@ -6,7 +6,7 @@ use Rattle.nit_config.specs.Configured.{IsConfigured}
 use Rattle.nit_script.specs.declared.line.Line.{Line}
 use Rattle.nit_script.specs.Spelling.{FitsLine}
 use Rattle.nit_store.specs.Shown.{File, bytes_of}
-use Rattle.nit_top.specs.Command.{Command, Still, Run, Gen, NoCommand}
+use Rattle.nit_top.specs.Command.{Command, Still, Run, Gen, Capture, NoCommand}
 use Rattle.nit_top.specs.Setup.{Setup, AreLines, HaveSamePhases, IsRunnable, generated_setup, still_setup}
 use Rattle.nit_top.specs.Judged.{IsConfig, AreScripts, IsValid, names_in, reads, script_names}
 
@@ -28,6 +28,8 @@ names_read (Still width height script) (FirstFiles config scripts) = []
 names_read (Run beside configuration) (FirstFiles config scripts) =
     configuration ∷ first_names config scripts
 names_read (Gen number) (FirstFiles config scripts) = []
+names_read (Capture configuration region) (FirstFiles config scripts) =
+    configuration ∷ first_names config scripts
 names_read NoCommand (FirstFiles config scripts) = []
 names_read c (AllFiles s) = reads c s.config
 
@@ -36,6 +38,7 @@ abbrev pub next_name : Command → FilesRead → Option (List ℕ)
 next_name (Still width height script) NoFile = Some script
 next_name (Run beside configuration) NoFile = Some configuration
 next_name (Gen number) NoFile = None
+next_name (Capture configuration region) NoFile = Some configuration
 next_name NoCommand NoFile = None
 next_name c (FirstFiles config scripts) = slice_get (names_in config) (length scripts)
 next_name c (AllFiles s) = None
@@ -55,11 +58,12 @@ pub record AreFirstFiles (configuration : List ℕ) (told : Option (List File)) 
 
 -- for `still` the setup is that of a picture of this size, whatever the script; for `turns` and `run`
 -- it has texts, makes no file, and its clients are beside each other for `run` alone; for `gen` it is that of
--- the number
+-- the number; for `capture` it is as for `run`
 abbrev pub IsSetupOf : Command → Setup → Type 0
 IsSetupOf (Still width height script) s = (lines : List Line) × (s ≡ still_setup width height lines)
 IsSetupOf (Run beside configuration) s = (s.texts ≡ true) × (s.beside ≡ beside) × (s.made ≡ [])
 IsSetupOf (Gen number) s = s ≡ generated_setup number
+IsSetupOf (Capture configuration region) s = (s.texts ≡ true) × (s.beside ≡ true) × (s.made ≡ [])
 IsSetupOf NoCommand s = ⊥
 
 -- The setup can be run, and is one of the command. Where the store tells its files, it is what these
@@ -76,5 +80,7 @@ HasRead (Still width height script) told (FirstFiles config scripts) = ⊥
 HasRead (Run beside configuration) told (FirstFiles config scripts) =
     AreFirstFiles configuration told config scripts
 HasRead (Gen number) told (FirstFiles config scripts) = ⊥
+HasRead (Capture configuration region) told (FirstFiles config scripts) =
+    AreFirstFiles configuration told config scripts
 HasRead NoCommand told (FirstFiles config scripts) = ⊥
 HasRead c told (AllFiles s) = AreAllFiles c told s

@@ -1,6 +1,6 @@
 -- What the files make of the command that names them. They are judged one by one, in the order in which they are
 -- read.
-use Rattle.std.specs.Prelude.{◌≡◌, ◌⊎◌, ℕ, ◌<◌, ◌≤◌, ◌==◌, true, List, [], ◌∷◌, ◌++◌, length, map, Option, Some, None, if◌then◌else◌}
+use Rattle.std.specs.Prelude.{◌≡◌, ◌⊎◌, ℕ, ◌<◌, ◌≤◌, ◌==◌, Bool, true, List, [], ◌∷◌, ◌++◌, length, map, Option, Some, None, if◌then◌else◌}
 use Rattle.std.specs.List.{AllZip}
 use Rattle.nit_config.specs.Configuration.{Configuration}
 use Rattle.nit_config.specs.Reading.{Conf, IsRefused as IsRefusedConfig}
@@ -12,7 +12,7 @@ use Rattle.nit_script.specs.Phases.{phases, input_phases}
 use Rattle.nit_store.specs.Shown.{File, bytes_of}
 use Rattle.nit_top.specs.declared.finish.Fault.{Fault}
 use Rattle.nit_top.specs.declared.finish.Fault.TheVariants as fault
-use Rattle.nit_top.specs.Command.{Command, Still, Run, Gen, NoCommand}
+use Rattle.nit_top.specs.Command.{Command, Still, Run, Gen, Capture, NoCommand}
 use Rattle.nit_top.specs.Setup.{Setup, generated_setup, still_setup, HaveSamePhases}
 
 -- ---- a configuration
@@ -116,17 +116,22 @@ pub data Judgement : Type 0 where
   Valid : Setup → Judgement
   Refused : List ℕ → Fault → Judgement
 
+-- the judgement of the files of a configuration that is to be run, with its clients beside each other or not
+abbrev pub JudgedRun : Bool → List ℕ → List File → Judgement → Type 0
+JudgedRun beside configuration files (Valid s) =
+    IsConfig (bytes_of configuration files) s.config × AreRead files s × (s.texts ≡ true) × (s.beside ≡ beside) × (s.made ≡ [])
+JudgedRun beside configuration files (Refused name f) =
+    ((name ≡ configuration) × IsConfigFault (bytes_of configuration files) f)
+    ⊎ ((config : Configuration) × IsConfig (bytes_of configuration files) config × (IsFirstFault files (script_names config) name f ⊎ IsInputsFault files config name f))
+
 -- the judgement of a command over the files that it names
 abbrev pub Judged : Command → List File → Judgement → Type 0
 Judged (Still width height script) files (Valid s) = (lines : List Line) × IsClient None (bytes_of script files) lines × (s ≡ still_setup width height lines)
 Judged (Still width height script) files (Refused name f) = (name ≡ script) × IsClientFault None (bytes_of script files) f
-Judged (Run beside configuration) files (Valid s) =
-    IsConfig (bytes_of configuration files) s.config × AreRead files s × (s.texts ≡ true) × (s.beside ≡ beside) × (s.made ≡ [])
-Judged (Run beside configuration) files (Refused name f) =
-    ((name ≡ configuration) × IsConfigFault (bytes_of configuration files) f)
-    ⊎ ((config : Configuration) × IsConfig (bytes_of configuration files) config × (IsFirstFault files (script_names config) name f ⊎ IsInputsFault files config name f))
+Judged (Run beside configuration) files j = JudgedRun beside configuration files j
 Judged (Gen number) files (Valid s) = s ≡ generated_setup number
 Judged (Gen number) files (Refused name f) = ⊥
+Judged (Capture configuration region) files j = JudgedRun true configuration files j
 Judged NoCommand files j = ⊥
 
 abbrev pub IsValid : Command → List File → Setup → Type 0
@@ -155,4 +160,5 @@ abbrev pub reads : Command → Configuration → List (List ℕ)
 reads (Still width height script) config = script ∷ []
 reads (Run beside configuration) config = configuration ∷ names_in config
 reads (Gen number) config = []
+reads (Capture configuration region) config = configuration ∷ names_in config
 reads NoCommand config = []

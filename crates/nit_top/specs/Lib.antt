@@ -23,11 +23,16 @@ pub use Rattle.nit_actor.specs.Drawn
 pub use Rattle.nit_actor.specs.Shots
 pub use Rattle.nit_actor.specs.Pictures
 pub use Rattle.nit_hall.specs.Near
+pub use Rattle.nit_capture.specs.Film
+pub use Rattle.nit_capture.specs.Cut
+pub mod Regions
 pub mod Command
 pub mod Asked
 pub mod Setup
 pub mod Judged
 pub mod Outputs
+pub mod Films
+pub mod Filming
 pub mod Opened
 pub mod Besides
 pub mod Lines
@@ -37,4 +42,5 @@ pub mod FilesRead
 pub mod Course
 pub mod Answer
 pub mod Work
+pub mod Filmed
 pub mod Ended

@@ -6,6 +6,7 @@
 //! | `turns CONFIG` | the run of a configuration's clients and its input script, all by turns |
 //! | `run CONFIG` | the same, with each client on a thread of its own |
 //! | `gen N` | the files of the generated run of number N are put, and then run as `run` does |
+//! | `capture CONFIG X Y W H` | the same as `run`, and the film of a region of the screen is put last |
 //!
 //! In each case the work is: read the files and judge them one by one; take all memory of the run; run,
 //! and put the files; say how it went. What a run is made of, its configuration and its scripts, is called
@@ -21,7 +22,11 @@
 
 mod alone;
 mod beside;
+mod capture;
 mod desk;
+mod film;
+mod film_store;
+mod filmed;
 mod finish;
 mod generated;
 mod last;
@@ -30,6 +35,7 @@ mod load;
 mod memory;
 mod opening;
 mod perform;
+mod region;
 mod run;
 mod say;
 mod texts;

@@ -124,7 +124,7 @@ pub struct Scripts {
 }
 
 /// Reads the scripts of a configuration, and judges each as it is read.
-fn read_scripts<'a, S: Store>(
+pub fn read_scripts<'a, S: Store>(
     alloc: Global,
     store: &mut S,
     config: &'a Config,
@@ -207,7 +207,7 @@ pub fn perform_beside<'a, R: Threads + Wait + Sync, S: Store, G: Gate>(
 }
 
 /// What the work leaves after a run of so many clients.
-fn worked_by<'a>(ran: Ran, clients: usize) -> Worked<'a>
+pub fn worked_by<'a>(ran: Ran, clients: usize) -> Worked<'a>
     ensures end { result.stop.end ≡ end_of ran.fault }
     ensures name { IfSome ran.fault (λ f. result.stop.name ≡ Name.Put f.file) }
     ensures journal { result.journal.items ≡ ran.journal.items }

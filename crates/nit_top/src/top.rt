@@ -1,15 +1,18 @@
 //! The top call.
 
 ghost use Rattle.std.specs.Prelude.{false, true, ◌≡◌, ◌^◌, ◌<◌};
-ghost use Rattle.nit_top.specs.Command.{Gen, Run, command, starts_threads, texts};
+ghost use Rattle.nit_top.specs.Command.{Capture, Gen, Run, command, starts_threads, texts};
 ghost use Rattle.nit_top.specs.Answer.{Answer};
 ghost use Rattle.nit_top.specs.Ended.{Ended, Finished};
+ghost use Rattle.nit_top.specs.Regions.{IsShort};
 
+use crate::capture::capture;
 use crate::finish::{Done, End, Worked, at, status, unbegun};
 use crate::generated::generated;
 use crate::laws::generated_runs_count;
 use crate::load::load_config;
 use crate::perform;
+use crate::region::Region;
 use crate::say::tell;
 use crate::words::{Asked, parse_words};
 use nit_actor::Gate;
@@ -34,6 +37,7 @@ pub fn nitpicker<R: Threads + Wait + Sync, S: Store, G: Gate>(
     match parse_words(words) {
         Some(Asked::Run { config }) => beside(rt, alloc, store, config, gate),
         Some(Asked::Gen { number }) => made(rt, alloc, store, number, gate),
+        Some(Asked::Capture { config, region }) => filmed(rt, alloc, store, config, region, gate),
         _ => nitpicker_alone(alloc, words, store),
     }
 }
@@ -47,13 +51,13 @@ pub fn nitpicker_alone<S: Store>(alloc: Global, words: &[String], store: &mut S)
     work(alloc, words, store)
 }
 
-/// Whether the words ask for a command that starts threads, which is `run` or `gen`.
+/// Whether the words ask for a command that starts threads, which is `run`, `gen` or `capture`.
 pub fn starts_threads(words: &[String]) -> bool
     ensures { result ≡ starts_threads (command (texts words.now)) }
 {
     matches!(
         parse_words(words),
-        Some(Asked::Run { .. } | Asked::Gen { .. })
+        Some(Asked::Run { .. } | Asked::Gen { .. } | Asked::Capture { .. })
     )
 }
 
@@ -75,7 +79,7 @@ fn work<S: Store>(alloc: Global, words: &[String], store: &mut S) -> Done
             finish(store, worked)
         }
         Some(Asked::Turns { config }) => turns(alloc, store, config),
-        Some(Asked::Run { .. } | Asked::Gen { .. }) => unreachable!(),
+        Some(Asked::Run { .. } | Asked::Gen { .. } | Asked::Capture { .. }) => unreachable!(),
     }
 }
 
@@ -121,6 +125,26 @@ fn made<R: Threads + Wait + Sync, S: Store, G: Gate>(
     ensures { Ended (S.shown store.old) (Gen number) (S.shown store.new) result.status result.journal.items }
 {
     let worked = generated(rt, alloc, store, number, gate);
+    finish(store, worked)
+}
+
+/// Runs the configuration of this name with each client on a thread of its own, and films the region.
+fn filmed<R: Threads + Wait + Sync, S: Store, G: Gate>(
+    rt: &R,
+    alloc: Global,
+    store: &mut S,
+    name: &str,
+    region: Region,
+    gate: &G,
+) -> Done
+    requires { IsShort region }
+    ensures { Ended (S.shown store.old) (Capture name.now region) (S.shown store.new) result.status result.journal.items }
+{
+    let config = match load_config(alloc, store, name) {
+        Ok(config) => config,
+        Err(stop) => return finish(store, unbegun(alloc, stop)),
+    };
+    let worked = capture(rt, alloc, store, &config, region, gate);
     finish(store, worked)
 }
 

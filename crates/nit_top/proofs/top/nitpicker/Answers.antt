@@ -13,3 +13,8 @@ pub returns-in-Some-Gen : goal.returns-in-Some-Gen
 returns-in-Some-Gen g c =
     let asked = rw c.in-Some-Gen.field-0-is at c.in-Some-Gen.ensures.some in
     causes c.generated_runs_count.ensures _ _ _ _ _ (subst (λ (k : Command). Ended (g.S.Store.shown c.args.store.now) k (g.S.Store.shown c.made.new.store) c.made.result.status c.made.result.journal.items) (sym asked) c.made.ensures)
+
+pub returns-in-Some-Capture : goal.returns-in-Some-Capture
+returns-in-Some-Capture g c =
+    let asked = rw c.in-Some-Capture.field-0-is at c.in-Some-Capture.ensures.some in
+    causes c.generated_runs_count.ensures _ _ _ _ _ (subst (λ (k : Command). Ended (g.S.Store.shown c.args.store.now) k (g.S.Store.shown c.filmed.new.store) c.filmed.result.status c.filmed.result.journal.items) (sym asked) c.filmed.ensures)

@@ -1,0 +1,239 @@
+-- The film that a store has made is that of the files that were put.
+use Rattle.std.proofs.Common.{◌≡◌, ◌≢◌, ℕ, zero, suc, ◌+◌, ◌<◌, ◌≤◌, ◌^◌, Bool, true, false, List, [], ◌∷◌, ◌++◌, map, length, Option, Some, None, Result, Ok, Err, refl, sym, ap, subst, ◌∙◌, arith, append_assoc}
+use Rattle.std.specs.Prelude.{codes, option_map, slice_index, unwrap_or}
+use Rattle.std.specs.List.{AllByRecursion, range_with_len}
+use Rattle.nit_events.specs.declared.entry.Entry.{Entry}
+use Rattle.nit_events.specs.declared.entry.Entry.TheVariants as entry
+use Rattle.nit_config.specs.Configuration.{Configuration, member}
+use Rattle.nit_journal.specs.State.{State, after, opening}
+use Rattle.nit_journal.specs.Journals.{IsLegal, LegalFrom, shots}
+use Rattle.nit_capture.specs.Capture.{CaptureModel, taken_bytes}
+use Rattle.nit_capture.specs.Film.{header, records}
+use Rattle.nit_store.specs.declared.store.PutError.{PutError}
+use Rattle.nit_store.specs.declared.store.PutError.TheVariants as put
+use Rattle.nit_store.specs.Shown.{Shown, File, PutIn, bytes_of, file_at}
+use Rattle.nit_store.specs.Answers.{AfterPut}
+use Rattle.nit_store.specs.Puts.{PutsAll, PutsNext, Putting, unrefused}
+use Rattle.nit_store.proofs.Puts.{puts_more}
+use Rattle.nit_actor.specs.Running.{shot_name}
+use Rattle.nit_actor.specs.Pictures.{IsNearPicture}
+use Rattle.nit_actor.specs.Shots.{ShotsBehind}
+use Rattle.nit_top.specs.declared.region.Region.{Region}
+use Rattle.nit_top.specs.declared.run.PutFault.{PutFault}
+use Rattle.nit_top.specs.declared.run.Ran.{Ran}
+use Rattle.nit_top.specs.Course.{PutEach, PutFiles}
+use Rattle.nit_top.specs.Filmed.{HasFilmed, begun_of}
+use Rattle.nit_top.specs.Filming.{HasTaken, IsFilmOf, bytes_under, picture_names}
+use Rattle.nit_top.specs.Films.{film_name, film_of, pictures_in}
+use Rattle.nit_top.specs.Setup.{Setup}
+use Rattle.nit_top.specs.Outputs.{AreOutputs, events_file, events_files, events_name, final_name, final_picture, journal_file, text_files}
+use Rattle.nit_top.specs.Work.{HasRun, putting, refusal_of}
+use Rattle.nit_top.proofs.FilmPictures.{shots_apart}
+use Rattle.nit_top.proofs.Leaving.{with_texts}
+use Rattle.nit_top.proofs.Puts.{PutAll, PutSo, all_put}
+
+-- ---- the files of shots
+
+-- the files have the names of shots that are numbered on from this one
+abbrev Numbered : ℕ → List File → Type 0
+Numbered first [] = Unit {0}
+Numbered first (f ∷ files) = (f.0 ≡ shot_name first) × Numbered (first + 1) files
+
+-- so it is with those of a legal journal
+numbered : (P : List Entry → List ℕ → Type 0) (s : State) (taken : ℕ) (before es : List Entry) (files : List File) → LegalFrom s taken es → ShotsBehind P before es files → Numbered (taken + 1) files × (length files ≡ shots es)
+numbered P s taken before [] files legal is = (subst (λ (fs : List File). Numbered (taken + 1) fs) (sym is) tt, ap (λ (fs : List File). length fs) is)
+numbered P s taken before (entry.Call sid call r ∷ es) files legal are = numbered P (after s (entry.Call sid call r)) taken (before ++ entry.Call sid call r ∷ []) es files legal.1 are
+numbered P s taken before (entry.Input dev routed ∷ es) files legal are = numbered P (after s (entry.Input dev routed)) taken (before ++ entry.Input dev routed ∷ []) es files legal.1 are
+numbered P s taken before (entry.Shot number ∷ es) files legal (bytes, more, is, picture, rest) =
+    let others = numbered P s (taken + 1) (before ++ entry.Shot number ∷ []) es more legal.1 rest in
+    (
+      subst (λ (fs : List File). Numbered (taken + 1) fs) (sym is) (ap shot_name legal.0, others.0),
+      ap (λ (fs : List File). length fs) is ∙ ap (λ (n : ℕ). suc n) others.1,
+    )
+numbered P s taken before (entry.Final ∷ es) files legal are =
+    let none : files ≡ [] = subst (λ (rest : List Entry). ShotsBehind P (before ++ entry.Final ∷ []) rest files) legal are in
+    (subst (λ (fs : List File). Numbered (taken + 1) fs) (sym none) tt, ap (λ (fs : List File). length fs) none ∙ sym (ap (λ (rest : List Entry). shots rest) legal))
+
+-- ---- what files have at the end
+
+-- none of these files has this name
+abbrev OtherThan : List ℕ → List File → Type 0
+OtherThan name files = AllByRecursion (λ f. name ≢ f.0) files
+
+stays : (files : List File) (name : List ℕ) (old new : List File) → PutEach files old new → OtherThan name files → file_at name new ≡ file_at name old
+stays [] name old new puts other = ap (λ (fs : List File). file_at name fs) puts
+stays (f ∷ files) name old new (mid, p, puts) other = stays files name mid new puts other.1 ∙ p.others name other.0
+
+put_stays : (f : File) (files : List File) (old new : List File) → PutEach (f ∷ files) old new → OtherThan f.0 files → bytes_of f.0 new ≡ f.1
+put_stays f files old new (mid, p, puts) other = ap (λ (o : Option (List ℕ)). unwrap_or o []) (stays files f.0 mid new puts other ∙ p.this)
+
+-- the files behind some of those that were put
+record PutBehind (files : List File) (new : List File) : Type 0 where
+  mid : List File
+  puts : PutEach files mid new
+
+behind : (front files old new : List File) → PutEach (front ++ files) old new → PutBehind files new
+behind [] files old new puts = record { mid = old; puts = puts }
+behind (f ∷ front) files old new (mid, p, puts) = behind front files mid new puts
+
+other_both : (name : List ℕ) (xs ys : List File) → OtherThan name xs → OtherThan name ys → OtherThan name (xs ++ ys)
+other_both name [] ys a b = b
+other_both name (x ∷ xs) ys a b = (a.0, other_both name xs ys a.1 b)
+
+-- the shots behind one have other names
+later_shots : (n first : ℕ) (files : List File) → n < first → first + length files < 2 ^ 64 → Numbered first files → OtherThan (shot_name n) files
+later_shots n first [] less few is = tt
+later_shots n first (f ∷ files) less few is =
+    (λ same. let e : n ≡ first = shots_apart n first (omega arith) (omega arith) (same ∙ is.0) in omega arith, later_shots n (first + 1) files (omega arith) (omega arith) is.1)
+
+-- none of these files has the name of a shot
+abbrev NoShots : List File → Type 0
+NoShots files = (n : ℕ) → OtherThan (shot_name n) files
+
+-- the files of shots have their bytes at the end
+shots_under : (first : ℕ) (files rest : List File) (old new : List File) → first + length files < 2 ^ 64 → Numbered first files → NoShots rest → PutEach (files ++ rest) old new → bytes_under new (map shot_name (range_with_len first (length files))) ≡ map (λ f. f.1) files
+shots_under first [] rest old new few is none puts = refl
+shots_under first (f ∷ files) rest old new few is none puts =
+    let other : OtherThan f.0 (files ++ rest) = subst (λ (name : List ℕ). OtherThan name (files ++ rest)) (sym is.0) (other_both (shot_name first) files rest (later_shots first (first + 1) files (omega arith) (omega arith) is.1) (none first)) in
+    let one : bytes_of (shot_name first) new ≡ f.1 = ap (λ (name : List ℕ). bytes_of name new) (sym is.0) ∙ put_stays f (files ++ rest) old new puts other in
+    let more : bytes_under new (map shot_name (range_with_len (first + 1) (length files))) ≡ map (λ g. g.1) files = shots_under (first + 1) files rest puts.0 new (omega arith) is.1 none puts.2 in
+    λ i. one i ∷ more i
+
+-- ---- names by their first letter
+
+letters_apart : (a b : List ℕ) (m n : ℕ) → slice_index a 0 ≡ m → slice_index b 0 ≡ n → (m ≡ n → ⊥) → a ≡ b → ⊥
+letters_apart a b m n is at apart same = apart (sym is ∙ ap (λ (name : List ℕ). slice_index name 0) same ∙ at)
+
+other_events : (config : Configuration) (journal : List Entry) (name : List ℕ) (m : ℕ) → slice_index name 0 ≡ m → (m ≡ 101 → ⊥) → (first count : ℕ) → OtherThan name (map (events_file config journal) (range_with_len first count))
+other_events config journal name m is apart first zero = tt
+other_events config journal name m is apart first (suc count) = (letters_apart name (events_name (member config first).label) m 101 is refl apart, other_events config journal name m is apart (first + 1) count)
+
+other_texts : (config : Configuration) (journal : List Entry) (name : List ℕ) (m : ℕ) → slice_index name 0 ≡ m → (m ≡ 101 → ⊥) → (m ≡ 106 → ⊥) → OtherThan name (events_files config journal ++ journal_file journal ∷ [])
+other_texts config journal name m is apart more =
+    other_both name (events_files config journal) (journal_file journal ∷ []) (other_events config journal name m is apart 0 (length config.clients)) (letters_apart name (codes "journal.txt") m 106 is refl more, tt)
+
+differ_115_101 : ◌≡◌ {A = ℕ} 115 101 → ⊥
+differ_115_101 e = omega arith
+
+differ_115_106 : ◌≡◌ {A = ℕ} 115 106 → ⊥
+differ_115_106 e = omega arith
+
+differ_115_102 : ◌≡◌ {A = ℕ} 115 102 → ⊥
+differ_115_102 e = omega arith
+
+differ_102_101 : ◌≡◌ {A = ℕ} 102 101 → ⊥
+differ_102_101 e = omega arith
+
+differ_102_106 : ◌≡◌ {A = ℕ} 102 106 → ⊥
+differ_102_106 e = omega arith
+
+-- ---- the pictures of a run
+
+-- under the names of its pictures stand the run's pictures
+pictures_under : (s : Setup) (journal : List Entry) (outputs : List File) (are : AreOutputs s journal outputs) (old new : List File) → s.texts ≡ true → s.beside ≡ true → s.made ≡ [] → IsLegal s.config journal → shots journal + 1 < 2 ^ 64 → PutEach outputs old new
+    → bytes_under new (picture_names (shots journal) true) ≡ pictures_in are
+pictures_under s journal outputs are old new texts beside made legal few puts =
+    let files = are.0 in
+    let last : File = (final_name, final_picture s journal) in
+    let words : List File = events_files s.config journal ++ journal_file journal ∷ [] in
+    let parts : outputs ≡ files ++ last ∷ words = are.2 ∙ ap (λ (front : List File). front ++ (files ++ last ∷ text_files s journal)) made ∙ ap (λ (back : List File). files ++ last ∷ back) (with_texts s journal texts) in
+    let all : PutEach (files ++ last ∷ words) old new = subst (λ (fs : List File). PutEach fs old new) parts puts in
+    let counted = numbered (IsNearPicture s.config s.scripts) (opening s.config) 0 [] journal files legal (are.1.beside beside) in
+    let long : length files ≡ shots journal = counted.1 in
+    let none : NoShots (last ∷ words) = λ n. (letters_apart (shot_name n) final_name 115 102 refl refl differ_115_102, other_texts s.config journal (shot_name n) 115 refl differ_115_101 differ_115_106) in
+    let shown : bytes_under new (map shot_name (range_with_len 1 (length files))) ≡ map (λ f. f.1) files = shots_under 1 files (last ∷ words) old new (omega arith) counted.0 none all in
+    let b = behind files (last ∷ words) old new all in
+    let end : bytes_of final_name new ≡ final_picture s journal = put_stays last words b.mid new b.puts (other_texts s.config journal final_name 102 refl differ_102_101 differ_102_106) in
+    under_both new (map shot_name (range_with_len 1 (shots journal))) final_name
+    ∙ ap (λ (n : ℕ). bytes_under new (map shot_name (range_with_len 1 n)) ++ bytes_of final_name new ∷ []) (sym long)
+    ∙ ap (λ (bs : List (List ℕ)). bs ++ bytes_of final_name new ∷ []) shown ∙ ap (λ (b : List ℕ). map (λ f. f.1) files ++ b ∷ []) end
+  where
+    under_both : (files : List File) (names : List (List ℕ)) (name : List ℕ) → bytes_under files (names ++ name ∷ []) ≡ bytes_under files names ++ bytes_of name files ∷ []
+    under_both files [] name = refl
+    under_both files (n ∷ names) name = ap (λ (bs : List (List ℕ)). bytes_of n files ∷ bs) (under_both files names name)
+
+-- a film that has taken these pictures, with its end, is their film
+film_is : (region : Region) (config : Configuration) (begun now : CaptureModel) (pictures : List (List ℕ)) (bytes : List ℕ) → begun ≡ begun_of region config → HasTaken begun now pictures bytes → bytes ++ 0 ∷ [] ≡ film_of region config pictures
+film_is region config begun now pictures bytes same h =
+    let c = begun_of region config in
+    let cuts = map (taken_bytes c) pictures in
+    ap (λ (bs : List ℕ). bs ++ 0 ∷ [])
+    (h.bytes_are ∙ ap (λ (k : CaptureModel). header k.rect.w k.rect.h ++ records k.rect.w k.rect.h k.before (map (taken_bytes k) pictures)) same)
+    ∙ append_assoc (header region.w region.h) (records region.w region.h c.before cuts) (0 ∷ [])
+
+-- ---- the put of the film
+
+-- where no files are told, a put does not depend on its bytes
+untold_put : {T : Type 0} (old new : Shown) (name a b : List ℕ) (r : Result T PutError) → old.files ≡ None → AfterPut old name a new r → AfterPut old name b new r
+untold_put old new name a b (Ok x) none h = (h.0, untold_in old.files new.files none h.1)
+  where
+    untold_in : (o p : Option (List File)) → o ≡ None → PutIn name a o p → PutIn name b o p
+    untold_in None p none put = put
+    untold_in (Some fs) p none put = absurd cc
+untold_put old new name a b (Err put.Failed) none h = h
+untold_put old new name a b (Err put.NoMemory) none h = h
+
+-- a put of bytes is that of others, where they are the same or the store tells no files
+same_put : (name a b : List ℕ) (old : Shown) (fault : Option PutFault) (new : Putting) → (fault ≡ None → (files : List File) → old.files ≡ Some files → a ≡ b) → PutsNext (name, a) (putting old fault) new → PutsNext (name, b) (putting old fault) new
+same_put name a b old (Some f) new same next = next
+same_put name a b old None new same next = record { answer = next.answer; put = by_told old.files refl; kept = next.kept }
+  where
+    by_told : (o : Option (List File)) → old.files ≡ o → AfterPut old name b new.shown next.answer
+    by_told None none = untold_put old new.shown name a b next.answer none next.put
+    by_told (Some files) told = subst (λ (bytes : List ℕ). AfterPut old name bytes new.shown next.answer) (same refl files told) next.put
+
+-- ---- a run that was filmed
+
+told_each : (outputs : List File) (old : Option (List File)) (files : List File) (new : Option (List File)) → PutFiles outputs old new → new ≡ Some files → (first : List File) × PutEach outputs first files
+told_each outputs None files new h told = absurd (let e = sym h ∙ told in cc)
+told_each outputs (Some first) files new h told = (first, subst (λ (fs : List File). PutEach outputs first fs) (some_same h.0 files (sym h.1 ∙ told)) h.2)
+  where
+    some_same : (a b : List File) → Some a ≡ Some b → a ≡ b
+    some_same a b e = cc
+
+put_whole : (outputs : List File) (old mid : Shown) (fault : Option PutFault) → fault ≡ None → PutsAll outputs (unrefused old) (putting mid fault) → PutAll old outputs mid
+put_whole outputs old mid fault none puts = subst (λ (o : Option PutFault). PutSo old outputs mid (option_map refusal_of o)) none (all_put old outputs (putting mid fault) puts)
+
+-- What is known when a run through the store of a film has ended: whether the film is whole, that it is then
+-- that of the files, and what its put leaves.
+pub record IsFilmEnd (region : Region) (s : Setup) (begun now : CaptureModel) (count : ℕ) (ended whole is_whole : Bool) (bytes : List ℕ) (mid new : Shown) (frames : ℕ) (fault fault' : Option PutFault) : Type 0 where
+  pub begun_is : begun ≡ begun_of region s.config
+  pub film : IsFilmOf whole begun now (picture_names count ended) mid.files bytes
+  pub whole_is : is_whole ≡ true → whole ≡ true
+  pub ended_is : is_whole ≡ true → ended ≡ true
+  pub all_shots : is_whole ≡ true → count + 1 ≡ frames
+  pub few : count ≤ 4294967295
+  pub put : is_whole ≡ true → PutsNext (film_name, bytes ++ 0 ∷ []) (putting mid fault) (putting new fault')
+  pub not_put : is_whole ≡ false → (other : List ℕ) → PutsNext (film_name, other) (putting mid fault) (putting new fault')
+
+pub film_leaves : (region : Region) (s : Setup) (begun now : CaptureModel) (count : ℕ) (ended whole is_whole : Bool) (bytes : List ℕ) (old mid new : Shown) (ran : Ran) (fault' : Option PutFault) → s.texts ≡ true → s.beside ≡ true → s.made ≡ [] → HasRun old s mid ran
+    → IsFilmEnd region s begun now count ended whole is_whole bytes mid new ran.frames ran.fault fault' → HasFilmed region old s new ran.journal.items ran.frames fault'
+film_leaves region s begun now count ended whole is_whole bytes old mid new ran fault' texts beside made r e = record {
+  is_journal = r.journal;
+  frames_are = r.frames;
+  outputs = r.outputs;
+  are = r.are;
+  puts = puts_more r.outputs (film_name, film) (unrefused old) (putting mid ran.fault) (putting new fault') r.puts (by is_whole refl);
+}
+  where
+    journal : List Entry
+    journal = ran.journal.items
+
+    film : List ℕ
+    film = film_of region s.config (pictures_in r.are)
+
+    is_film : is_whole ≡ true → ran.fault ≡ None → (files : List File) → mid.files ≡ Some files → bytes ++ 0 ∷ [] ≡ film
+    is_film so none files told =
+        let frames = r.frames in
+        let all = e.all_shots so in
+        let few = e.few in
+        let shots_are : count ≡ shots journal = omega arith in
+        let each = told_each r.outputs old.files files mid.files (put_whole r.outputs old mid ran.fault none r.puts).put told in
+        let pictures : bytes_under files (picture_names (shots journal) true) ≡ pictures_in r.are = pictures_under s journal r.outputs r.are each.0 files texts beside made r.journal.legal (omega arith) each.1 in
+        let names : bytes_under files (picture_names count ended) ≡ pictures_in r.are =
+        ap (λ (n : ℕ). bytes_under files (picture_names n ended)) shots_are ∙ ap (λ (b : Bool). bytes_under files (picture_names (shots journal) b)) (e.ended_is so) ∙ pictures in
+        film_is region s.config begun now (pictures_in r.are) bytes e.begun_is (subst (λ (ps : List (List ℕ)). HasTaken begun now ps bytes) names (e.film (e.whole_is so) files told))
+
+    by : (b : Bool) → is_whole ≡ b → PutsNext (film_name, film) (putting mid ran.fault) (putting new fault')
+    by true so = same_put film_name (bytes ++ 0 ∷ []) film mid ran.fault (putting new fault') (is_film so) (e.put so)
+    by false not = e.not_put not film

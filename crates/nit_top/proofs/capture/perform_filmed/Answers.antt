@@ -1,0 +1,29 @@
+use Rattle.std.proofs.Common.{◌≡◌, ◌∙◌, List, length, true, ap, inl}
+use Rattle.nit_rect.specs.Rectangle.{Rectangle}
+use Rattle.nit_config.specs.Configuration.{Configuration}
+use Rattle.nit_capture.specs.Capture.{begun}
+use Rattle.nit_script.specs.declared.line.Line.{Line}
+use Rattle.nit_top.specs.Filmed.{HasFilmed, begun_of}
+use Rattle.nit_top.specs.Regions.{rectangle_of}
+use Rattle.nit_top.specs.Work.{setup_of}
+use Rattle.nit_top.proofs.capture.perform_filmed.Goals as goal
+
+pub returns : goal.returns
+returns g c =
+    let config = c.args.config.now in
+    let region = c.args.region in
+    let s = setup_of config c.args.scripts.now.clients.items c.args.scripts.now.input true true in
+    let ran = c.in-Ok-run_filmed.ran in
+    let same : c.in-Ok.film.capture ≡ begun_of region config =
+    c.in-Ok.ensures.capture ∙ ap (λ (r : Rectangle). begun c.config.inside.width c.config.inside.height r) c.rect-rect.ensures.value ∙ ap (λ (k : Configuration). begun k.width k.height (rectangle_of region)) c.config.view_is in
+    let has : HasFilmed region (g.S.Store.shown c.args.store.now) s (g.S.Store.shown c.run_filmed.new.store) ran.journal.items ran.frames ran.fault = c.in-Ok-run_filmed.ensures region same in
+    inl (record {
+      ran = ran;
+      has_run = has;
+      headline = c.headline.ensures s ran.journal.items has.outputs c.requires.runnable has.is_journal has.are;
+      end_is = c.worked_by.ensures.end;
+      name_is = c.worked_by.ensures.name;
+      journal_is = c.worked_by.ensures.journal;
+      clients_are = c.worked_by.ensures.clients ∙ ap (λ (ls : List (List Line)). length ls) c.as_slice-clients.ensures.value;
+      frames_are = c.worked_by.ensures.frames;
+    })

@@ -1,0 +1,257 @@
+//! The run of a configuration that is filmed.
+
+ghost use Rattle.std.specs.Prelude.{false, true, ◌≡◌, ◌≤◌, ◌+◌, ◌++◌, ◌∷◌, [], ℕ, List, IfSome};
+ghost use Rattle.nit_config.specs.Configured.{IsConfigured};
+ghost use Rattle.nit_capture.specs.Film.{header};
+ghost use Rattle.nit_store.specs.Shown.{Shown, bytes_of, asking};
+ghost use Rattle.nit_store.specs.Puts.{PutsNext};
+ghost use Rattle.nit_top.specs.Command.{Capture};
+ghost use Rattle.nit_top.specs.Films.{film_name};
+ghost use Rattle.nit_top.specs.Judged.{IsConfig};
+ghost use Rattle.nit_top.specs.declared.region.Region.{Region};
+ghost use Rattle.nit_top.specs.Regions.{IsShort, is_outside};
+ghost use Rattle.nit_top.specs.Setup.{IsRunnable};
+ghost use Rattle.nit_top.specs.Filmed.{PerformedFilmed, RunsFilmed, begun_of};
+ghost use Rattle.nit_top.specs.Work.{Ends, Runs, putting, setup_of};
+ghost use Rattle.nit_top.specs.Filming.{IsFilmOf, picture_names};
+
+use crate::beside::run_beside;
+use crate::desk::put_next;
+use crate::film::Film;
+use crate::film_store::{FilmStore, Filming, Reel};
+use crate::finish::{End, Output, Worked, at, unbegun};
+use crate::laws::headline;
+use crate::perform::{Scripts, read_scripts, worked_by};
+use crate::region::Region;
+use crate::run::{PutFault, Ran};
+use nit_actor::Gate;
+use nit_config::Config;
+use nit_rect::NoMemory;
+use nit_store::{PutError, Store};
+use std::alloc::Global;
+use std::marker::{Brand, PhantomData};
+use std::sync::Wait;
+use std::thread::Threads;
+
+/// Runs the scripts of a configuration with each client on a thread of its own, and films a region of the
+/// screen, which is to lie on it.
+pub fn capture<'a, R: Threads + Wait + Sync, S: Store, G: Gate>(
+    rt: &R,
+    alloc: Global,
+    store: &mut S,
+    config: &'a Config,
+    region: Region,
+    gate: &G,
+) -> Worked<'a>
+    requires configured { IsConfigured config.now }
+    requires numbers { IsShort region }
+    ensures { (name : List ℕ) → (first : Shown) → (S.shown store.old) ≡ asking first name
+        → IfSome first.files (λ files. IsConfig (bytes_of name files) config.entry.now)
+        → Ends (Capture name region) first (S.shown store.new) result }
+{
+    let scripts = match read_scripts(alloc, store, config) {
+        Ok(scripts) => scripts,
+        Err(stop) => return unbegun(alloc, stop),
+    };
+    if region.is_outside(config.width, config.height) {
+        return unbegun(alloc, at(End::Outside, ""));
+    }
+    perform_filmed(rt, alloc, store, config, &scripts, region, gate)
+}
+
+/// Runs a setup with texts, each client on a thread of its own, and films a region of the screen. A run
+/// that is not begun leaves everything.
+fn perform_filmed<'a, R: Threads + Wait + Sync, S: Store, G: Gate>(
+    rt: &R,
+    alloc: Global,
+    store: &mut S,
+    config: &Config,
+    scripts: &Scripts,
+    region: Region,
+    gate: &G,
+) -> Worked<'a>
+    requires runnable { IsRunnable (setup_of config.now scripts.now.clients.items scripts.now.input true true) }
+    requires inside { is_outside region config.now.width config.now.height ≡ false }
+    ensures { PerformedFilmed region (S.shown store.old)
+        (setup_of config.now scripts.now.clients.items scripts.now.input true true)
+        (S.shown store.new) result }
+{
+    headline();
+    let clients = scripts.clients.as_slice();
+    let rect = region.rect(config.width, config.height);
+    let Ok(film) = Film::new(alloc, config.width, config.height, rect) else {
+        return unbegun(alloc, at(End::NoMemory, ""));
+    };
+    let Ok(ran) = run_filmed(rt, alloc, gate, config, scripts, film, store) else {
+        return unbegun(alloc, at(End::NoMemory, ""));
+    };
+    worked_by(ran, clients.len())
+}
+
+/// Runs a setup through a store that adds its pictures to this film, and puts the film last.
+fn run_filmed<R: Threads + Wait + Sync, S: Store, G: Gate>(
+    rt: &R,
+    alloc: Global,
+    gate: &G,
+    config: &Config,
+    scripts: &Scripts,
+    film: Film,
+    store: &mut S,
+) -> Result<Ran, NoMemory>
+    requires runnable { IsRunnable
+        (setup_of config.now scripts.now.clients.items scripts.now.input true true) }
+    requires header { film.bytes.items ≡ header film.capture.rect.w film.capture.rect.h }
+    ensures { (region : Region) → film.capture ≡ begun_of region config.now
+        → RunsFilmed region (S.shown store.old)
+        (setup_of config.now scripts.now.clients.items scripts.now.input true true)
+        (S.shown store.new) result }
+{
+    let reel = Reel {
+        store,
+        film,
+        count: 0,
+        ended: false,
+        whole: true,
+    };
+    let Reeled { reel, ran } = film_named::<Brand, R, S, G>(rt, alloc, gate, config, scripts, reel);
+    let Reel {
+        store,
+        film,
+        count,
+        ended,
+        whole,
+    } = reel;
+    let Ok(ran) = ran else {
+        return Err(NoMemory);
+    };
+    let whole = has_all(whole, ended, count, ran.frames);
+    Ok(end_film(store, film, whole, ran))
+}
+
+/// What a run through the store of a film leaves.
+#[derive(Drop)]
+struct Reeled<'s, S> {
+    reel: Reel<'s, S>,
+    ran: Result<Ran, NoMemory>,
+}
+
+/// Runs a setup through the store of a film, which F names.
+fn film_named<'s, F: Filming, R: Threads + Wait + Sync, S: Store, G: Gate>(
+    rt: &R,
+    alloc: Global,
+    gate: &G,
+    config: &Config,
+    scripts: &Scripts,
+    reel: Reel<'s, S>,
+) -> Reeled<'s, S>
+    requires runnable { IsRunnable
+        (setup_of config.now scripts.now.clients.items scripts.now.input true true) }
+    requires begun { reel.film.capture ≡ F.begun }
+    requires name { reel.store.ghost_name ≡ F.name }
+    requires header { reel.film.bytes.items ≡ header F.begun.rect.w F.begun.rect.h }
+    requires fresh { (reel.count ≡ 0) × (reel.ended ≡ false) }
+    ensures same_store { result.reel.store.ghost_name ≡ reel.entry.store.ghost_name }
+    ensures ran { Runs (S.shown reel.entry.store.now)
+        (setup_of config.now scripts.now.clients.items scripts.now.input true true)
+        (S.shown result.reel.store.now) result.ran }
+    ensures film { let r = result.reel in IsFilmOf r.whole F.begun r.film.capture
+        (picture_names r.count r.ended) (S.shown r.store.now).files r.film.bytes.items }
+{
+    let Reel {
+        store,
+        film,
+        count,
+        ended,
+        whole,
+    } = reel;
+    let mut front: FilmStore<'s, S, F> = FilmStore {
+        store,
+        film,
+        count,
+        ended,
+        whole,
+        of: PhantomData,
+    };
+    let clients = scripts.clients.as_slice();
+    let ran = run_beside(rt, alloc, gate, config, clients, &scripts.input, &mut front);
+    let FilmStore {
+        store,
+        film,
+        count,
+        ended,
+        whole,
+        of: _,
+    } = front;
+    let reel = Reel {
+        store,
+        film,
+        count,
+        ended,
+        whole,
+    };
+    Reeled { reel, ran }
+}
+
+/// Whether a film that is whole has so many pictures, the last one among them.
+fn has_all(whole: bool, ended: bool, shots: u32, pictures: usize) -> bool
+    ensures whole { result ≡ true → whole ≡ true }
+    ensures ended { result ≡ true → ended ≡ true }
+    ensures pictures { result ≡ true → shots + 1 ≡ pictures }
+    ensures few { shots ≤ 4294967295 }
+{
+    whole && ended && shots as usize + 1 == pictures
+}
+
+/// Puts a film behind the files of a run, unless a put was refused before. One that is not whole is not put,
+/// and counts as want of memory.
+fn end_film<S: Store>(store: &mut S, film: Film, whole: bool, ran: Ran) -> Ran
+    ensures journal { result.journal.items ≡ ran.journal.items }
+    ensures frames { result.frames ≡ ran.frames }
+    ensures whole { whole ≡ true → PutsNext (film_name, film.bytes.items ++ 0 ∷ [])
+        (putting (S.shown store.old) ran.fault) (putting (S.shown store.new) result.fault) }
+    ensures not_whole { whole ≡ false → (bytes : List ℕ) → PutsNext (film_name, bytes)
+        (putting (S.shown store.old) ran.fault) (putting (S.shown store.new) result.fault) }
+{
+    let fault = put_film(store, film, whole, ran.fault);
+    Ran {
+        journal: ran.journal,
+        frames: ran.frames,
+        fault,
+    }
+}
+
+/// Puts a film, unless a put was refused before. Gives the put that was refused, if there is one. A film that
+/// is not whole is not put, and counts as want of memory.
+fn put_film<S: Store>(
+    store: &mut S,
+    film: Film,
+    whole: bool,
+    fault: Option<PutFault>,
+) -> Option<PutFault>
+    ensures whole { whole ≡ true → PutsNext (film_name, film.bytes.items ++ 0 ∷ [])
+        (putting (S.shown store.old) fault) (putting (S.shown store.new) result) }
+    ensures not_whole { whole ≡ false → (bytes : List ℕ) → PutsNext (film_name, bytes)
+        (putting (S.shown store.old) fault) (putting (S.shown store.new) result) }
+{
+    if fault.is_some() {
+        return fault;
+    }
+    if !whole {
+        return Some(unfilmed());
+    }
+    match film.into_stream() {
+        Ok(bytes) => put_next(store, None, Output::Film, "capture.ncap", &bytes),
+        Err(_) => Some(unfilmed()),
+    }
+}
+
+/// The put of a film for which memory ran out.
+fn unfilmed() -> PutFault
+    ensures file { result.file ≡ Output.Film }
+    ensures error { result.error ≡ PutError.NoMemory }
+{
+    PutFault {
+        file: Output::Film,
+        error: PutError::NoMemory,
+    }
+}
