@@ -1,8 +1,8 @@
 //! Films of the run of two clients.
 
 use crate::bench::{
-    assert_asked, assert_bytes, assert_names, assert_refused, assert_said, bytes_of, command, files,
-    store,
+    assert_asked, assert_bytes, assert_names, assert_refused, assert_said, bytes_of, command,
+    files, store,
 };
 use crate::two_rows::{FILES, SUMMARY, journal};
 use nit_store::MemoryStore;
@@ -60,8 +60,10 @@ fn captured<R: Abort + Threads + Wait + Sync>(
 /// The film stands behind the files of the run, and has the region's pixels alone.
 #[test]
 fn films_of_two_clients(rt: HostRuntime) -> Result<(), Fail> {
-    let rows: [([&str; 4], &[u8]); 2] =
-        [(["0", "0", "4", "2"], &LEFT), (["4", "0", "4", "2"], &RIGHT)];
+    let rows: [([&str; 4], &[u8]); 2] = [
+        (["0", "0", "4", "2"], &LEFT),
+        (["4", "0", "4", "2"], &RIGHT),
+    ];
     for (region, film) in rows {
         let (done, store) = captured(&rt, rt.alloc(), region, &[])?;
         assert_said(&rt, &store, SUMMARY);

@@ -45,8 +45,7 @@ numbered P s taken before [] files legal is = (subst (λ (fs : List File). Numbe
 numbered P s taken before (entry.Call sid call r ∷ es) files legal are = numbered P (after s (entry.Call sid call r)) taken (before ++ entry.Call sid call r ∷ []) es files legal.1 are
 numbered P s taken before (entry.Input dev routed ∷ es) files legal are = numbered P (after s (entry.Input dev routed)) taken (before ++ entry.Input dev routed ∷ []) es files legal.1 are
 numbered P s taken before (entry.Shot number ∷ es) files legal (bytes, more, is, picture, rest) =
-    let others = numbered P s (taken + 1) (before ++ entry.Shot number ∷ []) es more legal.1 rest in
-    (
+    let others = numbered P s (taken + 1) (before ++ entry.Shot number ∷ []) es more legal.1 rest in (
       subst (λ (fs : List File). Numbered (taken + 1) fs) (sym is) (ap shot_name legal.0, others.0),
       ap (λ (fs : List File). length fs) is ∙ ap (λ (n : ℕ). suc n) others.1,
     )

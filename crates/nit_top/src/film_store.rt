@@ -19,6 +19,7 @@ pub trait Filming {
     ghost use Rattle.nit_capture.specs.Capture.{CaptureModel};
 
     ghost begun: { CaptureModel };
+
     ghost name: { GName };
 }
 
@@ -28,6 +29,7 @@ impl Filming for Brand {
     ghost use Rattle.nit_capture.specs.Capture.{begun};
 
     ghost begun = { begun 0 0 (rectangle (pos 0) (pos 0) 0 0) };
+
     ghost name = { 0 };
 }
 
