@@ -27,3 +27,4 @@ pub mod Fitting
 pub mod FilmPictures
 pub mod FilmFiles
 pub mod CaptureEnds
+pub mod AuditEnds

@@ -21,6 +21,7 @@
 #![tactic(auto)]
 
 mod alone;
+mod audit;
 mod beside;
 mod capture;
 mod desk;
