@@ -237,7 +237,7 @@ setup_codes configuration files m n f g (inr p) (inr q) = script_code files p.0 
 -- a journal's fault is one of its text, which then spells no journal, or one of the journal that it spells
 journal_code : (s : Setup) (bytes : List ℕ) (f : Fault) → IsJournalFault s bytes f
     → ((fault_code f ≡ 8) × ((entries : List Entry) → IsJournalText bytes entries → ⊥)) ⊎ ((fault_code f ≡ 9) × ((entries : List Entry) × IsJournalText bytes entries))
-journal_code s bytes (fault.NotARun k) r = inr (refl, r.0, r.1)
+journal_code s bytes (fault.NotARun k) r = inr (refl, (r.0, r.1))
 journal_code s bytes (fault.BadEntry line) r = inl (refl, λ entries text. journal_and_bad bytes entries line text.1 r.1)
 journal_code s bytes fault.LongJournal r = inl (refl, λ entries text. let few = text.0 in absurd (omega arith))
 journal_code s bytes (fault.BadConfig e) r = absurd r

@@ -39,7 +39,10 @@ pub fn audited<'a, S: Store>(
         Ok(entries) => entries,
         Err(stop) => return unbegun(alloc, stop),
     };
-    unbegun(alloc, at(audit_end(alloc, config, &scripts, &entries), journal))
+    unbegun(
+        alloc,
+        at(audit_end(alloc, config, &scripts, &entries), journal),
+    )
 }
 
 /// How the audit of these entries ends.

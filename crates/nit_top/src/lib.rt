@@ -6,6 +6,7 @@
 //! | `turns CONFIG` | the run of a configuration's clients and its input script, all by turns |
 //! | `run CONFIG` | the same, with each client on a thread of its own |
 //! | `gen N` | the files of the generated run of number N are put, and then run as `run` does |
+//! | `audit CONFIG JOURNAL` | whether the journal is one of a run of the configuration's scripts; nothing is put |
 //! | `capture CONFIG X Y W H` | the same as `run`, and the film of a region of the screen is put last |
 //!
 //! In each case the work is: read the files and judge them one by one; take all memory of the run; run,
