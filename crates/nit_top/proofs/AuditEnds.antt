@@ -1,8 +1,7 @@
 -- How an audit comes to its end: as a run of its configuration does before it is begun, or at the journal.
-use Rattle.std.proofs.Common.{◌≡◌, ℕ, false, List, [], ◌∷◌, ◌++◌, length, Option, Some, None, refl, sym, ap, subst, ◌∙◌, inl, inr}
+use Rattle.std.proofs.Common.{◌≡◌, ℕ, false, List, [], ◌∷◌, ◌++◌, Option, Some, None, refl, sym, ap, subst, ◌∙◌, inl, inr}
 use Rattle.std.specs.Prelude.{IfSome}
 use Rattle.nit_events.specs.declared.entry.Entry.{Entry}
-use Rattle.nit_events.specs.declared.entry.Entry.TheVariants as entry
 use Rattle.nit_store.specs.Shown.{Shown, File, bytes_of, asking}
 use Rattle.nit_top.specs.declared.finish.End.{End}
 use Rattle.nit_top.specs.declared.finish.End.TheVariants as ends
@@ -19,7 +18,6 @@ use Rattle.nit_top.specs.Lines.{name_text}
 use Rattle.nit_top.specs.Course.{asked_also, Course, Begun, NotBegun, IsNotBegun, IsLastRead, IsMadeBefore, IsMadeInPart, IsMadeUpTo}
 use Rattle.nit_top.specs.Audited.{IsAuditEnd}
 use Rattle.nit_top.specs.Answer.{Came}
-use Rattle.nit_top.specs.Outputs.{IsJournal}
 use Rattle.nit_top.specs.Work.{Ends, StoppedAt, asking_all, line_on}
 use Rattle.nit_top.proofs.Asking.{asking_more}
 use Rattle.nit_top.proofs.Scripts.{told_so, told_so_both}

@@ -1,5 +1,5 @@
 -- The codes of the ways that a command ends, and what the counts of faults say of them.
-use Rattle.std.proofs.Common.{◌≡◌, ℕ, ◌≤◌, Bool, true, false, [], ◌∷◌, refl, sym, subst, ◌∙◌, arith, inl, inr, ◌⊎◌}
+use Rattle.std.proofs.Common.{◌≡◌, ℕ, ◌≤◌, Bool, true, false, [], ◌∷◌, refl, subst, arith, inl, inr, ◌⊎◌}
 use Rattle.std.specs.Prelude.{IsTrue, ◌==◌}
 use Rattle.std.specs.List.{list_any}
 use Rattle.nit_store.specs.Shown.{Shown, Rose}

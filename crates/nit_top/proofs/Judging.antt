@@ -15,7 +15,7 @@ use Rattle.nit_top.specs.declared.finish.Fault.{Fault}
 use Rattle.nit_top.specs.declared.finish.Fault.TheVariants as fault
 use Rattle.nit_top.specs.Command.{Command, Still, Run, Gen, Audit, Capture, NoCommand}
 use Rattle.nit_top.specs.Setup.{Setup, HaveSamePhases}
-use Rattle.nit_top.specs.Judged.{IsConfig, IsConfigFault, IsScript, IsNoScript, IsFaulty, wrong_phases, wrong_client, wrong_input, IsClientFault, IsInputFault, wanted_by, script_names, SpellScripts, AreScripts, IsFirstFault, IsInputsFault, AreRead, AreSetup, IsSetupFault, Judged, JudgedRun, Refused, Valid, IsValid, fault_code, IsRefused}
+use Rattle.nit_top.specs.Judged.{IsConfig, IsConfigFault, IsScript, IsNoScript, IsFaulty, wrong_phases, wrong_client, wrong_input, IsClientFault, IsInputFault, wanted_by, script_names, SpellScripts, AreScripts, IsFirstFault, IsInputsFault, AreRead, AreSetup, IsSetupFault, Judged, Refused, IsValid, fault_code, IsRefused}
 use Rattle.nit_top.specs.JournalFiles.{IsJournalText, IsVerdictOn, HasVerdict, IsJournalFault}
 use Rattle.nit_events.specs.declared.entry.Entry.{Entry}
 use Rattle.nit_plan.specs.Calls.{calls_to_make, deeds_to_do}
@@ -25,8 +25,7 @@ use Rattle.nit_audit.specs.declared.auditing.Verdict.{Verdict}
 use Rattle.nit_audit.specs.declared.auditing.Verdict.TheVariants as verdict
 use Rattle.nit_audit.specs.GoodEntries.{IsGood}
 use Rattle.nit_audit.specs.Verdict.{IsVerdict}
-use Rattle.nit_audit.proofs.GoodEntryLemmas.{good_fewer}
-use Rattle.nit_audit.proofs.VerdictLemmas.{one_verdict}
+use Rattle.nit_audit.proofs.ForCallers.{good_fewer, one_verdict}
 use Rattle.nit_script.specs.declared.line.InputLine.{InputLine}
 use Rattle.nit_top.specs.Films.{is_outside_of}
 use Rattle.nit_top.specs.Answer.{IsValidSo}

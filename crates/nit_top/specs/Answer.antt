@@ -147,8 +147,8 @@ pub record Answer (old : Shown) (words : List (List ℕ)) (new : Shown) (status 
   pub is_refused : NoFault old.read_faults new.read_faults
       → IsSomeAnd old.files (λ files. IsRefused 6 (command words) files)
       → (status ≡ 6) ⊎ (status ≡ 7)
-  -- 8 exactly where the text of the journal is the first that is refused, and 9 exactly where all texts are valid and
-  -- the journal is none of a run
+  -- 8 exactly where the journal's text is the first that is refused; 9 exactly where all texts are
+  -- valid and the journal is none of a run
   pub bad_journal : status ≡ 8 → IfSome old.files (λ files. IsRefused 8 (command words) files)
   pub is_bad_journal : NoFault old.read_faults new.read_faults
       → IsSomeAnd old.files (λ files. IsRefused 8 (command words) files)
@@ -172,7 +172,7 @@ pub record Answer (old : Shown) (words : List (List ℕ)) (new : Shown) (status 
   pub put_whole : status ≡ 0 → AuditOr (command words)
       ((count : ℕ) × IsAudited course new.files new.asked count)
       (WithRun course (λ run. IsPutWhole run new.files new.asked))
-  -- at 0 the summary line of this run is said, and all of it; or that of the journal that was audited
+  -- at 0 the summary line of this run is said, and all of it; or the line on the audited journal
   pub summary : status ≡ 0 → AuditOr (command words)
       ((count : ℕ) × IsAudited course new.files new.asked count
       × (new.said ≡ said_also old.said (audited_line count)))
@@ -181,8 +181,8 @@ pub record Answer (old : Shown) (words : List (List ℕ)) (new : Shown) (status 
   pub one_line : (number : ℕ) → command words ≡ Gen number → status ≡ 0
       → new.said ≡ said_also old.said generated_line
   -- at 4 a run was begun: all is put, and the line was refused; or the files before one are put, and
-  -- that one was refused; or none was begun, and that one is among the files that the command makes; or an
-  -- audit said yes, and the line was refused
+  -- that one was refused; or none was begun, and that one is among the files that the command makes;
+  -- or an audit said yes, and the line was refused
   pub put_in_part : status ≡ 4 → AuditOr (command words)
       ((count : ℕ) × IsAudited course new.files new.asked count)
       (((name : List ℕ) × IsMadeBefore course new.files new.asked name)
@@ -197,7 +197,8 @@ pub record Answer (old : Shown) (words : List (List ℕ)) (new : Shown) (status 
       ⊎ IsCutShort run new.files new.asked))
   -- the line on how the work came to its end is what is said, and the status goes by both
   pub said : IsSaid course new status
-  -- valid files, with a region on the screen, are run to the end, and a journal of a run is found to be one, unless the store fails or memory runs out
+  -- valid files, with a region on the screen, are run to the end, and a journal of a run is found to
+  -- be one, unless the store fails or memory runs out
   pub complete : HasValidFiles (command words) old.files
       → NoFault old.read_faults new.read_faults → NoFault old.write_faults new.write_faults
       → (status ≡ 0) ⊎ (status ≡ 7)

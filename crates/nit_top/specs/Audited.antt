@@ -27,8 +27,8 @@ abbrev pub AuditOr : Command → Type 0 → Type 0 → Type 0
 AuditOr (Audit configuration journal) OfAudit OfRun = OfAudit
 AuditOr other OfAudit OfRun = OfRun
 
--- The entries are those of a run of this setup: yes is the verdict on them, so they are legal, and whole for its
--- scripts. The replies to each client are those of a machine that serves it alone.
+-- The entries are those of a run of this setup: yes is the verdict on them, so they are legal, and
+-- whole for its scripts. The replies to each client are those of a machine that serves it alone.
 pub record IsOfARun (s : Setup) (entries : List Entry) : Type 0 where
   pub yes : IsVerdictOn s entries verdict.Yes
   pub legal : IsLegal s.config entries
@@ -42,10 +42,10 @@ AreAudited (Audit configuration journal) files s entries =
     AreSetup configuration files s × IsJournalText (bytes_of journal files) entries
 AreAudited other files s entries = ⊥
 
--- No run was begun, and no file was put. The command is an audit, and all of its files were read. The journal
--- has so many entries, and they are those of a run of what the other files are.
-pub record IsAudited {old : Shown} {c : Command} {journal : List Entry} (course : Course old c journal)
-    (files : Option (List File)) (asked : Option (List (List ℕ))) (count : ℕ) : Type 0 where
+-- No run was begun, and no file was put. The command is an audit, and all of its files were read. The
+-- journal has so many entries, and they are those of a run of what the other files are.
+pub record IsAudited {old : Shown} {c : Command} {journal : List Entry}
+    (course : Course old c journal) (files : Option (List File)) (asked : Option (List (List ℕ))) (count : ℕ) : Type 0 where
   pub none : WithoutRun course
   pub same : files ≡ old.files
   pub audit : IsAudit c

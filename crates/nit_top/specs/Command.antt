@@ -12,8 +12,8 @@ texts words = map string_bytes words
 
 -- a picture of one client's script, on a screen of this width and height; or the run of a configuration, with its
 -- clients beside each other on threads of their own, or by turns; or the generated run of this number, with its
--- clients beside each other; or the audit of a journal by a configuration; or such a run of a configuration and
--- the film of a region; or nothing that the program does
+-- clients beside each other; or the audit of a journal by a configuration; or such a run of a
+-- configuration and the film of a region; or nothing that the program does
 pub data Command : Type 0 where
   Still : (width : ℕ) → (height : ℕ) → (script : List ℕ) → Command
   Run : (beside : Bool) → (configuration : List ℕ) → Command

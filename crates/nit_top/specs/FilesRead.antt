@@ -10,9 +10,9 @@ use Rattle.nit_top.specs.Command.{Command, Still, Run, Gen, Audit, Capture, NoCo
 use Rattle.nit_top.specs.Setup.{Setup, AreLines, HaveSamePhases, IsRunnable, generated_setup, still_setup}
 use Rattle.nit_top.specs.Judged.{IsConfig, AreScripts, AreSetup, IsValid, names_in, reads, script_names}
 
--- The files that a command has read, each of which is valid: none; its configuration, and the scripts
--- of the first clients; the configuration and all scripts, which make this setup, where more is to be
--- read; or all files, which make this setup.
+-- The files that a command has read, each of which is valid: none; its configuration, and the
+-- scripts of the first clients; the configuration and all scripts, which make this setup, where more
+-- is to be read; or all files, which make this setup.
 pub data FilesRead : Type 0 where
   NoFile : FilesRead
   FirstFiles : (config : Configuration) → (scripts : List (List Line)) → FilesRead
@@ -83,9 +83,10 @@ pub record AreAllFiles (c : Command) (told : Option (List File)) (s : Setup) : T
   pub of_command : IsSetupOf c s
   pub valid : IfSome told (λ files. IsValid c files s)
 
--- The setup can be run. Where the store tells its files, it is what the configuration of this name and its
--- scripts are.
-pub record AreAllScripts (configuration : List ℕ) (told : Option (List File)) (s : Setup) : Type 0 where
+-- The setup can be run. Where the store tells its files, it is what the configuration of this name
+-- and its scripts are.
+pub record AreAllScripts (configuration : List ℕ) (told : Option (List File)) (s : Setup)
+    : Type 0 where
   pub runnable : IsRunnable s
   pub valid : IfSome told (λ files. AreSetup configuration files s)
 

@@ -122,7 +122,8 @@ pub data Judgement : Type 0 where
 abbrev pub IsSetupFault : List ℕ → List File → List ℕ → Fault → Type 0
 IsSetupFault configuration files name f =
     ((name ≡ configuration) × IsConfigFault (bytes_of configuration files) f)
-    ⊎ ((config : Configuration) × IsConfig (bytes_of configuration files) config × (IsFirstFault files (script_names config) name f ⊎ IsInputsFault files config name f))
+    ⊎ ((config : Configuration) × IsConfig (bytes_of configuration files) config
+    × (IsFirstFault files (script_names config) name f ⊎ IsInputsFault files config name f))
 
 -- the configuration and its scripts are this setup's
 abbrev pub AreSetup : List ℕ → List File → Setup → Type 0
@@ -145,15 +146,16 @@ Judged (Audit configuration journal) files (Valid s) =
     AreSetup configuration files s × HasVerdict s (bytes_of journal files) verdict.Yes
 Judged (Audit configuration journal) files (Refused name f) =
     IsSetupFault configuration files name f
-    ⊎ ((name ≡ journal) × ((s : Setup) × AreSetup configuration files s × IsJournalFault s (bytes_of journal files) f))
+    ⊎ ((name ≡ journal) × ((s : Setup) × AreSetup configuration files s
+    × IsJournalFault s (bytes_of journal files) f))
 Judged (Capture configuration region) files j = JudgedRun true configuration files j
 Judged NoCommand files j = ⊥
 
 abbrev pub IsValid : Command → List File → Setup → Type 0
 IsValid c files s = Judged c files (Valid s)
 
--- the status of a refusal: 5 for a configuration, 6 for a script; for a journal 8 where its text is refused, and 9
--- where it is none of a run
+-- the status of a refusal: 5 for a configuration, 6 for a script; for a journal 8 where its text is
+-- refused, and 9 where it is none of a run
 abbrev pub fault_code : Fault → ℕ
 fault_code (fault.BadConfig error) = 5
 fault_code fault.LongConfig = 5

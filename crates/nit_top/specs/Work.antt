@@ -49,9 +49,13 @@ JudgedBytes Valid Faulty bytes (Err other) = ⊥
 
 -- a file of at most so many bytes was read, where this is the fault of one with more
 abbrev pub ReadFor : ℕ → Fault → Shown → List ℕ → Shown → Result (Vec ℕ Global) End → Type 0
-ReadFor max long old name new (Ok bytes) = (new ≡ asking old name) × (length bytes.items ≤ max) × IfSome old.files (λ files. bytes.items ≡ bytes_of name files)
+ReadFor max long old name new (Ok bytes) =
+    (new ≡ asking old name) × (length bytes.items ≤ max)
+    × IfSome old.files (λ files. bytes.items ≡ bytes_of name files)
 ReadFor max long old name new (Err end.ReadFault) = ReadFaulted (asking old name) new
-ReadFor max long old name new (Err (end.Refused f)) = (f ≡ long) × (new ≡ asking old name) × IfSome old.files (λ files. max < length (bytes_of name files))
+ReadFor max long old name new (Err (end.Refused f)) =
+    (f ≡ long) × (new ≡ asking old name)
+    × IfSome old.files (λ files. max < length (bytes_of name files))
 ReadFor max long old name new (Err end.NoMemory) = AskedAtMost old name new
 ReadFor max long old name new (Err other) = ⊥
 

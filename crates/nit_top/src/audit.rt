@@ -18,8 +18,8 @@ use nit_events::Entry;
 use nit_store::Store;
 use std::alloc::Global;
 
-/// Reads the scripts of a configuration and the journal of this name, and says whether it is one of a run of
-/// them. No run is begun.
+/// Reads the scripts of a configuration and the journal of this name, and says whether it is one of
+/// a run of them. No run is begun.
 pub fn audited<'a, S: Store>(
     alloc: Global,
     store: &mut S,
@@ -47,9 +47,12 @@ pub fn audited<'a, S: Store>(
 
 /// How the audit of these entries ends.
 fn audit_end(alloc: Global, config: &Config, scripts: &Scripts, entries: &[Entry]) -> End
-    requires runnable { IsRunnable (setup_of config.now scripts.now.clients.items scripts.now.input true false) }
+    requires runnable { IsRunnable
+        (setup_of config.now scripts.now.clients.items scripts.now.input true false) }
     requires few { length entries.now ≤ 2 ^ 27 }
-    ensures { IsAuditEnd (setup_of config.now scripts.now.clients.items scripts.now.input true false) entries.now result }
+    ensures { IsAuditEnd
+        (setup_of config.now scripts.now.clients.items scripts.now.input true false)
+        entries.now result }
 {
     match audit(alloc, config, &scripts.clients, &scripts.input, entries) {
         Ok(Verdict::Yes) => End::Audited(entries.len() as u32),

@@ -99,7 +99,8 @@ fn turns<S: Store>(alloc: Global, store: &mut S, name: &str) -> Done
 
 /// Says whether the journal of this name is one of a run of the configuration of this name.
 fn audit<S: Store>(alloc: Global, store: &mut S, name: &str, journal: &str) -> Done
-    ensures { Ended (S.shown store.old) (Audit name.now journal.now) (S.shown store.new) result.status result.journal.items }
+    ensures { Ended (S.shown store.old) (Audit name.now journal.now) (S.shown store.new)
+        result.status result.journal.items }
 {
     let config = match load_config(alloc, store, name) {
         Ok(config) => config,

@@ -1,11 +1,8 @@
 use Rattle.std.proofs.Common.{List, true, false, sym, ap, subst}
-use Rattle.nit_script.specs.declared.line.Line.{Line}
 use Rattle.nit_events.specs.declared.entry.Entry.{Entry}
 use Rattle.nit_top.specs.declared.finish.End.{End}
-use Rattle.nit_top.specs.declared.finish.Name.{Name}
 use Rattle.nit_top.specs.Audited.{IsAuditEnd}
 use Rattle.nit_top.specs.Lines.{name_text}
-use Rattle.nit_top.specs.Setup.{IsRunnable}
 use Rattle.nit_top.specs.Work.{setup_of}
 use Rattle.nit_top.proofs.AuditEnds.{ends_before, found_ends, text_ends}
 use Rattle.nit_top.proofs.Setups.{not_read, read_whole}
