@@ -1,5 +1,5 @@
-mod GoodEntryLemmas
-mod VerdictLemmas
+pub mod GoodEntryLemmas
+pub mod VerdictLemmas
 mod GoodAndWhole
 mod KeyLemmas
 mod CallEntries
@@ -7,3 +7,4 @@ mod NextEntry
 mod EachEntry
 mod InputEntries
 mod FirstState
+pub mod ForCallers

@@ -11,7 +11,7 @@ use Rattle.nit_top.specs.declared.region.Region.{Region}
 use Rattle.nit_top.specs.Command.{Command, Capture, NoCommand, Run}
 use Rattle.nit_top.specs.Setup.{Setup}
 use Rattle.nit_top.specs.Judged.{reads}
-use Rattle.nit_top.specs.FilesRead.{FilesRead, NoFile, FirstFiles, AllFiles, HasRead, AreAllFiles, names_read, next_name}
+use Rattle.nit_top.specs.FilesRead.{FilesRead, NoFile, FirstFiles, AllScripts, AllFiles, HasRead, AreAllFiles, names_read, next_name}
 use Rattle.nit_top.specs.Films.{film_name, film_of, is_outside_of, pictures_in}
 use Rattle.nit_top.specs.Course.{asked_also, Course, Begun, NotBegun, IsNotBegun, IsLastRead, IsMadeBefore, IsMadeInPart, IsMadeUpTo}
 use Rattle.nit_top.specs.Answer.{Came}
@@ -21,7 +21,7 @@ use Rattle.nit_top.specs.Work.{Ends, asking_all, line_on}
 use Rattle.nit_top.proofs.Ending.{run_ends, unbegun_ends}
 
 -- a run has entries
-never_empty : (s : Setup) (journal : List Entry) → IsJournal s journal → journal ≡ [] → ⊥
+pub never_empty : (s : Setup) (journal : List Entry) → IsJournal s journal → journal ≡ [] → ⊥
 never_empty s journal j none = not_empty j.whole.ends.0 (sym j.whole.ends.1 ∙ none)
   where
     not_empty : (front : List Entry) → front ++ entry.Final ∷ [] ≡ [] → ⊥
@@ -43,16 +43,19 @@ module _ (name : List ℕ) (region : Region) where
   read_too : (told : Option (List File)) (r : FilesRead) → HasRead run told r → HasRead film told r
   read_too told NoFile h = tt
   read_too told (FirstFiles config scripts) h = h
+  read_too told (AllScripts s) h = h
   read_too told (AllFiles s) h = all_too told s h
 
   names_too : (r : FilesRead) → names_read run r ≡ names_read film r
   names_too NoFile = refl
   names_too (FirstFiles config scripts) = refl
+  names_too (AllScripts s) = refl
   names_too (AllFiles s) = refl
 
   next_too : (r : FilesRead) → next_name film r ≡ next_name run r
   next_too NoFile = refl
   next_too (FirstFiles config scripts) = refl
+  next_too (AllScripts s) = refl
   next_too (AllFiles s) = refl
 
   -- ---- before a run
@@ -113,6 +116,7 @@ module _ (name : List ℕ) (region : Region) where
     came_too ends.NoMemory line (inr (inr r), is) = absurd r
     came_too ends.Outside line (o, is) = absurd (let e = o.outside in cc)
     came_too ends.Whole line h = absurd h
+    came_too (ends.Audited n) line h = absurd h.0.audit
 
   -- how far a command came that began no run
   record CameSo (c : Command) (old : Shown) (files : Option (List File)) (asked : Option (List (List ℕ))) (journal : List Entry) (end : End) (line : List ℕ) : Type 0 where

@@ -1,5 +1,5 @@
 -- The codes of the ways that a command ends, and what the counts of faults say of them.
-use Rattle.std.proofs.Common.{◌≡◌, ℕ, ◌≤◌, [], ◌∷◌, refl, sym, subst, ◌∙◌, arith, inl, inr, ◌⊎◌}
+use Rattle.std.proofs.Common.{◌≡◌, ℕ, ◌≤◌, Bool, true, false, [], ◌∷◌, refl, subst, arith, inl, inr, ◌⊎◌}
 use Rattle.std.specs.Prelude.{IsTrue, ◌==◌}
 use Rattle.std.specs.List.{list_any}
 use Rattle.nit_store.specs.Shown.{Shown, Rose}
@@ -12,22 +12,39 @@ use Rattle.nit_top.specs.Answer.{Counts, code_of, IsEarly}
 
 -- ---- codes
 
--- a refusal has one of two codes
-pub fault_codes : (f : Fault) → (fault_code f ≡ 5) ⊎ (fault_code f ≡ 6)
-fault_codes (fault.BadConfig e) = inl refl
-fault_codes fault.LongConfig = inl refl
-fault_codes (fault.BadLine n) = inr refl
-fault_codes fault.TooLong = inr refl
-fault_codes fault.PhasesDiffer = inr refl
+-- a refusal has one of these codes
+abbrev pub is_fault_code : ℕ → Bool
+is_fault_code n = list_any (λ s. s == n) (5 ∷ 6 ∷ 8 ∷ 9 ∷ [])
 
-pub not_fault : (f : Fault) (n : ℕ) → fault_code f ≡ n → (n ≡ 5 → ⊥) → (n ≡ 6 → ⊥) → ⊥
-not_fault f n e five six = elim (fault_codes f) [ inl x ↦ five (sym e ∙ x) | inr x ↦ six (sym e ∙ x) ]
+fault_codes : (f : Fault) → is_fault_code (fault_code f) ≡ true
+fault_codes (fault.BadConfig e) = refl
+fault_codes fault.LongConfig = refl
+fault_codes (fault.BadLine n) = refl
+fault_codes fault.TooLong = refl
+fault_codes fault.PhasesDiffer = refl
+fault_codes fault.LongJournal = refl
+fault_codes (fault.BadEntry n) = refl
+fault_codes (fault.NotARun n) = refl
+
+not_both : (b : Bool) → b ≡ true → b ≡ false → ⊥
+not_both true x y = cc
+not_both false x y = cc
+
+pub not_fault : (f : Fault) (n : ℕ) → fault_code f ≡ n → is_fault_code n ≡ false → ⊥
+not_fault f n e other = not_both (is_fault_code n) (subst (λ (k : ℕ). is_fault_code k ≡ true) e (fault_codes f)) other
 
 abbrev pub Known : ℕ → Type 0
-Known n = IsTrue (list_any (λ s. s == n) (0 ∷ 2 ∷ 3 ∷ 4 ∷ 5 ∷ 6 ∷ 7 ∷ 10 ∷ []))
+Known n = IsTrue (list_any (λ s. s == n) (0 ∷ 2 ∷ 3 ∷ 4 ∷ 5 ∷ 6 ∷ 7 ∷ 8 ∷ 9 ∷ 10 ∷ []))
 
 pub known_fault : (f : Fault) → Known (fault_code f)
-known_fault f = elim (fault_codes f) [ inl x ↦ subst Known (sym x) refl | inr x ↦ subst Known (sym x) refl ]
+known_fault (fault.BadConfig e) = refl
+known_fault fault.LongConfig = refl
+known_fault (fault.BadLine n) = refl
+known_fault fault.TooLong = refl
+known_fault fault.PhasesDiffer = refl
+known_fault fault.LongJournal = refl
+known_fault (fault.BadEntry n) = refl
+known_fault (fault.NotARun n) = refl
 
 pub known_code : (e : End) → Known (code_of e)
 known_code ends.Usage = refl
@@ -37,6 +54,7 @@ known_code ends.WriteFault = refl
 known_code ends.NoMemory = refl
 known_code ends.Outside = refl
 known_code ends.Whole = refl
+known_code (ends.Audited n) = refl
 
 pub early_not : (n m : ℕ) → IsEarly n → (IsEarly m → ⊥) → n ≡ m → ⊥
 early_not n m early not e = not (subst IsEarly e early)
@@ -60,10 +78,11 @@ reads_by old mid ends.WriteFault h = inr h.0
 reads_by old mid ends.NoMemory h = inr h.0
 reads_by old mid ends.Outside h = inr h.0
 reads_by old mid ends.Whole h = inr h.0
+reads_by old mid (ends.Audited n) h = inr h.0
 
 pub read_rose : (old mid : Shown) (e : End) → Counts old mid e → code_of e ≡ 3 → Rose old.read_faults mid.read_faults
 read_rose old mid ends.ReadFault h c = h.0
-read_rose old mid (ends.Refused f) h c = absurd (not_fault f 3 c (λ x. absurd (omega arith)) (λ x. absurd (omega arith)))
+read_rose old mid (ends.Refused f) h c = absurd (not_fault f 3 c refl)
 read_rose old mid e h c = absurd (omega arith)
 
 pub writes_by : (old mid : Shown) (e : End) → Counts old mid e → ((code_of e ≡ 4) × Rose old.write_faults mid.write_faults) ⊎ (mid.write_faults ≡ old.write_faults)
@@ -74,10 +93,11 @@ writes_by old mid ends.WriteFault h = inl (refl, h.1)
 writes_by old mid ends.NoMemory h = inr h.1
 writes_by old mid ends.Outside h = inr h.1
 writes_by old mid ends.Whole h = inr h.1
+writes_by old mid (ends.Audited n) h = inr h.1
 
 pub write_rose : (old mid : Shown) (e : End) → Counts old mid e → code_of e ≡ 4 → Rose old.write_faults mid.write_faults
 write_rose old mid ends.WriteFault h c = h.1
-write_rose old mid (ends.Refused f) h c = absurd (not_fault f 4 c (λ x. absurd (omega arith)) (λ x. absurd (omega arith)))
+write_rose old mid (ends.Refused f) h c = absurd (not_fault f 4 c refl)
 write_rose old mid e h c = absurd (omega arith)
 
 pub writes_later : (old mid : Shown) (e : End) → Counts old mid e → old.write_faults ≤ mid.write_faults
@@ -88,3 +108,4 @@ writes_later old mid (ends.Refused f) h = let same = h.1 in omega arith
 writes_later old mid ends.NoMemory h = let same = h.1 in omega arith
 writes_later old mid ends.Outside h = let same = h.1 in omega arith
 writes_later old mid ends.Whole h = let same = h.1 in omega arith
+writes_later old mid (ends.Audited n) h = let same = h.1 in omega arith

@@ -1,5 +1,5 @@
 -- Files are judged in one way.
-use Rattle.std.proofs.Common.{◌≡◌, ℕ, Bool, true, List, [], ◌∷◌, ◌++◌, Option, Some, None, refl, sym, ap, subst, ◌∙◌, arith, inl, inr, ◌⊎◌}
+use Rattle.std.proofs.Common.{◌≡◌, ℕ, Bool, true, List, [], ◌∷◌, ◌++◌, map, take, Option, Some, None, refl, sym, ap, subst, ◌∙◌, arith, inl, inr, ◌⊎◌}
 use Rattle.std.specs.Prelude.{IfSome, IsSomeAnd, ◌==◌}
 use Rattle.std.specs.List.{AllByRecursion}
 use Rattle.std.proofs.lemmas.Bool.{cases_Bool}
@@ -13,9 +13,20 @@ use Rattle.nit_script.proofs.ForCallers.{client_reader, input_reader, IsReader, 
 use Rattle.nit_store.specs.Shown.{File, bytes_of}
 use Rattle.nit_top.specs.declared.finish.Fault.{Fault}
 use Rattle.nit_top.specs.declared.finish.Fault.TheVariants as fault
-use Rattle.nit_top.specs.Command.{Command, Still, Run, Gen, Capture, NoCommand}
+use Rattle.nit_top.specs.Command.{Command, Still, Run, Gen, Audit, Capture, NoCommand}
 use Rattle.nit_top.specs.Setup.{Setup, HaveSamePhases}
-use Rattle.nit_top.specs.Judged.{IsConfig, IsConfigFault, IsScript, IsNoScript, IsFaulty, wrong_phases, wrong_client, wrong_input, IsClientFault, IsInputFault, wanted_by, script_names, SpellScripts, AreScripts, IsFirstFault, IsInputsFault, AreRead, Judged, JudgedRun, Refused, Valid, IsValid, fault_code, IsRefused}
+use Rattle.nit_top.specs.Judged.{IsConfig, IsConfigFault, IsScript, IsNoScript, IsFaulty, wrong_phases, wrong_client, wrong_input, IsClientFault, IsInputFault, wanted_by, script_names, SpellScripts, AreScripts, IsFirstFault, IsInputsFault, AreRead, AreSetup, IsSetupFault, Judged, Refused, IsValid, fault_code, IsRefused}
+use Rattle.nit_top.specs.JournalFiles.{IsJournalText, IsVerdictOn, HasVerdict, IsJournalFault}
+use Rattle.nit_events.specs.declared.entry.Entry.{Entry}
+use Rattle.nit_plan.specs.Calls.{calls_to_make, deeds_to_do}
+use Rattle.nit_report.proofs.EntryLaws.{journal_reader}
+use Rattle.nit_report.proofs.Journals.{read_and_bad as journal_and_bad}
+use Rattle.nit_audit.specs.declared.auditing.Verdict.{Verdict}
+use Rattle.nit_audit.specs.declared.auditing.Verdict.TheVariants as verdict
+use Rattle.nit_audit.specs.GoodEntries.{IsGood}
+use Rattle.nit_audit.specs.Verdict.{IsVerdict}
+use Rattle.nit_audit.proofs.ForCallers.{good_fewer, one_verdict}
+use Rattle.nit_script.specs.declared.line.InputLine.{InputLine}
 use Rattle.nit_top.specs.Films.{is_outside_of}
 use Rattle.nit_top.specs.Answer.{IsValidSo}
 
@@ -30,6 +41,9 @@ config_not_both bytes config fault.LongConfig v r = let few = v.0 in absurd (ome
 config_not_both bytes config (fault.BadLine n) v r = r
 config_not_both bytes config fault.TooLong v r = r
 config_not_both bytes config fault.PhasesDiffer v r = r
+config_not_both bytes config fault.LongJournal v r = r
+config_not_both bytes config (fault.BadEntry n) v r = r
+config_not_both bytes config (fault.NotARun n) v r = r
 
 -- ---- a script
 
@@ -41,6 +55,9 @@ not_faulty reader wrong bytes lines fault.TooLong v right (inl (inr long)) = rea
 not_faulty reader wrong bytes lines (fault.BadConfig e) v right (inl r) = r
 not_faulty reader wrong bytes lines fault.LongConfig v right (inl r) = r
 not_faulty reader wrong bytes lines fault.PhasesDiffer v right (inl r) = r
+not_faulty reader wrong bytes lines fault.LongJournal v right (inl r) = r
+not_faulty reader wrong bytes lines (fault.BadEntry n) v right (inl r) = r
+not_faulty reader wrong bytes lines (fault.NotARun n) v right (inl r) = r
 not_faulty reader wrong bytes lines f v right (inr (more, is, w)) = some_none f (sym w ∙ ap wrong (sym (same_read reader bytes lines more v.1 is.1)) ∙ right)
 
 -- ---- the scripts of a configuration
@@ -99,22 +116,69 @@ inputs_fault_not files s name f v r =
 
 -- ---- a command
 
--- files that make a run valid are not refused
-run_not_refused : (beside : Bool) (configuration : List ℕ) (files : List File) (s : Setup) (name : List ℕ) (f : Fault) → JudgedRun beside configuration files (Valid s) → JudgedRun beside configuration files (Refused name f) → ⊥
-run_not_refused beside configuration files s name f v (inl r) = config_not_both (bytes_of configuration files) s.config f v.0 r.1
-run_not_refused beside configuration files s name f v (inr (config, is, r)) =
+-- files that make a setup have no fault
+setup_not_refused : (configuration : List ℕ) (files : List File) (s : Setup) (name : List ℕ) (f : Fault) → AreSetup configuration files s → IsSetupFault configuration files name f → ⊥
+setup_not_refused configuration files s name f v (inl r) = config_not_both (bytes_of configuration files) s.config f v.0 r.1
+setup_not_refused configuration files s name f v (inr (config, is, r)) =
     let same : config ≡ s.config = one_configuration (bytes_of configuration files) config s.config is.1 v.0.1 in
     elim r [
       | inl first ↦ first_fault_not files (script_names s.config) s.scripts name f v.1.scripts (subst (λ (k : Configuration). IsFirstFault files (script_names k) name f) same first)
       | inr inputs ↦ inputs_fault_not files s name f v.1 (subst (λ (k : Configuration). IsInputsFault files k name f) same inputs)
     ]
 
+-- ---- a journal
+
+-- the same files make one setup
+abbrev IsSameSetup : Setup → Setup → Type 0
+IsSameSetup s t = (s.config ≡ t.config) × (s.scripts ≡ t.scripts) × (s.input ≡ t.input)
+
+one_setup : (configuration : List ℕ) (files : List File) (s t : Setup) → AreSetup configuration files s → AreSetup configuration files t → IsSameSetup s t
+one_setup configuration files s t v w =
+    let config : s.config ≡ t.config = one_configuration (bytes_of configuration files) s.config t.config v.0.1 w.0.1 in
+    let there : SpellScripts files (script_names s.config) t.scripts = subst (λ (k : Configuration). SpellScripts files (script_names k) t.scripts) (sym config) w.1.scripts.0 in
+    let other : IsScript FitsInputLine input_spelling (bytes_of s.config.input files) t.input = subst (λ (k : Configuration). IsScript FitsInputLine input_spelling (bytes_of k.input files) t.input) (sym config) w.1.input.0 in
+    (config, same_scripts files (script_names s.config) s.scripts t.scripts v.1.scripts.0 there, same_read input_reader (bytes_of s.config.input files) s.input t.input v.1.input.0.1 other.1)
+
+-- and one setup gives one verdict
+same_verdict : (s t : Setup) (entries : List Entry) (v : Verdict) → IsSameSetup s t → IsVerdictOn t entries v → IsVerdictOn s entries v
+same_verdict s t entries v (config, scripts, input) h =
+    subst (λ (k : Configuration). IsVerdict (IsGood k s.scripts s.input) entries v) (sym config)
+    (subst (λ (ss : List (List Line)). IsVerdict (IsGood t.config ss s.input) entries v) (sym scripts)
+    (subst (λ (ls : List InputLine). IsVerdict (IsGood t.config t.scripts ls) entries v) (sym input) h))
+
+not_yes_and_no : (s : Setup) (entries : List Entry) (k : ℕ) → IsVerdictOn s entries verdict.Yes → IsVerdictOn s entries (verdict.No k) → ⊥
+not_yes_and_no s entries k yes_ no_ =
+    let fewer : (j : ℕ) (xs : List Entry) → IsGood s.config s.scripts s.input xs → IsGood s.config s.scripts s.input (take j xs) =
+    λ j xs g. good_fewer s.config (map calls_to_make s.scripts) (deeds_to_do s.input) j xs g in
+    let same : verdict.Yes ≡ verdict.No k = one_verdict (IsGood s.config s.scripts s.input) fewer entries verdict.Yes (verdict.No k) yes_ no_ in
+    cc
+
+-- a journal on which the verdict is yes has no fault
+journal_not_refused : (s t : Setup) (bytes : List ℕ) (f : Fault) → IsSameSetup s t → HasVerdict s bytes verdict.Yes → IsJournalFault t bytes f → ⊥
+journal_not_refused s t bytes (fault.NotARun k) same (entries, text, yes_) (more, is, no_) =
+    let one : more ≡ entries = same_read journal_reader bytes more entries is.1 text.1 in
+    not_yes_and_no s entries k yes_ (subst (λ (es : List Entry). IsVerdictOn s es (verdict.No k)) one (same_verdict s t more (verdict.No k) same no_))
+journal_not_refused s t bytes (fault.BadEntry line) same (entries, text, yes_) r = journal_and_bad bytes entries line text.1 r.1
+journal_not_refused s t bytes fault.LongJournal same (entries, text, yes_) r = let few = text.0 in absurd (omega arith)
+journal_not_refused s t bytes (fault.BadConfig e) same v r = r
+journal_not_refused s t bytes fault.LongConfig same v r = r
+journal_not_refused s t bytes (fault.BadLine n) same v r = r
+journal_not_refused s t bytes fault.TooLong same v r = r
+journal_not_refused s t bytes fault.PhasesDiffer same v r = r
+
+audit_not_refused : (configuration journal : List ℕ) (files : List File) (s : Setup) (name : List ℕ) (f : Fault) → IsValid (Audit configuration journal) files s → Judged (Audit configuration journal) files (Refused name f) → ⊥
+audit_not_refused configuration journal files s name f v (inl r) = setup_not_refused configuration files s name f v.0 r
+audit_not_refused configuration journal files s name f v (inr (is, (t, are, r))) = journal_not_refused s t (bytes_of journal files) f (one_setup configuration files s t v.0 are) v.1 r
+
+-- ---- the files of a command
+
 -- files that make a command valid are not refused
 pub valid_not_refused : (c : Command) (files : List File) (s : Setup) (name : List ℕ) (f : Fault) → IsValid c files s → Judged c files (Refused name f) → ⊥
 valid_not_refused (Still width height script) files s name f v r = not_faulty client_reader (wrong_client None) (bytes_of script files) v.0 f v.1.0 v.1.1 r.1
-valid_not_refused (Run beside configuration) files s name f v r = run_not_refused beside configuration files s name f v r
+valid_not_refused (Run beside configuration) files s name f v r = setup_not_refused configuration files s name f (v.0, v.1) r
 valid_not_refused (Gen number) files s name f v r = r
-valid_not_refused (Capture configuration region) files s name f v r = run_not_refused true configuration files s name f v r
+valid_not_refused (Audit configuration journal) files s name f v r = audit_not_refused configuration journal files s name f v r
+valid_not_refused (Capture configuration region) files s name f v r = setup_not_refused configuration files s name f (v.0, v.1) r
 valid_not_refused NoCommand files s name f v r = v
 
 config_code : (bytes : List ℕ) (f : Fault) → IsConfigFault bytes f → fault_code f ≡ 5
@@ -123,6 +187,9 @@ config_code bytes fault.LongConfig r = refl
 config_code bytes (fault.BadLine n) r = absurd r
 config_code bytes fault.TooLong r = absurd r
 config_code bytes fault.PhasesDiffer r = absurd r
+config_code bytes fault.LongJournal r = absurd r
+config_code bytes (fault.BadEntry n) r = absurd r
+config_code bytes (fault.NotARun n) r = absurd r
 
 no_script_code : {L : Type 0} (Fits : L → Type 0) (spelling : L → List ℕ) (bytes : List ℕ) (f : Fault) → IsNoScript Fits spelling bytes f → fault_code f ≡ 6
 no_script_code Fits spelling bytes (fault.BadConfig e) r = absurd r
@@ -130,6 +197,9 @@ no_script_code Fits spelling bytes fault.LongConfig r = absurd r
 no_script_code Fits spelling bytes (fault.BadLine n) r = refl
 no_script_code Fits spelling bytes fault.TooLong r = refl
 no_script_code Fits spelling bytes fault.PhasesDiffer r = absurd r
+no_script_code Fits spelling bytes fault.LongJournal r = absurd r
+no_script_code Fits spelling bytes (fault.BadEntry n) r = absurd r
+no_script_code Fits spelling bytes (fault.NotARun n) r = absurd r
 
 this_fault : (f g : Fault) → Some f ≡ Some g → fault_code f ≡ 6 → fault_code g ≡ 6
 this_fault f g e is = let same : f ≡ g = cc in ap fault_code (sym same) ∙ is
@@ -156,19 +226,44 @@ script_code : (files : List File) (config : Configuration) (name : List ℕ) (f 
 script_code files config name f (inl r) = client_code (wanted_by r.scripts) (bytes_of name files) f r.fault
 script_code files config name f (inr r) = input_code (wanted_by r.scripts) (bytes_of name files) f r.fault
 
--- two refusals of the files of a run have the same status
-run_codes : (beside : Bool) (configuration : List ℕ) (files : List File) (m n : List ℕ) (f g : Fault) → JudgedRun beside configuration files (Refused m f) → JudgedRun beside configuration files (Refused n g) → fault_code f ≡ fault_code g
-run_codes beside configuration files m n f g (inl p) (inl q) = config_code (bytes_of configuration files) f p.1 ∙ sym (config_code (bytes_of configuration files) g q.1)
-run_codes beside configuration files m n f g (inl p) (inr q) = absurd (config_not_both (bytes_of configuration files) q.0 f q.1 p.1)
-run_codes beside configuration files m n f g (inr p) (inl q) = absurd (config_not_both (bytes_of configuration files) p.0 g p.1 q.1)
-run_codes beside configuration files m n f g (inr p) (inr q) = script_code files p.0 m f p.2 ∙ sym (script_code files q.0 n g q.2)
+-- two refusals of the files of a setup have the same status
+setup_codes : (configuration : List ℕ) (files : List File) (m n : List ℕ) (f g : Fault) → IsSetupFault configuration files m f → IsSetupFault configuration files n g → fault_code f ≡ fault_code g
+setup_codes configuration files m n f g (inl p) (inl q) = config_code (bytes_of configuration files) f p.1 ∙ sym (config_code (bytes_of configuration files) g q.1)
+setup_codes configuration files m n f g (inl p) (inr q) = absurd (config_not_both (bytes_of configuration files) q.0 f q.1 p.1)
+setup_codes configuration files m n f g (inr p) (inl q) = absurd (config_not_both (bytes_of configuration files) p.0 g p.1 q.1)
+setup_codes configuration files m n f g (inr p) (inr q) = script_code files p.0 m f p.2 ∙ sym (script_code files q.0 n g q.2)
+
+-- a journal's fault is one of its text, which then spells no journal, or one of the journal that it spells
+journal_code : (s : Setup) (bytes : List ℕ) (f : Fault) → IsJournalFault s bytes f
+    → ((fault_code f ≡ 8) × ((entries : List Entry) → IsJournalText bytes entries → ⊥)) ⊎ ((fault_code f ≡ 9) × ((entries : List Entry) × IsJournalText bytes entries))
+journal_code s bytes (fault.NotARun k) r = inr (refl, (r.0, r.1))
+journal_code s bytes (fault.BadEntry line) r = inl (refl, λ entries text. journal_and_bad bytes entries line text.1 r.1)
+journal_code s bytes fault.LongJournal r = inl (refl, λ entries text. let few = text.0 in absurd (omega arith))
+journal_code s bytes (fault.BadConfig e) r = absurd r
+journal_code s bytes fault.LongConfig r = absurd r
+journal_code s bytes (fault.BadLine n) r = absurd r
+journal_code s bytes fault.TooLong r = absurd r
+journal_code s bytes fault.PhasesDiffer r = absurd r
+
+journal_codes : (s t : Setup) (bytes : List ℕ) (f g : Fault) → IsJournalFault s bytes f → IsJournalFault t bytes g → fault_code f ≡ fault_code g
+journal_codes s t bytes f g p q = elim (journal_code s bytes f p) [
+  | inl a ↦ elim (journal_code t bytes g q) [ inl b ↦ a.0 ∙ sym b.0 | inr b ↦ absurd (a.1 b.1.0 b.1.1) ]
+  | inr a ↦ elim (journal_code t bytes g q) [ inl b ↦ absurd (b.1 a.1.0 a.1.1) | inr b ↦ a.0 ∙ sym b.0 ]
+]
+
+audit_codes : (configuration journal : List ℕ) (files : List File) (m n : List ℕ) (f g : Fault) → Judged (Audit configuration journal) files (Refused m f) → Judged (Audit configuration journal) files (Refused n g) → fault_code f ≡ fault_code g
+audit_codes configuration journal files m n f g (inl p) (inl q) = setup_codes configuration files m n f g p q
+audit_codes configuration journal files m n f g (inl p) (inr (is, (t, are, q))) = absurd (setup_not_refused configuration files t m f are p)
+audit_codes configuration journal files m n f g (inr (is, (s, are, p))) (inl q) = absurd (setup_not_refused configuration files s n g are q)
+audit_codes configuration journal files m n f g (inr (is, (s, are, p))) (inr (is_too, (t, are_too, q))) = journal_codes s t (bytes_of journal files) f g p q
 
 -- two refusals of the same files have the same status
 pub codes_agree : (c : Command) (files : List File) (m n : List ℕ) (f g : Fault) → Judged c files (Refused m f) → Judged c files (Refused n g) → fault_code f ≡ fault_code g
 codes_agree (Still width height script) files m n f g p q = client_code None (bytes_of script files) f p.1 ∙ sym (client_code None (bytes_of script files) g q.1)
-codes_agree (Run beside configuration) files m n f g p q = run_codes beside configuration files m n f g p q
+codes_agree (Run beside configuration) files m n f g p q = setup_codes configuration files m n f g p q
 codes_agree (Gen number) files m n f g p q = absurd p
-codes_agree (Capture configuration region) files m n f g p q = run_codes true configuration files m n f g p q
+codes_agree (Audit configuration journal) files m n f g p q = audit_codes configuration journal files m n f g p q
+codes_agree (Capture configuration region) files m n f g p q = setup_codes configuration files m n f g p q
 codes_agree NoCommand files m n f g p q = absurd p
 
 -- ---- where the store tells its files
@@ -201,6 +296,7 @@ same_side : (c : Command) (files : List File) (s t : Setup) → IsValid c files 
 same_side (Still width height script) files s t v w = refl
 same_side (Run beside configuration) files s t v w = refl
 same_side (Gen number) files s t v w = refl
+same_side (Audit configuration journal) files s t v w = refl
 same_side (Capture configuration region) files s t v w = ap (λ (k : Configuration). is_outside_of (Capture configuration region) k) (one_configuration (bytes_of configuration files) s.config t.config v.0.1 w.0.1)
 same_side NoCommand files s t v w = absurd v
 

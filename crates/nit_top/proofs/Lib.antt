@@ -9,6 +9,8 @@ pub mod EntryCounts
 pub mod Judging
 pub mod SaidLines
 pub mod EndCodes
+pub mod AuditCourse
+pub mod EndCauses
 pub mod Causes
 pub mod Puts
 pub mod Pictures
@@ -27,3 +29,4 @@ pub mod Fitting
 pub mod FilmPictures
 pub mod FilmFiles
 pub mod CaptureEnds
+pub mod AuditEnds

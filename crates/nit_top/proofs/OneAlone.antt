@@ -1,5 +1,5 @@
 -- A run of one client whose user does nothing: its beginning, and what it leaves.
-use Rattle.std.proofs.Common.{◌≡◌, ◌∙◌, true, false, ℕ, zero, suc, ◌+◌, ◌<◌, List, [], ◌∷◌, ◌++◌, length, map, Some, refl, sym, ap, subst, arith}
+use Rattle.std.proofs.Common.{◌≡◌, ◌∙◌, true, false, ℕ, ◌+◌, ◌<◌, List, [], ◌∷◌, ◌++◌, length, map, Some, refl, sym, ap, subst, arith}
 use Rattle.std.specs.Prelude.{drop, slice_get, slice_index_or, count_by}
 use Rattle.nit_config.specs.Configuration.{Configuration}
 use Rattle.nit_events.specs.declared.entry.Entry.{Entry}
@@ -13,22 +13,21 @@ use Rattle.nit_plan.specs.Calls.{calls_to_make, deeds_to_do}
 use Rattle.nit_plan.specs.Steps.{Planned}
 use Rattle.nit_pixels.specs.Ends.{End}
 use Rattle.nit_store.specs.Shown.{File, Shown}
-use Rattle.nit_store.specs.Puts.{Putting, PutsAll, PutsNext, unrefused}
+use Rattle.nit_store.specs.Puts.{PutsNext, unrefused}
 use Rattle.nit_hall.specs.Openings.{IsOpening}
 use Rattle.nit_hall.specs.Parts.{Parts}
-use Rattle.nit_hall.specs.Passes.{PassModel, UserPassModel, Belongs, UserBelongs, AreDone, IsDoneUser}
+use Rattle.nit_hall.specs.Passes.{PassModel, UserPassModel, Belongs}
 use Rattle.nit_hall.specs.Rooms.{RoomModel}
 use Rattle.nit_actor.specs.Done.{AreRoundsOf}
 use Rattle.nit_actor.specs.Drawn.{drawn}
 use Rattle.nit_actor.specs.InStep.{AreInStep, idle_user}
-use Rattle.nit_actor.specs.Roles.{UserRole, role_of, user_role_of}
 use Rattle.nit_actor.specs.Rounds.{rounds}
 use Rattle.nit_top.specs.declared.run.Ran.{Ran}
 use Rattle.nit_top.specs.Besides.{IsAlone, IsReady, IsReadyAlone}
 use Rattle.nit_top.specs.Outputs.{AreOutputs, IsJournal, final_name, final_picture}
 use Rattle.nit_top.specs.Setup.{Setup}
 use Rattle.nit_top.specs.Work.{HasRun, putting, setup_of}
-use Rattle.nit_top.proofs.Besides.{all_done, get_at, is_ready, user_done}
+use Rattle.nit_top.proofs.Besides.{get_at, is_ready}
 use Rattle.nit_top.proofs.Pictures.{UserOnce, no_picture}
 
 -- ---- the beginning

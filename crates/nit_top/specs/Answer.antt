@@ -11,8 +11,9 @@ use Rattle.nit_top.specs.Command.{Gen, NoCommand, Command, command}
 use Rattle.nit_top.specs.Setup.{Setup}
 use Rattle.nit_top.specs.Judged.{Refused, Judged, IsRefused, IsValid, fault_code}
 use Rattle.nit_top.specs.Films.{is_outside_of}
-use Rattle.nit_top.specs.Lines.{usage_line, read_fault_line, write_fault_line, outside_line, fault_line, generated_line, summary_line, no_memory_line}
+use Rattle.nit_top.specs.Lines.{usage_line, read_fault_line, write_fault_line, outside_line, fault_line, audited_line, generated_line, summary_line, no_memory_line}
 use Rattle.nit_top.specs.Course.{Course, WithRun, IsNotBegun, IsOutside, IsLastRead, IsMadeBefore, IsMadeInPart, IsPutWhole, IsRefusedAt, IsCutShort, totals}
+use Rattle.nit_top.specs.Audited.{IsAudit, AuditOr, IsAudited}
 
 -- ---- how the work came to its end
 
@@ -37,6 +38,8 @@ Came course files asked ends.NoMemory line =
     × (line ≡ no_memory_line)
 Came course files asked ends.Whole line =
     WithRun course (λ run. IsPutWhole run files asked × (line ≡ summary_line (totals run)))
+Came course files asked (ends.Audited count) line =
+    IsAudited course files asked count × (line ≡ audited_line count)
 
 -- which counts of failures rose in the work
 abbrev pub Counts : Shown → Shown → End → Type 0
@@ -59,6 +62,7 @@ code_of ends.WriteFault = 4
 code_of ends.NoMemory = 7
 code_of ends.Outside = 10
 code_of ends.Whole = 0
+code_of (ends.Audited count) = 0
 
 -- A refusal of the line makes 4 of 0; want of memory makes 7 of any status.
 abbrev pub status_of : {T : Type 0} → ℕ → Result T PutError → ℕ
@@ -116,14 +120,14 @@ HasValidFiles c told = IsSomeAnd told (IsValidSo c false)
 
 -- the status is one of those with which the work ends before a run
 abbrev pub IsEarly : ℕ → Type 0
-IsEarly status = IsTrue (list_any (λ s. s == status) (2 ∷ 3 ∷ 5 ∷ 6 ∷ 10 ∷ []))
+IsEarly status = IsTrue (list_any (λ s. s == status) (2 ∷ 3 ∷ 5 ∷ 6 ∷ 8 ∷ 9 ∷ 10 ∷ []))
 
 pub record Answer (old : Shown) (words : List (List ℕ)) (new : Shown) (status : ℕ)
     (journal : List Entry) : Type 0 where
   -- a run was begun, and this is it; or none was begun, and the journal is empty
   pub course : Course old (command words) journal
   -- there is no other status
-  pub statuses : IsTrue (list_any (λ s. s == status) (0 ∷ 2 ∷ 3 ∷ 4 ∷ 5 ∷ 6 ∷ 7 ∷ 10 ∷ []))
+  pub statuses : IsTrue (list_any (λ s. s == status) (0 ∷ 2 ∷ 3 ∷ 4 ∷ 5 ∷ 6 ∷ 7 ∷ 8 ∷ 9 ∷ 10 ∷ []))
   -- 2 exactly where the words are no command; 7 is free
   pub usage : status ≡ 2 → command words ≡ NoCommand
   pub is_usage : command words ≡ NoCommand → (status ≡ 2) ⊎ (status ≡ 7)
@@ -143,6 +147,16 @@ pub record Answer (old : Shown) (words : List (List ℕ)) (new : Shown) (status 
   pub is_refused : NoFault old.read_faults new.read_faults
       → IsSomeAnd old.files (λ files. IsRefused 6 (command words) files)
       → (status ≡ 6) ⊎ (status ≡ 7)
+  -- 8 exactly where the journal's text is the first that is refused; 9 exactly where all texts are
+  -- valid and the journal is none of a run
+  pub bad_journal : status ≡ 8 → IfSome old.files (λ files. IsRefused 8 (command words) files)
+  pub is_bad_journal : NoFault old.read_faults new.read_faults
+      → IsSomeAnd old.files (λ files. IsRefused 8 (command words) files)
+      → (status ≡ 8) ⊎ (status ≡ 7)
+  pub not_a_run : status ≡ 9 → IfSome old.files (λ files. IsRefused 9 (command words) files)
+  pub is_not_a_run : NoFault old.read_faults new.read_faults
+      → IsSomeAnd old.files (λ files. IsRefused 9 (command words) files)
+      → (status ≡ 9) ⊎ (status ≡ 7)
   -- 10 exactly where the files are valid and the region that is to be filmed does not lie on the screen
   pub outside : status ≡ 10 → IfSome old.files (IsValidSo (command words) true)
   pub is_outside : NoFault old.read_faults new.read_faults
@@ -152,20 +166,28 @@ pub record Answer (old : Shown) (words : List (List ℕ)) (new : Shown) (status 
   -- there the names that are asked for are those of valid files that were read, and at most the next
   -- one
   pub asked : IsEarly status → IsNotBegun course new.files new.asked
-  -- at 0 a run was begun, and all is put that it puts, and nothing else
-  pub put_whole : status ≡ 0 → WithRun course (λ run. IsPutWhole run new.files new.asked)
-  -- at 0 the summary line of this run is said, and all of it
-  pub summary : status ≡ 0
-      → WithRun course (λ run. new.said ≡ said_also old.said (summary_line (totals run)))
+  -- an audit puts nothing, and the journal is empty, whatever the status
+  pub audit_puts_nothing : IsAudit (command words) → (new.files ≡ old.files) × (journal ≡ [])
+  -- at 0 a run was begun, and all is put that it puts, and nothing else; or an audit said yes
+  pub put_whole : status ≡ 0 → AuditOr (command words)
+      ((count : ℕ) × IsAudited course new.files new.asked count)
+      (WithRun course (λ run. IsPutWhole run new.files new.asked))
+  -- at 0 the summary line of this run is said, and all of it; or the line on the audited journal
+  pub summary : status ≡ 0 → AuditOr (command words)
+      ((count : ℕ) × IsAudited course new.files new.asked count
+      × (new.said ≡ said_also old.said (audited_line count)))
+      (WithRun course (λ run. new.said ≡ said_also old.said (summary_line (totals run))))
   -- and it is the same line for every generated run
   pub one_line : (number : ℕ) → command words ≡ Gen number → status ≡ 0
       → new.said ≡ said_also old.said generated_line
   -- at 4 a run was begun: all is put, and the line was refused; or the files before one are put, and
-  -- that one was refused; or none was begun, and that one is among the files that the command makes
-  pub put_in_part : status ≡ 4
-      → ((name : List ℕ) × IsMadeBefore course new.files new.asked name)
+  -- that one was refused; or none was begun, and that one is among the files that the command makes;
+  -- or an audit said yes, and the line was refused
+  pub put_in_part : status ≡ 4 → AuditOr (command words)
+      ((count : ℕ) × IsAudited course new.files new.asked count)
+      (((name : List ℕ) × IsMadeBefore course new.files new.asked name)
       ⊎ WithRun course (λ run. IsPutWhole run new.files new.asked
-      ⊎ ((name : List ℕ) × IsRefusedAt run new.files new.asked name))
+      ⊎ ((name : List ℕ) × IsRefusedAt run new.files new.asked name)))
   -- at 7 it is as at 0 or 4, or memory ran out at a file that the run was to put; or no run was begun, and
   -- nothing is put but the first files that the command makes
   pub at_seven : status ≡ 7
@@ -175,7 +197,8 @@ pub record Answer (old : Shown) (words : List (List ℕ)) (new : Shown) (status 
       ⊎ IsCutShort run new.files new.asked))
   -- the line on how the work came to its end is what is said, and the status goes by both
   pub said : IsSaid course new status
-  -- valid files, with a region on the screen, are run to the end, unless the store fails or memory runs out
+  -- valid files, with a region on the screen, are run to the end, and a journal of a run is found to
+  -- be one, unless the store fails or memory runs out
   pub complete : HasValidFiles (command words) old.files
       → NoFault old.read_faults new.read_faults → NoFault old.write_faults new.write_faults
       → (status ≡ 0) ⊎ (status ≡ 7)

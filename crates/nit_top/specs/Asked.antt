@@ -2,7 +2,7 @@
 use Rattle.std.specs.Prelude.{◌^◌, ◌<◌, ◌≤◌, true, false}
 use Rattle.nit_top.specs.declared.words.Asked.{Asked}
 use Rattle.nit_top.specs.declared.words.Asked.TheVariants as asked
-use Rattle.nit_top.specs.Command.{Command, Still, Run, Gen, Capture}
+use Rattle.nit_top.specs.Command.{Command, Still, Run, Gen, Audit, Capture}
 use Rattle.nit_top.specs.Regions.{IsShort}
 
 -- the command that is asked for
@@ -11,6 +11,7 @@ asks_for (asked.Still width height script) = Still width height script.now
 asks_for (asked.Turns config) = Run false config.now
 asks_for (asked.Run config) = Run true config.now
 asks_for (asked.Gen number) = Gen number
+asks_for (asked.Audit config journal) = Audit config.now journal.now
 asks_for (asked.Capture config region) = Capture config.now region
 
 -- the size of a picture, the number of a generated run, and the numbers of a region are within their ranges

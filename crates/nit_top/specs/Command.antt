@@ -12,12 +12,13 @@ texts words = map string_bytes words
 
 -- a picture of one client's script, on a screen of this width and height; or the run of a configuration, with its
 -- clients beside each other on threads of their own, or by turns; or the generated run of this number, with its
--- clients beside each other; or such a run of a configuration and the film of a region; or nothing that the
--- program does
+-- clients beside each other; or the audit of a journal by a configuration; or such a run of a
+-- configuration and the film of a region; or nothing that the program does
 pub data Command : Type 0 where
   Still : (width : ℕ) → (height : ℕ) → (script : List ℕ) → Command
   Run : (beside : Bool) → (configuration : List ℕ) → Command
   Gen : (number : ℕ) → Command
+  Audit : (configuration : List ℕ) → (journal : List ℕ) → Command
   Capture : (configuration : List ℕ) → (region : Region) → Command
   NoCommand : Command
 
@@ -26,6 +27,7 @@ abbrev pub starts_threads : Command → Bool
 starts_threads (Still width height script) = false
 starts_threads (Run beside configuration) = beside
 starts_threads (Gen number) = true
+starts_threads (Audit configuration journal) = false
 starts_threads (Capture configuration region) = true
 starts_threads NoCommand = false
 
@@ -67,6 +69,11 @@ run_of verb word =
     else (if bytes_eq verb (codes "run") then Run true word
     else (if bytes_eq verb (codes "gen") then gen (natural_of word) else NoCommand))
 
+-- `audit`, and the names of a configuration and of a journal
+abbrev pub audit_of : List ℕ → List ℕ → List ℕ → Command
+audit_of verb configuration journal =
+    if bytes_eq verb (codes "audit") then Audit configuration journal else NoCommand
+
 -- `still`, a width of 1 up to 1024, a height of 1 up to 768, and the name of a script
 abbrev pub still_of : List ℕ → List ℕ → List ℕ → List ℕ → Command
 still_of verb width height script =
@@ -82,6 +89,7 @@ capture_of verb configuration x y w h =
 -- what all words ask for
 abbrev pub command : List (List ℕ) → Command
 command (verb ∷ word ∷ []) = run_of verb word
+command (verb ∷ configuration ∷ journal ∷ []) = audit_of verb configuration journal
 command (verb ∷ width ∷ height ∷ script ∷ []) = still_of verb width height script
 command (verb ∷ configuration ∷ x ∷ y ∷ w ∷ h ∷ []) = capture_of verb configuration x y w h
 command words = NoCommand

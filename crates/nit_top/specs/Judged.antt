@@ -12,7 +12,9 @@ use Rattle.nit_script.specs.Phases.{phases, input_phases}
 use Rattle.nit_store.specs.Shown.{File, bytes_of}
 use Rattle.nit_top.specs.declared.finish.Fault.{Fault}
 use Rattle.nit_top.specs.declared.finish.Fault.TheVariants as fault
-use Rattle.nit_top.specs.Command.{Command, Still, Run, Gen, Capture, NoCommand}
+use Rattle.nit_top.specs.Command.{Command, Still, Run, Gen, Audit, Capture, NoCommand}
+use Rattle.nit_audit.specs.declared.auditing.Verdict.TheVariants as verdict
+use Rattle.nit_top.specs.JournalFiles.{HasVerdict, IsJournalFault}
 use Rattle.nit_top.specs.Setup.{Setup, generated_setup, still_setup, HaveSamePhases}
 
 -- ---- a configuration
@@ -116,13 +118,22 @@ pub data Judgement : Type 0 where
   Valid : Setup → Judgement
   Refused : List ℕ → Fault → Judgement
 
+-- the configuration has the fault; or it has none, and one of its scripts is the first that has it
+abbrev pub IsSetupFault : List ℕ → List File → List ℕ → Fault → Type 0
+IsSetupFault configuration files name f =
+    ((name ≡ configuration) × IsConfigFault (bytes_of configuration files) f)
+    ⊎ ((config : Configuration) × IsConfig (bytes_of configuration files) config
+    × (IsFirstFault files (script_names config) name f ⊎ IsInputsFault files config name f))
+
+-- the configuration and its scripts are this setup's
+abbrev pub AreSetup : List ℕ → List File → Setup → Type 0
+AreSetup configuration files s = IsConfig (bytes_of configuration files) s.config × AreRead files s
+
 -- the judgement of the files of a configuration that is to be run, with its clients beside each other or not
 abbrev pub JudgedRun : Bool → List ℕ → List File → Judgement → Type 0
 JudgedRun beside configuration files (Valid s) =
     IsConfig (bytes_of configuration files) s.config × AreRead files s × (s.texts ≡ true) × (s.beside ≡ beside) × (s.made ≡ [])
-JudgedRun beside configuration files (Refused name f) =
-    ((name ≡ configuration) × IsConfigFault (bytes_of configuration files) f)
-    ⊎ ((config : Configuration) × IsConfig (bytes_of configuration files) config × (IsFirstFault files (script_names config) name f ⊎ IsInputsFault files config name f))
+JudgedRun beside configuration files (Refused name f) = IsSetupFault configuration files name f
 
 -- the judgement of a command over the files that it names
 abbrev pub Judged : Command → List File → Judgement → Type 0
@@ -131,19 +142,29 @@ Judged (Still width height script) files (Refused name f) = (name ≡ script) ×
 Judged (Run beside configuration) files j = JudgedRun beside configuration files j
 Judged (Gen number) files (Valid s) = s ≡ generated_setup number
 Judged (Gen number) files (Refused name f) = ⊥
+Judged (Audit configuration journal) files (Valid s) =
+    AreSetup configuration files s × HasVerdict s (bytes_of journal files) verdict.Yes
+Judged (Audit configuration journal) files (Refused name f) =
+    IsSetupFault configuration files name f
+    ⊎ ((name ≡ journal) × ((s : Setup) × AreSetup configuration files s
+    × IsJournalFault s (bytes_of journal files) f))
 Judged (Capture configuration region) files j = JudgedRun true configuration files j
 Judged NoCommand files j = ⊥
 
 abbrev pub IsValid : Command → List File → Setup → Type 0
 IsValid c files s = Judged c files (Valid s)
 
--- the status of a refusal: 5 for a configuration, 6 for a script
+-- the status of a refusal: 5 for a configuration, 6 for a script; for a journal 8 where its text is
+-- refused, and 9 where it is none of a run
 abbrev pub fault_code : Fault → ℕ
 fault_code (fault.BadConfig error) = 5
 fault_code fault.LongConfig = 5
 fault_code (fault.BadLine number) = 6
 fault_code fault.TooLong = 6
 fault_code fault.PhasesDiffer = 6
+fault_code fault.LongJournal = 8
+fault_code (fault.BadEntry number) = 8
+fault_code (fault.NotARun number) = 9
 
 -- the command's files are refused with this status
 abbrev pub IsRefused : ℕ → Command → List File → Type 0
@@ -160,5 +181,6 @@ abbrev pub reads : Command → Configuration → List (List ℕ)
 reads (Still width height script) config = script ∷ []
 reads (Run beside configuration) config = configuration ∷ names_in config
 reads (Gen number) config = []
+reads (Audit configuration journal) config = configuration ∷ names_in config ++ journal ∷ []
 reads (Capture configuration region) config = configuration ∷ names_in config
 reads NoCommand config = []

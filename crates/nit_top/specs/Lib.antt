@@ -23,12 +23,16 @@ pub use Rattle.nit_actor.specs.Drawn
 pub use Rattle.nit_actor.specs.Shots
 pub use Rattle.nit_actor.specs.Pictures
 pub use Rattle.nit_hall.specs.Near
+pub use Rattle.nit_audit.specs.GoodEntries
+pub use Rattle.nit_audit.specs.Verdict
+pub use Rattle.nit_journal.specs.Projections
 pub use Rattle.nit_capture.specs.Film
 pub use Rattle.nit_capture.specs.Cut
 pub mod Regions
 pub mod Command
 pub mod Asked
 pub mod Setup
+pub mod JournalFiles
 pub mod Judged
 pub mod Outputs
 pub mod Films
@@ -40,6 +44,7 @@ pub mod Saying
 pub mod Headline
 pub mod FilesRead
 pub mod Course
+pub mod Audited
 pub mod Answer
 pub mod Work
 pub mod Filmed

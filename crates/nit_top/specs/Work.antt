@@ -12,6 +12,8 @@ use Rattle.nit_script.specs.declared.error.ScriptError.TheVariants as script
 use Rattle.nit_script.specs.declared.line.Line.{Line}
 use Rattle.nit_script.specs.declared.line.InputLine.{InputLine}
 use Rattle.nit_script.specs.Spelling.{FitsLine}
+use Rattle.nit_report.specs.declared.error.JournalError.{JournalError}
+use Rattle.nit_report.specs.declared.error.JournalError.TheVariants as journal
 use Rattle.nit_store.specs.declared.store.PutError.{PutError}
 use Rattle.nit_store.specs.declared.store.PutError.TheVariants as put
 use Rattle.nit_store.specs.Shown.{Shown, File, bytes_of, asking, ReadFaulted}
@@ -38,26 +40,35 @@ use Rattle.nit_top.specs.Answer.{Came, Counts}
 
 -- ---- reading and judging a file
 
--- the bytes of a file, at most 1,048,576, were judged, unless memory ran out
+-- the bytes of a file were judged, unless memory ran out
 abbrev pub JudgedBytes : {V : Type 0} → (List ℕ → V → Type 0) → (List ℕ → Fault → Type 0) → List ℕ → Result V End → Type 0
 JudgedBytes Valid Faulty bytes (Ok v) = Valid bytes v
 JudgedBytes Valid Faulty bytes (Err (end.Refused f)) = Faulty bytes f
 JudgedBytes Valid Faulty bytes (Err end.NoMemory) = Unit {0}
 JudgedBytes Valid Faulty bytes (Err other) = ⊥
 
--- a file was read, where this is the fault of one with too many bytes
-abbrev pub ReadFor : Fault → Shown → List ℕ → Shown → Result (Vec ℕ Global) End → Type 0
-ReadFor long old name new (Ok bytes) = (new ≡ asking old name) × (length bytes.items ≤ 1048576) × IfSome old.files (λ files. bytes.items ≡ bytes_of name files)
-ReadFor long old name new (Err end.ReadFault) = ReadFaulted (asking old name) new
-ReadFor long old name new (Err (end.Refused f)) = (f ≡ long) × (new ≡ asking old name) × IfSome old.files (λ files. 1048576 < length (bytes_of name files))
-ReadFor long old name new (Err end.NoMemory) = AskedAtMost old name new
-ReadFor long old name new (Err other) = ⊥
+-- a file of at most so many bytes was read, where this is the fault of one with more
+abbrev pub ReadFor : ℕ → Fault → Shown → List ℕ → Shown → Result (Vec ℕ Global) End → Type 0
+ReadFor max long old name new (Ok bytes) =
+    (new ≡ asking old name) × (length bytes.items ≤ max)
+    × IfSome old.files (λ files. bytes.items ≡ bytes_of name files)
+ReadFor max long old name new (Err end.ReadFault) = ReadFaulted (asking old name) new
+ReadFor max long old name new (Err (end.Refused f)) =
+    (f ≡ long) × (new ≡ asking old name)
+    × IfSome old.files (λ files. max < length (bytes_of name files))
+ReadFor max long old name new (Err end.NoMemory) = AskedAtMost old name new
+ReadFor max long old name new (Err other) = ⊥
 
 -- how the work ends where bytes are no script
 abbrev pub end_of_script : ScriptError → End
 end_of_script (script.Bad number) = end.Refused (fault.BadLine number)
 end_of_script script.TooLong = end.Refused fault.TooLong
 end_of_script script.NoMemory = end.NoMemory
+
+-- how the work ends where bytes are no journal
+abbrev pub end_of_journal : JournalError → End
+end_of_journal (journal.Bad number) = end.Refused (fault.BadEntry number)
+end_of_journal journal.NoMemory = end.NoMemory
 
 -- where a file of this name was not read, or its bytes have a fault
 abbrev pub StoppedAt : (List ℕ → Fault → Type 0) → Shown → List ℕ → Shown → End → Type 0

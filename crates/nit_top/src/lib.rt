@@ -6,11 +6,13 @@
 //! | `turns CONFIG` | the run of a configuration's clients and its input script, all by turns |
 //! | `run CONFIG` | the same, with each client on a thread of its own |
 //! | `gen N` | the files of the generated run of number N are put, and then run as `run` does |
+//! | `audit CONFIG JOURNAL` | whether the journal is one of a run of the scripts; nothing is put |
 //! | `capture CONFIG X Y W H` | the same as `run`, and the film of a region of the screen is put last |
 //!
 //! In each case the work is: read the files and judge them one by one; take all memory of the run; run,
 //! and put the files; say how it went. What a run is made of, its configuration and its scripts, is called
 //! its setup. A generated run reads no file: its files are made, and put before the run.
+//! An audit reads the files of a setup and a journal, and begins no run.
 //!
 //! `still` and `turns` go by rounds on one scene, on the calling thread. `run` opens a hall, in which the
 //! clients' calls are served one at a time, and each client draws on words of its own without a lock; the user
@@ -21,6 +23,7 @@
 #![tactic(auto)]
 
 mod alone;
+mod audit;
 mod beside;
 mod capture;
 mod desk;

@@ -1,11 +1,12 @@
 //! The top call.
 
 ghost use Rattle.std.specs.Prelude.{false, true, ◌≡◌, ◌^◌, ◌<◌};
-ghost use Rattle.nit_top.specs.Command.{Capture, Gen, Run, command, starts_threads, texts};
+ghost use Rattle.nit_top.specs.Command.{Audit, Capture, Gen, Run, command, starts_threads, texts};
 ghost use Rattle.nit_top.specs.Answer.{Answer};
 ghost use Rattle.nit_top.specs.Ended.{Ended, Finished};
 ghost use Rattle.nit_top.specs.Regions.{IsShort};
 
+use crate::audit::audited;
 use crate::capture::capture;
 use crate::finish::{Done, End, Worked, at, status, unbegun};
 use crate::generated::generated;
@@ -79,6 +80,7 @@ fn work<S: Store>(alloc: Global, words: &[String], store: &mut S) -> Done
             finish(store, worked)
         }
         Some(Asked::Turns { config }) => turns(alloc, store, config),
+        Some(Asked::Audit { config, journal }) => audit(alloc, store, config, journal),
         Some(Asked::Run { .. } | Asked::Gen { .. } | Asked::Capture { .. }) => unreachable!(),
     }
 }
@@ -92,6 +94,19 @@ fn turns<S: Store>(alloc: Global, store: &mut S, name: &str) -> Done
         Err(stop) => return finish(store, unbegun(alloc, stop)),
     };
     let worked = perform::turns(alloc, store, &config);
+    finish(store, worked)
+}
+
+/// Says whether the journal of this name is one of a run of the configuration of this name.
+fn audit<S: Store>(alloc: Global, store: &mut S, name: &str, journal: &str) -> Done
+    ensures { Ended (S.shown store.old) (Audit name.now journal.now) (S.shown store.new)
+        result.status result.journal.items }
+{
+    let config = match load_config(alloc, store, name) {
+        Ok(config) => config,
+        Err(stop) => return finish(store, unbegun(alloc, stop)),
+    };
+    let worked = audited(alloc, store, &config, journal);
     finish(store, worked)
 }
 

@@ -1,6 +1,5 @@
 use Rattle.std.proofs.Common.{◌≡◌, ◌∙◌, ◌+◌, List, Option, ap, map, subst, sym, true}
 use Rattle.nit_events.specs.declared.entry.Entry.{Entry}
-use Rattle.nit_config.specs.Configuration.{Configuration}
 use Rattle.nit_journal.specs.Journals.{IsLegal, shots}
 use Rattle.nit_journal.specs.Whole.{IsWhole}
 use Rattle.nit_plan.specs.Calls.{calls_to_make, deeds_to_do}
@@ -8,7 +7,6 @@ use Rattle.nit_store.specs.Puts.{PutsNext, unrefused}
 use Rattle.nit_top.specs.declared.run.PutFault.{PutFault}
 use Rattle.nit_journal.specs.Kept.{Kept}
 use Rattle.nit_hall.specs.Parts.{Parts}
-use Rattle.nit_store.specs.Shown.{Shown}
 use Rattle.nit_top.specs.Outputs.{final_name, final_picture}
 use Rattle.nit_top.specs.Work.{putting, setup_of}
 use Rattle.nit_top.proofs.OneAlone.{alone_leaves}

@@ -1,8 +1,5 @@
-use Rattle.std.proofs.Common.{rules, ◌≡◌, ◌∙◌, ◌<◌, ◌++◌, ◌∷◌, [], List, Option, length, ℕ, ◌+◌, ap, sym, subst, refl, false, true}
+use Rattle.std.proofs.Common.{rules, ◌≡◌, ◌∙◌, ◌<◌, ◌++◌, ◌∷◌, [], List, Option, length, ℕ, ap, sym, subst, refl, false, true}
 use Rattle.nit_word.specs.Sight.{Sight}
-use Rattle.nit_events.specs.declared.entry.Entry.{Entry}
-use Rattle.nit_journal.specs.Kept.{Kept}
-use Rattle.nit_journal.specs.Journals.{shots}
 use Rattle.nit_config.specs.Configuration.{Configuration}
 use Rattle.nit_scene.specs.Painted.{glass_in}
 use Rattle.nit_scene.specs.Played.{state_now}
@@ -10,11 +7,10 @@ use Rattle.nit_scene.specs.Showing.{IsGlass}
 use Rattle.nit_store.specs.Shown.{File, Shown}
 use Rattle.nit_store.specs.Puts.{PutsAll, PutsNext, Putting, Refusal}
 use Rattle.nit_actor.specs.Running.{putting as desk_putting}
-use Rattle.nit_top.specs.declared.run.PutFault.{PutFault}
 use Rattle.nit_top.specs.Outputs.{HaveTables, events_files, final_name, journal_file, text_files}
 use Rattle.nit_top.specs.Work.{HasRun, putting, setup_of}
 use Rattle.nit_top.proofs.LastWords.{written_whole}
-use Rattle.nit_top.proofs.Leaving.{PutsLast, run_leaves, with_texts, without_texts}
+use Rattle.nit_top.proofs.Leaving.{PutsLast, run_leaves, with_texts}
 use Rattle.nit_top.proofs.PerClient.{AreLeft, left_glass}
 use Rattle.nit_top.proofs.run.play.Goals as goal
 

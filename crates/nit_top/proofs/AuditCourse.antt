@@ -1,0 +1,77 @@
+-- What follows of a run that was begun, and that an audit begins none and puts nothing.
+use Rattle.std.proofs.Common.{◌≡◌, List, [], ◌∷◌, ◌++◌, Option, Some, None, refl, ap, subst, ◌∙◌, inl, inr, ◌⊎◌}
+use Rattle.nit_events.specs.declared.entry.Entry.{Entry}
+use Rattle.nit_store.specs.Shown.{Shown, File}
+use Rattle.nit_top.specs.Command.{Command, Still, Run, Gen, Audit, Capture, NoCommand}
+use Rattle.nit_top.specs.FilesRead.{IsSetupOf}
+use Rattle.nit_top.specs.Setup.{Setup}
+use Rattle.nit_top.specs.Course.{IsRun, Course, Begun, NotBegun, WithRun, WithoutRun, PutFiles, made_by}
+use Rattle.nit_top.specs.Audited.{IsAudit, AuditOr}
+
+-- ---- the run
+
+-- what follows of a run
+pub with_run : {old : Shown} {c : Command} {journal : List Entry} (course : Course old c journal) (P Q : IsRun old c journal → Type 0) → ((run : IsRun old c journal) → P run → Q run) → WithRun course P → WithRun course Q
+with_run (Begun run) P Q f h = f run h
+with_run (NotBegun empty) P Q f h = h
+
+pub with_run_not : {old : Shown} {c : Command} {journal : List Entry} (course : Course old c journal) (P : IsRun old c journal → Type 0) → ((run : IsRun old c journal) → P run → ⊥) → WithRun course P → ⊥
+with_run_not (Begun run) P f h = f run h
+with_run_not (NotBegun empty) P f h = h
+
+pub without_run : {old : Shown} {c : Command} {journal : List Entry} (course : Course old c journal) → WithoutRun course → journal ≡ []
+without_run (Begun run) h = absurd h
+without_run (NotBegun empty) h = empty
+
+-- ---- an audit
+
+-- an audit makes no files, and runs no setup
+pub audit_makes_none : (c : Command) → IsAudit c → made_by c ≡ []
+audit_makes_none (Audit configuration journal) is = refl
+audit_makes_none (Still width height script) is = absurd is
+audit_makes_none (Run beside configuration) is = absurd is
+audit_makes_none (Gen number) is = absurd is
+audit_makes_none (Capture configuration region) is = absurd is
+audit_makes_none NoCommand is = absurd is
+
+runs_none : (c : Command) (s : Setup) → IsAudit c → IsSetupOf c s → ⊥
+runs_none (Audit configuration journal) s is of = of
+runs_none (Still width height script) s is of = is
+runs_none (Run beside configuration) s is of = is
+runs_none (Gen number) s is of = is
+runs_none (Capture configuration region) s is of = is
+runs_none NoCommand s is of = is
+
+pub not_run : {old : Shown} {c : Command} {journal : List Entry} → IsRun old c journal → IsAudit c → ⊥
+not_run {c = c} run is = runs_none c run.setup is run.files_are.of_command
+
+pub empty_course : {old : Shown} {c : Command} {journal : List Entry} → IsAudit c → Course old c journal → journal ≡ []
+empty_course is (Begun run) = absurd (not_run run is)
+empty_course is (NotBegun empty) = empty
+
+-- files of which none were put
+pub front_none : (front last : List File) → front ++ last ≡ [] → front ≡ []
+front_none [] last e = refl
+front_none (f ∷ front) last e = absurd cc
+
+none_put : (old new : Option (List File)) → PutFiles [] old new → new ≡ old
+none_put None new p = p
+none_put (Some all) new p = p.1 ∙ ap (λ (fs : List File). Some fs) p.2
+
+pub front_same : {new : Option (List File)} (front : List File) (old : Option (List File)) → front ≡ [] → PutFiles front old new → new ≡ old
+front_same {new = new} front old none p = none_put old new (subst (λ (fs : List File). PutFiles fs old new) none p)
+
+-- a fact of an audit, or one of a run, by what the command is
+pub by_command : {OfAudit OfRun : Type 0} (c : Command) → (OfAudit × IsAudit c) ⊎ (OfRun × (IsAudit c → ⊥)) → AuditOr c OfAudit OfRun
+by_command (Audit configuration journal) (inl a) = a.0
+by_command (Audit configuration journal) (inr r) = absurd (r.1 tt)
+by_command (Still width height script) (inl a) = absurd a.1
+by_command (Still width height script) (inr r) = r.0
+by_command (Run beside configuration) (inl a) = absurd a.1
+by_command (Run beside configuration) (inr r) = r.0
+by_command (Gen number) (inl a) = absurd a.1
+by_command (Gen number) (inr r) = r.0
+by_command (Capture configuration region) (inl a) = absurd a.1
+by_command (Capture configuration region) (inr r) = r.0
+by_command NoCommand (inl a) = absurd a.1
+by_command NoCommand (inr r) = r.0

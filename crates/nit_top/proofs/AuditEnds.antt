@@ -1,0 +1,244 @@
+-- How an audit comes to its end: as a run of its configuration does before it is begun, or at the journal.
+use Rattle.std.proofs.Common.{◌≡◌, ℕ, false, List, [], ◌∷◌, ◌++◌, Option, Some, None, refl, sym, ap, subst, ◌∙◌, inl, inr}
+use Rattle.std.specs.Prelude.{IfSome}
+use Rattle.nit_events.specs.declared.entry.Entry.{Entry}
+use Rattle.nit_store.specs.Shown.{Shown, File, bytes_of, asking}
+use Rattle.nit_top.specs.declared.finish.End.{End}
+use Rattle.nit_top.specs.declared.finish.End.TheVariants as ends
+use Rattle.nit_top.specs.declared.finish.Fault.{Fault}
+use Rattle.nit_top.specs.declared.finish.Fault.TheVariants as fault
+use Rattle.nit_top.specs.declared.finish.Stop.{Stop}
+use Rattle.nit_top.specs.declared.finish.Worked.{Worked}
+use Rattle.nit_top.specs.Command.{Command, Audit, NoCommand, Run}
+use Rattle.nit_top.specs.Setup.{Setup}
+use Rattle.nit_top.specs.JournalFiles.{IsJournalText, IsNoJournalText, IsJournalFault}
+use Rattle.nit_top.specs.Judged.{AreSetup, IsValid, Judged, Refused, reads}
+use Rattle.nit_top.specs.FilesRead.{FilesRead, NoFile, FirstFiles, AllScripts, AllFiles, HasRead, AreAllFiles, AreAllScripts, names_read, next_name}
+use Rattle.nit_top.specs.Lines.{name_text}
+use Rattle.nit_top.specs.Course.{asked_also, Course, Begun, NotBegun, IsNotBegun, IsLastRead, IsMadeBefore, IsMadeInPart, IsMadeUpTo}
+use Rattle.nit_top.specs.Audited.{IsAuditEnd}
+use Rattle.nit_top.specs.Answer.{Came}
+use Rattle.nit_top.specs.Work.{Ends, StoppedAt, asking_all, line_on}
+use Rattle.nit_top.proofs.Asking.{asking_more}
+use Rattle.nit_top.proofs.Scripts.{told_so, told_so_both}
+use Rattle.nit_top.proofs.CaptureEnds.{never_empty}
+use Rattle.nit_top.proofs.Ending.{CameTo, stopped_ends, totals_on, ends_by}
+
+module _ (name journal : List ℕ) where
+  abbrev run : Command
+  run = Run false name
+
+  abbrev audit : Command
+  audit = Audit name journal
+
+  -- ---- what was read
+
+  -- all files of the run are all scripts of the audit
+  abbrev as_read : FilesRead → FilesRead
+  as_read NoFile = NoFile
+  as_read (FirstFiles config scripts) = FirstFiles config scripts
+  as_read (AllScripts s) = AllScripts s
+  as_read (AllFiles s) = AllScripts s
+
+  pub scripts_too : (told : Option (List File)) (s : Setup) → AreAllFiles run told s → AreAllScripts name told s
+  scripts_too told s a = record { runnable = a.runnable; valid = told_so (λ files. IsValid run files s) (λ files. AreSetup name files s) told (λ files v. (v.0, v.1)) a.valid }
+
+  read_too : (told : Option (List File)) (r : FilesRead) → HasRead run told r → HasRead audit told (as_read r)
+  read_too told NoFile h = tt
+  read_too told (FirstFiles config scripts) h = h
+  read_too told (AllScripts s) h = absurd h
+  read_too told (AllFiles s) h = scripts_too told s h
+
+  names_too : (told : Option (List File)) (r : FilesRead) → HasRead run told r → names_read run r ≡ names_read audit (as_read r)
+  names_too told NoFile h = refl
+  names_too told (FirstFiles config scripts) h = refl
+  names_too told (AllScripts s) h = absurd h
+  names_too told (AllFiles s) h = refl
+
+  none_some : (n : List ℕ) → None ≡ Some n → ⊥
+  none_some n e = cc
+
+  next_too : (r : FilesRead) (n : List ℕ) → next_name run r ≡ Some n → next_name audit (as_read r) ≡ Some n
+  next_too NoFile n e = e
+  next_too (FirstFiles config scripts) n e = e
+  next_too (AllScripts s) n e = absurd (none_some n e)
+  next_too (AllFiles s) n e = absurd (none_some n e)
+
+  -- ---- before the journal
+
+  module _ (old : Shown) (files : Option (List File)) (asked : Option (List (List ℕ))) (entries : List Entry) (empty : entries ≡ []) where
+    abbrev from : Course old run entries
+    from = NotBegun empty
+
+    abbrev to : Course old audit entries
+    to = NotBegun empty
+
+    asked_too : (r : FilesRead) → HasRead run old.files r → (more : List (List ℕ)) → asked ≡ asked_also old.asked (names_read run r ++ more) → asked ≡ asked_also old.asked (names_read audit (as_read r) ++ more)
+    asked_too r h more e = e ∙ ap (λ (ns : List (List ℕ)). asked_also old.asked (ns ++ more)) (names_too old.files r h)
+
+    last_too : (n : List ℕ) → IsLastRead from files asked n → IsLastRead to files asked n
+    last_too n l = record {
+      none = tt;
+      same = l.same;
+      read = as_read l.read;
+      valid = read_too old.files l.read l.valid;
+      next = next_too l.read n l.next;
+      asks = asked_too l.read l.valid (n ∷ []) l.asks;
+    }
+
+    not_begun_too : IsNotBegun from files asked → IsNotBegun to files asked
+    not_begun_too b = record {
+      none = tt;
+      same = b.same;
+      read = as_read b.read;
+      valid = read_too old.files b.read b.valid;
+      asks = elim b.asks [
+        | inl e ↦ inl (e ∙ ap (λ (ns : List (List ℕ)). asked_also old.asked ns) (names_too old.files b.read b.valid))
+        | inr (n, next, e) ↦ inr (n, next_too b.read n next, asked_too b.read b.valid (n ∷ []) e)
+      ];
+    }
+
+    up_to_too : (last : List File) (more : List (List ℕ)) → IsMadeUpTo from files asked last more → IsMadeUpTo to files asked last more
+    up_to_too last more m = record { none = tt; front = m.front; parts = m.parts; put = m.put; asks = m.asks }
+
+    before_too : (n : List ℕ) → IsMadeBefore from files asked n → IsMadeBefore to files asked n
+    before_too n (bytes, behind, m) = (bytes, behind, up_to_too ((n, bytes) ∷ behind) (n ∷ []) m)
+
+    in_part_too : IsMadeInPart from files asked → IsMadeInPart to files asked
+    in_part_too (inl (n, m)) = inl (n, before_too n m)
+    in_part_too (inr (last, m)) = inr (last, up_to_too last [] m)
+
+    no_command : run ≡ NoCommand → ⊥
+    no_command e = cc
+
+    came_too : (end : End) (line : List ℕ) → Came from files asked end line → Came to files asked end line
+    came_too ends.Usage line h = absurd (no_command h.0)
+    came_too ends.ReadFault line (n, l, is) = (n, last_too n l, is)
+    came_too (ends.Refused f) line (n, l, judged, is) = (n, last_too n l, told_so (λ told. Judged run told (Refused n f)) (λ told. Judged audit told (Refused n f)) old.files (λ told p. inl p) judged, is)
+    came_too ends.WriteFault line (n, inl m, is) = (n, inl (before_too n m), is)
+    came_too ends.WriteFault line (n, inr r, is) = absurd r
+    came_too ends.NoMemory line (inl b, is) = (inl (not_begun_too b), is)
+    came_too ends.NoMemory line (inr (inl m), is) = (inr (inl (in_part_too m)), is)
+    came_too ends.NoMemory line (inr (inr r), is) = absurd r
+    came_too ends.Outside line (o, is) = absurd (let e = o.outside in cc)
+    came_too ends.Whole line h = absurd h
+    came_too (ends.Audited n) line h = absurd h.0.audit
+
+  -- how far an audit came
+  record CameSo (old : Shown) (files : Option (List File)) (asked : Option (List (List ℕ))) (entries : List Entry) (end : End) (line : List ℕ) : Type 0 where
+    course : Course old audit entries
+    came : Came course files asked end line
+
+  by_course : (old : Shown) (files : Option (List File)) (asked : Option (List (List ℕ))) (entries : List Entry) (end : End) (line : List ℕ) → entries ≡ [] → (course : Course old run entries) → Came course files asked end line → CameSo old files asked entries end line
+  by_course old files asked entries end line none (Begun r) came = absurd (never_empty r.setup entries r.headline.one_journal none)
+  by_course old files asked entries end line none (NotBegun empty) came = record { course = NotBegun empty; came = came_too old files asked entries empty end line came }
+
+  -- the work ended before the journal was read
+  pub ends_before : (old new : Shown) (w : Worked) → w.journal.items ≡ [] → Ends run old new w → Ends audit old new w
+  ends_before old new w none e =
+      let so = by_course old new.files new.asked w.journal.items w.stop.end (line_on w) none e.course e.came in
+      record { course = so.course; came = so.came; counts = e.counts; said = e.said }
+
+  -- ---- at the journal
+
+  -- a fault of the text is one of the journal
+  text_fault : (s : Setup) (bytes : List ℕ) (f : Fault) → IsNoJournalText bytes f → IsJournalFault s bytes f
+  text_fault s bytes (fault.NotARun k) r = absurd r
+  text_fault s bytes (fault.BadEntry n) r = r
+  text_fault s bytes fault.LongJournal r = r
+  text_fault s bytes (fault.BadConfig e) r = absurd r
+  text_fault s bytes fault.LongConfig r = absurd r
+  text_fault s bytes (fault.BadLine n) r = absurd r
+  text_fault s bytes fault.TooLong r = absurd r
+  text_fault s bytes fault.PhasesDiffer r = absurd r
+
+  module _ (old mid : Shown) (s : Setup) (asked : mid ≡ asking_all old (reads run s.config)) (all : AreAllFiles run old.files s) where
+    -- the journal has a fault, or was not read
+    fault_ends : (Faulty : List ℕ → Fault → Type 0) → ((bytes : List ℕ) (f : Fault) → Faulty bytes f → IsJournalFault s bytes f) → (new : Shown) (stop : Stop) (w : Worked)
+        → name_text stop.name ≡ journal → StoppedAt Faulty mid journal new stop.end → w.stop ≡ stop → w.journal.items ≡ [] → Ends audit old new w
+    fault_ends Faulty faulty new stop w is h at none =
+        let scripts = scripts_too old.files s all in
+        stopped_ends audit old (AllScripts s) scripts journal refl Faulty new
+        (λ f p. told_so_both (λ files. AreSetup name files s) (λ files. Faulty (bytes_of journal files) f) (λ files. Judged audit files (Refused journal f)) old.files (λ files a q. inr (refl, (s, a, faulty (bytes_of journal files) f q))) scripts.valid p)
+        mid stop w asked is h at none
+
+    pub text_ends : (new : Shown) (stop : Stop) (w : Worked) → name_text stop.name ≡ journal → StoppedAt IsNoJournalText mid journal new stop.end → w.stop ≡ stop → w.journal.items ≡ [] → Ends audit old new w
+    text_ends new stop w is h at none = fault_ends IsNoJournalText (text_fault s) new stop w is h at none
+
+    -- ---- at its entries
+
+    module _ (new : Shown) (read : new ≡ asking mid journal) (entries : List Entry) (text : IfSome mid.files (λ files. IsJournalText (bytes_of journal files) entries)) where
+      text_here : IfSome old.files (λ files. IsJournalText (bytes_of journal files) entries)
+      text_here = subst (λ (t : Shown). IfSome t.files (λ files. IsJournalText (bytes_of journal files) entries)) asked text
+
+      all_asked : new ≡ asking_all old (reads audit s.config)
+      all_asked = read ∙ ap (λ (t : Shown). asking t journal) asked ∙ asking_more old (reads run s.config) journal
+
+      -- what an end of the audit is of its journal's file
+      abbrev IsFound : List ℕ → Fault → Type 0
+      IsFound bytes f = IsJournalText bytes entries × IsAuditEnd s entries (ends.Refused f)
+
+      found_fault : (bytes : List ℕ) (f : Fault) → IsFound bytes f → IsJournalFault s bytes f
+      found_fault bytes (fault.NotARun k) p = (entries, p.0, p.1)
+      found_fault bytes (fault.BadEntry n) p = absurd p.1
+      found_fault bytes fault.LongJournal p = absurd p.1
+      found_fault bytes (fault.BadConfig e) p = absurd p.1
+      found_fault bytes fault.LongConfig p = absurd p.1
+      found_fault bytes (fault.BadLine n) p = absurd p.1
+      found_fault bytes fault.TooLong p = absurd p.1
+      found_fault bytes fault.PhasesDiffer p = absurd p.1
+
+      yes_ends : (count : ℕ) (stop : Stop) (w : Worked) → IsAuditEnd s entries (ends.Audited count) → w.stop.end ≡ ends.Audited count → w.journal.items ≡ [] → Ends audit old new w
+      yes_ends count stop w found end none =
+          let here : CameTo audit old new [] (ends.Audited count) (name_text w.stop.name) (totals_on w) = record {
+            course = NotBegun refl;
+            came = (
+              record {
+                none = tt;
+                same = ap (λ (t : Shown). t.files) all_asked;
+                audit = tt;
+                setup = s;
+                runnable = all.runnable;
+                entries = entries;
+                counted = found.0;
+                of_a_run = found.1;
+                told = told_so_both (λ files. AreSetup name files s) (λ files. IsJournalText (bytes_of journal files) entries) (λ files. AreSetup name files s × IsJournalText (bytes_of journal files) entries) old.files (λ files a q. (a, q)) (scripts_too old.files s all).valid text_here;
+                asks = ap (λ (t : Shown). t.asked) all_asked;
+              },
+              refl,
+            );
+            counts = (ap (λ (t : Shown). t.read_faults) all_asked, ap (λ (t : Shown). t.write_faults) all_asked);
+            said = ap (λ (t : Shown). t.said) all_asked;
+          } in
+          let so : CameTo audit old new [] w.stop.end (name_text w.stop.name) (totals_on w) = subst (λ (e : End). CameTo audit old new [] e (name_text w.stop.name) (totals_on w)) (sym end) here in
+          ends_by audit old new w (subst (λ (k : List Entry). CameTo audit old new k w.stop.end (name_text w.stop.name) (totals_on w)) (sym none) so)
+
+      -- the verdict, or want of memory
+      stopped_found : (end : End) → IsAuditEnd s entries end → ((count : ℕ) → end ≡ ends.Audited count → ⊥) → StoppedAt IsFound mid journal new end
+      stopped_found (ends.Refused f) found other = (read, told_so (λ files. IsJournalText (bytes_of journal files) entries) (λ files. IsFound (bytes_of journal files) f) mid.files (λ files q. (q, found)) text)
+      stopped_found ends.NoMemory found other = inl read
+      stopped_found (ends.Audited count) found other = absurd (other count refl)
+      stopped_found ends.Usage found other = absurd found
+      stopped_found ends.ReadFault found other = absurd found
+      stopped_found ends.WriteFault found other = absurd found
+      stopped_found ends.Outside found other = absurd found
+      stopped_found ends.Whole found other = absurd found
+
+      pub found_ends : (stop : Stop) (w : Worked) → name_text stop.name ≡ journal → IsAuditEnd s entries stop.end → w.stop ≡ stop → w.journal.items ≡ [] → Ends audit old new w
+      found_ends stop w is found at none = by_end stop.end refl
+        where
+          not_audited : (e : End) (count : ℕ) → stop.end ≡ e → ((k : ℕ) → e ≡ ends.Audited k → ⊥) → stop.end ≡ ends.Audited count → ⊥
+          not_audited e count is_e not_e x = not_e count (sym is_e ∙ x)
+
+          other_end : (e : End) → stop.end ≡ e → ((k : ℕ) → e ≡ ends.Audited k → ⊥) → Ends audit old new w
+          other_end e is_e not_e = fault_ends IsFound found_fault new stop w is (stopped_found stop.end found (λ count x. not_audited e count is_e not_e x)) at none
+
+          by_end : (e : End) → stop.end ≡ e → Ends audit old new w
+          by_end (ends.Audited count) is_e = yes_ends count stop w (subst (λ (e : End). IsAuditEnd s entries e) is_e found) (ap (λ (t : Stop). t.end) at ∙ is_e) none
+          by_end (ends.Refused f) is_e = other_end (ends.Refused f) is_e (λ k x. absurd cc)
+          by_end ends.NoMemory is_e = other_end ends.NoMemory is_e (λ k x. absurd cc)
+          by_end ends.Usage is_e = other_end ends.Usage is_e (λ k x. absurd cc)
+          by_end ends.ReadFault is_e = other_end ends.ReadFault is_e (λ k x. absurd cc)
+          by_end ends.WriteFault is_e = other_end ends.WriteFault is_e (λ k x. absurd cc)
+          by_end ends.Outside is_e = other_end ends.Outside is_e (λ k x. absurd cc)
+          by_end ends.Whole is_e = other_end ends.Whole is_e (λ k x. absurd cc)

@@ -1,0 +1,292 @@
+-- How the work came to its end is why.
+use Rattle.std.proofs.Common.{◌≡◌, ℕ, Bool, true, false, List, [], ◌∷◌, ◌++◌, Option, Some, None, refl, sym, ap, subst, ◌∙◌, arith, inl, inr, ◌⊎◌}
+use Rattle.std.specs.Prelude.{IfSome, IsSomeAnd}
+use Rattle.nit_events.specs.declared.entry.Entry.{Entry}
+use Rattle.nit_store.specs.Shown.{Shown, File}
+use Rattle.nit_top.specs.declared.finish.End.{End}
+use Rattle.nit_top.specs.declared.finish.End.TheVariants as ends
+use Rattle.nit_top.specs.declared.finish.Fault.{Fault}
+use Rattle.nit_top.specs.Command.{Command, Still, Run, Gen, Audit, Capture, NoCommand}
+use Rattle.nit_top.specs.Judged.{AreSetup, Judged, Refused, IsRefused, IsValid, reads}
+use Rattle.nit_top.specs.Films.{is_outside_of}
+use Rattle.nit_top.specs.FilesRead.{names_read, FilesRead, NoFile, FirstFiles, AllScripts, AllFiles, HasRead, AreAllFiles, IsSetupOf, next_name}
+use Rattle.nit_top.specs.Lines.{audited_line, summary_line}
+use Rattle.nit_top.specs.Course.{IsRun, Course, WithRun, asked_also, IsNotBegun, IsOutside, IsLastRead, made_by, IsMadeBefore, IsMadeInPart, IsPutWhole, IsRefusedAt, IsCutShort, totals}
+use Rattle.nit_top.specs.Audited.{IsAudit, AreAudited, IsAudited}
+use Rattle.nit_top.specs.Answer.{Came, code_of, HasValidFiles, IsValidSo, IsEarly}
+use Rattle.nit_top.proofs.Scripts.{told_so}
+use Rattle.nit_top.proofs.Judging.{told_valid, told_refused, told_codes, told_side, told_outside, no_refusal, no_setup}
+use Rattle.nit_top.proofs.EndCodes.{is_fault_code, not_fault, not_early_0, not_early_4, not_early_7}
+use Rattle.nit_top.proofs.AuditCourse.{with_run, with_run_not, audit_makes_none, not_run, empty_course, front_none, front_same}
+
+-- ---- what came, by its code
+
+module _ (c : Command) (old : Shown) (files : Option (List File)) (asked : Option (List (List ℕ))) (journal : List Entry) (course : Course old c journal) where
+  not_begun : (name : List ℕ) → IsLastRead course files asked name → IsNotBegun course files asked
+  not_begun name l = record { none = l.none; same = l.same; read = l.read; valid = l.valid; asks = inr (name, l.next, l.asks) }
+
+  outside_begun : IsOutside course files asked → IsNotBegun course files asked
+  outside_begun o = record { none = o.none; same = o.same; read = AllFiles o.setup; valid = o.valid; asks = inl o.asks }
+
+  -- an audit asked for all names, and its journal was the last
+  audit_begun : (count : ℕ) → IsAudited course files asked count → IsNotBegun course files asked
+  audit_begun count a = let far = at c a.audit a.told a.asks in record { none = a.none; same = a.same; read = AllScripts a.setup; valid = far.0; asks = inr (far.1.0, far.1.1, far.1.2) }
+    where
+      at : (k : Command) → IsAudit k → IfSome old.files (λ all. AreAudited k all a.setup a.entries) → asked ≡ asked_also old.asked (reads k a.setup.config)
+          → HasRead k old.files (AllScripts a.setup) × ((name : List ℕ) × (next_name k (AllScripts a.setup) ≡ Some name) × (asked ≡ asked_also old.asked (names_read k (AllScripts a.setup) ++ name ∷ [])))
+      at (Audit configuration journal) is told asks = (record { runnable = a.runnable; valid = told_so (λ all. AreAudited (Audit configuration journal) all a.setup a.entries) (λ all. AreSetup configuration all a.setup) old.files (λ all p. p.0) told }, (journal, refl, asks))
+      at (Still width height script) is told asks = absurd is
+      at (Run beside configuration) is told asks = absurd is
+      at (Gen number) is told asks = absurd is
+      at (Capture configuration region) is told asks = absurd is
+      at NoCommand is told asks = absurd is
+
+  pub usage_at : (e : End) (line : List ℕ) → Came course files asked e line → code_of e ≡ 2 → c ≡ NoCommand
+  usage_at ends.Usage line h n = h.0
+  usage_at (ends.Refused f) line h n = absurd (not_fault f 2 n refl)
+  usage_at e line h n = absurd (omega arith)
+
+  pub refused_at : (n : ℕ) (e : End) (line : List ℕ) → Came course files asked e line → code_of e ≡ n → is_fault_code n ≡ true → IfSome old.files (λ told. IsRefused n c told)
+  refused_at n (ends.Refused f) line h is some = told_so (λ told. Judged c told (Refused h.0 f)) (λ told. IsRefused n c told) old.files (λ told p. (h.0, f, p, is)) h.2
+  refused_at n e line h is some = absurd (let other = subst (λ (k : ℕ). is_fault_code k ≡ true) (sym is) some in cc)
+
+  -- all was done: a run put all that it puts, or an audit said yes
+  abbrev pub AllDone : List ℕ → Type 0
+  AllDone line = ((count : ℕ) × IsAudited course files asked count × (line ≡ audited_line count)) ⊎ WithRun course (λ run. IsPutWhole run files asked × (line ≡ summary_line (totals run)))
+
+  pub whole_at : (e : End) (line : List ℕ) → Came course files asked e line → code_of e ≡ 0 → AllDone line
+  whole_at ends.Whole line h n = inr h
+  whole_at (ends.Audited count) line h n = inl (count, h.0, h.1)
+  whole_at (ends.Refused f) line h n = absurd (not_fault f 0 n refl)
+  whole_at e line h n = absurd (omega arith)
+
+  pub before_at : (e : End) (line : List ℕ) → Came course files asked e line → code_of e ≡ 4
+      → (name : List ℕ) × (IsMadeBefore course files asked name ⊎ WithRun course (λ run. IsRefusedAt run files asked name))
+  before_at ends.WriteFault line h n = (h.0, h.1)
+  before_at (ends.Refused f) line h n = absurd (not_fault f 4 n refl)
+  before_at e line h n = absurd (omega arith)
+
+  pub early_at : (e : End) (line : List ℕ) → Came course files asked e line → IsEarly (code_of e) → IsNotBegun course files asked
+  early_at ends.Usage line h early = h.1
+  early_at ends.ReadFault line h early = not_begun h.0 h.1
+  early_at (ends.Refused f) line h early = not_begun h.0 h.1
+  early_at ends.WriteFault line h early = absurd (not_early_4 early)
+  early_at ends.NoMemory line h early = absurd (not_early_7 early)
+  early_at ends.Outside line h early = outside_begun h.0
+  early_at ends.Whole line h early = absurd (not_early_0 early)
+  early_at (ends.Audited count) line h early = absurd (not_early_0 early)
+
+  -- how far a run came, whatever the end
+  pub so_far : (e : End) (line : List ℕ) → Came course files asked e line
+      → IsNotBegun course files asked ⊎ (IsMadeInPart course files asked ⊎ WithRun course (λ run. IsPutWhole run files asked ⊎ IsCutShort run files asked))
+  so_far ends.Usage line h = inl h.1
+  so_far ends.ReadFault line h = inl (not_begun h.0 h.1)
+  so_far (ends.Refused f) line h = inl (not_begun h.0 h.1)
+  so_far ends.WriteFault line h = elim h.1 [
+    | inl made ↦ inr (inl (inl (h.0, made)))
+    | inr x ↦ inr (inr (with_run course (λ run. IsRefusedAt run files asked h.0) (λ run. IsPutWhole run files asked ⊎ IsCutShort run files asked) (λ run r. inr (h.0, inl r)) x))
+  ]
+  so_far ends.NoMemory line h = elim h.0 [
+    | inl x ↦ inl x
+    | inr (inl made) ↦ inr (inl made)
+    | inr (inr x) ↦ inr (inr (with_run course (λ run. IsCutShort run files asked) (λ run. IsPutWhole run files asked ⊎ IsCutShort run files asked) (λ run r. inr r) x))
+  ]
+  so_far ends.Outside line h = inl (outside_begun h.0)
+  so_far (ends.Audited count) line h = inl (audit_begun count h.0)
+  so_far ends.Whole line h =
+      inr (inr (with_run course (λ run. IsPutWhole run files asked × (line ≡ summary_line (totals run))) (λ run. IsPutWhole run files asked ⊎ IsCutShort run files asked) (λ run r. inl r.0) h))
+
+  -- ---- where the words are no command
+
+  none_next : (read : FilesRead) (name : List ℕ) → HasRead NoCommand old.files read → next_name NoCommand read ≡ Some name → ⊥
+  none_next NoFile name h e = cc
+  none_next (FirstFiles config scripts) name h e = h
+  none_next (AllScripts s) name h e = h
+  none_next (AllFiles s) name h e = cc
+
+  nothing_read : (name : List ℕ) → c ≡ NoCommand → IsLastRead course files asked name → ⊥
+  nothing_read name is l =
+      let both : HasRead NoCommand old.files l.read × (next_name NoCommand l.read ≡ Some name) = subst (λ (k : Command). HasRead k old.files l.read × (next_name k l.read ≡ Some name)) is (l.valid, l.next) in
+      none_next l.read name both.0 both.1
+
+  nothing_run : (r : IsRun old c journal) → c ≡ NoCommand → ⊥
+  nothing_run r is = subst (λ (k : Command). IsSetupOf k r.setup) is r.files_are.of_command
+
+  no_run : (Holds : IsRun old c journal → Type 0) → c ≡ NoCommand → WithRun course Holds → ⊥
+  no_run Holds is h = with_run_not course Holds (λ r x. nothing_run r is) h
+
+  -- a file that is made before a run is one of a generated run
+  pub made_none : (name : List ℕ) → made_by c ≡ [] → IsMadeBefore course files asked name → ⊥
+  made_none name none (bytes, behind, m) = not_empty m.front (name, bytes) behind (sym m.parts ∙ none)
+    where
+      not_empty : (front : List File) (f : File) (rest : List File) → front ++ f ∷ rest ≡ [] → ⊥
+      not_empty [] f rest e = cc
+      not_empty (g ∷ front) f rest e = cc
+
+  made_no_command : (name : List ℕ) → c ≡ NoCommand → IsMadeBefore course files asked name → ⊥
+  made_no_command name is m = made_none name (ap made_by is) m
+
+  pub no_command : (e : End) (line : List ℕ) → c ≡ NoCommand → Came course files asked e line → (code_of e ≡ 2) ⊎ (code_of e ≡ 7)
+  no_command ends.Usage line is h = inl refl
+  no_command ends.ReadFault line is h = absurd (nothing_read h.0 is h.1)
+  no_command (ends.Refused f) line is h = absurd (nothing_read h.0 is h.1)
+  no_command ends.WriteFault line is h = absurd (elim h.1 [ inl m ↦ made_no_command h.0 is m | inr x ↦ no_run _ is x ])
+  no_command ends.NoMemory line is h = inr refl
+  no_command ends.Outside line is h = absurd (subst (λ (k : Command). IsSetupOf k h.0.setup) is h.0.valid.of_command)
+  no_command ends.Whole line is h = absurd (no_run _ is h)
+  no_command (ends.Audited count) line is h = absurd (subst IsAudit is h.0.audit)
+
+  -- ---- where the files are refused, or valid
+
+  no_valid_run : (n : ℕ) (Holds : IsRun old c journal → Type 0) → WithRun course Holds → IsSomeAnd old.files (λ told. IsRefused n c told) → ⊥
+  no_valid_run n Holds h r = with_run_not course Holds (λ run x. told_valid c old.files run.setup n run.files_are.valid r) h
+
+  -- no file of a command that makes some is refused
+  made_not_refused : (k : Command) (n : ℕ) → IsSomeAnd old.files (λ told. IsRefused n k told) → made_by k ≡ []
+  made_not_refused (Still width height script) n r = refl
+  made_not_refused (Run beside configuration) n r = refl
+  made_not_refused (Gen number) n r = absurd (no_generated old.files n number r)
+    where
+      no_generated : (told : Option (List File)) (n number : ℕ) → IsSomeAnd told (λ files. IsRefused n (Gen number) files) → ⊥
+      no_generated None n number r = r
+      no_generated (Some all) n number r = r.2
+  made_not_refused (Audit configuration journal) n r = refl
+  made_not_refused (Capture configuration region) n r = refl
+  made_not_refused NoCommand n r = refl
+
+  -- the files of an audit that said yes are valid
+  audit_valid : (count : ℕ) → (a : IsAudited course files asked count) → IfSome old.files (λ all. IsValid c all a.setup)
+  audit_valid count a = told_so (λ all. AreAudited c all a.setup a.entries) (λ all. IsValid c all a.setup) old.files (λ all p. at c all p) a.told
+    where
+      at : (k : Command) (all : List File) → AreAudited k all a.setup a.entries → IsValid k all a.setup
+      at (Audit configuration journal) all p = (p.0, (a.entries, p.1, a.of_a_run.yes))
+      at (Still width height script) all p = absurd p
+      at (Run beside configuration) all p = absurd p
+      at (Gen number) all p = absurd p
+      at (Capture configuration region) all p = absurd p
+      at NoCommand all p = absurd p
+
+  pub is_refused_at : (n : ℕ) (e : End) (line : List ℕ) → Came course files asked e line → IsSomeAnd old.files (λ told. IsRefused n c told) → (code_of e ≡ 3) ⊎ ((code_of e ≡ n) ⊎ (code_of e ≡ 7))
+  is_refused_at n ends.Usage line h r = absurd (no_refusal old.files n (subst (λ (k : Command). IsSomeAnd old.files (λ told. IsRefused n k told)) h.0 r))
+  is_refused_at n ends.ReadFault line h r = inl refl
+  is_refused_at n (ends.Refused f) line h r = inr (inl (told_codes c old.files h.0 f n h.2 r))
+  is_refused_at n ends.WriteFault line h r = absurd (elim h.1 [ inl m ↦ made_none h.0 (made_not_refused c n r) m | inr x ↦ no_valid_run n _ x r ])
+  is_refused_at n ends.NoMemory line h r = inr (inr refl)
+  is_refused_at n ends.Outside line h r = absurd (told_valid c old.files h.0.setup n h.0.valid.valid r)
+  is_refused_at n ends.Whole line h r = absurd (no_valid_run n _ h r)
+  is_refused_at n (ends.Audited count) line h r = absurd (told_valid c old.files h.0.setup n (audit_valid count h.0) r)
+
+  -- a generated run reads no file
+  none_generated : (number : ℕ) (read : FilesRead) (name : List ℕ) → HasRead (Gen number) old.files read → next_name (Gen number) read ≡ Some name → ⊥
+  none_generated number NoFile name h e = cc
+  none_generated number (FirstFiles config scripts) name h e = h
+  none_generated number (AllScripts s) name h e = h
+  none_generated number (AllFiles s) name h e = cc
+
+  generated_not_read : (number : ℕ) (name : List ℕ) → c ≡ Gen number → IsLastRead course files asked name → ⊥
+  generated_not_read number name is l =
+      let both : HasRead (Gen number) old.files l.read × (next_name (Gen number) l.read ≡ Some name) = subst (λ (k : Command). HasRead k old.files l.read × (next_name k l.read ≡ Some name)) is (l.valid, l.next) in
+      none_generated number l.read name both.0 both.1
+
+  -- valid files are not refused
+  valid_kept : (k : Command) → c ≡ k → (name : List ℕ) (f : Fault) → HasValidFiles k old.files → IfSome old.files (λ told. Judged k told (Refused name f)) → IsLastRead course files asked name → ⊥
+  valid_kept (Still width height script) is name f v r l = told_refused (Still width height script) old.files name f r false v
+  valid_kept (Run beside configuration) is name f v r l = told_refused (Run beside configuration) old.files name f r false v
+  valid_kept (Gen number) is name f v r l = generated_not_read number name is l
+  valid_kept (Audit configuration journal) is name f v r l = told_refused (Audit configuration journal) old.files name f r false v
+  valid_kept (Capture configuration region) is name f v r l = told_refused (Capture configuration region) old.files name f r false v
+  valid_kept NoCommand is name f v r l = told_refused NoCommand old.files name f r false v
+
+  -- where all is valid, and the region lies on the screen, it does not lie outside
+  outside_not : (k : Command) → c ≡ k → HasValidFiles k old.files → IsOutside course files asked → ⊥
+  outside_not k is v o = at k v (subst (λ (k : Command). AreAllFiles k old.files o.setup) is o.valid) (sym (ap (λ (k : Command). is_outside_of k o.setup.config) is) ∙ o.outside)
+    where
+      not_both : (b : Bool) → b ≡ true → b ≡ false → ⊥
+      not_both true x y = cc
+      not_both false x y = cc
+
+      at : (k : Command) → HasValidFiles k old.files → AreAllFiles k old.files o.setup → is_outside_of k o.setup.config ≡ true → ⊥
+      at (Still width height script) v all out = not_both (is_outside_of (Still width height script) o.setup.config) out refl
+      at (Run beside configuration) v all out = not_both (is_outside_of (Run beside configuration) o.setup.config) out refl
+      at (Gen number) v all out = not_both (is_outside_of (Gen number) o.setup.config) out refl
+      at (Audit configuration journal) v all out = absurd all.of_command
+      at (Capture configuration region) v all out = not_both (is_outside_of (Capture configuration region) o.setup.config) out (told_side (Capture configuration region) old.files o.setup false all.valid v)
+      at NoCommand v all out = absurd all.of_command
+
+  -- a run was begun only where the region lies on the screen
+  no_outside_run : (Holds : IsRun old c journal → Type 0) → WithRun course Holds → IsSomeAnd old.files (IsValidSo c true) → ⊥
+  no_outside_run Holds h v = with_run_not course Holds (λ run x. let out = told_side c old.files run.setup true run.files_are.valid v in let inside = run.inside in cc) h
+
+  -- no file of a command that makes some is read, and no region lies outside
+  made_not_outside : (k : Command) → IsSomeAnd old.files (IsValidSo k true) → made_by k ≡ []
+  made_not_outside (Still width height script) v = refl
+  made_not_outside (Run beside configuration) v = refl
+  made_not_outside (Gen number) v = absurd (no_generated old.files v)
+    where
+      no_generated : (told : Option (List File)) → IsSomeAnd told (IsValidSo (Gen number) true) → ⊥
+      no_generated None v = v
+      no_generated (Some all) v = let e = v.2 in cc
+  made_not_outside (Audit configuration journal) v = refl
+  made_not_outside (Capture configuration region) v = refl
+  made_not_outside NoCommand v = refl
+
+  -- an audit films no region
+  no_outside_audit : (k : Command) (told : Option (List File)) → IsAudit k → IsSomeAnd told (IsValidSo k true) → ⊥
+  no_outside_audit (Audit configuration journal) None is v = v
+  no_outside_audit (Audit configuration journal) (Some all) is v = let e = v.2 in cc
+  no_outside_audit (Still width height script) told is v = is
+  no_outside_audit (Run beside configuration) told is v = is
+  no_outside_audit (Gen number) told is v = is
+  no_outside_audit (Capture configuration region) told is v = is
+  no_outside_audit NoCommand told is v = is
+
+  pub outside_at : (e : End) (line : List ℕ) → Came course files asked e line → code_of e ≡ 10 → IfSome old.files (IsValidSo c true)
+  outside_at ends.Outside line h n = told_outside c old.files h.0.setup true h.0.valid.valid h.0.outside
+  outside_at (ends.Refused f) line h n = absurd (not_fault f 10 n refl)
+  outside_at e line h n = absurd (omega arith)
+
+  pub is_outside_at : (e : End) (line : List ℕ) → Came course files asked e line → IsSomeAnd old.files (IsValidSo c true) → (code_of e ≡ 3) ⊎ ((code_of e ≡ 10) ⊎ (code_of e ≡ 7))
+  is_outside_at ends.Usage line h v = absurd (no_setup old.files true (subst (λ (k : Command). IsSomeAnd old.files (IsValidSo k true)) h.0 v))
+  is_outside_at ends.ReadFault line h v = inl refl
+  is_outside_at (ends.Refused f) line h v = absurd (told_refused c old.files h.0 f h.2 true v)
+  is_outside_at ends.WriteFault line h v = absurd (elim h.1 [ inl m ↦ made_none h.0 (made_not_outside c v) m | inr x ↦ no_outside_run _ x v ])
+  is_outside_at ends.NoMemory line h v = inr (inr refl)
+  is_outside_at ends.Outside line h v = inr (inl refl)
+  is_outside_at ends.Whole line h v = absurd (no_outside_run _ h v)
+  is_outside_at (ends.Audited count) line h v = absurd (no_outside_audit c old.files h.0.audit v)
+
+  pub is_valid_at : (e : End) (line : List ℕ) → Came course files asked e line → HasValidFiles c old.files → (code_of e ≡ 3) ⊎ ((code_of e ≡ 4) ⊎ ((code_of e ≡ 0) ⊎ (code_of e ≡ 7)))
+  is_valid_at ends.Usage line h v = absurd (no_setup old.files false (subst (λ (k : Command). HasValidFiles k old.files) h.0 v))
+  is_valid_at ends.ReadFault line h v = inl refl
+  is_valid_at (ends.Refused f) line h v = absurd (valid_kept c refl h.0 f v h.2 h.1)
+  is_valid_at ends.WriteFault line h v = inr (inl refl)
+  is_valid_at ends.NoMemory line h v = inr (inr (inr refl))
+  is_valid_at ends.Outside line h v = absurd (outside_not c refl v h.0)
+  is_valid_at ends.Whole line h v = inr (inr (inl refl))
+  is_valid_at (ends.Audited count) line h v = inr (inr (inl refl))
+
+  -- ---- an audit
+
+  -- an audit begins no run
+  pub no_audit_run : (Holds : IsRun old c journal → Type 0) → IsAudit c → WithRun course Holds → ⊥
+  no_audit_run Holds is h = with_run_not course Holds (λ run x. not_run run is) h
+
+  -- it leaves the files
+  pub audit_same : IsAudit c → (e : End) (line : List ℕ) → Came course files asked e line → files ≡ old.files
+  audit_same is ends.Usage line h = h.1.same
+  audit_same is ends.ReadFault line h = h.1.same
+  audit_same is (ends.Refused f) line h = h.1.same
+  audit_same is ends.WriteFault line h = absurd (elim h.1 [ inl m ↦ made_none h.0 (audit_makes_none c is) m | inr x ↦ no_audit_run _ is x ])
+  audit_same is ends.NoMemory line h = elim h.0 [
+    | inl b ↦ b.same
+    | inr (inl (inl m)) ↦ absurd (made_none m.0 (audit_makes_none c is) m.1)
+    | inr (inl (inr m)) ↦ front_same m.1.front old.files (front_none m.1.front m.0 (sym m.1.parts ∙ audit_makes_none c is)) m.1.put
+    | inr (inr x) ↦ absurd (no_audit_run _ is x)
+  ]
+  audit_same is ends.Outside line h = h.0.same
+  audit_same is ends.Whole line h = absurd (no_audit_run _ is h)
+  audit_same is (ends.Audited count) line h = h.0.same
+
+  -- and its journal is empty
+  pub audit_empty : IsAudit c → journal ≡ []
+  audit_empty is = empty_course is course

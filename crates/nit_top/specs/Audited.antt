@@ -1,0 +1,65 @@
+-- A journal that was audited, and found to be one of a run.
+use Rattle.std.specs.Prelude.{◌≡◌, ℕ, ◌<◌, List, length, map, Option, IfSome}
+use Rattle.nit_events.specs.declared.entry.Entry.{Entry}
+use Rattle.nit_config.specs.Configuration.{donation_of}
+use Rattle.nit_journal.specs.Journals.{IsLegal}
+use Rattle.nit_journal.specs.Projections.{alone, projection, replies_to}
+use Rattle.nit_journal.specs.Whole.{IsWhole}
+use Rattle.nit_plan.specs.Calls.{calls_to_make, deeds_to_do}
+use Rattle.nit_audit.specs.declared.auditing.Verdict.TheVariants as verdict
+use Rattle.nit_store.specs.Shown.{Shown, File, bytes_of}
+use Rattle.nit_top.specs.declared.finish.End.{End}
+use Rattle.nit_top.specs.declared.finish.End.TheVariants as end
+use Rattle.nit_top.specs.declared.finish.Fault.TheVariants as fault
+use Rattle.nit_top.specs.Command.{Command, Audit}
+use Rattle.nit_top.specs.Setup.{Setup, IsRunnable}
+use Rattle.nit_top.specs.JournalFiles.{IsJournalText, IsVerdictOn}
+use Rattle.nit_top.specs.Judged.{AreSetup, reads}
+use Rattle.nit_top.specs.Course.{Course, WithoutRun, asked_also}
+
+-- the command is an audit
+abbrev pub IsAudit : Command → Type 0
+IsAudit (Audit configuration journal) = Unit {0}
+IsAudit other = ⊥
+
+-- the first of two facts where the command is an audit, and the second for all other commands
+abbrev pub AuditOr : Command → Type 0 → Type 0 → Type 0
+AuditOr (Audit configuration journal) OfAudit OfRun = OfAudit
+AuditOr other OfAudit OfRun = OfRun
+
+-- The entries are those of a run of this setup: yes is the verdict on them, so they are legal, and
+-- whole for its scripts. The replies to each client are those of a machine that serves it alone.
+pub record IsOfARun (s : Setup) (entries : List Entry) : Type 0 where
+  pub yes : IsVerdictOn s entries verdict.Yes
+  pub legal : IsLegal s.config entries
+  pub whole : IsWhole (map calls_to_make s.scripts) (deeds_to_do s.input) entries
+  pub alone : (n : ℕ) → n < length s.config.clients
+      → replies_to n entries ≡ alone (donation_of s.config n) (projection n entries)
+
+-- the files that the audit names are this setup's, and spell these entries
+abbrev pub AreAudited : Command → List File → Setup → List Entry → Type 0
+AreAudited (Audit configuration journal) files s entries =
+    AreSetup configuration files s × IsJournalText (bytes_of journal files) entries
+AreAudited other files s entries = ⊥
+
+-- No run was begun, and no file was put. The command is an audit, and all of its files were read. The
+-- journal has so many entries, and they are those of a run of what the other files are.
+pub record IsAudited {old : Shown} {c : Command} {journal : List Entry}
+    (course : Course old c journal) (files : Option (List File)) (asked : Option (List (List ℕ))) (count : ℕ) : Type 0 where
+  pub none : WithoutRun course
+  pub same : files ≡ old.files
+  pub audit : IsAudit c
+  pub setup : Setup
+  pub runnable : IsRunnable setup
+  pub entries : List Entry
+  pub counted : length entries ≡ count
+  pub of_a_run : IsOfARun setup entries
+  pub told : IfSome old.files (λ all. AreAudited c all setup entries)
+  pub asks : asked ≡ asked_also old.asked (reads c setup.config)
+
+-- how an audit of entries ends, unless memory runs out
+abbrev pub IsAuditEnd : Setup → List Entry → End → Type 0
+IsAuditEnd s entries (end.Audited count) = (length entries ≡ count) × IsOfARun s entries
+IsAuditEnd s entries (end.Refused (fault.NotARun entry)) = IsVerdictOn s entries (verdict.No entry)
+IsAuditEnd s entries end.NoMemory = Unit {0}
+IsAuditEnd s entries other = ⊥

@@ -1,0 +1,35 @@
+-- What the bytes of a journal's file make of an audit.
+use Rattle.std.specs.Prelude.{ℕ, ◌^◌, ◌<◌, ◌≤◌, List, length}
+use Rattle.nit_events.specs.declared.entry.Entry.{Entry}
+use Rattle.nit_report.specs.JournalText.{ReadsJournal, IsFirstBadEntry}
+use Rattle.nit_audit.specs.declared.auditing.Verdict.{Verdict}
+use Rattle.nit_audit.specs.declared.auditing.Verdict.TheVariants as verdict
+use Rattle.nit_audit.specs.GoodEntries.{IsGood}
+use Rattle.nit_audit.specs.Verdict.{IsVerdict}
+use Rattle.nit_top.specs.declared.finish.Fault.{Fault}
+use Rattle.nit_top.specs.declared.finish.Fault.TheVariants as fault
+use Rattle.nit_top.specs.Setup.{Setup}
+
+-- at most 2^27 bytes that spell these entries
+abbrev pub IsJournalText : List ℕ → List Entry → Type 0
+IsJournalText bytes entries = (length bytes ≤ 2 ^ 27) × ReadsJournal bytes entries
+
+-- more bytes than that, or a first line that spells no entry
+abbrev pub IsNoJournalText : List ℕ → Fault → Type 0
+IsNoJournalText bytes fault.LongJournal = 2 ^ 27 < length bytes
+IsNoJournalText bytes (fault.BadEntry line) = (length bytes ≤ 2 ^ 27) × IsFirstBadEntry bytes line
+IsNoJournalText bytes other = ⊥
+
+-- this is the verdict on entries, by the scripts of the setup
+abbrev pub IsVerdictOn : Setup → List Entry → Verdict → Type 0
+IsVerdictOn s entries v = IsVerdict (IsGood s.config s.scripts s.input) entries v
+
+-- the bytes spell a journal, and this is the verdict on it
+abbrev pub HasVerdict : Setup → List ℕ → Verdict → Type 0
+HasVerdict s bytes v =
+    (entries : List Entry) × IsJournalText bytes entries × IsVerdictOn s entries v
+
+-- the bytes spell no journal; or they spell one, and the verdict on it is not yes
+abbrev pub IsJournalFault : Setup → List ℕ → Fault → Type 0
+IsJournalFault s bytes (fault.NotARun entry) = HasVerdict s bytes (verdict.No entry)
+IsJournalFault s bytes other = IsNoJournalText bytes other

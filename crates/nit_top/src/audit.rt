@@ -1,0 +1,62 @@
+//! The audit of a journal: whether it is one of a run of a configuration's scripts.
+
+ghost use Rattle.std.specs.Prelude.{false, true, ◌≡◌, ◌≤◌, ◌^◌, ℕ, List, IfSome, length};
+ghost use Rattle.nit_config.specs.Configured.{IsConfigured};
+ghost use Rattle.nit_store.specs.Shown.{Shown, bytes_of, asking};
+ghost use Rattle.nit_top.specs.Audited.{IsAuditEnd};
+ghost use Rattle.nit_top.specs.Command.{Audit};
+ghost use Rattle.nit_top.specs.Judged.{IsConfig};
+ghost use Rattle.nit_top.specs.Setup.{IsRunnable};
+ghost use Rattle.nit_top.specs.Work.{Ends, setup_of};
+
+use crate::finish::{End, Fault, Worked, at, unbegun};
+use crate::load::load_journal;
+use crate::perform::{Scripts, read_scripts};
+use nit_audit::{Verdict, audit};
+use nit_config::Config;
+use nit_events::Entry;
+use nit_store::Store;
+use std::alloc::Global;
+
+/// Reads the scripts of a configuration and the journal of this name, and says whether it is one of
+/// a run of them. No run is begun.
+pub fn audited<'a, S: Store>(
+    alloc: Global,
+    store: &mut S,
+    config: &'a Config,
+    journal: &'a str,
+) -> Worked<'a>
+    requires { IsConfigured config.now }
+    ensures { (name : List ℕ) → (first : Shown) → (S.shown store.old) ≡ asking first name
+        → IfSome first.files (λ files. IsConfig (bytes_of name files) config.entry.now)
+        → Ends (Audit name journal.entry.now) first (S.shown store.new) result }
+{
+    let scripts = match read_scripts(alloc, store, config) {
+        Ok(scripts) => scripts,
+        Err(stop) => return unbegun(alloc, stop),
+    };
+    let entries = match load_journal(alloc, store, journal) {
+        Ok(entries) => entries,
+        Err(stop) => return unbegun(alloc, stop),
+    };
+    unbegun(
+        alloc,
+        at(audit_end(alloc, config, &scripts, &entries), journal),
+    )
+}
+
+/// How the audit of these entries ends.
+fn audit_end(alloc: Global, config: &Config, scripts: &Scripts, entries: &[Entry]) -> End
+    requires runnable { IsRunnable
+        (setup_of config.now scripts.now.clients.items scripts.now.input true false) }
+    requires few { length entries.now ≤ 2 ^ 27 }
+    ensures { IsAuditEnd
+        (setup_of config.now scripts.now.clients.items scripts.now.input true false)
+        entries.now result }
+{
+    match audit(alloc, config, &scripts.clients, &scripts.input, entries) {
+        Ok(Verdict::Yes) => End::Audited(entries.len() as u32),
+        Ok(Verdict::No { entry }) => End::Refused(Fault::NotARun(entry)),
+        Err(_) => End::NoMemory,
+    }
+}
