@@ -3,12 +3,12 @@ use Rattle.std.specs.Prelude.{◌≡◌, ℕ, List, ◌++◌}
 use Rattle.nit_events.specs.declared.entry.Entry.{Entry}
 use Rattle.nit_script.specs.declared.line.Line.{Line}
 use Rattle.nit_config.specs.Configuration.{Configuration}
-use Rattle.nit_journal.specs.Journals.{shots}
+use Rattle.nit_journal.specs.Replay.{shots}
 use Rattle.nit_report.specs.Picture.{picture}
-use Rattle.nit_store.specs.Shown.{File}
-use Rattle.nit_hall.specs.Near.{IsNearFrame}
-use Rattle.nit_hall.specs.Parts.{Parts}
-use Rattle.nit_store.specs.Puts.{Putting, PutsAll}
+use Rattle.nit_store.specs.Store.{File}
+use Rattle.nit_hall.specs.NearWords.{IsNearFrame}
+use Rattle.nit_hall.specs.OpeningParts.{OpeningParts}
+use Rattle.nit_store.specs.Puts.{PutState, PutsAll}
 use Rattle.nit_actor.specs.Shots.{ShotsBehind, AreShotsOf}
 
 -- The bytes are the picture of a frame of the state that these entries lead to, in which each pixel
@@ -31,7 +31,7 @@ pub record GrowsQuietly (before after' : List Entry) : Type 0 where
 
 -- there are further entries now, and the pictures of the shots among them were put, in order, until
 -- a put was refused
-pub record PutsShotsBehind (parts : Parts) (before after' : List Entry) (old new : Putting)
+pub record PutsShotsBehind (parts : OpeningParts) (before after' : List Entry) (old new : PutState)
     : Type 0 where
   pub more : List Entry
   pub grown : after' ≡ before ++ more

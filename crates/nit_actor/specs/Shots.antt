@@ -6,15 +6,15 @@ use Rattle.nit_script.specs.declared.line.Line.{Line}
 use Rattle.nit_script.specs.declared.line.InputLine.{InputLine}
 use Rattle.nit_script.specs.declared.line.InputLine.TheVariants as input
 use Rattle.nit_config.specs.Configuration.{Configuration}
-use Rattle.nit_journal.specs.Journals.{replay, shots}
-use Rattle.nit_store.specs.Shown.{File}
-use Rattle.nit_actor.specs.Moves.{Doing, ByUser, Move}
+use Rattle.nit_journal.specs.Replay.{replay, shots}
+use Rattle.nit_store.specs.Store.{File}
+use Rattle.nit_actor.specs.Turn.{ActorLine, ByUser, LineTurn}
 use Rattle.nit_actor.specs.Rounds.{rounds}
-use Rattle.nit_actor.specs.Running.{shot_name}
-use Rattle.nit_actor.specs.Drawn.{Drawing, drawn, picture_of}
+use Rattle.nit_actor.specs.RoundsRun.{shot_name}
+use Rattle.nit_actor.specs.Drawing.{Drawing, drawn, picture_of}
 
--- The files are those of the shots among some entries, in order, where these stand behind others: each
--- is named by the shot's number, and is a picture that the entries before the shot allow.
+-- The files are those of the shots among some entries, in order, where these stand behind others:
+-- each is named by the shot's number, and is a picture that the entries before the shot allow.
 abbrev pub ShotsBehind : (List Entry → List ℕ → Type 0) → List Entry → List Entry → List File
     → Type 0
 ShotsBehind IsPicture before [] files = files ≡ []
@@ -31,24 +31,24 @@ AreShotsOf IsPicture journal files = ShotsBehind IsPicture [] journal files
 -- ---- by rounds
 
 -- the line takes a picture
-abbrev pub shoots : Doing → Bool
+abbrev pub shoots : ActorLine → Bool
 shoots (ByUser input.Shot) = true
 shoots other = false
 
 -- the moves before the shot that stands behind so many others
-abbrev pub moves_before : ℕ → List Move → List Move
-moves_before taken [] = []
-moves_before zero (m ∷ rest) = if shoots m.doing then [] else m ∷ moves_before zero rest
-moves_before (suc taken) (m ∷ rest) =
-    m ∷ moves_before (if shoots m.doing then taken else suc taken) rest
+abbrev pub turns_before : ℕ → List LineTurn → List LineTurn
+turns_before taken [] = []
+turns_before zero (m ∷ rest) = if shoots m.doing then [] else m ∷ turns_before zero rest
+turns_before (suc taken) (m ∷ rest) =
+    m ∷ turns_before (if shoots m.doing then taken else suc taken) rest
 
 -- what the rounds have drawn when the shot is taken that stands behind so many others
 abbrev pub drawn_by_shot : Configuration → List (List Line) → List InputLine → ℕ → Drawing
 drawn_by_shot config scripts lines taken =
-    drawn config scripts (moves_before taken (rounds scripts lines))
+    drawn config scripts (turns_before taken (rounds scripts lines))
 
--- The picture of a shot of a run by rounds: it shows the state that the entries before the shot lead
--- to, and each pixel holds the word that is drawn by then.
+-- The picture of a shot of a run by rounds: it shows the state that the entries before the shot
+-- lead to, and each pixel holds the word that is drawn by then.
 abbrev pub IsDrawnPicture : Configuration → List (List Line) → List InputLine → List Entry → List ℕ
     → Type 0
 IsDrawnPicture config scripts lines before bytes =

@@ -1,15 +1,15 @@
 -- What is drawn on a session's own glass, and not yet on the scene's.
 use Rattle.std.specs.Prelude.{◌≡◌, ℕ, ◌+◌, ◌*◌, ◌<◌, ◌≤◌, Bool, false, List, length, slice_index, slice_set, Option, Some, None}
 use Rattle.nit_word.specs.Sight.{Sight}
-use Rattle.nit_scene.specs.Painted.{glass_in}
-use Rattle.nit_scene.specs.Played.{Played}
+use Rattle.nit_scene.specs.RawWords.{glass_in}
+use Rattle.nit_scene.specs.Scene.{SceneModel}
 use Rattle.nit_actor.specs.declared.stale.Stale.{Stale}
-use Rattle.nit_actor.specs.UnderWay.{is_word_in}
+use Rattle.nit_actor.specs.RunState.{is_number_in}
 
 -- the word of this number is stale
 abbrev pub is_stale : Option Stale → ℕ → Bool
 is_stale None n = false
-is_stale (Some a) n = is_word_in a.w a.area n
+is_stale (Some a) n = is_number_in a.w a.area n
 
 -- the places are those of a buffer that stands in so many words
 pub record FitsInto (size : ℕ) (a : Stale) : Type 0 where
@@ -27,7 +27,8 @@ pub record IsButFor (chosen : ℕ → Bool) (there own : Sight) : Type 0 where
   pub long : length now ≡ length old
   pub same : (n : ℕ) → chosen n ≡ false → slice_index now n ≡ slice_index old n
 
--- what is stale is of this session, and the scene's glass of it is the own one, but for what is stale
+-- what is stale is of this session, and the scene's glass of it is the own one, but for what is
+-- stale
 pub record IsBehindBy (a : Stale) (sid : ℕ) (there own : Sight) : Type 0 where
   pub of : a.sid ≡ sid
   pub fits : FitsInto own.size a
@@ -46,5 +47,5 @@ AreBehind (Some a) glasses owns =
     × IsBehindBy a a.sid (glass_in glasses a.sid) (glass_in owns a.sid)
 
 -- the scene after all that is stale is copied
-abbrev pub settled : Played Sight → List Sight → Played Sight
+abbrev pub settled : SceneModel Sight → List Sight → SceneModel Sight
 settled s owns = record s { glasses = owns }

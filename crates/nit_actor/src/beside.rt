@@ -4,9 +4,9 @@
 ghost use Rattle.std.specs.Prelude.{◌≡◌, ◌*◌, ◌≤◌, All, [], length, map, vec_len, vec_capacity};
 ghost use base.Fml.{ftrue};
 ghost use Rattle.nit_report.specs.Picture.{picture_length};
-ghost use Rattle.nit_hall.specs.Passes.{Belongs, UserBelongs};
-ghost use Rattle.nit_actor.specs.Running.{putting};
-ghost use Rattle.nit_actor.specs.Roles.{Role, IsRoleIn, role_of, user_role_of};
+ghost use Rattle.nit_hall.specs.Pass.{Belongs, UserBelongs};
+ghost use Rattle.nit_actor.specs.RoundsRun.{put_state_of_desk};
+ghost use Rattle.nit_actor.specs.Role.{Role, IsRoleIn, role_of, user_role_of};
 ghost use Rattle.nit_actor.specs.Pictures.{PutsShotsBehind};
 
 use crate::actor::run_lines;
@@ -55,7 +55,7 @@ impl<'h, 'a, N: Name, K> Drop for Work<'h, 'a, N, K> {
 
 impl<'h, 'a, N: Name, K: Checkpoint> Crew<Pass<'a>> for Work<'h, 'a, N, K> {
     ghost use Rattle.std.specs.Prelude.{◌≡◌, length};
-    ghost use Rattle.nit_actor.specs.Roles.{IsRoleIn, role_of};
+    ghost use Rattle.nit_actor.specs.Role.{IsRoleIn, role_of};
 
     type Role = PassRole;
 
@@ -74,9 +74,9 @@ impl<'h, 'a, 's, N: Name, K: Checkpoint, S: Store> Own<Pass<'a>, Work<'h, 'a, N,
     for Mine<'a, 's, S> {
     ghost use Rattle.std.specs.Prelude.{◌≡◌, ◌*◌, length};
     ghost use Rattle.nit_report.specs.Picture.{picture_length};
-    ghost use Rattle.nit_hall.specs.Passes.{UserBelongs};
-    ghost use Rattle.nit_actor.specs.Running.{putting};
-    ghost use Rattle.nit_actor.specs.Roles.{user_role_of};
+    ghost use Rattle.nit_hall.specs.Pass.{UserBelongs};
+    ghost use Rattle.nit_actor.specs.RoundsRun.{put_state_of_desk};
+    ghost use Rattle.nit_actor.specs.Role.{user_role_of};
     ghost use Rattle.nit_actor.specs.Pictures.{PutsShotsBehind};
 
     ghost ready = { λ m. UserBelongs N.parts m.user
@@ -87,8 +87,8 @@ impl<'h, 'a, 's, N: Name, K: Checkpoint, S: Store> Own<Pass<'a>, Work<'h, 'a, N,
         (user_role_of after'.user ≡ user_role_of before.user)
         × (after'.user.next ≡ length after'.user.input)
         × PutsShotsBehind N.parts before.user.seen after'.user.seen
-        (putting (S.shown before.desk.store.now) before.desk.fault before.desk.tried)
-        (putting (S.shown after'.desk.store.now) after'.desk.fault after'.desk.tried)
+        (put_state_of_desk (S.shown before.desk.store.now) before.desk.fault before.desk.tried)
+        (put_state_of_desk (S.shown after'.desk.store.now) after'.desk.fault after'.desk.tried)
         × (length after'.desk.frame.items ≡ length before.desk.frame.items)
         × (length after'.desk.text.items ≡ length before.desk.text.items)
         × (after'.desk.store.ghost_name ≡ before.desk.store.ghost_name) };
@@ -119,8 +119,8 @@ fn run_left<'a, N: Name, K: Checkpoint, S: Store, R: Wait>(
     ensures user_same { user_role_of user.new ≡ user_role_of user.old }
     ensures user_done { user.new.next ≡ length user.new.input }
     ensures put { PutsShotsBehind N.parts user.old.seen user.new.seen
-        (putting (S.shown desk.old.store.now) desk.old.fault desk.old.tried)
-        (putting (S.shown desk.new.store.now) desk.new.fault desk.new.tried) }
+        (put_state_of_desk (S.shown desk.old.store.now) desk.old.fault desk.old.tried)
+        (put_state_of_desk (S.shown desk.new.store.now) desk.new.fault desk.new.tried) }
     ensures frame { length desk.new.frame.items ≡ length desk.old.frame.items }
     ensures text { length desk.new.text.items ≡ length desk.old.text.items }
     ensures same_store { desk.new.store.ghost_name ≡ desk.old.store.ghost_name }
@@ -157,8 +157,9 @@ pub fn run_beside<'a, 's, N: Name + Send + Sync, G: Gate, S: Store, R: Threads +
     ensures user_same { user_role_of result.user ≡ user_role_of mine.entry.user }
     ensures user_done { result.user.next ≡ length result.user.input }
     ensures put { PutsShotsBehind N.parts mine.entry.user.seen result.user.seen
-        (putting (S.shown mine.entry.desk.store.now) mine.entry.desk.fault mine.entry.desk.tried)
-        (putting (S.shown result.desk.store.now) result.desk.fault result.desk.tried) }
+        (put_state_of_desk
+        (S.shown mine.entry.desk.store.now) mine.entry.desk.fault mine.entry.desk.tried)
+        (put_state_of_desk (S.shown result.desk.store.now) result.desk.fault result.desk.tried) }
     ensures frame { length result.desk.frame.items ≡ length mine.entry.desk.frame.items }
     ensures text { length result.desk.text.items ≡ length mine.entry.desk.text.items }
     ensures same_store { result.desk.store.ghost_name ≡ mine.entry.desk.store.ghost_name }

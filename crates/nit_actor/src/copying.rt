@@ -1,10 +1,10 @@
 //! Copies of a session's own glass to the scene's glass for it.
 
 ghost use Rattle.std.specs.Prelude.{◌≡◌, ◌+◌, ◌*◌, ◌<◌, ◌≤◌, length, slice_set};
-ghost use Rattle.nit_word.specs.Setting.{set_where, with_words};
+ghost use Rattle.nit_word.specs.Updates.{set_where, with_words};
 ghost use Rattle.nit_word.specs.Sight.{told_at};
-ghost use Rattle.nit_scene.specs.Painted.{glass_in};
-ghost use Rattle.nit_actor.specs.UnderWay.{is_word_in};
+ghost use Rattle.nit_scene.specs.RawWords.{glass_in};
+ghost use Rattle.nit_actor.specs.RunState.{is_number_in};
 
 use nit_plan::Area;
 use nit_scene::Scene;
@@ -22,7 +22,7 @@ pub(crate) fn copy_area(scene: &mut Scene<Inked>, sid: u32, own: &Inked, w: u32,
     requires ink { own.now.ink ≡ (glass_in scene.old.glasses sid).ink }
     ensures { scene.new ≡ record scene.old {
       glasses = slice_set scene.old.glasses sid
-          (with_words (set_where (is_word_in w area) (told_at own.now))
+          (with_words (set_where (is_number_in w area) (told_at own.now))
           (glass_in scene.old.glasses sid));
     } }
 {

@@ -3,9 +3,9 @@
 
 ghost use Rattle.std.specs.Prelude.{◌≡◌, ◌*◌, All, IfNone, IsSome, length, map};
 ghost use Rattle.nit_report.specs.Picture.{picture_length};
-ghost use Rattle.nit_hall.specs.Passes.{Belongs, UserBelongs};
-ghost use Rattle.nit_actor.specs.Running.{putting};
-ghost use Rattle.nit_actor.specs.Roles.{IsRoleIn, role_of, user_role_of};
+ghost use Rattle.nit_hall.specs.Pass.{Belongs, UserBelongs};
+ghost use Rattle.nit_actor.specs.RoundsRun.{put_state_of_desk};
+ghost use Rattle.nit_actor.specs.Role.{IsRoleIn, role_of, user_role_of};
 ghost use Rattle.nit_actor.specs.Pictures.{PutsShotsBehind};
 
 use crate::actor::do_line;
@@ -38,8 +38,8 @@ pub fn run_mine<'a, N: Name, G: Gate, S: Store, R: Wait>(
     ensures user_same { user_role_of user.new ≡ user_role_of user.old }
     ensures user_done { user.new.next ≡ length user.new.input }
     ensures put { PutsShotsBehind N.parts user.old.seen user.new.seen
-        (putting (S.shown desk.old.store.now) desk.old.fault desk.old.tried)
-        (putting (S.shown desk.new.store.now) desk.new.fault desk.new.tried) }
+        (put_state_of_desk (S.shown desk.old.store.now) desk.old.fault desk.old.tried)
+        (put_state_of_desk (S.shown desk.new.store.now) desk.new.fault desk.new.tried) }
     ensures frame { length desk.new.frame.items ≡ length desk.old.frame.items }
     ensures text { length desk.new.text.items ≡ length desk.old.text.items }
     ensures same_store { desk.new.store.ghost_name ≡ desk.old.store.ghost_name }
@@ -66,8 +66,8 @@ pub(crate) fn run_turns<'a, N: Name, K: Checkpoint, S: Store, R: Wait>(
     ensures user_same { user_role_of user.new ≡ user_role_of user.old }
     ensures user_done { user.new.next ≡ length user.new.input }
     ensures put { PutsShotsBehind N.parts user.old.seen user.new.seen
-        (putting (S.shown desk.old.store.now) desk.old.fault desk.old.tried)
-        (putting (S.shown desk.new.store.now) desk.new.fault desk.new.tried) }
+        (put_state_of_desk (S.shown desk.old.store.now) desk.old.fault desk.old.tried)
+        (put_state_of_desk (S.shown desk.new.store.now) desk.new.fault desk.new.tried) }
     ensures frame { length desk.new.frame.items ≡ length desk.old.frame.items }
     ensures text { length desk.new.text.items ≡ length desk.old.text.items }
     ensures same_store { desk.new.store.ghost_name ≡ desk.old.store.ghost_name }
@@ -133,8 +133,8 @@ fn do_user_turn<'a, N: Name, K: Checkpoint, S: Store, R: Wait>(
         ≡ picture_length N.parts.config.width N.parts.config.height }
     ensures same { user_role_of user.new ≡ user_role_of user.old }
     ensures put { PutsShotsBehind N.parts user.old.seen user.new.seen
-        (putting (S.shown desk.old.store.now) desk.old.fault desk.old.tried)
-        (putting (S.shown desk.new.store.now) desk.new.fault desk.new.tried) }
+        (put_state_of_desk (S.shown desk.old.store.now) desk.old.fault desk.old.tried)
+        (put_state_of_desk (S.shown desk.new.store.now) desk.new.fault desk.new.tried) }
     ensures frame { length desk.new.frame.items ≡ length desk.old.frame.items }
     ensures text { length desk.new.text.items ≡ length desk.old.text.items }
     ensures same_store { desk.new.store.ghost_name ≡ desk.old.store.ghost_name }

@@ -1,12 +1,12 @@
 //! A run of one client, without a lock and on the calling thread.
 
 ghost use Rattle.std.specs.Prelude.{◌≡◌, ◌+◌, ◌++◌, Some, drop, length, map, slice_get};
-ghost use Rattle.nit_journal.specs.Journals.{IsOpen};
+ghost use Rattle.nit_journal.specs.Replay.{IsOpen};
 ghost use Rattle.nit_plan.specs.Calls.{calls_in};
-ghost use Rattle.nit_hall.specs.Passes.{IsAtPhase};
-ghost use Rattle.nit_journal.specs.Whole.{Calls, act_of};
-ghost use Rattle.nit_actor.specs.InStep.{AreInStep, acts_to_be};
-ghost use Rattle.nit_actor.specs.Roles.{role_of, user_role_of};
+ghost use Rattle.nit_hall.specs.Pass.{IsAtPhase};
+ghost use Rattle.nit_journal.specs.WholeJournals.{Calls, action_of};
+ghost use Rattle.nit_actor.specs.IdleUser.{StepTogether, actions_to_be};
+ghost use Rattle.nit_actor.specs.Role.{role_of, user_role_of};
 
 use nit_hall::{Pass, Room, UserPass};
 use nit_script::Line;
@@ -15,7 +15,7 @@ use nit_script::Line;
 /// else. The user ends each phase together with the client, so the pass is always ready and nothing
 /// waits. The calls of the lines are recorded, in order, and nothing else is. It takes no memory.
 pub fn run_alone<'a>(room: &mut Room<'a>, pass: &mut Pass<'a>, user: &mut UserPass<'a>)
-    requires step { AreInStep room.old pass.old user.old }
+    requires step { StepTogether room.old pass.old user.old }
     requires open { IsOpen room.old.scene.entries }
     ensures same { role_of pass.new ≡ role_of pass.old }
     ensures done { pass.new.next ≡ length pass.new.script }
@@ -23,8 +23,8 @@ pub fn run_alone<'a>(room: &mut Room<'a>, pass: &mut Pass<'a>, user: &mut UserPa
     ensures user_done { user.new.next ≡ length user.new.input }
     ensures parts { room.new.parts ≡ room.old.parts }
     ensures open { IsOpen room.new.scene.entries }
-    ensures recorded { map act_of room.new.scene.entries
-        ≡ map act_of room.old.scene.entries
+    ensures recorded { map action_of room.new.scene.entries
+        ≡ map action_of room.old.scene.entries
         ++ map (Calls pass.old.sid) (calls_in (drop pass.old.next pass.old.script)) }
 {
     'lines: while let Some(line) = pass.next() {
@@ -35,17 +35,17 @@ pub fn run_alone<'a>(room: &mut Room<'a>, pass: &mut Pass<'a>, user: &mut UserPa
 
 /// Does the client's next line, which is this one. Where it ends a phase, the user ends it too.
 fn do_line<'a>(room: &mut Room<'a>, pass: &mut Pass<'a>, user: &mut UserPass<'a>, line: &Line)
-    requires step { AreInStep room.old pass.old user.old }
+    requires step { StepTogether room.old pass.old user.old }
     requires open { IsOpen room.old.scene.entries }
     requires next { slice_get pass.old.script pass.old.next ≡ Some line.now }
-    ensures step { AreInStep room.new pass.new user.new }
+    ensures step { StepTogether room.new pass.new user.new }
     ensures open { IsOpen room.new.scene.entries }
     ensures same { role_of pass.new ≡ role_of pass.old }
     ensures next { pass.new.next ≡ pass.old.next + 1 }
     ensures user_same { user_role_of user.new ≡ user_role_of user.old }
     ensures parts { room.new.parts ≡ room.old.parts }
-    ensures recorded { acts_to_be room.new.scene.entries pass.new
-        ≡ acts_to_be room.old.scene.entries pass.old }
+    ensures recorded { actions_to_be room.new.scene.entries pass.new
+        ≡ actions_to_be room.old.scene.entries pass.old }
 {
     match line {
         Line::Call(_) => {
@@ -58,9 +58,9 @@ fn do_line<'a>(room: &mut Room<'a>, pass: &mut Pass<'a>, user: &mut UserPass<'a>
 
 /// The client ends its phase, and the user with it.
 fn end_phase<'a>(room: &mut Room<'a>, pass: &mut Pass<'a>, user: &mut UserPass<'a>)
-    requires step { AreInStep room.old pass.old user.old }
+    requires step { StepTogether room.old pass.old user.old }
     requires next { IsAtPhase pass.old }
-    ensures step { AreInStep room.new pass.new user.new }
+    ensures step { StepTogether room.new pass.new user.new }
     ensures same { role_of pass.new ≡ role_of pass.old }
     ensures next { pass.new.next ≡ pass.old.next + 1 }
     ensures user_same { user_role_of user.new ≡ user_role_of user.old }

@@ -20,7 +20,7 @@ ghost use Rattle.std.specs.Prelude.{
   nat_le,
   slice_set,
 };
-ghost use Rattle.nit_scene.specs.Painted.{glass_in};
+ghost use Rattle.nit_scene.specs.RawWords.{glass_in};
 ghost use Rattle.nit_actor.specs.Stale.{AreBehind, FitsInto, IsBehind, IsButFor, is_stale};
 
 use crate::copying::copy_area;

@@ -3,10 +3,10 @@
 ghost use Rattle.std.specs.Prelude.{◌≡◌, ◌*◌, ◌+◌, All, Some, length, slice_get};
 ghost use Rattle.nit_word.specs.Inks.{IsWord};
 ghost use Rattle.nit_report.specs.Picture.{picture_length};
-ghost use Rattle.nit_hall.specs.Told.{TellsShot};
-ghost use Rattle.nit_hall.specs.Passes.{UserBelongs, IsAtDevice, IsAtShot, IsAtUserPhase};
-ghost use Rattle.nit_actor.specs.Running.{putting};
-ghost use Rattle.nit_actor.specs.Roles.{user_role_of};
+ghost use Rattle.nit_hall.specs.Hall.{TellsShot};
+ghost use Rattle.nit_hall.specs.Pass.{UserBelongs, IsAtDevice, IsAtShot, IsAtUserPhase};
+ghost use Rattle.nit_actor.specs.RoundsRun.{put_state_of_desk};
+ghost use Rattle.nit_actor.specs.Role.{user_role_of};
 ghost use Rattle.nit_actor.specs.Pictures.{GrowsQuietly, PutsShotsBehind};
 
 use crate::desk::Desk;
@@ -77,8 +77,8 @@ fn shoot<'a, N: Name, S: Store, R: Wait>(
     ensures same { user_role_of user.new ≡ user_role_of user.old }
     ensures next { user.new.next ≡ user.old.next + 1 }
     ensures put { PutsShotsBehind N.parts user.old.seen user.new.seen
-        (putting (S.shown desk.old.store.now) desk.old.fault desk.old.tried)
-        (putting (S.shown desk.new.store.now) desk.new.fault desk.new.tried) }
+        (put_state_of_desk (S.shown desk.old.store.now) desk.old.fault desk.old.tried)
+        (put_state_of_desk (S.shown desk.new.store.now) desk.new.fault desk.new.tried) }
     ensures frame { length desk.new.frame.items ≡ length desk.old.frame.items }
     ensures text { length desk.new.text.items ≡ length desk.old.text.items }
     ensures same_store { desk.new.store.ghost_name ≡ desk.old.store.ghost_name }
@@ -108,8 +108,8 @@ pub(crate) fn do_user_line<'a, N: Name, K: Checkpoint, S: Store, R: Wait>(
     ensures same { user_role_of user.new ≡ user_role_of user.old }
     ensures next { user.new.next ≡ user.old.next + 1 }
     ensures put { PutsShotsBehind N.parts user.old.seen user.new.seen
-        (putting (S.shown desk.old.store.now) desk.old.fault desk.old.tried)
-        (putting (S.shown desk.new.store.now) desk.new.fault desk.new.tried) }
+        (put_state_of_desk (S.shown desk.old.store.now) desk.old.fault desk.old.tried)
+        (put_state_of_desk (S.shown desk.new.store.now) desk.new.fault desk.new.tried) }
     ensures frame { length desk.new.frame.items ≡ length desk.old.frame.items }
     ensures text { length desk.new.text.items ≡ length desk.old.text.items }
     ensures same_store { desk.new.store.ghost_name ≡ desk.old.store.ghost_name }

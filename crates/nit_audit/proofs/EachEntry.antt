@@ -7,7 +7,7 @@ use Rattle.nit_events.specs.declared.call.Call.{Call}
 use Rattle.nit_events.specs.declared.entry.Entry.{Entry}
 use Rattle.nit_events.specs.declared.entry.Entry.TheVariants as entry
 use Rattle.nit_config.specs.Configuration.{Configuration}
-use Rattle.nit_journal.specs.Whole.{Deed, left, to_do}
+use Rattle.nit_journal.specs.WholeJournals.{UserAction, left, to_do}
 use Rattle.nit_audit.specs.declared.auditing.Verdict.{Verdict}
 use Rattle.nit_audit.specs.declared.auditing.Verdict.TheVariants as verdict
 use Rattle.nit_audit.specs.GoodEntries.{IsGoodFor}
@@ -24,7 +24,7 @@ left_at entries i e lt is = drop-cons entries i entry.Final lt ∙ ap (λ (x : E
 matched_of : (config : Configuration) (p : UnderwayModel) → IsReplay config p.replay → length p.clients ≡ length config.clients → IsMatched (audited config p)
 matched_of config p h many = many ∙ sym h.each
 
-pub ahead_first : (config : Configuration) (clients : List (List (ℕ × Call))) (user : List (ℕ × Deed)) (entries : List Entry) (p : UnderwayModel) → audited config p ≡ first_audited config clients user → IsAhead (first_audited config clients user) entries config p 0
+pub ahead_first : (config : Configuration) (clients : List (List (ℕ × Call))) (user : List (ℕ × UserAction)) (entries : List Entry) (p : UnderwayModel) → audited config p ≡ first_audited config clients user → IsAhead (first_audited config clients user) entries config p 0
 ahead_first config clients user entries p is = record { all = λ v h. subst (λ (a : Audited). IsVerdictFrom (IsGoodFrom a) 0 entries v) is h }
 
 -- the entry may follow
@@ -87,7 +87,7 @@ ahead_behind first entries config old i lt is ahead left more =
     no_more e = cons≢nil e
 
 -- the verdict on all entries, from the beginning
-pub verdict_on_all : (config : Configuration) (clients : List (List (ℕ × Call))) (user : List (ℕ × Deed)) (entries : List Entry) (v : Verdict) → IsVerdictFrom (IsGoodFrom (first_audited config clients user)) 0 entries v → IsVerdict (IsGoodFor config clients user) entries v
+pub verdict_on_all : (config : Configuration) (clients : List (List (ℕ × Call))) (user : List (ℕ × UserAction)) (entries : List Entry) (v : Verdict) → IsVerdictFrom (IsGoodFrom (first_audited config clients user)) 0 entries v → IsVerdict (IsGoodFor config clients user) entries v
 verdict_on_all config clients user entries v h =
     verdict_for (IsGoodFrom (first_audited config clients user)) (IsGoodFor config clients user) entries v (λ xs g. good_for config clients user xs g) (λ xs g. good_from config clients user xs g) h
 
@@ -113,12 +113,12 @@ followed_of config e old new b is h = subst (IsFollowing config e old new) is h
 pub ahead_on : (first : Audited) (entries : List Entry) (config : Configuration) (old new : UnderwayModel) (i : ℕ) (e : Entry) → i < length entries → e ≡ get_or entries i e → e ≢ entry.Final → IsAhead first entries config old i → IsFollowed config e old new → IsAhead first entries config new (i + 1)
 ahead_on first entries config old new i e lt is other ahead f = ahead_more first entries config old new i e lt (is ∙ same_default entries i e entry.Final lt) other ahead f
 
-pub verdict_bad : (config : Configuration) (clients : List (List (ℕ × Call))) (user : List (ℕ × Deed)) (entries : List Entry) (old new : UnderwayModel) (i : ℕ) (e : Entry) (b : Bool) → i < length entries → e ≡ get_or entries i e → e ≢ entry.Final → IsReplay config old.replay → length old.clients ≡ length config.clients
+pub verdict_bad : (config : Configuration) (clients : List (List (ℕ × Call))) (user : List (ℕ × UserAction)) (entries : List Entry) (old new : UnderwayModel) (i : ℕ) (e : Entry) (b : Bool) → i < length entries → e ≡ get_or entries i e → e ≢ entry.Final → IsReplay config old.replay → length old.clients ≡ length config.clients
     → IsAhead (first_audited config clients user) entries config old i → b ≡ false → IsFollowing config e old new b → IsVerdict (IsGoodFor config clients user) entries (verdict.No (i + 1))
 verdict_bad config clients user entries old new i e b lt is other kept many ahead no_ h =
     verdict_on_all config clients user entries (verdict.No (i + 1)) (ahead_bad (first_audited config clients user) entries config old i e lt (is ∙ same_default entries i e entry.Final lt) other kept many ahead (subst (IsFollowing config e old new) no_ h))
 
-pub verdict_unended : (config : Configuration) (clients : List (List (ℕ × Call))) (user : List (ℕ × Deed)) (entries : List Entry) (old : UnderwayModel) (i : ℕ) → i ≡ length entries → IsAhead (first_audited config clients user) entries config old i → IsVerdict (IsGoodFor config clients user) entries (verdict.No (length entries + 1))
+pub verdict_unended : (config : Configuration) (clients : List (List (ℕ × Call))) (user : List (ℕ × UserAction)) (entries : List Entry) (old : UnderwayModel) (i : ℕ) → i ≡ length entries → IsAhead (first_audited config clients user) entries config old i → IsVerdict (IsGoodFor config clients user) entries (verdict.No (length entries + 1))
 verdict_unended config clients user entries old i is ahead =
     subst (λ (n : ℕ). IsVerdict (IsGoodFor config clients user) entries (verdict.No (n + 1))) is (verdict_on_all config clients user entries (verdict.No (i + 1)) (ahead_none (first_audited config clients user) entries config old i is ahead))
 
@@ -126,7 +126,7 @@ verdict_unended config clients user entries old i is ahead =
 abbrev pub EndedAs : UnderwayModel → List Entry → ℕ → Verdict → Type 0
 EndedAs p entries i v = ((IsNothingLeft p.clients p.user → ⊥) × (v ≡ verdict.No (i + 1))) ⊎ ((IsNothingLeft p.clients p.user × (i + 1 ≡ length entries) × (v ≡ verdict.Yes)) ⊎ (IsNothingLeft p.clients p.user × (i + 1 < length entries) × (v ≡ verdict.No (i + 2))))
 
-pub verdict_ended : (config : Configuration) (clients : List (List (ℕ × Call))) (user : List (ℕ × Deed)) (entries : List Entry) (old : UnderwayModel) (i : ℕ) (e : Entry) (v : Verdict) → i < length entries → e ≡ get_or entries i e → e ≡ entry.Final → IsAhead (first_audited config clients user) entries config old i
+pub verdict_ended : (config : Configuration) (clients : List (List (ℕ × Call))) (user : List (ℕ × UserAction)) (entries : List Entry) (old : UnderwayModel) (i : ℕ) (e : Entry) (v : Verdict) → i < length entries → e ≡ get_or entries i e → e ≡ entry.Final → IsAhead (first_audited config clients user) entries config old i
     → EndedAs old entries i v → IsVerdict (IsGoodFor config clients user) entries v
 verdict_ended config clients user entries old i e v lt at is ahead how = verdict_on_all config clients user entries v (go how)
   where
@@ -140,7 +140,7 @@ verdict_ended config clients user entries old i e v lt at is ahead how = verdict
 
 -- ---- the clauses of the call
 
-pub only_one : {E : Type 0} (config : Configuration) (clients : List (List (ℕ × Call))) (user : List (ℕ × Deed)) (entries : List Entry) (r : Result Verdict E) → IfOk r (IsVerdict (IsGoodFor config clients user) entries)
+pub only_one : {E : Type 0} (config : Configuration) (clients : List (List (ℕ × Call))) (user : List (ℕ × UserAction)) (entries : List Entry) (r : Result Verdict E) → IfOk r (IsVerdict (IsGoodFor config clients user) entries)
     → IfOk r (λ v. (other : Verdict) → IsVerdict (IsGoodFor config clients user) entries other → v ≡ other)
 only_one config clients user entries (Ok v) h = λ other h'. one_verdict (IsGoodFor config clients user) (λ k xs g. good_fewer config clients user k xs g) entries v other h h'
 only_one config clients user entries (Err e) h = tt

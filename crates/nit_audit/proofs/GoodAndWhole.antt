@@ -6,9 +6,9 @@ use Rattle.nit_events.specs.declared.call.Call.{Call}
 use Rattle.nit_events.specs.declared.entry.Entry.{Entry}
 use Rattle.nit_events.specs.declared.entry.Entry.TheVariants as entry
 use Rattle.nit_config.specs.Configuration.{Configuration}
-use Rattle.nit_journal.specs.State.{State, after, opening}
-use Rattle.nit_journal.specs.Journals.{IsLegal, LegalFrom}
-use Rattle.nit_journal.specs.Whole.{Deed, IsWhole, calls_of, deeds_of}
+use Rattle.nit_journal.specs.State.{State, after, first_state}
+use Rattle.nit_journal.specs.Replay.{IsLegal, LegalFrom}
+use Rattle.nit_journal.specs.WholeJournals.{UserAction, IsWhole, calls_of, user_actions_of}
 use Rattle.nit_audit.specs.GoodEntries.{IsAllDone, IsGoodFor}
 use Rattle.nit_audit.specs.Verdict.{IsEnded}
 
@@ -21,7 +21,7 @@ calls_ended s (entry.Input dev routed ∷ front) = calls_ended s front
 calls_ended s (entry.Shot number ∷ front) = calls_ended s front
 calls_ended s (entry.Final ∷ front) = calls_ended s front
 
-deeds_ended : (front : List Entry) → deeds_of (front ++ entry.Final ∷ []) ≡ deeds_of front
+deeds_ended : (front : List Entry) → user_actions_of (front ++ entry.Final ∷ []) ≡ user_actions_of front
 deeds_ended [] = refl
 deeds_ended (entry.Call sid call r ∷ front) = deeds_ended front
 deeds_ended (entry.Input dev routed ∷ front) = cc (deeds_ended front)
@@ -30,12 +30,12 @@ deeds_ended (entry.Final ∷ front) = deeds_ended front
 
 -- ---- good entries that end are whole
 
-pub whole : (config : Configuration) (clients : List (List (ℕ × Call))) (user : List (ℕ × Deed)) (entries : List Entry) → IsGoodFor config clients user entries → IsEnded entries → IsWhole clients user entries
+pub whole : (config : Configuration) (clients : List (List (ℕ × Call))) (user : List (ℕ × UserAction)) (entries : List Entry) → IsGoodFor config clients user entries → IsEnded entries → IsWhole clients user entries
 whole config clients user entries g ended =
     let all : IsAllDone clients user ended.0 = g.final ended.0 [] ended.1 in
     record {
       calls = λ s lt. ap (calls_of s) ended.1 ∙ calls_ended s ended.0 ∙ all.calls s lt;
-      deeds = ap deeds_of ended.1 ∙ deeds_ended ended.0 ∙ all.deeds;
+      deeds = ap user_actions_of ended.1 ∙ deeds_ended ended.0 ∙ all.deeds;
       phases = g.phases;
       ends = ended;
     }
@@ -55,20 +55,20 @@ last_of s taken (entry.Shot number ∷ front) rest legal = last_of s (taken + 1)
 last_of s taken (entry.Final ∷ front) rest legal = absurd (not_empty front rest legal)
 
 -- all is done before the last picture of a legal and whole journal
-all_before : (config : Configuration) (clients : List (List (ℕ × Call))) (user : List (ℕ × Deed)) (entries front rest : List Entry) → IsLegal config entries → IsWhole clients user entries → entries ≡ front ++ entry.Final ∷ rest → IsAllDone clients user front
+all_before : (config : Configuration) (clients : List (List (ℕ × Call))) (user : List (ℕ × UserAction)) (entries front rest : List Entry) → IsLegal config entries → IsWhole clients user entries → entries ≡ front ++ entry.Final ∷ rest → IsAllDone clients user front
 all_before config clients user entries front rest legal w is =
-    let none : rest ≡ [] = last_of (opening config) 0 front rest (subst (λ (es : List Entry). IsLegal config es) is legal) in
+    let none : rest ≡ [] = last_of (first_state config) 0 front rest (subst (λ (es : List Entry). IsLegal config es) is legal) in
     let ends : entries ≡ front ++ entry.Final ∷ [] = subst (λ (r : List Entry). entries ≡ front ++ entry.Final ∷ r) none is in
     record {
       calls = λ s lt. sym (calls_ended s front) ∙ sym (ap (calls_of s) ends) ∙ w.calls s lt;
-      deeds = sym (deeds_ended front) ∙ sym (ap deeds_of ends) ∙ w.deeds;
+      deeds = sym (deeds_ended front) ∙ sym (ap user_actions_of ends) ∙ w.deeds;
     }
 
-pub good : (config : Configuration) (clients : List (List (ℕ × Call))) (user : List (ℕ × Deed)) (entries : List Entry) → IsLegal config entries → IsWhole clients user entries → IsGoodFor config clients user entries
+pub good : (config : Configuration) (clients : List (List (ℕ × Call))) (user : List (ℕ × UserAction)) (entries : List Entry) → IsLegal config entries → IsWhole clients user entries → IsGoodFor config clients user entries
 good config clients user entries legal w = record {
   legal = legal;
   calls = λ s lt. ([], append-nil (calls_of s entries) ∙ w.calls s lt);
-  deeds = ([], append-nil (deeds_of entries) ∙ w.deeds);
+  deeds = ([], append-nil (user_actions_of entries) ∙ w.deeds);
   phases = w.phases;
   final = λ front rest is. all_before config clients user entries front rest legal w is;
 }

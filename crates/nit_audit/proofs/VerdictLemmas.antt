@@ -9,7 +9,7 @@ use Rattle.nit_events.specs.declared.device.Device.{Device}
 use Rattle.nit_events.specs.declared.event.Routed.{Routed}
 use Rattle.nit_events.specs.declared.entry.Entry.{Entry}
 use Rattle.nit_events.specs.declared.entry.Entry.TheVariants as entry
-use Rattle.nit_journal.specs.Journals.{IsOpen}
+use Rattle.nit_journal.specs.Replay.{IsOpen}
 use Rattle.nit_audit.specs.declared.auditing.Verdict.{Verdict}
 use Rattle.nit_audit.specs.declared.auditing.Verdict.TheVariants as verdict
 use Rattle.nit_audit.specs.Verdict.{IsEnded, IsLeastBad, IsVerdict, IsVerdictFrom}

@@ -9,12 +9,12 @@ use Rattle.nit_events.specs.declared.entry.Entry.{Entry}
 use Rattle.nit_events.specs.declared.entry.Entry.TheVariants as entry
 use Rattle.nit_stack.specs.declared.view.View.{View}
 use Rattle.nit_events.specs.Input.{InputState, Routing, forget}
-use Rattle.nit_focus.specs.Focusing.{Focusing}
+use Rattle.nit_focus.specs.Focus.{FocusModel}
 use Rattle.nit_config.specs.Configuration.{Configuration, member}
 use Rattle.nit_journal.specs.Session.{Session}
 use Rattle.nit_journal.specs.State.{State, after, route, session_in}
-use Rattle.nit_journal.specs.Journals.{Agrees}
-use Rattle.nit_journal.specs.Whole.{Deed}
+use Rattle.nit_journal.specs.Replay.{Agrees}
+use Rattle.nit_journal.specs.WholeJournals.{UserAction}
 use Rattle.nit_audit.specs.Underway.{Audited, IsGoodFrom, MayFollow, followed}
 use Rattle.nit_audit.specs.declared.auditing.Verdict.{Verdict}
 use Rattle.nit_audit.specs.Verdict.{IsVerdictFrom}
@@ -24,7 +24,7 @@ use Rattle.nit_audit.specs.Verdict.{IsVerdictFrom}
 pub record ReplayModel : Type 0 where
   pub sessions : List Session
   pub stack : List View
-  pub focus : Focusing
+  pub focus : FocusModel
   pub shots : ℕ
   pub count : ℕ
 
@@ -82,7 +82,7 @@ IsSound other = Unit {0}
 pub record UnderwayModel : Type 0 where
   pub replay : ReplayModel
   pub clients : List (List (ℕ × Call))
-  pub user : List (ℕ × Deed)
+  pub user : List (ℕ × UserAction)
   pub phase : ℕ
 
 -- the audit that it comes to

@@ -8,27 +8,27 @@ use Rattle.nit_events.specs.declared.entry.Entry.TheVariants as entry
 use Rattle.nit_script.specs.declared.line.Line.{Line}
 use Rattle.nit_script.specs.declared.line.InputLine.{InputLine}
 use Rattle.nit_config.specs.Configuration.{Configuration}
-use Rattle.nit_journal.specs.Journals.{IsLegal}
-use Rattle.nit_journal.specs.Whole.{Deed, calls_of, deeds_of, done, to_do, phases_along}
-use Rattle.nit_plan.specs.Calls.{calls_to_make, deeds_to_do}
+use Rattle.nit_journal.specs.Replay.{IsLegal}
+use Rattle.nit_journal.specs.WholeJournals.{UserAction, calls_of, user_actions_of, done, to_do, phases_along}
+use Rattle.nit_plan.specs.Calls.{calls_to_make, user_actions_to_do}
 
 -- the clients have made all their calls, and the user has done all
 pub record IsAllDone
-    (clients : List (List (ℕ × Call))) (user : List (ℕ × Deed)) (entries : List Entry)
+    (clients : List (List (ℕ × Call))) (user : List (ℕ × UserAction)) (entries : List Entry)
     : Type 0 where
   pub calls : (sid : ℕ) → sid < length clients → calls_of sid entries ≡ done (to_do clients sid)
-  pub deeds : deeds_of entries ≡ done user
+  pub deeds : user_actions_of entries ≡ done user
 
 -- The entries are legal. The calls of each client are the first ones that it is to make, and the
 -- device events and shots are the first ones that the user is to do. Their phases never fall. A
 -- last picture is taken when all is done.
 pub record IsGoodFor
-    (config : Configuration) (clients : List (List (ℕ × Call))) (user : List (ℕ × Deed))
+    (config : Configuration) (clients : List (List (ℕ × Call))) (user : List (ℕ × UserAction))
     (entries : List Entry) : Type 0 where
   pub legal : IsLegal config entries
   pub calls : (sid : ℕ) → sid < length clients
       → IsPrefix (calls_of sid entries) (done (to_do clients sid))
-  pub deeds : IsPrefix (deeds_of entries) (done user)
+  pub deeds : IsPrefix (user_actions_of entries) (done user)
   pub phases : IsNonDecreasing (phases_along clients user entries)
   pub final : (front rest : List Entry) → entries ≡ front ++ entry.Final ∷ rest
       → IsAllDone clients user front
@@ -36,4 +36,4 @@ pub record IsGoodFor
 -- by the scripts of the clients and of the user
 abbrev pub IsGood : Configuration → List (List Line) → List InputLine → List Entry → Type 0
 IsGood config scripts input entries =
-    IsGoodFor config (map calls_to_make scripts) (deeds_to_do input) entries
+    IsGoodFor config (map calls_to_make scripts) (user_actions_to_do input) entries

@@ -3,8 +3,8 @@ use Rattle.std.specs.Prelude.{ℕ, ◌<◌, ◌==◌, Bool, List, map, Option, S
 use Rattle.std.specs.List.{AllByRecursion, list_any}
 use Rattle.slab.specs.Slab.{Slab, get}
 use Rattle.nit_stack.specs.declared.view.View.{View}
-use Rattle.nit_stack.specs.Labels.{is_view}
-use Rattle.nit_journal.specs.Views.{new_view}
+use Rattle.nit_stack.specs.LabelPlaces.{is_view}
+use Rattle.nit_journal.specs.StackAfter.{new_view}
 use Rattle.nit_audit.specs.declared.keys.Change.{Change}
 use Rattle.nit_audit.specs.declared.keys.Change.TheVariants as change
 use Rattle.nit_audit.specs.declared.keys.Which.{Which}

@@ -1,7 +1,7 @@
-pub use Rattle.nit_config.specs.Configured
-pub use Rattle.nit_journal.specs.Journals
-pub use Rattle.nit_journal.specs.Projections
-pub use Rattle.nit_journal.specs.Whole
+pub use Rattle.nit_config.specs.ConfigurationRanges
+pub use Rattle.nit_journal.specs.Replay
+pub use Rattle.nit_journal.specs.Projection
+pub use Rattle.nit_journal.specs.WholeJournals
 pub use Rattle.nit_plan.specs.Calls
 pub mod GoodEntries
 pub mod Verdict

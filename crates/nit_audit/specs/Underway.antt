@@ -10,9 +10,9 @@ use Rattle.nit_script.specs.declared.line.Line.TheVariants as line
 use Rattle.nit_script.specs.declared.line.InputLine.{InputLine}
 use Rattle.nit_script.specs.declared.line.InputLine.TheVariants as input
 use Rattle.nit_config.specs.Configuration.{Configuration}
-use Rattle.nit_journal.specs.State.{State, after, opening}
-use Rattle.nit_journal.specs.Journals.{LegalFrom, Agrees}
-use Rattle.nit_journal.specs.Whole.{Deed, Does, Shoots, calls_of, deeds_of, done, left, next_phase, to_do, phases_along}
+use Rattle.nit_journal.specs.State.{State, after, first_state}
+use Rattle.nit_journal.specs.Replay.{LegalFrom, Agrees}
+use Rattle.nit_journal.specs.WholeJournals.{UserAction, Does, Shoots, calls_of, user_actions_of, done, left, next_phase, to_do, phases_along}
 use Rattle.nit_audit.specs.GoodEntries.{IsAllDone}
 
 -- the state; how many shots were taken; what the clients and the user are still to do; and the
@@ -21,20 +21,20 @@ pub record Audited : Type 0 where
   pub state : State
   pub taken : ℕ
   pub clients : List (List (ℕ × Call))
-  pub user : List (ℕ × Deed)
+  pub user : List (ℕ × UserAction)
   pub phase : ℕ
 
 -- before the first entry
-abbrev pub first_audited : Configuration → List (List (ℕ × Call)) → List (ℕ × Deed) → Audited
+abbrev pub first_audited : Configuration → List (List (ℕ × Call)) → List (ℕ × UserAction) → Audited
 first_audited config clients user =
-    record { state = opening config; taken = 0; clients = clients; user = user; phase = 0 }
+    record { state = first_state config; taken = 0; clients = clients; user = user; phase = 0 }
 
 -- these entries are good behind those so far
 pub record IsGoodFrom (a : Audited) (entries : List Entry) : Type 0 where
   pub legal : LegalFrom a.state a.taken entries
   pub calls : (sid : ℕ) → sid < length a.clients
       → IsPrefix (calls_of sid entries) (done (to_do a.clients sid))
-  pub deeds : IsPrefix (deeds_of entries) (done a.user)
+  pub deeds : IsPrefix (user_actions_of entries) (done a.user)
   pub phases : IsNonDecreasing (a.phase ∷ phases_along a.clients a.user entries)
   pub final : (front rest : List Entry) → entries ≡ front ++ entry.Final ∷ rest
       → IsAllDone a.clients a.user front
@@ -45,7 +45,8 @@ IsNext phase x [] = ⊥
 IsNext phase x (t ∷ ts) = (phase ≤ t.0) × (x ≡ t.1)
 
 -- nothing is left to do
-pub record IsNothingLeft (clients : List (List (ℕ × Call))) (user : List (ℕ × Deed)) : Type 0 where
+pub record IsNothingLeft (clients : List (List (ℕ × Call)))
+    (user : List (ℕ × UserAction)) : Type 0 where
   pub calls : (sid : ℕ) → sid < length clients → to_do clients sid ≡ []
   pub deeds : user ≡ []
 

@@ -4,11 +4,11 @@ ghost use Rattle.std.specs.Prelude.{◌≡◌, ◌≢◌, ℕ, ◌^◌, ◌<◌,
 ghost use Rattle.nit_events.specs.declared.entry.Entry.TheVariants as entry;
 ghost use Rattle.nit_events.specs.Ranges.{IsDevice};
 ghost use Rattle.nit_config.specs.Configuration.{donation_of};
-ghost use Rattle.nit_config.specs.Configured.{IsConfigured};
-ghost use Rattle.nit_journal.specs.Journals.{IsLegal};
-ghost use Rattle.nit_journal.specs.Projections.{alone, projection, replies_to};
-ghost use Rattle.nit_journal.specs.Whole.{Does, IsWhole, Shoots, left, next_phase, to_do};
-ghost use Rattle.nit_plan.specs.Calls.{calls_to_make, deeds_to_do};
+ghost use Rattle.nit_config.specs.ConfigurationRanges.{IsConfiguration};
+ghost use Rattle.nit_journal.specs.Replay.{IsLegal};
+ghost use Rattle.nit_journal.specs.Projection.{alone, projection, replies_to};
+ghost use Rattle.nit_journal.specs.WholeJournals.{Does, IsWhole, Shoots, left, next_phase, to_do};
+ghost use Rattle.nit_plan.specs.Calls.{calls_to_make, user_actions_to_do};
 ghost use Rattle.nit_audit.specs.GoodEntries.{IsGood};
 ghost use Rattle.nit_audit.specs.Verdict.{IsVerdict};
 ghost use Rattle.nit_audit.specs.Underway.{IsNext, IsNothingLeft, first_audited};
@@ -44,7 +44,7 @@ pub fn audit(
     input: &Input,
     entries: &[Entry],
 ) -> Result<Verdict, NoMemory>
-    requires configured { IsConfigured config.now }
+    requires configured { IsConfiguration config.now }
     requires scripts { length scripts.now ≡ length config.now.clients }
     requires few { length entries.now ≤ 2 ^ 27 }
 
@@ -56,7 +56,7 @@ pub fn audit(
         → IsVerdict (IsGood config.now scripts.now input.now) entries.now other → v ≡ other) }
     // It is `Yes` exactly where they are a legal journal that is whole for the scripts.
     ensures whole { IfOk result (λ v. (v ≡ Verdict.Yes) ↔ (IsLegal config.now entries.now
-        × IsWhole (map calls_to_make scripts.now) (deeds_to_do input.now) entries.now)) }
+        × IsWhole (map calls_to_make scripts.now) (user_actions_to_do input.now) entries.now)) }
     // After `Yes` each client got the replies of a machine that serves it alone.
     ensures alone { result ≡ Ok Verdict.Yes → (s : ℕ) → s < length config.now.clients
         → replies_to s entries.now
@@ -75,7 +75,7 @@ fn judged(
     input: &Input,
     entries: &[Entry],
 ) -> Result<Verdict, NoMemory>
-    requires configured { IsConfigured config.now }
+    requires configured { IsConfiguration config.now }
     requires scripts { length scripts.now ≡ length config.now.clients }
     requires few { length entries.now ≤ 2 ^ 27 }
     ensures { IfOk result (IsVerdict (IsGood config.now scripts.now input.now) entries.now) }
@@ -127,12 +127,13 @@ impl<'a> Underway<'a> {
         scripts: &'a [Client],
         input: &'a Input,
     ) -> Result<Underway<'a>, NoMemory>
-        requires configured { IsConfigured config.now }
+        requires configured { IsConfiguration config.now }
         requires scripts { length scripts.now ≡ length config.now.clients }
         ensures kept { IfOk result (λ a. IsReplay config.now a.replay) }
         ensures none { IfOk result (λ a. a.replay.count ≡ 0) }
         ensures first { IfOk result (λ a. audited config.now a
-            ≡ first_audited config.now (map calls_to_make scripts.now) (deeds_to_do input.now)) }
+            ≡ first_audited config.now (map calls_to_make scripts.now)
+            (user_actions_to_do input.now)) }
     {
         Ok(Underway {
             replay: Replay::new(alloc, config)?,

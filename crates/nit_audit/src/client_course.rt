@@ -1,7 +1,7 @@
 //! What a client's script has still to do.
 
 ghost use Rattle.std.specs.Prelude.{◌≡◌, ◌↔◌, ◌+◌, ◌≤◌, [], IsTrue, IfSome, IfNone, length};
-ghost use Rattle.nit_journal.specs.Whole.{left, next_phase};
+ghost use Rattle.nit_journal.specs.WholeJournals.{left, next_phase};
 ghost use Rattle.nit_plan.specs.Calls.{calls_from, calls_to_make};
 ghost use Rattle.nit_audit.specs.Underway.{BeginsWithCall, IsNext};
 

@@ -8,7 +8,7 @@ ghost use Rattle.nit_rect.specs.Rectangle.{covers};
 ghost use Rattle.nit_stack.specs.Orders.{put_back, without};
 ghost use Rattle.nit_config.specs.Configuration.{member};
 ghost use Rattle.nit_journal.specs.State.{layer};
-ghost use Rattle.nit_journal.specs.Views.{new_view};
+ghost use Rattle.nit_journal.specs.StackAfter.{new_view};
 ghost use Rattle.nit_audit.specs.Keys.{AllHaveViews, HasView, changed_if, is_meant, swept, taken_if, view_under, with_change};
 
 use nit_config::Config;

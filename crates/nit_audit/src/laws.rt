@@ -4,9 +4,9 @@ ghost use Rattle.std.specs.Prelude.{◌≡◌, ◌<◌, ℕ, List, length};
 ghost use Rattle.nit_events.specs.declared.call.Call.{Call};
 ghost use Rattle.nit_events.specs.declared.entry.Entry.{Entry};
 ghost use Rattle.nit_config.specs.Configuration.{Configuration, donation_of};
-ghost use Rattle.nit_journal.specs.Journals.{IsLegal};
-ghost use Rattle.nit_journal.specs.Projections.{alone, projection, replies_to};
-ghost use Rattle.nit_journal.specs.Whole.{Deed, IsWhole};
+ghost use Rattle.nit_journal.specs.Replay.{IsLegal};
+ghost use Rattle.nit_journal.specs.Projection.{alone, projection, replies_to};
+ghost use Rattle.nit_journal.specs.WholeJournals.{UserAction, IsWhole};
 ghost use Rattle.nit_audit.specs.declared.auditing.Verdict.{Verdict};
 ghost use Rattle.nit_audit.specs.declared.auditing.Verdict.TheVariants as verdict;
 ghost use Rattle.nit_audit.specs.GoodEntries.{IsGoodFor};
@@ -17,7 +17,7 @@ use nit_journal::laws::isolation;
 /// Only one verdict is the one on a list of entries.
 pub fn verdict_is_one()
     ensures { (config : Configuration) (clients : List (List (ℕ × Call)))
-        → (user : List (ℕ × Deed)) (entries : List Entry) (a b : Verdict)
+        → (user : List (ℕ × UserAction)) (entries : List Entry) (a b : Verdict)
         → IsVerdict (IsGoodFor config clients user) entries a
         → IsVerdict (IsGoodFor config clients user) entries b → a ≡ b }
 {}
@@ -25,11 +25,11 @@ pub fn verdict_is_one()
 /// `Yes` is the verdict on the journals that are legal and whole, and on no others.
 pub fn yes_is_legal_and_whole()
     ensures says { (config : Configuration) (clients : List (List (ℕ × Call)))
-        → (user : List (ℕ × Deed)) (entries : List Entry)
+        → (user : List (ℕ × UserAction)) (entries : List Entry)
         → IsVerdict (IsGoodFor config clients user) entries verdict.Yes
         → IsLegal config entries × IsWhole clients user entries }
     ensures comes { (config : Configuration) (clients : List (List (ℕ × Call)))
-        → (user : List (ℕ × Deed)) (entries : List Entry)
+        → (user : List (ℕ × UserAction)) (entries : List Entry)
         → IsLegal config entries → IsWhole clients user entries
         → IsVerdict (IsGoodFor config clients user) entries verdict.Yes }
 {}
@@ -38,7 +38,7 @@ pub fn yes_is_legal_and_whole()
 /// come from its donation, its own calls and the items that were routed to it.
 pub fn yes_is_served_alone()
     ensures { (config : Configuration) (clients : List (List (ℕ × Call)))
-        → (user : List (ℕ × Deed)) (entries : List Entry) (s : ℕ)
+        → (user : List (ℕ × UserAction)) (entries : List Entry) (s : ℕ)
         → IsVerdict (IsGoodFor config clients user) entries verdict.Yes
         → s < length config.clients
         → replies_to s entries ≡ alone (donation_of config s) (projection s entries) }

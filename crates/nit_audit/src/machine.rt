@@ -4,7 +4,7 @@ ghost use Rattle.std.specs.Prelude.{◌≡◌, ◌+◌, ◌-◌, ◌^◌, ◌<�
 ghost use Rattle.std.specs.List.{list_any};
 ghost use Rattle.nit_slots.specs.Account.{IsDonation};
 ghost use Rattle.nit_events.specs.declared.call.Call.TheVariants.{View, Destroy, Take};
-ghost use Rattle.nit_journal.specs.Session.{opened, refusal, by_call, by_handle, accepted, ended, queued, receive};
+ghost use Rattle.nit_journal.specs.Session.{first_session, refusal, by_call, by_handle, accepted, ended, queued, receive};
 
 use nit_events::{Call, Event, Item, Queue, Reply, Status};
 use nit_journal::refusing::{
@@ -33,7 +33,7 @@ pub(crate) struct Machine {
 
 impl Model for Machine {
     ghost use Rattle.std.specs.Prelude.{◌≤◌, vec_capacity};
-    ghost use Rattle.nit_plan.specs.Machines.{IsKept};
+    ghost use Rattle.nit_plan.specs.Machine.{IsMachine};
     ghost use Rattle.nit_journal.specs.Session.{Session};
 
     ghost Value = { Session };
@@ -51,7 +51,7 @@ impl Model for Machine {
     } };
 
     ghost invariant = { λ m. record {
-      kept : IsKept m.account m.w m.h m.next m.handles.items;
+      kept : IsMachine m.account m.w m.h m.next m.handles.items;
       space : 64 ≤ vec_capacity m.handles;
     } };
 }
@@ -61,7 +61,7 @@ impl Machine {
     /// use is taken here.
     pub(crate) fn new(alloc: Global, donation: u32) -> Result<Machine, NoMemory>
         requires { IsDonation donation }
-        ensures { IfOk result (λ m. m ≡ opened donation) }
+        ensures { IfOk result (λ m. m ≡ first_session donation) }
     {
         Ok(Machine {
             account: Account::new(donation),

@@ -7,13 +7,13 @@ ghost use Rattle.nit_events.specs.Ranges.{IsDevice};
 ghost use Rattle.nit_rect.specs.Rectangle.{is_rectangle, rectangle};
 ghost use Rattle.nit_glyph.specs.Texts.{is_title};
 ghost use Rattle.nit_stack.specs.declared.view.View.{View};
-ghost use Rattle.nit_stack.specs.Labels.{is_view};
+ghost use Rattle.nit_stack.specs.LabelPlaces.{is_view};
 ghost use Rattle.nit_stack.specs.Orders.{changed};
 ghost use Rattle.nit_config.specs.Configuration.{bar_rows, member};
-ghost use Rattle.nit_config.specs.Configured.{IsConfigured, IsConfiguredMember};
-ghost use Rattle.nit_journal.specs.Session.{accepted, opened, refusal};
-ghost use Rattle.nit_journal.specs.State.{delivered, layer, opening, session_in};
-ghost use Rattle.nit_journal.specs.Views.{after_accepted, after_deliveries};
+ghost use Rattle.nit_config.specs.ConfigurationRanges.{IsConfiguration, IsMember};
+ghost use Rattle.nit_journal.specs.Session.{accepted, first_session, refusal};
+ghost use Rattle.nit_journal.specs.State.{delivered, layer, first_state, session_in};
+ghost use Rattle.nit_journal.specs.StackAfter.{after_accepted, after_deliveries};
 ghost use Rattle.nit_audit.specs.AuditReplay.{input_closing, IsReplay, IsSound, IsReplayAnswer, replay_routing, state_of_replay};
 
 use crate::keys::{Change, Which};
@@ -55,9 +55,9 @@ impl Model for Replay {
 impl Replay {
     /// Before the first entry.
     pub(crate) fn new(alloc: Global, config: &Config) -> Result<Replay, NoMemory>
-        requires { IsConfigured config.now }
+        requires { IsConfiguration config.now }
         ensures kept { IfOk result (λ r. IsReplay config.now r) }
-        ensures state { IfOk result (λ r. state_of_replay config.now r ≡ opening config.now) }
+        ensures state { IfOk result (λ r. state_of_replay config.now r ≡ first_state config.now) }
         ensures none { IfOk result (λ r. (r.shots ≡ 0) × (r.count ≡ 0)) }
     {
         Ok(Replay {
@@ -310,8 +310,8 @@ fn rows_of(config: &Config) -> u32
 
 /// A machine for each client, as it opens.
 fn opened_machines(alloc: Global, clients: &[nit_config::Member]) -> Result<Vec<Machine>, NoMemory>
-    requires { All IsConfiguredMember clients.now }
-    ensures { IfOk result (λ v. v.items ≡ map (λ m. opened m.donation) clients.now) }
+    requires { All IsMember clients.now }
+    ensures { IfOk result (λ v. v.items ≡ map (λ m. first_session m.donation) clients.now) }
 {
     let mut machines = Vec::with_capacity(alloc, clients.len())?;
     for client in clients {
@@ -323,7 +323,7 @@ fn opened_machines(alloc: Global, clients: &[nit_config::Member]) -> Result<Vec<
 /// The user's input before its first event: a click moves the focus to those clients that take it
 /// so.
 fn opened_focus(config: &Config) -> Focus
-    requires { IsConfigured config.now }
+    requires { IsConfiguration config.now }
     ensures screen { (result.width ≡ config.now.width) × (result.height ≡ config.now.height) }
     ensures clicks { (t : ℕ) → t < 16
         → slice_index_or result.clicks t false ≡ (member config.now t).clicks }

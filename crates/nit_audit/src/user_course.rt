@@ -4,8 +4,8 @@ ghost use Rattle.std.specs.Prelude.{◌≡◌, ◌↔◌, ◌+◌, ◌≤◌, []
 ghost use Rattle.std.specs.List.{AllByRecursion};
 ghost use Rattle.nit_events.specs.Ranges.{IsDevice};
 ghost use Rattle.nit_script.specs.Spelling.{FitsInputLine};
-ghost use Rattle.nit_journal.specs.Whole.{Does, Shoots, left, next_phase};
-ghost use Rattle.nit_plan.specs.Calls.{deeds_from, deeds_to_do};
+ghost use Rattle.nit_journal.specs.WholeJournals.{Does, Shoots, left, next_phase};
+ghost use Rattle.nit_plan.specs.Calls.{user_actions_from, user_actions_to_do};
 ghost use Rattle.nit_audit.specs.Underway.{BeginsWithDeed, IsNext};
 
 use nit_events::Device;
@@ -24,12 +24,12 @@ impl<'a> Model for UserCourse<'a> {
     ghost use Rattle.std.specs.Prelude.{ℕ, ◌+◌, ◌≤◌, List, length};
     ghost use Rattle.std.specs.List.{AllByRecursion};
     ghost use Rattle.nit_script.specs.Spelling.{FitsInputLine};
-    ghost use Rattle.nit_journal.specs.Whole.{Deed};
-    ghost use Rattle.nit_plan.specs.Calls.{deeds_from};
+    ghost use Rattle.nit_journal.specs.WholeJournals.{UserAction};
+    ghost use Rattle.nit_plan.specs.Calls.{user_actions_from};
 
-    ghost Value = { List (ℕ × Deed) };
+    ghost Value = { List (ℕ × UserAction) };
 
-    ghost view = { λ c. deeds_from c.phase c.lines.now };
+    ghost view = { λ c. user_actions_from c.phase c.lines.now };
 
     ghost invariant = { λ c. (c.phase + length c.lines.now ≤ 65536)
         × AllByRecursion FitsInputLine c.lines.now };
@@ -38,7 +38,7 @@ impl<'a> Model for UserCourse<'a> {
 impl<'a> UserCourse<'a> {
     /// All of the script.
     pub(crate) fn new(script: &'a Input) -> UserCourse<'a>
-        ensures { result ≡ deeds_to_do script.now }
+        ensures { result ≡ user_actions_to_do script.now }
     {
         UserCourse {
             lines: script.lines(),
@@ -101,7 +101,7 @@ impl<'a> UserCourse<'a> {
 fn next_deed(lines: &[InputLine], phase: u32) -> (u32, &[InputLine])
     requires few { phase + length lines.now ≤ 65536 }
     requires fits { AllByRecursion FitsInputLine lines.now }
-    ensures deeds { deeds_from result.0 result.1.now ≡ deeds_from phase lines.now }
+    ensures deeds { user_actions_from result.0 result.1.now ≡ user_actions_from phase lines.now }
     ensures begins { BeginsWithDeed result.1.now }
     ensures few { result.0 + length result.1.now ≤ 65536 }
     ensures fits { AllByRecursion FitsInputLine result.1.now }

@@ -1,11 +1,11 @@
 //! All views in a plain list, front first.
 
 ghost use Rattle.std.specs.Prelude.{◌≡◌, ◌<◌, ◌≤◌, [], option_map, IfSome, OnOk};
-ghost use Rattle.nit_stack.specs.Labels.{is_view};
+ghost use Rattle.nit_stack.specs.LabelPlaces.{is_view};
 ghost use Rattle.nit_stack.specs.Orders.{changed, moved, put_above, put_back, put_front, without};
 ghost use Rattle.nit_stack.specs.Sources.{owner};
 ghost use Rattle.nit_journal.specs.State.{layer};
-ghost use Rattle.nit_journal.specs.Views.{new_view};
+ghost use Rattle.nit_journal.specs.StackAfter.{new_view};
 ghost use Rattle.nit_audit.specs.Keys.{is_meant, with_change};
 
 use crate::keys::{

@@ -5,14 +5,14 @@ use Rattle.std.specs.List.{AllByRecursion}
 use Rattle.std.proofs.lemmas.Int.{ints}
 use Rattle.std.proofs.lemmas.List.{length-replicate}
 use Rattle.nit_rect.specs.Rectangle.{Rectangle, spans}
-use Rattle.nit_rect.specs.Meeting.{HasPixels, LiesIn}
+use Rattle.nit_rect.specs.Intersection.{HasPixels, LiesIn}
 use Rattle.nit_rect.proofs.ForCallers.{and_true, spans_holds, within}
-use Rattle.nit_capture.specs.Tiles.{IsPicture, IsSize, black}
+use Rattle.nit_capture.specs.Tiles.{IsPicture, IsPictureSize, black}
 use Rattle.nit_capture.specs.Film.{record_of, records, stream, HasRecord}
-use Rattle.nit_capture.specs.Cut.{screen, cut_place, cut, AgreeInside, AllAgree}
+use Rattle.nit_capture.specs.Crop.{screen, crop_place, crop, AgreeInside, AllAgree}
 use Rattle.nit_capture.proofs.TileDifferences.{same_map}
 use Rattle.nit_capture.proofs.RecordsRead.{one_record, no_record}
-use Rattle.nit_capture.proofs.Cuts.{in_cut}
+use Rattle.nit_capture.proofs.CropLemmas.{in_cut}
 
 pub goes_on : (w h : ℕ) (before now : List ℕ) (more : List (List ℕ)) → IsPicture w h now → HasRecord w h before (records w h before (now ∷ more) ++ 0 ∷ []) now (records w h now more ++ 0 ∷ [])
 goes_on w h before now more p = record { bytes_are = append_assoc (record_of w h before now) (records w h now more) (0 ∷ []); picture = p }
@@ -22,7 +22,7 @@ no_more_records w h before now more p e =
     let g = goes_on w h before now more p in
     no_record w h before (0 ∷ []) now (records w h now more ++ 0 ∷ []) (record { bytes_are = e ∙ g.bytes_are; picture = p }) refl
 
-one_film : (w h : ℕ) (before : List ℕ) (a b : List (List ℕ)) → IsSize w h → length before ≡ w * h → AllByRecursion (IsPicture w h) a → AllByRecursion (IsPicture w h) b
+one_film : (w h : ℕ) (before : List ℕ) (a b : List (List ℕ)) → IsPictureSize w h → length before ≡ w * h → AllByRecursion (IsPicture w h) a → AllByRecursion (IsPicture w h) b
     → records w h before a ++ 0 ∷ [] ≡ records w h before b ++ 0 ∷ [] → a ≡ b
 one_film w h before [] [] s size all_a all_b e = refl
 one_film w h before [] (y ∷ b) s size all_a all_b e = absurd (no_more_records w h before y b all_b.0 e)
@@ -37,7 +37,7 @@ one_film w h before (x ∷ a) (y ∷ b) s size all_a all_b e =
 same_number : (m n : ℕ) → m % 256 ≡ n % 256 → m / 256 ≡ n / 256 → m ≡ n
 same_number m n p q = omega arith
 
-pub one_stream : (w h v g : ℕ) (a b : List (List ℕ)) → IsSize w h → IsSize v g → AllByRecursion (IsPicture w h) a → AllByRecursion (IsPicture v g) b
+pub one_stream : (w h v g : ℕ) (a b : List (List ℕ)) → IsPictureSize w h → IsPictureSize v g → AllByRecursion (IsPicture w h) a → AllByRecursion (IsPicture v g) b
     → stream w h a ≡ stream v g b → (w ≡ v) × (h ≡ g) × (a ≡ b)
 one_stream w h v g a b s s' all_a all_b e =
     let w0 : w % 256 ≡ v % 256 = ap (λ (l : List ℕ). slice_index l 4) e in
@@ -57,19 +57,19 @@ spans_at : (x : ℤ) (w j : ℕ) → pos 0 ≤ℤ x → j < w → spans x w (pos
 spans_at (pos n) w j low lt = spans_holds (pos n) w (pos (n + j)) (record { low = omega (arith, ints); high = omega (arith, ints) })
 spans_at (negsuc n) w j low lt = absurd (omega (arith, ints))
 
-same_cut : (width height : ℕ) (r : Rectangle) (a b : List ℕ) → LiesIn r (screen width height) → HasPixels r → AgreeInside width r a b → cut width r a ≡ cut width r b
-unfolding cut_place
+same_cut : (width height : ℕ) (r : Rectangle) (a b : List ℕ) → LiesIn r (screen width height) → HasPixels r → AgreeInside width r a b → crop width r a ≡ crop width r b
+unfolding crop_place
 same_cut width height r a b lies some agree =
     let i = within r (screen width height) some lies in
-    same_map (λ k. slice_index a (cut_place width r k)) (λ k. slice_index b (cut_place width r k)) 0 (r.w * r.h) (λ k low high.
+    same_map (λ k. slice_index a (crop_place width r k)) (λ k. slice_index b (crop_place width r k)) 0 (r.w * r.h) (λ k low high.
     let c = in_cut r k some (omega arith) in
     agree (nat_abs r.x + k % r.w) (nat_abs r.y + k / r.w) (and_true (spans_at r.x r.w (k % r.w) i.left c.across) (spans_at r.y r.h (k / r.w) i.top c.down)))
 
-same_cuts : (width height : ℕ) (r : Rectangle) (a b : List (List ℕ)) → LiesIn r (screen width height) → HasPixels r → AllAgree width r a b → map (cut width r) a ≡ map (cut width r) b
+same_cuts : (width height : ℕ) (r : Rectangle) (a b : List (List ℕ)) → LiesIn r (screen width height) → HasPixels r → AllAgree width r a b → map (crop width r) a ≡ map (crop width r) b
 same_cuts width height r [] [] lies some all = refl
 same_cuts width height r [] (y ∷ b) lies some all = absurd all
 same_cuts width height r (x ∷ a) [] lies some all = absurd all
 same_cuts width height r (x ∷ a) (y ∷ b) lies some all = ap₂ (λ (z : List ℕ) (zs : List (List ℕ)). z ∷ zs) (same_cut width height r x y lies some all.0) (same_cuts width height r a b lies some all.1)
 
-pub same_film : (width height : ℕ) (r : Rectangle) (a b : List (List ℕ)) → LiesIn r (screen width height) → HasPixels r → AllAgree width r a b → stream r.w r.h (map (cut width r) a) ≡ stream r.w r.h (map (cut width r) b)
+pub same_film : (width height : ℕ) (r : Rectangle) (a b : List (List ℕ)) → LiesIn r (screen width height) → HasPixels r → AllAgree width r a b → stream r.w r.h (map (crop width r) a) ≡ stream r.w r.h (map (crop width r) b)
 same_film width height r a b lies some all = ap (stream r.w r.h) (same_cuts width height r a b lies some all)

@@ -1,7 +1,7 @@
 pub mod Tiles
 pub mod TileDifferences
 pub mod PixelRows
-pub mod ReadingSteps
+pub mod ReaderSteps
 pub mod NumbersRead
 pub mod Pictures
 pub mod RunsRead
@@ -9,5 +9,5 @@ pub mod TilesRead
 pub mod RecordsRead
 pub mod RunsWritten
 pub mod RecordsWritten
-pub mod Cuts
+pub mod CropLemmas
 pub mod FilmLaws

@@ -8,7 +8,7 @@ use Rattle.std.proofs.lemmas.List.{append-nil, ext_get_or, get_or-take, get_or-d
 use borrow.Rule.Slice.PartMut.{put_mid}
 use Rattle.std.proofs.lemmas.Slice.{take-put_mid}
 use Rattle.std.proofs.lemmas.List.FromFn.{map-range_with_len_more, length-map-range_with_len, get_or-map-range_with_len}
-use Rattle.nit_capture.specs.Tiles.{wide, high, area, top_of, left_of, place, row_place, tile_count, pixels, differs, IsSize}
+use Rattle.nit_capture.specs.Tiles.{wide, high, area, top_of, left_of, place, row_place, tile_count, tile_pixels, differs, IsPictureSize}
 use Rattle.nit_capture.proofs.Tiles.{wide_some, high_some}
 use Rattle.nit_capture.proofs.TileDifferences.{same_tile, same_pixel, same_map}
 
@@ -101,7 +101,7 @@ row_differs w h t row a b some below lt size_a size_b ne = either (differs w h a
 -- ---- bounds
 
 -- a place in a picture of this size
-pub place_small : (w h : ℕ) → IsSize w h → w * h ≤ 786432
+pub place_small : (w h : ℕ) → IsPictureSize w h → w * h ≤ 786432
 place_small w h s = mul-le w h 1024 768 s.columns s.rows
 
 -- ---- a row that was copied
@@ -122,8 +122,8 @@ row_put f g row wide k words part room before is same =
     ∙ ap (λ (n : ℕ). map f (range_with_len 0 n)) (sym next)
 
 pub row_copied : (w h t row k : ℕ) (p words part : List ℕ) → 1 ≤ w → t < tile_count w h → row < high w h t → length p ≡ w * h → row * wide w t + wide w t ≤ length words
-    → take (row * wide w t) words ≡ pixels w p t 0 (row * wide w t) → part ≡ take (wide w t) (drop (row_place w t row) p)
-    → take ((row + 1) * wide w t) (put_mid (row * wide w t) k words part) ≡ pixels w p t 0 ((row + 1) * wide w t)
+    → take (row * wide w t) words ≡ tile_pixels w p t 0 (row * wide w t) → part ≡ take (wide w t) (drop (row_place w t row) p)
+    → take ((row + 1) * wide w t) (put_mid (row * wide w t) k words part) ≡ tile_pixels w p t 0 ((row + 1) * wide w t)
 row_copied w h t row k p words part some below lt size room before is =
     row_put (λ j. slice_index p (place w t j)) (λ j. slice_index p (row_place w t row + j)) row (wide w t) k words part room before
     (is ∙ part_is p (row_place w t row) (wide w t) (omega (arith, row_within w h t row some below lt, size)))

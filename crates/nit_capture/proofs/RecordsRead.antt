@@ -7,11 +7,11 @@ use Rattle.std.proofs.lemmas.Bool.{eqb-true, eq-eqb, ne_eqb, cases_eq, cases_lt}
 use Rattle.std.proofs.lemmas.List.{get_or_past}
 use Rattle.std.proofs.lemmas.Option.{some_pair_parts}
 use Rattle.nit_capture.specs.Tiles.{tile_count, area, place, tile, differs}
-use Rattle.nit_capture.specs.Film.{two_bytes, runs, run_bytes, tile_bytes, changed, record_of, HasRecord}
-use Rattle.nit_capture.specs.Reading.{◌>>=◌, tile_at, is_next, behind_two, turn_at, tiles_at, record_at}
+use Rattle.nit_capture.specs.Film.{two_bytes, runs, run_bytes, tile_bytes, changed_tiles, record_of, HasRecord}
+use Rattle.nit_capture.specs.RecordReaders.{◌>>=◌, tile_at, is_next, behind_two, turn_at, tiles_at, record_at}
 use Rattle.nit_capture.proofs.TileDifferences.{differs_at, differs_where, same_tile, same_pixel}
 use Rattle.nit_capture.proofs.RunsRead.{AreBytes}
-use Rattle.nit_capture.proofs.ReadingSteps.{turn_none_left, turn_other, turn_taken, tiles_read}
+use Rattle.nit_capture.proofs.ReaderSteps.{turn_none_left, turn_other, turn_taken, tiles_read}
 use Rattle.nit_capture.proofs.TilesRead.{IsOther, TookTile, tile_take, tile_again, rest_changed, same_differs, same_filter, same_pixels, other_tile, same_picture}
 use Rattle.nit_rect.proofs.ForCallers.{bind_some}
 
@@ -260,7 +260,7 @@ cond_case : {A : Type 0} (b : Bool) (o : Option A) (y : A) → cond b o None ≡
 cond_case true o y e = (refl, e)
 cond_case false o y e = absurd cc
 
-record_text : (w h : ℕ) (before now : List ℕ) → record_of w h before now ≡ 1 ∷ (two_bytes (length (changed w h before now)) ++ flat_map (tile_bytes w h now) (changed w h before now))
+record_text : (w h : ℕ) (before now : List ℕ) → record_of w h before now ≡ 1 ∷ (two_bytes (length (changed_tiles w h before now)) ++ flat_map (tile_bytes w h now) (changed_tiles w h before now))
 unfolding record_of
 record_text w h before now = refl
 
@@ -274,17 +274,17 @@ record_take w h frame (one ∷ low ∷ high ∷ bytes) p rest some size are e =
     let is_one : one ≡ 1 = eqb-true _ _ c.0 in
     let k = tiles_take w h (tile_count w h) 0 (low + high * 256) frame bytes p rest (record { some = some; size = size }) (omega arith) (λ i. are (suc (suc (suc i)))) c.1 in
     let low_byte : low < 256 = are 1 in
-    let number : length (changed w h frame p) ≡ low + high * 256 = k.number in
-    let first : low ≡ length (changed w h frame p) % 256 = omega arith in
-    let second : high ≡ length (changed w h frame p) / 256 = omega arith in
+    let number : length (changed_tiles w h frame p) ≡ low + high * 256 = k.number in
+    let first : low ≡ length (changed_tiles w h frame p) % 256 = omega arith in
+    let second : high ≡ length (changed_tiles w h frame p) / 256 = omega arith in
     ap₂ (λ (x : ℕ) (l : List ℕ). x ∷ low ∷ high ∷ l) is_one k.text
-    ∙ ap₂ (λ (x y : ℕ). 1 ∷ x ∷ y ∷ (flat_map (tile_bytes w h p) (changed w h frame p) ++ rest)) first second
+    ∙ ap₂ (λ (x y : ℕ). 1 ∷ x ∷ y ∷ (flat_map (tile_bytes w h p) (changed_tiles w h frame p) ++ rest)) first second
     ∙ ap (λ (l : List ℕ). l ++ rest) (sym (record_text w h frame p))
 
 -- what is a record is read
 pub record_again : (w h : ℕ) (frame bytes p rest : List ℕ) → 1 ≤ w → length frame ≡ w * h → HasRecord w h frame bytes p rest → record_at w h frame bytes ≡ Some (p, rest)
 record_again w h frame bytes p rest some size r =
-    let us : List ℕ = changed w h frame p in
+    let us : List ℕ = changed_tiles w h frame p in
     let sum : length us % 256 + length us / 256 * 256 ≡ length us = omega arith in
     let given : Given w h 0 frame p = record { some = some; size = size; size_p = r.picture.size; fits = words_fit p r.picture.words; before = λ u k low below. absurd (omega arith) } in
     ap (record_at w h frame) (r.bytes_are ∙ ap (λ (l : List ℕ). l ++ rest) (record_text w h frame p))

@@ -4,14 +4,14 @@ use Rattle.std.specs.Prelude.{slice_index, slice_set, cond, IsErr}
 use Rattle.std.specs.List.{flat_map, filter, range_with_len, All}
 use Rattle.std.proofs.lemmas.Nat.{mul-le}
 use Rattle.std.proofs.lemmas.List.FromFn.{length-map-range_with_len, get_or-map-range_with_len}
-use Rattle.nit_capture.specs.Appending.{Appends}
+use Rattle.nit_capture.specs.Appends.{Appends}
 use Rattle.nit_capture.proofs.RecordsRead.{words_fit}
 use Rattle.std.proofs.lemmas.List.{append-nil, take_more_set}
 use Rattle.std.proofs.lemmas.List.Concat.{flat_map-append}
 use Rattle.std.proofs.lemmas.List.FromFn.{map-range_with_len_more}
 use Rattle.nit_word.specs.Inks.{IsWord}
-use Rattle.nit_capture.specs.Tiles.{IsPicture, IsSize, tiles_along, tile_count, area, place, tile}
-use Rattle.nit_capture.specs.Film.{two_bytes, tile_bytes, changed, record_of}
+use Rattle.nit_capture.specs.Tiles.{IsPicture, IsPictureSize, tiles_along, tile_count, area, place, tile}
+use Rattle.nit_capture.specs.Film.{two_bytes, tile_bytes, changed_tiles, record_of}
 use Rattle.nit_capture.proofs.TileDifferences.{range_more}
 
 filter-join : (f : ℕ → Bool) (xs : List ℕ) (x : ℕ) → filter f (xs ++ x ∷ []) ≡ filter f xs ++ cond (f x) (x ∷ []) []
@@ -46,7 +46,7 @@ pub words_more : (f : ℕ → ℕ) (words : List ℕ) (k v : ℕ) → k < length
 words_more f words k v lt e is =
     take_more_set words k v lt ∙ ap₂ (λ (l : List ℕ) (x : ℕ). l ++ x ∷ []) e is ∙ sym (map-range_with_len_more f 0 k k (omega arith))
 
-pub tiles_few : (w h : ℕ) → IsSize w h → tile_count w h ≤ 3072
+pub tiles_few : (w h : ℕ) → IsPictureSize w h → tile_count w h ≤ 3072
 unfolding tile_count tiles_along
 tiles_few w h s = mul-le ((w + 15) / 16) ((h + 15) / 16) 64 48 (omega (arith, s.columns)) (omega (arith, s.rows))
 
@@ -92,12 +92,12 @@ number_put [] tiles a b = refl
 number_put (x ∷ start) tiles a b = ap (λ (l : List ℕ). x ∷ l) (number_put start tiles a b)
 
 -- the whole record, where its tiles stand and their number is set
-pub number_set : (w h : ℕ) (before picture start now : List ℕ) (n at : ℕ) → at ≡ length start → n ≡ length (changed w h before picture)
-    → now ≡ (start ++ 1 ∷ 0 ∷ 0 ∷ []) ++ flat_map (tile_bytes w h picture) (changed w h before picture)
+pub number_set : (w h : ℕ) (before picture start now : List ℕ) (n at : ℕ) → at ≡ length start → n ≡ length (changed_tiles w h before picture)
+    → now ≡ (start ++ 1 ∷ 0 ∷ 0 ∷ []) ++ flat_map (tile_bytes w h picture) (changed_tiles w h before picture)
     → slice_set (slice_set now (at + 1) (n % 256)) (at + 1 + 1) (n / 256) ≡ start ++ record_of w h before picture
 unfolding record_of
 number_set w h before picture start now n at front is e =
-    let tiles : List ℕ = flat_map (tile_bytes w h picture) (changed w h before picture) in
+    let tiles : List ℕ = flat_map (tile_bytes w h picture) (changed_tiles w h before picture) in
     let one : at + 1 ≡ suc (length start) = omega arith in
     let two : at + 1 + 1 ≡ suc (suc (length start)) = omega arith in
     rw (e, two, one) (number_put start tiles (n % 256) (n / 256))

@@ -5,9 +5,9 @@ use Rattle.std.specs.List.{flat_map, filter, range_with_len}
 use Rattle.std.proofs.lemmas.Bool.{cases_eq, true≢false, or_cases}
 use Rattle.std.proofs.lemmas.List.{ext_get_or, length-set, get_or-set_same, get_or-set_other}
 use Rattle.std.proofs.lemmas.Option.{cond_some}
-use Rattle.nit_capture.specs.Tiles.{tile_count, area, place, pixels, tile, differs}
+use Rattle.nit_capture.specs.Tiles.{tile_count, area, place, tile_pixels, tile, differs}
 use Rattle.nit_capture.specs.Film.{runs, run_bytes}
-use Rattle.nit_capture.specs.Reading.{run_at, no_word, pixels_at, tile_at}
+use Rattle.nit_capture.specs.RecordReaders.{run_at, no_word, pixels_at, tile_at}
 use Rattle.nit_rect.proofs.ForCallers.{same_tests, bind_some}
 use Rattle.nit_capture.proofs.Tiles.{place_within, same_place, lies_at}
 use Rattle.nit_capture.proofs.TileDifferences.{same_map, differs_at, differs_where, unlike, like}
@@ -36,7 +36,7 @@ or_of_left false c e = absurd cc
 
 -- what reading the pixels of a tile from k on did
 pub record Took (w t k left more word : ℕ) (new : Bool) (frame bytes p rest : List ℕ) : Type 0 where
-  pub text : Continues more word (pixels w p t k left) bytes rest
+  pub text : Continues more word (tile_pixels w p t k left) bytes rest
   pub others : (i : ℕ) → IsOther w t k (k + left) i → slice_index p i ≡ slice_index frame i
   pub size : length p ≡ length frame
   pub fresh : (new ≡ true) ⊎ IsFresh w t k (k + left) frame p
@@ -78,7 +78,7 @@ pixels_take w h t (suc left) k more word new frame bytes p rest here sum are e =
         let mine : slice_index p (place w t k) ≡ x.0 = later.others (place w t k) apart ∙ get_or-set_same frame (place w t k) x.0 0 within in
         let step = run_takes more word bytes x are found in
         record {
-          text = subst (λ (y : ℕ). Continues more word (y ∷ pixels w p t (k + 1) left) bytes rest) (sym mine) (step.goes_on (pixels w p t (k + 1) left) rest later.text);
+          text = subst (λ (y : ℕ). Continues more word (y ∷ tile_pixels w p t (k + 1) left) bytes rest) (sym mine) (step.goes_on (tile_pixels w p t (k + 1) left) rest later.text);
           others = λ i no. later.others i (λ j low high same. no j (omega arith) (omega arith) same) ∙ get_or-set_other frame (place w t k) i x.0 0 (λ same. no k (omega arith) (omega arith) (sym same));
           size = later.size ∙ length-set frame (place w t k) x.0;
           fresh = elim later.fresh [
@@ -110,7 +110,7 @@ fresh_nowhere w t k left new frame p e (inr spot) = absurd (omega (arith, spot.l
 
 pub pixels_again : (w h t left k more word : ℕ) (new : Bool) (frame bytes p rest : List ℕ) → Here w h t frame → k + left ≡ area w h t
     → ((i : ℕ) → slice_index p i < 2 ^ 24) → (new ≡ true) ⊎ IsFresh w t k (k + left) frame p
-    → Continues more word (pixels w p t k left) bytes rest → Takes w t k left more word new frame bytes p rest
+    → Continues more word (tile_pixels w p t k left) bytes rest → Takes w t k left more word new frame bytes p rest
 unfolding pixels_at
 pixels_again w h t zero k zero word new frame bytes p rest here sum fits fresh c =
     record {
@@ -122,7 +122,7 @@ pixels_again w h t zero k zero word new frame bytes p rest here sum fits fresh c
     }
 pixels_again w h t zero k (suc more) word new frame bytes p rest here sum fits fresh c = absurd (omega (arith, c.0))
 pixels_again w h t (suc left) k more word new frame bytes p rest here sum fits fresh c =
-    let r = run_again more word (slice_index p (place w t k)) (pixels w p t (k + 1) left) bytes rest (fits (place w t k)) c in
+    let r = run_again more word (slice_index p (place w t k)) (tile_pixels w p t (k + 1) left) bytes rest (fits (place w t k)) c in
     let within : place w t k < length frame = let s = place_within w h t k here.some here.below (omega arith) in omega (arith, here.size) in
     let apart : (j : ℕ) → k + 1 ≤ j → j < k + 1 + left → place w t j ≡ place w t k → ⊥ = λ j low high same. let n = (same_place w h t t j k here.some here.below here.below (omega arith) (omega arith) same).1 in absurd (omega arith) in
     let x : ℕ = slice_index p (place w t k) in
@@ -191,7 +191,7 @@ pub record TakesTile (w h t : ℕ) (frame bytes p rest : List ℕ) : Type 0 wher
   pub others : (i : ℕ) → IsOther w t 0 (area w h t) i → slice_index picture i ≡ slice_index frame i
   pub size : length picture ≡ length frame
 
-head_fits : (w h t count : ℕ) (p : List ℕ) → ((i : ℕ) → slice_index p i < 2 ^ 24) → slice_index (pixels w p t 0 count) 0 < 2 ^ 24
+head_fits : (w h t count : ℕ) (p : List ℕ) → ((i : ℕ) → slice_index p i < 2 ^ 24) → slice_index (tile_pixels w p t 0 count) 0 < 2 ^ 24
 head_fits w h t zero p fits = lit< tt
 head_fits w h t (suc count) p fits = fits (place w t 0)
 

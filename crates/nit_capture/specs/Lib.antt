@@ -1,12 +1,12 @@
 pub use Rattle.nit_rect.specs.Rectangle
-pub use Rattle.nit_rect.specs.Meeting
+pub use Rattle.nit_rect.specs.Intersection
 pub use Rattle.nit_word.specs.Channels
 pub use Rattle.nit_word.specs.Inks
 pub mod Tiles
 pub mod Film
-pub mod Cut
+pub mod Crop
 pub mod Capture
 pub mod Player
 -- what the private writers and readers do, which no public clause cites
-pub mod Appending
-pub mod Reading
+pub mod Appends
+pub mod RecordReaders

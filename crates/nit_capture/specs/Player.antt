@@ -9,9 +9,10 @@ pub record PlayerModel : Type 0 where
   pub rest : List ℕ
 
 -- the bytes begin with a film's header, and the player has its size and what follows
-abbrev pub Begins : List ℕ → PlayerModel → Type 0
-Begins bytes p = HasHeader bytes p.width p.height p.rest
+abbrev pub BeginsFilm : List ℕ → PlayerModel → Type 0
+BeginsFilm bytes p = HasHeader bytes p.width p.height p.rest
 
--- what is still to be played begins with the record of picture `now` behind `before`, and the rest follows
+-- what is still to be played begins with the record of picture `now` behind `before`, and the rest
+-- follows
 abbrev pub GoesOn : PlayerModel → List ℕ → List ℕ → List ℕ → Type 0
 GoesOn p before now rest = HasRecord p.width p.height before p.rest now rest

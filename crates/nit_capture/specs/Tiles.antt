@@ -14,7 +14,7 @@ abbrev pub black : ℕ → ℕ → List ℕ
 black w h = replicate (w * h) 0
 
 -- a picture has 1 to 1024 columns and 1 to 768 rows
-pub record IsSize (w h : ℕ) : Type 0 where
+pub record IsPictureSize (w h : ℕ) : Type 0 where
   pub some_columns : 1 ≤ w
   pub some_rows : 1 ≤ h
   pub columns : w ≤ most_width
@@ -59,12 +59,13 @@ unfoldable pub row_place : ℕ → ℕ → ℕ → ℕ
 row_place w t row = (top_of w t + row) * w + left_of w t
 
 -- the pixels of tile t, by rows, from pixel k on, so many
-abbrev pub pixels : ℕ → List ℕ → ℕ → ℕ → ℕ → List ℕ
-pixels w picture t k count = map (λ j. slice_index picture (place w t j)) (range_with_len k count)
+abbrev pub tile_pixels : ℕ → List ℕ → ℕ → ℕ → ℕ → List ℕ
+tile_pixels w picture t k count =
+    map (λ j. slice_index picture (place w t j)) (range_with_len k count)
 
 -- the pixels of tile t, by rows
 abbrev pub tile : ℕ → ℕ → List ℕ → ℕ → List ℕ
-tile w h picture t = pixels w picture t 0 (area w h t)
+tile w h picture t = tile_pixels w picture t 0 (area w h t)
 
 -- whether tile t of two pictures differs in some pixel
 unfoldable pub differs : ℕ → ℕ → List ℕ → List ℕ → ℕ → Bool

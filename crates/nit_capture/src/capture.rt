@@ -2,9 +2,9 @@
 
 ghost use Rattle.std.specs.Prelude.{◌≡◌, ◌≤◌, ◌*◌, ◌++◌, ℕ, List, length, replicate};
 ghost use Rattle.std.specs.Prelude.{IfOk, OnOk, OnErr};
-ghost use Rattle.nit_rect.specs.Meeting.{HasPixels, LiesIn};
-ghost use Rattle.nit_capture.specs.Tiles.{IsSize};
-ghost use Rattle.nit_capture.specs.Cut.{screen, Shows};
+ghost use Rattle.nit_rect.specs.Intersection.{HasPixels, LiesIn};
+ghost use Rattle.nit_capture.specs.Tiles.{IsPictureSize};
+ghost use Rattle.nit_capture.specs.Crop.{screen, Shows};
 
 use crate::cut::cut_into;
 use crate::grid::Grid;
@@ -37,7 +37,7 @@ impl Model for Capture {
 }
 
 impl Capture {
-    ghost use Rattle.nit_capture.specs.Capture.{begun, taken, taken_bytes, next_record, with_last};
+    ghost use Rattle.nit_capture.specs.Capture.{first_capture, cropped, cropped_bytes, next_record, with_last};
 
     /// A capture of the rectangle `r` that has no picture yet. All numbers are in pixels: the
     /// screen has 1 to 1024 columns (`width`) and 1 to 768 rows (`height`), and `r` lies on it and
@@ -47,10 +47,10 @@ impl Capture {
     ///
     /// `NoMemory` where memory runs out.
     pub fn new(alloc: Global, width: u32, height: u32, r: Rect) -> Result<Capture, NoMemory>
-        requires size { IsSize width height }
+        requires size { IsPictureSize width height }
         requires inside { LiesIn r (screen width height) }
         requires pixels { HasPixels r }
-        ensures { IfOk result (λ c. c ≡ begun width height r) }
+        ensures { IfOk result (λ c. c ≡ first_capture width height r) }
     {
         let pixels = r.area() as usize;
         let before = black_words(alloc, pixels)?;
@@ -76,13 +76,14 @@ impl Capture {
         // The picture that is cut is that of the last bytes, and for a picture's bytes that of its
         // frame.
         ensures made { OnOk result (out.new.items
-            ≡ out.old.items ++ next_record self.old (taken_bytes self.old ppm.now)) }
-        ensures left { OnOk result (self.new ≡ with_last self.old (taken_bytes self.old ppm.now)) }
+            ≡ out.old.items ++ next_record self.old (cropped_bytes self.old ppm.now)) }
+        ensures left { OnOk result (self.new
+            ≡ with_last self.old (cropped_bytes self.old ppm.now)) }
         ensures appended { (frame : List ℕ) → Shows self.old.width self.old.height ppm.now frame →
             OnOk result (out.new.items
-            ≡ out.old.items ++ next_record self.old (taken self.old frame)) }
+            ≡ out.old.items ++ next_record self.old (cropped self.old frame)) }
         ensures kept { (frame : List ℕ) → Shows self.old.width self.old.height ppm.now frame →
-            OnOk result (self.new ≡ with_last self.old (taken self.old frame)) }
+            OnOk result (self.new ≡ with_last self.old (cropped self.old frame)) }
         ensures screen { self.new ≡ with_last self.old self.new.before }
         ensures refused { OnErr result ((self.new ≡ self.old) × (out.new.items ≡ out.old.items)) }
     {

@@ -3,9 +3,9 @@
 ghost use Rattle.std.specs.Prelude.{◌≡◌, ◌≤◌, ◌<◌, ◌*◌, ◌+◌, ℕ, length, map, nat_abs, slice_index};
 ghost use Rattle.std.specs.List.{range_with_len};
 ghost use Rattle.nit_rect.specs.Rectangle.{IsPlace};
-ghost use Rattle.nit_rect.specs.Meeting.{HasPixels, LiesIn};
+ghost use Rattle.nit_rect.specs.Intersection.{HasPixels, LiesIn};
 ghost use Rattle.nit_capture.specs.Tiles.{IsPicture};
-ghost use Rattle.nit_capture.specs.Cut.{screen, pixel_at, cut_pixel, cut_row_place, cut_bytes};
+ghost use Rattle.nit_capture.specs.Crop.{screen, word_of_bytes, crop_pixel, crop_row_place, crop_bytes};
 
 use crate::grid::Grid;
 use nit_rect::Rect;
@@ -17,7 +17,7 @@ pub fn cut_into(into: &mut Vec<u32>, grid: Grid, rect: &Rect, ppm: &[u8])
     requires pixels { HasPixels rect.now }
     requires room { length into.old.items ≡ rect.now.w * rect.now.h }
     requires bytes { 3 * (grid.width * grid.height) ≤ length ppm.now }
-    ensures value { into.new.items ≡ cut_bytes grid.width grid.height rect.now ppm.now }
+    ensures value { into.new.items ≡ crop_bytes grid.width grid.height rect.now ppm.now }
     ensures picture { IsPicture rect.now.w rect.now.h into.new.items }
 {
     cut_rows(into.as_mut_slice(), grid, rect, ppm);
@@ -29,7 +29,7 @@ fn cut_rows(into: &mut [u32], grid: Grid, rect: &Rect, ppm: &[u8])
     requires pixels { HasPixels rect.now }
     requires room { length into.old ≡ rect.now.w * rect.now.h }
     requires bytes { 3 * (grid.width * grid.height) ≤ length ppm.now }
-    ensures value { into.new ≡ cut_bytes grid.width grid.height rect.now ppm.now }
+    ensures value { into.new ≡ crop_bytes grid.width grid.height rect.now ppm.now }
     ensures picture { IsPicture rect.now.w rect.now.h into.new }
 {
     let wide = rect.w() as usize;
@@ -46,8 +46,8 @@ fn row_bytes<'a>(grid: Grid, rect: &Rect, ppm: &'a [u8], row: usize) -> &'a [u8]
     requires bytes { 3 * (grid.width * grid.height) ≤ length ppm.now }
     requires row { row < rect.now.h }
     ensures length { length result.now ≡ 3 * rect.now.w }
-    ensures pixels { (j : ℕ) → j < rect.now.w → pixel_at result.now (3 * j)
-        ≡ cut_pixel grid.width grid.height rect.now ppm.now (row * rect.now.w + j) }
+    ensures pixels { (j : ℕ) → j < rect.now.w → word_of_bytes result.now (3 * j)
+        ≡ crop_pixel grid.width grid.height rect.now ppm.now (row * rect.now.w + j) }
     ensures bytes { (i : ℕ) → slice_index result.now i < 256 }
 {
     let first = ppm.len() - 3 * (grid.width * grid.height);
@@ -60,7 +60,7 @@ fn row_start(grid: Grid, rect: &Rect, row: usize) -> usize
     requires inside { LiesIn rect.now (screen grid.width grid.height) }
     requires pixels { HasPixels rect.now }
     requires row { row < rect.now.h }
-    ensures value { result ≡ cut_row_place grid.width rect.now row }
+    ensures value { result ≡ crop_row_place grid.width rect.now row }
     ensures within { result + rect.now.w ≤ grid.width * grid.height }
     ensures small { grid.width * grid.height ≤ 786432 }
 {
@@ -79,7 +79,7 @@ fn natural(at: i32) -> usize
 fn words_into(into: &mut [u32], bytes: &[u8])
     requires { length bytes.now ≡ 3 * length into.old }
     ensures { into.new
-        ≡ map (λ k. pixel_at bytes.now (3 * k)) (range_with_len 0 (length into.old)) }
+        ≡ map (λ k. word_of_bytes bytes.now (3 * k)) (range_with_len 0 (length into.old)) }
 {
     for pixel in 0..into.len() {
         into[pixel] = word_at(bytes, 3 * pixel);
@@ -87,10 +87,10 @@ fn words_into(into: &mut [u32], bytes: &[u8])
 }
 
 /// The word of three bytes.
-#[tactic(auto, unfolding(crate::specs::Cut::pixel_at))]
+#[tactic(auto, unfolding(crate::specs::Crop::word_of_bytes))]
 fn word_at(bytes: &[u8], at: usize) -> u32
     requires { at + 3 ≤ length bytes.now }
-    ensures { result ≡ pixel_at bytes.now at }
+    ensures { result ≡ word_of_bytes bytes.now at }
 {
     bytes[at] as u32 * 0x10000 + bytes[at + 1] as u32 * 0x100 + bytes[at + 2] as u32
 }

@@ -1,7 +1,7 @@
 //! Where a picture has the pixels of a tile.
 
 ghost use Rattle.std.specs.Prelude.{◌≡◌, ◌≢◌, ◌≤◌, ◌<◌, ◌+◌, ◌*◌, true, false, length};
-ghost use Rattle.nit_capture.specs.Tiles.{IsSize, tiles_along, tile_count, left_of, top_of};
+ghost use Rattle.nit_capture.specs.Tiles.{IsPictureSize, tiles_along, tile_count, left_of, top_of};
 ghost use Rattle.nit_capture.specs.Tiles.{wide, high, area, place, row_place, differs};
 
 /// How many columns and rows a tile has that is not cut off.
@@ -12,7 +12,7 @@ pub const SIDE: usize = 16;
 pub struct Grid {
     pub width: usize,
     pub height: usize,
-    ghost size: { IsSize width height },
+    ghost size: { IsPictureSize width height },
 }
 
 impl Grid {

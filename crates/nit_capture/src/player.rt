@@ -1,7 +1,7 @@
 //! A film's bytes, played picture by picture.
 
 ghost use Rattle.std.specs.Prelude.{◌≡◌, ◌≢◌, ◌∷◌, ℕ, List, [], IsSome, IfSome, true, false};
-ghost use Rattle.nit_capture.specs.Tiles.{IsSize, IsPicture};
+ghost use Rattle.nit_capture.specs.Tiles.{IsPictureSize, IsPicture};
 ghost use Rattle.nit_capture.specs.declared.player.Played.TheVariants.{Frame, End, Bad};
 
 use crate::grid::Grid;
@@ -29,25 +29,25 @@ pub struct Player<'a> {
 }
 
 impl<'a> Model for Player<'a> {
-    ghost use Rattle.nit_capture.specs.Tiles.{IsSize};
+    ghost use Rattle.nit_capture.specs.Tiles.{IsPictureSize};
     ghost use Rattle.nit_capture.specs.Player.{PlayerModel};
 
     ghost Value = { PlayerModel };
 
     ghost view = { λ p. record { width = p.width; height = p.height; rest = p.rest.now } };
 
-    ghost invariant = { λ p. IsSize p.width p.height };
+    ghost invariant = { λ p. IsPictureSize p.width p.height };
 }
 
 impl<'a> Player<'a> {
-    ghost use Rattle.nit_capture.specs.Player.{PlayerModel, Begins, GoesOn};
+    ghost use Rattle.nit_capture.specs.Player.{PlayerModel, BeginsFilm, GoesOn};
 
     /// A player of the film whose stream the bytes are. None exactly where the bytes do not begin
     /// with `NCAP`, a width of 1 to 1024 and a height of 1 to 768, in pixels. What follows is
     /// looked at only when it is played.
     pub fn new(bytes: &'a [u8]) -> Option<Player<'a>>
-        ensures begins { IfSome result (λ p. Begins bytes.now p) }
-        ensures exact { (p : PlayerModel) → Begins bytes.now p → IsSome result }
+        ensures begins { IfSome result (λ p. BeginsFilm bytes.now p) }
+        ensures exact { (p : PlayerModel) → BeginsFilm bytes.now p → IsSome result }
     {
         let [b'N', b'C', b'A', b'P', w0, w1, h0, h1, rest @ ..] = bytes else {
             return None;
@@ -72,7 +72,7 @@ impl<'a> Player<'a> {
     /// The width and the height of each picture, in pixels: 1 to 1024, and 1 to 768.
     pub fn size(&self) -> (u32, u32)
         ensures value { (result.0 ≡ self.now.width) × (result.1 ≡ self.now.height) }
-        ensures within { IsSize self.now.width self.now.height }
+        ensures within { IsPictureSize self.now.width self.now.height }
     {
         (self.width as u32, self.height as u32)
     }

@@ -1,7 +1,7 @@
 -- Lines of a clip script are read exactly, and only one answer fits the bytes.
 use Rattle.std.proofs.Common.{◌≡◌, ℕ, ◌≤◌, List, ◌∷◌, ◌++◌, length, Some, Result, Ok, Err, refl, ap, subst}
 use Rattle.std.specs.Prelude.{codes, IfOk}
-use Rattle.nit_script.specs.Reading.{at_made}
+use Rattle.nit_script.specs.FieldReaders.{at_made}
 use Rattle.nit_script.proofs.ForCallers.{nothing, anything, text_fields, stops_text, Takes, IsKind, kind, first_takes, made_takes, ended_takes, ended_again, IsReader, same_read, same_bad, read_and_bad, read_and_long, bad_and_long}
 use Rattle.nit_clip.specs.declared.call.ClipCall.{ClipCall}
 use Rattle.nit_clip.specs.declared.call.ClipCall.TheVariants as call

@@ -3,7 +3,7 @@ use Rattle.std.proofs.Common.{◌≡◌, ◌∙◌, ℕ, zero, suc, ◌+◌, con
 use Rattle.std.specs.Prelude.{count_by}
 use Rattle.std.specs.List.{slice_get}
 use Rattle.std.proofs.lemmas.List.Sums.{sum_by-cons}
-use Rattle.nit_journal.specs.Whole.{done, next_phase}
+use Rattle.nit_journal.specs.WholeJournals.{done, next_phase}
 use Rattle.nit_clip.specs.declared.call.ClipCall.{ClipCall}
 use Rattle.nit_clip.specs.declared.line.ClipLine.{ClipLine}
 use Rattle.nit_clip.specs.declared.line.ClipLine.TheVariants as line

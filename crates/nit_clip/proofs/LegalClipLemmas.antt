@@ -5,7 +5,7 @@ use Rattle.std.proofs.lemmas.List.{take-append-le, take_all}
 use Rattle.nit_events.specs.declared.entry.Entry.{Entry}
 use Rattle.nit_events.specs.declared.entry.Entry.TheVariants as entry
 use Rattle.nit_journal.specs.Configuration.{Configuration}
-use Rattle.nit_journal.specs.Journals.{replay, IsOpen}
+use Rattle.nit_journal.specs.Replay.{replay, IsOpen}
 use Rattle.nit_clip.specs.declared.call.ClipEntry.{ClipEntry}
 use Rattle.nit_clip.specs.declared.call.ClipReply.TheVariants as reply
 use Rattle.nit_clip.specs.Clipboard.{clip_answer, clipboard_of, clipboard_after_entry, last_at, AreAnsweredFrom}

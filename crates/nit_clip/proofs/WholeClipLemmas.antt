@@ -6,7 +6,7 @@ use Rattle.std.proofs.lemmas.List.{take-append-le, get_or_past}
 use Rattle.nit_events.specs.declared.call.Call.{Call}
 use Rattle.nit_events.specs.declared.entry.Entry.{Entry}
 use Rattle.nit_events.specs.declared.entry.Entry.TheVariants as entry
-use Rattle.nit_journal.specs.Whole.{Deed, calls_of, to_do, next_phase, left, phases_along}
+use Rattle.nit_journal.specs.WholeJournals.{UserAction, calls_of, to_do, next_phase, left, phases_along}
 use Rattle.nit_journal.proofs.ForCallers.{drop_left}
 use Rattle.nit_clip.specs.declared.call.ClipCall.{ClipCall}
 use Rattle.nit_clip.specs.declared.call.ClipEntry.{ClipEntry}
@@ -19,7 +19,7 @@ take_none zero xs ys none = refl
 take_none (suc n) xs ys none = absurd (omega arith)
 
 -- the phases of the first entries are those of the longer journal
-phases_stay : (clients : List (List (ℕ × Call))) (user : List (ℕ × Deed)) (journal : List Entry) (e : Entry) (n : ℕ) → n ≤ before_final journal
+phases_stay : (clients : List (List (ℕ × Call))) (user : List (ℕ × UserAction)) (journal : List Entry) (e : Entry) (n : ℕ) → n ≤ before_final journal
     → take n (phases_along clients user (journal ++ e ∷ [])) ≡ take n (phases_along clients user journal)
 phases_stay clients user [] e n few = take_none n _ _ few
 phases_stay clients user (entry.Final ∷ rest) e n few = take_none n _ _ few
@@ -30,19 +30,19 @@ phases_stay clients user (entry.Input dev routed ∷ rest) e (suc n) few = ap (�
 phases_stay clients user (entry.Shot number ∷ rest) e zero few = refl
 phases_stay clients user (entry.Shot number ∷ rest) e (suc n) few = ap (λ (ps : List ℕ). next_phase user ∷ ps) (phases_stay clients (left user) rest e n (omega (arith, few)))
 
-placed_stays : (clients : List (List (ℕ × Call))) (user : List (ℕ × Deed)) (journal : List Entry) (e : Entry) (phase : ℕ) (c : ClipEntry) → c.at ≤ before_final journal → IsInPhase clients user journal phase c → IsInPhase clients user (journal ++ e ∷ []) phase c
+placed_stays : (clients : List (List (ℕ × Call))) (user : List (ℕ × UserAction)) (journal : List Entry) (e : Entry) (phase : ℕ) (c : ClipEntry) → c.at ≤ before_final journal → IsInPhase clients user journal phase c → IsInPhase clients user (journal ++ e ∷ []) phase c
 placed_stays clients user journal e phase c within placed = record {
   behind = subst (λ (es : List Entry). length (calls_up_to phase (to_do clients c.sid)) ≤ length (calls_of c.sid es)) (sym (take-append-le c.at journal (e ∷ []) (omega (arith, within, before_all journal)))) placed.behind;
   before = subst (λ (ps : List ℕ). AllByRecursion (λ p. p ≤ phase) ps) (sym (phases_stay clients user journal e c.at within)) placed.before;
 }
 
-pub all_placed_stay : (clients : List (List (ℕ × Call))) (user : List (ℕ × Deed)) (journal : List Entry) (e : Entry) (scripts : List (List (ℕ × ClipCall))) (clips : List ClipEntry)
+pub all_placed_stay : (clients : List (List (ℕ × Call))) (user : List (ℕ × UserAction)) (journal : List Entry) (e : Entry) (scripts : List (List (ℕ × ClipCall))) (clips : List ClipEntry)
     → AllByRecursion (λ c. c.at ≤ before_final journal) clips → AreInPhases clients user journal scripts clips → AreInPhases clients user (journal ++ e ∷ []) scripts clips
 all_placed_stay clients user journal e scripts [] within placed = tt
 all_placed_stay clients user journal e scripts (c ∷ clips) within placed =
     (placed_stays clients user journal e (next_phase (clips_to_do scripts c.sid)) c within.0 placed.0, all_placed_stay clients user journal e _ clips within.1 placed.1)
 
-pub placed_more : (clients : List (List (ℕ × Call))) (user : List (ℕ × Deed)) (journal : List Entry) (scripts : List (List (ℕ × ClipCall))) (clips : List ClipEntry) (c : ClipEntry)
+pub placed_more : (clients : List (List (ℕ × Call))) (user : List (ℕ × UserAction)) (journal : List Entry) (scripts : List (List (ℕ × ClipCall))) (clips : List ClipEntry) (c : ClipEntry)
     → AreInPhases clients user journal scripts clips → IsInPhase clients user journal (next_phase (clips_to_do (left_after scripts clips) c.sid)) c → AreInPhases clients user journal scripts (clips ++ c ∷ [])
 placed_more clients user journal scripts [] c placed here = (here, tt)
 placed_more clients user journal scripts (e ∷ clips) c placed here = (placed.0, placed_more clients user journal _ clips c placed.1 here)

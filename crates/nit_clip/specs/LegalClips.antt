@@ -4,7 +4,7 @@ use Rattle.std.specs.List.{AllByRecursion}
 use Rattle.nit_events.specs.declared.entry.Entry.{Entry}
 use Rattle.nit_events.specs.declared.entry.Entry.TheVariants as entry
 use Rattle.nit_journal.specs.Configuration.{Configuration}
-use Rattle.nit_journal.specs.Journals.{replay}
+use Rattle.nit_journal.specs.Replay.{replay}
 use Rattle.nit_clip.specs.declared.call.ClipEntry.{ClipEntry}
 use Rattle.nit_clip.specs.Clipboard.{AreAnswered, NeverFall}
 

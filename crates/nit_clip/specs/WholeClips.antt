@@ -5,7 +5,7 @@ use Rattle.std.specs.Prelude.{◌≡◌, ◌≤◌, ℕ, suc, ◌<◌, ◌==◌,
 use Rattle.std.specs.List.{AllByRecursion}
 use Rattle.nit_events.specs.declared.call.Call.{Call}
 use Rattle.nit_events.specs.declared.entry.Entry.{Entry}
-use Rattle.nit_journal.specs.Whole.{Deed, calls_of, done, to_do, next_phase, left, phases_along}
+use Rattle.nit_journal.specs.WholeJournals.{UserAction, calls_of, done, to_do, next_phase, left, phases_along}
 use Rattle.nit_clip.specs.declared.call.ClipCall.{ClipCall}
 use Rattle.nit_clip.specs.declared.call.ClipEntry.{ClipEntry}
 use Rattle.nit_clip.specs.declared.line.ClipLine.{ClipLine}
@@ -43,7 +43,7 @@ calls_up_to phase calls = filter (λ t. nat_le t.0 phase) calls
 
 -- A clip call of this phase stands behind all calls that its client makes in the phases up to this
 -- one, and before every entry of a later phase.
-pub record IsInPhase (clients : List (List (ℕ × Call))) (user : List (ℕ × Deed))
+pub record IsInPhase (clients : List (List (ℕ × Call))) (user : List (ℕ × UserAction))
     (journal : List Entry) (phase : ℕ) (e : ClipEntry) : Type 0 where
   pub behind :
       length (calls_up_to phase (to_do clients e.sid)) ≤ length (calls_of e.sid (take e.at journal))
@@ -54,7 +54,7 @@ abbrev pub one_clip_done : List (List (ℕ × ClipCall)) → ℕ → List (List 
 one_clip_done scripts sid = slice_set scripts sid (left (clips_to_do scripts sid))
 
 -- each entry is what its client does next with the clipboard, in the phase of that
-abbrev pub AreInPhases : List (List (ℕ × Call)) → List (ℕ × Deed) → List Entry
+abbrev pub AreInPhases : List (List (ℕ × Call)) → List (ℕ × UserAction) → List Entry
     → List (List (ℕ × ClipCall)) → List ClipEntry → Type 0
 AreInPhases clients user journal scripts [] = Unit {0}
 AreInPhases clients user journal scripts (e ∷ rest) =
@@ -69,7 +69,7 @@ left_after scripts (e ∷ rest) = left_after (one_clip_done scripts e.sid) rest
 
 -- The clip calls of each client are those that it is to make, in order, each once, and each stands
 -- in its phase.
-pub record IsWholeClips (clients : List (List (ℕ × Call))) (user : List (ℕ × Deed))
+pub record IsWholeClips (clients : List (List (ℕ × Call))) (user : List (ℕ × UserAction))
     (journal : List Entry) (scripts : List (List (ℕ × ClipCall))) (clips : List ClipEntry)
     : Type 0 where
   pub calls : (sid : ℕ) → sid < length scripts

@@ -6,8 +6,8 @@ ghost use Rattle.std.specs.List.{AllByRecursion, slice_get};
 ghost use Rattle.nit_events.specs.declared.call.Call.{Call};
 ghost use Rattle.nit_events.specs.declared.entry.Entry.{Entry};
 ghost use Rattle.nit_journal.specs.Configuration.{Configuration};
-ghost use Rattle.nit_journal.specs.Journals.{replay, IsOpen};
-ghost use Rattle.nit_journal.specs.Whole.{Deed, done, next_phase};
+ghost use Rattle.nit_journal.specs.Replay.{replay, IsOpen};
+ghost use Rattle.nit_journal.specs.WholeJournals.{UserAction, done, next_phase};
 ghost use Rattle.nit_clip.specs.declared.call.ClipCall.{ClipCall};
 ghost use Rattle.nit_clip.specs.declared.call.ClipCall.TheVariants as call;
 ghost use Rattle.nit_clip.specs.declared.call.ClipReply.{ClipReply};
@@ -107,7 +107,7 @@ pub fn sessions_without_focus()
 
 /// Clip calls that stand in their phases stand there when the journal has one more entry.
 pub fn placed_clips_stay()
-    ensures { (clients : List (List (ℕ × Call))) (user : List (ℕ × Deed))
+    ensures { (clients : List (List (ℕ × Call))) (user : List (ℕ × UserAction))
         → (journal : List Entry) (e : Entry)
         → (scripts : List (List (ℕ × ClipCall))) (clips : List ClipEntry)
         → AllByRecursion (λ c. c.at ≤ before_final journal) clips
@@ -118,7 +118,8 @@ pub fn placed_clips_stay()
 /// So does one more clip call, where it stands in the phase of what its client does next with the
 /// clipboard.
 pub fn one_more_placed()
-    ensures { (clients : List (List (ℕ × Call))) (user : List (ℕ × Deed)) (journal : List Entry)
+    ensures { (clients : List (List (ℕ × Call))) (user : List (ℕ × UserAction))
+        (journal : List Entry)
         → (scripts : List (List (ℕ × ClipCall))) (clips : List ClipEntry) (c : ClipEntry)
         → AreInPhases clients user journal scripts clips
         → let next = clips_to_do (left_after scripts clips) c.sid in

@@ -6,9 +6,9 @@ use Rattle.toml.specs.Data.{Data, Members}
 use Rattle.toml.specs.View.{view}
 use Rattle.toml.specs.declared.value.Value.{Value}
 use Rattle.nit_config.specs.Tree.{members_of}
-use Rattle.nit_config.specs.Ranges.{label_of}
+use Rattle.nit_config.specs.Ranges.{label_of_table}
 use Rattle.nit_config.specs.Refusals.{stands_twice}
-use Rattle.nit_config.proofs.Tests.{list_any-map}
+use Rattle.nit_config.proofs.BoolLemmas.{list_any-map}
 
 pub members_of_values : (vs : List Value) (ds : List Data) → map view vs ≡ ds → map (λ v. members_of (view v)) vs ≡ map members_of ds
 members_of_values vs ds same = each vs ∙ ap (map members_of) same
@@ -22,12 +22,12 @@ pub on_clients : (p : Members → Bool) (vs : List Value) (ds : List Data) → m
 on_clients p vs ds same = list_any-map p (λ v. members_of (view v)) vs ∙ ap (list_any p) (members_of_values vs ds same)
 
 -- the labels of the values
-pub labels_of : (vs : List Value) (ds : List Data) → map view vs ≡ ds → map (λ v. label_of (members_of (view v))) vs ≡ map label_of (map members_of ds)
-labels_of vs ds same = each vs ∙ ap (map label_of) (members_of_values vs ds same)
+pub labels_of : (vs : List Value) (ds : List Data) → map view vs ≡ ds → map (λ v. label_of_table (members_of (view v))) vs ≡ map label_of_table (map members_of ds)
+labels_of vs ds same = each vs ∙ ap (map label_of_table) (members_of_values vs ds same)
   where
-    each : (ws : List Value) → map (λ v. label_of (members_of (view v))) ws ≡ map label_of (map (λ v. members_of (view v)) ws)
+    each : (ws : List Value) → map (λ v. label_of_table (members_of (view v))) ws ≡ map label_of_table (map (λ v. members_of (view v)) ws)
     each [] = refl
-    each (w ∷ ws) = ap (λ ts. label_of (members_of (view w)) ∷ ts) (each ws)
+    each (w ∷ ws) = ap (λ ts. label_of_table (members_of (view w)) ∷ ts) (each ws)
 
 -- one more text is compared with those behind it
 twice_next : {A : Type 0} (f : A → List ℕ) (xs : List A) (i : ℕ) (d : A) → i < length xs

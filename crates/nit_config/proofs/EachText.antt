@@ -10,10 +10,10 @@ use Rattle.nit_config.specs.declared.config.Member.{Member}
 use Rattle.nit_config.specs.declared.error.ConfigError.{ConfigError}
 use Rattle.nit_config.specs.declared.error.ConfigError.TheVariants.{Syntax}
 use Rattle.nit_config.specs.Configuration.{Configuration}
-use Rattle.nit_config.specs.Tree.{ReadsTable, integer_at, string_at, boolean_at, screen_of, input_of, clients_of}
-use Rattle.nit_config.specs.Ranges.{is_outside, has_bad_script, has_bad_focus, has_bad_value, label_of, has_bad_label}
-use Rattle.nit_config.specs.Refusals.{refusal}
-use Rattle.nit_config.specs.Reading.{HoldsClient, HoldsTable, Conf, IsRefused}
+use Rattle.nit_config.specs.Tree.{ReadsTable, integer_at, string_at, boolean_at, screen_table, input_table, client_tables}
+use Rattle.nit_config.specs.Ranges.{is_outside, has_bad_script, has_bad_focus, has_bad_value, label_of_table, has_bad_label}
+use Rattle.nit_config.specs.Refusals.{first_refusal}
+use Rattle.nit_config.specs.ConfigurationText.{HoldsClient, HoldsTable, IsConfigurationOf, MeetsRefusal}
 use Rattle.nit_config.proofs.RefusalTests.{IsAccepted, accepted, refused_by}
 use Rattle.nit_config.proofs.HeldValues.{inside, integer_there, string_there, script_is_name, label_is_label, file_name_length, label_length}
 
@@ -43,7 +43,7 @@ client_holds t value label =
     let parts = or_parts _ (has_bad_script t) all.0 in
     let numbers = or_parts _ _ parts.0 in (
       record {
-        label = label_of t;
+        label = label_of_table t;
         donation = nat_of (integer_at (codes "donation") (pos 0) t);
         script = string_at (codes "script") [] t;
         layer = nat_of (integer_at (codes "layer") (pos 0) t);
@@ -69,27 +69,27 @@ clients_hold (t ∷ ts) values labels =
 
 table_holds : (top : Members) → IsAccepted top → (c : Configuration) × HoldsTable top c
 table_holds top a =
-    let clients = clients_hold (clients_of top) a.values a.labels in (
+    let clients = clients_hold (client_tables top) a.values a.labels in (
       record {
-        width = nat_of (integer_at (codes "width") (pos 0) (screen_of top));
-        height = nat_of (integer_at (codes "height") (pos 0) (screen_of top));
-        bar = boolean_at (codes "bar") false (screen_of top);
-        input = string_at (codes "script") [] (input_of top);
+        width = nat_of (integer_at (codes "width") (pos 0) (screen_table top));
+        height = nat_of (integer_at (codes "height") (pos 0) (screen_table top));
+        bar = boolean_at (codes "bar") false (screen_table top);
+        input = string_at (codes "script") [] (input_table top);
         clients = clients.0;
       },
       record {
         width = number_there _ 1 1024 (omega arith) a.width;
         height = number_there _ 1 768 (omega arith) a.height;
         bar = refl;
-        input = string_there _ _ refl (file_name_length _ (script_is_name (input_of top) a.script));
+        input = string_there _ _ refl (file_name_length _ (script_is_name (input_table top) a.script));
         clients = clients.1;
       },
     )
 
 abbrev IsJudged : List ℕ → Type 0
-IsJudged bytes = ((c : Configuration) × Conf bytes c) ⊎ ((e : ConfigError) × IsRefused bytes e)
+IsJudged bytes = ((c : Configuration) × IsConfigurationOf bytes c) ⊎ ((e : ConfigError) × MeetsRefusal bytes e)
 
-by_table : (bytes : List ℕ) (top : Members) → ReadsTable bytes top → (r : Option ConfigError) → refusal top ≡ r → IsJudged bytes
+by_table : (bytes : List ℕ) (top : Members) → ReadsTable bytes top → (r : Option ConfigError) → first_refusal top ≡ r → IsJudged bytes
 by_table bytes top read None h =
     let held = table_holds top (accepted top h) in
     inl (held.0, record { top = top; read = read; accepted = h; holds = held.1 })
@@ -100,7 +100,7 @@ none_some a q = cc
 
 by_document : (bytes : List ℕ) → IsUtf8 bytes → (o : Option Members) → parse_document bytes ≡ o → IsJudged bytes
 by_document bytes utf8 None h = inr (Syntax, λ top read. none_some top (sym h ∙ read.table))
-by_document bytes utf8 (Some top) h = by_table bytes top (record { utf8 = utf8; table = h }) (refusal top) refl
+by_document bytes utf8 (Some top) h = by_table bytes top (record { utf8 = utf8; table = h }) (first_refusal top) refl
 
 by_bytes : (bytes : List ℕ) (b : Bool) → is_utf8 bytes ≡ b → IsJudged bytes
 by_bytes bytes true h = by_document bytes (IsUtf8-from_is_utf8 bytes h) (parse_document bytes) refl

@@ -6,8 +6,8 @@ use Rattle.toml.specs.Data.{Data, Members, string, integer, float, boolean, date
 use Rattle.nit_glyph.specs.Texts.{is_label}
 use Rattle.nit_config.specs.Configuration.{is_file_name}
 use Rattle.nit_config.specs.Tree.{string_at}
-use Rattle.nit_config.specs.Ranges.{is_outside, has_bad_script, label_of, has_bad_label}
-use Rattle.nit_config.proofs.Tests.{truth}
+use Rattle.nit_config.specs.Ranges.{is_outside, has_bad_script, label_of_table, has_bad_label}
+use Rattle.nit_config.proofs.BoolLemmas.{truth}
 
 pos_zero : (n : ℕ) → pos n ≡ pos 0 → 1 ≤ n → ⊥
 pos_zero zero e h = absurd (omega arith)
@@ -78,7 +78,7 @@ pub script_is_name : (ms : Members) → has_bad_script ms ≡ false → is_file_
 unfolding has_bad_script
 script_is_name ms h = truth _ h
 
-pub label_is_label : (ms : Members) → has_bad_label ms ≡ false → is_label (label_of ms) ≡ true
+pub label_is_label : (ms : Members) → has_bad_label ms ≡ false → is_label (label_of_table ms) ≡ true
 unfolding has_bad_label
 label_is_label ms h = truth _ h
 

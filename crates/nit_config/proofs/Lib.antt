@@ -3,10 +3,10 @@ pub mod Ascii
 pub mod MemberLists
 pub mod Clients
 pub mod Elements
-pub mod Exactly
+pub mod OneAnswer
 pub mod HeldValues
 pub mod EachText
-pub mod Rows
-pub mod Tests
-pub mod Within
+pub mod KeyRows
+pub mod BoolLemmas
+pub mod RangeLemmas
 pub mod ForCallers

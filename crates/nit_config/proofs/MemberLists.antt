@@ -3,7 +3,7 @@ use Rattle.std.proofs.Common.{◌≡◌, ◌∙◌, ℕ, zero, suc, ◌+◌, ◌
 use Rattle.std.specs.List.{AllZip}
 use Rattle.toml.specs.Data.{Members}
 use Rattle.nit_config.specs.declared.config.Member.{Member}
-use Rattle.nit_config.specs.Reading.{HoldsClient}
+use Rattle.nit_config.specs.ConfigurationText.{HoldsClient}
 
 built_next : {A : Type 0} (f : A → Members) (xs : List A) (i : ℕ) (ms : List Member) (d : A) (m : Member) → i < length xs
     → AllZip HoldsClient (map f (take i xs)) ms → HoldsClient (f (get_or xs i d)) m → AllZip HoldsClient (map f (take (suc i) xs)) (ms ++ m ∷ [])

@@ -4,7 +4,8 @@ use Rattle.std.specs.List.{list_all}
 use Rattle.nit_config.specs.declared.config.Member.{Member}
 use Rattle.nit_rect.specs.Limits.{most_units}
 
--- the screen's size, whether it has a status bar, the name of the input script, and the clients in order
+-- the screen's size, whether it has a status bar, the name of the input script, and the clients in
+-- order
 pub record Configuration : Type 0 where
   pub width : ℕ
   pub height : ℕ

@@ -11,53 +11,53 @@ use Rattle.nit_config.specs.declared.keys.Place.TheVariants.{Top, Screen, Input,
 use Rattle.nit_config.specs.Tree.{list_of}
 
 -- a key, the kind of its value, and whether it has to be there
-pub record Row : Type 0 where
+pub record KeyRow : Type 0 where
   pub name : List ℕ
   pub kind : Kind
   pub is_required : Bool
 
 -- a key that has to be there, and one that may be
-abbrev pub required : List ℕ → Kind → Row
+abbrev pub required : List ℕ → Kind → KeyRow
 required n k = record { name = n; kind = k; is_required = true }
 
-abbrev pub optional : List ℕ → Kind → Row
+abbrev pub optional : List ℕ → Kind → KeyRow
 optional n k = record { name = n; kind = k; is_required = false }
 
 -- the keys of the top
-abbrev pub top_rows : List Row
+abbrev pub top_rows : List KeyRow
 top_rows =
     required (codes "screen") Table ∷ required (codes "input") Table
     ∷ required (codes "client") Tables ∷ []
 
 -- the keys of `screen`
-abbrev pub screen_rows : List Row
+abbrev pub screen_rows : List KeyRow
 screen_rows =
     required (codes "width") Integer ∷ required (codes "height") Integer
     ∷ optional (codes "bar") Boolean ∷ []
 
 -- the keys of `input`
-abbrev pub input_rows : List Row
+abbrev pub input_rows : List KeyRow
 input_rows = required (codes "script") Text ∷ []
 
 -- the keys of a client
-abbrev pub client_rows : List Row
+abbrev pub client_rows : List KeyRow
 client_rows =
     required (codes "label") Text ∷ required (codes "donation") Integer
     ∷ required (codes "script") Text
     ∷ optional (codes "layer") Integer ∷ optional (codes "focus") Text ∷ []
 
 -- the keys of a place
-abbrev pub place_rows : Place → List Row
+abbrev pub place_rows : Place → List KeyRow
 place_rows Top = top_rows
 place_rows Screen = screen_rows
 place_rows Input = input_rows
 place_rows Client = client_rows
 
 -- a key of the code as a row, and some of them
-abbrev pub row_of : Key → Row
+abbrev pub row_of : Key → KeyRow
 row_of k = record { name = k.name.now; kind = k.kind; is_required = k.is_required }
 
-abbrev pub rows_of : List Key → List Row
+abbrev pub rows_of : List Key → List KeyRow
 rows_of keys = map row_of keys
 
 -- the value is of the kind
@@ -70,26 +70,26 @@ is_of_kind Tables d =
     option_map_or (λ ds. list_all (λ e. is_some (as_table e)) (list_of ds)) (as_array d) false
 
 -- the key is there and its value is of another kind
-abbrev pub is_of_other_kind : Row → Members → Bool
+abbrev pub is_of_other_kind : KeyRow → Members → Bool
 is_of_other_kind r ms = option_map_or (λ d. not (is_of_kind r.kind d)) (get_member r.name ms) false
 
 -- such a key is among the rows
-unfoldable pub has_other_kind : List Row → Members → Bool
+unfoldable pub has_other_kind : List KeyRow → Members → Bool
 has_other_kind rows ms = list_any (λ r. is_of_other_kind r ms) rows
 
 -- the key is required and not there
-abbrev pub is_lacking : Row → Members → Bool
+abbrev pub is_lacking : KeyRow → Members → Bool
 is_lacking r ms = r.is_required && is_none (get_member r.name ms)
 
 -- such a key is among the rows
-unfoldable pub lacks_key : List Row → Members → Bool
+unfoldable pub lacks_key : List KeyRow → Members → Bool
 lacks_key rows ms = list_any (λ r. is_lacking r ms) rows
 
 -- the key is one of the rows
-unfoldable pub is_named : List Row → List ℕ → Bool
-is_named rows key = list_any (λ r. bytes_eq r.name key) rows
+unfoldable pub is_known_key : List KeyRow → List ℕ → Bool
+is_known_key rows key = list_any (λ r. bytes_eq r.name key) rows
 
 -- a key is there that no row names
-unfoldable pub has_unknown_key : List Row → Members → Bool
+unfoldable pub has_unknown_key : List KeyRow → Members → Bool
 has_unknown_key rows no_members = false
-has_unknown_key rows (member key d ms) = not (is_named rows key) || has_unknown_key rows ms
+has_unknown_key rows (member key d ms) = not (is_known_key rows key) || has_unknown_key rows ms

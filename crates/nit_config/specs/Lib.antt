@@ -2,9 +2,9 @@ pub use Rattle.nit_glyph.specs.Texts
 pub use Rattle.toml.specs.Data
 pub use Rattle.toml.specs.Parse
 pub mod Configuration
-pub mod Configured
+pub mod ConfigurationRanges
 pub mod Tree
 pub mod Keys
 pub mod Ranges
 pub mod Refusals
-pub mod Reading
+pub mod ConfigurationText

@@ -38,9 +38,9 @@ has_bad_value client =
     || has_bad_focus client
 
 -- the text of a client's label
-abbrev pub label_of : Members → List ℕ
-label_of client = string_at (codes "label") [] client
+abbrev pub label_of_table : Members → List ℕ
+label_of_table client = string_at (codes "label") [] client
 
 -- the text of the client's label is no label
 unfoldable pub has_bad_label : Members → Bool
-has_bad_label client = not (is_label (label_of client))
+has_bad_label client = not (is_label (label_of_table client))

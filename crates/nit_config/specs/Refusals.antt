@@ -6,13 +6,13 @@ use Rattle.nit_config.specs.declared.error.ConfigError.{ConfigError}
 use Rattle.nit_config.specs.declared.error.ConfigError.TheVariants as refused
 use Rattle.nit_config.specs.declared.refusals.Fault.{Fault}
 use Rattle.nit_config.specs.declared.refusals.Fault.TheVariants.{OtherKind, Lacking, Unknown}
-use Rattle.nit_config.specs.Keys.{Row, top_rows, screen_rows, input_rows, client_rows, has_other_kind, lacks_key, has_unknown_key}
-use Rattle.nit_config.specs.Ranges.{has_bad_size, has_bad_script, has_bad_value, label_of, has_bad_label}
-use Rattle.nit_config.specs.Tree.{elements_of, screen_of, input_of, clients_of}
+use Rattle.nit_config.specs.Keys.{KeyRow, top_rows, screen_rows, input_rows, client_rows, has_other_kind, lacks_key, has_unknown_key}
+use Rattle.nit_config.specs.Ranges.{has_bad_size, has_bad_script, has_bad_value, label_of_table, has_bad_label}
+use Rattle.nit_config.specs.Tree.{elements_of, screen_table, input_table, client_tables}
 use Rattle.nit_rect.specs.Limits.{most_sessions}
 
 -- the table has the fault, by the rows of its place
-abbrev pub has_fault : Fault → List Row → Members → Bool
+abbrev pub has_fault : Fault → List KeyRow → Members → Bool
 has_fault OtherKind rows ms = has_other_kind rows ms
 has_fault Lacking rows ms = lacks_key rows ms
 has_fault Unknown rows ms = has_unknown_key rows ms
@@ -20,15 +20,15 @@ has_fault Unknown rows ms = has_unknown_key rows ms
 -- the top, `screen`, `input` or a client has the fault
 unfoldable pub is_somewhere : Fault → Members → Bool
 is_somewhere fault top =
-    ((has_fault fault top_rows top || has_fault fault screen_rows (screen_of top))
-    || has_fault fault input_rows (input_of top))
-    || list_any (has_fault fault client_rows) (clients_of top)
+    ((has_fault fault top_rows top || has_fault fault screen_rows (screen_table top))
+    || has_fault fault input_rows (input_table top))
+    || list_any (has_fault fault client_rows) (client_tables top)
 
 -- the screen's size, the input script's name, or a value of a client is outside its range
 unfoldable pub has_bad_range : Members → Bool
 has_bad_range top =
-    (has_bad_size (screen_of top) || has_bad_script (input_of top))
-    || list_any has_bad_value (clients_of top)
+    (has_bad_size (screen_table top) || has_bad_script (input_table top))
+    || list_any has_bad_value (client_tables top)
 
 -- a text stands twice in the list
 abbrev pub stands_twice : List (List ℕ) → Bool
@@ -37,14 +37,15 @@ stands_twice (x ∷ xs) = list_any (bytes_eq x) xs || stands_twice xs
 
 -- two clients have the same label
 unfoldable pub has_label_twice : Members → Bool
-has_label_twice top = stands_twice (map label_of (clients_of top))
+has_label_twice top = stands_twice (map label_of_table (client_tables top))
 
 -- the first of the refusals whose test holds
-abbrev pub first_of : List (Bool × ConfigError) → Option ConfigError
-first_of [] = None
-first_of (r ∷ rest) = if r.0 then Some r.1 else first_of rest
+abbrev pub first_that_holds : List (Bool × ConfigError) → Option ConfigError
+first_that_holds [] = None
+first_that_holds (r ∷ rest) = if r.0 then Some r.1 else first_that_holds rest
 
--- the refusals in their order, each over the whole file before the next; a later test may hold too, where an earlier one does
+-- the refusals in their order, each over the whole file before the next; a later test may hold too,
+-- where an earlier one does
 abbrev pub refusals : Members → List (Bool × ConfigError)
 refusals top =
     (is_somewhere OtherKind top, refused.Kind)
@@ -53,10 +54,10 @@ refusals top =
     ∷ (is_somewhere Unknown top, refused.Unknown)
     ∷ (nat_lt most_sessions (length (elements_of top)), refused.TooMany)
     ∷ (has_bad_range top, refused.Range)
-    ∷ (list_any has_bad_label (clients_of top), refused.Label)
+    ∷ (list_any has_bad_label (client_tables top), refused.Label)
     ∷ (has_label_twice top, refused.Twice)
     ∷ []
 
 -- the first refusal that applies to a table, or none
-unfoldable pub refusal : Members → Option ConfigError
-refusal top = first_of (refusals top)
+unfoldable pub first_refusal : Members → Option ConfigError
+first_refusal top = first_that_holds (refusals top)

@@ -1,4 +1,5 @@
--- What stands at a key of a table that `toml` gave, with a value for where nothing of the kind stands there.
+-- What stands at a key of a table that `toml` gave, with a value for where nothing of the kind
+-- stands there.
 use Rattle.std.specs.Prelude.{◌≡◌, ℕ, ℤ, Bool, List, [], ◌∷◌, Some, map, codes, unwrap_or, option_and_then, IsUtf8}
 use Rattle.toml.specs.Data.{Data, Items, no_items, item, Members, no_members, get_member, as_table, as_array, as_integer, as_str, as_bool}
 use Rattle.toml.specs.Parse.{parse_document}
@@ -42,11 +43,11 @@ abbrev pub elements_of : Members → List Data
 elements_of top = elements_at (codes "client") top
 
 -- the members of `screen`, of `input`, and of each element of `client`
-abbrev pub screen_of : Members → Members
-screen_of top = members_at (codes "screen") top
+abbrev pub screen_table : Members → Members
+screen_table top = members_at (codes "screen") top
 
-abbrev pub input_of : Members → Members
-input_of top = members_at (codes "input") top
+abbrev pub input_table : Members → Members
+input_table top = members_at (codes "input") top
 
-abbrev pub clients_of : Members → List Members
-clients_of top = map members_of (elements_of top)
+abbrev pub client_tables : Members → List Members
+client_tables top = map members_of (elements_of top)

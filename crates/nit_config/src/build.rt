@@ -6,8 +6,8 @@ ghost use Rattle.toml.specs.Data.{no_members, get_member, integer, string};
 ghost use Rattle.toml.specs.View.{view, table_view};
 ghost use Rattle.nit_config.specs.Tree.{integer_at, string_at, members_of};
 ghost use Rattle.nit_config.specs.Ranges.{is_outside, has_bad_script, has_bad_value, has_bad_label};
-ghost use Rattle.nit_config.specs.Refusals.{refusal};
-ghost use Rattle.nit_config.specs.Reading.{HoldsClient, HoldsTable};
+ghost use Rattle.nit_config.specs.Refusals.{first_refusal};
+ghost use Rattle.nit_config.specs.ConfigurationText.{HoldsClient, HoldsTable};
 ghost use Rattle.nit_rect.specs.Limits.{most_units};
 
 use crate::config::{Config, Member};
@@ -101,7 +101,7 @@ fn members(alloc: Global, clients: &[Value], empty: &Table) -> Result<Vec<Member
 /// The configuration of a table.
 pub(crate) fn configuration(alloc: Global, top: &Table, empty: &Table) -> Result<Config, NoMemory>
     requires empty { table_view empty.now ≡ no_members }
-    requires accepted { refusal (table_view top.now) ≡ None }
+    requires accepted { first_refusal (table_view top.now) ≡ None }
     ensures { IfOk result (λ config. HoldsTable (table_view top.now) config) }
 {
     let screen = table_at(top, "screen", empty);

@@ -3,7 +3,8 @@ use thiserror::Error;
 /// Why bytes are no configuration.
 ///
 /// Several may apply to one text. The answer is the first in the order of this list, over the whole
-/// file: a value of another kind in the last client comes before a key that is not there in the first.
+/// file: a value of another kind in the last client comes before a key that is not there in the
+/// first.
 #[derive(Clone, Copy, Debug, PartialEq, Eq, Error)]
 pub enum ConfigError {
     /// The bytes are no TOML.

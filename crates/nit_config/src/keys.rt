@@ -5,7 +5,7 @@ ghost use Rattle.std.specs.List.{list_all, list_any};
 ghost use Rattle.std.specs.BTreeMap.{keys};
 ghost use Rattle.toml.specs.Data.{as_table};
 ghost use Rattle.toml.specs.View.{view, table_view};
-ghost use Rattle.nit_config.specs.Keys.{is_of_kind, is_of_other_kind, has_other_kind, is_lacking, lacks_key, is_named, has_unknown_key, place_rows, row_of, rows_of};
+ghost use Rattle.nit_config.specs.Keys.{is_of_kind, is_of_other_kind, has_other_kind, is_lacking, lacks_key, is_known_key, has_unknown_key, place_rows, row_of, rows_of};
 
 use crate::tree::find;
 use toml::{Table, Value};
@@ -191,14 +191,14 @@ fn some_has_name(keys: &[Key], name: &str) -> bool
 }
 
 fn is_named(place: Place, name: &str) -> bool
-    ensures { result ≡ is_named (place_rows place) name.now }
+    ensures { result ≡ is_known_key (place_rows place) name.now }
 {
     some_has_name(place.keys(), name)
 }
 
 fn some_is_unknown(place: Place, table: &Table) -> bool
     ensures { result
-        ≡ list_any (λ k. not (is_named (place_rows place) (string_bytes k))) (keys table.now) }
+        ≡ list_any (λ k. not (is_known_key (place_rows place) (string_bytes k))) (keys table.now) }
 {
     table.keys().any(|name| !is_named(place, name.as_str()))
 }

@@ -3,30 +3,31 @@
 ghost use Rattle.std.specs.Prelude.{◌≡◌, ◌≤◌, ◌⊎◌, ℕ, List};
 ghost use Rattle.nit_config.specs.declared.error.ConfigError.{ConfigError};
 ghost use Rattle.nit_config.specs.Configuration.{Configuration, still_configuration};
-ghost use Rattle.nit_config.specs.Configured.{IsConfigured};
-ghost use Rattle.nit_config.specs.Reading.{Conf, IsRefused};
+ghost use Rattle.nit_config.specs.ConfigurationRanges.{IsConfiguration};
+ghost use Rattle.nit_config.specs.ConfigurationText.{IsConfigurationOf, MeetsRefusal};
 ghost use Rattle.nit_rect.specs.Limits.{most_width, most_height};
 
 /// A text has one configuration at most, and that is within the ranges of the format.
 pub fn configuration_is_one()
-    ensures one { (bytes : List ℕ) (a b : Configuration) → Conf bytes a → Conf bytes b → a ≡ b }
-    ensures configured { (bytes : List ℕ) (config : Configuration) → Conf bytes config
-        → IsConfigured config }
+    ensures one { (bytes : List ℕ) (a b : Configuration) → IsConfigurationOf bytes a
+        → IsConfigurationOf bytes b → a ≡ b }
+    ensures configured { (bytes : List ℕ) (config : Configuration) → IsConfigurationOf bytes config
+        → IsConfiguration config }
 {}
 
 /// A text meets one refusal at most, and none where it has a configuration.
 pub fn refusal_is_one()
-    ensures one { (bytes : List ℕ) (a b : ConfigError) → IsRefused bytes a → IsRefused bytes b
+    ensures one { (bytes : List ℕ) (a b : ConfigError) → MeetsRefusal bytes a → MeetsRefusal bytes b
         → a ≡ b }
     ensures none { (bytes : List ℕ) (config : Configuration) (error : ConfigError)
-        → Conf bytes config → IsRefused bytes error → ⊥ }
+        → IsConfigurationOf bytes config → MeetsRefusal bytes error → ⊥ }
 {}
 
 /// Each text has a configuration or meets a refusal.
 pub fn each_text_is_judged()
     ensures { (bytes : List ℕ)
-        → ((config : Configuration) × Conf bytes config)
-        ⊎ ((error : ConfigError) × IsRefused bytes error) }
+        → ((config : Configuration) × IsConfigurationOf bytes config)
+        ⊎ ((error : ConfigError) × MeetsRefusal bytes error) }
 {}
 
 /// The configuration of a picture of one client's script is within the ranges where the size of its
@@ -34,5 +35,5 @@ pub fn each_text_is_judged()
 pub fn still_is_configured()
     ensures { (width height : ℕ) → 1 ≤ width → width ≤ most_width
         → 1 ≤ height → height ≤ most_height
-        → IsConfigured (still_configuration width height) }
+        → IsConfiguration (still_configuration width height) }
 {}

@@ -1,7 +1,7 @@
 //! The configuration of a run: the screen, the input script, and the clients with their donations.
 //!
-//! A configuration is a TOML file with these keys. Any table counts as a table and any array of tables
-//! as one, however it is spelled.
+//! A configuration is a TOML file with these keys. Any table counts as a table and any array of
+//! tables as one, however it is spelled.
 //!
 //! | place | key | value |
 //! |---|---|---|
@@ -20,9 +20,10 @@
 //!
 //! The name of a file is 1 to 255 bytes of printable ASCII, 0x20..=0x7E.
 //!
-//! [`read_config`] reads such a file, or answers the first [`ConfigError`] that applies to the whole of
-//! it. Each text has one configuration or meets one refusal, and not both ([`configuration_is_one`],
-//! [`refusal_is_one`], [`each_text_is_judged`]). What is read is within the ranges above, which
+//! [`read_config`] reads such a file, or answers the first [`ConfigError`] that applies to the
+//! whole of it. Each text has one configuration or meets one refusal, and not both
+//! ([`configuration_is_one`], [`refusal_is_one`], [`each_text_is_judged`]). What is read is within
+//! the ranges above, which
 //! `IsConfigured` says in the contracts.
 #![tactic(auto)]
 

@@ -4,7 +4,7 @@ ghost use Rattle.std.specs.Prelude.{◌≡◌, ◌&&◌, nat_le};
 ghost use Rattle.std.specs.List.{list_all};
 ghost use Rattle.toml.specs.View.{table_view};
 ghost use Rattle.nit_config.specs.Configuration.{is_file_name};
-ghost use Rattle.nit_config.specs.Ranges.{is_outside, has_bad_size, has_bad_script, has_bad_focus, has_bad_value, label_of, has_bad_label};
+ghost use Rattle.nit_config.specs.Ranges.{is_outside, has_bad_size, has_bad_script, has_bad_focus, has_bad_value, label_of_table, has_bad_label};
 
 use crate::tree::{boolean_at, integer_at, string_at};
 use nit_rect::{LEAST_UNITS, MOST_HEIGHT, MOST_UNITS, MOST_WIDTH};
@@ -73,7 +73,7 @@ pub(crate) fn has_bad_value(client: &Table) -> bool
 
 /// The text of a client's label.
 pub(crate) fn label_of(client: &Table) -> &str
-    ensures { result.now ≡ label_of (table_view client.now) }
+    ensures { result.now ≡ label_of_table (table_view client.now) }
 {
     string_at(client, "label", "")
 }

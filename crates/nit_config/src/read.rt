@@ -3,8 +3,8 @@
 ghost use Rattle.std.specs.Prelude.{◌≡◌, Ok, Err, IfOk};
 ghost use Rattle.nit_config.specs.declared.error.ConfigError.{ConfigError};
 ghost use Rattle.nit_config.specs.Configuration.{Configuration};
-ghost use Rattle.nit_config.specs.Configured.{IsConfigured};
-ghost use Rattle.nit_config.specs.Reading.{Conf, IsRefused, UnlessMemory, IsAnswer};
+ghost use Rattle.nit_config.specs.ConfigurationRanges.{IsConfiguration};
+ghost use Rattle.nit_config.specs.ConfigurationText.{IsConfigurationOf, MeetsRefusal, UnlessMemory, IsConfigAnswer};
 
 use crate::build::configuration;
 use crate::config::Config;
@@ -16,25 +16,26 @@ use toml::Table;
 
 /// The configuration that the bytes are.
 ///
-/// Each refusal but `NoMemory` comes exactly where it is the first that applies to the whole text, in
-/// the order of [`ConfigError`]. A text that no refusal applies to is read, unless memory runs out. The
-/// bytes may be of any length: a limit on files is the caller's.
+/// Each refusal but `NoMemory` comes exactly where it is the first that applies to the whole text,
+/// in the order of [`ConfigError`]. A text that no refusal applies to is read, unless memory runs
+/// out. The bytes may be of any length: a limit on files is the caller's.
 pub fn read_config(alloc: Global, bytes: &[u8]) -> Result<Config, ConfigError>
     // What is read is the bytes' configuration, and a refusal is the one that they meet.
-    ensures answer { IsAnswer bytes.now result }
-    ensures configured { IfOk result (λ config. IsConfigured config) }
+    ensures answer { IsConfigAnswer bytes.now result }
+    ensures configured { IfOk result (λ config. IsConfiguration config) }
 
-    // And where the bytes are a configuration or meet a refusal, that is the answer, unless memory runs out.
-    ensures read { (config : Configuration) → Conf bytes.now config
+    // And where the bytes are a configuration or meet a refusal, that is the answer, unless memory
+    // runs out.
+    ensures read { (config : Configuration) → IsConfigurationOf bytes.now config
         → UnlessMemory result (result ≡ Ok config) }
-    ensures refused { (error : ConfigError) → IsRefused bytes.now error
+    ensures refused { (error : ConfigError) → MeetsRefusal bytes.now error
         → UnlessMemory result (result ≡ Err error) }
 {
     read_table(alloc, bytes)
 }
 
 fn read_table(alloc: Global, bytes: &[u8]) -> Result<Config, ConfigError>
-    ensures { IsAnswer bytes.now result }
+    ensures { IsConfigAnswer bytes.now result }
 {
     let top = match toml::table_from_slice(alloc, bytes) {
         Ok(top) => top,

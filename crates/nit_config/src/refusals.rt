@@ -4,10 +4,10 @@ ghost use Rattle.std.specs.Prelude.{◌≡◌, length, map, bytes_eq};
 ghost use Rattle.std.specs.List.{list_any};
 ghost use Rattle.toml.specs.Data.{no_members};
 ghost use Rattle.toml.specs.View.{view, table_view};
-ghost use Rattle.nit_config.specs.Tree.{members_of, elements_of, clients_of};
+ghost use Rattle.nit_config.specs.Tree.{members_of, elements_of, client_tables};
 ghost use Rattle.nit_config.specs.Keys.{place_rows, client_rows};
-ghost use Rattle.nit_config.specs.Ranges.{has_bad_value, label_of, has_bad_label};
-ghost use Rattle.nit_config.specs.Refusals.{has_fault, is_somewhere, has_bad_range, stands_twice, has_label_twice, refusal};
+ghost use Rattle.nit_config.specs.Ranges.{has_bad_value, label_of_table, has_bad_label};
+ghost use Rattle.nit_config.specs.Refusals.{has_fault, is_somewhere, has_bad_range, stands_twice, has_label_twice, first_refusal};
 
 use crate::error::ConfigError;
 use crate::keys::{Place, has_other_kind, has_unknown_key, lacks_key};
@@ -62,8 +62,8 @@ fn some_has_bad_label(clients: &[Value], empty: &Table) -> bool
 
 fn some_has_label_of(first: &Value, clients: &[Value], empty: &Table) -> bool
     requires { table_view empty.now ≡ no_members }
-    ensures { result ≡ list_any (λ v. bytes_eq (label_of (members_of (view first.now)))
-        (label_of (members_of (view v)))) clients.now }
+    ensures { result ≡ list_any (λ v. bytes_eq (label_of_table (members_of (view first.now)))
+        (label_of_table (members_of (view v)))) clients.now }
 {
     let label = label_of(table_of(first, empty));
     clients
@@ -73,7 +73,7 @@ fn some_has_label_of(first: &Value, clients: &[Value], empty: &Table) -> bool
 
 fn stands_twice(clients: &[Value], empty: &Table) -> bool
     requires { table_view empty.now ≡ no_members }
-    ensures { result ≡ stands_twice (map (λ v. label_of (members_of (view v))) clients.now) }
+    ensures { result ≡ stands_twice (map (λ v. label_of_table (members_of (view v))) clients.now) }
 {
     'clients: for i in 0..clients.len() {
         if some_has_label_of(&clients[i], &clients[i + 1..], empty) {
@@ -91,21 +91,21 @@ fn count(top: &Table) -> usize
 
 fn client_has_fault(fault: Fault, top: &Table, empty: &Table) -> bool
     requires { table_view empty.now ≡ no_members }
-    ensures { result ≡ list_any (has_fault fault client_rows) (clients_of (table_view top.now)) }
+    ensures { result ≡ list_any (has_fault fault client_rows) (client_tables (table_view top.now)) }
 {
     some_has_fault(fault, elements_of(top), empty)
 }
 
 fn client_has_bad_value(top: &Table, empty: &Table) -> bool
     requires { table_view empty.now ≡ no_members }
-    ensures { result ≡ list_any has_bad_value (clients_of (table_view top.now)) }
+    ensures { result ≡ list_any has_bad_value (client_tables (table_view top.now)) }
 {
     some_has_bad_value(elements_of(top), empty)
 }
 
 fn client_has_bad_label(top: &Table, empty: &Table) -> bool
     requires { table_view empty.now ≡ no_members }
-    ensures { result ≡ list_any has_bad_label (clients_of (table_view top.now)) }
+    ensures { result ≡ list_any has_bad_label (client_tables (table_view top.now)) }
 {
     some_has_bad_label(elements_of(top), empty)
 }
@@ -139,10 +139,10 @@ fn has_bad_range(top: &Table, empty: &Table) -> bool
 }
 
 /// The first refusal that applies to a table, or none.
-#[tactic(auto, unfolding(crate::specs::Refusals::refusal))]
+#[tactic(auto, unfolding(crate::specs::Refusals::first_refusal))]
 pub(crate) fn refusal(top: &Table, empty: &Table) -> Option<ConfigError>
     requires { table_view empty.now ≡ no_members }
-    ensures { result ≡ refusal (table_view top.now) }
+    ensures { result ≡ first_refusal (table_view top.now) }
 {
     if is_somewhere(Fault::OtherKind, top, empty) {
         return Some(ConfigError::Kind);

@@ -8,15 +8,15 @@ use Rattle.std.proofs.lemmas.Bool.{and_parts}
 use Rattle.std.proofs.lemmas.List.{take_all, drop_all, length-take}
 use Rattle.nit_rect.specs.declared.point.Point.{Point}
 use Rattle.nit_rect.specs.Rectangle.{Rectangle, covers}
-use Rattle.nit_rect.specs.Meeting.{HasPixels}
-use Rattle.nit_rect.specs.Dividing.{times}
+use Rattle.nit_rect.specs.Intersection.{HasPixels}
+use Rattle.nit_rect.specs.Strips.{times}
 use Rattle.nit_stack.specs.declared.view.ViewRef.{ViewRef}
 use Rattle.nit_stack.specs.Sources.{owner_in}
-use Rattle.nit_stack.specs.Standing.{IsStanding, Seat, Standing, has, view_ref}
+use Rattle.nit_stack.specs.Stack.{IsStack, SlotView, StackModel, has_slot, view_ref}
 use Rattle.nit_damage.specs.declared.cutting.Job.{Job}
-use Rattle.nit_damage.specs.Sets.{covered, once, seat_covers}
-use Rattle.nit_damage.specs.Cuts.{FitsJobs, IsJob, IsPieceOf, jobs_to_come, weight, weight_of}
-use Rattle.nit_damage.specs.Cutting.{IsStep}
+use Rattle.nit_damage.specs.Damage.{covered, once, slot_view_covers}
+use Rattle.nit_damage.specs.Cutter.{FitsJobs, IsJob, IsPieceOf, jobs_to_come, weight, weight_of}
+use Rattle.nit_damage.specs.Cut.{IsCutStep}
 use Rattle.nit_damage.proofs.RectangleCuts.{IsNextCut, cut_fewer, cut_fits, front_count, piece_count}
 use Rattle.nit_damage.proofs.Jobs.{heavy}
 use Rattle.nit_damage.proofs.Screen.{bar_fits, below_not_in_bar, below_on_screen}
@@ -26,10 +26,10 @@ lost : (views : ℕ) (jobs : List Job) (j : Job) → weight views jobs < weight 
 lost views jobs j = let h = heavy (views + 1 - j.at) in omega arith
 
 -- what a piece below the bar is
-piece_of : (s : Standing) (j : Job) (old : List Job) (r : Rectangle) (owner : Option ViewRef) → IsStanding s → IsJob s (length old) j → HasPixels r
+piece_of : (s : StackModel) (j : Job) (old : List Job) (r : Rectangle) (owner : Option ViewRef) → IsStack s → IsJob s (length old) j → HasPixels r
     → ((p : Point) → covers r p ≡ true → covers j.rect p ≡ true)
     → ((p : Point) → covers r p ≡ true → option_map view_ref (owner_in (λ x. x.view) s.bar s.views p) ≡ owner)
-    → IfSome owner (λ v. has v.0 s.views ≡ true) → IsPieceOf s record { rect = r; owner = owner }
+    → IfSome owner (λ v. has_slot v.0 s.views ≡ true) → IsPieceOf s record { rect = r; owner = owner }
 piece_of s j old r owner is job some lies owned stands = record {
   pixels = some;
   on_screen = λ p here. below_on_screen s p (bar_fits s is) (job.below_bar p (lies p here));
@@ -38,27 +38,27 @@ piece_of s j old r owner is job some lies owned stands = record {
 }
 
 -- who owns a pixel of a rectangle
-owner_below : (s : Standing) (j : Job) (old : List Job) → IsJob s (length old) j → (p : Point) → covers j.rect p ≡ true
-    → owner_in (λ x. x.view) s.bar s.views p ≡ find (seat_covers p) s.views
-owner_below s j old job p here = ap (λ (b : Bool). cond b None (find (seat_covers p) s.views)) (below_not_in_bar s p (job.below_bar p here))
+owner_below : (s : StackModel) (j : Job) (old : List Job) → IsJob s (length old) j → (p : Point) → covers j.rect p ≡ true
+    → owner_in (λ x. x.view) s.bar s.views p ≡ find (slot_view_covers p) s.views
+owner_below s j old job p here = ap (λ (b : Bool). cond b None (find (slot_view_covers p) s.views)) (below_not_in_bar s p (job.below_bar p here))
 
 -- behind the last view the whole rectangle is a piece
-pub bare : (from : ℕ) (s : Standing) (j : Job) (old : List Job) → IsStanding s → FitsJobs s old → IsJob s (length old) j → length s.views ≤ j.at
-    → IsStep from s j old old (Some record { rect = j.rect; owner = None })
+pub bare : (from : ℕ) (s : StackModel) (j : Job) (old : List Job) → IsStack s → FitsJobs s old → IsJob s (length old) j → length s.views ≤ j.at
+    → IsCutStep from s j old old (Some record { rect = j.rect; owner = None })
 bare from s j old is fits job behind = record {
   fits = fits;
   count = λ p. ap (λ (n : ℕ). jobs_to_come from s old p + n) (ap (λ (b : Bool). cond b 0 (times j.rect p)) (none p));
   piece = piece_of s j old j.rect None is job job.pixels (λ p here. here)
-      (λ p here. ap (option_map view_ref) (owner_below s j old job p here ∙ no_view p s.views (ap (λ (l : List Seat). covered l p) (sym (take_all j.at s.views behind)) ∙ job.free p here)))
+      (λ p here. ap (option_map view_ref) (owner_below s j old job p here ∙ no_view p s.views (ap (λ (l : List SlotView). covered l p) (sym (take_all j.at s.views behind)) ∙ job.free p here)))
       tt;
   fewer = lost (length s.views) old j;
 }
   where
     none : (p : Point) → covered (drop j.at (take from s.views)) p ≡ false
-    none p = ap (λ (l : List Seat). covered l p) (drop_all j.at (take from s.views) (let short = length-take from s.views in omega arith))
+    none p = ap (λ (l : List SlotView). covered l p) (drop_all j.at (take from s.views) (let short = length-take from s.views in omega arith))
 
 -- nothing of the rectangle is cut out
-pub past : (from : ℕ) (s : Standing) (j : Job) (x : Seat) (old new : List Job) → IsNextCut s j x old new None → IsStep from s j old new None
+pub past : (from : ℕ) (s : StackModel) (j : Job) (x : SlotView) (old new : List Job) → IsNextCut s j x old new None → IsCutStep from s j old new None
 past from s j x old new is = record {
   fits = cut_fits s j x old new None is;
   count = λ p. dite (dec_lt j.at from)
@@ -69,7 +69,7 @@ past from s j x old new is = record {
 }
 
 -- what is cut out has no piece
-pub hidden : (from : ℕ) (s : Standing) (j : Job) (x : Seat) (old new : List Job) (both : Option Rectangle) → IsNextCut s j x old new both → j.at < from → IsStep from s j old new None
+pub hidden : (from : ℕ) (s : StackModel) (j : Job) (x : SlotView) (old new : List Job) (both : Option Rectangle) → IsNextCut s j x old new both → j.at < from → IsCutStep from s j old new None
 hidden from s j x old new both is front = record {
   fits = cut_fits s j x old new both is;
   count = λ p. front_count from s j x old new both is front p ∙ sym (add-zero (jobs_to_come from s new p));
@@ -78,8 +78,8 @@ hidden from s j x old new both is front = record {
 }
 
 -- what is cut out is a piece
-pub given : (from : ℕ) (s : Standing) (j : Job) (x : Seat) (old new : List Job) (r : Rectangle) (v : ViewRef) → IsStanding s → IsNextCut s j x old new (Some r) → from ≤ j.at
-    → view_ref x ≡ v → has v.0 s.views ≡ true → IsStep from s j old new (Some record { rect = r; owner = Some v })
+pub given : (from : ℕ) (s : StackModel) (j : Job) (x : SlotView) (old new : List Job) (r : Rectangle) (v : ViewRef) → IsStack s → IsNextCut s j x old new (Some r) → from ≤ j.at
+    → view_ref x ≡ v → has_slot v.0 s.views ≡ true → IsCutStep from s j old new (Some record { rect = r; owner = Some v })
 given from s j x old new r v is next behind same stands = record {
   fits = cut_fits s j x old new (Some r) next;
   count = λ p. piece_count from s j x old new (Some r) next behind p ∙ ap (λ (b : Bool). jobs_to_come from s new p + once b) (sym (next.cut.part.1 p));

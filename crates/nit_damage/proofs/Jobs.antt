@@ -10,14 +10,14 @@ use Rattle.std.proofs.lemmas.List.Folds.{fold-map}
 use Rattle.std.proofs.Math.Nat.{pow-suc}
 use Rattle.nit_rect.specs.declared.point.Point.{Point}
 use Rattle.nit_rect.specs.Rectangle.{Rectangle}
-use Rattle.nit_rect.specs.Meeting.{HasPixels}
-use Rattle.nit_rect.specs.Dividing.{times}
+use Rattle.nit_rect.specs.Intersection.{HasPixels}
+use Rattle.nit_rect.specs.Strips.{times}
 use Rattle.nit_rect.proofs.ForCallers.{covers_none, no_pixels, pixels_of}
-use Rattle.nit_stack.specs.Standing.{Standing}
+use Rattle.nit_stack.specs.Stack.{StackModel}
 use Rattle.nit_damage.specs.declared.cutting.Job.{Job}
-use Rattle.nit_damage.specs.Sets.{covered, once}
-use Rattle.nit_damage.specs.Cuts.{FitsJobs, IsJob, job_at, job_to_come, jobs_to_come, weight, weight_of, with_pixels}
-use Rattle.nit_damage.specs.Cutting.{times_all}
+use Rattle.nit_damage.specs.Damage.{covered, once}
+use Rattle.nit_damage.specs.Cutter.{FitsJobs, IsJob, job_at, job_to_come, jobs_to_come, weight, weight_of, with_pixels}
+use Rattle.nit_damage.specs.Cut.{times_all}
 
 -- a rectangle, where it has pixels
 pub same_times : (r : Rectangle) (p : Point) → times_all (with_pixels r) p ≡ times r p
@@ -42,7 +42,7 @@ all_have_pixels r = go (r.w * r.h == 0) refl
     go false e = All-cons HasPixels r [] (pixels_of r (λ none. let no = sym (eq-eqb (r.w * r.h) 0 none) ∙ e in cc)) (All-nil HasPixels)
 
 -- what is left of a rectangle, at one pixel
-pub rest_to_come : (from at : ℕ) (s : Standing) (p : Point) (rest : List Rectangle)
+pub rest_to_come : (from at : ℕ) (s : StackModel) (p : Point) (rest : List Rectangle)
     → jobs_to_come from s (map (job_at at) rest) p ≡ cond (covered (drop at (take from s.views)) p) 0 (times_all rest p)
 rest_to_come from at s p rest = fold-map (λ n j. n + job_to_come from s p j) (job_at at) 0 rest ∙ go (covered (drop at (take from s.views)) p)
   where
@@ -95,7 +95,7 @@ cut_in_front now next here there rest e parts = rw e (go next here there parts)
     go false false false e = omega arith
 
 -- a list with more rectangles behind
-pub fits_append : (s : Standing) (jobs more : List Job) → FitsJobs s jobs → ((k : ℕ) (d : Job) → k < length more → IsJob s (length jobs + k) (slice_index_or more k d)) → FitsJobs s (jobs ++ more)
+pub fits_append : (s : StackModel) (jobs more : List Job) → FitsJobs s jobs → ((k : ℕ) (d : Job) → k < length more → IsJob s (length jobs + k) (slice_index_or more k d)) → FitsJobs s (jobs ++ more)
 fits_append s jobs more fits fit k d below = dite (dec_lt k (length jobs))
     (λ front. subst (IsJob s k) (sym (get_or_append_left jobs more d k front)) (fits k d front))
     (λ behind.
@@ -106,7 +106,7 @@ fits_append s jobs more fits fit k d below = dite (dec_lt k (length jobs))
     subst (λ (n : ℕ). IsJob s n (slice_index_or (jobs ++ more) n d)) e (subst (IsJob s (length jobs + (k - length jobs))) (sym at) job))
 
 -- the last rectangle of a list
-pub last_job : (s : Standing) (jobs : List Job) (j : Job) → FitsJobs s (jobs ++ j ∷ []) → IsJob s (length jobs) j
+pub last_job : (s : StackModel) (jobs : List Job) (j : Job) → FitsJobs s (jobs ++ j ∷ []) → IsJob s (length jobs) j
 last_job s jobs j fits =
     let n = length-append jobs (j ∷ []) in
     subst (IsJob s (length jobs)) (get_or_push jobs j j (length jobs) refl) (fits (length jobs) j (omega arith))

@@ -5,5 +5,5 @@ pub mod RectangleCuts
 pub mod CutterSteps
 pub mod ToCome
 pub mod NextPiece
-pub mod Rows
+pub mod Examples
 pub mod ForCallers

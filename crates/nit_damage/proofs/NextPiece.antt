@@ -4,19 +4,19 @@ use Rattle.std.specs.Option.{option_map}
 use Rattle.std.specs.Prelude.{IfSome, IsTrue, MatchOption}
 use Rattle.nit_rect.specs.declared.point.Point.{Point}
 use Rattle.nit_rect.specs.Rectangle.{covers}
-use Rattle.nit_rect.specs.Meeting.{HasPixels}
-use Rattle.nit_rect.specs.Dividing.{times}
+use Rattle.nit_rect.specs.Intersection.{HasPixels}
+use Rattle.nit_rect.specs.Strips.{times}
 use Rattle.nit_stack.specs.declared.view.Piece.{Piece}
 use Rattle.nit_stack.specs.Sources.{owner_in}
-use Rattle.nit_stack.specs.Standing.{IsOnScreen, IsScreen, Standing, has, view_ref}
+use Rattle.nit_stack.specs.Stack.{IsOnScreen, IsScreenSize, StackModel, has_slot, view_ref}
 use Rattle.nit_damage.specs.declared.cutting.Job.{Job}
-use Rattle.nit_damage.specs.Sets.{once, seat_covers}
-use Rattle.nit_damage.specs.Cuts.{Cuts, Fits, FitsJobs, IsPieceOf, bar_part, jobs_to_come, piece_times, pieces_left, to_come, weight}
+use Rattle.nit_damage.specs.Damage.{once, slot_view_covers}
+use Rattle.nit_damage.specs.Cutter.{CutterModel, FitsStack, FitsJobs, IsPieceOf, bar_part, jobs_to_come, piece_times, pieces_left, to_come, weight}
 use Rattle.nit_damage.proofs.Screen.{bar_in_bar, bar_on_screen}
 
 -- a cutter before and after a piece
-pub record IsNext (s : Standing) (old new : Cuts) (result : Option Piece) : Type 0 where
-  pub fits : Fits old s
+pub record IsNext (s : StackModel) (old new : CutterModel) (result : Option Piece) : Type 0 where
+  pub fits : FitsStack old s
   pub room : new.room ≡ old.room
   pub jobs : FitsJobs s new.jobs
   pub bar : new.bar ≡ false
@@ -24,7 +24,7 @@ pub record IsNext (s : Standing) (old new : Cuts) (result : Option Piece) : Type
   pub piece : MatchOption result ((p : Point) → to_come old s p ≡ 0) (IsPieceOf s)
   pub fewer : IfSome result (λ _. pieces_left new s < pieces_left old s)
 
-pub next_fits : (s : Standing) (old new : Cuts) (result : Option Piece) → IsNext s old new result → Fits new s
+pub next_fits : (s : StackModel) (old new : CutterModel) (result : Option Piece) → IsNext s old new result → FitsStack new s
 next_fits s old new result is = record {
   room = subst (λ (n : ℕ). length s.views ≤ n) (sym is.room) is.fits.room;
   jobs = is.jobs;
@@ -32,7 +32,7 @@ next_fits s old new result is = record {
   once = λ p. let e = is.count p in let le = is.fits.once p in omega arith;
 }
 
-pub next_came : (s : Standing) (old new : Cuts) (result : Option Piece) → IsNext s old new result
+pub next_came : (s : StackModel) (old new : CutterModel) (result : Option Piece) → IsNext s old new result
     → MatchOption result ((p : Point) → to_come old s p ≡ 0) (λ piece. (p : Point) → IsTrue (covers piece.rect p) → to_come old s p ≡ 1)
 next_came s old new None is = is.piece
 next_came s old new (Some piece) is = λ p here.
@@ -41,34 +41,34 @@ next_came s old new (Some piece) is = λ p here.
     let one : times piece.rect p ≡ 1 = ap once here in
     omega arith
 
-pub next_pixels : (s : Standing) (old new : Cuts) (result : Option Piece) → IsNext s old new result → IfSome result (λ piece. HasPixels piece.rect)
+pub next_pixels : (s : StackModel) (old new : CutterModel) (result : Option Piece) → IsNext s old new result → IfSome result (λ piece. HasPixels piece.rect)
 next_pixels s old new None is = tt
 next_pixels s old new (Some piece) is = is.piece.pixels
 
-pub next_on_screen : (s : Standing) (old new : Cuts) (result : Option Piece) → IsNext s old new result
+pub next_on_screen : (s : StackModel) (old new : CutterModel) (result : Option Piece) → IsNext s old new result
     → IfSome result (λ piece. (p : Point) → IsTrue (covers piece.rect p) → IsOnScreen s.width s.height p)
 next_on_screen s old new None is = tt
 next_on_screen s old new (Some piece) is = is.piece.on_screen
 
-pub next_owner : (s : Standing) (old new : Cuts) (result : Option Piece) → IsNext s old new result
+pub next_owner : (s : StackModel) (old new : CutterModel) (result : Option Piece) → IsNext s old new result
     → IfSome result (λ piece. (p : Point) → IsTrue (covers piece.rect p) → piece.owner ≡ option_map view_ref (owner_in (λ x. x.view) s.bar s.views p))
 next_owner s old new None is = tt
 next_owner s old new (Some piece) is = is.piece.owner
 
-pub next_stands : (s : Standing) (old new : Cuts) (result : Option Piece) → IsNext s old new result → IfSome result (λ piece. IfSome piece.owner (λ v. has v.0 s.views ≡ true))
+pub next_stands : (s : StackModel) (old new : CutterModel) (result : Option Piece) → IsNext s old new result → IfSome result (λ piece. IfSome piece.owner (λ v. has_slot v.0 s.views ≡ true))
 next_stands s old new None is = tt
 next_stands s old new (Some piece) is = is.piece.stands
 
 -- the bar is a piece
-bar_piece : (s : Standing) → 0 < s.bar → s.bar ≤ s.height → IsScreen s.width s.height → IsPieceOf s record { rect = bar_part s; owner = None }
+bar_piece : (s : StackModel) → 0 < s.bar → s.bar ≤ s.height → IsScreenSize s.width s.height → IsPieceOf s record { rect = bar_part s; owner = None }
 bar_piece s rows fits screen = record {
   pixels = (let wide = screen.0 in omega arith, rows);
   on_screen = λ p here. bar_on_screen s p fits here;
-  owner = λ p here. sym (ap (λ (b : Bool). option_map view_ref (cond b None (find (seat_covers p) s.views))) (bar_in_bar s p here));
+  owner = λ p here. sym (ap (λ (b : Bool). option_map view_ref (cond b None (find (slot_view_covers p) s.views))) (bar_in_bar s p here));
   stands = tt;
 }
 
-pub bar_next : (s : Standing) (old : Cuts) → Fits old s → old.bar ≡ true → s.bar ≤ s.height → IsScreen s.width s.height
+pub bar_next : (s : StackModel) (old : CutterModel) → FitsStack old s → old.bar ≡ true → s.bar ≤ s.height → IsScreenSize s.width s.height
     → IsNext s old (record old { bar = false }) (Some record { rect = bar_part s; owner = None })
 bar_next s old is bar fits screen = record {
   fits = is;
@@ -84,7 +84,7 @@ bar_next s old is bar fits screen = record {
     turned m n = omega arith
 
 -- below the bar
-pub below_next : (s : Standing) (old : Cuts) (jobs : List Job) (result : Option Piece) → Fits old s → old.bar ≡ false → FitsJobs s jobs
+pub below_next : (s : StackModel) (old : CutterModel) (jobs : List Job) (result : Option Piece) → FitsStack old s → old.bar ≡ false → FitsJobs s jobs
     → ((p : Point) → jobs_to_come old.from s old.jobs p ≡ jobs_to_come old.from s jobs p + piece_times result p)
     → MatchOption result (jobs ≡ []) (IsPieceOf s)
     → IfSome result (λ _. weight (length s.views) jobs < weight (length s.views) old.jobs)

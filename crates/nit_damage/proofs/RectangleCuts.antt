@@ -11,16 +11,16 @@ use Rattle.std.proofs.lemmas.Option.{slice_get_within}
 use Rattle.nit_rect.specs.declared.point.Point.{Point}
 use Rattle.nit_rect.specs.declared.strips.Strips.{Strips}
 use Rattle.nit_rect.specs.Rectangle.{Rectangle, covers}
-use Rattle.nit_rect.specs.Meeting.{CoversBoth, HasPixels, IsApart, LiesIn}
-use Rattle.nit_rect.specs.Dividing.{IsDivided, times}
+use Rattle.nit_rect.specs.Intersection.{CoversBoth, HasPixels, IsApart, LiesIn}
+use Rattle.nit_rect.specs.Strips.{IsDivided, times}
 use Rattle.nit_rect.proofs.ForCallers.{IsWithin, covers_none, no_pixels, within}
 use Rattle.nit_stack.specs.declared.view.ViewRef.{ViewRef}
-use Rattle.nit_stack.specs.Standing.{Seat, Standing, view_ref}
+use Rattle.nit_stack.specs.Stack.{SlotView, StackModel, view_ref}
 use Rattle.nit_stack.proofs.ForCallers.{slot_at}
 use Rattle.nit_damage.specs.declared.cutting.Job.{Job}
-use Rattle.nit_damage.specs.Sets.{covered, once, seat_covers}
-use Rattle.nit_damage.specs.Cuts.{FitsJobs, IsJob, job_at, job_to_come, jobs_to_come, weight, weight_of, with_pixels}
-use Rattle.nit_damage.specs.Cutting.{IsCut, times_all}
+use Rattle.nit_damage.specs.Damage.{covered, once, slot_view_covers}
+use Rattle.nit_damage.specs.Cutter.{FitsJobs, IsJob, job_at, job_to_come, jobs_to_come, weight, weight_of, with_pixels}
+use Rattle.nit_damage.specs.Cut.{IsCut, times_all}
 use Rattle.nit_damage.proofs.Jobs.{all_have_pixels, at_most_one, cut_in_front, fits_append, lighter, rest_to_come, rest_weighs, same_times}
 use Rattle.nit_damage.proofs.Views.{covered_less, covered_more, covered_none}
 
@@ -106,13 +106,13 @@ rest_lies at rect by old new both cut k d p below here =
     lies_apart (covers rect p) (covers by p) (times_all cut.rest p) (cut.pixels p) (omega (arith, le, once_here))
 
 -- the cut of a rectangle that fits the stack, by the next view
-pub record IsNextCut (s : Standing) (j : Job) (x : Seat) (old new : List Job) (both : Option Rectangle) : Type 0 where
+pub record IsNextCut (s : StackModel) (j : Job) (x : SlotView) (old new : List Job) (both : Option Rectangle) : Type 0 where
   pub fits : FitsJobs s old
   pub job : IsJob s (length old) j
   pub seat : slice_get s.views j.at ≡ Some x
   pub cut : IsCut (j.at + 1) j.rect x.view.rect old new both
 
-rest_job : (s : Standing) (j : Job) (x : Seat) (old new : List Job) (both : Option Rectangle) (is : IsNextCut s j x old new both) (k : ℕ) (r : Rectangle)
+rest_job : (s : StackModel) (j : Job) (x : SlotView) (old new : List Job) (both : Option Rectangle) (is : IsNextCut s j x old new both) (k : ℕ) (r : Rectangle)
     → k ≤ 3 → HasPixels r → ((p : Point) → covers r p ≡ true → (covers j.rect p ≡ true) × (covers x.view.rect p ≡ false)) → IsJob s (length old + k) (job_at (j.at + 1) r)
 rest_job s j x old new both is k r few some lies =
     let low = is.job.low in
@@ -124,11 +124,11 @@ rest_job s j x old new both is k r few some lies =
       below_bar = λ p here. is.job.below_bar p (lies p here).0;
       free = λ p here.
           covered_more p s.views j.at x is.seat
-          ∙ ap (λ (b : Bool). b || seat_covers p x) (is.job.free p (lies p here).0)
+          ∙ ap (λ (b : Bool). b || slot_view_covers p x) (is.job.free p (lies p here).0)
           ∙ (lies p here).1;
     }
 
-pub cut_fits : (s : Standing) (j : Job) (x : Seat) (old new : List Job) (both : Option Rectangle) → IsNextCut s j x old new both → FitsJobs s new
+pub cut_fits : (s : StackModel) (j : Job) (x : SlotView) (old new : List Job) (both : Option Rectangle) → IsNextCut s j x old new both → FitsJobs s new
 cut_fits s j x old new both is = subst (FitsJobs s) (sym is.cut.jobs) (fits_append s old (map (job_at (j.at + 1)) is.cut.rest) is.fits
     (λ k d below.
     let n = length-map is.cut.rest (job_at (j.at + 1)) in
@@ -138,7 +138,7 @@ cut_fits s j x old new both is = subst (FitsJobs s) (sym is.cut.jobs) (fits_appe
     (λ p here. rest_lies (j.at + 1) j.rect x.view.rect old new both is.cut k j.rect p within here) in
     subst (IsJob s (length old + k)) (sym (get_or-map (job_at (j.at + 1)) is.cut.rest k j.rect d within)) job))
 
-pub cut_fewer : (s : Standing) (j : Job) (x : Seat) (old new : List Job) (both : Option Rectangle) → IsNextCut s j x old new both
+pub cut_fewer : (s : StackModel) (j : Job) (x : SlotView) (old new : List Job) (both : Option Rectangle) → IsNextCut s j x old new both
     → weight (length s.views) new < weight (length s.views) old + weight_of (length s.views) j
 cut_fewer s j x old new both is =
     let n = length s.views in
@@ -147,7 +147,7 @@ cut_fewer s j x old new both is =
     let less = lighter n j.at (length is.cut.rest) (slice_get_within s.views j.at x is.seat) is.cut.few in
     omega arith
 
-cut_sum : (from : ℕ) (s : Standing) (j : Job) (x : Seat) (old new : List Job) (both : Option Rectangle) (is : IsNextCut s j x old new both) (p : Point)
+cut_sum : (from : ℕ) (s : StackModel) (j : Job) (x : SlotView) (old new : List Job) (both : Option Rectangle) (is : IsNextCut s j x old new both) (p : Point)
     → jobs_to_come from s new p ≡ jobs_to_come from s old p + cond (covered (drop (j.at + 1) (take from s.views)) p) 0 (times_all is.cut.rest p)
 cut_sum from s j x old new both is p =
     ap (λ (jobs : List Job). jobs_to_come from s jobs p) is.cut.jobs
@@ -155,7 +155,7 @@ cut_sum from s j x old new both is p =
     ∙ ap (λ (n : ℕ). jobs_to_come from s old p + n) (rest_to_come from (j.at + 1) s p is.cut.rest)
 
 -- a view in front of those that have pieces
-pub front_count : (from : ℕ) (s : Standing) (j : Job) (x : Seat) (old new : List Job) (both : Option Rectangle) → IsNextCut s j x old new both → j.at < from
+pub front_count : (from : ℕ) (s : StackModel) (j : Job) (x : SlotView) (old new : List Job) (both : Option Rectangle) → IsNextCut s j x old new both → j.at < from
     → (p : Point) → jobs_to_come from s old p + job_to_come from s p j ≡ jobs_to_come from s new p
 front_count from s j x old new both is before p =
     sym (cut_sum from s j x old new both is p
@@ -163,7 +163,7 @@ front_count from s j x old new both is before p =
     (covers j.rect p) (covers x.view.rect p) (times_all is.cut.rest p) (covered_less p s.views from j.at x is.seat before) (is.cut.pixels p))))
 
 -- a view that has pieces
-pub piece_count : (from : ℕ) (s : Standing) (j : Job) (x : Seat) (old new : List Job) (both : Option Rectangle) → IsNextCut s j x old new both → from ≤ j.at
+pub piece_count : (from : ℕ) (s : StackModel) (j : Job) (x : SlotView) (old new : List Job) (both : Option Rectangle) → IsNextCut s j x old new both → from ≤ j.at
     → (p : Point) → jobs_to_come from s old p + job_to_come from s p j ≡ jobs_to_come from s new p + once (covers j.rect p && covers x.view.rect p)
 piece_count from s j x old new both is behind p =
     let sum = cut_sum from s j x old new both is p in
@@ -179,14 +179,14 @@ piece_count from s j x old new both is behind p =
     regroup a b c d e = omega arith
 
 -- the next view of a rectangle, by its place and its rectangle
-pub next_view : (s : Standing) (j : Job) (v : ViewRef) (by : Rectangle) (old new : List Job) (both : Option Rectangle) → FitsJobs s old → IsJob s (length old) j
-    → slice_get (map view_ref s.views) j.at ≡ Some v → option_map (λ (a : Seat). a.view.rect) (slice_get s.views j.at) ≡ Some by → IsCut (j.at + 1) j.rect by old new both
-    → (x : Seat) × (view_ref x ≡ v) × IsNextCut s j x old new both
+pub next_view : (s : StackModel) (j : Job) (v : ViewRef) (by : Rectangle) (old new : List Job) (both : Option Rectangle) → FitsJobs s old → IsJob s (length old) j
+    → slice_get (map view_ref s.views) j.at ≡ Some v → option_map (λ (a : SlotView). a.view.rect) (slice_get s.views j.at) ≡ Some by → IsCut (j.at + 1) j.rect by old new both
+    → (x : SlotView) × (view_ref x ≡ v) × IsNextCut s j x old new both
 next_view s j v by old new both fits job at rect cut =
     let found = slot_at s.views j.at v at in
     let same = rect_is (slice_get s.views j.at) found.0 by found.1 rect in
     (found.0, ap (λ (n : ℕ). record { 0 = n }) found.2, record { fits = fits; job = job; seat = found.1; cut = subst (λ (r : Rectangle). IsCut (j.at + 1) j.rect r old new both) (sym same) cut })
   where
-    rect_is : (o : Option Seat) (x : Seat) (r : Rectangle) → o ≡ Some x → option_map (λ (a : Seat). a.view.rect) o ≡ Some r → x.view.rect ≡ r
+    rect_is : (o : Option SlotView) (x : SlotView) (r : Rectangle) → o ≡ Some x → option_map (λ (a : SlotView). a.view.rect) o ≡ Some r → x.view.rect ≡ r
     rect_is None x r e f = cc
     rect_is (Some y) x r e f = cc

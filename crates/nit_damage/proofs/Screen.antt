@@ -5,12 +5,12 @@ use Rattle.std.proofs.lemmas.Int.{ints}
 use Rattle.std.proofs.lemmas.Bool.{and_parts, false_from_ne_true, not-true}
 use Rattle.nit_rect.specs.declared.point.Point.{Point}
 use Rattle.nit_rect.specs.Rectangle.{Rectangle, rectangle, covers, spans}
-use Rattle.nit_rect.specs.Meeting.{HasPixels, LiesIn}
-use Rattle.nit_rect.specs.Dividing.{IsScreenRectangle}
+use Rattle.nit_rect.specs.Intersection.{HasPixels, LiesIn}
+use Rattle.nit_rect.specs.Strips.{IsScreenRectangle}
 use Rattle.nit_rect.proofs.ForCallers.{IsSpanned, and_true, same_tests, spans_tells, spans_holds, IsWithin, within}
 use Rattle.nit_stack.specs.Sources.{in_bar}
-use Rattle.nit_stack.specs.Standing.{IsOnScreen, IsStanding, Standing}
-use Rattle.nit_damage.specs.Cuts.{bar_part, part_below_bar}
+use Rattle.nit_stack.specs.Stack.{IsOnScreen, IsStack, StackModel}
+use Rattle.nit_damage.specs.Cutter.{bar_part, part_below_bar}
 
 -- a pixel in rows of the screen, from one row on
 pub record IsAmong (width from high : ℕ) (p : Point) : Type 0 where
@@ -43,26 +43,26 @@ below_bar_holds bar p is = grind (arith, ints)
 below_bar_tells : (bar : ℕ) (p : Point) → in_bar bar p ≡ false → pos bar ≤ℤ p.y
 below_bar_tells bar p is = omega (arith, ints)
 
-pub below_on_screen : (s : Standing) (p : Point) → s.bar ≤ s.height → covers (part_below_bar s) p ≡ true → IsOnScreen s.width s.height p
+pub below_on_screen : (s : StackModel) (p : Point) → s.bar ≤ s.height → covers (part_below_bar s) p ≡ true → IsOnScreen s.width s.height p
 below_on_screen s p fits is =
     let among : IsAmong s.width s.bar (s.height - s.bar) p = rows_tell s.width s.bar (s.height - s.bar) p is in
     (among.left, among.right, omega (arith, ints), omega (arith, ints))
 
-pub bar_on_screen : (s : Standing) (p : Point) → s.bar ≤ s.height → covers (bar_part s) p ≡ true → IsOnScreen s.width s.height p
+pub bar_on_screen : (s : StackModel) (p : Point) → s.bar ≤ s.height → covers (bar_part s) p ≡ true → IsOnScreen s.width s.height p
 bar_on_screen s p fits is =
     let among : IsAmong s.width 0 s.bar p = rows_tell s.width 0 s.bar p is in
     (among.left, among.right, among.top, omega (arith, ints))
 
-pub below_not_in_bar : (s : Standing) (p : Point) → covers (part_below_bar s) p ≡ true → in_bar s.bar p ≡ false
+pub below_not_in_bar : (s : StackModel) (p : Point) → covers (part_below_bar s) p ≡ true → in_bar s.bar p ≡ false
 below_not_in_bar s p is = below_bar_holds s.bar p (rows_tell s.width s.bar (s.height - s.bar) p is).top
 
-pub bar_in_bar : (s : Standing) (p : Point) → covers (bar_part s) p ≡ true → in_bar s.bar p ≡ true
+pub bar_in_bar : (s : StackModel) (p : Point) → covers (bar_part s) p ≡ true → in_bar s.bar p ≡ true
 bar_in_bar s p is =
     let among : IsAmong s.width 0 s.bar p = rows_tell s.width 0 s.bar p is in
     in_bar_holds s.bar p (omega (arith, ints))
 
 -- on the screen the part below the bar is what the bar leaves
-pub below_is : (s : Standing) (p : Point) → s.bar ≤ s.height → IsOnScreen s.width s.height p → covers (part_below_bar s) p ≡ not (in_bar s.bar p)
+pub below_is : (s : StackModel) (p : Point) → s.bar ≤ s.height → IsOnScreen s.width s.height p → covers (part_below_bar s) p ≡ not (in_bar s.bar p)
 below_is s p fits on = same_tests (covers (part_below_bar s) p) (not (in_bar s.bar p))
     (λ is. ap not (below_not_in_bar s p is))
     (λ out.
@@ -72,7 +72,7 @@ below_is s p fits on = same_tests (covers (part_below_bar s) p) (not (in_bar s.b
     let top : pos s.bar ≤ℤ p.y = below_bar_tells s.bar p (not-true (in_bar s.bar p) out) in
     rows_hold s.width s.bar (s.height - s.bar) p record { left = left; right = right; top = top; bottom = omega (arith, ints) })
 
-pub bar_is : (s : Standing) (p : Point) → IsOnScreen s.width s.height p → covers (bar_part s) p ≡ in_bar s.bar p
+pub bar_is : (s : StackModel) (p : Point) → IsOnScreen s.width s.height p → covers (bar_part s) p ≡ in_bar s.bar p
 bar_is s p on = same_tests (covers (bar_part s) p) (in_bar s.bar p)
     (bar_in_bar s p)
     (λ is.
@@ -80,18 +80,18 @@ bar_is s p on = same_tests (covers (bar_part s) p) (in_bar s.bar p)
     rows_hold s.width 0 s.bar p record { left = on.0; right = on.1; top = on.2; bottom = omega (arith, ints) })
 
 -- off the screen neither part has the pixel
-pub below_off : (s : Standing) (p : Point) → s.bar ≤ s.height → (IsOnScreen s.width s.height p → ⊥) → covers (part_below_bar s) p ≡ false
+pub below_off : (s : StackModel) (p : Point) → s.bar ≤ s.height → (IsOnScreen s.width s.height p → ⊥) → covers (part_below_bar s) p ≡ false
 below_off s p fits off = false_from_ne_true (covers (part_below_bar s) p) (λ is. off (below_on_screen s p fits is))
 
-pub bar_off : (s : Standing) (p : Point) → s.bar ≤ s.height → (IsOnScreen s.width s.height p → ⊥) → covers (bar_part s) p ≡ false
+pub bar_off : (s : StackModel) (p : Point) → s.bar ≤ s.height → (IsOnScreen s.width s.height p → ⊥) → covers (bar_part s) p ≡ false
 bar_off s p fits off = false_from_ne_true (covers (bar_part s) p) (λ is. off (bar_on_screen s p fits is))
 
 -- the bar leaves rows of the screen
-pub bar_fits : (s : Standing) → IsStanding s → s.bar ≤ s.height
+pub bar_fits : (s : StackModel) → IsStack s → s.bar ≤ s.height
 bar_fits s is = let low = is.bar.1 in omega arith
 
 -- what lies below the bar is a rectangle of the screen
-pub on_screen : (s : Standing) (r : Rectangle) → IsStanding s → HasPixels r → LiesIn r (part_below_bar s) → IsScreenRectangle r
+pub on_screen : (s : StackModel) (r : Rectangle) → IsStack s → HasPixels r → LiesIn r (part_below_bar s) → IsScreenRectangle r
 on_screen s r is some lie =
     let edges : IsWithin r (part_below_bar s) = within r (part_below_bar s) some lie in
     let left = edges.left in

@@ -7,16 +7,16 @@ use Rattle.std.proofs.lemmas.List.{get_or-map, length-map}
 use Rattle.std.proofs.lemmas.List.Sums.{sum_by-append}
 use Rattle.nit_rect.specs.declared.point.Point.{Point}
 use Rattle.nit_rect.specs.Rectangle.{Rectangle, covers}
-use Rattle.nit_rect.specs.Meeting.{CoversBoth, HasPixels, LiesIn}
-use Rattle.nit_rect.specs.Dividing.{times}
+use Rattle.nit_rect.specs.Intersection.{CoversBoth, HasPixels, LiesIn}
+use Rattle.nit_rect.specs.Strips.{times}
 use Rattle.nit_rect.proofs.ForCallers.{covers_none}
 use Rattle.nit_stack.specs.declared.view.ViewRef.{ViewRef}
 use Rattle.nit_stack.specs.Sources.{in_bar}
-use Rattle.nit_stack.specs.Standing.{IsOnScreen, NoPair, Seat, Standing, is_slot, place_of, same_slot, seat_in}
+use Rattle.nit_stack.specs.Stack.{IsOnScreen, NoPair, SlotView, StackModel, is_slot, place_of, same_slot, slot_view_in}
 use Rattle.nit_damage.specs.declared.cutting.Job.{Job}
-use Rattle.nit_damage.specs.Sets.{covered, is_behind, is_of_moved, is_owned, once, seat_covers}
-use Rattle.nit_damage.specs.Cuts.{Cuts, Fits, FitsJobs, IsJob, bar_part, begun, job_at, job_to_come, jobs_to_come, part_below_bar, to_come, with_pixels}
-use Rattle.nit_damage.specs.Cutting.{IsCut, times_all}
+use Rattle.nit_damage.specs.Damage.{covered, is_behind, is_of_moved, is_owned, once, slot_view_covers}
+use Rattle.nit_damage.specs.Cutter.{CutterModel, FitsStack, FitsJobs, IsJob, bar_part, begun_cutter, job_at, job_to_come, jobs_to_come, part_below_bar, to_come, with_pixels}
+use Rattle.nit_damage.specs.Cut.{IsCut, times_all}
 use Rattle.nit_damage.proofs.RectangleCuts.{rest_lies}
 use Rattle.nit_damage.proofs.Jobs.{all_have_pixels, at_most_one, fits_append, rest_to_come, same_times}
 use Rattle.nit_damage.proofs.Screen.{bar_in_bar, bar_is, bar_off, below_is, below_not_in_bar, below_off}
@@ -27,10 +27,10 @@ at_most_once true = omega arith
 at_most_once false = omega arith
 
 -- one rectangle, of which nothing is cut out yet
-first_job : (s : Standing) (k : ℕ) (r : Rectangle) → k ≤ 4 → HasPixels r → LiesIn r (part_below_bar s) → IsJob s k (job_at 0 r)
+first_job : (s : StackModel) (k : ℕ) (r : Rectangle) → k ≤ 4 → HasPixels r → LiesIn r (part_below_bar s) → IsJob s k (job_at 0 r)
 first_job s k r low some lies = record { pixels = some; place = omega arith; low = omega arith; below_bar = lies; free = λ p here. refl }
 
-first_fits : (s : Standing) (r : Rectangle) → LiesIn r (part_below_bar s) → FitsJobs s (map (job_at 0) (with_pixels r))
+first_fits : (s : StackModel) (r : Rectangle) → LiesIn r (part_below_bar s) → FitsJobs s (map (job_at 0) (with_pixels r))
 first_fits s r lies k d below =
     let few = at_most_one r in
     let n = length-map (with_pixels r) (job_at 0) in
@@ -45,16 +45,16 @@ first_fits s r lies k d below =
     only false (suc i) l = absurd (omega arith)
 
 -- what is to come where a rectangle is cut by the views in front of a place
-first_to_come : (s : Standing) (from : ℕ) (r : Rectangle) (p : Point) → jobs_to_come from s (map (job_at 0) (with_pixels r)) p ≡ cond (covered (take from s.views) p) 0 (times r p)
+first_to_come : (s : StackModel) (from : ℕ) (r : Rectangle) (p : Point) → jobs_to_come from s (map (job_at 0) (with_pixels r)) p ≡ cond (covered (take from s.views) p) 0 (times r p)
 first_to_come s from r p = rest_to_come from 0 s p (with_pixels r) ∙ ap (λ (n : ℕ). cond (covered (take from s.views) p) 0 n) (same_times r p)
 
-pub begun_comes : (s : Standing) (from : ℕ) (r : Rectangle) (room : ℕ) (p : Point) → to_come (begun from r room) s p ≡ cond (covered (take from s.views) p) 0 (times r p)
+pub begun_comes : (s : StackModel) (from : ℕ) (r : Rectangle) (room : ℕ) (p : Point) → to_come (begun_cutter from r room) s p ≡ cond (covered (take from s.views) p) 0 (times r p)
 begun_comes s from r room p = zero-add (jobs_to_come from s (map (job_at 0) (with_pixels r)) p) ∙ first_to_come s from r p
 
-pub lies_below : (s : Standing) (r part : Rectangle) → CoversBoth r (part_below_bar s) part → LiesIn part (part_below_bar s)
+pub lies_below : (s : StackModel) (r part : Rectangle) → CoversBoth r (part_below_bar s) part → LiesIn part (part_below_bar s)
 lies_below s r part both p here = (and_parts (covers r p) (covers (part_below_bar s) p) (sym (both p) ∙ here)).1
 
-pub begun_fits : (s : Standing) (from : ℕ) (r : Rectangle) (room : ℕ) → length s.views ≤ room → LiesIn r (part_below_bar s) → Fits (begun from r room) s
+pub begun_fits : (s : StackModel) (from : ℕ) (r : Rectangle) (room : ℕ) → length s.views ≤ room → LiesIn r (part_below_bar s) → FitsStack (begun_cutter from r room) s
 begun_fits s from r room enough lies = record {
   room = enough;
   jobs = first_fits s r lies;
@@ -67,8 +67,8 @@ begun_fits s from r room enough lies = record {
     few false c = at_most_once c
 
 -- a rectangle on the screen, below the bar
-pub gone_comes : (s : Standing) (from : ℕ) (r part : Rectangle) (room : ℕ) → s.bar ≤ s.height → CoversBoth r (part_below_bar s) part
-    → (p : Point) → IsOnScreen s.width s.height p → to_come (begun from part room) s p ≡ once (is_behind from s r p)
+pub gone_comes : (s : StackModel) (from : ℕ) (r part : Rectangle) (room : ℕ) → s.bar ≤ s.height → CoversBoth r (part_below_bar s) part
+    → (p : Point) → IsOnScreen s.width s.height p → to_come (begun_cutter from part room) s p ≡ once (is_behind from s r p)
 gone_comes s from r part room fits both p on =
     begun_comes s from part room p
     ∙ ap (λ (c : Bool). cond (covered (take from s.views) p) 0 (once c)) (both p)
@@ -85,8 +85,8 @@ gone_comes s from r part room fits both p on =
     go false false true = refl
     go false false false = refl
 
-pub begun_off : (s : Standing) (from : ℕ) (r part : Rectangle) (room : ℕ) → s.bar ≤ s.height → CoversBoth r (part_below_bar s) part
-    → (p : Point) → (IsOnScreen s.width s.height p → ⊥) → to_come (begun from part room) s p ≡ 0
+pub begun_off : (s : StackModel) (from : ℕ) (r part : Rectangle) (room : ℕ) → s.bar ≤ s.height → CoversBoth r (part_below_bar s) part
+    → (p : Point) → (IsOnScreen s.width s.height p → ⊥) → to_come (begun_cutter from part room) s p ≡ 0
 begun_off s from r part room fits both p off =
     begun_comes s from part room p
     ∙ ap (λ (c : Bool). cond (covered (take from s.views) p) 0 (once c)) (both p)
@@ -99,23 +99,23 @@ begun_off s from r part room fits both p off =
     go false false = refl
 
 -- a view in its slot, by its rectangle
-seat_of : (o : Option Seat) (r : Rectangle) → option_map (λ (a : Seat). a.view.rect) o ≡ Some r → (x : Seat) × (o ≡ Some x) × (x.view.rect ≡ r)
+seat_of : (o : Option SlotView) (r : Rectangle) → option_map (λ (a : SlotView). a.view.rect) o ≡ Some r → (x : SlotView) × (o ≡ Some x) × (x.view.rect ≡ r)
 seat_of None r e = cc
 seat_of (Some x) r e = let same : x.view.rect ≡ r = cc in (x, refl, same)
 
 -- the pixels that a view owns
-pub owned_comes : (s : Standing) (v : ViewRef) (own r rect part : Rectangle) (room : ℕ) → s.bar ≤ s.height → NoPair same_slot s.views → option_map (λ (a : Seat). a.view.rect) (seat_in v.0 s.views) ≡ Some own
+pub owned_comes : (s : StackModel) (v : ViewRef) (own r rect part : Rectangle) (room : ℕ) → s.bar ≤ s.height → NoPair same_slot s.views → option_map (λ (a : SlotView). a.view.rect) (slot_view_in v.0 s.views) ≡ Some own
     → CoversBoth own r rect → CoversBoth rect (part_below_bar s) part
-    → (p : Point) → IsOnScreen s.width s.height p → to_come (begun (place_of v.0 s.views) part room) s p ≡ once (is_owned v s r p)
+    → (p : Point) → IsOnScreen s.width s.height p → to_come (begun_cutter (place_of v.0 s.views) part room) s p ≡ once (is_owned v s r p)
 owned_comes s v own r rect part room fits apart at met both p on =
-    let x = seat_of (seat_in v.0 s.views) own at in
+    let x = seat_of (slot_view_in v.0 s.views) own at in
     gone_comes s (place_of v.0 s.views) rect part room fits both p on
     ∙ ap (λ (c : Bool). once (not (in_bar s.bar p) && c && not (covered (take (place_of v.0 s.views) s.views) p))) (met p)
     ∙ go (in_bar s.bar p) (covers own p) (covers r p) (covered (take (place_of v.0 s.views) s.views) p)
     (owned_is v.0 p s.views x.0 apart x.1 ∙ ap (λ (q : Rectangle). covers q p && not (covered (take (place_of v.0 s.views) s.views) p)) x.2)
   where
-    go : (e x c b : Bool) → option_map_or (is_slot v.0) (find (seat_covers p) s.views) false ≡ (x && not b)
-        → once (not e && (x && c) && not b) ≡ once (c && option_map_or (is_slot v.0) (cond e None (find (seat_covers p) s.views)) false)
+    go : (e x c b : Bool) → option_map_or (is_slot v.0) (find (slot_view_covers p) s.views) false ≡ (x && not b)
+        → once (not e && (x && c) && not b) ≡ once (c && option_map_or (is_slot v.0) (cond e None (find (slot_view_covers p) s.views)) false)
     go true x true b h = refl
     go true x false b h = refl
     go false x c b h = bools x c b ∙ ap (λ (o : Bool). once (c && o)) (sym h)
@@ -131,16 +131,16 @@ owned_comes s v own r rect part room fits apart at met both p on =
         bools false false false = refl
 
 -- two rectangles, the second cut by the first
-pub record IsMoved (s : Standing) (rect old part before : Rectangle) (jobs : List Job) (both : Option Rectangle) : Type 0 where
+pub record IsMoved (s : StackModel) (rect old part before : Rectangle) (jobs : List Job) (both : Option Rectangle) : Type 0 where
   pub bar : s.bar ≤ s.height
   pub now : CoversBoth rect (part_below_bar s) part
   pub was : CoversBoth old (part_below_bar s) before
   pub cut : IsCut 0 before rect (map (job_at 0) (with_pixels part)) jobs both
 
-abbrev pub moved : ℕ → List Job → ℕ → Cuts
+abbrev pub moved : ℕ → List Job → ℕ → CutterModel
 moved from jobs room = record { jobs = jobs; from = from; bar = false; room = room }
 
-both_come : (s : Standing) (from : ℕ) (rect old part before : Rectangle) (jobs : List Job) (both : Option Rectangle) (room : ℕ) → IsMoved s rect old part before jobs both
+both_come : (s : StackModel) (from : ℕ) (rect old part before : Rectangle) (jobs : List Job) (both : Option Rectangle) (room : ℕ) → IsMoved s rect old part before jobs both
     → (p : Point) → to_come (moved from jobs room) s p ≡ once (covers (part_below_bar s) p && (covers rect p || covers old p) && not (covered (take from s.views) p))
 both_come s from rect old part before jobs both room is p =
     ap (λ (js : List Job). to_come (moved from js room) s p) is.cut.jobs
@@ -171,25 +171,25 @@ both_come s from rect old part before jobs both room is p =
     go false false false true n e = omega arith
     go false false false false n e = omega arith
 
-pub moved_comes : (s : Standing) (v : ViewRef) (rect old part before : Rectangle) (jobs : List Job) (both : Option Rectangle) (room : ℕ) → option_map (λ (a : Seat). a.view.rect) (seat_in v.0 s.views) ≡ Some rect
+pub moved_comes : (s : StackModel) (v : ViewRef) (rect old part before : Rectangle) (jobs : List Job) (both : Option Rectangle) (room : ℕ) → option_map (λ (a : SlotView). a.view.rect) (slot_view_in v.0 s.views) ≡ Some rect
     → IsMoved s rect old part before jobs both → (p : Point) → IsOnScreen s.width s.height p → to_come (moved (place_of v.0 s.views) jobs room) s p ≡ once (is_of_moved v s old p)
 moved_comes s v rect old part before jobs both room at is p on =
     both_come s (place_of v.0 s.views) rect old part before jobs both room is p
     ∙ ap (λ (f : Bool). once (f && (covers rect p || covers old p) && not (covered (take (place_of v.0 s.views) s.views) p))) (below_is s p (is.bar) on)
-    ∙ ap (λ (c : Bool). once (not (in_bar s.bar p) && (c || covers old p) && not (covered (take (place_of v.0 s.views) s.views) p))) (sym (own (seat_in v.0 s.views) at))
+    ∙ ap (λ (c : Bool). once (not (in_bar s.bar p) && (c || covers old p) && not (covered (take (place_of v.0 s.views) s.views) p))) (sym (own (slot_view_in v.0 s.views) at))
   where
-    own : (o : Option Seat) → option_map (λ (a : Seat). a.view.rect) o ≡ Some rect → option_map_or (seat_covers p) o false ≡ covers rect p
+    own : (o : Option SlotView) → option_map (λ (a : SlotView). a.view.rect) o ≡ Some rect → option_map_or (slot_view_covers p) o false ≡ covers rect p
     own None e = cc
     own (Some x) e = let same : x.view.rect ≡ rect = cc in ap (λ (q : Rectangle). covers q p) same
 
-pub moved_off : (s : Standing) (from : ℕ) (rect old part before : Rectangle) (jobs : List Job) (both : Option Rectangle) (room : ℕ) → IsMoved s rect old part before jobs both
+pub moved_off : (s : StackModel) (from : ℕ) (rect old part before : Rectangle) (jobs : List Job) (both : Option Rectangle) (room : ℕ) → IsMoved s rect old part before jobs both
     → (p : Point) → (IsOnScreen s.width s.height p → ⊥) → to_come (moved from jobs room) s p ≡ 0
 moved_off s from rect old part before jobs both room is p off =
     both_come s from rect old part before jobs both room is p
     ∙ ap (λ (f : Bool). once (f && (covers rect p || covers old p) && not (covered (take from s.views) p))) (below_off s p (is.bar) off)
 
-pub moved_fits : (s : Standing) (from : ℕ) (rect old part before : Rectangle) (jobs : List Job) (both : Option Rectangle) (room : ℕ) → length s.views ≤ room → IsMoved s rect old part before jobs both
-    → Fits (moved from jobs room) s
+pub moved_fits : (s : StackModel) (from : ℕ) (rect old part before : Rectangle) (jobs : List Job) (both : Option Rectangle) (room : ℕ) → length s.views ≤ room → IsMoved s rect old part before jobs both
+    → FitsStack (moved from jobs room) s
 moved_fits s from rect old part before jobs both room enough is = record {
   room = enough;
   jobs = subst (FitsJobs s) (sym is.cut.jobs) (fits_append s (map (job_at 0) (with_pixels part)) (map (job_at 0) is.cut.rest) (first_fits s part (lies_below s rect part is.now)) rest);
@@ -210,17 +210,17 @@ moved_fits s from rect old part before jobs both room enough is = record {
         subst (IsJob s (length (map (job_at 0) (with_pixels part)) + k)) (sym (get_or-map (job_at 0) is.cut.rest k part d within)) job
 
 -- the whole screen
-abbrev pub whole : Standing → ℕ → Cuts
-whole s room = record (begun 0 (part_below_bar s) room) { bar = nat_lt 0 s.bar }
+abbrev pub whole : StackModel → ℕ → CutterModel
+whole s room = record (begun_cutter 0 (part_below_bar s) room) { bar = nat_lt 0 s.bar }
 
-whole_comes : (s : Standing) (room : ℕ) (p : Point) → to_come (whole s room) s p ≡ times (bar_part s) p + times (part_below_bar s) p
+whole_comes : (s : StackModel) (room : ℕ) (p : Point) → to_come (whole s room) s p ≡ times (bar_part s) p + times (part_below_bar s) p
 whole_comes s room p = ap₂ (λ (m n : ℕ). m + n) (go (nat_lt 0 s.bar) refl) (first_to_come s 0 (part_below_bar s) p)
   where
     go : (b : Bool) → nat_lt 0 s.bar ≡ b → cond b (times (bar_part s) p) 0 ≡ times (bar_part s) p
     go true e = refl
     go false e = let none : s.bar ≡ 0 = grind (arith, nat_tests) in sym (ap once (covers_none (bar_part s) p (inr none)))
 
-pub whole_on : (s : Standing) (room : ℕ) → s.bar ≤ s.height → (p : Point) → IsOnScreen s.width s.height p → to_come (whole s room) s p ≡ 1
+pub whole_on : (s : StackModel) (room : ℕ) → s.bar ≤ s.height → (p : Point) → IsOnScreen s.width s.height p → to_come (whole s room) s p ≡ 1
 whole_on s room fits p on =
     whole_comes s room p
     ∙ ap₂ (λ (b c : Bool). once b + once c) (bar_is s p on) (below_is s p fits on)
@@ -230,10 +230,10 @@ whole_on s room fits p on =
     go true = refl
     go false = refl
 
-pub whole_off : (s : Standing) (room : ℕ) → s.bar ≤ s.height → (p : Point) → (IsOnScreen s.width s.height p → ⊥) → to_come (whole s room) s p ≡ 0
+pub whole_off : (s : StackModel) (room : ℕ) → s.bar ≤ s.height → (p : Point) → (IsOnScreen s.width s.height p → ⊥) → to_come (whole s room) s p ≡ 0
 whole_off s room fits p off = whole_comes s room p ∙ ap₂ (λ (b c : Bool). once b + once c) (bar_off s p fits off) (below_off s p fits off)
 
-pub whole_fits : (s : Standing) (room : ℕ) → length s.views ≤ room → Fits (whole s room) s
+pub whole_fits : (s : StackModel) (room : ℕ) → length s.views ≤ room → FitsStack (whole s room) s
 whole_fits s room enough = record {
   room = enough;
   jobs = first_fits s (part_below_bar s) (λ p here. here);

@@ -4,10 +4,10 @@ ghost use Rattle.std.specs.Prelude.{◌≡◌, ℕ, ◌+◌, ◌≤◌, ◌<◌,
 ghost use Rattle.std.specs.Option.{option_map};
 ghost use Rattle.nit_rect.specs.declared.point.Point.{Point};
 ghost use Rattle.nit_rect.specs.Rectangle.{Rectangle, covers};
-ghost use Rattle.nit_rect.specs.Meeting.{HasPixels};
-ghost use Rattle.nit_stack.specs.Standing.{IsOnScreen, Standing, has, view_ref, seat_owner};
-ghost use Rattle.nit_damage.specs.Sets.{once, is_behind, is_owned, is_of_moved, is_of_gone};
-ghost use Rattle.nit_damage.specs.Cuts.{Fits, begun, piece_times, pieces_left, to_come};
+ghost use Rattle.nit_rect.specs.Intersection.{HasPixels};
+ghost use Rattle.nit_stack.specs.Stack.{IsOnScreen, StackModel, has_slot, view_ref, seat_owner};
+ghost use Rattle.nit_damage.specs.Damage.{once, is_behind, is_owned, is_of_moved, is_of_gone};
+ghost use Rattle.nit_damage.specs.Cutter.{FitsStack, begun_cutter, piece_times, pieces_left, to_come};
 ghost use Rattle.nit_rect.specs.Limits.{most_slots};
 
 use crate::cutting::{Job, cut_out, next_cut, put_in};
@@ -28,9 +28,9 @@ pub struct Cutter {
 
 impl Model for Cutter {
     ghost use Rattle.std.specs.Prelude.{◌≤◌, ◌+◌, ◌*◌, vec_capacity};
-    ghost use Rattle.nit_damage.specs.Cuts.{Cuts};
+    ghost use Rattle.nit_damage.specs.Cutter.{CutterModel};
 
-    ghost Value = { Cuts };
+    ghost Value = { CutterModel };
 
     ghost view = { λ c. record { jobs = c.jobs.items; from = c.from; bar = c.bar; room = c.room } };
 
@@ -42,7 +42,7 @@ impl Cutter {
     pub fn with_room(alloc: Global, views: u32) -> Result<Cutter, NoMemory>
         requires { views ≤ most_slots }
         ensures room { IfOk result (λ c. c.room ≡ views) }
-        ensures nothing { IfOk result (λ c. (s : Standing) (p : Point) → to_come c s p ≡ 0) }
+        ensures nothing { IfOk result (λ c. (s : StackModel) (p : Point) → to_come c s p ≡ 0) }
     {
         let jobs = Vec::with_capacity(alloc, 3 * views as usize + 5)?;
         Ok(Cutter {
@@ -55,10 +55,10 @@ impl Cutter {
 
     /// Begins with the pixels of a rectangle that the view owns.
     pub fn begin_owned(&mut self, stack: &Stack, v: ViewRef, r: Rect)
-        requires view { has v.0 stack.now.views ≡ true }
+        requires view { has_slot v.0 stack.now.views ≡ true }
         requires room { length stack.now.views ≤ self.old.room }
         ensures room { self.new.room ≡ self.old.room }
-        ensures fits { Fits self.new stack.now }
+        ensures fits { FitsStack self.new stack.now }
         ensures to_come { (p : Point) → IsOnScreen stack.now.width stack.now.height p
             → to_come self.new stack.now p ≡ once (is_owned v stack.now r p) }
         ensures off_screen { (p : Point) → ¬ IsOnScreen stack.now.width stack.now.height p
@@ -68,13 +68,13 @@ impl Cutter {
         self.begin(stack.place_of(v), below_bar(stack, &rect));
     }
 
-    /// Begins with the pixels below the bar of a view that was moved: those of its rectangle or of its old one that no
-    /// view in front of it covers.
+    /// Begins with the pixels below the bar of a view that was moved: those of its rectangle or of
+    /// its old one that no view in front of it covers.
     pub fn begin_moved(&mut self, stack: &Stack, v: ViewRef, old: Rect)
-        requires view { has v.0 stack.now.views ≡ true }
+        requires view { has_slot v.0 stack.now.views ≡ true }
         requires room { length stack.now.views ≤ self.old.room }
         ensures room { self.new.room ≡ self.old.room }
-        ensures fits { Fits self.new stack.now }
+        ensures fits { FitsStack self.new stack.now }
         ensures to_come { (p : Point) → IsOnScreen stack.now.width stack.now.height p
             → to_come self.new stack.now p ≡ once (is_of_moved v stack.now old p) }
         ensures off_screen { (p : Point) → ¬ IsOnScreen stack.now.width stack.now.height p
@@ -85,13 +85,13 @@ impl Cutter {
         let _both = cut_out(&mut self.jobs, below_bar(stack, &old), rect, 0);
     }
 
-    /// Begins with the pixels of a rectangle below the bar that no view in front of `at` covers. Where no view is given,
-    /// with those that no view covers.
+    /// Begins with the pixels of a rectangle below the bar that no view in front of `at` covers.
+    /// Where no view is given, with those that no view covers.
     pub fn begin_gone(&mut self, stack: &Stack, r: Rect, at: Option<ViewRef>)
-        requires view { IfSome at (λ v. has v.0 stack.now.views ≡ true) }
+        requires view { IfSome at (λ v. has_slot v.0 stack.now.views ≡ true) }
         requires room { length stack.now.views ≤ self.old.room }
         ensures room { self.new.room ≡ self.old.room }
-        ensures fits { Fits self.new stack.now }
+        ensures fits { FitsStack self.new stack.now }
         ensures to_come { (p : Point) → IsOnScreen stack.now.width stack.now.height p
             → to_come self.new stack.now p ≡ once (is_of_gone at stack.now r p) }
         ensures off_screen { (p : Point) → ¬ IsOnScreen stack.now.width stack.now.height p
@@ -109,7 +109,7 @@ impl Cutter {
     pub fn begin_behind(&mut self, stack: &Stack, r: Rect, place: u32)
         requires { length stack.now.views ≤ self.old.room }
         ensures room { self.new.room ≡ self.old.room }
-        ensures fits { Fits self.new stack.now }
+        ensures fits { FitsStack self.new stack.now }
         ensures to_come { (p : Point) → IsOnScreen stack.now.width stack.now.height p
             → to_come self.new stack.now p ≡ once (is_behind place stack.now r p) }
         ensures off_screen { (p : Point) → ¬ IsOnScreen stack.now.width stack.now.height p
@@ -122,7 +122,7 @@ impl Cutter {
     pub fn begin_all(&mut self, stack: &Stack)
         requires { length stack.now.views ≤ self.old.room }
         ensures room { self.new.room ≡ self.old.room }
-        ensures fits { Fits self.new stack.now }
+        ensures fits { FitsStack self.new stack.now }
         ensures to_come { (p : Point) → IsOnScreen stack.now.width stack.now.height p
             → to_come self.new stack.now p ≡ 1 }
         ensures off_screen { (p : Point) → ¬ IsOnScreen stack.now.width stack.now.height p
@@ -132,10 +132,10 @@ impl Cutter {
         self.bar = stack.bar() > 0;
     }
 
-    /// Drops what was to come, and begins with a rectangle from which the views in front of place `from` are to be cut
-    /// out.
+    /// Drops what was to come, and begins with a rectangle from which the views in front of place
+    /// `from` are to be cut out.
     fn begin(&mut self, from: u32, rect: Rect)
-        ensures { self.new ≡ begun from rect self.old.room }
+        ensures { self.new ≡ begun_cutter from rect self.old.room }
     {
         self.jobs.clear();
         put_in(&mut self.jobs, rect, 0);
@@ -145,9 +145,9 @@ impl Cutter {
 
     /// The next piece, which is no longer to come then. None exactly where nothing is to come.
     pub fn next(&mut self, stack: &Stack) -> Option<Piece>
-        requires { Fits self.old stack.now }
+        requires { FitsStack self.old stack.now }
         ensures room { self.new.room ≡ self.old.room }
-        ensures fits { Fits self.new stack.now }
+        ensures fits { FitsStack self.new stack.now }
         ensures count { (p : Point)
             → to_come self.old stack.now p ≡ to_come self.new stack.now p + piece_times result p }
         ensures came { MatchOption result
@@ -161,7 +161,7 @@ impl Cutter {
             → piece.owner
             ≡ option_map view_ref (seat_owner stack.now.bar stack.now.views p)) }
         ensures stands { IfSome result
-            (λ piece. IfSome piece.owner (λ v. has v.0 stack.now.views ≡ true)) }
+            (λ piece. IfSome piece.owner (λ v. has_slot v.0 stack.now.views ≡ true)) }
         ensures fewer { IfSome result
             (λ _. pieces_left self.new stack.now < pieces_left self.old stack.now) }
     {

@@ -2,10 +2,10 @@
 
 ghost use Rattle.std.specs.Prelude.{◌≡◌, ◌+◌, ◌++◌, ◌*◌, ◌≤◌, ◌<◌, [], length, map, vec_capacity, IfSome, MatchOption};
 ghost use Rattle.nit_rect.specs.declared.point.Point.{Point};
-ghost use Rattle.nit_rect.specs.Dividing.{IsScreenRectangle};
-ghost use Rattle.nit_rect.specs.Meeting.{HasPixels};
-ghost use Rattle.nit_damage.specs.Cuts.{FitsJobs, IsJob, IsPieceOf, job_at, jobs_to_come, piece_times, weight, with_pixels};
-ghost use Rattle.nit_damage.specs.Cutting.{IsCut, IsStep};
+ghost use Rattle.nit_rect.specs.Strips.{IsScreenRectangle};
+ghost use Rattle.nit_rect.specs.Intersection.{HasPixels};
+ghost use Rattle.nit_damage.specs.Cutter.{FitsJobs, IsJob, IsPieceOf, job_at, jobs_to_come, piece_times, weight, with_pixels};
+ghost use Rattle.nit_damage.specs.Cut.{IsCut, IsCutStep};
 
 use nit_rect::Rect;
 use nit_stack::{Piece, Stack};
@@ -39,14 +39,14 @@ pub(crate) fn next_cut(jobs: &mut Vec<Job>, from: u32, stack: &Stack) -> Option<
     None
 }
 
-/// Cuts the next view out of the job, and puts in what is left. Gives the part that was cut out, where its view is
-/// at place `from` or behind. Behind the last view the whole job is given.
+/// Cuts the next view out of the job, and puts in what is left. Gives the part that was cut out,
+/// where its view is at place `from` or behind. Behind the last view the whole job is given.
 pub(crate) fn cut_next(jobs: &mut Vec<Job>, job: Job, from: u32, stack: &Stack) -> Option<Piece>
     requires fits { FitsJobs stack.now jobs.old.items }
     requires job { IsJob stack.now (length jobs.old.items) job }
     requires room { 3 * length stack.now.views + 5 ≤ vec_capacity jobs.old }
     ensures room { vec_capacity jobs.new ≡ vec_capacity jobs.old }
-    ensures step { IsStep from stack.now job jobs.old.items jobs.new.items result }
+    ensures step { IsCutStep from stack.now job jobs.old.items jobs.new.items result }
 {
     if job.at >= stack.len() {
         return Some(Piece {
@@ -67,8 +67,8 @@ pub(crate) fn cut_next(jobs: &mut Vec<Job>, job: Job, from: u32, stack: &Stack) 
     })
 }
 
-/// Puts in what is left of a rectangle of the screen where another is cut out, with the next view at place `at`.
-/// Gives the part that was cut out. None where the two have no pixel in common.
+/// Puts in what is left of a rectangle of the screen where another is cut out, with the next view
+/// at place `at`. Gives the part that was cut out. None where the two have no pixel in common.
 pub(crate) fn cut_out(jobs: &mut Vec<Job>, rect: Rect, by: Rect, at: u32) -> Option<Rect>
     requires screen { HasPixels rect → IsScreenRectangle rect }
     requires room { length jobs.old.items + 4 ≤ vec_capacity jobs.old }

@@ -6,12 +6,13 @@
 //! the other. Each piece has pixels and one owner, and every pixel of the set comes in one piece,
 //! once.
 //!
-//! A cutter is seen as the lists that it keeps and its room. How often a pixel is still to come is told by
-//! these lists and the stack (`to_come`). A begin makes the cutter fit the stack (`Fits`), and it fits it until that
-//! stack is changed. What was still to come before a begin is dropped.
+//! A cutter is seen as the lists that it keeps and its room. How often a pixel is still to come is
+//! told by these lists and the stack (`to_come`). A begin makes the cutter fit the stack (`Fits`),
+//! and it fits it until that stack is changed. What was still to come before a begin is dropped.
 //!
-//! It cuts a rectangle by the views in front, one view after the other, and keeps what is left of it round each cut
-//! as further rectangles. All room is taken by [`Cutter::with_room`]; no other call takes memory.
+//! It cuts a rectangle by the views in front, one view after the other, and keeps what is left of
+//! it round each cut as further rectangles. All room is taken by [`Cutter::with_room`]; no other
+//! call takes memory.
 #![tactic(auto)]
 
 mod cutter;

@@ -1,9 +1,9 @@
 //! Rectangles of the screen.
 
 ghost use Rattle.std.specs.Prelude.{◌≡◌, ◌≤◌};
-ghost use Rattle.nit_rect.specs.Meeting.{CoversBoth};
-ghost use Rattle.nit_stack.specs.Standing.{IsScreen};
-ghost use Rattle.nit_damage.specs.Cuts.{bar_part, part_below_bar};
+ghost use Rattle.nit_rect.specs.Intersection.{CoversBoth};
+ghost use Rattle.nit_stack.specs.Stack.{IsScreenSize};
+ghost use Rattle.nit_damage.specs.Cutter.{bar_part, part_below_bar};
 
 use nit_rect::Rect;
 use nit_stack::Stack;
@@ -11,7 +11,7 @@ use nit_stack::Stack;
 /// The pixels of the bar.
 pub(crate) fn bar_part(stack: &Stack) -> Rect
     ensures value { result ≡ bar_part stack.now }
-    ensures screen { IsScreen stack.now.width stack.now.height }
+    ensures screen { IsScreenSize stack.now.width stack.now.height }
     ensures fits { stack.now.bar ≤ stack.now.height }
 {
     let (width, _height) = stack.size();

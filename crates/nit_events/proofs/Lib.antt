@@ -1,4 +1,4 @@
 pub mod TextBytes
-pub mod Rows
+pub mod Examples
 pub mod Choices
 pub mod ForCallers

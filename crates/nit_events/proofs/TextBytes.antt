@@ -3,7 +3,7 @@ use Rattle.std.proofs.Common.{◌≡◌, ℕ, ◌≤◌, true, List, ◌++◌, l
 use Rattle.std.proofs.Math.Seq.{take-append_seam, drop-append_seam}
 use Rattle.std.proofs.lemmas.List.{drop-replicate}
 use Rattle.std.proofs.lemmas.Bool.{and_parts, leb-true}
-use Rattle.nit_events.specs.Texts.{is_text, IsPadded}
+use Rattle.nit_events.specs.Text.{is_text, IsPadded}
 
 -- an array of 40 zeros whose beginning was written
 pub padded : (bytes copy : List ℕ) → is_text bytes ≡ true → copy ≡ bytes

@@ -11,8 +11,8 @@ use Rattle.nit_events.specs.declared.device.Device.TheVariants as device
 use Rattle.nit_events.specs.declared.device.Mode.{Mode}
 use Rattle.nit_events.specs.declared.device.Mode.TheVariants.{Flat, Xray, Kill}
 
--- the mode; the pointer's column and row; the codes that are held down; the session that gets what is
--- held, the one under the pointer, and the one that has the focus
+-- the mode; the pointer's column and row; the codes that are held down; the session that gets what
+-- is held, the one under the pointer, and the one that has the focus
 pub record InputState : Type 0 where
   pub mode : Mode
   pub x : ℕ
@@ -80,8 +80,8 @@ pointer_after width height i (device.Motion x y) =
     record i { x = min x (width - 1); y = min y (height - 1) }
 pointer_after width height i other = i
 
--- While nothing is held, a motion or a turn of the wheel goes to the pointed session in mode Flat, and to
--- none in the other modes.
+-- While nothing is held, a motion or a turn of the wheel goes to the pointed session in mode Flat,
+-- and to none in the other modes.
 abbrev pub hovering : Mode → Option ℕ → InputState → Event → Routing
 hovering Flat pointed i e =
     record {
@@ -115,8 +115,8 @@ abbrev pub switching : List ℕ → InputState → Mode → Routing
 switching [] i new = leaving i.mode i new
 switching (k ∷ ks) i new = ignored i
 
--- A click moves the focus to the pointed session, or to none where it points at none. A session that takes
--- no focus by clicks leaves it where it is.
+-- A click moves the focus to the pointed session, or to none where it points at none. A session
+-- that takes no focus by clicks leaves it where it is.
 abbrev pub takes_focus : Bool → Option ℕ → Bool
 takes_focus clicks None = true
 takes_focus clicks (Some s) = clicks
@@ -161,14 +161,15 @@ first_press Kill clicks pointed i k =
     unreceived (if k == kill_button then killing pointed i else ignored i)
 
 -- a code is held as well
-abbrev pub holding : InputState → ℕ → InputState
-holding i k = record i { held = i.held ++ k ∷ [] }
+abbrev pub with_held : InputState → ℕ → InputState
+with_held i k = record i { held = i.held ++ k ∷ [] }
 
--- a code that is no mode key goes down: it is held, and the receiver of a first press is chosen by the mode
+-- a code that is no mode key goes down: it is held, and the receiver of a first press is chosen by
+-- the mode
 abbrev pub pressing : List ℕ → Bool → Option ℕ → InputState → ℕ → Routing
-pressing [] clicks pointed i k = first_press i.mode clicks pointed (holding i k) k
+pressing [] clicks pointed i k = first_press i.mode clicks pointed (with_held i k) k
 pressing (j ∷ js) clicks pointed i k =
-    record { state = holding i k; deliveries = to i.receiver (event.Press k) }
+    record { state = with_held i k; deliveries = to i.receiver (event.Press k) }
 
 -- the code is held down
 abbrev pub is_held : InputState → ℕ → Bool
@@ -196,8 +197,8 @@ release i k =
     }
     else ignored i
 
--- One device event: the pointer has moved already, `pointed` is the session under it, and `clicks` tells
--- whether a click on that session moves the focus.
+-- One device event: the pointer has moved already, `pointed` is the session under it, and `clicks`
+-- tells whether a click on that session moves the focus.
 abbrev pub routing : Bool → Option ℕ → InputState → Device → Routing
 routing clicks pointed i (device.Motion x y) = moving i.held pointed i (event.Motion i.x i.y)
 routing clicks pointed i (device.Wheel n) = moving i.held pointed i (event.Wheel n)

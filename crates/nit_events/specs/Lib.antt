@@ -1,3 +1,3 @@
-pub mod Texts
+pub mod Text
 pub mod Ranges
 pub mod Input

@@ -1,8 +1,8 @@
 use crate::event::Event;
 use crate::text::Text;
 
-/// What a session asks of the server. A view is named by its handle. Numbers that the scene does not
-/// allow are answered by a refusal.
+/// What a session asks of the server. A view is named by its handle. Numbers that the scene does
+/// not allow are answered by a refusal.
 #[derive(Clone, Copy, Debug, PartialEq, Eq)]
 pub enum Call {
     /// The session's buffer has this width and height, in words.
@@ -23,7 +23,8 @@ pub enum Call {
     Title(u32, Text),
     /// The view is gone.
     Destroy(u32),
-    /// The pixels that show this part of the session's buffer are loaded again: x, y, width, height.
+    /// The pixels that show this part of the session's buffer are loaded again: x, y, width,
+    /// height.
     Refresh(i32, i32, u32, u32),
     /// The oldest queued event is taken out.
     Take,

@@ -1,4 +1,5 @@
-//! What clients ask, what the server answers, what the user's devices do, and the journal's entries.
+//! What clients ask, what the server answers, what the user's devices do, and the journal's
+//! entries.
 //!
 //! Codes of keys and buttons are those of Linux's input codes: 0..=767, of which 272..=279 are the
 //! buttons. A wheel turns by -127..=127. The pointer moves to any place that a `u16` names, and
@@ -7,12 +8,12 @@
 //!
 //! Codes and turns in range are a condition of the two calls that serve a device event:
 //! `Focus::input` of nit_focus and `Scene::input` of nit_scene. What these deliver is in range, and
-//! its places are on the screen; the lines of an input script are in range too. All other calls take
-//! any value: a [`Queue`], a journal and a book keep any event or entry, and a text is written of
-//! any. A journal's text is promised to be read back only where its entries are in range.
+//! its places are on the screen; the lines of an input script are in range too. All other calls
+//! take any value: a [`Queue`], a journal and a book keep any event or entry, and a text is written
+//! of any. A journal's text is promised to be read back only where its entries are in range.
 //!
-//! All types but [`Queue`] are plain values. A queue keeps the events that wait for a session; it takes
-//! memory once, in [`Queue::new`].
+//! All types but [`Queue`] are plain values. A queue keeps the events that wait for a session; it
+//! takes memory once, in [`Queue::new`].
 #![tactic(auto)]
 
 mod call;

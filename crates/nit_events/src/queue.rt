@@ -11,7 +11,8 @@ use std::marker::Model;
 /// How many events may wait.
 const MOST: usize = 64;
 
-/// The events that wait for a session, at most 64, seen as their list in the order in which they came.
+/// The events that wait for a session, at most 64, seen as their list in the order in which they
+/// came.
 #[derive(Drop)]
 pub struct Queue {
     events: HeapCircularBuffer<Event>,
@@ -38,7 +39,8 @@ impl Queue {
         Ok(Queue { events })
     }
 
-    /// Puts the event behind all others. False exactly where 64 wait already; the queue is then unchanged.
+    /// Puts the event behind all others. False exactly where 64 wait already; the queue is then
+    /// unchanged.
     pub fn offer(&mut self, e: Event) -> bool
         ensures room { IsTrue result ↔ (length self.old < most_waiting) }
         ensures last { OnTrue result (self.new ≡ self.old ++ e ∷ []) }

@@ -1,6 +1,6 @@
 ghost use Rattle.std.specs.Prelude.{◌≡◌, ◌↔◌, IsTrue, IsSome, IfSome};
 ghost use Rattle.std.specs.List.{list_all};
-ghost use Rattle.nit_events.specs.Texts.{is_text, is_printable};
+ghost use Rattle.nit_events.specs.Text.{is_text, is_printable};
 
 use std::marker::Model;
 
@@ -16,7 +16,7 @@ pub struct Text {
 
 impl Model for Text {
     ghost use Rattle.std.specs.Prelude.{◌≡◌, ℕ, List, length, take, drop, true};
-    ghost use Rattle.nit_events.specs.Texts.{is_text, IsPadded, bytes_again, with_zeros, length_again};
+    ghost use Rattle.nit_events.specs.Text.{is_text, IsPadded, bytes_again, with_zeros, length_again};
 
     ghost Value = { List ℕ };
 

@@ -8,13 +8,13 @@ use Rattle.nit_events.specs.declared.device.Device.{Device}
 use Rattle.nit_events.specs.declared.device.Device.TheVariants as device
 use Rattle.nit_events.specs.Input.{InputState, Routing, pointer_after}
 use Rattle.nit_events.specs.Ranges.{IsDevice}
-use Rattle.nit_focus.specs.Focusing.{Focusing, IsFocusing, AllOfInput, clicks_on_list, moved, route}
+use Rattle.nit_focus.specs.Focus.{FocusModel, IsFocus, AllOfInput, clicks_on_list, with_pointer, routing_at}
 use Rattle.nit_focus.specs.Reach.{IsWithinReach, IsItem, IsForgottenIfKilled}
 use Rattle.nit_focus.proofs.Steps.{IsStep, IsDelivery, brought, routing}
 
 -- all that a device event that led from this value to such a routing promises
-pub record IsRouted (f : Focusing) (pointed : Option ℕ) (r : Routing) : Type 0 where
-  pub focusing : IsFocusing (record f { input = r.state })
+pub record IsRouted (f : FocusModel) (pointed : Option ℕ) (r : Routing) : Type 0 where
+  pub focusing : IsFocus (record f { input = r.state })
   pub reached : All (λ d. IsWithinReach f.input pointed d.sid) r.deliveries
   pub sessions : All (λ d. d.sid < 16) r.deliveries
   pub ranges : All (λ d. IsItem f.width f.height d.item) r.deliveries
@@ -29,7 +29,7 @@ still_known P width height i (device.Press k) known = known
 still_known P width height i (device.Release k) known = known
 
 -- and is within the screen
-within : (f : Focusing) (dev : Device) → IsFocusing f → ((moved f dev).x < f.width) × ((moved f dev).y < f.height)
+within : (f : FocusModel) (dev : Device) → IsFocus f → ((with_pointer f dev).x < f.width) × ((with_pointer f dev).y < f.height)
 within f (device.Motion x y) h = (omega (arith, h.narrowest), omega (arith, h.lowest))
 within f (device.Wheel n) h = (h.column, h.row)
 within f (device.Press k) h = (h.column, h.row)
@@ -55,10 +55,10 @@ within_reach i pointed = record {
 }
 
 -- one device event, whole
-pub routed : (f : Focusing) (pointed : Option ℕ) (dev : Device) → IsFocusing f → IfSome pointed (λ s. s < 16) → IsDevice dev → IsRouted f pointed (route f pointed dev)
+pub routed : (f : FocusModel) (pointed : Option ℕ) (dev : Device) → IsFocus f → IfSome pointed (λ s. s < 16) → IsDevice dev → IsRouted f pointed (routing_at f pointed dev)
 routed f pointed dev h known device =
-    let i : InputState = moved f dev in
-    let r : Routing = route f pointed dev in
+    let i : InputState = with_pointer f dev in
+    let r : Routing = routing_at f pointed dev in
     let place : (i.x < f.width) × (i.y < f.height) = within f dev h in
     let in_screen : Item → Type 0 = IsItem f.width f.height in
     let below : ℕ → Type 0 = (λ s. s < 16) in

@@ -16,7 +16,7 @@ use Rattle.nit_events.specs.declared.device.Mode.TheVariants.{Flat, Xray, Kill}
 use Rattle.std.proofs.lemmas.Bool.{cases_eq, eq-eqb, ne_eqb}
 use Rattle.nit_events.specs.Input.{InputState, Routing}
 use Rattle.nit_events.specs.Input as input
-use Rattle.nit_focus.specs.Focusing.{AllOfInput}
+use Rattle.nit_focus.specs.Focus.{AllOfInput}
 use Rattle.nit_focus.specs.Reach.{HasForgotten, IsForgottenIfKilled}
 use Rattle.nit_events.proofs.ForCallers.{either}
 
@@ -213,10 +213,10 @@ module _ (P : ℕ → Type 0) (Q : Item → Type 0) (notices : AllOfNotices Q) w
   pressing : (held : List ℕ) (clicks : Bool) (pointed : Option ℕ) (i : InputState) (k : ℕ) → AllOfInput P i → IfSome pointed P → Q (item.Event (event.Press k))
       → IsStep P Q i.x i.y (input.pressing held clicks pointed i k)
   pressing [] clicks pointed i k known p q =
-      first_press i.mode clicks pointed (input.holding i k) k (record { receiver = known.receiver; hover = known.hover; focus = known.focus }) p q
+      first_press i.mode clicks pointed (input.with_held i k) k (record { receiver = known.receiver; hover = known.hover; focus = known.focus }) p q
   pressing (j ∷ js) clicks pointed i k known p q = record {
     sessions = record { receiver = known.receiver; hover = known.hover; focus = known.focus };
-    told = told_to i.receiver (event.Press k) known.receiver q (input.holding i k);
+    told = told_to i.receiver (event.Press k) known.receiver q (input.with_held i k);
     column = refl;
     row = refl;
   }

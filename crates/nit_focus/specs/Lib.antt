@@ -3,5 +3,5 @@ pub use Rattle.nit_events.specs.Input
 pub use Rattle.nit_events.specs.Ranges
 pub mod Held
 pub mod Outcome
-pub mod Focusing
+pub mod Focus
 pub mod Reach

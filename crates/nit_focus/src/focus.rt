@@ -3,7 +3,7 @@ ghost use Rattle.std.specs.List.{All};
 ghost use Rattle.nit_rect.specs.Screen.{IsOnScreen};
 ghost use Rattle.nit_events.specs.Input as input;
 ghost use Rattle.nit_events.specs.Ranges.{IsDevice};
-ghost use Rattle.nit_focus.specs.Focusing.{first_focusing, clicks_on_list, moved, pointer, route, AllOfInput};
+ghost use Rattle.nit_focus.specs.Focus.{first_focus, clicks_on_list, with_pointer, pointer, routing_at, AllOfInput};
 ghost use Rattle.nit_focus.specs.Reach.{IsWithinReach, IsItem, HasForgotten, IsForgottenIfKilled};
 ghost use Rattle.nit_rect.specs.Limits.{most_width, most_height, most_sessions};
 
@@ -12,8 +12,8 @@ use nit_events::{Device, Mode, Routed};
 use nit_rect::{MOST_SESSIONS, Point};
 use std::marker::Model;
 
-/// Where the user's input goes. It is seen as the state of the input beside the screen's size and, for each of 16
-/// sessions, whether a click on it moves the focus.
+/// Where the user's input goes. It is seen as the state of the input beside the screen's size and,
+/// for each of 16 sessions, whether a click on it moves the focus.
 #[derive(Drop)]
 pub struct Focus {
     width: u16,
@@ -23,9 +23,9 @@ pub struct Focus {
 }
 
 impl Model for Focus {
-    ghost use Rattle.nit_focus.specs.Focusing.{Focusing, IsFocusing};
+    ghost use Rattle.nit_focus.specs.Focus.{FocusModel, IsFocus};
 
-    ghost Value = { Focusing };
+    ghost Value = { FocusModel };
 
     ghost view = { λ f. record {
       input = f.state;
@@ -34,19 +34,19 @@ impl Model for Focus {
       clicks = f.clicks;
     } };
 
-    ghost invariant = { λ f. IsFocusing
+    ghost invariant = { λ f. IsFocus
         (record { input = f.state; width = f.width; height = f.height; clicks = f.clicks }) };
 }
 
 impl Focus {
-    /// Before the user has done anything, on a screen of 1..=1024 by 1..=768 pixels. A click on any session moves
-    /// the focus. It takes no memory.
+    /// Before the user has done anything, on a screen of 1..=1024 by 1..=768 pixels. A click on any
+    /// session moves the focus. It takes no memory.
     pub fn new(width: u32, height: u32) -> Focus
         requires narrowest { 1 ≤ width }
         requires widest { width ≤ most_width }
         requires lowest { 1 ≤ height }
         requires highest { height ≤ most_height }
-        ensures { result ≡ first_focusing width height }
+        ensures { result ≡ first_focus width height }
     {
         Focus {
             width: width as u16,
@@ -66,7 +66,7 @@ impl Focus {
 
     /// Where the pointer will be after this device event.
     pub fn clamp(&self, dev: Device) -> Point
-        ensures place { result ≡ pointer (moved self.now dev) }
+        ensures place { result ≡ pointer (with_pointer self.now dev) }
         ensures on_screen { IsOnScreen self.now.width self.now.height result }
     {
         let (x, y) = self.state.place_after(self.width, self.height, dev);
@@ -76,18 +76,20 @@ impl Focus {
         }
     }
 
-    /// One device event, whole: its codes are at most 767, and a wheel turns by -127..=127. `pointed` is the session
-    /// that owns the pixel at [`Focus::clamp`], below 16, or none.
+    /// One device event, whole: its codes are at most 767, and a wheel turns by -127..=127.
+    /// `pointed` is the session that owns the pixel at [`Focus::clamp`], below 16, or none.
     ///
-    /// The deliveries stand in their order, at most three, and go to sessions that were receiver, hovered or focused,
-    /// or are pointed. Who is one of the three afterwards is among these too, and was not killed.
+    /// The deliveries stand in their order, at most three, and go to sessions that were receiver,
+    /// hovered or focused, or are pointed. Who is one of the three afterwards is among these too,
+    /// and was not killed.
     pub fn input(&mut self, dev: Device, pointed: Option<u32>) -> Routed
         requires device { IsDevice dev }
         requires known { IfSome pointed (λ s. s < most_sessions) }
-        ensures state { self.new ≡ record self.old { input = (route self.old pointed dev).state } }
-        ensures routed { result ≡ input.routed_as (route self.old pointed dev).deliveries }
-        ensures all { input.deliveries_of result ≡ (route self.old pointed dev).deliveries }
-        ensures few { length (route self.old pointed dev).deliveries ≤ 3 }
+        ensures state { self.new
+            ≡ record self.old { input = (routing_at self.old pointed dev).state } }
+        ensures routed { result ≡ input.routed_as (routing_at self.old pointed dev).deliveries }
+        ensures all { input.deliveries_of result ≡ (routing_at self.old pointed dev).deliveries }
+        ensures few { length (routing_at self.old pointed dev).deliveries ≤ 3 }
         ensures reached { All (λ d. IsWithinReach self.old.input pointed d.sid)
             (input.deliveries_of result) }
         ensures sessions { All (λ d. d.sid < most_sessions) (input.deliveries_of result) }
@@ -102,7 +104,8 @@ impl Focus {
         self.state.route(clicks, pointed, dev).routed()
     }
 
-    /// A session that is killed or closed is forgotten: it is not the receiver, the hovered or the focused one.
+    /// A session that is killed or closed is forgotten: it is not the receiver, the hovered or the
+    /// focused one.
     pub fn forget(&mut self, sid: u32)
         ensures state { self.new ≡ record self.old { input = input.forget self.old.input sid } }
         ensures forgotten { HasForgotten self.new.input sid }

@@ -7,8 +7,8 @@ use std::marker::Model;
 /// How many codes there are, so as many may be held at most.
 const CODES: usize = 768;
 
-/// The codes of the keys and buttons that are held down, each at most 767 and no two equal, seen as their list in
-/// the order in which they went down.
+/// The codes of the keys and buttons that are held down, each at most 767 and no two equal, seen as
+/// their list in the order in which they went down.
 #[derive(Drop)]
 pub(crate) struct Held {
     codes: ArrayVec<u16, CODES>,

@@ -107,8 +107,8 @@ impl State {
         self.focus = unless_it_is(sid, self.focus);
     }
 
-    /// One device event: the pointer has moved already. `clicks` tells whether a click on the pointed session moves
-    /// the focus.
+    /// One device event: the pointer has moved already. `clicks` tells whether a click on the
+    /// pointed session moves the focus.
     pub(crate) fn route(&mut self, clicks: bool, pointed: Option<u32>, dev: Device) -> Told
         requires { IsDevice dev }
         ensures { outcome self.new result ≡ input.routing clicks pointed self.old dev }
@@ -132,7 +132,8 @@ impl State {
         }
     }
 
-    /// While nothing is held, it goes to the pointed session in the mode `Flat`, and to none in the other modes.
+    /// While nothing is held, it goes to the pointed session in the mode `Flat`, and to none in the
+    /// other modes.
     fn hovering(&mut self, pointed: Option<u32>, event: Event) -> Told
         ensures { outcome self.new result ≡ input.hovering self.old.mode pointed self.old event }
     {
@@ -191,7 +192,8 @@ impl State {
         }
     }
 
-    /// A code that is no mode key goes down: it is held, and the receiver of a first press is chosen by the mode.
+    /// A code that is no mode key goes down: it is held, and the receiver of a first press is
+    /// chosen by the mode.
     fn pressing(&mut self, clicks: bool, pointed: Option<u32>, code: u16) -> Told
         requires known { IsCode code }
         requires up { input.is_held self.old code ≡ false }
@@ -219,7 +221,8 @@ impl State {
         }
     }
 
-    /// A button goes to the pointed session, which is focused by a click; a key goes to the focused session.
+    /// A button goes to the pointed session, which is focused by a click; a key goes to the focused
+    /// session.
     fn flat_press(&mut self, clicks: bool, pointed: Option<u32>, code: u16) -> Told
         ensures { outcome self.new result ≡ input.first_press Flat clicks pointed self.old code }
     {
@@ -245,7 +248,8 @@ impl State {
         }
     }
 
-    /// The button that kills ends the mode and kills the pointed session; nobody gets what is pressed.
+    /// The button that kills ends the mode and kills the pointed session; nobody gets what is
+    /// pressed.
     fn kill_press(&mut self, pointed: Option<u32>, code: u16) -> Told
         ensures { outcome self.new result ≡ input.first_press Kill false pointed self.old code }
     {
@@ -273,8 +277,8 @@ impl State {
         told
     }
 
-    /// A click moves the focus to the pointed session, or to none where it points at none. A session that takes no
-    /// focus by clicks leaves it where it is.
+    /// A click moves the focus to the pointed session, or to none where it points at none. A
+    /// session that takes no focus by clicks leaves it where it is.
     fn focusing(&mut self, clicks: bool, pointed: Option<u32>) -> Told
         ensures step { outcome self.new result ≡ input.focusing clicks pointed self.old }
         ensures few { length result ≤ 2 }

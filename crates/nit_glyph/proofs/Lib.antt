@@ -1,4 +1,4 @@
-pub mod Glyphs
+pub mod GlyphTexts
 pub mod ZerosBehind
 pub mod PicturesTell
-pub mod Tests
+pub mod BoolLemmas

@@ -8,7 +8,7 @@ use Rattle.std.proofs.lemmas.Grind.{same_number_lists}
 use Rattle.std.proofs.lemmas.List.Sums.{AllPass-from_list_all}
 use Rattle.nit_glyph.specs.Glyphs.{glyphs}
 use Rattle.nit_glyph.specs.Pictures.{glyph_rows, glyph_row, row_has_dot, dot, IsOfGlyphs, SamePicture}
-use Rattle.nit_glyph.proofs.Tests.{implies, agree}
+use Rattle.nit_glyph.proofs.BoolLemmas.{implies, agree}
 
 -- a character with its rows
 abbrev Glyph : Type 0

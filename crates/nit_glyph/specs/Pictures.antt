@@ -4,7 +4,8 @@ use Rattle.std.specs.List.{list_all}
 use Rattle.std.specs.Option.{option_map}
 use Rattle.nit_glyph.specs.Glyphs.{glyphs}
 
--- the five rows of a character's glyph, from the top, by the table; none where the table has no such character
+-- the five rows of a character's glyph, from the top, by the table; none where the table has no
+-- such character
 unfoldable pub glyph_rows : ℕ → Option (List ℕ)
 glyph_rows c = option_map (λ g. g.1) (find (λ g. g.0 == c) glyphs)
 
@@ -12,7 +13,8 @@ glyph_rows c = option_map (λ g. g.1) (find (λ g. g.0 == c) glyphs)
 abbrev pub glyph_row : ℕ → ℕ → ℕ
 glyph_row c j = slice_index (unwrap_or (glyph_rows c) []) j
 
--- a row of a glyph has a dot in column 0, 1 or 2 where it has the bit of value 4, 2 or 1; column 3 is the free one
+-- a row of a glyph has a dot in column 0, 1 or 2 where it has the bit of value 4, 2 or 1; column 3
+-- is the free one
 abbrev pub row_has_dot : ℕ → ℕ → Bool
 row_has_dot row zero = bit_and row 4 == 4
 row_has_dot row (suc zero) = bit_and row 2 == 2
@@ -20,7 +22,8 @@ row_has_dot row (suc (suc zero)) = bit_and row 1 == 1
 row_has_dot row (suc (suc (suc _))) = false
 
 -- whether the picture of a text has a dot at column x and row y:
--- column 0 is the margin, and then each character has four columns; its five rows are the rows 1 to 5
+-- column 0 is the margin, and then each character has four columns; its five rows are the rows 1 to
+-- 5
 unfoldable pub dot : List ℕ → ℕ → ℕ → Bool
 dot text x y =
     nat_le 1 x && nat_le 1 y && nat_le y 5

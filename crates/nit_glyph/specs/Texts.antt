@@ -25,7 +25,8 @@ abbrev pub label_text_of : List ℕ → List ℕ → List ℕ
 label_text_of label [] = label
 label_text_of label (c ∷ title) = label ++ codes ":" ++ (c ∷ title)
 
--- the text of the status bar: the mode's word, and `:` and the focused session's label where there is one
+-- the text of the status bar: the mode's word, and `:` and the focused session's label where there
+-- is one
 abbrev pub bar_text_of : List ℕ → Option (List ℕ) → List ℕ
 bar_text_of mode None = mode
 bar_text_of mode (Some focus) = mode ++ codes ":" ++ focus

@@ -65,8 +65,8 @@ pub fn label_bit(text: &LabelText, x: u32, y: u32) -> bool
     }
 }
 
-/// Different texts have different pictures: two texts of the glyphs whose pictures have the same size
-/// and the same dots are the same text.
+/// Different texts have different pictures: two texts of the glyphs whose pictures have the same
+/// size and the same dots are the same text.
 pub fn pictures_tell_texts()
     ensures { (s t : List ℕ) → IsOfGlyphs s → IsOfGlyphs t → SamePicture s t → s ≡ t }
 {}

@@ -10,12 +10,12 @@ use Rattle.nit_script.specs.declared.line.Line.{Line}
 use Rattle.nit_script.specs.declared.line.Line.TheVariants as line
 use Rattle.nit_script.specs.declared.line.InputLine.{InputLine}
 use Rattle.nit_script.specs.Phases.{is_phase}
-use Rattle.nit_ledger.specs.Books.{raised}
-use Rattle.nit_plan.specs.Sessions.{script_in}
-use Rattle.nit_hall.specs.Lines.{is_served, served, phases_before, input_phases_before}
-use Rattle.nit_hall.specs.Rooms.{IsServedPhase, after_arrival, phases_ended}
-use Rattle.nit_hall.proofs.Lines.{count_cons, front_filter, served_counted}
-use Rattle.nit_hall.proofs.Following.{IsNext, script_there}
+use Rattle.nit_ledger.specs.Book.{raised}
+use Rattle.nit_plan.specs.SessionLists.{script_in}
+use Rattle.nit_hall.specs.ServedLines.{is_served, served, phases_before, input_phases_before}
+use Rattle.nit_hall.specs.Room.{IsServedPhase, after_arrival, phases_ended}
+use Rattle.nit_hall.proofs.LineLemmas.{count_cons, front_filter, served_counted}
+use Rattle.nit_hall.proofs.ScriptsFollowed.{IsNext, script_there}
 
 -- ---- what each actor has ended
 

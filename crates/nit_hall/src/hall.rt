@@ -3,11 +3,11 @@
 ghost use Rattle.std.specs.Prelude.{◌≡◌, ◌==◌, ◌+◌, ◌*◌, ◌≤◌, All, length};
 ghost use mathlib.Core.List.{IsPrefix};
 ghost use Rattle.nit_word.specs.Inks.{IsWord};
-ghost use Rattle.nit_journal.specs.Journals.{IsLegal, IsOpen};
-ghost use Rattle.nit_hall.specs.Passes.{Belongs, UserBelongs, IsAtCall, IsAtPhase, IsAtUserPhase};
-ghost use Rattle.nit_hall.specs.Passes.{HasLoaded, IsAtDevice, IsAtShot, call_entry, device_entry};
-ghost use Rattle.nit_hall.specs.Passes.{sight_after_line};
-ghost use Rattle.nit_hall.specs.Told.{IsMeasured, Tells, TellsShot};
+ghost use Rattle.nit_journal.specs.Replay.{IsLegal, IsOpen};
+ghost use Rattle.nit_hall.specs.Pass.{Belongs, UserBelongs, IsAtCall, IsAtPhase, IsAtUserPhase};
+ghost use Rattle.nit_hall.specs.Pass.{HasLoaded, IsAtDevice, IsAtShot, call_entry, device_entry};
+ghost use Rattle.nit_hall.specs.Pass.{sight_after_line};
+ghost use Rattle.nit_hall.specs.Hall.{IsMeasured, Tells, TellsShot};
 
 use crate::pass::Pass;
 use crate::room::Room;
@@ -19,14 +19,14 @@ use std::sync::{Condvar, Mutex, Wait};
 /// Which opening it is: the name of its book, its configuration, scripts, plans and input script.
 /// Contracts alone know it, and a run picks it once, after [`open`](crate::open).
 pub trait Name {
-    ghost use Rattle.nit_hall.specs.Parts.{Parts};
+    ghost use Rattle.nit_hall.specs.OpeningParts.{OpeningParts};
 
-    ghost parts: { Parts };
+    ghost parts: { OpeningParts };
 }
 
 impl Name for Brand {
     ghost use Rattle.std.specs.Prelude.{[], false};
-    ghost use Rattle.nit_ledger.specs.Seats.{no_name};
+    ghost use Rattle.nit_ledger.specs.BookSeat.{no_name};
 
     ghost parts = { record {
       name = no_name;
@@ -46,8 +46,8 @@ struct Kept<'a, N: Name> {
 
 impl<'a, N: Name> Model for Kept<'a, N> {
     ghost use Rattle.std.specs.Prelude.{◌≡◌};
-    ghost use Rattle.nit_journal.specs.Journals.{IsOpen};
-    ghost use Rattle.nit_hall.specs.Rooms.{RoomModel};
+    ghost use Rattle.nit_journal.specs.Replay.{IsOpen};
+    ghost use Rattle.nit_hall.specs.Room.{RoomModel};
 
     ghost Value = { RoomModel };
 

@@ -9,13 +9,13 @@ ghost use Rattle.std.specs.Prelude.{◌≡◌, ◌+◌, ◌*◌, ◌≤◌, ◌=
 ghost use Rattle.std.specs.Prelude.{take, slice_index, Some};
 ghost use mathlib.Core.List.{IsPrefix};
 ghost use Rattle.nit_word.specs.Channels.{bare_word};
-ghost use Rattle.nit_journal.specs.Journals.{IsLegal};
-ghost use Rattle.nit_plan.specs.Painting.{IsPaintedTo};
-ghost use Rattle.nit_plan.specs.Plans.{words_after};
-ghost use Rattle.nit_hall.specs.Passes.{Belongs, UserBelongs};
-ghost use Rattle.nit_hall.specs.Near.{AreNear};
-ghost use Rattle.nit_hall.specs.Lines.{served, lines_of_all};
-ghost use Rattle.nit_hall.specs.Rooms.{HaveInks, IsRoom, without_final};
+ghost use Rattle.nit_journal.specs.Replay.{IsLegal};
+ghost use Rattle.nit_plan.specs.Surface.{IsPaintedTo};
+ghost use Rattle.nit_plan.specs.ScriptWords.{words_after};
+ghost use Rattle.nit_hall.specs.Pass.{Belongs, UserBelongs};
+ghost use Rattle.nit_hall.specs.NearWords.{AreNear};
+ghost use Rattle.nit_hall.specs.ServedLines.{served, lines_of_all};
+ghost use Rattle.nit_hall.specs.Room.{HaveInks, IsRoom, without_final};
 
 use crate::pass::Pass;
 use crate::user::UserPass;
@@ -42,7 +42,7 @@ pub struct Room<'a> {
 
 impl<'a> Model for Room<'a> {
     ghost use Rattle.std.specs.Prelude.{◌≡◌};
-    ghost use Rattle.nit_hall.specs.Rooms.{RoomModel, IsRoom, without_final};
+    ghost use Rattle.nit_hall.specs.Room.{RoomModel, IsRoom, without_final};
 
     ghost Value = { RoomModel };
 

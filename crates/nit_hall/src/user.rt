@@ -2,9 +2,9 @@
 
 ghost use Rattle.std.specs.Prelude.{◌≡◌, ◌<◌, ◌≤◌, ◌==◌, [], length, IfNone, slice_get, take};
 ghost use Rattle.nit_events.specs.Ranges.{IsDevice};
-ghost use Rattle.nit_journal.specs.Whole.{deeds_of};
-ghost use Rattle.nit_hall.specs.Lines.{deeds_in, input_phases_before};
-ghost use Rattle.nit_hall.specs.Passes.{IsAtDevice, next_device};
+ghost use Rattle.nit_journal.specs.WholeJournals.{user_actions_of};
+ghost use Rattle.nit_hall.specs.ServedLines.{user_actions_in, input_phases_before};
+ghost use Rattle.nit_hall.specs.Pass.{IsAtDevice, next_device};
 
 use nit_events::Device;
 use nit_ledger::Share;
@@ -22,7 +22,7 @@ pub struct UserPass<'a> {
 }
 
 impl<'a> Model for UserPass<'a> {
-    ghost use Rattle.nit_hall.specs.Passes.{UserPassModel, IsUserPass};
+    ghost use Rattle.nit_hall.specs.Pass.{UserPassModel, IsUserPass};
 
     ghost Value = { UserPassModel };
 
@@ -96,13 +96,14 @@ impl<'a> UserPass<'a> {
     pub fn next(&self) -> Option<InputLine>
         ensures line { result ≡ slice_get self.now.input self.now.next }
         ensures end { IfNone result (self.now.next ≡ length self.now.input) }
-        ensures known { deeds_of self.now.seen ≡ deeds_in (take self.now.next self.now.input) }
+        ensures known { user_actions_of self.now.seen
+            ≡ user_actions_in (take self.now.next self.now.input) }
     {
         self.input.lines().get(self.next as usize).copied()
     }
 
     /// The next line, which is of a device.
-    #[tactic(auto, using(crate::proofs::Lines::device_fits))]
+    #[tactic(auto, using(crate::proofs::LineLemmas::device_fits))]
     pub(crate) fn next_device(&self) -> Device
         requires { IsAtDevice self.now }
         ensures device { result ≡ next_device self.now }

@@ -16,7 +16,7 @@ use Rattle.nit_events.specs.declared.entry.Entry.TheVariants as entry
 use Rattle.nit_events.specs.Input
 use Rattle.nit_stack.specs.Sources.{point}
 use Rattle.nit_config.specs.Configuration.{member}
-use Rattle.nit_journal.specs.Views.{is_accepted}
+use Rattle.nit_journal.specs.StackAfter.{is_accepted}
 use Rattle.nit_journal.specs.State.{State, clicks_on, route, owner_of, after}
 
 -- ---- calls
@@ -93,7 +93,7 @@ by_first Kill clicks pointed i k = λ x e.
     (λ kills. by_killing (Clicks Kill clicks pointed k) pointed i) (λ other y d. inl d) x e
 
 by_pressing : (held : List ℕ) (clicks : Bool) (pointed : Option ℕ) (i : Input.InputState) (k : ℕ) → Makes (Clicks i.mode clicks pointed k) i (Input.pressing held clicks pointed i k)
-by_pressing [] clicks pointed i k = by_first i.mode clicks pointed (Input.holding i k) k
+by_pressing [] clicks pointed i k = by_first i.mode clicks pointed (Input.with_held i k) k
 by_pressing (j ∷ js) clicks pointed i k = λ x e. inl e
 
 -- no other device event changes the focus

@@ -10,17 +10,17 @@ use Rattle.nit_events.specs.declared.entry.Entry.{Entry}
 use Rattle.nit_events.specs.declared.entry.Entry.TheVariants as entry
 use Rattle.nit_events.specs.Input.{deliveries_of}
 use Rattle.nit_config.specs.Configuration.{Configuration, donation_of}
-use Rattle.nit_journal.specs.Session.{Session, opened, serve, receive}
-use Rattle.nit_journal.specs.State.{State, opening, session_in, session, delivered, route, after}
-use Rattle.nit_journal.specs.Journals.{Agrees, LegalFrom, IsLegal}
-use Rattle.nit_journal.specs.Projections.{Moment, Calls, Gets, items_to, projection, replies_to, replies_from, alone}
-use Rattle.nit_journal.proofs.Sessions.{opens, there_at_first, call_of_its_own, call_of_another, handed, still_handed, handed_to_it, handed_to_another, still_there}
-use Rattle.nit_journal.proofs.Deliveries.{all_kept}
+use Rattle.nit_journal.specs.Session.{Session, first_session, serve, receive}
+use Rattle.nit_journal.specs.State.{State, first_state, session_in, session, delivered, route, after}
+use Rattle.nit_journal.specs.Replay.{Agrees, LegalFrom, IsLegal}
+use Rattle.nit_journal.specs.Projection.{Observation, Calls, Gets, items_to, projection, replies_to, replies_from, alone}
+use Rattle.nit_journal.proofs.SessionLists.{opens, there_at_first, call_of_its_own, call_of_another, handed, still_handed, handed_to_it, handed_to_another, still_there}
+use Rattle.nit_journal.proofs.DeliveryLemmas.{all_kept}
 
 -- ---- the replies of one session
 
 -- the deliveries that go to it are items of its machine, and no others matter
-items : (ds : List Delivery) (sessions : List Session) (x : ℕ) (more : List Moment) → x < length sessions
+items : (ds : List Delivery) (sessions : List Session) (x : ℕ) (more : List Observation) → x < length sessions
     → replies_from (session_in sessions x) (items_to x ds ++ more) ≡ replies_from (session_in (delivered ds sessions) x) more
 items [] sessions x more lt = refl
 items (d ∷ ds) sessions x more lt =
@@ -66,12 +66,12 @@ isolated s taken (entry.Call sid call r ∷ rest) x legal lt =
     ]
 
 pub served_alone : (config : Configuration) (journal : List Entry) (s : ℕ) → IsLegal config journal → s < length config.clients → replies_to s journal ≡ alone (donation_of config s) (projection s journal)
-served_alone config journal s legal lt = isolated (opening config) 0 journal s legal (there_at_first config s lt) ∙ ap (λ (t : Session). replies_from t (projection s journal)) (opens config s lt)
+served_alone config journal s legal lt = isolated (first_state config) 0 journal s legal (there_at_first config s lt) ∙ ap (λ (t : Session). replies_from t (projection s journal)) (opens config s lt)
 
 -- ---- two worlds
 
 -- more moments add replies at the end
-longer : (t : Session) (moments more : List Moment) → (rest : List Reply) × (replies_from t (moments ++ more) ≡ replies_from t moments ++ rest)
+longer : (t : Session) (moments more : List Observation) → (rest : List Reply) × (replies_from t (moments ++ more) ≡ replies_from t moments ++ rest)
 longer t [] more = (replies_from t more, refl)
 longer t (Calls call ∷ moments) more =
     let next = longer (serve t call).session moments more in
@@ -79,10 +79,10 @@ longer t (Calls call ∷ moments) more =
 longer t (Gets i ∷ moments) more = longer (receive t i) moments more
 
 pub two_fronts : (c d : Configuration) (js ks : List Entry) (s t : ℕ) → IsLegal c js → IsLegal d ks → s < length c.clients → t < length d.clients
-    → donation_of c s ≡ donation_of d t → (more : List Moment) → projection t ks ≡ projection s js ++ more
+    → donation_of c s ≡ donation_of d t → (more : List Observation) → projection t ks ≡ projection s js ++ more
     → (rest : List Reply) × (replies_to t ks ≡ replies_to s js ++ rest)
 two_fronts c d js ks s t p q lt ld same more longer_by =
-    let there = longer (opened (donation_of d t)) (projection s js) more in
+    let there = longer (first_session (donation_of d t)) (projection s js) more in
     let mine : replies_to s js ≡ alone (donation_of d t) (projection s js) = served_alone c js s p lt ∙ ap (λ (n : ℕ). alone n (projection s js)) same in
     let theirs : replies_to t ks ≡ alone (donation_of d t) (projection s js ++ more) = served_alone d ks t q ld ∙ ap (alone (donation_of d t)) longer_by in
     (there.0, theirs ∙ there.1 ∙ ap (λ (rs : List Reply). rs ++ there.0) (sym mine))

@@ -4,8 +4,8 @@ use Rattle.std.proofs.lemmas.List.Sums.{fold-append}
 use Rattle.nit_events.specs.declared.entry.Entry.{Entry}
 use Rattle.nit_events.specs.declared.entry.Entry.TheVariants as entry
 use Rattle.nit_config.specs.Configuration.{Configuration}
-use Rattle.nit_journal.specs.State.{State, opening, after}
-use Rattle.nit_journal.specs.Journals.{replay_from, replay, LegalFrom, IsLegal, Agrees, IsOpen, shots}
+use Rattle.nit_journal.specs.State.{State, first_state, after}
+use Rattle.nit_journal.specs.Replay.{replay_from, replay, LegalFrom, IsLegal, Agrees, IsOpen, shots}
 
 pub replay_more : (s : State) (journal : List Entry) (e : Entry) → replay_from s (journal ++ e ∷ []) ≡ after (replay_from s journal) e
 replay_more s journal e = fold-append after s journal (e ∷ [])
@@ -70,4 +70,4 @@ next_agrees s taken (entry.Shot number ∷ front) e rest legal =
 next_agrees s taken (entry.Final ∷ front) e rest legal = absurd (some_behind front e rest legal)
 
 pub agrees_behind : (config : Configuration) (front : List Entry) (e : Entry) (rest : List Entry) → IsLegal config (front ++ e ∷ rest) → Agrees (replay config front) (shots front) e
-agrees_behind config front e rest legal = subst (λ (n : ℕ). Agrees (replay config front) n e) (zero-add (shots front)) (next_agrees (opening config) 0 front e rest legal)
+agrees_behind config front e rest legal = subst (λ (n : ℕ). Agrees (replay config front) n e) (zero-add (shots front)) (next_agrees (first_state config) 0 front e rest legal)

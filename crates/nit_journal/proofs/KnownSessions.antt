@@ -137,7 +137,7 @@ module _ (P : ℕ → Type 0) where
       (either (IsStep P) (k == Input.kill_button) (Input.killing pointed i) (Input.ignored i) (killing pointed i known p) (inl (ignored i known)))
 
   pressing : (held : List ℕ) (clicks : Bool) (pointed : Option ℕ) (i : InputState) (k : ℕ) → Knows P i → IfSome pointed P → IsStep P (Input.pressing held clicks pointed i k)
-  pressing [] clicks pointed i k known p = first_press i.mode clicks pointed (Input.holding i k) k (record { receiver = known.receiver; hover = known.hover; focus = known.focus }) p
+  pressing [] clicks pointed i k known p = first_press i.mode clicks pointed (Input.with_held i k) k (record { receiver = known.receiver; hover = known.hover; focus = known.focus }) p
   pressing (j ∷ js) clicks pointed i k known p =
       inl (record { known = record { receiver = known.receiver; hover = known.hover; focus = known.focus }; told = told_to i.receiver (event.Press k) known.receiver })
 

@@ -9,7 +9,7 @@ use Rattle.nit_events.specs.declared.call.Reply.{Reply}
 use Rattle.nit_events.specs.declared.entry.Entry.TheVariants as entry
 use Rattle.nit_journal.specs.Session.{Session, refusal, taking, accepted, by_refusal, serve}
 use Rattle.nit_journal.specs.State.{State, session_in, session, after}
-use Rattle.nit_journal.proofs.Sessions.{call_of_its_own, call_of_another}
+use Rattle.nit_journal.proofs.SessionLists.{call_of_its_own, call_of_another}
 
 -- events are taken from the front of a queue, and none is put in
 abbrev IsTaken : List Event → List Event → Type 0

@@ -17,11 +17,11 @@ use Rattle.nit_slots.specs.Account.{view_need, view_left, buffer_need, buffer_le
 use Rattle.nit_config.specs.Configuration.{Configuration}
 use Rattle.nit_journal.specs.Session.{Session, ◌orelse◌, unless, by_status, has_view, by_handle, is_side, by_quota, by_reserve, by_call, refusal, taking, accepted, by_refusal, serve}
 use Rattle.nit_journal.specs.State.{session}
-use Rattle.nit_journal.specs.Journals.{IsLegal, Agrees, replay, shots}
-use Rattle.nit_journal.specs.Projections.{own_machine}
+use Rattle.nit_journal.specs.Replay.{IsLegal, Agrees, replay, shots}
+use Rattle.nit_journal.specs.Projection.{own_machine}
 use Rattle.nit_journal.proofs.JournalFronts.{agrees_behind}
-use Rattle.nit_journal.proofs.Sessions.{as_many_as_clients}
-use Rattle.nit_journal.proofs.CallsAlone.{answered_alike}
+use Rattle.nit_journal.proofs.SessionLists.{as_many_as_clients}
+use Rattle.nit_journal.proofs.OwnCalls.{answered_alike}
 
 -- a reply that says what is needed and what is left; less is left
 abbrev IsShort : Reply → Type 0

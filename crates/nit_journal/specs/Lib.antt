@@ -5,12 +5,12 @@ pub use Rattle.nit_stack.specs.Sources
 pub use Rattle.nit_stack.specs.Orders
 pub use Rattle.nit_events.specs.Input
 pub use Rattle.nit_config.specs.Configuration
-pub mod Kept
+pub mod Journal
 pub mod Session
-pub mod Views
+pub mod StackAfter
 pub mod State
-pub mod Journals
-pub mod Projections
-pub mod Whole
+pub mod Replay
+pub mod Projection
+pub mod WholeJournals
 pub mod Deliveries
 pub mod Presses

@@ -16,8 +16,8 @@ use Rattle.nit_slots.specs.Account.{room, view_need, view_left, buffer_need, buf
 use Rattle.nit_rect.specs.Limits.{most_side}
 use Rattle.nit_events.specs.Ranges.{most_waiting}
 
--- its donation and reserve in units; whether it is served; the width and height of its buffer; the handle of
--- its next view; its handles; its queued events; how many events were lost
+-- its donation and reserve in units; whether it is served; the width and height of its buffer; the
+-- handle of its next view; its handles; its queued events; how many events were lost
 pub record Session : Type 0 where
   pub donation : ℕ
   pub reserve : ℕ
@@ -30,8 +30,8 @@ pub record Session : Type 0 where
   pub lost : ℕ
 
 -- a session as it opens with a donation
-abbrev pub opened : ℕ → Session
-opened donation =
+abbrev pub first_session : ℕ → Session
+first_session donation =
     record {
       donation = donation;
       reserve = room donation - donation;

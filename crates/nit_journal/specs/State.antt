@@ -14,11 +14,11 @@ use Rattle.nit_events.specs.Input.{InputState, Routing, first_input, forget, poi
 use Rattle.nit_stack.specs.declared.view.View.{View}
 use Rattle.nit_stack.specs.Sources.{Size, PixelSource, point, owner, source}
 use Rattle.nit_config.specs.Configuration.{Configuration, bar_rows, member}
-use Rattle.nit_journal.specs.Session.{Session, opened, serve, receive}
-use Rattle.nit_journal.specs.Views.{is_accepted, stack_after_call, after_deliveries}
+use Rattle.nit_journal.specs.Session.{Session, first_session, serve, receive}
+use Rattle.nit_journal.specs.StackAfter.{is_accepted, stack_after_call, after_deliveries}
 
--- the configuration, which no entry changes; a machine for each session; all views, front first; and the
--- state of the user's input
+-- the configuration, which no entry changes; a machine for each session; all views, front first;
+-- and the state of the user's input
 pub record State : Type 0 where
   pub config : Configuration
   pub sessions : List Session
@@ -26,18 +26,18 @@ pub record State : Type 0 where
   pub input : InputState
 
 -- before the first entry
-abbrev pub opening : Configuration → State
-opening config =
+abbrev pub first_state : Configuration → State
+first_state config =
     record {
       config = config;
-      sessions = map (λ m. opened m.donation) config.clients;
+      sessions = map (λ m. first_session m.donation) config.clients;
       stack = [];
       input = first_input;
     }
 
 -- a session of the state; one without a donation where there is none
 abbrev pub session_in : List Session → ℕ → Session
-session_in sessions sid = slice_index_or sessions sid (opened 0)
+session_in sessions sid = slice_index_or sessions sid (first_session 0)
 
 abbrev pub session : State → ℕ → Session
 session s sid = session_in s.sessions sid
@@ -55,10 +55,10 @@ buffer_size sessions sid =
 abbrev pub owner_of : State → Point → Option View
 owner_of s p = owner (bar_rows s.config) s.stack p
 
--- The user presses a button on a pixel of this session, in mode Flat or Xray, and the session takes the focus by
--- clicks.
-abbrev pub IsClickOn : State → Device → ℕ → Type 0
-IsClickOn s dev x =
+-- The user presses a button on a pixel of this session, in mode Flat or Xray, and the session takes
+-- the focus by clicks.
+abbrev pub IsClickAt : State → Device → ℕ → Type 0
+IsClickAt s dev x =
     (k : ℕ) × (dev ≡ device.Press k) × (is_button k ≡ true)
     × ((s.input.mode ≡ Flat) ⊎ (s.input.mode ≡ Xray))
     × (option_map (λ v. v.sid) (owner_of s (point s.input.x s.input.y)) ≡ Some x)
@@ -79,8 +79,8 @@ abbrev pub clicks_on : Configuration → Option ℕ → Bool
 clicks_on config None = false
 clicks_on config (Some sid) = (member config sid).clicks
 
--- how a device event is routed: the pointer moves first, and the pointed session is that of the owner of the
--- pixel under it
+-- how a device event is routed: the pointer moves first, and the pointed session is that of the
+-- owner of the pixel under it
 unfoldable pub route : Configuration → InputState → List View → Device → Routing
 route config i stack dev =
     let moved = pointer_after config.width config.height i dev in

@@ -16,9 +16,9 @@ pub struct Journal {
 
 impl Model for Journal {
     ghost use Rattle.std.specs.Prelude.{◌+◌, ◌≤◌, vec_len, vec_capacity};
-    ghost use Rattle.nit_journal.specs.Kept.{Kept};
+    ghost use Rattle.nit_journal.specs.Journal.{JournalModel};
 
-    ghost Value = { Kept };
+    ghost Value = { JournalModel };
 
     ghost view = { λ j. record { entries = j.entries.items; spare = j.spare } };
 

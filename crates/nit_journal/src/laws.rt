@@ -17,12 +17,12 @@ ghost use Rattle.nit_events.specs.Input.{InputState, deliveries_of};
 ghost use Rattle.nit_stack.specs.declared.view.View.{View};
 ghost use Rattle.nit_config.specs.Configuration.{Configuration, donation_of};
 ghost use Rattle.nit_journal.specs.Session.{serve};
-ghost use Rattle.nit_journal.specs.Views.{is_accepted};
-ghost use Rattle.nit_journal.specs.State.{State, session, route, after, IsClickOn};
-ghost use Rattle.nit_journal.specs.Journals.{replay_from, replay, LegalFrom, IsLegal, Agrees, IsOpen, shots};
+ghost use Rattle.nit_journal.specs.StackAfter.{is_accepted};
+ghost use Rattle.nit_journal.specs.State.{State, session, route, after, IsClickAt};
+ghost use Rattle.nit_journal.specs.Replay.{replay_from, replay, LegalFrom, IsLegal, Agrees, IsOpen, shots};
 ghost use Rattle.nit_journal.specs.Presses.{IsDown};
-ghost use Rattle.nit_journal.specs.Projections.{Gets, Moment, projection, replies_to, alone, alone_machine, own_machine};
-ghost use Rattle.nit_journal.specs.Whole.{act_of};
+ghost use Rattle.nit_journal.specs.Projection.{Gets, Observation, projection, replies_to, alone, alone_machine, own_machine};
+ghost use Rattle.nit_journal.specs.WholeJournals.{action_of};
 ghost use Rattle.nit_journal.specs.Deliveries.{IsKillAlone, IsLive};
 
 /// A journal with one more entry: it leads to the state after that entry, and it is legal where the
@@ -54,7 +54,7 @@ pub fn fronts_are_legal()
 /// calls of the same sessions, the same device events, shots and last picture, in the same order.
 pub fn same_acts_same_journal()
     ensures { (config : Configuration) (js ks : List Entry)
-        → IsLegal config js → IsLegal config ks → map act_of js ≡ map act_of ks → js ≡ ks }
+        → IsLegal config js → IsLegal config ks → map action_of js ≡ map action_of ks → js ≡ ks }
 {}
 
 /// No entry changes the configuration, and whatever happens there is one session for each client.
@@ -95,7 +95,8 @@ pub fn deliveries_go_to_live_sessions()
 /// Among the items that a legal journal routes to a session, each release of a code follows a press
 /// of it, with no other release of it between.
 pub fn releases_follow_presses()
-    ensures { (config : Configuration) (journal : List Entry) (s k : ℕ) (before rest : List Moment)
+    ensures { (config : Configuration) (journal : List Entry) (s k : ℕ)
+        (before rest : List Observation)
         → IsLegal config journal
         → projection s journal ≡ before ++ Gets (item.Event (event.Release k)) ∷ rest
         → IsDown k before }
@@ -130,7 +131,7 @@ pub fn two_worlds()
     ensures longer { (c d : Configuration) (js ks : List Entry) (s t : ℕ)
         → IsLegal c js → IsLegal d ks → s < length c.clients → t < length d.clients
         → donation_of c s ≡ donation_of d t
-        → (more : List Moment) → projection t ks ≡ projection s js ++ more
+        → (more : List Observation) → projection t ks ≡ projection s js ++ more
         → (rest : List Reply) × (replies_to t ks ≡ replies_to s js ++ rest) }
 {}
 
@@ -189,5 +190,5 @@ pub fn focus_is_the_users()
         → (after s (entry.Call sid Close r)).input.focus ≡ None }
     ensures clicks { (s : State) (dev : Device) (routed : Routed) (x : ℕ)
         → (after s (entry.Input dev routed)).input.focus ≡ Some x
-        → (s.input.focus ≡ Some x) ⊎ IsClickOn s dev x }
+        → (s.input.focus ≡ Some x) ⊎ IsClickAt s dev x }
 {}

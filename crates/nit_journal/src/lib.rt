@@ -1,8 +1,8 @@
-//! The journal, and what it means: the machine of a session, what the stack is after an entry, the state
-//! that a journal leads to, which journals are legal, and what a client sees of one.
+//! The journal, and what it means: the machine of a session, what the stack is after an entry, the
+//! state that a journal leads to, which journals are legal, and what a client sees of one.
 //!
-//! [`refusing`] has the reasons for which a session's machine refuses a call, for every crate that keeps a
-//! session.
+//! [`refusing`] has the reasons for which a session's machine refuses a call, for every crate that
+//! keeps a session.
 #![tactic(auto)]
 
 mod journal;

@@ -1,7 +1,7 @@
 -- Counts of which one rises.
 use Rattle.std.proofs.Common.{◌≡◌, ◌∙◌, ℕ, List, set, ap, slice_index, add-zero}
 use Rattle.std.proofs.lemmas.List.{set-get_or}
-use Rattle.nit_ledger.specs.Books.{raised_by}
+use Rattle.nit_ledger.specs.Book.{raised_by}
 
 -- a count that rises by nothing stays
 pub raised_by-zero : (counts : List ℕ) (number : ℕ) → raised_by counts number 0 ≡ counts

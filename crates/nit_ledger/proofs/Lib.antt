@@ -1,3 +1,3 @@
 pub mod Counts
-pub mod Fronts
-pub mod Moves
+pub mod Prefixes
+pub mod BookRuleLemmas

@@ -1,3 +1,3 @@
-pub mod Books
-pub mod Seats
-pub mod Views
+pub mod Book
+pub mod BookSeat
+pub mod BookRule

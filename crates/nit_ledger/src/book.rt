@@ -1,6 +1,6 @@
 //! A book, and what its shares do at it.
 ghost use Rattle.std.specs.Prelude.{◌≡◌, ◌+◌, ◌<◌, [], ◌∷◌, ◌++◌, length, IfOk};
-ghost use Rattle.nit_ledger.specs.Books.{raised, raised_by, IsShareOf, most_shares};
+ghost use Rattle.nit_ledger.specs.Book.{raised, raised_by, IsShareOf, most_shares};
 
 use crate::share::Share;
 use crate::steps::{Adding, Counting, Deed, Item, Looking};
@@ -12,8 +12,8 @@ use nit_rect::NoMemory;
 use std::alloc::Global;
 use std::marker::{Brand, Model};
 
-/// Entries that only grow, and a count for each share. It is seen as its name, the list of its entries
-/// and the list of its counts, one for each share that it has made.
+/// Entries that only grow, and a count for each share. It is seen as its name, the list of its
+/// entries and the list of its counts, one for each share that it has made.
 #[derive(Drop)]
 pub struct Book {
     pages: Pages,
@@ -21,12 +21,12 @@ pub struct Book {
 }
 
 impl Model for Book {
-    ghost use Rattle.nit_ledger.specs.Books.{Ledger};
-    ghost use Rattle.nit_ledger.specs.Seats.{ledger_of, IsSeatOf, IsResting};
+    ghost use Rattle.nit_ledger.specs.Book.{BookModel};
+    ghost use Rattle.nit_ledger.specs.BookSeat.{book_model_of, IsSeatOf, IsResting};
 
-    ghost Value = { Ledger };
+    ghost Value = { BookModel };
 
-    ghost view = { λ b. ledger_of b.seat };
+    ghost view = { λ b. book_model_of b.seat };
 
     ghost invariant = { λ b. IsSeatOf b.pages.shared.table_id b.seat × IsResting b.seat };
 }
@@ -41,8 +41,8 @@ impl Book {
         Ok(Book { pages, seat })
     }
 
-    /// A new share, whose number is the number of shares before. It has counted nothing and has seen all
-    /// entries. The book has fewer than 64 shares.
+    /// A new share, whose number is the number of shares before. It has counted nothing and has
+    /// seen all entries. The book has fewer than 64 shares.
     pub fn share(&mut self) -> Share
         requires { length self.old.counts < most_shares }
         ensures book { self.new ≡ record self.old { counts = self.old.counts ++ 0 ∷ [] } }
@@ -58,8 +58,8 @@ impl Book {
         }
     }
 
-    /// Adds an entry, which the share counts. The share is of this book. After it the share has seen all
-    /// entries.
+    /// Adds an entry, which the share counts. The share is of this book. After it the share has
+    /// seen all entries.
     pub fn append(&mut self, share: &mut Share, e: &Entry)
         requires { share.old.name ≡ self.old.name }
         ensures book { self.new ≡ record self.old {
@@ -73,8 +73,8 @@ impl Book {
         self.add::<Brand>(share, e);
     }
 
-    /// The share counts, and no entry is added. The share is of this book. After it the share has seen
-    /// all entries.
+    /// The share counts, and no entry is added. The share is of this book. After it the share has
+    /// seen all entries.
     pub fn count(&mut self, share: &mut Share)
         requires { share.old.name ≡ self.old.name }
         ensures book { self.new

@@ -8,11 +8,11 @@ use std::marker::{Brand, PhantomData};
 pub(crate) struct Opens;
 
 impl Split<BookView> for Opens {
-    ghost use Rattle.nit_ledger.specs.Views.{opened, newest};
+    ghost use Rattle.nit_ledger.specs.BookRule.{book_after_split, newest_share};
 
-    ghost left = { opened };
+    ghost left = { book_after_split };
 
-    ghost right = { newest };
+    ghost right = { newest_share };
 }
 
 /// A share is taken in, and is given back.
@@ -20,7 +20,7 @@ pub(crate) struct Carries;
 
 impl Join<BookView> for Carries {
     ghost use Rattle.nit_ledger.specs.declared.view.BookView.TheVariants.{Spent};
-    ghost use Rattle.nit_ledger.specs.Views.{with_share};
+    ghost use Rattle.nit_ledger.specs.BookRule.{with_share};
 
     ghost both = { with_share };
 
@@ -28,15 +28,15 @@ impl Join<BookView> for Carries {
 }
 
 impl Split<BookView> for Carries {
-    ghost use Rattle.nit_ledger.specs.Views.{without_share, share_in};
+    ghost use Rattle.nit_ledger.specs.BookRule.{without_share, share_in};
 
     ghost left = { without_share };
 
     ghost right = { share_in };
 }
 
-/// What the share that is taken in does: which entries it adds, and by how much its count rises. After it
-/// the share has seen all entries.
+/// What the share that is taken in does: which entries it adds, and by how much its count rises.
+/// After it the share has seen all entries.
 pub(crate) trait Deed {
     ghost use Rattle.std.specs.Prelude.{ℕ, List};
     ghost use Rattle.nit_events.specs.declared.entry.Entry.{Entry};
@@ -50,9 +50,9 @@ pub(crate) trait Deed {
 pub(crate) struct Does<D: Deed>(PhantomData<D>);
 
 impl<D: Deed> Play<(), BookView> for Does<D> {
-    ghost use Rattle.nit_ledger.specs.Views.{Done};
+    ghost use Rattle.nit_ledger.specs.BookRule.{StepDone};
 
-    ghost then = { Done D.added D.risen };
+    ghost then = { StepDone D.added D.risen };
 }
 
 /// An entry. Each call that adds one picks it.

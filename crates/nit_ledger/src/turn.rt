@@ -1,9 +1,9 @@
 //! The parts of a share's turn at the book: it is taken in, does its deed and is given back.
 ghost use Rattle.std.specs.Prelude.{◌≡◌, ◌+◌, [], ◌∷◌, ◌++◌, length};
 ghost use Rattle.nit_ledger.specs.declared.view.BookView.TheVariants.{OfShare};
-ghost use Rattle.nit_ledger.specs.Books.{raised_by};
-ghost use Rattle.nit_ledger.specs.Views.{token, resting, holding, Agrees};
-ghost use Rattle.nit_ledger.specs.Seats.{IsSeatOf, IsResting, IsHolding, IsShares, entries_at, counts_at, taken_at, token_at};
+ghost use Rattle.nit_ledger.specs.Book.{raised_by};
+ghost use Rattle.nit_ledger.specs.BookRule.{token, book_at_rest, book_with_share, IsTokenInStep};
+ghost use Rattle.nit_ledger.specs.BookSeat.{IsSeatOf, IsResting, IsHolding, IsShares, entries_at, counts_at, taken_token, token_at};
 
 use crate::steps::{Carries, Deed, Does, Opens};
 use crate::view::{BookView, Pages};
@@ -16,7 +16,7 @@ pub(crate) fn split_off(pages: &Pages, book: &mut Seat<(), BookView>) -> Seat<()
     ensures pages { (book.new.table_id ≡ book.old.table_id)
         × (result.table_id ≡ book.old.table_id) }
     ensures book { book.new.me
-        ≡ (resting (entries_at book.old) (counts_at book.old ++ 0 ∷ []), []) }
+        ≡ (book_at_rest (entries_at book.old) (counts_at book.old ++ 0 ∷ []), []) }
     ensures share { result.me
         ≡ (OfShare (token (length (counts_at book.old)) 0 (entries_at book.old)), []) }
 {
@@ -31,7 +31,7 @@ pub(crate) fn take_in(pages: &Pages, book: &mut Seat<(), BookView>, share: Seat<
     requires share { IsShares share }
     ensures pages { book.new.table_id ≡ book.old.table_id }
     ensures book { book.new.me
-        ≡ (holding (entries_at book.old) (counts_at book.old) (token_at share), []) }
+        ≡ (book_with_share (entries_at book.old) (counts_at book.old) (token_at share), []) }
 {
     pages.shared.join_seat::<Carries>(book, share);
 }
@@ -41,13 +41,13 @@ pub(crate) fn deed<D: Deed>(pages: &Pages, book: &mut Seat<(), BookView>)
     requires pages { IsSeatOf pages.now.shared.table_id book.old }
     requires book { IsHolding book.old }
     ensures pages { book.new.table_id ≡ book.old.table_id }
-    ensures book { let t = taken_at book.old in let es = entries_at book.old ++ D.added in
+    ensures book { let t = taken_token book.old in let es = entries_at book.old ++ D.added in
         book.new.me ≡ (
-          holding es (raised_by (counts_at book.old) t.number D.risen)
+          book_with_share es (raised_by (counts_at book.old) t.number D.risen)
               (token t.number (t.count + D.risen) es),
           [],
         ) }
-    ensures before { Agrees (entries_at book.old) (counts_at book.old) (taken_at book.old) }
+    ensures before { IsTokenInStep (entries_at book.old) (counts_at book.old) (taken_token book.old) }
 {
     pages.shared.load::<Does<D>>(book, 0);
 }
@@ -58,8 +58,8 @@ pub(crate) fn give_back(pages: &Pages, book: &mut Seat<(), BookView>) -> Seat<()
     requires book { IsHolding book.old }
     ensures pages { (book.new.table_id ≡ book.old.table_id)
         × (result.table_id ≡ book.old.table_id) }
-    ensures book { book.new.me ≡ (resting (entries_at book.old) (counts_at book.old), []) }
-    ensures share { result.me ≡ (OfShare (taken_at book.old), []) }
+    ensures book { book.new.me ≡ (book_at_rest (entries_at book.old) (counts_at book.old), []) }
+    ensures share { result.me ≡ (OfShare (taken_token book.old), []) }
 {
     pages.shared.split_seat::<Carries>(book)
 }

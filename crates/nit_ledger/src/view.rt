@@ -34,9 +34,9 @@ pub struct BookRule;
 
 impl TableRule<(), BookView, ()> for BookRule {
     ghost use Rattle.std.specs.Prelude.{[]};
-    ghost use Rattle.nit_ledger.specs.Views.{IsKept, resting};
+    ghost use Rattle.nit_ledger.specs.BookRule.{IsBookRule, book_at_rest};
 
-    ghost holds = { λ _. IsKept };
+    ghost holds = { λ _. IsBookRule };
 
-    ghost first = { λ _. resting [] [] };
+    ghost first = { λ _. book_at_rest [] [] };
 }

@@ -9,11 +9,11 @@ use Rattle.nit_events.specs.declared.call.Call.TheVariants.{Buffer, Refresh}
 use Rattle.nit_script.specs.declared.line.Line.{Line}
 use Rattle.nit_script.specs.declared.line.Line.TheVariants as line
 use Rattle.nit_script.specs.Phases.{is_phase, phases}
-use Rattle.nit_journal.specs.Session.{opened}
+use Rattle.nit_journal.specs.Session.{first_session}
 use Rattle.nit_word.specs.Zeros.{zeros}
 use Rattle.nit_word.proofs.ForCallers.{length-zeros}
 use Rattle.nit_plan.specs.Strokes.{cleared}
-use Rattle.nit_plan.specs.Plans.{Painting, blank, painted_from, after_line}
+use Rattle.nit_plan.specs.ScriptWords.{Painting, blank, painted_from, after_line}
 use Rattle.nit_nested.specs.FrameLines.{Run, row_runs, fills, row_lines, rows_lines, frame_lines, IsFrame, words_of_lines}
 use Rattle.nit_nested.specs.FrameScript.{is_forbidden, first_forbidden, woven, frame_script}
 use Rattle.nit_nested.specs.Nest.{NestModel}
@@ -98,7 +98,7 @@ pub made_shows : (w h : ℕ) (frames : List (List ℕ)) (own : List Line) (donat
 made_shows w h [] own donation k some all none counted pays within = absurd (omega (arith, within))
 made_shows w h (f ∷ fs) own donation k some all none counted pays within =
     let p : Painting = after_line (blank donation) (line.Call (Buffer w h)) in
-    let size = buffer_size (opened donation) w h pays in
+    let size = buffer_size (first_session donation) w h pays in
     let room : w * h ≤ length p.words =
     subst (λ b. w * h ≤ length (cond b (cleared w h (blank donation).words) (blank donation).words)) (sym pays) (cleared_room w h (blank donation).words) in
     subst (λ (q : Painting). Shows w h (get_or (f ∷ fs) k []) q) (sym (behind_frame k w h f (woven (map (frame_lines w h) fs) own) p))

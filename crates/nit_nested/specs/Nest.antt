@@ -1,7 +1,7 @@
 -- A nest as contracts see it, and what it answers.
 use Rattle.std.specs.Prelude.{◌≡◌, ℕ, ◌+◌, ◌≤◌, ◌==◌, nat_lt, List, length, map, Option, Some, None, Result, Ok, Err, if◌then◌else◌}
 use Rattle.std.specs.List.{AllByRecursion}
-use Rattle.nit_stack.specs.Standing.{IsScreen}
+use Rattle.nit_stack.specs.Stack.{IsScreenSize}
 use Rattle.nit_script.specs.declared.line.Line.{Line}
 use Rattle.nit_script.specs.Phases.{phases}
 use Rattle.nit_nested.specs.declared.error.NestError.{NestError}
@@ -62,7 +62,7 @@ UnlessMemory (Err NoMemory) P = Unit {0}
 -- The screen has this size; the lines of each frame are those of the words that they tell, which
 -- are as many as the screen has; and so many lines are held, which leave room for one more.
 pub record IsNest (w h : ℕ) (frames : List (List Line)) (held : ℕ) : Type 0 where
-  pub size : IsScreen w h
+  pub size : IsScreenSize w h
   pub lines : frames ≡ map (frame_lines w h) (map words_of_lines frames)
   pub words : AllByRecursion (IsFrame w h) (map words_of_lines frames)
   pub counted : held ≡ count_lines frames

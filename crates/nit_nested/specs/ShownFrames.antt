@@ -3,9 +3,9 @@ use Rattle.std.specs.Prelude.{◌≡◌, ℕ, zero, suc, ◌*◌, ◌<◌, true,
 use Rattle.nit_events.specs.declared.call.Call.TheVariants.{Buffer}
 use Rattle.nit_script.specs.declared.line.Line.{Line}
 use Rattle.nit_script.specs.declared.line.Line.TheVariants as line
-use Rattle.nit_journal.specs.Session.{opened, serve}
-use Rattle.nit_journal.specs.Views.{is_accepted}
-use Rattle.nit_plan.specs.Plans.{words_after}
+use Rattle.nit_journal.specs.Session.{first_session, serve}
+use Rattle.nit_journal.specs.StackAfter.{is_accepted}
+use Rattle.nit_plan.specs.ScriptWords.{words_after}
 
 -- how many lines stand before the end of the phase of this number; phases count from 0
 abbrev pub lines_before_end : ℕ → List Line → ℕ
@@ -17,7 +17,7 @@ lines_before_end k (line.Stroke s ∷ rest) = suc (lines_before_end k rest)
 
 -- a session that opens with this donation can pay for a buffer of w by h
 abbrev pub CanPay : ℕ → ℕ → ℕ → Type 0
-CanPay donation w h = is_accepted (serve (opened donation) (Buffer w h)).reply ≡ true
+CanPay donation w h = is_accepted (serve (first_session donation) (Buffer w h)).reply ≡ true
 
 -- at the end of each phase the first w * h words that the script leaves by then are those of the
 -- phase's frame

@@ -3,7 +3,7 @@
 ghost use Rattle.std.specs.Prelude.{◌≡◌, ◌≤◌, ◌+◌, ◌*◌, ◌++◌, ◌∷◌, [], ℕ, List, None, length, take};
 ghost use Rattle.nit_script.specs.declared.line.Line.{Line};
 ghost use Rattle.nit_script.specs.Phases.{phases};
-ghost use Rattle.nit_plan.specs.Plans.{static, words_left};
+ghost use Rattle.nit_plan.specs.ScriptWords.{static, words_left};
 ghost use Rattle.nit_nested.specs.FrameLines.{frame_lines, words_of_lines};
 ghost use Rattle.nit_nested.specs.FrameScript.{first_forbidden, count_lines};
 ghost use Rattle.nit_nested.specs.Nest.{NestModel, lines_of_frames, nest_script};

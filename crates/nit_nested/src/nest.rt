@@ -3,7 +3,7 @@
 ghost use Rattle.std.specs.Prelude.{◌≡◌, ◌++◌, ◌+◌, ◌*◌, ◌≤◌, ◌∷◌, [], ℕ, List, Option, Some, None, length, All, IfOk, OnOk, OnErr};
 ghost use Rattle.std.specs.List.{AllByRecursion};
 ghost use Rattle.nit_script.specs.Spelling.{FitsColour};
-ghost use Rattle.nit_stack.specs.Standing.{IsScreen};
+ghost use Rattle.nit_stack.specs.Stack.{IsScreenSize};
 ghost use Rattle.nit_nested.specs.Nest.{UnlessMemory, frame_answer, script_answer};
 ghost use Rattle.nit_nested.specs.ShownFrames.{CanPay, ShowsFrames};
 
@@ -43,7 +43,7 @@ impl Model for Nest {
 impl Nest {
     /// No frame yet, for a screen of this size. It takes no memory.
     pub fn new(alloc: Global, w: u32, h: u32) -> Nest
-        requires { IsScreen w h }
+        requires { IsScreenSize w h }
         ensures { result ≡ record { w = w; h = h; frames = [] } }
     {
         Nest {

@@ -9,9 +9,9 @@ use Rattle.nit_events.specs.declared.device.Mode.{Mode}
 use Rattle.nit_events.specs.declared.device.Mode.TheVariants.{Flat}
 use Rattle.nit_stack.specs.declared.view.View.{View}
 use Rattle.nit_stack.specs.Sources.{in_bar, owner, pixel}
-use Rattle.nit_overlay.specs.Shown.{Scenery, bar_word, frame, owner_word, shown, view_word}
-use Rattle.nit_overlay.specs.Kept.{IsRenewed}
-use Rattle.nit_overlay.proofs.Frames.{get_or-frame, length-frame}
+use Rattle.nit_overlay.specs.Frame.{Scenery, bar_word, frame, owner_word, shown, view_word}
+use Rattle.nit_overlay.specs.FrameRenewal.{IsRenewed}
+use Rattle.nit_overlay.proofs.FrameLemmas.{get_or-frame, length-frame}
 
 pub renewed : (before now : Scenery) (chosen : ℕ → Bool) (raw raw' old new : List ℕ) → IsRenewed before now chosen raw raw' old new → old ≡ frame before raw → new ≡ frame now raw'
 renewed before now chosen raw raw' old new r was = ext_get_or 0 new (frame now raw') (r.count ∙ sym (length-frame now raw')) (λ k l. let n = r.count in at k (omega (arith, n)) (chosen k) refl)

@@ -1,7 +1,7 @@
 -- A row is painted part by part.
 use Rattle.std.proofs.Common.{◌≡◌, ℕ, ◌<◌, ◌≤◌, List, arith, ◌∙◌, refl, inl, inr, slice_index}
 use Rattle.std.proofs.lemmas.Bool.{cases_lt}
-use Rattle.nit_overlay.specs.Rows.{IsPainted}
+use Rattle.nit_overlay.specs.PixelRow.{IsPainted}
 
 -- as far as the parts have come
 pub record RowSoFar (f : ℕ → ℕ → ℕ) (raw old now : List ℕ) (from to at : ℕ) : Type 0 where

@@ -3,13 +3,14 @@
 ghost use Rattle.std.specs.Prelude.{◌≡◌, ℕ, ◌<◌, ◌≤◌, ◌&&◌, nat_le, nat_lt};
 ghost use Rattle.nit_rect.specs.Rectangle.{covers};
 ghost use Rattle.nit_stack.specs.Sources.{point};
-ghost use Rattle.nit_overlay.specs.Areas.{IsArea, in_area};
-ghost use Rattle.nit_overlay.specs.Spans.{has};
+ghost use Rattle.nit_overlay.specs.Area.{IsArea, in_area};
+ghost use Rattle.nit_overlay.specs.Span.{span_has};
 
 use crate::span::{SHIFT, Span, span_of};
 use nit_rect::Rect;
 
-/// The pixels of the columns from `left` to before `right`, in the rows from `top` to before `bottom`.
+/// The pixels of the columns from `left` to before `right`, in the rows from `top` to before
+/// `bottom`.
 #[derive(Clone, Copy)]
 pub(crate) struct Area {
     pub left: u32,
@@ -18,12 +19,13 @@ pub(crate) struct Area {
     pub bottom: u32,
 }
 
-/// The first of these columns or rows that the screen has, of `most`, and the first one behind them.
+/// The first of these columns or rows that the screen has, of `most`, and the first one behind
+/// them.
 fn clipped(places: Span, most: u32) -> (u32, u32)
     ensures in_order { result.0 ≤ result.1 }
     ensures within { result.1 ≤ most }
     ensures same { (at : ℕ) → at < most
-        → (nat_le result.0 at && nat_lt at result.1) ≡ has places at }
+        → (nat_le result.0 at && nat_lt at result.1) ≡ span_has places at }
 {
     let end = places.to.saturating_sub(SHIFT).min(most);
     let start = places.from.saturating_sub(SHIFT).min(end);

@@ -3,9 +3,9 @@
 ghost use Rattle.std.specs.Prelude.{◌≡◌, ℕ, ◌<◌, ◌≤◌, length, All};
 ghost use Rattle.nit_word.specs.Inks.{IsWord};
 ghost use Rattle.nit_stack.specs.Sources.{point};
-ghost use Rattle.nit_overlay.specs.Looks.{IsLook, scenery};
-ghost use Rattle.nit_overlay.specs.Rows.{IsPainted};
-ghost use Rattle.nit_overlay.specs.Shown.{bar_text, bar_word, mode_word};
+ghost use Rattle.nit_overlay.specs.Look.{IsLook, scenery};
+ghost use Rattle.nit_overlay.specs.PixelRow.{IsPainted};
+ghost use Rattle.nit_overlay.specs.Frame.{bar_text, bar_word, mode_word};
 ghost use Rattle.nit_rect.specs.Limits.{most_width};
 
 use crate::look::Look;

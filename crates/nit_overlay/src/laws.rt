@@ -5,12 +5,13 @@ ghost use Rattle.std.specs.Option.{is_some};
 ghost use Rattle.nit_rect.specs.declared.point.Point.{Point};
 ghost use Rattle.nit_word.specs.Inks.{IsWord};
 ghost use Rattle.nit_events.specs.declared.device.Mode.TheVariants.{Flat};
-ghost use Rattle.nit_overlay.specs.Shown.{Scenery, shown, frame};
-ghost use Rattle.nit_overlay.specs.Kept.{IsRenewed};
+ghost use Rattle.nit_overlay.specs.Frame.{Scenery, shown, frame};
+ghost use Rattle.nit_overlay.specs.FrameRenewal.{IsRenewed};
 ghost use Rattle.nit_stack.specs.Sources.{in_bar, owner, pixel};
 
-/// A frame has one word for each pixel of the screen, row by row from the top: the word that is shown
-/// there. Where all raw words are below 2^24, so are its words. Equal raw words make equal frames.
+/// A frame has one word for each pixel of the screen, row by row from the top: the word that is
+/// shown there. Where all raw words are below 2^24, so are its words. Equal raw words make equal
+/// frames.
 pub fn frame_pixels()
     ensures count { (s : Scenery) (raw : List ℕ) → length (frame s raw) ≡ s.width * s.height }
     ensures each { (s : Scenery) (raw : List ℕ) (k : ℕ) → k < s.width * s.height

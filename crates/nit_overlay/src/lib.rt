@@ -1,20 +1,23 @@
 //! What the screen shows, by the mode: labels, rings, dimmed or tinted words, and the status bar.
 //!
-//! A frame has one word for each pixel of the screen, row by row from the top. [`frame_into`] makes it
-//! from the raw words of the pixels, which the clients have painted, and from a [`Look`]: the stack of
-//! views, the labels, the mode, the focus and the places of the labels. [`overlay_rect`] does the same for
-//! the pixels of a rectangle alone. None takes memory.
+//! A frame has one word for each pixel of the screen, row by row from the top. [`frame_into`] makes
+//! it from the raw words of the pixels, which the clients have painted, and from a [`Look`]: the
+//! stack of views, the labels, the mode, the focus and the places of the labels. [`overlay_rect`]
+//! does the same for the pixels of a rectangle alone. None takes memory.
 //!
 //! The first rule that applies to a pixel gives its word.
 //!
-//! - In the status bar it is white on black: the bar's text stands at the top left, and what does not fit
+//! - In the status bar it is white on black: the bar's text stands at the top left, and what does
+//! not fit
 //!   on the screen is cut off at the right.
 //! - Where no view covers it, it is the word of the bare screen.
 //! - In mode Flat it is the raw word.
 //! - In the label of the view that owns it, it is white on black.
-//! - On the ring of the view, its first and last rows and columns, it is red in mode Kill. In mode Xray it
+//! - On the ring of the view, its first and last rows and columns, it is red in mode Kill. In mode
+//! Xray it
 //!   is white where the view's session has the focus, and grey elsewhere.
-//! - In mode Xray it is the raw word where the session has the focus, and the dimmed word elsewhere. In
+//! - In mode Xray it is the raw word where the session has the focus, and the dimmed word
+//! elsewhere. In
 //!   mode Kill it is the tinted word.
 //!
 //! A frame may be kept: where just the pixels whose shown word may differ are set to what is shown
@@ -22,8 +25,8 @@
 //! depends on the raw word, and on whether the pixel has an owner, alone. So there the raw words of
 //! what was painted are the frame's.
 //!
-//! A row is painted by pieces that have one owner or none, and a piece by runs that have one rule. So the
-//! stack is searched once for each piece, and not for each pixel.
+//! A row is painted by pieces that have one owner or none, and a piece by runs that have one rule.
+//! So the stack is searched once for each piece, and not for each pixel.
 #![tactic(auto)]
 
 mod area;

@@ -4,18 +4,19 @@ ghost use Rattle.std.specs.Prelude.{◌≡◌, ℕ, ◌*◌, ◌<◌, length, sl
 ghost use Rattle.nit_rect.specs.Rectangle.{covers};
 ghost use Rattle.nit_word.specs.Inks.{IsWord};
 ghost use Rattle.nit_stack.specs.Sources.{pixel};
-ghost use Rattle.nit_stack.specs.Standing.{IsScreen};
-ghost use Rattle.nit_overlay.specs.Areas.{IsArea, IsShownIn};
-ghost use Rattle.nit_overlay.specs.Looks.{IsLook, scenery};
-ghost use Rattle.nit_overlay.specs.Shown.{shown, frame};
+ghost use Rattle.nit_stack.specs.Stack.{IsScreenSize};
+ghost use Rattle.nit_overlay.specs.Area.{IsArea, IsShownIn};
+ghost use Rattle.nit_overlay.specs.Look.{IsLook, scenery};
+ghost use Rattle.nit_overlay.specs.Frame.{shown, frame};
 
 use crate::area::{Area, area_of};
 use crate::look::Look;
 use crate::row::overlay_row;
 use nit_rect::Rect;
 
-/// Sets the words of the screen's pixels that lie in the rectangle to what is shown there; all other words
-/// stay. `raw` and `out` have a word for each pixel of the screen, row by row from the top, and each of
+/// Sets the words of the screen's pixels that lie in the rectangle to what is shown there; all
+/// other words stay. `raw` and `out` have a word for each pixel of the screen, row by row from the
+/// top, and each of
 /// `raw` is below 2^24. The rectangle may reach past the screen. No memory is taken.
 pub fn overlay_rect(look: &Look, raw: &[u32], r: Rect, out: &mut [u32])
     requires look { IsLook look.now }
@@ -33,9 +34,10 @@ pub fn overlay_rect(look: &Look, raw: &[u32], r: Rect, out: &mut [u32])
     overlay_area(look, raw, &area, width, out);
 }
 
-/// Sets `out` to the frame: the words that the screen shows, row by row from the top, each below 2^24.
-/// `raw` and `out` have a word for each pixel of the screen, and each of `raw` is below 2^24. No memory is
-/// taken.
+/// Sets `out` to the frame: the words that the screen shows, row by row from the top, each below
+/// 2^24.
+/// `raw` and `out` have a word for each pixel of the screen, and each of `raw` is below 2^24. No
+/// memory is taken.
 pub fn frame_into(look: &Look, raw: &[u32], out: &mut [u32])
     requires look { IsLook look.now }
     requires raw { length raw.now ≡ look.now.stack.now.width * look.now.stack.now.height }
@@ -58,7 +60,7 @@ pub fn frame_into(look: &Look, raw: &[u32], out: &mut [u32])
 fn overlay_area(look: &Look, raw: &[u32], area: &Area, width: u32, out: &mut [u32])
     requires look { IsLook look.now }
     requires width { width ≡ look.now.stack.now.width }
-    requires screen { IsScreen look.now.stack.now.width look.now.stack.now.height }
+    requires screen { IsScreenSize look.now.stack.now.width look.now.stack.now.height }
     requires raw { length raw.now ≡ look.now.stack.now.width * look.now.stack.now.height }
     requires out { length out.old ≡ look.now.stack.now.width * look.now.stack.now.height }
     requires words { All IsWord raw.now }

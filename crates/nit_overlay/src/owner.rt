@@ -1,11 +1,11 @@
 //! Who owns the pixels of a row.
 
 ghost use Rattle.std.specs.Prelude.{◌≡◌, ℕ, ◌<◌, ◌≤◌, false, pos, length, option_map, slice_get, Some, IfSome};
-ghost use Rattle.nit_stack.specs.Standing.{IsStanding};
+ghost use Rattle.nit_stack.specs.Stack.{IsStack};
 ghost use Rattle.nit_stack.specs.Sources.{in_bar, owner, point};
-ghost use Rattle.nit_stack.specs.Names.{views_of};
-ghost use Rattle.nit_overlay.specs.Looks.{IsLook, scenery};
-ghost use Rattle.nit_overlay.specs.Owners.{IsOwner};
+ghost use Rattle.nit_stack.specs.ViewNames.{views_of};
+ghost use Rattle.nit_overlay.specs.Look.{IsLook, scenery};
+ghost use Rattle.nit_overlay.specs.Owner.{IsOwner};
 ghost use Rattle.nit_rect.specs.Limits.{most_width, most_height};
 
 use crate::look::Look;
@@ -21,7 +21,8 @@ pub(crate) struct Owner {
     pub place: Option<Point>,
 }
 
-/// What pixels that follow one another in a row have in common: their owner, and the column behind the last.
+/// What pixels that follow one another in a row have in common: their owner, and the column behind
+/// the last.
 #[derive(Clone, Copy)]
 pub(crate) struct Piece {
     pub owner: Option<Owner>,
@@ -33,7 +34,7 @@ fn view_at(stack: &Stack, i: u32) -> (ViewRef, View)
     requires { i < length stack.now.views }
     ensures place { slice_get stack.now.views i
         ≡ Some (record { slot = result.0.0; view = result.1 }) }
-    ensures standing { IsStanding stack.now }
+    ensures standing { IsStack stack.now }
 {
     let v = stack.at(i);
     (v, stack.view(v))
@@ -44,7 +45,7 @@ fn owner_at(look: &Look, i: u32, v: ViewRef, view: View) -> Owner
     requires look { IsLook look.now }
     requires place { slice_get look.now.stack.now.views i
         ≡ Some (record { slot = v.0; view = view }) }
-    requires standing { IsStanding look.now.stack.now }
+    requires standing { IsStack look.now.stack.now }
     ensures view { result.view ≡ view }
     ensures owner { IsOwner look.now result }
 {
@@ -55,8 +56,8 @@ fn owner_at(look: &Look, i: u32, v: ViewRef, view: View) -> Owner
     Owner { view, place }
 }
 
-/// The owner of the pixel in column x of the row y, which lies below the bar, and the column, at most `to`,
-/// up to which the pixels to the right have the same.
+/// The owner of the pixel in column x of the row y, which lies below the bar, and the column, at
+/// most `to`, up to which the pixels to the right have the same.
 pub(crate) fn piece_at(look: &Look, x: u32, y: u32, to: u32) -> Piece
     requires look { IsLook look.now }
     requires before { x < to }

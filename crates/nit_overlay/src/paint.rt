@@ -2,8 +2,8 @@
 
 ghost use Rattle.std.specs.Prelude.{◌≡◌, ℕ, ◌+◌, ◌<◌, ◌≤◌, length, slice_index, All};
 ghost use Rattle.nit_word.specs.Inks.{IsWord};
-ghost use Rattle.nit_overlay.specs.Rows.{IsPainted};
-ghost use Rattle.nit_overlay.specs.Rules.{word_by, IsInTag, IsTagged};
+ghost use Rattle.nit_overlay.specs.PixelRow.{IsPainted};
+ghost use Rattle.nit_overlay.specs.Rule.{word_by, IsInTag, IsTagged};
 ghost use Rattle.nit_rect.specs.Limits.{most_width};
 
 use nit_glyph::{LabelText, label_bit};
@@ -70,7 +70,8 @@ fn paint(rule: Rule, raw: &[u32], out: &mut [u32], x: u32, y: u32)
     }
 }
 
-/// Paints `out`, which are pixels of the row y from the column x on, all in the picture of the text.
+/// Paints `out`, which are pixels of the row y from the column x on, all in the picture of the
+/// text.
 fn paint_text(tag: &Tag, out: &mut [u32], x: u32, y: u32)
     requires tagged { IsInTag tag.now x (x + length out.old) y }
     requires across { x + length out.old ≤ most_width }

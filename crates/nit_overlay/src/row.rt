@@ -2,14 +2,14 @@
 
 ghost use Rattle.std.specs.Prelude.{◌≡◌, ℕ, ◌<◌, ◌≤◌, length, option_map, All, IfSome};
 ghost use Rattle.nit_word.specs.Inks.{IsWord};
-ghost use Rattle.nit_stack.specs.Names.{views_of};
+ghost use Rattle.nit_stack.specs.ViewNames.{views_of};
 ghost use Rattle.nit_stack.specs.Sources.{owner, point};
-ghost use Rattle.nit_overlay.specs.Looks.{IsLook, scenery};
-ghost use Rattle.nit_overlay.specs.Owners.{IsOwner};
-ghost use Rattle.nit_overlay.specs.Rows.{IsPainted};
-ghost use Rattle.nit_overlay.specs.Rules.{word_by};
-ghost use Rattle.nit_overlay.specs.Shown.{owner_word, shown};
-ghost use Rattle.nit_overlay.specs.Stripes.{IsMet, stripe_rule};
+ghost use Rattle.nit_overlay.specs.Look.{IsLook, scenery};
+ghost use Rattle.nit_overlay.specs.Owner.{IsOwner};
+ghost use Rattle.nit_overlay.specs.PixelRow.{IsPainted};
+ghost use Rattle.nit_overlay.specs.Rule.{word_by};
+ghost use Rattle.nit_overlay.specs.Frame.{owner_word, shown};
+ghost use Rattle.nit_overlay.specs.Stripe.{IsRowOfTag, stripe_rule};
 ghost use Rattle.nit_rect.specs.Limits.{most_width, most_height};
 
 use crate::bar::overlay_bar;
@@ -21,7 +21,7 @@ use nit_word::BARE;
 
 /// Paints the pixels of a row of a view from the column `from` to before `to`, run by run.
 fn overlay_stripe(stripe: &Stripe, y: u32, from: u32, to: u32, raw: &[u32], out: &mut [u32])
-    requires met { IfSome stripe.now.tag (IsMet y) }
+    requires met { IfSome stripe.now.tag (IsRowOfTag y) }
     requires same_length { length out.old ≡ length raw.now }
     requires words { All IsWord raw.now }
     requires in_order { from ≤ to }
@@ -38,7 +38,8 @@ fn overlay_stripe(stripe: &Stripe, y: u32, from: u32, to: u32, raw: &[u32], out:
     }
 }
 
-/// Paints the pixels of the row y from the column `from` to before `to`, which have one owner or none.
+/// Paints the pixels of the row y from the column `from` to before `to`, which have one owner or
+/// none.
 fn overlay_owned(
     look: &Look,
     owner: Option<Owner>,

@@ -4,12 +4,13 @@ ghost use Rattle.std.specs.Prelude.{◌≡◌, ℕ, ◌+◌, ◌<◌, ◌≤◌,
 ghost use Rattle.std.specs.Ordering.{int_eq};
 ghost use Rattle.nit_rect.specs.Rectangle.{IsPlace, spans, covers};
 ghost use Rattle.nit_stack.specs.Sources.{point};
-ghost use Rattle.nit_overlay.specs.Spans.{moved_of, has, has_at_end};
+ghost use Rattle.nit_overlay.specs.Span.{moved_of, span_has, has_at_end};
 ghost use Rattle.nit_rect.specs.Limits.{most_width, most_length, most_edge, most_height};
 
 use nit_rect::Rect;
 
-/// How far columns and rows are moved, so that those left of the screen and above it count from 0 on.
+/// How far columns and rows are moved, so that those left of the screen and above it count from 0
+/// on.
 pub(crate) const SHIFT: u32 = 32768;
 
 /// The columns or rows of a rectangle from `from` to before `to`, each moved by 32768.
@@ -23,7 +24,7 @@ impl Span {
     /// Whether this column or row of the screen is one of them.
     fn has(&self, at: u32) -> bool
         requires { at ≤ most_width }
-        ensures { result ≡ has self.now at }
+        ensures { result ≡ span_has self.now at }
     {
         self.from <= at + SHIFT && at + SHIFT < self.to
     }
@@ -61,7 +62,7 @@ fn moved_ends(from: i32, long: u32) -> Span
 pub(crate) fn span_of(from: i32, long: u32) -> Span
     requires place { IsPlace from }
     requires length { long ≤ most_length }
-    ensures within { (at : ℕ) → has result at ≡ spans from long (pos at) }
+    ensures within { (at : ℕ) → span_has result at ≡ spans from long (pos at) }
     ensures first { (at : ℕ) → ((at + 32768) == result.from) ≡ int_eq (pos at) from }
     ensures last { (at : ℕ)
         → ((at + 32769) == result.to) ≡ int_eq (pos at) ((from +ℤ pos long) -ℤ pos 1) }
@@ -69,7 +70,8 @@ pub(crate) fn span_of(from: i32, long: u32) -> Span
     moved_ends(from, long)
 }
 
-/// The cut, a moved column, as a column of the screen where it lies between x and `to`, and `to` elsewhere.
+/// The cut, a moved column, as a column of the screen where it lies between x and `to`, and `to`
+/// elsewhere.
 pub(crate) fn up_to(x: u32, to: u32, cut: u32) -> u32
     requires before { x < to }
     requires across { to ≤ most_width }
@@ -84,8 +86,8 @@ pub(crate) fn up_to(x: u32, to: u32, cut: u32) -> u32
     }
 }
 
-/// Whether a rectangle covers a pixel, and the column, at most `to`, up to which the same holds of the pixels
-/// to the right.
+/// Whether a rectangle covers a pixel, and the column, at most `to`, up to which the same holds of
+/// the pixels to the right.
 pub(crate) fn reach(rect: &Rect, x: u32, y: u32, to: u32) -> (bool, u32)
     requires before { x < to }
     requires across { to ≤ most_width }

@@ -5,12 +5,12 @@ ghost use Rattle.nit_glyph.specs.Pictures.{picture_width, picture_height};
 ghost use Rattle.nit_events.specs.Input.{is_same};
 ghost use Rattle.nit_stack.specs.Sources.{point};
 ghost use Rattle.nit_overlay.specs.declared.paint.Rule.{Rule};
-ghost use Rattle.nit_overlay.specs.Looks.{IsLook, draws_labels, scenery};
-ghost use Rattle.nit_overlay.specs.Owners.{IsOwner};
-ghost use Rattle.nit_overlay.specs.Rules.{word_by, IsTagged};
-ghost use Rattle.nit_overlay.specs.Shown.{by_label, place_of, view_text, view_word, is_on_ring};
-ghost use Rattle.nit_overlay.specs.Spans.{has_at_end};
-ghost use Rattle.nit_overlay.specs.Stripes.{IsMet, in_tag, mode_rule, stripe_rule, tag_rule};
+ghost use Rattle.nit_overlay.specs.Look.{IsLook, draws_labels, scenery};
+ghost use Rattle.nit_overlay.specs.Owner.{IsOwner};
+ghost use Rattle.nit_overlay.specs.Rule.{word_by, IsTagged};
+ghost use Rattle.nit_overlay.specs.Frame.{by_label, label_place_of, view_text, view_word, is_on_ring};
+ghost use Rattle.nit_overlay.specs.Span.{has_at_end};
+ghost use Rattle.nit_overlay.specs.Stripe.{IsRowOfTag, in_tag, mode_rule, stripe_rule, tag_rule};
 ghost use Rattle.nit_rect.specs.Limits.{most_height, most_width};
 
 use crate::look::Look;
@@ -81,8 +81,8 @@ fn tag_at(look: &Look, owner: &Owner, y: u32) -> Option<Tag>
     ensures drawn { draws_labels look.now.mode ≡ true → (rule : Rule) (x w : ℕ)
         → word_by (tag_rule result x rule) x y w
         ≡ by_label (view_text (scenery look.now) owner.now.view)
-        (place_of (scenery look.now) owner.now.view) (point x y) (word_by rule x y w) }
-    ensures met { IfSome result (IsMet y) }
+        (label_place_of (scenery look.now) owner.now.view) (point x y) (word_by rule x y w) }
+    ensures met { IfSome result (IsRowOfTag y) }
 {
     if !draws_labels(look.mode) {
         return None;
@@ -113,7 +113,7 @@ pub(crate) fn stripe_at(look: &Look, owner: &Owner, y: u32) -> Stripe
     requires down { y ≤ most_height }
     ensures words { (x w : ℕ) → word_by (stripe_rule result x) x y w
         ≡ view_word look.now.mode (scenery look.now) owner.now.view (point x y) w }
-    ensures met { IfSome result.tag (IsMet y) }
+    ensures met { IfSome result.tag (IsRowOfTag y) }
 {
     let (edge, columns) = ring_at(&owner.view.rect, y);
     Stripe {
@@ -140,8 +140,8 @@ fn mode_rule(mode: Mode, is_ring: bool, is_focused: bool) -> Rule
     }
 }
 
-/// The column, at most `to`, up to which the pixels from x on lie on the sides of the view as the pixel in
-/// column x does.
+/// The column, at most `to`, up to which the pixels from x on lie on the sides of the view as the
+/// pixel in column x does.
 fn side_end(columns: Span, x: u32, to: u32) -> u32
     requires before { x < to }
     requires across { to ≤ most_width }
@@ -181,7 +181,7 @@ fn run_outside(stripe: &Stripe, x: u32, to: u32) -> Run
 pub(crate) fn run_at(stripe: &Stripe, x: u32, y: u32, to: u32) -> Run
     requires before { x < to }
     requires across { to ≤ most_width }
-    requires met { IfSome stripe.now.tag (IsMet y) }
+    requires met { IfSome stripe.now.tag (IsRowOfTag y) }
     ensures after { x < result.end }
     ensures within { result.end ≤ to }
     ensures same { (z : ℕ) → x ≤ z → z < result.end → stripe_rule stripe.now z ≡ result.rule }

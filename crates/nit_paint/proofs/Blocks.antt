@@ -7,11 +7,11 @@ use Rattle.std.proofs.Math.Nat.{mul-le-mul_right}
 use Rattle.std.proofs.lemmas.Bool.Decides.{nat_tests}
 use Rattle.nit_word.specs.Sight.{Sight}
 use Rattle.nit_stack.specs.Sources.{PixelSource, black_or_word, index_at}
-use Rattle.nit_paint.specs.Painting.{Repainted}
+use Rattle.nit_paint.specs.Repaint.{Repainted}
 use Rattle.nit_paint.specs.Runs.{in_rows, in_run, index_from, long, reached, row_at, row_source}
 use Rattle.nit_paint.specs.declared.block.Block.{Block}
 use Rattle.nit_paint.specs.declared.reach.Reach.{Reach}
-use Rattle.nit_paint.proofs.Repaints.{other_count, repainted_none, repainted_union}
+use Rattle.nit_paint.proofs.RepaintLemmas.{other_count, repainted_none, repainted_union}
 
 -- the column and the row of a pixel say whether it is one of a run within a row
 run_in_row : (w y x n q r : ℕ) → r < w → x + n ≤ w → in_run (y * w + x) n (q * w + r) ≡ ((nat_le x r && nat_lt r (x + n)) && (q == y))

@@ -4,13 +4,13 @@ use Rattle.std.proofs.lemmas.Bool.{eq-eqb}
 use Rattle.nit_word.specs.Sight.{Sight, IsLoaded, seen}
 use Rattle.nit_word.proofs.ForCallers.{seen_none}
 use Rattle.nit_stack.specs.Sources.{Word}
-use Rattle.nit_paint.specs.Painting.{IsHeld, loads_of, with_glass}
+use Rattle.nit_paint.specs.Repaint.{IsWordOfSource, loads_of, with_glass}
 
 -- one glass of many, before and after one load
 own_glass : (others : ℕ → Sight) (sid : ℕ) (g : Sight) → with_glass others sid g sid ≡ g
 own_glass others sid g = ap (λ b. cond b g (others sid)) (eq-eqb sid sid refl)
 
-pub held_by_load : (others : ℕ → Sight) (sid i w : ℕ) (g : Sight) → IsLoaded g i w → IsHeld (with_glass others sid g) (Word sid i) w
+pub held_by_load : (others : ℕ → Sight) (sid i w : ℕ) (g : Sight) → IsLoaded g i w → IsWordOfSource (with_glass others sid g) (Word sid i) w
 held_by_load others sid i w g h = subst (λ (x : Sight). IsLoaded x i w) (sym (own_glass others sid g)) h
 
 pub seen_by_load : (others : ℕ → Sight) (sid i w : ℕ) (g g' : Sight) → g' ≡ seen g ((i, w) ∷ [])

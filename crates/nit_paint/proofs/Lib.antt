@@ -1,9 +1,9 @@
-pub mod Repaints
-pub mod Copied
+pub mod RepaintLemmas
+pub mod FrameCopyLemmas
 pub mod Glasses
 pub mod Pixels
 pub mod Blocks
-pub mod Owned
-pub mod Rows
+pub mod PieceOwners
+pub mod Examples
 pub mod OneMore
 pub mod ForCallers

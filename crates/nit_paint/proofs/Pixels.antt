@@ -10,11 +10,11 @@ use borrow.Rule.Slice.PartMut.{put_mid}
 use Rattle.nit_word.specs.Sight.{Sight, IsLoaded, IsLoadedRow, seen}
 use Rattle.nit_word.proofs.ForCallers.{loaded_after, more_taken, seen_none, seen_twice, at_place}
 use Rattle.nit_stack.specs.Sources.{PixelSource, Bare, Black, Word, black_or_word}
-use Rattle.nit_paint.specs.Painting.{IsAmongLoads, IsHeld, Repainted, no_sight, is_word_of, loads_of, times_shown, with_glass}
+use Rattle.nit_paint.specs.Repaint.{IsAmongLoads, IsWordOfSource, Repainted, no_sight, is_word_of, loads_of, times_shown, with_glass}
 use Rattle.nit_paint.specs.Runs.{in_run, index_from, long, own_word, reached, row_source}
 use Rattle.nit_paint.specs.declared.reach.Reach.{Reach}
 use Rattle.nit_paint.proofs.Glasses.{held_by_load, seen_by_load}
-use Rattle.nit_paint.proofs.Repaints.{other_count, repainted_none, repainted_one, repainted_there, repainted_union}
+use Rattle.nit_paint.proofs.RepaintLemmas.{other_count, repainted_none, repainted_one, repainted_there, repainted_union}
 
 -- runs as sets
 no_run : (at k : ℕ) → in_run at 0 k ≡ false
@@ -36,14 +36,14 @@ run_none : (source : ℕ → PixelSource) (at n : ℕ) (glasses : ℕ → Sight)
 run_none source at n glasses raw = repainted_none source (in_run at 0) n glasses raw (λ k l. no_run at k)
 
 -- the next pixel
-one_more : (source : ℕ → PixelSource) (at j w n : ℕ) (before mid after : ℕ → Sight) (raw raw' : List ℕ) → at + j < n → at + j < length raw' → IsHeld mid (source (at + j)) w
+one_more : (source : ℕ → PixelSource) (at j w n : ℕ) (before mid after : ℕ → Sight) (raw raw' : List ℕ) → at + j < n → at + j < length raw' → IsWordOfSource mid (source (at + j)) w
     → ((t : ℕ) → after t ≡ seen (mid t) (loads_of (source (at + j)) w t)) → Repainted source (in_run at j) n before mid raw raw'
     → Repainted source (in_run at (j + 1)) n before after raw (set raw' (at + j) w)
 one_more source at j w n before mid after raw raw' l m h log r =
     repainted_union source (in_run at j) (λ k. k == (at + j)) (in_run at (j + 1)) n before mid after raw raw' (set raw' (at + j) w) (next_apart at j) (run_next at j) r
     (repainted_one source (at + j) w n mid after raw' l m h log)
 
-own_held : (glasses : ℕ → Sight) (s : PixelSource) (w : ℕ) → own_word s ≡ Some w → IsHeld glasses s w
+own_held : (glasses : ℕ → Sight) (s : PixelSource) (w : ℕ) → own_word s ≡ Some w → IsWordOfSource glasses s w
 own_held glasses Bare w e = cc
 own_held glasses Black w e = cc
 own_held glasses (Word t i) w e = cc
@@ -102,7 +102,7 @@ pub filled : (source : ℕ → PixelSource) (at count w n : ℕ) (glasses : ℕ 
 filled source at count w n glasses raw raw' word rest fits own = record {
   loads = λ t. [];
   sights = λ t. seen_none (glasses t);
-  marked = λ k l m. subst (λ (x : ℕ). IsHeld glasses (source k) x × IsAmongLoads (λ t. []) (source k) x) (sym (word k m))
+  marked = λ k l m. subst (λ (x : ℕ). IsWordOfSource glasses (source k) x × IsAmongLoads (λ t. []) (source k) x) (sym (word k m))
       (own_held glasses (source k) w (own_at k m), own_among (λ t. []) (source k) w (own_at k m));
   others = λ k out. rest k (outside k (in_run at count k) refl out);
   counts = λ t i. sym (none_shown source (in_run at count) w t i n (λ k l m. own_at k m));
@@ -129,7 +129,7 @@ loaded_more : (source : ℕ → PixelSource) (at j w n sid i : ℕ) (others : �
     → Repainted source (in_run at (j + 1)) n (with_glass others sid first) (with_glass others sid g') raw (set raw' (at + j) w)
 loaded_more source at j w n sid i others first g g' raw raw' l m is loaded saw r =
     one_more source at j w n (with_glass others sid first) (with_glass others sid g) (with_glass others sid g') raw raw' l m
-    (subst (λ (s : PixelSource). IsHeld (with_glass others sid g) s w) (sym is) (held_by_load others sid i w g loaded))
+    (subst (λ (s : PixelSource). IsWordOfSource (with_glass others sid g) s w) (sym is) (held_by_load others sid i w g loaded))
     (λ t. seen_by_load others sid i w g g' saw t ∙ ap (λ (s : PixelSource). seen (with_glass others sid g t) (loads_of s w t)) (sym is)) r
 
 -- the words of a row that were put into the screen so far

@@ -3,23 +3,24 @@ use Rattle.std.specs.Prelude.{◌≡◌, ℕ, pos, ◌+ℤ◌, ◌≤ℤ◌, Boo
 use Rattle.std.specs.Option.{option_map, option_map_or}
 use Rattle.nit_rect.specs.declared.point.Point.{Point}
 use Rattle.nit_rect.specs.Rectangle.{Rectangle, covers}
-use Rattle.nit_rect.specs.Dividing.{IsScreenRectangle}
+use Rattle.nit_rect.specs.Strips.{IsScreenRectangle}
 use Rattle.nit_stack.specs.declared.view.Piece.{Piece}
 use Rattle.nit_stack.specs.Sources.{PixelSource, owner_in, pixel, source}
-use Rattle.nit_stack.specs.Standing.{Standing, size_of, view_ref}
-use Rattle.nit_stack.specs.Names.{views_of}
-use Rattle.nit_stack.specs.Answers.{session_of, word_count}
+use Rattle.nit_stack.specs.Stack.{StackModel, size_of, view_ref}
+use Rattle.nit_stack.specs.ViewNames.{views_of}
+use Rattle.nit_stack.specs.SourceAnswers.{session_of, word_count}
 
 -- the source of the pixel of a number
-abbrev pub source_at : Standing → ℕ → PixelSource
-source_at s k = source (size_of s.sizes) s.bar (views_of s.views) (pixel s.width k)
+abbrev pub source_of_number : StackModel → ℕ → PixelSource
+source_of_number s k = source (size_of s.sizes) s.bar (views_of s.views) (pixel s.width k)
 
 -- the rectangle has the pixel of a number, on a screen of this width
 abbrev pub has_pixel : ℕ → Rectangle → ℕ → Bool
 has_pixel width r k = covers r (pixel width k)
 
--- The piece lies on the screen, and each of its pixels has the owner that it names, or no owner where it names none.
-pub record IsPiece (s : Standing) (piece : Piece) : Type 0 where
+-- The piece lies on the screen, and each of its pixels has the owner that it names, or no owner
+-- where it names none.
+pub record IsPiece (s : StackModel) (piece : Piece) : Type 0 where
   pub screen : IsScreenRectangle piece.rect
   pub right : (piece.rect.x +ℤ pos piece.rect.w) ≤ℤ pos s.width
   pub bottom : (piece.rect.y +ℤ pos piece.rect.h) ≤ℤ pos s.height
@@ -27,9 +28,9 @@ pub record IsPiece (s : Standing) (piece : Piece) : Type 0 where
       → option_map view_ref (owner_in (λ seat. seat.view) s.bar s.views p) ≡ piece.owner
 
 -- the session of the view that owns the piece, where one does
-abbrev pub session_shown : Standing → Piece → ℕ
+abbrev pub session_shown : StackModel → Piece → ℕ
 session_shown s piece = option_map_or (λ v. session_of s.views v.0) piece.owner 0
 
 -- how many words the buffer of that session has
-abbrev pub words_shown : Standing → Piece → ℕ
+abbrev pub words_shown : StackModel → Piece → ℕ
 words_shown s piece = word_count (size_of s.sizes (session_shown s piece))

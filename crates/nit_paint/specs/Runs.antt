@@ -27,7 +27,8 @@ reached r j =
 abbrev pub long : Reach → ℕ
 long r = r.before + r.words + r.after
 
--- the index of a word, by the index of its row's first word and by its column, where there are these
+-- the index of a word, by the index of its row's first word and by its column, where there are
+-- these
 abbrev pub index_from : Option ℕ → Option ℕ → Option ℕ
 index_from (Some start) (Some column) = Some (start + column)
 index_from (Some start) None = None

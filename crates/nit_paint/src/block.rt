@@ -2,7 +2,7 @@
 
 ghost use Rattle.std.specs.Prelude.{◌≡◌, ◌+◌, ◌≤◌, pos, ◌+ℤ◌, ◌≤ℤ◌};
 ghost use Rattle.nit_rect.specs.Rectangle.{rectangle};
-ghost use Rattle.nit_rect.specs.Dividing.{IsScreenRectangle};
+ghost use Rattle.nit_rect.specs.Strips.{IsScreenRectangle};
 
 use nit_rect::Rect;
 

@@ -5,11 +5,11 @@ ghost use Rattle.nit_word.specs.Inks.{IsWord};
 ghost use Rattle.nit_word.specs.Sight.{Sight, seen};
 ghost use Rattle.nit_rect.specs.declared.point.Point.{Point};
 ghost use Rattle.nit_rect.specs.Rectangle.{covers};
-ghost use Rattle.nit_rect.specs.Meeting.{HasPixels};
+ghost use Rattle.nit_rect.specs.Intersection.{HasPixels};
 ghost use Rattle.nit_stack.specs.declared.view.Piece.{Piece};
 ghost use Rattle.nit_stack.specs.Sources.{PixelSource, owner_in};
-ghost use Rattle.nit_stack.specs.Standing.{IsOnScreen, IsScreen, Standing, view_ref};
-ghost use Rattle.nit_paint.specs.Painting.{IsHeld, Repainted, loads_of};
+ghost use Rattle.nit_stack.specs.Stack.{IsOnScreen, IsScreenSize, StackModel, view_ref};
+ghost use Rattle.nit_paint.specs.Repaint.{IsWordOfSource, Repainted, loads_of};
 ghost use Rattle.nit_paint.specs.Pieces.{IsPiece};
 
 /// Where no pixel is marked, nothing is loaded and nothing changes.
@@ -20,8 +20,8 @@ pub fn nothing_repainted()
         → Repainted source is_marked n glasses glasses raw raw }
 {}
 
-/// One more pixel: it is not marked and nothing is done, or it is marked, its word is loaded by its source, and it
-/// holds that word.
+/// One more pixel: it is not marked and nothing is done, or it is marked, its word is loaded by its
+/// source, and it holds that word.
 pub fn one_more_pixel()
     ensures skipped { (source : ℕ → PixelSource) (is_marked : ℕ → Bool) (n : ℕ)
         (before after : ℕ → Sight) (raw raw' : List ℕ)
@@ -30,7 +30,7 @@ pub fn one_more_pixel()
     ensures loaded { (source : ℕ → PixelSource) (is_marked : ℕ → Bool) (n w : ℕ)
         (read : PixelSource) (before mid after : ℕ → Sight) (raw raw' : List ℕ)
         → is_marked n ≡ true → n < length raw' → read ≡ source n
-        → IsHeld mid read w → ((t : ℕ) → after t ≡ seen (mid t) (loads_of read w t))
+        → IsWordOfSource mid read w → ((t : ℕ) → after t ≡ seen (mid t) (loads_of read w t))
         → Repainted source is_marked n before mid raw raw'
         → Repainted source is_marked (n + 1) before after raw (slice_set raw' n w) }
 {}
@@ -70,9 +70,11 @@ pub fn repainted_parts()
         → All IsWord raw → All IsWord raw' }
 {}
 
-/// A piece that has pixels, each of them on the screen and with the piece's owner, is one that can be painted.
+/// A piece that has pixels, each of them on the screen and with the piece's owner, is one that can
+/// be painted.
 pub fn pieces_of_owners()
-    ensures { (s : Standing) (piece : Piece) → IsScreen s.width s.height → HasPixels piece.rect
+    ensures { (s : StackModel) (piece : Piece) → IsScreenSize s.width s.height
+        → HasPixels piece.rect
         → ((p : Point) → IsTrue (covers piece.rect p) → IsOnScreen s.width s.height p)
         → ((p : Point) → IsTrue (covers piece.rect p)
         → piece.owner ≡ option_map view_ref (owner_in (λ seat. seat.view) s.bar s.views p))

@@ -4,9 +4,9 @@ ghost use Rattle.std.specs.Prelude.{◌≡◌, ℕ, ◌+◌, ◌*◌, ◌<◌, �
 ghost use Rattle.nit_word.specs.Inks.{IsWord};
 ghost use Rattle.nit_word.specs.Sight.{Sight, seen};
 ghost use Rattle.nit_stack.specs.Sources.{Bare, PixelSource, among, black_or_word, index_at};
-ghost use Rattle.nit_stack.specs.Standing.{has};
-ghost use Rattle.nit_paint.specs.Painting.{Repainted, with_glass};
-ghost use Rattle.nit_paint.specs.Pieces.{IsPiece, has_pixel, session_shown, source_at, words_shown};
+ghost use Rattle.nit_stack.specs.Stack.{has_slot};
+ghost use Rattle.nit_paint.specs.Repaint.{Repainted, with_glass};
+ghost use Rattle.nit_paint.specs.Pieces.{IsPiece, has_pixel, session_shown, source_of_number, words_shown};
 ghost use Rattle.nit_paint.specs.Runs.{in_rows, long, reached, row_at};
 
 use crate::block::Block;
@@ -15,17 +15,18 @@ use crate::runs::{fill_run, paint_row};
 use nit_stack::{Piece, Stack};
 use nit_word::{BARE, Glass};
 
-/// Paints a piece of the screen that a view owns, by the glass of the view's session. A pixel to which the
-/// session's buffer does not reach gets 0. Any other is loaded once, at the index that it shows, and gets what the
-/// glass gives there: a word below 2^24 that is 0 or in its ink. Nothing else is loaded, no other pixel changes, and
-/// of the glass nothing but its log. `raw` has one word for each pixel of the screen, row by row from the top.
+/// Paints a piece of the screen that a view owns, by the glass of the view's session. A pixel to
+/// which the session's buffer does not reach gets 0. Any other is loaded once, at the index that it
+/// shows, and gets what the glass gives there: a word below 2^24 that is 0 or in its ink. Nothing
+/// else is loaded, no other pixel changes, and of the glass nothing but its log. `raw` has one word
+/// for each pixel of the screen, row by row from the top.
 pub fn paint_view<G: Glass>(stack: &Stack, raw: &mut [u32], piece: &Piece, glass: &mut G)
     requires raw { length raw.old ≡ stack.now.width * stack.now.height }
     requires piece { IsPiece stack.now piece.now }
-    requires view { IsSomeAnd piece.now.owner (λ v. has v.0 stack.now.views ≡ true) }
+    requires view { IsSomeAnd piece.now.owner (λ v. has_slot v.0 stack.now.views ≡ true) }
     requires words { words_shown stack.now piece.now ≤ (G.sight glass.old).size }
     ensures painted { (others : ℕ → Sight)
-        → Repainted (source_at stack.now) (has_pixel stack.now.width piece.now.rect)
+        → Repainted (source_of_number stack.now) (has_pixel stack.now.width piece.now.rect)
         (length raw.old)
         (with_glass others (session_shown stack.now piece.now) (G.sight glass.old))
         (with_glass others (session_shown stack.now piece.now) (G.sight glass.new))
@@ -46,14 +47,15 @@ pub fn paint_view<G: Glass>(stack: &Stack, raw: &mut [u32], piece: &Piece, glass
     paint_rows(raw, &block, &reach, row, (w, h), glass);
 }
 
-/// Paints a piece of the screen that no view owns: each pixel gets 0x000020, the word of the bare screen. Nothing is
-/// loaded, and no other pixel changes. `raw` has one word for each pixel of the screen, row by row from the top.
+/// Paints a piece of the screen that no view owns: each pixel gets 0x000020, the word of the bare
+/// screen. Nothing is loaded, and no other pixel changes. `raw` has one word for each pixel of the
+/// screen, row by row from the top.
 pub fn paint_bare(stack: &Stack, raw: &mut [u32], piece: &Piece)
     requires raw { length raw.old ≡ stack.now.width * stack.now.height }
     requires piece { IsPiece stack.now piece.now }
     requires bare { piece.now.owner ≡ None }
     ensures painted { (glasses : ℕ → Sight)
-        → Repainted (source_at stack.now) (has_pixel stack.now.width piece.now.rect)
+        → Repainted (source_of_number stack.now) (has_pixel stack.now.width piece.now.rect)
         (length raw.old) glasses glasses raw.old raw.new }
     ensures count { length raw.new ≡ length raw.old }
     ensures words { All IsWord raw.old → All IsWord raw.new }
@@ -63,8 +65,8 @@ pub fn paint_bare(stack: &Stack, raw: &mut [u32], piece: &Piece)
     bare_rows(raw, &block);
 }
 
-/// Paints a block by a buffer of `size.0` columns and `size.1` rows. The block's first row would show the
-/// buffer's row `row`.
+/// Paints a block by a buffer of `size.0` columns and `size.1` rows. The block's first row would
+/// show the buffer's row `row`.
 fn paint_rows<G: Glass>(
     raw: &mut [u32],
     block: &Block,

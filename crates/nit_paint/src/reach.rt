@@ -5,8 +5,8 @@ ghost use Rattle.std.specs.Option.{option_map};
 ghost use Rattle.nit_rect.specs.Rectangle.{IsPlace};
 ghost use Rattle.nit_stack.specs.Sources.{among, buffer_place};
 
-/// A row of pixels against a buffer's columns: first pixels that the buffer does not reach, then those
-/// that show its columns from `from` on, then again pixels that it does not reach.
+/// A row of pixels against a buffer's columns: first pixels that the buffer does not reach, then
+/// those that show its columns from `from` on, then again pixels that it does not reach.
 #[derive(Clone, Copy)]
 pub(crate) struct Reach {
     pub before: u32,
@@ -19,7 +19,8 @@ pub(crate) struct Reach {
 impl Reach {
     ghost use Rattle.nit_paint.specs.Runs.{long, reached};
 
-    /// How far a buffer of `w` columns reaches along `count` pixels, the first of which would show `column`.
+    /// How far a buffer of `w` columns reaches along `count` pixels, the first of which would show
+    /// `column`.
     pub fn new(column: i32, count: u32, w: u32) -> Reach
         requires column { (negsuc 99999 ≤ℤ column) × (column ≤ℤ pos 99999) }
         requires count { count ≤ 1024 }
@@ -50,7 +51,8 @@ impl Reach {
     }
 }
 
-/// The buffer's column or row that a column or row of the screen would show, by the view's corner and offset.
+/// The buffer's column or row that a column or row of the screen would show, by the view's corner
+/// and offset.
 pub(crate) fn buffer_place(at: i32, corner: i32, offset: i32) -> i32
     requires at { IsPlace at }
     requires corner { IsPlace corner }

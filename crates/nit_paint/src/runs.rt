@@ -3,7 +3,7 @@
 ghost use Rattle.std.specs.Prelude.{◌≡◌, ℕ, ◌+◌, ◌^◌, ◌<◌, ◌≤◌, length, IfSome, Some};
 ghost use Rattle.nit_word.specs.Sight.{Sight};
 ghost use Rattle.nit_stack.specs.Sources.{PixelSource, Word};
-ghost use Rattle.nit_paint.specs.Painting.{Repainted, with_glass};
+ghost use Rattle.nit_paint.specs.Repaint.{Repainted, with_glass};
 ghost use Rattle.nit_paint.specs.Runs.{in_run, long, own_word, row_source};
 
 use crate::reach::Reach;
@@ -37,8 +37,8 @@ fn load_run<G: Glass>(raw: &mut [u32], at: usize, count: u32, glass: &mut G, fro
     glass.load_row(from as usize, &mut raw[at..at + count as usize]);
 }
 
-/// Paints the pixels of a row from `at` on. The words of the buffer's row begin at `start`; where the buffer
-/// has no such row all pixels are black.
+/// Paints the pixels of a row from `at` on. The words of the buffer's row begin at `start`; where
+/// the buffer has no such row all pixels are black.
 pub(crate) fn paint_row<G: Glass>(
     raw: &mut [u32],
     at: usize,

@@ -1,2 +1,2 @@
-pub mod Keeps
+pub mod PixelRuleLemmas
 pub mod NewTables

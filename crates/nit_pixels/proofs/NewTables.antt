@@ -3,9 +3,9 @@ use Rattle.std.proofs.Common.{◌≡◌, ◌∙◌, ℕ, ◌<◌, [], length, So
 use Rattle.std.specs.Option.{option_map}
 use Rattle.nit_word.proofs.ForCallers.{length-zeros}
 use Rattle.nit_pixels.specs.declared.steps.Identity.{Identity}
-use Rattle.nit_pixels.specs.Ends.{new_sight}
-use Rattle.nit_pixels.specs.Seats.{PixelSeat, sight_of, IsOwners}
-use Rattle.nit_pixels.specs.Steps.{owner_view}
+use Rattle.nit_pixels.specs.End.{new_sight}
+use Rattle.nit_pixels.specs.PixelSeat.{PixelSeat, sight_of, IsOwners}
+use Rattle.nit_pixels.specs.PixelRule.{owner_view}
 
 pub first_sight : (identity : Identity) (s : PixelSeat) → s.table_id.words ≡ identity.words → s.me ≡ (owner_view identity, [])
     → sight_of s ≡ new_sight identity.owner identity.words identity.ink.items

@@ -1,6 +1,6 @@
 pub use Rattle.nit_word.specs.Inks
 pub use Rattle.nit_word.specs.Sight
 pub use Rattle.nit_word.specs.Zeros
-pub mod Ends
-pub mod Seats
-pub mod Steps
+pub mod End
+pub mod PixelSeat
+pub mod PixelRule

@@ -2,7 +2,7 @@
 ghost use Rattle.std.specs.Prelude.{◌≡◌, ◌≤◌, All, IfOk};
 ghost use Rattle.nit_word.specs.Inks.{IsWord};
 ghost use Rattle.nit_word.specs.Zeros.{zeros};
-ghost use Rattle.nit_pixels.specs.Ends.{new_sight};
+ghost use Rattle.nit_pixels.specs.End.{new_sight};
 ghost use Rattle.nit_rect.specs.Limits.{most_words};
 
 use crate::canvas::Canvas;
@@ -20,7 +20,7 @@ pub struct PixelBuffer {
 
 impl Model for PixelBuffer {
     ghost use Rattle.atomic_table.specs.Seated.{table_id_coded};
-    ghost use Rattle.nit_pixels.specs.Ends.{BufferName};
+    ghost use Rattle.nit_pixels.specs.End.{BufferName};
 
     ghost Value = { BufferName };
 
@@ -29,15 +29,16 @@ impl Model for PixelBuffer {
     ghost view = { λ b. b.table.shared.table_id };
 }
 
-/// The right to be the owner of one buffer, seen as the canvas that it will make. A buffer has one key.
+/// The right to be the owner of one buffer, seen as the canvas that it will make. A buffer has one
+/// key.
 #[derive(Drop)]
 pub struct Key {
     seat: Seat<(), PixelView>,
 }
 
 impl Model for Key {
-    ghost use Rattle.nit_pixels.specs.Ends.{End};
-    ghost use Rattle.nit_pixels.specs.Seats.{end_of, IsOwners};
+    ghost use Rattle.nit_pixels.specs.End.{End};
+    ghost use Rattle.nit_pixels.specs.PixelSeat.{end_of, IsOwners};
 
     ghost Value = { End };
 
@@ -47,8 +48,8 @@ impl Model for Key {
 }
 
 impl PixelBuffer {
-    /// A buffer of this owner with so many words, 1 to 1,048,576, all 0, and its one key. Words of the
-    /// ink are below 2^24. Only this call takes memory.
+    /// A buffer of this owner with so many words, 1 to 1,048,576, all 0, and its one key. Words of
+    /// the ink are below 2^24. Only this call takes memory.
     pub fn new(
         alloc: Global,
         owner: u32,

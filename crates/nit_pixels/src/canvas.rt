@@ -2,7 +2,7 @@
 ghost use Rattle.std.specs.Prelude.{◌≡◌, ◌<◌};
 ghost use Rattle.nit_word.specs.Inks.{IsInked};
 ghost use Rattle.nit_word.specs.Sight.{stored};
-ghost use Rattle.nit_pixels.specs.Ends.{reader_sight};
+ghost use Rattle.nit_pixels.specs.End.{reader_sight};
 
 use crate::lens::Lens;
 use crate::standing::Standing;
@@ -11,8 +11,8 @@ use atomic_table::Seat;
 use nit_word::Glass;
 use std::marker::Model;
 
-/// The owner's end of a buffer, seen as its sight, which tells words and log, and as the buffer and the
-/// seat that it has. It can be sent to another thread.
+/// The owner's end of a buffer, seen as its sight, which tells words and log, and as the buffer and
+/// the seat that it has. It can be sent to another thread.
 #[derive(Drop)]
 pub struct Canvas<'a> {
     pub(crate) words: &'a Words,
@@ -21,8 +21,8 @@ pub struct Canvas<'a> {
 
 impl<'a> Model for Canvas<'a> {
     ghost use Rattle.std.specs.Prelude.{◌≡◌};
-    ghost use Rattle.nit_pixels.specs.Ends.{End};
-    ghost use Rattle.nit_pixels.specs.Seats.{end_of, IsOwners};
+    ghost use Rattle.nit_pixels.specs.End.{End};
+    ghost use Rattle.nit_pixels.specs.PixelSeat.{end_of, IsOwners};
 
     ghost Value = { End };
 
@@ -32,8 +32,8 @@ impl<'a> Model for Canvas<'a> {
 }
 
 impl<'a> Canvas<'a> {
-    /// A reader's end of the same buffer, with the same owner, size and ink and an empty log. The canvas
-    /// stays as it was.
+    /// A reader's end of the same buffer, with the same owner, size and ink and an empty log. The
+    /// canvas stays as it was.
     pub fn split(&mut self) -> Lens<'a>
         ensures canvas { self.new ≡ self.old }
         ensures lens { result.sight ≡ reader_sight self.old.sight }
@@ -46,8 +46,8 @@ impl<'a> Canvas<'a> {
         }
     }
 
-    /// Sets the word at place `i`, which is below the size, to `w`, which is 0 or in the ink. Nothing
-    /// else about the canvas changes.
+    /// Sets the word at place `i`, which is below the size, to `w`, which is 0 or in the ink.
+    /// Nothing else about the canvas changes.
     pub fn store(&mut self, i: usize, w: u32)
         requires place { i < self.old.sight.size }
         requires word { IsInked self.old.sight.ink w }

@@ -6,8 +6,8 @@ use atomic_table::Seat;
 use nit_word::Glass;
 use std::marker::Model;
 
-/// A reader's end of a buffer, seen as its sight, which tells a log and no words, and as the buffer and
-/// the seat that it has. It can be sent to another thread.
+/// A reader's end of a buffer, seen as its sight, which tells a log and no words, and as the buffer
+/// and the seat that it has. It can be sent to another thread.
 #[derive(Drop)]
 pub struct Lens<'a> {
     pub(crate) words: &'a Words,
@@ -16,8 +16,8 @@ pub struct Lens<'a> {
 
 impl<'a> Model for Lens<'a> {
     ghost use Rattle.std.specs.Prelude.{◌≡◌};
-    ghost use Rattle.nit_pixels.specs.Ends.{End};
-    ghost use Rattle.nit_pixels.specs.Seats.{end_of, IsReaders};
+    ghost use Rattle.nit_pixels.specs.End.{End};
+    ghost use Rattle.nit_pixels.specs.PixelSeat.{end_of, IsReaders};
 
     ghost Value = { End };
 

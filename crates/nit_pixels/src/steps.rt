@@ -28,14 +28,14 @@ pub struct Identity {
     pub ink: Vec<u32>,
 }
 
-/// Each word is 0 or in the ink, all views have one owner and one ink, and the one view that tells words
-/// tells those of the table. The first view is the owner's.
+/// Each word is 0 or in the ink, all views have one owner and one ink, and the one view that tells
+/// words tells those of the table. The first view is the owner's.
 pub struct PixelRule;
 
 impl TableRule<(), PixelView, Identity> for PixelRule {
-    ghost use Rattle.nit_pixels.specs.Steps.{IsRuled, owner_view};
+    ghost use Rattle.nit_pixels.specs.PixelRule.{IsPixelRule, owner_view};
 
-    ghost holds = { IsRuled };
+    ghost holds = { IsPixelRule };
 
     ghost first = { owner_view };
 }
@@ -44,25 +44,25 @@ impl TableRule<(), PixelView, Identity> for PixelRule {
 pub(crate) struct Loads;
 
 impl Play<(), PixelView> for Loads {
-    ghost use Rattle.nit_pixels.specs.Steps.{Loaded};
+    ghost use Rattle.nit_pixels.specs.PixelRule.{LoadStep};
 
-    ghost then = { Loaded };
+    ghost then = { LoadStep };
 }
 
 /// A store of the owner.
 pub(crate) struct Stores;
 
 impl Play<(), PixelView> for Stores {
-    ghost use Rattle.nit_pixels.specs.Steps.{Stored};
+    ghost use Rattle.nit_pixels.specs.PixelRule.{StoreStep};
 
-    ghost then = { Stored };
+    ghost then = { StoreStep };
 }
 
 /// A reader's view is split off the owner's, which stays.
 pub(crate) struct SplitsOff;
 
 impl Split<PixelView> for SplitsOff {
-    ghost use Rattle.nit_pixels.specs.Steps.{reader_view};
+    ghost use Rattle.nit_pixels.specs.PixelRule.{reader_view};
 
     ghost left = { λ view. view };
 

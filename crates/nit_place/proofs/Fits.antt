@@ -6,15 +6,15 @@ use Rattle.std.proofs.lemmas.Bool.Decides.{nat_tests}
 use Rattle.std.proofs.lemmas.List.{get_or_default}
 use Rattle.nit_rect.specs.Rectangle.{Rectangle, covers}
 use Rattle.nit_stack.specs.declared.view.View.{View}
-use Rattle.nit_stack.specs.Labels.{fits, is_owner, owns}
+use Rattle.nit_stack.specs.LabelPlaces.{fits, is_owner, owns}
 use Rattle.nit_stack.specs.Sources.{point}
-use Rattle.nit_stack.specs.Standing.{fresh}
+use Rattle.nit_stack.specs.Stack.{fresh}
 use Rattle.nit_place.specs.declared.part.Part.{Part}
-use Rattle.nit_place.specs.Edges.{on_screen, right_of, below}
-use Rattle.nit_place.specs.Free.{meets, IsFree}
-use Rattle.nit_place.specs.Parts.{area_of, part_at, part_of}
-use Rattle.nit_place.proofs.Steps.{three}
-use Rattle.nit_place.proofs.Moves.{Meets, meets-true, meets-of}
+use Rattle.nit_place.specs.Edges.{on_screen, right_of, bottom_of}
+use Rattle.nit_place.specs.FreePlaces.{meets, IsFree}
+use Rattle.nit_place.specs.Part.{area_of, part_at, part_of}
+use Rattle.nit_place.proofs.BoundLemmas.{three}
+use Rattle.nit_place.proofs.SearchLemmas.{Meets, meets-true, meets-of}
 use Rattle.nit_place.proofs.Grid.{all_in_grid, all_of_grid}
 use Rattle.nit_place.proofs.Names.{IsFirstAt, StandsAt, owned_by, owner_of}
 
@@ -43,7 +43,7 @@ past_edge k (negsuc n) = le-leb 0 k (omega arith)
 same_pixels : (r : Rectangle) (x y : ℕ) → has_pixel (part_of r) x y ≡ covers r (point x y)
 same_pixels r x y =
     ap₂ (λ a b. a && b) (ap₂ (λ a b. a && b) (past_edge x r.x) (below_edge x (right_of r)))
-    (ap₂ (λ a b. a && b) (past_edge y r.y) (below_edge y (below r)))
+    (ap₂ (λ a b. a && b) (past_edge y r.y) (below_edge y (bottom_of r)))
 
 has_tells : (r : Part) (x y : ℕ) → has_pixel r x y ≡ true → Covers r x y
 has_tells r x y e = record {

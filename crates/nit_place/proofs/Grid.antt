@@ -4,7 +4,7 @@ use Rattle.std.specs.List.{list_all, flat_map, range_with_len}
 use Rattle.std.specs.Option.{option_map, option_or}
 use Rattle.std.proofs.lemmas.Bool.{and_parts, cases_lt}
 use Rattle.std.proofs.lemmas.List.Folds.{find-append, list_all-append, list_all-map}
-use Rattle.nit_place.specs.Least.{IsBefore, IsLeast}
+use Rattle.nit_place.specs.LeastPlace.{IsBefore, IsLeast}
 use Rattle.nit_stack.proofs.ForCallers.{find-map}
 
 -- ---- all of a range, all of a grid

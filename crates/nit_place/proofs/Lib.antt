@@ -1,9 +1,9 @@
-pub mod Steps
-pub mod Moves
+pub mod BoundLemmas
+pub mod SearchLemmas
 pub mod Seats
 pub mod Grid
 pub mod Names
 pub mod Fits
 pub mod Screen
-pub mod Places
+pub mod LabelPlaces
 pub mod ForCallers

@@ -9,9 +9,9 @@ use Rattle.std.proofs.lemmas.List.Folds.{find_at, list_any_at}
 use Rattle.std.proofs.lemmas.List.Sums.{fails_before_first, passes_at_first, position_or_len_is}
 use Rattle.std.proofs.lemmas.Option.{slice_get-get_or, slice_get_past}
 use Rattle.nit_stack.specs.declared.view.View.{View}
-use Rattle.nit_stack.specs.Labels.{is_owner, is_view}
-use Rattle.nit_stack.specs.Names.{views_of}
-use Rattle.nit_stack.specs.Standing.{NoPair, Seat, same_name}
+use Rattle.nit_stack.specs.LabelPlaces.{is_owner, is_view}
+use Rattle.nit_stack.specs.ViewNames.{views_of}
+use Rattle.nit_stack.specs.Stack.{NoPair, SlotView, same_name}
 
 -- no view has the name of a later one
 abbrev pub NamesDiffer : List View → Type 0
@@ -23,21 +23,21 @@ pub record StandsAt (stack : List View) (n : ℕ) (v : View) : Type 0 where
   pub view : slice_index_or stack n v ≡ v
   pub names : NamesDiffer stack
 
-fails_there : (p : Seat → Bool) (seats : List Seat) (j : ℕ) (d : Seat) → list_any p seats ≡ false → j < length seats → p (slice_index_or seats j d) ≡ false
+fails_there : (p : SlotView → Bool) (seats : List SlotView) (j : ℕ) (d : SlotView) → list_any p seats ≡ false → j < length seats → p (slice_index_or seats j d) ≡ false
 fails_there p seats j d none lt =
     false_from_ne_true (p (slice_index_or seats j d)) (λ e. let some : list_any p seats ≡ true = list_any_at p seats j d lt e in cc)
 
-seats_differ : (seats : List Seat) → NoPair same_name seats → AllPairs (λ a b. same_name a b ≡ false) seats
+seats_differ : (seats : List SlotView) → NoPair same_name seats → AllPairs (λ a b. same_name a b ≡ false) seats
 seats_differ [] h i j d lt within = absurd (omega arith)
 seats_differ (s ∷ seats) h i zero d lt within = absurd (omega arith)
 seats_differ (s ∷ seats) h zero (suc j) d lt within = fails_there (same_name s) seats j d h.0 (omega arith)
 seats_differ (s ∷ seats) h (suc i) (suc j) d lt within = seats_differ seats h.1 i j d (omega arith) (omega arith)
 
-pub names_differ : (seats : List Seat) → NoPair same_name seats → (e : Seat) → NamesDiffer (views_of seats)
+pub names_differ : (seats : List SlotView) → NoPair same_name seats → (e : SlotView) → NamesDiffer (views_of seats)
 names_differ seats h e i j d lt within =
-    let inside : j < length seats = omega (arith, length-map seats (λ (s : Seat). s.view)) in
-    let first = get_or-map (λ (s : Seat). s.view) seats i e d (omega arith) in
-    let second = get_or-map (λ (s : Seat). s.view) seats j e d inside in
+    let inside : j < length seats = omega (arith, length-map seats (λ (s : SlotView). s.view)) in
+    let first = get_or-map (λ (s : SlotView). s.view) seats i e d (omega arith) in
+    let second = get_or-map (λ (s : SlotView). s.view) seats j e d inside in
     subst (λ (a : View). is_view a.sid a.handle (slice_index_or (views_of seats) j d) ≡ false) (sym first)
     (subst (λ (b : View). is_view (slice_index_or seats i e).view.sid (slice_index_or seats i e).view.handle b ≡ false) (sym second)
     (seats_differ seats h i j e lt inside))

@@ -3,13 +3,13 @@ use Rattle.std.proofs.Common.{◌≡◌, ℕ, ◌+◌, ◌-◌, ◌<◌, ◌≤�
 use Rattle.std.specs.Prelude.{ℤ, pos, negsuc}
 use Rattle.std.proofs.lemmas.Bool.{and_parts, false_from_ne_true}
 use Rattle.std.proofs.lemmas.Bool.Decides.{nat_tests}
-use Rattle.nit_rect.specs.Meeting.{IsApart}
+use Rattle.nit_rect.specs.Intersection.{IsApart}
 use Rattle.nit_rect.specs.Rectangle.{rectangle, covers}
 use Rattle.nit_stack.specs.declared.view.View.{View}
-use Rattle.nit_stack.specs.Labels.{fits, is_owner, is_view, label_place, owns}
+use Rattle.nit_stack.specs.LabelPlaces.{fits, is_owner, is_view, label_place, owns}
 use Rattle.nit_stack.specs.Sources.{owner, point}
-use Rattle.nit_place.specs.Least.{IsLeast}
-use Rattle.nit_place.proofs.Steps.{three}
+use Rattle.nit_place.specs.LeastPlace.{IsLeast}
+use Rattle.nit_place.proofs.BoundLemmas.{three}
 use Rattle.nit_place.proofs.Grid.{IsOnlyWithin, all_in_grid, found_least, one_least}
 
 -- an owned pixel is on the screen, and its owner has the view's name

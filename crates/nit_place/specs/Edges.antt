@@ -4,9 +4,10 @@ use Rattle.std.specs.List.{before_first}
 use Rattle.nit_rect.specs.declared.point.Point.{Point}
 use Rattle.nit_rect.specs.Rectangle.{Rectangle}
 use Rattle.nit_stack.specs.declared.view.View.{View}
-use Rattle.nit_stack.specs.Labels.{is_view}
+use Rattle.nit_stack.specs.LabelPlaces.{is_view}
 
--- a column or row, where it is on the screen or past its end; 0 where it is left of the screen or above it
+-- a column or row, where it is on the screen or past its end; 0 where it is left of the screen or
+-- above it
 abbrev pub on_screen : ℤ → ℕ
 on_screen (pos n) = n
 on_screen (negsuc n) = 0
@@ -16,8 +17,8 @@ abbrev pub right_of : Rectangle → ℤ
 right_of r = r.x +ℤ pos r.w
 
 -- the first row below a rectangle
-abbrev pub below : Rectangle → ℤ
-below r = r.y +ℤ pos r.h
+abbrev pub bottom_of : Rectangle → ℤ
+bottom_of r = r.y +ℤ pos r.h
 
 -- the views in front of a view
 abbrev pub in_front : View → List View → List View
@@ -31,7 +32,7 @@ IsColumn stack v x =
 -- the top row of a view's part on the screen below the bar, or the bottom of a view in front of it
 abbrev pub IsRow : ℕ → List View → View → ℤ → Type 0
 IsRow rows stack v y =
-    (y ≡ pos (max (on_screen v.rect.y) rows)) ⊎ Any (λ u. y ≡ below u.rect) (in_front v stack)
+    (y ≡ pos (max (on_screen v.rect.y) rows)) ⊎ Any (λ u. y ≡ bottom_of u.rect) (in_front v stack)
 
 -- the column and the row stand at such edges
 pub record IsAtEdges (rows : ℕ) (stack : List View) (v : View) (q : Point) : Type 0 where

@@ -1,10 +1,10 @@
-pub use Rattle.nit_rect.specs.Meeting
+pub use Rattle.nit_rect.specs.Intersection
 pub use Rattle.nit_rect.specs.Rectangle
-pub use Rattle.nit_stack.specs.Labels
-pub use Rattle.nit_stack.specs.Names
+pub use Rattle.nit_stack.specs.LabelPlaces
+pub use Rattle.nit_stack.specs.ViewNames
 pub use Rattle.nit_stack.specs.Sources
-pub use Rattle.nit_stack.specs.Standing
+pub use Rattle.nit_stack.specs.Stack
 pub mod Edges
-pub mod Least
-pub mod Parts
-pub mod Free
+pub mod LeastPlace
+pub mod Part
+pub mod FreePlaces

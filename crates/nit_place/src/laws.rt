@@ -1,13 +1,14 @@
 //! What follows from the definition of a label's place alone.
 
 ghost use Rattle.std.specs.Prelude.{◌≡◌, ℕ, ◌+◌, ◌≤◌, List, Option, false, true, pos};
-ghost use Rattle.nit_rect.specs.Meeting.{IsApart};
+ghost use Rattle.nit_rect.specs.Intersection.{IsApart};
 ghost use Rattle.nit_rect.specs.Rectangle.{rectangle};
 ghost use Rattle.nit_stack.specs.declared.view.View.{View};
-ghost use Rattle.nit_stack.specs.Labels.{fits, is_view, label_place};
-ghost use Rattle.nit_place.specs.Least.{IsLeast};
+ghost use Rattle.nit_stack.specs.LabelPlaces.{fits, is_view, label_place};
+ghost use Rattle.nit_place.specs.LeastPlace.{IsLeast};
 
-/// Two labels that stand where they fit views of different names share no pixel. Each has a size of its own.
+/// Two labels that stand where they fit views of different names share no pixel. Each has a size of
+/// its own.
 pub fn labels_apart()
     ensures { (width height rows : ℕ) (stack : List View) (v u : View) (w h x y w' h' x' y' : ℕ)
         → is_view v.sid v.handle u ≡ false
@@ -16,8 +17,8 @@ pub fn labels_apart()
         → IsApart (rectangle (pos x) (pos y) w h) (rectangle (pos x') (pos y') w' h') }
 {}
 
-/// The place of a label, which has pixels, is the least one at which it fits, by row and then by column. There is
-/// none exactly where it fits nowhere. Where a label fits it lies on the screen.
+/// The place of a label, which has pixels, is the least one at which it fits, by row and then by
+/// column. There is none exactly where it fits nowhere. Where a label fits it lies on the screen.
 pub fn least_place()
     ensures least { (width height rows : ℕ) (stack : List View) (v : View) (w h : ℕ) → 1 ≤ w → 1 ≤ h
         → IsLeast (fits width height rows stack v w h) (label_place width height rows stack v w h) }

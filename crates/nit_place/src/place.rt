@@ -2,12 +2,12 @@
 
 ghost use Rattle.std.specs.Prelude.{◌≡◌, ◌≤◌, true, length, option_map, IfSome, Some};
 ghost use Rattle.std.specs.List.{position_or_len};
-ghost use Rattle.nit_stack.specs.Labels.{label_place};
-ghost use Rattle.nit_stack.specs.Names.{views_of};
+ghost use Rattle.nit_stack.specs.LabelPlaces.{label_place};
+ghost use Rattle.nit_stack.specs.ViewNames.{views_of};
 ghost use Rattle.nit_stack.specs.Sources.{point};
-ghost use Rattle.nit_stack.specs.Standing.{IsStanding, Seat, has, is_slot, seat_in};
+ghost use Rattle.nit_stack.specs.Stack.{IsStack, SlotView, has_slot, is_slot, slot_view_in};
 ghost use Rattle.nit_place.specs.Edges.{IsAtEdges, IsWithinScreen};
-ghost use Rattle.nit_place.specs.Parts.{area_of};
+ghost use Rattle.nit_place.specs.Part.{area_of};
 ghost use Rattle.nit_rect.specs.Limits.{most_edge};
 
 use crate::part::Part;
@@ -15,18 +15,18 @@ use crate::search::search;
 use nit_rect::Point;
 use nit_stack::{Stack, ViewRef};
 
-/// The first place, row by row from the top, at which a label of `w` by `h` lies in pixels that the view owns.
-/// None exactly where there is no such place. The width and the height are 1..=133.
+/// The first place, row by row from the top, at which a label of `w` by `h` lies in pixels that the
+/// view owns. None exactly where there is no such place. The width and the height are 1..=133.
 pub fn place_label(stack: &Stack, v: ViewRef, w: u32, h: u32) -> Option<Point>
-    requires view { has v.0 stack.now.views ≡ true }
+    requires view { has_slot v.0 stack.now.views ≡ true }
     requires width { (1 ≤ w) × (w ≤ 133) }
     requires height { (1 ≤ h) × (h ≤ 133) }
-    ensures place { (s : Seat) → seat_in v.0 stack.now.views ≡ Some s
+    ensures place { (s : SlotView) → slot_view_in v.0 stack.now.views ≡ Some s
         → result
         ≡ option_map (λ q. point q.0 q.1)
         (label_place stack.now.width stack.now.height stack.now.bar (views_of stack.now.views)
         s.view w h) }
-    ensures edges { (s : Seat) → seat_in v.0 stack.now.views ≡ Some s
+    ensures edges { (s : SlotView) → slot_view_in v.0 stack.now.views ≡ Some s
         → IfSome result (IsAtEdges stack.now.bar (views_of stack.now.views) s.view) }
     ensures within { IfSome result (IsWithinScreen stack.now.width stack.now.height w h) }
 {
@@ -36,8 +36,8 @@ pub fn place_label(stack: &Stack, v: ViewRef, w: u32, h: u32) -> Option<Point>
 
 /// What of the view lies on the screen below the bar.
 fn area(stack: &Stack, v: ViewRef) -> Part
-    requires { has v.0 stack.now.views ≡ true }
-    ensures area { (s : Seat) → seat_in v.0 stack.now.views ≡ Some s
+    requires { has_slot v.0 stack.now.views ≡ true }
+    ensures area { (s : SlotView) → slot_view_in v.0 stack.now.views ≡ Some s
         → result ≡ area_of stack.now.width stack.now.height stack.now.bar s.view.rect }
     ensures left { result.left ≤ most_edge }
     ensures top { result.top ≤ most_edge }
@@ -56,10 +56,10 @@ fn area(stack: &Stack, v: ViewRef) -> Part
 
 /// How many views stand in front of the view.
 fn views_in_front(stack: &Stack, v: ViewRef) -> u32
-    requires { has v.0 stack.now.views ≡ true }
+    requires { has_slot v.0 stack.now.views ≡ true }
     ensures count { result ≡ position_or_len (is_slot v.0) stack.now.views }
     ensures within { result ≤ length stack.now.views }
-    ensures standing { IsStanding stack.now }
+    ensures standing { IsStack stack.now }
 {
     let count = stack.len();
     'views: for i in 0..count {

@@ -1,9 +1,9 @@
 //! The search for the least free place.
 
 ghost use Rattle.std.specs.Prelude.{◌≡◌, ◌+◌, ◌≤◌, length};
-ghost use Rattle.nit_stack.specs.Names.{views_of};
-ghost use Rattle.nit_place.specs.Free.{IsBlocking, IsRowSearched, IsSearched, further, nearer};
-ghost use Rattle.nit_place.specs.Parts.{part_at};
+ghost use Rattle.nit_stack.specs.ViewNames.{views_of};
+ghost use Rattle.nit_place.specs.FreePlaces.{IsBlocking, IsRowSearched, IsSearched, further, nearer};
+ghost use Rattle.nit_place.specs.Part.{part_at};
 ghost use Rattle.nit_rect.specs.Limits.{most_edge};
 
 use crate::part::Part;
@@ -15,7 +15,8 @@ use nit_stack::Stack;
 pub(crate) enum Row {
     /// The least column at which the label is free.
     Free(u32),
-    /// The label is free neither there nor in the rows below before this one. With none, in no row below.
+    /// The label is free neither there nor in the rows below before this one. With none, in no row
+    /// below.
     Full(Option<u32>),
 }
 
@@ -43,8 +44,8 @@ fn nearer(found: Option<u32>, row: u32) -> u32
     }
 }
 
-/// The part of one of the first `front` views that the rectangle of `w` by `h` at (x, y) meets. Of several it is
-/// the one that reaches furthest right.
+/// The part of one of the first `front` views that the rectangle of `w` by `h` at (x, y) meets. Of
+/// several it is the one that reaches furthest right.
 fn blocking(stack: &Stack, front: u32, x: u32, y: u32, w: u32, h: u32) -> Option<Part>
     requires front { front ≤ length stack.now.views }
     requires across { x + w ≤ 4294967295 }
@@ -62,8 +63,8 @@ fn blocking(stack: &Stack, front: u32, x: u32, y: u32, w: u32, h: u32) -> Option
     found
 }
 
-/// The least column at which the rectangle of `w` by `h` lies free in the row `y` of the area, or how far down it
-/// is free nowhere.
+/// The least column at which the rectangle of `w` by `h` lies free in the row `y` of the area, or
+/// how far down it is free nowhere.
 fn place_in_row(stack: &Stack, front: u32, area: &Part, w: u32, h: u32, y: u32) -> Row
     requires front { front ≤ length stack.now.views }
     requires left { area.now.left ≤ most_edge }
@@ -86,7 +87,8 @@ fn place_in_row(stack: &Stack, front: u32, area: &Part, w: u32, h: u32, y: u32) 
     Row::Full(next)
 }
 
-/// The least place, by row and then by column, at which the rectangle of `w` by `h` lies free in the area.
+/// The least place, by row and then by column, at which the rectangle of `w` by `h` lies free in
+/// the area.
 pub(crate) fn search(stack: &Stack, front: u32, area: &Part, w: u32, h: u32) -> Option<Point>
     requires front { front ≤ length stack.now.views }
     requires left { area.now.left ≤ most_edge }

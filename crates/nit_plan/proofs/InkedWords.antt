@@ -11,9 +11,9 @@ use Rattle.nit_script.specs.declared.line.Stroke.{Stroke}
 use Rattle.nit_script.specs.declared.line.Line.{Line}
 use Rattle.nit_script.specs.declared.line.Line.TheVariants as line
 use Rattle.nit_journal.specs.Session.{serve}
-use Rattle.nit_journal.specs.Views.{is_accepted}
-use Rattle.nit_plan.specs.Strokes.{stroke_colour, word_after, stroked, cleared}
-use Rattle.nit_plan.specs.Plans.{Painting, blank, colours, ink, after_line, painted_from, size_of, table_size, words_after, words_left}
+use Rattle.nit_journal.specs.StackAfter.{is_accepted}
+use Rattle.nit_plan.specs.Strokes.{stroke_colour, word_after_stroke, stroked, cleared}
+use Rattle.nit_plan.specs.ScriptWords.{Painting, blank, colours, ink, after_line, painted_from, size_of, table_size, words_after, words_left}
 use Rattle.nit_plan.proofs.LineColours.{colours_inked}
 use Rattle.nit_plan.proofs.Places.{colour_inked}
 use Rattle.nit_word.proofs.ForCallers.{one_of}
@@ -43,7 +43,7 @@ unfolding cleared
 cleared_inked ink w h words inked = both_inked ink (zeros (w * h)) (drop (w * h) words) (zeros_inked ink (w * h)) (back_inked ink (w * h) words inked)
 
 stroked_from : (ink : List ℕ) (size : Size) (s : Stroke) (n : ℕ) (words : List ℕ) → AllByRecursion (IsInked ink) (colours (line.Stroke s)) → AreInked ink words
-    → AreInked ink (map (λ p. word_after size s p.0 p.1) (enumerate_from n words))
+    → AreInked ink (map (λ p. word_after_stroke size s p.0 p.1) (enumerate_from n words))
 stroked_from ink size s n [] named inked = tt
 stroked_from ink size s n (w ∷ words) named inked =
     (one_of ink _ (stroke_colour s (n % size.w) (n / size.w)) w (colour_inked ink s (n % size.w) (n / size.w) named) inked.0, stroked_from ink size s (n + 1) words named inked.1)

@@ -15,8 +15,8 @@ use Rattle.nit_script.specs.declared.line.Line.{Line}
 use Rattle.nit_script.specs.declared.line.Line.TheVariants as line
 use Rattle.nit_plan.specs.declared.plan.Step.{Step}
 use Rattle.nit_plan.specs.Strokes.{is_stroked, place_colour, stroked, cleared}
-use Rattle.nit_plan.specs.Plans.{static, words_after}
-use Rattle.nit_plan.specs.Steps.{accepts, is_set_by, step_of, words_by_step}
+use Rattle.nit_plan.specs.ScriptWords.{static, words_after}
+use Rattle.nit_plan.specs.Plan.{accepts, is_set_by, step_of, words_by_step}
 use Rattle.nit_plan.proofs.Lines.{words_next}
 use Rattle.nit_plan.proofs.Places.{stroke_set, stroked_long, whole}
 

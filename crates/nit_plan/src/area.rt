@@ -2,7 +2,7 @@
 ghost use Rattle.std.specs.Prelude.{◌≡◌, ℕ, ◌+◌, ◌^◌, ◌<◌, ◌≤◌, ◌&&◌, nat_lt};
 ghost use Rattle.nit_script.specs.Spelling.{FitsLine, FitsStroke};
 ghost use Rattle.nit_plan.specs.Strokes.{is_in_area, is_stroked};
-ghost use Rattle.nit_plan.specs.Steps.{is_set_by};
+ghost use Rattle.nit_plan.specs.Plan.{is_set_by};
 
 use crate::plan::Step;
 use crate::stroking::accepts;
@@ -22,8 +22,9 @@ pub struct Area {
     pub h: u32,
 }
 
-/// The places of the buffer whose words the line sets, by its step: all of a new buffer, those that a
-/// stroke's rectangle and the buffer both have, and none at any other line. The buffer has all of them.
+/// The places of the buffer whose words the line sets, by its step: all of a new buffer, those that
+/// a stroke's rectangle and the buffer both have, and none at any other line. The buffer has all of
+/// them.
 pub fn area_set(line: &Line, step: Step) -> Area
     requires { FitsLine line.now }
     ensures places { (i j : ℕ) → is_in_area result i j ≡ is_set_by line.now step i j }
@@ -46,8 +47,8 @@ pub fn area_set(line: &Line, step: Step) -> Area
     }
 }
 
-/// The places that the area and a buffer of `w` columns and `h` rows both have. The area's numbers are
-/// below 10^9.
+/// The places that the area and a buffer of `w` columns and `h` rows both have. The area's numbers
+/// are below 10^9.
 fn within(area: Area, w: u32, h: u32) -> Area
     requires { (area.x < 10 ^ 9) × (area.y < 10 ^ 9) × (area.w < 10 ^ 9) × (area.h < 10 ^ 9) }
     ensures places { (i j : ℕ)

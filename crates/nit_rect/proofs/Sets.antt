@@ -7,8 +7,8 @@ use Rattle.std.proofs.lemmas.Int.{ints}
 use Rattle.std.proofs.lemmas.Bool.{and_parts}
 use Rattle.nit_rect.specs.Rectangle.{Rectangle, rectangle, spans, covers}
 use Rattle.nit_rect.specs.declared.point.Point.{Point}
-use Rattle.nit_rect.specs.Meeting.{nothing, HasPixels, IsApart, CoversBoth, LiesIn}
-use Rattle.nit_rect.specs.Dividing.{times, times_among}
+use Rattle.nit_rect.specs.Intersection.{empty_rectangle, HasPixels, IsApart, CoversBoth, LiesIn}
+use Rattle.nit_rect.specs.Strips.{times, times_among}
 use Rattle.nit_rect.proofs.Spans.{no_place, regrouped, and_true, IsSpanned, spans_tells, spans_holds, le_tested}
 
 -- the columns and the rows that both have
@@ -28,8 +28,8 @@ covers_none r p (inl none) = rw (none, no_place r.x p.x) refl
 covers_none r p (inr none) = rw (none, no_place r.y p.y) (and_false (spans r.x r.w p.x))
 
 -- what has no pixels may as well be nothing
-pub both_nothing : (a b r : Rectangle) → CoversBoth a b r → (r.w ≡ 0) ⊎ (r.h ≡ 0) → CoversBoth a b nothing
-both_nothing a b r both none p = covers_none nothing p (inl refl) ∙ sym (covers_none r p none) ∙ both p
+pub both_nothing : (a b r : Rectangle) → CoversBoth a b r → (r.w ≡ 0) ⊎ (r.h ≡ 0) → CoversBoth a b empty_rectangle
+both_nothing a b r both none p = covers_none empty_rectangle p (inl refl) ∙ sym (covers_none r p none) ∙ both p
 
 abbrev corner : Rectangle → Point
 corner r = record { x = r.x; y = r.y }

@@ -6,7 +6,7 @@ use native.Mathlib.Decide.{dec_lt}
 use Rattle.std.proofs.lemmas.Int.{ints, by_lt_z}
 use Rattle.std.proofs.lemmas.Bool.{and_parts, false_from_ne_true}
 use Rattle.nit_rect.specs.Rectangle.{spans}
-use Rattle.nit_rect.specs.Dividing.{times_among}
+use Rattle.nit_rect.specs.Strips.{times_among}
 
 -- two tests that hold at the same time
 pub same_tests : (b c : Bool) → (b ≡ true → c ≡ true) → (c ≡ true → b ≡ true) → b ≡ c

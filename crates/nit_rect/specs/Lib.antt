@@ -1,6 +1,6 @@
 pub mod Limits
 pub mod Rectangle
-pub mod Meeting
-pub mod Dividing
+pub mod Intersection
+pub mod Strips
 pub mod Screen
 pub mod Options

@@ -32,7 +32,8 @@ most_sessions = 16
 abbrev pub most_slots : ℕ
 most_slots = 1024
 
--- what a session opens with at least, which is what a view costs, and what it ever has at most, in units
+-- what a session opens with at least, which is what a view costs, and what it ever has at most, in
+-- units
 abbrev pub least_units : ℕ
 least_units = 256
 

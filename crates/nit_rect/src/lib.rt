@@ -1,7 +1,9 @@
-//! Rectangles of the screen as sets of pixels, and the answer for want of memory of every crate above.
+//! Rectangles of the screen as sets of pixels, and the answer for want of memory of every crate
+//! above.
 //!
 //! A [`Rect`] is seen as its four numbers. It covers the pixel (px, py) exactly where
-//! `x <= px < x + w` and `y <= py < y + h`. Rectangles meet, lie in one another and are cut as these sets.
+//! `x <= px < x + w` and `y <= py < y + h`. Rectangles meet, lie in one another and are cut as
+//! these sets.
 #![tactic(auto)]
 
 mod limits;

@@ -1,6 +1,6 @@
 ghost use Rattle.std.specs.Prelude.{◌≡◌, ◌↔◌, ◌≤◌, ◌*◌, IsTrue, IsSome, IfSome};
 ghost use Rattle.nit_rect.specs.Rectangle.{IsPlace, rectangle, is_rectangle, spans, covers};
-ghost use Rattle.nit_rect.specs.Meeting.{nothing, HasPixels, IsApart, CoversBoth, LiesIn};
+ghost use Rattle.nit_rect.specs.Intersection.{empty_rectangle, HasPixels, IsApart, CoversBoth, LiesIn};
 ghost use Rattle.nit_rect.specs.Limits.{most_length};
 
 use crate::point::Point;
@@ -41,7 +41,7 @@ impl Model for Rect {
 }
 
 impl Rect {
-    ghost use Rattle.nit_rect.specs.Dividing.{IsScreenRectangle, IsDivided};
+    ghost use Rattle.nit_rect.specs.Strips.{IsScreenRectangle, IsDivided};
 
     /// The rectangle of these numbers. None exactly where one is out of range.
     pub fn new(x: i32, y: i32, w: u32, h: u32) -> Option<Rect>
@@ -70,7 +70,7 @@ impl Rect {
     /// The rectangle of the pixels that both cover. Where there are none it is (0, 0, 0, 0).
     pub fn meet(&self, r: &Rect) -> Rect
         ensures both { CoversBoth self.now r.now result }
-        ensures none { IsApart self.now r.now → result ≡ nothing }
+        ensures none { IsApart self.now r.now → result ≡ empty_rectangle }
     {
         let columns = self.columns().meet(r.columns());
         let rows = self.rows().meet(r.rows());
@@ -101,8 +101,9 @@ impl Rect {
         self.w as u64 * self.h as u64
     }
 
-    /// What is left of this rectangle where `cut` is taken out: with the cut, the four strips have each of
-    /// its pixels once. This rectangle lies on a screen of 1024 by 768, and the cut lies in it and has pixels.
+    /// What is left of this rectangle where `cut` is taken out: with the cut, the four strips have
+    /// each of its pixels once. This rectangle lies on a screen of 1024 by 768, and the cut lies in
+    /// it and has pixels.
     pub fn strips(&self, cut: &Rect) -> Strips
         requires screen { IsScreenRectangle self.now }
         requires inside { LiesIn cut.now self.now }

@@ -2,7 +2,7 @@
 
 ghost use Rattle.std.specs.Prelude.{◌≡◌, ℤ, ◌+◌, ◌≤◌, ◌&&◌, pos, negsuc, ◌+ℤ◌, ◌≤ℤ◌, int_le, int_lt};
 ghost use Rattle.nit_rect.specs.Rectangle.{spans};
-ghost use Rattle.nit_rect.specs.Dividing.{times_among};
+ghost use Rattle.nit_rect.specs.Strips.{times_among};
 ghost use Rattle.nit_rect.specs.Limits.{most_length, most_edge, most_width};
 
 /// The `long` places from `from` on.

@@ -1,7 +1,7 @@
 use crate::rect::Rect;
 
-/// Four rectangles round a cut, which [`Rect::strips`] gives. What it promises is what they cover together
-/// with the cut, and not how the pixels are shared out among them.
+/// Four rectangles round a cut, which [`Rect::strips`] gives. What it promises is what they cover
+/// together with the cut, and not how the pixels are shared out among them.
 #[derive(Clone, Copy, Debug, PartialEq, Eq)]
 pub struct Strips {
     pub top: Rect,

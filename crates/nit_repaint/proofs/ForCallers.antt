@@ -1,7 +1,7 @@
 -- What the crates above cite of this crate's proofs.
-pub use Rattle.nit_repaint.proofs.Fronts.{without_none}
-pub use Rattle.nit_repaint.proofs.Glasses.{held_by_all, nobody_calls}
-pub use Rattle.nit_repaint.proofs.Moves.{find_moved, place_changed, without_changed, without_moved}
+pub use Rattle.nit_repaint.proofs.ViewsInFront.{without_none}
+pub use Rattle.nit_repaint.proofs.GlassLemmas.{held_by_all, nobody_calls}
+pub use Rattle.nit_repaint.proofs.ViewChangeLemmas.{find_moved, place_changed, without_changed, without_moved}
 pub use Rattle.nit_repaint.proofs.Screen.{on_screen}
-pub use Rattle.nit_repaint.proofs.Uncovered.{all_painted, all_taken, goes, goes_painted, gone_change, gone_painted, gone_room, none_left, painted_more, stays, stays_clean, taken_held, taken_more, taken_none}
-pub use Rattle.nit_repaint.proofs.Wanted.{all_of_session, part_of_session, seat_here}
+pub use Rattle.nit_repaint.proofs.ViewRemovalLemmas.{all_painted, all_taken, goes, goes_painted, gone_change, gone_painted, gone_room, none_left, painted_more, stays, stays_clean, taken_held, taken_more, taken_none}
+pub use Rattle.nit_repaint.proofs.WantedLemmas.{all_of_session, part_of_session, seat_here}

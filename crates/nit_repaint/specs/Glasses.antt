@@ -1,9 +1,9 @@
 -- The glasses through which the words of all sessions are loaded, by the session's number.
 use Rattle.std.specs.Prelude.{ℕ, ◌<◌, ◌≤◌, List, length, slice_index_or}
 use Rattle.nit_word.specs.Sight.{Sight}
-use Rattle.nit_stack.specs.Answers.{word_count}
-use Rattle.nit_stack.specs.Standing.{Standing, size_of}
-use Rattle.nit_paint.specs.Painting.{no_sight, with_glass}
+use Rattle.nit_stack.specs.SourceAnswers.{word_count}
+use Rattle.nit_stack.specs.Stack.{StackModel, size_of}
+use Rattle.nit_paint.specs.Repaint.{no_sight, with_glass}
 
 -- the glasses in the order of their sessions
 abbrev pub glass_in : List Sight → ℕ → Sight
@@ -14,6 +14,6 @@ abbrev pub glasses_of_call : List Sight → ℕ → Sight → ℕ → Sight
 glasses_of_call scene sid own = with_glass (glass_in scene) sid own
 
 -- each session has one of so many glasses, with a word for each of its buffer's
-abbrev pub HoldBuffers : Standing → ℕ → (ℕ → Sight) → Type 0
+abbrev pub HoldBuffers : StackModel → ℕ → (ℕ → Sight) → Type 0
 HoldBuffers s count glasses =
     (t : ℕ) → t < length s.sizes → (t < count) × (word_count (size_of s.sizes t) ≤ (glasses t).size)

@@ -15,12 +15,12 @@ ghost use Rattle.std.specs.Prelude.{
 ghost use Rattle.nit_rect.specs.declared.point.Point.{Point};
 ghost use Rattle.nit_rect.specs.Rectangle.{IsPlace, covers};
 ghost use Rattle.nit_stack.specs.Sources.{pixel};
-ghost use Rattle.nit_stack.specs.Standing.{IsOnScreen, Seat, is_slot, size_of};
-ghost use Rattle.nit_paint.specs.Painting.{Repainted};
-ghost use Rattle.nit_paint.specs.Pieces.{source_at};
+ghost use Rattle.nit_stack.specs.Stack.{IsOnScreen, SlotView, is_slot, size_of};
+ghost use Rattle.nit_paint.specs.Repaint.{Repainted};
+ghost use Rattle.nit_paint.specs.Pieces.{source_of_number};
 ghost use Rattle.nit_repaint.specs.Glasses.{HoldBuffers, glass_in, glasses_of_call};
-ghost use Rattle.nit_repaint.specs.Owned.{owner_passes};
-ghost use Rattle.nit_repaint.specs.Parts.{is_wanted, wanted, wants};
+ghost use Rattle.nit_repaint.specs.PixelOwners.{owner_passes};
+ghost use Rattle.nit_repaint.specs.WantedPixels.{is_wanted, wanted, wants};
 
 use crate::part::shown_part;
 use crate::pieces::paint_to_come;
@@ -66,8 +66,8 @@ fn paint_seat<G: Glass, C: Glass>(
     requires held { HoldBuffers stack.now (length glasses.old)
         (glasses_of_call (map G.sight glasses.old) sid (C.sight own.old)) }
     ensures room { cutter.new.room ≡ cutter.old.room }
-    ensures painted { (s : Seat) → slice_get stack.now.views i ≡ Some s
-        → Repainted (source_at stack.now)
+    ensures painted { (s : SlotView) → slice_get stack.now.views i ≡ Some s
+        → Repainted (source_of_number stack.now)
         (λ k. let p = pixel stack.now.width k in
         owner_passes (is_slot s.slot) stack.now p && is_wanted of part.now stack.now p s)
         (length raw.old)
@@ -107,7 +107,7 @@ pub fn paint_session<G: Glass, C: Glass>(
     requires held { HoldBuffers stack.now (length glasses.old)
         (glasses_of_call (map G.sight glasses.old) sid (C.sight own.old)) }
     ensures room { cutter.new.room ≡ cutter.old.room }
-    ensures painted { Repainted (source_at stack.now)
+    ensures painted { Repainted (source_of_number stack.now)
         (λ k. wanted of part.now stack.now (pixel stack.now.width k)) (length raw.old)
         (glasses_of_call (map G.sight glasses.old) sid (C.sight own.old))
         (glasses_of_call (map G.sight glasses.new) sid (C.sight own.new))

@@ -3,13 +3,13 @@
 ghost use Rattle.std.specs.Prelude.{◌≡◌, ◌*◌, ◌≤◌, length, map};
 ghost use Rattle.nit_rect.specs.declared.point.Point.{Point};
 ghost use Rattle.nit_stack.specs.Sources.{pixel};
-ghost use Rattle.nit_stack.specs.Standing.{IsOnScreen, Standing};
-ghost use Rattle.nit_damage.specs.Cuts.{Fits, to_come};
-ghost use Rattle.nit_damage.specs.Sets.{once};
-ghost use Rattle.nit_paint.specs.Painting.{Repainted};
-ghost use Rattle.nit_paint.specs.Pieces.{source_at};
+ghost use Rattle.nit_stack.specs.Stack.{IsOnScreen, StackModel};
+ghost use Rattle.nit_damage.specs.Cutter.{FitsStack, to_come};
+ghost use Rattle.nit_damage.specs.Damage.{once};
+ghost use Rattle.nit_paint.specs.Repaint.{Repainted};
+ghost use Rattle.nit_paint.specs.Pieces.{source_of_number};
 ghost use Rattle.nit_repaint.specs.Glasses.{HoldBuffers, glass_in, glasses_of_call};
-ghost use Rattle.nit_repaint.specs.OneView.{IsChange, slot_owns_either};
+ghost use Rattle.nit_repaint.specs.ViewChange.{IsViewChange, slot_owns_either};
 
 use crate::pieces::paint_to_come;
 use nit_damage::Cutter;
@@ -22,8 +22,8 @@ use nit_word::Glass;
 pub(crate) fn begin_changed(cutter: &mut Cutter, stack: &Stack, v: ViewRef, place: u32, rect: Rect)
     requires room { length stack.now.views ≤ cutter.old.room }
     ensures room { cutter.new.room ≡ cutter.old.room }
-    ensures fits { Fits cutter.new stack.now }
-    ensures to_come { (before : Standing) → IsChange v.0 place rect before stack.now
+    ensures fits { FitsStack cutter.new stack.now }
+    ensures to_come { (before : StackModel) → IsViewChange v.0 place rect before stack.now
         → (p : Point) → IsOnScreen stack.now.width stack.now.height p
         → to_come cutter.new stack.now p ≡ once (slot_owns_either v.0 before stack.now p) }
 {
@@ -39,8 +39,8 @@ pub(crate) fn begin_changed(cutter: &mut Cutter, stack: &Stack, v: ViewRef, plac
     cutter.begin_moved(stack, v, rect);
 }
 
-/// Loads again exactly what the view in slot `v` owned before a change, or owns after it. Before, it
-/// stood at `place`, counted from the front, with the rectangle `rect`. It may be gone now. All
+/// Loads again exactly what the view in slot `v` owned before a change, or owns after it. Before,
+/// it stood at `place`, counted from the front, with the rectangle `rect`. It may be gone now. All
 /// other views stand as they stood, and it has kept its place or its rectangle.
 pub fn paint_changed<G: Glass, C: Glass>(
     cutter: &mut Cutter,
@@ -58,8 +58,8 @@ pub fn paint_changed<G: Glass, C: Glass>(
     requires held { HoldBuffers stack.now (length glasses.old)
         (glasses_of_call (map G.sight glasses.old) sid (C.sight own.old)) }
     ensures room { cutter.new.room ≡ cutter.old.room }
-    ensures painted { (before : Standing) → IsChange v.0 place rect before stack.now
-        → Repainted (source_at stack.now)
+    ensures painted { (before : StackModel) → IsViewChange v.0 place rect before stack.now
+        → Repainted (source_of_number stack.now)
         (λ k. slot_owns_either v.0 before stack.now (pixel stack.now.width k)) (length raw.old)
         (glasses_of_call (map G.sight glasses.old) sid (C.sight own.old))
         (glasses_of_call (map G.sight glasses.new) sid (C.sight own.new))

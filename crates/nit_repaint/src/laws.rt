@@ -4,60 +4,60 @@ ghost use Rattle.std.specs.Prelude.{◌≡◌, ℕ, ℤ, None, Some};
 ghost use Rattle.nit_rect.specs.declared.point.Point.{Point};
 ghost use Rattle.nit_rect.specs.Rectangle.{Rectangle};
 ghost use Rattle.nit_stack.specs.Orders.{changed, moved, without};
-ghost use Rattle.nit_stack.specs.Standing.{
-  IsStanding,
-  Seat,
-  Standing,
+ghost use Rattle.nit_stack.specs.Stack.{
+  IsStack,
+  SlotView,
+  StackModel,
   is_of_session,
   is_slot,
   moved_above,
   on_view,
   put_own_back,
   put_own_front,
-  seat_in,
-  seat_layer,
+  slot_view_in,
+  slot_view_layer,
   size_of,
   with_offset,
   with_rect,
 };
-ghost use Rattle.nit_stack.specs.Standing.{place_of};
-ghost use Rattle.nit_repaint.specs.OneView.{IsChange};
-ghost use Rattle.nit_repaint.specs.Owned.{is_word_in, owner_passes, source_in};
-ghost use Rattle.nit_repaint.specs.Parts.{wanted};
+ghost use Rattle.nit_stack.specs.Stack.{place_of};
+ghost use Rattle.nit_repaint.specs.ViewChange.{IsViewChange};
+ghost use Rattle.nit_repaint.specs.PixelOwners.{is_word_in, owner_passes, source_in};
+ghost use Rattle.nit_repaint.specs.WantedPixels.{wanted};
 
 /// Each of these changes one view alone, which keeps its place or its rectangle.
 pub fn one_view_changes()
-    ensures placed { (s : Standing) (k : ℕ) (seat : Seat) (r : Rectangle) → IsStanding s
-        → seat_in k s.views ≡ Some seat
-        → IsChange k (place_of k s.views) seat.view.rect s
+    ensures placed { (s : StackModel) (k : ℕ) (seat : SlotView) (r : Rectangle) → IsStack s
+        → slot_view_in k s.views ≡ Some seat
+        → IsViewChange k (place_of k s.views) seat.view.rect s
         (record s { views = changed (is_slot k) (on_view (with_rect r)) s.views }) }
-    ensures offset { (s : Standing) (k : ℕ) (seat : Seat) (ox oy : ℤ) → IsStanding s
-        → seat_in k s.views ≡ Some seat
-        → IsChange k (place_of k s.views) seat.view.rect s
+    ensures offset { (s : StackModel) (k : ℕ) (seat : SlotView) (ox oy : ℤ) → IsStack s
+        → slot_view_in k s.views ≡ Some seat
+        → IsViewChange k (place_of k s.views) seat.view.rect s
         (record s { views = changed (is_slot k) (on_view (with_offset ox oy)) s.views }) }
-    ensures front { (s : Standing) (k : ℕ) (seat : Seat) → IsStanding s
-        → seat_in k s.views ≡ Some seat
-        → IsChange k (place_of k s.views) seat.view.rect s
-        (record s { views = moved (is_slot k) (put_own_front (seat_layer s.layers)) s.views }) }
-    ensures back { (s : Standing) (k : ℕ) (seat : Seat) → IsStanding s
-        → seat_in k s.views ≡ Some seat
-        → IsChange k (place_of k s.views) seat.view.rect s
-        (record s { views = moved (is_slot k) (put_own_back (seat_layer s.layers)) s.views }) }
-    ensures above { (s : Standing) (k n : ℕ) (seat : Seat) → IsStanding s
-        → seat_in k s.views ≡ Some seat
-        → IsChange k (place_of k s.views) seat.view.rect s
+    ensures front { (s : StackModel) (k : ℕ) (seat : SlotView) → IsStack s
+        → slot_view_in k s.views ≡ Some seat
+        → IsViewChange k (place_of k s.views) seat.view.rect s
+        (record s { views = moved (is_slot k) (put_own_front (slot_view_layer s.layers)) s.views }) }
+    ensures back { (s : StackModel) (k : ℕ) (seat : SlotView) → IsStack s
+        → slot_view_in k s.views ≡ Some seat
+        → IsViewChange k (place_of k s.views) seat.view.rect s
+        (record s { views = moved (is_slot k) (put_own_back (slot_view_layer s.layers)) s.views }) }
+    ensures above { (s : StackModel) (k n : ℕ) (seat : SlotView) → IsStack s
+        → slot_view_in k s.views ≡ Some seat
+        → IsViewChange k (place_of k s.views) seat.view.rect s
         (record s { views = moved_above k n s.views }) }
-    ensures gone { (s : Standing) (k : ℕ) (seat : Seat) → IsStanding s
-        → seat_in k s.views ≡ Some seat
-        → IsChange k (place_of k s.views) seat.view.rect s
+    ensures gone { (s : StackModel) (k : ℕ) (seat : SlotView) → IsStack s
+        → slot_view_in k s.views ≡ Some seat
+        → IsViewChange k (place_of k s.views) seat.view.rect s
         (record s { views = without (is_slot k) s.views }) }
 {}
 
 /// What is wanted of a session's views is what they own, or what of it shows a part of its buffer.
 pub fn wanted_pixels()
-    ensures all { (sid : ℕ) (s : Standing) (p : Point)
+    ensures all { (sid : ℕ) (s : StackModel) (p : Point)
         → wanted sid None s p ≡ owner_passes (is_of_session sid) s p }
-    ensures part { (sid : ℕ) (part : Rectangle) (s : Standing) (p : Point)
+    ensures part { (sid : ℕ) (part : Rectangle) (s : StackModel) (p : Point)
         → wanted sid (Some part) s p
         ≡ is_word_in sid (size_of s.sizes sid).w part (source_in s p) }
 {}

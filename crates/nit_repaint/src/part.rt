@@ -4,8 +4,8 @@ ghost use Rattle.std.specs.Prelude.{◌≡◌, ℕ, ◌+◌, ◌<◌, ◌≤◌,
 ghost use Rattle.nit_rect.specs.declared.point.Point.{Point};
 ghost use Rattle.nit_rect.specs.Rectangle.{IsPlace, covers, rectangle, spans};
 ghost use Rattle.nit_stack.specs.Sources.{buffer_place, shown_index};
-ghost use Rattle.nit_stack.specs.Standing.{IsOnScreen, IsScreen};
-ghost use Rattle.nit_repaint.specs.Parts.{is_index_in};
+ghost use Rattle.nit_stack.specs.Stack.{IsOnScreen, IsScreenSize};
+ghost use Rattle.nit_repaint.specs.WantedPixels.{is_index_in};
 
 use nit_rect::Rect;
 use nit_stack::View;
@@ -52,7 +52,7 @@ pub(crate) fn shown_part(
     width: u32,
     height: u32,
 ) -> Rect
-    requires screen { IsScreen width height }
+    requires screen { IsScreenSize width height }
     requires size { (size.0 ≤ 4096) × (size.1 ≤ 4096) }
     requires offset { IsPlace view.now.ox × IsPlace view.now.oy }
     ensures same { (p : Point) → IsOnScreen width height p

@@ -1,12 +1,12 @@
 //! Loading pieces of the screen again: the caller's by its own glass, all others by the scene's.
 
 ghost use Rattle.std.specs.Prelude.{◌≡◌, ◌*◌, ◌<◌, ◌≤◌, Some, IfSome, IsSomeAnd, length, map, true};
-ghost use Rattle.nit_stack.specs.Answers.{session_of};
-ghost use Rattle.nit_stack.specs.Standing.{has};
-ghost use Rattle.nit_paint.specs.Painting.{Repainted};
-ghost use Rattle.nit_paint.specs.Pieces.{IsPiece, has_pixel, session_shown, source_at, words_shown};
-ghost use Rattle.nit_damage.specs.Cuts.{Fits};
-ghost use Rattle.nit_repaint.specs.Coming.{is_to_come};
+ghost use Rattle.nit_stack.specs.SourceAnswers.{session_of};
+ghost use Rattle.nit_stack.specs.Stack.{has_slot};
+ghost use Rattle.nit_paint.specs.Repaint.{Repainted};
+ghost use Rattle.nit_paint.specs.Pieces.{IsPiece, has_pixel, session_shown, source_of_number, words_shown};
+ghost use Rattle.nit_damage.specs.Cutter.{FitsStack};
+ghost use Rattle.nit_repaint.specs.PixelsToCome.{is_to_come};
 ghost use Rattle.nit_repaint.specs.Glasses.{HoldBuffers, glass_in, glasses_of_call};
 
 use nit_damage::Cutter;
@@ -17,7 +17,7 @@ use nit_word::Glass;
 
 /// The session of a view.
 fn session_of(stack: &Stack, v: ViewRef) -> u32
-    requires { has v.0 stack.now.views ≡ true }
+    requires { has_slot v.0 stack.now.views ≡ true }
     ensures session { result ≡ session_of stack.now.views v.0 }
     ensures within { result < length stack.now.sizes }
 {
@@ -36,12 +36,12 @@ fn paint_shown<G: Glass, C: Glass>(
 )
     requires pixels { length raw.old ≡ stack.now.width * stack.now.height }
     requires piece { IsPiece stack.now piece.now }
-    requires owner { IsSomeAnd piece.now.owner (λ v. has v.0 stack.now.views ≡ true) }
+    requires owner { IsSomeAnd piece.now.owner (λ v. has_slot v.0 stack.now.views ≡ true) }
     requires session { session_shown stack.now piece.now ≡ session }
     requires glass { session < length glasses.old }
     requires words { words_shown stack.now piece.now
         ≤ (glasses_of_call (map G.sight glasses.old) sid (C.sight own.old) session).size }
-    ensures painted { Repainted (source_at stack.now)
+    ensures painted { Repainted (source_of_number stack.now)
         (has_pixel stack.now.width piece.now.rect) (length raw.old)
         (glasses_of_call (map G.sight glasses.old) sid (C.sight own.old))
         (glasses_of_call (map G.sight glasses.new) sid (C.sight own.new))
@@ -72,10 +72,10 @@ fn paint_owned<G: Glass, C: Glass>(
     requires pixels { length raw.old ≡ stack.now.width * stack.now.height }
     requires piece { IsPiece stack.now piece.now }
     requires owner { piece.now.owner ≡ Some v }
-    requires stands { has v.0 stack.now.views ≡ true }
+    requires stands { has_slot v.0 stack.now.views ≡ true }
     requires held { HoldBuffers stack.now (length glasses.old)
         (glasses_of_call (map G.sight glasses.old) sid (C.sight own.old)) }
-    ensures painted { Repainted (source_at stack.now)
+    ensures painted { Repainted (source_of_number stack.now)
         (has_pixel stack.now.width piece.now.rect) (length raw.old)
         (glasses_of_call (map G.sight glasses.old) sid (C.sight own.old))
         (glasses_of_call (map G.sight glasses.new) sid (C.sight own.new))
@@ -100,10 +100,10 @@ pub(crate) fn paint_piece<G: Glass, C: Glass>(
 )
     requires pixels { length raw.old ≡ stack.now.width * stack.now.height }
     requires piece { IsPiece stack.now piece.now }
-    requires stands { IfSome piece.now.owner (λ v. has v.0 stack.now.views ≡ true) }
+    requires stands { IfSome piece.now.owner (λ v. has_slot v.0 stack.now.views ≡ true) }
     requires held { HoldBuffers stack.now (length glasses.old)
         (glasses_of_call (map G.sight glasses.old) sid (C.sight own.old)) }
-    ensures painted { Repainted (source_at stack.now)
+    ensures painted { Repainted (source_of_number stack.now)
         (has_pixel stack.now.width piece.now.rect) (length raw.old)
         (glasses_of_call (map G.sight glasses.old) sid (C.sight own.old))
         (glasses_of_call (map G.sight glasses.new) sid (C.sight own.new))
@@ -120,8 +120,8 @@ pub(crate) fn paint_piece<G: Glass, C: Glass>(
 }
 
 /// Paints all pixels that are to come by the cutter, each once: those of the session `sid` through
-/// `own`, and those of all others through their sessions' `glasses`. Each session has a glass with a
-/// word for each of its buffer's. A `sid` that is no session's means that nobody calls.
+/// `own`, and those of all others through their sessions' `glasses`. Each session has a glass with
+/// a word for each of its buffer's. A `sid` that is no session's means that nobody calls.
 pub fn paint_to_come<G: Glass, C: Glass>(
     cutter: &mut Cutter,
     stack: &Stack,
@@ -130,12 +130,12 @@ pub fn paint_to_come<G: Glass, C: Glass>(
     sid: u32,
     own: &mut C,
 )
-    requires fits { Fits cutter.old stack.now }
+    requires fits { FitsStack cutter.old stack.now }
     requires pixels { length raw.old ≡ stack.now.width * stack.now.height }
     requires held { HoldBuffers stack.now (length glasses.old)
         (glasses_of_call (map G.sight glasses.old) sid (C.sight own.old)) }
     ensures room { cutter.new.room ≡ cutter.old.room }
-    ensures painted { Repainted (source_at stack.now)
+    ensures painted { Repainted (source_of_number stack.now)
         (is_to_come cutter.old stack.now) (length raw.old)
         (glasses_of_call (map G.sight glasses.old) sid (C.sight own.old))
         (glasses_of_call (map G.sight glasses.new) sid (C.sight own.new))

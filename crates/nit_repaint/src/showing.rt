@@ -13,14 +13,14 @@ ghost use Rattle.std.specs.Prelude.{
 };
 ghost use Rattle.nit_word.specs.Inks.{IsWord};
 ghost use Rattle.nit_stack.specs.Sources.{pixel};
-ghost use Rattle.nit_stack.specs.Standing.{Seat, is_slot};
-ghost use Rattle.nit_damage.specs.Cuts.{Fits};
-ghost use Rattle.nit_paint.specs.Copied.{AreSet};
-ghost use Rattle.nit_overlay.specs.Looks.{IsLook};
-ghost use Rattle.nit_repaint.specs.Coming.{is_to_come};
-ghost use Rattle.nit_repaint.specs.Owned.{owner_passes};
-ghost use Rattle.nit_repaint.specs.Parts.{is_wanted, wanted};
-ghost use Rattle.nit_repaint.specs.Showing.{shown_at};
+ghost use Rattle.nit_stack.specs.Stack.{SlotView, is_slot};
+ghost use Rattle.nit_damage.specs.Cutter.{FitsStack};
+ghost use Rattle.nit_paint.specs.FrameCopy.{AreSet};
+ghost use Rattle.nit_overlay.specs.Look.{IsLook};
+ghost use Rattle.nit_repaint.specs.PixelsToCome.{is_to_come};
+ghost use Rattle.nit_repaint.specs.PixelOwners.{owner_passes};
+ghost use Rattle.nit_repaint.specs.WantedPixels.{is_wanted, wanted};
+ghost use Rattle.nit_repaint.specs.ShownPixels.{shown_at};
 
 use crate::buffers::wanted_rect;
 use nit_damage::Cutter;
@@ -30,7 +30,7 @@ use nit_rect::Rect;
 /// Sets the frame to what is shown at each pixel that is to come by the cutter.
 fn show_to_come(cutter: &mut Cutter, look: &Look, raw: &[u32], frame: &mut [u32])
     requires look { IsLook look.now }
-    requires fits { Fits cutter.old look.now.stack.now }
+    requires fits { FitsStack cutter.old look.now.stack.now }
     requires pixels { length raw.now ≡ look.now.stack.now.width * look.now.stack.now.height }
     requires frame { length frame.old ≡ length raw.now }
     requires words { All IsWord raw.now }
@@ -61,7 +61,7 @@ fn show_seat(
     requires frame { length frame.old ≡ length raw.now }
     requires words { All IsWord raw.now }
     ensures room { cutter.new.room ≡ cutter.old.room }
-    ensures shown { (s : Seat) → slice_get look.now.stack.now.views i ≡ Some s
+    ensures shown { (s : SlotView) → slice_get look.now.stack.now.views i ≡ Some s
         → AreSet (λ k. let p = pixel look.now.stack.now.width k in
         owner_passes (is_slot s.slot) look.now.stack.now p
         && is_wanted of part.now look.now.stack.now p s)

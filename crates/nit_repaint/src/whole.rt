@@ -1,8 +1,8 @@
 //! Loading by one list of glasses alone, where no session calls.
 
 ghost use Rattle.std.specs.Prelude.{◌≡◌, ◌*◌, ◌≤◌, length, map, true};
-ghost use Rattle.nit_paint.specs.Painting.{Repainted};
-ghost use Rattle.nit_paint.specs.Pieces.{source_at};
+ghost use Rattle.nit_paint.specs.Repaint.{Repainted};
+ghost use Rattle.nit_paint.specs.Pieces.{source_of_number};
 ghost use Rattle.nit_repaint.specs.Glasses.{HoldBuffers, glass_in};
 
 use crate::pieces::paint_to_come;
@@ -11,13 +11,13 @@ use nit_stack::Stack;
 use nit_word::Glass;
 use std::marker::Model;
 
-/// A glass of no session, with `N` words, each of which is 0. Where nobody calls, the one without words
-/// stands for the caller's, and nothing is loaded through it.
+/// A glass of no session, with `N` words, each of which is 0. Where nobody calls, the one without
+/// words stands for the caller's, and nothing is loaded through it.
 #[derive(Drop)]
 pub struct Nobody<const N: usize>;
 
 impl<const N: usize> Glass for Nobody<N> {
-    ghost use Rattle.nit_paint.specs.Painting.{no_sight};
+    ghost use Rattle.nit_paint.specs.Repaint.{no_sight};
 
     type Rest = ();
 
@@ -38,7 +38,7 @@ pub fn paint_whole<C: Glass>(cutter: &mut Cutter, stack: &Stack, raw: &mut [u32]
     requires few { length owns.old ≤ 16 }
     requires held { HoldBuffers stack.now (length owns.old) (glass_in (map C.sight owns.old)) }
     ensures room { cutter.new.room ≡ cutter.old.room }
-    ensures painted { Repainted (source_at stack.now) (λ k. true) (length raw.old)
+    ensures painted { Repainted (source_of_number stack.now) (λ k. true) (length raw.old)
         (glass_in (map C.sight owns.old)) (glass_in (map C.sight owns.new)) raw.old raw.new }
     ensures count { length raw.new ≡ length raw.old }
     ensures rests { map C.rest owns.new ≡ map C.rest owns.old }

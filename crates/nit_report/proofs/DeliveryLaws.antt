@@ -11,7 +11,7 @@ use Rattle.nit_events.specs.declared.event.Routed.{Routed}
 use Rattle.nit_events.specs.Input.{delivery, deliveries_of, routed_as}
 use Rattle.nit_script.proofs.ForCallers.{stops, Exact, both, spaced, IsKind, kind}
 use Rattle.nit_report.specs.EntrySpelling.{delivery_spelling}
-use Rattle.nit_report.specs.EntryReading.{delivery_at, in_front, deliveries_at, routed_at}
+use Rattle.nit_report.specs.EntryReaders.{delivery_at, one_in_front, deliveries_at, routed_at}
 use Rattle.nit_report.specs.JournalText.{FitsDelivery, FitsRouted}
 use Rattle.nit_report.proofs.EventLaws.{sessions, items}
 use Rattle.nit_events.proofs.ForCallers.{at_most_one}
@@ -55,7 +55,7 @@ many_takes : (n : ℕ) (bytes : List ℕ) → Told n bytes (deliveries_at n byte
 many_takes zero bytes = record { spelled = refl; fits = tt; few = omega arith }
 many_takes (suc n) bytes = by_first (λ rest. many_takes n rest) (delivery_at bytes) refl
   where
-    by_first : ((rest : List ℕ) → Told n rest (deliveries_at n rest)) → (o : Option (Delivery × List ℕ)) → delivery_at bytes ≡ o → Told (suc n) bytes (in_front o (deliveries_at n) bytes)
+    by_first : ((rest : List ℕ) → Told n rest (deliveries_at n rest)) → (o : Option (Delivery × List ℕ)) → delivery_at bytes ≡ o → Told (suc n) bytes (one_in_front o (deliveries_at n) bytes)
     by_first behind None was = record { spelled = refl; fits = tt; few = omega arith }
     by_first behind (Some (d, rest)) was =
         let t = one.takes bytes d rest was in
@@ -73,12 +73,12 @@ stops_behind (d ∷ ds) rest ok = refl
 many_again : (n : ℕ) (ds : List Delivery) (rest : List ℕ) → length ds ≤ n → AllByRecursion FitsDelivery ds → ends rest ≡ true → deliveries_at n (all ds ++ rest) ≡ (ds, rest)
 many_again zero [] rest le fits ok = refl
 many_again zero (d ∷ ds) rest le fits ok = absurd (omega arith)
-many_again (suc n) [] rest le fits ok = ap (λ (o : Option (Delivery × List ℕ)). in_front o (deliveries_at n) rest) (none_at_end rest ok)
+many_again (suc n) [] rest le fits ok = ap (λ (o : Option (Delivery × List ℕ)). one_in_front o (deliveries_at n) rest) (none_at_end rest ok)
 many_again (suc n) (d ∷ ds) rest le fits ok =
     let first : delivery_at (all (d ∷ ds) ++ rest) ≡ Some (d, all ds ++ rest) =
     ap delivery_at (append_assoc (delivery_spelling d) (all ds) rest) ∙ one_again d (all ds ++ rest) fits.0 (stops_behind ds rest ok) in
     let behind : deliveries_at n (all ds ++ rest) ≡ (ds, rest) = many_again n ds rest (omega arith) fits.1 ok in
-    ap (λ (o : Option (Delivery × List ℕ)). in_front o (deliveries_at n) (all (d ∷ ds) ++ rest)) first ∙ ap (λ (p : List Delivery × List ℕ). (d ∷ p.0, p.1)) behind
+    ap (λ (o : Option (Delivery × List ℕ)). one_in_front o (deliveries_at n) (all (d ∷ ds) ++ rest)) first ∙ ap (λ (p : List Delivery × List ℕ). (d ∷ p.0, p.1)) behind
 
 -- ---- as an entry keeps them
 

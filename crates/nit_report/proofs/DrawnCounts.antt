@@ -12,9 +12,9 @@ use Rattle.nit_script.specs.declared.line.InputLine.TheVariants as input
 use Rattle.nit_events.specs.declared.device.Device.{Device}
 use Rattle.nit_events.specs.declared.device.Device.TheVariants as device
 use Rattle.nit_script.specs.Phases.{is_phase, phases, is_input_phase, input_phases}
-use Rattle.nit_report.specs.Drawing.{Draw, just, in_turn, for_each}
-use Rattle.nit_report.specs.Generator.{backdrop, placed, titled, kinds, busy, opening, views, places, titles, busy_lines, phase_end, first_phase, second_phase, client_script, moved, click, clicks, user_phase_end, xray_shot, user_phases, user_script, seed, is_call, is_device, is_shot}
-use Rattle.nit_report.proofs.InTurn.{in_turn_values}
+use Rattle.nit_report.specs.Draw.{Draw, just, draws_in_turn, for_each}
+use Rattle.nit_report.specs.Generator.{backdrop, placed, titled, kinds, busy, buffer_lines, views, places, titles, busy_lines, phase_end, first_phase, second_phase, client_script, some_motion, click, clicks, user_phase_end, xray_shot, user_phases, user_script, seed, is_call, is_device, is_shot_line}
+use Rattle.nit_report.proofs.DrawLemmas.{in_turn_values}
 
 -- one that passes a test, and none
 abbrev one_where : Bool → ℕ
@@ -22,12 +22,12 @@ one_where b = cond b 1 0
 
 -- So many of the values pass the test, whatever is drawn.
 abbrev Counts : {A : Type 0} → (A → Bool) → List (Draw A) → ℕ → Type 0
-Counts p ds n = (s : ℕ) → count_by p (in_turn ds s).0 ≡ n
+Counts p ds n = (s : ℕ) → count_by p (draws_in_turn ds s).0 ≡ n
 
 counts_then : {A : Type 0} (p : A → Bool) (ds es : List (Draw A)) (m n : ℕ) → Counts p ds m → Counts p es n → Counts p (ds ++ es) (m + n)
 counts_then {A = A} p ds es m n h g s =
-    let in_two = ap (count_by p) (in_turn_values ds es s) ∙ sum_by-append (λ (x : A). one_where (p x)) (in_turn ds s).0 (in_turn es (in_turn ds s).1).0 in
-    omega (arith, in_two, h s, g (in_turn ds s).1)
+    let in_two = ap (count_by p) (in_turn_values ds es s) ∙ sum_by-append (λ (x : A). one_where (p x)) (draws_in_turn ds s).0 (draws_in_turn es (draws_in_turn ds s).1).0 in
+    omega (arith, in_two, h s, g (draws_in_turn ds s).1)
 
 counts_one : {A : Type 0} (p : A → Bool) (d : Draw A) (n : ℕ) → ((s : ℕ) → one_where (p (d s).0) ≡ n) → Counts p (d ∷ []) n
 counts_one {A = A} p d n h s = omega (arith, sum_by-cons (λ (x : A). one_where (p x)) (d s).0 [], h s)
@@ -77,7 +77,7 @@ client_count p a b d t h g e total n c = counts_then p first_phase second_phase 
     m : ℕ
     m = sum_by (λ v. a) (range_with_len 1 16)
 
-    opened : Counts p opening (a + b)
+    opened : Counts p buffer_lines (a + b)
     opened = counts_then p (just (line.Call (call.Buffer 128 96)) ∷ []) (backdrop ∷ []) a b (counts_one p (just (line.Call (call.Buffer 128 96))) a (λ s. h _)) (counts_one p backdrop b (λ s. g _))
 
     made : Counts p views m
@@ -96,7 +96,7 @@ client_count p a b d t h g e total n c = counts_then p first_phase second_phase 
     done = λ s. counts_each p 0 1944 (λ j. busy j ∷ []) (λ j. kind_count a b (j % 8)) (λ j. counts_one p (busy j) (kind_count a b (j % 8)) (kind_counts p a b h g (j % 8))) s ∙ total
 
     first : Counts p first_phase (a + b + m + m + m + d)
-    first = counts_then p (opening ++ views ++ places ++ titles) phase_end (a + b + m + m + m) d (counts_then p (opening ++ views ++ places) titles (a + b + m + m) m (counts_then p (opening ++ views) places (a + b + m) m (counts_then p opening views (a + b) m opened made) put) named) ended
+    first = counts_then p (buffer_lines ++ views ++ places ++ titles) phase_end (a + b + m + m + m) d (counts_then p (buffer_lines ++ views ++ places) titles (a + b + m + m) m (counts_then p (buffer_lines ++ views) places (a + b + m) m (counts_then p buffer_lines views (a + b) m opened made) put) named) ended
 
     second : Counts p second_phase (t + d)
     second = counts_then p busy_lines phase_end t d done ended
@@ -126,9 +126,9 @@ user_count p a b d h g e total n = omega (arith, counted)
 
     clicked : Counts p click (a + a + a + a)
     clicked =
-        counts_then p (moved ∷ just (input.Device (device.Press 272)) ∷ just (input.Device (device.Release 272)) ∷ []) (just (input.Device (device.Wheel (pos 1))) ∷ []) (a + a + a) a
-        (counts_then p (moved ∷ just (input.Device (device.Press 272)) ∷ []) (just (input.Device (device.Release 272)) ∷ []) (a + a) a
-        (counts_then p (moved ∷ []) (just (input.Device (device.Press 272)) ∷ []) a a (counts_one p moved a (λ s. h _)) (known (device.Press 272))) (known (device.Release 272))) (known (device.Wheel (pos 1)))
+        counts_then p (some_motion ∷ just (input.Device (device.Press 272)) ∷ just (input.Device (device.Release 272)) ∷ []) (just (input.Device (device.Wheel (pos 1))) ∷ []) (a + a + a) a
+        (counts_then p (some_motion ∷ just (input.Device (device.Press 272)) ∷ []) (just (input.Device (device.Release 272)) ∷ []) (a + a) a
+        (counts_then p (some_motion ∷ []) (just (input.Device (device.Press 272)) ∷ []) a a (counts_one p some_motion a (λ s. h _)) (known (device.Press 272))) (known (device.Release 272))) (known (device.Wheel (pos 1)))
 
     all_clicks : Counts p clicks (200 * a)
     all_clicks = λ s. counts_each p 0 50 (λ i. click) (λ i. a + a + a + a) (λ i. clicked) s ∙ total
@@ -138,7 +138,7 @@ user_count p a b d h g e total n = omega (arith, counted)
         counts_then p (just (input.Device (device.Press 70)) ∷ just input.Shot ∷ []) (just (input.Device (device.Press 70)) ∷ []) (a + b) a
         (counts_then p (just (input.Device (device.Press 70)) ∷ []) (just input.Shot ∷ []) a b (known (device.Press 70)) (counts_one p (just input.Shot) b (λ s. g))) (known (device.Press 70))
 
-    counted : count_by p (in_turn user_phases (seed n 8)).0 ≡ d + 200 * a + d + (a + b + a)
+    counted : count_by p (draws_in_turn user_phases (seed n 8)).0 ≡ d + 200 * a + d + (a + b + a)
     counted =
         counts_then p (user_phase_end ++ clicks ++ user_phase_end) xray_shot (d + 200 * a + d) (a + b + a)
         (counts_then p (user_phase_end ++ clicks) user_phase_end (d + 200 * a) d (counts_then p user_phase_end clicks d (200 * a) ended all_clicks) ended) shot (seed n 8)
@@ -149,8 +149,8 @@ user_lines n = all_count (user_script n) ∙ user_count (λ l. true) 1 1 1 (λ x
 pub user_devices : (n : ℕ) → count_by is_device (user_script n) ≡ 202
 user_devices n = user_count is_device 1 0 0 (λ x. refl) refl refl refl n
 
-pub user_shots : (n : ℕ) → count_by is_shot (user_script n) ≡ 1
-user_shots n = user_count is_shot 0 1 0 (λ x. refl) refl refl refl n
+pub user_shots : (n : ℕ) → count_by is_shot_line (user_script n) ≡ 1
+user_shots n = user_count is_shot_line 0 1 0 (λ x. refl) refl refl refl n
 
 pub user_phase_count : (n : ℕ) → input_phases (user_script n) ≡ 3
 user_phase_count n = ap (λ (k : ℕ). k + 1) (user_count is_input_phase 0 0 1 (λ x. refl) refl refl refl n)

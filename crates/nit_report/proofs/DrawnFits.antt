@@ -6,8 +6,8 @@ use Rattle.nit_script.specs.declared.line.Line.{Line}
 use Rattle.nit_script.specs.declared.line.Line.TheVariants as line
 use Rattle.nit_script.specs.declared.line.InputLine.{InputLine}
 use Rattle.nit_script.specs.Spelling.{FitsInt, FitsLine, FitsInputLine}
-use Rattle.nit_report.specs.Drawing.{Draw, following, just, in_turn, for_each}
-use Rattle.nit_report.specs.Generator.{colour, backdrop, some_part, filled, checked, refreshed, from_outside, placed, shifted, titled, some_view, kinds, opening, views, places, titles, busy_lines, phase_end, first_phase, second_phase, client_script, moved, click, clicks, user_phase_end, xray_shot, user_phases, user_script, seed}
+use Rattle.nit_report.specs.Draw.{Draw, following, just, draws_in_turn, for_each}
+use Rattle.nit_report.specs.Generator.{some_colour, backdrop, some_part, filled, checked, refreshed, from_outside, placed, shifted, titled, some_view, kinds, buffer_lines, views, places, titles, busy_lines, phase_end, first_phase, second_phase, client_script, some_motion, click, clicks, user_phase_end, xray_shot, user_phases, user_script, seed}
 use Rattle.nit_report.proofs.Titles.{is_title}
 
 -- ---- draws of which all values have a property
@@ -18,7 +18,7 @@ Always P d = (s : ℕ) → P (d s).0
 abbrev pub AllAlways : {A : Type 0} → (A → Type 0) → List (Draw A) → Type 0
 AllAlways P ds = AllByRecursion (Always P) ds
 
-pub in_turn_all : {A : Type 0} (P : A → Type 0) (ds : List (Draw A)) → AllAlways P ds → (s : ℕ) → AllByRecursion P (in_turn ds s).0
+pub in_turn_all : {A : Type 0} (P : A → Type 0) (ds : List (Draw A)) → AllAlways P ds → (s : ℕ) → AllByRecursion P (draws_in_turn ds s).0
 in_turn_all P [] all s = tt
 in_turn_all P (d ∷ ds) all s = (all.0 s, in_turn_all P ds all.1 (d s).1)
 
@@ -38,8 +38,8 @@ part_fits : (s : ℕ) → ((some_part s).0.x < 128) × ((some_part s).0.y < 96) 
 unfolding some_part
 part_fits s = (omega arith, omega arith, omega arith, omega arith)
 
-colour_fits : (s : ℕ) → (colour s).0 < 2 ^ 24
-unfolding colour
+colour_fits : (s : ℕ) → (some_colour s).0 < 2 ^ 24
+unfolding some_colour
 colour_fits s = omega arith
 
 outside_fits : (n : ℕ) → n < 1000 → FitsInt (pos n -ℤ pos 20)
@@ -93,9 +93,9 @@ kind_fits (suc (suc (suc (suc (suc (suc (suc (suc k)))))))) s = tt
 
 first_fits : AllAlways FitsLine first_phase
 first_fits =
-    let opened : AllAlways FitsLine opening = (λ s. (omega arith, omega arith), (backdrop_fits, tt)) in
+    let opened : AllAlways FitsLine buffer_lines = (λ s. (omega arith, omega arith), (backdrop_fits, tt)) in
     let ended : AllAlways FitsLine phase_end = (λ s. tt, tt) in
-    join (opening ++ views ++ places ++ titles) phase_end (join (opening ++ views ++ places) titles (join (opening ++ views) places (join opening views opened made) put) named) ended
+    join (buffer_lines ++ views ++ places ++ titles) phase_end (join (buffer_lines ++ views ++ places) titles (join (buffer_lines ++ views) places (join buffer_lines views opened made) put) named) ended
   where
     join : (xs ys : List (Draw Line)) → AllAlways FitsLine xs → AllAlways FitsLine ys → AllAlways FitsLine (xs ++ ys)
     join xs ys p q = all_append (Always FitsLine) xs ys p q
@@ -118,7 +118,7 @@ client_fits n c = in_turn_all FitsLine (first_phase ++ second_phase) (all_append
 
 -- ---- lines of the user
 
-moved_fits : Always FitsInputLine moved
+moved_fits : Always FitsInputLine some_motion
 moved_fits s = (omega arith, omega arith)
 
 click_fits : AllAlways FitsInputLine click

@@ -8,12 +8,12 @@ use Rattle.nit_events.specs.declared.event.Routed.{Routed}
 use Rattle.nit_events.specs.declared.entry.Entry.{Entry}
 use Rattle.nit_events.specs.declared.entry.Entry.TheVariants as entry
 use Rattle.nit_events.specs.Input.{deliveries_of}
-use Rattle.nit_script.specs.CallReading.{call_at}
-use Rattle.nit_script.specs.InputReading.{device_at}
+use Rattle.nit_script.specs.CallReaders.{call_at}
+use Rattle.nit_script.specs.InputReaders.{device_at}
 use Rattle.nit_script.specs.Spelling.{call_spelling, device_spelling, FitsCall, FitsDevice}
 use Rattle.nit_script.proofs.ForCallers.{stops, Exact, both, spaced, nothing, anything, Takes, IsKind, kind, first_takes, ended_takes, ended_again, call_takes, call_again, device_takes, device_again, IsReader}
 use Rattle.nit_report.specs.EntrySpelling.{entry_spelling}
-use Rattle.nit_report.specs.EntryReading.{behind_reply_at, answered_at, input_at, shot_at, final_at, entry_front_at, entry_at}
+use Rattle.nit_report.specs.EntryReaders.{behind_reply_at, answered_at, input_entry_at, shot_entry_at, final_at, entry_front_at, entry_at}
 use Rattle.nit_report.specs.JournalText.{FitsEntry}
 use Rattle.nit_report.proofs.EventLaws.{first_some, sessions, shots}
 use Rattle.nit_report.proofs.DeliveryLaws.{ends, line_end, routes, stops_behind}
@@ -47,12 +47,12 @@ answers : IsKind answered_at entry_spelling FitsEntry ends (λ (p : ℕ × (Repl
 unfolding answered_at
 answers = kind (both sessions (both (spaced replies) behind_replies (λ _ _ _. refl)) (λ _ _ _. refl)) entry_spelling FitsEntry (codes "call") _ (λ p h. (h.0, h.1.0, h.1.1)) (λ p h. (h.0, (h.1, h.2))) (λ p. refl)
 
-inputs : IsKind input_at entry_spelling FitsEntry ends (λ (p : Device × Routed). entry.Input p.0 p.1)
-unfolding input_at
+inputs : IsKind input_entry_at entry_spelling FitsEntry ends (λ (p : Device × Routed). entry.Input p.0 p.1)
+unfolding input_entry_at
 inputs = kind (both devices routes (λ r rest ok. stops_behind (deliveries_of r) rest ok)) entry_spelling FitsEntry (codes "input ") _ (λ p h. h) (λ p h. h) (λ p. refl)
 
-shots_taken : IsKind shot_at entry_spelling FitsEntry stops (λ (n : ℕ). entry.Shot n)
-unfolding shot_at
+shots_taken : IsKind shot_entry_at entry_spelling FitsEntry stops (λ (n : ℕ). entry.Shot n)
+unfolding shot_entry_at
 shots_taken = kind shots entry_spelling FitsEntry (codes "shot") _ (λ n h. h) (λ n h. h) (λ n. refl)
 
 finals : IsKind final_at entry_spelling FitsEntry anything (λ (_ : Unit {0}). entry.Final)
@@ -63,10 +63,10 @@ front_takes : Takes entry_front_at entry_spelling FitsEntry
 unfolding entry_front_at
 front_takes =
     first_takes answered_at _ entry_spelling FitsEntry answers.takes
-    (first_takes input_at _ entry_spelling FitsEntry inputs.takes (first_takes shot_at final_at entry_spelling FitsEntry shots_taken.takes finals.takes))
+    (first_takes input_entry_at _ entry_spelling FitsEntry inputs.takes (first_takes shot_entry_at final_at entry_spelling FitsEntry shots_taken.takes finals.takes))
 
 front_again : (e : Entry) (rest : List ℕ) → FitsEntry e → entry_front_at (entry_spelling e ++ 10 ∷ rest) ≡ Some (e, 10 ∷ rest)
-unfolding entry_front_at answered_at input_at shot_at final_at
+unfolding entry_front_at answered_at input_entry_at shot_entry_at final_at
 front_again (entry.Call sid c r) rest fits = first_some _ _ _ (answers.again (sid, (r, c)) (10 ∷ rest) fits refl)
 front_again (entry.Input dev routed) rest fits = first_some _ _ _ (inputs.again (dev, routed) (10 ∷ rest) fits refl)
 front_again (entry.Shot number) rest fits = first_some _ _ _ (shots_taken.again number (10 ∷ rest) fits refl)

@@ -8,12 +8,12 @@ use Rattle.nit_events.specs.declared.event.Event.{Event}
 use Rattle.nit_events.specs.declared.event.Event.TheVariants as event
 use Rattle.nit_events.specs.declared.event.Item.{Item}
 use Rattle.nit_events.specs.declared.event.Item.TheVariants as item
-use Rattle.nit_script.specs.Reading.{first_of, at_made}
-use Rattle.nit_script.specs.InputReading.{device_at, press_at, release_at, motion_at, wheel_at}
+use Rattle.nit_script.specs.FieldReaders.{first_of, at_made}
+use Rattle.nit_script.specs.InputReaders.{device_at, press_at, release_at, motion_at, wheel_at}
 use Rattle.nit_script.specs.Spelling.{nat, device_spelling, FitsDevice}
 use Rattle.nit_script.proofs.ForCallers.{stops, Exact, tested, nothing, anything, nat_fields, Takes, IsKind, kind, first_takes, made_takes, device_takes, device_again}
 use Rattle.nit_report.specs.EntrySpelling.{event_spelling, item_spelling}
-use Rattle.nit_report.specs.EntryReading.{is_session, is_shot, session_field, shot_field, told, leave_at, focus_enter_at, focus_leave_at, event_at, kill_at, item_at}
+use Rattle.nit_report.specs.EntryReaders.{is_session_number, is_shot_number, session_field, shot_field, told, leave_at, focus_enter_at, focus_leave_at, event_at, kill_at, item_at}
 use Rattle.nit_report.specs.JournalText.{FitsSession, FitsShot, FitsEvent, FitsItem}
 
 -- the first of two that is there is the first
@@ -23,10 +23,10 @@ first_some o p x e = rw e refl
 -- ---- numbers within their bounds
 
 pub sessions : Exact session_field nat FitsSession stops
-sessions = tested nat_fields is_session FitsSession (λ n h. leb-true _ _ h) (λ n h. (omega arith, le-leb _ _ h))
+sessions = tested nat_fields is_session_number FitsSession (λ n h. leb-true _ _ h) (λ n h. (omega arith, le-leb _ _ h))
 
 pub shots : Exact shot_field nat FitsShot stops
-shots = tested nat_fields is_shot FitsShot (λ n h. let p = and_parts _ _ h in (leb-true _ _ p.0, leb-true _ _ p.1)) (λ n h. (omega arith, and_from _ _ (le-leb _ _ h.0) (le-leb _ _ h.1)))
+shots = tested nat_fields is_shot_number FitsShot (λ n h. let p = and_parts _ _ h in (leb-true _ _ p.0, leb-true _ _ p.1)) (λ n h. (omega arith, and_from _ _ (le-leb _ _ h.0) (le-leb _ _ h.1)))
 
 -- ---- events
 

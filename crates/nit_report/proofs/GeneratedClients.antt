@@ -7,7 +7,7 @@ use Rattle.std.proofs.lemmas.List.FromFn.{get_or-map-range_with_len}
 use Rattle.nit_glyph.specs.Texts.{is_label_byte, is_label}
 use Rattle.nit_config.specs.declared.config.Member.{Member}
 use Rattle.nit_config.specs.Configuration.{is_file_name}
-use Rattle.nit_config.specs.Configured.{IsConfiguredMember, IsConfigured}
+use Rattle.nit_config.specs.ConfigurationRanges.{IsMember, IsConfiguration}
 use Rattle.nit_report.specs.Generator.{client_label, script_name, generated_member, generated_configuration}
 use Rattle.nit_report.proofs.Titles.{digit_is_printable}
 
@@ -23,7 +23,7 @@ name_is c lt = rw (decimal_digit c lt, digit_is_printable c lt) refl
 labels_differ : (i j : ℕ) → i < j → j < 8 → client_label i ≢ client_label j
 labels_differ i j less few same = let e = decimal_injective i j (omega arith) (omega arith) (ap (drop 1) same) in absurd (omega arith)
 
-member_configured : (c : ℕ) → c < 8 → IsConfiguredMember (generated_member c)
+member_configured : (c : ℕ) → c < 8 → IsMember (generated_member c)
 member_configured c few = record {
   label = label_is c (omega arith);
   donation = (omega arith, omega arith);
@@ -35,7 +35,7 @@ member_configured c few = record {
 client_at : (k : ℕ) (d : Member) → k < 8 → get_or (map generated_member (range_with_len 0 8)) k d ≡ generated_member k
 client_at k d few = get_or-map-range_with_len generated_member 0 8 k k d few (omega arith)
 
-pub generated_is_configured : IsConfigured generated_configuration
+pub generated_is_configured : IsConfiguration generated_configuration
 unfolding generated_configuration
 generated_is_configured = record {
   width = (omega arith, omega arith);
@@ -43,6 +43,6 @@ generated_is_configured = record {
   bar = λ there. absurd (false≢true there);
   input = refl;
   count = (omega arith, omega arith);
-  clients = λ k d few. subst IsConfiguredMember (sym (client_at k d few)) (member_configured k few);
+  clients = λ k d few. subst IsMember (sym (client_at k d few)) (member_configured k few);
   labels = λ i j d less few same. labels_differ i j less few (ap (λ (m : Member). m.label) (sym (client_at i d (omega arith))) ∙ same ∙ ap (λ (m : Member). m.label) (client_at j d few));
 }

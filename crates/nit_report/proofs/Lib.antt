@@ -1,15 +1,15 @@
 pub mod Decimals
-mod Rows
-mod GeneratedRows
+mod Examples
+mod GeneratedExamples
 pub mod EventLaws
 pub mod DeliveryLaws
 pub mod ReplyLaws
 pub mod EntryLaws
-pub mod InTurn
+pub mod DrawLemmas
 pub mod Titles
 pub mod DrawnFits
 pub mod DrawnCounts
 pub mod GeneratedClients
 pub mod GeneratedTexts
-pub mod Journals
+pub mod JournalLemmas
 pub mod ForCallers

@@ -4,10 +4,10 @@ use Rattle.std.specs.Prelude.{codes}
 use Rattle.nit_events.specs.declared.event.Event.{Event}
 use Rattle.nit_events.specs.declared.call.Reply.{Reply}
 use Rattle.nit_events.specs.declared.call.Reply.TheVariants as reply
-use Rattle.nit_script.specs.Reading.{first_of}
+use Rattle.nit_script.specs.FieldReaders.{first_of}
 use Rattle.nit_script.proofs.ForCallers.{stops, Exact, both, spaced, nothing, anything, nat_fields, Takes, IsKind, kind, first_takes}
 use Rattle.nit_report.specs.EntrySpelling.{reply_spelling}
-use Rattle.nit_report.specs.EntryReading.{plain_at, done_at, bad_at, taken_at, handle_at, no_view_at, quota_at, reserve_at, holding_at, reply_at}
+use Rattle.nit_report.specs.EntryReaders.{plain_at, done_at, bad_at, event_reply_at, handle_at, no_view_at, quota_at, reserve_at, holding_at, reply_at}
 use Rattle.nit_report.specs.JournalText.{FitsReply}
 use Rattle.nit_report.proofs.EventLaws.{events}
 
@@ -17,8 +17,8 @@ plain_takes w r is fits = plain.takes
     plain : IsKind (plain_at w r) reply_spelling FitsReply anything (λ (_ : Unit {0}). r)
     plain = kind nothing reply_spelling FitsReply w _ (λ p h. fits) (λ p h. tt) (λ p. is)
 
-takings : IsKind taken_at reply_spelling FitsReply stops (λ (e : Event). reply.Event e)
-unfolding taken_at
+takings : IsKind event_reply_at reply_spelling FitsReply stops (λ (e : Event). reply.Event e)
+unfolding event_reply_at
 takings = kind (spaced events) reply_spelling FitsReply (codes "event") _ (λ p h. h) (λ p h. h) (λ p. refl)
 
 handles : IsKind handle_at reply_spelling FitsReply stops (λ (v : ℕ). reply.Handle v)
@@ -56,14 +56,14 @@ bad_takes =
 
 holding_takes : Takes holding_at reply_spelling FitsReply
 unfolding holding_at
-holding_takes = first taken_at _ takings.takes (first handle_at _ handles.takes (first no_view_at _ no_views.takes (first quota_at reserve_at quotas.takes reserves.takes)))
+holding_takes = first event_reply_at _ takings.takes (first handle_at _ handles.takes (first no_view_at _ no_views.takes (first quota_at reserve_at quotas.takes reserves.takes)))
 
 reply_takes : Takes reply_at reply_spelling FitsReply
 unfolding reply_at
 reply_takes = first done_at _ done_takes (first bad_at holding_at bad_takes holding_takes)
 
 reply_again : (r : Reply) (rest : List ℕ) → FitsReply r → stops rest ≡ true → reply_at (reply_spelling r ++ rest) ≡ Some (r, rest)
-unfolding reply_at done_at bad_at holding_at taken_at handle_at no_view_at quota_at reserve_at
+unfolding reply_at done_at bad_at holding_at event_reply_at handle_at no_view_at quota_at reserve_at
 reply_again reply.Done rest fits ok = refl
 reply_again (reply.Handle v) rest fits ok = rw (handles.again v rest fits ok) refl
 reply_again (reply.Event e) rest fits ok = rw (takings.again e rest fits ok) refl

@@ -3,7 +3,7 @@ use Rattle.std.proofs.Common.{◌≡◌, ℕ, ◌+◌, ◌/◌, ◌%◌, ◌≤�
 use Rattle.std.specs.Fmt.{decimal}
 use Rattle.std.proofs.lemmas.Fmt.{decimal_digit, decimal_step}
 use Rattle.std.proofs.lemmas.Bool.{le-leb, cases_lt}
-use Rattle.nit_events.specs.Texts.{is_printable, is_text}
+use Rattle.nit_events.specs.Text.{is_printable, is_text}
 
 -- a digit is printable
 pub digit_is_printable : (d : ℕ) → d < 10 → is_printable (48 + d) ≡ true

@@ -1,4 +1,5 @@
--- How the entries of a journal are spelled, and what they hold: events, items, deliveries and replies.
+-- How the entries of a journal are spelled, and what they hold: events, items, deliveries and
+-- replies.
 use Rattle.std.specs.Prelude.{ℕ, List, ◌∷◌, ◌++◌, codes}
 use Rattle.std.specs.List.{flat_map}
 use Rattle.nit_events.specs.declared.event.Event.{Event}

@@ -1,5 +1,5 @@
--- The files of a generated run: a configuration, the scripts of eight clients, and the user's script.
--- The lines of each script are drawn from a stream of its own.
+-- The files of a generated run: a configuration, the scripts of eight clients, and the user's
+-- script. The lines of each script are drawn from a stream of its own.
 use Rattle.std.specs.Prelude.{ℕ, ◌+◌, ◌*◌, ◌%◌, ◌^◌, ℤ, pos, ◌-ℤ◌, Bool, true, false}
 use Rattle.std.specs.Prelude.{List, [], ◌∷◌, ◌++◌, map, slice_index_or, codes}
 use Rattle.std.specs.List.{flat_map, range_with_len}
@@ -15,15 +15,15 @@ use Rattle.nit_script.specs.declared.line.InputLine.{InputLine}
 use Rattle.nit_script.specs.declared.line.InputLine.TheVariants as input
 use Rattle.nit_script.specs.Spelling.{line_spelling, input_spelling}
 use Rattle.nit_script.specs.Grammar.{spelled}
-use Rattle.nit_report.specs.Drawing.{Draw, below, just, ◌>>=◌, in_turn, for_each}
+use Rattle.nit_report.specs.Draw.{Draw, below, just, ◌>>=◌, draws_in_turn, for_each}
 use Rattle.nit_report.specs.declared.drawn_lines.Part.{Part}
-use Rattle.nit_report.specs.Generated.{Generated}
+use Rattle.nit_report.specs.Files.{FilesModel}
 
 -- ---- lines of a client's script
 
 -- red, green and blue
-unfoldable pub colour : Draw ℕ
-colour = do
+unfoldable pub some_colour : Draw ℕ
+some_colour = do
   red ← below 256
   green ← below 256
   blue ← below 256
@@ -32,7 +32,7 @@ colour = do
 -- the whole buffer in one colour
 abbrev pub backdrop : Draw Line
 backdrop = do
-  c ← colour
+  c ← some_colour
   just (line.Stroke (Fill 0 0 128 96 c))
 
 -- a part of the buffer: a place, a width and a height
@@ -48,15 +48,15 @@ some_part = do
 abbrev pub filled : Draw Line
 filled = do
   p ← some_part
-  c ← colour
+  c ← some_colour
   just (line.Stroke (Fill p.x p.y p.w p.h c))
 
 -- a part of the buffer in two colours
 abbrev pub checked : Draw Line
 checked = do
   p ← some_part
-  c ← colour
-  d ← colour
+  c ← some_colour
+  d ← some_colour
   just (line.Stroke (Check p.x p.y p.w p.h c d))
 
 -- a part of the buffer is to be shown anew
@@ -117,8 +117,8 @@ busy j = slice_index_or kinds (j % 8) (just (line.Call call.Take))
 -- ---- scripts
 
 -- a buffer in one colour
-abbrev pub opening : List (Draw Line)
-opening = just (line.Call (call.Buffer 128 96)) ∷ backdrop ∷ []
+abbrev pub buffer_lines : List (Draw Line)
+buffer_lines = just (line.Call (call.Buffer 128 96)) ∷ backdrop ∷ []
 
 -- sixteen views
 abbrev pub views : List (Draw Line)
@@ -143,14 +143,14 @@ phase_end = just line.Phase ∷ []
 -- a client: its views in the first phase, what it does with them in the second, and nothing in the
 -- third
 abbrev pub first_phase : List (Draw Line)
-first_phase = opening ++ views ++ places ++ titles ++ phase_end
+first_phase = buffer_lines ++ views ++ places ++ titles ++ phase_end
 
 abbrev pub second_phase : List (Draw Line)
 second_phase = busy_lines ++ phase_end
 
 -- the pointer is moved
-abbrev pub moved : Draw InputLine
-moved = do
+abbrev pub some_motion : Draw InputLine
+some_motion = do
   x ← below 320
   y ← below 240
   just (input.Device (device.Motion x y))
@@ -158,7 +158,7 @@ moved = do
 -- the pointer is moved, and the button 272 and the wheel are used there
 abbrev pub click : List (Draw InputLine)
 click =
-    moved
+    some_motion
     ∷ just (input.Device (device.Press 272))
     ∷ just (input.Device (device.Release 272))
     ∷ just (input.Device (device.Wheel (pos 1)))
@@ -191,11 +191,11 @@ seed n stream = (9 * n + stream) % 2 ^ 32
 
 -- the lines of a client's script
 unfoldable pub client_script : ℕ → ℕ → List Line
-client_script n c = (in_turn (first_phase ++ second_phase) (seed n c)).0
+client_script n c = (draws_in_turn (first_phase ++ second_phase) (seed n c)).0
 
 -- the lines of the user's script
 unfoldable pub user_script : ℕ → List InputLine
-user_script n = (in_turn user_phases (seed n 8)).0
+user_script n = (draws_in_turn user_phases (seed n 8)).0
 
 -- ---- what lines are
 
@@ -210,9 +210,9 @@ is_device (input.Device d) = true
 is_device other = false
 
 -- a shot
-abbrev pub is_shot : InputLine → Bool
-is_shot input.Shot = true
-is_shot other = false
+abbrev pub is_shot_line : InputLine → Bool
+is_shot_line input.Shot = true
+is_shot_line other = false
 
 -- ---- files
 
@@ -244,7 +244,7 @@ config_text =
     ++ flat_map client_block (range_with_len 0 8)
 
 -- the files of the run of number n
-abbrev pub generated : ℕ → Generated
+abbrev pub generated : ℕ → FilesModel
 generated n =
     record {
       config = config_text;

@@ -12,8 +12,8 @@ use Rattle.nit_events.specs.declared.call.Reply.TheVariants as reply
 use Rattle.nit_events.specs.declared.entry.Entry.{Entry}
 use Rattle.nit_events.specs.declared.entry.Entry.TheVariants as entry
 use Rattle.nit_events.specs.Input.{deliveries_of, routed_as}
-use Rattle.nit_events.specs.Ranges.{IsCode, IsTurn}
-use Rattle.nit_script.specs.Spelling.{FitsNat, FitsPlace, FitsCall, FitsDevice}
+use Rattle.nit_events.specs.Ranges.{IsCode, IsWheel}
+use Rattle.nit_script.specs.Spelling.{FitsNat, FitsPointerPlace, FitsCall, FitsDevice}
 use Rattle.nit_script.specs.Grammar.{spelled, Reads, HasNoReading, Begins, most_lines}
 use Rattle.nit_report.specs.EntrySpelling.{entry_spelling}
 use Rattle.nit_report.specs.declared.error.JournalError.{JournalError}
@@ -37,8 +37,8 @@ FitsSession sid = sid ≤ 15
 abbrev pub FitsEvent : Event → Type 0
 FitsEvent (event.Press k) = IsCode k
 FitsEvent (event.Release k) = IsCode k
-FitsEvent (event.Motion x y) = FitsPlace x × FitsPlace y
-FitsEvent (event.Wheel n) = IsTurn n
+FitsEvent (event.Motion x y) = FitsPointerPlace x × FitsPointerPlace y
+FitsEvent (event.Wheel n) = IsWheel n
 FitsEvent other = Unit {0}
 
 -- the numbers of a reply have at most nine digits

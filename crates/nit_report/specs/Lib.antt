@@ -3,8 +3,8 @@ pub mod Picture
 pub mod EntrySpelling
 pub mod JournalText
 pub mod EventsText
-pub mod Drawing
-pub mod Generated
+pub mod Draw
+pub mod Files
 pub mod Generator
 -- what the private readers do, which no public clause cites
-pub mod EntryReading
+pub mod EntryReaders

@@ -5,8 +5,8 @@ use Rattle.std.specs.Fmt.{decimal}
 use Rattle.nit_word.specs.Channels.{red, green, blue}
 
 -- the width and the height in decimal, and the greatest value of a channel
-abbrev pub header : ℕ → ℕ → List ℕ
-header w h = codes "P6\n" ++ decimal w ++ codes " " ++ decimal h ++ codes "\n255\n"
+abbrev pub picture_header : ℕ → ℕ → List ℕ
+picture_header w h = codes "P6\n" ++ decimal w ++ codes " " ++ decimal h ++ codes "\n255\n"
 
 -- red, green and blue, a byte each
 abbrev pub channels : ℕ → List ℕ
@@ -14,8 +14,8 @@ channels word = red word ∷ green word ∷ blue word ∷ []
 
 -- the picture of a frame, whose words stand row by row from the top
 abbrev pub picture : ℕ → ℕ → List ℕ → List ℕ
-picture w h frame = header w h ++ flat_map channels frame
+picture w h frame = picture_header w h ++ flat_map channels frame
 
 -- how many bytes a picture has
 abbrev pub picture_length : ℕ → ℕ → ℕ
-picture_length w h = length (header w h) + 3 * (w * h)
+picture_length w h = length (picture_header w h) + 3 * (w * h)

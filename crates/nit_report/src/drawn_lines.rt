@@ -1,9 +1,9 @@
 //! Lines of generated scripts, each drawn from a stream.
 
 ghost use Rattle.std.specs.Prelude.{◌≡◌, ◌<◌, ◌≤◌};
-ghost use Rattle.nit_report.specs.Drawing.{Draws};
-ghost use Rattle.nit_report.specs.Generator.{colour, backdrop, some_part, filled, checked, refreshed};
-ghost use Rattle.nit_report.specs.Generator.{from_outside, placed, shifted, some_view, moved};
+ghost use Rattle.nit_report.specs.Draw.{Draws};
+ghost use Rattle.nit_report.specs.Generator.{some_colour, backdrop, some_part, filled, checked, refreshed};
+ghost use Rattle.nit_report.specs.Generator.{from_outside, placed, shifted, some_view, some_motion};
 
 use crate::stream::Stream;
 use nit_events::{Call, Device};
@@ -39,9 +39,9 @@ const SIZES: (u32, u32) = (100, 60);
 /// The pointer is moved within these columns and rows.
 const SCREEN: (u32, u32) = (320, 240);
 
-#[tactic(auto, unfolding(crate::specs::Generator::colour))]
+#[tactic(auto, unfolding(crate::specs::Generator::some_colour))]
 fn colour(stream: &mut Stream) -> u32
-    ensures { Draws colour stream.old result stream.new }
+    ensures { Draws some_colour stream.old result stream.new }
 {
     let red = stream.draw(CHANNEL);
     let green = stream.draw(CHANNEL);
@@ -150,7 +150,7 @@ pub fn some_view(stream: &mut Stream) -> u32
 
 /// The pointer is moved.
 pub fn moved(stream: &mut Stream) -> InputLine
-    ensures { Draws moved stream.old result stream.new }
+    ensures { Draws some_motion stream.old result stream.new }
 {
     let x = stream.draw(SCREEN.0) as u16;
     let y = stream.draw(SCREEN.1) as u16;

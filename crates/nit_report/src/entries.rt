@@ -1,7 +1,7 @@
 //! An entry's line in front of bytes, and what follows it.
 
-ghost use Rattle.nit_script.specs.Reading.{Gives};
-ghost use Rattle.nit_report.specs.EntryReading.{answered_at, behind_reply_at, input_at, shot_at, final_at, entry_front_at, entry_at};
+ghost use Rattle.nit_script.specs.FieldReaders.{Gives};
+ghost use Rattle.nit_report.specs.EntryReaders.{answered_at, behind_reply_at, input_entry_at, shot_entry_at, final_at, entry_front_at, entry_at};
 
 use crate::reading::{session_field, shot_field, take_routed};
 use crate::replies::take_reply;
@@ -9,7 +9,7 @@ use nit_events::{Call, Entry};
 use nit_script::{take_byte, take_call, take_device, take_word};
 
 /// An entry's line with its line feed.
-#[tactic(auto, unfolding(crate::specs::EntryReading::entry_at))]
+#[tactic(auto, unfolding(crate::specs::EntryReaders::entry_at))]
 pub fn take_entry(bytes: &[u8]) -> Option<(Entry, &[u8])>
     ensures { Gives (λ x. (x.0, x.1.now)) result (entry_at bytes.now) }
 {
@@ -20,7 +20,7 @@ pub fn take_entry(bytes: &[u8]) -> Option<(Entry, &[u8])>
 }
 
 /// The same up to the line feed.
-#[tactic(auto, unfolding(crate::specs::EntryReading::entry_front_at))]
+#[tactic(auto, unfolding(crate::specs::EntryReaders::entry_front_at))]
 fn take_front(bytes: &[u8]) -> Option<(Entry, &[u8])>
     ensures { Gives (λ x. (x.0, x.1.now)) result (entry_front_at bytes.now) }
 {
@@ -37,7 +37,7 @@ fn take_front(bytes: &[u8]) -> Option<(Entry, &[u8])>
 }
 
 /// A call and its reply.
-#[tactic(auto, unfolding(crate::specs::EntryReading::answered_at))]
+#[tactic(auto, unfolding(crate::specs::EntryReaders::answered_at))]
 fn answered(bytes: &[u8]) -> Option<(Entry, &[u8])>
     ensures { Gives (λ x. (x.0, x.1.now)) result (answered_at bytes.now) }
 {
@@ -51,7 +51,7 @@ fn answered(bytes: &[u8]) -> Option<(Entry, &[u8])>
 }
 
 /// The call behind its reply.
-#[tactic(auto, unfolding(crate::specs::EntryReading::behind_reply_at))]
+#[tactic(auto, unfolding(crate::specs::EntryReaders::behind_reply_at))]
 fn behind_reply(bytes: &[u8]) -> Option<(Call, &[u8])>
     ensures { Gives (λ x. (x.0, x.1.now)) result (behind_reply_at bytes.now) }
 {
@@ -59,9 +59,9 @@ fn behind_reply(bytes: &[u8]) -> Option<(Call, &[u8])>
 }
 
 /// What the user does, with the deliveries.
-#[tactic(auto, unfolding(crate::specs::EntryReading::input_at))]
+#[tactic(auto, unfolding(crate::specs::EntryReaders::input_entry_at))]
 fn input(bytes: &[u8]) -> Option<(Entry, &[u8])>
-    ensures { Gives (λ x. (x.0, x.1.now)) result (input_at bytes.now) }
+    ensures { Gives (λ x. (x.0, x.1.now)) result (input_entry_at bytes.now) }
 {
     let rest = take_word(bytes, b"input ")?;
     let (dev, rest) = take_device(rest)?;
@@ -69,16 +69,16 @@ fn input(bytes: &[u8]) -> Option<(Entry, &[u8])>
     Some((Entry::Input { dev, routed }, rest))
 }
 
-#[tactic(auto, unfolding(crate::specs::EntryReading::shot_at))]
+#[tactic(auto, unfolding(crate::specs::EntryReaders::shot_entry_at))]
 fn shot(bytes: &[u8]) -> Option<(Entry, &[u8])>
-    ensures { Gives (λ x. (x.0, x.1.now)) result (shot_at bytes.now) }
+    ensures { Gives (λ x. (x.0, x.1.now)) result (shot_entry_at bytes.now) }
 {
     let rest = take_word(bytes, b"shot")?;
     let (number, rest) = shot_field(rest)?;
     Some((Entry::Shot { number }, rest))
 }
 
-#[tactic(auto, unfolding(crate::specs::EntryReading::final_at))]
+#[tactic(auto, unfolding(crate::specs::EntryReaders::final_at))]
 fn last(bytes: &[u8]) -> Option<(Entry, &[u8])>
     ensures { Gives (λ x. (x.0, x.1.now)) result (final_at bytes.now) }
 {

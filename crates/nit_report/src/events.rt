@@ -21,8 +21,8 @@ pub struct Ending {
     pub status: Status,
 }
 
-/// The text of the events of a session: a line for each event that it took, in order, and then a line
-/// each for `lost`, `left` and `state`. It can be refused for want of memory alone.
+/// The text of the events of a session: a line for each event that it took, in order, and then a
+/// line each for `lost`, `left` and `state`. It can be refused for want of memory alone.
 pub fn events_text(
     alloc: Global,
     entries: &[Entry],

@@ -2,7 +2,7 @@
 
 ghost use Rattle.std.specs.Prelude.{◌≡◌, ◌≤◌, ◌++◌, ℕ, [], ◌∷◌, codes, IfOk, OnOk};
 ghost use Rattle.std.specs.Fmt.{decimal};
-ghost use Rattle.nit_report.specs.Drawing.{Draws, Appends};
+ghost use Rattle.nit_report.specs.Draw.{Draws, AppendsDraws};
 ghost use Rattle.nit_report.specs.Generator.{views, places, titles, busy};
 ghost use Rattle.nit_report.specs.Generator.{first_phase, second_phase, client_script};
 
@@ -37,7 +37,7 @@ pub fn client_script(alloc: Global, n: u32, client: u32) -> Result<Client, NoMem
 /// A buffer, and the views with their places and titles.
 fn put_first_phase(stream: &mut Stream, lines: &mut Vec<Line>) -> Result<(), NoMemory>
     ensures { OnOk result
-        (Appends first_phase stream.old lines.old.items stream.new lines.new.items) }
+        (AppendsDraws first_phase stream.old lines.old.items stream.new lines.new.items) }
 {
     push(lines, Line::Call(Call::Buffer(BUFFER.0, BUFFER.1)))?;
     push(lines, backdrop(stream))?;
@@ -49,7 +49,7 @@ fn put_first_phase(stream: &mut Stream, lines: &mut Vec<Line>) -> Result<(), NoM
 }
 
 fn put_views(lines: &mut Vec<Line>) -> Result<(), NoMemory>
-    ensures { OnOk result ((s : ℕ) → Appends views s lines.old.items s lines.new.items) }
+    ensures { OnOk result ((s : ℕ) → AppendsDraws views s lines.old.items s lines.new.items) }
 {
     for _view in 1..VIEWS + 1 {
         push(lines, Line::Call(Call::View))?;
@@ -58,7 +58,8 @@ fn put_views(lines: &mut Vec<Line>) -> Result<(), NoMemory>
 }
 
 fn put_places(stream: &mut Stream, lines: &mut Vec<Line>) -> Result<(), NoMemory>
-    ensures { OnOk result (Appends places stream.old lines.old.items stream.new lines.new.items) }
+    ensures { OnOk result
+        (AppendsDraws places stream.old lines.old.items stream.new lines.new.items) }
 {
     for view in 1..VIEWS + 1 {
         push(lines, placed(stream, view))?;
@@ -67,7 +68,7 @@ fn put_places(stream: &mut Stream, lines: &mut Vec<Line>) -> Result<(), NoMemory
 }
 
 fn put_titles(lines: &mut Vec<Line>) -> Result<(), NoMemory>
-    ensures { OnOk result ((s : ℕ) → Appends titles s lines.old.items s lines.new.items) }
+    ensures { OnOk result ((s : ℕ) → AppendsDraws titles s lines.old.items s lines.new.items) }
 {
     for view in 1..VIEWS + 1 {
         push(lines, Line::Call(Call::Title(view, title(view))))?;
@@ -90,7 +91,7 @@ fn title(view: u32) -> Text
 
 fn put_second_phase(stream: &mut Stream, lines: &mut Vec<Line>) -> Result<(), NoMemory>
     ensures { OnOk result
-        (Appends second_phase stream.old lines.old.items stream.new lines.new.items) }
+        (AppendsDraws second_phase stream.old lines.old.items stream.new lines.new.items) }
 {
     for j in 0..BUSY_LINES {
         push(lines, busy(stream, j))?;

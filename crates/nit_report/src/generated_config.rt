@@ -3,7 +3,7 @@
 ghost use Rattle.std.specs.Prelude.{◌≡◌, ◌+◌, ◌≤◌, [], ◌∷◌, ◌++◌, IsTrue, IfOk, OnOk};
 ghost use Rattle.std.specs.Fmt.{decimal};
 ghost use Rattle.nit_glyph.specs.Texts.{is_label};
-ghost use Rattle.nit_config.specs.Configured.{IsConfigured};
+ghost use Rattle.nit_config.specs.ConfigurationRanges.{IsConfiguration};
 ghost use Rattle.nit_report.specs.Generator.{client_label, script_name, client_block, config_text};
 ghost use Rattle.nit_report.specs.Generator.{generated_member, generated_configuration};
 
@@ -23,7 +23,7 @@ const DONATION: u32 = 262_144;
 #[tactic(auto, unfolding(crate::specs::Generator::generated_configuration))]
 pub fn gen_config(alloc: Global) -> Result<Config, NoMemory>
     ensures config { IfOk result (λ config. config ≡ generated_configuration) }
-    ensures configured { IfOk result (λ config. IsConfigured config) }
+    ensures configured { IfOk result (λ config. IsConfiguration config) }
 {
     let mut clients = Vec::with_capacity(alloc, CLIENTS as usize)?;
     for client in 0..CLIENTS {

@@ -1,7 +1,7 @@
 //! The user's script of a generated run.
 
 ghost use Rattle.std.specs.Prelude.{◌≡◌, ◌++◌, ℕ, [], ◌∷◌, IfOk, OnOk};
-ghost use Rattle.nit_report.specs.Drawing.{Appends};
+ghost use Rattle.nit_report.specs.Draw.{AppendsDraws};
 ghost use Rattle.nit_report.specs.Generator.{click, clicks, xray_shot, user_script};
 
 use crate::drawn_lines::moved;
@@ -40,7 +40,8 @@ pub fn user_script(alloc: Global, n: u32) -> Result<Input, NoMemory>
 }
 
 fn put_clicks(stream: &mut Stream, lines: &mut Vec<InputLine>) -> Result<(), NoMemory>
-    ensures { OnOk result (Appends clicks stream.old lines.old.items stream.new lines.new.items) }
+    ensures { OnOk result
+        (AppendsDraws clicks stream.old lines.old.items stream.new lines.new.items) }
 {
     for _i in 0..CLICKS {
         put_click(stream, lines)?;
@@ -50,7 +51,8 @@ fn put_clicks(stream: &mut Stream, lines: &mut Vec<InputLine>) -> Result<(), NoM
 
 /// The pointer is moved, and the button and the wheel are used there.
 fn put_click(stream: &mut Stream, lines: &mut Vec<InputLine>) -> Result<(), NoMemory>
-    ensures { OnOk result (Appends click stream.old lines.old.items stream.new lines.new.items) }
+    ensures { OnOk result
+        (AppendsDraws click stream.old lines.old.items stream.new lines.new.items) }
 {
     push(lines, moved(stream))?;
     push(lines, InputLine::Device(Device::Press(BUTTON)))?;
@@ -59,7 +61,7 @@ fn put_click(stream: &mut Stream, lines: &mut Vec<InputLine>) -> Result<(), NoMe
 }
 
 fn put_xray_shot(lines: &mut Vec<InputLine>) -> Result<(), NoMemory>
-    ensures { OnOk result ((s : ℕ) → Appends xray_shot s lines.old.items s lines.new.items) }
+    ensures { OnOk result ((s : ℕ) → AppendsDraws xray_shot s lines.old.items s lines.new.items) }
 {
     push(lines, InputLine::Device(Device::Press(XRAY_KEY)))?;
     push(lines, InputLine::Shot)?;

@@ -27,9 +27,9 @@ pub struct Files {
 
 impl Model for Files {
     ghost use Rattle.std.specs.Prelude.{map};
-    ghost use Rattle.nit_report.specs.Generated.{Generated};
+    ghost use Rattle.nit_report.specs.Files.{FilesModel};
 
-    ghost Value = { Generated };
+    ghost Value = { FilesModel };
 
     ghost view = { λ f. record {
       config = f.config.items;

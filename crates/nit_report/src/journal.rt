@@ -13,8 +13,8 @@ use nit_rect::NoMemory;
 use nit_script::{put_call, put_device};
 use std::alloc::Global;
 
-/// The text of a journal, a line for each entry. It can be refused for want of memory alone. Entries
-/// that are within the format are read back from it: sessions 0..=15, codes 0..=767, turns
+/// The text of a journal, a line for each entry. It can be refused for want of memory alone.
+/// Entries that are within the format are read back from it: sessions 0..=15, codes 0..=767, turns
 /// -127..=127, shots 1..=65536, other numbers below 1,000,000,000, and deliveries without a gap.
 pub fn journal_text(alloc: Global, entries: &[Entry]) -> Result<Vec<u8>, NoMemory>
     ensures text { IfOk result (λ v. v.items ≡ journal_text entries.now) }

@@ -1,11 +1,11 @@
-//! What the relations between texts and journals say of each other, and how many lines the scripts of
-//! a generated run have.
+//! What the relations between texts and journals say of each other, and how many lines the scripts
+//! of a generated run have.
 
 ghost use Rattle.std.specs.Prelude.{◌≡◌, ℕ, List, length, count_by};
 ghost use Rattle.nit_events.specs.declared.entry.Entry.{Entry};
 ghost use Rattle.nit_script.specs.Phases.{phases, input_phases};
 ghost use Rattle.nit_report.specs.Generator.{client_script, is_call};
-ghost use Rattle.nit_report.specs.Generator.{user_script, is_device, is_shot};
+ghost use Rattle.nit_report.specs.Generator.{user_script, is_device, is_shot_line};
 ghost use Rattle.nit_report.specs.JournalText.{ReadsJournal, IsFirstBadEntry};
 
 /// A text has one reading as a journal at most, and a list of entries has one text.
@@ -37,6 +37,6 @@ pub fn generated_client_counts()
 pub fn generated_user_counts()
     ensures lines { (n : ℕ) → length (user_script n) ≡ 205 }
     ensures devices { (n : ℕ) → count_by is_device (user_script n) ≡ 202 }
-    ensures shots { (n : ℕ) → count_by is_shot (user_script n) ≡ 1 }
+    ensures shots { (n : ℕ) → count_by is_shot_line (user_script n) ≡ 1 }
     ensures phases { (n : ℕ) → input_phases (user_script n) ≡ 3 }
 {}

@@ -9,7 +9,8 @@
 //! | entry of the journal | line |
 //! |---|---|
 //! | a call | `call`, the session's number, the reply, `<`, the call |
-//! | a device event | `input`, the device's line, and for each delivery `>`, the session's number, the item |
+//! | a device event | `input`, the device's line, and for each delivery `>`, the session's number,
+//! the item |
 //! | a shot | `shot` and its number |
 //! | the last picture | `final` |
 //!

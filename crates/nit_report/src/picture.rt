@@ -4,7 +4,7 @@ ghost use Rattle.std.specs.Prelude.{◌≡◌, ◌+◌, ◌*◌, ◌<◌, ◌≤
 ghost use Rattle.std.specs.List.{flat_map};
 ghost use Rattle.std.specs.Fmt.{decimal};
 ghost use Rattle.nit_word.specs.Inks.{IsWord};
-ghost use Rattle.nit_report.specs.Picture.{header, channels, picture, picture_length};
+ghost use Rattle.nit_report.specs.Picture.{picture_header, channels, picture, picture_length};
 ghost use Rattle.nit_rect.specs.Limits.{most_width, most_height};
 
 use crate::write::{number, text};
@@ -20,7 +20,8 @@ pub fn ppm_len(w: u32, h: u32) -> usize
     header + 3 * w as usize * h as usize
 }
 
-/// Writes the picture of a frame, which has a word for each pixel of the screen, row by row from the top.
+/// Writes the picture of a frame, which has a word for each pixel of the screen, row by row from
+/// the top.
 pub fn ppm_into(out: &mut [u8], w: u32, h: u32, frame: &[u32])
     requires screen { (w ≤ most_width) × (h ≤ most_height) }
     requires length { length out.old ≡ picture_length w h }
@@ -42,9 +43,9 @@ fn digit_count(n: u32) -> usize
 
 /// Writes what stands in front of the pixels, and answers where it ends.
 fn write_header(out: &mut [u8], w: u32, h: u32) -> usize
-    requires { length (header w h) ≤ length out.old }
-    ensures end { result ≡ length (header w h) }
-    ensures written { take result out.new ≡ header w h }
+    requires { length (picture_header w h) ≤ length out.old }
+    ensures end { result ≡ length (picture_header w h) }
+    ensures written { take result out.new ≡ picture_header w h }
 {
     let at = text(out, 0, b"P6\n");
     let at = number(out, at, w);

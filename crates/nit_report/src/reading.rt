@@ -1,8 +1,8 @@
 //! Numbers, events and deliveries in front of bytes, each with what follows it.
 
 ghost use Rattle.std.specs.Prelude.{◌≡◌, Some};
-ghost use Rattle.nit_script.specs.Reading.{Gives};
-ghost use Rattle.nit_report.specs.EntryReading.{session_field, shot_field, told, event_at, item_at, delivery_at, routed_at};
+ghost use Rattle.nit_script.specs.FieldReaders.{Gives};
+ghost use Rattle.nit_report.specs.EntryReaders.{session_field, shot_field, told, event_at, item_at, delivery_at, routed_at};
 
 use nit_events::{Delivery, Device, Event, Item, Routed};
 use nit_script::{natural_field, take_byte, take_device, take_word};
@@ -38,7 +38,7 @@ pub fn shot_field(bytes: &[u8]) -> Option<(u32, &[u8])>
 }
 
 /// An event.
-#[tactic(auto, unfolding(crate::specs::EntryReading::event_at))]
+#[tactic(auto, unfolding(crate::specs::EntryReaders::event_at))]
 pub fn take_event(bytes: &[u8]) -> Option<(Event, &[u8])>
     ensures { Gives (λ x. (x.0, x.1.now)) result (event_at bytes.now) }
 {
@@ -67,7 +67,7 @@ fn told(device: Device) -> Event
     }
 }
 
-#[tactic(auto, unfolding(crate::specs::EntryReading::item_at, crate::specs::EntryReading::kill_at))]
+#[tactic(auto, unfolding(crate::specs::EntryReaders::item_at, crate::specs::EntryReaders::kill_at))]
 fn take_item(bytes: &[u8]) -> Option<(Item, &[u8])>
     ensures { Gives (λ x. (x.0, x.1.now)) result (item_at bytes.now) }
 {
@@ -78,7 +78,7 @@ fn take_item(bytes: &[u8]) -> Option<(Item, &[u8])>
     Some((Item::Kill, rest))
 }
 
-#[tactic(auto, unfolding(crate::specs::EntryReading::delivery_at))]
+#[tactic(auto, unfolding(crate::specs::EntryReaders::delivery_at))]
 fn take_delivery(bytes: &[u8]) -> Option<(Delivery, &[u8])>
     ensures { Gives (λ x. (x.0, x.1.now)) result (delivery_at bytes.now) }
 {
@@ -89,7 +89,7 @@ fn take_delivery(bytes: &[u8]) -> Option<(Delivery, &[u8])>
 }
 
 /// Up to three deliveries.
-#[tactic(auto, unfolding(crate::specs::EntryReading::routed_at))]
+#[tactic(auto, unfolding(crate::specs::EntryReaders::routed_at))]
 pub fn take_routed(bytes: &[u8]) -> (Routed, &[u8])
     ensures { routed_at bytes.now ≡ Some (result.0, result.1.now) }
 {

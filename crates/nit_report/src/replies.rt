@@ -1,14 +1,14 @@
 //! Replies in front of bytes, each with what follows it.
 
-ghost use Rattle.nit_script.specs.Reading.{Gives};
-ghost use Rattle.nit_report.specs.EntryReading.{done_at, bad_at, taken_at, handle_at, no_view_at, quota_at, reserve_at, holding_at, reply_at};
+ghost use Rattle.nit_script.specs.FieldReaders.{Gives};
+ghost use Rattle.nit_report.specs.EntryReaders.{done_at, bad_at, event_reply_at, handle_at, no_view_at, quota_at, reserve_at, holding_at, reply_at};
 
 use crate::reading::take_event;
 use nit_events::Reply;
 use nit_script::{natural_field, take_byte, take_word};
 
 /// Any reply.
-#[tactic(auto, unfolding(crate::specs::EntryReading::reply_at))]
+#[tactic(auto, unfolding(crate::specs::EntryReaders::reply_at))]
 pub fn take_reply(bytes: &[u8]) -> Option<(Reply, &[u8])>
     ensures { Gives (λ x. (x.0, x.1.now)) result (reply_at bytes.now) }
 {
@@ -22,7 +22,7 @@ pub fn take_reply(bytes: &[u8]) -> Option<(Reply, &[u8])>
 }
 
 /// A call was done, or nothing is queued, or the session is not served.
-#[tactic(auto, unfolding(crate::specs::EntryReading::done_at))]
+#[tactic(auto, unfolding(crate::specs::EntryReaders::done_at))]
 fn done(bytes: &[u8]) -> Option<(Reply, &[u8])>
     ensures { Gives (λ x. (x.0, x.1.now)) result (done_at bytes.now) }
 {
@@ -40,7 +40,7 @@ fn done(bytes: &[u8]) -> Option<(Reply, &[u8])>
 }
 
 /// What was asked for is out of range.
-#[tactic(auto, unfolding(crate::specs::EntryReading::bad_at))]
+#[tactic(auto, unfolding(crate::specs::EntryReaders::bad_at))]
 fn bad(bytes: &[u8]) -> Option<(Reply, &[u8])>
     ensures { Gives (λ x. (x.0, x.1.now)) result (bad_at bytes.now) }
 {
@@ -58,7 +58,7 @@ fn bad(bytes: &[u8]) -> Option<(Reply, &[u8])>
 }
 
 /// A reply with an event or with numbers.
-#[tactic(auto, unfolding(crate::specs::EntryReading::holding_at))]
+#[tactic(auto, unfolding(crate::specs::EntryReaders::holding_at))]
 fn holding(bytes: &[u8]) -> Option<(Reply, &[u8])>
     ensures { Gives (λ x. (x.0, x.1.now)) result (holding_at bytes.now) }
 {
@@ -77,16 +77,16 @@ fn holding(bytes: &[u8]) -> Option<(Reply, &[u8])>
     reserve(bytes)
 }
 
-#[tactic(auto, unfolding(crate::specs::EntryReading::taken_at))]
+#[tactic(auto, unfolding(crate::specs::EntryReaders::event_reply_at))]
 fn taken(bytes: &[u8]) -> Option<(Reply, &[u8])>
-    ensures { Gives (λ x. (x.0, x.1.now)) result (taken_at bytes.now) }
+    ensures { Gives (λ x. (x.0, x.1.now)) result (event_reply_at bytes.now) }
 {
     let rest = take_word(bytes, b"event")?;
     let (event, rest) = take_event(take_byte(rest, b' ')?)?;
     Some((Reply::Event(event), rest))
 }
 
-#[tactic(auto, unfolding(crate::specs::EntryReading::handle_at))]
+#[tactic(auto, unfolding(crate::specs::EntryReaders::handle_at))]
 fn handle(bytes: &[u8]) -> Option<(Reply, &[u8])>
     ensures { Gives (λ x. (x.0, x.1.now)) result (handle_at bytes.now) }
 {
@@ -95,7 +95,7 @@ fn handle(bytes: &[u8]) -> Option<(Reply, &[u8])>
     Some((Reply::Handle(view), rest))
 }
 
-#[tactic(auto, unfolding(crate::specs::EntryReading::no_view_at))]
+#[tactic(auto, unfolding(crate::specs::EntryReaders::no_view_at))]
 fn no_view(bytes: &[u8]) -> Option<(Reply, &[u8])>
     ensures { Gives (λ x. (x.0, x.1.now)) result (no_view_at bytes.now) }
 {
@@ -104,7 +104,7 @@ fn no_view(bytes: &[u8]) -> Option<(Reply, &[u8])>
     Some((Reply::NoSuchView(view), rest))
 }
 
-#[tactic(auto, unfolding(crate::specs::EntryReading::quota_at))]
+#[tactic(auto, unfolding(crate::specs::EntryReaders::quota_at))]
 fn quota(bytes: &[u8]) -> Option<(Reply, &[u8])>
     ensures { Gives (λ x. (x.0, x.1.now)) result (quota_at bytes.now) }
 {
@@ -115,7 +115,7 @@ fn quota(bytes: &[u8]) -> Option<(Reply, &[u8])>
     Some((Reply::OutOfQuota { need, left }, rest))
 }
 
-#[tactic(auto, unfolding(crate::specs::EntryReading::reserve_at))]
+#[tactic(auto, unfolding(crate::specs::EntryReaders::reserve_at))]
 fn reserve(bytes: &[u8]) -> Option<(Reply, &[u8])>
     ensures { Gives (λ x. (x.0, x.1.now)) result (reserve_at bytes.now) }
 {

@@ -1,7 +1,7 @@
 //! A stream of numbers, from which the lines of generated scripts are drawn.
 
 ghost use Rattle.std.specs.Prelude.{◌≡◌, ◌<◌, ◌≤◌};
-ghost use Rattle.nit_report.specs.Drawing.{below, Draws};
+ghost use Rattle.nit_report.specs.Draw.{below, Draws};
 ghost use Rattle.nit_report.specs.Generator.{seed};
 
 use std::marker::Model;
@@ -48,7 +48,7 @@ impl Stream {
     }
 
     /// A number below the limit.
-    #[tactic(auto, unfolding(crate::specs::Drawing::following))]
+    #[tactic(auto, unfolding(crate::specs::Draw::following))]
     pub fn draw(&mut self, limit: u32) -> u32
         requires { 0 < limit }
         ensures drawn { Draws (below limit) self.old result self.new }

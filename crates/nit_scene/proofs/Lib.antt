@@ -1,39 +1,39 @@
-pub mod Attends
-pub mod Calls
-pub mod Clean
-pub mod Comings
-pub mod Counting
-pub mod Firsts
-pub mod Goings
+pub mod ServerInputLemmas
+pub mod CleanCalls
+pub mod CleanPixels
+pub mod NewViews
+pub mod HandleCounts
+pub mod FirstFound
+pub mod ViewsGone
 pub mod Handles
-pub mod Inputs
+pub mod CleanInput
 pub mod Kills
-pub mod Labelled
-pub mod LabelsShown
+pub mod LabelSlotLemmas
+pub mod FrameLabelLemmas
 pub mod Lists
 pub mod Loads
-pub mod Losing
-pub mod Meant
-mod Changed
+pub mod LostEvents
+pub mod MarkLemmas
+mod OneViewChanges
 mod StackRoom
 mod SessionViews
 mod SessionEnds
 mod QuietCalls
-pub mod Members
-pub mod Names
-pub mod OneSession
-pub mod OneView
-pub mod Opened
-pub mod Played
-pub mod Refusals
-pub mod Refused
-pub mod Screens
-pub mod Seated
-pub mod Serving
-pub mod Sizes
-pub mod Stacks
-pub mod Stepping
-pub mod Beginning
+pub mod SceneSessionLemmas
+pub mod ViewNameLemmas
+pub mod SessionCalls
+pub mod ViewCalls
+pub mod ServerOpeningLemmas
+pub mod SceneLemmas
+pub mod NoRefusal
+pub mod CallAnswers
+pub mod ScreenLemmas
+pub mod SlotLemmas
+pub mod ServedCalls
+pub mod BufferSizes
+pub mod StackFacts
+pub mod ServerLemmas
+pub mod SceneOpening
 pub mod Marks
-pub mod Keeps
+pub mod KeptFrames
 pub mod OneList

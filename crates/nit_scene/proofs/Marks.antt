@@ -5,10 +5,10 @@ use Rattle.nit_rect.specs.Rectangle.{Rectangle, rectangle}
 use Rattle.nit_events.specs.declared.call.Call.{Call}
 use Rattle.nit_events.specs.declared.call.Call.TheVariants.{Buffer, Place, Offset, Front, Back, Above, Destroy, Refresh, Close}
 use Rattle.nit_stack.specs.declared.view.ViewRef.{ViewRef}
-use Rattle.nit_stack.specs.Names.{IsNamedBy}
-use Rattle.nit_stack.specs.Standing.{Standing, is_of_session, is_slot, size_of}
-use Rattle.nit_repaint.specs.Owned.{is_word_in, owner_passes, source_in}
-use Rattle.nit_scene.specs.Serving.{Serving}
+use Rattle.nit_stack.specs.ViewNames.{IsNamedBy}
+use Rattle.nit_stack.specs.Stack.{StackModel, is_of_session, is_slot, size_of}
+use Rattle.nit_repaint.specs.PixelOwners.{is_word_in, owner_passes, source_in}
+use Rattle.nit_scene.specs.Server.{ServerModel}
 
 -- which pixels are meant: those that a view owns, those that views of a session own, those that show a word of this part of a session's buffer
 pub data Mark : Type 0 where
@@ -17,17 +17,17 @@ pub data Mark : Type 0 where
   OfPart : ℕ → Rectangle → Mark
 
 -- the pixel is one of those that are meant
-abbrev pub is_meant : Mark → Standing → Point → Bool
+abbrev pub is_meant : Mark → StackModel → Point → Bool
 is_meant (OfView v) s p = owner_passes (is_slot v.0) s p
 is_meant (OfSession sid) s p = owner_passes (is_of_session sid) s p
 is_meant (OfPart sid part) s p = is_word_in sid (size_of s.sizes sid).w part (source_in s p)
 
 -- the pixels of the session's view of this handle
-abbrev pub IsMarkOfView : Serving → ℕ → ℕ → Option Mark → Type 0
+abbrev pub IsMarkOfView : ServerModel → ℕ → ℕ → Option Mark → Type 0
 IsMarkOfView s sid handle m = (v : ViewRef) × (m ≡ Some (OfView v)) × IsNamedBy v.0 sid handle s.stack.views
 
 -- the pixels that are meant by a call, before and after it
-abbrev pub IsMarkOf : Serving → ℕ → Call → Option Mark → Type 0
+abbrev pub IsMarkOf : ServerModel → ℕ → Call → Option Mark → Type 0
 IsMarkOf s sid (Place v x y w h) m = IsMarkOfView s sid v m
 IsMarkOf s sid (Offset v ox oy) m = IsMarkOfView s sid v m
 IsMarkOf s sid (Front v) m = IsMarkOfView s sid v m

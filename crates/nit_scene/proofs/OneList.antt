@@ -23,17 +23,17 @@ use Rattle.nit_stack.specs.declared.view.View.{View as ViewOf}
 use Rattle.nit_stack.specs.Sources.{PixelSource, Bare, covering, in_bar, owner, pixel, source_under}
 use Rattle.nit_config.specs.Configuration.{Configuration, bar_rows}
 use Rattle.nit_journal.specs.State.{State, buffer_size}
-use Rattle.nit_paint.specs.Painting.{IsAmongLoads, IsHeld, Repainted}
-use Rattle.nit_paint.specs.Copied.{IsCopied}
-use Rattle.nit_overlay.specs.Looks.{draws_labels}
-use Rattle.nit_overlay.specs.Shown.{Scenery, bar_word, frame, owner_word, shown}
+use Rattle.nit_paint.specs.Repaint.{IsAmongLoads, IsWordOfSource, Repainted}
+use Rattle.nit_paint.specs.FrameCopy.{IsCopied}
+use Rattle.nit_overlay.specs.Look.{draws_labels}
+use Rattle.nit_overlay.specs.Frame.{Scenery, bar_word, frame, owner_word, shown}
 use Rattle.nit_overlay.proofs.ForCallers.{frame_fits, get_or-frame, length-frame, flat_same, renewed, flat_shown}
-use Rattle.nit_scene.specs.Kept.{CanShow, raw_in, unbarred}
-use Rattle.nit_scene.specs.Painted.{AreRaw, IsRawOf, Painted, pixel_count, source_at}
-use Rattle.nit_scene.specs.Played.{scenery_of}
-use Rattle.nit_scene.specs.Dirty.{dirty}
-use Rattle.nit_scene.specs.Serving.{IsServed, Serving, state_of}
-use Rattle.nit_scene.proofs.Keeps.{bar_clean, bare_source, has_owner, kept_served, owned, still}
+use Rattle.nit_scene.specs.Pixels.{CanShow, raw_in, unbarred}
+use Rattle.nit_scene.specs.RawWords.{AreRaw, IsRawOf, Painted, pixel_count, source_at}
+use Rattle.nit_scene.specs.Scene.{scenery_of}
+use Rattle.nit_scene.specs.DirtyPixels.{dirty}
+use Rattle.nit_scene.specs.Server.{IsServed, ServerModel, state_of}
+use Rattle.nit_scene.proofs.KeptFrames.{bar_clean, bare_source, has_owner, kept_served, owned, still}
 
 -- ---- the raw words of such a list
 
@@ -103,7 +103,7 @@ bar_is_bare s k l =
     ap (λ (b : Bool). source_under (buffer_size s.sessions) (pixel s.config.width k) (cond b None (covering (λ (v : ViewOf). v) s.stack (pixel s.config.width k)))) (bar_at s.config.width (bar_rows s.config) k l)
 
 -- as many pixels, where the configuration stays
-pub bar_kept : (s s' : Serving) (bar : ℕ) → s'.config ≡ s.config → bar ≡ s.config.width * bar_rows s.config → bar ≡ s'.config.width * bar_rows s'.config
+pub bar_kept : (s s' : ServerModel) (bar : ℕ) → s'.config ≡ s.config → bar ≡ s.config.width * bar_rows s.config → bar ≡ s'.config.width * bar_rows s'.config
 bar_kept s s' bar same is = is ∙ ap (λ (c : Configuration). c.width * bar_rows c) (sym same)
 
 -- ---- painting
@@ -119,13 +119,13 @@ unbarred_painted source marked n m a b raw raw' bare p = record {
   counts = p.counts;
 }
   where
-    go : (k : ℕ) → k < n → marked k ≡ true → (c : Bool) → nat_lt k m ≡ c → IsHeld a (source k) (slice_index (unbarred m raw') k) × IsAmongLoads p.loads (source k) (slice_index (unbarred m raw') k)
+    go : (k : ℕ) → k < n → marked k ≡ true → (c : Bool) → nat_lt k m ≡ c → IsWordOfSource a (source k) (slice_index (unbarred m raw') k) × IsAmongLoads p.loads (source k) (slice_index (unbarred m raw') k)
     go k l d true e =
         let is = unbarred_at m raw' k ∙ ap (λ (c : Bool). cond c bare_word (slice_index raw' k)) e in
-        subst (λ (x : PixelSource). IsHeld a x (slice_index (unbarred m raw') k) × IsAmongLoads p.loads x (slice_index (unbarred m raw') k)) (sym (bare k (grind (arith, nat_tests)))) (is, tt)
+        subst (λ (x : PixelSource). IsWordOfSource a x (slice_index (unbarred m raw') k) × IsAmongLoads p.loads x (slice_index (unbarred m raw') k)) (sym (bare k (grind (arith, nat_tests)))) (is, tt)
     go k l d false e =
         let is = unbarred_at m raw' k ∙ ap (λ (c : Bool). cond c bare_word (slice_index raw' k)) e in
-        subst (λ (w : ℕ). IsHeld a (source k) w × IsAmongLoads p.loads (source k) w) (sym is) (p.marked k l d)
+        subst (λ (w : ℕ). IsWordOfSource a (source k) w × IsAmongLoads p.loads (source k) w) (sym is) (p.marked k l d)
 
 pub painted_in : (c : Bool) (source : ℕ → PixelSource) (marked : ℕ → Bool) (n m : ℕ) (a b : ℕ → Sight) (raw raw' : List ℕ) → ((k : ℕ) → k < m → source k ≡ Bare)
     → Repainted source marked n a b raw raw' → Repainted source marked n a b (raw_in c m raw) (raw_in c m raw')
@@ -173,7 +173,7 @@ flat_raw s bar raw flat some is fits many raws =
         ∙ ap (λ (o : Bool). cond o (slice_index raw k) bare_word) (owned s (pixel s.config.width k)) ∙ here k l (has_owner (source_at s k)) refl
 
 -- the frame takes the place of the raw words, in mode Flat
-pub made_one : (s : Serving) (apart : Bool) (bar : ℕ) (raw shown : List ℕ) (room : ℕ) (labels : List (List ℕ)) (places : ℕ) → apart ≡ true → s.input.mode ≡ Flat → 0 < s.config.width → CanShow s raw shown room labels places bar
+pub made_one : (s : ServerModel) (apart : Bool) (bar : ℕ) (raw shown : List ℕ) (room : ℕ) (labels : List (List ℕ)) (places : ℕ) → apart ≡ true → s.input.mode ≡ Flat → 0 < s.config.width → CanShow s raw shown room labels places bar
     → cond apart shown raw ≡ frame (scenery_of (state_of s)) (raw_in apart bar raw) → AreRaw (state_of s) (raw_in apart bar raw)
     → CanShow s shown raw room labels places bar × (shown ≡ frame (scenery_of (state_of s)) (unbarred bar shown)) × (unbarred bar shown ≡ raw_in apart bar raw)
 made_one s apart bar raw shown room labels places is flat some h was raws =
@@ -242,7 +242,7 @@ module _ (now : Scenery) (focus : Option ℕ) (m : ℕ) (raw made : List ℕ) (f
       }) was
       ∙ ap (frame now) (sym put_raw)
 
-pub bar_again : (s : Serving) (apart : Bool) (focus : Option ℕ) (bar : ℕ) (raw shown_ made : List ℕ) (room : ℕ) (labels : List (List ℕ)) (places : ℕ) → apart ≡ false → s.input.mode ≡ Flat → 0 < s.config.width
+pub bar_again : (s : ServerModel) (apart : Bool) (focus : Option ℕ) (bar : ℕ) (raw shown_ made : List ℕ) (room : ℕ) (labels : List (List ℕ)) (places : ℕ) → apart ≡ false → s.input.mode ≡ Flat → 0 < s.config.width
     → CanShow s raw shown_ room labels places bar → length made ≡ length shown_
     → ((k : ℕ) → k < pixel_count (state_of s) → in_bar (bar_rows s.config) (pixel s.config.width k) ≡ true → slice_index made k ≡ shown (scenery_of (state_of s)) (pixel s.config.width k) (slice_index raw k))
     → cond apart shown_ raw ≡ frame (record (scenery_of (state_of s)) { focus = focus }) (raw_in apart bar raw)
@@ -277,11 +277,11 @@ by_mode Xray flat labelled = labelled refl
 by_mode Kill flat labelled = labelled refl
 
 -- no call but `Close` changes the mode
-pub mode_stays : (before after' : Serving) (sid : ℕ) (call : Call) (r : Reply) → (call ≡ Close → ⊥) → IsServed sid call r before after' → after'.input.mode ≡ before.input.mode
+pub mode_stays : (before after' : ServerModel) (sid : ℕ) (call : Call) (r : Reply) → (call ≡ Close → ⊥) → IsServed sid call r before after' → after'.input.mode ≡ before.input.mode
 mode_stays before after' sid call r other served = ap (λ (t : State). t.input.mode) served.state ∙ ap (λ i. i.mode) (still (state_of before) sid call r other)
 
 -- in mode Flat the one list is the frame of what was loaded
-pub flat_kept : (before after' : Serving) (sid : ℕ) (call : Call) (r : Reply) (glasses glasses' : ℕ → Sight) (apart : Bool) (bar : ℕ) (raw raw' shown_ : List ℕ) (room : ℕ) (labels : List (List ℕ)) (places : ℕ) (chosen : ℕ → Bool)
+pub flat_kept : (before after' : ServerModel) (sid : ℕ) (call : Call) (r : Reply) (glasses glasses' : ℕ → Sight) (apart : Bool) (bar : ℕ) (raw raw' shown_ : List ℕ) (room : ℕ) (labels : List (List ℕ)) (places : ℕ) (chosen : ℕ → Bool)
     → sid < length before.sessions → (call ≡ Close → ⊥) → IsServed sid call r before after' → 0 < before.config.width → CanShow before raw shown_ room labels places bar → length raw' ≡ length raw
     → bar ≡ after'.config.width * bar_rows after'.config → Painted (state_of before) (entry.Call sid call r) (state_of after') glasses glasses' raw raw'
     → ((k : ℕ) → chosen k ≡ dirty (state_of before) (entry.Call sid call r) (state_of after') (pixel before.config.width k))

@@ -2,17 +2,17 @@
 use Rattle.std.proofs.Common.{◌≡◌, ℕ, false, List, refl}
 use Rattle.nit_word.specs.Sight.{Sight}
 use Rattle.nit_events.specs.declared.entry.Entry.TheVariants as entry
-use Rattle.nit_scene.specs.Dirty.{dirty, dirty_by_call}
-use Rattle.nit_scene.specs.Painted.{Painted}
+use Rattle.nit_scene.specs.DirtyPixels.{dirty, dirty_by_call}
+use Rattle.nit_scene.specs.RawWords.{Painted}
 use Rattle.nit_rect.specs.declared.point.Point.{Point}
 use Rattle.nit_events.specs.declared.call.Call.{Call}
 use Rattle.nit_events.specs.declared.call.Call.TheVariants.{Buffer, View, Place, Offset, Front, Back, Above, Title, Destroy, Refresh, Take, Upgrade, Close}
 use Rattle.nit_events.specs.declared.call.Reply.{Reply}
 use Rattle.nit_journal.specs.State.{State}
-use Rattle.nit_journal.specs.Views.{is_accepted}
+use Rattle.nit_journal.specs.StackAfter.{is_accepted}
 use Rattle.nit_scene.specs.CallKinds.{IsClean, IsQuiet}
-use Rattle.nit_scene.proofs.Calls.{right_fails}
-use Rattle.nit_scene.proofs.Screens.{unpainted}
+use Rattle.nit_scene.proofs.CleanCalls.{right_fails}
+use Rattle.nit_scene.proofs.ScreenLemmas.{unpainted}
 
 pub clean_call : (before after' : State) (sid : ℕ) (call : Call) (r : Reply) (p : Point) → IsClean call → dirty before (entry.Call sid call r) after' p ≡ false
 clean_call before after' sid call r p is = right_fails (is_accepted r) _ (go call is)

@@ -5,40 +5,40 @@ use Rattle.nit_word.specs.Sight.{Sight}
 use Rattle.nit_events.specs.declared.entry.Entry.TheVariants as entry
 use Rattle.nit_stack.specs.Sources.{pixel, PixelSource, no_size, Size, black_or_word, in_bar, shown_index, source_under}
 use Rattle.nit_stack.proofs.ForCallers.{found_fails, owner_of_views}
-use Rattle.nit_paint.specs.Painting.{Repainted, no_sight}
+use Rattle.nit_paint.specs.Repaint.{Repainted, no_sight}
 use Rattle.nit_paint.specs.Pieces as pieces
 use Rattle.nit_paint.proofs.ForCallers.{repainted_same}
-use Rattle.nit_scene.specs.Painted.{Painted, glass_in, pixel_count, source_at}
+use Rattle.nit_scene.specs.RawWords.{Painted, glass_in, pixel_count, source_at}
 use Rattle.nit_repaint.proofs.ForCallers.{nobody_calls, none_left}
-use Rattle.nit_scene.proofs.Meant.{session_meant, source_of_number}
+use Rattle.nit_scene.proofs.MarkLemmas.{session_meant, source_of_number}
 use Rattle.nit_rect.specs.declared.point.Point.{Point}
-use Rattle.nit_stack.specs.Standing.{size_of, Seat, Standing, is_of_session}
-use Rattle.nit_repaint.specs.Owned.{owner_passes, source_in}
+use Rattle.nit_stack.specs.Stack.{size_of, SlotView, StackModel, is_of_session}
+use Rattle.nit_repaint.specs.PixelOwners.{owner_passes, source_in}
 use Rattle.nit_repaint.specs.Glasses.{glasses_of_call}
 use Rattle.std.specs.Option.{option_map}
 use Rattle.nit_events.specs.declared.call.Call.{Call}
 use Rattle.nit_events.specs.declared.call.Call.TheVariants.{Close}
 use Rattle.nit_stack.specs.Orders.{without}
-use Rattle.nit_scene.specs.Serving.{IsServing, Serving, state_of}
+use Rattle.nit_scene.specs.Server.{IsServer, ServerModel, state_of}
 use Rattle.nit_events.specs.declared.event.Status.{Status}
 use Rattle.nit_events.specs.Input.{forget}
-use Rattle.nit_journal.specs.Session.{Session, ended, opened}
+use Rattle.nit_journal.specs.Session.{Session, ended, first_session}
 use Rattle.std.proofs.lemmas.List.{set-set}
 use Rattle.nit_rect.specs.Rectangle.{covers}
-use Rattle.nit_repaint.specs.Uncovered.{without_session}
-use Rattle.nit_scene.specs.Dirty.{session_owns}
+use Rattle.nit_repaint.specs.ViewRemoval.{without_session}
+use Rattle.nit_scene.specs.DirtyPixels.{session_owns}
 use Rattle.nit_journal.specs.State.{session_in}
-use Rattle.nit_scene.specs.Seating.{with_ended, without_views}
+use Rattle.nit_scene.specs.ViewsTaken.{with_ended, without_views}
 use Rattle.nit_events.specs.declared.call.Reply.TheVariants as reply
 
 -- what is left of a server when a session ends is told by what is left without its views
-same_ended : (sid : ℕ) (how : Status) (s t : Serving) → sid < length s.sessions → sid < length t.sessions → without_views sid s ≡ without_views sid t → with_ended sid how s ≡ with_ended sid how t
+same_ended : (sid : ℕ) (how : Status) (s t : ServerModel) → sid < length s.sessions → sid < length t.sessions → without_views sid s ≡ without_views sid t → with_ended sid how s ≡ with_ended sid how t
 same_ended sid how s t l m e = go s l ∙ ap over e ∙ sym (go t m)
   where
-    over : Serving → Serving
+    over : ServerModel → ServerModel
     over z = record z { sessions = set z.sessions sid (ended how (session_in z.sessions sid)); stack = record z.stack { sizes = set z.stack.sizes sid no_size }; input = forget z.input sid }
 
-    go : (z : Serving) → sid < length z.sessions → with_ended sid how z ≡ over (without_views sid z)
+    go : (z : ServerModel) → sid < length z.sessions → with_ended sid how z ≡ over (without_views sid z)
     go z n = λ i. record {
       config = z.config;
       sessions = sym (again z n) i;
@@ -46,48 +46,48 @@ same_ended sid how s t l m e = go s l ∙ ap over e ∙ sym (go t m)
       input = forget z.input sid;
     }
       where
-        again : (z : Serving) → sid < length z.sessions
+        again : (z : ServerModel) → sid < length z.sessions
             → set (set z.sessions sid (record (session_in z.sessions sid) { handles = [] })) sid (ended how (session_in (set z.sessions sid (record (session_in z.sessions sid) { handles = [] })) sid)) ≡ set z.sessions sid (ended how (session_in z.sessions sid))
         again z n =
             let bare_one : Session = record (session_in z.sessions sid) { handles = [] } in
             set-set z.sessions sid bare_one (ended how (session_in (set z.sessions sid bare_one) sid))
-            ∙ ap (λ (t : Session). set z.sessions sid (ended how t)) (get_or-set_same z.sessions sid bare_one (opened 0) n)
+            ∙ ap (λ (t : Session). set z.sessions sid (ended how t)) (get_or-set_same z.sessions sid bare_one (first_session 0) n)
 
-pub ended_server : (sid : ℕ) (how : Status) (s mid s' : Serving) → sid < length s.sessions → sid < length mid.sessions → without_views sid mid ≡ without_views sid s → s' ≡ with_ended sid how mid → s' ≡ with_ended sid how s
+pub ended_server : (sid : ℕ) (how : Status) (s mid s' : ServerModel) → sid < length s.sessions → sid < length mid.sessions → without_views sid mid ≡ without_views sid s → s' ≡ with_ended sid how mid → s' ≡ with_ended sid how s
 ended_server sid how s mid s' l m left now = now ∙ same_ended sid how mid s m l left
 
 -- what is uncovered is of other sessions, whose buffers stay
 other_size : (sizes : List Size) (sid t : ℕ) → (t == sid) ≡ false → size_of (set sizes sid no_size) t ≡ size_of sizes t
 other_size sizes sid t e = get_or-set_other sizes sid t no_size no_size (eqb-false t sid e)
 
-ended_source : (sid : ℕ) (s : Standing) (p : Point) → source_in (record (without_session sid s) { sizes = set s.sizes sid no_size }) p ≡ source_in (without_session sid s) p
+ended_source : (sid : ℕ) (s : StackModel) (p : Point) → source_in (record (without_session sid s) { sizes = set s.sizes sid no_size }) p ≡ source_in (without_session sid s) p
 ended_source sid s p =
     ap (source_under (size_of (set s.sizes sid no_size)) p) (owner_of_views s.bar (without (is_of_session sid) s.views) p)
     ∙ go (in_bar s.bar p)
     ∙ sym (ap (source_under (size_of s.sizes) p) (owner_of_views s.bar (without (is_of_session sid) s.views) p))
   where
-    found : (o : Option Seat) → find (λ (a : Seat). covers a.view.rect p) (without (is_of_session sid) s.views) ≡ o
-        → source_under (size_of (set s.sizes sid no_size)) p (option_map (λ (a : Seat). a.view) o) ≡ source_under (size_of s.sizes) p (option_map (λ (a : Seat). a.view) o)
+    found : (o : Option SlotView) → find (λ (a : SlotView). covers a.view.rect p) (without (is_of_session sid) s.views) ≡ o
+        → source_under (size_of (set s.sizes sid no_size)) p (option_map (λ (a : SlotView). a.view) o) ≡ source_under (size_of s.sizes) p (option_map (λ (a : SlotView). a.view) o)
     found None e = refl
     found (Some a) e =
-        let other = found_fails (λ (a : Seat). covers a.view.rect p) (is_of_session sid) (without (is_of_session sid) s.views) a (none_left (is_of_session sid) s.views) e in
+        let other = found_fails (λ (a : SlotView). covers a.view.rect p) (is_of_session sid) (without (is_of_session sid) s.views) a (none_left (is_of_session sid) s.views) e in
         ap (λ (z : Size). black_or_word a.view.sid (shown_index z a.view p)) (other_size s.sizes sid a.view.sid other)
 
-    go : (b : Bool) → source_under (size_of (set s.sizes sid no_size)) p (option_map (λ (a : Seat). a.view) (cond b None (find (λ (a : Seat). covers a.view.rect p) (without (is_of_session sid) s.views))))
-        ≡ source_under (size_of s.sizes) p (option_map (λ (a : Seat). a.view) (cond b None (find (λ (a : Seat). covers a.view.rect p) (without (is_of_session sid) s.views))))
+    go : (b : Bool) → source_under (size_of (set s.sizes sid no_size)) p (option_map (λ (a : SlotView). a.view) (cond b None (find (λ (a : SlotView). covers a.view.rect p) (without (is_of_session sid) s.views))))
+        ≡ source_under (size_of s.sizes) p (option_map (λ (a : SlotView). a.view) (cond b None (find (λ (a : SlotView). covers a.view.rect p) (without (is_of_session sid) s.views))))
     go true = refl
-    go false = found (find (λ (a : Seat). covers a.view.rect p) (without (is_of_session sid) s.views)) refl
+    go false = found (find (λ (a : SlotView). covers a.view.rect p) (without (is_of_session sid) s.views)) refl
 
-pub ended_painted : (s s' : Serving) (sid : ℕ) (how : Status) (n : ℕ) (a b : ℕ → Sight) (raw raw' : List ℕ) → IsServing s → IsServing s' → s' ≡ with_ended sid how s → n ≡ s.config.width * s.config.height
-    → Repainted (pieces.source_at (without_session sid s.stack)) (λ k. owner_passes (is_of_session sid) s.stack (pixel s.stack.width k)) n a b raw raw'
+pub ended_painted : (s s' : ServerModel) (sid : ℕ) (how : Status) (n : ℕ) (a b : ℕ → Sight) (raw raw' : List ℕ) → IsServer s → IsServer s' → s' ≡ with_ended sid how s → n ≡ s.config.width * s.config.height
+    → Repainted (pieces.source_of_number (without_session sid s.stack)) (λ k. owner_passes (is_of_session sid) s.stack (pixel s.stack.width k)) n a b raw raw'
     → Repainted (source_at (state_of s')) (λ k. session_owns sid (state_of s) (pixel s.config.width k)) (pixel_count (state_of s)) a b raw raw'
 ended_painted s s' sid how n a b raw raw' h h' now count painted =
     subst (λ (c : ℕ). Repainted (source_at (state_of s')) (λ k. session_owns sid (state_of s) (pixel s.config.width k)) c a b raw raw') count
     (repainted_same _ _ _ _ n a a b b raw raw'
     (λ k l. session_meant s h sid (pixel s.stack.width k) ∙ ap (λ (w : ℕ). session_owns sid (state_of s) (pixel w k)) h.screen.0)
-    (λ k l m. sym (ended_source sid s.stack (pixel s.stack.width k)) ∙ ap (λ (t : Serving). pieces.source_at t.stack k) (sym now) ∙ source_of_number s' h' k) (λ t. refl) (λ t. refl) painted)
+    (λ k l m. sym (ended_source sid s.stack (pixel s.stack.width k)) ∙ ap (λ (t : ServerModel). pieces.source_of_number t.stack k) (sym now) ∙ source_of_number s' h' k) (λ t. refl) (λ t. refl) painted)
 
-pub close_painted : (s s' : Serving) (sid : ℕ) (a b : ℕ → Sight) (raw raw' : List ℕ)
+pub close_painted : (s s' : ServerModel) (sid : ℕ) (a b : ℕ → Sight) (raw raw' : List ℕ)
     → Repainted (source_at (state_of s')) (λ k. session_owns sid (state_of s) (pixel s.config.width k)) (pixel_count (state_of s)) a b raw raw'
     → Painted (state_of s) (entry.Call sid Close reply.Done) (state_of s') a b raw raw'
 close_painted s s' sid a b raw raw' painted = painted

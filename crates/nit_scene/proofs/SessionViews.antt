@@ -3,28 +3,28 @@ use Rattle.std.proofs.Common.{◌≡◌, ℕ, Bool, ◌&&◌, List, Option, None
 use Rattle.nit_word.specs.Sight.{Sight}
 use Rattle.nit_events.specs.declared.entry.Entry.TheVariants as entry
 use Rattle.nit_stack.specs.Sources.{pixel}
-use Rattle.nit_paint.specs.Painting.{Repainted}
+use Rattle.nit_paint.specs.Repaint.{Repainted}
 use Rattle.nit_paint.specs.Pieces as pieces
 use Rattle.nit_paint.proofs.ForCallers.{repainted_same}
-use Rattle.nit_scene.specs.Dirty.{dirty, dirty_by_call}
-use Rattle.nit_scene.specs.Painted.{Painted, pixel_count, source_at}
+use Rattle.nit_scene.specs.DirtyPixels.{dirty, dirty_by_call}
+use Rattle.nit_scene.specs.RawWords.{Painted, pixel_count, source_at}
 use Rattle.nit_repaint.proofs.ForCallers.{all_of_session, part_of_session}
-use Rattle.nit_scene.proofs.Meant.{part_meant, session_meant, source_of_number}
+use Rattle.nit_scene.proofs.MarkLemmas.{part_meant, session_meant, source_of_number}
 use Rattle.nit_rect.specs.declared.point.Point.{Point}
-use Rattle.nit_repaint.specs.Parts.{wanted}
+use Rattle.nit_repaint.specs.WantedPixels.{wanted}
 use Rattle.nit_rect.specs.Rectangle.{Rectangle, rectangle}
 use Rattle.nit_events.specs.declared.call.Call.{Call}
 use Rattle.nit_events.specs.declared.call.Call.TheVariants.{Buffer, View, Place, Offset, Front, Back, Above, Title, Destroy, Refresh, Take, Upgrade, Close}
 use Rattle.nit_events.specs.declared.call.Reply.{Reply}
-use Rattle.nit_stack.specs.Standing.{Standing}
+use Rattle.nit_stack.specs.Stack.{StackModel}
 use Rattle.nit_journal.specs.Session.{refusal}
 use Rattle.nit_journal.specs.State.{State, session}
-use Rattle.nit_journal.specs.Views.{is_accepted}
-use Rattle.nit_scene.specs.Serving.{IsServed, IsServing, Serving, state_of}
+use Rattle.nit_journal.specs.StackAfter.{is_accepted}
+use Rattle.nit_scene.specs.Server.{IsServed, IsServer, ServerModel, state_of}
 use Rattle.nit_scene.specs.CallKinds.{IsPartOf}
-use Rattle.nit_scene.proofs.Refused.{accepted_reply}
+use Rattle.nit_scene.proofs.CallAnswers.{accepted_reply}
 
-wanted_dirty : (before after' : Serving) (sid : ℕ) (part : Option Rectangle) (call : Call) (p : Point) → IsServing after' → IsPartOf part call → wanted sid part after'.stack p ≡ dirty_by_call sid call (state_of before) (state_of after') p
+wanted_dirty : (before after' : ServerModel) (sid : ℕ) (part : Option Rectangle) (call : Call) (p : Point) → IsServer after' → IsPartOf part call → wanted sid part after'.stack p ≡ dirty_by_call sid call (state_of before) (state_of after') p
 wanted_dirty before after' sid part (Buffer w h) p ha on = ap (λ (o : Option Rectangle). wanted sid o after'.stack p) on ∙ all_of_session sid after'.stack p ∙ session_meant after' ha sid p
 wanted_dirty before after' sid part (Refresh x y w h) p ha on =
     ap (λ (o : Option Rectangle). wanted sid o after'.stack p) on ∙ part_of_session sid (rectangle x y w h) after'.stack p
@@ -41,7 +41,7 @@ wanted_dirty before after' sid part Take p ha on = absurd on
 wanted_dirty before after' sid part (Upgrade n) p ha on = absurd on
 wanted_dirty before after' sid part Close p ha on = absurd on
 
-module _ (before after' : Serving) (sid : ℕ) (part : Option Rectangle) (call : Call) (r : Reply) (ha : IsServing after') (none : refusal (session (state_of before) sid) call ≡ None)
+module _ (before after' : ServerModel) (sid : ℕ) (part : Option Rectangle) (call : Call) (r : Reply) (ha : IsServer after') (none : refusal (session (state_of before) sid) call ≡ None)
     (s : IsServed sid call r before after') (on : IsPartOf part call) where
   pub dirty_by_views : (k : ℕ) → wanted sid part after'.stack (pixel after'.stack.width k) ≡ dirty (state_of before) (entry.Call sid call r) (state_of after') (pixel before.config.width k)
   dirty_by_views k =
@@ -50,15 +50,15 @@ module _ (before after' : Serving) (sid : ℕ) (part : Option Rectangle) (call :
       ∙ sym (ap (λ (b : Bool). b && dirty_by_call sid call (state_of before) (state_of after') (pixel before.config.width k)) (ap is_accepted s.replied ∙ accepted_reply (session (state_of before) sid) call none))
 
   pub painted_by_views : (n : ℕ) (glasses glasses' : ℕ → Sight) (raw raw' : List ℕ) → n ≡ pixel_count (state_of before)
-      → Repainted (pieces.source_at after'.stack) (λ k. wanted sid part after'.stack (pixel after'.stack.width k)) n glasses glasses' raw raw'
+      → Repainted (pieces.source_of_number after'.stack) (λ k. wanted sid part after'.stack (pixel after'.stack.width k)) n glasses glasses' raw raw'
       → Painted (state_of before) (entry.Call sid call r) (state_of after') glasses glasses' raw raw'
   painted_by_views n glasses glasses' raw raw' count painted =
       subst (λ (c : ℕ). Repainted (source_at (state_of after')) (λ k. dirty (state_of before) (entry.Call sid call r) (state_of after') (pixel before.config.width k)) c glasses glasses' raw raw') count
       (repainted_same _ _ _ _ n glasses glasses glasses' glasses' raw raw' (λ k l. dirty_by_views k) (λ k l m. source_of_number after' ha k) (λ t. refl) (λ t. refl) painted)
 
 -- what is said of a stack and of slices that were handed out, in the words of their owners
-pub handed_on : (P : Standing → ℕ → (ℕ → Sight) → (ℕ → Sight) → List ℕ → List ℕ → Type 0) (t s : Standing) (n m : ℕ) (a a' b b' : ℕ → Sight) (raw old raw' new : List ℕ) → t ≡ s → n ≡ m → a ≡ a' → b ≡ b' → raw ≡ old → raw' ≡ new
+pub handed_on : (P : StackModel → ℕ → (ℕ → Sight) → (ℕ → Sight) → List ℕ → List ℕ → Type 0) (t s : StackModel) (n m : ℕ) (a a' b b' : ℕ → Sight) (raw old raw' new : List ℕ) → t ≡ s → n ≡ m → a ≡ a' → b ≡ b' → raw ≡ old → raw' ≡ new
     → P t n a b raw raw' → P s m a' b' old new
 handed_on P t s n m a a' b b' raw old raw' new e f g h i j told =
-    subst (λ (x : Standing). P x m a' b' old new) e (subst (λ (x : ℕ). P t x a' b' old new) f (subst (λ (x : ℕ → Sight). P t n x b' old new) g
+    subst (λ (x : StackModel). P x m a' b' old new) e (subst (λ (x : ℕ). P t x a' b' old new) f (subst (λ (x : ℕ → Sight). P t n x b' old new) g
     (subst (λ (x : ℕ → Sight). P t n a x old new) h (subst (λ (x : List ℕ). P t n a b x new) i (subst (λ (x : List ℕ). P t n a b raw x) j told)))))

@@ -1,27 +1,28 @@
-//! Laws of the pixels that an entry does not make dirty, of the names of views, and of their labels.
+//! Laws of the pixels that an entry does not make dirty, of the names of views, and of their
+//! labels.
 
 ghost use Rattle.std.specs.Prelude.{◌≡◌, ℕ, List, None, Some, false};
 ghost use Rattle.nit_events.specs.declared.call.Call.{Call};
 ghost use Rattle.nit_events.specs.declared.call.Reply.{Reply};
 ghost use Rattle.nit_journal.specs.Session.{refusal};
 ghost use Rattle.nit_journal.specs.State.{session};
-ghost use Rattle.nit_stack.specs.Names.{IsNamedBy};
-ghost use Rattle.nit_stack.specs.Standing.{Seat, place_of, seat_in};
-ghost use Rattle.nit_repaint.specs.OneView.{IsChange};
+ghost use Rattle.nit_stack.specs.ViewNames.{IsNamedBy};
+ghost use Rattle.nit_stack.specs.Stack.{SlotView, place_of, slot_view_in};
+ghost use Rattle.nit_repaint.specs.ViewChange.{IsViewChange};
 ghost use Rattle.nit_scene.specs.CallKinds.{IsOn};
-ghost use Rattle.nit_scene.specs.Serving.{IsServed, IsServing, Serving, state_of};
+ghost use Rattle.nit_scene.specs.Server.{IsServed, IsServer, ServerModel, state_of};
 ghost use Rattle.nit_rect.specs.declared.point.Point.{Point};
 ghost use Rattle.nit_word.specs.Sight.{Sight};
 ghost use Rattle.nit_events.specs.declared.entry.Entry.{Entry};
 ghost use Rattle.nit_config.specs.Configuration.{Configuration};
 ghost use Rattle.nit_journal.specs.State.{State, source_of, after};
-ghost use Rattle.nit_journal.specs.Journals.{Agrees, IsLegal, replay};
-ghost use Rattle.nit_overlay.specs.Shown.{frame};
-ghost use Rattle.nit_scene.specs.Dirty.{dirty};
-ghost use Rattle.nit_scene.specs.LabelsShown.{ShowsLabels};
-ghost use Rattle.nit_scene.specs.Played.{scenery_of};
-ghost use Rattle.nit_scene.specs.Painted.{Painted, AreRaw, AreInked};
-ghost use Rattle.nit_scene.specs.Named.{HaveOwnNames, IsNewlyNamed, AreBelowNext};
+ghost use Rattle.nit_journal.specs.Replay.{Agrees, IsLegal, replay};
+ghost use Rattle.nit_overlay.specs.Frame.{frame};
+ghost use Rattle.nit_scene.specs.DirtyPixels.{dirty};
+ghost use Rattle.nit_scene.specs.FrameLabels.{ShowsLabels};
+ghost use Rattle.nit_scene.specs.Scene.{scenery_of};
+ghost use Rattle.nit_scene.specs.RawWords.{Painted, AreRaw, AreInked};
+ghost use Rattle.nit_scene.specs.ViewNames.{HaveOwnNames, IsNewlyNamed, AreBelowNext};
 
 use nit_journal::laws::deliveries_fit;
 
@@ -83,9 +84,10 @@ pub fn labels_stand()
 
 /// An accepted call on a view is a change of the view in its slot.
 pub(crate) fn calls_change_one_view()
-    ensures { (before after' : Serving) (sid handle k : ℕ) (call : Call) (r : Reply) (seat : Seat)
-        → IsServing before → IsServing after' → refusal (session (state_of before) sid) call ≡ None
+    ensures { (before after' : ServerModel) (sid handle k : ℕ) (call : Call) (r : Reply)
+        (seat : SlotView)
+        → IsServer before → IsServer after' → refusal (session (state_of before) sid) call ≡ None
         → IsServed sid call r before after' → IsOn handle call
-        → IsNamedBy k sid handle before.stack.views → seat_in k before.stack.views ≡ Some seat
-        → IsChange k (place_of k before.stack.views) seat.view.rect before.stack after'.stack }
+        → IsNamedBy k sid handle before.stack.views → slot_view_in k before.stack.views ≡ Some seat
+        → IsViewChange k (place_of k before.stack.views) seat.view.rect before.stack after'.stack }
 {}

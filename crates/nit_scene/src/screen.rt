@@ -2,9 +2,9 @@
 
 ghost use Rattle.std.specs.Prelude.{◌≡◌, ◌<◌, All, length, ℕ, ◌*◌, map};
 ghost use Rattle.nit_word.specs.Inks.{IsWord};
-ghost use Rattle.nit_scene.specs.Painted.{glass_in};
-ghost use Rattle.nit_scene.specs.Serving.{IsServing};
-ghost use Rattle.nit_scene.specs.Showing.{IsGlassOf};
+ghost use Rattle.nit_scene.specs.RawWords.{glass_in};
+ghost use Rattle.nit_scene.specs.Server.{IsServer};
+ghost use Rattle.nit_scene.specs.Screen.{IsGlassOf};
 
 mod calls;
 mod frames;
@@ -32,10 +32,10 @@ pub(crate) struct Screen<G: Glass + Drop> {
 
 impl<G: Glass + Drop> Model for Screen<G> {
     ghost use Rattle.std.specs.Prelude.{map};
-    ghost use Rattle.nit_scene.specs.Kept.{raw_of};
-    ghost use Rattle.nit_scene.specs.Showing.{IsScreen, Showing};
+    ghost use Rattle.nit_scene.specs.Pixels.{raw_of};
+    ghost use Rattle.nit_scene.specs.Screen.{IsScreen, ScreenModel};
 
-    ghost Value = { Showing G };
+    ghost Value = { ScreenModel G };
 
     ghost view = { λ s. record {
       serving = s.server;
@@ -50,7 +50,7 @@ impl<G: Glass + Drop> Screen<G> {
     /// The server.
     pub(crate) fn server(&self) -> &Server
         ensures server { result.now ≡ self.now.serving }
-        ensures facts { IsServing self.now.serving }
+        ensures facts { IsServer self.now.serving }
     {
         self.server.facts();
         &self.server
@@ -58,7 +58,7 @@ impl<G: Glass + Drop> Screen<G> {
 
     /// What holds of the server.
     pub(crate) fn facts(&self)
-        ensures serving { IsServing self.now.serving }
+        ensures serving { IsServer self.now.serving }
         ensures words { All IsWord self.now.raw }
         ensures pixels { length self.now.raw
             ≡ self.now.serving.config.width * self.now.serving.config.height }

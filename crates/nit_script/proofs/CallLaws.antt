@@ -3,8 +3,8 @@ use Rattle.std.proofs.Common.{◌≡◌, ℕ, ℤ, List, ◌∷◌, ◌++◌, Op
 use Rattle.std.specs.Prelude.{codes}
 use Rattle.nit_events.specs.declared.call.Call.{Call}
 use Rattle.nit_events.specs.declared.call.Call.TheVariants.{Buffer, View, Place, Offset, Front, Back, Above, Title, Destroy, Refresh, Take, Upgrade, Close}
-use Rattle.nit_script.specs.Reading.{first_of}
-use Rattle.nit_script.specs.CallReading.{buffer_at, view_at, refresh_at, take_at, upgrade_at, close_at, session_call_at, place_at, offset_at, front_at, back_at, above_at, title_at, destroy_at, view_call_at, call_at}
+use Rattle.nit_script.specs.FieldReaders.{first_of}
+use Rattle.nit_script.specs.CallReaders.{buffer_at, view_at, refresh_at, take_at, upgrade_at, close_at, session_call_at, place_at, offset_at, front_at, back_at, above_at, title_at, destroy_at, view_call_at, call_at}
 use Rattle.nit_script.specs.Spelling.{FitsCall, call_spelling}
 use Rattle.nit_script.proofs.Exact.{both, nothing, anything, nat_fields, int_fields, text_fields, stops_text}
 use Rattle.nit_script.proofs.Digits.{stops}

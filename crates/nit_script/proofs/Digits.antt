@@ -15,7 +15,7 @@ use Rattle.std.proofs.lemmas.Int.Digits.{digits_value_more}
 use Rattle.std.proofs.lemmas.Str.{digit_value_digit}
 use Rattle.std.proofs.lemmas.Str.Parse.{IsNumeralModel, digit_at, digit_from_value, digits_value_short, digits_value-take-le, numerals_by_value, tells_digits}
 use Rattle.std.proofs.lemmas.Fmt.{decimal-digits_value, decimal_is_IsNumeral, length-decimal-le, first_decimal, decimal_digit}
-use Rattle.nit_script.specs.Reading.{nat_at, is_number}
+use Rattle.nit_script.specs.FieldReaders.{nat_at, is_number}
 
 -- a byte that passes the test of a digit
 is_digit : (c : ℕ) → is_ascii_digit c ≡ true → IsInRange 48 57 c

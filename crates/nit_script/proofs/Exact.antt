@@ -10,8 +10,8 @@ use Rattle.std.proofs.lemmas.Str.Parse.{digit_at}
 use Rattle.std.proofs.lemmas.Slice.Eq.{bytes_eq-Decides}
 use Rattle.std.proofs.lemmas.Option.{cond_some, some_pair_parts}
 use Rattle.std.proofs.lemmas.List.{take_at, drop_at, take-append-drop, get_or_append_left}
-use Rattle.nit_events.specs.Texts.{is_text, is_printable}
-use Rattle.nit_script.specs.Reading.{◌>>=◌, byte_at, word_at, at_spaced, at_both, nothing_at, nat_at, int_at, signed_at, negative, positive, colour_at, hex_value, nibble_at, at_made, at_tested, Nibbles, nibbles_at, value_of_nibbles, text_at, nat_field, int_field, colour_field, text_field}
+use Rattle.nit_events.specs.Text.{is_text, is_printable}
+use Rattle.nit_script.specs.FieldReaders.{◌>>=◌, byte_at, word_at, at_spaced, at_both, nothing_at, nat_at, int_at, signed_at, negative, positive, colour_at, hex_value, nibble_at, at_made, at_tested, Nibbles, nibbles_at, value_of_nibbles, text_at, nat_field, int_field, colour_field, text_field}
 use Rattle.nit_script.specs.Spelling.{FitsNat, FitsInt, FitsColour, FitsText, nat, int, hex, hex_digits, colour, text}
 use Rattle.nit_script.proofs.Digits.{stops, nat_takes, nat_again}
 use Rattle.nit_rect.proofs.ForCallers.{bind_some}

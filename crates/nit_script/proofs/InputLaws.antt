@@ -4,14 +4,14 @@ use Rattle.std.specs.Prelude.{codes}
 use Rattle.std.proofs.lemmas.Bool.{leb-true, le-leb}
 use Rattle.std.proofs.lemmas.Bool.Decides.{nat_tests}
 use Rattle.std.proofs.lemmas.Int.{ints}
-use Rattle.nit_events.specs.Ranges.{IsCode, IsTurn}
+use Rattle.nit_events.specs.Ranges.{IsCode, IsWheel}
 use Rattle.nit_events.specs.declared.device.Device.{Device}
 use Rattle.nit_events.specs.declared.device.Device.TheVariants.{Press, Release, Motion, Wheel}
 use Rattle.nit_script.specs.declared.line.InputLine.{InputLine}
 use Rattle.nit_script.specs.declared.line.InputLine.TheVariants as input
-use Rattle.nit_script.specs.InputReading.{is_code, is_place, is_turn, code_field, place_field, turn_field, press_at, release_at, motion_at, wheel_at, device_at, shot_at, input_phase_at, input_front_at, input_at}
-use Rattle.nit_script.specs.Reading.{at_made}
-use Rattle.nit_script.specs.Spelling.{nat, int, FitsInt, FitsPlace, FitsDevice, FitsInputLine, device_spelling, input_spelling}
+use Rattle.nit_script.specs.InputReaders.{is_code, is_pointer_place, is_wheel, code_field, pointer_field, wheel_field, press_at, release_at, motion_at, wheel_at, device_at, shot_at, input_phase_at, input_front_at, input_at}
+use Rattle.nit_script.specs.FieldReaders.{at_made}
+use Rattle.nit_script.specs.Spelling.{nat, int, FitsInt, FitsPointerPlace, FitsDevice, FitsInputLine, device_spelling, input_spelling}
 use Rattle.nit_script.proofs.Digits.{stops}
 use Rattle.nit_script.proofs.Exact.{Exact, both, tested, nothing, anything, nat_fields, int_fields}
 use Rattle.nit_script.proofs.LineKinds.{Takes, IsKind, kind, first_takes, made_takes, ended_takes, ended_again}
@@ -22,19 +22,19 @@ use Rattle.nit_script.proofs.Scripts.{IsReader}
 codes_in_range : Exact code_field nat IsCode stops
 codes_in_range = tested nat_fields is_code IsCode (λ k h. leb-true _ _ h) (λ k h. (omega arith, le-leb _ _ h))
 
-places_in_range : Exact place_field nat FitsPlace stops
-places_in_range = tested nat_fields is_place FitsPlace (λ k h. leb-true _ _ h) (λ k h. (omega arith, le-leb _ _ h))
+places_in_range : Exact pointer_field nat FitsPointerPlace stops
+places_in_range = tested nat_fields is_pointer_place FitsPointerPlace (λ k h. leb-true _ _ h) (λ k h. (omega arith, le-leb _ _ h))
 
-turn_is : (z : ℤ) → is_turn z ≡ true → IsTurn z
+turn_is : (z : ℤ) → is_wheel z ≡ true → IsWheel z
 turn_is (pos n) h = (grind (arith, nat_tests), grind (arith, nat_tests))
 turn_is (negsuc n) h = (grind (arith, nat_tests), grind (arith, nat_tests))
 
-is_a_turn : (z : ℤ) → IsTurn z → FitsInt z × (is_turn z ≡ true)
+is_a_turn : (z : ℤ) → IsWheel z → FitsInt z × (is_wheel z ≡ true)
 is_a_turn (pos n) h = (omega (arith, ints, h.1), grind (arith, nat_tests))
 is_a_turn (negsuc n) h = (omega (arith, ints, h.0), grind (arith, nat_tests))
 
-turns_in_range : Exact turn_field int IsTurn stops
-turns_in_range = tested int_fields is_turn IsTurn turn_is is_a_turn
+turns_in_range : Exact wheel_field int IsWheel stops
+turns_in_range = tested int_fields is_wheel IsWheel turn_is is_a_turn
 
 -- ---- devices
 

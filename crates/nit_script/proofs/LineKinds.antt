@@ -1,7 +1,7 @@
 -- Kinds of lines: a word, and what is made of the fields behind it.
 use Rattle.std.proofs.Common.{◌≡◌, ℕ, Bool, true, List, [], ◌∷◌, ◌++◌, Option, Some, None, refl, sym, ap, subst, ◌∙◌, append_assoc}
 use Rattle.std.proofs.lemmas.Option.{some_pair_parts}
-use Rattle.nit_script.specs.Reading.{◌>>=◌, first_of, byte_at, word_at, at_made, at_kind, at_ended}
+use Rattle.nit_script.specs.FieldReaders.{◌>>=◌, first_of, byte_at, word_at, at_made, at_kind, at_ended}
 use Rattle.nit_script.specs.Grammar.{spelled}
 use Rattle.nit_script.proofs.Exact.{Exact, byte_takes, word_takes, word_again}
 use Rattle.nit_rect.proofs.ForCallers.{bind_some}

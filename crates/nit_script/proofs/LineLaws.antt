@@ -5,9 +5,9 @@ use Rattle.nit_script.specs.declared.line.Stroke.{Stroke}
 use Rattle.nit_script.specs.declared.line.Stroke.TheVariants.{Fill, Check}
 use Rattle.nit_script.specs.declared.line.Line.{Line}
 use Rattle.nit_script.specs.declared.line.Line.TheVariants as line
-use Rattle.nit_script.specs.CallReading.{call_at, session_call_at, view_call_at, buffer_at, view_at, refresh_at, take_at, upgrade_at, close_at, place_at, offset_at, front_at, back_at, above_at, title_at, destroy_at}
-use Rattle.nit_script.specs.LineReading.{fill_at, check_at, stroke_at, phase_at, line_front_at, line_at}
-use Rattle.nit_script.specs.Reading.{at_made}
+use Rattle.nit_script.specs.CallReaders.{call_at, session_call_at, view_call_at, buffer_at, view_at, refresh_at, take_at, upgrade_at, close_at, place_at, offset_at, front_at, back_at, above_at, title_at, destroy_at}
+use Rattle.nit_script.specs.LineReaders.{fill_at, check_at, stroke_at, phase_at, line_front_at, line_at}
+use Rattle.nit_script.specs.FieldReaders.{at_made}
 use Rattle.nit_script.specs.Spelling.{FitsCall, FitsStroke, FitsLine, call_spelling, stroke_spelling, line_spelling}
 use Rattle.nit_script.proofs.Exact.{both, nothing, anything, nat_fields, colour_fields}
 use Rattle.nit_script.proofs.LineKinds.{Takes, IsKind, kind, first_takes, made_takes, ended_takes, ended_again}

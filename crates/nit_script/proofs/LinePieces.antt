@@ -2,7 +2,7 @@
 use Rattle.std.proofs.Common.{◌≡◌, ℕ, ◌+◌, ◌*◌, ◌/◌, ◌%◌, List, [], ◌∷◌, ◌++◌, length, take, refl, arith}
 use Rattle.std.proofs.Math.Seq.{take-append_seam, take-length}
 use Rattle.std.proofs.lemmas.List.{append-nil}
-use Rattle.nit_script.specs.Printing.{KeepsBytes}
+use Rattle.nit_script.specs.Field.{KeepsBytes}
 use Rattle.nit_script.specs.Spelling.{hex, hex_digits}
 
 pub ruleset ends = (append-nil)

@@ -7,7 +7,7 @@ use Rattle.std.proofs.lemmas.Bool.{cases_lt, true≢false}
 use Rattle.std.proofs.lemmas.List.{append-nil, length-append, length_push}
 use Rattle.nit_script.specs.declared.error.ScriptError.{ScriptError}
 use Rattle.nit_script.specs.declared.error.ScriptError.TheVariants.{Bad, TooLong, NoMemory}
-use Rattle.nit_script.specs.Grammar.{spelled, Reads, HasNoReading, Begins, IsFirstBad, IsTooLong, IsAnswer, UnlessMemory}
+use Rattle.nit_script.specs.Grammar.{spelled, Reads, HasNoReading, Begins, IsFirstBad, IsTooLong, IsScriptAnswer, UnlessMemory}
 use Rattle.nit_script.proofs.LineKinds.{Takes}
 
 -- Lines are read exactly, each with its line feed.
@@ -142,34 +142,34 @@ bad_and_long g bytes line bad long =
 
 -- ---- what an answer says
 
-pub read_is : {L : Type 0} (Fits : L → Type 0) (spelling : L → List ℕ) (bytes : List ℕ) (r : Result (List L) ScriptError) → IsAnswer Fits spelling bytes r → IfOk r (λ c. Reads Fits spelling bytes c × (length c ≤ 65536))
+pub read_is : {L : Type 0} (Fits : L → Type 0) (spelling : L → List ℕ) (bytes : List ℕ) (r : Result (List L) ScriptError) → IsScriptAnswer Fits spelling bytes r → IfOk r (λ c. Reads Fits spelling bytes c × (length c ≤ 65536))
 read_is Fits spelling bytes (Ok c) a = a
 read_is Fits spelling bytes (Err e) a = tt
 
 pub is_read : {L : Type 0} {Fits : L → Type 0} {spelling : L → List ℕ} {at : List ℕ → Option (L × List ℕ)} → IsReader Fits spelling at
-    → (bytes : List ℕ) (r : Result (List L) ScriptError) (lines : List L) → IsAnswer Fits spelling bytes r → Reads Fits spelling bytes lines → length lines ≤ 65536 → UnlessMemory r (r ≡ Ok lines)
+    → (bytes : List ℕ) (r : Result (List L) ScriptError) (lines : List L) → IsScriptAnswer Fits spelling bytes r → Reads Fits spelling bytes lines → length lines ≤ 65536 → UnlessMemory r (r ≡ Ok lines)
 is_read {L = L} g bytes (Ok c) lines a h few = ap (λ (x : List L). Ok x) (same_read g bytes c lines a.0 h)
 is_read g bytes (Err (Bad n)) lines a h few = absurd (read_and_bad g bytes lines n h a)
 is_read g bytes (Err TooLong) lines a h few = absurd (read_and_long g bytes lines h few a)
 is_read g bytes (Err NoMemory) lines a h few = tt
 
 pub is_bad : {L : Type 0} {Fits : L → Type 0} {spelling : L → List ℕ} {at : List ℕ → Option (L × List ℕ)} → IsReader Fits spelling at
-    → (bytes : List ℕ) (r : Result (List L) ScriptError) (line : ℕ) → IsAnswer Fits spelling bytes r → IsFirstBad Fits spelling bytes line → UnlessMemory r (r ≡ Err (Bad line))
+    → (bytes : List ℕ) (r : Result (List L) ScriptError) (line : ℕ) → IsScriptAnswer Fits spelling bytes r → IsFirstBad Fits spelling bytes line → UnlessMemory r (r ≡ Err (Bad line))
 is_bad g bytes (Ok c) line a h = absurd (read_and_bad g bytes c line a.0 h)
 is_bad g bytes (Err (Bad n)) line a h = ap (λ (k : ℕ). Err (Bad k)) (same_bad g bytes n line a h)
 is_bad g bytes (Err TooLong) line a h = absurd (bad_and_long g bytes line h a)
 is_bad g bytes (Err NoMemory) line a h = tt
 
 pub is_long : {L : Type 0} {Fits : L → Type 0} {spelling : L → List ℕ} {at : List ℕ → Option (L × List ℕ)} → IsReader Fits spelling at
-    → (bytes : List ℕ) (r : Result (List L) ScriptError) → IsAnswer Fits spelling bytes r → IsTooLong Fits spelling bytes → UnlessMemory r (r ≡ Err TooLong)
+    → (bytes : List ℕ) (r : Result (List L) ScriptError) → IsScriptAnswer Fits spelling bytes r → IsTooLong Fits spelling bytes → UnlessMemory r (r ≡ Err TooLong)
 is_long g bytes (Ok c) a h = absurd (read_and_long g bytes c a.0 a.1 h)
 is_long g bytes (Err (Bad n)) a h = absurd (bad_and_long g bytes n a h)
 is_long g bytes (Err TooLong) a h = refl
 is_long g bytes (Err NoMemory) a h = tt
 
 -- the answer, where it is known
-pub answer_at : {L : Type 0} (Fits : L → Type 0) (spelling : L → List ℕ) (bytes : List ℕ) (r s : Result (List L) ScriptError) → IsAnswer Fits spelling bytes r → r ≡ s → IsAnswer Fits spelling bytes s
-answer_at {L = L} Fits spelling bytes r s a e = subst (λ (x : Result (List L) ScriptError). IsAnswer Fits spelling bytes x) e a
+pub answer_at : {L : Type 0} (Fits : L → Type 0) (spelling : L → List ℕ) (bytes : List ℕ) (r s : Result (List L) ScriptError) → IsScriptAnswer Fits spelling bytes r → r ≡ s → IsScriptAnswer Fits spelling bytes s
+answer_at {L = L} Fits spelling bytes r s a e = subst (λ (x : Result (List L) ScriptError). IsScriptAnswer Fits spelling bytes x) e a
 
 pub not_empty : (xs : List ℕ) (b : Bool) → b ≡ eqb (length xs) 0 → b ≡ false → xs ≡ [] → ⊥
 not_empty [] b p q e = true≢false (sym p ∙ q)

@@ -84,10 +84,10 @@ UnlessMemory (Err TooLong) P = P
 UnlessMemory (Err NoMemory) P = Unit {0}
 
 -- What reading bytes as a script may answer.
-abbrev pub IsAnswer : {L : Type 0} → (L → Type 0) → (L → List ℕ) → List ℕ
+abbrev pub IsScriptAnswer : {L : Type 0} → (L → Type 0) → (L → List ℕ) → List ℕ
     → Result (List L) ScriptError → Type 0
-IsAnswer Fits spelling bytes (Ok lines) =
+IsScriptAnswer Fits spelling bytes (Ok lines) =
     Reads Fits spelling bytes lines × (length lines ≤ most_lines)
-IsAnswer Fits spelling bytes (Err (Bad line)) = IsFirstBad Fits spelling bytes line
-IsAnswer Fits spelling bytes (Err TooLong) = IsTooLong Fits spelling bytes
-IsAnswer Fits spelling bytes (Err NoMemory) = Unit {0}
+IsScriptAnswer Fits spelling bytes (Err (Bad line)) = IsFirstBad Fits spelling bytes line
+IsScriptAnswer Fits spelling bytes (Err TooLong) = IsTooLong Fits spelling bytes
+IsScriptAnswer Fits spelling bytes (Err NoMemory) = Unit {0}

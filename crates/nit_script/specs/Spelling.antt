@@ -1,8 +1,8 @@
 -- What each line of a script is spelled as, and which lines have a spelling.
 use Rattle.std.specs.Prelude.{◌≤◌, ◌<◌, ℕ, zero, suc, ◌+◌, ◌/◌, ◌%◌, ◌^◌, ℤ, pos, negsuc, IsTrue, List, [], ◌∷◌, ◌++◌, codes, nat_lt, if◌then◌else◌}
 use Rattle.std.specs.Fmt.{decimal, signed_decimal}
-use Rattle.nit_events.specs.Ranges.{IsCode, IsTurn}
-use Rattle.nit_events.specs.Texts.{is_text}
+use Rattle.nit_events.specs.Ranges.{IsCode, IsWheel}
+use Rattle.nit_events.specs.Text.{is_text}
 use Rattle.nit_events.specs.declared.call.Call.{Call}
 use Rattle.nit_events.specs.declared.call.Call.TheVariants as call
 use Rattle.nit_events.specs.declared.device.Device.{Device}
@@ -61,8 +61,8 @@ abbrev pub FitsText : List ℕ → Type 0
 FitsText t = IsTrue (is_text t)
 
 -- a place of the pointer is at most 65535
-abbrev pub FitsPlace : ℕ → Type 0
-FitsPlace n = n ≤ 65535
+abbrev pub FitsPointerPlace : ℕ → Type 0
+FitsPointerPlace n = n ≤ 65535
 
 -- the numbers and the text of a call are within the grammar
 abbrev pub FitsCall : Call → Type 0
@@ -84,8 +84,8 @@ FitsCall call.Close = Unit {0}
 abbrev pub FitsDevice : Device → Type 0
 FitsDevice (device.Press k) = IsCode k
 FitsDevice (device.Release k) = IsCode k
-FitsDevice (device.Motion x y) = FitsPlace x × FitsPlace y
-FitsDevice (device.Wheel n) = IsTurn n
+FitsDevice (device.Motion x y) = FitsPointerPlace x × FitsPointerPlace y
+FitsDevice (device.Wheel n) = IsWheel n
 
 -- the numbers and the colours of a stroke are within the grammar
 abbrev pub FitsStroke : Stroke → Type 0

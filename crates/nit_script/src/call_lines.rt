@@ -1,14 +1,14 @@
 //! The calls of a client's script, each read from its first word to its last.
 
-ghost use Rattle.nit_script.specs.Reading.{Gives};
-ghost use Rattle.nit_script.specs.CallReading.{buffer_at, view_at, place_at, offset_at, front_at, back_at, above_at, title_at, destroy_at, refresh_at, take_at, upgrade_at, close_at, session_call_at, view_call_at, call_at};
+ghost use Rattle.nit_script.specs.FieldReaders.{Gives};
+ghost use Rattle.nit_script.specs.CallReaders.{buffer_at, view_at, place_at, offset_at, front_at, back_at, above_at, title_at, destroy_at, refresh_at, take_at, upgrade_at, close_at, session_call_at, view_call_at, call_at};
 
 use crate::bytes::take_word;
 use crate::fields::{integer_field, natural_field, text_field};
 use nit_events::Call;
 
 /// The call in front, and what follows it.
-#[tactic(auto, unfolding(crate::specs::CallReading::call_at))]
+#[tactic(auto, unfolding(crate::specs::CallReaders::call_at))]
 pub fn take_call(bytes: &[u8]) -> Option<(Call, &[u8])>
     ensures { Gives (λ x. (x.0, x.1.now)) result (call_at bytes.now) }
 {
@@ -19,7 +19,7 @@ pub fn take_call(bytes: &[u8]) -> Option<(Call, &[u8])>
 }
 
 /// A call that names no view.
-#[tactic(auto, unfolding(crate::specs::CallReading::session_call_at))]
+#[tactic(auto, unfolding(crate::specs::CallReaders::session_call_at))]
 fn take_session_call(bytes: &[u8]) -> Option<(Call, &[u8])>
     ensures { Gives (λ x. (x.0, x.1.now)) result (session_call_at bytes.now) }
 {
@@ -42,7 +42,7 @@ fn take_session_call(bytes: &[u8]) -> Option<(Call, &[u8])>
 }
 
 /// A call that names a view.
-#[tactic(auto, unfolding(crate::specs::CallReading::view_call_at))]
+#[tactic(auto, unfolding(crate::specs::CallReaders::view_call_at))]
 fn take_view_call(bytes: &[u8]) -> Option<(Call, &[u8])>
     ensures { Gives (λ x. (x.0, x.1.now)) result (view_call_at bytes.now) }
 {
@@ -67,7 +67,7 @@ fn take_view_call(bytes: &[u8]) -> Option<(Call, &[u8])>
     destroy(bytes)
 }
 
-#[tactic(auto, unfolding(crate::specs::CallReading::buffer_at))]
+#[tactic(auto, unfolding(crate::specs::CallReaders::buffer_at))]
 fn buffer(bytes: &[u8]) -> Option<(Call, &[u8])>
     ensures { Gives (λ x. (x.0, x.1.now)) result (buffer_at bytes.now) }
 {
@@ -77,7 +77,7 @@ fn buffer(bytes: &[u8]) -> Option<(Call, &[u8])>
     Some((Call::Buffer(w, h), rest))
 }
 
-#[tactic(auto, unfolding(crate::specs::CallReading::view_at))]
+#[tactic(auto, unfolding(crate::specs::CallReaders::view_at))]
 fn view(bytes: &[u8]) -> Option<(Call, &[u8])>
     ensures { Gives (λ x. (x.0, x.1.now)) result (view_at bytes.now) }
 {
@@ -85,7 +85,7 @@ fn view(bytes: &[u8]) -> Option<(Call, &[u8])>
     Some((Call::View, rest))
 }
 
-#[tactic(auto, unfolding(crate::specs::CallReading::refresh_at))]
+#[tactic(auto, unfolding(crate::specs::CallReaders::refresh_at))]
 fn refresh(bytes: &[u8]) -> Option<(Call, &[u8])>
     ensures { Gives (λ x. (x.0, x.1.now)) result (refresh_at bytes.now) }
 {
@@ -97,7 +97,7 @@ fn refresh(bytes: &[u8]) -> Option<(Call, &[u8])>
     Some((Call::Refresh(x, y, w, h), rest))
 }
 
-#[tactic(auto, unfolding(crate::specs::CallReading::take_at))]
+#[tactic(auto, unfolding(crate::specs::CallReaders::take_at))]
 fn take(bytes: &[u8]) -> Option<(Call, &[u8])>
     ensures { Gives (λ x. (x.0, x.1.now)) result (take_at bytes.now) }
 {
@@ -105,7 +105,7 @@ fn take(bytes: &[u8]) -> Option<(Call, &[u8])>
     Some((Call::Take, rest))
 }
 
-#[tactic(auto, unfolding(crate::specs::CallReading::upgrade_at))]
+#[tactic(auto, unfolding(crate::specs::CallReaders::upgrade_at))]
 fn upgrade(bytes: &[u8]) -> Option<(Call, &[u8])>
     ensures { Gives (λ x. (x.0, x.1.now)) result (upgrade_at bytes.now) }
 {
@@ -114,7 +114,7 @@ fn upgrade(bytes: &[u8]) -> Option<(Call, &[u8])>
     Some((Call::Upgrade(units), rest))
 }
 
-#[tactic(auto, unfolding(crate::specs::CallReading::close_at))]
+#[tactic(auto, unfolding(crate::specs::CallReaders::close_at))]
 fn close(bytes: &[u8]) -> Option<(Call, &[u8])>
     ensures { Gives (λ x. (x.0, x.1.now)) result (close_at bytes.now) }
 {
@@ -122,7 +122,7 @@ fn close(bytes: &[u8]) -> Option<(Call, &[u8])>
     Some((Call::Close, rest))
 }
 
-#[tactic(auto, unfolding(crate::specs::CallReading::place_at))]
+#[tactic(auto, unfolding(crate::specs::CallReaders::place_at))]
 fn place(bytes: &[u8]) -> Option<(Call, &[u8])>
     ensures { Gives (λ x. (x.0, x.1.now)) result (place_at bytes.now) }
 {
@@ -135,7 +135,7 @@ fn place(bytes: &[u8]) -> Option<(Call, &[u8])>
     Some((Call::Place(view, x, y, w, h), rest))
 }
 
-#[tactic(auto, unfolding(crate::specs::CallReading::offset_at))]
+#[tactic(auto, unfolding(crate::specs::CallReaders::offset_at))]
 fn offset(bytes: &[u8]) -> Option<(Call, &[u8])>
     ensures { Gives (λ x. (x.0, x.1.now)) result (offset_at bytes.now) }
 {
@@ -146,7 +146,7 @@ fn offset(bytes: &[u8]) -> Option<(Call, &[u8])>
     Some((Call::Offset(view, x, y), rest))
 }
 
-#[tactic(auto, unfolding(crate::specs::CallReading::front_at))]
+#[tactic(auto, unfolding(crate::specs::CallReaders::front_at))]
 fn front(bytes: &[u8]) -> Option<(Call, &[u8])>
     ensures { Gives (λ x. (x.0, x.1.now)) result (front_at bytes.now) }
 {
@@ -155,7 +155,7 @@ fn front(bytes: &[u8]) -> Option<(Call, &[u8])>
     Some((Call::Front(view), rest))
 }
 
-#[tactic(auto, unfolding(crate::specs::CallReading::back_at))]
+#[tactic(auto, unfolding(crate::specs::CallReaders::back_at))]
 fn back(bytes: &[u8]) -> Option<(Call, &[u8])>
     ensures { Gives (λ x. (x.0, x.1.now)) result (back_at bytes.now) }
 {
@@ -164,7 +164,7 @@ fn back(bytes: &[u8]) -> Option<(Call, &[u8])>
     Some((Call::Back(view), rest))
 }
 
-#[tactic(auto, unfolding(crate::specs::CallReading::above_at))]
+#[tactic(auto, unfolding(crate::specs::CallReaders::above_at))]
 fn above(bytes: &[u8]) -> Option<(Call, &[u8])>
     ensures { Gives (λ x. (x.0, x.1.now)) result (above_at bytes.now) }
 {
@@ -174,7 +174,7 @@ fn above(bytes: &[u8]) -> Option<(Call, &[u8])>
     Some((Call::Above(view, other), rest))
 }
 
-#[tactic(auto, unfolding(crate::specs::CallReading::title_at))]
+#[tactic(auto, unfolding(crate::specs::CallReaders::title_at))]
 fn title(bytes: &[u8]) -> Option<(Call, &[u8])>
     ensures { Gives (λ x. (x.0, x.1.now)) result (title_at bytes.now) }
 {
@@ -186,7 +186,7 @@ fn title(bytes: &[u8]) -> Option<(Call, &[u8])>
     Some((Call::Title(view, text), rest))
 }
 
-#[tactic(auto, unfolding(crate::specs::CallReading::destroy_at))]
+#[tactic(auto, unfolding(crate::specs::CallReaders::destroy_at))]
 fn destroy(bytes: &[u8]) -> Option<(Call, &[u8])>
     ensures { Gives (λ x. (x.0, x.1.now)) result (destroy_at bytes.now) }
 {

@@ -1,7 +1,7 @@
 //! What the user does, each line read from its first word to its last.
 
-ghost use Rattle.nit_script.specs.Reading.{Gives};
-ghost use Rattle.nit_script.specs.InputReading.{code_field, place_field, turn_field, press_at, release_at, motion_at, wheel_at, device_at};
+ghost use Rattle.nit_script.specs.FieldReaders.{Gives};
+ghost use Rattle.nit_script.specs.InputReaders.{code_field, pointer_field, wheel_field, press_at, release_at, motion_at, wheel_at, device_at};
 
 use crate::bytes::take_word;
 use crate::fields::{integer_field, natural_field};
@@ -14,7 +14,7 @@ const MAX_CODE: u32 = 767;
 const MAX_PLACE: u32 = 65_535;
 
 /// The device event in front, and what follows it.
-#[tactic(auto, unfolding(crate::specs::InputReading::device_at))]
+#[tactic(auto, unfolding(crate::specs::InputReaders::device_at))]
 pub fn take_device(bytes: &[u8]) -> Option<(Device, &[u8])>
     ensures { Gives (λ x. (x.0, x.1.now)) result (device_at bytes.now) }
 {
@@ -30,7 +30,7 @@ pub fn take_device(bytes: &[u8]) -> Option<(Device, &[u8])>
     wheel(bytes)
 }
 
-#[tactic(auto, unfolding(crate::specs::InputReading::press_at))]
+#[tactic(auto, unfolding(crate::specs::InputReaders::press_at))]
 fn press(bytes: &[u8]) -> Option<(Device, &[u8])>
     ensures { Gives (λ x. (x.0, x.1.now)) result (press_at bytes.now) }
 {
@@ -39,7 +39,7 @@ fn press(bytes: &[u8]) -> Option<(Device, &[u8])>
     Some((Device::Press(code), rest))
 }
 
-#[tactic(auto, unfolding(crate::specs::InputReading::release_at))]
+#[tactic(auto, unfolding(crate::specs::InputReaders::release_at))]
 fn release(bytes: &[u8]) -> Option<(Device, &[u8])>
     ensures { Gives (λ x. (x.0, x.1.now)) result (release_at bytes.now) }
 {
@@ -48,7 +48,7 @@ fn release(bytes: &[u8]) -> Option<(Device, &[u8])>
     Some((Device::Release(code), rest))
 }
 
-#[tactic(auto, unfolding(crate::specs::InputReading::motion_at))]
+#[tactic(auto, unfolding(crate::specs::InputReaders::motion_at))]
 fn motion(bytes: &[u8]) -> Option<(Device, &[u8])>
     ensures { Gives (λ x. (x.0, x.1.now)) result (motion_at bytes.now) }
 {
@@ -58,7 +58,7 @@ fn motion(bytes: &[u8]) -> Option<(Device, &[u8])>
     Some((Device::Motion(x, y), rest))
 }
 
-#[tactic(auto, unfolding(crate::specs::InputReading::wheel_at))]
+#[tactic(auto, unfolding(crate::specs::InputReaders::wheel_at))]
 fn wheel(bytes: &[u8]) -> Option<(Device, &[u8])>
     ensures { Gives (λ x. (x.0, x.1.now)) result (wheel_at bytes.now) }
 {
@@ -79,7 +79,7 @@ fn code_field(bytes: &[u8]) -> Option<(u16, &[u8])>
 }
 
 fn place_field(bytes: &[u8]) -> Option<(u16, &[u8])>
-    ensures { Gives (λ x. (x.0, x.1.now)) result (place_field bytes.now) }
+    ensures { Gives (λ x. (x.0, x.1.now)) result (pointer_field bytes.now) }
 {
     let (place, rest) = natural_field(bytes)?;
     if place <= MAX_PLACE {
@@ -90,7 +90,7 @@ fn place_field(bytes: &[u8]) -> Option<(u16, &[u8])>
 }
 
 fn turn_field(bytes: &[u8]) -> Option<(i8, &[u8])>
-    ensures { Gives (λ x. (x.0, x.1.now)) result (turn_field bytes.now) }
+    ensures { Gives (λ x. (x.0, x.1.now)) result (wheel_field bytes.now) }
 {
     let (turn, rest) = integer_field(bytes)?;
     if -127 <= turn && turn <= 127 {

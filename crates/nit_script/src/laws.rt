@@ -14,8 +14,8 @@ pub fn client_reading_is_one()
         → a ≡ b }
 {}
 
-/// A text with a reading has no first bad line, and is not too long where the reading has at most 65,536
-/// lines.
+/// A text with a reading has no first bad line, and is not too long where the reading has at most
+/// 65,536 lines.
 pub fn client_reading_is_whole()
     ensures not_bad { (bytes : List ℕ) (lines : List Line) (line : ℕ) →
         ReadsClient bytes lines → IsFirstBadClient bytes line → ⊥ }
@@ -39,8 +39,8 @@ pub fn input_reading_is_one()
         → ReadsInput b lines → a ≡ b }
 {}
 
-/// A text with a reading has no first bad line, and is not too long where the reading has at most 65,536
-/// lines.
+/// A text with a reading has no first bad line, and is not too long where the reading has at most
+/// 65,536 lines.
 pub fn input_reading_is_whole()
     ensures not_bad { (bytes : List ℕ) (lines : List InputLine) (line : ℕ) →
         ReadsInput bytes lines → IsFirstBadInput bytes line → ⊥ }

@@ -1,8 +1,8 @@
 //! Scripts as bytes, read and written: what clients do, and what the user does.
 //!
-//! A script is a list of lines, and each line ends with one line feed. A file of no bytes has no lines.
-//! There are no comments and no empty lines. Words are parted by exactly one space, and nothing stands
-//! before the first or after the last word.
+//! A script is a list of lines, and each line ends with one line feed. A file of no bytes has no
+//! lines. There are no comments and no empty lines. Words are parted by exactly one space, and
+//! nothing stands before the first or after the last word.
 //!
 //! | name | spelling |
 //! |---|---|
@@ -12,7 +12,8 @@
 //! | TEXT | 0 to 40 bytes of 0x20..=0x7E, up to the line feed |
 //!
 //! The lines of a client's script are `buffer NAT NAT`, `view`, `place NAT INT INT NAT NAT`,
-//! `offset NAT INT INT`, `front NAT`, `back NAT`, `above NAT NAT`, `title NAT =TEXT`, `destroy NAT`,
+//! `offset NAT INT INT`, `front NAT`, `back NAT`, `above NAT NAT`, `title NAT =TEXT`, `destroy
+//! NAT`,
 //! `refresh INT INT NAT NAT`, `take`, `upgrade NAT`, `close`, `fill NAT NAT NAT NAT COLOUR`,
 //! `check NAT NAT NAT NAT COLOUR COLOUR` and `phase`.
 //!

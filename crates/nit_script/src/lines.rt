@@ -1,8 +1,8 @@
 //! A whole line in front of bytes.
 
-ghost use Rattle.nit_script.specs.Reading.{Gives};
-ghost use Rattle.nit_script.specs.LineReading.{line_front_at, line_at};
-ghost use Rattle.nit_script.specs.InputReading.{input_front_at, input_at};
+ghost use Rattle.nit_script.specs.FieldReaders.{Gives};
+ghost use Rattle.nit_script.specs.LineReaders.{line_front_at, line_at};
+ghost use Rattle.nit_script.specs.InputReaders.{input_front_at, input_at};
 
 use crate::bytes::{take_byte, take_word};
 use crate::call_lines::take_call;
@@ -11,7 +11,7 @@ use crate::line::{InputLine, Line};
 use crate::stroke_lines::take_stroke;
 
 /// The line of a client's script in front, with its line feed, and what follows it.
-#[tactic(auto, unfolding(crate::specs::LineReading::line_at))]
+#[tactic(auto, unfolding(crate::specs::LineReaders::line_at))]
 pub fn take_line(bytes: &[u8]) -> Option<(Line, &[u8])>
     ensures { Gives (λ x. (x.0, x.1.now)) result (line_at bytes.now) }
 {
@@ -22,7 +22,7 @@ pub fn take_line(bytes: &[u8]) -> Option<(Line, &[u8])>
 }
 
 /// The same up to the line feed.
-#[tactic(auto, unfolding(crate::specs::LineReading::line_front_at))]
+#[tactic(auto, unfolding(crate::specs::LineReaders::line_front_at))]
 fn take_line_front(bytes: &[u8]) -> Option<(Line, &[u8])>
     ensures { Gives (λ x. (x.0, x.1.now)) result (line_front_at bytes.now) }
 {
@@ -37,7 +37,7 @@ fn take_line_front(bytes: &[u8]) -> Option<(Line, &[u8])>
 }
 
 /// The line of an input script in front, with its line feed, and what follows it.
-#[tactic(auto, unfolding(crate::specs::InputReading::input_at))]
+#[tactic(auto, unfolding(crate::specs::InputReaders::input_at))]
 pub fn take_input_line(bytes: &[u8]) -> Option<(InputLine, &[u8])>
     ensures { Gives (λ x. (x.0, x.1.now)) result (input_at bytes.now) }
 {
@@ -46,7 +46,7 @@ pub fn take_input_line(bytes: &[u8]) -> Option<(InputLine, &[u8])>
 }
 
 /// The same up to the line feed.
-#[tactic(auto, unfolding(crate::specs::InputReading::input_front_at))]
+#[tactic(auto, unfolding(crate::specs::InputReaders::input_front_at))]
 fn take_input_front(bytes: &[u8]) -> Option<(InputLine, &[u8])>
     ensures { Gives (λ x. (x.0, x.1.now)) result (input_front_at bytes.now) }
 {

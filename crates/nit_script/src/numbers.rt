@@ -5,11 +5,12 @@ ghost use Rattle.std.specs.List.{prefix_len};
 ghost use Rattle.std.specs.Fmt.{decimal};
 ghost use Rattle.std.specs.Char.{is_ascii_digit};
 ghost use Rattle.std.specs.Str.Parse.{AllDigits, digits_value};
-ghost use Rattle.nit_script.specs.Reading.{Gives, is_number, nat_at, int_at};
+ghost use Rattle.nit_script.specs.FieldReaders.{Gives, is_number, nat_at, int_at};
 
 use crate::bytes::take_byte;
 
-/// The number below 10^9 that the whole text spells: `0`, or 1 to 9 digits of which the first is not
+/// The number below 10^9 that the whole text spells: `0`, or 1 to 9 digits of which the first is
+/// not
 /// `0`. None exactly where it spells none.
 pub fn natural(text: &[u8]) -> Option<u32>
     ensures found { IfSome result (λ n. (n < 10 ^ 9) × (text.now ≡ decimal n)) }
@@ -20,7 +21,7 @@ pub fn natural(text: &[u8]) -> Option<u32>
 }
 
 /// A number, and what follows it.
-#[tactic(auto, using(crate::proofs::Digits::digits), unfolding(crate::specs::Reading::nat_at))]
+#[tactic(auto, using(crate::proofs::Digits::digits), unfolding(crate::specs::FieldReaders::nat_at))]
 pub fn take_natural(bytes: &[u8]) -> Option<(u32, &[u8])>
     ensures read { Gives (λ x. (x.0, x.1.now)) result (nat_at bytes.now) }
     ensures below { IfSome result (λ x. x.0 < 10 ^ 9) }
@@ -34,7 +35,7 @@ pub fn take_natural(bytes: &[u8]) -> Option<(u32, &[u8])>
 }
 
 /// A number that may have a minus in front, which 0 has not, and what follows it.
-#[tactic(auto, unfolding(crate::specs::Reading::int_at))]
+#[tactic(auto, unfolding(crate::specs::FieldReaders::int_at))]
 pub fn take_integer(bytes: &[u8]) -> Option<(i32, &[u8])>
     ensures { Gives (λ x. (x.0, x.1.now)) result (int_at bytes.now) }
 {

@@ -4,7 +4,7 @@ ghost use Rattle.std.specs.Prelude.{◌≡◌, ◌≤◌, ℕ, List, length, Ok,
 ghost use Rattle.nit_script.specs.declared.line.Line.{Line};
 ghost use Rattle.nit_script.specs.declared.line.InputLine.{InputLine};
 ghost use Rattle.nit_script.specs.Spelling.{FitsLine, FitsInputLine, line_spelling, input_spelling};
-ghost use Rattle.nit_script.specs.Grammar.{ReadsClient, IsFirstBadClient, IsTooLongClient, ReadsInput, IsFirstBadInput, IsTooLongInput, UnlessMemory, IsAnswer, most_lines};
+ghost use Rattle.nit_script.specs.Grammar.{ReadsClient, IsFirstBadClient, IsTooLongClient, ReadsInput, IsFirstBadInput, IsTooLongInput, UnlessMemory, IsScriptAnswer, most_lines};
 
 use crate::error::ScriptError;
 use crate::lines::{take_input_line, take_line};
@@ -14,10 +14,10 @@ use std::alloc::Global;
 /// How many lines a script may have.
 pub const MOST_LINES: u32 = 65_536;
 
-/// The client's script that the bytes spell. `Bad` comes exactly where one of the first 65,536 lines has
-/// no reading, and names the first such line, from 1; bytes behind the last line feed are a line without
-/// a reading. `TooLong` comes exactly where each of these has a reading and a byte stands behind them.
-/// Otherwise the script is read, unless memory runs out.
+/// The client's script that the bytes spell. `Bad` comes exactly where one of the first 65,536
+/// lines has no reading, and names the first such line, from 1; bytes behind the last line feed are
+/// a line without a reading. `TooLong` comes exactly where each of these has a reading and a byte
+/// stands behind them. Otherwise the script is read, unless memory runs out.
 pub fn parse_client(alloc: Global, bytes: &[u8]) -> Result<Client, ScriptError>
     // What is read is spelled so, and what is spelled so is read, unless memory runs out.
     ensures read { IfOk result (λ c. ReadsClient bytes.now c × (length c ≤ most_lines)) }
@@ -39,8 +39,8 @@ pub fn parse_client(alloc: Global, bytes: &[u8]) -> Result<Client, ScriptError>
     client_lines(alloc, bytes)
 }
 
-/// The input script that the bytes spell. It refuses as [`parse_client`] does, by the lines of an input
-/// script.
+/// The input script that the bytes spell. It refuses as [`parse_client`] does, by the lines of an
+/// input script.
 pub fn parse_input(alloc: Global, bytes: &[u8]) -> Result<Input, ScriptError>
     // What is read is spelled so, and what is spelled so is read, unless memory runs out.
     ensures read { IfOk result (λ c. ReadsInput bytes.now c × (length c ≤ most_lines)) }
@@ -63,7 +63,7 @@ pub fn parse_input(alloc: Global, bytes: &[u8]) -> Result<Input, ScriptError>
 }
 
 fn client_lines(alloc: Global, bytes: &[u8]) -> Result<Client, ScriptError>
-    ensures { IsAnswer FitsLine line_spelling bytes.now result }
+    ensures { IsScriptAnswer FitsLine line_spelling bytes.now result }
 {
     let mut lines = Vec::new(alloc);
     let mut rest = bytes;
@@ -85,7 +85,7 @@ fn client_lines(alloc: Global, bytes: &[u8]) -> Result<Client, ScriptError>
 }
 
 fn input_lines(alloc: Global, bytes: &[u8]) -> Result<Input, ScriptError>
-    ensures { IsAnswer FitsInputLine input_spelling bytes.now result }
+    ensures { IsScriptAnswer FitsInputLine input_spelling bytes.now result }
 {
     let mut lines = Vec::new(alloc);
     let mut rest = bytes;

@@ -1,14 +1,14 @@
 //! The strokes of a client's script, each read from its first word to its last.
 
-ghost use Rattle.nit_script.specs.Reading.{Gives};
-ghost use Rattle.nit_script.specs.LineReading.{fill_at, check_at, stroke_at};
+ghost use Rattle.nit_script.specs.FieldReaders.{Gives};
+ghost use Rattle.nit_script.specs.LineReaders.{fill_at, check_at, stroke_at};
 
 use crate::bytes::take_word;
 use crate::fields::{colour_field, natural_field};
 use crate::line::Stroke;
 
 /// The stroke in front, and what follows it.
-#[tactic(auto, unfolding(crate::specs::LineReading::stroke_at))]
+#[tactic(auto, unfolding(crate::specs::LineReaders::stroke_at))]
 pub fn take_stroke(bytes: &[u8]) -> Option<(Stroke, &[u8])>
     ensures { Gives (λ x. (x.0, x.1.now)) result (stroke_at bytes.now) }
 {
@@ -18,7 +18,7 @@ pub fn take_stroke(bytes: &[u8]) -> Option<(Stroke, &[u8])>
     check(bytes)
 }
 
-#[tactic(auto, unfolding(crate::specs::LineReading::fill_at))]
+#[tactic(auto, unfolding(crate::specs::LineReaders::fill_at))]
 fn fill(bytes: &[u8]) -> Option<(Stroke, &[u8])>
     ensures { Gives (λ x. (x.0, x.1.now)) result (fill_at bytes.now) }
 {
@@ -31,7 +31,7 @@ fn fill(bytes: &[u8]) -> Option<(Stroke, &[u8])>
     Some((Stroke::Fill { x, y, w, h, c }, rest))
 }
 
-#[tactic(auto, unfolding(crate::specs::LineReading::check_at))]
+#[tactic(auto, unfolding(crate::specs::LineReaders::check_at))]
 fn check(bytes: &[u8]) -> Option<(Stroke, &[u8])>
     ensures { Gives (λ x. (x.0, x.1.now)) result (check_at bytes.now) }
 {

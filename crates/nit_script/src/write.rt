@@ -3,7 +3,7 @@
 ghost use Rattle.std.specs.Prelude.{◌≡◌, ◌++◌, ◌%◌, OnOk, OnErr};
 ghost use Rattle.std.specs.List.{flat_map};
 ghost use Rattle.nit_script.specs.Spelling.{nat, int, hex, hex_digits, colour, text};
-ghost use Rattle.nit_script.specs.Printing.{KeepsBytes, field_spelling};
+ghost use Rattle.nit_script.specs.Field.{KeepsBytes, field_spelling};
 
 use nit_events::Text;
 use nit_rect::NoMemory;

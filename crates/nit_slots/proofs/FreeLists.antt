@@ -6,7 +6,7 @@ use Rattle.std.proofs.lemmas.List.Folds.{list_any-append, list_any_at}
 use Rattle.std.proofs.lemmas.List.Elements.{All-push, All-filter, All-pop}
 use Rattle.std.proofs.lemmas.List.Kept.{IsStrictlyIncreasing-filter}
 use Rattle.std.proofs.lemmas.List.FromFn.{length-range_with_len, get_or-range_with_len}
-use Rattle.nit_slots.specs.Slots.{is_among, with_slot, without_slot, IsOccupancy}
+use Rattle.nit_slots.specs.Slots.{is_among, with_slot, without_slot, AreSlots}
 use Rattle.nit_slots.specs.FreeSlots.{taken_beside, Differ, IsFreeList}
 use Rattle.nit_slots.proofs.Ranges.{filter_with, filter_without, length-with_slot, among_range, none_passes, range_below, range_rises}
 
@@ -88,7 +88,7 @@ last_not_taken free k total =
     false_from_ne_true _ (λ h. both_ways (is_among (free ++ k ∷ []) k) (taken_apart (free ++ k ∷ []) k total h).1 (among_last free k))
 
 -- the slots beside the free ones rise below the total
-pub occupied : (free : List ℕ) (total : ℕ) → IsOccupancy (record { total = total; taken = taken_beside free total })
+pub occupied : (free : List ℕ) (total : ℕ) → AreSlots (record { total = total; taken = taken_beside free total })
 occupied free total = record {
   below = All-filter (λ j. not (is_among free j)) (λ k. k < total) (range_with_len 0 total) (range_below total);
   rising = IsStrictlyIncreasing-filter (λ j. not (is_among free j)) (range_with_len 0 total) (range_rises total);

@@ -4,7 +4,7 @@ use Rattle.std.specs.List.{list_any}
 use Rattle.std.proofs.lemmas.Bool.{eq-eqb, ne_eqb, eqb-true, or_from, false≢true}
 use Rattle.std.proofs.lemmas.List.Folds.{list_any_at}
 use Rattle.std.proofs.lemmas.Option.{slice_get-get_or, same_Some}
-use Rattle.nit_slots.specs.Handles.{is_held, slot_of, without_handle, Rises, IsTable}
+use Rattle.nit_slots.specs.Table.{has_handle, slot_of, without_handle, Rises, IsTable}
 
 -- a new pair with the next handle
 pub Rises-push : (low : ℕ) (pairs : List (ℕ × ℕ)) (next slot : ℕ) → Rises low pairs next → Rises low (pairs ++ (next, slot) ∷ []) (next + 1)
@@ -35,23 +35,23 @@ found_any test (x ∷ xs) = go (test x) (found_any test xs)
     go false r = r
 
 -- a slot is found exactly where the handle is held
-slot_held : (pairs : List (ℕ × ℕ)) (h : ℕ) → is_some (slot_of pairs h) ≡ is_held pairs h
+slot_held : (pairs : List (ℕ × ℕ)) (h : ℕ) → is_some (slot_of pairs h) ≡ has_handle pairs h
 slot_held pairs h = go (find (λ p. p.0 == h) pairs) (found_any (λ p. p.0 == h) pairs)
   where
-    go : (o : Option (ℕ × ℕ)) → is_some o ≡ is_held pairs h → is_some (option_map (λ p. p.1) o) ≡ is_held pairs h
+    go : (o : Option (ℕ × ℕ)) → is_some o ≡ has_handle pairs h → is_some (option_map (λ p. p.1) o) ≡ has_handle pairs h
     go None e = e
     go (Some p) e = e
 
 -- no slot is found exactly where the handle is not held
-pub none_held : (pairs : List (ℕ × ℕ)) (h : ℕ) (found : Option ℕ) → found ≡ slot_of pairs h → (IsNone found → is_held pairs h ≡ false) × (is_held pairs h ≡ false → IsNone found)
-none_held pairs h found e = go found (is_held pairs h) (ap is_some e ∙ slot_held pairs h)
+pub none_held : (pairs : List (ℕ × ℕ)) (h : ℕ) (found : Option ℕ) → found ≡ slot_of pairs h → (IsNone found → has_handle pairs h ≡ false) × (has_handle pairs h ≡ false → IsNone found)
+none_held pairs h found e = go found (has_handle pairs h) (ap is_some e ∙ slot_held pairs h)
   where
     go : (found : Option ℕ) (b : Bool) → is_some found ≡ b → (IsNone found → b ≡ false) × (b ≡ false → IsNone found)
     go None b e = (λ _. sym e, λ _. search rules)
     go (Some x) b e = (λ n. cc, λ h. cc)
 
 -- a handle whose slot is found is held
-pub held_found : (pairs : List (ℕ × ℕ)) (h slot : ℕ) → slot_of pairs h ≡ Some slot → is_held pairs h ≡ true
+pub held_found : (pairs : List (ℕ × ℕ)) (h slot : ℕ) → slot_of pairs h ≡ Some slot → has_handle pairs h ≡ true
 held_found pairs h slot e = sym (slot_held pairs h) ∙ ap is_some e
 
 -- a handle below all others stands in no pair
@@ -62,14 +62,14 @@ without_below low (p ∷ pairs) next h l r =
     rw (ne_eqb p.0 h other, without_below (p.0 + 1) pairs next h (omega (arith, r.0)) r.1) refl
 
 -- a handle that is held stands in one pair
-pub length-without_handle : (low : ℕ) (pairs : List (ℕ × ℕ)) (next h : ℕ) → Rises low pairs next → is_held pairs h ≡ true → length (without_handle pairs h) + 1 ≡ length pairs
+pub length-without_handle : (low : ℕ) (pairs : List (ℕ × ℕ)) (next h : ℕ) → Rises low pairs next → has_handle pairs h ≡ true → length (without_handle pairs h) + 1 ≡ length pairs
 length-without_handle low [] next h r held = absurd (false≢true held)
 length-without_handle low (p ∷ pairs) next h r held = go (p.0 == h) refl held (length-without_handle (p.0 + 1) pairs next h r.1)
   where
     rest : List (ℕ × ℕ)
     rest = without_handle pairs h
 
-    go : (b : Bool) → (p.0 == h) ≡ b → (b || is_held pairs h) ≡ true → (is_held pairs h ≡ true → length rest + 1 ≡ length pairs)
+    go : (b : Bool) → (p.0 == h) ≡ b → (b || has_handle pairs h) ≡ true → (has_handle pairs h ≡ true → length rest + 1 ≡ length pairs)
         → length (cond (not b) (p ∷ rest) rest) + 1 ≡ length (p ∷ pairs)
     go true e held more =
         let at = eqb-true p.0 h e in
@@ -82,14 +82,14 @@ Rises-next low [] next r = r
 Rises-next low (p ∷ pairs) next r = omega (arith, r.0, Rises-next (p.0 + 1) pairs next r.1)
 
 -- the next handle is not held
-pub next_not_held : (low : ℕ) (pairs : List (ℕ × ℕ)) (next : ℕ) → Rises low pairs next → is_held pairs next ≡ false
+pub next_not_held : (low : ℕ) (pairs : List (ℕ × ℕ)) (next : ℕ) → Rises low pairs next → has_handle pairs next ≡ false
 next_not_held low [] next r = refl
 next_not_held low (p ∷ pairs) next r =
     let below = Rises-next (p.0 + 1) pairs next r.1 in
-    or_from (p.0 == next) (is_held pairs next) (ne_eqb p.0 next (λ e. omega arith)) (next_not_held (p.0 + 1) pairs next r.1)
+    or_from (p.0 == next) (has_handle pairs next) (ne_eqb p.0 next (λ e. omega arith)) (next_not_held (p.0 + 1) pairs next r.1)
 
 -- the table without one of its handles
-pub IsTable-without : (pairs : List (ℕ × ℕ)) (next most h : ℕ) → IsTable (record { pairs = pairs; next = next; most = most }) → is_held pairs h ≡ true
+pub IsTable-without : (pairs : List (ℕ × ℕ)) (next most h : ℕ) → IsTable (record { pairs = pairs; next = next; most = most }) → has_handle pairs h ≡ true
     → IsTable (record { pairs = without_handle pairs h; next = next; most = most })
 IsTable-without pairs next most h t held = record {
   rising = Rises-filter (λ p. not (p.0 == h)) 1 pairs next t.rising;

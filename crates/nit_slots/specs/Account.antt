@@ -1,17 +1,18 @@
--- What a session has, what it uses, and what a request needs and has left. All in units but views and words.
+-- What a session has, what it uses, and what a request needs and has left. All in units but views
+-- and words.
 use Rattle.std.specs.Prelude.{◌≡◌, ℕ, ◌+◌, ◌-◌, ◌*◌, ◌/◌, ◌<◌, ◌≤◌, min}
 use Rattle.nit_slots.specs.declared.need.Need.{Need}
 use Rattle.nit_rect.specs.Limits.{least_units, most_units}
 
 -- the donation, the reserve, the number of views and the number of the buffer's words
-pub record AccountBalance : Type 0 where
+pub record AccountModel : Type 0 where
   pub donation : ℕ
   pub reserve : ℕ
   pub views : ℕ
   pub words : ℕ
 
-abbrev pub balance : ℕ → ℕ → ℕ → ℕ → AccountBalance
-balance donation reserve views words =
+abbrev pub account_model : ℕ → ℕ → ℕ → ℕ → AccountModel
+account_model donation reserve views words =
     record { donation = donation; reserve = reserve; views = views; words = words }
 
 -- a session opens with 256 to 8388608 units
@@ -43,15 +44,16 @@ abbrev pub table_size : ℕ → ℕ
 table_size donation = room donation / word_need
 
 -- a session as it opens: the reserve is what the room has beside the donation, and nothing is used
-abbrev pub opened : ℕ → AccountBalance
-opened d = balance d (room d - d) 0 0
+abbrev pub first_account : ℕ → AccountModel
+first_account d = account_model d (room d - d) 0 0
 
 -- the cost of these views and words
 abbrev pub used : ℕ → ℕ → ℕ
 used views words = view_need * views + word_need * words
 
--- what is used is within the donation, and the donation and the reserve together are at most 8388608
-pub record IsCovered (b : AccountBalance) : Type 0 where
+-- what is used is within the donation, and the donation and the reserve together are at most
+-- 8388608
+pub record IsAccount (b : AccountModel) : Type 0 where
   pub paid : used b.views b.words ≤ b.donation
   pub bounded : b.donation + b.reserve ≤ most_units
 
@@ -68,7 +70,7 @@ abbrev pub buffer_left : ℕ → ℕ → ℕ
 buffer_left donation views = donation - view_need * views
 
 -- the balance with n units moved from the reserve to the donation
-abbrev pub upgraded : AccountBalance → ℕ → AccountBalance
+abbrev pub upgraded : AccountModel → ℕ → AccountModel
 upgraded b n = record b { donation = b.donation + n; reserve = b.reserve - n }
 
 -- a refusal is right where more is needed than is left, and it says both numbers

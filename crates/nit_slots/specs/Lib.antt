@@ -1,4 +1,4 @@
 pub mod Account
 pub mod FreeSlots
-pub mod Handles
+pub mod Table
 pub mod Slots

@@ -4,7 +4,7 @@ use Rattle.std.specs.List.{list_any}
 use Rattle.std.specs.List.Sorted.{IsStrictlyIncreasing}
 
 -- how many slots there are, and the numbers of the taken ones in rising order
-pub record Occupancy : Type 0 where
+pub record SlotsModel : Type 0 where
   pub total : ℕ
   pub taken : List ℕ
 
@@ -13,11 +13,11 @@ abbrev pub is_among : List ℕ → ℕ → Bool
 is_among slots k = list_any (λ s. s == k) slots
 
 -- the slot is taken
-abbrev pub is_taken : Occupancy → ℕ → Bool
+abbrev pub is_taken : SlotsModel → ℕ → Bool
 is_taken o k = is_among o.taken k
 
 -- how many slots are not taken
-abbrev pub spare : Occupancy → ℕ
+abbrev pub spare : SlotsModel → ℕ
 spare o = o.total - length o.taken
 
 -- these slots and one more, which comes to stand before the first greater one
@@ -30,6 +30,6 @@ abbrev pub without_slot : List ℕ → ℕ → List ℕ
 without_slot slots k = filter (λ s. not (s == k)) slots
 
 -- the taken slots rise and are below the number of slots
-pub record IsOccupancy (o : Occupancy) : Type 0 where
+pub record AreSlots (o : SlotsModel) : Type 0 where
   pub below : All (λ k. k < o.total) o.taken
   pub rising : IsStrictlyIncreasing o.taken

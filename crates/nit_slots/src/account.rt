@@ -1,5 +1,5 @@
 ghost use Rattle.std.specs.Prelude.{◌≡◌, ◌+◌, ◌-◌, ◌*◌, ◌<◌, ◌≤◌, OnOk, IfErr};
-ghost use Rattle.nit_slots.specs.Account.{room, view_slots, IsDonation, opened, IsCovered, view_need, view_left, buffer_need, buffer_left, upgraded, IsShort, most_views};
+ghost use Rattle.nit_slots.specs.Account.{room, view_slots, IsDonation, first_account, IsAccount, view_need, view_left, buffer_need, buffer_left, upgraded, IsShort, most_views};
 ghost use Rattle.nit_rect.specs.Limits.{most_side};
 
 use crate::need::Need;
@@ -15,8 +15,8 @@ const VIEW_UNITS: u32 = 256;
 /// The cost of a word of the buffer, in units.
 const WORD_UNITS: u32 = 8;
 
-/// The most that a session of this opening donation can ever have, in units: twice the donation, at most
-/// 8388608. A session opens with 256..=8388608 units.
+/// The most that a session of this opening donation can ever have, in units: twice the donation, at
+/// most 8388608. A session opens with 256..=8388608 units.
 pub fn room(donation: u32) -> u32
     requires { IsDonation donation }
     ensures { result ≡ room donation }
@@ -24,8 +24,8 @@ pub fn room(donation: u32) -> u32
     (2 * donation).min(MOST_UNITS)
 }
 
-/// The number of slots that a session of this opening donation gets for its views: one for each 256 units
-/// of its room, at most 64.
+/// The number of slots that a session of this opening donation gets for its views: one for each 256
+/// units of its room, at most 64.
 pub fn view_slots(donation: u32) -> u32
     requires { IsDonation donation }
     ensures { result ≡ view_slots donation }
@@ -33,8 +33,8 @@ pub fn view_slots(donation: u32) -> u32
     MOST_VIEWS.min(room(donation) / VIEW_UNITS)
 }
 
-/// What a session has and what it uses of it: the donation and the reserve in units, the number of its
-/// views, and the number of its buffer's words. A view costs 256 units and a word 8.
+/// What a session has and what it uses of it: the donation and the reserve in units, the number of
+/// its views, and the number of its buffer's words. A view costs 256 units and a word 8.
 #[derive(Clone, Copy, Debug, PartialEq, Eq)]
 pub struct Account {
     donation: u32,
@@ -44,13 +44,13 @@ pub struct Account {
 }
 
 impl Model for Account {
-    ghost use Rattle.nit_slots.specs.Account.{AccountBalance, balance, IsCovered};
+    ghost use Rattle.nit_slots.specs.Account.{AccountModel, account_model, IsAccount};
 
-    ghost Value = { AccountBalance };
+    ghost Value = { AccountModel };
 
-    ghost view = { λ a. balance a.donation a.reserve a.views a.words };
+    ghost view = { λ a. account_model a.donation a.reserve a.views a.words };
 
-    ghost invariant = { λ a. IsCovered (balance a.donation a.reserve a.views a.words) };
+    ghost invariant = { λ a. IsAccount (account_model a.donation a.reserve a.views a.words) };
 
     ghost inverse = { λ b. record {
       donation = b.donation;
@@ -61,10 +61,11 @@ impl Model for Account {
 }
 
 impl Account {
-    /// The account of a session that opens with this donation, 256..=8388608 units. Nothing is used.
+    /// The account of a session that opens with this donation, 256..=8388608 units. Nothing is
+    /// used.
     pub fn new(donation: u32) -> Account
         requires { IsDonation donation }
-        ensures { result ≡ opened donation }
+        ensures { result ≡ first_account donation }
     {
         Account {
             donation,
@@ -74,8 +75,8 @@ impl Account {
         }
     }
 
-    /// Pays for one more view, where there are fewer than 64. Refused exactly where its 256 units are more
-    /// than what views and words leave of the donation; the account is then unchanged.
+    /// Pays for one more view, where there are fewer than 64. Refused exactly where its 256 units
+    /// are more than what views and words leave of the donation; the account is then unchanged.
     pub fn try_view(&mut self) -> Result<(), Need>
         requires { self.old.views < most_views }
         ensures paid { OnOk result
@@ -91,9 +92,9 @@ impl Account {
         Ok(())
     }
 
-    /// Pays for a buffer of w by h words in place of the old one, each side 1..=4096. Refused exactly where
-    /// its 8 units a word are more than what views leave of the donation, as the old buffer is given back
-    /// first; the account is then unchanged.
+    /// Pays for a buffer of w by h words in place of the old one, each side 1..=4096. Refused
+    /// exactly where its 8 units a word are more than what views leave of the donation, as the old
+    /// buffer is given back first; the account is then unchanged.
     pub fn try_buffer(&mut self, w: u32, h: u32) -> Result<(), Need>
         requires width { (1 ≤ w) × (w ≤ most_side) }
         requires height { (1 ≤ h) × (h ≤ most_side) }
@@ -119,8 +120,8 @@ impl Account {
         self.views -= 1;
     }
 
-    /// Moves n units from the reserve to the donation. Refused exactly where n is over the reserve; the
-    /// account is then unchanged.
+    /// Moves n units from the reserve to the donation. Refused exactly where n is over the reserve;
+    /// the account is then unchanged.
     pub fn upgrade(&mut self, n: u32) -> Result<(), Need>
         ensures raised { OnOk result ((n ≤ self.old.reserve) × (self.new ≡ upgraded self.old n)) }
         ensures refused { IfErr result (λ e. IsShort e n self.old.reserve × (self.new ≡ self.old)) }
@@ -143,7 +144,7 @@ impl Account {
     /// The donation, in units, with what was moved to it from the reserve.
     pub fn donation(&self) -> u32
         ensures value { result ≡ self.now.donation }
-        ensures covered { IsCovered self.now }
+        ensures covered { IsAccount self.now }
     {
         self.donation
     }
@@ -151,7 +152,7 @@ impl Account {
     /// What the donation may still be raised by, in units.
     pub fn reserve(&self) -> u32
         ensures value { result ≡ self.now.reserve }
-        ensures covered { IsCovered self.now }
+        ensures covered { IsAccount self.now }
     {
         self.reserve
     }
@@ -159,7 +160,7 @@ impl Account {
     /// The number of views that are paid for.
     pub fn views(&self) -> u32
         ensures value { result ≡ self.now.views }
-        ensures covered { IsCovered self.now }
+        ensures covered { IsAccount self.now }
     {
         self.views
     }
@@ -167,7 +168,7 @@ impl Account {
     /// The number of the buffer's words.
     pub fn words(&self) -> u32
         ensures value { result ≡ self.now.words }
-        ensures covered { IsCovered self.now }
+        ensures covered { IsAccount self.now }
     {
         self.words
     }

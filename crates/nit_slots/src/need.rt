@@ -1,4 +1,5 @@
-/// Why an account refuses a request: the units that it needs, and the fewer units that are left for it.
+/// Why an account refuses a request: the units that it needs, and the fewer units that are left for
+/// it.
 #[derive(Clone, Copy, Debug, PartialEq, Eq)]
 pub struct Need {
     pub need: u64,

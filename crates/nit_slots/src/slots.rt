@@ -1,14 +1,14 @@
 ghost use Rattle.std.specs.Prelude.{◌≡◌, ◌+◌, ◌<◌, ◌≤◌, true, false, [], IfOk, length, vec_capacity};
 ghost use Rattle.std.specs.List.{range_with_len};
-ghost use Rattle.nit_slots.specs.Slots.{is_taken, spare, with_slot, without_slot, IsOccupancy};
+ghost use Rattle.nit_slots.specs.Slots.{is_taken, spare, with_slot, without_slot, AreSlots};
 ghost use Rattle.nit_rect.specs.Limits.{most_slots};
 
 use nit_rect::NoMemory;
 use std::alloc::{AllocError, Global};
 use std::marker::Model;
 
-/// The slots that the views of all sessions stand in, numbered from 0. They are seen as how many there are
-/// and the list of those that are taken.
+/// The slots that the views of all sessions stand in, numbered from 0. They are seen as how many
+/// there are and the list of those that are taken.
 #[derive(Drop)]
 pub struct Slots {
     total: u32,
@@ -17,10 +17,10 @@ pub struct Slots {
 
 impl Model for Slots {
     ghost use Rattle.std.specs.Prelude.{◌≤◌, vec_capacity};
-    ghost use Rattle.nit_slots.specs.Slots.{Occupancy};
+    ghost use Rattle.nit_slots.specs.Slots.{SlotsModel};
     ghost use Rattle.nit_slots.specs.FreeSlots.{taken_beside, IsFreeList};
 
-    ghost Value = { Occupancy };
+    ghost Value = { SlotsModel };
 
     ghost view = { λ s. record { total = s.total; taken = taken_beside s.free.items s.total } };
 
@@ -43,7 +43,7 @@ impl Slots {
     /// How many slots are taken.
     pub fn taken(&self) -> u32
         ensures count { result ≡ length self.now.taken }
-        ensures occupancy { IsOccupancy self.now }
+        ensures occupancy { AreSlots self.now }
     {
         self.total - self.free.len() as u32
     }

@@ -1,6 +1,6 @@
 ghost use Rattle.std.specs.Prelude.{◌≡◌, ◌+◌, ◌-◌, ◌^◌, ◌<◌, ◌≤◌, ◌↔◌, true, false, [], ◌∷◌, ◌++◌, IfOk, IsSome, IsNone, IfSome, IsSomeAnd, All, length, vec_capacity};
 ghost use Rattle.nit_slots.specs.Slots.{is_taken, spare, with_slot, without_slot};
-ghost use Rattle.nit_slots.specs.Handles.{is_held, slot_of, without_handle, IsTable, last_handle};
+ghost use Rattle.nit_slots.specs.Table.{has_handle, slot_of, without_handle, IsTable, last_handle};
 ghost use Rattle.nit_slots.specs.Account.{most_views};
 
 use crate::slots::Slots;
@@ -8,8 +8,8 @@ use nit_rect::NoMemory;
 use std::alloc::Global;
 use std::marker::Model;
 
-/// The views that one session holds, each as its handle and its slot, in the order of creation. Handles are
-/// given as 1, 2, 3 and so on, and never again.
+/// The views that one session holds, each as its handle and its slot, in the order of creation.
+/// Handles are given as 1, 2, 3 and so on, and never again.
 #[derive(Drop)]
 pub struct Table {
     pairs: Vec<(u32, u32)>,
@@ -19,9 +19,9 @@ pub struct Table {
 
 impl Model for Table {
     ghost use Rattle.std.specs.Prelude.{◌≤◌, vec_capacity};
-    ghost use Rattle.nit_slots.specs.Handles.{HandleTable, IsTable};
+    ghost use Rattle.nit_slots.specs.Table.{TableModel, IsTable};
 
-    ghost Value = { HandleTable };
+    ghost Value = { TableModel };
 
     ghost view = { λ t. record { pairs = t.pairs.items; next = t.next; most = t.most } };
 
@@ -32,7 +32,8 @@ impl Model for Table {
 }
 
 impl Table {
-    /// A table of no view, with room for `most` at a time, at most 64. All memory for them is taken here.
+    /// A table of no view, with room for `most` at a time, at most 64. All memory for them is taken
+    /// here.
     pub fn new(alloc: Global, most: u32) -> Result<Table, NoMemory>
         requires { most ≤ most_views }
         ensures { IfOk result (λ t. t ≡ record { pairs = []; next = 1; most = most }) }
@@ -44,14 +45,15 @@ impl Table {
         })
     }
 
-    /// A new view: the next handle, and a slot that was free. Which of the free slots it is, is open. There
-    /// is a free slot, the table holds fewer than `most`, and the next handle is below 2^32 - 1.
+    /// A new view: the next handle, and a slot that was free. Which of the free slots it is, is
+    /// open. There is a free slot, the table holds fewer than `most`, and the next handle is below
+    /// 2^32 - 1.
     pub fn create(&mut self, slots: &mut Slots) -> (u32, u32)
         requires free { 0 < spare slots.old }
         requires room { length self.old.pairs < self.old.most }
         requires next { self.old.next < last_handle }
         ensures handle { result.0 ≡ self.old.next }
-        ensures was_not_held { is_held self.old.pairs result.0 ≡ false }
+        ensures was_not_held { has_handle self.old.pairs result.0 ≡ false }
         ensures below { result.1 < slots.old.total }
         ensures was_free { is_taken slots.old result.1 ≡ false }
         ensures table { self.new
@@ -69,13 +71,14 @@ impl Table {
     /// The slot of h. None exactly where h is not held.
     pub fn find(&self, h: u32) -> Option<u32>
         ensures slot { result ≡ slot_of self.now.pairs h }
-        ensures none { IsNone result ↔ (is_held self.now.pairs h ≡ false) }
+        ensures none { IsNone result ↔ (has_handle self.now.pairs h ≡ false) }
         ensures table { IsTable self.now }
     {
         slot_of(self.pairs.as_slice(), h)
     }
 
-    /// Takes h out of the table and makes its slot free. The handle h is held, and its slot is taken in `slots`.
+    /// Takes h out of the table and makes its slot free. The handle h is held, and its slot is
+    /// taken in `slots`.
     pub fn destroy(&mut self, slots: &mut Slots, h: u32)
         requires { IsSomeAnd (slot_of self.old.pairs h) (λ slot. is_taken slots.old slot ≡ true) }
         ensures table { self.new ≡ record self.old { pairs = without_handle self.old.pairs h } }
@@ -92,7 +95,7 @@ impl Table {
     /// The greatest held handle. None exactly where none is held.
     pub fn last(&self) -> Option<u32>
         ensures none { IsNone result ↔ (self.now.pairs ≡ []) }
-        ensures held { IfSome result (λ h. is_held self.now.pairs h ≡ true) }
+        ensures held { IfSome result (λ h. has_handle self.now.pairs h ≡ true) }
         ensures greatest { IfSome result (λ h. All (λ p. p.0 ≤ h) self.now.pairs) }
         ensures table { IsTable self.now }
     {

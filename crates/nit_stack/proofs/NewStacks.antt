@@ -4,21 +4,21 @@ use Rattle.std.proofs.lemmas.List.{length-replicate}
 use Rattle.std.proofs.lemmas.List.Elements.{All-nil, All-replicate}
 use Rattle.nit_stack.specs.declared.view.View.{View}
 use Rattle.nit_stack.specs.Sources.{no_size}
-use Rattle.nit_stack.specs.Standing.{IsScreen, IsSeat, IsSize, IsStanding, opened}
-use Rattle.nit_stack.specs.Slots.{seat, size, standing}
+use Rattle.nit_stack.specs.Stack.{IsScreenSize, IsSlotView, IsBufferSize, IsStack, empty_stack}
+use Rattle.nit_stack.specs.StackFields.{slot_view, size, stack_model}
 
 sizes_are : (n : ℕ) → map size (replicate n (0, 0)) ≡ replicate n no_size
 sizes_are zero = refl
 sizes_are (suc n) = ap (λ l. no_size ∷ l) (sizes_are n)
 
 pub opened_as : (order : List ℕ) (slots : List View) (sizes : List (ℕ × ℕ)) (layers : List ℕ) (w h sessions most : ℕ) → order ≡ [] → length slots ≡ most → sizes ≡ replicate sessions (0, 0) → layers ≡ replicate sessions 0
-    → standing order slots sizes layers w h 0 ≡ opened w h sessions most
+    → stack_model order slots sizes layers w h 0 ≡ empty_stack w h sessions most
 opened_as order slots sizes layers w h sessions most none room no_sizes no_layers =
     let s = ap (map size) no_sizes ∙ sizes_are sessions in
-    let v = ap (map (seat slots)) none in
+    let v = ap (map (slot_view slots)) none in
     λ i. record { views = v i; sizes = s i; layers = no_layers i; width = w; height = h; bar = 0; most = room i }
 
-pub opened_stands : (w h sessions most : ℕ) → IsScreen w h → (1 ≤ sessions) × (sessions ≤ 16) → most ≤ 1024 → IsStanding (opened w h sessions most)
+pub opened_stands : (w h sessions most : ℕ) → IsScreenSize w h → (1 ≤ sessions) × (sessions ≤ 16) → most ≤ 1024 → IsStack (empty_stack w h sessions most)
 opened_stands w h sessions most screen many few =
     let n = length-replicate sessions no_size in
     let m = length-replicate {A = ℕ} sessions 0 in
@@ -27,8 +27,8 @@ opened_stands w h sessions most screen many few =
       slots = tt;
       names = tt;
       layered = tt;
-      seats = All-nil (IsSeat most (length (replicate sessions no_size)));
-      sizes = All-replicate IsSize sessions no_size (omega arith, omega arith);
+      seats = All-nil (IsSlotView most (length (replicate sessions no_size)));
+      sizes = All-replicate IsBufferSize sessions no_size (omega arith, omega arith);
       layers = All-replicate (λ (l : ℕ). l ≤ 7) sessions 0 (omega arith);
       sessions = (omega (arith, n), omega (arith, n), m ∙ sym n);
       screen = screen;

@@ -8,14 +8,14 @@ use Rattle.std.proofs.lemmas.Bool.Decides.{nat_tests}
 use Rattle.std.proofs.lemmas.List.Folds.{find_at}
 use Rattle.std.proofs.lemmas.Option.{get_or_from_slice_get, slice_get-map, slice_get_within}
 use Rattle.nit_stack.specs.declared.view.ViewRef.{ViewRef}
-use Rattle.nit_stack.specs.Standing.{NoPair, Seat, has, is_slot, place_of, same_slot, view_ref}
+use Rattle.nit_stack.specs.Stack.{NoPair, SlotView, has_slot, is_slot, place_of, same_slot, view_ref}
 use Rattle.nit_stack.proofs.Lists.{found_passes, found_some}
 
 -- the view of a slot that is handed out for a place
-pub slot_at : (views : List Seat) (i : ℕ) (v : ViewRef) → slice_get (map view_ref views) i ≡ Some v → (s : Seat) × (slice_get views i ≡ Some s) × (s.slot ≡ v.0)
+pub slot_at : (views : List SlotView) (i : ℕ) (v : ViewRef) → slice_get (map view_ref views) i ≡ Some v → (s : SlotView) × (slice_get views i ≡ Some s) × (s.slot ≡ v.0)
 slot_at views i v at = go (slice_get views i) (sym (slice_get-map view_ref views i) ∙ at)
   where
-    go : (o : Option Seat) → option_map view_ref o ≡ Some v → (s : Seat) × (o ≡ Some s) × (s.slot ≡ v.0)
+    go : (o : Option SlotView) → option_map view_ref o ≡ Some v → (s : SlotView) × (o ≡ Some s) × (s.slot ≡ v.0)
     go None e = cc
     go (Some s) e = let same : view_ref s ≡ v = cc in (s, refl, ap (λ (u : ViewRef). u.0) same)
 
@@ -25,7 +25,7 @@ drop_at xs i x at =
     drop-cons xs i x (slice_get_within xs i x at) ∙ ap₂ (λ y ys. y ∷ ys) (get_or_from_slice_get xs i x x at) (ap (λ (n : ℕ). drop n xs) (sym (add-one i)))
 
 -- a view that stands is at its place
-pub place_found : (views : List Seat) (v : ViewRef) → has v.0 views ≡ true → slice_get (map view_ref views) (place_of v.0 views) ≡ Some v
+pub place_found : (views : List SlotView) (v : ViewRef) → has_slot v.0 views ≡ true → slice_get (map view_ref views) (place_of v.0 views) ≡ Some v
 place_found views v there =
     let found = found_some (is_slot v.0) views there in
     let own : found.0.slot ≡ v.0 = eqb-true found.0.slot v.0 (found_passes (is_slot v.0) views found.0 found.1) in
@@ -34,7 +34,7 @@ place_found views v there =
     ∙ ap (λ (n : ℕ). Some (record { 0 = n })) own
 
 -- and its place is one of the list's
-pub place_within : (k : ℕ) (views : List Seat) → nat_lt (place_of k views) (length views) ≡ has k views
+pub place_within : (k : ℕ) (views : List SlotView) → nat_lt (place_of k views) (length views) ≡ has_slot k views
 place_within k [] = refl
 place_within k (s ∷ views) = go (is_slot k s) (place_within k views)
   where
@@ -44,21 +44,21 @@ place_within k (s ∷ views) = go (is_slot k s) (place_within k views)
     first : (n : ℕ) → nat_lt 0 (suc n) ≡ true
     first n = grind (arith, nat_tests)
 
-    go : (b : Bool) → nat_lt (place_of k views) (length views) ≡ has k views → nat_lt (cond (not b) (1 + place_of k views) 0) (length (s ∷ views)) ≡ (b || has k views)
+    go : (b : Bool) → nat_lt (place_of k views) (length views) ≡ has_slot k views → nat_lt (cond (not b) (1 + place_of k views) 0) (length (s ∷ views)) ≡ (b || has_slot k views)
     go true e = first (length views)
     go false e = one_more (place_of k views) (length views) ∙ e
 
-none_at : (p : Seat → Bool) (views : List Seat) (i : ℕ) (s : Seat) → list_any p views ≡ false → slice_get views i ≡ Some s → p s ≡ false
+none_at : (p : SlotView → Bool) (views : List SlotView) (i : ℕ) (s : SlotView) → list_any p views ≡ false → slice_get views i ≡ Some s → p s ≡ false
 none_at p [] i s none at = cc
 none_at p (x ∷ views) zero s none at = let same : x ≡ s = cc in ap p (sym same) ∙ (or_parts (p x) (list_any p views) none).0
 none_at p (x ∷ views) (suc i) s none at = none_at p views i s (or_parts (p x) (list_any p views) none).1 at
 
 -- a view stands at one place alone
-pub place_is : (views : List Seat) (i : ℕ) (s : Seat) → NoPair same_slot views → slice_get views i ≡ Some s → place_of s.slot views ≡ i
+pub place_is : (views : List SlotView) (i : ℕ) (s : SlotView) → NoPair same_slot views → slice_get views i ≡ Some s → place_of s.slot views ≡ i
 place_is [] i s apart at = cc
 place_is (x ∷ views) zero s apart at =
     let same : x ≡ s = cc in
-    let here : is_slot s.slot x ≡ true = eq-eqb x.slot s.slot (ap (λ (y : Seat). y.slot) same) in
+    let here : is_slot s.slot x ≡ true = eq-eqb x.slot s.slot (ap (λ (y : SlotView). y.slot) same) in
     ap (λ (b : Bool). cond (not b) (1 + place_of s.slot views) 0) here
 place_is (x ∷ views) (suc i) s apart at =
     let other : is_slot s.slot x ≡ false = either x.slot s.slot ∙ none_at (same_slot x) views i s apart.0 at in

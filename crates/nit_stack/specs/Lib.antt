@@ -2,8 +2,8 @@ pub use Rattle.nit_rect.specs.Rectangle
 pub use Rattle.nit_rect.specs.Screen
 pub mod Sources
 pub mod Orders
-pub mod Labels
-pub mod Standing
-pub mod Slots
-pub mod Answers
-pub mod Names
+pub mod LabelPlaces
+pub mod Stack
+pub mod StackFields
+pub mod SourceAnswers
+pub mod ViewNames

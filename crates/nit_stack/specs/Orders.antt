@@ -2,7 +2,8 @@
 use Rattle.std.specs.Prelude.{ℕ, Bool, not, nat_le, List, [], ◌∷◌, map, filter, find, Option, Some, None, if◌then◌else◌}
 use Rattle.std.specs.List.{list_any}
 
--- directly in front of the first one of this layer or of a layer behind, or last where there is none
+-- directly in front of the first one of this layer or of a layer behind, or last where there is
+-- none
 abbrev pub put_front : {A : Type 0} → (A → ℕ) → ℕ → A → List A → List A
 put_front layer l v [] = v ∷ []
 put_front layer l v (x ∷ xs) =
@@ -27,7 +28,8 @@ without is xs = filter (λ x. not (is x)) xs
 abbrev pub changed : {A : Type 0} → (A → Bool) → (A → A) → List A → List A
 changed is change xs = map (λ x. if is x then change x else x) xs
 
--- The first one that is meant is taken out, and put in again among the others. Nothing changes where there is none.
+-- The first one that is meant is taken out, and put in again among the others. Nothing changes
+-- where there is none.
 abbrev pub put_again : {A : Type 0} → (A → List A → List A) → List A → List A → Option A → List A
 put_again put others xs (Some v) = put v others
 put_again put others xs None = xs

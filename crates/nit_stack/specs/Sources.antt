@@ -1,4 +1,5 @@
--- Who owns a pixel of the screen, and where its word comes from. A stack of views is a list, front first.
+-- Who owns a pixel of the screen, and where its word comes from. A stack of views is a list, front
+-- first.
 use Rattle.std.specs.Prelude.{ℕ, ◌+◌, ◌*◌, ◌/◌, ◌%◌, Bool, nat_lt, ℤ, pos, negsuc, ◌-ℤ◌, int_lt, List, find, Option, Some, None, if◌then◌else◌}
 use Rattle.nit_rect.specs.declared.point.Point.{Point}
 use Rattle.nit_rect.specs.Rectangle.{covers}
@@ -58,8 +59,8 @@ shown_index size v p =
     index_at size.w (among (buffer_place p.x v.rect.x v.ox) size.w)
     (among (buffer_place p.y v.rect.y v.oy) size.h)
 
--- Where the word of a pixel comes from: it is the bare screen's where the pixel has no owner, black where
--- the owner reaches past its session's buffer, and otherwise a word of a session's buffer.
+-- Where the word of a pixel comes from: it is the bare screen's where the pixel has no owner, black
+-- where the owner reaches past its session's buffer, and otherwise a word of a session's buffer.
 pub data PixelSource : Type 0 where
   Bare : PixelSource
   Black : PixelSource

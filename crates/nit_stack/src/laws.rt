@@ -6,122 +6,129 @@ ghost use Rattle.std.specs.List.{list_any};
 ghost use Rattle.nit_rect.specs.declared.point.Point.{Point};
 ghost use Rattle.nit_stack.specs.declared.view.View.{View};
 ghost use Rattle.nit_stack.specs.declared.view.ViewRef.{ViewRef};
-ghost use Rattle.nit_stack.specs.Labels.{is_view};
-ghost use Rattle.nit_stack.specs.Names.{IsNamedBy, MeanSame, is_session, layer_of_seat, name_in, name_of, view_above, view_layer, views_of};
+ghost use Rattle.nit_stack.specs.LabelPlaces.{is_view};
+ghost use Rattle.nit_stack.specs.ViewNames.{IsNamedBy, MeanSame, is_session, layer_of_slot_view, name_in, name_of, view_above, view_layer, views_of};
 ghost use Rattle.nit_stack.specs.Orders.{changed, moved, put_back, put_front, without};
 ghost use Rattle.nit_stack.specs.Sources.{owner};
-ghost use Rattle.nit_stack.specs.Standing.{NoPair, Seat, has, is_named, is_of_session, is_slot, moved_above, on_view, place_of, put_own_back, put_own_front, same_slot, seat_in, view_ref, seat_owner};
+ghost use Rattle.nit_stack.specs.Stack.{NoPair, SlotView, has_slot, is_named, is_of_session, is_slot, moved_above, on_view, place_of, put_own_back, put_own_front, same_slot, slot_view_in, view_ref, seat_owner};
 
-/// A change of the view in a slot is the same change of the view with that session and handle, among the views
-/// without their slots.
+/// A change of the view in a slot is the same change of the view with that session and handle,
+/// among the views without their slots.
 pub fn slots_and_names()
-    ensures removed { (k sid handle : ℕ) (seats : List Seat) → IsNamedBy k sid handle seats
+    ensures removed { (k sid handle : ℕ) (seats : List SlotView) → IsNamedBy k sid handle seats
         → views_of (without (is_slot k) seats) ≡ without (is_view sid handle) (views_of seats) }
-    ensures changed { (k sid handle : ℕ) (change : View → View) (seats : List Seat)
+    ensures changed { (k sid handle : ℕ) (change : View → View) (seats : List SlotView)
         → IsNamedBy k sid handle seats
         → views_of (changed (is_slot k) (on_view change) seats)
         ≡ changed (is_view sid handle) change (views_of seats) }
-    ensures moved { (k sid handle : ℕ) (put : Seat → List Seat → List Seat)
-        (put_view : View → List View → List View) (seats : List Seat)
+    ensures moved { (k sid handle : ℕ) (put : SlotView → List SlotView → List SlotView)
+        (put_view : View → List View → List View) (seats : List SlotView)
         → IsNamedBy k sid handle seats
-        → ((s : Seat) (xs : List Seat) → views_of (put s xs) ≡ put_view s.view (views_of xs))
+        → ((s : SlotView) (xs : List SlotView)
+        → views_of (put s xs) ≡ put_view s.view (views_of xs))
         → views_of (moved (is_slot k) put seats)
         ≡ moved (is_view sid handle) put_view (views_of seats) }
-    ensures front { (k sid handle : ℕ) (layer : ℕ → ℕ) (seats : List Seat)
+    ensures front { (k sid handle : ℕ) (layer : ℕ → ℕ) (seats : List SlotView)
         → IsNamedBy k sid handle seats
-        → views_of (moved (is_slot k) (put_own_front (layer_of_seat layer)) seats)
+        → views_of (moved (is_slot k) (put_own_front (layer_of_slot_view layer)) seats)
         ≡ moved (is_view sid handle) (put_front (view_layer layer) (layer sid)) (views_of seats) }
-    ensures back { (k sid handle : ℕ) (layer : ℕ → ℕ) (seats : List Seat)
+    ensures back { (k sid handle : ℕ) (layer : ℕ → ℕ) (seats : List SlotView)
         → IsNamedBy k sid handle seats
-        → views_of (moved (is_slot k) (put_own_back (layer_of_seat layer)) seats)
+        → views_of (moved (is_slot k) (put_own_back (layer_of_slot_view layer)) seats)
         ≡ moved (is_view sid handle) (put_back (view_layer layer) (layer sid)) (views_of seats) }
-    ensures above { (k n sid handle next : ℕ) (seats : List Seat) → IsNamedBy k sid handle seats
+    ensures above { (k n sid handle next : ℕ) (seats : List SlotView) → IsNamedBy k sid handle seats
         → IsNamedBy n sid next seats
         → views_of (moved_above k n seats) ≡ view_above sid handle next (views_of seats) }
 {}
 
-/// Views with slots and the same views without them: a new view, the views of a session or of a name, the owner of
-/// a pixel.
+/// Views with slots and the same views without them: a new view, the views of a session or of a
+/// name, the owner of a pixel.
 pub fn seats_and_views()
-    ensures put_front { (layer : ℕ → ℕ) (l : ℕ) (s : Seat) (seats : List Seat)
-        → views_of (put_front (layer_of_seat layer) l s seats)
+    ensures put_front { (layer : ℕ → ℕ) (l : ℕ) (s : SlotView) (seats : List SlotView)
+        → views_of (put_front (layer_of_slot_view layer) l s seats)
         ≡ put_front (view_layer layer) l s.view (views_of seats) }
-    ensures put_back { (layer : ℕ → ℕ) (l : ℕ) (s : Seat) (seats : List Seat)
-        → views_of (put_back (layer_of_seat layer) l s seats)
+    ensures put_back { (layer : ℕ → ℕ) (l : ℕ) (s : SlotView) (seats : List SlotView)
+        → views_of (put_back (layer_of_slot_view layer) l s seats)
         ≡ put_back (view_layer layer) l s.view (views_of seats) }
-    ensures closed { (sid : ℕ) (seats : List Seat)
+    ensures closed { (sid : ℕ) (seats : List SlotView)
         → views_of (without (is_of_session sid) seats) ≡ without (is_session sid) (views_of seats) }
-    ensures session { (sid : ℕ) (seats : List Seat)
+    ensures session { (sid : ℕ) (seats : List SlotView)
         → list_any (is_session sid) (views_of seats) ≡ list_any (is_of_session sid) seats }
-    ensures named { (sid handle : ℕ) (seats : List Seat)
+    ensures named { (sid handle : ℕ) (seats : List SlotView)
         → list_any (is_view sid handle) (views_of seats) ≡ list_any (is_named sid handle) seats }
-    ensures owner { (rows : ℕ) (seats : List Seat) (p : Point)
+    ensures owner { (rows : ℕ) (seats : List SlotView) (p : Point)
         → owner rows (views_of seats) p ≡ option_map (λ s. s.view) (seat_owner rows seats p) }
 {}
 
-/// Which slots have a view after each change, and that all views of a session are gone when each was taken out.
+/// Which slots have a view after each change, and that all views of a session are gone when each
+/// was taken out.
 pub fn slots_after()
-    ensures push_front { (layer : Seat → ℕ) (l : ℕ) (s : Seat) (j : ℕ) (seats : List Seat)
-        → has j (put_front layer l s seats) ≡ (is_slot j s || has j seats) }
-    ensures remove { (j k : ℕ) (seats : List Seat)
-        → has j (without (is_slot k) seats) ≡ (not (j == k) && has j seats) }
-    ensures changed { (j k : ℕ) (change : View → View) (seats : List Seat)
-        → has j (changed (is_slot k) (on_view change) seats) ≡ has j seats }
-    ensures front { (j k : ℕ) (layer : Seat → ℕ) (seats : List Seat) → has k seats ≡ true
-        → has j (moved (is_slot k) (put_own_front layer) seats) ≡ has j seats }
-    ensures back { (j k : ℕ) (layer : Seat → ℕ) (seats : List Seat) → has k seats ≡ true
-        → has j (moved (is_slot k) (put_own_back layer) seats) ≡ has j seats }
-    ensures above { (j k n : ℕ) (seats : List Seat) → has k seats ≡ true
-        → has j (moved_above k n seats) ≡ has j seats }
+    ensures push_front { (layer : SlotView → ℕ) (l : ℕ) (s : SlotView) (j : ℕ) (seats : List SlotView)
+        → has_slot j (put_front layer l s seats) ≡ (is_slot j s || has_slot j seats) }
+    ensures remove { (j k : ℕ) (seats : List SlotView)
+        → has_slot j (without (is_slot k) seats) ≡ (not (j == k) && has_slot j seats) }
+    ensures changed { (j k : ℕ) (change : View → View) (seats : List SlotView)
+        → has_slot j (changed (is_slot k) (on_view change) seats) ≡ has_slot j seats }
+    ensures front { (j k : ℕ) (layer : SlotView → ℕ) (seats : List SlotView)
+        → has_slot k seats ≡ true
+        → has_slot j (moved (is_slot k) (put_own_front layer) seats) ≡ has_slot j seats }
+    ensures back { (j k : ℕ) (layer : SlotView → ℕ) (seats : List SlotView)
+        → has_slot k seats ≡ true
+        → has_slot j (moved (is_slot k) (put_own_back layer) seats) ≡ has_slot j seats }
+    ensures above { (j k n : ℕ) (seats : List SlotView) → has_slot k seats ≡ true
+        → has_slot j (moved_above k n seats) ≡ has_slot j seats }
 
-    ensures one_less { (k sid handle : ℕ) (seats : List Seat) → IsNamedBy k sid handle seats
+    ensures one_less { (k sid handle : ℕ) (seats : List SlotView) → IsNamedBy k sid handle seats
         → without (is_of_session sid) (without (is_slot k) seats)
         ≡ without (is_of_session sid) seats }
-    ensures none_left { (sid : ℕ) (seats : List Seat)
+    ensures none_left { (sid : ℕ) (seats : List SlotView)
         → list_any (is_of_session sid) seats ≡ false → without (is_of_session sid) seats ≡ seats }
 {}
 
-/// The owner of a pixel is the view in its slot, and is told by its slot as by its session and handle.
+/// The owner of a pixel is the view in its slot, and is told by its slot as by its session and
+/// handle.
 pub fn owners_by_slot()
-    ensures seated { (rows : ℕ) (seats : List Seat) (p : Point) (v : ViewRef) (view : View)
+    ensures seated { (rows : ℕ) (seats : List SlotView) (p : Point) (v : ViewRef) (view : View)
         → NoPair same_slot seats
         → Some v ≡ option_map view_ref (seat_owner rows seats p)
-        → seat_in v.0 seats ≡ Some (record { slot = v.0; view = view })
+        → slot_view_in v.0 seats ≡ Some (record { slot = v.0; view = view })
         → seat_owner rows seats p ≡ Some (record { slot = v.0; view = view }) }
-    ensures mean_same { (k sid handle : ℕ) (seats : List Seat) → IsNamedBy k sid handle seats
+    ensures mean_same { (k sid handle : ℕ) (seats : List SlotView) → IsNamedBy k sid handle seats
         → MeanSame k sid handle seats }
-    ensures named { (k sid handle rows : ℕ) (seats : List Seat) (p : Point)
+    ensures named { (k sid handle rows : ℕ) (seats : List SlotView) (p : Point)
         → MeanSame k sid handle seats
         → option_map_or (is_slot k) (seat_owner rows seats p) false
         ≡ option_map_or (is_view sid handle) (owner rows (views_of seats) p) false }
-    ensures session { (sid rows : ℕ) (seats : List Seat) (p : Point)
+    ensures session { (sid rows : ℕ) (seats : List SlotView) (p : Point)
         → option_map_or (is_of_session sid) (seat_owner rows seats p) false
         ≡ option_map_or (is_session sid) (owner rows (views_of seats) p) false }
 {}
 
-/// The session and handle of the view in each slot after each change, and that a view of a session and handle is
-/// in a slot of that name.
+/// The session and handle of the view in each slot after each change, and that a view of a session
+/// and handle is in a slot of that name.
 pub fn names_after()
-    ensures push_front { (layer : Seat → ℕ) (l : ℕ) (s : Seat) (j : ℕ) (seats : List Seat)
-        → has s.slot seats ≡ false
+    ensures push_front { (layer : SlotView → ℕ) (l : ℕ) (s : SlotView) (j : ℕ) (seats : List SlotView)
+        → has_slot s.slot seats ≡ false
         → name_in j (put_front layer l s seats)
         ≡ (if s.slot == j then Some (name_of s) else name_in j seats) }
-    ensures remove { (j k : ℕ) (seats : List Seat)
+    ensures remove { (j k : ℕ) (seats : List SlotView)
         → name_in j (without (is_slot k) seats) ≡ (if j == k then None else name_in j seats) }
-    ensures changed { (j k : ℕ) (change : View → View) (seats : List Seat)
+    ensures changed { (j k : ℕ) (change : View → View) (seats : List SlotView)
         → ((v : View) → ((change v).sid ≡ v.sid) × ((change v).handle ≡ v.handle))
         → name_in j (changed (is_slot k) (on_view change) seats) ≡ name_in j seats }
-    ensures front { (j k : ℕ) (layer : Seat → ℕ) (seats : List Seat) → has k seats ≡ true
+    ensures front { (j k : ℕ) (layer : SlotView → ℕ) (seats : List SlotView)
+        → has_slot k seats ≡ true
         → name_in j (moved (is_slot k) (put_own_front layer) seats) ≡ name_in j seats }
-    ensures back { (j k : ℕ) (layer : Seat → ℕ) (seats : List Seat) → has k seats ≡ true
+    ensures back { (j k : ℕ) (layer : SlotView → ℕ) (seats : List SlotView)
+        → has_slot k seats ≡ true
         → name_in j (moved (is_slot k) (put_own_back layer) seats) ≡ name_in j seats }
-    ensures above { (j k n : ℕ) (seats : List Seat) → has k seats ≡ true
+    ensures above { (j k n : ℕ) (seats : List SlotView) → has_slot k seats ≡ true
         → name_in j (moved_above k n seats) ≡ name_in j seats }
 
-    ensures has { (j : ℕ) (seats : List Seat) → has j seats ≡ is_some (name_in j seats) }
-    ensures named { (j sid h : ℕ) (seats : List Seat) → name_in j seats ≡ Some (sid, h)
+    ensures has { (j : ℕ) (seats : List SlotView) → has_slot j seats ≡ is_some (name_in j seats) }
+    ensures named { (j sid h : ℕ) (seats : List SlotView) → name_in j seats ≡ Some (sid, h)
         → list_any (is_named sid h) seats ≡ true }
-    ensures slot { (sid h : ℕ) (seats : List Seat) → NoPair same_slot seats
+    ensures slot { (sid h : ℕ) (seats : List SlotView) → NoPair same_slot seats
         → list_any (is_named sid h) seats ≡ true
         → (j : ℕ) × (name_in j seats ≡ Some (sid, h)) }
 {}
@@ -129,12 +136,12 @@ pub fn names_after()
 /// Views by their places: the view of a slot that is handed out for a place, its own place again,
 /// and the views from a place on.
 pub fn views_at_places()
-    ensures slot { (views : List Seat) (i : ℕ) (v : ViewRef)
+    ensures slot { (views : List SlotView) (i : ℕ) (v : ViewRef)
         → slice_get (map view_ref views) i ≡ Some v
-        → (s : Seat) × (slice_get views i ≡ Some s) × (s.slot ≡ v.0) }
-    ensures place { (views : List Seat) (i : ℕ) (s : Seat)
+        → (s : SlotView) × (slice_get views i ≡ Some s) × (s.slot ≡ v.0) }
+    ensures place { (views : List SlotView) (i : ℕ) (s : SlotView)
         → NoPair same_slot views → slice_get views i ≡ Some s
         → place_of s.slot views ≡ i }
-    ensures rest { (views : List Seat) (i : ℕ) (s : Seat) → slice_get views i ≡ Some s
+    ensures rest { (views : List SlotView) (i : ℕ) (s : SlotView) → slice_get views i ≡ Some s
         → drop i views ≡ s ∷ drop (i + 1) views }
 {}

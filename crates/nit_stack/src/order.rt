@@ -4,8 +4,8 @@ ghost use Rattle.std.specs.Prelude.{◌≡◌, ℕ, ◌<◌, ◌≤◌, ◌==◌
 ghost use Rattle.std.specs.List.{insert, position_or_len};
 ghost use Rattle.nit_rect.specs.Rectangle.{covers};
 ghost use Rattle.nit_stack.specs.Orders.{put_above, put_back, without};
-ghost use Rattle.nit_stack.specs.Standing.{put_own_front, put_own_back};
-ghost use Rattle.nit_stack.specs.Slots.{IsKept, seat, layer_in};
+ghost use Rattle.nit_stack.specs.Stack.{put_own_front, put_own_back};
+ghost use Rattle.nit_stack.specs.StackFields.{HasLayer, slot_view, layer_in};
 
 use crate::view::{View, ViewRef};
 use nit_rect::Point;
@@ -14,7 +14,7 @@ use nit_rect::Point;
 pub(crate) fn covering(order: &[u32], slots: &[View], p: Point) -> Option<ViewRef>
     requires { All (λ k. k < length slots.now) order.now }
     ensures { result ≡ option_map (λ k. record { 0 = k })
-        (find (λ k. covers (seat slots.now k).view.rect p) order.now) }
+        (find (λ k. covers (slot_view slots.now k).view.rect p) order.now) }
 {
     for k in order {
         if slots[*k as usize].rect.covers(p) {
@@ -49,15 +49,16 @@ pub(crate) fn place_of(order: &[u32], slot: u32) -> usize
 
 /// The layer of the session of the view in a slot.
 fn layer_at(slots: &[View], layers: &[u32], slot: u32) -> u32
-    requires { IsKept slots.now layers.now slot }
+    requires { HasLayer slots.now layers.now slot }
     ensures { result ≡ layer_in slots.now layers.now slot }
 {
     layers[slots[slot as usize].sid as usize]
 }
 
-/// The place of the first slot of this layer or of a layer behind. The number of slots where there is none.
+/// The place of the first slot of this layer or of a layer behind. The number of slots where there
+/// is none.
 fn front_place(order: &[u32], slots: &[View], layers: &[u32], layer: u32) -> usize
-    requires { All (IsKept slots.now layers.now) order.now }
+    requires { All (HasLayer slots.now layers.now) order.now }
     ensures place { result
         ≡ position_or_len (λ k. nat_le layer (layer_in slots.now layers.now k)) order.now }
     ensures within { result ≤ length order.now }
@@ -70,9 +71,10 @@ fn front_place(order: &[u32], slots: &[View], layers: &[u32], layer: u32) -> usi
     order.len()
 }
 
-/// The place behind the last slot of this layer or of a layer in front. The first place where there is none.
+/// The place behind the last slot of this layer or of a layer in front. The first place where there
+/// is none.
 fn back_place(order: &[u32], slots: &[View], layers: &[u32], layer: u32) -> usize
-    requires { All (IsKept slots.now layers.now) order.now }
+    requires { All (HasLayer slots.now layers.now) order.now }
     ensures place { (v : ℕ) → insert order.now result v
         ≡ put_back (layer_in slots.now layers.now) layer v order.now }
     ensures within { result ≤ length order.now }
@@ -93,10 +95,11 @@ pub(crate) fn take_out(order: &mut Vec<u32>, slot: u32)
     order.retain(|k| *k != slot);
 }
 
-/// Puts a slot in, in front of all slots of its layer and of the layers behind, within the room that there is.
+/// Puts a slot in, in front of all slots of its layer and of the layers behind, within the room
+/// that there is.
 pub(crate) fn put_in_front(order: &mut Vec<u32>, slots: &[View], layers: &[u32], slot: u32)
-    requires kept { All (IsKept slots.now layers.now) order.old.items }
-    requires slot { IsKept slots.now layers.now slot }
+    requires kept { All (HasLayer slots.now layers.now) order.old.items }
+    requires slot { HasLayer slots.now layers.now slot }
     requires room { vec_len order.old < vec_capacity order.old }
     ensures items { order.new.items
         ≡ put_own_front (layer_in slots.now layers.now) slot order.old.items }
@@ -107,10 +110,11 @@ pub(crate) fn put_in_front(order: &mut Vec<u32>, slots: &[View], layers: &[u32],
     put_in(order, place, slot);
 }
 
-/// Puts a slot in, behind all slots of its layer and of the layers in front, within the room that there is.
+/// Puts a slot in, behind all slots of its layer and of the layers in front, within the room that
+/// there is.
 pub(crate) fn put_in_back(order: &mut Vec<u32>, slots: &[View], layers: &[u32], slot: u32)
-    requires kept { All (IsKept slots.now layers.now) order.old.items }
-    requires slot { IsKept slots.now layers.now slot }
+    requires kept { All (HasLayer slots.now layers.now) order.old.items }
+    requires slot { HasLayer slots.now layers.now slot }
     requires room { vec_len order.old < vec_capacity order.old }
     ensures items { order.new.items
         ≡ put_own_back (layer_in slots.now layers.now) slot order.old.items }

@@ -8,7 +8,8 @@ ghost use Rattle.nit_rect.specs.Limits.{most_side};
 use crate::view::View;
 use nit_rect::Point;
 
-/// The index of the word that the view shows at a pixel of the screen, where its session's buffer is
+/// The index of the word that the view shows at a pixel of the screen, where its session's buffer
+/// is
 /// `w` by `h` and reaches so far.
 pub fn shown_index(view: &View, w: u32, h: u32, p: Point) -> Option<u32>
     requires size { (w ≤ most_side) × (h ≤ most_side) }

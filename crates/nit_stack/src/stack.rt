@@ -6,9 +6,9 @@ ghost use Rattle.nit_rect.specs.Rectangle.{IsPlace};
 ghost use Rattle.nit_rect.specs.Screen.{IsOnScreen};
 ghost use Rattle.nit_stack.specs.Sources.{source};
 ghost use Rattle.nit_stack.specs.Orders.{changed, moved, put_front, without};
-ghost use Rattle.nit_stack.specs.Standing.{IsStanding, IsBar, IsInRange, IsScreen, fresh, fresh_in, has, is_named, is_of_session, is_slot, layer_of, moved_above, on_view, opened, place_of, put_own_front, put_own_back, seat_in, seat_layer, size_of, slot_layer, view_ref, with_offset, with_rect, with_title, seat_owner};
-ghost use Rattle.nit_stack.specs.Names.{views_of};
-ghost use Rattle.nit_stack.specs.Answers.{IfWord, pixel_source, session_of, source_owner, word_count};
+ghost use Rattle.nit_stack.specs.Stack.{IsStack, IsBar, IsRectInRange, IsScreenSize, fresh, fresh_in, has_slot, is_named, is_of_session, is_slot, layer_of, moved_above, on_view, empty_stack, place_of, put_own_front, put_own_back, slot_view_in, slot_view_layer, size_of, slot_layer, view_ref, with_offset, with_rect, with_title, seat_owner};
+ghost use Rattle.nit_stack.specs.ViewNames.{views_of};
+ghost use Rattle.nit_stack.specs.SourceAnswers.{IfWord, pixel_source, session_of, source_owner, word_count};
 ghost use Rattle.nit_rect.specs.Limits.{most_sessions, most_slots, most_side};
 
 use crate::order::{covering, place_of, put_in_above, put_in_back, put_in_front, ref_at, take_out};
@@ -19,8 +19,8 @@ use nit_rect::{NoMemory, Point, Rect};
 use std::alloc::Global;
 use std::marker::Model;
 
-/// The one ordered stack of all views of all sessions, front first, with each session's buffer size and layer,
-/// the screen's size and the number of bar rows.
+/// The one ordered stack of all views of all sessions, front first, with each session's buffer size
+/// and layer, the screen's size and the number of bar rows.
 #[derive(Debug, Drop)]
 pub struct Stack {
     order: Vec<u32>,
@@ -34,24 +34,24 @@ pub struct Stack {
 
 impl Model for Stack {
     ghost use Rattle.std.specs.Prelude.{◌≤◌, length, vec_capacity};
-    ghost use Rattle.nit_stack.specs.Standing.{Standing, IsStanding};
-    ghost use Rattle.nit_stack.specs.Slots.{standing};
+    ghost use Rattle.nit_stack.specs.Stack.{StackModel, IsStack};
+    ghost use Rattle.nit_stack.specs.StackFields.{stack_model};
 
-    ghost Value = { Standing };
+    ghost Value = { StackModel };
 
-    ghost view = { λ s. standing s.order.items s.slots.items s.sizes.items s.layers.items
+    ghost view = { λ s. stack_model s.order.items s.slots.items s.sizes.items s.layers.items
         s.width s.height s.bar };
 
     ghost invariant = { λ s. record {
-      standing : IsStanding (standing s.order.items s.slots.items s.sizes.items s.layers.items
+      standing : IsStack (stack_model s.order.items s.slots.items s.sizes.items s.layers.items
           s.width s.height s.bar);
       space : length s.slots.items ≤ vec_capacity s.order;
     } };
 }
 
 impl Stack {
-    /// A stack of no view, with room for `most`, on a screen of `width` by `height` without a bar. No session has
-    /// a buffer yet, and all have layer 0.
+    /// A stack of no view, with room for `most`, on a screen of `width` by `height` without a bar.
+    /// No session has a buffer yet, and all have layer 0.
     pub fn new(
         alloc: Global,
         width: u32,
@@ -59,10 +59,10 @@ impl Stack {
         sessions: u32,
         most: u32,
     ) -> Result<Stack, NoMemory>
-        requires screen { IsScreen width height }
+        requires screen { IsScreenSize width height }
         requires sessions { (1 ≤ sessions) × (sessions ≤ most_sessions) }
         requires most { most ≤ most_slots }
-        ensures { IfOk result (λ s. s ≡ opened width height sessions most) }
+        ensures { IfOk result (λ s. s ≡ empty_stack width height sessions most) }
     {
         let order = Vec::with_capacity(alloc, most as usize)?;
         let slots = vec![in alloc; fresh(0, 0); most as usize]?;
@@ -109,15 +109,16 @@ impl Stack {
         self.sizes[sid as usize] = (w, h);
     }
 
-    /// A new view of a session in a free slot. It stands in front of all views of the session's layer and of the
-    /// layers behind. Its rectangle is empty and at (0, 0), its offset (0, 0), its title empty.
+    /// A new view of a session in a free slot. It stands in front of all views of the session's
+    /// layer and of the layers behind. Its rectangle is empty and at (0, 0), its offset (0, 0), its
+    /// title empty.
     pub fn push_front(&mut self, v: ViewRef, sid: u32, handle: u32)
         requires slot { v.0 < self.old.most }
-        requires free { has v.0 self.old.views ≡ false }
+        requires free { has_slot v.0 self.old.views ≡ false }
         requires session { sid < length self.old.sizes }
         requires named { list_any (is_named sid handle) self.old.views ≡ false }
         ensures { self.new ≡ record self.old {
-          views = put_front (seat_layer self.old.layers) (layer_of self.old.layers sid)
+          views = put_front (slot_view_layer self.old.layers) (layer_of self.old.layers sid)
               (fresh_in v.0 sid handle) self.old.views;
         } }
     {
@@ -132,7 +133,7 @@ impl Stack {
 
     /// Takes a view out. Its slot is free then.
     pub fn remove(&mut self, v: ViewRef)
-        requires { has v.0 self.old.views ≡ true }
+        requires { has_slot v.0 self.old.views ≡ true }
         ensures { self.new ≡ record self.old { views = without (is_slot v.0) self.old.views } }
     {
         take_out(&mut self.order, v.0);
@@ -140,9 +141,10 @@ impl Stack {
 
     /// Moves a view in front of all views of its session's layer and of the layers behind.
     pub fn front(&mut self, v: ViewRef)
-        requires { has v.0 self.old.views ≡ true }
+        requires { has_slot v.0 self.old.views ≡ true }
         ensures { self.new ≡ record self.old {
-          views = moved (is_slot v.0) (put_own_front (seat_layer self.old.layers)) self.old.views;
+          views = moved (is_slot v.0)
+              (put_own_front (slot_view_layer self.old.layers)) self.old.views;
         } }
     {
         take_out(&mut self.order, v.0);
@@ -156,9 +158,10 @@ impl Stack {
 
     /// Moves a view behind all views of its session's layer and of the layers in front.
     pub fn back(&mut self, v: ViewRef)
-        requires { has v.0 self.old.views ≡ true }
+        requires { has_slot v.0 self.old.views ≡ true }
         ensures { self.new ≡ record self.old {
-          views = moved (is_slot v.0) (put_own_back (seat_layer self.old.layers)) self.old.views;
+          views = moved (is_slot v.0)
+              (put_own_back (slot_view_layer self.old.layers)) self.old.views;
         } }
     {
         take_out(&mut self.order, v.0);
@@ -170,11 +173,11 @@ impl Stack {
         );
     }
 
-    /// Moves the view `v` directly in front of `n`, whose session has the same layer. Nothing changes where the
-    /// two are one.
+    /// Moves the view `v` directly in front of `n`, whose session has the same layer. Nothing
+    /// changes where the two are one.
     pub fn above(&mut self, v: ViewRef, n: ViewRef)
-        requires moved { has v.0 self.old.views ≡ true }
-        requires behind { has n.0 self.old.views ≡ true }
+        requires moved { has_slot v.0 self.old.views ≡ true }
+        requires behind { has_slot n.0 self.old.views ≡ true }
         requires layer { slot_layer self.old v.0 ≡ slot_layer self.old n.0 }
         ensures { self.new ≡ record self.old { views = moved_above v.0 n.0 self.old.views } }
     {
@@ -187,7 +190,7 @@ impl Stack {
 
     /// Gives a view a rectangle. It keeps its place in the stack.
     pub fn place(&mut self, v: ViewRef, r: Rect)
-        requires { has v.0 self.old.views ≡ true }
+        requires { has_slot v.0 self.old.views ≡ true }
         ensures { self.new ≡ record self.old {
           views = changed (is_slot v.0) (on_view (with_rect r)) self.old.views;
         } }
@@ -198,7 +201,7 @@ impl Stack {
 
     /// Gives a view an offset, -32768..=32767 each way.
     pub fn offset(&mut self, v: ViewRef, ox: i32, oy: i32)
-        requires view { has v.0 self.old.views ≡ true }
+        requires view { has_slot v.0 self.old.views ≡ true }
         requires range { IsPlace ox × IsPlace oy }
         ensures { self.new ≡ record self.old {
           views = changed (is_slot v.0) (on_view (with_offset ox oy)) self.old.views;
@@ -211,7 +214,7 @@ impl Stack {
 
     /// Gives a view a title.
     pub fn title(&mut self, v: ViewRef, t: Title)
-        requires { has v.0 self.old.views ≡ true }
+        requires { has_slot v.0 self.old.views ≡ true }
         ensures { self.new ≡ record self.old {
           views = changed (is_slot v.0) (on_view (with_title t)) self.old.views;
         } }
@@ -223,7 +226,7 @@ impl Stack {
     pub fn len(&self) -> u32
         ensures count { result ≡ length self.now.views }
         ensures most { result ≤ self.now.most }
-        ensures standing { IsStanding self.now }
+        ensures standing { IsStack self.now }
     {
         self.order.len() as u32
     }
@@ -232,7 +235,7 @@ impl Stack {
     pub fn at(&self, i: u32) -> ViewRef
         requires { i < length self.now.views }
         ensures place { slice_get (map view_ref self.now.views) i ≡ Some result }
-        ensures stands { has result.0 self.now.views ≡ true }
+        ensures stands { has_slot result.0 self.now.views ≡ true }
     {
         ViewRef(self.order[i as usize])
     }
@@ -240,17 +243,17 @@ impl Stack {
     /// The front-most view. None exactly where there is no view.
     pub fn first(&self) -> Option<ViewRef>
         ensures place { result ≡ slice_get (map view_ref self.now.views) 0 }
-        ensures stands { IfSome result (λ v. has v.0 self.now.views ≡ true) }
+        ensures stands { IfSome result (λ v. has_slot v.0 self.now.views ≡ true) }
     {
         ref_at(self.order.as_slice(), 0)
     }
 
     /// The view directly behind `v`. None exactly where `v` is the last one.
     pub fn next(&self, v: ViewRef) -> Option<ViewRef>
-        requires { has v.0 self.now.views ≡ true }
+        requires { has_slot v.0 self.now.views ≡ true }
         ensures place { (i : ℕ) → slice_get (map view_ref self.now.views) i ≡ Some v
             → result ≡ slice_get (map view_ref self.now.views) (i + 1) }
-        ensures stands { IfSome result (λ n. has n.0 self.now.views ≡ true) }
+        ensures stands { IfSome result (λ n. has_slot n.0 self.now.views ≡ true) }
     {
         let place = place_of(self.order.as_slice(), v.0);
         ref_at(self.order.as_slice(), place + 1)
@@ -261,8 +264,8 @@ impl Stack {
     pub fn place_of(&self, v: ViewRef) -> u32
         ensures place { result ≡ place_of v.0 self.now.views }
         ensures within { result ≤ length self.now.views }
-        ensures stands { nat_lt result (length self.now.views) ≡ has v.0 self.now.views }
-        ensures view { has v.0 self.now.views ≡ true
+        ensures stands { nat_lt result (length self.now.views) ≡ has_slot v.0 self.now.views }
+        ensures view { has_slot v.0 self.now.views ≡ true
             → slice_get (map view_ref self.now.views) result ≡ Some v }
     {
         place_of(self.order.as_slice(), v.0) as u32
@@ -270,22 +273,24 @@ impl Stack {
 
     /// The rectangle of a view.
     pub fn rect(&self, v: ViewRef) -> Rect
-        requires { has v.0 self.now.views ≡ true }
-        ensures rect { option_map (λ s. s.view.rect) (seat_in v.0 self.now.views) ≡ Some result }
+        requires { has_slot v.0 self.now.views ≡ true }
+        ensures rect { option_map (λ s. s.view.rect) (slot_view_in v.0 self.now.views)
+            ≡ Some result }
         ensures place { (i : ℕ) → slice_get (map view_ref self.now.views) i ≡ Some v
             → option_map (λ s. s.view.rect) (slice_get self.now.views i) ≡ Some result }
-        ensures standing { IsStanding self.now }
+        ensures standing { IsStack self.now }
     {
         self.slots[v.0 as usize].rect
     }
 
     /// The record of a view.
     pub fn view(&self, v: ViewRef) -> View
-        requires { has v.0 self.now.views ≡ true }
-        ensures value { seat_in v.0 self.now.views ≡ Some (record { slot = v.0; view = result }) }
+        requires { has_slot v.0 self.now.views ≡ true }
+        ensures value { slot_view_in v.0 self.now.views
+            ≡ Some (record { slot = v.0; view = result }) }
         ensures place { (i : ℕ) → slice_get (map view_ref self.now.views) i ≡ Some v
             → slice_get self.now.views i ≡ Some (record { slot = v.0; view = result }) }
-        ensures standing { IsStanding self.now }
+        ensures standing { IsStack self.now }
     {
         self.slots[v.0 as usize]
     }
@@ -302,7 +307,7 @@ impl Stack {
     /// The screen's width and height.
     pub fn size(&self) -> (u32, u32)
         ensures size { result ≡ (self.now.width, self.now.height) }
-        ensures range { IsScreen result.0 result.1 }
+        ensures range { IsScreenSize result.0 result.1 }
     {
         (self.width, self.height)
     }
@@ -315,11 +320,12 @@ impl Stack {
         self.bar
     }
 
-    /// The front-most view that covers the pixel. None exactly where no view covers it or it lies in the bar.
+    /// The front-most view that covers the pixel. None exactly where no view covers it or it lies
+    /// in the bar.
     pub fn owner(&self, p: Point) -> Option<ViewRef>
         ensures owner { result ≡ option_map view_ref (seat_owner self.now.bar self.now.views p) }
-        ensures stands { IfSome result (λ v. has v.0 self.now.views ≡ true) }
-        ensures standing { IsStanding self.now }
+        ensures stands { IfSome result (λ v. has_slot v.0 self.now.views ≡ true) }
+        ensures standing { IsStack self.now }
     {
         if p.y < self.bar as i32 {
             return None;
@@ -336,8 +342,8 @@ impl Stack {
             ≡ option_map view_ref (seat_owner self.now.bar self.now.views p) }
         ensures within { IfWord result
             (λ v i. i < word_count (size_of self.now.sizes (session_of self.now.views v.0))) }
-        ensures stands { IfSome (source_owner result) (λ v. has v.0 self.now.views ≡ true) }
-        ensures standing { IsStanding self.now }
+        ensures stands { IfSome (source_owner result) (λ v. has_slot v.0 self.now.views ≡ true) }
+        ensures standing { IsStack self.now }
     {
         let Some(v) = self.owner(p) else {
             return Source::Bare;
@@ -373,7 +379,7 @@ fn fresh(sid: u32, handle: u32) -> View
 
 /// The numbers of every rectangle are in their range.
 fn in_range(r: Rect)
-    ensures { IsInRange r }
+    ensures { IsRectInRange r }
 {
     let _place = (r.x(), r.y());
     let _lengths = (r.w(), r.h());

@@ -8,7 +8,7 @@ use Rattle.std.specs.Prelude.{nat_lt}
 use Rattle.std.proofs.lemmas.List.Sums.{prefix_len_passes}
 use Rattle.std.proofs.lemmas.Bool.Decides.{nat_tests}
 use Rattle.std.proofs.lemmas.List.Quantifiers.{position-Some}
-use Rattle.nit_store.specs.Shown.{File}
+use Rattle.nit_store.specs.Store.{File}
 use Rattle.nit_store.specs.Files.{files_of, with_file}
 use Rattle.nit_store.proofs.NamedFiles.{is_name}
 use Rattle.std.proofs.lemmas.Bool.{not-true}

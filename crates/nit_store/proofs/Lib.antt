@@ -2,5 +2,5 @@ pub mod NamedFiles
 pub mod FileLists
 pub mod SaidLines
 pub mod CallEffects
-pub mod Puts
+pub mod PutLemmas
 pub mod ForCallers

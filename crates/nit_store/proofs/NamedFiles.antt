@@ -3,7 +3,7 @@ use Rattle.std.proofs.Common.{◌≡◌, ◌≢◌, ℕ, List, [], ◌∷◌, Op
 use Rattle.std.specs.Prelude.{is_none}
 use Rattle.std.specs.Str.{bytes_eq}
 use Rattle.std.proofs.lemmas.Slice.Eq.{bytes_eq-Decides}
-use Rattle.nit_store.specs.Shown.{File, file_at, IsPut, PutIn}
+use Rattle.nit_store.specs.Store.{File, file_at, IsPut, PutIn}
 use Rattle.nit_store.specs.Files.{have_different_names, HasDifferentNames, with_file}
 
 pub is_name : (a name : List ℕ) → bytes_eq a name ≡ true → a ≡ name

@@ -2,7 +2,7 @@
 use Rattle.std.specs.Prelude.{ℕ, Bool, true, ◌&&◌, IsTrue, List, [], ◌∷◌, map, is_none, Vec, String, string_bytes, if◌then◌else◌}
 use Rattle.std.specs.Global.{Global}
 use Rattle.std.specs.Str.{bytes_eq}
-use Rattle.nit_store.specs.Shown.{File, file_at}
+use Rattle.nit_store.specs.Store.{File, file_at}
 
 -- files as lists of bytes
 abbrev pub files_of : List (String Global × Vec ℕ Global) → List File

@@ -1,5 +1,5 @@
-pub mod Shown
-pub mod Answers
+pub mod Store
+pub mod StoreAnswers
 pub mod Puts
 pub mod Files
 pub mod MemoryStore

@@ -1,11 +1,11 @@
 -- A store in memory, of which chosen calls fail.
 use Rattle.std.specs.Prelude.{◌≡◌, ℕ, ◌+◌, ◌⊎◌, List, [], Some, None, Contains}
-use Rattle.nit_store.specs.Shown.{File, Shown, one_more, file_at}
+use Rattle.nit_store.specs.Store.{File, StoreModel, one_more, file_at}
 
--- its files, what was said, which names were asked for, how often reads and how often writes failed,
--- how many calls were made (each count up to the last value of a counter), and the numbers of the
--- calls that are to fail
-pub record Memory : Type 0 where
+-- its files, what was said, which names were asked for, how often reads and how often writes
+-- failed, how many calls were made (each count up to the last value of a counter), and the numbers
+-- of the calls that are to fail
+pub record MemoryStoreModel : Type 0 where
   pub files : List File
   pub said : List ℕ
   pub asked : List (List ℕ)
@@ -15,8 +15,8 @@ pub record Memory : Type 0 where
   pub failing : List ℕ
 
 -- with these files and these calls to fail, before its first call
-abbrev pub fresh_memory : List File → List ℕ → Memory
-fresh_memory files failing = record {
+abbrev pub fresh_memory_store : List File → List ℕ → MemoryStoreModel
+fresh_memory_store files failing = record {
   files = files;
   said = [];
   asked = [];
@@ -27,8 +27,8 @@ fresh_memory files failing = record {
 }
 
 -- it tells everything
-abbrev pub memory_shown : Memory → Shown
-memory_shown m = record {
+abbrev pub memory_store_shown : MemoryStoreModel → StoreModel
+memory_store_shown m = record {
   read_faults = m.read_faults;
   write_faults = m.write_faults;
   files = Some m.files;
@@ -38,14 +38,14 @@ memory_shown m = record {
 
 -- the next call is one of those that are to fail; a call behind the last value of a counter is not,
 -- since no number in the list is greater
-abbrev pub FailsNext : Memory → Type 0
+abbrev pub FailsNext : MemoryStoreModel → Type 0
 FailsNext m = Contains m.failing (m.calls + 1)
 
 -- the next call is a read of this name that fails: it is to fail, or the name is not there
-abbrev pub FailsToRead : Memory → List ℕ → Type 0
+abbrev pub FailsToRead : MemoryStoreModel → List ℕ → Type 0
 FailsToRead m name = FailsNext m ⊎ (file_at name m.files ≡ None)
 
 -- one call more was made, and the same calls are to fail
-pub record CountsCall (old new : Memory) : Type 0 where
+pub record CountsCall (old new : MemoryStoreModel) : Type 0 where
   pub calls : new.calls ≡ one_more old.calls
   pub failing : new.failing ≡ old.failing

@@ -10,8 +10,8 @@ use std::marker::Model;
 use std::rt::Files;
 use std::{fs, io};
 
-/// The files of the current folder and the standard output. It tells nothing but how often reads and
-/// how often writes failed; each count stays at 2^64 - 1 once it is there.
+/// The files of the current folder and the standard output. It tells nothing but how often reads
+/// and how often writes failed; each count stays at 2^64 - 1 once it is there.
 #[derive(Drop)]
 pub struct DiskStore<'a, R: Files + Print> {
     rt: &'a R,
@@ -21,9 +21,9 @@ pub struct DiskStore<'a, R: Files + Print> {
 }
 
 impl<'a, R: Files + Print> Model for DiskStore<'a, R> {
-    ghost use Rattle.nit_store.specs.DiskStore.{Faults};
+    ghost use Rattle.nit_store.specs.DiskStore.{DiskStoreModel};
 
-    ghost Value = { Faults };
+    ghost Value = { DiskStoreModel };
 
     ghost view = { λ d. record { reads = d.read_faults; writes = d.write_faults } };
 }
@@ -105,9 +105,9 @@ fn put_file<R: Files>(rt: &R, alloc: Global, name: &str, bytes: &[u8]) -> io::Re
 }
 
 impl<'a, R: Files + Print> Store for DiskStore<'a, R> {
-    ghost use Rattle.nit_store.specs.DiskStore.{disk_shown};
+    ghost use Rattle.nit_store.specs.DiskStore.{disk_store_shown};
 
-    ghost shown = { disk_shown };
+    ghost shown = { disk_store_shown };
 
     fn read(&mut self, name: &str, max: usize) -> Result<Vec<u8>, ReadError> {
         match read_file(self.rt, self.alloc, name, max) {

@@ -4,7 +4,7 @@ ghost use Rattle.std.specs.Prelude.{◌≡◌, IfOk, OnOk, OnErr, string_bytes};
 ghost use Rattle.std.specs.Str.{bytes_eq};
 ghost use Rattle.std.specs.List.{position};
 ghost use Rattle.std.specs.Option.{option_copied};
-ghost use Rattle.nit_store.specs.Shown.{file_at};
+ghost use Rattle.nit_store.specs.Store.{file_at};
 ghost use Rattle.nit_store.specs.Files.{files_of, have_different_names, HasDifferentNames, with_file};
 
 use std::alloc::{AllocError, Global};
@@ -25,7 +25,7 @@ pub(crate) struct FileList {
 
 impl Model for FileList {
     ghost use Rattle.std.specs.Prelude.{List};
-    ghost use Rattle.nit_store.specs.Shown.{File};
+    ghost use Rattle.nit_store.specs.Store.{File};
     ghost use Rattle.nit_store.specs.Files.{files_of, HasDifferentNames};
 
     ghost Value = { List File };

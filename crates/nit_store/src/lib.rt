@@ -2,11 +2,11 @@
 //!
 //! A [`Store`] has two counts of failures, one of reads and one of puts and sayings. It answers
 //! `Failed` only where the count of that kind rose in the call, and nothing else raises a count. A
-//! store may also tell its files, what was said and which names were asked for; then each answer says
-//! what became of them.
+//! store may also tell its files, what was said and which names were asked for; then each answer
+//! says what became of them.
 //!
-//! [`MemoryStore`] fails at chosen calls, [`NeverFails`] at none, and [`DiskStore`] is the real files
-//! and the standard output.
+//! [`MemoryStore`] fails at chosen calls, [`NeverFails`] at none, and [`DiskStore`] is the real
+//! files and the standard output.
 #![tactic(auto)]
 
 mod disk_store;

@@ -2,7 +2,7 @@
 
 ghost use Rattle.std.specs.Prelude.{◌≡◌, ◌≢◌, ◌+◌, ◌≤◌, ◌↔◌, ◌⊎◌, [], ◌∷◌, ◌++◌};
 ghost use Rattle.std.specs.Prelude.{IsTrue, IsErr, OnOk, OnErr, IsErrOf, IfOk, Contains};
-ghost use Rattle.nit_store.specs.Shown.{one_more};
+ghost use Rattle.nit_store.specs.Store.{one_more};
 ghost use Rattle.nit_store.specs.Files.{files_of, names_of, HasDifferentNames};
 
 use crate::files::{FileList, copy_of};
@@ -11,8 +11,8 @@ use std::alloc::{AllocError, Global};
 use std::marker::Model;
 
 /// Files, what was said and which names were asked for, in memory. Calls of `read`, `put` and `say`
-/// are counted together from 1. The calls with chosen numbers fail, and so does a read of a name that
-/// is not there, and no others. The counts stay at 2^64 - 1 once they are there.
+/// are counted together from 1. The calls with chosen numbers fail, and so does a read of a name
+/// that is not there, and no others. The counts stay at 2^64 - 1 once they are there.
 #[derive(Drop)]
 pub struct MemoryStore {
     alloc: Global,
@@ -26,10 +26,10 @@ pub struct MemoryStore {
 }
 
 impl Model for MemoryStore {
-    ghost use Rattle.nit_store.specs.MemoryStore.{Memory};
+    ghost use Rattle.nit_store.specs.MemoryStore.{MemoryStoreModel};
     ghost use Rattle.nit_store.specs.Files.{names_of};
 
-    ghost Value = { Memory };
+    ghost Value = { MemoryStoreModel };
 
     ghost view = { λ m. record {
       files = m.files;
@@ -43,13 +43,13 @@ impl Model for MemoryStore {
 }
 
 impl MemoryStore {
-    ghost use Rattle.nit_store.specs.MemoryStore.{fresh_memory, FailsNext, CountsCall};
+    ghost use Rattle.nit_store.specs.MemoryStore.{fresh_memory_store, FailsNext, CountsCall};
 
     /// A store with these files, of which no call was made yet. The calls with the numbers in
     /// `failing` are to fail, the first call having the number 1. It takes no memory.
     pub fn new(alloc: Global, files: Vec<(String, Vec<u8>)>, failing: Vec<u64>) -> MemoryStore
         requires { HasDifferentNames (files_of files.items) }
-        ensures { result ≡ fresh_memory (files_of files.items) failing.items }
+        ensures { result ≡ fresh_memory_store (files_of files.items) failing.items }
     {
         MemoryStore {
             alloc,
@@ -95,8 +95,8 @@ impl MemoryStore {
         fails
     }
 
-    /// Counts a call on a name, adds the name to those that were asked for, and says whether the call
-    /// is one that fails.
+    /// Counts a call on a name, adds the name to those that were asked for, and says whether the
+    /// call is one that fails.
     fn count_asking(&mut self, name: &str) -> Result<bool, AllocError>
         ensures fails { IfOk result (λ fails. IsTrue fails ↔ FailsNext self.old) }
         ensures ok { OnOk result (self.new ≡ record self.old {
@@ -144,16 +144,16 @@ fn is_next_of(numbers: &[u64], made: u64) -> bool
 }
 
 impl Store for MemoryStore {
-    ghost use Rattle.nit_store.specs.MemoryStore.{memory_shown, FailsNext, FailsToRead, CountsCall};
+    ghost use Rattle.nit_store.specs.MemoryStore.{memory_store_shown, FailsNext, FailsToRead, CountsCall};
     ghost use Rattle.nit_store.specs.Files.{with_file};
-    ghost use Rattle.nit_store.specs.Answers.{AfterRead, AfterPut, AfterSay};
+    ghost use Rattle.nit_store.specs.StoreAnswers.{AfterRead, AfterPut, AfterSay};
 
-    ghost shown = { memory_shown };
+    ghost shown = { memory_store_shown };
 
     /// As in the trait. It fails exactly where the call is to fail or the name is not there, unless
     /// there is no memory to keep the name that was asked for.
     fn read(&mut self, name: &str, max: usize) -> Result<Vec<u8>, ReadError>
-        ensures answer { AfterRead (memory_shown self.old) name.now max (memory_shown self.new)
+        ensures answer { AfterRead (memory_store_shown self.old) name.now max (memory_store_shown self.new)
             result }
         ensures counted { CountsCall self.old self.new }
         ensures fails { FailsToRead self.old name.now →
@@ -173,12 +173,12 @@ impl Store for MemoryStore {
         Ok(copy_of(self.alloc, bytes)?)
     }
 
-    /// As in the trait. It fails exactly where the call is to fail, unless there is no memory to keep
-    /// the name that was asked for. A new name becomes the last file.
+    /// As in the trait. It fails exactly where the call is to fail, unless there is no memory to
+    /// keep the name that was asked for. A new name becomes the last file.
     #[tactic(auto, using(crate::proofs::NamedFiles::put_in))]
     fn put(&mut self, name: &str, bytes: &[u8]) -> Result<(), PutError>
-        ensures answer { AfterPut (memory_shown self.old) name.now bytes.now
-            (memory_shown self.new) result }
+        ensures answer { AfterPut (memory_store_shown self.old) name.now bytes.now
+            (memory_store_shown self.new) result }
         ensures counted { CountsCall self.old self.new }
         ensures fails { FailsNext self.old → IsErr result }
         ensures fails_only { IsErrOf result PutError.Failed → FailsNext self.old }
@@ -197,7 +197,8 @@ impl Store for MemoryStore {
     /// As in the trait. It fails exactly where the call is to fail.
     fn say(&mut self, bytes: &[u8]) -> Result<(), PutError>
         requires { bytes.now ≢ [] }
-        ensures answer { AfterSay (memory_shown self.old) bytes.now (memory_shown self.new) result }
+        ensures answer { AfterSay (memory_store_shown self.old) bytes.now
+            (memory_store_shown self.new) result }
         ensures counted { CountsCall self.old self.new }
         ensures fails { IsErrOf result PutError.Failed ↔ FailsNext self.old }
         ensures adds_one { IsErrOf result PutError.Failed →

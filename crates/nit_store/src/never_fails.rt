@@ -18,9 +18,9 @@ pub struct NeverFails {
 }
 
 impl Model for NeverFails {
-    ghost use Rattle.nit_store.specs.NeverFails.{Shelf};
+    ghost use Rattle.nit_store.specs.NeverFails.{NeverFailsModel};
 
-    ghost Value = { Shelf };
+    ghost Value = { NeverFailsModel };
 
     ghost view = { λ s. record { files = s.files; said = s.said.items } };
 }
@@ -55,11 +55,11 @@ impl NeverFails {
 }
 
 impl Store for NeverFails {
-    ghost use Rattle.nit_store.specs.NeverFails.{shelf_shown};
+    ghost use Rattle.nit_store.specs.NeverFails.{never_fails_shown};
     ghost use Rattle.nit_store.specs.Files.{with_file};
-    ghost use Rattle.nit_store.specs.Answers.{AfterRead, AfterPut, AfterSay};
+    ghost use Rattle.nit_store.specs.StoreAnswers.{AfterRead, AfterPut, AfterSay};
 
-    ghost shown = { shelf_shown };
+    ghost shown = { never_fails_shown };
 
     fn read(&mut self, name: &str, max: usize) -> Result<Vec<u8>, ReadError> {
         let Some(bytes) = self.files.get(name) else {
@@ -74,8 +74,8 @@ impl Store for NeverFails {
     /// As in the trait. A new name becomes the last file.
     #[tactic(auto, using(crate::proofs::NamedFiles::put_in))]
     fn put(&mut self, name: &str, bytes: &[u8]) -> Result<(), PutError>
-        ensures answer { AfterPut (shelf_shown self.old) name.now bytes.now
-            (shelf_shown self.new) result }
+        ensures answer { AfterPut (never_fails_shown self.old) name.now bytes.now
+            (never_fails_shown self.new) result }
         ensures placed { OnOk result
             (self.new.files ≡ with_file name.now bytes.now self.old.files) }
     {

@@ -1,7 +1,7 @@
 //! The trait, and why a call is refused.
 
 ghost use Rattle.std.specs.Prelude.{◌≡◌, ◌≢◌, []};
-ghost use Rattle.nit_store.specs.Shown.{Shown};
+ghost use Rattle.nit_store.specs.Store.{StoreModel};
 
 use std::alloc::AllocError;
 
@@ -47,14 +47,14 @@ impl From<AllocError> for PutError {
 
 /// Where files are read and put, and text is said.
 pub trait Store {
-    ghost use Rattle.nit_store.specs.Answers.{AfterRead, AfterPut, AfterSay};
+    ghost use Rattle.nit_store.specs.StoreAnswers.{AfterRead, AfterPut, AfterSay};
 
-    /// The counts of failures, and where they are told the files, what was said and which names were
-    /// asked for.
-    ghost shown: { Self → Shown };
+    /// The counts of failures, and where they are told the files, what was said and which names
+    /// were asked for.
+    ghost shown: { Self → StoreModel };
 
-    /// The bytes of a file, of which there are at most `max`; the answer is `TooLong` where there are
-    /// more. A name that is not there has no bytes, or the read fails.
+    /// The bytes of a file, of which there are at most `max`; the answer is `TooLong` where there
+    /// are more. A name that is not there has no bytes, or the read fails.
     fn read(&mut self, name: &str, max: usize) -> Result<Vec<u8>, ReadError>
         ensures answer { AfterRead (shown self.old) name.now max (shown self.new) result };
 

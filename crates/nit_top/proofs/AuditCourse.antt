@@ -1,25 +1,25 @@
 -- What follows of a run that was begun, and that an audit begins none and puts nothing.
 use Rattle.std.proofs.Common.{◌≡◌, List, [], ◌∷◌, ◌++◌, Option, Some, None, refl, ap, subst, ◌∙◌, inl, inr, ◌⊎◌}
 use Rattle.nit_events.specs.declared.entry.Entry.{Entry}
-use Rattle.nit_store.specs.Shown.{Shown, File}
+use Rattle.nit_store.specs.Store.{StoreModel, File}
 use Rattle.nit_top.specs.Command.{Command, Still, Run, Gen, Audit, Capture, NoCommand}
 use Rattle.nit_top.specs.FilesRead.{IsSetupOf}
 use Rattle.nit_top.specs.Setup.{Setup}
-use Rattle.nit_top.specs.Course.{IsRun, Course, Begun, NotBegun, WithRun, WithoutRun, PutFiles, made_by}
+use Rattle.nit_top.specs.Course.{IsCommandRun, Course, Begun, NotBegun, WithRun, WithoutRun, PutFiles, made_by}
 use Rattle.nit_top.specs.Audited.{IsAudit, AuditOr}
 
 -- ---- the run
 
 -- what follows of a run
-pub with_run : {old : Shown} {c : Command} {journal : List Entry} (course : Course old c journal) (P Q : IsRun old c journal → Type 0) → ((run : IsRun old c journal) → P run → Q run) → WithRun course P → WithRun course Q
+pub with_run : {old : StoreModel} {c : Command} {journal : List Entry} (course : Course old c journal) (P Q : IsCommandRun old c journal → Type 0) → ((run : IsCommandRun old c journal) → P run → Q run) → WithRun course P → WithRun course Q
 with_run (Begun run) P Q f h = f run h
 with_run (NotBegun empty) P Q f h = h
 
-pub with_run_not : {old : Shown} {c : Command} {journal : List Entry} (course : Course old c journal) (P : IsRun old c journal → Type 0) → ((run : IsRun old c journal) → P run → ⊥) → WithRun course P → ⊥
+pub with_run_not : {old : StoreModel} {c : Command} {journal : List Entry} (course : Course old c journal) (P : IsCommandRun old c journal → Type 0) → ((run : IsCommandRun old c journal) → P run → ⊥) → WithRun course P → ⊥
 with_run_not (Begun run) P f h = f run h
 with_run_not (NotBegun empty) P f h = h
 
-pub without_run : {old : Shown} {c : Command} {journal : List Entry} (course : Course old c journal) → WithoutRun course → journal ≡ []
+pub without_run : {old : StoreModel} {c : Command} {journal : List Entry} (course : Course old c journal) → WithoutRun course → journal ≡ []
 without_run (Begun run) h = absurd h
 without_run (NotBegun empty) h = empty
 
@@ -42,10 +42,10 @@ runs_none (Gen number) s is of = is
 runs_none (Capture configuration region) s is of = is
 runs_none NoCommand s is of = is
 
-pub not_run : {old : Shown} {c : Command} {journal : List Entry} → IsRun old c journal → IsAudit c → ⊥
+pub not_run : {old : StoreModel} {c : Command} {journal : List Entry} → IsCommandRun old c journal → IsAudit c → ⊥
 not_run {c = c} run is = runs_none c run.setup is run.files_are.of_command
 
-pub empty_course : {old : Shown} {c : Command} {journal : List Entry} → IsAudit c → Course old c journal → journal ≡ []
+pub empty_course : {old : StoreModel} {c : Command} {journal : List Entry} → IsAudit c → Course old c journal → journal ≡ []
 empty_course is (Begun run) = absurd (not_run run is)
 empty_course is (NotBegun empty) = empty
 

@@ -2,7 +2,7 @@
 use Rattle.std.proofs.Common.{◌≡◌, ℕ, false, List, [], ◌∷◌, ◌++◌, Option, Some, None, refl, sym, ap, subst, ◌∙◌, inl, inr}
 use Rattle.std.specs.Prelude.{IfSome}
 use Rattle.nit_events.specs.declared.entry.Entry.{Entry}
-use Rattle.nit_store.specs.Shown.{Shown, File, bytes_of, asking}
+use Rattle.nit_store.specs.Store.{StoreModel, File, bytes_of, with_asked}
 use Rattle.nit_top.specs.declared.finish.End.{End}
 use Rattle.nit_top.specs.declared.finish.End.TheVariants as ends
 use Rattle.nit_top.specs.declared.finish.Fault.{Fault}
@@ -12,17 +12,17 @@ use Rattle.nit_top.specs.declared.finish.Worked.{Worked}
 use Rattle.nit_top.specs.Command.{Command, Audit, NoCommand, Run}
 use Rattle.nit_top.specs.Setup.{Setup}
 use Rattle.nit_top.specs.JournalFiles.{IsJournalText, IsNoJournalText, IsJournalFault}
-use Rattle.nit_top.specs.Judged.{AreSetup, IsValid, Judged, Refused, reads}
+use Rattle.nit_top.specs.Judgement.{AreSetup, IsValid, Judged, Refused, reads}
 use Rattle.nit_top.specs.FilesRead.{FilesRead, NoFile, FirstFiles, AllScripts, AllFiles, HasRead, AreAllFiles, AreAllScripts, names_read, next_name}
-use Rattle.nit_top.specs.Lines.{name_text}
+use Rattle.nit_top.specs.ProgramLines.{name_text}
 use Rattle.nit_top.specs.Course.{asked_also, Course, Begun, NotBegun, IsNotBegun, IsLastRead, IsMadeBefore, IsMadeInPart, IsMadeUpTo}
 use Rattle.nit_top.specs.Audited.{IsAuditEnd}
 use Rattle.nit_top.specs.Answer.{Came}
 use Rattle.nit_top.specs.Work.{Ends, StoppedAt, asking_all, line_on}
-use Rattle.nit_top.proofs.Asking.{asking_more}
+use Rattle.nit_top.proofs.AskedNames.{asking_more}
 use Rattle.nit_top.proofs.Scripts.{told_so, told_so_both}
 use Rattle.nit_top.proofs.CaptureEnds.{never_empty}
-use Rattle.nit_top.proofs.Ending.{CameTo, stopped_ends, totals_on, ends_by}
+use Rattle.nit_top.proofs.WorkLemmas.{CameTo, stopped_ends, totals_on, ends_by}
 
 module _ (name journal : List ℕ) where
   abbrev run : Command
@@ -66,7 +66,7 @@ module _ (name journal : List ℕ) where
 
   -- ---- before the journal
 
-  module _ (old : Shown) (files : Option (List File)) (asked : Option (List (List ℕ))) (entries : List Entry) (empty : entries ≡ []) where
+  module _ (old : StoreModel) (files : Option (List File)) (asked : Option (List (List ℕ))) (entries : List Entry) (empty : entries ≡ []) where
     abbrev from : Course old run entries
     from = NotBegun empty
 
@@ -125,16 +125,16 @@ module _ (name journal : List ℕ) where
     came_too (ends.Audited n) line h = absurd h.0.audit
 
   -- how far an audit came
-  record CameSo (old : Shown) (files : Option (List File)) (asked : Option (List (List ℕ))) (entries : List Entry) (end : End) (line : List ℕ) : Type 0 where
+  record CameSo (old : StoreModel) (files : Option (List File)) (asked : Option (List (List ℕ))) (entries : List Entry) (end : End) (line : List ℕ) : Type 0 where
     course : Course old audit entries
     came : Came course files asked end line
 
-  by_course : (old : Shown) (files : Option (List File)) (asked : Option (List (List ℕ))) (entries : List Entry) (end : End) (line : List ℕ) → entries ≡ [] → (course : Course old run entries) → Came course files asked end line → CameSo old files asked entries end line
+  by_course : (old : StoreModel) (files : Option (List File)) (asked : Option (List (List ℕ))) (entries : List Entry) (end : End) (line : List ℕ) → entries ≡ [] → (course : Course old run entries) → Came course files asked end line → CameSo old files asked entries end line
   by_course old files asked entries end line none (Begun r) came = absurd (never_empty r.setup entries r.headline.one_journal none)
   by_course old files asked entries end line none (NotBegun empty) came = record { course = NotBegun empty; came = came_too old files asked entries empty end line came }
 
   -- the work ended before the journal was read
-  pub ends_before : (old new : Shown) (w : Worked) → w.journal.items ≡ [] → Ends run old new w → Ends audit old new w
+  pub ends_before : (old new : StoreModel) (w : Worked) → w.journal.items ≡ [] → Ends run old new w → Ends audit old new w
   ends_before old new w none e =
       let so = by_course old new.files new.asked w.journal.items w.stop.end (line_on w) none e.course e.came in
       record { course = so.course; came = so.came; counts = e.counts; said = e.said }
@@ -152,9 +152,9 @@ module _ (name journal : List ℕ) where
   text_fault s bytes fault.TooLong r = absurd r
   text_fault s bytes fault.PhasesDiffer r = absurd r
 
-  module _ (old mid : Shown) (s : Setup) (asked : mid ≡ asking_all old (reads run s.config)) (all : AreAllFiles run old.files s) where
+  module _ (old mid : StoreModel) (s : Setup) (asked : mid ≡ asking_all old (reads run s.config)) (all : AreAllFiles run old.files s) where
     -- the journal has a fault, or was not read
-    fault_ends : (Faulty : List ℕ → Fault → Type 0) → ((bytes : List ℕ) (f : Fault) → Faulty bytes f → IsJournalFault s bytes f) → (new : Shown) (stop : Stop) (w : Worked)
+    fault_ends : (Faulty : List ℕ → Fault → Type 0) → ((bytes : List ℕ) (f : Fault) → Faulty bytes f → IsJournalFault s bytes f) → (new : StoreModel) (stop : Stop) (w : Worked)
         → name_text stop.name ≡ journal → StoppedAt Faulty mid journal new stop.end → w.stop ≡ stop → w.journal.items ≡ [] → Ends audit old new w
     fault_ends Faulty faulty new stop w is h at none =
         let scripts = scripts_too old.files s all in
@@ -162,17 +162,17 @@ module _ (name journal : List ℕ) where
         (λ f p. told_so_both (λ files. AreSetup name files s) (λ files. Faulty (bytes_of journal files) f) (λ files. Judged audit files (Refused journal f)) old.files (λ files a q. inr (refl, (s, a, faulty (bytes_of journal files) f q))) scripts.valid p)
         mid stop w asked is h at none
 
-    pub text_ends : (new : Shown) (stop : Stop) (w : Worked) → name_text stop.name ≡ journal → StoppedAt IsNoJournalText mid journal new stop.end → w.stop ≡ stop → w.journal.items ≡ [] → Ends audit old new w
+    pub text_ends : (new : StoreModel) (stop : Stop) (w : Worked) → name_text stop.name ≡ journal → StoppedAt IsNoJournalText mid journal new stop.end → w.stop ≡ stop → w.journal.items ≡ [] → Ends audit old new w
     text_ends new stop w is h at none = fault_ends IsNoJournalText (text_fault s) new stop w is h at none
 
     -- ---- at its entries
 
-    module _ (new : Shown) (read : new ≡ asking mid journal) (entries : List Entry) (text : IfSome mid.files (λ files. IsJournalText (bytes_of journal files) entries)) where
+    module _ (new : StoreModel) (read : new ≡ with_asked mid journal) (entries : List Entry) (text : IfSome mid.files (λ files. IsJournalText (bytes_of journal files) entries)) where
       text_here : IfSome old.files (λ files. IsJournalText (bytes_of journal files) entries)
-      text_here = subst (λ (t : Shown). IfSome t.files (λ files. IsJournalText (bytes_of journal files) entries)) asked text
+      text_here = subst (λ (t : StoreModel). IfSome t.files (λ files. IsJournalText (bytes_of journal files) entries)) asked text
 
       all_asked : new ≡ asking_all old (reads audit s.config)
-      all_asked = read ∙ ap (λ (t : Shown). asking t journal) asked ∙ asking_more old (reads run s.config) journal
+      all_asked = read ∙ ap (λ (t : StoreModel). with_asked t journal) asked ∙ asking_more old (reads run s.config) journal
 
       -- what an end of the audit is of its journal's file
       abbrev IsFound : List ℕ → Fault → Type 0
@@ -195,7 +195,7 @@ module _ (name journal : List ℕ) where
             came = (
               record {
                 none = tt;
-                same = ap (λ (t : Shown). t.files) all_asked;
+                same = ap (λ (t : StoreModel). t.files) all_asked;
                 audit = tt;
                 setup = s;
                 runnable = all.runnable;
@@ -203,12 +203,12 @@ module _ (name journal : List ℕ) where
                 counted = found.0;
                 of_a_run = found.1;
                 told = told_so_both (λ files. AreSetup name files s) (λ files. IsJournalText (bytes_of journal files) entries) (λ files. AreSetup name files s × IsJournalText (bytes_of journal files) entries) old.files (λ files a q. (a, q)) (scripts_too old.files s all).valid text_here;
-                asks = ap (λ (t : Shown). t.asked) all_asked;
+                asks = ap (λ (t : StoreModel). t.asked) all_asked;
               },
               refl,
             );
-            counts = (ap (λ (t : Shown). t.read_faults) all_asked, ap (λ (t : Shown). t.write_faults) all_asked);
-            said = ap (λ (t : Shown). t.said) all_asked;
+            counts = (ap (λ (t : StoreModel). t.read_faults) all_asked, ap (λ (t : StoreModel). t.write_faults) all_asked);
+            said = ap (λ (t : StoreModel). t.said) all_asked;
           } in
           let so : CameTo audit old new [] w.stop.end (name_text w.stop.name) (totals_on w) = subst (λ (e : End). CameTo audit old new [] e (name_text w.stop.name) (totals_on w)) (sym end) here in
           ends_by audit old new w (subst (λ (k : List Entry). CameTo audit old new k w.stop.end (name_text w.stop.name) (totals_on w)) (sym none) so)

@@ -3,22 +3,22 @@
 use Rattle.std.proofs.Common.{◌≡◌, ℕ, true, false, List, [], ◌∷◌, ◌++◌, Option, refl, sym, ap, ◌∙◌, inl, inr}
 use Rattle.nit_events.specs.declared.entry.Entry.{Entry}
 use Rattle.nit_events.specs.declared.entry.Entry.TheVariants as entry
-use Rattle.nit_store.specs.Shown.{Shown, File}
+use Rattle.nit_store.specs.Store.{StoreModel, File}
 use Rattle.nit_top.specs.declared.finish.End.{End}
 use Rattle.nit_top.specs.declared.finish.End.TheVariants as ends
 use Rattle.nit_top.specs.declared.finish.Worked.{Worked}
 use Rattle.nit_top.specs.declared.region.Region.{Region}
 use Rattle.nit_top.specs.Command.{Command, Capture, NoCommand, Run}
 use Rattle.nit_top.specs.Setup.{Setup}
-use Rattle.nit_top.specs.Judged.{reads}
+use Rattle.nit_top.specs.Judgement.{reads}
 use Rattle.nit_top.specs.FilesRead.{FilesRead, NoFile, FirstFiles, AllScripts, AllFiles, HasRead, AreAllFiles, names_read, next_name}
-use Rattle.nit_top.specs.Films.{film_name, film_of, is_outside_of, pictures_in}
+use Rattle.nit_top.specs.RunFilm.{film_name, film_of, is_outside_of, pictures_in}
 use Rattle.nit_top.specs.Course.{asked_also, Course, Begun, NotBegun, IsNotBegun, IsLastRead, IsMadeBefore, IsMadeInPart, IsMadeUpTo}
 use Rattle.nit_top.specs.Answer.{Came}
-use Rattle.nit_top.specs.Filmed.{PerformedFilmed}
+use Rattle.nit_top.specs.CaptureRun.{PerformedFilmed}
 use Rattle.nit_top.specs.Outputs.{IsJournal}
 use Rattle.nit_top.specs.Work.{Ends, asking_all, line_on}
-use Rattle.nit_top.proofs.Ending.{run_ends, unbegun_ends}
+use Rattle.nit_top.proofs.WorkLemmas.{run_ends, unbegun_ends}
 
 -- a run has entries
 pub never_empty : (s : Setup) (journal : List Entry) → IsJournal s journal → journal ≡ [] → ⊥
@@ -60,7 +60,7 @@ module _ (name : List ℕ) (region : Region) where
 
   -- ---- before a run
 
-  module _ (old : Shown) (files : Option (List File)) (asked : Option (List (List ℕ))) (journal : List Entry) (empty : journal ≡ []) where
+  module _ (old : StoreModel) (files : Option (List File)) (asked : Option (List (List ℕ))) (journal : List Entry) (empty : journal ≡ []) where
     abbrev from : Course old run journal
     from = NotBegun empty
 
@@ -119,23 +119,23 @@ module _ (name : List ℕ) (region : Region) where
     came_too (ends.Audited n) line h = absurd h.0.audit
 
   -- how far a command came that began no run
-  record CameSo (c : Command) (old : Shown) (files : Option (List File)) (asked : Option (List (List ℕ))) (journal : List Entry) (end : End) (line : List ℕ) : Type 0 where
+  record CameSo (c : Command) (old : StoreModel) (files : Option (List File)) (asked : Option (List (List ℕ))) (journal : List Entry) (end : End) (line : List ℕ) : Type 0 where
     course : Course old c journal
     came : Came course files asked end line
 
-  by_course : (old : Shown) (files : Option (List File)) (asked : Option (List (List ℕ))) (journal : List Entry) (end : End) (line : List ℕ) → journal ≡ [] → (course : Course old run journal) → Came course files asked end line → CameSo film old files asked journal end line
+  by_course : (old : StoreModel) (files : Option (List File)) (asked : Option (List (List ℕ))) (journal : List Entry) (end : End) (line : List ℕ) → journal ≡ [] → (course : Course old run journal) → Came course files asked end line → CameSo film old files asked journal end line
   by_course old files asked journal end line none (Begun r) came = absurd (never_empty r.setup journal r.headline.one_journal none)
   by_course old files asked journal end line none (NotBegun empty) came = record { course = NotBegun empty; came = came_too old files asked journal empty end line came }
 
   -- the work ended before a run
-  pub ends_too : (old new : Shown) (w : Worked) → w.journal.items ≡ [] → Ends run old new w → Ends film old new w
+  pub ends_too : (old new : StoreModel) (w : Worked) → w.journal.items ≡ [] → Ends run old new w → Ends film old new w
   ends_too old new w none e =
       let so = by_course old new.files new.asked w.journal.items w.stop.end (line_on w) none e.course e.came in
       record { course = so.course; came = so.came; counts = e.counts; said = e.said }
 
   -- ---- a run
 
-  pub film_ends : (old mid new : Shown) (s : Setup) (w : Worked) → mid ≡ asking_all old (reads run s.config) → AreAllFiles run old.files s → is_outside_of film s.config ≡ false → PerformedFilmed region mid s new w → Ends film old new w
+  pub film_ends : (old mid new : StoreModel) (s : Setup) (w : Worked) → mid ≡ asking_all old (reads run s.config) → AreAllFiles run old.files s → is_outside_of film s.config ≡ false → PerformedFilmed region mid s new w → Ends film old new w
   film_ends old mid new s w asked files_are inside (inl after) =
       let r = after.has_run in
       run_ends film old mid new s w asked (all_too old.files s files_are) (record {

@@ -2,26 +2,26 @@
 use Rattle.std.proofs.Common.{◌≡◌, ℕ, Bool, true, false, List, [], ◌∷◌, ◌++◌, Option, Some, None, refl, sym, ap, subst, ◌∙◌, arith, inl, inr, ◌⊎◌}
 use Rattle.std.specs.Prelude.{IfSome, IsSomeAnd}
 use Rattle.nit_events.specs.declared.entry.Entry.{Entry}
-use Rattle.nit_store.specs.Shown.{Shown, File}
+use Rattle.nit_store.specs.Store.{StoreModel, File}
 use Rattle.nit_top.specs.declared.finish.End.{End}
 use Rattle.nit_top.specs.declared.finish.End.TheVariants as ends
 use Rattle.nit_top.specs.declared.finish.Fault.{Fault}
 use Rattle.nit_top.specs.Command.{Command, Still, Run, Gen, Audit, Capture, NoCommand}
-use Rattle.nit_top.specs.Judged.{AreSetup, Judged, Refused, IsRefused, IsValid, reads}
-use Rattle.nit_top.specs.Films.{is_outside_of}
+use Rattle.nit_top.specs.Judgement.{AreSetup, Judged, Refused, IsRefusedWith, IsValid, reads}
+use Rattle.nit_top.specs.RunFilm.{is_outside_of}
 use Rattle.nit_top.specs.FilesRead.{names_read, FilesRead, NoFile, FirstFiles, AllScripts, AllFiles, HasRead, AreAllFiles, IsSetupOf, next_name}
-use Rattle.nit_top.specs.Lines.{audited_line, summary_line}
-use Rattle.nit_top.specs.Course.{IsRun, Course, WithRun, asked_also, IsNotBegun, IsOutside, IsLastRead, made_by, IsMadeBefore, IsMadeInPart, IsPutWhole, IsRefusedAt, IsCutShort, totals}
+use Rattle.nit_top.specs.ProgramLines.{audited_line, summary_line}
+use Rattle.nit_top.specs.Course.{IsCommandRun, Course, WithRun, asked_also, IsNotBegun, IsOutside, IsLastRead, made_by, IsMadeBefore, IsMadeInPart, IsPutWhole, IsRefusedAt, IsCutShort, totals}
 use Rattle.nit_top.specs.Audited.{IsAudit, AreAudited, IsAudited}
 use Rattle.nit_top.specs.Answer.{Came, code_of, HasValidFiles, IsValidSo, IsEarly}
 use Rattle.nit_top.proofs.Scripts.{told_so}
-use Rattle.nit_top.proofs.Judging.{told_valid, told_refused, told_codes, told_side, told_outside, no_refusal, no_setup}
+use Rattle.nit_top.proofs.JudgementLemmas.{told_valid, told_refused, told_codes, told_side, told_outside, no_refusal, no_setup}
 use Rattle.nit_top.proofs.EndCodes.{is_fault_code, not_fault, not_early_0, not_early_4, not_early_7}
 use Rattle.nit_top.proofs.AuditCourse.{with_run, with_run_not, audit_makes_none, not_run, empty_course, front_none, front_same}
 
 -- ---- what came, by its code
 
-module _ (c : Command) (old : Shown) (files : Option (List File)) (asked : Option (List (List ℕ))) (journal : List Entry) (course : Course old c journal) where
+module _ (c : Command) (old : StoreModel) (files : Option (List File)) (asked : Option (List (List ℕ))) (journal : List Entry) (course : Course old c journal) where
   not_begun : (name : List ℕ) → IsLastRead course files asked name → IsNotBegun course files asked
   not_begun name l = record { none = l.none; same = l.same; read = l.read; valid = l.valid; asks = inr (name, l.next, l.asks) }
 
@@ -46,8 +46,8 @@ module _ (c : Command) (old : Shown) (files : Option (List File)) (asked : Optio
   usage_at (ends.Refused f) line h n = absurd (not_fault f 2 n refl)
   usage_at e line h n = absurd (omega arith)
 
-  pub refused_at : (n : ℕ) (e : End) (line : List ℕ) → Came course files asked e line → code_of e ≡ n → is_fault_code n ≡ true → IfSome old.files (λ told. IsRefused n c told)
-  refused_at n (ends.Refused f) line h is some = told_so (λ told. Judged c told (Refused h.0 f)) (λ told. IsRefused n c told) old.files (λ told p. (h.0, f, p, is)) h.2
+  pub refused_at : (n : ℕ) (e : End) (line : List ℕ) → Came course files asked e line → code_of e ≡ n → is_fault_code n ≡ true → IfSome old.files (λ told. IsRefusedWith n c told)
+  refused_at n (ends.Refused f) line h is some = told_so (λ told. Judged c told (Refused h.0 f)) (λ told. IsRefusedWith n c told) old.files (λ told p. (h.0, f, p, is)) h.2
   refused_at n e line h is some = absurd (let other = subst (λ (k : ℕ). is_fault_code k ≡ true) (sym is) some in cc)
 
   -- all was done: a run put all that it puts, or an audit said yes
@@ -109,10 +109,10 @@ module _ (c : Command) (old : Shown) (files : Option (List File)) (asked : Optio
       let both : HasRead NoCommand old.files l.read × (next_name NoCommand l.read ≡ Some name) = subst (λ (k : Command). HasRead k old.files l.read × (next_name k l.read ≡ Some name)) is (l.valid, l.next) in
       none_next l.read name both.0 both.1
 
-  nothing_run : (r : IsRun old c journal) → c ≡ NoCommand → ⊥
+  nothing_run : (r : IsCommandRun old c journal) → c ≡ NoCommand → ⊥
   nothing_run r is = subst (λ (k : Command). IsSetupOf k r.setup) is r.files_are.of_command
 
-  no_run : (Holds : IsRun old c journal → Type 0) → c ≡ NoCommand → WithRun course Holds → ⊥
+  no_run : (Holds : IsCommandRun old c journal → Type 0) → c ≡ NoCommand → WithRun course Holds → ⊥
   no_run Holds is h = with_run_not course Holds (λ r x. nothing_run r is) h
 
   -- a file that is made before a run is one of a generated run
@@ -138,16 +138,16 @@ module _ (c : Command) (old : Shown) (files : Option (List File)) (asked : Optio
 
   -- ---- where the files are refused, or valid
 
-  no_valid_run : (n : ℕ) (Holds : IsRun old c journal → Type 0) → WithRun course Holds → IsSomeAnd old.files (λ told. IsRefused n c told) → ⊥
+  no_valid_run : (n : ℕ) (Holds : IsCommandRun old c journal → Type 0) → WithRun course Holds → IsSomeAnd old.files (λ told. IsRefusedWith n c told) → ⊥
   no_valid_run n Holds h r = with_run_not course Holds (λ run x. told_valid c old.files run.setup n run.files_are.valid r) h
 
   -- no file of a command that makes some is refused
-  made_not_refused : (k : Command) (n : ℕ) → IsSomeAnd old.files (λ told. IsRefused n k told) → made_by k ≡ []
+  made_not_refused : (k : Command) (n : ℕ) → IsSomeAnd old.files (λ told. IsRefusedWith n k told) → made_by k ≡ []
   made_not_refused (Still width height script) n r = refl
   made_not_refused (Run beside configuration) n r = refl
   made_not_refused (Gen number) n r = absurd (no_generated old.files n number r)
     where
-      no_generated : (told : Option (List File)) (n number : ℕ) → IsSomeAnd told (λ files. IsRefused n (Gen number) files) → ⊥
+      no_generated : (told : Option (List File)) (n number : ℕ) → IsSomeAnd told (λ files. IsRefusedWith n (Gen number) files) → ⊥
       no_generated None n number r = r
       no_generated (Some all) n number r = r.2
   made_not_refused (Audit configuration journal) n r = refl
@@ -166,8 +166,8 @@ module _ (c : Command) (old : Shown) (files : Option (List File)) (asked : Optio
       at (Capture configuration region) all p = absurd p
       at NoCommand all p = absurd p
 
-  pub is_refused_at : (n : ℕ) (e : End) (line : List ℕ) → Came course files asked e line → IsSomeAnd old.files (λ told. IsRefused n c told) → (code_of e ≡ 3) ⊎ ((code_of e ≡ n) ⊎ (code_of e ≡ 7))
-  is_refused_at n ends.Usage line h r = absurd (no_refusal old.files n (subst (λ (k : Command). IsSomeAnd old.files (λ told. IsRefused n k told)) h.0 r))
+  pub is_refused_at : (n : ℕ) (e : End) (line : List ℕ) → Came course files asked e line → IsSomeAnd old.files (λ told. IsRefusedWith n c told) → (code_of e ≡ 3) ⊎ ((code_of e ≡ n) ⊎ (code_of e ≡ 7))
+  is_refused_at n ends.Usage line h r = absurd (no_refusal old.files n (subst (λ (k : Command). IsSomeAnd old.files (λ told. IsRefusedWith n k told)) h.0 r))
   is_refused_at n ends.ReadFault line h r = inl refl
   is_refused_at n (ends.Refused f) line h r = inr (inl (told_codes c old.files h.0 f n h.2 r))
   is_refused_at n ends.WriteFault line h r = absurd (elim h.1 [ inl m ↦ made_none h.0 (made_not_refused c n r) m | inr x ↦ no_valid_run n _ x r ])
@@ -214,7 +214,7 @@ module _ (c : Command) (old : Shown) (files : Option (List File)) (asked : Optio
       at NoCommand v all out = absurd all.of_command
 
   -- a run was begun only where the region lies on the screen
-  no_outside_run : (Holds : IsRun old c journal → Type 0) → WithRun course Holds → IsSomeAnd old.files (IsValidSo c true) → ⊥
+  no_outside_run : (Holds : IsCommandRun old c journal → Type 0) → WithRun course Holds → IsSomeAnd old.files (IsValidSo c true) → ⊥
   no_outside_run Holds h v = with_run_not course Holds (λ run x. let out = told_side c old.files run.setup true run.files_are.valid v in let inside = run.inside in cc) h
 
   -- no file of a command that makes some is read, and no region lies outside
@@ -268,7 +268,7 @@ module _ (c : Command) (old : Shown) (files : Option (List File)) (asked : Optio
   -- ---- an audit
 
   -- an audit begins no run
-  pub no_audit_run : (Holds : IsRun old c journal → Type 0) → IsAudit c → WithRun course Holds → ⊥
+  pub no_audit_run : (Holds : IsCommandRun old c journal → Type 0) → IsAudit c → WithRun course Holds → ⊥
   no_audit_run Holds is h = with_run_not course Holds (λ run x. not_run run is) h
 
   -- it leaves the files

@@ -2,12 +2,12 @@
 use Rattle.std.proofs.Common.{◌≡◌, ℕ, ◌≤◌, Bool, true, false, [], ◌∷◌, refl, subst, arith, inl, inr, ◌⊎◌}
 use Rattle.std.specs.Prelude.{IsTrue, ◌==◌}
 use Rattle.std.specs.List.{list_any}
-use Rattle.nit_store.specs.Shown.{Shown, Rose}
+use Rattle.nit_store.specs.Store.{StoreModel, Rose}
 use Rattle.nit_top.specs.declared.finish.End.{End}
 use Rattle.nit_top.specs.declared.finish.End.TheVariants as ends
 use Rattle.nit_top.specs.declared.finish.Fault.{Fault}
 use Rattle.nit_top.specs.declared.finish.Fault.TheVariants as fault
-use Rattle.nit_top.specs.Judged.{fault_code}
+use Rattle.nit_top.specs.Judgement.{fault_code}
 use Rattle.nit_top.specs.Answer.{Counts, code_of, IsEarly}
 
 -- ---- codes
@@ -70,7 +70,7 @@ not_early_7 h = cc
 
 -- ---- the counts
 
-pub reads_by : (old mid : Shown) (e : End) → Counts old mid e → ((code_of e ≡ 3) × Rose old.read_faults mid.read_faults) ⊎ (mid.read_faults ≡ old.read_faults)
+pub reads_by : (old mid : StoreModel) (e : End) → Counts old mid e → ((code_of e ≡ 3) × Rose old.read_faults mid.read_faults) ⊎ (mid.read_faults ≡ old.read_faults)
 reads_by old mid ends.Usage h = inr h.0
 reads_by old mid ends.ReadFault h = inl (refl, h.0)
 reads_by old mid (ends.Refused f) h = inr h.0
@@ -80,12 +80,12 @@ reads_by old mid ends.Outside h = inr h.0
 reads_by old mid ends.Whole h = inr h.0
 reads_by old mid (ends.Audited n) h = inr h.0
 
-pub read_rose : (old mid : Shown) (e : End) → Counts old mid e → code_of e ≡ 3 → Rose old.read_faults mid.read_faults
+pub read_rose : (old mid : StoreModel) (e : End) → Counts old mid e → code_of e ≡ 3 → Rose old.read_faults mid.read_faults
 read_rose old mid ends.ReadFault h c = h.0
 read_rose old mid (ends.Refused f) h c = absurd (not_fault f 3 c refl)
 read_rose old mid e h c = absurd (omega arith)
 
-pub writes_by : (old mid : Shown) (e : End) → Counts old mid e → ((code_of e ≡ 4) × Rose old.write_faults mid.write_faults) ⊎ (mid.write_faults ≡ old.write_faults)
+pub writes_by : (old mid : StoreModel) (e : End) → Counts old mid e → ((code_of e ≡ 4) × Rose old.write_faults mid.write_faults) ⊎ (mid.write_faults ≡ old.write_faults)
 writes_by old mid ends.Usage h = inr h.1
 writes_by old mid ends.ReadFault h = inr h.1
 writes_by old mid (ends.Refused f) h = inr h.1
@@ -95,12 +95,12 @@ writes_by old mid ends.Outside h = inr h.1
 writes_by old mid ends.Whole h = inr h.1
 writes_by old mid (ends.Audited n) h = inr h.1
 
-pub write_rose : (old mid : Shown) (e : End) → Counts old mid e → code_of e ≡ 4 → Rose old.write_faults mid.write_faults
+pub write_rose : (old mid : StoreModel) (e : End) → Counts old mid e → code_of e ≡ 4 → Rose old.write_faults mid.write_faults
 write_rose old mid ends.WriteFault h c = h.1
 write_rose old mid (ends.Refused f) h c = absurd (not_fault f 4 c refl)
 write_rose old mid e h c = absurd (omega arith)
 
-pub writes_later : (old mid : Shown) (e : End) → Counts old mid e → old.write_faults ≤ mid.write_faults
+pub writes_later : (old mid : StoreModel) (e : End) → Counts old mid e → old.write_faults ≤ mid.write_faults
 writes_later old mid ends.WriteFault h = h.2
 writes_later old mid ends.Usage h = let same = h.1 in omega arith
 writes_later old mid ends.ReadFault h = let same = h.1 in omega arith

@@ -10,16 +10,16 @@ use Rattle.nit_events.specs.declared.call.Call.{Call}
 use Rattle.nit_events.specs.declared.call.Reply.{Reply}
 use Rattle.nit_events.specs.declared.entry.Entry.{Entry}
 use Rattle.nit_events.specs.declared.entry.Entry.TheVariants as entry
-use Rattle.nit_journal.specs.Journals.{IsLegal, IsOpen, LegalFrom, shots}
-use Rattle.nit_journal.specs.State.{State, after, opening}
-use Rattle.nit_journal.specs.Whole.{Deed, Does, Shoots, calls_of, deeds_of, done, to_do}
+use Rattle.nit_journal.specs.Replay.{IsLegal, IsOpen, LegalFrom, shots}
+use Rattle.nit_journal.specs.State.{State, after, first_state}
+use Rattle.nit_journal.specs.WholeJournals.{UserAction, Does, Shoots, calls_of, user_actions_of, done, to_do}
 use Rattle.nit_journal.proofs.ForCallers.{front_open, as_many, as_many_as_clients}
 use Rattle.nit_script.specs.declared.line.Line.{Line}
 use Rattle.nit_script.specs.declared.line.Line.TheVariants as line
 use Rattle.nit_script.specs.declared.line.InputLine.{InputLine}
 use Rattle.nit_script.specs.declared.line.InputLine.TheVariants as input
-use Rattle.nit_plan.specs.Calls.{calls_from, calls_to_make, deeds_from, deeds_to_do}
-use Rattle.nit_report.specs.Generator.{client_script, generated_configuration, is_call, is_device, is_shot, user_script}
+use Rattle.nit_plan.specs.Calls.{calls_from, calls_to_make, user_actions_from, user_actions_to_do}
+use Rattle.nit_report.specs.Generator.{client_script, generated_configuration, is_call, is_device, is_shot_line, user_script}
 use Rattle.nit_top.specs.Outputs.{IsJournal}
 use Rattle.nit_top.specs.Setup.{generated_setup}
 
@@ -88,7 +88,7 @@ finals (entry.Shot number ∷ es) = finals es
 finals (entry.Final ∷ es) = suc (finals es)
 
 -- each entry is a call, a deed or the last picture
-counted : (n : ℕ) (s : State) (taken : ℕ) (es : List Entry) → length s.sessions ≡ n → LegalFrom s taken es → length es ≡ all_calls n es + length (deeds_of es) + finals es
+counted : (n : ℕ) (s : State) (taken : ℕ) (es : List Entry) → length s.sessions ≡ n → LegalFrom s taken es → length es ≡ all_calls n es + length (user_actions_of es) + finals es
 counted n s taken [] e l = let a = no_calls n in omega (arith, a)
 counted n s taken (entry.Call sid c r ∷ rest) e l =
     let inside = l.0.0 in
@@ -104,7 +104,7 @@ counted n s taken (entry.Shot number ∷ rest) e l =
     let more = counted n s (taken + 1) rest e l.1 in
     omega (arith, here, more)
 counted n s taken (entry.Final ∷ rest) e l =
-    subst (λ (es : List Entry). length (entry.Final ∷ es) ≡ all_calls n (entry.Final ∷ es) + length (deeds_of (entry.Final ∷ es)) + finals (entry.Final ∷ es)) (sym l)
+    subst (λ (es : List Entry). length (entry.Final ∷ es) ≡ all_calls n (entry.Final ∷ es) + length (user_actions_of (entry.Final ∷ es)) + finals (entry.Final ∷ es)) (sym l)
     (let here = same_all n (entry.Final ∷ []) [] (λ t. refl) in let a = no_calls n in omega (arith, here, a))
 
 open_finals : (es : List Entry) → IsOpen es → finals (es ++ entry.Final ∷ []) ≡ 1
@@ -127,25 +127,25 @@ calls_counted phase (line.Call c ∷ lines) = ap suc (calls_counted phase lines)
 calls_counted phase (line.Stroke s ∷ lines) = calls_counted phase lines
 calls_counted phase (line.Phase ∷ lines) = calls_counted (suc phase) lines
 
-deeds_counted : (phase : ℕ) (lines : List InputLine) → length (deeds_from phase lines) ≡ length (filter is_device lines) + length (filter is_shot lines)
+deeds_counted : (phase : ℕ) (lines : List InputLine) → length (user_actions_from phase lines) ≡ length (filter is_device lines) + length (filter is_shot_line lines)
 deeds_counted phase [] = refl
 deeds_counted phase (input.Device d ∷ lines) = let a = deeds_counted phase lines in omega (arith, a)
 deeds_counted phase (input.Shot ∷ lines) = let a = deeds_counted phase lines in omega (arith, a)
 deeds_counted phase (input.Phase ∷ lines) = deeds_counted (suc phase) lines
 
-abbrev shoots : List Deed → ℕ
+abbrev shoots : List UserAction → ℕ
 shoots [] = 0
 shoots (Does d ∷ ds) = shoots ds
 shoots (Shoots ∷ ds) = suc (shoots ds)
 
-shots_are : (es : List Entry) → shots es ≡ shoots (deeds_of es)
+shots_are : (es : List Entry) → shots es ≡ shoots (user_actions_of es)
 shots_are [] = refl
 shots_are (entry.Call sid c r ∷ es) = shots_are es
 shots_are (entry.Input dev routed ∷ es) = shots_are es
 shots_are (entry.Shot number ∷ es) = ap suc (shots_are es)
 shots_are (entry.Final ∷ es) = shots_are es
 
-shots_counted : (phase : ℕ) (lines : List InputLine) → shoots (done (deeds_from phase lines)) ≡ length (filter is_shot lines)
+shots_counted : (phase : ℕ) (lines : List InputLine) → shoots (done (user_actions_from phase lines)) ≡ length (filter is_shot_line lines)
 shots_counted phase [] = refl
 shots_counted phase (input.Device d ∷ lines) = shots_counted phase lines
 shots_counted phase (input.Shot ∷ lines) = ap suc (shots_counted phase lines)
@@ -160,7 +160,7 @@ abbrev pub DevicesLaw : Type 0
 DevicesLaw = (n : ℕ) → count_by is_device (user_script n) ≡ 202
 
 abbrev pub ShotsLaw : Type 0
-ShotsLaw = (n : ℕ) → count_by is_shot (user_script n) ≡ 1
+ShotsLaw = (n : ℕ) → count_by is_shot_line (user_script n) ≡ 1
 
 made_by_client : CallsLaw → (n c : ℕ) → length (done (calls_to_make (client_script n c))) ≡ 1507
 made_by_client law n c =
@@ -182,13 +182,13 @@ pub generated_entries : CallsLaw → DevicesLaw → ShotsLaw → (n : ℕ) (jour
 unfolding generated_configuration
 generated_entries calls devices pictures n journal j =
     let config = generated_configuration in
-    let all = counted 8 (opening config) 0 journal (as_many_as_clients config []) j.legal in
+    let all = counted 8 (first_state config) 0 journal (as_many_as_clients config []) j.legal in
     let each : (t : ℕ) → t < 8 → length (calls_of t journal) ≡ 1507 = λ t lt. ap length (j.whole.calls t lt ∙ ap done (to_do_of n t lt)) ∙ made_by_client calls n t in
     let made = as_many_calls 8 journal each in
-    let deeds : length (deeds_of journal) ≡ 203 =
-    ap length j.whole.deeds ∙ length-map (deeds_to_do (user_script n)) (λ t. t.1) ∙ deeds_counted 0 (user_script n)
-    ∙ (let d = length-filter is_device (user_script n) ∙ devices n in let p = length-filter is_shot (user_script n) ∙ pictures n in omega (arith, d, p)) in
+    let deeds : length (user_actions_of journal) ≡ 203 =
+    ap length j.whole.deeds ∙ length-map (user_actions_to_do (user_script n)) (λ t. t.1) ∙ deeds_counted 0 (user_script n)
+    ∙ (let d = length-filter is_device (user_script n) ∙ devices n in let p = length-filter is_shot_line (user_script n) ∙ pictures n in omega (arith, d, p)) in
     let ended = j.whole.ends in
-    let last : finals journal ≡ 1 = ap finals ended.1 ∙ open_finals ended.0 (front_open (opening config) 0 ended.0 entry.Final [] (subst (λ (es : List Entry). IsLegal config es) ended.1 j.legal)) in
-    let shot : shots journal ≡ 1 = shots_are journal ∙ ap shoots j.whole.deeds ∙ shots_counted 0 (user_script n) ∙ length-filter is_shot (user_script n) ∙ pictures n in
+    let last : finals journal ≡ 1 = ap finals ended.1 ∙ open_finals ended.0 (front_open (first_state config) 0 ended.0 entry.Final [] (subst (λ (es : List Entry). IsLegal config es) ended.1 j.legal)) in
+    let shot : shots journal ≡ 1 = shots_are journal ∙ ap shoots j.whole.deeds ∙ shots_counted 0 (user_script n) ∙ length-filter is_shot_line (user_script n) ∙ pictures n in
     (omega (arith, all, made, deeds, last), shot)

@@ -13,8 +13,8 @@ use Rattle.nit_events.specs.declared.entry.Entry.{Entry}
 use Rattle.nit_events.specs.declared.entry.Entry.TheVariants as entry
 use Rattle.nit_glyph.specs.Texts.{is_title}
 use Rattle.nit_slots.specs.Account.{buffer_need, buffer_left, view_need, view_left}
-use Rattle.nit_journal.specs.Journals.{LegalFrom}
-use Rattle.nit_journal.specs.Projections.{replies_to}
+use Rattle.nit_journal.specs.Replay.{LegalFrom}
+use Rattle.nit_journal.specs.Projection.{replies_to}
 use Rattle.nit_journal.specs.Session.{Session, ◌orelse◌, accepted, by_call, by_handle, by_quota, by_refusal, by_status, has_view, is_side, refusal, serve, unless}
 use Rattle.nit_journal.specs.State.{State, after, session}
 use Rattle.nit_report.specs.EventsText.{taken}

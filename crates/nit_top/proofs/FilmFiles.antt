@@ -5,32 +5,32 @@ use Rattle.std.specs.List.{AllByRecursion, range_with_len}
 use Rattle.nit_events.specs.declared.entry.Entry.{Entry}
 use Rattle.nit_events.specs.declared.entry.Entry.TheVariants as entry
 use Rattle.nit_config.specs.Configuration.{Configuration, member}
-use Rattle.nit_journal.specs.State.{State, after, opening}
-use Rattle.nit_journal.specs.Journals.{IsLegal, LegalFrom, shots}
-use Rattle.nit_capture.specs.Capture.{CaptureModel, taken_bytes}
-use Rattle.nit_capture.specs.Film.{header, records}
+use Rattle.nit_journal.specs.State.{State, after, first_state}
+use Rattle.nit_journal.specs.Replay.{IsLegal, LegalFrom, shots}
+use Rattle.nit_capture.specs.Capture.{CaptureModel, cropped_bytes}
+use Rattle.nit_capture.specs.Film.{film_header, records}
 use Rattle.nit_store.specs.declared.store.PutError.{PutError}
 use Rattle.nit_store.specs.declared.store.PutError.TheVariants as put
-use Rattle.nit_store.specs.Shown.{Shown, File, PutIn, bytes_of, file_at}
-use Rattle.nit_store.specs.Answers.{AfterPut}
-use Rattle.nit_store.specs.Puts.{PutsAll, PutsNext, Putting, unrefused}
-use Rattle.nit_store.proofs.Puts.{puts_more}
-use Rattle.nit_actor.specs.Running.{shot_name}
+use Rattle.nit_store.specs.Store.{StoreModel, File, PutIn, bytes_of, file_at}
+use Rattle.nit_store.specs.StoreAnswers.{AfterPut}
+use Rattle.nit_store.specs.Puts.{PutsAll, PutsNext, PutState, unrefused}
+use Rattle.nit_store.proofs.ForCallers.{puts_more}
+use Rattle.nit_actor.specs.RoundsRun.{shot_name}
 use Rattle.nit_actor.specs.Pictures.{IsNearPicture}
 use Rattle.nit_actor.specs.Shots.{ShotsBehind}
 use Rattle.nit_top.specs.declared.region.Region.{Region}
 use Rattle.nit_top.specs.declared.run.PutFault.{PutFault}
 use Rattle.nit_top.specs.declared.run.Ran.{Ran}
 use Rattle.nit_top.specs.Course.{PutEach, PutFiles}
-use Rattle.nit_top.specs.Filmed.{HasFilmed, begun_of}
-use Rattle.nit_top.specs.Filming.{HasTaken, IsFilmOf, bytes_under, picture_names}
-use Rattle.nit_top.specs.Films.{film_name, film_of, pictures_in}
+use Rattle.nit_top.specs.CaptureRun.{HasFilmed, begun_of}
+use Rattle.nit_top.specs.FilmStore.{HasTaken, IsFilmOf, bytes_under, picture_names}
+use Rattle.nit_top.specs.RunFilm.{film_name, film_of, pictures_in}
 use Rattle.nit_top.specs.Setup.{Setup}
 use Rattle.nit_top.specs.Outputs.{AreOutputs, events_file, events_files, events_name, final_name, final_picture, journal_file, text_files}
-use Rattle.nit_top.specs.Work.{HasRun, putting, refusal_of}
+use Rattle.nit_top.specs.Work.{HasRun, put_state_of_run, refusal_of}
 use Rattle.nit_top.proofs.FilmPictures.{shots_apart}
-use Rattle.nit_top.proofs.Leaving.{with_texts}
-use Rattle.nit_top.proofs.Puts.{PutAll, PutSo, all_put}
+use Rattle.nit_top.proofs.RunLemmas.{with_texts}
+use Rattle.nit_top.proofs.PutLemmas.{PutAll, PutSo, all_put}
 
 -- ---- the files of shots
 
@@ -137,7 +137,7 @@ pictures_under s journal outputs are old new texts beside made legal few puts =
     let words : List File = events_files s.config journal ++ journal_file journal ∷ [] in
     let parts : outputs ≡ files ++ last ∷ words = are.2 ∙ ap (λ (front : List File). front ++ (files ++ last ∷ text_files s journal)) made ∙ ap (λ (back : List File). files ++ last ∷ back) (with_texts s journal texts) in
     let all : PutEach (files ++ last ∷ words) old new = subst (λ (fs : List File). PutEach fs old new) parts puts in
-    let counted = numbered (IsNearPicture s.config s.scripts) (opening s.config) 0 [] journal files legal (are.1.beside beside) in
+    let counted = numbered (IsNearPicture s.config s.scripts) (first_state s.config) 0 [] journal files legal (are.1.beside beside) in
     let long : length files ≡ shots journal = counted.1 in
     let none : NoShots (last ∷ words) = λ n. (letters_apart (shot_name n) final_name 115 102 refl refl differ_115_102, other_texts s.config journal (shot_name n) 115 refl differ_115_101 differ_115_106) in
     let shown : bytes_under new (map shot_name (range_with_len 1 (length files))) ≡ map (λ f. f.1) files = shots_under 1 files (last ∷ words) old new (omega arith) counted.0 none all in
@@ -155,15 +155,15 @@ pictures_under s journal outputs are old new texts beside made legal few puts =
 film_is : (region : Region) (config : Configuration) (begun now : CaptureModel) (pictures : List (List ℕ)) (bytes : List ℕ) → begun ≡ begun_of region config → HasTaken begun now pictures bytes → bytes ++ 0 ∷ [] ≡ film_of region config pictures
 film_is region config begun now pictures bytes same h =
     let c = begun_of region config in
-    let cuts = map (taken_bytes c) pictures in
+    let cuts = map (cropped_bytes c) pictures in
     ap (λ (bs : List ℕ). bs ++ 0 ∷ [])
-    (h.bytes_are ∙ ap (λ (k : CaptureModel). header k.rect.w k.rect.h ++ records k.rect.w k.rect.h k.before (map (taken_bytes k) pictures)) same)
-    ∙ append_assoc (header region.w region.h) (records region.w region.h c.before cuts) (0 ∷ [])
+    (h.bytes_are ∙ ap (λ (k : CaptureModel). film_header k.rect.w k.rect.h ++ records k.rect.w k.rect.h k.before (map (cropped_bytes k) pictures)) same)
+    ∙ append_assoc (film_header region.w region.h) (records region.w region.h c.before cuts) (0 ∷ [])
 
 -- ---- the put of the film
 
 -- where no files are told, a put does not depend on its bytes
-untold_put : {T : Type 0} (old new : Shown) (name a b : List ℕ) (r : Result T PutError) → old.files ≡ None → AfterPut old name a new r → AfterPut old name b new r
+untold_put : {T : Type 0} (old new : StoreModel) (name a b : List ℕ) (r : Result T PutError) → old.files ≡ None → AfterPut old name a new r → AfterPut old name b new r
 untold_put old new name a b (Ok x) none h = (h.0, untold_in old.files new.files none h.1)
   where
     untold_in : (o p : Option (List File)) → o ≡ None → PutIn name a o p → PutIn name b o p
@@ -173,7 +173,7 @@ untold_put old new name a b (Err put.Failed) none h = h
 untold_put old new name a b (Err put.NoMemory) none h = h
 
 -- a put of bytes is that of others, where they are the same or the store tells no files
-same_put : (name a b : List ℕ) (old : Shown) (fault : Option PutFault) (new : Putting) → (fault ≡ None → (files : List File) → old.files ≡ Some files → a ≡ b) → PutsNext (name, a) (putting old fault) new → PutsNext (name, b) (putting old fault) new
+same_put : (name a b : List ℕ) (old : StoreModel) (fault : Option PutFault) (new : PutState) → (fault ≡ None → (files : List File) → old.files ≡ Some files → a ≡ b) → PutsNext (name, a) (put_state_of_run old fault) new → PutsNext (name, b) (put_state_of_run old fault) new
 same_put name a b old (Some f) new same next = next
 same_put name a b old None new same next = record { answer = next.answer; put = by_told old.files refl; kept = next.kept }
   where
@@ -190,29 +190,29 @@ told_each outputs (Some first) files new h told = (first, subst (λ (fs : List F
     some_same : (a b : List File) → Some a ≡ Some b → a ≡ b
     some_same a b e = cc
 
-put_whole : (outputs : List File) (old mid : Shown) (fault : Option PutFault) → fault ≡ None → PutsAll outputs (unrefused old) (putting mid fault) → PutAll old outputs mid
-put_whole outputs old mid fault none puts = subst (λ (o : Option PutFault). PutSo old outputs mid (option_map refusal_of o)) none (all_put old outputs (putting mid fault) puts)
+put_whole : (outputs : List File) (old mid : StoreModel) (fault : Option PutFault) → fault ≡ None → PutsAll outputs (unrefused old) (put_state_of_run mid fault) → PutAll old outputs mid
+put_whole outputs old mid fault none puts = subst (λ (o : Option PutFault). PutSo old outputs mid (option_map refusal_of o)) none (all_put old outputs (put_state_of_run mid fault) puts)
 
 -- What is known when a run through the store of a film has ended: whether the film is whole, that it is then
 -- that of the files, and what its put leaves.
-pub record IsFilmEnd (region : Region) (s : Setup) (begun now : CaptureModel) (count : ℕ) (ended whole is_whole : Bool) (bytes : List ℕ) (mid new : Shown) (frames : ℕ) (fault fault' : Option PutFault) : Type 0 where
+pub record IsFilmEnd (region : Region) (s : Setup) (begun now : CaptureModel) (count : ℕ) (ended whole is_whole : Bool) (bytes : List ℕ) (mid new : StoreModel) (frames : ℕ) (fault fault' : Option PutFault) : Type 0 where
   pub begun_is : begun ≡ begun_of region s.config
   pub film : IsFilmOf whole begun now (picture_names count ended) mid.files bytes
   pub whole_is : is_whole ≡ true → whole ≡ true
   pub ended_is : is_whole ≡ true → ended ≡ true
   pub all_shots : is_whole ≡ true → count + 1 ≡ frames
   pub few : count ≤ 4294967295
-  pub put : is_whole ≡ true → PutsNext (film_name, bytes ++ 0 ∷ []) (putting mid fault) (putting new fault')
-  pub not_put : is_whole ≡ false → (other : List ℕ) → PutsNext (film_name, other) (putting mid fault) (putting new fault')
+  pub put : is_whole ≡ true → PutsNext (film_name, bytes ++ 0 ∷ []) (put_state_of_run mid fault) (put_state_of_run new fault')
+  pub not_put : is_whole ≡ false → (other : List ℕ) → PutsNext (film_name, other) (put_state_of_run mid fault) (put_state_of_run new fault')
 
-pub film_leaves : (region : Region) (s : Setup) (begun now : CaptureModel) (count : ℕ) (ended whole is_whole : Bool) (bytes : List ℕ) (old mid new : Shown) (ran : Ran) (fault' : Option PutFault) → s.texts ≡ true → s.beside ≡ true → s.made ≡ [] → HasRun old s mid ran
+pub film_leaves : (region : Region) (s : Setup) (begun now : CaptureModel) (count : ℕ) (ended whole is_whole : Bool) (bytes : List ℕ) (old mid new : StoreModel) (ran : Ran) (fault' : Option PutFault) → s.texts ≡ true → s.beside ≡ true → s.made ≡ [] → HasRun old s mid ran
     → IsFilmEnd region s begun now count ended whole is_whole bytes mid new ran.frames ran.fault fault' → HasFilmed region old s new ran.journal.items ran.frames fault'
 film_leaves region s begun now count ended whole is_whole bytes old mid new ran fault' texts beside made r e = record {
   is_journal = r.journal;
   frames_are = r.frames;
   outputs = r.outputs;
   are = r.are;
-  puts = puts_more r.outputs (film_name, film) (unrefused old) (putting mid ran.fault) (putting new fault') r.puts (by is_whole refl);
+  puts = puts_more r.outputs (film_name, film) (unrefused old) (put_state_of_run mid ran.fault) (put_state_of_run new fault') r.puts (by is_whole refl);
 }
   where
     journal : List Entry
@@ -233,6 +233,6 @@ film_leaves region s begun now count ended whole is_whole bytes old mid new ran 
         ap (λ (n : ℕ). bytes_under files (picture_names n ended)) shots_are ∙ ap (λ (b : Bool). bytes_under files (picture_names (shots journal) b)) (e.ended_is so) ∙ pictures in
         film_is region s.config begun now (pictures_in r.are) bytes e.begun_is (subst (λ (ps : List (List ℕ)). HasTaken begun now ps bytes) names (e.film (e.whole_is so) files told))
 
-    by : (b : Bool) → is_whole ≡ b → PutsNext (film_name, film) (putting mid ran.fault) (putting new fault')
-    by true so = same_put film_name (bytes ++ 0 ∷ []) film mid ran.fault (putting new fault') (is_film so) (e.put so)
+    by : (b : Bool) → is_whole ≡ b → PutsNext (film_name, film) (put_state_of_run mid ran.fault) (put_state_of_run new fault')
+    by true so = same_put film_name (bytes ++ 0 ∷ []) film mid ran.fault (put_state_of_run new fault') (is_film so) (e.put so)
     by false not = e.not_put not film

@@ -6,14 +6,14 @@ use Rattle.std.specs.List.{AllByRecursion, range_with_len}
 use Rattle.std.proofs.lemmas.Fmt.{decimal_injective}
 use Rattle.std.proofs.lemmas.List.{append-nil, append_cancel_left, append_cancel_right}
 use Rattle.std.proofs.lemmas.List.FromFn.{map-range_with_len_more}
-use Rattle.nit_capture.specs.Capture.{CaptureModel, next_record, taken_bytes, with_last}
-use Rattle.nit_capture.specs.Film.{header, record_of, records}
+use Rattle.nit_capture.specs.Capture.{CaptureModel, next_record, cropped_bytes, with_last}
+use Rattle.nit_capture.specs.Film.{film_header, record_of, records}
 use Rattle.nit_store.specs.declared.store.PutError.{PutError}
 use Rattle.nit_store.specs.declared.store.PutError.TheVariants as put
-use Rattle.nit_store.specs.Shown.{Shown, File, IsPut, PutIn, bytes_of, file_at}
-use Rattle.nit_store.specs.Answers.{AfterPut}
-use Rattle.nit_actor.specs.Running.{shot_name}
-use Rattle.nit_top.specs.Filming.{HasTaken, IsFilmOf, bytes_under, last_of, picture_names}
+use Rattle.nit_store.specs.Store.{StoreModel, File, IsPut, PutIn, bytes_of, file_at}
+use Rattle.nit_store.specs.StoreAnswers.{AfterPut}
+use Rattle.nit_actor.specs.RoundsRun.{shot_name}
+use Rattle.nit_top.specs.FilmStore.{HasTaken, IsFilmOf, bytes_under, last_of, picture_names}
 use Rattle.nit_top.specs.Outputs.{final_name}
 
 -- ---- names
@@ -77,34 +77,34 @@ last_is : (before : List ℕ) (pictures : List (List ℕ)) (now : List ℕ) → 
 last_is before [] now = refl
 last_is before (p ∷ pictures) now = last_is p pictures now
 
-taken_more : (c : CaptureModel) (pictures : List (List ℕ)) (ppm : List ℕ) → map (taken_bytes c) (pictures ++ ppm ∷ []) ≡ map (taken_bytes c) pictures ++ taken_bytes c ppm ∷ []
+taken_more : (c : CaptureModel) (pictures : List (List ℕ)) (ppm : List ℕ) → map (cropped_bytes c) (pictures ++ ppm ∷ []) ≡ map (cropped_bytes c) pictures ++ cropped_bytes c ppm ∷ []
 taken_more c [] ppm = refl
-taken_more c (p ∷ pictures) ppm = ap (λ (ps : List (List ℕ)). taken_bytes c p ∷ ps) (taken_more c pictures ppm)
+taken_more c (p ∷ pictures) ppm = ap (λ (ps : List (List ℕ)). cropped_bytes c p ∷ ps) (taken_more c pictures ppm)
 
 -- one picture more was taken
-pub takes_more : (begun now next : CaptureModel) (pictures : List (List ℕ)) (bytes more ppm : List ℕ) → now ≡ with_last begun now.before → HasTaken begun now pictures bytes → next ≡ with_last now (taken_bytes now ppm) → more ≡ bytes ++ next_record now (taken_bytes now ppm)
+pub takes_more : (begun now next : CaptureModel) (pictures : List (List ℕ)) (bytes more ppm : List ℕ) → now ≡ with_last begun now.before → HasTaken begun now pictures bytes → next ≡ with_last now (cropped_bytes now ppm) → more ≡ bytes ++ next_record now (cropped_bytes now ppm)
     → HasTaken begun next (pictures ++ ppm ∷ []) more
 takes_more begun now next pictures bytes more ppm same h last is =
     let w = begun.rect.w in
     let h' = begun.rect.h in
-    let cuts = map (taken_bytes begun) pictures in
-    let cut : taken_bytes now ppm ≡ taken_bytes begun ppm = ap (λ (c : CaptureModel). taken_bytes c ppm) same in
-    let here : List ℕ = taken_bytes begun ppm in
-    let record_is : next_record now (taken_bytes now ppm) ≡ record_of w h' (last_of begun.before cuts) here =
-    ap (λ (c : CaptureModel). next_record c (taken_bytes now ppm)) same ∙ ap (λ (b : List ℕ). record_of w h' b (taken_bytes now ppm)) h.last ∙ ap (λ (p : List ℕ). record_of w h' (last_of begun.before cuts) p) cut in
+    let cuts = map (cropped_bytes begun) pictures in
+    let cut : cropped_bytes now ppm ≡ cropped_bytes begun ppm = ap (λ (c : CaptureModel). cropped_bytes c ppm) same in
+    let here : List ℕ = cropped_bytes begun ppm in
+    let record_is : next_record now (cropped_bytes now ppm) ≡ record_of w h' (last_of begun.before cuts) here =
+    ap (λ (c : CaptureModel). next_record c (cropped_bytes now ppm)) same ∙ ap (λ (b : List ℕ). record_of w h' b (cropped_bytes now ppm)) h.last ∙ ap (λ (p : List ℕ). record_of w h' (last_of begun.before cuts) p) cut in
     record {
       last =
           ap (λ (c : CaptureModel). c.before) last ∙ cut ∙ sym (last_is begun.before cuts here) ∙ ap (λ (ps : List (List ℕ)). last_of begun.before ps) (sym (taken_more begun pictures ppm));
       bytes_are =
-          is ∙ ap (λ (bs : List ℕ). bs ++ next_record now (taken_bytes now ppm)) h.bytes_are ∙ ap (λ (bs : List ℕ). (header w h' ++ records w h' begun.before cuts) ++ bs) record_is
-          ∙ append_assoc (header w h') (records w h' begun.before cuts) (record_of w h' (last_of begun.before cuts) here)
-          ∙ ap (λ (bs : List ℕ). header w h' ++ bs) (sym (records_more w h' begun.before cuts here) ∙ ap (λ (ps : List (List ℕ)). records w h' begun.before ps) (sym (taken_more begun pictures ppm)));
+          is ∙ ap (λ (bs : List ℕ). bs ++ next_record now (cropped_bytes now ppm)) h.bytes_are ∙ ap (λ (bs : List ℕ). (film_header w h' ++ records w h' begun.before cuts) ++ bs) record_is
+          ∙ append_assoc (film_header w h') (records w h' begun.before cuts) (record_of w h' (last_of begun.before cuts) here)
+          ∙ ap (λ (bs : List ℕ). film_header w h' ++ bs) (sym (records_more w h' begun.before cuts here) ∙ ap (λ (ps : List (List ℕ)). records w h' begun.before ps) (sym (taken_more begun pictures ppm)));
     }
 
 -- ---- a put through the store
 
 -- where files are told after a put, they were told before, and are as before at all other names
-pub record ToldBefore (name : List ℕ) (old : Shown) (files : List File) : Type 0 where
+pub record ToldBefore (name : List ℕ) (old : StoreModel) (files : List File) : Type 0 where
   pub before : List File
   pub told : old.files ≡ Some before
   pub others : (n : List ℕ) → n ≢ name → file_at n files ≡ file_at n before
@@ -123,16 +123,16 @@ put_told name bytes None new files p told = absurd (let e = sym p ∙ told in cc
 put_told name bytes (Some old) new files p told =
     record { before = old; told = refl; put = subst (λ (fs : List File). IsPut name bytes old fs) (same_files p.0 files (sym p.1 ∙ told)) p.2 }
 
-stays_told : (name : List ℕ) (old : Shown) (files : List File) → old.files ≡ Some files → ToldBefore name old files
+stays_told : (name : List ℕ) (old : StoreModel) (files : List File) → old.files ≡ Some files → ToldBefore name old files
 stays_told name old files told = record { before = files; told = told; others = λ n apart. refl }
 
-pub told_before : {T : Type 0} (old : Shown) (name bytes : List ℕ) (new : Shown) (r : Result T PutError) (files : List File) → AfterPut old name bytes new r → new.files ≡ Some files → ToldBefore name old files
+pub told_before : {T : Type 0} (old : StoreModel) (name bytes : List ℕ) (new : StoreModel) (r : Result T PutError) (files : List File) → AfterPut old name bytes new r → new.files ≡ Some files → ToldBefore name old files
 told_before old name bytes new (Ok x) files h told =
     let p = put_told name bytes old.files new.files files h.1 told in
     record { before = p.before; told = p.told; others = p.put.others }
-told_before old name bytes new (Err put.Failed) files h told = stays_told name old files (sym (ap (λ (s : Shown). s.files) h.rest) ∙ told)
-told_before old name bytes new (Err put.NoMemory) files (inl e) told = stays_told name old files (sym (ap (λ (s : Shown). s.files) e) ∙ told)
-told_before old name bytes new (Err put.NoMemory) files (inr e) told = stays_told name old files (sym (ap (λ (s : Shown). s.files) e) ∙ told)
+told_before old name bytes new (Err put.Failed) files h told = stays_told name old files (sym (ap (λ (s : StoreModel). s.files) h.rest) ∙ told)
+told_before old name bytes new (Err put.NoMemory) files (inl e) told = stays_told name old files (sym (ap (λ (s : StoreModel). s.files) e) ∙ told)
+told_before old name bytes new (Err put.NoMemory) files (inr e) told = stays_told name old files (sym (ap (λ (s : StoreModel). s.files) e) ∙ told)
 
 -- ---- the film of a store
 
@@ -144,15 +144,15 @@ under_same name old new (n ∷ names) others apart =
     λ i. one i ∷ rest i
 
 -- a put under another name leaves the film that of the files
-pub film_stays : {T : Type 0} (whole : Bool) (begun now : CaptureModel) (names : List (List ℕ)) (bytes : List ℕ) (old new : Shown) (name text : List ℕ) (r : Result T PutError) → AllByRecursion (λ n. n ≢ name) names → AfterPut old name text new r
+pub film_stays : {T : Type 0} (whole : Bool) (begun now : CaptureModel) (names : List (List ℕ)) (bytes : List ℕ) (old new : StoreModel) (name text : List ℕ) (r : Result T PutError) → AllByRecursion (λ n. n ≢ name) names → AfterPut old name text new r
     → IsFilmOf whole begun now names old.files bytes → IsFilmOf whole begun now names new.files bytes
 film_stays whole begun now names bytes old new name text r apart h film is files told =
     let b = told_before old name text new r files h told in
     subst (λ (ps : List (List ℕ)). HasTaken begun now ps bytes) (sym (under_same name b.before files names b.others apart)) (film is b.before b.told)
 
 -- a picture that was put and added makes it that of the files with the next name
-pub film_grows : {T : Type 0} (begun now next : CaptureModel) (names : List (List ℕ)) (bytes more : List ℕ) (old new : Shown) (name ppm : List ℕ) (done : T) → AllByRecursion (λ n. n ≢ name) names → AfterPut {T = T} old name ppm new (Ok done)
-    → now ≡ with_last begun now.before → next ≡ with_last now (taken_bytes now ppm) → more ≡ bytes ++ next_record now (taken_bytes now ppm) → IsFilmOf true begun now names old.files bytes → IsFilmOf true begun next (names ++ name ∷ []) new.files more
+pub film_grows : {T : Type 0} (begun now next : CaptureModel) (names : List (List ℕ)) (bytes more : List ℕ) (old new : StoreModel) (name ppm : List ℕ) (done : T) → AllByRecursion (λ n. n ≢ name) names → AfterPut {T = T} old name ppm new (Ok done)
+    → now ≡ with_last begun now.before → next ≡ with_last now (cropped_bytes now ppm) → more ≡ bytes ++ next_record now (cropped_bytes now ppm) → IsFilmOf true begun now names old.files bytes → IsFilmOf true begun next (names ++ name ∷ []) new.files more
 film_grows begun now next names bytes more old new name ppm done apart h same last is film whole files told =
     let p = put_told name ppm old.files new.files files h.1 told in
     subst (λ (ps : List (List ℕ)). HasTaken begun next ps more) (sym (put_more name ppm p.before files names p.put apart)) (takes_more begun now next (bytes_under p.before names) bytes more ppm same (film refl p.before p.told) last is)

@@ -11,7 +11,7 @@ use Rattle.std.specs.Global.{Global}
 use Rattle.std.specs.Option.{is_some}
 use Rattle.nit_store.proofs.ForCallers.{puts_more}
 use Rattle.nit_config.specs.Configuration.{Configuration}
-use Rattle.nit_config.specs.Configured.{IsConfigured}
+use Rattle.nit_config.specs.ConfigurationRanges.{IsConfiguration}
 use Rattle.nit_events.specs.declared.entry.Entry.{Entry}
 use Rattle.nit_script.specs.declared.line.Line.{Line}
 use Rattle.nit_script.specs.declared.line.InputLine.{InputLine}
@@ -21,8 +21,8 @@ use Rattle.nit_script.specs.Spelling.{FitsLine, FitsInputLine}
 use Rattle.nit_report.specs.Generator.{client_script, client_text, generated_configuration, script_name, user_script}
 use Rattle.nit_store.specs.declared.store.PutError.{PutError}
 use Rattle.nit_store.specs.declared.store.PutError.TheVariants as put
-use Rattle.nit_store.specs.Shown.{Shown, File, Rose}
-use Rattle.nit_store.specs.Puts.{Putting, PutsAll, PutsNext, unrefused}
+use Rattle.nit_store.specs.Store.{StoreModel, File, Rose}
+use Rattle.nit_store.specs.Puts.{PutState, PutsAll, PutsNext, unrefused}
 use Rattle.nit_top.specs.declared.finish.End.{End}
 use Rattle.nit_top.specs.declared.finish.End.TheVariants as ends
 use Rattle.nit_top.specs.declared.finish.Name.TheVariants as file_name
@@ -33,12 +33,12 @@ use Rattle.nit_top.specs.Setup.{Setup, IsRunnable, generated_files, generated_se
 use Rattle.nit_top.specs.FilesRead.{NoFile, AreAllFiles}
 use Rattle.nit_top.specs.Outputs.{IsJournal, AreOutputs}
 use Rattle.nit_top.specs.Headline.{Headline}
-use Rattle.nit_top.specs.Lines.{Totals, name_text, output_name}
-use Rattle.nit_top.specs.Course.{asked_also, names_of, Course, NotBegun, IsMadeUpTo, PutFiles}
-use Rattle.nit_top.specs.Work.{end_of, end_of_put, putting, refusal_of, setup_of, HasRun, IsAfterRun, Performed, Ends}
-use Rattle.nit_top.proofs.Asking.{also_none, also_more, asking_none}
-use Rattle.nit_top.proofs.Ending.{CameTo, ends_by, performed_ends, totals_on}
-use Rattle.nit_top.proofs.Puts.{PutAll, PutUntil, PutRefused, all_put}
+use Rattle.nit_top.specs.ProgramLines.{Totals, name_text, output_name}
+use Rattle.nit_top.specs.Course.{asked_also, file_names, Course, NotBegun, IsMadeUpTo, PutFiles}
+use Rattle.nit_top.specs.Work.{end_of_run, end_of_put, put_state_of_run, refusal_of, setup_of, HasRun, IsAfterRun, Performed, Ends}
+use Rattle.nit_top.proofs.AskedNames.{also_none, also_more, asking_none}
+use Rattle.nit_top.proofs.WorkLemmas.{CameTo, ends_by, performed_ends, totals_on}
+use Rattle.nit_top.proofs.PutLemmas.{PutAll, PutUntil, PutRefused, all_put}
 
 -- ---- it can be run
 
@@ -54,7 +54,7 @@ pub record GeneratorLaws (n : ℕ) : Type 0 where
   pub input_phases_are : input_phases (user_script n) ≡ 3
   pub fits : AllByRecursion (AllByRecursion FitsLine) (map (client_script n) (range_with_len 0 8))
   pub input_fits : AllByRecursion FitsInputLine (user_script n)
-  pub configured : IsConfigured generated_configuration
+  pub configured : IsConfiguration generated_configuration
 
 both_all : {A : Type 0} (P Q : A → Type 0) (xs : List A) → AllByRecursion P xs → AllByRecursion Q xs → AllByRecursion (λ x. P x × Q x) xs
 both_all P Q [] p q = tt
@@ -113,7 +113,7 @@ abbrev script_file : ℕ → ℕ → File
 script_file n c = (script_name c, client_text n c)
 
 -- one script more is put
-pub one_script_more : (n c : ℕ) (bytes : List ℕ) (old mid new : Putting) → bytes ≡ client_text n c → PutsAll (script_files n c) old mid → PutsNext (script_name c, bytes) mid new → PutsAll (script_files n (c + 1)) old new
+pub one_script_more : (n c : ℕ) (bytes : List ℕ) (old mid new : PutState) → bytes ≡ client_text n c → PutsAll (script_files n c) old mid → PutsNext (script_name c, bytes) mid new → PutsAll (script_files n (c + 1)) old new
 one_script_more n c bytes old mid new is puts next =
     subst (λ (fs : List File). PutsAll fs old new) (sym (map-range_with_len_more (script_file n) 0 c c (zero-add c)))
     (puts_more (script_files n c) (script_file n c) old mid new puts (subst (λ (b : List ℕ). PutsNext (script_name c, b) mid new) is next))
@@ -147,9 +147,9 @@ HeadlineLaw = (s : Setup) (journal : List Entry) (outputs : List File) → IsRun
 
 -- what the law of puts says
 abbrev pub BothLaw : Type 0
-BothLaw = (front back : List File) (old mid new : Putting) → PutsAll front old mid → PutsAll back mid new → PutsAll (front ++ back) old new
+BothLaw = (front back : List File) (old mid new : PutState) → PutsAll front old mid → PutsAll back mid new → PutsAll (front ++ back) old new
 
-module _ (n : ℕ) (old : Shown) where
+module _ (n : ℕ) (old : StoreModel) where
   abbrev s : Setup
   s = generated_setup n
 
@@ -160,7 +160,7 @@ module _ (n : ℕ) (old : Shown) where
   outputs_too journal outputs are = (are.0, record { by_rounds = are.1.by_rounds; beside = are.1.beside }, ap (λ (files : List File). generated_files n ++ files) are.2)
 
   -- a run behind the files that were made
-  run_too : IsRunnable s → BothLaw → HeadlineLaw → (mid new : Shown) (w : Worked) → PutsAll (generated_files n) (unrefused old) (unrefused mid) → IsAfterRun mid (unmade n) new w → IsAfterRun old s new w
+  run_too : IsRunnable s → BothLaw → HeadlineLaw → (mid new : StoreModel) (w : Worked) → PutsAll (generated_files n) (unrefused old) (unrefused mid) → IsAfterRun mid (unmade n) new w → IsAfterRun old s new w
   run_too runnable both headline mid new w made after =
       let r = after.has_run in
       let j : IsJournal s after.ran.journal.items = journal_too after.ran.journal.items r.journal in
@@ -170,7 +170,7 @@ module _ (n : ℕ) (old : Shown) where
         frames = r.frames;
         outputs = generated_files n ++ r.outputs;
         are = are;
-        puts = both (generated_files n) r.outputs (unrefused old) (unrefused mid) (putting new after.ran.fault) made r.puts;
+        puts = both (generated_files n) r.outputs (unrefused old) (unrefused mid) (put_state_of_run new after.ran.fault) made r.puts;
       } in
       record {
         ran = after.ran;
@@ -189,7 +189,7 @@ module _ (n : ℕ) (old : Shown) where
   none = NotBegun refl
 
   -- what the end of the work means where no run was begun
-  ended_so : (new : Shown) (w : Worked) (end : End) → w.journal.items ≡ [] → w.stop.end ≡ end → CameTo (Gen n) old new [] end (name_text w.stop.name) (totals_on w) → Ends (Gen n) old new w
+  ended_so : (new : StoreModel) (w : Worked) (end : End) → w.journal.items ≡ [] → w.stop.end ≡ end → CameTo (Gen n) old new [] end (name_text w.stop.name) (totals_on w) → Ends (Gen n) old new w
   ended_so new w end empty is here =
       let so : CameTo (Gen n) old new [] w.stop.end (name_text w.stop.name) (totals_on w) = subst (λ (e : End). CameTo (Gen n) old new [] e (name_text w.stop.name) (totals_on w)) (sym is) here in
       ends_by (Gen n) old new w (subst (λ (j : List Entry). CameTo (Gen n) old new j w.stop.end (name_text w.stop.name) (totals_on w)) (sym empty) so)
@@ -204,11 +204,11 @@ module _ (n : ℕ) (old : Shown) where
   })
 
   -- all files were put
-  made_all : (mid : Shown) → PutsAll (generated_files n) (unrefused old) (unrefused mid) → PutAll old (generated_files n) mid
+  made_all : (mid : StoreModel) → PutsAll (generated_files n) (unrefused old) (unrefused mid) → PutAll old (generated_files n) mid
   made_all mid puts = all_put old (generated_files n) (unrefused mid) puts
 
   -- memory ran out when they were
-  pub made_whole : (mid : Shown) (w : Worked) → PutsAll (generated_files n) (unrefused old) (unrefused mid) → w.stop.end ≡ ends.NoMemory → w.journal.items ≡ [] → Ends (Gen n) old mid w
+  pub made_whole : (mid : StoreModel) (w : Worked) → PutsAll (generated_files n) (unrefused old) (unrefused mid) → w.stop.end ≡ ends.NoMemory → w.journal.items ≡ [] → Ends (Gen n) old mid w
   made_whole mid w puts is empty =
       let p = made_all mid puts in
       ended_so mid w ends.NoMemory empty is (record {
@@ -221,36 +221,36 @@ module _ (n : ℕ) (old : Shown) where
               front = generated_files n;
               parts = sym (append-nil (generated_files n));
               put = p.put;
-              asks = ap (λ (t : Shown). t.asked) p.rest ∙ ap (λ (ns : List (List ℕ)). asked_also old.asked ns) (sym (append-nil (names_of (generated_files n))));
+              asks = ap (λ (t : StoreModel). t.asked) p.rest ∙ ap (λ (ns : List (List ℕ)). asked_also old.asked ns) (sym (append-nil (file_names (generated_files n))));
             },
           ))),
           refl,
         );
-        counts = (ap (λ (t : Shown). t.read_faults) p.rest, ap (λ (t : Shown). t.write_faults) p.rest);
-        said = ap (λ (t : Shown). t.said) p.rest;
+        counts = (ap (λ (t : StoreModel). t.read_faults) p.rest, ap (λ (t : StoreModel). t.write_faults) p.rest);
+        said = ap (λ (t : StoreModel). t.said) p.rest;
       })
 
   -- the put of one of them was refused
-  module _ (new : Shown) (name bytes : List ℕ) (front back : List File) (parts : generated_files n ≡ front ++ (name, bytes) ∷ back) (mid : Shown) (p : PutAll old front mid) (t : Totals) where
+  module _ (new : StoreModel) (name bytes : List ℕ) (front back : List File) (parts : generated_files n ≡ front ++ (name, bytes) ∷ back) (mid : StoreModel) (p : PutAll old front mid) (t : Totals) where
     up_to : (more : List (List ℕ)) → new.files ≡ mid.files → new.asked ≡ asked_also mid.asked more → IsMadeUpTo none new.files new.asked ((name, bytes) ∷ back) more
     up_to more same asked = record {
       none = tt;
       front = front;
       parts = parts;
       put = subst (λ (f : Option (List File)). PutFiles front old.files f) (sym same) p.put;
-      asks = asked ∙ ap (λ (o : Option (List (List ℕ))). asked_also o more) (ap (λ (u : Shown). u.asked) p.rest) ∙ also_more old.asked (names_of front) more;
+      asks = asked ∙ ap (λ (o : Option (List (List ℕ))). asked_also o more) (ap (λ (u : StoreModel). u.asked) p.rest) ∙ also_more old.asked (file_names front) more;
     }
 
     made_refused : (e : PutError) → PutRefused mid name new e → CameTo (Gen n) old new [] (end_of_put e) name t
     made_refused put.Failed h = record {
       course = none;
-      came = (name, inl (bytes, back, up_to (name ∷ []) (ap (λ (u : Shown). u.files) h.rest) (ap (λ (u : Shown). u.asked) h.rest)), refl);
-      counts = (ap (λ (u : Shown). u.read_faults) h.rest ∙ ap (λ (u : Shown). u.read_faults) p.rest, rose, later);
-      said = ap (λ (u : Shown). u.said) h.rest ∙ ap (λ (u : Shown). u.said) p.rest;
+      came = (name, inl (bytes, back, up_to (name ∷ []) (ap (λ (u : StoreModel). u.files) h.rest) (ap (λ (u : StoreModel). u.asked) h.rest)), refl);
+      counts = (ap (λ (u : StoreModel). u.read_faults) h.rest ∙ ap (λ (u : StoreModel). u.read_faults) p.rest, rose, later);
+      said = ap (λ (u : StoreModel). u.said) h.rest ∙ ap (λ (u : StoreModel). u.said) p.rest;
     }
       where
         writes : mid.write_faults ≡ old.write_faults
-        writes = ap (λ (u : Shown). u.write_faults) p.rest
+        writes = ap (λ (u : StoreModel). u.write_faults) p.rest
 
         rose : Rose old.write_faults new.write_faults
         rose = subst (λ (k : ℕ). Rose k new.write_faults) writes h.rose
@@ -259,29 +259,29 @@ module _ (n : ℕ) (old : Shown) where
         later = subst (λ (k : ℕ). k ≤ new.write_faults) writes h.later
     made_refused put.NoMemory (inl e) = record {
       course = none;
-      came = (inr (inl (inl (name, (bytes, back, up_to (name ∷ []) (ap (λ (u : Shown). u.files) e) (ap (λ (u : Shown). u.asked) e))))), refl);
-      counts = (ap (λ (u : Shown). u.read_faults) e ∙ ap (λ (u : Shown). u.read_faults) p.rest, ap (λ (u : Shown). u.write_faults) e ∙ ap (λ (u : Shown). u.write_faults) p.rest);
-      said = ap (λ (u : Shown). u.said) e ∙ ap (λ (u : Shown). u.said) p.rest;
+      came = (inr (inl (inl (name, (bytes, back, up_to (name ∷ []) (ap (λ (u : StoreModel). u.files) e) (ap (λ (u : StoreModel). u.asked) e))))), refl);
+      counts = (ap (λ (u : StoreModel). u.read_faults) e ∙ ap (λ (u : StoreModel). u.read_faults) p.rest, ap (λ (u : StoreModel). u.write_faults) e ∙ ap (λ (u : StoreModel). u.write_faults) p.rest);
+      said = ap (λ (u : StoreModel). u.said) e ∙ ap (λ (u : StoreModel). u.said) p.rest;
     }
     made_refused put.NoMemory (inr e) = record {
       course = none;
-      came = (inr (inl (inr ((name, bytes) ∷ back, up_to [] (ap (λ (u : Shown). u.files) e) (ap (λ (u : Shown). u.asked) e ∙ also_none mid.asked)))), refl);
-      counts = (ap (λ (u : Shown). u.read_faults) e ∙ ap (λ (u : Shown). u.read_faults) p.rest, ap (λ (u : Shown). u.write_faults) e ∙ ap (λ (u : Shown). u.write_faults) p.rest);
-      said = ap (λ (u : Shown). u.said) e ∙ ap (λ (u : Shown). u.said) p.rest;
+      came = (inr (inl (inr ((name, bytes) ∷ back, up_to [] (ap (λ (u : StoreModel). u.files) e) (ap (λ (u : StoreModel). u.asked) e ∙ also_none mid.asked)))), refl);
+      counts = (ap (λ (u : StoreModel). u.read_faults) e ∙ ap (λ (u : StoreModel). u.read_faults) p.rest, ap (λ (u : StoreModel). u.write_faults) e ∙ ap (λ (u : StoreModel). u.write_faults) p.rest);
+      said = ap (λ (u : StoreModel). u.said) e ∙ ap (λ (u : StoreModel). u.said) p.rest;
     }
 
   -- the put of one of the files was refused
-  pub made_in_part : (new : Shown) (fault : Option PutFault) (w : Worked) → is_some fault ≡ true → PutsAll (generated_files n) (unrefused old) (putting new fault) → w.stop.end ≡ end_of fault → IfSome fault (λ g. w.stop.name ≡ file_name.Put g.file) → w.journal.items ≡ []
+  pub made_in_part : (new : StoreModel) (fault : Option PutFault) (w : Worked) → is_some fault ≡ true → PutsAll (generated_files n) (unrefused old) (put_state_of_run new fault) → w.stop.end ≡ end_of_run fault → IfSome fault (λ g. w.stop.name ≡ file_name.Put g.file) → w.journal.items ≡ []
       → Ends (Gen n) old new w
   made_in_part new None w some puts is named empty = absurd cc
   made_in_part new (Some g) w some puts is named empty =
-      let u : PutUntil old (generated_files n) new (refusal_of g) = all_put old (generated_files n) (putting new (Some g)) puts in
+      let u : PutUntil old (generated_files n) new (refusal_of g) = all_put old (generated_files n) (put_state_of_run new (Some g)) puts in
       let here : CameTo (Gen n) old new [] (end_of_put g.error) (output_name g.file) (totals_on w) = made_refused new (output_name g.file) u.bytes u.front u.back u.parts u.mid u.put (totals_on w) g.error u.refused in
       let name_is : name_text w.stop.name ≡ output_name g.file = ap name_text named in
       ended_so new w (end_of_put g.error) empty is (subst (λ (m : List ℕ). CameTo (Gen n) old new [] (end_of_put g.error) m (totals_on w)) (sym name_is) here)
 
   -- ---- the whole
 
-  pub generated_ends : IsRunnable s → BothLaw → HeadlineLaw → (mid new : Shown) (w : Worked) → PutsAll (generated_files n) (unrefused old) (unrefused mid) → Performed mid (unmade n) new w → Ends (Gen n) old new w
+  pub generated_ends : IsRunnable s → BothLaw → HeadlineLaw → (mid new : StoreModel) (w : Worked) → PutsAll (generated_files n) (unrefused old) (unrefused mid) → Performed mid (unmade n) new w → Ends (Gen n) old new w
   generated_ends runnable both headline mid new w made (inl after) = performed_ends (Gen n) old old new s w (λ config pictures. refl, λ config. refl) (asking_none old) (files_are n old.files runnable) (inl (run_too runnable both headline mid new w made after))
-  generated_ends runnable both headline mid new w made (inr (is, same, empty)) = subst (λ (t : Shown). Ends (Gen n) old t w) (sym same) (made_whole mid w made is empty)
+  generated_ends runnable both headline mid new w made (inr (is, same, empty)) = subst (λ (t : StoreModel). Ends (Gen n) old t w) (sym same) (made_whole mid w made is empty)

@@ -15,8 +15,8 @@ use Rattle.nit_events.specs.declared.call.Reply.{Reply}
 use Rattle.nit_events.specs.declared.call.Reply.TheVariants as reply
 use Rattle.nit_glyph.specs.Texts.{is_title}
 use Rattle.nit_slots.specs.Account.{buffer_need, buffer_left, view_need, view_left}
-use Rattle.nit_journal.specs.Session.{Session, Answered, ◌orelse◌, accepted, by_call, by_handle, by_life, by_quota, by_refusal, by_reserve, by_status, has_view, is_side, opened, receive, refusal, serve, taking, unless}
-use Rattle.nit_journal.specs.Projections.{Moment, Calls, Gets, after_moments}
+use Rattle.nit_journal.specs.Session.{Session, Answered, ◌orelse◌, accepted, by_call, by_handle, by_life, by_quota, by_refusal, by_reserve, by_status, has_view, is_side, first_session, receive, refusal, serve, taking, unless}
+use Rattle.nit_journal.specs.Projection.{Observation, Calls, Gets, after_observations}
 use Rattle.nit_script.specs.Spelling.{FitsCall}
 use Rattle.nit_report.specs.JournalText.{FitsEvent, FitsItem, FitsReply}
 
@@ -26,7 +26,7 @@ pub record IsFine (t : Session) (n : ℕ) : Type 0 where
   pub next : t.next ≤ n + 1
   pub queue : AllByRecursion FitsEvent t.queue
 
-pub opens_fine : (donation : ℕ) → donation ≤ 8388608 → IsFine (opened donation) 0
+pub opens_fine : (donation : ℕ) → donation ≤ 8388608 → IsFine (first_session donation) 0
 opens_fine donation most = record { sum = let less = min-le_right (2 * donation) 8388608 in omega arith; next = omega arith; queue = tt }
 
 -- ---- refusals
@@ -160,19 +160,19 @@ receive_fine status.Closed t n i f g = f
 receive_fine status.Killed t n i f g = f
 
 -- a call or an item within the format
-abbrev pub MomentFits : Moment → Type 0
+abbrev pub MomentFits : Observation → Type 0
 MomentFits (Calls call) = FitsCall call
 MomentFits (Gets i) = FitsItem i
 
 -- how many calls are among moments
-abbrev pub calls_among : List Moment → ℕ
+abbrev pub calls_among : List Observation → ℕ
 calls_among [] = 0
 calls_among (Calls call ∷ rest) = 1 + calls_among rest
 calls_among (Gets i ∷ rest) = calls_among rest
 
-pub moments_fine : (t : Session) (n : ℕ) (moments : List Moment) → IsFine t n → n + calls_among moments ≤ 2000000 → AllByRecursion MomentFits moments → IsFine (after_moments t moments) (n + calls_among moments)
+pub moments_fine : (t : Session) (n : ℕ) (moments : List Observation) → IsFine t n → n + calls_among moments ≤ 2000000 → AllByRecursion MomentFits moments → IsFine (after_observations t moments) (n + calls_among moments)
 moments_fine t n [] f few g = subst (λ (m : ℕ). IsFine t m) (let e : n ≡ n + 0 = omega arith in e) f
 moments_fine t n (Calls call ∷ rest) f few g =
-    subst (λ (m : ℕ). IsFine (after_moments (serve t call).session rest) m) (let e : n + 1 + calls_among rest ≡ n + (1 + calls_among rest) = omega arith in e)
+    subst (λ (m : ℕ). IsFine (after_observations (serve t call).session rest) m) (let e : n + 1 + calls_among rest ≡ n + (1 + calls_among rest) = omega arith in e)
     (moments_fine (serve t call).session (n + 1) rest (served t n call f (omega arith) g.0).fine (omega arith) g.1)
 moments_fine t n (Gets i ∷ rest) f few g = moments_fine (receive t i) n rest (receive_fine t.status t n i f g.0) few g.1

@@ -10,7 +10,7 @@ use Rattle.nit_events.specs.declared.device.Device.{Device}
 use Rattle.nit_events.specs.declared.device.Device.TheVariants as device
 use Rattle.nit_events.specs.declared.device.Mode.{Mode}
 use Rattle.nit_events.specs.declared.device.Mode.TheVariants.{Flat, Xray, Kill}
-use Rattle.nit_events.specs.Input.{InputState, Routing, first_press, focusing, holding, hovering, ignored, is_button, is_held, is_same, kill_button, kill_key, kill_mode, killing, leaving, letting_go, moving, pointer_after, press, pressing, received, release, routing, switching, takes_focus, to, unreceived, xray_key, xray_mode}
+use Rattle.nit_events.specs.Input.{InputState, Routing, first_press, focusing, with_held, hovering, ignored, is_button, is_held, is_same, kill_button, kill_key, kill_mode, killing, leaving, letting_go, moving, pointer_after, press, pressing, received, release, routing, switching, takes_focus, to, unreceived, xray_key, xray_mode}
 use Rattle.nit_events.specs.Ranges.{IsCode}
 use Rattle.nit_script.specs.Spelling.{FitsDevice}
 use Rattle.nit_report.specs.JournalText.{FitsEvent, FitsItem}
@@ -88,7 +88,7 @@ first_press_fits Kill clicks pointed i k f =
     unreceived_fits i (cond (k == kill_button) (killing pointed i) (ignored i)) (either (k == kill_button) i (killing pointed i) (ignored i) (killing_fits pointed i) (ignored_fits i))
 
 pressing_fits : (held : List ℕ) (clicks : Bool) (pointed : Option ℕ) (i : InputState) (k : ℕ) → IsCode k → RouteFits i (pressing held clicks pointed i k)
-pressing_fits [] clicks pointed i k f = let h = first_press_fits i.mode clicks pointed (holding i k) k f in record { items = h.items; x = h.x; y = h.y }
+pressing_fits [] clicks pointed i k f = let h = first_press_fits i.mode clicks pointed (with_held i k) k f in record { items = h.items; x = h.x; y = h.y }
 pressing_fits (j ∷ js) clicks pointed i k f = record { items = to_fits i.receiver (event.Press k) f; x = refl; y = refl }
 
 press_fits : (clicks : Bool) (pointed : Option ℕ) (i : InputState) (k : ℕ) → IsCode k → RouteFits i (press clicks pointed i k)

@@ -4,21 +4,21 @@ use Rattle.std.specs.List.{list_any}
 use Rattle.nit_events.specs.declared.entry.Entry.{Entry}
 use Rattle.nit_store.specs.declared.store.PutError.{PutError}
 use Rattle.nit_store.specs.declared.store.PutError.TheVariants as put
-use Rattle.nit_store.specs.Shown.{Shown, File, Rose}
+use Rattle.nit_store.specs.Store.{StoreModel, File, Rose}
 use Rattle.nit_top.specs.declared.finish.End.{End}
 use Rattle.nit_top.specs.declared.finish.End.TheVariants as ends
 use Rattle.nit_top.specs.Command.{Gen, NoCommand, Command, command}
 use Rattle.nit_top.specs.Setup.{Setup}
-use Rattle.nit_top.specs.Judged.{Refused, Judged, IsRefused, IsValid, fault_code}
-use Rattle.nit_top.specs.Films.{is_outside_of}
-use Rattle.nit_top.specs.Lines.{usage_line, read_fault_line, write_fault_line, outside_line, fault_line, audited_line, generated_line, summary_line, no_memory_line}
+use Rattle.nit_top.specs.Judgement.{Refused, Judged, IsRefusedWith, IsValid, fault_code}
+use Rattle.nit_top.specs.RunFilm.{is_outside_of}
+use Rattle.nit_top.specs.ProgramLines.{usage_line, read_fault_line, write_fault_line, outside_line, fault_line, audited_line, generated_line, summary_line, no_memory_line}
 use Rattle.nit_top.specs.Course.{Course, WithRun, IsNotBegun, IsOutside, IsLastRead, IsMadeBefore, IsMadeInPart, IsPutWhole, IsRefusedAt, IsCutShort, totals}
 use Rattle.nit_top.specs.Audited.{IsAudit, AuditOr, IsAudited}
 
 -- ---- how the work came to its end
 
 -- what that end means, and the line on it
-abbrev pub Came : {old : Shown} {c : Command} {journal : List Entry} → Course old c journal
+abbrev pub Came : {old : StoreModel} {c : Command} {journal : List Entry} → Course old c journal
     → Option (List File) → Option (List (List ℕ)) → End → List ℕ → Type 0
 Came {c = c} course files asked ends.Usage line =
     (c ≡ NoCommand) × IsNotBegun course files asked × (line ≡ usage_line)
@@ -30,7 +30,8 @@ Came {old = old} {c = c} course files asked (ends.Refused f) line =
 Came course files asked ends.Outside line = IsOutside course files asked × (line ≡ outside_line)
 Came course files asked ends.WriteFault line =
     (name : List ℕ)
-    × (IsMadeBefore course files asked name ⊎ WithRun course (λ run. IsRefusedAt run files asked name))
+    × (IsMadeBefore course files asked name
+    ⊎ WithRun course (λ run. IsRefusedAt run files asked name))
     × (line ≡ write_fault_line name)
 Came course files asked ends.NoMemory line =
     (IsNotBegun course files asked
@@ -42,7 +43,7 @@ Came course files asked (ends.Audited count) line =
     IsAudited course files asked count × (line ≡ audited_line count)
 
 -- which counts of failures rose in the work
-abbrev pub Counts : Shown → Shown → End → Type 0
+abbrev pub Counts : StoreModel → StoreModel → End → Type 0
 Counts old new ends.ReadFault =
     Rose old.read_faults new.read_faults × (new.write_faults ≡ old.write_faults)
 Counts old new ends.WriteFault =
@@ -75,7 +76,7 @@ abbrev pub said_also : Option (List ℕ) → List ℕ → Option (List ℕ)
 said_also said text = option_map (λ before. before ++ text) said
 
 -- The count of failed writes rose when the line was said; at a code of 4 it had risen before too.
-pub record SayingFailed (old new : Shown) (code : ℕ) : Type 0 where
+pub record SayingFailed (old new : StoreModel) (code : ℕ) : Type 0 where
   pub between : ℕ
   pub before : old.write_faults ≤ between
   pub put : code ≡ 4 → Rose old.write_faults between
@@ -83,7 +84,7 @@ pub record SayingFailed (old new : Shown) (code : ℕ) : Type 0 where
 
 -- The line was said, and nothing else; or a front of it, where the saying was refused or memory ran
 -- out in it.
-pub record SaysLine (old new : Shown) (code status : ℕ) (line : List ℕ) : Type 0 where
+pub record SaysLine (old new : StoreModel) (code status : ℕ) (line : List ℕ) : Type 0 where
   pub front : List ℕ
   pub back : List ℕ
   pub parts : line ≡ front ++ back
@@ -93,8 +94,9 @@ pub record SaysLine (old new : Shown) (code status : ℕ) (line : List ℕ) : Ty
       ⊎ ((status ≡ (if code == 0 then 4 else code)) × SayingFailed old new code))
 
 -- The work came to this end, and the line on it was said, or a front of it.
-pub record IsSaid {old : Shown} {c : Command} {journal : List Entry} (course : Course old c journal)
-    (new : Shown) (status : ℕ) : Type 0 where
+pub record IsSaid {old : StoreModel} {c : Command} {journal : List Entry}
+    (course : Course old c journal)
+    (new : StoreModel) (status : ℕ) : Type 0 where
   pub end : End
   pub line : List ℕ
   pub came : Came course new.files new.asked end line
@@ -108,12 +110,13 @@ pub record IsSaid {old : Shown} {c : Command} {journal : List Entry} (course : C
 abbrev pub NoFault : ℕ → ℕ → Type 0
 NoFault before now = Rose before now → ⊥
 
--- the files are valid, and this is whether the region that the command films does not lie on their screen
+-- the files are valid, and this is whether the region that the command films does not lie on their
+-- screen
 abbrev pub IsValidSo : Command → Bool → List File → Type 0
 IsValidSo c outside files = (s : Setup) × IsValid c files s × (is_outside_of c s.config ≡ outside)
 
--- the files that the command reads are valid, and a region that it films lies on the screen; a generated run
--- reads none
+-- the files that the command reads are valid, and a region that it films lies on the screen; a
+-- generated run reads none
 abbrev pub HasValidFiles : Command → Option (List File) → Type 0
 HasValidFiles (Gen number) told = Unit {0}
 HasValidFiles c told = IsSomeAnd told (IsValidSo c false)
@@ -122,7 +125,7 @@ HasValidFiles c told = IsSomeAnd told (IsValidSo c false)
 abbrev pub IsEarly : ℕ → Type 0
 IsEarly status = IsTrue (list_any (λ s. s == status) (2 ∷ 3 ∷ 5 ∷ 6 ∷ 8 ∷ 9 ∷ 10 ∷ []))
 
-pub record Answer (old : Shown) (words : List (List ℕ)) (new : Shown) (status : ℕ)
+pub record Answer (old : StoreModel) (words : List (List ℕ)) (new : StoreModel) (status : ℕ)
     (journal : List Entry) : Type 0 where
   -- a run was begun, and this is it; or none was begun, and the journal is empty
   pub course : Course old (command words) journal
@@ -138,33 +141,34 @@ pub record Answer (old : Shown) (words : List (List ℕ)) (new : Shown) (status 
   pub write_fault : status ≡ 4 → Rose old.write_faults new.write_faults
   pub write_failed : old.write_faults < new.write_faults → status ≡ 0 → ⊥
   -- 5 exactly where the configuration is refused
-  pub bad_config : status ≡ 5 → IfSome old.files (λ files. IsRefused 5 (command words) files)
+  pub bad_config : status ≡ 5 → IfSome old.files (λ files. IsRefusedWith 5 (command words) files)
   pub is_bad_config : NoFault old.read_faults new.read_faults
-      → IsSomeAnd old.files (λ files. IsRefused 5 (command words) files)
+      → IsSomeAnd old.files (λ files. IsRefusedWith 5 (command words) files)
       → (status ≡ 5) ⊎ (status ≡ 7)
   -- 6 exactly where a script is the first file that is refused
-  pub refused : status ≡ 6 → IfSome old.files (λ files. IsRefused 6 (command words) files)
+  pub refused : status ≡ 6 → IfSome old.files (λ files. IsRefusedWith 6 (command words) files)
   pub is_refused : NoFault old.read_faults new.read_faults
-      → IsSomeAnd old.files (λ files. IsRefused 6 (command words) files)
+      → IsSomeAnd old.files (λ files. IsRefusedWith 6 (command words) files)
       → (status ≡ 6) ⊎ (status ≡ 7)
   -- 8 exactly where the journal's text is the first that is refused; 9 exactly where all texts are
   -- valid and the journal is none of a run
-  pub bad_journal : status ≡ 8 → IfSome old.files (λ files. IsRefused 8 (command words) files)
+  pub bad_journal : status ≡ 8 → IfSome old.files (λ files. IsRefusedWith 8 (command words) files)
   pub is_bad_journal : NoFault old.read_faults new.read_faults
-      → IsSomeAnd old.files (λ files. IsRefused 8 (command words) files)
+      → IsSomeAnd old.files (λ files. IsRefusedWith 8 (command words) files)
       → (status ≡ 8) ⊎ (status ≡ 7)
-  pub not_a_run : status ≡ 9 → IfSome old.files (λ files. IsRefused 9 (command words) files)
+  pub not_a_run : status ≡ 9 → IfSome old.files (λ files. IsRefusedWith 9 (command words) files)
   pub is_not_a_run : NoFault old.read_faults new.read_faults
-      → IsSomeAnd old.files (λ files. IsRefused 9 (command words) files)
+      → IsSomeAnd old.files (λ files. IsRefusedWith 9 (command words) files)
       → (status ≡ 9) ⊎ (status ≡ 7)
-  -- 10 exactly where the files are valid and the region that is to be filmed does not lie on the screen
+  -- 10 exactly where the files are valid and the region that is to be filmed does not lie on the
+  -- screen
   pub outside : status ≡ 10 → IfSome old.files (IsValidSo (command words) true)
   pub is_outside : NoFault old.read_faults new.read_faults
       → IsSomeAnd old.files (IsValidSo (command words) true) → (status ≡ 10) ⊎ (status ≡ 7)
   -- where the work ends before a run, nothing is put and the journal is empty
   pub nothing_put : IsEarly status → (new.files ≡ old.files) × (journal ≡ [])
-  -- there the names that are asked for are those of valid files that were read, and at most the next
-  -- one
+  -- there the names that are asked for are those of valid files that were read, and at most the
+  -- next one
   pub asked : IsEarly status → IsNotBegun course new.files new.asked
   -- an audit puts nothing, and the journal is empty, whatever the status
   pub audit_puts_nothing : IsAudit (command words) → (new.files ≡ old.files) × (journal ≡ [])
@@ -180,16 +184,16 @@ pub record Answer (old : Shown) (words : List (List ℕ)) (new : Shown) (status 
   -- and it is the same line for every generated run
   pub one_line : (number : ℕ) → command words ≡ Gen number → status ≡ 0
       → new.said ≡ said_also old.said generated_line
-  -- at 4 a run was begun: all is put, and the line was refused; or the files before one are put, and
-  -- that one was refused; or none was begun, and that one is among the files that the command makes;
-  -- or an audit said yes, and the line was refused
+  -- at 4 a run was begun: all is put, and the line was refused; or the files before one are put,
+  -- and that one was refused; or none was begun, and that one is among the files that the command
+  -- makes; or an audit said yes, and the line was refused
   pub put_in_part : status ≡ 4 → AuditOr (command words)
       ((count : ℕ) × IsAudited course new.files new.asked count)
       (((name : List ℕ) × IsMadeBefore course new.files new.asked name)
       ⊎ WithRun course (λ run. IsPutWhole run new.files new.asked
       ⊎ ((name : List ℕ) × IsRefusedAt run new.files new.asked name)))
-  -- at 7 it is as at 0 or 4, or memory ran out at a file that the run was to put; or no run was begun, and
-  -- nothing is put but the first files that the command makes
+  -- at 7 it is as at 0 or 4, or memory ran out at a file that the run was to put; or no run was
+  -- begun, and nothing is put but the first files that the command makes
   pub at_seven : status ≡ 7
       → IsNotBegun course new.files new.asked
       ⊎ (IsMadeInPart course new.files new.asked
@@ -197,8 +201,8 @@ pub record Answer (old : Shown) (words : List (List ℕ)) (new : Shown) (status 
       ⊎ IsCutShort run new.files new.asked))
   -- the line on how the work came to its end is what is said, and the status goes by both
   pub said : IsSaid course new status
-  -- valid files, with a region on the screen, are run to the end, and a journal of a run is found to
-  -- be one, unless the store fails or memory runs out
+  -- valid files, with a region on the screen, are run to the end, and a journal of a run is found
+  -- to be one, unless the store fails or memory runs out
   pub complete : HasValidFiles (command words) old.files
       → NoFault old.read_faults new.read_faults → NoFault old.write_faults new.write_faults
       → (status ≡ 0) ⊎ (status ≡ 7)

@@ -3,7 +3,7 @@ use Rattle.std.specs.Prelude.{◌^◌, ◌<◌, ◌≤◌, true, false}
 use Rattle.nit_top.specs.declared.words.Asked.{Asked}
 use Rattle.nit_top.specs.declared.words.Asked.TheVariants as asked
 use Rattle.nit_top.specs.Command.{Command, Still, Run, Gen, Audit, Capture}
-use Rattle.nit_top.specs.Regions.{IsShort}
+use Rattle.nit_top.specs.Region.{IsRegionWords}
 
 -- the command that is asked for
 abbrev pub asks_for : Asked → Command
@@ -14,9 +14,11 @@ asks_for (asked.Gen number) = Gen number
 asks_for (asked.Audit config journal) = Audit config.now journal.now
 asks_for (asked.Capture config region) = Capture config.now region
 
--- the size of a picture, the number of a generated run, and the numbers of a region are within their ranges
-abbrev pub IsInRange : Asked → Type 0
-IsInRange (asked.Still width height script) = (0 < width) × (width ≤ 1024) × (0 < height) × (height ≤ 768)
-IsInRange (asked.Gen number) = number < 10 ^ 9
-IsInRange (asked.Capture config region) = IsShort region
-IsInRange other = Unit {0}
+-- the size of a picture, the number of a generated run, and the numbers of a region are within
+-- their ranges
+abbrev pub IsAskedInRange : Asked → Type 0
+IsAskedInRange (asked.Still width height script) = (0 < width) × (width ≤ 1024) × (0 < height)
+    × (height ≤ 768)
+IsAskedInRange (asked.Gen number) = number < 10 ^ 9
+IsAskedInRange (asked.Capture config region) = IsRegionWords region
+IsAskedInRange other = Unit {0}

@@ -2,19 +2,19 @@
 use Rattle.std.specs.Prelude.{◌≡◌, ℕ, ◌<◌, List, length, map, Option, IfSome}
 use Rattle.nit_events.specs.declared.entry.Entry.{Entry}
 use Rattle.nit_config.specs.Configuration.{donation_of}
-use Rattle.nit_journal.specs.Journals.{IsLegal}
-use Rattle.nit_journal.specs.Projections.{alone, projection, replies_to}
-use Rattle.nit_journal.specs.Whole.{IsWhole}
-use Rattle.nit_plan.specs.Calls.{calls_to_make, deeds_to_do}
+use Rattle.nit_journal.specs.Replay.{IsLegal}
+use Rattle.nit_journal.specs.Projection.{alone, projection, replies_to}
+use Rattle.nit_journal.specs.WholeJournals.{IsWhole}
+use Rattle.nit_plan.specs.Calls.{calls_to_make, user_actions_to_do}
 use Rattle.nit_audit.specs.declared.auditing.Verdict.TheVariants as verdict
-use Rattle.nit_store.specs.Shown.{Shown, File, bytes_of}
+use Rattle.nit_store.specs.Store.{StoreModel, File, bytes_of}
 use Rattle.nit_top.specs.declared.finish.End.{End}
 use Rattle.nit_top.specs.declared.finish.End.TheVariants as end
 use Rattle.nit_top.specs.declared.finish.Fault.TheVariants as fault
 use Rattle.nit_top.specs.Command.{Command, Audit}
 use Rattle.nit_top.specs.Setup.{Setup, IsRunnable}
 use Rattle.nit_top.specs.JournalFiles.{IsJournalText, IsVerdictOn}
-use Rattle.nit_top.specs.Judged.{AreSetup, reads}
+use Rattle.nit_top.specs.Judgement.{AreSetup, reads}
 use Rattle.nit_top.specs.Course.{Course, WithoutRun, asked_also}
 
 -- the command is an audit
@@ -32,7 +32,7 @@ AuditOr other OfAudit OfRun = OfRun
 pub record IsOfARun (s : Setup) (entries : List Entry) : Type 0 where
   pub yes : IsVerdictOn s entries verdict.Yes
   pub legal : IsLegal s.config entries
-  pub whole : IsWhole (map calls_to_make s.scripts) (deeds_to_do s.input) entries
+  pub whole : IsWhole (map calls_to_make s.scripts) (user_actions_to_do s.input) entries
   pub alone : (n : ℕ) → n < length s.config.clients
       → replies_to n entries ≡ alone (donation_of s.config n) (projection n entries)
 
@@ -42,10 +42,11 @@ AreAudited (Audit configuration journal) files s entries =
     AreSetup configuration files s × IsJournalText (bytes_of journal files) entries
 AreAudited other files s entries = ⊥
 
--- No run was begun, and no file was put. The command is an audit, and all of its files were read. The
--- journal has so many entries, and they are those of a run of what the other files are.
-pub record IsAudited {old : Shown} {c : Command} {journal : List Entry}
-    (course : Course old c journal) (files : Option (List File)) (asked : Option (List (List ℕ))) (count : ℕ) : Type 0 where
+-- No run was begun, and no file was put. The command is an audit, and all of its files were read.
+-- The journal has so many entries, and they are those of a run of what the other files are.
+pub record IsAudited {old : StoreModel} {c : Command} {journal : List Entry}
+    (course : Course old c journal) (files : Option (List File)) (asked : Option (List (List ℕ)))
+    (count : ℕ) : Type 0 where
   pub none : WithoutRun course
   pub same : files ≡ old.files
   pub audit : IsAudit c

@@ -10,10 +10,11 @@ use Rattle.nit_top.specs.declared.region.Region.{Region}
 abbrev pub texts : {Z : Type 0} → List (String Z) → List (List ℕ)
 texts words = map string_bytes words
 
--- a picture of one client's script, on a screen of this width and height; or the run of a configuration, with its
--- clients beside each other on threads of their own, or by turns; or the generated run of this number, with its
--- clients beside each other; or the audit of a journal by a configuration; or such a run of a
--- configuration and the film of a region; or nothing that the program does
+-- a picture of one client's script, on a screen of this width and height; or the run of a
+-- configuration, with its clients beside each other on threads of their own, or by turns; or the
+-- generated run of this number, with its clients beside each other; or the audit of a journal by a
+-- configuration; or such a run of a configuration and the film of a region; or nothing that the
+-- program does
 pub data Command : Type 0 where
   Still : (width : ℕ) → (height : ℕ) → (script : List ℕ) → Command
   Run : (beside : Bool) → (configuration : List ℕ) → Command
@@ -40,8 +41,8 @@ abbrev pub natural_of : List ℕ → Option ℕ
 natural_of word = number_among 0 (10 ^ 9) word
 
 -- the number of 1 up to most that a word spells
-abbrev pub size_of : ℕ → List ℕ → Option ℕ
-size_of most word = number_among 1 most word
+abbrev pub number_up_to : ℕ → List ℕ → Option ℕ
+number_up_to most word = number_among 1 most word
 
 abbrev pub still : Option ℕ → Option ℕ → List ℕ → Command
 still (Some width) (Some height) script = Still width height script
@@ -77,11 +78,12 @@ audit_of verb configuration journal =
 -- `still`, a width of 1 up to 1024, a height of 1 up to 768, and the name of a script
 abbrev pub still_of : List ℕ → List ℕ → List ℕ → List ℕ → Command
 still_of verb width height script =
-    if bytes_eq verb (codes "still") then still (size_of 1024 width) (size_of 768 height) script else NoCommand
+    if bytes_eq verb (codes "still") then still (number_up_to 1024 width)
+    (number_up_to 768 height) script else NoCommand
 
 -- `capture`, the name of a configuration, and the four numbers of a region
-abbrev pub capture_of : List ℕ → List ℕ → List ℕ → List ℕ → List ℕ → List ℕ → Command
-capture_of verb configuration x y w h =
+abbrev pub capture_command : List ℕ → List ℕ → List ℕ → List ℕ → List ℕ → List ℕ → Command
+capture_command verb configuration x y w h =
     if bytes_eq verb (codes "capture")
     then capture configuration (natural_of x) (natural_of y) (natural_of w) (natural_of h)
     else NoCommand
@@ -91,5 +93,5 @@ abbrev pub command : List (List ℕ) → Command
 command (verb ∷ word ∷ []) = run_of verb word
 command (verb ∷ configuration ∷ journal ∷ []) = audit_of verb configuration journal
 command (verb ∷ width ∷ height ∷ script ∷ []) = still_of verb width height script
-command (verb ∷ configuration ∷ x ∷ y ∷ w ∷ h ∷ []) = capture_of verb configuration x y w h
+command (verb ∷ configuration ∷ x ∷ y ∷ w ∷ h ∷ []) = capture_command verb configuration x y w h
 command words = NoCommand

@@ -1,16 +1,16 @@
 -- How far a command came: the files that it read, the run, and the files that were put.
 use Rattle.std.specs.Prelude.{◌≡◌, ◌⊎◌, ℕ, ◌+◌, true, false, List, [], ◌∷◌, ◌++◌, length, map, Option, Some, None, option_map}
 use Rattle.nit_events.specs.declared.entry.Entry.{Entry}
-use Rattle.nit_journal.specs.Journals.{shots}
-use Rattle.nit_store.specs.Shown.{Shown, File, IsPut}
+use Rattle.nit_journal.specs.Replay.{shots}
+use Rattle.nit_store.specs.Store.{StoreModel, File, IsPut}
 use Rattle.nit_top.specs.Command.{Command, Gen}
 use Rattle.nit_top.specs.Setup.{Setup, generated_files}
-use Rattle.nit_top.specs.Judged.{reads}
+use Rattle.nit_top.specs.Judgement.{reads}
 use Rattle.nit_top.specs.FilesRead.{FilesRead, HasRead, AreAllFiles, names_read, next_name}
 use Rattle.nit_top.specs.Outputs.{AreOutputs}
-use Rattle.nit_top.specs.Films.{added_by, is_outside_of, pictures_in}
+use Rattle.nit_top.specs.RunFilm.{added_by, is_outside_of, pictures_in}
 use Rattle.nit_top.specs.Headline.{Headline}
-use Rattle.nit_top.specs.Lines.{Totals}
+use Rattle.nit_top.specs.ProgramLines.{Totals}
 
 -- ---- files, and names that are asked for
 
@@ -24,8 +24,8 @@ abbrev pub PutFiles : List File → Option (List File) → Option (List File) �
 PutFiles files None new = new ≡ None
 PutFiles files (Some old) new = (all : List File) × (new ≡ Some all) × PutEach files old all
 
-abbrev pub names_of : List File → List (List ℕ)
-names_of files = map (λ f. f.0) files
+abbrev pub file_names : List File → List (List ℕ)
+file_names files = map (λ f. f.0) files
 
 -- the names that were asked for, and these behind them
 abbrev pub asked_also : Option (List (List ℕ)) → List (List ℕ) → Option (List (List ℕ))
@@ -33,9 +33,10 @@ asked_also asked names = option_map (λ before. before ++ names) asked
 
 -- ---- the run
 
--- The run of a command was begun: this is what was run, and these are its own files. All that it is to put
--- are these, and behind them what the command adds. A region that it films lies on the screen.
-pub record IsRun (old : Shown) (c : Command) (journal : List Entry) : Type 0 where
+-- The run of a command was begun: this is what was run, and these are its own files. All that it is
+-- to put are these, and behind them what the command adds. A region that it films lies on the
+-- screen.
+pub record IsCommandRun (old : StoreModel) (c : Command) (journal : List Entry) : Type 0 where
   pub setup : Setup
   pub files_are : AreAllFiles c old.files setup
   pub inside : is_outside_of c setup.config ≡ false
@@ -46,24 +47,25 @@ pub record IsRun (old : Shown) (c : Command) (journal : List Entry) : Type 0 whe
   pub puts_are : puts ≡ outputs ++ added_by c setup.config (pictures_in are)
 
 -- A run was begun, and this is it; or none was begun, and the journal is empty.
-pub data Course (old : Shown) (c : Command) (journal : List Entry) : Type 0 where
-  Begun : IsRun old c journal → Course old c journal
+pub data Course (old : StoreModel) (c : Command) (journal : List Entry) : Type 0 where
+  Begun : IsCommandRun old c journal → Course old c journal
   NotBegun : journal ≡ [] → Course old c journal
 
 -- a run was begun, and this holds of it
-abbrev pub WithRun : {old : Shown} {c : Command} {journal : List Entry}
-    → Course old c journal → (IsRun old c journal → Type 0) → Type 0
+abbrev pub WithRun : {old : StoreModel} {c : Command} {journal : List Entry}
+    → Course old c journal → (IsCommandRun old c journal → Type 0) → Type 0
 WithRun (Begun run) Holds = Holds run
 WithRun (NotBegun empty) Holds = ⊥
 
 -- no run was begun
-abbrev pub WithoutRun : {old : Shown} {c : Command} {journal : List Entry}
+abbrev pub WithoutRun : {old : StoreModel} {c : Command} {journal : List Entry}
     → Course old c journal → Type 0
 WithoutRun (Begun run) = ⊥
 WithoutRun (NotBegun empty) = Unit {0}
 
 -- how many clients, journal entries and pictures a run had
-abbrev pub totals : {old : Shown} {c : Command} {journal : List Entry} → IsRun old c journal → Totals
+abbrev pub totals : {old : StoreModel} {c : Command} {journal : List Entry}
+    → IsCommandRun old c journal → Totals
 totals {journal = journal} run = record {
   clients = length run.setup.config.clients;
   entries = length journal;
@@ -72,9 +74,10 @@ totals {journal = journal} run = record {
 
 -- ---- before a run
 
--- No run was begun, and no file was put. The files that were read are valid, and they and at most the
--- next one were asked for.
-pub record IsNotBegun {old : Shown} {c : Command} {journal : List Entry} (course : Course old c journal)
+-- No run was begun, and no file was put. The files that were read are valid, and they and at most
+-- the next one were asked for.
+pub record IsNotBegun {old : StoreModel} {c : Command} {journal : List Entry}
+    (course : Course old c journal)
     (files : Option (List File)) (asked : Option (List (List ℕ))) : Type 0 where
   pub none : WithoutRun course
   pub same : files ≡ old.files
@@ -84,9 +87,10 @@ pub record IsNotBegun {old : Shown} {c : Command} {journal : List Entry} (course
       ⊎ ((name : List ℕ) × (next_name c read ≡ Some name)
       × (asked ≡ asked_also old.asked (names_read c read ++ name ∷ [])))
 
--- No run was begun, and no file was put. The file of this name was asked for last, behind those that
--- were read, which are valid.
-pub record IsLastRead {old : Shown} {c : Command} {journal : List Entry} (course : Course old c journal)
+-- No run was begun, and no file was put. The file of this name was asked for last, behind those
+-- that were read, which are valid.
+pub record IsLastRead {old : StoreModel} {c : Command} {journal : List Entry}
+    (course : Course old c journal)
     (files : Option (List File)) (asked : Option (List (List ℕ))) (name : List ℕ) : Type 0 where
   pub none : WithoutRun course
   pub same : files ≡ old.files
@@ -95,9 +99,10 @@ pub record IsLastRead {old : Shown} {c : Command} {journal : List Entry} (course
   pub next : next_name c read ≡ Some name
   pub asks : asked ≡ asked_also old.asked (names_read c read ++ name ∷ [])
 
--- No run was begun, and no file was put. All files were read and are valid, and the region that the command
--- films does not lie on the screen of their configuration.
-pub record IsOutside {old : Shown} {c : Command} {journal : List Entry} (course : Course old c journal)
+-- No run was begun, and no file was put. All files were read and are valid, and the region that the
+-- command films does not lie on the screen of their configuration.
+pub record IsOutside {old : StoreModel} {c : Command} {journal : List Entry}
+    (course : Course old c journal)
     (files : Option (List File)) (asked : Option (List (List ℕ))) : Type 0 where
   pub none : WithoutRun course
   pub same : files ≡ old.files
@@ -113,27 +118,31 @@ abbrev pub made_by : Command → List File
 made_by (Gen number) = generated_files number
 made_by other = []
 
--- No run was begun. Of the files that the command makes, all before these last ones were put, and nothing
--- else. These names were asked for behind theirs.
-pub record IsMadeUpTo {old : Shown} {c : Command} {journal : List Entry} (course : Course old c journal)
+-- No run was begun. Of the files that the command makes, all before these last ones were put, and
+-- nothing else. These names were asked for behind theirs.
+pub record IsMadeUpTo {old : StoreModel} {c : Command} {journal : List Entry}
+    (course : Course old c journal)
     (files : Option (List File)) (asked : Option (List (List ℕ)))
     (last : List File) (more : List (List ℕ)) : Type 0 where
   pub none : WithoutRun course
   pub front : List File
   pub parts : made_by c ≡ front ++ last
   pub put : PutFiles front old.files files
-  pub asks : asked ≡ asked_also old.asked (names_of front ++ more)
+  pub asks : asked ≡ asked_also old.asked (file_names front ++ more)
 
--- no run was begun: of the files that the command makes, those before this one were put, and it was asked for
-abbrev pub IsMadeBefore : {old : Shown} {c : Command} {journal : List Entry} → Course old c journal
+-- no run was begun: of the files that the command makes, those before this one were put, and it was
+-- asked for
+abbrev pub IsMadeBefore : {old : StoreModel} {c : Command} {journal : List Entry}
+    → Course old c journal
     → Option (List File) → Option (List (List ℕ)) → List ℕ → Type 0
 IsMadeBefore course files asked name =
     (bytes : List ℕ) × (behind : List File)
     × IsMadeUpTo course files asked ((name, bytes) ∷ behind) (name ∷ [])
 
--- no run was begun: memory ran out when some of the files that the command makes were put, or all; the next
--- one was asked for, or was not
-abbrev pub IsMadeInPart : {old : Shown} {c : Command} {journal : List Entry} → Course old c journal
+-- no run was begun: memory ran out when some of the files that the command makes were put, or all;
+-- the next one was asked for, or was not
+abbrev pub IsMadeInPart : {old : StoreModel} {c : Command} {journal : List Entry}
+    → Course old c journal
     → Option (List File) → Option (List (List ℕ)) → Type 0
 IsMadeInPart course files asked =
     ((name : List ℕ) × IsMadeBefore course files asked name)
@@ -142,19 +151,21 @@ IsMadeInPart course files asked =
 -- ---- what a run put
 
 -- the names that a run asked for: those that the command reads, and then these
-abbrev pub asked_in : {old : Shown} {c : Command} {journal : List Entry}
-    → IsRun old c journal → List (List ℕ) → Option (List (List ℕ))
+abbrev pub asked_in : {old : StoreModel} {c : Command} {journal : List Entry}
+    → IsCommandRun old c journal → List (List ℕ) → Option (List (List ℕ))
 asked_in {old = old} {c = c} run names = asked_also old.asked (reads c run.setup.config ++ names)
 
 -- All that the run puts was put, and nothing else.
-pub record IsPutWhole {old : Shown} {c : Command} {journal : List Entry} (run : IsRun old c journal)
+pub record IsPutWhole {old : StoreModel} {c : Command} {journal : List Entry}
+    (run : IsCommandRun old c journal)
     (files : Option (List File)) (asked : Option (List (List ℕ))) : Type 0 where
   pub put : PutFiles run.puts old.files files
-  pub asks : asked ≡ asked_in run (names_of run.puts)
+  pub asks : asked ≡ asked_in run (file_names run.puts)
 
--- The files before one of those that the run puts were put, and nothing else. These names were asked
--- for behind theirs.
-pub record IsPutBefore {old : Shown} {c : Command} {journal : List Entry} (run : IsRun old c journal)
+-- The files before one of those that the run puts were put, and nothing else. These names were
+-- asked for behind theirs.
+pub record IsPutBefore {old : StoreModel} {c : Command} {journal : List Entry}
+    (run : IsCommandRun old c journal)
     (files : Option (List File)) (asked : Option (List (List ℕ)))
     (name : List ℕ) (more : List (List ℕ)) : Type 0 where
   pub front : List File
@@ -162,15 +173,17 @@ pub record IsPutBefore {old : Shown} {c : Command} {journal : List Entry} (run :
   pub back : List File
   pub parts : run.puts ≡ front ++ (name, bytes) ∷ back
   pub put : PutFiles front old.files files
-  pub asks : asked ≡ asked_in run (names_of front ++ more)
+  pub asks : asked ≡ asked_in run (file_names front ++ more)
 
 -- the files before this one were put, and it was refused
-abbrev pub IsRefusedAt : {old : Shown} {c : Command} {journal : List Entry} → IsRun old c journal
+abbrev pub IsRefusedAt : {old : StoreModel} {c : Command} {journal : List Entry}
+    → IsCommandRun old c journal
     → Option (List File) → Option (List (List ℕ)) → List ℕ → Type 0
 IsRefusedAt run files asked name = IsPutBefore run files asked name (name ∷ [])
 
 -- the files before one were put, and then memory ran out: that one was asked for, or was not
-abbrev pub IsCutShort : {old : Shown} {c : Command} {journal : List Entry} → IsRun old c journal
+abbrev pub IsCutShort : {old : StoreModel} {c : Command} {journal : List Entry}
+    → IsCommandRun old c journal
     → Option (List File) → Option (List (List ℕ)) → Type 0
 IsCutShort run files asked =
     (name : List ℕ)

@@ -2,17 +2,17 @@
 use Rattle.std.specs.Prelude.{◌≡◌, ℕ, true, List, [], ◌∷◌, length, take, slice_get, Option, Some, None, IfSome}
 use Rattle.std.specs.List.{AllByRecursion}
 use Rattle.nit_config.specs.Configuration.{Configuration}
-use Rattle.nit_config.specs.Configured.{IsConfigured}
+use Rattle.nit_config.specs.ConfigurationRanges.{IsConfiguration}
 use Rattle.nit_script.specs.declared.line.Line.{Line}
 use Rattle.nit_script.specs.Spelling.{FitsLine}
-use Rattle.nit_store.specs.Shown.{File, bytes_of}
+use Rattle.nit_store.specs.Store.{File, bytes_of}
 use Rattle.nit_top.specs.Command.{Command, Still, Run, Gen, Audit, Capture, NoCommand}
 use Rattle.nit_top.specs.Setup.{Setup, AreLines, HaveSamePhases, IsRunnable, generated_setup, still_setup}
-use Rattle.nit_top.specs.Judged.{IsConfig, AreScripts, AreSetup, IsValid, names_in, reads, script_names}
+use Rattle.nit_top.specs.Judgement.{IsConfig, AreScripts, AreSetup, IsValid, names_in, reads, script_names}
 
 -- The files that a command has read, each of which is valid: none; its configuration, and the
--- scripts of the first clients; the configuration and all scripts, which make this setup, where more
--- is to be read; or all files, which make this setup.
+-- scripts of the first clients; the configuration and all scripts, which make this setup, where
+-- more is to be read; or all files, which make this setup.
 pub data FilesRead : Type 0 where
   NoFile : FilesRead
   FirstFiles : (config : Configuration) → (scripts : List (List Line)) → FilesRead
@@ -54,20 +54,21 @@ next_name c (AllFiles s) = None
 
 -- ---- what was read is valid
 
--- The configuration is within its ranges. The first scripts are within the grammar, and have as many
--- phases as the first of them. Where the store tells its files, these are the configuration and the
--- scripts that it names.
-pub record AreFirstFiles (configuration : List ℕ) (told : Option (List File)) (config : Configuration)
+-- The configuration is within its ranges. The first scripts are within the grammar, and have as
+-- many phases as the first of them. Where the store tells its files, these are the configuration
+-- and the scripts that it names.
+pub record AreFirstFiles (configuration : List ℕ) (told : Option (List File))
+    (config : Configuration)
     (scripts : List (List Line)) : Type 0 where
-  pub configured : IsConfigured config
+  pub configured : IsConfiguration config
   pub lines : AllByRecursion (AreLines FitsLine) scripts
   pub phases : HaveSamePhases scripts
   pub valid : IfSome told (λ files. IsConfig (bytes_of configuration files) config
       × AreScripts files (first_names config scripts) scripts)
 
--- for `still` the setup is that of a picture of this size, whatever the script; for `turns` and `run`
--- it has texts, makes no file, and its clients are beside each other for `run` alone; for `gen` it is that of
--- the number; for `capture` it is as for `run`; and `audit` runs none
+-- for `still` the setup is that of a picture of this size, whatever the script; for `turns` and
+-- `run` it has texts, makes no file, and its clients are beside each other for `run` alone; for
+-- `gen` it is that of the number; for `capture` it is as for `run`; and `audit` runs none
 abbrev pub IsSetupOf : Command → Setup → Type 0
 IsSetupOf (Still width height script) s = (lines : List Line) × (s ≡ still_setup width height lines)
 IsSetupOf (Run beside configuration) s = (s.texts ≡ true) × (s.beside ≡ beside) × (s.made ≡ [])
@@ -76,8 +77,8 @@ IsSetupOf (Audit configuration journal) s = ⊥
 IsSetupOf (Capture configuration region) s = (s.texts ≡ true) × (s.beside ≡ true) × (s.made ≡ [])
 IsSetupOf NoCommand s = ⊥
 
--- The setup can be run, and is one of the command. Where the store tells its files, it is what these
--- are.
+-- The setup can be run, and is one of the command. Where the store tells its files, it is what
+-- these are.
 pub record AreAllFiles (c : Command) (told : Option (List File)) (s : Setup) : Type 0 where
   pub runnable : IsRunnable s
   pub of_command : IsSetupOf c s

@@ -18,25 +18,25 @@ use Rattle.nit_events.specs.Input.{is_button, deliveries_of}
 use Rattle.nit_stack.specs.Sources.{pixel, point}
 use Rattle.nit_config.specs.Configuration.{Configuration, donation_of, member}
 use Rattle.nit_journal.specs.Deliveries.{IsLive}
-use Rattle.nit_journal.specs.Journals.{replay, shots}
+use Rattle.nit_journal.specs.Replay.{replay, shots}
 use Rattle.nit_journal.specs.Presses.{IsDown}
-use Rattle.nit_journal.specs.Projections.{Gets, Moment, alone, alone_machine, own_machine, projection, replies_to}
+use Rattle.nit_journal.specs.Projection.{Gets, Observation, alone, alone_machine, own_machine, projection, replies_to}
 use Rattle.nit_journal.specs.Session.{serve}
 use Rattle.nit_journal.specs.State.{State, owner_of}
-use Rattle.nit_journal.specs.Views.{is_accepted}
-use Rattle.nit_journal.specs.Whole.{calls_of, done}
+use Rattle.nit_journal.specs.StackAfter.{is_accepted}
+use Rattle.nit_journal.specs.WholeJournals.{calls_of, done}
 use Rattle.nit_script.specs.declared.line.Line.{Line}
 use Rattle.nit_plan.specs.Calls.{calls_to_make}
-use Rattle.nit_overlay.specs.Shown.{shown}
-use Rattle.nit_scene.specs.Painted.{pixel_count}
-use Rattle.nit_scene.specs.Played.{scenery_of}
+use Rattle.nit_overlay.specs.Frame.{shown}
+use Rattle.nit_scene.specs.RawWords.{pixel_count}
+use Rattle.nit_scene.specs.Scene.{scenery_of}
 use Rattle.nit_report.specs.Picture.{picture}
 use Rattle.nit_report.specs.EventsText.{events_text, taken}
 use Rattle.nit_report.specs.JournalText.{ReadsJournal, journal_text}
-use Rattle.nit_store.specs.Shown.{File}
-use Rattle.nit_plan.specs.Sessions.{script_in}
-use Rattle.nit_hall.specs.Near.{IsNear}
-use Rattle.nit_actor.specs.Running.{shot_name}
+use Rattle.nit_store.specs.Store.{File}
+use Rattle.nit_plan.specs.SessionLists.{script_in}
+use Rattle.nit_hall.specs.NearWords.{IsNear}
+use Rattle.nit_actor.specs.RoundsRun.{shot_name}
 use Rattle.nit_actor.specs.Shots.{drawn_by_shot}
 use Rattle.nit_top.specs.Setup.{Setup}
 use Rattle.nit_top.specs.Outputs.{IsJournal, AreOutputs, ending_of, events_name, final_name, journal_file, raw_word, tables_left}
@@ -54,14 +54,14 @@ pub record IsServedAlone (config : Configuration) (scripts : List (List Line))
     (journal : List Entry) (sid : ℕ) : Type 0 where
   -- its calls are those of its script, in order, each once
   pub calls : calls_of sid journal ≡ done (calls_to_make (script_in scripts sid))
-  -- its replies are those of a machine that opens with its donation, and gets its calls and what the
-  -- user's input routes to it
+  -- its replies are those of a machine that opens with its donation, and gets its calls and what
+  -- the user's input routes to it
   pub replies : replies_to sid journal ≡ alone (donation_of config sid) (projection sid journal)
   -- the events that it takes are those that this machine hands out, in order
   pub events : flat_map (taken sid) journal
       ≡ events_among (alone (donation_of config sid) (projection sid journal))
-  -- where a call of it is refused for quota, less is left than the call needs; and a machine that got
-  -- its own calls before that one, and nothing else, refuses it with the same numbers
+  -- where a call of it is refused for quota, less is left than the call needs; and a machine that
+  -- got its own calls before that one, and nothing else, refuses it with the same numbers
   pub quota : (front rest : List Entry) (call : Call) (need left : ℕ)
       → journal ≡ front ++ entry.Call sid call (reply.OutOfQuota need left) ∷ rest
       → (left < need)
@@ -80,9 +80,9 @@ pub record IsRoutedRight (config : Configuration) (journal : List Entry) : Type 
   pub deliveries : (front rest : List Entry) (dev : Device) (routed : Routed)
       → journal ≡ front ++ entry.Input dev routed ∷ rest
       → All (λ d. IsLive (replay config front) d.sid) (deliveries_of routed)
-  -- each release that is routed to a session follows a press of the same code to it, with no release
-  -- of it between
-  pub releases : (sid code : ℕ) (before rest : List Moment)
+  -- each release that is routed to a session follows a press of the same code to it, with no
+  -- release of it between
+  pub releases : (sid code : ℕ) (before rest : List Observation)
       → projection sid journal ≡ before ++ Gets (item.Event (event.Release code)) ∷ rest
       → IsDown code before
 
@@ -117,8 +117,9 @@ pub record IsFocusTheUsers (config : Configuration) (journal : List Entry) : Typ
 
 -- ---- the pictures
 
--- The frame has a word for each pixel. It is the one that the state shows there (`shown`: the word of
--- the topmost view, or what the mode puts over it, or the bar) of a word that the pixel may hold.
+-- The frame has a word for each pixel. It is the one that the state shows there (`shown`: the word
+-- of the topmost view, or what the mode puts over it, or the bar) of a word that the pixel may
+-- hold.
 pub record ShowsBy (s : State) (MayHold : ℕ → ℕ → Type 0) (words : List ℕ) : Type 0 where
   pub count : length words ≡ pixel_count s
   pub each : (k : ℕ) → k < pixel_count s
@@ -132,10 +133,11 @@ HasPicture config files name s MayHold =
     (words : List ℕ) × Contains files (name, picture config.width config.height words)
     × ShowsBy s MayHold words
 
--- A word that a pixel may hold when a shot is taken behind these entries. By rounds it is the one that
--- the rounds have drawn there by then. Beside each other it is one that the entries allow: where the last
--- entry that made the pixel dirty is a call of the session whose word it shows, the one that the session's
--- script had left there with that call; and else 0 or a colour of its script.
+-- A word that a pixel may hold when a shot is taken behind these entries. By rounds it is the one
+-- that the rounds have drawn there by then. Beside each other it is one that the entries allow:
+-- where the last entry that made the pixel dirty is a call of the session whose word it shows, the
+-- one that the session's script had left there with that call; and else 0 or a colour of its
+-- script.
 abbrev pub HoldsByWay : Bool → Setup → List Entry → ℕ → ℕ → Type 0
 HoldsByWay false s before k w =
     w ≡ (drawn_by_shot s.config s.scripts s.input (shots before)).word k
@@ -154,7 +156,8 @@ HoldsAtEnd s journal k w = w ≡ raw_word (replay s.config journal) (tables_left
 -- The texts of a run. What a client's text tells is told of the machine that serves it alone: the
 -- events that it took are those that this machine hands out (`events` of `IsServedAlone`), and how
 -- it ended is how that machine ends. The text of the journal is read back as the journal.
-pub record AreTexts (config : Configuration) (journal : List Entry) (outputs : List File) : Type 0 where
+pub record AreTexts (config : Configuration) (journal : List Entry)
+    (outputs : List File) : Type 0 where
   pub events : (sid : ℕ) → sid < length config.clients
       → let machine = alone_machine (donation_of config sid) (projection sid journal) in
       Contains outputs
@@ -165,8 +168,8 @@ pub record AreTexts (config : Configuration) (journal : List Entry) (outputs : L
 -- ---- all
 
 pub record Headline (s : Setup) (journal : List Entry) (outputs : List File) : Type 0 where
-  -- there is one journal: it is legal, whole for the scripts, and where the clients are not beside each
-  -- other it has the order of the rounds
+  -- there is one journal: it is legal, whole for the scripts, and where the clients are not beside
+  -- each other it has the order of the rounds
   pub one_journal : IsJournal s journal
   -- each client is served as if it were alone
   pub clients : (sid : ℕ) → sid < length s.config.clients

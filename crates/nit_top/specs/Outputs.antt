@@ -7,19 +7,19 @@ use Rattle.nit_events.specs.declared.entry.Entry.TheVariants as entry
 use Rattle.nit_config.specs.Configuration.{Configuration, donation_of, member}
 use Rattle.nit_journal.specs.Session.{Session}
 use Rattle.nit_journal.specs.State.{State, session}
-use Rattle.nit_journal.specs.Journals.{replay, IsLegal}
-use Rattle.nit_journal.specs.Whole.{IsWhole}
-use Rattle.nit_scene.specs.Painted.{glass_in, source_at}
+use Rattle.nit_journal.specs.Replay.{replay, IsLegal}
+use Rattle.nit_journal.specs.WholeJournals.{IsWhole}
+use Rattle.nit_scene.specs.RawWords.{glass_in, source_at}
 use Rattle.nit_script.specs.declared.line.Line.{Line}
-use Rattle.nit_plan.specs.Calls.{calls_to_make, deeds_to_do}
-use Rattle.nit_plan.specs.Plans.{words_left}
-use Rattle.nit_plan.specs.Sessions.{script_in}
+use Rattle.nit_plan.specs.Calls.{calls_to_make, user_actions_to_do}
+use Rattle.nit_plan.specs.ScriptWords.{words_left}
+use Rattle.nit_plan.specs.SessionLists.{script_in}
 use Rattle.nit_report.specs.declared.events.Ending.{Ending}
 use Rattle.nit_report.specs.EventsText.{events_text}
 use Rattle.nit_report.specs.JournalText.{journal_text}
-use Rattle.nit_store.specs.Shown.{File}
-use Rattle.nit_actor.specs.Done.{AreRoundsOf}
-use Rattle.nit_actor.specs.Drawn.{picture_of, shots_of, word_from, words_of}
+use Rattle.nit_store.specs.Store.{File}
+use Rattle.nit_actor.specs.TurnActions.{AreRoundsOf}
+use Rattle.nit_actor.specs.Drawing.{picture_of, shots_of, word_from, words_of}
 use Rattle.nit_actor.specs.Pictures.{AreNearShots}
 use Rattle.nit_top.specs.Setup.{Setup}
 
@@ -33,7 +33,7 @@ IsByRounds s journal =
 -- clients are not beside each other it is by rounds.
 pub record IsJournal (s : Setup) (journal : List Entry) : Type 0 where
   pub legal : IsLegal s.config journal
-  pub whole : IsWhole (map calls_to_make s.scripts) (deeds_to_do s.input) journal
+  pub whole : IsWhole (map calls_to_make s.scripts) (user_actions_to_do s.input) journal
   pub rounds : s.beside ≡ false → IsByRounds s journal
 
 -- ---- the last picture
@@ -101,15 +101,15 @@ text_files s journal =
 
 -- ---- the files
 
--- The files of the shots. By rounds they are those that the configuration and the scripts alone draw.
--- Beside each other, each shows the state that the entries before its shot lead to, by words that its
--- pixels may hold then.
+-- The files of the shots. By rounds they are those that the configuration and the scripts alone
+-- draw. Beside each other, each shows the state that the entries before its shot lead to, by words
+-- that its pixels may hold then.
 pub record AreShots (s : Setup) (journal : List Entry) (files : List File) : Type 0 where
   pub by_rounds : s.beside ≡ false → files ≡ shots_of s.config s.scripts s.input
   pub beside : s.beside ≡ true → AreNearShots s.config s.scripts journal files
 
--- The files that a run puts, in order: those that are made before it, one for each shot, shot-1.ppm and so
--- on, then final.ppm, and then the texts.
+-- The files that a run puts, in order: those that are made before it, one for each shot, shot-1.ppm
+-- and so on, then final.ppm, and then the texts.
 abbrev pub AreOutputs : Setup → List Entry → List File → Type 0
 AreOutputs s journal files =
     (shots : List File) × AreShots s journal shots

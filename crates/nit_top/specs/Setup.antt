@@ -2,18 +2,19 @@
 use Rattle.std.specs.Prelude.{◌≡◌, ℕ, ◌≤◌, Bool, false, true, List, [], ◌∷◌, ◌++◌, length, map, codes}
 use Rattle.std.specs.List.{AllByRecursion, range_with_len}
 use Rattle.nit_config.specs.Configuration.{Configuration, still_configuration}
-use Rattle.nit_config.specs.Configured.{IsConfigured}
+use Rattle.nit_config.specs.ConfigurationRanges.{IsConfiguration}
 use Rattle.nit_script.specs.declared.line.Line.{Line}
 use Rattle.nit_script.specs.declared.line.InputLine.{InputLine}
 use Rattle.nit_script.specs.Phases.{phases, input_phases}
 use Rattle.nit_script.specs.Spelling.{FitsLine, FitsInputLine}
-use Rattle.nit_actor.specs.InStep.{idle_user}
+use Rattle.nit_actor.specs.IdleUser.{idle_user}
 use Rattle.nit_report.specs.Generator.{client_script, client_text, config_text, generated_configuration, script_name, user_script, user_text}
-use Rattle.nit_store.specs.Shown.{File}
+use Rattle.nit_store.specs.Store.{File}
 
--- The configuration, the clients' scripts in its order, and the input script. Texts: those of the events
--- and of the journal are put behind the pictures. Beside: the clients run beside each other, each on a
--- thread of its own; else all run by rounds, on one thread. Made: files that are put before the run.
+-- The configuration, the clients' scripts in its order, and the input script. Texts: those of the
+-- events and of the journal are put behind the pictures. Beside: the clients run beside each other,
+-- each on a thread of its own; else all run by rounds, on one thread. Made: files that are put
+-- before the run.
 pub record Setup : Type 0 where
   pub config : Configuration
   pub scripts : List (List Line)
@@ -37,8 +38,8 @@ still_setup width height lines = record {
 abbrev pub script_files : ℕ → ℕ → List File
 script_files n count = map (λ c. (script_name c, client_text n c)) (range_with_len 0 count)
 
--- the files of a generated run in the order in which they are put: its configuration, the scripts of its eight
--- clients, and the input script
+-- the files of a generated run in the order in which they are put: its configuration, the scripts
+-- of its eight clients, and the input script
 abbrev pub generated_files : ℕ → List File
 generated_files n =
     (codes "gen.toml", config_text) ∷ script_files n 8 ++ (codes "gen.in", user_text n) ∷ []
@@ -63,10 +64,10 @@ HaveSamePhases (first ∷ rest) = AllByRecursion (λ lines. phases lines ≡ pha
 abbrev pub AreLines : {L : Type 0} → (L → Type 0) → List L → Type 0
 AreLines Fits lines = AllByRecursion Fits lines × (length lines ≤ 65536)
 
--- The configuration is within its ranges, and there is a script for each client. All scripts have as
--- many phases as the input script, and each has at most 65,536 lines, all within the grammar.
+-- The configuration is within its ranges, and there is a script for each client. All scripts have
+-- as many phases as the input script, and each has at most 65,536 lines, all within the grammar.
 pub record IsRunnable (s : Setup) : Type 0 where
-  pub configured : IsConfigured s.config
+  pub configured : IsConfiguration s.config
   pub scripts : length s.scripts ≡ length s.config.clients
   pub phases : AllByRecursion (λ lines. phases lines ≡ input_phases s.input) s.scripts
   pub lines : AllByRecursion (AreLines FitsLine) s.scripts

@@ -2,10 +2,10 @@
 
 ghost use Rattle.std.specs.Prelude.{false, ◌≡◌, ◌*◌, ◌++◌, ◌∷◌, [], length, map};
 ghost use Rattle.nit_events.specs.declared.entry.Entry.TheVariants as entry;
-ghost use Rattle.nit_journal.specs.Journals.{IsOpen};
+ghost use Rattle.nit_journal.specs.Replay.{IsOpen};
 ghost use Rattle.nit_report.specs.Picture.{picture_length};
-ghost use Rattle.nit_hall.specs.Passes.{AreDone, IsDoneUser};
-ghost use Rattle.nit_top.specs.Besides.{IsAlone, IsReady, IsReadyAlone};
+ghost use Rattle.nit_hall.specs.Pass.{AreDone, IsDoneUser};
+ghost use Rattle.nit_top.specs.RoomRun.{IsAlone, IsReady, IsReadyAlone};
 ghost use Rattle.nit_top.specs.Setup.{IsRunnable};
 ghost use Rattle.nit_top.specs.Work.{HasRun, Runs, setup_of};
 
@@ -23,9 +23,9 @@ use nit_script::{Client, Input};
 use nit_store::Store;
 use std::alloc::Global;
 
-/// Takes all memory of a run of one client whose user does nothing, and does it up to its end: the client draws
-/// on words of its own, which a room without a lock reads. The last picture is put. Where memory runs out
-/// before the first line, nothing was done.
+/// Takes all memory of a run of one client whose user does nothing, and does it up to its end: the
+/// client draws on words of its own, which a room without a lock reads. The last picture is put.
+/// Where memory runs out before the first line, nothing was done.
 pub fn run_one<S: Store>(
     alloc: Global,
     config: &Config,
@@ -55,7 +55,8 @@ fn play_alone<'a, S: Store>(
     store: &mut S,
 ) -> Ran
     requires ready { IsReadyAlone opened.room.parts opened.room opened.passes.items opened.user }
-    requires frame { length frame.items ≡ opened.room.parts.config.width * opened.room.parts.config.height }
+    requires frame { length frame.items
+        ≡ opened.room.parts.config.width * opened.room.parts.config.height }
     requires text { length text.items
         ≡ picture_length opened.room.parts.config.width opened.room.parts.config.height }
     ensures { let parts = opened.entry.room.parts in

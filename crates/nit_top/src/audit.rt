@@ -1,11 +1,11 @@
 //! The audit of a journal: whether it is one of a run of a configuration's scripts.
 
 ghost use Rattle.std.specs.Prelude.{false, true, ◌≡◌, ◌≤◌, ◌^◌, ℕ, List, IfSome, length};
-ghost use Rattle.nit_config.specs.Configured.{IsConfigured};
-ghost use Rattle.nit_store.specs.Shown.{Shown, bytes_of, asking};
+ghost use Rattle.nit_config.specs.ConfigurationRanges.{IsConfiguration};
+ghost use Rattle.nit_store.specs.Store.{StoreModel, bytes_of, with_asked};
 ghost use Rattle.nit_top.specs.Audited.{IsAuditEnd};
 ghost use Rattle.nit_top.specs.Command.{Audit};
-ghost use Rattle.nit_top.specs.Judged.{IsConfig};
+ghost use Rattle.nit_top.specs.Judgement.{IsConfig};
 ghost use Rattle.nit_top.specs.Setup.{IsRunnable};
 ghost use Rattle.nit_top.specs.Work.{Ends, setup_of};
 
@@ -26,8 +26,8 @@ pub fn audited<'a, S: Store>(
     config: &'a Config,
     journal: &'a str,
 ) -> Worked<'a>
-    requires { IsConfigured config.now }
-    ensures { (name : List ℕ) → (first : Shown) → (S.shown store.old) ≡ asking first name
+    requires { IsConfiguration config.now }
+    ensures { (name : List ℕ) → (first : StoreModel) → (S.shown store.old) ≡ with_asked first name
         → IfSome first.files (λ files. IsConfig (bytes_of name files) config.entry.now)
         → Ends (Audit name journal.entry.now) first (S.shown store.new) result }
 {

@@ -4,15 +4,15 @@ ghost use Rattle.std.specs.Prelude.{true, ◌≡◌, ◌*◌, ◌++◌, ◌∷�
 ghost use mathlib.Core.List.{IsPrefix};
 ghost use Rattle.nit_word.specs.Inks.{IsWord};
 ghost use Rattle.nit_events.specs.declared.entry.Entry.TheVariants as entry;
-ghost use Rattle.nit_journal.specs.Journals.{IsLegal, IsOpen};
-ghost use Rattle.nit_journal.specs.Whole.{IsWhole};
-ghost use Rattle.nit_overlay.specs.Shown.{frame};
-ghost use Rattle.nit_scene.specs.Played.{scenery_of, state_now};
-ghost use Rattle.nit_plan.specs.Calls.{calls_to_make, deeds_to_do};
+ghost use Rattle.nit_journal.specs.Replay.{IsLegal, IsOpen};
+ghost use Rattle.nit_journal.specs.WholeJournals.{IsWhole};
+ghost use Rattle.nit_overlay.specs.Frame.{frame};
+ghost use Rattle.nit_scene.specs.Scene.{scenery_of, state_now};
+ghost use Rattle.nit_plan.specs.Calls.{calls_to_make, user_actions_to_do};
 ghost use Rattle.nit_report.specs.Picture.{picture, picture_length};
-ghost use Rattle.nit_hall.specs.Endings.{words_left_in};
-ghost use Rattle.nit_hall.specs.Passes.{AreDone, IsDoneUser};
-ghost use Rattle.nit_top.specs.Besides.{IsKnownWhole, IsMemory, IsReady};
+ghost use Rattle.nit_hall.specs.RoomEnd.{words_left_in};
+ghost use Rattle.nit_hall.specs.Pass.{AreDone, IsDoneUser};
+ghost use Rattle.nit_top.specs.RoomRun.{IsKnownWhole, IsMemory, IsReady};
 ghost use Rattle.nit_top.specs.Outputs.{final_picture};
 ghost use Rattle.nit_top.specs.Setup.{IsRunnable};
 ghost use Rattle.nit_top.specs.Work.{HasRun, Runs, setup_of};
@@ -36,9 +36,9 @@ use std::marker::Brand;
 use std::sync::Wait;
 use std::thread::Threads;
 
-/// Takes all memory of a run, and does it with each client on a thread of its own, up to its end. Each shot
-/// is put as it is taken, then the last picture, and then the texts, until a put is refused. Where memory runs
-/// out before the first thread, nothing was done.
+/// Takes all memory of a run, and does it with each client on a thread of its own, up to its end.
+/// Each shot is put as it is taken, then the last picture, and then the texts, until a put is
+/// refused. Where memory runs out before the first thread, nothing was done.
 pub fn run_beside<R: Threads + Wait + Sync, S: Store, G: Gate>(
     rt: &R,
     alloc: Global,
@@ -61,8 +61,8 @@ pub fn run_beside<R: Threads + Wait + Sync, S: Store, G: Gate>(
     Ok(run_named::<Brand, R, S, G>(rt, alloc, gate, clients, opened, memory, store))
 }
 
-/// Runs an opening that N names, takes the last picture, and puts what is to be put behind the pictures of
-/// the shots. Until the texts it takes no memory.
+/// Runs an opening that N names, takes the last picture, and puts what is to be put behind the
+/// pictures of the shots. Until the texts it takes no memory.
 fn run_named<'a, N: Name + Send + Sync, R: Threads + Wait + Sync, S: Store, G: Gate>(
     rt: &R,
     alloc: Global,
@@ -75,7 +75,8 @@ fn run_named<'a, N: Name + Send + Sync, R: Threads + Wait + Sync, S: Store, G: G
     requires ready { IsReady N.parts opened.room opened.passes.items opened.user }
     requires memory { IsMemory N.parts.config memory }
     requires clients { clients.now ≡ N.parts.config.clients }
-    ensures { HasRun (S.shown store.old) (setup_of N.parts.config N.parts.scripts N.parts.input true true)
+    ensures { HasRun (S.shown store.old)
+        (setup_of N.parts.config N.parts.scripts N.parts.input true true)
         (S.shown store.new) result }
 {
     let Opened { room, passes, user } = opened;
@@ -110,7 +111,8 @@ fn run_named<'a, N: Name + Send + Sync, R: Threads + Wait + Sync, S: Store, G: G
     leave_texts(alloc, store, fault, clients, scene)
 }
 
-/// Takes the last picture by the passes, and sets `text` to its bytes. Gives the scene, whose journal is whole.
+/// Takes the last picture by the passes, and sets `text` to its bytes. Gives the scene, whose
+/// journal is whole.
 pub fn last_picture<'a>(
     room: Room<'a>,
     passes: Vec<Pass<'a>>,
@@ -127,7 +129,7 @@ pub fn last_picture<'a>(
     ensures config { result.config ≡ room.entry.parts.config }
     ensures legal { IsLegal room.entry.parts.config result.entries }
     ensures whole { IsWhole (map calls_to_make room.entry.parts.scripts)
-        (deeds_to_do room.entry.parts.input) result.entries }
+        (user_actions_to_do room.entry.parts.input) result.entries }
     ensures known { IsKnownWhole user.entry.seen result.entries }
     ensures picture { let parts = room.entry.parts in text.new.items ≡ final_picture
         (setup_of parts.config parts.scripts parts.input true true) result.entries }
@@ -156,7 +158,7 @@ fn end_room<'a>(
     requires out { length out.old.items
         ≡ room.old.parts.config.width * room.old.parts.config.height }
     ensures whole { IsWhole (map calls_to_make room.old.parts.scripts)
-        (deeds_to_do room.old.parts.input) room.new.scene.entries }
+        (user_actions_to_do room.old.parts.input) room.new.scene.entries }
     ensures legal { IsLegal room.old.parts.config room.new.scene.entries }
     ensures recorded { room.new.scene.entries ≡ room.old.scene.entries ++ entry.Final ∷ [] }
     ensures config { room.new.scene.config ≡ room.old.scene.config }

@@ -1,19 +1,19 @@
 //! The run of a configuration that is filmed.
 
 ghost use Rattle.std.specs.Prelude.{false, true, ◌≡◌, ◌≤◌, ◌+◌, ◌++◌, ◌∷◌, [], ℕ, List, IfSome};
-ghost use Rattle.nit_config.specs.Configured.{IsConfigured};
-ghost use Rattle.nit_capture.specs.Film.{header};
-ghost use Rattle.nit_store.specs.Shown.{Shown, bytes_of, asking};
+ghost use Rattle.nit_config.specs.ConfigurationRanges.{IsConfiguration};
+ghost use Rattle.nit_capture.specs.Film.{film_header};
+ghost use Rattle.nit_store.specs.Store.{StoreModel, bytes_of, with_asked};
 ghost use Rattle.nit_store.specs.Puts.{PutsNext};
 ghost use Rattle.nit_top.specs.Command.{Capture};
-ghost use Rattle.nit_top.specs.Films.{film_name};
-ghost use Rattle.nit_top.specs.Judged.{IsConfig};
+ghost use Rattle.nit_top.specs.RunFilm.{film_name};
+ghost use Rattle.nit_top.specs.Judgement.{IsConfig};
 ghost use Rattle.nit_top.specs.declared.region.Region.{Region};
-ghost use Rattle.nit_top.specs.Regions.{IsShort, is_outside};
+ghost use Rattle.nit_top.specs.Region.{IsRegionWords, is_off_screen};
 ghost use Rattle.nit_top.specs.Setup.{IsRunnable};
-ghost use Rattle.nit_top.specs.Filmed.{PerformedFilmed, RunsFilmed, begun_of};
-ghost use Rattle.nit_top.specs.Work.{Ends, Runs, putting, setup_of};
-ghost use Rattle.nit_top.specs.Filming.{IsFilmOf, picture_names};
+ghost use Rattle.nit_top.specs.CaptureRun.{PerformedFilmed, RunsFilmed, begun_of};
+ghost use Rattle.nit_top.specs.Work.{Ends, Runs, put_state_of_run, setup_of};
+ghost use Rattle.nit_top.specs.FilmStore.{IsFilmOf, picture_names};
 
 use crate::beside::run_beside;
 use crate::desk::put_next;
@@ -33,8 +33,8 @@ use std::marker::{Brand, PhantomData};
 use std::sync::Wait;
 use std::thread::Threads;
 
-/// Runs the scripts of a configuration with each client on a thread of its own, and films a region of the
-/// screen, which is to lie on it.
+/// Runs the scripts of a configuration with each client on a thread of its own, and films a region
+/// of the screen, which is to lie on it.
 pub fn capture<'a, R: Threads + Wait + Sync, S: Store, G: Gate>(
     rt: &R,
     alloc: Global,
@@ -43,9 +43,9 @@ pub fn capture<'a, R: Threads + Wait + Sync, S: Store, G: Gate>(
     region: Region,
     gate: &G,
 ) -> Worked<'a>
-    requires configured { IsConfigured config.now }
-    requires numbers { IsShort region }
-    ensures { (name : List ℕ) → (first : Shown) → (S.shown store.old) ≡ asking first name
+    requires configured { IsConfiguration config.now }
+    requires numbers { IsRegionWords region }
+    ensures { (name : List ℕ) → (first : StoreModel) → (S.shown store.old) ≡ with_asked first name
         → IfSome first.files (λ files. IsConfig (bytes_of name files) config.entry.now)
         → Ends (Capture name region) first (S.shown store.new) result }
 {
@@ -59,8 +59,8 @@ pub fn capture<'a, R: Threads + Wait + Sync, S: Store, G: Gate>(
     perform_filmed(rt, alloc, store, config, &scripts, region, gate)
 }
 
-/// Runs a setup with texts, each client on a thread of its own, and films a region of the screen. A run
-/// that is not begun leaves everything.
+/// Runs a setup with texts, each client on a thread of its own, and films a region of the screen. A
+/// run that is not begun leaves everything.
 fn perform_filmed<'a, R: Threads + Wait + Sync, S: Store, G: Gate>(
     rt: &R,
     alloc: Global,
@@ -71,7 +71,7 @@ fn perform_filmed<'a, R: Threads + Wait + Sync, S: Store, G: Gate>(
     gate: &G,
 ) -> Worked<'a>
     requires runnable { IsRunnable (setup_of config.now scripts.now.clients.items scripts.now.input true true) }
-    requires inside { is_outside region config.now.width config.now.height ≡ false }
+    requires inside { is_off_screen region config.now.width config.now.height ≡ false }
     ensures { PerformedFilmed region (S.shown store.old)
         (setup_of config.now scripts.now.clients.items scripts.now.input true true)
         (S.shown store.new) result }
@@ -100,7 +100,7 @@ fn run_filmed<R: Threads + Wait + Sync, S: Store, G: Gate>(
 ) -> Result<Ran, NoMemory>
     requires runnable { IsRunnable
         (setup_of config.now scripts.now.clients.items scripts.now.input true true) }
-    requires header { film.bytes.items ≡ header film.capture.rect.w film.capture.rect.h }
+    requires header { film.bytes.items ≡ film_header film.capture.rect.w film.capture.rect.h }
     ensures { (region : Region) → film.capture ≡ begun_of region config.now
         → RunsFilmed region (S.shown store.old)
         (setup_of config.now scripts.now.clients.items scripts.now.input true true)
@@ -148,7 +148,7 @@ fn film_named<'s, F: Filming, R: Threads + Wait + Sync, S: Store, G: Gate>(
         (setup_of config.now scripts.now.clients.items scripts.now.input true true) }
     requires begun { reel.film.capture ≡ F.begun }
     requires name { reel.store.ghost_name ≡ F.name }
-    requires header { reel.film.bytes.items ≡ header F.begun.rect.w F.begun.rect.h }
+    requires header { reel.film.bytes.items ≡ film_header F.begun.rect.w F.begun.rect.h }
     requires fresh { (reel.count ≡ 0) × (reel.ended ≡ false) }
     ensures same_store { result.reel.store.ghost_name ≡ reel.entry.store.ghost_name }
     ensures ran { Runs (S.shown reel.entry.store.now)
@@ -202,15 +202,17 @@ fn has_all(whole: bool, ended: bool, shots: u32, pictures: usize) -> bool
     whole && ended && shots as usize + 1 == pictures
 }
 
-/// Puts a film behind the files of a run, unless a put was refused before. One that is not whole is not put,
-/// and counts as want of memory.
+/// Puts a film behind the files of a run, unless a put was refused before. One that is not whole is
+/// not put, and counts as want of memory.
 fn end_film<S: Store>(store: &mut S, film: Film, whole: bool, ran: Ran) -> Ran
     ensures journal { result.journal.items ≡ ran.journal.items }
     ensures frames { result.frames ≡ ran.frames }
     ensures whole { whole ≡ true → PutsNext (film_name, film.bytes.items ++ 0 ∷ [])
-        (putting (S.shown store.old) ran.fault) (putting (S.shown store.new) result.fault) }
+        (put_state_of_run (S.shown store.old) ran.fault)
+        (put_state_of_run (S.shown store.new) result.fault) }
     ensures not_whole { whole ≡ false → (bytes : List ℕ) → PutsNext (film_name, bytes)
-        (putting (S.shown store.old) ran.fault) (putting (S.shown store.new) result.fault) }
+        (put_state_of_run (S.shown store.old) ran.fault)
+        (put_state_of_run (S.shown store.new) result.fault) }
 {
     let fault = put_film(store, film, whole, ran.fault);
     Ran {
@@ -220,8 +222,8 @@ fn end_film<S: Store>(store: &mut S, film: Film, whole: bool, ran: Ran) -> Ran
     }
 }
 
-/// Puts a film, unless a put was refused before. Gives the put that was refused, if there is one. A film that
-/// is not whole is not put, and counts as want of memory.
+/// Puts a film, unless a put was refused before. Gives the put that was refused, if there is one. A
+/// film that is not whole is not put, and counts as want of memory.
 fn put_film<S: Store>(
     store: &mut S,
     film: Film,
@@ -229,9 +231,9 @@ fn put_film<S: Store>(
     fault: Option<PutFault>,
 ) -> Option<PutFault>
     ensures whole { whole ≡ true → PutsNext (film_name, film.bytes.items ++ 0 ∷ [])
-        (putting (S.shown store.old) fault) (putting (S.shown store.new) result) }
+        (put_state_of_run (S.shown store.old) fault) (put_state_of_run (S.shown store.new) result) }
     ensures not_whole { whole ≡ false → (bytes : List ℕ) → PutsNext (film_name, bytes)
-        (putting (S.shown store.old) fault) (putting (S.shown store.new) result) }
+        (put_state_of_run (S.shown store.old) fault) (put_state_of_run (S.shown store.new) result) }
 {
     if fault.is_some() {
         return fault;

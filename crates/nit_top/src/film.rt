@@ -1,11 +1,11 @@
 //! A film while it is made.
 
 ghost use Rattle.std.specs.Prelude.{true, ◌≡◌, ◌≤◌, ◌*◌, ◌++◌, ◌∷◌, [], IfOk, OnOk, length};
-ghost use Rattle.nit_rect.specs.Meeting.{HasPixels, LiesIn};
-ghost use Rattle.nit_capture.specs.Tiles.{IsSize};
-ghost use Rattle.nit_capture.specs.Cut.{screen};
-ghost use Rattle.nit_capture.specs.Capture.{begun, next_record, taken_bytes, with_last};
-ghost use Rattle.nit_capture.specs.Film.{header};
+ghost use Rattle.nit_rect.specs.Intersection.{HasPixels, LiesIn};
+ghost use Rattle.nit_capture.specs.Tiles.{IsPictureSize};
+ghost use Rattle.nit_capture.specs.Crop.{screen};
+ghost use Rattle.nit_capture.specs.Capture.{first_capture, next_record, cropped_bytes, with_last};
+ghost use Rattle.nit_capture.specs.Film.{film_header};
 
 use nit_capture::Capture;
 use nit_rect::{NoMemory, Rect};
@@ -25,11 +25,11 @@ pub struct Film {
 impl Film {
     /// The film of a rectangle of a screen, without a picture.
     pub fn new(alloc: Global, width: u32, height: u32, rect: Rect) -> Result<Film, NoMemory>
-        requires size { IsSize width height }
+        requires size { IsPictureSize width height }
         requires inside { LiesIn rect (screen width height) }
         requires pixels { HasPixels rect }
-        ensures capture { IfOk result (λ f. f.capture ≡ begun width height rect) }
-        ensures bytes { IfOk result (λ f. f.bytes.items ≡ header rect.w rect.h) }
+        ensures capture { IfOk result (λ f. f.capture ≡ first_capture width height rect) }
+        ensures bytes { IfOk result (λ f. f.bytes.items ≡ film_header rect.w rect.h) }
     {
         let bytes = header(alloc, &rect)?;
         let capture = Capture::new(alloc, width, height, rect)?;
@@ -52,9 +52,9 @@ impl Film {
     pub fn add(&mut self, picture: &[u8]) -> Result<(), NoMemory>
         requires { 3 * (self.old.capture.width * self.old.capture.height) ≤ length picture.now }
         ensures capture { OnOk result (self.new.capture
-            ≡ with_last self.old.capture (taken_bytes self.old.capture picture.now)) }
+            ≡ with_last self.old.capture (cropped_bytes self.old.capture picture.now)) }
         ensures bytes { OnOk result (self.new.bytes.items ≡ self.old.bytes.items
-            ++ next_record self.old.capture (taken_bytes self.old.capture picture.now)) }
+            ++ next_record self.old.capture (cropped_bytes self.old.capture picture.now)) }
         ensures screen { self.new.capture ≡ with_last self.old.capture self.new.capture.before }
     {
         self.capture.picture(picture, &mut self.bytes)
@@ -72,7 +72,7 @@ impl Film {
 
 /// What stands in front of the records of a film of this rectangle.
 fn header(alloc: Global, rect: &Rect) -> Result<Vec<u8>, NoMemory>
-    ensures { IfOk result (λ v. v.items ≡ header rect.now.w rect.now.h) }
+    ensures { IfOk result (λ v. v.items ≡ film_header rect.now.w rect.now.h) }
 {
     let (w, h) = (rect.w(), rect.h());
     let mut bytes = Vec::new(alloc);

@@ -2,7 +2,7 @@
 
 ghost use Rattle.std.specs.Prelude.{◌≡◌};
 ghost use Rattle.nit_capture.specs.Capture.{with_last};
-ghost use Rattle.nit_top.specs.Filming.{IsFilmOf, picture_names};
+ghost use Rattle.nit_top.specs.FilmStore.{IsFilmOf, picture_names};
 
 use crate::film::Film;
 use crate::filmed::{is_picture_name, is_shot_name, put_filmed};
@@ -12,8 +12,8 @@ use std::marker::{Brand, PhantomData};
 /// The most shots that a run has.
 const MOST_SHOTS: u32 = 65_536;
 
-/// Which film it is: the capture that it began with, and the name of the reference to the store behind it.
-/// Contracts alone know it, and a run picks it once.
+/// Which film it is: the capture that it began with, and the name of the reference to the store
+/// behind it. Contracts alone know it, and a run picks it once.
 pub trait Filming {
     ghost use Rattle.std.specs.Borrow.{GName};
     ghost use Rattle.nit_capture.specs.Capture.{CaptureModel};
@@ -26,9 +26,9 @@ pub trait Filming {
 impl Filming for Brand {
     ghost use Rattle.std.specs.Prelude.{pos};
     ghost use Rattle.nit_rect.specs.Rectangle.{rectangle};
-    ghost use Rattle.nit_capture.specs.Capture.{begun};
+    ghost use Rattle.nit_capture.specs.Capture.{first_capture};
 
-    ghost begun = { begun 0 0 (rectangle (pos 0) (pos 0) 0 0) };
+    ghost begun = { first_capture 0 0 (rectangle (pos 0) (pos 0) 0 0) };
 
     ghost name = { 0 };
 }
@@ -46,8 +46,8 @@ pub struct Reel<'s, S> {
     pub whole: bool,
 }
 
-/// A store in front of another one. What is put goes on to that one, and the pictures of the shots and the
-/// last picture are also added to a film.
+/// A store in front of another one. What is put goes on to that one, and the pictures of the shots
+/// and the last picture are also added to a film.
 #[derive(Drop)]
 pub struct FilmStore<'s, S: Store, F: Filming> {
     pub store: &'s mut S,
@@ -67,12 +67,12 @@ pub struct FilmStore<'s, S: Store, F: Filming> {
 
 impl<S: Store, F: Filming> FilmStore<'_, S, F> {
     ghost use Rattle.std.specs.Prelude.{true, false, ◌≡◌, ◌+◌, ◌*◌, ◌<◌, ◌≤◌, length};
-    ghost use Rattle.nit_store.specs.Answers.{AfterPut};
-    ghost use Rattle.nit_actor.specs.Running.{shot_name};
+    ghost use Rattle.nit_store.specs.StoreAnswers.{AfterPut};
+    ghost use Rattle.nit_actor.specs.RoundsRun.{shot_name};
     ghost use Rattle.nit_top.specs.Outputs.{final_name};
 
-    /// Whether these bytes can be the film's next picture: it is whole and not ended, and they have enough
-    /// bytes.
+    /// Whether these bytes can be the film's next picture: it is whole and not ended, and they have
+    /// enough bytes.
     fn takes(&self, bytes: &[u8]) -> bool
         ensures whole { result ≡ true → self.now.whole ≡ true }
         ensures going { result ≡ true → self.now.ended ≡ false }
@@ -90,7 +90,8 @@ impl<S: Store, F: Filming> FilmStore<'_, S, F> {
         requires going { self.old.ended ≡ false }
         requires few { self.old.count < 65536 }
         requires long { 3 * (self.old.film.capture.width * self.old.film.capture.height) ≤ length bytes.now }
-        ensures { AfterPut (S.shown self.old.store.now) name.now bytes.now (S.shown self.new.store.now) result }
+        ensures { AfterPut (S.shown self.old.store.now) name.now bytes.now
+            (S.shown self.new.store.now) result }
     {
         self.whole = false;
         put_filmed(self.store, &mut self.film, name, bytes)?;
@@ -105,7 +106,8 @@ impl<S: Store, F: Filming> FilmStore<'_, S, F> {
         requires whole { self.old.whole ≡ true }
         requires going { self.old.ended ≡ false }
         requires long { 3 * (self.old.film.capture.width * self.old.film.capture.height) ≤ length bytes.now }
-        ensures { AfterPut (S.shown self.old.store.now) name.now bytes.now (S.shown self.new.store.now) result }
+        ensures { AfterPut (S.shown self.old.store.now) name.now bytes.now
+            (S.shown self.new.store.now) result }
     {
         self.whole = false;
         put_filmed(self.store, &mut self.film, name, bytes)?;

@@ -1,9 +1,9 @@
 //! A put of a picture that is filmed.
 
 ghost use Rattle.std.specs.Prelude.{true, ◌≡◌, ◌≤◌, ◌*◌, ◌+◌, ◌++◌, ℕ, OnOk, length, take};
-ghost use Rattle.nit_capture.specs.Capture.{next_record, taken_bytes, with_last};
-ghost use Rattle.nit_actor.specs.Running.{shot_name};
-ghost use Rattle.nit_store.specs.Answers.{AfterPut};
+ghost use Rattle.nit_capture.specs.Capture.{next_record, cropped_bytes, with_last};
+ghost use Rattle.nit_actor.specs.RoundsRun.{shot_name};
+ghost use Rattle.nit_store.specs.StoreAnswers.{AfterPut};
 ghost use Rattle.nit_top.specs.Outputs.{final_name};
 
 use crate::film::Film;
@@ -23,9 +23,9 @@ pub fn put_filmed<S: Store>(
     requires { 3 * (film.old.capture.width * film.old.capture.height) ≤ length bytes.now }
     ensures put { AfterPut (S.shown store.old) name.now bytes.now (S.shown store.new) result }
     ensures capture { OnOk result (film.new.capture
-        ≡ with_last film.old.capture (taken_bytes film.old.capture bytes.now)) }
+        ≡ with_last film.old.capture (cropped_bytes film.old.capture bytes.now)) }
     ensures film { OnOk result (film.new.bytes.items ≡ film.old.bytes.items
-        ++ next_record film.old.capture (taken_bytes film.old.capture bytes.now)) }
+        ++ next_record film.old.capture (cropped_bytes film.old.capture bytes.now)) }
     ensures screen { film.new.capture ≡ with_last film.old.capture film.new.capture.before }
 {
     if film.add(bytes).is_err() {
@@ -34,7 +34,8 @@ pub fn put_filmed<S: Store>(
     store.put(name, bytes)
 }
 
-/// Whether a file of this name may be a picture of a run. All files of shots are, and the last picture.
+/// Whether a file of this name may be a picture of a run. All files of shots are, and the last
+/// picture.
 pub fn is_picture_name(name: &str) -> bool
     ensures shots { (n : ℕ) → name.now ≡ shot_name n → result ≡ true }
     ensures last { name.now ≡ final_name → result ≡ true }

@@ -6,9 +6,9 @@ ghost use Rattle.nit_script.specs.Grammar.{ReadsClient, ReadsInput};
 ghost use Rattle.nit_report.specs.Generator.{client_script, client_text, generated, script_name, user_script};
 ghost use Rattle.nit_store.specs.Puts.{PutsAll, PutsNext, unrefused};
 ghost use Rattle.nit_top.specs.Command.{Gen};
-ghost use Rattle.nit_top.specs.Lines.{output_name};
+ghost use Rattle.nit_top.specs.ProgramLines.{output_name};
 ghost use Rattle.nit_top.specs.Setup.{IsRunnable, generated_files, script_files};
-ghost use Rattle.nit_top.specs.Work.{Ends, putting, setup_of};
+ghost use Rattle.nit_top.specs.Work.{Ends, put_state_of_run, setup_of};
 
 use crate::desk::put_next;
 use crate::finish::{End, Output, Worked, at, unbegun};
@@ -32,8 +32,8 @@ use std::thread::Threads;
 /// How many clients a generated run has.
 const CLIENTS: u32 = 8;
 
-/// Puts the files of the generated run of this number, and runs it as they say, with each client on a thread
-/// of its own. The scripts are read from their own bytes.
+/// Puts the files of the generated run of this number, and runs it as they say, with each client on
+/// a thread of its own. The scripts are read from their own bytes.
 pub fn generated<'a, R: Threads + Wait + Sync, S: Store, G: Gate>(
     rt: &R,
     alloc: Global,
@@ -66,12 +66,12 @@ pub fn generated<'a, R: Threads + Wait + Sync, S: Store, G: Gate>(
 
 // ---- putting
 
-/// Puts the files of the generated run of this number, in order, until a put is refused. Gives that put, if
-/// there is one.
+/// Puts the files of the generated run of this number, in order, until a put is refused. Gives that
+/// put, if there is one.
 fn put_files<S: Store>(store: &mut S, number: u32, files: &Files) -> Option<PutFault>
     requires { files.now ≡ generated number }
     ensures { PutsAll (generated_files number) (unrefused (S.shown store.old))
-        (putting (S.shown store.new) result) }
+        (put_state_of_run (S.shown store.new) result) }
 {
     puts_go_on();
     let fault = put_next(
@@ -85,8 +85,8 @@ fn put_files<S: Store>(store: &mut S, number: u32, files: &Files) -> Option<PutF
     put_next(store, fault, Output::GeneratedInput, "gen.in", &files.input)
 }
 
-/// Puts the scripts of the clients, in order, unless a put was refused before, and until one is refused. Gives
-/// that put, if there is one.
+/// Puts the scripts of the clients, in order, unless a put was refused before, and until one is
+/// refused. Gives that put, if there is one.
 fn put_scripts<S: Store>(
     store: &mut S,
     fault: Option<PutFault>,
@@ -94,8 +94,8 @@ fn put_scripts<S: Store>(
     texts: &[Vec<u8>],
 ) -> Option<PutFault>
     requires { map (λ v. v.items) texts.now ≡ map (client_text number) (range_with_len 0 8) }
-    ensures { PutsAll (script_files number 8) (putting (S.shown store.old) fault)
-        (putting (S.shown store.new) result) }
+    ensures { PutsAll (script_files number 8) (put_state_of_run (S.shown store.old) fault)
+        (put_state_of_run (S.shown store.new) result) }
 {
     puts_go_on();
     let mut refused = fault;
@@ -105,8 +105,8 @@ fn put_scripts<S: Store>(
     refused
 }
 
-/// Puts the script of one client, unless a put was refused before. Gives the put that was refused, if there
-/// is one.
+/// Puts the script of one client, unless a put was refused before. Gives the put that was refused,
+/// if there is one.
 fn put_script<S: Store>(
     store: &mut S,
     fault: Option<PutFault>,
@@ -115,7 +115,7 @@ fn put_script<S: Store>(
 ) -> Option<PutFault>
     requires { client < 8 }
     ensures { PutsNext (script_name client, bytes.now)
-        (putting (S.shown store.old) fault) (putting (S.shown store.new) result) }
+        (put_state_of_run (S.shown store.old) fault) (put_state_of_run (S.shown store.new) result) }
 {
     let name = script_name(client);
     let Ok(name) = str::from_utf8(&name) else {
@@ -137,7 +137,8 @@ fn script_name(client: u32) -> [u8; 6]
 /// The scripts of the generated run of this number, read from the bytes of its files.
 fn read_files(alloc: Global, number: u32, files: &Files) -> Result<Scripts, NoMemory>
     requires files { files.now ≡ generated number }
-    requires clients { (c : ℕ) → c < 8 → ReadsClient (client_text number c) (client_script number c) }
+    requires clients { (c : ℕ) → c < 8
+        → ReadsClient (client_text number c) (client_script number c) }
     requires input { ReadsInput files.now.input (user_script number) }
     ensures clients { IfOk result (λ s.
         s.clients.items ≡ map (client_script number) (range_with_len 0 8)) }

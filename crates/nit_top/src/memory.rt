@@ -1,9 +1,10 @@
-//! The memory of a run whose clients are beside each other, all of which is taken before the first thread.
+//! The memory of a run whose clients are beside each other, all of which is taken before the first
+//! thread.
 
 ghost use Rattle.std.specs.Prelude.{◌≡◌, ◌<◌, All, IfOk, length, map, slice_index_or, vec_len};
 ghost use Rattle.nit_word.specs.Inks.{IsWord};
-ghost use Rattle.nit_config.specs.Configured.{IsConfigured};
-ghost use Rattle.nit_top.specs.Besides.{AreBuffers, IsMemory};
+ghost use Rattle.nit_config.specs.ConfigurationRanges.{IsConfiguration};
+ghost use Rattle.nit_top.specs.RoomRun.{AreBuffers, IsMemory};
 
 use crate::opening::{blank_frame, blank_text, table_words};
 use nit_config::Config;
@@ -14,9 +15,9 @@ use nit_rect::NoMemory;
 use std::alloc::Global;
 use std::sync::atomic::AtomicBool;
 
-/// What a run needs besides its opening: a flag for each client, which is raised where its thread could not
-/// be started; the place where such passes wait, with room for all; where passes come back; and the room for a
-/// picture, as a frame and as the bytes of a file.
+/// What a run needs besides its opening: a flag for each client, which is raised where its thread
+/// could not be started; the place where such passes wait, with room for all; where passes come
+/// back; and the room for a picture, as a frame and as the bytes of a file.
 #[derive(Drop)]
 pub struct Memory<'a> {
     pub raised: Vec<AtomicBool>,
@@ -28,7 +29,7 @@ pub struct Memory<'a> {
 
 /// Takes what a run of this configuration needs besides its opening.
 pub fn memory_of<'a>(alloc: Global, config: &Config) -> Result<Memory<'a>, NoMemory>
-    requires { IsConfigured config.now }
+    requires { IsConfiguration config.now }
     ensures { IfOk result (λ m. IsMemory config.now m) }
 {
     let clients = config.clients.len();
@@ -58,7 +59,7 @@ pub fn buffers_of(
     config: &Config,
     plans: &[Plan],
 ) -> Result<(Vec<PixelBuffer>, Vec<Key>), NoMemory>
-    requires configured { IsConfigured config.now }
+    requires configured { IsConfiguration config.now }
     requires each { length plans.now ≡ length config.now.clients }
     requires words { All (λ p. All IsWord p.ink) plans.now }
     ensures { IfOk result

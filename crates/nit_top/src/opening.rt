@@ -2,14 +2,14 @@
 
 ghost use Rattle.std.specs.Prelude.{◌≡◌, ◌+◌, ◌*◌, ◌<◌, ◌≤◌, All, IfOk, length, map, sum, List};
 ghost use Rattle.nit_word.specs.Inks.{IsWord};
-ghost use Rattle.nit_config.specs.Configured.{IsConfigured};
+ghost use Rattle.nit_config.specs.ConfigurationRanges.{IsConfiguration};
 ghost use Rattle.nit_slots.specs.Account.{IsDonation};
 ghost use Rattle.nit_script.specs.declared.line.Line.{Line};
-ghost use Rattle.nit_plan.specs.Plans.{table_size};
-ghost use Rattle.nit_plan.specs.Steps.{IsPlanOf};
+ghost use Rattle.nit_plan.specs.ScriptWords.{table_size};
+ghost use Rattle.nit_plan.specs.Plan.{IsPlanOf};
 ghost use Rattle.nit_report.specs.Picture.{picture_length};
-ghost use Rattle.nit_actor.specs.Running.{glass_after};
-ghost use Rattle.nit_top.specs.Opened.{IsOpened, glasses_of, plans_of};
+ghost use Rattle.nit_actor.specs.RoundsRun.{glass_after};
+ghost use Rattle.nit_top.specs.RoundsOpening.{IsRoundsOpening, glasses_of, plans_of};
 
 use nit_actor::laws::each_line_once;
 use nit_config::Config;
@@ -26,8 +26,8 @@ use std::alloc::Global;
 /// How many units a word of a session's table costs.
 const WORD_UNITS: u32 = 8;
 
-/// A run before its first round: the scene, and for each client its plan and its own glass; and the room for a
-/// picture, as a frame and as the bytes of a file.
+/// A run before its first round: the scene, and for each client its plan and its own glass; and the
+/// room for a picture, as a frame and as the bytes of a file.
 #[derive(Drop)]
 pub struct Opened {
     pub scene: Scene<Inked>,
@@ -37,17 +37,17 @@ pub struct Opened {
     pub text: Vec<u8>,
 }
 
-/// Takes all memory of a run. The journal has room for an entry for each line of the scripts, and for the last
-/// picture.
+/// Takes all memory of a run. The journal has room for an entry for each line of the scripts, and
+/// for the last picture.
 pub fn open(
     alloc: Global,
     config: &Config,
     scripts: &[Client],
     input: &Input,
 ) -> Result<Opened, NoMemory>
-    requires configured { IsConfigured config.now }
+    requires configured { IsConfiguration config.now }
     requires each { length scripts.now ≡ length config.now.clients }
-    ensures { IfOk result (λ o. IsOpened config.now scripts.now input.now o) }
+    ensures { IfOk result (λ o. IsRoundsOpening config.now scripts.now input.now o) }
 {
     each_line_once();
     buffer_within_table();
@@ -69,7 +69,7 @@ pub fn open(
 
 /// The plan of each client's script. Its ink is of words below 2^24.
 pub fn plans_of(alloc: Global, config: &Config, scripts: &[Client]) -> Result<Vec<Plan>, NoMemory>
-    requires configured { IsConfigured config.now }
+    requires configured { IsConfiguration config.now }
     requires each { length scripts.now ≡ length config.now.clients }
     ensures plans { IfOk result (λ v. v.items ≡ plans_of config.now scripts.now) }
     ensures words { IfOk result (λ v. All (λ p. All IsWord p.ink) v.items) }
@@ -89,7 +89,7 @@ fn glasses_of(
     scripts: &[Client],
     plans: &[Plan],
 ) -> Result<Vec<Inked>, NoMemory>
-    requires configured { IsConfigured config.now }
+    requires configured { IsConfiguration config.now }
     requires each { length scripts.now ≡ length config.now.clients }
     requires long { length plans.now ≡ length config.now.clients }
     requires plans { plans.now ≡ plans_of config.now scripts.now }
@@ -141,7 +141,7 @@ fn line_count(scripts: &[Client], input: &Input) -> usize
 
 /// A word for each pixel of the screen.
 pub fn blank_frame(alloc: Global, config: &Config) -> Result<Vec<u32>, NoMemory>
-    requires { IsConfigured config.now }
+    requires { IsConfiguration config.now }
     ensures { IfOk result (λ v. length v.items ≡ config.now.width * config.now.height) }
 {
     let pixels = config.width as usize * config.height as usize;
@@ -150,8 +150,9 @@ pub fn blank_frame(alloc: Global, config: &Config) -> Result<Vec<u32>, NoMemory>
 
 /// A byte for each of a picture of the screen.
 pub fn blank_text(alloc: Global, config: &Config) -> Result<Vec<u8>, NoMemory>
-    requires { IsConfigured config.now }
-    ensures { IfOk result (λ v. length v.items ≡ picture_length config.now.width config.now.height) }
+    requires { IsConfiguration config.now }
+    ensures { IfOk result (λ v. length v.items
+        ≡ picture_length config.now.width config.now.height) }
 {
     Ok(vec![in alloc; 0; ppm_len(config.width, config.height)]?)
 }

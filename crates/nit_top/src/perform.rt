@@ -2,13 +2,13 @@
 
 ghost use Rattle.std.specs.Prelude.{false, true, Bool, ◌≡◌, ◌<◌, ◌≤◌, ◌∷◌, [], ℕ, List, IfOk, IfSome};
 ghost use Rattle.nit_config.specs.Configuration.{still_configuration};
-ghost use Rattle.nit_config.specs.Configured.{IsConfigured};
-ghost use Rattle.nit_store.specs.Shown.{Shown, bytes_of, asking};
-ghost use Rattle.nit_top.specs.Judged.{IsConfig};
-ghost use Rattle.nit_top.specs.Besides.{IsAlone};
+ghost use Rattle.nit_config.specs.ConfigurationRanges.{IsConfiguration};
+ghost use Rattle.nit_store.specs.Store.{StoreModel, bytes_of, with_asked};
+ghost use Rattle.nit_top.specs.Judgement.{IsConfig};
+ghost use Rattle.nit_top.specs.RoomRun.{IsAlone};
 ghost use Rattle.nit_top.specs.Command.{Run, Still};
 ghost use Rattle.nit_top.specs.Setup.{IsRunnable};
-ghost use Rattle.nit_top.specs.Work.{Ends, Performed, ReadScripts, setup_of, end_of};
+ghost use Rattle.nit_top.specs.Work.{Ends, Performed, ReadScripts, setup_of, end_of_run};
 
 use crate::alone::run_one;
 use crate::beside::run_beside;
@@ -36,7 +36,8 @@ pub fn still<'a, S: Store>(
     script: &'a str,
 ) -> Worked<'a>
     requires { (0 < width) × (width ≤ 1024) × (0 < height) × (height ≤ 768) }
-    ensures { Ends (Still width height script.entry.now) (S.shown store.old) (S.shown store.new) result }
+    ensures { Ends (Still width height script.entry.now) (S.shown store.old)
+        (S.shown store.new) result }
 {
     let client = match load_client(alloc, store, script, None) {
         Ok(client) => client,
@@ -84,8 +85,8 @@ fn still_member(alloc: Global) -> Result<Member, NoMemory>
 
 /// Runs the scripts of a configuration by turns.
 pub fn turns<'a, S: Store>(alloc: Global, store: &mut S, config: &'a Config) -> Worked<'a>
-    requires { IsConfigured config.now }
-    ensures { (name : List ℕ) → (first : Shown) → (S.shown store.old) ≡ asking first name
+    requires { IsConfiguration config.now }
+    ensures { (name : List ℕ) → (first : StoreModel) → (S.shown store.old) ≡ with_asked first name
         → IfSome first.files (λ files. IsConfig (bytes_of name files) config.entry.now)
         → Ends (Run false name) first (S.shown store.new) result }
 {
@@ -104,8 +105,8 @@ pub fn beside<'a, R: Threads + Wait + Sync, S: Store, G: Gate>(
     config: &'a Config,
     gate: &G,
 ) -> Worked<'a>
-    requires { IsConfigured config.now }
-    ensures { (name : List ℕ) → (first : Shown) → (S.shown store.old) ≡ asking first name
+    requires { IsConfiguration config.now }
+    ensures { (name : List ℕ) → (first : StoreModel) → (S.shown store.old) ≡ with_asked first name
         → IfSome first.files (λ files. IsConfig (bytes_of name files) config.entry.now)
         → Ends (Run true name) first (S.shown store.new) result }
 {
@@ -129,7 +130,7 @@ pub fn read_scripts<'a, S: Store>(
     store: &mut S,
     config: &'a Config,
 ) -> Result<Scripts, Stop<'a>>
-    requires { IsConfigured config.now }
+    requires { IsConfiguration config.now }
     ensures read { ReadScripts config.entry.now (S.shown store.old) (S.shown store.new) result }
     ensures runnable { IfOk result (λ s. (beside : Bool)
         → IsRunnable (setup_of config.entry.now s.clients.items s.input true beside)) }
@@ -163,7 +164,8 @@ fn perform<'a, S: Store>(
     worked_by(ran, scripts.len())
 }
 
-/// Runs one client whose user does nothing, without texts. A run that is not begun leaves everything.
+/// Runs one client whose user does nothing, without texts. A run that is not begun leaves
+/// everything.
 fn perform_alone<'a, S: Store>(
     alloc: Global,
     store: &mut S,
@@ -193,7 +195,8 @@ pub fn perform_beside<'a, R: Threads + Wait + Sync, S: Store, G: Gate>(
     scripts: &Scripts,
     gate: &G,
 ) -> Worked<'a>
-    requires { IsRunnable (setup_of config.now scripts.now.clients.items scripts.now.input true true) }
+    requires { IsRunnable
+        (setup_of config.now scripts.now.clients.items scripts.now.input true true) }
     ensures { Performed (S.shown store.old)
         (setup_of config.now scripts.now.clients.items scripts.now.input true true)
         (S.shown store.new) result }
@@ -208,7 +211,7 @@ pub fn perform_beside<'a, R: Threads + Wait + Sync, S: Store, G: Gate>(
 
 /// What the work leaves after a run of so many clients.
 pub fn worked_by<'a>(ran: Ran, clients: usize) -> Worked<'a>
-    ensures end { result.stop.end ≡ end_of ran.fault }
+    ensures end { result.stop.end ≡ end_of_run ran.fault }
     ensures name { IfSome ran.fault (λ f. result.stop.name ≡ Name.Put f.file) }
     ensures journal { result.journal.items ≡ ran.journal.items }
     ensures clients { result.clients ≡ clients }
@@ -224,7 +227,7 @@ pub fn worked_by<'a>(ran: Ran, clients: usize) -> Worked<'a>
 
 /// How the work ends after a run, by the put that was refused.
 pub fn stop_after<'a>(fault: Option<PutFault>) -> Stop<'a>
-    ensures end { result.end ≡ end_of fault }
+    ensures end { result.end ≡ end_of_run fault }
     ensures name { IfSome fault (λ f. result.name ≡ Name.Put f.file) }
 {
     let Some(fault) = fault else {

@@ -1,14 +1,14 @@
 //! Regions of a screen.
 
 ghost use Rattle.std.specs.Prelude.{◌≡◌, ◌≤◌, false};
-ghost use Rattle.nit_rect.specs.Meeting.{HasPixels, LiesIn};
-ghost use Rattle.nit_capture.specs.Cut.{screen};
-ghost use Rattle.nit_top.specs.Regions.{IsShort, is_outside, rectangle_of};
+ghost use Rattle.nit_rect.specs.Intersection.{HasPixels, LiesIn};
+ghost use Rattle.nit_capture.specs.Crop.{screen};
+ghost use Rattle.nit_top.specs.Region.{IsRegionWords, is_off_screen, rectangle_of};
 
 use nit_rect::Rect;
 
-/// A region of a screen as the words of a command give it: its left column, its top row, its width and its
-/// height. It may be empty, or lie outside the screen.
+/// A region of a screen as the words of a command give it: its left column, its top row, its width
+/// and its height. It may be empty, or lie outside the screen.
 #[derive(Clone, Copy, Debug)]
 pub struct Region {
     pub x: u32,
@@ -20,8 +20,8 @@ pub struct Region {
 impl Region {
     /// Whether the region has no pixels, or does not lie on a screen of this width and height.
     pub fn is_outside(&self, width: u32, height: u32) -> bool
-        requires { IsShort self.now }
-        ensures { result ≡ is_outside self.now width height }
+        requires { IsRegionWords self.now }
+        ensures { result ≡ is_off_screen self.now width height }
     {
         self.w == 0 || self.h == 0 || width < self.x + self.w || height < self.y + self.h
     }
@@ -29,7 +29,7 @@ impl Region {
     /// The rectangle of a region that lies on a screen of this width and height.
     pub fn rect(&self, width: u32, height: u32) -> Rect
         requires screen { (width ≤ 1024) × (height ≤ 768) }
-        requires inside { is_outside self.now width height ≡ false }
+        requires inside { is_off_screen self.now width height ≡ false }
         ensures value { result ≡ rectangle_of self.now }
         ensures inside { LiesIn result (screen width height) }
         ensures pixels { HasPixels result }

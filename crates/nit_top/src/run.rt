@@ -1,12 +1,12 @@
 //! The run of a setup.
 
 ghost use Rattle.std.specs.Prelude.{false, true, ◌≡◌, ◌+◌, ◌≤◌, ◌++◌, ◌∷◌, [], length};
-ghost use Rattle.nit_journal.specs.Journals.{shots};
+ghost use Rattle.nit_journal.specs.Replay.{shots};
 ghost use Rattle.nit_store.specs.Puts.{PutsAll};
-ghost use Rattle.nit_top.specs.Opened.{IsOpened};
+ghost use Rattle.nit_top.specs.RoundsOpening.{IsRoundsOpening};
 ghost use Rattle.nit_top.specs.Setup.{IsRunnable};
 ghost use Rattle.nit_top.specs.Outputs.{events_files, journal_file};
-ghost use Rattle.nit_top.specs.Work.{HasRun, Runs, is_shot, putting, setup_of};
+ghost use Rattle.nit_top.specs.Work.{HasRun, Runs, is_shot_entry, put_state_of_run, setup_of};
 
 use crate::desk::{put_final, refused_shot};
 use crate::finish::Output;
@@ -45,9 +45,9 @@ pub struct Ran {
     pub fault: Option<PutFault>,
 }
 
-/// Takes all memory of a run, and does it by rounds, up to its end. Each shot is put as it is taken, then
-/// the last picture, and then the texts, until a put is refused. Where memory runs out before the first
-/// round, nothing was done.
+/// Takes all memory of a run, and does it by rounds, up to its end. Each shot is put as it is
+/// taken, then the last picture, and then the texts, until a put is refused. Where memory runs out
+/// before the first round, nothing was done.
 pub fn run<S: Store>(
     alloc: Global,
     config: &Config,
@@ -75,7 +75,7 @@ fn play<S: Store>(
     store: &mut S,
 ) -> Ran
     requires runnable { IsRunnable (setup_of config.now scripts.now input.now true false) }
-    requires opened { IsOpened config.now scripts.now input.now opened }
+    requires opened { IsRoundsOpening config.now scripts.now input.now opened }
     ensures { HasRun (S.shown store.old) (setup_of config.now scripts.now input.now true false)
         (S.shown store.new) result }
 {
@@ -122,8 +122,10 @@ pub fn leave_texts<S: Store, G: Glass + Drop>(
     requires { clients.now ≡ scene.config.clients }
     ensures journal { result.journal.items ≡ scene.entries }
     ensures frames { result.frames ≡ shots scene.entries + 1 }
-    ensures puts { PutsAll (events_files scene.config scene.entries ++ journal_file scene.entries ∷ [])
-        (putting (S.shown store.old) fault) (putting (S.shown store.new) result.fault) }
+    ensures puts { PutsAll (events_files scene.config scene.entries ++ journal_file scene.entries
+        ∷ [])
+        (put_state_of_run (S.shown store.old) fault)
+        (put_state_of_run (S.shown store.new) result.fault) }
 {
     puts_go_on();
     let fault = put_events(alloc, store, fault, clients, &scene);
@@ -146,7 +148,7 @@ pub fn left(journal: Vec<Entry>, fault: Option<PutFault>) -> Ran
 }
 
 /// How many shots were taken.
-#[tactic(auto, using(crate::proofs::Leaving::shots_counted))]
+#[tactic(auto, using(crate::proofs::RunLemmas::shots_counted))]
 fn shot_count(entries: &[Entry]) -> usize
     ensures count { result ≡ shots entries.now }
     ensures most { result ≤ length entries.now }
@@ -155,7 +157,7 @@ fn shot_count(entries: &[Entry]) -> usize
 }
 
 fn is_shot(entry: &Entry) -> bool
-    ensures { result ≡ is_shot entry.now }
+    ensures { result ≡ is_shot_entry entry.now }
 {
     matches!(entry, Entry::Shot { .. })
 }

@@ -3,11 +3,11 @@
 ghost use Rattle.std.specs.Prelude.{◌≡◌, ◌<◌, ◌≤◌, length, take};
 ghost use Rattle.nit_journal.specs.State.{session};
 ghost use Rattle.nit_report.specs.EventsText.{events_text};
-ghost use Rattle.nit_scene.specs.Played.{state_now};
+ghost use Rattle.nit_scene.specs.Scene.{state_now};
 ghost use Rattle.nit_store.specs.Puts.{PutsAll, PutsFile, PutsNext, unrefused};
-ghost use Rattle.nit_top.specs.Lines.{output_name};
+ghost use Rattle.nit_top.specs.ProgramLines.{output_name};
 ghost use Rattle.nit_top.specs.Outputs.{ending_of, events_files, events_name, journal_file};
-ghost use Rattle.nit_top.specs.Work.{putting};
+ghost use Rattle.nit_top.specs.Work.{put_state_of_run};
 
 use crate::desk::put_next;
 use crate::finish::{LabelBytes, Output};
@@ -25,8 +25,8 @@ use std::alloc::Global;
 /// The most bytes that the name of a client's events has.
 const NAME_BYTES: usize = 31;
 
-/// Puts the events of each client of the scene, in order, until a put is refused. Gives that put, if there
-/// is one. Want of memory for a text counts as a put that is refused.
+/// Puts the events of each client of the scene, in order, until a put is refused. Gives that put,
+/// if there is one. Want of memory for a text counts as a put that is refused.
 pub fn put_events<S: Store, G: Glass + Drop>(
     alloc: Global,
     store: &mut S,
@@ -36,7 +36,7 @@ pub fn put_events<S: Store, G: Glass + Drop>(
 ) -> Option<PutFault>
     requires { clients.now ≡ scene.now.config.clients }
     ensures { PutsAll (events_files scene.now.config scene.now.entries)
-        (putting (S.shown store.old) fault) (putting (S.shown store.new) result) }
+        (put_state_of_run (S.shown store.old) fault) (put_state_of_run (S.shown store.new) result) }
 {
     // so the clients are at most 16
     let _ = scene.size();
@@ -59,7 +59,7 @@ fn put_events_of<S: Store, G: Glass + Drop>(
     requires { sid < length scene.now.config.clients }
     ensures { let end = ending_of (session (state_now scene.now) sid) in
         PutsNext (events_name label.now, events_text scene.now.entries sid end)
-        (putting (S.shown store.old) fault) (putting (S.shown store.new) result) }
+        (put_state_of_run (S.shown store.old) fault) (put_state_of_run (S.shown store.new) result) }
 {
     if fault.is_some() {
         return fault;
@@ -97,7 +97,7 @@ fn refused_events(label: &Label, error: PutError) -> PutFault
 /// Puts these bytes as the events of the client of this label. Gives the put, where it is refused.
 fn put_named<S: Store>(store: &mut S, label: &Label, bytes: &[u8]) -> Option<PutFault>
     ensures { PutsFile (events_name label.now, bytes.now)
-        (unrefused (S.shown store.old)) (putting (S.shown store.new) result) }
+        (unrefused (S.shown store.old)) (put_state_of_run (S.shown store.new) result) }
 {
     let mut name = [0; NAME_BYTES];
     let end = write_name(&mut name, label.as_bytes());
@@ -110,8 +110,8 @@ fn put_named<S: Store>(store: &mut S, label: &Label, bytes: &[u8]) -> Option<Put
     }
 }
 
-/// Writes the name of the events of the client of this label to the front of `out`, and answers where it
-/// ends.
+/// Writes the name of the events of the client of this label to the front of `out`, and answers
+/// where it ends.
 fn write_name(out: &mut [u8], label: &[u8]) -> usize
     requires out { length out.old ≡ 31 }
     requires label { length label.now ≤ 20 }
@@ -123,8 +123,8 @@ fn write_name(out: &mut [u8], label: &[u8]) -> usize
     text(out, at, b".txt")
 }
 
-/// Puts the journal, unless a put was refused before. Gives the put that was refused, if there is one.
-/// Want of memory for the text counts as a put that is refused.
+/// Puts the journal, unless a put was refused before. Gives the put that was refused, if there is
+/// one. Want of memory for the text counts as a put that is refused.
 pub fn put_journal<S: Store>(
     alloc: Global,
     store: &mut S,
@@ -132,7 +132,7 @@ pub fn put_journal<S: Store>(
     journal: &[Entry],
 ) -> Option<PutFault>
     ensures { PutsNext (journal_file journal.now)
-        (putting (S.shown store.old) fault) (putting (S.shown store.new) result) }
+        (put_state_of_run (S.shown store.old) fault) (put_state_of_run (S.shown store.new) result) }
 {
     if fault.is_some() {
         return fault;

@@ -3,8 +3,8 @@
 ghost use Rattle.std.specs.Prelude.{false, true, ◌≡◌, ◌^◌, ◌<◌};
 ghost use Rattle.nit_top.specs.Command.{Audit, Capture, Gen, Run, command, starts_threads, texts};
 ghost use Rattle.nit_top.specs.Answer.{Answer};
-ghost use Rattle.nit_top.specs.Ended.{Ended, Finished};
-ghost use Rattle.nit_top.specs.Regions.{IsShort};
+ghost use Rattle.nit_top.specs.CommandEnd.{Ended, Finished};
+ghost use Rattle.nit_top.specs.Region.{IsRegionWords};
 
 use crate::audit::audited;
 use crate::capture::capture;
@@ -22,9 +22,9 @@ use std::alloc::Global;
 use std::sync::Wait;
 use std::thread::Threads;
 
-/// Does what the words of the command line ask for, over this store: reads, puts files, and says a line.
-/// The words are those behind the program's name. Each actor passes the gate before each of its lines where
-/// the command starts threads; it is not passed else.
+/// Does what the words of the command line ask for, over this store: reads, puts files, and says a
+/// line. The words are those behind the program's name. Each actor passes the gate before each of
+/// its lines where the command starts threads; it is not passed else.
 pub fn nitpicker<R: Threads + Wait + Sync, S: Store, G: Gate>(
     rt: &R,
     alloc: Global,
@@ -32,7 +32,8 @@ pub fn nitpicker<R: Threads + Wait + Sync, S: Store, G: Gate>(
     store: &mut S,
     gate: &G,
 ) -> Done
-    ensures { Answer (S.shown store.old) (texts words.now) (S.shown store.new) result.status result.journal.items }
+    ensures { Answer (S.shown store.old) (texts words.now)
+        (S.shown store.new) result.status result.journal.items }
 {
     generated_runs_count();
     match parse_words(words) {
@@ -46,7 +47,8 @@ pub fn nitpicker<R: Threads + Wait + Sync, S: Store, G: Gate>(
 /// The same for words that start no thread. It waits for nobody, and returns.
 pub fn nitpicker_alone<S: Store>(alloc: Global, words: &[String], store: &mut S) -> Done
     requires { starts_threads (command (texts words.now)) ≡ false }
-    ensures { Answer (S.shown store.old) (texts words.now) (S.shown store.new) result.status result.journal.items }
+    ensures { Answer (S.shown store.old) (texts words.now)
+        (S.shown store.new) result.status result.journal.items }
 {
     generated_runs_count();
     work(alloc, words, store)
@@ -65,7 +67,8 @@ pub fn starts_threads(words: &[String]) -> bool
 /// Does the work on the calling thread, and says how it came to its end.
 fn work<S: Store>(alloc: Global, words: &[String], store: &mut S) -> Done
     requires { starts_threads (command (texts words.now)) ≡ false }
-    ensures { Ended (S.shown store.old) (command (texts words.now)) (S.shown store.new) result.status result.journal.items }
+    ensures { Ended (S.shown store.old) (command (texts words.now))
+        (S.shown store.new) result.status result.journal.items }
 {
     match parse_words(words) {
         None => finish(store, unbegun(alloc, at(End::Usage, ""))),
@@ -87,7 +90,8 @@ fn work<S: Store>(alloc: Global, words: &[String], store: &mut S) -> Done
 
 /// Runs the configuration of this name by turns.
 fn turns<S: Store>(alloc: Global, store: &mut S, name: &str) -> Done
-    ensures { Ended (S.shown store.old) (Run false name.now) (S.shown store.new) result.status result.journal.items }
+    ensures { Ended (S.shown store.old) (Run false name.now)
+        (S.shown store.new) result.status result.journal.items }
 {
     let config = match load_config(alloc, store, name) {
         Ok(config) => config,
@@ -118,7 +122,8 @@ fn beside<R: Threads + Wait + Sync, S: Store, G: Gate>(
     name: &str,
     gate: &G,
 ) -> Done
-    ensures { Ended (S.shown store.old) (Run true name.now) (S.shown store.new) result.status result.journal.items }
+    ensures { Ended (S.shown store.old) (Run true name.now)
+        (S.shown store.new) result.status result.journal.items }
 {
     let config = match load_config(alloc, store, name) {
         Ok(config) => config,
@@ -128,7 +133,8 @@ fn beside<R: Threads + Wait + Sync, S: Store, G: Gate>(
     finish(store, worked)
 }
 
-/// Makes the files of the generated run of this number, and runs it with each client on a thread of its own.
+/// Makes the files of the generated run of this number, and runs it with each client on a thread of
+/// its own.
 fn made<R: Threads + Wait + Sync, S: Store, G: Gate>(
     rt: &R,
     alloc: Global,
@@ -137,13 +143,15 @@ fn made<R: Threads + Wait + Sync, S: Store, G: Gate>(
     gate: &G,
 ) -> Done
     requires { number < 10 ^ 9 }
-    ensures { Ended (S.shown store.old) (Gen number) (S.shown store.new) result.status result.journal.items }
+    ensures { Ended (S.shown store.old) (Gen number)
+        (S.shown store.new) result.status result.journal.items }
 {
     let worked = generated(rt, alloc, store, number, gate);
     finish(store, worked)
 }
 
-/// Runs the configuration of this name with each client on a thread of its own, and films the region.
+/// Runs the configuration of this name with each client on a thread of its own, and films the
+/// region.
 fn filmed<R: Threads + Wait + Sync, S: Store, G: Gate>(
     rt: &R,
     alloc: Global,
@@ -152,8 +160,9 @@ fn filmed<R: Threads + Wait + Sync, S: Store, G: Gate>(
     region: Region,
     gate: &G,
 ) -> Done
-    requires { IsShort region }
-    ensures { Ended (S.shown store.old) (Capture name.now region) (S.shown store.new) result.status result.journal.items }
+    requires { IsRegionWords region }
+    ensures { Ended (S.shown store.old) (Capture name.now region)
+        (S.shown store.new) result.status result.journal.items }
 {
     let config = match load_config(alloc, store, name) {
         Ok(config) => config,

@@ -1,8 +1,8 @@
 -- What other crates cite of words: those that are set, loaded or zero, and their places in rows.
-pub use Rattle.nit_word.proofs.InkedRows.{one_of}
+pub use Rattle.nit_word.proofs.InkUpdates.{one_of}
 pub use Rattle.nit_word.proofs.Loads.{loaded_after, more_taken, seen_none, seen_twice}
 pub use Rattle.nit_word.proofs.RowPlaces.{before_row, column_and_row}
-pub use Rattle.nit_word.proofs.SetWords.{are_set, both_set, next_between, none_between, none_set, same_colours, same_set, set_long, word_at}
+pub use Rattle.nit_word.proofs.UpdateLemmas.{are_set, both_set, next_between, none_between, none_set, same_colours, same_set, set_long, word_at}
 pub use Rattle.nit_word.proofs.SideBySide.{at_place, put_long, turn_there}
 pub use Rattle.nit_word.proofs.WordsInInk.{inked_fits}
-pub use Rattle.nit_word.proofs.Zeros.{length-zeros, zero_at, zero_inked}
+pub use Rattle.nit_word.proofs.ZeroLemmas.{length-zeros, zero_at, zero_inked}

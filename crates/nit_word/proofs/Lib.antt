@@ -1,11 +1,11 @@
 pub mod Bits
-pub mod InkedRows
+pub mod InkUpdates
 pub mod WordsInInk
 pub mod Loads
 pub mod ReachedWords
-pub mod Rows
-pub mod SetWords
+pub mod PixelRows
+pub mod UpdateLemmas
 pub mod SideBySide
-pub mod Zeros
+pub mod ZeroLemmas
 pub mod RowPlaces
 pub mod ForCallers

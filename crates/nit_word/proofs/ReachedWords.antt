@@ -6,10 +6,10 @@ use Rattle.std.specs.Prelude.{slice_index, slice_set}
 use Rattle.std.proofs.Math.ListN.{get_or-eq_default}
 use Rattle.std.proofs.lemmas.Bool.Decides.{nat_tests}
 use Rattle.std.proofs.lemmas.List.{append-nil, get_or_append_left, get_or-append_right, length-append, set-append_left, take_all, take_at}
-use Rattle.nit_word.specs.Setting.{set_where, is_between}
+use Rattle.nit_word.specs.Updates.{set_where, is_between}
 use Rattle.nit_word.specs.Zeros.{padded, zeros}
-use Rattle.nit_word.proofs.SetWords.{are_set, set_long, word_at}
-use Rattle.nit_word.proofs.Zeros.{length-zeros, zero_at, zeros_joined}
+use Rattle.nit_word.proofs.UpdateLemmas.{are_set, set_long, word_at}
+use Rattle.nit_word.proofs.ZeroLemmas.{length-zeros, zero_at, zeros_joined}
 
 -- ---- their number, and the word of each number
 

@@ -7,8 +7,8 @@ use Rattle.std.proofs.Math.ListN.{get_or-eq_default}
 use Rattle.std.proofs.lemmas.Bool.Decides.{nat_tests}
 use Rattle.std.proofs.lemmas.List.{get_or_append_left, get_or-append_right, get_or-take, get_or-drop, get_or-replicate, length-append, length-drop, length-replicate, length-take-le}
 use borrow.Rule.Slice.PartMut.{mid_of, put_mid}
-use Rattle.nit_word.specs.Setting.{set_where, is_between, in_turn}
-use Rattle.nit_word.proofs.SetWords.{are_set, both_set, same_colours, set_long, word_at}
+use Rattle.nit_word.specs.Updates.{set_where, is_between, in_turn}
+use Rattle.nit_word.proofs.UpdateLemmas.{are_set, both_set, same_colours, set_long, word_at}
 
 pub put_long : (from n : ℕ) (words part : List ℕ) → from + n ≤ length words → length part ≡ n → length (put_mid from n words part) ≡ length words
 put_long from n words part room long =

@@ -1,5 +1,5 @@
 pub mod Channels
 pub mod Inks
-pub mod Setting
+pub mod Updates
 pub mod Sight
 pub mod Zeros

@@ -1,7 +1,7 @@
 //! A glass over words of its own that shows a fixed ink alone.
 ghost use Rattle.std.specs.Prelude.{◌≡◌, ℕ, ◌<◌, ◌≤◌, All, IfOk};
 ghost use Rattle.nit_word.specs.Inks.{IsInked, IsWord};
-ghost use Rattle.nit_word.specs.Setting.{in_turn, is_between, set_where, with_words};
+ghost use Rattle.nit_word.specs.Updates.{in_turn, is_between, set_where, with_words};
 ghost use Rattle.nit_word.specs.Sight.{Sight, inked_sight, stored, told_at};
 ghost use Rattle.nit_word.specs.Zeros.{padded, zeros};
 
@@ -10,8 +10,8 @@ use crate::words::Words;
 use std::alloc::{AllocError, Global};
 use std::marker::Model;
 
-/// Words of one owner that the glass tells, each 0 or in its ink. The ink never changes, and the glass
-/// keeps no log.
+/// Words of one owner that the glass tells, each 0 or in its ink. The ink never changes, and the
+/// glass keeps no log.
 #[derive(Drop)]
 pub struct Inked {
     owner: u32,
@@ -28,7 +28,8 @@ impl Model for Inked {
 }
 
 impl Inked {
-    /// A glass over these words, each of which is 0 or in this ink. Each word of the ink is below 2^24.
+    /// A glass over these words, each of which is 0 or in this ink. Each word of the ink is below
+    /// 2^24.
     pub fn new(owner: u32, words: Vec<u32>, ink: Vec<u32>) -> Inked
         requires ink { All IsWord ink.items }
         requires words { All (IsInked ink.items) words.items }
@@ -41,8 +42,8 @@ impl Inked {
         }
     }
 
-    /// A glass over so many words, which are 0, of this ink. Each word of the ink is below 2^24. No call on
-    /// the glass takes memory, and words behind the last one that was set take no time.
+    /// A glass over so many words, which are 0, of this ink. Each word of the ink is below 2^24. No
+    /// call on the glass takes memory, and words behind the last one that was set take no time.
     ///
     /// # Errors
     ///
@@ -58,8 +59,8 @@ impl Inked {
         })
     }
 
-    /// Sets the word at place `i`, which is below the glass's size, to `w`, which is 0 or in the ink.
-    /// Nothing else changes.
+    /// Sets the word at place `i`, which is below the glass's size, to `w`, which is 0 or in the
+    /// ink. Nothing else changes.
     pub fn store(&mut self, i: usize, w: u32)
         requires place { i < self.old.size }
         requires word { IsInked self.old.ink w }
@@ -68,8 +69,8 @@ impl Inked {
         self.words.set(i, w);
     }
 
-    /// Sets the words at the places from `from` to before `to`, which is at most the glass's size, to `w`,
-    /// which is 0 or in the ink. Nothing else changes.
+    /// Sets the words at the places from `from` to before `to`, which is at most the glass's size,
+    /// to `w`, which is 0 or in the ink. Nothing else changes.
     pub fn fill(&mut self, from: usize, to: usize, w: u32)
         requires order { from ≤ to }
         requires room { to ≤ self.old.size }
@@ -79,8 +80,8 @@ impl Inked {
         self.words.fill(from, to, w);
     }
 
-    /// Sets the words at the places from `from` to before `to`, which is at most the glass's size, to `c`
-    /// and `d` in turn, the first one to `c`. Each is 0 or in the ink. Nothing else changes.
+    /// Sets the words at the places from `from` to before `to`, which is at most the glass's size,
+    /// to `c` and `d` in turn, the first one to `c`. Each is 0 or in the ink. Nothing else changes.
     pub fn alternate(&mut self, from: usize, to: usize, c: u32, d: u32)
         requires order { from ≤ to }
         requires room { to ≤ self.old.size }
@@ -92,8 +93,9 @@ impl Inked {
         self.words.alternate(from, to, c, d);
     }
 
-    /// Sets the words at the places from `from` to before `to`, which is at most the glass's size, to those
-    /// that another glass of the same ink tells there, and to 0 where it tells none. Nothing else changes.
+    /// Sets the words at the places from `from` to before `to`, which is at most the glass's size,
+    /// to those that another glass of the same ink tells there, and to 0 where it tells none.
+    /// Nothing else changes.
     pub fn copy(&mut self, from: usize, to: usize, other: &Inked)
         requires order { from ≤ to }
         requires room { to ≤ self.old.size }
@@ -104,8 +106,8 @@ impl Inked {
         self.words.copy(from, to, &other.words);
     }
 
-    /// The words of the glass in their order, each below 2^24, and 0 or in the ink. Those that are left out
-    /// at the end are 0.
+    /// The words of the glass in their order, each below 2^24, and 0 or in the ink. Those that are
+    /// left out at the end are 0.
     pub fn words(&self) -> &[u32]
         ensures sight { self.now
             ≡ inked_sight self.now.owner (padded self.now.size result.now) self.now.ink }

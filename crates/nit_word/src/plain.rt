@@ -30,8 +30,8 @@ impl Plain {
         Plain { owner, words }
     }
 
-    /// Sets the word at place `i`, which is below the glass's size, to `w`, which is below 2^24. The
-    /// ink changes with it, and nothing else does.
+    /// Sets the word at place `i`, which is below the glass's size, to `w`, which is below 2^24.
+    /// The ink changes with it, and nothing else does.
     pub fn store(&mut self, i: usize, w: u32)
         requires place { i < self.old.size }
         requires word { IsWord w }

@@ -1,6 +1,6 @@
 //! Words that are set side by side.
 ghost use Rattle.std.specs.Prelude.{◌≡◌, ℕ, ◌+◌, ◌<◌, ◌≤◌, length, slice_index};
-ghost use Rattle.nit_word.specs.Setting.{in_turn, is_between, set_where};
+ghost use Rattle.nit_word.specs.Updates.{in_turn, is_between, set_where};
 
 /// Sets the words from the number `from` to before `to` to `w`.
 pub(crate) fn fill_words(words: &mut [u32], from: usize, to: usize, w: u32)
@@ -11,7 +11,8 @@ pub(crate) fn fill_words(words: &mut [u32], from: usize, to: usize, w: u32)
     words[from..to].fill(w);
 }
 
-/// Sets the words from the number `from` to before `to` to `c` and `d` in turn, the first one to `c`.
+/// Sets the words from the number `from` to before `to` to `c` and `d` in turn, the first one to
+/// `c`.
 pub(crate) fn alternate_words(words: &mut [u32], from: usize, to: usize, c: u32, d: u32)
     requires order { from ≤ to }
     requires room { to ≤ length words.old }
@@ -29,8 +30,8 @@ fn take_turns(words: &mut [u32], c: u32, d: u32)
     }
 }
 
-/// Sets the words from the number `from` to before `to` to those of the others that have these numbers,
-/// and to 0 behind the last of the others.
+/// Sets the words from the number `from` to before `to` to those of the others that have these
+/// numbers, and to 0 behind the last of the others.
 pub(crate) fn copy_words(words: &mut [u32], from: usize, to: usize, others: &[u32])
     requires order { from ≤ to }
     requires room { to ≤ length words.old }
@@ -45,7 +46,8 @@ pub(crate) fn copy_words(words: &mut [u32], from: usize, to: usize, others: &[u3
     fill_words(words, end, to, 0);
 }
 
-/// Sets the words from the number `from` to before `to` to those of the others that have these numbers.
+/// Sets the words from the number `from` to before `to` to those of the others that have these
+/// numbers.
 fn copy_part(words: &mut [u32], from: usize, to: usize, others: &[u32])
     requires order { from ≤ to }
     requires room { to ≤ length words.old }

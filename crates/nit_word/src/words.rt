@@ -1,14 +1,14 @@
 //! Words of which those that were never reached take no time.
 ghost use Rattle.std.specs.Prelude.{◌≡◌, ℕ, ◌+◌, ◌-◌, ◌<◌, ◌≤◌, ◌++◌, IfOk, length, slice_index, slice_set, vec_capacity, vec_len};
-ghost use Rattle.nit_word.specs.Setting.{in_turn, is_between, set_where};
+ghost use Rattle.nit_word.specs.Updates.{in_turn, is_between, set_where};
 ghost use Rattle.nit_word.specs.Zeros.{padded, zeros};
 
 use crate::setting::{alternate_words, copy_words, fill_words, read_words};
 use std::alloc::{AllocError, Global};
 use std::marker::Model;
 
-/// A fixed number of words, seen as their list. Those from the first place that was never reached on are
-/// 0 and are not kept, so that they take no time. Only making them takes memory.
+/// A fixed number of words, seen as their list. Those from the first place that was never reached
+/// on are 0 and are not kept, so that they take no time. Only making them takes memory.
 #[derive(Drop)]
 pub(crate) struct Words {
     size: usize,
@@ -99,7 +99,8 @@ impl Words {
         fill_words(&mut self.reached, from, to, w);
     }
 
-    /// Sets the words from the number `from` to before `to` to `c` and `d` in turn, the first one to `c`.
+    /// Sets the words from the number `from` to before `to` to `c` and `d` in turn, the first one
+    /// to `c`.
     pub(crate) fn alternate(&mut self, from: usize, to: usize, c: u32, d: u32)
         requires order { from ≤ to }
         requires room { to ≤ length self.old }
@@ -109,7 +110,8 @@ impl Words {
         alternate_words(&mut self.reached, from, to, c, d);
     }
 
-    /// Sets the words from the number `from` to before `to` to those of the others that have these numbers.
+    /// Sets the words from the number `from` to before `to` to those of the others that have these
+    /// numbers.
     pub(crate) fn copy(&mut self, from: usize, to: usize, others: &Words)
         requires order { from ≤ to }
         requires room { to ≤ length self.old }

@@ -13,8 +13,8 @@ use std::rt::Env;
 /// The status where there is no memory for the words.
 const NO_MEMORY: u8 = 7;
 
-/// The words of the command line behind the program's name. Arguments that are no text are no command,
-/// and so are no words.
+/// The words of the command line behind the program's name. Arguments that are no text are no
+/// command, and so are no words.
 fn words<R: Env + AllocGlobal>(rt: &R) -> Result<Vec<String>, AllocError> {
     match env::args(rt) {
         Ok(args) => args.skip(1).collect(rt.alloc()),

@@ -2,17 +2,17 @@
 
 ghost use Rattle.std.specs.Prelude.{◌≡◌, ◌+◌, length, take, slice_index, false};
 ghost use mathlib.Core.List.{IsPrefix};
-ghost use Rattle.nit_journal.specs.Journals.{IsLegal, IsOpen};
+ghost use Rattle.nit_journal.specs.Replay.{IsLegal, IsOpen};
 ghost use Rattle.nit_journal.specs.Session.{serve};
 ghost use Rattle.nit_journal.specs.State.{session};
-ghost use Rattle.nit_journal.specs.Views.{is_accepted};
+ghost use Rattle.nit_journal.specs.StackAfter.{is_accepted};
 ghost use Rattle.nit_repaint.specs.Glasses.{glasses_of_call};
-ghost use Rattle.nit_scene.specs.Painted.{Painted, glass_in};
-ghost use Rattle.nit_scene.specs.Played.{state_now};
-ghost use Rattle.nit_hall.specs.Lines.{served};
-ghost use Rattle.nit_hall.specs.Passes.{Belongs, HasLoaded, IsAtCall, call_entry, next_call};
-ghost use Rattle.nit_hall.specs.Passes.{sight_after_line};
-ghost use Rattle.nit_hall.specs.Rooms.{lenses, stands, with_entry};
+ghost use Rattle.nit_scene.specs.RawWords.{Painted, glass_in};
+ghost use Rattle.nit_scene.specs.Scene.{state_now};
+ghost use Rattle.nit_hall.specs.ServedLines.{served};
+ghost use Rattle.nit_hall.specs.Pass.{Belongs, HasLoaded, IsAtCall, call_entry, next_call};
+ghost use Rattle.nit_hall.specs.Pass.{sight_after_line};
+ghost use Rattle.nit_hall.specs.Room.{lenses, stands, with_entry};
 
 use crate::pass::Pass;
 use crate::room::Room;

@@ -4,16 +4,16 @@ ghost use Rattle.std.specs.Prelude.{◌≡◌, ℕ, ◌*◌, All, length, map, s
 ghost use mathlib.Core.List.{IsPrefix};
 ghost use Rattle.nit_word.specs.Inks.{IsWord};
 ghost use Rattle.nit_events.specs.declared.entry.Entry.TheVariants as entry;
-ghost use Rattle.nit_overlay.specs.Shown.{frame};
-ghost use Rattle.nit_journal.specs.Journals.{IsLegal, IsOpen};
-ghost use Rattle.nit_journal.specs.Whole.{IsWhole};
-ghost use Rattle.nit_plan.specs.Calls.{calls_to_make, deeds_to_do};
-ghost use Rattle.nit_scene.specs.Painted.{Painted, glass_in};
-ghost use Rattle.nit_scene.specs.Played.{scenery_of, state_now};
-ghost use Rattle.nit_hall.specs.Passes.{PassModel, AreDone, IsDonePass, IsDoneUser};
-ghost use Rattle.nit_hall.specs.Passes.{UserBelongs, knowing, rest_of};
-ghost use Rattle.nit_hall.specs.Rooms.{with_final, without_final};
-ghost use Rattle.nit_hall.specs.Endings.{IsMet, words_left_in};
+ghost use Rattle.nit_overlay.specs.Frame.{frame};
+ghost use Rattle.nit_journal.specs.Replay.{IsLegal, IsOpen};
+ghost use Rattle.nit_journal.specs.WholeJournals.{IsWhole};
+ghost use Rattle.nit_plan.specs.Calls.{calls_to_make, user_actions_to_do};
+ghost use Rattle.nit_scene.specs.RawWords.{Painted, glass_in};
+ghost use Rattle.nit_scene.specs.Scene.{scenery_of, state_now};
+ghost use Rattle.nit_hall.specs.Pass.{PassModel, AreDone, IsDonePass, IsDoneUser};
+ghost use Rattle.nit_hall.specs.Pass.{UserBelongs, knowing, rest_of};
+ghost use Rattle.nit_hall.specs.Room.{with_final, without_final};
+ghost use Rattle.nit_hall.specs.RoomEnd.{IsKnownPass, words_left_in};
 
 use crate::pass::Pass;
 use crate::room::Room;
@@ -32,7 +32,7 @@ impl<'a> Room<'a> {
         requires open { IsOpen self.old.scene.entries }
         requires out { length out.old ≡ self.old.parts.config.width * self.old.parts.config.height }
         ensures whole { IsWhole (map calls_to_make self.old.parts.scripts)
-            (deeds_to_do self.old.parts.input) self.new.scene.entries }
+            (user_actions_to_do self.old.parts.input) self.new.scene.entries }
         ensures legal { IsLegal self.old.parts.config self.new.scene.entries }
         ensures frame { let s = state_now self.old.scene in out.new ≡ frame (scenery_of s)
             (words_left_in self.old.parts.config self.old.parts.scripts s) }
@@ -65,7 +65,7 @@ impl<'a> Room<'a> {
         ensures passes { passes.new
             ≡ map (knowing (without_final self.old.scene.entries)) passes.old }
         ensures met { (k : ℕ) (p : PassModel) → slice_get passes.old k ≡ Some p
-            → IsMet self.old k p }
+            → IsKnownPass self.old k p }
     {
         'passes: for pass in passes.iter_mut() {
             self.meet(pass);

@@ -2,10 +2,10 @@
 
 ghost use Rattle.std.specs.Prelude.{◌≡◌, ◌+◌, ◌<◌, ◌≤◌, length, take, slice_index};
 ghost use mathlib.Core.List.{IsPrefix};
-ghost use Rattle.nit_journal.specs.Journals.{IsLegal, IsOpen};
-ghost use Rattle.nit_hall.specs.Lines.{served};
-ghost use Rattle.nit_hall.specs.Passes.{Belongs, UserBelongs, IsAtPhase, IsAtUserPhase};
-ghost use Rattle.nit_hall.specs.Rooms.{after_arrival, arrived_one};
+ghost use Rattle.nit_journal.specs.Replay.{IsLegal, IsOpen};
+ghost use Rattle.nit_hall.specs.ServedLines.{served};
+ghost use Rattle.nit_hall.specs.Pass.{Belongs, UserBelongs, IsAtPhase, IsAtUserPhase};
+ghost use Rattle.nit_hall.specs.Room.{after_arrival, arrived_one};
 
 use crate::pass::Pass;
 use crate::room::Room;

@@ -1,19 +1,19 @@
-//! Words of a scene's own glass that become those of another glass, where the glasses are such that can be
-//! drawn in.
+//! Words of a scene's own glass that become those of another glass, where the glasses are such that
+//! can be drawn in.
 
 ghost use Rattle.std.specs.Prelude.{◌≡◌, ◌<◌, ◌≤◌, length, slice_index_or, slice_set};
-ghost use Rattle.nit_word.specs.Setting.{is_between, set_where, with_words};
+ghost use Rattle.nit_word.specs.Updates.{is_between, set_where, with_words};
 ghost use Rattle.nit_word.specs.Sight.{told_at};
-ghost use Rattle.nit_paint.specs.Painting.{no_sight};
+ghost use Rattle.nit_paint.specs.Repaint.{no_sight};
 
 use crate::scene::Scene;
 use crate::screen::Screen;
 use nit_word::Inked;
 
 impl Scene<Inked> {
-    /// Sets the words at the places from `from` to before `to` of the scene's glass for the session `sid`,
-    /// which has these places, to those that `own`, a glass of the same ink, tells there. Nothing else
-    /// changes, and nothing is loaded.
+    /// Sets the words at the places from `from` to before `to` of the scene's glass for the session
+    /// `sid`, which has these places, to those that `own`, a glass of the same ink, tells there.
+    /// Nothing else changes, and nothing is loaded.
     pub fn draw_row(&mut self, sid: u32, from: usize, to: usize, own: &Inked)
         requires session { sid < length self.old.config.clients }
         requires order { from ≤ to }

@@ -4,7 +4,7 @@ ghost use Rattle.std.specs.Prelude.{◌≡◌, ◌<◌, length, slice_index_or, 
 ghost use Rattle.nit_word.specs.Inks.{IsInked};
 ghost use Rattle.nit_word.specs.Sight.{stored};
 ghost use Rattle.nit_journal.specs.State.{session};
-ghost use Rattle.nit_paint.specs.Painting.{no_sight};
+ghost use Rattle.nit_paint.specs.Repaint.{no_sight};
 
 use crate::scene::Scene;
 use crate::screen::Screen;

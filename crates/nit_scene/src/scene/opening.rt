@@ -16,10 +16,10 @@ ghost use Rattle.std.specs.Prelude.{
 };
 ghost use Rattle.nit_word.specs.Channels.{bare_word};
 ghost use Rattle.nit_slots.specs.Slots.{spare};
-ghost use Rattle.nit_config.specs.Configured.{IsConfigured};
-ghost use Rattle.nit_journal.specs.Journals.{shots};
-ghost use Rattle.nit_scene.specs.Painted.{glass_in};
-ghost use Rattle.nit_scene.specs.Showing.{IsGlass};
+ghost use Rattle.nit_config.specs.ConfigurationRanges.{IsConfiguration};
+ghost use Rattle.nit_journal.specs.Replay.{shots};
+ghost use Rattle.nit_scene.specs.RawWords.{glass_in};
+ghost use Rattle.nit_scene.specs.Screen.{IsGlass};
 
 use crate::scene::Scene;
 use crate::screen::Screen;
@@ -40,7 +40,7 @@ impl<G: Glass + Drop> Scene<G> {
         glasses: Vec<G>,
         room: usize,
     ) -> Result<Scene<G>, NoMemory>
-        requires config { IsConfigured config.now }
+        requires config { IsConfiguration config.now }
         requires room { room ≤ 1114113 }
         requires glasses { length glasses.items ≡ length config.now.clients }
         requires tables { (t : ℕ) → t < length config.now.clients → IsGlass config.now t

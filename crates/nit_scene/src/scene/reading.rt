@@ -1,10 +1,10 @@
 //! What can be read of a scene.
 
 ghost use Rattle.std.specs.Prelude.{◌≡◌, ◌+◌, ◌-◌, ◌<◌, length};
-ghost use Rattle.nit_config.specs.Configured.{IsConfigured};
-ghost use Rattle.nit_journal.specs.Projections.{reserved, views_in_use};
+ghost use Rattle.nit_config.specs.ConfigurationRanges.{IsConfiguration};
+ghost use Rattle.nit_journal.specs.Projection.{reserved, views_in_use};
 ghost use Rattle.nit_journal.specs.State.{session};
-ghost use Rattle.nit_scene.specs.Played.{state_now};
+ghost use Rattle.nit_scene.specs.Scene.{state_now};
 
 use crate::scene::Scene;
 use nit_events::Status;
@@ -33,7 +33,7 @@ impl<G: Glass + Drop> Scene<G> {
     /// The width, 1..=1024, and the height, 1..=768, of the screen, in pixels.
     pub fn size(&self) -> (u32, u32)
         ensures size { result ≡ (self.now.config.width, self.now.config.height) }
-        ensures configured { IsConfigured self.now.config }
+        ensures configured { IsConfiguration self.now.config }
     {
         let config = &self.screen.server().config;
         (config.width, config.height)

@@ -8,12 +8,12 @@ ghost use Rattle.nit_events.specs.declared.event.Status.TheVariants as status;
 ghost use Rattle.nit_stack.specs.Sources.{pixel};
 ghost use Rattle.nit_journal.specs.Deliveries.{IsLive, kills};
 ghost use Rattle.nit_journal.specs.State.{after, route};
-ghost use Rattle.nit_paint.specs.Painting.{Repainted};
-ghost use Rattle.nit_scene.specs.Attending.{MayLose, routing_of};
-ghost use Rattle.nit_scene.specs.Dirty.{session_owns};
-ghost use Rattle.nit_scene.specs.Painted.{source_at, Painted, glass_in, pixel_count};
-ghost use Rattle.nit_scene.specs.Seating.{with_ended};
-ghost use Rattle.nit_scene.specs.Serving.{state_of};
+ghost use Rattle.nit_paint.specs.Repaint.{Repainted};
+ghost use Rattle.nit_scene.specs.ServerInput.{MayLose, routing_of};
+ghost use Rattle.nit_scene.specs.DirtyPixels.{session_owns};
+ghost use Rattle.nit_scene.specs.RawWords.{source_at, Painted, glass_in, pixel_count};
+ghost use Rattle.nit_scene.specs.ViewsTaken.{with_ended};
+ghost use Rattle.nit_scene.specs.Server.{state_of};
 
 use crate::screen::Screen;
 use crate::screen::pixels::show_input;

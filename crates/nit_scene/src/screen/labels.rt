@@ -12,10 +12,10 @@ ghost use Rattle.std.specs.Prelude.{
   option_map,
 };
 ghost use Rattle.nit_rect.specs.declared.point.Point.{Point};
-ghost use Rattle.nit_stack.specs.Standing.{Seat};
-ghost use Rattle.nit_overlay.specs.Looks.{draws_labels, pixel_at};
-ghost use Rattle.nit_overlay.specs.Shown.{place_of};
-ghost use Rattle.nit_scene.specs.Labelled.{AreLabelled, labelled};
+ghost use Rattle.nit_stack.specs.Stack.{SlotView};
+ghost use Rattle.nit_overlay.specs.Look.{draws_labels, pixel_at};
+ghost use Rattle.nit_overlay.specs.Frame.{label_place_of};
+ghost use Rattle.nit_scene.specs.LabelSlots.{AreLabelled, label_scenery};
 
 use nit_events::Mode;
 use nit_glyph::{Label, label_size, label_text};
@@ -55,8 +55,8 @@ fn place_labels(stack: &Stack, labels: &[Label], places: &mut [Option<Point>])
 fn place_of_view(stack: &Stack, labels: &[Label], i: u32) -> Option<Point>
     requires labels { length labels.now ≡ length stack.now.sizes }
     requires view { i < length stack.now.views }
-    ensures { (s : Seat) → slice_get stack.now.views i ≡ Some s → result ≡ option_map pixel_at
-        (place_of (labelled stack.now labels.now) s.view) }
+    ensures { (s : SlotView) → slice_get stack.now.views i ≡ Some s → result ≡ option_map pixel_at
+        (label_place_of (label_scenery stack.now labels.now) s.view) }
 {
     let v = stack.at(i);
     let view = stack.view(v);

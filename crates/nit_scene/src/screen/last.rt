@@ -2,12 +2,12 @@
 
 ghost use Rattle.std.specs.Prelude.{◌≡◌, ◌+◌, ◌<◌, ◌≤◌, true, length, ℕ, ◌*◌, map};
 ghost use Rattle.nit_events.specs.declared.entry.Entry.TheVariants as entry;
-ghost use Rattle.nit_paint.specs.Painting.{Repainted};
-ghost use Rattle.nit_paint.specs.Pieces.{source_at};
+ghost use Rattle.nit_paint.specs.Repaint.{Repainted};
+ghost use Rattle.nit_paint.specs.Pieces.{source_of_number};
 ghost use Rattle.nit_repaint.specs.Glasses.{HoldBuffers};
-ghost use Rattle.nit_scene.specs.Painted.{Painted, glass_in};
-ghost use Rattle.nit_scene.specs.Serving.{IsServing, state_of};
-ghost use Rattle.nit_scene.specs.Showing.{IsGlassOf};
+ghost use Rattle.nit_scene.specs.RawWords.{Painted, glass_in};
+ghost use Rattle.nit_scene.specs.Server.{IsServer, state_of};
+ghost use Rattle.nit_scene.specs.Screen.{IsGlassOf};
 
 use crate::screen::Screen;
 use crate::screen::pixels::redraw;
@@ -54,12 +54,12 @@ pub(crate) fn load_whole<C: Glass>(
     requires held { HoldBuffers server.now.stack (length owns.old)
         (glass_in (map C.sight owns.old)) }
     ensures room { cutter.new.room ≡ cutter.old.room }
-    ensures painted { Repainted (source_at server.now.stack) (λ k. true) (length raw.old.items)
+    ensures painted { Repainted (source_of_number server.now.stack) (λ k. true) (length raw.old.items)
         (glass_in (map C.sight owns.old)) (glass_in (map C.sight owns.new))
         raw.old.items raw.new.items }
     ensures long { length raw.new.items ≡ length raw.old.items }
     ensures rests { map C.rest owns.new ≡ map C.rest owns.old }
-    ensures facts { IsServing server.now }
+    ensures facts { IsServer server.now }
 {
     paint_whole(cutter, server.stack(), raw.as_mut_slice(), owns);
 }

@@ -2,9 +2,9 @@
 
 ghost use Rattle.std.specs.Prelude.{◌≡◌, ◌≤◌, ◌++◌, drop, false, length, take};
 ghost use Rattle.nit_events.specs.declared.device.Mode.TheVariants.{Flat};
-ghost use Rattle.nit_scene.specs.Kept.{ArePixels, raw_in, raw_of, unbarred};
-ghost use Rattle.nit_scene.specs.Painted.{AreRaw};
-ghost use Rattle.nit_scene.specs.Serving.{state_of};
+ghost use Rattle.nit_scene.specs.Pixels.{ArePixels, raw_in, raw_of, unbarred};
+ghost use Rattle.nit_scene.specs.RawWords.{AreRaw};
+ghost use Rattle.nit_scene.specs.Server.{state_of};
 
 use crate::screen::pixels::Pixels;
 use crate::server::Server;

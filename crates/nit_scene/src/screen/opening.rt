@@ -18,11 +18,11 @@ ghost use Rattle.std.specs.Prelude.{
 ghost use Rattle.nit_rect.specs.declared.point.Point.{Point};
 ghost use Rattle.nit_word.specs.Channels.{bare_word};
 ghost use Rattle.nit_config.specs.Configuration.{bar_rows};
-ghost use Rattle.nit_config.specs.Configured.{IsConfigured};
-ghost use Rattle.nit_journal.specs.State.{opening};
-ghost use Rattle.nit_scene.specs.Painted.{glass_in};
-ghost use Rattle.nit_scene.specs.Serving.{state_of};
-ghost use Rattle.nit_scene.specs.Showing.{IsGlass};
+ghost use Rattle.nit_config.specs.ConfigurationRanges.{IsConfiguration};
+ghost use Rattle.nit_journal.specs.State.{first_state};
+ghost use Rattle.nit_scene.specs.RawWords.{glass_in};
+ghost use Rattle.nit_scene.specs.Server.{state_of};
+ghost use Rattle.nit_scene.specs.Screen.{IsGlass};
 
 use crate::screen::Screen;
 use crate::screen::pixels::{Pixels, redraw};
@@ -44,11 +44,11 @@ impl<G: Glass + Drop> Screen<G> {
         config: &Config,
         glasses: Vec<G>,
     ) -> Result<Screen<G>, NoMemory>
-        requires config { IsConfigured config.now }
+        requires config { IsConfiguration config.now }
         requires glasses { length glasses.items ≡ length config.now.clients }
         requires tables { (t : ℕ) → t < length config.now.clients → IsGlass config.now t
             (glass_in (map G.sight glasses.items) t) }
-        ensures state { IfOk result (λ s. state_of s.serving ≡ opening config.now) }
+        ensures state { IfOk result (λ s. state_of s.serving ≡ first_state config.now) }
         ensures raw { IfOk result (λ s. s.raw ≡ replicate
             (config.now.width * config.now.height) bare_word) }
         ensures glasses { IfOk result (λ s. s.glasses ≡ glasses.items) }
@@ -67,7 +67,7 @@ impl<G: Glass + Drop> Screen<G> {
 
 /// The pixels of a bare screen, of which no frame is made yet.
 fn bare_pixels(alloc: Global, config: &Config, bar: usize) -> Result<Pixels, NoMemory>
-    requires { IsConfigured config.now }
+    requires { IsConfiguration config.now }
     ensures raw { IfOk result (λ p. p.raw.items
         ≡ replicate (config.now.width * config.now.height) bare_word) }
     ensures apart { IfOk result (λ p. p.is_apart ≡ true) }
@@ -116,7 +116,7 @@ fn labels_of(alloc: Global, config: &Config) -> Result<Vec<Label>, NoMemory>
 
 /// The bare word for each pixel of the screen.
 fn bare_words(alloc: Global, config: &Config) -> Result<Vec<u32>, NoMemory>
-    requires { IsConfigured config.now }
+    requires { IsConfiguration config.now }
     ensures words { IfOk result (λ v. v.items ≡ replicate
         (config.now.width * config.now.height) bare_word) }
     ensures count { IfOk result (λ v. length v.items ≡ config.now.width * config.now.height) }

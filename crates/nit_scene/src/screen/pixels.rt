@@ -20,13 +20,13 @@ ghost use Rattle.nit_rect.specs.Rectangle.{covers, rectangle};
 ghost use Rattle.nit_word.specs.Inks.{IsWord};
 ghost use Rattle.nit_events.specs.declared.device.Mode.TheVariants.{Flat};
 ghost use Rattle.nit_stack.specs.Sources.{pixel};
-ghost use Rattle.nit_paint.specs.Copied.{AreSet};
-ghost use Rattle.nit_repaint.specs.Parts.{wanted};
-ghost use Rattle.nit_overlay.specs.Looks.{draws_labels};
-ghost use Rattle.nit_overlay.specs.Shown.{frame, shown};
-ghost use Rattle.nit_scene.specs.Kept.{ArePixels, CanShowBy, kept_frame, raw_of, shown_by};
-ghost use Rattle.nit_scene.specs.Played.{scenery_of};
-ghost use Rattle.nit_scene.specs.Serving.{IsServing, state_of};
+ghost use Rattle.nit_paint.specs.FrameCopy.{AreSet};
+ghost use Rattle.nit_repaint.specs.WantedPixels.{wanted};
+ghost use Rattle.nit_overlay.specs.Look.{draws_labels};
+ghost use Rattle.nit_overlay.specs.Frame.{frame, shown};
+ghost use Rattle.nit_scene.specs.Pixels.{ArePixels, CanShowBy, kept_frame, raw_of, shown_by};
+ghost use Rattle.nit_scene.specs.Scene.{scenery_of};
+ghost use Rattle.nit_scene.specs.Server.{IsServer, state_of};
 
 use crate::screen::labels::place_drawn;
 use crate::screen::lists::{put_bar_in, take_bar_off};
@@ -171,7 +171,7 @@ fn bar_of(server: &Server, labels: &[Label], places: &[Option<Point>], raw: &[u3
     requires pixels { length raw.now ≡ server.now.config.width * server.now.config.height }
     requires out { length out.old ≡ server.now.config.width * server.now.config.height }
     requires words { All IsWord raw.now }
-    ensures facts { IsServing server.now }
+    ensures facts { IsServer server.now }
     ensures shown { (k : ℕ) → k < server.now.config.width * server.now.config.height
         → slice_index out.new k
         ≡ (if covers (rectangle (pos 0) (pos 0) server.now.config.width server.now.stack.bar)

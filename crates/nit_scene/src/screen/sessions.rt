@@ -20,23 +20,23 @@ ghost use Rattle.nit_events.specs.declared.event.Status.TheVariants as status;
 ghost use Rattle.nit_stack.specs.Sources.{pixel};
 ghost use Rattle.nit_journal.specs.Session.{refusal, accepted};
 ghost use Rattle.nit_journal.specs.State.{session, session_in};
-ghost use Rattle.nit_paint.specs.Painting.{Repainted, no_sight};
-ghost use Rattle.nit_paint.specs.Pieces.{source_at};
+ghost use Rattle.nit_paint.specs.Repaint.{Repainted, no_sight};
+ghost use Rattle.nit_paint.specs.Pieces.{source_of_number};
 ghost use Rattle.nit_repaint.specs.Glasses.{HoldBuffers, glasses_of_call};
-ghost use Rattle.nit_repaint.specs.Parts.{wanted};
+ghost use Rattle.nit_repaint.specs.WantedPixels.{wanted};
 ghost use Rattle.nit_scene.specs.CallKinds.{IsPartOf};
-ghost use Rattle.nit_scene.specs.Dirty.{session_owns};
+ghost use Rattle.nit_scene.specs.DirtyPixels.{session_owns};
 ghost use Rattle.nit_events.specs.declared.device.Mode.TheVariants.{Flat};
-ghost use Rattle.nit_scene.specs.Kept.{ArePixels, CanShowBy, raw_of};
-ghost use Rattle.nit_scene.specs.Painted.{
+ghost use Rattle.nit_scene.specs.Pixels.{ArePixels, CanShowBy, raw_of};
+ghost use Rattle.nit_scene.specs.RawWords.{
   Painted,
   glass_in,
   pixel_count,
   source_at as scene_source_at,
 };
-ghost use Rattle.nit_scene.specs.Seating.{with_ended};
-ghost use Rattle.nit_scene.specs.Serving.{IsServing, IsServed, state_of};
-ghost use Rattle.nit_scene.specs.Showing.{IsGlassOf};
+ghost use Rattle.nit_scene.specs.ViewsTaken.{with_ended};
+ghost use Rattle.nit_scene.specs.Server.{IsServer, IsServed, state_of};
+ghost use Rattle.nit_scene.specs.Screen.{IsGlassOf};
 
 use crate::screen::pixels::{Pixels, redraw, show_part};
 use crate::screen::views::take_views_away;
@@ -111,7 +111,7 @@ fn paint_views<G: Glass, C: Glass>(
     requires held { HoldBuffers server.now.stack (length glasses.old.items)
         (glasses_of_call (map G.sight glasses.old.items) sid (C.sight own.old)) }
     ensures room { cutter.new.room ≡ cutter.old.room }
-    ensures painted { Repainted (source_at server.now.stack)
+    ensures painted { Repainted (source_of_number server.now.stack)
         (λ k. wanted sid part.now server.now.stack (pixel server.now.stack.width k))
         (length raw.old.items)
         (glasses_of_call (map G.sight glasses.old.items) sid (C.sight own.old))
@@ -231,7 +231,7 @@ fn end_session<G: Glass, C: Glass>(
     requires held { HoldBuffers server.old.stack (length glasses.old.items)
         (glasses_of_call (map G.sight glasses.old.items) sid (C.sight own.old)) }
     ensures server { server.new ≡ with_ended of how server.old }
-    ensures facts { IsServing server.old × IsServing server.new }
+    ensures facts { IsServer server.old × IsServer server.new }
     ensures room { cutter.new.room ≡ cutter.old.room }
     ensures painted { Repainted (scene_source_at (state_of server.new))
         (λ k. session_owns of (state_of server.old) (pixel server.old.config.width k))

@@ -21,22 +21,22 @@ ghost use Rattle.std.specs.Prelude.{
 };
 ghost use Rattle.nit_events.specs.declared.entry.Entry.TheVariants as entry;
 ghost use Rattle.nit_stack.specs.Sources.{pixel};
-ghost use Rattle.nit_stack.specs.Standing.{Seat, Standing, has, is_of_session, place_of, seat_in};
+ghost use Rattle.nit_stack.specs.Stack.{SlotView, StackModel, has_slot, is_of_session, place_of, slot_view_in};
 ghost use Rattle.nit_journal.specs.Session.{refusal, accepted};
 ghost use Rattle.nit_journal.specs.State.{session, session_in};
-ghost use Rattle.nit_paint.specs.Painting.{Repainted, no_sight};
-ghost use Rattle.nit_paint.specs.Pieces.{source_at};
+ghost use Rattle.nit_paint.specs.Repaint.{Repainted, no_sight};
+ghost use Rattle.nit_paint.specs.Pieces.{source_of_number};
 ghost use Rattle.nit_repaint.specs.Glasses.{HoldBuffers, glasses_of_call};
-ghost use Rattle.nit_repaint.specs.OneView.{IsChange, slot_owns_either};
-ghost use Rattle.nit_repaint.specs.Owned.{owner_passes};
-ghost use Rattle.nit_repaint.specs.Uncovered.{IsTaken, uncovered, without_session};
+ghost use Rattle.nit_repaint.specs.ViewChange.{IsViewChange, slot_owns_either};
+ghost use Rattle.nit_repaint.specs.PixelOwners.{owner_passes};
+ghost use Rattle.nit_repaint.specs.ViewRemoval.{IsRemovedFrom, uncovered, without_session};
 ghost use Rattle.nit_scene.specs.CallKinds.{IsOn};
 ghost use Rattle.nit_events.specs.declared.device.Mode.TheVariants.{Flat};
-ghost use Rattle.nit_scene.specs.Kept.{ArePixels, raw_of};
-ghost use Rattle.nit_scene.specs.Painted.{Painted, glass_in};
-ghost use Rattle.nit_scene.specs.Seating.{without_views};
-ghost use Rattle.nit_scene.specs.Serving.{IsServed, state_of};
-ghost use Rattle.nit_scene.specs.Showing.{IsGlassOf};
+ghost use Rattle.nit_scene.specs.Pixels.{ArePixels, raw_of};
+ghost use Rattle.nit_scene.specs.RawWords.{Painted, glass_in};
+ghost use Rattle.nit_scene.specs.ViewsTaken.{without_views};
+ghost use Rattle.nit_scene.specs.Server.{IsServed, state_of};
+ghost use Rattle.nit_scene.specs.Screen.{IsGlassOf};
 
 use crate::screen::pixels::{Pixels, show_views};
 use crate::server::Server;
@@ -103,9 +103,9 @@ pub(crate) fn change_view<G: Glass, C: Glass>(
 
 /// Where a view stands in the stack, and its rectangle.
 fn stood(server: &Server, v: ViewRef) -> (u32, Rect)
-    requires { has v.0 server.now.stack.views ≡ true }
+    requires { has_slot v.0 server.now.stack.views ≡ true }
     ensures place { result.0 ≡ place_of v.0 server.now.stack.views }
-    ensures seat { (s : Seat) × (seat_in v.0 server.now.stack.views ≡ Some s) ×
+    ensures seat { (s : SlotView) × (slot_view_in v.0 server.now.stack.views ≡ Some s) ×
         (s.view.rect ≡ result.1) }
 {
     let stack = server.stack();
@@ -130,8 +130,8 @@ fn paint_change<G: Glass, C: Glass>(
     requires held { HoldBuffers server.now.stack (length glasses.old.items)
         (glasses_of_call (map G.sight glasses.old.items) sid (C.sight own.old)) }
     ensures room { cutter.new.room ≡ cutter.old.room }
-    ensures painted { (before : Standing) → IsChange v.0 place rect before server.now.stack
-        → Repainted (source_at server.now.stack)
+    ensures painted { (before : StackModel) → IsViewChange v.0 place rect before server.now.stack
+        → Repainted (source_of_number server.now.stack)
         (λ k. slot_owns_either v.0 before server.now.stack (pixel server.now.stack.width k))
         (length raw.old.items)
         (glasses_of_call (map G.sight glasses.old.items) sid (C.sight own.old))
@@ -183,7 +183,7 @@ pub(crate) fn take_views_away<G: Glass, C: Glass>(
     ensures stack { server.new.stack ≡ without_session of server.old.stack }
     ensures session { of < length server.new.sessions }
     ensures room { cutter.new.room ≡ cutter.old.room }
-    ensures painted { Repainted (source_at (without_session of server.old.stack))
+    ensures painted { Repainted (source_of_number (without_session of server.old.stack))
         (λ k. owner_passes (is_of_session of) server.old.stack (pixel server.old.stack.width k))
         (length raw.old.items)
         (glasses_of_call (map G.sight glasses.old.items) sid (C.sight own.old))
@@ -221,11 +221,11 @@ fn take_seat_away<G: Glass, C: Glass>(
     requires pixels { length raw.old.items ≡ server.old.stack.width * server.old.stack.height }
     requires held { HoldBuffers server.old.stack (length glasses.old.items)
         (glasses_of_call (map G.sight glasses.old.items) sid (C.sight own.old)) }
-    ensures taken { IsTaken of i server.old.stack server.new.stack }
+    ensures taken { IsRemovedFrom of i server.old.stack server.new.stack }
     ensures left { without_views of server.new ≡ without_views of server.old }
     ensures session { of < length server.new.sessions }
     ensures room { cutter.new.room ≡ cutter.old.room }
-    ensures painted { Repainted (source_at (without_session of server.old.stack))
+    ensures painted { Repainted (source_of_number (without_session of server.old.stack))
         (λ k. uncovered of server.old.stack server.new.stack (pixel server.old.stack.width k))
         (length raw.old.items)
         (glasses_of_call (map G.sight glasses.old.items) sid (C.sight own.old))

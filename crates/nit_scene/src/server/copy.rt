@@ -2,7 +2,7 @@
 
 ghost use Rattle.std.specs.Prelude.{◌≡◌, ◌-◌, ◌<◌, IfOk, All, IsTrue};
 ghost use Rattle.nit_config.specs.Configuration.{is_file_name};
-ghost use Rattle.nit_config.specs.Configured.{IsConfigured, IsConfiguredMember};
+ghost use Rattle.nit_config.specs.ConfigurationRanges.{IsConfiguration, IsMember};
 
 use nit_config::{Config, FileName, Member};
 use nit_rect::NoMemory;
@@ -10,7 +10,7 @@ use std::alloc::Global;
 
 /// A configuration of the same values, in memory of its own.
 pub(crate) fn copied(alloc: Global, config: &Config) -> Result<Config, NoMemory>
-    requires { IsConfigured config.now }
+    requires { IsConfiguration config.now }
     ensures { IfOk result (λ c. c ≡ config.now) }
 {
     let input = copied_name(alloc, &config.input)?;
@@ -26,7 +26,7 @@ pub(crate) fn copied(alloc: Global, config: &Config) -> Result<Config, NoMemory>
 
 /// The same clients in the same order.
 fn copied_clients(alloc: Global, clients: &[Member]) -> Result<Vec<Member>, NoMemory>
-    requires { All IsConfiguredMember clients.now }
+    requires { All IsMember clients.now }
     ensures { IfOk result (λ v. v.items ≡ clients.now) }
 {
     let mut copies = Vec::new(alloc);

@@ -21,13 +21,13 @@ ghost use Rattle.nit_events.specs.Input.{deliveries_of, routed_as, delivery, fir
 ghost use Rattle.nit_events.specs.Ranges.{IsDevice};
 ghost use Rattle.nit_events.specs.declared.event.Item.TheVariants as item;
 ghost use Rattle.nit_focus.specs.Reach.{IsForgottenIfKilled};
-ghost use Rattle.nit_config.specs.Configured.{IsConfigured};
+ghost use Rattle.nit_config.specs.ConfigurationRanges.{IsConfiguration};
 ghost use Rattle.nit_journal.specs.Deliveries.{kills, is_kill};
 ghost use Rattle.nit_journal.specs.State.{session, route};
-ghost use Rattle.nit_scene.specs.Attending.{
+ghost use Rattle.nit_scene.specs.ServerInput.{
   MayLose,
   routing_of,
-  IsAttending,
+  IsServerInput,
   client_in,
   killed_in,
   pointed_by,
@@ -141,8 +141,8 @@ pub(crate) fn killed(routed: &Routed) -> Option<u32>
 /// The user's input before its first event: a click moves the focus to those clients that take it
 /// so.
 pub(crate) fn opened_focus(config: &Config) -> Focus
-    requires { IsConfigured config.now }
-    ensures attending { IsAttending config.now result }
+    requires { IsConfiguration config.now }
+    ensures attending { IsServerInput config.now result }
     ensures input { result.input ≡ first_input }
 {
     let mut focus = Focus::new(config.width, config.height);

@@ -16,10 +16,10 @@ ghost use Rattle.std.specs.Prelude.{
 };
 ghost use Rattle.nit_events.specs.declared.entry.Entry.TheVariants as entry;
 ghost use Rattle.nit_slots.specs.Account.{view_slots};
-ghost use Rattle.nit_config.specs.Configured.{IsConfigured, IsConfiguredMember};
-ghost use Rattle.nit_journal.specs.State.{opening};
-ghost use Rattle.nit_scene.specs.Opened.{opened_member, opened_stack, slots_of_all};
-ghost use Rattle.nit_scene.specs.Serving.{state_of};
+ghost use Rattle.nit_config.specs.ConfigurationRanges.{IsConfiguration, IsMember};
+ghost use Rattle.nit_journal.specs.State.{first_state};
+ghost use Rattle.nit_scene.specs.ServerOpening.{first_scene_session, first_stack, slots_of_all};
+ghost use Rattle.nit_scene.specs.Server.{state_of};
 
 use crate::member::Member;
 use crate::server::Server;
@@ -38,8 +38,8 @@ impl Server {
     /// A server of this configuration, before its first entry. All memory that it will ever use is
     /// taken here.
     pub(crate) fn new(alloc: Global, config: &Config) -> Result<Server, NoMemory>
-        requires { IsConfigured config.now }
-        ensures { IfOk result (λ s. state_of s ≡ opening config.now) }
+        requires { IsConfiguration config.now }
+        ensures { IfOk result (λ s. state_of s ≡ first_state config.now) }
     {
         let clients = config.clients.as_slice();
         let slots = Slots::new(alloc, slots_of_all(clients))?;
@@ -60,7 +60,7 @@ impl Server {
 /// The slots that all clients together may ever need.
 pub(crate) fn slots_of_all(clients: &[nit_config::Member]) -> u32
     requires few { length clients.now ≤ 16 }
-    requires clients { All IsConfiguredMember clients.now }
+    requires clients { All IsMember clients.now }
     ensures sum { result ≡ slots_of_all clients.now }
     ensures most { result ≤ 1024 }
 {
@@ -73,8 +73,8 @@ pub(crate) fn slots_of_all(clients: &[nit_config::Member]) -> u32
 
 /// Each client's session as it opens.
 fn opened_members(alloc: Global, clients: &[nit_config::Member]) -> Result<Vec<Member>, NoMemory>
-    requires { All IsConfiguredMember clients.now }
-    ensures { IfOk result (λ v. v.items ≡ map opened_member clients.now) }
+    requires { All IsMember clients.now }
+    ensures { IfOk result (λ v. v.items ≡ map first_scene_session clients.now) }
 {
     let mut members = Vec::new(alloc);
     for client in clients {
@@ -85,8 +85,8 @@ fn opened_members(alloc: Global, clients: &[nit_config::Member]) -> Result<Vec<M
 
 /// A stack of no view on the configuration's screen, with a layer for each client.
 fn opened_stack(alloc: Global, config: &Config) -> Result<Stack, NoMemory>
-    requires { IsConfigured config.now }
-    ensures { IfOk result (λ s. s ≡ opened_stack config.now) }
+    requires { IsConfiguration config.now }
+    ensures { IfOk result (λ s. s ≡ first_stack config.now) }
 {
     let clients = config.clients.as_slice();
     let most = slots_of_all(clients);
@@ -108,7 +108,7 @@ fn set_layers(stack: &mut Stack, clients: &[nit_config::Member])
     requires empty { stack.old.views ≡ [] }
     requires sizes { length stack.old.sizes ≡ length clients.now }
     requires layers { length stack.old.layers ≡ length clients.now }
-    requires clients { All IsConfiguredMember clients.now }
+    requires clients { All IsMember clients.now }
     ensures { stack.new ≡ record stack.old { layers = map (λ m. m.layer) clients.now } }
 {
     for (sid, client) in clients.iter().enumerate() {

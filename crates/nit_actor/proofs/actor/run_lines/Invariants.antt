@@ -1,6 +1,6 @@
 use Rattle.std.proofs.Common.{◌≡◌, ◌-◌, length}
-use Rattle.nit_hall.specs.Passes.{Belongs}
-use Rattle.nit_actor.specs.Roles.{role_of}
+use Rattle.nit_hall.specs.Pass.{Belongs}
+use Rattle.nit_actor.specs.Role.{role_of}
 use Rattle.nit_actor.proofs.actor.run_lines.Given as goal
 
 abbrev pub invariant-lines : goal.invariant-lines

@@ -1,6 +1,6 @@
 use Rattle.std.proofs.Common.{◌∙◌}
-use Rattle.nit_actor.proofs.Roles.{roles_back, fit_again, roles_fit}
-use Rattle.nit_actor.proofs.Pictures.{puts_also}
+use Rattle.nit_actor.proofs.RoleLemmas.{roles_back, fit_again, roles_fit}
+use Rattle.nit_actor.proofs.PictureLemmas.{puts_also}
 use Rattle.nit_actor.proofs.beside.run_beside.Goals as goal
 
 pub run_left-requires-clause-passes : goal.run_left-requires-clause-passes

@@ -1,7 +1,7 @@
 use Rattle.std.proofs.Common.{◌≡◌, set}
-use Rattle.nit_word.specs.Setting.{with_words}
+use Rattle.nit_word.specs.Updates.{with_words}
 use Rattle.nit_word.specs.Sight.{told_at}
-use Rattle.nit_scene.specs.Painted.{glass_in}
+use Rattle.nit_scene.specs.RawWords.{glass_in}
 use Rattle.nit_actor.proofs.Copies.{rows_to}
 use Rattle.nit_actor.proofs.copying.copy_area.Given as goal
 

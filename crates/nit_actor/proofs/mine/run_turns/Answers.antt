@@ -1,5 +1,5 @@
 use Rattle.std.proofs.Common.{◌∙◌}
-use Rattle.nit_actor.proofs.Pictures.{puts_also}
+use Rattle.nit_actor.proofs.PictureLemmas.{puts_also}
 use Rattle.nit_actor.proofs.mine.run_turns.Goals as goal
 
 pub turns-preserved : goal.turns-preserved

@@ -1,8 +1,8 @@
 use Rattle.std.proofs.Common.{◌≡◌, map, length}
 use Rattle.std.specs.Prelude.{All}
-use Rattle.nit_hall.specs.Passes.{PassModel}
-use Rattle.nit_actor.specs.Running.{putting}
-use Rattle.nit_actor.specs.Roles.{IsRoleIn, role_of, user_role_of}
+use Rattle.nit_hall.specs.Pass.{PassModel}
+use Rattle.nit_actor.specs.RoundsRun.{put_state_of_desk}
+use Rattle.nit_actor.specs.Role.{IsRoleIn, role_of, user_role_of}
 use Rattle.nit_actor.specs.Pictures.{PutsShotsBehind}
 use Rattle.nit_actor.proofs.mine.run_turns.Given as goal
 
@@ -14,7 +14,7 @@ invariant-turns g l = record {
   frame : length l.desk.frame.items ≡ length l.initial.desk.frame.items;
   text : length l.desk.text.items ≡ length l.initial.desk.text.items;
   put : PutsShotsBehind g.N.Name.parts l.initial.user.seen l.user.seen
-      (putting (g.S.Store.shown l.initial.desk.store.now) l.initial.desk.fault l.initial.desk.tried)
-      (putting (g.S.Store.shown l.desk.store.now) l.desk.fault l.desk.tried);
+      (put_state_of_desk (g.S.Store.shown l.initial.desk.store.now) l.initial.desk.fault l.initial.desk.tried)
+      (put_state_of_desk (g.S.Store.shown l.desk.store.now) l.desk.fault l.desk.tried);
   same_store : l.desk.store.ghost_name ≡ l.initial.desk.store.ghost_name;
 }

@@ -1,9 +1,9 @@
 use Rattle.std.proofs.Common.{refl, ap}
 use Rattle.nit_script.specs.declared.line.Line.TheVariants as line
-use Rattle.nit_hall.specs.Rooms.{RoomModel}
-use Rattle.nit_hall.specs.Passes.{PassModel}
-use Rattle.nit_actor.specs.Roles.{role_of}
-use Rattle.nit_actor.proofs.InStep.{at_call, at_line, step_on, call_recorded, nothing_recorded}
+use Rattle.nit_hall.specs.Room.{RoomModel}
+use Rattle.nit_hall.specs.Pass.{PassModel}
+use Rattle.nit_actor.specs.Role.{role_of}
+use Rattle.nit_actor.proofs.IdleUserLemmas.{at_call, at_line, step_on, call_recorded, nothing_recorded}
 use Rattle.nit_actor.proofs.single.do_line.Goals as goal
 
 pub returns-in-Call-clause-step : goal.returns-in-Call-clause-step

@@ -1,17 +1,17 @@
 use Rattle.std.proofs.Common.{◌≡◌, ◌-◌, length}
-use Rattle.nit_journal.specs.Journals.{IsOpen}
-use Rattle.nit_actor.specs.Roles.{role_of, user_role_of}
-use Rattle.nit_actor.specs.InStep.{AreInStep, acts_to_be}
+use Rattle.nit_journal.specs.Replay.{IsOpen}
+use Rattle.nit_actor.specs.Role.{role_of, user_role_of}
+use Rattle.nit_actor.specs.IdleUser.{StepTogether, actions_to_be}
 use Rattle.nit_actor.proofs.single.run_alone.Given as goal
 
 abbrev pub invariant-lines : goal.invariant-lines
 invariant-lines l = record {
-  step : AreInStep l.room l.pass l.user;
+  step : StepTogether l.room l.pass l.user;
   open_now : IsOpen l.room.scene.entries;
   same : role_of l.pass ≡ role_of l.initial.pass;
   user_same : user_role_of l.user ≡ user_role_of l.initial.user;
   parts : l.room.parts ≡ l.initial.room.parts;
-  recorded : acts_to_be l.room.scene.entries l.pass ≡ acts_to_be l.initial.room.scene.entries l.initial.pass;
+  recorded : actions_to_be l.room.scene.entries l.pass ≡ actions_to_be l.initial.room.scene.entries l.initial.pass;
 }
 
 abbrev pub decreases-lines : goal.decreases-lines

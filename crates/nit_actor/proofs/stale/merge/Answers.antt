@@ -1,7 +1,7 @@
-use Rattle.nit_scene.specs.Painted.{glass_in}
+use Rattle.nit_scene.specs.RawWords.{glass_in}
 use Rattle.std.proofs.Common.{Some, refl}
 use Rattle.nit_actor.specs.Stale.{is_stale}
-use Rattle.nit_actor.proofs.Behind.{copied_first}
+use Rattle.nit_actor.proofs.StaleLemmas.{copied_first}
 use Rattle.nit_actor.proofs.Copies.{glass_there}
 use Rattle.nit_actor.proofs.stale.merge.Goals as goal
 

@@ -1,8 +1,8 @@
 use Rattle.std.proofs.Common.{◌∙◌, subst}
 use Rattle.std.proofs.lemmas.List.{get_or_default}
-use Rattle.nit_paint.specs.Painting.{no_sight}
+use Rattle.nit_paint.specs.Repaint.{no_sight}
 use Rattle.nit_actor.specs.Stale.{AreBehind}
-use Rattle.nit_actor.proofs.Behind.{settles}
+use Rattle.nit_actor.proofs.StaleLemmas.{settles}
 use Rattle.nit_actor.proofs.stale.settle.Goals as goal
 
 pub returns-in-Some : goal.returns-in-Some

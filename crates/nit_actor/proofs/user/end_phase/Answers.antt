@@ -1,7 +1,7 @@
 use Rattle.std.proofs.Common.{◌∙◌, take, ap}
-use Rattle.nit_hall.specs.Lines.{deeds_in}
-use Rattle.nit_hall.specs.Passes.{UserPassModel}
-use Rattle.nit_actor.proofs.Pictures.{quiet_phase}
+use Rattle.nit_hall.specs.ServedLines.{user_actions_in}
+use Rattle.nit_hall.specs.Pass.{UserPassModel}
+use Rattle.nit_actor.proofs.PictureLemmas.{quiet_phase}
 use Rattle.nit_actor.proofs.user.end_phase.Goals as goal
 
 pub returns-clause-seen : goal.returns-clause-seen
@@ -11,6 +11,6 @@ returns-clause-seen g c =
     (record {
       line_is = c.requires.next;
       before_is = c.next-known.ensures.known;
-      after_is = c.next-known-2.ensures.known ∙ ap (λ (v : UserPassModel). deeds_in (take v.next v.input)) c.arrive_user.ensures.user;
+      after_is = c.next-known-2.ensures.known ∙ ap (λ (v : UserPassModel). user_actions_in (take v.next v.input)) c.arrive_user.ensures.user;
     })
     c.arrive_user.ensures.grows

@@ -1,7 +1,7 @@
 use Rattle.std.proofs.Common.{◌∙◌, take, ap}
-use Rattle.nit_hall.specs.Lines.{deeds_in}
-use Rattle.nit_hall.specs.Passes.{UserPassModel}
-use Rattle.nit_actor.proofs.Pictures.{puts_shot}
+use Rattle.nit_hall.specs.ServedLines.{user_actions_in}
+use Rattle.nit_hall.specs.Pass.{UserPassModel}
+use Rattle.nit_actor.proofs.PictureLemmas.{puts_shot}
 use Rattle.nit_actor.proofs.user.shoot.Goals as goal
 
 pub returns-clause-put : goal.returns-clause-put
@@ -12,6 +12,6 @@ returns-clause-put g c =
     (record {
       line_is = c.requires.next;
       before_is = c.next-known.ensures.known;
-      after_is = c.next-known-2.ensures.known ∙ ap (λ (v : UserPassModel). deeds_in (take v.next v.input)) t.ensures.user;
+      after_is = c.next-known-2.ensures.known ∙ ap (λ (v : UserPassModel). user_actions_in (take v.next v.input)) t.ensures.user;
     })
     t.ensures.told c.size-width.ensures.size c.put_shot.ensures.put

@@ -1,7 +1,7 @@
 use Rattle.std.proofs.Common.{map}
-use Rattle.nit_journal.specs.Journals.{IsLegal}
-use Rattle.nit_journal.specs.Whole.{IsWhole}
-use Rattle.nit_plan.specs.Calls.{calls_to_make, deeds_to_do}
+use Rattle.nit_journal.specs.Replay.{IsLegal}
+use Rattle.nit_journal.specs.WholeJournals.{IsWhole}
+use Rattle.nit_plan.specs.Calls.{calls_to_make, user_actions_to_do}
 use Rattle.nit_audit.specs.GoodEntries.{IsGood}
 use Rattle.nit_audit.specs.Verdict.{IsVerdict}
 use Rattle.nit_audit.proofs.VerdictLemmas.{answered_yes, if_ok_yes}
@@ -9,12 +9,12 @@ use Rattle.nit_audit.proofs.EachEntry.{only_one}
 use Rattle.nit_audit.proofs.auditing.audit.Goals as goal
 
 pub returns-clause-only : goal.returns-clause-only
-returns-clause-only c = only_one c.args.config.now (map calls_to_make c.args.scripts.now) (deeds_to_do c.args.input.now) c.args.entries.now c.judged.result c.judged.ensures
+returns-clause-only c = only_one c.args.config.now (map calls_to_make c.args.scripts.now) (user_actions_to_do c.args.input.now) c.args.entries.now c.judged.result c.judged.ensures
 
 pub returns-clause-whole : goal.returns-clause-whole
 returns-clause-whole c =
     let calls = map calls_to_make c.args.scripts.now in
-    let deeds = deeds_to_do c.args.input.now in
+    let deeds = user_actions_to_do c.args.input.now in
     let law = c.yes_is_legal_and_whole.ensures in
     if_ok_yes (IsVerdict (IsGood c.args.config.now c.args.scripts.now c.args.input.now) c.args.entries.now)
     (IsLegal c.args.config.now c.args.entries.now × IsWhole calls deeds c.args.entries.now)
@@ -24,5 +24,5 @@ returns-clause-whole c =
 
 pub returns-clause-alone : goal.returns-clause-alone
 returns-clause-alone c is s inside =
-    c.yes_is_served_alone.ensures c.args.config.now (map calls_to_make c.args.scripts.now) (deeds_to_do c.args.input.now) c.args.entries.now s
+    c.yes_is_served_alone.ensures c.args.config.now (map calls_to_make c.args.scripts.now) (user_actions_to_do c.args.input.now) c.args.entries.now s
     (answered_yes (IsVerdict (IsGood c.args.config.now c.args.scripts.now c.args.input.now) c.args.entries.now) c.judged.result c.judged.ensures is) inside

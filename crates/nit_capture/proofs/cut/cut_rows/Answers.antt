@@ -1,7 +1,7 @@
 use Rattle.std.proofs.Common.{◌≡◌, ◌+◌, ◌-◌, ◌*◌, ◌∙◌, ◌<◌, ◌≤◌, ℕ, length, sym, arith, mul_comm}
 use Rattle.std.proofs.lemmas.Nat.{row_fits}
-use Rattle.nit_capture.specs.Cut.{cut_pixel, pixel_at}
-use Rattle.nit_capture.proofs.Cuts.{all_cut, cut_is_picture}
+use Rattle.nit_capture.specs.Crop.{crop_pixel, word_of_bytes}
+use Rattle.nit_capture.proofs.CropLemmas.{all_cut, cut_is_picture}
 use Rattle.nit_capture.proofs.PixelRows.{row_put, part_long}
 use Rattle.nit_capture.proofs.cut.cut_rows.Goals as goal
 
@@ -15,7 +15,7 @@ loop-row-preserved c =
     let room : row * r.w + r.w ≤ length c.loop-row.into = let fits = row_fits row r.w r.h r.w lt (omega arith) in omega (arith, fits, mul_comm r.w r.h, c.loop-row.auto.into, c.requires.room) in
     let long : at + c.w-wide.result - at ≡ c.w-wide.result = omega arith in
     let part = rw (long, c.w-wide.ensures.value, part_long c.loop-row.into (row * r.w) r.w room) at c.words_into.ensures in
-    rw c.w-wide.ensures.value (row_put (cut_pixel c.args.grid.width c.args.grid.height r c.args.ppm.now) (λ k. pixel_at c.row_bytes.result.now (3 * k)) row r.w _ c.loop-row.into c.words_into.new.into
+    rw c.w-wide.ensures.value (row_put (crop_pixel c.args.grid.width c.args.grid.height r c.args.ppm.now) (λ k. word_of_bytes c.row_bytes.result.now (3 * k)) row r.w _ c.loop-row.into c.words_into.new.into
     room c.loop-row.invariant part (λ j below. sym (c.row_bytes.ensures.pixels j below)))
 
 pub returns-clause-value : goal.returns-clause-value

@@ -1,6 +1,6 @@
 use Rattle.std.proofs.Common.{arith, refl}
-use Rattle.nit_capture.specs.Cut.{cut_row_place}
-use Rattle.nit_capture.proofs.Cuts.{on_screen, cut_row_within, place_is}
+use Rattle.nit_capture.specs.Crop.{crop_row_place}
+use Rattle.nit_capture.proofs.CropLemmas.{on_screen, cut_row_within, place_is}
 use Rattle.nit_capture.proofs.PixelRows.{place_small}
 use Rattle.nit_capture.proofs.cut.row_start.Goals as goal
 
@@ -10,7 +10,7 @@ overflow_add-result c =
     rw (c.natural.ensures, place_is c.y.result c.y.ensures.range, c.y.ensures.value) (omega (arith, on.bottom, c.requires.row, c.args.grid.size.rows))
 
 pub overflow_mul-result : goal.overflow_mul-result
-unfolding cut_row_place
+unfolding crop_row_place
 overflow_mul-result c =
     let on = on_screen c.args.grid.width c.args.grid.height c.args.rect.now c.requires.pixels c.requires.inside in
     let within = cut_row_within c.args.grid.width c.args.grid.height c.args.rect.now c.args.row c.requires.pixels on c.requires.row in
@@ -18,7 +18,7 @@ overflow_mul-result c =
     rw (c.natural.ensures, place_is c.y.result c.y.ensures.range, c.y.ensures.value) (omega (arith, within, small))
 
 pub overflow_add-result-2 : goal.overflow_add-result-2
-unfolding cut_row_place
+unfolding crop_row_place
 overflow_add-result-2 c =
     let on = on_screen c.args.grid.width c.args.grid.height c.args.rect.now c.requires.pixels c.requires.inside in
     let within = cut_row_within c.args.grid.width c.args.grid.height c.args.rect.now c.args.row c.requires.pixels on c.requires.row in
@@ -26,11 +26,11 @@ overflow_add-result-2 c =
     rw (c.natural.ensures, place_is c.y.result c.y.ensures.range, c.y.ensures.value, c.natural-2.ensures, place_is c.x.result c.x.ensures.range, c.x.ensures.value) (omega (arith, within, small))
 
 pub returns-clause-value : goal.returns-clause-value
-unfolding cut_row_place
+unfolding crop_row_place
 returns-clause-value c = rw (c.natural.ensures, place_is c.y.result c.y.ensures.range, c.y.ensures.value, c.natural-2.ensures, place_is c.x.result c.x.ensures.range, c.x.ensures.value) refl
 
 pub returns-clause-within : goal.returns-clause-within
-unfolding cut_row_place
+unfolding crop_row_place
 returns-clause-within c =
     let on = on_screen c.args.grid.width c.args.grid.height c.args.rect.now c.requires.pixels c.requires.inside in
     rw (c.natural.ensures, place_is c.y.result c.y.ensures.range, c.y.ensures.value, c.natural-2.ensures, place_is c.x.result c.x.ensures.range, c.x.ensures.value)

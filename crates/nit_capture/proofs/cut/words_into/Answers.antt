@@ -1,9 +1,9 @@
 use Rattle.std.proofs.Common.{◌*◌, arith}
-use Rattle.nit_capture.specs.Cut.{pixel_at}
+use Rattle.nit_capture.specs.Crop.{word_of_bytes}
 use Rattle.nit_capture.proofs.RecordsWritten.{words_more}
 use Rattle.nit_capture.proofs.cut.words_into.Goals as goal
 
 pub loop-pixel-preserved : goal.loop-pixel-preserved
 loop-pixel-preserved c =
-    words_more (λ k. pixel_at c.args.bytes.now (3 * k)) c.loop-pixel.into c.loop-pixel.pixel c.word_at.result
+    words_more (λ k. word_of_bytes c.args.bytes.now (3 * k)) c.loop-pixel.into c.loop-pixel.pixel c.word_at.result
     (let t = c.loop-pixel-test.true in omega (arith, c.loop-pixel.auto.into)) c.loop-pixel.invariant c.word_at.ensures

@@ -1,7 +1,7 @@
 use Rattle.std.proofs.Common.{◌≡◌, ◌*◌, take, map}
 use Rattle.std.specs.List.{range_with_len}
-use Rattle.nit_capture.specs.Cut.{pixel_at}
+use Rattle.nit_capture.specs.Crop.{word_of_bytes}
 use Rattle.nit_capture.proofs.cut.words_into.Given as goal
 
 abbrev pub invariant-loop-pixel : goal.invariant-loop-pixel
-invariant-loop-pixel l = take l.pixel l.into ≡ map (λ k. pixel_at l.bytes (3 * k)) (range_with_len 0 l.pixel)
+invariant-loop-pixel l = take l.pixel l.into ≡ map (λ k. word_of_bytes l.bytes (3 * k)) (range_with_len 0 l.pixel)

@@ -1,5 +1,5 @@
 use Rattle.std.proofs.Common.{arith, ◌∙◌, inr}
-use Rattle.nit_capture.proofs.ReadingSteps.{next_pixel, no_pixel, pixels_goes_on, pixels_ended, pixels_nothing_new}
+use Rattle.nit_capture.proofs.ReaderSteps.{next_pixel, no_pixel, pixels_goes_on, pixels_ended, pixels_nothing_new}
 use Rattle.nit_capture.proofs.Pictures.{picture_set}
 use Rattle.nit_capture.proofs.reading.take_tile.Goals as goal
 

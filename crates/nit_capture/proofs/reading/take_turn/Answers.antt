@@ -1,4 +1,4 @@
-use Rattle.nit_capture.proofs.ReadingSteps.{turn_none_left, turn_other, turn_taken, turn_refused}
+use Rattle.nit_capture.proofs.ReaderSteps.{turn_none_left, turn_other, turn_taken, turn_refused}
 use Rattle.nit_capture.proofs.NumbersRead.{too_short, two_next, two_other, two_behind}
 use Rattle.nit_capture.proofs.reading.take_turn.Goals as goal
 

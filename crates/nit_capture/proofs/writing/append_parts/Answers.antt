@@ -1,6 +1,6 @@
 use Rattle.std.proofs.Common.{rules, ◌∙◌, ap, ◌++◌, List, ℕ}
 use Rattle.std.specs.List.{flat_map}
-use Rattle.nit_capture.specs.Film.{tile_bytes, changed}
+use Rattle.nit_capture.specs.Film.{tile_bytes, changed_tiles}
 use Rattle.nit_capture.proofs.RecordsWritten.{number_set}
 use Rattle.nit_capture.proofs.writing.append_parts.Goals as goal
 
@@ -9,4 +9,4 @@ returns c =
     let w = c.args.grid.width in
     let h = c.args.grid.height in
     (number_set w h c.args.before.now c.args.now.now c.args.out.now.items c.append_tiles.new.out.items c.in_ok-count.count c.len-at.result (search rules) c.in_ok-count.ensures.count
-    (c.in_ok-count.ensures.bytes ∙ ap (λ (l : List ℕ). l ++ flat_map (tile_bytes w h c.args.now.now) (changed w h c.args.before.now c.args.now.now)) c.in_ok-put.ensures))
+    (c.in_ok-count.ensures.bytes ∙ ap (λ (l : List ℕ). l ++ flat_map (tile_bytes w h c.args.now.now) (changed_tiles w h c.args.before.now c.args.now.now)) c.in_ok-put.ensures))

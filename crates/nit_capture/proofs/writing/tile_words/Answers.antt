@@ -1,5 +1,5 @@
 use Rattle.std.proofs.Common.{◌≡◌, ◌+◌, ◌-◌, ◌*◌, ◌∙◌, ◌<◌, ℕ, take, length, arith, ap, subst}
-use Rattle.nit_capture.specs.Tiles.{wide, high, area, pixels}
+use Rattle.nit_capture.specs.Tiles.{wide, high, area, tile_pixels}
 use Rattle.nit_capture.proofs.PixelRows.{row_copied, row_room, part_taken}
 use Rattle.nit_capture.proofs.writing.tile_words.Goals as goal
 use Rattle.nit_word.proofs.ForCallers.{put_long}
@@ -27,4 +27,4 @@ unfolding area
 returns c =
     let test = c.loop-row-test.false in
     let all : c.loop-row.row ≡ high c.args.grid.width c.args.grid.height c.args.number = omega (arith, c.loop-row.auto.row-end, c.high-row-end.ensures.value) in
-    subst (λ (rows : ℕ). take (rows * wide c.args.grid.width c.args.number) c.loop-row.words ≡ pixels c.args.grid.width c.args.picture.now c.args.number 0 (rows * wide c.args.grid.width c.args.number)) all c.loop-row.invariant.value
+    subst (λ (rows : ℕ). take (rows * wide c.args.grid.width c.args.number) c.loop-row.words ≡ tile_pixels c.args.grid.width c.args.picture.now c.args.number 0 (rows * wide c.args.grid.width c.args.number)) all c.loop-row.invariant.value

@@ -1,6 +1,6 @@
 use Rattle.std.proofs.Common.{◌∙◌, pos, codes, arith}
 use Rattle.toml.specs.View.{table_view}
-use Rattle.nit_config.specs.Tree.{integer_at, screen_of}
+use Rattle.nit_config.specs.Tree.{integer_at, screen_table}
 use Rattle.nit_config.specs.Ranges.{has_bad_value, has_bad_label}
 use Rattle.nit_config.proofs.RefusalTests.{accepted}
 use Rattle.nit_config.proofs.MemberLists.{built_of}
@@ -9,10 +9,10 @@ use Rattle.nit_config.proofs.HeldValues.{wider}
 use Rattle.nit_config.proofs.build.configuration.Goals as goal
 
 pub required_at-width-requires : goal.required_at-width-requires
-required_at-width-requires c = rw c.table_at-screen.ensures (wider (integer_at (codes "width") (pos 0) (screen_of (table_view c.args.top.now))) 1 1024 1 8388608 (accepted _ c.requires.accepted).width (omega arith) (omega arith))
+required_at-width-requires c = rw c.table_at-screen.ensures (wider (integer_at (codes "width") (pos 0) (screen_table (table_view c.args.top.now))) 1 1024 1 8388608 (accepted _ c.requires.accepted).width (omega arith) (omega arith))
 
 pub required_at-height-requires : goal.required_at-height-requires
-required_at-height-requires c = rw c.table_at-screen.ensures (wider (integer_at (codes "height") (pos 0) (screen_of (table_view c.args.top.now))) 1 768 1 8388608 (accepted _ c.requires.accepted).height (omega arith) (omega arith))
+required_at-height-requires c = rw c.table_at-screen.ensures (wider (integer_at (codes "height") (pos 0) (screen_table (table_view c.args.top.now))) 1 768 1 8388608 (accepted _ c.requires.accepted).height (omega arith) (omega arith))
 
 pub script_of-requires : goal.script_of-requires
 script_of-requires c = rw c.table_at.ensures (accepted _ c.requires.accepted).script

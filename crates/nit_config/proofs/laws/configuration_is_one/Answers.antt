@@ -1,5 +1,5 @@
-use Rattle.nit_config.proofs.Exactly.{one_configuration}
-use Rattle.nit_config.proofs.Within.{configured}
+use Rattle.nit_config.proofs.OneAnswer.{one_configuration}
+use Rattle.nit_config.proofs.RangeLemmas.{configured}
 use Rattle.nit_config.proofs.laws.configuration_is_one.Goals as goal
 
 pub returns-clause-one : goal.returns-clause-one

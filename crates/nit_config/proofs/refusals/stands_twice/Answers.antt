@@ -2,14 +2,14 @@ use Rattle.std.proofs.Common.{◌∙◌, sym, ap, ◌||◌, ◌+◌, map, drop, 
 use Rattle.toml.specs.View.{view}
 use Rattle.toml.specs.declared.value.Value.{Value}
 use Rattle.nit_config.specs.Tree.{members_of}
-use Rattle.nit_config.specs.Ranges.{label_of}
+use Rattle.nit_config.specs.Ranges.{label_of_table}
 use Rattle.nit_config.specs.Refusals.{stands_twice}
 use Rattle.nit_config.proofs.Clients.{twice_compared}
 use Rattle.nit_config.proofs.refusals.stands_twice.Goals as goal
 
 -- the label of a client's value
 abbrev label : Value → List ℕ
-label v = label_of (members_of (view v))
+label v = label_of_table (members_of (view v))
 
 pub returns-then-some_has_label_of : goal.returns-then-some_has_label_of
 returns-then-some_has_label_of c =

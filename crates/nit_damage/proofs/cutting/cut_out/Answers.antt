@@ -1,5 +1,5 @@
 use Rattle.std.proofs.Common.{refl, sym, ◌∙◌}
-use Rattle.nit_rect.specs.Meeting.{HasPixels}
+use Rattle.nit_rect.specs.Intersection.{HasPixels}
 use Rattle.nit_rect.proofs.ForCallers.{pixels_of}
 use Rattle.nit_damage.proofs.RectangleCuts.{both_lie, cut_in_four, uncut, wider}
 use Rattle.nit_damage.proofs.cutting.cut_out.Goals as goal

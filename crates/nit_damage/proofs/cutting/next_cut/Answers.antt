@@ -1,5 +1,5 @@
 use Rattle.std.proofs.Common.{subst}
-use Rattle.nit_damage.specs.Cuts.{FitsJobs}
+use Rattle.nit_damage.specs.Cutter.{FitsJobs}
 use Rattle.nit_damage.proofs.Jobs.{last_job}
 use Rattle.nit_damage.proofs.cutting.next_cut.Goals as goal
 

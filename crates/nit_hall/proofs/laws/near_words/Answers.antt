@@ -1,6 +1,6 @@
-use Rattle.nit_journal.specs.Journals.{replay}
-use Rattle.nit_scene.specs.Painted.{source_at}
-use Rattle.nit_hall.proofs.Near.{near_word}
+use Rattle.nit_journal.specs.Replay.{replay}
+use Rattle.nit_scene.specs.RawWords.{source_at}
+use Rattle.nit_hall.proofs.NearLemmas.{near_word}
 use Rattle.nit_hall.proofs.laws.near_words.Goals as goal
 
 pub returns : goal.returns

@@ -1,4 +1,4 @@
-use Rattle.nit_journal.proofs.Sessions.{call_of_another}
+use Rattle.nit_journal.proofs.SessionLists.{call_of_another}
 use Rattle.nit_journal.proofs.Queues.{only_taken}
 use Rattle.nit_journal.proofs.laws.calls_touch_no_other.Goals as goal
 

@@ -1,12 +1,12 @@
-use Rattle.nit_journal.specs.State.{opening}
+use Rattle.nit_journal.specs.State.{first_state}
 use Rattle.nit_journal.proofs.JournalFronts.{front_legal, front_open, agrees_behind}
 use Rattle.nit_journal.proofs.laws.fronts_are_legal.Goals as goal
 
 pub returns-clause-legal : goal.returns-clause-legal
-returns-clause-legal c config front rest = front_legal (opening config) 0 front rest
+returns-clause-legal c config front rest = front_legal (first_state config) 0 front rest
 
 pub returns-clause-unended : goal.returns-clause-unended
-returns-clause-unended c config front e rest = front_open (opening config) 0 front e rest
+returns-clause-unended c config front e rest = front_open (first_state config) 0 front e rest
 
 pub returns-clause-agrees : goal.returns-clause-agrees
 returns-clause-agrees c = agrees_behind

@@ -2,9 +2,9 @@ use Rattle.std.proofs.Common.{◌∙◌, sym, ap, subst}
 use Rattle.atomic_table.specs.Table.{Joins}
 use Rattle.nit_ledger.specs.declared.view.BookView.{BookView}
 use Rattle.nit_ledger.specs.declared.view.BookView.TheVariants.{Spent}
-use Rattle.nit_ledger.specs.Views.{IsKept, resting, with_share}
-use Rattle.nit_ledger.specs.Seats.{entries_at, counts_at, token_at}
-use Rattle.nit_ledger.proofs.Moves.{takes}
+use Rattle.nit_ledger.specs.BookRule.{IsBookRule, book_at_rest, with_share}
+use Rattle.nit_ledger.specs.BookSeat.{entries_at, counts_at, token_at}
+use Rattle.nit_ledger.proofs.BookRuleLemmas.{takes}
 use Rattle.nit_ledger.proofs.turn.take_in.Goals as goal
 
 pub join_seat-requires : goal.join_seat-requires
@@ -12,13 +12,13 @@ join_seat-requires c =
     let b = c.args.book.now in
     let s = c.args.share in
     let table = c.requires.pages.0.0 in
-    let rested : BookView = resting (entries_at b) (counts_at b) in
+    let rested : BookView = book_at_rest (entries_at b) (counts_at b) in
     let book_is = ap (λ m. m.0) c.requires.book in
     let share_is = ap (λ m. m.0) c.requires.share in (
       sym table,
       c.requires.pages.1 ∙ sym table,
       ap (λ m. m.1) c.requires.share,
       rw table c.requires.pages.0.1,
-      subst (λ (v : BookView). Joins IsKept b.id v s.id s.me.0 (with_share v s.me.0) Spent) (sym book_is)
-          (subst (λ (v : BookView). Joins IsKept b.id rested s.id v (with_share rested v) Spent) (sym share_is) (takes b.id (entries_at b) (counts_at b) s.id (token_at s))),
+      subst (λ (v : BookView). Joins IsBookRule b.id v s.id s.me.0 (with_share v s.me.0) Spent) (sym book_is)
+          (subst (λ (v : BookView). Joins IsBookRule b.id rested s.id v (with_share rested v) Spent) (sym share_is) (takes b.id (entries_at b) (counts_at b) s.id (token_at s))),
     )

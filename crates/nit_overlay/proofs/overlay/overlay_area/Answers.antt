@@ -2,11 +2,11 @@ use Rattle.std.proofs.Common.{ℕ, ◌+◌, ◌-◌, ◌*◌, ◌/◌, ◌%◌, 
 use Rattle.std.proofs.Math.Nat.{mul-le-mul_right}
 use Rattle.std.proofs.lemmas.Nat.{div-mul-add, mod-mul-add}
 use Rattle.nit_stack.specs.Sources.{pixel, point}
-use Rattle.nit_overlay.specs.Looks.{scenery}
-use Rattle.nit_overlay.specs.Areas.{IsOverlaid, in_area}
-use Rattle.nit_overlay.specs.Shown.{shown}
+use Rattle.nit_overlay.specs.Look.{scenery}
+use Rattle.nit_overlay.specs.Area.{IsOverlaid, in_area}
+use Rattle.nit_overlay.specs.Frame.{shown}
 use Rattle.nit_overlay.proofs.overlay.overlay_area.Goals as goal
-use Rattle.nit_overlay.proofs.Areas.{RowsSoFar, next_row, last_row}
+use Rattle.nit_overlay.proofs.AreaLemmas.{RowsSoFar, next_row, last_row}
 use Rattle.nit_overlay.proofs.RowParts.{painted_by}
 
 pub rows-preserved : goal.rows-preserved

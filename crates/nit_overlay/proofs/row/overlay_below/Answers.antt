@@ -1,10 +1,10 @@
 use Rattle.std.proofs.Common.{ap, sym, arith, ◌∙◌}
 use Rattle.nit_stack.specs.Sources.{point, owner}
-use Rattle.nit_overlay.specs.Looks.{scenery}
-use Rattle.nit_overlay.specs.Shown.{shown, bar_word, owner_word}
+use Rattle.nit_overlay.specs.Look.{scenery}
+use Rattle.nit_overlay.specs.Frame.{shown, bar_word, owner_word}
 use Rattle.nit_overlay.proofs.row.overlay_below.Goals as goal
 use Rattle.nit_overlay.proofs.RowParts.{further, painted_by}
-use Rattle.nit_overlay.proofs.Runs.{below_bar}
+use Rattle.nit_overlay.proofs.RunOwners.{below_bar}
 
 pub pieces-preserved : goal.pieces-preserved
 pieces-preserved c =

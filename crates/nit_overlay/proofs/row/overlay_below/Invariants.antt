@@ -1,7 +1,7 @@
 use Rattle.std.proofs.Common.{◌-◌}
 use Rattle.nit_stack.specs.Sources.{point}
-use Rattle.nit_overlay.specs.Looks.{scenery}
-use Rattle.nit_overlay.specs.Shown.{shown}
+use Rattle.nit_overlay.specs.Look.{scenery}
+use Rattle.nit_overlay.specs.Frame.{shown}
 use Rattle.nit_overlay.proofs.RowParts.{RowSoFar}
 use Rattle.nit_overlay.proofs.row.overlay_below.Given as goal
 

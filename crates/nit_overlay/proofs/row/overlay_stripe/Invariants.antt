@@ -1,6 +1,6 @@
 use Rattle.std.proofs.Common.{◌-◌}
-use Rattle.nit_overlay.specs.Rules.{word_by}
-use Rattle.nit_overlay.specs.Stripes.{stripe_rule}
+use Rattle.nit_overlay.specs.Rule.{word_by}
+use Rattle.nit_overlay.specs.Stripe.{stripe_rule}
 use Rattle.nit_overlay.proofs.RowParts.{RowSoFar}
 use Rattle.nit_overlay.proofs.row.overlay_stripe.Given as goal
 

@@ -1,7 +1,7 @@
 use Rattle.std.proofs.Common.{◌≡◌, ℕ, ◌+◌, ◌<◌, length}
 use Rattle.nit_word.specs.Sight.{Sight}
 use Rattle.nit_stack.specs.Sources.{Bare, PixelSource}
-use Rattle.nit_paint.specs.Painting.{Repainted}
+use Rattle.nit_paint.specs.Repaint.{Repainted}
 use Rattle.nit_paint.specs.Runs.{in_rows, row_at}
 use Rattle.nit_paint.proofs.pieces.bare_rows.Given as goal
 

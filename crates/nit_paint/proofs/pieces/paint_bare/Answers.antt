@@ -1,6 +1,6 @@
-use Rattle.nit_paint.specs.Painting.{no_sight}
-use Rattle.nit_paint.proofs.Owned.{bare_told, whole_piece, width_is}
-use Rattle.nit_paint.proofs.Repaints.{repainted_words}
+use Rattle.nit_paint.specs.Repaint.{no_sight}
+use Rattle.nit_paint.proofs.PieceOwners.{bare_told, whole_piece, width_is}
+use Rattle.nit_paint.proofs.RepaintLemmas.{repainted_words}
 use Rattle.nit_paint.proofs.pieces.paint_bare.Goals as goal
 
 pub returns-clause-painted : goal.returns-clause-painted

@@ -1,6 +1,6 @@
 use Rattle.std.proofs.Common.{◌≡◌, ℕ, ◌<◌, false, slice_index_or}
-use Rattle.nit_stack.specs.Standing.{Seat, is_slot}
+use Rattle.nit_stack.specs.Stack.{SlotView, is_slot}
 use Rattle.nit_place.proofs.place.views_in_front.Given as goal
 
 abbrev pub invariant-views : goal.invariant-views
-invariant-views l = (k : ℕ) (d : Seat) → k < l.i → is_slot l.v.0 (slice_index_or l.stack.views k d) ≡ false
+invariant-views l = (k : ℕ) (d : SlotView) → k < l.i → is_slot l.v.0 (slice_index_or l.stack.views k d) ≡ false

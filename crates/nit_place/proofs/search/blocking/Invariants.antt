@@ -1,6 +1,6 @@
-use Rattle.nit_stack.specs.Names.{views_of}
-use Rattle.nit_place.specs.Free.{IsBlocking}
-use Rattle.nit_place.specs.Parts.{part_at}
+use Rattle.nit_stack.specs.ViewNames.{views_of}
+use Rattle.nit_place.specs.FreePlaces.{IsBlocking}
+use Rattle.nit_place.specs.Part.{part_at}
 use Rattle.nit_place.proofs.search.blocking.Given as goal
 
 abbrev pub invariant-views : goal.invariant-views

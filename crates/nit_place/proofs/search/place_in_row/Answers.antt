@@ -1,6 +1,6 @@
-use Rattle.nit_stack.specs.Names.{views_of}
-use Rattle.nit_place.specs.Parts.{part_at}
-use Rattle.nit_place.proofs.Moves.{row_clear, row_end, row_jump}
+use Rattle.nit_stack.specs.ViewNames.{views_of}
+use Rattle.nit_place.specs.Part.{part_at}
+use Rattle.nit_place.proofs.SearchLemmas.{row_clear, row_end, row_jump}
 use Rattle.nit_place.proofs.search.place_in_row.Goals as goal
 
 pub returns-in-None : goal.returns-in-None

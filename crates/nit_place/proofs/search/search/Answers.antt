@@ -1,6 +1,6 @@
-use Rattle.nit_stack.specs.Names.{views_of}
-use Rattle.nit_place.specs.Parts.{part_at}
-use Rattle.nit_place.proofs.Moves.{rows_below, rows_end, rows_jump}
+use Rattle.nit_stack.specs.ViewNames.{views_of}
+use Rattle.nit_place.specs.Part.{part_at}
+use Rattle.nit_place.proofs.SearchLemmas.{rows_below, rows_end, rows_jump}
 use Rattle.nit_place.proofs.search.search.Goals as goal
 
 pub returns-in-Full-None : goal.returns-in-Full-None

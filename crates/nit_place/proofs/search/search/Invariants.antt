@@ -1,7 +1,7 @@
 use Rattle.std.proofs.Common.{◌-◌}
-use Rattle.nit_stack.specs.Names.{views_of}
-use Rattle.nit_place.specs.Parts.{part_at}
-use Rattle.nit_place.proofs.Moves.{RowsSoFar}
+use Rattle.nit_stack.specs.ViewNames.{views_of}
+use Rattle.nit_place.specs.Part.{part_at}
+use Rattle.nit_place.proofs.SearchLemmas.{RowsSoFar}
 use Rattle.nit_place.proofs.search.search.Given as goal
 
 abbrev pub invariant-rows : goal.invariant-rows

@@ -1,14 +1,14 @@
 use Rattle.std.proofs.Common.{◌∙◌, refl, arith}
-use Rattle.nit_paint.specs.Pieces.{source_at}
+use Rattle.nit_paint.specs.Pieces.{source_of_number}
 use Rattle.nit_paint.proofs.ForCallers.{other_count}
-use Rattle.nit_repaint.proofs.Glasses.{still_held}
-use Rattle.nit_repaint.proofs.Wanted.{all_wanted, none_wanted, one_wanted, seat_here, seat_there}
+use Rattle.nit_repaint.proofs.GlassLemmas.{still_held}
+use Rattle.nit_repaint.proofs.WantedLemmas.{all_wanted, none_wanted, one_wanted, seat_here, seat_there}
 use Rattle.nit_repaint.proofs.buffers.paint_session.Goals as goal
 
 pub views-init : goal.views-init
 views-init g c = record {
   room = refl;
-  painted = none_wanted (source_at c.args.stack.now) c.args.stack.now _ c.args.of c.args.part.now _ c.args.raw.now;
+  painted = none_wanted (source_of_number c.args.stack.now) c.args.stack.now _ c.args.of c.args.part.now _ c.args.raw.now;
   count = refl;
   idle = refl;
   rest = refl;
@@ -27,7 +27,7 @@ views-preserved g c =
     let x = seat_there s.views c.views.i (omega (arith, c.views-test.true, c.len-views.ensures.count)) in
     record {
       room = e.room ∙ v.room;
-      painted = one_wanted (source_at s) s _ c.args.of c.args.part.now c.views.i x.0 _ _ _ _ _ _ c.len-views.ensures.standing.slots (seat_here s.views c.views.i x.0 c.len-views.ensures.standing.slots x.1) x.1 v.painted
+      painted = one_wanted (source_of_number s) s _ c.args.of c.args.part.now c.views.i x.0 _ _ _ _ _ _ c.len-views.ensures.standing.slots (seat_here s.views c.views.i x.0 c.len-views.ensures.standing.slots x.1) x.1 v.painted
           (other_count _ _ _ _ _ _ _ _ v.count (e.painted x.0 x.1));
       count = e.count ∙ v.count;
       idle = e.idle ∙ v.idle;
@@ -37,4 +37,4 @@ views-preserved g c =
 
 pub returns-clause-painted : goal.returns-clause-painted
 returns-clause-painted g c =
-    all_wanted (source_at c.args.stack.now) c.args.stack.now _ c.args.of c.args.part.now c.views.i _ _ _ _ (omega (arith, c.views-test.false, c.len-views.ensures.count)) c.views.invariant.painted
+    all_wanted (source_of_number c.args.stack.now) c.args.stack.now _ c.args.of c.args.part.now c.views.i _ _ _ _ (omega (arith, c.views-test.false, c.len-views.ensures.count)) c.views.invariant.painted

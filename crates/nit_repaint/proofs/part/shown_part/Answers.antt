@@ -1,6 +1,6 @@
 use Rattle.std.proofs.Common.{arith}
 use Rattle.std.proofs.lemmas.Int.{ints}
-use Rattle.nit_repaint.proofs.Parts.{across_told, down_told, part_same}
+use Rattle.nit_repaint.proofs.BufferParts.{across_told, down_told, part_same}
 use Rattle.nit_repaint.proofs.part.shown_part.Goals as goal
 
 pub returns : goal.returns

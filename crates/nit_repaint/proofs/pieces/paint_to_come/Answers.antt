@@ -1,8 +1,8 @@
 use Rattle.std.proofs.Common.{◌∙◌, refl, arith}
-use Rattle.nit_paint.specs.Pieces.{source_at}
+use Rattle.nit_paint.specs.Pieces.{source_of_number}
 use Rattle.nit_paint.proofs.ForCallers.{other_count}
-use Rattle.nit_repaint.proofs.Coming.{all_came, none_came, one_came}
-use Rattle.nit_repaint.proofs.Glasses.{screen_of, still_held}
+use Rattle.nit_repaint.proofs.PieceLemmas.{all_came, none_came, one_came}
+use Rattle.nit_repaint.proofs.GlassLemmas.{screen_of, still_held}
 use Rattle.nit_repaint.proofs.pieces.paint_to_come.Goals as goal
 
 pub pieces-init : goal.pieces-init
@@ -10,7 +10,7 @@ pieces-init g c = record {
   fits = c.requires.fits;
   room = refl;
   less = λ p. omega arith;
-  painted = none_came (source_at c.args.stack.now) c.args.stack.now _ c.args.cutter.now _ c.args.raw.now;
+  painted = none_came (source_of_number c.args.stack.now) c.args.stack.now _ c.args.cutter.now _ c.args.raw.now;
   count = refl;
   idle = refl;
   rest = refl;
@@ -35,7 +35,7 @@ pieces-preserved g c =
       fits = e.fits;
       room = e.room ∙ i.room;
       less = λ p. let was = i.less p in let now = e.count p in omega arith;
-      painted = one_came (source_at c.args.stack.now) c.args.stack.now _ c.args.cutter.now c.pieces.cutter c.next.new.self c.in-Some.piece.rect _ _ _ _ _ _
+      painted = one_came (source_of_number c.args.stack.now) c.args.stack.now _ c.args.cutter.now c.pieces.cutter c.next.new.self c.in-Some.piece.rect _ _ _ _ _ _
           c.requires.fits.once i.less e.count e.came i.painted (other_count _ _ _ _ _ _ _ _ i.count p'.painted);
       count = p'.count ∙ i.count;
       idle = p'.idle ∙ i.idle;
@@ -45,4 +45,4 @@ pieces-preserved g c =
 
 pub returns-clause-painted : goal.returns-clause-painted
 returns-clause-painted g c =
-    all_came (source_at c.args.stack.now) c.args.stack.now _ c.args.cutter.now c.pieces.cutter _ _ _ _ c.in_default.ensures.came c.pieces.invariant.painted
+    all_came (source_of_number c.args.stack.now) c.args.stack.now _ c.args.cutter.now c.pieces.cutter _ _ _ _ c.in_default.ensures.came c.pieces.invariant.painted

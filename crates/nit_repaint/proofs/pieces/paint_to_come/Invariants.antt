@@ -1,18 +1,18 @@
 use Rattle.std.proofs.Common.{◌≡◌, ◌≤◌, length, map, slice_index_or}
 use Rattle.nit_rect.specs.declared.point.Point.{Point}
-use Rattle.nit_damage.specs.Cuts.{Fits, pieces_left, to_come}
-use Rattle.nit_paint.specs.Painting.{Repainted, no_sight}
-use Rattle.nit_paint.specs.Pieces.{source_at}
-use Rattle.nit_repaint.specs.Coming.{has_come}
+use Rattle.nit_damage.specs.Cutter.{FitsStack, pieces_left, to_come}
+use Rattle.nit_paint.specs.Repaint.{Repainted, no_sight}
+use Rattle.nit_paint.specs.Pieces.{source_of_number}
+use Rattle.nit_repaint.specs.PixelsToCome.{has_come}
 use Rattle.nit_repaint.specs.Glasses.{glasses_of_call}
 use Rattle.nit_repaint.proofs.pieces.paint_to_come.Given as goal
 
 abbrev pub invariant-pieces : goal.invariant-pieces
 invariant-pieces g l = record {
-  fits : Fits l.cutter l.stack;
+  fits : FitsStack l.cutter l.stack;
   room : l.cutter.room ≡ l.initial.cutter.room;
   less : (p : Point) → to_come l.cutter l.stack p ≤ to_come l.initial.cutter l.stack p;
-  painted : Repainted (source_at l.stack) (has_come l.initial.cutter l.cutter l.stack) (length l.initial.raw)
+  painted : Repainted (source_of_number l.stack) (has_come l.initial.cutter l.cutter l.stack) (length l.initial.raw)
       (glasses_of_call (map g.G.Glass.sight l.initial.glasses) l.sid (g.C.Glass.sight l.initial.own)) (glasses_of_call (map g.G.Glass.sight l.glasses) l.sid (g.C.Glass.sight l.own)) l.initial.raw l.raw;
   count : length l.raw ≡ length l.initial.raw;
   idle : slice_index_or (map g.G.Glass.sight l.glasses) l.sid no_sight ≡ slice_index_or (map g.G.Glass.sight l.initial.glasses) l.sid no_sight;

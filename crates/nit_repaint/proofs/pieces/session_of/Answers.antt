@@ -1,5 +1,5 @@
 use Rattle.std.proofs.Common.{length}
-use Rattle.nit_stack.specs.Standing.{IsSeat, is_slot}
+use Rattle.nit_stack.specs.Stack.{IsSlotView, is_slot}
 use Rattle.nit_stack.proofs.ForCallers.{All_found}
 use Rattle.nit_repaint.proofs.pieces.session_of.Goals as goal
 
@@ -7,4 +7,4 @@ pub returns-clause-within : goal.returns-clause-within
 returns-clause-within c =
     let s = c.args.stack.now in
     let e = c.view.ensures in
-    (All_found (IsSeat s.most (length s.sizes)) (is_slot c.args.v.0) s.views _ e.standing.seats e.value).session
+    (All_found (IsSlotView s.most (length s.sizes)) (is_slot c.args.v.0) s.views _ e.standing.seats e.value).session

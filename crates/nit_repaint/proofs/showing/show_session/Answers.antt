@@ -1,7 +1,7 @@
 use Rattle.std.proofs.Common.{◌∙◌, length, refl, arith}
-use Rattle.nit_repaint.specs.Showing.{shown_at}
-use Rattle.nit_repaint.proofs.Copied.{first_shown, last_shown, next_shown}
-use Rattle.nit_repaint.proofs.Wanted.{seat_here, seat_there}
+use Rattle.nit_repaint.specs.ShownPixels.{shown_at}
+use Rattle.nit_repaint.proofs.FrameCopies.{first_shown, last_shown, next_shown}
+use Rattle.nit_repaint.proofs.WantedLemmas.{seat_here, seat_there}
 use Rattle.nit_repaint.proofs.showing.show_session.Goals as goal
 
 pub views-init : goal.views-init

@@ -1,14 +1,14 @@
 use Rattle.std.proofs.Common.{◌≡◌, ◌≤◌, length}
 use Rattle.nit_rect.specs.declared.point.Point.{Point}
-use Rattle.nit_damage.specs.Cuts.{Fits, pieces_left, to_come}
-use Rattle.nit_paint.specs.Copied.{AreSet}
-use Rattle.nit_repaint.specs.Coming.{has_come}
-use Rattle.nit_repaint.specs.Showing.{shown_at}
+use Rattle.nit_damage.specs.Cutter.{FitsStack, pieces_left, to_come}
+use Rattle.nit_paint.specs.FrameCopy.{AreSet}
+use Rattle.nit_repaint.specs.PixelsToCome.{has_come}
+use Rattle.nit_repaint.specs.ShownPixels.{shown_at}
 use Rattle.nit_repaint.proofs.showing.show_to_come.Given as goal
 
 abbrev pub invariant-pieces : goal.invariant-pieces
 invariant-pieces l = record {
-  fits : Fits l.cutter l.look.stack.now;
+  fits : FitsStack l.cutter l.look.stack.now;
   room : l.cutter.room ≡ l.initial.cutter.room;
   less : (p : Point) → to_come l.cutter l.look.stack.now p ≤ to_come l.initial.cutter l.look.stack.now p;
   shown : AreSet (has_come l.initial.cutter l.cutter l.look.stack.now) (length l.raw) (shown_at l.look l.raw) l.initial.frame l.frame;

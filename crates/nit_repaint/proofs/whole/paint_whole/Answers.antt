@@ -1,6 +1,6 @@
 use Rattle.std.proofs.Common.{length, arith}
-use Rattle.nit_paint.specs.Pieces.{source_at}
-use Rattle.nit_repaint.proofs.Glasses.{all_painted, held_by_all}
+use Rattle.nit_paint.specs.Pieces.{source_of_number}
+use Rattle.nit_repaint.proofs.GlassLemmas.{all_painted, held_by_all}
 use Rattle.nit_repaint.proofs.whole.paint_whole.Goals as goal
 
 pub paint_to_come-requires-clause-held : goal.paint_to_come-requires-clause-held
@@ -8,5 +8,5 @@ paint_to_come-requires-clause-held g c = held_by_all g.C.Glass.sight c.args.stac
 
 pub returns-clause-painted : goal.returns-clause-painted
 returns-clause-painted g c =
-    all_painted g.C.Glass.sight (source_at c.args.stack.now) c.args.stack.now c.begin_all.new.self _ (length c.args.owns.now) c.args.owns.now c.paint_to_come.new.glasses _ _ c.requires.pixels (omega arith) (omega (arith, c.paint_to_come.auto.glasses))
+    all_painted g.C.Glass.sight (source_of_number c.args.stack.now) c.args.stack.now c.begin_all.new.self _ (length c.args.owns.now) c.args.owns.now c.paint_to_come.new.glasses _ _ c.requires.pixels (omega arith) (omega (arith, c.paint_to_come.auto.glasses))
     c.begin_all.ensures.to_come c.paint_to_come.ensures.painted

@@ -2,18 +2,18 @@ use Rattle.std.proofs.Common.{◌≡◌, ℕ, ◌≤◌, ◌++◌, List, [], len
 use Rattle.std.specs.List.{AllByRecursion}
 use Rattle.nit_script.specs.declared.line.Line.{Line}
 use Rattle.nit_script.specs.Spelling.{FitsLine}
-use Rattle.nit_report.specs.Drawing.{Appends, in_turn}
+use Rattle.nit_report.specs.Draw.{AppendsDraws, draws_in_turn}
 use Rattle.nit_report.specs.Generator.{first_phase, second_phase, seed, client_script}
-use Rattle.nit_report.proofs.InTurn.{appends_then}
+use Rattle.nit_report.proofs.DrawLemmas.{appends_then}
 use Rattle.nit_report.proofs.DrawnFits.{client_fits}
 use Rattle.nit_report.proofs.DrawnCounts.{client_lines}
 use Rattle.nit_report.proofs.generated_client.client_script.Goals as goal
 use Rattle.nit_report.proofs.generated_client.client_script.Goals.{In_ok-put_second_phase}
 
-script_is : (n c s t u : ℕ) (xs ys zs : List Line) → xs ≡ [] → s ≡ seed n c → Appends first_phase s xs t ys → Appends second_phase t ys u zs → zs ≡ client_script n c
+script_is : (n c s t u : ℕ) (xs ys zs : List Line) → xs ≡ [] → s ≡ seed n c → AppendsDraws first_phase s xs t ys → AppendsDraws second_phase t ys u zs → zs ≡ client_script n c
 unfolding client_script
 script_is n c s t u xs ys zs none at p q =
-    (appends_then p q).values ∙ ap (λ (ls : List Line). ls ++ (in_turn (first_phase ++ second_phase) s).0) none ∙ ap (λ (k : ℕ). (in_turn (first_phase ++ second_phase) k).0) at
+    (appends_then p q).values ∙ ap (λ (ls : List Line). ls ++ (draws_in_turn (first_phase ++ second_phase) s).0) none ∙ ap (λ (k : ℕ). (draws_in_turn (first_phase ++ second_phase) k).0) at
 
 are_its : (c : In_ok-put_second_phase) → c.put_second_phase.new.lines.items ≡ client_script c.args.n c.args.client
 are_its c = script_is c.args.n c.args.client _ _ _ _ _ _ c.in_ok-lines.ensures.items c.new-stream.ensures c.in_ok-put_first_phase.ensures c.in_ok-put_second_phase.ensures

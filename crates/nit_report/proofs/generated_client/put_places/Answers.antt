@@ -1,6 +1,6 @@
 use Rattle.std.proofs.Common.{◌-◌, [], ◌∷◌, arith}
 use Rattle.nit_report.specs.Generator.{placed}
-use Rattle.nit_report.proofs.InTurn.{each_none, each_more, each_done, appends_one}
+use Rattle.nit_report.proofs.DrawLemmas.{each_none, each_more, each_done, appends_one}
 use Rattle.nit_report.proofs.generated_client.put_places.Goals as goal
 
 pub loop-view-init : goal.loop-view-init

@@ -1,7 +1,7 @@
 use Rattle.std.proofs.Common.{ℕ, ◌-◌, [], ◌∷◌}
-use Rattle.nit_report.specs.Drawing.{Appends, for_each, just}
+use Rattle.nit_report.specs.Draw.{AppendsDraws, for_each, just}
 use Rattle.nit_report.specs.Generator.{titled}
 use Rattle.nit_report.proofs.generated_client.put_titles.Given as goal
 
 abbrev pub invariant-loop-view : goal.invariant-loop-view
-invariant-loop-view l = (s : ℕ) → Appends (for_each 1 (l.view - 1) (λ v. just (titled v) ∷ [])) s l.fn.lines.items s l.lines.items
+invariant-loop-view l = (s : ℕ) → AppendsDraws (for_each 1 (l.view - 1) (λ v. just (titled v) ∷ [])) s l.fn.lines.items s l.lines.items

@@ -1,6 +1,6 @@
 use Rattle.std.proofs.Common.{ℕ, List, IsTrue, arith, subst, sym}
 use Rattle.std.proofs.lemmas.Bool.{true≢false}
-use Rattle.nit_events.specs.Texts.{is_text}
+use Rattle.nit_events.specs.Text.{is_text}
 use Rattle.nit_report.proofs.Titles.{is_title}
 use Rattle.nit_report.proofs.generated_client.title.Goals as goal
 

@@ -2,7 +2,7 @@ use Rattle.std.proofs.Common.{◌≡◌, ℕ, ◌+◌, List, ◌++◌, arith, ap
 use Rattle.std.specs.Prelude.{codes}
 use Rattle.std.specs.List.{flat_map, range_with_len}
 use Rattle.nit_report.specs.Generator.{client_block}
-use Rattle.nit_report.proofs.InTurn.{flat_map_next}
+use Rattle.nit_report.proofs.DrawLemmas.{flat_map_next}
 use Rattle.nit_report.proofs.generated_config.config_text.Goals as goal
 
 one_more : (k : ℕ) (head before now : List ℕ) → before ≡ head ++ flat_map client_block (range_with_len 0 k) → now ≡ before ++ client_block k → now ≡ head ++ flat_map client_block (range_with_len 0 (k + 1))

@@ -3,7 +3,7 @@ use Rattle.std.specs.Prelude.{codes, false}
 use Rattle.std.specs.List.{range_with_len}
 use Rattle.std.proofs.lemmas.List.FromFn.{map-range_with_len_more}
 use Rattle.nit_config.specs.declared.config.Member.{Member}
-use Rattle.nit_config.specs.Configured.{IsConfigured}
+use Rattle.nit_config.specs.ConfigurationRanges.{IsConfiguration}
 use Rattle.nit_report.specs.Generator.{generated_member, generated_configuration}
 use Rattle.nit_report.proofs.GeneratedClients.{generated_is_configured}
 use Rattle.nit_report.proofs.generated_config.gen_config.Goals as goal
@@ -14,7 +14,7 @@ one_more k xs ys m before is e = rw (e, before, is) (sym (map-range_with_len_mor
 pub loop-client-preserved : goal.loop-client-preserved
 loop-client-preserved c = one_more c.loop-client.client _ _ _ c.loop-client.invariant c.in_ok-member.ensures c.in_ok-push.ensures.items
 
-made : (k : ℕ) (name : List ℕ) (xs : List Member) → name ≡ codes "gen.in" → xs ≡ map generated_member (range_with_len 0 k) → k ≡ 8 → IsConfigured (record { width = 320; height = 240; bar = false; input = name; clients = xs })
+made : (k : ℕ) (name : List ℕ) (xs : List Member) → name ≡ codes "gen.in" → xs ≡ map generated_member (range_with_len 0 k) → k ≡ 8 → IsConfiguration (record { width = 320; height = 240; bar = false; input = name; clients = xs })
 unfolding generated_configuration
 made k name xs is are e = rw (is, are, e) generated_is_configured
 

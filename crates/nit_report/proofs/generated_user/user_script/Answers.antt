@@ -3,17 +3,17 @@ use Rattle.std.specs.List.{AllByRecursion}
 use Rattle.nit_script.specs.declared.line.InputLine.{InputLine}
 use Rattle.nit_script.specs.declared.line.InputLine.TheVariants as input
 use Rattle.nit_script.specs.Spelling.{FitsInputLine}
-use Rattle.nit_report.specs.Drawing.{Appends, just, in_turn}
+use Rattle.nit_report.specs.Draw.{AppendsDraws, just, draws_in_turn}
 use Rattle.nit_report.specs.Generator.{user_phases, seed, user_script}
-use Rattle.nit_report.proofs.InTurn.{appends_one, appends_then}
+use Rattle.nit_report.proofs.DrawLemmas.{appends_one, appends_then}
 use Rattle.nit_report.proofs.DrawnFits.{user_fits}
 use Rattle.nit_report.proofs.DrawnCounts.{user_lines}
 use Rattle.nit_report.proofs.generated_user.user_script.Goals as goal
 use Rattle.nit_report.proofs.generated_user.user_script.Goals.{In_ok-put_xray_shot}
 
-script_is : (n s u : ℕ) (xs zs : List InputLine) → xs ≡ [] → s ≡ seed n 8 → Appends user_phases s xs u zs → zs ≡ user_script n
+script_is : (n s u : ℕ) (xs zs : List InputLine) → xs ≡ [] → s ≡ seed n 8 → AppendsDraws user_phases s xs u zs → zs ≡ user_script n
 unfolding user_script
-script_is n s u xs zs none at p = p.values ∙ ap (λ (ls : List InputLine). ls ++ (in_turn user_phases s).0) none ∙ ap (λ (k : ℕ). (in_turn user_phases k).0) at
+script_is n s u xs zs none at p = p.values ∙ ap (λ (ls : List InputLine). ls ++ (draws_in_turn user_phases s).0) none ∙ ap (λ (k : ℕ). (draws_in_turn user_phases k).0) at
 
 are_its : (c : In_ok-put_xray_shot) → c.put_xray_shot.new.lines.items ≡ user_script c.args.n
 are_its c =

@@ -1,4 +1,4 @@
-use Rattle.nit_stack.proofs.Names.{agree_by}
+use Rattle.nit_stack.proofs.SlotsAndNames.{agree_by}
 use Rattle.nit_stack.proofs.Owners.{owner_is}
 use Rattle.nit_stack.proofs.OwnersByName.{owner_named, owner_of_session}
 use Rattle.nit_stack.proofs.laws.owners_by_slot.Goals as goal

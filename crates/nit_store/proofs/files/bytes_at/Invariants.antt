@@ -1,5 +1,5 @@
 use Rattle.std.proofs.Common.{◌≡◌, drop}
-use Rattle.nit_store.specs.Shown.{file_at}
+use Rattle.nit_store.specs.Store.{file_at}
 use Rattle.nit_store.specs.Files.{files_of}
 use Rattle.nit_store.proofs.files.bytes_at.Given as goal
 

@@ -1,11 +1,11 @@
 use Rattle.std.proofs.Common.{◌∙◌, List, length, ap}
-use Rattle.nit_plan.specs.Steps.{Planned}
-use Rattle.nit_top.proofs.Besides.{is_ready, plans_long, setting}
+use Rattle.nit_plan.specs.Plan.{PlanModel}
+use Rattle.nit_top.proofs.RoomRunLemmas.{is_ready, plans_long, setting}
 use Rattle.nit_top.proofs.beside.run_beside.Goals as goal
 
 pub buffers_of-requires-clause-each : goal.buffers_of-requires-clause-each
 buffers_of-requires-clause-each g c =
-    ap (λ (ps : List Planned). length ps) c.deref.ensures.value ∙ plans_long c.args.config.now c.args.scripts.now c.in_ok-plans.plans.items c.in_ok-plans.ensures.plans ∙ c.requires.scripts
+    ap (λ (ps : List PlanModel). length ps) c.deref.ensures.value ∙ plans_long c.args.config.now c.args.scripts.now c.in_ok-plans.plans.items c.in_ok-plans.ensures.plans ∙ c.requires.scripts
 
 pub open-requires-clause-setting : goal.open-requires-clause-setting
 open-requires-clause-setting g c = setting c.args.config.now c.args.scripts.now c.deref-3.result.now c.requires.scripts (c.deref-3.ensures.value ∙ c.in_ok-plans.ensures.plans)

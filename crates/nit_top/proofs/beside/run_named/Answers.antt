@@ -1,30 +1,30 @@
 use Rattle.std.proofs.Common.{rules, ◌≡◌, ◌∙◌, ◌++◌, ◌∷◌, [], Option, map, ap, sym, subst}
 use Rattle.nit_config.specs.Configuration.{Configuration}
-use Rattle.nit_journal.specs.Journals.{IsLegal}
-use Rattle.nit_journal.specs.Whole.{IsWhole}
-use Rattle.nit_plan.specs.Calls.{calls_to_make, deeds_to_do}
-use Rattle.nit_store.specs.Shown.{File, Shown}
-use Rattle.nit_store.specs.Puts.{PutsAll, PutsNext, Putting, Refusal}
-use Rattle.nit_hall.specs.Parts.{Parts}
-use Rattle.nit_hall.specs.Passes.{AreDone, IsDoneUser}
-use Rattle.nit_actor.specs.Running.{putting as desk_putting}
+use Rattle.nit_journal.specs.Replay.{IsLegal}
+use Rattle.nit_journal.specs.WholeJournals.{IsWhole}
+use Rattle.nit_plan.specs.Calls.{calls_to_make, user_actions_to_do}
+use Rattle.nit_store.specs.Store.{File, StoreModel}
+use Rattle.nit_store.specs.Puts.{PutsAll, PutsNext, PutState, PutRefusal}
+use Rattle.nit_hall.specs.OpeningParts.{OpeningParts}
+use Rattle.nit_hall.specs.Pass.{AreDone, IsDoneUser}
+use Rattle.nit_actor.specs.RoundsRun.{put_state_of_desk as desk_putting}
 use Rattle.nit_top.specs.Outputs.{events_files, final_name, final_picture, journal_file}
-use Rattle.nit_top.specs.Work.{HasRun, putting}
-use Rattle.nit_top.proofs.Besides.{all_done, beside_leaves, setup_in, user_done}
+use Rattle.nit_top.specs.Work.{HasRun, put_state_of_run}
+use Rattle.nit_top.proofs.RoomRunLemmas.{all_done, beside_leaves, setup_in, user_done}
 use Rattle.nit_top.proofs.beside.run_named.Goals as goal
 
 -- a put behind what a desk shows
-behind_desk : (shown : Shown) (o p : Option Refusal) (f : File) (new : Putting) → o ≡ p → PutsNext f (record { shown = shown; refused = o }) new → PutsNext f (record { shown = shown; refused = p }) new
-behind_desk shown o p f new same next = subst (λ (q : Option Refusal). PutsNext f (record { shown = shown; refused = q }) new) same next
+behind_desk : (shown : StoreModel) (o p : Option PutRefusal) (f : File) (new : PutState) → o ≡ p → PutsNext f (record { shown = shown; refused = o }) new → PutsNext f (record { shown = shown; refused = p }) new
+behind_desk shown o p f new same next = subst (λ (q : Option PutRefusal). PutsNext f (record { shown = shown; refused = q }) new) same next
 
 pub last_picture-scene-requires-clause-done : goal.last_picture-scene-requires-clause-done
 last_picture-scene-requires-clause-done g c =
-    subst (λ (q : Parts). AreDone q c.run_beside-mine.new.back.items) (sym c.into_room.ensures.parts)
+    subst (λ (q : OpeningParts). AreDone q c.run_beside-mine.new.back.items) (sym c.into_room.ensures.parts)
     (all_done g.N.Name.parts c.args.opened.room c.args.opened.passes.items c.run_beside-mine.new.back.items c.args.opened.user c.requires.ready c.run_beside-mine.ensures.same c.run_beside-mine.ensures.done)
 
 pub last_picture-scene-requires-clause-user : goal.last_picture-scene-requires-clause-user
 last_picture-scene-requires-clause-user g c =
-    subst (λ (q : Parts). IsDoneUser q c.run_beside-mine.result.user) (sym c.into_room.ensures.parts)
+    subst (λ (q : OpeningParts). IsDoneUser q c.run_beside-mine.result.user) (sym c.into_room.ensures.parts)
     (user_done g.N.Name.parts c.args.opened.user c.run_beside-mine.result.user c.requires.ready.user_belongs c.run_beside-mine.ensures.user_same c.run_beside-mine.ensures.user_done)
 
 pub returns : goal.returns
@@ -39,16 +39,16 @@ returns g c =
     let is = c.into_room.ensures.parts in
     let first = shown c.args.store.now in
     let at = desk_putting (shown desk.store.now) desk.fault desk.tried in
-    let final = putting (shown c.put_final-fault.new.store) c.put_final-fault.result in
-    let config : scene.config ≡ parts.config = ended.config ∙ ap (λ (q : Parts). q.config) is in
-    let text : c.deref-2.result.now ≡ final_picture (setup_in parts) journal = c.deref-2.ensures.value ∙ ended.picture ∙ ap (λ (q : Parts). final_picture (setup_in q) journal) is in
-    let texts : PutsAll (events_files parts.config journal ++ journal_file journal ∷ []) final (putting (shown c.leave_texts.new.store) c.leave_texts.result.fault) =
-    subst (λ (k : Configuration). PutsAll (events_files k journal ++ journal_file journal ∷ []) final (putting (shown c.leave_texts.new.store) c.leave_texts.result.fault)) config c.leave_texts.ensures.puts in
-    subst (λ (new : Shown). HasRun first (setup_in parts) new c.leave_texts.result) (search rules)
+    let final = put_state_of_run (shown c.put_final-fault.new.store) c.put_final-fault.result in
+    let config : scene.config ≡ parts.config = ended.config ∙ ap (λ (q : OpeningParts). q.config) is in
+    let text : c.deref-2.result.now ≡ final_picture (setup_in parts) journal = c.deref-2.ensures.value ∙ ended.picture ∙ ap (λ (q : OpeningParts). final_picture (setup_in q) journal) is in
+    let texts : PutsAll (events_files parts.config journal ++ journal_file journal ∷ []) final (put_state_of_run (shown c.leave_texts.new.store) c.leave_texts.result.fault) =
+    subst (λ (k : Configuration). PutsAll (events_files k journal ++ journal_file journal ∷ []) final (put_state_of_run (shown c.leave_texts.new.store) c.leave_texts.result.fault)) config c.leave_texts.ensures.puts in
+    subst (λ (new : StoreModel). HasRun first (setup_in parts) new c.leave_texts.result) (search rules)
     (beside_leaves parts c.args.opened.user.seen mine.result.user.seen first (shown c.leave_texts.new.store) at final c.deref-2.result.now journal c.leave_texts.result
     c.requires.ready.fresh mine.ensures.put ended.known
-    (subst (λ (q : Parts). IsLegal q.config journal) is ended.legal)
-    (subst (λ (q : Parts). IsWhole (map calls_to_make q.scripts) (deeds_to_do q.input) journal) is ended.whole)
+    (subst (λ (q : OpeningParts). IsLegal q.config journal) is ended.legal)
+    (subst (λ (q : OpeningParts). IsWhole (map calls_to_make q.scripts) (user_actions_to_do q.input) journal) is ended.whole)
     text
     (behind_desk (shown desk.store.now) _ at.refused (final_name, c.deref-2.result.now) final c.refused_shot-refused.ensures c.put_final-fault.ensures)
     texts c.leave_texts.ensures.journal c.leave_texts.ensures.frames)

@@ -1,11 +1,11 @@
 use Rattle.std.proofs.Common.{◌∙◌, true, ap, sym}
 use Rattle.nit_config.specs.Configuration.{Configuration}
-use Rattle.nit_top.specs.Regions.{is_outside}
+use Rattle.nit_top.specs.Region.{is_off_screen}
 use Rattle.nit_top.specs.declared.finish.Stop.{Stop}
 use Rattle.nit_top.specs.Work.{setup_of}
 use Rattle.nit_top.proofs.CaptureEnds.{all_too, ends_too, film_ends}
-use Rattle.nit_top.proofs.Ending.{outside_ends}
-use Rattle.nit_top.proofs.Setups.{not_read, read_whole}
+use Rattle.nit_top.proofs.WorkLemmas.{outside_ends}
+use Rattle.nit_top.proofs.SetupLemmas.{not_read, read_whole}
 use Rattle.nit_top.specs.Command.{Capture}
 use Rattle.nit_top.proofs.capture.capture.Goals as goal
 
@@ -19,7 +19,7 @@ returns-then-is_outside g c = λ name first start is_config.
     let s = c.in-Ok.scripts in
     let setup = setup_of c.args.config.now s.clients.items s.input true true in
     let all = read_whole true name first c.args.config.now c.requires.configured is_config (g.S.Store.shown c.args.store.now) start s.clients.items s.input (g.S.Store.shown c.read_scripts.new.store) c.in-Ok.ensures.read (c.in-Ok.ensures.runnable true) in
-    outside_ends (Capture name c.args.region) first (g.S.Store.shown c.read_scripts.new.store) setup c.unbegun-then-is_outside.result all.0 (all_too name c.args.region first.files setup all.1) (sym (ap (λ (k : Configuration). is_outside c.args.region k.width k.height) c.config.view_is) ∙ sym c.is_outside.ensures ∙ c.if-is_outside.true)
+    outside_ends (Capture name c.args.region) first (g.S.Store.shown c.read_scripts.new.store) setup c.unbegun-then-is_outside.result all.0 (all_too name c.args.region first.files setup all.1) (sym (ap (λ (k : Configuration). is_off_screen c.args.region k.width k.height) c.config.view_is) ∙ sym c.is_outside.ensures ∙ c.if-is_outside.true)
     (ap (λ (stop : Stop). stop.end) c.unbegun-then-is_outside.ensures.stop ∙ c.at.ensures.0) c.unbegun-then-is_outside.ensures.journal
 
 pub returns : goal.returns
@@ -27,7 +27,7 @@ returns g c = λ name first start is_config.
     let s = c.in-Ok.scripts in
     let setup = setup_of c.args.config.now s.clients.items s.input true true in
     let all = read_whole true name first c.args.config.now c.requires.configured is_config (g.S.Store.shown c.args.store.now) start s.clients.items s.input (g.S.Store.shown c.read_scripts.new.store) c.in-Ok.ensures.read (c.in-Ok.ensures.runnable true) in
-    film_ends name c.args.region first (g.S.Store.shown c.read_scripts.new.store) (g.S.Store.shown c.perform_filmed.new.store) setup c.perform_filmed.result all.0 all.1 (sym (ap (λ (k : Configuration). is_outside c.args.region k.width k.height) c.config.view_is) ∙ sym c.is_outside.ensures ∙ c.if-is_outside.false) c.perform_filmed.ensures
+    film_ends name c.args.region first (g.S.Store.shown c.read_scripts.new.store) (g.S.Store.shown c.perform_filmed.new.store) setup c.perform_filmed.result all.0 all.1 (sym (ap (λ (k : Configuration). is_off_screen c.args.region k.width k.height) c.config.view_is) ∙ sym c.is_outside.ensures ∙ c.if-is_outside.false) c.perform_filmed.ensures
 
 pub perform_filmed-requires-clause-runnable : goal.perform_filmed-requires-clause-runnable
 perform_filmed-requires-clause-runnable g c κs within = c.in-Ok.ensures.runnable true

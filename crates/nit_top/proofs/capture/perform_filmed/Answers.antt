@@ -1,10 +1,10 @@
 use Rattle.std.proofs.Common.{◌≡◌, ◌∙◌, List, length, true, ap, inl}
 use Rattle.nit_rect.specs.Rectangle.{Rectangle}
 use Rattle.nit_config.specs.Configuration.{Configuration}
-use Rattle.nit_capture.specs.Capture.{begun}
+use Rattle.nit_capture.specs.Capture.{first_capture}
 use Rattle.nit_script.specs.declared.line.Line.{Line}
-use Rattle.nit_top.specs.Filmed.{HasFilmed, begun_of}
-use Rattle.nit_top.specs.Regions.{rectangle_of}
+use Rattle.nit_top.specs.CaptureRun.{HasFilmed, begun_of}
+use Rattle.nit_top.specs.Region.{rectangle_of}
 use Rattle.nit_top.specs.Work.{setup_of}
 use Rattle.nit_top.proofs.capture.perform_filmed.Goals as goal
 
@@ -15,7 +15,7 @@ returns g c =
     let s = setup_of config c.args.scripts.now.clients.items c.args.scripts.now.input true true in
     let ran = c.in-Ok-run_filmed.ran in
     let same : c.in-Ok.film.capture ≡ begun_of region config =
-    c.in-Ok.ensures.capture ∙ ap (λ (r : Rectangle). begun c.config.inside.width c.config.inside.height r) c.rect-rect.ensures.value ∙ ap (λ (k : Configuration). begun k.width k.height (rectangle_of region)) c.config.view_is in
+    c.in-Ok.ensures.capture ∙ ap (λ (r : Rectangle). first_capture c.config.inside.width c.config.inside.height r) c.rect-rect.ensures.value ∙ ap (λ (k : Configuration). first_capture k.width k.height (rectangle_of region)) c.config.view_is in
     let has : HasFilmed region (g.S.Store.shown c.args.store.now) s (g.S.Store.shown c.run_filmed.new.store) ran.journal.items ran.frames ran.fault = c.in-Ok-run_filmed.ensures region same in
     inl (record {
       ran = ran;

@@ -1,7 +1,7 @@
 use Rattle.std.proofs.Common.{rules, ◌≡◌, ℕ, List, Result, true, refl, sym, subst}
 use Rattle.nit_events.specs.declared.entry.Entry.{Entry}
-use Rattle.nit_store.specs.Shown.{Shown}
-use Rattle.nit_top.specs.Filmed.{HasFilmed}
+use Rattle.nit_store.specs.Store.{StoreModel}
+use Rattle.nit_top.specs.CaptureRun.{HasFilmed}
 use Rattle.nit_rect.specs.declared.memory.NoMemory.{NoMemory}
 use Rattle.nit_top.specs.declared.run.Ran.{Ran}
 use Rattle.nit_top.specs.Work.{HasRun, Runs, setup_of}
@@ -14,7 +14,7 @@ returns-in_default g c = λ region same.
     let mid = g.S.Store.shown c.film_named-reel.result.reel.store.now in
     let s = setup_of c.args.config.now c.args.scripts.now.clients.items c.args.scripts.now.input true true in
     let stays : mid ≡ first = subst (λ (r : Result Ran NoMemory). Runs first s mid r) c.in_default.is c.film_named-reel.ensures.ran in
-    subst (λ (new : Shown). new ≡ first) (search rules) stays
+    subst (λ (new : StoreModel). new ≡ first) (search rules) stays
 
 pub returns : goal.returns
 returns g c = λ region same.
@@ -39,6 +39,6 @@ returns g c = λ region same.
       put = end.ensures.whole;
       not_put = end.ensures.not_whole;
     }) in
-    subst (λ (new : Shown). HasFilmed region first s new end.result.journal.items end.result.frames end.result.fault) (search rules)
+    subst (λ (new : StoreModel). HasFilmed region first s new end.result.journal.items end.result.frames end.result.fault) (search rules)
     (subst (λ (j : List Entry). HasFilmed region first s (shown end.new.store) j end.result.frames end.result.fault) (sym end.ensures.journal)
     (subst (λ (n : ℕ). HasFilmed region first s (shown end.new.store) ran.journal.items n end.result.fault) (sym end.ensures.frames) filmed))

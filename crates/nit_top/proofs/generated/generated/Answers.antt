@@ -1,12 +1,12 @@
 use Rattle.std.proofs.Common.{◌∙◌, Option, ap, rules, subst, sym}
-use Rattle.nit_config.specs.Configured.{IsConfigured}
+use Rattle.nit_config.specs.ConfigurationRanges.{IsConfiguration}
 use Rattle.nit_store.specs.Puts.{PutsAll, unrefused}
 use Rattle.nit_top.specs.declared.finish.Stop.{Stop}
 use Rattle.nit_top.specs.declared.run.PutFault.{PutFault}
 use Rattle.nit_top.specs.Setup.{Setup, IsRunnable, generated_files}
-use Rattle.nit_top.specs.Work.{Performed, putting}
+use Rattle.nit_top.specs.Work.{Performed, put_state_of_run}
 use Rattle.nit_top.proofs.GeneratedRuns.{GeneratorLaws, clients_fit, generated_ends, generated_runnable, made_in_part, made_whole, nothing_made, same_unmade, scripts_of, unmade_runnable}
-use Rattle.nit_top.proofs.Puts.{none_is}
+use Rattle.nit_top.proofs.PutLemmas.{none_is}
 use Rattle.nit_top.proofs.generated.generated.Goals as goal
 
 pub returns-in_default : goal.returns-in_default
@@ -20,13 +20,13 @@ returns-then-is_some g c =
 pub returns-in_default-read_files : goal.returns-in_default-read_files
 returns-in_default-read_files g c =
     let now = g.S.Store.shown c.put_files-fault.new.store in
-    let made = subst (λ (f : Option PutFault). PutsAll (generated_files c.args.number) (unrefused (g.S.Store.shown c.args.store.now)) (putting now f)) (none_is c.put_files-fault.result (sym c.is_some.ensures ∙ c.if-is_some.false)) c.put_files-fault.ensures in
+    let made = subst (λ (f : Option PutFault). PutsAll (generated_files c.args.number) (unrefused (g.S.Store.shown c.args.store.now)) (put_state_of_run now f)) (none_is c.put_files-fault.result (sym c.is_some.ensures ∙ c.if-is_some.false)) c.put_files-fault.ensures in
     made_whole c.args.number (g.S.Store.shown c.args.store.now) now c.unbegun-in_default-read_files.result made (ap (λ (s : Stop). s.end) c.unbegun-in_default-read_files.ensures.stop ∙ c.at-in_default-read_files.ensures.0) c.unbegun-in_default-read_files.ensures.journal
 
 pub returns-in_default-gen_config : goal.returns-in_default-gen_config
 returns-in_default-gen_config g c =
     let now = g.S.Store.shown c.put_files-fault.new.store in
-    let made = subst (λ (f : Option PutFault). PutsAll (generated_files c.args.number) (unrefused (g.S.Store.shown c.args.store.now)) (putting now f)) (none_is c.put_files-fault.result (sym c.is_some.ensures ∙ c.if-is_some.false)) c.put_files-fault.ensures in
+    let made = subst (λ (f : Option PutFault). PutsAll (generated_files c.args.number) (unrefused (g.S.Store.shown c.args.store.now)) (put_state_of_run now f)) (none_is c.put_files-fault.result (sym c.is_some.ensures ∙ c.if-is_some.false)) c.put_files-fault.ensures in
     made_whole c.args.number (g.S.Store.shown c.args.store.now) now c.unbegun-in_default-gen_config.result made (ap (λ (s : Stop). s.end) c.unbegun-in_default-gen_config.ensures.stop ∙ c.at-in_default-gen_config.ensures.0) c.unbegun-in_default-gen_config.ensures.journal
 
 pub perform_beside-requires-after_bounds : goal.perform_beside-requires-after_bounds
@@ -41,7 +41,7 @@ perform_beside-requires-after_bounds g c κs within =
       input_phases_are = c.generated_user_counts.ensures.phases n;
       fits = clients_fit _ (scripts_of n) c.in-Ok.ensures.reads;
       input_fits = c.in-Ok.ensures.user_reads.0;
-      configured = subst IsConfigured c.in-Ok-gen_config.ensures.config c.in-Ok-gen_config.ensures.configured;
+      configured = subst IsConfiguration c.in-Ok-gen_config.ensures.config c.in-Ok-gen_config.ensures.configured;
     } in
     subst IsRunnable (sym (same_unmade n config scripts.clients.items scripts.input c.in-Ok-gen_config.ensures.config c.in-Ok-read_files.ensures.clients c.in-Ok-read_files.ensures.input)) (unmade_runnable n (generated_runnable n laws))
 
@@ -60,8 +60,8 @@ returns g c =
       input_phases_are = c.generated_user_counts.ensures.phases n;
       fits = clients_fit _ (scripts_of n) c.in-Ok.ensures.reads;
       input_fits = c.in-Ok.ensures.user_reads.0;
-      configured = subst IsConfigured c.in-Ok-gen_config.ensures.config c.in-Ok-gen_config.ensures.configured;
+      configured = subst IsConfiguration c.in-Ok-gen_config.ensures.config c.in-Ok-gen_config.ensures.configured;
     } in
-    let made = subst (λ (f : Option PutFault). PutsAll (generated_files n) (unrefused old) (putting now f)) (none_is c.put_files-fault.result (sym c.is_some.ensures ∙ c.if-is_some.false)) c.put_files-fault.ensures in
+    let made = subst (λ (f : Option PutFault). PutsAll (generated_files n) (unrefused old) (put_state_of_run now f)) (none_is c.put_files-fault.result (sym c.is_some.ensures ∙ c.if-is_some.false)) c.put_files-fault.ensures in
     let same = same_unmade n config scripts.clients.items scripts.input c.in-Ok-gen_config.ensures.config c.in-Ok-read_files.ensures.clients c.in-Ok-read_files.ensures.input in
     generated_ends n old (generated_runnable n laws) c.puts_go_on.ensures.both c.headline.ensures now new c.perform_beside.result made (subst (λ (s : Setup). Performed now s new c.perform_beside.result) same c.perform_beside.ensures)

@@ -4,19 +4,19 @@ use Rattle.nit_events.specs.declared.call.Reply.{Reply}
 use Rattle.nit_events.specs.declared.call.Reply.TheVariants as reply
 use Rattle.nit_events.specs.declared.entry.Entry.{Entry}
 use Rattle.nit_events.specs.declared.entry.Entry.TheVariants as entry
-use Rattle.nit_journal.specs.Journals.{IsLegal, replay}
-use Rattle.nit_journal.specs.State.{opening, after}
-use Rattle.nit_journal.specs.Whole.{done}
+use Rattle.nit_journal.specs.Replay.{IsLegal, replay}
+use Rattle.nit_journal.specs.State.{first_state, after}
+use Rattle.nit_journal.specs.WholeJournals.{done}
 use Rattle.nit_plan.specs.Calls.{calls_to_make}
 use Rattle.nit_top.specs.Headline.{events_among}
 use Rattle.nit_top.proofs.Events.{events_taken}
-use Rattle.nit_top.proofs.Headlines.{NearLaws, focus_by_call, focus_by_click, shot_shows, end_shows, texts_tell, files_counted}
+use Rattle.nit_top.proofs.HeadlineLemmas.{NearLaws, focus_by_call, focus_by_click, shot_shows, end_shows, texts_tell, files_counted}
 use Rattle.nit_top.proofs.laws.headline.Goals as goal
 
 pub returns : goal.returns
 returns c = λ s journal outputs runnable j are.
     let config = s.config in
-    let same : (front : List Entry) (e : Entry) → replay config (front ++ e ∷ []) ≡ after (replay config front) e = λ front e. c.one_more_entry.ensures.replayed (opening config) front e in
+    let same : (front : List Entry) (e : Entry) → replay config (front ++ e ∷ []) ≡ after (replay config front) e = λ front e. c.one_more_entry.ensures.replayed (first_state config) front e in
     let legal : (all : List Entry) → journal ≡ all → IsLegal config all = λ all parts. subst (λ (es : List Entry). IsLegal config es) parts j.legal in
     let law = c.shots_as_replayed.ensures.along in
     let fronts = c.fronts_are_legal.ensures.legal in
@@ -33,7 +33,7 @@ returns c = λ s journal outputs runnable j are.
           record {
             calls = j.whole.calls sid (subst (λ (n : ℕ). sid < n) (sym (length-map s.scripts calls_to_make)) there) ∙ ap done (get_or-map calls_to_make s.scripts sid [] [] there);
             replies = c.isolation.ensures config journal sid j.legal inside;
-            events = events_taken sid (opening config) 0 journal j.legal
+            events = events_taken sid (first_state config) 0 journal j.legal
                 ∙ ap (λ (rs : List Reply). events_among rs) (c.isolation.ensures config journal sid j.legal inside);
             quota = λ front rest call need left parts. c.refusals_are_its_own.ensures.quota config front rest sid call need left (legal (front ++ entry.Call sid call (reply.OutOfQuota need left) ∷ rest) parts);
             reserve = λ front rest call need left parts. c.refusals_are_its_own.ensures.reserve config front rest sid call need left (legal (front ++ entry.Call sid call (reply.NoReserve need left) ∷ rest) parts);

@@ -3,11 +3,11 @@ use Rattle.std.specs.Prelude.{slice_index_or}
 use Rattle.std.proofs.lemmas.List.{length_push, get_or_default, map_push}
 use Rattle.nit_config.specs.declared.config.Member.{Member}
 use Rattle.nit_config.specs.Configuration.{Configuration, donation_of}
-use Rattle.nit_plan.specs.Plans.{table_size}
-use Rattle.nit_plan.specs.Sessions.{plan_in}
-use Rattle.nit_plan.specs.Steps.{Planned}
-use Rattle.nit_pixels.specs.Ends.{BufferName, End, new_sight}
-use Rattle.nit_top.proofs.Besides.{one_key}
+use Rattle.nit_plan.specs.ScriptWords.{table_size}
+use Rattle.nit_plan.specs.SessionLists.{plan_in}
+use Rattle.nit_plan.specs.Plan.{PlanModel}
+use Rattle.nit_pixels.specs.End.{BufferName, End, new_sight}
+use Rattle.nit_top.proofs.RoomRunLemmas.{one_key}
 use Rattle.nit_top.proofs.PerClient.{at_member}
 use Rattle.nit_top.proofs.memory.buffers_of.Goals as goal
 
@@ -24,7 +24,7 @@ loop-sid-preserved c =
     ap (λ (m : Member). m.donation) (at_member config c.as_slice-clients.result.now k c.index-clients-sid.result (c.as_slice-clients.ensures.value ∙ ap (λ (x : Configuration). x.clients) c.config.view_is) inside) in
     let size : c.table_words-words.result ≡ table_size (donation_of config k) = c.table_words-words.ensures.size ∙ ap table_size client in
     let plan : c.index-plans-sid.result ≡ plan_in c.args.plans.now k = c.index-plans-sid.is ∙ get_or_default c.args.plans.now k c.index-plans-sid.result (record { steps = []; ink = [] }) c.loop-sid-test.true in
-    let ink : c.ink.result.now ≡ (plan_in c.args.plans.now k).ink = c.ink.ensures ∙ ap (λ (p : Planned). p.ink) plan in
+    let ink : c.ink.result.now ≡ (plan_in c.args.plans.now k).ink = c.ink.ensures ∙ ap (λ (p : PlanModel). p.ink) plan in
     record {
       keys_are = ap (λ (es : List End). length es) more ∙ length_push keys key ∙ ap (λ (n : ℕ). n + 1) c.loop-sid.invariant.keys_are;
       own = ap (λ (es : List End). map (λ (e : End). e.stand.buffer) es) more ∙ map_push (λ (e : End). e.stand.buffer) keys key

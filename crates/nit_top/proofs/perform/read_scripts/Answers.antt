@@ -2,10 +2,10 @@ use Rattle.std.proofs.Common.{◌≡◌, ◌∙◌, ℕ, List, Option, None, len
 use Rattle.std.specs.Prelude.{IfSome}
 use Rattle.nit_config.specs.declared.config.Member.{Member}
 use Rattle.nit_config.specs.Configuration.{Configuration}
-use Rattle.nit_store.specs.Shown.{bytes_of, asking}
-use Rattle.nit_top.specs.Judged.{IsInput, script_names, wanted_by, wrong_input}
+use Rattle.nit_store.specs.Store.{bytes_of, with_asked}
+use Rattle.nit_top.specs.Judgement.{IsInputScript, script_names, wanted_by, wrong_input}
 use Rattle.nit_top.specs.Work.{SoFar, StoppedAmong}
-use Rattle.nit_top.proofs.Setups.{run_runnable}
+use Rattle.nit_top.proofs.SetupLemmas.{run_runnable}
 use Rattle.nit_top.proofs.perform.read_scripts.Goals as goal
 
 pub returns-in-Err-clause-read : goal.returns-in-Err-clause-read
@@ -27,9 +27,9 @@ returns-in-Ok-load_input-clause-read g c =
     record {
       between = mid;
       clients = subst (λ (ns : List (List ℕ)). SoFar old ns scripts mid) names c.in-Ok.ensures;
-      asked = loaded.0 ∙ ap (asking mid) input;
-      valid = subst (λ (w : Option ℕ). IfSome mid.files (λ files. IsInput w (bytes_of config.input files) lines)) wanted
-          (subst (λ (n : List ℕ). IfSome mid.files (λ files. IsInput c.wanted_by.result (bytes_of n files) lines)) input loaded.1);
+      asked = loaded.0 ∙ ap (with_asked mid) input;
+      valid = subst (λ (w : Option ℕ). IfSome mid.files (λ files. IsInputScript w (bytes_of config.input files) lines)) wanted
+          (subst (λ (n : List ℕ). IfSome mid.files (λ files. IsInputScript c.wanted_by.result (bytes_of n files) lines)) input loaded.1);
     }
 
 pub returns-in-Ok-load_input-clause-runnable : goal.returns-in-Ok-load_input-clause-runnable

@@ -3,12 +3,12 @@ use Rattle.nit_script.specs.declared.line.Line.{Line}
 use Rattle.nit_script.specs.declared.line.InputLine.{InputLine}
 use Rattle.nit_config.specs.Configuration.{Configuration, still_configuration}
 use Rattle.nit_top.specs.declared.finish.End.{End}
-use Rattle.nit_top.specs.Judged.{IsClientFault}
-use Rattle.nit_actor.specs.InStep.{idle_user}
+use Rattle.nit_top.specs.Judgement.{IsClientFault}
+use Rattle.nit_actor.specs.IdleUser.{idle_user}
 use Rattle.nit_top.specs.Setup.{Setup, still_setup, IsRunnable}
-use Rattle.nit_top.specs.Lines.{name_text}
+use Rattle.nit_top.specs.ProgramLines.{name_text}
 use Rattle.nit_top.specs.Work.{StoppedAt, Performed, setup_of}
-use Rattle.nit_top.proofs.Setups.{still_stopped, still_runnable, still_ends}
+use Rattle.nit_top.proofs.SetupLemmas.{still_stopped, still_runnable, still_ends}
 use Rattle.nit_top.proofs.perform.still.Goals as goal
 
 same_setup : (width height : ℕ) (config : Configuration) (lines read : List Line) (input : List InputLine) → config ≡ still_configuration width height → read ≡ lines → input ≡ idle_user read → setup_of config (lines ∷ []) input false false ≡ still_setup width height lines

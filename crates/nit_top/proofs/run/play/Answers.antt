@@ -1,22 +1,22 @@
 use Rattle.std.proofs.Common.{rules, ◌≡◌, ◌∙◌, ◌<◌, ◌++◌, ◌∷◌, [], List, Option, length, ℕ, ap, sym, subst, refl, false, true}
 use Rattle.nit_word.specs.Sight.{Sight}
 use Rattle.nit_config.specs.Configuration.{Configuration}
-use Rattle.nit_scene.specs.Painted.{glass_in}
-use Rattle.nit_scene.specs.Played.{state_now}
-use Rattle.nit_scene.specs.Showing.{IsGlass}
-use Rattle.nit_store.specs.Shown.{File, Shown}
-use Rattle.nit_store.specs.Puts.{PutsAll, PutsNext, Putting, Refusal}
-use Rattle.nit_actor.specs.Running.{putting as desk_putting}
+use Rattle.nit_scene.specs.RawWords.{glass_in}
+use Rattle.nit_scene.specs.Scene.{state_now}
+use Rattle.nit_scene.specs.Screen.{IsGlass}
+use Rattle.nit_store.specs.Store.{File, StoreModel}
+use Rattle.nit_store.specs.Puts.{PutsAll, PutsNext, PutState, PutRefusal}
+use Rattle.nit_actor.specs.RoundsRun.{put_state_of_desk as desk_putting}
 use Rattle.nit_top.specs.Outputs.{HaveTables, events_files, final_name, journal_file, text_files}
-use Rattle.nit_top.specs.Work.{HasRun, putting, setup_of}
-use Rattle.nit_top.proofs.LastWords.{written_whole}
-use Rattle.nit_top.proofs.Leaving.{PutsLast, run_leaves, with_texts}
+use Rattle.nit_top.specs.Work.{HasRun, put_state_of_run, setup_of}
+use Rattle.nit_top.proofs.FinalWords.{written_whole}
+use Rattle.nit_top.proofs.RunLemmas.{PutsLast, run_leaves, with_texts}
 use Rattle.nit_top.proofs.PerClient.{AreLeft, left_glass}
 use Rattle.nit_top.proofs.run.play.Goals as goal
 
 -- a put behind what a desk shows
-behind_desk : (shown : Shown) (o p : Option Refusal) (f : File) (new : Putting) → o ≡ p → PutsNext f (record { shown = shown; refused = o }) new → PutsNext f (record { shown = shown; refused = p }) new
-behind_desk shown o p f new same next = subst (λ (q : Option Refusal). PutsNext f (record { shown = shown; refused = q }) new) same next
+behind_desk : (shown : StoreModel) (o p : Option PutRefusal) (f : File) (new : PutState) → o ≡ p → PutsNext f (record { shown = shown; refused = o }) new → PutsNext f (record { shown = shown; refused = p }) new
+behind_desk shown o p f new same next = subst (λ (q : Option PutRefusal). PutsNext f (record { shown = shown; refused = q }) new) same next
 
 pub draw_last-requires-clause-tables : goal.draw_last-requires-clause-tables
 draw_last-requires-clause-tables g c = λ t inside.
@@ -39,7 +39,7 @@ returns g c =
     let s = setup_of c.args.config.now c.args.scripts.now c.args.input.now true false in
     let first = shown c.args.store.now in
     let at = desk_putting (shown desk.store.now) desk.fault desk.tried in
-    let final = putting (shown c.put_final-fault.new.store) c.put_final-fault.result in
+    let final = put_state_of_run (shown c.put_final-fault.new.store) c.put_final-fault.result in
     let owns : c.deref_mut-2.result.now ≡ c.run_rounds.new.owns = c.deref_mut-2.ensures.value ∙ written_whole opened.owns.len c.run_rounds.new.owns opened.owns.items (c.run_rounds.auto.owns ∙ c.deref_mut.ensures.len) in
     let text : c.deref-2.result.now ≡ c.draw_last.new.text = c.deref-2.ensures.value ∙ written_whole desk.text.len c.draw_last.new.text desk.text.items (c.draw_last.auto.text ∙ c.deref_mut-4.ensures.len) in
     let config : ended.config ≡ c.args.config.now = c.draw_last.ensures.config ∙ c.run_rounds.ensures.run.config ∙ c.requires.opened.configuration in
@@ -48,10 +48,10 @@ returns g c =
     subst (λ (bytes : List ℕ). PutsNext (final_name, bytes) at final)
     (text ∙ c.draw_last.ensures.picture tables (subst (λ (gs : List Sight). HaveTables gs tables) (sym owns) have))
     (behind_desk (shown desk.store.now) _ at.refused (final_name, c.deref-2.result.now) final c.refused_shot-refused.ensures c.put_final-fault.ensures) in
-    let texts : PutsAll (text_files s ended.entries) final (putting (shown c.leave_texts.new.store) c.leave_texts.result.fault) =
-    subst (λ (fs : List File). PutsAll fs final (putting (shown c.leave_texts.new.store) c.leave_texts.result.fault)) (sym (with_texts s ended.entries refl))
-    (subst (λ (k : Configuration). PutsAll (events_files k ended.entries ++ journal_file ended.entries ∷ []) final (putting (shown c.leave_texts.new.store) c.leave_texts.result.fault)) config c.leave_texts.ensures.puts) in
-    subst (λ (new : Shown). HasRun first s new c.leave_texts.result) (search rules)
+    let texts : PutsAll (text_files s ended.entries) final (put_state_of_run (shown c.leave_texts.new.store) c.leave_texts.result.fault) =
+    subst (λ (fs : List File). PutsAll fs final (put_state_of_run (shown c.leave_texts.new.store) c.leave_texts.result.fault)) (sym (with_texts s ended.entries refl))
+    (subst (λ (k : Configuration). PutsAll (events_files k ended.entries ++ journal_file ended.entries ∷ []) final (put_state_of_run (shown c.leave_texts.new.store) c.leave_texts.result.fault)) config c.leave_texts.ensures.puts) in
+    subst (λ (new : StoreModel). HasRun first s new c.leave_texts.result) (search rules)
     (run_leaves s opened.scene mid ended c.run_rounds.new.owns first (shown c.leave_texts.new.store) at final c.leave_texts.result
     c.rounds_are_whole.ensures c.one_more_entry.ensures.replayed refl refl c.requires.opened.configuration c.run_rounds.ensures.run c.draw_last.ensures.recorded c.draw_last.ensures.config c.draw_last.ensures.legal
     c.run_rounds.ensures.shots puts texts c.leave_texts.ensures.journal c.leave_texts.ensures.frames)

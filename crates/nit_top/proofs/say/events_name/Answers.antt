@@ -2,10 +2,10 @@ use Rattle.std.proofs.Common.{ℕ, List, ◌++◌, [], sym, ap, subst, refl}
 use Rattle.std.specs.Prelude.{codes}
 use Rattle.std.proofs.lemmas.Result.{err_from_is_err_and}
 use Rattle.nit_store.proofs.ForCallers.{saying-nil}
-use Rattle.nit_top.specs.Lines.{label_text}
-use Rattle.nit_top.specs.Saying.{Says}
+use Rattle.nit_top.specs.ProgramLines.{label_text}
+use Rattle.nit_top.specs.SaidText.{Says}
 use Rattle.nit_top.specs.Outputs.{events_name}
-use Rattle.nit_top.proofs.Pieces.{says_then, says_stop}
+use Rattle.nit_top.proofs.TextFragments.{says_then, says_stop}
 use Rattle.nit_top.proofs.say.events_name.Goals as goal
 
 pub returns-in_err-text : goal.returns-in_err-text

@@ -1,7 +1,7 @@
 use Rattle.std.proofs.Common.{arith, ◌<◌, List, length, subst}
 use Rattle.nit_config.specs.declared.config.Member.{Member}
-use Rattle.nit_top.specs.Work.{putting}
-use Rattle.nit_top.proofs.Texting.{one_more_text}
+use Rattle.nit_top.specs.Work.{put_state_of_run}
+use Rattle.nit_top.proofs.EventTexts.{one_more_text}
 use Rattle.nit_top.proofs.texts.put_events.Goals as goal
 
 pub overflow_cast-sid : goal.overflow_cast-sid
@@ -13,5 +13,5 @@ overflow_cast-sid g c =
 pub loop-sid-preserved : goal.loop-sid-preserved
 loop-sid-preserved g c =
     let shown = g.S.Store.shown in
-    one_more_text c.args.scene.now.config c.args.scene.now.entries c.args.clients.now c.loop-sid.sid c.index-clients-sid.result (putting (shown c.args.store.now) c.args.fault) (putting (shown c.loop-sid.store) c.loop-sid.fault) (putting (shown c.put_events_of-fault.new.store) c.put_events_of-fault.result)
+    one_more_text c.args.scene.now.config c.args.scene.now.entries c.args.clients.now c.loop-sid.sid c.index-clients-sid.result (put_state_of_run (shown c.args.store.now) c.args.fault) (put_state_of_run (shown c.loop-sid.store) c.loop-sid.fault) (put_state_of_run (shown c.put_events_of-fault.new.store) c.put_events_of-fault.result)
     c.requires c.loop-sid-test.true c.index-clients-sid.is c.loop-sid.invariant c.put_events_of-fault.ensures

@@ -2,8 +2,8 @@ use Rattle.std.proofs.Common.{map}
 use Rattle.std.specs.List.{range_with_len}
 use Rattle.nit_store.specs.Puts.{PutsAll}
 use Rattle.nit_top.specs.Outputs.{events_file}
-use Rattle.nit_top.specs.Work.{putting}
+use Rattle.nit_top.specs.Work.{put_state_of_run}
 use Rattle.nit_top.proofs.texts.put_events.Given as goal
 
 abbrev pub invariant-loop-sid : goal.invariant-loop-sid
-invariant-loop-sid g l = PutsAll (map (events_file l.scene.config l.scene.entries) (range_with_len 0 l.sid)) (putting (g.S.Store.shown l.initial.store) l.initial.fault) (putting (g.S.Store.shown l.store) l.fault)
+invariant-loop-sid g l = PutsAll (map (events_file l.scene.config l.scene.entries) (range_with_len 0 l.sid)) (put_state_of_run (g.S.Store.shown l.initial.store) l.initial.fault) (put_state_of_run (g.S.Store.shown l.store) l.fault)

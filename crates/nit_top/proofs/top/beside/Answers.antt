@@ -1,5 +1,5 @@
 use Rattle.std.proofs.Common.{true}
-use Rattle.nit_top.proofs.Setups.{config_stopped}
+use Rattle.nit_top.proofs.SetupLemmas.{config_stopped}
 use Rattle.nit_top.proofs.top.beside.Goals as goal
 
 pub returns-in-Err : goal.returns-in-Err

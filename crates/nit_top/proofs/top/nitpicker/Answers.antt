@@ -1,6 +1,6 @@
 use Rattle.std.proofs.Common.{sym, subst}
 use Rattle.nit_top.specs.Command.{Command}
-use Rattle.nit_top.specs.Ended.{Ended}
+use Rattle.nit_top.specs.CommandEnd.{Ended}
 use Rattle.nit_top.proofs.Causes.{causes}
 use Rattle.nit_top.proofs.top.nitpicker.Goals as goal
 

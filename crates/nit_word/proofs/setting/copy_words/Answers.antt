@@ -1,6 +1,6 @@
 use Rattle.std.proofs.Common.{◌≡◌, ◌∙◌, ℕ, List, length, min, ap, arith}
 use Rattle.std.specs.Prelude.{slice_index}
-use Rattle.nit_word.specs.Setting.{is_between, set_where}
+use Rattle.nit_word.specs.Updates.{is_between, set_where}
 use Rattle.nit_word.proofs.SideBySide.{none_copied, some_copied}
 use Rattle.nit_word.proofs.setting.copy_words.Goals as goal
 

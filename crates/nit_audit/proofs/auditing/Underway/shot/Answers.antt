@@ -1,6 +1,6 @@
 use Rattle.std.proofs.Common.{◌≡◌, ◌∙◌, ap, subst}
 use Rattle.nit_events.specs.declared.entry.Entry.TheVariants as entry
-use Rattle.nit_journal.specs.Whole.{Shoots}
+use Rattle.nit_journal.specs.WholeJournals.{Shoots}
 use Rattle.nit_audit.specs.Underway.{IsNext}
 use Rattle.nit_audit.specs.AuditReplay.{IsGone, IsReplayAnswer, UnderwayModel, ReplayModel}
 use Rattle.nit_audit.proofs.NextEntry.{done, follows_shot}

@@ -1,7 +1,7 @@
 use Rattle.std.proofs.Common.{◌≡◌, ◌∙◌, ap, sym, subst, not, List, ℕ, Some, None, find}
 use Rattle.std.specs.List.{insert}
 use Rattle.nit_stack.specs.declared.view.View.{View}
-use Rattle.nit_stack.specs.Labels.{is_view}
+use Rattle.nit_stack.specs.LabelPlaces.{is_view}
 use Rattle.nit_stack.specs.Orders.{moved, put_above}
 use Rattle.nit_audit.specs.Keys.{AllHaveViews, HasView, view_under, views_at}
 use Rattle.nit_audit.proofs.KeyLemmas.{all_filter, found_all, on_ok, raised, stays}

@@ -2,7 +2,7 @@ use Rattle.std.proofs.Common.{◌∙◌, ap, List}
 use Rattle.nit_stack.specs.declared.view.View.{View}
 use Rattle.nit_stack.specs.Orders.{put_front}
 use Rattle.nit_journal.specs.State.{layer}
-use Rattle.nit_journal.specs.Views.{new_view}
+use Rattle.nit_journal.specs.StackAfter.{new_view}
 use Rattle.nit_audit.specs.Keys.{views_at}
 use Rattle.nit_audit.proofs.KeyLemmas.{created_views, on_ok}
 use Rattle.nit_audit.proofs.views.Views.create.Goals as goal

@@ -1,7 +1,7 @@
 use Rattle.std.proofs.Common.{◌≡◌, ◌∙◌, ap, sym, subst, not, List, ℕ, Some, None, find}
 use Rattle.std.specs.List.{insert}
 use Rattle.nit_stack.specs.declared.view.View.{View}
-use Rattle.nit_stack.specs.Labels.{is_view}
+use Rattle.nit_stack.specs.LabelPlaces.{is_view}
 use Rattle.nit_stack.specs.Orders.{moved, put_front}
 use Rattle.nit_journal.specs.State.{layer}
 use Rattle.nit_audit.specs.Keys.{AllHaveViews, HasView, view_under, views_at}

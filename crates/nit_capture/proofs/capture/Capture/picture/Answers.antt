@@ -1,8 +1,8 @@
 use Rattle.std.proofs.Common.{arith, ◌≡◌, ◌*◌, ◌≤◌, ◌++◌, ◌∙◌, sym, ap, ap₂, subst, ℕ, List, length}
-use Rattle.nit_capture.specs.Cut.{Shows, cut, cut_bytes}
+use Rattle.nit_capture.specs.Crop.{Shows, crop, crop_bytes}
 use Rattle.nit_capture.specs.Capture.{CaptureModel, capture_of}
 use Rattle.nit_capture.specs.Film.{record_of}
-use Rattle.nit_capture.proofs.Cuts.{cut_shown, on_screen}
+use Rattle.nit_capture.proofs.CropLemmas.{cut_shown, on_screen}
 use Rattle.nit_capture.proofs.capture.Capture.picture.Goals as goal
 
 pub cut_into-requires-clause-bytes : goal.cut_into-requires-clause-bytes
@@ -22,13 +22,13 @@ returns-clause-made c =
     let inside = c.self.inside in
     let i = c.self.invariant in
     let on = on_screen inside.width inside.height inside.rect i.0.pixels i.0.inside in
-    subst (λ (f : CaptureModel). c.append_record.new.out.items ≡ c.args.out.now.items ++ record_of f.rect.w f.rect.h f.before (cut_bytes f.width f.height f.rect c.args.ppm.now)) c.self.view_is
+    subst (λ (f : CaptureModel). c.append_record.new.out.items ≡ c.args.out.now.items ++ record_of f.rect.w f.rect.h f.before (crop_bytes f.width f.height f.rect c.args.ppm.now)) c.self.view_is
     (
     let words = c.deref-2.ensures.value ∙ c.cut_into.ensures.value in
     let text = c.in_ok-append_record.ensures.ok in
     let sizes : record_of c.w.result c.h.result c.deref.result.now c.deref-2.result.now ≡ record_of inside.rect.w inside.rect.h c.deref.result.now c.deref-2.result.now =
     ap₂ (λ (w h : ℕ). record_of w h c.deref.result.now c.deref-2.result.now) c.w.ensures.value c.h.ensures.value in
-    let pictures : record_of inside.rect.w inside.rect.h c.deref.result.now c.deref-2.result.now ≡ record_of inside.rect.w inside.rect.h inside.before.items (cut_bytes inside.width inside.height inside.rect c.args.ppm.now) =
+    let pictures : record_of inside.rect.w inside.rect.h c.deref.result.now c.deref-2.result.now ≡ record_of inside.rect.w inside.rect.h inside.before.items (crop_bytes inside.width inside.height inside.rect c.args.ppm.now) =
     ap₂ (λ (a b : List ℕ). record_of inside.rect.w inside.rect.h a b) c.deref.ensures.value words in
     text ∙ ap (λ (l : List ℕ). c.args.out.now.items ++ l) (sizes ∙ pictures))
 
@@ -38,7 +38,7 @@ returns-clause-left c =
     let i = c.self.invariant in
     let on = on_screen inside.width inside.height inside.rect i.0.pixels i.0.inside in
     let now = c.swap.ensures.x_after in
-    subst (λ (f : CaptureModel). capture_of inside.width inside.height inside.rect c.swap.new.x.items ≡ record f { before = cut_bytes f.width f.height f.rect c.args.ppm.now }) c.self.view_is
+    subst (λ (f : CaptureModel). capture_of inside.width inside.height inside.rect c.swap.new.x.items ≡ record f { before = crop_bytes f.width f.height f.rect c.args.ppm.now }) c.self.view_is
     (ap (capture_of inside.width inside.height inside.rect) (ap (λ v. v.items) now ∙ c.cut_into.ensures.value))
 
 pub returns-clause-appended : goal.returns-clause-appended
@@ -46,13 +46,13 @@ returns-clause-appended c =
     let inside = c.self.inside in
     let i = c.self.invariant in
     let on = on_screen inside.width inside.height inside.rect i.0.pixels i.0.inside in
-    subst (λ (f : CaptureModel). (frame : List ℕ) → Shows f.width f.height c.args.ppm.now frame → c.append_record.new.out.items ≡ c.args.out.now.items ++ record_of f.rect.w f.rect.h f.before (cut f.width f.rect frame)) c.self.view_is
+    subst (λ (f : CaptureModel). (frame : List ℕ) → Shows f.width f.height c.args.ppm.now frame → c.append_record.new.out.items ≡ c.args.out.now.items ++ record_of f.rect.w f.rect.h f.before (crop f.width f.rect frame)) c.self.view_is
     (λ frame s.
     let words = c.deref-2.ensures.value ∙ c.cut_into.ensures.value ∙ cut_shown inside.width inside.height inside.rect c.args.ppm.now frame i.0.pixels on s in
     let text = c.in_ok-append_record.ensures.ok in
     let sizes : record_of c.w.result c.h.result c.deref.result.now c.deref-2.result.now ≡ record_of inside.rect.w inside.rect.h c.deref.result.now c.deref-2.result.now =
     ap₂ (λ (w h : ℕ). record_of w h c.deref.result.now c.deref-2.result.now) c.w.ensures.value c.h.ensures.value in
-    let pictures : record_of inside.rect.w inside.rect.h c.deref.result.now c.deref-2.result.now ≡ record_of inside.rect.w inside.rect.h inside.before.items (cut inside.width inside.rect frame) =
+    let pictures : record_of inside.rect.w inside.rect.h c.deref.result.now c.deref-2.result.now ≡ record_of inside.rect.w inside.rect.h inside.before.items (crop inside.width inside.rect frame) =
     ap₂ (λ (a b : List ℕ). record_of inside.rect.w inside.rect.h a b) c.deref.ensures.value words in
     text ∙ ap (λ (l : List ℕ). c.args.out.now.items ++ l) (sizes ∙ pictures))
 
@@ -62,5 +62,5 @@ returns-clause-kept c =
     let i = c.self.invariant in
     let on = on_screen inside.width inside.height inside.rect i.0.pixels i.0.inside in
     let now = c.swap.ensures.x_after in
-    subst (λ (f : CaptureModel). (frame : List ℕ) → Shows f.width f.height c.args.ppm.now frame → capture_of inside.width inside.height inside.rect c.swap.new.x.items ≡ record f { before = cut f.width f.rect frame }) c.self.view_is
+    subst (λ (f : CaptureModel). (frame : List ℕ) → Shows f.width f.height c.args.ppm.now frame → capture_of inside.width inside.height inside.rect c.swap.new.x.items ≡ record f { before = crop f.width f.rect frame }) c.self.view_is
     (λ frame s. ap (capture_of inside.width inside.height inside.rect) (ap (λ v. v.items) now ∙ c.cut_into.ensures.value ∙ cut_shown inside.width inside.height inside.rect c.args.ppm.now frame i.0.pixels on s))

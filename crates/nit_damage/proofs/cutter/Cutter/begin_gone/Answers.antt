@@ -3,8 +3,8 @@ use Rattle.std.proofs.lemmas.List.{take_all}
 use Rattle.nit_rect.specs.Rectangle.{covers}
 use Rattle.nit_stack.specs.declared.view.ViewRef.{ViewRef}
 use Rattle.nit_stack.specs.Sources.{in_bar}
-use Rattle.nit_stack.specs.Standing.{Seat}
-use Rattle.nit_damage.specs.Sets.{covered, in_front_of, once}
+use Rattle.nit_stack.specs.Stack.{SlotView}
+use Rattle.nit_damage.specs.Damage.{covered, in_front_of, once}
 use Rattle.nit_damage.proofs.cutter.Cutter.begin_gone.Goals as goal
 use Rattle.nit_damage.proofs.cutter.Cutter.begin_gone.Goals.{in-Some, in-None}
 
@@ -18,4 +18,4 @@ front c = elim c.match-at.branch [
 pub returns-clause-to_come : goal.returns-clause-to_come
 returns-clause-to_come c p on =
     c.begin_behind.ensures.to_come p on
-    ∙ ap (λ (l : List Seat). once (not (in_bar c.args.stack.now.bar p) && covers c.args.r p && not (covered l p))) (front c)
+    ∙ ap (λ (l : List SlotView). once (not (in_bar c.args.stack.now.bar p) && covers c.args.r p && not (covered l p))) (front c)

@@ -1,6 +1,6 @@
 use Rattle.std.proofs.Common.{◌≡◌, ◌≤◌, length, Some, None, false, true, ap, arith, sym, ◌∙◌, subst}
 use Rattle.nit_rect.specs.Rectangle.{Rectangle}
-use Rattle.nit_damage.specs.Cuts.{Cuts, Fits, FitsJobs}
+use Rattle.nit_damage.specs.Cutter.{CutterModel, FitsStack, FitsJobs}
 use Rattle.nit_damage.proofs.NextPiece.{IsNext, bar_next, below_next, next_came, next_fits, next_on_screen, next_owner, next_pixels, next_stands}
 use Rattle.nit_damage.proofs.cutter.Cutter.next.Goals as goal
 
@@ -8,9 +8,9 @@ use Rattle.nit_damage.proofs.cutter.Cutter.next.Goals as goal
 bar : (c : goal.After-bar_part) → IsNext c.args.stack.now c.args.self.now record { jobs = c.self.inside.jobs.items; from = c.self.inside.from; bar = false; room = c.self.inside.room }
     (Some record { rect = c.bar_part.result; owner = None })
 bar c =
-    let has_bar : c.args.self.now.bar ≡ true = ap (λ (d : Cuts). d.bar) (sym c.self.view_is) ∙ c.if-self.true in
+    let has_bar : c.args.self.now.bar ≡ true = ap (λ (d : CutterModel). d.bar) (sym c.self.view_is) ∙ c.if-self.true in
     let now = bar_next c.args.stack.now c.args.self.now c.requires has_bar c.bar_part.ensures.fits c.bar_part.ensures.screen in
-    subst (λ (d : Cuts). IsNext c.args.stack.now c.args.self.now (record d { bar = false }) (Some record { rect = c.bar_part.result; owner = None })) (sym c.self.view_is)
+    subst (λ (d : CutterModel). IsNext c.args.stack.now c.args.self.now (record d { bar = false }) (Some record { rect = c.bar_part.result; owner = None })) (sym c.self.view_is)
     (subst (λ (r : Rectangle). IsNext c.args.stack.now c.args.self.now (record c.args.self.now { bar = false }) (Some record { rect = r; owner = None })) (sym c.bar_part.ensures.value) now)
 
 pub returns-then-self-clause-fits : goal.returns-then-self-clause-fits
@@ -35,11 +35,11 @@ pub returns-then-self-clause-fewer : goal.returns-then-self-clause-fewer
 returns-then-self-clause-fewer c = (bar c).fewer
 
 pub next_cut-requires-clause-fits : goal.next_cut-requires-clause-fits
-next_cut-requires-clause-fits c = subst (λ (d : Cuts). FitsJobs c.args.stack.now d.jobs) (sym c.self.view_is) c.requires.jobs
+next_cut-requires-clause-fits c = subst (λ (d : CutterModel). FitsJobs c.args.stack.now d.jobs) (sym c.self.view_is) c.requires.jobs
 
 pub next_cut-requires-clause-room : goal.next_cut-requires-clause-room
 next_cut-requires-clause-room c =
-    let room : length c.args.stack.now.views ≤ c.self.inside.room = subst (λ (d : Cuts). length c.args.stack.now.views ≤ d.room) (sym c.self.view_is) c.requires.room in
+    let room : length c.args.stack.now.views ≤ c.self.inside.room = subst (λ (d : CutterModel). length c.args.stack.now.views ≤ d.room) (sym c.self.view_is) c.requires.room in
     let space = c.self.invariant in
     omega arith
 
@@ -47,10 +47,10 @@ next_cut-requires-clause-room c =
 below : (c : goal.After-next_cut) → IsNext c.args.stack.now c.args.self.now record { jobs = c.next_cut.new.jobs.items; from = c.self.inside.from; bar = c.self.inside.bar; room = c.self.inside.room }
     c.next_cut.result
 below c =
-    let old : Cuts = record { jobs = c.self.inside.jobs.items; from = c.self.inside.from; bar = c.self.inside.bar; room = c.self.inside.room } in
+    let old : CutterModel = record { jobs = c.self.inside.jobs.items; from = c.self.inside.from; bar = c.self.inside.bar; room = c.self.inside.room } in
     let e = c.next_cut.ensures in
-    subst (λ (d : Cuts). IsNext c.args.stack.now d (record old { jobs = c.next_cut.new.jobs.items }) c.next_cut.result) c.self.view_is
-    (below_next c.args.stack.now old c.next_cut.new.jobs.items c.next_cut.result (subst (λ (d : Cuts). Fits d c.args.stack.now) (sym c.self.view_is) c.requires) c.if-self.false e.fits e.count e.piece e.fewer)
+    subst (λ (d : CutterModel). IsNext c.args.stack.now d (record old { jobs = c.next_cut.new.jobs.items }) c.next_cut.result) c.self.view_is
+    (below_next c.args.stack.now old c.next_cut.new.jobs.items c.next_cut.result (subst (λ (d : CutterModel). FitsStack d c.args.stack.now) (sym c.self.view_is) c.requires) c.if-self.false e.fits e.count e.piece e.fewer)
 
 pub returns-clause-fits : goal.returns-clause-fits
 returns-clause-fits c = next_fits c.args.stack.now c.args.self.now _ _ (below c)

@@ -1,19 +1,19 @@
 use Rattle.std.proofs.Common.{◌≡◌, ◌<◌, sym, subst}
 use Rattle.std.proofs.lemmas.List.Elements.{All-same}
 use Rattle.nit_events.specs.Input.{deliveries_of}
-use Rattle.nit_focus.specs.Focusing.{Focusing, route}
+use Rattle.nit_focus.specs.Focus.{FocusModel, routing_at}
 use Rattle.nit_focus.specs.Outcome.{outcome}
 use Rattle.nit_focus.specs.Reach.{IsWithinReach, IsItem, IsForgottenIfKilled}
 use Rattle.nit_focus.proofs.Routes.{IsRouted, routed}
 use Rattle.nit_focus.proofs.focus.Focus.input.Goals as goal
 
 -- the value before, as its fields show it
-abbrev before : goal.After-routed → Focusing
+abbrev before : goal.After-routed → FocusModel
 before c = record { input = c.self.inside.state; width = c.self.inside.width; height = c.self.inside.height; clicks = c.self.inside.clicks }
 
 whole : (c : goal.After-routed) → IsRouted (before c) c.args.pointed (outcome c.route.new.self c.route.result)
 whole c =
-    let is : outcome c.route.new.self c.route.result ≡ route (before c) c.args.pointed c.args.dev = rw (c.clicks_on-clicks.ensures, c.move_pointer.ensures) at c.route.ensures in
+    let is : outcome c.route.new.self c.route.result ≡ routing_at (before c) c.args.pointed c.args.dev = rw (c.clicks_on-clicks.ensures, c.move_pointer.ensures) at c.route.ensures in
     subst (IsRouted (before c) c.args.pointed) (sym is) (routed (before c) c.args.pointed c.args.dev c.self.invariant c.requires.known c.requires.device)
 
 pub invariant_of-self : goal.invariant_of-self

@@ -1,5 +1,5 @@
 use Rattle.std.proofs.Common.{arith, length-append}
-use Rattle.nit_glyph.proofs.Glyphs.{joined_has_glyphs}
+use Rattle.nit_glyph.proofs.GlyphTexts.{joined_has_glyphs}
 use Rattle.nit_glyph.proofs.text.LabelText.append.Goals as goal
 
 pub invariant_of-self : goal.invariant_of-self

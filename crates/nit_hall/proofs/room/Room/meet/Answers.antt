@@ -1,4 +1,4 @@
-use Rattle.nit_hall.proofs.Serving.{pass_met}
+use Rattle.nit_hall.proofs.ServedCalls.{pass_met}
 use Rattle.nit_hall.proofs.room.Room.meet.Goals as goal
 
 pub invariant_of-pass : goal.invariant_of-pass

@@ -1,8 +1,8 @@
 use Rattle.std.proofs.Common.{◌∙◌, ap, length, arith}
 use Rattle.nit_word.proofs.ForCallers.{length-zeros}
 use Rattle.nit_pixels.specs.declared.steps.Identity.{Identity}
-use Rattle.nit_pixels.specs.Ends.{new_sight}
-use Rattle.nit_pixels.proofs.Keeps.{opens}
+use Rattle.nit_pixels.specs.End.{new_sight}
+use Rattle.nit_pixels.proofs.PixelRuleLemmas.{opens}
 use Rattle.nit_pixels.proofs.NewTables.{first_sight, first_owns}
 use Rattle.nit_pixels.proofs.buffer.PixelBuffer.new.Goals as goal
 

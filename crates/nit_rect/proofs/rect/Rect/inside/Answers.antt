@@ -1,5 +1,5 @@
 use Rattle.std.proofs.Common.{◌≡◌, true, false, eq-eqb, sym, ◌∙◌}
-use Rattle.nit_rect.specs.Meeting.{HasPixels}
+use Rattle.nit_rect.specs.Intersection.{HasPixels}
 use Rattle.nit_rect.proofs.Sets.{is_run_within, none_lie, no_pixels, pixels_of, lies_across, lies_down, tests_lie}
 use Rattle.nit_rect.proofs.rect.Rect.inside.Goals as goal
 

@@ -4,17 +4,17 @@ use Rattle.nit_events.specs.declared.device.Mode.{Mode}
 use Rattle.nit_stack.specs.Sources.{pixel}
 use Rattle.nit_word.specs.Sight.{Sight}
 use Rattle.nit_paint.proofs.ForCallers.{nothing_set}
-use Rattle.nit_overlay.specs.Looks.{draws_labels}
-use Rattle.nit_paint.specs.Painting.{no_sight}
+use Rattle.nit_overlay.specs.Look.{draws_labels}
+use Rattle.nit_paint.specs.Repaint.{no_sight}
 use Rattle.nit_scene.specs.CallKinds.{IsClean}
 use Rattle.std.proofs.lemmas.Bool.{false≢true}
-use Rattle.nit_scene.specs.Kept.{IsFrameOf, kept_frame, raw_of}
-use Rattle.nit_scene.specs.Serving.{state_of}
+use Rattle.nit_scene.specs.Pixels.{IsFrameOf, kept_frame, raw_of}
+use Rattle.nit_scene.specs.Server.{state_of}
 use Rattle.nit_scene.proofs.OneList.{by_mode, raw_long}
 use Rattle.nit_scene.proofs.QuietCalls.{clean_call, clean_painted}
 use Rattle.nit_scene.proofs.StackRoom.{same_most}
-use Rattle.nit_scene.proofs.Keeps.{can_still, kept_served}
-use Rattle.nit_scene.proofs.Screens.{same_config}
+use Rattle.nit_scene.proofs.KeptFrames.{can_still, kept_served}
+use Rattle.nit_scene.proofs.ScreenLemmas.{same_config}
 use Rattle.nit_scene.proofs.screen.calls.serve_clean.Goals as goal
 
 pub show_views-requires-clause-can : goal.show_views-requires-clause-can

@@ -1,14 +1,14 @@
 use Rattle.std.proofs.Common.{length, refl, ap, sym, subst, ◌∙◌}
 use Rattle.std.specs.Prelude.{IsTrue}
 use Rattle.nit_events.specs.declared.device.Mode.{Mode}
-use Rattle.nit_overlay.specs.Looks.{draws_labels}
-use Rattle.nit_scene.specs.Kept.{raw_of}
-use Rattle.nit_overlay.specs.Shown.{Scenery, frame}
-use Rattle.nit_scene.specs.Serving.{state_of}
+use Rattle.nit_overlay.specs.Look.{draws_labels}
+use Rattle.nit_scene.specs.Pixels.{raw_of}
+use Rattle.nit_overlay.specs.Frame.{Scenery, frame}
+use Rattle.nit_scene.specs.Server.{state_of}
 use Rattle.nit_scene.proofs.QuietCalls.{quiet_painted}
 use Rattle.nit_scene.proofs.StackRoom.{same_most}
-use Rattle.nit_scene.proofs.Keeps.{can_still, quiet_scenery}
-use Rattle.nit_scene.proofs.Screens.{same_config}
+use Rattle.nit_scene.proofs.KeptFrames.{can_still, quiet_scenery}
+use Rattle.nit_scene.proofs.ScreenLemmas.{same_config}
 use Rattle.nit_scene.proofs.screen.calls.serve_quiet.Goals as goal
 
 pub returns-clause-pixels : goal.returns-clause-pixels

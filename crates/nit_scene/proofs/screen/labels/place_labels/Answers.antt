@@ -1,5 +1,5 @@
 use Rattle.std.proofs.Common.{length, arith}
-use Rattle.nit_scene.proofs.Labelled.{all_labelled, labelled_more, slot_within}
+use Rattle.nit_scene.proofs.LabelSlotLemmas.{all_labelled, labelled_more, slot_within}
 use Rattle.nit_scene.proofs.screen.labels.place_labels.Goals as goal
 
 pub bounds-places-slot : goal.bounds-places-slot

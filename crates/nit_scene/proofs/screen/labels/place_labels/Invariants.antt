@@ -1,5 +1,5 @@
 use Rattle.std.proofs.Common.{length}
-use Rattle.nit_scene.proofs.Labelled.{LabelledSoFar}
+use Rattle.nit_scene.proofs.LabelSlotLemmas.{LabelledSoFar}
 use Rattle.nit_scene.proofs.screen.labels.place_labels.Given as goal
 
 abbrev pub invariant-views : goal.invariant-views

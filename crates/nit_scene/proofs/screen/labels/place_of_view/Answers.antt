@@ -1,7 +1,7 @@
 use Rattle.std.proofs.Common.{[], length, ap, sym, ◌∙◌, arith}
 use Rattle.std.proofs.lemmas.List.{get_or_read}
-use Rattle.nit_stack.specs.Standing.{IsSeat, Seat}
-use Rattle.nit_scene.proofs.Labelled.{holds_at, own_label}
+use Rattle.nit_stack.specs.Stack.{IsSlotView, SlotView}
+use Rattle.nit_scene.proofs.LabelSlotLemmas.{holds_at, own_label}
 use Rattle.nit_scene.proofs.screen.labels.place_of_view.Goals as goal
 
 pub returns : goal.returns
@@ -10,9 +10,9 @@ returns c =
     let S = c.args.stack.now in
     let labels = c.args.labels.now in
     let e = c.view-view.ensures in
-    let a : Seat = record { slot = c.at-v.result.0; view = c.view-view.result } in
+    let a : SlotView = record { slot = c.at-v.result.0; view = c.view-view.result } in
     let seat = e.place c.args.i c.at-v.ensures.place in
-    let session = (holds_at (IsSeat S.most (length S.sizes)) S.views c.args.i a e.standing.seats seat).session in
+    let session = (holds_at (IsSlotView S.most (length S.sizes)) S.views c.args.i a e.standing.seats seat).session in
     let label = get_or_read labels c.view-view.result.sid c.index-labels-view.result (omega arith) c.index-labels-view.is [] in
     own_label S labels a s c.index-labels-view.result c.label_text-text.result (length c.as_bytes.result.now) c.label_size-width.result c.place_label.result
     (sym seat ∙ at) label c.label_text-text.ensures (ap length c.as_bytes.ensures.bytes) c.label_size-width.ensures (c.place_label.ensures.place a e.value)

@@ -1,10 +1,10 @@
 use Rattle.std.proofs.Common.{◌≡◌, ◌≤◌, ◌*◌, ℕ, List, drop, length, map, true, ap, sym, ◌∙◌, subst, arith}
 use Rattle.nit_word.specs.Sight.{Sight}
-use Rattle.nit_stack.specs.Standing.{Standing}
-use Rattle.nit_paint.specs.Painting.{Repainted}
-use Rattle.nit_paint.specs.Pieces.{source_at}
+use Rattle.nit_stack.specs.Stack.{StackModel}
+use Rattle.nit_paint.specs.Repaint.{Repainted}
+use Rattle.nit_paint.specs.Pieces.{source_of_number}
 use Rattle.nit_repaint.specs.Glasses.{HoldBuffers}
-use Rattle.nit_scene.specs.Painted.{glass_in}
+use Rattle.nit_scene.specs.RawWords.{glass_in}
 use Rattle.nit_scene.proofs.StackRoom.{few_views}
 use Rattle.nit_scene.proofs.SessionViews.{handed_on}
 use Rattle.nit_scene.proofs.Lists.{put_back_whole}
@@ -13,18 +13,18 @@ use Rattle.nit_scene.proofs.screen.last.load_whole.Goals as goal
 pub paint_whole-requires-clause-room : goal.paint_whole-requires-clause-room
 paint_whole-requires-clause-room g c =
     let few = few_views c.args.server.now.stack c.stack.ensures.facts.standing in
-    subst (λ (s : Standing). length s.views ≤ c.args.cutter.now.room) (sym c.stack.ensures.stack) (omega (arith, few, c.requires.room))
+    subst (λ (s : StackModel). length s.views ≤ c.args.cutter.now.room) (sym c.stack.ensures.stack) (omega (arith, few, c.requires.room))
 
 pub paint_whole-requires-clause-pixels : goal.paint_whole-requires-clause-pixels
 paint_whole-requires-clause-pixels g c =
-    ap length c.as_mut_slice.ensures.value ∙ c.requires.pixels ∙ (λ i. sym c.stack.ensures.facts.screen.0 i * sym c.stack.ensures.facts.screen.1 i) ∙ ap (λ (s : Standing). s.width * s.height) (sym c.stack.ensures.stack)
+    ap length c.as_mut_slice.ensures.value ∙ c.requires.pixels ∙ (λ i. sym c.stack.ensures.facts.screen.0 i * sym c.stack.ensures.facts.screen.1 i) ∙ ap (λ (s : StackModel). s.width * s.height) (sym c.stack.ensures.stack)
 
 pub paint_whole-requires-clause-held : goal.paint_whole-requires-clause-held
-paint_whole-requires-clause-held g c = subst (λ (s : Standing). HoldBuffers s (length c.args.owns.now) (glass_in (map g.C.Glass.sight c.args.owns.now))) (sym c.stack.ensures.stack) c.requires.held
+paint_whole-requires-clause-held g c = subst (λ (s : StackModel). HoldBuffers s (length c.args.owns.now) (glass_in (map g.C.Glass.sight c.args.owns.now))) (sym c.stack.ensures.stack) c.requires.held
 
 pub returns-clause-painted : goal.returns-clause-painted
 returns-clause-painted g c =
     let same_words : length c.paint_whole.new.raw ≡ c.args.raw.now.len = omega (arith, c.paint_whole.ensures.count, c.as_mut_slice.ensures.len) in
-    handed_on (λ (s : Standing) (n : ℕ) (a b : ℕ → Sight) (raw raw' : List ℕ). Repainted (source_at s) (λ (k : ℕ). true) n a b raw raw')
+    handed_on (λ (s : StackModel) (n : ℕ) (a b : ℕ → Sight) (raw raw' : List ℕ). Repainted (source_of_number s) (λ (k : ℕ). true) n a b raw raw')
     _ _ _ _ (glass_in (map g.C.Glass.sight c.args.owns.now)) _ (glass_in (map g.C.Glass.sight c.paint_whole.new.owns)) _ _ _ _ _ c.stack.ensures.stack (ap length c.as_mut_slice.ensures.value) (λ i. glass_in (map g.C.Glass.sight c.args.owns.now)) (λ i. glass_in (map g.C.Glass.sight c.paint_whole.new.owns))
     c.as_mut_slice.ensures.value (put_back_whole c.args.raw.now.len c.paint_whole.new.raw (drop (length c.paint_whole.new.raw) c.args.raw.now.items) same_words) c.paint_whole.ensures.painted

@@ -1,5 +1,5 @@
 use Rattle.std.proofs.Common.{◌<◌, ap, length, sym, ◌∙◌, arith}
-use Rattle.nit_overlay.specs.Looks.{draws_labels}
+use Rattle.nit_overlay.specs.Look.{draws_labels}
 use Rattle.nit_scene.proofs.OneList.{made_one}
 use Rattle.nit_scene.proofs.screen.lists.join.Goals as goal
 

@@ -1,14 +1,14 @@
 use Rattle.std.proofs.Common.{◌≤◌, ap, length, sym, subst, ◌∙◌, arith}
-use Rattle.nit_stack.specs.Names.{views_of}
-use Rattle.nit_stack.specs.Standing.{Standing}
+use Rattle.nit_stack.specs.ViewNames.{views_of}
+use Rattle.nit_stack.specs.Stack.{StackModel}
 use Rattle.nit_scene.proofs.StackRoom.{few_views}
-use Rattle.nit_scene.proofs.Keeps.{part_shown}
+use Rattle.nit_scene.proofs.KeptFrames.{part_shown}
 use Rattle.nit_scene.proofs.screen.pixels.part_of.Goals as goal
 
 pub show_session-requires-clause-room : goal.show_session-requires-clause-room
 show_session-requires-clause-room c =
     let few = few_views c.args.server.now.stack c.facts.ensures.standing in
-    subst (λ (s : Standing). length s.views ≤ c.args.cutter.now.room) (sym c.stack-2.ensures.stack) (omega (arith, few, c.requires.room))
+    subst (λ (s : StackModel). length s.views ≤ c.args.cutter.now.room) (sym c.stack-2.ensures.stack) (omega (arith, few, c.requires.room))
 
 pub returns-clause-shown : goal.returns-clause-shown
 returns-clause-shown c =
@@ -16,9 +16,9 @@ returns-clause-shown c =
     let screen = c.facts.ensures.screen in
     part_shown c.args.server.now c.stack-2.result.now _ c.args.of c.args.part.now c.args.raw.now c.args.out.now c.show_session.new.frame is
     (λ i. record {
-      width = (ap (λ (s : Standing). s.width) is ∙ screen.0) i;
-      height = (ap (λ (s : Standing). s.height) is ∙ screen.1) i;
-      bar = (ap (λ (s : Standing). s.bar) is ∙ screen.2) i;
+      width = (ap (λ (s : StackModel). s.width) is ∙ screen.0) i;
+      height = (ap (λ (s : StackModel). s.height) is ∙ screen.1) i;
+      bar = (ap (λ (s : StackModel). s.bar) is ∙ screen.2) i;
       stack = views_of (is i).views;
       labels = c.requires.named i;
       mode = c.mode-mode.ensures i;

@@ -1,11 +1,11 @@
 use Rattle.std.proofs.Common.{◌≡◌, ◌<◌, ◌++◌, ℕ, List, Bool, cond, drop, length, take, sym, ap, ◌∙◌, arith}
 use Rattle.std.specs.Prelude.{slice_index}
 use Rattle.nit_stack.specs.Sources.{in_bar, pixel}
-use Rattle.nit_overlay.specs.Shown.{shown}
-use Rattle.nit_scene.specs.Played.{scenery_of}
-use Rattle.nit_scene.specs.Serving.{state_of}
+use Rattle.nit_overlay.specs.Frame.{shown}
+use Rattle.nit_scene.specs.Scene.{scenery_of}
+use Rattle.nit_scene.specs.Server.{state_of}
 use Rattle.nit_scene.proofs.Lists.{put_back_whole}
-use Rattle.nit_scene.proofs.Keeps.{bar_covered}
+use Rattle.nit_scene.proofs.KeptFrames.{bar_covered}
 use Rattle.nit_scene.proofs.OneList.{bar_again}
 use Rattle.nit_scene.proofs.screen.pixels.redraw_bar.Goals as goal
 

@@ -4,22 +4,22 @@ use Rattle.std.specs.Prelude.{IsTrue}
 use Rattle.nit_events.specs.declared.device.Mode.{Mode}
 use Rattle.nit_stack.specs.Sources.{pixel}
 use Rattle.nit_paint.proofs.ForCallers.{repainted_words}
-use Rattle.nit_repaint.specs.Parts.{wanted}
-use Rattle.nit_overlay.specs.Looks.{draws_labels}
+use Rattle.nit_repaint.specs.WantedPixels.{wanted}
+use Rattle.nit_overlay.specs.Look.{draws_labels}
 use Rattle.nit_scene.specs.CallKinds.{IsPartOf}
 use Rattle.nit_repaint.specs.Glasses.{glasses_of_call}
 use Rattle.std.proofs.lemmas.Bool.{false≢true}
 use Rattle.nit_events.specs.declared.call.Call.TheVariants.{Close}
 use Rattle.nit_events.specs.declared.entry.Entry.TheVariants as entry
-use Rattle.nit_overlay.specs.Shown.{frame}
-use Rattle.nit_scene.specs.Kept.{IsFrameOf, raw_in}
-use Rattle.nit_scene.specs.Played.{scenery_of}
-use Rattle.nit_scene.specs.Serving.{state_of}
-use Rattle.nit_scene.proofs.Keeps.{can_still, kept_part}
+use Rattle.nit_overlay.specs.Frame.{frame}
+use Rattle.nit_scene.specs.Pixels.{IsFrameOf, raw_in}
+use Rattle.nit_scene.specs.Scene.{scenery_of}
+use Rattle.nit_scene.specs.Server.{state_of}
+use Rattle.nit_scene.proofs.KeptFrames.{can_still, kept_part}
 use Rattle.nit_scene.proofs.OneList.{bar_kept, by_mode, entry_painted_in, flat_kept, mode_stays}
 use Rattle.nit_scene.proofs.SessionViews.{dirty_by_views, painted_by_views}
 use Rattle.nit_scene.proofs.StackRoom.{few_views, same_most}
-use Rattle.nit_scene.proofs.Screens.{held_by_glasses, same_config}
+use Rattle.nit_scene.proofs.ScreenLemmas.{held_by_glasses, same_config}
 use Rattle.nit_scene.proofs.screen.sessions.change_buffer.Goals as goal
 
 pub paint_views-requires-clause-room : goal.paint_views-requires-clause-room

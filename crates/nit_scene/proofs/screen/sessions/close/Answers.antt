@@ -1,14 +1,14 @@
 use Rattle.std.proofs.Common.{length, map, refl, sym, ap, subst}
 use Rattle.nit_events.specs.declared.call.Call.TheVariants as call
 use Rattle.nit_events.specs.declared.call.Reply.TheVariants as reply
-use Rattle.nit_scene.specs.Serving.{IsServed, Serving, state_of}
+use Rattle.nit_scene.specs.Server.{IsServed, ServerModel, state_of}
 use Rattle.nit_paint.proofs.ForCallers.{repainted_words}
 use Rattle.nit_scene.proofs.SessionEnds.{close_painted}
-use Rattle.nit_scene.proofs.Goings.{closed}
+use Rattle.nit_scene.proofs.ViewsGone.{closed}
 use Rattle.nit_events.specs.declared.entry.Entry.TheVariants as entry
-use Rattle.nit_scene.proofs.Keeps.{can_still}
+use Rattle.nit_scene.proofs.KeptFrames.{can_still}
 use Rattle.nit_scene.proofs.OneList.{bar_kept, entry_painted_in}
-use Rattle.nit_scene.proofs.Screens.{held_by_glasses}
+use Rattle.nit_scene.proofs.ScreenLemmas.{held_by_glasses}
 use Rattle.nit_scene.proofs.screen.sessions.close.Goals as goal
 
 pub end_session-requires-clause-held : goal.end_session-requires-clause-held
@@ -18,7 +18,7 @@ end_session-requires-clause-held g c =
 
 pub returns-clause-served : goal.returns-clause-served
 returns-clause-served g c =
-    subst (λ (s : Serving). IsServed c.args.sid (call.Close) reply.Done c.args.server.now s) (sym c.end_session.ensures.server) (closed c.args.server.now c.args.sid c.requires.accepted)
+    subst (λ (s : ServerModel). IsServed c.args.sid (call.Close) reply.Done c.args.server.now s) (sym c.end_session.ensures.server) (closed c.args.server.now c.args.sid c.requires.accepted)
 
 pub redraw-requires : goal.redraw-requires
 redraw-requires g c =
@@ -29,7 +29,7 @@ redraw-requires g c =
     let e = c.end_session.ensures in
     record {
       can = can_still s s' p.raw.items raw' p.frame.items p.cutter.room c.end_session.new.cutter.room p.labels.items (length p.places.items) p.bar
-          (ap (λ (t : Serving). t.config) e.server) (ap (λ (t : Serving). t.stack.most) e.server) e.count (repainted_words _ _ _ _ _ p.raw.items raw' e.count e.painted c.requires.pixels.0.words) e.room c.requires.pixels.0;
+          (ap (λ (t : ServerModel). t.config) e.server) (ap (λ (t : ServerModel). t.stack.most) e.server) e.count (repainted_words _ _ _ _ _ p.raw.items raw' e.count e.painted c.requires.pixels.0.words) e.room c.requires.pixels.0;
     }
 
 pub returns-clause-painted : goal.returns-clause-painted
@@ -37,5 +37,5 @@ returns-clause-painted g c =
     let s = c.args.server.now in
     let s' = c.end_session.new.server in
     let p = c.args.pixels.now in
-    rw c.redraw.ensures.raw (entry_painted_in p.is_apart p.bar (state_of s) (entry.Call c.args.sid call.Close reply.Done) (state_of s') _ _ p.raw.items c.end_session.new.raw.items (bar_kept s s' p.bar (ap (λ (t : Serving). t.config) c.end_session.ensures.server) c.requires.pixels.0.bar)
+    rw c.redraw.ensures.raw (entry_painted_in p.is_apart p.bar (state_of s) (entry.Call c.args.sid call.Close reply.Done) (state_of s') _ _ p.raw.items c.end_session.new.raw.items (bar_kept s s' p.bar (ap (λ (t : ServerModel). t.config) c.end_session.ensures.server) c.requires.pixels.0.bar)
     (close_painted s s' c.args.sid _ _ p.raw.items c.end_session.new.raw.items c.end_session.ensures.painted))

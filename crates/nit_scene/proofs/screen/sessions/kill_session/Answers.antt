@@ -1,13 +1,13 @@
 use Rattle.std.proofs.Common.{◌≡◌, ℕ, ◌<◌, ◌≤◌, length, map, ap, subst, sym, ◌∙◌, arith}
 use Rattle.std.proofs.lemmas.List.{length-map}
 use Rattle.nit_repaint.proofs.ForCallers.{held_by_all}
-use Rattle.nit_scene.specs.Painted.{glass_in}
+use Rattle.nit_scene.specs.RawWords.{glass_in}
 use Rattle.nit_paint.proofs.ForCallers.{repainted_words}
-use Rattle.nit_scene.specs.Serving.{Serving, state_of}
+use Rattle.nit_scene.specs.Server.{ServerModel, state_of}
 use Rattle.nit_scene.proofs.SessionEnds.{nobody_ends}
-use Rattle.nit_scene.proofs.Keeps.{can_still}
+use Rattle.nit_scene.proofs.KeptFrames.{can_still}
 use Rattle.nit_scene.proofs.OneList.{bar_is_bare, bar_kept, painted_in}
-use Rattle.nit_scene.proofs.Screens.{holds}
+use Rattle.nit_scene.proofs.ScreenLemmas.{holds}
 use Rattle.nit_scene.proofs.screen.sessions.kill_session.Goals as goal
 
 pub end_session-requires-clause-held : goal.end_session-requires-clause-held
@@ -26,7 +26,7 @@ redraw-requires g c =
     let e = c.end_session.ensures in
     record {
       can = can_still s s' p.raw.items raw' p.frame.items p.cutter.room c.end_session.new.cutter.room p.labels.items (length p.places.items) p.bar
-          (ap (λ (t : Serving). t.config) e.server) (ap (λ (t : Serving). t.stack.most) e.server) e.count (repainted_words _ _ _ _ _ p.raw.items raw' e.count e.painted c.requires.can.words) e.room c.requires.can;
+          (ap (λ (t : ServerModel). t.config) e.server) (ap (λ (t : ServerModel). t.stack.most) e.server) e.count (repainted_words _ _ _ _ _ p.raw.items raw' e.count e.painted c.requires.can.words) e.room c.requires.can;
     }
 
 pub returns-clause-painted : goal.returns-clause-painted
@@ -37,5 +37,5 @@ returns-clause-painted g c =
     let same_ : length gs' ≡ length gs = sym (length-map gs' g.G.Glass.rest) ∙ ap length c.end_session.ensures.rests ∙ length-map gs g.G.Glass.rest in
     let p = c.args.pixels.now in
     let s' = c.end_session.new.server in
-    rw c.redraw.ensures.raw (painted_in p.is_apart _ _ _ p.bar _ _ p.raw.items c.end_session.new.raw.items (λ k l. bar_is_bare (state_of s') k (subst (λ (n : ℕ). k < n) (bar_kept c.args.server.now s' p.bar (ap (λ (t : Serving). t.config) c.end_session.ensures.server) c.requires.can.bar) l))
+    rw c.redraw.ensures.raw (painted_in p.is_apart _ _ _ p.bar _ _ p.raw.items c.end_session.new.raw.items (λ k l. bar_is_bare (state_of s') k (subst (λ (n : ℕ). k < n) (bar_kept c.args.server.now s' p.bar (ap (λ (t : ServerModel). t.config) c.end_session.ensures.server) c.requires.can.bar) l))
     (nobody_ends g.G.Glass.sight _ _ _ c.len-nobody.result gs gs' p.raw.items c.end_session.new.raw.items many (omega (arith, many, same_)) c.end_session.ensures.painted))

@@ -4,19 +4,19 @@ use Rattle.std.specs.Prelude.{IsTrue}
 use Rattle.nit_events.specs.declared.device.Mode.{Mode}
 use Rattle.nit_stack.specs.Sources.{pixel}
 use Rattle.nit_paint.proofs.ForCallers.{repainted_words}
-use Rattle.nit_repaint.specs.OneView.{IsChange, slot_owns_either}
-use Rattle.nit_overlay.specs.Looks.{draws_labels}
+use Rattle.nit_repaint.specs.ViewChange.{IsViewChange, slot_owns_either}
+use Rattle.nit_overlay.specs.Look.{draws_labels}
 use Rattle.nit_scene.specs.CallKinds.{IsOn}
 use Rattle.nit_repaint.specs.Glasses.{glasses_of_call}
 use Rattle.nit_events.specs.declared.entry.Entry.TheVariants as entry
 use Rattle.std.proofs.lemmas.Bool.{false≢true}
-use Rattle.nit_scene.specs.Kept.{IsFrameOf}
-use Rattle.nit_scene.specs.Serving.{state_of}
-use Rattle.nit_scene.proofs.Keeps.{can_still}
+use Rattle.nit_scene.specs.Pixels.{IsFrameOf}
+use Rattle.nit_scene.specs.Server.{state_of}
+use Rattle.nit_scene.proofs.KeptFrames.{can_still}
 use Rattle.nit_scene.proofs.OneList.{bar_kept, by_mode, entry_painted_in, flat_kept}
-use Rattle.nit_scene.proofs.Changed.{change_stood, dirty_by_change, named_stands, painted_by_change}
+use Rattle.nit_scene.proofs.OneViewChanges.{change_stood, dirty_by_change, named_stands, painted_by_change}
 use Rattle.nit_scene.proofs.StackRoom.{few_views, same_most}
-use Rattle.nit_scene.proofs.Screens.{held_by_glasses, same_config}
+use Rattle.nit_scene.proofs.ScreenLemmas.{held_by_glasses, same_config}
 use Rattle.nit_scene.proofs.screen.views.change_view.Goals as goal
 
 pub stood-place-requires : goal.stood-place-requires
@@ -46,7 +46,7 @@ show_views-requires-clause-can g c =
     let s' = c.accept-reply.new.self in
     let p = c.args.pixels.now in
     let raw' = c.paint_change.new.raw.items in
-    let change : IsChange c.slot-v.result.0 c.stood-place.result.0 c.stood-place.result.1 s.stack s'.stack =
+    let change : IsViewChange c.slot-v.result.0 c.stood-place.result.0 c.stood-place.result.1 s.stack s'.stack =
     change_stood s s' c.args.sid c.args.handle c.slot-v.result.0 c.args.call.now c.accept-reply.result c.stood-place.result.0 c.stood-place.result.1 c.facts.ensures c.facts-2.ensures c.requires.accepted c.accept-reply.ensures c.requires.on c.slot-v.ensures
     c.stood-place.ensures.place c.stood-place.ensures.seat in
     can_still s s' p.raw.items raw' p.frame.items p.cutter.room c.paint_change.new.cutter.room p.labels.items (length p.places.items) p.bar
@@ -64,7 +64,7 @@ returns-clause-pixels g c =
     let p' = c.show_views.new.pixels in
     let v = c.slot-v.result in
     let e = c.show_views.ensures in
-    let change : IsChange c.slot-v.result.0 c.stood-place.result.0 c.stood-place.result.1 s.stack s'.stack =
+    let change : IsViewChange c.slot-v.result.0 c.stood-place.result.0 c.stood-place.result.1 s.stack s'.stack =
     change_stood s s' c.args.sid c.args.handle c.slot-v.result.0 c.args.call.now c.accept-reply.result c.stood-place.result.0 c.stood-place.result.1 c.facts.ensures c.facts-2.ensures c.requires.accepted c.accept-reply.ensures c.requires.on c.slot-v.ensures
     c.stood-place.ensures.place c.stood-place.ensures.seat in
     let painted = painted_by_change s s' c.args.sid c.args.handle v c.args.call.now c.accept-reply.result c.facts.ensures c.facts-2.ensures c.requires.accepted c.accept-reply.ensures c.requires.on c.slot-v.ensures
@@ -87,7 +87,7 @@ pub returns-clause-painted : goal.returns-clause-painted
 returns-clause-painted g c =
     let s = c.args.server.now in
     let s' = c.accept-reply.new.self in
-    let change : IsChange c.slot-v.result.0 c.stood-place.result.0 c.stood-place.result.1 s.stack s'.stack =
+    let change : IsViewChange c.slot-v.result.0 c.stood-place.result.0 c.stood-place.result.1 s.stack s'.stack =
     change_stood s s' c.args.sid c.args.handle c.slot-v.result.0 c.args.call.now c.accept-reply.result c.stood-place.result.0 c.stood-place.result.1 c.facts.ensures c.facts-2.ensures c.requires.accepted c.accept-reply.ensures c.requires.on c.slot-v.ensures
     c.stood-place.ensures.place c.stood-place.ensures.seat in
     let bar_ = bar_kept s s' c.args.pixels.now.bar (same_config c.args.sid c.args.call.now c.accept-reply.result s s' c.accept-reply.ensures) c.requires.pixels.0.bar in

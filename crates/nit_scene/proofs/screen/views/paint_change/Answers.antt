@@ -1,6 +1,6 @@
 use Rattle.std.proofs.Common.{◌≡◌, ap, drop, length, map, arith}
 use Rattle.nit_repaint.specs.Glasses.{glasses_of_call}
-use Rattle.nit_scene.proofs.Changed.{handed}
+use Rattle.nit_scene.proofs.OneViewChanges.{handed}
 use Rattle.nit_scene.proofs.Lists.{put_back_whole}
 use Rattle.nit_scene.proofs.screen.views.paint_change.Goals as goal
 

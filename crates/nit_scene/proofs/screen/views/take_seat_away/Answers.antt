@@ -1,13 +1,13 @@
 use Rattle.std.proofs.Common.{ℕ, refl, ap, sym, ◌∙◌, subst}
-use Rattle.nit_stack.specs.Names.{IsNamedBy}
+use Rattle.nit_stack.specs.ViewNames.{IsNamedBy}
 use Rattle.nit_stack.specs.Sources.{pixel}
-use Rattle.nit_repaint.specs.OneView.{IsChange}
-use Rattle.nit_repaint.specs.Uncovered.{uncovered}
+use Rattle.nit_repaint.specs.ViewChange.{IsViewChange}
+use Rattle.nit_repaint.specs.ViewRemoval.{uncovered}
 use Rattle.nit_stack.proofs.ForCallers.{place_is}
 use Rattle.nit_repaint.proofs.ForCallers.{gone_change, gone_painted, gone_room, goes, goes_painted, stays, stays_clean, seat_here}
-use Rattle.nit_scene.specs.Seating.{without_views}
-use Rattle.nit_scene.proofs.Changed.{gone_by_slot}
-use Rattle.nit_scene.proofs.Goings.{one_less}
+use Rattle.nit_scene.specs.ViewsTaken.{without_views}
+use Rattle.nit_scene.proofs.OneViewChanges.{gone_by_slot}
+use Rattle.nit_scene.proofs.ViewsGone.{one_less}
 use Rattle.nit_scene.proofs.screen.views.take_seat_away.Goals as goal
 
 pub returns-then-view-of-clause-taken : goal.returns-then-view-of-clause-taken
@@ -47,6 +47,6 @@ returns-clause-painted g c =
     let by : IsNamedBy k c.args.of view.handle s.stack.views = subst (λ (t : ℕ). IsNamedBy k t view.handle s.stack.views) c.if-view-of.false c.seated-view.ensures.named in
     let now = gone_by_slot s s' c.args.of view.handle k by c.remove_view.ensures in
     let at = c.seated-view.ensures.place in
-    let change : IsChange k c.args.i view.rect s.stack s'.stack = gone_change s.stack s'.stack k c.args.i view by.slots (seat_here s.stack.views c.args.i _ by.slots at) (sym (place_is s.stack.views c.args.i _ by.slots at)) now in
+    let change : IsViewChange k c.args.i view.rect s.stack s'.stack = gone_change s.stack s'.stack k c.args.i view by.slots (seat_here s.stack.views c.args.i _ by.slots at) (sym (place_is s.stack.views c.args.i _ by.slots at)) now in
     goes_painted c.args.of c.args.i k s.stack s'.stack _ by.slots at refl c.if-view-of.false c.requires.behind now _ _ _ _ _
     (gone_painted s.stack s'.stack k _ _ _ c.args.raw.now.items c.paint_change.new.raw.items now (c.paint_change.ensures.painted s.stack change))

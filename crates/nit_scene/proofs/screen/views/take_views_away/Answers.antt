@@ -3,9 +3,9 @@ use Rattle.std.specs.Prelude.{drop}
 use Rattle.std.specs.List.{list_any}
 use Rattle.std.proofs.lemmas.List.{length-map}
 use Rattle.nit_stack.specs.Sources.{pixel}
-use Rattle.nit_stack.specs.Standing.{Standing, is_of_session}
+use Rattle.nit_stack.specs.Stack.{StackModel, is_of_session}
 use Rattle.nit_paint.proofs.ForCallers.{other_count, repainted_none}
-use Rattle.nit_repaint.specs.Uncovered.{IsTaken, uncovered}
+use Rattle.nit_repaint.specs.ViewRemoval.{IsRemovedFrom, uncovered}
 use Rattle.nit_repaint.proofs.ForCallers.{all_painted, all_taken, painted_more, stays_clean, taken_held, taken_more, taken_none}
 use Rattle.nit_repaint.specs.Glasses.{glasses_of_call}
 use Rattle.nit_scene.proofs.screen.views.take_views_away.Goals as goal
@@ -14,7 +14,7 @@ pub views-init : goal.views-init
 views-init g c =
     let s = c.args.server.now.stack in
     record {
-      taken = subst (λ (n : ℕ). IsTaken c.args.of n s s) (sym c.view_count-i.ensures) (taken_none c.args.of s);
+      taken = subst (λ (n : ℕ). IsRemovedFrom c.args.of n s s) (sym c.view_count-i.ensures) (taken_none c.args.of s);
       left = refl;
       session = c.requires.session;
       room = refl;
@@ -43,7 +43,7 @@ take_seat_away-requires-clause-room g c =
     omega (arith, f, r, c.requires.room)
 
 pub take_seat_away-requires-clause-pixels : goal.take_seat_away-requires-clause-pixels
-take_seat_away-requires-clause-pixels g c = c.views.invariant.count ∙ c.requires.pixels ∙ sym (ap (λ (t : Standing). t.width * t.height) c.views.invariant.taken.rest)
+take_seat_away-requires-clause-pixels g c = c.views.invariant.count ∙ c.requires.pixels ∙ sym (ap (λ (t : StackModel). t.width * t.height) c.views.invariant.taken.rest)
 
 pub take_seat_away-requires-clause-held : goal.take_seat_away-requires-clause-held
 take_seat_away-requires-clause-held g c =
@@ -57,7 +57,7 @@ views-preserved g c =
     let e = c.take_seat_away.ensures in
     let s = c.args.server.now.stack in
     let mid = c.views.server.stack in
-    let first = subst (λ (n : ℕ). IsTaken c.args.of n s mid) (down c.views.i c.views-test.true) i.taken in
+    let first = subst (λ (n : ℕ). IsRemovedFrom c.args.of n s mid) (down c.views.i c.views-test.true) i.taken in
     record {
       taken = taken_more c.args.of (c.views.i - 1) s mid c.take_seat_away.new.server.stack first e.taken;
       left = e.left ∙ i.left;
@@ -76,8 +76,8 @@ none_left : (c : ℕ) → c ≤ 0 → c ≡ 0
 none_left c l = omega arith
 
 pub returns-clause-stack : goal.returns-clause-stack
-returns-clause-stack g c = all_taken c.args.of c.args.server.now.stack c.views.server.stack (subst (λ (n : ℕ). IsTaken c.args.of n c.args.server.now.stack c.views.server.stack) (none_left c.views.i c.views-test.false) c.views.invariant.taken)
+returns-clause-stack g c = all_taken c.args.of c.args.server.now.stack c.views.server.stack (subst (λ (n : ℕ). IsRemovedFrom c.args.of n c.args.server.now.stack c.views.server.stack) (none_left c.views.i c.views-test.false) c.views.invariant.taken)
 
 pub returns-clause-painted : goal.returns-clause-painted
 returns-clause-painted g c =
-    all_painted c.args.of _ c.args.server.now.stack c.views.server.stack _ _ _ _ (subst (λ (n : ℕ). IsTaken c.args.of n c.args.server.now.stack c.views.server.stack) (none_left c.views.i c.views-test.false) c.views.invariant.taken) c.views.invariant.painted
+    all_painted c.args.of _ c.args.server.now.stack c.views.server.stack _ _ _ _ (subst (λ (n : ℕ). IsRemovedFrom c.args.of n c.args.server.now.stack c.views.server.stack) (none_left c.views.i c.views-test.false) c.views.invariant.taken) c.views.invariant.painted

@@ -1,19 +1,19 @@
 use Rattle.std.proofs.Common.{◌≡◌, ◌<◌, length, map, slice_index_or}
 use Rattle.nit_stack.specs.Sources.{pixel}
-use Rattle.nit_paint.specs.Painting.{Repainted, no_sight}
-use Rattle.nit_paint.specs.Pieces.{source_at}
-use Rattle.nit_repaint.specs.Uncovered.{IsTaken, uncovered, without_session}
+use Rattle.nit_paint.specs.Repaint.{Repainted, no_sight}
+use Rattle.nit_paint.specs.Pieces.{source_of_number}
+use Rattle.nit_repaint.specs.ViewRemoval.{IsRemovedFrom, uncovered, without_session}
 use Rattle.nit_repaint.specs.Glasses.{glasses_of_call}
-use Rattle.nit_scene.specs.Seating.{without_views}
+use Rattle.nit_scene.specs.ViewsTaken.{without_views}
 use Rattle.nit_scene.proofs.screen.views.take_views_away.Given as goal
 
 abbrev pub invariant-views : goal.invariant-views
 invariant-views g l = record {
-  taken : IsTaken l.of l.i l.initial.server.stack l.server.stack;
+  taken : IsRemovedFrom l.of l.i l.initial.server.stack l.server.stack;
   left : without_views l.of l.server ≡ without_views l.of l.initial.server;
   session : l.of < length l.server.sessions;
   room : l.cutter.room ≡ l.initial.cutter.room;
-  painted : Repainted (source_at (without_session l.of l.initial.server.stack)) (λ k. uncovered l.of l.initial.server.stack l.server.stack (pixel l.initial.server.stack.width k)) (length l.initial.raw.items)
+  painted : Repainted (source_of_number (without_session l.of l.initial.server.stack)) (λ k. uncovered l.of l.initial.server.stack l.server.stack (pixel l.initial.server.stack.width k)) (length l.initial.raw.items)
       (glasses_of_call (map g.G.Glass.sight l.initial.glasses.items) l.sid (g.C.Glass.sight l.initial.own)) (glasses_of_call (map g.G.Glass.sight l.glasses.items) l.sid (g.C.Glass.sight l.own)) l.initial.raw.items l.raw.items;
   count : length l.raw.items ≡ length l.initial.raw.items;
   many : length l.glasses.items ≡ length l.initial.glasses.items;

@@ -1,6 +1,6 @@
 use Rattle.std.proofs.Common.{◌≡◌, map, take}
-use Rattle.nit_scene.specs.Opened.{opened_member}
+use Rattle.nit_scene.specs.ServerOpening.{first_scene_session}
 use Rattle.nit_scene.proofs.server.opening.opened_members.Given as goal
 
 abbrev pub invariant-loop-client : goal.invariant-loop-client
-invariant-loop-client l = l.members.items ≡ map opened_member (take l.client-index l.clients)
+invariant-loop-client l = l.members.items ≡ map first_scene_session (take l.client-index l.clients)

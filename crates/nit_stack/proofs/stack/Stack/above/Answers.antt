@@ -1,7 +1,7 @@
 use Rattle.std.proofs.Common.{◌<◌, arith, length, subst, sym}
-use Rattle.nit_stack.specs.Standing.{IsStanding}
-use Rattle.nit_stack.proofs.Keeps.{keeps_above}
-use Rattle.nit_stack.proofs.Stacks.{put_above_is, room_again}
+use Rattle.nit_stack.specs.Stack.{IsStack}
+use Rattle.nit_stack.proofs.StackLemmas.{keeps_above}
+use Rattle.nit_stack.proofs.StackFieldLemmas.{put_above_is, room_again}
 use Rattle.nit_stack.proofs.stack.Stack.above.Goals as goal
 
 pub put_in_above-requires : goal.put_in_above-requires
@@ -16,7 +16,7 @@ invariant_of-self c =
     let level = rw (← c.self.view_is) at c.requires.layer in
     let items = rw c.take_out.ensures.items at c.put_in_above.ensures.items in
     record {
-      standing = subst (λ s. IsStanding s) (sym (put_above_is c.self.inside.order.items _ _ _ _ _ _ _ c.args.v.0 c.args.n.0 there c.if-v-n.false items)) (keeps_above _ c.args.v.0 c.args.n.0 c.self.invariant.standing there behind level);
+      standing = subst (λ s. IsStack s) (sym (put_above_is c.self.inside.order.items _ _ _ _ _ _ _ c.args.v.0 c.args.n.0 there c.if-v-n.false items)) (keeps_above _ c.args.v.0 c.args.n.0 c.self.invariant.standing there behind level);
       space = omega (arith, c.put_in_above.ensures.capacity, c.take_out.ensures.capacity, c.self.invariant.space);
     }
 

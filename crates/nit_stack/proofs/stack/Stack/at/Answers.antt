@@ -3,18 +3,18 @@ use Rattle.std.specs.Prelude.{slice_get}
 use Rattle.std.specs.Option.{option_map}
 use Rattle.std.proofs.lemmas.List.{length-map}
 use Rattle.std.proofs.lemmas.Option.{slice_get_read}
-use Rattle.nit_stack.specs.Slots.{seat}
-use Rattle.nit_stack.proofs.Stacks.{ref_at, there_at}
+use Rattle.nit_stack.specs.StackFields.{slot_view}
+use Rattle.nit_stack.proofs.StackFieldLemmas.{ref_at, there_at}
 use Rattle.nit_stack.proofs.stack.Stack.at.Goals as goal
 
 pub returns-clause-place : goal.returns-clause-place
 returns-clause-place c =
-    let within : c.args.i < length c.self.inside.order.items = omega (arith, rw (← c.self.view_is) at c.requires, length-map c.self.inside.order.items (seat c.self.inside.slots.items)) in
+    let within : c.args.i < length c.self.inside.order.items = omega (arith, rw (← c.self.view_is) at c.requires, length-map c.self.inside.order.items (slot_view c.self.inside.slots.items)) in
     let at : slice_get c.self.inside.order.items c.args.i ≡ Some c.index.result.now = slice_get_read c.self.inside.order.items _ c.args.i c.index.result.now refl within c.index.ensures in
     rw (← c.self.view_is) (ref_at c.self.inside.slots.items c.self.inside.order.items c.args.i ∙ ap (option_map (λ k. record { 0 = k })) at)
 
 pub returns-clause-stands : goal.returns-clause-stands
 returns-clause-stands c =
-    let within : c.args.i < length c.self.inside.order.items = omega (arith, rw (← c.self.view_is) at c.requires, length-map c.self.inside.order.items (seat c.self.inside.slots.items)) in
+    let within : c.args.i < length c.self.inside.order.items = omega (arith, rw (← c.self.view_is) at c.requires, length-map c.self.inside.order.items (slot_view c.self.inside.slots.items)) in
     let at : slice_get c.self.inside.order.items c.args.i ≡ Some c.index.result.now = slice_get_read c.self.inside.order.items _ c.args.i c.index.result.now refl within c.index.ensures in
     rw (← c.self.view_is) (there_at c.self.inside.slots.items c.self.inside.order.items c.args.i c.index.result.now at)

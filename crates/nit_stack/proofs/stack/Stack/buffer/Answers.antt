@@ -1,8 +1,8 @@
 use Rattle.std.proofs.Common.{◌<◌, ap, arith, length, subst, sym, ◌∙◌}
 use Rattle.std.proofs.lemmas.List.{get_or-map, length-map}
 use Rattle.nit_stack.specs.Sources.{no_size}
-use Rattle.nit_stack.specs.Slots.{size}
-use Rattle.nit_stack.specs.Standing.{IsSize}
+use Rattle.nit_stack.specs.StackFields.{size}
+use Rattle.nit_stack.specs.Stack.{IsBufferSize}
 use Rattle.nit_stack.proofs.stack.Stack.buffer.Goals as goal
 
 pub returns-clause-range : goal.returns-clause-range
@@ -10,4 +10,4 @@ returns-clause-range c =
     let session = rw (← c.self.view_is) at c.requires in
     let within : c.args.sid < length c.self.inside.sizes.items = omega (arith, session, length-map c.self.inside.sizes.items size) in
     let at = get_or-map size c.self.inside.sizes.items c.args.sid c.index.result.now no_size within in
-    subst IsSize (at ∙ ap size (sym c.index.ensures)) (c.self.invariant.standing.sizes c.args.sid no_size session)
+    subst IsBufferSize (at ∙ ap size (sym c.index.ensures)) (c.self.invariant.standing.sizes c.args.sid no_size session)

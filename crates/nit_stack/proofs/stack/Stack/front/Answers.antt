@@ -1,7 +1,7 @@
 use Rattle.std.proofs.Common.{◌<◌, arith, length, subst, sym}
-use Rattle.nit_stack.specs.Standing.{IsStanding}
-use Rattle.nit_stack.proofs.Keeps.{keeps_front}
-use Rattle.nit_stack.proofs.Stacks.{fronted, others_kept, room_again, slot_kept}
+use Rattle.nit_stack.specs.Stack.{IsStack}
+use Rattle.nit_stack.proofs.StackLemmas.{keeps_front}
+use Rattle.nit_stack.proofs.StackFieldLemmas.{fronted, others_kept, room_again, slot_kept}
 use Rattle.nit_stack.proofs.stack.Stack.front.Goals as goal
 
 pub put_in_front-requires-clause-kept : goal.put_in_front-requires-clause-kept
@@ -22,7 +22,7 @@ invariant_of-self c =
     let there = rw (← c.self.view_is) at c.requires in
     let items = rw (c.take_out.ensures.items, c.as_slice.ensures.value, c.as_slice-2.ensures.value) at c.put_in_front.ensures.items in
     record {
-      standing = subst (λ s. IsStanding s) (sym (fronted c.self.inside.order.items _ _ _ _ _ _ _ c.args.v.0 there items)) (keeps_front _ c.args.v.0 c.self.invariant.standing there);
+      standing = subst (λ s. IsStack s) (sym (fronted c.self.inside.order.items _ _ _ _ _ _ _ c.args.v.0 there items)) (keeps_front _ c.args.v.0 c.self.invariant.standing there);
       space = omega (arith, c.put_in_front.ensures.capacity, c.take_out.ensures.capacity, c.self.invariant.space);
     }
 

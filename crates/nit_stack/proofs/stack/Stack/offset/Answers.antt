@@ -1,9 +1,9 @@
 use Rattle.std.proofs.Common.{arith, refl, subst, sym}
 use Rattle.std.proofs.lemmas.Int.{to_z-of_z}
 use Rattle.std.proofs.lemmas.List.{length-set}
-use Rattle.nit_stack.specs.Standing.{IsStanding, with_offset}
-use Rattle.nit_stack.proofs.Keeps.{keeps_changed}
-use Rattle.nit_stack.proofs.Stacks.{changed_as, slot_kept}
+use Rattle.nit_stack.specs.Stack.{IsStack, with_offset}
+use Rattle.nit_stack.proofs.StackLemmas.{keeps_changed}
+use Rattle.nit_stack.proofs.StackFieldLemmas.{changed_as, slot_kept}
 use Rattle.nit_stack.proofs.stack.Stack.offset.Goals as goal
 
 pub index_mut-view-requires : goal.index_mut-view-requires
@@ -17,7 +17,7 @@ invariant_of-self c =
     let y_fits = c.ranges.oy in
     let kept = slot_kept _ c.self.inside.slots.items _ _ _ _ _ c.args.v.0 c.self.invariant.standing (rw (← c.self.view_is) at c.requires.view) in
     simp to_z-of_z (record {
-      standing = subst (λ s. IsStanding s) (sym (changed_as c.self.inside.order.items c.self.inside.slots.items c.self.inside.sizes.items c.self.inside.layers.items c.self.inside.width c.self.inside.height c.self.inside.bar c.args.v.0 c.index_mut-view.result.now (with_offset c.args.ox c.args.oy) kept.0 c.index_mut-view.ensures.value))
+      standing = subst (λ s. IsStack s) (sym (changed_as c.self.inside.order.items c.self.inside.slots.items c.self.inside.sizes.items c.self.inside.layers.items c.self.inside.width c.self.inside.height c.self.inside.bar c.args.v.0 c.index_mut-view.result.now (with_offset c.args.ox c.args.oy) kept.0 c.index_mut-view.ensures.value))
           (keeps_changed _ c.args.v.0 (with_offset c.args.ox c.args.oy) c.self.invariant.standing (λ v. (refl, refl)) (λ a is. record { slot = is.slot; session = is.session; column = c.requires.range.0; row = c.requires.range.1; rect = is.rect }));
       space = rw length-set c.self.invariant.space;
     })

@@ -2,9 +2,9 @@ use Rattle.std.proofs.Common.{◌≡◌, false, arith, ◌∙◌}
 use Rattle.std.proofs.lemmas.Int.{ints}
 use Rattle.nit_rect.specs.Rectangle.{covers}
 use Rattle.nit_stack.specs.Sources.{in_bar}
-use Rattle.nit_stack.specs.Slots.{seat}
+use Rattle.nit_stack.specs.StackFields.{slot_view}
 use Rattle.nit_stack.proofs.Owners.{found_stands, owner_slot}
-use Rattle.nit_stack.proofs.Seats.{all_below}
+use Rattle.nit_stack.proofs.SlotsAndViews.{all_below}
 use Rattle.nit_stack.proofs.stack.Stack.owner.Goals as goal
 
 pub covering-requires : goal.covering-requires
@@ -20,4 +20,4 @@ returns-clause-owner c =
 pub returns-clause-stands : goal.returns-clause-stands
 returns-clause-stands c =
     let found = rw (c.as_slice.ensures.value, c.as_slice-2.ensures.value) at c.covering.ensures in
-    rw (← c.self.view_is) (found_stands c.self.inside.slots.items c.self.inside.order.items (λ k. covers (seat c.self.inside.slots.items k).view.rect c.args.p) c.covering.result found)
+    rw (← c.self.view_is) (found_stands c.self.inside.slots.items c.self.inside.order.items (λ k. covers (slot_view c.self.inside.slots.items k).view.rect c.args.p) c.covering.result found)

@@ -1,8 +1,8 @@
 use Rattle.std.proofs.Common.{◌≡◌, ℕ, Some, arith, length, map, nat_lt, subst, sym, ap, ◌∙◌}
 use Rattle.std.specs.Prelude.{slice_get}
-use Rattle.nit_stack.specs.Slots.{seat}
-use Rattle.nit_stack.specs.Standing.{view_ref}
-use Rattle.nit_stack.proofs.Stacks.{few, place_in_order}
+use Rattle.nit_stack.specs.StackFields.{slot_view}
+use Rattle.nit_stack.specs.Stack.{view_ref}
+use Rattle.nit_stack.proofs.StackFieldLemmas.{few, place_in_order}
 use Rattle.nit_stack.proofs.ViewPlaces.{place_found, place_within}
 use Rattle.nit_stack.proofs.stack.Stack.place_of.Goals as goal
 
@@ -20,14 +20,14 @@ returns-clause-place c =
 
 pub returns-clause-stands : goal.returns-clause-stands
 returns-clause-stands c =
-    let views = map (seat c.self.inside.slots.items) c.self.inside.order.items in
+    let views = map (slot_view c.self.inside.slots.items) c.self.inside.order.items in
     let found = rw c.as_slice.ensures.value at c.place_of.ensures.place in
     let place = found ∙ place_in_order c.self.inside.slots.items c.self.inside.order.items c.args.v.0 in
     rw (← c.self.view_is) (ap (λ (n : ℕ). nat_lt n (length views)) place ∙ place_within c.args.v.0 views)
 
 pub returns-clause-view : goal.returns-clause-view
 returns-clause-view c =
-    let views = map (seat c.self.inside.slots.items) c.self.inside.order.items in
+    let views = map (slot_view c.self.inside.slots.items) c.self.inside.order.items in
     let found = rw c.as_slice.ensures.value at c.place_of.ensures.place in
     let place = found ∙ place_in_order c.self.inside.slots.items c.self.inside.order.items c.args.v.0 in
     rw (← c.self.view_is) (λ there. subst (λ (n : ℕ). slice_get (map view_ref views) n ≡ Some c.args.v) (sym place) (place_found views c.args.v there))

@@ -1,8 +1,8 @@
 use Rattle.std.proofs.Common.{◌≤◌, arith, length, subst, sym}
 use Rattle.std.proofs.lemmas.List.{length-set}
-use Rattle.nit_stack.specs.Standing.{IsStanding, fresh}
-use Rattle.nit_stack.proofs.Keeps.{keeps_push}
-use Rattle.nit_stack.proofs.Stacks.{pushed_as, room_for, written_kept, written_slot}
+use Rattle.nit_stack.specs.Stack.{IsStack, fresh}
+use Rattle.nit_stack.proofs.StackLemmas.{keeps_push}
+use Rattle.nit_stack.proofs.StackFieldLemmas.{pushed_as, room_for, written_kept, written_slot}
 use Rattle.nit_stack.proofs.stack.Stack.push_front.Goals as goal
 
 pub put_in_front-requires-clause-kept : goal.put_in_front-requires-clause-kept
@@ -28,7 +28,7 @@ invariant_of-self c =
     let items = rw (c.as_slice.ensures.value, c.as_slice-2.ensures.value, c.fresh.ensures) at c.put_in_front.ensures.items in
     let n : length c.self.inside.slots.items ≤ length c.self.inside.slots.items = omega arith in
     rw c.fresh.ensures (record {
-      standing = subst (λ s. IsStanding s) (sym (pushed_as c.self.inside.order.items _ c.self.inside.slots.items _ _ _ _ _ c.args.v.0 c.args.sid c.args.handle slot free items)) (keeps_push _ c.args.v.0 c.args.sid c.args.handle c.self.invariant.standing slot free session named);
+      standing = subst (λ s. IsStack s) (sym (pushed_as c.self.inside.order.items _ c.self.inside.slots.items _ _ _ _ _ c.args.v.0 c.args.sid c.args.handle slot free items)) (keeps_push _ c.args.v.0 c.args.sid c.args.handle c.self.invariant.standing slot free session named);
       space = omega (arith, length-set c.self.inside.slots.items c.args.v.0 (fresh c.args.sid c.args.handle), c.put_in_front.ensures.capacity, c.self.invariant.space);
     })
 

@@ -1,10 +1,10 @@
 use Rattle.std.proofs.Common.{Some, ap, arith, sym, ◌∙◌}
 use Rattle.std.specs.Option.{option_map}
 use Rattle.std.proofs.lemmas.List.{get_or_default}
-use Rattle.nit_stack.specs.Standing.{Seat, fresh}
+use Rattle.nit_stack.specs.Stack.{SlotView, fresh}
 use Rattle.nit_stack.specs.declared.view.View.{View}
-use Rattle.nit_stack.proofs.Seats.{seat_found}
-use Rattle.nit_stack.proofs.Stacks.{ref_slot, seat_at, slot_kept}
+use Rattle.nit_stack.proofs.SlotsAndViews.{seat_found}
+use Rattle.nit_stack.proofs.StackFieldLemmas.{ref_slot, seat_at, slot_kept}
 use Rattle.nit_stack.proofs.stack.Stack.rect.Goals as goal
 
 pub index-requires : goal.index-requires
@@ -17,7 +17,7 @@ returns-clause-rect c =
     let there = rw (← c.self.view_is) at c.requires in
     let kept = slot_kept _ c.self.inside.slots.items _ _ _ _ _ c.args.v.0 c.self.invariant.standing there in
     let at = c.index.ensures ∙ get_or_default c.self.inside.slots.items c.args.v.0 c.index.result.now (fresh 0 0) kept.0 in
-    rw (← c.self.view_is) (ap (option_map (λ (s : Seat). s.view.rect)) (seat_found c.self.inside.slots.items c.args.v.0 c.self.inside.order.items there) ∙ ap (λ (u : View). Some u.rect) (sym at))
+    rw (← c.self.view_is) (ap (option_map (λ (s : SlotView). s.view.rect)) (seat_found c.self.inside.slots.items c.args.v.0 c.self.inside.order.items there) ∙ ap (λ (u : View). Some u.rect) (sym at))
 
 pub returns-clause-place : goal.returns-clause-place
 returns-clause-place c i =
@@ -25,4 +25,4 @@ returns-clause-place c i =
     let kept = slot_kept _ c.self.inside.slots.items _ _ _ _ _ c.args.v.0 c.self.invariant.standing there in
     let at = c.index.ensures ∙ get_or_default c.self.inside.slots.items c.args.v.0 c.index.result.now (fresh 0 0) kept.0 in
     rw (← c.self.view_is)
-    (λ is. ap (option_map (λ (s : Seat). s.view.rect)) (seat_at c.self.inside.slots.items c.self.inside.order.items i c.args.v.0 (ref_slot c.self.inside.slots.items c.self.inside.order.items i c.args.v is)) ∙ ap (λ (u : View). Some u.rect) (sym at))
+    (λ is. ap (option_map (λ (s : SlotView). s.view.rect)) (seat_at c.self.inside.slots.items c.self.inside.order.items i c.args.v.0 (ref_slot c.self.inside.slots.items c.self.inside.order.items i c.args.v is)) ∙ ap (λ (u : View). Some u.rect) (sym at))

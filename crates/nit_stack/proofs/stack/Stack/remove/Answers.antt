@@ -1,13 +1,13 @@
 use Rattle.std.proofs.Common.{arith, subst, sym}
-use Rattle.nit_stack.specs.Standing.{IsStanding}
-use Rattle.nit_stack.proofs.Keeps.{keeps_remove}
-use Rattle.nit_stack.proofs.Stacks.{removed}
+use Rattle.nit_stack.specs.Stack.{IsStack}
+use Rattle.nit_stack.proofs.StackLemmas.{keeps_remove}
+use Rattle.nit_stack.proofs.StackFieldLemmas.{removed}
 use Rattle.nit_stack.proofs.stack.Stack.remove.Goals as goal
 
 pub invariant_of-self : goal.invariant_of-self
 invariant_of-self c =
     record {
-      standing = subst (λ s. IsStanding s) (sym (removed c.self.inside.order.items _ _ _ _ _ _ _ c.args.v.0 c.take_out.ensures.items)) (keeps_remove _ c.args.v.0 c.self.invariant.standing);
+      standing = subst (λ s. IsStack s) (sym (removed c.self.inside.order.items _ _ _ _ _ _ _ c.args.v.0 c.take_out.ensures.items)) (keeps_remove _ c.args.v.0 c.self.invariant.standing);
       space = omega (arith, c.take_out.ensures.capacity, c.self.invariant.space);
     }
 

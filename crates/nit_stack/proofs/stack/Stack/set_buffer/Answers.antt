@@ -1,7 +1,7 @@
 use Rattle.std.proofs.Common.{length, map}
 use Rattle.std.proofs.lemmas.List.{map-set}
-use Rattle.nit_stack.specs.Slots.{seat, size}
-use Rattle.nit_stack.proofs.Keeps.{keeps_size}
+use Rattle.nit_stack.specs.StackFields.{slot_view, size}
+use Rattle.nit_stack.proofs.StackLemmas.{keeps_size}
 use Rattle.nit_stack.proofs.stack.Stack.set_buffer.Goals as goal
 
 pub invariant_of-self : goal.invariant_of-self
@@ -15,7 +15,7 @@ pub returns : goal.returns
 returns c =
     let sizes = map-set size c.self.inside.sizes.items c.args.sid (c.args.w, c.args.h) in
     rw (← c.self.view_is) (λ i. record {
-      views = map (seat c.self.inside.slots.items) c.self.inside.order.items;
+      views = map (slot_view c.self.inside.slots.items) c.self.inside.order.items;
       sizes = sizes i;
       layers = c.self.inside.layers.items;
       width = c.self.inside.width;

@@ -1,7 +1,7 @@
 use Rattle.std.proofs.Common.{ap, length, sym, ◌∙◌}
 use Rattle.std.specs.Option.{option_map_or}
 use Rattle.nit_stack.specs.Sources.{Size, Word, black_or_word, shown_index}
-use Rattle.nit_stack.specs.Standing.{IsSeat, is_slot, size_of}
+use Rattle.nit_stack.specs.Stack.{IsSlotView, is_slot, size_of}
 use Rattle.nit_stack.proofs.Lists.{All_found}
 use Rattle.nit_stack.proofs.Owners.{source_bare, source_is}
 use Rattle.nit_stack.proofs.stack.Stack.source.Goals as goal
@@ -12,12 +12,12 @@ returns-in_default-clause-source c =
 
 pub buffer-w-requires : goal.buffer-w-requires
 buffer-w-requires c =
-    let seat = All_found (IsSeat c.args.self.now.most (length c.args.self.now.sizes)) (is_slot c.in-Some.v.0) c.args.self.now.views (record { slot = c.in-Some.v.0; view = c.view-view.result }) c.view-view.ensures.standing.seats c.view-view.ensures.value in
+    let seat = All_found (IsSlotView c.args.self.now.most (length c.args.self.now.sizes)) (is_slot c.in-Some.v.0) c.args.self.now.views (record { slot = c.in-Some.v.0; view = c.view-view.result }) c.view-view.ensures.standing.seats c.view-view.ensures.value in
     seat.session
 
 pub shown_index-requires-clause-offset : goal.shown_index-requires-clause-offset
 shown_index-requires-clause-offset c =
-    let seat = All_found (IsSeat c.args.self.now.most (length c.args.self.now.sizes)) (is_slot c.in-Some.v.0) c.args.self.now.views (record { slot = c.in-Some.v.0; view = c.view-view.result }) c.view-view.ensures.standing.seats c.view-view.ensures.value in
+    let seat = All_found (IsSlotView c.args.self.now.most (length c.args.self.now.sizes)) (is_slot c.in-Some.v.0) c.args.self.now.views (record { slot = c.in-Some.v.0; view = c.view-view.result }) c.view-view.ensures.standing.seats c.view-view.ensures.value in
     (seat.column, seat.row)
 
 pub returns-in-Some-shown_index-clause-source : goal.returns-in-Some-shown_index-clause-source

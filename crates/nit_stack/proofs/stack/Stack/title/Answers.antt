@@ -1,8 +1,8 @@
 use Rattle.std.proofs.Common.{arith, refl, subst, sym}
 use Rattle.std.proofs.lemmas.List.{length-set}
-use Rattle.nit_stack.specs.Standing.{IsStanding, with_title}
-use Rattle.nit_stack.proofs.Keeps.{keeps_changed}
-use Rattle.nit_stack.proofs.Stacks.{changed_as, slot_kept}
+use Rattle.nit_stack.specs.Stack.{IsStack, with_title}
+use Rattle.nit_stack.proofs.StackLemmas.{keeps_changed}
+use Rattle.nit_stack.proofs.StackFieldLemmas.{changed_as, slot_kept}
 use Rattle.nit_stack.proofs.stack.Stack.title.Goals as goal
 
 pub index_mut-requires : goal.index_mut-requires
@@ -14,7 +14,7 @@ pub invariant_of-self : goal.invariant_of-self
 invariant_of-self c =
     let kept = slot_kept _ c.self.inside.slots.items _ _ _ _ _ c.args.v.0 c.self.invariant.standing (rw (← c.self.view_is) at c.requires) in
     record {
-      standing = subst (λ s. IsStanding s) (sym (changed_as _ c.self.inside.slots.items _ _ _ _ _ c.args.v.0 c.index_mut.result.now (with_title c.args.t) kept.0 c.index_mut.ensures.value))
+      standing = subst (λ s. IsStack s) (sym (changed_as _ c.self.inside.slots.items _ _ _ _ _ c.args.v.0 c.index_mut.result.now (with_title c.args.t) kept.0 c.index_mut.ensures.value))
           (keeps_changed _ c.args.v.0 (with_title c.args.t) c.self.invariant.standing (λ v. (refl, refl)) (λ a is. record { slot = is.slot; session = is.session; column = is.column; row = is.row; rect = is.rect }));
       space = rw length-set c.self.invariant.space;
     }

@@ -1,6 +1,6 @@
 use Rattle.std.proofs.Common.{◌≡◌, List, set, sym, ap, subst, ◌∙◌, Some, None}
 use Rattle.std.specs.List.{position}
-use Rattle.nit_store.specs.Shown.{File}
+use Rattle.nit_store.specs.Store.{File}
 use Rattle.nit_store.specs.Files.{files_of, HasDifferentNames, with_file}
 use Rattle.nit_store.proofs.NamedFiles.{different-with_file}
 use Rattle.nit_store.proofs.FileLists.{Stored, has_name, put_at, put_last}

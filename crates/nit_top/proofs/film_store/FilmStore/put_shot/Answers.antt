@@ -1,7 +1,7 @@
 use Rattle.std.proofs.Common.{◌≢◌, ◌∙◌, ◌+◌, ◌++◌, ◌∷◌, [], Bool, ℕ, List, true, false, ap, subst, sym}
 use Rattle.std.specs.List.{AllByRecursion}
 use Rattle.nit_capture.specs.Capture.{CaptureModel, with_last}
-use Rattle.nit_top.specs.Filming.{IsFilmOf, picture_names}
+use Rattle.nit_top.specs.FilmStore.{IsFilmOf, picture_names}
 use Rattle.nit_top.proofs.FilmPictures.{before_shot, film_grows, one_shot_more}
 use Rattle.nit_top.proofs.film_store.FilmStore.put_shot.Goals as goal
 

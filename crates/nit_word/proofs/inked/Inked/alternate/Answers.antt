@@ -1,7 +1,7 @@
 use Rattle.std.proofs.Common.{◌∙◌, ap, length}
-use Rattle.nit_word.specs.Setting.{in_turn, is_between, set_where}
-use Rattle.nit_word.proofs.SetWords.{set_long}
-use Rattle.nit_word.proofs.InkedRows.{alternated_inked, sight_changed}
+use Rattle.nit_word.specs.Updates.{in_turn, is_between, set_where}
+use Rattle.nit_word.proofs.UpdateLemmas.{set_long}
+use Rattle.nit_word.proofs.InkUpdates.{alternated_inked, sight_changed}
 use Rattle.nit_word.proofs.inked.Inked.alternate.Goals as goal
 
 pub invariant_of-self : goal.invariant_of-self

@@ -1,7 +1,7 @@
 use Rattle.std.proofs.Common.{◌∙◌, ℕ, List, length, ap, sym, arith}
 use Rattle.std.specs.Prelude.{slice_index}
-use Rattle.nit_word.specs.Setting.{is_between}
-use Rattle.nit_word.proofs.SetWords.{same_colours}
+use Rattle.nit_word.specs.Updates.{is_between}
+use Rattle.nit_word.proofs.UpdateLemmas.{same_colours}
 use Rattle.nit_word.proofs.ReachedWords.{IsSetIn, padded_at, none_past, reached_long, set_in, whole_long}
 use Rattle.nit_word.proofs.words.Words.copy.Goals as goal
 

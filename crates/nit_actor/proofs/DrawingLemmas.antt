@@ -1,0 +1,99 @@
+-- What is drawn, move by move, and that a scene holds it.
+use Rattle.std.proofs.Common.{◌≡◌, ◌∙◌, ℕ, ◌+◌, ◌*◌, ◌<◌, ◌==◌, Bool, true, false, cond, List, [], ◌∷◌, ◌++◌, map, length, Option, Some, None, refl, sym, ap, subst, inl, inr, add-zero, zero-add}
+use Rattle.std.specs.List.{range_with_len, slice_index_or}
+use Rattle.std.proofs.lemmas.Bool.{cases_Bool}
+use Rattle.std.proofs.lemmas.List.FromFn.{get_or-map-range_with_len}
+use Rattle.std.proofs.lemmas.List.Sums.{fold-append}
+use Rattle.nit_word.specs.Sight.{Sight}
+use Rattle.nit_events.specs.declared.entry.Entry.{Entry}
+use Rattle.nit_stack.specs.Sources.{pixel}
+use Rattle.nit_script.specs.declared.line.Line.{Line}
+use Rattle.nit_script.specs.declared.line.InputLine.{InputLine}
+use Rattle.nit_script.specs.declared.line.InputLine.TheVariants as input
+use Rattle.nit_config.specs.Configuration.{Configuration}
+use Rattle.nit_journal.specs.State.{State, after}
+use Rattle.nit_journal.specs.Replay.{shots}
+use Rattle.nit_journal.proofs.ForCallers.{same_config}
+use Rattle.nit_overlay.specs.Frame.{frame}
+use Rattle.nit_overlay.proofs.ForCallers.{same_frame}
+use Rattle.nit_scene.specs.DirtyPixels.{dirty}
+use Rattle.nit_scene.specs.RawWords.{glass_in, pixel_count, source_at}
+use Rattle.nit_scene.specs.Scene.{SceneModel, scenery_of, state_now}
+use Rattle.nit_report.specs.Picture.{picture}
+use Rattle.nit_store.specs.Store.{File}
+use Rattle.nit_actor.specs.Turn.{ActorLine, ByClient, ByUser, LineTurn}
+use Rattle.nit_actor.specs.TurnActions.{line_by}
+use Rattle.nit_store.specs.Puts.{PutState, PutsAll}
+use Rattle.nit_actor.specs.RoundsRun.{shot_name}
+use Rattle.nit_actor.specs.Drawing.{Drawing, after_turn, done_after, drawn, entry_of, opening_drawing, picture_of, shots_after, state_after, tables_after, word_after_entry}
+use Rattle.nit_actor.specs.RunState.{AreLoaded, IsDrawn, IsMoved, PutsLine}
+use Rattle.nit_actor.proofs.TableWords.{AreOf, held_word}
+use Rattle.nit_store.proofs.ForCallers.{puts_more}
+
+-- ---- the drawing
+
+pub none_drawn : (config : Configuration) (scripts : List (List Line)) → drawn config scripts [] ≡ opening_drawing config
+unfolding drawn
+none_drawn config scripts = refl
+
+pub drawn_more : (config : Configuration) (scripts : List (List Line)) (front : List LineTurn) (m : LineTurn) → drawn config scripts (front ++ m ∷ []) ≡ after_turn config scripts (drawn config scripts front) m
+unfolding drawn
+drawn_more config scripts front m = fold-append (after_turn config scripts) (opening_drawing config) front (m ∷ [])
+
+one_or_none : (b : Bool) (l : Line) (n : ℕ) → cond b (n + 1) n ≡ n + length (let none : List Line = [] in cond b (l ∷ none) none)
+one_or_none true l n = refl
+one_or_none false l n = sym (add-zero n)
+
+-- a client has done as many lines more as the line is its own
+pub done_more : (d : ActorLine) (done : ℕ → ℕ) (t : ℕ) → done_after d done t ≡ done t + length (line_by t d)
+done_more (ByClient sid l) done t = one_or_none (sid == t) l (done t)
+done_more (ByUser l) done t = sym (add-zero (done t))
+
+-- ---- the words
+
+same_count : (s : State) (e : Option Entry) → pixel_count (state_after s e) ≡ pixel_count s
+same_count s None = refl
+same_count s (Some e) = ap (λ (c : Configuration). c.width * c.height) (same_config s e)
+
+-- pixels that were loaded again hold the words that are drawn
+words_more : (s : State) (e : Option Entry) (glasses : ℕ → Sight) (tables : ℕ → List ℕ) (raw raw' : List ℕ) (word : ℕ → ℕ) → AreLoaded s e glasses raw raw' → AreOf glasses tables
+    → ((k : ℕ) → k < pixel_count s → slice_index_or raw k 0 ≡ word k) → (k : ℕ) → k < pixel_count s → slice_index_or raw' k 0 ≡ word_after_entry tables s e word k
+words_more s None glasses tables raw raw' word loaded are held k on_screen = ap (λ (ws : List ℕ). slice_index_or ws k 0) loaded ∙ held k on_screen
+words_more s (Some e) glasses tables raw raw' word loaded are held k on_screen =
+    elim (cases_Bool (dirty s e (after s e) (pixel s.config.width k))) [
+      | inl is ↦ rw is (held_word glasses tables (source_at (after s e) k) (slice_index_or raw' k 0) are ((loaded k on_screen).0 is))
+      | inr is ↦ rw is ((loaded k on_screen).1 is ∙ held k on_screen)
+    ]
+
+-- a scene that holds what is drawn holds it after one more move
+pub moved_on : (config : Configuration) (scripts : List (List Line)) (d : Drawing) (m : LineTurn) (s s' : SceneModel Sight) → IsDrawn d s → IsMoved (entry_of (state_now s) m.doing) s s'
+    → AreOf (glass_in s'.glasses) (tables_after config scripts (done_after m.doing d.done)) → length (shots_after config m.doing d) ≡ shots s'.entries → IsDrawn (after_turn config scripts d m) s'
+moved_on config scripts d m s s' is moved are taken =
+    let e : Option Entry = entry_of d.state m.doing in
+    let tables : ℕ → List ℕ = tables_after config scripts (done_after m.doing d.done) in
+    let loaded : AreLoaded d.state e (glass_in s'.glasses) s.raw s'.raw = subst (λ (x : State). AreLoaded x (entry_of x m.doing) (glass_in s'.glasses) s.raw s'.raw) is.state moved.words in
+    record {
+      state = moved.state ∙ ap (λ (x : State). state_after x (entry_of x m.doing)) is.state;
+      words = λ k on_screen. words_more d.state e (glass_in s'.glasses) tables s.raw s'.raw d.word loaded are is.words k (subst (λ (n : ℕ). k < n) (same_count d.state e) on_screen);
+      taken = taken;
+    }
+
+-- ---- the pictures
+
+-- the picture of a scene that holds what is drawn
+pub picture_is : (config : Configuration) (d : Drawing) (s : SceneModel Sight) → s.config ≡ config → IsDrawn d s → picture s.config.width s.config.height (frame (scenery_of (state_now s)) s.raw) ≡ picture_of config d.state d.word
+picture_is config d s same is =
+    ap (λ (c : Configuration). picture c.width c.height (frame (scenery_of (state_now s)) s.raw)) same
+    ∙ ap (λ (x : State). picture config.width config.height (frame (scenery_of x) s.raw)) is.state
+    ∙ ap (λ (ws : List ℕ). picture config.width config.height ws) (same_frame (scenery_of d.state) s.raw (map d.word (range_with_len 0 (pixel_count d.state)))
+    (λ k on_screen. is.words k on_screen ∙ sym (get_or-map-range_with_len d.word 0 (pixel_count d.state) k k 0 on_screen (zero-add k))))
+
+-- what the user's line puts is what it draws
+pub puts_drawn : (config : Configuration) (d : Drawing) (s : SceneModel Sight) (l : InputLine) (first old new : PutState) → s.config ≡ config → IsDrawn d s → PutsAll d.shots first old → PutsLine l s old new → PutsAll (shots_after config (ByUser l) d) first new
+puts_drawn config d s input.Shot first old new same is puts put =
+    let file : File = (shot_name (shots s.entries + 1), picture s.config.width s.config.height (frame (scenery_of (state_now s)) s.raw)) in
+    let is_file : file ≡ (shot_name (length d.shots + 1), picture_of config d.state d.word) =
+    ap (λ (bytes : List ℕ). (shot_name (shots s.entries + 1), bytes)) (picture_is config d s same is) ∙ ap (λ (n : ℕ). (shot_name (n + 1), picture_of config d.state d.word)) (sym is.taken) in
+    subst (λ (f : File). PutsAll (d.shots ++ f ∷ []) first new) is_file (puts_more d.shots file first old new puts put)
+puts_drawn config d s (input.Device dev) first old new same is puts put = subst (λ (x : PutState). PutsAll d.shots first x) (sym put) puts
+puts_drawn config d s input.Phase first old new same is puts put = subst (λ (x : PutState). PutsAll d.shots first x) (sym put) puts

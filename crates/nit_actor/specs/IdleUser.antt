@@ -1,0 +1,32 @@
+-- One client and a user who does nothing, stepped together.
+use Rattle.std.specs.Prelude.{◌≡◌, List, ◌++◌, length, drop, map, replicate, count_by}
+use Rattle.nit_events.specs.declared.entry.Entry.{Entry}
+use Rattle.nit_script.specs.declared.line.Line.{Line}
+use Rattle.nit_script.specs.declared.line.InputLine.{InputLine}
+use Rattle.nit_script.specs.declared.line.InputLine.TheVariants as input
+use Rattle.nit_script.specs.Phases.{is_phase}
+use Rattle.nit_journal.specs.WholeJournals.{Action, Calls, action_of}
+use Rattle.nit_plan.specs.Calls.{calls_in}
+use Rattle.nit_hall.specs.Pass.{PassModel, UserPassModel, Belongs, UserBelongs}
+use Rattle.nit_hall.specs.Room.{RoomModel}
+
+-- a user who does nothing: one line `phase` for each line `phase` of a client's script
+abbrev pub idle_user : List Line → List InputLine
+idle_user lines = replicate (count_by is_phase lines) input.Phase
+
+-- The room has one client. Its pass and the user's are in the phase that is served, which no actor
+-- has ended; and what is left of the input script is one line `phase` for each that is left of the
+-- client's.
+pub record StepTogether (r : RoomModel) (p : PassModel) (u : UserPassModel) : Type 0 where
+  pub one : length r.parts.scripts ≡ 1
+  pub belongs : Belongs r.parts p
+  pub user_belongs : UserBelongs r.parts u
+  pub phase : p.phase ≡ r.phase
+  pub user_phase : u.phase ≡ r.phase
+  pub arrived : r.arrived ≡ 0
+  pub idle : drop u.next u.input ≡ idle_user (drop p.next p.script)
+
+-- the acts of the entries, and then the calls of the client's lines that are left
+abbrev pub actions_to_be : List Entry → PassModel → List Action
+actions_to_be entries p =
+    map action_of entries ++ map (Calls p.sid) (calls_in (drop p.next p.script))

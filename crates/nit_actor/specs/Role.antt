@@ -1,0 +1,44 @@
+-- Who an actor is and what it has to do. No line that it does changes this.
+use Rattle.std.specs.Prelude.{◌≡◌, ℕ, List, slice_get, Some}
+use Rattle.nit_script.specs.declared.line.Line.{Line}
+use Rattle.nit_script.specs.declared.line.InputLine.{InputLine}
+use Rattle.nit_plan.specs.Plan.{PlanModel}
+use Rattle.nit_ledger.specs.Book.{BookName}
+use Rattle.nit_config.specs.Configuration.{donation_of}
+use Rattle.nit_hall.specs.OpeningParts.{OpeningParts}
+use Rattle.nit_hall.specs.Pass.{PassModel, UserPassModel}
+
+-- a client's: its number, the name of its room's book, its script, the plan of it, and its donation
+pub record Role : Type 0 where
+  pub sid : ℕ
+  pub name : BookName
+  pub script : List Line
+  pub plan : PlanModel
+  pub donation : ℕ
+
+-- the role of a client's pass
+abbrev pub role_of : PassModel → Role
+role_of p = record {
+  sid = p.sid;
+  name = p.name;
+  script = p.script;
+  plan = p.plan;
+  donation = p.donation;
+}
+
+-- the user's: its number, the name of its room's book, and the input script
+pub record UserRole : Type 0 where
+  pub number : ℕ
+  pub name : BookName
+  pub input : List InputLine
+
+-- the role of the user's pass
+abbrev pub user_role_of : UserPassModel → UserRole
+user_role_of u = record { number = u.number; name = u.name; input = u.input }
+
+-- the role is that of the client of its number in this opening
+pub record IsRoleIn (parts : OpeningParts) (r : Role) : Type 0 where
+  pub name : r.name ≡ parts.name
+  pub script : slice_get parts.scripts r.sid ≡ Some r.script
+  pub plan : slice_get parts.plans r.sid ≡ Some r.plan
+  pub donation : r.donation ≡ donation_of parts.config r.sid

@@ -1,0 +1,69 @@
+-- What a run by rounds leaves: its journal, the words of its sessions, and the pictures that it
+-- put.
+use Rattle.std.specs.Prelude.{◌≡◌, ℕ, ◌+◌, ◌<◌, List, ◌++◌, length, codes, Option, Some, None}
+use Rattle.std.specs.Fmt.{decimal}
+use Rattle.nit_word.specs.Sight.{Sight, inked_sight}
+use Rattle.nit_script.specs.declared.line.Line.{Line}
+use Rattle.nit_script.specs.declared.line.InputLine.{InputLine}
+use Rattle.nit_config.specs.Configuration.{Configuration, donation_of}
+use Rattle.nit_journal.specs.Replay.{IsLegal, IsOpen}
+use Rattle.nit_plan.specs.ScriptWords.{ink, words_after, words_left}
+use Rattle.nit_plan.specs.Plan.{PlanModel, IsPlanOf}
+use Rattle.nit_plan.specs.SessionLists.{script_in, plan_in}
+use Rattle.nit_scene.specs.RawWords.{glass_in}
+use Rattle.nit_scene.specs.Scene.{SceneModel}
+use Rattle.nit_store.specs.declared.store.PutError.{PutError}
+use Rattle.nit_store.specs.Store.{StoreModel}
+use Rattle.nit_store.specs.Puts.{PutState, PutRefusal}
+use Rattle.nit_actor.specs.TurnActions.{AreRoundsOf}
+
+-- ---- what a run begins with
+
+-- the glass of a session of this donation over the words that the first k lines of its script leave
+abbrev pub glass_after : ℕ → List Line → ℕ → ℕ → Sight
+glass_after t script donation k = inked_sight t (words_after script donation k) (ink script)
+
+-- There are one script, plan and own glass for each session, in order, and each plan is of its
+-- script. The scene's glasses equal the own ones, on which no line is done.
+pub record IsSetUp (config : Configuration) (scripts : List (List Line)) (plans : List PlanModel)
+    (glasses owns : List Sight) : Type 0 where
+  pub sessions : length scripts ≡ length config.clients
+  pub plans_each : length plans ≡ length scripts
+  pub owns_each : length owns ≡ length scripts
+  pub same : glasses ≡ owns
+  pub planned : (t : ℕ) → t < length scripts
+      → IsPlanOf (script_in scripts t) (donation_of config t) (plan_in plans t)
+  pub blank : (t : ℕ) → t < length scripts
+      → glass_in owns t ≡ glass_after t (script_in scripts t) (donation_of config t) 0
+
+-- ---- pictures
+
+-- the name of a shot's picture
+abbrev pub shot_name : ℕ → List ℕ
+shot_name number = codes "shot-" ++ decimal number ++ codes ".ppm"
+
+-- the put of a picture that was refused so, where the shot of this number was tried last
+abbrev pub refusal_at : Option PutError → ℕ → Option PutRefusal
+refusal_at None tried = None
+refusal_at (Some e) tried = Some (record { name = shot_name tried; error = e })
+
+-- what a desk shows: its store, and the refusal that it met, at the shot that it tried last to put
+abbrev pub put_state_of_desk : StoreModel → Option PutError → ℕ → PutState
+put_state_of_desk shown fault tried = record { shown = shown; refused = refusal_at fault tried }
+
+-- ---- what a run leaves
+
+-- The entries are those of the rounds, and the last picture is not among them. Each session's words
+-- are those that its whole script leaves, in its own glass and in the scene's.
+pub record IsRoundsRun (scripts : List (List Line)) (input : List InputLine)
+    (before after' : SceneModel Sight) (owns : List Sight) : Type 0 where
+  pub config : after'.config ≡ before.config
+  pub entries : AreRoundsOf after'.entries scripts input
+  pub legal : IsLegal after'.config after'.entries
+  pub unended : IsOpen after'.entries
+  pub spare : length after'.entries + after'.spare ≡ before.spare
+  pub same : after'.glasses ≡ owns
+  pub owns_each : length owns ≡ length scripts
+  pub words : (t : ℕ) → t < length scripts
+      → glass_in owns t ≡ inked_sight t
+      (words_left (script_in scripts t) (donation_of before.config t)) (ink (script_in scripts t))

@@ -1,0 +1,17 @@
+-- A test of each key of the code as one of each row, and a test of each key of a map as one of each member.
+use Rattle.std.proofs.Common.{◌≡◌, ◌∙◌, Bool, not, ◌||◌, List, [], ◌∷◌, refl, ap, String, Global, string_bytes}
+use Rattle.std.specs.List.{list_any}
+use Rattle.std.specs.Map.{keys_of}
+use Rattle.toml.specs.View.{members_view}
+use Rattle.toml.specs.declared.value.Value.{Value}
+use Rattle.nit_config.specs.declared.keys.Key.{Key}
+use Rattle.nit_config.specs.Keys.{KeyRow, row_of, rows_of, is_known_key, has_unknown_key}
+use Rattle.nit_config.proofs.BoolLemmas.{list_any-map}
+
+pub on_rows : (p : KeyRow → Bool) (keys : List Key) (rows : List KeyRow) → rows_of keys ≡ rows → list_any (λ k. p (row_of k)) keys ≡ list_any p rows
+on_rows p keys rows same = list_any-map p row_of keys ∙ ap (list_any p) same
+
+pub on_members : (rows : List KeyRow) (es : List (String Global × Value)) → list_any (λ k. not (is_known_key rows (string_bytes k))) (keys_of es) ≡ has_unknown_key rows (members_view es)
+unfolding has_unknown_key
+on_members rows [] = refl
+on_members rows (e ∷ es) = ap (λ b. not (is_known_key rows (string_bytes e.0)) || b) (on_members rows es)

@@ -1,0 +1,21 @@
+-- Entries without the last picture.
+use Rattle.std.proofs.Common.{◌≡◌, List, [], ◌∷◌, ◌++◌, refl, ap}
+use Rattle.nit_events.specs.declared.entry.Entry.{Entry}
+use Rattle.nit_events.specs.declared.entry.Entry.TheVariants as entry
+use Rattle.nit_journal.specs.Replay.{IsOpen}
+use Rattle.nit_hall.specs.Room.{without_final}
+
+-- an open journal has none
+pub open_whole : (es : List Entry) → IsOpen es → without_final es ≡ es
+open_whole [] o = refl
+open_whole (entry.Call sid c r ∷ es) o = ap (λ fs. entry.Call sid c r ∷ fs) (open_whole es o)
+open_whole (entry.Input dev routed ∷ es) o = ap (λ fs. entry.Input dev routed ∷ fs) (open_whole es o)
+open_whole (entry.Shot number ∷ es) o = ap (λ fs. entry.Shot number ∷ fs) (open_whole es o)
+open_whole (entry.Final ∷ es) o = absurd o
+
+pub without-append : (es fs : List Entry) → without_final (es ++ fs) ≡ without_final es ++ without_final fs
+without-append [] fs = refl
+without-append (entry.Call sid c r ∷ es) fs = ap (λ gs. entry.Call sid c r ∷ gs) (without-append es fs)
+without-append (entry.Input dev routed ∷ es) fs = ap (λ gs. entry.Input dev routed ∷ gs) (without-append es fs)
+without-append (entry.Shot number ∷ es) fs = ap (λ gs. entry.Shot number ∷ gs) (without-append es fs)
+without-append (entry.Final ∷ es) fs = without-append es fs

@@ -1,0 +1,122 @@
+-- What each pixel may hold, after one more entry.
+use Rattle.std.proofs.Common.{◌≡◌, ◌∙◌, ℕ, ◌+◌, ◌*◌, ◌<◌, true, false, List, [], ◌∷◌, ◌++◌, Option, Some, None, sym, ap, subst, inl, inr}
+use Rattle.std.specs.Prelude.{IfSome, slice_index, slice_index_or}
+use Rattle.std.proofs.lemmas.Bool.{cases_Bool}
+use Rattle.nit_rect.specs.declared.point.Point.{Point}
+use Rattle.nit_word.specs.Inks.{IsInked}
+use Rattle.nit_word.specs.Sight.{Sight}
+use Rattle.nit_events.specs.declared.call.Call.{Call}
+use Rattle.nit_events.specs.declared.call.Reply.{Reply}
+use Rattle.nit_events.specs.declared.entry.Entry.{Entry}
+use Rattle.nit_events.specs.declared.entry.Entry.TheVariants as entry
+use Rattle.nit_stack.specs.Sources.{PixelSource, Bare, Black, Word, pixel}
+use Rattle.nit_script.specs.declared.line.Line.{Line}
+use Rattle.nit_config.specs.Configuration.{Configuration}
+use Rattle.nit_journal.specs.State.{State, after, first_state, source_of}
+use Rattle.nit_journal.proofs.ForCallers.{same_config}
+use Rattle.nit_journal.specs.Replay.{replay, replay_from, Agrees, IsLegal, LegalFrom, shots}
+use Rattle.nit_plan.specs.ScriptWords.{ink}
+use Rattle.nit_paint.specs.Repaint.{IsWordOfSource}
+use Rattle.nit_scene.specs.DirtyPixels.{dirty}
+use Rattle.nit_scene.specs.RawWords.{Painted, pixel_count, source_at}
+use Rattle.nit_plan.specs.SessionLists.{script_in}
+use Rattle.nit_hall.specs.NearWords.{is_dirtied, words_at_call, IsNearBy, IsNear, AreNear, IsWordOfScripts}
+use Rattle.nit_hall.proofs.LastDirty.{last_is_last, last_before}
+
+-- ---- one more entry
+
+-- what the law of clean pixels says
+abbrev pub KeepsSource : Type 0
+KeepsSource = (s : State) (taken : ℕ) (e : Entry) (p : Point) → Agrees s taken e → dirty s e (after s e) p ≡ false → source_of (after s e) p ≡ source_of s p
+
+-- what the law of one more entry says
+abbrev pub OneMore : Type 0
+OneMore = (s : State) (journal : List Entry) (e : Entry) → replay_from s (journal ++ e ∷ []) ≡ after (replay_from s journal) e
+
+-- what the law of one more entry says of the last entry of a legal journal
+abbrev pub LastAgrees : Type 0
+LastAgrees = (s : State) (taken : ℕ) (journal : List Entry) (e : Entry) → LegalFrom s taken (journal ++ e ∷ []) → Agrees (replay_from s journal) (taken + shots journal) e
+
+-- the laws of lower crates that a room goes by
+pub record Laws : Type 0 where
+  pub keeps : KeepsSource
+  pub more : OneMore
+  pub agrees : LastAgrees
+
+-- a pixel that the next entry leaves clean may hold what it might before
+near_still : (config : Configuration) (scripts : List (List Line)) (journal : List Entry) (e : Entry) (k : ℕ) (source : PixelSource) (w : ℕ) → is_dirtied config journal e k ≡ false
+    → IsNearBy config scripts journal k source w → IsNearBy config scripts (journal ++ e ∷ []) k source w
+near_still config scripts journal e k Bare w clean near = near
+near_still config scripts journal e k Black w clean near = near
+near_still config scripts journal e k (Word t i) w clean near =
+    record {
+      inked = near.inked;
+      exact = λ front call r rest last. let before = last_before config journal e k front (entry.Call t call r) rest clean last in near.exact front call r before.0 before.1;
+    }
+
+pub near_more : Laws → (config : Configuration) (scripts : List (List Line)) (journal : List Entry) (e : Entry) (raw raw' : List ℕ)
+    → IsLegal config (journal ++ e ∷ [])
+    → ((k : ℕ) → k < pixel_count (replay config journal) → is_dirtied config journal e k ≡ true
+    → IsNearBy config scripts (journal ++ e ∷ []) k (source_at (after (replay config journal) e) k) (slice_index_or raw' k 0))
+    → ((k : ℕ) → is_dirtied config journal e k ≡ false → slice_index_or raw' k 0 ≡ slice_index_or raw k 0)
+    → AreNear config scripts journal raw → AreNear config scripts (journal ++ e ∷ []) raw'
+near_more laws config scripts journal e raw raw' legal loaded others near k on_screen =
+    let s : State = replay config journal in
+    let now : replay config (journal ++ e ∷ []) ≡ after s e = laws.more (first_state config) journal e in
+    let count : pixel_count (replay config (journal ++ e ∷ [])) ≡ pixel_count s = ap pixel_count now ∙ ap (λ (c : Configuration). c.width * c.height) (same_config s e) in
+    let inside : k < pixel_count s = subst (λ (n : ℕ). k < n) count on_screen in
+    let at : source_at (replay config (journal ++ e ∷ [])) k ≡ source_of (after s e) (pixel s.config.width k) = ap (λ (x : State). source_at x k) now ∙ ap (λ (c : Configuration). source_of (after s e) (pixel c.width k)) (same_config s e) in
+    let w : ℕ = slice_index_or raw' k 0 in
+    elim (cases_Bool (is_dirtied config journal e k)) [
+      | inl is ↦ subst (λ (x : State). IsNearBy config scripts (journal ++ e ∷ []) k (source_at x k) w) (sym now) (loaded k inside is)
+      | inr clean ↦
+          let source : source_at (replay config (journal ++ e ∷ [])) k ≡ source_at s k = at ∙ laws.keeps s (0 + shots journal) e (pixel s.config.width k) (laws.agrees (first_state config) 0 journal e legal) clean in
+          subst (λ (x : ℕ). IsNear config scripts (journal ++ e ∷ []) k x) (sym (others k clean))
+          (subst (λ (x : PixelSource). IsNearBy config scripts (journal ++ e ∷ []) k x (slice_index_or raw k 0)) (sym source)
+          (near_still config scripts journal e k (source_at s k) (slice_index_or raw k 0) clean (near k inside)))
+    ]
+
+-- ---- what glasses give
+
+-- each glass has the ink of its session's script
+abbrev pub AreInks : List (List Line) → (ℕ → Sight) → Type 0
+AreInks scripts glasses = (t : ℕ) → (glasses t).ink ≡ ink (script_in scripts t)
+
+-- where the entry is a call, the caller's glass tells the words of its script
+abbrev pub TellsWords : Configuration → List (List Line) → List Entry → Entry → (ℕ → Sight) → Type 0
+TellsWords config scripts journal e glasses = (t : ℕ) (call : Call) (r : Reply) → entry.Call t call r ≡ e → (glasses t).words ≡ Some (words_at_call config scripts t journal)
+
+pub told_word : (o : Option (List ℕ)) (words : List ℕ) (i w : ℕ) → o ≡ Some words → IfSome o (λ ws. w ≡ slice_index ws i) → w ≡ slice_index words i
+told_word None words i w is told = absurd cc
+told_word (Some ws) words i w is told = let same : ws ≡ words = cc in told ∙ ap (λ (x : List ℕ). slice_index x i) same
+
+-- what the glasses give a pixel that the next entry makes dirty is a word that it may hold then
+held_near : (config : Configuration) (scripts : List (List Line)) (journal : List Entry) (e : Entry) (glasses : ℕ → Sight) (k : ℕ) (source : PixelSource) (w : ℕ) → is_dirtied config journal e k ≡ true
+    → AreInks scripts glasses → TellsWords config scripts journal e glasses → IsWordOfSource glasses source w → IsNearBy config scripts (journal ++ e ∷ []) k source w
+held_near config scripts journal e glasses k Bare w is inks tells held = held
+held_near config scripts journal e glasses k Black w is inks tells held = held
+held_near config scripts journal e glasses k (Word t i) w is inks tells held =
+    record {
+      inked = subst (λ (x : List ℕ). IsInked x w) (inks t) held.inked;
+      exact = λ front call r rest last.
+          let at = last_is_last config journal e k front (entry.Call t call r) rest is last in
+          told_word (glasses t).words (words_at_call config scripts t front) i w (tells t call r at.1 ∙ ap (λ (js : List Entry). Some (words_at_call config scripts t js)) (sym at.0)) held.told;
+    }
+
+-- an entry that loads its dirty pixels by such glasses
+pub near_painted : Laws → (config : Configuration) (scripts : List (List Line)) (journal : List Entry) (e : Entry) (s' : State) (glasses glasses' : ℕ → Sight) (raw raw' : List ℕ)
+    → IsLegal config (journal ++ e ∷ []) → s' ≡ after (replay config journal) e → AreInks scripts glasses → TellsWords config scripts journal e glasses
+    → Painted (replay config journal) e s' glasses glasses' raw raw' → AreNear config scripts journal raw → AreNear config scripts (journal ++ e ∷ []) raw'
+near_painted laws config scripts journal e s' glasses glasses' raw raw' legal now inks tells painted near =
+    let s : State = replay config journal in
+    let p : Painted s e (after s e) glasses glasses' raw raw' = subst (λ (x : State). Painted s e x glasses glasses' raw raw') now painted in
+    near_more laws config scripts journal e raw raw' legal
+    (λ k inside is. held_near config scripts journal e glasses k (source_at (after s e) k) (slice_index_or raw' k 0) is inks tells (p.marked k inside is).0)
+    (λ k clean. p.others k (λ _. clean)) near
+
+-- ---- what the scripts' colours say of it
+
+pub near_word : (config : Configuration) (scripts : List (List Line)) (journal : List Entry) (k : ℕ) (source : PixelSource) (w : ℕ) → IsNearBy config scripts journal k source w → IsWordOfScripts scripts source w
+near_word config scripts journal k Bare w near = near
+near_word config scripts journal k Black w near = near
+near_word config scripts journal k (Word t i) w near = near.inked

@@ -1,0 +1,191 @@
+-- A room and its passes before the first line.
+use Rattle.std.proofs.Common.{◌≡◌, ◌∙◌, ◌⊎◌, ⊎_elim, get_or, ℕ, zero, suc, ◌+◌, ◌*◌, ◌<◌, ◌≤◌, Bool, true, false, cond, List, [], ◌∷◌, ◌++◌, length, take, map, Option, Some, None, IfSome, replicate, refl, sym, ap, subst, inl, inr, arith}
+use Rattle.std.specs.Prelude.{slice_get, slice_index, slice_index_or}
+use Rattle.std.specs.Option.{option_map}
+use Rattle.std.proofs.lemmas.Bool.{cases_lt}
+use Rattle.std.proofs.lemmas.Option.{same_Some, none-some, slice_get-get_or, slice_get-map, get_or_from_slice_get}
+use Rattle.std.proofs.lemmas.List.{get_or_default, get_or_past, length-map}
+use Rattle.std.proofs.lemmas.List.{get_or-replicate, length-replicate, replicate-append-replicate}
+use Rattle.nit_rect.specs.declared.point.Point.{Point}
+use Rattle.nit_word.specs.Channels.{bare_word}
+use Rattle.nit_word.specs.Sight.{Sight}
+use Rattle.nit_stack.specs.Sources.{Bare, PixelSource, in_bar, pixel, source_under}
+use Rattle.nit_script.specs.declared.line.Line.{Line}
+use Rattle.nit_script.specs.declared.line.InputLine.{InputLine}
+use Rattle.nit_config.specs.Configuration.{Configuration, bar_rows}
+use Rattle.nit_journal.specs.State.{buffer_size, first_state, source_of}
+use Rattle.nit_journal.specs.WholeJournals.{calls_of}
+use Rattle.nit_plan.specs.ScriptWords.{Painting, painted_from, ink, table_size, words_after}
+use Rattle.nit_plan.specs.Plan.{PlanModel, IsPlanOf}
+use Rattle.nit_slots.specs.Account.{IsDonation}
+use Rattle.nit_pixels.specs.End.{End, new_sight, reader_sight}
+use Rattle.nit_paint.specs.Repaint.{no_sight}
+use Rattle.nit_scene.specs.RawWords.{glass_in}
+use Rattle.nit_scene.specs.Screen.{IsGlass}
+use Rattle.nit_ledger.specs.Book.{ShareModel}
+use Rattle.nit_plan.specs.SessionLists.{script_in}
+use Rattle.nit_plan.specs.Calls.{calls_in}
+use Rattle.nit_hall.specs.ServedLines.{served, user_actions_in, phases_before, lines_of_all}
+use Rattle.nit_hall.specs.NearWords.{AreNear, IsNearBy}
+use Rattle.nit_config.specs.declared.config.Member.{Member}
+use Rattle.nit_ledger.specs.Book.{BookName}
+use Rattle.nit_config.specs.Configuration.{donation_of}
+use Rattle.nit_plan.specs.SessionLists.{plan_in}
+use Rattle.nit_hall.specs.OpeningParts.{OpeningParts}
+use Rattle.nit_hall.specs.Pass.{PassModel, IsPass}
+use Rattle.nit_hall.specs.Opening.{IsFirst, IsSetting, AreBlank, AreSplitOff, first_pass, parts_of}
+use Rattle.nit_hall.specs.Room.{RoomModel, Follows, HaveInks, IsRoom}
+use Rattle.nit_hall.proofs.Phases.{phases_begun}
+
+bare_everywhere : (config : Configuration) (p : Point) → source_of (first_state config) p ≡ Bare
+bare_everywhere config p = go (in_bar (bar_rows config) p)
+  where
+    go : (b : Bool) → source_under (buffer_size (first_state config).sessions) p (cond b None None) ≡ Bare
+    go true = refl
+    go false = refl
+
+pub near_begun : (config : Configuration) (scripts : List (List Line)) → AreNear config scripts [] (replicate (config.width * config.height) bare_word)
+near_begun config scripts k inside =
+    subst (λ (x : PixelSource). IsNearBy config scripts [] k x (slice_index_or (replicate (config.width * config.height) bare_word) k 0)) (sym (bare_everywhere config (pixel config.width k)))
+    (get_or-replicate (config.width * config.height) k bare_word 0 inside)
+
+begun_calls : (counts : List ℕ) (scripts : List (List Line)) → ((k : ℕ) → slice_index counts k ≡ 0) → (t : ℕ) → [] ≡ calls_in (take (slice_index counts t) (served (script_in scripts t)))
+begun_calls counts scripts none t = sym (ap (λ (n : ℕ). calls_in (take n (served (script_in scripts t)))) (none t))
+
+pub follows_begun : (scripts : List (List Line)) (input : List InputLine) (counts : List ℕ) → length counts ≡ length scripts + 1 → ((k : ℕ) → slice_index counts k ≡ 0) → Follows scripts input counts 0 []
+follows_begun scripts input counts long none =
+    record {
+      each = long;
+      calls = λ t within. begun_calls counts scripts none t;
+      deeds = sym (ap (λ (n : ℕ). user_actions_in (take n input)) (none (length scripts)));
+      phases = one;
+      few = λ t within. let z = none t in omega (arith, z);
+      user_few = let z = none (length scripts) in omega (arith, z);
+      small = omega arith;
+    }
+  where
+    one : (i j d : ℕ) → i ≤ j → j < 1 → slice_index_or (0 ∷ []) i d ≤ slice_index_or (0 ∷ []) j d
+    one zero zero d le h = omega arith
+    one zero (suc j) d le h = absurd (omega arith)
+    one (suc i) j d le h = absurd (omega arith)
+
+-- all counts are 0
+pub zero_counts : (n : ℕ) (counts : List ℕ) → counts ≡ replicate n 0 → (k : ℕ) → slice_index counts k ≡ 0
+zero_counts n counts is k = ap (λ (cs : List ℕ). slice_index cs k) is ∙ go n k
+  where
+    go : (n k : ℕ) → slice_index (replicate n 0) k ≡ 0
+    go zero k = refl
+    go (suc n) zero = refl
+    go (suc n) (suc k) = go n k
+
+pub room_begun : (r : RoomModel) → r.scene.config ≡ r.parts.config → length r.parts.scripts ≡ length r.scene.config.clients → length r.parts.scripts ≤ 16 → r.scene.entries ≡ []
+    → r.scene.spare ≡ lines_of_all r.parts.scripts r.parts.input + 1 → r.scene.raw ≡ replicate (r.scene.config.width * r.scene.config.height) bare_word → HaveInks r.parts.scripts r.scene.glasses
+    → r.counts ≡ replicate (length r.parts.scripts + 1) 0 → r.phase ≡ 0 → r.arrived ≡ 0 → IsRoom r
+room_begun r config each few empty spare raw inks counts first none =
+    let zeros_ : (k : ℕ) → slice_index r.counts k ≡ 0 = zero_counts (length r.parts.scripts + 1) r.counts counts in
+    let long : length r.counts ≡ length r.parts.scripts + 1 = ap length counts ∙ length-replicate (length r.parts.scripts + 1) 0 in
+    record {
+      config = config;
+      legal = rw empty tt;
+      sessions = each ∙ ap (λ (c : Configuration). length c.clients) config;
+      clients = few;
+      follows = rw (empty, first) (follows_begun r.parts.scripts r.parts.input r.counts long zeros_);
+      phases = rw (first, none) (phases_begun r.parts.scripts r.parts.input r.counts long zeros_);
+      inks = inks;
+      near = subst (λ (c : Configuration). AreNear c r.parts.scripts r.scene.entries r.scene.raw) config (rw (empty, raw) (near_begun r.scene.config r.parts.scripts));
+      room = let n = ap length empty in omega (arith, n, spare);
+      ended = inl (rw empty tt);
+    }
+
+-- ---- a pass
+
+-- what the law of lines says of the first
+abbrev pub NoLine : Type 0
+NoLine = (p : Painting) (script : List Line) → painted_from p (take 0 script) ≡ p
+
+pub pass_begun : (p : PassModel) (share : ShareModel) → IsDonation p.donation → IsPlanOf p.script p.donation p.plan → p.sight ≡ new_sight p.sid (table_size p.donation) p.plan.ink → p.next ≡ 0 → p.phase ≡ 0 → p.seen ≡ [] → share.number ≡ p.sid → share.count ≡ 0 → IsPass p share
+pass_begun p share opens of is none first empty number count =
+    let told : p.sight.words ≡ Some (words_after p.script p.donation p.next) = ap (λ (g : Sight). g.words) is ∙ ap (λ (n : ℕ). Some (words_after p.script p.donation n)) (sym none) in
+    record {
+      number = number;
+      counted = count ∙ sym (ap (λ (n : ℕ). length (served (take n p.script))) none);
+      within = omega (arith, none);
+      phase = first ∙ sym (ap (λ (n : ℕ). phases_before p.script n) none);
+      known = ap (calls_of p.sid) empty ∙ sym (ap (λ (n : ℕ). calls_in (take n p.script)) none);
+      owner = ap (λ (g : Sight). g.owner) is;
+      painted = record {
+        opens = opens;
+        planned = of;
+        ink = ap (λ (g : Sight). g.ink) is ∙ ap (λ (x : PlanModel). x.ink) of;
+        size = ap (λ (g : Sight). g.size) is;
+        words = subst (λ (o : Option (List ℕ)). IfSome o (λ words. words ≡ words_after p.script p.donation p.next)) (sym told) refl;
+      };
+      told = told;
+    }
+
+-- ---- passes one after the other
+
+get_push : {A : Type 0} (xs : List A) (k : ℕ) (x y : A) → slice_get (xs ++ y ∷ []) k ≡ Some x → (slice_get xs k ≡ Some x) ⊎ ((k ≡ length xs) × (y ≡ x))
+get_push [] zero x y e = inr (refl, same_Some y x e)
+get_push [] (suc k) x y e = absurd (none-some x e)
+get_push (z ∷ xs) zero x y e = inl e
+get_push (z ∷ xs) (suc k) x y e = ⊎_elim (λ p. inl p) (λ q. inr (ap suc q.0, q.1)) (get_push xs k x y e)
+
+pub get_seam : {A : Type 0} (xs ys : List A) (y : A) (k : ℕ) → k ≡ length xs → slice_get ((xs ++ y ∷ []) ++ ys) k ≡ Some y
+get_seam [] ys y zero e = refl
+get_seam [] ys y (suc k) e = absurd (omega arith)
+get_seam (x ∷ xs) ys y zero e = absurd (omega arith)
+get_seam (x ∷ xs) ys y (suc k) e = get_seam xs ys y k (omega arith)
+
+pub each_more : (parts : OpeningParts) (canvases : List End) (k : ℕ) (ps qs : List PassModel) (p : PassModel) (c : End) → qs ≡ ps ++ p ∷ [] → length ps ≡ k → slice_get canvases k ≡ Some c → p ≡ first_pass parts k c
+    → ((j : ℕ) (q : PassModel) → slice_get ps j ≡ Some q → IsFirst parts canvases j q) → (j : ℕ) (q : PassModel) → slice_get qs j ≡ Some q → IsFirst parts canvases j q
+each_more parts canvases k ps qs p c pushed long at is all j q e =
+    ⊎_elim
+    (λ (x : slice_get ps j ≡ Some q). all j q x)
+    (λ (x : (j ≡ length ps) × (p ≡ q)). subst (λ (n : ℕ). IsFirst parts canvases n q) (sym (x.0 ∙ long)) (subst (λ (y : PassModel). IsFirst parts canvases k y) x.1 (c, at, is)))
+    (get_push ps j q p (ap (λ (xs : List PassModel). slice_get xs j) (sym pushed) ∙ e))
+
+-- the pass of a client, by what stands at its number
+pub pass_at : (name name' : BookName) (config : Configuration) (clients : List Member) (scripts : List (List Line)) (plans : List PlanModel) (input : List InputLine) (k : ℕ) (script : List Line) (plan : PlanModel) (m : Member) (share : ShareModel) (c : End) (p : PassModel)
+    → script ≡ get_or scripts k script → k < length scripts → plan ≡ get_or plans k plan → k < length plans → k < length clients → clients ≡ config.clients → share ≡ record { name = name'; number = k; count = 0; seen = [] } → name' ≡ name
+    → p ≡ record { sid = k; next = 0; phase = 0; name = share.name; script = script; plan = plan; donation = (get_or clients k m).donation; seen = share.seen; sight = c.sight; stand = c.stand } → p ≡ first_pass (parts_of name config scripts plans input) k c
+pass_at name name' config clients scripts plans input k script plan m share c p es hs ep hp hm ec eh en is =
+    let s : script ≡ script_in scripts k = es ∙ get_or_default scripts k script [] hs in
+    let q : plan ≡ plan_in plans k = ep ∙ get_or_default plans k plan (record { steps = []; ink = [] }) hp in
+    let n : (get_or clients k m).donation ≡ donation_of config k = ap (λ (x : Member). x.donation) (get_or_default clients k m (record { label = []; donation = 0; script = []; layer = 0; clicks = false }) hm ∙ ap (λ (ms : List Member). get_or ms k (record { label = []; donation = 0; script = []; layer = 0; clicks = false })) ec) in
+    let named : share.name ≡ name = ap (λ (x : ShareModel). x.name) eh ∙ en in
+    let known : share.seen ≡ [] = ap (λ (x : ShareModel). x.seen) eh in
+    is ∙ (λ i. record { sid = k; next = 0; phase = 0; name = named i; script = s i; plan = q i; donation = n i; seen = known i; sight = c.sight; stand = c.stand })
+
+-- one more count of 0
+pub zeros_push : (n m : ℕ) (cs ds : List ℕ) → ds ≡ cs ++ 0 ∷ [] → cs ≡ replicate n 0 → m ≡ n + 1 → ds ≡ replicate m 0
+zeros_push n m cs ds is all more = is ∙ ap (λ (xs : List ℕ). xs ++ 0 ∷ []) all ∙ replicate-append-replicate n 1 0 ∙ ap (λ (k : ℕ). replicate k 0) (sym more)
+
+-- ---- the readers' ends
+
+canvas_at : (config : Configuration) (plans : List PlanModel) (canvases : List End) (t : ℕ) → AreBlank config plans canvases → t < length config.clients → (c : End) × (slice_get canvases t ≡ Some c)
+canvas_at config plans [] t b h = absurd (let n = b.canvas_each in omega (arith, n, h))
+canvas_at config plans (c ∷ cs) t b h = (get_or (c ∷ cs) t c, slice_get-get_or (c ∷ cs) t c (let n = b.canvas_each in omega (arith, n, h)))
+
+lens_at : (config : Configuration) (plans : List PlanModel) (canvases lenses : List End) (t : ℕ) → AreBlank config plans canvases → AreSplitOff canvases lenses → t < length config.clients
+    → glass_in (map (λ (e : End). e.sight) lenses) t ≡ reader_sight (new_sight t (table_size (donation_of config t)) (plan_in plans t).ink)
+lens_at config plans canvases lenses t b are h =
+    let at = canvas_at config plans canvases t b h in
+    ap (λ (gs : List Sight). glass_in gs t) are.sights
+    ∙ get_or_from_slice_get (map (λ (e : End). reader_sight e.sight) canvases) t (reader_sight at.0.sight) no_sight (slice_get-map (λ (e : End). reader_sight e.sight) canvases t ∙ ap (λ (o : Option End). option_map (λ (e : End). reader_sight e.sight) o) at.1)
+    ∙ ap reader_sight (b.blank t at.0 at.1)
+
+pub lens_tables : (config : Configuration) (plans : List PlanModel) (canvases lenses : List End) → AreBlank config plans canvases → AreSplitOff canvases lenses → (t : ℕ) → t < length config.clients → IsGlass config t (glass_in (map (λ (e : End). e.sight) lenses) t)
+lens_tables config plans canvases lenses b are t h = subst (λ (g : Sight). IsGlass config t g) (sym (lens_at config plans canvases lenses t b are h)) (refl, refl)
+
+pub lens_inks : (config : Configuration) (scripts : List (List Line)) (plans : List PlanModel) (canvases lenses : List End) → IsSetting config scripts plans → AreBlank config plans canvases → AreSplitOff canvases lenses → HaveInks scripts lenses
+lens_inks config scripts plans canvases lenses set b are t = elim (cases_lt t (length config.clients)) [
+  | inl inside ↦ ap (λ (g : Sight). g.ink) (lens_at config plans canvases lenses t b are inside) ∙ ap (λ (p : PlanModel). p.ink) (set.planned t (let n = set.sessions in omega (arith, n, inside)))
+  | inr past ↦
+      let many : length lenses ≡ length config.clients = sym (length-map lenses (λ (e : End). e.sight)) ∙ ap (λ (gs : List Sight). length gs) are.sights ∙ length-map canvases (λ (e : End). reader_sight e.sight) ∙ b.canvas_each in
+      let none : glass_in (map (λ (e : End). e.sight) lenses) t ≡ no_sight = get_or_past (map (λ (e : End). e.sight) lenses) t no_sight (let m = length-map lenses (λ (e : End). e.sight) in omega (arith, m, many, past)) in
+      ap (λ (g : Sight). g.ink) none ∙ ap ink (sym (get_or_past scripts t [] (let n = set.sessions in omega (arith, n, past))))
+]
+
+pub lens_count : (config : Configuration) (plans : List PlanModel) (canvases lenses : List End) → AreBlank config plans canvases → AreSplitOff canvases lenses → length lenses ≡ length config.clients
+lens_count config plans canvases lenses b are = sym (length-map lenses (λ (e : End). e.sight)) ∙ ap (λ (gs : List Sight). length gs) are.sights ∙ length-map canvases (λ (e : End). reader_sight e.sight) ∙ b.canvas_each

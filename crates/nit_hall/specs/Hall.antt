@@ -1,0 +1,24 @@
+-- What an actor is told over the lock and beside it.
+use Rattle.std.specs.Prelude.{◌≡◌, ℕ, ◌≤◌, List, [], ◌∷◌, ◌++◌, length}
+use Rattle.nit_events.specs.declared.entry.Entry.{Entry}
+use Rattle.nit_events.specs.declared.entry.Entry.TheVariants as entry
+use Rattle.nit_hall.specs.OpeningParts.{OpeningParts}
+use Rattle.nit_hall.specs.NearWords.{IsNearFrame}
+
+-- the entry was added to all that had been known, and to what others had added since
+abbrev pub Tells : List Entry → Entry → List Entry → Type 0
+Tells before e after = (between : List Entry) × (after ≡ (before ++ between) ++ e ∷ [])
+
+-- a shot was added so, and these words are a frame of the journal in front of it
+pub record TellsShot (parts : OpeningParts) (before : List Entry) (number : ℕ) (after : List Entry)
+    (words : List ℕ) : Type 0 where
+  pub between : List Entry
+  pub told : after ≡ (before ++ between) ++ entry.Shot number ∷ []
+  pub near : IsNearFrame parts.config parts.scripts (before ++ between) words
+
+-- the size of the screen and the number of clients of this opening
+pub record IsMeasured (parts : OpeningParts) (width height clients : ℕ) : Type 0 where
+  pub width_is : width ≡ parts.config.width
+  pub height_is : height ≡ parts.config.height
+  pub screen : (width ≤ 1024) × (height ≤ 768)
+  pub clients_are : clients ≡ length parts.scripts

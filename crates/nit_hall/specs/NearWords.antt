@@ -1,0 +1,95 @@
+-- Which words a pixel may hold after a journal, whatever the threads of the clients wrote
+-- meanwhile. Pixels count from 0, row by row from the top.
+use Rattle.std.specs.Prelude.{◌≡◌, ℕ, ◌+◌, ◌<◌, Bool, true, false, List, ◌∷◌, ◌++◌, length}
+use Rattle.std.specs.Prelude.{slice_index, slice_index_or}
+use Rattle.nit_word.specs.Channels.{bare_word}
+use Rattle.nit_word.specs.Inks.{IsInked}
+use Rattle.nit_events.specs.declared.call.Call.{Call}
+use Rattle.nit_events.specs.declared.call.Reply.{Reply}
+use Rattle.nit_events.specs.declared.entry.Entry.{Entry}
+use Rattle.nit_events.specs.declared.entry.Entry.TheVariants as entry
+use Rattle.nit_stack.specs.Sources.{PixelSource, Bare, Black, Word, pixel}
+use Rattle.nit_script.specs.declared.line.Line.{Line}
+use Rattle.nit_config.specs.Configuration.{Configuration}
+use Rattle.nit_journal.specs.State.{after}
+use Rattle.nit_journal.specs.Replay.{replay}
+use Rattle.nit_journal.specs.WholeJournals.{calls_of}
+use Rattle.nit_plan.specs.ScriptWords.{ink, words_after}
+use Rattle.nit_scene.specs.DirtyPixels.{dirty}
+use Rattle.nit_overlay.specs.Frame.{frame}
+use Rattle.nit_scene.specs.RawWords.{pixel_count, source_at}
+use Rattle.nit_scene.specs.Scene.{scenery_of}
+use Rattle.nit_config.specs.Configuration.{donation_of}
+use Rattle.nit_plan.specs.SessionLists.{script_in}
+use Rattle.nit_hall.specs.ServedLines.{lines_to_call}
+
+-- ---- which entry made a pixel dirty last
+
+-- the entry behind this front of a journal makes the pixel dirty
+abbrev pub is_dirtied : Configuration → List Entry → Entry → ℕ → Bool
+is_dirtied config front e k =
+    let s = replay config front in dirty s e (after s e) (pixel s.config.width k)
+
+-- Of the journal's entries that make the pixel dirty this is the last. These stand in front of it,
+-- and those behind it.
+pub record IsLastDirtied (config : Configuration) (journal : List Entry) (k : ℕ)
+    (front : List Entry) (e : Entry) (rest : List Entry) : Type 0 where
+  pub split : journal ≡ front ++ e ∷ rest
+  pub dirty_here : is_dirtied config front e k ≡ true
+  pub clean_behind : (between : List Entry) (f : Entry) (more : List Entry)
+      → rest ≡ between ++ f ∷ more → is_dirtied config (front ++ e ∷ between) f k ≡ false
+
+-- ---- the words
+
+-- how many lines of its script a session has done with the call that it makes next behind this
+-- front
+abbrev pub lines_at_call : List (List Line) → ℕ → List Entry → ℕ
+lines_at_call scripts t front =
+    lines_to_call (length (calls_of t front) + 1) (script_in scripts t)
+
+-- the words that a session's script has left in its table at that call
+abbrev pub words_at_call : Configuration → List (List Line) → ℕ → List Entry → List ℕ
+words_at_call config scripts t front =
+    words_after (script_in scripts t) (donation_of config t) (lines_at_call scripts t front)
+
+-- A pixel that shows the word at i of a session's table holds 0 or a colour of the session's
+-- script. Where the last entry that made it dirty is a call of that session, it holds the very word
+-- that the script had left there at that call.
+pub record IsNearWord (config : Configuration) (scripts : List (List Line)) (journal : List Entry)
+    (k t i w : ℕ) : Type 0 where
+  pub inked : IsInked (ink (script_in scripts t)) w
+  pub exact : (front : List Entry) (call : Call) (r : Reply) (rest : List Entry)
+      → IsLastDirtied config journal k front (entry.Call t call r) rest
+      → w ≡ slice_index (words_at_call config scripts t front) i
+
+-- a pixel of this source may hold w
+abbrev pub IsNearBy : Configuration → List (List Line) → List Entry → ℕ → PixelSource → ℕ → Type 0
+IsNearBy config scripts journal k Bare w = w ≡ bare_word
+IsNearBy config scripts journal k Black w = w ≡ 0
+IsNearBy config scripts journal k (Word t i) w = IsNearWord config scripts journal k t i w
+
+-- after this journal the pixel of number k may hold w
+abbrev pub IsNear : Configuration → List (List Line) → List Entry → ℕ → ℕ → Type 0
+IsNear config scripts journal k w =
+    IsNearBy config scripts journal k (source_at (replay config journal) k) w
+
+-- each pixel holds a word that it may hold
+abbrev pub AreNear : Configuration → List (List Line) → List Entry → List ℕ → Type 0
+AreNear config scripts journal raw =
+    (k : ℕ) → k < pixel_count (replay config journal)
+    → IsNear config scripts journal k (slice_index_or raw k 0)
+
+-- the words are the frame of the state that this journal leads to, by words that its pixels may
+-- hold
+abbrev pub IsNearFrame : Configuration → List (List Line) → List Entry → List ℕ → Type 0
+IsNearFrame config scripts journal words =
+    (raw : List ℕ) × AreNear config scripts journal raw
+    × (words ≡ frame (scenery_of (replay config journal)) raw)
+
+-- ---- what the scripts alone say of a word
+
+-- a pixel of this source may hold w by the scripts' colours alone
+abbrev pub IsWordOfScripts : List (List Line) → PixelSource → ℕ → Type 0
+IsWordOfScripts scripts Bare w = w ≡ bare_word
+IsWordOfScripts scripts Black w = w ≡ 0
+IsWordOfScripts scripts (Word t i) w = IsInked (ink (script_in scripts t)) w

@@ -1,0 +1,151 @@
+-- What contracts see of a room, and what holds of it.
+use Rattle.std.specs.Prelude.{◌≡◌, ◌⊎◌, ℕ, ◌+◌, ◌-◌, ◌<◌, ◌≤◌, ◌==◌, if◌then◌else◌}
+use Rattle.std.specs.Prelude.{List, [], ◌∷◌, ◌++◌, length, map, sum, take, count_by, slice_index}
+use Rattle.std.specs.List.Sorted.{IsNonDecreasing}
+use Rattle.nit_word.specs.Sight.{Sight}
+use Rattle.nit_events.specs.declared.entry.Entry.{Entry}
+use Rattle.nit_events.specs.declared.entry.Entry.TheVariants as entry
+use Rattle.nit_script.specs.declared.line.Line.{Line}
+use Rattle.nit_script.specs.declared.line.InputLine.{InputLine}
+use Rattle.nit_script.specs.Phases.{is_phase, is_input_phase}
+use Rattle.nit_journal.specs.Replay.{IsLegal, IsOpen}
+use Rattle.nit_journal.specs.WholeJournals.{calls_of, user_actions_of, phases_along}
+use Rattle.nit_plan.specs.Calls.{calls_to_make, user_actions_to_do}
+use Rattle.nit_plan.specs.ScriptWords.{ink}
+use Rattle.nit_pixels.specs.End.{End}
+use Rattle.nit_pixels.specs.declared.standing.Standing.{Standing}
+use Rattle.nit_ledger.specs.Book.{raised}
+use Rattle.nit_scene.specs.RawWords.{glass_in}
+use Rattle.nit_scene.specs.Scene.{SceneModel}
+use Rattle.nit_plan.specs.SessionLists.{script_in}
+use Rattle.nit_hall.specs.OpeningParts.{OpeningParts}
+use Rattle.nit_plan.specs.Calls.{calls_in}
+use Rattle.nit_hall.specs.ServedLines.{served, user_actions_in, lines_of_all}
+use Rattle.nit_hall.specs.NearWords.{AreNear}
+
+-- What the room was opened with; its scene, whose glasses are the readers' ends of the clients'
+-- words; how many lines were served for each client in order, and last for the user; the phase that
+-- is served, and how many actors have ended it. Phases count from 0.
+pub record RoomModel : Type 0 where
+  pub parts : OpeningParts
+  pub scene : SceneModel End
+  pub counts : List ℕ
+  pub phase : ℕ
+  pub arrived : ℕ
+
+-- what the readers' ends see
+abbrev pub lenses : SceneModel End → List Sight
+lenses scene = map (λ (e : End). e.sight) scene.glasses
+
+-- where the readers' ends stand
+abbrev pub stands : SceneModel End → List Standing
+stands scene = map (λ (e : End). e.stand) scene.glasses
+
+-- ---- the room after a line
+
+-- The room after a line of this actor that put an entry into the journal, with these raw words and
+-- readers' ends. All else is as before.
+abbrev pub with_entry : RoomModel → ℕ → Entry → List ℕ → List End → RoomModel
+with_entry r actor e raw glasses =
+    record r {
+      scene = record r.scene {
+        entries = r.scene.entries ++ e ∷ [];
+        spare = r.scene.spare - 1;
+        raw = raw;
+        glasses = glasses;
+      };
+      counts = raised r.counts actor;
+    }
+
+-- the room after the last picture, with these raw words; all else is as before
+abbrev pub with_final : RoomModel → List ℕ → RoomModel
+with_final r raw =
+    record r {
+      scene = record r.scene {
+        entries = r.scene.entries ++ entry.Final ∷ [];
+        spare = r.scene.spare - 1;
+        raw = raw;
+      };
+    }
+
+-- the phase that is served, and how many actors have ended it, when one more of the clients and the
+-- user has
+abbrev pub after_arrival : ℕ → ℕ → ℕ → ℕ × ℕ
+after_arrival clients phase arrived =
+    if arrived == clients then (phase + 1, 0) else (phase, arrived + 1)
+
+-- the room when this actor has ended its phase
+abbrev pub arrived_one : RoomModel → ℕ → RoomModel
+arrived_one r actor = record r {
+  counts = raised r.counts actor;
+  phase = (after_arrival (length r.parts.scripts) r.phase r.arrived).0;
+  arrived = (after_arrival (length r.parts.scripts) r.phase r.arrived).1;
+}
+
+-- ---- what holds of a room
+
+-- the entries without the last picture
+abbrev pub without_final : List Entry → List Entry
+without_final [] = []
+without_final (entry.Final ∷ rest) = without_final rest
+without_final (other ∷ rest) = other ∷ without_final rest
+
+-- The calls of each client are those among its served lines, as many of these as its count says; so
+-- are the user's entries; and along the journal phases never fall, up to the one that is served.
+pub record Follows (scripts : List (List Line)) (input : List InputLine) (counts : List ℕ)
+    (phase : ℕ) (entries : List Entry) : Type 0 where
+  pub each : length counts ≡ length scripts + 1
+  pub calls : (t : ℕ) → t < length scripts
+      → calls_of t entries ≡ calls_in (take (slice_index counts t) (served (script_in scripts t)))
+  pub deeds : user_actions_of entries
+      ≡ user_actions_in (take (slice_index counts (length scripts)) input)
+  pub phases : IsNonDecreasing
+      (phases_along (map calls_to_make scripts) (user_actions_to_do input) entries ++ phase ∷ [])
+  pub few : (t : ℕ) → t < length scripts
+      → slice_index counts t ≤ length (served (script_in scripts t))
+  pub user_few : slice_index counts (length scripts) ≤ length input
+  pub small : length entries ≤ sum counts
+
+-- all lines that the room serves were served
+abbrev pub AllServed : List (List Line) → List InputLine → List ℕ → Type 0
+AllServed scripts input counts =
+    ((t : ℕ) → t < length scripts
+    → slice_index counts t ≡ length (served (script_in scripts t)))
+    × (slice_index counts (length scripts) ≡ length input)
+
+-- how many phases each client has ended by its count, in order, and last how many the user has
+abbrev pub phases_ended : List (List Line) → List InputLine → List ℕ → List ℕ
+phases_ended scripts input [] = []
+phases_ended [] input (count ∷ rest) = count_by is_input_phase (take count input) ∷ []
+phases_ended (script ∷ scripts) input (count ∷ counts) =
+    count_by is_phase (take count (served script)) ∷ phases_ended scripts input counts
+
+-- so many actors have ended this phase and no further one; all others are in it, and there are some
+pub record IsServedPhase (phase arrived : ℕ) (ended : List ℕ) : Type 0 where
+  pub each : (k : ℕ) → k < length ended
+      → (slice_index ended k ≡ phase) ⊎ (slice_index ended k ≡ phase + 1)
+  pub counted : arrived ≡ count_by (λ n. n == phase + 1) ended
+  pub some_left : arrived < length ended
+
+-- each reader's end has the ink of its session's script
+abbrev pub HaveInks : List (List Line) → List End → Type 0
+HaveInks scripts ends =
+    (t : ℕ) → (glass_in (map (λ (e : End). e.sight) ends) t).ink ≡ ink (script_in scripts t)
+
+-- What holds of every room: its journal is legal and follows the scripts, but for the last picture;
+-- its readers' ends have the inks of the scripts, and each raw word is one that its pixel may hold;
+-- there is room for an entry of each line and for the last picture, which comes only when all lines
+-- were served; and the phase that is served is the one that the last of its actors are in.
+pub record IsRoom (r : RoomModel) : Type 0 where
+  pub config : r.scene.config ≡ r.parts.config
+  pub legal : IsLegal r.parts.config r.scene.entries
+  pub sessions : length r.parts.scripts ≡ length r.parts.config.clients
+  pub clients : length r.parts.scripts ≤ 16
+  pub follows : Follows r.parts.scripts r.parts.input r.counts r.phase
+      (without_final r.scene.entries)
+  pub phases : IsServedPhase r.phase r.arrived
+      (phases_ended r.parts.scripts r.parts.input r.counts)
+  pub inks : HaveInks r.parts.scripts r.scene.glasses
+  pub near : AreNear r.parts.config r.parts.scripts r.scene.entries r.scene.raw
+  pub room : length r.scene.entries + r.scene.spare ≡ lines_of_all r.parts.scripts r.parts.input + 1
+  pub ended : IsOpen r.scene.entries ⊎ AllServed r.parts.scripts r.parts.input r.counts

@@ -1,0 +1,98 @@
+-- Worked rows of one session and of a small journal, computed from the definitions.
+use Rattle.std.proofs.Common.{◌≡◌, List, [], ◌∷◌, refl, pos, negsuc, map, arith, ◌++◌, Some}
+use Rattle.std.specs.Prelude.{codes}
+use Rattle.nit_events.specs.declared.event.Event.TheVariants as event
+use Rattle.nit_events.specs.declared.device.Device.TheVariants as device
+use Rattle.nit_events.specs.Input.{to, routed_as}
+use Rattle.nit_events.specs.declared.call.Call.{Call}
+use Rattle.nit_events.specs.declared.call.Call.TheVariants.{Buffer, View, Place, Title, Destroy, Refresh, Take, Upgrade, Close}
+use Rattle.nit_events.specs.declared.call.Reply.TheVariants as reply
+use Rattle.nit_events.specs.declared.entry.Entry.{Entry}
+use Rattle.nit_events.specs.declared.entry.Entry.TheVariants as entry
+use Rattle.nit_stack.specs.Sources.{Bare, Word, point}
+use Rattle.nit_config.specs.Configuration.{still_configuration}
+use Rattle.nit_journal.specs.Session.{first_session, serve}
+use Rattle.nit_journal.specs.Projection.{Observation, Calls, alone, own_machine}
+use Rattle.nit_journal.specs.State.{source_of, route}
+use Rattle.nit_journal.specs.StackAfter.{stack_after_call}
+use Rattle.nit_journal.specs.Replay.{replay, IsLegal}
+
+abbrev calls : List Call → List Observation
+calls xs = map (λ c. Calls c) xs
+
+three_views : alone 512 (calls (View ∷ View ∷ View ∷ [])) ≡ reply.Handle 1 ∷ reply.Handle 2 ∷ reply.OutOfQuota 256 0 ∷ []
+unfolding serve
+three_views = refl
+
+buffers : alone 512 (calls (Buffer 4 4 ∷ Buffer 8 8 ∷ [])) ≡ reply.Done ∷ reply.Done ∷ []
+unfolding serve
+buffers = refl
+
+buffer_beside_view : alone 512 (calls (Buffer 4 4 ∷ View ∷ Buffer 8 8 ∷ [])) ≡ reply.Done ∷ reply.Handle 1 ∷ reply.OutOfQuota 512 256 ∷ []
+unfolding serve
+buffer_beside_view = refl
+
+handles_are_new : alone 8388608 (calls (View ∷ Destroy 1 ∷ View ∷ Place 1 (pos 0) (pos 0) 1 1 ∷ [])) ≡ reply.Handle 1 ∷ reply.Done ∷ reply.Handle 2 ∷ reply.NoSuchView 1 ∷ []
+unfolding serve
+handles_are_new = refl
+
+titles : alone 8388608 (calls (View ∷ Title 1 (codes "log 2") ∷ Title 1 (codes "Log") ∷ Title 1 (codes "abcdefghijklm") ∷ Title 2 [] ∷ []))
+    ≡ reply.Handle 1 ∷ reply.Done ∷ reply.BadTitle ∷ reply.BadTitle ∷ reply.NoSuchView 2 ∷ []
+unfolding serve
+titles = refl
+
+ranges : alone 8388608 (calls (View ∷ Place 1 (pos 32767) (negsuc 32767) 32767 32767 ∷ Place 1 (pos 32768) (pos 0) 1 1 ∷ Refresh (pos 0) (pos 0) 32768 1 ∷ Buffer 4097 1 ∷ Buffer 0 1 ∷ Close ∷ Close ∷ Take ∷ []))
+    ≡ reply.Handle 1 ∷ reply.Done ∷ reply.BadRect ∷ reply.BadRect ∷ reply.BadSize ∷ reply.BadSize ∷ reply.Done ∷ reply.Closed ∷ reply.Closed ∷ []
+unfolding serve
+ranges = refl
+
+upgrades : alone 512 (calls (View ∷ View ∷ Upgrade 256 ∷ View ∷ Upgrade 257 ∷ Upgrade 256 ∷ Upgrade 1 ∷ []))
+    ≡ reply.Handle 1 ∷ reply.Handle 2 ∷ reply.Done ∷ reply.Handle 3 ∷ reply.NoReserve 257 256 ∷ reply.Done ∷ reply.NoReserve 1 0 ∷ []
+unfolding serve
+upgrades = refl
+
+-- a buffer of 4 by 2 in a view at (1, 1)
+abbrev first : List Entry
+first =
+    entry.Call 0 (Buffer 4 2) reply.Done
+    ∷ entry.Call 0 View (reply.Handle 1)
+    ∷ entry.Call 0 (Place 1 (pos 1) (pos 1) 4 2) reply.Done
+    ∷ entry.Final
+    ∷ []
+
+first_at_1_1 : source_of (replay (still_configuration 8 4) first) (point 1 1) ≡ Word 0 0
+unfolding serve stack_after_call
+first_at_1_1 = refl
+
+first_at_4_2 : source_of (replay (still_configuration 8 4) first) (point 4 2) ≡ Word 0 7
+unfolding serve stack_after_call
+first_at_4_2 = refl
+
+first_at_0_0 : source_of (replay (still_configuration 8 4) first) (point 0 0) ≡ Bare
+unfolding serve stack_after_call
+first_at_0_0 = refl
+
+-- the view is clicked, and its session takes an event
+abbrev clicked : List Entry
+clicked =
+    entry.Call 0 (Buffer 4 2) reply.Done
+    ∷ entry.Call 0 View (reply.Handle 1)
+    ∷ entry.Call 0 (Place 1 (pos 1) (pos 1) 4 2) reply.Done
+    ∷ entry.Input (device.Motion 2 2) (routed_as (to (Some 0) (event.Motion 2 2)))
+    ∷ entry.Input (device.Press 272) (routed_as (to (Some 0) event.FocusEnter ++ to (Some 0) (event.Press 272)))
+    ∷ entry.Call 0 Take (reply.Event (event.Motion 2 2))
+    ∷ entry.Final
+    ∷ []
+
+clicked_is_legal : IsLegal (still_configuration 8 4) clicked
+unfolding serve stack_after_call route
+clicked_is_legal = ((omega arith, refl), ((omega arith, refl), ((omega arith, refl), (refl, (refl, ((omega arith, refl), refl))))))
+
+-- its own calls alone: the machine knows nothing of the user, and has no event to take
+clicked_by_itself : own_machine (still_configuration 8 4) 0 clicked ≡ record (first_session 8388608) { bw = 4; bh = 2; next = 2; handles = 1 ∷ [] }
+unfolding serve
+clicked_by_itself = refl
+
+clicked_has_the_focus : (replay (still_configuration 8 4) clicked).input.focus ≡ Some 0
+unfolding serve stack_after_call route
+clicked_has_the_focus = refl

@@ -1,0 +1,41 @@
+-- Worked rows of the screen, computed from the definitions.
+use Rattle.std.proofs.Common.{◌≡◌, ℕ, None, [], ◌∷◌, refl, pos, map}
+use Rattle.std.specs.Prelude.{codes}
+use Rattle.std.specs.List.{range_with_len}
+use Rattle.nit_rect.specs.Rectangle.{rectangle}
+use Rattle.nit_glyph.specs.Pictures.{dot, glyph_rows}
+use Rattle.nit_events.specs.declared.device.Mode.TheVariants.{Flat, Xray}
+use Rattle.nit_stack.specs.declared.view.View.{View}
+use Rattle.nit_stack.specs.Sources.{point}
+use Rattle.nit_overlay.specs.Frame.{Scenery, shown}
+
+-- two views on a screen of 12 by 7: that of session 1, of 3 by 7, stands in front of the other, of 12 by 7
+abbrev view_of : ℕ → ℕ → View
+view_of sid width = record { sid = sid; handle = 1; rect = rectangle (pos 0) (pos 0) width 7; ox = pos 0; oy = pos 0; title = [] }
+
+abbrev labelled : Scenery
+labelled = record { width = 12; height = 7; bar = 0; stack = view_of 1 3 ∷ view_of 0 12 ∷ []; labels = codes "ab" ∷ codes "b" ∷ []; mode = Xray; focus = None }
+
+abbrev F : ℕ
+F = 0xFFFFFF
+
+-- the label "ab" stands at (3, 0), and "b" has no place
+label_row : map (λ x. shown labelled (point x 1) 0xFF) (0 ∷ 1 ∷ 2 ∷ []) ≡ 0x808080 ∷ 0x7F ∷ 0x808080 ∷ []
+unfolding dot glyph_rows
+label_row = refl
+
+label_dots : map (λ x. shown labelled (point x 1) 0xFF0000) (3 ∷ 4 ∷ 5 ∷ 6 ∷ 7 ∷ 8 ∷ 9 ∷ 10 ∷ 11 ∷ []) ≡ 0 ∷ 0 ∷ F ∷ 0 ∷ 0 ∷ F ∷ F ∷ 0 ∷ 0 ∷ []
+unfolding dot glyph_rows
+label_dots = refl
+
+-- a status bar of a screen of 12 by 12
+abbrev with_bar : Scenery
+with_bar = record { width = 12; height = 12; bar = 7; stack = record (view_of 0 12) { rect = rectangle (pos 0) (pos 0) 12 12 } ∷ []; labels = codes "a" ∷ []; mode = Flat; focus = None }
+
+bar_row : map (λ x. shown with_bar (point x 1) 0xFF0000) (range_with_len 0 12) ≡ 0 ∷ F ∷ F ∷ F ∷ 0 ∷ F ∷ 0 ∷ 0 ∷ 0 ∷ 0 ∷ F ∷ 0 ∷ []
+unfolding dot glyph_rows
+bar_row = refl
+
+below_the_bar : shown with_bar (point 3 7) 0xFF0000 ≡ 0xFF0000
+unfolding dot glyph_rows
+below_the_bar = refl

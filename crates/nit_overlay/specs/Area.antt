@@ -1,0 +1,33 @@
+-- Parts of a screen.
+use Rattle.std.specs.Prelude.{◌≡◌, ℕ, ◌%◌, ◌/◌, ◌*◌, ◌<◌, ◌≤◌, Bool, ◌&&◌, nat_le, nat_lt, List, slice_index, if◌then◌else◌}
+use Rattle.nit_stack.specs.Sources.{pixel}
+use Rattle.nit_overlay.specs.declared.area.Area.{Area}
+use Rattle.nit_overlay.specs.declared.look.Look.{Look}
+use Rattle.nit_overlay.specs.Look.{scenery}
+use Rattle.nit_overlay.specs.Frame.{shown}
+
+-- the pixel in column x and row y lies in the area
+abbrev pub in_area : Area → ℕ → ℕ → Bool
+in_area a x y = (nat_le a.left x && nat_lt x a.right) && (nat_le a.top y && nat_lt y a.bottom)
+
+-- an area of a screen of this size
+pub record IsArea (width height : ℕ) (a : Area) : Type 0 where
+  pub across : a.left ≤ a.right
+  pub down : a.top ≤ a.bottom
+  pub right : a.right ≤ width
+  pub bottom : a.bottom ≤ height
+
+-- Of so many words, each that is chosen is by f of its index and its raw word, and each other one
+-- is as before.
+pub record IsOverlaid (f : ℕ → ℕ → ℕ) (chosen : ℕ → Bool) (raw old now : List ℕ)
+    (count : ℕ) : Type 0 where
+  pub words : (k : ℕ) → k < count
+      → slice_index now k ≡ (if chosen k then f k (slice_index raw k) else slice_index old k)
+  pub rest : (k : ℕ) → count ≤ k → slice_index now k ≡ slice_index old k
+
+-- the pixels of the screen that lie in the area are as shown, and all others as before
+abbrev pub IsShownIn : Area → Look → List ℕ → List ℕ → List ℕ → Type 0
+IsShownIn a look raw old now =
+    IsOverlaid (λ k w. shown (scenery look) (pixel look.stack.now.width k) w)
+    (λ k. in_area a (k % look.stack.now.width) (k / look.stack.now.width)) raw old now
+    (look.stack.now.width * look.stack.now.height)

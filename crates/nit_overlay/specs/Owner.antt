@@ -1,0 +1,12 @@
+-- The owner of a pixel, as a row is painted by it.
+use Rattle.std.specs.Prelude.{◌≡◌, ◌<◌, length, IsTrue, option_map}
+use Rattle.nit_overlay.specs.declared.look.Look.{Look}
+use Rattle.nit_overlay.specs.declared.owner.Owner.{Owner}
+use Rattle.nit_overlay.specs.Frame.{label_place_of}
+use Rattle.nit_overlay.specs.Look.{draws_labels, pixel_at, scenery}
+
+-- its session has a label, and where labels are drawn it has the place of its label
+pub record IsOwner (look : Look) (o : Owner) : Type 0 where
+  pub session : o.view.sid < length look.labels.now
+  pub place : IsTrue (draws_labels look.mode)
+      → o.place ≡ option_map pixel_at (label_place_of (scenery look) o.view)

@@ -1,0 +1,28 @@
+-- How a pixel is painted.
+use Rattle.std.specs.Prelude.{ℕ, ◌+◌, ◌-◌, ◌<◌, ◌≤◌, length}
+use Rattle.nit_word.specs.Channels.{dim, tint}
+use Rattle.nit_glyph.specs.Pictures.{dot, picture_width, picture_height}
+use Rattle.nit_overlay.specs.declared.paint.Tag.{Tag}
+use Rattle.nit_overlay.specs.declared.paint.Rule.{Rule}
+use Rattle.nit_overlay.specs.declared.paint.Rule.TheVariants.{Fill, Raw, Dim, Tint, Text}
+use Rattle.nit_overlay.specs.Frame.{ink_of}
+
+-- the word that a rule gives to the pixel in column x and row y, whose raw word is w
+abbrev pub word_by : Rule → ℕ → ℕ → ℕ → ℕ
+word_by (Fill word) x y w = word
+word_by Raw x y w = w
+word_by Dim x y w = dim w
+word_by Tint x y w = tint w
+word_by (Text tag) x y w = ink_of (dot tag.text (x - tag.left) (y - tag.top))
+
+-- the pixels of the row y from column `from` to before `to` lie in the picture of a text
+pub record IsInTag (tag : Tag) (from to y : ℕ) : Type 0 where
+  pub left : tag.left ≤ from
+  pub right : to ≤ tag.left + picture_width (length tag.text)
+  pub top : tag.top ≤ y
+  pub bottom : y < tag.top + picture_height
+
+-- where the rule is to paint a text, they lie in its picture
+abbrev pub IsTagged : Rule → ℕ → ℕ → ℕ → Type 0
+IsTagged (Text tag) from to y = IsInTag tag from to y
+IsTagged other from to y = Unit {0}

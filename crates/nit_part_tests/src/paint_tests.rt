@@ -1,0 +1,100 @@
+//! What a screen of 8 by 4 holds after its pieces were painted.
+
+ghost use Rattle.std.specs.Prelude.{◌≡◌, ◌≤◌, length};
+ghost use Rattle.nit_rect.specs.Rectangle.{IsPlace};
+
+use nit_paint::{paint_bare, paint_view};
+use nit_rect::{NoMemory, Rect};
+use nit_stack::{Piece, Stack, ViewRef};
+use nit_word::{Glass, Inked, Plain};
+use std::alloc::Global;
+use std::test::Fail;
+
+/// Paints the screen of 8 by 4 on which one view of 4 by 2 stands at (1, 1): the view's rectangle,
+/// and what is to the right of it. The view's session has a buffer of 4 by 2.
+fn paint<G: Glass>(
+    alloc: Global,
+    ox: i32,
+    oy: i32,
+    raw: &mut [u32],
+    glass: &mut G,
+) -> Result<(), NoMemory>
+    requires offset { IsPlace ox × IsPlace oy }
+    requires raw { length raw.old ≡ 32 }
+    requires words { 8 ≤ (G.sight glass.old).size }
+{
+    let mut stack = Stack::new(alloc, 8, 4, 1, 1)?;
+    let Some(viewed) = Rect::new(1, 1, 4, 2) else {
+        unreachable!()
+    };
+    let Some(beside) = Rect::new(5, 0, 3, 4) else {
+        unreachable!()
+    };
+    stack.set_buffer(0, 4, 2);
+    stack.push_front(ViewRef(0), 0, 1);
+    stack.place(ViewRef(0), viewed);
+    stack.offset(ViewRef(0), ox, oy);
+    let of_view = Piece {
+        rect: viewed,
+        owner: Some(ViewRef(0)),
+    };
+    paint_view(&stack, raw, &of_view, glass);
+    let bare = Piece {
+        rect: beside,
+        owner: None,
+    };
+    paint_bare(&stack, raw, &bare);
+    Ok(())
+}
+
+/// The view moves its buffer by one column: its first column is black, and it shows three columns.
+#[test]
+fn moved_by_one_column(rt: HostRuntime) -> Result<(), Fail> {
+    let alloc = rt.alloc();
+    let words = vec![in alloc; 11, 12, 13, 14, 21, 22, 23, 24]?;
+    let mut glass = Plain::new(0, words);
+    let mut raw = [7; 32];
+    paint(alloc, 1, 0, &mut raw, &mut glass)?;
+    #[rattlefmt::skip]
+    let want = [
+        7, 7, 7, 7, 7, 32, 32, 32, 7, 0, 11, 12, 13, 32, 32, 32, 7, 0, 21, 22, 23, 32, 32, 32, 7,
+        7, 7, 7, 7, 32, 32, 32,
+    ];
+    assert_eq!(rt; raw, want);
+    Ok(())
+}
+
+/// The buffer moved up and to the left: its last row and its last three columns are shown.
+#[test]
+fn moved_to_the_left_and_up(rt: HostRuntime) -> Result<(), Fail> {
+    let alloc = rt.alloc();
+    let ink = vec![in alloc; 255, 256]?;
+    let words = vec![in alloc; 255, 255, 255, 255, 256, 0, 255, 256]?;
+    let mut glass = Inked::new(0, words, ink);
+    let mut raw = [7; 32];
+    paint(alloc, -1, -1, &mut raw, &mut glass)?;
+    #[rattlefmt::skip]
+    let want = [
+        7, 7, 7, 7, 7, 32, 32, 32, 7, 0, 255, 256, 0, 32, 32, 32, 7, 0, 0, 0, 0, 32, 32, 32, 7, 7,
+        7, 7, 7, 32, 32, 32,
+    ];
+    assert_eq!(rt; raw, want);
+    Ok(())
+}
+
+/// The buffer lies where the view does.
+#[test]
+fn not_moved(rt: HostRuntime) -> Result<(), Fail> {
+    let alloc = rt.alloc();
+    let words = vec![in alloc; 11, 12, 13, 14, 21, 22, 23, 24]?;
+    let mut glass = Plain::new(0, words);
+    let mut raw = [7; 32];
+    paint(alloc, 0, 0, &mut raw, &mut glass)?;
+    #[rattlefmt::skip]
+    let want = [
+        7, 7, 7, 7, 7, 32, 32, 32, 7, 11, 12, 13, 14, 32, 32, 32, 7, 21, 22, 23, 24, 32, 32, 32, 7,
+        7, 7, 7, 7, 32, 32, 32,
+    ];
+    assert_eq!(rt; raw, want);
+    Ok(())
+}

@@ -1,0 +1,36 @@
+-- What is seen of a seat of the words.
+use Rattle.std.specs.Prelude.{◌≡◌, ◌<◌, [], length, Some, None}
+use Rattle.std.specs.Option.{option_map}
+use Rattle.atomic_table.specs.declared.shared.Seat.{Seat}
+use Rattle.nit_word.specs.Sight.{Sight}
+use Rattle.nit_pixels.specs.declared.steps.PixelView.{PixelView}
+use Rattle.nit_pixels.specs.End.{End}
+
+-- a seat of the words
+abbrev pub PixelSeat : Type 0
+PixelSeat = Seat (Unit {0}) PixelView
+
+-- the sight of a seat: what its view knows, and as many words as the table has
+abbrev pub sight_of : PixelSeat → Sight
+sight_of s =
+    record {
+      owner = s.me.0.owner;
+      size = s.table_id.words;
+      ink = s.me.0.ink;
+      words = s.me.0.words;
+      log = Some s.me.0.log;
+    }
+
+-- what an end with this seat is seen as
+abbrev pub end_of : PixelSeat → End
+end_of s = record { sight = sight_of s; stand = record { buffer = s.table_id; seat = s.id } }
+
+-- an owner's seat: there is a word, and its view tells all of them
+abbrev pub IsOwners : PixelSeat → Type 0
+IsOwners s =
+    (0 < s.table_id.words)
+    × (option_map (λ words. length words) s.me.0.words ≡ Some s.table_id.words) × (s.me.1 ≡ [])
+
+-- a reader's seat: its view tells no words
+abbrev pub IsReaders : PixelSeat → Type 0
+IsReaders s = s.me.0.words ≡ None

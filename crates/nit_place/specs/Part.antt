@@ -1,0 +1,31 @@
+-- What of a view lies on the screen, by its edges.
+use Rattle.std.specs.Prelude.{ℕ, min, max, List, slice_index_or}
+use Rattle.nit_rect.specs.Rectangle.{Rectangle}
+use Rattle.nit_stack.specs.declared.view.View.{View}
+use Rattle.nit_stack.specs.Stack.{fresh}
+use Rattle.nit_place.specs.Edges.{on_screen, right_of, bottom_of}
+use Rattle.nit_place.specs.declared.part.Part.{Part}
+
+-- the part of a rectangle at columns and rows from 0 on
+abbrev pub part_of : Rectangle → Part
+part_of r =
+    record {
+      left = on_screen r.x;
+      top = on_screen r.y;
+      right = on_screen (right_of r);
+      bottom = on_screen (bottom_of r);
+    }
+
+-- the same of the view at a place of the stack
+abbrev pub part_at : List View → ℕ → Part
+part_at stack k = part_of (slice_index_or stack k (fresh 0 0)).rect
+
+-- the part of a rectangle on the screen below the bar
+abbrev pub area_of : ℕ → ℕ → ℕ → Rectangle → Part
+area_of width height rows r =
+    record {
+      left = on_screen r.x;
+      top = max (on_screen r.y) rows;
+      right = min (on_screen (right_of r)) width;
+      bottom = min (on_screen (bottom_of r)) height;
+    }

@@ -1,0 +1,66 @@
+-- Worked rows of scripts, computed from the definitions.
+use Rattle.std.proofs.Common.{◌≡◌, ℕ, List, [], ◌∷◌, refl, take}
+use Rattle.nit_events.specs.declared.call.Call.TheVariants.{Buffer, View, Take, Close}
+use Rattle.nit_events.specs.declared.call.Reply.TheVariants as reply
+use Rattle.nit_script.specs.declared.line.Line.{Line}
+use Rattle.nit_script.specs.declared.line.Line.TheVariants as line
+use Rattle.nit_script.specs.declared.line.Stroke.TheVariants.{Fill, Check}
+use Rattle.nit_journal.specs.Session.{serve}
+use Rattle.nit_word.specs.Zeros.{zeros}
+use Rattle.nit_plan.specs.Strokes.{stroked, cleared}
+use Rattle.nit_plan.specs.ScriptWords.{ink, words_left}
+use Rattle.nit_plan.specs.declared.plan.Step.{Step}
+use Rattle.nit_plan.specs.declared.plan.Expect.{Expect}
+use Rattle.nit_plan.specs.declared.plan.Expect.TheVariants.{Reply, Taken, Nothing}
+use Rattle.nit_plan.specs.Plan.{plan_of_script}
+use Rattle.nit_plan.specs.Calls.{calls_in, calls_to_make}
+
+-- a check of two colours over a buffer of 4 by 2
+checks : stroked (record { w = 4; h = 2 }) (Check 0 0 4 2 7 9) (0 ∷ 0 ∷ 0 ∷ 0 ∷ 0 ∷ 0 ∷ 0 ∷ 0 ∷ 5 ∷ []) ≡ 7 ∷ 9 ∷ 7 ∷ 9 ∷ 9 ∷ 7 ∷ 9 ∷ 7 ∷ 5 ∷ []
+unfolding stroked
+checks = refl
+
+-- a fill that reaches past the buffer
+fills : stroked (record { w = 2; h = 2 }) (Fill 1 1 9 9 7) (1 ∷ 2 ∷ 3 ∷ 4 ∷ 5 ∷ []) ≡ 1 ∷ 2 ∷ 3 ∷ 7 ∷ 5 ∷ []
+unfolding stroked
+fills = refl
+
+-- what a script of 512 units leaves: the second buffer is refused, and the fill before the first does nothing
+abbrev script : List Line
+script =
+    line.Stroke (Fill 0 0 9 9 7)
+    ∷ line.Call (Buffer 2 1)
+    ∷ line.Stroke (Fill 1 0 1 1 8)
+    ∷ line.Phase
+    ∷ line.Call View
+    ∷ line.Call (Buffer 40 40)
+    ∷ line.Stroke (Fill 0 0 1 1 9)
+    ∷ []
+
+left : take 4 (words_left script 512) ≡ 9 ∷ 8 ∷ 0 ∷ 0 ∷ []
+unfolding serve zeros stroked cleared
+left = refl
+
+named : ink script ≡ 7 ∷ 8 ∷ 9 ∷ []
+named = refl
+
+called : calls_to_make script ≡ (0, Buffer 2 1) ∷ (1, View) ∷ (1, Buffer 40 40) ∷ []
+called = refl
+
+plain_calls : calls_in (take 5 script) ≡ Buffer 2 1 ∷ View ∷ []
+plain_calls = refl
+
+abbrev step : ℕ → ℕ → Expect → Step
+step w h e = record { w = w; h = h; expect = e }
+
+-- the plan of the same script: the second buffer needs 12800 units, and the view leaves 256
+steps : (plan_of_script script 512).steps
+    ≡ step 0 0 Nothing ∷ step 2 1 (Reply reply.Done) ∷ step 2 1 Nothing ∷ step 2 1 Nothing ∷ step 2 1 (Reply (reply.Handle 1)) ∷ step 2 1 (Reply (reply.OutOfQuota 12800 256)) ∷ step 2 1 Nothing ∷ []
+unfolding serve
+steps = refl
+
+-- a `Take` is open until the script closes its session, and the buffer is gone then
+closed : (plan_of_script (line.Call (Buffer 2 1) ∷ line.Call Take ∷ line.Call Close ∷ line.Call Take ∷ line.Call View ∷ []) 512).steps
+    ≡ step 2 1 (Reply reply.Done) ∷ step 2 1 Taken ∷ step 0 0 (Reply reply.Done) ∷ step 0 0 (Reply reply.Closed) ∷ step 0 0 (Reply reply.Closed) ∷ []
+unfolding serve
+closed = refl

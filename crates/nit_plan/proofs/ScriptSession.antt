@@ -1,0 +1,38 @@
+-- The session that a script leaves is that of the script's calls.
+use Rattle.std.proofs.Common.{◌≡◌, ◌∙◌, ℕ, suc, ◌<◌, List, [], ◌∷◌, length, take, refl, sym, ap}
+use Rattle.nit_events.specs.declared.call.Call.{Call}
+use Rattle.nit_events.specs.declared.event.Status.TheVariants as status
+use Rattle.nit_script.specs.declared.line.Line.{Line}
+use Rattle.nit_script.specs.declared.line.Line.TheVariants as line
+use Rattle.nit_config.specs.Configuration.{Configuration, donation_of}
+use Rattle.nit_journal.specs.Session.{Session, first_session, after_calls}
+use Rattle.nit_journal.specs.State.{session}
+use Rattle.nit_journal.specs.Replay.{replay}
+use Rattle.nit_journal.specs.WholeJournals.{calls_of, done}
+use Rattle.nit_journal.proofs.ForCallers.{as_its_calls_have_it}
+use Rattle.nit_events.specs.declared.entry.Entry.{Entry}
+use Rattle.nit_plan.specs.Calls.{calls_from, calls_in}
+use Rattle.nit_plan.specs.ScriptWords.{Painting, blank, painted_from, after_line, static}
+
+pub calls_done : (phase : ℕ) (lines : List Line) → calls_in lines ≡ done (calls_from phase lines)
+calls_done phase [] = refl
+calls_done phase (line.Call c ∷ lines) = ap (λ (cs : List Call). c ∷ cs) (calls_done phase lines)
+calls_done phase (line.Stroke s ∷ lines) = calls_done phase lines
+calls_done phase (line.Phase ∷ lines) = calls_done (suc phase) lines
+
+called_from : (p : Painting) (lines : List Line) → (painted_from p lines).session ≡ after_calls p.session (calls_in lines)
+called_from p [] = refl
+called_from p (line.Call c ∷ lines) = called_from (after_line p (line.Call c)) lines
+called_from p (line.Stroke s ∷ lines) = called_from (after_line p (line.Stroke s)) lines
+called_from p (line.Phase ∷ lines) = called_from p lines
+
+pub static_called : (script : List Line) (donation k : ℕ) → static script donation k ≡ after_calls (first_session donation) (calls_in (take k script))
+static_called script donation k = called_from (blank donation) (take k script)
+
+pub static_in_a_run : (config : Configuration) (journal : List Entry) (sid : ℕ) (script : List Line) (k : ℕ) → sid < length config.clients → (session (replay config journal) sid).status ≡ status.Live
+    → calls_of sid journal ≡ calls_in (take k script)
+    → session (replay config journal) sid ≡ record (static script (donation_of config sid) k) { queue = (session (replay config journal) sid).queue; lost = (session (replay config journal) sid).lost }
+static_in_a_run config journal sid script k inside live made =
+    let now = session (replay config journal) sid in
+    as_its_calls_have_it config journal sid inside live
+    ∙ ap (λ (t : Session). record t { queue = now.queue; lost = now.lost }) (ap (after_calls (first_session (donation_of config sid))) made ∙ sym (static_called script (donation_of config sid) k))

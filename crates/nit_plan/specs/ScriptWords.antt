@@ -1,0 +1,69 @@
+-- What a script alone says: its session, its colours, and the words that it leaves. The words do
+-- not depend on what happens to the session in a run.
+use Rattle.std.specs.Prelude.{ℕ, List, [], ◌∷◌, fold, take, if◌then◌else◌}
+use Rattle.std.specs.List.{flat_map}
+use Rattle.nit_events.specs.declared.call.Call.{Call}
+use Rattle.nit_events.specs.declared.call.Call.TheVariants.{Buffer}
+use Rattle.nit_events.specs.declared.call.Reply.{Reply}
+use Rattle.nit_stack.specs.Sources.{Size}
+use Rattle.nit_script.specs.declared.line.Stroke.TheVariants.{Fill, Check}
+use Rattle.nit_script.specs.declared.line.Line.{Line}
+use Rattle.nit_script.specs.declared.line.Line.TheVariants as line
+use Rattle.nit_journal.specs.Session.{Session, first_session, serve}
+use Rattle.nit_journal.specs.StackAfter.{is_accepted}
+use Rattle.nit_word.specs.Zeros.{zeros}
+use Rattle.nit_plan.specs.Strokes.{stroked, cleared}
+pub use Rattle.nit_slots.specs.Account.{table_size}
+
+-- a session and the words of its table
+pub record Painting : Type 0 where
+  pub session : Session
+  pub words : List ℕ
+
+-- before the first line: the session is new, and all words are 0
+abbrev pub blank : ℕ → Painting
+blank donation = record { session = first_session donation; words = zeros (table_size donation) }
+
+abbrev pub size_of : Session → Size
+size_of s = record { w = s.bw; h = s.bh }
+
+-- a `buffer` line that is accepted sets the words of the new buffer to 0 first; no other call sets
+-- a word
+abbrev pub words_after_call : Call → Reply → List ℕ → List ℕ
+words_after_call (Buffer w h) r words = if is_accepted r then cleared w h words else words
+words_after_call other r words = words
+
+-- a line of a script, the session getting no item
+abbrev pub after_line : Painting → Line → Painting
+after_line p (line.Call c) =
+    record {
+      session = (serve p.session c).session;
+      words = words_after_call c (serve p.session c).reply p.words;
+    }
+after_line p (line.Stroke s) = record p { words = stroked (size_of p.session) s p.words }
+after_line p line.Phase = p
+
+-- all lines of a list, from this painting on
+abbrev pub painted_from : Painting → List Line → Painting
+painted_from p lines = fold after_line p lines
+
+-- the session and the words after the first k lines of a script
+abbrev pub static : List Line → ℕ → ℕ → Session
+static script donation k = (painted_from (blank donation) (take k script)).session
+
+abbrev pub words_after : List Line → ℕ → ℕ → List ℕ
+words_after script donation k = (painted_from (blank donation) (take k script)).words
+
+-- the words that a whole script leaves
+abbrev pub words_left : List Line → ℕ → List ℕ
+words_left script donation = (painted_from (blank donation) script).words
+
+-- the colours that a line names
+abbrev pub colours : Line → List ℕ
+colours (line.Stroke (Fill x y w h c)) = c ∷ []
+colours (line.Stroke (Check x y w h c d)) = c ∷ d ∷ []
+colours other = []
+
+-- the ink of a script: the colours that its strokes name
+abbrev pub ink : List Line → List ℕ
+ink script = flat_map colours script

@@ -1,0 +1,78 @@
+-- Words of a frame that are set, one set of pixels after the other.
+use Rattle.std.proofs.Common.{◌≡◌, ℕ, ◌+◌, ◌*◌, ◌<◌, ◌≤◌, Bool, true, false, cond, nat_lt, List, length, refl, ap, ◌∙◌, subst, arith, take_all}
+use Rattle.std.specs.Prelude.{◌&&◌, IsTrue, Option, None, Some, slice_get, slice_index}
+use Rattle.std.specs.Option.{option_map_or}
+use Rattle.std.proofs.lemmas.Bool.Decides.{nat_tests}
+use Rattle.nit_rect.specs.declared.point.Point.{Point}
+use Rattle.nit_rect.specs.Rectangle.{Rectangle, covers}
+use Rattle.nit_rect.specs.Strips.{times}
+use Rattle.nit_stack.specs.Sources.{in_bar, owner_in, pixel}
+use Rattle.nit_stack.specs.Stack.{IsOnScreen, NoPair, SlotView, StackModel, is_slot, same_slot, slot_view_in}
+use Rattle.nit_damage.specs.Cutter.{CutterModel, to_come}
+use Rattle.nit_damage.specs.Damage.{once}
+use Rattle.nit_paint.specs.FrameCopy.{AreSet}
+use Rattle.nit_paint.proofs.ForCallers.{nothing_set, set_same, set_then}
+use Rattle.nit_repaint.specs.PixelsToCome.{has_come, is_to_come}
+use Rattle.nit_repaint.specs.PixelOwners.{owner_passes}
+use Rattle.nit_repaint.specs.WantedPixels.{is_wanted, wanted, wanted_of_first}
+use Rattle.nit_repaint.proofs.PieceLemmas.{all_count}
+use Rattle.nit_repaint.proofs.Screen.{on_screen}
+use Rattle.nit_repaint.proofs.WantedLemmas.{lt_once, one_more}
+
+-- ---- pieces
+
+pub none_shown : (s : StackModel) (n : ℕ) (c : CutterModel) (word : ℕ → ℕ) (frame : List ℕ) → AreSet (has_come c c s) n word frame frame
+none_shown s n c word frame = nothing_set (has_come c c s) n word frame (λ k l. never (to_come c s (pixel s.width k)))
+  where
+    never : (m : ℕ) → nat_lt m m ≡ false
+    never m = grind (arith, nat_tests)
+
+-- one more piece
+pub one_shown : (s : StackModel) (n : ℕ) (before now next : CutterModel) (r : Rectangle) (word word' : ℕ → ℕ) (frame shown new : List ℕ)
+    → ((p : Point) → to_come now s p ≤ to_come before s p) → ((p : Point) → to_come now s p ≡ to_come next s p + times r p) → ((p : Point) → IsTrue (covers r p) → to_come now s p ≡ 1)
+    → ((k : ℕ) → covers r (pixel s.width k) ≡ false → word' k ≡ word k)
+    → AreSet (has_come before now s) n word frame shown → AreSet (λ k. covers r (pixel s.width k)) n word' shown new → AreSet (has_come before next s) n word' frame new
+one_shown s n before now next r word word' frame shown new less count came still far piece =
+    set_then (has_come before now s) (λ k. covers r (pixel s.width k)) (has_come before next s) n word word' frame shown new
+    (λ k. all_count _ _ _ _ (less (pixel s.width k)) (count (pixel s.width k)) (came (pixel s.width k))) still far piece
+
+-- what a call has set, of the whole screen
+pub piece_shown : (s : StackModel) (n : ℕ) (r : Rectangle) (word : ℕ → ℕ) (old new : List ℕ) → n ≡ s.width * s.height
+    → ((k : ℕ) → k < s.width * s.height → slice_index new k ≡ cond (covers r (pixel s.width k)) (word k) (slice_index old k)) → length new ≡ length old → AreSet (λ k. covers r (pixel s.width k)) n word old new
+piece_shown s n r word old new count set long = record { words = λ k l. set k (subst (λ (m : ℕ). k < m) count l); count = long }
+
+-- all of them
+pub all_shown : (s : StackModel) (n : ℕ) (before now : CutterModel) (word : ℕ → ℕ) (frame new : List ℕ) → ((p : Point) → to_come now s p ≡ 0) → AreSet (has_come before now s) n word frame new → AreSet (is_to_come before s) n word frame new
+all_shown s n before now word frame new none far =
+    set_same (has_come before now s) (is_to_come before s) n word frame new (λ k l. ap (λ (m : ℕ). nat_lt m (to_come before s (pixel s.width k))) (none (pixel s.width k))) far
+
+-- what comes by a set of pixels is that set
+pub shown_as : (s : StackModel) (c : CutterModel) (set : Point → Bool) (n : ℕ) (word : ℕ → ℕ) (old new : List ℕ) → n ≡ s.width * s.height
+    → ((p : Point) → IsOnScreen s.width s.height p → to_come c s p ≡ once (set p)) → AreSet (is_to_come c s) n word old new → AreSet (λ k. set (pixel s.width k)) n word old new
+shown_as s c set n word old new count come is =
+    set_same (is_to_come c s) (λ k. set (pixel s.width k)) n word old new
+    (λ k l. ap (λ (m : ℕ). nat_lt 0 m) (come (pixel s.width k) (on_screen s.width s.height k (subst (λ (m : ℕ). k < m) count l))) ∙ lt_once (set (pixel s.width k))) is
+
+-- ---- one view after the other
+
+module _ (s : StackModel) (n sid : ℕ) (part : Option Rectangle) where
+  pub first_shown : (word : ℕ → ℕ) (frame : List ℕ) → AreSet (λ k. wanted_of_first 0 sid part s (pixel s.width k)) n word frame frame
+  first_shown word frame = nothing_set _ n word frame (λ k l. go (in_bar s.bar (pixel s.width k)) (is_wanted sid part s (pixel s.width k)))
+    where
+      go : (b : Bool) (test : SlotView → Bool) → option_map_or test (cond {A = Option SlotView} b None None) false ≡ false
+      go true test = refl
+      go false test = refl
+
+  pub next_shown : (i : ℕ) (x : SlotView) (word word' : ℕ → ℕ) (frame mid new : List ℕ) → NoPair same_slot s.views → slot_view_in x.slot s.views ≡ Some x → slice_get s.views i ≡ Some x
+      → ((k : ℕ) → (let p = pixel s.width k in owner_passes (is_slot x.slot) s p && is_wanted sid part s p x) ≡ false → word' k ≡ word k)
+      → AreSet (λ k. wanted_of_first i sid part s (pixel s.width k)) n word frame mid
+      → AreSet (λ k. let p = pixel s.width k in owner_passes (is_slot x.slot) s p && is_wanted sid part s p x) n word' mid new
+      → AreSet (λ k. wanted_of_first (i + 1) sid part s (pixel s.width k)) n word' frame new
+  next_shown i x word word' frame mid new apart there at still first second =
+      set_then _ _ (λ k. wanted_of_first (i + 1) sid part s (pixel s.width k)) n word word' frame mid new
+      (λ k. (one_more (is_wanted sid part s (pixel s.width k)) s (pixel s.width k) i x apart there at).all) still first second
+
+  pub last_shown : (i : ℕ) (word : ℕ → ℕ) (frame new : List ℕ) → length s.views ≤ i → AreSet (λ k. wanted_of_first i sid part s (pixel s.width k)) n word frame new → AreSet (λ k. wanted sid part s (pixel s.width k)) n word frame new
+  last_shown i word frame new all is =
+      set_same _ _ n word frame new
+      (λ k l. ap (λ (xs : List SlotView). option_map_or (is_wanted sid part s (pixel s.width k)) (owner_in (λ a. a.view) s.bar xs (pixel s.width k)) false) (take_all i s.views all)) is

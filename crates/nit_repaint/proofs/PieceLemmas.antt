@@ -1,0 +1,57 @@
+-- Pieces that come one after the other.
+use Rattle.std.proofs.Common.{◌≡◌, ℕ, ◌+◌, ◌≤◌, ◌&&◌, ◌||◌, Bool, true, false, cond, nat_lt, List, refl, ap, arith}
+use Rattle.std.specs.Prelude.{IsTrue}
+use Rattle.std.proofs.lemmas.Bool.Decides.{nat_tests}
+use Rattle.nit_rect.specs.declared.point.Point.{Point}
+use Rattle.nit_rect.specs.Rectangle.{Rectangle, covers}
+use Rattle.nit_rect.specs.Strips.{times}
+use Rattle.nit_word.specs.Sight.{Sight}
+use Rattle.nit_stack.specs.Sources.{PixelSource, pixel}
+use Rattle.nit_stack.specs.Stack.{StackModel}
+use Rattle.nit_paint.specs.Repaint.{Repainted}
+use Rattle.nit_paint.specs.Pieces.{has_pixel}
+use Rattle.nit_paint.proofs.ForCallers.{repainted_none, repainted_same, repainted_union}
+use Rattle.nit_damage.specs.Cutter.{CutterModel, to_come}
+use Rattle.nit_repaint.specs.PixelsToCome.{has_come, is_to_come}
+
+-- a pixel by the numbers of times that it is to come: before all, now, and after one more piece
+apart_count : (b now : ℕ) (c : Bool) → b ≤ 1 → (c ≡ true → now ≡ 1) → (nat_lt now b && c) ≡ false
+apart_count b now true once came = let e : now ≡ 1 = came refl in grind (arith, nat_tests)
+apart_count b now false once came = go (nat_lt now b)
+  where
+    go : (x : Bool) → (x && false) ≡ false
+    go true = refl
+    go false = refl
+
+pub all_count : (b now next : ℕ) (c : Bool) → now ≤ b → now ≡ next + cond c 1 0 → (c ≡ true → now ≡ 1) → (nat_lt now b || c) ≡ nat_lt next b
+all_count b now next true less count came = let e : now ≡ 1 = came refl in let z : next ≡ 0 = omega arith in grind (arith, nat_tests)
+all_count b now next false less count came = let e : now ≡ next = omega arith in rw e (go (nat_lt next b))
+  where
+    go : (x : Bool) → (x || false) ≡ x
+    go true = refl
+    go false = refl
+
+module _ (source : ℕ → PixelSource) (s : StackModel) (n : ℕ) where
+  pub none_came : (c : CutterModel) (glasses : ℕ → Sight) (raw : List ℕ) → Repainted source (has_come c c s) n glasses glasses raw raw
+  none_came c glasses raw = repainted_none source (has_come c c s) n glasses raw (λ k l. never (to_come c s (pixel s.width k)))
+    where
+      never : (m : ℕ) → nat_lt m m ≡ false
+      never m = grind (arith, nat_tests)
+
+  -- one more piece
+  pub one_came : (before now next : CutterModel) (r : Rectangle) (a b c : ℕ → Sight) (raw mid last : List ℕ)
+      → ((p : Point) → to_come before s p ≤ 1) → ((p : Point) → to_come now s p ≤ to_come before s p)
+      → ((p : Point) → to_come now s p ≡ to_come next s p + times r p) → ((p : Point) → IsTrue (covers r p) → to_come now s p ≡ 1)
+      → Repainted source (has_come before now s) n a b raw mid → Repainted source (has_pixel s.width r) n b c mid last → Repainted source (has_come before next s) n a c raw last
+  one_came before now next r a b c raw mid last once less count came first second =
+      repainted_union source (has_come before now s) (has_pixel s.width r) (has_come before next s) n a b c raw mid last
+      (λ k. apart_count _ _ _ (once (pixel s.width k)) (came (pixel s.width k)))
+      (λ k. all_count _ _ _ _ (less (pixel s.width k)) (count (pixel s.width k)) (came (pixel s.width k)))
+      first second
+
+  -- all of them
+  pub all_came : (before now : CutterModel) (a b : ℕ → Sight) (raw last : List ℕ) → ((p : Point) → to_come now s p ≡ 0)
+      → Repainted source (has_come before now s) n a b raw last → Repainted source (is_to_come before s) n a b raw last
+  all_came before now a b raw last none painted =
+      repainted_same source source (has_come before now s) (is_to_come before s) n a a b b raw last
+      (λ k l. ap (λ (m : ℕ). nat_lt m (to_come before s (pixel s.width k))) (none (pixel s.width k))) (λ k l m. refl) (λ t. refl) (λ t. refl) painted

@@ -1,0 +1,112 @@
+-- A scene after one entry more.
+use Rattle.std.proofs.Common.{◌≡◌, ℕ, ◌+◌, ◌-◌, ◌<◌, ◌≤◌, List, [], ◌∷◌, ◌++◌, All, length, slice_index_or, ap, sym, subst, ◌∙◌, arith, zero-add}
+use Rattle.std.proofs.lemmas.List.{get_or_default, length-append}
+use Rattle.nit_word.specs.Inks.{IsWord}
+use Rattle.nit_word.specs.Sight.{Sight}
+use Rattle.nit_events.specs.declared.entry.Entry.{Entry}
+use Rattle.nit_events.specs.declared.entry.Entry.TheVariants as entry
+use Rattle.nit_stack.specs.Sources.{PixelSource, Bare, Black, Word}
+use Rattle.nit_config.specs.Configuration.{Configuration}
+use Rattle.nit_journal.specs.Replay.{Agrees, IsLegal, IsOpen, replay, shots}
+use Rattle.nit_journal.specs.State.{State, after, first_state, session_in}
+use Rattle.nit_journal.proofs.ForCallers.{legal_more, replay_more, same_config}
+use Rattle.nit_scene.specs.RawWords.{AreInked, AreRaw, IsRawOf, Painted, pixel_count, source_at}
+use Rattle.nit_scene.specs.Scene.{IsScene}
+use Rattle.nit_scene.specs.Server.{ServerModel, state_of}
+use Rattle.nit_scene.proofs.HandleCounts.{entry_adds}
+use Rattle.nit_scene.proofs.LostEvents.{entry_loses}
+
+-- raw words are words
+held_word : (source : PixelSource) (w : ℕ) → IsRawOf source w → IsWord w
+held_word Bare w h = subst IsWord (sym h) (omega arith)
+held_word Black w h = subst IsWord (sym h) (omega arith)
+held_word (Word t i) w h = h
+
+pub raw_words_fit : (s : State) (raw : List ℕ) → length raw ≡ pixel_count s → AreRaw s raw → All IsWord raw
+raw_words_fit s raw count h = λ k d l.
+    subst IsWord (get_or_default raw k 0 d l) (held_word (source_at s k) (slice_index_or raw k 0) (h k (subst (λ (n : ℕ). k < n) count l)))
+
+-- how many shots there are
+shots_more : (journal : List Entry) (e : Entry) → shots (journal ++ e ∷ []) ≡ shots journal + shots (e ∷ [])
+shots_more [] e = sym (zero-add (shots (e ∷ [])))
+shots_more (entry.Call sid call r ∷ rest) e = shots_more rest e
+shots_more (entry.Input dev routed ∷ rest) e = shots_more rest e
+shots_more (entry.Shot n ∷ rest) e = let r = shots_more rest e in omega arith
+shots_more (entry.Final ∷ rest) e = shots_more rest e
+
+module _ (s s' : ServerModel) (entries : List Entry) (spare taken : ℕ) (raw : List ℕ) (h : IsScene s entries spare raw taken) (e : Entry) (state_ : state_of s' ≡ after (state_of s) e) where
+  config_ : s'.config ≡ s.config
+  config_ = ap (λ (t : State). t.config) state_ ∙ same_config (state_of s) e
+
+  pub replays : state_of s' ≡ replay s'.config (entries ++ e ∷ [])
+  replays = state_ ∙ ap (λ (t : State). after t e) h.replayed ∙ sym (replay_more (first_state s.config) entries e) ∙ ap (λ (c : Configuration). replay c (entries ++ e ∷ [])) (sym config_)
+
+  pub stays_legal : IsOpen entries → Agrees (state_of s) taken e → IsLegal s'.config (entries ++ e ∷ [])
+  stays_legal open_ agrees =
+      subst (λ (c : Configuration). IsLegal c (entries ++ e ∷ [])) (sym config_)
+      (legal_more (first_state s.config) 0 entries e h.legal open_
+      (subst (λ (n : ℕ). Agrees (replay s.config entries) n e) (h.shots ∙ sum_) (subst (λ (t : State). Agrees t taken e) h.replayed agrees)))
+    where
+      sum_ : shots entries ≡ 0 + shots entries
+      sum_ = omega arith
+
+  -- what the law on raw words says
+  abbrev pub StaysRaw : Type 0
+  StaysRaw = (s : State) (taken : ℕ) (e : Entry) (glasses glasses_after : ℕ → Sight) (raw raw_after : List ℕ) → Agrees s taken e
+      → Painted s e (after s e) glasses glasses_after raw raw_after → AreRaw s raw → AreRaw (after s e) raw_after
+
+  pub raws_after : StaysRaw → Agrees (state_of s) taken e → (glasses glasses' : ℕ → Sight) (raw' : List ℕ) → Painted (state_of s) e (state_of s') glasses glasses' raw raw' → AreRaw (state_of s') raw'
+  raws_after law agrees glasses glasses' raw' painted =
+      subst (λ (t : State). AreRaw t raw') (sym state_)
+      (law (state_of s) taken e glasses glasses' raw raw' agrees (subst (λ (t : State). Painted (state_of s) e t glasses glasses' raw raw') state_ painted) h.raw_words)
+
+  pub raws_now : (raw' : List ℕ) → AreRaw (state_of s') raw' → AreRaw (replay s'.config (entries ++ e ∷ [])) raw'
+  raws_now raw' raws = subst (λ (t : State). AreRaw t raw') replays raws
+
+  -- what the law on inks says
+  abbrev pub StaysInked : Type 0
+  StaysInked = (s : State) (taken : ℕ) (e : Entry) (glasses glasses_after : ℕ → Sight) (raw raw_after : List ℕ) → Agrees s taken e
+      → Painted s e (after s e) glasses glasses_after raw raw_after → AreInked s glasses raw → AreInked (after s e) glasses_after raw_after
+
+  pub inks_now : StaysInked → Agrees (state_of s) taken e → (glasses glasses' : ℕ → Sight) (raw' : List ℕ) → Painted (state_of s) e (state_of s') glasses glasses' raw raw'
+      → AreInked (replay s.config entries) glasses raw → AreInked (replay s'.config (entries ++ e ∷ [])) glasses' raw'
+  inks_now law agrees glasses glasses' raw' painted inks =
+      subst (λ (t : State). AreInked t glasses' raw') replays (subst (λ (t : State). AreInked t glasses' raw') (sym state_)
+      (law (state_of s) taken e glasses glasses' raw raw' agrees (subst (λ (t : State). Painted (state_of s) e t glasses glasses' raw raw') state_ painted)
+      (subst (λ (t : State). AreInked t glasses raw) (sym h.replayed) inks)))
+
+  pub played : (raw' : List ℕ) (taken' : ℕ) → IsOpen entries → Agrees (state_of s) taken e → 1 ≤ spare → AreRaw (state_of s') raw' → taken' ≡ taken + shots (e ∷ []) → IsScene s' (entries ++ e ∷ []) (spare - 1) raw' taken'
+  played raw' taken' open_ agrees room_ raws count_ =
+      let long : length (entries ++ e ∷ []) ≡ length entries + 1 = length-append entries (e ∷ []) in
+      let r = h.room in
+      record {
+        replayed = replays;
+        legal = stays_legal open_ agrees;
+        raw_words = raws;
+        handles = λ t.
+            let more = subst (λ (u : State). (session_in u.sessions t).next ≤ (session_in s.sessions t).next + 1) (sym state_) (entry_adds (state_of s) e t) in
+            let old = h.handles t in
+            omega (arith, long, more, old);
+        lost = λ t.
+            let more = subst (λ (u : State). (session_in u.sessions t).lost ≤ (session_in s.sessions t).lost + 3) (sym state_) (entry_loses (state_of s) e t) in
+            let old = h.lost t in
+            omega (arith, long, more, old);
+        room = omega (arith, long, r, room_);
+        shots = count_ ∙ ap (λ (n : ℕ). n + shots (e ∷ [])) h.shots ∙ sym (shots_more entries e);
+      }
+
+-- there are no more shots than entries
+pub shots_fit : (journal : List Entry) → shots journal ≤ length journal
+shots_fit [] = omega arith
+shots_fit (entry.Call sid call r ∷ rest) = let h = shots_fit rest in omega arith
+shots_fit (entry.Input dev routed ∷ rest) = let h = shots_fit rest in omega arith
+shots_fit (entry.Shot n ∷ rest) = let h = shots_fit rest in omega arith
+shots_fit (entry.Final ∷ rest) = let h = shots_fit rest in omega arith
+
+-- a journal that goes on
+pub open_more : (journal : List Entry) (e : Entry) → IsOpen journal → IsOpen (e ∷ []) → IsOpen (journal ++ e ∷ [])
+open_more [] e h k = k
+open_more (entry.Call sid call r ∷ rest) e h k = open_more rest e h k
+open_more (entry.Input dev routed ∷ rest) e h k = open_more rest e h k
+open_more (entry.Shot n ∷ rest) e h k = open_more rest e h k
+open_more (entry.Final ∷ rest) e h k = absurd h

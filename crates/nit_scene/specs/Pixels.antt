@@ -1,0 +1,60 @@
+-- A frame that is kept, with what it is made by.
+use Rattle.std.specs.Prelude.{◌≡◌, ℕ, ◌*◌, ◌≤◌, ◌++◌, Bool, true, All, IsTrue, List, drop, length, map, replicate, slice_index, if◌then◌else◌}
+use Rattle.nit_word.specs.Channels.{bare_word}
+use Rattle.nit_word.specs.Inks.{IsWord}
+use Rattle.nit_stack.specs.Sources.{pixel}
+use Rattle.nit_config.specs.Configuration.{bar_rows}
+use Rattle.nit_journal.specs.State.{State}
+use Rattle.nit_overlay.specs.Look.{draws_labels}
+use Rattle.nit_overlay.specs.Frame.{frame, shown}
+use Rattle.nit_scene.specs.declared.screen.pixels.Pixels.{Pixels}
+use Rattle.nit_scene.specs.Scene.{scenery_of}
+use Rattle.nit_scene.specs.Server.{ServerModel, state_of}
+
+-- the words with the bare word in place of the first so many, where the bar stands
+abbrev pub unbarred : ℕ → List ℕ → List ℕ
+unbarred bar words = replicate bar bare_word ++ drop bar words
+
+-- the raw words: the kept ones, where they stand apart from the frame; and those of the frame but
+-- for the bar, where one list is both
+abbrev pub raw_in : Bool → ℕ → List ℕ → List ℕ
+raw_in is_apart bar words = if is_apart then words else unbarred bar words
+
+abbrev pub raw_of : Pixels → List ℕ
+raw_of p = raw_in p.is_apart p.bar p.raw.items
+
+-- the frame: a list of its own where the raw words stand apart from it, or the list that is both
+abbrev pub kept_frame : Pixels → List ℕ
+kept_frame p = if p.is_apart then p.frame.items else p.raw.items
+
+-- A frame can be made: two words for each pixel, the first below 2^24, room to cut out every view,
+-- the label of each session, room for the place of each view's label, and the number of pixels that
+-- the bar has.
+pub record CanShow (s : ServerModel) (raw shown : List ℕ) (room : ℕ) (labels : List (List ℕ))
+    (places first : ℕ) : Type 0 where
+  pub words : All IsWord raw
+  pub pixels : length raw ≡ s.config.width * s.config.height
+  pub each : length shown ≡ s.config.width * s.config.height
+  pub cuts : s.stack.most ≤ room
+  pub named : labels ≡ map (λ m. m.label) s.config.clients
+  pub placed : s.stack.most ≤ places
+  pub bar : first ≡ s.config.width * bar_rows s.config
+  pub fits : first ≤ length raw
+
+-- what is shown at the pixel of a number, by the raw words
+abbrev pub shown_by : State → List ℕ → ℕ → ℕ
+shown_by s raw k = shown (scenery_of s) (pixel s.config.width k) (slice_index raw k)
+
+-- the pixels have all that a frame of the server is made by
+abbrev pub CanShowBy : ServerModel → Pixels → Type 0
+CanShowBy s p =
+    CanShow s p.raw.items p.frame.items p.cutter.room p.labels.items (length p.places.items) p.bar
+
+-- the frame is the one of the server's state and of the raw words
+abbrev pub IsFrameOf : ServerModel → Pixels → Type 0
+IsFrameOf s p = kept_frame p ≡ frame (scenery_of (state_of s)) (raw_of p)
+
+-- and so it is; where labels are drawn, the raw words stand apart
+abbrev pub ArePixels : ServerModel → Pixels → Type 0
+ArePixels s p =
+    CanShowBy s p × IsFrameOf s p × (IsTrue (draws_labels s.input.mode) → p.is_apart ≡ true)

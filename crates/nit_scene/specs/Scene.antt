@@ -1,0 +1,48 @@
+-- What contracts see of a scene, and what holds of it.
+use Rattle.std.specs.Prelude.{◌≡◌, ℕ, ◌+◌, ◌*◌, ◌≤◌, List, length, map}
+use Rattle.nit_events.specs.declared.entry.Entry.{Entry}
+use Rattle.nit_config.specs.Configuration.{Configuration, bar_rows}
+use Rattle.nit_overlay.specs.Frame.{Scenery}
+use Rattle.nit_journal.specs.Replay.{IsLegal, replay, shots}
+use Rattle.nit_journal.specs.State.{State, session_in}
+use Rattle.nit_scene.specs.RawWords.{AreRaw}
+use Rattle.nit_scene.specs.Server.{ServerModel, state_of}
+
+-- the configuration, the entries of the journal and for how many more there is room, the raw words
+-- of the screen's pixels, and the glasses through which the sessions' words are loaded
+pub record SceneModel (G : Type 0) : Type 0 where
+  pub config : Configuration
+  pub entries : List Entry
+  pub spare : ℕ
+  pub raw : List ℕ
+  pub glasses : List G
+
+-- the state that a scene is in is the one that its journal leads to
+abbrev pub state_now : {G : Type 0} → SceneModel G → State
+state_now p = replay p.config p.entries
+
+-- what a state shows, but for the words of the clients
+abbrev pub scenery_of : State → Scenery
+scenery_of s =
+    record {
+      width = s.config.width;
+      height = s.config.height;
+      bar = bar_rows s.config;
+      stack = s.stack;
+      labels = map (λ m. m.label) s.config.clients;
+      mode = s.input.mode;
+      focus = s.input.focus;
+    }
+
+-- The server is in the state that a legal journal leads to, and the raw words are as the pixels'
+-- sources want them. No session has made more views than there are entries, or lost more than three
+-- events for each, and the journal never holds more than 1,114,113.
+pub record IsScene (s : ServerModel) (entries : List Entry) (spare : ℕ) (raw : List ℕ)
+    (taken : ℕ) : Type 0 where
+  pub replayed : state_of s ≡ replay s.config entries
+  pub legal : IsLegal s.config entries
+  pub raw_words : AreRaw (state_of s) raw
+  pub handles : (t : ℕ) → (session_in s.sessions t).next ≤ length entries + 1
+  pub lost : (t : ℕ) → (session_in s.sessions t).lost ≤ 3 * length entries
+  pub room : length entries + spare ≤ 1114113
+  pub shots : taken ≡ shots entries

@@ -1,0 +1,271 @@
+//! The frame that a scene keeps, against the one that is made anew of the same state.
+
+ghost use Rattle.std.specs.Prelude.{◌≡◌, ◌+◌, ◌-◌, ◌*◌, ◌<◌, ◌≤◌, ◌∷◌, [], All, IfOk, IsTrue, length};
+ghost use Rattle.nit_word.specs.Inks.{IsInked};
+ghost use Rattle.nit_events.specs.Ranges.{IsDevice};
+ghost use Rattle.nit_config.specs.ConfigurationRanges.{IsConfiguration};
+ghost use Rattle.nit_journal.specs.Replay.{IsOpen};
+ghost use Rattle.nit_scene.specs.Screen.{IsGlass};
+
+use nit_config::{Config, read_config};
+use nit_events::{Call, Device};
+use nit_scene::Scene;
+use nit_slots::room;
+use nit_word::Inked;
+use std::alloc::Global;
+use std::process::Abort;
+use std::test::Fail;
+
+/// One call of a session, or what the user does.
+#[derive(Clone, Copy)]
+enum Step {
+    Call(u32, Call),
+    Input(Device),
+}
+
+/// Two clients on a screen of 8 by 4.
+const TWO: &str = "[screen]\nwidth = 8\nheight = 4\n\n[input]\nscript = \"i\"\n\n\
+                   [[client]]\nlabel = \"a\"\ndonation = 65536\nscript = \"a\"\n\n\
+                   [[client]]\nlabel = \"b\"\ndonation = 65536\nscript = \"b\"\n";
+
+/// Two clients on a screen of 12 by 7.
+const LABELS: &str = "[screen]\nwidth = 12\nheight = 7\n\n[input]\nscript = \"i\"\n\n\
+                      [[client]]\nlabel = \"ab\"\ndonation = 65536\nscript = \"a\"\n\n\
+                      [[client]]\nlabel = \"b\"\ndonation = 65536\nscript = \"b\"\n";
+
+/// Two clients on a screen of 40 by 16 with the status bar.
+const BAR: &str = "[screen]\nwidth = 40\nheight = 16\nbar = true\n\n[input]\nscript = \"i\"\n\n\
+                   [[client]]\nlabel = \"ab\"\ndonation = 65536\nscript = \"a\"\n\n\
+                   [[client]]\nlabel = \"b\"\ndonation = 65536\nscript = \"b\"\n";
+
+/// Room for the entries of a run.
+const ROOM: usize = 64;
+
+/// So many words of this colour, or 0.
+fn words(alloc: Global, count: usize, colour: u32) -> Result<Vec<u32>, Fail>
+    requires { colour < 16777216 }
+    ensures count { IfOk result (λ v. length v.items ≡ count) }
+    ensures inked { IfOk result (λ v. All (IsInked (colour ∷ [])) v.items) }
+{
+    Ok(vec![in alloc; colour; count]?)
+}
+
+/// A glass of this colour for a client.
+fn glass(alloc: Global, config: &Config, sid: u32, colour: u32) -> Result<Inked, Fail>
+    requires config { IsConfiguration config.now }
+    requires client { sid < length config.now.clients }
+    requires colour { colour < 16777216 }
+    ensures { IfOk result (λ g. IsGlass config.now sid g) }
+{
+    let count = room(config.clients[sid as usize].donation) / 8;
+    let words = words(alloc, count as usize, colour)?;
+    Ok(Inked::new(sid, words, vec![in alloc; colour; 1]?))
+}
+
+/// A scene of two clients, one red and one blue.
+fn scene(alloc: Global, config: &Config) -> Result<Scene<Inked>, Fail>
+    requires config { IsConfiguration config.now }
+    requires two { length config.now.clients ≡ 2 }
+    ensures open { IfOk result (λ s. IsOpen s.entries) }
+    ensures config { IfOk result (λ s. s.config ≡ config.now) }
+    ensures spare { IfOk result (λ s. s.spare ≡ ROOM) }
+{
+    let mut glasses = Vec::new(alloc);
+    glasses.push(glass(alloc, config, 0, 0xFF0000)?)?;
+    glasses.push(glass(alloc, config, 1, 0x0000FF)?)?;
+    Ok(Scene::new(alloc, config, glasses, ROOM)?)
+}
+
+/// Whether the numbers of a device event are in range.
+fn is_device(dev: Device) -> bool
+    ensures { IsTrue result → IsDevice dev }
+{
+    match dev {
+        Device::Press(code) | Device::Release(code) => code <= 767,
+        Device::Motion(..) => true,
+        Device::Wheel(turn) => turn >= -127,
+    }
+}
+
+/// Does one step of a run.
+fn take_step(scene: &mut Scene<Inked>, first: &mut Inked, second: &mut Inked, step: &Step)
+    requires two { length scene.old.config.clients ≡ 2 }
+    requires open { IsOpen scene.old.entries }
+    requires spare { 1 ≤ scene.old.spare }
+    requires first { IsGlass scene.old.config 0 first.old }
+    requires second { IsGlass scene.old.config 1 second.old }
+    ensures config { scene.new.config ≡ scene.old.config }
+    ensures open { IsOpen scene.new.entries }
+    ensures spare { scene.old.spare ≤ scene.new.spare + 1 }
+    ensures first { IsGlass scene.new.config 0 first.new }
+    ensures second { IsGlass scene.new.config 1 second.new }
+{
+    match *step {
+        Step::Call(0, call) => {
+            let _reply = scene.call(0, &call, first);
+        }
+        Step::Call(_, call) => {
+            let _reply = scene.call(1, &call, second);
+        }
+        Step::Input(dev) => {
+            if is_device(dev) {
+                let _routed = scene.input(dev);
+            }
+        }
+    }
+}
+
+/// Does the steps of a run.
+fn take_steps(scene: &mut Scene<Inked>, first: &mut Inked, second: &mut Inked, steps: &[Step])
+    requires two { length scene.old.config.clients ≡ 2 }
+    requires open { IsOpen scene.old.entries }
+    requires spare { length steps.now ≤ scene.old.spare }
+    requires first { IsGlass scene.old.config 0 first.old }
+    requires second { IsGlass scene.old.config 1 second.old }
+    ensures config { scene.new.config ≡ scene.old.config }
+    ensures two { length scene.new.config.clients ≡ 2 }
+    ensures open { IsOpen scene.new.entries }
+    ensures spare { scene.old.spare ≤ scene.new.spare + length steps.now }
+    ensures first { IsGlass scene.new.config 0 first.new }
+    ensures second { IsGlass scene.new.config 1 second.new }
+{
+    'steps: for step in steps {
+        take_step(scene, first, second, step);
+    }
+}
+
+/// The frame after the steps of a run, of words that are all loaded again and of places that are
+/// all worked out again.
+fn frame_anew(alloc: Global, config: &Config, steps: &[Step]) -> Result<Vec<u32>, Fail>
+    requires config { IsConfiguration config.now }
+    requires two { length config.now.clients ≡ 2 }
+    requires few { length steps.now < ROOM }
+{
+    let mut scene = scene(alloc, config)?;
+    let mut first = glass(alloc, config, 0, 0xFF0000)?;
+    let mut second = glass(alloc, config, 1, 0x0000FF)?;
+    let mut out = vec![in alloc; 0; config.width as usize * config.height as usize]?;
+    take_steps(&mut scene, &mut first, &mut second, steps);
+    scene.finish(&mut [first, second], out.as_mut_slice());
+    Ok(out)
+}
+
+/// The frame that a scene keeps after these steps is the one that is made anew.
+fn assert_kept(rt: &impl Abort, alloc: Global, config: &Config, steps: &[Step]) -> Result<(), Fail>
+    requires config { IsConfiguration config.now }
+    requires two { length config.now.clients ≡ 2 }
+    requires few { length steps.now < ROOM }
+{
+    let mut scene = scene(alloc, config)?;
+    let mut first = glass(alloc, config, 0, 0xFF0000)?;
+    let mut second = glass(alloc, config, 1, 0x0000FF)?;
+    take_steps(&mut scene, &mut first, &mut second, steps);
+    let anew = frame_anew(alloc, config, steps)?;
+    assert_eq!(rt;
+        scene.frame(),
+        anew.as_slice(),
+        "after {} steps",
+        steps.len()
+    );
+    Ok(())
+}
+
+/// It is so after each step of a run.
+fn assert_run(rt: &impl Abort, alloc: Global, text: &str, steps: &[Step]) -> Result<(), Fail> {
+    let config = read_config(alloc, text.as_bytes())?;
+    assert!(rt; config.clients.len() == 2);
+    assert!(rt; steps.len() < ROOM);
+    for count in 0..=steps.len() {
+        assert_kept(rt, alloc, &config, &steps[..count])?;
+    }
+    Ok(())
+}
+
+/// A client is locked out, and the other stays.
+#[test]
+fn kill_run(rt: HostRuntime) -> Result<(), Fail> {
+    let steps = [
+        Step::Call(0, Call::Buffer(4, 4)),
+        Step::Call(0, Call::View),
+        Step::Call(0, Call::Place(1, 0, 0, 4, 4)),
+        Step::Call(1, Call::Buffer(4, 4)),
+        Step::Call(1, Call::View),
+        Step::Call(1, Call::Place(1, 4, 0, 4, 4)),
+        Step::Input(Device::Motion(1, 1)),
+        Step::Input(Device::Press(272)),
+        Step::Input(Device::Release(272)),
+        Step::Input(Device::Press(99)),
+        Step::Input(Device::Press(272)),
+        Step::Input(Device::Release(272)),
+        Step::Call(0, Call::Take),
+        Step::Call(0, Call::View),
+        Step::Call(0, Call::Close),
+        Step::Call(1, Call::Take),
+    ];
+    assert_run(&rt, rt.alloc(), TWO, &steps)
+}
+
+/// Two views in X-ray mode, which change there.
+#[test]
+fn xray_run(rt: HostRuntime) -> Result<(), Fail> {
+    let steps = [
+        Step::Call(0, Call::Buffer(12, 7)),
+        Step::Call(0, Call::View),
+        Step::Call(0, Call::Place(1, 0, 0, 12, 7)),
+        Step::Call(1, Call::Buffer(4, 7)),
+        Step::Call(1, Call::View),
+        Step::Call(1, Call::Place(1, 0, 0, 3, 7)),
+        Step::Input(Device::Press(70)),
+        Step::Call(1, Call::Place(1, 9, 0, 3, 7)),
+        Step::Call(0, Call::Front(1)),
+        Step::Call(1, Call::Refresh(0, 0, 4, 7)),
+        Step::Call(0, Call::Back(1)),
+        Step::Call(1, Call::Offset(1, 1, 1)),
+        Step::Call(1, Call::Buffer(2, 2)),
+        Step::Call(1, Call::Destroy(1)),
+        Step::Input(Device::Press(70)),
+        Step::Call(0, Call::Offset(1, -3, 2)),
+    ];
+    assert_run(&rt, rt.alloc(), LABELS, &steps)
+}
+
+/// The status bar in all three modes: a click on a view, a click in the bar, and the end of the
+/// session that has the focus.
+#[test]
+fn bar_run(rt: HostRuntime) -> Result<(), Fail> {
+    let steps = [
+        Step::Call(0, Call::Buffer(20, 16)),
+        Step::Call(0, Call::View),
+        Step::Call(0, Call::Place(1, 0, 0, 20, 16)),
+        Step::Call(1, Call::Buffer(20, 16)),
+        Step::Call(1, Call::View),
+        Step::Call(1, Call::Place(1, 20, 0, 20, 16)),
+        Step::Input(Device::Motion(1, 9)),
+        Step::Input(Device::Press(272)),
+        Step::Input(Device::Release(272)),
+        Step::Input(Device::Motion(1, 1)),
+        Step::Input(Device::Press(272)),
+        Step::Input(Device::Release(272)),
+        Step::Input(Device::Press(70)),
+        Step::Input(Device::Motion(30, 9)),
+        Step::Input(Device::Press(272)),
+        Step::Input(Device::Release(272)),
+        Step::Input(Device::Motion(30, 1)),
+        Step::Input(Device::Press(272)),
+        Step::Input(Device::Release(272)),
+        Step::Input(Device::Press(99)),
+        Step::Input(Device::Press(272)),
+        Step::Input(Device::Release(272)),
+        Step::Input(Device::Press(99)),
+        Step::Input(Device::Motion(1, 9)),
+        Step::Input(Device::Press(272)),
+        Step::Input(Device::Release(272)),
+        Step::Call(0, Call::Close),
+        Step::Input(Device::Motion(30, 9)),
+        Step::Input(Device::Press(272)),
+        Step::Input(Device::Release(272)),
+        Step::Input(Device::Press(70)),
+        Step::Call(1, Call::Close),
+    ];
+    assert_run(&rt, rt.alloc(), BAR, &steps)
+}

@@ -1,0 +1,222 @@
+//! What a scene answers to the calls of one client.
+
+ghost use Rattle.std.specs.Prelude.{◌≡◌, ◌<◌, ◌≤◌, [], All, IfOk, length};
+ghost use Rattle.nit_word.specs.Inks.{IsInked};
+ghost use Rattle.nit_config.specs.ConfigurationRanges.{IsConfiguration};
+ghost use Rattle.nit_journal.specs.Replay.{IsOpen};
+ghost use Rattle.nit_scene.specs.Screen.{IsGlass};
+
+use nit_config::{Config, read_config};
+use nit_events::{Entry, Reply};
+use nit_scene::Scene;
+use nit_script::{Line, parse_client};
+use nit_slots::room;
+use nit_word::Inked;
+use std::alloc::Global;
+use std::process::Abort;
+use std::test::Fail;
+
+/// A screen of 8 by 4 and one client of 512 units.
+const SMALL: &str =
+    "[screen]\nwidth = 8\nheight = 4\n\n[input]\nscript = \"i\"\n\n[[client]]\nlabel = \"a\"\ndonation = 512\nscript = \"a\"\n";
+
+/// The same with a client of all units.
+const GREAT: &str =
+    "[screen]\nwidth = 8\nheight = 4\n\n[input]\nscript = \"i\"\n\n[[client]]\nlabel = \"a\"\ndonation = 8388608\nscript = \"a\"\n";
+
+/// A glass of zeros for the first client.
+fn glass(alloc: Global, config: &Config) -> Result<Inked, Fail>
+    requires { IsConfiguration config.now }
+    ensures { IfOk result (λ g. IsGlass config.now 0 g) }
+{
+    let words = room(config.clients[0].donation) / 8;
+    let zeros = zeros(alloc, words as usize)?;
+    Ok(Inked::new(0, zeros, Vec::new(alloc)))
+}
+
+/// So many words that are 0.
+fn zeros(alloc: Global, count: usize) -> Result<Vec<u32>, Fail>
+    ensures count { IfOk result (λ v. length v.items ≡ count) }
+    ensures inked { IfOk result (λ v. All (IsInked []) v.items) }
+{
+    Ok(vec![in alloc; 0; count]?)
+}
+
+/// A scene of one client, of this configuration.
+fn scene(alloc: Global, config: &Config) -> Result<Scene<Inked>, Fail>
+    requires config { IsConfiguration config.now }
+    requires one { length config.now.clients ≡ 1 }
+    ensures open { IfOk result (λ s. IsOpen s.entries) }
+    ensures config { IfOk result (λ s. s.config ≡ config.now) }
+    ensures spare { IfOk result (λ s. s.spare ≡ 65536) }
+{
+    let mut glasses = Vec::new(alloc);
+    glasses.push(glass(alloc, config)?)?;
+    Ok(Scene::new(alloc, config, glasses, 65_536)?)
+}
+
+/// Serves the calls of these lines.
+fn serve_all(scene: &mut Scene<Inked>, own: &mut Inked, lines: &[Line])
+    requires client { length scene.old.config.clients ≡ 1 }
+    requires open { IsOpen scene.old.entries }
+    requires spare { length lines.now ≤ scene.old.spare }
+    requires own { IsGlass scene.old.config 0 own.old }
+{
+    'lines: for line in lines {
+        if let Line::Call(call) = line {
+            let _reply = scene.call(0, call, own);
+        }
+    }
+}
+
+/// The entries are calls with these replies.
+fn assert_replies(rt: &impl Abort, entries: &[Entry], replies: &[Reply]) {
+    assert_eq!(rt; entries.len(), replies.len());
+    for (entry, expected) in entries.iter().zip(replies) {
+        match entry {
+            Entry::Call { reply, .. } => assert_eq!(rt; *reply, *expected),
+            _ => assert!(rt; false),
+        }
+    }
+}
+
+/// The client of this configuration gets these replies to the calls of its script.
+fn assert_served(
+    rt: &impl Abort,
+    alloc: Global,
+    config: &Config,
+    script: &str,
+    replies: &[Reply],
+) -> Result<(), Fail>
+    requires config { IsConfiguration config.now }
+    requires one { length config.now.clients ≡ 1 }
+{
+    let script = parse_client(alloc, script.as_bytes())?;
+    let mut own = glass(alloc, config)?;
+    let mut scene = scene(alloc, config)?;
+    serve_all(&mut scene, &mut own, script.lines());
+    assert_replies(rt, scene.journal().entries(), replies);
+    Ok(())
+}
+
+/// The configuration of this text, which has one client.
+fn configuration(rt: &impl Abort, alloc: Global, text: &str) -> Result<Config, Fail>
+    ensures config { IfOk result (λ c. IsConfiguration c) }
+    ensures one { IfOk result (λ c. length c.clients ≡ 1) }
+{
+    let config = read_config(alloc, text.as_bytes())?;
+    assert!(rt; config.clients.len() == 1);
+    Ok(config)
+}
+
+#[test]
+fn calls_of_512_units(rt: HostRuntime) -> Result<(), Fail> {
+    let alloc = rt.alloc();
+    let config = configuration(&rt, alloc, SMALL)?;
+    let views = [
+        Reply::Handle(1),
+        Reply::Handle(2),
+        Reply::OutOfQuota { need: 256, left: 0 },
+    ];
+    assert_served(&rt, alloc, &config, "view\nview\nview\n", &views)?;
+    let buffers = [
+        Reply::Done,
+        Reply::Handle(1),
+        Reply::OutOfQuota {
+            need: 512,
+            left: 256,
+        },
+    ];
+    assert_served(
+        &rt,
+        alloc,
+        &config,
+        "buffer 4 4\nview\nbuffer 8 8\n",
+        &buffers,
+    )?;
+    let upgrades = [
+        Reply::Handle(1),
+        Reply::Handle(2),
+        Reply::Done,
+        Reply::Handle(3),
+        Reply::NoReserve {
+            need: 257,
+            left: 256,
+        },
+        Reply::Done,
+        Reply::NoReserve { need: 1, left: 0 },
+    ];
+    assert_served(
+        &rt,
+        alloc,
+        &config,
+        "view\nview\nupgrade 256\nview\nupgrade 257\nupgrade 256\nupgrade 1\n",
+        &upgrades,
+    )
+}
+
+#[test]
+fn names_and_numbers(rt: HostRuntime) -> Result<(), Fail> {
+    let alloc = rt.alloc();
+    let config = configuration(&rt, alloc, GREAT)?;
+    let handles = [
+        Reply::Handle(1),
+        Reply::Done,
+        Reply::Handle(2),
+        Reply::NoSuchView(1),
+    ];
+    assert_served(
+        &rt,
+        alloc,
+        &config,
+        "view\ndestroy 1\nview\nplace 1 0 0 1 1\n",
+        &handles,
+    )?;
+    let titles = [
+        Reply::Handle(1),
+        Reply::Done,
+        Reply::BadTitle,
+        Reply::BadTitle,
+        Reply::NoSuchView(2),
+    ];
+    assert_served(
+        &rt,
+        alloc,
+        &config,
+        "view\ntitle 1 =log 2\ntitle 1 =Log\ntitle 1 =abcdefghijklm\ntitle 2 =\n",
+        &titles,
+    )?;
+    let ranges = [
+        Reply::Handle(1),
+        Reply::Done,
+        Reply::BadRect,
+        Reply::BadRect,
+        Reply::BadSize,
+        Reply::BadSize,
+        Reply::Done,
+        Reply::Closed,
+        Reply::Closed,
+    ];
+    assert_served(
+        &rt,
+        alloc,
+        &config,
+        "view\nplace 1 32767 -32768 32767 32767\nplace 1 32768 0 1 1\nrefresh 0 0 32768 1\nbuffer 4097 1\nbuffer 0 1\nclose\nclose\ntake\n",
+        &ranges,
+    )
+}
+
+#[test]
+fn views_of_all_units(rt: HostRuntime) -> Result<(), Fail> {
+    let alloc = rt.alloc();
+    let config = configuration(&rt, alloc, GREAT)?;
+    let mut script = String::new(alloc);
+    let mut replies = Vec::new(alloc);
+    for handle in 1..=64 {
+        script.push_str("view\n")?;
+        replies.push(Reply::Handle(handle))?;
+    }
+    script.push_str("view\n")?;
+    replies.push(Reply::TooManyViews)?;
+    assert_served(&rt, alloc, &config, &script, &replies)
+}

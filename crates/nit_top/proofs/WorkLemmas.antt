@@ -1,0 +1,299 @@
+-- How the work comes to its end: before a run is begun, and after one.
+use Rattle.std.proofs.Common.{◌≡◌, ℕ, ◌+◌, ◌≤◌, true, false, List, [], ◌∷◌, ◌++◌, length, Option, Some, None, refl, sym, ap, subst, ◌∙◌, inl, inr}
+use Rattle.std.specs.Prelude.{IfSome, option_map}
+use Rattle.std.proofs.lemmas.List.{append-nil}
+use Rattle.nit_config.specs.Configuration.{Configuration}
+use Rattle.nit_events.specs.declared.entry.Entry.{Entry}
+use Rattle.nit_journal.specs.Replay.{shots}
+use Rattle.nit_store.specs.declared.store.PutError.{PutError}
+use Rattle.nit_store.specs.declared.store.PutError.TheVariants as put
+use Rattle.nit_store.specs.Store.{StoreModel, File, bytes_of, Rose}
+use Rattle.nit_store.specs.Puts.{PutsAll, unrefused}
+use Rattle.nit_top.specs.declared.finish.End.{End}
+use Rattle.nit_top.specs.declared.finish.End.TheVariants as ends
+use Rattle.nit_top.specs.declared.finish.Fault.{Fault}
+use Rattle.nit_top.specs.declared.finish.Name.{Name}
+use Rattle.nit_top.specs.declared.finish.Name.TheVariants as file_name
+use Rattle.nit_top.specs.declared.finish.Stop.{Stop}
+use Rattle.nit_top.specs.declared.finish.Worked.{Worked}
+use Rattle.nit_top.specs.declared.run.PutFault.{PutFault}
+use Rattle.nit_top.specs.Command.{Command, NoCommand}
+use Rattle.nit_top.specs.Setup.{Setup}
+use Rattle.nit_top.specs.Judgement.{Judged, Refused, reads}
+use Rattle.nit_top.specs.FilesRead.{FilesRead, NoFile, AllFiles, HasRead, AreAllFiles, names_read, next_name}
+use Rattle.nit_top.specs.Outputs.{AreOutputs}
+use Rattle.nit_top.specs.RunFilm.{added_by, is_outside_of, pictures_in}
+use Rattle.nit_top.specs.Headline.{Headline}
+use Rattle.nit_top.specs.ProgramLines.{Totals, name_text, output_name, line_of}
+use Rattle.nit_top.specs.Course.{asked_also, PutFiles, IsCommandRun, Course, Begun, NotBegun, IsLastRead, file_names, IsPutBefore}
+use Rattle.nit_top.specs.Answer.{Came, Counts}
+use Rattle.nit_top.specs.Work.{asking_all, StoppedAt, end_of_run, end_of_put, put_state_of_run, refusal_of, Performed, Ends}
+use Rattle.nit_top.proofs.AskedNames.{also_none, also_more}
+use Rattle.nit_top.proofs.PutLemmas.{PutAll, PutRefused, PutSo, all_put}
+
+-- what the end of the work means, whatever the totals of the line
+pub record CameTo (c : Command) (old new : StoreModel) (journal : List Entry) (end : End) (name : List ℕ) (t : Totals) : Type 0 where
+  pub course : Course old c journal
+  pub came : Came course new.files new.asked end (line_of end name t)
+  pub counts : Counts old new end
+  pub said : new.said ≡ old.said
+
+-- ---- before a run
+
+module _ (c : Command) (old : StoreModel) (read : FilesRead) (valid : HasRead c old.files read) (name : List ℕ) (next : next_name c read ≡ Some name) (Faulty : List ℕ → Fault → Type 0) (new : StoreModel)
+    (judged : (f : Fault) → IfSome old.files (λ files. Faulty (bytes_of name files) f) → IfSome old.files (λ files. Judged c files (Refused name f))) where
+  abbrev names : List (List ℕ)
+  names = names_read c read
+
+  abbrev none : Course old c []
+  none = NotBegun refl
+
+  last_read : new.asked ≡ asked_also (asked_also old.asked names) (name ∷ []) → new.files ≡ old.files → IsLastRead none new.files new.asked name
+  last_read asked same = record { none = tt; same = same; read = read; valid = valid; next = next; asks = asked ∙ also_more old.asked names (name ∷ []) }
+
+  stopped : (t : Totals) (end : End) → StoppedAt Faulty (asking_all old names) name new end → CameTo c old new [] end name t
+  stopped t ends.ReadFault h = record {
+    course = none;
+    came = (name, last_read (ap (λ (s : StoreModel). s.asked) h.rest) (ap (λ (s : StoreModel). s.files) h.rest), refl);
+    counts = (h.rose, ap (λ (s : StoreModel). s.write_faults) h.rest);
+    said = ap (λ (s : StoreModel). s.said) h.rest;
+  }
+  stopped t (ends.Refused f) h = record {
+    course = none;
+    came = (name, last_read (ap (λ (s : StoreModel). s.asked) h.0) (ap (λ (s : StoreModel). s.files) h.0), judged f h.1, refl);
+    counts = (ap (λ (s : StoreModel). s.read_faults) h.0, ap (λ (s : StoreModel). s.write_faults) h.0);
+    said = ap (λ (s : StoreModel). s.said) h.0;
+  }
+  stopped t ends.NoMemory (inl e) = record {
+    course = none;
+    came = (
+      inl (record {
+        none = tt;
+        same = ap (λ (s : StoreModel). s.files) e;
+        read = read;
+        valid = valid;
+        asks = inr (name, next, ap (λ (s : StoreModel). s.asked) e ∙ also_more old.asked names (name ∷ []));
+      }),
+      refl,
+    );
+    counts = (ap (λ (s : StoreModel). s.read_faults) e, ap (λ (s : StoreModel). s.write_faults) e);
+    said = ap (λ (s : StoreModel). s.said) e;
+  }
+  stopped t ends.NoMemory (inr e) = record {
+    course = none;
+    came = (inl (record { none = tt; same = ap (λ (s : StoreModel). s.files) e; read = read; valid = valid; asks = inl (ap (λ (s : StoreModel). s.asked) e) }), refl);
+    counts = (ap (λ (s : StoreModel). s.read_faults) e, ap (λ (s : StoreModel). s.write_faults) e);
+    said = ap (λ (s : StoreModel). s.said) e;
+  }
+  stopped t ends.Usage h = absurd h
+  stopped t ends.WriteFault h = absurd h
+  stopped t ends.Outside h = absurd h
+  stopped t ends.Whole h = absurd h
+  stopped t (ends.Audited n) h = absurd h
+
+  -- the work of a command stopped at a file
+  pub stopped_ends : (mid : StoreModel) (stop : Stop) (w : Worked) → mid ≡ asking_all old names → name_text stop.name ≡ name → StoppedAt Faulty mid name new stop.end → w.stop ≡ stop → w.journal.items ≡ [] → Ends c old new w
+  stopped_ends mid stop w asked is h at none =
+      let t : Totals = record { clients = w.clients; entries = length w.journal.items; frames = w.frames } in
+      let here : CameTo c old new [] stop.end name t = stopped t stop.end (subst (λ (s : StoreModel). StoppedAt Faulty s name new stop.end) asked h) in
+      let named : CameTo c old new [] stop.end (name_text stop.name) t = subst (λ (n : List ℕ). CameTo c old new [] stop.end n t) (sym is) here in
+      let so : CameTo c old new [] w.stop.end (name_text w.stop.name) t = subst (λ (s : Stop). CameTo c old new [] s.end (name_text s.name) t) (sym at) named in
+      let all : CameTo c old new w.journal.items w.stop.end (name_text w.stop.name) t = subst (λ (j : List Entry). CameTo c old new j w.stop.end (name_text w.stop.name) t) (sym none) so in
+      record { course = all.course; came = all.came; counts = all.counts; said = all.said }
+
+-- ---- after a run
+
+-- what a run had
+abbrev totals_of : Setup → List Entry → Totals
+totals_of s journal = record { clients = length s.config.clients; entries = length journal; frames = shots journal + 1 }
+
+module _ (c : Command) (old : StoreModel) (s : Setup) (files_are : AreAllFiles c old.files s) (journal : List Entry) (outputs : List File) (are : AreOutputs s journal outputs) (headline : Headline s journal outputs)
+    (inside : is_outside_of c s.config ≡ false) (puts : List File) (puts_are : puts ≡ outputs ++ added_by c s.config (pictures_in are)) (new : StoreModel) where
+  abbrev start : StoreModel
+  start = asking_all old (reads c s.config)
+
+  abbrev run : IsCommandRun old c journal
+  run = record {
+    setup = s;
+    files_are = files_are;
+    inside = inside;
+    outputs = outputs;
+    are = are;
+    headline = headline;
+    puts = puts;
+    puts_are = puts_are;
+  }
+
+  -- the names of outputs stand behind those that were read
+  behind : (names : List (List ℕ)) → asked_also start.asked names ≡ asked_also old.asked (reads c s.config ++ names)
+  behind names = also_more old.asked (reads c s.config) names
+
+  all_put_too : PutAll start puts new → CameTo c old new journal ends.Whole [] (totals_of s journal)
+  all_put_too p = record {
+    course = Begun run;
+    came = (record { put = p.put; asks = ap (λ (t : StoreModel). t.asked) p.rest ∙ behind (file_names puts) }, refl);
+    counts = (ap (λ (t : StoreModel). t.read_faults) p.rest, ap (λ (t : StoreModel). t.write_faults) p.rest);
+    said = ap (λ (t : StoreModel). t.said) p.rest;
+  }
+
+  module _ (name : List ℕ) (front : List File) (bytes : List ℕ) (back : List File) (parts : puts ≡ front ++ (name, bytes) ∷ back) (mid : StoreModel) (p : PutAll start front mid) (t : Totals) where
+    before : (more : List (List ℕ)) → new.files ≡ mid.files → new.asked ≡ asked_also mid.asked more → IsPutBefore run new.files new.asked name more
+    before more same asked = record {
+      front = front;
+      bytes = bytes;
+      back = back;
+      parts = parts;
+      put = subst (λ (f : Option (List File)). PutFiles front old.files f) (sym same) p.put;
+      asks =
+          asked ∙ ap (λ (o : Option (List (List ℕ))). asked_also o more) (ap (λ (u : StoreModel). u.asked) p.rest) ∙ also_more start.asked (file_names front) more
+          ∙ behind (file_names front ++ more);
+    }
+
+    not_asked : mid.asked ≡ asked_also mid.asked []
+    not_asked = also_none mid.asked
+
+    refused : (e : PutError) → PutRefused mid name new e → CameTo c old new journal (end_of_put e) name t
+    refused put.Failed h = record {
+      course = Begun run;
+      came = (name, inr (before (name ∷ []) (ap (λ (u : StoreModel). u.files) h.rest) (ap (λ (u : StoreModel). u.asked) h.rest)), refl);
+      counts = (ap (λ (u : StoreModel). u.read_faults) h.rest ∙ ap (λ (u : StoreModel). u.read_faults) p.rest, rose, later);
+      said = ap (λ (u : StoreModel). u.said) h.rest ∙ ap (λ (u : StoreModel). u.said) p.rest;
+    }
+      where
+        writes : mid.write_faults ≡ old.write_faults
+        writes = ap (λ (u : StoreModel). u.write_faults) p.rest
+
+        rose : Rose old.write_faults new.write_faults
+        rose = subst (λ (n : ℕ). Rose n new.write_faults) writes h.rose
+
+        later : old.write_faults ≤ new.write_faults
+        later = subst (λ (n : ℕ). n ≤ new.write_faults) writes h.later
+    refused put.NoMemory (inl e) = record {
+      course = Begun run;
+      came = (inr (inr (name, inl (before (name ∷ []) (ap (λ (u : StoreModel). u.files) e) (ap (λ (u : StoreModel). u.asked) e)))), refl);
+      counts = (ap (λ (u : StoreModel). u.read_faults) e ∙ ap (λ (u : StoreModel). u.read_faults) p.rest, ap (λ (u : StoreModel). u.write_faults) e ∙ ap (λ (u : StoreModel). u.write_faults) p.rest);
+      said = ap (λ (u : StoreModel). u.said) e ∙ ap (λ (u : StoreModel). u.said) p.rest;
+    }
+    refused put.NoMemory (inr e) = record {
+      course = Begun run;
+      came = (inr (inr (name, inr (before [] (ap (λ (u : StoreModel). u.files) e) (ap (λ (u : StoreModel). u.asked) e ∙ not_asked)))), refl);
+      counts = (ap (λ (u : StoreModel). u.read_faults) e ∙ ap (λ (u : StoreModel). u.read_faults) p.rest, ap (λ (u : StoreModel). u.write_faults) e ∙ ap (λ (u : StoreModel). u.write_faults) p.rest);
+      said = ap (λ (u : StoreModel). u.said) e ∙ ap (λ (u : StoreModel). u.said) p.rest;
+    }
+
+  -- a line without a name is the same for each name
+  whole_line : (name : List ℕ) (t : Totals) → t ≡ totals_of s journal → CameTo c old new journal ends.Whole [] (totals_of s journal) → CameTo c old new journal ends.Whole name t
+  whole_line name t is h = subst (λ (u : Totals). CameTo c old new journal ends.Whole name u) (sym is) (record { course = h.course; came = h.came; counts = h.counts; said = h.said })
+
+  -- the run went to its end
+  puts_end : (fault : Option PutFault) (name : Name) (t : Totals) → t ≡ totals_of s journal → IfSome fault (λ f. name ≡ file_name.Put f.file) → PutSo start puts new (option_map refusal_of fault) → CameTo c old new journal (end_of_run fault) (name_text name) t
+  puts_end None name t is named p = whole_line (name_text name) t is (all_put_too p)
+  puts_end (Some f) name t is named p =
+      subst (λ (n : Name). CameTo c old new journal (end_of_put f.error) (name_text n) t) (sym named) (refused (output_name f.file) p.front p.bytes p.back p.parts p.mid p.put t f.error p.refused)
+
+-- memory ran out before the first round
+unbegun : (c : Command) (old : StoreModel) (s : Setup) → AreAllFiles c old.files s → (new : StoreModel) (name : List ℕ) (t : Totals) → new ≡ asking_all old (reads c s.config) → CameTo c old new [] ends.NoMemory name t
+unbegun c old s files_are new name t e = record {
+  course = NotBegun refl;
+  came = (inl (record { none = tt; same = ap (λ (s : StoreModel). s.files) e; read = AllFiles s; valid = files_are; asks = inl (ap (λ (s : StoreModel). s.asked) e) }), refl);
+  counts = (ap (λ (s : StoreModel). s.read_faults) e, ap (λ (s : StoreModel). s.write_faults) e);
+  said = ap (λ (s : StoreModel). s.said) e;
+}
+
+abbrev pub totals_on : Worked → Totals
+totals_on w = record { clients = w.clients; entries = length w.journal.items; frames = w.frames }
+
+pub ends_by : (c : Command) (old new : StoreModel) (w : Worked) → CameTo c old new w.journal.items w.stop.end (name_text w.stop.name) (totals_on w) → Ends c old new w
+ends_by c old new w h = record { course = h.course; came = h.came; counts = h.counts; said = h.said }
+
+same_totals : (s : Setup) (w : Worked) (journal : List Entry) → length s.scripts ≡ length s.config.clients → w.clients ≡ length s.scripts → w.journal.items ≡ journal → w.frames ≡ shots journal + 1 → totals_on w ≡ totals_of s journal
+same_totals s w journal counted clients is frames =
+    let a : w.clients ≡ length s.config.clients = clients ∙ counted in
+    let b : length w.journal.items ≡ length journal = ap (λ (j : List Entry). length j) is in
+    λ i. record { clients = a i; entries = b i; frames = frames i }
+
+-- a run that put these files, and what the work leaves of it
+pub record IsRunOf (c : Command) (mid : StoreModel) (s : Setup) (new : StoreModel) (w : Worked) : Type 0 where
+  pub journal : List Entry
+  pub outputs : List File
+  pub are : AreOutputs s journal outputs
+  pub headline : Headline s journal outputs
+  pub inside : is_outside_of c s.config ≡ false
+  pub puts : List File
+  pub puts_are : puts ≡ outputs ++ added_by c s.config (pictures_in are)
+  pub fault : Option PutFault
+  pub put : PutsAll puts (unrefused mid) (put_state_of_run new fault)
+  pub end_is : w.stop.end ≡ end_of_run fault
+  pub name_is : IfSome fault (λ f. w.stop.name ≡ file_name.Put f.file)
+  pub journal_is : w.journal.items ≡ journal
+  pub clients_are : w.clients ≡ length s.scripts
+  pub frames_are : w.frames ≡ shots journal + 1
+
+-- the work of a command whose files are read and valid, and whose run went to its end
+pub run_ends : (c : Command) (old mid new : StoreModel) (s : Setup) (w : Worked) → mid ≡ asking_all old (reads c s.config) → AreAllFiles c old.files s → IsRunOf c mid s new w → Ends c old new w
+run_ends c old mid new s w asked files_are r =
+    let j = r.journal in
+    let start = asking_all old (reads c s.config) in
+    let puts : PutSo start r.puts new (option_map refusal_of r.fault) = all_put start r.puts (put_state_of_run new r.fault) (subst (λ (m : StoreModel). PutsAll r.puts (unrefused m) (put_state_of_run new r.fault)) asked r.put) in
+    let totals = same_totals s w j files_are.runnable.scripts r.clients_are r.journal_is r.frames_are in
+    let here : CameTo c old new j (end_of_run r.fault) (name_text w.stop.name) (totals_on w) =
+    puts_end c old s files_are j r.outputs r.are r.headline r.inside r.puts r.puts_are new r.fault w.stop.name (totals_on w) totals r.name_is puts in
+    let so : CameTo c old new j w.stop.end (name_text w.stop.name) (totals_on w) = subst (λ (e : End). CameTo c old new j e (name_text w.stop.name) (totals_on w)) (sym r.end_is) here in
+    ends_by c old new w (subst (λ (k : List Entry). CameTo c old new k w.stop.end (name_text w.stop.name) (totals_on w)) (sym r.journal_is) so)
+
+-- the work of a command whose files are read and valid, where memory ran out before the run
+pub unbegun_ends : (c : Command) (old mid new : StoreModel) (s : Setup) (w : Worked) → mid ≡ asking_all old (reads c s.config) → AreAllFiles c old.files s → w.stop.end ≡ ends.NoMemory → new ≡ mid → w.journal.items ≡ [] → Ends c old new w
+unbegun_ends c old mid new s w asked files_are end same none =
+    let here : CameTo c old new [] ends.NoMemory (name_text w.stop.name) (totals_on w) = unbegun c old s files_are new (name_text w.stop.name) (totals_on w) (same ∙ asked) in
+    let so : CameTo c old new [] w.stop.end (name_text w.stop.name) (totals_on w) = subst (λ (e : End). CameTo c old new [] e (name_text w.stop.name) (totals_on w)) (sym end) here in
+    ends_by c old new w (subst (λ (k : List Entry). CameTo c old new k w.stop.end (name_text w.stop.name) (totals_on w)) (sym none) so)
+
+-- the region that is to be filmed does not lie on the screen
+pub outside_ends : (c : Command) (old new : StoreModel) (s : Setup) (w : Worked) → new ≡ asking_all old (reads c s.config) → AreAllFiles c old.files s → is_outside_of c s.config ≡ true → w.stop.end ≡ ends.Outside → w.journal.items ≡ [] → Ends c old new w
+outside_ends c old new s w asked files_are outside end none =
+    let here : CameTo c old new [] ends.Outside (name_text w.stop.name) (totals_on w) = record {
+      course = NotBegun refl;
+      came = (record { none = tt; same = ap (λ (s : StoreModel). s.files) asked; setup = s; valid = files_are; outside = outside; asks = ap (λ (s : StoreModel). s.asked) asked }, refl);
+      counts = (ap (λ (s : StoreModel). s.read_faults) asked, ap (λ (s : StoreModel). s.write_faults) asked);
+      said = ap (λ (s : StoreModel). s.said) asked;
+    } in
+    let so : CameTo c old new [] w.stop.end (name_text w.stop.name) (totals_on w) = subst (λ (e : End). CameTo c old new [] e (name_text w.stop.name) (totals_on w)) (sym end) here in
+    ends_by c old new w (subst (λ (k : List Entry). CameTo c old new k w.stop.end (name_text w.stop.name) (totals_on w)) (sym none) so)
+
+-- the command films nothing: it adds no file, and no region lies outside
+abbrev pub FilmsNothing : Command → Type 0
+FilmsNothing c = ((config : Configuration) (pictures : List (List ℕ)) → added_by c config pictures ≡ []) × ((config : Configuration) → is_outside_of c config ≡ false)
+
+-- the work of a command whose files are read and valid, and which films nothing
+pub performed_ends : (c : Command) (old mid new : StoreModel) (s : Setup) (w : Worked) → FilmsNothing c → mid ≡ asking_all old (reads c s.config) → AreAllFiles c old.files s → Performed mid s new w → Ends c old new w
+performed_ends c old mid new s w nothing asked files_are (inl after) =
+    let r = after.has_run in
+    run_ends c old mid new s w asked files_are (record {
+      journal = after.ran.journal.items;
+      outputs = r.outputs;
+      are = r.are;
+      headline = after.headline;
+      inside = nothing.1 s.config;
+      puts = r.outputs;
+      puts_are = sym (ap (λ (more : List File). r.outputs ++ more) (nothing.0 s.config (pictures_in r.are)) ∙ append-nil r.outputs);
+      fault = after.ran.fault;
+      put = r.puts;
+      end_is = after.end_is;
+      name_is = after.name_is;
+      journal_is = after.journal_is;
+      clients_are = after.clients_are;
+      frames_are = after.frames_are ∙ r.frames;
+    })
+performed_ends c old mid new s w nothing asked files_are (inr (end, same, none)) = unbegun_ends c old mid new s w asked files_are end same none
+
+-- the words are no command
+pub usage_ends : (old : StoreModel) (w : Worked) → w.stop.end ≡ ends.Usage → w.journal.items ≡ [] → Ends NoCommand old old w
+usage_ends old w end none =
+    let here : CameTo NoCommand old old [] ends.Usage (name_text w.stop.name) (totals_on w) = record {
+      course = NotBegun refl;
+      came = (refl, record { none = tt; same = refl; read = NoFile; valid = tt; asks = inl (also_none old.asked) }, refl);
+      counts = (refl, refl);
+      said = refl;
+    } in
+    let so : CameTo NoCommand old old [] w.stop.end (name_text w.stop.name) (totals_on w) = subst (λ (e : End). CameTo NoCommand old old [] e (name_text w.stop.name) (totals_on w)) (sym end) here in
+    ends_by NoCommand old old w (subst (λ (k : List Entry). CameTo NoCommand old old k w.stop.end (name_text w.stop.name) (totals_on w)) (sym none) so)

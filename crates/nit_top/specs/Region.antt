@@ -1,0 +1,17 @@
+-- Regions of a screen, by four numbers.
+use Rattle.std.specs.Prelude.{ℕ, ◌+◌, ◌<◌, ◌^◌, Bool, ◌==◌, ◌||◌, pos, nat_lt}
+use Rattle.nit_rect.specs.Rectangle.{Rectangle, rectangle}
+use Rattle.nit_top.specs.declared.region.Region.{Region}
+
+-- each number has at most nine digits
+abbrev pub IsRegionWords : Region → Type 0
+IsRegionWords r = (r.x < 10 ^ 9) × (r.y < 10 ^ 9) × (r.w < 10 ^ 9) × (r.h < 10 ^ 9)
+
+-- the region has no pixels, or does not lie on a screen of this width and height
+abbrev pub is_off_screen : Region → ℕ → ℕ → Bool
+is_off_screen r width height =
+    (r.w == 0) || ((r.h == 0) || (nat_lt width (r.x + r.w) || nat_lt height (r.y + r.h)))
+
+-- the region as a rectangle
+abbrev pub rectangle_of : Region → Rectangle
+rectangle_of r = rectangle (pos r.x) (pos r.y) r.w r.h

@@ -1,0 +1,43 @@
+//! Worked rows of the top call: the status, the files, the line and the journal of given words and
+//! files.
+//!
+//! Each expected value stands in the rows as it was worked out by hand, and never comes from the
+//! program. The crate has nothing but these tests.
+#![tactic(auto)]
+
+#[cfg(test)]
+mod audit_tests;
+#[cfg(test)]
+mod bad_config_tests;
+#[cfg(test)]
+mod bench;
+#[cfg(test)]
+mod capture_tests;
+#[cfg(test)]
+mod desk_tests;
+#[cfg(test)]
+mod entries;
+#[cfg(test)]
+mod failing_tests;
+#[cfg(test)]
+mod gen_tests;
+#[cfg(test)]
+mod input_tests;
+#[cfg(test)]
+mod layer_tests;
+#[cfg(test)]
+mod mode_tests;
+#[cfg(test)]
+mod refused_tests;
+#[cfg(test)]
+mod reply_tests;
+#[cfg(test)]
+mod run_tests;
+#[cfg(test)]
+mod sessions;
+#[cfg(test)]
+mod still_tests;
+#[cfg(test)]
+mod two_tests;
+#[cfg(test)]
+mod usage_tests;
