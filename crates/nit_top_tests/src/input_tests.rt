@@ -16,8 +16,7 @@ const PAIR: &str = "[screen]\nwidth = 8\nheight = 4\n\n[input]\nscript = \"pair.
 
 /// The same, but the first client takes no focus.
 const SHY: &str = "[screen]\nwidth = 8\nheight = 4\n\n[input]\nscript = \"pair.in\"\n\n\
-                   [[client]]\nlabel = \"a\"\ndonation = 65536\nscript = \"pa.nit\"\nfocus =
-                       \"none\"\n\n\
+                   [[client]]\nlabel = \"a\"\ndonation = 65536\nscript = \"pa.nit\"\nfocus = \"none\"\n\n\
                    [[client]]\nlabel = \"b\"\ndonation = 65536\nscript = \"pb.nit\"\n";
 
 /// The first client is red on the left half of the screen.

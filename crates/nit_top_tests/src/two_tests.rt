@@ -1,5 +1,5 @@
-//! The run of two clients on a screen of 8 by 4: a red view of 4 by 2, and a blue one that first
-//! stands in front of it and then moves away.
+//! The run of two clients on a screen of 8 by 4: a red view of 4 by 2, and a blue one that first stands in front of it
+//! and then moves away.
 
 use crate::bench::{
     alone, assert_asked, assert_bytes, assert_names, assert_refused, assert_said, assert_shown,
@@ -61,8 +61,7 @@ pub const EVENTS: &str = "lost 0\nleft 0\nstate live\n";
 /// The text of the journal.
 pub const JOURNAL: &str =
     "call 0 done < buffer 4 2\ncall 0 handle 1 < view\ncall 0 done < place 1 0 0 4 2\n\
-                       call 1 done < buffer 4 2\ncall 1 handle 1 < view\ncall 1 done < place 1 0 0 4
-                           2\n\
+                       call 1 done < buffer 4 2\ncall 1 handle 1 < view\ncall 1 done < place 1 0 0 4 2\n\
                        shot 1\ncall 1 done < place 1 4 2 4 2\nfinal\n";
 
 /// The journal of the run.
@@ -123,8 +122,8 @@ fn assert_scripts_kept(rt: &impl Abort, store: &MemoryStore) {
     }
 }
 
-/// Each call of the store up to the first saying fails once: how many files are there then, how
-/// many were asked for, and how many entries the journal has.
+/// Each call of the store up to the first saying fails once: how many files are there then, how many were asked for, and
+/// how many entries the journal has.
 #[test]
 fn stores_that_fail_once(rt: HostRuntime) -> Result<(), Fail> {
     let rows = [
@@ -214,8 +213,8 @@ fn refused_scripts(rt: HostRuntime) -> Result<(), Fail> {
     Ok(())
 }
 
-/// The first client's script is cut: behind a whole line it has fewer phases than the other
-/// client's, and elsewhere its last line has no reading.
+/// The first client's script is cut: behind a whole line it has fewer phases than the other client's, and elsewhere its
+/// last line has no reading.
 #[test]
 fn cut_scripts(rt: HostRuntime) -> Result<(), Fail> {
     for length in 0..=A.len() {
