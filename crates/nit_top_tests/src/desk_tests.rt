@@ -144,7 +144,7 @@ fn desk_beside_each_other(rt: HostRuntime) -> Result<(), Fail> {
 }
 
 /// Where each client has a layer of its own, no thread changes what stands in front, and the last
-/// picture is that of the run by turns. An audit says yes of the journal of either.
+/// picture is that of the run by turns.
 #[test]
 fn desk_in_layers(rt: HostRuntime) -> Result<(), Fail> {
     let alloc = rt.alloc();
@@ -152,11 +152,6 @@ fn desk_in_layers(rt: HostRuntime) -> Result<(), Fail> {
     let mut by_turns = desk(&rt, alloc, [2, 1, 0])?;
     let first = command(&rt, alloc, &["run", "desk.toml"], &mut beside)?;
     let second = command(&rt, alloc, &["turns", "desk.toml"], &mut by_turns)?;
-    assert_eq!(rt; first.status, 0);
-    assert_eq!(rt; second.status, 0);
-    let audit = ["audit", "desk.toml", "journal.txt"];
-    let first = command(&rt, alloc, &audit, &mut beside)?;
-    let second = command(&rt, alloc, &audit, &mut by_turns)?;
     assert_eq!(rt; first.status, 0);
     assert_eq!(rt; second.status, 0);
     let last = bytes_of(&beside, "final.ppm").ok_or("no picture")?;
