@@ -11,6 +11,7 @@ use borrow.Rule.Slice.PartMut.{put_mid}
 use Rattle.nit_overlay.specs.declared.area.Area.{Area}
 use Rattle.nit_overlay.specs.Area.{IsOverlaid, in_area}
 use Rattle.nit_overlay.specs.PixelRow.{IsPainted}
+use Rattle.nit_overlay.proofs.RowParts.{painted_by}
 
 -- ---- a part of a list that is put back
 
@@ -150,6 +151,16 @@ next_row f a width y n raw old now mid is order short less room long far row =
     next_part f a width y raw old now (put_mid (y * width) n now mid) order short less far
     (put_back f raw now mid (y * width) n a.left a.right room long order (omega arith)
     (subst (λ m. IsPainted (λ x w. f (y * width + x) w) (between (y * width) (y * width + m) raw) (between (y * width) (y * width + m) now) mid a.left a.right) (sym is) row))
+
+-- a row that was painted by columns and rows
+pub next_of : (f : ℕ → ℕ → ℕ → ℕ) (a : Area) (width y n : ℕ) (raw old now mid : List ℕ) → n ≡ width → a.left ≤ a.right → a.right ≤ width → y < a.bottom
+    → y * width + n ≤ length now → length mid ≡ n → RowsSoFar (λ k w. f (k % width) (k / width) w) a width raw old now y
+    → IsPainted (λ x w. f x y w) (between (y * width) (y * width + width) raw) (between (y * width) (y * width + width) now) mid a.left a.right
+    → RowsSoFar (λ k w. f (k % width) (k / width) w) a width raw old (put_mid (y * width) n now mid) (y + 1)
+next_of f a width y n raw old now mid is order short less room long far row =
+    next_row (λ k w. f (k % width) (k / width) w) a width y n raw old now mid is order short less room long far
+    (painted_by (λ x w. f x y w) (λ x w. f ((y * width + x) % width) ((y * width + x) / width) w) _ _ mid a.left a.right
+    (λ x w from lt. let on : x < width = omega arith in ap₂ (λ p q. f p q w) (sym (mod-mul-add y width x on)) (sym (div-mul-add y width x on))) row)
 
 pub last_row : (f : ℕ → ℕ → ℕ) (a : Area) (width count : ℕ) (raw old now : List ℕ) → 0 < width → a.bottom * width ≤ count → RowsSoFar f a width raw old now a.bottom
     → IsOverlaid f (λ k. in_area a (k % width) (k / width)) raw old now count

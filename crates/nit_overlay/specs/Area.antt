@@ -25,6 +25,13 @@ pub record IsOverlaid (f : ℕ → ℕ → ℕ) (chosen : ℕ → Bool) (raw old
       → slice_index now k ≡ (if chosen k then f k (slice_index raw k) else slice_index old k)
   pub rest : (k : ℕ) → count ≤ k → slice_index now k ≡ slice_index old k
 
+-- Of so many words, those of the pixels in the area are by f of the column, the row and the raw
+-- word, and all others as before.
+abbrev pub IsAreaBy : (ℕ → ℕ → ℕ → ℕ) → Area → (width : ℕ) → List ℕ → List ℕ → List ℕ → ℕ → Type 0
+IsAreaBy f a width raw old now count =
+    IsOverlaid (λ k w. f (k % width) (k / width) w) (λ k. in_area a (k % width) (k / width))
+    raw old now count
+
 -- the pixels of the screen that lie in the area are as shown, and all others as before
 abbrev pub IsShownIn : Area → Look → List ℕ → List ℕ → List ℕ → Type 0
 IsShownIn a look raw old now =

@@ -115,6 +115,10 @@ abbrev pub owner_word : Scenery → Point → ℕ → Option View → ℕ
 owner_word s p w None = bare_word
 owner_word s p w (Some v) = view_word s.mode s v p w
 
+-- what is shown at a pixel that no view owns
+abbrev pub unowned_word : Scenery → Point → ℕ
+unowned_word s p = if in_bar s.bar p then bar_word s p else bare_word
+
 -- The word that the screen shows at a pixel whose raw word is w.
 abbrev pub shown : Scenery → Point → ℕ → ℕ
 shown s p w = if in_bar s.bar p then bar_word s p else owner_word s p w (owner s.bar s.stack p)

@@ -65,7 +65,7 @@ pub(crate) fn overlay_bar(look: &Look, y: u32, from: u32, to: u32, raw: &[u32], 
     };
     let cut = width_of(&text).min(to).max(from);
     if from < cut {
-        paint_part(Rule::Text(tag), raw, out, from, cut, y);
+        paint_part(&Rule::Text(tag), raw, out, from, cut, y);
     }
-    paint_part(Rule::Fill(0), raw, out, cut, to, y);
+    paint_part(&Rule::Fill(0), raw, out, cut, to, y);
 }

@@ -36,9 +36,11 @@ mod look;
 mod overlay;
 mod owner;
 mod paint;
+mod piece;
 mod row;
 mod span;
 mod stripe;
 
 pub use look::Look;
 pub use overlay::{frame_into, overlay_rect};
+pub use piece::overlay_piece;

@@ -1,10 +1,11 @@
 //! Who owns the pixels of a row.
 
-ghost use Rattle.std.specs.Prelude.{◌≡◌, ℕ, ◌<◌, ◌≤◌, false, pos, length, option_map, slice_get, Some, IfSome};
-ghost use Rattle.nit_stack.specs.Stack.{IsStack};
+ghost use Rattle.std.specs.Prelude.{◌≡◌, ℕ, ◌<◌, ◌≤◌, false, true, pos, length, option_map, slice_get, Some, IfSome, IsTrue};
+ghost use Rattle.nit_stack.specs.Stack.{IsStack, has_slot, slot_view_in};
 ghost use Rattle.nit_stack.specs.Sources.{in_bar, owner, point};
 ghost use Rattle.nit_stack.specs.ViewNames.{views_of};
-ghost use Rattle.nit_overlay.specs.Look.{IsLook, scenery};
+ghost use Rattle.nit_overlay.specs.Frame.{label_place_of};
+ghost use Rattle.nit_overlay.specs.Look.{IsLook, IsPlaced, draws_labels, pixel_at, scenery};
 ghost use Rattle.nit_overlay.specs.Owner.{IsOwner};
 ghost use Rattle.nit_rect.specs.Limits.{most_width, most_height};
 
@@ -40,6 +41,19 @@ fn view_at(stack: &Stack, i: u32) -> (ViewRef, View)
     (v, stack.view(v))
 }
 
+/// The place of the label of the view in a slot, where labels are drawn.
+fn place_at(look: &Look, v: ViewRef, view: &View) -> Option<Point>
+    requires { IsTrue (draws_labels look.now.mode)
+        → IsPlaced look.now (record { slot = v.0; view = view.now }) }
+    ensures { IsTrue (draws_labels look.now.mode)
+        → result ≡ option_map pixel_at (label_place_of (scenery look.now) view.now) }
+{
+    match look.mode {
+        Mode::Flat => None,
+        _ => look.places[v.0 as usize],
+    }
+}
+
 /// The view at place `i` from the front as an owner.
 fn owner_at(look: &Look, i: u32, v: ViewRef, view: View) -> Owner
     requires look { IsLook look.now }
@@ -49,10 +63,21 @@ fn owner_at(look: &Look, i: u32, v: ViewRef, view: View) -> Owner
     ensures view { result.view ≡ view }
     ensures owner { IsOwner look.now result }
 {
-    let place = match look.mode {
-        Mode::Flat => None,
-        _ => look.places[v.0 as usize],
-    };
+    let place = place_at(look, v, &view);
+    Owner { view, place }
+}
+
+/// The view in a slot as an owner.
+pub(crate) fn owner_of(look: &Look, v: ViewRef) -> Owner
+    requires look { IsLook look.now }
+    requires stands { has_slot v.0 look.now.stack.now.views ≡ true }
+    ensures view { slot_view_in v.0 look.now.stack.now.views
+        ≡ Some (record { slot = v.0; view = result.view }) }
+    ensures owner { IsOwner look.now result }
+    ensures standing { IsStack look.now.stack.now }
+{
+    let view = look.stack.view(v);
+    let place = place_at(look, v, &view);
     Owner { view, place }
 }
 

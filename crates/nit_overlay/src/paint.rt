@@ -33,30 +33,30 @@ pub(crate) enum Rule {
 }
 
 /// Paints the pixels of the row y from the column `from` to before `to` by the rule.
-pub(crate) fn paint_part(rule: Rule, raw: &[u32], out: &mut [u32], from: u32, to: u32, y: u32)
+pub(crate) fn paint_part(rule: &Rule, raw: &[u32], out: &mut [u32], from: u32, to: u32, y: u32)
     requires same_length { length out.old ≡ length raw.now }
     requires words { All IsWord raw.now }
     requires in_order { from ≤ to }
     requires within { to ≤ length raw.now }
     requires across { to ≤ most_width }
-    requires tagged { IsTagged rule from to y }
-    ensures { IsPainted (λ x w. word_by rule x y w) raw.now out.old out.new from to }
+    requires tagged { IsTagged rule.now from to y }
+    ensures { IsPainted (λ x w. word_by rule.now x y w) raw.now out.old out.new from to }
 {
     let (start, end) = (from as usize, to as usize);
     paint(rule, &raw[start..end], &mut out[start..end], from, y);
 }
 
 /// Paints `out`, which are pixels of the row y from the column x on, by the rule.
-fn paint(rule: Rule, raw: &[u32], out: &mut [u32], x: u32, y: u32)
+fn paint(rule: &Rule, raw: &[u32], out: &mut [u32], x: u32, y: u32)
     requires same_length { length out.old ≡ length raw.now }
     requires words { All IsWord raw.now }
-    requires tagged { IsTagged rule x (x + length raw.now) y }
+    requires tagged { IsTagged rule.now x (x + length raw.now) y }
     requires across { x + length raw.now ≤ most_width }
     ensures { (k : ℕ) → k < length raw.now
-        → slice_index out.new k ≡ word_by rule (x + k) y (slice_index raw.now k) }
+        → slice_index out.new k ≡ word_by rule.now (x + k) y (slice_index raw.now k) }
 {
     match rule {
-        Rule::Fill(word) => out.fill(word),
+        Rule::Fill(word) => out.fill(*word),
         Rule::Raw => out.copy_from_slice(raw),
         Rule::Dim => {
             out.copy_from_slice(raw);
@@ -66,7 +66,7 @@ fn paint(rule: Rule, raw: &[u32], out: &mut [u32], x: u32, y: u32)
             out.copy_from_slice(raw);
             tint_row(out);
         }
-        Rule::Text(tag) => paint_text(&tag, out, x, y),
+        Rule::Text(tag) => paint_text(tag, out, x, y),
     }
 }
 

@@ -16,7 +16,7 @@ use crate::bar::overlay_bar;
 use crate::look::Look;
 use crate::owner::{Owner, piece_at};
 use crate::paint::{Rule, paint_part};
-use crate::stripe::{Stripe, run_at, stripe_at};
+use crate::stripe::{Stripe, band_at, run_at};
 use nit_word::BARE;
 
 /// Paints the pixels of a row of a view from the column `from` to before `to`, run by run.
@@ -33,7 +33,7 @@ fn overlay_stripe(stripe: &Stripe, y: u32, from: u32, to: u32, raw: &[u32], out:
     let mut x = from;
     'runs: while x < to {
         let run = run_at(stripe, x, y, to);
-        paint_part(run.rule, raw, out, x, run.end, y);
+        paint_part(&run.rule, raw, out, x, run.end, y);
         x = run.end;
     }
 }
@@ -55,17 +55,17 @@ fn overlay_owned(
     requires in_order { from ≤ to }
     requires within { to ≤ length raw.now }
     requires across { to ≤ most_width }
-    requires down { y ≤ most_height }
+    requires down { y < most_height }
     ensures { IsPainted
         (λ x w. owner_word (scenery look.now) (point x y) w (option_map (λ o. o.view) owner))
         raw.now out.old out.new from to }
 {
     match owner {
         Some(owner) => {
-            let stripe = stripe_at(look, &owner, y);
-            overlay_stripe(&stripe, y, from, to, raw, out);
+            let band = band_at(look, &owner, y, y + 1);
+            overlay_stripe(&band.stripe, y, from, to, raw, out);
         }
-        None => paint_part(Rule::Fill(BARE), raw, out, from, to, y),
+        None => paint_part(&Rule::Fill(BARE), raw, out, from, to, y),
     }
 }
 
@@ -77,7 +77,7 @@ fn overlay_below(look: &Look, y: u32, from: u32, to: u32, raw: &[u32], out: &mut
     requires in_order { from ≤ to }
     requires within { to ≤ length raw.now }
     requires across { to ≤ most_width }
-    requires down { y ≤ most_height }
+    requires down { y < most_height }
     requires below { look.now.stack.now.bar ≤ y }
     ensures { IsPainted (λ x w. shown (scenery look.now) (point x y) w)
         raw.now out.old out.new from to }
@@ -98,7 +98,7 @@ pub(crate) fn overlay_row(look: &Look, y: u32, from: u32, to: u32, raw: &[u32], 
     requires in_order { from ≤ to }
     requires within { to ≤ length raw.now }
     requires across { to ≤ most_width }
-    requires down { y ≤ most_height }
+    requires down { y < most_height }
     ensures { IsPainted (λ x w. shown (scenery look.now) (point x y) w)
         raw.now out.old out.new from to }
 {

@@ -41,6 +41,13 @@ pub(crate) struct Stripe {
     pub tag: Option<Tag>,
 }
 
+/// Rows of a view that follow one another and are painted alike, up to before the row `end`.
+#[derive(Clone, Copy)]
+pub(crate) struct Band {
+    pub stripe: Stripe,
+    pub end: u32,
+}
+
 /// Pixels that follow one another in a row and have one rule, up to before the column `end`.
 #[derive(Clone, Copy)]
 pub(crate) struct Run {
@@ -74,55 +81,75 @@ pub(crate) fn width_of(text: &LabelText) -> u32
     label_size(text.as_bytes().len() as u32).0
 }
 
-/// The label of a view, where labels are drawn and the row y meets it.
-fn tag_at(look: &Look, owner: &Owner, y: u32) -> Option<Tag>
+/// The label of a view, where labels are drawn and the row y meets it, and the row, at most `to`,
+/// up to which it is the same.
+fn tag_at(look: &Look, owner: &Owner, y: u32, to: u32) -> (Option<Tag>, u32)
     requires owner { IsOwner look.now owner.now }
-    ensures undrawn { draws_labels look.now.mode ≡ false → result ≡ None }
-    ensures drawn { draws_labels look.now.mode ≡ true → (rule : Rule) (x w : ℕ)
-        → word_by (tag_rule result x rule) x y w
+    requires before { y < to }
+    ensures after { y < result.1 }
+    ensures within { result.1 ≤ to }
+    ensures undrawn { draws_labels look.now.mode ≡ false → result.0 ≡ None }
+    ensures drawn { draws_labels look.now.mode ≡ true → (rule : Rule) (x z w : ℕ)
+        → y ≤ z → z < result.1 → word_by (tag_rule result.0 x rule) x z w
         ≡ by_label (view_text (scenery look.now) owner.now.view)
-        (label_place_of (scenery look.now) owner.now.view) (point x y) (word_by rule x y w) }
-    ensures met { IfSome result (IsRowOfTag y) }
+        (label_place_of (scenery look.now) owner.now.view) (point x z) (word_by rule x z w) }
+    ensures met { (z : ℕ) → y ≤ z → z < result.1 → IfSome result.0 (IsRowOfTag z) }
 {
     if !draws_labels(look.mode) {
-        return None;
+        return (None, to);
     }
-    let place = owner.place?;
+    let Some(place) = owner.place else {
+        return (None, to);
+    };
     let (left, top) = (place.x as u32, place.y as u32);
-    if y < top || top + 7 <= y {
-        return None;
+    if y < top {
+        return (None, to.min(top));
+    }
+    if top + 7 <= y {
+        return (None, to);
     }
     let label = &look.labels[owner.view.sid as usize];
     let text = label_text(label, &owner.view.title);
-    Some(Tag { text, left, top })
+    (Some(Tag { text, left, top }), to.min(top + 7))
 }
 
-/// Whether a row is the first or the last one of a rectangle, and the rectangle's columns.
-fn ring_at(rect: &Rect, y: u32) -> (bool, Span)
-    requires { y ≤ most_height }
-    ensures { (x : ℕ) → (has_at_end result.1 x || result.0) ≡ is_on_ring rect.now (point x y) }
+/// Whether the row y is the first or the last one of a rectangle, the rectangle's columns, and the
+/// row, at most `to`, up to which the rows are so as well.
+fn ring_at(rect: &Rect, y: u32, to: u32) -> (bool, Span, u32)
+    requires before { y < to }
+    requires down { to ≤ most_height }
+    ensures after { y < result.2 }
+    ensures within { result.2 ≤ to }
+    ensures same { (x z : ℕ) → y ≤ z → z < result.2
+        → (has_at_end result.1 x || result.0) ≡ is_on_ring rect.now (point x z) }
 {
     let rows = span_of(rect.y(), rect.h());
     let columns = span_of(rect.x(), rect.w());
-    (rows.has_at_end(y), columns)
+    (rows.has_at_end(y), columns, side_end(rows, y, to))
 }
 
-/// The row y of a view.
-pub(crate) fn stripe_at(look: &Look, owner: &Owner, y: u32) -> Stripe
+/// The row y of a view, and the row, at most `to`, up to which the rows are painted as it is.
+pub(crate) fn band_at(look: &Look, owner: &Owner, y: u32, to: u32) -> Band
     requires owner { IsOwner look.now owner.now }
-    requires down { y ≤ most_height }
-    ensures words { (x w : ℕ) → word_by (stripe_rule result x) x y w
-        ≡ view_word look.now.mode (scenery look.now) owner.now.view (point x y) w }
-    ensures met { IfSome result.tag (IsRowOfTag y) }
+    requires before { y < to }
+    requires down { to ≤ most_height }
+    ensures after { y < result.end }
+    ensures within { result.end ≤ to }
+    ensures words { (x z w : ℕ) → y ≤ z → z < result.end
+        → word_by (stripe_rule result.stripe x) x z w
+        ≡ view_word look.now.mode (scenery look.now) owner.now.view (point x z) w }
+    ensures met { (z : ℕ) → y ≤ z → z < result.end → IfSome result.stripe.tag (IsRowOfTag z) }
 {
-    let (edge, columns) = ring_at(&owner.view.rect, y);
-    Stripe {
+    let (edge, columns, alike) = ring_at(&owner.view.rect, y, to);
+    let (tag, end) = tag_at(look, owner, y, alike);
+    let stripe = Stripe {
         mode: look.mode,
         focused: is_focused(look.focus, owner.view.sid),
         edge,
         columns,
-        tag: tag_at(look, owner, y),
-    }
+        tag,
+    };
+    Band { stripe, end }
 }
 
 /// The rule of a mode outside the label.
@@ -140,20 +167,20 @@ fn mode_rule(mode: Mode, is_ring: bool, is_focused: bool) -> Rule
     }
 }
 
-/// The column, at most `to`, up to which the pixels from x on lie on the sides of the view as the
-/// pixel in column x does.
-fn side_end(columns: Span, x: u32, to: u32) -> u32
+/// The column or row, at most `to`, up to which those from x on are the first or the last one of
+/// the view as x is.
+fn side_end(side: Span, x: u32, to: u32) -> u32
     requires before { x < to }
     requires across { to ≤ most_width }
     ensures after { x < result }
     ensures within { result ≤ to }
-    ensures same { (z : ℕ) → x ≤ z → z < result → has_at_end columns z ≡ has_at_end columns x }
+    ensures same { (z : ℕ) → x ≤ z → z < result → has_at_end side z ≡ has_at_end side x }
 {
-    if columns.has_at_end(x) {
+    if side.has_at_end(x) {
         return x + 1;
     }
-    let end = up_to(x, to, columns.from);
-    up_to(x, end, columns.to.saturating_sub(1))
+    let end = up_to(x, to, side.from);
+    up_to(x, end, side.to.saturating_sub(1))
 }
 
 /// The rule of the pixel in column x outside the label, and how far to the right it is the rule.
@@ -185,7 +212,8 @@ pub(crate) fn run_at(stripe: &Stripe, x: u32, y: u32, to: u32) -> Run
     ensures after { x < result.end }
     ensures within { result.end ≤ to }
     ensures same { (z : ℕ) → x ≤ z → z < result.end → stripe_rule stripe.now z ≡ result.rule }
-    ensures tagged { IsTagged result.rule x result.end y }
+    ensures tagged { (z : ℕ) → IfSome stripe.now.tag (IsRowOfTag z)
+        → IsTagged result.rule x result.end z }
 {
     let Some(tag) = stripe.tag else {
         return run_outside(stripe, x, to);

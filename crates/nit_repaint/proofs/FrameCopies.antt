@@ -1,8 +1,9 @@
 -- Words of a frame that are set, one set of pixels after the other.
-use Rattle.std.proofs.Common.{◌≡◌, ℕ, ◌+◌, ◌*◌, ◌<◌, ◌≤◌, Bool, true, false, cond, nat_lt, List, length, refl, ap, ◌∙◌, subst, arith, take_all}
+use Rattle.std.proofs.Common.{◌≡◌, ℕ, ◌+◌, ◌*◌, ◌<◌, ◌≤◌, Bool, true, false, cond, nat_lt, List, length, refl, ap, sym, ◌∙◌, subst, arith, take_all}
 use Rattle.std.specs.Prelude.{◌&&◌, IsTrue, Option, None, Some, slice_get, slice_index}
 use Rattle.std.specs.Option.{option_map_or}
 use Rattle.std.proofs.lemmas.Bool.Decides.{nat_tests}
+use Rattle.std.proofs.lemmas.Grind.{same_number_lists}
 use Rattle.nit_rect.specs.declared.point.Point.{Point}
 use Rattle.nit_rect.specs.Rectangle.{Rectangle, covers}
 use Rattle.nit_rect.specs.Strips.{times}
@@ -12,7 +13,12 @@ use Rattle.nit_damage.specs.Cutter.{CutterModel, to_come}
 use Rattle.nit_damage.specs.Damage.{once}
 use Rattle.nit_paint.specs.FrameCopy.{AreSet}
 use Rattle.nit_paint.proofs.ForCallers.{nothing_set, set_same, set_then}
+use Rattle.nit_overlay.specs.declared.look.Look.{Look}
+use Rattle.nit_overlay.specs.Look.{scenery}
+use Rattle.nit_overlay.specs.Frame.{frame}
+use Rattle.nit_overlay.proofs.ForCallers.{get_or-frame, length-frame}
 use Rattle.nit_repaint.specs.PixelsToCome.{has_come, is_to_come}
+use Rattle.nit_repaint.specs.ShownPixels.{shown_at}
 use Rattle.nit_repaint.specs.PixelOwners.{owner_passes}
 use Rattle.nit_repaint.specs.WantedPixels.{is_wanted, wanted, wanted_of_first}
 use Rattle.nit_repaint.proofs.PieceLemmas.{all_count}
@@ -52,6 +58,15 @@ pub shown_as : (s : StackModel) (c : CutterModel) (set : Point → Bool) (n : �
 shown_as s c set n word old new count come is =
     set_same (is_to_come c s) (λ k. set (pixel s.width k)) n word old new
     (λ k l. ap (λ (m : ℕ). nat_lt 0 m) (come (pixel s.width k) (on_screen s.width s.height k (subst (λ (m : ℕ). k < m) count l))) ∙ lt_once (set (pixel s.width k))) is
+
+-- where all pixels are set, that is the frame
+pub whole_shown : (look : Look) (raw old new : List ℕ) → length raw ≡ look.stack.now.width * look.stack.now.height → length old ≡ length raw
+    → AreSet (λ k. true) (length raw) (shown_at look raw) old new → new ≡ frame (scenery look) raw
+whole_shown look raw old new count same is =
+    same_number_lists new (frame (scenery look) raw) (is.count ∙ same ∙ count ∙ sym (length-frame (scenery look) raw))
+    (λ k lt.
+    let here : k < length raw = subst (λ (m : ℕ). k < m) (is.count ∙ same) lt in
+    is.words k here ∙ sym (get_or-frame (scenery look) raw k (subst (λ (m : ℕ). k < m) count here)))
 
 -- ---- one view after the other
 

@@ -19,7 +19,8 @@
 //! of the session that calls is painted through the glass that it hands in, all others through the
 //! glasses of the scene. The promise is `Repainted` of nit_paint: exactly the marked pixels were
 //! loaded, each once, and what they hold then. In mode Flat a view's pixels show their raw words.
-//! In the other modes [`show_session`] sets what was loaded to what is shown there.
+//! In the other modes [`show_session`] sets what was loaded to what is shown there, and
+//! [`show_whole`] makes the whole frame. Both go by the cutter's pieces too.
 //!
 //! Nothing is known here of sessions' rights, of the journal or of input. No call takes memory.
 #![tactic(auto)]
@@ -35,5 +36,5 @@ mod whole;
 pub use buffers::paint_session;
 pub use changes::paint_changed;
 pub use pieces::paint_to_come;
-pub use showing::show_session;
+pub use showing::{show_session, show_whole};
 pub use whole::{Nobody, paint_whole};

@@ -16,7 +16,8 @@ ghost use Rattle.nit_stack.specs.Sources.{pixel};
 ghost use Rattle.nit_stack.specs.Stack.{SlotView, is_slot};
 ghost use Rattle.nit_damage.specs.Cutter.{FitsStack};
 ghost use Rattle.nit_paint.specs.FrameCopy.{AreSet};
-ghost use Rattle.nit_overlay.specs.Look.{IsLook};
+ghost use Rattle.nit_overlay.specs.Frame.{frame};
+ghost use Rattle.nit_overlay.specs.Look.{IsLook, scenery};
 ghost use Rattle.nit_repaint.specs.PixelsToCome.{is_to_come};
 ghost use Rattle.nit_repaint.specs.PixelOwners.{owner_passes};
 ghost use Rattle.nit_repaint.specs.WantedPixels.{is_wanted, wanted};
@@ -24,7 +25,7 @@ ghost use Rattle.nit_repaint.specs.ShownPixels.{shown_at};
 
 use crate::buffers::wanted_rect;
 use nit_damage::Cutter;
-use nit_overlay::{Look, overlay_rect};
+use nit_overlay::{Look, overlay_piece};
 use nit_rect::Rect;
 
 /// Sets the frame to what is shown at each pixel that is to come by the cutter.
@@ -39,7 +40,7 @@ fn show_to_come(cutter: &mut Cutter, look: &Look, raw: &[u32], frame: &mut [u32]
         (shown_at look.now raw.now) frame.old frame.new }
 {
     'pieces: while let Some(piece) = cutter.next(look.stack) {
-        overlay_rect(look, raw, piece.rect, frame);
+        overlay_piece(look, raw, &piece, frame);
     }
 }
 
@@ -104,4 +105,19 @@ pub fn show_session(
     'views: for i in 0..views {
         show_seat(cutter, look, i, of, part, raw, frame);
     }
+}
+
+/// Sets `out` to the frame: what the screen shows at each pixel.
+/// Each raw word is below 2^24.
+pub fn show_whole(cutter: &mut Cutter, look: &Look, raw: &[u32], out: &mut [u32])
+    requires look { IsLook look.now }
+    requires room { length look.now.stack.now.views ≤ cutter.old.room }
+    requires pixels { length raw.now ≡ look.now.stack.now.width * look.now.stack.now.height }
+    requires out { length out.old ≡ length raw.now }
+    requires words { All IsWord raw.now }
+    ensures room { cutter.new.room ≡ cutter.old.room }
+    ensures shown { out.new ≡ frame (scenery look.now) raw.now }
+{
+    cutter.begin_all(look.stack);
+    show_to_come(cutter, look, raw, out);
 }

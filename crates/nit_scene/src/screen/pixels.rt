@@ -34,9 +34,9 @@ use crate::server::Server;
 use nit_damage::Cutter;
 use nit_events::Mode;
 use nit_glyph::Label;
-use nit_overlay::{Look, frame_into, overlay_rect};
+use nit_overlay::{Look, overlay_rect};
 use nit_rect::{Point, Rect};
-use nit_repaint::show_session;
+use nit_repaint::{show_session, show_whole};
 
 /// The raw word of each pixel of a screen and the frame of them, each row by row from the top, with
 /// what they are cut and shown by: the labels of the sessions, and the places of the views' labels.
@@ -73,16 +73,19 @@ impl Pixels {
 /// Sets `out` to the whole frame. Where the mode draws labels, their places are worked out first.
 fn frame_of(
     server: &Server,
+    cutter: &mut Cutter,
     labels: &[Label],
     places: &mut [Option<Point>],
     raw: &[u32],
     out: &mut [u32],
 )
+    requires room { server.now.stack.most ≤ cutter.old.room }
     requires named { labels.now ≡ map (λ m. m.label) server.now.config.clients }
     requires placed { server.now.stack.most ≤ length places.old }
     requires pixels { length raw.now ≡ server.now.config.width * server.now.config.height }
     requires out { length out.old ≡ server.now.config.width * server.now.config.height }
     requires words { All IsWord raw.now }
+    ensures room { cutter.new.room ≡ cutter.old.room }
     ensures shown { out.new ≡ frame (scenery_of (state_of server.now)) raw.now }
     ensures places { length places.new ≡ length places.old }
 {
@@ -96,7 +99,7 @@ fn frame_of(
         focus: server.focus(),
         places,
     };
-    frame_into(&look, raw, out);
+    show_whole(cutter, &look, raw, out);
 }
 
 /// Makes the whole frame again, apart from the raw words.
@@ -109,6 +112,7 @@ pub(crate) fn redraw(server: &Server, pixels: &mut Pixels)
     pixels.is_apart = true;
     frame_of(
         server,
+        &mut pixels.cutter,
         pixels.labels.as_slice(),
         pixels.places.as_mut_slice(),
         pixels.raw.as_slice(),

@@ -11,8 +11,8 @@ pieces-init c = record {
   shown = none_shown c.args.look.now.stack.now (length c.args.raw.now) c.args.cutter.now (shown_at c.args.look.now c.args.raw.now) c.args.frame.now;
 }
 
-pub overlay_rect-requires-clause-out : goal.overlay_rect-requires-clause-out
-overlay_rect-requires-clause-out c = c.pieces.invariant.shown.count ∙ c.requires.frame ∙ c.requires.pixels
+pub overlay_piece-requires-clause-out : goal.overlay_piece-requires-clause-out
+overlay_piece-requires-clause-out c = c.pieces.invariant.shown.count ∙ c.requires.frame ∙ c.requires.pixels
 
 pub pieces-preserved : goal.pieces-preserved
 pieces-preserved c =
@@ -24,9 +24,9 @@ pieces-preserved c =
       fits = e.fits;
       room = e.room ∙ i.room;
       less = λ p. let was = i.less p in let now = e.count p in omega arith;
-      shown = one_shown s n c.args.cutter.now c.pieces.cutter c.next.new.self c.in-Some.piece.rect (shown_at c.args.look.now c.args.raw.now) (shown_at c.args.look.now c.args.raw.now) c.args.frame.now c.pieces.frame c.overlay_rect.new.out
+      shown = one_shown s n c.args.cutter.now c.pieces.cutter c.next.new.self c.in-Some.piece.rect (shown_at c.args.look.now c.args.raw.now) (shown_at c.args.look.now c.args.raw.now) c.args.frame.now c.pieces.frame c.overlay_piece.new.out
           i.less e.count e.came (λ k out. refl) i.shown
-          (piece_shown s n c.in-Some.piece.rect (shown_at c.args.look.now c.args.raw.now) c.pieces.frame c.overlay_rect.new.out c.requires.pixels c.overlay_rect.ensures.pixels c.overlay_rect.ensures.length);
+          (piece_shown s n c.in-Some.piece.rect (shown_at c.args.look.now c.args.raw.now) c.pieces.frame c.overlay_piece.new.out c.requires.pixels c.overlay_piece.ensures.pixels c.overlay_piece.ensures.length);
     }
 
 pub returns-clause-shown : goal.returns-clause-shown

@@ -1,0 +1,29 @@
+use Rattle.std.proofs.Common.{arith, ap, sym, length}
+use Rattle.nit_overlay.specs.Rule.{word_by}
+use Rattle.nit_overlay.specs.Stripe.{stripe_rule}
+use Rattle.nit_overlay.proofs.AreaParts.{area_as, in_columns, more_columns, no_columns, part_at}
+use Rattle.nit_overlay.proofs.piece.overlay_band.Goals as goal
+
+pub runs-init : goal.runs-init
+runs-init c =
+    let a = c.args.area.now in
+    record {
+      after = omega arith;
+      inside = c.requires.area.across;
+      painted = no_columns (λ x y w. word_by (stripe_rule c.args.stripe.now x) x y w) c.args.width c.args.raw.now (length c.args.raw.now) a.left a.top a.bottom c.args.out.now;
+    }
+
+pub runs-preserved : goal.runs-preserved
+runs-preserved c =
+    let a = c.args.area.now in
+    let i = c.runs.invariant in
+    let run = c.run_at-run.result in
+    record {
+      after = omega (arith, i.after);
+      inside = c.run_at-run.ensures.within;
+      painted = more_columns (λ x y w. word_by (stripe_rule c.args.stripe.now x) x y w) c.args.width c.args.raw.now (length c.args.raw.now) a.left a.top a.bottom c.runs.x run.end c.args.out.now c.runs.out c.overlay_block.new.out
+          i.after (omega arith) i.painted
+          (area_as (λ x y w. word_by run.rule x y w) (λ x y w. word_by (stripe_rule c.args.stripe.now x) x y w) (part_at c.runs.x a.top run.end a.bottom) c.args.width c.args.raw.now c.runs.out c.overlay_block.new.out (length c.args.raw.now)
+          (λ x y w on. let at = in_columns (part_at c.runs.x a.top run.end a.bottom) x y on in ap (λ r. word_by r x y w) (sym (c.run_at-run.ensures.same x at.0 at.1)))
+          c.overlay_block.ensures);
+    }

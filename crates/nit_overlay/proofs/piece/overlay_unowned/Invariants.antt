@@ -1,0 +1,9 @@
+use Rattle.std.proofs.Common.{◌/◌, ◌%◌}
+use Rattle.nit_stack.specs.Sources.{point}
+use Rattle.nit_overlay.specs.Look.{scenery}
+use Rattle.nit_overlay.specs.Frame.{unowned_word}
+use Rattle.nit_overlay.proofs.AreaLemmas.{RowsSoFar}
+use Rattle.nit_overlay.proofs.piece.overlay_unowned.Given as goal
+
+abbrev pub invariant-rows : goal.invariant-rows
+invariant-rows l = RowsSoFar (λ k w. unowned_word (scenery l.look) (point (k % l.width) (k / l.width))) l.area l.width l.raw l.initial.out l.out l.y

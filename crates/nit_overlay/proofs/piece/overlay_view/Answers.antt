@@ -1,0 +1,33 @@
+use Rattle.std.proofs.Common.{arith, length}
+use Rattle.nit_stack.specs.Sources.{point}
+use Rattle.nit_overlay.specs.Frame.{view_word}
+use Rattle.nit_overlay.specs.Look.{scenery}
+use Rattle.nit_overlay.specs.Rule.{word_by}
+use Rattle.nit_overlay.specs.Stripe.{stripe_rule}
+use Rattle.nit_overlay.proofs.AreaParts.{area_as, in_rows, more_rows, no_rows, part_at}
+use Rattle.nit_overlay.proofs.piece.overlay_view.Goals as goal
+
+pub bands-init : goal.bands-init
+bands-init c =
+    let a = c.args.area.now in
+    record {
+      after = omega arith;
+      inside = c.requires.area.down;
+      painted = no_rows (λ x y w. view_word c.args.look.now.mode (scenery c.args.look.now) c.args.owner.now.view (point x y) w) c.args.width c.args.raw.now (length c.args.raw.now) a.left a.top a.right c.args.out.now;
+    }
+
+pub bands-preserved : goal.bands-preserved
+bands-preserved c =
+    let a = c.args.area.now in
+    let i = c.bands.invariant in
+    let band = c.band_at-band.result in
+    record {
+      after = omega (arith, i.after);
+      inside = c.band_at-band.ensures.within;
+      painted = more_rows (λ x y w. view_word c.args.look.now.mode (scenery c.args.look.now) c.args.owner.now.view (point x y) w) c.args.width c.args.raw.now (length c.args.raw.now) a.left a.top a.right c.bands.y band.end
+          c.args.out.now c.bands.out c.overlay_band.new.out i.after (omega arith) i.painted
+          (area_as (λ x y w. word_by (stripe_rule band.stripe x) x y w) (λ x y w. view_word c.args.look.now.mode (scenery c.args.look.now) c.args.owner.now.view (point x y) w)
+          (part_at a.left c.bands.y a.right band.end) c.args.width c.args.raw.now c.bands.out c.overlay_band.new.out (length c.args.raw.now)
+          (λ x y w on. let at = in_rows (part_at a.left c.bands.y a.right band.end) x y on in c.band_at-band.ensures.words x y w at.0 at.1)
+          c.overlay_band.ensures);
+    }

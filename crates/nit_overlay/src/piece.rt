@@ -1,0 +1,196 @@
+//! Pieces of the screen, each of which has one owner or none.
+
+ghost use Rattle.std.specs.Prelude.{◌≡◌, ℕ, ◌*◌, ◌<◌, ◌≤◌, length, slice_index, All, IfSome, IsTrue, None, Some, true, if◌then◌else◌};
+ghost use Rattle.std.specs.Option.{option_map};
+ghost use Rattle.nit_rect.specs.declared.point.Point.{Point};
+ghost use Rattle.nit_rect.specs.Rectangle.{covers};
+ghost use Rattle.nit_rect.specs.Limits.{most_height, most_width};
+ghost use Rattle.nit_word.specs.Inks.{IsWord};
+ghost use Rattle.nit_stack.specs.Sources.{pixel, point};
+ghost use Rattle.nit_stack.specs.Stack.{IsScreenSize, has_slot, seat_owner, slot_view_in, view_ref};
+ghost use Rattle.nit_overlay.specs.Area.{IsArea, IsAreaBy, IsShownIn, in_area};
+ghost use Rattle.nit_overlay.specs.Frame.{shown, unowned_word, view_word};
+ghost use Rattle.nit_overlay.specs.Look.{IsLook, scenery};
+ghost use Rattle.nit_overlay.specs.Owner.{IsOwner};
+ghost use Rattle.nit_overlay.specs.PixelRow.{IsPainted};
+ghost use Rattle.nit_overlay.specs.Rule.{IsTagged, word_by};
+ghost use Rattle.nit_overlay.specs.Stripe.{IsRowOfTag, stripe_rule};
+
+use crate::area::{Area, area_of};
+use crate::bar::overlay_bar;
+use crate::look::Look;
+use crate::owner::{Owner, owner_of};
+use crate::paint::{Rule, paint_part};
+use crate::stripe::{Stripe, band_at, run_at};
+use nit_stack::{Piece, ViewRef};
+use nit_word::BARE;
+
+/// Sets the words of a piece's pixels to what is shown there; all other words stay. Each pixel of
+/// the piece has the owner that it names, or none where it names none, so no other view is looked
+/// at. `raw` and `out` have a word for each pixel of the screen, row by row from the top, and each
+/// of `raw` is below 2^24. No memory is taken.
+pub fn overlay_piece(look: &Look, raw: &[u32], piece: &Piece, out: &mut [u32])
+    requires look { IsLook look.now }
+    requires raw { length raw.now ≡ look.now.stack.now.width * look.now.stack.now.height }
+    requires out { length out.old ≡ look.now.stack.now.width * look.now.stack.now.height }
+    requires words { All IsWord raw.now }
+    requires owner { (p : Point) → IsTrue (covers piece.now.rect p) → piece.now.owner
+        ≡ option_map view_ref
+        (seat_owner look.now.stack.now.bar look.now.stack.now.views p) }
+    requires stands { IfSome piece.now.owner
+        (λ v. has_slot v.0 look.now.stack.now.views ≡ true) }
+    ensures pixels { (k : ℕ) → k < look.now.stack.now.width * look.now.stack.now.height
+        → slice_index out.new k ≡ (if covers piece.now.rect (pixel look.now.stack.now.width k)
+        then shown (scenery look.now) (pixel look.now.stack.now.width k) (slice_index raw.now k)
+        else slice_index out.old k) }
+    ensures length { length out.new ≡ length out.old }
+{
+    let (width, height) = look.stack.size();
+    let area = area_of(&piece.rect, width, height);
+    match piece.owner {
+        Some(v) => overlay_owned(look, v, raw, &area, width, out),
+        None => overlay_unowned(look, raw, &area, width, out),
+    }
+}
+
+/// Paints an area of which this view owns every pixel.
+fn overlay_owned(look: &Look, v: ViewRef, raw: &[u32], area: &Area, width: u32, out: &mut [u32])
+    requires look { IsLook look.now }
+    requires width { width ≡ look.now.stack.now.width }
+    requires screen { IsScreenSize look.now.stack.now.width look.now.stack.now.height }
+    requires raw { length raw.now ≡ look.now.stack.now.width * look.now.stack.now.height }
+    requires out { length out.old ≡ length raw.now }
+    requires words { All IsWord raw.now }
+    requires area { IsArea look.now.stack.now.width look.now.stack.now.height area.now }
+    requires stands { has_slot v.0 look.now.stack.now.views ≡ true }
+    requires owner { (x y : ℕ) → in_area area.now x y ≡ true → Some v ≡ option_map view_ref
+        (seat_owner look.now.stack.now.bar look.now.stack.now.views (point x y)) }
+    ensures { IsShownIn area.now look.now raw.now out.old out.new }
+{
+    let owner = owner_of(look, v);
+    overlay_view(look, &owner, raw, area, width, out);
+}
+
+/// Paints an area as pixels of this view, one band of rows after the other.
+fn overlay_view(look: &Look, owner: &Owner, raw: &[u32], area: &Area, width: u32, out: &mut [u32])
+    requires owner { IsOwner look.now owner.now }
+    requires width { (1 ≤ width) × (width ≤ most_width) }
+    requires same_length { length out.old ≡ length raw.now }
+    requires words { All IsWord raw.now }
+    requires area { IsArea width most_height area.now }
+    requires within { area.now.bottom * width ≤ length raw.now }
+    ensures { IsAreaBy
+        (λ x y w. view_word look.now.mode (scenery look.now) owner.now.view (point x y) w)
+        area.now width raw.now out.old out.new (length raw.now) }
+{
+    let mut y = area.top;
+    'bands: while y < area.bottom {
+        let band = band_at(look, owner, y, area.bottom);
+        let rows = Area {
+            left: area.left,
+            top: y,
+            right: area.right,
+            bottom: band.end,
+        };
+        overlay_band(&band.stripe, raw, &rows, width, out);
+        y = band.end;
+    }
+}
+
+/// Paints an area by a row of a view, run by run. All its rows are painted as this one is.
+fn overlay_band(stripe: &Stripe, raw: &[u32], area: &Area, width: u32, out: &mut [u32])
+    requires met { (y : ℕ) → area.now.top ≤ y → y < area.now.bottom
+        → IfSome stripe.now.tag (IsRowOfTag y) }
+    requires rows { area.now.top < area.now.bottom }
+    requires width { (1 ≤ width) × (width ≤ most_width) }
+    requires same_length { length out.old ≡ length raw.now }
+    requires words { All IsWord raw.now }
+    requires area { IsArea width most_height area.now }
+    requires within { area.now.bottom * width ≤ length raw.now }
+    ensures { IsAreaBy (λ x y w. word_by (stripe_rule stripe.now x) x y w)
+        area.now width raw.now out.old out.new (length raw.now) }
+{
+    let mut x = area.left;
+    'runs: while x < area.right {
+        let run = run_at(stripe, x, area.top, area.right);
+        let block = Area {
+            left: x,
+            top: area.top,
+            right: run.end,
+            bottom: area.bottom,
+        };
+        overlay_block(&run.rule, raw, &block, width, out);
+        x = run.end;
+    }
+}
+
+/// Paints an area by one rule.
+fn overlay_block(rule: &Rule, raw: &[u32], area: &Area, width: u32, out: &mut [u32])
+    requires tagged { (y : ℕ) → area.now.top ≤ y → y < area.now.bottom
+        → IsTagged rule.now area.now.left area.now.right y }
+    requires width { (1 ≤ width) × (width ≤ most_width) }
+    requires same_length { length out.old ≡ length raw.now }
+    requires words { All IsWord raw.now }
+    requires area { IsArea width most_height area.now }
+    requires within { area.now.bottom * width ≤ length raw.now }
+    ensures { IsAreaBy (λ x y w. word_by rule.now x y w)
+        area.now width raw.now out.old out.new (length raw.now) }
+{
+    'rows: for y in area.top..area.bottom {
+        let at = y as usize * width as usize;
+        let end = at + width as usize;
+        paint_part(
+            rule,
+            &raw[at..end],
+            &mut out[at..end],
+            area.left,
+            area.right,
+            y,
+        );
+    }
+}
+
+/// Paints an area of which no view owns a pixel.
+fn overlay_unowned(look: &Look, raw: &[u32], area: &Area, width: u32, out: &mut [u32])
+    requires look { IsLook look.now }
+    requires width { width ≡ look.now.stack.now.width }
+    requires screen { IsScreenSize look.now.stack.now.width look.now.stack.now.height }
+    requires raw { length raw.now ≡ look.now.stack.now.width * look.now.stack.now.height }
+    requires out { length out.old ≡ length raw.now }
+    requires words { All IsWord raw.now }
+    requires area { IsArea look.now.stack.now.width look.now.stack.now.height area.now }
+    requires owner { (x y : ℕ) → in_area area.now x y ≡ true → None ≡ option_map view_ref
+        (seat_owner look.now.stack.now.bar look.now.stack.now.views (point x y)) }
+    ensures { IsShownIn area.now look.now raw.now out.old out.new }
+{
+    'rows: for y in area.top..area.bottom {
+        let at = y as usize * width as usize;
+        let end = at + width as usize;
+        bare_row(
+            look,
+            y,
+            area.left,
+            area.right,
+            &raw[at..end],
+            &mut out[at..end],
+        );
+    }
+}
+
+/// Paints the pixels of the row y from the column `from` to before `to`, which no view owns.
+fn bare_row(look: &Look, y: u32, from: u32, to: u32, raw: &[u32], out: &mut [u32])
+    requires look { IsLook look.now }
+    requires same_length { length out.old ≡ length raw.now }
+    requires words { All IsWord raw.now }
+    requires in_order { from ≤ to }
+    requires within { to ≤ length raw.now }
+    requires across { to ≤ most_width }
+    ensures { IsPainted (λ x w. unowned_word (scenery look.now) (point x y))
+        raw.now out.old out.new from to }
+{
+    if y < look.stack.bar() {
+        overlay_bar(look, y, from, to, raw, out);
+    } else {
+        paint_part(&Rule::Fill(BARE), raw, out, from, to, y);
+    }
+}

@@ -1,0 +1,9 @@
+use Rattle.std.proofs.Common.{◌≤◌, length, sym, subst, arith}
+use Rattle.nit_stack.specs.Stack.{StackModel}
+use Rattle.nit_scene.proofs.StackRoom.{few_views}
+use Rattle.nit_scene.proofs.screen.pixels.frame_of.Goals as goal
+
+pub show_whole-requires-clause-room : goal.show_whole-requires-clause-room
+show_whole-requires-clause-room c =
+    let few = few_views c.args.server.now.stack c.facts.ensures.standing in
+    subst (λ (s : StackModel). length s.views ≤ c.args.cutter.now.room) (sym c.stack-2.ensures.stack) (omega (arith, few, c.requires.room))
