@@ -3,7 +3,8 @@
 //! A frame has one word for each pixel of the screen, row by row from the top. [`frame_into`] makes
 //! it from the raw words of the pixels, which the clients have painted, and from a [`Look`]: the
 //! stack of views, the labels, the mode, the focus and the places of the labels. [`overlay_rect`]
-//! does the same for the pixels of a rectangle alone. None takes memory.
+//! does the same for the pixels of a rectangle alone, and [`overlay_piece`] for a rectangle whose
+//! pixels have one owner that is known. None takes memory.
 //!
 //! The first rule that applies to a pixel gives its word.
 //!
@@ -25,8 +26,10 @@
 //! depends on the raw word, and on whether the pixel has an owner, alone. So there the raw words of
 //! what was painted are the frame's.
 //!
-//! A row is painted by pieces that have one owner or none, and a piece by runs that have one rule.
-//! So the stack is searched once for each piece, and not for each pixel.
+//! Where owners are not known, a row is painted by pieces that have one owner or none, and a piece by
+//! runs that have one rule. So the stack is searched once for each piece of a row, and not for each
+//! pixel. Where a piece comes with its owner, nothing is searched: it is cut into bands of rows that
+//! are painted alike, at most five, and a band into runs of columns.
 #![tactic(auto)]
 
 mod area;
