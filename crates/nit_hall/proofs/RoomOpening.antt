@@ -35,6 +35,15 @@ use Rattle.nit_hall.specs.OpeningParts.{OpeningParts}
 use Rattle.nit_hall.specs.Pass.{PassModel, IsPass}
 use Rattle.nit_hall.specs.Opening.{IsFirst, IsSetting, AreBlank, AreSplitOff, first_pass, parts_of}
 use Rattle.nit_hall.specs.Room.{RoomModel, Follows, HaveInks, IsRoom}
+use Rattle.std.specs.Prelude.{sum}
+use Rattle.std.proofs.lemmas.List.Sums.{sum_by-cons}
+use Rattle.nit_events.specs.declared.entry.Entry.{Entry}
+use Rattle.nit_clip.specs.declared.line.ClipLine.{ClipLine}
+use Rattle.nit_clip.specs.Clip.{ClipModel}
+use Rattle.nit_clip.specs.LegalClips.{IsLegalClips}
+use Rattle.nit_clip.specs.WholeClips.{clip_calls_in}
+use Rattle.nit_hall.specs.ClipPass.{clip_script_in}
+use Rattle.nit_hall.specs.RoomClips.{FollowsClips, lines_of_clips}
 use Rattle.nit_hall.proofs.Phases.{phases_begun}
 
 bare_everywhere : (config : Configuration) (p : Point) → source_of (first_state config) p ≡ Bare
@@ -78,10 +87,31 @@ zero_counts n counts is k = ap (λ (cs : List ℕ). slice_index cs k) is ∙ go 
     go (suc n) zero = refl
     go (suc n) (suc k) = go n k
 
+-- what the law of the list without clip calls says
+abbrev pub NoClips : Type 0
+NoClips = (config : Configuration) (journal : List Entry) → IsLegalClips config journal []
+
+no_sum : (n : ℕ) → sum (replicate n 0) ≡ 0
+no_sum zero = refl
+no_sum (suc n) = omega (arith, sum_by-cons (λ (x : ℕ). x) 0 (replicate n 0), no_sum n)
+
+-- no clip call was served
+pub clips_begun : NoClips → (parts : OpeningParts) (entries : List Entry) → FollowsClips parts (replicate (length parts.clips) 0) entries (record { entries = []; spare = lines_of_clips parts.clips })
+clips_begun none parts entries =
+    let zero_ : (k : ℕ) → slice_index (replicate (length parts.clips) 0) k ≡ 0 = zero_counts (length parts.clips) (replicate (length parts.clips) 0) refl in
+    record {
+      legal = none parts.config entries;
+      each = length-replicate (length parts.clips) 0;
+      calls = λ t. sym (ap (λ (n : ℕ). take n (clip_calls_in (clip_script_in parts.clips t))) (zero_ t));
+      few = λ t. let z = zero_ t in omega (arith, z);
+      in_phases = tt;
+      room = let n = no_sum (length parts.clips) in omega (arith, n);
+    }
+
 pub room_begun : (r : RoomModel) → r.scene.config ≡ r.parts.config → length r.parts.scripts ≡ length r.scene.config.clients → length r.parts.scripts ≤ 16 → r.scene.entries ≡ []
     → r.scene.spare ≡ lines_of_all r.parts.scripts r.parts.input + 1 → r.scene.raw ≡ replicate (r.scene.config.width * r.scene.config.height) bare_word → HaveInks r.parts.scripts r.scene.glasses
-    → r.counts ≡ replicate (length r.parts.scripts + 1) 0 → r.phase ≡ 0 → r.arrived ≡ 0 → IsRoom r
-room_begun r config each few empty spare raw inks counts first none =
+    → r.counts ≡ replicate (length r.parts.scripts + 1) 0 → r.phase ≡ 0 → r.arrived ≡ 0 → NoClips → r.parts.clips ≡ [] → r.clips ≡ record { entries = []; spare = 0 } → r.clip_counts ≡ [] → IsRoom r
+room_begun r config each few empty spare raw inks counts first none no_clips none_is list no_counts =
     let zeros_ : (k : ℕ) → slice_index r.counts k ≡ 0 = zero_counts (length r.parts.scripts + 1) r.counts counts in
     let long : length r.counts ≡ length r.parts.scripts + 1 = ap length counts ∙ length-replicate (length r.parts.scripts + 1) 0 in
     record {
@@ -95,6 +125,8 @@ room_begun r config each few empty spare raw inks counts first none =
       near = subst (λ (c : Configuration). AreNear c r.parts.scripts r.scene.entries r.scene.raw) config (rw (empty, raw) (near_begun r.scene.config r.parts.scripts));
       room = let n = ap length empty in omega (arith, n, spare);
       ended = inl (rw empty tt);
+      clips_follow = subst (λ (cs : List ℕ). FollowsClips r.parts cs r.scene.entries r.clips) (ap (λ (xs : List (List ClipLine)). replicate (length xs) 0) none_is ∙ sym no_counts)
+          (subst (λ (m : ClipModel). FollowsClips r.parts (replicate (length r.parts.clips) 0) r.scene.entries m) ((λ i. record { entries = []; spare = lines_of_clips (none_is i) }) ∙ sym list) (clips_begun no_clips r.parts r.scene.entries));
     }
 
 -- ---- a pass
