@@ -1,10 +1,11 @@
 -- A room and a clip pass after a clip call, and clip passes that are done.
-use Rattle.std.proofs.Common.{◌≡◌, ◌≢◌, ◌∙◌, ℕ, zero, suc, ◌+◌, ◌-◌, ◌<◌, ◌≤◌, true, false, List, [], ◌∷◌, ◌++◌, length, take, drop, map, get_or, Some, refl, sym, ap, ap₂, subst, inl, inr, arith, length-append, length-set}
+use Rattle.std.proofs.Common.{◌≡◌, ◌≢◌, ◌∙◌, ℕ, zero, suc, ◌+◌, ◌-◌, ◌<◌, ◌≤◌, true, false, List, [], ◌∷◌, ◌++◌, length, take, drop, map, set, get_or, Option, Some, refl, sym, ap, ap₂, subst, inl, inr, arith, length-append, length-set}
 use Rattle.std.specs.Prelude.{slice_get, slice_index, count_by, sum}
 use Rattle.std.specs.List.{AllByRecursion}
 use mathlib.Core.List.{IsPrefix}
 use Rattle.std.proofs.lemmas.Bool.{cases_eq}
 use Rattle.std.proofs.lemmas.List.{length-map, take_all}
+use Rattle.std.proofs.lemmas.List.Edits.{map_over_more}
 use Rattle.std.proofs.lemmas.List.Sums.{sum_by-cons}
 use Rattle.std.proofs.lemmas.Option.{get_or_from_slice_get, slice_get-get_or, slice_get_within}
 use Rattle.nit_events.specs.declared.call.Call.{Call}
@@ -15,7 +16,7 @@ use Rattle.nit_journal.specs.Replay.{IsOpen, replay}
 use Rattle.nit_journal.specs.WholeJournals.{UserAction, calls_of, done, next_phase, phases_along, to_do}
 use Rattle.nit_plan.specs.Calls.{calls_in, calls_to_make, user_actions_to_do}
 use Rattle.nit_plan.specs.SessionLists.{script_in}
-use Rattle.nit_ledger.specs.Book.{ShareModel, raised}
+use Rattle.nit_ledger.specs.Book.{BookModel, ShareModel, raised}
 use Rattle.nit_scene.specs.Scene.{state_now}
 use Rattle.nit_clip.specs.declared.call.ClipCall.{ClipCall}
 use Rattle.nit_clip.specs.declared.call.ClipReply.{ClipReply}
@@ -23,16 +24,18 @@ use Rattle.nit_clip.specs.declared.call.ClipEntry.{ClipEntry}
 use Rattle.nit_clip.specs.declared.line.ClipLine.{ClipLine}
 use Rattle.nit_clip.specs.declared.line.ClipLine.TheVariants as line
 use Rattle.nit_clip.specs.ClipGrammar.{is_clip_phase}
+use Rattle.nit_clip.specs.Clip.{ClipModel}
 use Rattle.nit_clip.specs.Clipboard.{clip_answer, clipboard_of}
 use Rattle.nit_clip.specs.LegalClips.{IsLegalClips}
 use Rattle.nit_clip.specs.WholeClips.{clips_to_make, clip_calls_in, clip_calls_of, clips_to_do, calls_up_to, left_after, IsInPhase, AreInPhases, IsWholeClips}
 use Rattle.nit_hall.specs.OpeningParts.{OpeningParts}
 use Rattle.nit_hall.specs.ServedLines.{served, phases_before}
 use Rattle.nit_hall.specs.Pass.{PassModel, Belongs}
-use Rattle.nit_hall.specs.ClipPass.{ClipPassModel, IsClipPass, ClipBelongs, AreTogether, AreDoneClips, IsAtClip, IsAtClipPhase, IsAtPhaseEnd, clip_script_in, clip_phases_before, next_clip}
+use Rattle.nit_hall.specs.ClipPass.{ClipPassModel, IsClipPass, ClipBelongs, AreTogether, AreDoneClips, IsDoneClip, knowing_clip, IsAtClip, IsAtClipPhase, IsAtPhaseEnd, clip_script_in, clip_phases_before, next_clip}
 use Rattle.nit_hall.specs.Room.{RoomModel, IsRoom, clip_entry, with_clip, without_final}
 use Rattle.nit_hall.specs.RoomClips.{FollowsClips, lines_of_clips}
 use Rattle.nit_hall.proofs.LineLemmas.{front_short}
+use Rattle.nit_hall.proofs.CountParts.{back_count}
 use Rattle.nit_hall.proofs.FinalEntries.{open_whole}
 use Rattle.nit_hall.proofs.ScriptsFollowed.{raised_at, raised_other, sum_raised, made_of}
 use Rattle.nit_hall.proofs.ServedCalls.{calls_made}
@@ -195,6 +198,77 @@ module _ (laws : CallLaws) (r : RoomModel) (p : PassModel) (q : ClipPassModel) (
       clips_follow = follows_then;
     }
 
+-- ---- what a clip call finds
+
+-- the number of the clip pass's share
+pub number_is : (r r₀ : RoomModel) (q q₀ : ClipPassModel) (share : ShareModel) → r ≡ r₀ → q ≡ q₀ → IsClipPass q share → ClipBelongs r₀.parts q₀ → share.number ≡ length r.parts.scripts + 1 + q.sid
+number_is r r₀ q q₀ share er eq is of =
+    let here : ClipBelongs r.parts q = subst (λ (x : RoomModel). ClipBelongs x.parts q) (sym er) (subst (λ (x : ClipPassModel). ClipBelongs r₀.parts x) (sym eq) of) in
+    is.number ∙ here.number
+
+-- its count is the room's count of its client's clip calls
+pub clip_counted : (r r₀ : RoomModel) (q q₀ : ClipPassModel) (share : ShareModel) (counts : List ℕ) → r ≡ r₀ → q ≡ q₀ → IsClipPass q share → ClipBelongs r₀.parts q₀ → r.clip_counts ≡ drop (length r.parts.scripts + 1) counts → slice_index counts share.number ≡ share.count
+    → slice_index r₀.clip_counts q₀.sid ≡ length (clip_calls_in (take q₀.next q₀.script))
+clip_counted r r₀ q q₀ share counts er eq is of split counted =
+    let number = number_is r r₀ q q₀ share er eq is of in
+    let here : slice_index r.clip_counts q.sid ≡ length (clip_calls_in (take q.next q.script)) = ap (λ (cs : List ℕ). slice_index cs q.sid) split ∙ back_count (length r.parts.scripts + 1) q.sid share.number counts number ∙ counted ∙ is.counted in
+    subst (λ (x : RoomModel). slice_index x.clip_counts q₀.sid ≡ length (clip_calls_in (take q₀.next q₀.script))) er (subst (λ (y : ClipPassModel). slice_index r.clip_counts y.sid ≡ length (clip_calls_in (take y.next y.script))) eq here)
+
+-- what is asked for, and what was found when the passes met the room
+pub record AskedClip (r : RoomModel) (p : PassModel) (q : ClipPassModel) : Type 0 where
+  pub belongs : Belongs r.parts p
+  pub clip_belongs : ClipBelongs r.parts q
+  pub together : AreTogether p q
+  pub ready : p.phase ≡ r.phase
+  pub phase_end : IsAtPhaseEnd p
+  pub next_is : IsAtClip q
+  pub open_is : IsOpen r.scene.entries
+  pub counted : slice_index r.counts p.sid ≡ length (served (take p.next p.script))
+  pub phase_is : p.phase ≡ phases_before p.script p.next
+
+pub found_clip : (r r₀ : RoomModel) (p : PassModel) (q q₀ : ClipPassModel) (share : ShareModel) (counts : List ℕ) → r ≡ r₀ → q ≡ q₀ → IsClipPass q share → r.clip_counts ≡ drop (length r.parts.scripts + 1) counts → slice_index counts share.number ≡ share.count → AskedClip r₀ p q₀ → FoundClip r₀ p q₀
+found_clip r r₀ p q q₀ share counts er eq is split counted asked = record {
+  belongs = asked.belongs;
+  clip_belongs = asked.clip_belongs;
+  together = asked.together;
+  ready = asked.ready;
+  phase_end = asked.phase_end;
+  next_is = asked.next_is;
+  open_is = asked.open_is;
+  counted = asked.counted;
+  clip_counted = clip_counted r r₀ q q₀ share counts er eq is asked.clip_belongs split counted;
+  phase_is = asked.phase_is;
+  clip_phase_is = subst (λ (y : ClipPassModel). y.phase ≡ clip_phases_before y.script y.next) eq is.phase;
+}
+
+-- ---- the room, part by part
+
+pub served_clip : (r r₀ : RoomModel) (q q₀ : ClipPassModel) (book : BookModel) (list : ClipModel) (n at : ℕ) (focus : Option ℕ) (call : ClipCall) (reply : ClipReply)
+    → r ≡ r₀ → q ≡ q₀ → r.scene.config ≡ r.parts.config → book.name ≡ r.parts.name → take n book.counts ≡ r.counts → drop n book.counts ≡ raised r.clip_counts q.sid
+    → at ≡ length r.scene.entries → focus ≡ (state_now r.scene).input.focus → call ≡ next_clip q
+    → list ≡ record { entries = r.clips.entries ++ record { at = at; sid = q.sid; focus = focus; call = call; reply = reply } ∷ []; spare = r.clips.spare - 1 }
+    → ◌≡◌ {A = RoomModel} (record {
+      parts = record { name = book.name; config = r.scene.config; scripts = r.parts.scripts; plans = r.parts.plans; input = r.parts.input; clips = r.parts.clips };
+      scene = r.scene;
+      counts = take n book.counts;
+      phase = r.phase;
+      arrived = r.arrived;
+      clips = list;
+      clip_counts = drop n book.counts;
+    }) (with_clip r₀ (clip_entry r₀ q₀ reply))
+served_clip r r₀ q q₀ book list n at focus call reply er eq config name front back at_is focus_is call_is list_is =
+    (λ i. record {
+      parts = record { name = name i; config = config i; scripts = r.parts.scripts; plans = r.parts.plans; input = r.parts.input; clips = r.parts.clips };
+      scene = r.scene;
+      counts = front i;
+      phase = r.phase;
+      arrived = r.arrived;
+      clips = list_is i;
+      clip_counts = back i;
+    })
+    ∙ (λ i. with_clip r (record { at = at_is i; sid = q.sid; focus = focus_is i; call = call_is i; reply = reply }))
+    ∙ (λ i. with_clip (er i) (clip_entry (er i) (eq i) reply))
+
 -- ---- the clip pass
 
 -- a clip call was served
@@ -252,3 +326,24 @@ clips_whole all r qs room are met = record {
       ∙ ap done (sym (made_by r.parts.clips sid ∙ ap clips_to_make script));
   placed = room.clips_follow.in_phases;
 }
+
+-- ---- one clip pass after the other
+
+pub clip_far : (r₀ r : RoomModel) (xs ys : List ClipPassModel) (i : ℕ) (p q : ClipPassModel) → r ≡ r₀ → i < length xs → ys ≡ map (knowing_clip (without_final r₀.scene.entries)) (take i xs) ++ drop i xs → p ≡ get_or ys i p
+    → q ≡ knowing_clip (without_final r.scene.entries) (get_or ys i p) → set ys i q ≡ map (knowing_clip (without_final r₀.scene.entries)) (take (i + 1) xs) ++ drop (i + 1) xs
+clip_far r₀ r xs ys i p q er inside so_far at eq =
+    ap (set ys i) (eq ∙ ap₂ (λ (x : RoomModel) (y : ClipPassModel). knowing_clip (without_final x.scene.entries) y) er (sym at))
+    ∙ map_over_more (knowing_clip (without_final r₀.scene.entries)) xs ys i p inside so_far at
+
+pub clip_met : (r₀ r : RoomModel) (k : ℕ) (q x : ClipPassModel) → r ≡ r₀ → q ≡ x → IsPrefix x.seen (without_final r.scene.entries) → slice_index r.clip_counts x.sid ≡ length (clip_calls_in (take x.next x.script)) → IsDoneClip r₀.parts k q → IsKnownClip r₀ k q
+clip_met r₀ r k q x er eq front counted is =
+    let known : IsKnownClip r x.sid x = record { front = front; counted = counted } in
+    let here : IsKnownClip r₀ q.sid q = subst (λ (y : RoomModel). IsKnownClip y q.sid q) er (subst (λ (y : ClipPassModel). IsKnownClip r y.sid y) (sym eq) known) in
+    subst (λ (n : ℕ). IsKnownClip r₀ n q) is.number here
+
+pub clips_met_below : (r : RoomModel) (i : ℕ) (qs : List ClipPassModel) (q : ClipPassModel) → ((k : ℕ) (x : ClipPassModel) → k < i → slice_get qs k ≡ Some x → IsKnownClip r k x) → slice_get qs i ≡ Some q → IsKnownClip r i q
+    → (k : ℕ) (x : ClipPassModel) → k < i + 1 → slice_get qs k ≡ Some x → IsKnownClip r k x
+clips_met_below r i qs q below at here k x h e = elim (cases_eq k i) [
+  | inl same ↦ subst (λ (n : ℕ). IsKnownClip r n x) (sym same) (subst (λ (y : ClipPassModel). IsKnownClip r i y) (let a : Some q ≡ Some x = sym at ∙ ap (λ (n : ℕ). slice_get qs n) (sym same) ∙ e in cc) here)
+  | inr ne ↦ below k x (omega arith) e
+]

@@ -152,3 +152,15 @@ found_user r₀ r u₀ u known l er eu of at ready counted =
     let here : FoundUser r₀ (record u₀ { seen = known }) l =
     record { line_is = ap (λ (ls : List InputLine). slice_get ls u₀.next) (sym of.input) ∙ at; own_line = at; input_is = of.input; number_is = of.number; counted = counted; ready = ready } in
     subst (λ (q : UserPassModel). FoundUser r q l) (sym eu) (subst (λ (x : RoomModel). FoundUser x (record u₀ { seen = known }) l) (sym er) here)
+
+-- the user's pass that has met the room knows the user's entries so far
+pub user_met : (r : RoomModel) (u : UserPassModel) (share share' : ShareModel) (known : List Entry)
+    → IsRoom r → u.input ≡ r.parts.input → slice_index r.counts (length r.parts.scripts) ≡ u.next → IsUserPass u share → share' ≡ record share { seen = known } → known ≡ without_final r.scene.entries
+    → IsUserPass (record { number = share'.number; next = u.next; phase = u.phase; name = share'.name; input = u.input; seen = share'.seen }) share'
+user_met r u share share' known room same counted is e all = record {
+  number = refl;
+  counted = ap (λ (s : ShareModel). s.count) e ∙ is.counted;
+  within = is.within;
+  phase = is.phase;
+  known = ap (λ (s : ShareModel). user_actions_of s.seen) e ∙ ap user_actions_of all ∙ room.follows.deeds ∙ ap (λ (k : ℕ). user_actions_in (take k r.parts.input)) counted ∙ ap (λ (ls : List InputLine). user_actions_in (take u.next ls)) (sym same);
+}

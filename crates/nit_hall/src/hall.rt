@@ -121,6 +121,7 @@ impl<'a, N: Name> Kept<'a, N> {
         ensures clip { clip.new
             ≡ record clip.old { next = clip.old.next + 1; seen = pass.new.seen } }
     {
+        let _kept = self.room.scene();
         self.room.clip(pass, clip)
     }
 

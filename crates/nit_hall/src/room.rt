@@ -121,7 +121,7 @@ impl<'a> Room<'a> {
           counts = book.counts;
           phase = 0;
           arrived = 0;
-          clips = clip.entry;
+          clips = clip;
           clip_counts = [];
         } }
     {

@@ -40,27 +40,8 @@ pub fn open_clips<'a>(
     ensures user { IfOk result (λ o. o.opened.user ≡ opened.entry.user) }
     ensures clips { IfOk result (λ o. AreFirstClipPasses o.opened.room.parts o.clips.items) }
 {
-    let Opened { room, passes, user } = opened;
-    let (room, clips) = with_clips(alloc, room, scripts)?;
-    Ok(ClipOpened {
-        opened: Opened { room, passes, user },
-        clips,
-    })
-}
-
-/// The room with these clip scripts, and their clip passes.
-fn with_clips<'a>(
-    alloc: Global,
-    room: Room<'a>,
-    scripts: &'a [ClipScript],
-) -> Result<(Room<'a>, Vec<ClipPass<'a>>), NoMemory>
-    requires unserved { IsUnserved room }
-    requires each { length scripts.now ≡ length room.parts.scripts }
-    ensures room { IfOk result (λ r. r.0 ≡ with_clip_scripts room.entry scripts.entry.now) }
-    ensures clips { IfOk result (λ r. AreFirstClipPasses r.0.parts r.1.items) }
-{
     no_clips();
-    let few = room.clients();
+    let Opened { room, passes, user } = opened;
     let Room {
         scene,
         mut book,
@@ -73,7 +54,7 @@ fn with_clips<'a>(
         clips: _,
     } = room;
     let clip = Clip::with_room(alloc, line_count(scripts))?;
-    let passes = clip_passes(alloc, scripts, &mut book)?;
+    let clips = clip_passes(alloc, scripts, &mut book)?;
     let room = Room {
         scene,
         book,
@@ -85,7 +66,10 @@ fn with_clips<'a>(
         clip,
         clips: scripts,
     };
-    Ok((room, passes))
+    Ok(ClipOpened {
+        opened: Opened { room, passes, user },
+        clips,
+    })
 }
 
 /// A clip pass for each clip script, in order, of which no line is done. Their shares are new ones

@@ -51,6 +51,7 @@ impl<'a> Room<'a> {
         left_to_do();
         one_more_clip();
         one_more_placed();
+        let _ended = pass.phase();
         self.meet(pass);
         let call = clip.next_clip();
         self.book.count(&mut clip.share);
@@ -93,6 +94,7 @@ impl<'a> Room<'a> {
             → IsPrefix q.seen (without_final self.old.scene.entries) }
     {
         calls_of_a_clip_script();
+        let _kept = self.scene();
         'clips: for clip in clips.iter_mut() {
             self.meet_clip(clip);
         }
