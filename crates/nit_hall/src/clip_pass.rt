@@ -1,6 +1,6 @@
 //! A client's place in its clip script.
 
-ghost use Rattle.std.specs.Prelude.{◌≡◌, ◌+◌, ◌≤◌, ◌<◌, ◌==◌, [], length, IfNone, slice_get};
+ghost use Rattle.std.specs.Prelude.{◌≡◌, ◌+◌, ◌≤◌, ◌<◌, ◌==◌, length, IfNone, slice_get};
 ghost use Rattle.nit_hall.specs.ClipPass.{IsAtClip, IsAtClipPhase, clip_phases_before, next_clip};
 
 use crate::pass::Pass;

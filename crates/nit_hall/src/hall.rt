@@ -261,8 +261,8 @@ impl<'a, N: Name> Hall<'a, N> {
     /// Waits until the pass is ready, and serves the next line of the clip pass, which is a clip
     /// call ([`Room::clip`]). By the journal that the pass then knows, the answer is `NotFocused`
     /// exactly where the client has not the focus; otherwise a `Copy` is answered `Copied`, and a
-    /// `Paste` gives a text or is answered `Empty`. The two passes are of one client of this opening
-    /// and in one phase, and the client's pass is done, or its next line ends the phase.
+    /// `Paste` gives a text or is answered `Empty`. The two passes are of one client of this
+    /// opening and in one phase, and the client's pass is done, or its next line ends the phase.
     pub fn clip_next<R: Wait>(
         &self,
         rt: &R,

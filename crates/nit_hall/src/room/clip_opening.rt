@@ -1,6 +1,6 @@
 //! A room that gets clip scripts, before its first entry.
 
-ghost use Rattle.std.specs.Prelude.{◌≡◌, ◌+◌, ◌*◌, ◌≤◌, ◌++◌, ℕ, IfOk, Some};
+ghost use Rattle.std.specs.Prelude.{◌≡◌, ◌+◌, ◌≤◌, ◌++◌, ℕ, IfOk, Some};
 ghost use Rattle.std.specs.Prelude.{length, replicate, slice_get};
 ghost use Rattle.nit_ledger.specs.Book.{most_shares};
 ghost use Rattle.nit_hall.specs.ClipOpening.{AreFirstClipPasses, IsUnserved, with_clip_scripts};

@@ -1,6 +1,6 @@
 //! A clip call of a client's, and the clip list at the end.
 
-ghost use Rattle.std.specs.Prelude.{◌≡◌, ◌+◌, ◌≤◌, ℕ, length, map, slice_get, slice_index, Some, take};
+ghost use Rattle.std.specs.Prelude.{◌≡◌, ◌+◌, ℕ, length, map, slice_get, slice_index, Some, take};
 ghost use mathlib.Core.List.{IsPrefix};
 ghost use Rattle.nit_journal.specs.Replay.{IsLegal, IsOpen};
 ghost use Rattle.nit_plan.specs.Calls.{calls_to_make, user_actions_to_do};
