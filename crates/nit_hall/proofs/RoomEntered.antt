@@ -1,5 +1,5 @@
 -- The room after a line that put an entry into the journal, part by part.
-use Rattle.std.proofs.Common.{◌≡◌, ◌∙◌, ℕ, ◌+◌, ◌-◌, List, [], ◌∷◌, ◌++◌, take, drop, sym, ap}
+use Rattle.std.proofs.Common.{◌≡◌, ◌∙◌, ℕ, ◌-◌, [], ◌∷◌, ◌++◌, take, drop}
 use Rattle.nit_events.specs.declared.entry.Entry.{Entry}
 use Rattle.nit_pixels.specs.End.{End}
 use Rattle.nit_ledger.specs.Book.{BookModel, raised}

@@ -1,4 +1,4 @@
-use Rattle.std.proofs.Common.{◌≡◌, ◌∙◌, List, Option, ℕ, sym, ap, ap₂}
+use Rattle.std.proofs.Common.{◌∙◌, List, sym, ap, ap₂}
 use Rattle.nit_events.specs.declared.entry.Entry.{Entry}
 use Rattle.nit_config.specs.Configuration.{Configuration}
 use Rattle.nit_journal.specs.Replay.{replay}

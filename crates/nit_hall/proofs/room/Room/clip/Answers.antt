@@ -1,10 +1,9 @@
-use Rattle.std.proofs.Common.{◌≡◌, ◌∙◌, ℕ, ◌+◌, ◌≤◌, List, length, take, drop, refl, sym, ap, subst}
+use Rattle.std.proofs.Common.{◌≡◌, ◌∙◌, ◌+◌, ◌≤◌, List, length, take, drop, refl, sym, ap, subst}
 use mathlib.Core.List.{IsPrefix}
 use Rattle.nit_events.specs.declared.entry.Entry.{Entry}
 use Rattle.nit_journal.specs.Journal.{JournalModel}
-use Rattle.nit_ledger.specs.Book.{BookModel, ShareModel, raised}
+use Rattle.nit_ledger.specs.Book.{BookModel, ShareModel}
 use Rattle.nit_scene.specs.Scene.{state_now}
-use Rattle.nit_clip.specs.Clip.{ClipModel}
 use Rattle.nit_clip.specs.Clipboard.{clip_answer, clipboard_of}
 use Rattle.nit_clip.specs.LegalClips.{IsLegalClips}
 use Rattle.nit_hall.specs.ClipPass.{ClipPassModel, next_clip}

@@ -1,4 +1,4 @@
-use Rattle.std.proofs.Common.{◌≡◌, ◌∙◌, refl, ap}
+use Rattle.std.proofs.Common.{refl}
 use Rattle.nit_hall.proofs.ServedClips.{clip_counted}
 use Rattle.nit_hall.proofs.room.Room.meet_clip.Goals as goal
 

@@ -1,7 +1,6 @@
-use Rattle.std.proofs.Common.{◌≡◌, ◌∙◌, ℕ, ◌+◌, ◌<◌, ◌++◌, ◌∷◌, [], List, length, replicate, ap, arith, length-append}
+use Rattle.std.proofs.Common.{◌≡◌, ◌∙◌, ℕ, ◌+◌, ◌++◌, ◌∷◌, [], List, length, replicate, ap, arith, length-append}
 use Rattle.std.proofs.lemmas.List.{get_or_default, length-replicate}
 use Rattle.nit_ledger.specs.Book.{BookModel, ShareModel}
-use Rattle.nit_clip.specs.declared.line.ClipLine.{ClipLine}
 use Rattle.nit_hall.specs.ClipPass.{clip_script_in}
 use Rattle.nit_hall.proofs.RoomOpening.{clip_pass_more, new_clip_pass, zeros_behind}
 use Rattle.nit_hall.proofs.room.clip_opening.clip_passes.Goals as goal

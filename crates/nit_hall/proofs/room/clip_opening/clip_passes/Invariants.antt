@@ -1,4 +1,4 @@
-use Rattle.std.proofs.Common.{◌≡◌, ◌+◌, ◌++◌, ℕ, Some, length, slice_get}
+use Rattle.std.proofs.Common.{◌≡◌, ◌++◌, ℕ, Some, length, slice_get}
 use Rattle.std.specs.Prelude.{replicate}
 use Rattle.nit_hall.specs.ClipPass.{ClipPassModel}
 use Rattle.nit_hall.proofs.RoomOpening.{new_clip_pass}

@@ -1,7 +1,6 @@
-use Rattle.std.proofs.Common.{◌≡◌, ◌∙◌, ℕ, ◌+◌, List, [], length, replicate, refl, sym, ap, subst}
+use Rattle.std.proofs.Common.{◌≡◌, ◌∙◌, ◌+◌, [], length, refl, sym, ap, subst}
 use Rattle.nit_ledger.specs.Book.{BookModel}
 use Rattle.nit_hall.specs.ClipPass.{clip_script_in}
-use Rattle.nit_hall.specs.ClipOpening.{with_clip_scripts}
 use Rattle.nit_hall.specs.Room.{RoomModel, IsRoom, without_final}
 use Rattle.nit_hall.proofs.CountParts.{parts_long}
 use Rattle.nit_hall.proofs.RoomOpening.{opened_clips, room_with_clips}
