@@ -1,5 +1,6 @@
 -- Numbers that never fall.
 use Rattle.std.proofs.Common.{◌≡◌, ◌∙◌, ℕ, ◌+◌, ◌<◌, ◌≤◌, List, [], ◌∷◌, ◌++◌, length, get_or, ap, inl, inr, arith, length-append}
+use Rattle.std.specs.Prelude.{slice_index}
 use Rattle.std.specs.List.Sorted.{IsNonDecreasing}
 use Rattle.std.proofs.lemmas.Bool.{cases_lt}
 use Rattle.std.proofs.lemmas.List.{get_or_append_left}
@@ -53,3 +54,10 @@ without_last xs p old i j d le inside =
     let m : length (xs ++ p ∷ []) ≡ length xs + 1 = length-append xs (p ∷ []) in
     let a = old i j d le (omega arith) in
     omega (arith, a, get_front xs p d i (omega arith), get_front xs p d j inside)
+
+-- each one before the last is at most the last
+pub each_below : (xs : List ℕ) (p : ℕ) → IsNonDecreasing (xs ++ p ∷ []) → (i : ℕ) → i < length xs → slice_index xs i ≤ p
+each_below xs p old i inside =
+    let m : length (xs ++ p ∷ []) ≡ length xs + 1 = length-append xs (p ∷ []) in
+    let a : get_or (xs ++ p ∷ []) i 0 ≤ get_or (xs ++ p ∷ []) (length xs) 0 = old i (length xs) 0 (omega arith) (omega arith) in
+    omega (arith, a, get_front xs p 0 i inside, get_last xs p 0)

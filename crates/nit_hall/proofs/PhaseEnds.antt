@@ -31,6 +31,7 @@ use Rattle.nit_hall.proofs.LineLemmas.{take_line, served_counted, unserved_line,
 use Rattle.nit_hall.proofs.Phases.{client_phase, user_phase_served, ended_long}
 use Rattle.nit_hall.proofs.ScriptsFollowed.{IsNext, follows_phase, follows_user_phase}
 use Rattle.nit_hall.proofs.ServedCalls.{still_open, room_then}
+use Rattle.nit_hall.proofs.ClipsStay.{clips_same}
 
 -- ---- phases
 
@@ -53,10 +54,10 @@ not_more clients phase arrived few = elim (cases_Bool (arrived == clients)) [
   | inr is ↦ subst (λ (b : Bool). (cond {A = ℕ × ℕ} b (phase + 1, 0) (phase, arrived + 1)).1 ≤ clients) (sym is) (let below : arrived + 1 ≤ clients = grind (arith, nat_tests) in below)
 ]
 
-counted_more : {X : Type 0} (p : X → Bool) (xs : List X) (k : ℕ) (x : X) → slice_get xs k ≡ Some x → p x ≡ true → count_by p (take (k + 1) xs) ≡ count_by p (take k xs) + 1
+pub counted_more : {X : Type 0} (p : X → Bool) (xs : List X) (k : ℕ) (x : X) → slice_get xs k ≡ Some x → p x ≡ true → count_by p (take (k + 1) xs) ≡ count_by p (take k xs) + 1
 counted_more p xs k x at is = ap (count_by p) (take_line xs k x at) ∙ sum_by_push (λ y. cond {A = ℕ} (p y) 1 0) (take k xs) x ∙ ap (λ (b : Bool). count_by p (take k xs) + cond {A = ℕ} b 1 0) is
 
-counted_same : {X : Type 0} (p : X → Bool) (xs : List X) (k : ℕ) (x : X) → slice_get xs k ≡ Some x → p x ≡ false → count_by p (take (k + 1) xs) ≡ count_by p (take k xs)
+pub counted_same : {X : Type 0} (p : X → Bool) (xs : List X) (k : ℕ) (x : X) → slice_get xs k ≡ Some x → p x ≡ false → count_by p (take (k + 1) xs) ≡ count_by p (take k xs)
 counted_same p xs k x at is = ap (count_by p) (take_line xs k x at) ∙ sum_by_push (λ y. cond {A = ℕ} (p y) 1 0) (take k xs) x ∙ ap (λ (b : Bool). count_by p (take k xs) + cond {A = ℕ} b 1 0) is ∙ (omega arith)
 
 -- ---- the passes
@@ -132,6 +133,7 @@ room_phase r sid next script room at ready =
       near = subst (λ (x : Configuration). AreNear x r.parts.scripts r.scene.entries r.scene.raw) (sym room.config) room.near;
       room = room.room;
       ended = inl (still_open r sid next script line.Phase room at);
+      clips_follow = clips_same r room;
     }
 
 -- the room in which the user has a line left is open
@@ -156,6 +158,7 @@ room_user_phase r next room at counted ready =
       near = subst (λ (x : Configuration). AreNear x r.parts.scripts r.scene.entries r.scene.raw) (sym room.config) room.near;
       room = room.room;
       ended = inl (user_open r next inputs.Phase room at counted);
+      clips_follow = clips_same r room;
     }
 
 -- not all actors have ended the phase that is served

@@ -40,6 +40,7 @@ use Rattle.nit_hall.specs.RoomEnd.{IsKnownPass, left_word, words_left_in}
 use Rattle.nit_hall.proofs.FinalEntries.{without-append}
 use Rattle.nit_hall.proofs.NearLemmas.{Laws, AreInks, told_word, near_painted}
 use Rattle.nit_hall.proofs.ServedCalls.{spare_left, state_later, room_then}
+use Rattle.nit_hall.proofs.ClipsStay.{ClipsStay, clips_then}
 
 -- ---- a list that is changed in place
 
@@ -223,11 +224,11 @@ booked_still old new recorded = nothing (without_final old.entries) ∙ sym (wit
     nothing [] = refl
     nothing (x ∷ xs) = ap (λ ys. x ∷ ys) (nothing xs)
 
-pub room_ended : Laws → (r : RoomModel) (new : SceneModel End) (ps : List PassModel) (glasses' : ℕ → Sight)
+pub room_ended : Laws → ClipsStay → (r : RoomModel) (new : SceneModel End) (ps : List PassModel) (glasses' : ℕ → Sight)
     → IsRoom r → IsOpen r.scene.entries → AreDone r.parts ps → ((k : ℕ) (p : PassModel) → slice_get ps k ≡ Some p → IsKnownPass r k p)
     → AllServed r.parts.scripts r.parts.input r.counts → IsEnded r.scene new (map (λ (q : PassModel). q.sight) ps) glasses'
     → IsRoom (room_then r new r.counts r.phase r.arrived)
-room_ended laws r new ps glasses' room o done met all ended =
+room_ended laws stay r new ps glasses' room o done met all ended =
     let old = r.scene in
     let left : 1 ≤ old.spare = spare_left r room o in
     let legal_then : IsLegal old.config (old.entries ++ entry.Final ∷ []) = subst (λ (c : Configuration). IsLegal c (old.entries ++ entry.Final ∷ [])) ended.config (subst (λ (js : List Entry). IsLegal new.config js) ended.recorded ended.legal) in
@@ -245,6 +246,7 @@ room_ended laws r new ps glasses' room o done met all ended =
       near = subst (λ (c : Configuration). AreNear c r.parts.scripts new.entries new.raw) (sym ended.config) (subst (λ (js : List Entry). AreNear old.config r.parts.scripts js new.raw) (sym ended.recorded) near_then);
       room = let sum = room.room in let rec_ = ap length ended.recorded in let sp = ended.spare in omega (arith, sum, rec_, sp, left, length-append old.entries (entry.Final ∷ []));
       ended = inr all;
+      clips_follow = clips_then stay r new entry.Final room ended.config ended.recorded;
     }
 
 -- what a room and its passes are when all have met

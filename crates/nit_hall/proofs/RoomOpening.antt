@@ -1,5 +1,5 @@
 -- A room and its passes before the first line.
-use Rattle.std.proofs.Common.{◌≡◌, ◌∙◌, ◌⊎◌, ⊎_elim, get_or, ℕ, zero, suc, ◌+◌, ◌*◌, ◌<◌, ◌≤◌, Bool, true, false, cond, List, [], ◌∷◌, ◌++◌, length, take, map, Option, Some, None, IfSome, replicate, refl, sym, ap, subst, inl, inr, arith}
+use Rattle.std.proofs.Common.{◌≡◌, ◌∙◌, ◌⊎◌, ⊎_elim, get_or, ℕ, zero, suc, ◌+◌, ◌*◌, ◌<◌, ◌≤◌, Bool, true, false, cond, List, [], ◌∷◌, ◌++◌, length, take, drop, map, Option, Some, None, IfSome, replicate, refl, sym, ap, subst, inl, inr, arith}
 use Rattle.std.specs.Prelude.{slice_get, slice_index, slice_index_or}
 use Rattle.std.specs.Option.{option_map}
 use Rattle.std.proofs.lemmas.Bool.{cases_lt}
@@ -22,7 +22,7 @@ use Rattle.nit_pixels.specs.End.{End, new_sight, reader_sight}
 use Rattle.nit_paint.specs.Repaint.{no_sight}
 use Rattle.nit_scene.specs.RawWords.{glass_in}
 use Rattle.nit_scene.specs.Screen.{IsGlass}
-use Rattle.nit_ledger.specs.Book.{ShareModel}
+use Rattle.nit_ledger.specs.Book.{BookModel, ShareModel}
 use Rattle.nit_plan.specs.SessionLists.{script_in}
 use Rattle.nit_plan.specs.Calls.{calls_in}
 use Rattle.nit_hall.specs.ServedLines.{served, user_actions_in, phases_before, lines_of_all}
@@ -35,6 +35,17 @@ use Rattle.nit_hall.specs.OpeningParts.{OpeningParts}
 use Rattle.nit_hall.specs.Pass.{PassModel, IsPass}
 use Rattle.nit_hall.specs.Opening.{IsFirst, IsSetting, AreBlank, AreSplitOff, first_pass, parts_of}
 use Rattle.nit_hall.specs.Room.{RoomModel, Follows, HaveInks, IsRoom}
+use Rattle.std.specs.Prelude.{sum}
+use Rattle.std.proofs.lemmas.List.Sums.{sum_by-cons}
+use Rattle.nit_events.specs.declared.entry.Entry.{Entry}
+use Rattle.nit_clip.specs.declared.line.ClipLine.{ClipLine}
+use Rattle.nit_clip.specs.Clip.{ClipModel}
+use Rattle.nit_clip.specs.LegalClips.{IsLegalClips}
+use Rattle.nit_clip.specs.WholeClips.{clip_calls_in}
+use Rattle.nit_hall.specs.ClipPass.{ClipPassModel, clip_script_in}
+use Rattle.nit_hall.specs.ClipOpening.{with_clip_scripts}
+use Rattle.nit_hall.specs.RoomClips.{FollowsClips, lines_of_clips}
+use Rattle.nit_hall.proofs.CountParts.{front_before_more, front_whole, back_is_more}
 use Rattle.nit_hall.proofs.Phases.{phases_begun}
 
 bare_everywhere : (config : Configuration) (p : Point) → source_of (first_state config) p ≡ Bare
@@ -78,10 +89,31 @@ zero_counts n counts is k = ap (λ (cs : List ℕ). slice_index cs k) is ∙ go 
     go (suc n) zero = refl
     go (suc n) (suc k) = go n k
 
+-- what the law of the list without clip calls says
+abbrev pub NoClips : Type 0
+NoClips = (config : Configuration) (journal : List Entry) → IsLegalClips config journal []
+
+no_sum : (n : ℕ) → sum (replicate n 0) ≡ 0
+no_sum zero = refl
+no_sum (suc n) = omega (arith, sum_by-cons (λ (x : ℕ). x) 0 (replicate n 0), no_sum n)
+
+-- no clip call was served
+pub clips_begun : NoClips → (parts : OpeningParts) (entries : List Entry) → FollowsClips parts (replicate (length parts.clips) 0) entries (record { entries = []; spare = lines_of_clips parts.clips })
+clips_begun none parts entries =
+    let zero_ : (k : ℕ) → slice_index (replicate (length parts.clips) 0) k ≡ 0 = zero_counts (length parts.clips) (replicate (length parts.clips) 0) refl in
+    record {
+      legal = none parts.config entries;
+      each = length-replicate (length parts.clips) 0;
+      calls = λ t. sym (ap (λ (n : ℕ). take n (clip_calls_in (clip_script_in parts.clips t))) (zero_ t));
+      few = λ t. let z = zero_ t in omega (arith, z);
+      in_phases = tt;
+      room = let n = no_sum (length parts.clips) in omega (arith, n);
+    }
+
 pub room_begun : (r : RoomModel) → r.scene.config ≡ r.parts.config → length r.parts.scripts ≡ length r.scene.config.clients → length r.parts.scripts ≤ 16 → r.scene.entries ≡ []
     → r.scene.spare ≡ lines_of_all r.parts.scripts r.parts.input + 1 → r.scene.raw ≡ replicate (r.scene.config.width * r.scene.config.height) bare_word → HaveInks r.parts.scripts r.scene.glasses
-    → r.counts ≡ replicate (length r.parts.scripts + 1) 0 → r.phase ≡ 0 → r.arrived ≡ 0 → IsRoom r
-room_begun r config each few empty spare raw inks counts first none =
+    → r.counts ≡ replicate (length r.parts.scripts + 1) 0 → r.phase ≡ 0 → r.arrived ≡ 0 → NoClips → r.parts.clips ≡ [] → r.clips ≡ record { entries = []; spare = 0 } → r.clip_counts ≡ [] → IsRoom r
+room_begun r config each few empty spare raw inks counts first none no_clips none_is list no_counts =
     let zeros_ : (k : ℕ) → slice_index r.counts k ≡ 0 = zero_counts (length r.parts.scripts + 1) r.counts counts in
     let long : length r.counts ≡ length r.parts.scripts + 1 = ap length counts ∙ length-replicate (length r.parts.scripts + 1) 0 in
     record {
@@ -95,6 +127,8 @@ room_begun r config each few empty spare raw inks counts first none =
       near = subst (λ (c : Configuration). AreNear c r.parts.scripts r.scene.entries r.scene.raw) config (rw (empty, raw) (near_begun r.scene.config r.parts.scripts));
       room = let n = ap length empty in omega (arith, n, spare);
       ended = inl (rw empty tt);
+      clips_follow = subst (λ (cs : List ℕ). FollowsClips r.parts cs r.scene.entries r.clips) (ap (λ (xs : List (List ClipLine)). replicate (length xs) 0) none_is ∙ sym no_counts)
+          (subst (λ (m : ClipModel). FollowsClips r.parts (replicate (length r.parts.clips) 0) r.scene.entries m) ((λ i. record { entries = []; spare = lines_of_clips (none_is i) }) ∙ sym list) (clips_begun no_clips r.parts r.scene.entries));
     }
 
 -- ---- a pass
@@ -189,3 +223,64 @@ lens_inks config scripts plans canvases lenses set b are t = elim (cases_lt t (l
 
 pub lens_count : (config : Configuration) (plans : List PlanModel) (canvases lenses : List End) → AreBlank config plans canvases → AreSplitOff canvases lenses → length lenses ≡ length config.clients
 lens_count config plans canvases lenses b are = sym (length-map lenses (λ (e : End). e.sight)) ∙ ap (λ (gs : List Sight). length gs) are.sights ∙ length-map canvases (λ (e : End). reader_sight e.sight) ∙ b.canvas_each
+
+-- ---- clip passes
+
+-- the clip pass of this number, with a new share of this book
+abbrev pub new_clip_pass : BookModel → List (List ClipLine) → ℕ → ClipPassModel
+new_clip_pass book scripts k = record { sid = k; next = 0; phase = 0; number = length book.counts + k; name = book.name; script = clip_script_in scripts k; seen = book.entries }
+
+pub clip_pass_more : (book : BookModel) (scripts : List (List ClipLine)) (k : ℕ) (qs rs : List ClipPassModel) (q : ClipPassModel) → rs ≡ qs ++ q ∷ [] → length qs ≡ k → q ≡ new_clip_pass book scripts k
+    → ((j : ℕ) (x : ClipPassModel) → slice_get qs j ≡ Some x → x ≡ new_clip_pass book scripts j) → (j : ℕ) (x : ClipPassModel) → slice_get rs j ≡ Some x → x ≡ new_clip_pass book scripts j
+clip_pass_more book scripts k qs rs q pushed long is all j x e =
+    ⊎_elim
+    (λ (h : slice_get qs j ≡ Some x). all j x h)
+    (λ (h : (j ≡ length qs) × (q ≡ x)). sym h.1 ∙ is ∙ ap (new_clip_pass book scripts) (sym (h.0 ∙ long)))
+    (get_push qs j x q (ap (λ (xs : List ClipPassModel). slice_get xs j) (sym pushed) ∙ e))
+
+pub room_with_clips : NoClips → (r : RoomModel) (scripts : List (List ClipLine)) → IsRoom r → IsRoom (with_clip_scripts r scripts)
+room_with_clips none r scripts room = record {
+  config = room.config;
+  legal = room.legal;
+  sessions = room.sessions;
+  clients = room.clients;
+  follows = room.follows;
+  phases = room.phases;
+  inks = room.inks;
+  near = room.near;
+  room = room.room;
+  ended = room.ended;
+  clips_follow = clips_begun none (record r.parts { clips = scripts }) r.scene.entries;
+}
+
+pub zeros_behind : (cs : List ℕ) (k : ℕ) → (cs ++ replicate k 0) ++ 0 ∷ [] ≡ cs ++ replicate (k + 1) 0
+zeros_behind [] k = zeros_push k (k + 1) (replicate k 0) (replicate k 0 ++ 0 ∷ []) refl refl refl
+zeros_behind (c ∷ cs) k = ap (λ (ds : List ℕ). c ∷ ds) (zeros_behind cs k)
+
+-- the room with clip scripts, part by part
+pub opened_clips : (r r₀ : RoomModel) (book : BookModel) (counts : List ℕ) (list : ClipModel) (scripts : List (List ClipLine))
+    → r ≡ r₀ → r.scene.config ≡ r.parts.config → book.name ≡ r.parts.name → length counts ≡ length r.parts.scripts + 1 → r.counts ≡ take (length r.parts.scripts + 1) counts
+    → book.counts ≡ counts ++ replicate (length scripts) 0 → list ≡ record { entries = []; spare = lines_of_clips scripts }
+    → ◌≡◌ {A = RoomModel} (record {
+      parts = record { name = book.name; config = r.scene.config; scripts = r.parts.scripts; plans = r.parts.plans; input = r.parts.input; clips = scripts };
+      scene = r.scene;
+      counts = take (length r.parts.scripts + 1) book.counts;
+      phase = r.phase;
+      arrived = r.arrived;
+      clips = list;
+      clip_counts = drop (length r.parts.scripts + 1) book.counts;
+    }) (with_clip_scripts r₀ scripts)
+opened_clips r r₀ book counts list scripts er config name long are more list_is =
+    let n = length r.parts.scripts + 1 in
+    let front : take n book.counts ≡ r.counts = ap (take n) more ∙ front_before_more n counts (replicate (length scripts) 0) long ∙ sym (front_whole n counts long) ∙ sym are in
+    let back : drop n book.counts ≡ replicate (length scripts) 0 = ap (drop n) more ∙ back_is_more n counts (replicate (length scripts) 0) long in
+    (λ i. record {
+      parts = record { name = name i; config = config i; scripts = r.parts.scripts; plans = r.parts.plans; input = r.parts.input; clips = scripts };
+      scene = r.scene;
+      counts = front i;
+      phase = r.phase;
+      arrived = r.arrived;
+      clips = list_is i;
+      clip_counts = back i;
+    })
+    ∙ (λ i. with_clip_scripts (er i) scripts)

@@ -29,13 +29,13 @@ use Rattle.nit_hall.proofs.NonDecreasing.{rises, again, without_last}
 
 -- ---- counts
 
-raised_at : (counts : List ℕ) (i : ℕ) → i < length counts → slice_index (raised counts i) i ≡ slice_index counts i + 1
+pub raised_at : (counts : List ℕ) (i : ℕ) → i < length counts → slice_index (raised counts i) i ≡ slice_index counts i + 1
 raised_at counts i inside = get_or-set_same counts i (slice_index counts i + 1) 0 inside
 
-raised_other : (counts : List ℕ) (i j : ℕ) → j ≢ i → slice_index (raised counts i) j ≡ slice_index counts j
+pub raised_other : (counts : List ℕ) (i j : ℕ) → j ≢ i → slice_index (raised counts i) j ≡ slice_index counts j
 raised_other counts i j ne = get_or-set_other counts i j (slice_index counts i + 1) 0 ne
 
-sum_raised : (counts : List ℕ) (i : ℕ) → i < length counts → sum (raised counts i) ≡ sum counts + 1
+pub sum_raised : (counts : List ℕ) (i : ℕ) → i < length counts → sum (raised counts i) ≡ sum counts + 1
 sum_raised counts i inside = let s = sum_by-set (λ (x : ℕ). x) counts i (slice_index counts i + 1) 0 inside in omega arith
 
 -- ---- a client's line
@@ -79,7 +79,7 @@ calls_with scripts counts sid next script l more inside at e =
     ap₂ (λ (n : ℕ) (s : List Line). calls_in (take n (served s))) up there
     ∙ calls_front script (next + 1) ∙ e ∙ ap (λ (cs : List Call). cs ++ more) (sym (ap₂ (λ (n : ℕ) (s : List Line). calls_in (take n (served s))) at.counted there ∙ calls_front script next))
 
-made_of : (scripts : List (List Line)) (s : ℕ) → to_do (map calls_to_make scripts) s ≡ calls_to_make (script_in scripts s)
+pub made_of : (scripts : List (List Line)) (s : ℕ) → to_do (map calls_to_make scripts) s ≡ calls_to_make (script_in scripts s)
 made_of [] s = refl
 made_of (x ∷ scripts) zero = refl
 made_of (x ∷ scripts) (suc s) = made_of scripts s

@@ -41,6 +41,7 @@ use Rattle.nit_hall.proofs.FinalEntries.{open_whole}
 use Rattle.nit_hall.proofs.NearLemmas.{Laws, OneMore, AreInks, TellsWords, near_painted}
 use Rattle.nit_hall.proofs.ScriptsFollowed.{IsNext, one_left, follows_call, entries_within}
 use Rattle.nit_hall.proofs.Phases.{phases_same}
+use Rattle.nit_hall.proofs.ClipsStay.{ClipsStay, clips_then}
 
 -- ---- before it
 
@@ -133,11 +134,13 @@ booked_more old new e was is recorded = ap (λ (js : List Entry). js ++ e ∷ []
 abbrev pub room_then : RoomModel → SceneModel End → List ℕ → ℕ → ℕ → RoomModel
 room_then r scene counts phase arrived =
     record {
-      parts = record { name = r.parts.name; config = scene.config; scripts = r.parts.scripts; plans = r.parts.plans; input = r.parts.input };
+      parts = record { name = r.parts.name; config = scene.config; scripts = r.parts.scripts; plans = r.parts.plans; input = r.parts.input; clips = r.parts.clips };
       scene = scene;
       counts = counts;
       phase = phase;
       arrived = arrived;
+      clips = r.clips;
+      clip_counts = r.clip_counts;
     }
 
 -- the caller's glass tells what the lines up to the call leave
@@ -164,11 +167,11 @@ phase_same script k c at = ap (λ (ls : List Line). count_by is_phase ls) (take_
     more : (ls : List Line) → count_by is_phase (ls ++ line.Call c ∷ []) ≡ count_by is_phase ls
     more ls = omega (arith, sum_by_push (λ (l : Line). cond {A = ℕ} (is_phase l) 1 0) ls (line.Call c))
 
-pub room_call : Laws → (r : RoomModel) (new : SceneModel End) (sid next : ℕ) (script : List Line) (c : Call) (rep : Reply) (own own' : Sight)
+pub room_call : Laws → ClipsStay → (r : RoomModel) (new : SceneModel End) (sid next : ℕ) (script : List Line) (c : Call) (rep : Reply) (own own' : Sight)
     → IsRoom r → IsNext r.parts.scripts r.counts sid next script (line.Call c) → r.phase ≡ phases_before script next
     → IsCalled r.scene new sid c rep own own' → own.ink ≡ ink script → own.words ≡ Some (words_after script (donation_of r.scene.config sid) (next + 1))
     → IsRoom (room_then r new (raised r.counts sid) r.phase r.arrived)
-room_call laws r new sid next script c rep own own' room at ready called inked told =
+room_call laws stay r new sid next script c rep own own' room at ready called inked told =
     let e : Entry = entry.Call sid c rep in
     let old : SceneModel End = r.scene in
     let scripts = r.parts.scripts in
@@ -195,6 +198,7 @@ room_call laws r new sid next script c rep own own' room at ready called inked t
       near = subst (λ (x : Configuration). AreNear x scripts new.entries new.raw) (sym called.config) (subst (λ (js : List Entry). AreNear old.config scripts js new.raw) (sym called.recorded) near_then);
       room = let sum = room.room in let rec_ = ap length called.recorded in let sp = called.spare in omega (arith, sum, rec_, sp, left, length-append old.entries (e ∷ []));
       ended = inl called.open_is;
+      clips_follow = clips_then stay r new e room called.config called.recorded;
     }
 
 -- ---- the pass after it

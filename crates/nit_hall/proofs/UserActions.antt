@@ -30,6 +30,7 @@ use Rattle.nit_hall.proofs.ScriptsFollowed.{AddsDeed, follows_deed}
 use Rattle.nit_hall.proofs.Phases.{user_phases_same}
 use Rattle.nit_hall.proofs.ServedCalls.{spare_left, state_later, booked_more, room_then}
 use Rattle.nit_hall.proofs.PhaseEnds.{user_open}
+use Rattle.nit_hall.proofs.ClipsStay.{ClipsStay, clips_then}
 
 -- a device event, and a shot, are the user's
 pub adds_input : (input : List InputLine) (next : ℕ) (dev : Device) (routed : Routed) → slice_get input next ≡ Some (inputs.Device dev) → AddsDeed input next (inputs.Device dev) (entry.Input dev routed)
@@ -52,10 +53,10 @@ pub record IsDone (scripts : List (List Line)) (old new : SceneModel End) (e : E
 counted_same : (xs : List InputLine) (k : ℕ) (l : InputLine) → slice_get xs k ≡ Some l → is_input_phase l ≡ false → input_phases_before xs (k + 1) ≡ input_phases_before xs k
 counted_same xs k l at is = ap (count_by is_input_phase) (take_line xs k l at) ∙ sum_by_push (λ y. cond {A = ℕ} (is_input_phase y) 1 0) (take k xs) l ∙ ap (λ (b : Bool). count_by is_input_phase (take k xs) + cond {A = ℕ} b 1 0) is ∙ (omega arith)
 
-pub room_deed : (r : RoomModel) (new : SceneModel End) (next : ℕ) (l : InputLine) (e : Entry)
+pub room_deed : ClipsStay → (r : RoomModel) (new : SceneModel End) (next : ℕ) (l : InputLine) (e : Entry)
     → IsRoom r → AddsDeed r.parts.input next l e → slice_index r.counts (length r.parts.scripts) ≡ next → r.phase ≡ input_phases_before r.parts.input next → IsDone r.parts.scripts r.scene new e
     → IsRoom (room_then r new (raised r.counts (length r.parts.scripts)) r.phase r.arrived)
-room_deed r new next l e room adds counted ready did =
+room_deed stay r new next l e room adds counted ready did =
     let old : SceneModel End = r.scene in
     let scripts = r.parts.scripts in
     let was_open : IsOpen old.entries = user_open r next l room adds.line_is counted in
@@ -72,6 +73,7 @@ room_deed r new next l e room adds counted ready did =
       near = subst (λ (x : Configuration). AreNear x scripts new.entries new.raw) (sym did.config) (subst (λ (js : List Entry). AreNear old.config scripts js new.raw) (sym did.recorded) did.near);
       room = let sum = room.room in let rec_ = ap length did.recorded in let sp = did.spare in omega (arith, sum, rec_, sp, left, length-append old.entries (e ∷ []));
       ended = inl did.open_is;
+      clips_follow = clips_then stay r new e room did.config did.recorded;
     }
 
 abbrev sights : SceneModel End → List Sight
@@ -150,3 +152,15 @@ found_user r₀ r u₀ u known l er eu of at ready counted =
     let here : FoundUser r₀ (record u₀ { seen = known }) l =
     record { line_is = ap (λ (ls : List InputLine). slice_get ls u₀.next) (sym of.input) ∙ at; own_line = at; input_is = of.input; number_is = of.number; counted = counted; ready = ready } in
     subst (λ (q : UserPassModel). FoundUser r q l) (sym eu) (subst (λ (x : RoomModel). FoundUser x (record u₀ { seen = known }) l) (sym er) here)
+
+-- the user's pass that has met the room knows the user's entries so far
+pub user_met : (r : RoomModel) (u : UserPassModel) (share share' : ShareModel) (known : List Entry)
+    → IsRoom r → u.input ≡ r.parts.input → slice_index r.counts (length r.parts.scripts) ≡ u.next → IsUserPass u share → share' ≡ record share { seen = known } → known ≡ without_final r.scene.entries
+    → IsUserPass (record { number = share'.number; next = u.next; phase = u.phase; name = share'.name; input = u.input; seen = share'.seen }) share'
+user_met r u share share' known room same counted is e all = record {
+  number = refl;
+  counted = ap (λ (s : ShareModel). s.count) e ∙ is.counted;
+  within = is.within;
+  phase = is.phase;
+  known = ap (λ (s : ShareModel). user_actions_of s.seen) e ∙ ap user_actions_of all ∙ room.follows.deeds ∙ ap (λ (k : ℕ). user_actions_in (take k r.parts.input)) counted ∙ ap (λ (ls : List InputLine). user_actions_in (take u.next ls)) (sym same);
+}

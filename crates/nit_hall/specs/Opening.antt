@@ -32,11 +32,18 @@ pub record AreBlank (config : Configuration) (plans : List PlanModel) (canvases 
   pub blank : (k : ℕ) (c : End) → slice_get canvases k ≡ Some c
       → c.sight ≡ new_sight k (table_size (donation_of config k)) (plan_in plans k).ink
 
--- the parts of an opening
+-- the parts of an opening without clip scripts
 abbrev pub parts_of : BookName → Configuration → List (List Line) → List PlanModel → List InputLine
     → OpeningParts
 parts_of name config scripts plans input =
-    record { name = name; config = config; scripts = scripts; plans = plans; input = input }
+    record {
+      name = name;
+      config = config;
+      scripts = scripts;
+      plans = plans;
+      input = input;
+      clips = [];
+    }
 
 -- the pass of this number, of which no line is done
 abbrev pub first_pass : OpeningParts → ℕ → End → PassModel
@@ -77,8 +84,8 @@ pub record AreSplitOff (canvases ends : List End) : Type 0 where
   pub buffers : map (λ (e : End). e.stand.buffer) ends ≡ map (λ (e : End). e.stand.buffer) canvases
 
 -- The room of these parts before its first entry: the journal is empty, with room for an entry of
--- each line and for the last picture; every pixel holds the bare word; nothing was served, and the
--- first phase is.
+-- each line and for the last picture; every pixel holds the bare word; nothing was served, the
+-- first phase is, and no clip call has room.
 pub record IsFirstRoom (parts : OpeningParts) (canvases : List End) (r : RoomModel) : Type 0 where
   pub parts_are : r.parts ≡ parts
   pub config : r.scene.config ≡ parts.config
@@ -87,6 +94,7 @@ pub record IsFirstRoom (parts : OpeningParts) (canvases : List End) (r : RoomMod
   pub raw : r.scene.raw ≡ replicate (parts.config.width * parts.config.height) bare_word
   pub lenses_are : AreSplitOff canvases r.scene.glasses
   pub counts : r.counts ≡ replicate (length parts.scripts + 1) 0
+  pub clips_are : (r.clips ≡ record { entries = []; spare = 0 }) × (r.clip_counts ≡ [])
   pub phase : (r.phase ≡ 0) × (r.arrived ≡ 0)
 
 -- the room of this setting, a pass for each client in order, and the user's pass: no line is done

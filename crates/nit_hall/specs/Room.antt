@@ -16,22 +16,30 @@ use Rattle.nit_pixels.specs.End.{End}
 use Rattle.nit_pixels.specs.declared.standing.Standing.{Standing}
 use Rattle.nit_ledger.specs.Book.{raised}
 use Rattle.nit_scene.specs.RawWords.{glass_in}
-use Rattle.nit_scene.specs.Scene.{SceneModel}
+use Rattle.nit_scene.specs.Scene.{SceneModel, state_now}
 use Rattle.nit_plan.specs.SessionLists.{script_in}
 use Rattle.nit_hall.specs.OpeningParts.{OpeningParts}
 use Rattle.nit_plan.specs.Calls.{calls_in}
 use Rattle.nit_hall.specs.ServedLines.{served, user_actions_in, lines_of_all}
 use Rattle.nit_hall.specs.NearWords.{AreNear}
+use Rattle.nit_clip.specs.declared.call.ClipEntry.{ClipEntry}
+use Rattle.nit_clip.specs.declared.call.ClipReply.{ClipReply}
+use Rattle.nit_clip.specs.Clip.{ClipModel}
+use Rattle.nit_hall.specs.ClipPass.{ClipPassModel, next_clip}
+use Rattle.nit_hall.specs.RoomClips.{FollowsClips}
 
 -- What the room was opened with; its scene, whose glasses are the readers' ends of the clients'
 -- words; how many lines were served for each client in order, and last for the user; the phase that
--- is served, and how many actors have ended it. Phases count from 0.
+-- is served, and how many actors have ended it; the clip list, and how many clip calls were served
+-- for each client in order, where there are clip scripts. Phases count from 0.
 pub record RoomModel : Type 0 where
   pub parts : OpeningParts
   pub scene : SceneModel End
   pub counts : List ℕ
   pub phase : ℕ
   pub arrived : ℕ
+  pub clips : ClipModel
+  pub clip_counts : List ℕ
 
 -- what the readers' ends see
 abbrev pub lenses : SceneModel End → List Sight
@@ -81,6 +89,26 @@ arrived_one r actor = record r {
   phase = (after_arrival (length r.parts.scripts) r.phase r.arrived).0;
   arrived = (after_arrival (length r.parts.scripts) r.phase r.arrived).1;
 }
+
+-- the entry of a client's next clip call with this reply: it stands behind all entries that there
+-- are, with the focus that is there
+abbrev pub clip_entry : RoomModel → ClipPassModel → ClipReply → ClipEntry
+clip_entry r q reply =
+    record {
+      at = length r.scene.entries;
+      sid = q.sid;
+      focus = (state_now r.scene).input.focus;
+      call = next_clip q;
+      reply = reply;
+    }
+
+-- the room when this clip call was served; all else is as before
+abbrev pub with_clip : RoomModel → ClipEntry → RoomModel
+with_clip r e =
+    record r {
+      clips = record { entries = r.clips.entries ++ e ∷ []; spare = r.clips.spare - 1 };
+      clip_counts = raised r.clip_counts e.sid;
+    }
 
 -- ---- what holds of a room
 
@@ -135,7 +163,8 @@ HaveInks scripts ends =
 -- What holds of every room: its journal is legal and follows the scripts, but for the last picture;
 -- its readers' ends have the inks of the scripts, and each raw word is one that its pixel may hold;
 -- there is room for an entry of each line and for the last picture, which comes only when all lines
--- were served; and the phase that is served is the one that the last of its actors are in.
+-- were served; the phase that is served is the one that the last of its actors are in; and the clip
+-- list follows the clip scripts.
 pub record IsRoom (r : RoomModel) : Type 0 where
   pub config : r.scene.config ≡ r.parts.config
   pub legal : IsLegal r.parts.config r.scene.entries
@@ -149,3 +178,4 @@ pub record IsRoom (r : RoomModel) : Type 0 where
   pub near : AreNear r.parts.config r.parts.scripts r.scene.entries r.scene.raw
   pub room : length r.scene.entries + r.scene.spare ≡ lines_of_all r.parts.scripts r.parts.input + 1
   pub ended : IsOpen r.scene.entries ⊎ AllServed r.parts.scripts r.parts.input r.counts
+  pub clips_follow : FollowsClips r.parts r.clip_counts r.scene.entries r.clips

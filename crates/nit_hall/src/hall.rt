@@ -3,15 +3,20 @@
 ghost use Rattle.std.specs.Prelude.{◌≡◌, ◌==◌, ◌+◌, ◌*◌, ◌≤◌, All, length};
 ghost use mathlib.Core.List.{IsPrefix};
 ghost use Rattle.nit_word.specs.Inks.{IsWord};
-ghost use Rattle.nit_journal.specs.Replay.{IsLegal, IsOpen};
+ghost use Rattle.nit_journal.specs.Replay.{IsLegal, IsOpen, replay};
+ghost use Rattle.nit_clip.specs.Clipboard.{IsClipAnswer};
+ghost use Rattle.nit_hall.specs.ClipPass.{AreTogether, ClipBelongs, IsAtClip, IsAtPhaseEnd};
+ghost use Rattle.nit_hall.specs.ClipPass.{next_clip};
 ghost use Rattle.nit_hall.specs.Pass.{Belongs, UserBelongs, IsAtCall, IsAtPhase, IsAtUserPhase};
 ghost use Rattle.nit_hall.specs.Pass.{HasLoaded, IsAtDevice, IsAtShot, call_entry, device_entry};
 ghost use Rattle.nit_hall.specs.Pass.{sight_after_line};
 ghost use Rattle.nit_hall.specs.Hall.{IsMeasured, Tells, TellsShot};
 
+use crate::clip_pass::ClipPass;
 use crate::pass::Pass;
 use crate::room::Room;
 use crate::user::UserPass;
+use nit_clip::ClipReply;
 use nit_events::{Reply, Routed};
 use std::marker::{Brand, Model, PhantomData};
 use std::sync::{Condvar, Mutex, Wait};
@@ -34,6 +39,7 @@ impl Name for Brand {
       scripts = [];
       plans = [];
       input = [];
+      clips = [];
     } };
 }
 
@@ -98,6 +104,25 @@ impl<'a, N: Name> Kept<'a, N> {
         } }
     {
         self.room.arrive(pass);
+    }
+
+    fn clip(&mut self, pass: &mut Pass<'a>, clip: &mut ClipPass<'a>) -> ClipReply
+        requires belongs { Belongs N.parts pass.old }
+        requires clip_belongs { ClipBelongs N.parts clip.old }
+        requires together { AreTogether pass.old clip.old }
+        requires ready { pass.old.phase ≡ self.old.phase }
+        requires phase_end { IsAtPhaseEnd pass.old }
+        requires next { IsAtClip clip.old }
+        ensures answer { IsClipAnswer (replay N.parts.config pass.new.seen).input.focus clip.old.sid
+            (next_clip clip.old) result }
+        ensures grows { IsPrefix pass.old.seen pass.new.seen }
+        ensures legal { IsLegal N.parts.config pass.new.seen }
+        ensures pass { pass.new ≡ record pass.old { seen = pass.new.seen } }
+        ensures clip { clip.new
+            ≡ record clip.old { next = clip.old.next + 1; seen = pass.new.seen } }
+    {
+        let _kept = self.room.scene();
+        self.room.clip(pass, clip)
     }
 
     fn user(&mut self, user: &mut UserPass<'a>) -> Routed
@@ -231,6 +256,36 @@ impl<'a, N: Name> Hall<'a, N> {
             .wait_while(rt, self.room.lock(rt), |kept| !kept.ready(pass));
         kept.arrive(pass);
         self.moved.notify_all();
+    }
+
+    /// Waits until the pass is ready, and serves the next line of the clip pass, which is a clip
+    /// call ([`Room::clip`]). By the journal that the pass then knows, the answer is `NotFocused`
+    /// exactly where the client has not the focus; otherwise a `Copy` is answered `Copied`, and a
+    /// `Paste` gives a text or is answered `Empty`. The two passes are of one client of this
+    /// opening and in one phase, and the client's pass is done, or its next line ends the phase.
+    pub fn clip_next<R: Wait>(
+        &self,
+        rt: &R,
+        pass: &mut Pass<'a>,
+        clip: &mut ClipPass<'a>,
+    ) -> ClipReply
+        requires belongs { Belongs N.parts pass.old }
+        requires clip_belongs { ClipBelongs N.parts clip.old }
+        requires together { AreTogether pass.old clip.old }
+        requires phase_end { IsAtPhaseEnd pass.old }
+        requires next { IsAtClip clip.old }
+        ensures answer { IsClipAnswer (replay N.parts.config pass.new.seen).input.focus clip.old.sid
+            (next_clip clip.old) result }
+        ensures grows { IsPrefix pass.old.seen pass.new.seen }
+        ensures legal { IsLegal N.parts.config pass.new.seen }
+        ensures pass { pass.new ≡ record pass.old { seen = pass.new.seen } }
+        ensures clip { clip.new
+            ≡ record clip.old { next = clip.old.next + 1; seen = pass.new.seen } }
+    {
+        let mut kept = self
+            .moved
+            .wait_while(rt, self.room.lock(rt), |kept| !kept.ready(pass));
+        kept.clip(pass, clip)
     }
 
     /// Waits until the user is ready, and does its next line, which is of a device

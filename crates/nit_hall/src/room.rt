@@ -1,6 +1,8 @@
 //! The room: one event is one call of it.
 
 mod calls;
+mod clip_opening;
+mod clips;
 mod deeds;
 mod last;
 mod phases;
@@ -19,6 +21,9 @@ ghost use Rattle.nit_hall.specs.Room.{HaveInks, IsRoom, without_final};
 
 use crate::pass::Pass;
 use crate::user::UserPass;
+pub use clip_opening::{ClipOpened, open_clips};
+use nit_clip::laws::no_clips;
+use nit_clip::{Clip, ClipScript};
 use nit_ledger::Book;
 use nit_pixels::Lens;
 use nit_plan::Plan;
@@ -28,7 +33,7 @@ use std::marker::Model;
 
 /// All sessions on one screen, and which lines of which scripts were served. Contracts see its
 /// scene, what it was opened with, the counts of its book, the phase that is served, and how many
-/// actors have ended it.
+/// actors have ended it; its clip list, and how many clip calls were served for each client.
 #[derive(Drop)]
 pub struct Room<'a> {
     scene: Scene<Lens<'a>>,
@@ -38,10 +43,12 @@ pub struct Room<'a> {
     input: &'a Input,
     phase: u32,
     arrived: u32,
+    clip: Clip,
+    clips: &'a [ClipScript],
 }
 
 impl<'a> Model for Room<'a> {
-    ghost use Rattle.std.specs.Prelude.{◌≡◌};
+    ghost use Rattle.std.specs.Prelude.{◌≡◌, ◌+◌, drop, length, take};
     ghost use Rattle.nit_hall.specs.Room.{RoomModel, IsRoom, without_final};
 
     ghost Value = { RoomModel };
@@ -53,11 +60,14 @@ impl<'a> Model for Room<'a> {
         scripts = r.scripts.now;
         plans = r.plans.now;
         input = r.input.now;
+        clips = r.clips.now;
       };
       scene = r.scene;
-      counts = r.book.counts;
+      counts = take (length r.scripts.now + 1) r.book.counts;
       phase = r.phase;
       arrived = r.arrived;
+      clips = r.clip;
+      clip_counts = drop (length r.scripts.now + 1) r.book.counts;
     } };
 
     ghost invariant = { λ r. IsRoom (record {
@@ -67,23 +77,28 @@ impl<'a> Model for Room<'a> {
         scripts = r.scripts.now;
         plans = r.plans.now;
         input = r.input.now;
+        clips = r.clips.now;
       };
       scene = r.scene;
-      counts = r.book.counts;
+      counts = take (length r.scripts.now + 1) r.book.counts;
       phase = r.phase;
       arrived = r.arrived;
+      clips = r.clip;
+      clip_counts = drop (length r.scripts.now + 1) r.book.counts;
     }) × (r.book.entries ≡ without_final r.scene.entries) };
 }
 
 impl<'a> Room<'a> {
     /// The room of a scene without an entry, and of a book without an entry, with a share for each
-    /// client in order and one for the user, which have counted nothing.
+    /// client in order and one for the user, which have counted nothing. It has no clip scripts,
+    /// and the clip list has no room.
     pub(crate) fn new(
         scene: Scene<Lens<'a>>,
         book: Book,
         scripts: &'a [Client],
         plans: &'a [Plan],
         input: &'a Input,
+        clip: Clip,
     ) -> Room<'a>
         requires clients { (length scripts.now ≡ length scene.config.clients)
             × (length scripts.now ≤ 16) }
@@ -92,6 +107,7 @@ impl<'a> Room<'a> {
         requires raw { scene.raw ≡ replicate (scene.config.width * scene.config.height) bare_word }
         requires inks { HaveInks scripts.now scene.glasses }
         requires counts { book.counts ≡ replicate (length scripts.now + 1) 0 }
+        requires clip { clip ≡ record { entries = []; spare = 0 } }
         ensures { result ≡ record {
           parts = record {
             name = book.name;
@@ -99,13 +115,17 @@ impl<'a> Room<'a> {
             scripts = scripts.entry.now;
             plans = plans.entry.now;
             input = input.entry.now;
+            clips = [];
           };
           scene = scene.entry;
           counts = book.counts;
           phase = 0;
           arrived = 0;
+          clips = clip;
+          clip_counts = [];
         } }
     {
+        no_clips();
         Room {
             scene,
             book,
@@ -114,6 +134,8 @@ impl<'a> Room<'a> {
             input,
             phase: 0,
             arrived: 0,
+            clip,
+            clips: &[],
         }
     }
 
@@ -171,6 +193,8 @@ impl<'a> Room<'a> {
             input: _,
             phase: _,
             arrived: _,
+            clip: _,
+            clips: _,
         } = self;
         scene
     }

@@ -14,6 +14,7 @@ ghost use Rattle.nit_hall.specs.Pass.{Belongs, HasLoaded, IsAtCall, call_entry, 
 ghost use Rattle.nit_hall.specs.Pass.{sight_after_line};
 ghost use Rattle.nit_hall.specs.Room.{lenses, stands, with_entry};
 
+use crate::laws::clips_stay;
 use crate::pass::Pass;
 use crate::room::Room;
 use nit_events::{Entry, Reply};
@@ -59,6 +60,7 @@ impl<'a> Room<'a> {
             × (self.new.scene.glasses ≡ self.old.scene.glasses)
             × (pass.new.sight ≡ sight_after_line pass.old) }
     {
+        clips_stay();
         one_more_entry();
         clean_pixels_keep_their_source();
         self.meet(pass);

@@ -16,6 +16,7 @@ ghost use Rattle.nit_hall.specs.Pass.{UserBelongs, IsAtDevice, IsAtShot};
 ghost use Rattle.nit_hall.specs.Pass.{device_entry, next_device};
 ghost use Rattle.nit_hall.specs.Room.{lenses, stands, with_entry};
 
+use crate::laws::clips_stay;
 use crate::room::Room;
 use crate::user::UserPass;
 use nit_events::{Entry, Routed};
@@ -50,6 +51,7 @@ impl<'a> Room<'a> {
             → (self.new.scene.raw ≡ self.old.scene.raw)
             × (self.new.scene.glasses ≡ self.old.scene.glasses) }
     {
+        clips_stay();
         one_more_entry();
         clean_pixels_keep_their_source();
         self.meet_user(user);
@@ -84,6 +86,7 @@ impl<'a> Room<'a> {
         ensures legal { IsLegal self.old.parts.config self.new.scene.entries }
         ensures open { IsOpen self.new.scene.entries }
     {
+        clips_stay();
         one_more_entry();
         clean_pixels_keep_their_source();
         self.meet_user(user);

@@ -15,6 +15,7 @@ ghost use Rattle.nit_hall.specs.Pass.{UserBelongs, knowing, rest_of};
 ghost use Rattle.nit_hall.specs.Room.{with_final, without_final};
 ghost use Rattle.nit_hall.specs.RoomEnd.{IsKnownPass, words_left_in};
 
+use crate::laws::clips_stay;
 use crate::pass::Pass;
 use crate::room::Room;
 use crate::user::UserPass;
@@ -49,6 +50,7 @@ impl<'a> Room<'a> {
             (glass_in (map (λ (p : PassModel). p.sight) passes.new))
             self.old.scene.raw self.new.scene.raw }
     {
+        clips_stay();
         one_more_entry();
         one_more_line();
         clean_pixels_keep_their_source();

@@ -62,4 +62,11 @@ impl<G: Glass + Drop> Scene<G> {
     {
         self.screen.server().status(sid)
     }
+
+    /// The session that has the focus. `None` where no session has it.
+    pub fn focus(&self) -> Option<u32>
+        ensures { result ≡ (state_now self.now).input.focus }
+    {
+        self.screen.server().focus()
+    }
 }

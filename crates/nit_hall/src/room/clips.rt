@@ -1,0 +1,115 @@
+//! A clip call of a client's, and the clip list at the end.
+
+ghost use Rattle.std.specs.Prelude.{◌≡◌, ◌+◌, ℕ, length, map, slice_get, slice_index, Some, take};
+ghost use mathlib.Core.List.{IsPrefix};
+ghost use Rattle.nit_journal.specs.Replay.{IsLegal, IsOpen};
+ghost use Rattle.nit_plan.specs.Calls.{calls_to_make, user_actions_to_do};
+ghost use Rattle.nit_clip.specs.Clipboard.{clip_answer, clipboard_of};
+ghost use Rattle.nit_clip.specs.LegalClips.{IsLegalClips};
+ghost use Rattle.nit_clip.specs.WholeClips.{IsWholeClips, clip_calls_in, clips_to_make};
+ghost use Rattle.nit_scene.specs.Scene.{state_now};
+ghost use Rattle.nit_hall.specs.ClipPass.{AreDoneClips, AreTogether, ClipBelongs, ClipPassModel};
+ghost use Rattle.nit_hall.specs.ClipPass.{IsAtClip, IsAtPhaseEnd, IsDoneClip};
+ghost use Rattle.nit_hall.specs.ClipPass.{knowing_clip, next_clip};
+ghost use Rattle.nit_hall.specs.Pass.{Belongs};
+ghost use Rattle.nit_hall.specs.Room.{clip_entry, with_clip, without_final};
+
+use crate::clip_pass::ClipPass;
+use crate::pass::Pass;
+use crate::room::Room;
+use nit_clip::laws::{calls_of_a_clip_script, left_to_do, one_more_clip, one_more_placed};
+use nit_clip::{ClipEntry, ClipReply};
+
+impl<'a> Room<'a> {
+    /// Serves the next line of the clip pass, which is a clip call: it stands behind all entries of
+    /// the journal, with the focus that is there. The two passes are of one client of this room's
+    /// opening and in one phase, which is served; the client's pass is done, or its next line ends
+    /// the phase; and the journal is not ended.
+    pub fn clip(&mut self, pass: &mut Pass<'a>, clip: &mut ClipPass<'a>) -> ClipReply
+        requires belongs { Belongs self.old.parts pass.old }
+        requires clip_belongs { ClipBelongs self.old.parts clip.old }
+        requires together { AreTogether pass.old clip.old }
+        requires ready { pass.old.phase ≡ self.old.phase }
+        requires phase_end { IsAtPhaseEnd pass.old }
+        requires next { IsAtClip clip.old }
+        requires open { IsOpen self.old.scene.entries }
+        ensures reply { result ≡ clip_answer (clipboard_of self.old.clips.entries)
+            (state_now self.old.scene).input.focus clip.old.sid (next_clip clip.old) }
+        ensures room { self.new ≡ with_clip self.old (clip_entry self.old clip.old result) }
+        ensures pass { pass.new ≡ record pass.old { seen = self.old.scene.entries } }
+        ensures clip { clip.new
+            ≡ record clip.old { next = clip.old.next + 1; seen = self.old.scene.entries } }
+        ensures before { IsPrefix pass.old.seen self.old.scene.entries }
+        ensures clip_before { IsPrefix clip.old.seen self.old.scene.entries }
+        ensures counted { slice_index self.old.clip_counts clip.old.sid
+            ≡ length (clip_calls_in (take clip.old.next clip.old.script)) }
+        ensures legal { IsLegal self.old.parts.config self.old.scene.entries }
+        ensures legal_clips { IsLegalClips self.old.parts.config self.old.scene.entries
+            self.new.clips.entries }
+    {
+        calls_of_a_clip_script();
+        left_to_do();
+        one_more_clip();
+        one_more_placed();
+        let _ended = pass.phase();
+        self.meet(pass);
+        let call = clip.next_clip();
+        self.book.count(&mut clip.share);
+        let at = self.scene.journal().entries().len() as u32;
+        let reply = self.clip.serve(at, clip.sid, self.scene.focus(), &call);
+        clip.next += 1;
+        reply
+    }
+
+    /// The clip list, by the clip passes, one for each client in order, which are all done: it is
+    /// whole. Nothing changes but what the clip passes know.
+    pub fn clips(&mut self, clips: &mut [ClipPass<'a>]) -> &[ClipEntry]
+        requires { AreDoneClips self.old.parts clips.old }
+        ensures value { result.now ≡ self.old.clips.entries }
+        ensures legal { IsLegalClips self.old.parts.config self.old.scene.entries result.now }
+        ensures whole { IsWholeClips (map calls_to_make self.old.parts.scripts)
+            (user_actions_to_do self.old.parts.input) self.old.scene.entries
+            (map clips_to_make self.old.parts.clips) result.now }
+        ensures clips { clips.new
+            ≡ map (knowing_clip (without_final self.old.scene.entries)) clips.old }
+        ensures before { (k : ℕ) (q : ClipPassModel) → slice_get clips.old k ≡ Some q
+            → IsPrefix q.seen (without_final self.old.scene.entries) }
+    {
+        self.meet_clips(clips);
+        self.clip.entries()
+    }
+
+    /// Shows each clip pass what is in the book. All are done, so the clip list is whole.
+    pub fn meet_clips(&mut self, clips: &mut [ClipPass<'a>])
+        requires { AreDoneClips self.old.parts clips.old }
+        ensures room { self.new ≡ self.old }
+        ensures legal { IsLegalClips self.old.parts.config self.old.scene.entries
+            self.old.clips.entries }
+        ensures whole { IsWholeClips (map calls_to_make self.old.parts.scripts)
+            (user_actions_to_do self.old.parts.input) self.old.scene.entries
+            (map clips_to_make self.old.parts.clips) self.old.clips.entries }
+        ensures clips { clips.new
+            ≡ map (knowing_clip (without_final self.old.scene.entries)) clips.old }
+        ensures before { (k : ℕ) (q : ClipPassModel) → slice_get clips.old k ≡ Some q
+            → IsPrefix q.seen (without_final self.old.scene.entries) }
+    {
+        calls_of_a_clip_script();
+        let _kept = self.scene();
+        'clips: for clip in clips.iter_mut() {
+            self.meet_clip(clip);
+        }
+    }
+
+    /// Shows the clip pass what is in the book. Its share is the book's at its number.
+    fn meet_clip(&mut self, clip: &mut ClipPass<'a>)
+        requires { ClipBelongs self.old.parts clip.old }
+        ensures room { self.new ≡ self.old }
+        ensures clip { clip.new
+            ≡ record clip.old { seen = without_final self.old.scene.entries } }
+        ensures before { IsPrefix clip.old.seen (without_final self.old.scene.entries) }
+        ensures counted { slice_index self.old.clip_counts clip.old.sid
+            ≡ length (clip_calls_in (take clip.old.next clip.old.script)) }
+    {
+        self.book.meet(&mut clip.share);
+    }
+}
