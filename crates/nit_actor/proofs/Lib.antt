@@ -26,6 +26,9 @@ pub mod RoundWalks
 pub mod WholeRounds
 pub mod ShotFiles
 pub mod RoleLemmas
+pub mod PhaseCounts
+pub mod Pairs
+pub mod PairLists
 pub mod PictureLemmas
 pub mod IdleUserLemmas
 pub mod OneClient

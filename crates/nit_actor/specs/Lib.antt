@@ -19,6 +19,7 @@ pub mod Shots
 pub mod RunState
 pub mod Stale
 pub mod Role
+pub mod ClipRole
 pub mod Pictures
 pub mod Crew
 pub mod IdleUser

@@ -27,6 +27,10 @@
 //! is up to the threads; that each actor's lines are done in order, each once, is kept by the hall
 //! and shows when all passes are done.
 //!
+//! [`run_clips`], [`run_mine_clips`] and [`run_beside_clips`] are their twins where each client has
+//! a clip script too. They do a client's clip calls of a phase when its own next line ends the
+//! phase, or behind its last line.
+//!
 //! # Alone
 //!
 //! [`run_alone`] does the lines of one client, on a room without a lock. The user only ends phases
@@ -35,6 +39,9 @@
 
 mod actor;
 mod beside;
+mod clip_actor;
+mod clip_beside;
+mod clip_mine;
 mod copying;
 mod crew;
 mod desk;
@@ -52,6 +59,9 @@ mod user;
 
 pub use actor::run_actor;
 pub use beside::{Mine, run_beside};
+pub use clip_actor::run_clips;
+pub use clip_beside::{Pair, run_beside_clips};
+pub use clip_mine::run_mine_clips;
 pub use desk::Desk;
 pub use gate::{Gate, Open};
 pub use mine::run_mine;

@@ -119,7 +119,7 @@ fn do_pass_turn<'a, N: Name, K: Checkpoint, R: Wait>(
 }
 
 /// The user does its next line, if it has one and is in this phase.
-fn do_user_turn<'a, N: Name, K: Checkpoint, S: Store, R: Wait>(
+pub(crate) fn do_user_turn<'a, N: Name, K: Checkpoint, S: Store, R: Wait>(
     rt: &R,
     hall: &Hall<'a, N>,
     checkpoint: &K,
@@ -166,7 +166,7 @@ fn least_phase(passes: &[Pass<'_>], user: &UserPass<'_>) -> Option<u32>
 }
 
 /// The lesser of a phase and of one that may be there.
-fn lesser(phase: u32, other: Option<u32>) -> Option<u32>
+pub(crate) fn lesser(phase: u32, other: Option<u32>) -> Option<u32>
     ensures { IsSome result }
 {
     match other {

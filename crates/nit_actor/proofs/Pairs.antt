@@ -1,0 +1,129 @@
+-- A pass and its clip pass, when one or both of them did a line.
+use Rattle.std.proofs.Common.{◌≡◌, ◌∙◌, ◌⊎◌, ℕ, ◌+◌, ◌==◌, false, List, length, refl, sym, ap, subst, inl, inr, arith, Some}
+use Rattle.std.specs.Prelude.{slice_get}
+use Rattle.std.proofs.lemmas.Bool.{eq-eqb, eqb-true}
+use Rattle.nit_script.specs.declared.line.Line.{Line}
+use Rattle.nit_script.specs.declared.line.Line.TheVariants as line
+use Rattle.nit_script.specs.Phases.{is_phase, phases}
+use Rattle.nit_clip.specs.declared.line.ClipLine.TheVariants as clip
+use Rattle.nit_clip.specs.ClipGrammar.{is_clip_phase, clip_phases}
+use Rattle.nit_hall.specs.OpeningParts.{OpeningParts}
+use Rattle.nit_hall.specs.ServedLines.{phases_before}
+use Rattle.nit_hall.specs.Pass.{PassModel, IsAtPhase}
+use Rattle.nit_hall.specs.ClipPass.{ClipPassModel, ClipBelongs, IsAtClipPhase, clip_number, clip_phases_before}
+use Rattle.nit_actor.specs.Role.{Role, IsRoleIn, role_of}
+use Rattle.nit_actor.specs.ClipRole.{ClipRole, GoTogether, IsPairIn, IsPairRoleIn, clip_role_of, pair_role_of}
+use Rattle.nit_actor.proofs.RoleLemmas.{role_fits, fits_belongs}
+use Rattle.nit_actor.proofs.PhaseCounts.{counted_all, counted_fewer, counted_more, counted_same}
+
+-- ---- phases
+
+-- the phases of a pass are as many as its lines end
+abbrev pub IsCounted : PassModel → Type 0
+IsCounted p = p.phase ≡ phases_before p.script p.next
+
+abbrev pub IsClipCounted : ClipPassModel → Type 0
+IsClipCounted q = q.phase ≡ clip_phases_before q.script q.next
+
+-- where the pass did this line, its phases are those of one line more of the script
+one_more : (p p' : PassModel) → role_of p' ≡ role_of p → p'.next ≡ p.next + 1 → IsCounted p' → p'.phase ≡ phases_before p.script (p.next + 1)
+one_more p p' e n counted =
+    counted ∙ ap (λ (s : List Line). phases_before s p'.next) (ap (λ (r : Role). r.script) e) ∙ ap (phases_before p.script) n
+
+-- a line that ends no phase leaves the passes together
+pub line_together : (p p' : PassModel) (q : ClipPassModel) (l : Line) → GoTogether p q → slice_get p.script p.next ≡ Some l → is_phase l ≡ false
+    → role_of p' ≡ role_of p → p'.next ≡ p.next + 1 → IsCounted p → IsCounted p' → GoTogether p' q
+line_together p p' q l t at is e n before after' =
+    record {
+      now = record {
+        client = ap (λ (r : Role). r.sid) e ∙ t.now.client;
+        phase = one_more p p' e n after' ∙ counted_same is_phase p.script p.next l at is ∙ sym before ∙ t.now.phase;
+      };
+      phases_each = t.phases_each ∙ sym (ap (λ (r : Role). phases r.script) e);
+    }
+
+-- where the pass is to end its phase, and no clip call is left of it, the clip script has a line
+-- that ends it
+pub clip_phase_next : (p : PassModel) (q : ClipPassModel) → GoTogether p q → IsAtPhase p → IsCounted p → IsClipCounted q
+    → IsAtClipPhase q ⊎ (q.next ≡ length q.script) → IsAtClipPhase q
+clip_phase_next p q t at counted clips (inl next) = next
+clip_phase_next p q t at counted clips (inr end) =
+    let fewer = counted_fewer is_phase p.script p.next line.Phase at refl in
+    let all = counted_all is_clip_phase q.script q.next end in
+    absurd (omega (arith, fewer, all, t.phases_each, t.now.phase, counted, clips))
+
+-- then the pass is one phase ahead
+pub one_ahead : (p p' : PassModel) (q : ClipPassModel) → GoTogether p q → IsAtPhase p → role_of p' ≡ role_of p → p'.next ≡ p.next + 1
+    → IsCounted p → IsCounted p' → p'.phase ≡ q.phase + 1
+one_ahead p p' q t at e n before after' =
+    one_more p p' e n after' ∙ counted_more is_phase p.script p.next line.Phase at refl ∙ ap (λ (k : ℕ). k + 1) (sym before ∙ t.now.phase)
+
+-- and when the clip pass is too, they go together again
+pub turned : (p p' : PassModel) (q q' : ClipPassModel) → GoTogether p q → role_of p' ≡ role_of p → p'.phase ≡ q.phase + 1
+    → q' ≡ record q { next = q.next + 1; phase = q.phase + 1 } → GoTogether p' q'
+turned p p' q q' t e ahead f =
+    record {
+      now = record {
+        client = ap (λ (r : Role). r.sid) e ∙ t.now.client ∙ sym (ap (λ (k : ClipPassModel). k.sid) f);
+        phase = ahead ∙ sym (ap (λ (k : ClipPassModel). k.phase) f);
+      };
+      phases_each = ap (λ (k : ClipPassModel). clip_phases k.script) f ∙ t.phases_each ∙ sym (ap (λ (r : Role). phases r.script) e);
+    }
+
+-- where the pass is done, and no clip call is left of its phase, the clip pass is done
+pub clip_done_too : (p : PassModel) (q : ClipPassModel) → GoTogether p q → p.next ≡ length p.script → IsCounted p → IsClipCounted q
+    → IsAtClipPhase q ⊎ (q.next ≡ length q.script) → q.next ≡ length q.script
+clip_done_too p q t done counted clips (inl next) =
+    let fewer = counted_fewer is_clip_phase q.script q.next clip.Phase next refl in
+    let all = counted_all is_phase p.script p.next done in
+    absurd (omega (arith, fewer, all, t.phases_each, t.now.phase, counted, clips))
+clip_done_too p q t done counted clips (inr end) = end
+
+-- ---- roles
+
+-- both passes keep their roles, and go together still
+pub pair_again : (parts : OpeningParts) (p p' : PassModel) (q q' : ClipPassModel) → IsPairIn parts p q → role_of p' ≡ role_of p → clip_role_of q' ≡ clip_role_of q
+    → GoTogether p' q' → IsPairIn parts p' q'
+pair_again parts p p' q q' pair e f t =
+    record {
+      pass = fits_belongs parts p' (subst (λ (r : Role). IsRoleIn parts r) (sym e) (role_fits parts p pair.pass));
+      clip = clip_again;
+      together = t;
+    }
+  where
+    clip_again : ClipBelongs parts q'
+    clip_again = record {
+      name = ap (λ (r : ClipRole). r.name) f ∙ pair.clip.name;
+      script = subst (λ (r : ClipRole). slice_get parts.clips r.sid ≡ Some r.script) (sym f) pair.clip.script;
+      number = subst (λ (r : ClipRole). r.number ≡ clip_number parts r.sid) (sym f) pair.clip.number;
+    }
+
+pub pair_fits : (parts : OpeningParts) (p : PassModel) (q : ClipPassModel) → IsPairIn parts p q → IsPairRoleIn parts (pair_role_of p q)
+pair_fits parts p q pair =
+    record {
+      client = role_fits parts p pair.pass;
+      name = pair.clip.name;
+      script = pair.clip.script;
+      number = pair.clip.number;
+      one_client = pair.together.now.client;
+      phases_each = pair.together.phases_each;
+      in_phase = eq-eqb p.phase q.phase pair.together.now.phase;
+    }
+
+pub fits_pair : (parts : OpeningParts) (p : PassModel) (q : ClipPassModel) → IsPairRoleIn parts (pair_role_of p q) → IsPairIn parts p q
+fits_pair parts p q r =
+    record {
+      pass = fits_belongs parts p r.client;
+      clip = record { name = r.name; script = r.script; number = r.number };
+      together = record {
+        now = record { client = r.one_client; phase = eqb-true p.phase q.phase r.in_phase };
+        phases_each = r.phases_each;
+      };
+    }
+
+-- two passes that keep their roles and go together keep the role of both
+pub pair_role_again : (p p' : PassModel) (q q' : ClipPassModel) → GoTogether p q → GoTogether p' q' → role_of p' ≡ role_of p → clip_role_of q' ≡ clip_role_of q
+    → pair_role_of p' q' ≡ pair_role_of p q
+pair_role_again p p' q q' t u e f =
+    let is : (p'.phase == q'.phase) ≡ (p.phase == q.phase) = eq-eqb p'.phase q'.phase u.now.phase ∙ sym (eq-eqb p.phase q.phase t.now.phase) in
+    λ i. record { client = e i; clip = f i; in_phase = is i }

@@ -1,0 +1,15 @@
+use Rattle.std.proofs.Common.{◌≡◌, ◌-◌, length}
+use Rattle.nit_hall.specs.ClipPass.{IsAtPhaseEnd}
+use Rattle.nit_actor.specs.ClipRole.{IsPairIn}
+use Rattle.nit_actor.proofs.clip_actor.do_clips.Given as goal
+
+abbrev pub invariant-calls : goal.invariant-calls
+invariant-calls g l = record {
+  pass : l.pass ≡ record l.initial.pass { seen = l.pass.seen };
+  clip : l.clip ≡ record l.initial.clip { next = l.clip.next; seen = l.clip.seen };
+  pair : IsPairIn g.N.Name.parts l.pass l.clip;
+  at : IsAtPhaseEnd l.pass;
+}
+
+abbrev pub decreases-calls : goal.decreases-calls
+decreases-calls g l = length l.clip.script - l.clip.next

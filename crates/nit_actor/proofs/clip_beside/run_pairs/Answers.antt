@@ -1,0 +1,18 @@
+use Rattle.std.proofs.Common.{◌∙◌}
+use Rattle.nit_actor.proofs.PictureLemmas.{puts_also}
+use Rattle.nit_actor.proofs.clip_beside.run_pairs.Goals as goal
+
+pub turns-preserved : goal.turns-preserved
+turns-preserved g c =
+    let i = c.turns.invariant in
+    let t = c.do_turn.ensures in
+    let u = c.do_user_turn.ensures in
+    record {
+      same = t.same ∙ i.same;
+      fit = t.fits;
+      user_same = u.same ∙ i.user_same;
+      frame = u.frame ∙ i.frame;
+      text = u.text ∙ i.text;
+      put = puts_also g.N.Name.parts _ _ _ _ _ _ i.put u.put;
+      same_store = u.same_store ∙ i.same_store;
+    }

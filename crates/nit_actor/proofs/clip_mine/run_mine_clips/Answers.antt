@@ -1,0 +1,32 @@
+use Rattle.std.proofs.Common.{◌∙◌, refl}
+use Rattle.nit_actor.proofs.PairLists.{all_pairs}
+use Rattle.nit_actor.proofs.PictureLemmas.{puts_also, puts_none}
+use Rattle.nit_actor.proofs.clip_mine.run_mine_clips.Goals as goal
+
+pub turns-preserved : goal.turns-preserved
+turns-preserved g c =
+    let i = c.turns.invariant in
+    let t = c.do_turn.ensures in
+    let u = c.do_user_turn.ensures in
+    record {
+      same = t.same ∙ i.same;
+      clips_same = t.clips_same ∙ i.clips_same;
+      fit = t.fits;
+      user_same = u.same ∙ i.user_same;
+      frame = u.frame ∙ i.frame;
+      text = u.text ∙ i.text;
+      put = puts_also g.N.Name.parts _ _ _ _ _ _ i.put u.put;
+      same_store = u.same_store ∙ i.same_store;
+    }
+
+pub turns-init : goal.turns-init
+turns-init g c = record {
+  same = refl;
+  clips_same = refl;
+  fit = all_pairs g.N.Name.parts _ _ c.requires.passes c.requires.clips c.requires.together;
+  user_same = refl;
+  frame = refl;
+  text = refl;
+  put = puts_none g.N.Name.parts _ _;
+  same_store = refl;
+}

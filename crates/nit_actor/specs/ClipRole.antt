@@ -1,0 +1,58 @@
+-- Who a client with a clip script is and what it has to do. No line that it does changes this.
+use Rattle.std.specs.Prelude.{◌≡◌, ◌==◌, ℕ, Bool, true, List, slice_get, Some}
+use Rattle.nit_script.specs.Phases.{phases}
+use Rattle.nit_clip.specs.declared.line.ClipLine.{ClipLine}
+use Rattle.nit_clip.specs.ClipGrammar.{clip_phases}
+use Rattle.nit_ledger.specs.Book.{BookName}
+use Rattle.nit_hall.specs.OpeningParts.{OpeningParts}
+use Rattle.nit_hall.specs.Pass.{PassModel, Belongs}
+use Rattle.nit_hall.specs.ClipPass.{ClipPassModel, ClipBelongs, AreTogether, clip_number}
+use Rattle.nit_actor.specs.Role.{Role, IsRoleIn, role_of}
+
+-- a client's with the clipboard: its number, that of its share, the name of its room's book, and
+-- its clip script
+pub record ClipRole : Type 0 where
+  pub sid : ℕ
+  pub number : ℕ
+  pub name : BookName
+  pub script : List ClipLine
+
+-- the role of a client's clip pass
+abbrev pub clip_role_of : ClipPassModel → ClipRole
+clip_role_of q = record { sid = q.sid; number = q.number; name = q.name; script = q.script }
+
+-- The two passes go together: they are of one client and in one phase, and the clip script has as
+-- many phases as the script.
+pub record GoTogether (p : PassModel) (q : ClipPassModel) : Type 0 where
+  pub now : AreTogether p q
+  pub phases_each : clip_phases q.script ≡ phases p.script
+
+-- the two passes are of this opening, and go together
+pub record IsPairIn (parts : OpeningParts) (p : PassModel) (q : ClipPassModel) : Type 0 where
+  pub pass : Belongs parts p
+  pub clip : ClipBelongs parts q
+  pub together : GoTogether p q
+
+-- ---- a pass and a clip pass that go to one thread
+
+-- the roles of both, and whether both are in one phase
+pub record PairRole : Type 0 where
+  pub client : Role
+  pub clip : ClipRole
+  pub in_phase : Bool
+
+-- the role of two passes
+abbrev pub pair_role_of : PassModel → ClipPassModel → PairRole
+pair_role_of p q =
+    record { client = role_of p; clip = clip_role_of q; in_phase = p.phase == q.phase }
+
+-- The roles are those of one client in this opening, whose two scripts have as many phases, and
+-- both passes are in one phase.
+pub record IsPairRoleIn (parts : OpeningParts) (r : PairRole) : Type 0 where
+  pub client : IsRoleIn parts r.client
+  pub name : r.clip.name ≡ parts.name
+  pub script : slice_get parts.clips r.clip.sid ≡ Some r.clip.script
+  pub number : r.clip.number ≡ clip_number parts r.clip.sid
+  pub one_client : r.client.sid ≡ r.clip.sid
+  pub phases_each : clip_phases r.clip.script ≡ phases r.client.script
+  pub in_phase : r.in_phase ≡ true

@@ -1,0 +1,175 @@
+//! What a client's thread does where the client has a clip script too.
+
+ghost use Rattle.std.specs.Prelude.{◌≡◌, ◌+◌, ◌⊎◌, Some, length, slice_get};
+ghost use Rattle.nit_hall.specs.Pass.{Belongs, IsAtPhase};
+ghost use Rattle.nit_hall.specs.ClipPass.{ClipBelongs, IsAtClipPhase, IsAtPhaseEnd};
+ghost use Rattle.nit_actor.specs.Role.{role_of};
+ghost use Rattle.nit_actor.specs.ClipRole.{GoTogether, IsPairIn, clip_role_of};
+
+use crate::actor::do_line;
+use crate::gate::{AtGate, Checkpoint, Gate};
+use nit_clip::ClipLine;
+use nit_hall::{ClipPass, Hall, Name, Pass};
+use nit_script::Line;
+use std::sync::Wait;
+
+/// Does all lines of the pass that are left, as [`run_actor`](crate::run_actor) does, and all of
+/// the client's clip script. The clip calls of a phase are done when the pass's own next line ends
+/// the phase, or when all its lines are done. They wait until the room serves the pass's phase, and
+/// pass no gate. The two passes are of this opening, of one client and in one phase, and its two
+/// scripts have as many phases; afterwards both are done, and in one phase again.
+pub fn run_clips<'a, N: Name, G: Gate, R: Wait>(
+    rt: &R,
+    hall: &Hall<'a, N>,
+    gate: &G,
+    pass: &mut Pass<'a>,
+    clip: &mut ClipPass<'a>,
+)
+    requires belongs { Belongs N.parts pass.old }
+    requires clip_belongs { ClipBelongs N.parts clip.old }
+    requires together { GoTogether pass.old clip.old }
+    ensures same { role_of pass.new ≡ role_of pass.old }
+    ensures clip_same { clip_role_of clip.new ≡ clip_role_of clip.old }
+    ensures done { pass.new.next ≡ length pass.new.script }
+    ensures clip_done { clip.new.next ≡ length clip.new.script }
+    ensures together { GoTogether pass.new clip.new }
+{
+    run_pair(rt, hall, &AtGate(gate), pass, clip)
+}
+
+/// The same, with what is called before each line.
+pub(crate) fn run_pair<'a, N: Name, K: Checkpoint, R: Wait>(
+    rt: &R,
+    hall: &Hall<'a, N>,
+    checkpoint: &K,
+    pass: &mut Pass<'a>,
+    clip: &mut ClipPass<'a>,
+)
+    requires pair { IsPairIn N.parts pass.old clip.old }
+    ensures same { role_of pass.new ≡ role_of pass.old }
+    ensures clip_same { clip_role_of clip.new ≡ clip_role_of clip.old }
+    ensures done { pass.new.next ≡ length pass.new.script }
+    ensures clip_done { clip.new.next ≡ length clip.new.script }
+    ensures together { GoTogether pass.new clip.new }
+{
+    let mut arrived = false;
+    'lines: while let Some(line) = pass.next() {
+        do_pair_line(rt, hall, checkpoint, pass, clip, &line, arrived);
+        arrived = matches!(line, Line::Phase);
+    }
+    do_last_clips(rt, hall, pass, clip);
+}
+
+/// Does the next line of the pass, which is this one. Where it ends a phase, the clip calls of the
+/// phase are done before it, and the clip script's line `phase` behind it. Where the pass has just
+/// `arrived` at the end of a phase, a stroke waits until the room serves the next one.
+#[tactic(auto, using(crate::proofs::Pairs::line_together))]
+pub(crate) fn do_pair_line<'a, N: Name, K: Checkpoint, R: Wait>(
+    rt: &R,
+    hall: &Hall<'a, N>,
+    checkpoint: &K,
+    pass: &mut Pass<'a>,
+    clip: &mut ClipPass<'a>,
+    line: &Line,
+    arrived: bool,
+)
+    requires pair { IsPairIn N.parts pass.old clip.old }
+    requires next { slice_get pass.old.script pass.old.next ≡ Some line.now }
+    ensures same { role_of pass.new ≡ role_of pass.old }
+    ensures clip_same { clip_role_of clip.new ≡ clip_role_of clip.old }
+    ensures next { pass.new.next ≡ pass.old.next + 1 }
+    ensures together { GoTogether pass.new clip.new }
+{
+    match line {
+        Line::Phase => end_phase(rt, hall, checkpoint, pass, clip),
+        Line::Call(_) | Line::Stroke(_) => {
+            let _before = pass.phase();
+            do_line(rt, hall, checkpoint, pass, line, arrived);
+            let _after = pass.phase();
+        }
+    }
+}
+
+/// Does the clip calls that are left of the phase, the pass's next line, which ends it, and the
+/// line of the clip script that ends it.
+#[tactic(auto, using(crate::proofs::Pairs::one_ahead, crate::proofs::Pairs::turned))]
+fn end_phase<'a, N: Name, K: Checkpoint, R: Wait>(
+    rt: &R,
+    hall: &Hall<'a, N>,
+    checkpoint: &K,
+    pass: &mut Pass<'a>,
+    clip: &mut ClipPass<'a>,
+)
+    requires pair { IsPairIn N.parts pass.old clip.old }
+    requires next { IsAtPhase pass.old }
+    ensures same { role_of pass.new ≡ role_of pass.old }
+    ensures clip_same { clip_role_of clip.new ≡ clip_role_of clip.old }
+    ensures next { pass.new.next ≡ pass.old.next + 1 }
+    ensures together { GoTogether pass.new clip.new }
+{
+    do_phase_clips(rt, hall, pass, clip);
+    let _before = pass.phase();
+    do_line(rt, hall, checkpoint, pass, &Line::Phase, false);
+    let _after = pass.phase();
+    clip.turn(pass);
+}
+
+/// Does the clip calls that are left of a phase that the pass's next line ends. The next line of
+/// the clip script then ends it too.
+#[tactic(auto, using(crate::proofs::Pairs::clip_phase_next))]
+fn do_phase_clips<'a, N: Name, R: Wait>(
+    rt: &R,
+    hall: &Hall<'a, N>,
+    pass: &mut Pass<'a>,
+    clip: &mut ClipPass<'a>,
+)
+    requires pair { IsPairIn N.parts pass.old clip.old }
+    requires next { IsAtPhase pass.old }
+    ensures pass { pass.new ≡ record pass.old { seen = pass.new.seen } }
+    ensures clip { clip.new ≡ record clip.old { next = clip.new.next; seen = clip.new.seen } }
+    ensures pair { IsPairIn N.parts pass.new clip.new }
+    ensures clip_next { IsAtClipPhase clip.new }
+{
+    do_clips(rt, hall, pass, clip);
+    let _after = (pass.phase(), clip.phase(), clip.done());
+}
+
+/// Does the clip calls that are left behind the last line of the pass.
+#[tactic(auto, using(crate::proofs::Pairs::clip_done_too))]
+pub(crate) fn do_last_clips<'a, N: Name, R: Wait>(
+    rt: &R,
+    hall: &Hall<'a, N>,
+    pass: &mut Pass<'a>,
+    clip: &mut ClipPass<'a>,
+)
+    requires pair { IsPairIn N.parts pass.old clip.old }
+    requires done { pass.old.next ≡ length pass.old.script }
+    ensures same { role_of pass.new ≡ role_of pass.old }
+    ensures clip_same { clip_role_of clip.new ≡ clip_role_of clip.old }
+    ensures done { pass.new.next ≡ length pass.new.script }
+    ensures clip_done { clip.new.next ≡ length clip.new.script }
+    ensures together { GoTogether pass.new clip.new }
+{
+    do_clips(rt, hall, pass, clip);
+    let _after = (pass.phase(), clip.phase(), clip.done());
+}
+
+/// Does the clip calls that are left of the phase that both passes are in. The pass has done what
+/// it does in this phase.
+fn do_clips<'a, N: Name, R: Wait>(
+    rt: &R,
+    hall: &Hall<'a, N>,
+    pass: &mut Pass<'a>,
+    clip: &mut ClipPass<'a>,
+)
+    requires pair { IsPairIn N.parts pass.old clip.old }
+    requires at { IsAtPhaseEnd pass.old }
+    ensures pass { pass.new ≡ record pass.old { seen = pass.new.seen } }
+    ensures clip { clip.new ≡ record clip.old { next = clip.new.next; seen = clip.new.seen } }
+    ensures pair { IsPairIn N.parts pass.new clip.new }
+    ensures ended { IsAtClipPhase clip.new ⊎ (clip.new.next ≡ length clip.new.script) }
+{
+    'calls: while let Some(ClipLine::Call(_)) = clip.next() {
+        hall.clip_next(rt, pass, clip);
+    }
+}

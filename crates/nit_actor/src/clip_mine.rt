@@ -1,0 +1,158 @@
+//! What the calling thread does where clients have clip scripts too: the user, and some clients'
+//! passes and clip passes, by turns.
+
+ghost use Rattle.std.specs.Prelude.{◌≡◌, ◌*◌, All, IfNone, None, length, map};
+ghost use Rattle.std.specs.List.{AllZip};
+ghost use Rattle.nit_report.specs.Picture.{picture_length};
+ghost use Rattle.nit_hall.specs.Pass.{Belongs, UserBelongs};
+ghost use Rattle.nit_hall.specs.ClipPass.{ClipBelongs};
+ghost use Rattle.nit_actor.specs.RoundsRun.{put_state_of_desk};
+ghost use Rattle.nit_actor.specs.Role.{role_of, user_role_of};
+ghost use Rattle.nit_actor.specs.ClipRole.{GoTogether, IsPairIn, clip_role_of};
+ghost use Rattle.nit_actor.specs.Pictures.{PutsShotsBehind};
+
+use crate::clip_actor::{do_last_clips, do_pair_line};
+use crate::desk::Desk;
+use crate::gate::{AtGate, Checkpoint, Gate};
+use crate::mine::{do_user_turn, lesser};
+use nit_hall::{ClipPass, Hall, Name, Pass, UserPass};
+use nit_store::Store;
+use std::sync::Wait;
+
+/// Does all lines of these passes, of their clip scripts and of the user that are left, by turns,
+/// as [`run_mine`](crate::run_mine) does those of passes and of the user. The clip calls of a phase
+/// are done in the turn in which the pass's own next line ends the phase, or behind its last line;
+/// they pass no gate. There is a clip pass for each pass, in order: both are of this opening, of
+/// one client and in one phase, and its two scripts have as many phases. Afterwards all are done,
+/// and again each clip pass is in the phase of its pass.
+#[tactic(auto, using(crate::proofs::PairLists::all_together, crate::proofs::PhaseCounts::zip_long))]
+pub fn run_mine_clips<'a, N: Name, G: Gate, S: Store, R: Wait>(
+    rt: &R,
+    hall: &Hall<'a, N>,
+    gate: &G,
+    passes: &mut [Pass<'a>],
+    clips: &mut [ClipPass<'a>],
+    user: &mut UserPass<'a>,
+    desk: &mut Desk<S>,
+)
+    requires passes { All (Belongs N.parts) passes.old }
+    requires clips { All (ClipBelongs N.parts) clips.old }
+    requires together { AllZip GoTogether passes.old clips.old }
+    requires user { UserBelongs N.parts user.old }
+    requires frame { length desk.old.frame.items ≡ N.parts.config.width * N.parts.config.height }
+    requires text { length desk.old.text.items
+        ≡ picture_length N.parts.config.width N.parts.config.height }
+    ensures same { map role_of passes.new ≡ map role_of passes.old }
+    ensures clips_same { map clip_role_of clips.new ≡ map clip_role_of clips.old }
+    ensures done { All (λ p. p.next ≡ length p.script) passes.new }
+    ensures clips_done { All (λ q. q.next ≡ length q.script) clips.new }
+    ensures together { AllZip GoTogether passes.new clips.new }
+    ensures user_same { user_role_of user.new ≡ user_role_of user.old }
+    ensures user_done { user.new.next ≡ length user.new.input }
+    ensures put { PutsShotsBehind N.parts user.old.seen user.new.seen
+        (put_state_of_desk (S.shown desk.old.store.now) desk.old.fault desk.old.tried)
+        (put_state_of_desk (S.shown desk.new.store.now) desk.new.fault desk.new.tried) }
+    ensures frame { length desk.new.frame.items ≡ length desk.old.frame.items }
+    ensures text { length desk.new.text.items ≡ length desk.old.text.items }
+    ensures same_store { desk.new.store.ghost_name ≡ desk.old.store.ghost_name }
+{
+    let checkpoint = AtGate(gate);
+    'turns: for _ in rt.forever() {
+        let Some(phase) = least_phase(passes, clips, user) else {
+            return;
+        };
+        do_turn(rt, hall, &checkpoint, passes, clips, phase);
+        do_user_turn(rt, hall, &checkpoint, user, phase, desk);
+    }
+    unreachable!()
+}
+
+/// Each pass that is in this phase does its next line, if it has one, or what is left of its clip
+/// script.
+fn do_turn<'a, N: Name, K: Checkpoint, R: Wait>(
+    rt: &R,
+    hall: &Hall<'a, N>,
+    checkpoint: &K,
+    passes: &mut [Pass<'a>],
+    clips: &mut [ClipPass<'a>],
+    phase: u32,
+)
+    requires fits { AllZip (IsPairIn N.parts) passes.old clips.old }
+    ensures same { map role_of passes.new ≡ map role_of passes.old }
+    ensures clips_same { map clip_role_of clips.new ≡ map clip_role_of clips.old }
+    ensures fits { AllZip (IsPairIn N.parts) passes.new clips.new }
+{
+    'pairs: for k in 0..passes.len() {
+        do_pair_turn(rt, hall, checkpoint, &mut passes[k], &mut clips[k], phase);
+    }
+}
+
+/// The pass does its next line, if it has one and is in this phase; where it has none, the rest of
+/// its clip script is done.
+pub(crate) fn do_pair_turn<'a, N: Name, K: Checkpoint, R: Wait>(
+    rt: &R,
+    hall: &Hall<'a, N>,
+    checkpoint: &K,
+    pass: &mut Pass<'a>,
+    clip: &mut ClipPass<'a>,
+    phase: u32,
+)
+    requires pair { IsPairIn N.parts pass.old clip.old }
+    ensures same { role_of pass.new ≡ role_of pass.old }
+    ensures clip_same { clip_role_of clip.new ≡ clip_role_of clip.old }
+    ensures together { GoTogether pass.new clip.new }
+{
+    if pass.phase() != phase {
+        return;
+    }
+    match pass.next() {
+        Some(line) => do_pair_line(rt, hall, checkpoint, pass, clip, &line, true),
+        None => do_last_clips(rt, hall, pass, clip),
+    }
+}
+
+/// The least phase of those that are not done with their script or their clip script, or `None`
+/// where all are done.
+fn least_phase(passes: &[Pass<'_>], clips: &[ClipPass<'_>], user: &UserPass<'_>) -> Option<u32>
+    requires { length clips.now ≡ length passes.now }
+    ensures passes { IfNone result (All (λ p. p.next ≡ length p.script) passes.now) }
+    ensures clips { IfNone result (All (λ q. q.next ≡ length q.script) clips.now) }
+    ensures user { IfNone result (user.now.next ≡ length user.now.input) }
+{
+    let mut least = None;
+    'pairs: for k in 0..passes.len() {
+        least = lesser_of_pair(&passes[k], &clips[k], least);
+    }
+    lesser_of_user(user, least)
+}
+
+/// The lesser of the pass's phase and of one that may be there; the latter alone where the pass is
+/// done and its clip pass too.
+pub(crate) fn lesser_of_pair(
+    pass: &Pass<'_>,
+    clip: &ClipPass<'_>,
+    other: Option<u32>,
+) -> Option<u32>
+    ensures other { IfNone result (other ≡ None) }
+    ensures pass { IfNone result (pass.now.next ≡ length pass.now.script) }
+    ensures clip { IfNone result (clip.now.next ≡ length clip.now.script) }
+{
+    if pass.done() && clip.done() {
+        other
+    } else {
+        lesser(pass.phase(), other)
+    }
+}
+
+/// The lesser of the user's phase and of one that may be there; the latter alone where the user is
+/// done.
+pub(crate) fn lesser_of_user(user: &UserPass<'_>, other: Option<u32>) -> Option<u32>
+    ensures other { IfNone result (other ≡ None) }
+    ensures user { IfNone result (user.now.next ≡ length user.now.input) }
+{
+    if user.done() {
+        other
+    } else {
+        lesser(user.phase(), other)
+    }
+}
