@@ -19,16 +19,13 @@ use Rattle.nit_overlay.proofs.ForCallers.{same_frame}
 use Rattle.nit_scene.specs.DirtyPixels.{dirty}
 use Rattle.nit_scene.specs.RawWords.{glass_in, pixel_count, source_at}
 use Rattle.nit_scene.specs.Scene.{SceneModel, scenery_of, state_now}
-use Rattle.nit_report.specs.Picture.{picture}
-use Rattle.nit_store.specs.Store.{File}
 use Rattle.nit_actor.specs.Turn.{ActorLine, ByClient, ByUser, LineTurn}
 use Rattle.nit_actor.specs.TurnActions.{line_by}
-use Rattle.nit_store.specs.Puts.{PutState, PutsAll}
-use Rattle.nit_actor.specs.RoundsRun.{shot_name}
-use Rattle.nit_actor.specs.Drawing.{Drawing, after_turn, done_after, drawn, entry_of, opening_drawing, picture_of, shots_after, state_after, tables_after, word_after_entry}
-use Rattle.nit_actor.specs.RunState.{AreLoaded, IsDrawn, IsMoved, PutsLine}
+use Rattle.nit_actor.specs.ShotFrames.{ShotFrame, ShowsEach}
+use Rattle.nit_actor.specs.Drawing.{Drawing, after_turn, done_after, drawn, drawn_shot, entry_of, frame_of, opening_drawing, shots_after, state_after, tables_after, word_after_entry}
+use Rattle.nit_actor.specs.RunState.{AreLoaded, IsDrawn, IsMoved, ShowsLine, next_shot}
 use Rattle.nit_actor.proofs.TableWords.{AreOf, held_word}
-use Rattle.nit_store.proofs.ForCallers.{puts_more}
+use Rattle.nit_actor.proofs.ShownFrames.{shows_more}
 
 -- ---- the drawing
 
@@ -78,22 +75,23 @@ moved_on config scripts d m s s' is moved are taken =
       taken = taken;
     }
 
--- ---- the pictures
+-- ---- the shots
 
--- the picture of a scene that holds what is drawn
-pub picture_is : (config : Configuration) (d : Drawing) (s : SceneModel Sight) → s.config ≡ config → IsDrawn d s → picture s.config.width s.config.height (frame (scenery_of (state_now s)) s.raw) ≡ picture_of config d.state d.word
-picture_is config d s same is =
-    ap (λ (c : Configuration). picture c.width c.height (frame (scenery_of (state_now s)) s.raw)) same
-    ∙ ap (λ (x : State). picture config.width config.height (frame (scenery_of x) s.raw)) is.state
-    ∙ ap (λ (ws : List ℕ). picture config.width config.height ws) (same_frame (scenery_of d.state) s.raw (map d.word (range_with_len 0 (pixel_count d.state)))
-    (λ k on_screen. is.words k on_screen ∙ sym (get_or-map-range_with_len d.word 0 (pixel_count d.state) k k 0 on_screen (zero-add k))))
+-- the frame of a scene that holds what is drawn
+frame_is : (d : Drawing) (s : SceneModel Sight) → IsDrawn d s → frame (scenery_of (state_now s)) s.raw ≡ frame_of d.state d.word
+frame_is d s is =
+    ap (λ (x : State). frame (scenery_of x) s.raw) is.state
+    ∙ same_frame (scenery_of d.state) s.raw (map d.word (range_with_len 0 (pixel_count d.state)))
+    (λ k on_screen. is.words k on_screen ∙ sym (get_or-map-range_with_len d.word 0 (pixel_count d.state) k k 0 on_screen (zero-add k)))
 
--- what the user's line puts is what it draws
-pub puts_drawn : (config : Configuration) (d : Drawing) (s : SceneModel Sight) (l : InputLine) (first old new : PutState) → s.config ≡ config → IsDrawn d s → PutsAll d.shots first old → PutsLine l s old new → PutsAll (shots_after config (ByUser l) d) first new
-puts_drawn config d s input.Shot first old new same is puts put =
-    let file : File = (shot_name (shots s.entries + 1), picture s.config.width s.config.height (frame (scenery_of (state_now s)) s.raw)) in
-    let is_file : file ≡ (shot_name (length d.shots + 1), picture_of config d.state d.word) =
-    ap (λ (bytes : List ℕ). (shot_name (shots s.entries + 1), bytes)) (picture_is config d s same is) ∙ ap (λ (n : ℕ). (shot_name (n + 1), picture_of config d.state d.word)) (sym is.taken) in
-    subst (λ (f : File). PutsAll (d.shots ++ f ∷ []) first new) is_file (puts_more d.shots file first old new puts put)
-puts_drawn config d s (input.Device dev) first old new same is puts put = subst (λ (x : PutState). PutsAll d.shots first x) (sym put) puts
-puts_drawn config d s input.Phase first old new same is puts put = subst (λ (x : PutState). PutsAll d.shots first x) (sym put) puts
+shot_is : (config : Configuration) (d : Drawing) (s : SceneModel Sight) → s.config ≡ config → IsDrawn d s → next_shot s ≡ drawn_shot config d
+shot_is config d s same is =
+    let words = frame_is d s is in
+    λ i. record { number = sym is.taken i + 1; width = (same i).width; height = (same i).height; words = words i }
+
+-- what the user's line shows is what it draws
+pub shows_drawn : {V : Type 0} (Shows : ShotFrame → V → V → Type 0) (config : Configuration) (d : Drawing) (s : SceneModel Sight) (l : InputLine) (first old new : V) → s.config ≡ config → IsDrawn d s → ShowsEach Shows d.shots first old → ShowsLine Shows l s old new → ShowsEach Shows (shots_after config (ByUser l) d) first new
+shows_drawn Shows config d s input.Shot first old new same is shown more =
+    subst (λ (f : ShotFrame). ShowsEach Shows (d.shots ++ f ∷ []) first new) (shot_is config d s same is) (shows_more Shows d.shots (next_shot s) first old new shown more)
+shows_drawn {V = V} Shows config d s (input.Device dev) first old new same is shown more = subst (λ (x : V). ShowsEach Shows d.shots first x) (sym more) shown
+shows_drawn {V = V} Shows config d s input.Phase first old new same is shown more = subst (λ (x : V). ShowsEach Shows d.shots first x) (sym more) shown

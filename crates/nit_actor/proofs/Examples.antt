@@ -20,6 +20,7 @@ use Rattle.nit_actor.specs.Rounds.{rounds}
 use Rattle.nit_actor.specs.TurnActions.{actions_of_turns}
 use Rattle.nit_actor.specs.Places.{turn_of}
 use Rattle.nit_actor.specs.RoundsRun.{shot_name}
+use Rattle.nit_actor.specs.ShotFrames.{shot_file}
 use Rattle.nit_actor.specs.Drawing.{drawn}
 
 -- ---- one actor acts in each phase
@@ -99,6 +100,6 @@ unfolding drawn serve stack_after_call zeros stroked cleared
 words_drawn = refl
 
 -- the shots of the user are named by their numbers
-shots_named : map (λ f. f.0) (drawn small ([] ∷ []) (rounds ([] ∷ []) (input.Shot ∷ input.Phase ∷ input.Shot ∷ []))).shots ≡ shot_name 1 ∷ shot_name 2 ∷ []
+shots_named : map (λ f. (shot_file f).0) (drawn small ([] ∷ []) (rounds ([] ∷ []) (input.Shot ∷ input.Phase ∷ input.Shot ∷ []))).shots ≡ shot_name 1 ∷ shot_name 2 ∷ []
 unfolding drawn
 shots_named = refl

@@ -5,6 +5,7 @@ pub mod LineRecords
 pub mod QuietGlasses
 pub mod EntryEffects
 pub mod TableWords
+pub mod ShownFrames
 pub mod DrawingLemmas
 pub mod DrawnAsReplayed
 pub mod LineOnGlass

@@ -31,12 +31,11 @@ use Rattle.nit_actor.specs.Turn.{ActorLine, ByClient, ByUser, LineTurn}
 use Rattle.nit_actor.specs.Rounds.{rounds}
 use Rattle.nit_actor.specs.Places.{turn_of}
 use Rattle.nit_actor.specs.TurnActions.{actions_of_turns, actions_of_line, input_lines_of, line_by, lines_of}
-use Rattle.nit_store.specs.Store.{File}
-use Rattle.nit_store.specs.Puts.{PutState, PutsAll}
-use Rattle.nit_actor.specs.RoundsRun.{IsRoundsRun, IsSetUp, glass_after, shot_name}
-use Rattle.nit_actor.specs.Drawing.{Drawing, PutsShots, after_turn, done_after, drawn, entry_of, picture_of, shots_after, tables_after}
-use Rattle.nit_actor.specs.RunState.{AreQuiet, IsDrawn, IsMoved, IsPutting, IsRecorded, IsUnderWay, IsUserRecorded, PutsLine}
-use Rattle.nit_actor.proofs.DrawingLemmas.{done_more, drawn_more, moved_on, none_drawn, puts_drawn}
+use Rattle.nit_actor.specs.RoundsRun.{IsRoundsRun, IsSetUp, glass_after}
+use Rattle.nit_actor.specs.ShotFrames.{ShotFrame, ShowsEach}
+use Rattle.nit_actor.specs.Drawing.{Drawing, after_turn, done_after, drawn, drawn_shot, entry_of, shot_frames_of, shots_after, tables_after}
+use Rattle.nit_actor.specs.RunState.{AreQuiet, IsDrawn, IsMoved, IsRecorded, IsShowing, IsUnderWay, IsUserRecorded, ShowsLine}
+use Rattle.nit_actor.proofs.DrawingLemmas.{done_more, drawn_more, moved_on, none_drawn, shows_drawn}
 use Rattle.nit_actor.proofs.TableWords.{AreOf, tables_told}
 use Rattle.nit_actor.proofs.ShotLemmas.{device_shots, line_shots, shot_counted}
 
@@ -164,11 +163,11 @@ counts_on config scripts front m counts t =
     ap (λ (x : Drawing). x.done t) (drawn_more config scripts front m) ∙ done_more m.doing (drawn config scripts front).done t
     ∙ ap (λ (n : ℕ). n + length (line_by t m.doing)) (counts t) ∙ sym (lines_more t front m)
 
-pub after_client : (scripts : List (List Line)) (lines : List InputLine) (before now now' : SceneModel Sight) (owns owns' : List Sight) (m : LineTurn) (left : List LineTurn) (sid number : ℕ) (own' : Sight) (first last : PutState) (w : IsPutting scripts lines before now owns (m ∷ left) first last)
+pub after_client : {V : Type 0} (Shows : ShotFrame → V → V → Type 0) (scripts : List (List Line)) (lines : List InputLine) (before now now' : SceneModel Sight) (owns owns' : List Sight) (m : LineTurn) (left : List LineTurn) (sid number : ℕ) (own' : Sight) (first last : V) (w : IsShowing Shows scripts lines before now owns (m ∷ left) first last)
     → (move : IsClientsMove scripts w.way.front m sid number) → owns' ≡ set owns sid own' → own' ≡ glass_after sid (script_in scripts sid) (donation_of now.config sid) (number + 1)
     → now'.glasses ≡ set now.glasses sid own' → now'.config ≡ now.config → IsOpen now'.entries
-    → length now'.entries + now'.spare ≡ length now.entries + now.spare → IsRecorded sid move.l now.entries now'.entries → IsMoved (entry_of (state_now now) (ByClient sid move.l)) now now' → IsPutting scripts lines before now' owns' left first last
-after_client scripts lines before now now' owns owns' m left sid number own' first last p move put own glasses config unended spare recorded moved =
+    → length now'.entries + now'.spare ≡ length now.entries + now.spare → IsRecorded sid move.l now.entries now'.entries → IsMoved (entry_of (state_now now) (ByClient sid move.l)) now now' → IsShowing Shows scripts lines before now' owns' left first last
+after_client Shows scripts lines before now now' owns owns' m left sid number own' first last p move put own glasses config unended spare recorded moved =
     record {
       way = record {
         front = w.front ++ m ∷ [];
@@ -185,7 +184,7 @@ after_client scripts lines before now now' owns owns' m left sid number own' fir
         is_drawn = drawn_on before.config scripts w.front m now now' owns' same each done (counts_on before.config scripts w.front m w.counts) w.is_drawn
             (subst (λ (d : ActorLine). IsMoved (entry_of (state_now now) d) now now') (sym move.doing) moved) taken;
       };
-      put = subst (λ (fs : List File). PutsAll fs first last) (sym (ap (λ (d : Drawing). d.shots) (drawn_more before.config scripts w.front m) ∙ no_shot)) p.put;
+      shown = subst (λ (fs : List ShotFrame). ShowsEach Shows fs first last) (sym (ap (λ (d : Drawing). d.shots) (drawn_more before.config scripts w.front m) ∙ no_shot)) p.shown;
     }
   where
     w : IsUnderWay scripts lines before now owns (m ∷ left)
@@ -235,15 +234,15 @@ user_acts input.Phase before after' recorded = ap (map action_of) recorded ∙ s
 
 user_shots : (config : Configuration) (d : Drawing) (l : InputLine) (before after' : List Entry) → IsUserRecorded l before after' → length d.shots ≡ shots before → length (shots_after config (ByUser l) d) ≡ shots after'
 user_shots config d input.Shot before after' recorded taken =
-    length-append d.shots ((shot_name (length d.shots + 1), picture_of config d.state d.word) ∷ []) ∙ ap (λ (n : ℕ). n + 1) taken ∙ sym (shot_counted before after' (shots before + 1) recorded)
+    length-append d.shots (drawn_shot config d ∷ []) ∙ ap (λ (n : ℕ). n + 1) taken ∙ sym (shot_counted before after' (shots before + 1) recorded)
 user_shots config d (input.Device dev) before after' recorded taken = taken ∙ sym (device_shots before after' dev recorded)
 user_shots config d input.Phase before after' recorded taken = taken ∙ sym (ap shots recorded)
 
 -- the same for the user
-pub after_user : (scripts : List (List Line)) (lines : List InputLine) (before now now' : SceneModel Sight) (owns : List Sight) (m : LineTurn) (left : List LineTurn) (l : InputLine) (first old last : PutState) (p : IsPutting scripts lines before now owns (m ∷ left) first old)
+pub after_user : {V : Type 0} (Shows : ShotFrame → V → V → Type 0) (scripts : List (List Line)) (lines : List InputLine) (before now now' : SceneModel Sight) (owns : List Sight) (m : LineTurn) (left : List LineTurn) (l : InputLine) (first old last : V) (p : IsShowing Shows scripts lines before now owns (m ∷ left) first old)
     → m.doing ≡ ByUser l → now'.glasses ≡ now.glasses → now'.config ≡ now.config → IsOpen now'.entries
-    → length now'.entries + now'.spare ≡ length now.entries + now.spare → IsUserRecorded l now.entries now'.entries → IsMoved (entry_of (state_now now) (ByUser l)) now now' → PutsLine l now old last → IsPutting scripts lines before now' owns left first last
-after_user scripts lines before now now' owns m left l first old last p doing glasses config unended spare recorded moved puts =
+    → length now'.entries + now'.spare ≡ length now.entries + now.spare → IsUserRecorded l now.entries now'.entries → IsMoved (entry_of (state_now now) (ByUser l)) now now' → ShowsLine Shows l now old last → IsShowing Shows scripts lines before now' owns left first last
+after_user Shows scripts lines before now now' owns m left l first old last p doing glasses config unended spare recorded moved more =
     record {
       way = record {
         front = w.front ++ m ∷ [];
@@ -260,9 +259,9 @@ after_user scripts lines before now now' owns m left l first old last p doing gl
             (subst (λ (d : ActorLine). IsMoved (entry_of (state_now now) d) now now') (sym doing) moved)
             (ap (λ (d : ActorLine). length (shots_after before.config d (drawn before.config scripts w.front))) doing ∙ user_shots before.config (drawn before.config scripts w.front) l now.entries now'.entries recorded w.is_drawn.taken);
       };
-      put = subst (λ (fs : List File). PutsAll fs first last)
+      shown = subst (λ (fs : List ShotFrame). ShowsEach Shows fs first last)
           (sym (ap (λ (d : Drawing). d.shots) (drawn_more before.config scripts w.front m) ∙ ap (λ (d : ActorLine). shots_after before.config d (drawn before.config scripts w.front)) doing))
-          (puts_drawn before.config (drawn before.config scripts w.front) now l first old last w.config w.is_drawn p.put puts);
+          (shows_drawn Shows before.config (drawn before.config scripts w.front) now l first old last w.config w.is_drawn p.shown more);
     }
   where
     w : IsUnderWay scripts lines before now owns (m ∷ left)
@@ -284,9 +283,9 @@ opening_bare : (config : Configuration) (raw : List ℕ) → AreRaw (first_state
 opening_bare config raw are k on_screen =
     raw_bare (source_at (first_state config) k) (slice_index_or raw k 0) (bare_under (buffer_size (first_state config).sessions) (pixel config.width k) (in_bar (bar_rows config) (pixel config.width k))) (are k on_screen)
 
-pub begun : (scripts : List (List Line)) (lines : List InputLine) (plans : List PlanModel) (before : SceneModel Sight) (owns : List Sight) (left : List LineTurn) (first : PutState) → left ≡ rounds scripts lines
-    → IsSetUp before.config scripts plans before.glasses owns → before.entries ≡ [] → AreRaw (state_now before) before.raw → IsPutting scripts lines before before owns left first first
-begun scripts lines plans before owns left first all set_up none raw =
+pub begun : {V : Type 0} (Shows : ShotFrame → V → V → Type 0) (scripts : List (List Line)) (lines : List InputLine) (plans : List PlanModel) (before : SceneModel Sight) (owns : List Sight) (left : List LineTurn) (first : V) → left ≡ rounds scripts lines
+    → IsSetUp before.config scripts plans before.glasses owns → before.entries ≡ [] → AreRaw (state_now before) before.raw → IsShowing Shows scripts lines before before owns left first first
+begun Shows scripts lines plans before owns left first all set_up none raw =
     record {
       way = record {
         front = [];
@@ -305,7 +304,7 @@ begun scripts lines plans before owns left first all set_up none raw =
           taken = sym (ap shots none);
         });
       };
-      put = subst (λ (fs : List File). PutsAll fs first first) (sym (ap (λ (d : Drawing). d.shots) (none_drawn before.config scripts))) refl;
+      shown = subst (λ (fs : List ShotFrame). ShowsEach Shows fs first first) (sym (ap (λ (d : Drawing). d.shots) (none_drawn before.config scripts))) refl;
     }
   where
     opened : state_now before ≡ first_state before.config
@@ -322,8 +321,8 @@ AllLines = (p : Painting) (script : List Line) (k : ℕ) → length script ≤ k
 pub all_done : (scripts : List (List Line)) (lines : List InputLine) (before now : SceneModel Sight) (owns : List Sight) (left : List LineTurn) → (w : IsUnderWay scripts lines before now owns left) → left ≡ [] → w.front ≡ rounds scripts lines
 all_done scripts lines before now owns left w over = sym (w.parts ∙ ap (λ (ms : List LineTurn). w.front ++ ms) over ∙ append-nil w.front)
 
-pub all_put : (scripts : List (List Line)) (lines : List InputLine) (before now : SceneModel Sight) (owns : List Sight) (left : List LineTurn) (first last : PutState) → IsPutting scripts lines before now owns left first last → left ≡ [] → PutsShots before.config scripts (rounds scripts lines) first last
-all_put scripts lines before now owns left first last p over = subst (λ (ms : List LineTurn). PutsShots before.config scripts ms first last) (all_done scripts lines before now owns left p.way over) p.put
+pub all_shown : {V : Type 0} (Shows : ShotFrame → V → V → Type 0) (scripts : List (List Line)) (lines : List InputLine) (before now : SceneModel Sight) (owns : List Sight) (left : List LineTurn) (first last : V) → IsShowing Shows scripts lines before now owns left first last → left ≡ [] → ShowsEach Shows (shot_frames_of before.config scripts lines) first last
+all_shown Shows scripts lines before now owns left first last p over = subst (λ (ms : List LineTurn). ShowsEach Shows (drawn before.config scripts ms).shots first last) (all_done scripts lines before now owns left p.way over) p.shown
 
 pub ended : EachOnce → AllLines → (scripts : List (List Line)) (lines : List InputLine) (before now : SceneModel Sight) (owns : List Sight) (left : List LineTurn) → IsUnderWay scripts lines before now owns left → left ≡ [] → IsLegal now.config now.entries → IsRoundsRun scripts lines before now owns
 ended once all scripts lines before now owns left w over legal =

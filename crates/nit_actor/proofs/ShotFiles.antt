@@ -18,7 +18,8 @@ use Rattle.nit_actor.specs.Turn.{ActorLine, ByClient, ByUser, LineTurn}
 use Rattle.nit_actor.specs.Rounds.{rounds}
 use Rattle.nit_actor.specs.TurnActions.{AreRoundsOf, actions_of_turns}
 use Rattle.nit_actor.specs.RoundsRun.{shot_name}
-use Rattle.nit_actor.specs.Drawing.{Drawing, after_turn, drawn, opening_drawing, picture_of, shots_after, shots_of}
+use Rattle.nit_actor.specs.ShotFrames.{ShotFrame, shot_file}
+use Rattle.nit_actor.specs.Drawing.{Drawing, after_turn, drawn, drawn_shot, opening_drawing, picture_of, shots_after, shots_of}
 use Rattle.nit_actor.specs.Shots.{ShotsBehind, AreShotsOf, shoots, turns_before, drawn_by_shot, IsDrawnPicture}
 use Rattle.nit_actor.proofs.ShotLemmas.{shots_both}
 use Rattle.nit_actor.proofs.PictureLemmas.{as_many_files, file_of_a_shot}
@@ -82,7 +83,7 @@ plain config (ByUser input.Phase) taken put e p = record { none = p; same = λ d
 -- a shot puts itself, and makes a picture
 record Taken (config : Configuration) (doing : ActorLine) (taken : ℕ) (put : List Entry) : Type 0 where
   itself : put ≡ entry.Shot (taken + 1) ∷ []
-  more : (d : Drawing) → shots_after config doing d ≡ d.shots ++ (shot_name (length d.shots + 1), picture_of config d.state d.word) ∷ []
+  more : (d : Drawing) → shots_after config doing d ≡ d.shots ++ drawn_shot config d ∷ []
 
 taken_by : (config : Configuration) (doing : ActorLine) (taken : ℕ) (put : List Entry) → shoots doing ≡ true → PutBy taken doing put → Taken config doing taken put
 taken_by config (ByClient sid l) taken put e p = absurd cc
@@ -109,9 +110,9 @@ module _ (config : Configuration) (scripts : List (List Line)) (lines : List Inp
 
   -- what the moves that are left draw
   record Rest (left : List LineTurn) (before journal : List Entry) (d : Drawing) : Type 0 where
-    files : List File
-    drawn_too : (fold after' d left).shots ≡ d.shots ++ files
-    are : ShotsBehind IsPicture before journal files
+    frames : List ShotFrame
+    drawn_too : (fold after' d left).shots ≡ d.shots ++ frames
+    are : ShotsBehind IsPicture before journal (map shot_file frames)
 
   state_more : (before put : List Entry) (s s' : State) → s ≡ replay config before → replay_from s put ≡ s' → s' ≡ replay config (before ++ put)
   state_more before put s s' is leads = sym leads ∙ ap (λ (x : State). replay_from x put) is ∙ sym (fold-append after (first_state config) before put)
@@ -130,7 +131,7 @@ module _ (config : Configuration) (scripts : List (List Line)) (lines : List Inp
 
   all_left : (left front : List LineTurn) (taken : ℕ) (before journal : List Entry) (d : Drawing) → rounds scripts lines ≡ front ++ left → Half front taken before d → LegalFrom d.state taken journal → map action_of journal ≡ actions_of_turns left → Rest left before journal d
   all_left [] front taken before journal d parts h legal is =
-      record { files = []; drawn_too = sym (append-nil d.shots); are = subst (λ (es : List Entry). ShotsBehind IsPicture before es []) (sym (none_left journal is)) refl }
+      record { frames = []; drawn_too = sym (append-nil d.shots); are = subst (λ (es : List Entry). ShotsBehind IsPicture before es []) (sym (none_left journal is)) refl }
   all_left (m ∷ left) front taken before journal d parts h legal is =
       let b = behind d.state taken m.doing journal (actions_of_turns left) legal is in
       let next = after' d m in
@@ -145,24 +146,24 @@ module _ (config : Configuration) (scripts : List (List Line)) (lines : List Inp
             (record {
               drawn_is = drawn_more front m d h.drawn_is;
               lines_shot = shots_in_more front m ∙ ap (λ (x : Bool). shots_in front + cond x 1 0) is_shot ∙ ap (λ (n : ℕ). n + 1) h.lines_shot ∙ sym now;
-              pictures = ap length (t.more d) ∙ length_push d.shots (shot_name (length d.shots + 1), picture_of config d.state d.word) ∙ ap (λ (n : ℕ). n + 1) h.pictures ∙ sym now;
+              pictures = ap length (t.more d) ∙ length_push d.shots (drawn_shot config d) ∙ ap (λ (n : ℕ). n + 1) h.pictures ∙ sym now;
               entries_shot = counted;
               state_is = state_more before b.put d.state next.state h.state_is b.leads;
             })
             b.legal b.acts_left in
-            let file : File = (shot_name (length d.shots + 1), picture_of config d.state d.word) in
+            let files : List File = map shot_file more.frames in
             let named : shot_name (length d.shots + 1) ≡ shot_name (taken + 1) = ap (λ (n : ℕ). shot_name (n + 1)) h.pictures in
-            let here : ShotsBehind IsPicture before (entry.Shot (taken + 1) ∷ b.rest) (file ∷ more.files) = (
+            let here : ShotsBehind IsPicture before (entry.Shot (taken + 1) ∷ b.rest) (shot_file (drawn_shot config d) ∷ files) = (
               picture_of config d.state d.word,
-              more.files,
-              ap (λ (n : List ℕ). (n, picture_of config d.state d.word) ∷ more.files) named,
+              files,
+              ap (λ (n : List ℕ). (n, picture_of config d.state d.word) ∷ files) named,
               picture_here front m left taken before d parts is_shot h,
-              subst (λ (es : List Entry). ShotsBehind IsPicture (before ++ es) b.rest more.files) t.itself more.are,
+              subst (λ (es : List Entry). ShotsBehind IsPicture (before ++ es) b.rest files) t.itself more.are,
             ) in
             record {
-              files = file ∷ more.files;
-              drawn_too = more.drawn_too ∙ ap (λ (fs : List File). fs ++ more.files) (t.more d) ∙ append_assoc d.shots (file ∷ []) more.files;
-              are = subst (λ (es : List Entry). ShotsBehind IsPicture before es (file ∷ more.files)) (sym (b.parts ∙ ap (λ (es : List Entry). es ++ b.rest) t.itself)) here;
+              frames = drawn_shot config d ∷ more.frames;
+              drawn_too = more.drawn_too ∙ ap (λ (fs : List ShotFrame). fs ++ more.frames) (t.more d) ∙ append_assoc d.shots (drawn_shot config d ∷ []) more.frames;
+              are = subst (λ (es : List Entry). ShotsBehind IsPicture before es (shot_file (drawn_shot config d) ∷ files)) (sym (b.parts ∙ ap (λ (es : List Entry). es ++ b.rest) t.itself)) here;
             }
         | inr other ↦
             let p = plain config m.doing taken b.put other b.puts in
@@ -177,9 +178,9 @@ module _ (config : Configuration) (scripts : List (List Line)) (lines : List Inp
             })
             b.legal b.acts_left in
             record {
-              files = more.files;
-              drawn_too = more.drawn_too ∙ ap (λ (fs : List File). fs ++ more.files) (p.same d);
-              are = subst (λ (es : List Entry). ShotsBehind IsPicture before es more.files) (sym b.parts) (no_file IsPicture before b.put b.rest more.files p.none more.are);
+              frames = more.frames;
+              drawn_too = more.drawn_too ∙ ap (λ (fs : List ShotFrame). fs ++ more.frames) (p.same d);
+              are = subst (λ (es : List Entry). ShotsBehind IsPicture before es (map shot_file more.frames)) (sym b.parts) (no_file IsPicture before b.put b.rest (map shot_file more.frames) p.none more.are);
             }
       ]
 
@@ -195,7 +196,7 @@ module _ (config : Configuration) (scripts : List (List Line)) (lines : List Inp
   unfolding drawn
   drawn_along journal legal is =
       let r = all_left (rounds scripts lines) [] 0 [] journal (opening_drawing config) refl (record { drawn_is = refl; lines_shot = refl; pictures = refl; entries_shot = refl; state_is = refl }) legal is in
-      subst (λ (fs : List File). ShotsBehind IsPicture [] journal fs) (sym r.drawn_too) r.are
+      subst (λ (fs : List ShotFrame). ShotsBehind IsPicture [] journal (map shot_file fs)) (sym r.drawn_too) r.are
 
   pub shots_drawn : (journal : List Entry) → IsLegal config journal → AreRoundsOf journal scripts lines → AreShotsOf IsPicture (journal ++ entry.Final ∷ []) (shots_of config scripts lines)
   shots_drawn journal legal is = with_final [] journal (shots_of config scripts lines) (drawn_along journal legal is)

@@ -1,6 +1,6 @@
--- What is drawn along the rounds of some scripts: the words of the screen's pixels, and the
--- pictures of the shots. It comes from the configuration and the scripts alone.
-use Rattle.std.specs.Prelude.{ℕ, ◌+◌, ◌==◌, List, [], ◌∷◌, ◌++◌, length, fold, Option, Some, None, if◌then◌else◌}
+-- What is drawn along the rounds of some scripts: the words of the screen's pixels, and the frames
+-- of the shots with their pictures. It comes from the configuration and the scripts alone.
+use Rattle.std.specs.Prelude.{ℕ, ◌+◌, ◌==◌, List, [], ◌∷◌, ◌++◌, length, map, fold, Option, Some, None, if◌then◌else◌}
 use Rattle.nit_word.specs.Channels.{bare_word}
 use Rattle.nit_events.specs.declared.entry.Entry.{Entry}
 use Rattle.nit_events.specs.declared.entry.Entry.TheVariants as entry
@@ -25,16 +25,16 @@ use Rattle.nit_store.specs.Store.{File}
 use Rattle.nit_actor.specs.Turn.{ActorLine, ByClient, ByUser, LineTurn}
 use Rattle.nit_actor.specs.Rounds.{rounds}
 use Rattle.nit_store.specs.Puts.{PutState, PutsAll}
-use Rattle.nit_actor.specs.RoundsRun.{shot_name}
+use Rattle.nit_actor.specs.ShotFrames.{ShotFrame, shot_file}
 
 -- what some moves leave: the state that their entries lead to, how many lines of its script each
--- session's client has done, the word that each pixel holds, by the pixel's number, and the
--- pictures of the shots, in order
+-- session's client has done, the word that each pixel holds, by the pixel's number, and the frames
+-- of the shots, in order
 pub record Drawing : Type 0 where
   pub state : State
   pub done : ℕ → ℕ
   pub word : ℕ → ℕ
-  pub shots : List File
+  pub shots : List ShotFrame
 
 -- before the first move no line is done, each pixel holds the bare word, and no shot is taken
 abbrev pub opening_drawing : Configuration → Drawing
@@ -77,15 +77,25 @@ word_after_entry tables s (Some e) word k =
     if dirty s e (after s e) (pixel s.config.width k)
     then word_from tables (source_at (after s e) k) else word k
 
--- the picture of a state whose pixels hold these words
-abbrev pub picture_of : Configuration → State → (ℕ → ℕ) → List ℕ
-picture_of config s word =
-    picture config.width config.height (frame (scenery_of s) (words_of s word))
+-- the frame of a state whose pixels hold these words
+abbrev pub frame_of : State → (ℕ → ℕ) → List ℕ
+frame_of s word = frame (scenery_of s) (words_of s word)
 
--- a shot makes the picture of what is drawn, and is named by its number, from 1 on
-abbrev pub shots_after : Configuration → ActorLine → Drawing → List File
-shots_after config (ByUser input.Shot) d =
-    d.shots ++ (shot_name (length d.shots + 1), picture_of config d.state d.word) ∷ []
+-- its picture
+abbrev pub picture_of : Configuration → State → (ℕ → ℕ) → List ℕ
+picture_of config s word = picture config.width config.height (frame_of s word)
+
+-- a shot has the frame of what is drawn; the shots are numbered from 1 on
+abbrev pub drawn_shot : Configuration → Drawing → ShotFrame
+drawn_shot config d = record {
+  number = length d.shots + 1;
+  width = config.width;
+  height = config.height;
+  words = frame_of d.state d.word;
+}
+
+abbrev pub shots_after : Configuration → ActorLine → Drawing → List ShotFrame
+shots_after config (ByUser input.Shot) d = d.shots ++ drawn_shot config d ∷ []
 shots_after config other d = d.shots
 
 -- what is drawn after one more move
@@ -106,11 +116,16 @@ after_turn config scripts d m =
 unfoldable pub drawn : Configuration → List (List Line) → List LineTurn → Drawing
 drawn config scripts moves = fold (after_turn config scripts) (opening_drawing config) moves
 
--- the pictures of all shots of a run by rounds: shot-1.ppm and so on
+-- the frames of all shots of a run by rounds
+abbrev pub shot_frames_of : Configuration → List (List Line) → List InputLine → List ShotFrame
+shot_frames_of config scripts lines = (drawn config scripts (rounds scripts lines)).shots
+
+-- their pictures: shot-1.ppm and so on
 abbrev pub shots_of : Configuration → List (List Line) → List InputLine → List File
-shots_of config scripts lines = (drawn config scripts (rounds scripts lines)).shots
+shots_of config scripts lines = map shot_file (shot_frames_of config scripts lines)
 
 -- the pictures of the shots among these moves were put
 abbrev pub PutsShots : Configuration → List (List Line) → List LineTurn → PutState → PutState
     → Type 0
-PutsShots config scripts moves old new = PutsAll (drawn config scripts moves).shots old new
+PutsShots config scripts moves old new =
+    PutsAll (map shot_file (drawn config scripts moves).shots) old new

@@ -14,6 +14,7 @@ pub mod Rounds
 pub mod TurnActions
 pub mod Places
 pub mod RoundsRun
+pub mod ShotFrames
 pub mod Drawing
 pub mod Shots
 pub mod RunState

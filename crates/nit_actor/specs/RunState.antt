@@ -24,14 +24,12 @@ use Rattle.nit_overlay.specs.Frame.{frame}
 use Rattle.nit_scene.specs.DirtyPixels.{dirty}
 use Rattle.nit_scene.specs.RawWords.{glass_in, pixel_count, source_at}
 use Rattle.nit_scene.specs.Scene.{SceneModel, scenery_of, state_now}
-use Rattle.nit_report.specs.Picture.{picture}
 use Rattle.nit_actor.specs.Turn.{LineTurn}
 use Rattle.nit_actor.specs.Rounds.{rounds}
 use Rattle.nit_actor.specs.TurnActions.{actions_of_turns, lines_of}
-use Rattle.nit_store.specs.Store.{File}
-use Rattle.nit_store.specs.Puts.{PutState, PutsNext}
-use Rattle.nit_actor.specs.RoundsRun.{glass_after, shot_name}
-use Rattle.nit_actor.specs.Drawing.{Drawing, PutsShots, drawn, state_after}
+use Rattle.nit_actor.specs.RoundsRun.{glass_after}
+use Rattle.nit_actor.specs.ShotFrames.{ShotFrame, ShowsEach}
+use Rattle.nit_actor.specs.Drawing.{Drawing, drawn, state_after}
 
 -- no glass tells a log
 abbrev pub AreQuiet : List Sight → Type 0
@@ -88,21 +86,23 @@ pub record IsMoved (e : Option Entry) (s s' : SceneModel Sight) : Type 0 where
   pub state : state_now s' ≡ state_after (state_now s) e
   pub words : AreLoaded (state_now s) e (glass_in s'.glasses) s.raw s'.raw
 
--- the file of a picture of what the scene shows now, by the number of the next shot
-abbrev pub next_shot : SceneModel Sight → File
-next_shot s = (
-  shot_name (shots s.entries + 1),
-  picture s.config.width s.config.height (frame (scenery_of (state_now s)) s.raw),
-)
+-- the frame of what the scene shows now, by the number of the next shot
+abbrev pub next_shot : SceneModel Sight → ShotFrame
+next_shot s = record {
+  number = shots s.entries + 1;
+  width = s.config.width;
+  height = s.config.height;
+  words = frame (scenery_of (state_now s)) s.raw;
+}
 
--- the user's line puts the picture of the scene where it is a shot, unless a put was refused
--- before, and else nothing
-abbrev pub PutsLine : InputLine → SceneModel Sight → PutState → PutState → Type 0
-PutsLine input.Shot s old new = PutsNext (next_shot s) old new
-PutsLine other s old new = new ≡ old
+-- the user's line shows the frame of the scene where it is a shot, and else nothing
+abbrev pub ShowsLine : {V : Type 0} → (ShotFrame → V → V → Type 0) → InputLine → SceneModel Sight
+    → V → V → Type 0
+ShowsLine Shows input.Shot s old new = Shows (next_shot s) old new
+ShowsLine Shows other s old new = new ≡ old
 
 -- the scene is in the state that is drawn, its pixels hold the drawn words, and its journal has a
--- shot for each picture
+-- shot for each frame
 pub record IsDrawn (d : Drawing) (s : SceneModel Sight) : Type 0 where
   pub state : state_now s ≡ d.state
   pub words : (k : ℕ) → k < pixel_count d.state → slice_index_or s.raw k 0 ≡ d.word k
@@ -126,9 +126,10 @@ pub record IsUnderWay (scripts : List (List Line)) (lines : List InputLine)
   pub counts : (t : ℕ) → (drawn before.config scripts front).done t ≡ length (lines_of t front)
   pub is_drawn : IsDrawn (drawn before.config scripts front) now
 
--- the same, and the pictures of the shots among the moves that are done were put
-pub record IsPutting (scripts : List (List Line)) (lines : List InputLine)
+-- the same, and the frames of the shots among the moves that are done were shown
+pub record IsShowing {V : Type 0} (Shows : ShotFrame → V → V → Type 0)
+    (scripts : List (List Line)) (lines : List InputLine)
     (before now : SceneModel Sight) (owns : List Sight) (left : List LineTurn)
-    (first last : PutState) : Type 0 where
+    (first last : V) : Type 0 where
   pub way : IsUnderWay scripts lines before now owns left
-  pub put : PutsShots before.config scripts way.front first last
+  pub shown : ShowsEach Shows (drawn before.config scripts way.front).shots first last

@@ -15,8 +15,9 @@
 //! each line of every script stands in them once, an actor that does a line has done exactly those
 //! before it, and a journal with the entries of the rounds is whole.
 //!
-//! [`run_rounds`] does all of them on a scene, and puts the pictures of the shots by a [`Desk`].
-//! What a shot shows is drawn from the configuration and the scripts alone, line by line.
+//! [`run_viewed`] does all of them on a scene, and shows the frames of the shots to a [`Viewer`].
+//! [`run_rounds`] does the same with a [`Desk`], which puts the pictures of these frames. What a shot
+//! shows is drawn from the configuration and the scripts alone, line by line.
 //!
 //! # On threads
 //!
@@ -56,6 +57,7 @@ mod stale;
 mod turn;
 mod turns;
 mod user;
+mod viewer;
 
 pub use actor::run_actor;
 pub use beside::{Mine, run_beside};
@@ -65,7 +67,8 @@ pub use clip_mine::run_mine_clips;
 pub use desk::Desk;
 pub use gate::{Gate, Open};
 pub use mine::run_mine;
-pub use running::run_rounds;
+pub use running::{run_rounds, run_viewed};
 pub use single::run_alone;
 pub use turn::Turn;
 pub use turns::Turns;
+pub use viewer::Viewer;

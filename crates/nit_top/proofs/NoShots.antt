@@ -1,5 +1,5 @@
 -- The pictures of a run whose user takes no shot.
-use Rattle.std.proofs.Common.{◌≡◌, ℕ, zero, suc, List, [], ◌∷◌, ◌++◌, replicate, refl, ap, ◌∙◌}
+use Rattle.std.proofs.Common.{◌≡◌, ℕ, zero, suc, List, [], ◌∷◌, ◌++◌, map, replicate, refl, ap, ◌∙◌}
 use Rattle.std.specs.Prelude.{count_by, fold}
 use Rattle.nit_events.specs.declared.entry.Entry.{Entry}
 use Rattle.nit_events.specs.declared.entry.Entry.TheVariants as entry
@@ -15,6 +15,7 @@ use Rattle.nit_store.specs.Store.{File}
 use Rattle.nit_actor.specs.Turn.{ActorLine, ByClient, ByUser, LineTurn}
 use Rattle.nit_actor.specs.Rounds.{rounds}
 use Rattle.nit_actor.specs.TurnActions.{input_by_user, input_lines_of}
+use Rattle.nit_actor.specs.ShotFrames.{shot_file}
 use Rattle.nit_actor.specs.Drawing.{Drawing, after_turn, drawn, opening_drawing, shots_after}
 use Rattle.nit_top.specs.Setup.{still_setup}
 use Rattle.nit_top.specs.Outputs.{IsJournal, AreOutputs, final_name, final_picture}
@@ -68,7 +69,7 @@ pub one_file : UserOnce → (width height : ℕ) (lines : List Line) (journal : 
 one_file once width height lines journal files j are =
     let s = still_setup width height lines in
     are.2 ∙ ap (λ (fs : List File). fs ++ (final_name, final_picture s journal) ∷ [])
-    (are.1.by_rounds refl ∙ no_picture s.config s.scripts (rounds s.scripts s.input) (count_by is_phase lines) (once s.scripts s.input))
+    (are.1.by_rounds refl ∙ ap (map shot_file) (no_picture s.config s.scripts (rounds s.scripts s.input) (count_by is_phase lines) (once s.scripts s.input)))
 
 pub no_shot : (width height : ℕ) (lines : List Line) (journal : List Entry) → IsJournal (still_setup width height lines) journal → shots journal ≡ 0
 no_shot width height lines journal j = no_shots journal (nothing_done width height lines journal j)

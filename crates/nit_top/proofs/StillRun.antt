@@ -19,6 +19,7 @@ use Rattle.nit_hall.specs.OpeningParts.{OpeningParts}
 use Rattle.nit_hall.specs.Pass.{PassModel, UserPassModel, Belongs}
 use Rattle.nit_hall.specs.Room.{RoomModel}
 use Rattle.nit_actor.specs.TurnActions.{AreRoundsOf}
+use Rattle.nit_actor.specs.ShotFrames.{shot_file}
 use Rattle.nit_actor.specs.Drawing.{drawn}
 use Rattle.nit_actor.specs.IdleUser.{StepTogether, idle_user}
 use Rattle.nit_actor.specs.Rounds.{rounds}
@@ -103,7 +104,7 @@ alone_leaves one_client idle once config scripts lines first new text journal ra
       journal = subst (λ (es : List Entry). IsJournal s es) (sym is) (record { legal = legal; whole = whole; rounds = λ together. by_rounds });
       frames = frames ∙ ap (λ (es : List Entry). shots es + 1) (sym is);
       outputs = outputs;
-      are = subst (λ (es : List Entry). AreOutputs s es outputs) (sym is) ([], record { by_rounds = λ together. sym no_shots; beside = λ together. absurd (false_true together) }, refl);
+      are = subst (λ (es : List Entry). AreOutputs s es outputs) (sym is) ([], record { by_rounds = λ together. sym (ap (map shot_file) no_shots); beside = λ together. absurd (false_true together) }, refl);
       puts = (put_state_of_run new ran.fault, subst (λ (b : List ℕ). PutsNext (final_name, b) (unrefused first) (put_state_of_run new ran.fault)) bytes puts, refl);
     }
   where
