@@ -28,5 +28,6 @@ pub mod MachinesFit
 pub mod JournalsFit
 pub mod FilmPictures
 pub mod FilmFiles
+pub mod BeforeRun
 pub mod CaptureEnds
 pub mod AuditEnds
