@@ -1,5 +1,5 @@
 -- How an audit comes to its end: as a run of its configuration does before it is begun, or at the journal.
-use Rattle.std.proofs.Common.{◌≡◌, ℕ, false, List, [], ◌∷◌, ◌++◌, Option, Some, None, refl, sym, ap, subst, ◌∙◌, inl, inr}
+use Rattle.std.proofs.Common.{◌≡◌, ℕ, false, List, [], Option, Some, None, refl, sym, ap, subst, ◌∙◌, inl, inr}
 use Rattle.std.specs.Prelude.{IfSome}
 use Rattle.nit_events.specs.declared.entry.Entry.{Entry}
 use Rattle.nit_store.specs.Store.{StoreModel, File, bytes_of, with_asked}
@@ -9,19 +9,18 @@ use Rattle.nit_top.specs.declared.finish.Fault.{Fault}
 use Rattle.nit_top.specs.declared.finish.Fault.TheVariants as fault
 use Rattle.nit_top.specs.declared.finish.Stop.{Stop}
 use Rattle.nit_top.specs.declared.finish.Worked.{Worked}
-use Rattle.nit_top.specs.Command.{Command, Audit, NoCommand, Run}
+use Rattle.nit_top.specs.Command.{Command, Audit, Run}
 use Rattle.nit_top.specs.Setup.{Setup}
 use Rattle.nit_top.specs.JournalFiles.{IsJournalText, IsNoJournalText, IsJournalFault}
 use Rattle.nit_top.specs.Judgement.{AreSetup, IsValid, Judged, Refused, reads}
 use Rattle.nit_top.specs.FilesRead.{FilesRead, NoFile, FirstFiles, AllScripts, AllFiles, HasRead, AreAllFiles, AreAllScripts, names_read, next_name}
 use Rattle.nit_top.specs.ProgramLines.{name_text}
-use Rattle.nit_top.specs.Course.{asked_also, Course, Begun, NotBegun, IsNotBegun, IsLastRead, IsMadeBefore, IsMadeInPart, IsMadeUpTo}
+use Rattle.nit_top.specs.Course.{NotBegun}
 use Rattle.nit_top.specs.Audited.{IsAuditEnd}
-use Rattle.nit_top.specs.Answer.{Came}
-use Rattle.nit_top.specs.Work.{Ends, StoppedAt, asking_all, line_on}
+use Rattle.nit_top.specs.Work.{Ends, StoppedAt, asking_all}
 use Rattle.nit_top.proofs.AskedNames.{asking_more}
 use Rattle.nit_top.proofs.Scripts.{told_so, told_so_both}
-use Rattle.nit_top.proofs.CaptureEnds.{never_empty}
+use Rattle.nit_top.proofs.BeforeRun.{ReadsAs, ends_as}
 use Rattle.nit_top.proofs.WorkLemmas.{CameTo, stopped_ends, totals_on, ends_by}
 
 module _ (name journal : List ℕ) where
@@ -66,78 +65,19 @@ module _ (name journal : List ℕ) where
 
   -- ---- before the journal
 
-  module _ (old : StoreModel) (files : Option (List File)) (asked : Option (List (List ℕ))) (entries : List Entry) (empty : entries ≡ []) where
-    abbrev from : Course old run entries
-    from = NotBegun empty
-
-    abbrev to : Course old audit entries
-    to = NotBegun empty
-
-    asked_too : (r : FilesRead) → HasRead run old.files r → (more : List (List ℕ)) → asked ≡ asked_also old.asked (names_read run r ++ more) → asked ≡ asked_also old.asked (names_read audit (as_read r) ++ more)
-    asked_too r h more e = e ∙ ap (λ (ns : List (List ℕ)). asked_also old.asked (ns ++ more)) (names_too old.files r h)
-
-    last_too : (n : List ℕ) → IsLastRead from files asked n → IsLastRead to files asked n
-    last_too n l = record {
-      none = tt;
-      same = l.same;
-      read = as_read l.read;
-      valid = read_too old.files l.read l.valid;
-      next = next_too l.read n l.next;
-      asks = asked_too l.read l.valid (n ∷ []) l.asks;
-    }
-
-    not_begun_too : IsNotBegun from files asked → IsNotBegun to files asked
-    not_begun_too b = record {
-      none = tt;
-      same = b.same;
-      read = as_read b.read;
-      valid = read_too old.files b.read b.valid;
-      asks = elim b.asks [
-        | inl e ↦ inl (e ∙ ap (λ (ns : List (List ℕ)). asked_also old.asked ns) (names_too old.files b.read b.valid))
-        | inr (n, next, e) ↦ inr (n, next_too b.read n next, asked_too b.read b.valid (n ∷ []) e)
-      ];
-    }
-
-    up_to_too : (last : List File) (more : List (List ℕ)) → IsMadeUpTo from files asked last more → IsMadeUpTo to files asked last more
-    up_to_too last more m = record { none = tt; front = m.front; parts = m.parts; put = m.put; asks = m.asks }
-
-    before_too : (n : List ℕ) → IsMadeBefore from files asked n → IsMadeBefore to files asked n
-    before_too n (bytes, behind, m) = (bytes, behind, up_to_too ((n, bytes) ∷ behind) (n ∷ []) m)
-
-    in_part_too : IsMadeInPart from files asked → IsMadeInPart to files asked
-    in_part_too (inl (n, m)) = inl (n, before_too n m)
-    in_part_too (inr (last, m)) = inr (last, up_to_too last [] m)
-
-    no_command : run ≡ NoCommand → ⊥
-    no_command e = cc
-
-    came_too : (end : End) (line : List ℕ) → Came from files asked end line → Came to files asked end line
-    came_too ends.Usage line h = absurd (no_command h.0)
-    came_too ends.ReadFault line (n, l, is) = (n, last_too n l, is)
-    came_too (ends.Refused f) line (n, l, judged, is) = (n, last_too n l, told_so (λ told. Judged run told (Refused n f)) (λ told. Judged audit told (Refused n f)) old.files (λ told p. inl p) judged, is)
-    came_too ends.WriteFault line (n, inl m, is) = (n, inl (before_too n m), is)
-    came_too ends.WriteFault line (n, inr r, is) = absurd r
-    came_too ends.NoMemory line (inl b, is) = (inl (not_begun_too b), is)
-    came_too ends.NoMemory line (inr (inl m), is) = (inr (inl (in_part_too m)), is)
-    came_too ends.NoMemory line (inr (inr r), is) = absurd r
-    came_too ends.Outside line (o, is) = absurd (let e = o.outside in cc)
-    came_too ends.Whole line h = absurd h
-    came_too (ends.Audited n) line h = absurd h.0.audit
-
-  -- how far an audit came
-  record CameSo (old : StoreModel) (files : Option (List File)) (asked : Option (List (List ℕ))) (entries : List Entry) (end : End) (line : List ℕ) : Type 0 where
-    course : Course old audit entries
-    came : Came course files asked end line
-
-  by_course : (old : StoreModel) (files : Option (List File)) (asked : Option (List (List ℕ))) (entries : List Entry) (end : End) (line : List ℕ) → entries ≡ [] → (course : Course old run entries) → Came course files asked end line → CameSo old files asked entries end line
-  by_course old files asked entries end line none (Begun r) came = absurd (never_empty r.setup entries r.headline.one_journal none)
-  by_course old files asked entries end line none (NotBegun empty) came = record { course = NotBegun empty; came = came_too old files asked entries empty end line came }
+  reads_as : ReadsAs run audit
+  reads_as = record {
+    as_read = as_read;
+    valid = read_too;
+    names = names_too;
+    next = next_too;
+    refused = λ files n f p. inl p;
+    makes_none = refl;
+  }
 
   -- the work ended before the journal was read
   pub ends_before : (old new : StoreModel) (w : Worked) → w.journal.items ≡ [] → Ends run old new w → Ends audit old new w
-  ends_before old new w none e =
-      let so = by_course old new.files new.asked w.journal.items w.stop.end (line_on w) none e.course e.came in
-      record { course = so.course; came = so.came; counts = e.counts; said = e.said }
+  ends_before = ends_as false name audit reads_as
 
   -- ---- at the journal
 

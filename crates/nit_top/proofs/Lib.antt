@@ -28,5 +28,7 @@ pub mod MachinesFit
 pub mod JournalsFit
 pub mod FilmPictures
 pub mod FilmFiles
+pub mod RegionFilms
+pub mod BeforeRun
 pub mod CaptureEnds
 pub mod AuditEnds

@@ -26,6 +26,7 @@ pub use Rattle.nit_hall.specs.NearWords
 pub use Rattle.nit_audit.specs.GoodEntries
 pub use Rattle.nit_audit.specs.Verdict
 pub use Rattle.nit_journal.specs.Projection
+pub use Rattle.nit_capture.specs.Tiles
 pub use Rattle.nit_capture.specs.Film
 pub use Rattle.nit_capture.specs.Crop
 pub mod Region
@@ -36,6 +37,7 @@ pub mod JournalFiles
 pub mod Judgement
 pub mod Outputs
 pub mod RunFilm
+pub mod RegionPictures
 pub mod FilmStore
 pub mod RoundsOpening
 pub mod RoomRun

@@ -12,6 +12,8 @@ mod bad_config_tests;
 #[cfg(test)]
 mod bench;
 #[cfg(test)]
+mod capture_tests;
+#[cfg(test)]
 mod desk_tests;
 #[cfg(test)]
 mod entries;
