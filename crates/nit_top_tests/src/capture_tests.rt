@@ -1,6 +1,8 @@
 //! Films of the run of two clients.
 
-use crate::bench::{assert_asked, assert_bytes, assert_names, assert_said, command, files, store};
+use crate::bench::{
+    assert_asked, assert_bytes, assert_names, assert_refused, assert_said, command, files, store,
+};
 use crate::two_tests::{FILES, SUMMARY};
 use nit_store::MemoryStore;
 use nit_top::Done;
@@ -40,6 +42,12 @@ const RIGHT: [u8; 21] = [
     0,
 ];
 
+/// The first names.
+fn front(count: usize) -> &'static [&'static str] {
+    let (names, _) = FILMED.split_at(count.min(FILMED.len()));
+    names
+}
+
 /// The capture of a region over a store of which the calls with these numbers fail.
 fn captured<R: Abort + Threads + Wait + Sync>(
     rt: &R,
@@ -76,5 +84,53 @@ fn assert_film<R: Abort + Threads + Wait + Sync>(
 fn films_of_two_clients(rt: HostRuntime) -> Result<(), Fail> {
     assert_film(&rt, rt.alloc(), &["0", "0", "4", "2"], &LEFT)?;
     assert_film(&rt, rt.alloc(), &["4", "0", "4", "2"], &RIGHT)?;
+    Ok(())
+}
+
+/// A region that ends a column too far to the right is refused, and nothing is put.
+#[test]
+fn a_region_outside(rt: HostRuntime) -> Result<(), Fail> {
+    let (done, store) = captured(&rt, rt.alloc(), &["5", "0", "4", "2"], &[])?;
+    let line = "nitpicker: capture outside\n";
+    assert_refused(&rt, &done, &store, 10, line, front(4));
+    assert_names(&rt, &store, front(4));
+    Ok(())
+}
+
+/// A put of a capture is refused: what is said, how many files are there, and how many were asked
+/// for.
+fn assert_unput<R: Abort + Threads + Wait + Sync>(
+    rt: &R,
+    alloc: Global,
+    number: u64,
+    line: &str,
+    counts: (usize, usize),
+) -> Result<(), AllocError> {
+    let (done, store) = captured(rt, alloc, &["0", "0", "4", "2"], &[number])?;
+    assert_said(rt, &store, line);
+    assert_eq!(rt; done.status, 4, "at {line:?}");
+    assert_names(rt, &store, front(counts.0));
+    assert_asked(rt, &store, front(counts.1));
+    Ok(())
+}
+
+/// No film is put behind a put that was refused. Where its own is refused, all else is there.
+#[test]
+fn refused_puts_of_a_capture(rt: HostRuntime) -> Result<(), Fail> {
+    let alloc = rt.alloc();
+    assert_unput(
+        &rt,
+        alloc,
+        5,
+        "nitpicker: shot-1.ppm: write fault\n",
+        (4, 5),
+    )?;
+    assert_unput(
+        &rt,
+        alloc,
+        10,
+        "nitpicker: capture.ncap: write fault\n",
+        (9, 10),
+    )?;
     Ok(())
 }
