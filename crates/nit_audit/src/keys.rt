@@ -169,7 +169,7 @@ pub(crate) fn take_out_empty(records: &Slab<View>, keys: &mut Vec<usize>)
     keys.retain(|key| records.get(*key).is_some());
 }
 
-/// Puts a key in at a place. Nothing changes where there is no memory.
+/// Puts a key in at a place.
 pub(crate) fn put_in(keys: &mut Vec<usize>, place: usize, key: usize) -> Result<(), NoMemory>
     requires { place ≤ vec_len keys.old }
     ensures put { OnOk result (keys.new.items ≡ insert keys.old.items place key) }
