@@ -18,6 +18,7 @@ use Rattle.nit_journal.specs.WholeJournals.{UserAction}
 use Rattle.nit_audit.specs.Underway.{Audited, IsGoodFrom, MayFollow, followed}
 use Rattle.nit_audit.specs.declared.auditing.Verdict.{Verdict}
 use Rattle.nit_audit.specs.Verdict.{IsVerdictFrom}
+use Rattle.nit_rect.specs.Limits.{most_sessions}
 
 -- the machines, the views front first, where the input goes, how many shots were taken, and how
 -- many entries there were
@@ -37,9 +38,10 @@ state_of_replay config r =
 -- numbers are no higher than so many entries can make them.
 pub record IsReplay (config : Configuration) (r : ReplayModel) : Type 0 where
   pub screen : (r.focus.width ≡ config.width) × (r.focus.height ≡ config.height)
-  pub clicks : (t : ℕ) → t < 16 → slice_index_or r.focus.clicks t false ≡ (member config t).clicks
+  pub clicks : (t : ℕ) → t < most_sessions
+      → slice_index_or r.focus.clicks t false ≡ (member config t).clicks
   pub each : length r.sessions ≡ length config.clients
-  pub few : length config.clients ≤ 16
+  pub few : length config.clients ≤ most_sessions
   pub next : (t : ℕ) → (session_in r.sessions t).next ≤ r.count + 1
   pub lost : (t : ℕ) → (session_in r.sessions t).lost ≤ 3 * r.count
   pub shots : r.shots ≤ r.count

@@ -9,6 +9,7 @@ use Rattle.nit_audit.specs.declared.keys.Change.{Change}
 use Rattle.nit_audit.specs.declared.keys.Change.TheVariants as change
 use Rattle.nit_audit.specs.declared.keys.Which.{Which}
 use Rattle.nit_audit.specs.declared.keys.Which.TheVariants as which
+use Rattle.nit_rect.specs.Limits.{most_sessions}
 
 -- the record that was found; one of no session's view where there is none
 abbrev pub view_or : Option View → View
@@ -25,7 +26,7 @@ views_at records keys = map (view_under records) keys
 
 -- the key has a record, of one of 16 sessions
 abbrev pub HasView : Slab View → ℕ → Type 0
-HasView records key = IsSomeAnd (get records key) (λ v. v.sid < 16)
+HasView records key = IsSomeAnd (get records key) (λ v. v.sid < most_sessions)
 
 abbrev pub AllHaveViews : Slab View → List ℕ → Type 0
 AllHaveViews records keys = AllByRecursion (HasView records) keys

@@ -1,8 +1,8 @@
 //! The audit.
 
-ghost use Rattle.std.specs.Prelude.{◌≡◌, ◌≢◌, ℕ, ◌^◌, ◌<◌, ◌≤◌, ◌↔◌, ◌⊎◌, ◌+◌, [], length, map, slice_set, IsTrue, IfOk, Ok};
+ghost use Rattle.std.specs.Prelude.{◌≡◌, ◌≢◌, ℕ, ◌<◌, ◌≤◌, ◌↔◌, ◌⊎◌, ◌+◌, [], length, map, slice_set, IsTrue, IfOk, Ok};
 ghost use Rattle.nit_events.specs.declared.entry.Entry.TheVariants as entry;
-ghost use Rattle.nit_events.specs.Ranges.{IsDevice};
+ghost use Rattle.nit_events.specs.Ranges.{IsDevice, most_read};
 ghost use Rattle.nit_config.specs.Configuration.{donation_of};
 ghost use Rattle.nit_config.specs.ConfigurationRanges.{IsConfiguration};
 ghost use Rattle.nit_journal.specs.Replay.{IsLegal};
@@ -46,7 +46,7 @@ pub fn audit(
 ) -> Result<Verdict, NoMemory>
     requires configured { IsConfiguration config.now }
     requires scripts { length scripts.now ≡ length config.now.clients }
-    requires few { length entries.now ≤ 2 ^ 27 }
+    requires few { length entries.now ≤ most_read }
 
     // The verdict is the one on these entries.
     ensures verdict { IfOk result
@@ -77,7 +77,7 @@ fn judged(
 ) -> Result<Verdict, NoMemory>
     requires configured { IsConfiguration config.now }
     requires scripts { length scripts.now ≡ length config.now.clients }
-    requires few { length entries.now ≤ 2 ^ 27 }
+    requires few { length entries.now ≤ most_read }
     ensures { IfOk result (IsVerdict (IsGood config.now scripts.now input.now) entries.now) }
 {
     let mut underway = Underway::new(alloc, config, scripts, input)?;
@@ -147,7 +147,7 @@ impl<'a> Underway<'a> {
     /// on.
     fn follow(&mut self, config: &Config, e: &Entry) -> Result<bool, NoMemory>
         requires kept { IsReplay config.now self.old.replay }
-        requires few { self.old.replay.count < 2 ^ 27 }
+        requires few { self.old.replay.count < most_read }
         requires open { e.now ≢ entry.Final }
         ensures { IfOk result (IsFollowing config.now e.now self.old self.new) }
     {
@@ -168,7 +168,7 @@ impl<'a> Underway<'a> {
         reply: &Reply,
     ) -> Result<bool, NoMemory>
         requires kept { IsReplay config.now self.old.replay }
-        requires few { self.old.replay.count < 2 ^ 27 }
+        requires few { self.old.replay.count < most_read }
         ensures { IfOk result
             (IsFollowing config.now (entry.Call sid call.now reply.now) self.old self.new) }
     {
@@ -181,7 +181,7 @@ impl<'a> Underway<'a> {
     /// A device event, with its deliveries.
     fn input(&mut self, config: &Config, dev: Device, routed: &Routed) -> bool
         requires kept { IsReplay config.now self.old.replay }
-        requires few { self.old.replay.count < 2 ^ 27 }
+        requires few { self.old.replay.count < most_read }
         ensures { IsFollowing config.now (entry.Input dev routed.now) self.old self.new result }
     {
         if !self.act(dev) {
@@ -193,7 +193,7 @@ impl<'a> Underway<'a> {
     /// A shot, with its number.
     fn shot(&mut self, config: &Config, number: u32) -> bool
         requires kept { IsReplay config.now self.old.replay }
-        requires few { self.old.replay.count < 2 ^ 27 }
+        requires few { self.old.replay.count < most_read }
         ensures { IsFollowing config.now (entry.Shot number) self.old self.new result }
     {
         if !self.shoot() {
@@ -249,7 +249,7 @@ impl<'a> Underway<'a> {
 
     /// The verdict at the last picture, which stands at place `i`.
     fn ended(&self, entries: &[Entry], i: usize) -> Verdict
-        requires few { length entries.now ≤ 2 ^ 27 }
+        requires few { length entries.now ≤ most_read }
         requires place { i < length entries.now }
         ensures { let Nothing = IsNothingLeft self.now.clients self.now.user in
             ((Nothing → ⊥) × (result ≡ Verdict.No (i + 1)))

@@ -4,6 +4,7 @@ ghost use Rattle.std.specs.Prelude.{◌≡◌, ◌↔◌, ◌+◌, ◌≤◌, []
 ghost use Rattle.nit_journal.specs.WholeJournals.{left, next_phase};
 ghost use Rattle.nit_plan.specs.Calls.{calls_from, calls_to_make};
 ghost use Rattle.nit_audit.specs.Underway.{BeginsWithCall, IsNext};
+ghost use Rattle.nit_script.specs.Grammar.{most_lines};
 
 use crate::same::same_call;
 use nit_events::Call;
@@ -22,12 +23,13 @@ impl<'a> Model for ClientCourse<'a> {
     ghost use Rattle.std.specs.Prelude.{ℕ, ◌+◌, ◌≤◌, List, length};
     ghost use Rattle.nit_events.specs.declared.call.Call.{Call};
     ghost use Rattle.nit_plan.specs.Calls.{calls_from};
+    ghost use Rattle.nit_script.specs.Grammar.{most_lines};
 
     ghost Value = { List (ℕ × Call) };
 
     ghost view = { λ c. calls_from c.phase c.lines.now };
 
-    ghost invariant = { λ c. c.phase + length c.lines.now ≤ 65536 };
+    ghost invariant = { λ c. c.phase + length c.lines.now ≤ most_lines };
 }
 
 impl<'a> ClientCourse<'a> {
@@ -73,10 +75,10 @@ impl<'a> ClientCourse<'a> {
 /// The lines from the next call on, and the phase that it is in. Strokes and ends of phases before
 /// it are passed by.
 fn next_call(lines: &[Line], phase: u32) -> (u32, &[Line])
-    requires { phase + length lines.now ≤ 65536 }
+    requires { phase + length lines.now ≤ most_lines }
     ensures calls { calls_from result.0 result.1.now ≡ calls_from phase lines.now }
     ensures begins { BeginsWithCall result.1.now }
-    ensures few { result.0 + length result.1.now ≤ 65536 }
+    ensures few { result.0 + length result.1.now ≤ most_lines }
 {
     let mut rest = lines;
     let mut at = phase;

@@ -11,12 +11,9 @@ use nit_journal::refusing::{
     by_buffer, by_offset, by_rectangle, by_status, by_title, by_upgrade, by_view, first_of,
 };
 use nit_rect::NoMemory;
-use nit_slots::Account;
+use nit_slots::{Account, MOST_VIEWS};
 use std::alloc::Global;
 use std::marker::Model;
-
-/// The most views that a session may have.
-const MOST_VIEWS: usize = 64;
 
 /// A session, seen as the machine of one.
 #[derive(Drop)]
@@ -35,6 +32,7 @@ impl Model for Machine {
     ghost use Rattle.std.specs.Prelude.{◌≤◌, vec_capacity};
     ghost use Rattle.nit_plan.specs.Machine.{IsMachine};
     ghost use Rattle.nit_journal.specs.Session.{Session};
+    ghost use Rattle.nit_slots.specs.Account.{most_views};
 
     ghost Value = { Session };
 
@@ -52,7 +50,7 @@ impl Model for Machine {
 
     ghost invariant = { λ m. record {
       kept : IsMachine m.account m.w m.h m.next m.handles.items;
-      space : 64 ≤ vec_capacity m.handles;
+      space : most_views ≤ vec_capacity m.handles;
     } };
 }
 
@@ -69,7 +67,7 @@ impl Machine {
             w: 0,
             h: 0,
             next: 1,
-            handles: Vec::with_capacity(alloc, MOST_VIEWS)?,
+            handles: Vec::with_capacity(alloc, MOST_VIEWS as usize)?,
             queue: Queue::new(alloc)?,
             lost: 0,
         })

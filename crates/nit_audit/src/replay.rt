@@ -1,9 +1,9 @@
 //! A run, done again entry by entry.
 
-ghost use Rattle.std.specs.Prelude.{◌≡◌, ◌+◌, ◌^◌, ◌<◌, ◌≤◌, true, false, All, length, map, IfOk, OnOk, slice_index_or, slice_set, None, IsTrue, ◌↔◌, ℕ, ◌∷◌, [], ◌-◌};
+ghost use Rattle.std.specs.Prelude.{◌≡◌, ◌+◌, ◌<◌, ◌≤◌, true, false, All, length, map, IfOk, OnOk, slice_index_or, slice_set, None, IsTrue, ◌↔◌, ℕ, ◌∷◌, [], ◌-◌, ◌^◌};
 ghost use Rattle.nit_events.specs.declared.entry.Entry.TheVariants as entry;
 ghost use Rattle.nit_events.specs.Input.{deliveries_of, delivery, first_input, routed_as};
-ghost use Rattle.nit_events.specs.Ranges.{IsDevice};
+ghost use Rattle.nit_events.specs.Ranges.{IsDevice, most_read};
 ghost use Rattle.nit_rect.specs.Rectangle.{is_rectangle, rectangle};
 ghost use Rattle.nit_glyph.specs.Texts.{is_title};
 ghost use Rattle.nit_stack.specs.declared.view.View.{View};
@@ -15,6 +15,7 @@ ghost use Rattle.nit_journal.specs.Session.{accepted, first_session, refusal};
 ghost use Rattle.nit_journal.specs.State.{delivered, layer, first_state, session_in};
 ghost use Rattle.nit_journal.specs.StackAfter.{after_accepted, after_deliveries};
 ghost use Rattle.nit_audit.specs.AuditReplay.{input_closing, IsReplay, IsSound, IsReplayAnswer, replay_routing, state_of_replay};
+ghost use Rattle.nit_rect.specs.Limits.{most_sessions};
 
 use crate::keys::{Change, Which};
 use crate::machine::Machine;
@@ -78,7 +79,7 @@ impl Replay {
         reply: &Reply,
     ) -> Result<bool, NoMemory>
         requires kept { IsReplay config.now self.old }
-        requires few { self.old.count < 2 ^ 27 }
+        requires few { self.old.count < most_read }
         ensures { IfOk result (IsReplayAnswer config.now (entry.Call sid call.now reply.now)
             self.old self.new) }
     {
@@ -135,8 +136,8 @@ impl Replay {
         reply: &Reply,
     ) -> Result<(), NoMemory>
         requires sound { IsSound call.now }
-        requires session { sid < 16 }
-        requires few { self.old.count < 2 ^ 27 }
+        requires session { sid < most_sessions }
+        requires few { self.old.count < most_read }
         ensures { OnOk result (self.new ≡ record self.old {
           stack = after_accepted (layer config.now) sid call.now reply.now self.old.stack;
           focus = record self.old.focus { input = input_closing sid call.now self.old.focus.input };
@@ -151,7 +152,7 @@ impl Replay {
 
     /// One more entry.
     fn count(&mut self)
-        requires { self.old.count < 2 ^ 27 }
+        requires { self.old.count < most_read }
         ensures { self.new ≡ record self.old { count = self.old.count + 1 } }
     {
         self.count += 1;
@@ -160,7 +161,7 @@ impl Replay {
     /// A device event, with its deliveries.
     pub(crate) fn input(&mut self, config: &Config, dev: Device, routed: &Routed) -> bool
         requires kept { IsReplay config.now self.old }
-        requires few { self.old.count < 2 ^ 27 }
+        requires few { self.old.count < most_read }
         requires device { IsDevice dev }
         ensures { IsReplayAnswer config.now (entry.Input dev routed.now) self.old self.new result }
     {
@@ -192,7 +193,7 @@ impl Replay {
     /// A shot, with its number.
     pub(crate) fn shot(&mut self, config: &Config, number: u32) -> bool
         requires kept { IsReplay config.now self.old }
-        requires few { self.old.count < 2 ^ 27 }
+        requires few { self.old.count < most_read }
         ensures { IsReplayAnswer config.now (entry.Shot number) self.old self.new result }
     {
         if number != self.shots + 1 {
@@ -249,7 +250,7 @@ fn restack(
     reply: &Reply,
 ) -> Result<(), NoMemory>
     requires sound { IsSound call.now }
-    requires session { sid < 16 }
+    requires session { sid < most_sessions }
     ensures { OnOk result (views.new
         ≡ after_accepted (layer config.now) sid call.now reply.now views.old) }
 {
@@ -325,7 +326,7 @@ fn opened_machines(alloc: Global, clients: &[nit_config::Member]) -> Result<Vec<
 fn opened_focus(config: &Config) -> Focus
     requires { IsConfiguration config.now }
     ensures screen { (result.width ≡ config.now.width) × (result.height ≡ config.now.height) }
-    ensures clicks { (t : ℕ) → t < 16
+    ensures clicks { (t : ℕ) → t < most_sessions
         → slice_index_or result.clicks t false ≡ (member config.now t).clicks }
     ensures input { result.input ≡ first_input }
 {

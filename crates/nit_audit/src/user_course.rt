@@ -7,6 +7,7 @@ ghost use Rattle.nit_script.specs.Spelling.{FitsInputLine};
 ghost use Rattle.nit_journal.specs.WholeJournals.{Does, Shoots, left, next_phase};
 ghost use Rattle.nit_plan.specs.Calls.{user_actions_from, user_actions_to_do};
 ghost use Rattle.nit_audit.specs.Underway.{BeginsWithDeed, IsNext};
+ghost use Rattle.nit_script.specs.Grammar.{most_lines};
 
 use nit_events::Device;
 use nit_script::{Input, InputLine};
@@ -26,12 +27,13 @@ impl<'a> Model for UserCourse<'a> {
     ghost use Rattle.nit_script.specs.Spelling.{FitsInputLine};
     ghost use Rattle.nit_journal.specs.WholeJournals.{UserAction};
     ghost use Rattle.nit_plan.specs.Calls.{user_actions_from};
+    ghost use Rattle.nit_script.specs.Grammar.{most_lines};
 
     ghost Value = { List (ℕ × UserAction) };
 
     ghost view = { λ c. user_actions_from c.phase c.lines.now };
 
-    ghost invariant = { λ c. (c.phase + length c.lines.now ≤ 65536)
+    ghost invariant = { λ c. (c.phase + length c.lines.now ≤ most_lines)
         × AllByRecursion FitsInputLine c.lines.now };
 }
 
@@ -99,11 +101,11 @@ impl<'a> UserCourse<'a> {
 /// The lines from the next device event or shot on, and the phase that it is in. Ends of phases
 /// before it are passed by.
 fn next_deed(lines: &[InputLine], phase: u32) -> (u32, &[InputLine])
-    requires few { phase + length lines.now ≤ 65536 }
+    requires few { phase + length lines.now ≤ most_lines }
     requires fits { AllByRecursion FitsInputLine lines.now }
     ensures deeds { user_actions_from result.0 result.1.now ≡ user_actions_from phase lines.now }
     ensures begins { BeginsWithDeed result.1.now }
-    ensures few { result.0 + length result.1.now ≤ 65536 }
+    ensures few { result.0 + length result.1.now ≤ most_lines }
     ensures fits { AllByRecursion FitsInputLine result.1.now }
 {
     let mut rest = lines;

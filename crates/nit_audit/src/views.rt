@@ -7,6 +7,7 @@ ghost use Rattle.nit_stack.specs.Sources.{owner};
 ghost use Rattle.nit_journal.specs.State.{layer};
 ghost use Rattle.nit_journal.specs.StackAfter.{new_view};
 ghost use Rattle.nit_audit.specs.Keys.{is_meant, with_change};
+ghost use Rattle.nit_rect.specs.Limits.{most_sessions};
 
 use crate::keys::{
     Change, Which, back_place, change_all, covering, drop_all, first_key, front_place, layer_of,
@@ -54,7 +55,7 @@ impl Views {
     pub(crate) fn owner(&self, rows: u32, p: Point) -> Option<u32>
         requires { rows ≤ 7 }
         ensures owner { result ≡ option_map (λ v. v.sid) (owner rows self.now p) }
-        ensures known { IfSome result (λ sid. sid < 16) }
+        ensures known { IfSome result (λ sid. sid < most_sessions) }
     {
         if p.y < rows as i32 {
             return None;
@@ -64,7 +65,7 @@ impl Views {
 
     /// A new view stands in front of its layer and of the layers behind.
     pub(crate) fn create(&mut self, config: &Config, sid: u32, handle: u32) -> Result<(), NoMemory>
-        requires { sid < 16 }
+        requires { sid < most_sessions }
         ensures { OnOk result (self.new ≡ put_front (λ v. layer config.now v.sid)
             (layer config.now sid) (new_view sid handle) self.old) }
     {

@@ -12,8 +12,9 @@ use std::test::Fail;
 const MOST: usize = 134_217_728;
 
 /// Two clients, on a screen of 8 by 4.
-const CONFIG: &[u8] =
-    b"[screen]\nwidth = 8\nheight = 4\n\n[input]\nscript = \"in\"\n\n[[client]]\nlabel = \"a\"\ndonation = 65536\nscript = \"a.nit\"\n\n[[client]]\nlabel = \"b\"\ndonation = 65536\nscript = \"b.nit\"\n";
+const CONFIG: &[u8] = b"[screen]\nwidth = 8\nheight = 4\n\n[input]\nscript = \"in\"\n\n\
+                        [[client]]\nlabel = \"a\"\ndonation = 65536\nscript = \"a.nit\"\n\n\
+                        [[client]]\nlabel = \"b\"\ndonation = 65536\nscript = \"b.nit\"\n";
 
 /// The scripts of two clients and of the user.
 pub struct Scripts {

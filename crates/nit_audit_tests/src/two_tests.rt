@@ -6,7 +6,8 @@ use std::test::Fail;
 
 const SCRIPTS: Scripts = Scripts {
     first: b"buffer 4 2\nfill 0 0 4 2 FF0000\nview\nplace 1 0 0 4 2\nphase\nphase\nphase\n",
-    second: b"phase\nbuffer 4 2\nfill 0 0 4 2 0000FF\nview\nplace 1 0 0 4 2\nphase\nphase\nplace 1 4 2 4 2\n",
+    second: b"phase\nbuffer 4 2\nfill 0 0 4 2 0000FF\nview\nplace 1 0 0 4 2\nphase\nphase\n\
+              place 1 4 2 4 2\n",
     user: b"phase\nphase\nshot\nphase\n",
 };
 

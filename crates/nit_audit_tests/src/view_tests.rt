@@ -5,7 +5,9 @@ use nit_audit::Verdict;
 use std::test::Fail;
 
 const SCRIPTS: Scripts = Scripts {
-    first: b"view\nview\nview\nplace 1 0 0 4 4\nplace 2 0 0 4 4\nplace 3 0 0 2 2\nback 3\nabove 1 2\nfront 3\ndestroy 3\noffset 1 1 1\ntitle 1 =log\nphase\nphase\ntake\n",
+    first: b"view\nview\nview\nplace 1 0 0 4 4\nplace 2 0 0 4 4\nplace 3 0 0 2 2\n\
+             back 3\nabove 1 2\nfront 3\ndestroy 3\noffset 1 1 1\ntitle 1 =log\n\
+             phase\nphase\ntake\n",
     second: b"view\nplace 1 0 0 1 1\nphase\nclose\nphase\n",
     user: b"motion 0 0\nphase\nphase\nmotion 0 0\n",
 };

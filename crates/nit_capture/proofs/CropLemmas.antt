@@ -6,12 +6,11 @@ use Rattle.std.proofs.lemmas.Int.{ints, to_z-of_z}
 use Rattle.std.proofs.lemmas.List.{take_all, get_or-take, get_or-drop}
 use Rattle.std.proofs.lemmas.Nat.{mul-add-lt, div_below, mod_below, div-mul-add, mod-mul-add}
 use Rattle.nit_word.specs.Inks.{IsWord}
-use Rattle.nit_word.specs.Channels.{red, green, blue, word_of}
+use Rattle.nit_word.specs.Channels.{red, green, blue, word_of, channels}
 use Rattle.nit_rect.specs.Rectangle.{Rectangle, IsPlace}
 use Rattle.nit_rect.specs.Intersection.{HasPixels, LiesIn}
 use Rattle.nit_rect.proofs.ForCallers.{within}
 use Rattle.nit_capture.specs.Tiles.{IsPicture}
-use Rattle.nit_capture.specs.Film.{channels}
 use Rattle.nit_capture.specs.Crop.{screen, crop_place, crop_row_place, crop, crop_pixel, crop_bytes, word_of_bytes, Shows}
 use Rattle.nit_capture.proofs.RunsRead.{AreBytes}
 use Rattle.nit_capture.proofs.TileDifferences.{same_map}

@@ -2,9 +2,8 @@
 use Rattle.std.specs.Prelude.{◌≡◌, ℕ, ◌+◌, ◌-◌, length, ◌*◌, ◌/◌, ◌%◌, pos, nat_abs, List, [], ◌∷◌, ◌++◌, map, slice_index, IsTrue}
 use Rattle.std.specs.List.{range_with_len, flat_map}
 use Rattle.nit_rect.specs.Rectangle.{Rectangle, rectangle, covers}
-use Rattle.nit_word.specs.Channels.{word_of}
+use Rattle.nit_word.specs.Channels.{word_of, channels}
 use Rattle.nit_capture.specs.Tiles.{IsPicture}
-use Rattle.nit_capture.specs.Film.{channels}
 
 -- the screen as a rectangle
 abbrev pub screen : ℕ → ℕ → Rectangle

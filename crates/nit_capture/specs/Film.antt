@@ -1,7 +1,7 @@
 -- A film as bytes.
 use Rattle.std.specs.Prelude.{◌≡◌, ℕ, ◌+◌, ◌/◌, ◌%◌, ◌==◌, if◌then◌else◌, List, [], ◌∷◌, ◌++◌, length, codes}
 use Rattle.std.specs.List.{range_with_len, filter, flat_map}
-use Rattle.nit_word.specs.Channels.{red, green, blue}
+use Rattle.nit_word.specs.Channels.{channels}
 use Rattle.nit_capture.specs.Tiles.{IsPicture, IsPictureSize, black, tile_count, tile, differs}
 
 -- ---- numbers and runs
@@ -9,10 +9,6 @@ use Rattle.nit_capture.specs.Tiles.{IsPicture, IsPictureSize, black, tile_count,
 -- a number in two bytes, the lower one first
 abbrev pub two_bytes : ℕ → List ℕ
 two_bytes n = n % 256 ∷ n / 256 ∷ []
-
--- red, green and blue, a byte each
-abbrev pub channels : ℕ → List ℕ
-channels word = red word ∷ green word ∷ blue word ∷ []
 
 -- A run is its length less one, and its word. A pixel in front of runs lengthens the first one
 -- where it has its word, and else is a run of its own.

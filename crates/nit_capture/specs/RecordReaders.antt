@@ -69,8 +69,3 @@ record_at w h frame bytes = None
 abbrev pub Leaves : {X Y : Type 0} → (X → Y) → Option X → List ℕ → Option (List ℕ × Y) → Type 0
 Leaves view (Some x) frame read = read ≡ Some (frame, view x)
 Leaves view None frame read = read ≡ None
-
--- What a function returned, seen by view, is what reading gives.
-abbrev pub Gives : {X Y : Type 0} → (X → Y) → Option X → Option Y → Type 0
-Gives view (Some x) read = read ≡ Some (view x)
-Gives view None read = read ≡ None

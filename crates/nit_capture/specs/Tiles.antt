@@ -20,11 +20,29 @@ pub record IsPictureSize (w h : ℕ) : Type 0 where
   pub columns : w ≤ most_width
   pub rows : h ≤ most_height
 
+-- the pixels of the largest picture
+abbrev pub most_pixels : ℕ
+most_pixels = 786432
+
 -- ---- tiles of 16 by 16, cut off at the right and lower edge, and numbered by rows from 0
+
+-- the columns and the rows of a tile that is not cut off, and its pixels
+abbrev pub tile_side : ℕ
+tile_side = 16
+
+abbrev pub most_area : ℕ
+most_area = 256
+
+-- how many tiles of a picture stand side by side at most, and how many there are
+abbrev pub most_across : ℕ
+most_across = 64
+
+abbrev pub most_tiles : ℕ
+most_tiles = 3072
 
 -- how many tiles so many columns or rows are cut into
 unfoldable pub tiles_along : ℕ → ℕ
-tiles_along n = (n + 15) / 16
+tiles_along n = (n + 15) / tile_side
 
 -- how many tiles a picture has
 unfoldable pub tile_count : ℕ → ℕ → ℕ
@@ -32,19 +50,19 @@ tile_count w h = tiles_along w * tiles_along h
 
 -- the left column of tile t
 unfoldable pub left_of : ℕ → ℕ → ℕ
-left_of w t = 16 * (t % tiles_along w)
+left_of w t = tile_side * (t % tiles_along w)
 
 -- the top row of tile t
 unfoldable pub top_of : ℕ → ℕ → ℕ
-top_of w t = 16 * (t / tiles_along w)
+top_of w t = tile_side * (t / tiles_along w)
 
 -- how many columns tile t has
 unfoldable pub wide : ℕ → ℕ → ℕ
-wide w t = min 16 (w - left_of w t)
+wide w t = min tile_side (w - left_of w t)
 
 -- how many rows tile t has
 unfoldable pub high : ℕ → ℕ → ℕ → ℕ
-high w h t = min 16 (h - top_of w t)
+high w h t = min tile_side (h - top_of w t)
 
 -- how many pixels tile t has
 unfoldable pub area : ℕ → ℕ → ℕ → ℕ

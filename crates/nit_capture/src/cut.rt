@@ -4,7 +4,7 @@ ghost use Rattle.std.specs.Prelude.{◌≡◌, ◌≤◌, ◌<◌, ◌*◌, ◌+
 ghost use Rattle.std.specs.List.{range_with_len};
 ghost use Rattle.nit_rect.specs.Rectangle.{IsPlace};
 ghost use Rattle.nit_rect.specs.Intersection.{HasPixels, LiesIn};
-ghost use Rattle.nit_capture.specs.Tiles.{IsPicture};
+ghost use Rattle.nit_capture.specs.Tiles.{IsPicture, most_pixels};
 ghost use Rattle.nit_capture.specs.Crop.{screen, word_of_bytes, crop_pixel, crop_row_place, crop_bytes};
 
 use crate::grid::Grid;
@@ -62,7 +62,7 @@ fn row_start(grid: Grid, rect: &Rect, row: usize) -> usize
     requires row { row < rect.now.h }
     ensures value { result ≡ crop_row_place grid.width rect.now row }
     ensures within { result + rect.now.w ≤ grid.width * grid.height }
-    ensures small { grid.width * grid.height ≤ 786432 }
+    ensures small { grid.width * grid.height ≤ most_pixels }
 {
     (natural(rect.y()) + row) * grid.width + natural(rect.x())
 }

@@ -3,6 +3,7 @@
 ghost use Rattle.std.specs.Prelude.{◌≡◌, ◌≢◌, ◌≤◌, ◌<◌, ◌+◌, ◌*◌, true, false, length};
 ghost use Rattle.nit_capture.specs.Tiles.{IsPictureSize, tiles_along, tile_count, left_of, top_of};
 ghost use Rattle.nit_capture.specs.Tiles.{wide, high, area, place, row_place, differs};
+ghost use Rattle.nit_capture.specs.Tiles.{tile_side, most_area, most_across, most_tiles};
 
 /// How many columns and rows a tile has that is not cut off.
 pub const SIDE: usize = 16;
@@ -20,7 +21,7 @@ impl Grid {
     #[tactic(auto, unfolding(crate::specs::Tiles::tile_count, crate::specs::Tiles::tiles_along))]
     pub fn tiles(self) -> usize
         ensures value { result ≡ tile_count self.width self.height }
-        ensures few { result ≤ 3072 }
+        ensures few { result ≤ most_tiles }
     {
         self.across() * self.height.div_ceil(SIDE)
     }
@@ -30,7 +31,7 @@ impl Grid {
     fn across(self) -> usize
         ensures value { result ≡ tiles_along self.width }
         ensures some { 1 ≤ result }
-        ensures few { result ≤ 64 }
+        ensures few { result ≤ most_across }
     {
         (self.width + SIDE - 1) / SIDE
     }
@@ -59,7 +60,7 @@ impl Grid {
     pub fn wide(self, tile: usize) -> usize
         ensures value { result ≡ wide self.width tile }
         ensures some { 1 ≤ result }
-        ensures few { result ≤ 16 }
+        ensures few { result ≤ tile_side }
     {
         SIDE.min(self.width - self.left(tile))
     }
@@ -69,7 +70,7 @@ impl Grid {
     pub fn high(self, tile: usize) -> usize
         requires { tile < tile_count self.width self.height }
         ensures value { result ≡ high self.width self.height tile }
-        ensures few { result ≤ 16 }
+        ensures few { result ≤ tile_side }
     {
         SIDE.min(self.height - self.top(tile))
     }
@@ -90,7 +91,7 @@ impl Grid {
     pub fn area(self, tile: usize) -> usize
         requires { tile < tile_count self.width self.height }
         ensures value { result ≡ area self.width self.height tile }
-        ensures few { result ≤ 256 }
+        ensures few { result ≤ most_area }
     {
         self.high(tile) * self.wide(tile)
     }

@@ -4,11 +4,12 @@ ghost use Rattle.std.specs.Prelude.{◌≡◌, ◌≤◌, ◌<◌, ◌*◌, ◌+
 ghost use Rattle.std.specs.Prelude.{length, take, drop, All, slice_index};
 ghost use Rattle.std.specs.List.{flat_map, prefix_len};
 ghost use Rattle.nit_word.specs.Inks.{IsWord};
+ghost use Rattle.nit_capture.specs.Tiles.{most_area};
 ghost use Rattle.nit_capture.specs.Film.{runs, run_bytes};
 
 /// Writes the runs of pixels in front of the bytes, and answers how many bytes these are.
 pub fn write_runs(words: &[u32], bytes: &mut [u8]) -> usize
-    requires few { length words.now ≤ 256 }
+    requires few { length words.now ≤ most_area }
     requires words { All IsWord words.now }
     requires room { 4 * length words.now ≤ length bytes.old }
     ensures value { take result bytes.new ≡ flat_map run_bytes (runs words.now) }
@@ -44,7 +45,7 @@ fn same_in_front(words: &[u32], word: u32) -> usize
 
 /// A run: its length less one, and its channels.
 fn run(more: usize, word: u32) -> [u8; 4]
-    requires more { more < 256 }
+    requires more { more < most_area }
     requires word { IsWord word }
     ensures { result ≡ run_bytes (more, word) }
 {

@@ -3,6 +3,10 @@ use Rattle.std.specs.Prelude.{◌≡◌, ◌≤◌, ℕ, ◌+◌, List, Option}
 use Rattle.nit_clip.specs.declared.call.ClipEntry.{ClipEntry}
 use Rattle.nit_clip.specs.Clipboard.{AreAnswered, NeverFall, clipboard_of, last_at}
 
+-- how many clip calls there can be: one for each line of 16 clients
+abbrev pub most_clips : ℕ
+most_clips = 1048576
+
 -- the entries so far, in order, and for how many more there is room
 pub record ClipModel : Type 0 where
   pub entries : List ClipEntry

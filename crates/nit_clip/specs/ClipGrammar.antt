@@ -1,6 +1,6 @@
 -- Clip scripts and their texts.
 use Rattle.std.specs.Prelude.{◌≤◌, ℕ, ◌+◌, Bool, true, false, List, length, count_by, Result, Ok, Err}
-use Rattle.nit_script.specs.Grammar.{Reads, IsFirstBad, IsTooLong}
+use Rattle.nit_script.specs.Grammar.{Reads, IsFirstBad, IsTooLong, most_lines}
 use Rattle.nit_clip.specs.declared.error.ClipError.{ClipError}
 use Rattle.nit_clip.specs.declared.error.ClipError.TheVariants.{Bad, TooLong, NoMemory}
 use Rattle.nit_clip.specs.declared.line.ClipLine.{ClipLine}
@@ -37,7 +37,7 @@ UnlessMemory (Err NoMemory) P = Unit {0}
 
 -- What reading bytes as a clip script may answer.
 abbrev pub IsClipScriptAnswer : List ℕ → Result (List ClipLine) ClipError → Type 0
-IsClipScriptAnswer bytes (Ok lines) = ReadsClip bytes lines × (length lines ≤ 65536)
+IsClipScriptAnswer bytes (Ok lines) = ReadsClip bytes lines × (length lines ≤ most_lines)
 IsClipScriptAnswer bytes (Err (Bad line)) = IsFirstBadClip bytes line
 IsClipScriptAnswer bytes (Err TooLong) = IsTooLongClip bytes
 IsClipScriptAnswer bytes (Err NoMemory) = Unit {0}

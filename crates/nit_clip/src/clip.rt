@@ -2,6 +2,7 @@
 
 ghost use Rattle.std.specs.Prelude.{◌≡◌, ◌-◌, ◌≤◌, ◌++◌, ◌∷◌, [], IfOk};
 ghost use Rattle.nit_clip.specs.Clipboard.{AreAnswered, NeverFall, clip_answer, pasted, has_focus, clipboard_of, clipboard_after, last_at};
+ghost use Rattle.nit_clip.specs.Clip.{most_clips};
 
 use crate::call::{ClipCall, ClipEntry, ClipReply};
 use nit_events::Text;
@@ -35,7 +36,7 @@ impl Model for Clip {
 impl Clip {
     /// An empty clip list with room for `n` entries, of which there are at most 1,048,576.
     pub fn with_room(alloc: Global, n: usize) -> Result<Clip, NoMemory>
-        requires { n ≤ 1048576 }
+        requires { n ≤ most_clips }
         ensures { IfOk result (λ c. c ≡ record { entries = []; spare = n }) }
     {
         Ok(Clip {

@@ -19,6 +19,7 @@ ghost use Rattle.nit_clip.specs.ClipGrammar.{ReadsClip, IsFirstBadClip, IsTooLon
 ghost use Rattle.nit_clip.specs.Clipboard.{clip_answer, clipboard_of, last_at, IsClipAnswer};
 ghost use Rattle.nit_clip.specs.LegalClips.{IsLegalClips, before_final};
 ghost use Rattle.nit_clip.specs.WholeClips.{clips_to_make, clip_calls_in, clips_to_do, clip_calls_of, left_after, IsInPhase, AreInPhases};
+ghost use Rattle.nit_script.specs.Grammar.{most_lines};
 
 /// A text has one reading as a clip script at most, and a list of lines has one text.
 pub fn clip_reading_is_one()
@@ -34,7 +35,7 @@ pub fn clip_reading_is_whole()
     ensures not_bad { (bytes : List ℕ) (lines : List ClipLine) (line : ℕ) →
         ReadsClip bytes lines → IsFirstBadClip bytes line → ⊥ }
     ensures not_long { (bytes : List ℕ) (lines : List ClipLine) →
-        ReadsClip bytes lines → length lines ≤ 65536 → IsTooLongClip bytes → ⊥ }
+        ReadsClip bytes lines → length lines ≤ most_lines → IsTooLongClip bytes → ⊥ }
 {}
 
 /// A text has one first bad line at most, and none where it is too long.

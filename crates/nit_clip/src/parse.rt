@@ -1,20 +1,18 @@
 //! Clip scripts, line by line.
 
 ghost use Rattle.std.specs.Prelude.{◌≡◌, ◌≤◌, ℕ, List, length, Ok, Err, IfOk};
-ghost use Rattle.nit_script.specs.FieldReaders.{Gives};
+ghost use Rattle.nit_rect.specs.Options.{Gives};
 ghost use Rattle.nit_clip.specs.declared.line.ClipLine.{ClipLine};
 ghost use Rattle.nit_clip.specs.ClipGrammar.{ReadsClip, IsFirstBadClip, IsTooLongClip, UnlessMemory, IsClipScriptAnswer};
 ghost use Rattle.nit_clip.specs.ClipReaders.{copy_at, paste_at, clip_call_at, clip_phase_at, clip_front_at, clip_line_at};
+ghost use Rattle.nit_script.specs.Grammar.{most_lines};
 
 use crate::call::ClipCall;
 use crate::error::ClipError;
 use crate::line::ClipLine;
 use crate::script::ClipScript;
-use nit_script::{take_byte, take_word, text_field};
+use nit_script::{MOST_LINES, take_byte, take_word, text_field};
 use std::alloc::Global;
-
-/// How many lines a clip script may have.
-const MAX_LINES: u32 = 65_536;
 
 /// The clip script that the bytes spell. `Bad` comes exactly where one of the first 65,536 lines
 /// has no reading, and names the first such line, from 1; bytes behind the last line feed are a
@@ -22,9 +20,9 @@ const MAX_LINES: u32 = 65_536;
 /// stands behind them. Otherwise the script is read, unless memory runs out.
 pub fn parse_clip(alloc: Global, bytes: &[u8]) -> Result<ClipScript, ClipError>
     // What is read is spelled so, and what is spelled so is read, unless memory runs out.
-    ensures read { IfOk result (λ c. ReadsClip bytes.now c × (length c ≤ 65536)) }
-    ensures reads { (lines : List ClipLine) → ReadsClip bytes.now lines → length lines ≤ 65536 →
-        UnlessMemory result (result ≡ Ok lines) }
+    ensures read { IfOk result (λ c. ReadsClip bytes.now c × (length c ≤ most_lines)) }
+    ensures reads { (lines : List ClipLine) → ReadsClip bytes.now lines
+        → length lines ≤ most_lines → UnlessMemory result (result ≡ Ok lines) }
 
     // Exactly the first line without a reading is named.
     ensures bad { (line : ℕ) →
@@ -45,7 +43,7 @@ fn clip_lines(alloc: Global, bytes: &[u8]) -> Result<ClipScript, ClipError>
 {
     let mut lines = Vec::new(alloc);
     let mut rest = bytes;
-    for number in 0..MAX_LINES {
+    for number in 0..MOST_LINES {
         if rest.is_empty() {
             return Ok(ClipScript { lines });
         }

@@ -2,7 +2,7 @@
 use Rattle.std.specs.Prelude.{ℕ, Bool, true, false, ◌&&◌, nat_le, List, [], ◌∷◌, length, slice_index_or, codes, if◌then◌else◌}
 use Rattle.std.specs.List.{list_all}
 use Rattle.nit_config.specs.declared.config.Member.{Member}
-use Rattle.nit_rect.specs.Limits.{most_units}
+use Rattle.nit_rect.specs.Limits.{most_units, first_printable, last_printable}
 
 -- the screen's size, whether it has a status bar, the name of the input script, and the clients in
 -- order
@@ -13,11 +13,15 @@ pub record Configuration : Type 0 where
   pub input : List ℕ
   pub clients : List Member
 
+-- how many bytes the name of a file has at most
+abbrev pub most_file_name : ℕ
+most_file_name = 255
+
 -- 1 to 255 bytes of printable ASCII
 abbrev pub is_file_name : List ℕ → Bool
 is_file_name text =
-    nat_le 1 (length text) && nat_le (length text) 255
-    && list_all (λ b. nat_le 32 b && nat_le b 126) text
+    nat_le 1 (length text) && nat_le (length text) most_file_name
+    && list_all (λ b. nat_le first_printable b && nat_le b last_printable) text
 
 -- the rows of the status bar
 abbrev pub bar_rows : Configuration → ℕ

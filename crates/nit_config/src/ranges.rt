@@ -3,11 +3,12 @@
 ghost use Rattle.std.specs.Prelude.{◌≡◌, ◌&&◌, nat_le};
 ghost use Rattle.std.specs.List.{list_all};
 ghost use Rattle.toml.specs.View.{table_view};
+ghost use Rattle.nit_rect.specs.Limits.{first_printable, last_printable};
 ghost use Rattle.nit_config.specs.Configuration.{is_file_name};
 ghost use Rattle.nit_config.specs.Ranges.{is_outside, has_bad_size, has_bad_script, has_bad_focus, has_bad_value, label_of_table, has_bad_label};
 
 use crate::tree::{boolean_at, integer_at, string_at};
-use nit_rect::{LEAST_UNITS, MOST_HEIGHT, MOST_UNITS, MOST_WIDTH};
+use nit_rect::{FIRST_PRINTABLE, LAST_PRINTABLE, LEAST_UNITS, MOST_HEIGHT, MOST_UNITS, MOST_WIDTH};
 use toml::Table;
 
 /// The most bytes of a file's name.
@@ -20,9 +21,11 @@ fn is_outside(low: i64, high: i64, number: i64) -> bool
 }
 
 fn is_printable(text: &[u8]) -> bool
-    ensures { result ≡ list_all (λ b. nat_le 32 b && nat_le b 126) text.now }
+    ensures { result ≡ list_all
+        (λ b. nat_le first_printable b && nat_le b last_printable) text.now }
 {
-    text.iter().all(|byte| 0x20 <= *byte && *byte <= 0x7E)
+    text.iter()
+        .all(|byte| FIRST_PRINTABLE <= *byte && *byte <= LAST_PRINTABLE)
 }
 
 fn is_file_name(text: &[u8]) -> bool

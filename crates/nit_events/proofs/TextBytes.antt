@@ -3,13 +3,13 @@ use Rattle.std.proofs.Common.{◌≡◌, ℕ, ◌≤◌, true, List, ◌++◌, l
 use Rattle.std.proofs.Math.Seq.{take-append_seam, drop-append_seam}
 use Rattle.std.proofs.lemmas.List.{drop-replicate}
 use Rattle.std.proofs.lemmas.Bool.{and_parts, leb-true}
-use Rattle.nit_events.specs.Text.{is_text, IsPadded}
+use Rattle.nit_events.specs.Text.{is_text, HasZerosBehind}
 
 -- an array of 40 zeros whose beginning was written
-pub padded : (bytes copy : List ℕ) → is_text bytes ≡ true → copy ≡ bytes
-    → IsPadded (copy ++ drop (length bytes) (replicate 40 0)) (length bytes) × (is_text (take (length bytes) (copy ++ drop (length bytes) (replicate 40 0))) ≡ true)
-padded bytes copy is same =
+pub zeros_behind : (bytes copy : List ℕ) → is_text bytes ≡ true → copy ≡ bytes
+    → HasZerosBehind (copy ++ drop (length bytes) (replicate 40 0)) (length bytes) × (is_text (take (length bytes) (copy ++ drop (length bytes) (replicate 40 0))) ≡ true)
+zeros_behind bytes copy is same =
     let few : length bytes ≤ 40 = leb-true _ _ (and_parts _ _ is).0 in
     let tail : List ℕ = drop (length bytes) (replicate 40 0) in
-    subst (λ (c : List ℕ). IsPadded (c ++ tail) (length bytes) × (is_text (take (length bytes) (c ++ tail)) ≡ true)) (sym same)
+    subst (λ (c : List ℕ). HasZerosBehind (c ++ tail) (length bytes) × (is_text (take (length bytes) (c ++ tail)) ≡ true)) (sym same)
     (record { fits = omega (arith, length-append bytes tail); zeros = drop-append_seam bytes tail ∙ drop-replicate (length bytes) 40 0 }, rw (take-append_seam bytes tail) is)

@@ -51,9 +51,16 @@ forget i s =
       focus = unless_it_is s i.focus;
     }
 
+-- the first and the last code of a button
+abbrev pub first_button : ℕ
+first_button = 272
+
+abbrev pub last_button : ℕ
+last_button = 279
+
 -- a button's code; any other code but a mode key's is a key's
 abbrev pub is_button : ℕ → Bool
-is_button k = nat_le 272 k && nat_le k 279
+is_button k = nat_le first_button k && nat_le k last_button
 
 -- the keys that switch the mode, and the button that kills
 abbrev pub xray_key : ℕ
@@ -63,7 +70,7 @@ abbrev pub kill_key : ℕ
 kill_key = 99
 
 abbrev pub kill_button : ℕ
-kill_button = 272
+kill_button = first_button
 
 -- an event to a session; nothing where there is none
 abbrev pub to : Option ℕ → Event → List Delivery

@@ -1,12 +1,13 @@
 -- Texts of a script.
 use Rattle.std.specs.Prelude.{◌≡◌, ℕ, ◌-◌, ◌≤◌, Bool, ◌&&◌, nat_le, List, ◌++◌, length, take, drop, replicate}
 use Rattle.std.specs.List.{list_all}
+use Rattle.nit_rect.specs.Limits.{first_printable, last_printable}
 use Rattle.std.proofs.Common.{ap, sym, ◌∙◌}
 use Rattle.std.proofs.lemmas.List.{length-take-le, take-append-drop}
 
 -- a byte of printable ASCII
 abbrev pub is_printable : ℕ → Bool
-is_printable b = nat_le 32 b && nat_le b 126
+is_printable b = nat_le first_printable b && nat_le b last_printable
 
 -- how many bytes a text has at most
 abbrev pub most_text : ℕ
@@ -21,15 +22,16 @@ abbrev pub with_zeros : List ℕ → List ℕ
 with_zeros bytes = bytes ++ replicate (most_text - length bytes) 0
 
 -- behind its first `len` bytes, an array of 40 is filled with 0
-pub record IsPadded (bytes : List ℕ) (len : ℕ) : Type 0 where
+pub record HasZerosBehind (bytes : List ℕ) (len : ℕ) : Type 0 where
   pub fits : len ≤ length bytes
   pub zeros : drop len bytes ≡ replicate (most_text - len) 0
 
 -- so its first bytes give the array again
-pub length_again : (bytes : List ℕ) (len : ℕ) → IsPadded bytes len → length (take len bytes) ≡ len
+pub length_again : (bytes : List ℕ) (len : ℕ) → HasZerosBehind bytes len
+    → length (take len bytes) ≡ len
 length_again bytes len p = length-take-le len bytes p.fits
 
-pub bytes_again : (bytes : List ℕ) (len : ℕ) → IsPadded bytes len
+pub bytes_again : (bytes : List ℕ) (len : ℕ) → HasZerosBehind bytes len
     → take len bytes ++ replicate (most_text - length (take len bytes)) 0 ≡ bytes
 bytes_again bytes len p =
     ap (λ (n : ℕ). take len bytes ++ replicate (most_text - n) 0) (length_again bytes len p)

@@ -2,6 +2,7 @@ ghost use Rattle.std.specs.Prelude.{◌≡◌, ◌↔◌, IsTrue, IsSome, IfSome
 ghost use Rattle.std.specs.List.{list_all};
 ghost use Rattle.nit_events.specs.Text.{is_text, is_printable};
 
+use nit_rect::{FIRST_PRINTABLE, LAST_PRINTABLE};
 use std::marker::Model;
 
 /// How many bytes a text may have.
@@ -16,13 +17,13 @@ pub struct Text {
 
 impl Model for Text {
     ghost use Rattle.std.specs.Prelude.{◌≡◌, ℕ, List, length, take, drop, true};
-    ghost use Rattle.nit_events.specs.Text.{is_text, IsPadded, bytes_again, with_zeros, length_again};
+    ghost use Rattle.nit_events.specs.Text.{is_text, HasZerosBehind, bytes_again, with_zeros, length_again};
 
     ghost Value = { List ℕ };
 
     ghost view = { λ t. take t.len t.bytes };
 
-    ghost invariant = { λ t. IsPadded t.bytes t.len × (is_text (take t.len t.bytes) ≡ true) };
+    ghost invariant = { λ t. HasZerosBehind t.bytes t.len × (is_text (take t.len t.bytes) ≡ true) };
 
     ghost inverse = { λ s. record { bytes = with_zeros s; len = length s } };
 
@@ -68,5 +69,7 @@ fn is_text(bytes: &[u8]) -> bool
 fn are_printable(bytes: &[u8]) -> bool
     ensures { result ≡ list_all is_printable bytes.now }
 {
-    bytes.iter().all(|b| 0x20 <= *b && *b <= 0x7E)
+    bytes
+        .iter()
+        .all(|b| FIRST_PRINTABLE <= *b && *b <= LAST_PRINTABLE)
 }

@@ -1,5 +1,6 @@
-ghost use Rattle.std.specs.Prelude.{◌≡◌, ◌≤◌, ◌==◌, ◌↔◌, not, false, [], ◌∷◌, ◌++◌, filter, IsTrue};
+ghost use Rattle.std.specs.Prelude.{◌≡◌, ◌==◌, ◌↔◌, not, false, [], ◌∷◌, ◌++◌, filter, IsTrue};
 ghost use Rattle.std.specs.List.{list_any};
+ghost use Rattle.nit_events.specs.Ranges.{IsCode};
 
 use arrayvec::ArrayVec;
 use std::marker::Model;
@@ -51,7 +52,7 @@ impl Held {
 
     /// A code goes down that was not held.
     pub(crate) fn add(&mut self, code: u16)
-        requires known { code ≤ 767 }
+        requires known { IsCode code }
         requires up { list_any (λ j. j == code) self.old ≡ false }
         ensures { self.new ≡ self.old ++ code ∷ [] }
     {

@@ -15,6 +15,12 @@ const XRAY_KEY: u16 = 70;
 /// The key that switches to the mode `Kill` and back.
 const KILL_KEY: u16 = 99;
 
+/// The first code of a button.
+const FIRST_BUTTON: u16 = 272;
+
+/// The last code of a button.
+const LAST_BUTTON: u16 = 279;
+
 /// The button that kills in the mode `Kill`.
 const KILL_BUTTON: u16 = 272;
 
@@ -248,6 +254,12 @@ impl State {
         }
     }
 
+    /// The first code of a button.
+    const FIRST_BUTTON: u16 = 272;
+
+    /// The last code of a button.
+    const LAST_BUTTON: u16 = 279;
+
     /// The button that kills ends the mode and kills the pointed session; nobody gets what is
     /// pressed.
     fn kill_press(&mut self, pointed: Option<u32>, code: u16) -> Told
@@ -332,7 +344,7 @@ fn unless_it_is(sid: u32, other: Option<u32>) -> Option<u32>
 fn is_button(code: u16) -> bool
     ensures { result ≡ input.is_button code }
 {
-    272 <= code && code <= 279
+    FIRST_BUTTON <= code && code <= LAST_BUTTON
 }
 
 /// The mode that the X-ray key makes of a mode.

@@ -12,13 +12,25 @@ is_label_byte c =
 abbrev pub is_title_byte : ℕ → Bool
 is_title_byte c = is_label_byte c || c == 32
 
+-- how many bytes a label has at most, and a title
+abbrev pub most_label : ℕ
+most_label = 20
+
+abbrev pub most_title : ℕ
+most_title = 12
+
+-- how many bytes a text of the screen has at most: those of a label, `:` and those of a title
+abbrev pub most_label_text : ℕ
+most_label_text = 33
+
 -- a label: 1 to 20 of its bytes
 abbrev pub is_label : List ℕ → Bool
-is_label text = nat_le 1 (length text) && nat_le (length text) 20 && list_all is_label_byte text
+is_label text =
+    nat_le 1 (length text) && nat_le (length text) most_label && list_all is_label_byte text
 
 -- a title: 0 to 12 of its bytes
 abbrev pub is_title : List ℕ → Bool
-is_title text = nat_le (length text) 12 && list_all is_title_byte text
+is_title text = nat_le (length text) most_title && list_all is_title_byte text
 
 -- the text of a view: its session's label, and `:` and the view's title where that is not empty
 abbrev pub label_text_of : List ℕ → List ℕ → List ℕ

@@ -1,7 +1,7 @@
 //! The labels of sessions.
 
 ghost use Rattle.std.specs.Prelude.{◌≡◌, ◌≤◌, ◌↔◌, length, IsTrue, IsSome, IfSome};
-ghost use Rattle.nit_glyph.specs.Texts.{is_label};
+ghost use Rattle.nit_glyph.specs.Texts.{is_label, most_label};
 
 use crate::characters::are_label_bytes;
 use crate::padded::Padded;
@@ -38,7 +38,7 @@ impl Label {
         ensures bytes { IfSome result (λ label. label ≡ text.now) }
         ensures label { IfSome result (λ label. IsTrue (is_label label)) }
         ensures some { IfSome result (λ label. 1 ≤ length label) }
-        ensures short { IfSome result (λ label. length label ≤ 20) }
+        ensures short { IfSome result (λ label. length label ≤ most_label) }
     {
         if !is_label(text) {
             return None;
@@ -53,7 +53,7 @@ impl Label {
         ensures bytes { result.now ≡ self.now }
         ensures label { IsTrue (is_label self.now) }
         ensures some { 1 ≤ length self.now }
-        ensures short { length self.now ≤ 20 }
+        ensures short { length self.now ≤ most_label }
     {
         self.text.as_bytes()
     }

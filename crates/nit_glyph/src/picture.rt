@@ -2,7 +2,7 @@
 
 ghost use Rattle.std.specs.Prelude.{◌≡◌, ℕ, ◌<◌, ◌≤◌, ◌==◌, List, length, find, Option, IfSome, IsTrue};
 ghost use Rattle.std.specs.Option.{option_map};
-ghost use Rattle.nit_glyph.specs.Texts.{is_label, is_title, label_text_of, bar_text_of};
+ghost use Rattle.nit_glyph.specs.Texts.{is_label, is_title, label_text_of, bar_text_of, most_label_text};
 ghost use Rattle.nit_glyph.specs.Pictures.{glyph_rows, row_has_dot, dot, picture_width, picture_height, IsOfGlyphs, SamePicture};
 
 use crate::table::GLYPHS;
@@ -29,7 +29,7 @@ pub fn glyph(c: u8) -> Option<[u8; 5]>
 /// The width and the height, in pixels, of the picture of `n` characters, where `n` is 1 to 33.
 pub fn label_size(n: u32) -> (u32, u32)
     requires some { 1 ≤ n }
-    requires short { n ≤ 33 }
+    requires short { n ≤ most_label_text }
     ensures { result ≡ (picture_width n, picture_height) }
 {
     (4 * n + 1, 7)

@@ -2,7 +2,7 @@
 
 ghost use Rattle.std.specs.Prelude.{◌≡◌, ◌+◌, ◌≤◌, ◌∷◌, ◌++◌, length, codes};
 ghost use Rattle.std.specs.Option.{option_copied};
-ghost use Rattle.nit_glyph.specs.Texts.{label_text_of, bar_text_of};
+ghost use Rattle.nit_glyph.specs.Texts.{label_text_of, bar_text_of, most_label, most_label_text, most_title};
 ghost use Rattle.nit_glyph.specs.Pictures.{IsOfGlyphs};
 
 use crate::label::Label;
@@ -38,7 +38,7 @@ impl LabelText {
     /// The text of a label alone.
     fn of_label(label: &Label) -> LabelText
         ensures text { result ≡ label.now }
-        ensures short { length result ≤ 20 }
+        ensures short { length result ≤ most_label }
     {
         let mut text = Padded::empty();
         text.append(label.as_bytes());
@@ -47,7 +47,7 @@ impl LabelText {
 
     /// Adds `:` and `part` at the end.
     fn append(&mut self, part: &[u8])
-        requires room { length self.old + 1 + length part.now ≤ 33 }
+        requires room { length self.old + 1 + length part.now ≤ most_label_text }
         requires glyphs { IsOfGlyphs part.now }
         ensures { self.new ≡ self.old ++ codes ":" ++ part.now }
     {
@@ -59,7 +59,7 @@ impl LabelText {
     pub fn as_bytes(&self) -> &[u8]
         ensures bytes { result.now ≡ self.now }
         ensures some { 1 ≤ length self.now }
-        ensures short { length self.now ≤ 33 }
+        ensures short { length self.now ≤ most_label_text }
         ensures glyphs { IsOfGlyphs self.now }
     {
         self.text.as_bytes()
@@ -81,7 +81,7 @@ pub fn label_text(label: &Label, title: &Title) -> LabelText
 /// The text of the status bar: the mode's word, which has at most 12 bytes, and `:` and the focused
 /// session's label where there is one.
 pub fn bar_text(mode: &Label, focus: Option<&Label>) -> LabelText
-    requires { length mode.now ≤ 12 }
+    requires { length mode.now ≤ most_title }
     ensures { result ≡ bar_text_of mode.now (option_copied focus.entry) }
 {
     let mut text = LabelText::of_label(mode);

@@ -1,7 +1,7 @@
 //! The titles of views.
 
 ghost use Rattle.std.specs.Prelude.{◌≡◌, ◌≤◌, ◌↔◌, length, IsTrue, IsSome, IfSome};
-ghost use Rattle.nit_glyph.specs.Texts.{is_title};
+ghost use Rattle.nit_glyph.specs.Texts.{is_title, most_title};
 
 use crate::characters::are_title_bytes;
 use crate::padded::Padded;
@@ -37,7 +37,7 @@ impl Title {
         ensures exactly { IsSome result ↔ IsTrue (is_title text.now) }
         ensures bytes { IfSome result (λ title. title ≡ text.now) }
         ensures title { IfSome result (λ title. IsTrue (is_title title)) }
-        ensures short { IfSome result (λ title. length title ≤ 12) }
+        ensures short { IfSome result (λ title. length title ≤ most_title) }
     {
         if !is_title(text) {
             return None;
@@ -51,7 +51,7 @@ impl Title {
     pub fn as_bytes(&self) -> &[u8]
         ensures bytes { result.now ≡ self.now }
         ensures title { IsTrue (is_title self.now) }
-        ensures short { length self.now ≤ 12 }
+        ensures short { length self.now ≤ most_title }
     {
         self.text.as_bytes()
     }

@@ -1,6 +1,6 @@
 -- What other crates cite of journals: calls, sessions and states along them, and what a refusal tells.
 pub use Rattle.nit_journal.proofs.ActionsAlong.{IsUsers, calls_of-append, calls_other, calls_own, calls_same, deeds_of-append, deeds_same, drop_left, phases_call, phases_deed, phases_final}
-pub use Rattle.nit_journal.proofs.CallRefusals.{first_none, holds_of, second_none, serve_accepted, serve_refused, within_quota, within_reserve}
+pub use Rattle.nit_journal.proofs.CallRefusals.{accepted_reply, first_none, holds_of, refused_reply, second_none, serve_accepted, serve_refused, taken_reply, within_quota, within_reserve}
 pub use Rattle.nit_journal.proofs.OwnCalls.{as_its_calls_have_it}
 pub use Rattle.nit_journal.proofs.DeliveryLemmas.{all_kept}
 pub use Rattle.nit_journal.proofs.JournalFronts.{front_open, legal_more, replay_more}

@@ -1,6 +1,7 @@
 //! The journal as the server keeps it: its room is taken at opening, and an entry takes no memory.
 
 ghost use Rattle.std.specs.Prelude.{◌≡◌, ◌-◌, ◌≤◌, ◌++◌, ◌∷◌, [], IfOk};
+ghost use Rattle.nit_journal.specs.Journal.{most_entries};
 
 use nit_events::{Call, Entry, Reply};
 use nit_rect::NoMemory;
@@ -28,7 +29,7 @@ impl Model for Journal {
 impl Journal {
     /// An empty journal with room for `n` entries, of which there are at most 1,114,113.
     pub fn with_room(alloc: Global, n: usize) -> Result<Journal, NoMemory>
-        requires { n ≤ 1114113 }
+        requires { n ≤ most_entries }
         ensures { IfOk result (λ j. j ≡ record { entries = []; spare = n }) }
     {
         Ok(Journal {

@@ -8,7 +8,7 @@ ghost use Rattle.nit_journal.specs.Session.{◌orelse◌, unless, by_status, is_
 
 use nit_events::{Reply, Status, Text};
 use nit_glyph::is_title;
-use nit_rect::{MOST_SIDE, Rect};
+use nit_rect::{FIRST_PLACE, LAST_PLACE, MOST_SIDE, Rect};
 use nit_slots::{Account, MOST_VIEWS};
 
 /// The first of two refusals.
@@ -120,5 +120,5 @@ fn is_side(n: u32) -> bool
 fn is_place(z: i32) -> bool
     ensures { result ≡ is_place z }
 {
-    -32768 <= z && z <= 32767
+    FIRST_PLACE <= z && z <= LAST_PLACE
 }

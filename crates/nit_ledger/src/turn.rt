@@ -47,7 +47,8 @@ pub(crate) fn deed<D: Deed>(pages: &Pages, book: &mut Seat<(), BookView>)
               (token t.number (t.count + D.risen) es),
           [],
         ) }
-    ensures before { IsTokenInStep (entries_at book.old) (counts_at book.old) (taken_token book.old) }
+    ensures before { IsTokenInStep (entries_at book.old) (counts_at book.old)
+        (taken_token book.old) }
 {
     pages.shared.load::<Does<D>>(book, 0);
 }

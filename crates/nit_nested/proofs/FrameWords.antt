@@ -11,8 +11,10 @@ use Rattle.std.proofs.lemmas.List.Sums.{sum_by-append}
 use Rattle.nit_script.specs.declared.line.Line.{Line}
 use Rattle.nit_script.specs.Spelling.{FitsColour}
 use Rattle.nit_nested.specs.FrameLines.{Run, run_joined, row_runs, fills, row_lines, rows_lines, frame_lines, IsFrame, words_of_lines}
-use Rattle.nit_nested.specs.FrameScript.{count_lines, most_lines}
+use Rattle.nit_nested.specs.FrameScript.{count_lines}
 use Rattle.nit_nested.specs.Nest.{IsNest}
+use Rattle.nit_script.specs.Grammar.{most_lines}
+use Rattle.nit_rect.proofs.ForCallers.{all_append}
 
 -- the words of runs
 abbrev pub unrolled : List Run → List ℕ
@@ -56,10 +58,6 @@ pub told_frame : (w h : ℕ) (words : List ℕ) → length words ≡ w * h → w
 told_frame w h words long = flat_map-append _ (rows_lines w 0 h words) _ ∙ append-nil (words_of_lines (rows_lines w 0 h words)) ∙ told_rows w 0 h words long
 
 -- ---- one more frame
-
-pub all_append : {A : Type 0} (P : A → Type 0) (xs ys : List A) → AllByRecursion P xs → AllByRecursion P ys → AllByRecursion P (xs ++ ys)
-all_append P [] ys p q = q
-all_append P (x ∷ xs) ys p q = (p.0, all_append P xs ys p.1 q)
 
 pub told_more : (w h : ℕ) (frames frames' : List (List Line)) (words : List ℕ) → length words ≡ w * h → frames' ≡ frames ++ frame_lines w h words ∷ [] → map words_of_lines frames' ≡ map words_of_lines frames ++ words ∷ []
 told_more w h frames frames' words long are =

@@ -8,10 +8,11 @@ use Rattle.nit_script.specs.Spelling.{FitsLine}
 use Rattle.nit_script.specs.Phases.{phases}
 use Rattle.nit_nested.specs.declared.error.NestError.TheVariants.{Phases, TooLong}
 use Rattle.nit_nested.specs.FrameLines.{frame_lines, words_of_lines}
-use Rattle.nit_nested.specs.FrameScript.{first_forbidden, frame_script, most_lines}
+use Rattle.nit_nested.specs.FrameScript.{first_forbidden, frame_script}
 use Rattle.nit_nested.specs.Nest.{NestModel, unless_long, unless_forbidden, nest_script, script_answer}
 use Rattle.nit_nested.specs.Nest.{IsNest}
 use Rattle.nit_nested.proofs.GrammarLemmas.{made_long, made_fits, frames_fit}
+use Rattle.nit_script.specs.Grammar.{most_lines}
 
 -- the frames that are kept
 abbrev pub kept_frames : ℕ → ℕ → List (List Line) → NestModel

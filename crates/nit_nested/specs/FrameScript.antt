@@ -10,10 +10,6 @@ use Rattle.nit_script.specs.declared.line.Line.TheVariants as line
 abbrev pub count_lines : List (List Line) → ℕ
 count_lines frames = sum_by length frames
 
--- the most lines that a script may have
-abbrev pub most_lines : ℕ
-most_lines = 65536
-
 -- ---- the script
 
 -- the lines of the next frame; and the frames behind it

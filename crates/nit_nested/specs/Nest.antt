@@ -7,7 +7,8 @@ use Rattle.nit_script.specs.Phases.{phases}
 use Rattle.nit_nested.specs.declared.error.NestError.{NestError}
 use Rattle.nit_nested.specs.declared.error.NestError.TheVariants.{Bad, Phases, TooLong, NoMemory}
 use Rattle.nit_nested.specs.FrameLines.{frame_lines, words_of_lines, IsFrame}
-use Rattle.nit_nested.specs.FrameScript.{count_lines, most_lines, first_forbidden, frame_script}
+use Rattle.nit_nested.specs.FrameScript.{count_lines, first_forbidden, frame_script}
+use Rattle.nit_script.specs.Grammar.{most_lines}
 
 -- a screen's width and height, and the words of each frame
 pub record NestModel : Type 0 where

@@ -5,3 +5,4 @@ pub mod FrameCopy
 pub mod Repaint
 pub mod Pieces
 pub mod Runs
+pub mod Ranges

@@ -3,6 +3,7 @@
 ghost use Rattle.std.specs.Prelude.{◌≡◌, ◌+◌, ◌≤◌, pos, ◌+ℤ◌, ◌≤ℤ◌};
 ghost use Rattle.nit_rect.specs.Rectangle.{rectangle};
 ghost use Rattle.nit_rect.specs.Strips.{IsScreenRectangle};
+ghost use Rattle.nit_rect.specs.Limits.{most_width, most_height};
 
 use nit_rect::Rect;
 
@@ -15,8 +16,8 @@ pub(crate) struct Block {
     pub tall: u32,
     pub width: u32,
     ghost across: { left + wide ≤ width },
-    ghost screen: { (1 ≤ width) × (width ≤ 1024) },
-    ghost down: { top + tall ≤ 768 },
+    ghost screen: { (1 ≤ width) × (width ≤ most_width) },
+    ghost down: { top + tall ≤ most_height },
 }
 
 impl Block {
@@ -24,7 +25,7 @@ impl Block {
     pub fn new(r: &Rect, width: u32) -> Block
         requires screen { IsScreenRectangle r.now }
         requires right { (r.now.x +ℤ pos r.now.w) ≤ℤ pos width }
-        requires width { (1 ≤ width) × (width ≤ 1024) }
+        requires width { (1 ≤ width) × (width ≤ most_width) }
         ensures rectangle { r.now
             ≡ rectangle (pos result.left) (pos result.top) result.wide result.tall }
         ensures width { result.width ≡ width }

@@ -1,6 +1,6 @@
 //! Pieces of the screen, row by row.
 
-ghost use Rattle.std.specs.Prelude.{◌≡◌, ℕ, ◌+◌, ◌*◌, ◌<◌, ◌≤◌, All, List, length, pos, negsuc, ◌+ℤ◌, ◌≤ℤ◌, IsSomeAnd, None, true};
+ghost use Rattle.std.specs.Prelude.{◌≡◌, ℕ, ◌+◌, ◌*◌, ◌<◌, ◌≤◌, All, List, length, pos, ◌+ℤ◌, ◌≤ℤ◌, IsSomeAnd, None, true};
 ghost use Rattle.nit_word.specs.Inks.{IsWord};
 ghost use Rattle.nit_word.specs.Sight.{Sight, seen};
 ghost use Rattle.nit_stack.specs.Sources.{Bare, PixelSource, among, black_or_word, index_at};
@@ -8,6 +8,8 @@ ghost use Rattle.nit_stack.specs.Stack.{has_slot};
 ghost use Rattle.nit_paint.specs.Repaint.{Repainted, with_glass};
 ghost use Rattle.nit_paint.specs.Pieces.{IsPiece, has_pixel, session_shown, source_of_number, words_shown};
 ghost use Rattle.nit_paint.specs.Runs.{in_rows, long, reached, row_at};
+ghost use Rattle.nit_rect.specs.Limits.{most_side};
+ghost use Rattle.nit_paint.specs.Ranges.{least_place, most_place};
 
 use crate::block::Block;
 use crate::reach::{Reach, buffer_place, row_start};
@@ -76,8 +78,8 @@ fn paint_rows<G: Glass>(
     glass: &mut G,
 )
     requires pixels { block.now.width * (block.now.top + block.now.tall) ≤ length raw.old }
-    requires row { (negsuc 99999 ≤ℤ row) × (row ≤ℤ pos 99999) }
-    requires size { (size.0 ≤ 4096) × (size.1 ≤ 4096) }
+    requires row { (least_place ≤ℤ row) × (row ≤ℤ most_place) }
+    requires size { (size.0 ≤ most_side) × (size.1 ≤ most_side) }
     requires long { long reach.now ≡ block.now.wide }
     requires columns { reach.now.from + reach.now.words ≤ size.0 }
     requires words { size.0 * size.1 ≤ (G.sight glass.old).size }

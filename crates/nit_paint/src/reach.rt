@@ -1,9 +1,11 @@
 //! How far a buffer reaches along a row of pixels and down a column of them.
 
-ghost use Rattle.std.specs.Prelude.{◌≡◌, ℕ, ◌+◌, ◌*◌, ◌<◌, ◌≤◌, pos, negsuc, ◌+ℤ◌, ◌≤ℤ◌, IfSome};
+ghost use Rattle.std.specs.Prelude.{◌≡◌, ℕ, ◌+◌, ◌*◌, ◌<◌, ◌≤◌, pos, ◌+ℤ◌, ◌≤ℤ◌, IfSome};
 ghost use Rattle.std.specs.Option.{option_map};
 ghost use Rattle.nit_rect.specs.Rectangle.{IsPlace};
 ghost use Rattle.nit_stack.specs.Sources.{among, buffer_place};
+ghost use Rattle.nit_rect.specs.Limits.{most_width, most_side};
+ghost use Rattle.nit_paint.specs.Ranges.{least_place, most_place};
 
 /// A row of pixels against a buffer's columns: first pixels that the buffer does not reach, then
 /// those that show its columns from `from` on, then again pixels that it does not reach.
@@ -13,7 +15,7 @@ pub(crate) struct Reach {
     pub from: u32,
     pub words: u32,
     pub after: u32,
-    ghost short: { before + words + after ≤ 1024 },
+    ghost short: { before + words + after ≤ most_width },
 }
 
 impl Reach {
@@ -22,9 +24,9 @@ impl Reach {
     /// How far a buffer of `w` columns reaches along `count` pixels, the first of which would show
     /// `column`.
     pub fn new(column: i32, count: u32, w: u32) -> Reach
-        requires column { (negsuc 99999 ≤ℤ column) × (column ≤ℤ pos 99999) }
-        requires count { count ≤ 1024 }
-        requires columns { w ≤ 4096 }
+        requires column { (least_place ≤ℤ column) × (column ≤ℤ most_place) }
+        requires count { count ≤ most_width }
+        requires columns { w ≤ most_side }
         ensures long { long result ≡ count }
         ensures within { result.from + result.words ≤ w }
         ensures places { (j : ℕ) → j < count → reached result j ≡ among (column +ℤ pos j) w }
@@ -58,14 +60,14 @@ pub(crate) fn buffer_place(at: i32, corner: i32, offset: i32) -> i32
     requires corner { IsPlace corner }
     requires offset { IsPlace offset }
     ensures place { result ≡ buffer_place at corner offset }
-    ensures range { (negsuc 99999 ≤ℤ result) × (result ≤ℤ pos 99999) }
+    ensures range { (least_place ≤ℤ result) × (result ≤ℤ most_place) }
 {
     at - corner - offset
 }
 
 /// The index of the first word of a buffer's row. None where the buffer has no such row.
 pub(crate) fn row_start(row: i32, w: u32, h: u32) -> Option<u32>
-    requires { (w ≤ 4096) × (h ≤ 4096) }
+    requires { (w ≤ most_side) × (h ≤ most_side) }
     ensures start { result ≡ option_map (λ y. y * w) (among row h) }
     ensures within { IfSome result (λ start. start + w ≤ w * h) }
 {

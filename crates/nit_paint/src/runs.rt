@@ -1,10 +1,11 @@
 //! Pixels that stand side by side.
 
-ghost use Rattle.std.specs.Prelude.{◌≡◌, ℕ, ◌+◌, ◌^◌, ◌<◌, ◌≤◌, length, IfSome, Some};
+ghost use Rattle.std.specs.Prelude.{◌≡◌, ℕ, ◌+◌, ◌<◌, ◌≤◌, length, IfSome, Some};
 ghost use Rattle.nit_word.specs.Sight.{Sight};
 ghost use Rattle.nit_stack.specs.Sources.{PixelSource, Word};
 ghost use Rattle.nit_paint.specs.Repaint.{Repainted, with_glass};
 ghost use Rattle.nit_paint.specs.Runs.{in_run, long, own_word, row_source};
+ghost use Rattle.nit_paint.specs.Ranges.{most_buffer};
 
 use crate::reach::Reach;
 use nit_word::Glass;
@@ -49,7 +50,7 @@ pub(crate) fn paint_row<G: Glass>(
     requires pixels { at + long reach.now ≤ length raw.old }
     requires words { IfSome start
         (λ s. s + (reach.now.from + reach.now.words) ≤ (G.sight glass.old).size) }
-    requires fits { IfSome start (λ s. s + (reach.now.from + reach.now.words) ≤ 2 ^ 24) }
+    requires fits { IfSome start (λ s. s + (reach.now.from + reach.now.words) ≤ most_buffer) }
     ensures painted { (source : ℕ → PixelSource) (sid : ℕ) (others : ℕ → Sight)
         → ((j : ℕ) → j < long reach.now → source (at + j) ≡ row_source sid reach.now start j)
         → Repainted source (in_run at (long reach.now)) (length raw.old)

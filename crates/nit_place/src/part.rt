@@ -1,6 +1,6 @@
 //! What of a view lies on the screen, by its edges.
 
-ghost use Rattle.std.specs.Prelude.{◌≡◌, ℕ, ◌+◌, ◌<◌, ◌≤◌, length, pos, ◌≤ℤ◌};
+ghost use Rattle.std.specs.Prelude.{◌≡◌, ℕ, ◌+◌, ◌<◌, ◌≤◌, ◌^◌, length, pos, ◌≤ℤ◌};
 ghost use Rattle.nit_stack.specs.ViewNames.{views_of};
 ghost use Rattle.nit_place.specs.Edges.{on_screen};
 ghost use Rattle.nit_place.specs.FreePlaces.{meets};
@@ -49,8 +49,8 @@ impl Part {
 
     /// Whether the part shares a pixel with the rectangle of `w` by `h` at (x, y).
     pub(crate) fn meets(&self, x: u32, y: u32, w: u32, h: u32) -> bool
-        requires across { x + w ≤ 4294967295 }
-        requires down { y + h ≤ 4294967295 }
+        requires across { x + w < 2 ^ 32 }
+        requires down { y + h < 2 ^ 32 }
         ensures { result ≡ meets x y w h self.now }
     {
         self.left < x + w

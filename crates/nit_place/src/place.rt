@@ -2,7 +2,7 @@
 
 ghost use Rattle.std.specs.Prelude.{◌≡◌, ◌≤◌, true, length, option_map, IfSome, Some};
 ghost use Rattle.std.specs.List.{position_or_len};
-ghost use Rattle.nit_stack.specs.LabelPlaces.{label_place};
+ghost use Rattle.nit_stack.specs.LabelPlaces.{label_place, most_tag};
 ghost use Rattle.nit_stack.specs.ViewNames.{views_of};
 ghost use Rattle.nit_stack.specs.Sources.{point};
 ghost use Rattle.nit_stack.specs.Stack.{IsStack, SlotView, has_slot, is_slot, slot_view_in};
@@ -19,8 +19,8 @@ use nit_stack::{Stack, ViewRef};
 /// view owns. None exactly where there is no such place. The width and the height are 1..=133.
 pub fn place_label(stack: &Stack, v: ViewRef, w: u32, h: u32) -> Option<Point>
     requires view { has_slot v.0 stack.now.views ≡ true }
-    requires width { (1 ≤ w) × (w ≤ 133) }
-    requires height { (1 ≤ h) × (h ≤ 133) }
+    requires width { (1 ≤ w) × (w ≤ most_tag) }
+    requires height { (1 ≤ h) × (h ≤ most_tag) }
     ensures place { (s : SlotView) → slot_view_in v.0 stack.now.views ≡ Some s
         → result
         ≡ option_map (λ q. point q.0 q.1)

@@ -1,6 +1,7 @@
 //! The search for the least free place.
 
-ghost use Rattle.std.specs.Prelude.{◌≡◌, ◌+◌, ◌≤◌, length};
+ghost use Rattle.std.specs.Prelude.{◌≡◌, ◌+◌, ◌<◌, ◌≤◌, ◌^◌, length};
+ghost use Rattle.nit_stack.specs.LabelPlaces.{most_tag};
 ghost use Rattle.nit_stack.specs.ViewNames.{views_of};
 ghost use Rattle.nit_place.specs.FreePlaces.{IsBlocking, IsRowSearched, IsSearched, further, nearer};
 ghost use Rattle.nit_place.specs.Part.{part_at};
@@ -48,8 +49,8 @@ fn nearer(found: Option<u32>, row: u32) -> u32
 /// several it is the one that reaches furthest right.
 fn blocking(stack: &Stack, front: u32, x: u32, y: u32, w: u32, h: u32) -> Option<Part>
     requires front { front ≤ length stack.now.views }
-    requires across { x + w ≤ 4294967295 }
-    requires down { y + h ≤ 4294967295 }
+    requires across { x + w < 2 ^ 32 }
+    requires down { y + h < 2 ^ 32 }
     ensures { IsBlocking (part_at (views_of stack.now.views)) front x y w h result }
 {
     let mut found: Option<Part> = None;
@@ -70,7 +71,7 @@ fn place_in_row(stack: &Stack, front: u32, area: &Part, w: u32, h: u32, y: u32) 
     requires left { area.now.left ≤ most_edge }
     requires from_top { area.now.top ≤ y }
     requires to_bottom { y + h ≤ area.now.bottom }
-    requires width { w ≤ 133 }
+    requires width { w ≤ most_tag }
     ensures { IsRowSearched (part_at (views_of stack.now.views)) front area.now w h y result }
 {
     let mut x = area.left;
@@ -93,8 +94,8 @@ pub(crate) fn search(stack: &Stack, front: u32, area: &Part, w: u32, h: u32) -> 
     requires front { front ≤ length stack.now.views }
     requires left { area.now.left ≤ most_edge }
     requires top { area.now.top ≤ most_edge }
-    requires width { w ≤ 133 }
-    requires height { h ≤ 133 }
+    requires width { w ≤ most_tag }
+    requires height { h ≤ most_tag }
     ensures { IsSearched (part_at (views_of stack.now.views)) front area.now w h result }
 {
     let mut y = area.top;

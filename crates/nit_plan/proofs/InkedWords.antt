@@ -13,7 +13,7 @@ use Rattle.nit_script.specs.declared.line.Line.TheVariants as line
 use Rattle.nit_journal.specs.Session.{serve}
 use Rattle.nit_journal.specs.StackAfter.{is_accepted}
 use Rattle.nit_plan.specs.Strokes.{stroke_colour, word_after_stroke, stroked, cleared}
-use Rattle.nit_plan.specs.ScriptWords.{Painting, blank, colours, ink, after_line, painted_from, size_of, table_size, words_after, words_left}
+use Rattle.nit_plan.specs.ScriptWords.{Painting, blank, colours, ink, after_line, painted_from, session_size, table_size, words_after, words_left}
 use Rattle.nit_plan.proofs.LineColours.{colours_inked}
 use Rattle.nit_plan.proofs.Places.{colour_inked}
 use Rattle.nit_word.proofs.ForCallers.{one_of}
@@ -59,7 +59,7 @@ buffer_inked ink false w h words inked = inked
 line_inked : (ink : List ℕ) (p : Painting) (l : Line) → AllByRecursion (IsInked ink) (colours l) → AreInked ink p.words → AreInked ink (after_line p l).words
 line_inked ink p (line.Call (Buffer w h)) named inked = buffer_inked ink (is_accepted (serve p.session (Buffer w h)).reply) w h p.words inked
 line_inked ink p (line.Call other) named inked = inked
-line_inked ink p (line.Stroke s) named inked = stroked_inked ink (size_of p.session) s p.words named inked
+line_inked ink p (line.Stroke s) named inked = stroked_inked ink (session_size p.session) s p.words named inked
 line_inked ink p line.Phase named inked = inked
 
 -- ---- the lines of a script

@@ -24,8 +24,8 @@ pub record Painting : Type 0 where
 abbrev pub blank : ℕ → Painting
 blank donation = record { session = first_session donation; words = zeros (table_size donation) }
 
-abbrev pub size_of : Session → Size
-size_of s = record { w = s.bw; h = s.bh }
+abbrev pub session_size : Session → Size
+session_size s = record { w = s.bw; h = s.bh }
 
 -- a `buffer` line that is accepted sets the words of the new buffer to 0 first; no other call sets
 -- a word
@@ -40,7 +40,7 @@ after_line p (line.Call c) =
       session = (serve p.session c).session;
       words = words_after_call c (serve p.session c).reply p.words;
     }
-after_line p (line.Stroke s) = record p { words = stroked (size_of p.session) s p.words }
+after_line p (line.Stroke s) = record p { words = stroked (session_size p.session) s p.words }
 after_line p line.Phase = p
 
 -- all lines of a list, from this painting on

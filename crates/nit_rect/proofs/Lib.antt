@@ -1,4 +1,5 @@
 pub mod Spans
 pub mod Sets
 pub mod Options
+pub mod Lists
 pub mod ForCallers

@@ -43,3 +43,12 @@ most_units = 8388608
 -- words that a session can pay for
 abbrev pub most_words : ℕ
 most_words = 1048576
+
+-- ---- texts
+
+-- the first and the last byte of printable ASCII
+abbrev pub first_printable : ℕ
+first_printable = 32
+
+abbrev pub last_printable : ℕ
+last_printable = 126

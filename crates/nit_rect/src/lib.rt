@@ -13,7 +13,10 @@ mod rect;
 mod run;
 mod strips;
 
-pub use limits::{LEAST_UNITS, MOST_HEIGHT, MOST_SESSIONS, MOST_SIDE, MOST_UNITS, MOST_WIDTH};
+pub use limits::{
+    FIRST_PLACE, FIRST_PRINTABLE, LAST_PLACE, LAST_PRINTABLE, LEAST_UNITS, MOST_HEIGHT,
+    MOST_LENGTH, MOST_SESSIONS, MOST_SIDE, MOST_UNITS, MOST_WIDTH,
+};
 pub use memory::NoMemory;
 pub use point::Point;
 pub use rect::Rect;

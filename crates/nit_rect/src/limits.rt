@@ -1,5 +1,14 @@
 //! The limits that several crates share.
 
+/// The first column and the first row of a rectangle.
+pub const FIRST_PLACE: i32 = -32_768;
+
+/// The last column and the last row of a rectangle.
+pub const LAST_PLACE: i32 = 32_767;
+
+/// The greatest width and height of a rectangle.
+pub const MOST_LENGTH: u32 = 32_767;
+
 /// The columns of the widest screen.
 pub const MOST_WIDTH: u32 = 1024;
 
@@ -17,3 +26,9 @@ pub const LEAST_UNITS: u32 = 256;
 
 /// What a session ever has at most, in units.
 pub const MOST_UNITS: u32 = 8_388_608;
+
+/// The first byte of printable ASCII.
+pub const FIRST_PRINTABLE: u8 = 0x20;
+
+/// The last byte of printable ASCII.
+pub const LAST_PRINTABLE: u8 = 0x7E;

@@ -3,19 +3,11 @@ ghost use Rattle.nit_rect.specs.Rectangle.{IsPlace, rectangle, is_rectangle, spa
 ghost use Rattle.nit_rect.specs.Intersection.{empty_rectangle, HasPixels, IsApart, CoversBoth, LiesIn};
 ghost use Rattle.nit_rect.specs.Limits.{most_length};
 
+use crate::limits::{FIRST_PLACE, LAST_PLACE, MOST_LENGTH};
 use crate::point::Point;
 use crate::run::Run;
 use crate::strips::Strips;
 use std::marker::Model;
-
-/// The first column and the first row.
-const FIRST: i32 = -32_768;
-
-/// The last column and the last row.
-const LAST: i32 = 32_767;
-
-/// The greatest width and height.
-const MOST: u32 = 32_767;
 
 /// A rectangle of pixels: its left column, its top row, its width and its height. The place is
 /// -32768..=32767 each way, and the lengths are 0..=32767.
@@ -191,7 +183,12 @@ fn of_runs(columns: Run, rows: Run) -> Rect
 fn in_range(x: i32, y: i32, w: u32, h: u32) -> bool
     ensures { result ≡ is_rectangle x y w h }
 {
-    FIRST <= x && x <= LAST && FIRST <= y && y <= LAST && w <= MOST && h <= MOST
+    FIRST_PLACE <= x
+        && x <= LAST_PLACE
+        && FIRST_PLACE <= y
+        && y <= LAST_PLACE
+        && w <= MOST_LENGTH
+        && h <= MOST_LENGTH
 }
 
 /// Whether `at` is among the `long` places from `from` on.

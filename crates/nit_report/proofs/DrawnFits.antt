@@ -9,6 +9,7 @@ use Rattle.nit_script.specs.Spelling.{FitsInt, FitsLine, FitsInputLine}
 use Rattle.nit_report.specs.Draw.{Draw, following, just, draws_in_turn, for_each}
 use Rattle.nit_report.specs.Generator.{some_colour, backdrop, some_part, filled, checked, refreshed, from_outside, placed, shifted, titled, some_view, kinds, buffer_lines, views, places, titles, busy_lines, phase_end, first_phase, second_phase, client_script, some_motion, click, clicks, user_phase_end, xray_shot, user_phases, user_script, seed}
 use Rattle.nit_report.proofs.Titles.{is_title}
+use Rattle.nit_rect.proofs.ForCallers.{all_append}
 
 -- ---- draws of which all values have a property
 
@@ -21,10 +22,6 @@ AllAlways P ds = AllByRecursion (Always P) ds
 pub in_turn_all : {A : Type 0} (P : A → Type 0) (ds : List (Draw A)) → AllAlways P ds → (s : ℕ) → AllByRecursion P (draws_in_turn ds s).0
 in_turn_all P [] all s = tt
 in_turn_all P (d ∷ ds) all s = (all.0 s, in_turn_all P ds all.1 (d s).1)
-
-pub all_append : {A : Type 0} (P : A → Type 0) (xs ys : List A) → AllByRecursion P xs → AllByRecursion P ys → AllByRecursion P (xs ++ ys)
-all_append P [] ys p q = q
-all_append P (x ∷ xs) ys p q = (p.0, all_append P xs ys p.1 q)
 
 pub for_each_all : {A : Type 0} (P : A → Type 0) (first count : ℕ) (f : ℕ → List (Draw A)) → ((j : ℕ) → j < first + count → AllAlways P (f j)) → AllAlways P (for_each first count f)
 unfolding for_each

@@ -2,15 +2,11 @@
 use Rattle.std.specs.Prelude.{ℕ, ◌+◌, ◌*◌, List, [], ◌∷◌, ◌++◌, length, codes}
 use Rattle.std.specs.List.{flat_map}
 use Rattle.std.specs.Fmt.{decimal}
-use Rattle.nit_word.specs.Channels.{red, green, blue}
+use Rattle.nit_word.specs.Channels.{channels}
 
 -- the width and the height in decimal, and the greatest value of a channel
 abbrev pub picture_header : ℕ → ℕ → List ℕ
 picture_header w h = codes "P6\n" ++ decimal w ++ codes " " ++ decimal h ++ codes "\n255\n"
-
--- red, green and blue, a byte each
-abbrev pub channels : ℕ → List ℕ
-channels word = red word ∷ green word ∷ blue word ∷ []
 
 -- the picture of a frame, whose words stand row by row from the top
 abbrev pub picture : ℕ → ℕ → List ℕ → List ℕ

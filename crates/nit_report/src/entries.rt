@@ -1,6 +1,6 @@
 //! An entry's line in front of bytes, and what follows it.
 
-ghost use Rattle.nit_script.specs.FieldReaders.{Gives};
+ghost use Rattle.nit_rect.specs.Options.{Gives};
 ghost use Rattle.nit_report.specs.EntryReaders.{answered_at, behind_reply_at, input_entry_at, shot_entry_at, final_at, entry_front_at, entry_at};
 
 use crate::reading::{session_field, shot_field, take_routed};

@@ -1,8 +1,9 @@
 //! Journals, line by line.
 
-ghost use Rattle.std.specs.Prelude.{◌≡◌, ◌≤◌, ◌^◌, ℕ, List, length, Err, IfOk, IsOkAnd};
+ghost use Rattle.std.specs.Prelude.{◌≡◌, ◌≤◌, ℕ, List, length, Err, IfOk, IsOkAnd};
 ghost use Rattle.nit_events.specs.declared.entry.Entry.{Entry};
 ghost use Rattle.nit_report.specs.JournalText.{ReadsJournal, IsFirstBadEntry, UnlessNoMemory, IsJournalAnswer};
+ghost use Rattle.nit_events.specs.Ranges.{most_read};
 
 use crate::entries::take_entry;
 use crate::error::JournalError;
@@ -13,7 +14,7 @@ use std::alloc::Global;
 /// line spells no entry, and names the first such line, from 1; bytes behind the last line feed are
 /// a line that spells none. Otherwise the entries are read, unless memory runs out.
 pub fn parse_journal(alloc: Global, bytes: &[u8]) -> Result<Vec<Entry>, JournalError>
-    requires { length bytes.now ≤ 2 ^ 27 }
+    requires { length bytes.now ≤ most_read }
 
     // What is read is spelled so, and what is spelled so is read, unless memory runs out.
     ensures read { IfOk result (λ v. ReadsJournal bytes.now v.items) }
@@ -32,7 +33,7 @@ pub fn parse_journal(alloc: Global, bytes: &[u8]) -> Result<Vec<Entry>, JournalE
 }
 
 fn entries_of(alloc: Global, bytes: &[u8]) -> Result<Vec<Entry>, JournalError>
-    requires { length bytes.now ≤ 2 ^ 27 }
+    requires { length bytes.now ≤ most_read }
     ensures { IsJournalAnswer (λ v. v.items) bytes.now result }
 {
     let mut entries = Vec::new(alloc);

@@ -4,8 +4,9 @@ ghost use Rattle.std.specs.Prelude.{◌≡◌, ◌+◌, ◌*◌, ◌<◌, ◌≤
 ghost use Rattle.std.specs.List.{flat_map};
 ghost use Rattle.std.specs.Fmt.{decimal};
 ghost use Rattle.nit_word.specs.Inks.{IsWord};
-ghost use Rattle.nit_report.specs.Picture.{picture_header, channels, picture, picture_length};
+ghost use Rattle.nit_report.specs.Picture.{picture_header, picture, picture_length};
 ghost use Rattle.nit_rect.specs.Limits.{most_width, most_height};
+ghost use Rattle.nit_word.specs.Channels.{channels};
 
 use crate::write::{number, text};
 

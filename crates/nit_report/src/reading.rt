@@ -1,7 +1,7 @@
 //! Numbers, events and deliveries in front of bytes, each with what follows it.
 
 ghost use Rattle.std.specs.Prelude.{◌≡◌, Some};
-ghost use Rattle.nit_script.specs.FieldReaders.{Gives};
+ghost use Rattle.nit_rect.specs.Options.{Gives};
 ghost use Rattle.nit_report.specs.EntryReaders.{session_field, shot_field, told, event_at, item_at, delivery_at, routed_at};
 
 use nit_events::{Delivery, Device, Event, Item, Routed};

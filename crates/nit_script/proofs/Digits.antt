@@ -113,7 +113,7 @@ nat_again n rest lt s =
     let t : is_number (decimal n) ≡ true = number_is (decimal n) is.0.0 few (nonzero_first n lt) in
     rw (k, take_at (decimal n) rest (length (decimal n)) refl, drop_at (decimal n) rest (length (decimal n)) refl, t, is.1) refl
 
-pub ruleset prefixes = (prefix_len-le-length, length-prefix_len)
+pub ruleset front = (prefix_len-le-length, length-prefix_len)
 
 pub ruleset digits = (front_digits, prefix_len-le-length, length-prefix_len, number_parts)
 

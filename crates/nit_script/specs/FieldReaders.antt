@@ -12,11 +12,6 @@ abbrev pub first_of : {A : Type 0} → Option A → Option A → Option A
 first_of (Some x) y = Some x
 first_of None y = y
 
--- What a function returned, seen by view, is what reading gives.
-abbrev pub Gives : {X Y : Type 0} → (X → Y) → Option X → Option Y → Type 0
-Gives view (Some x) read = read ≡ Some (view x)
-Gives view None read = read ≡ None
-
 -- what follows a byte
 abbrev pub byte_at : ℕ → List ℕ → Option (List ℕ)
 byte_at c [] = None

@@ -1,5 +1,6 @@
 -- Lines of an input script read from left to right.
-use Rattle.std.specs.Prelude.{ℕ, ℤ, pos, negsuc, Bool, ◌&&◌, nat_le, int_le, List, Option, codes}
+use Rattle.std.specs.Prelude.{ℕ, ℤ, Bool, ◌&&◌, nat_le, int_le, List, Option, codes}
+use Rattle.nit_events.specs.Ranges.{most_code, most_pointer, least_turn, most_turn}
 use Rattle.nit_events.specs.declared.device.Device.{Device}
 use Rattle.nit_events.specs.declared.device.Device.TheVariants.{Press, Release, Motion, Wheel}
 use Rattle.nit_script.specs.declared.line.InputLine.{InputLine}
@@ -8,15 +9,15 @@ use Rattle.nit_script.specs.FieldReaders.{first_of, nothing_at, at_both, at_made
 
 -- the code of a key or button
 abbrev pub is_code : ℕ → Bool
-is_code k = nat_le k 767
+is_code k = nat_le k most_code
 
 -- a column or row of the pointer
 abbrev pub is_pointer_place : ℕ → Bool
-is_pointer_place n = nat_le n 65535
+is_pointer_place n = nat_le n most_pointer
 
 -- how far the wheel turns
 abbrev pub is_wheel : ℤ → Bool
-is_wheel z = int_le (negsuc 126) z && int_le z (pos 127)
+is_wheel z = int_le least_turn z && int_le z most_turn
 
 -- a code behind a space
 abbrev pub code_field : List ℕ → Option (ℕ × List ℕ)

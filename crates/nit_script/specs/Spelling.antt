@@ -1,7 +1,7 @@
 -- What each line of a script is spelled as, and which lines have a spelling.
 use Rattle.std.specs.Prelude.{◌≤◌, ◌<◌, ℕ, zero, suc, ◌+◌, ◌/◌, ◌%◌, ◌^◌, ℤ, pos, negsuc, IsTrue, List, [], ◌∷◌, ◌++◌, codes, nat_lt, if◌then◌else◌}
 use Rattle.std.specs.Fmt.{decimal, signed_decimal}
-use Rattle.nit_events.specs.Ranges.{IsCode, IsWheel}
+use Rattle.nit_events.specs.Ranges.{IsCode, IsWheel, most_pointer}
 use Rattle.nit_events.specs.Text.{is_text}
 use Rattle.nit_events.specs.declared.call.Call.{Call}
 use Rattle.nit_events.specs.declared.call.Call.TheVariants as call
@@ -62,7 +62,7 @@ FitsText t = IsTrue (is_text t)
 
 -- a place of the pointer is at most 65535
 abbrev pub FitsPointerPlace : ℕ → Type 0
-FitsPointerPlace n = n ≤ 65535
+FitsPointerPlace n = n ≤ most_pointer
 
 -- the numbers and the text of a call are within the grammar
 abbrev pub FitsCall : Call → Type 0

@@ -1,6 +1,7 @@
 //! What follows a byte or a word in front of bytes.
 
-ghost use Rattle.nit_script.specs.FieldReaders.{Gives, byte_at, word_at};
+ghost use Rattle.nit_rect.specs.Options.{Gives};
+ghost use Rattle.nit_script.specs.FieldReaders.{byte_at, word_at};
 
 /// What follows a byte.
 pub fn take_byte(bytes: &[u8], wanted: u8) -> Option<&[u8]>

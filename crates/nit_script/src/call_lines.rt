@@ -1,6 +1,6 @@
 //! The calls of a client's script, each read from its first word to its last.
 
-ghost use Rattle.nit_script.specs.FieldReaders.{Gives};
+ghost use Rattle.nit_rect.specs.Options.{Gives};
 ghost use Rattle.nit_script.specs.CallReaders.{buffer_at, view_at, place_at, offset_at, front_at, back_at, above_at, title_at, destroy_at, refresh_at, take_at, upgrade_at, close_at, session_call_at, view_call_at, call_at};
 
 use crate::bytes::take_word;

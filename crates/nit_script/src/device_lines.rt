@@ -1,6 +1,6 @@
 //! What the user does, each line read from its first word to its last.
 
-ghost use Rattle.nit_script.specs.FieldReaders.{Gives};
+ghost use Rattle.nit_rect.specs.Options.{Gives};
 ghost use Rattle.nit_script.specs.InputReaders.{code_field, pointer_field, wheel_field, press_at, release_at, motion_at, wheel_at, device_at};
 
 use crate::bytes::take_word;
@@ -9,6 +9,12 @@ use nit_events::Device;
 
 /// The highest code of a key or button.
 const MAX_CODE: u32 = 767;
+
+/// The furthest that the wheel turns back.
+const LEAST_TURN: i32 = -127;
+
+/// The furthest that the wheel turns on.
+const MOST_TURN: i32 = 127;
 
 /// The highest column or row of the pointer.
 const MAX_PLACE: u32 = 65_535;
@@ -93,7 +99,7 @@ fn turn_field(bytes: &[u8]) -> Option<(i8, &[u8])>
     ensures { Gives (λ x. (x.0, x.1.now)) result (wheel_field bytes.now) }
 {
     let (turn, rest) = integer_field(bytes)?;
-    if -127 <= turn && turn <= 127 {
+    if LEAST_TURN <= turn && turn <= MOST_TURN {
         Some((turn as i8, rest))
     } else {
         None

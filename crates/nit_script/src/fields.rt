@@ -3,7 +3,8 @@
 ghost use Rattle.std.specs.Prelude.{◌≡◌, ◌<◌, IfSome};
 ghost use Rattle.std.specs.List.{prefix_len};
 ghost use Rattle.nit_events.specs.Text.{is_printable};
-ghost use Rattle.nit_script.specs.FieldReaders.{Gives, hex_value, nibble_at, colour_at, text_at, nat_field, int_field, colour_field, text_field};
+ghost use Rattle.nit_rect.specs.Options.{Gives};
+ghost use Rattle.nit_script.specs.FieldReaders.{hex_value, nibble_at, colour_at, text_at, nat_field, int_field, colour_field, text_field};
 
 use crate::bytes::take_byte;
 use crate::numbers::{take_integer, take_natural};
@@ -72,7 +73,7 @@ fn hex_digit(byte: u8) -> Option<u32>
 }
 
 /// The printable bytes in front, where they are a text.
-#[tactic(auto, using(crate::proofs::Digits::prefixes), unfolding(crate::specs::FieldReaders::text_at))]
+#[tactic(auto, using(crate::proofs::Digits::front), unfolding(crate::specs::FieldReaders::text_at))]
 fn take_text(bytes: &[u8]) -> Option<(Text, &[u8])>
     ensures { Gives (λ x. (x.0, x.1.now)) result (text_at bytes.now) }
 {

@@ -5,7 +5,8 @@ ghost use Rattle.std.specs.List.{prefix_len};
 ghost use Rattle.std.specs.Fmt.{decimal};
 ghost use Rattle.std.specs.Char.{is_ascii_digit};
 ghost use Rattle.std.specs.Str.Parse.{AllDigits, digits_value};
-ghost use Rattle.nit_script.specs.FieldReaders.{Gives, is_number, nat_at, int_at};
+ghost use Rattle.nit_rect.specs.Options.{Gives};
+ghost use Rattle.nit_script.specs.FieldReaders.{is_number, nat_at, int_at};
 
 use crate::bytes::take_byte;
 

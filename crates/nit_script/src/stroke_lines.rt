@@ -1,6 +1,6 @@
 //! The strokes of a client's script, each read from its first word to its last.
 
-ghost use Rattle.nit_script.specs.FieldReaders.{Gives};
+ghost use Rattle.nit_rect.specs.Options.{Gives};
 ghost use Rattle.nit_script.specs.LineReaders.{fill_at, check_at, stroke_at};
 
 use crate::bytes::take_word;

@@ -158,7 +158,8 @@ fn refusals_of_a_small_donation(rt: HostRuntime) -> Result<(), Fail> {
     assert_plan(
         &rt,
         rt.alloc(),
-        "buffer 4 4\nview\nbuffer 8 8\nupgrade 513\nupgrade 512\nbuffer 8 8\ndestroy 1\nview\nfront 1\n",
+        "buffer 4 4\nview\nbuffer 8 8\nupgrade 513\nupgrade 512\nbuffer 8 8\n\
+         destroy 1\nview\nfront 1\n",
         512,
         &[
             reply(4, 4, Reply::Done),

@@ -8,8 +8,9 @@ fn client_scripts(rt: HostRuntime) -> Result<(), Fail> {
     let rows = [
         "buffer 4 2\nfill 0 0 4 2 FF0000\nview\nplace 1 1 1 4 2\n",
         "",
-        "buffer 0 999999999\nview\nplace 7 -5 32768 0 1\noffset 1 -1 40000\nfront 1\nback 2\nabove 3 4\n\
-         title 1 =log 2\ntitle 1 =\ntitle 2 =<a > b>=\ndestroy 9\nrefresh -1 0 3 4\ntake\nupgrade 1\nclose\n\
+        "buffer 0 999999999\nview\nplace 7 -5 32768 0 1\noffset 1 -1 40000\nfront 1\nback 2\n\
+         above 3 4\ntitle 1 =log 2\ntitle 1 =\ntitle 2 =<a > b>=\ndestroy 9\n\
+         refresh -1 0 3 4\ntake\nupgrade 1\nclose\n\
          fill 1 2 3 4 00FF7A\ncheck 0 0 4 2 FF0000 00FF00\nphase\n",
     ];
     for text in rows {

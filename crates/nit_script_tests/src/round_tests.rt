@@ -28,8 +28,8 @@ fn expect_turns(rt: &impl Abort, turns: &mut Turns, want: &[(u32, usize)]) {
 #[test]
 fn one_actor_in_each_phase(rt: HostRuntime) -> Result<(), Fail> {
     let a = b"buffer 4 2\nfill 0 0 4 2 FF0000\nview\nplace 1 0 0 4 2\nphase\nphase\nphase\n";
-    let b =
-        b"phase\nbuffer 4 2\nfill 0 0 4 2 0000FF\nview\nplace 1 0 0 4 2\nphase\nphase\nplace 1 4 2 4 2\n";
+    let b = b"phase\nbuffer 4 2\nfill 0 0 4 2 0000FF\nview\nplace 1 0 0 4 2\nphase\nphase\n\
+              place 1 4 2 4 2\n";
     let clients = [parse_client(rt.alloc(), a)?, parse_client(rt.alloc(), b)?];
     let input = parse_input(rt.alloc(), b"phase\nphase\nshot\nphase\n")?;
     let want = [

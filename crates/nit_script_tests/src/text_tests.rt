@@ -8,8 +8,8 @@ use std::test::Fail;
 /// The journal of two clients, of which one moves its view between a shot and the last picture.
 const TWO: &str =
     "call 0 done < buffer 4 2\ncall 0 handle 1 < view\ncall 0 done < place 1 0 0 4 2\n\
-                   call 1 done < buffer 4 2\ncall 1 handle 1 < view\ncall 1 done < place 1 0 0 4 2\n\
-                   shot 1\ncall 1 done < place 1 4 2 4 2\nfinal\n";
+     call 1 done < buffer 4 2\ncall 1 handle 1 < view\ncall 1 done < place 1 0 0 4 2\n\
+     shot 1\ncall 1 done < place 1 4 2 4 2\nfinal\n";
 
 /// A call with its answer.
 fn called(sid: u32, call: Call, reply: Reply) -> Entry {

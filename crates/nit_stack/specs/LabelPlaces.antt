@@ -10,6 +10,10 @@ abbrev pub pixels : ℕ → ℕ → ℕ → ℕ → List Point
 pixels x y w h =
     flat_map (λ row. map (λ column. point column row) (range_with_len x w)) (range_with_len y h)
 
+-- the most columns and rows of a label on the screen: the picture of the longest text is so wide
+abbrev pub most_tag : ℕ
+most_tag = 133
+
 -- a view of a session is named by its handle
 abbrev pub is_view : ℕ → ℕ → View → Bool
 is_view sid handle v = v.sid == sid && v.handle == handle

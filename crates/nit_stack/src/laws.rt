@@ -63,7 +63,8 @@ pub fn seats_and_views()
 /// Which slots have a view after each change, and that all views of a session are gone when each
 /// was taken out.
 pub fn slots_after()
-    ensures push_front { (layer : SlotView → ℕ) (l : ℕ) (s : SlotView) (j : ℕ) (seats : List SlotView)
+    ensures push_front { (layer : SlotView → ℕ) (l : ℕ) (s : SlotView) (j : ℕ)
+        → (seats : List SlotView)
         → has_slot j (put_front layer l s seats) ≡ (is_slot j s || has_slot j seats) }
     ensures remove { (j k : ℕ) (seats : List SlotView)
         → has_slot j (without (is_slot k) seats) ≡ (not (j == k) && has_slot j seats) }
@@ -107,7 +108,8 @@ pub fn owners_by_slot()
 /// The session and handle of the view in each slot after each change, and that a view of a session
 /// and handle is in a slot of that name.
 pub fn names_after()
-    ensures push_front { (layer : SlotView → ℕ) (l : ℕ) (s : SlotView) (j : ℕ) (seats : List SlotView)
+    ensures push_front { (layer : SlotView → ℕ) (l : ℕ) (s : SlotView) (j : ℕ)
+        → (seats : List SlotView)
         → has_slot s.slot seats ≡ false
         → name_in j (put_front layer l s seats)
         ≡ (if s.slot == j then Some (name_of s) else name_in j seats) }

@@ -153,8 +153,8 @@ impl Store for MemoryStore {
     /// As in the trait. It fails exactly where the call is to fail or the name is not there, unless
     /// there is no memory to keep the name that was asked for.
     fn read(&mut self, name: &str, max: usize) -> Result<Vec<u8>, ReadError>
-        ensures answer { AfterRead (memory_store_shown self.old) name.now max (memory_store_shown self.new)
-            result }
+        ensures answer { AfterRead (memory_store_shown self.old) name.now max
+            (memory_store_shown self.new) result }
         ensures counted { CountsCall self.old self.new }
         ensures fails { FailsToRead self.old name.now →
             IsErrOf result ReadError.Failed ⊎ IsErrOf result ReadError.NoMemory }

@@ -8,8 +8,8 @@ use Rattle.std.proofs.lemmas.List.{get_or_default}
 use Rattle.nit_word.specs.Inks.{IsInked}
 use Rattle.nit_word.specs.Updates.{set_where, is_between, in_turn, with_words}
 use Rattle.nit_word.specs.Sight.{Sight, inked_sight}
-use Rattle.nit_word.specs.Zeros.{padded, zeros}
-use Rattle.nit_word.proofs.ReachedWords.{padded_at}
+use Rattle.nit_word.specs.Zeros.{filled_up, zeros}
+use Rattle.nit_word.proofs.ReachedWords.{filled_at}
 use Rattle.nit_word.proofs.UpdateLemmas.{set_long, word_at}
 use Rattle.nit_word.proofs.ZeroLemmas.{zero_inked}
 
@@ -45,9 +45,9 @@ pub zeros_inked : (ink : List ℕ) (n : ℕ) (now : List ℕ) → now ≡ zeros 
 zeros_inked ink n now is = rw is (λ k d inside. subst (IsInked ink) (sym (get_or_default (zeros n) k d 0 inside)) (zero_inked ink n k))
 
 -- the words that were reached are among all
-pub reached_inked : (ink : List ℕ) (size : ℕ) (reached words : List ℕ) → words ≡ padded size reached → All (IsInked ink) words → All (IsInked ink) reached
+pub reached_inked : (ink : List ℕ) (size : ℕ) (reached words : List ℕ) → words ≡ filled_up size reached → All (IsInked ink) words → All (IsInked ink) reached
 reached_inked ink size reached words is all k d inside =
-    subst (IsInked ink) (ap (λ (ws : List ℕ). get_or ws k 0) is ∙ padded_at size reached k ∙ get_or_default reached k 0 d inside) (at_any ink words k all)
+    subst (IsInked ink) (ap (λ (ws : List ℕ). get_or ws k 0) is ∙ filled_at size reached k ∙ get_or_default reached k 0 d inside) (at_any ink words k all)
 
 -- the sight of the glass after it
 pub sight_changed : (change : List ℕ → List ℕ) (owner : ℕ) (words now ink : List ℕ) (g : Sight) → inked_sight owner words ink ≡ g → now ≡ change words → length now ≡ length words → inked_sight owner now ink ≡ with_words change g

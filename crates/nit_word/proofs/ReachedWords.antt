@@ -7,25 +7,25 @@ use Rattle.std.proofs.Math.ListN.{get_or-eq_default}
 use Rattle.std.proofs.lemmas.Bool.Decides.{nat_tests}
 use Rattle.std.proofs.lemmas.List.{append-nil, get_or_append_left, get_or-append_right, length-append, set-append_left, take_all, take_at}
 use Rattle.nit_word.specs.Updates.{set_where, is_between}
-use Rattle.nit_word.specs.Zeros.{padded, zeros}
+use Rattle.nit_word.specs.Zeros.{filled_up, zeros}
 use Rattle.nit_word.proofs.UpdateLemmas.{are_set, set_long, word_at}
 use Rattle.nit_word.proofs.ZeroLemmas.{length-zeros, zero_at, zeros_joined}
 
 -- ---- their number, and the word of each number
 
-pub padded_long : (size : ℕ) (words : List ℕ) → length words ≤ size → length (padded size words) ≡ size
-padded_long size words few = omega (arith, length-append words (zeros (size - length words)), length-zeros (size - length words))
+pub filled_long : (size : ℕ) (words : List ℕ) → length words ≤ size → length (filled_up size words) ≡ size
+filled_long size words few = omega (arith, length-append words (zeros (size - length words)), length-zeros (size - length words))
 
-pub padded_at : (size : ℕ) (words : List ℕ) (i : ℕ) → slice_index (padded size words) i ≡ slice_index words i
-padded_at size words i =
+pub filled_at : (size : ℕ) (words : List ℕ) (i : ℕ) → slice_index (filled_up size words) i ≡ slice_index words i
+filled_at size words i =
     dite (dec_lt i (length words))
     (λ reached. get_or_append_left words (zeros (size - length words)) 0 i reached)
     (λ behind. get_or-append_right words (zeros (size - length words)) (length words) i 0 refl (omega arith) ∙ zero_at (size - length words) (i - length words) ∙ sym (get_or-eq_default words 0 (omega arith)))
 
-pub whole_long : (size : ℕ) (words whole : List ℕ) → padded size words ≡ whole → length words ≤ size → length whole ≡ size
-whole_long size words whole is few = ap length (sym is) ∙ padded_long size words few
+pub whole_long : (size : ℕ) (words whole : List ℕ) → filled_up size words ≡ whole → length words ≤ size → length whole ≡ size
+whole_long size words whole is few = ap length (sym is) ∙ filled_long size words few
 
-pub all_reached : (words : List ℕ) → padded (length words) words ≡ words
+pub all_reached : (words : List ℕ) → filled_up (length words) words ≡ words
 unfolding zeros
 all_reached words = let none : length words - length words ≡ 0 = omega arith in ap (λ n. words ++ zeros n) none ∙ append-nil words
 
@@ -35,37 +35,37 @@ pub reached_long : (count : ℕ) (words more : List ℕ) → more ≡ words ++ z
 reached_long count words more is = ap length is ∙ omega (arith, length-append words (zeros (count - length words)), length-zeros (count - length words))
 
 -- the words stay
-pub same_padded : (size count : ℕ) (words more : List ℕ) → count ≤ size → length words ≤ size → more ≡ words ++ zeros (count - length words) → padded size more ≡ padded size words
-same_padded size count words more room few is =
+pub same_filled : (size count : ℕ) (words more : List ℕ) → count ≤ size → length words ≤ size → more ≡ words ++ zeros (count - length words) → filled_up size more ≡ filled_up size words
+same_filled size count words more room few is =
     let long = reached_long count words more is in
     ap (λ (ws : List ℕ). ws ++ zeros (size - length more)) is ∙ append_assoc words (zeros (count - length words)) (zeros (size - length more))
     ∙ ap (λ (ws : List ℕ). words ++ ws) (zeros_joined (count - length words) (size - length more) ∙ ap (λ n. zeros n) (omega (arith, long)))
 
 -- words that are set as far as they are reached
-set_padded : (p : ℕ → Bool) (c : ℕ → ℕ) (size : ℕ) (words : List ℕ) → length words ≤ size → ((k : ℕ) → length words ≤ k → p k ≡ false) → padded size (set_where p c words) ≡ set_where p c (padded size words)
-set_padded p c size words few none =
+set_filled : (p : ℕ → Bool) (c : ℕ → ℕ) (size : ℕ) (words : List ℕ) → length words ≤ size → ((k : ℕ) → length words ≤ k → p k ≡ false) → filled_up size (set_where p c words) ≡ set_where p c (filled_up size words)
+set_filled p c size words few none =
     let long = set_long p c words in
-    are_set p c (padded size words) (padded size (set_where p c words)) (padded_long size (set_where p c words) (omega (arith, long)) ∙ sym (padded_long size words few))
-    (λ k inside. padded_at size (set_where p c words) k ∙ dite (dec_lt k (length words))
-    (λ reached. word_at p c words k reached ∙ ap (λ (w : ℕ). cond (p k) (c k) w) (sym (padded_at size words k)))
+    are_set p c (filled_up size words) (filled_up size (set_where p c words)) (filled_long size (set_where p c words) (omega (arith, long)) ∙ sym (filled_long size words few))
+    (λ k inside. filled_at size (set_where p c words) k ∙ dite (dec_lt k (length words))
+    (λ reached. word_at p c words k reached ∙ ap (λ (w : ℕ). cond (p k) (c k) w) (sym (filled_at size words k)))
     (λ behind.
     let outside = none k (omega arith) in
-    rw outside (get_or-eq_default (set_where p c words) 0 (omega (arith, long)) ∙ sym (get_or-eq_default words 0 (omega arith)) ∙ sym (padded_at size words k))))
+    rw outside (get_or-eq_default (set_where p c words) 0 (omega (arith, long)) ∙ sym (get_or-eq_default words 0 (omega arith)) ∙ sym (filled_at size words k))))
 
 -- what is kept of the words where some were set after enough were reached
 pub record IsSetIn (size : ℕ) (p : ℕ → Bool) (c : ℕ → ℕ) (words back : List ℕ) : Type 0 where
   pub few : length back ≤ size
-  pub all : padded size back ≡ set_where p c words
+  pub all : filled_up size back ≡ set_where p c words
 
-pub set_in : (p : ℕ → Bool) (c : ℕ → ℕ) (size count n : ℕ) (whole words more now rest : List ℕ) → padded size words ≡ whole → length words ≤ size → count ≤ size → more ≡ words ++ zeros (count - length words)
+pub set_in : (p : ℕ → Bool) (c : ℕ → ℕ) (size count n : ℕ) (whole words more now rest : List ℕ) → filled_up size words ≡ whole → length words ≤ size → count ≤ size → more ≡ words ++ zeros (count - length words)
     → now ≡ set_where p c more → n ≡ length more → ((k : ℕ) → count ≤ k → p k ≡ false) → IsSetIn size p c whole (take n (now ++ rest))
 set_in p c size count n whole words more now rest all few room reached is counted none =
     let long : length now ≡ n = ap length is ∙ set_long p c more ∙ sym counted in
     let enough = reached_long count words more reached in
     let back : take n (now ++ rest) ≡ now = take_at now rest n long in record {
       few = omega (arith, ap length back, long, counted, enough);
-      all = ap (padded size) (back ∙ is) ∙ set_padded p c size more (omega (arith, enough)) (λ k behind. none k (omega (arith, enough, behind)))
-          ∙ ap (set_where p c) (same_padded size count words more room few reached ∙ all);
+      all = ap (filled_up size) (back ∙ is) ∙ set_filled p c size more (omega (arith, enough)) (λ k behind. none k (omega (arith, enough, behind)))
+          ∙ ap (set_where p c) (same_filled size count words more room few reached ∙ all);
     }
 
 -- no word from the last one on is set
@@ -73,14 +73,14 @@ pub none_past : (from to k : ℕ) → to ≤ k → is_between from to k ≡ fals
 none_past from to k past = grind (arith, nat_tests)
 
 -- one word that is set
-pub one_in : (size i w : ℕ) (whole words more : List ℕ) → padded size words ≡ whole → length words ≤ size → i < size → more ≡ words ++ zeros (i + 1 - length words)
-    → (length (slice_set more i w) ≤ size) × (padded size (slice_set more i w) ≡ slice_set whole i w)
+pub one_in : (size i w : ℕ) (whole words more : List ℕ) → filled_up size words ≡ whole → length words ≤ size → i < size → more ≡ words ++ zeros (i + 1 - length words)
+    → (length (slice_set more i w) ≤ size) × (filled_up size (slice_set more i w) ≡ slice_set whole i w)
 one_in size i w whole words more all few room reached =
     let enough = reached_long (i + 1) words more reached in
     let same : length (slice_set more i w) ≡ length more = length-set more i w in (
       omega (arith, same, enough),
       ap (λ n. slice_set more i w ++ zeros (size - n)) same ∙ sym (set-append_left more (zeros (size - length more)) i w (omega (arith, enough)))
-          ∙ ap (λ (ws : List ℕ). slice_set ws i w) (same_padded size (i + 1) words more (omega arith) few reached ∙ all),
+          ∙ ap (λ (ws : List ℕ). slice_set ws i w) (same_filled size (i + 1) words more (omega arith) few reached ∙ all),
     )
 
 -- enough are reached, or too few

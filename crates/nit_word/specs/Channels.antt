@@ -1,5 +1,5 @@
 -- A word as three channels, read as 0x00RRGGBB.
-use Rattle.std.specs.Prelude.{ℕ, ◌+◌, ◌*◌, ◌/◌, ◌%◌}
+use Rattle.std.specs.Prelude.{ℕ, ◌+◌, ◌*◌, ◌/◌, ◌%◌, List, [], ◌∷◌}
 
 -- the red channel: bits 16 to 23
 abbrev pub red : ℕ → ℕ
@@ -12,6 +12,10 @@ green w = w / 0x100 % 0x100
 -- the blue channel: bits 0 to 7
 abbrev pub blue : ℕ → ℕ
 blue w = w % 0x100
+
+-- red, green and blue, a byte each
+abbrev pub channels : ℕ → List ℕ
+channels word = red word ∷ green word ∷ blue word ∷ []
 
 -- the word of three channels
 abbrev pub word_of : ℕ → ℕ → ℕ → ℕ

@@ -6,8 +6,8 @@ unfoldable pub zeros : ℕ → List ℕ
 zeros n = replicate n 0
 
 -- these words, and behind them as many that are 0 as it takes for so many in all
-abbrev pub padded : ℕ → List ℕ → List ℕ
-padded size words = words ++ zeros (size - length words)
+abbrev pub filled_up : ℕ → List ℕ → List ℕ
+filled_up size words = words ++ zeros (size - length words)
 
 -- of so many words the first are reached, and memory holds them all
 abbrev pub HasRoom : ℕ → ℕ → ℕ → Type 0

@@ -3,7 +3,7 @@ ghost use Rattle.std.specs.Prelude.{◌≡◌, ℕ, ◌<◌, ◌≤◌, All, IfO
 ghost use Rattle.nit_word.specs.Inks.{IsInked, IsWord};
 ghost use Rattle.nit_word.specs.Updates.{in_turn, is_between, set_where, with_words};
 ghost use Rattle.nit_word.specs.Sight.{Sight, inked_sight, stored, told_at};
-ghost use Rattle.nit_word.specs.Zeros.{padded, zeros};
+ghost use Rattle.nit_word.specs.Zeros.{filled_up, zeros};
 
 use crate::glass::Glass;
 use crate::words::Words;
@@ -110,7 +110,7 @@ impl Inked {
     /// left out at the end are 0.
     pub fn words(&self) -> &[u32]
         ensures sight { self.now
-            ≡ inked_sight self.now.owner (padded self.now.size result.now) self.now.ink }
+            ≡ inked_sight self.now.owner (filled_up self.now.size result.now) self.now.ink }
         ensures fits { All IsWord result.now }
         ensures inked { All (IsInked self.now.ink) result.now }
     {

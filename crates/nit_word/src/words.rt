@@ -1,7 +1,7 @@
 //! Words of which those that were never reached take no time.
 ghost use Rattle.std.specs.Prelude.{◌≡◌, ℕ, ◌+◌, ◌-◌, ◌<◌, ◌≤◌, ◌++◌, IfOk, length, slice_index, slice_set, vec_capacity, vec_len};
 ghost use Rattle.nit_word.specs.Updates.{in_turn, is_between, set_where};
-ghost use Rattle.nit_word.specs.Zeros.{padded, zeros};
+ghost use Rattle.nit_word.specs.Zeros.{filled_up, zeros};
 
 use crate::setting::{alternate_words, copy_words, fill_words, read_words};
 use std::alloc::{AllocError, Global};
@@ -17,11 +17,11 @@ pub(crate) struct Words {
 
 impl Model for Words {
     ghost use Rattle.std.specs.Prelude.{ℕ, List, ◌≤◌, length, vec_capacity};
-    ghost use Rattle.nit_word.specs.Zeros.{padded, HasRoom};
+    ghost use Rattle.nit_word.specs.Zeros.{filled_up, HasRoom};
 
     ghost Value = { List ℕ };
 
-    ghost view = { λ w. padded w.size w.reached.items };
+    ghost view = { λ w. filled_up w.size w.reached.items };
 
     ghost invariant = { λ w. HasRoom (length w.reached.items) w.size (vec_capacity w.reached) };
 }
@@ -53,7 +53,7 @@ impl Words {
 
     /// The words as far as they were reached.
     pub(crate) fn reached(&self) -> &[u32]
-        ensures { self.now ≡ padded (length self.now) result.now }
+        ensures { self.now ≡ filled_up (length self.now) result.now }
     {
         &self.reached
     }

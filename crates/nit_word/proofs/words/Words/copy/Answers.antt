@@ -2,7 +2,7 @@ use Rattle.std.proofs.Common.{◌∙◌, ℕ, List, length, ap, sym, arith}
 use Rattle.std.specs.Prelude.{slice_index}
 use Rattle.nit_word.specs.Updates.{is_between}
 use Rattle.nit_word.proofs.UpdateLemmas.{same_colours}
-use Rattle.nit_word.proofs.ReachedWords.{IsSetIn, padded_at, none_past, reached_long, set_in, whole_long}
+use Rattle.nit_word.proofs.ReachedWords.{IsSetIn, filled_at, none_past, reached_long, set_in, whole_long}
 use Rattle.nit_word.proofs.words.Words.copy.Goals as goal
 
 pub reach-requires : goal.reach-requires
@@ -27,4 +27,4 @@ returns c =
     (c.deref_mut.ensures.value ∙ c.reach.ensures.items) c.copy_words.ensures (sym c.deref_mut.ensures.len) (λ k past. none_past c.args.from c.args.to k past) in
     after.all
     ∙ same_colours (is_between c.args.from c.args.to) (slice_index c.deref.result.now) (slice_index c.args.others.now) c.args.self.now
-    (λ k inside. ap (λ (ws : List ℕ). slice_index ws k) c.deref.ensures.value ∙ sym (padded_at c.others.inside.size c.others.inside.reached.items k) ∙ ap (λ (ws : List ℕ). slice_index ws k) c.others.view_is)
+    (λ k inside. ap (λ (ws : List ℕ). slice_index ws k) c.deref.ensures.value ∙ sym (filled_at c.others.inside.size c.others.inside.reached.items k) ∙ ap (λ (ws : List ℕ). slice_index ws k) c.others.view_is)
