@@ -1,19 +1,10 @@
 -- The audit, entry by entry.
-use Rattle.std.proofs.Common.{◌≡◌, ◌∙◌, ℕ, zero, suc, ◌+◌, ◌<◌, Bool, true, false, List, [], ◌∷◌, length, drop, get_or, refl, sym, ap, subst, arith, drop-cons, add-one, inl, inr}
-use Rattle.std.specs.Prelude.{◌≢◌, ◌⊎◌, IfOk, Result, Ok, Err}
-use Rattle.std.proofs.lemmas.List.{length-set}
+use Rattle.std.proofs.Common.{Bool, List, [], add-one, ap, arith, drop, drop-cons, false, get_or, inl, inr, length, refl, subst, suc, sym, true, zero, ℕ, ◌+◌, ◌<◌, ◌∙◌, ◌∷◌, ◌≡◌}
+use Rattle.nit_audit.proofs.Basics.{Audited, Call, Configuration, Entry, Err, IfOk, IsAhead, IsFollowed, IsFollowing, IsGoodFor, IsGoodFrom, IsMatched, IsNothingLeft, IsReplay, IsVerdict, IsVerdictFrom, MayFollow, Ok, Result, UnderwayModel, UserAction, Verdict, audited, first_audited, followed, left, length-set, to_do}
+use Rattle.std.specs.Prelude.{◌≢◌, ◌⊎◌}
 use mathlib.Core.List.{cons≢nil}
-use Rattle.nit_events.specs.declared.call.Call.{Call}
-use Rattle.nit_events.specs.declared.entry.Entry.{Entry}
 use Rattle.nit_events.specs.declared.entry.Entry.TheVariants as entry
-use Rattle.nit_config.specs.Configuration.{Configuration}
-use Rattle.nit_journal.specs.WholeJournals.{UserAction, left, to_do}
-use Rattle.nit_audit.specs.declared.auditing.Verdict.{Verdict}
 use Rattle.nit_audit.specs.declared.auditing.Verdict.TheVariants as verdict
-use Rattle.nit_audit.specs.GoodEntries.{IsGoodFor}
-use Rattle.nit_audit.specs.Verdict.{IsVerdict, IsVerdictFrom}
-use Rattle.nit_audit.specs.Underway.{Audited, IsGoodFrom, IsMatched, IsNothingLeft, MayFollow, first_audited, followed}
-use Rattle.nit_audit.specs.AuditReplay.{IsAhead, IsFollowed, IsFollowing, IsReplay, UnderwayModel, audited}
 use Rattle.nit_audit.proofs.GoodEntryLemmas.{final_alone, final_good, final_left, front_good, front_may, front_rest, good_fewer, good_for, good_from, none_good}
 use Rattle.nit_audit.proofs.VerdictLemmas.{final_behind, final_last, front_bad, front_verdict, none_behind, one_verdict, verdict_for}
 

@@ -1,16 +1,8 @@
 -- Good entries that end are a legal and whole journal, and only they are.
-use Rattle.std.proofs.Common.{◌≡◌, ◌∙◌, ℕ, ◌+◌, ◌==◌, cond, List, [], ◌∷◌, ◌++◌, refl, sym, ap, subst}
-use Rattle.std.proofs.lemmas.List.{append-nil}
+use Rattle.std.proofs.Common.{List, [], ap, cond, refl, subst, sym, ℕ, ◌++◌, ◌+◌, ◌==◌, ◌∙◌, ◌∷◌, ◌≡◌}
+use Rattle.nit_audit.proofs.Basics.{Call, Configuration, Entry, IsAllDone, IsEnded, IsGoodFor, IsLegal, IsWhole, LegalFrom, State, UserAction, after, append-nil, calls_of, first_state, user_actions_of}
 use mathlib.Core.List.{cons≢nil}
-use Rattle.nit_events.specs.declared.call.Call.{Call}
-use Rattle.nit_events.specs.declared.entry.Entry.{Entry}
 use Rattle.nit_events.specs.declared.entry.Entry.TheVariants as entry
-use Rattle.nit_config.specs.Configuration.{Configuration}
-use Rattle.nit_journal.specs.State.{State, after, first_state}
-use Rattle.nit_journal.specs.Replay.{IsLegal, LegalFrom}
-use Rattle.nit_journal.specs.WholeJournals.{UserAction, IsWhole, calls_of, user_actions_of}
-use Rattle.nit_audit.specs.GoodEntries.{IsAllDone, IsGoodFor}
-use Rattle.nit_audit.specs.Verdict.{IsEnded}
 
 -- ---- what the last picture adds
 

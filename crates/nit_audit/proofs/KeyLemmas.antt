@@ -1,20 +1,9 @@
 -- The views of keys, when keys and records change.
-use Rattle.std.proofs.Common.{◌≡◌, ◌∙◌, ℕ, zero, suc, ◌+◌, ◌<◌, ◌==◌, not, Bool, true, false, ◌||◌, cond, List, [], ◌∷◌, map, filter, find, Option, Some, None, refl, sym, ap, subst, nat_le}
-use Rattle.std.specs.Prelude.{◌≢◌, is_some, IfSome, IsSomeAnd, OnOk, Result, Ok, Err}
-use Rattle.std.specs.List.{AllByRecursion, insert, position_or_len}
-use Rattle.std.specs.Option.{option_map}
-use Rattle.std.proofs.lemmas.Bool.{eq-eqb, eqb-true, false≢true}
-use Rattle.slab.specs.Slab.{Slab, Updates, get}
-use Rattle.nit_rect.specs.declared.point.Point.{Point}
-use Rattle.nit_rect.specs.Rectangle.{covers}
+use Rattle.nit_audit.proofs.Basics.{AllByRecursion, AllHaveViews, Change, Err, HasView, IfSome, IsSomeAnd, Ok, OnOk, Point, Result, Slab, Updates, Which, above_is, changed, changed_if, covers, eq-eqb, eqb-true, false≢true, find-map, front_is, get, has_key, in_bar, insert, is_meant, is_some, map-insert, map-map, map-put_above, map-put_back, map-put_front, map-without, map_twice, moved, moved_found, option_map, owner, position_or_len, put_above, put_again, put_back, put_front, swept, taken_if, view_or, view_under, views_at, with_change, without}
+use Rattle.std.proofs.Common.{Bool, List, None, Option, Some, [], ap, cond, false, filter, find, map, nat_le, not, refl, subst, suc, sym, true, zero, ℕ, ◌+◌, ◌<◌, ◌==◌, ◌||◌, ◌∙◌, ◌∷◌, ◌≡◌}
+use Rattle.std.specs.Prelude.{◌≢◌}
 use Rattle.nit_stack.specs.declared.view.View.{View}
-use Rattle.nit_stack.specs.Orders.{changed, moved, put_above, put_back, put_front, put_again, without}
-use Rattle.nit_stack.specs.Sources.{in_bar, owner}
-use Rattle.nit_stack.proofs.ForCallers.{find-map, map-insert, map-map, above_is, front_is, map-put_above, map-put_back, map-put_front, map-without, moved_found, map_twice}
-use Rattle.nit_audit.specs.declared.keys.Change.{Change}
 use Rattle.nit_audit.specs.declared.keys.Change.TheVariants as change
-use Rattle.nit_audit.specs.declared.keys.Which.{Which}
-use Rattle.nit_audit.specs.Keys.{AllHaveViews, HasView, changed_if, has_key, is_meant, swept, taken_if, view_under, view_or, views_at, with_change}
 
 -- ---- what holds of the keys of a list
 

@@ -8,3 +8,5 @@ mod EachEntry
 mod InputEntries
 mod FirstState
 pub mod ForCallers
+pub mod Basics
+pub mod Lemmas

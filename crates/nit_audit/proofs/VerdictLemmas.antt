@@ -1,18 +1,10 @@
 -- What is answered of entries, one at a time.
-use Rattle.std.proofs.Common.{◌≡◌, ◌∙◌, ℕ, zero, suc, ◌+◌, ◌<◌, ◌≤◌, Bool, true, false, List, [], ◌∷◌, ◌++◌, take, inl, inr, refl, sym, ap, subst, arith}
-use Rattle.std.specs.Prelude.{◌≢◌, ◌⊎◌, ◌↔◌, IfOk, Result, Ok, Err}
-use Rattle.std.proofs.lemmas.Bool.{cases_lt, false≢true}
+use Rattle.std.proofs.Common.{Bool, List, [], ap, arith, false, inl, inr, refl, subst, suc, sym, take, true, zero, ℕ, ◌++◌, ◌+◌, ◌<◌, ◌∙◌, ◌∷◌, ◌≡◌, ◌≤◌}
+use Rattle.nit_audit.proofs.Basics.{Call, Device, Entry, Err, IfOk, IsEnded, IsLeastBad, IsOpen, IsVerdict, IsVerdictFrom, Ok, Reply, Result, Routed, Verdict, cases_lt, false≢true}
+use Rattle.std.specs.Prelude.{◌↔◌, ◌≢◌, ◌⊎◌}
 use mathlib.Core.List.{cons≢nil}
-use Rattle.nit_events.specs.declared.call.Call.{Call}
-use Rattle.nit_events.specs.declared.call.Reply.{Reply}
-use Rattle.nit_events.specs.declared.device.Device.{Device}
-use Rattle.nit_events.specs.declared.event.Routed.{Routed}
-use Rattle.nit_events.specs.declared.entry.Entry.{Entry}
 use Rattle.nit_events.specs.declared.entry.Entry.TheVariants as entry
-use Rattle.nit_journal.specs.Replay.{IsOpen}
-use Rattle.nit_audit.specs.declared.auditing.Verdict.{Verdict}
 use Rattle.nit_audit.specs.declared.auditing.Verdict.TheVariants as verdict
-use Rattle.nit_audit.specs.Verdict.{IsEnded, IsLeastBad, IsVerdict, IsVerdictFrom}
 
 -- ---- one more entry in front
 

@@ -1,24 +1,11 @@
 -- What an audit keeps of a run, and what holds of it.
 use Rattle.std.specs.Prelude.{◌≡◌, ℕ, ◌+◌, ◌*◌, ◌<◌, ◌≤◌, Bool, true, false, List, length, drop, slice_index_or, IsTrue}
-use Rattle.nit_rect.specs.Rectangle.{is_rectangle}
-use Rattle.nit_glyph.specs.Texts.{is_title}
-use Rattle.nit_events.specs.declared.call.Call.{Call}
-use Rattle.nit_events.specs.declared.call.Call.TheVariants.{Place, Title, Close}
-use Rattle.nit_events.specs.declared.device.Device.{Device}
-use Rattle.nit_events.specs.declared.entry.Entry.{Entry}
+use Rattle.nit_audit.specs.Below.{Agrees, Call, Close, Configuration, Device, Entry, FocusModel, InputState, Place, Routing, Session, State, Title, UserAction, after, forget, is_rectangle, is_title, member, most_sessions, route, session_in}
 use Rattle.nit_events.specs.declared.entry.Entry.TheVariants as entry
 use Rattle.nit_stack.specs.declared.view.View.{View}
-use Rattle.nit_events.specs.Input.{InputState, Routing, forget}
-use Rattle.nit_focus.specs.Focus.{FocusModel}
-use Rattle.nit_config.specs.Configuration.{Configuration, member}
-use Rattle.nit_journal.specs.Session.{Session}
-use Rattle.nit_journal.specs.State.{State, after, route, session_in}
-use Rattle.nit_journal.specs.Replay.{Agrees}
-use Rattle.nit_journal.specs.WholeJournals.{UserAction}
 use Rattle.nit_audit.specs.Underway.{Audited, IsGoodFrom, MayFollow, followed}
 use Rattle.nit_audit.specs.declared.auditing.Verdict.{Verdict}
 use Rattle.nit_audit.specs.Verdict.{IsVerdictFrom}
-use Rattle.nit_rect.specs.Limits.{most_sessions}
 
 -- the machines, the views front first, where the input goes, how many shots were taken, and how
 -- many entries there were

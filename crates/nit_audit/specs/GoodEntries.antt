@@ -1,16 +1,9 @@
 -- Entries that a run may have made so far.
 use Rattle.std.specs.Prelude.{◌≡◌, ℕ, ◌<◌, List, ◌∷◌, ◌++◌, map, length}
-use Rattle.std.specs.List.Sorted.{IsNonDecreasing}
+use Rattle.nit_audit.specs.Below.{Call, Configuration, Entry, InputLine, IsLegal, IsNonDecreasing, Line, UserAction, calls_of, calls_to_make, phases_along, to_do, user_actions_of, user_actions_to_do}
 use mathlib.Core.List.{IsPrefix}
-use Rattle.nit_events.specs.declared.call.Call.{Call}
-use Rattle.nit_events.specs.declared.entry.Entry.{Entry}
 use Rattle.nit_events.specs.declared.entry.Entry.TheVariants as entry
-use Rattle.nit_script.specs.declared.line.Line.{Line}
-use Rattle.nit_script.specs.declared.line.InputLine.{InputLine}
-use Rattle.nit_config.specs.Configuration.{Configuration}
-use Rattle.nit_journal.specs.Replay.{IsLegal}
-use Rattle.nit_journal.specs.WholeJournals.{UserAction, calls_of, user_actions_of, done, to_do, phases_along}
-use Rattle.nit_plan.specs.Calls.{calls_to_make, user_actions_to_do}
+use Rattle.nit_journal.specs.WholeJournals.{done}
 
 -- the clients have made all their calls, and the user has done all
 pub record IsAllDone

@@ -1,15 +1,11 @@
 -- The views as the audit keeps them: the records under their keys, and the keys, front first.
 use Rattle.std.specs.Prelude.{ℕ, ◌<◌, ◌==◌, Bool, List, map, Option, Some, None, option_map, IsSomeAnd, if◌then◌else◌}
-use Rattle.std.specs.List.{AllByRecursion, list_any}
-use Rattle.slab.specs.Slab.{Slab, get}
+use Rattle.nit_audit.specs.Below.{AllByRecursion, Slab, get, is_view, list_any, most_sessions, new_view}
 use Rattle.nit_stack.specs.declared.view.View.{View}
-use Rattle.nit_stack.specs.LabelPlaces.{is_view}
-use Rattle.nit_journal.specs.StackAfter.{new_view}
 use Rattle.nit_audit.specs.declared.keys.Change.{Change}
 use Rattle.nit_audit.specs.declared.keys.Change.TheVariants as change
 use Rattle.nit_audit.specs.declared.keys.Which.{Which}
 use Rattle.nit_audit.specs.declared.keys.Which.TheVariants as which
-use Rattle.nit_rect.specs.Limits.{most_sessions}
 
 -- the record that was found; one of no session's view where there is none
 abbrev pub view_or : Option View → View

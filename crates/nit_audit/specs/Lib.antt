@@ -9,3 +9,5 @@ pub mod Verdict
 pub mod Underway
 pub mod Keys
 pub mod AuditReplay
+pub mod Below
+pub mod Terms

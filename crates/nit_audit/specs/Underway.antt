@@ -1,18 +1,11 @@
 -- An audit under way: what the entries so far lead to, and which entry may come next.
 use Rattle.std.specs.Prelude.{◌≡◌, ℕ, ◌+◌, ◌<◌, ◌≤◌, List, [], ◌∷◌, ◌++◌, length, slice_set}
-use Rattle.std.specs.List.Sorted.{IsNonDecreasing}
+use Rattle.nit_audit.specs.Below.{Agrees, Call, Configuration, Does, Entry, InputLine, IsNonDecreasing, LegalFrom, Line, Shoots, State, UserAction, after, calls_of, first_state, left, next_phase, phases_along, to_do, user_actions_of}
 use mathlib.Core.List.{IsPrefix}
-use Rattle.nit_events.specs.declared.call.Call.{Call}
-use Rattle.nit_events.specs.declared.entry.Entry.{Entry}
 use Rattle.nit_events.specs.declared.entry.Entry.TheVariants as entry
-use Rattle.nit_script.specs.declared.line.Line.{Line}
 use Rattle.nit_script.specs.declared.line.Line.TheVariants as line
-use Rattle.nit_script.specs.declared.line.InputLine.{InputLine}
 use Rattle.nit_script.specs.declared.line.InputLine.TheVariants as input
-use Rattle.nit_config.specs.Configuration.{Configuration}
-use Rattle.nit_journal.specs.State.{State, after, first_state}
-use Rattle.nit_journal.specs.Replay.{LegalFrom, Agrees}
-use Rattle.nit_journal.specs.WholeJournals.{UserAction, Does, Shoots, calls_of, user_actions_of, done, left, next_phase, to_do, phases_along}
+use Rattle.nit_journal.specs.WholeJournals.{done}
 use Rattle.nit_audit.specs.GoodEntries.{IsAllDone}
 
 -- the state; how many shots were taken; what the clients and the user are still to do; and the

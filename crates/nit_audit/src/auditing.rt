@@ -2,17 +2,7 @@
 
 ghost use Rattle.std.specs.Prelude.{◌≡◌, ◌≢◌, ℕ, ◌<◌, ◌≤◌, ◌↔◌, ◌⊎◌, ◌+◌, [], length, map, slice_set, IsTrue, IfOk, Ok};
 ghost use Rattle.nit_events.specs.declared.entry.Entry.TheVariants as entry;
-ghost use Rattle.nit_events.specs.Ranges.{IsDevice, most_read};
-ghost use Rattle.nit_config.specs.Configuration.{donation_of};
-ghost use Rattle.nit_config.specs.ConfigurationRanges.{IsConfiguration};
-ghost use Rattle.nit_journal.specs.Replay.{IsLegal};
-ghost use Rattle.nit_journal.specs.Projection.{alone, projection, replies_to};
-ghost use Rattle.nit_journal.specs.WholeJournals.{Does, IsWhole, Shoots, left, next_phase, to_do};
-ghost use Rattle.nit_plan.specs.Calls.{calls_to_make, user_actions_to_do};
-ghost use Rattle.nit_audit.specs.GoodEntries.{IsGood};
-ghost use Rattle.nit_audit.specs.Verdict.{IsVerdict};
-ghost use Rattle.nit_audit.specs.Underway.{IsNext, IsNothingLeft, first_audited};
-ghost use Rattle.nit_audit.specs.AuditReplay.{IsFollowing, IsGone, IsReplay, audited};
+ghost use Rattle.nit_audit.specs.Terms.{Does, IsConfiguration, IsDevice, IsFollowing, IsGone, IsGood, IsLegal, IsNext, IsNothingLeft, IsReplay, IsVerdict, IsWhole, Shoots, alone, audited, calls_to_make, donation_of, first_audited, left, most_read, next_phase, projection, replies_to, to_do, user_actions_to_do};
 
 use crate::client_course::ClientCourse;
 use crate::laws::{yes_is_legal_and_whole, yes_is_served_alone};

@@ -1,10 +1,7 @@
 //! What a client's script has still to do.
 
 ghost use Rattle.std.specs.Prelude.{◌≡◌, ◌↔◌, ◌+◌, ◌≤◌, [], IsTrue, IfSome, IfNone, length};
-ghost use Rattle.nit_journal.specs.WholeJournals.{left, next_phase};
-ghost use Rattle.nit_plan.specs.Calls.{calls_from, calls_to_make};
-ghost use Rattle.nit_audit.specs.Underway.{BeginsWithCall, IsNext};
-ghost use Rattle.nit_script.specs.Grammar.{most_lines};
+ghost use Rattle.nit_audit.specs.Terms.{BeginsWithCall, IsNext, calls_from, calls_to_make, left, most_lines, next_phase};
 
 use crate::same::same_call;
 use nit_events::Call;

@@ -1,15 +1,9 @@
 //! Records of views under their keys, and the order of the keys, front first.
 
 ghost use Rattle.std.specs.Prelude.{◌≡◌, ◌≢◌, ◌≤◌, ℕ, filter, find, length, nat_le, option_map, is_some, OnOk, vec_len};
-ghost use Rattle.std.specs.List.{insert, position_or_len};
-ghost use Rattle.slab.specs.Slab.{Slab as SlabOf, get};
+ghost use Rattle.nit_audit.specs.Terms.{AllHaveViews, HasView, changed_if, covers, get, insert, is_meant, layer, member, new_view, position_or_len, put_back, swept, taken_if, view_under, with_change, without};
+ghost use Rattle.slab.specs.Slab.{Slab as SlabOf};
 ghost use Rattle.nit_stack.specs.declared.view.View.{View as ViewOf};
-ghost use Rattle.nit_rect.specs.Rectangle.{covers};
-ghost use Rattle.nit_stack.specs.Orders.{put_back, without};
-ghost use Rattle.nit_config.specs.Configuration.{member};
-ghost use Rattle.nit_journal.specs.State.{layer};
-ghost use Rattle.nit_journal.specs.StackAfter.{new_view};
-ghost use Rattle.nit_audit.specs.Keys.{AllHaveViews, HasView, changed_if, is_meant, swept, taken_if, view_under, with_change};
 
 use nit_config::Config;
 use nit_glyph::Title;

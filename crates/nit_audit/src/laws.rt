@@ -1,16 +1,8 @@
 //! What verdicts say of each other, and of journals.
 
 ghost use Rattle.std.specs.Prelude.{◌≡◌, ◌<◌, ℕ, List, length};
-ghost use Rattle.nit_events.specs.declared.call.Call.{Call};
-ghost use Rattle.nit_events.specs.declared.entry.Entry.{Entry};
-ghost use Rattle.nit_config.specs.Configuration.{Configuration, donation_of};
-ghost use Rattle.nit_journal.specs.Replay.{IsLegal};
-ghost use Rattle.nit_journal.specs.Projection.{alone, projection, replies_to};
-ghost use Rattle.nit_journal.specs.WholeJournals.{UserAction, IsWhole};
-ghost use Rattle.nit_audit.specs.declared.auditing.Verdict.{Verdict};
+ghost use Rattle.nit_audit.specs.Terms.{Call, Configuration, Entry, IsGoodFor, IsLegal, IsVerdict, IsWhole, UserAction, Verdict, alone, donation_of, projection, replies_to};
 ghost use Rattle.nit_audit.specs.declared.auditing.Verdict.TheVariants as verdict;
-ghost use Rattle.nit_audit.specs.GoodEntries.{IsGoodFor};
-ghost use Rattle.nit_audit.specs.Verdict.{IsVerdict};
 
 use nit_journal::laws::isolation;
 

@@ -1,10 +1,8 @@
 //! One session, done again.
 
 ghost use Rattle.std.specs.Prelude.{◌≡◌, ◌+◌, ◌-◌, ◌^◌, ◌<◌, ◌≤◌, not, filter, ◌==◌, None, IfOk, vec_capacity};
-ghost use Rattle.std.specs.List.{list_any};
-ghost use Rattle.nit_slots.specs.Account.{IsDonation};
-ghost use Rattle.nit_events.specs.declared.call.Call.TheVariants.{View, Destroy, Take};
-ghost use Rattle.nit_journal.specs.Session.{first_session, refusal, by_call, by_handle, accepted, ended, queued, receive};
+ghost use Rattle.nit_audit.specs.Terms.{Destroy, IsDonation, Take, accepted, by_call, by_handle, ended, first_session, list_any, queued, receive, refusal};
+ghost use Rattle.nit_events.specs.declared.call.Call.TheVariants.{View};
 
 use nit_events::{Call, Event, Item, Queue, Reply, Status};
 use nit_journal::refusing::{

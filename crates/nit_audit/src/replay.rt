@@ -2,20 +2,8 @@
 
 ghost use Rattle.std.specs.Prelude.{◌≡◌, ◌+◌, ◌<◌, ◌≤◌, true, false, All, length, map, IfOk, OnOk, slice_index_or, slice_set, None, IsTrue, ◌↔◌, ℕ, ◌∷◌, [], ◌-◌, ◌^◌};
 ghost use Rattle.nit_events.specs.declared.entry.Entry.TheVariants as entry;
-ghost use Rattle.nit_events.specs.Input.{deliveries_of, delivery, first_input, routed_as};
-ghost use Rattle.nit_events.specs.Ranges.{IsDevice, most_read};
-ghost use Rattle.nit_rect.specs.Rectangle.{is_rectangle, rectangle};
-ghost use Rattle.nit_glyph.specs.Texts.{is_title};
+ghost use Rattle.nit_audit.specs.Terms.{IsConfiguration, IsDevice, IsMember, IsReplay, IsReplayAnswer, IsSound, accepted, after_accepted, after_deliveries, bar_rows, changed, delivered, deliveries_of, delivery, first_input, first_session, first_state, input_closing, is_rectangle, is_title, is_view, layer, member, most_read, most_sessions, rectangle, refusal, replay_routing, routed_as, session_in, state_of_replay};
 ghost use Rattle.nit_stack.specs.declared.view.View.{View};
-ghost use Rattle.nit_stack.specs.LabelPlaces.{is_view};
-ghost use Rattle.nit_stack.specs.Orders.{changed};
-ghost use Rattle.nit_config.specs.Configuration.{bar_rows, member};
-ghost use Rattle.nit_config.specs.ConfigurationRanges.{IsConfiguration, IsMember};
-ghost use Rattle.nit_journal.specs.Session.{accepted, first_session, refusal};
-ghost use Rattle.nit_journal.specs.State.{delivered, layer, first_state, session_in};
-ghost use Rattle.nit_journal.specs.StackAfter.{after_accepted, after_deliveries};
-ghost use Rattle.nit_audit.specs.AuditReplay.{input_closing, IsReplay, IsSound, IsReplayAnswer, replay_routing, state_of_replay};
-ghost use Rattle.nit_rect.specs.Limits.{most_sessions};
 
 use crate::keys::{Change, Which};
 use crate::machine::Machine;

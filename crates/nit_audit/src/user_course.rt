@@ -1,13 +1,7 @@
 //! What the input script has still to do.
 
 ghost use Rattle.std.specs.Prelude.{◌≡◌, ◌↔◌, ◌+◌, ◌≤◌, [], IsTrue, IfSome, IfNone, length};
-ghost use Rattle.std.specs.List.{AllByRecursion};
-ghost use Rattle.nit_events.specs.Ranges.{IsDevice};
-ghost use Rattle.nit_script.specs.Spelling.{FitsInputLine};
-ghost use Rattle.nit_journal.specs.WholeJournals.{Does, Shoots, left, next_phase};
-ghost use Rattle.nit_plan.specs.Calls.{user_actions_from, user_actions_to_do};
-ghost use Rattle.nit_audit.specs.Underway.{BeginsWithDeed, IsNext};
-ghost use Rattle.nit_script.specs.Grammar.{most_lines};
+ghost use Rattle.nit_audit.specs.Terms.{AllByRecursion, BeginsWithDeed, Does, FitsInputLine, IsDevice, IsNext, Shoots, left, most_lines, next_phase, user_actions_from, user_actions_to_do};
 
 use nit_events::Device;
 use nit_script::{Input, InputLine};

@@ -1,13 +1,7 @@
 //! All views in a plain list, front first.
 
 ghost use Rattle.std.specs.Prelude.{◌≡◌, ◌<◌, ◌≤◌, [], option_map, IfSome, OnOk};
-ghost use Rattle.nit_stack.specs.LabelPlaces.{is_view};
-ghost use Rattle.nit_stack.specs.Orders.{changed, moved, put_above, put_back, put_front, without};
-ghost use Rattle.nit_stack.specs.Sources.{owner};
-ghost use Rattle.nit_journal.specs.State.{layer};
-ghost use Rattle.nit_journal.specs.StackAfter.{new_view};
-ghost use Rattle.nit_audit.specs.Keys.{is_meant, with_change};
-ghost use Rattle.nit_rect.specs.Limits.{most_sessions};
+ghost use Rattle.nit_audit.specs.Terms.{changed, is_meant, is_view, layer, most_sessions, moved, new_view, owner, put_above, put_back, put_front, with_change, without};
 
 use crate::keys::{
     Change, Which, back_place, change_all, covering, drop_all, first_key, front_place, layer_of,

@@ -1,17 +1,8 @@
 -- The part of a picture inside a rectangle.
-use Rattle.std.proofs.Common.{◌≡◌, ℕ, zero, suc, ◌+◌, ◌-◌, ◌*◌, ◌/◌, ◌%◌, ◌^◌, ◌<◌, ◌≤◌, List, [], ◌∷◌, ◌++◌, length, take, drop, map, refl, sym, ap, ap₂, subst, ◌∙◌, arith, mul_comm, length-append, w32, to_z, of_z}
-use Rattle.std.specs.Prelude.{ℤ, pos, negsuc, ◌+ℤ◌, ◌≤ℤ◌, nat_abs, slice_index}
-use Rattle.std.specs.List.{flat_map, range_with_len, All}
-use Rattle.std.proofs.lemmas.Int.{ints, to_z-of_z}
-use Rattle.std.proofs.lemmas.List.{take_all, get_or-take, get_or-drop}
-use Rattle.std.proofs.lemmas.Nat.{mul-add-lt, div_below, mod_below, div-mul-add, mod-mul-add}
-use Rattle.nit_word.specs.Inks.{IsWord}
-use Rattle.nit_word.specs.Channels.{red, green, blue, word_of, channels}
-use Rattle.nit_rect.specs.Rectangle.{Rectangle, IsPlace}
-use Rattle.nit_rect.specs.Intersection.{HasPixels, LiesIn}
-use Rattle.nit_rect.proofs.ForCallers.{within}
-use Rattle.nit_capture.specs.Tiles.{IsPicture}
-use Rattle.nit_capture.specs.Crop.{screen, crop_place, crop_row_place, crop, crop_pixel, crop_bytes, word_of_bytes, Shows}
+use Rattle.nit_capture.proofs.Basics.{All, HasPixels, IsPicture, IsPlace, IsWord, LiesIn, Rectangle, Shows, blue, channels, crop, crop_pixel, div-mul-add, div_below, flat_map, get_or-drop, get_or-take, green, ints, mod-mul-add, mod_below, mul-add-lt, nat_abs, negsuc, pos, range_with_len, red, screen, slice_index, take_all, to_z-of_z, within, word_of, ℤ}
+use Rattle.std.proofs.Common.{List, [], ap, ap₂, arith, drop, length, length-append, map, mul_comm, of_z, refl, subst, suc, sym, take, to_z, w32, zero, ℕ, ◌%◌, ◌*◌, ◌++◌, ◌+◌, ◌-◌, ◌/◌, ◌<◌, ◌^◌, ◌∙◌, ◌∷◌, ◌≡◌, ◌≤◌}
+use Rattle.std.specs.Prelude.{◌+ℤ◌, ◌≤ℤ◌}
+use Rattle.nit_capture.specs.Crop.{crop_bytes, crop_place, crop_row_place, word_of_bytes}
 use Rattle.nit_capture.proofs.RunsRead.{AreBytes}
 use Rattle.nit_capture.proofs.TileDifferences.{same_map}
 use Rattle.nit_capture.proofs.RecordsRead.{words_fit}

@@ -1,15 +1,8 @@
 -- What the definitions of films say of each other.
-use Rattle.std.proofs.Common.{◌≡◌, ℕ, ◌+◌, ◌*◌, ◌/◌, ◌%◌, ◌<◌, List, [], ◌∷◌, ◌++◌, length, map, refl, sym, ap, ap₂, subst, ◌∙◌, arith, append_assoc, drop, true}
-use Rattle.std.specs.Prelude.{ℤ, pos, negsuc, ◌≤ℤ◌, nat_abs, slice_index}
-use Rattle.std.specs.List.{AllByRecursion}
-use Rattle.std.proofs.lemmas.Int.{ints}
-use Rattle.std.proofs.lemmas.List.{length-replicate}
-use Rattle.nit_rect.specs.Rectangle.{Rectangle, spans}
-use Rattle.nit_rect.specs.Intersection.{HasPixels, LiesIn}
-use Rattle.nit_rect.proofs.ForCallers.{and_true, spans_holds, within}
-use Rattle.nit_capture.specs.Tiles.{IsPicture, IsPictureSize, black}
-use Rattle.nit_capture.specs.Film.{record_of, records, stream, HasRecord}
-use Rattle.nit_capture.specs.Crop.{screen, crop_place, crop, AgreeInside, AllAgree}
+use Rattle.nit_capture.proofs.Basics.{AgreeInside, AllAgree, AllByRecursion, HasPixels, HasRecord, IsPicture, IsPictureSize, LiesIn, Rectangle, and_true, black, crop, ints, length-replicate, nat_abs, negsuc, pos, record_of, records, screen, slice_index, spans, spans_holds, stream, within, ℤ}
+use Rattle.std.proofs.Common.{List, [], ap, append_assoc, ap₂, arith, drop, length, map, refl, subst, sym, true, ℕ, ◌%◌, ◌*◌, ◌++◌, ◌+◌, ◌/◌, ◌<◌, ◌∙◌, ◌∷◌, ◌≡◌}
+use Rattle.std.specs.Prelude.{◌≤ℤ◌}
+use Rattle.nit_capture.specs.Crop.{crop_place}
 use Rattle.nit_capture.proofs.TileDifferences.{same_map}
 use Rattle.nit_capture.proofs.RecordsRead.{one_record, no_record}
 use Rattle.nit_capture.proofs.CropLemmas.{in_cut}

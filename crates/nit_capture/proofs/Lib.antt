@@ -11,3 +11,5 @@ pub mod RunsWritten
 pub mod RecordsWritten
 pub mod CropLemmas
 pub mod FilmLaws
+pub mod Basics
+pub mod Lemmas

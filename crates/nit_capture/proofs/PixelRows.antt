@@ -1,14 +1,8 @@
 -- Pixels that stand side by side in a row.
-use Rattle.std.proofs.Common.{◌≡◌, ℕ, zero, suc, ◌+◌, ◌-◌, ◌*◌, ◌<◌, ◌≤◌, inl, inr, Bool, true, false, mul_comm, List, [], ◌∷◌, ◌++◌, length, take, drop, map, refl, sym, ap, ap₂, ◌∙◌, arith, append_assoc}
-use Rattle.std.specs.Prelude.{slice_index}
-use Rattle.std.specs.List.{range_with_len}
-use Rattle.std.proofs.lemmas.Bool.{cases_lt}
-use Rattle.std.proofs.lemmas.Nat.{div-mul-add, mod-mul-add, mul-add-lt, mul-le}
-use Rattle.std.proofs.lemmas.List.{append-nil, ext_get_or, get_or-take, get_or-drop, length-take, length-drop}
+use Rattle.std.proofs.Common.{Bool, List, [], ap, append_assoc, ap₂, arith, drop, false, inl, inr, length, map, mul_comm, refl, suc, sym, take, true, zero, ℕ, ◌*◌, ◌++◌, ◌+◌, ◌-◌, ◌<◌, ◌∙◌, ◌∷◌, ◌≡◌, ◌≤◌}
+use Rattle.nit_capture.proofs.Basics.{IsPictureSize, append-nil, cases_lt, differs, div-mul-add, ext_get_or, get_or-drop, get_or-map-range_with_len, get_or-take, high, left_of, length-drop, length-map-range_with_len, length-take, map-range_with_len_more, mod-mul-add, mul-add-lt, mul-le, range_with_len, slice_index, take-put_mid, tile_count, tile_pixels, top_of, wide}
+use Rattle.nit_capture.specs.Tiles.{area, place, row_place}
 use borrow.Rule.Slice.PartMut.{put_mid}
-use Rattle.std.proofs.lemmas.Slice.{take-put_mid}
-use Rattle.std.proofs.lemmas.List.FromFn.{map-range_with_len_more, length-map-range_with_len, get_or-map-range_with_len}
-use Rattle.nit_capture.specs.Tiles.{wide, high, area, top_of, left_of, place, row_place, tile_count, tile_pixels, differs, IsPictureSize}
 use Rattle.nit_capture.proofs.Tiles.{wide_some, high_some}
 use Rattle.nit_capture.proofs.TileDifferences.{same_tile, same_pixel, same_map}
 

@@ -1,8 +1,8 @@
 -- What reading does at one pixel and at one tile, for the loops that read.
-use Rattle.std.proofs.Common.{◌≡◌, ℕ, zero, suc, ◌+◌, ◌-◌, ◌<◌, ◌≤◌, Bool, true, false, not, ◌||◌, List, Option, Some, None, refl, ap, ◌∙◌, arith}
-use Rattle.std.specs.Prelude.{◌==◌, slice_index, slice_set}
-use Rattle.nit_capture.specs.Tiles.{place}
-use Rattle.nit_capture.specs.RecordReaders.{run_at, pixels_at, tile_at, is_next, behind_two, turn_at, tiles_at}
+use Rattle.std.proofs.Common.{Bool, List, None, Option, Some, ap, arith, false, not, refl, suc, true, zero, ℕ, ◌+◌, ◌-◌, ◌<◌, ◌||◌, ◌∙◌, ◌≡◌, ◌≤◌}
+use Rattle.std.specs.Prelude.{◌==◌}
+use Rattle.nit_capture.specs.RecordReaders.{pixels_at, tiles_at, turn_at}
+use Rattle.nit_capture.proofs.Basics.{behind_two, is_next, place, run_at, slice_index, slice_set, tile_at}
 
 one_more : (n k : ℕ) → k < n → n - k ≡ suc (n - (k + 1))
 one_more n k lt = omega arith

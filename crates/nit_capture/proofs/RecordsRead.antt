@@ -1,19 +1,13 @@
 -- A whole record read back.
-use Rattle.std.proofs.Common.{◌≡◌, ℕ, zero, suc, ◌+◌, ◌-◌, ◌*◌, ◌/◌, ◌%◌, ◌^◌, ◌<◌, ◌≤◌, ◌⊎◌, inl, inr, Bool, true, false, List, [], ◌∷◌, ◌++◌, length, Option, Some, None, refl, sym, ap, ap₂, subst, ◌∙◌, arith, append_assoc}
-use Rattle.std.specs.Prelude.{◌==◌, slice_index, cond}
-use Rattle.std.specs.List.{flat_map, filter, range_with_len, All, AllByRecursion}
-use Rattle.nit_word.specs.Inks.{IsWord}
-use Rattle.std.proofs.lemmas.Bool.{eqb-true, eq-eqb, ne_eqb, cases_eq, cases_lt}
-use Rattle.std.proofs.lemmas.List.{get_or_past}
-use Rattle.std.proofs.lemmas.Option.{some_pair_parts}
-use Rattle.nit_capture.specs.Tiles.{tile_count, area, place, tile, differs}
-use Rattle.nit_capture.specs.Film.{two_bytes, runs, run_bytes, tile_bytes, changed_tiles, record_of, HasRecord}
-use Rattle.nit_capture.specs.RecordReaders.{◌>>=◌, tile_at, is_next, behind_two, turn_at, tiles_at, record_at}
+use Rattle.nit_capture.proofs.Basics.{All, AllByRecursion, HasRecord, IsWord, area, behind_two, bind_some, cases_eq, cases_lt, changed_tiles, cond, differs, eq-eqb, eqb-true, filter, flat_map, get_or_past, is_next, ne_eqb, place, range_with_len, record_at, run_bytes, runs, slice_index, some_pair_parts, tile, tile_at, tile_count, two_bytes, ◌>>=◌}
+use Rattle.std.proofs.Common.{Bool, List, None, Option, Some, [], ap, append_assoc, ap₂, arith, false, inl, inr, length, refl, subst, suc, sym, true, zero, ℕ, ◌%◌, ◌*◌, ◌++◌, ◌+◌, ◌-◌, ◌/◌, ◌<◌, ◌^◌, ◌∙◌, ◌∷◌, ◌≡◌, ◌≤◌, ◌⊎◌}
+use Rattle.std.specs.Prelude.{◌==◌}
+use Rattle.nit_capture.specs.Film.{record_of, tile_bytes}
+use Rattle.nit_capture.specs.RecordReaders.{tiles_at, turn_at}
 use Rattle.nit_capture.proofs.TileDifferences.{differs_at, differs_where, same_tile, same_pixel}
 use Rattle.nit_capture.proofs.RunsRead.{AreBytes}
 use Rattle.nit_capture.proofs.ReaderSteps.{turn_none_left, turn_other, turn_taken, tiles_read}
 use Rattle.nit_capture.proofs.TilesRead.{IsOther, TookTile, tile_take, tile_again, rest_changed, same_differs, same_filter, same_pixels, other_tile, same_picture}
-use Rattle.nit_rect.proofs.ForCallers.{bind_some}
 
 -- ---- what one turn did
 

@@ -1,17 +1,9 @@
 -- Records written from left to right.
-use Rattle.std.proofs.Common.{◌≡◌, ℕ, suc, ◌+◌, ◌<◌, ◌≤◌, ◌^◌, ◌/◌, ◌%◌, Result, Ok, Err, Bool, true, false, List, [], ◌∷◌, ◌++◌, length, take, map, refl, sym, ap, ap₂, ◌∙◌, arith, append_assoc, length-append}
-use Rattle.std.specs.Prelude.{slice_index, slice_set, cond, IsErr}
-use Rattle.std.specs.List.{flat_map, filter, range_with_len, All}
-use Rattle.std.proofs.lemmas.Nat.{mul-le}
-use Rattle.std.proofs.lemmas.List.FromFn.{length-map-range_with_len, get_or-map-range_with_len}
-use Rattle.nit_capture.specs.Appends.{Appends}
+use Rattle.std.proofs.Common.{Bool, Err, List, Ok, Result, [], ap, append_assoc, ap₂, arith, false, length, length-append, map, refl, suc, sym, take, true, ℕ, ◌%◌, ◌++◌, ◌+◌, ◌/◌, ◌<◌, ◌^◌, ◌∙◌, ◌∷◌, ◌≡◌, ◌≤◌}
+use Rattle.nit_capture.proofs.Basics.{All, Appends, IsErr, IsPicture, IsPictureSize, IsWord, append-nil, area, changed_tiles, cond, filter, flat_map, flat_map-append, get_or-map-range_with_len, length-map-range_with_len, map-range_with_len_more, mul-le, place, range_with_len, slice_index, slice_set, take_more_set, tile, tile_bytes, two_bytes}
+use Rattle.nit_capture.specs.Film.{record_of}
+use Rattle.nit_capture.specs.Tiles.{tile_count, tiles_along}
 use Rattle.nit_capture.proofs.RecordsRead.{words_fit}
-use Rattle.std.proofs.lemmas.List.{append-nil, take_more_set}
-use Rattle.std.proofs.lemmas.List.Concat.{flat_map-append}
-use Rattle.std.proofs.lemmas.List.FromFn.{map-range_with_len_more}
-use Rattle.nit_word.specs.Inks.{IsWord}
-use Rattle.nit_capture.specs.Tiles.{IsPicture, IsPictureSize, tiles_along, tile_count, area, place, tile}
-use Rattle.nit_capture.specs.Film.{two_bytes, tile_bytes, changed_tiles, record_of}
 use Rattle.nit_capture.proofs.TileDifferences.{range_more}
 
 filter-join : (f : ℕ → Bool) (xs : List ℕ) (x : ℕ) → filter f (xs ++ x ∷ []) ≡ filter f xs ++ cond (f x) (x ∷ []) []

@@ -1,7 +1,7 @@
 -- Where the pixels of tiles lie: each place of a picture is that of one pixel of one tile.
-use Rattle.std.proofs.Common.{◌≡◌, ℕ, ◌+◌, ◌-◌, ◌*◌, ◌/◌, ◌%◌, ◌<◌, ◌≤◌, min, sym, ap, ap₂, ◌∙◌, mul_comm, arith}
-use Rattle.std.proofs.lemmas.Nat.{mul-add-lt, div_below, div-mul-add, mod-mul-add, same_from_place, div-add-mod', mod_below}
-use Rattle.nit_capture.specs.Tiles.{tiles_along, tile_count, left_of, top_of, wide, high, area, place}
+use Rattle.std.proofs.Common.{ap, ap₂, arith, min, mul_comm, sym, ℕ, ◌%◌, ◌*◌, ◌+◌, ◌-◌, ◌/◌, ◌<◌, ◌∙◌, ◌≡◌, ◌≤◌}
+use Rattle.nit_capture.proofs.Basics.{div-add-mod', div-mul-add, div_below, mod-mul-add, mod_below, mul-add-lt, same_from_place}
+use Rattle.nit_capture.specs.Tiles.{area, high, left_of, place, tile_count, tiles_along, top_of, wide}
 
 -- there is a tile in each row and column
 pub some_tiles : (n : ℕ) → 1 ≤ n → 1 ≤ tiles_along n

@@ -1,14 +1,8 @@
 -- What is read as a record is one, and what is a record is read.
-use Rattle.std.proofs.Common.{◌≡◌, ℕ, zero, suc, ◌+◌, ◌*◌, ◌^◌, ◌<◌, ◌≤◌, ◌⊎◌, inl, inr, Bool, true, false, not, ◌||◌, List, ◌∷◌, ◌++◌, length, Some, refl, sym, ap, ap₂, subst, ◌∙◌, arith, lit<}
-use Rattle.std.specs.Prelude.{◌==◌, slice_index, slice_set, cond}
-use Rattle.std.specs.List.{flat_map, filter, range_with_len}
-use Rattle.std.proofs.lemmas.Bool.{cases_eq, true≢false, or_cases}
-use Rattle.std.proofs.lemmas.List.{ext_get_or, length-set, get_or-set_same, get_or-set_other}
-use Rattle.std.proofs.lemmas.Option.{cond_some}
-use Rattle.nit_capture.specs.Tiles.{tile_count, area, place, tile_pixels, tile, differs}
-use Rattle.nit_capture.specs.Film.{runs, run_bytes}
-use Rattle.nit_capture.specs.RecordReaders.{run_at, no_word, pixels_at, tile_at}
-use Rattle.nit_rect.proofs.ForCallers.{same_tests, bind_some}
+use Rattle.nit_capture.proofs.Basics.{area, bind_some, cases_eq, cond, cond_some, differs, ext_get_or, filter, flat_map, get_or-set_other, get_or-set_same, length-set, no_word, or_cases, place, range_with_len, run_at, run_bytes, runs, same_tests, slice_index, slice_set, tile, tile_at, tile_count, tile_pixels, true≢false}
+use Rattle.std.proofs.Common.{Bool, List, Some, ap, ap₂, arith, false, inl, inr, length, lit<, not, refl, subst, suc, sym, true, zero, ℕ, ◌*◌, ◌++◌, ◌+◌, ◌<◌, ◌^◌, ◌||◌, ◌∙◌, ◌∷◌, ◌≡◌, ◌≤◌, ◌⊎◌}
+use Rattle.std.specs.Prelude.{◌==◌}
+use Rattle.nit_capture.specs.RecordReaders.{pixels_at}
 use Rattle.nit_capture.proofs.Tiles.{place_within, same_place, lies_at}
 use Rattle.nit_capture.proofs.TileDifferences.{same_map, differs_at, differs_where, unlike, like}
 use Rattle.nit_capture.proofs.RunsRead.{AreBytes, Continues, run_takes, run_again, tile_spelled, tile_spelled_back}

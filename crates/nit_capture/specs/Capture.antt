@@ -1,7 +1,5 @@
 -- A capture as contracts see it.
-use Rattle.std.specs.Prelude.{ℕ, List}
-use Rattle.nit_rect.specs.Rectangle.{Rectangle}
-use Rattle.nit_rect.specs.Intersection.{HasPixels, LiesIn}
+use Rattle.nit_capture.specs.Below.{HasPixels, LiesIn, List, Rectangle, ℕ}
 use Rattle.nit_capture.specs.Tiles.{IsPictureSize, IsPicture, black}
 use Rattle.nit_capture.specs.Film.{record_of}
 use Rattle.nit_capture.specs.Crop.{screen, crop, crop_bytes}

@@ -1,8 +1,6 @@
 -- The part of a screen's picture inside a rectangle.
 use Rattle.std.specs.Prelude.{◌≡◌, ℕ, ◌+◌, ◌-◌, length, ◌*◌, ◌/◌, ◌%◌, pos, nat_abs, List, [], ◌∷◌, ◌++◌, map, slice_index, IsTrue}
-use Rattle.std.specs.List.{range_with_len, flat_map}
-use Rattle.nit_rect.specs.Rectangle.{Rectangle, rectangle, covers}
-use Rattle.nit_word.specs.Channels.{word_of, channels}
+use Rattle.nit_capture.specs.Below.{Rectangle, channels, covers, flat_map, range_with_len, rectangle, word_of}
 use Rattle.nit_capture.specs.Tiles.{IsPicture}
 
 -- the screen as a rectangle

@@ -1,7 +1,6 @@
 -- A film as bytes.
 use Rattle.std.specs.Prelude.{◌≡◌, ℕ, ◌+◌, ◌/◌, ◌%◌, ◌==◌, if◌then◌else◌, List, [], ◌∷◌, ◌++◌, length, codes}
-use Rattle.std.specs.List.{range_with_len, filter, flat_map}
-use Rattle.nit_word.specs.Channels.{channels}
+use Rattle.nit_capture.specs.Below.{channels, filter, flat_map, range_with_len}
 use Rattle.nit_capture.specs.Tiles.{IsPicture, IsPictureSize, black, tile_count, tile, differs}
 
 -- ---- numbers and runs

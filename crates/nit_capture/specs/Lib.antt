@@ -10,3 +10,5 @@ pub mod Player
 -- what the private writers and readers do, which no public clause cites
 pub mod Appends
 pub mod RecordReaders
+pub mod Below
+pub mod Terms

@@ -1,5 +1,5 @@
 -- A player as contracts see it.
-use Rattle.std.specs.Prelude.{ℕ, List}
+use Rattle.nit_capture.specs.Below.{List, ℕ}
 use Rattle.nit_capture.specs.Film.{HasHeader, HasRecord}
 
 -- the width and height of each picture, and the bytes that are still to be played

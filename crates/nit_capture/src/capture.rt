@@ -1,10 +1,7 @@
 //! A rectangle of the screen, filmed.
 
 ghost use Rattle.std.specs.Prelude.{◌≡◌, ◌≤◌, ◌*◌, ◌++◌, ℕ, List, length, replicate};
-ghost use Rattle.std.specs.Prelude.{IfOk, OnOk, OnErr};
-ghost use Rattle.nit_rect.specs.Intersection.{HasPixels, LiesIn};
-ghost use Rattle.nit_capture.specs.Tiles.{IsPictureSize};
-ghost use Rattle.nit_capture.specs.Crop.{screen, Shows};
+ghost use Rattle.nit_capture.specs.Terms.{HasPixels, IfOk, IsPictureSize, LiesIn, OnErr, OnOk, Shows, screen};
 
 use crate::cut::cut_into;
 use crate::grid::Grid;

@@ -1,11 +1,7 @@
 //! The pixels of a rectangle, cut out of a picture of the screen.
 
 ghost use Rattle.std.specs.Prelude.{◌≡◌, ◌≤◌, ◌<◌, ◌*◌, ◌+◌, ℕ, length, map, nat_abs, slice_index};
-ghost use Rattle.std.specs.List.{range_with_len};
-ghost use Rattle.nit_rect.specs.Rectangle.{IsPlace};
-ghost use Rattle.nit_rect.specs.Intersection.{HasPixels, LiesIn};
-ghost use Rattle.nit_capture.specs.Tiles.{IsPicture, most_pixels};
-ghost use Rattle.nit_capture.specs.Crop.{screen, word_of_bytes, crop_pixel, crop_row_place, crop_bytes};
+ghost use Rattle.nit_capture.specs.Terms.{HasPixels, IsPicture, IsPlace, LiesIn, crop_bytes, crop_pixel, crop_row_place, most_pixels, range_with_len, screen, word_of_bytes};
 
 use crate::grid::Grid;
 use nit_rect::Rect;

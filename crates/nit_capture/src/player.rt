@@ -1,8 +1,7 @@
 //! A film's bytes, played picture by picture.
 
 ghost use Rattle.std.specs.Prelude.{◌≡◌, ◌≢◌, ◌∷◌, ℕ, List, [], IsSome, IfSome, true, false};
-ghost use Rattle.nit_capture.specs.Tiles.{IsPictureSize, IsPicture};
-ghost use Rattle.nit_capture.specs.declared.player.Played.TheVariants.{Frame, End, Bad};
+ghost use Rattle.nit_capture.specs.Terms.{Bad, End, Frame, IsPicture, IsPictureSize};
 
 use crate::grid::Grid;
 use crate::reading::take_record;

@@ -1,11 +1,7 @@
 //! The runs of a tile's pixels.
 
 ghost use Rattle.std.specs.Prelude.{◌≡◌, ◌≤◌, ◌<◌, ◌*◌, ◌+◌, ◌==◌};
-ghost use Rattle.std.specs.Prelude.{length, take, drop, All, slice_index};
-ghost use Rattle.std.specs.List.{flat_map, prefix_len};
-ghost use Rattle.nit_word.specs.Inks.{IsWord};
-ghost use Rattle.nit_capture.specs.Tiles.{most_area};
-ghost use Rattle.nit_capture.specs.Film.{runs, run_bytes};
+ghost use Rattle.nit_capture.specs.Terms.{All, IsWord, drop, flat_map, length, most_area, prefix_len, run_bytes, runs, slice_index, take};
 
 /// Writes the runs of pixels in front of the bytes, and answers how many bytes these are.
 pub fn write_runs(words: &[u32], bytes: &mut [u8]) -> usize

@@ -1,10 +1,6 @@
 -- The name of a file is text.
-use Rattle.std.proofs.Common.{◌≡◌, ℕ, zero, suc, ◌<◌, true, ◌&&◌, nat_le, List, [], ◌∷◌, slice_index, IsUtf8, arith}
-use Rattle.std.proofs.lemmas.Bool.{and_parts}
-use Rattle.std.proofs.lemmas.Bool.Decides.{nat_tests}
-use Rattle.std.proofs.lemmas.Str.{IsUtf8-from_ascii}
-use Rattle.std.specs.List.{list_all}
-use Rattle.nit_config.specs.Configuration.{is_file_name}
+use Rattle.std.proofs.Common.{IsUtf8, List, [], arith, nat_le, slice_index, suc, true, zero, ℕ, ◌&&◌, ◌<◌, ◌∷◌, ◌≡◌}
+use Rattle.nit_config.proofs.Basics.{IsUtf8-from_ascii, and_parts, is_file_name, list_all, nat_tests}
 
 printable_is_ascii : (xs : List ℕ) → list_all (λ b. nat_le 32 b && nat_le b 126) xs ≡ true → (i : ℕ) → slice_index xs i < 128
 printable_is_ascii [] h i = omega arith

@@ -1,6 +1,6 @@
 -- Tests that fail, over lists too.
-use Rattle.std.proofs.Common.{◌≡◌, Bool, true, false, not, ◌||◌, List, [], ◌∷◌, map, refl, ap}
-use Rattle.std.specs.List.{list_any}
+use Rattle.std.proofs.Common.{Bool, List, [], ap, false, map, not, refl, true, ◌||◌, ◌∷◌, ◌≡◌}
+use Rattle.nit_config.proofs.Basics.{list_any}
 
 -- what is not refused is so
 pub truth : (b : Bool) → not b ≡ false → b ≡ true

@@ -1,13 +1,6 @@
 -- The values of an array as the members of each, and as their labels.
-use Rattle.std.proofs.Common.{◌≡◌, ◌∙◌, ℕ, zero, suc, ◌+◌, ◌-◌, ◌<◌, Bool, ◌||◌, List, [], ◌∷◌, length, get_or, take, drop, map, bytes_eq, refl, sym, ap, add-one, arith}
-use Rattle.std.specs.List.{list_any}
-use Rattle.std.proofs.lemmas.List.{take_rest}
-use Rattle.toml.specs.Data.{Data, Members}
-use Rattle.toml.specs.View.{view}
-use Rattle.toml.specs.declared.value.Value.{Value}
-use Rattle.nit_config.specs.Tree.{members_of}
-use Rattle.nit_config.specs.Ranges.{label_of_table}
-use Rattle.nit_config.specs.Refusals.{stands_twice}
+use Rattle.std.proofs.Common.{Bool, List, [], add-one, ap, arith, bytes_eq, drop, get_or, length, map, refl, suc, sym, take, zero, ℕ, ◌+◌, ◌-◌, ◌<◌, ◌||◌, ◌∙◌, ◌∷◌, ◌≡◌}
+use Rattle.nit_config.proofs.Basics.{Data, Members, Value, label_of_table, list_any, members_of, stands_twice, take_rest, view}
 use Rattle.nit_config.proofs.BoolLemmas.{list_any-map}
 
 pub members_of_values : (vs : List Value) (ds : List Data) → map view vs ≡ ds → map (λ v. members_of (view v)) vs ≡ map members_of ds

@@ -1,19 +1,7 @@
 -- Each text has a configuration or meets a refusal: what a table holds that no refusal applies to.
-use Rattle.std.proofs.Common.{◌≡◌, ◌∙◌, ◌⊎◌, inl, inr, ℕ, ◌≤◌, ℤ, pos, negsuc, Bool, true, false, List, [], ◌∷◌, bytes_eq, codes, Option, Some, None, unwrap_or, option_and_then, IsUtf8, refl, sym, ap, arith}
-use Rattle.std.specs.List.{list_any, AllZip}
-use Rattle.std.specs.Str.{is_utf8}
-use Rattle.std.proofs.lemmas.Bool.{false≢true, or_parts}
-use Rattle.std.proofs.lemmas.Str.{IsUtf8-from_is_utf8, is_utf8-from_IsUtf8}
-use Rattle.toml.specs.Data.{Data, Members, integer, as_integer}
-use Rattle.toml.specs.Parse.{parse_document}
-use Rattle.nit_config.specs.declared.config.Member.{Member}
-use Rattle.nit_config.specs.declared.error.ConfigError.{ConfigError}
-use Rattle.nit_config.specs.declared.error.ConfigError.TheVariants.{Syntax}
-use Rattle.nit_config.specs.Configuration.{Configuration}
-use Rattle.nit_config.specs.Tree.{ReadsTable, integer_at, string_at, boolean_at, screen_table, input_table, client_tables}
-use Rattle.nit_config.specs.Ranges.{is_outside, has_bad_script, has_bad_focus, has_bad_value, label_of_table, has_bad_label}
-use Rattle.nit_config.specs.Refusals.{first_refusal}
-use Rattle.nit_config.specs.ConfigurationText.{HoldsClient, HoldsTable, IsConfigurationOf, MeetsRefusal}
+use Rattle.std.proofs.Common.{Bool, IsUtf8, List, None, Option, Some, [], ap, arith, bytes_eq, codes, false, inl, inr, negsuc, option_and_then, pos, refl, sym, true, unwrap_or, ℕ, ℤ, ◌∙◌, ◌∷◌, ◌≡◌, ◌≤◌, ◌⊎◌}
+use Rattle.nit_config.proofs.Basics.{AllZip, ConfigError, Configuration, Data, HoldsClient, HoldsTable, IsConfigurationOf, IsUtf8-from_is_utf8, MeetsRefusal, Member, Members, ReadsTable, Syntax, as_integer, boolean_at, client_tables, false≢true, first_refusal, has_bad_focus, has_bad_label, has_bad_script, input_table, integer, integer_at, is_outside, is_utf8, is_utf8-from_IsUtf8, label_of_table, list_any, or_parts, parse_document, screen_table, string_at}
+use Rattle.nit_config.specs.Ranges.{has_bad_value}
 use Rattle.nit_config.proofs.RefusalTests.{IsAccepted, accepted, refused_by}
 use Rattle.nit_config.proofs.HeldValues.{inside, integer_there, string_there, script_is_name, label_is_label, file_name_length, label_length}
 

@@ -1,10 +1,6 @@
 -- The elements of an array of `toml`, as a list.
-use Rattle.std.proofs.Common.{◌≡◌, List, [], ◌∷◌, map, refl, ap, is_some, ◌&&◌}
-use Rattle.std.specs.List.{list_all}
-use Rattle.toml.specs.Data.{as_table}
-use Rattle.toml.specs.View.{view, items_view}
-use Rattle.toml.specs.declared.value.Value.{Value}
-use Rattle.nit_config.specs.Tree.{list_of}
+use Rattle.std.proofs.Common.{List, [], ap, is_some, map, refl, ◌&&◌, ◌∷◌, ◌≡◌}
+use Rattle.nit_config.proofs.Basics.{Value, as_table, items_view, list_all, list_of, view}
 
 pub list_of_items : (vs : List Value) → list_of (items_view vs) ≡ map view vs
 list_of_items [] = refl

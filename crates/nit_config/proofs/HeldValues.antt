@@ -1,12 +1,7 @@
 -- What a value that is held says of the values with a default, and back.
-use Rattle.std.proofs.Common.{◌≡◌, ℕ, zero, suc, ◌≤◌, ℤ, pos, negsuc, Bool, true, false, ◌&&◌, nat_le, int_lt, List, [], ◌∷◌, length, codes, Option, Some, None, unwrap_or, option_and_then, ap, sym, arith}
-use Rattle.std.proofs.lemmas.Bool.{and_parts, or_parts}
-use Rattle.std.proofs.lemmas.Bool.Decides.{nat_tests}
-use Rattle.toml.specs.Data.{Data, Members, string, integer, float, boolean, datetime, array, table, as_integer, as_str}
-use Rattle.nit_glyph.specs.Texts.{is_label}
-use Rattle.nit_config.specs.Configuration.{is_file_name}
-use Rattle.nit_config.specs.Tree.{string_at}
-use Rattle.nit_config.specs.Ranges.{is_outside, has_bad_script, label_of_table, has_bad_label}
+use Rattle.std.proofs.Common.{Bool, List, None, Option, Some, [], ap, arith, codes, false, int_lt, length, nat_le, negsuc, option_and_then, pos, suc, sym, true, unwrap_or, zero, ℕ, ℤ, ◌&&◌, ◌∷◌, ◌≡◌, ◌≤◌}
+use Rattle.nit_config.proofs.Basics.{Data, Members, and_parts, array, as_integer, as_str, boolean, datetime, float, integer, is_file_name, is_label, is_outside, label_of_table, nat_tests, or_parts, string, string_at, table}
+use Rattle.nit_config.specs.Ranges.{has_bad_label, has_bad_script}
 use Rattle.nit_config.proofs.BoolLemmas.{truth}
 
 pos_zero : (n : ℕ) → pos n ≡ pos 0 → 1 ≤ n → ⊥

@@ -1,11 +1,7 @@
 -- A test of each key of the code as one of each row, and a test of each key of a map as one of each member.
-use Rattle.std.proofs.Common.{◌≡◌, ◌∙◌, Bool, not, ◌||◌, List, [], ◌∷◌, refl, ap, String, Global, string_bytes}
-use Rattle.std.specs.List.{list_any}
-use Rattle.std.specs.Map.{keys_of}
-use Rattle.toml.specs.View.{members_view}
-use Rattle.toml.specs.declared.value.Value.{Value}
-use Rattle.nit_config.specs.declared.keys.Key.{Key}
-use Rattle.nit_config.specs.Keys.{KeyRow, row_of, rows_of, is_known_key, has_unknown_key}
+use Rattle.std.proofs.Common.{Bool, Global, List, String, [], ap, not, refl, string_bytes, ◌||◌, ◌∙◌, ◌∷◌, ◌≡◌}
+use Rattle.nit_config.proofs.Basics.{Key, KeyRow, Value, is_known_key, keys_of, list_any, members_view, row_of, rows_of}
+use Rattle.nit_config.specs.Keys.{has_unknown_key}
 use Rattle.nit_config.proofs.BoolLemmas.{list_any-map}
 
 pub on_rows : (p : KeyRow → Bool) (keys : List Key) (rows : List KeyRow) → rows_of keys ≡ rows → list_any (λ k. p (row_of k)) keys ≡ list_any p rows

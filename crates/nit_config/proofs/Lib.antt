@@ -10,3 +10,5 @@ pub mod KeyRows
 pub mod BoolLemmas
 pub mod RangeLemmas
 pub mod ForCallers
+pub mod Basics
+pub mod Lemmas

@@ -1,9 +1,6 @@
 -- The members of a configuration, one by one.
-use Rattle.std.proofs.Common.{◌≡◌, ◌∙◌, ℕ, zero, suc, ◌+◌, ◌<◌, List, [], ◌∷◌, ◌++◌, length, get_or, take, map, add-one, ap, subst, arith}
-use Rattle.std.specs.List.{AllZip}
-use Rattle.toml.specs.Data.{Members}
-use Rattle.nit_config.specs.declared.config.Member.{Member}
-use Rattle.nit_config.specs.ConfigurationText.{HoldsClient}
+use Rattle.std.proofs.Common.{List, [], add-one, ap, arith, get_or, length, map, subst, suc, take, zero, ℕ, ◌++◌, ◌+◌, ◌<◌, ◌∙◌, ◌∷◌, ◌≡◌}
+use Rattle.nit_config.proofs.Basics.{AllZip, HoldsClient, Member, Members}
 
 built_next : {A : Type 0} (f : A → Members) (xs : List A) (i : ℕ) (ms : List Member) (d : A) (m : Member) → i < length xs
     → AllZip HoldsClient (map f (take i xs)) ms → HoldsClient (f (get_or xs i d)) m → AllZip HoldsClient (map f (take (suc i) xs)) (ms ++ m ∷ [])

@@ -1,15 +1,6 @@
 -- A text has one configuration or one refusal at most, so only one answer, or want of memory, fits it.
-use Rattle.std.proofs.Common.{◌≡◌, ◌∙◌, ◌⊎◌, inl, inr, ℕ, pos, List, [], ◌∷◌, Some, None, Result, Ok, Err, refl, sym, ap, subst}
-use Rattle.std.specs.List.{AllZip}
-use Rattle.toml.specs.Data.{Members, string, integer}
-use Rattle.nit_config.specs.declared.config.Member.{Member}
-use Rattle.nit_config.specs.declared.error.ConfigError.{ConfigError}
-use Rattle.nit_config.specs.declared.error.ConfigError.TheVariants.{Syntax, Kind, Missing, Unknown, TooMany, Range, Label, Twice, NoMemory}
-use Rattle.nit_config.specs.Configuration.{Configuration}
-use Rattle.nit_config.specs.Tree.{ReadsTable}
-use Rattle.nit_config.specs.Refusals.{first_refusal}
-use Rattle.nit_config.specs.ConfigurationText.{HoldsClient, HoldsTable, IsConfigurationOf, HasNoTable, HasRefusedTable, MeetsRefusal, UnlessMemory, IsConfigAnswer}
-use Rattle.std.proofs.lemmas.Option.{same_Some}
+use Rattle.std.proofs.Common.{Err, List, None, Ok, Result, Some, [], ap, inl, inr, pos, refl, subst, sym, ℕ, ◌∙◌, ◌∷◌, ◌≡◌, ◌⊎◌}
+use Rattle.nit_config.proofs.Basics.{AllZip, ConfigError, Configuration, HasNoTable, HasRefusedTable, HoldsClient, HoldsTable, IsConfigAnswer, IsConfigurationOf, Kind, Label, MeetsRefusal, Member, Members, Missing, NoMemory, Range, ReadsTable, Syntax, TooMany, Twice, Unknown, UnlessMemory, first_refusal, integer, same_Some, string}
 
 same_integer : (m n : ℕ) → Some (integer (pos m)) ≡ Some (integer (pos n)) → m ≡ n
 same_integer m n q = cc

@@ -1,22 +1,8 @@
 -- A configuration that holds the values of an accepted table is within the ranges of the format.
-use Rattle.std.proofs.Common.{◌≡◌, ◌≢◌, ◌∙◌, ℕ, ◌≤◌, pos, false, nat_lt, List, [], ◌∷◌, length, map, bytes_eq, Result, Ok, Err, IfOk, All, AllPairs, refl, sym, ap, suc, arith}
-use Rattle.std.specs.List.{list_any, AllZip}
-use Rattle.std.proofs.lemmas.Bool.{false≢true, or_parts}
-use Rattle.std.proofs.lemmas.Bool.Decides.{nat_tests}
-use Rattle.std.proofs.lemmas.List.{length-map}
-use Rattle.std.proofs.lemmas.List.Elements.{All-nil, All-cons}
-use Rattle.std.proofs.lemmas.List.Kept.{AllPairs-cons}
-use Rattle.std.proofs.lemmas.Slice.Eq.{bytes_eq-Decides}
-use Rattle.toml.specs.Data.{Members}
-use Rattle.nit_glyph.specs.Texts.{is_label}
-use Rattle.nit_config.specs.declared.config.Member.{Member}
-use Rattle.nit_config.specs.declared.error.ConfigError.{ConfigError}
-use Rattle.nit_config.specs.Configuration.{Configuration, is_file_name, still_configuration}
-use Rattle.nit_config.specs.ConfigurationRanges.{IsMember, IsConfiguration}
-use Rattle.nit_config.specs.Tree.{elements_of, client_tables, members_of}
-use Rattle.nit_config.specs.Ranges.{is_outside, has_bad_script, has_bad_focus, has_bad_value, label_of_table, has_bad_label}
-use Rattle.nit_config.specs.Refusals.{stands_twice, has_label_twice}
-use Rattle.nit_config.specs.ConfigurationText.{HoldsClient, HoldsTable, IsConfigurationOf, IsConfigAnswer}
+use Rattle.std.proofs.Common.{All, AllPairs, Err, IfOk, List, Ok, Result, [], ap, arith, bytes_eq, false, length, map, nat_lt, pos, refl, suc, sym, ℕ, ◌∙◌, ◌∷◌, ◌≡◌, ◌≢◌, ◌≤◌}
+use Rattle.nit_config.proofs.Basics.{All-cons, All-nil, AllPairs-cons, AllZip, ConfigError, Configuration, HoldsClient, HoldsTable, IsConfigAnswer, IsConfiguration, IsConfigurationOf, IsMember, Member, Members, bytes_eq-Decides, client_tables, elements_of, false≢true, has_bad_focus, has_bad_label, has_bad_script, is_file_name, is_label, is_outside, label_of_table, length-map, list_any, members_of, nat_tests, or_parts, stands_twice, still_configuration}
+use Rattle.nit_config.specs.Ranges.{has_bad_value}
+use Rattle.nit_config.specs.Refusals.{has_label_twice}
 use Rattle.nit_config.proofs.RefusalTests.{IsAccepted, accepted}
 use Rattle.nit_config.proofs.HeldValues.{inside, inside_held, bar_fits_held, string_held, script_is_name, label_is_label}
 

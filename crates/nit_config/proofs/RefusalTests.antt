@@ -1,15 +1,8 @@
 -- What is known of a table that no refusal applies to, and of one that a refusal does.
-use Rattle.std.proofs.Common.{◌≡◌, ◌≢◌, ℕ, pos, Bool, true, false, ◌&&◌, nat_lt, int_lt, List, [], ◌∷◌, length, codes, Some, None, Err, refl}
-use Rattle.std.specs.List.{list_any, AllByRecursion}
-use Rattle.toml.specs.Data.{Members}
-use Rattle.nit_config.specs.declared.error.ConfigError.{ConfigError}
-use Rattle.nit_config.specs.declared.error.ConfigError.TheVariants.{Syntax, Kind, Missing, Unknown, TooMany, Range, Label, Twice, NoMemory}
-use Rattle.nit_config.specs.Tree.{ReadsTable, integer_at, boolean_at, elements_of, screen_table, input_table, client_tables}
-use Rattle.nit_config.specs.Ranges.{is_outside, has_bad_size, has_bad_script, has_bad_value, has_bad_label}
-use Rattle.nit_config.specs.Refusals.{has_bad_range, has_label_twice, first_that_holds, refusals, first_refusal}
-use Rattle.nit_config.specs.ConfigurationText.{MeetsRefusal, IsConfigAnswer}
-use Rattle.std.proofs.lemmas.Option.{same_Some}
-use Rattle.std.proofs.lemmas.Bool.{or_parts}
+use Rattle.std.proofs.Common.{Bool, Err, List, None, Some, [], codes, false, int_lt, length, nat_lt, pos, refl, true, ℕ, ◌&&◌, ◌∷◌, ◌≡◌, ◌≢◌}
+use Rattle.nit_config.proofs.Basics.{AllByRecursion, ConfigError, IsConfigAnswer, Kind, Label, MeetsRefusal, Members, Missing, NoMemory, Range, ReadsTable, Syntax, TooMany, Twice, Unknown, boolean_at, client_tables, elements_of, first_that_holds, has_bad_label, has_bad_script, has_bad_value, has_label_twice, input_table, integer_at, is_outside, list_any, or_parts, refusals, same_Some, screen_table}
+use Rattle.nit_config.specs.Ranges.{has_bad_size}
+use Rattle.nit_config.specs.Refusals.{first_refusal, has_bad_range}
 
 -- where there is no first refusal, no test holds
 none_applies : (rs : List (Bool × ConfigError)) → first_that_holds rs ≡ None → AllByRecursion (λ r. r.0 ≡ false) rs

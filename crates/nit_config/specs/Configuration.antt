@@ -1,8 +1,7 @@
 -- A configuration, as a value.
 use Rattle.std.specs.Prelude.{ℕ, Bool, true, false, ◌&&◌, nat_le, List, [], ◌∷◌, length, slice_index_or, codes, if◌then◌else◌}
-use Rattle.std.specs.List.{list_all}
+use Rattle.nit_config.specs.Below.{first_printable, last_printable, list_all, most_units}
 use Rattle.nit_config.specs.declared.config.Member.{Member}
-use Rattle.nit_rect.specs.Limits.{most_units, first_printable, last_printable}
 
 -- the screen's size, whether it has a status bar, the name of the input script, and the clients in
 -- order

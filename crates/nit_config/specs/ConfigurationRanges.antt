@@ -1,9 +1,8 @@
 -- The configurations that are within the ranges of the format.
 use Rattle.std.specs.Prelude.{◌≢◌, ◌≤◌, length, All, AllPairs, IsTrue}
-use Rattle.nit_glyph.specs.Texts.{is_label}
+use Rattle.nit_config.specs.Below.{is_label, least_units, most_height, most_sessions, most_units, most_width}
 use Rattle.nit_config.specs.declared.config.Member.{Member}
 use Rattle.nit_config.specs.Configuration.{Configuration, is_file_name}
-use Rattle.nit_rect.specs.Limits.{most_units, least_units, most_width, most_height, most_sessions}
 
 -- the label is a label, the script's name is the name of a file, and the numbers are within their
 -- ranges

@@ -1,7 +1,6 @@
 -- The configuration that a text is, and the refusal that it meets.
 use Rattle.std.specs.Prelude.{◌≡◌, ℕ, pos, false, List, codes, Some, None, bytes_eq, Result, Ok, Err}
-use Rattle.std.specs.List.{AllZip}
-use Rattle.toml.specs.Data.{Members, string, integer, get_member}
+use Rattle.nit_config.specs.Below.{AllZip, Members, get_member, integer, string}
 use Rattle.nit_config.specs.declared.config.Member.{Member}
 use Rattle.nit_config.specs.declared.error.ConfigError.{ConfigError}
 use Rattle.nit_config.specs.declared.error.ConfigError.TheVariants.{Syntax, NoMemory}

@@ -1,8 +1,6 @@
 -- The keys of a configuration.
 use Rattle.std.specs.Prelude.{ℕ, Bool, true, false, not, ◌&&◌, ◌||◌, is_some, is_none, List, [], ◌∷◌, map, codes, bytes_eq}
-use Rattle.std.specs.Option.{option_map_or}
-use Rattle.std.specs.List.{list_any, list_all}
-use Rattle.toml.specs.Data.{Data, Members, no_members, member, get_member, as_table, as_array, as_integer, as_str, as_bool}
+use Rattle.nit_config.specs.Below.{Data, Members, as_array, as_bool, as_integer, as_str, as_table, get_member, list_all, list_any, member, no_members, option_map_or}
 use Rattle.nit_config.specs.declared.keys.Kind.{Kind}
 use Rattle.nit_config.specs.declared.keys.Kind.TheVariants.{Integer, Boolean, Text, Table, Tables}
 use Rattle.nit_config.specs.declared.keys.Key.{Key}

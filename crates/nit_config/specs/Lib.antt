@@ -8,3 +8,5 @@ pub mod Keys
 pub mod Ranges
 pub mod Refusals
 pub mod ConfigurationText
+pub mod Below
+pub mod Terms

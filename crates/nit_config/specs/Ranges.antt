@@ -1,11 +1,9 @@
 -- The ranges of the values, each where nothing else is wrong with its key.
 -- Where a required key is not there, the value that stands in for it is out of its range.
 use Rattle.std.specs.Prelude.{ℕ, ℤ, pos, Bool, false, not, ◌&&◌, ◌||◌, List, [], codes, bytes_eq, int_lt}
-use Rattle.toml.specs.Data.{Members}
-use Rattle.nit_glyph.specs.Texts.{is_label}
+use Rattle.nit_config.specs.Below.{Members, is_label, least_units, most_height, most_units, most_width}
 use Rattle.nit_config.specs.Configuration.{is_file_name}
 use Rattle.nit_config.specs.Tree.{integer_at, string_at, boolean_at}
-use Rattle.nit_rect.specs.Limits.{most_width, most_height, most_units, least_units}
 
 -- the integer is outside low..=high
 abbrev pub is_outside : ℤ → ℤ → ℤ → Bool

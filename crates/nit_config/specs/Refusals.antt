@@ -1,7 +1,6 @@
 -- The refusals of a table, in their order over the whole file.
 use Rattle.std.specs.Prelude.{ℕ, Bool, false, ◌||◌, if◌then◌else◌, nat_lt, List, [], ◌∷◌, length, map, Option, Some, None, bytes_eq}
-use Rattle.std.specs.List.{list_any}
-use Rattle.toml.specs.Data.{Members}
+use Rattle.nit_config.specs.Below.{Members, list_any, most_sessions}
 use Rattle.nit_config.specs.declared.error.ConfigError.{ConfigError}
 use Rattle.nit_config.specs.declared.error.ConfigError.TheVariants as refused
 use Rattle.nit_config.specs.declared.refusals.Fault.{Fault}
@@ -9,7 +8,6 @@ use Rattle.nit_config.specs.declared.refusals.Fault.TheVariants.{OtherKind, Lack
 use Rattle.nit_config.specs.Keys.{KeyRow, top_rows, screen_rows, input_rows, client_rows, has_other_kind, lacks_key, has_unknown_key}
 use Rattle.nit_config.specs.Ranges.{has_bad_size, has_bad_script, has_bad_value, label_of_table, has_bad_label}
 use Rattle.nit_config.specs.Tree.{elements_of, screen_table, input_table, client_tables}
-use Rattle.nit_rect.specs.Limits.{most_sessions}
 
 -- the table has the fault, by the rows of its place
 abbrev pub has_fault : Fault → List KeyRow → Members → Bool

@@ -1,8 +1,7 @@
 -- What stands at a key of a table that `toml` gave, with a value for where nothing of the kind
 -- stands there.
 use Rattle.std.specs.Prelude.{◌≡◌, ℕ, ℤ, Bool, List, [], ◌∷◌, Some, map, codes, unwrap_or, option_and_then, IsUtf8}
-use Rattle.toml.specs.Data.{Data, Items, no_items, item, Members, no_members, get_member, as_table, as_array, as_integer, as_str, as_bool}
-use Rattle.toml.specs.Parse.{parse_document}
+use Rattle.nit_config.specs.Below.{Data, Items, Members, as_array, as_bool, as_integer, as_str, as_table, get_member, item, no_items, no_members, parse_document}
 
 -- `toml` reads the bytes as this table: they are UTF-8, and a document
 pub record ReadsTable (bytes : List ℕ) (top : Members) : Type 0 where

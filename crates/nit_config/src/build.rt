@@ -1,14 +1,7 @@
 //! A configuration, made of a table that no refusal applies to.
 
 ghost use Rattle.std.specs.Prelude.{◌≡◌, ◌≤◌, ℕ, length, Some, None, [], false, pos, map, codes, IfOk};
-ghost use Rattle.std.specs.List.{list_any, AllZip};
-ghost use Rattle.toml.specs.Data.{no_members, get_member, integer, string};
-ghost use Rattle.toml.specs.View.{view, table_view};
-ghost use Rattle.nit_config.specs.Tree.{integer_at, string_at, members_of};
-ghost use Rattle.nit_config.specs.Ranges.{is_outside, has_bad_script, has_bad_value, has_bad_label};
-ghost use Rattle.nit_config.specs.Refusals.{first_refusal};
-ghost use Rattle.nit_config.specs.ConfigurationText.{HoldsClient, HoldsTable};
-ghost use Rattle.nit_rect.specs.Limits.{most_units};
+ghost use Rattle.nit_config.specs.Terms.{AllZip, HoldsClient, HoldsTable, first_refusal, get_member, has_bad_label, has_bad_script, has_bad_value, integer, integer_at, is_outside, list_any, members_of, most_units, no_members, string, string_at, table_view, view};
 
 use crate::config::{Config, Member};
 use crate::name::FileName;

@@ -1,11 +1,7 @@
 //! The keys of a configuration, and what a table may have wrong by them.
 
 ghost use Rattle.std.specs.Prelude.{◌≡◌, is_some, not, bytes_eq, string_bytes};
-ghost use Rattle.std.specs.List.{list_all, list_any};
-ghost use Rattle.std.specs.BTreeMap.{keys};
-ghost use Rattle.toml.specs.Data.{as_table};
-ghost use Rattle.toml.specs.View.{view, table_view};
-ghost use Rattle.nit_config.specs.Keys.{is_of_kind, is_of_other_kind, has_other_kind, is_lacking, lacks_key, is_known_key, has_unknown_key, place_rows, row_of, rows_of};
+ghost use Rattle.nit_config.specs.Terms.{as_table, has_other_kind, has_unknown_key, is_known_key, is_lacking, is_of_kind, is_of_other_kind, keys, lacks_key, list_all, list_any, place_rows, row_of, rows_of, table_view, view};
 
 use crate::tree::find;
 use toml::{Table, Value};

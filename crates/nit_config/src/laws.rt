@@ -1,11 +1,7 @@
 //! What the relations between texts, configurations and refusals say of each other.
 
 ghost use Rattle.std.specs.Prelude.{◌≡◌, ◌≤◌, ◌⊎◌, ℕ, List};
-ghost use Rattle.nit_config.specs.declared.error.ConfigError.{ConfigError};
-ghost use Rattle.nit_config.specs.Configuration.{Configuration, still_configuration};
-ghost use Rattle.nit_config.specs.ConfigurationRanges.{IsConfiguration};
-ghost use Rattle.nit_config.specs.ConfigurationText.{IsConfigurationOf, MeetsRefusal};
-ghost use Rattle.nit_rect.specs.Limits.{most_width, most_height};
+ghost use Rattle.nit_config.specs.Terms.{ConfigError, Configuration, IsConfiguration, IsConfigurationOf, MeetsRefusal, most_height, most_width, still_configuration};
 
 /// A text has one configuration at most, and that is within the ranges of the format.
 pub fn configuration_is_one()

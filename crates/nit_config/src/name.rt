@@ -1,5 +1,5 @@
 ghost use Rattle.std.specs.Prelude.{◌≡◌, IsTrue, IfOk, string_bytes};
-ghost use Rattle.nit_config.specs.Configuration.{is_file_name};
+ghost use Rattle.nit_config.specs.Terms.{is_file_name};
 
 use nit_rect::NoMemory;
 use std::alloc::Global;

@@ -1,11 +1,7 @@
 //! The ranges of the values.
 
 ghost use Rattle.std.specs.Prelude.{◌≡◌, ◌&&◌, nat_le};
-ghost use Rattle.std.specs.List.{list_all};
-ghost use Rattle.toml.specs.View.{table_view};
-ghost use Rattle.nit_rect.specs.Limits.{first_printable, last_printable};
-ghost use Rattle.nit_config.specs.Configuration.{is_file_name};
-ghost use Rattle.nit_config.specs.Ranges.{is_outside, has_bad_size, has_bad_script, has_bad_focus, has_bad_value, label_of_table, has_bad_label};
+ghost use Rattle.nit_config.specs.Terms.{first_printable, has_bad_focus, has_bad_label, has_bad_script, has_bad_size, has_bad_value, is_file_name, is_outside, label_of_table, last_printable, list_all, table_view};
 
 use crate::tree::{boolean_at, integer_at, string_at};
 use nit_rect::{FIRST_PRINTABLE, LAST_PRINTABLE, LEAST_UNITS, MOST_HEIGHT, MOST_UNITS, MOST_WIDTH};

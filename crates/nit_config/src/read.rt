@@ -1,10 +1,7 @@
 //! Reading a configuration.
 
 ghost use Rattle.std.specs.Prelude.{◌≡◌, Ok, Err, IfOk};
-ghost use Rattle.nit_config.specs.declared.error.ConfigError.{ConfigError};
-ghost use Rattle.nit_config.specs.Configuration.{Configuration};
-ghost use Rattle.nit_config.specs.ConfigurationRanges.{IsConfiguration};
-ghost use Rattle.nit_config.specs.ConfigurationText.{IsConfigurationOf, MeetsRefusal, UnlessMemory, IsConfigAnswer};
+ghost use Rattle.nit_config.specs.Terms.{ConfigError, Configuration, IsConfigAnswer, IsConfiguration, IsConfigurationOf, MeetsRefusal, UnlessMemory};
 
 use crate::build::configuration;
 use crate::config::Config;

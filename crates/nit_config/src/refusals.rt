@@ -1,13 +1,7 @@
 //! The refusals of a table, in their order over the whole file.
 
 ghost use Rattle.std.specs.Prelude.{◌≡◌, length, map, bytes_eq};
-ghost use Rattle.std.specs.List.{list_any};
-ghost use Rattle.toml.specs.Data.{no_members};
-ghost use Rattle.toml.specs.View.{view, table_view};
-ghost use Rattle.nit_config.specs.Tree.{members_of, elements_of, client_tables};
-ghost use Rattle.nit_config.specs.Keys.{place_rows, client_rows};
-ghost use Rattle.nit_config.specs.Ranges.{has_bad_value, label_of_table, has_bad_label};
-ghost use Rattle.nit_config.specs.Refusals.{has_fault, is_somewhere, has_bad_range, stands_twice, has_label_twice, first_refusal};
+ghost use Rattle.nit_config.specs.Terms.{client_rows, client_tables, elements_of, first_refusal, has_bad_label, has_bad_range, has_bad_value, has_fault, has_label_twice, is_somewhere, label_of_table, list_any, members_of, no_members, place_rows, stands_twice, table_view, view};
 
 use crate::error::ConfigError;
 use crate::keys::{Place, has_other_kind, has_unknown_key, lacks_key};

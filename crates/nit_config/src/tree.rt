@@ -1,9 +1,7 @@
 //! What stands at a key of a table.
 
 ghost use Rattle.std.specs.Prelude.{◌≡◌, map, option_map};
-ghost use Rattle.toml.specs.Data.{get_member, no_members};
-ghost use Rattle.toml.specs.View.{view, table_view};
-ghost use Rattle.nit_config.specs.Tree.{integer_at, string_at, boolean_at, members_at, members_of, elements_at, elements_of};
+ghost use Rattle.nit_config.specs.Terms.{boolean_at, elements_at, elements_of, get_member, integer_at, members_at, members_of, no_members, string_at, table_view, view};
 
 use toml::{Table, Value};
 

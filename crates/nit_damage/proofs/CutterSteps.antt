@@ -1,22 +1,8 @@
 -- What one step of the cutter does.
-use Rattle.std.proofs.Common.{◌≡◌, ℕ, ◌+◌, ◌-◌, ◌<◌, ◌≤◌, Bool, true, false, cond, List, length, drop, find, take, Option, Some, None, ap, sym, ◌∙◌, arith, add-zero}
-use Rattle.std.specs.Option.{option_map}
-use Rattle.std.specs.Prelude.{IfSome}
+use Rattle.std.proofs.Common.{Bool, List, None, Option, Some, add-zero, ap, arith, cond, drop, false, find, length, sym, take, true, ℕ, ◌+◌, ◌-◌, ◌<◌, ◌∙◌, ◌≡◌, ◌≤◌}
+use Rattle.nit_damage.proofs.Basics.{FitsJobs, HasPixels, IfSome, IsCutStep, IsJob, IsPieceOf, IsStack, Job, Point, Rectangle, SlotView, StackModel, ViewRef, and_parts, covered, covers, drop_all, has_slot, jobs_to_come, length-take, once, option_map, owner_in, slot_view_covers, take_all, times, view_ref, weight, weight_of}
 use mathlib.Core.Logic.{dite}
 use native.Mathlib.Decide.{dec_lt}
-use Rattle.std.proofs.lemmas.Bool.{and_parts}
-use Rattle.std.proofs.lemmas.List.{take_all, drop_all, length-take}
-use Rattle.nit_rect.specs.declared.point.Point.{Point}
-use Rattle.nit_rect.specs.Rectangle.{Rectangle, covers}
-use Rattle.nit_rect.specs.Intersection.{HasPixels}
-use Rattle.nit_rect.specs.Strips.{times}
-use Rattle.nit_stack.specs.declared.view.ViewRef.{ViewRef}
-use Rattle.nit_stack.specs.Sources.{owner_in}
-use Rattle.nit_stack.specs.Stack.{IsStack, SlotView, StackModel, has_slot, view_ref}
-use Rattle.nit_damage.specs.declared.cutting.Job.{Job}
-use Rattle.nit_damage.specs.Damage.{covered, once, slot_view_covers}
-use Rattle.nit_damage.specs.Cutter.{FitsJobs, IsJob, IsPieceOf, jobs_to_come, weight, weight_of}
-use Rattle.nit_damage.specs.Cut.{IsCutStep}
 use Rattle.nit_damage.proofs.RectangleCuts.{IsNextCut, cut_fewer, cut_fits, front_count, piece_count}
 use Rattle.nit_damage.proofs.Jobs.{heavy}
 use Rattle.nit_damage.proofs.Screen.{bar_fits, below_not_in_bar, below_on_screen}

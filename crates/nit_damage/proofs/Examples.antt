@@ -1,11 +1,6 @@
 -- Worked rows of the sets of pixels, computed from the definitions.
-use Rattle.std.proofs.Common.{◌≡◌, ℕ, true, false, [], ◌∷◌, Some, None, refl, pos}
-use Rattle.nit_rect.specs.Rectangle.{Rectangle, rectangle}
-use Rattle.nit_stack.specs.declared.view.ViewRef.{ViewRef}
-use Rattle.nit_stack.specs.Sources.{point}
-use Rattle.nit_stack.specs.Stack.{SlotView, StackModel, place_of}
-use Rattle.nit_damage.specs.Damage.{is_of_gone, is_of_moved, is_owned}
-use Rattle.nit_damage.specs.Cutter.{begun_cutter, to_come}
+use Rattle.std.proofs.Common.{None, Some, [], false, pos, refl, true, ℕ, ◌∷◌, ◌≡◌}
+use Rattle.nit_damage.proofs.Basics.{Rectangle, SlotView, StackModel, ViewRef, begun_cutter, is_of_gone, is_of_moved, is_owned, place_of, point, rectangle, to_come}
 
 abbrev seat : ℕ → Rectangle → SlotView
 seat k r = record { slot = k; view = record { sid = 0; handle = k; rect = r; ox = pos 0; oy = pos 0; title = [] } }

@@ -1,23 +1,8 @@
 -- Lists of rectangles that are still to be cut.
-use Rattle.std.proofs.Common.{◌≡◌, ℕ, zero, suc, ◌+◌, ◌-◌, ◌*◌, ◌^◌, ◌<◌, ◌≤◌, ◌==◌, Bool, true, false, ◌&&◌, ◌||◌, cond, All, List, [], ◌∷◌, ◌++◌, length, map, drop, take, get_or, slice_index_or, refl, ap, sym, ◌∙◌, subst, arith, zero-add, add-zero, length-append}
+use Rattle.nit_damage.proofs.Basics.{All-cons, All-nil, FitsJobs, HasPixels, IsJob, Job, Point, Rectangle, StackModel, covered, covers_none, eq-eqb, eqb-true, fold, fold-map, get_or-append-add, get_or_append_left, get_or_push, job_at, job_to_come, jobs_to_come, no_pixels, once, pixels_of, pow-suc, times, times_all, weight, weight_of, with_pixels}
+use Rattle.std.proofs.Common.{All, Bool, List, [], add-zero, ap, arith, cond, drop, false, get_or, length, length-append, map, refl, slice_index_or, subst, suc, sym, take, true, zero, zero-add, ℕ, ◌&&◌, ◌*◌, ◌++◌, ◌+◌, ◌-◌, ◌<◌, ◌==◌, ◌^◌, ◌||◌, ◌∙◌, ◌∷◌, ◌≡◌, ◌≤◌}
 use mathlib.Core.Logic.{dite}
 use native.Mathlib.Decide.{ℕ_discrete, dec_lt}
-use Rattle.std.specs.List.{fold}
-use Rattle.std.proofs.lemmas.Bool.{eq-eqb, eqb-true}
-use Rattle.std.proofs.lemmas.List.Elements.{All-cons, All-nil}
-use Rattle.std.proofs.lemmas.List.{get_or_append_left, get_or_push, get_or-append-add}
-use Rattle.std.proofs.lemmas.List.Folds.{fold-map}
-use Rattle.std.proofs.Math.Nat.{pow-suc}
-use Rattle.nit_rect.specs.declared.point.Point.{Point}
-use Rattle.nit_rect.specs.Rectangle.{Rectangle}
-use Rattle.nit_rect.specs.Intersection.{HasPixels}
-use Rattle.nit_rect.specs.Strips.{times}
-use Rattle.nit_rect.proofs.ForCallers.{covers_none, no_pixels, pixels_of}
-use Rattle.nit_stack.specs.Stack.{StackModel}
-use Rattle.nit_damage.specs.declared.cutting.Job.{Job}
-use Rattle.nit_damage.specs.Damage.{covered, once}
-use Rattle.nit_damage.specs.Cutter.{FitsJobs, IsJob, job_at, job_to_come, jobs_to_come, weight, weight_of, with_pixels}
-use Rattle.nit_damage.specs.Cut.{times_all}
 
 -- a rectangle, where it has pixels
 pub same_times : (r : Rectangle) (p : Point) → times_all (with_pixels r) p ≡ times r p

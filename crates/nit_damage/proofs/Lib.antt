@@ -7,3 +7,5 @@ pub mod ToCome
 pub mod NextPiece
 pub mod Examples
 pub mod ForCallers
+pub mod Basics
+pub mod Lemmas

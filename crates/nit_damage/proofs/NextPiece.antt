@@ -1,17 +1,6 @@
 -- What the next piece takes away.
-use Rattle.std.proofs.Common.{◌≡◌, ℕ, ◌+◌, ◌<◌, ◌≤◌, Bool, true, false, cond, List, [], length, find, Option, Some, None, refl, ap, sym, ◌∙◌, subst, arith, zero-add}
-use Rattle.std.specs.Option.{option_map}
-use Rattle.std.specs.Prelude.{IfSome, IsTrue, MatchOption}
-use Rattle.nit_rect.specs.declared.point.Point.{Point}
-use Rattle.nit_rect.specs.Rectangle.{covers}
-use Rattle.nit_rect.specs.Intersection.{HasPixels}
-use Rattle.nit_rect.specs.Strips.{times}
-use Rattle.nit_stack.specs.declared.view.Piece.{Piece}
-use Rattle.nit_stack.specs.Sources.{owner_in}
-use Rattle.nit_stack.specs.Stack.{IsOnScreen, IsScreenSize, StackModel, has_slot, view_ref}
-use Rattle.nit_damage.specs.declared.cutting.Job.{Job}
-use Rattle.nit_damage.specs.Damage.{once, slot_view_covers}
-use Rattle.nit_damage.specs.Cutter.{CutterModel, FitsStack, FitsJobs, IsPieceOf, bar_part, jobs_to_come, piece_times, pieces_left, to_come, weight}
+use Rattle.std.proofs.Common.{Bool, List, None, Option, Some, [], ap, arith, cond, false, find, length, refl, subst, sym, true, zero-add, ℕ, ◌+◌, ◌<◌, ◌∙◌, ◌≡◌, ◌≤◌}
+use Rattle.nit_damage.proofs.Basics.{CutterModel, FitsJobs, FitsStack, HasPixels, IfSome, IsOnScreen, IsPieceOf, IsScreenSize, IsTrue, Job, MatchOption, Piece, Point, StackModel, bar_part, covers, has_slot, jobs_to_come, once, option_map, owner_in, piece_times, pieces_left, slot_view_covers, times, to_come, view_ref, weight}
 use Rattle.nit_damage.proofs.Screen.{bar_in_bar, bar_on_screen}
 
 -- a cutter before and after a piece

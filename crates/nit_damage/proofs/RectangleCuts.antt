@@ -1,26 +1,6 @@
 -- One cut of a rectangle by another.
-use Rattle.std.proofs.Common.{◌≡◌, ℕ, ◌+◌, ◌*◌, ◌<◌, ◌≤◌, Bool, true, false, ◌&&◌, ◌||◌, cond, List, ◌++◌, length, map, drop, take, get_or, Option, Some, None, refl, ap, sym, ◌∙◌, subst, arith, append_assoc}
-use Rattle.std.specs.Option.{option_map}
-use Rattle.std.specs.Prelude.{slice_get}
-use Rattle.std.proofs.lemmas.Int.{ints}
-use Rattle.std.proofs.lemmas.Bool.{and_parts}
-use Rattle.std.proofs.lemmas.List.{get_or-map, length-append, length-map, map-append}
-use Rattle.std.proofs.lemmas.List.Elements.{All-append}
-use Rattle.std.proofs.lemmas.List.Sums.{get_or-le-sum_by, sum_by-append}
-use Rattle.std.proofs.lemmas.Option.{slice_get_within}
-use Rattle.nit_rect.specs.declared.point.Point.{Point}
-use Rattle.nit_rect.specs.declared.strips.Strips.{Strips}
-use Rattle.nit_rect.specs.Rectangle.{Rectangle, covers}
-use Rattle.nit_rect.specs.Intersection.{CoversBoth, HasPixels, IsApart, LiesIn}
-use Rattle.nit_rect.specs.Strips.{IsDivided, times}
-use Rattle.nit_rect.proofs.ForCallers.{IsWithin, covers_none, no_pixels, within}
-use Rattle.nit_stack.specs.declared.view.ViewRef.{ViewRef}
-use Rattle.nit_stack.specs.Stack.{SlotView, StackModel, view_ref}
-use Rattle.nit_stack.proofs.ForCallers.{slot_at}
-use Rattle.nit_damage.specs.declared.cutting.Job.{Job}
-use Rattle.nit_damage.specs.Damage.{covered, once, slot_view_covers}
-use Rattle.nit_damage.specs.Cutter.{FitsJobs, IsJob, job_at, job_to_come, jobs_to_come, weight, weight_of, with_pixels}
-use Rattle.nit_damage.specs.Cut.{IsCut, times_all}
+use Rattle.nit_damage.proofs.Basics.{All-append, CoversBoth, FitsJobs, HasPixels, IsApart, IsCut, IsDivided, IsJob, IsWithin, Job, LiesIn, Point, Rectangle, SlotView, StackModel, Strips, ViewRef, and_parts, covered, covers, covers_none, get_or-le-sum_by, get_or-map, ints, job_at, job_to_come, jobs_to_come, length-map, map-append, no_pixels, once, option_map, slice_get, slice_get_within, slot_at, slot_view_covers, sum_by-append, times, times_all, view_ref, weight, weight_of, with_pixels, within}
+use Rattle.std.proofs.Common.{Bool, List, None, Option, Some, ap, append_assoc, arith, cond, drop, false, get_or, length, length-append, map, refl, subst, sym, take, true, ℕ, ◌&&◌, ◌*◌, ◌++◌, ◌+◌, ◌<◌, ◌||◌, ◌∙◌, ◌≡◌, ◌≤◌}
 use Rattle.nit_damage.proofs.Jobs.{all_have_pixels, at_most_one, cut_in_front, fits_append, lighter, rest_to_come, rest_weighs, same_times}
 use Rattle.nit_damage.proofs.Views.{covered_less, covered_more, covered_none}
 

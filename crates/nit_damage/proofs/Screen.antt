@@ -1,16 +1,7 @@
 -- Rectangles of the screen.
-use Rattle.std.proofs.Common.{◌≡◌, ℕ, ◌+◌, ◌-◌, ◌≤◌, true, false, not, ap, arith}
-use Rattle.std.specs.Prelude.{pos, ◌≤ℤ◌, ◌<ℤ◌}
-use Rattle.std.proofs.lemmas.Int.{ints}
-use Rattle.std.proofs.lemmas.Bool.{and_parts, false_from_ne_true, not-true}
-use Rattle.nit_rect.specs.declared.point.Point.{Point}
-use Rattle.nit_rect.specs.Rectangle.{Rectangle, rectangle, covers, spans}
-use Rattle.nit_rect.specs.Intersection.{HasPixels, LiesIn}
-use Rattle.nit_rect.specs.Strips.{IsScreenRectangle}
-use Rattle.nit_rect.proofs.ForCallers.{IsSpanned, and_true, same_tests, spans_tells, spans_holds, IsWithin, within}
-use Rattle.nit_stack.specs.Sources.{in_bar}
-use Rattle.nit_stack.specs.Stack.{IsOnScreen, IsStack, StackModel}
-use Rattle.nit_damage.specs.Cutter.{bar_part, part_below_bar}
+use Rattle.nit_damage.proofs.Basics.{HasPixels, IsOnScreen, IsScreenRectangle, IsSpanned, IsStack, IsWithin, LiesIn, Point, Rectangle, StackModel, and_parts, and_true, bar_part, covers, false_from_ne_true, in_bar, ints, not-true, part_below_bar, rectangle, same_tests, spans, spans_holds, spans_tells, within}
+use Rattle.std.proofs.Common.{ap, arith, false, not, pos, true, ℕ, ◌+◌, ◌-◌, ◌≡◌, ◌≤◌}
+use Rattle.std.specs.Prelude.{◌<ℤ◌, ◌≤ℤ◌}
 
 -- a pixel in rows of the screen, from one row on
 pub record IsAmong (width from high : ℕ) (p : Point) : Type 0 where

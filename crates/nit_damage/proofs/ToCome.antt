@@ -1,22 +1,6 @@
 -- What is to come after a begin.
-use Rattle.std.proofs.Common.{◌≡◌, ℕ, zero, suc, ◌+◌, ◌*◌, ◌<◌, ◌≤◌, ◌==◌, not, Bool, true, false, ◌&&◌, ◌||◌, cond, nat_lt, List, [], ◌∷◌, ◌++◌, length, map, find, take, get_or, Option, Some, None, refl, ap, ap₂, sym, ◌∙◌, subst, arith, zero-add, inr, sum_by}
-use Rattle.std.specs.Option.{option_map, option_map_or}
-use Rattle.std.proofs.lemmas.Bool.{and_parts}
-use Rattle.std.proofs.lemmas.Bool.Decides.{nat_tests}
-use Rattle.std.proofs.lemmas.List.{get_or-map, length-map}
-use Rattle.std.proofs.lemmas.List.Sums.{sum_by-append}
-use Rattle.nit_rect.specs.declared.point.Point.{Point}
-use Rattle.nit_rect.specs.Rectangle.{Rectangle, covers}
-use Rattle.nit_rect.specs.Intersection.{CoversBoth, HasPixels, LiesIn}
-use Rattle.nit_rect.specs.Strips.{times}
-use Rattle.nit_rect.proofs.ForCallers.{covers_none}
-use Rattle.nit_stack.specs.declared.view.ViewRef.{ViewRef}
-use Rattle.nit_stack.specs.Sources.{in_bar}
-use Rattle.nit_stack.specs.Stack.{IsOnScreen, NoPair, SlotView, StackModel, is_slot, place_of, same_slot, slot_view_in}
-use Rattle.nit_damage.specs.declared.cutting.Job.{Job}
-use Rattle.nit_damage.specs.Damage.{covered, is_behind, is_of_moved, is_owned, once, slot_view_covers}
-use Rattle.nit_damage.specs.Cutter.{CutterModel, FitsStack, FitsJobs, IsJob, bar_part, begun_cutter, job_at, job_to_come, jobs_to_come, part_below_bar, to_come, with_pixels}
-use Rattle.nit_damage.specs.Cut.{IsCut, times_all}
+use Rattle.nit_damage.proofs.Basics.{CoversBoth, CutterModel, FitsJobs, FitsStack, HasPixels, IsCut, IsJob, IsOnScreen, Job, LiesIn, NoPair, Point, Rectangle, SlotView, StackModel, ViewRef, and_parts, bar_part, begun_cutter, covered, covers, covers_none, get_or-map, in_bar, is_behind, is_of_moved, is_owned, is_slot, job_at, job_to_come, jobs_to_come, length-map, nat_tests, once, option_map, option_map_or, part_below_bar, place_of, same_slot, slot_view_covers, slot_view_in, sum_by-append, times, times_all, to_come, with_pixels}
+use Rattle.std.proofs.Common.{Bool, List, None, Option, Some, [], ap, ap₂, arith, cond, false, find, get_or, inr, length, map, nat_lt, not, refl, subst, suc, sum_by, sym, take, true, zero, zero-add, ℕ, ◌&&◌, ◌*◌, ◌++◌, ◌+◌, ◌<◌, ◌==◌, ◌||◌, ◌∙◌, ◌∷◌, ◌≡◌, ◌≤◌}
 use Rattle.nit_damage.proofs.RectangleCuts.{rest_lies}
 use Rattle.nit_damage.proofs.Jobs.{all_have_pixels, at_most_one, fits_append, rest_to_come, same_times}
 use Rattle.nit_damage.proofs.Screen.{bar_in_bar, bar_is, bar_off, below_is, below_not_in_bar, below_off}

@@ -1,14 +1,6 @@
 -- The views that cover a pixel.
-use Rattle.std.proofs.Common.{◌≡◌, ℕ, zero, suc, ◌+◌, ◌<◌, ◌≤◌, ◌==◌, not, Bool, true, false, ◌&&◌, ◌||◌, cond, List, [], ◌∷◌, find, take, drop, Option, Some, None, refl, ap, sym, ◌∙◌, subst, arith, add-one}
-use Rattle.std.specs.List.{position_or_len}
-use Rattle.std.specs.Option.{option_map_or}
-use Rattle.std.specs.Prelude.{slice_get}
-use Rattle.std.proofs.lemmas.Bool.{eqb-true}
-use Rattle.nit_rect.specs.declared.point.Point.{Point}
-use Rattle.nit_stack.specs.Sources.{in_bar, owner_in}
-use Rattle.nit_stack.specs.Stack.{NoPair, SlotView, StackModel, has_slot, is_slot, place_of, same_slot, slot_view_in}
-use Rattle.nit_stack.proofs.ForCallers.{found_fails}
-use Rattle.nit_damage.specs.Damage.{covered, is_behind, slot_view_covers}
+use Rattle.nit_damage.proofs.Basics.{NoPair, Point, SlotView, StackModel, covered, eqb-true, found_fails, has_slot, in_bar, is_behind, is_slot, option_map_or, owner_in, place_of, position_or_len, same_slot, slice_get, slot_view_covers, slot_view_in}
+use Rattle.std.proofs.Common.{Bool, List, None, Option, Some, [], add-one, ap, arith, cond, drop, false, find, not, refl, subst, suc, sym, take, true, zero, ℕ, ◌&&◌, ◌+◌, ◌<◌, ◌==◌, ◌||◌, ◌∙◌, ◌∷◌, ◌≡◌, ◌≤◌}
 
 -- the front-most of the views that cover a pixel
 pub front_most : (p : Point) (views : List SlotView) (i : ℕ) (s : SlotView) → slice_get views i ≡ Some s → covered (take i views) p ≡ false → slot_view_covers p s ≡ true → find (slot_view_covers p) views ≡ Some s

@@ -1,12 +1,7 @@
 -- One cut.
 use Rattle.std.specs.Prelude.{All, ◌≡◌, ℕ, ◌+◌, ◌≤◌, ◌<◌, ◌&&◌, List, ◌++◌, length, map, sum_by, Option, IfSome, MatchOption}
-use Rattle.nit_rect.specs.declared.point.Point.{Point}
-use Rattle.nit_rect.specs.Rectangle.{Rectangle, covers}
-use Rattle.nit_rect.specs.Intersection.{CoversBoth, HasPixels, IsApart}
-use Rattle.nit_rect.specs.Strips.{times}
+use Rattle.nit_damage.specs.Below.{CoversBoth, HasPixels, IsApart, Piece, Point, Rectangle, StackModel, covers, times}
 use Rattle.nit_damage.specs.declared.cutting.Job.{Job}
-use Rattle.nit_stack.specs.declared.view.Piece.{Piece}
-use Rattle.nit_stack.specs.Stack.{StackModel}
 use Rattle.nit_damage.specs.Damage.{once}
 use Rattle.nit_damage.specs.Cutter.{FitsJobs, IsPieceOf, job_at, job_to_come, jobs_to_come, piece_times, weight, weight_of}
 

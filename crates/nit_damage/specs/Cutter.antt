@@ -1,12 +1,6 @@
 -- What a cutter keeps, and which pixels are still to come by it.
 use Rattle.std.specs.Prelude.{◌≡◌, ℕ, ◌+◌, ◌-◌, ◌*◌, ◌^◌, ◌≤◌, ◌<◌, ◌==◌, Bool, true, false, pos, List, [], ◌∷◌, length, map, drop, take, sum_by, slice_index_or, Option, Some, None, IfSome, IsTrue, if◌then◌else◌}
-use Rattle.std.specs.Option.{option_map}
-use Rattle.nit_rect.specs.declared.point.Point.{Point}
-use Rattle.nit_rect.specs.Rectangle.{Rectangle, covers, rectangle}
-use Rattle.nit_rect.specs.Intersection.{HasPixels, LiesIn}
-use Rattle.nit_rect.specs.Strips.{times}
-use Rattle.nit_stack.specs.declared.view.Piece.{Piece}
-use Rattle.nit_stack.specs.Stack.{IsOnScreen, StackModel, has_slot, view_ref, seat_owner}
+use Rattle.nit_damage.specs.Below.{HasPixels, IsOnScreen, LiesIn, Piece, Point, Rectangle, StackModel, covers, has_slot, option_map, rectangle, seat_owner, times, view_ref}
 use Rattle.nit_damage.specs.declared.cutting.Job.{Job}
 use Rattle.nit_damage.specs.Damage.{once, covered}
 

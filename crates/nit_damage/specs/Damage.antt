@@ -1,12 +1,6 @@
 -- Which pixels of the screen are to be drawn again. A stack of views is a list, front first.
 use Rattle.std.specs.Prelude.{ℕ, Bool, false, not, ◌&&◌, ◌||◌, List, take, Option, Some, None, if◌then◌else◌}
-use Rattle.std.specs.List.{list_any}
-use Rattle.std.specs.Option.{option_map_or}
-use Rattle.nit_rect.specs.declared.point.Point.{Point}
-use Rattle.nit_rect.specs.Rectangle.{Rectangle, covers}
-use Rattle.nit_stack.specs.declared.view.ViewRef.{ViewRef}
-use Rattle.nit_stack.specs.Sources.{in_bar}
-use Rattle.nit_stack.specs.Stack.{SlotView, StackModel, is_slot, place_of, slot_view_in, seat_owner}
+use Rattle.nit_damage.specs.Below.{Point, Rectangle, SlotView, StackModel, ViewRef, covers, in_bar, is_slot, list_any, option_map_or, place_of, seat_owner, slot_view_in}
 
 -- 1 where it holds, and 0 elsewhere
 abbrev pub once : Bool → ℕ

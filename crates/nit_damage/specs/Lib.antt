@@ -6,3 +6,5 @@ pub use Rattle.nit_stack.specs.Stack
 pub mod Damage
 pub mod Cutter
 pub mod Cut
+pub mod Below
+pub mod Terms

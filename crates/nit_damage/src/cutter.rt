@@ -1,14 +1,7 @@
 //! The cutter.
 
 ghost use Rattle.std.specs.Prelude.{◌≡◌, ℕ, ◌+◌, ◌≤◌, ◌<◌, ◌&&◌, ◌||◌, not, true, length, IfOk, IfSome, IsTrue, MatchOption};
-ghost use Rattle.std.specs.Option.{option_map};
-ghost use Rattle.nit_rect.specs.declared.point.Point.{Point};
-ghost use Rattle.nit_rect.specs.Rectangle.{Rectangle, covers};
-ghost use Rattle.nit_rect.specs.Intersection.{HasPixels};
-ghost use Rattle.nit_stack.specs.Stack.{IsOnScreen, StackModel, has_slot, view_ref, seat_owner};
-ghost use Rattle.nit_damage.specs.Damage.{once, is_behind, is_owned, is_of_moved, is_of_gone};
-ghost use Rattle.nit_damage.specs.Cutter.{FitsStack, begun_cutter, piece_times, pieces_left, to_come};
-ghost use Rattle.nit_rect.specs.Limits.{most_slots};
+ghost use Rattle.nit_damage.specs.Terms.{FitsStack, HasPixels, IsOnScreen, Point, Rectangle, StackModel, begun_cutter, covers, has_slot, is_behind, is_of_gone, is_of_moved, is_owned, most_slots, once, option_map, piece_times, pieces_left, seat_owner, to_come, view_ref};
 
 use crate::cutting::{Job, cut_out, next_cut, put_in};
 use crate::places::{bar_part, below_bar, part_below_bar};

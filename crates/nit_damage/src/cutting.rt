@@ -1,11 +1,7 @@
 //! One cut.
 
 ghost use Rattle.std.specs.Prelude.{◌≡◌, ◌+◌, ◌++◌, ◌*◌, ◌≤◌, ◌<◌, [], length, map, vec_capacity, IfSome, MatchOption};
-ghost use Rattle.nit_rect.specs.declared.point.Point.{Point};
-ghost use Rattle.nit_rect.specs.Strips.{IsScreenRectangle};
-ghost use Rattle.nit_rect.specs.Intersection.{HasPixels};
-ghost use Rattle.nit_damage.specs.Cutter.{FitsJobs, IsJob, IsPieceOf, job_at, jobs_to_come, piece_times, weight, with_pixels};
-ghost use Rattle.nit_damage.specs.Cut.{IsCut, IsCutStep};
+ghost use Rattle.nit_damage.specs.Terms.{FitsJobs, HasPixels, IsCut, IsCutStep, IsJob, IsPieceOf, IsScreenRectangle, Point, job_at, jobs_to_come, piece_times, weight, with_pixels};
 
 use nit_rect::Rect;
 use nit_stack::{Piece, Stack};

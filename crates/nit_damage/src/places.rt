@@ -1,9 +1,7 @@
 //! Rectangles of the screen.
 
 ghost use Rattle.std.specs.Prelude.{◌≡◌, ◌≤◌};
-ghost use Rattle.nit_rect.specs.Intersection.{CoversBoth};
-ghost use Rattle.nit_stack.specs.Stack.{IsScreenSize};
-ghost use Rattle.nit_damage.specs.Cutter.{bar_part, part_below_bar};
+ghost use Rattle.nit_damage.specs.Terms.{CoversBoth, IsScreenSize, bar_part, part_below_bar};
 
 use nit_rect::Rect;
 use nit_stack::Stack;

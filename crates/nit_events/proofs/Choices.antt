@@ -1,8 +1,7 @@
 -- What holds of a choice, and how long the list of one delivery is.
-use Rattle.std.proofs.Common.{◌≤◌, Bool, true, false, Option, None, Some, length, arith}
+use Rattle.std.proofs.Common.{Bool, None, Option, Some, arith, false, length, true, ◌≤◌}
 use Rattle.std.specs.Prelude.{if◌then◌else◌}
-use Rattle.nit_events.specs.declared.event.Delivery.{Delivery}
-use Rattle.nit_events.specs.Input.{delivery}
+use Rattle.nit_events.proofs.Basics.{Delivery, delivery}
 
 -- what holds of both holds of either
 pub either : {A : Type 0} (P : A → Type 0) (b : Bool) (x y : A) → P x → P y → P (if b then x else y)

@@ -1,13 +1,9 @@
 -- Worked rows of the user's input, computed from the definitions.
-use Rattle.std.proofs.Common.{◌≡◌, ℕ, true, Option, Some, List, [], ◌∷◌, refl}
-use Rattle.std.specs.Prelude.{nat_lt, if◌then◌else◌}
-use Rattle.nit_events.specs.declared.event.Delivery.{Delivery}
-use Rattle.nit_events.specs.declared.event.Event.{Event}
+use Rattle.std.proofs.Common.{List, Option, Some, [], refl, true, ℕ, ◌∷◌, ◌≡◌}
+use Rattle.std.specs.Prelude.{if◌then◌else◌}
+use Rattle.nit_events.proofs.Basics.{Delivery, Device, Event, InputState, Motion, Press, Release, first_input, nat_lt, pointer_after, routing}
 use Rattle.nit_events.specs.declared.event.Event.TheVariants as event
 use Rattle.nit_events.specs.declared.event.Item.TheVariants as item
-use Rattle.nit_events.specs.declared.device.Device.{Device}
-use Rattle.nit_events.specs.declared.device.Device.TheVariants.{Press, Release, Motion}
-use Rattle.nit_events.specs.Input.{InputState, first_input, pointer_after, routing}
 
 -- a screen of 8 by 4: session 0 owns the columns 0 to 3, and session 1 those behind
 abbrev pointed : InputState → Option ℕ

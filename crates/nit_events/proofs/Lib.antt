@@ -2,3 +2,5 @@ pub mod TextBytes
 pub mod Examples
 pub mod Choices
 pub mod ForCallers
+pub mod Basics
+pub mod Lemmas

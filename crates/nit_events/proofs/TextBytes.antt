@@ -1,9 +1,6 @@
 -- Bytes that are filled up with 0.
-use Rattle.std.proofs.Common.{◌≡◌, ℕ, ◌≤◌, true, List, ◌++◌, length, take, drop, replicate, sym, ◌∙◌, arith, length-append, subst}
-use Rattle.std.proofs.Math.Seq.{take-append_seam, drop-append_seam}
-use Rattle.std.proofs.lemmas.List.{drop-replicate}
-use Rattle.std.proofs.lemmas.Bool.{and_parts, leb-true}
-use Rattle.nit_events.specs.Text.{is_text, HasZerosBehind}
+use Rattle.std.proofs.Common.{List, arith, drop, length, length-append, replicate, subst, sym, take, true, ℕ, ◌++◌, ◌∙◌, ◌≡◌, ◌≤◌}
+use Rattle.nit_events.proofs.Basics.{HasZerosBehind, and_parts, drop-append_seam, drop-replicate, is_text, leb-true, take-append_seam}
 
 -- an array of 40 zeros whose beginning was written
 pub zeros_behind : (bytes copy : List ℕ) → is_text bytes ≡ true → copy ≡ bytes

@@ -1,7 +1,6 @@
 -- Texts of a script.
 use Rattle.std.specs.Prelude.{◌≡◌, ℕ, ◌-◌, ◌≤◌, Bool, ◌&&◌, nat_le, List, ◌++◌, length, take, drop, replicate}
-use Rattle.std.specs.List.{list_all}
-use Rattle.nit_rect.specs.Limits.{first_printable, last_printable}
+use Rattle.nit_events.specs.Below.{first_printable, last_printable, list_all}
 use Rattle.std.proofs.Common.{ap, sym, ◌∙◌}
 use Rattle.std.proofs.lemmas.List.{length-take-le, take-append-drop}
 

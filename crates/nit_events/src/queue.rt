@@ -1,6 +1,5 @@
 ghost use Rattle.std.specs.Prelude.{◌≡◌, ◌↔◌, ◌<◌, ◌≤◌, [], ◌∷◌, ◌++◌, length, IsTrue, IsNone, IfNone, IfSome, IfOk};
-ghost use Rattle.std.specs.Bool.{OnTrue, OnFalse};
-ghost use Rattle.nit_events.specs.Ranges.{most_waiting};
+ghost use Rattle.nit_events.specs.Terms.{OnFalse, OnTrue, most_waiting};
 
 use crate::event::Event;
 use circular_buffer::HeapCircularBuffer;

@@ -1,6 +1,5 @@
 ghost use Rattle.std.specs.Prelude.{◌≡◌, ◌↔◌, IsTrue, IsSome, IfSome};
-ghost use Rattle.std.specs.List.{list_all};
-ghost use Rattle.nit_events.specs.Text.{is_text, is_printable};
+ghost use Rattle.nit_events.specs.Terms.{is_printable, is_text, list_all};
 
 use nit_rect::{FIRST_PRINTABLE, LAST_PRINTABLE};
 use std::marker::Model;

@@ -1,15 +1,8 @@
 -- The codes that are held down: one more always fits.
-use Rattle.std.proofs.Common.{◌≡◌, ℕ, ◌<◌, ◌≤◌, ◌==◌, Bool, true, false, List, [], ◌∷◌, ◌++◌, length, filter, refl, ◌∙◌, arith}
-use Rattle.std.specs.Prelude.{eqb, if◌then◌else◌}
-use Rattle.std.specs.Cmp.{nat_eq_equiv}
-use Rattle.std.specs.List.{AllByRecursion, IsDistinct, list_any}
-use Rattle.std.proofs.lemmas.List.{length_push}
-use Rattle.std.proofs.lemmas.List.Elements.{All-nil, All-push, All-filter, All-contains, All-from_recursion, recursion_from_All}
-use Rattle.std.proofs.lemmas.Bool.{eqb-true}
-use Rattle.std.proofs.lemmas.Map.Keys.{IsDistinct-push, IsDistinct-head, IsDistinct-tail, IsDistinct-cons}
-use Rattle.std.proofs.lemmas.Map.Steps.{length-le_from_distinct_below}
-use Rattle.std.proofs.lemmas.Map.Views.{Contains-from_any}
-use Rattle.nit_focus.specs.Held.{IsHeld}
+use Rattle.std.proofs.Common.{Bool, List, [], arith, false, filter, length, refl, true, ℕ, ◌++◌, ◌<◌, ◌==◌, ◌∙◌, ◌∷◌, ◌≡◌, ◌≤◌}
+use Rattle.nit_focus.proofs.Basics.{All-contains, All-filter, All-from_recursion, All-nil, All-push, AllByRecursion, Contains-from_any, IsDistinct-cons, IsDistinct-head, IsDistinct-push, IsDistinct-tail, IsHeld, eqb, eqb-true, length-le_from_distinct_below, length_push, list_any, nat_eq_equiv, recursion_from_All}
+use Rattle.std.specs.Prelude.{if◌then◌else◌}
+use Rattle.std.specs.List.{IsDistinct}
 
 -- a code is looked for from either side
 from_either_side : (codes : List ℕ) (k : ℕ) → list_any (eqb k) codes ≡ list_any (λ j. j == k) codes

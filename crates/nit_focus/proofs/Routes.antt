@@ -1,15 +1,7 @@
 -- What every device event keeps, whom it reaches, and with what.
-use Rattle.std.proofs.Common.{◌≡◌, ℕ, ◌<◌, Option, Some, None, inl, inr, refl, arith}
-use Rattle.std.specs.Prelude.{IfSome}
-use Rattle.std.specs.List.{All}
-use Rattle.std.proofs.lemmas.List.Elements.{All-weaker}
-use Rattle.nit_events.specs.declared.event.Item.{Item}
-use Rattle.nit_events.specs.declared.device.Device.{Device}
+use Rattle.std.proofs.Common.{None, Option, Some, arith, inl, inr, refl, ℕ, ◌<◌, ◌≡◌}
+use Rattle.nit_focus.proofs.Basics.{All, All-weaker, AllOfInput, Device, FocusModel, IfSome, InputState, IsDevice, IsFocus, IsForgottenIfKilled, IsItem, IsWithinReach, Item, Routing, clicks_on_list, pointer_after, routing_at, with_pointer}
 use Rattle.nit_events.specs.declared.device.Device.TheVariants as device
-use Rattle.nit_events.specs.Input.{InputState, Routing, pointer_after}
-use Rattle.nit_events.specs.Ranges.{IsDevice}
-use Rattle.nit_focus.specs.Focus.{FocusModel, IsFocus, AllOfInput, clicks_on_list, with_pointer, routing_at}
-use Rattle.nit_focus.specs.Reach.{IsWithinReach, IsItem, IsForgottenIfKilled}
 use Rattle.nit_focus.proofs.Steps.{IsStep, IsDelivery, brought, routing}
 
 -- all that a device event that led from this value to such a routing promises

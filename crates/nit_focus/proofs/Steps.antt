@@ -1,24 +1,12 @@
 -- What holds of the sessions that the input knows holds of those that a device event reaches and leaves known; and
 -- who is killed is forgotten.
-use Rattle.std.proofs.Common.{◌≡◌, ◌≢◌, ℕ, ◌==◌, Bool, true, false, List, [], ◌∷◌, ◌++◌, Option, Some, None, filter, inl, inr, refl}
-use Rattle.std.specs.Prelude.{◌&&◌, not, IfSome, if◌then◌else◌}
-use Rattle.std.specs.List.{All}
-use Rattle.std.proofs.lemmas.List.Elements.{All-nil, All-cons, All-append, All-weaker}
-use Rattle.nit_events.specs.declared.event.Event.{Event}
+use Rattle.nit_focus.proofs.Basics.{All, All-append, All-cons, All-nil, All-weaker, AllOfInput, Delivery, Device, Event, Flat, HasForgotten, IfSome, InputState, IsForgottenIfKilled, Item, Kill, Mode, Routing, Xray, cases_eq, either, eq-eqb, ne_eqb}
+use Rattle.std.proofs.Common.{Bool, List, None, Option, Some, [], false, filter, inl, inr, not, refl, true, ℕ, ◌++◌, ◌==◌, ◌∷◌, ◌≡◌, ◌≢◌}
+use Rattle.std.specs.Prelude.{if◌then◌else◌, ◌&&◌}
 use Rattle.nit_events.specs.declared.event.Event.TheVariants as event
-use Rattle.nit_events.specs.declared.event.Item.{Item}
 use Rattle.nit_events.specs.declared.event.Item.TheVariants as item
-use Rattle.nit_events.specs.declared.event.Delivery.{Delivery}
-use Rattle.nit_events.specs.declared.device.Device.{Device}
 use Rattle.nit_events.specs.declared.device.Device.TheVariants as device
-use Rattle.nit_events.specs.declared.device.Mode.{Mode}
-use Rattle.nit_events.specs.declared.device.Mode.TheVariants.{Flat, Xray, Kill}
-use Rattle.std.proofs.lemmas.Bool.{cases_eq, eq-eqb, ne_eqb}
-use Rattle.nit_events.specs.Input.{InputState, Routing}
 use Rattle.nit_events.specs.Input as input
-use Rattle.nit_focus.specs.Focus.{AllOfInput}
-use Rattle.nit_focus.specs.Reach.{HasForgotten, IsForgottenIfKilled}
-use Rattle.nit_events.proofs.ForCallers.{either}
 
 -- a delivery is to such a session and is such an item, and a session that is killed is forgotten in this state
 pub record IsDelivery (P : ℕ → Type 0) (Q : Item → Type 0) (i : InputState) (d : Delivery) : Type 0 where

@@ -1,9 +1,6 @@
 -- What a `Focus` stands for, and what a device event makes of it.
 use Rattle.std.specs.Prelude.{◌≡◌, ℕ, ◌<◌, ◌≤◌, pos, Bool, true, false, List, length, replicate, slice_index_or, Option, Some, None, IfSome}
-use Rattle.nit_rect.specs.declared.point.Point.{Point}
-use Rattle.nit_events.specs.declared.device.Device.{Device}
-use Rattle.nit_events.specs.Input.{InputState, Routing, first_input, pointer_after, routing}
-use Rattle.nit_rect.specs.Limits.{most_sessions, most_width, most_height}
+use Rattle.nit_focus.specs.Below.{Device, InputState, Point, Routing, first_input, most_height, most_sessions, most_width, pointer_after, routing}
 
 -- the state of the user's input; the screen's size; and for each of 16 sessions whether a click on
 -- it moves the focus

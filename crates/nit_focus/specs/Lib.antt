@@ -5,3 +5,5 @@ pub mod Held
 pub mod Outcome
 pub mod Focus
 pub mod Reach
+pub mod Below
+pub mod Terms

@@ -1,7 +1,5 @@
 -- What a step of the input comes to.
-use Rattle.std.specs.Prelude.{List}
-use Rattle.nit_events.specs.declared.event.Delivery.{Delivery}
-use Rattle.nit_events.specs.Input.{InputState, Routing}
+use Rattle.nit_focus.specs.Below.{Delivery, InputState, List, Routing}
 
 -- this state is left, and this is delivered
 abbrev pub outcome : InputState → List Delivery → Routing

@@ -1,10 +1,8 @@
 -- Whom a device event reaches, and with what.
 use Rattle.std.specs.Prelude.{◌≡◌, ◌≢◌, ◌⊎◌, ℕ, ◌<◌, Option, Some}
 use Rattle.nit_events.specs.declared.event.Event.TheVariants as event
-use Rattle.nit_events.specs.declared.event.Item.{Item}
+use Rattle.nit_focus.specs.Below.{InputState, IsEvent, Item}
 use Rattle.nit_events.specs.declared.event.Item.TheVariants as item
-use Rattle.nit_events.specs.Input.{InputState}
-use Rattle.nit_events.specs.Ranges.{IsEvent}
 
 -- the session is the receiver, the hovered, the focused or the pointed one
 abbrev pub IsWithinReach : InputState → Option ℕ → ℕ → Type 0

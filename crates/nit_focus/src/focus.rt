@@ -1,11 +1,6 @@
 ghost use Rattle.std.specs.Prelude.{◌≡◌, ◌<◌, ◌≤◌, false, length, slice_set, IfSome};
-ghost use Rattle.std.specs.List.{All};
-ghost use Rattle.nit_rect.specs.Screen.{IsOnScreen};
+ghost use Rattle.nit_focus.specs.Terms.{All, AllOfInput, HasForgotten, IsDevice, IsForgottenIfKilled, IsItem, IsOnScreen, IsWithinReach, clicks_on_list, first_focus, most_height, most_sessions, most_width, pointer, routing_at, with_pointer};
 ghost use Rattle.nit_events.specs.Input as input;
-ghost use Rattle.nit_events.specs.Ranges.{IsDevice};
-ghost use Rattle.nit_focus.specs.Focus.{first_focus, clicks_on_list, with_pointer, pointer, routing_at, AllOfInput};
-ghost use Rattle.nit_focus.specs.Reach.{IsWithinReach, IsItem, HasForgotten, IsForgottenIfKilled};
-ghost use Rattle.nit_rect.specs.Limits.{most_width, most_height, most_sessions};
 
 use crate::state::State;
 use nit_events::{Device, Mode, Routed};

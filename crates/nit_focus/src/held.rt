@@ -1,6 +1,5 @@
 ghost use Rattle.std.specs.Prelude.{◌≡◌, ◌==◌, ◌↔◌, not, false, [], ◌∷◌, ◌++◌, filter, IsTrue};
-ghost use Rattle.std.specs.List.{list_any};
-ghost use Rattle.nit_events.specs.Ranges.{IsCode};
+ghost use Rattle.nit_focus.specs.Terms.{IsCode, list_any};
 
 use arrayvec::ArrayVec;
 use std::marker::Model;

@@ -1,8 +1,6 @@
 ghost use Rattle.std.specs.Prelude.{◌≡◌, ◌≤◌, false, IsTrue, length};
 ghost use Rattle.nit_events.specs.Input as input;
-ghost use Rattle.nit_events.specs.declared.device.Mode.TheVariants.{Flat, Xray, Kill};
-ghost use Rattle.nit_events.specs.Ranges.{IsCode, IsDevice};
-ghost use Rattle.nit_focus.specs.Outcome.{outcome};
+ghost use Rattle.nit_focus.specs.Terms.{Flat, IsCode, IsDevice, Kill, Xray, outcome};
 
 use crate::held::Held;
 use crate::told::Told;

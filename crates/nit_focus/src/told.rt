@@ -1,5 +1,5 @@
 ghost use Rattle.std.specs.Prelude.{◌≡◌, ◌+◌, ◌≤◌, [], ◌∷◌, ◌++◌, length};
-ghost use Rattle.nit_events.specs.Input.{to, routed_as, deliveries_of};
+ghost use Rattle.nit_focus.specs.Terms.{deliveries_of, routed_as, to};
 
 use nit_events::{Delivery, Event, Item, Routed};
 use std::marker::Model;

@@ -1,9 +1,6 @@
 -- Tests that answer true or false.
-use Rattle.std.proofs.Common.{zero, suc, ◌≡◌, ℕ, ◌<◌, Bool, true, false, not, ◌||◌, List, refl, arith}
-use Rattle.std.specs.List.{list_all}
-use Rattle.std.proofs.Math.Bool.{beq}
-use Rattle.std.proofs.lemmas.Bool.{agree_below, and_from}
-use Rattle.std.proofs.lemmas.List.Sums.{AllPass-from_list_all, list_all-from_AllPass}
+use Rattle.std.proofs.Common.{Bool, List, arith, false, not, refl, suc, true, zero, ℕ, ◌<◌, ◌||◌, ◌≡◌}
+use Rattle.nit_glyph.proofs.Basics.{AllPass-from_list_all, agree_below, and_from, beq, list_all, list_all-from_AllPass}
 
 -- where `not a || b` holds, a gives b
 pub implies : (a b : Bool) → (not a || b) ≡ true → a ≡ true → b ≡ true

@@ -1,11 +1,7 @@
 -- Which texts are texts of the glyphs.
-use Rattle.std.proofs.Common.{◌≡◌, ℕ, ◌<◌, Bool, true, not, ◌||◌, List, [], ◌∷◌, ◌++◌, refl, ◌∙◌, arith}
-use Rattle.std.specs.Prelude.{is_some, IsTrue, IfSome, Option, None, Some, codes}
-use Rattle.std.proofs.lemmas.Bool.{agree_below_at, and_parts, and_from, or_left}
-use Rattle.std.proofs.lemmas.Bool.Decides.{nat_tests}
-use Rattle.std.proofs.lemmas.List.Folds.{list_all-append}
-use Rattle.nit_glyph.specs.Texts.{is_label_byte, is_title_byte, is_label, is_title, label_text_of, bar_text_of}
-use Rattle.nit_glyph.specs.Pictures.{glyph_rows, IsOfGlyphs}
+use Rattle.std.proofs.Common.{Bool, List, Option, Some, [], arith, not, refl, true, ℕ, ◌++◌, ◌<◌, ◌||◌, ◌∙◌, ◌∷◌, ◌≡◌}
+use Rattle.nit_glyph.proofs.Basics.{IfSome, IsOfGlyphs, IsTrue, None, agree_below_at, and_from, and_parts, bar_text_of, codes, is_label, is_label_byte, is_some, is_title, is_title_byte, label_text_of, list_all-append, nat_tests, or_left}
+use Rattle.nit_glyph.specs.Pictures.{glyph_rows}
 use Rattle.nit_glyph.proofs.BoolLemmas.{implies, list_all_weaker}
 
 -- whether a character has a glyph

@@ -2,3 +2,5 @@ pub mod GlyphTexts
 pub mod ZerosBehind
 pub mod PicturesTell
 pub mod BoolLemmas
+pub mod Basics
+pub mod Lemmas

@@ -1,13 +1,7 @@
 -- What a picture tells of its text.
-use Rattle.std.proofs.Common.{leb, ◌≡◌, ℕ, ◌+◌, ◌-◌, ◌*◌, ◌/◌, ◌%◌, ◌<◌, ◌==◌, cond, Bool, true, false, not, ◌||◌, List, [], ◌∷◌, Option, Some, length, arith, sym, ◌∙◌, ap, ap₂, refl}
-use Rattle.std.specs.Prelude.{slice_index, unwrap_or, is_some, find}
-use Rattle.std.specs.List.{list_all}
-use Rattle.std.specs.Option.{option_map}
-use Rattle.std.proofs.lemmas.Bool.{agree_below, and_parts, le-leb, eqb-true}
-use Rattle.std.proofs.lemmas.Grind.{same_number_lists}
-use Rattle.std.proofs.lemmas.List.Sums.{AllPass-from_list_all}
-use Rattle.nit_glyph.specs.Glyphs.{glyphs}
-use Rattle.nit_glyph.specs.Pictures.{glyph_rows, glyph_row, row_has_dot, dot, IsOfGlyphs, SamePicture}
+use Rattle.std.proofs.Common.{Bool, List, Option, Some, [], ap, ap₂, arith, cond, false, leb, length, not, refl, sym, true, ℕ, ◌%◌, ◌*◌, ◌+◌, ◌-◌, ◌/◌, ◌<◌, ◌==◌, ◌||◌, ◌∙◌, ◌∷◌, ◌≡◌}
+use Rattle.nit_glyph.proofs.Basics.{AllPass-from_list_all, IsOfGlyphs, SamePicture, agree_below, and_parts, eqb-true, find, glyph_row, glyphs, is_some, le-leb, list_all, option_map, row_has_dot, same_number_lists, slice_index, unwrap_or}
+use Rattle.nit_glyph.specs.Pictures.{dot, glyph_rows}
 use Rattle.nit_glyph.proofs.BoolLemmas.{implies, agree}
 
 -- a character with its rows

@@ -1,9 +1,7 @@
 -- A text with zeros after it, when more text is written over the first of the zeros.
-use Rattle.std.proofs.Common.{◌≡◌, ℕ, ◌+◌, ◌-◌, ◌≤◌, List, ◌++◌, length, take, drop, replicate, refl, sym, ap, ◌∙◌, arith, append_assoc, length-append}
-use Rattle.std.proofs.lemmas.List.{length-take, drop_at, drop-replicate}
-use Rattle.std.proofs.lemmas.Slice.{take-put_mid}
+use Rattle.std.proofs.Common.{List, ap, append_assoc, arith, drop, length, length-append, refl, replicate, sym, take, ℕ, ◌++◌, ◌+◌, ◌-◌, ◌∙◌, ◌≡◌, ◌≤◌}
+use Rattle.nit_glyph.proofs.Basics.{IsPadded, drop-replicate, drop_at, length-take, padded, take-put_mid}
 use borrow.Rule.Slice.PartMut.{put_mid}
-use Rattle.nit_glyph.specs.Padded.{padded, IsPadded}
 
 -- what stands behind the text is zeros
 drop-padded : (room len : ℕ) (bytes : List ℕ) → IsPadded room bytes len → drop len bytes ≡ replicate (room - len) 0

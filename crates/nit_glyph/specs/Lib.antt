@@ -2,3 +2,5 @@ pub mod Glyphs
 pub mod Padded
 pub mod Pictures
 pub mod Texts
+pub mod Terms
+pub mod Below

@@ -1,7 +1,6 @@
 -- The picture of a text.
 use Rattle.std.specs.Prelude.{◌≡◌, ℕ, ◌+◌, ◌-◌, ◌*◌, ◌/◌, ◌%◌, ◌<◌, ◌==◌, zero, suc, Bool, false, ◌&&◌, nat_le, List, [], Option, is_some, find, length, slice_index, unwrap_or, bit_and, IsTrue}
-use Rattle.std.specs.List.{list_all}
-use Rattle.std.specs.Option.{option_map}
+use Rattle.nit_glyph.specs.Below.{list_all, option_map}
 use Rattle.nit_glyph.specs.Glyphs.{glyphs}
 
 -- the five rows of a character's glyph, from the top, by the table; none where the table has no

@@ -1,7 +1,6 @@
 -- Labels, titles, and the texts that are made of them.
 use Rattle.std.specs.Prelude.{ℕ, ◌==◌, Bool, ◌&&◌, ◌||◌, List, [], ◌∷◌, ◌++◌, Option, None, Some, length, nat_le, codes}
-use Rattle.std.specs.List.{list_all, list_any}
-use Rattle.std.specs.Char.{is_ascii_lowercase, is_ascii_digit}
+use Rattle.nit_glyph.specs.Below.{is_ascii_digit, is_ascii_lowercase, list_all, list_any}
 
 -- a byte of a label: `a` to `z`, `0` to `9`, `-`, `.` or `_`
 abbrev pub is_label_byte : ℕ → Bool

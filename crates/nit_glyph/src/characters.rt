@@ -1,8 +1,7 @@
 //! The characters of labels and titles.
 
 ghost use Rattle.std.specs.Prelude.{◌≡◌};
-ghost use Rattle.std.specs.List.{list_all};
-ghost use Rattle.nit_glyph.specs.Texts.{is_label_byte, is_title_byte};
+ghost use Rattle.nit_glyph.specs.Terms.{is_label_byte, is_title_byte, list_all};
 
 /// Whether a label may have this byte: `a` to `z`, `0` to `9`, `-`, `.` or `_`.
 pub(crate) fn is_label_byte(c: u8) -> bool

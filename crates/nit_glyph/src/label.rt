@@ -1,7 +1,7 @@
 //! The labels of sessions.
 
 ghost use Rattle.std.specs.Prelude.{◌≡◌, ◌≤◌, ◌↔◌, length, IsTrue, IsSome, IfSome};
-ghost use Rattle.nit_glyph.specs.Texts.{is_label, most_label};
+ghost use Rattle.nit_glyph.specs.Terms.{is_label, most_label};
 
 use crate::characters::are_label_bytes;
 use crate::padded::Padded;

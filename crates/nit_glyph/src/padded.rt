@@ -1,9 +1,7 @@
 //! A short text, held in place.
 
 ghost use Rattle.std.specs.Prelude.{◌≡◌, ◌+◌, ◌≤◌, [], ◌++◌, length};
-ghost use Rattle.std.specs.Str.{bytes_eq};
-ghost use Rattle.std.specs.Cmp.{partial_equiv_from_equiv};
-ghost use Rattle.std.specs.Cmp.Lexicographic.{nat_list_eq_equiv};
+ghost use Rattle.nit_glyph.specs.Terms.{bytes_eq, nat_list_eq_equiv, partial_equiv_from_equiv};
 
 use std::marker::Model;
 

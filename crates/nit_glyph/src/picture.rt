@@ -1,9 +1,7 @@
 //! The pictures of texts.
 
 ghost use Rattle.std.specs.Prelude.{◌≡◌, ℕ, ◌<◌, ◌≤◌, ◌==◌, List, length, find, Option, IfSome, IsTrue};
-ghost use Rattle.std.specs.Option.{option_map};
-ghost use Rattle.nit_glyph.specs.Texts.{is_label, is_title, label_text_of, bar_text_of, most_label_text};
-ghost use Rattle.nit_glyph.specs.Pictures.{glyph_rows, row_has_dot, dot, picture_width, picture_height, IsOfGlyphs, SamePicture};
+ghost use Rattle.nit_glyph.specs.Terms.{IsOfGlyphs, SamePicture, bar_text_of, dot, glyph_rows, is_label, is_title, label_text_of, most_label_text, option_map, picture_height, picture_width, row_has_dot};
 
 use crate::table::GLYPHS;
 use crate::text::LabelText;

@@ -1,9 +1,7 @@
 //! The texts that the server writes on the screen.
 
 ghost use Rattle.std.specs.Prelude.{◌≡◌, ◌+◌, ◌≤◌, ◌∷◌, ◌++◌, length, codes};
-ghost use Rattle.std.specs.Option.{option_copied};
-ghost use Rattle.nit_glyph.specs.Texts.{label_text_of, bar_text_of, most_label, most_label_text, most_title};
-ghost use Rattle.nit_glyph.specs.Pictures.{IsOfGlyphs};
+ghost use Rattle.nit_glyph.specs.Terms.{IsOfGlyphs, bar_text_of, label_text_of, most_label, most_label_text, most_title, option_copied};
 
 use crate::label::Label;
 use crate::padded::Padded;

@@ -1,7 +1,7 @@
 //! The titles of views.
 
 ghost use Rattle.std.specs.Prelude.{◌≡◌, ◌≤◌, ◌↔◌, length, IsTrue, IsSome, IfSome};
-ghost use Rattle.nit_glyph.specs.Texts.{is_title, most_title};
+ghost use Rattle.nit_glyph.specs.Terms.{is_title, most_title};
 
 use crate::characters::are_title_bytes;
 use crate::padded::Padded;

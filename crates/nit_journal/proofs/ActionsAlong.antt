@@ -1,12 +1,7 @@
 -- A journal with one more entry: its calls, its deeds and its phases.
-use Rattle.std.proofs.Common.{◌≡◌, ◌≢◌, ◌∙◌, ℕ, zero, suc, ◌==◌, Bool, true, false, cond, List, [], ◌∷◌, ◌++◌, length, set, drop, refl, sym, ap, subst, inl, inr, arith, length-set, get_or-set_same, get_or-set_other, append-nil}
-use Rattle.std.proofs.lemmas.Bool.{eq-eqb, ne_eqb, cases_eq, cases_lt}
-use Rattle.std.proofs.lemmas.List.{get_or_past}
-use Rattle.nit_events.specs.declared.call.Call.{Call}
-use Rattle.nit_events.specs.declared.call.Reply.{Reply}
-use Rattle.nit_events.specs.declared.entry.Entry.{Entry}
+use Rattle.std.proofs.Common.{Bool, List, [], ap, append-nil, arith, cond, drop, false, get_or-set_other, get_or-set_same, inl, inr, length, length-set, refl, set, subst, suc, sym, true, zero, ℕ, ◌++◌, ◌==◌, ◌∙◌, ◌∷◌, ◌≡◌, ◌≢◌}
+use Rattle.nit_journal.proofs.Basics.{Call, Does, Entry, Reply, Shoots, UserAction, calls_of, cases_eq, cases_lt, eq-eqb, get_or_past, left, ne_eqb, next_phase, phases_along, to_do, user_actions_of}
 use Rattle.nit_events.specs.declared.entry.Entry.TheVariants as entry
-use Rattle.nit_journal.specs.WholeJournals.{UserAction, Does, Shoots, calls_of, user_actions_of, to_do, next_phase, left, phases_along}
 
 -- ---- calls
 

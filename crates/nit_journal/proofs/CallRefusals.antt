@@ -1,19 +1,10 @@
 -- What it tells that a call is refused, and that no refusal meets it; and which replies are refusals.
-use Rattle.std.proofs.Common.{◌≡◌, ℕ, ◌*◌, ◌≤◌, ◌&&◌, Bool, true, false, List, [], ◌∷◌, length, Option, Some, None, refl, subst}
-use Rattle.std.specs.Prelude.{nat_le, nat_lt, IfSome}
-use Rattle.std.proofs.lemmas.Bool.{leb-true}
-use Rattle.nit_rect.specs.Rectangle.{is_place, is_rectangle}
-use Rattle.nit_glyph.specs.Texts.{is_title}
-use Rattle.nit_events.specs.declared.call.Call.{Call}
-use Rattle.nit_events.specs.declared.call.Call.TheVariants.{Buffer, View, Place, Offset, Front, Back, Above, Title, Destroy, Refresh, Take, Upgrade, Close}
-use Rattle.nit_events.specs.declared.call.Reply.{Reply}
+use Rattle.std.proofs.Common.{Bool, IfSome, List, None, Option, Some, [], false, length, nat_le, nat_lt, refl, subst, true, ℕ, ◌&&◌, ◌*◌, ◌∷◌, ◌≡◌, ◌≤◌}
+use Rattle.nit_journal.proofs.Basics.{Above, Back, Buffer, Call, Close, Destroy, Event, Front, Offset, Place, Refresh, Reply, Session, Status, Take, Title, Upgrade, accepted, answered, buffer_left, buffer_need, by_call, by_handle, by_quota, by_reserve, by_status, has_view, is_accepted, is_place, is_rectangle, is_side, is_title, leb-true, most_views, refusal, taking, unless, view_left, view_need, ◌orelse◌}
+use Rattle.nit_journal.specs.Session.{serve}
+use Rattle.nit_events.specs.declared.call.Call.TheVariants.{View}
 use Rattle.nit_events.specs.declared.call.Reply.TheVariants as reply
-use Rattle.nit_events.specs.declared.event.Event.{Event}
-use Rattle.nit_events.specs.declared.event.Status.{Status}
 use Rattle.nit_events.specs.declared.event.Status.TheVariants as status
-use Rattle.nit_slots.specs.Account.{view_need, view_left, buffer_need, buffer_left, most_views}
-use Rattle.nit_journal.specs.Session.{Session, ◌orelse◌, accepted, answered, by_call, by_handle, by_quota, by_reserve, by_status, has_view, is_side, refusal, serve, taking, unless}
-use Rattle.nit_journal.specs.StackAfter.{is_accepted}
 
 -- ---- a call that is refused, and one that is not
 

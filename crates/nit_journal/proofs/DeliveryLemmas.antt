@@ -1,19 +1,12 @@
 -- A device event gives at most three deliveries, and an entry keeps them all.
-use Rattle.std.proofs.Common.{◌≡◌, ℕ, ◌+◌, ◌≤◌, Bool, true, false, ◌==◌, List, [], ◌∷◌, ◌++◌, length, Option, Some, None, refl, arith}
-use Rattle.std.specs.Prelude.{◌&&◌, not, option_map, if◌then◌else◌}
-use Rattle.std.proofs.lemmas.List.{length-append}
-use Rattle.nit_events.specs.declared.event.Event.{Event}
+use Rattle.std.proofs.Common.{Bool, List, None, Option, Some, [], arith, false, length, refl, true, ℕ, ◌&&◌, ◌++◌, ◌+◌, ◌==◌, ◌∷◌, ◌≡◌, ◌≤◌}
+use Rattle.nit_journal.proofs.Basics.{Configuration, Delivery, Device, Event, Flat, Kill, Mode, Xray, bar_rows, clicks_on, length-append, not, option_map, owner, point}
+use Rattle.std.specs.Prelude.{if◌then◌else◌}
+use Rattle.nit_journal.specs.State.{route}
 use Rattle.nit_events.specs.declared.event.Event.TheVariants as event
-use Rattle.nit_events.specs.declared.event.Delivery.{Delivery}
-use Rattle.nit_events.specs.declared.device.Device.{Device}
 use Rattle.nit_events.specs.declared.device.Device.TheVariants as device
-use Rattle.nit_events.specs.declared.device.Mode.{Mode}
-use Rattle.nit_events.specs.declared.device.Mode.TheVariants.{Flat, Xray, Kill}
 use Rattle.nit_events.specs.Input
 use Rattle.nit_stack.specs.declared.view.View.{View}
-use Rattle.nit_stack.specs.Sources.{owner, point}
-use Rattle.nit_config.specs.Configuration.{Configuration, bar_rows}
-use Rattle.nit_journal.specs.State.{clicks_on, route}
 
 -- three deliveries are all kept
 kept : (ds : List Delivery) → length ds ≤ 3 → Input.deliveries_of (Input.routed_as ds) ≡ ds

@@ -1,21 +1,14 @@
 -- Worked rows of one session and of a small journal, computed from the definitions.
-use Rattle.std.proofs.Common.{◌≡◌, List, [], ◌∷◌, refl, pos, negsuc, map, arith, ◌++◌, Some}
-use Rattle.std.specs.Prelude.{codes}
+use Rattle.std.proofs.Common.{List, Some, [], arith, map, negsuc, pos, refl, ◌++◌, ◌∷◌, ◌≡◌}
+use Rattle.nit_journal.proofs.Basics.{Bare, Buffer, Call, Calls, Close, Destroy, Entry, IsLegal, Observation, Place, Refresh, Take, Title, Upgrade, Word, alone, codes, first_session, own_machine, point, replay, routed_as, source_of, still_configuration, to}
+use Rattle.nit_journal.specs.Session.{serve}
+use Rattle.nit_journal.specs.StackAfter.{stack_after_call}
+use Rattle.nit_journal.specs.State.{route}
 use Rattle.nit_events.specs.declared.event.Event.TheVariants as event
 use Rattle.nit_events.specs.declared.device.Device.TheVariants as device
-use Rattle.nit_events.specs.Input.{to, routed_as}
-use Rattle.nit_events.specs.declared.call.Call.{Call}
-use Rattle.nit_events.specs.declared.call.Call.TheVariants.{Buffer, View, Place, Title, Destroy, Refresh, Take, Upgrade, Close}
+use Rattle.nit_events.specs.declared.call.Call.TheVariants.{View}
 use Rattle.nit_events.specs.declared.call.Reply.TheVariants as reply
-use Rattle.nit_events.specs.declared.entry.Entry.{Entry}
 use Rattle.nit_events.specs.declared.entry.Entry.TheVariants as entry
-use Rattle.nit_stack.specs.Sources.{Bare, Word, point}
-use Rattle.nit_config.specs.Configuration.{still_configuration}
-use Rattle.nit_journal.specs.Session.{first_session, serve}
-use Rattle.nit_journal.specs.Projection.{Observation, Calls, alone, own_machine}
-use Rattle.nit_journal.specs.State.{source_of, route}
-use Rattle.nit_journal.specs.StackAfter.{stack_after_call}
-use Rattle.nit_journal.specs.Replay.{replay, IsLegal}
 
 abbrev calls : List Call → List Observation
 calls xs = map (λ c. Calls c) xs

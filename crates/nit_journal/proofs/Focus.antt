@@ -1,23 +1,12 @@
 -- Who has the focus: no call gives it, and only a click of the user does.
-use Rattle.std.proofs.Common.{◌≡◌, ℕ, Bool, true, false, ◌==◌, List, [], ◌∷◌, Option, Some, None, refl, sym, ap, subst, ◌∙◌, ◌⊎◌, inl, inr}
-use Rattle.std.specs.Prelude.{◌&&◌, not, filter, option_map, if◌then◌else◌}
-use Rattle.std.proofs.lemmas.Bool.{and_parts, cases_eq, eq-eqb, ne_eqb}
-use Rattle.nit_events.specs.declared.event.Event.{Event}
+use Rattle.std.proofs.Common.{Bool, List, None, Option, Some, [], ap, false, filter, inl, inr, refl, subst, sym, true, ℕ, ◌&&◌, ◌==◌, ◌∙◌, ◌∷◌, ◌≡◌, ◌⊎◌}
+use Rattle.nit_journal.proofs.Basics.{Call, Close, Device, Event, Flat, Kill, Mode, Reply, Routed, State, Xray, after, and_parts, cases_eq, clicks_on, eq-eqb, is_accepted, member, ne_eqb, not, option_map, owner_of, point}
+use Rattle.std.specs.Prelude.{if◌then◌else◌}
+use Rattle.nit_journal.specs.State.{route}
 use Rattle.nit_events.specs.declared.event.Event.TheVariants as event
-use Rattle.nit_events.specs.declared.event.Routed.{Routed}
-use Rattle.nit_events.specs.declared.device.Device.{Device}
 use Rattle.nit_events.specs.declared.device.Device.TheVariants as device
-use Rattle.nit_events.specs.declared.device.Mode.{Mode}
-use Rattle.nit_events.specs.declared.device.Mode.TheVariants.{Flat, Xray, Kill}
-use Rattle.nit_events.specs.declared.call.Call.{Call}
-use Rattle.nit_events.specs.declared.call.Call.TheVariants.{Close}
-use Rattle.nit_events.specs.declared.call.Reply.{Reply}
 use Rattle.nit_events.specs.declared.entry.Entry.TheVariants as entry
 use Rattle.nit_events.specs.Input
-use Rattle.nit_stack.specs.Sources.{point}
-use Rattle.nit_config.specs.Configuration.{member}
-use Rattle.nit_journal.specs.StackAfter.{is_accepted}
-use Rattle.nit_journal.specs.State.{State, clicks_on, route, owner_of, after}
 
 -- ---- calls
 

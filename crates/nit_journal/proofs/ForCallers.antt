@@ -3,5 +3,6 @@ pub use Rattle.nit_journal.proofs.ActionsAlong.{IsUsers, calls_of-append, calls_
 pub use Rattle.nit_journal.proofs.CallRefusals.{accepted_reply, first_none, holds_of, refused_reply, second_none, serve_accepted, serve_refused, taken_reply, within_quota, within_reserve}
 pub use Rattle.nit_journal.proofs.OwnCalls.{as_its_calls_have_it}
 pub use Rattle.nit_journal.proofs.DeliveryLemmas.{all_kept}
+pub use Rattle.nit_journal.proofs.FirstState.{bare_everywhere}
 pub use Rattle.nit_journal.proofs.JournalFronts.{front_open, legal_more, replay_more}
 pub use Rattle.nit_journal.proofs.SessionLists.{as_many, as_many_as_clients, delivered_length, kept_config, same_config, same_throughout}

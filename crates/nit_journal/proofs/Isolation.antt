@@ -1,19 +1,7 @@
 -- Each session of a legal journal is served as if it were alone.
-use Rattle.std.proofs.Common.{◌≡◌, ℕ, ◌+◌, ◌<◌, List, [], ◌∷◌, ◌++◌, length, refl, sym, ap, subst, ◌∙◌, inl, inr}
-use Rattle.std.proofs.lemmas.Bool.{eq-eqb, ne_eqb, cases_eq}
-use Rattle.nit_events.specs.declared.event.Delivery.{Delivery}
-use Rattle.nit_events.specs.declared.event.Routed.{Routed}
-use Rattle.nit_events.specs.declared.device.Device.{Device}
-use Rattle.nit_events.specs.declared.call.Call.{Call}
-use Rattle.nit_events.specs.declared.call.Reply.{Reply}
-use Rattle.nit_events.specs.declared.entry.Entry.{Entry}
+use Rattle.std.proofs.Common.{List, [], ap, inl, inr, length, refl, subst, sym, ℕ, ◌++◌, ◌+◌, ◌<◌, ◌∙◌, ◌∷◌, ◌≡◌}
+use Rattle.nit_journal.proofs.Basics.{Agrees, Call, Calls, Configuration, Delivery, Device, Entry, Gets, IsLegal, LegalFrom, Observation, Reply, Routed, Session, State, after, alone, cases_eq, delivered, deliveries_of, donation_of, eq-eqb, first_session, first_state, items_to, ne_eqb, projection, receive, replies_from, replies_to, route, serve, session, session_in}
 use Rattle.nit_events.specs.declared.entry.Entry.TheVariants as entry
-use Rattle.nit_events.specs.Input.{deliveries_of}
-use Rattle.nit_config.specs.Configuration.{Configuration, donation_of}
-use Rattle.nit_journal.specs.Session.{Session, first_session, serve, receive}
-use Rattle.nit_journal.specs.State.{State, first_state, session_in, session, delivered, route, after}
-use Rattle.nit_journal.specs.Replay.{Agrees, LegalFrom, IsLegal}
-use Rattle.nit_journal.specs.Projection.{Observation, Calls, Gets, items_to, projection, replies_to, replies_from, alone}
 use Rattle.nit_journal.proofs.SessionLists.{opens, there_at_first, call_of_its_own, call_of_another, handed, still_handed, handed_to_it, handed_to_another, still_there}
 use Rattle.nit_journal.proofs.DeliveryLemmas.{all_kept}
 

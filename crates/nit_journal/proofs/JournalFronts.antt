@@ -1,11 +1,7 @@
 -- Journals that grow at their end, and fronts of journals.
-use Rattle.std.proofs.Common.{◌≡◌, ℕ, ◌+◌, suc, List, [], ◌∷◌, ◌++◌, refl, subst, arith, zero-add}
-use Rattle.std.proofs.lemmas.List.Sums.{fold-append}
-use Rattle.nit_events.specs.declared.entry.Entry.{Entry}
+use Rattle.std.proofs.Common.{List, [], arith, refl, subst, suc, zero-add, ℕ, ◌++◌, ◌+◌, ◌∷◌, ◌≡◌}
+use Rattle.nit_journal.proofs.Basics.{Agrees, Configuration, Entry, IsLegal, IsOpen, LegalFrom, State, after, first_state, fold-append, replay, replay_from, shots}
 use Rattle.nit_events.specs.declared.entry.Entry.TheVariants as entry
-use Rattle.nit_config.specs.Configuration.{Configuration}
-use Rattle.nit_journal.specs.State.{State, first_state, after}
-use Rattle.nit_journal.specs.Replay.{replay_from, replay, LegalFrom, IsLegal, Agrees, IsOpen, shots}
 
 pub replay_more : (s : State) (journal : List Entry) (e : Entry) → replay_from s (journal ++ e ∷ []) ≡ after (replay_from s journal) e
 replay_more s journal e = fold-append after s journal (e ∷ [])

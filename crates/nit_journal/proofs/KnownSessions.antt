@@ -1,27 +1,14 @@
 -- What holds of the sessions that the input knows and points at holds of those that a device event tells, and of
 -- those that are known afterwards. And who is killed is killed alone, and forgotten.
-use Rattle.std.proofs.Common.{◌≡◌, ◌≢◌, ℕ, ◌==◌, Bool, true, false, List, [], ◌∷◌, ◌++◌, length, Option, Some, None, find, filter, ◌⊎◌, inl, inr, refl, ap, subst, sym}
-use Rattle.std.specs.Prelude.{◌&&◌, not, IfSome, if◌then◌else◌, All, option_map}
-use Rattle.std.proofs.lemmas.List.Elements.{All-nil, All-cons, All-append, All-head, All-tail}
-use Rattle.std.proofs.lemmas.Bool.{cases_eq, eq-eqb, ne_eqb, or_from}
-use Rattle.nit_rect.specs.declared.point.Point.{Point}
-use Rattle.nit_rect.specs.Rectangle.{covers}
-use Rattle.nit_events.specs.declared.event.Event.{Event}
+use Rattle.nit_journal.proofs.Basics.{All, All-append, All-cons, All-head, All-nil, All-tail, Configuration, Delivery, Device, Event, Flat, InputState, IsKillAlone, Kill, Mode, Point, Routing, Xray, bar_rows, cases_eq, clicks_on, covers, either, eq-eqb, in_bar, is_kill, kills, ne_eqb, not, option_map, or_from, owner, point}
+use Rattle.std.proofs.Common.{Bool, IfSome, List, None, Option, Some, [], ap, false, filter, find, inl, inr, length, refl, subst, sym, true, ℕ, ◌&&◌, ◌++◌, ◌==◌, ◌∷◌, ◌≡◌, ◌≢◌, ◌⊎◌}
+use Rattle.std.specs.Prelude.{if◌then◌else◌}
+use Rattle.nit_journal.specs.State.{route}
 use Rattle.nit_events.specs.declared.event.Event.TheVariants as event
 use Rattle.nit_events.specs.declared.event.Item.TheVariants as item
-use Rattle.nit_events.specs.declared.event.Delivery.{Delivery}
-use Rattle.nit_events.specs.declared.device.Device.{Device}
 use Rattle.nit_events.specs.declared.device.Device.TheVariants as device
-use Rattle.nit_events.specs.declared.device.Mode.{Mode}
-use Rattle.nit_events.specs.declared.device.Mode.TheVariants.{Flat, Xray, Kill}
-use Rattle.nit_events.specs.Input.{InputState, Routing}
 use Rattle.nit_events.specs.Input
 use Rattle.nit_stack.specs.declared.view.View.{View}
-use Rattle.nit_stack.specs.Sources.{in_bar, owner, point}
-use Rattle.nit_config.specs.Configuration.{Configuration, bar_rows}
-use Rattle.nit_journal.specs.State.{clicks_on, route}
-use Rattle.nit_journal.specs.Deliveries.{IsKillAlone, is_kill, kills}
-use Rattle.nit_events.proofs.ForCallers.{either}
 
 -- this holds of the receiver, the hovered session and the focused one, where there are such
 pub record Knows (P : ℕ → Type 0) (i : InputState) : Type 0 where

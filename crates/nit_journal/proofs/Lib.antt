@@ -1,3 +1,4 @@
+pub mod FirstState
 pub mod JournalFronts
 pub mod ActionsAlong
 pub mod SameActions
@@ -15,3 +16,5 @@ pub mod Examples
 pub mod Machines
 pub mod CallRefusals
 pub mod ForCallers
+pub mod Basics
+pub mod Lemmas

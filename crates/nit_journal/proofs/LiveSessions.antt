@@ -1,42 +1,20 @@
 -- Whoever the input knows, and whoever has a view, is live in every state that a legal journal leads to. So whoever is
 -- told anything is live.
-use Rattle.std.proofs.Common.{◌≡◌, ◌≢◌, ℕ, zero, suc, ◌+◌, ◌<◌, ◌==◌, Bool, true, false, cond, List, [], ◌∷◌, ◌++◌, length, find, set, Option, Some, None, inl, inr, refl, ap, subst, sym, ◌∙◌}
-use Rattle.std.specs.Prelude.{not, nat_lt, if◌then◌else◌, All}
-use Rattle.std.specs.List.{insert}
-use Rattle.std.proofs.lemmas.Bool.{eqb-false}
-use Rattle.std.proofs.lemmas.List.{get_or-set_other}
-use Rattle.std.proofs.lemmas.List.Elements.{All-nil, All-cons, All-filter, All-head, All-map, All-tail, All-weaker, All-same}
-use Rattle.nit_rect.specs.Rectangle.{rectangle}
-use Rattle.nit_events.specs.declared.event.Event.{Event}
-use Rattle.nit_events.specs.declared.event.Item.{Item}
+use Rattle.nit_journal.proofs.Basics.{Above, Agrees, All, All-cons, All-filter, All-head, All-map, All-nil, All-same, All-tail, All-weaker, Back, Call, Close, Configuration, Delivery, Destroy, Device, Entry, Event, Front, IfSome_then, InputState, IsLegal, IsLive, Item, LegalFrom, Offset, Place, Put, Put-above, Put-back, Put-front, Reply, Routed, Routing, Session, State, Status, Take, Title, accepted, after, after_accepted, after_deliveries, after_delivery, by_call, by_life, by_refusal, by_status, changed, delivered, deliveries_of, eqb-false, first_session, first_state, forget, input_after_call, insert, is_accepted, is_kill, is_view, layer, moved, new_view, not, put_above, put_again, put_back, put_front, receive, rectangle, refusal, replay, replay_from, route, routed_to, session, session_in, shots, taking, without, ◌orelse◌}
+use Rattle.std.proofs.Common.{Bool, List, None, Option, Some, [], ap, cond, false, find, get_or-set_other, inl, inr, length, nat_lt, refl, set, subst, suc, sym, true, zero, ℕ, ◌++◌, ◌+◌, ◌<◌, ◌==◌, ◌∙◌, ◌∷◌, ◌≡◌, ◌≢◌}
+use Rattle.std.specs.Prelude.{if◌then◌else◌}
+use Rattle.nit_journal.specs.Session.{serve}
+use Rattle.nit_journal.specs.StackAfter.{stack_after_call}
 use Rattle.nit_events.specs.declared.event.Item.TheVariants as item
-use Rattle.nit_events.specs.declared.event.Delivery.{Delivery}
-use Rattle.nit_events.specs.declared.event.Routed.{Routed}
-use Rattle.nit_events.specs.declared.event.Status.{Status}
 use Rattle.nit_events.specs.declared.event.Status.TheVariants as status
-use Rattle.nit_events.specs.declared.device.Device.{Device}
-use Rattle.nit_events.specs.declared.call.Call.{Call}
-use Rattle.nit_events.specs.declared.call.Call.TheVariants.{View, Place, Offset, Front, Back, Above, Title, Destroy, Take, Close}
-use Rattle.nit_events.specs.declared.call.Reply.{Reply}
+use Rattle.nit_events.specs.declared.call.Call.TheVariants.{View}
 use Rattle.nit_events.specs.declared.call.Reply.TheVariants as reply
-use Rattle.nit_events.specs.declared.entry.Entry.{Entry}
 use Rattle.nit_events.specs.declared.entry.Entry.TheVariants as entry
-use Rattle.nit_events.specs.Input.{InputState, Routing, deliveries_of, forget}
 use Rattle.nit_stack.specs.declared.view.View.{View as ViewOf}
-use Rattle.nit_stack.specs.LabelPlaces.{is_view}
-use Rattle.nit_stack.specs.Orders.{put_front, put_back, put_above, without, changed, moved, put_again}
-use Rattle.nit_stack.proofs.ForCallers.{Put, Put-front, Put-back, Put-above}
-use Rattle.nit_config.specs.Configuration.{Configuration}
-use Rattle.nit_journal.specs.Session.{Session, ◌orelse◌, first_session, accepted, by_call, by_refusal, by_status, refusal, serve, receive, by_life, taking}
-use Rattle.nit_journal.specs.State.{State, first_state, session_in, session, layer, input_after_call, delivered, route, routed_to, after}
-use Rattle.nit_journal.specs.StackAfter.{is_accepted, new_view, after_accepted, stack_after_call, after_delivery, after_deliveries}
-use Rattle.nit_journal.specs.Replay.{Agrees, LegalFrom, IsLegal, replay_from, replay, shots}
-use Rattle.nit_journal.specs.Deliveries.{IsLive, is_kill}
 use Rattle.nit_journal.proofs.JournalFronts.{agrees_behind, front_legal}
 use Rattle.nit_journal.proofs.Isolation.{entry_keeps_all}
 use Rattle.nit_journal.proofs.KnownSessions.{IsStep, IsTold, Knows, known_but, route_step}
 use Rattle.nit_journal.proofs.SessionLists.{handed, handed_length, handed_to_another, still_there, delivered_length}
-use Rattle.std.proofs.lemmas.Option.{IfSome_then}
 
 -- the views' sessions have this
 abbrev pub HaveAll : (ℕ → Type 0) → List ViewOf → Type 0

@@ -1,16 +1,7 @@
 -- The machine of each session of a legal journal is the one that serves it alone.
-use Rattle.std.proofs.Common.{◌≡◌, ℕ, ◌+◌, ◌<◌, List, [], ◌∷◌, ◌++◌, length, refl, sym, ap, subst, ◌∙◌, inl, inr}
-use Rattle.std.proofs.lemmas.Bool.{eq-eqb, ne_eqb, cases_eq}
-use Rattle.nit_events.specs.declared.event.Delivery.{Delivery}
-use Rattle.nit_events.specs.declared.call.Call.{Call}
-use Rattle.nit_events.specs.declared.call.Reply.{Reply}
-use Rattle.nit_events.specs.declared.entry.Entry.{Entry}
+use Rattle.std.proofs.Common.{List, [], ap, inl, inr, length, refl, subst, sym, ℕ, ◌++◌, ◌+◌, ◌<◌, ◌∙◌, ◌∷◌, ◌≡◌}
+use Rattle.nit_journal.proofs.Basics.{Call, Calls, Configuration, Delivery, Entry, IsLegal, LegalFrom, Observation, Reply, Session, State, after, after_observations, alone_machine, cases_eq, delivered, donation_of, eq-eqb, first_state, items_to, ne_eqb, projection, replay, replay_from, route, serve, session, session_in}
 use Rattle.nit_events.specs.declared.entry.Entry.TheVariants as entry
-use Rattle.nit_config.specs.Configuration.{Configuration, donation_of}
-use Rattle.nit_journal.specs.Session.{Session, serve}
-use Rattle.nit_journal.specs.State.{State, first_state, session_in, session, delivered, route, after}
-use Rattle.nit_journal.specs.Replay.{LegalFrom, IsLegal, replay, replay_from}
-use Rattle.nit_journal.specs.Projection.{Observation, Calls, items_to, projection, after_observations, alone_machine}
 use Rattle.nit_journal.proofs.SessionLists.{opens, there_at_first, call_of_its_own, call_of_another, handed, still_handed, handed_to_it, handed_to_another, still_there}
 use Rattle.nit_journal.proofs.Isolation.{entry_keeps_all}
 

@@ -1,35 +1,15 @@
 -- Each release that a session gets follows a press of the same code that it got, with no release of it between.
-use Rattle.std.proofs.Common.{◌≡◌, ℕ, ◌+◌, ◌==◌, Bool, true, false, cond, List, [], ◌∷◌, ◌++◌, filter, Option, Some, None, refl, ap, sym, subst, ◌∙◌, append_assoc}
-use Rattle.std.specs.Prelude.{◌&&◌, ◌||◌, not, option_map, if◌then◌else◌}
-use Rattle.std.specs.List.{list_any}
-use Rattle.std.proofs.lemmas.Bool.{eq-eqb, eqb-true, false≢true, or_from, or_parts}
-use Rattle.std.proofs.lemmas.List.{append-nil}
-use Rattle.nit_events.specs.declared.event.Event.{Event}
+use Rattle.nit_journal.proofs.Basics.{Call, Calls, Close, Configuration, Delivery, Device, Entry, Event, Flat, Gets, InputState, IsDown, IsLegal, Item, Kill, LegalFrom, Mode, Observation, Reply, Routing, State, Xray, after, bar_rows, clicks_on, either, eq-eqb, eqb-true, false≢true, first_state, input_after_call, is_accepted, is_release, items_to, list_any, not, option_map, or_from, or_parts, owner, point, projection}
+use Rattle.std.proofs.Common.{Bool, List, None, Option, Some, [], ap, append-nil, append_assoc, cond, false, filter, refl, subst, sym, true, ℕ, ◌&&◌, ◌++◌, ◌+◌, ◌==◌, ◌∙◌, ◌∷◌, ◌≡◌}
+use Rattle.std.specs.Prelude.{if◌then◌else◌, ◌||◌}
+use Rattle.nit_journal.specs.State.{route}
 use Rattle.nit_events.specs.declared.event.Event.TheVariants as event
-use Rattle.nit_events.specs.declared.event.Item.{Item}
 use Rattle.nit_events.specs.declared.event.Item.TheVariants as item
-use Rattle.nit_events.specs.declared.event.Delivery.{Delivery}
-use Rattle.nit_events.specs.declared.device.Device.{Device}
 use Rattle.nit_events.specs.declared.device.Device.TheVariants as device
-use Rattle.nit_events.specs.declared.device.Mode.{Mode}
-use Rattle.nit_events.specs.declared.device.Mode.TheVariants.{Flat, Xray, Kill}
-use Rattle.nit_events.specs.declared.call.Call.{Call}
-use Rattle.nit_events.specs.declared.call.Call.TheVariants.{Close}
-use Rattle.nit_events.specs.declared.call.Reply.{Reply}
-use Rattle.nit_events.specs.declared.entry.Entry.{Entry}
 use Rattle.nit_events.specs.declared.entry.Entry.TheVariants as entry
-use Rattle.nit_events.specs.Input.{InputState, Routing}
 use Rattle.nit_events.specs.Input
 use Rattle.nit_stack.specs.declared.view.View.{View}
-use Rattle.nit_stack.specs.Sources.{owner, point}
-use Rattle.nit_config.specs.Configuration.{Configuration, bar_rows}
-use Rattle.nit_journal.specs.State.{State, after, clicks_on, input_after_call, first_state, route}
-use Rattle.nit_journal.specs.StackAfter.{is_accepted}
-use Rattle.nit_journal.specs.Replay.{IsLegal, LegalFrom}
-use Rattle.nit_journal.specs.Projection.{Observation, Calls, Gets, items_to, projection}
-use Rattle.nit_journal.specs.Presses.{IsDown, is_release}
 use Rattle.nit_journal.proofs.Isolation.{entry_keeps_all}
-use Rattle.nit_events.proofs.ForCallers.{either}
 
 -- ---- whether a code is down
 

@@ -1,14 +1,8 @@
 -- A call puts no event into any queue.
-use Rattle.std.proofs.Common.{◌≡◌, ℕ, ◌≤◌, List, [], ◌∷◌, ◌++◌, length, Option, Some, None, refl, sym, ap, subst, inl, inr}
-use Rattle.std.proofs.lemmas.Bool.{cases_eq, cases_lt}
-use Rattle.std.proofs.lemmas.List.{set_past, append-nil}
-use Rattle.nit_events.specs.declared.event.Event.{Event}
-use Rattle.nit_events.specs.declared.call.Call.{Call}
-use Rattle.nit_events.specs.declared.call.Call.TheVariants.{Take, Close}
-use Rattle.nit_events.specs.declared.call.Reply.{Reply}
+use Rattle.std.proofs.Common.{List, None, Option, Some, [], ap, append-nil, inl, inr, length, refl, subst, sym, ℕ, ◌++◌, ◌∷◌, ◌≡◌, ◌≤◌}
+use Rattle.nit_journal.proofs.Basics.{Call, Close, Event, Reply, Session, State, Take, accepted, after, by_refusal, cases_eq, cases_lt, refusal, session, session_in, set_past, taking}
+use Rattle.nit_journal.specs.Session.{serve}
 use Rattle.nit_events.specs.declared.entry.Entry.TheVariants as entry
-use Rattle.nit_journal.specs.Session.{Session, refusal, taking, accepted, by_refusal, serve}
-use Rattle.nit_journal.specs.State.{State, session_in, session, after}
 use Rattle.nit_journal.proofs.SessionLists.{call_of_its_own, call_of_another}
 
 -- events are taken from the front of a queue, and none is put in

@@ -1,24 +1,12 @@
 -- Refusals for want of quota or reserve: only a live session gets one, what is left is less than what is needed, and
 -- the session's donation and its own calls are enough to tell it.
-use Rattle.std.proofs.Common.{◌≡◌, ◌∙◌, ℕ, ◌<◌, ◌*◌, Bool, true, false, ◌&&◌, nat_le, nat_lt, List, [], ◌∷◌, ◌++◌, length, Option, Some, None, IfSome, refl, sym, ap, subst}
-use Rattle.std.proofs.lemmas.Bool.{leb-false}
-use Rattle.nit_events.specs.declared.event.Event.{Event}
-use Rattle.nit_events.specs.declared.event.Status.{Status}
+use Rattle.std.proofs.Common.{Bool, IfSome, List, None, Option, Some, [], ap, false, length, nat_le, nat_lt, refl, subst, sym, true, ℕ, ◌&&◌, ◌*◌, ◌++◌, ◌<◌, ◌∙◌, ◌∷◌, ◌≡◌}
+use Rattle.nit_journal.proofs.Basics.{Above, Agrees, Back, Buffer, Call, Close, Configuration, Destroy, Entry, Event, Front, IsLegal, Offset, Place, Refresh, Reply, Session, Status, Take, Title, Upgrade, accepted, buffer_left, buffer_need, by_call, by_handle, by_quota, by_refusal, by_reserve, by_status, has_view, is_place, is_rectangle, is_side, is_title, leb-false, own_machine, refusal, replay, session, shots, taking, unless, view_left, view_need, ◌orelse◌}
+use Rattle.nit_journal.specs.Session.{serve}
 use Rattle.nit_events.specs.declared.event.Status.TheVariants as status
-use Rattle.nit_events.specs.declared.call.Call.{Call}
-use Rattle.nit_events.specs.declared.call.Call.TheVariants.{Buffer, View, Place, Offset, Front, Back, Above, Title, Destroy, Refresh, Take, Upgrade, Close}
-use Rattle.nit_events.specs.declared.call.Reply.{Reply}
+use Rattle.nit_events.specs.declared.call.Call.TheVariants.{View}
 use Rattle.nit_events.specs.declared.call.Reply.TheVariants as reply
-use Rattle.nit_events.specs.declared.entry.Entry.{Entry}
 use Rattle.nit_events.specs.declared.entry.Entry.TheVariants as entry
-use Rattle.nit_rect.specs.Rectangle.{is_place, is_rectangle}
-use Rattle.nit_glyph.specs.Texts.{is_title}
-use Rattle.nit_slots.specs.Account.{view_need, view_left, buffer_need, buffer_left}
-use Rattle.nit_config.specs.Configuration.{Configuration}
-use Rattle.nit_journal.specs.Session.{Session, ◌orelse◌, unless, by_status, has_view, by_handle, is_side, by_quota, by_reserve, by_call, refusal, taking, accepted, by_refusal, serve}
-use Rattle.nit_journal.specs.State.{session}
-use Rattle.nit_journal.specs.Replay.{IsLegal, Agrees, replay, shots}
-use Rattle.nit_journal.specs.Projection.{own_machine}
 use Rattle.nit_journal.proofs.JournalFronts.{agrees_behind}
 use Rattle.nit_journal.proofs.SessionLists.{as_many_as_clients}
 use Rattle.nit_journal.proofs.OwnCalls.{answered_alike}

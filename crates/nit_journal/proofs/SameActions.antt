@@ -1,14 +1,7 @@
 -- The configuration and what the entries are of determine a legal journal.
-use Rattle.std.proofs.Common.{◌≡◌, ◌∙◌, ℕ, ◌+◌, List, [], ◌∷◌, map, refl, sym, ap, ap₂, subst}
-use Rattle.nit_events.specs.declared.device.Device.{Device}
-use Rattle.nit_events.specs.declared.call.Call.{Call}
-use Rattle.nit_events.specs.declared.entry.Entry.{Entry}
+use Rattle.std.proofs.Common.{List, [], ap, ap₂, map, refl, subst, sym, ℕ, ◌+◌, ◌∙◌, ◌∷◌, ◌≡◌}
+use Rattle.nit_journal.proofs.Basics.{Agrees, Call, Device, Entry, LegalFrom, State, action_of, after, route, routed_as, serve, session}
 use Rattle.nit_events.specs.declared.entry.Entry.TheVariants as entry
-use Rattle.nit_events.specs.Input.{routed_as}
-use Rattle.nit_journal.specs.Session.{serve}
-use Rattle.nit_journal.specs.State.{State, session, route, after}
-use Rattle.nit_journal.specs.Replay.{Agrees, LegalFrom}
-use Rattle.nit_journal.specs.WholeJournals.{action_of}
 
 -- one entry
 same_entry : (s : State) (taken : ℕ) (e f : Entry) → Agrees s taken e → Agrees s taken f → action_of e ≡ action_of f → e ≡ f

@@ -1,17 +1,7 @@
 -- What the entries of a journal do to the list of sessions.
-use Rattle.std.proofs.Common.{◌≡◌, ℕ, ◌<◌, List, [], ◌∷◌, length, refl, sym, subst, ◌∙◌, arith, false}
-use Rattle.std.specs.Prelude.{slice_set}
-use Rattle.std.proofs.lemmas.List.{get_or-set_same, get_or-set_other, get_or-map, length-set, length-map}
-use Rattle.nit_events.specs.declared.event.Delivery.{Delivery}
-use Rattle.nit_events.specs.declared.call.Call.{Call}
-use Rattle.nit_events.specs.declared.call.Reply.{Reply}
-use Rattle.nit_events.specs.declared.entry.Entry.{Entry}
+use Rattle.std.proofs.Common.{List, [], arith, false, get_or-set_other, get_or-set_same, length, length-set, refl, subst, sym, ℕ, ◌<◌, ◌∙◌, ◌∷◌, ◌≡◌}
+use Rattle.nit_journal.proofs.Basics.{Call, Configuration, Delivery, Entry, Member, Reply, Session, State, after, delivered, donation_of, first_session, first_state, get_or-map, length-map, receive, replay, replay_from, route, serve, session, session_in, slice_set}
 use Rattle.nit_events.specs.declared.entry.Entry.TheVariants as entry
-use Rattle.nit_config.specs.declared.config.Member.{Member}
-use Rattle.nit_config.specs.Configuration.{Configuration, donation_of}
-use Rattle.nit_journal.specs.Session.{Session, first_session, serve, receive}
-use Rattle.nit_journal.specs.State.{State, first_state, session_in, session, delivered, route, after}
-use Rattle.nit_journal.specs.Replay.{replay_from, replay}
 
 -- ---- before the first entry
 

@@ -1,9 +1,7 @@
 -- What is delivered, and to whom.
 use Rattle.std.specs.Prelude.{◌≡◌, ℕ, ◌<◌, Bool, true, false, List, length}
-use Rattle.std.specs.List.{list_any}
-use Rattle.nit_events.specs.declared.event.Item.{Item}
+use Rattle.nit_journal.specs.Below.{Delivery, Item, list_any}
 use Rattle.nit_events.specs.declared.event.Item.TheVariants as item
-use Rattle.nit_events.specs.declared.event.Delivery.{Delivery}
 use Rattle.nit_events.specs.declared.event.Status.TheVariants as status
 use Rattle.nit_journal.specs.State.{State, session}
 

@@ -1,6 +1,5 @@
 -- A journal that has room.
-use Rattle.std.specs.Prelude.{ℕ, List}
-use Rattle.nit_events.specs.declared.entry.Entry.{Entry}
+use Rattle.nit_journal.specs.Below.{Entry, List, ℕ}
 
 -- how many entries a run can have: one for each line of 16 clients and of the user, of which each has
 -- at most 65536, and the last picture

@@ -14,3 +14,5 @@ pub mod Projection
 pub mod WholeJournals
 pub mod Deliveries
 pub mod Presses
+pub mod Below
+pub mod Terms

@@ -1,6 +1,6 @@
 -- The presses and releases that a session gets.
 use Rattle.std.specs.Prelude.{◌≡◌, ℕ, ◌==◌, Bool, false, List, ◌∷◌, ◌++◌}
-use Rattle.std.specs.List.{list_any}
+use Rattle.nit_journal.specs.Below.{list_any}
 use Rattle.nit_events.specs.declared.event.Event.TheVariants as event
 use Rattle.nit_events.specs.declared.event.Item.TheVariants as item
 use Rattle.nit_journal.specs.Projection.{Observation, Gets}

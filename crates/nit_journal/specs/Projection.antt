@@ -1,14 +1,7 @@
 -- What one session sees of a journal.
 use Rattle.std.specs.Prelude.{ℕ, ◌==◌, List, [], ◌∷◌, ◌++◌, map, sum, length, if◌then◌else◌}
-use Rattle.nit_events.specs.declared.call.Call.{Call}
-use Rattle.nit_events.specs.declared.call.Reply.{Reply}
-use Rattle.nit_events.specs.declared.event.Item.{Item}
-use Rattle.nit_events.specs.declared.event.Delivery.{Delivery}
-use Rattle.nit_events.specs.declared.entry.Entry.{Entry}
+use Rattle.nit_journal.specs.Below.{Call, Configuration, Delivery, Entry, Item, Reply, deliveries_of, donation_of, view_slots}
 use Rattle.nit_events.specs.declared.entry.Entry.TheVariants as entry
-use Rattle.nit_events.specs.Input.{deliveries_of}
-use Rattle.nit_slots.specs.Account.{view_slots}
-use Rattle.nit_config.specs.Configuration.{Configuration, donation_of}
 use Rattle.nit_journal.specs.Session.{Session, first_session, serve, after_calls, receive}
 use Rattle.nit_journal.specs.State.{State}
 use Rattle.nit_journal.specs.WholeJournals.{calls_of}

@@ -1,9 +1,7 @@
 -- Journals, and which of them are legal.
 use Rattle.std.specs.Prelude.{◌≡◌, ℕ, suc, ◌+◌, ◌<◌, List, [], ◌∷◌, length, fold}
-use Rattle.nit_events.specs.declared.entry.Entry.{Entry}
+use Rattle.nit_journal.specs.Below.{Configuration, Entry, routed_as}
 use Rattle.nit_events.specs.declared.entry.Entry.TheVariants as entry
-use Rattle.nit_events.specs.Input.{routed_as}
-use Rattle.nit_config.specs.Configuration.{Configuration}
 use Rattle.nit_journal.specs.Session.{serve}
 use Rattle.nit_journal.specs.State.{State, first_state, session, route, after}
 

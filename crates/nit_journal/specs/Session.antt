@@ -1,20 +1,10 @@
 -- The machine of one session. It knows no other session, no stack and no slots.
 use Rattle.std.specs.Prelude.{ℕ, ◌+◌, ◌-◌, ◌*◌, Bool, ◌&&◌, not, nat_lt, nat_le, ◌==◌, List, [], ◌∷◌, ◌++◌, length, filter, fold, Option, Some, None, if◌then◌else◌}
-use Rattle.std.specs.List.{list_any}
-use Rattle.nit_rect.specs.Rectangle.{is_place, is_rectangle}
-use Rattle.nit_events.specs.declared.event.Event.{Event}
-use Rattle.nit_events.specs.declared.event.Item.{Item}
+use Rattle.nit_journal.specs.Below.{Above, Back, Buffer, Call, Close, Destroy, Event, Front, Item, Offset, Place, Refresh, Reply, Status, Take, Title, Upgrade, buffer_left, buffer_need, is_place, is_rectangle, is_title, list_any, most_side, most_views, most_waiting, room, view_left, view_need}
 use Rattle.nit_events.specs.declared.event.Item.TheVariants as item
-use Rattle.nit_events.specs.declared.event.Status.{Status}
 use Rattle.nit_events.specs.declared.event.Status.TheVariants as status
-use Rattle.nit_events.specs.declared.call.Call.{Call}
-use Rattle.nit_events.specs.declared.call.Call.TheVariants.{Buffer, View, Place, Offset, Front, Back, Above, Title, Destroy, Refresh, Take, Upgrade, Close}
-use Rattle.nit_events.specs.declared.call.Reply.{Reply}
+use Rattle.nit_events.specs.declared.call.Call.TheVariants.{View}
 use Rattle.nit_events.specs.declared.call.Reply.TheVariants as reply
-use Rattle.nit_glyph.specs.Texts.{is_title}
-use Rattle.nit_slots.specs.Account.{room, view_need, view_left, buffer_need, buffer_left, most_views}
-use Rattle.nit_rect.specs.Limits.{most_side}
-use Rattle.nit_events.specs.Ranges.{most_waiting}
 
 -- its donation and reserve in units; whether it is served; the width and height of its buffer; the
 -- handle of its next view; its handles; its queued events; how many events were lost

@@ -1,16 +1,10 @@
 -- The stack of all views after an entry of the journal.
 use Rattle.std.specs.Prelude.{ℕ, pos, Bool, true, false, ◌==◌, List, [], ◌∷◌, if◌then◌else◌}
-use Rattle.nit_rect.specs.Rectangle.{rectangle}
-use Rattle.nit_events.specs.declared.event.Delivery.{Delivery}
-use Rattle.nit_events.specs.declared.event.Item.{Item}
+use Rattle.nit_journal.specs.Below.{Above, Back, Call, Close, Delivery, Destroy, Front, Item, Offset, Place, Reply, Title, changed, is_view, moved, put_above, put_back, put_front, rectangle, without}
 use Rattle.nit_events.specs.declared.event.Item.TheVariants as item
-use Rattle.nit_events.specs.declared.call.Call.{Call}
-use Rattle.nit_events.specs.declared.call.Call.TheVariants.{View, Place, Offset, Front, Back, Above, Title, Destroy, Close}
-use Rattle.nit_events.specs.declared.call.Reply.{Reply}
+use Rattle.nit_events.specs.declared.call.Call.TheVariants.{View}
 use Rattle.nit_events.specs.declared.call.Reply.TheVariants as reply
 use Rattle.nit_stack.specs.declared.view.View.{View as ViewOf}
-use Rattle.nit_stack.specs.LabelPlaces.{is_view}
-use Rattle.nit_stack.specs.Orders.{put_front, put_back, put_above, without, changed, moved}
 
 -- the call was not refused
 abbrev pub is_accepted : Reply → Bool

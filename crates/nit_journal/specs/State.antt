@@ -1,19 +1,9 @@
 -- The state that the entries of a journal lead to.
 use Rattle.std.specs.Prelude.{ℕ, Bool, false, List, [], ◌∷◌, map, slice_index_or, slice_set, Option, Some, None, option_map, if◌then◌else◌, ◌≡◌, ◌⊎◌, true}
-use Rattle.nit_rect.specs.declared.point.Point.{Point}
-use Rattle.nit_events.specs.declared.event.Delivery.{Delivery}
-use Rattle.nit_events.specs.declared.device.Device.{Device}
+use Rattle.nit_journal.specs.Below.{Call, Close, Configuration, Delivery, Device, Entry, Flat, InputState, PixelSource, Point, Reply, Routing, Size, Xray, bar_rows, first_input, forget, is_button, member, owner, point, pointer_after, routing, source}
 use Rattle.nit_events.specs.declared.device.Device.TheVariants as device
-use Rattle.nit_events.specs.declared.device.Mode.TheVariants.{Flat, Xray}
-use Rattle.nit_events.specs.declared.call.Call.{Call}
-use Rattle.nit_events.specs.declared.call.Call.TheVariants.{Close}
-use Rattle.nit_events.specs.declared.call.Reply.{Reply}
-use Rattle.nit_events.specs.declared.entry.Entry.{Entry}
 use Rattle.nit_events.specs.declared.entry.Entry.TheVariants as entry
-use Rattle.nit_events.specs.Input.{InputState, Routing, first_input, forget, pointer_after, routing, is_button}
 use Rattle.nit_stack.specs.declared.view.View.{View}
-use Rattle.nit_stack.specs.Sources.{Size, PixelSource, point, owner, source}
-use Rattle.nit_config.specs.Configuration.{Configuration, bar_rows, member}
 use Rattle.nit_journal.specs.Session.{Session, first_session, serve, receive}
 use Rattle.nit_journal.specs.StackAfter.{is_accepted, stack_after_call, after_deliveries}
 

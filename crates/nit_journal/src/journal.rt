@@ -1,7 +1,7 @@
 //! The journal as the server keeps it: its room is taken at opening, and an entry takes no memory.
 
 ghost use Rattle.std.specs.Prelude.{◌≡◌, ◌-◌, ◌≤◌, ◌++◌, ◌∷◌, [], IfOk};
-ghost use Rattle.nit_journal.specs.Journal.{most_entries};
+ghost use Rattle.nit_journal.specs.Terms.{most_entries};
 
 use nit_events::{Call, Entry, Reply};
 use nit_rect::NoMemory;

@@ -1,29 +1,13 @@
 //! Laws of journals, over plain lists.
 
 ghost use Rattle.std.specs.Prelude.{All, ◌≡◌, ◌≢◌, ◌+◌, ◌++◌, ◌∷◌, [], ℕ, List, length, ◌<◌, ◌⊎◌, true, map, Some, None};
-ghost use Rattle.nit_events.specs.declared.call.Call.{Call};
-ghost use Rattle.nit_events.specs.declared.call.Call.TheVariants.{Take, Close};
-ghost use Rattle.nit_events.specs.declared.call.Reply.{Reply};
+ghost use Rattle.nit_journal.specs.Terms.{Agrees, Call, Close, Configuration, Device, Entry, Event, Gets, InputState, IsClickAt, IsDown, IsKillAlone, IsLegal, IsLive, IsOpen, LegalFrom, Observation, Reply, Routed, State, Take, action_of, after, alone, alone_machine, deliveries_of, donation_of, is_accepted, own_machine, projection, replay, replay_from, replies_to, route, serve, session, shots};
 ghost use Rattle.nit_events.specs.declared.call.Reply.TheVariants as reply;
-ghost use Rattle.nit_events.specs.declared.event.Event.{Event};
 ghost use Rattle.nit_events.specs.declared.event.Event.TheVariants as event;
 ghost use Rattle.nit_events.specs.declared.event.Item.TheVariants as item;
-ghost use Rattle.nit_events.specs.declared.event.Routed.{Routed};
-ghost use Rattle.nit_events.specs.declared.device.Device.{Device};
 ghost use Rattle.nit_events.specs.declared.event.Status.TheVariants as status;
-ghost use Rattle.nit_events.specs.declared.entry.Entry.{Entry};
 ghost use Rattle.nit_events.specs.declared.entry.Entry.TheVariants as entry;
-ghost use Rattle.nit_events.specs.Input.{InputState, deliveries_of};
 ghost use Rattle.nit_stack.specs.declared.view.View.{View};
-ghost use Rattle.nit_config.specs.Configuration.{Configuration, donation_of};
-ghost use Rattle.nit_journal.specs.Session.{serve};
-ghost use Rattle.nit_journal.specs.StackAfter.{is_accepted};
-ghost use Rattle.nit_journal.specs.State.{State, session, route, after, IsClickAt};
-ghost use Rattle.nit_journal.specs.Replay.{replay_from, replay, LegalFrom, IsLegal, Agrees, IsOpen, shots};
-ghost use Rattle.nit_journal.specs.Presses.{IsDown};
-ghost use Rattle.nit_journal.specs.Projection.{Gets, Observation, projection, replies_to, alone, alone_machine, own_machine};
-ghost use Rattle.nit_journal.specs.WholeJournals.{action_of};
-ghost use Rattle.nit_journal.specs.Deliveries.{IsKillAlone, IsLive};
 
 /// A journal with one more entry: it leads to the state after that entry, and it is legal where the
 /// entry agrees with the state and the shots before it, and only there.

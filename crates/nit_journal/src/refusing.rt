@@ -1,10 +1,7 @@
 //! Why a call of a session is refused, each reason by itself.
 
 ghost use Rattle.std.specs.Prelude.{◌≡◌, ◌&&◌, nat_lt};
-ghost use Rattle.nit_rect.specs.Rectangle.{is_place, is_rectangle};
-ghost use Rattle.nit_glyph.specs.Texts.{is_title};
-ghost use Rattle.nit_slots.specs.Account.{view_need, view_left, buffer_need, buffer_left, most_views};
-ghost use Rattle.nit_journal.specs.Session.{◌orelse◌, unless, by_status, is_side, by_quota, by_reserve};
+ghost use Rattle.nit_journal.specs.Terms.{buffer_left, buffer_need, by_quota, by_reserve, by_status, is_place, is_rectangle, is_side, is_title, most_views, unless, view_left, view_need, ◌orelse◌};
 
 use nit_events::{Reply, Status, Text};
 use nit_glyph::is_title;

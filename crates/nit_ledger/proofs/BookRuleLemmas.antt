@@ -1,19 +1,8 @@
 -- Each kind of step keeps the rule of a book.
-use Rattle.std.proofs.Common.{◌≡◌, ◌≢◌, ◌⊎◌, ℕ, zero, suc, ◌+◌, ◌<◌, List, [], ◌∷◌, ◌++◌, length, set, Option, Some, None, cond, eqb, refl, sym, ap, ◌∙◌, subst, inl, inr, ⊎_elim, arith, length-append, get_or-set_same, get_or-set_other, eq-eqb, ne_eqb}
-use Rattle.std.specs.Prelude.{slice_index}
-use Rattle.std.proofs.lemmas.List.{get_or_append_left, length-set}
-use Rattle.std.proofs.Math.Seq.{get_or-append_seam}
-use Rattle.std.proofs.lemmas.Bool.{cases_eq}
+use Rattle.nit_ledger.proofs.Basics.{Allows, Bears, BearsShare, BookView, Entry, FitsView, IsBookAt, IsBookRule, IsTokenInStep, Joins, OfBook, OfShare, Spent, Splits, State, StepDone, Token, at_last, at_longer, at_set, book_at_rest, book_with_share, cases_eq, get_or-append_seam, get_or_append_left, keeps, length-set, opening, raised_by, set_else, set_here, step, token}
+use Rattle.std.proofs.Common.{List, None, Option, Some, [], ap, arith, cond, eq-eqb, eqb, get_or-set_other, get_or-set_same, inl, inr, length, length-append, ne_eqb, refl, set, slice_index, subst, suc, sym, zero, ℕ, ⊎_elim, ◌++◌, ◌+◌, ◌<◌, ◌∙◌, ◌∷◌, ◌≡◌, ◌≢◌, ◌⊎◌}
 use mathlib.Core.Option.{some, none, some-ne-none, some-injective}
 use lib.ListN.{get_elem?}
-use Rattle.atomic_table.specs.Table.{State, keeps, step, opening, Allows, Splits, Joins}
-use Rattle.atomic_table.proofs.Lists.{at_set, set_here, set_else, at_longer, at_last}
-use Rattle.nit_events.specs.declared.entry.Entry.{Entry}
-use Rattle.nit_ledger.specs.declared.view.Token.{Token}
-use Rattle.nit_ledger.specs.declared.view.BookView.{BookView}
-use Rattle.nit_ledger.specs.declared.view.BookView.TheVariants.{OfBook, OfShare, Spent}
-use Rattle.nit_ledger.specs.Book.{raised_by}
-use Rattle.nit_ledger.specs.BookRule.{token, IsTokenInStep, FitsView, IsBookAt, IsBookRule, book_at_rest, book_with_share, StepDone, Bears, BearsShare}
 use Rattle.nit_ledger.proofs.Prefixes.{front_self, front_trans}
 
 at_snoc : {A : Type 0} (l : List A) (a b : A) (j : ℕ) → get_elem? (l ++ a ∷ []) j ≡ some b → (get_elem? l j ≡ some b) ⊎ ((j ≡ length l) × (a ≡ b))

@@ -1,7 +1,6 @@
 -- Counts of which one rises.
-use Rattle.std.proofs.Common.{◌≡◌, ◌∙◌, ℕ, List, set, ap, slice_index, add-zero}
-use Rattle.std.proofs.lemmas.List.{set-get_or}
-use Rattle.nit_ledger.specs.Book.{raised_by}
+use Rattle.std.proofs.Common.{List, add-zero, ap, set, slice_index, ℕ, ◌∙◌, ◌≡◌}
+use Rattle.nit_ledger.proofs.Basics.{raised_by, set-get_or}
 
 -- a count that rises by nothing stays
 pub raised_by-zero : (counts : List ℕ) (number : ℕ) → raised_by counts number 0 ≡ counts

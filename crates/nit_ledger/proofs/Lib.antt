@@ -1,3 +1,5 @@
 pub mod Counts
 pub mod Prefixes
 pub mod BookRuleLemmas
+pub mod Basics
+pub mod Lemmas

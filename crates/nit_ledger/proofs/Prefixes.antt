@@ -1,5 +1,5 @@
 -- Fronts of one list.
-use Rattle.std.proofs.Common.{List, [], ◌∷◌, ◌++◌, refl, ap, sym, ◌∙◌, append_assoc}
+use Rattle.std.proofs.Common.{List, [], ap, append_assoc, refl, sym, ◌++◌, ◌∙◌, ◌∷◌}
 use mathlib.Core.List.{IsPrefix}
 
 -- each list is a front of itself

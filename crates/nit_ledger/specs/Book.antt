@@ -1,8 +1,7 @@
 -- What contracts see of a book and of a share.
 use Rattle.std.specs.Prelude.{◌≡◌, ℕ, ◌+◌, ◌<◌, List, length, slice_index, slice_set}
 use mathlib.Core.List.{IsPrefix}
-use Rattle.atomic_table.specs.Seated.{TableId}
-use Rattle.nit_events.specs.declared.entry.Entry.{Entry}
+use Rattle.nit_ledger.specs.Below.{Entry, TableId}
 
 -- shares of one book
 abbrev pub most_shares : ℕ

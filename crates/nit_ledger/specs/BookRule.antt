@@ -2,8 +2,7 @@
 use Rattle.std.specs.Prelude.{◌≡◌, ℕ, ◌+◌, ◌<◌, List, [], ◌∷◌, ◌++◌, length, Option, Some, None}
 use mathlib.Core.Option.{some}
 use lib.ListN.{get_elem?}
-use Rattle.atomic_table.specs.Table.{State, Me, Step}
-use Rattle.nit_events.specs.declared.entry.Entry.{Entry}
+use Rattle.nit_ledger.specs.Below.{Entry, Me, State, Step}
 use Rattle.nit_ledger.specs.declared.view.Token.{Token}
 use Rattle.nit_ledger.specs.declared.view.BookView.{BookView}
 use Rattle.nit_ledger.specs.declared.view.BookView.TheVariants.{OfBook, OfShare, Spent}

@@ -1,8 +1,6 @@
 -- What is seen of the seats of a book and of a share.
 use Rattle.std.specs.Prelude.{◌≡◌, ℕ, ◌<◌, List, [], Option, Some, None}
-use Rattle.atomic_table.specs.declared.shared.Seat.{Seat}
-use Rattle.atomic_table.specs.Seated.{TableId}
-use Rattle.nit_events.specs.declared.entry.Entry.{Entry}
+use Rattle.nit_ledger.specs.Below.{Entry, Seat, TableId}
 use Rattle.nit_ledger.specs.declared.view.Token.{Token}
 use Rattle.nit_ledger.specs.declared.view.BookView.{BookView}
 use Rattle.nit_ledger.specs.declared.view.BookView.TheVariants.{OfBook, OfShare}

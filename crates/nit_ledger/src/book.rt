@@ -1,6 +1,6 @@
 //! A book, and what its shares do at it.
 ghost use Rattle.std.specs.Prelude.{◌≡◌, ◌+◌, ◌<◌, [], ◌∷◌, ◌++◌, length, IfOk};
-ghost use Rattle.nit_ledger.specs.Book.{raised, raised_by, IsShareOf, most_shares};
+ghost use Rattle.nit_ledger.specs.Terms.{IsShareOf, most_shares, raised, raised_by};
 
 use crate::share::Share;
 use crate::steps::{Adding, Counting, Deed, Item, Looking};

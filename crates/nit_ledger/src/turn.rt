@@ -1,9 +1,6 @@
 //! The parts of a share's turn at the book: it is taken in, does its deed and is given back.
 ghost use Rattle.std.specs.Prelude.{◌≡◌, ◌+◌, [], ◌∷◌, ◌++◌, length};
-ghost use Rattle.nit_ledger.specs.declared.view.BookView.TheVariants.{OfShare};
-ghost use Rattle.nit_ledger.specs.Book.{raised_by};
-ghost use Rattle.nit_ledger.specs.BookRule.{token, book_at_rest, book_with_share, IsTokenInStep};
-ghost use Rattle.nit_ledger.specs.BookSeat.{IsSeatOf, IsResting, IsHolding, IsShares, entries_at, counts_at, taken_token, token_at};
+ghost use Rattle.nit_ledger.specs.Terms.{IsHolding, IsResting, IsSeatOf, IsShares, IsTokenInStep, OfShare, book_at_rest, book_with_share, counts_at, entries_at, raised_by, taken_token, token, token_at};
 
 use crate::steps::{Carries, Deed, Does, Opens};
 use crate::view::{BookView, Pages};

@@ -1,16 +1,8 @@
 -- Rows of a block of the screen, and the pixels of each.
-use Rattle.std.proofs.Common.{◌≡◌, ℕ, zero, suc, ◌+◌, ◌*◌, ◌/◌, ◌%◌, ◌<◌, ◌≤◌, ◌==◌, ◌&&◌, ◌||◌, nat_le, nat_lt, Bool, true, false, cond, List, length, Option, Some, None, refl, ap, sym, ◌∙◌, subst, arith}
-use Rattle.std.specs.Option.{option_map}
+use Rattle.std.proofs.Common.{Bool, List, None, Option, Some, ap, arith, cond, false, length, nat_le, nat_lt, refl, subst, suc, sym, true, zero, ℕ, ◌%◌, ◌&&◌, ◌*◌, ◌+◌, ◌/◌, ◌<◌, ◌==◌, ◌||◌, ◌∙◌, ◌≡◌, ◌≤◌}
+use Rattle.nit_paint.proofs.Basics.{Block, PixelSource, Reach, Repainted, Sight, black_or_word, in_rows, in_run, index_at, index_from, long, mul-le-mul_right, nat_tests, option_map, reached, row_at, row_source}
 use mathlib.Core.Logic.{dite}
 use native.Mathlib.Decide.{ℕ_discrete, dec_lt}
-use Rattle.std.proofs.Math.Nat.{mul-le-mul_right}
-use Rattle.std.proofs.lemmas.Bool.Decides.{nat_tests}
-use Rattle.nit_word.specs.Sight.{Sight}
-use Rattle.nit_stack.specs.Sources.{PixelSource, black_or_word, index_at}
-use Rattle.nit_paint.specs.Repaint.{Repainted}
-use Rattle.nit_paint.specs.Runs.{in_rows, in_run, index_from, long, reached, row_at, row_source}
-use Rattle.nit_paint.specs.declared.block.Block.{Block}
-use Rattle.nit_paint.specs.declared.reach.Reach.{Reach}
 use Rattle.nit_paint.proofs.RepaintLemmas.{other_count, repainted_none, repainted_union}
 
 -- the column and the row of a pixel say whether it is one of a run within a row

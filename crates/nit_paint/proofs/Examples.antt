@@ -1,10 +1,6 @@
 -- Worked rows of painting, computed from the definitions.
-use Rattle.std.proofs.Common.{◌≡◌, true, false, [], ◌∷◌, refl, pos}
-use Rattle.nit_rect.specs.Rectangle.{Rectangle, rectangle}
-use Rattle.nit_stack.specs.Sources.{Bare, Black, Word}
-use Rattle.nit_stack.specs.Stack.{StackModel}
-use Rattle.nit_paint.specs.Repaint.{loads_at, times_shown}
-use Rattle.nit_paint.specs.Pieces.{has_pixel, source_of_number}
+use Rattle.std.proofs.Common.{[], false, pos, refl, true, ◌∷◌, ◌≡◌}
+use Rattle.nit_paint.proofs.Basics.{Bare, Black, Rectangle, StackModel, Word, has_pixel, loads_at, rectangle, source_of_number, times_shown}
 
 -- A screen of 8 by 4. In front stands a view of 2 by 1 at (6, 0). Another view of the same session, of 4 by 2 at (1, 1),
 -- moves the session's buffer of 4 by 2 by one column.

@@ -1,7 +1,6 @@
 -- Words of a frame that are set, one set of pixels after the other.
-use Rattle.std.proofs.Common.{◌≡◌, ℕ, ◌<◌, ◌||◌, Bool, true, false, cond, List, refl, ap, sym, ◌∙◌}
-use Rattle.std.specs.Prelude.{slice_index}
-use Rattle.nit_paint.specs.FrameCopy.{AreSet}
+use Rattle.std.proofs.Common.{Bool, List, ap, cond, false, refl, sym, true, ℕ, ◌<◌, ◌||◌, ◌∙◌, ◌≡◌}
+use Rattle.nit_paint.proofs.Basics.{AreSet, slice_index}
 
 -- none is chosen
 pub nothing_set : (chosen : ℕ → Bool) (n : ℕ) (word : ℕ → ℕ) (frame : List ℕ) → ((k : ℕ) → k < n → chosen k ≡ false) → AreSet chosen n word frame frame

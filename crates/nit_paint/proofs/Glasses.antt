@@ -1,10 +1,6 @@
 -- What loads do to glasses.
-use Rattle.std.proofs.Common.{◌≡◌, ℕ, ◌==◌, Bool, true, false, cond, List, [], ◌∷◌, refl, ap, sym, ◌∙◌, subst}
-use Rattle.std.proofs.lemmas.Bool.{eq-eqb}
-use Rattle.nit_word.specs.Sight.{Sight, IsLoaded, seen}
-use Rattle.nit_word.proofs.ForCallers.{seen_none}
-use Rattle.nit_stack.specs.Sources.{Word}
-use Rattle.nit_paint.specs.Repaint.{IsWordOfSource, loads_of, with_glass}
+use Rattle.nit_paint.proofs.Basics.{IsLoaded, IsWordOfSource, Sight, Word, eq-eqb, loads_of, seen, seen_none, with_glass}
+use Rattle.std.proofs.Common.{Bool, List, [], ap, cond, false, refl, subst, sym, true, ℕ, ◌==◌, ◌∙◌, ◌∷◌, ◌≡◌}
 
 -- one glass of many, before and after one load
 own_glass : (others : ℕ → Sight) (sid : ℕ) (g : Sight) → with_glass others sid g sid ≡ g

@@ -7,3 +7,5 @@ pub mod PieceOwners
 pub mod Examples
 pub mod OneMore
 pub mod ForCallers
+pub mod Basics
+pub mod Lemmas

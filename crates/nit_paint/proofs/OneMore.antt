@@ -1,13 +1,8 @@
 -- What one pixel more does to a repaint that counts from the first pixel on.
-use Rattle.std.proofs.Common.{◌≡◌, ℕ, ◌+◌, ◌<◌, ◌==◌, ◌&&◌, Bool, true, false, cond, List, ◌++◌, length, set, slice_index_or, ap, sym, ◌∙◌, subst, arith, add-one, add-zero, get_or-set_same, get_or-set_other}
+use Rattle.nit_paint.proofs.Basics.{IsAmongLoads, IsWordOfSource, PixelSource, Repainted, Sight, false≢true, is_word_of, loads_of, seen, seen_twice, sum_by-append, times_shown}
+use Rattle.std.proofs.Common.{Bool, List, add-one, add-zero, ap, arith, cond, false, get_or-set_other, get_or-set_same, length, set, slice_index_or, subst, sym, true, ℕ, ◌&&◌, ◌++◌, ◌+◌, ◌<◌, ◌==◌, ◌∙◌, ◌≡◌}
 use mathlib.Core.Logic.{dite}
 use native.Mathlib.Decide.{ℕ_discrete}
-use Rattle.std.proofs.lemmas.Bool.{false≢true}
-use Rattle.std.proofs.lemmas.List.Sums.{sum_by-append}
-use Rattle.nit_word.specs.Sight.{Sight, seen}
-use Rattle.nit_word.proofs.ForCallers.{seen_twice}
-use Rattle.nit_stack.specs.Sources.{PixelSource}
-use Rattle.nit_paint.specs.Repaint.{IsWordOfSource, IsAmongLoads, Repainted, is_word_of, loads_of, times_shown}
 use Rattle.nit_paint.proofs.RepaintLemmas.{among_first, among_last, among_own, one_load, since}
 
 one_more : (source : ℕ → PixelSource) (marked : ℕ → Bool) (t i k : ℕ) → times_shown source marked t i (k + 1) ≡ times_shown source marked t i k + cond (marked k && is_word_of t i (source k)) 1 0

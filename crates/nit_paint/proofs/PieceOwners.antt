@@ -1,27 +1,7 @@
 -- What the pixels of a piece show, by its owner.
-use Rattle.std.proofs.Common.{◌≡◌, ℕ, ◌+◌, ◌*◌, ◌/◌, ◌%◌, ◌<◌, ◌≤◌, List, length, Some, None, refl, ap, sym, ◌∙◌, subst, arith}
-use Rattle.std.specs.Prelude.{pos, ℤ, ◌+ℤ◌, ◌-ℤ◌, IsTrue}
-use Rattle.std.specs.Option.{option_map, option_map_or}
-use Rattle.std.proofs.Math.Nat.{mul-le-mul_left}
-use Rattle.std.proofs.lemmas.Bool.Decides.{nat_tests}
-use Rattle.std.proofs.lemmas.Int.{ints}
-use Rattle.std.proofs.lemmas.Nat.{rows}
-use Rattle.nit_rect.specs.declared.point.Point.{Point}
-use Rattle.nit_rect.specs.Rectangle.{Rectangle, covers, rectangle}
-use Rattle.nit_rect.specs.Intersection.{HasPixels}
-use Rattle.nit_stack.specs.declared.view.Piece.{Piece}
-use Rattle.nit_stack.specs.declared.view.View.{View}
-use Rattle.nit_stack.specs.declared.view.ViewRef.{ViewRef}
-use Rattle.nit_stack.specs.Sources.{Bare, PixelSource, among, black_or_word, buffer_place, index_at, owner_in, pixel, point, shown_index}
-use Rattle.nit_stack.specs.Stack.{IsOnScreen, IsScreenSize, IsSlotView, IsStack, StackModel, is_slot, slot_view_in, size_of, view_ref}
-use Rattle.nit_stack.specs.SourceAnswers.{session_of}
-use Rattle.nit_stack.proofs.ForCallers.{All_found, source_bare, source_is}
-use Rattle.nit_word.specs.Sight.{Sight}
-use Rattle.nit_paint.specs.Repaint.{Repainted}
-use Rattle.nit_paint.specs.Pieces.{IsPiece, has_pixel, session_shown, source_of_number}
-use Rattle.nit_paint.specs.Runs.{in_rows, reached, row_at}
-use Rattle.nit_paint.specs.declared.block.Block.{Block}
-use Rattle.nit_paint.specs.declared.reach.Reach.{Reach}
+use Rattle.nit_paint.proofs.Basics.{All_found, Bare, Block, HasPixels, IsOnScreen, IsPiece, IsScreenSize, IsSlotView, IsStack, IsTrue, Piece, PixelSource, Point, Reach, Rectangle, Repainted, Sight, StackModel, View, ViewRef, among, black_or_word, buffer_place, covers, has_pixel, in_rows, index_at, ints, is_slot, mul-le-mul_left, nat_tests, option_map, option_map_or, owner_in, pixel, point, reached, rectangle, row_at, rows, session_of, session_shown, shown_index, size_of, slot_view_in, source_bare, source_is, source_of_number, view_ref, ℤ}
+use Rattle.std.proofs.Common.{List, None, Some, ap, arith, length, pos, refl, subst, sym, ℕ, ◌%◌, ◌*◌, ◌+◌, ◌/◌, ◌<◌, ◌∙◌, ◌≡◌, ◌≤◌}
+use Rattle.std.specs.Prelude.{◌+ℤ◌, ◌-ℤ◌}
 use Rattle.nit_paint.proofs.RepaintLemmas.{repainted_same}
 
 -- a width that is the screen's

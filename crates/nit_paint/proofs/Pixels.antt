@@ -1,18 +1,9 @@
 -- Pixels that stand side by side: what one more does, and how runs of them go together.
-use Rattle.std.proofs.Common.{add-one, ◌++◌, take, length-set, get_or-set_same, get_or-set_other, le_refl, ◌≡◌, ℕ, zero, suc, ◌+◌, ◌-◌, ◌<◌, ◌≤◌, ◌==◌, ◌&&◌, ◌||◌, cond, nat_lt, Bool, true, false, slice_index_or, List, [], ◌∷◌, length, set, get_or, Option, Some, None, inl, inr, refl, rules, ap, sym, ◌∙◌, subst, arith}
+use Rattle.nit_paint.proofs.Basics.{Bare, Black, IsAmongLoads, IsLoaded, IsLoadedRow, IsWordOfSource, PixelSource, Reach, Repainted, Sight, Word, at_place, black_or_word, cases_lt, enumerate_from, in_run, index_from, is_word_of, loaded_after, loads_of, long, more_taken, nat_tests, no_sight, own_word, places, reached, row_source, seen, seen_none, seen_twice, set-get_or, take_all, times_shown, with_glass}
+use Rattle.std.proofs.Common.{Bool, List, None, Option, Some, [], add-one, ap, arith, cond, false, get_or, get_or-set_other, get_or-set_same, inl, inr, le_refl, length, length-set, nat_lt, refl, rules, set, slice_index_or, subst, suc, sym, take, true, zero, ℕ, ◌&&◌, ◌++◌, ◌+◌, ◌-◌, ◌<◌, ◌==◌, ◌||◌, ◌∙◌, ◌∷◌, ◌≡◌, ◌≤◌}
 use mathlib.Core.Logic.{dite}
 use native.Mathlib.Decide.{ℕ_discrete}
-use Rattle.std.specs.List.{enumerate_from}
-use Rattle.std.proofs.lemmas.Bool.{cases_lt}
-use Rattle.std.proofs.lemmas.Bool.Decides.{nat_tests}
-use Rattle.std.proofs.lemmas.List.{places, set-get_or, take_all}
 use borrow.Rule.Slice.PartMut.{put_mid}
-use Rattle.nit_word.specs.Sight.{Sight, IsLoaded, IsLoadedRow, seen}
-use Rattle.nit_word.proofs.ForCallers.{loaded_after, more_taken, seen_none, seen_twice, at_place}
-use Rattle.nit_stack.specs.Sources.{PixelSource, Bare, Black, Word, black_or_word}
-use Rattle.nit_paint.specs.Repaint.{IsAmongLoads, IsWordOfSource, Repainted, no_sight, is_word_of, loads_of, times_shown, with_glass}
-use Rattle.nit_paint.specs.Runs.{in_run, index_from, long, own_word, reached, row_source}
-use Rattle.nit_paint.specs.declared.reach.Reach.{Reach}
 use Rattle.nit_paint.proofs.Glasses.{held_by_load, seen_by_load}
 use Rattle.nit_paint.proofs.RepaintLemmas.{other_count, repainted_none, repainted_one, repainted_there, repainted_union}
 

@@ -1,17 +1,8 @@
 -- How repainted pixels of a screen go together.
-use Rattle.std.proofs.Common.{◌≡◌, ℕ, zero, suc, ◌+◌, ◌<◌, ◌≤◌, ◌==◌, ◌&&◌, ◌||◌, Bool, true, false, cond, List, [], ◌∷◌, ◌++◌, length, set, get_or, slice_index_or, All, refl, ap, sym, ◌∙◌, subst, arith, add-zero, zero-add, get_or-set_same, get_or-set_other}
+use Rattle.nit_paint.proofs.Basics.{Bare, Black, Contains-append_left, Contains-append_right, Contains-push, IsAmongLoads, IsLoaded, IsWord, IsWordOfSource, PixelSource, Repainted, Sight, Word, eq-eqb, eqb-true, false≢true, get_or_default, is_word_of, loads_at, loads_of, nat_tests, or_parts, seen, seen_none, seen_twice, sum_by-append, times_shown}
+use Rattle.std.proofs.Common.{All, Bool, List, [], add-zero, ap, arith, cond, false, get_or, get_or-set_other, get_or-set_same, length, refl, set, slice_index_or, subst, suc, sym, true, zero, zero-add, ℕ, ◌&&◌, ◌++◌, ◌+◌, ◌<◌, ◌==◌, ◌||◌, ◌∙◌, ◌∷◌, ◌≡◌, ◌≤◌}
 use mathlib.Core.Logic.{dite}
 use native.Mathlib.Decide.{ℕ_discrete, dec_lt}
-use Rattle.std.proofs.lemmas.Bool.{false≢true, eqb-true, eq-eqb, or_parts}
-use Rattle.std.proofs.lemmas.Bool.Decides.{nat_tests}
-use Rattle.std.proofs.lemmas.List.{get_or_default}
-use Rattle.std.proofs.lemmas.List.Sums.{sum_by-append}
-use Rattle.std.proofs.lemmas.List.Elements.{Contains-append_left, Contains-append_right, Contains-push}
-use Rattle.nit_word.specs.Inks.{IsWord}
-use Rattle.nit_word.specs.Sight.{Sight, IsLoaded, seen}
-use Rattle.nit_word.proofs.ForCallers.{seen_none, seen_twice}
-use Rattle.nit_stack.specs.Sources.{PixelSource, Bare, Black, Word}
-use Rattle.nit_paint.specs.Repaint.{IsAmongLoads, IsWordOfSource, Repainted, is_word_of, loads_at, times_shown, loads_of}
 
 -- the pixel holds what it may, and its load is among these
 abbrev pub Shows : (ℕ → Sight) → (ℕ → List (ℕ × ℕ)) → PixelSource → ℕ → Type 0

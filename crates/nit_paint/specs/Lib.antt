@@ -6,3 +6,5 @@ pub mod Repaint
 pub mod Pieces
 pub mod Runs
 pub mod Ranges
+pub mod Below
+pub mod Terms

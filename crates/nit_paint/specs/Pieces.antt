@@ -1,14 +1,6 @@
 -- Pieces of the screen, and what their pixels show.
 use Rattle.std.specs.Prelude.{◌≡◌, ℕ, pos, ◌+ℤ◌, ◌≤ℤ◌, Bool, IsTrue}
-use Rattle.std.specs.Option.{option_map, option_map_or}
-use Rattle.nit_rect.specs.declared.point.Point.{Point}
-use Rattle.nit_rect.specs.Rectangle.{Rectangle, covers}
-use Rattle.nit_rect.specs.Strips.{IsScreenRectangle}
-use Rattle.nit_stack.specs.declared.view.Piece.{Piece}
-use Rattle.nit_stack.specs.Sources.{PixelSource, owner_in, pixel, source}
-use Rattle.nit_stack.specs.Stack.{StackModel, size_of, view_ref}
-use Rattle.nit_stack.specs.ViewNames.{views_of}
-use Rattle.nit_stack.specs.SourceAnswers.{session_of, word_count}
+use Rattle.nit_paint.specs.Below.{IsScreenRectangle, Piece, PixelSource, Point, Rectangle, StackModel, covers, option_map, option_map_or, owner_in, pixel, session_of, size_of, source, view_ref, views_of, word_count}
 
 -- the source of the pixel of a number
 abbrev pub source_of_number : StackModel → ℕ → PixelSource

@@ -2,9 +2,7 @@
 -- glasses are told by the numbers of their sessions, and the pixels by their numbers, row by row
 -- from the top.
 use Rattle.std.specs.Prelude.{◌≡◌, ℕ, zero, suc, ◌+◌, ◌<◌, ◌==◌, Bool, true, false, ◌&&◌, List, [], ◌∷◌, count_by, Contains, slice_index_or, None, if◌then◌else◌}
-use Rattle.nit_word.specs.Channels.{bare_word}
-use Rattle.nit_word.specs.Sight.{Sight, IsLoaded, seen}
-use Rattle.nit_stack.specs.Sources.{PixelSource, Bare, Black, Word}
+use Rattle.nit_paint.specs.Below.{Bare, Black, IsLoaded, PixelSource, Sight, Word, bare_word, seen}
 
 -- the sight where there is no glass
 abbrev pub no_sight : Sight

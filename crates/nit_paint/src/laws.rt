@@ -1,16 +1,7 @@
 //! Laws of repainting, over plain lists.
 
 ghost use Rattle.std.specs.Prelude.{◌≡◌, ℕ, ◌+◌, ◌<◌, Bool, List, All, false, true, IsTrue, option_map, length, slice_set, ◌&&◌, ◌||◌};
-ghost use Rattle.nit_word.specs.Inks.{IsWord};
-ghost use Rattle.nit_word.specs.Sight.{Sight, seen};
-ghost use Rattle.nit_rect.specs.declared.point.Point.{Point};
-ghost use Rattle.nit_rect.specs.Rectangle.{covers};
-ghost use Rattle.nit_rect.specs.Intersection.{HasPixels};
-ghost use Rattle.nit_stack.specs.declared.view.Piece.{Piece};
-ghost use Rattle.nit_stack.specs.Sources.{PixelSource, owner_in};
-ghost use Rattle.nit_stack.specs.Stack.{IsOnScreen, IsScreenSize, StackModel, view_ref};
-ghost use Rattle.nit_paint.specs.Repaint.{IsWordOfSource, Repainted, loads_of};
-ghost use Rattle.nit_paint.specs.Pieces.{IsPiece};
+ghost use Rattle.nit_paint.specs.Terms.{HasPixels, IsOnScreen, IsPiece, IsScreenSize, IsWord, IsWordOfSource, Piece, PixelSource, Point, Repainted, Sight, StackModel, covers, loads_of, owner_in, seen, view_ref};
 
 /// Where no pixel is marked, nothing is loaded and nothing changes.
 pub fn nothing_repainted()

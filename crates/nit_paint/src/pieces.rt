@@ -1,15 +1,7 @@
 //! Pieces of the screen, row by row.
 
 ghost use Rattle.std.specs.Prelude.{◌≡◌, ℕ, ◌+◌, ◌*◌, ◌<◌, ◌≤◌, All, List, length, pos, ◌+ℤ◌, ◌≤ℤ◌, IsSomeAnd, None, true};
-ghost use Rattle.nit_word.specs.Inks.{IsWord};
-ghost use Rattle.nit_word.specs.Sight.{Sight, seen};
-ghost use Rattle.nit_stack.specs.Sources.{Bare, PixelSource, among, black_or_word, index_at};
-ghost use Rattle.nit_stack.specs.Stack.{has_slot};
-ghost use Rattle.nit_paint.specs.Repaint.{Repainted, with_glass};
-ghost use Rattle.nit_paint.specs.Pieces.{IsPiece, has_pixel, session_shown, source_of_number, words_shown};
-ghost use Rattle.nit_paint.specs.Runs.{in_rows, long, reached, row_at};
-ghost use Rattle.nit_rect.specs.Limits.{most_side};
-ghost use Rattle.nit_paint.specs.Ranges.{least_place, most_place};
+ghost use Rattle.nit_paint.specs.Terms.{Bare, IsPiece, IsWord, PixelSource, Repainted, Sight, among, black_or_word, has_pixel, has_slot, in_rows, index_at, least_place, long, most_place, most_side, reached, row_at, seen, session_shown, source_of_number, with_glass, words_shown};
 
 use crate::block::Block;
 use crate::reach::{Reach, buffer_place, row_start};

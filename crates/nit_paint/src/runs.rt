@@ -1,11 +1,7 @@
 //! Pixels that stand side by side.
 
 ghost use Rattle.std.specs.Prelude.{◌≡◌, ℕ, ◌+◌, ◌<◌, ◌≤◌, length, IfSome, Some};
-ghost use Rattle.nit_word.specs.Sight.{Sight};
-ghost use Rattle.nit_stack.specs.Sources.{PixelSource, Word};
-ghost use Rattle.nit_paint.specs.Repaint.{Repainted, with_glass};
-ghost use Rattle.nit_paint.specs.Runs.{in_run, long, own_word, row_source};
-ghost use Rattle.nit_paint.specs.Ranges.{most_buffer};
+ghost use Rattle.nit_paint.specs.Terms.{PixelSource, Repainted, Sight, Word, in_run, long, most_buffer, own_word, row_source, with_glass};
 
 use crate::reach::Reach;
 use nit_word::Glass;

@@ -1,2 +1,4 @@
 pub mod PixelRuleLemmas
 pub mod NewTables
+pub mod Basics
+pub mod Lemmas

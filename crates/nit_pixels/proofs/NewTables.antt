@@ -1,11 +1,6 @@
 -- The seat of a table that was just made.
-use Rattle.std.proofs.Common.{◌≡◌, ◌∙◌, ℕ, ◌<◌, [], length, Some, ap, sym, subst}
-use Rattle.std.specs.Option.{option_map}
-use Rattle.nit_word.proofs.ForCallers.{length-zeros}
-use Rattle.nit_pixels.specs.declared.steps.Identity.{Identity}
-use Rattle.nit_pixels.specs.End.{new_sight}
-use Rattle.nit_pixels.specs.PixelSeat.{PixelSeat, sight_of, IsOwners}
-use Rattle.nit_pixels.specs.PixelRule.{owner_view}
+use Rattle.nit_pixels.proofs.Basics.{Identity, IsOwners, PixelSeat, length-zeros, new_sight, option_map, owner_view, sight_of}
+use Rattle.std.proofs.Common.{Some, [], ap, length, subst, sym, ℕ, ◌<◌, ◌∙◌, ◌≡◌}
 
 pub first_sight : (identity : Identity) (s : PixelSeat) → s.table_id.words ≡ identity.words → s.me ≡ (owner_view identity, [])
     → sight_of s ≡ new_sight identity.owner identity.words identity.ink.items

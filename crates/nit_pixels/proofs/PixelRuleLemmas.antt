@@ -1,17 +1,9 @@
 -- Each kind of step keeps the rule of the pixel words.
-use Rattle.std.proofs.Common.{◌≡◌, ◌≢◌, ℕ, zero, suc, List, [], ◌∷◌, ◌++◌, length, get_or, set, slice_index, All, Option, Some, None, IfSome, IsSome, refl, ap, sym, ◌∙◌, subst, ⊎_elim}
+use Rattle.nit_pixels.proofs.Basics.{Allows, Identity, IsInked, IsPixelRule, IsViewOf, IsWord, LoadStep, PixelView, SeatState, Splits, StoreStep, at_set, at_snoc, inked_fits, keeps, opening, option_map, owner_view, reader_view, set_again, step, view_loaded, view_stored, zero_inked, zeros}
+use Rattle.std.proofs.Common.{All, IfSome, IsSome, List, None, Option, Some, [], ap, get_or, length, refl, set, slice_index, subst, suc, sym, zero, ℕ, ⊎_elim, ◌++◌, ◌∙◌, ◌∷◌, ◌≡◌, ◌≢◌}
 use mathlib.Core.Option.{some, none, some-injective, some-ne-none}
 use lib.ListN.{get_elem?}
 use lib.Seq.{set-get_or}
-use Rattle.std.specs.Option.{option_map}
-use Rattle.atomic_table.specs.Table.{step, keeps, opening, Allows, Splits}
-use Rattle.atomic_table.proofs.Lists.{at_set, at_snoc, set_again}
-use Rattle.nit_word.specs.Inks.{IsInked, IsWord}
-use Rattle.nit_word.specs.Zeros.{zeros}
-use Rattle.nit_word.proofs.ForCallers.{inked_fits, zero_inked}
-use Rattle.nit_pixels.specs.declared.steps.PixelView.{PixelView}
-use Rattle.nit_pixels.specs.declared.steps.Identity.{Identity}
-use Rattle.nit_pixels.specs.PixelRule.{owner_view, reader_view, view_loaded, view_stored, IsViewOf, IsPixelRule, SeatState, LoadStep, StoreStep}
 
 -- of two views that tell words both stand at one place
 abbrev OneOwner : List PixelView → Type 0

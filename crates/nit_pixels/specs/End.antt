@@ -1,8 +1,5 @@
 -- What contracts see of a buffer, of its key and of its ends.
-use Rattle.std.specs.Prelude.{ℕ, List, [], Some, None}
-use Rattle.atomic_table.specs.Seated.{TableId}
-use Rattle.nit_word.specs.Sight.{Sight}
-use Rattle.nit_word.specs.Zeros.{zeros}
+use Rattle.nit_pixels.specs.Below.{List, None, Sight, Some, TableId, [], zeros, ℕ}
 use Rattle.nit_pixels.specs.declared.standing.Standing.{Standing}
 
 -- which buffer it is

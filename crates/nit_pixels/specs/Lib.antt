@@ -4,3 +4,5 @@ pub use Rattle.nit_word.specs.Zeros
 pub mod End
 pub mod PixelSeat
 pub mod PixelRule
+pub mod Below
+pub mod Terms

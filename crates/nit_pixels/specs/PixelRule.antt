@@ -1,12 +1,9 @@
 -- The rule of the pixel words, and what each kind of step does to the view of the seat that makes
 -- it.
 use Rattle.std.specs.Prelude.{◌≡◌, ℕ, List, [], ◌∷◌, ◌++◌, All, Some, None, IfSome, IsSome, slice_index, slice_set}
-use Rattle.std.specs.Option.{option_map}
+use Rattle.nit_pixels.specs.Below.{IsInked, IsWord, Me, State, Step, option_map, zeros}
 use mathlib.Core.Option.{some}
 use lib.ListN.{get_elem?}
-use Rattle.atomic_table.specs.Table.{State, Me, Step}
-use Rattle.nit_word.specs.Inks.{IsInked, IsWord}
-use Rattle.nit_word.specs.Zeros.{zeros}
 use Rattle.nit_pixels.specs.declared.steps.PixelView.{PixelView}
 use Rattle.nit_pixels.specs.declared.steps.Identity.{Identity}
 

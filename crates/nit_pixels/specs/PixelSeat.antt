@@ -1,8 +1,6 @@
 -- What is seen of a seat of the words.
 use Rattle.std.specs.Prelude.{◌≡◌, ◌<◌, [], length, Some, None}
-use Rattle.std.specs.Option.{option_map}
-use Rattle.atomic_table.specs.declared.shared.Seat.{Seat}
-use Rattle.nit_word.specs.Sight.{Sight}
+use Rattle.nit_pixels.specs.Below.{Seat, Sight, option_map}
 use Rattle.nit_pixels.specs.declared.steps.PixelView.{PixelView}
 use Rattle.nit_pixels.specs.End.{End}
 

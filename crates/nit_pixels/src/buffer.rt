@@ -1,9 +1,6 @@
 //! A buffer of pixel words, and the right to be its owner.
 ghost use Rattle.std.specs.Prelude.{◌≡◌, ◌≤◌, All, IfOk};
-ghost use Rattle.nit_word.specs.Inks.{IsWord};
-ghost use Rattle.nit_word.specs.Zeros.{zeros};
-ghost use Rattle.nit_pixels.specs.End.{new_sight};
-ghost use Rattle.nit_rect.specs.Limits.{most_words};
+ghost use Rattle.nit_pixels.specs.Terms.{IsWord, most_words, new_sight, zeros};
 
 use crate::canvas::Canvas;
 use crate::steps::{Identity, PixelRule, PixelView};

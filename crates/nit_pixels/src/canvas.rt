@@ -1,8 +1,6 @@
 //! The owner's end of a buffer.
 ghost use Rattle.std.specs.Prelude.{◌≡◌, ◌<◌};
-ghost use Rattle.nit_word.specs.Inks.{IsInked};
-ghost use Rattle.nit_word.specs.Sight.{stored};
-ghost use Rattle.nit_pixels.specs.End.{reader_sight};
+ghost use Rattle.nit_pixels.specs.Terms.{IsInked, reader_sight, stored};
 
 use crate::lens::Lens;
 use crate::standing::Standing;

@@ -1,6 +1,6 @@
 -- Numbers below a bound, and tests that fail.
-use Rattle.std.proofs.Common.{◌≡◌, ℕ, ◌+◌, ◌<◌, Bool, true, false, ◌&&◌, arith, refl, subst, inl, inr, eqb}
-use Rattle.std.proofs.lemmas.Bool.{cases_lt, eqb-true, false_from_ne_true}
+use Rattle.std.proofs.Common.{Bool, arith, eqb, false, inl, inr, refl, subst, true, ℕ, ◌&&◌, ◌+◌, ◌<◌, ◌≡◌}
+use Rattle.nit_place.proofs.Basics.{cases_lt, eqb-true, false_from_ne_true}
 
 -- a number below n + 1 is below n or is n
 pub below_more : (n : ℕ) (P : ℕ → Type 0) → ((k : ℕ) → k < n → P k) → P n → (k : ℕ) → k < n + 1 → P k

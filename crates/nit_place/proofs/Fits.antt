@@ -1,18 +1,6 @@
 -- A label fits by its pixels exactly where it is free by the edges of views.
-use Rattle.std.proofs.Common.{◌≡◌, ℕ, ◌+◌, ◌-◌, ◌<◌, ◌≤◌, ◌∙◌, Bool, true, false, ◌&&◌, cond, List, find, max, Option, None, slice_index_or, arith, ap₂, sym, refl, subst, ltb, leb}
-use Rattle.std.specs.Prelude.{ℤ, pos, negsuc, int_le, int_lt}
-use Rattle.std.proofs.lemmas.Bool.{le-leb, le-ltb, lt-ltb, false_from_ne_true}
-use Rattle.std.proofs.lemmas.Bool.Decides.{nat_tests}
-use Rattle.std.proofs.lemmas.List.{get_or_default}
-use Rattle.nit_rect.specs.Rectangle.{Rectangle, covers}
-use Rattle.nit_stack.specs.declared.view.View.{View}
-use Rattle.nit_stack.specs.LabelPlaces.{fits, is_owner, owns}
-use Rattle.nit_stack.specs.Sources.{point}
-use Rattle.nit_stack.specs.Stack.{fresh}
-use Rattle.nit_place.specs.declared.part.Part.{Part}
-use Rattle.nit_place.specs.Edges.{on_screen, right_of, bottom_of}
-use Rattle.nit_place.specs.FreePlaces.{meets, IsFree}
-use Rattle.nit_place.specs.Part.{area_of, part_at, part_of}
+use Rattle.std.proofs.Common.{Bool, List, None, Option, ap₂, arith, cond, false, find, leb, ltb, max, refl, slice_index_or, subst, sym, true, ℕ, ◌&&◌, ◌+◌, ◌-◌, ◌<◌, ◌∙◌, ◌≡◌, ◌≤◌}
+use Rattle.nit_place.proofs.Basics.{IsFree, Part, Rectangle, View, area_of, bottom_of, covers, false_from_ne_true, fits, fresh, get_or_default, int_le, int_lt, is_owner, le-leb, le-ltb, lt-ltb, meets, nat_tests, negsuc, on_screen, owns, part_at, part_of, point, pos, right_of, ℤ}
 use Rattle.nit_place.proofs.BoundLemmas.{three}
 use Rattle.nit_place.proofs.SearchLemmas.{Meets, meets-true, meets-of}
 use Rattle.nit_place.proofs.Grid.{all_in_grid, all_of_grid}

@@ -1,11 +1,6 @@
 -- Tests over ranges of numbers and over the places of a screen.
-use Rattle.std.proofs.Common.{◌≡◌, ℕ, zero, suc, ◌+◌, ◌<◌, ◌≤◌, ◌∙◌, Bool, true, false, ◌&&◌, cond, List, [], ◌∷◌, map, find, Option, Some, None, arith, ap, sym, refl, subst, inl, inr}
-use Rattle.std.specs.List.{list_all, flat_map, range_with_len}
-use Rattle.std.specs.Option.{option_map, option_or}
-use Rattle.std.proofs.lemmas.Bool.{and_parts, cases_lt}
-use Rattle.std.proofs.lemmas.List.Folds.{find-append, list_all-append, list_all-map}
-use Rattle.nit_place.specs.LeastPlace.{IsBefore, IsLeast}
-use Rattle.nit_stack.proofs.ForCallers.{find-map}
+use Rattle.nit_place.proofs.Basics.{IsBefore, IsLeast, and_parts, cases_lt, find-append, find-map, flat_map, list_all, list_all-append, list_all-map, option_map, option_or, range_with_len}
+use Rattle.std.proofs.Common.{Bool, List, None, Option, Some, [], ap, arith, cond, false, find, inl, inr, map, refl, subst, suc, sym, true, zero, ℕ, ◌&&◌, ◌+◌, ◌<◌, ◌∙◌, ◌∷◌, ◌≡◌, ◌≤◌}
 
 -- ---- all of a range, all of a grid
 

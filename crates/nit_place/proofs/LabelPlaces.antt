@@ -1,28 +1,10 @@
 -- What the search by edges says of the place of a label.
-use Rattle.std.proofs.Common.{◌≡◌, ℕ, ◌<◌, ◌≤◌, ◌∙◌, ◌⊎◌, max, List, Option, Some, None, arith, ap, sym, subst, refl, inl, inr}
-use Rattle.std.specs.Prelude.{ℤ, pos, negsuc, IfSome}
-use Rattle.std.specs.List.{position_or_len}
-use Rattle.std.specs.Option.{option_map}
-use Rattle.std.proofs.lemmas.Int.{ints}
-use Rattle.std.proofs.lemmas.List.{length-map}
-use Rattle.std.proofs.lemmas.List.Folds.{find_at}
-use Rattle.std.proofs.lemmas.Option.{slice_get_within}
-use Rattle.nit_rect.specs.declared.point.Point.{Point}
-use Rattle.nit_stack.specs.declared.view.View.{View}
-use Rattle.nit_stack.specs.LabelPlaces.{fits, label_place}
-use Rattle.nit_stack.specs.ViewNames.{views_of}
-use Rattle.nit_stack.specs.Sources.{point}
-use Rattle.nit_stack.specs.Stack.{NoPair, SlotView, fresh, is_slot, same_name, slot_view_in}
-use Rattle.nit_place.specs.declared.part.Part.{Part}
-use Rattle.nit_place.specs.Edges.{IsAtEdges, IsColumn, IsRow, IsWithinScreen, bottom_of, on_screen, right_of}
-use Rattle.nit_place.specs.FreePlaces.{IsEdge, IsFree, IsLeastFree, IsSearched}
-use Rattle.nit_place.specs.LeastPlace.{IsBefore, IsLeast}
-use Rattle.nit_place.specs.Part.{area_of, part_at}
+use Rattle.std.proofs.Common.{List, None, Option, Some, ap, arith, inl, inr, max, refl, subst, sym, ℕ, ◌<◌, ◌∙◌, ◌≡◌, ◌≤◌, ◌⊎◌}
+use Rattle.nit_place.proofs.Basics.{IfSome, IsAtEdges, IsBefore, IsColumn, IsEdge, IsFree, IsLeast, IsLeastFree, IsRow, IsSearched, IsWithinScreen, NoPair, Part, Point, SlotView, View, area_of, bottom_of, false_from_ne_true, find_at, fits, fresh, ints, is_slot, label_place, length-map, negsuc, on_screen, option_map, part_at, point, pos, position_or_len, right_of, same_name, slice_get_within, slot_view_in, views_of, ℤ}
 use Rattle.nit_place.proofs.Seats.{view_at}
 use Rattle.nit_place.proofs.Names.{StandsAt, names_differ, some_in_front}
 use Rattle.nit_place.proofs.Fits.{fits_free, free_fits}
 use Rattle.nit_place.proofs.Screen.{least_only}
-use Rattle.std.proofs.lemmas.Bool.{false_from_ne_true}
 
 -- a view stands behind those that its slot is looked for among
 pub stands : (seats : List SlotView) (k : ℕ) (s : SlotView) → NoPair same_name seats → slot_view_in k seats ≡ Some s → StandsAt (views_of seats) (position_or_len (is_slot k) seats) s.view

@@ -7,3 +7,5 @@ pub mod Fits
 pub mod Screen
 pub mod LabelPlaces
 pub mod ForCallers
+pub mod Basics
+pub mod Lemmas

@@ -1,17 +1,6 @@
 -- Views of different names, by their places in the stack.
-use Rattle.std.proofs.Common.{◌≡◌, ℕ, zero, suc, ◌<◌, ◌∙◌, Bool, true, false, List, [], ◌∷◌, length, take, find, Some, slice_index_or, arith, ap, sym, subst, inl, inr}
-use Rattle.std.specs.List.{list_any, position_or_len, AllPairs, Any, before_first}
-use Rattle.std.specs.Prelude.{slice_get}
-use Rattle.std.proofs.lemmas.Bool.{cases_lt, false_from_ne_true}
-use Rattle.std.proofs.lemmas.Bool.Decides.{nat_tests}
-use Rattle.std.proofs.lemmas.List.{get_or-map, get_or-take, get_or_default, length-map, length-take-le}
-use Rattle.std.proofs.lemmas.List.Folds.{find_at, list_any_at}
-use Rattle.std.proofs.lemmas.List.Sums.{fails_before_first, passes_at_first, position_or_len_is}
-use Rattle.std.proofs.lemmas.Option.{slice_get-get_or, slice_get_past}
-use Rattle.nit_stack.specs.declared.view.View.{View}
-use Rattle.nit_stack.specs.LabelPlaces.{is_owner, is_view}
-use Rattle.nit_stack.specs.ViewNames.{views_of}
-use Rattle.nit_stack.specs.Stack.{NoPair, SlotView, same_name}
+use Rattle.std.proofs.Common.{Bool, List, Some, [], ap, arith, false, find, inl, inr, length, slice_index_or, subst, suc, sym, take, true, zero, ℕ, ◌<◌, ◌∙◌, ◌∷◌, ◌≡◌}
+use Rattle.nit_place.proofs.Basics.{AllPairs, Any, NoPair, SlotView, View, before_first, cases_lt, fails_before_first, false_from_ne_true, find_at, get_or-map, get_or-take, get_or_default, is_owner, is_view, length-map, length-take-le, list_any, list_any_at, nat_tests, passes_at_first, position_or_len, position_or_len_is, same_name, slice_get, slice_get-get_or, slice_get_past, views_of}
 
 -- no view has the name of a later one
 abbrev pub NamesDiffer : List View → Type 0

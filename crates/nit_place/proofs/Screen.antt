@@ -1,14 +1,6 @@
 -- What a label that fits has of the screen, and that no two views own one pixel.
-use Rattle.std.proofs.Common.{◌≡◌, ℕ, ◌+◌, ◌-◌, ◌<◌, ◌≤◌, true, false, ◌&&◌, List, Option, Some, None, arith, ltb}
-use Rattle.std.specs.Prelude.{ℤ, pos, negsuc}
-use Rattle.std.proofs.lemmas.Bool.{and_parts, false_from_ne_true}
-use Rattle.std.proofs.lemmas.Bool.Decides.{nat_tests}
-use Rattle.nit_rect.specs.Intersection.{IsApart}
-use Rattle.nit_rect.specs.Rectangle.{rectangle, covers}
-use Rattle.nit_stack.specs.declared.view.View.{View}
-use Rattle.nit_stack.specs.LabelPlaces.{fits, is_owner, is_view, label_place, owns}
-use Rattle.nit_stack.specs.Sources.{owner, point}
-use Rattle.nit_place.specs.LeastPlace.{IsLeast}
+use Rattle.std.proofs.Common.{List, None, Option, Some, arith, false, ltb, true, ℕ, ◌&&◌, ◌+◌, ◌-◌, ◌<◌, ◌≡◌, ◌≤◌}
+use Rattle.nit_place.proofs.Basics.{IsApart, IsLeast, View, and_parts, covers, false_from_ne_true, fits, is_owner, is_view, label_place, nat_tests, negsuc, owner, owns, point, pos, rectangle, ℤ}
 use Rattle.nit_place.proofs.BoundLemmas.{three}
 use Rattle.nit_place.proofs.Grid.{IsOnlyWithin, all_in_grid, found_least, one_least}
 

@@ -1,12 +1,7 @@
 -- How the search moves on: what is free nowhere before a place is free nowhere before the next one.
-use Rattle.std.proofs.Common.{◌≡◌, ℕ, ◌+◌, ◌<◌, ◌≤◌, Bool, true, false, Option, None, Some, arith, sym, ap, ◌∙◌, subst, refl, inl, inr, ◌⊎◌, ltb, min, cond}
-use Rattle.std.proofs.lemmas.Bool.{cases_lt}
-use Rattle.std.proofs.lemmas.Bool.Decides.{nat_tests}
-use Rattle.std.specs.Prelude.{IfSome}
-use Rattle.nit_stack.specs.Sources.{point}
-use Rattle.nit_place.specs.declared.part.Part.{Part}
+use Rattle.std.proofs.Common.{Bool, None, Option, Some, ap, arith, cond, false, inl, inr, ltb, min, refl, subst, sym, true, ℕ, ◌+◌, ◌<◌, ◌∙◌, ◌≡◌, ◌≤◌, ◌⊎◌}
+use Rattle.nit_place.proofs.Basics.{IfSome, IsBlocking, IsEdge, IsFree, IsFull, IsLeastInRow, IsSearched, Part, cases_lt, further, meets, nat_tests, nearer, point}
 use Rattle.nit_place.proofs.BoundLemmas.{below_more}
-use Rattle.nit_place.specs.FreePlaces.{meets, IsFree, IsEdge, IsBlocking, IsLeastInRow, IsFull, IsSearched, further, nearer}
 
 -- a part shares a pixel with a rectangle
 pub record Meets (r : Part) (x y w h : ℕ) : Type 0 where

@@ -1,10 +1,6 @@
 -- Views by their places in the stack.
-use Rattle.std.proofs.Common.{◌≡◌, ℕ, zero, suc, ◌∙◌, false, List, [], ◌∷◌, map, Some, slice_index_or, ap, eqb}
-use Rattle.std.specs.Prelude.{slice_get}
-use Rattle.nit_stack.specs.declared.view.ViewRef.{ViewRef}
-use Rattle.nit_stack.specs.declared.view.View.{View}
-use Rattle.nit_stack.specs.ViewNames.{views_of}
-use Rattle.nit_stack.specs.Stack.{SlotView, is_slot, view_ref}
+use Rattle.std.proofs.Common.{List, Some, [], ap, eqb, false, map, slice_index_or, suc, zero, ℕ, ◌∙◌, ◌∷◌, ◌≡◌}
+use Rattle.nit_place.proofs.Basics.{SlotView, View, ViewRef, is_slot, slice_get, view_ref, views_of}
 use Rattle.nit_place.proofs.BoundLemmas.{unlike}
 
 -- the slot at a place

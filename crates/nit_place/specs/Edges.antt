@@ -1,10 +1,6 @@
 -- The edges of views at which a label stands.
 use Rattle.std.specs.Prelude.{◌≡◌, ℕ, max, ℤ, pos, negsuc, ◌+ℤ◌, ◌≤ℤ◌, ◌⊎◌, List, Any}
-use Rattle.std.specs.List.{before_first}
-use Rattle.nit_rect.specs.declared.point.Point.{Point}
-use Rattle.nit_rect.specs.Rectangle.{Rectangle}
-use Rattle.nit_stack.specs.declared.view.View.{View}
-use Rattle.nit_stack.specs.LabelPlaces.{is_view}
+use Rattle.nit_place.specs.Below.{Point, Rectangle, View, before_first, is_view}
 
 -- a column or row, where it is on the screen or past its end; 0 where it is left of the screen or
 -- above it

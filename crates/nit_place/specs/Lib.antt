@@ -8,3 +8,5 @@ pub mod Edges
 pub mod LeastPlace
 pub mod Part
 pub mod FreePlaces
+pub mod Below
+pub mod Terms

@@ -1,8 +1,5 @@
 -- What of a view lies on the screen, by its edges.
-use Rattle.std.specs.Prelude.{ℕ, min, max, List, slice_index_or}
-use Rattle.nit_rect.specs.Rectangle.{Rectangle}
-use Rattle.nit_stack.specs.declared.view.View.{View}
-use Rattle.nit_stack.specs.Stack.{fresh}
+use Rattle.nit_place.specs.Below.{List, Rectangle, View, fresh, max, min, slice_index_or, ℕ}
 use Rattle.nit_place.specs.Edges.{on_screen, right_of, bottom_of}
 use Rattle.nit_place.specs.declared.part.Part.{Part}
 

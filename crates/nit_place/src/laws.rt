@@ -1,11 +1,7 @@
 //! What follows from the definition of a label's place alone.
 
 ghost use Rattle.std.specs.Prelude.{◌≡◌, ℕ, ◌+◌, ◌≤◌, List, Option, false, true, pos};
-ghost use Rattle.nit_rect.specs.Intersection.{IsApart};
-ghost use Rattle.nit_rect.specs.Rectangle.{rectangle};
-ghost use Rattle.nit_stack.specs.declared.view.View.{View};
-ghost use Rattle.nit_stack.specs.LabelPlaces.{fits, is_view, label_place};
-ghost use Rattle.nit_place.specs.LeastPlace.{IsLeast};
+ghost use Rattle.nit_place.specs.Terms.{IsApart, IsLeast, View, fits, is_view, label_place, rectangle};
 
 /// Two labels that stand where they fit views of different names share no pixel. Each has a size of
 /// its own.

@@ -1,11 +1,7 @@
 //! What of a view lies on the screen, by its edges.
 
 ghost use Rattle.std.specs.Prelude.{◌≡◌, ℕ, ◌+◌, ◌<◌, ◌≤◌, ◌^◌, length, pos, ◌≤ℤ◌};
-ghost use Rattle.nit_stack.specs.ViewNames.{views_of};
-ghost use Rattle.nit_place.specs.Edges.{on_screen};
-ghost use Rattle.nit_place.specs.FreePlaces.{meets};
-ghost use Rattle.nit_place.specs.Part.{part_at, part_of};
-ghost use Rattle.nit_rect.specs.Limits.{most_edge};
+ghost use Rattle.nit_place.specs.Terms.{meets, most_edge, on_screen, part_at, part_of, views_of};
 
 use nit_rect::Rect;
 use nit_stack::Stack;

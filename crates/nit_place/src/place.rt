@@ -1,14 +1,7 @@
 //! The place of a label.
 
 ghost use Rattle.std.specs.Prelude.{◌≡◌, ◌≤◌, true, length, option_map, IfSome, Some};
-ghost use Rattle.std.specs.List.{position_or_len};
-ghost use Rattle.nit_stack.specs.LabelPlaces.{label_place, most_tag};
-ghost use Rattle.nit_stack.specs.ViewNames.{views_of};
-ghost use Rattle.nit_stack.specs.Sources.{point};
-ghost use Rattle.nit_stack.specs.Stack.{IsStack, SlotView, has_slot, is_slot, slot_view_in};
-ghost use Rattle.nit_place.specs.Edges.{IsAtEdges, IsWithinScreen};
-ghost use Rattle.nit_place.specs.Part.{area_of};
-ghost use Rattle.nit_rect.specs.Limits.{most_edge};
+ghost use Rattle.nit_place.specs.Terms.{IsAtEdges, IsStack, IsWithinScreen, SlotView, area_of, has_slot, is_slot, label_place, most_edge, most_tag, point, position_or_len, slot_view_in, views_of};
 
 use crate::part::Part;
 use crate::search::search;

@@ -1,11 +1,7 @@
 //! The search for the least free place.
 
 ghost use Rattle.std.specs.Prelude.{◌≡◌, ◌+◌, ◌<◌, ◌≤◌, ◌^◌, length};
-ghost use Rattle.nit_stack.specs.LabelPlaces.{most_tag};
-ghost use Rattle.nit_stack.specs.ViewNames.{views_of};
-ghost use Rattle.nit_place.specs.FreePlaces.{IsBlocking, IsRowSearched, IsSearched, further, nearer};
-ghost use Rattle.nit_place.specs.Part.{part_at};
-ghost use Rattle.nit_rect.specs.Limits.{most_edge};
+ghost use Rattle.nit_place.specs.Terms.{IsBlocking, IsRowSearched, IsSearched, further, most_edge, most_tag, nearer, part_at, views_of};
 
 use crate::part::Part;
 use nit_rect::Point;

@@ -1,19 +1,12 @@
 -- Worked rows of scripts, computed from the definitions.
-use Rattle.std.proofs.Common.{◌≡◌, ℕ, List, [], ◌∷◌, refl, take}
-use Rattle.nit_events.specs.declared.call.Call.TheVariants.{Buffer, View, Take, Close}
-use Rattle.nit_events.specs.declared.call.Reply.TheVariants as reply
-use Rattle.nit_script.specs.declared.line.Line.{Line}
-use Rattle.nit_script.specs.declared.line.Line.TheVariants as line
-use Rattle.nit_script.specs.declared.line.Stroke.TheVariants.{Fill, Check}
+use Rattle.std.proofs.Common.{List, [], refl, take, ℕ, ◌∷◌, ◌≡◌}
+use Rattle.nit_plan.proofs.Basics.{Buffer, Check, Close, Expect, Fill, Line, Nothing, Step, Take, Taken, View, calls_in, calls_to_make, ink, plan_of_script, words_left}
 use Rattle.nit_journal.specs.Session.{serve}
+use Rattle.nit_plan.specs.Strokes.{cleared, stroked}
 use Rattle.nit_word.specs.Zeros.{zeros}
-use Rattle.nit_plan.specs.Strokes.{stroked, cleared}
-use Rattle.nit_plan.specs.ScriptWords.{ink, words_left}
-use Rattle.nit_plan.specs.declared.plan.Step.{Step}
-use Rattle.nit_plan.specs.declared.plan.Expect.{Expect}
-use Rattle.nit_plan.specs.declared.plan.Expect.TheVariants.{Reply, Taken, Nothing}
-use Rattle.nit_plan.specs.Plan.{plan_of_script}
-use Rattle.nit_plan.specs.Calls.{calls_in, calls_to_make}
+use Rattle.nit_events.specs.declared.call.Reply.TheVariants as reply
+use Rattle.nit_script.specs.declared.line.Line.TheVariants as line
+use Rattle.nit_plan.specs.declared.plan.Expect.TheVariants.{Reply}
 
 -- a check of two colours over a buffer of 4 by 2
 checks : stroked (record { w = 4; h = 2 }) (Check 0 0 4 2 7 9) (0 ∷ 0 ∷ 0 ∷ 0 ∷ 0 ∷ 0 ∷ 0 ∷ 0 ∷ 5 ∷ []) ≡ 7 ∷ 9 ∷ 7 ∷ 9 ∷ 9 ∷ 7 ∷ 9 ∷ 7 ∷ 5 ∷ []

@@ -1,22 +1,11 @@
 -- The words that a script leaves are in its ink.
-use Rattle.std.proofs.Common.{◌≡◌, ℕ, zero, suc, ◌+◌, ◌*◌, ◌/◌, ◌%◌, Bool, true, false, cond, List, [], ◌∷◌, ◌++◌, map, take, drop, length, refl, subst, arith}
-use Rattle.std.specs.Prelude.{slice_index, Some}
-use Rattle.std.specs.List.{AllByRecursion, enumerate_from, slice_get}
-use Rattle.std.proofs.lemmas.List.{take_all}
-use Rattle.nit_word.specs.Inks.{IsInked}
+use Rattle.nit_plan.proofs.Basics.{AllByRecursion, Buffer, IsInked, Line, Painting, Size, Stroke, after_line, blank, colours, enumerate_from, ink, is_accepted, one_of, painted_from, serve, session_size, slice_get, slice_index, stroke_colour, table_size, take_all, word_after_stroke, words_after, words_left}
+use Rattle.std.proofs.Common.{Bool, List, Some, [], arith, cond, drop, false, length, map, refl, subst, suc, take, true, zero, ℕ, ◌%◌, ◌*◌, ◌++◌, ◌+◌, ◌/◌, ◌∷◌, ◌≡◌}
+use Rattle.nit_plan.specs.Strokes.{cleared, stroked}
 use Rattle.nit_word.specs.Zeros.{zeros}
-use Rattle.nit_events.specs.declared.call.Call.TheVariants.{Buffer}
-use Rattle.nit_stack.specs.Sources.{Size}
-use Rattle.nit_script.specs.declared.line.Stroke.{Stroke}
-use Rattle.nit_script.specs.declared.line.Line.{Line}
 use Rattle.nit_script.specs.declared.line.Line.TheVariants as line
-use Rattle.nit_journal.specs.Session.{serve}
-use Rattle.nit_journal.specs.StackAfter.{is_accepted}
-use Rattle.nit_plan.specs.Strokes.{stroke_colour, word_after_stroke, stroked, cleared}
-use Rattle.nit_plan.specs.ScriptWords.{Painting, blank, colours, ink, after_line, painted_from, session_size, table_size, words_after, words_left}
 use Rattle.nit_plan.proofs.LineColours.{colours_inked}
 use Rattle.nit_plan.proofs.Places.{colour_inked}
-use Rattle.nit_word.proofs.ForCallers.{one_of}
 
 -- each of the words is 0 or in the ink
 abbrev AreInked : List ℕ → List ℕ → Type 0

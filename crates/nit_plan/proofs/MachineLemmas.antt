@@ -1,13 +1,7 @@
 -- The session that a script's lines make, and its handles.
-use Rattle.std.proofs.Common.{◌≡◌, ℕ, ◌+◌, ◌-◌, ◌<◌, ◌≤◌, ◌==◌, ◌||◌, not, Bool, true, false, cond, List, [], ◌∷◌, ◌++◌, length, filter, None, length-append, refl, ap, arith}
-use Rattle.std.specs.List.{list_any}
-use Rattle.std.proofs.lemmas.Bool.{ne_eqb, eqb-true, false≢true}
-use Rattle.nit_events.specs.declared.call.Call.TheVariants.{Destroy}
+use Rattle.nit_plan.proofs.Basics.{AccountModel, AreRising, Destroy, IsMachine, Session, by_call, by_status, eqb-true, false≢true, has_view, holds_of, list_any, ne_eqb, refusal, second_none, serve_accepted, serve_refused}
+use Rattle.std.proofs.Common.{Bool, List, None, [], ap, arith, cond, false, filter, length, length-append, not, refl, true, ℕ, ◌++◌, ◌+◌, ◌-◌, ◌<◌, ◌==◌, ◌||◌, ◌∷◌, ◌≡◌, ◌≤◌}
 use Rattle.nit_events.specs.declared.call.Reply.TheVariants as reply
-use Rattle.nit_journal.specs.Session.{Session, refusal, by_status, by_call, has_view}
-use Rattle.nit_slots.specs.Account.{AccountModel}
-use Rattle.nit_plan.specs.Machine.{AreRising, IsMachine}
-use Rattle.nit_journal.proofs.ForCallers.{holds_of, second_none, serve_accepted, serve_refused}
 
 -- a call that is refused, and one that is not
 pub ruleset serve_cases = (serve_refused, serve_accepted)

@@ -1,18 +1,8 @@
 -- The session that a script leaves is that of the script's calls.
-use Rattle.std.proofs.Common.{◌≡◌, ◌∙◌, ℕ, suc, ◌<◌, List, [], ◌∷◌, length, take, refl, sym, ap}
-use Rattle.nit_events.specs.declared.call.Call.{Call}
+use Rattle.nit_plan.proofs.Basics.{Call, Configuration, Entry, Line, Painting, Session, after_calls, after_line, as_its_calls_have_it, blank, calls_from, calls_in, calls_of, donation_of, done, first_session, painted_from, replay, session, static}
+use Rattle.std.proofs.Common.{List, [], ap, length, refl, suc, sym, take, ℕ, ◌<◌, ◌∙◌, ◌∷◌, ◌≡◌}
 use Rattle.nit_events.specs.declared.event.Status.TheVariants as status
-use Rattle.nit_script.specs.declared.line.Line.{Line}
 use Rattle.nit_script.specs.declared.line.Line.TheVariants as line
-use Rattle.nit_config.specs.Configuration.{Configuration, donation_of}
-use Rattle.nit_journal.specs.Session.{Session, first_session, after_calls}
-use Rattle.nit_journal.specs.State.{session}
-use Rattle.nit_journal.specs.Replay.{replay}
-use Rattle.nit_journal.specs.WholeJournals.{calls_of, done}
-use Rattle.nit_journal.proofs.ForCallers.{as_its_calls_have_it}
-use Rattle.nit_events.specs.declared.entry.Entry.{Entry}
-use Rattle.nit_plan.specs.Calls.{calls_from, calls_in}
-use Rattle.nit_plan.specs.ScriptWords.{Painting, blank, painted_from, after_line, static}
 
 pub calls_done : (phase : ℕ) (lines : List Line) → calls_in lines ≡ done (calls_from phase lines)
 calls_done phase [] = refl

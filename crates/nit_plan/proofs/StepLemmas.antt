@@ -1,15 +1,7 @@
 -- The steps of a script's lines.
-use Rattle.std.proofs.Common.{◌≡◌, ◌∙◌, ℕ, zero, suc, ◌+◌, ◌*◌, ◌≤◌, ◌<◌, List, [], ◌∷◌, ◌++◌, All, length, take, get_or, fold, Some, refl, ap, ap₂, sym, arith}
-use Rattle.std.specs.List.{slice_get}
-use Rattle.std.proofs.lemmas.List.{take_more, take_all}
-use Rattle.std.proofs.lemmas.List.Elements.{All-cons}
-use Rattle.std.proofs.lemmas.List.Sums.{fold-append}
-use Rattle.nit_script.specs.declared.line.Line.{Line}
+use Rattle.std.proofs.Common.{All, List, Some, [], ap, ap₂, arith, fold, get_or, length, refl, suc, sym, take, zero, ℕ, ◌*◌, ◌++◌, ◌+◌, ◌<◌, ◌∙◌, ◌∷◌, ◌≡◌, ◌≤◌}
+use Rattle.nit_plan.proofs.Basics.{All-cons, Line, Painting, Session, Step, after_line, first_session, fold-append, painted_from, session_after, slice_get, step_of, steps_from, table_size, take_all, take_more}
 use Rattle.nit_script.specs.declared.line.Line.TheVariants as line
-use Rattle.nit_journal.specs.Session.{Session, first_session}
-use Rattle.nit_plan.specs.declared.plan.Step.{Step}
-use Rattle.nit_plan.specs.ScriptWords.{Painting, painted_from, after_line, table_size}
-use Rattle.nit_plan.specs.Plan.{session_after, step_of, steps_from}
 use Rattle.nit_plan.proofs.Donations.{PaidFor, opened_paid, serve_paid}
 use Rattle.nit_plan.proofs.LineWords.{buffer_in_table}
 

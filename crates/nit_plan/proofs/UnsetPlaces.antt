@@ -1,22 +1,10 @@
 -- The words of places that a line does not set.
-use Rattle.std.proofs.Common.{◌≡◌, ◌∙◌, ℕ, ◌+◌, ◌-◌, ◌*◌, ◌/◌, ◌%◌, ◌≤◌, ◌&&◌, nat_lt, Bool, true, false, cond, List, length, get_or, drop, refl, sym, ap, arith}
+use Rattle.nit_plan.proofs.Basics.{Buffer, Line, Step, Stroke, accepts, column_and_row, get_or-append_right, get_or-drop, get_or-eq_default, is_set_by, is_stroked, length-zeros, nat_tests, place_colour, slice_get, slice_index, static, step_of, stroked, word_at, words_after, words_by_step, zeros}
+use Rattle.std.proofs.Common.{Bool, List, Some, ap, arith, cond, drop, false, get_or, length, nat_lt, refl, sym, true, ℕ, ◌%◌, ◌&&◌, ◌*◌, ◌+◌, ◌-◌, ◌/◌, ◌∙◌, ◌≡◌, ◌≤◌}
+use Rattle.nit_plan.specs.Strokes.{cleared}
 use mathlib.Core.Logic.{dite}
 use native.Mathlib.Decide.{dec_lt}
-use Rattle.std.specs.Prelude.{Some, slice_index}
-use Rattle.std.specs.List.{slice_get}
-use Rattle.std.proofs.Math.ListN.{get_or-eq_default}
-use Rattle.std.proofs.lemmas.Bool.Decides.{nat_tests}
-use Rattle.std.proofs.lemmas.List.{get_or-append_right, get_or-drop}
-use Rattle.nit_word.specs.Zeros.{zeros}
-use Rattle.nit_word.proofs.ForCallers.{word_at, length-zeros, column_and_row}
-use Rattle.nit_events.specs.declared.call.Call.TheVariants.{Buffer}
-use Rattle.nit_script.specs.declared.line.Stroke.{Stroke}
-use Rattle.nit_script.specs.declared.line.Line.{Line}
 use Rattle.nit_script.specs.declared.line.Line.TheVariants as line
-use Rattle.nit_plan.specs.declared.plan.Step.{Step}
-use Rattle.nit_plan.specs.Strokes.{is_stroked, place_colour, stroked, cleared}
-use Rattle.nit_plan.specs.ScriptWords.{static, words_after}
-use Rattle.nit_plan.specs.Plan.{accepts, is_set_by, step_of, words_by_step}
 use Rattle.nit_plan.proofs.Lines.{words_next}
 use Rattle.nit_plan.proofs.Places.{stroke_set, stroked_long, whole}
 

@@ -1,9 +1,7 @@
 -- The session of a script as it is kept while the script is read: it gets no item, so no event is
 -- queued and none is lost.
 use Rattle.std.specs.Prelude.{◌≡◌, ℕ, ◌+◌, ◌*◌, ◌≤◌, List, [], ◌∷◌, length}
-use Rattle.nit_events.specs.declared.event.Status.{Status}
-use Rattle.nit_slots.specs.Account.{AccountModel}
-use Rattle.nit_journal.specs.Session.{Session}
+use Rattle.nit_plan.specs.Below.{AccountModel, Session, Status}
 
 -- the session, by its account, its status, the size of its buffer, its next handle and its handles
 abbrev pub session_of_script : AccountModel → Status → ℕ → ℕ → ℕ → List ℕ → Session

@@ -1,6 +1,5 @@
 -- The scripts and the plans of all sessions, in the order of their numbers.
-use Rattle.std.specs.Prelude.{ℕ, List, [], slice_index_or}
-use Rattle.nit_script.specs.declared.line.Line.{Line}
+use Rattle.nit_plan.specs.Below.{Line, List, [], slice_index_or, ℕ}
 use Rattle.nit_plan.specs.Plan.{PlanModel}
 
 -- the script of a session, and no line where there is none

@@ -1,8 +1,6 @@
 -- A surface on which the lines of a script are done, one after the other.
 use Rattle.std.specs.Prelude.{◌≡◌, ℕ, List, IfSome}
-use Rattle.nit_word.specs.Sight.{Sight}
-use Rattle.nit_slots.specs.Account.{IsDonation}
-use Rattle.nit_script.specs.declared.line.Line.{Line}
+use Rattle.nit_plan.specs.Below.{IsDonation, Line, Sight}
 use Rattle.nit_plan.specs.ScriptWords.{ink, table_size, words_after}
 use Rattle.nit_plan.specs.Plan.{PlanModel, IsPlanOf}
 

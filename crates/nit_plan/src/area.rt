@@ -1,8 +1,6 @@
 //! Places of a buffer that are set together.
 ghost use Rattle.std.specs.Prelude.{◌≡◌, ℕ, ◌+◌, ◌^◌, ◌<◌, ◌≤◌, ◌&&◌, nat_lt};
-ghost use Rattle.nit_script.specs.Spelling.{FitsLine, FitsStroke};
-ghost use Rattle.nit_plan.specs.Strokes.{is_in_area, is_stroked};
-ghost use Rattle.nit_plan.specs.Plan.{is_set_by};
+ghost use Rattle.nit_plan.specs.Terms.{FitsLine, FitsStroke, is_in_area, is_set_by, is_stroked};
 
 use crate::plan::Step;
 use crate::stroking::accepts;

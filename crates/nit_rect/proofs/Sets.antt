@@ -1,14 +1,9 @@
 -- Rectangles by their columns and rows.
-use Rattle.std.proofs.Common.{◌≡◌, ℕ, ◌+◌, ◌-◌, ◌<◌, ◌*◌, Bool, true, false, ◌&&◌, ◌⊎◌, inl, inr, refl, sym, ◌∙◌, ap, ap₂, arith}
-use Rattle.std.specs.Prelude.{ℤ, pos, ◌+ℤ◌, ◌≤ℤ◌, int_le, if◌then◌else◌}
+use Rattle.std.proofs.Common.{Bool, ap, ap₂, arith, false, inl, inr, refl, sym, true, ℕ, ◌&&◌, ◌*◌, ◌+◌, ◌-◌, ◌<◌, ◌∙◌, ◌≡◌, ◌⊎◌}
+use Rattle.nit_rect.proofs.Basics.{CoversBoth, HasPixels, IsApart, LiesIn, Point, Rectangle, and_parts, covers, empty_rectangle, int_le, ints, pos, rectangle, spans, times, times_among, ℤ}
+use Rattle.std.specs.Prelude.{if◌then◌else◌, ◌+ℤ◌, ◌≤ℤ◌}
 use mathlib.Core.Logic.{dite}
 use native.Mathlib.Decide.{ℕ_discrete, dec_lt}
-use Rattle.std.proofs.lemmas.Int.{ints}
-use Rattle.std.proofs.lemmas.Bool.{and_parts}
-use Rattle.nit_rect.specs.Rectangle.{Rectangle, rectangle, spans, covers}
-use Rattle.nit_rect.specs.declared.point.Point.{Point}
-use Rattle.nit_rect.specs.Intersection.{empty_rectangle, HasPixels, IsApart, CoversBoth, LiesIn}
-use Rattle.nit_rect.specs.Strips.{times, times_among}
 use Rattle.nit_rect.proofs.Spans.{no_place, regrouped, and_true, IsSpanned, spans_tells, spans_holds, le_tested}
 
 -- the columns and the rows that both have

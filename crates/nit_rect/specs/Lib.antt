@@ -4,3 +4,5 @@ pub mod Intersection
 pub mod Strips
 pub mod Screen
 pub mod Options
+pub mod Terms
+pub mod Below

@@ -1,5 +1,5 @@
 -- The limits that several crates share, each with a name.
-use Rattle.std.specs.Prelude.{ℕ}
+use Rattle.nit_rect.specs.Below.{ℕ}
 
 -- ---- places
 

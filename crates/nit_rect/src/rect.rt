@@ -1,7 +1,5 @@
 ghost use Rattle.std.specs.Prelude.{◌≡◌, ◌↔◌, ◌≤◌, ◌*◌, IsTrue, IsSome, IfSome};
-ghost use Rattle.nit_rect.specs.Rectangle.{IsPlace, rectangle, is_rectangle, spans, covers};
-ghost use Rattle.nit_rect.specs.Intersection.{empty_rectangle, HasPixels, IsApart, CoversBoth, LiesIn};
-ghost use Rattle.nit_rect.specs.Limits.{most_length};
+ghost use Rattle.nit_rect.specs.Terms.{CoversBoth, HasPixels, IsApart, IsPlace, LiesIn, covers, empty_rectangle, is_rectangle, most_length, rectangle, spans};
 
 use crate::limits::{FIRST_PLACE, LAST_PLACE, MOST_LENGTH};
 use crate::point::Point;

@@ -1,17 +1,7 @@
 -- Where a view shows a part of its session's buffer.
-use Rattle.std.proofs.Common.{◌≡◌, ℕ, ◌-◌, ◌<◌, ◌≤◌, Bool, true, false, ◌&&◌, nat_le, nat_lt, cond, Some, None, refl, ap, sym, ◌∙◌, arith}
-use Rattle.std.specs.Prelude.{ℤ, pos, negsuc, ◌+ℤ◌, ◌≤ℤ◌, ◌<ℤ◌, int_le}
-use Rattle.std.proofs.lemmas.Bool.Decides.{nat_tests}
-use Rattle.std.proofs.lemmas.Int.{ints}
-use Rattle.nit_rect.specs.declared.point.Point.{Point}
-use Rattle.nit_rect.specs.Rectangle.{Rectangle, covers, rectangle, spans}
-use Rattle.nit_rect.specs.Intersection.{CoversBoth}
-use Rattle.nit_rect.proofs.ForCallers.{IsSpanned, le_tested, same_tests, spans_holds, spans_tells}
-use Rattle.nit_stack.specs.declared.view.View.{View}
-use Rattle.nit_stack.specs.Sources.{among, buffer_place, index_at, point, shown_index}
-use Rattle.nit_stack.specs.Stack.{IsOnScreen}
-use Rattle.nit_paint.proofs.ForCallers.{row_of, column_of}
-use Rattle.nit_repaint.specs.WantedPixels.{is_index_in}
+use Rattle.nit_repaint.proofs.Basics.{CoversBoth, IsOnScreen, IsSpanned, Point, Rectangle, View, among, buffer_place, column_of, covers, index_at, int_le, ints, is_index_in, le_tested, nat_tests, negsuc, point, pos, rectangle, row_of, same_tests, shown_index, spans, spans_holds, spans_tells, ℤ}
+use Rattle.std.proofs.Common.{Bool, None, Some, ap, arith, cond, false, nat_le, nat_lt, refl, sym, true, ℕ, ◌&&◌, ◌-◌, ◌<◌, ◌∙◌, ◌≡◌, ◌≤◌}
+use Rattle.std.specs.Prelude.{◌+ℤ◌, ◌<ℤ◌, ◌≤ℤ◌}
 
 -- a place of the screen stands for a number of any sign
 module _ (n c : ℕ) (z : ℤ) (h : nat_le n c ≡ int_le z (pos c)) where

@@ -1,19 +1,6 @@
 -- The pixels that a changed view owned or owns.
-use Rattle.std.proofs.Common.{◌≡◌, ℕ, ◌<◌, ◌≤◌, ◌⊎◌, inl, inr, not, Bool, true, false, ◌&&◌, ◌||◌, cond, List, take, find, Option, Some, None, refl, ap, sym, ◌∙◌, arith}
-use Rattle.std.specs.List.{list_any}
-use Rattle.std.specs.Option.{option_map_or}
-use Rattle.nit_rect.specs.declared.point.Point.{Point}
-use Rattle.nit_rect.specs.Rectangle.{Rectangle, covers}
-use Rattle.nit_stack.specs.declared.view.ViewRef.{ViewRef}
-use Rattle.nit_stack.specs.Orders.{without}
-use Rattle.nit_stack.specs.Sources.{in_bar}
-use Rattle.nit_stack.specs.Stack.{NoPair, SlotView, StackModel, is_slot, same_slot, slot_view_in}
-use Rattle.nit_stack.proofs.ForCallers.{found_fails}
-use Rattle.nit_stack.specs.Stack.{place_of}
-use Rattle.nit_damage.specs.Damage.{covered, is_behind, is_of_moved, slot_view_covers}
-use Rattle.nit_damage.proofs.ForCallers.{owned_is}
-use Rattle.nit_repaint.specs.ViewChange.{IsViewChange, slot_owns_either}
-use Rattle.nit_repaint.specs.PixelOwners.{owner_passes}
+use Rattle.nit_repaint.proofs.Basics.{IsViewChange, NoPair, Point, Rectangle, SlotView, StackModel, ViewRef, covered, covers, found_fails, in_bar, is_behind, is_of_moved, is_slot, list_any, option_map_or, owned_is, owner_passes, place_of, same_slot, slot_owns_either, slot_view_covers, slot_view_in, without}
+use Rattle.std.proofs.Common.{Bool, List, None, Option, Some, ap, arith, cond, false, find, inl, inr, not, refl, sym, take, true, ℕ, ◌&&◌, ◌<◌, ◌||◌, ◌∙◌, ◌≡◌, ◌≤◌, ◌⊎◌}
 use Rattle.nit_repaint.proofs.ViewsInFront.{covers_more, same_covered, take_front, without_none}
 
 -- a view owns a pixel below the bar that it covers and no view in front of it

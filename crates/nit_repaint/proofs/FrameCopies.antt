@@ -1,26 +1,6 @@
 -- Words of a frame that are set, one set of pixels after the other.
-use Rattle.std.proofs.Common.{◌≡◌, ℕ, ◌+◌, ◌*◌, ◌<◌, ◌≤◌, Bool, true, false, cond, nat_lt, List, length, refl, ap, sym, ◌∙◌, subst, arith, take_all}
-use Rattle.std.specs.Prelude.{◌&&◌, IsTrue, Option, None, Some, slice_get, slice_index}
-use Rattle.std.specs.Option.{option_map_or}
-use Rattle.std.proofs.lemmas.Bool.Decides.{nat_tests}
-use Rattle.std.proofs.lemmas.Grind.{same_number_lists}
-use Rattle.nit_rect.specs.declared.point.Point.{Point}
-use Rattle.nit_rect.specs.Rectangle.{Rectangle, covers}
-use Rattle.nit_rect.specs.Strips.{times}
-use Rattle.nit_stack.specs.Sources.{in_bar, owner_in, pixel}
-use Rattle.nit_stack.specs.Stack.{IsOnScreen, NoPair, SlotView, StackModel, is_slot, same_slot, slot_view_in}
-use Rattle.nit_damage.specs.Cutter.{CutterModel, to_come}
-use Rattle.nit_damage.specs.Damage.{once}
-use Rattle.nit_paint.specs.FrameCopy.{AreSet}
-use Rattle.nit_paint.proofs.ForCallers.{nothing_set, set_same, set_then}
-use Rattle.nit_overlay.specs.declared.look.Look.{Look}
-use Rattle.nit_overlay.specs.Look.{scenery}
-use Rattle.nit_overlay.specs.Frame.{frame}
-use Rattle.nit_overlay.proofs.ForCallers.{get_or-frame, length-frame}
-use Rattle.nit_repaint.specs.PixelsToCome.{has_come, is_to_come}
-use Rattle.nit_repaint.specs.ShownPixels.{shown_at}
-use Rattle.nit_repaint.specs.PixelOwners.{owner_passes}
-use Rattle.nit_repaint.specs.WantedPixels.{is_wanted, wanted, wanted_of_first}
+use Rattle.nit_repaint.proofs.Basics.{AreSet, CutterModel, IsOnScreen, IsTrue, Look, NoPair, Point, Rectangle, SlotView, StackModel, covers, frame, get_or-frame, has_come, in_bar, is_slot, is_to_come, is_wanted, length-frame, nat_tests, nothing_set, once, option_map_or, owner_in, owner_passes, pixel, same_number_lists, same_slot, scenery, set_same, set_then, shown_at, slice_get, slice_index, slot_view_in, times, to_come, wanted, wanted_of_first}
+use Rattle.std.proofs.Common.{Bool, List, None, Option, Some, ap, arith, cond, false, length, nat_lt, refl, subst, sym, take_all, true, ℕ, ◌&&◌, ◌*◌, ◌+◌, ◌<◌, ◌∙◌, ◌≡◌, ◌≤◌}
 use Rattle.nit_repaint.proofs.PieceLemmas.{all_count}
 use Rattle.nit_repaint.proofs.Screen.{on_screen}
 use Rattle.nit_repaint.proofs.WantedLemmas.{lt_once, one_more}

@@ -1,26 +1,7 @@
 -- What the painting of one piece does to the glasses of a call.
-use Rattle.std.proofs.Common.{◌≡◌, ℕ, ◌*◌, ◌<◌, ◌≤◌, ◌==◌, nat_lt, arith, Bool, true, false, cond, List, length, map, set, slice_index_or, refl, ap, sym, ◌∙◌, subst, get_or-set_same, get_or-set_other}
-use Rattle.std.proofs.lemmas.Bool.{eqb-true, eqb-false, eq-eqb, ne_eqb}
-use Rattle.std.proofs.lemmas.List.{map-set, get_or-map, length-map, set-get_or}
-use Rattle.nit_word.specs.Sight.{Sight, seen}
-use Rattle.nit_stack.specs.Sources.{PixelSource}
-use Rattle.std.specs.Prelude.{Some}
-use Rattle.std.specs.Option.{option_map_or}
-use Rattle.nit_stack.specs.declared.view.Piece.{Piece}
-use Rattle.nit_stack.specs.declared.view.ViewRef.{ViewRef}
-use Rattle.nit_paint.specs.Pieces.{session_shown, words_shown}
-use Rattle.nit_stack.specs.SourceAnswers.{session_of, word_count}
-use Rattle.nit_stack.specs.Stack.{IsScreenSize, StackModel, size_of}
-use Rattle.nit_paint.specs.Repaint.{Repainted, no_sight, with_glass}
-use Rattle.nit_paint.proofs.ForCallers.{repainted_same}
-use Rattle.nit_repaint.specs.Glasses.{HoldBuffers, glass_in, glasses_of_call}
-use Rattle.nit_rect.specs.declared.point.Point.{Point}
-use Rattle.nit_stack.specs.Sources.{pixel}
-use Rattle.nit_stack.specs.Stack.{IsOnScreen}
-use Rattle.nit_damage.specs.Cutter.{CutterModel, to_come}
-use Rattle.nit_repaint.specs.PixelsToCome.{is_to_come}
+use Rattle.nit_repaint.proofs.Basics.{CutterModel, HoldBuffers, IsOnScreen, IsScreenSize, Piece, PixelSource, Point, Repainted, Sight, StackModel, ViewRef, eq-eqb, eqb-false, eqb-true, get_or-map, get_or_past, glass_in, glasses_of_call, is_to_come, length-map, map-set, ne_eqb, no_sight, option_map_or, pixel, repainted_same, seen, session_of, session_shown, set-get_or, size_of, to_come, with_glass, word_count, words_shown}
+use Rattle.std.proofs.Common.{Bool, List, Some, ap, arith, cond, false, get_or-set_other, get_or-set_same, length, map, nat_lt, refl, set, slice_index_or, subst, sym, true, ℕ, ◌*◌, ◌<◌, ◌==◌, ◌∙◌, ◌≡◌, ◌≤◌}
 use Rattle.nit_repaint.proofs.Screen.{on_screen}
-use Rattle.std.proofs.lemmas.List.{get_or_past}
 
 -- the size of the screen
 pub screen_of : (z : ℕ × ℕ) (s : StackModel) → z ≡ (s.width, s.height) → IsScreenSize z.0 z.1 → IsScreenSize s.width s.height

@@ -9,3 +9,5 @@ pub mod WantedLemmas
 pub mod BufferParts
 pub mod FrameCopies
 pub mod ForCallers
+pub mod Basics
+pub mod Lemmas

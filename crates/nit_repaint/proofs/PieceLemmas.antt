@@ -1,18 +1,6 @@
 -- Pieces that come one after the other.
-use Rattle.std.proofs.Common.{◌≡◌, ℕ, ◌+◌, ◌≤◌, ◌&&◌, ◌||◌, Bool, true, false, cond, nat_lt, List, refl, ap, arith}
-use Rattle.std.specs.Prelude.{IsTrue}
-use Rattle.std.proofs.lemmas.Bool.Decides.{nat_tests}
-use Rattle.nit_rect.specs.declared.point.Point.{Point}
-use Rattle.nit_rect.specs.Rectangle.{Rectangle, covers}
-use Rattle.nit_rect.specs.Strips.{times}
-use Rattle.nit_word.specs.Sight.{Sight}
-use Rattle.nit_stack.specs.Sources.{PixelSource, pixel}
-use Rattle.nit_stack.specs.Stack.{StackModel}
-use Rattle.nit_paint.specs.Repaint.{Repainted}
-use Rattle.nit_paint.specs.Pieces.{has_pixel}
-use Rattle.nit_paint.proofs.ForCallers.{repainted_none, repainted_same, repainted_union}
-use Rattle.nit_damage.specs.Cutter.{CutterModel, to_come}
-use Rattle.nit_repaint.specs.PixelsToCome.{has_come, is_to_come}
+use Rattle.nit_repaint.proofs.Basics.{CutterModel, IsTrue, PixelSource, Point, Rectangle, Repainted, Sight, StackModel, covers, has_come, has_pixel, is_to_come, nat_tests, pixel, repainted_none, repainted_same, repainted_union, times, to_come}
+use Rattle.std.proofs.Common.{Bool, List, ap, arith, cond, false, nat_lt, refl, true, ℕ, ◌&&◌, ◌+◌, ◌||◌, ◌≡◌, ◌≤◌}
 
 -- a pixel by the numbers of times that it is to come: before all, now, and after one more piece
 apart_count : (b now : ℕ) (c : Bool) → b ≤ 1 → (c ≡ true → now ≡ 1) → (nat_lt now b && c) ≡ false

@@ -1,14 +1,6 @@
 -- Changes of one view leave the others as they stood.
-use Rattle.std.proofs.Common.{◌≡◌, ℕ, zero, suc, ◌+◌, inl, inr, ◌==◌, not, Bool, true, false, ◌||◌, cond, List, [], ◌∷◌, find, Option, Some, None, refl, ap, sym, ◌∙◌}
-use Rattle.std.specs.List.{list_any, position_or_len, insert}
-use Rattle.std.proofs.lemmas.Option.{same_Some}
-use Rattle.nit_stack.specs.declared.view.View.{View}
-use Rattle.nit_stack.specs.ViewNames.{views_of}
-use Rattle.nit_stack.specs.Orders.{changed, moved, put_above, put_again, without}
-use Rattle.nit_stack.specs.Stack.{IsStack, SlotView, StackModel, is_slot, moved_above, on_view, put_own_back, put_own_front, slot_view_in, slot_view_layer}
-use Rattle.nit_stack.proofs.ForCallers.{found_passes, Put, Put-above, Put-back, Put-front}
-use Rattle.nit_stack.specs.Stack.{place_of}
-use Rattle.nit_repaint.specs.ViewChange.{IsViewChange}
+use Rattle.nit_repaint.proofs.Basics.{IsStack, IsViewChange, Put, Put-above, Put-back, Put-front, SlotView, StackModel, View, changed, found_passes, insert, is_slot, list_any, moved, moved_above, on_view, place_of, position_or_len, put_above, put_again, put_own_back, put_own_front, same_Some, slot_view_in, slot_view_layer, views_of, without}
+use Rattle.std.proofs.Common.{Bool, List, None, Option, Some, [], ap, cond, false, find, inl, inr, not, refl, suc, sym, true, zero, ℕ, ◌+◌, ◌==◌, ◌||◌, ◌∙◌, ◌∷◌, ◌≡◌}
 use Rattle.nit_repaint.proofs.ViewsInFront.{without_none}
 use Rattle.nit_repaint.proofs.ViewRemovalLemmas.{none_left}
 

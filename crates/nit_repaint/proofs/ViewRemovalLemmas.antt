@@ -1,29 +1,7 @@
 -- What views uncover when they are taken away.
-use Rattle.std.proofs.Common.{◌≡◌, ℕ, zero, suc, ◌+◌, ◌*◌, ◌<◌, ◌≤◌, not, Bool, true, false, ◌&&◌, ◌||◌, cond, List, [], ◌∷◌, length, find, drop, Option, Some, None, refl, ap, sym, ◌∙◌, subst, arith, add-one}
-use Rattle.std.specs.List.{list_any}
-use Rattle.std.specs.Option.{option_map_or}
-use Rattle.std.specs.Prelude.{slice_get}
-use Rattle.std.proofs.lemmas.Bool.{eq-eqb, false≢true, ne_eqb}
-use Rattle.nit_stack.proofs.ForCallers.{drop_at, owner_of_views, found_fails, found_passes}
-use Rattle.nit_rect.specs.declared.point.Point.{Point}
-use Rattle.nit_stack.specs.declared.view.View.{View}
-use Rattle.nit_stack.specs.ViewNames.{views_of}
-use Rattle.nit_stack.specs.Orders.{without}
-use Rattle.nit_word.specs.Sight.{Sight, seen}
+use Rattle.nit_repaint.proofs.Basics.{HoldBuffers, IsRemovedFrom, IsViewChange, NoPair, Point, Repainted, Sight, SlotView, StackModel, View, drop_all, drop_at, eq-eqb, false≢true, found_fails, found_passes, in_bar, is_of_session, is_slot, list_any, ne_eqb, option_map, option_map_or, owner_of_views, owner_passes, pixel, place_of, repainted_same, repainted_union, same_slot, seen, size_of, slice_get, slot_owns_either, slot_view_covers, slot_view_in, source_in, source_of_number, source_under, uncovered, views_of, without, without_session}
+use Rattle.std.proofs.Common.{Bool, List, None, Option, Some, [], add-one, ap, arith, cond, drop, false, find, length, not, refl, subst, suc, sym, true, zero, ℕ, ◌&&◌, ◌*◌, ◌+◌, ◌<◌, ◌||◌, ◌∙◌, ◌∷◌, ◌≡◌, ◌≤◌}
 use Rattle.nit_repaint.proofs.GlassLemmas.{still_held}
-use Rattle.std.proofs.lemmas.List.{drop_all}
-use Rattle.nit_stack.specs.Sources.{in_bar, pixel, source_under}
-use Rattle.std.specs.Option.{option_map}
-use Rattle.nit_paint.specs.Repaint.{Repainted}
-use Rattle.nit_paint.specs.Pieces.{source_of_number}
-use Rattle.nit_paint.proofs.ForCallers.{repainted_same, repainted_union}
-use Rattle.nit_stack.specs.Stack.{NoPair, SlotView, StackModel, is_of_session, is_slot, same_slot, slot_view_in, size_of}
-use Rattle.nit_stack.specs.Stack.{place_of}
-use Rattle.nit_damage.specs.Damage.{slot_view_covers}
-use Rattle.nit_repaint.specs.ViewChange.{IsViewChange, slot_owns_either}
-use Rattle.nit_repaint.specs.Glasses.{HoldBuffers}
-use Rattle.nit_repaint.specs.PixelOwners.{owner_passes, source_in}
-use Rattle.nit_repaint.specs.ViewRemoval.{IsRemovedFrom, uncovered, without_session}
 use Rattle.nit_repaint.proofs.ChangedOwners.{owned_not}
 use Rattle.nit_repaint.proofs.ViewsInFront.{other_slot, without_none}
 

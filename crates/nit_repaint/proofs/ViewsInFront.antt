@@ -1,16 +1,6 @@
 -- The views in front of a place, when one view is taken out.
-use Rattle.std.proofs.Common.{◌≡◌, ℕ, zero, suc, ◌+◌, ◌<◌, ◌≤◌, not, Bool, true, false, ◌||◌, cond, List, [], ◌∷◌, length, take, get_or, Some, refl, ap, sym, ◌∙◌, arith}
-use Rattle.std.specs.List.{list_any, position_or_len}
-use Rattle.std.specs.Prelude.{slice_get}
-use Rattle.std.proofs.lemmas.Bool.{eq-eqb, eqb-true, false≢true}
-use Rattle.std.proofs.lemmas.List.Folds.{list_any_at}
-use Rattle.std.proofs.lemmas.Option.{get_or_from_slice_get, slice_get_within}
-use Rattle.nit_rect.specs.declared.point.Point.{Point}
-use Rattle.nit_stack.specs.declared.view.View.{View}
-use Rattle.nit_stack.specs.ViewNames.{views_of}
-use Rattle.nit_stack.specs.Orders.{without}
-use Rattle.nit_stack.specs.Stack.{SlotView, is_slot, same_slot}
-use Rattle.nit_damage.specs.Damage.{covered, slot_view_covers}
+use Rattle.std.proofs.Common.{Bool, List, Some, [], ap, arith, cond, false, get_or, length, not, refl, suc, sym, take, true, zero, ℕ, ◌+◌, ◌<◌, ◌||◌, ◌∙◌, ◌∷◌, ◌≡◌, ◌≤◌}
+use Rattle.nit_repaint.proofs.Basics.{Point, SlotView, View, covered, eq-eqb, eqb-true, false≢true, get_or_from_slice_get, is_slot, list_any, list_any_at, position_or_len, same_slot, slice_get, slice_get_within, slot_view_covers, views_of, without}
 
 one_more : (n : ℕ) → 1 + n ≡ suc n
 one_more n = omega arith

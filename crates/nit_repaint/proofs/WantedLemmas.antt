@@ -1,27 +1,6 @@
 -- What is wanted of views, one after the other.
-use Rattle.std.proofs.Common.{◌≡◌, ℕ, zero, suc, ◌+◌, ◌*◌, ◌<◌, ◌≤◌, ◌==◌, not, Bool, true, false, ◌&&◌, ◌||◌, cond, nat_lt, List, [], ◌∷◌, length, find, take, Option, Some, None, refl, ap, sym, ◌∙◌, subst, arith, add-one, take_all}
-use Rattle.std.specs.List.{list_any}
-use Rattle.std.specs.Option.{option_map_or}
-use Rattle.std.specs.Prelude.{slice_get}
-use Rattle.std.proofs.lemmas.Bool.{and_parts, eq-eqb, eqb-true, ne_eqb}
-use Rattle.nit_rect.specs.declared.point.Point.{Point}
-use Rattle.nit_rect.specs.Rectangle.{Rectangle, covers}
-use Rattle.nit_word.specs.Sight.{Sight}
-use Rattle.nit_stack.specs.declared.view.ViewRef.{ViewRef}
-use Rattle.nit_stack.specs.declared.view.View.{View}
-use Rattle.nit_stack.specs.Sources.{PixelSource, black_or_word, in_bar, owner_in, pixel, shown_index, source_under}
-use Rattle.nit_stack.proofs.ForCallers.{owner_of_views, place_is}
-use Rattle.std.specs.Option.{option_map}
-use Rattle.nit_stack.specs.Stack.{IsOnScreen, NoPair, SlotView, StackModel, is_of_session, is_slot, same_slot, slot_view_in, size_of}
-use Rattle.nit_paint.specs.Repaint.{Repainted}
-use Rattle.nit_paint.proofs.ForCallers.{repainted_none, repainted_same, repainted_union}
-use Rattle.nit_damage.specs.Cutter.{CutterModel, to_come}
-use Rattle.nit_stack.specs.Stack.{place_of}
-use Rattle.nit_damage.specs.Damage.{covered, is_owned, once, slot_view_covers}
-use Rattle.nit_damage.proofs.ForCallers.{owned_is}
-use Rattle.nit_repaint.specs.PixelsToCome.{is_to_come}
-use Rattle.nit_repaint.specs.PixelOwners.{is_word_in, owner_passes, source_in}
-use Rattle.nit_repaint.specs.WantedPixels.{is_index_in, is_wanted, wanted, wanted_of_first, wants}
+use Rattle.nit_repaint.proofs.Basics.{CutterModel, IsOnScreen, NoPair, PixelSource, Point, Rectangle, Repainted, Sight, SlotView, StackModel, View, ViewRef, and_parts, black_or_word, covered, covers, eq-eqb, eqb-true, in_bar, is_index_in, is_of_session, is_owned, is_slot, is_to_come, is_wanted, is_word_in, list_any, ne_eqb, once, option_map, option_map_or, owned_is, owner_in, owner_of_views, owner_passes, pixel, place_is, place_of, repainted_none, repainted_same, repainted_union, same_slot, shown_index, size_of, slice_get, slot_view_covers, slot_view_in, source_in, source_under, to_come, wanted, wanted_of_first, wants}
+use Rattle.std.proofs.Common.{Bool, List, None, Option, Some, [], add-one, ap, arith, cond, false, find, length, nat_lt, not, refl, subst, suc, sym, take, take_all, true, zero, ℕ, ◌&&◌, ◌*◌, ◌+◌, ◌<◌, ◌==◌, ◌||◌, ◌∙◌, ◌∷◌, ◌≡◌, ◌≤◌}
 use Rattle.nit_repaint.proofs.Screen.{on_screen}
 use Rattle.nit_repaint.proofs.ChangedOwners.{owned_by}
 use Rattle.nit_repaint.proofs.ViewsInFront.{other_slot}

@@ -1,9 +1,6 @@
 -- The glasses through which the words of all sessions are loaded, by the session's number.
 use Rattle.std.specs.Prelude.{ℕ, ◌<◌, ◌≤◌, List, length, slice_index_or}
-use Rattle.nit_word.specs.Sight.{Sight}
-use Rattle.nit_stack.specs.SourceAnswers.{word_count}
-use Rattle.nit_stack.specs.Stack.{StackModel, size_of}
-use Rattle.nit_paint.specs.Repaint.{no_sight, with_glass}
+use Rattle.nit_repaint.specs.Below.{Sight, StackModel, no_sight, size_of, with_glass, word_count}
 
 -- the glasses in the order of their sessions
 abbrev pub glass_in : List Sight → ℕ → Sight

@@ -14,3 +14,5 @@ pub mod ViewChange
 pub mod WantedPixels
 pub mod ShownPixels
 pub mod ViewRemoval
+pub mod Below
+pub mod Terms

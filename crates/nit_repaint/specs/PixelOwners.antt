@@ -1,11 +1,6 @@
 -- What owns and what shows a pixel of a stack of views with slots.
 use Rattle.std.specs.Prelude.{ℕ, ◌==◌, Bool, false, ◌&&◌}
-use Rattle.std.specs.Option.{option_map_or}
-use Rattle.nit_rect.specs.declared.point.Point.{Point}
-use Rattle.nit_rect.specs.Rectangle.{Rectangle, covers}
-use Rattle.nit_stack.specs.ViewNames.{views_of}
-use Rattle.nit_stack.specs.Sources.{PixelSource, Word, owner_in, pixel, source}
-use Rattle.nit_stack.specs.Stack.{SlotView, StackModel, size_of}
+use Rattle.nit_repaint.specs.Below.{PixelSource, Point, Rectangle, SlotView, StackModel, Word, covers, option_map_or, owner_in, pixel, size_of, source, views_of}
 
 -- the view that owns the pixel passes this test
 abbrev pub owner_passes : (SlotView → Bool) → StackModel → Point → Bool

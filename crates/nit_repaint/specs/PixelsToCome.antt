@@ -1,8 +1,5 @@
 -- Pixels that a cutter hands out, by their numbers.
-use Rattle.std.specs.Prelude.{ℕ, Bool, nat_lt}
-use Rattle.nit_stack.specs.Sources.{pixel}
-use Rattle.nit_stack.specs.Stack.{StackModel}
-use Rattle.nit_damage.specs.Cutter.{CutterModel, to_come}
+use Rattle.nit_repaint.specs.Below.{Bool, CutterModel, StackModel, nat_lt, pixel, to_come, ℕ}
 
 -- the pixel is still to come
 abbrev pub is_to_come : CutterModel → StackModel → ℕ → Bool

@@ -1,9 +1,5 @@
 -- What a look shows at a pixel of a number.
-use Rattle.std.specs.Prelude.{ℕ, List, slice_index}
-use Rattle.nit_stack.specs.Sources.{pixel}
-use Rattle.nit_overlay.specs.declared.look.Look.{Look}
-use Rattle.nit_overlay.specs.Look.{scenery}
-use Rattle.nit_overlay.specs.Frame.{shown}
+use Rattle.nit_repaint.specs.Below.{List, Look, pixel, scenery, shown, slice_index, ℕ}
 
 -- what is shown at the pixel, by the raw words
 abbrev pub shown_at : Look → List ℕ → ℕ → ℕ

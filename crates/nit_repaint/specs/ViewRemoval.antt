@@ -1,9 +1,6 @@
 -- What is uncovered when the views of a session are taken away, from the rear one to the front one.
 use Rattle.std.specs.Prelude.{◌≡◌, ℕ, ◌≤◌, Bool, true, false, not, ◌&&◌, drop, length}
-use Rattle.std.specs.List.{list_any}
-use Rattle.nit_rect.specs.declared.point.Point.{Point}
-use Rattle.nit_stack.specs.Orders.{without}
-use Rattle.nit_stack.specs.Stack.{StackModel, is_of_session}
+use Rattle.nit_repaint.specs.Below.{Point, StackModel, is_of_session, list_any, without}
 use Rattle.nit_repaint.specs.PixelOwners.{owner_passes}
 
 -- the stack without any view of the session

@@ -1,11 +1,6 @@
 -- The pixels of a session's views that are wanted.
 use Rattle.std.specs.Prelude.{ℕ, Bool, true, false, ◌&&◌, take, Option, Some, None}
-use Rattle.std.specs.Option.{option_map_or}
-use Rattle.nit_rect.specs.declared.point.Point.{Point}
-use Rattle.nit_rect.specs.Rectangle.{Rectangle, covers}
-use Rattle.nit_stack.specs.declared.view.View.{View}
-use Rattle.nit_stack.specs.Sources.{Size, owner_in, pixel, shown_index}
-use Rattle.nit_stack.specs.Stack.{SlotView, StackModel, is_of_session, size_of}
+use Rattle.nit_repaint.specs.Below.{Point, Rectangle, Size, SlotView, StackModel, View, covers, is_of_session, option_map_or, owner_in, pixel, shown_index, size_of}
 use Rattle.nit_repaint.specs.PixelOwners.{owner_passes}
 
 -- the word at this index of a buffer of so many columns lies in a part of the buffer

@@ -12,15 +12,7 @@ ghost use Rattle.std.specs.Prelude.{
   slice_get,
   true,
 };
-ghost use Rattle.nit_rect.specs.declared.point.Point.{Point};
-ghost use Rattle.nit_rect.specs.Rectangle.{IsPlace, covers};
-ghost use Rattle.nit_stack.specs.Sources.{pixel};
-ghost use Rattle.nit_stack.specs.Stack.{IsOnScreen, SlotView, is_slot, size_of};
-ghost use Rattle.nit_paint.specs.Repaint.{Repainted};
-ghost use Rattle.nit_paint.specs.Pieces.{source_of_number};
-ghost use Rattle.nit_repaint.specs.Glasses.{HoldBuffers, glass_in, glasses_of_call};
-ghost use Rattle.nit_repaint.specs.PixelOwners.{owner_passes};
-ghost use Rattle.nit_repaint.specs.WantedPixels.{is_wanted, wanted, wants};
+ghost use Rattle.nit_repaint.specs.Terms.{HoldBuffers, IsOnScreen, IsPlace, Point, Repainted, SlotView, covers, glass_in, glasses_of_call, is_slot, is_wanted, owner_passes, pixel, size_of, source_of_number, wanted, wants};
 
 use crate::part::shown_part;
 use crate::pieces::paint_to_come;

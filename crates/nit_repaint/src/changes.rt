@@ -1,15 +1,7 @@
 //! Loading again what one view owned before a change of it, or owns after it.
 
 ghost use Rattle.std.specs.Prelude.{◌≡◌, ◌*◌, ◌≤◌, length, map};
-ghost use Rattle.nit_rect.specs.declared.point.Point.{Point};
-ghost use Rattle.nit_stack.specs.Sources.{pixel};
-ghost use Rattle.nit_stack.specs.Stack.{IsOnScreen, StackModel};
-ghost use Rattle.nit_damage.specs.Cutter.{FitsStack, to_come};
-ghost use Rattle.nit_damage.specs.Damage.{once};
-ghost use Rattle.nit_paint.specs.Repaint.{Repainted};
-ghost use Rattle.nit_paint.specs.Pieces.{source_of_number};
-ghost use Rattle.nit_repaint.specs.Glasses.{HoldBuffers, glass_in, glasses_of_call};
-ghost use Rattle.nit_repaint.specs.ViewChange.{IsViewChange, slot_owns_either};
+ghost use Rattle.nit_repaint.specs.Terms.{FitsStack, HoldBuffers, IsOnScreen, IsViewChange, Point, Repainted, StackModel, glass_in, glasses_of_call, once, pixel, slot_owns_either, source_of_number, to_come};
 
 use crate::pieces::paint_to_come;
 use nit_damage::Cutter;

@@ -1,29 +1,7 @@
 //! What each change of a stack changes of its views, and what is wanted of a session's views.
 
 ghost use Rattle.std.specs.Prelude.{◌≡◌, ℕ, ℤ, None, Some};
-ghost use Rattle.nit_rect.specs.declared.point.Point.{Point};
-ghost use Rattle.nit_rect.specs.Rectangle.{Rectangle};
-ghost use Rattle.nit_stack.specs.Orders.{changed, moved, without};
-ghost use Rattle.nit_stack.specs.Stack.{
-  IsStack,
-  SlotView,
-  StackModel,
-  is_of_session,
-  is_slot,
-  moved_above,
-  on_view,
-  put_own_back,
-  put_own_front,
-  slot_view_in,
-  slot_view_layer,
-  size_of,
-  with_offset,
-  with_rect,
-};
-ghost use Rattle.nit_stack.specs.Stack.{place_of};
-ghost use Rattle.nit_repaint.specs.ViewChange.{IsViewChange};
-ghost use Rattle.nit_repaint.specs.PixelOwners.{is_word_in, owner_passes, source_in};
-ghost use Rattle.nit_repaint.specs.WantedPixels.{wanted};
+ghost use Rattle.nit_repaint.specs.Terms.{IsStack, IsViewChange, Point, Rectangle, SlotView, StackModel, changed, is_of_session, is_slot, is_word_in, moved, moved_above, on_view, owner_passes, place_of, put_own_back, put_own_front, size_of, slot_view_in, slot_view_layer, source_in, wanted, with_offset, with_rect, without};
 
 /// Each of these changes one view alone, which keeps its place or its rectangle.
 pub fn one_view_changes()
@@ -38,7 +16,9 @@ pub fn one_view_changes()
     ensures front { (s : StackModel) (k : ℕ) (seat : SlotView) → IsStack s
         → slot_view_in k s.views ≡ Some seat
         → IsViewChange k (place_of k s.views) seat.view.rect s
-        (record s { views = moved (is_slot k) (put_own_front (slot_view_layer s.layers)) s.views }) }
+        (record s {
+          views = moved (is_slot k) (put_own_front (slot_view_layer s.layers)) s.views;
+        }) }
     ensures back { (s : StackModel) (k : ℕ) (seat : SlotView) → IsStack s
         → slot_view_in k s.views ≡ Some seat
         → IsViewChange k (place_of k s.views) seat.view.rect s

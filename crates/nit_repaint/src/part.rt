@@ -1,11 +1,7 @@
 //! Where a view shows a part of its session's buffer.
 
 ghost use Rattle.std.specs.Prelude.{◌≡◌, ℕ, ◌+◌, ◌<◌, ◌≤◌, nat_le, int_le, pos};
-ghost use Rattle.nit_rect.specs.declared.point.Point.{Point};
-ghost use Rattle.nit_rect.specs.Rectangle.{IsPlace, covers, rectangle, spans};
-ghost use Rattle.nit_stack.specs.Sources.{buffer_place, shown_index};
-ghost use Rattle.nit_stack.specs.Stack.{IsOnScreen, IsScreenSize};
-ghost use Rattle.nit_repaint.specs.WantedPixels.{is_index_in};
+ghost use Rattle.nit_repaint.specs.Terms.{IsOnScreen, IsPlace, IsScreenSize, Point, buffer_place, covers, is_index_in, rectangle, shown_index, spans};
 
 use nit_rect::Rect;
 use nit_stack::View;

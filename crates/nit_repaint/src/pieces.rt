@@ -1,13 +1,7 @@
 //! Loading pieces of the screen again: the caller's by its own glass, all others by the scene's.
 
 ghost use Rattle.std.specs.Prelude.{◌≡◌, ◌*◌, ◌<◌, ◌≤◌, Some, IfSome, IsSomeAnd, length, map, true};
-ghost use Rattle.nit_stack.specs.SourceAnswers.{session_of};
-ghost use Rattle.nit_stack.specs.Stack.{has_slot};
-ghost use Rattle.nit_paint.specs.Repaint.{Repainted};
-ghost use Rattle.nit_paint.specs.Pieces.{IsPiece, has_pixel, session_shown, source_of_number, words_shown};
-ghost use Rattle.nit_damage.specs.Cutter.{FitsStack};
-ghost use Rattle.nit_repaint.specs.PixelsToCome.{is_to_come};
-ghost use Rattle.nit_repaint.specs.Glasses.{HoldBuffers, glass_in, glasses_of_call};
+ghost use Rattle.nit_repaint.specs.Terms.{FitsStack, HoldBuffers, IsPiece, Repainted, glass_in, glasses_of_call, has_pixel, has_slot, is_to_come, session_of, session_shown, source_of_number, words_shown};
 
 use nit_damage::Cutter;
 use nit_paint::laws::pieces_of_owners;

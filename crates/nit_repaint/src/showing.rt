@@ -11,17 +11,7 @@ ghost use Rattle.std.specs.Prelude.{
   length,
   slice_get,
 };
-ghost use Rattle.nit_word.specs.Inks.{IsWord};
-ghost use Rattle.nit_stack.specs.Sources.{pixel};
-ghost use Rattle.nit_stack.specs.Stack.{SlotView, is_slot};
-ghost use Rattle.nit_damage.specs.Cutter.{FitsStack};
-ghost use Rattle.nit_paint.specs.FrameCopy.{AreSet};
-ghost use Rattle.nit_overlay.specs.Frame.{frame};
-ghost use Rattle.nit_overlay.specs.Look.{IsLook, scenery};
-ghost use Rattle.nit_repaint.specs.PixelsToCome.{is_to_come};
-ghost use Rattle.nit_repaint.specs.PixelOwners.{owner_passes};
-ghost use Rattle.nit_repaint.specs.WantedPixels.{is_wanted, wanted};
-ghost use Rattle.nit_repaint.specs.ShownPixels.{shown_at};
+ghost use Rattle.nit_repaint.specs.Terms.{AreSet, FitsStack, IsLook, IsWord, SlotView, frame, is_slot, is_to_come, is_wanted, owner_passes, pixel, scenery, shown_at, wanted};
 
 use crate::buffers::wanted_rect;
 use nit_damage::Cutter;

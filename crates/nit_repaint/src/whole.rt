@@ -1,9 +1,7 @@
 //! Loading by one list of glasses alone, where no session calls.
 
 ghost use Rattle.std.specs.Prelude.{◌≡◌, ◌*◌, ◌≤◌, length, map, true};
-ghost use Rattle.nit_paint.specs.Repaint.{Repainted};
-ghost use Rattle.nit_paint.specs.Pieces.{source_of_number};
-ghost use Rattle.nit_repaint.specs.Glasses.{HoldBuffers, glass_in};
+ghost use Rattle.nit_repaint.specs.Terms.{HoldBuffers, Repainted, glass_in, source_of_number};
 
 use crate::pieces::paint_to_come;
 use nit_damage::Cutter;

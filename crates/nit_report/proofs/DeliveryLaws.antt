@@ -1,20 +1,8 @@
 -- Deliveries are read exactly, up to three in a row.
-use Rattle.std.proofs.Common.{◌≡◌, ℕ, zero, suc, ◌≤◌, Bool, true, false, eqb, List, [], ◌∷◌, ◌++◌, length, Option, Some, None, refl, sym, ap, subst, ◌∙◌, arith, append_assoc}
-use Rattle.std.specs.Prelude.{codes}
-use Rattle.std.specs.List.{flat_map, AllByRecursion}
-use Rattle.std.proofs.lemmas.Bool.{eqb-true, true≢false}
-use Rattle.std.proofs.lemmas.List.{length-append}
-use Rattle.std.proofs.lemmas.Option.{some_pair_parts}
-use Rattle.nit_events.specs.declared.event.Item.{Item}
-use Rattle.nit_events.specs.declared.event.Delivery.{Delivery}
-use Rattle.nit_events.specs.declared.event.Routed.{Routed}
-use Rattle.nit_events.specs.Input.{delivery, deliveries_of, routed_as}
-use Rattle.nit_script.proofs.ForCallers.{stops, Exact, both, spaced, IsKind, kind}
-use Rattle.nit_report.specs.EntrySpelling.{delivery_spelling}
-use Rattle.nit_report.specs.EntryReaders.{delivery_at, one_in_front, deliveries_at, routed_at}
-use Rattle.nit_report.specs.JournalText.{FitsDelivery, FitsRouted}
+use Rattle.nit_report.proofs.Basics.{AllByRecursion, Delivery, Exact, FitsDelivery, FitsRouted, IsKind, Item, Routed, at_most_one, both, codes, deliveries_at, deliveries_of, delivery, delivery_spelling, eqb-true, flat_map, kind, one_in_front, routed_as, some_pair_parts, spaced, stops, true≢false}
+use Rattle.std.proofs.Common.{Bool, List, None, Option, Some, [], ap, append_assoc, arith, eqb, false, length, length-append, refl, subst, suc, sym, true, zero, ℕ, ◌++◌, ◌∙◌, ◌∷◌, ◌≡◌, ◌≤◌}
+use Rattle.nit_report.specs.EntryReaders.{delivery_at, routed_at}
 use Rattle.nit_report.proofs.EventLaws.{sessions, items}
-use Rattle.nit_events.proofs.ForCallers.{at_most_one}
 
 -- ---- ends of lines
 

@@ -1,9 +1,7 @@
 -- Draws that are made in turn.
-use Rattle.std.proofs.Common.{◌≡◌, ℕ, zero, suc, ◌+◌, List, [], ◌∷◌, ◌++◌, refl, sym, ap, ◌∙◌, arith, append_assoc, subst}
-use Rattle.std.specs.List.{flat_map, range_with_len}
-use Rattle.std.proofs.lemmas.List.{append-nil}
-use Rattle.std.proofs.lemmas.List.Concat.{flat_map-append}
-use Rattle.nit_report.specs.Draw.{Draw, Draws, AppendsDraws, draws_in_turn, for_each}
+use Rattle.std.proofs.Common.{List, [], ap, append_assoc, arith, refl, subst, suc, sym, zero, ℕ, ◌++◌, ◌+◌, ◌∙◌, ◌∷◌, ◌≡◌}
+use Rattle.nit_report.proofs.Basics.{AppendsDraws, Draw, Draws, append-nil, draws_in_turn, flat_map, flat_map-append, range_with_len}
+use Rattle.nit_report.specs.Draw.{for_each}
 
 -- draws in two parts
 pub in_turn_values : {A : Type 0} (ds es : List (Draw A)) (s : ℕ) → (draws_in_turn (ds ++ es) s).0 ≡ (draws_in_turn ds s).0 ++ (draws_in_turn es (draws_in_turn ds s).1).0

@@ -1,19 +1,12 @@
 -- How many drawn lines there are of a kind.
-use Rattle.std.proofs.Common.{◌≡◌, ℕ, zero, suc, ◌+◌, ◌*◌, ◌%◌, pos, Bool, true, cond, List, [], ◌∷◌, ◌++◌, length, refl, sym, ap, ◌∙◌, arith, count_by, slice_index_or}
-use Rattle.std.specs.List.{flat_map, range_with_len, sum_by}
-use Rattle.std.proofs.lemmas.List.Sums.{sum_by-append, sum_by-cons}
-use Rattle.nit_events.specs.declared.call.Call.{Call}
+use Rattle.std.proofs.Common.{Bool, List, [], ap, arith, cond, count_by, length, pos, refl, slice_index_or, suc, sym, true, zero, ℕ, ◌%◌, ◌*◌, ◌++◌, ◌+◌, ◌∙◌, ◌∷◌, ◌≡◌}
+use Rattle.nit_report.proofs.Basics.{Call, Device, Draw, InputLine, Line, Stroke, backdrop, buffer_lines, busy, busy_lines, click, clicks, draws_in_turn, first_phase, flat_map, input_phases, is_call, is_device, is_input_phase, is_phase, is_shot_line, just, kinds, phase_end, phases, places, range_with_len, second_phase, seed, some_motion, sum_by, sum_by-append, sum_by-cons, titled, titles, user_phase_end, user_phases, views, xray_shot}
+use Rattle.nit_report.specs.Draw.{for_each}
+use Rattle.nit_report.specs.Generator.{client_script, placed, user_script}
 use Rattle.nit_events.specs.declared.call.Call.TheVariants as call
-use Rattle.nit_script.specs.declared.line.Stroke.{Stroke}
-use Rattle.nit_script.specs.declared.line.Line.{Line}
 use Rattle.nit_script.specs.declared.line.Line.TheVariants as line
-use Rattle.nit_script.specs.declared.line.InputLine.{InputLine}
 use Rattle.nit_script.specs.declared.line.InputLine.TheVariants as input
-use Rattle.nit_events.specs.declared.device.Device.{Device}
 use Rattle.nit_events.specs.declared.device.Device.TheVariants as device
-use Rattle.nit_script.specs.Phases.{is_phase, phases, is_input_phase, input_phases}
-use Rattle.nit_report.specs.Draw.{Draw, just, draws_in_turn, for_each}
-use Rattle.nit_report.specs.Generator.{backdrop, placed, titled, kinds, busy, buffer_lines, views, places, titles, busy_lines, phase_end, first_phase, second_phase, client_script, some_motion, click, clicks, user_phase_end, xray_shot, user_phases, user_script, seed, is_call, is_device, is_shot_line}
 use Rattle.nit_report.proofs.DrawLemmas.{in_turn_values}
 
 -- one that passes a test, and none

@@ -1,15 +1,11 @@
 -- Drawn lines are within the grammar of scripts.
-use Rattle.std.proofs.Common.{◌≡◌, ℕ, zero, suc, ◌+◌, ◌-◌, ◌/◌, ◌%◌, ◌<◌, ◌≤◌, ◌^◌, pos, negsuc, ◌-ℤ◌, Bool, true, false, cond, ltb, List, [], ◌∷◌, ◌++◌, refl, arith, slice_index_or, rules}
-use Rattle.std.specs.List.{flat_map, range_with_len, AllByRecursion}
+use Rattle.nit_report.proofs.Basics.{AllByRecursion, Draw, FitsInputLine, FitsInt, FitsLine, InputLine, Line, all_append, backdrop, buffer_lines, busy_lines, checked, click, clicks, draws_in_turn, filled, first_phase, flat_map, following, just, kinds, phase_end, places, range_with_len, refreshed, second_phase, seed, shifted, some_motion, some_view, titled, titles, user_phase_end, user_phases, views, xray_shot}
+use Rattle.std.proofs.Common.{Bool, List, [], arith, cond, false, ltb, negsuc, pos, refl, rules, slice_index_or, suc, true, zero, ℕ, ◌%◌, ◌++◌, ◌+◌, ◌-ℤ◌, ◌-◌, ◌/◌, ◌<◌, ◌^◌, ◌∷◌, ◌≡◌, ◌≤◌}
+use Rattle.nit_report.specs.Draw.{for_each}
+use Rattle.nit_report.specs.Generator.{client_script, from_outside, placed, some_colour, some_part, user_script}
 use Rattle.nit_events.specs.declared.call.Call.TheVariants as call
-use Rattle.nit_script.specs.declared.line.Line.{Line}
 use Rattle.nit_script.specs.declared.line.Line.TheVariants as line
-use Rattle.nit_script.specs.declared.line.InputLine.{InputLine}
-use Rattle.nit_script.specs.Spelling.{FitsInt, FitsLine, FitsInputLine}
-use Rattle.nit_report.specs.Draw.{Draw, following, just, draws_in_turn, for_each}
-use Rattle.nit_report.specs.Generator.{some_colour, backdrop, some_part, filled, checked, refreshed, from_outside, placed, shifted, titled, some_view, kinds, buffer_lines, views, places, titles, busy_lines, phase_end, first_phase, second_phase, client_script, some_motion, click, clicks, user_phase_end, xray_shot, user_phases, user_script, seed}
 use Rattle.nit_report.proofs.Titles.{is_title}
-use Rattle.nit_rect.proofs.ForCallers.{all_append}
 
 -- ---- draws of which all values have a property
 

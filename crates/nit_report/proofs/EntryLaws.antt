@@ -1,20 +1,8 @@
 -- Entries are read exactly.
-use Rattle.std.proofs.Common.{◌≡◌, ℕ, List, ◌∷◌, ◌++◌, Some, refl, sym, ap, ◌∙◌}
-use Rattle.std.specs.Prelude.{codes}
-use Rattle.nit_events.specs.declared.call.Call.{Call}
-use Rattle.nit_events.specs.declared.call.Reply.{Reply}
-use Rattle.nit_events.specs.declared.device.Device.{Device}
-use Rattle.nit_events.specs.declared.event.Routed.{Routed}
-use Rattle.nit_events.specs.declared.entry.Entry.{Entry}
+use Rattle.nit_report.proofs.Basics.{Call, Device, Entry, Exact, FitsCall, FitsDevice, FitsEntry, IsKind, IsReader, Reply, Routed, Takes, anything, both, call_again, call_at, call_spelling, call_takes, codes, deliveries_of, device_again, device_at, device_spelling, device_takes, ended_again, ended_takes, entry_spelling, first_takes, kind, nothing, spaced, stops}
+use Rattle.std.proofs.Common.{List, Some, ap, refl, sym, ℕ, ◌++◌, ◌∙◌, ◌∷◌, ◌≡◌}
+use Rattle.nit_report.specs.EntryReaders.{answered_at, behind_reply_at, entry_at, entry_front_at, final_at, input_entry_at, shot_entry_at}
 use Rattle.nit_events.specs.declared.entry.Entry.TheVariants as entry
-use Rattle.nit_events.specs.Input.{deliveries_of}
-use Rattle.nit_script.specs.CallReaders.{call_at}
-use Rattle.nit_script.specs.InputReaders.{device_at}
-use Rattle.nit_script.specs.Spelling.{call_spelling, device_spelling, FitsCall, FitsDevice}
-use Rattle.nit_script.proofs.ForCallers.{stops, Exact, both, spaced, nothing, anything, Takes, IsKind, kind, first_takes, ended_takes, ended_again, call_takes, call_again, device_takes, device_again, IsReader}
-use Rattle.nit_report.specs.EntrySpelling.{entry_spelling}
-use Rattle.nit_report.specs.EntryReaders.{behind_reply_at, answered_at, input_entry_at, shot_entry_at, final_at, entry_front_at, entry_at}
-use Rattle.nit_report.specs.JournalText.{FitsEntry}
 use Rattle.nit_report.proofs.EventLaws.{first_some, sessions, shots}
 use Rattle.nit_report.proofs.DeliveryLaws.{ends, line_end, routes, stops_behind}
 use Rattle.nit_report.proofs.ReplyLaws.{replies}

@@ -1,20 +1,11 @@
 -- Numbers of sessions and shots, events and items are read exactly.
-use Rattle.std.proofs.Common.{◌≡◌, ℕ, true, List, ◌++◌, Option, Some, refl, arith}
-use Rattle.std.specs.Prelude.{codes}
-use Rattle.std.proofs.lemmas.Bool.{and_parts, and_from, leb-true, le-leb}
-use Rattle.nit_events.specs.declared.device.Device.{Device}
+use Rattle.nit_report.proofs.Basics.{Device, Event, Exact, FitsDevice, FitsEvent, FitsItem, FitsSession, FitsShot, IsKind, Item, Takes, and_from, and_parts, anything, at_made, codes, device_again, device_spelling, device_takes, event_spelling, first_of, first_takes, focus_enter_at, focus_leave_at, is_session_number, is_shot_number, item_spelling, kind, leave_at, leb-true, made_takes, nat, nat_fields, nothing, session_field, shot_field, stops, tested, told}
+use Rattle.std.proofs.Common.{List, Option, Some, arith, le-leb, refl, true, ℕ, ◌++◌, ◌≡◌}
+use Rattle.nit_report.specs.EntryReaders.{event_at, item_at, kill_at}
+use Rattle.nit_script.specs.InputReaders.{device_at, motion_at, press_at, release_at, wheel_at}
 use Rattle.nit_events.specs.declared.device.Device.TheVariants as device
-use Rattle.nit_events.specs.declared.event.Event.{Event}
 use Rattle.nit_events.specs.declared.event.Event.TheVariants as event
-use Rattle.nit_events.specs.declared.event.Item.{Item}
 use Rattle.nit_events.specs.declared.event.Item.TheVariants as item
-use Rattle.nit_script.specs.FieldReaders.{first_of, at_made}
-use Rattle.nit_script.specs.InputReaders.{device_at, press_at, release_at, motion_at, wheel_at}
-use Rattle.nit_script.specs.Spelling.{nat, device_spelling, FitsDevice}
-use Rattle.nit_script.proofs.ForCallers.{stops, Exact, tested, nothing, anything, nat_fields, Takes, IsKind, kind, first_takes, made_takes, device_takes, device_again}
-use Rattle.nit_report.specs.EntrySpelling.{event_spelling, item_spelling}
-use Rattle.nit_report.specs.EntryReaders.{is_session_number, is_shot_number, session_field, shot_field, told, leave_at, focus_enter_at, focus_leave_at, event_at, kill_at, item_at}
-use Rattle.nit_report.specs.JournalText.{FitsSession, FitsShot, FitsEvent, FitsItem}
 
 -- the first of two that is there is the first
 pub first_some : {A : Type 0} (o p : Option A) (x : A) → o ≡ Some x → first_of o p ≡ Some x

@@ -1,21 +1,16 @@
 -- Worked rows of the texts, computed from the definitions.
-use Rattle.std.proofs.Common.{◌≡◌, pos, negsuc, List, [], ◌∷◌, ◌++◌, Some, None, refl}
-use Rattle.std.specs.Prelude.{codes}
+use Rattle.std.proofs.Common.{List, None, Some, [], negsuc, pos, refl, ◌++◌, ◌∷◌, ◌≡◌}
+use Rattle.nit_report.proofs.Basics.{Closed, Entry, Killed, Live, codes, entry_spelling, events_text, journal_text, reply_spelling}
+use Rattle.nit_report.specs.EntryReaders.{answered_at, behind_reply_at, done_at, entry_at, entry_front_at, reply_at}
+use Rattle.nit_script.specs.CallReaders.{buffer_at, call_at, session_call_at, view_at}
+use Rattle.nit_script.specs.FieldReaders.{nat_at}
 use Rattle.std.specs.Fmt.{digits}
 use Rattle.nit_events.specs.declared.call.Call.TheVariants as call
 use Rattle.nit_events.specs.declared.call.Reply.TheVariants as reply
 use Rattle.nit_events.specs.declared.device.Device.TheVariants as device
 use Rattle.nit_events.specs.declared.event.Event.TheVariants as event
 use Rattle.nit_events.specs.declared.event.Item.TheVariants as item
-use Rattle.nit_events.specs.declared.event.Status.TheVariants.{Live, Closed, Killed}
-use Rattle.nit_events.specs.declared.entry.Entry.{Entry}
 use Rattle.nit_events.specs.declared.entry.Entry.TheVariants as entry
-use Rattle.nit_script.specs.FieldReaders.{nat_at}
-use Rattle.nit_script.specs.CallReaders.{call_at, session_call_at, buffer_at, view_at}
-use Rattle.nit_report.specs.EntryReaders.{done_at, reply_at, behind_reply_at, answered_at, entry_front_at, entry_at}
-use Rattle.nit_report.specs.EntrySpelling.{entry_spelling, reply_spelling}
-use Rattle.nit_report.specs.JournalText.{journal_text}
-use Rattle.nit_report.specs.EventsText.{events_text}
 
 -- two clients whose windows meet, a shot between
 abbrev journal : List Entry

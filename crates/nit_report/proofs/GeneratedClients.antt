@@ -1,14 +1,7 @@
 -- The configuration of a generated run is within the ranges of the format.
-use Rattle.std.proofs.Common.{◌≡◌, ◌≢◌, ℕ, ◌+◌, ◌<◌, true, map, get_or, IsTrue, refl, sym, ap, subst, ◌∙◌, arith, le-leb, drop}
-use Rattle.std.specs.List.{range_with_len}
-use Rattle.std.proofs.lemmas.Bool.{false≢true}
-use Rattle.std.proofs.lemmas.Fmt.{decimal_digit, decimal_injective}
-use Rattle.std.proofs.lemmas.List.FromFn.{get_or-map-range_with_len}
-use Rattle.nit_glyph.specs.Texts.{is_label_byte, is_label}
-use Rattle.nit_config.specs.declared.config.Member.{Member}
-use Rattle.nit_config.specs.Configuration.{is_file_name}
-use Rattle.nit_config.specs.ConfigurationRanges.{IsMember, IsConfiguration}
-use Rattle.nit_report.specs.Generator.{client_label, script_name, generated_member, generated_configuration}
+use Rattle.std.proofs.Common.{IsTrue, ap, arith, drop, get_or, le-leb, map, refl, subst, sym, true, ℕ, ◌+◌, ◌<◌, ◌∙◌, ◌≡◌, ◌≢◌}
+use Rattle.nit_report.proofs.Basics.{IsConfiguration, IsMember, Member, client_label, decimal_digit, decimal_injective, false≢true, generated_member, get_or-map-range_with_len, is_file_name, is_label, is_label_byte, range_with_len, script_name}
+use Rattle.nit_report.specs.Generator.{generated_configuration}
 use Rattle.nit_report.proofs.Titles.{digit_is_printable}
 
 label_byte : (d : ℕ) → d < 10 → is_label_byte (48 + d) ≡ true

@@ -1,12 +1,10 @@
 -- Worked rows of a generated run: what these lines are was worked out apart from the definitions.
-use Rattle.std.proofs.Common.{◌≡◌, [], ◌∷◌, ◌++◌, drop, refl}
-use Rattle.std.specs.Prelude.{codes}
-use Rattle.std.specs.List.{flat_map}
+use Rattle.std.proofs.Common.{[], drop, refl, ◌++◌, ◌∷◌, ◌≡◌}
+use Rattle.nit_report.proofs.Basics.{buffer_lines, busy, click, codes, draws_in_turn, first_phase, flat_map, input_spelling, line_spelling, seed, spelled, user_phase_end, xray_shot}
+use Rattle.nit_report.specs.Draw.{following, for_each}
+use Rattle.nit_report.specs.Generator.{config_text, from_outside, placed, some_colour, some_part}
+use Rattle.nit_script.specs.Spelling.{hex_digits}
 use Rattle.std.specs.Fmt.{digits}
-use Rattle.nit_script.specs.Spelling.{hex_digits, line_spelling, input_spelling}
-use Rattle.nit_script.specs.Grammar.{spelled}
-use Rattle.nit_report.specs.Draw.{following, draws_in_turn, for_each}
-use Rattle.nit_report.specs.Generator.{some_colour, some_part, from_outside, placed, busy, buffer_lines, first_phase, click, user_phase_end, xray_shot, seed, config_text}
 
 -- run 7, client 3: its buffer and the place of its first view
 begun : flat_map (spelled line_spelling) (draws_in_turn (buffer_lines ++ for_each 1 1 (λ v. placed v ∷ [])) (seed 7 3)).0

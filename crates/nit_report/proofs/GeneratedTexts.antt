@@ -1,8 +1,6 @@
 -- The texts of a generated run spell its scripts.
-use Rattle.std.proofs.Common.{ℕ, ◌+◌, zero, suc, map, refl}
-use Rattle.std.specs.List.{range_with_len, AllZip}
-use Rattle.nit_script.specs.Grammar.{ReadsClient, ReadsInput}
-use Rattle.nit_report.specs.Generator.{client_script, client_text, user_script, user_text}
+use Rattle.std.proofs.Common.{map, refl, suc, zero, ℕ, ◌+◌}
+use Rattle.nit_report.proofs.Basics.{AllZip, ReadsClient, ReadsInput, client_script, client_text, range_with_len, user_script, user_text}
 use Rattle.nit_report.proofs.DrawnFits.{client_fits, user_fits}
 
 pub client_reads : (n c : ℕ) → ReadsClient (client_text n c) (client_script n c)

@@ -1,16 +1,6 @@
 -- The entries of a journal, one after the other, and that only one answer fits the bytes.
-use Rattle.std.proofs.Common.{◌≡◌, ℕ, ◌+◌, ◌≤◌, ◌<◌, List, [], ◌∷◌, ◌++◌, length, Some, None, Result, Ok, Err, sym, ap, subst, arith}
-use Rattle.std.specs.Prelude.{IfOk, IsOkAnd}
-use Rattle.std.specs.List.{flat_map}
-use Rattle.std.proofs.lemmas.List.{length-append}
-use Rattle.nit_events.specs.declared.entry.Entry.{Entry}
-use Rattle.nit_script.specs.Grammar.{spelled, Begins}
-use Rattle.nit_script.proofs.ForCallers.{begins_more, no_reading, nothing_spelled, reads_begins, same_lines, same_read}
-use Rattle.nit_report.specs.declared.error.JournalError.{JournalError}
-use Rattle.nit_report.specs.declared.error.JournalError.TheVariants.{Bad, NoMemory}
-use Rattle.nit_report.specs.EntrySpelling.{entry_spelling}
-use Rattle.nit_report.specs.EntryReaders.{entry_at}
-use Rattle.nit_report.specs.JournalText.{FitsEntry, ReadsJournal, IsFirstBadEntry, IsJournalAnswer, UnlessNoMemory}
+use Rattle.nit_report.proofs.Basics.{Bad, Begins, Entry, FitsEntry, IfOk, IsFirstBadEntry, IsJournalAnswer, IsOkAnd, JournalError, NoMemory, ReadsJournal, UnlessNoMemory, begins_more, entry_at, entry_spelling, flat_map, no_reading, nothing_spelled, reads_begins, same_lines, same_read, spelled}
+use Rattle.std.proofs.Common.{Err, List, None, Ok, Result, Some, [], ap, arith, length, length-append, subst, sym, ℕ, ◌++◌, ◌+◌, ◌<◌, ◌∷◌, ◌≡◌, ◌≤◌}
 use Rattle.nit_report.proofs.EntryLaws.{journal_reader}
 
 -- what a loop over the lines has read

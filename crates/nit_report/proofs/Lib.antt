@@ -13,3 +13,5 @@ pub mod GeneratedClients
 pub mod GeneratedTexts
 pub mod JournalLemmas
 pub mod ForCallers
+pub mod Basics
+pub mod Lemmas

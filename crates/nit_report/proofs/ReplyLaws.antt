@@ -1,14 +1,8 @@
 -- Replies are read exactly.
-use Rattle.std.proofs.Common.{◌≡◌, ℕ, true, List, [], ◌++◌, Option, Some, refl}
-use Rattle.std.specs.Prelude.{codes}
-use Rattle.nit_events.specs.declared.event.Event.{Event}
-use Rattle.nit_events.specs.declared.call.Reply.{Reply}
+use Rattle.nit_report.proofs.Basics.{Event, Exact, FitsReply, IsKind, Reply, Takes, anything, both, codes, first_of, first_takes, kind, nat_fields, nothing, plain_at, reply_spelling, spaced, stops}
+use Rattle.std.proofs.Common.{List, Option, Some, [], refl, true, ℕ, ◌++◌, ◌≡◌}
+use Rattle.nit_report.specs.EntryReaders.{bad_at, done_at, event_reply_at, handle_at, holding_at, no_view_at, quota_at, reply_at, reserve_at}
 use Rattle.nit_events.specs.declared.call.Reply.TheVariants as reply
-use Rattle.nit_script.specs.FieldReaders.{first_of}
-use Rattle.nit_script.proofs.ForCallers.{stops, Exact, both, spaced, nothing, anything, nat_fields, Takes, IsKind, kind, first_takes}
-use Rattle.nit_report.specs.EntrySpelling.{reply_spelling}
-use Rattle.nit_report.specs.EntryReaders.{plain_at, done_at, bad_at, event_reply_at, handle_at, no_view_at, quota_at, reserve_at, holding_at, reply_at}
-use Rattle.nit_report.specs.JournalText.{FitsReply}
 use Rattle.nit_report.proofs.EventLaws.{events}
 
 plain_takes : (w : List ℕ) (r : Reply) → w ++ [] ≡ reply_spelling r → FitsReply r → Takes (plain_at w r) reply_spelling FitsReply

@@ -1,9 +1,6 @@
 -- The titles of generated views.
-use Rattle.std.proofs.Common.{◌≡◌, ℕ, ◌+◌, ◌/◌, ◌%◌, ◌≤◌, ◌<◌, true, List, [], ◌∷◌, ◌++◌, length, IsTrue, refl, ap, ◌∙◌, arith, inl, inr}
-use Rattle.std.specs.Fmt.{decimal}
-use Rattle.std.proofs.lemmas.Fmt.{decimal_digit, decimal_step}
-use Rattle.std.proofs.lemmas.Bool.{le-leb, cases_lt}
-use Rattle.nit_events.specs.Text.{is_printable, is_text}
+use Rattle.std.proofs.Common.{IsTrue, List, [], ap, arith, inl, inr, le-leb, length, refl, true, ℕ, ◌%◌, ◌++◌, ◌+◌, ◌/◌, ◌<◌, ◌∙◌, ◌∷◌, ◌≡◌, ◌≤◌}
+use Rattle.nit_report.proofs.Basics.{cases_lt, decimal, decimal_digit, decimal_step, is_printable, is_text}
 
 -- a digit is printable
 pub digit_is_printable : (d : ℕ) → d < 10 → is_printable (48 + d) ≡ true

@@ -1,6 +1,6 @@
 -- Values that are drawn from a stream of numbers, one after the other.
 use Rattle.std.specs.Prelude.{◌≡◌, ℕ, ◌+◌, ◌*◌, ◌/◌, ◌%◌, ◌^◌, List, [], ◌∷◌, ◌++◌}
-use Rattle.std.specs.List.{flat_map, range_with_len}
+use Rattle.nit_report.specs.Below.{flat_map, range_with_len}
 
 -- the number that follows another in a stream
 unfoldable pub following : ℕ → ℕ

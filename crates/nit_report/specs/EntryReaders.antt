@@ -1,23 +1,11 @@
 -- Entries of a journal read from left to right, each as its value and the rest.
 use Rattle.std.specs.Prelude.{ℕ, zero, suc, Bool, ◌&&◌, nat_le, List, [], ◌∷◌, Option, Some, None, codes}
-use Rattle.nit_events.specs.declared.call.Call.{Call}
-use Rattle.nit_events.specs.declared.call.Reply.{Reply}
+use Rattle.nit_report.specs.Below.{Call, Delivery, Device, Entry, Event, Item, Reply, Routed, at_both, at_ended, at_kind, at_made, at_spaced, at_tested, call_at, device_at, first_of, most_lines, nat_field, nothing_at, routed_as}
 use Rattle.nit_events.specs.declared.call.Reply.TheVariants as reply
-use Rattle.nit_events.specs.declared.device.Device.{Device}
 use Rattle.nit_events.specs.declared.device.Device.TheVariants as device
-use Rattle.nit_events.specs.declared.event.Event.{Event}
 use Rattle.nit_events.specs.declared.event.Event.TheVariants as event
-use Rattle.nit_events.specs.declared.event.Item.{Item}
 use Rattle.nit_events.specs.declared.event.Item.TheVariants as item
-use Rattle.nit_events.specs.declared.event.Delivery.{Delivery}
-use Rattle.nit_events.specs.declared.event.Routed.{Routed}
-use Rattle.nit_events.specs.declared.entry.Entry.{Entry}
 use Rattle.nit_events.specs.declared.entry.Entry.TheVariants as entry
-use Rattle.nit_events.specs.Input.{routed_as}
-use Rattle.nit_script.specs.FieldReaders.{first_of, nothing_at, at_spaced, at_both, at_made, at_tested, at_kind, at_ended, nat_field}
-use Rattle.nit_script.specs.CallReaders.{call_at}
-use Rattle.nit_script.specs.InputReaders.{device_at}
-use Rattle.nit_script.specs.Grammar.{most_lines}
 
 -- ---- numbers
 

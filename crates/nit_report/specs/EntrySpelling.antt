@@ -1,18 +1,11 @@
 -- How the entries of a journal are spelled, and what they hold: events, items, deliveries and
 -- replies.
 use Rattle.std.specs.Prelude.{ℕ, List, ◌∷◌, ◌++◌, codes}
-use Rattle.std.specs.List.{flat_map}
-use Rattle.nit_events.specs.declared.event.Event.{Event}
+use Rattle.nit_report.specs.Below.{Delivery, Entry, Event, Item, Reply, call_spelling, deliveries_of, device_spelling, flat_map, int, nat}
 use Rattle.nit_events.specs.declared.event.Event.TheVariants as event
-use Rattle.nit_events.specs.declared.event.Item.{Item}
 use Rattle.nit_events.specs.declared.event.Item.TheVariants as item
-use Rattle.nit_events.specs.declared.event.Delivery.{Delivery}
-use Rattle.nit_events.specs.declared.call.Reply.{Reply}
 use Rattle.nit_events.specs.declared.call.Reply.TheVariants as reply
-use Rattle.nit_events.specs.declared.entry.Entry.{Entry}
 use Rattle.nit_events.specs.declared.entry.Entry.TheVariants as entry
-use Rattle.nit_events.specs.Input.{deliveries_of}
-use Rattle.nit_script.specs.Spelling.{nat, int, call_spelling, device_spelling}
 
 -- an event: what a device does as in a script of the user's input, and three words of their own
 abbrev pub event_spelling : Event → List ℕ

@@ -1,15 +1,10 @@
 -- The text of the events that a session has taken.
 use Rattle.std.specs.Prelude.{ℕ, ◌==◌, List, [], ◌∷◌, ◌++◌, codes, if◌then◌else◌}
-use Rattle.std.specs.List.{flat_map}
-use Rattle.nit_events.specs.declared.event.Event.{Event}
-use Rattle.nit_events.specs.declared.event.Status.{Status}
+use Rattle.nit_report.specs.Below.{Entry, Event, Status, flat_map, nat, spelled}
 use Rattle.nit_events.specs.declared.event.Status.TheVariants as status
 use Rattle.nit_events.specs.declared.call.Call.TheVariants as call
 use Rattle.nit_events.specs.declared.call.Reply.TheVariants as reply
-use Rattle.nit_events.specs.declared.entry.Entry.{Entry}
 use Rattle.nit_events.specs.declared.entry.Entry.TheVariants as entry
-use Rattle.nit_script.specs.Spelling.{nat}
-use Rattle.nit_script.specs.Grammar.{spelled}
 use Rattle.nit_report.specs.EntrySpelling.{event_spelling}
 use Rattle.nit_report.specs.declared.events.Ending.{Ending}
 

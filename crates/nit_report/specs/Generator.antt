@@ -2,19 +2,11 @@
 -- script. The lines of each script are drawn from a stream of its own.
 use Rattle.std.specs.Prelude.{ℕ, ◌+◌, ◌*◌, ◌%◌, ◌^◌, ℤ, pos, ◌-ℤ◌, Bool, true, false}
 use Rattle.std.specs.Prelude.{List, [], ◌∷◌, ◌++◌, map, slice_index_or, codes}
-use Rattle.std.specs.List.{flat_map, range_with_len}
-use Rattle.std.specs.Fmt.{decimal}
-use Rattle.nit_config.specs.declared.config.Member.{Member}
-use Rattle.nit_config.specs.Configuration.{Configuration}
+use Rattle.nit_report.specs.Below.{Check, Configuration, Fill, InputLine, Line, Member, decimal, flat_map, input_spelling, line_spelling, range_with_len, spelled}
 use Rattle.nit_events.specs.declared.call.Call.TheVariants as call
 use Rattle.nit_events.specs.declared.device.Device.TheVariants as device
-use Rattle.nit_script.specs.declared.line.Stroke.TheVariants.{Fill, Check}
-use Rattle.nit_script.specs.declared.line.Line.{Line}
 use Rattle.nit_script.specs.declared.line.Line.TheVariants as line
-use Rattle.nit_script.specs.declared.line.InputLine.{InputLine}
 use Rattle.nit_script.specs.declared.line.InputLine.TheVariants as input
-use Rattle.nit_script.specs.Spelling.{line_spelling, input_spelling}
-use Rattle.nit_script.specs.Grammar.{spelled}
 use Rattle.nit_report.specs.Draw.{Draw, below, just, ◌>>=◌, draws_in_turn, for_each}
 use Rattle.nit_report.specs.declared.drawn_lines.Part.{Part}
 use Rattle.nit_report.specs.Files.{FilesModel}

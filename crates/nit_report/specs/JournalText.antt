@@ -1,20 +1,10 @@
 -- The text of a journal, and the entries that it can tell.
 use Rattle.std.specs.Prelude.{◌≡◌, ◌≢◌, ◌≤◌, ℕ, ◌+◌, List, [], length, Result, Ok, Err}
-use Rattle.std.specs.List.{flat_map, AllByRecursion}
-use Rattle.nit_events.specs.declared.event.Event.{Event}
+use Rattle.nit_report.specs.Below.{AllByRecursion, Begins, Delivery, Entry, Event, FitsCall, FitsDevice, FitsNat, FitsPointerPlace, HasNoReading, IsCode, IsWheel, Item, Reads, Reply, Routed, deliveries_of, flat_map, most_lines, routed_as, spelled}
 use Rattle.nit_events.specs.declared.event.Event.TheVariants as event
-use Rattle.nit_events.specs.declared.event.Item.{Item}
 use Rattle.nit_events.specs.declared.event.Item.TheVariants as item
-use Rattle.nit_events.specs.declared.event.Delivery.{Delivery}
-use Rattle.nit_events.specs.declared.event.Routed.{Routed}
-use Rattle.nit_events.specs.declared.call.Reply.{Reply}
 use Rattle.nit_events.specs.declared.call.Reply.TheVariants as reply
-use Rattle.nit_events.specs.declared.entry.Entry.{Entry}
 use Rattle.nit_events.specs.declared.entry.Entry.TheVariants as entry
-use Rattle.nit_events.specs.Input.{deliveries_of, routed_as}
-use Rattle.nit_events.specs.Ranges.{IsCode, IsWheel}
-use Rattle.nit_script.specs.Spelling.{FitsNat, FitsPointerPlace, FitsCall, FitsDevice}
-use Rattle.nit_script.specs.Grammar.{spelled, Reads, HasNoReading, Begins, most_lines}
 use Rattle.nit_report.specs.EntrySpelling.{entry_spelling}
 use Rattle.nit_report.specs.declared.error.JournalError.{JournalError}
 use Rattle.nit_report.specs.declared.error.JournalError.TheVariants.{Bad, NoMemory}

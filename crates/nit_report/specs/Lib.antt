@@ -8,3 +8,5 @@ pub mod Files
 pub mod Generator
 -- what the private readers do, which no public clause cites
 pub mod EntryReaders
+pub mod Below
+pub mod Terms

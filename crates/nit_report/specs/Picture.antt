@@ -1,8 +1,6 @@
 -- Pictures in the P6 form of Netpbm's PPM.
 use Rattle.std.specs.Prelude.{ℕ, ◌+◌, ◌*◌, List, [], ◌∷◌, ◌++◌, length, codes}
-use Rattle.std.specs.List.{flat_map}
-use Rattle.std.specs.Fmt.{decimal}
-use Rattle.nit_word.specs.Channels.{channels}
+use Rattle.nit_report.specs.Below.{channels, decimal, flat_map}
 
 -- the width and the height in decimal, and the greatest value of a channel
 abbrev pub picture_header : ℕ → ℕ → List ℕ

@@ -1,9 +1,7 @@
 //! Lines of generated scripts, each drawn from a stream.
 
 ghost use Rattle.std.specs.Prelude.{◌≡◌, ◌<◌, ◌≤◌};
-ghost use Rattle.nit_report.specs.Draw.{Draws};
-ghost use Rattle.nit_report.specs.Generator.{some_colour, backdrop, some_part, filled, checked, refreshed};
-ghost use Rattle.nit_report.specs.Generator.{from_outside, placed, shifted, some_view, some_motion};
+ghost use Rattle.nit_report.specs.Terms.{Draws, backdrop, checked, filled, from_outside, placed, refreshed, shifted, some_colour, some_motion, some_part, some_view};
 
 use crate::stream::Stream;
 use nit_events::{Call, Device};

@@ -1,5 +1,5 @@
 ghost use Rattle.std.specs.Prelude.{◌≡◌};
-ghost use Rattle.nit_report.specs.declared.error.JournalError.TheVariants.{NoMemory};
+ghost use Rattle.nit_report.specs.Terms.{NoMemory};
 
 use std::alloc::AllocFailed;
 use std::error::Error;

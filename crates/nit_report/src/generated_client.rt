@@ -1,10 +1,7 @@
 //! The script of a client of a generated run.
 
 ghost use Rattle.std.specs.Prelude.{◌≡◌, ◌≤◌, ◌++◌, ℕ, [], ◌∷◌, codes, IfOk, OnOk};
-ghost use Rattle.std.specs.Fmt.{decimal};
-ghost use Rattle.nit_report.specs.Draw.{Draws, AppendsDraws};
-ghost use Rattle.nit_report.specs.Generator.{views, places, titles, busy};
-ghost use Rattle.nit_report.specs.Generator.{first_phase, second_phase, client_script};
+ghost use Rattle.nit_report.specs.Terms.{AppendsDraws, Draws, busy, client_script, decimal, first_phase, places, second_phase, titles, views};
 
 use crate::drawn_lines::{
     BUFFER, VIEWS, backdrop, checked, filled, placed, refreshed, shifted, some_view,

@@ -1,11 +1,7 @@
 //! The configuration of a generated run, as a value and as a text.
 
 ghost use Rattle.std.specs.Prelude.{◌≡◌, ◌+◌, ◌≤◌, [], ◌∷◌, ◌++◌, IsTrue, IfOk, OnOk};
-ghost use Rattle.std.specs.Fmt.{decimal};
-ghost use Rattle.nit_glyph.specs.Texts.{is_label};
-ghost use Rattle.nit_config.specs.ConfigurationRanges.{IsConfiguration};
-ghost use Rattle.nit_report.specs.Generator.{client_label, script_name, client_block, config_text};
-ghost use Rattle.nit_report.specs.Generator.{generated_member, generated_configuration};
+ghost use Rattle.nit_report.specs.Terms.{IsConfiguration, client_block, client_label, config_text, decimal, generated_configuration, generated_member, is_label, script_name};
 
 use crate::spelling::put_text;
 use nit_config::{Config, FileName, Member};

@@ -1,8 +1,7 @@
 //! The user's script of a generated run.
 
 ghost use Rattle.std.specs.Prelude.{◌≡◌, ◌++◌, ℕ, [], ◌∷◌, IfOk, OnOk};
-ghost use Rattle.nit_report.specs.Draw.{AppendsDraws};
-ghost use Rattle.nit_report.specs.Generator.{click, clicks, xray_shot, user_script};
+ghost use Rattle.nit_report.specs.Terms.{AppendsDraws, click, clicks, user_script, xray_shot};
 
 use crate::drawn_lines::moved;
 use crate::stream::Stream;

@@ -1,10 +1,7 @@
 //! The files of a generated run.
 
 ghost use Rattle.std.specs.Prelude.{◌≡◌, ◌≤◌, map, IfOk};
-ghost use Rattle.std.specs.List.{range_with_len, AllZip};
-ghost use Rattle.nit_script.specs.Grammar.{ReadsClient, ReadsInput};
-ghost use Rattle.nit_report.specs.Generator.{client_script, client_text, user_script, user_text};
-ghost use Rattle.nit_report.specs.Generator.{generated};
+ghost use Rattle.nit_report.specs.Terms.{AllZip, ReadsClient, ReadsInput, client_script, client_text, generated, range_with_len, user_script, user_text};
 
 use crate::generated_client::client_script;
 use crate::generated_config::{CLIENTS, config_text};

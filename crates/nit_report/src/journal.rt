@@ -1,11 +1,8 @@
 //! The text of a journal.
 
 ghost use Rattle.std.specs.Prelude.{◌≡◌, ◌++◌, IfOk, OnOk};
-ghost use Rattle.std.specs.List.{flat_map, AllByRecursion};
-ghost use Rattle.nit_events.specs.Input.{delivery, deliveries_of};
+ghost use Rattle.nit_report.specs.Terms.{AllByRecursion, FitsEntry, ReadsJournal, deliveries_of, delivery, delivery_spelling, entry_spelling, flat_map, journal_text};
 ghost use Rattle.nit_events.specs.declared.entry.Entry.TheVariants as entry;
-ghost use Rattle.nit_report.specs.EntrySpelling.{delivery_spelling, entry_spelling};
-ghost use Rattle.nit_report.specs.JournalText.{journal_text, FitsEntry, ReadsJournal};
 
 use crate::spelling::{put_counted, put_delivery, put_reply, put_text};
 use nit_events::{Call, Delivery, Device, Entry, Reply, Routed};

@@ -2,11 +2,7 @@
 //! of a generated run have.
 
 ghost use Rattle.std.specs.Prelude.{◌≡◌, ℕ, List, length, count_by};
-ghost use Rattle.nit_events.specs.declared.entry.Entry.{Entry};
-ghost use Rattle.nit_script.specs.Phases.{phases, input_phases};
-ghost use Rattle.nit_report.specs.Generator.{client_script, is_call};
-ghost use Rattle.nit_report.specs.Generator.{user_script, is_device, is_shot_line};
-ghost use Rattle.nit_report.specs.JournalText.{ReadsJournal, IsFirstBadEntry};
+ghost use Rattle.nit_report.specs.Terms.{Entry, IsFirstBadEntry, ReadsJournal, client_script, input_phases, is_call, is_device, is_shot_line, phases, user_script};
 
 /// A text has one reading as a journal at most, and a list of entries has one text.
 pub fn journal_reading_is_one()

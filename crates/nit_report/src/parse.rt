@@ -1,9 +1,7 @@
 //! Journals, line by line.
 
 ghost use Rattle.std.specs.Prelude.{◌≡◌, ◌≤◌, ℕ, List, length, Err, IfOk, IsOkAnd};
-ghost use Rattle.nit_events.specs.declared.entry.Entry.{Entry};
-ghost use Rattle.nit_report.specs.JournalText.{ReadsJournal, IsFirstBadEntry, UnlessNoMemory, IsJournalAnswer};
-ghost use Rattle.nit_events.specs.Ranges.{most_read};
+ghost use Rattle.nit_report.specs.Terms.{Entry, IsFirstBadEntry, IsJournalAnswer, ReadsJournal, UnlessNoMemory, most_read};
 
 use crate::entries::take_entry;
 use crate::error::JournalError;

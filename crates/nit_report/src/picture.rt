@@ -1,12 +1,7 @@
 //! Pictures in the P6 form: <https://netpbm.sourceforge.net/doc/ppm.html>.
 
 ghost use Rattle.std.specs.Prelude.{◌≡◌, ◌+◌, ◌*◌, ◌<◌, ◌≤◌, ◌^◌, ◌++◌, length, take, All};
-ghost use Rattle.std.specs.List.{flat_map};
-ghost use Rattle.std.specs.Fmt.{decimal};
-ghost use Rattle.nit_word.specs.Inks.{IsWord};
-ghost use Rattle.nit_report.specs.Picture.{picture_header, picture, picture_length};
-ghost use Rattle.nit_rect.specs.Limits.{most_width, most_height};
-ghost use Rattle.nit_word.specs.Channels.{channels};
+ghost use Rattle.nit_report.specs.Terms.{IsWord, channels, decimal, flat_map, most_height, most_width, picture, picture_header, picture_length};
 
 use crate::write::{number, text};
 

@@ -1,12 +1,8 @@
 //! Words of a report at the end of bytes.
 
 ghost use Rattle.std.specs.Prelude.{◌≡◌, ◌++◌, OnOk};
-ghost use Rattle.std.specs.List.{flat_map};
-ghost use Rattle.std.specs.Fmt.{decimal};
+ghost use Rattle.nit_report.specs.Terms.{decimal, delivery_spelling, event_spelling, flat_map, item_spelling, nat, reply_spelling};
 ghost use Rattle.nit_events.specs.declared.call.Reply.TheVariants as reply;
-ghost use Rattle.nit_script.specs.Spelling.{nat};
-ghost use Rattle.nit_report.specs.EntrySpelling.{event_spelling, item_spelling};
-ghost use Rattle.nit_report.specs.EntrySpelling.{delivery_spelling, reply_spelling};
 
 use nit_events::{Delivery, Device, Event, Item, Reply};
 use nit_rect::NoMemory;

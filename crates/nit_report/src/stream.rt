@@ -1,8 +1,7 @@
 //! A stream of numbers, from which the lines of generated scripts are drawn.
 
 ghost use Rattle.std.specs.Prelude.{◌≡◌, ◌<◌, ◌≤◌};
-ghost use Rattle.nit_report.specs.Draw.{below, Draws};
-ghost use Rattle.nit_report.specs.Generator.{seed};
+ghost use Rattle.nit_report.specs.Terms.{Draws, below, seed};
 
 use std::marker::Model;
 

@@ -1,7 +1,7 @@
 //! Bytes that are written one after the other into a slice, without memory.
 
 ghost use Rattle.std.specs.Prelude.{◌≡◌, ◌+◌, ◌≤◌, ◌++◌, length, take, drop};
-ghost use Rattle.std.specs.Fmt.{decimal};
+ghost use Rattle.nit_report.specs.Terms.{decimal};
 
 /// Writes a text behind the first `at` bytes, and answers where it ends. All other bytes stay.
 pub fn text(out: &mut [u8], at: usize, text: &[u8]) -> usize

@@ -1,11 +1,8 @@
 -- Calls are read exactly.
-use Rattle.std.proofs.Common.{◌≡◌, ℕ, ℤ, List, ◌∷◌, ◌++◌, Option, Some, refl}
-use Rattle.std.specs.Prelude.{codes}
-use Rattle.nit_events.specs.declared.call.Call.{Call}
-use Rattle.nit_events.specs.declared.call.Call.TheVariants.{Buffer, View, Place, Offset, Front, Back, Above, Title, Destroy, Refresh, Take, Upgrade, Close}
-use Rattle.nit_script.specs.FieldReaders.{first_of}
-use Rattle.nit_script.specs.CallReaders.{buffer_at, view_at, refresh_at, take_at, upgrade_at, close_at, session_call_at, place_at, offset_at, front_at, back_at, above_at, title_at, destroy_at, view_call_at, call_at}
-use Rattle.nit_script.specs.Spelling.{FitsCall, call_spelling}
+use Rattle.std.proofs.Common.{List, Option, Some, refl, ℕ, ℤ, ◌++◌, ◌∷◌, ◌≡◌}
+use Rattle.nit_script.proofs.Basics.{Above, Back, Buffer, Call, Close, Destroy, FitsCall, Front, Offset, Place, Refresh, Take, Title, Upgrade, View, call_spelling, codes, first_of}
+use Rattle.nit_script.specs.CallReaders.{above_at, back_at, buffer_at, call_at, close_at, destroy_at, front_at, offset_at, place_at, refresh_at, session_call_at, title_at, upgrade_at, view_at, view_call_at}
+use Rattle.nit_script.specs.CallReaders.{take_at}
 use Rattle.nit_script.proofs.Exact.{both, nothing, anything, nat_fields, int_fields, text_fields, stops_text}
 use Rattle.nit_script.proofs.Digits.{stops}
 use Rattle.nit_script.proofs.LineKinds.{Takes, IsKind, kind, first_takes}

@@ -1,21 +1,8 @@
 -- Digits in front of bytes, and the numbers that they spell.
-use Rattle.std.proofs.Common.{◌≡◌, ℕ, zero, suc, ◌+◌, ◌-◌, ◌*◌, ◌^◌, ◌<◌, ◌≤◌, Bool, true, eqb, List, [], ◌∷◌, ◌++◌, length, get_or, take, drop, Some, refl, ◌∙◌, sym, ap, arith, inl, inr}
-use Rattle.std.specs.Prelude.{not}
-use Rattle.std.specs.List.{prefix_len}
-use Rattle.std.specs.Char.{is_ascii_digit, digit_value}
-use Rattle.std.specs.Str.Parse.{AllDigits, digits_value}
-use Rattle.std.specs.Int.{IsInRange}
-use Rattle.std.specs.Fmt.{decimal}
-use Rattle.std.proofs.lemmas.Bool.{and_parts, and_from, or_cases, or_right, or_left, ltb-true, leb-true, eqb-true, eq-eqb, ne_eqb, le-leb, lt-ltb, cases_Bool, not-true, eqb-false, cases_eq}
-use Rattle.std.proofs.lemmas.List.{append-nil, take_at, drop_at, take-append-drop}
-use Rattle.std.proofs.lemmas.List.Sums.{prefix_len-le-length}
-use Rattle.std.proofs.lemmas.List.Folds.{length-prefix_len}
-use Rattle.std.proofs.lemmas.Option.{cond_some}
-use Rattle.std.proofs.lemmas.Int.Digits.{digits_value_more}
-use Rattle.std.proofs.lemmas.Str.{digit_value_digit}
-use Rattle.std.proofs.lemmas.Str.Parse.{IsNumeralModel, digit_at, digit_from_value, digits_value_short, digits_value-take-le, numerals_by_value, tells_digits}
-use Rattle.std.proofs.lemmas.Fmt.{decimal-digits_value, decimal_is_IsNumeral, length-decimal-le, first_decimal, decimal_digit}
-use Rattle.nit_script.specs.FieldReaders.{nat_at, is_number}
+use Rattle.std.proofs.Common.{Bool, List, Some, [], ap, arith, drop, eqb, get_or, inl, inr, length, refl, suc, sym, take, true, zero, ℕ, ◌*◌, ◌++◌, ◌+◌, ◌-◌, ◌<◌, ◌^◌, ◌∙◌, ◌∷◌, ◌≡◌, ◌≤◌}
+use Rattle.nit_script.proofs.Basics.{AllDigits, IsInRange, IsNumeralModel, and_from, and_parts, append-nil, cases_Bool, cases_eq, cond_some, decimal, decimal-digits_value, decimal_digit, decimal_is_IsNumeral, digit_at, digit_from_value, digit_value, digit_value_digit, digits_value, digits_value-take-le, digits_value_more, digits_value_short, drop_at, eq-eqb, eqb-false, eqb-true, first_decimal, is_ascii_digit, is_number, le-leb, leb-true, length-decimal-le, length-prefix_len, lt-ltb, ltb-true, ne_eqb, not, not-true, numerals_by_value, or_cases, or_left, or_right, prefix_len, prefix_len-le-length, take-append-drop, tells_digits}
+use Rattle.nit_script.specs.FieldReaders.{nat_at}
+use Rattle.std.proofs.lemmas.List.{take_at}
 
 -- a byte that passes the test of a digit
 is_digit : (c : ℕ) → is_ascii_digit c ≡ true → IsInRange 48 57 c

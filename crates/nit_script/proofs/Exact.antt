@@ -1,20 +1,11 @@
 -- A reader takes what is spelled so, and nothing else.
-use Rattle.std.proofs.Common.{◌≡◌, ℕ, zero, suc, ◌+◌, ◌*◌, ◌/◌, ◌%◌, ◌^◌, ◌<◌, ◌≤◌, ℤ, pos, negsuc, Bool, true, eqb, List, [], ◌∷◌, ◌++◌, length, get_or, take, drop, Option, Some, None, refl, sym, ap, subst, ◌∙◌, arith, append_assoc, nat_eq}
-use Rattle.std.specs.Prelude.{not, if◌then◌else◌}
-use Rattle.std.specs.List.{starts_with, prefix_len, list_all}
-use Rattle.std.specs.Fmt.{decimal, signed_decimal}
-use Rattle.std.proofs.lemmas.Bool.{and_parts, not-true, eqb-true, eq-eqb, ne_eqb}
-use Rattle.std.proofs.lemmas.Bool.Decides.{nat_tests}
-use Rattle.std.proofs.lemmas.Fmt.{decimal_is_IsNumeral}
-use Rattle.std.proofs.lemmas.Str.Parse.{digit_at}
-use Rattle.std.proofs.lemmas.Slice.Eq.{bytes_eq-Decides}
-use Rattle.std.proofs.lemmas.Option.{cond_some, some_pair_parts}
-use Rattle.std.proofs.lemmas.List.{take_at, drop_at, take-append-drop, get_or_append_left}
-use Rattle.nit_events.specs.Text.{is_text, is_printable}
-use Rattle.nit_script.specs.FieldReaders.{◌>>=◌, byte_at, word_at, at_spaced, at_both, nothing_at, nat_at, int_at, signed_at, negative, positive, colour_at, hex_value, nibble_at, at_made, at_tested, Nibbles, nibbles_at, value_of_nibbles, text_at, nat_field, int_field, colour_field, text_field}
-use Rattle.nit_script.specs.Spelling.{FitsNat, FitsInt, FitsColour, FitsText, nat, int, hex, hex_digits, colour, text}
+use Rattle.nit_script.proofs.Basics.{FitsColour, FitsInt, FitsNat, FitsText, Nibbles, and_parts, at_both, at_made, at_spaced, at_tested, bind_some, byte_at, bytes_eq-Decides, colour, colour_field, cond_some, decimal, decimal_is_IsNumeral, digit_at, drop_at, eq-eqb, eqb-true, get_or_append_left, hex, hex_value, int, int_field, is_printable, is_text, list_all, nat, nat_at, nat_field, nat_tests, ne_eqb, negative, nibble_at, nibbles_at, not, not-true, nothing_at, positive, prefix_len, signed_at, signed_decimal, some_pair_parts, starts_with, take-append-drop, text, text_field, value_of_nibbles, word_at, ◌>>=◌}
+use Rattle.std.proofs.Common.{Bool, List, None, Option, Some, [], ap, append_assoc, arith, drop, eqb, get_or, length, nat_eq, negsuc, pos, refl, subst, suc, sym, take, true, zero, ℕ, ℤ, ◌%◌, ◌*◌, ◌++◌, ◌+◌, ◌/◌, ◌<◌, ◌^◌, ◌∙◌, ◌∷◌, ◌≡◌, ◌≤◌}
+use Rattle.std.specs.Prelude.{if◌then◌else◌}
+use Rattle.nit_script.specs.FieldReaders.{colour_at, int_at, text_at}
+use Rattle.nit_script.specs.Spelling.{hex_digits}
+use Rattle.std.proofs.lemmas.List.{take_at}
 use Rattle.nit_script.proofs.Digits.{stops, nat_takes, nat_again}
-use Rattle.nit_rect.proofs.ForCallers.{bind_some}
 
 -- At bytes that do not stop it, a reader takes what text spells of a value that fits.
 pub record Exact {A : Type 0} (at : List ℕ → Option (A × List ℕ)) (text : A → List ℕ) (Fits : A → Type 0) (stop : List ℕ → Bool) : Type 0 where

@@ -1,17 +1,8 @@
 -- Lines of an input script are read exactly.
-use Rattle.std.proofs.Common.{◌≡◌, ℕ, ℤ, pos, negsuc, true, List, ◌∷◌, ◌++◌, Some, refl, arith}
-use Rattle.std.specs.Prelude.{codes}
-use Rattle.std.proofs.lemmas.Bool.{leb-true, le-leb}
-use Rattle.std.proofs.lemmas.Bool.Decides.{nat_tests}
-use Rattle.std.proofs.lemmas.Int.{ints}
-use Rattle.nit_events.specs.Ranges.{IsCode, IsWheel}
-use Rattle.nit_events.specs.declared.device.Device.{Device}
-use Rattle.nit_events.specs.declared.device.Device.TheVariants.{Press, Release, Motion, Wheel}
-use Rattle.nit_script.specs.declared.line.InputLine.{InputLine}
+use Rattle.std.proofs.Common.{List, Some, arith, negsuc, pos, refl, true, ℕ, ℤ, ◌++◌, ◌∷◌, ◌≡◌}
+use Rattle.nit_script.proofs.Basics.{Device, FitsDevice, FitsInputLine, FitsInt, FitsPointerPlace, InputLine, IsCode, IsWheel, Motion, Press, Release, Wheel, at_made, code_field, codes, device_spelling, input_phase_at, input_spelling, int, ints, is_code, is_pointer_place, is_wheel, le-leb, leb-true, nat, nat_tests, pointer_field, shot_at, wheel_field}
+use Rattle.nit_script.specs.InputReaders.{device_at, input_at, input_front_at, motion_at, press_at, release_at, wheel_at}
 use Rattle.nit_script.specs.declared.line.InputLine.TheVariants as input
-use Rattle.nit_script.specs.InputReaders.{is_code, is_pointer_place, is_wheel, code_field, pointer_field, wheel_field, press_at, release_at, motion_at, wheel_at, device_at, shot_at, input_phase_at, input_front_at, input_at}
-use Rattle.nit_script.specs.FieldReaders.{at_made}
-use Rattle.nit_script.specs.Spelling.{nat, int, FitsInt, FitsPointerPlace, FitsDevice, FitsInputLine, device_spelling, input_spelling}
 use Rattle.nit_script.proofs.Digits.{stops}
 use Rattle.nit_script.proofs.Exact.{Exact, both, tested, nothing, anything, nat_fields, int_fields}
 use Rattle.nit_script.proofs.LineKinds.{Takes, IsKind, kind, first_takes, made_takes, ended_takes, ended_again}

@@ -7,3 +7,5 @@ pub mod InputLaws
 pub mod Scripts
 pub mod LinePieces
 pub mod ForCallers
+pub mod Basics
+pub mod Lemmas

@@ -1,10 +1,7 @@
 -- Kinds of lines: a word, and what is made of the fields behind it.
-use Rattle.std.proofs.Common.{◌≡◌, ℕ, Bool, true, List, [], ◌∷◌, ◌++◌, Option, Some, None, refl, sym, ap, subst, ◌∙◌, append_assoc}
-use Rattle.std.proofs.lemmas.Option.{some_pair_parts}
-use Rattle.nit_script.specs.FieldReaders.{◌>>=◌, first_of, byte_at, word_at, at_made, at_kind, at_ended}
-use Rattle.nit_script.specs.Grammar.{spelled}
+use Rattle.nit_script.proofs.Basics.{at_ended, at_kind, at_made, bind_some, byte_at, first_of, some_pair_parts, spelled, word_at, ◌>>=◌}
+use Rattle.std.proofs.Common.{Bool, List, None, Option, Some, [], ap, append_assoc, refl, subst, sym, true, ℕ, ◌++◌, ◌∙◌, ◌∷◌, ◌≡◌}
 use Rattle.nit_script.proofs.Exact.{Exact, byte_takes, word_takes, word_again}
-use Rattle.nit_rect.proofs.ForCallers.{bind_some}
 
 -- What is read is spelled so, and fits.
 abbrev pub Takes : {L : Type 0} → (List ℕ → Option (L × List ℕ)) → (L → List ℕ) → (L → Type 0) → Type 0

@@ -1,9 +1,7 @@
 -- Lines written piece by piece.
-use Rattle.std.proofs.Common.{◌≡◌, ℕ, ◌+◌, ◌*◌, ◌/◌, ◌%◌, List, [], ◌∷◌, ◌++◌, length, take, refl, arith}
-use Rattle.std.proofs.Math.Seq.{take-append_seam, take-length}
-use Rattle.std.proofs.lemmas.List.{append-nil}
-use Rattle.nit_script.specs.Field.{KeepsBytes}
-use Rattle.nit_script.specs.Spelling.{hex, hex_digits}
+use Rattle.std.proofs.Common.{List, [], arith, length, refl, take, ℕ, ◌%◌, ◌*◌, ◌++◌, ◌+◌, ◌/◌, ◌∷◌, ◌≡◌}
+use Rattle.nit_script.proofs.Basics.{KeepsBytes, append-nil, hex, take-append_seam, take-length}
+use Rattle.nit_script.specs.Spelling.{hex_digits}
 
 pub ruleset ends = (append-nil)
 

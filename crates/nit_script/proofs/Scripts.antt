@@ -1,13 +1,6 @@
 -- The lines of a script, one after the other, and that only one answer fits the bytes.
-use Rattle.std.proofs.Common.{◌≡◌, ℕ, ◌+◌, ◌≤◌, Bool, false, eqb, List, [], ◌∷◌, ◌++◌, length, Option, Some, None, Result, Ok, Err, refl, sym, ap, subst, ◌∙◌, arith, append_assoc, inl, inr}
-use Rattle.std.specs.List.{flat_map, AllByRecursion}
-use Rattle.std.specs.Prelude.{IfOk}
-use Rattle.std.proofs.lemmas.Option.{some_pair_parts}
-use Rattle.std.proofs.lemmas.Bool.{cases_lt, true≢false}
-use Rattle.std.proofs.lemmas.List.{append-nil, length-append, length_push}
-use Rattle.nit_script.specs.declared.error.ScriptError.{ScriptError}
-use Rattle.nit_script.specs.declared.error.ScriptError.TheVariants.{Bad, TooLong, NoMemory}
-use Rattle.nit_script.specs.Grammar.{spelled, Reads, HasNoReading, Begins, IsFirstBad, IsTooLong, IsScriptAnswer, UnlessMemory}
+use Rattle.std.proofs.Common.{Bool, Err, List, None, Ok, Option, Result, Some, [], ap, append_assoc, arith, eqb, false, inl, inr, length, refl, subst, sym, ℕ, ◌++◌, ◌+◌, ◌∙◌, ◌∷◌, ◌≡◌, ◌≤◌}
+use Rattle.nit_script.proofs.Basics.{AllByRecursion, Bad, Begins, HasNoReading, IfOk, IsFirstBad, IsScriptAnswer, IsTooLong, NoMemory, Reads, ScriptError, TooLong, UnlessMemory, append-nil, cases_lt, flat_map, length-append, length_push, some_pair_parts, spelled, true≢false}
 use Rattle.nit_script.proofs.LineKinds.{Takes}
 
 -- Lines are read exactly, each with its line feed.

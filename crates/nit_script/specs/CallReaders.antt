@@ -1,7 +1,5 @@
 -- Calls read from left to right, up to their line feed.
-use Rattle.std.specs.Prelude.{ℕ, List, Option, codes}
-use Rattle.nit_events.specs.declared.call.Call.{Call}
-use Rattle.nit_events.specs.declared.call.Call.TheVariants.{Buffer, View, Place, Offset, Front, Back, Above, Title, Destroy, Refresh, Take, Upgrade, Close}
+use Rattle.nit_script.specs.Below.{Above, Back, Buffer, Call, Close, Destroy, Front, List, Offset, Option, Place, Refresh, Take, Title, Upgrade, View, codes, ℕ}
 use Rattle.nit_script.specs.FieldReaders.{first_of, nothing_at, at_both, at_kind, nat_field, int_field, text_field}
 
 -- ---- calls that name no view

@@ -1,6 +1,6 @@
 -- Scripts and their texts, for any kind of line: which lines fit, and how each is spelled.
 use Rattle.std.specs.Prelude.{◌≡◌, ◌≢◌, ◌≤◌, ℕ, ◌+◌, List, [], ◌∷◌, ◌++◌, length, Result, Ok, Err}
-use Rattle.std.specs.List.{flat_map, AllByRecursion}
+use Rattle.nit_script.specs.Below.{AllByRecursion, flat_map}
 use Rattle.nit_script.specs.declared.error.ScriptError.{ScriptError}
 use Rattle.nit_script.specs.declared.error.ScriptError.TheVariants.{Bad, TooLong, NoMemory}
 use Rattle.nit_script.specs.declared.line.Line.{Line}

@@ -9,3 +9,5 @@ pub mod CallReaders
 pub mod LineReaders
 pub mod InputReaders
 pub mod Field
+pub mod Below
+pub mod Terms

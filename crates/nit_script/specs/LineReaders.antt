@@ -1,5 +1,5 @@
 -- Lines read from left to right.
-use Rattle.std.specs.Prelude.{ℕ, List, Option, codes}
+use Rattle.nit_script.specs.Below.{List, Option, codes, ℕ}
 use Rattle.nit_script.specs.declared.line.Stroke.{Stroke}
 use Rattle.nit_script.specs.declared.line.Stroke.TheVariants.{Fill, Check}
 use Rattle.nit_script.specs.declared.line.Line.{Line}

@@ -1,11 +1,7 @@
 -- What each line of a script is spelled as, and which lines have a spelling.
 use Rattle.std.specs.Prelude.{◌≤◌, ◌<◌, ℕ, zero, suc, ◌+◌, ◌/◌, ◌%◌, ◌^◌, ℤ, pos, negsuc, IsTrue, List, [], ◌∷◌, ◌++◌, codes, nat_lt, if◌then◌else◌}
-use Rattle.std.specs.Fmt.{decimal, signed_decimal}
-use Rattle.nit_events.specs.Ranges.{IsCode, IsWheel, most_pointer}
-use Rattle.nit_events.specs.Text.{is_text}
-use Rattle.nit_events.specs.declared.call.Call.{Call}
+use Rattle.nit_script.specs.Below.{Call, Device, IsCode, IsWheel, decimal, is_text, most_pointer, signed_decimal}
 use Rattle.nit_events.specs.declared.call.Call.TheVariants as call
-use Rattle.nit_events.specs.declared.device.Device.{Device}
 use Rattle.nit_events.specs.declared.device.Device.TheVariants as device
 use Rattle.nit_script.specs.declared.line.Stroke.{Stroke}
 use Rattle.nit_script.specs.declared.line.Stroke.TheVariants.{Fill, Check}

@@ -1,7 +1,6 @@
 //! What follows a byte or a word in front of bytes.
 
-ghost use Rattle.nit_rect.specs.Options.{Gives};
-ghost use Rattle.nit_script.specs.FieldReaders.{byte_at, word_at};
+ghost use Rattle.nit_script.specs.Terms.{Gives, byte_at, word_at};
 
 /// What follows a byte.
 pub fn take_byte(bytes: &[u8], wanted: u8) -> Option<&[u8]>

@@ -1,7 +1,7 @@
 //! The calls of a client's script, each read from its first word to its last.
 
-ghost use Rattle.nit_rect.specs.Options.{Gives};
-ghost use Rattle.nit_script.specs.CallReaders.{buffer_at, view_at, place_at, offset_at, front_at, back_at, above_at, title_at, destroy_at, refresh_at, take_at, upgrade_at, close_at, session_call_at, view_call_at, call_at};
+ghost use Rattle.nit_script.specs.Terms.{Gives, above_at, back_at, buffer_at, call_at, close_at, destroy_at, front_at, offset_at, place_at, refresh_at, session_call_at, title_at, upgrade_at, view_at, view_call_at};
+ghost use Rattle.nit_script.specs.CallReaders.{take_at};
 
 use crate::bytes::take_word;
 use crate::fields::{integer_field, natural_field, text_field};

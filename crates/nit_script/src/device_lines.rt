@@ -1,7 +1,6 @@
 //! What the user does, each line read from its first word to its last.
 
-ghost use Rattle.nit_rect.specs.Options.{Gives};
-ghost use Rattle.nit_script.specs.InputReaders.{code_field, pointer_field, wheel_field, press_at, release_at, motion_at, wheel_at, device_at};
+ghost use Rattle.nit_script.specs.Terms.{Gives, code_field, device_at, motion_at, pointer_field, press_at, release_at, wheel_at, wheel_field};
 
 use crate::bytes::take_word;
 use crate::fields::{integer_field, natural_field};

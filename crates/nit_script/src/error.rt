@@ -1,5 +1,5 @@
 ghost use Rattle.std.specs.Prelude.{◌≡◌};
-ghost use Rattle.nit_script.specs.declared.error.ScriptError.TheVariants.{NoMemory};
+ghost use Rattle.nit_script.specs.Terms.{NoMemory};
 
 use std::alloc::AllocFailed;
 use std::error::Error;

@@ -1,10 +1,7 @@
 //! Colours, texts, and the fields of a line, each with the space before it.
 
 ghost use Rattle.std.specs.Prelude.{◌≡◌, ◌<◌, IfSome};
-ghost use Rattle.std.specs.List.{prefix_len};
-ghost use Rattle.nit_events.specs.Text.{is_printable};
-ghost use Rattle.nit_rect.specs.Options.{Gives};
-ghost use Rattle.nit_script.specs.FieldReaders.{hex_value, nibble_at, colour_at, text_at, nat_field, int_field, colour_field, text_field};
+ghost use Rattle.nit_script.specs.Terms.{Gives, colour_at, colour_field, hex_value, int_field, is_printable, nat_field, nibble_at, prefix_len, text_at, text_field};
 
 use crate::bytes::take_byte;
 use crate::numbers::{take_integer, take_natural};

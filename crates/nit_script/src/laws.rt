@@ -1,10 +1,7 @@
 //! What the relations between texts and scripts say of each other.
 
 ghost use Rattle.std.specs.Prelude.{◌≡◌, ◌≤◌, ℕ, ◌+◌, List, [], ◌∷◌, ◌++◌, length, if◌then◌else◌};
-ghost use Rattle.nit_script.specs.declared.line.Line.{Line};
-ghost use Rattle.nit_script.specs.declared.line.InputLine.{InputLine};
-ghost use Rattle.nit_script.specs.Grammar.{ReadsClient, IsFirstBadClient, IsTooLongClient, ReadsInput, IsFirstBadInput, IsTooLongInput, most_lines};
-ghost use Rattle.nit_script.specs.Phases.{is_phase, phases, is_input_phase, input_phases};
+ghost use Rattle.nit_script.specs.Terms.{InputLine, IsFirstBadClient, IsFirstBadInput, IsTooLongClient, IsTooLongInput, Line, ReadsClient, ReadsInput, input_phases, is_input_phase, is_phase, most_lines, phases};
 
 /// A text has one reading as a client's script at most, and a list of lines has one text.
 pub fn client_reading_is_one()

@@ -1,8 +1,6 @@
 //! A whole line in front of bytes.
 
-ghost use Rattle.nit_rect.specs.Options.{Gives};
-ghost use Rattle.nit_script.specs.LineReaders.{line_front_at, line_at};
-ghost use Rattle.nit_script.specs.InputReaders.{input_front_at, input_at};
+ghost use Rattle.nit_script.specs.Terms.{Gives, input_at, input_front_at, line_at, line_front_at};
 
 use crate::bytes::{take_byte, take_word};
 use crate::call_lines::take_call;

@@ -1,12 +1,7 @@
 //! Numbers in front of bytes.
 
 ghost use Rattle.std.specs.Prelude.{◌≡◌, ◌<◌, ◌≤◌, ◌^◌, length, IfSome, IfNone, ℕ};
-ghost use Rattle.std.specs.List.{prefix_len};
-ghost use Rattle.std.specs.Fmt.{decimal};
-ghost use Rattle.std.specs.Char.{is_ascii_digit};
-ghost use Rattle.std.specs.Str.Parse.{AllDigits, digits_value};
-ghost use Rattle.nit_rect.specs.Options.{Gives};
-ghost use Rattle.nit_script.specs.FieldReaders.{is_number, nat_at, int_at};
+ghost use Rattle.nit_script.specs.Terms.{AllDigits, Gives, decimal, digits_value, int_at, is_ascii_digit, is_number, nat_at, prefix_len};
 
 use crate::bytes::take_byte;
 

@@ -1,10 +1,7 @@
 //! Scripts, line by line.
 
 ghost use Rattle.std.specs.Prelude.{◌≡◌, ◌≤◌, ℕ, List, length, Ok, Err, IfOk};
-ghost use Rattle.nit_script.specs.declared.line.Line.{Line};
-ghost use Rattle.nit_script.specs.declared.line.InputLine.{InputLine};
-ghost use Rattle.nit_script.specs.Spelling.{FitsLine, FitsInputLine, line_spelling, input_spelling};
-ghost use Rattle.nit_script.specs.Grammar.{ReadsClient, IsFirstBadClient, IsTooLongClient, ReadsInput, IsFirstBadInput, IsTooLongInput, UnlessMemory, IsScriptAnswer, most_lines};
+ghost use Rattle.nit_script.specs.Terms.{FitsInputLine, FitsLine, InputLine, IsFirstBadClient, IsFirstBadInput, IsScriptAnswer, IsTooLongClient, IsTooLongInput, Line, ReadsClient, ReadsInput, UnlessMemory, input_spelling, line_spelling, most_lines};
 
 use crate::error::ScriptError;
 use crate::lines::{take_input_line, take_line};

@@ -1,8 +1,7 @@
 //! Scripts written as bytes.
 
 ghost use Rattle.std.specs.Prelude.{◌≡◌, ◌++◌, IfOk, OnOk, OnErr};
-ghost use Rattle.nit_script.specs.Spelling.{call_spelling, device_spelling, stroke_spelling, line_spelling, input_spelling};
-ghost use Rattle.nit_script.specs.Grammar.{ReadsClient, ReadsInput};
+ghost use Rattle.nit_script.specs.Terms.{ReadsClient, ReadsInput, call_spelling, device_spelling, input_spelling, line_spelling, stroke_spelling};
 
 use crate::line::{InputLine, Line, Stroke};
 use crate::script::{Client, Input};

@@ -1,7 +1,5 @@
 ghost use Rattle.std.specs.Prelude.{◌≡◌, ◌≤◌, length};
-ghost use Rattle.std.specs.List.{AllByRecursion};
-ghost use Rattle.nit_script.specs.Spelling.{FitsLine, FitsInputLine};
-ghost use Rattle.nit_script.specs.Grammar.{most_lines};
+ghost use Rattle.nit_script.specs.Terms.{AllByRecursion, FitsInputLine, FitsLine, most_lines};
 
 use crate::line::{InputLine, Line};
 use std::marker::Model;

@@ -1,7 +1,6 @@
 //! The strokes of a client's script, each read from its first word to its last.
 
-ghost use Rattle.nit_rect.specs.Options.{Gives};
-ghost use Rattle.nit_script.specs.LineReaders.{fill_at, check_at, stroke_at};
+ghost use Rattle.nit_script.specs.Terms.{Gives, check_at, fill_at, stroke_at};
 
 use crate::bytes::take_word;
 use crate::fields::{colour_field, natural_field};

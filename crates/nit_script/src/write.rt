@@ -1,9 +1,7 @@
 //! Words and fields at the end of bytes.
 
 ghost use Rattle.std.specs.Prelude.{◌≡◌, ◌++◌, ◌%◌, OnOk, OnErr};
-ghost use Rattle.std.specs.List.{flat_map};
-ghost use Rattle.nit_script.specs.Spelling.{nat, int, hex, hex_digits, colour, text};
-ghost use Rattle.nit_script.specs.Field.{KeepsBytes, field_spelling};
+ghost use Rattle.nit_script.specs.Terms.{KeepsBytes, colour, field_spelling, flat_map, hex, hex_digits, int, nat, text};
 
 use nit_events::Text;
 use nit_rect::NoMemory;

@@ -1,13 +1,6 @@
 -- The free slots of a list, and the taken ones beside them.
-use Rattle.std.proofs.Common.{◌≡◌, ◌≢◌, ℕ, zero, suc, ◌+◌, ◌<◌, ◌==◌, not, true, false, ◌||◌, List, [], ◌∷◌, ◌++◌, length, get_or, Some, refl, sym, ap, ◌∙◌, arith, length-append}
-use Rattle.std.specs.List.{range_with_len}
-use Rattle.std.proofs.lemmas.Bool.{ne_eqb, eqb-false, eq-eqb, or_parts, or_from, or_right, not-true, false_from_ne_true, both_ways}
-use Rattle.std.proofs.lemmas.List.Folds.{list_any-append, list_any_at}
-use Rattle.std.proofs.lemmas.List.Elements.{All-push, All-filter, All-pop}
-use Rattle.std.proofs.lemmas.List.Kept.{IsStrictlyIncreasing-filter}
-use Rattle.std.proofs.lemmas.List.FromFn.{length-range_with_len, get_or-range_with_len}
-use Rattle.nit_slots.specs.Slots.{is_among, with_slot, without_slot, AreSlots}
-use Rattle.nit_slots.specs.FreeSlots.{taken_beside, Differ, IsFreeList}
+use Rattle.std.proofs.Common.{List, Some, [], ap, arith, false, get_or, length, length-append, not, refl, suc, sym, true, zero, ℕ, ◌++◌, ◌+◌, ◌<◌, ◌==◌, ◌||◌, ◌∙◌, ◌∷◌, ◌≡◌, ◌≢◌}
+use Rattle.nit_slots.proofs.Basics.{All-filter, All-pop, All-push, AreSlots, Differ, IsFreeList, IsStrictlyIncreasing-filter, both_ways, eq-eqb, eqb-false, false_from_ne_true, get_or-range_with_len, is_among, length-range_with_len, list_any-append, list_any_at, ne_eqb, not-true, or_from, or_parts, or_right, range_with_len, taken_beside, with_slot, without_slot}
 use Rattle.nit_slots.proofs.Ranges.{filter_with, filter_without, length-with_slot, among_range, none_passes, range_below, range_rises}
 
 -- a slot at the end of a list makes no difference for the others

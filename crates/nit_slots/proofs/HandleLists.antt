@@ -1,10 +1,6 @@
 -- Lists of pairs of a handle and a slot, along which the handles rise.
-use Rattle.std.proofs.Common.{◌≡◌, ◌≢◌, ℕ, zero, suc, ◌+◌, ◌-◌, ◌<◌, ◌≤◌, ◌==◌, not, Bool, true, false, ◌||◌, cond, List, [], ◌∷◌, ◌++◌, length, get_or, filter, find, All, Option, Some, None, option_map, is_some, IsNone, slice_get, IfSome, refl, sym, ap, ◌∙◌, arith, rules}
-use Rattle.std.specs.List.{list_any}
-use Rattle.std.proofs.lemmas.Bool.{eq-eqb, ne_eqb, eqb-true, or_from, false≢true}
-use Rattle.std.proofs.lemmas.List.Folds.{list_any_at}
-use Rattle.std.proofs.lemmas.Option.{slice_get-get_or, same_Some}
-use Rattle.nit_slots.specs.Table.{has_handle, slot_of, without_handle, Rises, IsTable}
+use Rattle.std.proofs.Common.{All, Bool, IfSome, IsNone, List, None, Option, Some, [], ap, arith, cond, false, filter, find, get_or, is_some, length, not, option_map, refl, rules, slice_get, suc, sym, true, zero, ℕ, ◌++◌, ◌+◌, ◌-◌, ◌<◌, ◌==◌, ◌||◌, ◌∙◌, ◌∷◌, ◌≡◌, ◌≢◌, ◌≤◌}
+use Rattle.nit_slots.proofs.Basics.{IsTable, Rises, eq-eqb, eqb-true, false≢true, has_handle, list_any, list_any_at, ne_eqb, or_from, same_Some, slice_get-get_or, slot_of, without_handle}
 
 -- a new pair with the next handle
 pub Rises-push : (low : ℕ) (pairs : List (ℕ × ℕ)) (next slot : ℕ) → Rises low pairs next → Rises low (pairs ++ (next, slot) ∷ []) (next + 1)

@@ -1,10 +1,6 @@
 -- The numbers of a range that pass a test, and one of them more or less.
-use Rattle.std.proofs.Common.{◌≡◌, ◌≢◌, ℕ, zero, suc, ◌+◌, ◌<◌, ◌≤◌, ◌==◌, nat_lt, Bool, true, false, cond, List, [], ◌∷◌, length, filter, All, refl, sym, ap, ◌∙◌, arith, inl, inr}
-use Rattle.std.specs.List.{range_with_len}
-use Rattle.std.proofs.lemmas.Bool.{cases_lt, cases_eq, eq-eqb, ne_eqb, le-ltb, lt-ltb, eqb-true, or_cases, false≢true}
-use Rattle.std.specs.List.Sorted.{IsStrictlyIncreasing}
-use Rattle.std.proofs.lemmas.List.FromFn.{length-range_with_len, get_or-range_with_len}
-use Rattle.nit_slots.specs.Slots.{is_among, with_slot, without_slot}
+use Rattle.std.proofs.Common.{All, Bool, List, [], ap, arith, cond, false, filter, inl, inr, length, nat_lt, refl, suc, sym, true, zero, ℕ, ◌+◌, ◌<◌, ◌==◌, ◌∙◌, ◌∷◌, ◌≡◌, ◌≢◌, ◌≤◌}
+use Rattle.nit_slots.proofs.Basics.{IsStrictlyIncreasing, cases_eq, cases_lt, eq-eqb, eqb-true, false≢true, get_or-range_with_len, is_among, le-ltb, length-range_with_len, lt-ltb, ne_eqb, or_cases, range_with_len, with_slot, without_slot}
 
 -- a number below the range makes no difference to a test
 filter_above : (p q : ℕ → Bool) (k a n : ℕ) → k < a → ((j : ℕ) → j ≢ k → q j ≡ p j) → filter q (range_with_len a n) ≡ filter p (range_with_len a n)

@@ -2,7 +2,7 @@
 -- and words.
 use Rattle.std.specs.Prelude.{◌≡◌, ℕ, ◌+◌, ◌-◌, ◌*◌, ◌/◌, ◌<◌, ◌≤◌, min}
 use Rattle.nit_slots.specs.declared.need.Need.{Need}
-use Rattle.nit_rect.specs.Limits.{least_units, most_units}
+use Rattle.nit_slots.specs.Below.{least_units, most_units}
 
 -- the donation, the reserve, the number of views and the number of the buffer's words
 pub record AccountModel : Type 0 where

@@ -1,6 +1,6 @@
 -- The taken slots as those beside a list of free ones.
 use Rattle.std.specs.Prelude.{◌≡◌, ℕ, ◌+◌, ◌<◌, not, List, [], ◌∷◌, length, filter, All, false}
-use Rattle.std.specs.List.{range_with_len}
+use Rattle.nit_slots.specs.Below.{range_with_len}
 use Rattle.nit_slots.specs.Slots.{is_among}
 
 -- the slots below total that are not free, in rising order

@@ -1,6 +1,5 @@
 ghost use Rattle.std.specs.Prelude.{◌≡◌, ◌+◌, ◌-◌, ◌*◌, ◌<◌, ◌≤◌, OnOk, IfErr};
-ghost use Rattle.nit_slots.specs.Account.{room, view_slots, IsDonation, first_account, IsAccount, view_need, view_left, buffer_need, buffer_left, upgraded, IsShort, most_views};
-ghost use Rattle.nit_rect.specs.Limits.{most_side};
+ghost use Rattle.nit_slots.specs.Terms.{IsAccount, IsDonation, IsShort, buffer_left, buffer_need, first_account, most_side, most_views, room, upgraded, view_left, view_need, view_slots};
 
 use crate::need::Need;
 use nit_rect::MOST_UNITS;

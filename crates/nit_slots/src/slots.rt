@@ -1,7 +1,5 @@
 ghost use Rattle.std.specs.Prelude.{◌≡◌, ◌+◌, ◌<◌, ◌≤◌, true, false, [], IfOk, length, vec_capacity};
-ghost use Rattle.std.specs.List.{range_with_len};
-ghost use Rattle.nit_slots.specs.Slots.{is_taken, spare, with_slot, without_slot, AreSlots};
-ghost use Rattle.nit_rect.specs.Limits.{most_slots};
+ghost use Rattle.nit_slots.specs.Terms.{AreSlots, is_taken, most_slots, range_with_len, spare, with_slot, without_slot};
 
 use nit_rect::NoMemory;
 use std::alloc::{AllocError, Global};

@@ -1,7 +1,6 @@
 ghost use Rattle.std.specs.Prelude.{◌≡◌, ◌+◌, ◌-◌, ◌^◌, ◌<◌, ◌≤◌, ◌↔◌, true, false, [], ◌∷◌, ◌++◌, IfOk, IsSome, IsNone, IfSome, IsSomeAnd, All, length, vec_capacity};
-ghost use Rattle.nit_slots.specs.Slots.{is_taken, spare, with_slot, without_slot};
-ghost use Rattle.nit_slots.specs.Table.{has_handle, slot_of, without_handle, IsTable, last_handle};
-ghost use Rattle.nit_slots.specs.Account.{most_views};
+ghost use Rattle.nit_slots.specs.Terms.{IsTable, has_handle, is_taken, most_views, slot_of, spare, with_slot, without_handle, without_slot};
+ghost use Rattle.nit_slots.specs.Table.{last_handle};
 
 use crate::slots::Slots;
 use nit_rect::NoMemory;

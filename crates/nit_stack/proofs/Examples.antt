@@ -1,9 +1,6 @@
 -- Worked rows of the stack, computed from the definitions.
-use Rattle.std.proofs.Common.{◌≡◌, ℕ, Bool, true, false, [], ◌∷◌, refl, pos, negsuc, eqb}
-use Rattle.nit_rect.specs.Rectangle.{rectangle}
-use Rattle.nit_stack.specs.declared.view.View.{View}
-use Rattle.nit_stack.specs.Sources.{Size, Bare, Black, Word, point, source}
-use Rattle.nit_stack.specs.Orders.{put_front, put_back, put_above, moved}
+use Rattle.std.proofs.Common.{Bool, [], eqb, false, negsuc, pos, refl, true, ℕ, ◌∷◌, ◌≡◌}
+use Rattle.nit_stack.proofs.Basics.{Bare, Black, Size, View, Word, moved, point, put_above, put_back, put_front, rectangle, source}
 
 -- a view that shows a buffer of 4 by 2 from (-2, -1) on
 abbrev reaching : View

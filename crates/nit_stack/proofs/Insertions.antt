@@ -1,11 +1,6 @@
 -- Where an element is put, and what stays of an order that no two elements break.
-use Rattle.std.proofs.Common.{◌≡◌, ℕ, zero, suc, ◌+◌, ◌<◌, ◌≤◌, not, Bool, true, false, ◌||◌, cond, List, [], ◌∷◌, length, map, filter, find, drop, get_or, Some, refl, ap, sym, ◌∙◌, subst, arith, nat_le}
-use Rattle.std.specs.List.{list_any, insert, position_or_len}
-use Rattle.std.proofs.lemmas.Bool.{le-leb, leb-true, leb-false, le-ltb, ltb-true, lt-ltb, ltb-false, or_parts, or_from, or_right}
-use Rattle.std.proofs.lemmas.List.{at_drop_more}
-use Rattle.std.proofs.lemmas.List.Folds.{list_any_at}
-use Rattle.nit_stack.specs.Orders.{put_front, put_back, put_above, moved, without, put_again}
-use Rattle.nit_stack.specs.Stack.{NoPair, falls, put_own_front, put_own_back}
+use Rattle.std.proofs.Common.{Bool, List, Some, [], ap, arith, cond, drop, false, filter, find, get_or, length, map, nat_le, not, refl, subst, suc, sym, true, zero, ℕ, ◌+◌, ◌<◌, ◌||◌, ◌∙◌, ◌∷◌, ◌≡◌, ◌≤◌}
+use Rattle.nit_stack.proofs.Basics.{NoPair, at_drop_more, falls, insert, le-leb, le-ltb, leb-false, leb-true, list_any, list_any_at, lt-ltb, ltb-false, ltb-true, moved, or_from, or_parts, or_right, position_or_len, put_above, put_again, put_back, put_front, put_own_back, put_own_front, without}
 use Rattle.nit_stack.proofs.Lists.{filter-map, list_any-map, any-insert, found_fails, found_passes, found_some, none_kept, none_weaker}
 
 one_more : (n : ℕ) → 1 + n ≡ suc n

@@ -12,3 +12,5 @@ pub mod SlotsAndNames
 pub mod SlotsAfter
 pub mod NamesAfter
 pub mod ForCallers
+pub mod Basics
+pub mod Lemmas

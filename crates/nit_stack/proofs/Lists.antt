@@ -1,9 +1,6 @@
 -- Searches, filters and places in lists.
-use Rattle.std.proofs.Common.{◌≡◌, ℕ, zero, suc, not, Bool, true, false, ◌||◌, cond, List, [], ◌∷◌, map, filter, find, take, drop, All, Some, refl, ap, ◌∙◌, subst, arith}
-use Rattle.std.specs.List.{list_any, insert}
-use Rattle.std.specs.Option.{option_map}
-use Rattle.std.proofs.lemmas.List.Elements.{All-append, All-take, All-drop, All-cons, All-head, All-tail}
-use Rattle.std.proofs.lemmas.List.{get_or-map, length-map}
+use Rattle.std.proofs.Common.{All, Bool, List, Some, [], ap, arith, cond, drop, false, filter, find, map, not, refl, subst, suc, take, true, zero, ℕ, ◌||◌, ◌∙◌, ◌∷◌, ◌≡◌}
+use Rattle.nit_stack.proofs.Basics.{All-append, All-cons, All-drop, All-head, All-tail, All-take, get_or-map, insert, length-map, list_any, option_map}
 
 pub find-map : {A B : Type 0} (p : B → Bool) (f : A → B) (xs : List A) → find p (map f xs) ≡ option_map f (find (λ x. p (f x)) xs)
 find-map p f [] = refl

@@ -1,13 +1,6 @@
 -- The session and handle of the view in a slot, after a change.
-use Rattle.std.proofs.Common.{◌≡◌, ℕ, zero, suc, ◌==◌, not, Bool, true, false, ◌&&◌, ◌||◌, cond, List, [], ◌∷◌, find, filter, Option, Some, None, refl, ap, sym, ◌∙◌, subst}
-use Rattle.std.specs.List.{list_any, insert}
-use Rattle.std.specs.Option.{option_map, is_some}
-use Rattle.std.proofs.lemmas.Bool.{and_parts, eqb-true, eqb-false, eq-eqb, ne_eqb}
-use Rattle.std.proofs.lemmas.Option.{some_pair_parts}
-use Rattle.nit_stack.specs.declared.view.View.{View}
-use Rattle.nit_stack.specs.Orders.{changed, moved, put_above, put_front, without}
-use Rattle.nit_stack.specs.Stack.{NoPair, SlotView, has_slot, is_named, is_slot, moved_above, on_view, put_own_back, put_own_front, same_slot, slot_view_in}
-use Rattle.nit_stack.specs.ViewNames.{name_in, name_of}
+use Rattle.std.proofs.Common.{Bool, List, None, Option, Some, [], ap, cond, false, filter, find, not, refl, subst, suc, sym, true, zero, ℕ, ◌&&◌, ◌==◌, ◌||◌, ◌∙◌, ◌∷◌, ◌≡◌}
+use Rattle.nit_stack.proofs.Basics.{NoPair, SlotView, View, and_parts, changed, eq-eqb, eqb-false, eqb-true, has_slot, insert, is_named, is_slot, is_some, list_any, moved, moved_above, name_in, name_of, ne_eqb, on_view, option_map, put_above, put_front, put_own_back, put_own_front, same_slot, slot_view_in, some_pair_parts, without}
 use Rattle.nit_stack.proofs.SlotsAfter.{has-without}
 use Rattle.nit_stack.proofs.Lists.{any_found, find-without, found_passes, found_some}
 use Rattle.nit_stack.proofs.Owners.{found_in_slot}

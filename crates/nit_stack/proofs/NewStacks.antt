@@ -1,11 +1,6 @@
 -- A stack as it is opened.
-use Rattle.std.proofs.Common.{◌≡◌, ℕ, ◌≤◌, List, [], map, length, replicate, refl, ap, sym, ◌∙◌, arith, inl, zero, suc, ◌∷◌}
-use Rattle.std.proofs.lemmas.List.{length-replicate}
-use Rattle.std.proofs.lemmas.List.Elements.{All-nil, All-replicate}
-use Rattle.nit_stack.specs.declared.view.View.{View}
-use Rattle.nit_stack.specs.Sources.{no_size}
-use Rattle.nit_stack.specs.Stack.{IsScreenSize, IsSlotView, IsBufferSize, IsStack, empty_stack}
-use Rattle.nit_stack.specs.StackFields.{slot_view, size, stack_model}
+use Rattle.std.proofs.Common.{List, [], ap, arith, inl, length, map, refl, replicate, suc, sym, zero, ℕ, ◌∙◌, ◌∷◌, ◌≡◌, ◌≤◌}
+use Rattle.nit_stack.proofs.Basics.{All-nil, All-replicate, IsBufferSize, IsScreenSize, IsSlotView, IsStack, View, empty_stack, length-replicate, no_size, size, slot_view, stack_model}
 
 sizes_are : (n : ℕ) → map size (replicate n (0, 0)) ≡ replicate n no_size
 sizes_are zero = refl

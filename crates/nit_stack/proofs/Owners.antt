@@ -1,21 +1,9 @@
 -- Owners and sources, among views with slots and among views alone.
-use Rattle.std.proofs.Common.{◌≡◌, ℕ, ◌==◌, Bool, true, false, cond, List, [], ◌∷◌, map, find, Option, Some, None, refl, ap, sym, ◌∙◌, subst}
-use Rattle.std.specs.List.{position_or_len}
-use Rattle.std.specs.Option.{option_map}
-use Rattle.std.specs.Prelude.{IfSome}
-use Rattle.std.proofs.lemmas.Bool.{eq-eqb}
-use Rattle.std.proofs.lemmas.List.Folds.{find_at}
-use Rattle.nit_rect.specs.declared.point.Point.{Point}
-use Rattle.nit_rect.specs.Rectangle.{covers}
-use Rattle.nit_stack.specs.declared.view.View.{View}
-use Rattle.nit_stack.specs.declared.view.ViewRef.{ViewRef}
-use Rattle.nit_stack.specs.Sources.{Size, black_or_word, in_bar, owner, owner_in, shown_index, source, source_under}
-use Rattle.nit_stack.specs.Stack.{NoPair, SlotView, has_slot, same_slot, slot_view_in, view_ref}
-use Rattle.nit_stack.specs.StackFields.{slot_view}
+use Rattle.std.proofs.Common.{Bool, List, None, Option, Some, [], ap, cond, false, find, map, refl, subst, sym, true, ℕ, ◌==◌, ◌∙◌, ◌∷◌, ◌≡◌}
+use Rattle.nit_stack.proofs.Basics.{IfSome, NoPair, Point, Size, SlotView, View, ViewRef, black_or_word, covers, eq-eqb, find_at, has_slot, in_bar, option_map, owner, owner_in, position_or_len, same_Some, same_slot, shown_index, slot_view, slot_view_in, source, source_under, view_ref}
 use Rattle.nit_stack.proofs.Lists.{find-map, found_fails}
 use Rattle.nit_stack.proofs.SlotsAndViews.{flip}
 use Rattle.nit_stack.proofs.StackFieldLemmas.{ref_stands}
-use Rattle.std.proofs.lemmas.Option.{same_Some}
 
 pub map_twice : {A B C : Type 0} (g : B → C) (f : A → B) (o : Option A) → option_map g (option_map f o) ≡ option_map (λ x. g (f x)) o
 map_twice g f None = refl

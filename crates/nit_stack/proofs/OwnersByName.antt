@@ -1,13 +1,6 @@
 -- The owner of a pixel, by its slot and by its session and handle.
-use Rattle.std.proofs.Common.{◌≡◌, ℕ, Bool, true, false, cond, List, [], ◌∷◌, find, Option, Some, None, refl, ap, sym, ◌∙◌}
-use Rattle.std.specs.Option.{option_map, option_map_or}
-use Rattle.nit_rect.specs.declared.point.Point.{Point}
-use Rattle.nit_rect.specs.Rectangle.{covers}
-use Rattle.nit_stack.specs.declared.view.View.{View}
-use Rattle.nit_stack.specs.LabelPlaces.{is_view}
-use Rattle.nit_stack.specs.ViewNames.{MeanSame, is_session, views_of}
-use Rattle.nit_stack.specs.Sources.{in_bar, owner, owner_in}
-use Rattle.nit_stack.specs.Stack.{SlotView, is_named, is_of_session, is_slot}
+use Rattle.std.proofs.Common.{Bool, List, None, Option, Some, [], ap, cond, false, find, refl, sym, true, ℕ, ◌∙◌, ◌∷◌, ◌≡◌}
+use Rattle.nit_stack.proofs.Basics.{MeanSame, Point, SlotView, View, covers, in_bar, is_named, is_of_session, is_session, is_slot, is_view, option_map, option_map_or, owner, owner_in, views_of}
 use Rattle.nit_stack.proofs.SlotsAndNames.{Agree}
 use Rattle.nit_stack.proofs.Owners.{owner_of_views}
 

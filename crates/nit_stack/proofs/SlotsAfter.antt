@@ -1,11 +1,6 @@
 -- Which slots have a view after a change.
-use Rattle.std.proofs.Common.{◌≡◌, ℕ, ◌==◌, not, Bool, true, false, ◌&&◌, ◌||◌, cond, List, [], ◌∷◌, refl, ap, sym, ◌∙◌}
-use Rattle.std.specs.List.{list_any, AllByRecursion}
-use Rattle.std.proofs.lemmas.Bool.{and_parts, eqb-true, eqb-false, or_parts}
-use Rattle.nit_stack.specs.declared.view.View.{View}
-use Rattle.nit_stack.specs.Orders.{changed, moved, put_above, put_front, without}
-use Rattle.nit_stack.specs.Stack.{SlotView, has_slot, is_named, is_of_session, is_slot, moved_above, on_view, put_own_back, put_own_front}
-use Rattle.nit_stack.specs.ViewNames.{IsNamedBy}
+use Rattle.std.proofs.Common.{Bool, List, [], ap, cond, false, not, refl, sym, true, ℕ, ◌&&◌, ◌==◌, ◌||◌, ◌∙◌, ◌∷◌, ◌≡◌}
+use Rattle.nit_stack.proofs.Basics.{AllByRecursion, IsNamedBy, SlotView, View, and_parts, changed, eqb-false, eqb-true, has_slot, is_named, is_of_session, is_slot, list_any, moved, moved_above, on_view, or_parts, put_above, put_front, put_own_back, put_own_front, without}
 use Rattle.nit_stack.proofs.Lists.{found_passes, found_some}
 use Rattle.nit_stack.proofs.SlotsAndNames.{agree_by}
 use Rattle.nit_stack.proofs.Insertions.{Put, Put-above, Put-back, Put-front, any-put, moved_found}

@@ -1,14 +1,6 @@
 -- Changes by slot are changes by session and handle.
-use Rattle.std.proofs.Common.{◌≡◌, ℕ, ◌==◌, not, Bool, true, false, ◌&&◌, cond, List, [], ◌∷◌, map, filter, find, Option, Some, None, refl, ap, sym, ◌∙◌, subst}
-use Rattle.std.specs.List.{list_any, AllByRecursion}
-use Rattle.std.specs.Option.{option_map}
-use Rattle.std.proofs.lemmas.Bool.{eqb-true, eq-eqb, or_parts}
-use Rattle.std.proofs.lemmas.Option.{some_pair_parts}
-use Rattle.nit_stack.specs.declared.view.View.{View}
-use Rattle.nit_stack.specs.LabelPlaces.{is_view}
-use Rattle.nit_stack.specs.Orders.{changed, moved, put_above, put_back, put_front, without}
-use Rattle.nit_stack.specs.Stack.{NoPair, SlotView, is_named, is_of_session, is_slot, moved_above, on_view, put_own_back, put_own_front, same_name, same_slot, slot_view_in}
-use Rattle.nit_stack.specs.ViewNames.{IsNamedBy, is_session, layer_of_slot_view, name_of, view_above, view_layer, views_of}
+use Rattle.std.proofs.Common.{Bool, List, None, Option, Some, [], ap, cond, false, filter, find, map, not, refl, subst, sym, true, ℕ, ◌&&◌, ◌==◌, ◌∙◌, ◌∷◌, ◌≡◌}
+use Rattle.nit_stack.proofs.Basics.{AllByRecursion, IsNamedBy, NoPair, SlotView, View, changed, eq-eqb, eqb-true, is_named, is_of_session, is_session, is_slot, is_view, layer_of_slot_view, list_any, moved, moved_above, name_of, on_view, option_map, or_parts, put_above, put_back, put_front, put_own_back, put_own_front, same_name, same_slot, slot_view_in, some_pair_parts, view_above, view_layer, views_of, without}
 use Rattle.nit_stack.proofs.Lists.{find-map, found_fails, found_passes, list_any-map}
 use Rattle.nit_stack.proofs.Insertions.{map-put_above, map-put_back, map-put_front, map-without, moved_found}
 use Rattle.nit_stack.proofs.SlotsAndViews.{name_both}

@@ -1,14 +1,7 @@
 -- Views in their slots.
-use Rattle.std.proofs.Common.{◌≡◌, ℕ, ◌<◌, ◌≤◌, ◌==◌, eqb, Bool, true, false, ◌&&◌, ◌||◌, cond, List, [], ◌∷◌, length, map, All, set, slice_index_or, Some, refl, ap, sym, ◌∙◌, subst, arith, get_or-set_same, get_or-set_other}
-use Rattle.std.specs.List.{list_any, IsDistinct, AllByRecursion}
-use Rattle.std.proofs.lemmas.Bool.{eqb-true, eqb-false, or_parts}
-use Rattle.std.proofs.lemmas.Bool.Decides.{nat_tests}
-use Rattle.std.proofs.lemmas.List.Elements.{All-weaker}
-use Rattle.std.proofs.lemmas.Map.Steps.{length-le_from_distinct_below}
-use Rattle.nit_stack.specs.declared.view.View.{View}
-use Rattle.nit_stack.specs.Orders.{put_front, moved, without, changed}
-use Rattle.nit_stack.specs.Stack.{SlotView, StackModel, IsSlotView, IsStack, NoPair, fresh, has_slot, is_slot, on_view, same_slot, same_name, slot_view_in, slot_view_layer}
-use Rattle.nit_stack.specs.StackFields.{HasLayer, slot_view, layer_in, size, stack_model}
+use Rattle.std.proofs.Common.{All, Bool, List, Some, [], ap, arith, cond, eqb, false, get_or-set_other, get_or-set_same, length, map, refl, set, slice_index_or, subst, sym, true, ℕ, ◌&&◌, ◌<◌, ◌==◌, ◌||◌, ◌∙◌, ◌∷◌, ◌≡◌, ◌≤◌}
+use Rattle.nit_stack.proofs.Basics.{All-weaker, AllByRecursion, HasLayer, IsSlotView, IsStack, NoPair, SlotView, StackModel, View, changed, eqb-false, eqb-true, fresh, has_slot, is_slot, layer_in, length-le_from_distinct_below, list_any, moved, nat_tests, on_view, or_parts, put_front, same_name, same_slot, size, slot_view, slot_view_in, slot_view_layer, stack_model, without}
+use Rattle.std.specs.List.{IsDistinct}
 use Rattle.nit_stack.proofs.Lists.{All_found, All-unmap, found_some, found_passes}
 use Rattle.nit_stack.proofs.Insertions.{map-put_front, map-without, moved_found}
 

@@ -1,17 +1,6 @@
 -- A stack as it is kept: what its order and slots tell, and what each call leaves.
-use Rattle.std.proofs.Common.{◌≡◌, ℕ, zero, suc, ◌+◌, ◌<◌, ◌≤◌, ◌==◌, not, Bool, true, false, List, [], ◌∷◌, length, map, All, set, slice_index_or, cond, Option, Some, None, refl, ap, sym, ◌∙◌, subst, arith, get_or-set_same}
-use Rattle.std.specs.List.{list_any, position_or_len}
-use Rattle.std.specs.Option.{option_map}
-use Rattle.std.specs.Prelude.{IfSome, slice_get}
-use Rattle.std.proofs.lemmas.Bool.{eq-eqb, ne_eqb, or_left, or_parts, or_right}
-use Rattle.std.proofs.lemmas.Option.{slice_get-map}
-use Rattle.std.proofs.lemmas.List.{get_or_default, length-set}
-use Rattle.std.proofs.lemmas.List.Elements.{All-cons, All-filter}
-use Rattle.nit_stack.specs.declared.view.View.{View}
-use Rattle.nit_stack.specs.declared.view.ViewRef.{ViewRef}
-use Rattle.nit_stack.specs.Orders.{changed, moved, put_above, put_front, without}
-use Rattle.nit_stack.specs.Stack.{SlotView, IsSlotView, IsStack, NoPair, fresh, has_slot, is_slot, layer_of, moved_above, on_view, place_of, put_own_back, put_own_front, same_slot, slot_view_layer, view_ref}
-use Rattle.nit_stack.specs.StackFields.{HasLayer, slot_view, layer_in, size, stack_model}
+use Rattle.std.proofs.Common.{All, Bool, List, None, Option, Some, [], ap, arith, cond, false, get_or-set_same, length, map, not, refl, set, slice_index_or, subst, suc, sym, true, zero, ℕ, ◌+◌, ◌<◌, ◌==◌, ◌∙◌, ◌∷◌, ◌≡◌, ◌≤◌}
+use Rattle.nit_stack.proofs.Basics.{All-cons, All-filter, HasLayer, IfSome, IsSlotView, IsStack, NoPair, SlotView, View, ViewRef, changed, eq-eqb, fresh, get_or_default, has_slot, is_slot, layer_in, layer_of, length-set, list_any, moved, moved_above, ne_eqb, on_view, option_map, or_left, or_parts, or_right, place_of, position_or_len, put_above, put_front, put_own_back, put_own_front, same_slot, size, slice_get, slice_get-map, slot_view, slot_view_layer, stack_model, view_ref, without}
 use Rattle.nit_stack.proofs.Lists.{list_any-map, map-map}
 use Rattle.nit_stack.proofs.Insertions.{NoPair-filter, map-put_above, map-put_back, map-put_front, map-without, others_apart}
 use Rattle.nit_stack.proofs.SlotsAndViews.{all_below, all_kept, changed_is, counted, flip, moved_is, pushed, seat_found, slot_both, standing_as, standing_seat, unchanged}

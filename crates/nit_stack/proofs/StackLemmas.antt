@@ -1,15 +1,6 @@
 -- What holds of every stack stays so at each change.
-use Rattle.std.proofs.Common.{◌≡◌, ℕ, ◌<◌, ◌≤◌, ◌==◌, not, Bool, true, false, cond, List, [], ◌∷◌, length, map, All, set, Option, Some, refl, ap, sym, ◌∙◌, subst, arith, get_or-set_other, if◌then◌else◌}
-use Rattle.std.specs.List.{list_any}
-use Rattle.std.specs.Option.{option_map}
-use Rattle.std.proofs.lemmas.Bool.{eqb-true, eqb-false, ne_eqb, or_parts}
-use Rattle.std.proofs.lemmas.Int.{ints}
-use Rattle.std.proofs.lemmas.List.{length-set}
-use Rattle.std.proofs.lemmas.List.Elements.{All-weaker, All-filter, All-map, All-set}
-use Rattle.nit_stack.specs.declared.view.View.{View}
-use Rattle.nit_stack.specs.Sources.{Size}
-use Rattle.nit_stack.specs.Orders.{put_front, put_above, moved, without, changed}
-use Rattle.nit_stack.specs.Stack.{SlotView, StackModel, IsBar, IsSlotView, IsBufferSize, IsStack, NoPair, falls, fresh, has_slot, is_named, is_of_session, is_slot, layer_of, moved_above, on_view, put_own_front, put_own_back, same_slot, same_name, slot_view_in, slot_view_layer, slot_layer}
+use Rattle.std.proofs.Common.{All, Bool, List, Option, Some, [], ap, arith, cond, false, get_or-set_other, if◌then◌else◌, length, map, not, refl, set, subst, sym, true, ℕ, ◌<◌, ◌==◌, ◌∙◌, ◌∷◌, ◌≡◌, ◌≤◌}
+use Rattle.nit_stack.proofs.Basics.{All-filter, All-map, All-set, All-weaker, IsBar, IsBufferSize, IsSlotView, IsStack, NoPair, Size, SlotView, StackModel, View, changed, eqb-false, eqb-true, falls, fresh, has_slot, ints, is_named, is_of_session, is_slot, layer_of, length-set, list_any, moved, moved_above, ne_eqb, on_view, option_map, or_parts, put_above, put_front, put_own_back, put_own_front, same_name, same_slot, slot_layer, slot_view_in, slot_view_layer, without}
 use Rattle.nit_stack.proofs.Lists.{All-insert, find-without, list_any-map}
 use Rattle.nit_stack.proofs.Insertions.{Put, Put-front, Put-back, Put-above, NoPair-filter, NoPair-put, NoPair-map, NoPair-front, NoPair-back, NoPair-above, moved_found, others_apart}
 use Rattle.nit_stack.proofs.SlotsAndViews.{slot_both, name_both, standing_seat}

@@ -1,14 +1,6 @@
 -- Views at their places in the list, front first.
-use Rattle.std.proofs.Common.{◌≡◌, ℕ, zero, suc, ◌+◌, ◌==◌, not, Bool, true, false, ◌||◌, cond, nat_lt, List, [], ◌∷◌, length, map, drop, Option, Some, None, refl, ap, ap₂, sym, ◌∙◌, arith, add-one, drop-cons}
-use Rattle.std.specs.List.{list_any}
-use Rattle.std.specs.Option.{option_map}
-use Rattle.std.specs.Prelude.{slice_get}
-use Rattle.std.proofs.lemmas.Bool.{eq-eqb, eqb-true, or_parts}
-use Rattle.std.proofs.lemmas.Bool.Decides.{nat_tests}
-use Rattle.std.proofs.lemmas.List.Folds.{find_at}
-use Rattle.std.proofs.lemmas.Option.{get_or_from_slice_get, slice_get-map, slice_get_within}
-use Rattle.nit_stack.specs.declared.view.ViewRef.{ViewRef}
-use Rattle.nit_stack.specs.Stack.{NoPair, SlotView, has_slot, is_slot, place_of, same_slot, view_ref}
+use Rattle.std.proofs.Common.{Bool, List, None, Option, Some, [], add-one, ap, ap₂, arith, cond, drop, drop-cons, false, length, map, nat_lt, not, refl, suc, sym, true, zero, ℕ, ◌+◌, ◌==◌, ◌||◌, ◌∙◌, ◌∷◌, ◌≡◌}
+use Rattle.nit_stack.proofs.Basics.{NoPair, SlotView, ViewRef, eq-eqb, eqb-true, find_at, get_or_from_slice_get, has_slot, is_slot, list_any, nat_tests, option_map, or_parts, place_of, same_slot, slice_get, slice_get-map, slice_get_within, view_ref}
 use Rattle.nit_stack.proofs.Lists.{found_passes, found_some}
 
 -- the view of a slot that is handed out for a place

@@ -7,3 +7,5 @@ pub mod Stack
 pub mod StackFields
 pub mod SourceAnswers
 pub mod ViewNames
+pub mod Below
+pub mod Terms

@@ -1,16 +1,7 @@
 //! What ties changes of views by their slots to changes of the same views by session and handle.
 
 ghost use Rattle.std.specs.Prelude.{◌≡◌, ℕ, ◌+◌, ◌==◌, ◌&&◌, ◌||◌, List, ◌∷◌, None, Some, drop, false, if◌then◌else◌, map, not, option_map, slice_get, true};
-ghost use Rattle.std.specs.Option.{is_some, option_map_or};
-ghost use Rattle.std.specs.List.{list_any};
-ghost use Rattle.nit_rect.specs.declared.point.Point.{Point};
-ghost use Rattle.nit_stack.specs.declared.view.View.{View};
-ghost use Rattle.nit_stack.specs.declared.view.ViewRef.{ViewRef};
-ghost use Rattle.nit_stack.specs.LabelPlaces.{is_view};
-ghost use Rattle.nit_stack.specs.ViewNames.{IsNamedBy, MeanSame, is_session, layer_of_slot_view, name_in, name_of, view_above, view_layer, views_of};
-ghost use Rattle.nit_stack.specs.Orders.{changed, moved, put_back, put_front, without};
-ghost use Rattle.nit_stack.specs.Sources.{owner};
-ghost use Rattle.nit_stack.specs.Stack.{NoPair, SlotView, has_slot, is_named, is_of_session, is_slot, moved_above, on_view, place_of, put_own_back, put_own_front, same_slot, slot_view_in, view_ref, seat_owner};
+ghost use Rattle.nit_stack.specs.Terms.{IsNamedBy, MeanSame, NoPair, Point, SlotView, View, ViewRef, changed, has_slot, is_named, is_of_session, is_session, is_slot, is_some, is_view, layer_of_slot_view, list_any, moved, moved_above, name_in, name_of, on_view, option_map_or, owner, place_of, put_back, put_front, put_own_back, put_own_front, same_slot, seat_owner, slot_view_in, view_above, view_layer, view_ref, views_of, without};
 
 /// A change of the view in a slot is the same change of the view with that session and handle,
 /// among the views without their slots.

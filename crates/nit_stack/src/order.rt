@@ -1,11 +1,7 @@
 //! Places in the order of the slots, front first.
 
 ghost use Rattle.std.specs.Prelude.{◌≡◌, ℕ, ◌<◌, ◌≤◌, ◌==◌, All, filter, find, length, nat_le, not, option_map, slice_get, vec_capacity, vec_len};
-ghost use Rattle.std.specs.List.{insert, position_or_len};
-ghost use Rattle.nit_rect.specs.Rectangle.{covers};
-ghost use Rattle.nit_stack.specs.Orders.{put_above, put_back, without};
-ghost use Rattle.nit_stack.specs.Stack.{put_own_front, put_own_back};
-ghost use Rattle.nit_stack.specs.StackFields.{HasLayer, slot_view, layer_in};
+ghost use Rattle.nit_stack.specs.Terms.{HasLayer, covers, insert, layer_in, position_or_len, put_above, put_back, put_own_back, put_own_front, slot_view, without};
 
 use crate::view::{View, ViewRef};
 use nit_rect::Point;

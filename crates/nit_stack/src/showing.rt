@@ -1,9 +1,7 @@
 //! Which word of its session's buffer a view shows at a pixel.
 
 ghost use Rattle.std.specs.Prelude.{◌≡◌, ◌≤◌, ◌<◌, ◌*◌, ◌-ℤ◌, IfSome};
-ghost use Rattle.nit_rect.specs.Rectangle.{IsPlace};
-ghost use Rattle.nit_stack.specs.Sources.{among, buffer_place, shown_index};
-ghost use Rattle.nit_rect.specs.Limits.{most_side};
+ghost use Rattle.nit_stack.specs.Terms.{IsPlace, among, buffer_place, most_side, shown_index};
 
 use crate::view::View;
 use nit_rect::Point;

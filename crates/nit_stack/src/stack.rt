@@ -1,15 +1,7 @@
 //! The stack.
 
 ghost use Rattle.std.specs.Prelude.{◌≡◌, ℕ, ◌+◌, ◌<◌, ◌≤◌, [], false, true, length, map, nat_lt, option_map, slice_get, slice_set, IfOk, IfSome, Some};
-ghost use Rattle.std.specs.List.{list_any};
-ghost use Rattle.nit_rect.specs.Rectangle.{IsPlace};
-ghost use Rattle.nit_rect.specs.Screen.{IsOnScreen};
-ghost use Rattle.nit_stack.specs.Sources.{source};
-ghost use Rattle.nit_stack.specs.Orders.{changed, moved, put_front, without};
-ghost use Rattle.nit_stack.specs.Stack.{IsStack, IsBar, IsRectInRange, IsScreenSize, fresh, fresh_in, has_slot, is_named, is_of_session, is_slot, layer_of, moved_above, on_view, empty_stack, place_of, put_own_front, put_own_back, slot_view_in, slot_view_layer, size_of, slot_layer, view_ref, with_offset, with_rect, with_title, seat_owner};
-ghost use Rattle.nit_stack.specs.ViewNames.{views_of};
-ghost use Rattle.nit_stack.specs.SourceAnswers.{IfWord, pixel_source, session_of, source_owner, word_count};
-ghost use Rattle.nit_rect.specs.Limits.{most_sessions, most_slots, most_side};
+ghost use Rattle.nit_stack.specs.Terms.{IfWord, IsBar, IsOnScreen, IsPlace, IsRectInRange, IsScreenSize, IsStack, changed, empty_stack, fresh, fresh_in, has_slot, is_named, is_of_session, is_slot, layer_of, list_any, most_sessions, most_side, most_slots, moved, moved_above, on_view, pixel_source, place_of, put_front, put_own_back, put_own_front, seat_owner, session_of, size_of, slot_layer, slot_view_in, slot_view_layer, source, source_owner, view_ref, views_of, with_offset, with_rect, with_title, without, word_count};
 
 use crate::order::{covering, place_of, put_in_above, put_in_back, put_in_front, ref_at, take_out};
 use crate::showing::shown_index;

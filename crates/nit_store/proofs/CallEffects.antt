@@ -1,13 +1,8 @@
 -- What each call leaves as it was, whatever it answers, and that no count falls.
-use Rattle.std.proofs.Common.{◌≡◌, ◌≤◌, ℕ, List, Option, Result, Ok, Err, inl, inr, ap, arith}
-use Rattle.std.specs.Prelude.{Vec}
-use Rattle.std.specs.Global.{Global}
-use Rattle.nit_store.specs.declared.store.ReadError.{ReadError}
+use Rattle.std.proofs.Common.{Err, List, Ok, Option, Result, ap, arith, inl, inr, ℕ, ◌≡◌, ◌≤◌}
+use Rattle.nit_store.proofs.Basics.{AfterPut, AfterRead, AfterSay, File, Global, PutError, ReadError, StoreModel, Vec, with_asked, with_said}
 use Rattle.nit_store.specs.declared.store.ReadError.TheVariants as read
-use Rattle.nit_store.specs.declared.store.PutError.{PutError}
 use Rattle.nit_store.specs.declared.store.PutError.TheVariants as put
-use Rattle.nit_store.specs.Store.{StoreModel, File, with_asked, with_said}
-use Rattle.nit_store.specs.StoreAnswers.{AfterRead, AfterPut, AfterSay}
 
 -- a read leaves the count of failed writes, the files and what was said
 pub record KeptByRead (old new : StoreModel) : Type 0 where

@@ -1,17 +1,7 @@
 -- Files as the code keeps them.
-use Rattle.std.proofs.Common.{◌≡◌, ℕ, zero, suc, ◌<◌, List, [], ◌∷◌, ◌++◌, length, set, get_or, Some, None, Bool, true, false, cond, not, refl, ap, ◌∙◌, arith}
-use Rattle.std.specs.Prelude.{String, Vec, string_bytes}
-use Rattle.std.specs.Global.{Global}
-use Rattle.std.specs.Str.{bytes_eq}
-use Rattle.std.specs.List.{position, position_or_len}
-use Rattle.std.specs.Prelude.{nat_lt}
-use Rattle.std.proofs.lemmas.List.Sums.{prefix_len_passes}
-use Rattle.std.proofs.lemmas.Bool.Decides.{nat_tests}
-use Rattle.std.proofs.lemmas.List.Quantifiers.{position-Some}
-use Rattle.nit_store.specs.Store.{File}
-use Rattle.nit_store.specs.Files.{files_of, with_file}
+use Rattle.std.proofs.Common.{Bool, List, None, Some, [], ap, arith, cond, false, get_or, length, not, refl, set, suc, true, zero, ℕ, ◌++◌, ◌<◌, ◌∙◌, ◌∷◌, ◌≡◌}
+use Rattle.nit_store.proofs.Basics.{File, Global, String, Vec, bytes_eq, files_of, nat_lt, nat_tests, not-true, position, position-Some, position_or_len, prefix_len_passes, string_bytes, with_file}
 use Rattle.nit_store.proofs.NamedFiles.{is_name}
-use Rattle.std.proofs.lemmas.Bool.{not-true}
 
 abbrev pub Stored : Type 0
 Stored = String Global × Vec ℕ Global

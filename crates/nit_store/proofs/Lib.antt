@@ -4,3 +4,5 @@ pub mod SaidLines
 pub mod CallEffects
 pub mod PutLemmas
 pub mod ForCallers
+pub mod Basics
+pub mod Lemmas

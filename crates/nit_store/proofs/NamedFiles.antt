@@ -1,10 +1,6 @@
 -- Files with these bytes put under a name.
-use Rattle.std.proofs.Common.{◌≡◌, ◌≢◌, ℕ, List, [], ◌∷◌, Option, Some, None, Bool, true, false, ◌&&◌, IsTrue, cond, refl, sym, ap, ◌∙◌}
-use Rattle.std.specs.Prelude.{is_none}
-use Rattle.std.specs.Str.{bytes_eq}
-use Rattle.std.proofs.lemmas.Slice.Eq.{bytes_eq-Decides}
-use Rattle.nit_store.specs.Store.{File, file_at, IsPut, PutIn}
-use Rattle.nit_store.specs.Files.{have_different_names, HasDifferentNames, with_file}
+use Rattle.std.proofs.Common.{Bool, IsTrue, List, None, Option, Some, [], ap, cond, false, refl, sym, true, ℕ, ◌&&◌, ◌∙◌, ◌∷◌, ◌≡◌, ◌≢◌}
+use Rattle.nit_store.proofs.Basics.{File, HasDifferentNames, IsPut, PutIn, bytes_eq, bytes_eq-Decides, file_at, have_different_names, is_none, with_file}
 
 pub is_name : (a name : List ℕ) → bytes_eq a name ≡ true → a ≡ name
 is_name a name e = (bytes_eq-Decides a name).0 e

@@ -1,7 +1,6 @@
 -- Files that are put one after the other: one more, more, and none behind a refusal.
-use Rattle.std.proofs.Common.{◌≡◌, ◌∙◌, List, [], ◌∷◌, ◌++◌, Option, Some, None, refl, ap, subst}
-use Rattle.nit_store.specs.Store.{File}
-use Rattle.nit_store.specs.Puts.{PutState, PutsAll, PutsNext, PutsUnless, PutRefusal}
+use Rattle.std.proofs.Common.{List, None, Option, Some, [], ap, refl, subst, ◌++◌, ◌∙◌, ◌∷◌, ◌≡◌}
+use Rattle.nit_store.proofs.Basics.{File, PutRefusal, PutState, PutsAll, PutsNext, PutsUnless}
 
 pub puts_both : (front back : List File) (old mid new : PutState) → PutsAll front old mid → PutsAll back mid new → PutsAll (front ++ back) old new
 puts_both [] back old mid new same more = subst (λ (p : PutState). PutsAll back p new) same more

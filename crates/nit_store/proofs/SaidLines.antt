@@ -1,8 +1,6 @@
 -- What was said, after more than one saying.
-use Rattle.std.proofs.Common.{◌≡◌, ℕ, List, [], ◌++◌, Option, Some, None, refl, ap, append_assoc}
-use Rattle.std.specs.Prelude.{option_map}
-use Rattle.std.proofs.lemmas.List.{append-nil}
-use Rattle.nit_store.specs.Store.{StoreModel, with_said}
+use Rattle.std.proofs.Common.{List, None, Option, Some, [], ap, append_assoc, refl, ℕ, ◌++◌, ◌≡◌}
+use Rattle.nit_store.proofs.Basics.{StoreModel, append-nil, option_map, with_said}
 
 said_twice : (said : Option (List ℕ)) (a b : List ℕ) → option_map (λ (t : List ℕ). t ++ b) (option_map (λ (t : List ℕ). t ++ a) said) ≡ option_map (λ (t : List ℕ). t ++ (a ++ b)) said
 said_twice None a b = refl

@@ -1,7 +1,6 @@
 -- Files and names as lists.
 use Rattle.std.specs.Prelude.{ℕ, Bool, true, ◌&&◌, IsTrue, List, [], ◌∷◌, map, is_none, Vec, String, string_bytes, if◌then◌else◌}
-use Rattle.std.specs.Global.{Global}
-use Rattle.std.specs.Str.{bytes_eq}
+use Rattle.nit_store.specs.Below.{Global, bytes_eq}
 use Rattle.nit_store.specs.Store.{File, file_at}
 
 -- files as lists of bytes

@@ -5,3 +5,5 @@ pub mod Files
 pub mod MemoryStore
 pub mod NeverFails
 pub mod DiskStore
+pub mod Terms
+pub mod Below

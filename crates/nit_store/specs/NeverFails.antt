@@ -1,5 +1,5 @@
 -- A store in memory that never fails.
-use Rattle.std.specs.Prelude.{ℕ, List, Some, None}
+use Rattle.nit_store.specs.Below.{List, None, Some, ℕ}
 use Rattle.nit_store.specs.Store.{File, StoreModel}
 
 -- its files, and what was said

@@ -1,6 +1,6 @@
 -- What each answer of a store means.
 use Rattle.std.specs.Prelude.{◌≡◌, ℕ, ◌<◌, ◌≤◌, ◌⊎◌, List, length, Result, Ok, Err, IfSome, Vec}
-use Rattle.std.specs.Global.{Global}
+use Rattle.nit_store.specs.Below.{Global}
 use Rattle.nit_store.specs.declared.store.ReadError.{ReadError}
 use Rattle.nit_store.specs.declared.store.ReadError.TheVariants as read
 use Rattle.nit_store.specs.declared.store.PutError.{PutError}

@@ -1,11 +1,7 @@
 //! Files in memory.
 
 ghost use Rattle.std.specs.Prelude.{◌≡◌, IfOk, OnOk, OnErr, string_bytes};
-ghost use Rattle.std.specs.Str.{bytes_eq};
-ghost use Rattle.std.specs.List.{position};
-ghost use Rattle.std.specs.Option.{option_copied};
-ghost use Rattle.nit_store.specs.Store.{file_at};
-ghost use Rattle.nit_store.specs.Files.{files_of, have_different_names, HasDifferentNames, with_file};
+ghost use Rattle.nit_store.specs.Terms.{HasDifferentNames, bytes_eq, file_at, files_of, have_different_names, option_copied, position, with_file};
 
 use std::alloc::{AllocError, Global};
 use std::marker::Model;

@@ -1,8 +1,7 @@
 //! Laws of stores, over what contracts see of them.
 
 ghost use Rattle.std.specs.Prelude.{◌≡◌, ◌++◌, ◌∷◌, [], List, Some};
-ghost use Rattle.nit_store.specs.Store.{File};
-ghost use Rattle.nit_store.specs.Puts.{PutState, PutsAll, PutsNext, PutRefusal};
+ghost use Rattle.nit_store.specs.Terms.{File, PutRefusal, PutState, PutsAll, PutsNext};
 
 /// Files are put one after the other, until a put is refused. One more file, or more files, may be
 /// put behind them, and behind a refusal nothing changes.

@@ -1,9 +1,7 @@
 //! A store in memory, of which chosen calls fail.
 
 ghost use Rattle.std.specs.Prelude.{◌≡◌, ◌≢◌, ◌+◌, ◌≤◌, ◌↔◌, ◌⊎◌, [], ◌∷◌, ◌++◌};
-ghost use Rattle.std.specs.Prelude.{IsTrue, IsErr, OnOk, OnErr, IsErrOf, IfOk, Contains};
-ghost use Rattle.nit_store.specs.Store.{one_more};
-ghost use Rattle.nit_store.specs.Files.{files_of, names_of, HasDifferentNames};
+ghost use Rattle.nit_store.specs.Terms.{Contains, HasDifferentNames, IfOk, IsErr, IsErrOf, IsTrue, OnErr, OnOk, files_of, names_of, one_more};
 
 use crate::files::{FileList, copy_of};
 use crate::store::{PutError, ReadError, Store};

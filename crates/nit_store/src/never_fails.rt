@@ -1,7 +1,7 @@
 //! A store in memory that never fails.
 
 ghost use Rattle.std.specs.Prelude.{◌≡◌, [], OnOk};
-ghost use Rattle.nit_store.specs.Files.{files_of, HasDifferentNames};
+ghost use Rattle.nit_store.specs.Terms.{HasDifferentNames, files_of};
 
 use crate::files::{FileList, copy_of};
 use crate::store::{PutError, ReadError, Store};

@@ -1,7 +1,7 @@
 //! The trait, and why a call is refused.
 
 ghost use Rattle.std.specs.Prelude.{◌≡◌, ◌≢◌, []};
-ghost use Rattle.nit_store.specs.Store.{StoreModel};
+ghost use Rattle.nit_store.specs.Terms.{StoreModel};
 
 use std::alloc::AllocError;
 

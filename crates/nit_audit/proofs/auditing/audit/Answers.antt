@@ -1,11 +1,4 @@
-use Rattle.std.proofs.Common.{map}
-use Rattle.nit_journal.specs.Replay.{IsLegal}
-use Rattle.nit_journal.specs.WholeJournals.{IsWhole}
-use Rattle.nit_plan.specs.Calls.{calls_to_make, user_actions_to_do}
-use Rattle.nit_audit.specs.GoodEntries.{IsGood}
-use Rattle.nit_audit.specs.Verdict.{IsVerdict}
-use Rattle.nit_audit.proofs.VerdictLemmas.{answered_yes, if_ok_yes}
-use Rattle.nit_audit.proofs.EachEntry.{only_one}
+use Rattle.nit_audit.proofs.Lemmas.{IsGood, IsLegal, IsVerdict, IsWhole, answered_yes, calls_to_make, if_ok_yes, map, only_one, user_actions_to_do}
 use Rattle.nit_audit.proofs.auditing.audit.Goals as goal
 
 pub returns-clause-only : goal.returns-clause-only

@@ -1,7 +1,5 @@
-use Rattle.std.proofs.Common.{◌≡◌, length, map, arith}
-use Rattle.nit_plan.specs.Calls.{calls_to_make, user_actions_to_do}
-use Rattle.nit_audit.specs.Underway.{first_audited}
-use Rattle.nit_audit.proofs.EachEntry.{ahead_on, followed_of, many_still, verdict_bad, verdict_ended, verdict_unended}
+use Rattle.std.proofs.Common.{arith, length, map, ◌≡◌}
+use Rattle.nit_audit.proofs.Lemmas.{ahead_on, calls_to_make, first_audited, followed_of, many_still, user_actions_to_do, verdict_bad, verdict_ended, verdict_unended}
 use Rattle.nit_audit.proofs.auditing.judged.Goals as goal
 
 pub returns-in-Final : goal.returns-in-Final

@@ -1,8 +1,5 @@
-use Rattle.std.proofs.Common.{◌≡◌, ◌≤◌, ◌-◌, ◌+◌, ℕ, drop, false, get_or, arith, subst, nat_le}
-use Rattle.std.specs.List.{list_any}
-use Rattle.nit_stack.proofs.ForCallers.{back_at, back_none}
-use Rattle.nit_journal.specs.State.{layer}
-use Rattle.nit_audit.specs.Keys.{view_under}
+use Rattle.nit_audit.proofs.Lemmas.{back_at, back_none, layer, list_any, view_under}
+use Rattle.std.proofs.Common.{arith, drop, false, get_or, nat_le, subst, ℕ, ◌+◌, ◌-◌, ◌≡◌, ◌≤◌}
 use Rattle.nit_audit.proofs.keys.back_place.Goals as goal
 
 pub returns-clause-place : goal.returns-clause-place

@@ -1,7 +1,5 @@
-use Rattle.std.proofs.Common.{◌≡◌, drop, false, nat_le}
-use Rattle.std.specs.List.{list_any}
-use Rattle.nit_journal.specs.State.{layer}
-use Rattle.nit_audit.specs.Keys.{view_under}
+use Rattle.std.proofs.Common.{drop, false, nat_le, ◌≡◌}
+use Rattle.nit_audit.proofs.Lemmas.{layer, list_any, view_under}
 use Rattle.nit_audit.proofs.keys.back_place.Given as goal
 
 abbrev pub invariant-loop-i : goal.invariant-loop-i

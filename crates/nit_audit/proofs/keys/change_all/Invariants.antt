@@ -1,6 +1,5 @@
-use Rattle.std.proofs.Common.{◌≡◌, take, ℕ}
-use Rattle.slab.specs.Slab.{get}
-use Rattle.nit_audit.specs.Keys.{changed_if, swept}
+use Rattle.std.proofs.Common.{take, ℕ, ◌≡◌}
+use Rattle.nit_audit.proofs.Lemmas.{changed_if, get, swept}
 use Rattle.nit_audit.proofs.keys.change_all.Given as goal
 
 abbrev pub invariant-loop-key : goal.invariant-loop-key

@@ -1,6 +1,5 @@
-use Rattle.std.proofs.Common.{◌≡◌, drop, find}
-use Rattle.nit_rect.specs.Rectangle.{covers}
-use Rattle.nit_audit.specs.Keys.{view_under}
+use Rattle.std.proofs.Common.{drop, find, ◌≡◌}
+use Rattle.nit_audit.proofs.Lemmas.{covers, view_under}
 use Rattle.nit_audit.proofs.keys.covering.Given as goal
 
 abbrev pub invariant-loop-key : goal.invariant-loop-key

@@ -1,6 +1,5 @@
-use Rattle.std.proofs.Common.{◌≡◌, take, ℕ}
-use Rattle.slab.specs.Slab.{get}
-use Rattle.nit_audit.specs.Keys.{swept, taken_if}
+use Rattle.std.proofs.Common.{take, ℕ, ◌≡◌}
+use Rattle.nit_audit.proofs.Lemmas.{get, swept, taken_if}
 use Rattle.nit_audit.proofs.keys.drop_all.Given as goal
 
 abbrev pub invariant-loop-key : goal.invariant-loop-key

@@ -1,5 +1,5 @@
-use Rattle.std.proofs.Common.{◌≡◌, drop, find}
-use Rattle.nit_audit.specs.Keys.{is_meant, view_under}
+use Rattle.std.proofs.Common.{drop, find, ◌≡◌}
+use Rattle.nit_audit.proofs.Lemmas.{is_meant, view_under}
 use Rattle.nit_audit.proofs.keys.first_key.Given as goal
 
 abbrev pub invariant-loop-key : goal.invariant-loop-key

@@ -1,7 +1,5 @@
-use Rattle.std.proofs.Common.{◌≡◌, ◌+◌, drop, nat_le}
-use Rattle.std.specs.List.{position_or_len}
-use Rattle.nit_journal.specs.State.{layer}
-use Rattle.nit_audit.specs.Keys.{view_under}
+use Rattle.std.proofs.Common.{drop, nat_le, ◌+◌, ◌≡◌}
+use Rattle.nit_audit.proofs.Lemmas.{layer, position_or_len, view_under}
 use Rattle.nit_audit.proofs.keys.front_place.Given as goal
 
 abbrev pub invariant-loop-i : goal.invariant-loop-i

@@ -1,6 +1,5 @@
-use Rattle.std.proofs.Common.{◌≡◌, ◌+◌, drop}
-use Rattle.std.specs.List.{position_or_len}
-use Rattle.nit_audit.specs.Keys.{is_meant, view_under}
+use Rattle.std.proofs.Common.{drop, ◌+◌, ◌≡◌}
+use Rattle.nit_audit.proofs.Lemmas.{is_meant, position_or_len, view_under}
 use Rattle.nit_audit.proofs.keys.place_of.Given as goal
 
 abbrev pub invariant-loop-i : goal.invariant-loop-i

@@ -1,6 +1,4 @@
-use Rattle.std.proofs.Common.{sym, subst}
-use Rattle.nit_audit.specs.Keys.{AllHaveViews, HasView}
-use Rattle.nit_audit.proofs.KeyLemmas.{all_insert}
+use Rattle.nit_audit.proofs.Lemmas.{AllHaveViews, HasView, all_insert, subst, sym}
 use Rattle.nit_audit.proofs.keys.put_in.Goals as goal
 
 pub returns-clause-kept : goal.returns-clause-kept

@@ -1,5 +1,4 @@
-use Rattle.std.proofs.Common.{rules}
-use Rattle.std.proofs.lemmas.Fn.{filter_same}
+use Rattle.nit_audit.proofs.Lemmas.{filter_same, rules}
 use Rattle.nit_audit.proofs.keys.take_out_empty.Goals as goal
 
 pub returns : goal.returns

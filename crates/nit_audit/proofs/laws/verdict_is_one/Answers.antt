@@ -1,6 +1,4 @@
-use Rattle.nit_audit.specs.GoodEntries.{IsGoodFor}
-use Rattle.nit_audit.proofs.GoodEntryLemmas.{good_fewer}
-use Rattle.nit_audit.proofs.VerdictLemmas.{one_verdict}
+use Rattle.nit_audit.proofs.Lemmas.{IsGoodFor, good_fewer, one_verdict}
 use Rattle.nit_audit.proofs.laws.verdict_is_one.Goals as goal
 
 pub returns : goal.returns

@@ -1,4 +1,4 @@
-use Rattle.nit_audit.proofs.GoodAndWhole.{good, whole}
+use Rattle.nit_audit.proofs.Lemmas.{good, whole}
 use Rattle.nit_audit.proofs.laws.yes_is_legal_and_whole.Goals as goal
 
 pub returns-clause-says : goal.returns-clause-says

@@ -1,8 +1,5 @@
-use Rattle.std.proofs.Common.{◌≡◌, ◌+◌, ◌-◌, ◌*◌, ◌∙◌, ◌<◌, ◌≤◌, ℕ, length, sym, arith, mul_comm}
-use Rattle.std.proofs.lemmas.Nat.{row_fits}
-use Rattle.nit_capture.specs.Crop.{crop_pixel, word_of_bytes}
-use Rattle.nit_capture.proofs.CropLemmas.{all_cut, cut_is_picture}
-use Rattle.nit_capture.proofs.PixelRows.{row_put, part_long}
+use Rattle.std.proofs.Common.{arith, length, mul_comm, sym, ℕ, ◌*◌, ◌+◌, ◌-◌, ◌<◌, ◌∙◌, ◌≡◌, ◌≤◌}
+use Rattle.nit_capture.proofs.Lemmas.{all_cut, crop_pixel, cut_is_picture, part_long, row_fits, row_put, word_of_bytes}
 use Rattle.nit_capture.proofs.cut.cut_rows.Goals as goal
 
 pub loop-row-preserved : goal.loop-row-preserved

@@ -1,6 +1,5 @@
-use Rattle.std.proofs.Common.{◌≡◌, ◌*◌, take, map}
-use Rattle.std.specs.List.{range_with_len}
-use Rattle.nit_capture.specs.Crop.{crop_pixel}
+use Rattle.std.proofs.Common.{map, take, ◌*◌, ◌≡◌}
+use Rattle.nit_capture.proofs.Lemmas.{crop_pixel, range_with_len}
 use Rattle.nit_capture.proofs.cut.cut_rows.Given as goal
 
 abbrev pub invariant-loop-row : goal.invariant-loop-row

@@ -1,5 +1,5 @@
-use Rattle.std.proofs.Common.{◌≡◌, ◌+◌, ◌-◌, ◌*◌, ℕ, length, arith}
-use Rattle.nit_capture.proofs.CropLemmas.{pixel_in_row}
+use Rattle.std.proofs.Common.{arith, length, ℕ, ◌*◌, ◌+◌, ◌-◌, ◌≡◌}
+use Rattle.nit_capture.proofs.Lemmas.{pixel_in_row}
 use Rattle.nit_capture.proofs.cut.row_bytes.Goals as goal
 
 pub returns-clause-pixels : goal.returns-clause-pixels

@@ -1,7 +1,5 @@
-use Rattle.std.proofs.Common.{arith, refl}
+use Rattle.nit_capture.proofs.Lemmas.{arith, cut_row_within, on_screen, place_is, place_small, refl}
 use Rattle.nit_capture.specs.Crop.{crop_row_place}
-use Rattle.nit_capture.proofs.CropLemmas.{on_screen, cut_row_within, place_is}
-use Rattle.nit_capture.proofs.PixelRows.{place_small}
 use Rattle.nit_capture.proofs.cut.row_start.Goals as goal
 
 pub overflow_add-result : goal.overflow_add-result

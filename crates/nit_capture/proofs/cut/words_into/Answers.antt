@@ -1,6 +1,5 @@
-use Rattle.std.proofs.Common.{◌*◌, arith}
-use Rattle.nit_capture.specs.Crop.{word_of_bytes}
-use Rattle.nit_capture.proofs.RecordsWritten.{words_more}
+use Rattle.std.proofs.Common.{arith, ◌*◌}
+use Rattle.nit_capture.proofs.Lemmas.{word_of_bytes, words_more}
 use Rattle.nit_capture.proofs.cut.words_into.Goals as goal
 
 pub loop-pixel-preserved : goal.loop-pixel-preserved

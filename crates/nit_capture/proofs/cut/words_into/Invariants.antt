@@ -1,6 +1,5 @@
-use Rattle.std.proofs.Common.{◌≡◌, ◌*◌, take, map}
-use Rattle.std.specs.List.{range_with_len}
-use Rattle.nit_capture.specs.Crop.{word_of_bytes}
+use Rattle.std.proofs.Common.{map, take, ◌*◌, ◌≡◌}
+use Rattle.nit_capture.proofs.Lemmas.{range_with_len, word_of_bytes}
 use Rattle.nit_capture.proofs.cut.words_into.Given as goal
 
 abbrev pub invariant-loop-pixel : goal.invariant-loop-pixel

@@ -1,4 +1,4 @@
-use Rattle.nit_capture.proofs.RecordsRead.{one_record}
+use Rattle.nit_capture.proofs.Lemmas.{one_record}
 use Rattle.nit_capture.proofs.laws.record_is_one.Goals as goal
 
 pub returns : goal.returns

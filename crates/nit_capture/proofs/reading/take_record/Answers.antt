@@ -1,5 +1,4 @@
-use Rattle.std.proofs.Common.{arith, ◌∙◌}
-use Rattle.nit_capture.proofs.ReaderSteps.{next_tile, no_tile, tiles_ended, tiles_lacking}
+use Rattle.nit_capture.proofs.Lemmas.{arith, next_tile, no_tile, tiles_ended, tiles_lacking, ◌∙◌}
 use Rattle.nit_capture.proofs.reading.take_record.Goals as goal
 
 pub returns-in_default-take_turn-clause-read : goal.returns-in_default-take_turn-clause-read

@@ -1,6 +1,5 @@
-use Rattle.std.proofs.Common.{◌≡◌, ◌-◌}
-use Rattle.nit_capture.specs.Tiles.{IsPicture, tile_count}
-use Rattle.nit_capture.specs.RecordReaders.{record_at, tiles_at}
+use Rattle.std.proofs.Common.{◌-◌, ◌≡◌}
+use Rattle.nit_capture.proofs.Lemmas.{IsPicture, record_at, tile_count, tiles_at}
 use Rattle.nit_capture.proofs.reading.take_record.Given as goal
 
 abbrev pub invariant-loop-tile : goal.invariant-loop-tile

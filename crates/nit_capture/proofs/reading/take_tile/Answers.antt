@@ -1,6 +1,4 @@
-use Rattle.std.proofs.Common.{arith, ◌∙◌, inr}
-use Rattle.nit_capture.proofs.ReaderSteps.{next_pixel, no_pixel, pixels_goes_on, pixels_ended, pixels_nothing_new}
-use Rattle.nit_capture.proofs.Pictures.{picture_set}
+use Rattle.nit_capture.proofs.Lemmas.{arith, inr, next_pixel, no_pixel, picture_set, pixels_ended, pixels_goes_on, pixels_nothing_new, ◌∙◌}
 use Rattle.nit_capture.proofs.reading.take_tile.Goals as goal
 
 pub returns-in_default-clause-read : goal.returns-in_default-clause-read

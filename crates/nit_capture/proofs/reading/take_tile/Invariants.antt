@@ -1,7 +1,5 @@
-use Rattle.std.proofs.Common.{◌≡◌, ◌-◌, ◌⊎◌}
-use Rattle.nit_word.specs.Inks.{IsWord}
-use Rattle.nit_capture.specs.Tiles.{IsPicture, area}
-use Rattle.nit_capture.specs.RecordReaders.{tile_at, pixels_at}
+use Rattle.std.proofs.Common.{◌-◌, ◌≡◌, ◌⊎◌}
+use Rattle.nit_capture.proofs.Lemmas.{IsPicture, IsWord, area, pixels_at, tile_at}
 use Rattle.nit_capture.proofs.reading.take_tile.Given as goal
 
 abbrev pub invariant-loop-pixel : goal.invariant-loop-pixel

@@ -1,5 +1,4 @@
-use Rattle.nit_capture.proofs.ReaderSteps.{turn_none_left, turn_other, turn_taken, turn_refused}
-use Rattle.nit_capture.proofs.NumbersRead.{too_short, two_next, two_other, two_behind}
+use Rattle.nit_capture.proofs.Lemmas.{too_short, turn_none_left, turn_other, turn_refused, turn_taken, two_behind, two_next, two_other}
 use Rattle.nit_capture.proofs.reading.take_turn.Goals as goal
 
 pub returns-then-left-eq0-clause-read : goal.returns-then-left-eq0-clause-read

@@ -1,7 +1,5 @@
-use Rattle.std.proofs.Common.{◌∙◌, ap}
-use Rattle.std.specs.Prelude.{◌==◌, slice_index}
-use Rattle.std.specs.List.{prefix_len}
-use Rattle.nit_capture.proofs.RunsWritten.{tail_is}
+use Rattle.nit_capture.proofs.Lemmas.{ap, prefix_len, slice_index, tail_is, ◌∙◌}
+use Rattle.std.specs.Prelude.{◌==◌}
 use Rattle.nit_capture.proofs.runs.more_of.Goals as goal
 
 pub returns-clause-value : goal.returns-clause-value

@@ -1,7 +1,5 @@
-use Rattle.std.proofs.Common.{◌∙◌, ◌+◌, ◌++◌, arith, ap, take, List, ℕ}
-use Rattle.std.proofs.lemmas.List.{length-drop}
-use Rattle.std.proofs.lemmas.Slice.{take-put_mid}
-use Rattle.nit_capture.proofs.RunsWritten.{run_written, runs_written, tail_is}
+use Rattle.std.proofs.Common.{List, ap, arith, take, ℕ, ◌++◌, ◌+◌, ◌∙◌}
+use Rattle.nit_capture.proofs.Lemmas.{length-drop, run_written, runs_written, tail_is, take-put_mid}
 use Rattle.nit_capture.proofs.runs.write_runs.Goals as goal
 
 pub loop-at-preserved : goal.loop-at-preserved

@@ -1,6 +1,5 @@
-use Rattle.std.proofs.Common.{◌≡◌, ◌≤◌, ◌-◌, ◌*◌, length, take, drop, ◌++◌}
-use Rattle.std.specs.List.{flat_map}
-use Rattle.nit_capture.specs.Film.{runs, run_bytes}
+use Rattle.std.proofs.Common.{drop, length, take, ◌*◌, ◌++◌, ◌-◌, ◌≡◌, ◌≤◌}
+use Rattle.nit_capture.proofs.Lemmas.{flat_map, run_bytes, runs}
 use Rattle.nit_capture.proofs.runs.write_runs.Given as goal
 
 abbrev pub invariant-loop-at : goal.invariant-loop-at

@@ -1,7 +1,5 @@
-use Rattle.std.proofs.Common.{rules, ◌∙◌, ap, ◌++◌, List, ℕ}
-use Rattle.std.specs.List.{flat_map}
-use Rattle.nit_capture.specs.Film.{tile_bytes, changed_tiles}
-use Rattle.nit_capture.proofs.RecordsWritten.{number_set}
+use Rattle.std.proofs.Common.{List, ap, rules, ℕ, ◌++◌, ◌∙◌}
+use Rattle.nit_capture.proofs.Lemmas.{changed_tiles, flat_map, number_set, tile_bytes}
 use Rattle.nit_capture.proofs.writing.append_parts.Goals as goal
 
 pub returns : goal.returns

@@ -1,6 +1,5 @@
-use Rattle.std.proofs.Common.{arith, refl}
-use Rattle.nit_capture.specs.Film.{two_bytes, tile_bytes}
-use Rattle.nit_capture.proofs.RecordsWritten.{tiles_few, tile_fits, appends_behind}
+use Rattle.nit_capture.proofs.Lemmas.{appends_behind, arith, refl, tile_fits, tiles_few, two_bytes}
+use Rattle.nit_capture.specs.Film.{tile_bytes}
 use Rattle.nit_capture.proofs.writing.append_tile.Goals as goal
 
 pub overflow_cast-number-2 : goal.overflow_cast-number-2

@@ -1,8 +1,5 @@
-use Rattle.std.proofs.Common.{arith, ◌∙◌, ap, ◌++◌, List, ℕ, append_assoc}
-use Rattle.std.specs.List.{flat_map, filter, range_with_len}
-use Rattle.nit_capture.specs.Tiles.{differs}
-use Rattle.nit_capture.specs.Film.{tile_bytes}
-use Rattle.nit_capture.proofs.RecordsWritten.{appends_part, tile_done, tile_counted, one_at_most}
+use Rattle.std.proofs.Common.{List, ap, append_assoc, arith, ℕ, ◌++◌, ◌∙◌}
+use Rattle.nit_capture.proofs.Lemmas.{appends_part, differs, filter, flat_map, one_at_most, range_with_len, tile_bytes, tile_counted, tile_done}
 use Rattle.nit_capture.proofs.writing.append_tiles.Goals as goal
 
 pub returns-in_err-count-clause-bytes : goal.returns-in_err-count-clause-bytes

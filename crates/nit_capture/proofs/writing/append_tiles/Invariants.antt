@@ -1,7 +1,5 @@
-use Rattle.std.proofs.Common.{◌≡◌, ◌≤◌, ◌++◌, length}
-use Rattle.std.specs.List.{flat_map, filter, range_with_len}
-use Rattle.nit_capture.specs.Tiles.{differs}
-use Rattle.nit_capture.specs.Film.{tile_bytes}
+use Rattle.std.proofs.Common.{length, ◌++◌, ◌≡◌, ◌≤◌}
+use Rattle.nit_capture.proofs.Lemmas.{differs, filter, flat_map, range_with_len, tile_bytes}
 use Rattle.nit_capture.proofs.writing.append_tiles.Given as goal
 
 abbrev pub invariant-loop-number : goal.invariant-loop-number

@@ -1,8 +1,7 @@
-use Rattle.std.proofs.Common.{◌≡◌, ◌+◌, ◌-◌, ◌*◌, ◌∙◌, ◌<◌, ℕ, take, length, arith, ap, subst}
-use Rattle.nit_capture.specs.Tiles.{wide, high, area, tile_pixels}
-use Rattle.nit_capture.proofs.PixelRows.{row_copied, row_room, part_taken}
+use Rattle.nit_capture.proofs.Lemmas.{high, part_taken, put_long, row_copied, row_room, tile_pixels, wide}
+use Rattle.std.proofs.Common.{ap, arith, length, subst, take, ℕ, ◌*◌, ◌+◌, ◌-◌, ◌<◌, ◌∙◌, ◌≡◌}
+use Rattle.nit_capture.specs.Tiles.{area}
 use Rattle.nit_capture.proofs.writing.tile_words.Goals as goal
-use Rattle.nit_word.proofs.ForCallers.{put_long}
 
 pub loop-row-preserved : goal.loop-row-preserved
 loop-row-preserved c =

@@ -1,5 +1,5 @@
-use Rattle.std.proofs.Common.{◌≡◌, ◌*◌, take, length}
-use Rattle.nit_capture.specs.Tiles.{tile_pixels, wide}
+use Rattle.std.proofs.Common.{length, take, ◌*◌, ◌≡◌}
+use Rattle.nit_capture.proofs.Lemmas.{tile_pixels, wide}
 use Rattle.nit_capture.proofs.writing.tile_words.Given as goal
 
 abbrev pub invariant-loop-row : goal.invariant-loop-row

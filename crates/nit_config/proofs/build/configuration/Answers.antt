@@ -1,11 +1,4 @@
-use Rattle.std.proofs.Common.{◌∙◌, pos, codes, arith}
-use Rattle.toml.specs.View.{table_view}
-use Rattle.nit_config.specs.Tree.{integer_at, screen_table}
-use Rattle.nit_config.specs.Ranges.{has_bad_value, has_bad_label}
-use Rattle.nit_config.proofs.RefusalTests.{accepted}
-use Rattle.nit_config.proofs.MemberLists.{built_of}
-use Rattle.nit_config.proofs.Clients.{members_of_values, on_clients}
-use Rattle.nit_config.proofs.HeldValues.{wider}
+use Rattle.nit_config.proofs.Lemmas.{accepted, arith, built_of, codes, has_bad_label, has_bad_value, integer_at, members_of_values, on_clients, pos, screen_table, table_view, wider, ◌∙◌}
 use Rattle.nit_config.proofs.build.configuration.Goals as goal
 
 pub required_at-width-requires : goal.required_at-width-requires

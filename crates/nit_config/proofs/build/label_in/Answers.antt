@@ -1,7 +1,4 @@
-use Rattle.std.proofs.Common.{◌∙◌, ap}
-use Rattle.std.proofs.lemmas.Bool.{false≢true}
-use Rattle.nit_glyph.specs.Texts.{is_label}
-use Rattle.nit_config.proofs.HeldValues.{label_is_label, label_length}
+use Rattle.nit_config.proofs.Lemmas.{ap, false≢true, is_label, label_is_label, label_length, ◌∙◌}
 use Rattle.nit_config.proofs.build.label_in.Goals as goal
 
 pub text_at-requires : goal.text_at-requires

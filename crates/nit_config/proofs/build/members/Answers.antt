@@ -1,6 +1,4 @@
-use Rattle.toml.specs.View.{view}
-use Rattle.nit_config.specs.Tree.{members_of}
-use Rattle.nit_config.proofs.MemberLists.{built_more}
+use Rattle.nit_config.proofs.Lemmas.{built_more, members_of, view}
 use Rattle.nit_config.proofs.build.members.Goals as goal
 
 pub clients-preserved : goal.clients-preserved

@@ -1,8 +1,4 @@
-use Rattle.std.proofs.Common.{map, take}
-use Rattle.std.specs.List.{AllZip}
-use Rattle.toml.specs.View.{view}
-use Rattle.nit_config.specs.Tree.{members_of}
-use Rattle.nit_config.specs.ConfigurationText.{HoldsClient}
+use Rattle.nit_config.proofs.Lemmas.{AllZip, HoldsClient, map, members_of, take, view}
 use Rattle.nit_config.proofs.build.members.Given as goal
 
 abbrev pub invariant-clients : goal.invariant-clients

@@ -1,7 +1,4 @@
-use Rattle.std.proofs.Common.{pos, arith}
-use Rattle.toml.specs.View.{table_view}
-use Rattle.nit_config.specs.Tree.{integer_at}
-use Rattle.nit_config.proofs.HeldValues.{integer_there, at_least_one, wider}
+use Rattle.nit_config.proofs.Lemmas.{arith, at_least_one, integer_at, integer_there, pos, table_view, wider}
 use Rattle.nit_config.proofs.build.required_at.Goals as goal
 
 pub number_at-requires : goal.number_at-requires

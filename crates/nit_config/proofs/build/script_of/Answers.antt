@@ -1,6 +1,4 @@
-use Rattle.std.proofs.Common.{◌∙◌, ap}
-use Rattle.nit_config.specs.Configuration.{is_file_name}
-use Rattle.nit_config.proofs.HeldValues.{script_is_name, file_name_length}
+use Rattle.nit_config.proofs.Lemmas.{ap, file_name_length, is_file_name, script_is_name, ◌∙◌}
 use Rattle.nit_config.proofs.build.script_of.Goals as goal
 
 pub text_at-requires : goal.text_at-requires

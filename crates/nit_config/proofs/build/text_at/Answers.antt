@@ -1,4 +1,4 @@
-use Rattle.nit_config.proofs.HeldValues.{string_there}
+use Rattle.nit_config.proofs.Lemmas.{string_there}
 use Rattle.nit_config.proofs.build.text_at.Goals as goal
 
 pub returns-clause-there : goal.returns-clause-there

@@ -1,7 +1,5 @@
-use Rattle.std.proofs.Common.{◌∙◌}
-use Rattle.toml.specs.View.{table_view}
-use Rattle.nit_config.specs.Keys.{is_of_other_kind, has_other_kind}
-use Rattle.nit_config.proofs.KeyRows.{on_rows}
+use Rattle.nit_config.proofs.Lemmas.{is_of_other_kind, on_rows, table_view, ◌∙◌}
+use Rattle.nit_config.specs.Keys.{has_other_kind}
 use Rattle.nit_config.proofs.keys.has_other_kind.Goals as goal
 
 pub returns : goal.returns

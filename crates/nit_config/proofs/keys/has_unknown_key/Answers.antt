@@ -1,6 +1,4 @@
-use Rattle.std.proofs.Common.{◌∙◌}
-use Rattle.nit_config.specs.Keys.{place_rows}
-use Rattle.nit_config.proofs.KeyRows.{on_members}
+use Rattle.nit_config.proofs.Lemmas.{on_members, place_rows, ◌∙◌}
 use Rattle.nit_config.proofs.keys.has_unknown_key.Goals as goal
 
 pub returns : goal.returns

@@ -1,6 +1,5 @@
-use Rattle.std.proofs.Common.{◌∙◌, bytes_eq}
+use Rattle.nit_config.proofs.Lemmas.{bytes_eq, on_rows, ◌∙◌}
 use Rattle.nit_config.specs.Keys.{is_known_key}
-use Rattle.nit_config.proofs.KeyRows.{on_rows}
 use Rattle.nit_config.proofs.keys.is_named.Goals as goal
 
 pub returns : goal.returns

@@ -1,7 +1,5 @@
-use Rattle.std.proofs.Common.{◌∙◌}
-use Rattle.toml.specs.View.{table_view}
-use Rattle.nit_config.specs.Keys.{is_lacking, lacks_key}
-use Rattle.nit_config.proofs.KeyRows.{on_rows}
+use Rattle.nit_config.proofs.Lemmas.{is_lacking, on_rows, table_view, ◌∙◌}
+use Rattle.nit_config.specs.Keys.{lacks_key}
 use Rattle.nit_config.proofs.keys.lacks_key.Goals as goal
 
 pub returns : goal.returns

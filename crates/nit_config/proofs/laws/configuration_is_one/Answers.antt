@@ -1,5 +1,4 @@
-use Rattle.nit_config.proofs.OneAnswer.{one_configuration}
-use Rattle.nit_config.proofs.RangeLemmas.{configured}
+use Rattle.nit_config.proofs.Lemmas.{configured, one_configuration}
 use Rattle.nit_config.proofs.laws.configuration_is_one.Goals as goal
 
 pub returns-clause-one : goal.returns-clause-one

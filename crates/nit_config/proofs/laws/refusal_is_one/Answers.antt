@@ -1,4 +1,4 @@
-use Rattle.nit_config.proofs.OneAnswer.{one_refusal, not_both}
+use Rattle.nit_config.proofs.Lemmas.{not_both, one_refusal}
 use Rattle.nit_config.proofs.laws.refusal_is_one.Goals as goal
 
 pub returns-clause-one : goal.returns-clause-one

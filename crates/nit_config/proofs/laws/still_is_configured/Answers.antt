@@ -1,4 +1,4 @@
-use Rattle.nit_config.proofs.RangeLemmas.{still_configured}
+use Rattle.nit_config.proofs.Lemmas.{still_configured}
 use Rattle.nit_config.proofs.laws.still_is_configured.Goals as goal
 
 pub returns : goal.returns

@@ -1,5 +1,4 @@
-use Rattle.nit_config.proofs.OneAnswer.{read, refused}
-use Rattle.nit_config.proofs.RangeLemmas.{answer_configured}
+use Rattle.nit_config.proofs.Lemmas.{answer_configured, read, refused}
 use Rattle.nit_config.proofs.read.read_config.Goals as goal
 
 pub returns-clause-configured : goal.returns-clause-configured

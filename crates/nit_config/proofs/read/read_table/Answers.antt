@@ -1,5 +1,4 @@
-use Rattle.std.proofs.Common.{sym}
-use Rattle.nit_config.proofs.RefusalTests.{refused_by, refused_answers}
+use Rattle.nit_config.proofs.Lemmas.{refused_answers, refused_by, sym}
 use Rattle.nit_config.proofs.read.read_table.Goals as goal
 
 pub returns-in-Some : goal.returns-in-Some

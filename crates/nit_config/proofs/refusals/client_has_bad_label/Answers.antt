@@ -1,6 +1,4 @@
-use Rattle.std.proofs.Common.{◌∙◌}
-use Rattle.nit_config.specs.Ranges.{has_bad_label}
-use Rattle.nit_config.proofs.Clients.{on_clients}
+use Rattle.nit_config.proofs.Lemmas.{has_bad_label, on_clients, ◌∙◌}
 use Rattle.nit_config.proofs.refusals.client_has_bad_label.Goals as goal
 
 pub returns : goal.returns

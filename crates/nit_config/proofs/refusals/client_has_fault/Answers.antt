@@ -1,7 +1,4 @@
-use Rattle.std.proofs.Common.{◌∙◌}
-use Rattle.nit_config.specs.Keys.{client_rows}
-use Rattle.nit_config.specs.Refusals.{has_fault}
-use Rattle.nit_config.proofs.Clients.{on_clients}
+use Rattle.nit_config.proofs.Lemmas.{client_rows, has_fault, on_clients, ◌∙◌}
 use Rattle.nit_config.proofs.refusals.client_has_fault.Goals as goal
 
 pub returns : goal.returns

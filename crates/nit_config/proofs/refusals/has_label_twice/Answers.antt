@@ -1,6 +1,5 @@
-use Rattle.std.proofs.Common.{◌∙◌, ap}
-use Rattle.nit_config.specs.Refusals.{stands_twice, has_label_twice}
-use Rattle.nit_config.proofs.Clients.{labels_of}
+use Rattle.nit_config.proofs.Lemmas.{ap, labels_of, stands_twice, ◌∙◌}
+use Rattle.nit_config.specs.Refusals.{has_label_twice}
 use Rattle.nit_config.proofs.refusals.has_label_twice.Goals as goal
 
 pub returns : goal.returns

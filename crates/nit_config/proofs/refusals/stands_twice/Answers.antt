@@ -1,10 +1,5 @@
-use Rattle.std.proofs.Common.{◌∙◌, sym, ap, ◌||◌, ◌+◌, map, drop, List, ℕ}
-use Rattle.toml.specs.View.{view}
-use Rattle.toml.specs.declared.value.Value.{Value}
-use Rattle.nit_config.specs.Tree.{members_of}
-use Rattle.nit_config.specs.Ranges.{label_of_table}
-use Rattle.nit_config.specs.Refusals.{stands_twice}
-use Rattle.nit_config.proofs.Clients.{twice_compared}
+use Rattle.std.proofs.Common.{List, ap, drop, map, sym, ℕ, ◌+◌, ◌||◌, ◌∙◌}
+use Rattle.nit_config.proofs.Lemmas.{Value, label_of_table, members_of, stands_twice, twice_compared, view}
 use Rattle.nit_config.proofs.refusals.stands_twice.Goals as goal
 
 -- the label of a client's value

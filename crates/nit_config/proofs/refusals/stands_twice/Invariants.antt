@@ -1,8 +1,5 @@
-use Rattle.std.proofs.Common.{◌≡◌, map, drop}
-use Rattle.toml.specs.View.{view}
-use Rattle.nit_config.specs.Tree.{members_of}
-use Rattle.nit_config.specs.Ranges.{label_of_table}
-use Rattle.nit_config.specs.Refusals.{stands_twice}
+use Rattle.std.proofs.Common.{drop, map, ◌≡◌}
+use Rattle.nit_config.proofs.Lemmas.{label_of_table, members_of, stands_twice, view}
 use Rattle.nit_config.proofs.refusals.stands_twice.Given as goal
 
 abbrev pub invariant-clients : goal.invariant-clients

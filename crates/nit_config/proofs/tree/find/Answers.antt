@@ -1,5 +1,5 @@
 -- A map's look-up finds the member of the table's data.
-use Rattle.toml.proofs.Views.{table_get}
+use Rattle.nit_config.proofs.Lemmas.{table_get}
 use Rattle.nit_config.proofs.tree.find.Goals as goal
 
 pub returns : goal.returns

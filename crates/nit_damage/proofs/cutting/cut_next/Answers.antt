@@ -1,7 +1,4 @@
-use Rattle.std.proofs.Common.{None, Some, arith}
-use Rattle.nit_damage.proofs.RectangleCuts.{next_view}
-use Rattle.nit_damage.proofs.Screen.{on_screen}
-use Rattle.nit_damage.proofs.CutterSteps.{bare, given, hidden, past}
+use Rattle.nit_damage.proofs.Lemmas.{None, Some, arith, bare, given, hidden, next_view, on_screen, past}
 use Rattle.nit_damage.proofs.cutting.cut_next.Goals as goal
 
 pub returns-then-job-len-clause-step : goal.returns-then-job-len-clause-step

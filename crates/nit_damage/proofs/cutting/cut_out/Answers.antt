@@ -1,7 +1,4 @@
-use Rattle.std.proofs.Common.{refl, sym, ◌∙◌}
-use Rattle.nit_rect.specs.Intersection.{HasPixels}
-use Rattle.nit_rect.proofs.ForCallers.{pixels_of}
-use Rattle.nit_damage.proofs.RectangleCuts.{both_lie, cut_in_four, uncut, wider}
+use Rattle.nit_damage.proofs.Lemmas.{HasPixels, both_lie, cut_in_four, pixels_of, refl, sym, uncut, wider, ◌∙◌}
 use Rattle.nit_damage.proofs.cutting.cut_out.Goals as goal
 
 pub returns-then-area-eq0-clause-cut : goal.returns-then-area-eq0-clause-cut

@@ -1,6 +1,4 @@
-use Rattle.std.proofs.Common.{subst}
-use Rattle.nit_damage.specs.Cutter.{FitsJobs}
-use Rattle.nit_damage.proofs.Jobs.{last_job}
+use Rattle.nit_damage.proofs.Lemmas.{FitsJobs, last_job, subst}
 use Rattle.nit_damage.proofs.cutting.next_cut.Goals as goal
 
 pub cut_next-piece-requires-clause-job : goal.cut_next-piece-requires-clause-job

@@ -1,6 +1,5 @@
-use Rattle.std.proofs.Common.{◌≡◌, ◌≤◌, length, vec_capacity}
-use Rattle.nit_rect.specs.declared.point.Point.{Point}
-use Rattle.nit_damage.specs.Cutter.{FitsJobs, jobs_to_come, weight}
+use Rattle.std.proofs.Common.{length, vec_capacity, ◌≡◌, ◌≤◌}
+use Rattle.nit_damage.proofs.Lemmas.{FitsJobs, Point, jobs_to_come, weight}
 use Rattle.nit_damage.proofs.cutting.next_cut.Given as goal
 
 abbrev pub invariant-jobs : goal.invariant-jobs

@@ -1,4 +1,4 @@
-use Rattle.nit_damage.proofs.Views.{owned_behind, owned_by_none}
+use Rattle.nit_damage.proofs.Lemmas.{owned_behind, owned_by_none}
 use Rattle.nit_damage.proofs.laws.owned_pixels.Goals as goal
 
 pub returns-clause-owned : goal.returns-clause-owned

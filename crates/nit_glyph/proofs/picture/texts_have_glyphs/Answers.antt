@@ -1,4 +1,4 @@
-use Rattle.nit_glyph.proofs.GlyphTexts.{label_text_has_glyphs, bar_text_has_glyphs}
+use Rattle.nit_glyph.proofs.Lemmas.{bar_text_has_glyphs, label_text_has_glyphs}
 use Rattle.nit_glyph.proofs.picture.texts_have_glyphs.Goals as goal
 
 pub returns-clause-view : goal.returns-clause-view

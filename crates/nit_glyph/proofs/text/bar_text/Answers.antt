@@ -1,4 +1,4 @@
-use Rattle.nit_glyph.proofs.GlyphTexts.{label_has_glyphs}
+use Rattle.nit_glyph.proofs.Lemmas.{label_has_glyphs}
 use Rattle.nit_glyph.proofs.text.bar_text.Goals as goal
 
 pub append-requires-clause-glyphs : goal.append-requires-clause-glyphs

@@ -1,4 +1,4 @@
-use Rattle.nit_glyph.proofs.GlyphTexts.{title_has_glyphs}
+use Rattle.nit_glyph.proofs.Lemmas.{title_has_glyphs}
 use Rattle.nit_glyph.proofs.text.label_text.Goals as goal
 
 pub append-requires-clause-glyphs : goal.append-requires-clause-glyphs

@@ -1,5 +1,4 @@
-use Rattle.nit_journal.proofs.SessionLists.{call_of_another}
-use Rattle.nit_journal.proofs.Queues.{only_taken}
+use Rattle.nit_journal.proofs.Lemmas.{call_of_another, only_taken}
 use Rattle.nit_journal.proofs.laws.calls_touch_no_other.Goals as goal
 
 pub returns-clause-others : goal.returns-clause-others

@@ -1,4 +1,4 @@
-use Rattle.nit_journal.proofs.Isolation.{entry_keeps_all}
+use Rattle.nit_journal.proofs.Lemmas.{entry_keeps_all}
 use Rattle.nit_journal.proofs.laws.deliveries_fit.Goals as goal
 
 pub returns : goal.returns

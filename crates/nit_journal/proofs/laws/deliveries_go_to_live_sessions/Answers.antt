@@ -1,4 +1,4 @@
-use Rattle.nit_journal.proofs.LiveSessions.{deliveries_are_live, told_are_live}
+use Rattle.nit_journal.proofs.Lemmas.{deliveries_are_live, told_are_live}
 use Rattle.nit_journal.proofs.laws.deliveries_go_to_live_sessions.Goals as goal
 
 pub returns-clause-legal : goal.returns-clause-legal

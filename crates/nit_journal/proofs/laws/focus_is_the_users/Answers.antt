@@ -1,4 +1,4 @@
-use Rattle.nit_journal.proofs.Focus.{calls_keep, closed, only_by_clicks}
+use Rattle.nit_journal.proofs.Lemmas.{calls_keep, closed, only_by_clicks}
 use Rattle.nit_journal.proofs.laws.focus_is_the_users.Goals as goal
 
 pub returns-clause-calls : goal.returns-clause-calls

@@ -1,5 +1,4 @@
-use Rattle.nit_journal.specs.State.{first_state}
-use Rattle.nit_journal.proofs.JournalFronts.{front_legal, front_open, agrees_behind}
+use Rattle.nit_journal.proofs.Lemmas.{agrees_behind, first_state, front_legal, front_open}
 use Rattle.nit_journal.proofs.laws.fronts_are_legal.Goals as goal
 
 pub returns-clause-legal : goal.returns-clause-legal

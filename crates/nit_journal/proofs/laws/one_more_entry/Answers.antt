@@ -1,5 +1,4 @@
-use Rattle.std.proofs.Common.{[]}
-use Rattle.nit_journal.proofs.JournalFronts.{replay_more, legal_more, next_agrees}
+use Rattle.nit_journal.proofs.Lemmas.{[], legal_more, next_agrees, replay_more}
 use Rattle.nit_journal.proofs.laws.one_more_entry.Goals as goal
 
 pub returns-clause-replayed : goal.returns-clause-replayed

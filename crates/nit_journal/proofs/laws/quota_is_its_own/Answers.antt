@@ -1,4 +1,4 @@
-use Rattle.nit_journal.proofs.OwnCalls.{as_its_calls_have_it, answered_alike}
+use Rattle.nit_journal.proofs.Lemmas.{answered_alike, as_its_calls_have_it}
 use Rattle.nit_journal.proofs.laws.quota_is_its_own.Goals as goal
 
 pub returns-clause-machine : goal.returns-clause-machine

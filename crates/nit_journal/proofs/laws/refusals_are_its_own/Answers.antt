@@ -1,6 +1,5 @@
-use Rattle.std.proofs.Common.{refl}
+use Rattle.nit_journal.proofs.Lemmas.{lacks_by_itself, refl}
 use Rattle.nit_events.specs.declared.call.Reply.TheVariants as reply
-use Rattle.nit_journal.proofs.QuotaRefusals.{lacks_by_itself}
 use Rattle.nit_journal.proofs.laws.refusals_are_its_own.Goals as goal
 
 pub returns-clause-quota : goal.returns-clause-quota

@@ -1,4 +1,4 @@
-use Rattle.nit_journal.proofs.PressLemmas.{releases_follow}
+use Rattle.nit_journal.proofs.Lemmas.{releases_follow}
 use Rattle.nit_journal.proofs.laws.releases_follow_presses.Goals as goal
 
 pub returns : goal.returns

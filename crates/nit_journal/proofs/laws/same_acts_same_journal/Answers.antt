@@ -1,5 +1,4 @@
-use Rattle.nit_journal.specs.State.{first_state}
-use Rattle.nit_journal.proofs.SameActions.{same_journal}
+use Rattle.nit_journal.proofs.Lemmas.{first_state, same_journal}
 use Rattle.nit_journal.proofs.laws.same_acts_same_journal.Goals as goal
 
 pub returns : goal.returns

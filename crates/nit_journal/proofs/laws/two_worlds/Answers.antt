@@ -1,4 +1,4 @@
-use Rattle.nit_journal.proofs.Isolation.{two_worlds, two_fronts}
+use Rattle.nit_journal.proofs.Lemmas.{two_fronts, two_worlds}
 use Rattle.nit_journal.proofs.laws.two_worlds.Goals as goal
 
 pub returns-clause-same : goal.returns-clause-same

@@ -1,10 +1,5 @@
-use Rattle.std.proofs.Common.{sym, subst}
+use Rattle.nit_ledger.proofs.Lemmas.{Allows, BookView, IsBookRule, Me, StepDone, counts_at, does, entries_at, step, subst, sym, taken_token}
 use mathlib.Core.Option.{none}
-use Rattle.atomic_table.specs.Table.{Me, step, Allows}
-use Rattle.nit_ledger.specs.declared.view.BookView.{BookView}
-use Rattle.nit_ledger.specs.BookRule.{IsBookRule, StepDone}
-use Rattle.nit_ledger.specs.BookSeat.{entries_at, counts_at, taken_token}
-use Rattle.nit_ledger.proofs.BookRuleLemmas.{does}
 use Rattle.nit_ledger.proofs.turn.deed.Goals as goal
 
 pub load-requires : goal.load-requires

@@ -1,9 +1,4 @@
-use Rattle.std.proofs.Common.{sym, ap, subst}
-use Rattle.atomic_table.specs.Table.{Splits}
-use Rattle.nit_ledger.specs.declared.view.BookView.{BookView}
-use Rattle.nit_ledger.specs.BookRule.{IsBookRule, without_share, share_in}
-use Rattle.nit_ledger.specs.BookSeat.{entries_at, counts_at, taken_token}
-use Rattle.nit_ledger.proofs.BookRuleLemmas.{gives}
+use Rattle.nit_ledger.proofs.Lemmas.{BookView, IsBookRule, Splits, ap, counts_at, entries_at, gives, share_in, subst, sym, taken_token, without_share}
 use Rattle.nit_ledger.proofs.turn.give_back.Goals as goal
 
 pub split_seat-requires : goal.split_seat-requires

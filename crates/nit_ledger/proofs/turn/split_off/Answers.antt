@@ -1,9 +1,4 @@
-use Rattle.std.proofs.Common.{sym, ap, subst}
-use Rattle.atomic_table.specs.Table.{Splits}
-use Rattle.nit_ledger.specs.declared.view.BookView.{BookView}
-use Rattle.nit_ledger.specs.BookRule.{IsBookRule, book_after_split, newest_share}
-use Rattle.nit_ledger.specs.BookSeat.{entries_at, counts_at}
-use Rattle.nit_ledger.proofs.BookRuleLemmas.{opens}
+use Rattle.nit_ledger.proofs.Lemmas.{BookView, IsBookRule, Splits, ap, book_after_split, counts_at, entries_at, newest_share, opens, subst, sym}
 use Rattle.nit_ledger.proofs.turn.split_off.Goals as goal
 
 pub split_seat-requires : goal.split_seat-requires

@@ -1,10 +1,4 @@
-use Rattle.std.proofs.Common.{◌∙◌, sym, ap, subst}
-use Rattle.atomic_table.specs.Table.{Joins}
-use Rattle.nit_ledger.specs.declared.view.BookView.{BookView}
-use Rattle.nit_ledger.specs.declared.view.BookView.TheVariants.{Spent}
-use Rattle.nit_ledger.specs.BookRule.{IsBookRule, book_at_rest, with_share}
-use Rattle.nit_ledger.specs.BookSeat.{entries_at, counts_at, token_at}
-use Rattle.nit_ledger.proofs.BookRuleLemmas.{takes}
+use Rattle.nit_ledger.proofs.Lemmas.{BookView, IsBookRule, Joins, Spent, ap, book_at_rest, counts_at, entries_at, subst, sym, takes, token_at, with_share, ◌∙◌}
 use Rattle.nit_ledger.proofs.turn.take_in.Goals as goal
 
 pub join_seat-requires : goal.join_seat-requires

@@ -1,4 +1,4 @@
-use Rattle.nit_paint.proofs.OneMore.{skipped, loaded_by}
+use Rattle.nit_paint.proofs.Lemmas.{loaded_by, skipped}
 use Rattle.nit_paint.proofs.laws.one_more_pixel.Goals as goal
 
 pub returns-clause-skipped : goal.returns-clause-skipped

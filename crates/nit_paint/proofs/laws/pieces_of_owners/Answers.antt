@@ -1,4 +1,4 @@
-use Rattle.nit_paint.proofs.PieceOwners.{piece_of_owner}
+use Rattle.nit_paint.proofs.Lemmas.{piece_of_owner}
 use Rattle.nit_paint.proofs.laws.pieces_of_owners.Goals as goal
 
 pub returns : goal.returns

@@ -1,6 +1,4 @@
-use Rattle.std.proofs.Common.{ap, arith, refl}
-use Rattle.nit_paint.specs.Runs.{own_word}
-use Rattle.nit_paint.proofs.Blocks.{rows_more, rows_none}
+use Rattle.nit_paint.proofs.Lemmas.{ap, arith, own_word, refl, rows_more, rows_none}
 use Rattle.nit_paint.proofs.pieces.bare_rows.Goals as goal
 
 pub rows-init : goal.rows-init

@@ -1,8 +1,5 @@
-use Rattle.std.proofs.Common.{◌≡◌, ℕ, ◌+◌, ◌<◌, length}
-use Rattle.nit_word.specs.Sight.{Sight}
-use Rattle.nit_stack.specs.Sources.{Bare, PixelSource}
-use Rattle.nit_paint.specs.Repaint.{Repainted}
-use Rattle.nit_paint.specs.Runs.{in_rows, row_at}
+use Rattle.std.proofs.Common.{length, ℕ, ◌+◌, ◌<◌, ◌≡◌}
+use Rattle.nit_paint.proofs.Lemmas.{Bare, PixelSource, Repainted, Sight, in_rows, row_at}
 use Rattle.nit_paint.proofs.pieces.bare_rows.Given as goal
 
 abbrev pub invariant-rows : goal.invariant-rows

@@ -1,6 +1,4 @@
-use Rattle.nit_paint.specs.Repaint.{no_sight}
-use Rattle.nit_paint.proofs.PieceOwners.{bare_told, whole_piece, width_is}
-use Rattle.nit_paint.proofs.RepaintLemmas.{repainted_words}
+use Rattle.nit_paint.proofs.Lemmas.{bare_told, no_sight, repainted_words, whole_piece, width_is}
 use Rattle.nit_paint.proofs.pieces.paint_bare.Goals as goal
 
 pub returns-clause-painted : goal.returns-clause-painted

@@ -1,12 +1,8 @@
-use Rattle.std.proofs.Common.{◌≡◌, ◌∙◌, ◌*◌, ap, arith, refl, sym}
-use Rattle.std.specs.Prelude.{pos, ◌+ℤ◌}
-use Rattle.std.specs.Option.{option_map}
+use Rattle.std.proofs.Common.{ap, arith, pos, refl, sym, ◌*◌, ◌∙◌, ◌≡◌}
+use Rattle.nit_paint.proofs.Lemmas.{among, black_or_word, index_at, ints, option_map, reached, row_told, rows_end, rows_more, rows_none, to_z-of_z}
+use Rattle.std.specs.Prelude.{◌+ℤ◌}
 use mir.Syntax.{w32}
 use mir.Val.{of_z, to_z}
-use Rattle.std.proofs.lemmas.Int.{ints, to_z-of_z}
-use Rattle.nit_stack.specs.Sources.{among, black_or_word, index_at}
-use Rattle.nit_paint.specs.Runs.{reached}
-use Rattle.nit_paint.proofs.Blocks.{row_told, rows_end, rows_more, rows_none}
 use Rattle.nit_paint.proofs.pieces.paint_rows.Goals as goal
 
 pub rows-init : goal.rows-init

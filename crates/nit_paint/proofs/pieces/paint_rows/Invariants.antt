@@ -1,9 +1,6 @@
-use Rattle.std.proofs.Common.{◌≡◌, ℕ, ◌+◌, ◌<◌, length}
-use Rattle.std.specs.Prelude.{pos, ◌+ℤ◌}
-use Rattle.nit_word.specs.Sight.{Sight}
-use Rattle.nit_stack.specs.Sources.{PixelSource, among, black_or_word, index_at}
-use Rattle.nit_paint.specs.Repaint.{Repainted, with_glass}
-use Rattle.nit_paint.specs.Runs.{in_rows, reached, row_at}
+use Rattle.std.proofs.Common.{length, pos, ℕ, ◌+◌, ◌<◌, ◌≡◌}
+use Rattle.std.specs.Prelude.{◌+ℤ◌}
+use Rattle.nit_paint.proofs.Lemmas.{PixelSource, Repainted, Sight, among, black_or_word, in_rows, index_at, reached, row_at, with_glass}
 use Rattle.nit_paint.proofs.pieces.paint_rows.Given as goal
 
 abbrev pub invariant-rows : goal.invariant-rows

@@ -1,10 +1,4 @@
-use Rattle.std.proofs.Common.{arith}
-use Rattle.std.proofs.lemmas.Int.{ints}
-use Rattle.nit_paint.specs.Repaint.{no_sight}
-use Rattle.nit_paint.specs.Pieces.{session_shown}
-use Rattle.nit_paint.proofs.Glasses.{own_seen_by}
-use Rattle.nit_paint.proofs.PieceOwners.{rows_fit, seat_stands, view_told, whole_piece, width_is}
-use Rattle.nit_paint.proofs.RepaintLemmas.{repainted_words}
+use Rattle.nit_paint.proofs.Lemmas.{arith, ints, no_sight, own_seen_by, repainted_words, rows_fit, seat_stands, session_shown, view_told, whole_piece, width_is}
 use Rattle.nit_paint.proofs.pieces.paint_view.Goals as goal
 
 pub buffer-w-requires : goal.buffer-w-requires

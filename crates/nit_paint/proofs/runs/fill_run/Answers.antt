@@ -1,6 +1,5 @@
-use Rattle.std.proofs.Common.{◌≡◌, ℕ, ◌+◌, ◌-◌, ◌<◌, length, get_or, arith, rules}
-use Rattle.std.proofs.lemmas.List.{places}
-use Rattle.nit_paint.proofs.Pixels.{filled, put_run}
+use Rattle.std.proofs.Common.{arith, get_or, length, rules, ℕ, ◌+◌, ◌-◌, ◌<◌, ◌≡◌}
+use Rattle.nit_paint.proofs.Lemmas.{filled, places, put_run}
 use Rattle.nit_paint.proofs.runs.fill_run.Goals as goal
 
 pub returns : goal.returns

@@ -1,5 +1,5 @@
-use Rattle.std.proofs.Common.{◌+◌, ◌-◌, arith}
-use Rattle.nit_paint.proofs.Pixels.{row_loaded}
+use Rattle.std.proofs.Common.{arith, ◌+◌, ◌-◌}
+use Rattle.nit_paint.proofs.Lemmas.{row_loaded}
 use Rattle.nit_paint.proofs.runs.load_run.Goals as goal
 
 pub returns-clause-painted : goal.returns-clause-painted

@@ -1,6 +1,5 @@
-use Rattle.std.proofs.Common.{◌≡◌, ℕ, ◌+◌, ◌<◌, Some, ◌∙◌, ap}
-use Rattle.nit_paint.specs.Runs.{long, row_source}
-use Rattle.nit_paint.proofs.Pixels.{black_after, black_before, three_runs, words_within}
+use Rattle.std.proofs.Common.{Some, ap, ℕ, ◌+◌, ◌<◌, ◌∙◌, ◌≡◌}
+use Rattle.nit_paint.proofs.Lemmas.{black_after, black_before, long, row_source, three_runs, words_within}
 use Rattle.nit_paint.proofs.runs.paint_row.Goals as goal
 
 pub returns-clause-painted : goal.returns-clause-painted

@@ -1,4 +1,4 @@
-use Rattle.nit_place.proofs.Screen.{apart}
+use Rattle.nit_place.proofs.Lemmas.{apart}
 use Rattle.nit_place.proofs.laws.labels_apart.Goals as goal
 
 pub returns : goal.returns

@@ -1,4 +1,4 @@
-use Rattle.nit_place.proofs.Screen.{fits_within, least_only, place_least}
+use Rattle.nit_place.proofs.Lemmas.{fits_within, least_only, place_least}
 use Rattle.nit_place.proofs.laws.least_place.Goals as goal
 
 pub returns-clause-least : goal.returns-clause-least

@@ -1,8 +1,4 @@
-use Rattle.std.specs.List.{position_or_len}
-use Rattle.nit_stack.specs.ViewNames.{views_of}
-use Rattle.nit_stack.specs.Stack.{is_slot}
-use Rattle.nit_place.specs.Part.{area_of, part_at}
-use Rattle.nit_place.proofs.LabelPlaces.{edges_are, place_is, searched_by, stands}
+use Rattle.nit_place.proofs.Lemmas.{area_of, edges_are, is_slot, part_at, place_is, position_or_len, searched_by, stands, views_of}
 use Rattle.nit_place.proofs.place.place_label.Goals as goal
 
 pub returns-clause-place : goal.returns-clause-place

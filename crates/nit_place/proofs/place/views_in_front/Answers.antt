@@ -1,9 +1,5 @@
-use Rattle.std.proofs.Common.{◌≡◌, false, slice_index_or, arith, ◌∙◌, sym}
-use Rattle.std.proofs.lemmas.Bool.{eq-eqb}
-use Rattle.std.proofs.lemmas.List.Sums.{position_or_len_is}
-use Rattle.nit_stack.specs.Stack.{fresh_in, is_slot}
-use Rattle.nit_place.proofs.Seats.{other_slot, slot_at}
-use Rattle.nit_place.proofs.BoundLemmas.{below_more}
+use Rattle.std.proofs.Common.{arith, false, slice_index_or, sym, ◌∙◌, ◌≡◌}
+use Rattle.nit_place.proofs.Lemmas.{below_more, eq-eqb, fresh_in, is_slot, other_slot, position_or_len_is, slot_at}
 use Rattle.nit_place.proofs.place.views_in_front.Goals as goal
 
 pub returns-then-at-v-clause-count : goal.returns-then-at-v-clause-count

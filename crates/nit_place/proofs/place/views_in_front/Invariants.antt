@@ -1,5 +1,5 @@
-use Rattle.std.proofs.Common.{◌≡◌, ℕ, ◌<◌, false, slice_index_or}
-use Rattle.nit_stack.specs.Stack.{SlotView, is_slot}
+use Rattle.std.proofs.Common.{false, slice_index_or, ℕ, ◌<◌, ◌≡◌}
+use Rattle.nit_place.proofs.Lemmas.{SlotView, is_slot}
 use Rattle.nit_place.proofs.place.views_in_front.Given as goal
 
 abbrev pub invariant-views : goal.invariant-views

@@ -1,7 +1,4 @@
-use Rattle.std.proofs.Common.{sym, ◌∙◌}
-use Rattle.nit_stack.specs.ViewNames.{views_of}
-use Rattle.nit_place.specs.Part.{part_at}
-use Rattle.nit_place.proofs.SearchLemmas.{block_step, clear_step}
+use Rattle.nit_place.proofs.Lemmas.{block_step, clear_step, part_at, sym, views_of, ◌∙◌}
 use Rattle.nit_place.proofs.search.blocking.Goals as goal
 
 pub views-preserved-then-not-meets : goal.views-preserved-then-not-meets

@@ -1,6 +1,4 @@
-use Rattle.nit_stack.specs.ViewNames.{views_of}
-use Rattle.nit_place.specs.FreePlaces.{IsBlocking}
-use Rattle.nit_place.specs.Part.{part_at}
+use Rattle.nit_place.proofs.Lemmas.{IsBlocking, part_at, views_of}
 use Rattle.nit_place.proofs.search.blocking.Given as goal
 
 abbrev pub invariant-views : goal.invariant-views

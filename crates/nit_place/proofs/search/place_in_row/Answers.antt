@@ -1,6 +1,4 @@
-use Rattle.nit_stack.specs.ViewNames.{views_of}
-use Rattle.nit_place.specs.Part.{part_at}
-use Rattle.nit_place.proofs.SearchLemmas.{row_clear, row_end, row_jump}
+use Rattle.nit_place.proofs.Lemmas.{part_at, row_clear, row_end, row_jump, views_of}
 use Rattle.nit_place.proofs.search.place_in_row.Goals as goal
 
 pub returns-in-None : goal.returns-in-None

@@ -1,7 +1,5 @@
 use Rattle.std.proofs.Common.{◌-◌}
-use Rattle.nit_stack.specs.ViewNames.{views_of}
-use Rattle.nit_place.specs.Part.{part_at}
-use Rattle.nit_place.proofs.SearchLemmas.{RowSoFar}
+use Rattle.nit_place.proofs.Lemmas.{RowSoFar, part_at, views_of}
 use Rattle.nit_place.proofs.search.place_in_row.Given as goal
 
 abbrev pub invariant-places : goal.invariant-places

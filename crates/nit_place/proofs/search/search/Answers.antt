@@ -1,6 +1,4 @@
-use Rattle.nit_stack.specs.ViewNames.{views_of}
-use Rattle.nit_place.specs.Part.{part_at}
-use Rattle.nit_place.proofs.SearchLemmas.{rows_below, rows_end, rows_jump}
+use Rattle.nit_place.proofs.Lemmas.{part_at, rows_below, rows_end, rows_jump, views_of}
 use Rattle.nit_place.proofs.search.search.Goals as goal
 
 pub returns-in-Full-None : goal.returns-in-Full-None

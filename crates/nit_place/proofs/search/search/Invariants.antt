@@ -1,7 +1,5 @@
 use Rattle.std.proofs.Common.{◌-◌}
-use Rattle.nit_stack.specs.ViewNames.{views_of}
-use Rattle.nit_place.specs.Part.{part_at}
-use Rattle.nit_place.proofs.SearchLemmas.{RowsSoFar}
+use Rattle.nit_place.proofs.Lemmas.{RowsSoFar, part_at, views_of}
 use Rattle.nit_place.proofs.search.search.Given as goal
 
 abbrev pub invariant-rows : goal.invariant-rows

@@ -1,4 +1,4 @@
-use Rattle.nit_plan.proofs.UnsetPlaces.{line_stays}
+use Rattle.nit_plan.proofs.Lemmas.{line_stays}
 use Rattle.nit_plan.proofs.laws.other_places_stay.Goals as goal
 
 pub returns : goal.returns

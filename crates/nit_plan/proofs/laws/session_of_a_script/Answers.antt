@@ -1,4 +1,4 @@
-use Rattle.nit_plan.proofs.ScriptSession.{calls_done, static_called, static_in_a_run}
+use Rattle.nit_plan.proofs.Lemmas.{calls_done, static_called, static_in_a_run}
 use Rattle.nit_plan.proofs.laws.session_of_a_script.Goals as goal
 
 pub returns-clause-calls : goal.returns-clause-calls

@@ -1,4 +1,4 @@
-use Rattle.nit_plan.proofs.InkedWords.{word_inked, left_inked}
+use Rattle.nit_plan.proofs.Lemmas.{left_inked, word_inked}
 use Rattle.nit_plan.proofs.laws.words_inked.Goals as goal
 
 pub returns-clause-after : goal.returns-clause-after

@@ -1,13 +1,5 @@
-use Rattle.std.proofs.Common.{ℕ, ap, sym, ◌∙◌}
-use Rattle.nit_rect.specs.declared.point.Point.{Point}
-use Rattle.nit_stack.specs.Sources.{pixel}
-use Rattle.nit_stack.specs.Stack.{is_slot}
-use Rattle.nit_damage.specs.Damage.{once}
-use Rattle.nit_repaint.specs.PixelOwners.{owner_passes}
-use Rattle.nit_repaint.specs.WantedPixels.{is_wanted}
-use Rattle.std.specs.Prelude.{◌&&◌}
-use Rattle.std.proofs.lemmas.Option.{same_Some}
-use Rattle.nit_repaint.proofs.WantedLemmas.{comes_as, seat_not, seat_set}
+use Rattle.std.proofs.Common.{ap, sym, ℕ, ◌&&◌, ◌∙◌}
+use Rattle.nit_repaint.proofs.Lemmas.{Point, comes_as, is_slot, is_wanted, once, owner_passes, pixel, same_Some, seat_not, seat_set}
 use Rattle.nit_repaint.proofs.buffers.paint_seat.Goals as goal
 
 pub returns-then-view-of-clause-painted : goal.returns-then-view-of-clause-painted

@@ -1,8 +1,4 @@
-use Rattle.std.proofs.Common.{◌∙◌, refl, arith}
-use Rattle.nit_paint.specs.Pieces.{source_of_number}
-use Rattle.nit_paint.proofs.ForCallers.{other_count}
-use Rattle.nit_repaint.proofs.GlassLemmas.{still_held}
-use Rattle.nit_repaint.proofs.WantedLemmas.{all_wanted, none_wanted, one_wanted, seat_here, seat_there}
+use Rattle.nit_repaint.proofs.Lemmas.{all_wanted, arith, none_wanted, one_wanted, other_count, refl, seat_here, seat_there, source_of_number, still_held, ◌∙◌}
 use Rattle.nit_repaint.proofs.buffers.paint_session.Goals as goal
 
 pub views-init : goal.views-init

@@ -1,9 +1,5 @@
-use Rattle.std.proofs.Common.{◌≡◌, length, map, slice_index_or}
-use Rattle.nit_stack.specs.Sources.{pixel}
-use Rattle.nit_paint.specs.Repaint.{Repainted, no_sight}
-use Rattle.nit_paint.specs.Pieces.{source_of_number}
-use Rattle.nit_repaint.specs.Glasses.{glasses_of_call}
-use Rattle.nit_repaint.specs.WantedPixels.{wanted_of_first}
+use Rattle.std.proofs.Common.{length, map, slice_index_or, ◌≡◌}
+use Rattle.nit_repaint.proofs.Lemmas.{Repainted, glasses_of_call, no_sight, pixel, source_of_number, wanted_of_first}
 use Rattle.nit_repaint.proofs.buffers.paint_session.Given as goal
 
 abbrev pub invariant-views : goal.invariant-views

@@ -1,10 +1,5 @@
-use Rattle.std.proofs.Common.{◌≡◌, false, refl, ap, ◌∙◌, arith}
-use Rattle.std.specs.List.{list_any}
-use Rattle.nit_stack.specs.Stack.{is_slot}
-use Rattle.nit_stack.proofs.ForCallers.{found_some}
-use Rattle.nit_damage.specs.Damage.{once}
-use Rattle.nit_repaint.proofs.ChangedOwners.{fallen_owns, gone_owns, moved_owns}
-use Rattle.nit_repaint.proofs.ViewsInFront.{stands_nowhere, stands_there}
+use Rattle.nit_repaint.proofs.Lemmas.{fallen_owns, found_some, gone_owns, is_slot, list_any, moved_owns, once, stands_nowhere, stands_there}
+use Rattle.std.proofs.Common.{ap, arith, false, refl, ◌∙◌, ◌≡◌}
 use Rattle.nit_repaint.proofs.changes.begin_changed.Goals as goal
 
 pub returns-then-len-now-clause-to_come : goal.returns-then-len-now-clause-to_come

@@ -1,6 +1,4 @@
-use Rattle.nit_rect.specs.declared.point.Point.{Point}
-use Rattle.nit_repaint.specs.ViewChange.{slot_owns_either}
-use Rattle.nit_repaint.proofs.WantedLemmas.{comes_as}
+use Rattle.nit_repaint.proofs.Lemmas.{Point, comes_as, slot_owns_either}
 use Rattle.nit_repaint.proofs.changes.paint_changed.Goals as goal
 
 pub returns-clause-painted : goal.returns-clause-painted

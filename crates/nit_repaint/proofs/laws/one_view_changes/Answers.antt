@@ -1,11 +1,5 @@
-use Rattle.std.proofs.Common.{◌≡◌, ℕ, Some, refl, ap, ◌∙◌}
-use Rattle.std.proofs.lemmas.Bool.{eqb-true}
-use Rattle.nit_stack.specs.Orders.{without}
-use Rattle.nit_stack.specs.Stack.{is_slot, with_offset, with_rect}
-use Rattle.nit_stack.proofs.ForCallers.{found_passes}
-use Rattle.nit_stack.specs.Stack.{place_of}
-use Rattle.nit_repaint.proofs.ViewRemovalLemmas.{gone_change}
-use Rattle.nit_repaint.proofs.ViewChangeLemmas.{changes, moves_above, moves_back, moves_front}
+use Rattle.nit_repaint.proofs.Lemmas.{changes, eqb-true, found_passes, gone_change, is_slot, moves_above, moves_back, moves_front, place_of, with_offset, with_rect, without}
+use Rattle.std.proofs.Common.{Some, ap, refl, ℕ, ◌∙◌, ◌≡◌}
 use Rattle.nit_repaint.proofs.laws.one_view_changes.Goals as goal
 
 pub returns-clause-placed : goal.returns-clause-placed

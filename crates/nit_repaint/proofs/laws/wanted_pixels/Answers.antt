@@ -1,4 +1,4 @@
-use Rattle.nit_repaint.proofs.WantedLemmas.{all_of_session, part_of_session}
+use Rattle.nit_repaint.proofs.Lemmas.{all_of_session, part_of_session}
 use Rattle.nit_repaint.proofs.laws.wanted_pixels.Goals as goal
 
 pub returns-clause-all : goal.returns-clause-all

@@ -1,6 +1,4 @@
-use Rattle.std.proofs.Common.{arith}
-use Rattle.std.proofs.lemmas.Int.{ints}
-use Rattle.nit_repaint.proofs.BufferParts.{across_told, down_told, part_same}
+use Rattle.nit_repaint.proofs.Lemmas.{across_told, arith, down_told, ints, part_same}
 use Rattle.nit_repaint.proofs.part.shown_part.Goals as goal
 
 pub returns : goal.returns

@@ -1,6 +1,4 @@
-use Rattle.std.proofs.Common.{arith}
-use Rattle.std.proofs.lemmas.Int.{ints}
-use Rattle.nit_repaint.proofs.BufferParts.{run_none, run_same}
+use Rattle.nit_repaint.proofs.Lemmas.{arith, ints, run_none, run_same}
 use Rattle.nit_repaint.proofs.part.shown_run.Goals as goal
 
 pub returns-then-right-left-clause-same : goal.returns-then-right-left-clause-same

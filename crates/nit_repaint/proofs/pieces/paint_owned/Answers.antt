@@ -1,6 +1,4 @@
-use Rattle.std.proofs.Common.{map}
-use Rattle.nit_repaint.specs.Glasses.{glasses_of_call}
-use Rattle.nit_repaint.proofs.GlassLemmas.{held_words, shown_session}
+use Rattle.nit_repaint.proofs.Lemmas.{glasses_of_call, held_words, map, shown_session}
 use Rattle.nit_repaint.proofs.pieces.paint_owned.Goals as goal
 
 pub paint_shown-requires-clause-session : goal.paint_shown-requires-clause-session

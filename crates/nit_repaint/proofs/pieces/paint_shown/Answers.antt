@@ -1,5 +1,4 @@
-use Rattle.std.proofs.Common.{map, ◌∙◌}
-use Rattle.nit_repaint.proofs.GlassLemmas.{idle_at, left_at, own_painted, own_words, scene_painted, scene_words}
+use Rattle.nit_repaint.proofs.Lemmas.{idle_at, left_at, map, own_painted, own_words, scene_painted, scene_words, ◌∙◌}
 use Rattle.nit_repaint.proofs.pieces.paint_shown.Goals as goal
 
 pub paint_view-requires-clause-words : goal.paint_view-requires-clause-words

@@ -1,8 +1,4 @@
-use Rattle.std.proofs.Common.{◌∙◌, refl, arith}
-use Rattle.nit_paint.specs.Pieces.{source_of_number}
-use Rattle.nit_paint.proofs.ForCallers.{other_count}
-use Rattle.nit_repaint.proofs.PieceLemmas.{all_came, none_came, one_came}
-use Rattle.nit_repaint.proofs.GlassLemmas.{screen_of, still_held}
+use Rattle.nit_repaint.proofs.Lemmas.{all_came, arith, none_came, one_came, other_count, refl, screen_of, source_of_number, still_held, ◌∙◌}
 use Rattle.nit_repaint.proofs.pieces.paint_to_come.Goals as goal
 
 pub pieces-init : goal.pieces-init

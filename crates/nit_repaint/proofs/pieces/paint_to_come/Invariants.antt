@@ -1,10 +1,5 @@
-use Rattle.std.proofs.Common.{◌≡◌, ◌≤◌, length, map, slice_index_or}
-use Rattle.nit_rect.specs.declared.point.Point.{Point}
-use Rattle.nit_damage.specs.Cutter.{FitsStack, pieces_left, to_come}
-use Rattle.nit_paint.specs.Repaint.{Repainted, no_sight}
-use Rattle.nit_paint.specs.Pieces.{source_of_number}
-use Rattle.nit_repaint.specs.PixelsToCome.{has_come}
-use Rattle.nit_repaint.specs.Glasses.{glasses_of_call}
+use Rattle.std.proofs.Common.{length, map, slice_index_or, ◌≡◌, ◌≤◌}
+use Rattle.nit_repaint.proofs.Lemmas.{FitsStack, Point, Repainted, glasses_of_call, has_come, no_sight, pieces_left, source_of_number, to_come}
 use Rattle.nit_repaint.proofs.pieces.paint_to_come.Given as goal
 
 abbrev pub invariant-pieces : goal.invariant-pieces

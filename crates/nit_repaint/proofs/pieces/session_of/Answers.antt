@@ -1,6 +1,4 @@
-use Rattle.std.proofs.Common.{length}
-use Rattle.nit_stack.specs.Stack.{IsSlotView, is_slot}
-use Rattle.nit_stack.proofs.ForCallers.{All_found}
+use Rattle.nit_repaint.proofs.Lemmas.{All_found, IsSlotView, is_slot, length}
 use Rattle.nit_repaint.proofs.pieces.session_of.Goals as goal
 
 pub returns-clause-within : goal.returns-clause-within

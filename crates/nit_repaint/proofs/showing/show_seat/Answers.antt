@@ -1,15 +1,5 @@
-use Rattle.std.proofs.Common.{ℕ, ap, sym, ◌∙◌}
-use Rattle.std.specs.Prelude.{◌&&◌}
-use Rattle.std.proofs.lemmas.Option.{same_Some}
-use Rattle.nit_rect.specs.declared.point.Point.{Point}
-use Rattle.nit_stack.specs.Sources.{pixel}
-use Rattle.nit_stack.specs.Stack.{is_slot}
-use Rattle.nit_damage.specs.Damage.{once}
-use Rattle.nit_paint.proofs.ForCallers.{nothing_set}
-use Rattle.nit_repaint.specs.PixelOwners.{owner_passes}
-use Rattle.nit_repaint.specs.WantedPixels.{is_wanted}
-use Rattle.nit_repaint.proofs.FrameCopies.{shown_as}
-use Rattle.nit_repaint.proofs.WantedLemmas.{seat_not, seat_set}
+use Rattle.nit_repaint.proofs.Lemmas.{Point, is_slot, is_wanted, nothing_set, once, owner_passes, pixel, same_Some, seat_not, seat_set, shown_as}
+use Rattle.std.proofs.Common.{ap, sym, ℕ, ◌&&◌, ◌∙◌}
 use Rattle.nit_repaint.proofs.showing.show_seat.Goals as goal
 
 pub returns-then-view-of-clause-shown : goal.returns-then-view-of-clause-shown

@@ -1,7 +1,4 @@
-use Rattle.std.proofs.Common.{◌∙◌, length, refl, arith}
-use Rattle.nit_repaint.specs.ShownPixels.{shown_at}
-use Rattle.nit_repaint.proofs.FrameCopies.{first_shown, last_shown, next_shown}
-use Rattle.nit_repaint.proofs.WantedLemmas.{seat_here, seat_there}
+use Rattle.nit_repaint.proofs.Lemmas.{arith, first_shown, last_shown, length, next_shown, refl, seat_here, seat_there, shown_at, ◌∙◌}
 use Rattle.nit_repaint.proofs.showing.show_session.Goals as goal
 
 pub views-init : goal.views-init

@@ -1,8 +1,5 @@
-use Rattle.std.proofs.Common.{◌≡◌, length}
-use Rattle.nit_stack.specs.Sources.{pixel}
-use Rattle.nit_paint.specs.FrameCopy.{AreSet}
-use Rattle.nit_repaint.specs.WantedPixels.{wanted_of_first}
-use Rattle.nit_repaint.specs.ShownPixels.{shown_at}
+use Rattle.std.proofs.Common.{length, ◌≡◌}
+use Rattle.nit_repaint.proofs.Lemmas.{AreSet, pixel, shown_at, wanted_of_first}
 use Rattle.nit_repaint.proofs.showing.show_session.Given as goal
 
 abbrev pub invariant-views : goal.invariant-views

@@ -1,6 +1,4 @@
-use Rattle.std.proofs.Common.{length, refl, ◌∙◌, arith}
-use Rattle.nit_repaint.specs.ShownPixels.{shown_at}
-use Rattle.nit_repaint.proofs.FrameCopies.{all_shown, none_shown, one_shown, piece_shown}
+use Rattle.nit_repaint.proofs.Lemmas.{all_shown, arith, length, none_shown, one_shown, piece_shown, refl, shown_at, ◌∙◌}
 use Rattle.nit_repaint.proofs.showing.show_to_come.Goals as goal
 
 pub pieces-init : goal.pieces-init

@@ -1,9 +1,5 @@
-use Rattle.std.proofs.Common.{◌≡◌, ◌≤◌, length}
-use Rattle.nit_rect.specs.declared.point.Point.{Point}
-use Rattle.nit_damage.specs.Cutter.{FitsStack, pieces_left, to_come}
-use Rattle.nit_paint.specs.FrameCopy.{AreSet}
-use Rattle.nit_repaint.specs.PixelsToCome.{has_come}
-use Rattle.nit_repaint.specs.ShownPixels.{shown_at}
+use Rattle.std.proofs.Common.{length, ◌≡◌, ◌≤◌}
+use Rattle.nit_repaint.proofs.Lemmas.{AreSet, FitsStack, Point, has_come, pieces_left, shown_at, to_come}
 use Rattle.nit_repaint.proofs.showing.show_to_come.Given as goal
 
 abbrev pub invariant-pieces : goal.invariant-pieces

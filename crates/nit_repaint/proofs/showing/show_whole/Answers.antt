@@ -1,6 +1,4 @@
-use Rattle.std.proofs.Common.{length, true}
-use Rattle.nit_repaint.specs.ShownPixels.{shown_at}
-use Rattle.nit_repaint.proofs.FrameCopies.{shown_as, whole_shown}
+use Rattle.nit_repaint.proofs.Lemmas.{length, shown_as, shown_at, true, whole_shown}
 use Rattle.nit_repaint.proofs.showing.show_whole.Goals as goal
 
 pub returns-clause-shown : goal.returns-clause-shown

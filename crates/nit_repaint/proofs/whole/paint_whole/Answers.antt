@@ -1,6 +1,4 @@
-use Rattle.std.proofs.Common.{length, arith}
-use Rattle.nit_paint.specs.Pieces.{source_of_number}
-use Rattle.nit_repaint.proofs.GlassLemmas.{all_painted, held_by_all}
+use Rattle.nit_repaint.proofs.Lemmas.{all_painted, arith, held_by_all, length, source_of_number}
 use Rattle.nit_repaint.proofs.whole.paint_whole.Goals as goal
 
 pub paint_to_come-requires-clause-held : goal.paint_to_come-requires-clause-held

@@ -1,8 +1,5 @@
-use Rattle.std.proofs.Common.{◌≡◌, ◌++◌, drop}
-use Rattle.std.specs.List.{flat_map}
-use Rattle.nit_script.specs.Grammar.{spelled}
-use Rattle.nit_report.specs.EntrySpelling.{event_spelling}
-use Rattle.nit_report.specs.EventsText.{taken}
+use Rattle.std.proofs.Common.{drop, ◌++◌, ◌≡◌}
+use Rattle.nit_report.proofs.Lemmas.{event_spelling, flat_map, spelled, taken}
 use Rattle.nit_report.proofs.events.events_text.Given as goal
 
 abbrev pub invariant-loop-entry : goal.invariant-loop-entry

@@ -1,12 +1,6 @@
-use Rattle.std.proofs.Common.{◌≡◌, ℕ, ◌≤◌, ◌++◌, List, [], length, sym, ap, ◌∙◌, subst, arith}
-use Rattle.std.specs.List.{AllByRecursion}
-use Rattle.nit_script.specs.declared.line.Line.{Line}
-use Rattle.nit_script.specs.Spelling.{FitsLine}
-use Rattle.nit_report.specs.Draw.{AppendsDraws, draws_in_turn}
-use Rattle.nit_report.specs.Generator.{first_phase, second_phase, seed, client_script}
-use Rattle.nit_report.proofs.DrawLemmas.{appends_then}
-use Rattle.nit_report.proofs.DrawnFits.{client_fits}
-use Rattle.nit_report.proofs.DrawnCounts.{client_lines}
+use Rattle.std.proofs.Common.{List, [], ap, arith, length, subst, sym, ℕ, ◌++◌, ◌∙◌, ◌≡◌, ◌≤◌}
+use Rattle.nit_report.proofs.Lemmas.{AllByRecursion, AppendsDraws, FitsLine, Line, appends_then, client_fits, client_lines, draws_in_turn, first_phase, second_phase, seed}
+use Rattle.nit_report.specs.Generator.{client_script}
 use Rattle.nit_report.proofs.generated_client.client_script.Goals as goal
 use Rattle.nit_report.proofs.generated_client.client_script.Goals.{In_ok-put_second_phase}
 

@@ -1,9 +1,6 @@
-use Rattle.std.proofs.Common.{refl}
+use Rattle.nit_report.proofs.Lemmas.{appends_one, appends_then, backdrop, just, refl}
 use Rattle.nit_events.specs.declared.call.Call.TheVariants as call
 use Rattle.nit_script.specs.declared.line.Line.TheVariants as line
-use Rattle.nit_report.specs.Draw.{just}
-use Rattle.nit_report.specs.Generator.{backdrop}
-use Rattle.nit_report.proofs.DrawLemmas.{appends_one, appends_then}
 use Rattle.nit_report.proofs.generated_client.put_first_phase.Goals as goal
 
 pub returns : goal.returns

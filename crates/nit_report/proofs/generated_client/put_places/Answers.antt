@@ -1,6 +1,5 @@
-use Rattle.std.proofs.Common.{◌-◌, [], ◌∷◌, arith}
-use Rattle.nit_report.specs.Generator.{placed}
-use Rattle.nit_report.proofs.DrawLemmas.{each_none, each_more, each_done, appends_one}
+use Rattle.std.proofs.Common.{[], arith, ◌-◌, ◌∷◌}
+use Rattle.nit_report.proofs.Lemmas.{appends_one, each_done, each_more, each_none, placed}
 use Rattle.nit_report.proofs.generated_client.put_places.Goals as goal
 
 pub loop-view-init : goal.loop-view-init

@@ -1,6 +1,5 @@
-use Rattle.std.proofs.Common.{◌-◌, [], ◌∷◌}
-use Rattle.nit_report.specs.Draw.{AppendsDraws, for_each}
-use Rattle.nit_report.specs.Generator.{placed}
+use Rattle.std.proofs.Common.{[], ◌-◌, ◌∷◌}
+use Rattle.nit_report.proofs.Lemmas.{AppendsDraws, for_each, placed}
 use Rattle.nit_report.proofs.generated_client.put_places.Given as goal
 
 abbrev pub invariant-loop-view : goal.invariant-loop-view

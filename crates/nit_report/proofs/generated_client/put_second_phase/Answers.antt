@@ -1,8 +1,6 @@
-use Rattle.std.proofs.Common.{[], ◌∷◌, refl, arith}
+use Rattle.std.proofs.Common.{[], arith, refl, ◌∷◌}
+use Rattle.nit_report.proofs.Lemmas.{appends_one, appends_then, busy, each_done, each_more, each_none, just}
 use Rattle.nit_script.specs.declared.line.Line.TheVariants as line
-use Rattle.nit_report.specs.Draw.{just}
-use Rattle.nit_report.specs.Generator.{busy}
-use Rattle.nit_report.proofs.DrawLemmas.{each_none, each_more, each_done, appends_one, appends_then}
 use Rattle.nit_report.proofs.generated_client.put_second_phase.Goals as goal
 
 pub loop-j-init : goal.loop-j-init

@@ -1,6 +1,5 @@
 use Rattle.std.proofs.Common.{[], ◌∷◌}
-use Rattle.nit_report.specs.Draw.{AppendsDraws, for_each}
-use Rattle.nit_report.specs.Generator.{busy}
+use Rattle.nit_report.proofs.Lemmas.{AppendsDraws, busy, for_each}
 use Rattle.nit_report.proofs.generated_client.put_second_phase.Given as goal
 
 abbrev pub invariant-loop-j : goal.invariant-loop-j

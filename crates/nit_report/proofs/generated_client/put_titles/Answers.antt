@@ -1,9 +1,7 @@
-use Rattle.std.proofs.Common.{ℕ, ◌-◌, List, [], ◌∷◌, refl, ap, arith}
+use Rattle.std.proofs.Common.{List, [], ap, arith, refl, ℕ, ◌-◌, ◌∷◌}
+use Rattle.nit_report.proofs.Lemmas.{appends_one, each_done, each_more, each_none, just, titled}
 use Rattle.nit_events.specs.declared.call.Call.TheVariants as call
 use Rattle.nit_script.specs.declared.line.Line.TheVariants as line
-use Rattle.nit_report.specs.Draw.{just}
-use Rattle.nit_report.specs.Generator.{titled}
-use Rattle.nit_report.proofs.DrawLemmas.{each_none, each_more, each_done, appends_one}
 use Rattle.nit_report.proofs.generated_client.put_titles.Goals as goal
 
 pub loop-view-init : goal.loop-view-init

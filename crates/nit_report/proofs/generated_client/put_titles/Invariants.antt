@@ -1,6 +1,5 @@
-use Rattle.std.proofs.Common.{ℕ, ◌-◌, [], ◌∷◌}
-use Rattle.nit_report.specs.Draw.{AppendsDraws, for_each, just}
-use Rattle.nit_report.specs.Generator.{titled}
+use Rattle.std.proofs.Common.{[], ℕ, ◌-◌, ◌∷◌}
+use Rattle.nit_report.proofs.Lemmas.{AppendsDraws, for_each, just, titled}
 use Rattle.nit_report.proofs.generated_client.put_titles.Given as goal
 
 abbrev pub invariant-loop-view : goal.invariant-loop-view

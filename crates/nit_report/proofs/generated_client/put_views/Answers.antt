@@ -1,8 +1,7 @@
-use Rattle.std.proofs.Common.{◌-◌, [], ◌∷◌, refl, arith}
+use Rattle.std.proofs.Common.{[], arith, refl, ◌-◌, ◌∷◌}
+use Rattle.nit_report.proofs.Lemmas.{appends_one, each_done, each_more, each_none, just}
 use Rattle.nit_events.specs.declared.call.Call.TheVariants as call
 use Rattle.nit_script.specs.declared.line.Line.TheVariants as line
-use Rattle.nit_report.specs.Draw.{just}
-use Rattle.nit_report.proofs.DrawLemmas.{each_none, each_more, each_done, appends_one}
 use Rattle.nit_report.proofs.generated_client.put_views.Goals as goal
 
 pub loop-view-init : goal.loop-view-init

@@ -1,7 +1,4 @@
-use Rattle.std.proofs.Common.{ℕ, List, IsTrue, arith, subst, sym}
-use Rattle.std.proofs.lemmas.Bool.{true≢false}
-use Rattle.nit_events.specs.Text.{is_text}
-use Rattle.nit_report.proofs.Titles.{is_title}
+use Rattle.nit_report.proofs.Lemmas.{IsTrue, List, arith, is_text, is_title, subst, sym, true≢false, ℕ}
 use Rattle.nit_report.proofs.generated_client.title.Goals as goal
 
 pub number-end-requires : goal.number-end-requires

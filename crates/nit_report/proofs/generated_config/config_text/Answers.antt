@@ -1,8 +1,5 @@
-use Rattle.std.proofs.Common.{◌≡◌, ℕ, ◌+◌, List, ◌++◌, arith, append_assoc}
-use Rattle.std.specs.Prelude.{codes}
-use Rattle.std.specs.List.{flat_map, range_with_len}
-use Rattle.nit_report.specs.Generator.{client_block}
-use Rattle.nit_report.proofs.DrawLemmas.{flat_map_next}
+use Rattle.std.proofs.Common.{List, append_assoc, arith, ℕ, ◌++◌, ◌+◌, ◌≡◌}
+use Rattle.nit_report.proofs.Lemmas.{client_block, codes, flat_map, flat_map_next, range_with_len}
 use Rattle.nit_report.proofs.generated_config.config_text.Goals as goal
 
 one_more : (k : ℕ) (head before now : List ℕ) → before ≡ head ++ flat_map client_block (range_with_len 0 k) → now ≡ before ++ client_block k → now ≡ head ++ flat_map client_block (range_with_len 0 (k + 1))

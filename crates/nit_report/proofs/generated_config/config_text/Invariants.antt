@@ -1,7 +1,5 @@
-use Rattle.std.proofs.Common.{◌≡◌, ◌++◌}
-use Rattle.std.specs.Prelude.{codes}
-use Rattle.std.specs.List.{flat_map, range_with_len}
-use Rattle.nit_report.specs.Generator.{client_block}
+use Rattle.std.proofs.Common.{◌++◌, ◌≡◌}
+use Rattle.nit_report.proofs.Lemmas.{client_block, codes, flat_map, range_with_len}
 use Rattle.nit_report.proofs.generated_config.config_text.Given as goal
 
 abbrev pub invariant-loop-client : goal.invariant-loop-client

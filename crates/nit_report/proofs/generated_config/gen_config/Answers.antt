@@ -1,11 +1,6 @@
-use Rattle.std.proofs.Common.{◌≡◌, ℕ, ◌+◌, List, [], ◌∷◌, ◌++◌, map, sym, arith}
-use Rattle.std.specs.Prelude.{codes, false}
-use Rattle.std.specs.List.{range_with_len}
-use Rattle.std.proofs.lemmas.List.FromFn.{map-range_with_len_more}
-use Rattle.nit_config.specs.declared.config.Member.{Member}
-use Rattle.nit_config.specs.ConfigurationRanges.{IsConfiguration}
-use Rattle.nit_report.specs.Generator.{generated_member, generated_configuration}
-use Rattle.nit_report.proofs.GeneratedClients.{generated_is_configured}
+use Rattle.std.proofs.Common.{List, [], arith, false, map, sym, ℕ, ◌++◌, ◌+◌, ◌∷◌, ◌≡◌}
+use Rattle.nit_report.proofs.Lemmas.{IsConfiguration, Member, codes, generated_is_configured, generated_member, map-range_with_len_more, range_with_len}
+use Rattle.nit_report.specs.Generator.{generated_configuration}
 use Rattle.nit_report.proofs.generated_config.gen_config.Goals as goal
 
 one_more : (k : ℕ) (xs ys : List Member) (m : Member) → xs ≡ map generated_member (range_with_len 0 k) → m ≡ generated_member k → ys ≡ xs ++ m ∷ [] → ys ≡ map generated_member (range_with_len 0 (k + 1))

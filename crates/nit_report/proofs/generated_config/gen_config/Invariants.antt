@@ -1,6 +1,5 @@
-use Rattle.std.proofs.Common.{◌≡◌, map}
-use Rattle.std.specs.List.{range_with_len}
-use Rattle.nit_report.specs.Generator.{generated_member}
+use Rattle.std.proofs.Common.{map, ◌≡◌}
+use Rattle.nit_report.proofs.Lemmas.{generated_member, range_with_len}
 use Rattle.nit_report.proofs.generated_config.gen_config.Given as goal
 
 abbrev pub invariant-loop-client : goal.invariant-loop-client

@@ -1,6 +1,5 @@
-use Rattle.std.proofs.Common.{◌≡◌, ℕ, List, ◌++◌, ap, ◌∙◌, append_assoc}
-use Rattle.std.specs.Prelude.{codes}
-use Rattle.nit_report.specs.Generator.{client_label, script_name}
+use Rattle.std.proofs.Common.{List, ap, append_assoc, ℕ, ◌++◌, ◌∙◌, ◌≡◌}
+use Rattle.nit_report.proofs.Lemmas.{client_label, codes, script_name}
 use Rattle.nit_report.proofs.generated_config.put_block.Goals as goal
 
 five_pieces : (before a b c d e one two three four five : List ℕ) → one ≡ before ++ a → two ≡ one ++ b → three ≡ two ++ c → four ≡ three ++ d → five ≡ four ++ e → five ≡ before ++ (a ++ b ++ c ++ d ++ e)

@@ -1,6 +1,4 @@
-use Rattle.std.proofs.Common.{arith}
-use Rattle.nit_report.specs.Generator.{click}
-use Rattle.nit_report.proofs.DrawLemmas.{each_none, each_more, each_done}
+use Rattle.nit_report.proofs.Lemmas.{arith, click, each_done, each_more, each_none}
 use Rattle.nit_report.proofs.generated_user.put_clicks.Goals as goal
 
 pub loop-i-init : goal.loop-i-init

@@ -1,5 +1,4 @@
-use Rattle.nit_report.specs.Draw.{AppendsDraws, for_each}
-use Rattle.nit_report.specs.Generator.{click}
+use Rattle.nit_report.proofs.Lemmas.{AppendsDraws, click, for_each}
 use Rattle.nit_report.proofs.generated_user.put_clicks.Given as goal
 
 abbrev pub invariant-loop-i : goal.invariant-loop-i

@@ -1,13 +1,7 @@
-use Rattle.std.proofs.Common.{◌≡◌, ℕ, ◌≤◌, ◌++◌, List, [], length, refl, sym, ap, ◌∙◌, subst, arith}
-use Rattle.std.specs.List.{AllByRecursion}
-use Rattle.nit_script.specs.declared.line.InputLine.{InputLine}
+use Rattle.std.proofs.Common.{List, [], ap, arith, length, refl, subst, sym, ℕ, ◌++◌, ◌∙◌, ◌≡◌, ◌≤◌}
+use Rattle.nit_report.proofs.Lemmas.{AllByRecursion, AppendsDraws, FitsInputLine, InputLine, appends_one, appends_then, draws_in_turn, just, seed, user_fits, user_lines, user_phases}
+use Rattle.nit_report.specs.Generator.{user_script}
 use Rattle.nit_script.specs.declared.line.InputLine.TheVariants as input
-use Rattle.nit_script.specs.Spelling.{FitsInputLine}
-use Rattle.nit_report.specs.Draw.{AppendsDraws, just, draws_in_turn}
-use Rattle.nit_report.specs.Generator.{user_phases, seed, user_script}
-use Rattle.nit_report.proofs.DrawLemmas.{appends_one, appends_then}
-use Rattle.nit_report.proofs.DrawnFits.{user_fits}
-use Rattle.nit_report.proofs.DrawnCounts.{user_lines}
 use Rattle.nit_report.proofs.generated_user.user_script.Goals as goal
 use Rattle.nit_report.proofs.generated_user.user_script.Goals.{In_ok-put_xray_shot}
 

@@ -1,8 +1,5 @@
-use Rattle.std.proofs.Common.{◌≡◌, ℕ, ◌+◌, List, [], ◌∷◌, ◌++◌, map, sym, ap, ◌∙◌, arith}
-use Rattle.std.specs.List.{range_with_len}
-use Rattle.std.proofs.lemmas.List.{map-append}
-use Rattle.std.proofs.lemmas.List.FromFn.{map-range_with_len_more}
-use Rattle.nit_report.specs.Generator.{client_text}
+use Rattle.std.proofs.Common.{List, [], ap, arith, map, sym, ℕ, ◌++◌, ◌+◌, ◌∙◌, ◌∷◌, ◌≡◌}
+use Rattle.nit_report.proofs.Lemmas.{client_text, map-append, map-range_with_len_more, range_with_len}
 use Rattle.nit_report.proofs.generator.client_texts.Goals as goal
 
 one_more : {V : Type 0} (view : V → List ℕ) (n k : ℕ) (before now : List V) (v : V) → map view before ≡ map (client_text n) (range_with_len 0 k) → view v ≡ client_text n k → now ≡ before ++ v ∷ [] → map view now ≡ map (client_text n) (range_with_len 0 (k + 1))

@@ -1,6 +1,5 @@
-use Rattle.std.proofs.Common.{◌≡◌, map}
-use Rattle.std.specs.List.{range_with_len}
-use Rattle.nit_report.specs.Generator.{client_text}
+use Rattle.std.proofs.Common.{map, ◌≡◌}
+use Rattle.nit_report.proofs.Lemmas.{client_text, range_with_len}
 use Rattle.nit_report.proofs.generator.client_texts.Given as goal
 
 abbrev pub invariant-loop-client : goal.invariant-loop-client

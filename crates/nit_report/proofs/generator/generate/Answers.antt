@@ -1,8 +1,4 @@
-use Rattle.std.proofs.Common.{ℕ, List, map, sym, subst}
-use Rattle.std.specs.List.{range_with_len, AllZip}
-use Rattle.nit_script.specs.Grammar.{ReadsClient, ReadsInput}
-use Rattle.nit_report.specs.Generator.{client_script, user_script}
-use Rattle.nit_report.proofs.GeneratedTexts.{clients_read, user_reads}
+use Rattle.nit_report.proofs.Lemmas.{AllZip, List, ReadsClient, ReadsInput, client_script, clients_read, map, range_with_len, subst, sym, user_reads, user_script, ℕ}
 use Rattle.nit_report.proofs.generator.generate.Goals as goal
 
 pub returns-clause-reads : goal.returns-clause-reads

@@ -1,7 +1,5 @@
-use Rattle.std.proofs.Common.{◌≡◌, ◌++◌, drop}
-use Rattle.std.specs.List.{flat_map}
-use Rattle.nit_script.specs.Grammar.{spelled}
-use Rattle.nit_report.specs.EntrySpelling.{entry_spelling}
+use Rattle.std.proofs.Common.{drop, ◌++◌, ◌≡◌}
+use Rattle.nit_report.proofs.Lemmas.{entry_spelling, flat_map, spelled}
 use Rattle.nit_report.proofs.journal.journal_text.Given as goal
 
 abbrev pub invariant-loop-entry : goal.invariant-loop-entry

@@ -1,4 +1,4 @@
-use Rattle.nit_report.proofs.DrawnCounts.{client_lines, client_calls, client_phases}
+use Rattle.nit_report.proofs.Lemmas.{client_calls, client_lines, client_phases}
 use Rattle.nit_report.proofs.laws.generated_client_counts.Goals as goal
 
 pub returns-clause-lines : goal.returns-clause-lines

@@ -1,4 +1,4 @@
-use Rattle.nit_report.proofs.DrawnCounts.{user_lines, user_devices, user_shots, user_phase_count}
+use Rattle.nit_report.proofs.Lemmas.{user_devices, user_lines, user_phase_count, user_shots}
 use Rattle.nit_report.proofs.laws.generated_user_counts.Goals as goal
 
 pub returns-clause-lines : goal.returns-clause-lines

@@ -1,4 +1,4 @@
-use Rattle.nit_report.proofs.JournalLemmas.{bad_is_one, read_and_bad}
+use Rattle.nit_report.proofs.Lemmas.{bad_is_one, read_and_bad}
 use Rattle.nit_report.proofs.laws.journal_first_bad_is_one.Goals as goal
 
 pub returns-clause-one : goal.returns-clause-one

@@ -1,6 +1,4 @@
-use Rattle.std.proofs.Common.{sym, ◌∙◌}
-use Rattle.nit_script.proofs.ForCallers.{same_read}
-use Rattle.nit_report.proofs.EntryLaws.{journal_reader}
+use Rattle.nit_report.proofs.Lemmas.{journal_reader, same_read, sym, ◌∙◌}
 use Rattle.nit_report.proofs.laws.journal_reading_is_one.Goals as goal
 
 pub returns-clause-entries : goal.returns-clause-entries

@@ -1,6 +1,5 @@
-use Rattle.std.proofs.Common.{◌+◌, arith}
-use Rattle.nit_script.proofs.ForCallers.{not_empty}
-use Rattle.nit_report.proofs.JournalLemmas.{has_read_more, shorter, few_entries, first_bad}
+use Rattle.nit_report.proofs.Lemmas.{few_entries, first_bad, has_read_more, not_empty, shorter}
+use Rattle.std.proofs.Common.{arith, ◌+◌}
 use Rattle.nit_report.proofs.parse.entries_of.Goals as goal
 
 pub overflow_cast-result : goal.overflow_cast-result

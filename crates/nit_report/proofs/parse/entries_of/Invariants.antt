@@ -1,5 +1,4 @@
-use Rattle.std.proofs.Common.{length}
-use Rattle.nit_report.proofs.JournalLemmas.{HasRead}
+use Rattle.nit_report.proofs.Lemmas.{HasRead, length}
 use Rattle.nit_report.proofs.parse.entries_of.Given as goal
 
 abbrev pub invariant-loop-rest : goal.invariant-loop-rest

@@ -1,4 +1,4 @@
-use Rattle.nit_report.proofs.JournalLemmas.{read_is, few_are_read, is_read, is_bad, answer_at}
+use Rattle.nit_report.proofs.Lemmas.{answer_at, few_are_read, is_bad, is_read, read_is}
 use Rattle.nit_report.proofs.parse.parse_journal.Goals as goal
 
 pub returns-clause-read : goal.returns-clause-read

@@ -1,6 +1,5 @@
-use Rattle.std.proofs.Common.{◌≡◌, ◌+◌, length, arith}
-use Rattle.std.specs.Fmt.{decimal}
-use Rattle.nit_report.proofs.Decimals.{one_digit, one_digit_more, few_digits}
+use Rattle.std.proofs.Common.{arith, length, ◌+◌, ◌≡◌}
+use Rattle.nit_report.proofs.Lemmas.{decimal, few_digits, one_digit, one_digit_more}
 use Rattle.nit_report.proofs.picture.+digit_count.Goals as goal
 
 pub returns-then-n-lt10 : goal.returns-then-n-lt10

@@ -1,6 +1,5 @@
-use Rattle.std.proofs.Common.{◌≡◌, ◌+◌, ◌*◌, ◌++◌, take}
-use Rattle.std.specs.List.{flat_map}
-use Rattle.nit_word.specs.Channels.{channels}
+use Rattle.std.proofs.Common.{take, ◌*◌, ◌++◌, ◌+◌, ◌≡◌}
+use Rattle.nit_report.proofs.Lemmas.{channels, flat_map}
 use Rattle.nit_report.proofs.picture.write_pixels.Given as goal
 
 abbrev pub invariant-loop-word : goal.invariant-loop-word

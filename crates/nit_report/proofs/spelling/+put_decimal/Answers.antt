@@ -1,6 +1,5 @@
-use Rattle.std.proofs.Common.{ℕ, ◌+◌, ◌/◌, ◌%◌, List, [], ◌∷◌, ◌++◌, ap, sym, ◌∙◌, arith, append_assoc}
-use Rattle.std.specs.Fmt.{decimal}
-use Rattle.std.proofs.lemmas.Fmt.{decimal_digit, decimal_step}
+use Rattle.std.proofs.Common.{List, [], ap, append_assoc, arith, sym, ℕ, ◌%◌, ◌++◌, ◌+◌, ◌/◌, ◌∙◌, ◌∷◌}
+use Rattle.nit_report.proofs.Lemmas.{decimal, decimal_digit, decimal_step}
 use Rattle.nit_report.proofs.spelling.+put_decimal.Goals as goal
 
 pub returns-then-number-lt10 : goal.returns-then-number-lt10

@@ -1,8 +1,5 @@
-use Rattle.std.proofs.Common.{rules, ◌≡◌, ◌+◌, ◌/◌, ◌%◌, List, ℕ, [], ◌∷◌, ◌++◌, take, drop, arith, ap, sym, ◌∙◌, append_assoc}
-use Rattle.std.specs.Fmt.{decimal}
-use Rattle.std.proofs.lemmas.List.{drop-drop}
-use Rattle.std.proofs.lemmas.Fmt.{decimal_digit, decimal_step}
-use Rattle.nit_report.proofs.Decimals.{one_digit, one_digit_more}
+use Rattle.std.proofs.Common.{List, [], ap, append_assoc, arith, drop, rules, sym, take, ℕ, ◌%◌, ◌++◌, ◌+◌, ◌/◌, ◌∙◌, ◌∷◌, ◌≡◌}
+use Rattle.nit_report.proofs.Lemmas.{decimal, decimal_digit, decimal_step, drop-drop, one_digit, one_digit_more}
 use Rattle.nit_report.proofs.write.+number.Goals as goal
 
 pub text-requires : goal.text-requires

@@ -1,5 +1,5 @@
-use Rattle.std.proofs.Common.{ℕ, ◌+◌, ◌-◌, length, arith, ap}
-use Rattle.std.proofs.lemmas.Slice.{drop-put_mid}
+use Rattle.std.proofs.Common.{ap, arith, length, ℕ, ◌+◌, ◌-◌}
+use Rattle.nit_report.proofs.Lemmas.{drop-put_mid}
 use Rattle.nit_report.proofs.write.text.Goals as goal
 
 pub returns-clause-behind : goal.returns-clause-behind

@@ -1,5 +1,4 @@
-use Rattle.nit_script.proofs.LineLaws.{client_reader}
-use Rattle.nit_script.proofs.Scripts.{same_bad, bad_and_long}
+use Rattle.nit_script.proofs.Lemmas.{bad_and_long, client_reader, same_bad}
 use Rattle.nit_script.proofs.laws.client_first_bad_is_one.Goals as goal
 
 pub returns-clause-one : goal.returns-clause-one

@@ -1,6 +1,4 @@
-use Rattle.std.proofs.Common.{sym, ◌∙◌}
-use Rattle.nit_script.proofs.LineLaws.{client_reader}
-use Rattle.nit_script.proofs.Scripts.{same_read}
+use Rattle.nit_script.proofs.Lemmas.{client_reader, same_read, sym, ◌∙◌}
 use Rattle.nit_script.proofs.laws.client_reading_is_one.Goals as goal
 
 pub returns-clause-lines : goal.returns-clause-lines

@@ -1,5 +1,4 @@
-use Rattle.nit_script.proofs.InputLaws.{input_reader}
-use Rattle.nit_script.proofs.Scripts.{read_and_bad, read_and_long}
+use Rattle.nit_script.proofs.Lemmas.{input_reader, read_and_bad, read_and_long}
 use Rattle.nit_script.proofs.laws.input_reading_is_whole.Goals as goal
 
 pub returns-clause-not_bad : goal.returns-clause-not_bad

@@ -1,9 +1,4 @@
-use Rattle.std.proofs.Common.{[], sym, ◌∙◌}
-use Rattle.std.proofs.lemmas.List.{nil_from_length}
-use Rattle.std.proofs.lemmas.Bool.{eqb-true}
-use Rattle.std.proofs.lemmas.Option.{some_pair_parts}
-use Rattle.nit_script.proofs.Scripts.{not_empty}
-use Rattle.nit_script.proofs.Digits.{number_found, number_read}
+use Rattle.nit_script.proofs.Lemmas.{[], eqb-true, nil_from_length, not_empty, number_found, number_read, some_pair_parts, sym, ◌∙◌}
 use Rattle.nit_script.proofs.numbers.natural.Goals as goal
 
 pub returns-in_err-found-clause-none : goal.returns-in_err-found-clause-none

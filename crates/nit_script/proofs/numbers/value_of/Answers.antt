@@ -1,5 +1,4 @@
-use Rattle.std.proofs.Common.{arith}
-use Rattle.nit_script.proofs.Digits.{next_value}
+use Rattle.nit_script.proofs.Lemmas.{arith, next_value}
 use Rattle.nit_script.proofs.numbers.value_of.Goals as goal
 
 pub overflow_mul-value : goal.overflow_mul-value

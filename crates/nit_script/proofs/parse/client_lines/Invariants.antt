@@ -1,5 +1,4 @@
-use Rattle.nit_script.specs.Spelling.{FitsLine, line_spelling}
-use Rattle.nit_script.proofs.Scripts.{HasRead}
+use Rattle.nit_script.proofs.Lemmas.{FitsLine, HasRead, line_spelling}
 use Rattle.nit_script.proofs.parse.client_lines.Given as goal
 
 abbrev pub invariant-loop-number : goal.invariant-loop-number

@@ -1,6 +1,4 @@
-use Rattle.std.proofs.Common.{arith}
-use Rattle.nit_script.proofs.InputLaws.{input_reader}
-use Rattle.nit_script.proofs.Scripts.{has_read_more, first_bad_here, not_empty}
+use Rattle.nit_script.proofs.Lemmas.{arith, first_bad_here, has_read_more, input_reader, not_empty}
 use Rattle.nit_script.proofs.parse.input_lines.Goals as goal
 
 pub returns-in_default : goal.returns-in_default

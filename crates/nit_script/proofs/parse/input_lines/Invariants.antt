@@ -1,5 +1,4 @@
-use Rattle.nit_script.specs.Spelling.{FitsInputLine, input_spelling}
-use Rattle.nit_script.proofs.Scripts.{HasRead}
+use Rattle.nit_script.proofs.Lemmas.{FitsInputLine, HasRead, input_spelling}
 use Rattle.nit_script.proofs.parse.input_lines.Given as goal
 
 abbrev pub invariant-loop-number : goal.invariant-loop-number

@@ -1,6 +1,4 @@
-use Rattle.nit_script.specs.Spelling.{FitsLine, line_spelling}
-use Rattle.nit_script.proofs.LineLaws.{client_reader}
-use Rattle.nit_script.proofs.Scripts.{read_is, is_read, is_bad, is_long, answer_at}
+use Rattle.nit_script.proofs.Lemmas.{FitsLine, answer_at, client_reader, is_bad, is_long, is_read, line_spelling, read_is}
 use Rattle.nit_script.proofs.parse.parse_client.Goals as goal
 
 pub returns-clause-read : goal.returns-clause-read

@@ -1,6 +1,4 @@
-use Rattle.nit_script.specs.Spelling.{FitsInputLine, input_spelling}
-use Rattle.nit_script.proofs.InputLaws.{input_reader}
-use Rattle.nit_script.proofs.Scripts.{read_is, is_read, is_bad, is_long, answer_at}
+use Rattle.nit_script.proofs.Lemmas.{FitsInputLine, answer_at, input_reader, input_spelling, is_bad, is_long, is_read, read_is}
 use Rattle.nit_script.proofs.parse.parse_input.Goals as goal
 
 pub returns-clause-read : goal.returns-clause-read

@@ -1,7 +1,5 @@
-use Rattle.std.proofs.Common.{◌≡◌, ◌++◌, drop}
-use Rattle.std.specs.List.{flat_map}
-use Rattle.nit_script.specs.Spelling.{line_spelling}
-use Rattle.nit_script.specs.Grammar.{spelled}
+use Rattle.std.proofs.Common.{drop, ◌++◌, ◌≡◌}
+use Rattle.nit_script.proofs.Lemmas.{flat_map, line_spelling, spelled}
 use Rattle.nit_script.proofs.print.print_client.Given as goal
 
 abbrev pub invariant-loop-line : goal.invariant-loop-line

@@ -1,7 +1,5 @@
-use Rattle.std.proofs.Common.{◌≡◌, ◌++◌, drop}
-use Rattle.std.specs.List.{flat_map}
-use Rattle.nit_script.specs.Spelling.{input_spelling}
-use Rattle.nit_script.specs.Grammar.{spelled}
+use Rattle.std.proofs.Common.{drop, ◌++◌, ◌≡◌}
+use Rattle.nit_script.proofs.Lemmas.{flat_map, input_spelling, spelled}
 use Rattle.nit_script.proofs.print.print_input.Given as goal
 
 abbrev pub invariant-loop-line : goal.invariant-loop-line

@@ -1,6 +1,5 @@
-use Rattle.std.proofs.Common.{◌≡◌, ◌++◌, drop}
-use Rattle.std.specs.List.{flat_map}
-use Rattle.nit_script.specs.Field.{KeepsBytes, field_spelling}
+use Rattle.std.proofs.Common.{drop, ◌++◌, ◌≡◌}
+use Rattle.nit_script.proofs.Lemmas.{KeepsBytes, field_spelling, flat_map}
 use Rattle.nit_script.proofs.write.put_fields.Given as goal
 
 abbrev pub invariant-loop-field : goal.invariant-loop-field

@@ -1,5 +1,4 @@
-use Rattle.std.proofs.Common.{refl, arith}
-use Rattle.std.proofs.lemmas.Iterator.{items_from_collect, YieldsList-from_range}
+use Rattle.nit_slots.proofs.Lemmas.{YieldsList-from_range, arith, items_from_collect, refl}
 use Rattle.nit_slots.proofs.slots.numbers_below.Goals as goal
 
 pub returns : goal.returns

@@ -1,5 +1,5 @@
-use Rattle.std.proofs.Common.{◌==◌, ℕ, not, rules}
-use Rattle.std.proofs.lemmas.Fn.{filter_same}
+use Rattle.std.proofs.Common.{not, rules, ℕ, ◌==◌}
+use Rattle.nit_slots.proofs.Lemmas.{filter_same}
 use Rattle.nit_slots.proofs.table.remove.Goals as goal
 
 pub returns-clause-items : goal.returns-clause-items

@@ -1,6 +1,4 @@
-use Rattle.nit_stack.proofs.SlotsAndNames.{agree_by}
-use Rattle.nit_stack.proofs.Owners.{owner_is}
-use Rattle.nit_stack.proofs.OwnersByName.{owner_named, owner_of_session}
+use Rattle.nit_stack.proofs.Lemmas.{agree_by, owner_is, owner_named, owner_of_session}
 use Rattle.nit_stack.proofs.laws.owners_by_slot.Goals as goal
 
 pub returns-clause-seated : goal.returns-clause-seated

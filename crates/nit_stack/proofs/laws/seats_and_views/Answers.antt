@@ -1,5 +1,4 @@
-use Rattle.nit_stack.proofs.SlotsAndNames.{any_named, any_session, views_closed, views_put_back, views_put_front}
-use Rattle.nit_stack.proofs.Owners.{owner_of_views}
+use Rattle.nit_stack.proofs.Lemmas.{any_named, any_session, owner_of_views, views_closed, views_put_back, views_put_front}
 use Rattle.nit_stack.proofs.laws.seats_and_views.Goals as goal
 
 pub returns-clause-put_front : goal.returns-clause-put_front

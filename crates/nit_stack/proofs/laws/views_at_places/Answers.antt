@@ -1,4 +1,4 @@
-use Rattle.nit_stack.proofs.ViewPlaces.{drop_at, place_is, slot_at}
+use Rattle.nit_stack.proofs.Lemmas.{drop_at, place_is, slot_at}
 use Rattle.nit_stack.proofs.laws.views_at_places.Goals as goal
 
 pub returns-clause-slot : goal.returns-clause-slot

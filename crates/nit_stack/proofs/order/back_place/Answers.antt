@@ -1,7 +1,5 @@
-use Rattle.std.proofs.Common.{◌≡◌, ◌≤◌, ◌-◌, ◌+◌, ℕ, drop, false, get_or, arith, subst, nat_le}
-use Rattle.std.specs.List.{list_any}
-use Rattle.nit_stack.specs.StackFields.{layer_in}
-use Rattle.nit_stack.proofs.Insertions.{back_at, back_none}
+use Rattle.std.proofs.Common.{arith, drop, false, get_or, nat_le, subst, ℕ, ◌+◌, ◌-◌, ◌≡◌, ◌≤◌}
+use Rattle.nit_stack.proofs.Lemmas.{back_at, back_none, layer_in, list_any}
 use Rattle.nit_stack.proofs.order.back_place.Goals as goal
 
 pub returns-then-layer_at-layer-clause-place : goal.returns-then-layer_at-layer-clause-place

@@ -1,6 +1,5 @@
-use Rattle.std.proofs.Common.{◌≡◌, drop, false, nat_le}
-use Rattle.std.specs.List.{list_any}
-use Rattle.nit_stack.specs.StackFields.{layer_in}
+use Rattle.std.proofs.Common.{drop, false, nat_le, ◌≡◌}
+use Rattle.nit_stack.proofs.Lemmas.{layer_in, list_any}
 use Rattle.nit_stack.proofs.order.back_place.Given as goal
 
 abbrev pub invariant-loop-i : goal.invariant-loop-i

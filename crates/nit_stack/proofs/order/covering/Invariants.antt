@@ -1,6 +1,5 @@
-use Rattle.std.proofs.Common.{◌≡◌, drop, find}
-use Rattle.nit_rect.specs.Rectangle.{covers}
-use Rattle.nit_stack.specs.StackFields.{slot_view}
+use Rattle.std.proofs.Common.{drop, find, ◌≡◌}
+use Rattle.nit_stack.proofs.Lemmas.{covers, slot_view}
 use Rattle.nit_stack.proofs.order.covering.Given as goal
 
 abbrev pub invariant-loop-k : goal.invariant-loop-k

@@ -1,6 +1,5 @@
-use Rattle.std.proofs.Common.{◌≡◌, ◌+◌, drop, nat_le}
-use Rattle.std.specs.List.{position_or_len}
-use Rattle.nit_stack.specs.StackFields.{layer_in}
+use Rattle.std.proofs.Common.{drop, nat_le, ◌+◌, ◌≡◌}
+use Rattle.nit_stack.proofs.Lemmas.{layer_in, position_or_len}
 use Rattle.nit_stack.proofs.order.front_place.Given as goal
 
 abbrev pub invariant-loop-i : goal.invariant-loop-i

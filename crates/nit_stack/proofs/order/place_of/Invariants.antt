@@ -1,5 +1,5 @@
-use Rattle.std.proofs.Common.{◌≡◌, ◌+◌, ◌==◌, drop}
-use Rattle.std.specs.List.{position_or_len}
+use Rattle.std.proofs.Common.{drop, ◌+◌, ◌==◌, ◌≡◌}
+use Rattle.nit_stack.proofs.Lemmas.{position_or_len}
 use Rattle.nit_stack.proofs.order.place_of.Given as goal
 
 abbrev pub invariant-loop-i : goal.invariant-loop-i

@@ -1,5 +1,5 @@
-use Rattle.std.proofs.Common.{◌==◌, sym}
-use Rattle.nit_stack.proofs.Insertions.{above_is}
+use Rattle.std.proofs.Common.{sym, ◌==◌}
+use Rattle.nit_stack.proofs.Lemmas.{above_is}
 use Rattle.nit_stack.proofs.order.put_in_above.Goals as goal
 
 pub returns-clause-items : goal.returns-clause-items

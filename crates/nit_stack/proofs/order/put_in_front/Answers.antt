@@ -1,6 +1,4 @@
-use Rattle.std.proofs.Common.{sym}
-use Rattle.nit_stack.specs.StackFields.{layer_in}
-use Rattle.nit_stack.proofs.Insertions.{front_is}
+use Rattle.nit_stack.proofs.Lemmas.{front_is, layer_in, sym}
 use Rattle.nit_stack.proofs.order.put_in_front.Goals as goal
 
 pub returns-clause-items : goal.returns-clause-items

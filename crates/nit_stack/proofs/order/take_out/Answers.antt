@@ -1,5 +1,5 @@
-use Rattle.std.proofs.Common.{◌==◌, not, rules}
-use Rattle.std.proofs.lemmas.Fn.{filter_same}
+use Rattle.std.proofs.Common.{not, rules, ◌==◌}
+use Rattle.nit_stack.proofs.Lemmas.{filter_same}
 use Rattle.nit_stack.proofs.order.take_out.Goals as goal
 
 pub returns-clause-items : goal.returns-clause-items

@@ -1,6 +1,4 @@
-use Rattle.std.proofs.Common.{ap, ◌∙◌, arith}
-use Rattle.std.proofs.lemmas.Int.{ints}
-use Rattle.nit_stack.specs.Sources.{among}
+use Rattle.nit_stack.proofs.Lemmas.{among, ap, arith, ints, ◌∙◌}
 use Rattle.nit_stack.proofs.showing.place.Goals as goal
 
 pub returns-clause-place : goal.returns-clause-place

@@ -1,6 +1,5 @@
-use Rattle.std.proofs.Common.{◌≡◌, drop}
-use Rattle.nit_store.specs.Store.{file_at}
-use Rattle.nit_store.specs.Files.{files_of}
+use Rattle.std.proofs.Common.{drop, ◌≡◌}
+use Rattle.nit_store.proofs.Lemmas.{file_at, files_of}
 use Rattle.nit_store.proofs.files.bytes_at.Given as goal
 
 abbrev pub invariant-loop-file : goal.invariant-loop-file

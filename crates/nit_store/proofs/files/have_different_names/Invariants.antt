@@ -1,5 +1,5 @@
-use Rattle.std.proofs.Common.{◌≡◌, drop}
-use Rattle.nit_store.specs.Files.{files_of, have_different_names}
+use Rattle.std.proofs.Common.{drop, ◌≡◌}
+use Rattle.nit_store.proofs.Lemmas.{files_of, have_different_names}
 use Rattle.nit_store.proofs.files.have_different_names.Given as goal
 
 abbrev pub invariant-loop-place : goal.invariant-loop-place

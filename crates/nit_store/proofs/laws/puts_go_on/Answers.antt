@@ -1,4 +1,4 @@
-use Rattle.nit_store.proofs.PutLemmas.{puts_more, puts_both, none_behind}
+use Rattle.nit_store.proofs.Lemmas.{none_behind, puts_both, puts_more}
 use Rattle.nit_store.proofs.laws.puts_go_on.Goals as goal
 
 pub returns-clause-next : goal.returns-clause-next

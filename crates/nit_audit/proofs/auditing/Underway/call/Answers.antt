@@ -1,9 +1,6 @@
-use Rattle.std.proofs.Common.{◌≡◌, ◌∙◌, ap, subst}
+use Rattle.std.proofs.Common.{ap, subst, ◌∙◌, ◌≡◌}
+use Rattle.nit_audit.proofs.Lemmas.{IsFollowing, IsGone, IsNext, IsReplayAnswer, ReplayModel, UnderwayModel, called, follows_call, if_ok, to_do}
 use Rattle.nit_events.specs.declared.entry.Entry.TheVariants as entry
-use Rattle.nit_journal.specs.WholeJournals.{to_do}
-use Rattle.nit_audit.specs.Underway.{IsNext}
-use Rattle.nit_audit.specs.AuditReplay.{IsFollowing, IsGone, IsReplayAnswer, UnderwayModel, ReplayModel}
-use Rattle.nit_audit.proofs.NextEntry.{called, follows_call, if_ok}
 use Rattle.nit_audit.proofs.auditing.Underway.call.Goals as goal
 
 pub returns : goal.returns

@@ -1,9 +1,7 @@
-use Rattle.std.proofs.Common.{◌≡◌, ◌∙◌, ap, subst}
+use Rattle.std.proofs.Common.{ap, subst, ◌∙◌, ◌≡◌}
+use Rattle.nit_audit.proofs.Lemmas.{Does, IsGone, IsNext, IsReplayAnswer, ReplayModel, UnderwayModel, follows_input}
 use Rattle.nit_events.specs.declared.entry.Entry.TheVariants as entry
-use Rattle.nit_journal.specs.WholeJournals.{Does}
-use Rattle.nit_audit.specs.Underway.{IsNext}
-use Rattle.nit_audit.specs.AuditReplay.{IsGone, IsReplayAnswer, UnderwayModel, ReplayModel}
-use Rattle.nit_audit.proofs.NextEntry.{done, follows_input}
+use Rattle.nit_audit.proofs.NextEntry.{done}
 use Rattle.nit_audit.proofs.auditing.Underway.input.Goals as goal
 
 pub returns : goal.returns

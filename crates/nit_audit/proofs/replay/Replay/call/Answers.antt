@@ -1,7 +1,5 @@
-use Rattle.std.proofs.Common.{◌≡◌, ◌∙◌, None, Some, sym, rules}
-use Rattle.nit_journal.specs.Session.{refusal}
-use Rattle.nit_journal.specs.State.{session_in}
-use Rattle.nit_audit.proofs.CallEntries.{by_answer, call_played, taken_parts, wrong_accepted}
+use Rattle.std.proofs.Common.{None, Some, rules, sym, ◌∙◌, ◌≡◌}
+use Rattle.nit_audit.proofs.Lemmas.{by_answer, call_played, refusal, session_in, taken_parts, wrong_accepted}
 use Rattle.nit_audit.proofs.replay.Replay.call.Goals as goal
 
 pub returns-in-Some : goal.returns-in-Some

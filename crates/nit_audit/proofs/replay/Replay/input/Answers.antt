@@ -1,6 +1,4 @@
-use Rattle.std.proofs.Common.{◌∙◌, sym, ap, rules}
-use Rattle.nit_audit.specs.AuditReplay.{ReplayModel}
-use Rattle.nit_audit.proofs.InputEntries.{input_played, room_left, routed_parts}
+use Rattle.nit_audit.proofs.Lemmas.{ReplayModel, ap, input_played, room_left, routed_parts, rules, sym, ◌∙◌}
 use Rattle.nit_audit.proofs.replay.Replay.input.Goals as goal
 
 pub returns-then-not-same_deliveries : goal.returns-then-not-same_deliveries

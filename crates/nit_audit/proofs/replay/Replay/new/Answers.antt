@@ -1,8 +1,4 @@
-use Rattle.std.proofs.Common.{◌∙◌, ap, map}
-use Rattle.nit_config.specs.declared.config.Member.{Member}
-use Rattle.nit_config.specs.Configuration.{Configuration}
-use Rattle.nit_journal.specs.Session.{first_session}
-use Rattle.nit_audit.proofs.FirstState.{opened_replay}
+use Rattle.nit_audit.proofs.Lemmas.{Configuration, Member, ap, first_session, map, opened_replay, ◌∙◌}
 use Rattle.nit_audit.proofs.replay.Replay.new.Goals as goal
 
 pub returns-clause-kept : goal.returns-clause-kept

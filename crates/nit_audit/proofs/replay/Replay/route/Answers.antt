@@ -1,7 +1,4 @@
-use Rattle.std.proofs.Common.{◌∙◌, sym, ap, subst}
-use Rattle.nit_events.specs.Input.{Routing, routed_as}
-use Rattle.nit_audit.specs.AuditReplay.{IsReplay, ReplayModel, replay_routing}
-use Rattle.nit_audit.proofs.InputEntries.{same_route}
+use Rattle.nit_audit.proofs.Lemmas.{IsReplay, ReplayModel, Routing, ap, replay_routing, routed_as, same_route, subst, sym, ◌∙◌}
 use Rattle.nit_audit.proofs.replay.Replay.route.Goals as goal
 
 pub returns-clause-routed : goal.returns-clause-routed

@@ -1,10 +1,6 @@
-use Rattle.std.proofs.Common.{◌≡◌, ◌∙◌, ap, sym, subst, not, List, ℕ, Some, None, find}
-use Rattle.std.specs.List.{insert}
+use Rattle.std.proofs.Common.{List, None, Some, ap, find, not, subst, sym, ℕ, ◌∙◌, ◌≡◌}
+use Rattle.nit_audit.proofs.Lemmas.{AllHaveViews, HasView, all_filter, found_all, insert, is_view, moved, on_ok, put_above, raised, stays, view_under, views_at}
 use Rattle.nit_stack.specs.declared.view.View.{View}
-use Rattle.nit_stack.specs.LabelPlaces.{is_view}
-use Rattle.nit_stack.specs.Orders.{moved, put_above}
-use Rattle.nit_audit.specs.Keys.{AllHaveViews, HasView, view_under, views_at}
-use Rattle.nit_audit.proofs.KeyLemmas.{all_filter, found_all, on_ok, raised, stays}
 use Rattle.nit_audit.proofs.views.Views.above.Goals as goal
 
 pub returns-in_default : goal.returns-in_default

@@ -1,9 +1,6 @@
-use Rattle.std.proofs.Common.{◌∙◌, ap, List}
+use Rattle.nit_audit.proofs.Lemmas.{List, ap, changed, changed_kept, changed_views, is_meant, with_change, ◌∙◌}
 use Rattle.nit_stack.specs.declared.view.View.{View}
-use Rattle.nit_stack.specs.Orders.{changed}
 use Rattle.nit_audit.specs.declared.keys.Which.TheVariants as which
-use Rattle.nit_audit.specs.Keys.{is_meant, with_change}
-use Rattle.nit_audit.proofs.KeyLemmas.{changed_kept, changed_views}
 use Rattle.nit_audit.proofs.views.Views.change.Goals as goal
 
 pub invariant_of-self : goal.invariant_of-self

@@ -1,10 +1,5 @@
-use Rattle.std.proofs.Common.{◌∙◌, ap, List}
+use Rattle.nit_audit.proofs.Lemmas.{List, ap, created_views, layer, new_view, on_ok, put_front, views_at, ◌∙◌}
 use Rattle.nit_stack.specs.declared.view.View.{View}
-use Rattle.nit_stack.specs.Orders.{put_front}
-use Rattle.nit_journal.specs.State.{layer}
-use Rattle.nit_journal.specs.StackAfter.{new_view}
-use Rattle.nit_audit.specs.Keys.{views_at}
-use Rattle.nit_audit.proofs.KeyLemmas.{created_views, on_ok}
 use Rattle.nit_audit.proofs.views.Views.create.Goals as goal
 
 pub returns : goal.returns

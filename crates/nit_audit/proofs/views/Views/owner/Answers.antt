@@ -1,10 +1,5 @@
-use Rattle.std.proofs.Common.{◌≡◌, ◌∙◌, false, arith, sym, subst, Option, ℕ, refl}
-use Rattle.std.specs.Prelude.{IfSome, ◌<◌}
-use Rattle.std.proofs.lemmas.Int.{ints}
-use Rattle.nit_rect.specs.Rectangle.{covers}
-use Rattle.nit_stack.specs.Sources.{in_bar}
-use Rattle.nit_audit.specs.Keys.{view_under}
-use Rattle.nit_audit.proofs.KeyLemmas.{owner_below, owner_small}
+use Rattle.std.proofs.Common.{Option, arith, false, refl, subst, sym, ℕ, ◌<◌, ◌∙◌, ◌≡◌}
+use Rattle.nit_audit.proofs.Lemmas.{IfSome, covers, in_bar, ints, owner_below, owner_small, view_under}
 use Rattle.nit_audit.proofs.views.Views.owner.Goals as goal
 
 pub returns-clause-owner : goal.returns-clause-owner

@@ -1,8 +1,5 @@
-use Rattle.std.proofs.Common.{◌∙◌, ap, subst, List, sym}
+use Rattle.nit_audit.proofs.Lemmas.{AllHaveViews, List, ap, is_meant, removed_kept, removed_views, subst, sym, views_at, without, ◌∙◌}
 use Rattle.nit_stack.specs.declared.view.View.{View}
-use Rattle.nit_stack.specs.Orders.{without}
-use Rattle.nit_audit.specs.Keys.{AllHaveViews, is_meant, views_at}
-use Rattle.nit_audit.proofs.KeyLemmas.{removed_kept, removed_views}
 use Rattle.nit_audit.proofs.views.Views.remove.Goals as goal
 
 pub invariant_of-self : goal.invariant_of-self

@@ -1,8 +1,5 @@
-use Rattle.std.proofs.Common.{arith, ◌≡◌, ◌*◌, ◌≤◌, ◌++◌, ◌∙◌, sym, ap, ap₂, subst, ℕ, List, length}
-use Rattle.nit_capture.specs.Crop.{Shows, crop, crop_bytes}
-use Rattle.nit_capture.specs.Capture.{CaptureModel, capture_of}
-use Rattle.nit_capture.specs.Film.{record_of}
-use Rattle.nit_capture.proofs.CropLemmas.{cut_shown, on_screen}
+use Rattle.std.proofs.Common.{List, ap, ap₂, arith, length, subst, sym, ℕ, ◌*◌, ◌++◌, ◌∙◌, ◌≡◌, ◌≤◌}
+use Rattle.nit_capture.proofs.Lemmas.{CaptureModel, Shows, capture_of, crop, crop_bytes, cut_shown, on_screen, record_of}
 use Rattle.nit_capture.proofs.capture.Capture.picture.Goals as goal
 
 pub cut_into-requires-clause-bytes : goal.cut_into-requires-clause-bytes

@@ -1,7 +1,6 @@
-use Rattle.std.proofs.Common.{◌<◌, ◌*◌, ◌+◌, ◌/◌, arith}
-use Rattle.nit_capture.specs.Tiles.{wide, place, top_of}
-use Rattle.nit_capture.proofs.Tiles.{high_some, pixel_within, place_within}
-use Rattle.std.proofs.lemmas.Nat.{mul-lt}
+use Rattle.std.proofs.Common.{arith, ◌*◌, ◌+◌, ◌/◌, ◌<◌}
+use Rattle.nit_capture.proofs.Lemmas.{high_some, mul-lt, pixel_within, place_within, top_of, wide}
+use Rattle.nit_capture.specs.Tiles.{place}
 use Rattle.nit_capture.proofs.grid.Grid.place.Goals as goal
 
 pub overflow_add-down : goal.overflow_add-down

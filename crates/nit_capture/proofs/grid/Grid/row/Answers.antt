@@ -1,7 +1,5 @@
-use Rattle.std.proofs.Common.{arith}
+use Rattle.nit_capture.proofs.Lemmas.{arith, high_some, place_small, row_within}
 use Rattle.nit_capture.specs.Tiles.{row_place}
-use Rattle.nit_capture.proofs.Tiles.{high_some}
-use Rattle.nit_capture.proofs.PixelRows.{row_within, place_small}
 use Rattle.nit_capture.proofs.grid.Grid.row.Goals as goal
 
 pub overflow_add-result : goal.overflow_add-result

@@ -1,9 +1,5 @@
-use Rattle.std.proofs.Common.{◌≡◌, ℕ, List, [], ◌∷◌, sym, ap, subst, ◌∙◌}
-use Rattle.std.specs.Prelude.{slice_index}
-use Rattle.nit_capture.specs.Player.{PlayerModel}
-use Rattle.nit_capture.specs.Tiles.{IsPicture}
-use Rattle.nit_capture.specs.Film.{HasRecord}
-use Rattle.nit_capture.proofs.RecordsRead.{record_take, no_record, none_read}
+use Rattle.std.proofs.Common.{List, [], ap, subst, sym, ℕ, ◌∙◌, ◌∷◌, ◌≡◌}
+use Rattle.nit_capture.proofs.Lemmas.{HasRecord, IsPicture, PlayerModel, no_record, none_read, record_take, slice_index}
 use Rattle.nit_capture.proofs.player.Player.next.Goals as goal
 
 pub returns-then-is_end-clause-is_frame : goal.returns-then-is_end-clause-is_frame

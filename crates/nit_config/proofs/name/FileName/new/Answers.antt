@@ -1,4 +1,4 @@
-use Rattle.nit_config.proofs.Ascii.{file_name_utf8}
+use Rattle.nit_config.proofs.Lemmas.{file_name_utf8}
 use Rattle.nit_config.proofs.name.FileName.new.Goals as goal
 
 pub unreachable-requires : goal.unreachable-requires

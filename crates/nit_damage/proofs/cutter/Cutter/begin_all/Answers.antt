@@ -1,7 +1,5 @@
-use Rattle.std.proofs.Common.{◌≡◌, ℕ, nat_lt, ap, ap₂, sym, ◌∙◌, subst}
-use Rattle.nit_rect.specs.Rectangle.{Rectangle}
-use Rattle.nit_damage.specs.Cutter.{CutterModel, FitsStack, begun_cutter, to_come}
-use Rattle.nit_damage.proofs.ToCome.{whole, whole_fits, whole_off, whole_on}
+use Rattle.std.proofs.Common.{ap, ap₂, nat_lt, subst, sym, ℕ, ◌∙◌, ◌≡◌}
+use Rattle.nit_damage.proofs.Lemmas.{CutterModel, FitsStack, Rectangle, begun_cutter, to_come, whole, whole_fits, whole_off, whole_on}
 use Rattle.nit_damage.proofs.cutter.Cutter.begin_all.Goals as goal
 
 -- what the cutter keeps

@@ -1,6 +1,4 @@
-use Rattle.std.proofs.Common.{ap, sym, ◌∙◌, subst}
-use Rattle.nit_damage.specs.Cutter.{CutterModel, FitsStack, to_come}
-use Rattle.nit_damage.proofs.ToCome.{begun_fits, begun_off, gone_comes, lies_below}
+use Rattle.nit_damage.proofs.Lemmas.{CutterModel, FitsStack, ap, begun_fits, begun_off, gone_comes, lies_below, subst, sym, to_come, ◌∙◌}
 use Rattle.nit_damage.proofs.cutter.Cutter.begin_behind.Goals as goal
 
 pub returns-clause-fits : goal.returns-clause-fits

@@ -1,10 +1,5 @@
-use Rattle.std.proofs.Common.{◌≡◌, ℕ, List, Option, take, ap, arith, sym, ◌∙◌, not, ◌&&◌}
-use Rattle.std.proofs.lemmas.List.{take_all}
-use Rattle.nit_rect.specs.Rectangle.{covers}
-use Rattle.nit_stack.specs.declared.view.ViewRef.{ViewRef}
-use Rattle.nit_stack.specs.Sources.{in_bar}
-use Rattle.nit_stack.specs.Stack.{SlotView}
-use Rattle.nit_damage.specs.Damage.{covered, in_front_of, once}
+use Rattle.std.proofs.Common.{List, Option, ap, arith, not, sym, take, ℕ, ◌&&◌, ◌∙◌, ◌≡◌}
+use Rattle.nit_damage.proofs.Lemmas.{SlotView, ViewRef, covered, covers, in_bar, in_front_of, once, take_all}
 use Rattle.nit_damage.proofs.cutter.Cutter.begin_gone.Goals as goal
 use Rattle.nit_damage.proofs.cutter.Cutter.begin_gone.Goals.{in-Some, in-None}
 

@@ -1,10 +1,5 @@
-use Rattle.std.proofs.Common.{◌≡◌, ℕ, List, ap, sym, ◌∙◌, subst}
-use Rattle.nit_damage.specs.declared.cutting.Job.{Job}
-use Rattle.nit_stack.specs.Stack.{place_of}
-use Rattle.nit_damage.specs.Cutter.{CutterModel, FitsStack, begun_cutter, to_come}
-use Rattle.nit_damage.specs.Cut.{IsCut}
-use Rattle.nit_damage.proofs.ToCome.{IsMoved, lies_below, moved, moved_comes, moved_fits, moved_off}
-use Rattle.nit_damage.proofs.Screen.{on_screen}
+use Rattle.std.proofs.Common.{List, ap, subst, sym, ℕ, ◌∙◌, ◌≡◌}
+use Rattle.nit_damage.proofs.Lemmas.{CutterModel, FitsStack, IsCut, IsMoved, Job, begun_cutter, lies_below, moved, moved_comes, moved_fits, moved_off, on_screen, place_of, to_come}
 use Rattle.nit_damage.proofs.cutter.Cutter.begin_moved.Goals as goal
 
 pub cut_out-both-requires-clause-screen : goal.cut_out-both-requires-clause-screen

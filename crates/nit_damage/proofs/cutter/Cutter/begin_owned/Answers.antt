@@ -1,7 +1,5 @@
-use Rattle.std.proofs.Common.{◌≡◌, ℕ, ap, sym, ◌∙◌, subst}
-use Rattle.nit_stack.specs.Stack.{place_of}
-use Rattle.nit_damage.specs.Cutter.{CutterModel, FitsStack, begun_cutter, to_come}
-use Rattle.nit_damage.proofs.ToCome.{begun_fits, begun_off, lies_below, owned_comes}
+use Rattle.std.proofs.Common.{ap, subst, sym, ℕ, ◌∙◌, ◌≡◌}
+use Rattle.nit_damage.proofs.Lemmas.{CutterModel, FitsStack, begun_cutter, begun_fits, begun_off, lies_below, owned_comes, place_of, to_come}
 use Rattle.nit_damage.proofs.cutter.Cutter.begin_owned.Goals as goal
 
 -- what the cutter keeps

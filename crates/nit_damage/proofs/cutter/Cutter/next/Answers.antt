@@ -1,7 +1,5 @@
-use Rattle.std.proofs.Common.{◌≡◌, ◌≤◌, length, Some, None, false, true, ap, arith, sym, ◌∙◌, subst}
-use Rattle.nit_rect.specs.Rectangle.{Rectangle}
-use Rattle.nit_damage.specs.Cutter.{CutterModel, FitsStack, FitsJobs}
-use Rattle.nit_damage.proofs.NextPiece.{IsNext, bar_next, below_next, next_came, next_fits, next_on_screen, next_owner, next_pixels, next_stands}
+use Rattle.std.proofs.Common.{None, Some, ap, arith, false, length, subst, sym, true, ◌∙◌, ◌≡◌, ◌≤◌}
+use Rattle.nit_damage.proofs.Lemmas.{CutterModel, FitsJobs, FitsStack, IsNext, Rectangle, bar_next, below_next, next_came, next_fits, next_on_screen, next_owner, next_pixels, next_stands}
 use Rattle.nit_damage.proofs.cutter.Cutter.next.Goals as goal
 
 -- the bar

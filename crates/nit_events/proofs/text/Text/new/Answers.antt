@@ -1,5 +1,4 @@
-use Rattle.std.proofs.Common.{sym, ◌∙◌}
-use Rattle.nit_events.proofs.TextBytes.{zeros_behind}
+use Rattle.nit_events.proofs.Lemmas.{sym, zeros_behind, ◌∙◌}
 use Rattle.nit_events.proofs.text.Text.new.Goals as goal
 
 pub invariant_of-result : goal.invariant_of-result

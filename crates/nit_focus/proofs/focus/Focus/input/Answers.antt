@@ -1,10 +1,5 @@
-use Rattle.std.proofs.Common.{◌≡◌, ◌<◌, sym, subst}
-use Rattle.std.proofs.lemmas.List.Elements.{All-same}
-use Rattle.nit_events.specs.Input.{deliveries_of}
-use Rattle.nit_focus.specs.Focus.{FocusModel, routing_at}
-use Rattle.nit_focus.specs.Outcome.{outcome}
-use Rattle.nit_focus.specs.Reach.{IsWithinReach, IsItem, IsForgottenIfKilled}
-use Rattle.nit_focus.proofs.Routes.{IsRouted, routed}
+use Rattle.std.proofs.Common.{subst, sym, ◌<◌, ◌≡◌}
+use Rattle.nit_focus.proofs.Lemmas.{All-same, FocusModel, IsForgottenIfKilled, IsItem, IsRouted, IsWithinReach, deliveries_of, outcome, routed, routing_at}
 use Rattle.nit_focus.proofs.focus.Focus.input.Goals as goal
 
 -- the value before, as its fields show it

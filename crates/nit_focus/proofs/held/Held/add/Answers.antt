@@ -1,5 +1,4 @@
-use Rattle.std.proofs.Common.{lit<}
-use Rattle.nit_focus.proofs.Codes.{held_more, held_room}
+use Rattle.nit_focus.proofs.Lemmas.{held_more, held_room, lit<}
 use Rattle.nit_focus.proofs.held.Held.add.Goals as goal
 
 pub push-requires : goal.push-requires

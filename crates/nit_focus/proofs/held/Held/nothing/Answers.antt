@@ -1,4 +1,4 @@
-use Rattle.nit_focus.proofs.Codes.{held_none}
+use Rattle.nit_focus.proofs.Lemmas.{held_none}
 use Rattle.nit_focus.proofs.held.Held.nothing.Goals as goal
 
 pub invariant_of-result : goal.invariant_of-result

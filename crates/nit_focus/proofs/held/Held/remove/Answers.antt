@@ -1,6 +1,5 @@
-use Rattle.std.proofs.Common.{◌≡◌, ◌==◌, not, filter, rules}
-use Rattle.arrayvec.proofs.ArrayVecLemmas.{filter-from_retain}
-use Rattle.nit_focus.proofs.Codes.{held_less}
+use Rattle.nit_focus.proofs.Lemmas.{filter-from_retain, held_less}
+use Rattle.std.proofs.Common.{filter, not, rules, ◌==◌, ◌≡◌}
 use Rattle.nit_focus.proofs.held.Held.remove.Goals as goal
 
 pub invariant_of-self : goal.invariant_of-self

@@ -1,5 +1,5 @@
-use Rattle.std.proofs.Common.{arith, ◌∙◌, ap, ◌++◌, length}
-use Rattle.nit_glyph.proofs.ZerosBehind.{take-padded, padded-append}
+use Rattle.std.proofs.Common.{ap, arith, length, ◌++◌, ◌∙◌}
+use Rattle.nit_glyph.proofs.Lemmas.{padded-append, take-padded}
 use Rattle.nit_glyph.proofs.padded.Padded.append.Goals as goal
 
 pub invariant_of-self : goal.invariant_of-self

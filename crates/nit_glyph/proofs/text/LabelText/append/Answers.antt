@@ -1,5 +1,4 @@
-use Rattle.std.proofs.Common.{arith, length-append}
-use Rattle.nit_glyph.proofs.GlyphTexts.{joined_has_glyphs}
+use Rattle.nit_glyph.proofs.Lemmas.{arith, joined_has_glyphs, length-append}
 use Rattle.nit_glyph.proofs.text.LabelText.append.Goals as goal
 
 pub invariant_of-self : goal.invariant_of-self

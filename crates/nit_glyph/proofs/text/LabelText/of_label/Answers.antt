@@ -1,4 +1,4 @@
-use Rattle.nit_glyph.proofs.GlyphTexts.{label_has_glyphs}
+use Rattle.nit_glyph.proofs.Lemmas.{label_has_glyphs}
 use Rattle.nit_glyph.proofs.text.LabelText.of_label.Goals as goal
 
 pub invariant_of-result : goal.invariant_of-result

@@ -1,6 +1,4 @@
-use Rattle.std.proofs.Common.{◌∙◌}
-use Rattle.std.proofs.lemmas.List.{append-nil}
-use Rattle.nit_ledger.proofs.Counts.{raised_by-zero}
+use Rattle.nit_ledger.proofs.Lemmas.{append-nil, raised_by-zero, ◌∙◌}
 use Rattle.nit_ledger.proofs.book.Book.meet.Goals as goal
 
 pub returns-clause-book : goal.returns-clause-book

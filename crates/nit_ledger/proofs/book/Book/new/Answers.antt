@@ -1,4 +1,4 @@
-use Rattle.nit_ledger.proofs.BookRuleLemmas.{begins}
+use Rattle.nit_ledger.proofs.Lemmas.{begins}
 use Rattle.nit_ledger.proofs.book.Book.new.Goals as goal
 
 pub of_words-requires : goal.of_words-requires

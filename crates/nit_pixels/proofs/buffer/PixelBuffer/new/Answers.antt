@@ -1,9 +1,4 @@
-use Rattle.std.proofs.Common.{◌∙◌, ap, length, arith}
-use Rattle.nit_word.proofs.ForCallers.{length-zeros}
-use Rattle.nit_pixels.specs.declared.steps.Identity.{Identity}
-use Rattle.nit_pixels.specs.End.{new_sight}
-use Rattle.nit_pixels.proofs.PixelRuleLemmas.{opens}
-use Rattle.nit_pixels.proofs.NewTables.{first_sight, first_owns}
+use Rattle.nit_pixels.proofs.Lemmas.{Identity, ap, arith, first_owns, first_sight, length, length-zeros, new_sight, opens, ◌∙◌}
 use Rattle.nit_pixels.proofs.buffer.PixelBuffer.new.Goals as goal
 
 pub of_words-requires : goal.of_words-requires

@@ -1,5 +1,4 @@
-use Rattle.std.proofs.Common.{rules}
-use Rattle.nit_pixels.proofs.PixelRuleLemmas.{splits_keep}
+use Rattle.nit_pixels.proofs.Lemmas.{rules, splits_keep}
 use Rattle.nit_pixels.proofs.canvas.Canvas.split.Goals as goal
 
 pub split_seat-seat-requires : goal.split_seat-seat-requires

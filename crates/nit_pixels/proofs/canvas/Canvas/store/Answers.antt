@@ -1,7 +1,4 @@
-use Rattle.std.proofs.Common.{rules, sym, subst}
-use Rattle.nit_word.specs.Inks.{IsInked}
-use Rattle.nit_pixels.specs.End.{End}
-use Rattle.nit_pixels.proofs.PixelRuleLemmas.{stores_keep, tells_words}
+use Rattle.nit_pixels.proofs.Lemmas.{End, IsInked, rules, stores_keep, subst, sym, tells_words}
 use Rattle.nit_pixels.proofs.canvas.Canvas.store.Goals as goal
 
 pub store-requires : goal.store-requires

@@ -1,5 +1,4 @@
-use Rattle.std.proofs.Common.{rules}
-use Rattle.nit_pixels.proofs.PixelRuleLemmas.{loads_keep}
+use Rattle.nit_pixels.proofs.Lemmas.{loads_keep, rules}
 use Rattle.nit_pixels.proofs.canvas.CanvasGlass.load.Goals as goal
 
 pub load-requires : goal.load-requires

@@ -1,7 +1,5 @@
-use Rattle.std.proofs.Common.{◌≡◌, ◌∙◌, ℕ, ◌+◌, List, slice_set}
-use Rattle.nit_word.specs.Updates.{set_where, is_between, in_turn}
-use Rattle.nit_word.proofs.ForCallers.{none_between, next_between, turn_there}
-use Rattle.nit_plan.proofs.Sights.{for_any, unchanged, changed}
+use Rattle.nit_plan.proofs.Lemmas.{changed, for_any, in_turn, is_between, next_between, none_between, set_where, turn_there, unchanged}
+use Rattle.std.proofs.Common.{List, slice_set, ℕ, ◌+◌, ◌∙◌, ◌≡◌}
 use Rattle.nit_plan.proofs.surface.Surface.alternate.Goals as goal
 
 pub places-init : goal.places-init

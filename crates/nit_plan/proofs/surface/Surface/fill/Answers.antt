@@ -1,7 +1,5 @@
-use Rattle.std.proofs.Common.{◌≡◌, ◌∙◌, ℕ, ◌+◌, List, slice_set, refl, ap, arith}
-use Rattle.nit_word.specs.Updates.{set_where, is_between, with_words}
-use Rattle.nit_word.proofs.ForCallers.{none_between, next_between}
-use Rattle.nit_plan.proofs.Sights.{for_any, unchanged, changed}
+use Rattle.nit_plan.proofs.Lemmas.{changed, for_any, is_between, next_between, none_between, set_where, unchanged, with_words}
+use Rattle.std.proofs.Common.{List, ap, arith, refl, slice_set, ℕ, ◌+◌, ◌∙◌, ◌≡◌}
 use Rattle.nit_plan.proofs.surface.Surface.fill.Goals as goal
 
 pub places-init : goal.places-init

@@ -1,5 +1,5 @@
 use Rattle.std.proofs.Common.{◌≡◌}
-use Rattle.nit_word.specs.Updates.{with_words, set_where, is_between}
+use Rattle.nit_plan.proofs.Lemmas.{is_between, set_where, with_words}
 use Rattle.nit_plan.proofs.surface.Surface.fill.Given as goal
 
 abbrev pub invariant-places : goal.invariant-places

@@ -1,6 +1,5 @@
-use Rattle.std.proofs.Common.{◌≡◌, true, false, eq-eqb, sym, ◌∙◌}
-use Rattle.nit_rect.specs.Intersection.{HasPixels}
-use Rattle.nit_rect.proofs.Sets.{is_run_within, none_lie, no_pixels, pixels_of, lies_across, lies_down, tests_lie}
+use Rattle.std.proofs.Common.{eq-eqb, false, sym, true, ◌∙◌, ◌≡◌}
+use Rattle.nit_rect.proofs.Lemmas.{HasPixels, is_run_within, lies_across, lies_down, no_pixels, none_lie, pixels_of, tests_lie}
 use Rattle.nit_rect.proofs.rect.Rect.inside.Goals as goal
 
 pub returns-then-area-eq0 : goal.returns-then-area-eq0

@@ -1,7 +1,4 @@
-use Rattle.std.proofs.Common.{arith, inl, inr}
-use Rattle.nit_rect.specs.Rectangle.{rectangle}
-use Rattle.nit_rect.specs.Intersection.{CoversBoth}
-use Rattle.nit_rect.proofs.Sets.{covers_both, both_nothing, not_apart}
+use Rattle.nit_rect.proofs.Lemmas.{CoversBoth, arith, both_nothing, covers_both, inl, inr, not_apart, rectangle}
 use Rattle.nit_rect.proofs.rect.Rect.meet.Goals as goal
 use Rattle.nit_rect.proofs.rect.Rect.meet.Goals.{then-columns-eq0-via-then-columns-eq0, then-columns-eq0-via-else-columns-eq0+then-rows-eq0}
 

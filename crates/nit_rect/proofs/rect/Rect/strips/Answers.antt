@@ -1,4 +1,4 @@
-use Rattle.nit_rect.proofs.Sets.{within, divided}
+use Rattle.nit_rect.proofs.Lemmas.{divided, within}
 use Rattle.nit_rect.proofs.rect.Rect.strips.Goals as goal
 
 pub without-columns-requires-clause-begins : goal.without-columns-requires-clause-begins

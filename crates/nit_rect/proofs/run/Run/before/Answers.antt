@@ -1,6 +1,4 @@
-use Rattle.std.proofs.Common.{arith}
-use Rattle.std.proofs.lemmas.Int.{ints}
-use Rattle.nit_rect.proofs.Spans.{spans_before}
+use Rattle.nit_rect.proofs.Lemmas.{arith, ints, spans_before}
 use Rattle.nit_rect.proofs.run.Run.before.Goals as goal
 use Rattle.nit_rect.proofs.run.Run.before.Goals.{then-room-le0, else-room-le0+then-room-self, else-room-le0+else-room-self}
 

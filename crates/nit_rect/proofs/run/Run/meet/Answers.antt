@@ -1,6 +1,4 @@
-use Rattle.std.proofs.Common.{◌∙◌, arith}
-use Rattle.std.proofs.lemmas.Int.{ints}
-use Rattle.nit_rect.proofs.Spans.{spans_earlier}
+use Rattle.nit_rect.proofs.Lemmas.{arith, ints, spans_earlier, ◌∙◌}
 use Rattle.nit_rect.proofs.run.Run.meet.Goals as goal
 
 pub returns-else-self-other : goal.returns-else-self-other

@@ -1,6 +1,4 @@
-use Rattle.std.proofs.Common.{arith}
-use Rattle.std.proofs.lemmas.Int.{ints}
-use Rattle.nit_rect.proofs.Spans.{times_round}
+use Rattle.nit_rect.proofs.Lemmas.{arith, ints, times_round}
 use Rattle.nit_rect.proofs.run.Run.without.Goals as goal
 
 pub returns : goal.returns

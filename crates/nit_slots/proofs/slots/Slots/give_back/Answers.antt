@@ -1,4 +1,4 @@
-use Rattle.nit_slots.proofs.FreeLists.{free_push, taken_less, taken_apart, length_taken_less}
+use Rattle.nit_slots.proofs.Lemmas.{free_push, length_taken_less, taken_apart, taken_less}
 use Rattle.nit_slots.proofs.slots.Slots.give_back.Goals as goal
 
 pub invariant_of-self : goal.invariant_of-self

@@ -1,6 +1,4 @@
-use Rattle.std.proofs.Common.{length, ap, arith}
-use Rattle.std.proofs.lemmas.List.FromFn.{length-range_with_len}
-use Rattle.nit_slots.proofs.FreeLists.{all_free, free_at_first}
+use Rattle.nit_slots.proofs.Lemmas.{all_free, ap, arith, free_at_first, length, length-range_with_len}
 use Rattle.nit_slots.proofs.slots.Slots.new.Goals as goal
 
 pub invariant_of-result : goal.invariant_of-result

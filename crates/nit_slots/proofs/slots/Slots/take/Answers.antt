@@ -1,5 +1,5 @@
-use Rattle.std.proofs.Common.{◌++◌, sym, ap, ◌∙◌, option_to_list}
-use Rattle.nit_slots.proofs.FreeLists.{free_front, last_below, last_not_taken, taken_more, length_taken_less}
+use Rattle.std.proofs.Common.{ap, option_to_list, sym, ◌++◌, ◌∙◌}
+use Rattle.nit_slots.proofs.Lemmas.{free_front, last_below, last_not_taken, length_taken_less, taken_more}
 use Rattle.nit_slots.proofs.slots.Slots.take.Goals as goal
 
 pub invariant_of-self : goal.invariant_of-self

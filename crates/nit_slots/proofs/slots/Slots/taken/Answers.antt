@@ -1,4 +1,4 @@
-use Rattle.nit_slots.proofs.FreeLists.{occupied}
+use Rattle.nit_slots.proofs.Lemmas.{occupied}
 use Rattle.nit_slots.proofs.slots.Slots.taken.Goals as goal
 
 pub returns-clause-occupancy : goal.returns-clause-occupancy

@@ -1,5 +1,4 @@
-use Rattle.std.proofs.Common.{arith}
-use Rattle.nit_slots.proofs.HandleLists.{Rises-push, next_not_held}
+use Rattle.nit_slots.proofs.Lemmas.{Rises-push, arith, next_not_held}
 use Rattle.nit_slots.proofs.table.Table.create.Goals as goal
 
 pub invariant_of-self : goal.invariant_of-self

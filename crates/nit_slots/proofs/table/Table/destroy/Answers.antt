@@ -1,6 +1,5 @@
-use Rattle.std.proofs.Common.{◌≡◌, Some, sym, ◌∙◌}
-use Rattle.nit_slots.specs.Table.{slot_of}
-use Rattle.nit_slots.proofs.HandleLists.{IsTable-without, held_found, length-without_handle}
+use Rattle.std.proofs.Common.{Some, sym, ◌∙◌, ◌≡◌}
+use Rattle.nit_slots.proofs.Lemmas.{IsTable-without, held_found, length-without_handle, slot_of}
 use Rattle.nit_slots.proofs.table.Table.destroy.Goals as goal
 
 pub invariant_of-self : goal.invariant_of-self

@@ -1,4 +1,4 @@
-use Rattle.nit_slots.proofs.HandleLists.{none_held}
+use Rattle.nit_slots.proofs.Lemmas.{none_held}
 use Rattle.nit_slots.proofs.table.Table.find.Goals as goal
 
 pub returns-clause-none : goal.returns-clause-none

@@ -1,5 +1,6 @@
-use Rattle.std.proofs.Common.{◌≡◌, rules}
-use Rattle.nit_slots.proofs.HandleLists.{last_handle, last_held, last_greatest}
+use Rattle.nit_slots.proofs.Lemmas.{last_greatest, last_held}
+use Rattle.std.proofs.Common.{rules, ◌≡◌}
+use Rattle.nit_slots.proofs.HandleLists.{last_handle}
 use Rattle.nit_slots.proofs.table.Table.last.Goals as goal
 
 pub returns-clause-held : goal.returns-clause-held

@@ -1,7 +1,5 @@
-use Rattle.std.proofs.Common.{◌<◌, arith, length, subst, sym}
-use Rattle.nit_stack.specs.Stack.{IsStack}
-use Rattle.nit_stack.proofs.StackLemmas.{keeps_above}
-use Rattle.nit_stack.proofs.StackFieldLemmas.{put_above_is, room_again}
+use Rattle.std.proofs.Common.{arith, length, subst, sym, ◌<◌}
+use Rattle.nit_stack.proofs.Lemmas.{IsStack, keeps_above, put_above_is, room_again}
 use Rattle.nit_stack.proofs.stack.Stack.above.Goals as goal
 
 pub put_in_above-requires : goal.put_in_above-requires

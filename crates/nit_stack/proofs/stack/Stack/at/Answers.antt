@@ -1,10 +1,5 @@
-use Rattle.std.proofs.Common.{◌≡◌, ◌<◌, Some, ap, arith, length, refl, ◌∙◌}
-use Rattle.std.specs.Prelude.{slice_get}
-use Rattle.std.specs.Option.{option_map}
-use Rattle.std.proofs.lemmas.List.{length-map}
-use Rattle.std.proofs.lemmas.Option.{slice_get_read}
-use Rattle.nit_stack.specs.StackFields.{slot_view}
-use Rattle.nit_stack.proofs.StackFieldLemmas.{ref_at, there_at}
+use Rattle.std.proofs.Common.{Some, ap, arith, length, refl, ◌<◌, ◌∙◌, ◌≡◌}
+use Rattle.nit_stack.proofs.Lemmas.{length-map, option_map, ref_at, slice_get, slice_get_read, slot_view, there_at}
 use Rattle.nit_stack.proofs.stack.Stack.at.Goals as goal
 
 pub returns-clause-place : goal.returns-clause-place

@@ -1,7 +1,5 @@
-use Rattle.std.proofs.Common.{◌<◌, arith, length, subst, sym}
-use Rattle.nit_stack.specs.Stack.{IsStack}
-use Rattle.nit_stack.proofs.StackLemmas.{keeps_back}
-use Rattle.nit_stack.proofs.StackFieldLemmas.{backed, others_kept, room_again, slot_kept}
+use Rattle.std.proofs.Common.{arith, length, subst, sym, ◌<◌}
+use Rattle.nit_stack.proofs.Lemmas.{IsStack, backed, keeps_back, others_kept, room_again, slot_kept}
 use Rattle.nit_stack.proofs.stack.Stack.back.Goals as goal
 
 pub put_in_back-requires-clause-kept : goal.put_in_back-requires-clause-kept

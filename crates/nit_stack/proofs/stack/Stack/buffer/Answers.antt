@@ -1,8 +1,5 @@
-use Rattle.std.proofs.Common.{◌<◌, ap, arith, length, subst, sym, ◌∙◌}
-use Rattle.std.proofs.lemmas.List.{get_or-map, length-map}
-use Rattle.nit_stack.specs.Sources.{no_size}
-use Rattle.nit_stack.specs.StackFields.{size}
-use Rattle.nit_stack.specs.Stack.{IsBufferSize}
+use Rattle.std.proofs.Common.{ap, arith, length, subst, sym, ◌<◌, ◌∙◌}
+use Rattle.nit_stack.proofs.Lemmas.{IsBufferSize, get_or-map, length-map, no_size, size}
 use Rattle.nit_stack.proofs.stack.Stack.buffer.Goals as goal
 
 pub returns-clause-range : goal.returns-clause-range

@@ -1,5 +1,4 @@
-use Rattle.std.proofs.Common.{sym, ◌∙◌}
-use Rattle.nit_stack.proofs.StackFieldLemmas.{ref_at, ref_stands}
+use Rattle.nit_stack.proofs.Lemmas.{ref_at, ref_stands, sym, ◌∙◌}
 use Rattle.nit_stack.proofs.stack.Stack.first.Goals as goal
 
 pub returns-clause-place : goal.returns-clause-place

@@ -1,7 +1,5 @@
-use Rattle.std.proofs.Common.{◌<◌, arith, length, subst, sym}
-use Rattle.nit_stack.specs.Stack.{IsStack}
-use Rattle.nit_stack.proofs.StackLemmas.{keeps_front}
-use Rattle.nit_stack.proofs.StackFieldLemmas.{fronted, others_kept, room_again, slot_kept}
+use Rattle.std.proofs.Common.{arith, length, subst, sym, ◌<◌}
+use Rattle.nit_stack.proofs.Lemmas.{IsStack, fronted, keeps_front, others_kept, room_again, slot_kept}
 use Rattle.nit_stack.proofs.stack.Stack.front.Goals as goal
 
 pub put_in_front-requires-clause-kept : goal.put_in_front-requires-clause-kept

@@ -1,5 +1,4 @@
-use Rattle.std.proofs.Common.{arith}
-use Rattle.nit_stack.proofs.StackFieldLemmas.{few}
+use Rattle.nit_stack.proofs.Lemmas.{arith, few}
 use Rattle.nit_stack.proofs.stack.Stack.len.Goals as goal
 
 pub overflow_cast-result : goal.overflow_cast-result

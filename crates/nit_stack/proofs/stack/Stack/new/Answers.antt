@@ -1,6 +1,5 @@
-use Rattle.std.proofs.Common.{◌≡◌, arith, length, rules, subst, sym}
-use Rattle.nit_stack.specs.Stack.{IsStack}
-use Rattle.nit_stack.proofs.NewStacks.{opened_as, opened_stands}
+use Rattle.std.proofs.Common.{arith, length, rules, subst, sym, ◌≡◌}
+use Rattle.nit_stack.proofs.Lemmas.{IsStack, opened_as, opened_stands}
 use Rattle.nit_stack.proofs.stack.Stack.new.Goals as goal
 
 pub invariant_of-result : goal.invariant_of-result

@@ -1,5 +1,5 @@
 use Rattle.std.proofs.Common.{◌+◌, ◌∙◌}
-use Rattle.nit_stack.proofs.StackFieldLemmas.{ref_behind, ref_stands}
+use Rattle.nit_stack.proofs.Lemmas.{ref_behind, ref_stands}
 use Rattle.nit_stack.proofs.stack.Stack.next.Goals as goal
 
 pub returns-clause-place : goal.returns-clause-place

@@ -1,10 +1,5 @@
-use Rattle.std.proofs.Common.{◌≡◌, false, arith, ◌∙◌}
-use Rattle.std.proofs.lemmas.Int.{ints}
-use Rattle.nit_rect.specs.Rectangle.{covers}
-use Rattle.nit_stack.specs.Sources.{in_bar}
-use Rattle.nit_stack.specs.StackFields.{slot_view}
-use Rattle.nit_stack.proofs.Owners.{found_stands, owner_slot}
-use Rattle.nit_stack.proofs.SlotsAndViews.{all_below}
+use Rattle.std.proofs.Common.{arith, false, ◌∙◌, ◌≡◌}
+use Rattle.nit_stack.proofs.Lemmas.{all_below, covers, found_stands, in_bar, ints, owner_slot, slot_view}
 use Rattle.nit_stack.proofs.stack.Stack.owner.Goals as goal
 
 pub covering-requires : goal.covering-requires

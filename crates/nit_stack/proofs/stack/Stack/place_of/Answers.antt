@@ -1,9 +1,5 @@
-use Rattle.std.proofs.Common.{◌≡◌, ℕ, Some, arith, length, map, nat_lt, subst, sym, ap, ◌∙◌}
-use Rattle.std.specs.Prelude.{slice_get}
-use Rattle.nit_stack.specs.StackFields.{slot_view}
-use Rattle.nit_stack.specs.Stack.{view_ref}
-use Rattle.nit_stack.proofs.StackFieldLemmas.{few, place_in_order}
-use Rattle.nit_stack.proofs.ViewPlaces.{place_found, place_within}
+use Rattle.std.proofs.Common.{Some, ap, arith, length, map, nat_lt, subst, sym, ℕ, ◌∙◌, ◌≡◌}
+use Rattle.nit_stack.proofs.Lemmas.{few, place_found, place_in_order, place_within, slice_get, slot_view, view_ref}
 use Rattle.nit_stack.proofs.stack.Stack.place_of.Goals as goal
 
 pub overflow_cast-result : goal.overflow_cast-result

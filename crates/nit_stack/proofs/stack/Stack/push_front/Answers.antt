@@ -1,8 +1,5 @@
-use Rattle.std.proofs.Common.{◌≤◌, arith, length, subst, sym}
-use Rattle.std.proofs.lemmas.List.{length-set}
-use Rattle.nit_stack.specs.Stack.{IsStack, fresh}
-use Rattle.nit_stack.proofs.StackLemmas.{keeps_push}
-use Rattle.nit_stack.proofs.StackFieldLemmas.{pushed_as, room_for, written_kept, written_slot}
+use Rattle.std.proofs.Common.{arith, length, subst, sym, ◌≤◌}
+use Rattle.nit_stack.proofs.Lemmas.{IsStack, fresh, keeps_push, length-set, pushed_as, room_for, written_kept, written_slot}
 use Rattle.nit_stack.proofs.stack.Stack.push_front.Goals as goal
 
 pub put_in_front-requires-clause-kept : goal.put_in_front-requires-clause-kept

@@ -1,10 +1,4 @@
-use Rattle.std.proofs.Common.{Some, ap, arith, sym, ◌∙◌}
-use Rattle.std.specs.Option.{option_map}
-use Rattle.std.proofs.lemmas.List.{get_or_default}
-use Rattle.nit_stack.specs.Stack.{SlotView, fresh}
-use Rattle.nit_stack.specs.declared.view.View.{View}
-use Rattle.nit_stack.proofs.SlotsAndViews.{seat_found}
-use Rattle.nit_stack.proofs.StackFieldLemmas.{ref_slot, seat_at, slot_kept}
+use Rattle.nit_stack.proofs.Lemmas.{SlotView, Some, View, ap, arith, fresh, get_or_default, option_map, ref_slot, seat_at, seat_found, slot_kept, sym, ◌∙◌}
 use Rattle.nit_stack.proofs.stack.Stack.rect.Goals as goal
 
 pub index-requires : goal.index-requires

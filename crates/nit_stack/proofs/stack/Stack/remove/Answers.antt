@@ -1,7 +1,4 @@
-use Rattle.std.proofs.Common.{arith, subst, sym}
-use Rattle.nit_stack.specs.Stack.{IsStack}
-use Rattle.nit_stack.proofs.StackLemmas.{keeps_remove}
-use Rattle.nit_stack.proofs.StackFieldLemmas.{removed}
+use Rattle.nit_stack.proofs.Lemmas.{IsStack, arith, keeps_remove, removed, subst, sym}
 use Rattle.nit_stack.proofs.stack.Stack.remove.Goals as goal
 
 pub invariant_of-self : goal.invariant_of-self

@@ -1,7 +1,4 @@
-use Rattle.std.proofs.Common.{length, map}
-use Rattle.std.proofs.lemmas.List.{map-set}
-use Rattle.nit_stack.specs.StackFields.{slot_view, size}
-use Rattle.nit_stack.proofs.StackLemmas.{keeps_size}
+use Rattle.nit_stack.proofs.Lemmas.{keeps_size, length, map, map-set, size, slot_view}
 use Rattle.nit_stack.proofs.stack.Stack.set_buffer.Goals as goal
 
 pub invariant_of-self : goal.invariant_of-self

@@ -1,4 +1,4 @@
-use Rattle.nit_stack.proofs.StackLemmas.{keeps_layer}
+use Rattle.nit_stack.proofs.Lemmas.{keeps_layer}
 use Rattle.nit_stack.proofs.stack.Stack.set_layer.Goals as goal
 
 pub invariant_of-self : goal.invariant_of-self

@@ -1,9 +1,4 @@
-use Rattle.std.proofs.Common.{ap, length, sym, ◌∙◌}
-use Rattle.std.specs.Option.{option_map_or}
-use Rattle.nit_stack.specs.Sources.{Size, Word, black_or_word, shown_index}
-use Rattle.nit_stack.specs.Stack.{IsSlotView, is_slot, size_of}
-use Rattle.nit_stack.proofs.Lists.{All_found}
-use Rattle.nit_stack.proofs.Owners.{source_bare, source_is}
+use Rattle.nit_stack.proofs.Lemmas.{All_found, IsSlotView, Size, Word, ap, black_or_word, is_slot, length, option_map_or, shown_index, size_of, source_bare, source_is, sym, ◌∙◌}
 use Rattle.nit_stack.proofs.stack.Stack.source.Goals as goal
 
 pub returns-in_default-clause-source : goal.returns-in_default-clause-source

@@ -1,8 +1,4 @@
-use Rattle.std.proofs.Common.{arith, refl, subst, sym}
-use Rattle.std.proofs.lemmas.List.{length-set}
-use Rattle.nit_stack.specs.Stack.{IsStack, with_title}
-use Rattle.nit_stack.proofs.StackLemmas.{keeps_changed}
-use Rattle.nit_stack.proofs.StackFieldLemmas.{changed_as, slot_kept}
+use Rattle.nit_stack.proofs.Lemmas.{IsStack, arith, changed_as, keeps_changed, length-set, refl, slot_kept, subst, sym, with_title}
 use Rattle.nit_stack.proofs.stack.Stack.title.Goals as goal
 
 pub index_mut-requires : goal.index_mut-requires

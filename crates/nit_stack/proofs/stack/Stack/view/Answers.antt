@@ -1,8 +1,4 @@
-use Rattle.std.proofs.Common.{Some, ap, arith, sym, ◌∙◌}
-use Rattle.std.proofs.lemmas.List.{get_or_default}
-use Rattle.nit_stack.specs.Stack.{fresh}
-use Rattle.nit_stack.proofs.SlotsAndViews.{seat_found}
-use Rattle.nit_stack.proofs.StackFieldLemmas.{ref_slot, seat_at, slot_kept}
+use Rattle.nit_stack.proofs.Lemmas.{Some, ap, arith, fresh, get_or_default, ref_slot, seat_at, seat_found, slot_kept, sym, ◌∙◌}
 use Rattle.nit_stack.proofs.stack.Stack.view.Goals as goal
 
 pub index-requires : goal.index-requires

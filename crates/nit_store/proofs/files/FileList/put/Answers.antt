@@ -1,9 +1,5 @@
-use Rattle.std.proofs.Common.{◌≡◌, List, set, sym, ap, subst, ◌∙◌, Some, None}
-use Rattle.std.specs.List.{position}
-use Rattle.nit_store.specs.Store.{File}
-use Rattle.nit_store.specs.Files.{files_of, HasDifferentNames, with_file}
-use Rattle.nit_store.proofs.NamedFiles.{different-with_file}
-use Rattle.nit_store.proofs.FileLists.{Stored, has_name, put_at, put_last}
+use Rattle.std.proofs.Common.{List, None, Some, ap, set, subst, sym, ◌∙◌, ◌≡◌}
+use Rattle.nit_store.proofs.Lemmas.{File, HasDifferentNames, Stored, different-with_file, files_of, has_name, position, put_at, put_last, with_file}
 use Rattle.nit_store.proofs.files.FileList.put.Goals as goal
 
 put_over : (c : goal.After-drop-file) → files_of (set c.self.inside.list.items c.in-Some.place (c.index_mut-file.result.now.0, c.in_ok-copy.copy)) ≡ with_file c.args.name.now c.args.bytes.now (files_of c.self.inside.list.items)

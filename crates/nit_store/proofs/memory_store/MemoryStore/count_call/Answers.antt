@@ -1,5 +1,5 @@
-use Rattle.std.proofs.Common.{◌↔◌, ◌+◌, ℕ, List, IsTrue, Contains, subst}
-use Rattle.nit_store.specs.MemoryStore.{MemoryStoreModel, FailsNext}
+use Rattle.std.proofs.Common.{Contains, IsTrue, List, subst, ℕ, ◌+◌, ◌↔◌}
+use Rattle.nit_store.proofs.Lemmas.{FailsNext, MemoryStoreModel}
 use Rattle.nit_store.proofs.memory_store.MemoryStore.count_call.Goals as goal
 
 pub returns-clause-fails : goal.returns-clause-fails

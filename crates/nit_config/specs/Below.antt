@@ -1,0 +1,12 @@
+-- The words of the library and of the crates below that are used here.
+pub use Rattle.nit_glyph.specs.Texts.{is_label}
+pub use Rattle.nit_rect.specs.Limits.{first_printable, last_printable, least_units, most_height, most_sessions, most_units, most_width}
+pub use Rattle.std.specs.BTreeMap.{keys}
+pub use Rattle.std.specs.List.{AllByRecursion, AllZip, list_all, list_any}
+pub use Rattle.std.specs.Map.{keys_of}
+pub use Rattle.std.specs.Option.{option_map_or}
+pub use Rattle.std.specs.Str.{is_utf8}
+pub use Rattle.toml.specs.Data.{Data, Items, Members, array, as_array, as_bool, as_integer, as_str, as_table, boolean, datetime, float, get_member, integer, item, member, no_items, no_members, string, table}
+pub use Rattle.toml.specs.Parse.{parse_document}
+pub use Rattle.toml.specs.View.{items_view, members_view, table_view, view}
+pub use Rattle.toml.specs.declared.value.Value.{Value}

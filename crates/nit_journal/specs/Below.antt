@@ -1,0 +1,28 @@
+-- The words of the library and of the crates below that are used here.
+pub use Rattle.nit_config.specs.Configuration.{Configuration, bar_rows, donation_of, member, still_configuration}
+pub use Rattle.nit_config.specs.declared.config.Member.{Member}
+pub use Rattle.nit_events.specs.Input.{InputState, Routing, deliveries_of, first_input, forget, is_button, pointer_after, routed_as, routing, to}
+pub use Rattle.nit_events.specs.Ranges.{most_waiting}
+pub use Rattle.nit_events.specs.declared.call.Call.{Call}
+pub use Rattle.nit_events.specs.declared.call.Call.TheVariants.{Above, Back, Buffer, Close, Destroy, Front, Offset, Place, Refresh, Take, Title, Upgrade}
+pub use Rattle.nit_events.specs.declared.call.Reply.{Reply}
+pub use Rattle.nit_events.specs.declared.device.Device.{Device}
+pub use Rattle.nit_events.specs.declared.device.Mode.{Mode}
+pub use Rattle.nit_events.specs.declared.device.Mode.TheVariants.{Flat, Kill, Xray}
+pub use Rattle.nit_events.specs.declared.entry.Entry.{Entry}
+pub use Rattle.nit_events.specs.declared.event.Delivery.{Delivery}
+pub use Rattle.nit_events.specs.declared.event.Event.{Event}
+pub use Rattle.nit_events.specs.declared.event.Item.{Item}
+pub use Rattle.nit_events.specs.declared.event.Routed.{Routed}
+pub use Rattle.nit_events.specs.declared.event.Status.{Status}
+pub use Rattle.nit_glyph.specs.Texts.{is_title}
+pub use Rattle.nit_rect.specs.Limits.{most_side}
+pub use Rattle.nit_rect.specs.Rectangle.{covers, is_place, is_rectangle, rectangle}
+pub use Rattle.nit_rect.specs.declared.point.Point.{Point}
+pub use Rattle.nit_slots.specs.Account.{buffer_left, buffer_need, most_views, room, view_left, view_need, view_slots}
+pub use Rattle.nit_stack.specs.LabelPlaces.{is_view}
+pub use Rattle.nit_stack.specs.Orders.{changed, moved, put_above, put_again, put_back, put_front, without}
+pub use Rattle.nit_stack.specs.Sources.{Bare, PixelSource, Size, Word, in_bar, owner, point, source, source_under}
+pub use Rattle.std.specs.List.{insert, list_any}
+pub use Rattle.std.specs.List.Sorted.{IsNonDecreasing}
+pub use Rattle.std.specs.Prelude.{All, List, codes, not, option_map, slice_set, ℕ}

@@ -1,0 +1,7 @@
+-- What lemmas use: the words of clauses, the library's lemmas, and those of the crates below.
+pub use Rattle.atomic_table.proofs.Lists.{at_last, at_longer, at_set, set_else, set_here}
+pub use Rattle.nit_ledger.specs.Terms.{Allows, Bears, BearsShare, BookView, Entry, FitsView, IsBookAt, IsBookRule, IsTokenInStep, Joins, Me, OfBook, OfShare, Spent, Splits, State, StepDone, Token, book_after_split, book_at_rest, book_with_share, counts_at, entries_at, keeps, newest_share, opening, raised_by, share_in, step, taken_token, token, token_at, with_share, without_share}
+pub use Rattle.std.proofs.Common.{ap, subst, sym, ◌∙◌}
+pub use Rattle.std.proofs.Math.Seq.{get_or-append_seam}
+pub use Rattle.std.proofs.lemmas.Bool.{cases_eq}
+pub use Rattle.std.proofs.lemmas.List.{append-nil, get_or_append_left, length-set, set-get_or}

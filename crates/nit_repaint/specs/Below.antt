@@ -1,0 +1,26 @@
+-- The words of the library and of the crates below that are used here.
+pub use Rattle.nit_damage.specs.Cutter.{CutterModel, FitsStack, pieces_left, to_come}
+pub use Rattle.nit_damage.specs.Damage.{covered, is_behind, is_of_moved, is_owned, once, slot_view_covers}
+pub use Rattle.nit_overlay.specs.Frame.{frame, shown}
+pub use Rattle.nit_overlay.specs.Look.{IsLook, scenery}
+pub use Rattle.nit_overlay.specs.declared.look.Look.{Look}
+pub use Rattle.nit_paint.specs.FrameCopy.{AreSet}
+pub use Rattle.nit_paint.specs.Pieces.{IsPiece, has_pixel, session_shown, source_of_number, words_shown}
+pub use Rattle.nit_paint.specs.Repaint.{Repainted, no_sight, with_glass}
+pub use Rattle.nit_rect.specs.Intersection.{CoversBoth}
+pub use Rattle.nit_rect.specs.Rectangle.{IsPlace, Rectangle, covers, rectangle, spans}
+pub use Rattle.nit_rect.specs.Strips.{times}
+pub use Rattle.nit_rect.specs.declared.point.Point.{Point}
+pub use Rattle.nit_stack.specs.Orders.{changed, moved, put_above, put_again, without}
+pub use Rattle.nit_stack.specs.SourceAnswers.{session_of, word_count}
+pub use Rattle.nit_stack.specs.Sources.{PixelSource, Size, Word, among, black_or_word, buffer_place, in_bar, index_at, owner_in, pixel, point, shown_index, source, source_under}
+pub use Rattle.nit_stack.specs.Stack.{IsOnScreen, IsScreenSize, IsSlotView, IsStack, NoPair, SlotView, StackModel, has_slot, is_of_session, is_slot, moved_above, on_view, place_of, put_own_back, put_own_front, same_slot, size_of, slot_view_in, slot_view_layer, with_offset, with_rect}
+pub use Rattle.nit_stack.specs.ViewNames.{views_of}
+pub use Rattle.nit_stack.specs.declared.view.Piece.{Piece}
+pub use Rattle.nit_stack.specs.declared.view.View.{View}
+pub use Rattle.nit_stack.specs.declared.view.ViewRef.{ViewRef}
+pub use Rattle.nit_word.specs.Inks.{IsWord}
+pub use Rattle.nit_word.specs.Sight.{Sight, seen}
+pub use Rattle.std.specs.List.{insert, list_any, position_or_len}
+pub use Rattle.std.specs.Option.{option_map, option_map_or}
+pub use Rattle.std.specs.Prelude.{Bool, IsTrue, List, int_le, nat_lt, negsuc, pos, slice_get, slice_index, ℕ, ℤ}

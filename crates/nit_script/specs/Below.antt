@@ -1,0 +1,14 @@
+-- The words of the library and of the crates below that are used here.
+pub use Rattle.nit_events.specs.Ranges.{IsCode, IsWheel, least_turn, most_code, most_pointer, most_turn}
+pub use Rattle.nit_events.specs.Text.{is_printable, is_text}
+pub use Rattle.nit_events.specs.declared.call.Call.{Call}
+pub use Rattle.nit_events.specs.declared.call.Call.TheVariants.{Above, Back, Buffer, Close, Destroy, Front, Offset, Place, Refresh, Take, Title, Upgrade, View}
+pub use Rattle.nit_events.specs.declared.device.Device.{Device}
+pub use Rattle.nit_events.specs.declared.device.Device.TheVariants.{Motion, Press, Release, Wheel}
+pub use Rattle.nit_rect.specs.Options.{Gives}
+pub use Rattle.std.specs.Char.{digit_value, is_ascii_digit}
+pub use Rattle.std.specs.Fmt.{decimal, signed_decimal}
+pub use Rattle.std.specs.Int.{IsInRange, is_in_range}
+pub use Rattle.std.specs.List.{AllByRecursion, flat_map, list_all, prefix_len, starts_with}
+pub use Rattle.std.specs.Prelude.{IfOk, List, Option, codes, not, ℕ}
+pub use Rattle.std.specs.Str.Parse.{AllDigits, digits_value}

@@ -1,0 +1,4 @@
+-- The words of the library and of the crates below that are used here.
+pub use Rattle.nit_rect.specs.Limits.{least_units, most_side, most_slots, most_units}
+pub use Rattle.std.specs.List.{list_any, range_with_len}
+pub use Rattle.std.specs.List.Sorted.{IsStrictlyIncreasing}

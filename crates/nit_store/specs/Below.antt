@@ -1,0 +1,6 @@
+-- The words of the library and of the crates below that are used here.
+pub use Rattle.std.specs.Global.{Global}
+pub use Rattle.std.specs.List.{position, position_or_len}
+pub use Rattle.std.specs.Option.{option_copied}
+pub use Rattle.std.specs.Prelude.{Contains, IfOk, IsErr, IsErrOf, IsTrue, List, None, OnErr, OnOk, Some, String, Vec, is_none, nat_lt, option_map, string_bytes, ℕ}
+pub use Rattle.std.specs.Str.{bytes_eq}
