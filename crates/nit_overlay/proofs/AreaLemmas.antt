@@ -1,16 +1,7 @@
 -- An area is painted row by row.
-use Rattle.std.proofs.Common.{◌≡◌, ℕ, ◌+◌, ◌-◌, ◌*◌, ◌/◌, ◌%◌, ◌<◌, ◌≤◌, Bool, true, false, cond, ◌&&◌, leb, ltb, min, List, length, get_or, arith, ◌∙◌, sym, ap, ap₂, subst, refl, inl, inr, rules}
-use Rattle.std.proofs.lemmas.Bool.{cases_lt}
-use Rattle.std.proofs.lemmas.Bool.Decides.{nat_tests}
-use Rattle.std.proofs.lemmas.List.{places}
-use Rattle.std.proofs.lemmas.List.Edits.{get_or-between}
-use Rattle.std.proofs.lemmas.Nat.{le-div, div-mul-add, mod-mul-add}
-use Rattle.std.proofs.Math.Nat.{div-lt_iff_lt-mul}
-use Rattle.std.specs.List.{between}
+use Rattle.std.proofs.Common.{Bool, List, ap, ap₂, arith, cond, false, get_or, inl, inr, leb, length, ltb, min, refl, rules, subst, sym, true, ℕ, ◌%◌, ◌&&◌, ◌*◌, ◌+◌, ◌-◌, ◌/◌, ◌<◌, ◌∙◌, ◌≡◌, ◌≤◌}
+use Rattle.nit_overlay.proofs.Basics.{Area, IsOverlaid, IsPainted, between, cases_lt, div-lt_iff_lt-mul, div-mul-add, get_or-between, in_area, le-div, mod-mul-add, nat_tests, places}
 use borrow.Rule.Slice.PartMut.{put_mid}
-use Rattle.nit_overlay.specs.declared.area.Area.{Area}
-use Rattle.nit_overlay.specs.Area.{IsOverlaid, in_area}
-use Rattle.nit_overlay.specs.PixelRow.{IsPainted}
 use Rattle.nit_overlay.proofs.RowParts.{painted_by}
 
 -- ---- a part of a list that is put back

@@ -1,8 +1,6 @@
 -- An area is painted part by part: bands of rows, and runs of columns.
-use Rattle.std.proofs.Common.{◌≡◌, ℕ, ◌/◌, ◌%◌, ◌<◌, ◌≤◌, Bool, true, false, cond, ◌||◌, List, get_or, arith, ◌∙◌, refl, ap, sym}
-use Rattle.std.proofs.lemmas.Bool.Decides.{nat_tests}
-use Rattle.nit_overlay.specs.declared.area.Area.{Area}
-use Rattle.nit_overlay.specs.Area.{IsAreaBy, IsOverlaid, in_area}
+use Rattle.std.proofs.Common.{Bool, List, ap, arith, cond, false, get_or, refl, sym, true, ℕ, ◌%◌, ◌/◌, ◌<◌, ◌||◌, ◌∙◌, ◌≡◌, ◌≤◌}
+use Rattle.nit_overlay.proofs.Basics.{Area, IsAreaBy, IsOverlaid, in_area, nat_tests}
 
 -- ---- chosen words
 

@@ -1,13 +1,7 @@
 -- Worked rows of the screen, computed from the definitions.
-use Rattle.std.proofs.Common.{◌≡◌, ℕ, None, [], ◌∷◌, refl, pos, map}
-use Rattle.std.specs.Prelude.{codes}
-use Rattle.std.specs.List.{range_with_len}
-use Rattle.nit_rect.specs.Rectangle.{rectangle}
+use Rattle.std.proofs.Common.{None, [], map, pos, refl, ℕ, ◌∷◌, ◌≡◌}
+use Rattle.nit_overlay.proofs.Basics.{Flat, Scenery, View, Xray, codes, point, range_with_len, rectangle, shown}
 use Rattle.nit_glyph.specs.Pictures.{dot, glyph_rows}
-use Rattle.nit_events.specs.declared.device.Mode.TheVariants.{Flat, Xray}
-use Rattle.nit_stack.specs.declared.view.View.{View}
-use Rattle.nit_stack.specs.Sources.{point}
-use Rattle.nit_overlay.specs.Frame.{Scenery, shown}
 
 -- two views on a screen of 12 by 7: that of session 1, of 3 by 7, stands in front of the other, of 12 by 7
 abbrev view_of : ℕ → ℕ → View

@@ -1,24 +1,7 @@
 -- Frames, word by word.
-use Rattle.std.proofs.Common.{◌≡◌, ℕ, ◌*◌, ◌/◌, ◌%◌, ◌<◌, Bool, true, false, cond, List, None, Some, Option, length, get_or, arith, ◌∙◌, sym, ap}
-use Rattle.std.specs.Prelude.{slice_index}
-use Rattle.std.proofs.lemmas.Bool.Decides.{nat_tests}
-use Rattle.std.proofs.lemmas.Grind.{same_number_lists}
-use Rattle.std.proofs.lemmas.List.{get_or_default}
-use Rattle.std.proofs.lemmas.List.FromFn.{length-map-range_with_len, get_or-map-range_with_len}
-use Rattle.nit_rect.specs.declared.point.Point.{Point}
-use Rattle.nit_rect.specs.Rectangle.{Rectangle, covers}
-use Rattle.nit_word.specs.Channels.{dim}
-use Rattle.nit_word.specs.Inks.{IsWord}
-use Rattle.nit_events.specs.declared.device.Mode.{Mode}
-use Rattle.nit_events.specs.declared.device.Mode.TheVariants.{Flat, Xray, Kill}
-use Rattle.nit_stack.specs.declared.view.View.{View}
-use Rattle.nit_stack.specs.Sources.{pixel, point, in_bar, owner}
-use Rattle.nit_overlay.specs.declared.area.Area.{Area}
-use Rattle.nit_overlay.specs.declared.look.Look.{Look}
-use Rattle.nit_overlay.specs.Area.{IsShownIn, in_area}
-use Rattle.nit_overlay.specs.Look.{scenery}
-use Rattle.nit_overlay.specs.Frame.{Scenery, bar_word, by_label, by_mode, frame, has_dot, ink_of, is_in_picture, owner_word, shown, view_word, white_word, grey_word}
-use Rattle.nit_word.proofs.ForCallers.{column_and_row}
+use Rattle.nit_overlay.proofs.Basics.{Area, Flat, IsShownIn, IsWord, Kill, Look, Mode, Point, Rectangle, Scenery, View, Xray, bar_word, by_label, by_mode, column_and_row, covers, dim, get_or-map-range_with_len, get_or_default, grey_word, has_dot, in_area, in_bar, ink_of, is_in_picture, length-map-range_with_len, nat_tests, owner, owner_word, pixel, point, same_number_lists, scenery, shown, view_word, white_word}
+use Rattle.std.proofs.Common.{Bool, List, None, Option, Some, ap, arith, cond, false, get_or, length, slice_index, sym, true, ℕ, ◌%◌, ◌*◌, ◌/◌, ◌<◌, ◌∙◌, ◌≡◌}
+use Rattle.nit_overlay.specs.Frame.{frame}
 
 pub length-frame : (s : Scenery) (raw : List ℕ) → length (frame s raw) ≡ s.width * s.height
 unfolding frame

@@ -1,16 +1,6 @@
 -- Frames that are kept.
-use Rattle.std.proofs.Common.{◌≡◌, ℕ, ◌*◌, ◌<◌, Bool, true, false, cond, List, Option, Some, None, refl, ap, sym, ◌∙◌, subst, arith}
-use Rattle.std.specs.Prelude.{slice_index}
-use Rattle.std.specs.Option.{is_some}
-use Rattle.std.proofs.lemmas.List.{ext_get_or}
-use Rattle.nit_rect.specs.declared.point.Point.{Point}
-use Rattle.nit_word.specs.Channels.{bare_word}
-use Rattle.nit_events.specs.declared.device.Mode.{Mode}
-use Rattle.nit_events.specs.declared.device.Mode.TheVariants.{Flat}
-use Rattle.nit_stack.specs.declared.view.View.{View}
-use Rattle.nit_stack.specs.Sources.{in_bar, owner, pixel}
-use Rattle.nit_overlay.specs.Frame.{Scenery, bar_word, frame, owner_word, shown, view_word}
-use Rattle.nit_overlay.specs.FrameRenewal.{IsRenewed}
+use Rattle.std.proofs.Common.{Bool, List, None, Option, Some, ap, arith, cond, false, refl, slice_index, subst, sym, true, ℕ, ◌*◌, ◌<◌, ◌∙◌, ◌≡◌}
+use Rattle.nit_overlay.proofs.Basics.{Flat, IsRenewed, Mode, Point, Scenery, View, bar_word, bare_word, ext_get_or, frame, in_bar, is_some, owner, owner_word, pixel, shown, view_word}
 use Rattle.nit_overlay.proofs.FrameLemmas.{get_or-frame, length-frame}
 
 pub renewed : (before now : Scenery) (chosen : ℕ → Bool) (raw raw' old new : List ℕ) → IsRenewed before now chosen raw raw' old new → old ≡ frame before raw → new ≡ frame now raw'

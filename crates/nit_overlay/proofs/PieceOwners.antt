@@ -1,16 +1,6 @@
 -- What a pixel shows whose owner is known.
-use Rattle.std.proofs.Common.{◌≡◌, ℕ, Bool, true, false, cond, Option, None, Some, List, refl, ap, ◌∙◌}
-use Rattle.std.specs.Option.{option_map}
-use Rattle.nit_rect.specs.declared.point.Point.{Point}
-use Rattle.nit_stack.specs.declared.view.View.{View}
-use Rattle.nit_stack.specs.declared.view.ViewRef.{ViewRef}
-use Rattle.nit_stack.specs.Sources.{covering, in_bar, owner}
-use Rattle.nit_stack.specs.Stack.{NoPair, SlotView, same_slot, seat_owner, slot_view_in, view_ref}
-use Rattle.nit_stack.specs.ViewNames.{views_of}
-use Rattle.nit_stack.proofs.ForCallers.{owner_is, owner_of_views}
-use Rattle.nit_overlay.specs.declared.look.Look.{Look}
-use Rattle.nit_overlay.specs.Look.{scenery}
-use Rattle.nit_overlay.specs.Frame.{bar_word, owner_word, shown, unowned_word, view_word}
+use Rattle.nit_overlay.proofs.Basics.{Look, NoPair, Point, SlotView, View, ViewRef, bar_word, covering, in_bar, option_map, owner, owner_is, owner_of_views, owner_word, same_slot, scenery, seat_owner, shown, slot_view_in, unowned_word, view_ref, view_word, views_of}
+use Rattle.std.proofs.Common.{Bool, List, None, Option, Some, ap, cond, false, refl, true, ℕ, ◌∙◌, ◌≡◌}
 
 -- a view's pixel
 pub shown_owned : (look : Look) (p : Point) (w : ℕ) (v : ViewRef) (view : View) → NoPair same_slot look.stack.now.views

@@ -1,7 +1,6 @@
 -- A row is painted part by part.
-use Rattle.std.proofs.Common.{◌≡◌, ℕ, ◌<◌, ◌≤◌, List, arith, ◌∙◌, refl, inl, inr, slice_index}
-use Rattle.std.proofs.lemmas.Bool.{cases_lt}
-use Rattle.nit_overlay.specs.PixelRow.{IsPainted}
+use Rattle.std.proofs.Common.{List, arith, inl, inr, refl, slice_index, ℕ, ◌<◌, ◌∙◌, ◌≡◌, ◌≤◌}
+use Rattle.nit_overlay.proofs.Basics.{IsPainted, cases_lt}
 
 -- as far as the parts have come
 pub record RowSoFar (f : ℕ → ℕ → ℕ) (raw old now : List ℕ) (from to at : ℕ) : Type 0 where

@@ -1,13 +1,6 @@
 -- The owner of each pixel of a run.
-use Rattle.std.proofs.Common.{[], ◌∷◌, zero, suc, ◌≡◌, ℕ, ◌<◌, ◌≤◌, Bool, true, false, cond, List, None, Some, length, find, arith, ◌∙◌, ap, refl}
-use Rattle.std.specs.Prelude.{slice_get}
-use Rattle.std.proofs.lemmas.Bool.{le-ltb}
-use Rattle.std.proofs.lemmas.Option.{slice_get_within, same_Some}
-use Rattle.nit_rect.specs.Rectangle.{covers}
-use Rattle.nit_stack.specs.declared.view.View.{View}
-use Rattle.nit_stack.specs.Stack.{SlotView}
-use Rattle.nit_stack.specs.Sources.{owner, in_bar, point}
-use Rattle.nit_stack.specs.ViewNames.{views_of}
+use Rattle.std.proofs.Common.{Bool, List, None, Some, [], ap, arith, cond, false, find, length, refl, suc, true, zero, ℕ, ◌<◌, ◌∙◌, ◌∷◌, ◌≡◌, ◌≤◌}
+use Rattle.nit_overlay.proofs.Basics.{SlotView, View, covers, in_bar, le-ltb, owner, point, same_Some, slice_get, slice_get_within, views_of}
 
 find_none : (p : View → Bool) (seats : List SlotView) → ((k : ℕ) (s : SlotView) → slice_get seats k ≡ Some s → p s.view ≡ false) → find p (views_of seats) ≡ None
 find_none p [] fails = refl

@@ -1,6 +1,6 @@
 -- Parts of a screen.
 use Rattle.std.specs.Prelude.{◌≡◌, ℕ, ◌%◌, ◌/◌, ◌*◌, ◌<◌, ◌≤◌, Bool, ◌&&◌, nat_le, nat_lt, List, slice_index, if◌then◌else◌}
-use Rattle.nit_stack.specs.Sources.{pixel}
+use Rattle.nit_overlay.specs.Below.{pixel}
 use Rattle.nit_overlay.specs.declared.area.Area.{Area}
 use Rattle.nit_overlay.specs.declared.look.Look.{Look}
 use Rattle.nit_overlay.specs.Look.{scenery}

@@ -1,18 +1,6 @@
 -- What a screen shows at a pixel.
 use Rattle.std.specs.Prelude.{ℕ, ◌-◌, ◌*◌, Bool, true, false, ◌&&◌, ◌||◌, ℤ, pos, negsuc, ◌+ℤ◌, ◌-ℤ◌, List, [], map, length, slice_index, slice_index_or, Option, Some, None, option_map, codes, if◌then◌else◌}
-use Rattle.std.specs.Ordering.{int_eq}
-use Rattle.std.specs.List.{range_with_len}
-use Rattle.nit_rect.specs.declared.point.Point.{Point}
-use Rattle.nit_rect.specs.Rectangle.{Rectangle, rectangle, covers}
-use Rattle.nit_word.specs.Channels.{bare_word, dim, tint}
-use Rattle.nit_glyph.specs.Texts.{label_text_of, bar_text_of}
-use Rattle.nit_glyph.specs.Pictures.{dot, picture_width, picture_height}
-use Rattle.nit_events.specs.declared.device.Mode.{Mode}
-use Rattle.nit_events.specs.declared.device.Mode.TheVariants.{Flat, Xray, Kill}
-use Rattle.nit_events.specs.Input.{is_same}
-use Rattle.nit_stack.specs.declared.view.View.{View}
-use Rattle.nit_stack.specs.Sources.{pixel, in_bar, owner}
-use Rattle.nit_stack.specs.LabelPlaces.{label_place}
+use Rattle.nit_overlay.specs.Below.{Flat, Kill, Mode, Point, Rectangle, View, Xray, bar_text_of, bare_word, covers, dim, dot, in_bar, int_eq, is_same, label_place, label_text_of, owner, picture_height, picture_width, pixel, range_with_len, rectangle, tint}
 
 -- what a frame is made by, but for the words of the clients: the screen's size and the rows of its
 -- status bar, all views, front first, the labels of the sessions, the mode, and the focused session

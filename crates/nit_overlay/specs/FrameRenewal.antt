@@ -1,6 +1,6 @@
 -- A frame that is kept.
 use Rattle.std.specs.Prelude.{◌≡◌, ℕ, ◌*◌, ◌<◌, Bool, true, false, List, length, slice_index}
-use Rattle.nit_stack.specs.Sources.{pixel}
+use Rattle.nit_overlay.specs.Below.{pixel}
 use Rattle.nit_overlay.specs.Frame.{Scenery, shown}
 
 -- One word for each pixel was kept: each chosen pixel was set to what is shown now, each other one

@@ -10,3 +10,5 @@ pub mod Stripe
 pub mod Owner
 pub mod Rule
 pub mod Span
+pub mod Below
+pub mod Terms

@@ -1,11 +1,6 @@
 -- What a look shows, and when it is one.
 use Rattle.std.specs.Prelude.{◌≡◌, ℕ, ◌<◌, Bool, true, false, length, slice_get, All, Some, option_map, IfSome, IsTrue}
-use Rattle.nit_rect.specs.declared.point.Point.{Point}
-use Rattle.nit_events.specs.declared.device.Mode.{Mode}
-use Rattle.nit_events.specs.declared.device.Mode.TheVariants.{Flat}
-use Rattle.nit_stack.specs.Stack.{SlotView}
-use Rattle.nit_stack.specs.ViewNames.{views_of}
-use Rattle.nit_stack.specs.Sources.{point}
+use Rattle.nit_overlay.specs.Below.{Flat, Mode, Point, SlotView, point, views_of}
 use Rattle.nit_overlay.specs.declared.look.Look.{Look}
 use Rattle.nit_overlay.specs.Frame.{Scenery, label_place_of}
 

@@ -1,7 +1,6 @@
 -- How a pixel is painted.
 use Rattle.std.specs.Prelude.{ℕ, ◌+◌, ◌-◌, ◌<◌, ◌≤◌, length}
-use Rattle.nit_word.specs.Channels.{dim, tint}
-use Rattle.nit_glyph.specs.Pictures.{dot, picture_width, picture_height}
+use Rattle.nit_overlay.specs.Below.{dim, dot, picture_height, picture_width, tint}
 use Rattle.nit_overlay.specs.declared.paint.Tag.{Tag}
 use Rattle.nit_overlay.specs.declared.paint.Rule.{Rule}
 use Rattle.nit_overlay.specs.declared.paint.Rule.TheVariants.{Fill, Raw, Dim, Tint, Text}

@@ -1,8 +1,6 @@
 -- The rules of the pixels of a view, in a row.
 use Rattle.std.specs.Prelude.{ℕ, ◌+◌, ◌<◌, ◌≤◌, ◌^◌, Bool, true, false, ◌&&◌, ◌||◌, nat_le, nat_lt, length, Option, None, Some, if◌then◌else◌}
-use Rattle.nit_glyph.specs.Pictures.{picture_width, picture_height}
-use Rattle.nit_events.specs.declared.device.Mode.{Mode}
-use Rattle.nit_events.specs.declared.device.Mode.TheVariants.{Flat, Xray, Kill}
+use Rattle.nit_overlay.specs.Below.{Flat, Kill, Mode, Xray, picture_height, picture_width}
 use Rattle.nit_overlay.specs.declared.paint.Tag.{Tag}
 use Rattle.nit_overlay.specs.declared.paint.Rule.{Rule}
 use Rattle.nit_overlay.specs.declared.paint.Rule.TheVariants.{Fill, Raw, Dim, Tint, Text}

@@ -1,10 +1,7 @@
 //! The part of a screen that a rectangle covers.
 
 ghost use Rattle.std.specs.Prelude.{◌≡◌, ℕ, ◌<◌, ◌≤◌, ◌&&◌, nat_le, nat_lt};
-ghost use Rattle.nit_rect.specs.Rectangle.{covers};
-ghost use Rattle.nit_stack.specs.Sources.{point};
-ghost use Rattle.nit_overlay.specs.Area.{IsArea, in_area};
-ghost use Rattle.nit_overlay.specs.Span.{span_has};
+ghost use Rattle.nit_overlay.specs.Terms.{IsArea, covers, in_area, point, span_has};
 
 use crate::span::{SHIFT, Span, span_of};
 use nit_rect::Rect;

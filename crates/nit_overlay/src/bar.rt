@@ -1,15 +1,10 @@
 //! The status bar.
 
-ghost use Rattle.std.specs.Prelude.{◌≡◌, ℕ, ◌<◌, ◌≤◌, length, All};
-ghost use Rattle.nit_word.specs.Inks.{IsWord};
-ghost use Rattle.nit_stack.specs.Sources.{point};
-ghost use Rattle.nit_overlay.specs.Look.{IsLook, scenery};
-ghost use Rattle.nit_overlay.specs.PixelRow.{IsPainted};
-ghost use Rattle.nit_overlay.specs.Frame.{bar_text, bar_word, mode_word};
-ghost use Rattle.nit_rect.specs.Limits.{most_width};
+ghost use Rattle.std.specs.Prelude.{◌≡◌, ℕ, ◌*◌, ◌<◌, ◌≤◌, List, length, nat_lt, slice_index, if◌then◌else◌};
+ghost use Rattle.nit_overlay.specs.Terms.{IsLook, IsPainted, bar_text, bar_word, mode_word, most_width, pixel, point, scenery};
 
 use crate::look::Look;
-use crate::paint::{Rule, Tag, paint_part};
+use crate::paint::{Tag, fill_part, paint_tag};
 use crate::stripe::width_of;
 use nit_events::Mode;
 use nit_glyph::{Label, LabelText, bar_text};
@@ -46,16 +41,14 @@ fn text_of(look: &Look) -> LabelText
 }
 
 /// Paints the pixels of a row of the bar from the column `from` to before `to`.
-pub(crate) fn overlay_bar(look: &Look, y: u32, from: u32, to: u32, raw: &[u32], out: &mut [u32])
+pub(crate) fn overlay_bar(look: &Look, y: u32, from: u32, to: u32, out: &mut [u32])
     requires look { IsLook look.now }
-    requires same_length { length out.old ≡ length raw.now }
-    requires words { All IsWord raw.now }
     requires in_order { from ≤ to }
-    requires within { to ≤ length raw.now }
+    requires within { to ≤ length out.old }
     requires across { to ≤ most_width }
     requires down { y < 7 }
-    ensures { IsPainted (λ x w. bar_word (scenery look.now) (point x y))
-        raw.now out.old out.new from to }
+    ensures { (raw : List ℕ) → IsPainted (λ x w. bar_word (scenery look.now) (point x y))
+        raw out.old out.new from to }
 {
     let text = text_of(look);
     let tag = Tag {
@@ -65,7 +58,26 @@ pub(crate) fn overlay_bar(look: &Look, y: u32, from: u32, to: u32, raw: &[u32], 
     };
     let cut = width_of(&text).min(to).max(from);
     if from < cut {
-        paint_part(&Rule::Text(tag), raw, out, from, cut, y);
+        paint_tag(&tag, out, from, cut, y);
     }
-    paint_part(&Rule::Fill(0), raw, out, cut, to, y);
+    fill_part(0, out, cut, to);
+}
+
+/// Sets the words of the bar's pixels, which are the first of `out`, to what is shown there; all
+/// other words stay. `out` has a word for each pixel of the screen, row by row from the top. No
+/// memory is taken.
+pub fn bar_into(look: &Look, out: &mut [u32])
+    requires look { IsLook look.now }
+    requires out { length out.old ≡ look.now.stack.now.width * look.now.stack.now.height }
+    ensures pixels { (k : ℕ) → slice_index out.new k
+        ≡ (if nat_lt k (look.now.stack.now.width * look.now.stack.now.bar)
+        then bar_word (scenery look.now) (pixel look.now.stack.now.width k)
+        else slice_index out.old k) }
+    ensures length { length out.new ≡ length out.old }
+{
+    let (width, _height) = look.stack.size();
+    'rows: for y in 0..look.stack.bar() {
+        let at = y as usize * width as usize;
+        overlay_bar(look, y, 0, width, &mut out[at..at + width as usize]);
+    }
 }

@@ -1,13 +1,7 @@
 //! Laws of frames.
 
 ghost use Rattle.std.specs.Prelude.{◌≡◌, ℕ, ◌*◌, ◌<◌, All, Bool, List, false, length, slice_index};
-ghost use Rattle.std.specs.Option.{is_some};
-ghost use Rattle.nit_rect.specs.declared.point.Point.{Point};
-ghost use Rattle.nit_word.specs.Inks.{IsWord};
-ghost use Rattle.nit_events.specs.declared.device.Mode.TheVariants.{Flat};
-ghost use Rattle.nit_overlay.specs.Frame.{Scenery, shown, frame};
-ghost use Rattle.nit_overlay.specs.FrameRenewal.{IsRenewed};
-ghost use Rattle.nit_stack.specs.Sources.{in_bar, owner, pixel};
+ghost use Rattle.nit_overlay.specs.Terms.{Flat, IsRenewed, IsWord, Point, Scenery, frame, in_bar, is_some, owner, pixel, shown};
 
 /// A frame has one word for each pixel of the screen, row by row from the top: the word that is
 /// shown there. Where all raw words are below 2^24, so are its words. Equal raw words make equal

@@ -4,7 +4,8 @@
 //! it from the raw words of the pixels, which the clients have painted, and from a [`Look`]: the
 //! stack of views, the labels, the mode, the focus and the places of the labels. [`overlay_rect`]
 //! does the same for the pixels of a rectangle alone, and [`overlay_piece`] for a rectangle whose
-//! pixels have one owner that is known. None takes memory.
+//! pixels have one owner that is known. [`bar_into`] sets the pixels of the status bar alone. None
+//! takes memory.
 //!
 //! The first rule that applies to a pixel gives its word.
 //!
@@ -44,6 +45,7 @@ mod row;
 mod span;
 mod stripe;
 
+pub use bar::bar_into;
 pub use look::Look;
 pub use overlay::{frame_into, overlay_rect};
 pub use piece::overlay_piece;

@@ -1,13 +1,7 @@
 //! Rectangles of the screen, and whole frames.
 
 ghost use Rattle.std.specs.Prelude.{◌≡◌, ℕ, ◌*◌, ◌<◌, length, slice_index, All, if◌then◌else◌};
-ghost use Rattle.nit_rect.specs.Rectangle.{covers};
-ghost use Rattle.nit_word.specs.Inks.{IsWord};
-ghost use Rattle.nit_stack.specs.Sources.{pixel};
-ghost use Rattle.nit_stack.specs.Stack.{IsScreenSize};
-ghost use Rattle.nit_overlay.specs.Area.{IsArea, IsShownIn};
-ghost use Rattle.nit_overlay.specs.Look.{IsLook, scenery};
-ghost use Rattle.nit_overlay.specs.Frame.{shown, frame};
+ghost use Rattle.nit_overlay.specs.Terms.{IsArea, IsLook, IsScreenSize, IsShownIn, IsWord, covers, frame, pixel, scenery, shown};
 
 use crate::area::{Area, area_of};
 use crate::look::Look;

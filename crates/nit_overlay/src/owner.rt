@@ -1,13 +1,7 @@
 //! Who owns the pixels of a row.
 
 ghost use Rattle.std.specs.Prelude.{◌≡◌, ℕ, ◌<◌, ◌≤◌, false, true, pos, length, option_map, slice_get, Some, IfSome, IsTrue};
-ghost use Rattle.nit_stack.specs.Stack.{IsStack, has_slot, slot_view_in};
-ghost use Rattle.nit_stack.specs.Sources.{in_bar, owner, point};
-ghost use Rattle.nit_stack.specs.ViewNames.{views_of};
-ghost use Rattle.nit_overlay.specs.Frame.{label_place_of};
-ghost use Rattle.nit_overlay.specs.Look.{IsLook, IsPlaced, draws_labels, pixel_at, scenery};
-ghost use Rattle.nit_overlay.specs.Owner.{IsOwner};
-ghost use Rattle.nit_rect.specs.Limits.{most_width, most_height};
+ghost use Rattle.nit_overlay.specs.Terms.{IsLook, IsOwner, IsPlaced, IsStack, draws_labels, has_slot, in_bar, label_place_of, most_height, most_width, owner, pixel_at, point, scenery, slot_view_in, views_of};
 
 use crate::look::Look;
 use crate::span::reach;

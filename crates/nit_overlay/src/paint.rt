@@ -1,10 +1,7 @@
 //! A run of pixels that have one rule.
 
-ghost use Rattle.std.specs.Prelude.{◌≡◌, ℕ, ◌+◌, ◌<◌, ◌≤◌, length, slice_index, All};
-ghost use Rattle.nit_word.specs.Inks.{IsWord};
-ghost use Rattle.nit_overlay.specs.PixelRow.{IsPainted};
-ghost use Rattle.nit_overlay.specs.Rule.{word_by, IsInTag, IsTagged};
-ghost use Rattle.nit_rect.specs.Limits.{most_width};
+ghost use Rattle.std.specs.Prelude.{◌≡◌, ℕ, ◌+◌, ◌<◌, ◌≤◌, List, length, slice_index, All};
+ghost use Rattle.nit_overlay.specs.Terms.{IsInTag, IsPainted, IsTagged, IsWord, most_width, word_by};
 
 use nit_glyph::{LabelText, label_bit};
 use nit_word::{dim_row, tint_row};
@@ -44,6 +41,28 @@ pub(crate) fn paint_part(rule: &Rule, raw: &[u32], out: &mut [u32], from: u32, t
 {
     let (start, end) = (from as usize, to as usize);
     paint(rule, &raw[start..end], &mut out[start..end], from, y);
+}
+
+/// Paints the pixels of the row y from the column `from` to before `to`, all in the picture of the
+/// text. No raw word is needed.
+pub(crate) fn paint_tag(tag: &Tag, out: &mut [u32], from: u32, to: u32, y: u32)
+    requires in_order { from ≤ to }
+    requires within { to ≤ length out.old }
+    requires across { to ≤ most_width }
+    requires tagged { IsInTag tag.now from to y }
+    ensures { (raw : List ℕ) → IsPainted (λ x w. word_by (Rule.Text tag.now) x y 0)
+        raw out.old out.new from to }
+{
+    paint_text(tag, &mut out[from as usize..to as usize], from, y);
+}
+
+/// Gives the pixels from the column `from` to before `to` this word.
+pub(crate) fn fill_part(word: u32, out: &mut [u32], from: u32, to: u32)
+    requires in_order { from ≤ to }
+    requires within { to ≤ length out.old }
+    ensures { (raw : List ℕ) → IsPainted (λ x w. word) raw out.old out.new from to }
+{
+    out[from as usize..to as usize].fill(word);
 }
 
 /// Paints `out`, which are pixels of the row y from the column x on, by the rule.

@@ -1,20 +1,7 @@
 //! Pieces of the screen, each of which has one owner or none.
 
 ghost use Rattle.std.specs.Prelude.{◌≡◌, ℕ, ◌*◌, ◌<◌, ◌≤◌, length, slice_index, All, IfSome, IsTrue, None, Some, true, if◌then◌else◌};
-ghost use Rattle.std.specs.Option.{option_map};
-ghost use Rattle.nit_rect.specs.declared.point.Point.{Point};
-ghost use Rattle.nit_rect.specs.Rectangle.{covers};
-ghost use Rattle.nit_rect.specs.Limits.{most_height, most_width};
-ghost use Rattle.nit_word.specs.Inks.{IsWord};
-ghost use Rattle.nit_stack.specs.Sources.{pixel, point};
-ghost use Rattle.nit_stack.specs.Stack.{IsScreenSize, has_slot, seat_owner, slot_view_in, view_ref};
-ghost use Rattle.nit_overlay.specs.Area.{IsArea, IsAreaBy, IsShownIn, in_area};
-ghost use Rattle.nit_overlay.specs.Frame.{shown, unowned_word, view_word};
-ghost use Rattle.nit_overlay.specs.Look.{IsLook, scenery};
-ghost use Rattle.nit_overlay.specs.Owner.{IsOwner};
-ghost use Rattle.nit_overlay.specs.PixelRow.{IsPainted};
-ghost use Rattle.nit_overlay.specs.Rule.{IsTagged, word_by};
-ghost use Rattle.nit_overlay.specs.Stripe.{IsRowOfTag, stripe_rule};
+ghost use Rattle.nit_overlay.specs.Terms.{IsArea, IsAreaBy, IsLook, IsOwner, IsPainted, IsRowOfTag, IsScreenSize, IsShownIn, IsTagged, IsWord, Point, covers, has_slot, in_area, most_height, most_width, option_map, pixel, point, scenery, seat_owner, shown, slot_view_in, stripe_rule, unowned_word, view_ref, view_word, word_by};
 
 use crate::area::{Area, area_of};
 use crate::bar::overlay_bar;
@@ -189,7 +176,7 @@ fn bare_row(look: &Look, y: u32, from: u32, to: u32, raw: &[u32], out: &mut [u32
         raw.now out.old out.new from to }
 {
     if y < look.stack.bar() {
-        overlay_bar(look, y, from, to, raw, out);
+        overlay_bar(look, y, from, to, out);
     } else {
         paint_part(&Rule::Fill(BARE), raw, out, from, to, y);
     }

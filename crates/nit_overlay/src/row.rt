@@ -1,16 +1,7 @@
 //! A row of the screen, by the pieces of it that have one owner.
 
 ghost use Rattle.std.specs.Prelude.{◌≡◌, ℕ, ◌<◌, ◌≤◌, length, option_map, All, IfSome};
-ghost use Rattle.nit_word.specs.Inks.{IsWord};
-ghost use Rattle.nit_stack.specs.ViewNames.{views_of};
-ghost use Rattle.nit_stack.specs.Sources.{owner, point};
-ghost use Rattle.nit_overlay.specs.Look.{IsLook, scenery};
-ghost use Rattle.nit_overlay.specs.Owner.{IsOwner};
-ghost use Rattle.nit_overlay.specs.PixelRow.{IsPainted};
-ghost use Rattle.nit_overlay.specs.Rule.{word_by};
-ghost use Rattle.nit_overlay.specs.Frame.{owner_word, shown};
-ghost use Rattle.nit_overlay.specs.Stripe.{IsRowOfTag, stripe_rule};
-ghost use Rattle.nit_rect.specs.Limits.{most_width, most_height};
+ghost use Rattle.nit_overlay.specs.Terms.{IsLook, IsOwner, IsPainted, IsRowOfTag, IsWord, most_height, most_width, owner, owner_word, point, scenery, shown, stripe_rule, views_of, word_by};
 
 use crate::bar::overlay_bar;
 use crate::look::Look;
@@ -103,7 +94,7 @@ pub(crate) fn overlay_row(look: &Look, y: u32, from: u32, to: u32, raw: &[u32], 
         raw.now out.old out.new from to }
 {
     if y < look.stack.bar() {
-        overlay_bar(look, y, from, to, raw, out);
+        overlay_bar(look, y, from, to, out);
     } else {
         overlay_below(look, y, from, to, raw, out);
     }

@@ -1,11 +1,7 @@
 //! Columns or rows of a rectangle, counted so that none is below 0.
 
 ghost use Rattle.std.specs.Prelude.{◌≡◌, ℕ, ◌+◌, ◌<◌, ◌≤◌, ◌==◌, pos, negsuc, ◌+ℤ◌, ◌-ℤ◌, ◌≤ℤ◌};
-ghost use Rattle.std.specs.Ordering.{int_eq};
-ghost use Rattle.nit_rect.specs.Rectangle.{IsPlace, spans, covers};
-ghost use Rattle.nit_stack.specs.Sources.{point};
-ghost use Rattle.nit_overlay.specs.Span.{moved_of, span_has, has_at_end};
-ghost use Rattle.nit_rect.specs.Limits.{most_width, most_length, most_edge, most_height};
+ghost use Rattle.nit_overlay.specs.Terms.{IsPlace, covers, has_at_end, int_eq, most_edge, most_height, most_length, most_width, moved_of, point, span_has, spans};
 
 use nit_rect::Rect;
 

@@ -1,17 +1,7 @@
 //! A row of a view.
 
 ghost use Rattle.std.specs.Prelude.{◌≡◌, ℕ, ◌+◌, ◌<◌, ◌≤◌, ◌||◌, ◌==◌, true, false, length, Option, Some, None, IfSome};
-ghost use Rattle.nit_glyph.specs.Pictures.{picture_width, picture_height};
-ghost use Rattle.nit_events.specs.Input.{is_same};
-ghost use Rattle.nit_stack.specs.Sources.{point};
-ghost use Rattle.nit_overlay.specs.declared.paint.Rule.{Rule};
-ghost use Rattle.nit_overlay.specs.Look.{IsLook, draws_labels, scenery};
-ghost use Rattle.nit_overlay.specs.Owner.{IsOwner};
-ghost use Rattle.nit_overlay.specs.Rule.{word_by, IsTagged};
-ghost use Rattle.nit_overlay.specs.Frame.{by_label, label_place_of, view_text, view_word, is_on_ring};
-ghost use Rattle.nit_overlay.specs.Span.{has_at_end};
-ghost use Rattle.nit_overlay.specs.Stripe.{IsRowOfTag, in_tag, mode_rule, stripe_rule, tag_rule};
-ghost use Rattle.nit_rect.specs.Limits.{most_height, most_width};
+ghost use Rattle.nit_overlay.specs.Terms.{IsLook, IsOwner, IsRowOfTag, IsTagged, Rule, by_label, draws_labels, has_at_end, in_tag, is_on_ring, is_same, label_place_of, mode_rule, most_height, most_width, picture_height, picture_width, point, scenery, stripe_rule, tag_rule, view_text, view_word, word_by};
 
 use crate::look::Look;
 use crate::owner::Owner;

@@ -1,24 +1,11 @@
 -- The sizes of the sessions' buffers after a call or an item, and the sources of pixels by them.
-use Rattle.std.proofs.Common.{◌≡◌, ℕ, ◌+◌, Bool, true, false, List, [], ◌∷◌, ◌++◌, length, set, get_or, Option, Some, None, refl, sym, ap, ◌∙◌}
-use Rattle.std.specs.Prelude.{nat_lt, if◌then◌else◌}
-use Rattle.std.proofs.Math.ListN.{get_or-map}
-use Rattle.std.proofs.Math.Seq.{map-set_same}
-use Rattle.std.proofs.lemmas.Bool.{eqb-false}
-use Rattle.std.proofs.lemmas.List.{get_or-set_other}
-use Rattle.nit_rect.specs.declared.point.Point.{Point}
-use Rattle.nit_events.specs.declared.event.Event.{Event}
+use Rattle.std.proofs.Common.{Bool, List, None, Option, Some, [], ap, false, get_or, get_or-set_other, length, nat_lt, refl, set, sym, true, ℕ, ◌++◌, ◌+◌, ◌∙◌, ◌∷◌, ◌≡◌}
+use Rattle.nit_scene.proofs.Basics.{Buffer, Call, Close, Event, Point, Reply, Session, Size, Status, Take, accepted, accepted_reply, buffer_size, by_life, by_refusal, eqb-false, first_session, get_or-map, is_accepted, is_session, map-set_same, receive, refusal, session_in, source_under, taking}
+use Rattle.std.specs.Prelude.{if◌then◌else◌}
+use Rattle.nit_journal.specs.Session.{serve}
 use Rattle.nit_events.specs.declared.event.Item.TheVariants as item
-use Rattle.nit_events.specs.declared.event.Status.{Status}
 use Rattle.nit_events.specs.declared.event.Status.TheVariants as status
-use Rattle.nit_events.specs.declared.call.Call.{Call}
-use Rattle.nit_events.specs.declared.call.Call.TheVariants.{Buffer, Take, Close}
-use Rattle.nit_events.specs.declared.call.Reply.{Reply}
 use Rattle.nit_stack.specs.declared.view.View.{View as ViewOf}
-use Rattle.nit_stack.specs.ViewNames.{is_session}
-use Rattle.nit_stack.specs.Sources.{Size, source_under}
-use Rattle.nit_journal.specs.Session.{Session, first_session, refusal, taking, accepted, by_refusal, serve, by_life, receive}
-use Rattle.nit_journal.specs.State.{session_in, buffer_size}
-use Rattle.nit_journal.specs.StackAfter.{is_accepted}
 use Rattle.nit_scene.proofs.FirstFound.{IsSpared}
 
 -- ---- one session
@@ -51,18 +38,9 @@ pub serve_keeps_size : (t : Session) (call : Call) → resizes call ≡ false �
 unfolding serve
 serve_keeps_size t call no_resize = kept_unless_refused t call (refusal t call) no_resize
 
--- what is answered to a call that is not refused
-taking_is_accepted : (queue : List Event) (t : Session) → is_accepted (taking queue t).reply ≡ true
-taking_is_accepted [] t = refl
-taking_is_accepted (e ∷ es) t = refl
-
-pub accepted_is : (t : Session) (call : Call) → is_accepted (accepted t call).reply ≡ true
-accepted_is t Take = taking_is_accepted t.queue t
-accepted_is t other = refl
-
 refused_by : (t : Session) (call : Call) (refused : Option Reply) → is_accepted (by_refusal t call refused).reply ≡ false → (by_refusal t call refused).session ≡ t
 refused_by t call (Some r) h = refl
-refused_by t call None h = let yes_ = accepted_is t call in cc
+refused_by t call None h = let yes_ = accepted_reply t call in cc
 
 -- a call that is refused changes nothing
 pub refused_is_unchanged : (t : Session) (call : Call) → is_accepted (serve t call).reply ≡ false → (serve t call).session ≡ t

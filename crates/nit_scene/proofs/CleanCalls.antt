@@ -1,27 +1,12 @@
 -- The owner and the source of a pixel that a call does not make dirty.
-use Rattle.std.proofs.Common.{◌≡◌, ℕ, Bool, true, false, ◌==◌, cond, List, Option, Some, None, refl, sym, ap, subst, ◌∙◌, arith}
-use Rattle.std.specs.Prelude.{◌&&◌, ◌||◌, nat_le, nat_lt, map, find, set, pos, negsuc, ℤ, if◌then◌else◌}
-use Rattle.std.specs.Option.{option_map, option_map_or}
-use Rattle.std.proofs.lemmas.Bool.{or_parts, le-ltb}
-use Rattle.nit_rect.specs.declared.point.Point.{Point}
-use Rattle.nit_rect.specs.Rectangle.{rectangle, spans, covers}
-use Rattle.nit_events.specs.Input.{InputState}
-use Rattle.nit_events.specs.declared.call.Call.{Call}
-use Rattle.nit_events.specs.declared.call.Call.TheVariants.{Buffer, View, Place, Offset, Front, Back, Above, Title, Destroy, Close}
-use Rattle.nit_events.specs.declared.call.Reply.{Reply}
+use Rattle.std.proofs.Common.{Bool, List, None, Option, Some, ap, arith, cond, false, find, map, nat_lt, option_map, refl, set, subst, sym, true, ℕ, ◌&&◌, ◌==◌, ◌||◌, ◌∙◌, ◌≡◌}
+use Rattle.nit_scene.proofs.Basics.{Above, Agrees, Back, Buffer, Call, Close, Destroy, Front, InputState, Offset, Place, Point, Reply, Session, Size, State, Title, after, after_accepted, bar_rows, buffer_size, changed, covers, dirty_by_call, in_bar, input_after_call, is_accepted, is_session, is_view, layer, le-ltb, moved, nat_le, negsuc, new_view, option_map_or, or_parts, owner, owner_of, pos, put_above, put_back, put_front, rectangle, serve, session, source, source_of, source_under, spans, with_new, without, ℤ}
+use Rattle.std.specs.Prelude.{if◌then◌else◌}
+use Rattle.nit_journal.specs.StackAfter.{stack_after_call}
+use Rattle.nit_events.specs.declared.call.Call.TheVariants.{View}
 use Rattle.nit_events.specs.declared.call.Reply.TheVariants as reply
 use Rattle.nit_events.specs.declared.entry.Entry.TheVariants as entry
 use Rattle.nit_stack.specs.declared.view.View.{View as ViewOf}
-use Rattle.nit_stack.specs.LabelPlaces.{is_view}
-use Rattle.nit_stack.specs.ViewNames.{is_session}
-use Rattle.nit_stack.specs.Orders.{put_front, put_back, put_above, changed, moved, without}
-use Rattle.nit_stack.specs.Sources.{Size, in_bar, owner, source, source_under}
-use Rattle.nit_config.specs.Configuration.{bar_rows}
-use Rattle.nit_journal.specs.Session.{Session, serve}
-use Rattle.nit_journal.specs.State.{State, session, layer, buffer_size, owner_of, source_of, input_after_call, after}
-use Rattle.nit_journal.specs.StackAfter.{is_accepted, new_view, with_new, after_accepted, stack_after_call}
-use Rattle.nit_journal.specs.Replay.{Agrees}
-use Rattle.nit_scene.specs.DirtyPixels.{dirty_by_call}
 use Rattle.nit_scene.proofs.FirstFound.{IsSpared, IsPutIn, find-without, find-changed, find-alike, find-moved, find-put_failing, puts_front, puts_back, puts_above}
 use Rattle.nit_scene.proofs.BufferSizes.{size_of, resizes, serve_keeps_size, refused_is_unchanged, sizes_stay, others_stay, by_sizes, by_other_sizes}
 

@@ -1,21 +1,8 @@
 -- The source of a pixel that no killed session owned.
-use Rattle.std.proofs.Common.{◌≡◌, ℕ, false, List, [], ◌∷◌, set, Option, refl, ap, ◌∙◌}
-use Rattle.std.specs.Prelude.{◌||◌}
-use Rattle.std.specs.List.{list_any}
-use Rattle.std.specs.Option.{option_map_or}
-use Rattle.std.proofs.lemmas.Bool.{or_parts}
-use Rattle.nit_rect.specs.declared.point.Point.{Point}
-use Rattle.nit_events.specs.declared.event.Delivery.{Delivery}
-use Rattle.nit_events.specs.declared.event.Item.{Item}
+use Rattle.std.proofs.Common.{List, Option, [], ap, false, refl, set, ℕ, ◌||◌, ◌∙◌, ◌∷◌, ◌≡◌}
+use Rattle.nit_scene.proofs.Basics.{Delivery, Item, Point, State, after_deliveries, after_delivery, bar_rows, buffer_size, delivered, is_killed, is_session, list_any, option_map_or, or_parts, owner_of, receive, session, source_of, source_under}
 use Rattle.nit_events.specs.declared.event.Item.TheVariants as item
 use Rattle.nit_stack.specs.declared.view.View.{View as ViewOf}
-use Rattle.nit_stack.specs.ViewNames.{is_session}
-use Rattle.nit_stack.specs.Sources.{source_under}
-use Rattle.nit_config.specs.Configuration.{bar_rows}
-use Rattle.nit_journal.specs.Session.{receive}
-use Rattle.nit_journal.specs.State.{State, session, buffer_size, owner_of, source_of, delivered}
-use Rattle.nit_journal.specs.StackAfter.{after_delivery, after_deliveries}
-use Rattle.nit_scene.specs.DirtyPixels.{is_killed}
 use Rattle.nit_scene.proofs.BufferSizes.{event_keeps_size, sizes_stay, others_stay, by_sizes, by_other_sizes}
 use Rattle.nit_scene.proofs.CleanCalls.{owner-without}
 

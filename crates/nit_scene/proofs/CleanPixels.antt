@@ -1,22 +1,8 @@
 -- A pixel that an entry does not make dirty keeps its source, and what its source allows of its raw word.
-use Rattle.std.proofs.Common.{◌≡◌, ℕ, ◌*◌, ◌<◌, Bool, true, false, List, slice_index_or, refl, sym, ap, subst, ◌∙◌}
-use Rattle.std.specs.List.{list_any}
-use Rattle.nit_rect.specs.declared.point.Point.{Point}
-use Rattle.nit_word.specs.Sight.{Sight}
-use Rattle.nit_stack.specs.Sources.{PixelSource, pixel}
-use Rattle.nit_events.specs.declared.device.Device.{Device}
-use Rattle.nit_events.specs.declared.event.Routed.{Routed}
-use Rattle.nit_events.specs.declared.event.Delivery.{Delivery}
-use Rattle.nit_events.specs.declared.entry.Entry.{Entry}
-use Rattle.nit_events.specs.declared.entry.Entry.TheVariants as entry
-use Rattle.nit_events.specs.Input.{deliveries_of}
-use Rattle.nit_config.specs.Configuration.{Configuration}
-use Rattle.nit_journal.specs.State.{State, route, after, source_of}
-use Rattle.nit_journal.specs.Replay.{Agrees}
 use Rattle.nit_journal.proofs.ForCallers.{same_config}
-use Rattle.nit_paint.specs.Repaint.{IsWordOfSource}
-use Rattle.nit_scene.specs.DirtyPixels.{is_killed, dirty}
-use Rattle.nit_scene.specs.RawWords.{Painted, pixel_count, source_at}
+use Rattle.std.proofs.Common.{Bool, List, ap, false, refl, slice_index_or, subst, sym, true, ℕ, ◌*◌, ◌<◌, ◌∙◌, ◌≡◌}
+use Rattle.nit_scene.proofs.Basics.{Agrees, Configuration, Delivery, Device, Entry, IsWordOfSource, Painted, PixelSource, Point, Routed, Sight, State, after, deliveries_of, dirty, is_killed, list_any, pixel, pixel_count, route, source_at, source_of}
+use Rattle.nit_events.specs.declared.entry.Entry.TheVariants as entry
 use Rattle.nit_scene.proofs.CleanCalls.{call_is_clean}
 use Rattle.nit_scene.proofs.CleanInput.{deliveries_are_clean}
 

@@ -1,32 +1,7 @@
 -- Labels in a frame: each stands in pixels of its own view, so nothing covers it.
-use Rattle.std.proofs.Common.{◌≡◌, ℕ, zero, suc, ◌+◌, ◌-◌, ◌*◌, ◌/◌, ◌%◌, ◌<◌, ◌≤◌, Bool, true, false, ◌||◌, cond, List, [], ◌∷◌, length, find, IfSome, IsTrue, Option, Some, None, refl, ap, sym, ◌∙◌, subst, arith}
-use Rattle.std.specs.Prelude.{slice_index_or, slice_index}
-use Rattle.std.specs.List.{list_any}
-use Rattle.std.proofs.Math.Nat.{mul-le-mul_right}
-use Rattle.std.proofs.lemmas.Bool.Decides.{nat_tests}
-use Rattle.std.proofs.lemmas.List.Folds.{list_any_at}
-use Rattle.std.proofs.lemmas.Nat.{rows}
-use Rattle.nit_rect.specs.Rectangle.{covers}
-use Rattle.nit_rect.specs.declared.point.Point.{Point}
-use Rattle.nit_glyph.specs.Pictures.{dot, picture_height, picture_width}
-use Rattle.nit_events.specs.declared.device.Mode.{Mode}
-use Rattle.nit_events.specs.declared.device.Mode.TheVariants.{Flat, Xray, Kill}
-use Rattle.nit_events.specs.declared.entry.Entry.{Entry}
+use Rattle.nit_scene.proofs.Basics.{AreLabelsApart, Configuration, Entry, Flat, HaveOwnNames, IsLabelShown, IsLegal, IsScene, Kill, Mode, Point, Scenery, ServerModel, ShowsLabels, State, Xray, apart, bar_word, covering, covers, dot, draws_labels, fits, fits_within, found_passes, frame, get_or-frame, has_dot, in_bar, ink_of, is_in_picture, is_owner, is_view, label_place_of, label_width, list_any, list_any_at, mul-le-mul_right, name_both, nat_tests, owner, owner_word, picture_height, picture_width, pixel, pixel_owned, point, replay, rows, scenery_of, shown, slice_index, state_of, view_text, view_word}
+use Rattle.std.proofs.Common.{Bool, IfSome, IsTrue, List, None, Option, Some, [], ap, arith, cond, false, find, length, refl, slice_index_or, subst, suc, sym, true, zero, ℕ, ◌%◌, ◌*◌, ◌+◌, ◌-◌, ◌/◌, ◌<◌, ◌||◌, ◌∙◌, ◌∷◌, ◌≡◌, ◌≤◌}
 use Rattle.nit_stack.specs.declared.view.View.{View}
-use Rattle.nit_stack.specs.LabelPlaces.{fits, is_owner, is_view}
-use Rattle.nit_stack.specs.Sources.{covering, in_bar, owner, pixel, point}
-use Rattle.nit_stack.proofs.ForCallers.{found_passes}
-use Rattle.nit_config.specs.Configuration.{Configuration}
-use Rattle.nit_journal.specs.Replay.{IsLegal, replay}
-use Rattle.nit_journal.specs.State.{State}
-use Rattle.nit_overlay.specs.Look.{draws_labels}
-use Rattle.nit_overlay.specs.Frame.{Scenery, bar_word, frame, has_dot, ink_of, is_in_picture, owner_word, label_place_of, shown, view_text, view_word}
-use Rattle.nit_overlay.proofs.ForCallers.{get_or-frame}
-use Rattle.nit_place.proofs.ForCallers.{apart, fits_within, pixel_owned, name_both}
-use Rattle.nit_scene.specs.FrameLabels.{AreLabelsApart, IsLabelShown, ShowsLabels, label_width}
-use Rattle.nit_scene.specs.ViewNames.{HaveOwnNames}
-use Rattle.nit_scene.specs.Scene.{IsScene, scenery_of}
-use Rattle.nit_scene.specs.Server.{ServerModel, state_of}
 use Rattle.nit_scene.proofs.Handles.{named_throughout}
 
 -- ---- views by their names

@@ -1,12 +1,9 @@
 -- No entry makes more than one view, so no session's next handle grows by more than one.
-use Rattle.std.proofs.Common.{ℕ, zero, suc, ◌+◌, ◌≤◌, List, [], ◌∷◌, set, get_or, Option, Some, None, arith}
-use Rattle.nit_events.specs.declared.call.Call.{Call}
-use Rattle.nit_events.specs.declared.call.Call.TheVariants.{View, Take}
-use Rattle.nit_events.specs.declared.call.Reply.{Reply}
-use Rattle.nit_events.specs.declared.entry.Entry.{Entry}
+use Rattle.std.proofs.Common.{List, None, Option, Some, [], arith, get_or, set, suc, zero, ℕ, ◌+◌, ◌∷◌, ◌≤◌}
+use Rattle.nit_scene.proofs.Basics.{Call, Entry, Reply, Session, State, Take, accepted, after, by_refusal, first_session, refusal, route, session}
+use Rattle.nit_journal.specs.Session.{serve}
+use Rattle.nit_events.specs.declared.call.Call.TheVariants.{View}
 use Rattle.nit_events.specs.declared.entry.Entry.TheVariants as entry
-use Rattle.nit_journal.specs.Session.{Session, accepted, by_refusal, first_session, refusal, serve}
-use Rattle.nit_journal.specs.State.{State, after, route, session}
 use Rattle.nit_scene.proofs.Handles.{delivered_keeps_next, taking_keeps_next}
 
 accepted_adds : (t : Session) (call : Call) → (accepted t call).session.next ≤ t.next + 1

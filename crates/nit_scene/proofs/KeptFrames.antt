@@ -1,53 +1,11 @@
 -- A kept frame stays the frame of the state and of the raw words.
-use Rattle.std.proofs.Common.{◌≡◌, ℕ, ◌*◌, ◌<◌, ◌&&◌, ◌||◌, All, Bool, true, false, cond, List, length, map, replicate, Option, Some, None, refl, ap, sym, ◌∙◌, subst, arith}
-use Rattle.std.specs.Prelude.{IsTrue, slice_index, pos}
-use Rattle.std.specs.Option.{is_some, option_map_or}
-use Rattle.std.proofs.lemmas.Int.{ints}
-use Rattle.std.proofs.lemmas.List.Elements.{All-replicate}
-use Rattle.std.proofs.lemmas.Bool.{or_from}
-use Rattle.nit_rect.specs.declared.point.Point.{Point}
-use Rattle.nit_rect.specs.Rectangle.{Rectangle, covers, rectangle}
-use Rattle.nit_word.specs.Inks.{IsWord}
-use Rattle.nit_word.specs.Sight.{Sight}
-use Rattle.nit_word.specs.Channels.{bare_word}
-use Rattle.nit_events.specs.declared.call.Call.{Call}
-use Rattle.nit_events.specs.declared.call.Call.TheVariants.{Buffer, View, Place, Offset, Front, Back, Above, Title, Destroy, Refresh, Take, Upgrade, Close}
-use Rattle.nit_events.specs.declared.call.Reply.{Reply}
-use Rattle.nit_events.specs.declared.device.Device.{Device}
-use Rattle.nit_events.specs.declared.device.Mode.{Mode}
-use Rattle.nit_events.specs.declared.event.Delivery.{Delivery}
-use Rattle.nit_events.specs.declared.device.Mode.TheVariants.{Flat, Xray, Kill}
+use Rattle.nit_scene.proofs.Basics.{Above, Agrees, All-replicate, AreSet, Back, Bare, Black, Buffer, Call, CanShow, Close, Configuration, Delivery, Destroy, Device, Flat, Front, InputState, IsCopied, IsPartOf, IsQuiet, IsServed, IsWord, IsWordOfSource, Kill, Mode, Offset, Painted, PixelSource, Place, Point, Rectangle, Refresh, Reply, Scenery, ServerModel, Sight, Size, StackModel, State, Take, Title, Upgrade, Word, Xray, after, bar_rows, bar_word, bare_word, black_or_word, buffer_size, covering, covers, dirty, dirty_by_call, draws_labels, flat_same, flat_shown, frame, in_bar, ints, is_accepted, is_owned_by, is_session, is_some, is_view, is_word_in, layer, length-frame, on_screen, option_map_or, or_from, owner, owner_word, pixel, pixel_count, pos, rectangle, refusal, renewed, rows_hold, scenery_of, session, set_same, shown, shown_by, shown_index, shows_part, slice_index, source_of, source_under, state_of, view_owns, wanted, with_delivered, with_routed}
+use Rattle.std.proofs.Common.{All, Bool, IsTrue, List, None, Option, Some, ap, arith, cond, false, length, map, refl, replicate, subst, sym, true, ℕ, ◌&&◌, ◌*◌, ◌<◌, ◌||◌, ◌∙◌, ◌≡◌}
+use Rattle.nit_events.specs.declared.call.Call.TheVariants.{View}
 use Rattle.nit_events.specs.declared.entry.Entry.TheVariants as entry
-use Rattle.nit_events.specs.Input.{InputState}
 use Rattle.nit_stack.specs.declared.view.View.{View as ViewOf}
-use Rattle.nit_stack.specs.LabelPlaces.{is_view}
-use Rattle.nit_stack.specs.ViewNames.{is_session}
-use Rattle.nit_stack.specs.Sources.{PixelSource, Bare, Black, Word, Size, black_or_word, covering, in_bar, owner, pixel, shown_index, source_under}
-use Rattle.nit_stack.specs.Stack.{StackModel}
-use Rattle.nit_config.specs.Configuration.{Configuration, bar_rows}
-use Rattle.nit_journal.specs.Session.{refusal}
-use Rattle.nit_journal.specs.State.{State, after, buffer_size, layer, session, source_of}
-use Rattle.nit_journal.specs.Replay.{Agrees}
-use Rattle.nit_journal.specs.StackAfter.{is_accepted}
-use Rattle.nit_paint.specs.Repaint.{IsWordOfSource}
-use Rattle.nit_paint.specs.FrameCopy.{AreSet, IsCopied}
-use Rattle.nit_repaint.specs.PixelOwners.{is_word_in}
-use Rattle.nit_repaint.specs.WantedPixels.{wanted}
-use Rattle.nit_overlay.specs.Look.{draws_labels}
-use Rattle.nit_overlay.specs.Frame.{Scenery, bar_word, frame, owner_word, shown}
-use Rattle.nit_overlay.proofs.ForCallers.{length-frame, flat_same, renewed, flat_shown}
-use Rattle.nit_scene.specs.DirtyPixels.{dirty, dirty_by_call, is_owned_by, shows_part, view_owns}
-use Rattle.nit_scene.specs.RawWords.{Painted, pixel_count}
-use Rattle.nit_scene.specs.Scene.{scenery_of}
-use Rattle.nit_damage.proofs.ForCallers.{rows_hold}
-use Rattle.nit_paint.proofs.ForCallers.{set_same}
-use Rattle.nit_repaint.proofs.ForCallers.{on_screen}
-use Rattle.nit_scene.specs.ServerInput.{with_delivered, with_routed}
-use Rattle.nit_scene.specs.CallKinds.{IsPartOf, IsQuiet}
-use Rattle.nit_scene.specs.Pixels.{CanShow, shown_by}
-use Rattle.nit_scene.specs.Server.{IsServed, ServerModel, state_of}
 use Rattle.nit_scene.proofs.CleanCalls.{call_is_clean, stack_accepted}
-use Rattle.nit_scene.proofs.CallAnswers.{accepted_reply}
+use Rattle.nit_scene.proofs.CallAnswers.{unrefused_reply}
 
 -- ---- owners and sources
 
@@ -225,7 +183,7 @@ quiet_scenery before after' sid call r none served quiet = ap scenery_of served.
     s = state_of before
 
     accepted_ : is_accepted r ≡ true
-    accepted_ = ap is_accepted served.replied ∙ accepted_reply (session s sid) call none
+    accepted_ = ap is_accepted served.replied ∙ unrefused_reply (session s sid) call none
 
     go : (c : Call) → IsQuiet c → is_accepted r ≡ true → scenery_of (after s (entry.Call sid c r)) ≡ scenery_of s
     go Take q e = ap (λ (vs : List ViewOf). record (scenery_of s) { stack = vs }) (stack_accepted (layer s.config) sid Take r s.stack e)
@@ -251,7 +209,7 @@ part_scenery before after' sid part call r none served of = ap scenery_of served
     s = state_of before
 
     accepted_ : is_accepted r ≡ true
-    accepted_ = ap is_accepted served.replied ∙ accepted_reply (session s sid) call none
+    accepted_ = ap is_accepted served.replied ∙ unrefused_reply (session s sid) call none
 
     go : (c : Call) → IsPartOf part c → is_accepted r ≡ true → scenery_of (after s (entry.Call sid c r)) ≡ scenery_of s
     go (Buffer w h) q e = ap (λ (vs : List ViewOf). record (scenery_of s) { stack = vs }) (stack_accepted (layer s.config) sid (Buffer w h) r s.stack e)
@@ -298,12 +256,13 @@ kept_part before after' sid part call r glasses glasses' raw raw' old new chosen
 -- ---- what a frame is made by
 
 -- it stays where the server keeps its configuration and its slots, and the words of the pixels were loaded
-pub can_still : (s s' : ServerModel) (raw raw' shown_ : List ℕ) (room room' : ℕ) (labels : List (List ℕ)) (places bar : ℕ) → s'.config ≡ s.config → s'.stack.most ≡ s.stack.most
-    → length raw' ≡ length raw → All IsWord raw' → room' ≡ room → CanShow s raw shown_ room labels places bar → CanShow s' raw' shown_ room' labels places bar
-can_still s s' raw raw' shown_ room room' labels places bar config most long words room_ h = record {
+pub can_still : (s s' : ServerModel) (raw raw' : List ℕ) (reached most_ room room' : ℕ) (labels : List (List ℕ)) (places bar : ℕ) → s'.config ≡ s.config → s'.stack.most ≡ s.stack.most
+    → length raw' ≡ length raw → All IsWord raw' → room' ≡ room → CanShow s raw reached most_ room labels places bar → CanShow s' raw' reached most_ room' labels places bar
+can_still s s' raw raw' reached most_ room room' labels places bar config most long words room_ h = record {
   words = words;
   pixels = long ∙ h.pixels ∙ area;
-  each = h.each ∙ area;
+  few = let m = h.few in omega (arith, m, area);
+  spare = let m = h.spare in omega (arith, m, area);
   cuts = let m = h.cuts in omega (arith, m, most, room_);
   named = h.named ∙ ap (λ (c : Configuration). map (λ m. m.label) c.clients) (sym config);
   placed = let m = h.placed in omega (arith, m, most);

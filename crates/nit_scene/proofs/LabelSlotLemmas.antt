@@ -1,21 +1,6 @@
 -- Places of labels that are written one after the other, each at the slot of its view.
-use Rattle.std.proofs.Common.{◌≡◌, ℕ, zero, suc, ◌+◌, ◌<◌, ◌≤◌, ◌≢◌, List, [], ◌∷◌, All, map, length, set, Option, Some, option_map, refl, sym, ap, subst, ◌∙◌, inl, inr, arith}
-use Rattle.std.proofs.Math.ListN.{length-set}
-use Rattle.std.specs.Prelude.{slice_get, slice_index_or}
-use Rattle.std.proofs.lemmas.Bool.{cases_lt, eq-eqb, false≢true}
-use Rattle.std.proofs.lemmas.List.Folds.{list_any_at}
-use Rattle.std.proofs.lemmas.Option.{get_or_from_slice_get, slice_get-get_or, slice_get_within}
-use Rattle.nit_rect.specs.declared.point.Point.{Point}
-use Rattle.nit_glyph.specs.Pictures.{picture_height, picture_width}
-use Rattle.nit_glyph.specs.Texts.{label_text_of}
-use Rattle.nit_stack.specs.LabelPlaces.{label_place}
-use Rattle.nit_stack.specs.ViewNames.{views_of}
-use Rattle.nit_stack.specs.declared.view.ViewRef.{ViewRef}
-use Rattle.nit_stack.specs.Stack.{IsSlotView, IsStack, NoPair, SlotView, StackModel, same_slot, view_ref}
-use Rattle.nit_stack.proofs.ForCallers.{slot_at}
-use Rattle.nit_overlay.specs.Look.{pixel_at}
-use Rattle.nit_overlay.specs.Frame.{label_place_of}
-use Rattle.nit_scene.specs.LabelSlots.{AreLabelled, IsLabelled, label_scenery}
+use Rattle.nit_scene.proofs.Basics.{AreLabelled, IsLabelled, IsSlotView, IsStack, NoPair, Point, SlotView, StackModel, ViewRef, cases_lt, eq-eqb, false≢true, get_or_from_slice_get, label_place, label_place_of, label_scenery, label_text_of, length-set, list_any_at, picture_height, picture_width, pixel_at, same_slot, slice_get, slice_get-get_or, slice_get_within, slot_at, view_ref, views_of}
+use Rattle.std.proofs.Common.{All, List, Option, Some, [], ap, arith, inl, inr, length, map, option_map, refl, set, slice_index_or, subst, suc, sym, zero, ℕ, ◌+◌, ◌<◌, ◌∙◌, ◌∷◌, ◌≡◌, ◌≢◌, ◌≤◌}
 
 -- ---- views by their places in the stack
 

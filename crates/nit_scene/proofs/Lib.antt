@@ -37,3 +37,5 @@ pub mod SceneOpening
 pub mod Marks
 pub mod KeptFrames
 pub mod OneList
+pub mod Basics
+pub mod Lemmas

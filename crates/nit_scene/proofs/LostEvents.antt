@@ -1,26 +1,11 @@
 -- How many events a session loses at most.
-use Rattle.std.proofs.Common.{◌≡◌, ℕ, ◌+◌, ◌≤◌, Bool, true, false, List, [], ◌∷◌, ◌++◌, length, set, Option, Some, None, ap, arith}
-use Rattle.std.specs.Prelude.{nat_lt, if◌then◌else◌, All, IfSome}
-use Rattle.std.proofs.lemmas.List.Elements.{All-head, All-tail}
-use Rattle.nit_events.specs.declared.event.Delivery.{Delivery}
-use Rattle.nit_events.specs.declared.event.Event.{Event}
-use Rattle.nit_events.specs.declared.event.Item.{Item}
+use Rattle.nit_scene.proofs.Basics.{All-head, All-tail, Call, Delivery, Entry, Event, Item, MayLose, Reply, Routed, ServerModel, Session, State, Status, Take, accepted, after, all_kept, at_most_one, by_life, by_refusal, delivered, deliveries_of, delivery, first_session, receive, refusal, route, routed_as, session, session_in, taking, with_delivered}
+use Rattle.std.proofs.Common.{All, Bool, IfSome, List, None, Option, Some, [], ap, arith, false, length, nat_lt, set, true, ℕ, ◌++◌, ◌+◌, ◌∷◌, ◌≡◌, ◌≤◌}
+use Rattle.std.specs.Prelude.{if◌then◌else◌}
+use Rattle.nit_journal.specs.Session.{serve}
 use Rattle.nit_events.specs.declared.event.Item.TheVariants as item
-use Rattle.nit_events.specs.declared.event.Routed.{Routed}
-use Rattle.nit_events.specs.declared.event.Status.{Status}
 use Rattle.nit_events.specs.declared.event.Status.TheVariants as status
-use Rattle.nit_events.specs.declared.call.Call.{Call}
-use Rattle.nit_events.specs.declared.call.Call.TheVariants.{Take}
-use Rattle.nit_events.specs.declared.call.Reply.{Reply}
-use Rattle.nit_events.specs.declared.entry.Entry.{Entry}
 use Rattle.nit_events.specs.declared.entry.Entry.TheVariants as entry
-use Rattle.nit_events.specs.Input.{deliveries_of, delivery, routed_as}
-use Rattle.nit_events.proofs.ForCallers.{at_most_one}
-use Rattle.nit_journal.specs.Session.{Session, accepted, by_life, by_refusal, first_session, receive, refusal, serve, taking}
-use Rattle.nit_journal.specs.State.{State, after, delivered, route, session, session_in}
-use Rattle.nit_journal.proofs.ForCallers.{all_kept}
-use Rattle.nit_scene.specs.ServerInput.{MayLose, with_delivered}
-use Rattle.nit_scene.specs.Server.{ServerModel}
 use Rattle.nit_scene.proofs.HandleCounts.{adds_at}
 
 -- ---- deliveries

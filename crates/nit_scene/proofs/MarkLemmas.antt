@@ -1,36 +1,14 @@
 -- The pixels that the marks of a call mean are those that the call makes dirty.
-use Rattle.std.proofs.Common.{◌≡◌, ℕ, Bool, true, false, cond, ◌||◌, List, set, find, Option, Some, None, refl, ap, sym, ◌∙◌}
-use Rattle.std.proofs.Math.ListN.{get_or-map}
-use Rattle.std.proofs.lemmas.List.{set-get_or}
-use Rattle.std.specs.Option.{option_map_or}
-use Rattle.std.proofs.lemmas.Option.{same_Some}
-use Rattle.nit_rect.specs.declared.point.Point.{Point}
-use Rattle.nit_rect.specs.Rectangle.{Rectangle, covers, rectangle}
-use Rattle.nit_events.specs.declared.call.Call.{Call}
-use Rattle.nit_events.specs.declared.call.Call.TheVariants.{Buffer, View, Place, Offset, Front, Back, Above, Title, Destroy, Refresh, Take, Upgrade, Close}
-use Rattle.nit_events.specs.declared.call.Reply.{Reply}
-use Rattle.nit_stack.specs.declared.view.View.{View as ViewOf}
-use Rattle.nit_stack.specs.LabelPlaces.{is_view}
-use Rattle.nit_stack.specs.ViewNames.{IsNamedBy, MeanSame, is_session, views_of}
-use Rattle.nit_stack.specs.Orders.{without}
-use Rattle.nit_stack.specs.Sources.{in_bar, owner, pixel, source}
-use Rattle.nit_stack.specs.Stack.{is_of_session, is_slot, size_of}
-use Rattle.nit_stack.proofs.ForCallers.{agree_by, owner_named, owner_of_session, found_fails}
-use Rattle.nit_config.specs.Configuration.{bar_rows}
-use Rattle.nit_journal.specs.Session.{first_session, refusal}
-use Rattle.nit_journal.specs.State.{State, buffer_size, layer, session}
-use Rattle.nit_journal.specs.StackAfter.{is_accepted}
-use Rattle.nit_journal.proofs.ForCallers.{serve_accepted}
-use Rattle.nit_paint.specs.Pieces as pieces
-use Rattle.nit_scene.specs.DirtyPixels.{dirty_by_call, owns_either, session_owns, shows_part, view_owns}
-use Rattle.nit_repaint.specs.PixelOwners.{is_word_in, owner_passes, source_in}
+use Rattle.nit_scene.proofs.Basics.{Above, Back, Buffer, Call, Close, Destroy, Front, IsNamedBy, IsServed, IsServer, MeanSame, Offset, Place, Point, Rectangle, Refresh, Reply, ServerModel, State, Take, Title, Upgrade, agree_by, bar_rows, buffer_size, covers, dirty_by_call, first_session, found_fails, get_or-map, in_bar, is_accepted, is_of_session, is_session, is_slot, is_view, is_word_in, layer, option_map_or, owner, owner_named, owner_of_session, owner_passes, owns_either, pixel, rectangle, refusal, same_Some, serve_accepted, session, session_owns, set-get_or, shows_part, size_of, size_of_buffer, source, source_at, source_in, state_of, view_owns, views_of, without}
 use Rattle.nit_repaint.proofs.ForCallers.{none_left}
+use Rattle.std.proofs.Common.{Bool, List, None, Option, Some, ap, cond, false, find, refl, set, sym, true, ℕ, ◌||◌, ◌∙◌, ◌≡◌}
+use Rattle.nit_events.specs.declared.call.Call.TheVariants.{View}
+use Rattle.nit_stack.specs.declared.view.View.{View as ViewOf}
+use Rattle.nit_paint.specs.Pieces as pieces
 use Rattle.nit_scene.proofs.Marks.{Mark, OfSession, OfPart, is_meant}
 use Rattle.nit_scene.proofs.Marks.{IsMarkOf, IsMarkOfView}
-use Rattle.nit_scene.specs.RawWords.{source_at}
-use Rattle.nit_scene.specs.Server.{IsServed, IsServer, ServerModel, size_of_buffer, state_of}
 use Rattle.nit_scene.proofs.CleanCalls.{stack_accepted}
-use Rattle.nit_scene.proofs.CallAnswers.{accepted_reply}
+use Rattle.nit_scene.proofs.CallAnswers.{unrefused_reply}
 
 -- ---- a stack, and the state that it is of
 
@@ -110,18 +88,18 @@ module _ (before after' : ServerModel) (hb : IsServer before) (ha : IsServer aft
   meant (Above v n) r m none s is = by_view v m (λ k. s.named k v) is
   meant (Destroy v) r m none s is = by_view v m (λ k. s.named k v) is
   meant Close r m none s is =
-      let accepted_ = ap is_accepted s.replied ∙ accepted_reply (session (state_of before) sid) Close none in
+      let accepted_ = ap is_accepted s.replied ∙ unrefused_reply (session (state_of before) sid) Close none in
       by_session m is ∙ none_after _ _
       (ap (λ (t : State). session_owns sid t p) s.state
       ∙ ap (λ (stack : List ViewOf). option_map_or (is_session sid) (owner (bar_rows before.config) stack p) false) (stack_accepted (layer before.config) sid Close r (views_of before.stack.views) accepted_)
       ∙ gone_owns sid (bar_rows before.config) p (views_of before.stack.views))
   meant (Buffer w h) r m none s is =
-      let accepted_ = ap is_accepted s.replied ∙ accepted_reply (session (state_of before) sid) (Buffer w h) none in
+      let accepted_ = ap is_accepted s.replied ∙ unrefused_reply (session (state_of before) sid) (Buffer w h) none in
       by_session m is ∙ none_before _ _
       (sym (ap (λ (t : State). session_owns sid t p) s.state
       ∙ ap (λ (stack : List ViewOf). option_map_or (is_session sid) (owner (bar_rows before.config) stack p) false) (stack_accepted (layer before.config) sid (Buffer w h) r (views_of before.stack.views) accepted_)))
   meant (Refresh x y w h) r m none s is =
-      let accepted_ = ap is_accepted s.replied ∙ accepted_reply (session (state_of before) sid) (Refresh x y w h) none in
+      let accepted_ = ap is_accepted s.replied ∙ unrefused_reply (session (state_of before) sid) (Refresh x y w h) none in
       let sessions_ = ap (λ a. set before.sessions sid a.session) (serve_accepted (session (state_of before) sid) (Refresh x y w h) none) ∙ set-get_or before.sessions sid (first_session 0) in
       let stack_ = stack_accepted (layer before.config) sid (Refresh x y w h) r (views_of before.stack.views) accepted_ in
       let same : state_of after' ≡ state_of before = s.state ∙ (λ i. record { config = before.config; sessions = sessions_ i; stack = stack_ i; input = before.input }) in

@@ -1,14 +1,6 @@
 -- Which pixels a call means, told by slots: those before it and those after it make its dirty ones.
-use Rattle.std.specs.Prelude.{◌≡◌, ℕ, Bool, Option, Some, None}
-use Rattle.nit_rect.specs.declared.point.Point.{Point}
-use Rattle.nit_rect.specs.Rectangle.{Rectangle, rectangle}
-use Rattle.nit_events.specs.declared.call.Call.{Call}
-use Rattle.nit_events.specs.declared.call.Call.TheVariants.{Buffer, Place, Offset, Front, Back, Above, Destroy, Refresh, Close}
-use Rattle.nit_stack.specs.declared.view.ViewRef.{ViewRef}
-use Rattle.nit_stack.specs.ViewNames.{IsNamedBy}
-use Rattle.nit_stack.specs.Stack.{StackModel, is_of_session, is_slot, size_of}
-use Rattle.nit_repaint.specs.PixelOwners.{is_word_in, owner_passes, source_in}
-use Rattle.nit_scene.specs.Server.{ServerModel}
+use Rattle.std.proofs.Common.{Bool, None, Option, Some, ℕ, ◌≡◌}
+use Rattle.nit_scene.proofs.Basics.{Above, Back, Buffer, Call, Close, Destroy, Front, IsNamedBy, Offset, Place, Point, Rectangle, Refresh, ServerModel, StackModel, ViewRef, is_of_session, is_slot, is_word_in, owner_passes, rectangle, size_of, source_in}
 
 -- which pixels are meant: those that a view owns, those that views of a session own, those that show a word of this part of a session's buffer
 pub data Mark : Type 0 where

@@ -1,26 +1,9 @@
 -- A server to which a view comes.
-use Rattle.std.proofs.Common.{◌≡◌, ℕ, ◌+◌, ◌<◌, ◌≤◌, ◌==◌, Bool, true, false, ◌||◌, cond, List, [], ◌∷◌, ◌++◌, length, map, set, Option, Some, None, refl, ap, sym, ◌∙◌, subst, arith}
-use Rattle.std.specs.List.{list_any}
-use Rattle.std.specs.Option.{is_some}
-use Rattle.std.proofs.lemmas.Bool.{ne_eqb}
-use Rattle.std.proofs.lemmas.List.{length-append, length-map, map-set}
-use Rattle.std.proofs.Math.Seq.{map-set_same}
+use Rattle.nit_scene.proofs.Basics.{Answered, AreServerParts, AreSlotsNamed, Configuration, InputState, IsNamedBy, IsPaid, IsServed, IsStack, MeanSame, SceneSessionModel, ServerModel, Session, SlotView, SlotsModel, StackModel, accepted, agree_by, fresh, fresh_in, has-name, has-put_front, has_handle, has_slot, is_named, is_some, is_taken, keeps_push, layer, layer_of, length-append, length-map, list_any, map-set, map-set_same, name-put_front, name_has_slot, name_in, ne_eqb, no_scene_session, pairs_of, put_front, refusal, scene_session_at, serve, serve_accepted, server_of, session_in, size_of_buffer, slot_view_layer, view_layer, views_of, views_put_front, with_slot}
+use Rattle.std.proofs.Common.{Bool, List, None, Option, Some, [], ap, arith, cond, false, length, map, refl, set, subst, sym, true, ℕ, ◌++◌, ◌+◌, ◌<◌, ◌==◌, ◌||◌, ◌∙◌, ◌∷◌, ◌≡◌, ◌≤◌}
+use Rattle.nit_journal.specs.StackAfter.{stack_after_call}
 use Rattle.nit_events.specs.declared.call.Call.TheVariants.{View}
 use Rattle.nit_events.specs.declared.call.Reply.TheVariants as reply
-use Rattle.nit_events.specs.Input.{InputState}
-use Rattle.nit_slots.specs.Table.{has_handle}
-use Rattle.nit_slots.specs.Slots.{SlotsModel, is_taken, with_slot}
-use Rattle.nit_stack.specs.Orders.{put_front}
-use Rattle.nit_stack.specs.Stack.{IsStack, SlotView, StackModel, fresh, fresh_in, has_slot, is_named, layer_of, slot_view_layer}
-use Rattle.nit_stack.specs.ViewNames.{IsNamedBy, MeanSame, name_in, view_layer, views_of}
-use Rattle.nit_stack.proofs.ForCallers.{has-put_front, keeps_push, agree_by, views_put_front, has-name, name-put_front, name_has_slot}
-use Rattle.nit_config.specs.Configuration.{Configuration}
-use Rattle.nit_journal.specs.Session.{Answered, Session, accepted, refusal, serve}
-use Rattle.nit_journal.specs.State.{layer, session_in}
-use Rattle.nit_journal.specs.StackAfter.{stack_after_call}
-use Rattle.nit_journal.proofs.ForCallers.{serve_accepted}
-use Rattle.nit_scene.specs.SceneSession.{IsPaid, SceneSessionModel}
-use Rattle.nit_scene.specs.Server.{AreSlotsNamed, IsServed, AreServerParts, ServerModel, scene_session_at, no_scene_session, pairs_of, server_of, size_of_buffer}
 use Rattle.nit_scene.proofs.SlotLemmas.{among_more, seated_more, slot_of-none, slots_more}
 use Rattle.nit_scene.proofs.ServerLemmas.{PaysAgain, layers_are, machine_is, session_of_member, stepped}
 

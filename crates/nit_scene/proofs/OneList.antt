@@ -1,38 +1,8 @@
 -- One list that is both the raw words and the frame: they differ in the first words, where the bar stands.
-use Rattle.std.proofs.Common.{◌≡◌, ℕ, suc, ◌+◌, ◌-◌, ◌*◌, ◌/◌, ◌%◌, ◌<◌, ◌≤◌, ◌++◌, All, Bool, true, false, cond, nat_lt, List, drop, length, get_or, replicate, Option, None, refl, ap, sym, ◌∙◌, subst, arith, take}
-use Rattle.std.specs.Prelude.{IsTrue, slice_index}
-use Rattle.std.proofs.Math.Nat.{mul-le-mul_right}
-use Rattle.std.proofs.lemmas.Bool.{false≢true}
-use Rattle.std.proofs.lemmas.Bool.Decides.{nat_tests}
-use Rattle.std.proofs.lemmas.Int.{ints}
-use Rattle.std.proofs.lemmas.Nat.{rows}
-use Rattle.std.proofs.lemmas.List.{ext_get_or, get_or-append_right, get_or-drop, get_or-replicate, get_or-take, get_or_append_left, length-append, length-drop, length-replicate, length-take-le}
-use Rattle.std.proofs.lemmas.List.Elements.{All-append, All-drop, All-replicate}
-use Rattle.nit_rect.specs.declared.point.Point.{Point}
-use Rattle.nit_word.specs.Channels.{bare_word}
-use Rattle.nit_word.specs.Inks.{IsWord}
-use Rattle.nit_word.specs.Sight.{Sight}
-use Rattle.nit_events.specs.declared.entry.Entry.{Entry}
-use Rattle.nit_events.specs.declared.call.Call.{Call}
-use Rattle.nit_events.specs.declared.call.Call.TheVariants.{Close}
-use Rattle.nit_events.specs.declared.call.Reply.{Reply}
-use Rattle.nit_events.specs.declared.device.Mode.{Mode}
-use Rattle.nit_events.specs.declared.device.Mode.TheVariants.{Flat, Xray, Kill}
+use Rattle.nit_scene.proofs.Basics.{All-append, All-drop, All-replicate, AreRaw, Bare, Call, CanShow, Close, Configuration, Entry, Flat, IsAmongLoads, IsCopied, IsRawOf, IsServed, IsWord, IsWordOfSource, Kill, Mode, Painted, PixelSource, Point, Repainted, Reply, Scenery, ServerModel, ShowsBelow, Sight, State, Xray, bar_rows, bar_word, bare_word, buffer_size, covering, dirty, draws_labels, ext_get_or, false≢true, flat_same, flat_shown, frame, frame_fits, get_or-append_right, get_or-drop, get_or-frame, get_or-replicate, get_or_append_left, in_bar, ints, length-append, length-drop, length-frame, length-replicate, mul-le-mul_right, nat_tests, owner, owner_word, pixel, pixel_count, raw_in, rows, scenery_of, shown, slice_index, source_at, source_under, state_of, unbarred}
+use Rattle.std.proofs.Common.{All, Bool, IsTrue, List, None, Option, ap, arith, cond, drop, false, get_or, length, nat_lt, refl, replicate, subst, suc, sym, true, zero, ℕ, ◌%◌, ◌*◌, ◌+◌, ◌-◌, ◌/◌, ◌<◌, ◌∙◌, ◌≡◌, ◌≤◌}
 use Rattle.nit_events.specs.declared.entry.Entry.TheVariants as entry
 use Rattle.nit_stack.specs.declared.view.View.{View as ViewOf}
-use Rattle.nit_stack.specs.Sources.{PixelSource, Bare, covering, in_bar, owner, pixel, source_under}
-use Rattle.nit_config.specs.Configuration.{Configuration, bar_rows}
-use Rattle.nit_journal.specs.State.{State, buffer_size}
-use Rattle.nit_paint.specs.Repaint.{IsAmongLoads, IsWordOfSource, Repainted}
-use Rattle.nit_paint.specs.FrameCopy.{IsCopied}
-use Rattle.nit_overlay.specs.Look.{draws_labels}
-use Rattle.nit_overlay.specs.Frame.{Scenery, bar_word, frame, owner_word, shown}
-use Rattle.nit_overlay.proofs.ForCallers.{frame_fits, get_or-frame, length-frame, flat_same, renewed, flat_shown}
-use Rattle.nit_scene.specs.Pixels.{CanShow, raw_in, unbarred}
-use Rattle.nit_scene.specs.RawWords.{AreRaw, IsRawOf, Painted, pixel_count, source_at}
-use Rattle.nit_scene.specs.Scene.{scenery_of}
-use Rattle.nit_scene.specs.DirtyPixels.{dirty}
-use Rattle.nit_scene.specs.Server.{IsServed, ServerModel, state_of}
 use Rattle.nit_scene.proofs.KeptFrames.{bar_clean, bare_source, has_owner, kept_served, owned, still}
 
 -- ---- the raw words of such a list
@@ -146,6 +116,10 @@ one_copied chosen n m raw raw' below others long = record { words = λ k l. go k
     go k l true e = sym (unbarred_at m raw' k ∙ ap (λ (c : Bool). cond c bare_word (slice_index raw' k)) (below k l e))
     go k l false e = others k l e
 
+-- a pixel that is bare and was loaded has the bare word
+pub painted_bare : (source : ℕ → PixelSource) (marked : ℕ → Bool) (n : ℕ) (a b : ℕ → Sight) (raw raw' : List ℕ) (k : ℕ) → Repainted source marked n a b raw raw' → k < n → marked k ≡ true → source k ≡ Bare → slice_index raw' k ≡ bare_word
+painted_bare source marked n a b raw raw' k p l m bare = subst (λ (x : PixelSource). IsWordOfSource a x (slice_index raw' k)) bare (p.marked k l m).0
+
 -- ---- the frame
 
 -- the raw words of the frame in mode Flat are those that it was made of
@@ -173,100 +147,125 @@ flat_raw s bar raw flat some is fits many raws =
         ∙ ap (λ (o : Bool). cond o (slice_index raw k) bare_word) (owned s (pixel s.config.width k)) ∙ here k l (has_owner (source_at s k)) refl
 
 -- the frame takes the place of the raw words, in mode Flat
-pub made_one : (s : ServerModel) (apart : Bool) (bar : ℕ) (raw shown : List ℕ) (room : ℕ) (labels : List (List ℕ)) (places : ℕ) → apart ≡ true → s.input.mode ≡ Flat → 0 < s.config.width → CanShow s raw shown room labels places bar
-    → cond apart shown raw ≡ frame (scenery_of (state_of s)) (raw_in apart bar raw) → AreRaw (state_of s) (raw_in apart bar raw)
-    → CanShow s shown raw room labels places bar × (shown ≡ frame (scenery_of (state_of s)) (unbarred bar shown)) × (unbarred bar shown ≡ raw_in apart bar raw)
-made_one s apart bar raw shown room labels places is flat some h was raws =
+pub made_one : (s : ServerModel) (apart : Bool) (bar : ℕ) (raw shown : List ℕ) (reached most least room : ℕ) (labels : List (List ℕ)) (places : ℕ) → apart ≡ true → s.input.mode ≡ Flat → 0 < s.config.width → length raw ≤ least
+    → CanShow s raw reached most room labels places bar → cond apart shown raw ≡ frame (scenery_of (state_of s)) (raw_in apart bar raw) → AreRaw (state_of s) (raw_in apart bar raw)
+    → CanShow s shown (length raw) least room labels places bar × (shown ≡ frame (scenery_of (state_of s)) (unbarred bar shown)) × (unbarred bar shown ≡ raw_in apart bar raw)
+made_one s apart bar raw shown reached most least room labels places is flat some spare h was raws =
     subst (λ (b : Bool). cond b shown raw ≡ frame (scenery_of (state_of s)) (raw_in b bar raw) → AreRaw (state_of s) (raw_in b bar raw)
-    → CanShow s shown raw room labels places bar × (shown ≡ frame (scenery_of (state_of s)) (unbarred bar shown)) × (unbarred bar shown ≡ raw_in b bar raw)) (sym is) go was raws
+    → CanShow s shown (length raw) least room labels places bar × (shown ≡ frame (scenery_of (state_of s)) (unbarred bar shown)) × (unbarred bar shown ≡ raw_in b bar raw)) (sym is) go was raws
   where
-    go : shown ≡ frame (scenery_of (state_of s)) raw → AreRaw (state_of s) raw → CanShow s shown raw room labels places bar × (shown ≡ frame (scenery_of (state_of s)) (unbarred bar shown)) × (unbarred bar shown ≡ raw)
+    go : shown ≡ frame (scenery_of (state_of s)) raw → AreRaw (state_of s) raw → CanShow s shown (length raw) least room labels places bar × (shown ≡ frame (scenery_of (state_of s)) (unbarred bar shown)) × (unbarred bar shown ≡ raw)
     go e f =
+        let many : length shown ≡ pixel_count (state_of s) = ap length e ∙ length-frame (scenery_of (state_of s)) raw in
         let back : unbarred bar shown ≡ raw = ap (unbarred bar) e ∙ flat_raw (state_of s) bar raw flat some h.bar h.fits h.pixels f in (
           record {
             words = subst (All IsWord) (sym e) (frame_fits (scenery_of (state_of s)) raw h.pixels h.words);
-            pixels = h.each;
-            each = h.pixels;
+            pixels = many;
+            few = let b = h.pixels in omega (arith, b);
+            spare = let b = h.pixels in omega (arith, b, spare);
             cuts = h.cuts;
             named = h.named;
             placed = h.placed;
             bar = h.bar;
-            fits = let a = h.fits in let b = h.pixels in let c = h.each in omega (arith, a, b, c);
+            fits = let a = h.fits in let b = h.pixels in omega (arith, a, b, many);
           },
           e ∙ ap (frame (scenery_of (state_of s))) (sym back),
           back,
         )
 
+-- ---- the bar is drawn
+
 -- the bar shows no raw words
-bar_shown : (t : Scenery) (p : Point) (w v : ℕ) → in_bar t.bar p ≡ true → shown t p w ≡ shown t p v
-bar_shown t p w v e = ap (λ (b : Bool). cond b (bar_word t p) (owner_word t p w (owner t.bar t.stack p))) e ∙ sym (ap (λ (b : Bool). cond b (bar_word t p) (owner_word t p v (owner t.bar t.stack p))) e)
+in_the_bar : (t : Scenery) (p : Point) (w : ℕ) → in_bar t.bar p ≡ true → shown t p w ≡ bar_word t p
+in_the_bar t p w e = ap (λ (b : Bool). cond b (bar_word t p) (owner_word t p w (owner t.bar t.stack p))) e
 
--- the first words of one list, and the rest of another
-first_at : (m : ℕ) (made raw : List ℕ) (k : ℕ) → m ≤ length made → slice_index (take m made ++ drop m raw) k ≡ cond (nat_lt k m) (slice_index made k) (slice_index raw k)
-first_at m made raw k fits = go (nat_lt k m) refl
+-- below the bar, in mode Flat, a word is shown where a view has the pixel, and the bare one where none has
+pub flat_below : (s : State) (words : List ℕ) → s.input.mode ≡ Flat → ((k : ℕ) → k < pixel_count s → in_bar (bar_rows s.config) (pixel s.config.width k) ≡ false → source_at s k ≡ Bare → slice_index words k ≡ bare_word) → ShowsBelow s words
+flat_below s words flat bare k l below =
+    flat_shown (scenery_of s) (pixel s.config.width k) (slice_index words k) flat below ∙ ap (λ (o : Bool). cond o (slice_index words k) bare_word) (owned s (pixel s.config.width k)) ∙ here (has_owner (source_at s k)) refl
   where
-    go : (b : Bool) → nat_lt k m ≡ b → slice_index (take m made ++ drop m raw) k ≡ cond b (slice_index made k) (slice_index raw k)
-    go true e =
-        let l : k < m = grind (arith, nat_tests) in
-        get_or_append_left (take m made) (drop m raw) 0 k (subst (λ (n : ℕ). k < n) (sym (length-take-le m made fits)) l) ∙ get_or-take m made k 0 l
-    go false e =
-        let l : m ≤ k = grind (arith, nat_tests) in
-        get_or-append_right (take m made) (drop m raw) m k 0 (length-take-le m made fits) l ∙ get_or-drop m raw (k - m) 0 ∙ ap (λ (i : ℕ). get_or raw i 0) (omega arith)
+    here : (o : Bool) → has_owner (source_at s k) ≡ o → cond o (slice_index words k) bare_word ≡ slice_index words k
+    here true o = refl
+    here false o = sym (bare k l below (bare_source (source_at s k) o))
 
--- the bar was put into the list again, after the focus moved in mode Flat
-module _ (now : Scenery) (focus : Option ℕ) (m : ℕ) (raw made : List ℕ) (flat : now.mode ≡ Flat) (some : 0 < now.width) (is : m ≡ now.width * now.bar) (fits : m ≤ length raw)
-    (many : length raw ≡ now.width * now.height) (long : length made ≡ length raw) where
-  abbrev pub put : List ℕ
-  put = take m made ++ drop m raw
+some_columns : (width height k : ℕ) → k < width * height → 0 < width
+some_columns zero height k l = absurd (omega arith)
+some_columns (suc width) height k l = omega arith
 
-  put_long : length put ≡ length raw
-  put_long = let a = length-append (take m made) (drop m raw) in let b = length-take-le m made (omega (arith, fits, long)) in let c = length-drop m raw in omega (arith, a, b, c, fits)
+-- so the frame of another focus is shown below the bar
+pub other_focus : (s : State) (focus : Option ℕ) (bar : ℕ) (words : List ℕ) → s.input.mode ≡ Flat → bar ≡ s.config.width * bar_rows s.config → words ≡ frame (record (scenery_of s) { focus = focus }) (unbarred bar words)
+    → ShowsBelow s words
+other_focus s focus bar words flat is was k l below =
+    let some : 0 < s.config.width = some_columns s.config.width s.config.height k l in
+    let past : nat_lt k bar ≡ false = ap (nat_lt k) is ∙ bar_first s.config.width (bar_rows s.config) k some ∙ below in
+    let raw : slice_index (unbarred bar words) k ≡ slice_index words k = unbarred_at bar words k ∙ ap (λ (b : Bool). cond b bare_word (slice_index words k)) past in
+    let other : Scenery = record (scenery_of s) { focus = focus } in
+    flat_same other (scenery_of s) (pixel s.config.width k) (slice_index words k) flat flat refl below refl
+    ∙ ap (shown other (pixel s.config.width k)) (sym raw) ∙ sym (get_or-frame other (unbarred bar words) k l) ∙ sym (ap (λ (ws : List ℕ). slice_index ws k) was)
 
-  put_at : (k : ℕ) → slice_index put k ≡ cond (nat_lt k m) (slice_index made k) (slice_index raw k)
-  put_at k = first_at m made raw k (omega (arith, fits, long))
+-- of bare words alone, too
+pub bare_unbarred : (m n : ℕ) → m ≤ n → unbarred m (replicate n bare_word) ≡ replicate n bare_word
+bare_unbarred m n fits =
+    ext_get_or 0 (unbarred m (replicate n bare_word)) (replicate n bare_word) long
+    (λ k l. let is = get_or-replicate n k bare_word 0 (subst (λ (c : ℕ). k < c) (long ∙ length-replicate n bare_word) l) in unbarred_at m (replicate n bare_word) k ∙ ap (λ (w : ℕ). cond (nat_lt k m) bare_word w) is ∙ both (nat_lt k m) ∙ sym is)
+  where
+    long : length (unbarred m (replicate n bare_word)) ≡ length (replicate n bare_word)
+    long = unbarred_long m (replicate n bare_word) (subst (λ (c : ℕ). m ≤ c) (sym (length-replicate n bare_word)) fits)
 
-  pub put_raw : unbarred m put ≡ unbarred m raw
-  put_raw = unbarred_same m raw put fits put_long (λ k e. put_at k ∙ ap (λ (b : Bool). cond b (slice_index made k) (slice_index raw k)) e)
+    both : (b : Bool) → cond b bare_word bare_word ≡ bare_word
+    both true = refl
+    both false = refl
 
-  pub bar_put : ((k : ℕ) → k < now.width * now.height → in_bar now.bar (pixel now.width k) ≡ true → slice_index made k ≡ shown now (pixel now.width k) (slice_index raw k))
-      → raw ≡ frame (record now { focus = focus }) (unbarred m raw) → put ≡ frame now (unbarred m put)
-  bar_put drawn was =
-      renewed (record now { focus = focus }) now (λ k. nat_lt k m) (unbarred m raw) (unbarred m raw) raw put (record {
-        size = (refl, refl);
-        count = put_long ∙ many;
-        set = λ k l e.
-            let in_ = sym (bar_first now.width now.bar k some) ∙ ap (nat_lt k) (sym is) ∙ e in
-            put_at k ∙ ap (λ (b : Bool). cond b (slice_index made k) (slice_index raw k)) e ∙ drawn k l in_ ∙ bar_shown now (pixel now.width k) (slice_index raw k) (slice_index (unbarred m raw) k) in_;
-        left = λ k l e. put_at k ∙ ap (λ (b : Bool). cond b (slice_index made k) (slice_index raw k)) e;
-        same = λ k l e. flat_same (record now { focus = focus }) now (pixel now.width k) (slice_index (unbarred m raw) k) flat flat refl (sym (bar_first now.width now.bar k some) ∙ ap (nat_lt k) (sym is) ∙ e) refl;
-      }) was
-      ∙ ap (frame now) (sym put_raw)
+-- the list with the bar in it is the frame of its raw words, which stay
+module _ (s : State) (bar : ℕ) (raw now : List ℕ) (some : 0 < s.config.width) (is : bar ≡ s.config.width * bar_rows s.config) (fits : bar ≤ length raw) (many : length raw ≡ pixel_count s) (long : length now ≡ length raw)
+    (drawn : (k : ℕ) → slice_index now k ≡ cond (nat_lt k (s.config.width * bar_rows s.config)) (bar_word (scenery_of s) (pixel s.config.width k)) (slice_index raw k)) where
+  past_bar : (k : ℕ) → nat_lt k bar ≡ false → slice_index now k ≡ slice_index raw k
+  past_bar k past = drawn k ∙ ap (λ (b : Bool). cond b (bar_word (scenery_of s) (pixel s.config.width k)) (slice_index raw k)) (ap (nat_lt k) (sym is) ∙ past)
 
-pub bar_again : (s : ServerModel) (apart : Bool) (focus : Option ℕ) (bar : ℕ) (raw shown_ made : List ℕ) (room : ℕ) (labels : List (List ℕ)) (places : ℕ) → apart ≡ false → s.input.mode ≡ Flat → 0 < s.config.width
-    → CanShow s raw shown_ room labels places bar → length made ≡ length shown_
-    → ((k : ℕ) → k < pixel_count (state_of s) → in_bar (bar_rows s.config) (pixel s.config.width k) ≡ true → slice_index made k ≡ shown (scenery_of (state_of s)) (pixel s.config.width k) (slice_index raw k))
-    → cond apart shown_ raw ≡ frame (record (scenery_of (state_of s)) { focus = focus }) (raw_in apart bar raw)
-    → CanShow s (take bar made ++ drop bar raw) made room labels places bar
-    × (cond apart made (take bar made ++ drop bar raw) ≡ frame (scenery_of (state_of s)) (raw_in apart bar (take bar made ++ drop bar raw)))
-    × (IsTrue (draws_labels s.input.mode) → apart ≡ true)
-bar_again s apart focus bar raw shown_ made room labels places one flat some h same drawn was =
-    let long : length made ≡ length raw = same ∙ h.each ∙ sym h.pixels in
-    let before = subst (λ (b : Bool). cond b shown_ raw ≡ frame (record (scenery_of (state_of s)) { focus = focus }) (raw_in b bar raw)) one was in
-    let now = bar_put (scenery_of (state_of s)) focus bar raw made flat some h.bar h.fits h.pixels long drawn before in
-    let put_ = put_long (scenery_of (state_of s)) focus bar raw made flat some h.bar h.fits h.pixels long in (
-      record {
-        words = subst (All IsWord) (sym now) (frame_fits (scenery_of (state_of s)) (unbarred bar (take bar made ++ drop bar raw)) (unbarred_long bar (take bar made ++ drop bar raw) (let f = h.fits in omega (arith, f, put_)) ∙ put_ ∙ h.pixels)
-            (subst (All IsWord) (sym (put_raw (scenery_of (state_of s)) focus bar raw made flat some h.bar h.fits h.pixels long)) (unbarred_words bar raw h.words)));
-        pixels = put_ ∙ h.pixels;
-        each = same ∙ h.each;
-        cuts = h.cuts;
-        named = h.named;
-        placed = h.placed;
-        bar = h.bar;
-        fits = let f = h.fits in omega (arith, f, put_);
-      },
-      subst (λ (b : Bool). cond b made (take bar made ++ drop bar raw) ≡ frame (scenery_of (state_of s)) (raw_in b bar (take bar made ++ drop bar raw))) (sym one) now,
-      λ m. absurd (false≢true (sym (ap draws_labels flat) ∙ m)),
+  pub drawn_raw : unbarred bar now ≡ unbarred bar raw
+  drawn_raw = unbarred_same bar raw now fits long past_bar
+
+  drawn_at : ShowsBelow s raw → (k : ℕ) → k < pixel_count s → (b : Bool) → nat_lt k bar ≡ b → slice_index now k ≡ shown (scenery_of s) (pixel s.config.width k) (slice_index (unbarred bar now) k)
+  drawn_at below k l true e =
+      let in_ : in_bar (bar_rows s.config) (pixel s.config.width k) ≡ true = sym (bar_first s.config.width (bar_rows s.config) k some) ∙ ap (nat_lt k) (sym is) ∙ e in
+      drawn k ∙ ap (λ (b : Bool). cond b (bar_word (scenery_of s) (pixel s.config.width k)) (slice_index raw k)) (ap (nat_lt k) (sym is) ∙ e)
+      ∙ sym (in_the_bar (scenery_of s) (pixel s.config.width k) (slice_index (unbarred bar now) k) in_)
+  drawn_at below k l false e =
+      let out : in_bar (bar_rows s.config) (pixel s.config.width k) ≡ false = sym (bar_first s.config.width (bar_rows s.config) k some) ∙ ap (nat_lt k) (sym is) ∙ e in
+      let same : slice_index (unbarred bar now) k ≡ slice_index raw k = unbarred_at bar now k ∙ ap (λ (b : Bool). cond b bare_word (slice_index now k)) e ∙ past_bar k e in
+      past_bar k e ∙ sym (below k l out) ∙ ap (shown (scenery_of s) (pixel s.config.width k)) (sym same)
+
+  pub bar_drawn : ShowsBelow s raw → now ≡ frame (scenery_of s) (unbarred bar now)
+  bar_drawn below =
+      ext_get_or 0 now (frame (scenery_of s) (unbarred bar now)) (long ∙ many ∙ sym (length-frame (scenery_of s) (unbarred bar now)))
+      (λ k l. let m : k < pixel_count s = omega (arith, l, long, many) in drawn_at below k m (nat_lt k bar) refl ∙ sym (get_or-frame (scenery_of s) (unbarred bar now) k m))
+
+-- so a server's frame can be made of it again
+pub bar_again : (s : ServerModel) (apart : Bool) (bar : ℕ) (raw shown_ now : List ℕ) (reached most room : ℕ) (labels : List (List ℕ)) (places : ℕ) → apart ≡ false → s.input.mode ≡ Flat → 0 < s.config.width
+    → CanShow s raw reached most room labels places bar → length now ≡ length raw
+    → ((k : ℕ) → slice_index now k ≡ cond (nat_lt k (s.config.width * bar_rows s.config)) (bar_word (scenery_of (state_of s)) (pixel s.config.width k)) (slice_index raw k))
+    → ShowsBelow (state_of s) raw
+    → (CanShow s now reached most room labels places bar × (cond apart shown_ now ≡ frame (scenery_of (state_of s)) (raw_in apart bar now)) × (IsTrue (draws_labels s.input.mode) → apart ≡ true))
+    × (raw_in apart bar now ≡ raw_in apart bar raw)
+bar_again s apart bar raw shown_ now reached most room labels places one flat some h long drawn below =
+    let is = bar_drawn (state_of s) bar raw now some h.bar h.fits h.pixels long drawn below in
+    let same = drawn_raw (state_of s) bar raw now some h.bar h.fits h.pixels long drawn in (
+      (
+        record {
+          words = subst (All IsWord) (sym is) (frame_fits (scenery_of (state_of s)) (unbarred bar now) (unbarred_long bar now (let f = h.fits in omega (arith, f, long)) ∙ long ∙ h.pixels) (subst (All IsWord) (sym same) (unbarred_words bar raw h.words)));
+          pixels = long ∙ h.pixels;
+          few = h.few;
+          spare = h.spare;
+          cuts = h.cuts;
+          named = h.named;
+          placed = h.placed;
+          bar = h.bar;
+          fits = let f = h.fits in omega (arith, f, long);
+        },
+        subst (λ (b : Bool). cond b shown_ now ≡ frame (scenery_of (state_of s)) (raw_in b bar now)) (sym one) is,
+        λ m. absurd (false≢true (sym (ap draws_labels flat) ∙ m)),
+      ),
+      subst (λ (b : Bool). raw_in b bar now ≡ raw_in b bar raw) (sym one) same,
     )
 
 -- ---- a call
@@ -281,13 +280,13 @@ pub mode_stays : (before after' : ServerModel) (sid : ℕ) (call : Call) (r : Re
 mode_stays before after' sid call r other served = ap (λ (t : State). t.input.mode) served.state ∙ ap (λ i. i.mode) (still (state_of before) sid call r other)
 
 -- in mode Flat the one list is the frame of what was loaded
-pub flat_kept : (before after' : ServerModel) (sid : ℕ) (call : Call) (r : Reply) (glasses glasses' : ℕ → Sight) (apart : Bool) (bar : ℕ) (raw raw' shown_ : List ℕ) (room : ℕ) (labels : List (List ℕ)) (places : ℕ) (chosen : ℕ → Bool)
-    → sid < length before.sessions → (call ≡ Close → ⊥) → IsServed sid call r before after' → 0 < before.config.width → CanShow before raw shown_ room labels places bar → length raw' ≡ length raw
+pub flat_kept : (before after' : ServerModel) (sid : ℕ) (call : Call) (r : Reply) (glasses glasses' : ℕ → Sight) (apart : Bool) (bar : ℕ) (raw raw' shown_ : List ℕ) (reached most room : ℕ) (labels : List (List ℕ)) (places : ℕ) (chosen : ℕ → Bool)
+    → sid < length before.sessions → (call ≡ Close → ⊥) → IsServed sid call r before after' → 0 < before.config.width → CanShow before raw reached most room labels places bar → length raw' ≡ length raw
     → bar ≡ after'.config.width * bar_rows after'.config → Painted (state_of before) (entry.Call sid call r) (state_of after') glasses glasses' raw raw'
     → ((k : ℕ) → chosen k ≡ dirty (state_of before) (entry.Call sid call r) (state_of after') (pixel before.config.width k))
     → (before.input.mode ≡ Flat → apart ≡ false) → after'.input.mode ≡ Flat
     → cond apart shown_ raw ≡ frame (scenery_of (state_of before)) (raw_in apart bar raw) → cond apart shown_ raw' ≡ frame (scenery_of (state_of after')) (raw_in apart bar raw')
-flat_kept before after' sid call r glasses glasses' apart bar raw raw' shown_ room labels places chosen within other served some h long bar_ painted same one flat was =
+flat_kept before after' sid call r glasses glasses' apart bar raw raw' shown_ reached most room labels places chosen within other served some h long bar_ painted same one flat was =
     subst (λ (b : Bool). cond b shown_ raw' ≡ frame (scenery_of (state_of after')) (raw_in b bar raw')) (sym is)
     (kept_served before after' sid call r glasses glasses' (unbarred bar raw) (unbarred bar raw') raw raw' chosen within other served
     (entry_painted_in false bar (state_of before) (entry.Call sid call r) (state_of after') glasses glasses' raw raw' bar_ painted)

@@ -1,42 +1,16 @@
 -- An accepted call on a view changes that view alone in the stack.
-use Rattle.std.proofs.Common.{◌≡◌, ℕ, ◌+◌, ◌⊎◌, ◌<◌, inl, inr, ◌==◌, length, not, Bool, true, false, ◌&&◌, cond, List, [], ◌∷◌, find, Option, Some, None, refl, ap, sym, ◌∙◌, subst}
-use Rattle.std.specs.List.{AllByRecursion, list_any, position_or_len}
-use Rattle.std.proofs.lemmas.Bool.{or_parts}
-use Rattle.nit_word.specs.Sight.{Sight}
+use Rattle.nit_scene.proofs.Basics.{Above, AllByRecursion, Back, Buffer, Call, Close, Destroy, Front, IsNamedBy, IsOn, IsServed, IsServer, IsViewChange, MeanSame, Offset, Painted, Place, Put, Put-above, Put-back, Put-front, Rectangle, Refresh, Repainted, Reply, ServerModel, Sight, SlotView, StackModel, State, Take, Title, Upgrade, ViewRef, after_accepted, agree_by, any_found, bar_rows, dirty, dirty_by_call, find-map, find_moved, found_passes, has_slot, is_accepted, is_named, is_slot, is_view, layer, length-set, list_any, map-without, moved, name_of, or_parts, pixel, pixel_count, place_changed, place_of, position_or_len, put_above, put_back, put_front, rectangle, refusal, repainted_same, same_Some, session, slot_owns_either, slot_view_in, source_at, state_of, views_of, without, without_changed, without_moved, without_view}
+use Rattle.nit_repaint.proofs.ForCallers.{none_left}
+use Rattle.std.proofs.Common.{Bool, List, None, Option, Some, [], ap, cond, false, find, inl, inr, length, not, option_map, refl, subst, sym, true, ℕ, ◌&&◌, ◌+◌, ◌<◌, ◌==◌, ◌∙◌, ◌∷◌, ◌≡◌, ◌⊎◌}
 use Rattle.nit_events.specs.declared.entry.Entry.TheVariants as entry
-use Rattle.nit_stack.specs.declared.view.ViewRef.{ViewRef}
-use Rattle.nit_stack.specs.Sources.{pixel}
-use Rattle.nit_stack.proofs.ForCallers.{any_found, find-map, found_passes, agree_by, Put, Put-above, Put-back, Put-front, map-without}
-use Rattle.nit_paint.specs.Repaint.{Repainted}
 use Rattle.nit_paint.specs.Pieces as pieces
-use Rattle.nit_paint.proofs.ForCallers.{repainted_same}
-use Rattle.nit_scene.specs.DirtyPixels.{dirty, dirty_by_call}
 use Rattle.nit_scene.proofs.Marks.{OfView, IsMarkOf}
-use Rattle.nit_scene.specs.RawWords.{Painted, pixel_count, source_at}
-use Rattle.nit_repaint.proofs.ForCallers.{without_none, none_left, find_moved, place_changed, without_changed, without_moved}
+use Rattle.nit_repaint.proofs.ForCallers.{without_none}
 use Rattle.nit_scene.proofs.MarkLemmas.{meant, source_of_number}
-use Rattle.std.specs.Option.{option_map}
-use Rattle.nit_rect.specs.Rectangle.{Rectangle, rectangle}
-use Rattle.nit_events.specs.declared.call.Call.{Call}
-use Rattle.nit_events.specs.declared.call.Call.TheVariants.{Buffer, View, Place, Offset, Front, Back, Above, Title, Destroy, Refresh, Take, Upgrade, Close}
-use Rattle.nit_events.specs.declared.call.Reply.{Reply}
+use Rattle.nit_events.specs.declared.call.Call.TheVariants.{View}
 use Rattle.nit_stack.specs.declared.view.View.{View as ViewOf}
-use Rattle.nit_stack.specs.LabelPlaces.{is_view}
-use Rattle.nit_stack.specs.ViewNames.{IsNamedBy, MeanSame, name_of, views_of}
-use Rattle.nit_stack.specs.Orders.{moved, put_above, put_back, put_front, without}
-use Rattle.nit_stack.specs.Stack.{SlotView, StackModel, has_slot, is_named, is_slot, slot_view_in, place_of}
-use Rattle.nit_config.specs.Configuration.{bar_rows}
-use Rattle.nit_journal.specs.Session.{refusal}
-use Rattle.nit_journal.specs.State.{State, layer, session}
-use Rattle.nit_journal.specs.StackAfter.{after_accepted, is_accepted}
-use Rattle.nit_repaint.specs.ViewChange.{IsViewChange, slot_owns_either}
-use Rattle.nit_scene.specs.Server.{IsServed, IsServer, ServerModel, state_of}
-use Rattle.nit_scene.specs.CallKinds.{IsOn}
-use Rattle.std.proofs.Math.ListN.{length-set}
-use Rattle.std.proofs.lemmas.Option.{same_Some}
-use Rattle.nit_scene.specs.ViewsTaken.{without_view}
 use Rattle.nit_scene.proofs.CleanCalls.{stack_accepted}
-use Rattle.nit_scene.proofs.CallAnswers.{accepted_reply}
+use Rattle.nit_scene.proofs.CallAnswers.{unrefused_reply}
 use Rattle.nit_scene.proofs.Lists.{without_same}
 
 -- ---- one view by its slot and by its name
@@ -123,7 +97,7 @@ change_of_call before after' sid handle k call r seat hb ha none s on by there =
 }
   where
     accepted_ : is_accepted r ≡ true
-    accepted_ = ap is_accepted s.replied ∙ accepted_reply (session (state_of before) sid) call none
+    accepted_ = ap is_accepted s.replied ∙ unrefused_reply (session (state_of before) sid) call none
 
     stack_ : views_of after'.stack.views ≡ after_accepted (layer before.config) sid call r (views_of before.stack.views)
     stack_ = ap (λ (t : State). t.stack) s.state ∙ stack_accepted (layer before.config) sid call r (views_of before.stack.views) accepted_
@@ -173,7 +147,7 @@ module _ (before after' : ServerModel) (sid handle : ℕ) (v : ViewRef) (call : 
   dirty_by_change k =
       ap (λ (w : ℕ). slot_owns_either v.0 before.stack after'.stack (pixel w k)) (ha.screen.0 ∙ ap (λ (t : State). t.config.width) s.state)
       ∙ meant before after' hb ha sid (pixel before.config.width k) call r (OfView v) none s (mark_ call on)
-      ∙ sym (ap (λ (b : Bool). b && dirty_by_call sid call (state_of before) (state_of after') (pixel before.config.width k)) (ap is_accepted s.replied ∙ accepted_reply (session (state_of before) sid) call none))
+      ∙ sym (ap (λ (b : Bool). b && dirty_by_call sid call (state_of before) (state_of after') (pixel before.config.width k)) (ap is_accepted s.replied ∙ unrefused_reply (session (state_of before) sid) call none))
 
   pub painted_by_change : (n : ℕ) (glasses glasses' : ℕ → Sight) (raw raw' : List ℕ) → n ≡ pixel_count (state_of before)
       → Repainted (pieces.source_of_number after'.stack) (λ k. slot_owns_either v.0 before.stack after'.stack (pixel after'.stack.width k)) n glasses glasses' raw raw'

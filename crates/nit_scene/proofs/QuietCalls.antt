@@ -1,16 +1,8 @@
 -- Calls that make nothing dirty paint nothing.
-use Rattle.std.proofs.Common.{◌≡◌, ℕ, false, List, refl}
-use Rattle.nit_word.specs.Sight.{Sight}
+use Rattle.std.proofs.Common.{List, false, refl, ℕ, ◌≡◌}
+use Rattle.nit_scene.proofs.Basics.{Above, Back, Buffer, Call, Close, Destroy, Front, IsClean, IsQuiet, Offset, Painted, Place, Point, Refresh, Reply, Sight, State, Take, Title, Upgrade, dirty, dirty_by_call, is_accepted}
 use Rattle.nit_events.specs.declared.entry.Entry.TheVariants as entry
-use Rattle.nit_scene.specs.DirtyPixels.{dirty, dirty_by_call}
-use Rattle.nit_scene.specs.RawWords.{Painted}
-use Rattle.nit_rect.specs.declared.point.Point.{Point}
-use Rattle.nit_events.specs.declared.call.Call.{Call}
-use Rattle.nit_events.specs.declared.call.Call.TheVariants.{Buffer, View, Place, Offset, Front, Back, Above, Title, Destroy, Refresh, Take, Upgrade, Close}
-use Rattle.nit_events.specs.declared.call.Reply.{Reply}
-use Rattle.nit_journal.specs.State.{State}
-use Rattle.nit_journal.specs.StackAfter.{is_accepted}
-use Rattle.nit_scene.specs.CallKinds.{IsClean, IsQuiet}
+use Rattle.nit_events.specs.declared.call.Call.TheVariants.{View}
 use Rattle.nit_scene.proofs.CleanCalls.{right_fails}
 use Rattle.nit_scene.proofs.ScreenLemmas.{unpainted}
 

@@ -1,18 +1,8 @@
 -- A scene after one entry more.
-use Rattle.std.proofs.Common.{◌≡◌, ℕ, ◌+◌, ◌-◌, ◌<◌, ◌≤◌, List, [], ◌∷◌, ◌++◌, All, length, slice_index_or, ap, sym, subst, ◌∙◌, arith, zero-add}
-use Rattle.std.proofs.lemmas.List.{get_or_default, length-append}
-use Rattle.nit_word.specs.Inks.{IsWord}
-use Rattle.nit_word.specs.Sight.{Sight}
-use Rattle.nit_events.specs.declared.entry.Entry.{Entry}
+use Rattle.nit_journal.proofs.ForCallers.{same_config}
+use Rattle.std.proofs.Common.{All, List, [], ap, arith, length, slice_index_or, subst, sym, zero-add, ℕ, ◌++◌, ◌+◌, ◌-◌, ◌<◌, ◌∙◌, ◌∷◌, ◌≡◌, ◌≤◌}
+use Rattle.nit_scene.proofs.Basics.{Agrees, AreInked, AreRaw, Bare, Black, Configuration, Entry, IsLegal, IsOpen, IsRawOf, IsScene, IsWord, Painted, PixelSource, ServerModel, Sight, State, Word, after, first_state, get_or_default, legal_more, length-append, pixel_count, replay, replay_more, session_in, shots, source_at, state_of}
 use Rattle.nit_events.specs.declared.entry.Entry.TheVariants as entry
-use Rattle.nit_stack.specs.Sources.{PixelSource, Bare, Black, Word}
-use Rattle.nit_config.specs.Configuration.{Configuration}
-use Rattle.nit_journal.specs.Replay.{Agrees, IsLegal, IsOpen, replay, shots}
-use Rattle.nit_journal.specs.State.{State, after, first_state, session_in}
-use Rattle.nit_journal.proofs.ForCallers.{legal_more, replay_more, same_config}
-use Rattle.nit_scene.specs.RawWords.{AreInked, AreRaw, IsRawOf, Painted, pixel_count, source_at}
-use Rattle.nit_scene.specs.Scene.{IsScene}
-use Rattle.nit_scene.specs.Server.{ServerModel, state_of}
 use Rattle.nit_scene.proofs.HandleCounts.{entry_adds}
 use Rattle.nit_scene.proofs.LostEvents.{entry_loses}
 

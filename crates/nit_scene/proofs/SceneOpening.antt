@@ -1,24 +1,6 @@
 -- A scene before its first entry.
-use Rattle.std.proofs.Common.{◌≡◌, ℕ, ◌*◌, ◌≤◌, Bool, true, false, cond, List, [], replicate, None, slice_index_or, refl, ap, sym, subst, ◌∙◌, arith}
-use Rattle.std.proofs.Math.ListN.{get_or-map}
-use Rattle.std.proofs.lemmas.List.{get_or-replicate}
-use Rattle.nit_rect.specs.declared.point.Point.{Point}
-use Rattle.nit_word.specs.Channels.{bare_word}
-use Rattle.nit_config.specs.declared.config.Member.{Member}
-use Rattle.nit_config.specs.Configuration.{Configuration, bar_rows}
-use Rattle.nit_stack.specs.Sources.{Bare, PixelSource, in_bar, pixel, source_under}
-use Rattle.nit_journal.specs.Session.{first_session}
-use Rattle.nit_journal.specs.State.{State, buffer_size, first_state, session_in, source_of}
-use Rattle.nit_scene.specs.RawWords.{AreRaw, IsRawOf}
-use Rattle.nit_scene.specs.Scene.{IsScene}
-use Rattle.nit_scene.specs.Server.{ServerModel, state_of}
-
-bare_everywhere : (config : Configuration) (p : Point) → source_of (first_state config) p ≡ Bare
-bare_everywhere config p = go (in_bar (bar_rows config) p)
-  where
-    go : (b : Bool) → source_under (buffer_size (first_state config).sessions) p (cond b None None) ≡ Bare
-    go true = refl
-    go false = refl
+use Rattle.std.proofs.Common.{Bool, List, None, [], ap, arith, cond, false, refl, replicate, slice_index_or, subst, sym, true, ℕ, ◌*◌, ◌∙◌, ◌≡◌, ◌≤◌}
+use Rattle.nit_scene.proofs.Basics.{AreRaw, Bare, Configuration, IsRawOf, IsScene, Member, PixelSource, Point, ServerModel, State, bar_rows, bare_everywhere, bare_word, buffer_size, first_session, first_state, get_or-map, get_or-replicate, in_bar, pixel, session_in, source_of, source_under, state_of}
 
 pub raw_begun : (config : Configuration) → AreRaw (first_state config) (replicate (config.width * config.height) bare_word)
 raw_begun config k l =

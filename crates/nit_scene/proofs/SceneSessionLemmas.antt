@@ -1,13 +1,6 @@
 -- The views of a session, as its machine has them and as its table has them.
-use Rattle.std.proofs.Common.{◌≡◌, ℕ, ◌-◌, Bool, true, false, cond, List, [], ◌∷◌, refl, ap, ◌∙◌}
-use Rattle.std.specs.Prelude.{◌==◌, ◌||◌, not, map, filter}
-use Rattle.std.specs.List.{list_any}
-use Rattle.nit_events.specs.declared.event.Event.{Event}
-use Rattle.nit_events.specs.declared.event.Status.{Status}
-use Rattle.nit_slots.specs.Account.{AccountModel}
-use Rattle.nit_slots.specs.Table.{TableModel, has_handle, without_handle}
-use Rattle.nit_journal.specs.Session.{Session}
-use Rattle.nit_scene.specs.SceneSession.{session_of_parts}
+use Rattle.std.proofs.Common.{Bool, List, [], ap, cond, false, filter, map, not, refl, true, ℕ, ◌-◌, ◌==◌, ◌||◌, ◌∙◌, ◌∷◌, ◌≡◌}
+use Rattle.nit_scene.proofs.Basics.{AccountModel, Event, Session, Status, TableModel, has_handle, list_any, session_of_parts, without_handle}
 
 -- the handles of pairs of a handle and its slot
 abbrev pub handles_of : List (ℕ × ℕ) → List ℕ

@@ -1,28 +1,9 @@
 -- What a call does to a screen.
-use Rattle.std.proofs.Common.{◌≡◌, ℕ, ◌*◌, ◌<◌, ◌≤◌, ◌==◌, Bool, true, false, cond, ◌&&◌, List, length, slice_index_or, None, refl, ap, sym, subst, ◌∙◌}
-use Rattle.std.proofs.lemmas.Bool.{eqb-true}
-use Rattle.std.proofs.lemmas.List.{length-map}
-use Rattle.nit_rect.specs.declared.point.Point.{Point}
-use Rattle.nit_word.specs.Sight.{Sight, seen}
-use Rattle.nit_events.specs.declared.call.Call.{Call}
-use Rattle.nit_events.specs.declared.call.Reply.{Reply}
-use Rattle.nit_events.specs.declared.entry.Entry.{Entry}
+use Rattle.nit_scene.proofs.Basics.{Call, Configuration, Entry, HoldBuffers, IsGlassOf, IsServed, IsServer, Painted, Point, Repainted, Reply, ServerModel, Sight, State, dirty, dirty_by_call, eqb-true, glass_in, glasses_of_call, is_accepted, length-map, member, no_sight, pixel, pixel_count, repainted_none, repainted_same, seen, session_in, size_of_buffer, source_at, state_of, table_size, word_count}
+use Rattle.std.proofs.Common.{Bool, List, None, ap, cond, false, length, refl, slice_index_or, subst, sym, true, ℕ, ◌&&◌, ◌*◌, ◌<◌, ◌==◌, ◌∙◌, ◌≡◌, ◌≤◌}
 use Rattle.nit_events.specs.declared.entry.Entry.TheVariants as entry
-use Rattle.nit_slots.specs.Account.{table_size}
-use Rattle.nit_stack.specs.SourceAnswers.{word_count}
-use Rattle.nit_stack.specs.Sources.{pixel}
-use Rattle.nit_config.specs.Configuration.{Configuration, member}
-use Rattle.nit_journal.specs.State.{State, session_in}
-use Rattle.nit_journal.specs.StackAfter.{is_accepted}
-use Rattle.nit_paint.specs.Repaint.{Repainted, no_sight}
-use Rattle.nit_paint.proofs.ForCallers.{repainted_none, repainted_same}
 use Rattle.nit_paint.specs.Pieces as pieces
-use Rattle.nit_scene.specs.DirtyPixels.{dirty, dirty_by_call}
-use Rattle.nit_repaint.specs.Glasses.{HoldBuffers, glasses_of_call}
 use Rattle.nit_scene.proofs.Marks.{IsMarkOf}
-use Rattle.nit_scene.specs.RawWords.{Painted, glass_in, pixel_count, source_at}
-use Rattle.nit_scene.specs.Server.{IsServed, IsServer, ServerModel, size_of_buffer, state_of}
-use Rattle.nit_scene.specs.Screen.{IsGlassOf}
 use Rattle.nit_scene.proofs.MarkLemmas.{size_at, source_of_number, unmeant}
 use Rattle.nit_scene.proofs.CleanCalls.{right_fails}
 

@@ -1,30 +1,6 @@
 -- What holds of a server, and what stays so when an accepted call was served.
-use Rattle.std.proofs.Common.{◌≡◌, ℕ, ◌+◌, ◌*◌, ◌/◌, ◌<◌, ◌≤◌, ◌==◌, Bool, true, false, List, length, set, get_or, None, refl, ap, sym, ◌∙◌, subst, arith, get_or-set_same, get_or-set_other}
-use Rattle.std.specs.Prelude.{sum}
-use Rattle.std.specs.Option.{is_some}
-use Rattle.std.proofs.Math.ListN.{get_or-map}
-use Rattle.std.proofs.Math.Seq.{map-set_same}
-use Rattle.std.proofs.lemmas.Bool.{eqb-true, eqb-false}
-use Rattle.std.proofs.lemmas.List.{length-map, length-set, map-set}
-use Rattle.std.proofs.lemmas.Simd.{map-map}
-use Rattle.nit_events.specs.declared.call.Call.{Call}
-use Rattle.nit_events.specs.declared.call.Reply.{Reply}
-use Rattle.nit_events.specs.Input.{InputState}
-use Rattle.nit_focus.specs.Focus.{FocusModel}
-use Rattle.nit_slots.specs.Account.{room, table_size}
-use Rattle.nit_slots.specs.Slots.{SlotsModel}
-use Rattle.nit_stack.specs.Sources.{Size}
-use Rattle.nit_stack.specs.ViewNames.{IsNamedBy, name_in, views_of}
-use Rattle.nit_stack.specs.Stack.{IsStack, SlotView, StackModel}
-use Rattle.nit_stack.proofs.ForCallers.{agree_by, has-name}
-use Rattle.nit_config.specs.Configuration.{Configuration, member}
-use Rattle.nit_journal.specs.Session.{Session, accepted, refusal, serve}
-use Rattle.nit_journal.specs.State.{input_after_call, layer, session_in}
-use Rattle.nit_journal.specs.StackAfter.{stack_after_call}
-use Rattle.nit_journal.proofs.ForCallers.{serve_accepted}
-use Rattle.nit_scene.specs.ServerInput.{IsServerInput}
-use Rattle.nit_scene.specs.SceneSession.{IsPaid, SceneSessionModel}
-use Rattle.nit_scene.specs.Server.{IsSessionOfClient, AreSlotsNamed, IsServed, AreServerParts, IsServer, ServerModel, scene_session_at, no_scene_session, pairs_of, server_of, size_of_buffer}
+use Rattle.nit_scene.proofs.Basics.{AreServerParts, AreSlotsNamed, Call, Configuration, FocusModel, InputState, IsNamedBy, IsPaid, IsServed, IsServer, IsServerInput, IsSessionOfClient, IsStack, Reply, SceneSessionModel, ServerModel, Session, Size, SlotView, SlotsModel, StackModel, accepted, agree_by, eqb-false, eqb-true, get_or-map, has-name, input_after_call, is_some, layer, length-map, length-set, map-map, map-set, map-set_same, member, name_in, no_scene_session, pairs_of, refusal, room, scene_session_at, serve, serve_accepted, server_of, session_in, size_of_buffer, stack_after_call, table_size, views_of}
+use Rattle.std.proofs.Common.{Bool, List, None, ap, arith, false, get_or, get_or-set_other, get_or-set_same, length, refl, set, subst, sum, sym, true, ℕ, ◌*◌, ◌+◌, ◌/◌, ◌<◌, ◌==◌, ◌∙◌, ◌≡◌, ◌≤◌}
 use Rattle.nit_scene.proofs.ServerLemmas.{session_of_member}
 
 words_within : (donation reserve whole used n : ℕ) → donation + reserve ≡ whole → used + 8 * n ≤ donation → n ≤ whole / 8

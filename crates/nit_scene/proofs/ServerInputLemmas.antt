@@ -1,26 +1,9 @@
 -- A server's focus is that of its state.
-use Rattle.std.proofs.Common.{◌≡◌, ℕ, ◌<◌, ◌≤◌, Bool, cond, List, length, Option, Some, None, inl, inr, refl, ap, sym, subst, ◌∙◌, arith}
-use Rattle.std.specs.Prelude.{◌≢◌, IfSome, option_map}
-use Rattle.std.proofs.lemmas.Bool.{ne_eqb}
-use Rattle.std.proofs.lemmas.List.{length-map}
-use Rattle.nit_rect.specs.declared.point.Point.{Point}
-use Rattle.nit_events.specs.declared.device.Device.{Device}
-use Rattle.nit_events.specs.Input.{InputState, forget, pointer_after, routing, unless_it_is}
+use Rattle.nit_scene.proofs.Basics.{AllOfInput, AreServerParts, Configuration, Device, FocusModel, HasForgotten, InputState, IsServerInput, IsWithinReach, Point, SceneSessionModel, ServerModel, SlotView, SlotsModel, StackModel, clicks_on, clicks_on_list, forget, known_after, length-map, ne_eqb, owner, owner_in, owner_of_views, pointed_by, pointer, pointer_after, routing, routing_of, server_of, size_of_buffer, unless_it_is, view_ref, views_of, with_pointer}
+use Rattle.std.proofs.Common.{Bool, IfSome, List, None, Option, Some, ap, arith, cond, inl, inr, length, option_map, refl, subst, sym, ℕ, ◌<◌, ◌∙◌, ◌≡◌, ◌≢◌, ◌≤◌}
+use Rattle.nit_journal.specs.State.{route}
 use Rattle.nit_focus.specs.Focus as focusing
-use Rattle.nit_focus.specs.Focus.{AllOfInput, FocusModel, clicks_on_list, with_pointer, pointer}
-use Rattle.nit_focus.specs.Reach.{HasForgotten, IsWithinReach}
-use Rattle.nit_focus.proofs.ForCallers.{known_after}
 use Rattle.nit_stack.specs.declared.view.View.{View}
-use Rattle.nit_stack.specs.ViewNames.{views_of}
-use Rattle.nit_stack.specs.Sources.{owner, owner_in}
-use Rattle.nit_stack.specs.Stack.{SlotView, StackModel, view_ref}
-use Rattle.nit_stack.proofs.ForCallers.{owner_of_views}
-use Rattle.nit_slots.specs.Slots.{SlotsModel}
-use Rattle.nit_config.specs.Configuration.{Configuration}
-use Rattle.nit_journal.specs.State.{clicks_on, route}
-use Rattle.nit_scene.specs.ServerInput.{IsServerInput, pointed_by, routing_of}
-use Rattle.nit_scene.specs.SceneSession.{SceneSessionModel}
-use Rattle.nit_scene.specs.Server.{AreServerParts, ServerModel, server_of, size_of_buffer}
 
 weaker : (P Q : ℕ → Type 0) → ((t : ℕ) → P t → Q t) → (o : Option ℕ) → IfSome o P → IfSome o Q
 weaker P Q f None p = tt

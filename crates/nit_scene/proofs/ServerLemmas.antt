@@ -1,19 +1,7 @@
 -- What holds of a server stays so when one session, the views and the taken slots change.
-use Rattle.std.proofs.Common.{◌≡◌, ℕ, zero, suc, ◌+◌, ◌<◌, ◌≤◌, ◌==◌, Bool, true, false, cond, List, [], ◌∷◌, length, map, sum, set, get_or, refl, ap, sym, ◌∙◌, subst, arith}
-use Rattle.std.proofs.lemmas.Bool.{eqb-true}
-use Rattle.std.proofs.lemmas.List.{get_or_read_under, length-map, length-set}
-use Rattle.std.proofs.lemmas.List.Sums.{sum-map, sum_by-cons, sum_by-set}
+use Rattle.std.proofs.Common.{Bool, List, [], ap, arith, cond, false, get_or, length, map, refl, set, subst, suc, sum, sym, true, zero, ℕ, ◌+◌, ◌<◌, ◌==◌, ◌∙◌, ◌∷◌, ◌≡◌, ◌≤◌}
+use Rattle.nit_scene.proofs.Basics.{AreServerParts, AreSlotsNamed, Configuration, InputState, IsPaid, IsSessionOfClient, IsStack, Member, SceneSessionModel, ServerModel, Size, SlotView, SlotsModel, StackModel, eqb-true, get_or_read_under, layer, layer_of, length-map, length-set, member, no_scene_session, pairs_of, scene_session_at, server_of, session_in, size_of_buffer, spare, sum-map, sum_by-cons, sum_by-set, view_slots}
 use Rattle.std.proofs.Math.ListN.{get_or-map as value-map}
-use Rattle.nit_events.specs.Input.{InputState}
-use Rattle.nit_slots.specs.Account.{view_slots}
-use Rattle.nit_slots.specs.Slots.{SlotsModel, spare}
-use Rattle.nit_stack.specs.Sources.{Size}
-use Rattle.nit_stack.specs.Stack.{IsStack, SlotView, StackModel, layer_of}
-use Rattle.nit_config.specs.declared.config.Member.{Member}
-use Rattle.nit_config.specs.Configuration.{Configuration, member}
-use Rattle.nit_journal.specs.State.{layer, session_in}
-use Rattle.nit_scene.specs.SceneSession.{IsPaid, SceneSessionModel}
-use Rattle.nit_scene.specs.Server.{IsSessionOfClient, AreSlotsNamed, AreServerParts, ServerModel, scene_session_at, no_scene_session, pairs_of, server_of, size_of_buffer}
 use Rattle.nit_scene.proofs.SlotLemmas.{member_set}
 
 -- ---- what a state sees of a server's parts

@@ -1,26 +1,6 @@
 -- What holds of a server before its first entry.
-use Rattle.std.proofs.Common.{◌≡◌, ℕ, ◌<◌, ◌≤◌, Bool, true, false, cond, List, [], length, map, replicate, Some, None, inl, inr, refl, ap, sym, ◌∙◌, subst, arith, mul-zero}
-use Rattle.std.specs.Prelude.{IsTrue, sum}
-use Rattle.std.proofs.Math.ListN.{get_or-map}
-use Rattle.std.proofs.lemmas.List.{length-map, length-replicate}
-use Rattle.std.proofs.lemmas.List.Elements.{All-get_or, All-map, All-nil, All-replicate, All-weaker}
-use Rattle.std.proofs.lemmas.List.Folds.{sum_by-replicate}
-use Rattle.std.proofs.lemmas.Simd.{map-map, splat_is_map}
-use Rattle.nit_slots.specs.Account.{view_slots}
-use Rattle.nit_slots.specs.Table.{slot_of}
-use Rattle.nit_slots.specs.Slots.{SlotsModel}
-use Rattle.nit_events.specs.Input.{InputState, first_input}
-use Rattle.nit_stack.specs.ViewNames.{views_of}
-use Rattle.nit_stack.specs.Sources.{no_size}
-use Rattle.nit_stack.specs.Stack.{IsBar, IsSlotView, IsBufferSize, IsStack, StackModel}
-use Rattle.nit_config.specs.declared.config.Member.{Member}
-use Rattle.nit_config.specs.Configuration.{Configuration, bar_rows, member}
-use Rattle.nit_config.specs.ConfigurationRanges.{IsConfiguration, IsMember}
-use Rattle.nit_journal.specs.Session.{first_session}
-use Rattle.nit_journal.specs.State.{first_state}
-use Rattle.nit_scene.specs.SceneSession.{SceneSessionModel}
-use Rattle.nit_scene.specs.ServerOpening.{first_scene_session, first_stack, slots_of_all}
-use Rattle.nit_scene.specs.Server.{IsSessionOfClient, AreServerParts, scene_session_at, server_of, size_of_buffer, state_of}
+use Rattle.std.proofs.Common.{Bool, IsTrue, List, None, Some, [], ap, arith, cond, false, inl, inr, length, map, mul-zero, refl, replicate, subst, sum, sym, true, ℕ, ◌<◌, ◌∙◌, ◌≡◌, ◌≤◌}
+use Rattle.nit_scene.proofs.Basics.{All-get_or, All-map, All-nil, All-replicate, All-weaker, AreServerParts, Configuration, InputState, IsBar, IsBufferSize, IsConfiguration, IsMember, IsSessionOfClient, IsSlotView, IsStack, Member, SceneSessionModel, SlotsModel, StackModel, bar_rows, first_input, first_scene_session, first_session, first_stack, first_state, get_or-map, length-map, length-replicate, map-map, member, no_size, scene_session_at, server_of, size_of_buffer, slot_of, slots_of_all, splat_is_map, state_of, sum_by-replicate, view_slots, views_of}
 
 -- no slot is taken
 abbrev pub none_taken : ℕ → SlotsModel

@@ -1,34 +1,12 @@
 -- Accepted calls that change the machine of one session.
-use Rattle.std.proofs.Common.{◌≡◌, ℕ, ◌+◌, ◌-◌, ◌*◌, ◌<◌, ◌≤◌, Bool, true, false, cond, List, [], ◌∷◌, ◌++◌, length, map, set, get_or, None, refl, ap, sym, ◌∙◌, subst, arith}
-use Rattle.std.specs.Prelude.{◌&&◌, nat_lt}
-use Rattle.std.proofs.Math.ListN.{get_or-map}
-use Rattle.std.proofs.lemmas.Bool.{and_parts, leb-true}
-use Rattle.std.proofs.lemmas.List.{get_or_default, length-map, map-set, set-get_or}
-use Rattle.std.proofs.lemmas.List.Elements.{All-get_or}
-use Rattle.nit_events.specs.declared.call.Call.{Call}
+use Rattle.nit_scene.proofs.Basics.{All-get_or, AreServerParts, Call, Configuration, Event, InputState, IsBufferSize, IsPaid, Reply, SceneSessionModel, ServerModel, Session, Size, SlotsModel, StackModel, Status, accepted, and_parts, buffer_left, buffer_need, by_life, by_quota, first_none, get_or-map, get_or_default, holds_of, input_after_call, is_accepted, is_side, keeps_size, layer, leb-true, length-map, map-set, no_scene_session, receive, refusal, scene_session_at, second_none, server_of, session_in, set-get_or, size_of_buffer, taking, unless, views_of, with_delivered, within_quota, within_reserve}
+use Rattle.std.proofs.Common.{Bool, List, None, [], ap, arith, cond, false, get_or, length, map, nat_lt, refl, set, subst, sym, true, ℕ, ◌&&◌, ◌*◌, ◌++◌, ◌+◌, ◌-◌, ◌<◌, ◌∙◌, ◌∷◌, ◌≡◌, ◌≤◌}
+use Rattle.nit_journal.specs.StackAfter.{stack_after_call}
 use Rattle.nit_events.specs.declared.call.Call.TheVariants as call
-use Rattle.nit_events.specs.declared.call.Reply.{Reply}
 use Rattle.nit_events.specs.declared.call.Reply.TheVariants as reply
-use Rattle.nit_events.specs.declared.event.Event.{Event}
 use Rattle.nit_events.specs.declared.event.Item.TheVariants as item
-use Rattle.nit_events.specs.declared.event.Status.{Status}
 use Rattle.nit_events.specs.declared.event.Status.TheVariants as status
-use Rattle.nit_events.specs.Input.{InputState}
-use Rattle.nit_slots.specs.Account.{buffer_left, buffer_need}
-use Rattle.nit_slots.specs.Slots.{SlotsModel}
 use Rattle.nit_stack.specs.declared.view.View.{View}
-use Rattle.nit_stack.specs.ViewNames.{views_of}
-use Rattle.nit_stack.specs.Sources.{Size}
-use Rattle.nit_stack.specs.Stack.{IsBufferSize, StackModel}
-use Rattle.nit_stack.proofs.ForCallers.{keeps_size}
-use Rattle.nit_config.specs.Configuration.{Configuration}
-use Rattle.nit_journal.specs.Session.{Session, accepted, by_life, by_quota, is_side, receive, refusal, taking, unless}
-use Rattle.nit_journal.specs.State.{input_after_call, layer, session_in}
-use Rattle.nit_journal.specs.StackAfter.{is_accepted, stack_after_call}
-use Rattle.nit_journal.proofs.ForCallers.{first_none, second_none, holds_of, within_quota, within_reserve}
-use Rattle.nit_scene.specs.ServerInput.{with_delivered}
-use Rattle.nit_scene.specs.SceneSession.{IsPaid, SceneSessionModel}
-use Rattle.nit_scene.specs.Server.{AreServerParts, ServerModel, scene_session_at, no_scene_session, server_of, size_of_buffer}
 use Rattle.nit_scene.proofs.NoRefusal.{by_call_none}
 use Rattle.nit_scene.proofs.ServedCalls.{IsDone, repaid, served_by}
 use Rattle.nit_scene.proofs.ServerLemmas.{session_of_member}

@@ -1,34 +1,10 @@
 -- A session ends: what is left of the server, and what is painted.
-use Rattle.std.proofs.Common.{◌≡◌, ℕ, ◌<◌, ◌≤◌, ◌*◌, set, get_or-set_same, get_or-set_other, ◌==◌, length, Bool, true, false, cond, List, [], find, map, Option, Some, None, refl, ap, sym, ◌∙◌, subst}
-use Rattle.std.proofs.lemmas.Bool.{eqb-false}
-use Rattle.nit_word.specs.Sight.{Sight}
+use Rattle.nit_scene.proofs.Basics.{Close, IsServer, Painted, PixelSource, Point, Repainted, ServerModel, Session, Sight, Size, SlotView, StackModel, Status, black_or_word, covers, ended, eqb-false, first_session, forget, found_fails, glass_in, glasses_of_call, in_bar, is_of_session, no_sight, no_size, nobody_calls, owner_of_views, owner_passes, pixel, pixel_count, repainted_same, session_in, session_owns, set-set, shown_index, size_of, source_at, source_in, source_under, state_of, with_ended, without, without_session, without_views}
+use Rattle.nit_repaint.proofs.ForCallers.{none_left}
+use Rattle.std.proofs.Common.{Bool, List, None, Option, Some, [], ap, cond, false, find, get_or-set_other, get_or-set_same, length, map, option_map, refl, set, subst, sym, true, ℕ, ◌*◌, ◌<◌, ◌==◌, ◌∙◌, ◌≡◌, ◌≤◌}
 use Rattle.nit_events.specs.declared.entry.Entry.TheVariants as entry
-use Rattle.nit_stack.specs.Sources.{pixel, PixelSource, no_size, Size, black_or_word, in_bar, shown_index, source_under}
-use Rattle.nit_stack.proofs.ForCallers.{found_fails, owner_of_views}
-use Rattle.nit_paint.specs.Repaint.{Repainted, no_sight}
 use Rattle.nit_paint.specs.Pieces as pieces
-use Rattle.nit_paint.proofs.ForCallers.{repainted_same}
-use Rattle.nit_scene.specs.RawWords.{Painted, glass_in, pixel_count, source_at}
-use Rattle.nit_repaint.proofs.ForCallers.{nobody_calls, none_left}
 use Rattle.nit_scene.proofs.MarkLemmas.{session_meant, source_of_number}
-use Rattle.nit_rect.specs.declared.point.Point.{Point}
-use Rattle.nit_stack.specs.Stack.{size_of, SlotView, StackModel, is_of_session}
-use Rattle.nit_repaint.specs.PixelOwners.{owner_passes, source_in}
-use Rattle.nit_repaint.specs.Glasses.{glasses_of_call}
-use Rattle.std.specs.Option.{option_map}
-use Rattle.nit_events.specs.declared.call.Call.{Call}
-use Rattle.nit_events.specs.declared.call.Call.TheVariants.{Close}
-use Rattle.nit_stack.specs.Orders.{without}
-use Rattle.nit_scene.specs.Server.{IsServer, ServerModel, state_of}
-use Rattle.nit_events.specs.declared.event.Status.{Status}
-use Rattle.nit_events.specs.Input.{forget}
-use Rattle.nit_journal.specs.Session.{Session, ended, first_session}
-use Rattle.std.proofs.lemmas.List.{set-set}
-use Rattle.nit_rect.specs.Rectangle.{covers}
-use Rattle.nit_repaint.specs.ViewRemoval.{without_session}
-use Rattle.nit_scene.specs.DirtyPixels.{session_owns}
-use Rattle.nit_journal.specs.State.{session_in}
-use Rattle.nit_scene.specs.ViewsTaken.{with_ended, without_views}
 use Rattle.nit_events.specs.declared.call.Reply.TheVariants as reply
 
 -- what is left of a server when a session ends is told by what is left without its views

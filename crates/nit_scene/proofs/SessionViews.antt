@@ -1,28 +1,11 @@
 -- A call that draws the views of a session makes their pixels dirty, and paints them.
-use Rattle.std.proofs.Common.{◌≡◌, ℕ, Bool, ◌&&◌, List, Option, None, refl, ap, sym, ◌∙◌, subst}
-use Rattle.nit_word.specs.Sight.{Sight}
+use Rattle.nit_scene.proofs.Basics.{Above, Back, Buffer, Call, Close, Destroy, Front, IsPartOf, IsServed, IsServer, Offset, Painted, Place, Point, Rectangle, Refresh, Repainted, Reply, ServerModel, Sight, StackModel, State, Take, Title, Upgrade, all_of_session, dirty, dirty_by_call, is_accepted, part_of_session, pixel, pixel_count, rectangle, refusal, repainted_same, session, source_at, state_of, wanted}
+use Rattle.std.proofs.Common.{Bool, List, None, Option, ap, refl, subst, sym, ℕ, ◌&&◌, ◌∙◌, ◌≡◌}
 use Rattle.nit_events.specs.declared.entry.Entry.TheVariants as entry
-use Rattle.nit_stack.specs.Sources.{pixel}
-use Rattle.nit_paint.specs.Repaint.{Repainted}
 use Rattle.nit_paint.specs.Pieces as pieces
-use Rattle.nit_paint.proofs.ForCallers.{repainted_same}
-use Rattle.nit_scene.specs.DirtyPixels.{dirty, dirty_by_call}
-use Rattle.nit_scene.specs.RawWords.{Painted, pixel_count, source_at}
-use Rattle.nit_repaint.proofs.ForCallers.{all_of_session, part_of_session}
 use Rattle.nit_scene.proofs.MarkLemmas.{part_meant, session_meant, source_of_number}
-use Rattle.nit_rect.specs.declared.point.Point.{Point}
-use Rattle.nit_repaint.specs.WantedPixels.{wanted}
-use Rattle.nit_rect.specs.Rectangle.{Rectangle, rectangle}
-use Rattle.nit_events.specs.declared.call.Call.{Call}
-use Rattle.nit_events.specs.declared.call.Call.TheVariants.{Buffer, View, Place, Offset, Front, Back, Above, Title, Destroy, Refresh, Take, Upgrade, Close}
-use Rattle.nit_events.specs.declared.call.Reply.{Reply}
-use Rattle.nit_stack.specs.Stack.{StackModel}
-use Rattle.nit_journal.specs.Session.{refusal}
-use Rattle.nit_journal.specs.State.{State, session}
-use Rattle.nit_journal.specs.StackAfter.{is_accepted}
-use Rattle.nit_scene.specs.Server.{IsServed, IsServer, ServerModel, state_of}
-use Rattle.nit_scene.specs.CallKinds.{IsPartOf}
-use Rattle.nit_scene.proofs.CallAnswers.{accepted_reply}
+use Rattle.nit_events.specs.declared.call.Call.TheVariants.{View}
+use Rattle.nit_scene.proofs.CallAnswers.{unrefused_reply}
 
 wanted_dirty : (before after' : ServerModel) (sid : ℕ) (part : Option Rectangle) (call : Call) (p : Point) → IsServer after' → IsPartOf part call → wanted sid part after'.stack p ≡ dirty_by_call sid call (state_of before) (state_of after') p
 wanted_dirty before after' sid part (Buffer w h) p ha on = ap (λ (o : Option Rectangle). wanted sid o after'.stack p) on ∙ all_of_session sid after'.stack p ∙ session_meant after' ha sid p
@@ -47,7 +30,7 @@ module _ (before after' : ServerModel) (sid : ℕ) (part : Option Rectangle) (ca
   dirty_by_views k =
       ap (λ (w : ℕ). wanted sid part after'.stack (pixel w k)) (ha.screen.0 ∙ ap (λ (t : State). t.config.width) s.state)
       ∙ wanted_dirty before after' sid part call (pixel before.config.width k) ha on
-      ∙ sym (ap (λ (b : Bool). b && dirty_by_call sid call (state_of before) (state_of after') (pixel before.config.width k)) (ap is_accepted s.replied ∙ accepted_reply (session (state_of before) sid) call none))
+      ∙ sym (ap (λ (b : Bool). b && dirty_by_call sid call (state_of before) (state_of after') (pixel before.config.width k)) (ap is_accepted s.replied ∙ unrefused_reply (session (state_of before) sid) call none))
 
   pub painted_by_views : (n : ℕ) (glasses glasses' : ℕ → Sight) (raw raw' : List ℕ) → n ≡ pixel_count (state_of before)
       → Repainted (pieces.source_of_number after'.stack) (λ k. wanted sid part after'.stack (pixel after'.stack.width k)) n glasses glasses' raw raw'

@@ -1,16 +1,6 @@
 -- Which view stands in which slot, when a view comes and when one goes.
-use Rattle.std.proofs.Common.{◌≡◌, ℕ, ◌<◌, ◌==◌, not, Bool, true, false, ◌&&◌, ◌||◌, cond, List, [], ◌∷◌, ◌++◌, find, length, Some, None, option_map, set, refl, ap, sym, ◌∙◌, subst, get_or-set_same, get_or-set_other}
-use Rattle.std.specs.Prelude.{nat_lt}
-use Rattle.std.proofs.lemmas.Bool.{and_parts, eqb-true, eqb-false, eq-eqb, ne_eqb, or_parts}
-use Rattle.std.proofs.lemmas.Map.Views.{any-filter_same}
-use Rattle.std.proofs.lemmas.Option.{some_pair_parts}
-use Rattle.nit_slots.specs.Table.{has_handle, slot_of, without_handle}
-use Rattle.nit_slots.specs.Slots.{SlotsModel, is_among, is_taken, with_slot, without_slot}
-use Rattle.nit_stack.specs.Stack.{SlotView, has_slot}
-use Rattle.nit_stack.specs.ViewNames.{name_in}
-use Rattle.nit_stack.proofs.ForCallers.{find-without}
-use Rattle.nit_scene.specs.SceneSession.{SceneSessionModel}
-use Rattle.nit_scene.specs.Server.{AreSlotsNamed, scene_session_at, no_scene_session, pairs_of}
+use Rattle.nit_scene.proofs.Basics.{AreSlotsNamed, SceneSessionModel, SlotView, SlotsModel, and_parts, any-filter_same, eq-eqb, eqb-false, eqb-true, find-without, has_handle, has_slot, is_among, is_taken, name_in, ne_eqb, no_scene_session, or_parts, pairs_of, scene_session_at, slot_of, some_pair_parts, with_slot, without_handle, without_slot}
+use Rattle.std.proofs.Common.{Bool, List, None, Some, [], ap, cond, false, find, get_or-set_other, get_or-set_same, length, nat_lt, not, option_map, refl, set, subst, sym, true, ℕ, ◌&&◌, ◌++◌, ◌<◌, ◌==◌, ◌||◌, ◌∙◌, ◌∷◌, ◌≡◌}
 
 -- ---- one table, and one list of taken slots
 

@@ -1,22 +1,13 @@
 -- What a stack of views keeps at every entry, where it keeps it as views are taken out, changed under their names,
 -- moved, and put in.
-use Rattle.std.proofs.Common.{◌≡◌, ℕ, Bool, true, false, ◌==◌, cond, List, [], ◌∷◌, refl}
-use Rattle.nit_events.specs.declared.event.Delivery.{Delivery}
-use Rattle.nit_events.specs.declared.event.Item.{Item}
+use Rattle.std.proofs.Common.{Bool, List, [], cond, false, refl, true, ℕ, ◌==◌, ◌∷◌, ◌≡◌}
+use Rattle.nit_scene.proofs.Basics.{Above, Back, Call, Close, Delivery, Destroy, Entry, Front, Item, Offset, Place, Reply, State, Title, after, after_accepted, after_deliveries, after_delivery, changed, is_accepted, is_session, is_view, layer, moved, new_view, put_above, put_back, put_front, rectangle, route, without}
+use Rattle.nit_journal.specs.StackAfter.{stack_after_call}
 use Rattle.nit_events.specs.declared.event.Item.TheVariants as item
-use Rattle.nit_events.specs.declared.call.Call.{Call}
-use Rattle.nit_events.specs.declared.call.Call.TheVariants.{View, Place, Offset, Front, Back, Above, Title, Destroy, Close}
-use Rattle.nit_events.specs.declared.call.Reply.{Reply}
+use Rattle.nit_events.specs.declared.call.Call.TheVariants.{View}
 use Rattle.nit_events.specs.declared.call.Reply.TheVariants as reply
-use Rattle.nit_events.specs.declared.entry.Entry.{Entry}
 use Rattle.nit_events.specs.declared.entry.Entry.TheVariants as entry
-use Rattle.nit_rect.specs.Rectangle.{rectangle}
 use Rattle.nit_stack.specs.declared.view.View.{View as ViewOf}
-use Rattle.nit_stack.specs.LabelPlaces.{is_view}
-use Rattle.nit_stack.specs.ViewNames.{is_session}
-use Rattle.nit_stack.specs.Orders.{put_front, put_back, put_above, without, changed, moved}
-use Rattle.nit_journal.specs.State.{State, layer, route, after}
-use Rattle.nit_journal.specs.StackAfter.{is_accepted, new_view, after_accepted, stack_after_call, after_delivery, after_deliveries}
 use Rattle.nit_scene.proofs.FirstFound.{IsPutIn, puts_front, puts_back, puts_above}
 
 -- a change that leaves the session and the handle

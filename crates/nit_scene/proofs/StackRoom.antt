@@ -1,16 +1,7 @@
 -- A stack has room for its views, and as much after a call.
-use Rattle.std.proofs.Common.{◌≡◌, ℕ, ◌<◌, ◌≤◌, ◌==◌, eqb, All, length, arith, true, false, List, [], ◌∷◌, map, sum, ap, sym, ◌∙◌, subst}
-use Rattle.std.specs.List.{AllByRecursion, IsDistinct, list_any}
-use Rattle.std.proofs.lemmas.Bool.{eqb-true, or_parts}
-use Rattle.std.proofs.lemmas.List.{length-map}
-use Rattle.std.proofs.lemmas.Map.Steps.{length-le_from_distinct_below}
-use Rattle.nit_stack.proofs.ForCallers.{flip, All_found, found_passes, found_some, list_any-map}
-use Rattle.nit_events.specs.declared.call.Call.{Call}
-use Rattle.nit_events.specs.declared.call.Reply.{Reply}
-use Rattle.nit_stack.specs.Stack.{IsSlotView, IsStack, NoPair, SlotView, StackModel, same_slot}
-use Rattle.nit_slots.specs.Account.{view_slots}
-use Rattle.nit_journal.specs.State.{State}
-use Rattle.nit_scene.specs.Server.{IsServed, IsServer, ServerModel}
+use Rattle.nit_scene.proofs.Basics.{AllByRecursion, All_found, Call, IsServed, IsServer, IsSlotView, IsStack, NoPair, Reply, ServerModel, SlotView, StackModel, State, eqb-true, flip, found_passes, found_some, length-le_from_distinct_below, length-map, list_any, list_any-map, or_parts, same_slot, view_slots}
+use Rattle.std.proofs.Common.{All, List, [], ap, arith, eqb, false, length, map, subst, sum, sym, true, ℕ, ◌<◌, ◌==◌, ◌∙◌, ◌∷◌, ◌≡◌, ◌≤◌}
+use Rattle.std.specs.List.{IsDistinct}
 
 slots_apart : (views : List SlotView) → NoPair same_slot views → IsDistinct eqb (map (λ (s : SlotView). s.slot) views)
 unfolding IsDistinct

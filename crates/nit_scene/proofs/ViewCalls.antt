@@ -1,30 +1,10 @@
 -- Accepted calls that change one view of a session.
-use Rattle.std.proofs.Common.{◌≡◌, ℕ, true, List, length, set, Option, Some, None, refl, ap, sym, ◌∙◌, subst, arith}
-use Rattle.std.specs.Prelude.{ℤ, pos, negsuc, ◌&&◌, int_le}
-use Rattle.std.specs.Option.{is_some, option_map}
-use Rattle.std.proofs.lemmas.Bool.{and_parts, leb-true}
-use Rattle.std.proofs.lemmas.Int.{ints}
-use Rattle.std.proofs.lemmas.List.{set-get_or}
-use Rattle.std.proofs.lemmas.Option.{some_pair_parts}
-use Rattle.nit_rect.specs.Rectangle.{Rectangle, IsPlace, is_length, is_place, is_rectangle, rectangle}
-use Rattle.nit_events.specs.declared.call.Call.{Call}
+use Rattle.nit_scene.proofs.Basics.{AreServerParts, Call, Configuration, InputState, IsNamedBy, IsPlace, IsRectInRange, IsServed, IsSlotView, Rectangle, SceneSessionModel, ServerModel, Session, SlotView, SlotsModel, StackModel, accepted, after_accepted, and_parts, answered, by_handle, changed, first_session, has-name, has_slot, holds_of, input_after_call, int_le, ints, is_length, is_place, is_rectangle, is_slot, is_some, is_view, keeps_above, keeps_back, keeps_changed, keeps_front, layer, layer_of, leb-true, moved, moved_above, name-above, name-back, name-changed, name-front, name_in, name_of, negsuc, on_view, pos, put_own_back, put_own_front, rectangle, refusal, second_none, server_of, session_in, set-get_or, slot_layer, slot_view_in, slot_view_layer, some_pair_parts, unless, views_above, views_backed, views_changed, views_fronted, views_of, with_offset, with_rect, with_title, ℤ}
+use Rattle.std.proofs.Common.{List, None, Option, Some, ap, arith, length, option_map, refl, set, subst, sym, true, ℕ, ◌&&◌, ◌∙◌, ◌≡◌}
+use Rattle.nit_journal.specs.StackAfter.{stack_after_call}
 use Rattle.nit_events.specs.declared.call.Call.TheVariants as call
 use Rattle.nit_events.specs.declared.call.Reply.TheVariants as reply
-use Rattle.nit_events.specs.Input.{InputState}
-use Rattle.nit_slots.specs.Slots.{SlotsModel}
 use Rattle.nit_stack.specs.declared.view.View.{View}
-use Rattle.nit_stack.specs.LabelPlaces.{is_view}
-use Rattle.nit_stack.specs.ViewNames.{IsNamedBy, name_in, name_of, views_of}
-use Rattle.nit_stack.specs.Orders.{changed, moved}
-use Rattle.nit_stack.specs.Stack.{IsRectInRange, IsSlotView, SlotView, StackModel, has_slot, is_slot, layer_of, moved_above, on_view, put_own_back, put_own_front, slot_view_in, slot_view_layer, slot_layer, with_offset, with_rect, with_title}
-use Rattle.nit_stack.proofs.ForCallers.{keeps_above, keeps_back, keeps_changed, keeps_front, views_above, views_backed, views_changed, views_fronted, has-name, name-above, name-back, name-changed, name-front}
-use Rattle.nit_config.specs.Configuration.{Configuration}
-use Rattle.nit_journal.specs.Session.{Session, accepted, answered, by_handle, first_session, refusal, unless}
-use Rattle.nit_journal.specs.State.{input_after_call, layer, session_in}
-use Rattle.nit_journal.specs.StackAfter.{after_accepted, stack_after_call}
-use Rattle.nit_journal.proofs.ForCallers.{second_none, holds_of}
-use Rattle.nit_scene.specs.SceneSession.{SceneSessionModel}
-use Rattle.nit_scene.specs.Server.{IsServed, AreServerParts, ServerModel, server_of}
 use Rattle.nit_scene.proofs.NoRefusal.{by_call_none}
 use Rattle.nit_scene.proofs.ServedCalls.{IsDone, IsRestacked, restacked, served_by}
 use Rattle.nit_scene.proofs.ServerLemmas.{layers_are}

@@ -1,19 +1,11 @@
 -- No two views have the same session and handle.
-use Rattle.std.proofs.Common.{◌≡◌, ℕ, Bool, true, false, ◌==◌, cond, List, find, Option, Some, None, refl, ap, sym, subst, ◌∙◌, arith}
-use Rattle.std.specs.Prelude.{◌&&◌}
-use Rattle.std.specs.List.{list_any}
-use Rattle.std.proofs.lemmas.Bool.{and_parts, eqb-true}
+use Rattle.nit_repaint.proofs.ForCallers.{none_left}
+use Rattle.nit_scene.proofs.Basics.{Entry, HaveOwnNames, IsNewlyNamed, State, after, and_parts, eqb-true, flip, found_passes, is_view, list_any, put_again, without}
+use Rattle.std.proofs.Common.{Bool, List, None, Option, Some, ap, cond, false, find, refl, subst, sym, true, ℕ, ◌&&◌, ◌==◌, ◌∙◌, ◌≡◌}
 use Rattle.nit_events.specs.declared.call.Call.TheVariants.{View}
 use Rattle.nit_events.specs.declared.call.Reply.TheVariants as reply
-use Rattle.nit_events.specs.declared.entry.Entry.{Entry}
 use Rattle.nit_events.specs.declared.entry.Entry.TheVariants as entry
 use Rattle.nit_stack.specs.declared.view.View.{View as ViewOf}
-use Rattle.nit_stack.specs.LabelPlaces.{is_view}
-use Rattle.nit_stack.specs.Orders.{without, put_again}
-use Rattle.nit_stack.proofs.ForCallers.{found_passes, flip}
-use Rattle.nit_journal.specs.State.{State, after}
-use Rattle.nit_repaint.proofs.ForCallers.{none_left}
-use Rattle.nit_scene.specs.ViewNames.{HaveOwnNames, IsNewlyNamed}
 use Rattle.nit_scene.proofs.FirstFound.{IsPutIn}
 use Rattle.nit_scene.proofs.Lists.{NoPair-without, NoPair-map, NoPair-put}
 use Rattle.nit_scene.proofs.StackFacts.{KeepsName, IsKept, TakesNew, entry_keeps}

@@ -1,32 +1,10 @@
 -- A server from which views go.
-use Rattle.std.proofs.Common.{◌≡◌, ℕ, ◌+◌, ◌<◌, ◌≤◌, ◌==◌, not, Bool, true, false, ◌&&◌, ◌||◌, cond, List, [], ◌∷◌, length, map, filter, set, Some, None, refl, ap, sym, ◌∙◌, subst, arith, get_or-set_same}
-use Rattle.std.specs.Prelude.{slice_set}
-use Rattle.std.specs.List.{list_any, AllByRecursion}
-use Rattle.std.specs.Option.{option_map, is_some}
-use Rattle.std.proofs.lemmas.Bool.{eqb-true}
-use Rattle.std.proofs.lemmas.List.{map-set, set-get_or, set-set}
-use Rattle.std.proofs.Math.Seq.{map-set_same}
-use Rattle.nit_events.specs.declared.event.Status.{Status}
-use Rattle.nit_events.specs.declared.event.Status.TheVariants as status
-use Rattle.nit_events.specs.declared.call.Call.TheVariants.{Close, Destroy}
-use Rattle.nit_events.specs.declared.call.Reply.TheVariants as reply
-use Rattle.nit_events.specs.Input.{InputState, forget}
-use Rattle.nit_slots.specs.Table.{slot_of, without_handle}
-use Rattle.nit_slots.specs.Slots.{SlotsModel, is_taken, without_slot}
-use Rattle.nit_stack.specs.LabelPlaces.{is_view}
-use Rattle.nit_stack.specs.Orders.{without}
-use Rattle.nit_stack.specs.Sources.{Size, no_size}
-use Rattle.nit_stack.specs.Stack.{SlotView, StackModel, has_slot, is_named, is_of_session, is_slot}
-use Rattle.nit_stack.specs.ViewNames.{name_in, name_of}
-use Rattle.nit_stack.proofs.ForCallers.{has-without, without_none, keeps_remove, keeps_size, found_passes, found_some, agree_by, views_closed, has-name, name-without, found_in_slot, map-without}
-use Rattle.nit_config.specs.Configuration.{Configuration}
-use Rattle.nit_journal.specs.Session.{Answered, Session, accepted, ended, first_session, refusal, serve}
-use Rattle.nit_journal.specs.State.{session_in}
+use Rattle.nit_scene.proofs.Basics.{AllByRecursion, Answered, AreServerParts, AreSlotsNamed, Close, Configuration, Destroy, InputState, IsPaid, IsServed, SceneSessionModel, ServerModel, Session, Size, SlotView, SlotsModel, StackModel, Status, accepted, agree_by, ended, eqb-true, first_session, forget, found_in_slot, found_passes, found_some, has-name, has-without, has_slot, is_named, is_of_session, is_slot, is_some, is_taken, is_view, keeps_remove, keeps_size, list_any, map-set, map-set_same, map-without, name-without, name_in, name_of, no_scene_session, no_size, pairs_of, refusal, scene_session_at, serve, serve_accepted, server_of, session_in, set-get_or, set-set, size_of_buffer, slice_set, slot_of, views_closed, with_ended, without, without_handle, without_slot, without_view, without_views}
+use Rattle.std.proofs.Common.{Bool, List, None, Some, [], ap, arith, cond, false, filter, get_or-set_same, length, map, not, option_map, refl, set, subst, sym, true, ℕ, ◌&&◌, ◌+◌, ◌<◌, ◌==◌, ◌||◌, ◌∙◌, ◌∷◌, ◌≡◌, ◌≤◌}
 use Rattle.nit_journal.specs.StackAfter.{stack_after_call}
-use Rattle.nit_journal.proofs.ForCallers.{serve_accepted}
-use Rattle.nit_scene.specs.SceneSession.{IsPaid, SceneSessionModel}
-use Rattle.nit_scene.specs.Server.{AreSlotsNamed, IsServed, AreServerParts, ServerModel, scene_session_at, no_scene_session, pairs_of, server_of, size_of_buffer}
-use Rattle.nit_scene.specs.ViewsTaken.{with_ended, without_view, without_views}
+use Rattle.nit_events.specs.declared.event.Status.TheVariants as status
+use Rattle.nit_events.specs.declared.call.Reply.TheVariants as reply
+use Rattle.nit_stack.proofs.ForCallers.{without_none}
 use Rattle.nit_scene.proofs.SlotLemmas.{among_less, member_set, seated_less, slots_less}
 use Rattle.nit_scene.proofs.ServerLemmas.{PaysAgain, session_of_member, stepped}
 use Rattle.nit_scene.proofs.Lists.{without_same}

@@ -1,9 +1,8 @@
 -- Calls by the pixels that they make dirty: those of one view, those of the session's views, or
 -- none.
 use Rattle.std.specs.Prelude.{◌≡◌, ℕ, Option, Some, None}
-use Rattle.nit_events.specs.declared.call.Call.{Call}
-use Rattle.nit_events.specs.declared.call.Call.TheVariants.{Place, Offset, Front, Back, Above, Destroy, Buffer, Refresh, View, Title, Take, Upgrade}
-use Rattle.nit_rect.specs.Rectangle.{Rectangle, rectangle}
+use Rattle.nit_scene.specs.Below.{Above, Back, Buffer, Call, Destroy, Front, Offset, Place, Rectangle, Refresh, Take, Title, Upgrade, rectangle}
+use Rattle.nit_events.specs.declared.call.Call.TheVariants.{View}
 
 -- a call on the session's view of this handle
 abbrev pub IsOn : ℕ → Call → Type 0

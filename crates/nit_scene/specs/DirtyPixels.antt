@@ -1,22 +1,9 @@
 -- Which pixels of the screen are loaded again for an entry of the journal.
 use Rattle.std.specs.Prelude.{ℕ, Bool, true, false, ◌&&◌, ◌||◌}
-use Rattle.std.specs.Option.{option_map_or}
-use Rattle.std.specs.List.{list_any}
-use Rattle.nit_rect.specs.declared.point.Point.{Point}
-use Rattle.nit_rect.specs.Rectangle.{Rectangle, rectangle}
-use Rattle.nit_events.specs.declared.event.Item.{Item}
+use Rattle.nit_scene.specs.Below.{Above, Back, Buffer, Call, Close, Destroy, Entry, Front, Item, Offset, Place, Point, Rectangle, Refresh, State, deliveries_of, is_accepted, is_session, is_view, is_word_in, list_any, option_map_or, owner_of, rectangle, session, source_of}
 use Rattle.nit_events.specs.declared.event.Item.TheVariants as item
-use Rattle.nit_events.specs.declared.call.Call.{Call}
-use Rattle.nit_events.specs.declared.call.Call.TheVariants.{Buffer, Place, Offset, Front, Back, Above, Destroy, Refresh, Close}
-use Rattle.nit_events.specs.declared.entry.Entry.{Entry}
 use Rattle.nit_events.specs.declared.entry.Entry.TheVariants as entry
-use Rattle.nit_events.specs.Input.{deliveries_of}
 use Rattle.nit_stack.specs.declared.view.View.{View}
-use Rattle.nit_stack.specs.LabelPlaces.{is_view}
-use Rattle.nit_stack.specs.ViewNames.{is_session}
-use Rattle.nit_journal.specs.State.{State, session, owner_of, source_of}
-use Rattle.nit_journal.specs.StackAfter.{is_accepted}
-use Rattle.nit_repaint.specs.PixelOwners.{is_word_in}
 
 -- the view that owns the pixel passes this test
 abbrev pub is_owned_by : (View → Bool) → State → Point → Bool

@@ -1,11 +1,7 @@
 -- What a frame shows of the labels of views.
 use Rattle.std.specs.Prelude.{◌≡◌, ℕ, ◌+◌, ◌*◌, ◌<◌, ◌≤◌, pos, List, length, slice_index, All, AllPairs, IfSome, IsTrue}
-use Rattle.nit_rect.specs.Intersection.{IsApart}
-use Rattle.nit_rect.specs.Rectangle.{Rectangle, rectangle}
-use Rattle.nit_glyph.specs.Pictures.{dot, picture_width, picture_height}
+use Rattle.nit_scene.specs.Below.{IsApart, Rectangle, Scenery, dot, draws_labels, ink_of, label_place_of, picture_height, picture_width, rectangle, view_text}
 use Rattle.nit_stack.specs.declared.view.View.{View}
-use Rattle.nit_overlay.specs.Look.{draws_labels}
-use Rattle.nit_overlay.specs.Frame.{Scenery, ink_of, label_place_of, view_text}
 
 -- how many columns the label of a view has
 abbrev pub label_width : Scenery → View → ℕ

@@ -1,11 +1,6 @@
 -- Where the labels of views stand, slot by slot.
 use Rattle.std.specs.Prelude.{◌≡◌, ℕ, List, All, slice_get, Option, Some, None, option_map}
-use Rattle.nit_rect.specs.declared.point.Point.{Point}
-use Rattle.nit_events.specs.declared.device.Mode.TheVariants.{Xray}
-use Rattle.nit_stack.specs.Stack.{SlotView, StackModel}
-use Rattle.nit_stack.specs.ViewNames.{views_of}
-use Rattle.nit_overlay.specs.Look.{pixel_at}
-use Rattle.nit_overlay.specs.Frame.{Scenery, label_place_of}
+use Rattle.nit_scene.specs.Below.{Point, Scenery, SlotView, StackModel, Xray, label_place_of, pixel_at, views_of}
 
 -- the views of a stack with the labels of their sessions, by which labels are placed; the mode and
 -- the focus do not matter

@@ -27,3 +27,5 @@ pub mod FrameLabels
 pub mod CallKinds
 pub mod Pixels
 pub mod SessionsAlone
+pub mod Below
+pub mod Terms

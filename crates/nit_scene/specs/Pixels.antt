@@ -1,12 +1,6 @@
 -- A frame that is kept, with what it is made by.
-use Rattle.std.specs.Prelude.{◌≡◌, ℕ, ◌*◌, ◌≤◌, ◌++◌, Bool, true, All, IsTrue, List, drop, length, map, replicate, slice_index, if◌then◌else◌}
-use Rattle.nit_word.specs.Channels.{bare_word}
-use Rattle.nit_word.specs.Inks.{IsWord}
-use Rattle.nit_stack.specs.Sources.{pixel}
-use Rattle.nit_config.specs.Configuration.{bar_rows}
-use Rattle.nit_journal.specs.State.{State}
-use Rattle.nit_overlay.specs.Look.{draws_labels}
-use Rattle.nit_overlay.specs.Frame.{frame, shown}
+use Rattle.std.specs.Prelude.{◌≡◌, ℕ, ◌*◌, ◌<◌, ◌≤◌, ◌++◌, Bool, true, false, All, IsTrue, List, drop, length, map, replicate, slice_index, vec_capacity, if◌then◌else◌}
+use Rattle.nit_scene.specs.Below.{IsWord, State, bar_rows, bare_word, draws_labels, frame, in_bar, pixel, shown}
 use Rattle.nit_scene.specs.declared.screen.pixels.Pixels.{Pixels}
 use Rattle.nit_scene.specs.Scene.{scenery_of}
 use Rattle.nit_scene.specs.Server.{ServerModel, state_of}
@@ -27,14 +21,15 @@ raw_of p = raw_in p.is_apart p.bar p.raw.items
 abbrev pub kept_frame : Pixels → List ℕ
 kept_frame p = if p.is_apart then p.frame.items else p.raw.items
 
--- A frame can be made: two words for each pixel, the first below 2^24, room to cut out every view,
--- the label of each session, room for the place of each view's label, and the number of pixels that
--- the bar has.
-pub record CanShow (s : ServerModel) (raw shown : List ℕ) (room : ℕ) (labels : List (List ℕ))
-    (places first : ℕ) : Type 0 where
+-- A frame can be made: a word below 2^24 for each pixel, room for as many words of a frame apart, of
+-- which some are there, room to cut out every view, the label of each session, room for the place of
+-- each view's label, and the number of pixels that the bar has.
+pub record CanShow (s : ServerModel) (raw : List ℕ) (reached most room : ℕ)
+    (labels : List (List ℕ)) (places first : ℕ) : Type 0 where
   pub words : All IsWord raw
   pub pixels : length raw ≡ s.config.width * s.config.height
-  pub each : length shown ≡ s.config.width * s.config.height
+  pub few : reached ≤ s.config.width * s.config.height
+  pub spare : s.config.width * s.config.height ≤ most
   pub cuts : s.stack.most ≤ room
   pub named : labels ≡ map (λ m. m.label) s.config.clients
   pub placed : s.stack.most ≤ places
@@ -45,10 +40,18 @@ pub record CanShow (s : ServerModel) (raw shown : List ℕ) (room : ℕ) (labels
 abbrev pub shown_by : State → List ℕ → ℕ → ℕ
 shown_by s raw k = shown (scenery_of s) (pixel s.config.width k) (slice_index raw k)
 
+-- below the bar each of these words is what is shown at its pixel, by the word itself
+abbrev pub ShowsBelow : State → List ℕ → Type 0
+ShowsBelow s words =
+    (k : ℕ) → k < s.config.width * s.config.height
+    → in_bar (bar_rows s.config) (pixel s.config.width k) ≡ false
+    → shown_by s words k ≡ slice_index words k
+
 -- the pixels have all that a frame of the server is made by
 abbrev pub CanShowBy : ServerModel → Pixels → Type 0
 CanShowBy s p =
-    CanShow s p.raw.items p.frame.items p.cutter.room p.labels.items (length p.places.items) p.bar
+    CanShow s p.raw.items (length p.frame.items) (vec_capacity p.frame) p.cutter.room p.labels.items
+    (length p.places.items) p.bar
 
 -- the frame is the one of the server's state and of the raw words
 abbrev pub IsFrameOf : ServerModel → Pixels → Type 0

@@ -1,13 +1,6 @@
 -- What an entry does to the screen's raw words and to the glasses of the sessions.
 use Rattle.std.specs.Prelude.{◌≡◌, ℕ, ◌*◌, ◌<◌, List, map, slice_index, slice_index_or}
-use Rattle.std.specs.List.{range_with_len}
-use Rattle.nit_word.specs.Channels.{bare_word}
-use Rattle.nit_word.specs.Inks.{IsWord, IsInked}
-use Rattle.nit_word.specs.Sight.{Sight}
-use Rattle.nit_stack.specs.Sources.{PixelSource, Bare, Black, Word, pixel}
-use Rattle.nit_events.specs.declared.entry.Entry.{Entry}
-use Rattle.nit_journal.specs.State.{State, source_of}
-use Rattle.nit_paint.specs.Repaint.{Repainted}
+use Rattle.nit_scene.specs.Below.{Bare, Black, Entry, IsInked, IsWord, PixelSource, Repainted, Sight, State, Word, bare_word, pixel, range_with_len, source_of}
 pub use Rattle.nit_repaint.specs.Glasses.{glass_in, glasses_of_call}
 use Rattle.nit_scene.specs.DirtyPixels.{dirty}
 

@@ -1,10 +1,6 @@
 -- What contracts see of a scene, and what holds of it.
 use Rattle.std.specs.Prelude.{◌≡◌, ℕ, ◌+◌, ◌*◌, ◌≤◌, List, length, map}
-use Rattle.nit_events.specs.declared.entry.Entry.{Entry}
-use Rattle.nit_config.specs.Configuration.{Configuration, bar_rows}
-use Rattle.nit_overlay.specs.Frame.{Scenery}
-use Rattle.nit_journal.specs.Replay.{IsLegal, replay, shots}
-use Rattle.nit_journal.specs.State.{State, session_in}
+use Rattle.nit_scene.specs.Below.{Configuration, Entry, IsLegal, Scenery, State, bar_rows, replay, session_in, shots}
 use Rattle.nit_scene.specs.RawWords.{AreRaw}
 use Rattle.nit_scene.specs.Server.{ServerModel, state_of}
 

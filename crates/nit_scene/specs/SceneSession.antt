@@ -1,10 +1,6 @@
 -- One session as the scene keeps it: the machine of the session, and the slots of its views.
 use Rattle.std.specs.Prelude.{ℕ, ◌≡◌, ◌+◌, ◌*◌, ◌/◌, ◌≤◌, min, List, length, map}
-use Rattle.nit_events.specs.declared.event.Event.{Event}
-use Rattle.nit_events.specs.declared.event.Status.{Status}
-use Rattle.nit_slots.specs.Account.{AccountModel}
-use Rattle.nit_slots.specs.Table.{TableModel}
-use Rattle.nit_journal.specs.Session.{Session}
+use Rattle.nit_scene.specs.Below.{AccountModel, Event, Session, Status, TableModel, most_side, most_units}
 
 -- the machine of a session; its views, each as its handle and its slot; and the most views that it
 -- has slots for
@@ -32,7 +28,7 @@ session_of_parts account table status w h queue lost =
 -- 8388608 together
 pub record IsPaid (s : Session) : Type 0 where
   pub used : 256 * length s.handles + 8 * (s.bw * s.bh) ≤ s.donation
-  pub bounded : s.donation + s.reserve ≤ 8388608
+  pub bounded : s.donation + s.reserve ≤ most_units
 
 -- The account counts the views of the table and the words of the buffer, whose sides are at most
 -- 4096; and there are as many places for views as the donation and the reserve may ever pay for, at
@@ -40,5 +36,5 @@ pub record IsPaid (s : Session) : Type 0 where
 pub record IsSceneSession (account : AccountModel) (table : TableModel) (w h : ℕ) : Type 0 where
   pub views : account.views ≡ length table.pairs
   pub words : account.words ≡ w * h
-  pub sides : (w ≤ 4096) × (h ≤ 4096)
+  pub sides : (w ≤ most_side) × (h ≤ most_side)
   pub most : table.most ≡ min 64 ((account.donation + account.reserve) / 256)

@@ -1,8 +1,6 @@
 -- What contracts see of a screen, and what holds of it.
 use Rattle.std.specs.Prelude.{◌≡◌, ℕ, ◌<◌, List, length}
-use Rattle.nit_word.specs.Sight.{Sight}
-use Rattle.nit_slots.specs.Account.{table_size}
-use Rattle.nit_config.specs.Configuration.{Configuration, member}
+use Rattle.nit_scene.specs.Below.{Configuration, Sight, member, table_size}
 use Rattle.nit_scene.specs.declared.screen.pixels.Pixels.{Pixels}
 use Rattle.nit_scene.specs.Pixels.{ArePixels}
 use Rattle.nit_scene.specs.RawWords.{glass_in}

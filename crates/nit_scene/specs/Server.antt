@@ -1,21 +1,8 @@
 -- All sessions and their views, without the pixels: what contracts see of a server, and what holds
 -- of it.
 use Rattle.std.specs.Prelude.{◌≡◌, ℕ, ◌+◌, ◌*◌, ◌<◌, ◌≤◌, List, [], length, map, sum, slice_index_or, Some}
-use Rattle.nit_events.specs.declared.call.Call.{Call}
-use Rattle.nit_events.specs.declared.call.Reply.{Reply}
+use Rattle.nit_scene.specs.Below.{AllOfInput, Call, Configuration, InputState, IsConfiguration, IsNamedBy, IsStack, MeanSame, Reply, Session, Size, SlotView, SlotsModel, StackModel, State, after, bar_rows, first_session, has_slot, is_taken, member, name_in, room, serve, session, session_in, slot_of, table_size, view_slots, views_of}
 use Rattle.nit_events.specs.declared.entry.Entry.TheVariants as entry
-use Rattle.nit_events.specs.Input.{InputState}
-use Rattle.nit_focus.specs.Focus.{AllOfInput}
-use Rattle.nit_slots.specs.Account.{room, table_size, view_slots}
-use Rattle.nit_slots.specs.Table.{slot_of}
-use Rattle.nit_slots.specs.Slots.{SlotsModel, is_taken}
-use Rattle.nit_stack.specs.Sources.{Size}
-use Rattle.nit_stack.specs.ViewNames.{IsNamedBy, MeanSame, name_in, views_of}
-use Rattle.nit_stack.specs.Stack.{IsStack, SlotView, StackModel, has_slot}
-use Rattle.nit_config.specs.Configuration.{Configuration, bar_rows, member}
-use Rattle.nit_config.specs.ConfigurationRanges.{IsConfiguration}
-use Rattle.nit_journal.specs.Session.{Session, first_session, serve}
-use Rattle.nit_journal.specs.State.{State, after, session, session_in}
 use Rattle.nit_scene.specs.SceneSession.{IsPaid, SceneSessionModel}
 
 -- the configuration, the machine of each session, all views with their slots, and the state of the

@@ -1,16 +1,7 @@
 -- Where the user's input goes at a server.
 use Rattle.std.specs.Prelude.{◌≡◌, ℕ, ◌+◌, ◌<◌, ◌^◌, false, List, [], length, slice_index_or, Option, Some, None, option_map}
-use Rattle.nit_events.specs.declared.device.Device.{Device}
-use Rattle.nit_events.specs.declared.event.Delivery.{Delivery}
-use Rattle.nit_events.specs.declared.event.Item.{Item}
+use Rattle.nit_scene.specs.Below.{AllOfInput, Configuration, Delivery, Device, FocusModel, Item, Member, Routing, bar_rows, delivered, member, owner, point, pointer_after, route, session_in, views_of}
 use Rattle.nit_events.specs.declared.event.Item.TheVariants as item
-use Rattle.nit_events.specs.Input.{Routing, pointer_after}
-use Rattle.nit_focus.specs.Focus.{AllOfInput, FocusModel}
-use Rattle.nit_stack.specs.ViewNames.{views_of}
-use Rattle.nit_stack.specs.Sources.{owner, point}
-use Rattle.nit_config.specs.declared.config.Member.{Member}
-use Rattle.nit_config.specs.Configuration.{Configuration, bar_rows, member}
-use Rattle.nit_journal.specs.State.{delivered, route, session_in}
 use Rattle.nit_scene.specs.Server.{ServerModel}
 
 -- the screen and the settings are those of the configuration, and no session is known but those of

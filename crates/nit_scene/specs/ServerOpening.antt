@@ -1,11 +1,5 @@
 -- A server before its first entry.
-use Rattle.std.specs.Prelude.{ℕ, List, [], length, map, replicate, sum}
-use Rattle.nit_slots.specs.Account.{view_slots}
-use Rattle.nit_stack.specs.Sources.{no_size}
-use Rattle.nit_stack.specs.Stack.{StackModel}
-use Rattle.nit_config.specs.declared.config.Member.{Member}
-use Rattle.nit_config.specs.Configuration.{Configuration, bar_rows}
-use Rattle.nit_journal.specs.Session.{first_session}
+use Rattle.nit_scene.specs.Below.{Configuration, List, Member, StackModel, [], bar_rows, first_session, length, map, no_size, replicate, sum, view_slots, ℕ}
 use Rattle.nit_scene.specs.SceneSession.{SceneSessionModel}
 
 -- a client's session as it opens: it has no view yet

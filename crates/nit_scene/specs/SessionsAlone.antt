@@ -1,11 +1,8 @@
 -- What a journal says of each session by itself.
 use Rattle.std.specs.Prelude.{◌≡◌, ℕ, ◌<◌, ◌++◌, ◌∷◌, List, length}
-use Rattle.nit_events.specs.declared.entry.Entry.{Entry}
+use Rattle.nit_scene.specs.Below.{Configuration, Entry, Gets, IsDown, Observation, alone, member, projection, replies_to}
 use Rattle.nit_events.specs.declared.event.Event.TheVariants as event
 use Rattle.nit_events.specs.declared.event.Item.TheVariants as item
-use Rattle.nit_config.specs.Configuration.{Configuration, member}
-use Rattle.nit_journal.specs.Presses.{IsDown}
-use Rattle.nit_journal.specs.Projection.{Gets, Observation, alone, projection, replies_to}
 
 -- each session got the replies of a machine that serves it alone
 abbrev pub AreAlone : Configuration → List Entry → Type 0

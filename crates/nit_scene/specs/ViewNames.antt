@@ -1,14 +1,10 @@
 -- Views that are told apart by their sessions and handles.
 use Rattle.std.specs.Prelude.{◌≡◌, ◌<◌, false, List, All}
-use Rattle.std.specs.List.{list_any}
+use Rattle.nit_scene.specs.Below.{Entry, NoPair, State, is_view, list_any, session}
 use Rattle.nit_events.specs.declared.call.Call.TheVariants as call
 use Rattle.nit_events.specs.declared.call.Reply.TheVariants as reply
-use Rattle.nit_events.specs.declared.entry.Entry.{Entry}
 use Rattle.nit_events.specs.declared.entry.Entry.TheVariants as entry
 use Rattle.nit_stack.specs.declared.view.View.{View}
-use Rattle.nit_stack.specs.LabelPlaces.{is_view}
-use Rattle.nit_stack.specs.Stack.{NoPair}
-use Rattle.nit_journal.specs.State.{State, session}
 
 -- no two views of the list have the same session and handle
 abbrev pub HaveOwnNames : List View → Type 0

@@ -1,13 +1,5 @@
 -- What is left of a server when views go.
-use Rattle.std.specs.Prelude.{ℕ, [], slice_set}
-use Rattle.nit_events.specs.declared.event.Status.{Status}
-use Rattle.nit_events.specs.declared.call.Call.TheVariants.{Destroy}
-use Rattle.nit_events.specs.Input.{forget}
-use Rattle.nit_stack.specs.Orders.{without}
-use Rattle.nit_stack.specs.Sources.{no_size}
-use Rattle.nit_stack.specs.Stack.{is_named, is_of_session}
-use Rattle.nit_journal.specs.Session.{accepted, ended}
-use Rattle.nit_journal.specs.State.{session_in}
+use Rattle.nit_scene.specs.Below.{Destroy, Status, [], accepted, ended, forget, is_named, is_of_session, no_size, session_in, slice_set, without, ℕ}
 use Rattle.nit_scene.specs.Server.{ServerModel}
 
 -- the server without the view of this session and handle

@@ -2,27 +2,7 @@
 //! labels.
 
 ghost use Rattle.std.specs.Prelude.{◌≡◌, ℕ, List, None, Some, false};
-ghost use Rattle.nit_events.specs.declared.call.Call.{Call};
-ghost use Rattle.nit_events.specs.declared.call.Reply.{Reply};
-ghost use Rattle.nit_journal.specs.Session.{refusal};
-ghost use Rattle.nit_journal.specs.State.{session};
-ghost use Rattle.nit_stack.specs.ViewNames.{IsNamedBy};
-ghost use Rattle.nit_stack.specs.Stack.{SlotView, place_of, slot_view_in};
-ghost use Rattle.nit_repaint.specs.ViewChange.{IsViewChange};
-ghost use Rattle.nit_scene.specs.CallKinds.{IsOn};
-ghost use Rattle.nit_scene.specs.Server.{IsServed, IsServer, ServerModel, state_of};
-ghost use Rattle.nit_rect.specs.declared.point.Point.{Point};
-ghost use Rattle.nit_word.specs.Sight.{Sight};
-ghost use Rattle.nit_events.specs.declared.entry.Entry.{Entry};
-ghost use Rattle.nit_config.specs.Configuration.{Configuration};
-ghost use Rattle.nit_journal.specs.State.{State, source_of, after};
-ghost use Rattle.nit_journal.specs.Replay.{Agrees, IsLegal, replay};
-ghost use Rattle.nit_overlay.specs.Frame.{frame};
-ghost use Rattle.nit_scene.specs.DirtyPixels.{dirty};
-ghost use Rattle.nit_scene.specs.FrameLabels.{ShowsLabels};
-ghost use Rattle.nit_scene.specs.Scene.{scenery_of};
-ghost use Rattle.nit_scene.specs.RawWords.{Painted, AreRaw, AreInked};
-ghost use Rattle.nit_scene.specs.ViewNames.{HaveOwnNames, IsNewlyNamed, AreBelowNext};
+ghost use Rattle.nit_scene.specs.Terms.{Agrees, AreBelowNext, AreInked, AreRaw, Call, Configuration, Entry, HaveOwnNames, IsLegal, IsNamedBy, IsNewlyNamed, IsOn, IsServed, IsServer, IsViewChange, Painted, Point, Reply, ServerModel, ShowsLabels, Sight, SlotView, State, after, dirty, frame, place_of, refusal, replay, scenery_of, session, slot_view_in, source_of, state_of};
 
 use nit_journal::laws::deliveries_fit;
 

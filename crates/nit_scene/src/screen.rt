@@ -1,10 +1,7 @@
 //! The screen with all that it shows.
 
 ghost use Rattle.std.specs.Prelude.{◌≡◌, ◌<◌, All, length, ℕ, ◌*◌, map};
-ghost use Rattle.nit_word.specs.Inks.{IsWord};
-ghost use Rattle.nit_scene.specs.RawWords.{glass_in};
-ghost use Rattle.nit_scene.specs.Server.{IsServer};
-ghost use Rattle.nit_scene.specs.Screen.{IsGlassOf};
+ghost use Rattle.nit_scene.specs.Terms.{IsGlassOf, IsServer, IsWord, glass_in};
 
 mod calls;
 mod frames;

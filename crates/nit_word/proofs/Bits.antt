@@ -1,11 +1,7 @@
 -- What the operations on bits do to the channels of a word.
-use Rattle.std.proofs.Common.{suc, ◌≡◌, ◌∙◌, ℕ, ◌+◌, ◌*◌, ◌/◌, ◌%◌, ◌^◌, ◌<◌, List, [], ◌∷◌, All, length, map, replicate, refl, ap, ap₂, arith, bit_and, bit_or}
-use Rattle.std.proofs.lemmas.Nat.{and_block, and_mask, or_comm, or_shifted}
-use Rattle.std.proofs.lemmas.List.{length-map}
-use Rattle.std.proofs.lemmas.Simd.{zip2_splat, map-map}
+use Rattle.std.proofs.Common.{All, List, [], ap, ap₂, arith, bit_and, bit_or, length, map, refl, replicate, suc, ℕ, ◌%◌, ◌*◌, ◌+◌, ◌/◌, ◌<◌, ◌^◌, ◌∙◌, ◌∷◌, ◌≡◌}
+use Rattle.nit_word.proofs.Basics.{IsWord, and_block, and_mask, dim, length-map, map-map, or_comm, or_shifted, tint, zip2_splat}
 use lib.Lanes.{zip2}
-use Rattle.nit_word.specs.Channels.{dim, tint}
-use Rattle.nit_word.specs.Inks.{IsWord}
 
 -- the seven low bits of each channel
 masked : (r g b : ℕ) → g < 256 → b < 256 → bit_and (r * 65536 + (g * 256 + b)) 0x7f7f7f ≡ r % 128 * 65536 + (g % 128 * 256 + b % 128)

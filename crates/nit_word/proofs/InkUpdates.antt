@@ -1,14 +1,8 @@
 -- Words that stay 0 or in an ink where some are set.
-use Rattle.std.proofs.Common.{◌≡◌, ◌∙◌, ℕ, ◌-◌, ◌<◌, ◌%◌, ◌==◌, Bool, true, false, cond, List, All, length, get_or, Some, None, refl, ap, ap₂, sym, subst, arith}
+use Rattle.std.proofs.Common.{All, Bool, List, None, Some, ap, ap₂, arith, cond, false, get_or, length, refl, subst, sym, true, ℕ, ◌%◌, ◌-◌, ◌<◌, ◌==◌, ◌∙◌, ◌≡◌}
+use Rattle.nit_word.proofs.Basics.{IsInked, Sight, filled_up, get_or-eq_default, get_or_default, in_turn, inked_sight, is_between, set_where, slice_index, with_words, zeros}
 use mathlib.Core.Logic.{dite}
 use native.Mathlib.Decide.{dec_lt}
-use Rattle.std.specs.Prelude.{slice_index}
-use Rattle.std.proofs.Math.ListN.{get_or-eq_default}
-use Rattle.std.proofs.lemmas.List.{get_or_default}
-use Rattle.nit_word.specs.Inks.{IsInked}
-use Rattle.nit_word.specs.Updates.{set_where, is_between, in_turn, with_words}
-use Rattle.nit_word.specs.Sight.{Sight, inked_sight}
-use Rattle.nit_word.specs.Zeros.{filled_up, zeros}
 use Rattle.nit_word.proofs.ReachedWords.{filled_at}
 use Rattle.nit_word.proofs.UpdateLemmas.{set_long, word_at}
 use Rattle.nit_word.proofs.ZeroLemmas.{zero_inked}

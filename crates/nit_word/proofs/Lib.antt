@@ -9,3 +9,5 @@ pub mod SideBySide
 pub mod ZeroLemmas
 pub mod RowPlaces
 pub mod ForCallers
+pub mod Basics
+pub mod Lemmas

@@ -1,11 +1,8 @@
 -- What loads do to a sight, and words that are loaded side by side.
-use Rattle.std.proofs.Common.{◌≡◌, ◌∙◌, ℕ, ◌+◌, ◌<◌, ◌≤◌, List, [], ◌∷◌, ◌++◌, length, take, set, get_or, Option, Some, None, refl, ap, sym, subst, arith, append_assoc, append-nil, get_or-set_same, get_or-set_other}
+use Rattle.std.proofs.Common.{List, None, Option, Some, [], ap, append-nil, append_assoc, arith, get_or, get_or-set_other, get_or-set_same, length, refl, set, subst, sym, take, ℕ, ◌++◌, ◌+◌, ◌<◌, ◌∙◌, ◌∷◌, ◌≡◌, ◌≤◌}
+use Rattle.nit_word.proofs.Basics.{IsLoaded, IsLoadedRow, Sight, enumerate_from, length-take-le, option_map, seen, take_all, take_more_set}
 use mathlib.Core.Logic.{dite}
 use native.Mathlib.Decide.{ℕ_discrete}
-use Rattle.std.specs.List.{enumerate_from}
-use Rattle.std.specs.Option.{option_map}
-use Rattle.std.proofs.lemmas.List.{length-take-le, take_all, take_more_set}
-use Rattle.nit_word.specs.Sight.{Sight, IsLoaded, IsLoadedRow, seen}
 
 -- no load, and one list of loads after another
 pub seen_none : (s : Sight) → s ≡ seen s []

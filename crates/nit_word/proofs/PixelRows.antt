@@ -1,9 +1,6 @@
 -- A row of which the words below a place are changed by a function, and the others are as they were.
-use Rattle.std.proofs.Common.{◌≡◌, ◌∙◌, ℕ, ◌+◌, ◌≤◌, ◌<◌, ◌++◌, List, All, length, map, take, drop, get_or, slice_set, ap, ap₂, sym, arith, append_assoc, take-add}
-use Rattle.std.proofs.lemmas.List.{append-nil, drop-drop, drop_all, drop_at, get_or_default, length-map, length-take-le, map-append, take_all, take_at}
-use Rattle.std.proofs.lemmas.List.Edits.{map_over_more}
-use Rattle.std.proofs.lemmas.List.Elements.{All-drop}
-use Rattle.std.proofs.lemmas.Simd.{length-chunk, put_chunk_is}
+use Rattle.std.proofs.Common.{All, List, ap, append-nil, append_assoc, ap₂, arith, drop, get_or, length, map, slice_set, sym, take, take-add, ℕ, ◌++◌, ◌+◌, ◌<◌, ◌∙◌, ◌≡◌, ◌≤◌}
+use Rattle.nit_word.proofs.Basics.{All-drop, drop-drop, drop_all, drop_at, get_or_default, length-chunk, length-map, length-take-le, map-append, map_over_more, put_chunk_is, take_all, take_at}
 use lib.Lanes.{chunk, put_chunk}
 
 pub record MappedTo (f : ℕ → ℕ) (old : List ℕ) (at : ℕ) (now : List ℕ) : Type 0 where

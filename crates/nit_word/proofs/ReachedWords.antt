@@ -1,14 +1,11 @@
 -- Words that are kept as far as they were reached, and are 0 behind.
-use Rattle.std.proofs.Common.{◌≡◌, ◌∙◌, ℕ, ◌+◌, ◌-◌, ◌≤◌, ◌<◌, Bool, false, cond, List, ◌++◌, length, take, replicate, refl, ap, sym, arith, append_assoc, length-set}
+use Rattle.std.proofs.Common.{Bool, List, ap, append-nil, append_assoc, arith, cond, false, length, length-set, min, refl, replicate, slice_set, sym, take, true, ℕ, ◌++◌, ◌+◌, ◌-◌, ◌<◌, ◌∙◌, ◌≡◌, ◌≤◌}
+use Rattle.nit_word.proofs.Basics.{false≢true, filled_up, get_or-append_right, get_or-eq_default, get_or_append_left, is_between, length-append, nat_tests, set-append_left, set_where, slice_index, take_all, take_at}
+use Rattle.nit_word.specs.Zeros.{zeros}
 use mathlib.Core.Logic.{dite}
 use native.Mathlib.Decide.{dec_lt}
-use Rattle.std.specs.Prelude.{slice_index, slice_set}
-use Rattle.std.proofs.Math.ListN.{get_or-eq_default}
-use Rattle.std.proofs.lemmas.Bool.Decides.{nat_tests}
-use Rattle.std.proofs.lemmas.List.{append-nil, get_or_append_left, get_or-append_right, length-append, set-append_left, take_all, take_at}
-use Rattle.nit_word.specs.Updates.{set_where, is_between}
-use Rattle.nit_word.specs.Zeros.{filled_up, zeros}
-use Rattle.nit_word.proofs.UpdateLemmas.{are_set, set_long, word_at}
+use Rattle.nit_word.proofs.UpdateLemmas.{are_set, none_set, set_long, word_at}
+use Rattle.nit_word.proofs.SideBySide.{some_copied}
 use Rattle.nit_word.proofs.ZeroLemmas.{length-zeros, zero_at, zeros_joined}
 
 -- ---- their number, and the word of each number
@@ -41,16 +38,21 @@ same_filled size count words more room few is =
     ap (λ (ws : List ℕ). ws ++ zeros (size - length more)) is ∙ append_assoc words (zeros (count - length words)) (zeros (size - length more))
     ∙ ap (λ (ws : List ℕ). words ++ ws) (zeros_joined (count - length words) (size - length more) ∙ ap (λ n. zeros n) (omega (arith, long)))
 
--- words that are set as far as they are reached
-set_filled : (p : ℕ → Bool) (c : ℕ → ℕ) (size : ℕ) (words : List ℕ) → length words ≤ size → ((k : ℕ) → length words ≤ k → p k ≡ false) → filled_up size (set_where p c words) ≡ set_where p c (filled_up size words)
+-- words that are set as far as they are reached, where those behind are set to 0 if at all
+set_filled : (p : ℕ → Bool) (c : ℕ → ℕ) (size : ℕ) (words : List ℕ) → length words ≤ size → ((k : ℕ) → length words ≤ k → p k ≡ true → c k ≡ 0) → filled_up size (set_where p c words) ≡ set_where p c (filled_up size words)
 set_filled p c size words few none =
     let long = set_long p c words in
     are_set p c (filled_up size words) (filled_up size (set_where p c words)) (filled_long size (set_where p c words) (omega (arith, long)) ∙ sym (filled_long size words few))
     (λ k inside. filled_at size (set_where p c words) k ∙ dite (dec_lt k (length words))
     (λ reached. word_at p c words k reached ∙ ap (λ (w : ℕ). cond (p k) (c k) w) (sym (filled_at size words k)))
     (λ behind.
-    let outside = none k (omega arith) in
-    rw outside (get_or-eq_default (set_where p c words) 0 (omega (arith, long)) ∙ sym (get_or-eq_default words 0 (omega arith)) ∙ sym (filled_at size words k))))
+    let past : length words ≤ k = omega arith in
+    let here : slice_index (filled_up size words) k ≡ 0 = filled_at size words k ∙ get_or-eq_default words 0 past in
+    get_or-eq_default (set_where p c words) 0 (omega (arith, long)) ∙ sym (zero_both (p k) (c k) _ (none k past) here)))
+  where
+    zero_both : (b : Bool) (x y : ℕ) → (b ≡ true → x ≡ 0) → y ≡ 0 → cond b x y ≡ 0
+    zero_both true x y is other = is refl
+    zero_both false x y is other = other
 
 -- what is kept of the words where some were set after enough were reached
 pub record IsSetIn (size : ℕ) (p : ℕ → Bool) (c : ℕ → ℕ) (words back : List ℕ) : Type 0 where
@@ -64,13 +66,58 @@ set_in p c size count n whole words more now rest all few room reached is counte
     let enough = reached_long count words more reached in
     let back : take n (now ++ rest) ≡ now = take_at now rest n long in record {
       few = omega (arith, ap length back, long, counted, enough);
-      all = ap (filled_up size) (back ∙ is) ∙ set_filled p c size more (omega (arith, enough)) (λ k behind. none k (omega (arith, enough, behind)))
+      all = ap (filled_up size) (back ∙ is) ∙ set_filled p c size more (omega (arith, enough)) (λ k behind set. absurd (false≢true (sym (none k (omega (arith, enough, behind))) ∙ set)))
           ∙ ap (set_where p c) (same_filled size count words more room few reached ∙ all);
     }
+
+-- what is kept of them where those from one number to before another are 0
+pub wiped_in : (from to size : ℕ) (whole words back : List ℕ) → filled_up size words ≡ whole → length words ≤ size → back ≡ set_where (is_between from to) (λ n. 0) words → IsSetIn size (is_between from to) (λ n. 0) whole back
+wiped_in from to size whole words back all few is =
+    let long = set_long (is_between from to) (λ n. 0) words in record {
+      few = omega (arith, ap length is, long, few);
+      all = ap (filled_up size) is ∙ set_filled (is_between from to) (λ n. 0) size words few (λ k behind set. refl) ∙ ap (set_where (is_between from to) (λ n. 0)) all;
+    }
+
+-- words that are set up to the last one
+pub set_within : (from to : ℕ) (words : List ℕ) → set_where (is_between from (min to (length words))) (λ n. 0) words ≡ set_where (is_between from to) (λ n. 0) words
+set_within from to words =
+    let end : ℕ = min to (length words) in
+    are_set (is_between from to) (λ n. 0) words (set_where (is_between from end) (λ n. 0) words) (set_long (is_between from end) (λ n. 0) words)
+    (λ k inside. word_at (is_between from end) (λ n. 0) words k inside ∙ ap (λ (b : Bool). cond b 0 (slice_index words k)) (same k inside))
+  where
+    same : (k : ℕ) → k < length words → is_between from (min to (length words)) k ≡ is_between from to k
+    same k inside = grind (arith, nat_tests)
+
+-- the kept ones, after those up to the last one were set
+pub wiped : (from to n end : ℕ) (words there now rest : List ℕ) → n ≡ length words → end ≡ min to n → there ≡ words → now ≡ set_where (is_between from end) (λ n. 0) there → take n (now ++ rest) ≡ set_where (is_between from to) (λ n. 0) words
+wiped from to n end words there now rest counted least same is =
+    let long : length now ≡ n = ap length is ∙ set_long (is_between from end) (λ n. 0) there ∙ ap length same ∙ sym counted in
+    take_at now rest n long ∙ is ∙ ap (set_where (is_between from end) (λ n. 0)) same
+    ∙ ap (λ (e : ℕ). set_where (is_between from e) (λ n. 0) words) (least ∙ ap (min to) counted) ∙ set_within from to words
+
+-- where none of them is to be set
+pub none_wiped : (from to n end : ℕ) (words : List ℕ) → n ≡ length words → end ≡ min to n → end ≤ from → words ≡ set_where (is_between from to) (λ n. 0) words
+none_wiped from to n end words counted least none =
+    sym (none_set (is_between from (min to (length words))) (λ n. 0) words (λ k. outside k (omega (arith, least, counted, none)))) ∙ set_within from to words
+  where
+    outside : (k : ℕ) → min to (length words) ≤ from → is_between from (min to (length words)) k ≡ false
+    outside k few = grind (arith, nat_tests)
 
 -- no word from the last one on is set
 pub none_past : (from to k : ℕ) → to ≤ k → is_between from to k ≡ false
 none_past from to k past = grind (arith, nat_tests)
+
+-- what is kept of them where some were copied, as far as the others are kept, and those behind are 0
+pub copied_in : (from to end n size : ℕ) (others whole words more now rest back : List ℕ) → filled_up size words ≡ whole → length words ≤ size → from ≤ to → to ≤ size → from ≤ length others → end ≡ min to (length others)
+    → more ≡ words ++ zeros (end - length words) → now ≡ set_where (is_between from end) (slice_index others) more → n ≡ length more → back ≡ set_where (is_between end to) (λ n. 0) (take n (now ++ rest))
+    → IsSetIn size (is_between from to) (slice_index others) whole back
+copied_in from to end n size others whole words more now rest back all few order room known least reached is counted last =
+    let fits : end ≤ size = omega (arith, least, room) in
+    let first = set_in (is_between from end) (slice_index others) size end n whole words more now rest all few fits reached is counted (none_past from end) in
+    let both = wiped_in end to size (set_where (is_between from end) (slice_index others) whole) (take n (now ++ rest)) back first.all first.few last in record {
+      few = both.few;
+      all = both.all ∙ ap (λ (e : ℕ). set_where (is_between e to) (λ n. 0) (set_where (is_between from e) (slice_index others) whole)) least ∙ some_copied from to others whole order known;
+    }
 
 -- one word that is set
 pub one_in : (size i w : ℕ) (whole words more : List ℕ) → filled_up size words ≡ whole → length words ≤ size → i < size → more ≡ words ++ zeros (i + 1 - length words)

@@ -1,7 +1,6 @@
 -- Places among rows, one behind the other: the column and the row of each.
-use Rattle.std.proofs.Common.{ℕ, ◌+◌, ◌*◌, ◌/◌, ◌%◌, ◌<◌, ◌≤◌, arith}
-use Rattle.std.proofs.Math.Nat.{div-lt_iff_lt-mul, mul-le-mul_right}
-use Rattle.std.proofs.lemmas.Nat.{div-add-mod', mod_below}
+use Rattle.std.proofs.Common.{arith, ℕ, ◌%◌, ◌*◌, ◌+◌, ◌/◌, ◌<◌, ◌≤◌}
+use Rattle.nit_word.proofs.Basics.{div-add-mod', div-lt_iff_lt-mul, mod_below, mul-le-mul_right}
 
 -- a place among the rows is in one of the columns and in one of the rows
 pub column_and_row : (width height k : ℕ) → k < width * height → (k % width < width) × (k / width < height)

@@ -1,13 +1,9 @@
 -- Words side by side that were set.
-use Rattle.std.proofs.Common.{◌≡◌, ◌≢◌, ◌∙◌, ℕ, ◌+◌, ◌-◌, ◌%◌, ◌==◌, ◌≤◌, ◌<◌, true, false, cond, List, length, get_or, take, drop, replicate, ◌++◌, refl, ap, arith, ◌||◌, min, sym}
+use Rattle.std.proofs.Common.{List, ap, arith, cond, drop, false, get_or, length, min, refl, replicate, sym, take, true, ℕ, ◌%◌, ◌++◌, ◌+◌, ◌-◌, ◌<◌, ◌==◌, ◌||◌, ◌∙◌, ◌≡◌, ◌≢◌, ◌≤◌}
+use Rattle.nit_word.proofs.Basics.{get_or-append_right, get_or-drop, get_or-eq_default, get_or-replicate, get_or-take, get_or_append_left, in_turn, is_between, length-append, length-drop, length-replicate, length-take-le, nat_tests, set_where, slice_index}
 use mathlib.Core.Logic.{dite}
 use native.Mathlib.Decide.{dec_lt}
-use Rattle.std.specs.Prelude.{slice_index}
-use Rattle.std.proofs.Math.ListN.{get_or-eq_default}
-use Rattle.std.proofs.lemmas.Bool.Decides.{nat_tests}
-use Rattle.std.proofs.lemmas.List.{get_or_append_left, get_or-append_right, get_or-take, get_or-drop, get_or-replicate, length-append, length-drop, length-replicate, length-take-le}
 use borrow.Rule.Slice.PartMut.{mid_of, put_mid}
-use Rattle.nit_word.specs.Updates.{set_where, is_between, in_turn}
 use Rattle.nit_word.proofs.UpdateLemmas.{are_set, both_set, same_colours, set_long, word_at}
 
 pub put_long : (from n : ℕ) (words part : List ℕ) → from + n ≤ length words → length part ≡ n → length (put_mid from n words part) ≡ length words

@@ -1,12 +1,8 @@
 -- Words of which those that pass a test were set to their colours.
-use Rattle.std.proofs.Common.{◌≡◌, ◌≢◌, ◌∙◌, ℕ, ◌+◌, ◌<◌, ◌≤◌, ◌||◌, Bool, true, false, cond, List, length, get_or, set, refl, ap, sym, arith, zero-add, get_or-set_same, get_or-set_other, length-set}
+use Rattle.std.proofs.Common.{Bool, List, ap, arith, cond, false, get_or, get_or-set_other, get_or-set_same, length, length-set, refl, set, sym, true, zero-add, ℕ, ◌+◌, ◌<◌, ◌||◌, ◌∙◌, ◌≡◌, ◌≢◌, ◌≤◌}
+use Rattle.nit_word.proofs.Basics.{enumerate_from, ext_get_or, get_or-enumerate_from, get_or-map, is_between, length-enumerate_from, length-map, nat_tests, set_where}
 use mathlib.Core.Logic.{dite}
 use native.Mathlib.Decide.{ℕ_discrete}
-use Rattle.std.specs.List.{enumerate_from}
-use Rattle.std.proofs.lemmas.List.{ext_get_or, get_or-map, length-map}
-use Rattle.std.proofs.lemmas.List.FromFn.{get_or-enumerate_from, length-enumerate_from}
-use Rattle.std.proofs.lemmas.Bool.Decides.{nat_tests}
-use Rattle.nit_word.specs.Updates.{set_where, is_between}
 
 pub set_long : (p : ℕ → Bool) (c : ℕ → ℕ) (words : List ℕ) → length (set_where p c words) ≡ length words
 set_long p c words = length-map (enumerate_from 0 words) (λ e. cond (p e.0) (c e.0) e.1) ∙ length-enumerate_from 0 words

@@ -1,11 +1,6 @@
 -- Words that are 0 or in an ink of words.
-use Rattle.std.proofs.Common.{◌+◌, ◌≤◌, ◌≡◌, ℕ, ◌==◌, ◌<◌, Bool, true, false, List, All, length, get_or, refl, arith}
-use Rattle.std.specs.Prelude.{slice_index}
-use Rattle.std.specs.List.{list_any}
-use Rattle.std.proofs.lemmas.List.Folds.{Any-from_list_any}
-use Rattle.std.proofs.lemmas.Bool.Decides.{nat_tests}
-use Rattle.nit_word.specs.Inks.{IsInked, IsWord}
-use Rattle.nit_word.specs.Sight.{IsLoaded, IsLoadedRow, inked_sight}
+use Rattle.std.proofs.Common.{All, Bool, List, arith, false, get_or, length, refl, true, ℕ, ◌+◌, ◌<◌, ◌==◌, ◌≡◌, ◌≤◌}
+use Rattle.nit_word.proofs.Basics.{Any-from_list_any, IsInked, IsLoaded, IsLoadedRow, IsWord, inked_sight, list_any, nat_tests, slice_index}
 
 among_fits : (ink : List ℕ) (w : ℕ) → All IsWord ink → list_any (λ y. y == w) ink ≡ true → IsWord w
 among_fits ink w fit found =

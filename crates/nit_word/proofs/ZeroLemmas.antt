@@ -1,8 +1,6 @@
 -- Words that are all 0.
-use Rattle.std.proofs.Common.{◌≡◌, ◌∙◌, ℕ, zero, suc, ◌+◌, List, ◌∷◌, ◌++◌, length, replicate, refl, subst, sym, ap, arith, zero-add}
-use Rattle.std.specs.Prelude.{slice_index}
-use Rattle.std.proofs.lemmas.List.{length-replicate}
-use Rattle.nit_word.specs.Inks.{IsInked}
+use Rattle.std.proofs.Common.{List, ap, arith, length, refl, replicate, subst, suc, sym, zero, zero-add, ℕ, ◌++◌, ◌+◌, ◌∙◌, ◌∷◌, ◌≡◌}
+use Rattle.nit_word.proofs.Basics.{IsInked, length-replicate, slice_index}
 use Rattle.nit_word.specs.Zeros.{zeros}
 
 pub length-zeros : (n : ℕ) → length (zeros n) ≡ n

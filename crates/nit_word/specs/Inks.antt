@@ -1,6 +1,6 @@
 -- The words that a glass may show.
 use Rattle.std.specs.Prelude.{ℕ, ◌^◌, ◌<◌, ◌||◌, ◌==◌, Bool, IsTrue, List}
-use Rattle.std.specs.List.{list_any}
+use Rattle.nit_word.specs.Below.{list_any}
 
 -- a word has three channels of eight bits: it is below 2^24
 abbrev pub IsWord : ℕ → Type 0

@@ -3,3 +3,5 @@ pub mod Inks
 pub mod Updates
 pub mod Sight
 pub mod Zeros
+pub mod Terms
+pub mod Below

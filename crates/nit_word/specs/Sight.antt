@@ -1,6 +1,6 @@
 -- What contracts see of a glass.
 use Rattle.std.specs.Prelude.{◌≡◌, ℕ, List, [], ◌+◌, ◌<◌, ◌++◌, length, slice_index, slice_set, Option, None, Some, IfSome}
-use Rattle.std.specs.Option.{option_map}
+use Rattle.nit_word.specs.Below.{option_map}
 use Rattle.nit_word.specs.Inks.{IsInked, IsWord}
 
 -- the number of the owner, how many words there are, the ink, the words where the glass tells them,

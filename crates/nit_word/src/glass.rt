@@ -1,7 +1,6 @@
 //! What every glass promises of a load.
 ghost use Rattle.std.specs.Prelude.{◌≡◌, ◌+◌, ◌^◌, ◌<◌, ◌≤◌, [], ◌∷◌, length};
-ghost use Rattle.std.specs.List.{enumerate_from};
-ghost use Rattle.nit_word.specs.Sight.{Sight, IsLoaded, IsLoadedRow, TellsAll, seen};
+ghost use Rattle.nit_word.specs.Terms.{IsLoaded, IsLoadedRow, Sight, TellsAll, enumerate_from, seen};
 
 /// Words of one owner, to be loaded one at a time.
 pub trait Glass {

@@ -1,9 +1,6 @@
 //! A glass over words of its own that shows a fixed ink alone.
 ghost use Rattle.std.specs.Prelude.{◌≡◌, ℕ, ◌<◌, ◌≤◌, All, IfOk};
-ghost use Rattle.nit_word.specs.Inks.{IsInked, IsWord};
-ghost use Rattle.nit_word.specs.Updates.{in_turn, is_between, set_where, with_words};
-ghost use Rattle.nit_word.specs.Sight.{Sight, inked_sight, stored, told_at};
-ghost use Rattle.nit_word.specs.Zeros.{filled_up, zeros};
+ghost use Rattle.nit_word.specs.Terms.{IsInked, IsWord, Sight, filled_up, in_turn, inked_sight, is_between, set_where, stored, told_at, with_words, zeros};
 
 use crate::glass::Glass;
 use crate::words::Words;

@@ -1,7 +1,6 @@
 //! A glass over words of its own, each of which it may show.
 ghost use Rattle.std.specs.Prelude.{◌≡◌, ◌<◌, All};
-ghost use Rattle.nit_word.specs.Inks.{IsWord};
-ghost use Rattle.nit_word.specs.Sight.{Sight, plain_sight, plain_stored};
+ghost use Rattle.nit_word.specs.Terms.{IsWord, Sight, plain_sight, plain_stored};
 
 use crate::glass::Glass;
 use std::marker::Model;

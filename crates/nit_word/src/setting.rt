@@ -1,6 +1,6 @@
 //! Words that are set side by side.
 ghost use Rattle.std.specs.Prelude.{◌≡◌, ℕ, ◌+◌, ◌<◌, ◌≤◌, length, slice_index};
-ghost use Rattle.nit_word.specs.Updates.{in_turn, is_between, set_where};
+ghost use Rattle.nit_word.specs.Terms.{in_turn, is_between, set_where};
 
 /// Sets the words from the number `from` to before `to` to `w`.
 pub(crate) fn fill_words(words: &mut [u32], from: usize, to: usize, w: u32)
@@ -31,24 +31,8 @@ fn take_turns(words: &mut [u32], c: u32, d: u32)
 }
 
 /// Sets the words from the number `from` to before `to` to those of the others that have these
-/// numbers, and to 0 behind the last of the others.
-pub(crate) fn copy_words(words: &mut [u32], from: usize, to: usize, others: &[u32])
-    requires order { from ≤ to }
-    requires room { to ≤ length words.old }
-    ensures { words.new ≡ set_where (is_between from to) (slice_index others.now) words.old }
-{
-    if others.len() <= from {
-        fill_words(words, from, to, 0);
-        return;
-    }
-    let end = to.min(others.len());
-    copy_part(words, from, end, others);
-    fill_words(words, end, to, 0);
-}
-
-/// Sets the words from the number `from` to before `to` to those of the others that have these
 /// numbers.
-fn copy_part(words: &mut [u32], from: usize, to: usize, others: &[u32])
+pub(crate) fn copy_words(words: &mut [u32], from: usize, to: usize, others: &[u32])
     requires order { from ≤ to }
     requires room { to ≤ length words.old }
     requires others { to ≤ length others.now }

@@ -1,7 +1,6 @@
 //! Darker words, a word or a row of words at a time.
 ghost use Rattle.std.specs.Prelude.{◌≡◌, ℕ, All, map};
-ghost use Rattle.nit_word.specs.Channels.{dim, tint};
-ghost use Rattle.nit_word.specs.Inks.{IsWord};
+ghost use Rattle.nit_word.specs.Terms.{IsWord, dim, tint};
 
 use std::simd::prelude::*;
 

@@ -1,7 +1,6 @@
 //! Words of which those that were never reached take no time.
 ghost use Rattle.std.specs.Prelude.{◌≡◌, ℕ, ◌+◌, ◌-◌, ◌<◌, ◌≤◌, ◌++◌, IfOk, length, slice_index, slice_set, vec_capacity, vec_len};
-ghost use Rattle.nit_word.specs.Updates.{in_turn, is_between, set_where};
-ghost use Rattle.nit_word.specs.Zeros.{filled_up, zeros};
+ghost use Rattle.nit_word.specs.Terms.{filled_up, in_turn, is_between, set_where, zeros};
 
 use crate::setting::{alternate_words, copy_words, fill_words, read_words};
 use std::alloc::{AllocError, Global};
@@ -95,6 +94,10 @@ impl Words {
         requires room { to ≤ length self.old }
         ensures { self.new ≡ set_where (is_between from to) (λ n. w) self.old }
     {
+        if w == 0 {
+            wipe(&mut self.reached, from, to);
+            return;
+        }
         reach(&mut self.reached, to);
         fill_words(&mut self.reached, from, to, w);
     }
@@ -117,8 +120,28 @@ impl Words {
         requires room { to ≤ length self.old }
         ensures { self.new ≡ set_where (is_between from to) (slice_index others.now) self.old }
     {
-        reach(&mut self.reached, to);
-        copy_words(&mut self.reached, from, to, &others.reached);
+        let known = others.reached.len();
+        if known <= from {
+            wipe(&mut self.reached, from, to);
+            return;
+        }
+        let end = to.min(known);
+        reach(&mut self.reached, end);
+        copy_words(&mut self.reached, from, end, &others.reached);
+        wipe(&mut self.reached, end, to);
+    }
+}
+
+/// Sets those of the words from the number `from` to before `to` that are kept to 0.
+fn wipe(words: &mut Vec<u32>, from: usize, to: usize)
+    requires { from ≤ to }
+    ensures items { words.new.items
+        ≡ set_where (is_between from to) (λ n. 0) words.old.items }
+    ensures capacity { vec_capacity words.old ≤ vec_capacity words.new }
+{
+    let end = to.min(words.len());
+    if from < end {
+        fill_words(words, from, end, 0);
     }
 }
 

@@ -2,9 +2,7 @@
 //! can be drawn in.
 
 ghost use Rattle.std.specs.Prelude.{◌≡◌, ◌<◌, ◌≤◌, length, slice_index_or, slice_set};
-ghost use Rattle.nit_word.specs.Updates.{is_between, set_where, with_words};
-ghost use Rattle.nit_word.specs.Sight.{told_at};
-ghost use Rattle.nit_paint.specs.Repaint.{no_sight};
+ghost use Rattle.nit_scene.specs.Terms.{is_between, no_sight, set_where, told_at, with_words};
 
 use crate::scene::Scene;
 use crate::screen::Screen;

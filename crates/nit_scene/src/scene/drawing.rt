@@ -1,10 +1,7 @@
 //! Words that are set in the scene's own glasses, where these are such that can be drawn in.
 
 ghost use Rattle.std.specs.Prelude.{◌≡◌, ◌<◌, length, slice_index_or, slice_set};
-ghost use Rattle.nit_word.specs.Inks.{IsInked};
-ghost use Rattle.nit_word.specs.Sight.{stored};
-ghost use Rattle.nit_journal.specs.State.{session};
-ghost use Rattle.nit_paint.specs.Repaint.{no_sight};
+ghost use Rattle.nit_scene.specs.Terms.{IsInked, no_sight, session, stored};
 
 use crate::scene::Scene;
 use crate::screen::Screen;

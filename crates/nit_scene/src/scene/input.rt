@@ -1,15 +1,8 @@
 //! What the user does.
 
 ghost use Rattle.std.specs.Prelude.{◌≡◌, ◌-◌, ◌≤◌, All, false, map, [], ◌++◌, ◌∷◌};
-ghost use Rattle.nit_events.specs.Input.{deliveries_of, routed_as};
-ghost use Rattle.nit_events.specs.Ranges.{IsDevice};
+ghost use Rattle.nit_scene.specs.Terms.{AreAlone, AreInked, AreRaw, FollowPresses, IsDevice, IsLegal, IsLive, IsOpen, Painted, deliveries_of, glass_in, kills, route, routed_as, state_now};
 ghost use Rattle.nit_events.specs.declared.entry.Entry.TheVariants as entry;
-ghost use Rattle.nit_journal.specs.Deliveries.{IsLive, kills};
-ghost use Rattle.nit_journal.specs.Replay.{IsLegal, IsOpen};
-ghost use Rattle.nit_journal.specs.State.{route};
-ghost use Rattle.nit_scene.specs.SessionsAlone.{AreAlone, FollowPresses};
-ghost use Rattle.nit_scene.specs.RawWords.{AreInked, Painted, glass_in, AreRaw};
-ghost use Rattle.nit_scene.specs.Scene.{state_now};
 
 use crate::laws::{ink_stays, raw_stays_raw};
 use crate::scene::Scene;

@@ -14,12 +14,7 @@ ghost use Rattle.std.specs.Prelude.{
   [],
   replicate,
 };
-ghost use Rattle.nit_word.specs.Channels.{bare_word};
-ghost use Rattle.nit_slots.specs.Slots.{spare};
-ghost use Rattle.nit_config.specs.ConfigurationRanges.{IsConfiguration};
-ghost use Rattle.nit_journal.specs.Replay.{shots};
-ghost use Rattle.nit_scene.specs.RawWords.{glass_in};
-ghost use Rattle.nit_scene.specs.Screen.{IsGlass};
+ghost use Rattle.nit_scene.specs.Terms.{IsConfiguration, IsGlass, bare_word, glass_in, shots, spare};
 
 use crate::scene::Scene;
 use crate::screen::Screen;

@@ -1,10 +1,7 @@
 //! What can be read of a scene.
 
 ghost use Rattle.std.specs.Prelude.{◌≡◌, ◌+◌, ◌-◌, ◌<◌, length};
-ghost use Rattle.nit_config.specs.ConfigurationRanges.{IsConfiguration};
-ghost use Rattle.nit_journal.specs.Projection.{reserved, views_in_use};
-ghost use Rattle.nit_journal.specs.State.{session};
-ghost use Rattle.nit_scene.specs.Scene.{state_now};
+ghost use Rattle.nit_scene.specs.Terms.{IsConfiguration, reserved, session, state_now, views_in_use};
 
 use crate::scene::Scene;
 use nit_events::Status;

@@ -18,21 +18,9 @@ ghost use Rattle.std.specs.Prelude.{
   map,
   slice_index_or,
 };
-ghost use Rattle.nit_rect.specs.Rectangle.{is_rectangle, rectangle};
-ghost use Rattle.nit_word.specs.Sight.{Sight};
+ghost use Rattle.nit_scene.specs.Terms.{ArePixels, AreRaw, Flat, IsClean, IsGlassOf, IsQuiet, IsServed, Painted, Sight, accepted, after, glass_in, glasses_of_call, is_accepted, is_rectangle, no_sight, raw_of, rectangle, refusal, serve, session, session_in, state_of};
 ghost use Rattle.nit_events.specs.declared.call.Call.TheVariants as call;
 ghost use Rattle.nit_events.specs.declared.entry.Entry.TheVariants as entry;
-ghost use Rattle.nit_journal.specs.Session.{refusal, serve, accepted};
-ghost use Rattle.nit_journal.specs.State.{session, session_in, after};
-ghost use Rattle.nit_journal.specs.StackAfter.{is_accepted};
-ghost use Rattle.nit_paint.specs.Repaint.{no_sight};
-ghost use Rattle.nit_repaint.specs.Glasses.{glasses_of_call};
-ghost use Rattle.nit_scene.specs.CallKinds.{IsClean, IsQuiet};
-ghost use Rattle.nit_events.specs.declared.device.Mode.TheVariants.{Flat};
-ghost use Rattle.nit_scene.specs.Pixels.{ArePixels, raw_of};
-ghost use Rattle.nit_scene.specs.RawWords.{AreRaw, Painted, glass_in};
-ghost use Rattle.nit_scene.specs.Server.{IsServed, state_of};
-ghost use Rattle.nit_scene.specs.Screen.{IsGlassOf};
 
 use crate::screen::Screen;
 use crate::screen::lists::make_one;

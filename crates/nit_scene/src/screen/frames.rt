@@ -1,10 +1,7 @@
 //! What the screen shows.
 
 ghost use Rattle.std.specs.Prelude.{◌≡◌, ◌*◌, All, length};
-ghost use Rattle.nit_word.specs.Inks.{IsWord};
-ghost use Rattle.nit_overlay.specs.Frame.{frame};
-ghost use Rattle.nit_scene.specs.Scene.{scenery_of};
-ghost use Rattle.nit_scene.specs.Server.{state_of};
+ghost use Rattle.nit_scene.specs.Terms.{IsWord, frame, scenery_of, state_of};
 
 use crate::screen::Screen;
 use nit_overlay::laws::frame_pixels;

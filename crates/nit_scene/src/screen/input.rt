@@ -1,19 +1,9 @@
 //! What the user does, and exactly the pixels that it makes dirty.
 
 ghost use Rattle.std.specs.Prelude.{◌≡◌, ◌+◌, ◌-◌, ◌<◌, length, All, false, Some, map};
-ghost use Rattle.nit_events.specs.Input.{deliveries_of, routed_as};
-ghost use Rattle.nit_events.specs.Ranges.{IsDevice};
+ghost use Rattle.nit_scene.specs.Terms.{IsDevice, IsLive, MayLose, Painted, Repainted, after, deliveries_of, glass_in, kills, pixel, pixel_count, route, routed_as, routing_of, session_owns, source_at, state_of, with_ended};
 ghost use Rattle.nit_events.specs.declared.entry.Entry.TheVariants as entry;
 ghost use Rattle.nit_events.specs.declared.event.Status.TheVariants as status;
-ghost use Rattle.nit_stack.specs.Sources.{pixel};
-ghost use Rattle.nit_journal.specs.Deliveries.{IsLive, kills};
-ghost use Rattle.nit_journal.specs.State.{after, route};
-ghost use Rattle.nit_paint.specs.Repaint.{Repainted};
-ghost use Rattle.nit_scene.specs.ServerInput.{MayLose, routing_of};
-ghost use Rattle.nit_scene.specs.DirtyPixels.{session_owns};
-ghost use Rattle.nit_scene.specs.RawWords.{source_at, Painted, glass_in, pixel_count};
-ghost use Rattle.nit_scene.specs.ViewsTaken.{with_ended};
-ghost use Rattle.nit_scene.specs.Server.{state_of};
 
 use crate::screen::Screen;
 use crate::screen::pixels::show_input;

@@ -11,11 +11,7 @@ ghost use Rattle.std.specs.Prelude.{
   slice_get,
   option_map,
 };
-ghost use Rattle.nit_rect.specs.declared.point.Point.{Point};
-ghost use Rattle.nit_stack.specs.Stack.{SlotView};
-ghost use Rattle.nit_overlay.specs.Look.{draws_labels, pixel_at};
-ghost use Rattle.nit_overlay.specs.Frame.{label_place_of};
-ghost use Rattle.nit_scene.specs.LabelSlots.{AreLabelled, label_scenery};
+ghost use Rattle.nit_scene.specs.Terms.{AreLabelled, Point, SlotView, draws_labels, label_place_of, label_scenery, pixel_at};
 
 use nit_events::Mode;
 use nit_glyph::{Label, label_size, label_text};

@@ -2,15 +2,10 @@
 
 ghost use Rattle.std.specs.Prelude.{◌≡◌, ◌+◌, ◌<◌, ◌≤◌, true, length, ℕ, ◌*◌, map};
 ghost use Rattle.nit_events.specs.declared.entry.Entry.TheVariants as entry;
-ghost use Rattle.nit_paint.specs.Repaint.{Repainted};
-ghost use Rattle.nit_paint.specs.Pieces.{source_of_number};
-ghost use Rattle.nit_repaint.specs.Glasses.{HoldBuffers};
-ghost use Rattle.nit_scene.specs.RawWords.{Painted, glass_in};
-ghost use Rattle.nit_scene.specs.Server.{IsServer, state_of};
-ghost use Rattle.nit_scene.specs.Screen.{IsGlassOf};
+ghost use Rattle.nit_scene.specs.Terms.{HoldBuffers, IsGlassOf, IsServer, Painted, Repainted, glass_in, source_of_number, state_of};
 
 use crate::screen::Screen;
-use crate::screen::pixels::redraw;
+use crate::screen::pixels::show_again;
 use crate::server::Server;
 use nit_damage::Cutter;
 use nit_repaint::paint_whole;
@@ -37,7 +32,7 @@ impl<G: Glass + Drop> Screen<G> {
             &mut self.pixels.raw,
             owns,
         );
-        redraw(&self.server, &mut self.pixels);
+        show_again(&self.server, &mut self.pixels);
     }
 }
 
@@ -54,7 +49,8 @@ pub(crate) fn load_whole<C: Glass>(
     requires held { HoldBuffers server.now.stack (length owns.old)
         (glass_in (map C.sight owns.old)) }
     ensures room { cutter.new.room ≡ cutter.old.room }
-    ensures painted { Repainted (source_of_number server.now.stack) (λ k. true) (length raw.old.items)
+    ensures painted { Repainted (source_of_number server.now.stack) (λ k. true)
+        (length raw.old.items)
         (glass_in (map C.sight owns.old)) (glass_in (map C.sight owns.new))
         raw.old.items raw.new.items }
     ensures long { length raw.new.items ≡ length raw.old.items }

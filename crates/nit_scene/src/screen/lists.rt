@@ -1,10 +1,7 @@
 //! The raw words and the frame, in two lists or in one.
 
-ghost use Rattle.std.specs.Prelude.{◌≡◌, ◌≤◌, ◌++◌, drop, false, length, take};
-ghost use Rattle.nit_events.specs.declared.device.Mode.TheVariants.{Flat};
-ghost use Rattle.nit_scene.specs.Pixels.{ArePixels, raw_in, raw_of, unbarred};
-ghost use Rattle.nit_scene.specs.RawWords.{AreRaw};
-ghost use Rattle.nit_scene.specs.Server.{state_of};
+ghost use Rattle.std.specs.Prelude.{◌≡◌, ◌≤◌, false, length, vec_capacity};
+ghost use Rattle.nit_scene.specs.Terms.{ArePixels, AreRaw, Flat, raw_in, raw_of, state_of, unbarred};
 
 use crate::screen::pixels::Pixels;
 use crate::server::Server;
@@ -20,12 +17,18 @@ fn bare_first(words: &mut [u32], count: usize)
     words[..count].fill(BARE);
 }
 
-/// Sets the first words to others.
-fn copy_first(words: &mut [u32], others: &[u32], count: usize)
-    requires { (count ≤ length words.old) × (count ≤ length others.now) }
-    ensures { words.new ≡ take count others.now ++ drop count words.old }
+/// Adds words until there are so many. There is room for them.
+pub(crate) fn reach(words: &mut Vec<u32>, count: usize)
+    requires few { length words.old.items ≤ count }
+    requires room { count ≤ vec_capacity words.old }
+    ensures count { length words.new.items ≡ count }
+    ensures capacity { vec_capacity words.old ≤ vec_capacity words.new }
 {
-    words[..count].copy_from_slice(&others[..count]);
+    if words.len() < count {
+        let grown = words.resize(count, BARE);
+        let fits = grown.is_ok();
+        prove!(fits);
+    }
 }
 
 /// Leaves the raw words alone in a list that may have the bar in front.
@@ -37,14 +40,6 @@ pub(crate) fn take_bar_off(raw: &mut Vec<u32>, is_apart: bool, bar: usize)
         return;
     }
     bare_first(raw.as_mut_slice(), bar);
-}
-
-/// Sets the first words of a list to those of the frame, as many as the bar has pixels.
-pub(crate) fn put_bar_in(raw: &mut Vec<u32>, frame: &Vec<u32>, bar: usize)
-    requires { (bar ≤ length raw.old.items) × (bar ≤ length frame.now.items) }
-    ensures { raw.new.items ≡ take bar frame.now.items ++ drop bar raw.old.items }
-{
-    copy_first(raw.as_mut_slice(), frame.as_slice(), bar);
 }
 
 /// In mode Flat, makes the frame the one list of which both are seen.

@@ -12,20 +12,14 @@ ghost use Rattle.std.specs.Prelude.{
   ℕ,
   ◌*◌,
   map,
+  false,
   replicate,
-  true,
+  vec_capacity,
 };
-ghost use Rattle.nit_rect.specs.declared.point.Point.{Point};
-ghost use Rattle.nit_word.specs.Channels.{bare_word};
-ghost use Rattle.nit_config.specs.Configuration.{bar_rows};
-ghost use Rattle.nit_config.specs.ConfigurationRanges.{IsConfiguration};
-ghost use Rattle.nit_journal.specs.State.{first_state};
-ghost use Rattle.nit_scene.specs.RawWords.{glass_in};
-ghost use Rattle.nit_scene.specs.Server.{state_of};
-ghost use Rattle.nit_scene.specs.Screen.{IsGlass};
+ghost use Rattle.nit_scene.specs.Terms.{IsConfiguration, IsGlass, Point, bar_rows, bare_word, first_state, glass_in, state_of};
 
 use crate::screen::Screen;
-use crate::screen::pixels::{Pixels, redraw};
+use crate::screen::pixels::{Pixels, show_again};
 use crate::server::Server;
 use nit_config::Config;
 use nit_damage::Cutter;
@@ -56,7 +50,7 @@ impl<G: Glass + Drop> Screen<G> {
         let server = Server::new(alloc, config)?;
         server.facts();
         let mut pixels = bare_pixels(alloc, config, bar_pixels(&server))?;
-        redraw(&server, &mut pixels);
+        show_again(&server, &mut pixels);
         Ok(Screen {
             server,
             glasses,
@@ -65,27 +59,29 @@ impl<G: Glass + Drop> Screen<G> {
     }
 }
 
-/// The pixels of a bare screen, of which no frame is made yet.
+/// The pixels of a bare screen in mode Flat, without the bar.
 fn bare_pixels(alloc: Global, config: &Config, bar: usize) -> Result<Pixels, NoMemory>
     requires { IsConfiguration config.now }
     ensures raw { IfOk result (λ p. p.raw.items
         ≡ replicate (config.now.width * config.now.height) bare_word) }
-    ensures apart { IfOk result (λ p. p.is_apart ≡ true) }
+    ensures one { IfOk result (λ p. p.is_apart ≡ false) }
     ensures bar { IfOk result (λ p. p.bar ≡ bar) }
-    ensures frame { IfOk result (λ p. length p.frame.items ≡ config.now.width * config.now.height) }
+    ensures none { IfOk result (λ p. length p.frame.items ≡ 0) }
+    ensures spare { IfOk result (λ p.
+        config.now.width * config.now.height ≤ vec_capacity p.frame) }
     ensures named { IfOk result (λ p. p.labels.items ≡ map (λ m. m.label) config.now.clients) }
     ensures room { IfOk result (λ p. (1024 ≤ p.cutter.room) × (1024 ≤ length p.places.items)) }
 {
     let cutter = Cutter::with_room(alloc, MOST_VIEWS as u32)?;
     let raw = bare_words(alloc, config)?;
-    let frame = bare_words(alloc, config)?;
+    let frame = Vec::with_capacity(alloc, raw.len())?;
     let labels = labels_of(alloc, config)?;
     let places = no_places(alloc)?;
     Ok(Pixels {
         cutter,
         raw,
         frame,
-        is_apart: true,
+        is_apart: false,
         bar,
         labels,
         places,

@@ -9,32 +9,23 @@ ghost use Rattle.std.specs.Prelude.{
   All,
   IsTrue,
   Option,
+  false,
   length,
   map,
-  pos,
+  nat_lt,
   slice_index,
   true,
   if◌then◌else◌,
 };
-ghost use Rattle.nit_rect.specs.Rectangle.{covers, rectangle};
-ghost use Rattle.nit_word.specs.Inks.{IsWord};
-ghost use Rattle.nit_events.specs.declared.device.Mode.TheVariants.{Flat};
-ghost use Rattle.nit_stack.specs.Sources.{pixel};
-ghost use Rattle.nit_paint.specs.FrameCopy.{AreSet};
-ghost use Rattle.nit_repaint.specs.WantedPixels.{wanted};
-ghost use Rattle.nit_overlay.specs.Look.{draws_labels};
-ghost use Rattle.nit_overlay.specs.Frame.{frame, shown};
-ghost use Rattle.nit_scene.specs.Pixels.{ArePixels, CanShowBy, kept_frame, raw_of, shown_by};
-ghost use Rattle.nit_scene.specs.Scene.{scenery_of};
-ghost use Rattle.nit_scene.specs.Server.{IsServer, state_of};
+ghost use Rattle.nit_scene.specs.Terms.{ArePixels, AreSet, CanShowBy, Flat, IsServer, IsWord, ShowsBelow, bar_rows, bar_word, draws_labels, frame, kept_frame, pixel, raw_of, scenery_of, shown_by, state_of, wanted};
 
 use crate::screen::labels::place_drawn;
-use crate::screen::lists::{put_bar_in, take_bar_off};
+use crate::screen::lists::{reach, take_bar_off};
 use crate::server::Server;
 use nit_damage::Cutter;
 use nit_events::Mode;
 use nit_glyph::Label;
-use nit_overlay::{Look, overlay_rect};
+use nit_overlay::{Look, bar_into};
 use nit_rect::{Point, Rect};
 use nit_repaint::{show_session, show_whole};
 
@@ -43,7 +34,8 @@ use nit_repaint::{show_session, show_whole};
 ///
 /// Where labels are drawn, the raw words stand apart from the frame. In mode Flat one list is both:
 /// `raw` has the frame, which differs from the raw words in the pixels of the bar alone, and the
-/// words of `frame` have no meaning. So a pixel is written once when it is loaded.
+/// words of `frame` have no meaning. So a pixel is written once when it is loaded, and `frame` is
+/// room alone until labels are drawn for the first time.
 #[derive(Drop)]
 pub struct Pixels {
     pub cutter: Cutter,
@@ -110,6 +102,7 @@ pub(crate) fn redraw(server: &Server, pixels: &mut Pixels)
 {
     take_bar_off(&mut pixels.raw, pixels.is_apart, pixels.bar);
     pixels.is_apart = true;
+    reach(&mut pixels.frame, pixels.raw.len());
     frame_of(
         server,
         &mut pixels.cutter,
@@ -139,51 +132,56 @@ pub(crate) fn show_input(server: &Server, mode: Mode, focus: Option<u32>, pixels
     if server.focus() == focus {
         return;
     }
-    match mode {
-        Mode::Flat => redraw_bar(server, pixels),
-        _ => redraw(server, pixels),
-    }
+    show_again(server, pixels);
 }
 
-/// Draws the bar again, after the focus moved in mode Flat.
-fn redraw_bar(server: &Server, pixels: &mut Pixels)
-    requires flat { server.now.input.mode ≡ Flat }
+/// Shows again, where one list is both and is right below the bar in mode Flat, the bar, and else the
+/// whole frame.
+pub(crate) fn show_again(server: &Server, pixels: &mut Pixels)
     requires can { CanShowBy server.now pixels.old }
+    requires below { server.now.input.mode ≡ Flat → pixels.old.is_apart ≡ false
+        → ShowsBelow (state_of server.now) pixels.old.raw.items }
+    ensures pixels { ArePixels server.now pixels.new }
     ensures raw { raw_of pixels.new ≡ raw_of pixels.old }
-    ensures pixels { (focus : Option ℕ) → kept_frame pixels.old
-        ≡ frame (record (scenery_of (state_of server.now)) { focus = focus }) (raw_of pixels.old)
-        → ArePixels server.now pixels.new }
 {
     if pixels.is_apart {
         redraw(server, pixels);
         return;
     }
-    bar_of(
+    match server.mode() {
+        Mode::Flat => redraw_bar(server, pixels),
+        _ => redraw(server, pixels),
+    }
+}
+
+/// Draws the bar into the one list of mode Flat.
+fn redraw_bar(server: &Server, pixels: &mut Pixels)
+    requires flat { server.now.input.mode ≡ Flat }
+    requires one { pixels.old.is_apart ≡ false }
+    requires can { CanShowBy server.now pixels.old }
+    requires below { ShowsBelow (state_of server.now) pixels.old.raw.items }
+    ensures pixels { ArePixels server.now pixels.new }
+    ensures raw { raw_of pixels.new ≡ raw_of pixels.old }
+{
+    draw_bar(
         server,
         pixels.labels.as_slice(),
         pixels.places.as_slice(),
-        pixels.raw.as_slice(),
-        pixels.frame.as_mut_slice(),
+        &mut pixels.raw,
     );
-    put_bar_in(&mut pixels.raw, &pixels.frame, pixels.bar);
 }
 
-/// Sets the pixels of the bar to what is shown there in mode Flat.
-fn bar_of(server: &Server, labels: &[Label], places: &[Option<Point>], raw: &[u32], out: &mut [u32])
+/// Sets the words of the bar's pixels to what is shown there in mode Flat.
+fn draw_bar(server: &Server, labels: &[Label], places: &[Option<Point>], words: &mut Vec<u32>)
     requires flat { server.now.input.mode ≡ Flat }
     requires named { labels.now ≡ map (λ m. m.label) server.now.config.clients }
-    requires pixels { length raw.now ≡ server.now.config.width * server.now.config.height }
-    requires out { length out.old ≡ server.now.config.width * server.now.config.height }
-    requires words { All IsWord raw.now }
+    requires pixels { length words.old.items ≡ server.now.config.width * server.now.config.height }
     ensures facts { IsServer server.now }
-    ensures shown { (k : ℕ) → k < server.now.config.width * server.now.config.height
-        → slice_index out.new k
-        ≡ (if covers (rectangle (pos 0) (pos 0) server.now.config.width server.now.stack.bar)
-        (pixel server.now.config.width k)
-        then shown (scenery_of (state_of server.now)) (pixel server.now.config.width k)
-        (slice_index raw.now k)
-        else slice_index out.old k) }
-    ensures length { length out.new ≡ length out.old }
+    ensures shown { (k : ℕ) → slice_index words.new.items k
+        ≡ (if nat_lt k (server.now.config.width * bar_rows server.now.config)
+        then bar_word (scenery_of (state_of server.now)) (pixel server.now.config.width k)
+        else slice_index words.old.items k) }
+    ensures length { length words.new.items ≡ length words.old.items }
 {
     server.facts();
     let look = Look {
@@ -193,20 +191,7 @@ fn bar_of(server: &Server, labels: &[Label], places: &[Option<Point>], raw: &[u3
         focus: server.focus(),
         places,
     };
-    overlay_rect(&look, raw, bar_rect(server), out);
-}
-
-/// The rectangle of the bar. It has no pixel where there is no bar.
-fn bar_rect(server: &Server) -> Rect
-    ensures { result ≡ rectangle (pos 0) (pos 0) server.now.config.width server.now.stack.bar }
-{
-    server.facts();
-    let stack = server.stack();
-    let (width, _height) = stack.size();
-    let Some(rect) = Rect::new(0, 0, width, stack.bar()) else {
-        unreachable!()
-    };
-    rect
+    bar_into(&look, words.as_mut_slice());
 }
 
 /// Shows again all, in the modes that draw labels, where views or their titles changed.
@@ -236,6 +221,8 @@ pub(crate) fn show_part(
 )
     requires mode { mode ≡ server.now.input.mode }
     requires can { CanShowBy server.now pixels.old }
+    requires apart { IsTrue (draws_labels mode)
+        → length pixels.old.frame.items ≡ length pixels.old.raw.items }
     ensures can { CanShowBy server.now pixels.new }
     ensures raw { pixels.new.raw ≡ pixels.old.raw }
     ensures kept { (pixels.new.is_apart ≡ pixels.old.is_apart) × (pixels.new.bar ≡ pixels.old.bar) }
@@ -255,6 +242,7 @@ pub(crate) fn show_part(
 /// its buffer.
 fn overlay_part(server: &Server, of: u32, part: &Option<Rect>, pixels: &mut Pixels)
     requires can { CanShowBy server.now pixels.old }
+    requires apart { length pixels.old.frame.items ≡ length pixels.old.raw.items }
     ensures can { CanShowBy server.now pixels.new }
     ensures raw { pixels.new.raw ≡ pixels.old.raw }
     ensures kept { (pixels.new.is_apart ≡ pixels.old.is_apart) × (pixels.new.bar ≡ pixels.old.bar) }

@@ -17,26 +17,8 @@ ghost use Rattle.std.specs.Prelude.{
 ghost use Rattle.nit_events.specs.declared.call.Call.TheVariants as call;
 ghost use Rattle.nit_events.specs.declared.entry.Entry.TheVariants as entry;
 ghost use Rattle.nit_events.specs.declared.event.Status.TheVariants as status;
-ghost use Rattle.nit_stack.specs.Sources.{pixel};
-ghost use Rattle.nit_journal.specs.Session.{refusal, accepted};
-ghost use Rattle.nit_journal.specs.State.{session, session_in};
-ghost use Rattle.nit_paint.specs.Repaint.{Repainted, no_sight};
-ghost use Rattle.nit_paint.specs.Pieces.{source_of_number};
-ghost use Rattle.nit_repaint.specs.Glasses.{HoldBuffers, glasses_of_call};
-ghost use Rattle.nit_repaint.specs.WantedPixels.{wanted};
-ghost use Rattle.nit_scene.specs.CallKinds.{IsPartOf};
-ghost use Rattle.nit_scene.specs.DirtyPixels.{session_owns};
-ghost use Rattle.nit_events.specs.declared.device.Mode.TheVariants.{Flat};
-ghost use Rattle.nit_scene.specs.Pixels.{ArePixels, CanShowBy, raw_of};
-ghost use Rattle.nit_scene.specs.RawWords.{
-  Painted,
-  glass_in,
-  pixel_count,
-  source_at as scene_source_at,
-};
-ghost use Rattle.nit_scene.specs.ViewsTaken.{with_ended};
-ghost use Rattle.nit_scene.specs.Server.{IsServer, IsServed, state_of};
-ghost use Rattle.nit_scene.specs.Screen.{IsGlassOf};
+ghost use Rattle.nit_scene.specs.Terms.{ArePixels, CanShowBy, Flat, HoldBuffers, IsGlassOf, IsPartOf, IsServed, IsServer, Painted, Repainted, accepted, glass_in, glasses_of_call, no_sight, pixel, pixel_count, raw_of, refusal, session, session_in, session_owns, source_of_number, state_of, wanted, with_ended};
+ghost use Rattle.nit_scene.specs.RawWords.{source_at as scene_source_at};
 
 use crate::screen::pixels::{Pixels, redraw, show_part};
 use crate::screen::views::take_views_away;

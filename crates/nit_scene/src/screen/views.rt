@@ -1,6 +1,6 @@
 //! Calls on one view, and exactly the pixels that they make dirty.
 
-ghost use Rattle.std.specs.List.{list_any};
+ghost use Rattle.nit_scene.specs.Terms.{ArePixels, Flat, HoldBuffers, IsGlassOf, IsOn, IsRemovedFrom, IsServed, IsViewChange, Painted, Repainted, SlotView, StackModel, accepted, glass_in, glasses_of_call, has_slot, is_of_session, list_any, no_sight, owner_passes, pixel, place_of, raw_of, refusal, session, session_in, slot_owns_either, slot_view_in, source_of_number, state_of, uncovered, without_session, without_views};
 ghost use Rattle.std.specs.Prelude.{
   ◌≡◌,
   ◌+◌,
@@ -20,23 +20,6 @@ ghost use Rattle.std.specs.Prelude.{
   slice_index_or,
 };
 ghost use Rattle.nit_events.specs.declared.entry.Entry.TheVariants as entry;
-ghost use Rattle.nit_stack.specs.Sources.{pixel};
-ghost use Rattle.nit_stack.specs.Stack.{SlotView, StackModel, has_slot, is_of_session, place_of, slot_view_in};
-ghost use Rattle.nit_journal.specs.Session.{refusal, accepted};
-ghost use Rattle.nit_journal.specs.State.{session, session_in};
-ghost use Rattle.nit_paint.specs.Repaint.{Repainted, no_sight};
-ghost use Rattle.nit_paint.specs.Pieces.{source_of_number};
-ghost use Rattle.nit_repaint.specs.Glasses.{HoldBuffers, glasses_of_call};
-ghost use Rattle.nit_repaint.specs.ViewChange.{IsViewChange, slot_owns_either};
-ghost use Rattle.nit_repaint.specs.PixelOwners.{owner_passes};
-ghost use Rattle.nit_repaint.specs.ViewRemoval.{IsRemovedFrom, uncovered, without_session};
-ghost use Rattle.nit_scene.specs.CallKinds.{IsOn};
-ghost use Rattle.nit_events.specs.declared.device.Mode.TheVariants.{Flat};
-ghost use Rattle.nit_scene.specs.Pixels.{ArePixels, raw_of};
-ghost use Rattle.nit_scene.specs.RawWords.{Painted, glass_in};
-ghost use Rattle.nit_scene.specs.ViewsTaken.{without_views};
-ghost use Rattle.nit_scene.specs.Server.{IsServed, state_of};
-ghost use Rattle.nit_scene.specs.Screen.{IsGlassOf};
 
 use crate::screen::pixels::{Pixels, show_views};
 use crate::server::Server;

@@ -2,9 +2,7 @@
 
 ghost use Rattle.std.specs.Prelude.{◌≡◌, ◌-◌, ◌^◌, ◌<◌, None, length, ◌*◌};
 ghost use Rattle.nit_events.specs.declared.call.Call.TheVariants as call;
-ghost use Rattle.nit_journal.specs.Session.{refusal, accepted};
-ghost use Rattle.nit_journal.specs.State.{session, session_in};
-ghost use Rattle.nit_scene.specs.Server.{IsServed};
+ghost use Rattle.nit_scene.specs.Terms.{IsServed, accepted, refusal, session, session_in};
 
 use crate::server::Server;
 use nit_events::{Call, Reply};

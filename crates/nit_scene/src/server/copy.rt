@@ -1,8 +1,7 @@
 //! A copy of a configuration.
 
 ghost use Rattle.std.specs.Prelude.{◌≡◌, ◌-◌, ◌<◌, IfOk, All, IsTrue};
-ghost use Rattle.nit_config.specs.Configuration.{is_file_name};
-ghost use Rattle.nit_config.specs.ConfigurationRanges.{IsConfiguration, IsMember};
+ghost use Rattle.nit_scene.specs.Terms.{IsConfiguration, IsMember, is_file_name};
 
 use nit_config::{Config, FileName, Member};
 use nit_rect::NoMemory;

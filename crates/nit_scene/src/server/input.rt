@@ -17,23 +17,8 @@ ghost use Rattle.std.specs.Prelude.{
   IfSome,
   ◌∷◌,
 };
-ghost use Rattle.nit_events.specs.Input.{deliveries_of, routed_as, delivery, first_input};
-ghost use Rattle.nit_events.specs.Ranges.{IsDevice};
+ghost use Rattle.nit_scene.specs.Terms.{IsConfiguration, IsDevice, IsForgottenIfKilled, IsServerInput, MayLose, client_in, deliveries_of, delivery, first_input, is_kill, killed_in, kills, pointed_by, route, routed_as, routing_of, session, with_delivered, with_routed};
 ghost use Rattle.nit_events.specs.declared.event.Item.TheVariants as item;
-ghost use Rattle.nit_focus.specs.Reach.{IsForgottenIfKilled};
-ghost use Rattle.nit_config.specs.ConfigurationRanges.{IsConfiguration};
-ghost use Rattle.nit_journal.specs.Deliveries.{kills, is_kill};
-ghost use Rattle.nit_journal.specs.State.{session, route};
-ghost use Rattle.nit_scene.specs.ServerInput.{
-  MayLose,
-  routing_of,
-  IsServerInput,
-  client_in,
-  killed_in,
-  pointed_by,
-  with_delivered,
-  with_routed,
-};
 
 use crate::server::Server;
 use nit_config::Config;

@@ -15,11 +15,7 @@ ghost use Rattle.std.specs.Prelude.{
   if◌then◌else◌,
 };
 ghost use Rattle.nit_events.specs.declared.entry.Entry.TheVariants as entry;
-ghost use Rattle.nit_slots.specs.Account.{view_slots};
-ghost use Rattle.nit_config.specs.ConfigurationRanges.{IsConfiguration, IsMember};
-ghost use Rattle.nit_journal.specs.State.{first_state};
-ghost use Rattle.nit_scene.specs.ServerOpening.{first_scene_session, first_stack, slots_of_all};
-ghost use Rattle.nit_scene.specs.Server.{state_of};
+ghost use Rattle.nit_scene.specs.Terms.{IsConfiguration, IsMember, first_scene_session, first_stack, first_state, most_slots, slots_of_all, state_of, view_slots};
 
 use crate::member::Member;
 use crate::server::Server;
@@ -62,7 +58,7 @@ pub(crate) fn slots_of_all(clients: &[nit_config::Member]) -> u32
     requires few { length clients.now ≤ 16 }
     requires clients { All IsMember clients.now }
     ensures sum { result ≡ slots_of_all clients.now }
-    ensures most { result ≤ 1024 }
+    ensures most { result ≤ most_slots }
 {
     let mut count = 0;
     for client in clients {

@@ -1,10 +1,7 @@
 //! What can be read of a server.
 
 ghost use Rattle.std.specs.Prelude.{◌≡◌, ◌+◌, ◌-◌, ◌<◌, length};
-ghost use Rattle.nit_journal.specs.Projection.{reserved, views_in_use};
-ghost use Rattle.nit_journal.specs.State.{session_in};
-ghost use Rattle.nit_scene.specs.ServerOpening.{slots_of_all};
-ghost use Rattle.nit_scene.specs.Server.{state_of};
+ghost use Rattle.nit_scene.specs.Terms.{reserved, session_in, slots_of_all, state_of, views_in_use};
 
 use crate::scene::Counts;
 use crate::server::{Server, slots_of_all};

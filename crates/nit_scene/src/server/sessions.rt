@@ -1,6 +1,6 @@
 //! Accepted calls that change a session alone, and its end.
 
-ghost use Rattle.std.specs.List.{list_any};
+ghost use Rattle.nit_scene.specs.Terms.{IsServed, accepted, has_view, is_of_session, list_any, refusal, session, session_in, with_ended, without_views};
 ghost use Rattle.std.specs.Prelude.{
   ◌≡◌,
   ◌-◌,
@@ -15,11 +15,6 @@ ghost use Rattle.std.specs.Prelude.{
   IfNone,
 };
 ghost use Rattle.nit_events.specs.declared.call.Call.TheVariants as call;
-ghost use Rattle.nit_stack.specs.Stack.{is_of_session};
-ghost use Rattle.nit_journal.specs.Session.{has_view, refusal, accepted};
-ghost use Rattle.nit_journal.specs.State.{session, session_in};
-ghost use Rattle.nit_scene.specs.ViewsTaken.{with_ended, without_views};
-ghost use Rattle.nit_scene.specs.Server.{IsServed};
 
 use crate::server::Server;
 use nit_events::{Reply, Status};

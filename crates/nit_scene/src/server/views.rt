@@ -2,11 +2,7 @@
 
 ghost use Rattle.std.specs.Prelude.{◌≡◌, ◌-◌, ◌^◌, ◌<◌, true, None, length, Some, slice_get};
 ghost use Rattle.nit_events.specs.declared.call.Call.TheVariants as call;
-ghost use Rattle.nit_stack.specs.ViewNames.{IsNamedBy};
-ghost use Rattle.nit_journal.specs.Session.{has_view, refusal, accepted};
-ghost use Rattle.nit_journal.specs.State.{session, session_in};
-ghost use Rattle.nit_scene.specs.ViewsTaken.{without_view};
-ghost use Rattle.nit_scene.specs.Server.{IsServed};
+ghost use Rattle.nit_scene.specs.Terms.{IsNamedBy, IsServed, accepted, has_view, refusal, session, session_in, without_view};
 
 use crate::server::Server;
 use nit_events::{Reply, Text};

@@ -1,5 +1,5 @@
 use Rattle.nit_overlay.proofs.laws.frame_pixels.Goals as goal
-use Rattle.nit_overlay.proofs.FrameLemmas.{frame_fits, get_or-frame, length-frame, same_frame}
+use Rattle.nit_overlay.proofs.Lemmas.{frame_fits, get_or-frame, length-frame, same_frame}
 
 pub returns-clause-count : goal.returns-clause-count
 returns-clause-count c s raw = length-frame s raw

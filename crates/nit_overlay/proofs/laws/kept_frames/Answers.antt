@@ -1,4 +1,4 @@
-use Rattle.nit_overlay.proofs.KeptFrames.{flat_same, renewed}
+use Rattle.nit_overlay.proofs.Lemmas.{flat_same, renewed}
 use Rattle.nit_overlay.proofs.laws.kept_frames.Goals as goal
 
 pub returns-clause-renewed : goal.returns-clause-renewed

@@ -1,8 +1,6 @@
-use Rattle.std.proofs.Common.{◌≡◌, arith, ap}
-use Rattle.nit_overlay.specs.Look.{scenery}
-use Rattle.nit_overlay.specs.Frame.{frame}
+use Rattle.std.proofs.Common.{ap, arith, ◌≡◌}
+use Rattle.nit_overlay.proofs.Lemmas.{frame, frame_fits, is_frame, is_whole, scenery}
 use Rattle.nit_overlay.proofs.overlay.frame_into.Goals as goal
-use Rattle.nit_overlay.proofs.FrameLemmas.{is_frame, is_whole, frame_fits}
 
 pub returns-clause-frame : goal.returns-clause-frame
 returns-clause-frame c =

@@ -1,13 +1,6 @@
-use Rattle.std.proofs.Common.{ℕ, ◌+◌, ◌-◌, ◌*◌, ◌/◌, ◌%◌, ◌≤◌, ◌<◌, ◌≡◌, ap, ap₂, sym, arith, subst}
-use Rattle.std.proofs.Math.Nat.{mul-le-mul_right}
-use Rattle.std.proofs.lemmas.Nat.{div-mul-add, mod-mul-add}
-use Rattle.nit_stack.specs.Sources.{pixel, point}
-use Rattle.nit_overlay.specs.Look.{scenery}
-use Rattle.nit_overlay.specs.Area.{IsOverlaid, in_area}
-use Rattle.nit_overlay.specs.Frame.{shown}
+use Rattle.std.proofs.Common.{ap, ap₂, arith, subst, sym, ℕ, ◌%◌, ◌*◌, ◌+◌, ◌-◌, ◌/◌, ◌<◌, ◌≡◌, ◌≤◌}
+use Rattle.nit_overlay.proofs.Lemmas.{IsOverlaid, RowsSoFar, div-mul-add, in_area, last_row, mod-mul-add, mul-le-mul_right, next_row, painted_by, pixel, point, scenery, shown}
 use Rattle.nit_overlay.proofs.overlay.overlay_area.Goals as goal
-use Rattle.nit_overlay.proofs.AreaLemmas.{RowsSoFar, next_row, last_row}
-use Rattle.nit_overlay.proofs.RowParts.{painted_by}
 
 pub rows-preserved : goal.rows-preserved
 rows-preserved c =

@@ -1,7 +1,4 @@
-use Rattle.nit_stack.specs.Sources.{pixel}
-use Rattle.nit_overlay.specs.Look.{scenery}
-use Rattle.nit_overlay.specs.Frame.{shown}
-use Rattle.nit_overlay.proofs.AreaLemmas.{RowsSoFar}
+use Rattle.nit_overlay.proofs.Lemmas.{RowsSoFar, pixel, scenery, shown}
 use Rattle.nit_overlay.proofs.overlay.overlay_area.Given as goal
 
 abbrev pub invariant-rows : goal.invariant-rows

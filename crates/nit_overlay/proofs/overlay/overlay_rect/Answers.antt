@@ -1,6 +1,6 @@
-use Rattle.std.proofs.Common.{◌≡◌, arith, ap}
+use Rattle.std.proofs.Common.{ap, arith, ◌≡◌}
 use Rattle.nit_overlay.proofs.overlay.overlay_rect.Goals as goal
-use Rattle.nit_overlay.proofs.FrameLemmas.{rect_shown}
+use Rattle.nit_overlay.proofs.Lemmas.{rect_shown}
 
 pub returns-clause-pixels : goal.returns-clause-pixels
 returns-clause-pixels c =

@@ -1,7 +1,4 @@
-use Rattle.std.proofs.Common.{arith, length}
-use Rattle.nit_stack.specs.Stack.{IsSlotView, is_slot}
-use Rattle.nit_stack.proofs.ForCallers.{All_found}
-use Rattle.nit_overlay.specs.Look.{IsPlaced}
+use Rattle.nit_overlay.proofs.Lemmas.{All_found, IsPlaced, IsSlotView, arith, is_slot, length}
 use Rattle.nit_overlay.proofs.owner.owner_of.Goals as goal
 
 pub place_at-place-requires : goal.place_at-place-requires

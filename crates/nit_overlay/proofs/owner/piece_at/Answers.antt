@@ -1,7 +1,5 @@
-use Rattle.std.proofs.Common.{◌∙◌, ap, sym, arith}
-use Rattle.std.specs.Prelude.{Some}
+use Rattle.nit_overlay.proofs.Lemmas.{Some, ap, arith, bare_run, owned_run, sym, ◌∙◌}
 use Rattle.nit_overlay.proofs.owner.piece_at.Goals as goal
-use Rattle.nit_overlay.proofs.RunOwners.{owned_run, bare_run}
 
 pub returns-then-covered-clause-owner : goal.returns-then-covered-clause-owner
 returns-then-covered-clause-owner c =

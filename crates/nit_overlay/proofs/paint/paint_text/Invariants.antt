@@ -1,6 +1,5 @@
-use Rattle.std.proofs.Common.{◌≡◌, ℕ, ◌+◌, ◌<◌, slice_index}
-use Rattle.nit_overlay.specs.declared.paint.Rule.TheVariants.{Text}
-use Rattle.nit_overlay.specs.Rule.{word_by}
+use Rattle.std.proofs.Common.{slice_index, ℕ, ◌+◌, ◌<◌, ◌≡◌}
+use Rattle.nit_overlay.proofs.Lemmas.{Text, word_by}
 use Rattle.nit_overlay.proofs.paint.paint_text.Given as goal
 
 abbrev pub invariant-dots : goal.invariant-dots

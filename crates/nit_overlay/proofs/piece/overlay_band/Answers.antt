@@ -1,7 +1,4 @@
-use Rattle.std.proofs.Common.{arith, ap, sym, length}
-use Rattle.nit_overlay.specs.Rule.{word_by}
-use Rattle.nit_overlay.specs.Stripe.{stripe_rule}
-use Rattle.nit_overlay.proofs.AreaParts.{area_as, in_columns, more_columns, no_columns, part_at}
+use Rattle.nit_overlay.proofs.Lemmas.{ap, area_as, arith, in_columns, length, more_columns, no_columns, part_at, stripe_rule, sym, word_by}
 use Rattle.nit_overlay.proofs.piece.overlay_band.Goals as goal
 
 pub runs-init : goal.runs-init

@@ -1,8 +1,5 @@
-use Rattle.std.proofs.Common.{◌≤◌, ◌-◌, length}
-use Rattle.nit_overlay.specs.Area.{IsAreaBy}
-use Rattle.nit_overlay.specs.Rule.{word_by}
-use Rattle.nit_overlay.specs.Stripe.{stripe_rule}
-use Rattle.nit_overlay.proofs.AreaParts.{part_at}
+use Rattle.std.proofs.Common.{length, ◌-◌, ◌≤◌}
+use Rattle.nit_overlay.proofs.Lemmas.{IsAreaBy, part_at, stripe_rule, word_by}
 use Rattle.nit_overlay.proofs.piece.overlay_band.Given as goal
 
 abbrev pub invariant-runs : goal.invariant-runs

@@ -1,7 +1,5 @@
-use Rattle.std.proofs.Common.{◌≡◌, ℕ, ◌≤◌, ◌+◌, ◌-◌, ◌*◌, ◌/◌, ◌%◌, arith, length, subst}
-use Rattle.std.proofs.Math.Nat.{mul-le-mul_right}
-use Rattle.nit_overlay.specs.Rule.{word_by}
-use Rattle.nit_overlay.proofs.AreaLemmas.{RowsSoFar, last_row, next_of}
+use Rattle.std.proofs.Common.{arith, length, subst, ℕ, ◌%◌, ◌*◌, ◌+◌, ◌-◌, ◌/◌, ◌≡◌, ◌≤◌}
+use Rattle.nit_overlay.proofs.Lemmas.{RowsSoFar, last_row, mul-le-mul_right, next_of, word_by}
 use Rattle.nit_overlay.proofs.piece.overlay_block.Goals as goal
 
 pub rows-preserved : goal.rows-preserved

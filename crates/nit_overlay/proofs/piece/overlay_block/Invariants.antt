@@ -1,6 +1,5 @@
-use Rattle.std.proofs.Common.{◌/◌, ◌%◌}
-use Rattle.nit_overlay.specs.Rule.{word_by}
-use Rattle.nit_overlay.proofs.AreaLemmas.{RowsSoFar}
+use Rattle.std.proofs.Common.{◌%◌, ◌/◌}
+use Rattle.nit_overlay.proofs.Lemmas.{RowsSoFar, word_by}
 use Rattle.nit_overlay.proofs.piece.overlay_block.Given as goal
 
 abbrev pub invariant-rows : goal.invariant-rows

@@ -1,10 +1,5 @@
-use Rattle.std.proofs.Common.{◌*◌, length, subst, sym}
-use Rattle.nit_stack.specs.Sources.{point}
-use Rattle.nit_overlay.specs.Area.{IsAreaBy}
-use Rattle.nit_overlay.specs.Frame.{shown, view_word}
-use Rattle.nit_overlay.specs.Look.{scenery}
-use Rattle.nit_overlay.proofs.AreaParts.{area_as}
-use Rattle.nit_overlay.proofs.PieceOwners.{shown_owned}
+use Rattle.std.proofs.Common.{length, subst, sym, ◌*◌}
+use Rattle.nit_overlay.proofs.Lemmas.{IsAreaBy, area_as, point, scenery, shown, shown_owned, view_word}
 use Rattle.nit_overlay.proofs.piece.overlay_owned.Goals as goal
 
 pub returns : goal.returns

@@ -1,6 +1,6 @@
-use Rattle.std.proofs.Common.{◌≡◌, arith, ap}
+use Rattle.std.proofs.Common.{ap, arith, ◌≡◌}
 use Rattle.nit_overlay.proofs.piece.overlay_piece.Goals as goal
-use Rattle.nit_overlay.proofs.FrameLemmas.{rect_shown}
+use Rattle.nit_overlay.proofs.Lemmas.{rect_shown}
 
 pub returns-in-Some-clause-pixels : goal.returns-in-Some-clause-pixels
 returns-in-Some-clause-pixels c =

@@ -1,12 +1,5 @@
-use Rattle.std.proofs.Common.{◌≡◌, ℕ, ◌≤◌, ◌+◌, ◌-◌, ◌*◌, ◌/◌, ◌%◌, arith, ap, subst, sym}
-use Rattle.std.proofs.Math.Nat.{mul-le-mul_right}
-use Rattle.nit_stack.specs.Sources.{point}
-use Rattle.nit_overlay.specs.Area.{IsAreaBy}
-use Rattle.nit_overlay.specs.Frame.{shown, unowned_word}
-use Rattle.nit_overlay.specs.Look.{scenery}
-use Rattle.nit_overlay.proofs.AreaLemmas.{RowsSoFar, last_row, next_of}
-use Rattle.nit_overlay.proofs.AreaParts.{area_as}
-use Rattle.nit_overlay.proofs.PieceOwners.{shown_unowned}
+use Rattle.std.proofs.Common.{ap, arith, subst, sym, ℕ, ◌%◌, ◌*◌, ◌+◌, ◌-◌, ◌/◌, ◌≡◌, ◌≤◌}
+use Rattle.nit_overlay.proofs.Lemmas.{IsAreaBy, RowsSoFar, area_as, last_row, mul-le-mul_right, next_of, point, scenery, shown, shown_unowned, unowned_word}
 use Rattle.nit_overlay.proofs.piece.overlay_unowned.Goals as goal
 
 pub rows-preserved : goal.rows-preserved

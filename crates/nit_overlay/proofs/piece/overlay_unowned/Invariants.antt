@@ -1,8 +1,5 @@
-use Rattle.std.proofs.Common.{◌/◌, ◌%◌}
-use Rattle.nit_stack.specs.Sources.{point}
-use Rattle.nit_overlay.specs.Look.{scenery}
-use Rattle.nit_overlay.specs.Frame.{unowned_word}
-use Rattle.nit_overlay.proofs.AreaLemmas.{RowsSoFar}
+use Rattle.std.proofs.Common.{◌%◌, ◌/◌}
+use Rattle.nit_overlay.proofs.Lemmas.{RowsSoFar, point, scenery, unowned_word}
 use Rattle.nit_overlay.proofs.piece.overlay_unowned.Given as goal
 
 abbrev pub invariant-rows : goal.invariant-rows

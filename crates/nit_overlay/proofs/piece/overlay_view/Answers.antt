@@ -1,10 +1,4 @@
-use Rattle.std.proofs.Common.{arith, length}
-use Rattle.nit_stack.specs.Sources.{point}
-use Rattle.nit_overlay.specs.Frame.{view_word}
-use Rattle.nit_overlay.specs.Look.{scenery}
-use Rattle.nit_overlay.specs.Rule.{word_by}
-use Rattle.nit_overlay.specs.Stripe.{stripe_rule}
-use Rattle.nit_overlay.proofs.AreaParts.{area_as, in_rows, more_rows, no_rows, part_at}
+use Rattle.nit_overlay.proofs.Lemmas.{area_as, arith, in_rows, length, more_rows, no_rows, part_at, point, scenery, stripe_rule, view_word, word_by}
 use Rattle.nit_overlay.proofs.piece.overlay_view.Goals as goal
 
 pub bands-init : goal.bands-init

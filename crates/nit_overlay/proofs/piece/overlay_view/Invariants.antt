@@ -1,9 +1,5 @@
-use Rattle.std.proofs.Common.{◌≤◌, ◌-◌, length}
-use Rattle.nit_stack.specs.Sources.{point}
-use Rattle.nit_overlay.specs.Area.{IsAreaBy}
-use Rattle.nit_overlay.specs.Look.{scenery}
-use Rattle.nit_overlay.specs.Frame.{view_word}
-use Rattle.nit_overlay.proofs.AreaParts.{part_at}
+use Rattle.std.proofs.Common.{length, ◌-◌, ◌≤◌}
+use Rattle.nit_overlay.proofs.Lemmas.{IsAreaBy, part_at, point, scenery, view_word}
 use Rattle.nit_overlay.proofs.piece.overlay_view.Given as goal
 
 abbrev pub invariant-bands : goal.invariant-bands

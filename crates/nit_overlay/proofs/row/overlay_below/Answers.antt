@@ -1,10 +1,5 @@
-use Rattle.std.proofs.Common.{ap, sym, arith, ◌∙◌}
-use Rattle.nit_stack.specs.Sources.{point, owner}
-use Rattle.nit_overlay.specs.Look.{scenery}
-use Rattle.nit_overlay.specs.Frame.{shown, bar_word, owner_word}
+use Rattle.nit_overlay.proofs.Lemmas.{ap, arith, bar_word, below_bar, further, owner, owner_word, painted_by, point, scenery, shown, sym, ◌∙◌}
 use Rattle.nit_overlay.proofs.row.overlay_below.Goals as goal
-use Rattle.nit_overlay.proofs.RowParts.{further, painted_by}
-use Rattle.nit_overlay.proofs.RunOwners.{below_bar}
 
 pub pieces-preserved : goal.pieces-preserved
 pieces-preserved c =

@@ -1,8 +1,5 @@
 use Rattle.std.proofs.Common.{◌-◌}
-use Rattle.nit_stack.specs.Sources.{point}
-use Rattle.nit_overlay.specs.Look.{scenery}
-use Rattle.nit_overlay.specs.Frame.{shown}
-use Rattle.nit_overlay.proofs.RowParts.{RowSoFar}
+use Rattle.nit_overlay.proofs.Lemmas.{RowSoFar, point, scenery, shown}
 use Rattle.nit_overlay.proofs.row.overlay_below.Given as goal
 
 abbrev pub invariant-pieces : goal.invariant-pieces

@@ -1,8 +1,5 @@
-use Rattle.std.proofs.Common.{ap, sym, arith}
-use Rattle.nit_overlay.specs.Rule.{word_by}
-use Rattle.nit_overlay.specs.Stripe.{stripe_rule}
+use Rattle.nit_overlay.proofs.Lemmas.{ap, arith, further, painted_by, stripe_rule, sym, word_by}
 use Rattle.nit_overlay.proofs.row.overlay_stripe.Goals as goal
-use Rattle.nit_overlay.proofs.RowParts.{further, painted_by}
 
 pub runs-preserved : goal.runs-preserved
 runs-preserved c =

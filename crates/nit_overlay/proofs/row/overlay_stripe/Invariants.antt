@@ -1,7 +1,5 @@
 use Rattle.std.proofs.Common.{◌-◌}
-use Rattle.nit_overlay.specs.Rule.{word_by}
-use Rattle.nit_overlay.specs.Stripe.{stripe_rule}
-use Rattle.nit_overlay.proofs.RowParts.{RowSoFar}
+use Rattle.nit_overlay.proofs.Lemmas.{RowSoFar, stripe_rule, word_by}
 use Rattle.nit_overlay.proofs.row.overlay_stripe.Given as goal
 
 abbrev pub invariant-runs : goal.invariant-runs

@@ -1,4 +1,4 @@
-use Rattle.nit_scene.proofs.FrameLabelLemmas.{labels_stand}
+use Rattle.nit_scene.proofs.Lemmas.{labels_stand}
 use Rattle.nit_scene.proofs.laws.labels_stand.Goals as goal
 
 pub returns : goal.returns

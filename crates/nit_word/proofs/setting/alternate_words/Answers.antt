@@ -1,4 +1,4 @@
-use Rattle.nit_word.proofs.SideBySide.{alternated}
+use Rattle.nit_word.proofs.Lemmas.{alternated}
 use Rattle.nit_word.proofs.setting.alternate_words.Goals as goal
 
 pub returns : goal.returns

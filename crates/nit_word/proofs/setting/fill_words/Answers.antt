@@ -1,4 +1,4 @@
-use Rattle.nit_word.proofs.SideBySide.{filled}
+use Rattle.nit_word.proofs.Lemmas.{filled}
 use Rattle.nit_word.proofs.setting.fill_words.Goals as goal
 
 pub returns : goal.returns

@@ -1,5 +1,4 @@
-use Rattle.std.proofs.Common.{arith}
-use Rattle.nit_word.proofs.SideBySide.{row_read}
+use Rattle.nit_word.proofs.Lemmas.{arith, row_read}
 use Rattle.nit_word.proofs.setting.read_words.Goals as goal
 
 pub returns-clause-words : goal.returns-clause-words

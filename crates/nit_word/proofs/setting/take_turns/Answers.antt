@@ -1,7 +1,4 @@
-use Rattle.std.proofs.Common.{◌∙◌, ℕ, List, set, ap, arith}
-use Rattle.nit_word.specs.Updates.{in_turn}
-use Rattle.nit_word.proofs.UpdateLemmas.{none_between, next_between}
-use Rattle.nit_word.proofs.SideBySide.{first_turn, second_turn}
+use Rattle.nit_word.proofs.Lemmas.{List, ap, arith, first_turn, in_turn, next_between, none_between, second_turn, set, ℕ, ◌∙◌}
 use Rattle.nit_word.proofs.setting.take_turns.Goals.{then-i-eq0, else-i-eq0}
 use Rattle.nit_word.proofs.setting.take_turns.Goals as goal
 

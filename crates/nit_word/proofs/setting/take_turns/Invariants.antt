@@ -1,5 +1,5 @@
 use Rattle.std.proofs.Common.{◌≡◌}
-use Rattle.nit_word.specs.Updates.{in_turn, is_between, set_where}
+use Rattle.nit_word.proofs.Lemmas.{in_turn, is_between, set_where}
 use Rattle.nit_word.proofs.setting.take_turns.Given as goal
 
 abbrev pub invariant-words : goal.invariant-words

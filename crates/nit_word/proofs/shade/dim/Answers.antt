@@ -1,4 +1,4 @@
-use Rattle.nit_word.proofs.Bits.{dim_bits}
+use Rattle.nit_word.proofs.Lemmas.{dim_bits}
 use Rattle.nit_word.proofs.shade.dim.Goals as goal
 
 pub returns : goal.returns

@@ -1,7 +1,4 @@
-use Rattle.std.proofs.Common.{arith}
-use Rattle.std.proofs.lemmas.List.Elements.{All-take}
-use Rattle.nit_word.specs.Inks.{IsWord}
-use Rattle.nit_word.proofs.PixelRows.{all_mapped, block_mapped, more_mapped, rest_all}
+use Rattle.nit_word.proofs.Lemmas.{All-take, IsWord, all_mapped, arith, block_mapped, more_mapped, rest_all}
 use Rattle.nit_word.proofs.shade.shade_row.Goals as goal
 
 pub block-requires : goal.block-requires

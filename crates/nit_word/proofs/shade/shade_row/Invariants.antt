@@ -1,5 +1,5 @@
-use Rattle.std.proofs.Common.{◌-◌, length}
-use Rattle.nit_word.proofs.PixelRows.{MappedTo}
+use Rattle.std.proofs.Common.{length, ◌-◌}
+use Rattle.nit_word.proofs.Lemmas.{MappedTo}
 use Rattle.nit_word.proofs.shade.shade_row.Given as goal
 
 abbrev pub invariant-blocks-2 : goal.invariant-blocks-2

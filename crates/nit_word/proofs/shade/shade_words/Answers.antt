@@ -1,5 +1,4 @@
-use Rattle.std.proofs.Common.{arith}
-use Rattle.nit_word.proofs.PixelRows.{word_mapped}
+use Rattle.nit_word.proofs.Lemmas.{arith, word_mapped}
 use Rattle.nit_word.proofs.shade.shade_words.Goals as goal
 
 pub words-preserved : goal.words-preserved

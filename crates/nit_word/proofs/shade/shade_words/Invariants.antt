@@ -1,4 +1,4 @@
-use Rattle.nit_word.proofs.PixelRows.{MappedTo}
+use Rattle.nit_word.proofs.Lemmas.{MappedTo}
 use Rattle.nit_word.proofs.shade.shade_words.Given as goal
 
 abbrev pub invariant-words : goal.invariant-words

@@ -1,5 +1,5 @@
-use Rattle.std.proofs.Common.{◌∙◌, ◌++◌, ◌-◌, ℕ, ap, sym, take, cond, replicate, arith}
-use Rattle.nit_word.proofs.ReachedWords.{none_more, some_more}
+use Rattle.std.proofs.Common.{ap, arith, cond, replicate, sym, take, ℕ, ◌++◌, ◌-◌, ◌∙◌}
+use Rattle.nit_word.proofs.Lemmas.{none_more, some_more}
 use Rattle.nit_word.proofs.words.reach.Goals as goal
 
 pub returns-then-len-count-clause-items : goal.returns-then-len-count-clause-items

@@ -1,5 +1,4 @@
-use Rattle.std.proofs.Common.{refl}
-use Rattle.nit_scene.proofs.FrameLabelLemmas.{still_shows}
+use Rattle.nit_scene.proofs.Lemmas.{refl, still_shows}
 use Rattle.nit_scene.proofs.scene.Scene.frame.Goals as goal
 
 pub returns-clause-labels : goal.returns-clause-labels

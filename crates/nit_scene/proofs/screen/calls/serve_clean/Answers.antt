@@ -1,19 +1,4 @@
-use Rattle.std.proofs.Common.{ℕ, false, length, refl, ap, sym, subst, ◌∙◌}
-use Rattle.std.specs.Prelude.{IsTrue, slice_index}
-use Rattle.nit_events.specs.declared.device.Mode.{Mode}
-use Rattle.nit_stack.specs.Sources.{pixel}
-use Rattle.nit_word.specs.Sight.{Sight}
-use Rattle.nit_paint.proofs.ForCallers.{nothing_set}
-use Rattle.nit_overlay.specs.Look.{draws_labels}
-use Rattle.nit_paint.specs.Repaint.{no_sight}
-use Rattle.nit_scene.specs.CallKinds.{IsClean}
-use Rattle.std.proofs.lemmas.Bool.{false≢true}
-use Rattle.nit_scene.specs.Pixels.{IsFrameOf, kept_frame, raw_of}
-use Rattle.nit_scene.specs.Server.{state_of}
-use Rattle.nit_scene.proofs.OneList.{by_mode, raw_long}
-use Rattle.nit_scene.proofs.QuietCalls.{clean_call, clean_painted}
-use Rattle.nit_scene.proofs.StackRoom.{same_most}
-use Rattle.nit_scene.proofs.KeptFrames.{can_still, kept_served}
+use Rattle.nit_scene.proofs.Lemmas.{IsClean, IsFrameOf, IsTrue, Mode, Sight, ap, by_mode, can_still, clean_call, clean_painted, draws_labels, false, false≢true, kept_frame, kept_served, length, no_sight, nothing_set, pixel, raw_long, raw_of, refl, same_most, slice_index, state_of, subst, sym, vec_capacity, ℕ, ◌∙◌}
 use Rattle.nit_scene.proofs.ScreenLemmas.{same_config}
 use Rattle.nit_scene.proofs.screen.calls.serve_clean.Goals as goal
 
@@ -22,7 +7,7 @@ show_views-requires-clause-can c =
     let s = c.args.server.now in
     let s' = c.accept-reply.new.self in
     let p = c.args.pixels.now in
-    can_still s s' p.raw.items p.raw.items p.frame.items p.cutter.room p.cutter.room p.labels.items (length p.places.items) p.bar
+    can_still s s' p.raw.items p.raw.items (length p.frame.items) (vec_capacity p.frame) p.cutter.room p.cutter.room p.labels.items (length p.places.items) p.bar
     (same_config c.args.sid c.args.call.now c.accept-reply.result s s' c.accept-reply.ensures)
     (same_most s s' c.args.sid c.args.call.now c.accept-reply.result c.facts.ensures c.facts-2.ensures c.accept-reply.ensures)
     refl c.requires.pixels.0.words refl c.requires.pixels.0

@@ -1,13 +1,4 @@
-use Rattle.std.proofs.Common.{length, refl, ap, sym, subst, ◌∙◌}
-use Rattle.std.specs.Prelude.{IsTrue}
-use Rattle.nit_events.specs.declared.device.Mode.{Mode}
-use Rattle.nit_overlay.specs.Look.{draws_labels}
-use Rattle.nit_scene.specs.Pixels.{raw_of}
-use Rattle.nit_overlay.specs.Frame.{Scenery, frame}
-use Rattle.nit_scene.specs.Server.{state_of}
-use Rattle.nit_scene.proofs.QuietCalls.{quiet_painted}
-use Rattle.nit_scene.proofs.StackRoom.{same_most}
-use Rattle.nit_scene.proofs.KeptFrames.{can_still, quiet_scenery}
+use Rattle.nit_scene.proofs.Lemmas.{IsTrue, Mode, Scenery, ap, can_still, draws_labels, frame, length, quiet_painted, quiet_scenery, raw_of, refl, same_most, state_of, subst, sym, vec_capacity, ◌∙◌}
 use Rattle.nit_scene.proofs.ScreenLemmas.{same_config}
 use Rattle.nit_scene.proofs.screen.calls.serve_quiet.Goals as goal
 
@@ -17,7 +8,7 @@ returns-clause-pixels c =
     let s' = c.accept-reply.new.self in
     let p = c.args.pixels.now in
     let same = quiet_scenery s s' c.args.sid c.args.call.now c.accept-reply.result c.requires.accepted c.accept-reply.ensures c.requires.quiet in (
-      can_still s s' p.raw.items p.raw.items p.frame.items p.cutter.room p.cutter.room p.labels.items (length p.places.items) p.bar
+      can_still s s' p.raw.items p.raw.items (length p.frame.items) (vec_capacity p.frame) p.cutter.room p.cutter.room p.labels.items (length p.places.items) p.bar
           (same_config c.args.sid c.args.call.now c.accept-reply.result s s' c.accept-reply.ensures)
           (same_most s s' c.args.sid c.args.call.now c.accept-reply.result c.facts.ensures c.facts-2.ensures c.accept-reply.ensures)
           refl c.requires.pixels.0.words refl c.requires.pixels.0,

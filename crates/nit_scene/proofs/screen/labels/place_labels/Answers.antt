@@ -1,5 +1,4 @@
-use Rattle.std.proofs.Common.{length, arith}
-use Rattle.nit_scene.proofs.LabelSlotLemmas.{all_labelled, labelled_more, slot_within}
+use Rattle.nit_scene.proofs.Lemmas.{all_labelled, arith, labelled_more, length, slot_within}
 use Rattle.nit_scene.proofs.screen.labels.place_labels.Goals as goal
 
 pub bounds-places-slot : goal.bounds-places-slot

@@ -1,5 +1,4 @@
-use Rattle.std.proofs.Common.{length}
-use Rattle.nit_scene.proofs.LabelSlotLemmas.{LabelledSoFar}
+use Rattle.nit_scene.proofs.Lemmas.{LabelledSoFar, length}
 use Rattle.nit_scene.proofs.screen.labels.place_labels.Given as goal
 
 abbrev pub invariant-views : goal.invariant-views

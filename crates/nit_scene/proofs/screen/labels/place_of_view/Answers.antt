@@ -1,7 +1,4 @@
-use Rattle.std.proofs.Common.{[], length, ap, sym, ◌∙◌, arith}
-use Rattle.std.proofs.lemmas.List.{get_or_read}
-use Rattle.nit_stack.specs.Stack.{IsSlotView, SlotView}
-use Rattle.nit_scene.proofs.LabelSlotLemmas.{holds_at, own_label}
+use Rattle.nit_scene.proofs.Lemmas.{IsSlotView, SlotView, [], ap, arith, get_or_read, holds_at, length, own_label, sym, ◌∙◌}
 use Rattle.nit_scene.proofs.screen.labels.place_of_view.Goals as goal
 
 pub returns : goal.returns

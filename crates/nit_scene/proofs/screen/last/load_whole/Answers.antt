@@ -1,13 +1,5 @@
-use Rattle.std.proofs.Common.{◌≡◌, ◌≤◌, ◌*◌, ℕ, List, drop, length, map, true, ap, sym, ◌∙◌, subst, arith}
-use Rattle.nit_word.specs.Sight.{Sight}
-use Rattle.nit_stack.specs.Stack.{StackModel}
-use Rattle.nit_paint.specs.Repaint.{Repainted}
-use Rattle.nit_paint.specs.Pieces.{source_of_number}
-use Rattle.nit_repaint.specs.Glasses.{HoldBuffers}
-use Rattle.nit_scene.specs.RawWords.{glass_in}
-use Rattle.nit_scene.proofs.StackRoom.{few_views}
-use Rattle.nit_scene.proofs.SessionViews.{handed_on}
-use Rattle.nit_scene.proofs.Lists.{put_back_whole}
+use Rattle.std.proofs.Common.{List, ap, arith, drop, length, map, subst, sym, true, ℕ, ◌*◌, ◌∙◌, ◌≡◌, ◌≤◌}
+use Rattle.nit_scene.proofs.Lemmas.{HoldBuffers, Repainted, Sight, StackModel, few_views, glass_in, handed_on, put_back_whole, source_of_number}
 use Rattle.nit_scene.proofs.screen.last.load_whole.Goals as goal
 
 pub paint_whole-requires-clause-room : goal.paint_whole-requires-clause-room

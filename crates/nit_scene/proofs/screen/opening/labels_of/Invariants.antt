@@ -1,4 +1,4 @@
-use Rattle.std.proofs.Common.{◌≡◌, map, take}
+use Rattle.std.proofs.Common.{map, take, ◌≡◌}
 use Rattle.nit_scene.proofs.screen.opening.labels_of.Given as goal
 
 abbrev pub invariant-loop-client : goal.invariant-loop-client

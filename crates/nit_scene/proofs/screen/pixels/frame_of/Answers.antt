@@ -1,6 +1,5 @@
-use Rattle.std.proofs.Common.{◌≤◌, length, sym, subst, arith}
-use Rattle.nit_stack.specs.Stack.{StackModel}
-use Rattle.nit_scene.proofs.StackRoom.{few_views}
+use Rattle.std.proofs.Common.{arith, length, subst, sym, ◌≤◌}
+use Rattle.nit_scene.proofs.Lemmas.{StackModel, few_views}
 use Rattle.nit_scene.proofs.screen.pixels.frame_of.Goals as goal
 
 pub show_whole-requires-clause-room : goal.show_whole-requires-clause-room

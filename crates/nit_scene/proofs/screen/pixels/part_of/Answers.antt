@@ -1,8 +1,5 @@
-use Rattle.std.proofs.Common.{◌≤◌, ap, length, sym, subst, ◌∙◌, arith}
-use Rattle.nit_stack.specs.ViewNames.{views_of}
-use Rattle.nit_stack.specs.Stack.{StackModel}
-use Rattle.nit_scene.proofs.StackRoom.{few_views}
-use Rattle.nit_scene.proofs.KeptFrames.{part_shown}
+use Rattle.std.proofs.Common.{ap, arith, length, subst, sym, ◌∙◌, ◌≤◌}
+use Rattle.nit_scene.proofs.Lemmas.{StackModel, few_views, part_shown, views_of}
 use Rattle.nit_scene.proofs.screen.pixels.part_of.Goals as goal
 
 pub show_session-requires-clause-room : goal.show_session-requires-clause-room

@@ -1,25 +1,7 @@
-use Rattle.std.proofs.Common.{◌≡◌, ◌<◌, ℕ, ◌*◌, Bool, true, cond, length, map, ap, sym, subst, ◌∙◌, arith}
-use Rattle.nit_config.specs.Configuration.{Configuration}
-use Rattle.std.specs.Prelude.{IsTrue}
-use Rattle.nit_events.specs.declared.device.Mode.{Mode}
-use Rattle.nit_stack.specs.Sources.{pixel}
-use Rattle.nit_paint.proofs.ForCallers.{repainted_words}
-use Rattle.nit_repaint.specs.WantedPixels.{wanted}
-use Rattle.nit_overlay.specs.Look.{draws_labels}
-use Rattle.nit_scene.specs.CallKinds.{IsPartOf}
-use Rattle.nit_repaint.specs.Glasses.{glasses_of_call}
-use Rattle.std.proofs.lemmas.Bool.{false≢true}
-use Rattle.nit_events.specs.declared.call.Call.TheVariants.{Close}
+use Rattle.nit_scene.proofs.Lemmas.{Close, Configuration, IsFrameOf, IsPartOf, Mode, bar_kept, by_mode, can_still, dirty_by_views, draws_labels, entry_painted_in, false≢true, few_views, flat_kept, frame, glasses_of_call, held_by_glasses, kept_part, length-frame, mode_stays, painted_by_views, pixel, raw_in, repainted_words, same_most, scenery_of, state_of, vec_capacity, wanted}
+use Rattle.std.proofs.Common.{Bool, IsTrue, ap, arith, cond, length, map, subst, sym, true, ℕ, ◌*◌, ◌<◌, ◌∙◌, ◌≡◌}
 use Rattle.nit_events.specs.declared.entry.Entry.TheVariants as entry
-use Rattle.nit_overlay.specs.Frame.{frame}
-use Rattle.nit_scene.specs.Pixels.{IsFrameOf, raw_in}
-use Rattle.nit_scene.specs.Scene.{scenery_of}
-use Rattle.nit_scene.specs.Server.{state_of}
-use Rattle.nit_scene.proofs.KeptFrames.{can_still, kept_part}
-use Rattle.nit_scene.proofs.OneList.{bar_kept, by_mode, entry_painted_in, flat_kept, mode_stays}
-use Rattle.nit_scene.proofs.SessionViews.{dirty_by_views, painted_by_views}
-use Rattle.nit_scene.proofs.StackRoom.{few_views, same_most}
-use Rattle.nit_scene.proofs.ScreenLemmas.{held_by_glasses, same_config}
+use Rattle.nit_scene.proofs.ScreenLemmas.{same_config}
 use Rattle.nit_scene.proofs.screen.sessions.change_buffer.Goals as goal
 
 pub paint_views-requires-clause-room : goal.paint_views-requires-clause-room
@@ -46,11 +28,20 @@ show_part-requires-clause-can g c =
     let s' = c.accept-reply.new.self in
     let p = c.args.pixels.now in
     let raw' = c.paint_views.new.raw.items in
-    can_still s s' p.raw.items raw' p.frame.items p.cutter.room c.paint_views.new.cutter.room p.labels.items (length p.places.items) p.bar
+    can_still s s' p.raw.items raw' (length p.frame.items) (vec_capacity p.frame) p.cutter.room c.paint_views.new.cutter.room p.labels.items (length p.places.items) p.bar
     (same_config c.args.sid c.args.call.now c.accept-reply.result s s' c.accept-reply.ensures)
     (same_most s s' c.args.sid c.args.call.now c.accept-reply.result c.facts.ensures c.facts-2.ensures c.accept-reply.ensures)
     c.paint_views.ensures.count (repainted_words _ _ _ _ _ p.raw.items raw' c.paint_views.ensures.count c.paint_views.ensures.painted c.requires.pixels.0.words)
     c.paint_views.ensures.room c.requires.pixels.0
+
+pub show_part-requires-clause-apart : goal.show_part-requires-clause-apart
+show_part-requires-clause-apart g c = λ m.
+    let s = c.args.server.now in
+    let p = c.args.pixels.now in
+    let other : c.args.call.now ≡ Close → ⊥ = λ q. subst (IsPartOf c.args.part.now) q c.requires.on in
+    let labelled : IsTrue (draws_labels s.input.mode) = subst (λ (x : Mode). IsTrue (draws_labels x)) (c.mode.ensures ∙ mode_stays s c.accept-reply.new.self c.args.sid c.args.call.now c.accept-reply.result other c.accept-reply.ensures) m in
+    let was : p.frame.items ≡ frame (scenery_of (state_of s)) p.raw.items = subst (λ (b : Bool). cond b p.frame.items p.raw.items ≡ frame (scenery_of (state_of s)) (raw_in b p.bar p.raw.items)) (c.requires.pixels.2 labelled) c.requires.pixels.1 in
+    ap length was ∙ length-frame (scenery_of (state_of s)) p.raw.items ∙ sym (c.paint_views.ensures.count ∙ c.requires.pixels.0.pixels)
 
 -- the pixels that are shown again are the dirty ones
 pub returns-clause-pixels : goal.returns-clause-pixels
@@ -75,7 +66,7 @@ returns-clause-pixels g c =
     by_mode s'.input.mode
     (λ m. (
       e.can,
-      subst (IsFrameOf s') (sym (e.flat (c.mode.ensures ∙ m))) (flat_kept s s' c.args.sid call reply glasses glasses' p.is_apart p.bar p.raw.items c.paint_views.new.raw.items p.frame.items p.cutter.room p.labels.items (length p.places.items) chosen
+      subst (IsFrameOf s') (sym (e.flat (c.mode.ensures ∙ m))) (flat_kept s s' c.args.sid call reply glasses glasses' p.is_apart p.bar p.raw.items c.paint_views.new.raw.items p.frame.items (length p.frame.items) (vec_capacity p.frame) p.cutter.room p.labels.items (length p.places.items) chosen
           c.requires.session other c.accept-reply.ensures some c.requires.pixels.0 c.paint_views.ensures.count bar_ painted is_dirty c.requires.one m c.requires.pixels.1),
       λ d. absurd (false≢true (sym (ap draws_labels m) ∙ d)),
     ))

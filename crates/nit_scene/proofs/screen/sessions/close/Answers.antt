@@ -1,14 +1,7 @@
-use Rattle.std.proofs.Common.{length, map, refl, sym, ap, subst}
+use Rattle.nit_scene.proofs.Lemmas.{IsServed, ServerModel, ap, bar_kept, can_still, close_painted, closed, entry_painted_in, held_by_glasses, length, map, refl, repainted_words, state_of, subst, sym, vec_capacity}
 use Rattle.nit_events.specs.declared.call.Call.TheVariants as call
 use Rattle.nit_events.specs.declared.call.Reply.TheVariants as reply
-use Rattle.nit_scene.specs.Server.{IsServed, ServerModel, state_of}
-use Rattle.nit_paint.proofs.ForCallers.{repainted_words}
-use Rattle.nit_scene.proofs.SessionEnds.{close_painted}
-use Rattle.nit_scene.proofs.ViewsGone.{closed}
 use Rattle.nit_events.specs.declared.entry.Entry.TheVariants as entry
-use Rattle.nit_scene.proofs.KeptFrames.{can_still}
-use Rattle.nit_scene.proofs.OneList.{bar_kept, entry_painted_in}
-use Rattle.nit_scene.proofs.ScreenLemmas.{held_by_glasses}
 use Rattle.nit_scene.proofs.screen.sessions.close.Goals as goal
 
 pub end_session-requires-clause-held : goal.end_session-requires-clause-held
@@ -28,7 +21,7 @@ redraw-requires g c =
     let raw' = c.end_session.new.raw.items in
     let e = c.end_session.ensures in
     record {
-      can = can_still s s' p.raw.items raw' p.frame.items p.cutter.room c.end_session.new.cutter.room p.labels.items (length p.places.items) p.bar
+      can = can_still s s' p.raw.items raw' (length p.frame.items) (vec_capacity p.frame) p.cutter.room c.end_session.new.cutter.room p.labels.items (length p.places.items) p.bar
           (ap (λ (t : ServerModel). t.config) e.server) (ap (λ (t : ServerModel). t.stack.most) e.server) e.count (repainted_words _ _ _ _ _ p.raw.items raw' e.count e.painted c.requires.pixels.0.words) e.room c.requires.pixels.0;
     }
 

@@ -1,6 +1,5 @@
-use Rattle.std.proofs.Common.{◌*◌, sym, ◌∙◌, arith}
-use Rattle.nit_scene.proofs.SessionEnds.{ended_painted, ended_server}
-use Rattle.nit_scene.proofs.StackRoom.{few_views}
+use Rattle.std.proofs.Common.{arith, sym, ◌*◌, ◌∙◌}
+use Rattle.nit_scene.proofs.Lemmas.{ended_painted, ended_server, few_views}
 use Rattle.nit_scene.proofs.screen.sessions.end_session.Goals as goal
 
 pub take_views_away-requires-clause-room : goal.take_views_away-requires-clause-room

@@ -1,13 +1,5 @@
-use Rattle.std.proofs.Common.{◌≡◌, ℕ, ◌<◌, ◌≤◌, length, map, ap, subst, sym, ◌∙◌, arith}
-use Rattle.std.proofs.lemmas.List.{length-map}
-use Rattle.nit_repaint.proofs.ForCallers.{held_by_all}
-use Rattle.nit_scene.specs.RawWords.{glass_in}
-use Rattle.nit_paint.proofs.ForCallers.{repainted_words}
-use Rattle.nit_scene.specs.Server.{ServerModel, state_of}
-use Rattle.nit_scene.proofs.SessionEnds.{nobody_ends}
-use Rattle.nit_scene.proofs.KeptFrames.{can_still}
-use Rattle.nit_scene.proofs.OneList.{bar_is_bare, bar_kept, painted_in}
-use Rattle.nit_scene.proofs.ScreenLemmas.{holds}
+use Rattle.nit_scene.proofs.Lemmas.{ServerModel, bar_is_bare, bar_kept, can_still, glass_in, held_by_all, holds, length-map, nobody_ends, painted_in, repainted_words, state_of, vec_capacity}
+use Rattle.std.proofs.Common.{ap, arith, length, map, subst, sym, ℕ, ◌<◌, ◌∙◌, ◌≡◌, ◌≤◌}
 use Rattle.nit_scene.proofs.screen.sessions.kill_session.Goals as goal
 
 pub end_session-requires-clause-held : goal.end_session-requires-clause-held
@@ -25,7 +17,7 @@ redraw-requires g c =
     let raw' = c.end_session.new.raw.items in
     let e = c.end_session.ensures in
     record {
-      can = can_still s s' p.raw.items raw' p.frame.items p.cutter.room c.end_session.new.cutter.room p.labels.items (length p.places.items) p.bar
+      can = can_still s s' p.raw.items raw' (length p.frame.items) (vec_capacity p.frame) p.cutter.room c.end_session.new.cutter.room p.labels.items (length p.places.items) p.bar
           (ap (λ (t : ServerModel). t.config) e.server) (ap (λ (t : ServerModel). t.stack.most) e.server) e.count (repainted_words _ _ _ _ _ p.raw.items raw' e.count e.painted c.requires.can.words) e.room c.requires.can;
     }
 

@@ -1,13 +1,5 @@
-use Rattle.std.proofs.Common.{◌≡◌, ℕ, List, ap, drop, length, map, arith}
-use Rattle.nit_word.specs.Sight.{Sight}
-use Rattle.nit_stack.specs.Sources.{pixel}
-use Rattle.nit_stack.specs.Stack.{StackModel}
-use Rattle.nit_paint.specs.Repaint.{Repainted}
-use Rattle.nit_paint.specs.Pieces.{source_of_number}
-use Rattle.nit_repaint.specs.WantedPixels.{wanted}
-use Rattle.nit_repaint.specs.Glasses.{glasses_of_call}
-use Rattle.nit_scene.proofs.SessionViews.{handed_on}
-use Rattle.nit_scene.proofs.Lists.{put_back_whole}
+use Rattle.std.proofs.Common.{List, ap, arith, drop, length, map, ℕ, ◌≡◌}
+use Rattle.nit_scene.proofs.Lemmas.{Repainted, Sight, StackModel, glasses_of_call, handed_on, pixel, put_back_whole, source_of_number, wanted}
 use Rattle.nit_scene.proofs.screen.sessions.paint_views.Goals as goal
 
 pub returns-clause-painted : goal.returns-clause-painted

@@ -1,22 +1,7 @@
-use Rattle.std.proofs.Common.{◌*◌, ◌<◌, ℕ, length, map, ap, sym, ◌∙◌, subst, arith}
-use Rattle.nit_config.specs.Configuration.{Configuration}
-use Rattle.std.specs.Prelude.{IsTrue}
-use Rattle.nit_events.specs.declared.device.Mode.{Mode}
-use Rattle.nit_stack.specs.Sources.{pixel}
-use Rattle.nit_paint.proofs.ForCallers.{repainted_words}
-use Rattle.nit_repaint.specs.ViewChange.{IsViewChange, slot_owns_either}
-use Rattle.nit_overlay.specs.Look.{draws_labels}
-use Rattle.nit_scene.specs.CallKinds.{IsOn}
-use Rattle.nit_repaint.specs.Glasses.{glasses_of_call}
+use Rattle.nit_scene.proofs.Lemmas.{Configuration, IsFrameOf, IsOn, IsViewChange, Mode, bar_kept, by_mode, can_still, change_stood, dirty_by_change, draws_labels, entry_painted_in, false≢true, few_views, flat_kept, glasses_of_call, held_by_glasses, named_stands, painted_by_change, pixel, repainted_words, same_most, slot_owns_either, state_of, vec_capacity}
+use Rattle.std.proofs.Common.{IsTrue, ap, arith, length, map, subst, sym, ℕ, ◌*◌, ◌<◌, ◌∙◌}
 use Rattle.nit_events.specs.declared.entry.Entry.TheVariants as entry
-use Rattle.std.proofs.lemmas.Bool.{false≢true}
-use Rattle.nit_scene.specs.Pixels.{IsFrameOf}
-use Rattle.nit_scene.specs.Server.{state_of}
-use Rattle.nit_scene.proofs.KeptFrames.{can_still}
-use Rattle.nit_scene.proofs.OneList.{bar_kept, by_mode, entry_painted_in, flat_kept}
-use Rattle.nit_scene.proofs.OneViewChanges.{change_stood, dirty_by_change, named_stands, painted_by_change}
-use Rattle.nit_scene.proofs.StackRoom.{few_views, same_most}
-use Rattle.nit_scene.proofs.ScreenLemmas.{held_by_glasses, same_config}
+use Rattle.nit_scene.proofs.ScreenLemmas.{same_config}
 use Rattle.nit_scene.proofs.screen.views.change_view.Goals as goal
 
 pub stood-place-requires : goal.stood-place-requires
@@ -49,7 +34,7 @@ show_views-requires-clause-can g c =
     let change : IsViewChange c.slot-v.result.0 c.stood-place.result.0 c.stood-place.result.1 s.stack s'.stack =
     change_stood s s' c.args.sid c.args.handle c.slot-v.result.0 c.args.call.now c.accept-reply.result c.stood-place.result.0 c.stood-place.result.1 c.facts.ensures c.facts-2.ensures c.requires.accepted c.accept-reply.ensures c.requires.on c.slot-v.ensures
     c.stood-place.ensures.place c.stood-place.ensures.seat in
-    can_still s s' p.raw.items raw' p.frame.items p.cutter.room c.paint_change.new.cutter.room p.labels.items (length p.places.items) p.bar
+    can_still s s' p.raw.items raw' (length p.frame.items) (vec_capacity p.frame) p.cutter.room c.paint_change.new.cutter.room p.labels.items (length p.places.items) p.bar
     (same_config c.args.sid c.args.call.now c.accept-reply.result s s' c.accept-reply.ensures)
     (same_most s s' c.args.sid c.args.call.now c.accept-reply.result c.facts.ensures c.facts-2.ensures c.accept-reply.ensures)
     c.paint_change.ensures.count (repainted_words _ _ _ _ _ p.raw.items raw' c.paint_change.ensures.count (c.paint_change.ensures.painted s.stack change) c.requires.pixels.0.words)
@@ -74,7 +59,7 @@ returns-clause-pixels g c =
     by_mode s'.input.mode
     (λ m. (
       e.can,
-      subst (IsFrameOf s') (sym (e.flat (c.mode.ensures ∙ m))) (flat_kept s s' c.args.sid c.args.call.now c.accept-reply.result _ _ p.is_apart p.bar p.raw.items c.paint_change.new.raw.items p.frame.items p.cutter.room p.labels.items (length p.places.items)
+      subst (IsFrameOf s') (sym (e.flat (c.mode.ensures ∙ m))) (flat_kept s s' c.args.sid c.args.call.now c.accept-reply.result _ _ p.is_apart p.bar p.raw.items c.paint_change.new.raw.items p.frame.items (length p.frame.items) (vec_capacity p.frame) p.cutter.room p.labels.items (length p.places.items)
           (λ (k : ℕ). slot_owns_either v.0 s.stack s'.stack (pixel s'.stack.width k))
           c.requires.session (λ q. subst (IsOn c.args.handle) q c.requires.on) c.accept-reply.ensures some c.requires.pixels.0 c.paint_change.ensures.count bar_ painted
           (dirty_by_change s s' c.args.sid c.args.handle v c.args.call.now c.accept-reply.result c.facts.ensures c.facts-2.ensures c.requires.accepted c.accept-reply.ensures c.requires.on c.slot-v.ensures)

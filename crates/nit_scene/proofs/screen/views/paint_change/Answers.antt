@@ -1,7 +1,5 @@
-use Rattle.std.proofs.Common.{◌≡◌, ap, drop, length, map, arith}
-use Rattle.nit_repaint.specs.Glasses.{glasses_of_call}
-use Rattle.nit_scene.proofs.OneViewChanges.{handed}
-use Rattle.nit_scene.proofs.Lists.{put_back_whole}
+use Rattle.std.proofs.Common.{ap, arith, drop, length, map, ◌≡◌}
+use Rattle.nit_scene.proofs.Lemmas.{glasses_of_call, handed, put_back_whole}
 use Rattle.nit_scene.proofs.screen.views.paint_change.Goals as goal
 
 pub returns-clause-painted : goal.returns-clause-painted

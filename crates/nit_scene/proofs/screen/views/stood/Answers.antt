@@ -1,5 +1,5 @@
-use Rattle.std.proofs.Common.{◌≡◌, Some, refl, subst}
-use Rattle.nit_stack.specs.Stack.{StackModel, slot_view_in}
+use Rattle.std.proofs.Common.{Some, refl, subst, ◌≡◌}
+use Rattle.nit_scene.proofs.Lemmas.{StackModel, slot_view_in}
 use Rattle.nit_scene.proofs.screen.views.stood.Goals as goal
 
 pub returns-clause-seat : goal.returns-clause-seat

@@ -1,13 +1,4 @@
-use Rattle.std.proofs.Common.{ℕ, refl, ap, sym, ◌∙◌, subst}
-use Rattle.nit_stack.specs.ViewNames.{IsNamedBy}
-use Rattle.nit_stack.specs.Sources.{pixel}
-use Rattle.nit_repaint.specs.ViewChange.{IsViewChange}
-use Rattle.nit_repaint.specs.ViewRemoval.{uncovered}
-use Rattle.nit_stack.proofs.ForCallers.{place_is}
-use Rattle.nit_repaint.proofs.ForCallers.{gone_change, gone_painted, gone_room, goes, goes_painted, stays, stays_clean, seat_here}
-use Rattle.nit_scene.specs.ViewsTaken.{without_views}
-use Rattle.nit_scene.proofs.OneViewChanges.{gone_by_slot}
-use Rattle.nit_scene.proofs.ViewsGone.{one_less}
+use Rattle.nit_scene.proofs.Lemmas.{IsNamedBy, IsViewChange, ap, goes, goes_painted, gone_by_slot, gone_change, gone_painted, gone_room, one_less, pixel, place_is, refl, seat_here, stays, stays_clean, subst, sym, uncovered, without_views, ℕ, ◌∙◌}
 use Rattle.nit_scene.proofs.screen.views.take_seat_away.Goals as goal
 
 pub returns-then-view-of-clause-taken : goal.returns-then-view-of-clause-taken

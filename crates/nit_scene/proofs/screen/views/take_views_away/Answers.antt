@@ -1,13 +1,5 @@
-use Rattle.std.proofs.Common.{◌≡◌, ℕ, ◌+◌, ◌-◌, ◌*◌, ◌≤◌, ◌<◌, false, length, map, refl, ◌∙◌, sym, ap, subst, arith}
-use Rattle.std.specs.Prelude.{drop}
-use Rattle.std.specs.List.{list_any}
-use Rattle.std.proofs.lemmas.List.{length-map}
-use Rattle.nit_stack.specs.Sources.{pixel}
-use Rattle.nit_stack.specs.Stack.{StackModel, is_of_session}
-use Rattle.nit_paint.proofs.ForCallers.{other_count, repainted_none}
-use Rattle.nit_repaint.specs.ViewRemoval.{IsRemovedFrom, uncovered}
-use Rattle.nit_repaint.proofs.ForCallers.{all_painted, all_taken, painted_more, stays_clean, taken_held, taken_more, taken_none}
-use Rattle.nit_repaint.specs.Glasses.{glasses_of_call}
+use Rattle.nit_scene.proofs.Lemmas.{IsRemovedFrom, StackModel, all_painted, all_taken, glasses_of_call, is_of_session, length-map, list_any, other_count, painted_more, pixel, repainted_none, stays_clean, taken_held, taken_more, taken_none, uncovered}
+use Rattle.std.proofs.Common.{ap, arith, drop, false, length, map, refl, subst, sym, ℕ, ◌*◌, ◌+◌, ◌-◌, ◌<◌, ◌∙◌, ◌≡◌, ◌≤◌}
 use Rattle.nit_scene.proofs.screen.views.take_views_away.Goals as goal
 
 pub views-init : goal.views-init

@@ -1,10 +1,5 @@
-use Rattle.std.proofs.Common.{◌≡◌, ◌<◌, length, map, slice_index_or}
-use Rattle.nit_stack.specs.Sources.{pixel}
-use Rattle.nit_paint.specs.Repaint.{Repainted, no_sight}
-use Rattle.nit_paint.specs.Pieces.{source_of_number}
-use Rattle.nit_repaint.specs.ViewRemoval.{IsRemovedFrom, uncovered, without_session}
-use Rattle.nit_repaint.specs.Glasses.{glasses_of_call}
-use Rattle.nit_scene.specs.ViewsTaken.{without_views}
+use Rattle.std.proofs.Common.{length, map, slice_index_or, ◌<◌, ◌≡◌}
+use Rattle.nit_scene.proofs.Lemmas.{IsRemovedFrom, Repainted, glasses_of_call, no_sight, pixel, source_of_number, uncovered, without_session, without_views}
 use Rattle.nit_scene.proofs.screen.views.take_views_away.Given as goal
 
 abbrev pub invariant-views : goal.invariant-views

@@ -1,4 +1,4 @@
-use Rattle.std.proofs.Common.{◌≡◌, take}
+use Rattle.std.proofs.Common.{take, ◌≡◌}
 use Rattle.nit_scene.proofs.server.copy.copied_clients.Given as goal
 
 abbrev pub invariant-loop-client : goal.invariant-loop-client

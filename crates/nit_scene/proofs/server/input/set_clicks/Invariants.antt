@@ -1,5 +1,5 @@
-use Rattle.std.proofs.Common.{◌≡◌, ℕ, ◌<◌, ◌≤◌, true, false, slice_index_or}
-use Rattle.nit_scene.specs.ServerInput.{client_in}
+use Rattle.std.proofs.Common.{false, slice_index_or, true, ℕ, ◌<◌, ◌≡◌, ◌≤◌}
+use Rattle.nit_scene.proofs.Lemmas.{client_in}
 use Rattle.nit_scene.proofs.server.input.set_clicks.Given as goal
 
 abbrev pub invariant-loop-sid : goal.invariant-loop-sid

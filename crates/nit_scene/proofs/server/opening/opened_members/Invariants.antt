@@ -1,5 +1,5 @@
-use Rattle.std.proofs.Common.{◌≡◌, map, take}
-use Rattle.nit_scene.specs.ServerOpening.{first_scene_session}
+use Rattle.std.proofs.Common.{map, take, ◌≡◌}
+use Rattle.nit_scene.proofs.Lemmas.{first_scene_session}
 use Rattle.nit_scene.proofs.server.opening.opened_members.Given as goal
 
 abbrev pub invariant-loop-client : goal.invariant-loop-client

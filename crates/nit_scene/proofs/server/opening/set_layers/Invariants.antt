@@ -1,4 +1,4 @@
-use Rattle.std.proofs.Common.{◌≡◌, length, map, take}
+use Rattle.std.proofs.Common.{length, map, take, ◌≡◌}
 use Rattle.nit_scene.proofs.server.opening.set_layers.Given as goal
 
 abbrev pub invariant-loop-sid : goal.invariant-loop-sid

@@ -1,5 +1,5 @@
-use Rattle.std.proofs.Common.{◌≡◌, ◌≤◌, ◌*◌, take}
-use Rattle.nit_scene.specs.ServerOpening.{slots_of_all}
+use Rattle.std.proofs.Common.{take, ◌*◌, ◌≡◌, ◌≤◌}
+use Rattle.nit_scene.proofs.Lemmas.{slots_of_all}
 use Rattle.nit_scene.proofs.server.opening.slots_of_all.Given as goal
 
 abbrev pub invariant-loop-client : goal.invariant-loop-client

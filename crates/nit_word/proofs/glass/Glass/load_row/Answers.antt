@@ -1,5 +1,4 @@
-use Rattle.std.proofs.Common.{◌∙◌, arith, length-set}
-use Rattle.nit_word.proofs.Loads.{one_loaded}
+use Rattle.nit_word.proofs.Lemmas.{arith, length-set, one_loaded, ◌∙◌}
 use Rattle.nit_word.proofs.glass.Glass.load_row.Goals as goal
 
 pub places-preserved : goal.places-preserved

@@ -1,5 +1,5 @@
-use Rattle.std.proofs.Common.{◌≡◌, length}
-use Rattle.nit_word.proofs.Loads.{IsLoadedTo}
+use Rattle.std.proofs.Common.{length, ◌≡◌}
+use Rattle.nit_word.proofs.Lemmas.{IsLoadedTo}
 use Rattle.nit_word.proofs.glass.Glass.load_row.Given as goal
 
 abbrev pub invariant-places : goal.invariant-places

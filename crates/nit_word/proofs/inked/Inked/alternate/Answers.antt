@@ -1,7 +1,4 @@
-use Rattle.std.proofs.Common.{◌∙◌, ap, length}
-use Rattle.nit_word.specs.Updates.{in_turn, is_between, set_where}
-use Rattle.nit_word.proofs.UpdateLemmas.{set_long}
-use Rattle.nit_word.proofs.InkUpdates.{alternated_inked, sight_changed}
+use Rattle.nit_word.proofs.Lemmas.{alternated_inked, ap, in_turn, is_between, length, set_long, set_where, sight_changed, ◌∙◌}
 use Rattle.nit_word.proofs.inked.Inked.alternate.Goals as goal
 
 pub invariant_of-self : goal.invariant_of-self

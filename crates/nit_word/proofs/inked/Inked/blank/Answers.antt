@@ -1,4 +1,4 @@
-use Rattle.nit_word.proofs.InkUpdates.{zeros_inked}
+use Rattle.nit_word.proofs.Lemmas.{zeros_inked}
 use Rattle.nit_word.proofs.inked.Inked.blank.Goals as goal
 
 pub invariant_of-result : goal.invariant_of-result

@@ -1,10 +1,4 @@
-use Rattle.std.proofs.Common.{◌∙◌, ℕ, List, All, ap, length, subst, sym}
-use Rattle.std.specs.Prelude.{slice_index}
-use Rattle.nit_word.specs.Inks.{IsInked}
-use Rattle.nit_word.specs.Updates.{is_between, set_where, with_words}
-use Rattle.nit_word.specs.Sight.{Sight, told_at}
-use Rattle.nit_word.proofs.UpdateLemmas.{set_long}
-use Rattle.nit_word.proofs.InkUpdates.{copied_inked, sight_changed}
+use Rattle.nit_word.proofs.Lemmas.{All, IsInked, List, Sight, ap, copied_inked, is_between, length, set_long, set_where, sight_changed, slice_index, subst, sym, told_at, with_words, ℕ, ◌∙◌}
 use Rattle.nit_word.proofs.inked.Inked.copy.Goals as goal
 
 pub invariant_of-self : goal.invariant_of-self

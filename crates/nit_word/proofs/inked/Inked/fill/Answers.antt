@@ -1,7 +1,4 @@
-use Rattle.std.proofs.Common.{◌∙◌, ap, length}
-use Rattle.nit_word.specs.Updates.{is_between, set_where}
-use Rattle.nit_word.proofs.UpdateLemmas.{set_long}
-use Rattle.nit_word.proofs.InkUpdates.{filled_inked, sight_changed}
+use Rattle.nit_word.proofs.Lemmas.{ap, filled_inked, is_between, length, set_long, set_where, sight_changed, ◌∙◌}
 use Rattle.nit_word.proofs.inked.Inked.fill.Goals as goal
 
 pub invariant_of-self : goal.invariant_of-self

@@ -1,8 +1,4 @@
-use Rattle.std.proofs.Common.{List, ℕ, All, ap, subst}
-use Rattle.nit_word.specs.Inks.{IsInked}
-use Rattle.nit_word.specs.Sight.{Sight}
-use Rattle.nit_word.proofs.WordsInInk.{all_fit}
-use Rattle.nit_word.proofs.InkUpdates.{reached_inked}
+use Rattle.nit_word.proofs.Lemmas.{All, IsInked, List, Sight, all_fit, ap, reached_inked, subst, ℕ}
 use Rattle.nit_word.proofs.inked.Inked.words.Goals as goal
 
 pub returns-clause-inked : goal.returns-clause-inked

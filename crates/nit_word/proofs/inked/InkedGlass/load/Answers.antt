@@ -1,4 +1,4 @@
-use Rattle.nit_word.proofs.WordsInInk.{place_loaded}
+use Rattle.nit_word.proofs.Lemmas.{place_loaded}
 use Rattle.nit_word.proofs.inked.InkedGlass.load.Goals as goal
 
 pub returns-clause-loaded : goal.returns-clause-loaded

@@ -1,6 +1,4 @@
-use Rattle.std.proofs.Common.{arith, ap}
-use Rattle.nit_word.specs.Sight.{Sight}
-use Rattle.nit_word.proofs.WordsInInk.{row_loaded}
+use Rattle.nit_word.proofs.Lemmas.{Sight, ap, arith, row_loaded}
 use Rattle.nit_word.proofs.inked.InkedGlass.load_row.Goals as goal
 
 pub returns-clause-loaded : goal.returns-clause-loaded

@@ -1,4 +1,4 @@
-use Rattle.nit_word.proofs.Bits.{dim_lanes}
+use Rattle.nit_word.proofs.Lemmas.{dim_lanes}
 use Rattle.nit_word.proofs.shade.DimmedShade.block.Goals as goal
 
 pub returns : goal.returns

@@ -1,4 +1,4 @@
-use Rattle.nit_word.proofs.Bits.{tint_lanes}
+use Rattle.nit_word.proofs.Lemmas.{tint_lanes}
 use Rattle.nit_word.proofs.shade.TintedShade.block.Goals as goal
 
 pub returns : goal.returns

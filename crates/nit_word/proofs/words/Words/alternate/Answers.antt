@@ -1,6 +1,4 @@
-use Rattle.std.proofs.Common.{◌∙◌, length, ap, sym, arith}
-use Rattle.nit_word.specs.Updates.{is_between, in_turn}
-use Rattle.nit_word.proofs.ReachedWords.{IsSetIn, none_past, reached_long, set_in, whole_long}
+use Rattle.nit_word.proofs.Lemmas.{IsSetIn, ap, arith, in_turn, is_between, length, none_past, reached_long, set_in, sym, whole_long, ◌∙◌}
 use Rattle.nit_word.proofs.words.Words.alternate.Goals as goal
 
 pub reach-requires : goal.reach-requires

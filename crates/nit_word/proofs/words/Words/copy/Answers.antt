@@ -1,30 +1,43 @@
-use Rattle.std.proofs.Common.{◌∙◌, ℕ, List, length, ap, sym, arith}
-use Rattle.std.specs.Prelude.{slice_index}
-use Rattle.nit_word.specs.Updates.{is_between}
-use Rattle.nit_word.proofs.UpdateLemmas.{same_colours}
-use Rattle.nit_word.proofs.ReachedWords.{IsSetIn, filled_at, none_past, reached_long, set_in, whole_long}
+use Rattle.std.proofs.Common.{List, ap, arith, length, min, sym, ℕ, ◌∙◌, ◌≡◌}
+use Rattle.nit_word.proofs.Lemmas.{IsSetIn, copied_in, filled_at, filled_up, is_between, none_copied, reached_long, same_colours, set_where, slice_index, whole_long, wiped_in}
 use Rattle.nit_word.proofs.words.Words.copy.Goals as goal
 
-pub reach-requires : goal.reach-requires
-reach-requires c = let long = whole_long _ _ _ c.self.view_is c.self.invariant.0 in omega (arith, long, c.requires.room, c.self.invariant.1)
-
-pub copy_words-requires-clause-room : goal.copy_words-requires-clause-room
-copy_words-requires-clause-room c = omega (arith, ap length c.deref_mut.ensures.value, reached_long c.args.to _ _ c.reach.ensures.items)
+-- the words of others are those that are kept
+shown : (from to : ℕ) (words others : List ℕ) (size : ℕ) (known : List ℕ) → filled_up size known ≡ others → set_where (is_between from to) (slice_index known) words ≡ set_where (is_between from to) (slice_index others) words
+shown from to words others size known is = same_colours (is_between from to) (slice_index known) (slice_index others) words (λ k inside. sym (filled_at size known k) ∙ ap (λ (ws : List ℕ). slice_index ws k) is)
 
 pub invariant_of-self : goal.invariant_of-self
 invariant_of-self c =
+    let after = wiped_in c.args.from c.args.to c.self.inside.size c.args.self.now _ c.wipe.new.words.items c.self.view_is c.self.invariant.0 c.wipe.ensures.items in
+    (after.few, omega (arith, c.self.invariant.1, c.wipe.ensures.capacity))
+
+pub returns-then-known-from : goal.returns-then-known-from
+returns-then-known-from c =
+    let after = wiped_in c.args.from c.args.to c.self.inside.size c.args.self.now _ c.wipe.new.words.items c.self.view_is c.self.invariant.0 c.wipe.ensures.items in
+    after.all ∙ none_copied c.args.from c.args.to c.others.inside.reached.items c.args.self.now (omega (arith, c.if-known-from.true, c.len-known.ensures, c.others.inside.reached.ok.0)) ∙ shown c.args.from c.args.to c.args.self.now c.args.others.now c.others.inside.size c.others.inside.reached.items c.others.view_is
+
+pub reach-requires : goal.reach-requires
+reach-requires c = let long = whole_long _ _ _ c.self.view_is c.self.invariant.0 in omega (arith, long, c.requires.room, c.self.invariant.1, c.min-end.ensures)
+
+pub copy_words-requires-clause-room : goal.copy_words-requires-clause-room
+copy_words-requires-clause-room c = omega (arith, ap length c.deref_mut.ensures.value, reached_long c.min-end.result _ _ c.reach.ensures.items)
+
+pub invariant_of-self-2 : goal.invariant_of-self-2
+invariant_of-self-2 c =
     let long = whole_long _ _ _ c.self.view_is c.self.invariant.0 in
-    let after : IsSetIn c.self.inside.size (is_between c.args.from c.args.to) (slice_index c.deref.result.now) c.args.self.now _ =
-    set_in (is_between c.args.from c.args.to) (slice_index c.deref.result.now) c.self.inside.size c.args.to _ c.args.self.now _ c.deref_mut.result.now c.copy_words.new.words _ c.self.view_is c.self.invariant.0 (omega (arith, long, c.requires.room))
-    (c.deref_mut.ensures.value ∙ c.reach.ensures.items) c.copy_words.ensures (sym c.deref_mut.ensures.len) (λ k past. none_past c.args.from c.args.to k past) in
-    (after.few, omega (arith, c.self.invariant.1, c.reach.ensures.capacity))
+    let known = c.others.inside.reached in
+    let after : IsSetIn c.self.inside.size (is_between c.args.from c.args.to) (slice_index known.items) c.args.self.now _ =
+    copied_in c.args.from c.args.to c.min-end.result _ c.self.inside.size known.items c.args.self.now _ c.deref_mut.result.now c.copy_words.new.words _ c.wipe-2.new.words.items c.self.view_is c.self.invariant.0 c.requires.order
+    (omega (arith, long, c.requires.room)) (omega (arith, c.if-known-from.false, c.len-known.ensures, known.ok.0)) (c.min-end.ensures ∙ ap (min c.args.to) (c.len-known.ensures ∙ known.ok.0))
+    (c.deref_mut.ensures.value ∙ c.reach.ensures.items) (c.copy_words.ensures ∙ ap (λ (ws : List ℕ). set_where (is_between c.args.from c.min-end.result) (slice_index ws) c.deref_mut.result.now) c.deref.ensures.value) (sym c.deref_mut.ensures.len) c.wipe-2.ensures.items in
+    (after.few, omega (arith, c.self.invariant.1, c.reach.ensures.capacity, c.wipe-2.ensures.capacity))
 
 pub returns : goal.returns
 returns c =
     let long = whole_long _ _ _ c.self.view_is c.self.invariant.0 in
-    let after : IsSetIn c.self.inside.size (is_between c.args.from c.args.to) (slice_index c.deref.result.now) c.args.self.now _ =
-    set_in (is_between c.args.from c.args.to) (slice_index c.deref.result.now) c.self.inside.size c.args.to _ c.args.self.now _ c.deref_mut.result.now c.copy_words.new.words _ c.self.view_is c.self.invariant.0 (omega (arith, long, c.requires.room))
-    (c.deref_mut.ensures.value ∙ c.reach.ensures.items) c.copy_words.ensures (sym c.deref_mut.ensures.len) (λ k past. none_past c.args.from c.args.to k past) in
-    after.all
-    ∙ same_colours (is_between c.args.from c.args.to) (slice_index c.deref.result.now) (slice_index c.args.others.now) c.args.self.now
-    (λ k inside. ap (λ (ws : List ℕ). slice_index ws k) c.deref.ensures.value ∙ sym (filled_at c.others.inside.size c.others.inside.reached.items k) ∙ ap (λ (ws : List ℕ). slice_index ws k) c.others.view_is)
+    let known = c.others.inside.reached in
+    let after : IsSetIn c.self.inside.size (is_between c.args.from c.args.to) (slice_index known.items) c.args.self.now _ =
+    copied_in c.args.from c.args.to c.min-end.result _ c.self.inside.size known.items c.args.self.now _ c.deref_mut.result.now c.copy_words.new.words _ c.wipe-2.new.words.items c.self.view_is c.self.invariant.0 c.requires.order
+    (omega (arith, long, c.requires.room)) (omega (arith, c.if-known-from.false, c.len-known.ensures, known.ok.0)) (c.min-end.ensures ∙ ap (min c.args.to) (c.len-known.ensures ∙ known.ok.0))
+    (c.deref_mut.ensures.value ∙ c.reach.ensures.items) (c.copy_words.ensures ∙ ap (λ (ws : List ℕ). set_where (is_between c.args.from c.min-end.result) (slice_index ws) c.deref_mut.result.now) c.deref.ensures.value) (sym c.deref_mut.ensures.len) c.wipe-2.ensures.items in
+    after.all ∙ shown c.args.from c.args.to c.args.self.now c.args.others.now c.others.inside.size known.items c.others.view_is

@@ -1,7 +1,4 @@
-use Rattle.std.proofs.Common.{◌∙◌, List, ℕ, ap, sym, arith}
-use Rattle.std.specs.Prelude.{slice_index}
-use Rattle.std.proofs.Math.ListN.{get_or-eq_default}
-use Rattle.nit_word.proofs.ReachedWords.{filled_at}
+use Rattle.nit_word.proofs.Lemmas.{List, ap, arith, filled_at, get_or-eq_default, slice_index, sym, ℕ, ◌∙◌}
 use Rattle.nit_word.proofs.words.Words.get.Goals as goal
 
 pub returns-else-i-len : goal.returns-else-i-len

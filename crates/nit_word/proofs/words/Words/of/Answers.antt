@@ -1,6 +1,4 @@
-use Rattle.std.proofs.Common.{◌∙◌, ℕ, ap}
-use Rattle.nit_word.specs.Zeros.{filled_up}
-use Rattle.nit_word.proofs.ReachedWords.{all_reached}
+use Rattle.nit_word.proofs.Lemmas.{all_reached, ap, filled_up, ℕ, ◌∙◌}
 use Rattle.nit_word.proofs.words.Words.of.Goals as goal
 
 pub returns : goal.returns

@@ -1,6 +1,4 @@
-use Rattle.std.proofs.Common.{◌∙◌, List, ℕ, ap, sym}
-use Rattle.nit_word.specs.Zeros.{filled_up}
-use Rattle.nit_word.proofs.ReachedWords.{whole_long}
+use Rattle.nit_word.proofs.Lemmas.{List, ap, filled_up, sym, whole_long, ℕ, ◌∙◌}
 use Rattle.nit_word.proofs.words.Words.reached.Goals as goal
 
 pub returns : goal.returns

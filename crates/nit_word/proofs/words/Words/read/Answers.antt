@@ -1,6 +1,5 @@
-use Rattle.std.proofs.Common.{◌∙◌, ◌+◌, List, ℕ, ap, sym}
-use Rattle.std.specs.Prelude.{slice_index}
-use Rattle.nit_word.proofs.ReachedWords.{filled_at}
+use Rattle.std.proofs.Common.{List, ap, sym, ℕ, ◌+◌, ◌∙◌}
+use Rattle.nit_word.proofs.Lemmas.{filled_at, slice_index}
 use Rattle.nit_word.proofs.words.Words.read.Goals as goal
 
 pub returns-clause-words : goal.returns-clause-words

@@ -1,5 +1,4 @@
-use Rattle.std.proofs.Common.{arith}
-use Rattle.nit_word.proofs.ReachedWords.{one_in, whole_long}
+use Rattle.nit_word.proofs.Lemmas.{arith, one_in, whole_long}
 use Rattle.nit_word.proofs.words.Words.set.Goals as goal
 
 pub overflow_add-i : goal.overflow_add-i

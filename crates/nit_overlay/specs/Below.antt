@@ -1,0 +1,21 @@
+-- The words of the library and of the crates below that are used here.
+pub use Rattle.nit_events.specs.Input.{is_same}
+pub use Rattle.nit_events.specs.declared.device.Mode.{Mode}
+pub use Rattle.nit_events.specs.declared.device.Mode.TheVariants.{Flat, Kill, Xray}
+pub use Rattle.nit_glyph.specs.Pictures.{dot, picture_height, picture_width}
+pub use Rattle.nit_glyph.specs.Texts.{bar_text_of, label_text_of}
+pub use Rattle.nit_rect.specs.Limits.{most_edge, most_height, most_length, most_width}
+pub use Rattle.nit_rect.specs.Rectangle.{IsPlace, Rectangle, covers, rectangle, spans}
+pub use Rattle.nit_rect.specs.declared.point.Point.{Point}
+pub use Rattle.nit_stack.specs.LabelPlaces.{label_place}
+pub use Rattle.nit_stack.specs.Sources.{covering, in_bar, owner, pixel, point}
+pub use Rattle.nit_stack.specs.Stack.{IsScreenSize, IsSlotView, IsStack, NoPair, SlotView, has_slot, is_slot, same_slot, seat_owner, slot_view_in, view_ref}
+pub use Rattle.nit_stack.specs.ViewNames.{views_of}
+pub use Rattle.nit_stack.specs.declared.view.View.{View}
+pub use Rattle.nit_stack.specs.declared.view.ViewRef.{ViewRef}
+pub use Rattle.nit_word.specs.Channels.{bare_word, dim, tint}
+pub use Rattle.nit_word.specs.Inks.{IsWord}
+pub use Rattle.std.specs.List.{between, range_with_len}
+pub use Rattle.std.specs.Option.{is_some, option_map}
+pub use Rattle.std.specs.Ordering.{int_eq}
+pub use Rattle.std.specs.Prelude.{codes, max, nat_lt, slice_get}

@@ -1,5 +1,0 @@
-use Rattle.nit_word.proofs.SideBySide.{copied}
-use Rattle.nit_word.proofs.setting.copy_part.Goals as goal
-
-pub returns : goal.returns
-returns c = copied c.args.from c.args.to c.args.others.now c.args.words.now c.copy_from_slice.new.self c.requires.order c.requires.room c.requires.others c.copy_from_slice.ensures.after
