@@ -1,29 +1,8 @@
 -- What is drawn, move by move, and that a scene holds it.
-use Rattle.std.proofs.Common.{◌≡◌, ◌∙◌, ℕ, ◌+◌, ◌*◌, ◌<◌, ◌==◌, Bool, true, false, cond, List, [], ◌∷◌, ◌++◌, map, length, Option, Some, None, refl, sym, ap, subst, inl, inr, add-zero, zero-add}
-use Rattle.std.specs.List.{range_with_len, slice_index_or}
-use Rattle.std.proofs.lemmas.Bool.{cases_Bool}
-use Rattle.std.proofs.lemmas.List.FromFn.{get_or-map-range_with_len}
-use Rattle.std.proofs.lemmas.List.Sums.{fold-append}
-use Rattle.nit_word.specs.Sight.{Sight}
-use Rattle.nit_events.specs.declared.entry.Entry.{Entry}
-use Rattle.nit_stack.specs.Sources.{pixel}
-use Rattle.nit_script.specs.declared.line.Line.{Line}
-use Rattle.nit_script.specs.declared.line.InputLine.{InputLine}
+use Rattle.nit_actor.proofs.Basics.{ActorLine, AreLoaded, ByClient, ByUser, Configuration, Drawing, Entry, InputLine, IsDrawn, IsMoved, Line, LineTurn, SceneModel, ShotFrame, ShowsEach, ShowsLine, Sight, State, after, after_turn, cases_Bool, dirty, done_after, drawn_shot, entry_of, fold-append, frame, frame_of, get_or-map-range_with_len, glass_in, line_by, next_shot, opening_drawing, pixel, pixel_count, range_with_len, same_config, same_frame, scenery_of, shots, shots_after, slice_index_or, source_at, state_after, state_now, tables_after, word_after_entry}
+use Rattle.std.proofs.Common.{Bool, List, None, Option, Some, [], add-zero, ap, cond, false, inl, inr, length, map, refl, subst, sym, true, zero-add, ℕ, ◌*◌, ◌++◌, ◌+◌, ◌<◌, ◌==◌, ◌∙◌, ◌∷◌, ◌≡◌}
+use Rattle.nit_actor.specs.Drawing.{drawn}
 use Rattle.nit_script.specs.declared.line.InputLine.TheVariants as input
-use Rattle.nit_config.specs.Configuration.{Configuration}
-use Rattle.nit_journal.specs.State.{State, after}
-use Rattle.nit_journal.specs.Replay.{shots}
-use Rattle.nit_journal.proofs.ForCallers.{same_config}
-use Rattle.nit_overlay.specs.Frame.{frame}
-use Rattle.nit_overlay.proofs.ForCallers.{same_frame}
-use Rattle.nit_scene.specs.DirtyPixels.{dirty}
-use Rattle.nit_scene.specs.RawWords.{glass_in, pixel_count, source_at}
-use Rattle.nit_scene.specs.Scene.{SceneModel, scenery_of, state_now}
-use Rattle.nit_actor.specs.Turn.{ActorLine, ByClient, ByUser, LineTurn}
-use Rattle.nit_actor.specs.TurnActions.{line_by}
-use Rattle.nit_actor.specs.ShotFrames.{ShotFrame, ShowsEach}
-use Rattle.nit_actor.specs.Drawing.{Drawing, after_turn, done_after, drawn, drawn_shot, entry_of, frame_of, opening_drawing, shots_after, state_after, tables_after, word_after_entry}
-use Rattle.nit_actor.specs.RunState.{AreLoaded, IsDrawn, IsMoved, ShowsLine, next_shot}
 use Rattle.nit_actor.proofs.TableWords.{AreOf, held_word}
 use Rattle.nit_actor.proofs.ShownFrames.{shows_more}
 

@@ -1,22 +1,10 @@
 -- What is drawn is in the state that the journal of the same moves leads to.
-use Rattle.std.proofs.Common.{◌≡◌, ◌∙◌, ℕ, ◌+◌, List, [], ◌∷◌, ◌++◌, map, fold, refl, sym, ap, subst, arith}
-use Rattle.std.proofs.lemmas.List.Sums.{fold-append}
-use Rattle.nit_events.specs.declared.call.Call.{Call}
-use Rattle.nit_events.specs.declared.device.Device.{Device}
-use Rattle.nit_events.specs.declared.entry.Entry.{Entry}
+use Rattle.std.proofs.Common.{List, [], ap, arith, fold, map, refl, subst, sym, ℕ, ◌++◌, ◌+◌, ◌∙◌, ◌∷◌, ◌≡◌}
+use Rattle.nit_actor.proofs.Basics.{Action, ActorLine, Acts, ByClient, ByUser, Call, Calls, Configuration, Device, Does, Drawing, Entry, IsLegal, LegalFrom, Line, LineTurn, Shoots, State, action_of, actions_of_line, actions_of_turns, after, after_turn, entry_of, fold-append, opening_drawing, replay, replay_from, route, routed_as, serve, session, shots, state_after}
+use Rattle.nit_actor.specs.Drawing.{drawn}
 use Rattle.nit_events.specs.declared.entry.Entry.TheVariants as entry
-use Rattle.nit_script.specs.declared.line.Line.{Line}
 use Rattle.nit_script.specs.declared.line.Line.TheVariants as line
 use Rattle.nit_script.specs.declared.line.InputLine.TheVariants as input
-use Rattle.nit_config.specs.Configuration.{Configuration}
-use Rattle.nit_events.specs.Input.{routed_as}
-use Rattle.nit_journal.specs.Session.{serve}
-use Rattle.nit_journal.specs.State.{State, after, route, session}
-use Rattle.nit_journal.specs.Replay.{IsLegal, LegalFrom, replay, replay_from, shots}
-use Rattle.nit_journal.specs.WholeJournals.{Does, Shoots, Action, Calls, Acts, action_of}
-use Rattle.nit_actor.specs.Turn.{ActorLine, ByClient, ByUser, LineTurn}
-use Rattle.nit_actor.specs.TurnActions.{actions_of_turns, actions_of_line}
-use Rattle.nit_actor.specs.Drawing.{Drawing, after_turn, drawn, entry_of, opening_drawing, state_after}
 
 -- ---- the act in front
 

@@ -1,19 +1,7 @@
 -- How an entry moves the scene: to the state after it, and to raw words that are loaded again where it makes them dirty.
-use Rattle.std.proofs.Common.{◌≡◌, ◌∙◌, ℕ, ◌<◌, List, [], ◌∷◌, ◌++◌, length, set, Some, None, refl, sym, ap, ap₂, subst}
-use Rattle.nit_word.specs.Sight.{Sight}
-use Rattle.nit_events.specs.declared.call.Call.{Call}
-use Rattle.nit_events.specs.declared.call.Reply.{Reply}
-use Rattle.nit_events.specs.declared.device.Device.{Device}
-use Rattle.nit_events.specs.declared.event.Routed.{Routed}
-use Rattle.nit_events.specs.declared.entry.Entry.{Entry}
+use Rattle.std.proofs.Common.{List, None, Some, [], ap, ap₂, length, refl, set, subst, sym, ℕ, ◌++◌, ◌<◌, ◌∙◌, ◌∷◌, ◌≡◌}
+use Rattle.nit_actor.proofs.Basics.{Call, Configuration, Device, Entry, IsMoved, Painted, Reply, Routed, SceneModel, Sight, State, after, first_state, glass_in, glasses_of_call, replay, replay_from, state_now}
 use Rattle.nit_events.specs.declared.entry.Entry.TheVariants as entry
-use Rattle.nit_config.specs.Configuration.{Configuration}
-use Rattle.nit_journal.specs.State.{State, after, first_state}
-use Rattle.nit_journal.specs.Replay.{replay, replay_from}
-use Rattle.nit_scene.specs.RawWords.{glasses_of_call}
-use Rattle.nit_scene.specs.RawWords.{Painted, glass_in}
-use Rattle.nit_scene.specs.Scene.{SceneModel, state_now}
-use Rattle.nit_actor.specs.RunState.{IsMoved}
 use Rattle.nit_actor.proofs.QuietGlasses.{every_of_call, itself, same_list}
 
 -- what the law of journals says

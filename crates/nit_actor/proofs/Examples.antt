@@ -1,27 +1,14 @@
 -- Worked rows of rounds, and of what they draw, computed from the definitions.
-use Rattle.std.proofs.Common.{◌≡◌, ℕ, true, false, List, [], ◌∷◌, refl, pos, map, take}
-use Rattle.std.specs.List.{range_with_len}
-use Rattle.nit_word.specs.Channels.{bare_word}
-use Rattle.nit_word.specs.Zeros.{zeros}
-use Rattle.nit_events.specs.declared.call.Call.TheVariants.{Buffer, View, Place, Refresh}
-use Rattle.nit_events.specs.declared.device.Device.TheVariants.{Motion}
-use Rattle.nit_script.specs.declared.line.Stroke.TheVariants.{Fill}
-use Rattle.nit_script.specs.declared.line.Line.{Line}
-use Rattle.nit_script.specs.declared.line.Line.TheVariants as line
-use Rattle.nit_script.specs.declared.line.InputLine.{InputLine}
-use Rattle.nit_script.specs.declared.line.InputLine.TheVariants as input
-use Rattle.nit_config.specs.Configuration.{Configuration}
+use Rattle.std.proofs.Common.{List, [], false, map, pos, refl, take, true, ℕ, ◌∷◌, ◌≡◌}
+use Rattle.nit_actor.proofs.Basics.{Acts, Buffer, Calls, Client, Configuration, Does, Fill, InputLine, Line, Motion, Refresh, Shoots, User, actions_of_turns, bare_word, range_with_len, rounds, shot_file, shot_name, turn_of}
+use Rattle.nit_actor.specs.Drawing.{drawn}
 use Rattle.nit_journal.specs.Session.{serve}
 use Rattle.nit_journal.specs.StackAfter.{stack_after_call}
-use Rattle.nit_journal.specs.WholeJournals.{Does, Shoots, Calls, Acts}
-use Rattle.nit_plan.specs.Strokes.{stroked, cleared}
-use Rattle.nit_actor.specs.declared.turn.Turn.TheVariants.{Client, User}
-use Rattle.nit_actor.specs.Rounds.{rounds}
-use Rattle.nit_actor.specs.TurnActions.{actions_of_turns}
-use Rattle.nit_actor.specs.Places.{turn_of}
-use Rattle.nit_actor.specs.RoundsRun.{shot_name}
-use Rattle.nit_actor.specs.ShotFrames.{shot_file}
-use Rattle.nit_actor.specs.Drawing.{drawn}
+use Rattle.nit_plan.specs.Strokes.{cleared, stroked}
+use Rattle.nit_word.specs.Zeros.{zeros}
+use Rattle.nit_events.specs.declared.call.Call.TheVariants.{View, Place}
+use Rattle.nit_script.specs.declared.line.Line.TheVariants as line
+use Rattle.nit_script.specs.declared.line.InputLine.TheVariants as input
 
 -- ---- one actor acts in each phase
 

@@ -1,14 +1,8 @@
 -- All actors stand at their first lines: nothing is done yet.
-use Rattle.std.proofs.Common.{◌≡◌, ◌∙◌, ℕ, zero, suc, ◌+◌, ◌-◌, ◌<◌, ◌≤◌, List, [], ◌∷◌, ◌++◌, map, length, replicate, refl, sym, ap, subst, arith}
-use Rattle.std.specs.List.{flat_map, range_with_len}
-use Rattle.std.proofs.lemmas.List.{get_or-replicate}
-use Rattle.nit_script.specs.declared.line.Line.{Line}
-use Rattle.nit_script.specs.declared.line.InputLine.{InputLine}
+use Rattle.std.proofs.Common.{List, [], ap, arith, length, map, refl, replicate, subst, suc, sym, zero, ℕ, ◌++◌, ◌+◌, ◌-◌, ◌<◌, ◌∙◌, ◌∷◌, ◌≡◌, ◌≤◌}
+use Rattle.nit_actor.proofs.Basics.{ActorLine, ArePlaces, InputLine, Line, LineTurn, Places, StandsAt, actors, flat_map, get_or-replicate, in_phase, lefts, phase_count, phase_rounds, range_with_len, rounds, script_of, turns_left, turns_of}
+use Rattle.nit_actor.specs.Places.{left_from}
 use Rattle.nit_actor.specs.declared.places.Place.{Place}
-use Rattle.nit_actor.specs.declared.places.Places.{Places}
-use Rattle.nit_actor.specs.Turn.{ActorLine, LineTurn, turns_of, actors}
-use Rattle.nit_actor.specs.Rounds.{in_phase, phase_rounds, phase_count, rounds}
-use Rattle.nit_actor.specs.Places.{lefts, left_from, turns_left, script_of, StandsAt, ArePlaces}
 use Rattle.nit_actor.proofs.Scripts.{below}
 use Rattle.nit_actor.proofs.PlaceLemmas.{actors_long}
 use Rattle.nit_actor.proofs.PhaseRest.{at_begin}

@@ -1,25 +1,9 @@
 -- One client and a user who does nothing, stepped together.
-use Rattle.std.proofs.Common.{◌≡◌, ◌∙◌, ℕ, zero, suc, ◌+◌, ◌≤◌, Bool, false, cond, List, [], ◌∷◌, ◌++◌, length, drop, map, replicate, Option, Some, refl, sym, ap, ap₂, subst, arith}
-use Rattle.std.specs.Prelude.{slice_get, count_by}
-use Rattle.std.proofs.lemmas.List.{length-drop}
-use Rattle.std.proofs.lemmas.List.Sums.{sum_by-cons}
-use Rattle.nit_word.specs.Sight.{Sight}
-use Rattle.nit_events.specs.declared.call.Call.{Call}
-use Rattle.nit_events.specs.declared.call.Reply.{Reply}
-use Rattle.nit_events.specs.declared.entry.Entry.{Entry}
+use Rattle.nit_actor.proofs.Basics.{Action, Belongs, Call, Calls, Entry, Line, PassModel, Reply, Role, RoomModel, Sight, StepTogether, UserBelongs, UserPassModel, action_of, actions_to_be, after_arrival, arrived_one, call_of_line, calls_in, drop_at, idle_user, is_phase, role_of, slice_get, sum_by-cons, user_actions_from, user_actions_to_do}
+use Rattle.std.proofs.Common.{Bool, List, Option, Some, [], ap, ap₂, arith, cond, count_by, drop, false, length, length-drop, map, refl, replicate, subst, suc, sym, zero, ℕ, ◌++◌, ◌+◌, ◌∙◌, ◌∷◌, ◌≡◌, ◌≤◌}
 use Rattle.nit_events.specs.declared.entry.Entry.TheVariants as entry
-use Rattle.nit_script.specs.declared.line.Line.{Line}
 use Rattle.nit_script.specs.declared.line.Line.TheVariants as line
 use Rattle.nit_script.specs.declared.line.InputLine.TheVariants as input
-use Rattle.nit_script.specs.Phases.{is_phase}
-use Rattle.nit_journal.specs.WholeJournals.{Action, Calls, action_of}
-use Rattle.nit_plan.specs.Calls.{user_actions_from, user_actions_to_do}
-use Rattle.nit_plan.specs.Calls.{calls_in}
-use Rattle.nit_hall.specs.Pass.{call_of_line, PassModel, UserPassModel, Belongs, UserBelongs}
-use Rattle.nit_hall.specs.Room.{RoomModel, after_arrival, arrived_one}
-use Rattle.nit_stack.proofs.ForCallers.{drop_at}
-use Rattle.nit_actor.specs.Role.{Role, role_of}
-use Rattle.nit_actor.specs.IdleUser.{StepTogether, actions_to_be, idle_user}
 
 -- ---- what is left of a list
 

@@ -34,3 +34,5 @@ pub mod PictureLemmas
 pub mod IdleUserLemmas
 pub mod OneClient
 pub mod ForCallers
+pub mod Basics
+pub mod Lemmas

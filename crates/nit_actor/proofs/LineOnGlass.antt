@@ -1,20 +1,6 @@
 -- A line of a script, done on the own glass of its session.
-use Rattle.std.proofs.Common.{◌≡◌, ◌∙◌, ℕ, ◌+◌, ◌*◌, ◌/◌, ◌%◌, ◌≤◌, false, List, length, get_or, Some, None, refl, sym, ap, ap₂, subst, arith}
-use Rattle.std.specs.Prelude.{slice_index}
-use Rattle.std.specs.List.{slice_get}
-use Rattle.std.proofs.Math.Nat.{mul-le-mul_right}
-use Rattle.std.proofs.lemmas.Option.{get_or_from_slice_get}
-use Rattle.nit_word.specs.Updates.{with_words}
-use Rattle.nit_word.specs.Sight.{Sight}
-use Rattle.nit_slots.specs.Account.{IsDonation}
-use Rattle.nit_script.specs.declared.line.Line.{Line}
-use Rattle.nit_plan.specs.declared.plan.Step.{Step}
-use Rattle.nit_plan.specs.declared.area.Area.{Area}
-use Rattle.nit_plan.specs.ScriptWords.{ink, static, table_size, words_after}
-use Rattle.nit_plan.specs.Plan.{PlanModel, IsPlanOf, is_set_by, plan_of_script, step_of}
-use Rattle.nit_plan.specs.Surface.{IsPaintedTo}
-use Rattle.nit_actor.specs.RoundsRun.{glass_after}
-use Rattle.nit_actor.specs.Stale.{FitsInto}
+use Rattle.std.proofs.Common.{List, None, Some, ap, ap₂, arith, false, get_or, length, refl, subst, sym, ℕ, ◌%◌, ◌*◌, ◌+◌, ◌/◌, ◌∙◌, ◌≡◌, ◌≤◌}
+use Rattle.nit_actor.proofs.Basics.{Area, FitsInto, IsDonation, IsPaintedTo, IsPlanOf, Line, PlanModel, Sight, Step, get_or_from_slice_get, glass_after, ink, is_set_by, mul-le-mul_right, plan_of_script, slice_get, slice_index, static, step_of, table_size, with_words, words_after}
 
 -- what the laws of scripts say
 abbrev pub AreLong : Type 0

@@ -1,27 +1,8 @@
 -- A client's line, done: what stays of the scene, and what is recorded.
-use Rattle.std.proofs.Common.{◌≡◌, ◌∙◌, ℕ, ◌+◌, ◌-◌, ◌≤◌, List, [], ◌∷◌, ◌++◌, length, Option, Some, None, refl, sym, ap, subst, arith, length-append, set, get_or-set_other}
-use Rattle.std.specs.List.{slice_get}
-use Rattle.std.proofs.lemmas.Option.{same_Some}
-use Rattle.nit_word.specs.Sight.{Sight}
-use Rattle.nit_events.specs.declared.call.Call.{Call}
-use Rattle.nit_events.specs.declared.call.Reply.{Reply}
-use Rattle.nit_events.specs.declared.entry.Entry.{Entry}
+use Rattle.std.proofs.Common.{List, None, Option, Some, [], ap, arith, get_or-set_other, length, length-append, refl, set, subst, sym, ℕ, ◌++◌, ◌+◌, ◌-◌, ◌∙◌, ◌∷◌, ◌≡◌, ◌≤◌}
+use Rattle.nit_actor.proofs.Basics.{AreQuietBut, ByClient, Call, Configuration, Entry, IsBehind, IsDonation, IsGlass, IsMoved, IsRecorded, Line, Reply, SceneModel, Sight, Stale, State, donation_of, entry_of, glass_after, glass_in, no_sight, same_Some, slice_get, state_now}
 use Rattle.nit_events.specs.declared.entry.Entry.TheVariants as entry
-use Rattle.nit_script.specs.declared.line.Line.{Line}
 use Rattle.nit_script.specs.declared.line.Line.TheVariants as line
-use Rattle.nit_config.specs.Configuration.{Configuration, donation_of}
-use Rattle.nit_journal.specs.State.{State}
-use Rattle.nit_paint.specs.Repaint.{no_sight}
-use Rattle.nit_scene.specs.RawWords.{glass_in}
-use Rattle.nit_scene.specs.Scene.{SceneModel, state_now}
-use Rattle.nit_scene.specs.Screen.{IsGlass}
-use Rattle.nit_slots.specs.Account.{IsDonation}
-use Rattle.nit_actor.specs.RoundsRun.{glass_after}
-use Rattle.nit_actor.specs.Turn.{ByClient}
-use Rattle.nit_actor.specs.Drawing.{entry_of}
-use Rattle.nit_actor.specs.RunState.{AreQuietBut, IsMoved, IsRecorded}
-use Rattle.nit_actor.specs.Stale.{IsBehind}
-use Rattle.nit_actor.specs.declared.stale.Stale.{Stale}
 use Rattle.nit_actor.proofs.Copies.{with_glass_of}
 use Rattle.nit_actor.proofs.LineOnGlass.{AreLong}
 

@@ -1,15 +1,6 @@
 -- Which lines of an actor are done in the rounds, and which before a move.
-use Rattle.std.proofs.Common.{◌≡◌, ◌∙◌, ℕ, suc, ◌+◌, ◌<◌, cond, List, [], ◌∷◌, ◌++◌, map, length, get_or, take, Some, refl, sym, ap, subst, inl, inr, arith, add-one, zero-add, length-append, take_at}
-use Rattle.std.specs.List.{flat_map, range_with_len, slice_get}
-use Rattle.std.proofs.lemmas.Bool.{eq-eqb, ne_eqb, cases_lt}
-use Rattle.std.proofs.lemmas.List.{get_or_at, get_or_past, length-map}
-use Rattle.std.proofs.lemmas.List.Concat.{flat_map-append}
-use Rattle.std.proofs.lemmas.List.FromFn.{length-range_with_len, get_or-range_with_len}
-use Rattle.nit_script.specs.declared.line.Line.{Line}
-use Rattle.nit_script.specs.declared.line.InputLine.{InputLine}
-use Rattle.nit_actor.specs.Turn.{ActorLine, ByClient, ByUser, LineTurn, ends_phase, turns_from}
-use Rattle.nit_actor.specs.Rounds.{rounds}
-use Rattle.nit_actor.specs.TurnActions.{line_by, input_by_user, lines_of, input_lines_of}
+use Rattle.std.proofs.Common.{List, Some, [], add-one, ap, arith, cond, get_or, inl, inr, length, length-append, map, refl, subst, suc, sym, take, take_at, zero-add, ℕ, ◌++◌, ◌+◌, ◌<◌, ◌∙◌, ◌∷◌, ◌≡◌}
+use Rattle.nit_actor.proofs.Basics.{ActorLine, ByClient, ByUser, InputLine, Line, LineTurn, cases_lt, ends_phase, eq-eqb, flat_map, flat_map-append, get_or-range_with_len, get_or_at, get_or_past, input_by_user, input_lines_of, length-map, length-range_with_len, line_by, lines_of, ne_eqb, range_with_len, rounds, slice_get, turns_from}
 use Rattle.nit_actor.proofs.Scripts.{client_part, user_part}
 
 -- ---- all lines

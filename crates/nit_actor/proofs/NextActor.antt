@@ -1,18 +1,10 @@
 -- How the actors go on: to the next one with a line to do, into a new round, into a new phase.
-use Rattle.std.proofs.Common.{◌≡◌, ◌∙◌, ℕ, zero, suc, ◌+◌, ◌<◌, ◌≤◌, Bool, true, false, List, [], ◌∷◌, Some, map, length, get_or, set, refl, sym, ap, subst, inl, inr, arith, add-one, length-set, get_or-set_same, get_or-set_other}
-use Rattle.std.specs.List.{AllByRecursion, slice_get}
-use Rattle.std.proofs.lemmas.List.{get_or-map, get_or_default, length-map}
-use Rattle.std.proofs.lemmas.Bool.{cases_lt, cases_eq}
-use Rattle.nit_script.specs.declared.line.Line.{Line}
+use Rattle.std.proofs.Common.{Bool, List, Some, [], add-one, ap, arith, false, get_or, get_or-set_other, get_or-set_same, inl, inr, length, length-set, map, refl, set, subst, suc, sym, true, zero, ℕ, ◌+◌, ◌<◌, ◌∙◌, ◌∷◌, ◌≡◌, ◌≤◌}
+use Rattle.nit_actor.proofs.Basics.{ActorLine, AllByRecursion, ArePlaces, ByClient, ByUser, HasTurn, InputLine, IsAtTurn, Line, LineTurn, NoneHas, Places, StandsAt, actors, cases_eq, cases_lt, ends_phase, get_or-map, get_or_default, in_phase, is_active, left_at, left_from, lefts, length-map, phase_count, script_of, slice_get, stepped, turn_by, turns_left}
 use Rattle.nit_script.specs.declared.line.Line.TheVariants as line
-use Rattle.nit_script.specs.declared.line.InputLine.{InputLine}
 use Rattle.nit_script.specs.declared.line.InputLine.TheVariants as input_line
 use Rattle.nit_actor.specs.declared.places.Place.{Place}
-use Rattle.nit_actor.specs.declared.places.Places.{Places}
 use Rattle.nit_actor.specs.declared.turn.Turn.TheVariants as turn
-use Rattle.nit_actor.specs.Turn.{ActorLine, ByClient, ByUser, LineTurn, ends_phase, actors}
-use Rattle.nit_actor.specs.Rounds.{in_phase, phase_count}
-use Rattle.nit_actor.specs.Places.{left_at, lefts, left_from, turns_left, script_of, is_active, stepped, StandsAt, ArePlaces, HasTurn, NoneHas, IsAtTurn, turn_by}
 use Rattle.nit_actor.proofs.PhaseRest.{turned_to, round_begun, phase_begun, nothing_left, one_taken}
 use Rattle.nit_actor.proofs.PlaceLemmas.{script_client, script_user, actors_long, lefts_long, get_lefts, set_lefts, active_parts, idle, nothing_more, not_in_phase, left_first, step_stands, phase_stands}
 

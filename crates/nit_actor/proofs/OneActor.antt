@@ -1,11 +1,6 @@
 -- What of the rounds is one actor's: its moves in order, each once.
-use Rattle.std.proofs.Common.{◌≡◌, ◌∙◌, ℕ, zero, suc, ◌+◌, ◌<◌, ◌≤◌, ◌==◌, Bool, true, false, cond, List, [], ◌∷◌, ◌++◌, map, length, get_or, take, drop, refl, sym, ap, ap₂, subst, arith, append-nil, add-one, take-append-drop, length-drop}
-use Rattle.std.specs.List.{flat_map, range_with_len, AllByRecursion}
-use Rattle.std.proofs.lemmas.Bool.{eq-eqb, ne_eqb}
-use Rattle.std.proofs.lemmas.List.{nil_from_length}
-use Rattle.std.proofs.lemmas.List.Concat.{flat_map-append}
-use Rattle.nit_actor.specs.Turn.{ActorLine, LineTurn, ends_phase, turns_from}
-use Rattle.nit_actor.specs.Rounds.{greatest, in_phase, phase_rounds}
+use Rattle.std.proofs.Common.{Bool, List, [], add-one, ap, append-nil, ap₂, arith, cond, drop, false, get_or, length, length-drop, map, refl, subst, suc, sym, take, take-append-drop, true, zero, ℕ, ◌++◌, ◌+◌, ◌<◌, ◌==◌, ◌∙◌, ◌∷◌, ◌≡◌, ◌≤◌}
+use Rattle.nit_actor.proofs.Basics.{ActorLine, AllByRecursion, LineTurn, ends_phase, eq-eqb, flat_map, flat_map-append, greatest, in_phase, ne_eqb, nil_from_length, phase_rounds, range_with_len, turns_from}
 use Rattle.nit_actor.proofs.RoundWalks.{walk, all_walk, short_greatest, short_at}
 
 -- ---- lists of which nothing is taken

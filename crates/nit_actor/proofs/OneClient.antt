@@ -1,22 +1,11 @@
 -- A run of one client, whose user does nothing but end phases, is by rounds.
-use Rattle.std.proofs.Common.{◌≡◌, ◌∙◌, ℕ, zero, suc, ◌==◌, Bool, true, false, List, [], ◌∷◌, ◌++◌, length, map, refl, sym, ap, subst, arith}
+use Rattle.nit_journal.proofs.ForCallers.{as_many}
+use Rattle.std.proofs.Common.{Bool, List, [], ap, arith, false, length, map, refl, subst, suc, sym, true, zero, ℕ, ◌++◌, ◌==◌, ◌∙◌, ◌∷◌, ◌≡◌}
+use Rattle.nit_actor.proofs.Basics.{Action, ActorLine, AreRoundsOf, ByClient, ByUser, Calls, Configuration, Entry, InputLine, IsLegal, IsWhole, LegalFrom, Line, LineTurn, State, UserAction, action_of, actions_of_line, actions_of_turns, after, as_many_as_clients, calls_from, calls_of, calls_to_make, done, eq-eqb, first_state, input_by_user, input_lines_of, line_by, lines_of, ne_eqb, rounds, user_actions_from, user_actions_of, user_actions_to_do}
 use Rattle.std.specs.Prelude.{if◌then◌else◌}
-use Rattle.std.proofs.lemmas.Bool.{eq-eqb, ne_eqb}
-use Rattle.nit_events.specs.declared.entry.Entry.{Entry}
 use Rattle.nit_events.specs.declared.entry.Entry.TheVariants as entry
-use Rattle.nit_script.specs.declared.line.Line.{Line}
 use Rattle.nit_script.specs.declared.line.Line.TheVariants as line
-use Rattle.nit_script.specs.declared.line.InputLine.{InputLine}
 use Rattle.nit_script.specs.declared.line.InputLine.TheVariants as input
-use Rattle.nit_config.specs.Configuration.{Configuration}
-use Rattle.nit_journal.specs.State.{State, after, first_state}
-use Rattle.nit_journal.specs.Replay.{IsLegal, LegalFrom}
-use Rattle.nit_journal.specs.WholeJournals.{Action, Calls, UserAction, action_of, calls_of, user_actions_of, done, IsWhole}
-use Rattle.nit_journal.proofs.ForCallers.{as_many, as_many_as_clients}
-use Rattle.nit_plan.specs.Calls.{calls_from, calls_to_make, user_actions_from, user_actions_to_do}
-use Rattle.nit_actor.specs.Turn.{ActorLine, ByClient, ByUser, LineTurn}
-use Rattle.nit_actor.specs.Rounds.{rounds}
-use Rattle.nit_actor.specs.TurnActions.{AreRoundsOf, actions_of_turns, actions_of_line, input_by_user, input_lines_of, line_by, lines_of}
 use Rattle.nit_actor.proofs.LinesDone.{client_lines, user_lines}
 
 -- ---- the rounds
@@ -32,9 +21,6 @@ other_line l ls false e none = none
 first_alone : (l : Line) (ms : List LineTurn) → ((t : ℕ) → line_by (suc t) (ByClient zero l) ++ lines_of (suc t) ms ≡ []) → (t : ℕ) → lines_of (suc t) ms ≡ []
 first_alone l ms others t = other_line l (lines_of (suc t) ms) (zero == suc t) (ne_eqb zero (suc t) (λ e. absurd (omega (arith, e)))) (others t)
 
-some_deed : (d : ℕ × UserAction) (ds : List (ℕ × UserAction)) → d ∷ ds ≡ [] → ⊥
-some_deed d ds e = cc
-
 -- what these moves record, where no client but the first does a line in them, and the user's are no deeds
 abbrev IsAlone : List LineTurn → Type 0
 IsAlone ms = (p q : ℕ) → ((t : ℕ) → lines_of (suc t) ms ≡ []) → user_actions_from q (input_lines_of ms) ≡ [] → actions_of_turns ms ≡ map (Calls 0) (done (calls_from p (lines_of 0 ms)))
@@ -45,8 +31,8 @@ one_more (ByClient zero (line.Call c)) ms rest p q others idle = ap (λ (xs : Li
 one_more (ByClient zero (line.Stroke s)) ms rest p q others idle = rest p q (first_alone (line.Stroke s) ms others) idle
 one_more (ByClient zero line.Phase) ms rest p q others idle = rest (suc p) q (first_alone line.Phase ms others) idle
 one_more (ByClient (suc s) l) ms rest p q others idle = absurd (some_line l (lines_of (suc s) ms) (suc s == suc s) (eq-eqb (suc s) (suc s) refl) (others s))
-one_more (ByUser (input.Device d)) ms rest p q others idle = absurd (some_deed _ _ idle)
-one_more (ByUser input.Shot) ms rest p q others idle = absurd (some_deed _ _ idle)
+one_more (ByUser (input.Device d)) ms rest p q others idle = absurd cc
+one_more (ByUser input.Shot) ms rest p q others idle = absurd cc
 one_more (ByUser input.Phase) ms rest p q others idle = rest p (suc q) others idle
 
 alone : (ms : List LineTurn) → IsAlone ms
@@ -66,17 +52,14 @@ some_entry : (front : List Entry) (e : Entry) → front ++ e ∷ [] ≡ [] → �
 some_entry [] e none = cc
 some_entry (x ∷ front) e none = cc
 
-some_own : (d : UserAction) (ds : List UserAction) → d ∷ ds ≡ [] → ⊥
-some_own d ds e = cc
-
 journal_alone : (s : State) (taken : ℕ) (front : List Entry) → length s.sessions ≡ 1 → LegalFrom s taken (front ++ entry.Final ∷ []) → user_actions_of (front ++ entry.Final ∷ []) ≡ []
     → map action_of front ≡ map (Calls 0) (calls_of 0 (front ++ entry.Final ∷ []))
 journal_alone s taken [] one legal none = refl
 journal_alone s taken (entry.Call zero c r ∷ front) one (agrees, legal) none =
     ap (λ (xs : List Action). Calls 0 c ∷ xs) (journal_alone (after s (entry.Call zero c r)) taken front (as_many s (entry.Call zero c r) ∙ one) legal none)
 journal_alone s taken (entry.Call (suc sid) c r ∷ front) one (agrees, legal) none = absurd (let below = agrees.0 in omega (arith, one, below))
-journal_alone s taken (entry.Input dev routed ∷ front) one legal none = absurd (some_own _ _ none)
-journal_alone s taken (entry.Shot number ∷ front) one legal none = absurd (some_own _ _ none)
+journal_alone s taken (entry.Input dev routed ∷ front) one legal none = absurd cc
+journal_alone s taken (entry.Shot number ∷ front) one legal none = absurd cc
 journal_alone s taken (entry.Final ∷ front) one legal none = absurd (some_entry front entry.Final legal)
 
 pub by_rounds_alone : (config : Configuration) (script : List Line) (lines : List InputLine) (journal : List Entry)

@@ -1,14 +1,6 @@
 -- Passes with their clip passes, in two lists or in one list of pairs.
-use Rattle.std.proofs.Common.{◌≡◌, ◌∙◌, ℕ, zero, suc, ◌<◌, List, [], ◌∷◌, length, map, set, get_or, refl, sym, ap, subst, arith}
-use Rattle.std.specs.Prelude.{All, slice_index_or}
-use Rattle.std.specs.List.{AllZip}
-use Rattle.nit_hall.specs.OpeningParts.{OpeningParts}
-use Rattle.nit_hall.specs.Pass.{PassModel, Belongs}
-use Rattle.nit_hall.specs.ClipPass.{ClipPassModel, ClipBelongs}
-use Rattle.nit_actor.specs.Role.{role_of}
-use Rattle.nit_actor.specs.ClipRole.{GoTogether, IsPairIn, IsPairRoleIn, PairRole, clip_role_of, pair_role_of}
-use Rattle.nit_actor.specs.declared.clip_beside.Pair.{Pair}
-use Rattle.nit_actor.specs.declared.clip_beside.OnePairRole.{OnePairRole}
+use Rattle.std.proofs.Common.{List, [], ap, arith, get_or, length, map, refl, set, subst, suc, sym, zero, ℕ, ◌<◌, ◌∙◌, ◌∷◌, ◌≡◌}
+use Rattle.nit_actor.proofs.Basics.{All, AllZip, Belongs, ClipBelongs, ClipPassModel, GoTogether, IsPairIn, IsPairRoleIn, OnePairRole, OpeningParts, Pair, PairRole, PassModel, clip_role_of, pair_role_of, role_of, slice_index_or}
 use Rattle.nit_actor.proofs.Pairs.{pair_again, pair_fits}
 use Rattle.nit_actor.proofs.PhaseCounts.{zip_at, zip_set}
 

@@ -1,20 +1,10 @@
 -- A pass and its clip pass, when one or both of them did a line.
-use Rattle.std.proofs.Common.{◌≡◌, ◌∙◌, ◌⊎◌, ℕ, ◌+◌, ◌==◌, false, List, length, refl, sym, ap, subst, inl, inr, arith, Some}
-use Rattle.std.specs.Prelude.{slice_get}
-use Rattle.std.proofs.lemmas.Bool.{eq-eqb, eqb-true}
-use Rattle.nit_script.specs.declared.line.Line.{Line}
+use Rattle.std.proofs.Common.{List, Some, ap, arith, false, inl, inr, length, refl, subst, sym, ℕ, ◌+◌, ◌==◌, ◌∙◌, ◌≡◌, ◌⊎◌}
+use Rattle.nit_actor.proofs.Basics.{ClipBelongs, ClipPassModel, ClipRole, GoTogether, IsAtClipPhase, IsAtPhase, IsPairIn, IsPairRoleIn, IsRoleIn, Line, OpeningParts, PassModel, Role, clip_number, clip_phases, clip_phases_before, clip_role_of, counted_more, counted_same, eq-eqb, eqb-true, is_clip_phase, is_phase, pair_role_of, phases, phases_before, role_of, slice_get}
 use Rattle.nit_script.specs.declared.line.Line.TheVariants as line
-use Rattle.nit_script.specs.Phases.{is_phase, phases}
 use Rattle.nit_clip.specs.declared.line.ClipLine.TheVariants as clip
-use Rattle.nit_clip.specs.ClipGrammar.{is_clip_phase, clip_phases}
-use Rattle.nit_hall.specs.OpeningParts.{OpeningParts}
-use Rattle.nit_hall.specs.ServedLines.{phases_before}
-use Rattle.nit_hall.specs.Pass.{PassModel, IsAtPhase}
-use Rattle.nit_hall.specs.ClipPass.{ClipPassModel, ClipBelongs, IsAtClipPhase, clip_number, clip_phases_before}
-use Rattle.nit_actor.specs.Role.{Role, IsRoleIn, role_of}
-use Rattle.nit_actor.specs.ClipRole.{ClipRole, GoTogether, IsPairIn, IsPairRoleIn, clip_role_of, pair_role_of}
 use Rattle.nit_actor.proofs.RoleLemmas.{role_fits, fits_belongs}
-use Rattle.nit_actor.proofs.PhaseCounts.{counted_all, counted_fewer, counted_more, counted_same}
+use Rattle.nit_actor.proofs.PhaseCounts.{counted_all, counted_fewer}
 
 -- ---- phases
 

@@ -1,21 +1,6 @@
 -- What the lines that are done tell of a count of lines, such as that of the phases that they end.
-use Rattle.std.proofs.Common.{◌≡◌, ◌∙◌, ℕ, zero, suc, ◌+◌, ◌<◌, ◌≤◌, Bool, true, false, cond, List, [], ◌∷◌, length, map, take, get_or, set, Some, refl, ap, subst, arith}
-use Rattle.std.specs.Prelude.{slice_get, count_by}
-use Rattle.std.specs.List.{AllZip}
-use Rattle.std.proofs.lemmas.List.Sums.{count_by_more_no, count_by_more_yes, sum_by-take-le}
-use Rattle.std.proofs.lemmas.List.{take_all}
-use Rattle.std.proofs.lemmas.Option.{slice_get_within, get_or_from_slice_get}
-
--- a line that counts is one more
-pub counted_more : {X : Type 0} (p : X → Bool) (xs : List X) (k : ℕ) (x : X) → slice_get xs k ≡ Some x → p x ≡ true
-    → count_by p (take (k + 1) xs) ≡ count_by p (take k xs) + 1
-counted_more p xs k x at is =
-    count_by_more_yes p xs k x (slice_get_within xs k x at) (ap p (get_or_from_slice_get xs k x x at) ∙ is)
-
-pub counted_same : {X : Type 0} (p : X → Bool) (xs : List X) (k : ℕ) (x : X) → slice_get xs k ≡ Some x → p x ≡ false
-    → count_by p (take (k + 1) xs) ≡ count_by p (take k xs)
-counted_same p xs k x at is =
-    count_by_more_no p xs k x (slice_get_within xs k x at) (ap p (get_or_from_slice_get xs k x x at) ∙ is)
+use Rattle.std.proofs.Common.{Bool, List, Some, [], ap, arith, cond, count_by, false, get_or, length, map, refl, set, subst, suc, take, take_all, true, zero, ℕ, ◌+◌, ◌<◌, ◌∙◌, ◌∷◌, ◌≡◌, ◌≤◌}
+use Rattle.nit_actor.proofs.Basics.{AllZip, count_by_more_no, count_by_more_yes, counted_more, get_or_from_slice_get, slice_get, slice_get_within, sum_by-take-le}
 
 -- before a line that counts there are fewer than in all
 pub counted_fewer : {X : Type 0} (p : X → Bool) (xs : List X) (k : ℕ) (x : X) → slice_get xs k ≡ Some x → p x ≡ true

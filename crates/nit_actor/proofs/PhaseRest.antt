@@ -1,11 +1,7 @@
 -- What is left of a phase: an actor without a move is passed over, and a move is taken from the front.
-use Rattle.std.proofs.Common.{◌≡◌, ◌∙◌, ℕ, zero, suc, ◌+◌, ◌-◌, ◌<◌, ◌≤◌, List, [], ◌∷◌, ◌++◌, map, length, get_or, set, take, drop, refl, sym, ap, ap₂, subst, arith, append-nil, append_assoc, add-one, add-zero, drop-set-lt, take_all}
-use Rattle.std.specs.List.{flat_map, range_with_len}
-use Rattle.std.proofs.lemmas.Bool.{eq-eqb, ne_eqb}
-use Rattle.std.proofs.lemmas.List.{drop_more, take_more, take_more_set, drop_all, map-set, set-get_or, length-map}
-use Rattle.nit_actor.specs.Turn.{LineTurn}
-use Rattle.nit_actor.specs.Rounds.{in_phase, all_rounds, phase_rounds}
-use Rattle.nit_actor.specs.Places.{rest_of_phase, left_from}
+use Rattle.std.proofs.Common.{List, [], add-one, add-zero, ap, append-nil, append_assoc, ap₂, arith, drop, drop-set-lt, get_or, length, map, refl, set, subst, suc, sym, take, take_all, zero, ℕ, ◌++◌, ◌+◌, ◌-◌, ◌<◌, ◌∙◌, ◌∷◌, ◌≡◌, ◌≤◌}
+use Rattle.nit_actor.proofs.Basics.{LineTurn, all_rounds, drop_all, drop_more, eq-eqb, flat_map, in_phase, length-map, map-set, ne_eqb, phase_rounds, range_with_len, rest_of_phase, set-get_or, take_more, take_more_set}
+use Rattle.nit_actor.specs.Places.{left_from}
 use Rattle.nit_actor.proofs.RoundWalks.{Short, first_round, no_rounds}
 use Rattle.nit_actor.proofs.OneActor.{get_map}
 

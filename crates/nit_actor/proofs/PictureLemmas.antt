@@ -1,28 +1,10 @@
 -- The pictures of the shots of a journal that grows beside the user.
-use Rattle.std.proofs.Common.{◌≡◌, ◌∙◌, ℕ, suc, ◌+◌, List, [], ◌∷◌, ◌++◌, length, take, refl, sym, ap, subst, arith, length-append, append_assoc, Some}
-use Rattle.std.specs.Prelude.{slice_get}
+use Rattle.nit_actor.proofs.Basics.{Device, Entry, File, GrowsQuietly, InputLine, IsNearPicture, OpeningParts, PutState, PutsNext, PutsShotsBehind, Routed, ShotsBehind, Tells, TellsShot, UserAction, deeds_line, deeds_of-append, picture, puts_both, shot_name, shots, slice_get, user_actions_in, user_actions_of}
+use Rattle.std.proofs.Common.{List, Some, [], ap, append_assoc, arith, length, length-append, refl, subst, suc, sym, take, ℕ, ◌++◌, ◌+◌, ◌∙◌, ◌∷◌, ◌≡◌}
 use mathlib.Core.List.{IsPrefix}
-use Rattle.nit_events.specs.declared.device.Device.{Device}
-use Rattle.nit_events.specs.declared.event.Routed.{Routed}
-use Rattle.nit_events.specs.declared.entry.Entry.{Entry}
 use Rattle.nit_events.specs.declared.entry.Entry.TheVariants as entry
-use Rattle.nit_script.specs.declared.line.InputLine.{InputLine}
 use Rattle.nit_script.specs.declared.line.InputLine.TheVariants as inputs
-use Rattle.nit_journal.specs.Replay.{shots}
-use Rattle.nit_journal.specs.WholeJournals.{UserAction, user_actions_of}
-use Rattle.nit_report.specs.Picture.{picture}
-use Rattle.nit_store.specs.Store.{File}
-use Rattle.nit_hall.specs.ServedLines.{user_actions_in}
-use Rattle.nit_hall.specs.OpeningParts.{OpeningParts}
-use Rattle.nit_hall.specs.Hall.{Tells, TellsShot}
-use Rattle.nit_journal.proofs.ForCallers.{deeds_of-append}
-use Rattle.nit_hall.proofs.ForCallers.{deeds_line}
-use Rattle.nit_store.specs.Puts.{PutState, PutsNext}
-use Rattle.nit_store.proofs.ForCallers.{puts_both}
-use Rattle.nit_actor.specs.RoundsRun.{shot_name}
 use Rattle.nit_actor.proofs.ShotLemmas.{shots_both}
-use Rattle.nit_actor.specs.Shots.{ShotsBehind}
-use Rattle.nit_actor.specs.Pictures.{IsNearPicture, GrowsQuietly, PutsShotsBehind}
 
 abbrev Picturing : Type 1
 Picturing = List Entry → List ℕ → Type 0

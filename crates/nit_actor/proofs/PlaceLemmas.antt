@@ -1,16 +1,7 @@
 -- Actors at places of their scripts: what each has left, and how places go on.
-use Rattle.std.proofs.Common.{◌≡◌, ◌∙◌, ℕ, zero, suc, ◌+◌, ◌<◌, ◌≤◌, ◌==◌, Bool, true, false, cond, List, [], ◌∷◌, Some, map, length, get_or, set, drop, refl, sym, ap, ap₂, subst, inl, inr, arith, add-one, zero-add, length-append}
-use Rattle.std.specs.Prelude.{nat_lt}
-use Rattle.std.specs.List.{AllByRecursion, slice_get}
-use Rattle.std.proofs.lemmas.Bool.{cases_lt, cases_eq, and_parts, eqb-true, eq-eqb, ltb-true, lt-ltb, false≢true}
-use Rattle.std.proofs.lemmas.List.{drop_more, drop_all, length-map, get_or_default}
-use Rattle.nit_script.specs.declared.line.Line.{Line}
-use Rattle.nit_script.specs.declared.line.InputLine.{InputLine}
-use Rattle.nit_script.specs.Phases.{is_phase, is_input_phase}
+use Rattle.std.proofs.Common.{Bool, List, Some, [], add-one, ap, ap₂, arith, cond, drop, false, get_or, inl, inr, length, length-append, map, nat_lt, refl, set, subst, suc, sym, true, zero, zero-add, ℕ, ◌+◌, ◌<◌, ◌==◌, ◌∙◌, ◌∷◌, ◌≡◌, ◌≤◌}
+use Rattle.nit_actor.proofs.Basics.{ActorLine, AllByRecursion, ByClient, ByUser, InputLine, Line, LineTurn, StandsAt, actors, and_parts, cases_eq, cases_lt, clients_from, drop_all, drop_more, ends_phase, eq-eqb, eqb-true, false≢true, get_or_default, in_phase, is_active, is_input_phase, is_phase, left_at, lefts, length-map, lt-ltb, ltb-true, script_of, slice_get, stepped, turns_from}
 use Rattle.nit_actor.specs.declared.places.Place.{Place}
-use Rattle.nit_actor.specs.Turn.{ActorLine, ByClient, ByUser, LineTurn, ends_phase, turns_from, clients_from, actors}
-use Rattle.nit_actor.specs.Rounds.{in_phase}
-use Rattle.nit_actor.specs.Places.{left_at, lefts, script_of, is_active, stepped, StandsAt}
 use Rattle.nit_actor.proofs.OneActor.{later}
 use Rattle.nit_actor.proofs.Scripts.{script_of_client, script_of_user}
 

@@ -1,13 +1,6 @@
 -- An event of the scene where no glass tells a log: the glasses stay as they are.
-use Rattle.std.proofs.Common.{◌≡◌, ◌≢◌, ◌∙◌, ℕ, ◌<◌, List, [], ◌∷◌, ◌++◌, map, length, set, None, refl, sym, ap, inl, inr, get_or-set_same, get_or-set_other}
-use Rattle.std.specs.Option.{option_map}
-use Rattle.std.proofs.lemmas.Bool.{eq-eqb, ne_eqb, cases_eq}
-use Rattle.std.proofs.lemmas.List.{ext_get_or, length-map}
-use Rattle.nit_word.specs.Sight.{Sight, seen}
-use Rattle.nit_paint.specs.Repaint.{no_sight}
-use Rattle.nit_scene.specs.RawWords.{glasses_of_call}
-use Rattle.nit_scene.specs.RawWords.{glass_in}
-use Rattle.nit_actor.specs.RunState.{AreQuiet, AreQuietBut}
+use Rattle.std.proofs.Common.{List, None, [], ap, get_or-set_other, get_or-set_same, inl, inr, length, map, refl, set, sym, ℕ, ◌++◌, ◌<◌, ◌∙◌, ◌∷◌, ◌≡◌, ◌≢◌}
+use Rattle.nit_actor.proofs.Basics.{AreQuiet, AreQuietBut, Sight, WereSeen, cases_eq, eq-eqb, ext_get_or, glass_in, glasses_of_call, length-map, ne_eqb, no_sight, option_map, seen}
 
 abbrev pub itself : List Sight → List Sight
 itself glasses = map (λ g. g) glasses
@@ -31,14 +24,10 @@ of_call glasses sid own inside t =
 pub every_of_call : (glasses : List Sight) (sid : ℕ) (own : Sight) → sid < length glasses → glasses_of_call (itself glasses) sid own ≡ glass_in (set glasses sid own)
 every_of_call glasses sid own inside = λ i t. of_call glasses sid own inside t i
 
--- what was loaded in the call is not told
-abbrev pub WereSeen : List Sight → List Sight → ℕ → Sight → Sight → Type 0
-WereSeen old new sid own own' = (t : ℕ) → (loads : List (ℕ × ℕ)) × (glasses_of_call (itself new) sid own' t ≡ seen (glasses_of_call (itself old) sid own t) loads)
-
 own_there : (glasses : List Sight) (sid : ℕ) (own : Sight) → glasses_of_call (itself glasses) sid own sid ≡ own
 own_there glasses sid own = rw (eq-eqb sid sid refl) refl
 
-pub same_own : (old new : List Sight) (sid : ℕ) (own own' : Sight) → own.log ≡ None → WereSeen old new sid own own' → own' ≡ own
+pub same_own : (old new : List Sight) (sid : ℕ) (own own' : Sight) → own.log ≡ None → WereSeen (itself old) (itself new) sid own own' → own' ≡ own
 same_own old new sid own own' quiet were =
     let saw = were sid in
     sym (own_there new sid own') ∙ saw.1 ∙ ap (λ (g : Sight). seen g saw.0) (own_there old sid own) ∙ not_seen own saw.0 quiet
@@ -46,7 +35,7 @@ same_own old new sid own own' quiet were =
 other_there : (glasses : List Sight) (sid : ℕ) (own : Sight) (t : ℕ) → t ≢ sid → glasses_of_call (itself glasses) sid own t ≡ glass_in glasses t
 other_there glasses sid own t other = ap (λ (gs : List Sight). glasses_of_call gs sid own t) (same_list glasses) ∙ rw (ne_eqb t sid other) refl
 
-same_at : (old new : List Sight) (sid : ℕ) (own own' : Sight) → AreQuietBut sid old → WereSeen old new sid own own' → glass_in (itself new) sid ≡ glass_in (itself old) sid → (t : ℕ) → glass_in new t ≡ glass_in old t
+same_at : (old new : List Sight) (sid : ℕ) (own own' : Sight) → AreQuietBut sid old → WereSeen (itself old) (itself new) sid own own' → glass_in (itself new) sid ≡ glass_in (itself old) sid → (t : ℕ) → glass_in new t ≡ glass_in old t
 same_at old new sid own own' quiet were idle t =
     elim (cases_eq t sid) [
       | inl e ↦ ap (glass_in new) e ∙ sym (ap (λ (gs : List Sight). glass_in gs sid) (same_list new)) ∙ idle ∙ ap (λ (gs : List Sight). glass_in gs sid) (same_list old) ∙ ap (glass_in old) (sym e)
@@ -55,7 +44,7 @@ same_at old new sid own own' quiet were idle t =
           sym (other_there new sid own' t other) ∙ saw.1 ∙ ap (λ (g : Sight). seen g saw.0) (other_there old sid own t other) ∙ not_seen (glass_in old t) saw.0 (quiet t other)
     ]
 
-pub same_glasses : {R : Type 0} (f : Sight → R) (old new : List Sight) (sid : ℕ) (own own' : Sight) → AreQuietBut sid old → WereSeen old new sid own own' → glass_in (itself new) sid ≡ glass_in (itself old) sid → map f new ≡ map f old → new ≡ old
+pub same_glasses : {R : Type 0} (f : Sight → R) (old new : List Sight) (sid : ℕ) (own own' : Sight) → AreQuietBut sid old → WereSeen (itself old) (itself new) sid own own' → glass_in (itself new) sid ≡ glass_in (itself old) sid → map f new ≡ map f old → new ≡ old
 same_glasses f old new sid own own' quiet were idle rests =
     let long : length new ≡ length old = sym (length-map new f) ∙ ap (λ xs. length xs) rests ∙ length-map old f in
     ext_get_or no_sight new old long (λ t inside. same_at old new sid own own' quiet were idle t)

@@ -1,10 +1,6 @@
 -- The roles of passes, one of which did a line.
-use Rattle.std.proofs.Common.{◌≡◌, ◌∙◌, ℕ, zero, suc, ◌<◌, List, [], ◌∷◌, length, map, get_or, set, refl, sym, ap, subst, arith}
-use Rattle.std.specs.Prelude.{All, slice_index_or}
-use Rattle.nit_hall.specs.OpeningParts.{OpeningParts}
-use Rattle.nit_hall.specs.Pass.{PassModel, Belongs}
-use Rattle.nit_actor.specs.Role.{Role, IsRoleIn, role_of}
-use Rattle.nit_actor.specs.declared.beside.PassRole.{PassRole}
+use Rattle.std.proofs.Common.{List, [], ap, arith, get_or, length, map, refl, set, subst, suc, sym, zero, ℕ, ◌<◌, ◌∙◌, ◌∷◌, ◌≡◌}
+use Rattle.nit_actor.proofs.Basics.{All, Belongs, IsRoleIn, OpeningParts, PassModel, PassRole, Role, role_of, slice_index_or}
 
 abbrev roles : List PassModel → List Role
 roles ps = map (λ (p : PassModel). role_of p) ps

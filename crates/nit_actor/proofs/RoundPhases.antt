@@ -1,14 +1,6 @@
 -- The phases of the rounds never fall.
-use Rattle.std.proofs.Common.{◌≡◌, ℕ, zero, suc, ◌+◌, ◌<◌, ◌≤◌, ◌==◌, Bool, true, false, cond, List, [], ◌∷◌, ◌++◌, map, length, get_or, take, drop, refl, sym, subst, le_trans, le_of_eq, arith}
-use Rattle.std.specs.List.{flat_map, range_with_len, AllByRecursion}
-use Rattle.std.specs.List.Sorted.{IsNonDecreasing}
-use Rattle.std.proofs.lemmas.Bool.{eqb-true}
-use Rattle.std.proofs.lemmas.List.Concat.{flat_map-append}
-use Rattle.nit_report.proofs.ForCallers.{all_append}
-use Rattle.nit_actor.specs.Turn.{LineTurn}
-use Rattle.nit_actor.specs.Rounds.{in_phase, round, phase_rounds}
-use Rattle.nit_journal.specs.WholeJournals.{Action}
-use Rattle.nit_actor.specs.TurnActions.{actions_of_line}
+use Rattle.nit_actor.proofs.Basics.{Action, AllByRecursion, IsNonDecreasing, LineTurn, actions_of_line, all_append, eqb-true, flat_map, flat_map-append, in_phase, phase_rounds, range_with_len, round}
+use Rattle.std.proofs.Common.{Bool, List, [], arith, cond, drop, false, get_or, le_of_eq, le_trans, length, map, refl, subst, suc, sym, take, true, zero, ℕ, ◌++◌, ◌+◌, ◌<◌, ◌==◌, ◌∷◌, ◌≡◌, ◌≤◌}
 
 -- ---- numbers that never fall
 

@@ -1,10 +1,6 @@
 -- Rounds one after the other: each takes the first move of each actor.
-use Rattle.std.proofs.Common.{◌≡◌, ◌∙◌, ℕ, zero, suc, ◌+◌, ◌-◌, ◌≤◌, max, List, [], ◌∷◌, ◌++◌, map, length, get_or, take, drop, refl, sym, ap, ap₂, subst, arith, map-id, length-drop, drop-drop}
-use Rattle.std.specs.List.{flat_map, range_with_len, AllByRecursion}
-use Rattle.std.proofs.lemmas.List.{nil_from_length}
-use Rattle.std.proofs.lemmas.List.Folds.{flat_map-map}
-use Rattle.nit_actor.specs.Turn.{LineTurn}
-use Rattle.nit_actor.specs.Rounds.{greatest, round, all_rounds}
+use Rattle.std.proofs.Common.{List, [], ap, ap₂, arith, drop, drop-drop, get_or, length, length-drop, map, map-id, max, refl, subst, suc, sym, take, zero, ℕ, ◌++◌, ◌+◌, ◌-◌, ◌∙◌, ◌∷◌, ◌≡◌, ◌≤◌}
+use Rattle.nit_actor.proofs.Basics.{AllByRecursion, LineTurn, all_rounds, flat_map, flat_map-map, greatest, nil_from_length, range_with_len, round}
 
 -- lists of at most n moves
 abbrev pub Short : ℕ → List (List LineTurn) → Type 0

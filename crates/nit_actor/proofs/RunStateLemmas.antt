@@ -1,40 +1,11 @@
 -- A run that is under way: how it begins, what one turn does, and what holds at its end.
-use Rattle.std.proofs.Common.{◌≡◌, ◌≢◌, ◌∙◌, ℕ, ◌+◌, ◌<◌, ◌≤◌, Bool, true, false, cond, List, [], ◌∷◌, ◌++◌, map, length, set, take, Option, Some, None, refl, sym, ap, subst, inl, inr, arith, zero-add, add-zero, append-nil, append_assoc, length-append, length-set, get_or-set_same, get_or-set_other}
-use Rattle.std.specs.List.{slice_get, slice_index_or}
-use Rattle.std.proofs.lemmas.Bool.{eq-eqb, ne_eqb, cases_eq, cases_lt}
-use Rattle.std.proofs.lemmas.List.{get_or_past, length-map, length-take-le, map-append}
-use Rattle.std.proofs.lemmas.List.Concat.{flat_map-append}
-use Rattle.std.proofs.lemmas.Option.{slice_get_within}
-use Rattle.nit_rect.specs.declared.point.Point.{Point}
-use Rattle.nit_word.specs.Channels.{bare_word}
-use Rattle.nit_word.specs.Sight.{Sight}
-use Rattle.nit_events.specs.declared.entry.Entry.{Entry}
+use Rattle.std.proofs.Common.{Bool, List, None, Option, Some, [], add-zero, ap, append-nil, append_assoc, arith, cond, false, get_or-set_other, get_or-set_same, inl, inr, length, length-append, length-set, map, refl, set, subst, sym, take, true, zero-add, ℕ, ◌++◌, ◌+◌, ◌<◌, ◌∙◌, ◌∷◌, ◌≡◌, ◌≢◌, ◌≤◌}
+use Rattle.nit_actor.proofs.Basics.{Action, ActorLine, AreQuiet, AreRaw, Bare, ByClient, ByUser, Configuration, Drawing, Entry, InputLine, IsDrawn, IsLegal, IsMoved, IsOpen, IsRawOf, IsRecorded, IsRoundsRun, IsSetUp, IsShowing, IsUnderWay, IsUserRecorded, Line, LineTurn, Painting, PixelSource, PlanModel, Point, SceneModel, ShotFrame, ShowsEach, ShowsLine, Sight, Size, State, action_of, actions_of_line, actions_of_turns, after_turn, bar_rows, bare_word, blank, buffer_size, cases_eq, cases_lt, donation_of, done_after, drawn, drawn_shot, entry_of, eq-eqb, first_state, flat_map-append, get_or_past, glass_after, glass_in, in_bar, ink, input_lines_of, length-map, length-take-le, line_by, lines_of, map-append, ne_eqb, no_sight, painted_from, pixel, pixel_count, replay, rounds, script_in, shot_frames_of, shots, shots_after, slice_get, slice_get_within, slice_index_or, source_at, source_under, state_now, tables_after, turn_of, words_after, words_left}
 use Rattle.nit_events.specs.declared.entry.Entry.TheVariants as entry
 use Rattle.nit_stack.specs.declared.view.View.{View}
-use Rattle.nit_stack.specs.Sources.{PixelSource, Bare, Size, in_bar, source_under, pixel}
-use Rattle.nit_script.specs.declared.line.Line.{Line}
 use Rattle.nit_script.specs.declared.line.Line.TheVariants as line
-use Rattle.nit_script.specs.declared.line.InputLine.{InputLine}
 use Rattle.nit_script.specs.declared.line.InputLine.TheVariants as input
-use Rattle.nit_config.specs.Configuration.{Configuration, bar_rows, donation_of}
-use Rattle.nit_journal.specs.Replay.{IsLegal, IsOpen, replay, shots}
-use Rattle.nit_journal.specs.State.{State, buffer_size, first_state}
-use Rattle.nit_journal.specs.WholeJournals.{Action, action_of}
-use Rattle.nit_plan.specs.ScriptWords.{Painting, blank, ink, painted_from, words_after, words_left}
-use Rattle.nit_plan.specs.Plan.{PlanModel}
-use Rattle.nit_plan.specs.SessionLists.{script_in}
-use Rattle.nit_paint.specs.Repaint.{no_sight}
-use Rattle.nit_scene.specs.RawWords.{AreRaw, IsRawOf, glass_in, pixel_count, source_at}
-use Rattle.nit_scene.specs.Scene.{SceneModel, state_now}
 use Rattle.nit_actor.specs.declared.turn.Turn.TheVariants as turn
-use Rattle.nit_actor.specs.Turn.{ActorLine, ByClient, ByUser, LineTurn}
-use Rattle.nit_actor.specs.Rounds.{rounds}
-use Rattle.nit_actor.specs.Places.{turn_of}
-use Rattle.nit_actor.specs.TurnActions.{actions_of_turns, actions_of_line, input_lines_of, line_by, lines_of}
-use Rattle.nit_actor.specs.RoundsRun.{IsRoundsRun, IsSetUp, glass_after}
-use Rattle.nit_actor.specs.ShotFrames.{ShotFrame, ShowsEach}
-use Rattle.nit_actor.specs.Drawing.{Drawing, after_turn, done_after, drawn, drawn_shot, entry_of, shot_frames_of, shots_after, tables_after}
-use Rattle.nit_actor.specs.RunState.{AreQuiet, IsDrawn, IsMoved, IsRecorded, IsShowing, IsUnderWay, IsUserRecorded, ShowsLine}
 use Rattle.nit_actor.proofs.DrawingLemmas.{done_more, drawn_more, moved_on, none_drawn, shows_drawn}
 use Rattle.nit_actor.proofs.TableWords.{AreOf, tables_told}
 use Rattle.nit_actor.proofs.ShotLemmas.{device_shots, line_shots, shot_counted}

@@ -1,26 +1,9 @@
 -- The files of a run's shots, shot by shot along its journal.
-use Rattle.std.proofs.Common.{◌≡◌, ◌∙◌, ℕ, zero, suc, ◌+◌, Bool, true, false, cond, List, [], ◌∷◌, ◌++◌, length, map, fold, Some, refl, sym, ap, subst, arith, append_assoc, inl, inr}
-use Rattle.std.specs.Prelude.{slice_get}
-use Rattle.std.proofs.lemmas.Bool.{cases_Bool}
-use Rattle.std.proofs.lemmas.List.{append-nil, length_push}
-use Rattle.std.proofs.lemmas.List.Sums.{fold-append}
-use Rattle.nit_events.specs.declared.entry.Entry.{Entry}
+use Rattle.std.proofs.Common.{Bool, List, Some, [], ap, append-nil, append_assoc, arith, cond, false, fold, inl, inr, length, map, refl, subst, suc, sym, true, zero, ℕ, ◌++◌, ◌+◌, ◌∙◌, ◌∷◌, ◌≡◌}
+use Rattle.nit_actor.proofs.Basics.{ActorLine, AreRoundsOf, AreShotsOf, ByClient, ByUser, Configuration, Drawing, Entry, File, InputLine, IsDrawnPicture, IsLegal, LegalFrom, Line, LineTurn, ShotFrame, ShotsBehind, State, action_of, actions_of_turns, after, after_turn, cases_Bool, drawn_by_shot, drawn_shot, first_state, fold-append, length_push, opening_drawing, picture_of, replay, replay_from, rounds, shoots, shot_file, shot_name, shots, shots_after, shots_of, slice_get, turns_before}
+use Rattle.nit_actor.specs.Drawing.{drawn}
 use Rattle.nit_events.specs.declared.entry.Entry.TheVariants as entry
-use Rattle.nit_script.specs.declared.line.Line.{Line}
-use Rattle.nit_script.specs.declared.line.InputLine.{InputLine}
 use Rattle.nit_script.specs.declared.line.InputLine.TheVariants as input
-use Rattle.nit_config.specs.Configuration.{Configuration}
-use Rattle.nit_journal.specs.State.{State, after, first_state}
-use Rattle.nit_journal.specs.Replay.{IsLegal, LegalFrom, replay, replay_from, shots}
-use Rattle.nit_journal.specs.WholeJournals.{action_of}
-use Rattle.nit_store.specs.Store.{File}
-use Rattle.nit_actor.specs.Turn.{ActorLine, ByClient, ByUser, LineTurn}
-use Rattle.nit_actor.specs.Rounds.{rounds}
-use Rattle.nit_actor.specs.TurnActions.{AreRoundsOf, actions_of_turns}
-use Rattle.nit_actor.specs.RoundsRun.{shot_name}
-use Rattle.nit_actor.specs.ShotFrames.{ShotFrame, shot_file}
-use Rattle.nit_actor.specs.Drawing.{Drawing, after_turn, drawn, drawn_shot, opening_drawing, picture_of, shots_after, shots_of}
-use Rattle.nit_actor.specs.Shots.{ShotsBehind, AreShotsOf, shoots, turns_before, drawn_by_shot, IsDrawnPicture}
 use Rattle.nit_actor.proofs.ShotLemmas.{shots_both}
 use Rattle.nit_actor.proofs.PictureLemmas.{as_many_files, file_of_a_shot}
 use Rattle.nit_actor.proofs.DrawnAsReplayed.{PutBy, behind, none_left}

@@ -1,13 +1,9 @@
 -- The shots of a journal that grows at its end.
-use Rattle.std.proofs.Common.{◌≡◌, ◌∙◌, ℕ, ◌+◌, List, [], ◌∷◌, ◌++◌, refl, sym, ap, arith, add-zero, zero-add}
-use Rattle.nit_events.specs.declared.device.Device.{Device}
-use Rattle.nit_events.specs.declared.entry.Entry.{Entry}
+use Rattle.std.proofs.Common.{List, [], add-zero, ap, arith, refl, sym, zero-add, ℕ, ◌++◌, ◌+◌, ◌∙◌, ◌∷◌, ◌≡◌}
+use Rattle.nit_actor.proofs.Basics.{Device, Entry, IsRecorded, IsUserRecorded, Line, shots}
 use Rattle.nit_events.specs.declared.entry.Entry.TheVariants as entry
-use Rattle.nit_script.specs.declared.line.Line.{Line}
 use Rattle.nit_script.specs.declared.line.Line.TheVariants as line
 use Rattle.nit_script.specs.declared.line.InputLine.TheVariants as input
-use Rattle.nit_journal.specs.Replay.{shots}
-use Rattle.nit_actor.specs.RunState.{IsRecorded, IsUserRecorded}
 
 -- ---- one entry more
 

@@ -1,7 +1,6 @@
 -- Frames that are shown one after the other, and what they are to a desk.
-use Rattle.std.proofs.Common.{◌≡◌, ◌∙◌, List, [], ◌∷◌, ◌++◌, map, refl, ap, subst}
-use Rattle.nit_store.specs.Puts.{PutState, PutsAll, PutsNext}
-use Rattle.nit_actor.specs.ShotFrames.{ShotFrame, ShowsEach, shot_file}
+use Rattle.std.proofs.Common.{List, [], ap, map, refl, subst, ◌++◌, ◌∙◌, ◌∷◌, ◌≡◌}
+use Rattle.nit_actor.proofs.Basics.{PutState, PutsAll, PutsNext, ShotFrame, ShowsEach, shot_file}
 
 -- one frame more
 pub shows_more : {V : Type 0} (Shows : ShotFrame → V → V → Type 0) (front : List ShotFrame) (f : ShotFrame) (old mid new : V) → ShowsEach Shows front old mid → Shows f mid new → ShowsEach Shows (front ++ f ∷ []) old new

@@ -1,27 +1,6 @@
 -- A scene's glass that is behind the own one of its session, and how it is brought on.
-use Rattle.std.proofs.Common.{◌≡◌, ◌∙◌, ℕ, ◌+◌, ◌/◌, ◌%◌, ◌<◌, ◌≤◌, ◌||◌, Bool, true, false, cond, List, length, set, Option, Some, None, refl, sym, ap, subst, inl, inr, length-set, get_or-set_same}
-use Rattle.std.specs.Prelude.{slice_index}
-use Rattle.std.specs.List.{slice_get}
-use Rattle.std.proofs.lemmas.Bool.{cases_lt, or_parts}
-use Rattle.std.proofs.lemmas.List.{ext_get_or, get_or_past, set-set}
-use Rattle.std.proofs.lemmas.Option.{same_Some}
-use Rattle.nit_word.specs.Updates.{set_where, with_words}
-use Rattle.nit_word.specs.Sight.{Sight, inked_sight, told_at, told_words}
-use Rattle.nit_word.proofs.ForCallers.{set_long, word_at}
-use Rattle.nit_script.specs.declared.line.Line.{Line}
-use Rattle.nit_plan.specs.declared.area.Area.{Area}
-use Rattle.nit_plan.specs.declared.plan.Step.{Step}
-use Rattle.nit_plan.specs.Strokes.{is_in_area}
-use Rattle.nit_plan.specs.ScriptWords.{ink, static, words_after}
-use Rattle.nit_plan.specs.Plan.{is_set_by, step_of}
-use Rattle.nit_paint.specs.Repaint.{no_sight}
-use Rattle.nit_scene.specs.RawWords.{glass_in}
-use Rattle.nit_scene.specs.Scene.{SceneModel}
-use Rattle.nit_slots.specs.Account.{IsDonation}
-use Rattle.nit_actor.specs.RoundsRun.{glass_after}
-use Rattle.nit_actor.specs.RunState.{is_number_in}
-use Rattle.nit_actor.specs.Stale.{AreBehind, IsBehind, IsBehindBy, IsButFor, is_stale}
-use Rattle.nit_actor.specs.declared.stale.Stale.{Stale}
+use Rattle.nit_actor.proofs.Basics.{AreBehind, Area, IsBehind, IsBehindBy, IsButFor, IsDonation, Line, SceneModel, Sight, Stale, Step, cases_lt, ext_get_or, get_or_past, glass_after, glass_in, ink, inked_sight, is_in_area, is_number_in, is_set_by, is_stale, no_sight, or_parts, same_Some, set-set, set_long, set_where, slice_get, slice_index, static, step_of, told_at, told_words, with_words, word_at, words_after}
+use Rattle.std.proofs.Common.{Bool, List, None, Option, Some, ap, cond, false, get_or-set_same, inl, inr, length, length-set, refl, set, subst, sym, true, ℕ, ◌%◌, ◌+◌, ◌/◌, ◌<◌, ◌||◌, ◌∙◌, ◌≡◌, ◌≤◌}
 use Rattle.nit_actor.proofs.Copies.{with_glass_of}
 use Rattle.nit_actor.proofs.LineOnGlass.{AreLong, StayElsewhere}
 

@@ -1,21 +1,6 @@
 -- Words by the tables of the sessions.
-use Rattle.std.proofs.Common.{◌≡◌, ◌∙◌, ℕ, zero, suc, ◌<◌, ◌≤◌, ◌==◌, Bool, true, false, ◌||◌, List, [], length, refl, sym, ap, subst, inl, inr}
-use Rattle.std.specs.Prelude.{IsTrue, slice_index}
-use Rattle.std.proofs.lemmas.Bool.{cases_lt, eqb-true}
-use Rattle.std.proofs.lemmas.List.{get_or_past}
-use Rattle.nit_word.specs.Inks.{IsInked}
-use Rattle.nit_word.specs.Sight.{Sight, IsLoaded}
-use Rattle.nit_word.specs.Zeros.{zeros}
-use Rattle.nit_word.proofs.ForCallers.{zero_at}
-use Rattle.nit_stack.specs.Sources.{PixelSource, Bare, Black, Word}
-use Rattle.nit_script.specs.declared.line.Line.{Line}
-use Rattle.nit_config.specs.Configuration.{Configuration, donation_of}
-use Rattle.nit_plan.specs.ScriptWords.{table_size, words_after}
-use Rattle.nit_plan.specs.SessionLists.{script_in}
-use Rattle.nit_paint.specs.Repaint.{IsWordOfSource, no_sight}
-use Rattle.nit_scene.specs.RawWords.{glass_in}
-use Rattle.nit_actor.specs.RoundsRun.{glass_after}
-use Rattle.nit_actor.specs.Drawing.{tables_after, word_from}
+use Rattle.nit_actor.proofs.Basics.{Bare, Black, Configuration, IsInked, IsLoaded, IsTrue, IsWordOfSource, Line, PixelSource, Sight, Word, cases_lt, donation_of, eqb-true, get_or_past, glass_after, glass_in, no_sight, script_in, slice_index, table_size, tables_after, word_from, words_after, zero_at, zeros}
+use Rattle.std.proofs.Common.{Bool, List, [], ap, false, inl, inr, length, refl, subst, suc, sym, true, zero, ℕ, ◌<◌, ◌==◌, ◌||◌, ◌∙◌, ◌≡◌, ◌≤◌}
 
 -- ---- words
 

@@ -1,10 +1,7 @@
 -- What a turn tells of the move that it is of.
-use Rattle.std.proofs.Common.{◌≡◌, ℕ}
-use Rattle.nit_script.specs.declared.line.Line.{Line}
-use Rattle.nit_script.specs.declared.line.InputLine.{InputLine}
+use Rattle.std.proofs.Common.{ℕ, ◌≡◌}
+use Rattle.nit_actor.proofs.Basics.{ActorLine, ByClient, ByUser, InputLine, Line, LineTurn, turn_by, turn_of}
 use Rattle.nit_actor.specs.declared.turn.Turn.TheVariants as turn
-use Rattle.nit_actor.specs.Turn.{ActorLine, ByClient, ByUser, LineTurn}
-use Rattle.nit_actor.specs.Places.{turn_by, turn_of}
 
 by_client : (d : ActorLine) (number s n : ℕ) → turn_by d number ≡ turn.Client s n → (number ≡ n) × ((l : Line) × (d ≡ ByClient s l))
 by_client (ByClient t l) number s n e = (cc, (l, cc))

@@ -1,35 +1,9 @@
 -- What a turn finds: all that the line of its actor asks for.
-use Rattle.std.proofs.Common.{◌≡◌, ◌∙◌, ℕ, zero, suc, ◌<◌, ◌≤◌, true, List, [], ◌∷◌, length, get_or, drop, Option, Some, None, refl, sym, ap, subst, arith, set, length-set}
-use Rattle.std.specs.List.{AllByRecursion, slice_get}
-use Rattle.std.specs.Option.{option_map}
-use Rattle.std.proofs.lemmas.List.{get_or_default}
-use Rattle.std.proofs.lemmas.List.Elements.{All-get_or}
-use Rattle.std.proofs.lemmas.Option.{slice_get_within, get_or_from_slice_get}
-use Rattle.nit_word.specs.Sight.{Sight}
-use Rattle.nit_slots.specs.Account.{IsDonation}
-use Rattle.nit_events.specs.declared.call.Call.{Call}
-use Rattle.nit_script.specs.declared.line.Line.{Line}
+use Rattle.std.proofs.Common.{List, None, Option, Some, [], ap, arith, drop, get_or, length, length-set, refl, set, subst, suc, sym, true, zero, ℕ, ◌<◌, ◌∙◌, ◌∷◌, ◌≡◌, ◌≤◌}
+use Rattle.nit_actor.proofs.Basics.{Action, ActorLine, Acts, All-get_or, AllByRecursion, ByClient, ByUser, Call, Calls, Configuration, Does, Entry, InputLine, IsConfiguration, IsDonation, IsMember, IsMoved, IsPlanOf, IsPlanned, IsUnderWay, Line, LineTurn, PlanModel, SceneModel, Shoots, Sight, State, Turn, actions_of_line, actions_of_turns, donation_of, get_or_default, get_or_from_slice_get, glass_after, glass_in, option_map, plan_in, rounds, script_in, settled, slice_get, slice_get_within, state_now, takes_place, turn_of}
 use Rattle.nit_script.specs.declared.line.Line.TheVariants as line
-use Rattle.nit_script.specs.declared.line.InputLine.{InputLine}
 use Rattle.nit_script.specs.declared.line.InputLine.TheVariants as input
-use Rattle.nit_config.specs.Configuration.{Configuration, donation_of}
-use Rattle.nit_config.specs.ConfigurationRanges.{IsConfiguration, IsMember}
-use Rattle.nit_journal.specs.WholeJournals.{Does, Shoots, Action, Acts, Calls}
-use Rattle.nit_plan.specs.Plan.{PlanModel, IsPlanOf}
-use Rattle.nit_plan.specs.SessionLists.{plan_in, script_in}
-use Rattle.nit_scene.specs.RawWords.{glass_in}
-use Rattle.nit_events.specs.declared.entry.Entry.{Entry}
-use Rattle.nit_journal.specs.State.{State}
-use Rattle.nit_scene.specs.Scene.{SceneModel, state_now}
-use Rattle.nit_actor.specs.declared.turn.Turn.{Turn}
 use Rattle.nit_actor.specs.declared.turn.Turn.TheVariants as turn
-use Rattle.nit_actor.specs.Turn.{ActorLine, ByClient, ByUser, LineTurn}
-use Rattle.nit_actor.specs.Rounds.{rounds}
-use Rattle.nit_actor.specs.Places.{turn_of}
-use Rattle.nit_actor.specs.TurnActions.{actions_of_turns, actions_of_line}
-use Rattle.nit_actor.specs.RoundsRun.{glass_after}
-use Rattle.nit_actor.specs.RunState.{IsMoved, IsPlanned, IsUnderWay, takes_place}
-use Rattle.nit_actor.specs.Stale.{settled}
 use Rattle.nit_actor.proofs.RunStateLemmas.{ClientTells, ClientDone, UserTells, UserDone, IsClientsMove, IsUsersMove, clients_move, users_move, own_glass, room_for}
 
 -- ---- a client's turn

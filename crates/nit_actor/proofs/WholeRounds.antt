@@ -1,22 +1,10 @@
 -- A journal of rounds is whole.
-use Rattle.std.proofs.Common.{◌≡◌, ◌∙◌, ℕ, zero, suc, ◌==◌, Bool, true, false, List, [], ◌∷◌, ◌++◌, map, length, get_or, set, refl, sym, ap, ap₂, subst, inl, inr, get_or-set_same, get_or-set_other}
+use Rattle.std.proofs.Common.{Bool, List, [], ap, ap₂, false, get_or, get_or-set_other, get_or-set_same, inl, inr, length, map, refl, set, subst, suc, sym, true, zero, ℕ, ◌++◌, ◌==◌, ◌∙◌, ◌∷◌, ◌≡◌}
+use Rattle.nit_actor.proofs.Basics.{ActorLine, Acts, AreRoundsOf, ByClient, ByUser, Call, Calls, Does, Entry, InputLine, IsNonDecreasing, IsWhole, Line, LineTurn, Shoots, UserAction, action_of, actions_of_turns, actors, calls_from, calls_of, calls_to_make, cases_eq, cases_lt, done, eq-eqb, flat_map, get_or_past, left, ne_eqb, next_phase, phase_count, phases_along, rounds, to_do, turns_from, turns_of, user_actions_from, user_actions_of, user_actions_to_do}
 use Rattle.std.specs.Prelude.{if◌then◌else◌}
-use Rattle.std.specs.List.{flat_map}
-use Rattle.std.specs.List.Sorted.{IsNonDecreasing}
-use Rattle.std.proofs.lemmas.Bool.{eq-eqb, ne_eqb, cases_eq, cases_lt}
-use Rattle.std.proofs.lemmas.List.{get_or_past}
-use Rattle.nit_events.specs.declared.call.Call.{Call}
-use Rattle.nit_events.specs.declared.entry.Entry.{Entry}
 use Rattle.nit_events.specs.declared.entry.Entry.TheVariants as entry
-use Rattle.nit_script.specs.declared.line.Line.{Line}
 use Rattle.nit_script.specs.declared.line.Line.TheVariants as line
-use Rattle.nit_script.specs.declared.line.InputLine.{InputLine}
 use Rattle.nit_script.specs.declared.line.InputLine.TheVariants as input
-use Rattle.nit_journal.specs.WholeJournals.{UserAction, Does, Shoots, calls_of, user_actions_of, done, to_do, next_phase, left, phases_along, IsWhole, Calls, Acts, action_of}
-use Rattle.nit_plan.specs.Calls.{calls_from, calls_to_make, user_actions_from, user_actions_to_do}
-use Rattle.nit_actor.specs.Turn.{ActorLine, ByClient, ByUser, LineTurn, turns_from, turns_of, actors}
-use Rattle.nit_actor.specs.Rounds.{rounds, phase_count}
-use Rattle.nit_actor.specs.TurnActions.{actions_of_turns, AreRoundsOf}
 use Rattle.nit_actor.proofs.Scripts.{client_part, user_part}
 use Rattle.nit_actor.proofs.RoundPhases.{act_phases, never_falls, rounds_rise}
 

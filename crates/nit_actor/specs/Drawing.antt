@@ -1,30 +1,13 @@
 -- What is drawn along the rounds of some scripts: the words of the screen's pixels, and the frames
 -- of the shots with their pictures. It comes from the configuration and the scripts alone.
 use Rattle.std.specs.Prelude.{ℕ, ◌+◌, ◌==◌, List, [], ◌∷◌, ◌++◌, length, map, fold, Option, Some, None, if◌then◌else◌}
-use Rattle.nit_word.specs.Channels.{bare_word}
-use Rattle.nit_events.specs.declared.entry.Entry.{Entry}
+use Rattle.nit_actor.specs.Below.{Configuration, Entry, File, InputLine, Line, PutState, PutsAll, State, after, bare_word, dirty, donation_of, first_state, frame, picture, pixel, route, routed_as, scenery_of, script_in, serve, session, source_at, words_after}
 use Rattle.nit_events.specs.declared.entry.Entry.TheVariants as entry
-use Rattle.nit_events.specs.Input.{routed_as}
-use Rattle.nit_stack.specs.Sources.{pixel}
-use Rattle.nit_script.specs.declared.line.Line.{Line}
 use Rattle.nit_script.specs.declared.line.Line.TheVariants as line
-use Rattle.nit_script.specs.declared.line.InputLine.{InputLine}
 use Rattle.nit_script.specs.declared.line.InputLine.TheVariants as input
-use Rattle.nit_config.specs.Configuration.{Configuration, donation_of}
-use Rattle.nit_journal.specs.Session.{serve}
-use Rattle.nit_journal.specs.State.{State, first_state, session, route, after}
-use Rattle.nit_plan.specs.ScriptWords.{words_after}
-use Rattle.nit_plan.specs.SessionLists.{script_in}
-use Rattle.nit_overlay.specs.Frame.{frame}
-use Rattle.nit_scene.specs.DirtyPixels.{dirty}
-use Rattle.nit_scene.specs.RawWords.{source_at}
 pub use Rattle.nit_scene.specs.RawWords.{word_from, words_of}
-use Rattle.nit_scene.specs.Scene.{scenery_of}
-use Rattle.nit_report.specs.Picture.{picture}
-use Rattle.nit_store.specs.Store.{File}
 use Rattle.nit_actor.specs.Turn.{ActorLine, ByClient, ByUser, LineTurn}
 use Rattle.nit_actor.specs.Rounds.{rounds}
-use Rattle.nit_store.specs.Puts.{PutState, PutsAll}
 use Rattle.nit_actor.specs.ShotFrames.{ShotFrame, shot_file}
 
 -- what some moves leave: the state that their entries lead to, how many lines of its script each

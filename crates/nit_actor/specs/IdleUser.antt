@@ -1,14 +1,7 @@
 -- One client and a user who does nothing, stepped together.
 use Rattle.std.specs.Prelude.{◌≡◌, List, ◌++◌, length, drop, map, replicate, count_by}
-use Rattle.nit_events.specs.declared.entry.Entry.{Entry}
-use Rattle.nit_script.specs.declared.line.Line.{Line}
-use Rattle.nit_script.specs.declared.line.InputLine.{InputLine}
+use Rattle.nit_actor.specs.Below.{Action, Belongs, Calls, Entry, InputLine, Line, PassModel, RoomModel, UserBelongs, UserPassModel, action_of, calls_in, is_phase}
 use Rattle.nit_script.specs.declared.line.InputLine.TheVariants as input
-use Rattle.nit_script.specs.Phases.{is_phase}
-use Rattle.nit_journal.specs.WholeJournals.{Action, Calls, action_of}
-use Rattle.nit_plan.specs.Calls.{calls_in}
-use Rattle.nit_hall.specs.Pass.{PassModel, UserPassModel, Belongs, UserBelongs}
-use Rattle.nit_hall.specs.Room.{RoomModel}
 
 -- a user who does nothing: one line `phase` for each line `phase` of a client's script
 abbrev pub idle_user : List Line → List InputLine

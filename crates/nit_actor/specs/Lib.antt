@@ -24,3 +24,5 @@ pub mod ClipRole
 pub mod Pictures
 pub mod Crew
 pub mod IdleUser
+pub mod Below
+pub mod Terms

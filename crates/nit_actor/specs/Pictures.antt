@@ -1,14 +1,6 @@
 -- The pictures of the shots of a journal that threads made, and which of them were put.
 use Rattle.std.specs.Prelude.{◌≡◌, ℕ, List, ◌++◌}
-use Rattle.nit_events.specs.declared.entry.Entry.{Entry}
-use Rattle.nit_script.specs.declared.line.Line.{Line}
-use Rattle.nit_config.specs.Configuration.{Configuration}
-use Rattle.nit_journal.specs.Replay.{shots}
-use Rattle.nit_report.specs.Picture.{picture}
-use Rattle.nit_store.specs.Store.{File}
-use Rattle.nit_hall.specs.NearWords.{IsNearFrame}
-use Rattle.nit_hall.specs.OpeningParts.{OpeningParts}
-use Rattle.nit_store.specs.Puts.{PutState, PutsAll}
+use Rattle.nit_actor.specs.Below.{Configuration, Entry, File, IsNearFrame, Line, OpeningParts, PutState, PutsAll, picture, shots}
 use Rattle.nit_actor.specs.Shots.{ShotsBehind, AreShotsOf}
 
 -- The bytes are the picture of a frame of the state that these entries lead to, in which each pixel

@@ -1,12 +1,6 @@
 -- Who an actor is and what it has to do. No line that it does changes this.
 use Rattle.std.specs.Prelude.{◌≡◌, ℕ, List, slice_get, Some}
-use Rattle.nit_script.specs.declared.line.Line.{Line}
-use Rattle.nit_script.specs.declared.line.InputLine.{InputLine}
-use Rattle.nit_plan.specs.Plan.{PlanModel}
-use Rattle.nit_ledger.specs.Book.{BookName}
-use Rattle.nit_config.specs.Configuration.{donation_of}
-use Rattle.nit_hall.specs.OpeningParts.{OpeningParts}
-use Rattle.nit_hall.specs.Pass.{PassModel, UserPassModel}
+use Rattle.nit_actor.specs.Below.{BookName, InputLine, Line, OpeningParts, PassModel, PlanModel, UserPassModel, donation_of}
 
 -- a client's: its number, the name of its room's book, its script, the plan of it, and its donation
 pub record Role : Type 0 where

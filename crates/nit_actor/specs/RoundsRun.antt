@@ -1,20 +1,7 @@
 -- What a run by rounds leaves: its journal, the words of its sessions, and the pictures that it
 -- put.
 use Rattle.std.specs.Prelude.{◌≡◌, ℕ, ◌+◌, ◌<◌, List, ◌++◌, length, codes, Option, Some, None}
-use Rattle.std.specs.Fmt.{decimal}
-use Rattle.nit_word.specs.Sight.{Sight, inked_sight}
-use Rattle.nit_script.specs.declared.line.Line.{Line}
-use Rattle.nit_script.specs.declared.line.InputLine.{InputLine}
-use Rattle.nit_config.specs.Configuration.{Configuration, donation_of}
-use Rattle.nit_journal.specs.Replay.{IsLegal, IsOpen}
-use Rattle.nit_plan.specs.ScriptWords.{ink, words_after, words_left}
-use Rattle.nit_plan.specs.Plan.{PlanModel, IsPlanOf}
-use Rattle.nit_plan.specs.SessionLists.{script_in, plan_in}
-use Rattle.nit_scene.specs.RawWords.{glass_in}
-use Rattle.nit_scene.specs.Scene.{SceneModel}
-use Rattle.nit_store.specs.declared.store.PutError.{PutError}
-use Rattle.nit_store.specs.Store.{StoreModel}
-use Rattle.nit_store.specs.Puts.{PutState, PutRefusal}
+use Rattle.nit_actor.specs.Below.{Configuration, InputLine, IsLegal, IsOpen, IsPlanOf, Line, PlanModel, PutError, PutRefusal, PutState, SceneModel, Sight, StoreModel, decimal, donation_of, glass_in, ink, inked_sight, plan_in, script_in, words_after, words_left}
 use Rattle.nit_actor.specs.TurnActions.{AreRoundsOf}
 
 -- ---- what a run begins with

@@ -1,29 +1,9 @@
 -- A run by rounds that is under way: what one line leaves, and what holds between two turns.
 use Rattle.std.specs.Prelude.{◌≡◌, ◌≢◌, ℕ, ◌+◌, ◌/◌, ◌%◌, ◌<◌, Bool, true, false, List, [], ◌∷◌, ◌++◌, length, map, slice_index_or, Option, Some, None}
-use Rattle.nit_word.specs.Sight.{Sight}
-use Rattle.nit_events.specs.declared.call.Reply.{Reply}
-use Rattle.nit_events.specs.declared.event.Routed.{Routed}
-use Rattle.nit_events.specs.declared.entry.Entry.{Entry}
+use Rattle.nit_actor.specs.Below.{Area, Configuration, Entry, InputLine, IsConfiguration, IsOpen, IsPlanOf, IsWordOfSource, Line, PlanModel, Reply, Routed, SceneModel, Sight, State, action_of, after, dirty, donation_of, frame, glass_in, is_in_area, pixel, pixel_count, plan_in, scenery_of, script_in, shots, source_at, state_now}
 use Rattle.nit_events.specs.declared.entry.Entry.TheVariants as entry
-use Rattle.nit_script.specs.declared.line.Line.{Line}
 use Rattle.nit_script.specs.declared.line.Line.TheVariants as line
-use Rattle.nit_script.specs.declared.line.InputLine.{InputLine}
 use Rattle.nit_script.specs.declared.line.InputLine.TheVariants as input
-use Rattle.nit_config.specs.Configuration.{Configuration, donation_of}
-use Rattle.nit_config.specs.ConfigurationRanges.{IsConfiguration}
-use Rattle.nit_stack.specs.Sources.{pixel}
-use Rattle.nit_journal.specs.State.{State, after}
-use Rattle.nit_journal.specs.Replay.{IsOpen, shots}
-use Rattle.nit_journal.specs.WholeJournals.{action_of}
-use Rattle.nit_plan.specs.declared.area.Area.{Area}
-use Rattle.nit_plan.specs.Strokes.{is_in_area}
-use Rattle.nit_plan.specs.Plan.{PlanModel, IsPlanOf}
-use Rattle.nit_plan.specs.SessionLists.{plan_in, script_in}
-use Rattle.nit_paint.specs.Repaint.{IsWordOfSource}
-use Rattle.nit_overlay.specs.Frame.{frame}
-use Rattle.nit_scene.specs.DirtyPixels.{dirty}
-use Rattle.nit_scene.specs.RawWords.{glass_in, pixel_count, source_at}
-use Rattle.nit_scene.specs.Scene.{SceneModel, scenery_of, state_now}
 use Rattle.nit_actor.specs.Turn.{LineTurn}
 use Rattle.nit_actor.specs.Rounds.{rounds}
 use Rattle.nit_actor.specs.TurnActions.{actions_of_turns, lines_of}

@@ -1,8 +1,7 @@
 -- The frames of the shots of a run, their pictures, and what it means that they are shown one after
 -- the other.
 use Rattle.std.specs.Prelude.{◌≡◌, ℕ, List, [], ◌∷◌}
-use Rattle.nit_report.specs.Picture.{picture}
-use Rattle.nit_store.specs.Store.{File}
+use Rattle.nit_actor.specs.Below.{File, picture}
 use Rattle.nit_actor.specs.RoundsRun.{shot_name}
 
 -- the frame of a shot: the shot's number, the size of the screen, and a word for each of its pixels

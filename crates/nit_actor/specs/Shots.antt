@@ -1,13 +1,8 @@
 -- The pictures of the shots of a journal.
 use Rattle.std.specs.Prelude.{◌≡◌, ℕ, zero, suc, Bool, true, false, List, [], ◌∷◌, ◌++◌, if◌then◌else◌}
-use Rattle.nit_events.specs.declared.entry.Entry.{Entry}
+use Rattle.nit_actor.specs.Below.{Configuration, Entry, File, InputLine, Line, replay, shots}
 use Rattle.nit_events.specs.declared.entry.Entry.TheVariants as entry
-use Rattle.nit_script.specs.declared.line.Line.{Line}
-use Rattle.nit_script.specs.declared.line.InputLine.{InputLine}
 use Rattle.nit_script.specs.declared.line.InputLine.TheVariants as input
-use Rattle.nit_config.specs.Configuration.{Configuration}
-use Rattle.nit_journal.specs.Replay.{replay, shots}
-use Rattle.nit_store.specs.Store.{File}
 use Rattle.nit_actor.specs.Turn.{ActorLine, ByUser, LineTurn}
 use Rattle.nit_actor.specs.Rounds.{rounds}
 use Rattle.nit_actor.specs.RoundsRun.{shot_name}

@@ -1,8 +1,6 @@
 -- What is drawn on a session's own glass, and not yet on the scene's.
 use Rattle.std.specs.Prelude.{◌≡◌, ℕ, ◌+◌, ◌*◌, ◌<◌, ◌≤◌, Bool, false, List, length, slice_index, slice_set, Option, Some, None}
-use Rattle.nit_word.specs.Sight.{Sight}
-use Rattle.nit_scene.specs.RawWords.{glass_in}
-use Rattle.nit_scene.specs.Scene.{SceneModel}
+use Rattle.nit_actor.specs.Below.{SceneModel, Sight, glass_in, most_side}
 use Rattle.nit_actor.specs.declared.stale.Stale.{Stale}
 use Rattle.nit_actor.specs.RunState.{is_number_in}
 
@@ -13,8 +11,8 @@ is_stale (Some a) n = is_number_in a.w a.area n
 
 -- the places are those of a buffer that stands in so many words
 pub record FitsInto (size : ℕ) (a : Stale) : Type 0 where
-  pub wide : a.w ≤ 4096
-  pub tall : a.area.y + a.area.h ≤ 4096
+  pub wide : a.w ≤ most_side
+  pub tall : a.area.y + a.area.h ≤ most_side
   pub columns : a.area.x + a.area.w ≤ a.w
   pub room : (a.area.y + a.area.h) * a.w ≤ size
 

@@ -1,8 +1,6 @@
 -- Moves: which actor does which line of its script. Phases and lines count from 0.
 use Rattle.std.specs.Prelude.{ℕ, suc, Bool, List, [], ◌∷◌, ◌++◌, map, if◌then◌else◌}
-use Rattle.nit_script.specs.declared.line.Line.{Line}
-use Rattle.nit_script.specs.declared.line.InputLine.{InputLine}
-use Rattle.nit_script.specs.Phases.{is_phase, is_input_phase}
+use Rattle.nit_actor.specs.Below.{InputLine, Line, is_input_phase, is_phase}
 
 -- a line, and whose it is: a client's, by its session, or the user's
 pub data ActorLine : Type 0 where

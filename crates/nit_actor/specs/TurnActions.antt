@@ -1,12 +1,8 @@
 -- What moves put into a journal, and which lines of whom were done in them.
 use Rattle.std.specs.Prelude.{◌≡◌, ℕ, ◌==◌, List, [], ◌∷◌, map, if◌then◌else◌}
-use Rattle.std.specs.List.{flat_map}
-use Rattle.nit_events.specs.declared.entry.Entry.{Entry}
-use Rattle.nit_script.specs.declared.line.Line.{Line}
+use Rattle.nit_actor.specs.Below.{Action, Acts, Calls, Does, Entry, InputLine, Line, Shoots, action_of, flat_map}
 use Rattle.nit_script.specs.declared.line.Line.TheVariants as line
-use Rattle.nit_script.specs.declared.line.InputLine.{InputLine}
 use Rattle.nit_script.specs.declared.line.InputLine.TheVariants as input
-use Rattle.nit_journal.specs.WholeJournals.{Does, Shoots, Action, Calls, Acts, action_of}
 use Rattle.nit_actor.specs.Turn.{ActorLine, ByClient, ByUser, LineTurn}
 use Rattle.nit_actor.specs.Rounds.{rounds}
 

@@ -1,8 +1,7 @@
 //! What a client's thread does.
 
 ghost use Rattle.std.specs.Prelude.{◌≡◌, ◌+◌, Some, length, slice_get};
-ghost use Rattle.nit_hall.specs.Pass.{Belongs};
-ghost use Rattle.nit_actor.specs.Role.{role_of};
+ghost use Rattle.nit_actor.specs.Terms.{Belongs, role_of};
 
 use crate::gate::{AtGate, Checkpoint, Gate};
 use nit_hall::{Hall, Name, Pass};

@@ -1,10 +1,7 @@
 //! What a client's thread does where the client has a clip script too.
 
 ghost use Rattle.std.specs.Prelude.{◌≡◌, ◌+◌, ◌⊎◌, Some, length, slice_get};
-ghost use Rattle.nit_hall.specs.Pass.{Belongs, IsAtPhase};
-ghost use Rattle.nit_hall.specs.ClipPass.{ClipBelongs, IsAtClipPhase, IsAtPhaseEnd};
-ghost use Rattle.nit_actor.specs.Role.{role_of};
-ghost use Rattle.nit_actor.specs.ClipRole.{GoTogether, IsPairIn, clip_role_of};
+ghost use Rattle.nit_actor.specs.Terms.{Belongs, ClipBelongs, GoTogether, IsAtClipPhase, IsAtPhase, IsAtPhaseEnd, IsPairIn, clip_role_of, role_of};
 
 use crate::actor::do_line;
 use crate::gate::{AtGate, Checkpoint, Gate};

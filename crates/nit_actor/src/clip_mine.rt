@@ -2,14 +2,7 @@
 //! passes and clip passes, by turns.
 
 ghost use Rattle.std.specs.Prelude.{◌≡◌, ◌*◌, All, IfNone, None, length, map};
-ghost use Rattle.std.specs.List.{AllZip};
-ghost use Rattle.nit_report.specs.Picture.{picture_length};
-ghost use Rattle.nit_hall.specs.Pass.{Belongs, UserBelongs};
-ghost use Rattle.nit_hall.specs.ClipPass.{ClipBelongs};
-ghost use Rattle.nit_actor.specs.RoundsRun.{put_state_of_desk};
-ghost use Rattle.nit_actor.specs.Role.{role_of, user_role_of};
-ghost use Rattle.nit_actor.specs.ClipRole.{GoTogether, IsPairIn, clip_role_of};
-ghost use Rattle.nit_actor.specs.Pictures.{PutsShotsBehind};
+ghost use Rattle.nit_actor.specs.Terms.{AllZip, Belongs, ClipBelongs, GoTogether, IsPairIn, PutsShotsBehind, UserBelongs, clip_role_of, picture_length, put_state_of_desk, role_of, user_role_of};
 
 use crate::clip_actor::{do_last_clips, do_pair_line};
 use crate::desk::Desk;

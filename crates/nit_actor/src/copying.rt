@@ -1,10 +1,7 @@
 //! Copies of a session's own glass to the scene's glass for it.
 
 ghost use Rattle.std.specs.Prelude.{◌≡◌, ◌+◌, ◌*◌, ◌<◌, ◌≤◌, length, slice_set};
-ghost use Rattle.nit_word.specs.Updates.{set_where, with_words};
-ghost use Rattle.nit_word.specs.Sight.{told_at};
-ghost use Rattle.nit_scene.specs.RawWords.{glass_in};
-ghost use Rattle.nit_actor.specs.RunState.{is_number_in};
+ghost use Rattle.nit_actor.specs.Terms.{glass_in, is_number_in, most_side, set_where, told_at, with_words};
 
 use nit_plan::Area;
 use nit_scene::Scene;
@@ -15,8 +12,8 @@ use nit_word::Inked;
 pub(crate) fn copy_area(scene: &mut Scene<Inked>, sid: u32, own: &Inked, w: u32, area: Area)
     requires session { sid < length scene.old.config.clients }
     requires glasses { sid < length scene.old.glasses }
-    requires wide { w ≤ 4096 }
-    requires tall { area.y + area.h ≤ 4096 }
+    requires wide { w ≤ most_side }
+    requires tall { area.y + area.h ≤ most_side }
     requires columns { area.x + area.w ≤ w }
     requires room { (area.y + area.h) * w ≤ (glass_in scene.old.glasses sid).size }
     requires ink { own.now.ink ≡ (glass_in scene.old.glasses sid).ink }

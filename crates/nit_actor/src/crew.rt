@@ -4,7 +4,7 @@
 //! generic in the type of a pass, and what is known of a pass that comes back is its role alone.
 
 ghost use Rattle.std.specs.Prelude.{◌≡◌, ◌+◌, ◌≤◌, All, [], length, map, vec_len, vec_capacity};
-ghost use Rattle.nit_actor.specs.Crew.{IsStarted};
+ghost use Rattle.nit_actor.specs.Terms.{IsStarted};
 
 use std::marker::PhantomData;
 use std::snapshot::Snapshot;

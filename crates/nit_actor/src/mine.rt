@@ -2,11 +2,7 @@
 //! turns.
 
 ghost use Rattle.std.specs.Prelude.{◌≡◌, ◌*◌, All, IfNone, IsSome, length, map};
-ghost use Rattle.nit_report.specs.Picture.{picture_length};
-ghost use Rattle.nit_hall.specs.Pass.{Belongs, UserBelongs};
-ghost use Rattle.nit_actor.specs.RoundsRun.{put_state_of_desk};
-ghost use Rattle.nit_actor.specs.Role.{IsRoleIn, role_of, user_role_of};
-ghost use Rattle.nit_actor.specs.Pictures.{PutsShotsBehind};
+ghost use Rattle.nit_actor.specs.Terms.{Belongs, IsRoleIn, PutsShotsBehind, UserBelongs, picture_length, put_state_of_desk, role_of, user_role_of};
 
 use crate::actor::do_line;
 use crate::desk::Desk;

@@ -1,12 +1,7 @@
 //! A run of one client, without a lock and on the calling thread.
 
 ghost use Rattle.std.specs.Prelude.{◌≡◌, ◌+◌, ◌++◌, Some, drop, length, map, slice_get};
-ghost use Rattle.nit_journal.specs.Replay.{IsOpen};
-ghost use Rattle.nit_plan.specs.Calls.{calls_in};
-ghost use Rattle.nit_hall.specs.Pass.{IsAtPhase};
-ghost use Rattle.nit_journal.specs.WholeJournals.{Calls, action_of};
-ghost use Rattle.nit_actor.specs.IdleUser.{StepTogether, actions_to_be};
-ghost use Rattle.nit_actor.specs.Role.{role_of, user_role_of};
+ghost use Rattle.nit_actor.specs.Terms.{Calls, IsAtPhase, IsOpen, StepTogether, action_of, actions_to_be, calls_in, role_of, user_role_of};
 
 use nit_hall::{Pass, Room, UserPass};
 use nit_script::Line;

@@ -20,8 +20,7 @@ ghost use Rattle.std.specs.Prelude.{
   nat_le,
   slice_set,
 };
-ghost use Rattle.nit_scene.specs.RawWords.{glass_in};
-ghost use Rattle.nit_actor.specs.Stale.{AreBehind, FitsInto, IsBehind, IsButFor, is_stale};
+ghost use Rattle.nit_actor.specs.Terms.{AreBehind, FitsInto, IsBehind, IsButFor, glass_in, is_stale, most_side};
 
 use crate::copying::copy_area;
 use nit_plan::Area;
@@ -38,7 +37,7 @@ pub struct Stale {
 
 /// Whether some columns or rows are among others, all by the first one and how many there are.
 fn lies_among(first: u32, count: u32, other: u32, others: u32) -> bool
-    requires few { (first + count ≤ 4096) × (other + others ≤ 4096) }
+    requires few { (first + count ≤ most_side) × (other + others ≤ most_side) }
     ensures { result ≡ (nat_le other first && nat_le (first + count) (other + others)) }
 {
     other <= first && first + count <= other + others

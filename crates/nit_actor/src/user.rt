@@ -1,13 +1,7 @@
 //! The user's lines, over a hall.
 
 ghost use Rattle.std.specs.Prelude.{◌≡◌, ◌*◌, ◌+◌, All, Some, length, slice_get};
-ghost use Rattle.nit_word.specs.Inks.{IsWord};
-ghost use Rattle.nit_report.specs.Picture.{picture_length};
-ghost use Rattle.nit_hall.specs.Hall.{TellsShot};
-ghost use Rattle.nit_hall.specs.Pass.{UserBelongs, IsAtDevice, IsAtShot, IsAtUserPhase};
-ghost use Rattle.nit_actor.specs.RoundsRun.{put_state_of_desk};
-ghost use Rattle.nit_actor.specs.Role.{user_role_of};
-ghost use Rattle.nit_actor.specs.Pictures.{GrowsQuietly, PutsShotsBehind};
+ghost use Rattle.nit_actor.specs.Terms.{GrowsQuietly, IsAtDevice, IsAtShot, IsAtUserPhase, IsWord, PutsShotsBehind, TellsShot, UserBelongs, picture_length, put_state_of_desk, user_role_of};
 
 use crate::desk::Desk;
 use crate::gate::Checkpoint;

@@ -1,17 +1,9 @@
 -- Lines of a clip script are read exactly, and only one answer fits the bytes.
-use Rattle.std.proofs.Common.{◌≡◌, ℕ, ◌≤◌, List, ◌∷◌, ◌++◌, length, Some, Result, Ok, Err, refl, ap, subst}
-use Rattle.std.specs.Prelude.{codes, IfOk}
-use Rattle.nit_script.specs.FieldReaders.{at_made}
-use Rattle.nit_script.proofs.ForCallers.{nothing, anything, text_fields, stops_text, Takes, IsKind, kind, first_takes, made_takes, ended_takes, ended_again, IsReader, same_read, same_bad, read_and_bad, read_and_long, bad_and_long}
-use Rattle.nit_clip.specs.declared.call.ClipCall.{ClipCall}
+use Rattle.nit_clip.proofs.Basics.{Bad, ClipCall, ClipError, ClipLine, FitsClipCall, FitsClipLine, IfOk, IsClipScriptAnswer, IsFirstBadClip, IsKind, IsReader, IsTooLongClip, NoMemory, ReadsClip, Takes, TooLong, UnlessMemory, anything, at_made, bad_and_long, clip_call_spelling, clip_line_spelling, codes, ended_again, ended_takes, first_takes, kind, made_takes, nothing, read_and_bad, read_and_long, same_bad, same_read, stops_text, text_fields}
+use Rattle.std.proofs.Common.{Err, List, Ok, Result, Some, ap, length, refl, subst, ℕ, ◌++◌, ◌∷◌, ◌≡◌, ◌≤◌}
+use Rattle.nit_clip.specs.ClipReaders.{clip_call_at, clip_front_at, clip_line_at, clip_phase_at, copy_at, paste_at}
 use Rattle.nit_clip.specs.declared.call.ClipCall.TheVariants as call
-use Rattle.nit_clip.specs.declared.line.ClipLine.{ClipLine}
 use Rattle.nit_clip.specs.declared.line.ClipLine.TheVariants as line
-use Rattle.nit_clip.specs.declared.error.ClipError.{ClipError}
-use Rattle.nit_clip.specs.declared.error.ClipError.TheVariants.{Bad, TooLong, NoMemory}
-use Rattle.nit_clip.specs.ClipSpelling.{FitsClipCall, FitsClipLine, clip_call_spelling, clip_line_spelling}
-use Rattle.nit_clip.specs.ClipGrammar.{ReadsClip, IsFirstBadClip, IsTooLongClip, UnlessMemory, IsClipScriptAnswer}
-use Rattle.nit_clip.specs.ClipReaders.{copy_at, paste_at, clip_call_at, clip_phase_at, clip_front_at, clip_line_at}
 
 copies : IsKind copy_at clip_call_spelling FitsClipCall stops_text (λ (t : List ℕ). call.Copy t)
 unfolding copy_at

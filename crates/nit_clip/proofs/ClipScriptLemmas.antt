@@ -1,14 +1,7 @@
 -- The clip calls of a script, line by line.
-use Rattle.std.proofs.Common.{◌≡◌, ◌∙◌, ℕ, zero, suc, ◌+◌, cond, List, [], ◌∷◌, ◌++◌, length, take, drop, Some, refl, ap, arith}
-use Rattle.std.specs.Prelude.{count_by}
-use Rattle.std.specs.List.{slice_get}
-use Rattle.std.proofs.lemmas.List.Sums.{sum_by-cons}
-use Rattle.nit_journal.specs.WholeJournals.{done, next_phase}
-use Rattle.nit_clip.specs.declared.call.ClipCall.{ClipCall}
-use Rattle.nit_clip.specs.declared.line.ClipLine.{ClipLine}
+use Rattle.std.proofs.Common.{List, Some, [], ap, arith, cond, drop, length, refl, suc, take, zero, ℕ, ◌++◌, ◌+◌, ◌∙◌, ◌∷◌, ◌≡◌}
+use Rattle.nit_clip.proofs.Basics.{ClipCall, ClipLine, clip_calls_in, clips_from, count_by, done, is_clip_phase, next_phase, slice_get, sum_by-cons}
 use Rattle.nit_clip.specs.declared.line.ClipLine.TheVariants as line
-use Rattle.nit_clip.specs.ClipGrammar.{is_clip_phase}
-use Rattle.nit_clip.specs.WholeClips.{clips_from, clip_calls_in}
 
 pub all_calls : (p : ℕ) (lines : List ClipLine) → clip_calls_in lines ≡ done (clips_from p lines)
 all_calls p [] = refl

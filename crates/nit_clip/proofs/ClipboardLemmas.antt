@@ -1,12 +1,9 @@
 -- What an answer says where the clipboard is not known.
-use Rattle.std.proofs.Common.{◌≡◌, ℕ, ◌==◌, Bool, true, false, cond, List, Option, Some, None, refl, sym, ap, inl, inr, ◌∙◌}
+use Rattle.std.proofs.Common.{Bool, List, None, Option, Some, ap, cond, false, inl, inr, refl, sym, true, ℕ, ◌==◌, ◌∙◌, ◌≡◌}
+use Rattle.nit_clip.proofs.Basics.{ClipCall, ClipReply, IsClipAnswer, clip_answer, eq-eqb, eqb-true, focused_answer, pasted}
 use Rattle.std.specs.Prelude.{◌⊎◌}
-use Rattle.std.proofs.lemmas.Bool.{eqb-true, eq-eqb}
-use Rattle.nit_clip.specs.declared.call.ClipCall.{ClipCall}
 use Rattle.nit_clip.specs.declared.call.ClipCall.TheVariants as call
-use Rattle.nit_clip.specs.declared.call.ClipReply.{ClipReply}
 use Rattle.nit_clip.specs.declared.call.ClipReply.TheVariants as reply
-use Rattle.nit_clip.specs.Clipboard.{clip_answer, focused_answer, pasted, IsClipAnswer}
 
 -- what the focused session is answered is not that it has not the focus
 focused_other : (clipboard : Option (List ℕ)) (c : ClipCall) → focused_answer clipboard c ≡ reply.NotFocused → ⊥

@@ -1,15 +1,8 @@
 -- Clip lists stay legal while the journal grows.
-use Rattle.std.proofs.Common.{◌≡◌, ◌∙◌, ℕ, suc, ◌<◌, ◌≤◌, List, [], ◌∷◌, ◌++◌, length, take, Option, Some, None, refl, sym, ap, arith}
-use Rattle.std.specs.List.{AllByRecursion}
-use Rattle.std.proofs.lemmas.List.{take-append-le, take_all}
-use Rattle.nit_events.specs.declared.entry.Entry.{Entry}
+use Rattle.std.proofs.Common.{List, None, Option, Some, [], ap, arith, length, refl, suc, sym, take, ℕ, ◌++◌, ◌<◌, ◌∙◌, ◌∷◌, ◌≡◌, ◌≤◌}
+use Rattle.nit_clip.proofs.Basics.{AllByRecursion, AreAnsweredFrom, ClipEntry, Configuration, Entry, IsLegalClips, IsOpen, IsThere, before_final, clip_answer, clipboard_after_entry, clipboard_of, last_at, replay, take-append-le, take_all}
 use Rattle.nit_events.specs.declared.entry.Entry.TheVariants as entry
-use Rattle.nit_journal.specs.Configuration.{Configuration}
-use Rattle.nit_journal.specs.Replay.{replay, IsOpen}
-use Rattle.nit_clip.specs.declared.call.ClipEntry.{ClipEntry}
 use Rattle.nit_clip.specs.declared.call.ClipReply.TheVariants as reply
-use Rattle.nit_clip.specs.Clipboard.{clip_answer, clipboard_of, clipboard_after_entry, last_at, AreAnsweredFrom}
-use Rattle.nit_clip.specs.LegalClips.{before_final, IsThere, IsLegalClips}
 use Rattle.nit_clip.proofs.ClipboardLemmas.{is_told}
 use Rattle.nit_clip.proofs.OneMoreClip.{answered_more, ordered_more, all_more}
 

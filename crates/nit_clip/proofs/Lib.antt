@@ -4,3 +4,6 @@ pub mod ClipLineLaws
 pub mod WholeClipLemmas
 pub mod OneMoreClip
 pub mod ClipScriptLemmas
+pub mod Basics
+pub mod ForCallers
+pub mod Lemmas

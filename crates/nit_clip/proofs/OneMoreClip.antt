@@ -1,10 +1,6 @@
 -- One more entry of a clip list.
-use Rattle.std.proofs.Common.{◌≡◌, ◌∙◌, ℕ, ◌+◌, ◌-◌, ◌≤◌, List, [], ◌∷◌, ◌++◌, fold, Option, None, refl, sym, ap, arith}
-use Rattle.std.specs.List.{AllByRecursion}
-use Rattle.std.proofs.lemmas.List.Sums.{fold-append}
-use Rattle.nit_clip.specs.declared.call.ClipEntry.{ClipEntry}
-use Rattle.nit_clip.specs.Clipboard.{clip_answer, clipboard_of, clipboard_after, clipboard_after_entry, AreAnsweredFrom, AreAnswered, NeverFall, last_at}
-use Rattle.nit_clip.specs.Clip.{IsClip}
+use Rattle.std.proofs.Common.{List, None, Option, [], ap, arith, fold, refl, sym, ℕ, ◌++◌, ◌+◌, ◌-◌, ◌∙◌, ◌∷◌, ◌≡◌, ◌≤◌}
+use Rattle.nit_clip.proofs.Basics.{AllByRecursion, AreAnswered, AreAnsweredFrom, ClipEntry, IsClip, NeverFall, clip_answer, clipboard_after, clipboard_after_entry, clipboard_of, fold-append, last_at}
 
 pub held_more : (clips : List ClipEntry) (c : ClipEntry) → clipboard_of (clips ++ c ∷ []) ≡ clipboard_after_entry (clipboard_of clips) c
 held_more clips c = fold-append clipboard_after_entry None clips (c ∷ [])

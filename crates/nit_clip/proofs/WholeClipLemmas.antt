@@ -1,17 +1,7 @@
 -- Clip calls stay in their phases while the journal and the clip list grow.
-use Rattle.std.proofs.Common.{◌≡◌, ◌≢◌, ◌∙◌, ℕ, zero, suc, ◌≤◌, Bool, cond, List, [], ◌∷◌, ◌++◌, length, take, drop, refl, sym, ap, subst, inl, inr, arith, length-set, get_or-set_same, get_or-set_other}
-use Rattle.std.proofs.lemmas.Bool.{eq-eqb, ne_eqb, cases_eq, cases_lt}
-use Rattle.std.specs.List.{AllByRecursion}
-use Rattle.std.proofs.lemmas.List.{take-append-le, get_or_past}
-use Rattle.nit_events.specs.declared.call.Call.{Call}
-use Rattle.nit_events.specs.declared.entry.Entry.{Entry}
+use Rattle.nit_clip.proofs.Basics.{AllByRecursion, AreInPhases, Call, ClipCall, ClipEntry, Entry, IsInPhase, UserAction, before_final, calls_of, calls_up_to, cases_eq, cases_lt, clip_calls_of, clips_to_do, drop_left, eq-eqb, get_or_past, left, left_after, ne_eqb, next_phase, one_clip_done, phases_along, take-append-le, to_do}
+use Rattle.std.proofs.Common.{Bool, List, [], ap, arith, cond, drop, get_or-set_other, get_or-set_same, inl, inr, length, length-set, refl, subst, suc, sym, take, zero, ℕ, ◌++◌, ◌∙◌, ◌∷◌, ◌≡◌, ◌≢◌, ◌≤◌}
 use Rattle.nit_events.specs.declared.entry.Entry.TheVariants as entry
-use Rattle.nit_journal.specs.WholeJournals.{UserAction, calls_of, to_do, next_phase, left, phases_along}
-use Rattle.nit_journal.proofs.ForCallers.{drop_left}
-use Rattle.nit_clip.specs.declared.call.ClipCall.{ClipCall}
-use Rattle.nit_clip.specs.declared.call.ClipEntry.{ClipEntry}
-use Rattle.nit_clip.specs.LegalClips.{before_final}
-use Rattle.nit_clip.specs.WholeClips.{calls_up_to, clips_to_do, left_after, IsInPhase, AreInPhases, one_clip_done, clip_calls_of}
 use Rattle.nit_clip.proofs.LegalClipLemmas.{before_all}
 
 take_none : {A : Type 0} (n : ℕ) (xs ys : List A) → n ≤ 0 → take n xs ≡ take n ys

@@ -1,6 +1,6 @@
 -- Clip scripts and their texts.
 use Rattle.std.specs.Prelude.{◌≤◌, ℕ, ◌+◌, Bool, true, false, List, length, count_by, Result, Ok, Err}
-use Rattle.nit_script.specs.Grammar.{Reads, IsFirstBad, IsTooLong, most_lines}
+use Rattle.nit_clip.specs.Below.{IsFirstBad, IsTooLong, Reads, most_lines}
 use Rattle.nit_clip.specs.declared.error.ClipError.{ClipError}
 use Rattle.nit_clip.specs.declared.error.ClipError.TheVariants.{Bad, TooLong, NoMemory}
 use Rattle.nit_clip.specs.declared.line.ClipLine.{ClipLine}

@@ -1,8 +1,6 @@
 -- What the lines of a clip script and of a clip list's text are spelled as.
 use Rattle.std.specs.Prelude.{ℕ, List, ◌∷◌, ◌++◌, codes}
-use Rattle.std.specs.List.{flat_map}
-use Rattle.nit_script.specs.Spelling.{nat, text, FitsText}
-use Rattle.nit_script.specs.Grammar.{spelled}
+use Rattle.nit_clip.specs.Below.{FitsText, flat_map, nat, spelled, text}
 use Rattle.nit_clip.specs.declared.call.ClipCall.{ClipCall}
 use Rattle.nit_clip.specs.declared.call.ClipCall.TheVariants as call
 use Rattle.nit_clip.specs.declared.call.ClipReply.{ClipReply}

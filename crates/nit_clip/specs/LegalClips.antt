@@ -1,10 +1,7 @@
 -- Clip lists that are legal for a journal.
 use Rattle.std.specs.Prelude.{◌≡◌, ◌≤◌, ℕ, suc, ◌<◌, List, [], ◌∷◌, length, take}
-use Rattle.std.specs.List.{AllByRecursion}
-use Rattle.nit_events.specs.declared.entry.Entry.{Entry}
+use Rattle.nit_clip.specs.Below.{AllByRecursion, Configuration, Entry, replay}
 use Rattle.nit_events.specs.declared.entry.Entry.TheVariants as entry
-use Rattle.nit_journal.specs.Configuration.{Configuration}
-use Rattle.nit_journal.specs.Replay.{replay}
 use Rattle.nit_clip.specs.declared.call.ClipEntry.{ClipEntry}
 use Rattle.nit_clip.specs.Clipboard.{AreAnswered, NeverFall}
 

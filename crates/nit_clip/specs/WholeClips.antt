@@ -2,10 +2,7 @@
 -- clipboard is a list of pairs: the number of a phase, and a clip call that is done in it. Phases
 -- count from 0.
 use Rattle.std.specs.Prelude.{◌≡◌, ◌≤◌, ℕ, suc, ◌<◌, ◌==◌, nat_le, List, [], ◌∷◌, take, filter, length, slice_index_or, slice_set, if◌then◌else◌}
-use Rattle.std.specs.List.{AllByRecursion}
-use Rattle.nit_events.specs.declared.call.Call.{Call}
-use Rattle.nit_events.specs.declared.entry.Entry.{Entry}
-use Rattle.nit_journal.specs.WholeJournals.{UserAction, calls_of, done, to_do, next_phase, left, phases_along}
+use Rattle.nit_clip.specs.Below.{AllByRecursion, Call, Entry, UserAction, calls_of, done, left, next_phase, phases_along, to_do}
 use Rattle.nit_clip.specs.declared.call.ClipCall.{ClipCall}
 use Rattle.nit_clip.specs.declared.call.ClipEntry.{ClipEntry}
 use Rattle.nit_clip.specs.declared.line.ClipLine.{ClipLine}

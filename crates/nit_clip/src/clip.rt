@@ -1,8 +1,7 @@
 //! The clip list as the server keeps it. Its room is taken at the start; a call takes no memory.
 
 ghost use Rattle.std.specs.Prelude.{◌≡◌, ◌-◌, ◌≤◌, ◌++◌, ◌∷◌, [], IfOk};
-ghost use Rattle.nit_clip.specs.Clipboard.{AreAnswered, NeverFall, clip_answer, pasted, has_focus, clipboard_of, clipboard_after, last_at};
-ghost use Rattle.nit_clip.specs.Clip.{most_clips};
+ghost use Rattle.nit_clip.specs.Terms.{AreAnswered, NeverFall, clip_answer, clipboard_after, clipboard_of, has_focus, last_at, most_clips, pasted};
 
 use crate::call::{ClipCall, ClipEntry, ClipReply};
 use nit_events::Text;

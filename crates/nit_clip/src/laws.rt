@@ -2,24 +2,10 @@
 //! has one reading, and a clip list stays legal and in its phases while the journal grows.
 
 ghost use Rattle.std.specs.Prelude.{◌≡◌, ◌≤◌, ◌<◌, ◌+◌, ◌++◌, ◌∷◌, [], ◌⊎◌, ℕ, List, Option, Some, length, take, drop, count_by, if◌then◌else◌};
-ghost use Rattle.std.specs.List.{AllByRecursion, slice_get};
-ghost use Rattle.nit_events.specs.declared.call.Call.{Call};
-ghost use Rattle.nit_events.specs.declared.entry.Entry.{Entry};
-ghost use Rattle.nit_journal.specs.Configuration.{Configuration};
-ghost use Rattle.nit_journal.specs.Replay.{replay, IsOpen};
-ghost use Rattle.nit_journal.specs.WholeJournals.{UserAction, done, next_phase};
-ghost use Rattle.nit_clip.specs.declared.call.ClipCall.{ClipCall};
+ghost use Rattle.nit_clip.specs.Terms.{AllByRecursion, AreInPhases, Call, ClipCall, ClipEntry, ClipLine, ClipReply, Configuration, Entry, IsClipAnswer, IsFirstBadClip, IsInPhase, IsLegalClips, IsOpen, IsTooLongClip, ReadsClip, UserAction, before_final, clip_answer, clip_calls_in, clip_calls_of, clip_phases, clipboard_of, clips_to_do, clips_to_make, done, is_clip_phase, last_at, left_after, most_lines, next_phase, replay, slice_get};
 ghost use Rattle.nit_clip.specs.declared.call.ClipCall.TheVariants as call;
-ghost use Rattle.nit_clip.specs.declared.call.ClipReply.{ClipReply};
 ghost use Rattle.nit_clip.specs.declared.call.ClipReply.TheVariants as reply;
-ghost use Rattle.nit_clip.specs.declared.call.ClipEntry.{ClipEntry};
-ghost use Rattle.nit_clip.specs.declared.line.ClipLine.{ClipLine};
 ghost use Rattle.nit_clip.specs.declared.line.ClipLine.TheVariants as line;
-ghost use Rattle.nit_clip.specs.ClipGrammar.{ReadsClip, IsFirstBadClip, IsTooLongClip, is_clip_phase, clip_phases};
-ghost use Rattle.nit_clip.specs.Clipboard.{clip_answer, clipboard_of, last_at, IsClipAnswer};
-ghost use Rattle.nit_clip.specs.LegalClips.{IsLegalClips, before_final};
-ghost use Rattle.nit_clip.specs.WholeClips.{clips_to_make, clip_calls_in, clips_to_do, clip_calls_of, left_after, IsInPhase, AreInPhases};
-ghost use Rattle.nit_script.specs.Grammar.{most_lines};
 
 /// A text has one reading as a clip script at most, and a list of lines has one text.
 pub fn clip_reading_is_one()

@@ -1,11 +1,7 @@
 //! Clip scripts, line by line.
 
 ghost use Rattle.std.specs.Prelude.{◌≡◌, ◌≤◌, ℕ, List, length, Ok, Err, IfOk};
-ghost use Rattle.nit_rect.specs.Options.{Gives};
-ghost use Rattle.nit_clip.specs.declared.line.ClipLine.{ClipLine};
-ghost use Rattle.nit_clip.specs.ClipGrammar.{ReadsClip, IsFirstBadClip, IsTooLongClip, UnlessMemory, IsClipScriptAnswer};
-ghost use Rattle.nit_clip.specs.ClipReaders.{copy_at, paste_at, clip_call_at, clip_phase_at, clip_front_at, clip_line_at};
-ghost use Rattle.nit_script.specs.Grammar.{most_lines};
+ghost use Rattle.nit_clip.specs.Terms.{ClipLine, Gives, IsClipScriptAnswer, IsFirstBadClip, IsTooLongClip, ReadsClip, UnlessMemory, clip_call_at, clip_front_at, clip_line_at, clip_phase_at, copy_at, most_lines, paste_at};
 
 use crate::call::ClipCall;
 use crate::error::ClipError;

@@ -1,22 +1,8 @@
 -- Clip scripts and clip lists, line by line, and what a client calls up to the end of a phase.
-use Rattle.std.proofs.Common.{◌≡◌, ◌≢◌, ◌∙◌, ◌⊎◌, ℕ, zero, suc, ◌+◌, ◌<◌, ◌≤◌, ◌==◌, Bool, true, false, cond, List, [], ◌∷◌, ◌++◌, length, map, take, Some, refl, ap, inl, inr, arith}
-use Rattle.std.specs.Prelude.{slice_get, slice_index, nat_le}
-use Rattle.std.specs.List.{AllByRecursion}
-use Rattle.std.specs.List.Sorted.{IsNonDecreasing}
-use Rattle.std.proofs.lemmas.Bool.{eq-eqb, ne_eqb}
-use Rattle.std.proofs.lemmas.Bool.Decides.{nat_tests}
-use Rattle.nit_events.specs.declared.call.Call.{Call}
-use Rattle.nit_script.specs.declared.line.Line.{Line}
+use Rattle.std.proofs.Common.{Bool, List, Some, [], ap, arith, cond, false, inl, inr, length, map, refl, slice_get, suc, take, true, zero, ℕ, ◌++◌, ◌+◌, ◌<◌, ◌==◌, ◌∙◌, ◌∷◌, ◌≡◌, ◌≢◌, ◌≤◌, ◌⊎◌}
+use Rattle.nit_hall.proofs.Basics.{AllByRecursion, Call, ClipCall, ClipEntry, ClipLine, IsNonDecreasing, Line, calls_from, calls_in, calls_up_to, clip_calls_in, clip_calls_of, clip_script_in, clips_to_do, clips_to_make, eq-eqb, is_phase, nat_le, nat_tests, ne_eqb, phases_before, slice_index}
 use Rattle.nit_script.specs.declared.line.Line.TheVariants as line
-use Rattle.nit_script.specs.Phases.{is_phase}
-use Rattle.nit_plan.specs.Calls.{calls_from, calls_in}
-use Rattle.nit_clip.specs.declared.call.ClipCall.{ClipCall}
-use Rattle.nit_clip.specs.declared.call.ClipEntry.{ClipEntry}
-use Rattle.nit_clip.specs.declared.line.ClipLine.{ClipLine}
 use Rattle.nit_clip.specs.declared.line.ClipLine.TheVariants as clips
-use Rattle.nit_clip.specs.WholeClips.{clip_calls_in, clip_calls_of, clips_to_do, clips_to_make, calls_up_to}
-use Rattle.nit_hall.specs.ServedLines.{phases_before}
-use Rattle.nit_hall.specs.ClipPass.{clip_script_in}
 use Rattle.nit_hall.proofs.LineLemmas.{count_cons}
 use Rattle.nit_hall.proofs.NonDecreasing.{each_below}
 

@@ -1,20 +1,6 @@
 -- A clip list beside a journal that grows.
-use Rattle.std.proofs.Common.{◌≡◌, ℕ, ◌≤◌, List, [], ◌∷◌, ◌++◌, sym, subst}
-use Rattle.std.specs.List.{AllByRecursion}
-use Rattle.nit_events.specs.declared.call.Call.{Call}
-use Rattle.nit_events.specs.declared.entry.Entry.{Entry}
-use Rattle.nit_config.specs.Configuration.{Configuration}
-use Rattle.nit_journal.specs.WholeJournals.{UserAction}
-use Rattle.nit_pixels.specs.End.{End}
-use Rattle.nit_scene.specs.Scene.{SceneModel}
-use Rattle.nit_clip.specs.declared.call.ClipCall.{ClipCall}
-use Rattle.nit_clip.specs.declared.call.ClipEntry.{ClipEntry}
-use Rattle.nit_clip.specs.Clip.{ClipModel}
-use Rattle.nit_clip.specs.LegalClips.{before_final, IsThere, IsLegalClips}
-use Rattle.nit_clip.specs.WholeClips.{AreInPhases}
-use Rattle.nit_hall.specs.OpeningParts.{OpeningParts}
-use Rattle.nit_hall.specs.Room.{RoomModel, IsRoom}
-use Rattle.nit_hall.specs.RoomClips.{FollowsClips}
+use Rattle.std.proofs.Common.{List, [], subst, sym, ℕ, ◌++◌, ◌∷◌, ◌≡◌, ◌≤◌}
+use Rattle.nit_hall.proofs.Basics.{AllByRecursion, AreInPhases, Call, ClipCall, ClipEntry, ClipModel, Configuration, End, Entry, FollowsClips, IsLegalClips, IsRoom, IsThere, OpeningParts, RoomModel, SceneModel, UserAction, before_final}
 
 -- what the laws of clip lists say of one more entry
 pub record EntryLaws : Type 0 where

@@ -1,7 +1,6 @@
 -- The counts of a book in two parts: the first so many, and those behind them.
-use Rattle.std.proofs.Common.{◌≡◌, ℕ, zero, suc, ◌+◌, ◌<◌, List, [], ◌∷◌, ◌++◌, length, take, drop, refl, ap, arith}
-use Rattle.std.specs.Prelude.{slice_index}
-use Rattle.nit_ledger.specs.Book.{raised}
+use Rattle.std.proofs.Common.{List, [], ap, arith, drop, length, refl, suc, take, zero, ℕ, ◌++◌, ◌+◌, ◌<◌, ◌∷◌, ◌≡◌}
+use Rattle.nit_hall.proofs.Basics.{raised, slice_index}
 
 -- ---- a count of the front has risen
 

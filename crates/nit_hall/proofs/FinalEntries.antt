@@ -1,9 +1,7 @@
 -- Entries without the last picture.
-use Rattle.std.proofs.Common.{◌≡◌, List, [], ◌∷◌, ◌++◌, refl, ap}
-use Rattle.nit_events.specs.declared.entry.Entry.{Entry}
+use Rattle.std.proofs.Common.{List, [], ap, refl, ◌++◌, ◌∷◌, ◌≡◌}
+use Rattle.nit_hall.proofs.Basics.{Entry, IsOpen, without_final}
 use Rattle.nit_events.specs.declared.entry.Entry.TheVariants as entry
-use Rattle.nit_journal.specs.Replay.{IsOpen}
-use Rattle.nit_hall.specs.Room.{without_final}
 
 -- an open journal has none
 pub open_whole : (es : List Entry) → IsOpen es → without_final es ≡ es

@@ -1,9 +1,6 @@
 -- The last entry of a journal that makes a pixel dirty.
-use Rattle.std.proofs.Common.{◌≡◌, ◌∙◌, ◌⊎◌, ⊎_elim, ℕ, Bool, true, false, List, [], ◌∷◌, ◌++◌, append_assoc, get_or, drop, refl, sym, ap, subst, inl, inr}
-use Rattle.std.proofs.lemmas.Bool.{cases_Bool}
-use Rattle.nit_events.specs.declared.entry.Entry.{Entry}
-use Rattle.nit_config.specs.Configuration.{Configuration}
-use Rattle.nit_hall.specs.NearWords.{is_dirtied, IsLastDirtied}
+use Rattle.std.proofs.Common.{Bool, List, [], ap, append_assoc, drop, false, get_or, inl, inr, refl, subst, sym, true, ℕ, ⊎_elim, ◌++◌, ◌∙◌, ◌∷◌, ◌≡◌, ◌⊎◌}
+use Rattle.nit_hall.proofs.Basics.{Configuration, Entry, IsLastDirtied, cases_Bool, is_dirtied}
 
 -- ---- entries of a list
 
@@ -32,8 +29,8 @@ split_last (g ∷ gs) f rest (j ∷ js) e h =
 
 -- ---- one more entry
 
-true_false : (b : Bool) → b ≡ true → b ≡ false → ⊥
-true_false b is not = cc
+pub not_both : (b : Bool) → b ≡ true → b ≡ false → ⊥
+not_both b is not = cc
 
 -- where an entry makes the pixel dirty it is the last one behind which nothing stands
 pub last_is_last : (config : Configuration) (journal : List Entry) (e : Entry) (k : ℕ) (front : List Entry) (f : Entry) (rest : List Entry) → is_dirtied config journal e k ≡ true
@@ -41,7 +38,7 @@ pub last_is_last : (config : Configuration) (journal : List Entry) (e : Entry) (
 last_is_last config journal e k front f rest is last = ⊎_elim
     (λ (a : (front ≡ journal) × (f ≡ e) × (rest ≡ [])). a)
     (λ (b : (less : List Entry) × (rest ≡ less ++ e ∷ []) × (journal ≡ front ++ f ∷ less)).
-    absurd (true_false (is_dirtied config journal e k) is (subst (λ (js : List Entry). is_dirtied config js e k ≡ false) (sym b.2) (last.clean_behind b.0 e [] b.1))))
+    absurd (not_both (is_dirtied config journal e k) is (subst (λ (js : List Entry). is_dirtied config js e k ≡ false) (sym b.2) (last.clean_behind b.0 e [] b.1))))
     (split_last front f rest journal e (sym last.split))
 
 -- where an entry leaves the pixel clean, the last one that made it dirty stands in front of it
@@ -49,7 +46,7 @@ pub last_before : (config : Configuration) (journal : List Entry) (e : Entry) (k
     → IsLastDirtied config (journal ++ e ∷ []) k front f rest → (less : List Entry) × IsLastDirtied config journal k front f less
 last_before config journal e k front f rest clean last = ⊎_elim
     (λ (a : (front ≡ journal) × (f ≡ e) × (rest ≡ [])).
-    absurd (true_false (is_dirtied config journal e k) (subst (λ (x : Entry). is_dirtied config journal x k ≡ true) a.1 (subst (λ (js : List Entry). is_dirtied config js f k ≡ true) a.0 last.dirty_here)) clean))
+    absurd (not_both (is_dirtied config journal e k) (subst (λ (x : Entry). is_dirtied config journal x k ≡ true) a.1 (subst (λ (js : List Entry). is_dirtied config js f k ≡ true) a.0 last.dirty_here)) clean))
     (λ (b : (less : List Entry) × (rest ≡ less ++ e ∷ []) × (journal ≡ front ++ f ∷ less)). (
       b.0,
       record {
@@ -144,8 +141,8 @@ one_last config journal k front other_front e other rest other_rest a b = ⊎_el
     (λ (x : (front ≡ other_front) × (e ≡ other) × (rest ≡ other_rest)). x)
     (λ (m : ((between : List Entry) × (rest ≡ between ++ other ∷ other_rest) × (other_front ≡ front ++ e ∷ between)) ⊎ ((between : List Entry) × (other_rest ≡ between ++ e ∷ rest) × (front ≡ other_front ++ other ∷ between))). ⊎_elim
     (λ (x : (between : List Entry) × (rest ≡ between ++ other ∷ other_rest) × (other_front ≡ front ++ e ∷ between)).
-    absurd (true_false (is_dirtied config other_front other k) b.dirty_here (subst (λ (js : List Entry). is_dirtied config js other k ≡ false) (sym x.2) (a.clean_behind x.0 other other_rest x.1))))
+    absurd (not_both (is_dirtied config other_front other k) b.dirty_here (subst (λ (js : List Entry). is_dirtied config js other k ≡ false) (sym x.2) (a.clean_behind x.0 other other_rest x.1))))
     (λ (y : (between : List Entry) × (other_rest ≡ between ++ e ∷ rest) × (front ≡ other_front ++ other ∷ between)).
-    absurd (true_false (is_dirtied config front e k) a.dirty_here (subst (λ (js : List Entry). is_dirtied config js e k ≡ false) (sym y.2) (b.clean_behind y.0 e rest y.1))))
+    absurd (not_both (is_dirtied config front e k) a.dirty_here (subst (λ (js : List Entry). is_dirtied config js e k ≡ false) (sym y.2) (b.clean_behind y.0 e rest y.1))))
     m)
     (two_places front e rest other_front other other_rest (sym a.split ∙ b.split))

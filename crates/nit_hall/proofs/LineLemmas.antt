@@ -1,25 +1,9 @@
 -- Scripts line by line: what the lines before the next one are, and what the next one adds.
-use Rattle.std.proofs.Common.{◌≡◌, ◌∙◌, ℕ, zero, suc, ◌+◌, ◌≤◌, Bool, true, false, cond, List, [], ◌∷◌, ◌++◌, filter, length, take, drop, Some, refl, sym, ap, arith, length-append}
-use Rattle.std.specs.Prelude.{slice_get, count_by}
-use Rattle.std.proofs.lemmas.List.{take_more, length-take}
-use Rattle.std.proofs.lemmas.List.Elements.{filter-append}
-use Rattle.std.proofs.lemmas.List.Sums.{sum_by-cons}
-use Rattle.std.proofs.lemmas.Option.{get_or_from_slice_get, slice_get_within}
-use Rattle.nit_events.specs.declared.call.Call.{Call}
-use Rattle.nit_events.specs.Ranges.{IsDevice}
-use Rattle.nit_events.specs.declared.device.Device.{Device}
+use Rattle.std.proofs.Common.{Bool, List, Some, [], ap, arith, cond, drop, false, filter, length, length-append, refl, slice_get, suc, sym, take, true, zero, ℕ, ◌++◌, ◌+◌, ◌∙◌, ◌∷◌, ◌≡◌, ◌≤◌}
+use Rattle.nit_hall.proofs.Basics.{Call, Device, Does, FitsDevice, InputLine, IsDevice, Line, Shoots, Stroke, calls_from, calls_in, count_by, done, filter-append, get_or_from_slice_get, input_phases_before, is_input_phase, is_phase, is_served, length-take, lines_to_call, next_phase, phases_before, served, slice_get_within, sum_by-cons, take_more, user_actions_from, user_actions_in}
 use Rattle.nit_events.specs.declared.device.Device.TheVariants as device
-use Rattle.nit_script.specs.Spelling.{FitsDevice}
-use Rattle.nit_script.specs.declared.line.Stroke.{Stroke}
-use Rattle.nit_script.specs.declared.line.Line.{Line}
 use Rattle.nit_script.specs.declared.line.Line.TheVariants as line
-use Rattle.nit_script.specs.declared.line.InputLine.{InputLine}
 use Rattle.nit_script.specs.declared.line.InputLine.TheVariants as inputs
-use Rattle.nit_script.specs.Phases.{is_phase, is_input_phase}
-use Rattle.nit_journal.specs.WholeJournals.{Does, Shoots, done, next_phase}
-use Rattle.nit_plan.specs.Calls.{calls_from, user_actions_from}
-use Rattle.nit_plan.specs.Calls.{calls_in}
-use Rattle.nit_hall.specs.ServedLines.{is_served, served, user_actions_in, phases_before, input_phases_before, lines_to_call}
 
 -- ---- one more line
 

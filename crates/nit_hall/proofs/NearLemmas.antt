@@ -1,26 +1,7 @@
 -- What each pixel may hold, after one more entry.
-use Rattle.std.proofs.Common.{◌≡◌, ◌∙◌, ℕ, ◌+◌, ◌*◌, ◌<◌, true, false, List, [], ◌∷◌, ◌++◌, Option, Some, None, sym, ap, subst, inl, inr}
-use Rattle.std.specs.Prelude.{IfSome, slice_index, slice_index_or}
-use Rattle.std.proofs.lemmas.Bool.{cases_Bool}
-use Rattle.nit_rect.specs.declared.point.Point.{Point}
-use Rattle.nit_word.specs.Inks.{IsInked}
-use Rattle.nit_word.specs.Sight.{Sight}
-use Rattle.nit_events.specs.declared.call.Call.{Call}
-use Rattle.nit_events.specs.declared.call.Reply.{Reply}
-use Rattle.nit_events.specs.declared.entry.Entry.{Entry}
+use Rattle.nit_hall.proofs.Basics.{Agrees, AreNear, Bare, Black, Call, Configuration, Entry, IsInked, IsLegal, IsNear, IsNearBy, IsWordOfScripts, IsWordOfSource, LegalFrom, Line, Painted, PixelSource, Point, Reply, Sight, State, Word, after, cases_Bool, dirty, first_state, ink, is_dirtied, pixel, pixel_count, replay, replay_from, same_config, script_in, shots, slice_index, slice_index_or, source_at, source_of, words_at_call}
+use Rattle.std.proofs.Common.{IfSome, List, None, Option, Some, [], ap, false, inl, inr, subst, sym, true, ℕ, ◌*◌, ◌++◌, ◌+◌, ◌<◌, ◌∙◌, ◌∷◌, ◌≡◌}
 use Rattle.nit_events.specs.declared.entry.Entry.TheVariants as entry
-use Rattle.nit_stack.specs.Sources.{PixelSource, Bare, Black, Word, pixel}
-use Rattle.nit_script.specs.declared.line.Line.{Line}
-use Rattle.nit_config.specs.Configuration.{Configuration}
-use Rattle.nit_journal.specs.State.{State, after, first_state, source_of}
-use Rattle.nit_journal.proofs.ForCallers.{same_config}
-use Rattle.nit_journal.specs.Replay.{replay, replay_from, Agrees, IsLegal, LegalFrom, shots}
-use Rattle.nit_plan.specs.ScriptWords.{ink}
-use Rattle.nit_paint.specs.Repaint.{IsWordOfSource}
-use Rattle.nit_scene.specs.DirtyPixels.{dirty}
-use Rattle.nit_scene.specs.RawWords.{Painted, pixel_count, source_at}
-use Rattle.nit_plan.specs.SessionLists.{script_in}
-use Rattle.nit_hall.specs.NearWords.{is_dirtied, words_at_call, IsNearBy, IsNear, AreNear, IsWordOfScripts}
 use Rattle.nit_hall.proofs.LastDirty.{last_is_last, last_before}
 
 -- ---- one more entry

@@ -1,10 +1,6 @@
 -- Numbers that never fall.
-use Rattle.std.proofs.Common.{◌≡◌, ◌∙◌, ℕ, ◌+◌, ◌<◌, ◌≤◌, List, [], ◌∷◌, ◌++◌, length, get_or, ap, inl, inr, arith, length-append}
-use Rattle.std.specs.Prelude.{slice_index}
-use Rattle.std.specs.List.Sorted.{IsNonDecreasing}
-use Rattle.std.proofs.lemmas.Bool.{cases_lt}
-use Rattle.std.proofs.lemmas.List.{get_or_append_left}
-use Rattle.std.proofs.Math.Seq.{get_or-append_seam}
+use Rattle.std.proofs.Common.{List, [], ap, arith, get_or, inl, inr, length, length-append, ℕ, ◌++◌, ◌+◌, ◌<◌, ◌∙◌, ◌∷◌, ◌≡◌, ◌≤◌}
+use Rattle.nit_hall.proofs.Basics.{IsNonDecreasing, cases_lt, get_or-append_seam, get_or_append_left, slice_index}
 
 get_last : (xs : List ℕ) (x d : ℕ) → get_or (xs ++ x ∷ []) (length xs) d ≡ x
 get_last xs x d = get_or-append_seam xs x [] d

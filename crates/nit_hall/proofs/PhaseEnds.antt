@@ -1,32 +1,8 @@
 -- A room and its passes after a stroke, and after the end of a phase.
-use Rattle.std.proofs.Common.{◌≡◌, ◌∙◌, ℕ, ◌+◌, ◌<◌, ◌≤◌, ◌==◌, Bool, true, false, cond, List, [], ◌∷◌, ◌++◌, length, take, Some, refl, sym, ap, subst, inl, inr, arith}
-use Rattle.std.specs.Prelude.{slice_get, slice_index, count_by, IfSome, Option}
-use Rattle.std.specs.Option.{option_map}
-use Rattle.std.proofs.lemmas.List.{length-take}
-use Rattle.std.proofs.lemmas.Bool.{cases_Bool}
-use Rattle.std.proofs.lemmas.Bool.Decides.{nat_tests}
-use Rattle.std.proofs.lemmas.Option.{slice_get_within}
-use Rattle.std.proofs.lemmas.List.Sums.{count_by-le-length, sum_by_push}
-use Rattle.nit_word.specs.Sight.{Sight}
-use Rattle.nit_events.specs.declared.entry.Entry.{Entry}
-use Rattle.nit_script.specs.declared.line.Stroke.{Stroke}
-use Rattle.nit_script.specs.declared.line.Line.{Line}
+use Rattle.std.proofs.Common.{Bool, IfSome, List, Option, Some, [], ap, arith, cond, false, inl, inr, length, refl, slice_get, subst, sym, take, true, ℕ, ◌++◌, ◌+◌, ◌<◌, ◌==◌, ◌∙◌, ◌∷◌, ◌≡◌, ◌≤◌}
+use Rattle.nit_hall.proofs.Basics.{AreNear, Configuration, Entry, InputLine, IsLegal, IsOpen, IsPaintedTo, IsPass, IsRoom, IsUserPass, Line, Painting, PassModel, RoomModel, ShareModel, Sight, Stroke, UserPassModel, after_arrival, after_line, blank, calls_in, calls_of, cases_Bool, count_by, count_by-le-length, input_phases_before, is_input_phase, is_phase, length-take, nat_tests, option_map, painted_from, phases_before, raised, slice_get_within, slice_index, sum_by_push, user_actions_in, user_actions_of, with_words, without_final, words_after}
 use Rattle.nit_script.specs.declared.line.Line.TheVariants as line
-use Rattle.nit_script.specs.declared.line.InputLine.{InputLine}
 use Rattle.nit_script.specs.declared.line.InputLine.TheVariants as inputs
-use Rattle.nit_script.specs.Phases.{is_phase, is_input_phase}
-use Rattle.nit_config.specs.Configuration.{Configuration}
-use Rattle.nit_journal.specs.Replay.{IsLegal, IsOpen}
-use Rattle.nit_journal.specs.WholeJournals.{calls_of, user_actions_of}
-use Rattle.nit_plan.specs.ScriptWords.{Painting, painted_from, after_line, blank, words_after}
-use Rattle.nit_word.specs.Updates.{with_words}
-use Rattle.nit_plan.specs.Surface.{IsPaintedTo}
-use Rattle.nit_ledger.specs.Book.{ShareModel, raised}
-use Rattle.nit_plan.specs.Calls.{calls_in}
-use Rattle.nit_hall.specs.ServedLines.{user_actions_in, phases_before, input_phases_before}
-use Rattle.nit_hall.specs.NearWords.{AreNear}
-use Rattle.nit_hall.specs.Pass.{PassModel, UserPassModel, IsPass, IsUserPass}
-use Rattle.nit_hall.specs.Room.{RoomModel, IsRoom, after_arrival, without_final}
 use Rattle.nit_hall.proofs.LineLemmas.{take_line, served_counted, unserved_line, no_calls_line, no_calls_stroke, deeds_line}
 use Rattle.nit_hall.proofs.Phases.{client_phase, user_phase_served, ended_long}
 use Rattle.nit_hall.proofs.ScriptsFollowed.{IsNext, follows_phase, follows_user_phase}

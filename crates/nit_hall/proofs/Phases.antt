@@ -1,19 +1,7 @@
 -- The phase that is served, and the actors that have ended it.
-use Rattle.std.proofs.Common.{◌≡◌, ◌∙◌, ◌⊎◌, ℕ, zero, suc, ◌+◌, ◌<◌, ◌≤◌, ◌==◌, Bool, true, false, cond, List, [], ◌∷◌, length, set, take, refl, sym, ap, subst, inl, inr, arith, length-set, get_or-set_same, get_or-set_other}
-use Rattle.std.specs.Prelude.{slice_index, count_by, sum_by}
-use Rattle.std.proofs.lemmas.Bool.{eq-eqb, ne_eqb, cases_eq, cases_Bool, eqb-true}
-use Rattle.std.proofs.lemmas.Bool.Decides.{nat_tests}
-use Rattle.std.proofs.lemmas.List.{set-get_or}
-use Rattle.std.proofs.lemmas.List.Sums.{sum_by-set, count_by-le-length}
-use Rattle.std.proofs.lemmas.Option.{slice_get_within}
-use Rattle.nit_script.specs.declared.line.Line.{Line}
+use Rattle.std.proofs.Common.{Bool, List, [], ap, arith, cond, false, get_or-set_other, get_or-set_same, inl, inr, length, length-set, refl, set, subst, suc, sym, take, true, zero, ℕ, ◌+◌, ◌<◌, ◌==◌, ◌∙◌, ◌∷◌, ◌≡◌, ◌≤◌, ◌⊎◌}
+use Rattle.nit_hall.proofs.Basics.{InputLine, IsServedPhase, Line, after_arrival, cases_Bool, cases_eq, count_by, count_by-le-length, eq-eqb, eqb-true, input_phases_before, is_phase, is_served, nat_tests, ne_eqb, phases_before, phases_ended, raised, script_in, served, set-get_or, slice_get_within, slice_index, sum_by, sum_by-set}
 use Rattle.nit_script.specs.declared.line.Line.TheVariants as line
-use Rattle.nit_script.specs.declared.line.InputLine.{InputLine}
-use Rattle.nit_script.specs.Phases.{is_phase}
-use Rattle.nit_ledger.specs.Book.{raised}
-use Rattle.nit_plan.specs.SessionLists.{script_in}
-use Rattle.nit_hall.specs.ServedLines.{is_served, served, phases_before, input_phases_before}
-use Rattle.nit_hall.specs.Room.{IsServedPhase, after_arrival, phases_ended}
 use Rattle.nit_hall.proofs.LineLemmas.{count_cons, front_filter, served_counted}
 use Rattle.nit_hall.proofs.ScriptsFollowed.{IsNext, script_there}
 

@@ -1,42 +1,8 @@
 -- Passes that are done, and the last picture.
-use Rattle.std.proofs.Common.{◌≡◌, ◌∙◌, ℕ, zero, suc, ◌+◌, ◌-◌, ◌<◌, ◌≤◌, ◌==◌, ◌||◌, Bool, true, false, List, [], ◌∷◌, ◌++◌, length, map, get_or, set, take, drop, Option, Some, refl, sym, ap, ap₂, subst, inl, inr, arith, zero-add, length-append}
-use Rattle.std.specs.Prelude.{IsTrue, slice_get, slice_index}
-use Rattle.std.specs.List.{range_with_len}
-use Rattle.std.specs.Option.{option_map}
+use Rattle.nit_hall.proofs.Basics.{AllServed, AreDone, AreNear, Bare, Black, Configuration, End, Entry, Follows, HaveInks, IsDonePass, IsGlass, IsInked, IsKnownPass, IsLegal, IsLoaded, IsOpen, IsPaintedTo, IsRoom, IsTrue, IsWordOfSource, Line, OpeningParts, Painted, Painting, PassModel, PassRest, PixelSource, RoomModel, SceneModel, Sight, State, Word, blank, cases_eq, cases_lt, donation_of, eqb-true, frame, get_or-map-range_with_len, get_or_from_slice_get, get_or_past, glass_in, ink, knowing, left_word, length-map, map_over_more, no_sight, option_map, painted_from, pixel_count, range_with_len, rest_of, same_frame, scenery_of, script_in, served, slice_get-get_or, slice_get-map, slice_get_read, slice_index, source_at, state_now, table_size, take_all, without_final, words_after, words_left, words_left_in, zero_at}
+use Rattle.std.proofs.Common.{Bool, List, Option, Some, [], ap, ap₂, arith, drop, false, get_or, inl, inr, length, length-append, map, refl, set, slice_get, subst, suc, sym, take, true, zero, zero-add, ℕ, ◌++◌, ◌+◌, ◌-◌, ◌<◌, ◌==◌, ◌||◌, ◌∙◌, ◌∷◌, ◌≡◌, ◌≤◌}
 use mathlib.Core.List.{IsPrefix}
-use Rattle.std.proofs.lemmas.Bool.{cases_eq, cases_lt, eqb-true}
-use Rattle.std.proofs.lemmas.List.{get_or_past, length-map, take_all}
-use Rattle.std.proofs.lemmas.List.Edits.{map_over_more}
-use Rattle.std.proofs.lemmas.List.FromFn.{get_or-map-range_with_len}
-use Rattle.std.proofs.lemmas.Option.{slice_get_read, slice_get-get_or, get_or_from_slice_get, slice_get-map}
-use Rattle.nit_word.specs.Inks.{IsInked}
-use Rattle.nit_word.specs.Sight.{Sight, IsLoaded}
-use Rattle.nit_events.specs.declared.entry.Entry.{Entry}
 use Rattle.nit_events.specs.declared.entry.Entry.TheVariants as entry
-use Rattle.nit_stack.specs.Sources.{PixelSource, Bare, Black, Word}
-use Rattle.nit_script.specs.declared.line.Line.{Line}
-use Rattle.nit_config.specs.Configuration.{Configuration}
-use Rattle.nit_journal.specs.State.{State}
-use Rattle.nit_journal.specs.Replay.{IsLegal, IsOpen}
-use Rattle.nit_word.proofs.ForCallers.{zero_at}
-use Rattle.nit_plan.specs.ScriptWords.{Painting, painted_from, blank, ink, table_size, words_after, words_left}
-use Rattle.nit_plan.specs.Surface.{IsPaintedTo}
-use Rattle.nit_pixels.specs.End.{End}
-use Rattle.nit_overlay.specs.Frame.{frame}
-use Rattle.nit_overlay.proofs.ForCallers.{same_frame}
-use Rattle.nit_paint.specs.Repaint.{IsWordOfSource, no_sight}
-use Rattle.nit_scene.specs.RawWords.{Painted, glass_in, pixel_count, source_at}
-use Rattle.nit_scene.specs.Scene.{SceneModel, scenery_of, state_now}
-use Rattle.nit_scene.specs.Screen.{IsGlass}
-use Rattle.nit_config.specs.Configuration.{donation_of}
-use Rattle.nit_plan.specs.SessionLists.{script_in}
-use Rattle.nit_hall.specs.OpeningParts.{OpeningParts}
-use Rattle.nit_hall.specs.ServedLines.{served}
-use Rattle.nit_hall.specs.NearWords.{AreNear}
-use Rattle.nit_hall.specs.declared.pass.PassRest.{PassRest}
-use Rattle.nit_hall.specs.Pass.{PassModel, IsDonePass, AreDone, knowing, rest_of}
-use Rattle.nit_hall.specs.Room.{RoomModel, IsRoom, Follows, AllServed, HaveInks, without_final}
-use Rattle.nit_hall.specs.RoomEnd.{IsKnownPass, left_word, words_left_in}
 use Rattle.nit_hall.proofs.FinalEntries.{without-append}
 use Rattle.nit_hall.proofs.NearLemmas.{Laws, AreInks, told_word, near_painted}
 use Rattle.nit_hall.proofs.ServedCalls.{spare_left, state_later, room_then}

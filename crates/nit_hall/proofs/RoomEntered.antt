@@ -1,10 +1,6 @@
 -- The room after a line that put an entry into the journal, part by part.
-use Rattle.std.proofs.Common.{◌≡◌, ◌∙◌, ℕ, ◌-◌, [], ◌∷◌, ◌++◌, take, drop}
-use Rattle.nit_events.specs.declared.entry.Entry.{Entry}
-use Rattle.nit_pixels.specs.End.{End}
-use Rattle.nit_ledger.specs.Book.{BookModel, raised}
-use Rattle.nit_scene.specs.Scene.{SceneModel}
-use Rattle.nit_hall.specs.Room.{RoomModel, with_entry}
+use Rattle.std.proofs.Common.{[], drop, take, ℕ, ◌++◌, ◌-◌, ◌∙◌, ◌∷◌, ◌≡◌}
+use Rattle.nit_hall.proofs.Basics.{BookModel, End, Entry, RoomModel, SceneModel, raised, with_entry}
 
 pub entered : (r r₀ : RoomModel) (new : SceneModel End) (book : BookModel) (n actor actor₀ : ℕ) (e e₀ : Entry)
     → r ≡ r₀ → new.config ≡ r.scene.config → r.scene.config ≡ r.parts.config → new.entries ≡ r.scene.entries ++ e ∷ [] → new.spare ≡ r.scene.spare - 1

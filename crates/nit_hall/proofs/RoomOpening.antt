@@ -1,59 +1,8 @@
 -- A room and its passes before the first line.
-use Rattle.std.proofs.Common.{◌≡◌, ◌∙◌, ◌⊎◌, ⊎_elim, get_or, ℕ, zero, suc, ◌+◌, ◌*◌, ◌<◌, ◌≤◌, Bool, true, false, cond, List, [], ◌∷◌, ◌++◌, length, take, drop, map, Option, Some, None, IfSome, replicate, refl, sym, ap, subst, inl, inr, arith}
-use Rattle.std.specs.Prelude.{slice_get, slice_index, slice_index_or}
-use Rattle.std.specs.Option.{option_map}
-use Rattle.std.proofs.lemmas.Bool.{cases_lt}
-use Rattle.std.proofs.lemmas.Option.{same_Some, none-some, slice_get-get_or, slice_get-map, get_or_from_slice_get}
-use Rattle.std.proofs.lemmas.List.{get_or_default, get_or_past, length-map}
-use Rattle.std.proofs.lemmas.List.{get_or-replicate, length-replicate, replicate-append-replicate}
-use Rattle.nit_rect.specs.declared.point.Point.{Point}
-use Rattle.nit_word.specs.Channels.{bare_word}
-use Rattle.nit_word.specs.Sight.{Sight}
-use Rattle.nit_stack.specs.Sources.{Bare, PixelSource, in_bar, pixel, source_under}
-use Rattle.nit_script.specs.declared.line.Line.{Line}
-use Rattle.nit_script.specs.declared.line.InputLine.{InputLine}
-use Rattle.nit_config.specs.Configuration.{Configuration, bar_rows}
-use Rattle.nit_journal.specs.State.{buffer_size, first_state, source_of}
-use Rattle.nit_journal.specs.WholeJournals.{calls_of}
-use Rattle.nit_plan.specs.ScriptWords.{Painting, painted_from, ink, table_size, words_after}
-use Rattle.nit_plan.specs.Plan.{PlanModel, IsPlanOf}
-use Rattle.nit_slots.specs.Account.{IsDonation}
-use Rattle.nit_pixels.specs.End.{End, new_sight, reader_sight}
-use Rattle.nit_paint.specs.Repaint.{no_sight}
-use Rattle.nit_scene.specs.RawWords.{glass_in}
-use Rattle.nit_scene.specs.Screen.{IsGlass}
-use Rattle.nit_ledger.specs.Book.{BookModel, ShareModel}
-use Rattle.nit_plan.specs.SessionLists.{script_in}
-use Rattle.nit_plan.specs.Calls.{calls_in}
-use Rattle.nit_hall.specs.ServedLines.{served, user_actions_in, phases_before, lines_of_all}
-use Rattle.nit_hall.specs.NearWords.{AreNear, IsNearBy}
-use Rattle.nit_config.specs.declared.config.Member.{Member}
-use Rattle.nit_ledger.specs.Book.{BookName}
-use Rattle.nit_config.specs.Configuration.{donation_of}
-use Rattle.nit_plan.specs.SessionLists.{plan_in}
-use Rattle.nit_hall.specs.OpeningParts.{OpeningParts}
-use Rattle.nit_hall.specs.Pass.{PassModel, IsPass}
-use Rattle.nit_hall.specs.Opening.{IsFirst, IsSetting, AreBlank, AreSplitOff, first_pass, parts_of}
-use Rattle.nit_hall.specs.Room.{RoomModel, Follows, HaveInks, IsRoom}
-use Rattle.std.specs.Prelude.{sum}
-use Rattle.std.proofs.lemmas.List.Sums.{sum_by-cons}
-use Rattle.nit_events.specs.declared.entry.Entry.{Entry}
-use Rattle.nit_clip.specs.declared.line.ClipLine.{ClipLine}
-use Rattle.nit_clip.specs.Clip.{ClipModel}
-use Rattle.nit_clip.specs.LegalClips.{IsLegalClips}
-use Rattle.nit_clip.specs.WholeClips.{clip_calls_in}
-use Rattle.nit_hall.specs.ClipPass.{ClipPassModel, clip_script_in}
-use Rattle.nit_hall.specs.ClipOpening.{with_clip_scripts}
-use Rattle.nit_hall.specs.RoomClips.{FollowsClips, lines_of_clips}
+use Rattle.std.proofs.Common.{Bool, IfSome, List, None, Option, Some, [], ap, arith, cond, drop, false, get_or, inl, inr, length, map, refl, replicate, slice_get, subst, suc, sym, take, true, zero, ℕ, ⊎_elim, ◌*◌, ◌++◌, ◌+◌, ◌<◌, ◌∙◌, ◌∷◌, ◌≡◌, ◌≤◌, ◌⊎◌}
+use Rattle.nit_hall.proofs.Basics.{AreBlank, AreNear, AreSplitOff, Bare, BookModel, BookName, ClipLine, ClipModel, ClipPassModel, Configuration, End, Entry, Follows, FollowsClips, HaveInks, InputLine, IsDonation, IsFirst, IsGlass, IsLegalClips, IsNearBy, IsPass, IsPlanOf, IsRoom, IsSetting, Line, Member, OpeningParts, Painting, PassModel, PixelSource, PlanModel, Point, RoomModel, ShareModel, Sight, bar_rows, bare_everywhere, bare_word, buffer_size, calls_in, calls_of, cases_lt, clip_calls_in, clip_script_in, donation_of, first_pass, first_state, get_or-replicate, get_or_default, get_or_from_slice_get, get_or_past, glass_in, in_bar, ink, length-map, length-replicate, lines_of_all, lines_of_clips, new_sight, no_sight, none-some, option_map, painted_from, parts_of, phases_before, pixel, plan_in, reader_sight, replicate-append-replicate, same_Some, script_in, served, slice_get-get_or, slice_get-map, slice_index, slice_index_or, source_of, source_under, sum, sum_by-cons, table_size, user_actions_in, with_clip_scripts, words_after}
 use Rattle.nit_hall.proofs.CountParts.{front_before_more, front_whole, back_is_more}
 use Rattle.nit_hall.proofs.Phases.{phases_begun}
-
-bare_everywhere : (config : Configuration) (p : Point) → source_of (first_state config) p ≡ Bare
-bare_everywhere config p = go (in_bar (bar_rows config) p)
-  where
-    go : (b : Bool) → source_under (buffer_size (first_state config).sessions) p (cond b None None) ≡ Bare
-    go true = refl
-    go false = refl
 
 pub near_begun : (config : Configuration) (scripts : List (List Line)) → AreNear config scripts [] (replicate (config.width * config.height) bare_word)
 near_begun config scripts k inside =

@@ -1,30 +1,10 @@
 -- What the journal has of each script, kept line by line; and whole where all lines are served.
-use Rattle.std.proofs.Common.{◌≡◌, ◌≢◌, ◌∙◌, ℕ, zero, suc, ◌+◌, ◌<◌, ◌≤◌, true, false, List, [], ◌∷◌, ◌++◌, length, take, drop, map, Some, refl, sym, ap, ap₂, subst, inl, inr, arith, length-append, length-set, get_or-set_same, get_or-set_other}
-use Rattle.std.specs.Prelude.{slice_get, slice_index, sum}
-use Rattle.std.specs.List.Sorted.{IsNonDecreasing}
-use Rattle.std.proofs.lemmas.Bool.{cases_eq}
-use Rattle.std.proofs.lemmas.List.{take_all, take-append-drop}
-use Rattle.std.proofs.lemmas.List.Sums.{sum_by-set, sum_by-cons}
-use Rattle.std.proofs.lemmas.Option.{get_or_from_slice_get, slice_get_within}
-use Rattle.nit_events.specs.declared.call.Call.{Call}
-use Rattle.nit_events.specs.declared.call.Reply.{Reply}
-use Rattle.nit_events.specs.declared.entry.Entry.{Entry}
+use Rattle.nit_hall.proofs.Basics.{AllServed, Call, Entry, Follows, InputLine, IsNonDecreasing, IsUsers, IsWhole, Line, Reply, UserAction, calls_done, calls_in, calls_of, calls_other, calls_own, calls_same, calls_to_make, cases_eq, deeds_of-append, deeds_same, done, get_or_from_slice_get, input_phases_before, is_input_phase, is_served, lines_of_all, next_phase, phases_along, phases_before, phases_call, phases_deed, phases_final, raised, script_in, served, slice_get_within, slice_index, sum, sum_by-cons, sum_by-set, take-append-drop, take_all, to_do, user_actions_in, user_actions_of, user_actions_to_do}
+use Rattle.std.proofs.Common.{List, Some, [], ap, ap₂, arith, drop, false, get_or-set_other, get_or-set_same, inl, inr, length, length-append, length-set, map, refl, slice_get, subst, suc, sym, take, true, zero, ℕ, ◌++◌, ◌+◌, ◌<◌, ◌∙◌, ◌∷◌, ◌≡◌, ◌≢◌, ◌≤◌}
 use Rattle.nit_events.specs.declared.entry.Entry.TheVariants as entry
-use Rattle.nit_script.specs.declared.line.Line.{Line}
 use Rattle.nit_script.specs.declared.line.Line.TheVariants as line
-use Rattle.nit_script.specs.declared.line.InputLine.{InputLine}
 use Rattle.nit_script.specs.declared.line.InputLine.TheVariants as inputs
-use Rattle.nit_script.specs.Phases.{is_input_phase}
-use Rattle.nit_journal.specs.WholeJournals.{UserAction, calls_of, user_actions_of, done, to_do, next_phase, phases_along, IsWhole}
-use Rattle.nit_plan.specs.Calls.{calls_to_make, user_actions_to_do}
-use Rattle.nit_ledger.specs.Book.{raised}
-use Rattle.nit_plan.specs.SessionLists.{script_in}
-use Rattle.nit_plan.specs.Calls.{calls_in}
-use Rattle.nit_hall.specs.ServedLines.{is_served, served, user_actions_in, phases_before, input_phases_before, lines_of_all}
-use Rattle.nit_hall.specs.Room.{Follows, AllServed}
-use Rattle.nit_plan.proofs.ForCallers.{calls_done}
 use Rattle.nit_hall.proofs.LineLemmas.{front_filter, front_short, served_counted, calls_front, calls_served, calls_line, no_calls_line, calls_append, phase_of_call, deeds_append, deeds_line, deeds_done, phase_of_deed}
-use Rattle.nit_journal.proofs.ForCallers.{calls_own, calls_other, calls_same, deeds_same, deeds_of-append, phases_call, phases_deed, phases_final, IsUsers}
 use Rattle.nit_hall.proofs.NonDecreasing.{rises, again, without_last}
 
 -- ---- counts

@@ -1,42 +1,9 @@
 -- A room and a pass after a call.
-use Rattle.std.proofs.Common.{◌≡◌, ◌≢◌, ◌∙◌, ℕ, ◌+◌, ◌-◌, ◌≤◌, true, cond, List, [], ◌∷◌, ◌++◌, length, take, map, Some, refl, sym, ap, subst, inl, inr, arith, length-append}
-use Rattle.std.specs.Prelude.{slice_get, slice_index, count_by}
-use Rattle.std.specs.Option.{option_map}
-use Rattle.std.proofs.lemmas.Bool.{eq-eqb, ne_eqb, cases_eq}
-use Rattle.std.proofs.lemmas.Option.{get_or_from_slice_get, slice_get_within}
-use Rattle.std.proofs.lemmas.List.Sums.{sum_by_push}
-use Rattle.nit_word.specs.Sight.{Sight, seen}
-use Rattle.nit_events.specs.declared.call.Call.{Call}
-use Rattle.nit_events.specs.declared.call.Reply.{Reply}
-use Rattle.nit_events.specs.declared.entry.Entry.{Entry}
+use Rattle.nit_hall.proofs.Basics.{AreNear, Belongs, Call, Configuration, End, Entry, Follows, IsAtCall, IsLegal, IsOpen, IsPaintedTo, IsPass, IsRoom, Line, OpeningParts, Painted, PassModel, PlanModel, Reply, RoomModel, SceneModel, ShareModel, Sight, after, calls_in, calls_of, calls_own, cases_eq, count_by, donation_of, eq-eqb, first_state, get_or_from_slice_get, glass_in, glasses_of_call, ink, is_phase, is_served, lines_to_call, ne_eqb, next_call, option_map, phases_before, raised, replay, script_in, seen, serve, served, session, slice_get_within, slice_index, state_now, sum_by_push, with_words, without_final, words_after, words_at_call}
+use Rattle.std.proofs.Common.{List, Some, [], ap, arith, cond, inl, inr, length, length-append, map, refl, slice_get, subst, sym, take, true, ℕ, ◌++◌, ◌+◌, ◌-◌, ◌∙◌, ◌∷◌, ◌≡◌, ◌≢◌, ◌≤◌}
 use Rattle.nit_events.specs.declared.entry.Entry.TheVariants as entry
-use Rattle.nit_script.specs.declared.line.Line.{Line}
 use Rattle.nit_script.specs.declared.line.Line.TheVariants as line
-use Rattle.nit_script.specs.Phases.{is_phase}
-use Rattle.nit_config.specs.Configuration.{Configuration}
-use Rattle.nit_journal.specs.Session.{serve}
-use Rattle.nit_journal.specs.State.{after, first_state, session}
-use Rattle.nit_journal.specs.Replay.{IsLegal, IsOpen, replay}
-use Rattle.nit_journal.specs.WholeJournals.{calls_of}
-use Rattle.nit_plan.specs.ScriptWords.{ink, words_after}
-use Rattle.nit_plan.specs.Plan.{PlanModel}
-use Rattle.nit_word.specs.Updates.{with_words}
-use Rattle.nit_plan.specs.Surface.{IsPaintedTo}
-use Rattle.nit_pixels.specs.End.{End}
-use Rattle.nit_ledger.specs.Book.{ShareModel, raised}
-use Rattle.nit_repaint.specs.Glasses.{glasses_of_call}
-use Rattle.nit_scene.specs.RawWords.{Painted, glass_in}
-use Rattle.nit_scene.specs.Scene.{SceneModel, state_now}
-use Rattle.nit_config.specs.Configuration.{donation_of}
-use Rattle.nit_plan.specs.SessionLists.{script_in}
-use Rattle.nit_hall.specs.OpeningParts.{OpeningParts}
-use Rattle.nit_plan.specs.Calls.{calls_in}
-use Rattle.nit_hall.specs.ServedLines.{is_served, served, phases_before, lines_to_call}
-use Rattle.nit_hall.specs.NearWords.{AreNear, words_at_call}
-use Rattle.nit_hall.specs.Pass.{PassModel, IsPass, IsAtCall, next_call, Belongs}
-use Rattle.nit_hall.specs.Room.{RoomModel, Follows, IsRoom, without_final}
 use Rattle.nit_hall.proofs.LineLemmas.{take_line, served_counted, calls_front, calls_line, line_counted}
-use Rattle.nit_journal.proofs.ForCallers.{calls_own}
 use Rattle.nit_hall.proofs.FinalEntries.{open_whole}
 use Rattle.nit_hall.proofs.NearLemmas.{Laws, OneMore, AreInks, TellsWords, near_painted}
 use Rattle.nit_hall.proofs.ScriptsFollowed.{IsNext, one_left, follows_call, entries_within}

@@ -1,38 +1,8 @@
 -- A room and a clip pass after a clip call, and clip passes that are done.
-use Rattle.std.proofs.Common.{◌≡◌, ◌∙◌, ℕ, zero, suc, ◌+◌, ◌-◌, ◌<◌, ◌≤◌, List, [], ◌∷◌, ◌++◌, length, take, drop, map, set, get_or, Option, Some, refl, sym, ap, ap₂, subst, inl, inr, arith, length-append, length-set}
-use Rattle.std.specs.Prelude.{slice_get, slice_index, count_by, sum}
-use Rattle.std.specs.List.{AllByRecursion}
+use Rattle.std.proofs.Common.{List, Option, Some, [], ap, ap₂, arith, drop, get_or, inl, inr, length, length-append, length-set, map, refl, set, slice_get, subst, suc, sym, take, zero, ℕ, ◌++◌, ◌+◌, ◌-◌, ◌<◌, ◌∙◌, ◌∷◌, ◌≡◌, ◌≤◌}
+use Rattle.nit_hall.proofs.Basics.{AllByRecursion, AreDoneClips, AreInPhases, AreTogether, Belongs, BookModel, Call, ClipBelongs, ClipCall, ClipEntry, ClipLine, ClipModel, ClipPassModel, ClipReply, Configuration, Entry, FollowsClips, IsAtClip, IsAtClipPhase, IsAtPhaseEnd, IsClipPass, IsDoneClip, IsInPhase, IsLegalClips, IsOpen, IsRoom, IsWholeClips, OpeningParts, PassModel, RoomModel, ShareModel, UserAction, calls_in, calls_of, calls_to_make, calls_up_to, cases_eq, clip_answer, clip_calls_in, clip_calls_of, clip_entry, clip_phases_before, clip_script_in, clipboard_of, clips_to_do, clips_to_make, count_by, done, get_or_from_slice_get, is_clip_phase, knowing_clip, left_after, length-map, lines_of_clips, map_over_more, next_clip, next_phase, phases_along, phases_before, raised, replay, script_in, served, slice_get-get_or, slice_get_within, slice_index, state_now, sum, sum_by-cons, take_all, to_do, user_actions_to_do, with_clip, without_final}
 use mathlib.Core.List.{IsPrefix}
-use Rattle.std.proofs.lemmas.Bool.{cases_eq}
-use Rattle.std.proofs.lemmas.List.{length-map, take_all}
-use Rattle.std.proofs.lemmas.List.Edits.{map_over_more}
-use Rattle.std.proofs.lemmas.List.Sums.{sum_by-cons}
-use Rattle.std.proofs.lemmas.Option.{get_or_from_slice_get, slice_get-get_or, slice_get_within}
-use Rattle.nit_events.specs.declared.call.Call.{Call}
-use Rattle.nit_events.specs.declared.entry.Entry.{Entry}
-use Rattle.nit_config.specs.Configuration.{Configuration}
-use Rattle.nit_journal.specs.Replay.{IsOpen, replay}
-use Rattle.nit_journal.specs.WholeJournals.{UserAction, calls_of, done, next_phase, phases_along, to_do}
-use Rattle.nit_plan.specs.Calls.{calls_in, calls_to_make, user_actions_to_do}
-use Rattle.nit_plan.specs.SessionLists.{script_in}
-use Rattle.nit_ledger.specs.Book.{BookModel, ShareModel, raised}
-use Rattle.nit_scene.specs.Scene.{state_now}
-use Rattle.nit_clip.specs.declared.call.ClipCall.{ClipCall}
-use Rattle.nit_clip.specs.declared.call.ClipReply.{ClipReply}
-use Rattle.nit_clip.specs.declared.call.ClipEntry.{ClipEntry}
-use Rattle.nit_clip.specs.declared.line.ClipLine.{ClipLine}
 use Rattle.nit_clip.specs.declared.line.ClipLine.TheVariants as line
-use Rattle.nit_clip.specs.ClipGrammar.{is_clip_phase}
-use Rattle.nit_clip.specs.Clip.{ClipModel}
-use Rattle.nit_clip.specs.Clipboard.{clip_answer, clipboard_of}
-use Rattle.nit_clip.specs.LegalClips.{IsLegalClips}
-use Rattle.nit_clip.specs.WholeClips.{clips_to_make, clip_calls_in, clip_calls_of, clips_to_do, calls_up_to, left_after, IsInPhase, AreInPhases, IsWholeClips}
-use Rattle.nit_hall.specs.OpeningParts.{OpeningParts}
-use Rattle.nit_hall.specs.ServedLines.{served, phases_before}
-use Rattle.nit_hall.specs.Pass.{PassModel, Belongs}
-use Rattle.nit_hall.specs.ClipPass.{ClipPassModel, IsClipPass, ClipBelongs, AreTogether, AreDoneClips, IsDoneClip, knowing_clip, IsAtClip, IsAtClipPhase, IsAtPhaseEnd, clip_script_in, clip_phases_before, next_clip}
-use Rattle.nit_hall.specs.Room.{RoomModel, IsRoom, clip_entry, with_clip, without_final}
-use Rattle.nit_hall.specs.RoomClips.{FollowsClips, lines_of_clips}
 use Rattle.nit_hall.proofs.LineLemmas.{front_short}
 use Rattle.nit_hall.proofs.CountParts.{back_count}
 use Rattle.nit_hall.proofs.FinalEntries.{open_whole}

@@ -1,35 +1,14 @@
 -- A room and the user's pass after a device event, and after a shot.
-use Rattle.std.proofs.Common.{◌≡◌, ◌∙◌, ℕ, ◌+◌, ◌-◌, ◌≤◌, Bool, false, cond, List, [], ◌∷◌, ◌++◌, length, map, take, Some, refl, sym, ap, subst, inl, arith, length-append}
-use Rattle.std.specs.Prelude.{slice_get, slice_index, count_by}
-use Rattle.std.proofs.lemmas.Option.{slice_get_within}
-use Rattle.std.proofs.lemmas.List.Sums.{sum_by_push}
-use Rattle.nit_word.specs.Sight.{Sight}
-use Rattle.nit_events.specs.declared.device.Device.{Device}
-use Rattle.nit_events.specs.declared.event.Routed.{Routed}
-use Rattle.nit_events.specs.declared.entry.Entry.{Entry}
+use Rattle.nit_hall.proofs.Basics.{AreNear, Configuration, Device, End, Entry, Follows, HaveInks, InputLine, IsLegal, IsOpen, IsRoom, IsUserPass, Line, Painted, RoomModel, Routed, SceneModel, ShareModel, Sight, UserBelongs, UserPassModel, count_by, deeds_of-append, glass_in, input_phases_before, is_input_phase, raised, slice_get_within, slice_index, state_now, sum_by_push, user_actions_in, user_actions_of, without_final}
+use Rattle.std.proofs.Common.{Bool, List, Some, [], ap, arith, cond, false, inl, length, length-append, map, refl, slice_get, subst, sym, take, ℕ, ◌++◌, ◌+◌, ◌-◌, ◌∙◌, ◌∷◌, ◌≡◌, ◌≤◌}
 use Rattle.nit_events.specs.declared.entry.Entry.TheVariants as entry
-use Rattle.nit_script.specs.declared.line.Line.{Line}
-use Rattle.nit_script.specs.declared.line.InputLine.{InputLine}
 use Rattle.nit_script.specs.declared.line.InputLine.TheVariants as inputs
-use Rattle.nit_script.specs.Phases.{is_input_phase}
-use Rattle.nit_config.specs.Configuration.{Configuration}
-use Rattle.nit_journal.specs.Replay.{IsLegal, IsOpen}
-use Rattle.nit_journal.specs.WholeJournals.{user_actions_of}
-use Rattle.nit_ledger.specs.Book.{ShareModel, raised}
-use Rattle.nit_pixels.specs.End.{End}
-use Rattle.nit_scene.specs.RawWords.{Painted, glass_in}
-use Rattle.nit_scene.specs.Scene.{SceneModel, state_now}
-use Rattle.nit_hall.specs.ServedLines.{user_actions_in, input_phases_before}
-use Rattle.nit_hall.specs.NearWords.{AreNear}
-use Rattle.nit_hall.specs.Pass.{UserPassModel, IsUserPass, UserBelongs}
-use Rattle.nit_hall.specs.Room.{RoomModel, IsRoom, Follows, HaveInks, without_final}
 use Rattle.nit_hall.proofs.LineLemmas.{take_line, deeds_line}
-use Rattle.nit_journal.proofs.ForCallers.{deeds_of-append}
 use Rattle.nit_hall.proofs.NearLemmas.{Laws, near_more, near_painted}
 use Rattle.nit_hall.proofs.ScriptsFollowed.{AddsDeed, follows_deed}
 use Rattle.nit_hall.proofs.Phases.{user_phases_same}
 use Rattle.nit_hall.proofs.ServedCalls.{spare_left, state_later, booked_more, room_then}
-use Rattle.nit_hall.proofs.PhaseEnds.{user_open}
+use Rattle.nit_hall.proofs.PhaseEnds.{counted_same, user_open}
 use Rattle.nit_hall.proofs.ClipsStay.{ClipsStay, clips_then}
 
 -- a device event, and a shot, are the user's
@@ -49,10 +28,6 @@ pub record IsDone (scripts : List (List Line)) (old new : SceneModel End) (e : E
   pub inks : HaveInks scripts new.glasses
   pub near : AreNear old.config scripts (old.entries ++ e ∷ []) new.raw
 
--- a line of the user's that is no `phase` ends none
-counted_same : (xs : List InputLine) (k : ℕ) (l : InputLine) → slice_get xs k ≡ Some l → is_input_phase l ≡ false → input_phases_before xs (k + 1) ≡ input_phases_before xs k
-counted_same xs k l at is = ap (count_by is_input_phase) (take_line xs k l at) ∙ sum_by_push (λ y. cond {A = ℕ} (is_input_phase y) 1 0) (take k xs) l ∙ ap (λ (b : Bool). count_by is_input_phase (take k xs) + cond {A = ℕ} b 1 0) is ∙ (omega arith)
-
 pub room_deed : ClipsStay → (r : RoomModel) (new : SceneModel End) (next : ℕ) (l : InputLine) (e : Entry)
     → IsRoom r → AddsDeed r.parts.input next l e → slice_index r.counts (length r.parts.scripts) ≡ next → r.phase ≡ input_phases_before r.parts.input next → IsDone r.parts.scripts r.scene new e
     → IsRoom (room_then r new (raised r.counts (length r.parts.scripts)) r.phase r.arrived)
@@ -68,7 +43,7 @@ room_deed stay r new next l e room adds counted ready did =
       clients = room.clients;
       follows = subst (λ (js : List Entry). Follows scripts r.parts.input (raised r.counts (length scripts)) r.phase js) (booked_more old new e was_open did.open_is did.recorded)
           (follows_deed scripts r.parts.input r.counts r.phase (without_final old.entries) next l e room.follows adds counted ready);
-      phases = user_phases_same scripts r.parts.input r.counts r.phase r.arrived next room.follows.each counted (counted_same r.parts.input next l adds.line_is adds.no_phase) room.phases;
+      phases = user_phases_same scripts r.parts.input r.counts r.phase r.arrived next room.follows.each counted (counted_same is_input_phase r.parts.input next l adds.line_is adds.no_phase) room.phases;
       inks = did.inks;
       near = subst (λ (x : Configuration). AreNear x scripts new.entries new.raw) (sym did.config) (subst (λ (js : List Entry). AreNear old.config scripts js new.raw) (sym did.recorded) did.near);
       room = let sum = room.room in let rec_ = ap length did.recorded in let sp = did.spare in omega (arith, sum, rec_, sp, left, length-append old.entries (e ∷ []));
@@ -130,7 +105,7 @@ user_deed r l e u share share' name known room is same adds counted es ek =
       number = refl;
       counted = es ∙ ap (λ (n : ℕ). n + 1) is.counted;
       within = let w = slice_get_within u.input u.next l adds.line_is in omega (arith, w);
-      phase = is.phase ∙ sym (counted_same u.input u.next l adds.line_is adds.no_phase);
+      phase = is.phase ∙ sym (counted_same is_input_phase u.input u.next l adds.line_is adds.no_phase);
       known = ap user_actions_of ek ∙ deeds_of-append booked (e ∷ []) ∙ ap (λ (ds : _). ds ++ user_actions_of (e ∷ [])) (room.follows.deeds ∙ ap (λ (k : ℕ). user_actions_in (take k r.parts.input)) counted ∙ ap (λ (ls : List InputLine). user_actions_in (take u.next ls)) (sym same))
           ∙ ap (λ (ds : _). user_actions_in (take u.next u.input) ++ ds) adds.deed_is ∙ sym (deeds_line u.input u.next l adds.line_is);
     }

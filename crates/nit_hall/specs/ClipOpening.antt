@@ -1,6 +1,6 @@
 -- What a room and its clip passes are when it has got clip scripts.
 use Rattle.std.specs.Prelude.{◌≡◌, ℕ, List, [], length, replicate, slice_get, Some}
-use Rattle.nit_clip.specs.declared.line.ClipLine.{ClipLine}
+use Rattle.nit_hall.specs.Below.{ClipLine}
 use Rattle.nit_hall.specs.OpeningParts.{OpeningParts}
 use Rattle.nit_hall.specs.ClipPass.{ClipPassModel, clip_number, clip_script_in}
 use Rattle.nit_hall.specs.Room.{RoomModel}

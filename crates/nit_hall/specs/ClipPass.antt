@@ -1,14 +1,8 @@
 -- What contracts see of a client's clip pass.
 use Rattle.std.specs.Prelude.{◌≡◌, ◌⊎◌, ℕ, ◌+◌, ◌≤◌, List, [], length, take, count_by}
-use Rattle.std.specs.Prelude.{slice_get, slice_index_or, Option, Some}
-use Rattle.nit_events.specs.declared.entry.Entry.{Entry}
-use Rattle.nit_ledger.specs.Book.{BookName, ShareModel}
-use Rattle.nit_clip.specs.declared.call.ClipCall.{ClipCall}
+use Rattle.nit_hall.specs.Below.{BookName, ClipCall, ClipLine, Entry, Option, ShareModel, Some, clip_calls_in, is_clip_phase, slice_get, slice_index_or}
 use Rattle.nit_clip.specs.declared.call.ClipCall.TheVariants as call
-use Rattle.nit_clip.specs.declared.line.ClipLine.{ClipLine}
 use Rattle.nit_clip.specs.declared.line.ClipLine.TheVariants as line
-use Rattle.nit_clip.specs.ClipGrammar.{is_clip_phase}
-use Rattle.nit_clip.specs.WholeClips.{clip_calls_in}
 use Rattle.nit_hall.specs.OpeningParts.{OpeningParts}
 use Rattle.nit_hall.specs.Pass.{PassModel, IsAtPhase}
 

@@ -1,6 +1,6 @@
 -- What an actor is told over the lock and beside it.
 use Rattle.std.specs.Prelude.{◌≡◌, ℕ, ◌≤◌, List, [], ◌∷◌, ◌++◌, length}
-use Rattle.nit_events.specs.declared.entry.Entry.{Entry}
+use Rattle.nit_hall.specs.Below.{Entry, most_height, most_width}
 use Rattle.nit_events.specs.declared.entry.Entry.TheVariants as entry
 use Rattle.nit_hall.specs.OpeningParts.{OpeningParts}
 use Rattle.nit_hall.specs.NearWords.{IsNearFrame}
@@ -20,5 +20,5 @@ pub record TellsShot (parts : OpeningParts) (before : List Entry) (number : ℕ)
 pub record IsMeasured (parts : OpeningParts) (width height clients : ℕ) : Type 0 where
   pub width_is : width ≡ parts.config.width
   pub height_is : height ≡ parts.config.height
-  pub screen : (width ≤ 1024) × (height ≤ 768)
+  pub screen : (width ≤ most_width) × (height ≤ most_height)
   pub clients_are : clients ≡ length parts.scripts

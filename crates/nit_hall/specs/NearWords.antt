@@ -1,26 +1,8 @@
 -- Which words a pixel may hold after a journal, whatever the threads of the clients wrote
 -- meanwhile. Pixels count from 0, row by row from the top.
 use Rattle.std.specs.Prelude.{◌≡◌, ℕ, ◌+◌, ◌<◌, Bool, true, false, List, ◌∷◌, ◌++◌, length}
-use Rattle.std.specs.Prelude.{slice_index, slice_index_or}
-use Rattle.nit_word.specs.Channels.{bare_word}
-use Rattle.nit_word.specs.Inks.{IsInked}
-use Rattle.nit_events.specs.declared.call.Call.{Call}
-use Rattle.nit_events.specs.declared.call.Reply.{Reply}
-use Rattle.nit_events.specs.declared.entry.Entry.{Entry}
+use Rattle.nit_hall.specs.Below.{Bare, Black, Call, Configuration, Entry, IsInked, Line, PixelSource, Reply, Word, after, bare_word, calls_of, dirty, donation_of, frame, ink, pixel, pixel_count, replay, scenery_of, script_in, slice_index, slice_index_or, source_at, words_after}
 use Rattle.nit_events.specs.declared.entry.Entry.TheVariants as entry
-use Rattle.nit_stack.specs.Sources.{PixelSource, Bare, Black, Word, pixel}
-use Rattle.nit_script.specs.declared.line.Line.{Line}
-use Rattle.nit_config.specs.Configuration.{Configuration}
-use Rattle.nit_journal.specs.State.{after}
-use Rattle.nit_journal.specs.Replay.{replay}
-use Rattle.nit_journal.specs.WholeJournals.{calls_of}
-use Rattle.nit_plan.specs.ScriptWords.{ink, words_after}
-use Rattle.nit_scene.specs.DirtyPixels.{dirty}
-use Rattle.nit_overlay.specs.Frame.{frame}
-use Rattle.nit_scene.specs.RawWords.{pixel_count, source_at}
-use Rattle.nit_scene.specs.Scene.{scenery_of}
-use Rattle.nit_config.specs.Configuration.{donation_of}
-use Rattle.nit_plan.specs.SessionLists.{script_in}
 use Rattle.nit_hall.specs.ServedLines.{lines_to_call}
 
 -- ---- which entry made a pixel dirty last

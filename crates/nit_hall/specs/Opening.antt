@@ -1,16 +1,6 @@
 -- What a room is opened with, and what it and its passes are then.
 use Rattle.std.specs.Prelude.{◌≡◌, ℕ, ◌+◌, ◌*◌, ◌<◌, List, [], length, map, replicate}
-use Rattle.std.specs.Prelude.{slice_get, Some}
-use Rattle.nit_word.specs.Channels.{bare_word}
-use Rattle.nit_script.specs.declared.line.Line.{Line}
-use Rattle.nit_script.specs.declared.line.InputLine.{InputLine}
-use Rattle.nit_config.specs.Configuration.{Configuration}
-use Rattle.nit_plan.specs.ScriptWords.{table_size}
-use Rattle.nit_plan.specs.Plan.{PlanModel, IsPlanOf}
-use Rattle.nit_pixels.specs.End.{End, new_sight, reader_sight}
-use Rattle.nit_ledger.specs.Book.{BookName}
-use Rattle.nit_config.specs.Configuration.{donation_of}
-use Rattle.nit_plan.specs.SessionLists.{plan_in, script_in}
+use Rattle.nit_hall.specs.Below.{BookName, Configuration, End, InputLine, IsPlanOf, Line, PlanModel, Some, bare_word, donation_of, new_sight, plan_in, reader_sight, script_in, slice_get, table_size}
 use Rattle.nit_hall.specs.OpeningParts.{OpeningParts}
 use Rattle.nit_hall.specs.ServedLines.{lines_of_all}
 use Rattle.nit_hall.specs.Pass.{PassModel, UserPassModel}

@@ -1,30 +1,12 @@
 -- What contracts see of a client's pass and of the user's.
 use Rattle.std.specs.Prelude.{◌≡◌, ℕ, ◌+◌, ◌≤◌, List, length, take, slice_get, Option, Some}
-use Rattle.nit_word.specs.Sight.{Sight, seen}
-use Rattle.nit_events.specs.declared.call.Call.{Call}
+use Rattle.nit_hall.specs.Below.{BookName, Call, Device, Entry, InputLine, IsPaintedTo, Line, PlanModel, Reply, Routed, ShareModel, Sight, Standing, Stroke, calls_in, calls_of, donation_of, no_sight, seen, user_actions_of, with_words, words_after}
 use Rattle.nit_events.specs.declared.call.Call.TheVariants as call
-use Rattle.nit_events.specs.declared.call.Reply.{Reply}
-use Rattle.nit_events.specs.declared.device.Device.{Device}
 use Rattle.nit_events.specs.declared.device.Device.TheVariants as device
-use Rattle.nit_events.specs.declared.event.Routed.{Routed}
-use Rattle.nit_events.specs.declared.entry.Entry.{Entry}
 use Rattle.nit_events.specs.declared.entry.Entry.TheVariants as entry
-use Rattle.nit_script.specs.declared.line.Stroke.{Stroke}
-use Rattle.nit_script.specs.declared.line.Line.{Line}
 use Rattle.nit_script.specs.declared.line.Line.TheVariants as line
-use Rattle.nit_script.specs.declared.line.InputLine.{InputLine}
 use Rattle.nit_script.specs.declared.line.InputLine.TheVariants as input
-use Rattle.nit_journal.specs.WholeJournals.{calls_of, user_actions_of}
-use Rattle.nit_plan.specs.ScriptWords.{words_after}
-use Rattle.nit_plan.specs.Plan.{PlanModel}
-use Rattle.nit_plan.specs.Surface.{IsPaintedTo}
-use Rattle.nit_word.specs.Updates.{with_words}
-use Rattle.nit_paint.specs.Repaint.{no_sight}
-use Rattle.nit_pixels.specs.declared.standing.Standing.{Standing}
-use Rattle.nit_ledger.specs.Book.{BookName, ShareModel}
-use Rattle.nit_plan.specs.Calls.{calls_in}
 use Rattle.nit_hall.specs.ServedLines.{served, user_actions_in, phases_before, input_phases_before}
-use Rattle.nit_config.specs.Configuration.{donation_of}
 use Rattle.nit_hall.specs.OpeningParts.{OpeningParts}
 
 -- A client's pass: its number, how many lines of its script are done, and how many phases; the name

@@ -1,30 +1,11 @@
 -- What contracts see of a room, and what holds of it.
 use Rattle.std.specs.Prelude.{◌≡◌, ◌⊎◌, ℕ, ◌+◌, ◌-◌, ◌<◌, ◌≤◌, ◌==◌, if◌then◌else◌}
 use Rattle.std.specs.Prelude.{List, [], ◌∷◌, ◌++◌, length, map, sum, take, count_by, slice_index}
-use Rattle.std.specs.List.Sorted.{IsNonDecreasing}
-use Rattle.nit_word.specs.Sight.{Sight}
-use Rattle.nit_events.specs.declared.entry.Entry.{Entry}
+use Rattle.nit_hall.specs.Below.{ClipEntry, ClipModel, ClipReply, End, Entry, InputLine, IsLegal, IsNonDecreasing, IsOpen, Line, SceneModel, Sight, Standing, calls_in, calls_of, calls_to_make, glass_in, ink, is_input_phase, is_phase, phases_along, raised, script_in, state_now, user_actions_of, user_actions_to_do}
 use Rattle.nit_events.specs.declared.entry.Entry.TheVariants as entry
-use Rattle.nit_script.specs.declared.line.Line.{Line}
-use Rattle.nit_script.specs.declared.line.InputLine.{InputLine}
-use Rattle.nit_script.specs.Phases.{is_phase, is_input_phase}
-use Rattle.nit_journal.specs.Replay.{IsLegal, IsOpen}
-use Rattle.nit_journal.specs.WholeJournals.{calls_of, user_actions_of, phases_along}
-use Rattle.nit_plan.specs.Calls.{calls_to_make, user_actions_to_do}
-use Rattle.nit_plan.specs.ScriptWords.{ink}
-use Rattle.nit_pixels.specs.End.{End}
-use Rattle.nit_pixels.specs.declared.standing.Standing.{Standing}
-use Rattle.nit_ledger.specs.Book.{raised}
-use Rattle.nit_scene.specs.RawWords.{glass_in}
-use Rattle.nit_scene.specs.Scene.{SceneModel, state_now}
-use Rattle.nit_plan.specs.SessionLists.{script_in}
 use Rattle.nit_hall.specs.OpeningParts.{OpeningParts}
-use Rattle.nit_plan.specs.Calls.{calls_in}
 use Rattle.nit_hall.specs.ServedLines.{served, user_actions_in, lines_of_all}
 use Rattle.nit_hall.specs.NearWords.{AreNear}
-use Rattle.nit_clip.specs.declared.call.ClipEntry.{ClipEntry}
-use Rattle.nit_clip.specs.declared.call.ClipReply.{ClipReply}
-use Rattle.nit_clip.specs.Clip.{ClipModel}
 use Rattle.nit_hall.specs.ClipPass.{ClipPassModel, next_clip}
 use Rattle.nit_hall.specs.RoomClips.{FollowsClips}
 

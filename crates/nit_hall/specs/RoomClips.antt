@@ -1,11 +1,6 @@
 -- What holds of the clip list of a room.
 use Rattle.std.specs.Prelude.{◌≡◌, ℕ, ◌+◌, ◌≤◌, List, length, map, sum, take, slice_index}
-use Rattle.nit_events.specs.declared.entry.Entry.{Entry}
-use Rattle.nit_plan.specs.Calls.{calls_to_make, user_actions_to_do}
-use Rattle.nit_clip.specs.declared.line.ClipLine.{ClipLine}
-use Rattle.nit_clip.specs.Clip.{ClipModel}
-use Rattle.nit_clip.specs.LegalClips.{IsLegalClips}
-use Rattle.nit_clip.specs.WholeClips.{AreInPhases, clip_calls_in, clip_calls_of, clips_to_make}
+use Rattle.nit_hall.specs.Below.{AreInPhases, ClipLine, ClipModel, Entry, IsLegalClips, calls_to_make, clip_calls_in, clip_calls_of, clips_to_make, user_actions_to_do}
 use Rattle.nit_hall.specs.OpeningParts.{OpeningParts}
 use Rattle.nit_hall.specs.ClipPass.{clip_script_in}
 

@@ -1,17 +1,7 @@
 -- What a room knows of passes that are done, and what its last picture shows.
 use Rattle.std.specs.Prelude.{◌≡◌, ℕ, List, length, map, take, slice_index, Some}
-use Rattle.std.specs.List.{range_with_len}
+use Rattle.nit_hall.specs.Below.{Bare, Black, Configuration, IsGlass, Line, PixelSource, State, Word, bare_word, donation_of, ink, pixel_count, range_with_len, script_in, source_at, words_after, words_left}
 use mathlib.Core.List.{IsPrefix}
-use Rattle.nit_word.specs.Channels.{bare_word}
-use Rattle.nit_stack.specs.Sources.{PixelSource, Bare, Black, Word}
-use Rattle.nit_script.specs.declared.line.Line.{Line}
-use Rattle.nit_config.specs.Configuration.{Configuration}
-use Rattle.nit_journal.specs.State.{State}
-use Rattle.nit_plan.specs.ScriptWords.{ink, words_after, words_left}
-use Rattle.nit_scene.specs.RawWords.{pixel_count, source_at}
-use Rattle.nit_scene.specs.Screen.{IsGlass}
-use Rattle.nit_config.specs.Configuration.{donation_of}
-use Rattle.nit_plan.specs.SessionLists.{script_in}
 use Rattle.nit_hall.specs.ServedLines.{served}
 use Rattle.nit_hall.specs.Pass.{PassModel}
 use Rattle.nit_hall.specs.Room.{RoomModel, without_final}

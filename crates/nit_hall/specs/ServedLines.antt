@@ -1,13 +1,9 @@
 -- Which lines of a script the room serves, and what they put into the journal.
 use Rattle.std.specs.Prelude.{ℕ, zero, suc, Bool, true, false, List, [], ◌∷◌, filter, take}
-use Rattle.std.specs.Prelude.{count_by}
+use Rattle.nit_hall.specs.Below.{Does, InputLine, Line, Shoots, UserAction, count_by, is_input_phase, is_phase}
 use Rattle.std.specs.Prelude.{◌+◌, length, map, sum}
-use Rattle.nit_script.specs.declared.line.Line.{Line}
 use Rattle.nit_script.specs.declared.line.Line.TheVariants as line
-use Rattle.nit_script.specs.declared.line.InputLine.{InputLine}
 use Rattle.nit_script.specs.declared.line.InputLine.TheVariants as input
-use Rattle.nit_script.specs.Phases.{is_phase, is_input_phase}
-use Rattle.nit_journal.specs.WholeJournals.{UserAction, Does, Shoots}
 
 -- the room serves a line of a client that is a call or ends a phase; a stroke is made without it
 abbrev pub is_served : Line → Bool

@@ -1,7 +1,7 @@
 //! A client's place in its clip script.
 
 ghost use Rattle.std.specs.Prelude.{◌≡◌, ◌+◌, ◌≤◌, ◌<◌, ◌==◌, length, IfNone, slice_get};
-ghost use Rattle.nit_hall.specs.ClipPass.{IsAtClip, IsAtClipPhase, clip_phases_before, next_clip};
+ghost use Rattle.nit_hall.specs.Terms.{IsAtClip, IsAtClipPhase, clip_phases_before, most_lines, next_clip};
 
 use crate::pass::Pass;
 use nit_clip::laws::calls_of_a_clip_script;
@@ -118,7 +118,7 @@ impl<'a> ClipPass<'a> {
     pub(crate) fn next_clip(&self) -> ClipCall
         requires { IsAtClip self.now }
         ensures call { result ≡ next_clip self.now }
-        ensures few { self.now.next < 65536 }
+        ensures few { self.now.next < most_lines }
     {
         let ClipLine::Call(call) = self.script.lines()[self.next as usize] else {
             unreachable!()

@@ -11,6 +11,7 @@ ghost use Rattle.nit_hall.specs.Pass.{Belongs, UserBelongs, IsAtCall, IsAtPhase,
 ghost use Rattle.nit_hall.specs.Pass.{HasLoaded, IsAtDevice, IsAtShot, call_entry, device_entry};
 ghost use Rattle.nit_hall.specs.Pass.{sight_after_line};
 ghost use Rattle.nit_hall.specs.Hall.{IsMeasured, Tells, TellsShot};
+ghost use Rattle.nit_rect.specs.Limits.{most_height, most_width};
 
 use crate::clip_pass::ClipPass;
 use crate::pass::Pass;
@@ -204,7 +205,7 @@ impl<'a, N: Name> Hall<'a, N> {
     /// The width and the height of the screen in pixels, at most 1024 and 768. It takes no lock.
     pub fn size(&self) -> (u32, u32)
         ensures size { result ≡ (N.parts.config.width, N.parts.config.height) }
-        ensures screen { (result.0 ≤ 1024) × (result.1 ≤ 768) }
+        ensures screen { (result.0 ≤ most_width) × (result.1 ≤ most_height) }
     {
         (self.width, self.height)
     }

@@ -8,16 +8,8 @@ mod last;
 mod phases;
 
 ghost use Rattle.std.specs.Prelude.{◌≡◌, ◌+◌, ◌*◌, ◌≤◌, ◌==◌, [], length, replicate};
-ghost use Rattle.std.specs.Prelude.{take, slice_index, Some};
+ghost use Rattle.nit_hall.specs.Terms.{AreNear, Belongs, HaveInks, IsLegal, IsPaintedTo, IsRoom, Some, UserBelongs, bare_word, lines_of_all, most_height, most_width, served, slice_index, take, without_final, words_after};
 ghost use mathlib.Core.List.{IsPrefix};
-ghost use Rattle.nit_word.specs.Channels.{bare_word};
-ghost use Rattle.nit_journal.specs.Replay.{IsLegal};
-ghost use Rattle.nit_plan.specs.Surface.{IsPaintedTo};
-ghost use Rattle.nit_plan.specs.ScriptWords.{words_after};
-ghost use Rattle.nit_hall.specs.Pass.{Belongs, UserBelongs};
-ghost use Rattle.nit_hall.specs.NearWords.{AreNear};
-ghost use Rattle.nit_hall.specs.ServedLines.{served, lines_of_all};
-ghost use Rattle.nit_hall.specs.Room.{HaveInks, IsRoom, without_final};
 
 use crate::pass::Pass;
 use crate::user::UserPass;
@@ -156,7 +148,7 @@ impl<'a> Room<'a> {
     /// The width and the height of the screen in pixels.
     pub(crate) fn size(&self) -> (u32, u32)
         ensures size { result ≡ (self.now.parts.config.width, self.now.parts.config.height) }
-        ensures screen { (result.0 ≤ 1024) × (result.1 ≤ 768) }
+        ensures screen { (result.0 ≤ most_width) × (result.1 ≤ most_height) }
     {
         self.scene.size()
     }

@@ -1,10 +1,7 @@
 //! What the user's thread holds.
 
 ghost use Rattle.std.specs.Prelude.{◌≡◌, ◌<◌, ◌≤◌, ◌==◌, [], length, IfNone, slice_get, take};
-ghost use Rattle.nit_events.specs.Ranges.{IsDevice};
-ghost use Rattle.nit_journal.specs.WholeJournals.{user_actions_of};
-ghost use Rattle.nit_hall.specs.ServedLines.{user_actions_in, input_phases_before};
-ghost use Rattle.nit_hall.specs.Pass.{IsAtDevice, next_device};
+ghost use Rattle.nit_hall.specs.Terms.{IsAtDevice, IsDevice, input_phases_before, most_lines, next_device, user_actions_in, user_actions_of};
 
 use nit_events::Device;
 use nit_ledger::Share;
@@ -69,7 +66,7 @@ impl<'a> UserPass<'a> {
     /// How many lines of the input script are done.
     pub fn line(&self) -> u32
         ensures line { result ≡ self.now.next }
-        ensures few { result ≤ 65536 }
+        ensures few { result ≤ most_lines }
     {
         let _few = self.input.lines().len();
         self.next
@@ -108,7 +105,7 @@ impl<'a> UserPass<'a> {
         requires { IsAtDevice self.now }
         ensures device { result ≡ next_device self.now }
         ensures fits { IsDevice result }
-        ensures few { self.now.next < 65536 }
+        ensures few { self.now.next < most_lines }
     {
         let InputLine::Device(dev) = self.input.lines()[self.next as usize] else {
             unreachable!()

@@ -1,20 +1,6 @@
 -- The lines of a frame tell its words.
-use Rattle.std.proofs.Common.{◌≡◌, ◌∙◌, ℕ, zero, suc, ◌+◌, ◌*◌, ◌==◌, ◌≤◌, Bool, true, false, cond, List, [], ◌∷◌, ◌++◌, length, map, take, drop, replicate, refl, sym, ap, arith, add-one, length-drop}
-use Rattle.std.specs.Prelude.{All}
-use Rattle.std.specs.List.{flat_map, AllByRecursion}
-use Rattle.std.proofs.lemmas.Bool.{eqb-true}
-use Rattle.std.proofs.Math.Nat.{mul-suc}
-use Rattle.std.proofs.lemmas.Grind.{flat_map-append}
-use Rattle.std.proofs.lemmas.List.{append-nil, map-append, take-append-drop}
-use Rattle.std.proofs.lemmas.List.Elements.{recursion_from_All}
-use Rattle.std.proofs.lemmas.List.Sums.{sum_by-append}
-use Rattle.nit_script.specs.declared.line.Line.{Line}
-use Rattle.nit_script.specs.Spelling.{FitsColour}
-use Rattle.nit_nested.specs.FrameLines.{Run, run_joined, row_runs, fills, row_lines, rows_lines, frame_lines, IsFrame, words_of_lines}
-use Rattle.nit_nested.specs.FrameScript.{count_lines}
-use Rattle.nit_nested.specs.Nest.{IsNest}
-use Rattle.nit_script.specs.Grammar.{most_lines}
-use Rattle.nit_rect.proofs.ForCallers.{all_append}
+use Rattle.nit_nested.proofs.Basics.{All, AllByRecursion, FitsColour, IsFrame, IsNest, Line, Run, all_append, append-nil, count_lines, eqb-true, fills, flat_map, flat_map-append, frame_lines, map-append, most_lines, mul-suc, recursion_from_All, row_lines, row_runs, rows_lines, run_joined, sum_by-append, take-append-drop, words_of_lines}
+use Rattle.std.proofs.Common.{Bool, List, [], add-one, ap, arith, cond, drop, false, length, length-drop, map, refl, replicate, suc, sym, take, true, zero, ℕ, ◌*◌, ◌++◌, ◌+◌, ◌==◌, ◌∙◌, ◌∷◌, ◌≡◌, ◌≤◌}
 
 -- the words of runs
 abbrev pub unrolled : List Run → List ℕ

@@ -1,18 +1,7 @@
 -- What is answered for a script, by what is kept.
-use Rattle.std.proofs.Common.{◌≡◌, ◌∙◌, ℕ, ◌+◌, ◌<◌, ◌≤◌, true, false, cond, List, length, map, Option, None, Ok, Err, sym, ap, arith, nat_lt}
-use Rattle.std.specs.List.{AllByRecursion}
-use Rattle.std.proofs.lemmas.Bool.{eq-eqb, lt-ltb, le-ltb}
-use Rattle.std.proofs.lemmas.List.{length-map}
-use Rattle.nit_script.specs.declared.line.Line.{Line}
-use Rattle.nit_script.specs.Spelling.{FitsLine}
-use Rattle.nit_script.specs.Phases.{phases}
-use Rattle.nit_nested.specs.declared.error.NestError.TheVariants.{Phases, TooLong}
-use Rattle.nit_nested.specs.FrameLines.{frame_lines, words_of_lines}
-use Rattle.nit_nested.specs.FrameScript.{first_forbidden, frame_script}
-use Rattle.nit_nested.specs.Nest.{NestModel, unless_long, unless_forbidden, nest_script, script_answer}
-use Rattle.nit_nested.specs.Nest.{IsNest}
+use Rattle.std.proofs.Common.{Err, List, None, Ok, Option, ap, arith, cond, false, length, map, nat_lt, sym, true, ℕ, ◌+◌, ◌<◌, ◌∙◌, ◌≡◌, ◌≤◌}
+use Rattle.nit_nested.proofs.Basics.{AllByRecursion, FitsLine, IsNest, Line, NestModel, Phases, TooLong, eq-eqb, first_forbidden, frame_lines, frame_script, le-ltb, length-map, lt-ltb, most_lines, nest_script, phases, script_answer, unless_forbidden, unless_long, words_of_lines}
 use Rattle.nit_nested.proofs.GrammarLemmas.{made_long, made_fits, frames_fit}
-use Rattle.nit_script.specs.Grammar.{most_lines}
 
 -- the frames that are kept
 abbrev pub kept_frames : ℕ → ℕ → List (List Line) → NestModel

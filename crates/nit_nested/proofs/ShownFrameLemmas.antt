@@ -1,26 +1,9 @@
 -- At the end of each phase the script's buffer has the phase's frame.
-use Rattle.std.proofs.Common.{◌≡◌, ◌∙◌, ℕ, zero, suc, ◌+◌, ◌*◌, ◌<◌, ◌≤◌, Bool, true, false, cond, List, [], ◌∷◌, ◌++◌, length, get_or, map, take, drop, Some, None, refl, sym, ap, subst, arith, append_assoc, length-append}
-use Rattle.std.specs.Prelude.{count_by, pos}
-use Rattle.std.specs.List.{AllByRecursion}
-use Rattle.std.proofs.Math.Seq.{take-append-add}
-use Rattle.std.proofs.lemmas.List.{length-map}
-use Rattle.std.proofs.lemmas.List.Sums.{fold-append}
-use Rattle.nit_events.specs.declared.call.Call.TheVariants.{Buffer, Refresh}
-use Rattle.nit_script.specs.declared.line.Line.{Line}
-use Rattle.nit_script.specs.declared.line.Line.TheVariants as line
-use Rattle.nit_script.specs.Phases.{is_phase, phases}
-use Rattle.nit_journal.specs.Session.{first_session}
-use Rattle.nit_word.specs.Zeros.{zeros}
-use Rattle.nit_word.proofs.ForCallers.{length-zeros}
+use Rattle.nit_nested.proofs.Basics.{AllByRecursion, Buffer, CanPay, IsFrame, IsNest, Line, NestModel, Painting, Refresh, Run, ShowsFrames, after_line, blank, buffer_size, count_by, fills, first_forbidden, first_session, fold-append, frame_lines, frame_script, is_forbidden, is_phase, length-map, length-zeros, lines_before_end, painted_from, phases, pos, row_lines, row_runs, rows_lines, take-append-add, words_of_lines, woven, zeros}
+use Rattle.std.proofs.Common.{Bool, List, None, Some, [], ap, append_assoc, arith, cond, drop, false, get_or, length, length-append, map, refl, subst, suc, sym, take, true, zero, ℕ, ◌*◌, ◌++◌, ◌+◌, ◌<◌, ◌∙◌, ◌∷◌, ◌≡◌, ◌≤◌}
 use Rattle.nit_plan.specs.Strokes.{cleared}
-use Rattle.nit_plan.specs.ScriptWords.{Painting, blank, painted_from, after_line}
-use Rattle.nit_nested.specs.FrameLines.{Run, row_runs, fills, row_lines, rows_lines, frame_lines, IsFrame, words_of_lines}
-use Rattle.nit_nested.specs.FrameScript.{is_forbidden, first_forbidden, woven, frame_script}
-use Rattle.nit_nested.specs.Nest.{NestModel}
-use Rattle.nit_nested.specs.Nest.{IsNest}
-use Rattle.nit_plan.proofs.ForCallers.{buffer_size}
+use Rattle.nit_script.specs.declared.line.Line.TheVariants as line
 use Rattle.nit_nested.proofs.ScriptAnswers.{kept_frames}
-use Rattle.nit_nested.specs.ShownFrames.{lines_before_end, CanPay, ShowsFrames}
 use Rattle.nit_nested.proofs.GrammarLemmas.{phase_lines_more}
 use Rattle.nit_nested.proofs.FillLemmas.{Shows, line_shows, frame_shows}
 

@@ -1,12 +1,8 @@
 -- A frame as lines of a script: row by row a `fill` for each longest run of equal words, and then a
 -- `refresh` of the whole buffer.
 use Rattle.std.specs.Prelude.{◌≡◌, ℕ, zero, suc, ◌+◌, ◌*◌, ◌==◌, pos, List, [], ◌∷◌, ◌++◌, length, take, drop, replicate, if◌then◌else◌}
-use Rattle.std.specs.List.{flat_map, AllByRecursion}
-use Rattle.nit_events.specs.declared.call.Call.TheVariants.{Refresh}
-use Rattle.nit_script.specs.declared.line.Stroke.TheVariants.{Fill}
-use Rattle.nit_script.specs.declared.line.Line.{Line}
+use Rattle.nit_nested.specs.Below.{AllByRecursion, Fill, FitsColour, Line, Refresh, flat_map}
 use Rattle.nit_script.specs.declared.line.Line.TheVariants as line
-use Rattle.nit_script.specs.Spelling.{FitsColour}
 
 -- so many equal words, one after the other
 pub record Run : Type 0 where

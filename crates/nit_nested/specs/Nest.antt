@@ -1,14 +1,10 @@
 -- A nest as contracts see it, and what it answers.
 use Rattle.std.specs.Prelude.{◌≡◌, ℕ, ◌+◌, ◌≤◌, ◌==◌, nat_lt, List, length, map, Option, Some, None, Result, Ok, Err, if◌then◌else◌}
-use Rattle.std.specs.List.{AllByRecursion}
-use Rattle.nit_stack.specs.Stack.{IsScreenSize}
-use Rattle.nit_script.specs.declared.line.Line.{Line}
-use Rattle.nit_script.specs.Phases.{phases}
+use Rattle.nit_nested.specs.Below.{AllByRecursion, IsScreenSize, Line, most_lines, phases}
 use Rattle.nit_nested.specs.declared.error.NestError.{NestError}
 use Rattle.nit_nested.specs.declared.error.NestError.TheVariants.{Bad, Phases, TooLong, NoMemory}
 use Rattle.nit_nested.specs.FrameLines.{frame_lines, words_of_lines, IsFrame}
 use Rattle.nit_nested.specs.FrameScript.{count_lines, first_forbidden, frame_script}
-use Rattle.nit_script.specs.Grammar.{most_lines}
 
 -- a screen's width and height, and the words of each frame
 pub record NestModel : Type 0 where

@@ -1,11 +1,7 @@
 -- What is seen in the buffer of the script that shows frames.
 use Rattle.std.specs.Prelude.{◌≡◌, ℕ, zero, suc, ◌*◌, ◌<◌, true, List, [], ◌∷◌, length, take, slice_index_or}
-use Rattle.nit_events.specs.declared.call.Call.TheVariants.{Buffer}
-use Rattle.nit_script.specs.declared.line.Line.{Line}
+use Rattle.nit_nested.specs.Below.{Buffer, Line, first_session, is_accepted, serve, words_after}
 use Rattle.nit_script.specs.declared.line.Line.TheVariants as line
-use Rattle.nit_journal.specs.Session.{first_session, serve}
-use Rattle.nit_journal.specs.StackAfter.{is_accepted}
-use Rattle.nit_plan.specs.ScriptWords.{words_after}
 
 -- how many lines stand before the end of the phase of this number; phases count from 0
 abbrev pub lines_before_end : ℕ → List Line → ℕ

@@ -1,5 +1,5 @@
 ghost use Rattle.std.specs.Prelude.{◌≡◌};
-ghost use Rattle.nit_nested.specs.declared.error.NestError.TheVariants.{NoMemory};
+ghost use Rattle.nit_nested.specs.Terms.{NoMemory};
 
 use std::alloc::{AllocError, AllocFailed};
 use std::error::Error;

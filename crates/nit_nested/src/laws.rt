@@ -1,13 +1,7 @@
 //! What the definitions of frames and scripts say of each other.
 
-ghost use Rattle.std.specs.Prelude.{◌≡◌, ◌≤◌, ◌+◌, ◌*◌, ◌++◌, ◌∷◌, [], ℕ, List, None, length, take};
-ghost use Rattle.nit_script.specs.declared.line.Line.{Line};
-ghost use Rattle.nit_script.specs.Phases.{phases};
-ghost use Rattle.nit_plan.specs.ScriptWords.{static, words_left};
-ghost use Rattle.nit_nested.specs.FrameLines.{frame_lines, words_of_lines};
-ghost use Rattle.nit_nested.specs.FrameScript.{first_forbidden, count_lines};
-ghost use Rattle.nit_nested.specs.Nest.{NestModel, lines_of_frames, nest_script};
-ghost use Rattle.nit_nested.specs.ShownFrames.{CanPay, lines_before_end, ShowsFrames};
+ghost use Rattle.std.specs.Prelude.{false, ◌≡◌, ◌≤◌, ◌+◌, ◌*◌, ◌++◌, ◌∷◌, [], ℕ, List, None, length, take};
+ghost use Rattle.nit_nested.specs.Terms.{Buffer, CanPay, Line, NestModel, ShowsFrames, count_lines, first_forbidden, first_session, frame_lines, is_accepted, lines_before_end, lines_of_frames, nest_script, phases, serve, static, words_left, words_of_lines};
 
 /// The lines of a frame tell its words.
 pub fn lines_tell_their_frame()
@@ -42,7 +36,7 @@ pub fn last_frame_is_left()
 {}
 
 /// From its first line on the script that shows frames has a buffer of the screen's size, where its
-/// session can pay for it.
+/// session can pay for it, and elsewhere none.
 pub fn buffer_stays()
     ensures wide { (n : NestModel) (own : List Line) (donation k : ℕ)
         → first_forbidden 1 own ≡ None → CanPay donation n.w n.h → 1 ≤ k
@@ -50,4 +44,8 @@ pub fn buffer_stays()
     ensures tall { (n : NestModel) (own : List Line) (donation k : ℕ)
         → first_forbidden 1 own ≡ None → CanPay donation n.w n.h → 1 ≤ k
         → (static (nest_script n own) donation k).bh ≡ n.h }
+    ensures bare { (n : NestModel) (own : List Line) (donation k : ℕ)
+        → first_forbidden 1 own ≡ None
+        → is_accepted (serve (first_session donation) (Buffer n.w n.h)).reply ≡ false
+        → (static (nest_script n own) donation k).bw ≡ 0 }
 {}

@@ -1,11 +1,7 @@
 //! Frames, kept as lines of a script.
 
 ghost use Rattle.std.specs.Prelude.{◌≡◌, ◌++◌, ◌+◌, ◌*◌, ◌≤◌, ◌∷◌, [], ℕ, List, Option, Some, None, length, All, IfOk, OnOk, OnErr};
-ghost use Rattle.std.specs.List.{AllByRecursion};
-ghost use Rattle.nit_script.specs.Spelling.{FitsColour};
-ghost use Rattle.nit_stack.specs.Stack.{IsScreenSize};
-ghost use Rattle.nit_nested.specs.Nest.{UnlessMemory, frame_answer, script_answer};
-ghost use Rattle.nit_nested.specs.ShownFrames.{CanPay, ShowsFrames};
+ghost use Rattle.nit_nested.specs.Terms.{AllByRecursion, CanPay, FitsColour, IsScreenSize, ShowsFrames, UnlessMemory, frame_answer, script_answer};
 
 use crate::error::NestError;
 use crate::frame::Frame;

@@ -2,17 +2,7 @@
 
 ghost use Rattle.std.specs.Prelude.{◌≡◌, ◌+◌, length, take, slice_index, false};
 ghost use mathlib.Core.List.{IsPrefix};
-ghost use Rattle.nit_journal.specs.Replay.{IsLegal, IsOpen};
-ghost use Rattle.nit_journal.specs.Session.{serve};
-ghost use Rattle.nit_journal.specs.State.{session};
-ghost use Rattle.nit_journal.specs.StackAfter.{is_accepted};
-ghost use Rattle.nit_repaint.specs.Glasses.{glasses_of_call};
-ghost use Rattle.nit_scene.specs.RawWords.{Painted, glass_in};
-ghost use Rattle.nit_scene.specs.Scene.{state_now};
-ghost use Rattle.nit_hall.specs.ServedLines.{served};
-ghost use Rattle.nit_hall.specs.Pass.{Belongs, HasLoaded, IsAtCall, call_entry, next_call};
-ghost use Rattle.nit_hall.specs.Pass.{sight_after_line};
-ghost use Rattle.nit_hall.specs.Room.{lenses, stands, with_entry};
+ghost use Rattle.nit_hall.specs.Terms.{Belongs, HasLoaded, IsAtCall, IsLegal, IsOpen, Painted, call_entry, glass_in, glasses_of_call, is_accepted, lenses, next_call, serve, served, session, sight_after_line, stands, state_now, with_entry};
 
 use crate::laws::clips_stay;
 use crate::pass::Pass;

@@ -1,11 +1,7 @@
 //! A room that gets clip scripts, before its first entry.
 
 ghost use Rattle.std.specs.Prelude.{◌≡◌, ◌+◌, ◌≤◌, ◌++◌, ℕ, IfOk, Some};
-ghost use Rattle.std.specs.Prelude.{length, replicate, slice_get};
-ghost use Rattle.nit_ledger.specs.Book.{most_shares};
-ghost use Rattle.nit_hall.specs.ClipOpening.{AreFirstClipPasses, IsUnserved, with_clip_scripts};
-ghost use Rattle.nit_hall.specs.ClipPass.{ClipPassModel, clip_script_in};
-ghost use Rattle.nit_hall.specs.RoomClips.{lines_of_clips};
+ghost use Rattle.nit_hall.specs.Terms.{AreFirstClipPasses, ClipPassModel, IsUnserved, clip_script_in, length, lines_of_clips, most_clips, most_sessions, most_shares, replicate, slice_get, with_clip_scripts};
 
 use crate::clip_pass::ClipPass;
 use crate::opening::Opened;
@@ -107,9 +103,9 @@ fn clip_passes<'a>(
 
 /// How many lines all clip scripts have.
 fn line_count(scripts: &[ClipScript]) -> usize
-    requires { length scripts.now ≤ 16 }
+    requires { length scripts.now ≤ most_sessions }
     ensures count { result ≡ lines_of_clips scripts.now }
-    ensures most { result ≤ 1048576 }
+    ensures most { result ≤ most_clips }
 {
     let mut count = 0;
     for script in scripts {

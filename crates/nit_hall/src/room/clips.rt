@@ -2,17 +2,7 @@
 
 ghost use Rattle.std.specs.Prelude.{◌≡◌, ◌+◌, ℕ, length, map, slice_get, slice_index, Some, take};
 ghost use mathlib.Core.List.{IsPrefix};
-ghost use Rattle.nit_journal.specs.Replay.{IsLegal, IsOpen};
-ghost use Rattle.nit_plan.specs.Calls.{calls_to_make, user_actions_to_do};
-ghost use Rattle.nit_clip.specs.Clipboard.{clip_answer, clipboard_of};
-ghost use Rattle.nit_clip.specs.LegalClips.{IsLegalClips};
-ghost use Rattle.nit_clip.specs.WholeClips.{IsWholeClips, clip_calls_in, clips_to_make};
-ghost use Rattle.nit_scene.specs.Scene.{state_now};
-ghost use Rattle.nit_hall.specs.ClipPass.{AreDoneClips, AreTogether, ClipBelongs, ClipPassModel};
-ghost use Rattle.nit_hall.specs.ClipPass.{IsAtClip, IsAtPhaseEnd, IsDoneClip};
-ghost use Rattle.nit_hall.specs.ClipPass.{knowing_clip, next_clip};
-ghost use Rattle.nit_hall.specs.Pass.{Belongs};
-ghost use Rattle.nit_hall.specs.Room.{clip_entry, with_clip, without_final};
+ghost use Rattle.nit_hall.specs.Terms.{AreDoneClips, AreTogether, Belongs, ClipBelongs, ClipPassModel, IsAtClip, IsAtPhaseEnd, IsDoneClip, IsLegal, IsLegalClips, IsOpen, IsWholeClips, calls_to_make, clip_answer, clip_calls_in, clip_entry, clipboard_of, clips_to_make, knowing_clip, next_clip, state_now, user_actions_to_do, with_clip, without_final};
 
 use crate::clip_pass::ClipPass;
 use crate::pass::Pass;
@@ -76,6 +66,13 @@ impl<'a> Room<'a> {
             → IsPrefix q.seen (without_final self.old.scene.entries) }
     {
         self.meet_clips(clips);
+        self.clip_list()
+    }
+
+    /// The clip list. It is whole when all clip passes are done ([`Room::meet_clips`]).
+    pub fn clip_list(&self) -> &[ClipEntry]
+        ensures { result.now ≡ self.now.clips.entries }
+    {
         self.clip.entries()
     }
 

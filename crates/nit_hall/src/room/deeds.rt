@@ -2,19 +2,8 @@
 
 ghost use Rattle.std.specs.Prelude.{◌≡◌, ◌+◌, ◌*◌, All, false, length, slice_index};
 ghost use mathlib.Core.List.{IsPrefix};
-ghost use Rattle.nit_word.specs.Inks.{IsWord};
+ghost use Rattle.nit_hall.specs.Terms.{IsAtDevice, IsAtShot, IsLegal, IsNearFrame, IsOpen, IsWord, Painted, UserBelongs, deliveries_of, device_entry, frame, glass_in, kills, lenses, next_device, route, routed_as, scenery_of, shots, stands, state_now, with_entry};
 ghost use Rattle.nit_events.specs.declared.entry.Entry.TheVariants as entry;
-ghost use Rattle.nit_events.specs.Input.{deliveries_of, routed_as};
-ghost use Rattle.nit_overlay.specs.Frame.{frame};
-ghost use Rattle.nit_journal.specs.Deliveries.{kills};
-ghost use Rattle.nit_journal.specs.Replay.{IsLegal, IsOpen, shots};
-ghost use Rattle.nit_journal.specs.State.{route};
-ghost use Rattle.nit_scene.specs.RawWords.{Painted, glass_in};
-ghost use Rattle.nit_scene.specs.Scene.{scenery_of, state_now};
-ghost use Rattle.nit_hall.specs.NearWords.{IsNearFrame};
-ghost use Rattle.nit_hall.specs.Pass.{UserBelongs, IsAtDevice, IsAtShot};
-ghost use Rattle.nit_hall.specs.Pass.{device_entry, next_device};
-ghost use Rattle.nit_hall.specs.Room.{lenses, stands, with_entry};
 
 use crate::laws::clips_stay;
 use crate::room::Room;

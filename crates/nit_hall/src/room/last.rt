@@ -2,18 +2,8 @@
 
 ghost use Rattle.std.specs.Prelude.{◌≡◌, ℕ, ◌*◌, All, length, map, slice_get, Some};
 ghost use mathlib.Core.List.{IsPrefix};
-ghost use Rattle.nit_word.specs.Inks.{IsWord};
+ghost use Rattle.nit_hall.specs.Terms.{AreDone, IsDonePass, IsDoneUser, IsKnownPass, IsLegal, IsOpen, IsWhole, IsWord, Painted, PassModel, UserBelongs, calls_to_make, frame, glass_in, knowing, rest_of, scenery_of, state_now, user_actions_to_do, with_final, without_final, words_left_in};
 ghost use Rattle.nit_events.specs.declared.entry.Entry.TheVariants as entry;
-ghost use Rattle.nit_overlay.specs.Frame.{frame};
-ghost use Rattle.nit_journal.specs.Replay.{IsLegal, IsOpen};
-ghost use Rattle.nit_journal.specs.WholeJournals.{IsWhole};
-ghost use Rattle.nit_plan.specs.Calls.{calls_to_make, user_actions_to_do};
-ghost use Rattle.nit_scene.specs.RawWords.{Painted, glass_in};
-ghost use Rattle.nit_scene.specs.Scene.{scenery_of, state_now};
-ghost use Rattle.nit_hall.specs.Pass.{PassModel, AreDone, IsDonePass, IsDoneUser};
-ghost use Rattle.nit_hall.specs.Pass.{UserBelongs, knowing, rest_of};
-ghost use Rattle.nit_hall.specs.Room.{with_final, without_final};
-ghost use Rattle.nit_hall.specs.RoomEnd.{IsKnownPass, words_left_in};
 
 use crate::laws::clips_stay;
 use crate::pass::Pass;

@@ -2,10 +2,7 @@
 
 ghost use Rattle.std.specs.Prelude.{◌≡◌, ◌+◌, ◌<◌, ◌≤◌, length, take, slice_index};
 ghost use mathlib.Core.List.{IsPrefix};
-ghost use Rattle.nit_journal.specs.Replay.{IsLegal, IsOpen};
-ghost use Rattle.nit_hall.specs.ServedLines.{served};
-ghost use Rattle.nit_hall.specs.Pass.{Belongs, UserBelongs, IsAtPhase, IsAtUserPhase};
-ghost use Rattle.nit_hall.specs.Room.{after_arrival, arrived_one};
+ghost use Rattle.nit_hall.specs.Terms.{Belongs, IsAtPhase, IsAtUserPhase, IsLegal, IsOpen, UserBelongs, after_arrival, arrived_one, most_lines, most_sessions, served};
 
 use crate::pass::Pass;
 use crate::room::Room;
@@ -67,7 +64,7 @@ impl<'a> Room<'a> {
 
 /// The phase that is served, and how many actors have ended it, when one more has.
 fn after_arrival(clients: usize, phase: u32, arrived: u32) -> (u32, u32)
-    requires { (phase < 65536) × (arrived ≤ clients) × (clients ≤ 16) }
+    requires { (phase < most_lines) × (arrived ≤ clients) × (clients ≤ most_sessions) }
     ensures { result ≡ after_arrival clients phase arrived }
 {
     if arrived as usize == clients {

@@ -1,6 +1,5 @@
-use Rattle.std.proofs.Common.{◌≡◌, ◌-◌, length}
-use Rattle.nit_hall.specs.Pass.{Belongs}
-use Rattle.nit_actor.specs.Role.{role_of}
+use Rattle.std.proofs.Common.{length, ◌-◌, ◌≡◌}
+use Rattle.nit_actor.proofs.Lemmas.{Belongs, role_of}
 use Rattle.nit_actor.proofs.actor.run_lines.Given as goal
 
 abbrev pub invariant-lines : goal.invariant-lines

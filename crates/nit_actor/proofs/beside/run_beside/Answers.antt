@@ -1,6 +1,4 @@
-use Rattle.std.proofs.Common.{◌∙◌}
-use Rattle.nit_actor.proofs.RoleLemmas.{roles_back, fit_again, roles_fit}
-use Rattle.nit_actor.proofs.PictureLemmas.{puts_also}
+use Rattle.nit_actor.proofs.Lemmas.{fit_again, puts_also, roles_back, roles_fit, ◌∙◌}
 use Rattle.nit_actor.proofs.beside.run_beside.Goals as goal
 
 pub run_left-requires-clause-passes : goal.run_left-requires-clause-passes

@@ -1,6 +1,5 @@
-use Rattle.std.proofs.Common.{◌≡◌, ◌-◌, length}
-use Rattle.nit_hall.specs.ClipPass.{IsAtPhaseEnd}
-use Rattle.nit_actor.specs.ClipRole.{IsPairIn}
+use Rattle.std.proofs.Common.{length, ◌-◌, ◌≡◌}
+use Rattle.nit_actor.proofs.Lemmas.{IsAtPhaseEnd, IsPairIn}
 use Rattle.nit_actor.proofs.clip_actor.do_clips.Given as goal
 
 abbrev pub invariant-calls : goal.invariant-calls

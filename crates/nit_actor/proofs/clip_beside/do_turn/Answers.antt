@@ -1,9 +1,5 @@
-use Rattle.std.proofs.Common.{◌∙◌, sym, subst, arith}
-use Rattle.std.proofs.lemmas.List.Elements.{All-set}
-use Rattle.nit_actor.specs.declared.clip_beside.Pair.{Pair}
-use Rattle.nit_actor.specs.ClipRole.{IsPairRoleIn, PairRole, pair_role_of}
+use Rattle.nit_actor.proofs.Lemmas.{All-set, IsPairRoleIn, Pair, PairRole, arith, pair_role_of, role_of_pair, subst, sym, ◌∙◌}
 use Rattle.nit_actor.proofs.PhaseCounts.{same_set}
-use Rattle.nit_actor.proofs.PairLists.{role_of_pair}
 use Rattle.nit_actor.proofs.clip_beside.do_turn.Goals as goal
 
 pub pairs-preserved : goal.pairs-preserved

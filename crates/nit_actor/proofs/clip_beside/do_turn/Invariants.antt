@@ -1,7 +1,5 @@
-use Rattle.std.proofs.Common.{◌≡◌, map}
-use Rattle.std.specs.Prelude.{All}
-use Rattle.nit_actor.specs.declared.clip_beside.Pair.{Pair}
-use Rattle.nit_actor.specs.ClipRole.{IsPairRoleIn, pair_role_of}
+use Rattle.std.proofs.Common.{map, ◌≡◌}
+use Rattle.nit_actor.proofs.Lemmas.{All, IsPairRoleIn, Pair, pair_role_of}
 use Rattle.nit_actor.proofs.clip_beside.do_turn.Given as goal
 
 abbrev pub invariant-pairs : goal.invariant-pairs

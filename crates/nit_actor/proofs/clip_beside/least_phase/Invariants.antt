@@ -1,6 +1,5 @@
-use Rattle.std.proofs.Common.{◌≡◌, ◌<◌, ℕ, length}
-use Rattle.std.specs.Prelude.{IfNone, slice_index_or}
-use Rattle.nit_actor.specs.declared.clip_beside.Pair.{Pair}
+use Rattle.std.proofs.Common.{length, ℕ, ◌<◌, ◌≡◌}
+use Rattle.nit_actor.proofs.Lemmas.{IfNone, Pair, slice_index_or}
 use Rattle.nit_actor.proofs.clip_beside.least_phase.Given as goal
 
 abbrev pub invariant-pairs : goal.invariant-pairs

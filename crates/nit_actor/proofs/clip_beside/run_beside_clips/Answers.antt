@@ -1,6 +1,4 @@
-use Rattle.std.proofs.Common.{◌∙◌}
-use Rattle.nit_actor.proofs.PairLists.{pairs_back, pairs_fit, roles_again}
-use Rattle.nit_actor.proofs.PictureLemmas.{puts_also}
+use Rattle.nit_actor.proofs.Lemmas.{pairs_back, pairs_fit, puts_also, roles_again, ◌∙◌}
 use Rattle.nit_actor.proofs.clip_beside.run_beside_clips.Goals as goal
 
 pub run_left-requires-clause-pairs : goal.run_left-requires-clause-pairs

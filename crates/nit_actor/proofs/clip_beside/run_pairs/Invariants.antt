@@ -1,10 +1,5 @@
-use Rattle.std.proofs.Common.{◌≡◌, map, length}
-use Rattle.std.specs.Prelude.{All}
-use Rattle.nit_actor.specs.declared.clip_beside.Pair.{Pair}
-use Rattle.nit_actor.specs.RoundsRun.{put_state_of_desk}
-use Rattle.nit_actor.specs.Role.{user_role_of}
-use Rattle.nit_actor.specs.ClipRole.{IsPairRoleIn, pair_role_of}
-use Rattle.nit_actor.specs.Pictures.{PutsShotsBehind}
+use Rattle.std.proofs.Common.{length, map, ◌≡◌}
+use Rattle.nit_actor.proofs.Lemmas.{All, IsPairRoleIn, Pair, PutsShotsBehind, pair_role_of, put_state_of_desk, user_role_of}
 use Rattle.nit_actor.proofs.clip_beside.run_pairs.Given as goal
 
 abbrev pub invariant-turns : goal.invariant-turns

@@ -1,10 +1,5 @@
-use Rattle.std.proofs.Common.{◌∙◌, arith}
-use Rattle.nit_hall.specs.Pass.{PassModel}
-use Rattle.nit_hall.specs.ClipPass.{ClipPassModel}
-use Rattle.nit_actor.specs.Role.{role_of}
-use Rattle.nit_actor.specs.ClipRole.{IsPairIn, clip_role_of}
-use Rattle.nit_actor.proofs.PhaseCounts.{same_set, zip_at, zip_long}
-use Rattle.nit_actor.proofs.PairLists.{pairs_set}
+use Rattle.nit_actor.proofs.Lemmas.{ClipPassModel, IsPairIn, PassModel, arith, clip_role_of, pairs_set, role_of, zip_at, zip_long, ◌∙◌}
+use Rattle.nit_actor.proofs.PhaseCounts.{same_set}
 use Rattle.nit_actor.proofs.clip_mine.do_turn.Goals as goal
 
 pub pairs-preserved : goal.pairs-preserved

@@ -1,9 +1,5 @@
-use Rattle.std.proofs.Common.{◌≡◌, map}
-use Rattle.std.specs.List.{AllZip}
-use Rattle.nit_hall.specs.Pass.{PassModel}
-use Rattle.nit_hall.specs.ClipPass.{ClipPassModel}
-use Rattle.nit_actor.specs.Role.{role_of}
-use Rattle.nit_actor.specs.ClipRole.{IsPairIn, clip_role_of}
+use Rattle.std.proofs.Common.{map, ◌≡◌}
+use Rattle.nit_actor.proofs.Lemmas.{AllZip, ClipPassModel, IsPairIn, PassModel, clip_role_of, role_of}
 use Rattle.nit_actor.proofs.clip_mine.do_turn.Given as goal
 
 abbrev pub invariant-pairs : goal.invariant-pairs

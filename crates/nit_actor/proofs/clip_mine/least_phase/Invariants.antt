@@ -1,7 +1,5 @@
-use Rattle.std.proofs.Common.{◌≡◌, ◌<◌, ℕ, length}
-use Rattle.std.specs.Prelude.{IfNone, slice_index_or}
-use Rattle.nit_hall.specs.Pass.{PassModel}
-use Rattle.nit_hall.specs.ClipPass.{ClipPassModel}
+use Rattle.std.proofs.Common.{length, ℕ, ◌<◌, ◌≡◌}
+use Rattle.nit_actor.proofs.Lemmas.{ClipPassModel, IfNone, PassModel, slice_index_or}
 use Rattle.nit_actor.proofs.clip_mine.least_phase.Given as goal
 
 abbrev pub invariant-pairs : goal.invariant-pairs

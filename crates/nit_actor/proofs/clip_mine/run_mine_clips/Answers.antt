@@ -1,6 +1,4 @@
-use Rattle.std.proofs.Common.{◌∙◌, refl}
-use Rattle.nit_actor.proofs.PairLists.{all_pairs}
-use Rattle.nit_actor.proofs.PictureLemmas.{puts_also, puts_none}
+use Rattle.nit_actor.proofs.Lemmas.{all_pairs, puts_also, puts_none, refl, ◌∙◌}
 use Rattle.nit_actor.proofs.clip_mine.run_mine_clips.Goals as goal
 
 pub turns-preserved : goal.turns-preserved

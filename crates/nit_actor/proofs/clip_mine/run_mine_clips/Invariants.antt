@@ -1,11 +1,5 @@
-use Rattle.std.proofs.Common.{◌≡◌, map, length}
-use Rattle.std.specs.List.{AllZip}
-use Rattle.nit_hall.specs.Pass.{PassModel}
-use Rattle.nit_hall.specs.ClipPass.{ClipPassModel}
-use Rattle.nit_actor.specs.RoundsRun.{put_state_of_desk}
-use Rattle.nit_actor.specs.Role.{role_of, user_role_of}
-use Rattle.nit_actor.specs.ClipRole.{IsPairIn, clip_role_of}
-use Rattle.nit_actor.specs.Pictures.{PutsShotsBehind}
+use Rattle.std.proofs.Common.{length, map, ◌≡◌}
+use Rattle.nit_actor.proofs.Lemmas.{AllZip, ClipPassModel, IsPairIn, PassModel, PutsShotsBehind, clip_role_of, put_state_of_desk, role_of, user_role_of}
 use Rattle.nit_actor.proofs.clip_mine.run_mine_clips.Given as goal
 
 abbrev pub invariant-turns : goal.invariant-turns

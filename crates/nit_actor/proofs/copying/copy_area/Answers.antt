@@ -1,6 +1,5 @@
-use Rattle.std.proofs.Common.{arith}
-use Rattle.nit_word.specs.Sight.{told_at}
-use Rattle.nit_actor.proofs.Copies.{all_drawn, begun, row_drawn}
+use Rattle.nit_actor.proofs.Lemmas.{all_drawn, arith, row_drawn, told_at}
+use Rattle.nit_actor.proofs.Copies.{begun}
 use Rattle.nit_actor.proofs.copying.copy_area.Goals as goal
 
 pub rows-init : goal.rows-init

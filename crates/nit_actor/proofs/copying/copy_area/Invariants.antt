@@ -1,8 +1,5 @@
-use Rattle.std.proofs.Common.{◌≡◌, set}
-use Rattle.nit_word.specs.Updates.{with_words}
-use Rattle.nit_word.specs.Sight.{told_at}
-use Rattle.nit_scene.specs.RawWords.{glass_in}
-use Rattle.nit_actor.proofs.Copies.{rows_to}
+use Rattle.std.proofs.Common.{set, ◌≡◌}
+use Rattle.nit_actor.proofs.Lemmas.{glass_in, rows_to, told_at, with_words}
 use Rattle.nit_actor.proofs.copying.copy_area.Given as goal
 
 abbrev pub invariant-rows : goal.invariant-rows

@@ -1,6 +1,4 @@
-use Rattle.std.proofs.Common.{[]}
-use Rattle.nit_actor.specs.Pictures.{IsNearPicture}
-use Rattle.nit_actor.proofs.PictureLemmas.{as_many_files, file_of_a_shot}
+use Rattle.nit_actor.proofs.Lemmas.{IsNearPicture, [], as_many_files, file_of_a_shot}
 use Rattle.nit_actor.proofs.laws.each_shot_has_its_file.Goals as goal
 
 pub returns-clause-count : goal.returns-clause-count

@@ -1,4 +1,4 @@
-use Rattle.nit_actor.proofs.IdleUserLemmas.{idle_deeds}
+use Rattle.nit_actor.proofs.Lemmas.{idle_deeds}
 use Rattle.nit_actor.proofs.laws.idle_user_does_nothing.Goals as goal
 
 pub returns : goal.returns

@@ -1,11 +1,4 @@
-use Rattle.std.proofs.Common.{◌∙◌, ℕ, List, ap}
-use Rattle.std.specs.Prelude.{length, slice_index, slice_index_or}
-use Rattle.nit_config.specs.Configuration.{Configuration}
-use Rattle.nit_stack.specs.Sources.{pixel}
-use Rattle.nit_journal.specs.Replay.{replay}
-use Rattle.nit_journal.proofs.ForCallers.{same_throughout}
-use Rattle.nit_overlay.specs.Frame.{shown}
-use Rattle.nit_scene.specs.Scene.{scenery_of}
+use Rattle.nit_actor.proofs.Lemmas.{Configuration, List, ap, length, pixel, replay, same_throughout, scenery_of, shown, slice_index, slice_index_or, ℕ, ◌∙◌}
 use Rattle.nit_actor.proofs.laws.near_frames_by_pixels.Goals as goal
 
 pub returns-clause-count : goal.returns-clause-count

@@ -1,4 +1,4 @@
-use Rattle.nit_actor.proofs.OneClient.{by_rounds_alone}
+use Rattle.nit_actor.proofs.Lemmas.{by_rounds_alone}
 use Rattle.nit_actor.proofs.laws.one_client_goes_by_rounds.Goals as goal
 
 pub returns : goal.returns

@@ -1,4 +1,4 @@
-use Rattle.nit_actor.proofs.ShotFiles.{shots_drawn, drawn_counted, drawn_each}
+use Rattle.nit_actor.proofs.Lemmas.{drawn_counted, drawn_each, shots_drawn}
 use Rattle.nit_actor.proofs.laws.shots_as_replayed.Goals as goal
 
 pub returns-clause-count : goal.returns-clause-count

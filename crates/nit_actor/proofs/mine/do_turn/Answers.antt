@@ -1,8 +1,4 @@
-use Rattle.std.proofs.Common.{◌∙◌, sym, subst, arith}
-use Rattle.std.proofs.lemmas.List.Elements.{All-set}
-use Rattle.nit_hall.specs.Pass.{PassModel}
-use Rattle.nit_actor.specs.Role.{Role, IsRoleIn, role_of}
-use Rattle.nit_actor.proofs.RoleLemmas.{roles_set}
+use Rattle.nit_actor.proofs.Lemmas.{All-set, IsRoleIn, PassModel, Role, arith, role_of, roles_set, subst, sym, ◌∙◌}
 use Rattle.nit_actor.proofs.mine.do_turn.Goals as goal
 
 pub passes-preserved : goal.passes-preserved

@@ -1,7 +1,5 @@
-use Rattle.std.proofs.Common.{◌≡◌, map}
-use Rattle.std.specs.Prelude.{All}
-use Rattle.nit_hall.specs.Pass.{PassModel}
-use Rattle.nit_actor.specs.Role.{IsRoleIn, role_of}
+use Rattle.std.proofs.Common.{map, ◌≡◌}
+use Rattle.nit_actor.proofs.Lemmas.{All, IsRoleIn, PassModel, role_of}
 use Rattle.nit_actor.proofs.mine.do_turn.Given as goal
 
 abbrev pub invariant-passes : goal.invariant-passes

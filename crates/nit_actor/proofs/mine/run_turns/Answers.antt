@@ -1,5 +1,4 @@
-use Rattle.std.proofs.Common.{◌∙◌}
-use Rattle.nit_actor.proofs.PictureLemmas.{puts_also}
+use Rattle.nit_actor.proofs.Lemmas.{puts_also, ◌∙◌}
 use Rattle.nit_actor.proofs.mine.run_turns.Goals as goal
 
 pub turns-preserved : goal.turns-preserved

@@ -1,9 +1,5 @@
-use Rattle.std.proofs.Common.{◌≡◌, map, length}
-use Rattle.std.specs.Prelude.{All}
-use Rattle.nit_hall.specs.Pass.{PassModel}
-use Rattle.nit_actor.specs.RoundsRun.{put_state_of_desk}
-use Rattle.nit_actor.specs.Role.{IsRoleIn, role_of, user_role_of}
-use Rattle.nit_actor.specs.Pictures.{PutsShotsBehind}
+use Rattle.std.proofs.Common.{length, map, ◌≡◌}
+use Rattle.nit_actor.proofs.Lemmas.{All, IsRoleIn, PassModel, PutsShotsBehind, put_state_of_desk, role_of, user_role_of}
 use Rattle.nit_actor.proofs.mine.run_turns.Given as goal
 
 abbrev pub invariant-turns : goal.invariant-turns

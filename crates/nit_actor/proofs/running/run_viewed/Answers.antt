@@ -1,11 +1,4 @@
-use Rattle.std.proofs.Common.{List, ap, sym, subst}
-use Rattle.nit_word.specs.Sight.{Sight}
-use Rattle.nit_config.specs.Configuration.{Configuration}
-use Rattle.nit_scene.specs.Scene.{SceneModel}
-use Rattle.nit_actor.specs.Turn.{LineTurn}
-use Rattle.nit_actor.specs.Stale.{settled}
-use Rattle.nit_actor.specs.RunState.{IsShowing}
-use Rattle.nit_actor.proofs.TurnPremises.{front_move}
+use Rattle.nit_actor.proofs.Lemmas.{Configuration, IsShowing, LineTurn, List, SceneModel, Sight, ap, front_move, settled, subst, sym}
 use Rattle.nit_actor.proofs.RunStateLemmas.{begun}
 use Rattle.nit_actor.proofs.running.run_viewed.Goals as goal
 

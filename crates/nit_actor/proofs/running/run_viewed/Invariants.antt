@@ -1,6 +1,4 @@
-use Rattle.std.proofs.Common.{length}
-use Rattle.nit_actor.specs.Stale.{AreBehind, settled}
-use Rattle.nit_actor.specs.RunState.{IsShowing}
+use Rattle.nit_actor.proofs.Lemmas.{AreBehind, IsShowing, length, settled}
 use Rattle.nit_actor.proofs.running.run_viewed.Given as goal
 
 abbrev pub invariant-lines : goal.invariant-lines

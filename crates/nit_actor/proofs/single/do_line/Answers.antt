@@ -1,9 +1,6 @@
-use Rattle.std.proofs.Common.{refl, ap}
+use Rattle.nit_actor.proofs.Lemmas.{PassModel, RoomModel, ap, at_call, at_line, nothing_recorded, refl, role_of, step_on}
 use Rattle.nit_script.specs.declared.line.Line.TheVariants as line
-use Rattle.nit_hall.specs.Room.{RoomModel}
-use Rattle.nit_hall.specs.Pass.{PassModel}
-use Rattle.nit_actor.specs.Role.{role_of}
-use Rattle.nit_actor.proofs.IdleUserLemmas.{at_call, at_line, step_on, call_recorded, nothing_recorded}
+use Rattle.nit_actor.proofs.IdleUserLemmas.{call_recorded}
 use Rattle.nit_actor.proofs.single.do_line.Goals as goal
 
 pub returns-in-Call-clause-step : goal.returns-in-Call-clause-step

@@ -1,4 +1,4 @@
-use Rattle.nit_actor.proofs.IdleUserLemmas.{phase_ended, user_at_phase}
+use Rattle.nit_actor.proofs.Lemmas.{phase_ended, user_at_phase}
 use Rattle.nit_actor.proofs.single.end_phase.Goals as goal
 
 pub arrive_user-requires-clause-next : goal.arrive_user-requires-clause-next

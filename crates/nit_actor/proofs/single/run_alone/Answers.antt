@@ -1,5 +1,4 @@
-use Rattle.std.proofs.Common.{◌∙◌}
-use Rattle.nit_actor.proofs.IdleUserLemmas.{user_ended}
+use Rattle.nit_actor.proofs.Lemmas.{user_ended, ◌∙◌}
 use Rattle.nit_actor.proofs.single.run_alone.Goals as goal
 
 pub lines-preserved : goal.lines-preserved

@@ -1,7 +1,5 @@
-use Rattle.std.proofs.Common.{◌≡◌, ◌-◌, length}
-use Rattle.nit_journal.specs.Replay.{IsOpen}
-use Rattle.nit_actor.specs.Role.{role_of, user_role_of}
-use Rattle.nit_actor.specs.IdleUser.{StepTogether, actions_to_be}
+use Rattle.std.proofs.Common.{length, ◌-◌, ◌≡◌}
+use Rattle.nit_actor.proofs.Lemmas.{IsOpen, StepTogether, actions_to_be, role_of, user_role_of}
 use Rattle.nit_actor.proofs.single.run_alone.Given as goal
 
 abbrev pub invariant-lines : goal.invariant-lines

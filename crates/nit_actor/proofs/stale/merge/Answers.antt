@@ -1,8 +1,4 @@
-use Rattle.nit_scene.specs.RawWords.{glass_in}
-use Rattle.std.proofs.Common.{Some, refl}
-use Rattle.nit_actor.specs.Stale.{is_stale}
-use Rattle.nit_actor.proofs.StaleLemmas.{copied_first}
-use Rattle.nit_actor.proofs.Copies.{glass_there}
+use Rattle.nit_actor.proofs.Lemmas.{Some, copied_first, glass_in, glass_there, is_stale, refl}
 use Rattle.nit_actor.proofs.stale.merge.Goals as goal
 
 pub returns-clause-behind : goal.returns-clause-behind

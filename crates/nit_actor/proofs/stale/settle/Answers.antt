@@ -1,8 +1,4 @@
-use Rattle.std.proofs.Common.{◌∙◌, subst}
-use Rattle.std.proofs.lemmas.List.{get_or_default}
-use Rattle.nit_paint.specs.Repaint.{no_sight}
-use Rattle.nit_actor.specs.Stale.{AreBehind}
-use Rattle.nit_actor.proofs.StaleLemmas.{settles}
+use Rattle.nit_actor.proofs.Lemmas.{AreBehind, get_or_default, no_sight, settles, subst, ◌∙◌}
 use Rattle.nit_actor.proofs.stale.settle.Goals as goal
 
 pub returns-in-Some : goal.returns-in-Some

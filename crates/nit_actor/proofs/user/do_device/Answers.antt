@@ -1,7 +1,4 @@
-use Rattle.std.proofs.Common.{◌∙◌, take, ap}
-use Rattle.nit_hall.specs.ServedLines.{user_actions_in}
-use Rattle.nit_hall.specs.Pass.{UserPassModel, next_device}
-use Rattle.nit_actor.proofs.PictureLemmas.{quiet_device}
+use Rattle.nit_actor.proofs.Lemmas.{UserPassModel, ap, next_device, quiet_device, take, user_actions_in, ◌∙◌}
 use Rattle.nit_actor.proofs.user.do_device.Goals as goal
 
 pub returns-clause-seen : goal.returns-clause-seen

@@ -1,4 +1,4 @@
-use Rattle.nit_actor.proofs.PictureLemmas.{puts_quietly}
+use Rattle.nit_actor.proofs.Lemmas.{puts_quietly}
 use Rattle.nit_actor.proofs.user.do_user_line.Goals as goal
 
 pub returns-in-Device-clause-put : goal.returns-in-Device-clause-put

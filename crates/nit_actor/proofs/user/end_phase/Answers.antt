@@ -1,7 +1,4 @@
-use Rattle.std.proofs.Common.{◌∙◌, take, ap}
-use Rattle.nit_hall.specs.ServedLines.{user_actions_in}
-use Rattle.nit_hall.specs.Pass.{UserPassModel}
-use Rattle.nit_actor.proofs.PictureLemmas.{quiet_phase}
+use Rattle.nit_actor.proofs.Lemmas.{UserPassModel, ap, quiet_phase, take, user_actions_in, ◌∙◌}
 use Rattle.nit_actor.proofs.user.end_phase.Goals as goal
 
 pub returns-clause-seen : goal.returns-clause-seen

@@ -1,7 +1,4 @@
-use Rattle.std.proofs.Common.{◌∙◌, take, ap}
-use Rattle.nit_hall.specs.ServedLines.{user_actions_in}
-use Rattle.nit_hall.specs.Pass.{UserPassModel}
-use Rattle.nit_actor.proofs.PictureLemmas.{puts_shot}
+use Rattle.nit_actor.proofs.Lemmas.{UserPassModel, ap, puts_shot, take, user_actions_in, ◌∙◌}
 use Rattle.nit_actor.proofs.user.shoot.Goals as goal
 
 pub returns-clause-put : goal.returns-clause-put

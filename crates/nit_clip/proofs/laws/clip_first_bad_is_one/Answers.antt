@@ -1,5 +1,4 @@
-use Rattle.nit_script.proofs.ForCallers.{same_bad, bad_and_long}
-use Rattle.nit_clip.proofs.ClipLineLaws.{clip_reader}
+use Rattle.nit_clip.proofs.Lemmas.{bad_and_long, clip_reader, same_bad}
 use Rattle.nit_clip.proofs.laws.clip_first_bad_is_one.Goals as goal
 
 pub returns-clause-one : goal.returns-clause-one

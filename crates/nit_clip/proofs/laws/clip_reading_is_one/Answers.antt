@@ -1,6 +1,4 @@
-use Rattle.std.proofs.Common.{sym, ◌∙◌}
-use Rattle.nit_script.proofs.ForCallers.{same_read}
-use Rattle.nit_clip.proofs.ClipLineLaws.{clip_reader}
+use Rattle.nit_clip.proofs.Lemmas.{clip_reader, same_read, sym, ◌∙◌}
 use Rattle.nit_clip.proofs.laws.clip_reading_is_one.Goals as goal
 
 pub returns-clause-lines : goal.returns-clause-lines

@@ -1,5 +1,4 @@
-use Rattle.nit_script.proofs.ForCallers.{read_and_bad, read_and_long}
-use Rattle.nit_clip.proofs.ClipLineLaws.{clip_reader}
+use Rattle.nit_clip.proofs.Lemmas.{clip_reader, read_and_bad, read_and_long}
 use Rattle.nit_clip.proofs.laws.clip_reading_is_whole.Goals as goal
 
 pub returns-clause-not_bad : goal.returns-clause-not_bad

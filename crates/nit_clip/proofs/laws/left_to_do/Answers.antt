@@ -1,4 +1,4 @@
-use Rattle.nit_clip.proofs.WholeClipLemmas.{left_is}
+use Rattle.nit_clip.proofs.Lemmas.{left_is}
 use Rattle.nit_clip.proofs.laws.left_to_do.Goals as goal
 
 pub returns : goal.returns

@@ -1,4 +1,4 @@
-use Rattle.nit_clip.proofs.LegalClipLemmas.{last_within, legal_more}
+use Rattle.nit_clip.proofs.Lemmas.{last_within, legal_more}
 use Rattle.nit_clip.proofs.laws.one_more_clip.Goals as goal
 
 pub returns-clause-place : goal.returns-clause-place

@@ -1,4 +1,4 @@
-use Rattle.nit_clip.proofs.LegalClipLemmas.{never_focused}
+use Rattle.nit_clip.proofs.Lemmas.{never_focused}
 use Rattle.nit_clip.proofs.laws.sessions_without_focus.Goals as goal
 
 pub returns : goal.returns

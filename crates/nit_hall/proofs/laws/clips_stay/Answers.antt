@@ -1,4 +1,4 @@
-use Rattle.nit_hall.proofs.ClipsStay.{follow_on}
+use Rattle.nit_hall.proofs.Lemmas.{follow_on}
 use Rattle.nit_hall.proofs.laws.clips_stay.Goals as goal
 
 pub returns : goal.returns

@@ -1,6 +1,4 @@
-use Rattle.nit_journal.specs.Replay.{replay}
-use Rattle.nit_scene.specs.RawWords.{source_at}
-use Rattle.nit_hall.proofs.NearLemmas.{near_word}
+use Rattle.nit_hall.proofs.Lemmas.{near_word, replay, source_at}
 use Rattle.nit_hall.proofs.laws.near_words.Goals as goal
 
 pub returns : goal.returns

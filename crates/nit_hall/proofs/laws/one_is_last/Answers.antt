@@ -1,4 +1,4 @@
-use Rattle.nit_hall.proofs.LastDirty.{last_found, one_last}
+use Rattle.nit_hall.proofs.Lemmas.{last_found, one_last}
 use Rattle.nit_hall.proofs.laws.one_is_last.Goals as goal
 
 pub returns-clause-found : goal.returns-clause-found

@@ -1,8 +1,4 @@
-use Rattle.std.proofs.Common.{◌∙◌, sym}
-use Rattle.std.proofs.lemmas.List.{length-map}
-use Rattle.nit_nested.specs.FrameLines.{frame_lines}
-use Rattle.nit_nested.specs.Nest.{lines_of_frames}
-use Rattle.nit_nested.proofs.GrammarLemmas.{made_long}
+use Rattle.nit_nested.proofs.Lemmas.{frame_lines, length-map, lines_of_frames, made_long, sym, ◌∙◌}
 use Rattle.nit_nested.proofs.laws.lines_are_counted.Goals as goal
 
 pub returns : goal.returns

@@ -1,5 +1,5 @@
-use Rattle.std.proofs.Common.{◌≡◌, ◌++◌, drop}
-use Rattle.nit_nested.specs.FrameScript.{woven, frame_script}
+use Rattle.std.proofs.Common.{drop, ◌++◌, ◌≡◌}
+use Rattle.nit_nested.proofs.Lemmas.{frame_script, woven}
 use Rattle.nit_nested.proofs.weaving.frame_script.Given as goal
 
 abbrev pub invariant-loop-line : goal.invariant-loop-line

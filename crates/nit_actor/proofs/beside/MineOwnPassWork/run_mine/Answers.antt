@@ -1,4 +1,4 @@
-use Rattle.nit_actor.proofs.RoleLemmas.{roles_carried}
+use Rattle.nit_actor.proofs.Lemmas.{roles_carried}
 use Rattle.nit_actor.proofs.beside.MineOwnPassWork.run_mine.Goals as goal
 
 pub returns-clause-same : goal.returns-clause-same

@@ -1,4 +1,4 @@
-use Rattle.nit_actor.proofs.PairLists.{pairs_carried}
+use Rattle.nit_actor.proofs.Lemmas.{pairs_carried}
 use Rattle.nit_actor.proofs.clip_beside.MineOwnPairClipWork.run_mine.Goals as goal
 
 pub returns-clause-same : goal.returns-clause-same

@@ -1,8 +1,5 @@
-use Rattle.std.proofs.Common.{◌≤◌, sym, subst}
-use Rattle.nit_clip.specs.declared.call.ClipEntry.{ClipEntry}
-use Rattle.nit_clip.specs.Clipboard.{last_at}
-use Rattle.nit_clip.specs.Clip.{ClipModel}
-use Rattle.nit_clip.proofs.OneMoreClip.{kept_more}
+use Rattle.std.proofs.Common.{subst, sym, ◌≤◌}
+use Rattle.nit_clip.proofs.Lemmas.{ClipEntry, ClipModel, kept_more, last_at}
 use Rattle.nit_clip.proofs.clip.Clip.serve.Goals as goal
 
 pub invariant_of-self : goal.invariant_of-self

@@ -1,4 +1,4 @@
-use Rattle.nit_hall.proofs.ServedClips.{clip_pass_phase}
+use Rattle.nit_hall.proofs.Lemmas.{clip_pass_phase}
 use Rattle.nit_hall.proofs.clip_pass.ClipPass.turn.Goals as goal
 
 pub invariant_of-self : goal.invariant_of-self

@@ -1,11 +1,4 @@
-use Rattle.std.proofs.Common.{◌∙◌, List, sym, ap, ap₂}
-use Rattle.nit_events.specs.declared.entry.Entry.{Entry}
-use Rattle.nit_config.specs.Configuration.{Configuration}
-use Rattle.nit_journal.specs.Replay.{replay}
-use Rattle.nit_clip.specs.Clipboard.{clip_answer, clipboard_of}
-use Rattle.nit_hall.specs.OpeningParts.{OpeningParts}
-use Rattle.nit_hall.specs.ClipPass.{next_clip}
-use Rattle.nit_hall.specs.Pass.{PassModel}
+use Rattle.nit_hall.proofs.Lemmas.{Configuration, Entry, List, OpeningParts, PassModel, ap, ap₂, clip_answer, clipboard_of, next_clip, replay, sym, ◌∙◌}
 use Rattle.nit_hall.proofs.hall.Kept.clip.Goals as goal
 
 pub returns-clause-answer : goal.returns-clause-answer

@@ -1,16 +1,6 @@
-use Rattle.std.proofs.Common.{◌≡◌, ◌∙◌, ◌+◌, ◌≤◌, List, length, take, drop, refl, sym, ap, subst}
+use Rattle.std.proofs.Common.{List, ap, drop, length, refl, subst, sym, take, ◌+◌, ◌∙◌, ◌≡◌, ◌≤◌}
+use Rattle.nit_hall.proofs.Lemmas.{BookModel, CallLaws, ClipPassModel, Entry, IsLegalClips, IsRoom, JournalModel, RoomModel, ShareModel, back_raised, clip_answer, clip_counted, clip_pass_call, clipboard_of, follows_then, found_clip, front_stays, next_clip, number_is, open_whole, room_clip, room_left, served_clip, state_now, without_final}
 use mathlib.Core.List.{IsPrefix}
-use Rattle.nit_events.specs.declared.entry.Entry.{Entry}
-use Rattle.nit_journal.specs.Journal.{JournalModel}
-use Rattle.nit_ledger.specs.Book.{BookModel, ShareModel}
-use Rattle.nit_scene.specs.Scene.{state_now}
-use Rattle.nit_clip.specs.Clipboard.{clip_answer, clipboard_of}
-use Rattle.nit_clip.specs.LegalClips.{IsLegalClips}
-use Rattle.nit_hall.specs.ClipPass.{ClipPassModel, next_clip}
-use Rattle.nit_hall.specs.Room.{RoomModel, IsRoom, without_final}
-use Rattle.nit_hall.proofs.CountParts.{front_stays, back_raised}
-use Rattle.nit_hall.proofs.FinalEntries.{open_whole}
-use Rattle.nit_hall.proofs.ServedClips.{CallLaws, clip_counted, clip_pass_call, follows_then, found_clip, number_is, room_clip, room_left, served_clip}
 use Rattle.nit_hall.proofs.room.Room.clip.Goals as goal
 
 pub serve-reply-requires-clause-room : goal.serve-reply-requires-clause-room

@@ -1,8 +1,5 @@
-use Rattle.std.proofs.Common.{◌∙◌, ◌+◌, ◌<◌, length, sym, ap, arith}
-use Rattle.std.specs.Prelude.{slice_index}
-use Rattle.std.proofs.lemmas.Option.{slice_get_within}
-use Rattle.nit_hall.proofs.CountParts.{front_count}
-use Rattle.nit_hall.proofs.ServedCalls.{pass_met}
+use Rattle.std.proofs.Common.{ap, arith, length, sym, ◌+◌, ◌<◌, ◌∙◌}
+use Rattle.nit_hall.proofs.Lemmas.{front_count, pass_met, slice_get_within, slice_index}
 use Rattle.nit_hall.proofs.room.Room.meet.Goals as goal
 
 pub invariant_of-pass : goal.invariant_of-pass

@@ -1,5 +1,4 @@
-use Rattle.std.proofs.Common.{refl}
-use Rattle.nit_hall.proofs.ServedClips.{clip_counted}
+use Rattle.nit_hall.proofs.Lemmas.{clip_counted, refl}
 use Rattle.nit_hall.proofs.room.Room.meet_clip.Goals as goal
 
 pub returns-clause-counted : goal.returns-clause-counted

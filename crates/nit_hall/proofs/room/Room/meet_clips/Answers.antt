@@ -1,9 +1,5 @@
-use Rattle.std.proofs.Common.{◌≡◌, ◌∙◌, ℕ, ◌<◌, Some, length, slice_get, arith}
-use Rattle.std.proofs.lemmas.Option.{slice_get_within}
-use Rattle.nit_hall.specs.ClipPass.{ClipPassModel, knowing_clip}
-use Rattle.nit_hall.specs.Room.{without_final}
-use Rattle.nit_hall.proofs.RoomEndLemmas.{still_there, long_same}
-use Rattle.nit_hall.proofs.ServedClips.{IsKnownClip, clip_far, clip_met, clips_met_below, clips_whole}
+use Rattle.std.proofs.Common.{Some, arith, length, slice_get, ℕ, ◌<◌, ◌∙◌, ◌≡◌}
+use Rattle.nit_hall.proofs.Lemmas.{ClipPassModel, IsKnownClip, clip_far, clip_met, clips_met_below, clips_whole, knowing_clip, long_same, slice_get_within, still_there, without_final}
 use Rattle.nit_hall.proofs.room.Room.meet_clips.Goals as goal
 
 pub meet_clip-requires : goal.meet_clip-requires

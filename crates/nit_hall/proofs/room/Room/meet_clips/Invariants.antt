@@ -1,7 +1,5 @@
-use Rattle.std.proofs.Common.{◌≡◌, ℕ, ◌<◌, ◌++◌, map, take, drop, Some, slice_get}
-use Rattle.nit_hall.specs.ClipPass.{ClipPassModel, knowing_clip}
-use Rattle.nit_hall.specs.Room.{without_final}
-use Rattle.nit_hall.proofs.ServedClips.{IsKnownClip}
+use Rattle.std.proofs.Common.{Some, drop, map, slice_get, take, ℕ, ◌++◌, ◌<◌, ◌≡◌}
+use Rattle.nit_hall.proofs.Lemmas.{ClipPassModel, IsKnownClip, knowing_clip, without_final}
 use Rattle.nit_hall.proofs.room.Room.meet_clips.Given as goal
 
 abbrev pub invariant-clips : goal.invariant-clips

@@ -1,8 +1,5 @@
-use Rattle.std.proofs.Common.{◌≡◌, ◌∙◌, ℕ, ◌+◌, ◌++◌, ◌∷◌, [], List, length, replicate, ap, arith, length-append}
-use Rattle.std.proofs.lemmas.List.{get_or_default, length-replicate}
-use Rattle.nit_ledger.specs.Book.{BookModel, ShareModel}
-use Rattle.nit_hall.specs.ClipPass.{clip_script_in}
-use Rattle.nit_hall.proofs.RoomOpening.{clip_pass_more, new_clip_pass, zeros_behind}
+use Rattle.std.proofs.Common.{List, [], ap, arith, length, length-append, replicate, ℕ, ◌++◌, ◌+◌, ◌∙◌, ◌∷◌, ◌≡◌}
+use Rattle.nit_hall.proofs.Lemmas.{BookModel, ShareModel, clip_pass_more, clip_script_in, get_or_default, length-replicate, new_clip_pass, zeros_behind}
 use Rattle.nit_hall.proofs.room.clip_opening.clip_passes.Goals as goal
 
 pub scripts-preserved : goal.scripts-preserved

@@ -1,7 +1,5 @@
-use Rattle.std.proofs.Common.{◌≡◌, ◌++◌, ℕ, Some, length, slice_get}
-use Rattle.std.specs.Prelude.{replicate}
-use Rattle.nit_hall.specs.ClipPass.{ClipPassModel}
-use Rattle.nit_hall.proofs.RoomOpening.{new_clip_pass}
+use Rattle.std.proofs.Common.{Some, length, replicate, slice_get, ℕ, ◌++◌, ◌≡◌}
+use Rattle.nit_hall.proofs.Lemmas.{ClipPassModel, new_clip_pass}
 use Rattle.nit_hall.proofs.room.clip_opening.clip_passes.Given as goal
 
 abbrev pub invariant-scripts : goal.invariant-scripts

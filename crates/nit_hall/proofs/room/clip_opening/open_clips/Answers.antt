@@ -1,9 +1,5 @@
-use Rattle.std.proofs.Common.{◌≡◌, ◌∙◌, ◌+◌, [], length, refl, sym, ap, subst}
-use Rattle.nit_ledger.specs.Book.{BookModel}
-use Rattle.nit_hall.specs.ClipPass.{clip_script_in}
-use Rattle.nit_hall.specs.Room.{RoomModel, IsRoom, without_final}
-use Rattle.nit_hall.proofs.CountParts.{parts_long}
-use Rattle.nit_hall.proofs.RoomOpening.{opened_clips, room_with_clips}
+use Rattle.std.proofs.Common.{[], ap, length, refl, subst, sym, ◌+◌, ◌∙◌, ◌≡◌}
+use Rattle.nit_hall.proofs.Lemmas.{BookModel, IsRoom, RoomModel, clip_script_in, opened_clips, parts_long, room_with_clips, without_final}
 use Rattle.nit_hall.proofs.room.clip_opening.open_clips.Goals as goal
 
 pub invariant_of-room : goal.invariant_of-room

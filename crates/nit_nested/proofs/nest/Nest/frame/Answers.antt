@@ -1,8 +1,5 @@
-use Rattle.std.proofs.Common.{ap, ◌≡◌, ◌∙◌, ℕ, ◌*◌, ◌∷◌, [], ◌++◌, sym, List, length}
-use Rattle.nit_script.specs.declared.line.Line.{Line}
-use Rattle.nit_nested.specs.FrameLines.{frame_lines}
-use Rattle.nit_nested.specs.Nest.{NestModel}
-use Rattle.nit_nested.proofs.FrameWords.{kept_more, told_more}
+use Rattle.std.proofs.Common.{List, [], ap, length, sym, ℕ, ◌*◌, ◌++◌, ◌∙◌, ◌∷◌, ◌≡◌}
+use Rattle.nit_nested.proofs.Lemmas.{Line, NestModel, frame_lines, kept_more, told_more}
 use Rattle.nit_nested.proofs.nest.Nest.frame.Goals as goal
 
 pub invariant_of-self-2 : goal.invariant_of-self-2
