@@ -1,9 +1,6 @@
 -- Names that are asked for, one after the other.
 use Rattle.std.proofs.Common.{◌≡◌, ℕ, List, [], ◌∷◌, ◌++◌, Option, Some, None, refl, sym, ap, append_assoc}
-use Rattle.std.proofs.lemmas.List.{append-nil}
-use Rattle.nit_store.specs.Store.{StoreModel, with_asked}
-use Rattle.nit_top.specs.Course.{asked_also}
-use Rattle.nit_top.specs.Work.{asking_all}
+use Rattle.nit_top.proofs.Basics.{StoreModel, append-nil, asked_also, asking_all, with_asked}
 
 pub also_none : (o : Option (List (List ℕ))) → o ≡ asked_also o []
 also_none None = refl

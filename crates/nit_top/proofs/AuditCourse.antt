@@ -1,12 +1,6 @@
 -- What follows of a run that was begun, and that an audit begins none and puts nothing.
 use Rattle.std.proofs.Common.{◌≡◌, List, [], ◌∷◌, ◌++◌, Option, Some, None, refl, ap, subst, ◌∙◌, inl, inr, ◌⊎◌}
-use Rattle.nit_events.specs.declared.entry.Entry.{Entry}
-use Rattle.nit_store.specs.Store.{StoreModel, File}
-use Rattle.nit_top.specs.Command.{Command, Still, Run, Gen, Audit, Capture, NoCommand}
-use Rattle.nit_top.specs.FilesRead.{IsSetupOf}
-use Rattle.nit_top.specs.Setup.{Setup}
-use Rattle.nit_top.specs.Course.{IsCommandRun, Course, Begun, NotBegun, WithRun, WithoutRun, PutFiles, made_by}
-use Rattle.nit_top.specs.Audited.{IsAudit, AuditOr}
+use Rattle.nit_top.proofs.Basics.{Audit, AuditOr, Begun, Capture, Clip, Command, Course, Entry, File, Gen, IsAudit, IsCommandRun, IsSetupOf, Nested, NoCommand, NotBegun, PutFiles, Run, Setup, Still, StoreModel, WithRun, WithoutRun, made_by}
 
 -- ---- the run
 
@@ -31,7 +25,9 @@ audit_makes_none (Audit configuration journal) is = refl
 audit_makes_none (Still width height script) is = absurd is
 audit_makes_none (Run beside configuration) is = absurd is
 audit_makes_none (Gen number) is = absurd is
+audit_makes_none (Clip configuration) is = absurd is
 audit_makes_none (Capture configuration region) is = absurd is
+audit_makes_none (Nested outer inner) is = absurd is
 audit_makes_none NoCommand is = absurd is
 
 runs_none : (c : Command) (s : Setup) → IsAudit c → IsSetupOf c s → ⊥
@@ -39,7 +35,9 @@ runs_none (Audit configuration journal) s is of = of
 runs_none (Still width height script) s is of = is
 runs_none (Run beside configuration) s is of = is
 runs_none (Gen number) s is of = is
+runs_none (Clip configuration) s is of = is
 runs_none (Capture configuration region) s is of = is
+runs_none (Nested outer inner) s is of = is
 runs_none NoCommand s is of = is
 
 pub not_run : {old : StoreModel} {c : Command} {journal : List Entry} → IsCommandRun old c journal → IsAudit c → ⊥
@@ -71,7 +69,11 @@ by_command (Run beside configuration) (inl a) = absurd a.1
 by_command (Run beside configuration) (inr r) = r.0
 by_command (Gen number) (inl a) = absurd a.1
 by_command (Gen number) (inr r) = r.0
+by_command (Clip configuration) (inl a) = absurd a.1
+by_command (Clip configuration) (inr r) = r.0
 by_command (Capture configuration region) (inl a) = absurd a.1
 by_command (Capture configuration region) (inr r) = r.0
+by_command (Nested outer inner) (inl a) = absurd a.1
+by_command (Nested outer inner) (inr r) = r.0
 by_command NoCommand (inl a) = absurd a.1
 by_command NoCommand (inr r) = r.0

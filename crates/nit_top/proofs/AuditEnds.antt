@@ -1,23 +1,10 @@
 -- How an audit comes to its end: as a run of its configuration does before it is begun, or at the journal.
 use Rattle.std.proofs.Common.{◌≡◌, ℕ, false, List, [], Option, Some, None, refl, sym, ap, subst, ◌∙◌, inl, inr}
-use Rattle.std.specs.Prelude.{IfSome}
-use Rattle.nit_events.specs.declared.entry.Entry.{Entry}
-use Rattle.nit_store.specs.Store.{StoreModel, File, bytes_of, with_asked}
+use Rattle.nit_top.proofs.Basics.{AllFiles, AllScripts, AreAllFiles, AreAllScripts, AreSetup, Audit, BothFiles, Command, Entry, Fault, File, FilesRead, FirstFiles, HasRead, IfSome, InnerFiles, IsAuditEnd, IsJournalFault, IsJournalText, IsNoJournalText, IsValid, Judged, NoFile, NotBegun, OuterFiles, Refused, Run, Setup, Stop, StoppedAt, StoreModel, Worked, asking_all, bytes_of, name_text, names_read, next_name, reads, with_asked}
 use Rattle.nit_top.specs.declared.finish.End.{End}
 use Rattle.nit_top.specs.declared.finish.End.TheVariants as ends
-use Rattle.nit_top.specs.declared.finish.Fault.{Fault}
 use Rattle.nit_top.specs.declared.finish.Fault.TheVariants as fault
-use Rattle.nit_top.specs.declared.finish.Stop.{Stop}
-use Rattle.nit_top.specs.declared.finish.Worked.{Worked}
-use Rattle.nit_top.specs.Command.{Command, Audit, Run}
-use Rattle.nit_top.specs.Setup.{Setup}
-use Rattle.nit_top.specs.JournalFiles.{IsJournalText, IsNoJournalText, IsJournalFault}
-use Rattle.nit_top.specs.Judgement.{AreSetup, IsValid, Judged, Refused, reads}
-use Rattle.nit_top.specs.FilesRead.{FilesRead, NoFile, FirstFiles, AllScripts, AllFiles, HasRead, AreAllFiles, AreAllScripts, names_read, next_name}
-use Rattle.nit_top.specs.ProgramLines.{name_text}
-use Rattle.nit_top.specs.Course.{NotBegun}
-use Rattle.nit_top.specs.Audited.{IsAuditEnd}
-use Rattle.nit_top.specs.Work.{Ends, StoppedAt, asking_all}
+use Rattle.nit_top.specs.Work.{Ends}
 use Rattle.nit_top.proofs.AskedNames.{asking_more}
 use Rattle.nit_top.proofs.Scripts.{told_so, told_so_both}
 use Rattle.nit_top.proofs.BeforeRun.{ReadsAs, ends_as}
@@ -38,6 +25,9 @@ module _ (name journal : List ℕ) where
   as_read (FirstFiles config scripts) = FirstFiles config scripts
   as_read (AllScripts s) = AllScripts s
   as_read (AllFiles s) = AllScripts s
+  as_read (OuterFiles o) = OuterFiles o
+  as_read (InnerFiles o config scripts) = InnerFiles o config scripts
+  as_read (BothFiles o i) = BothFiles o i
 
   pub scripts_too : (told : Option (List File)) (s : Setup) → AreAllFiles run told s → AreAllScripts name told s
   scripts_too told s a = record { runnable = a.runnable; valid = told_so (λ files. IsValid run files s) (λ files. AreSetup name files s) told (λ files v. (v.0, v.1)) a.valid }
@@ -47,12 +37,18 @@ module _ (name journal : List ℕ) where
   read_too told (FirstFiles config scripts) h = h
   read_too told (AllScripts s) h = absurd h
   read_too told (AllFiles s) h = scripts_too told s h
+  read_too told (OuterFiles o) h = absurd h
+  read_too told (InnerFiles o config scripts) h = absurd h
+  read_too told (BothFiles o i) h = absurd h
 
   names_too : (told : Option (List File)) (r : FilesRead) → HasRead run told r → names_read run r ≡ names_read audit (as_read r)
   names_too told NoFile h = refl
   names_too told (FirstFiles config scripts) h = refl
   names_too told (AllScripts s) h = absurd h
   names_too told (AllFiles s) h = refl
+  names_too told (OuterFiles o) h = absurd h
+  names_too told (InnerFiles o config scripts) h = absurd h
+  names_too told (BothFiles o i) h = absurd h
 
   none_some : (n : List ℕ) → None ≡ Some n → ⊥
   none_some n e = cc
@@ -62,6 +58,9 @@ module _ (name journal : List ℕ) where
   next_too (FirstFiles config scripts) n e = e
   next_too (AllScripts s) n e = absurd (none_some n e)
   next_too (AllFiles s) n e = absurd (none_some n e)
+  next_too (OuterFiles o) n e = absurd (none_some n e)
+  next_too (InnerFiles o config scripts) n e = e
+  next_too (BothFiles o i) n e = absurd (none_some n e)
 
   -- ---- before the journal
 
@@ -91,8 +90,9 @@ module _ (name journal : List ℕ) where
   text_fault s bytes (fault.BadLine n) r = absurd r
   text_fault s bytes fault.TooLong r = absurd r
   text_fault s bytes fault.PhasesDiffer r = absurd r
+  text_fault s bytes fault.FramesTooLong r = absurd r
 
-  module _ (old mid : StoreModel) (s : Setup) (asked : mid ≡ asking_all old (reads run s.config)) (all : AreAllFiles run old.files s) where
+  module _ (old mid : StoreModel) (s : Setup) (asked : mid ≡ asking_all old (reads run s)) (all : AreAllFiles run old.files s) where
     -- the journal has a fault, or was not read
     fault_ends : (Faulty : List ℕ → Fault → Type 0) → ((bytes : List ℕ) (f : Fault) → Faulty bytes f → IsJournalFault s bytes f) → (new : StoreModel) (stop : Stop) (w : Worked)
         → name_text stop.name ≡ journal → StoppedAt Faulty mid journal new stop.end → w.stop ≡ stop → w.journal.items ≡ [] → Ends audit old new w
@@ -111,8 +111,8 @@ module _ (name journal : List ℕ) where
       text_here : IfSome old.files (λ files. IsJournalText (bytes_of journal files) entries)
       text_here = subst (λ (t : StoreModel). IfSome t.files (λ files. IsJournalText (bytes_of journal files) entries)) asked text
 
-      all_asked : new ≡ asking_all old (reads audit s.config)
-      all_asked = read ∙ ap (λ (t : StoreModel). with_asked t journal) asked ∙ asking_more old (reads run s.config) journal
+      all_asked : new ≡ asking_all old (reads audit s)
+      all_asked = read ∙ ap (λ (t : StoreModel). with_asked t journal) asked ∙ asking_more old (reads run s) journal
 
       -- what an end of the audit is of its journal's file
       abbrev IsFound : List ℕ → Fault → Type 0
@@ -127,6 +127,7 @@ module _ (name journal : List ℕ) where
       found_fault bytes (fault.BadLine n) p = absurd p.1
       found_fault bytes fault.TooLong p = absurd p.1
       found_fault bytes fault.PhasesDiffer p = absurd p.1
+      found_fault bytes fault.FramesTooLong p = absurd p.1
 
       yes_ends : (count : ℕ) (stop : Stop) (w : Worked) → IsAuditEnd s entries (ends.Audited count) → w.stop.end ≡ ends.Audited count → w.journal.items ≡ [] → Ends audit old new w
       yes_ends count stop w found end none =
@@ -163,6 +164,7 @@ module _ (name journal : List ℕ) where
       stopped_found ends.WriteFault found other = absurd found
       stopped_found ends.Outside found other = absurd found
       stopped_found ends.Whole found other = absurd found
+      stopped_found (ends.Unfit f) found other = absurd found
 
       pub found_ends : (stop : Stop) (w : Worked) → name_text stop.name ≡ journal → IsAuditEnd s entries stop.end → w.stop ≡ stop → w.journal.items ≡ [] → Ends audit old new w
       found_ends stop w is found at none = by_end stop.end refl
@@ -182,3 +184,4 @@ module _ (name journal : List ℕ) where
           by_end ends.WriteFault is_e = other_end ends.WriteFault is_e (λ k x. absurd cc)
           by_end ends.Outside is_e = other_end ends.Outside is_e (λ k x. absurd cc)
           by_end ends.Whole is_e = other_end ends.Whole is_e (λ k x. absurd cc)
+          by_end (ends.Unfit f) is_e = other_end (ends.Unfit f) is_e (λ k x. absurd cc)

@@ -1,20 +1,10 @@
 -- A command that reads files as a run does comes to its end before a run as that run does.
 use Rattle.std.proofs.Common.{◌≡◌, ℕ, Bool, List, [], ◌∷◌, ◌++◌, Option, Some, sym, ap, ◌∙◌, inl, inr}
-use Rattle.nit_events.specs.declared.entry.Entry.{Entry}
+use Rattle.nit_top.proofs.Basics.{Begun, Came, Command, Course, Entry, Fault, File, FilesRead, HasRead, IsJournal, IsLastRead, IsMadeBefore, IsMadeInPart, IsMadeUpTo, IsNotBegun, Judged, NoCommand, NotBegun, Refused, Run, Setup, StoreModel, Worked, asked_also, line_on, made_by, names_read, next_name}
 use Rattle.nit_events.specs.declared.entry.Entry.TheVariants as entry
-use Rattle.nit_store.specs.Store.{StoreModel, File}
 use Rattle.nit_top.specs.declared.finish.End.{End}
 use Rattle.nit_top.specs.declared.finish.End.TheVariants as ends
-use Rattle.nit_top.specs.declared.finish.Fault.{Fault}
-use Rattle.nit_top.specs.declared.finish.Worked.{Worked}
-use Rattle.nit_top.specs.Command.{Command, NoCommand, Run}
-use Rattle.nit_top.specs.Setup.{Setup}
-use Rattle.nit_top.specs.Judgement.{Judged, Refused}
-use Rattle.nit_top.specs.FilesRead.{FilesRead, HasRead, names_read, next_name}
-use Rattle.nit_top.specs.Course.{asked_also, Course, Begun, NotBegun, IsNotBegun, IsLastRead, IsMadeBefore, IsMadeInPart, IsMadeUpTo, made_by}
-use Rattle.nit_top.specs.Answer.{Came}
-use Rattle.nit_top.specs.Outputs.{IsJournal}
-use Rattle.nit_top.specs.Work.{Ends, line_on}
+use Rattle.nit_top.specs.Work.{Ends}
 use Rattle.nit_top.proofs.Scripts.{told_so}
 
 -- a run has entries
@@ -88,6 +78,7 @@ module _ (beside : Bool) (name : List ℕ) (c : Command) (too : ReadsAs (Run bes
     came_too ends.Usage line h = absurd (no_command h.0)
     came_too ends.ReadFault line (n, l, is) = (n, last_too n l, is)
     came_too (ends.Refused f) line (n, l, judged, is) = (n, last_too n l, told_so (λ told. Judged run told (Refused n f)) (λ told. Judged c told (Refused n f)) old.files (λ told p. too.refused told n f p) judged, is)
+    came_too (ends.Unfit f) line (n, b, judged, is) = absurd b.valid
     came_too ends.WriteFault line (n, inl m, is) = (n, inl (before_too n m), is)
     came_too ends.WriteFault line (n, inr r, is) = absurd r
     came_too ends.NoMemory line (inl b, is) = (inl (not_begun_too b), is)

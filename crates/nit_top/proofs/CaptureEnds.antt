@@ -1,16 +1,8 @@
 -- How the work of a capture comes to its end: as that of a run does before it is begun, and with the film behind
 -- the files of one that was.
 use Rattle.std.proofs.Common.{◌≡◌, ℕ, true, false, List, [], ◌∷◌, ◌++◌, Option, refl, ◌∙◌, inl, inr}
-use Rattle.nit_store.specs.Store.{StoreModel, File}
-use Rattle.nit_top.specs.declared.finish.Worked.{Worked}
-use Rattle.nit_top.specs.declared.region.Region.{Region}
-use Rattle.nit_top.specs.Command.{Command, Capture, Run}
-use Rattle.nit_top.specs.Setup.{Setup}
-use Rattle.nit_top.specs.Judgement.{reads}
-use Rattle.nit_top.specs.FilesRead.{FilesRead, NoFile, FirstFiles, AllScripts, AllFiles, HasRead, AreAllFiles, names_read, next_name}
-use Rattle.nit_top.specs.RunFilm.{film_name, film_of, is_outside_of, pictures_in}
-use Rattle.nit_top.specs.CaptureRun.{PerformedFilmed}
-use Rattle.nit_top.specs.Work.{Ends, asking_all}
+use Rattle.nit_top.proofs.Basics.{AllFiles, AllScripts, AreAllFiles, BothFiles, Capture, Command, File, FilesRead, FirstFiles, HasRead, InnerFiles, NoFile, OuterFiles, PerformedFilmed, Region, Run, Setup, StoreModel, Worked, asking_all, film_name, film_of, is_outside_of, names_read, next_name, pictures_in, reads}
+use Rattle.nit_top.specs.Work.{Ends}
 use Rattle.nit_top.proofs.BeforeRun.{ReadsAs, ends_as}
 use Rattle.nit_top.proofs.WorkLemmas.{run_ends, unbegun_ends}
 
@@ -31,18 +23,27 @@ module _ (name : List ℕ) (region : Region) where
   read_too told (FirstFiles config scripts) h = h
   read_too told (AllScripts s) h = h
   read_too told (AllFiles s) h = all_too told s h
+  read_too told (OuterFiles o) h = h
+  read_too told (InnerFiles o config scripts) h = h
+  read_too told (BothFiles o i) h = h
 
   names_too : (r : FilesRead) → names_read run r ≡ names_read film r
   names_too NoFile = refl
   names_too (FirstFiles config scripts) = refl
   names_too (AllScripts s) = refl
   names_too (AllFiles s) = refl
+  names_too (OuterFiles o) = refl
+  names_too (InnerFiles o config scripts) = refl
+  names_too (BothFiles o i) = refl
 
   next_too : (r : FilesRead) → next_name film r ≡ next_name run r
   next_too NoFile = refl
   next_too (FirstFiles config scripts) = refl
   next_too (AllScripts s) = refl
   next_too (AllFiles s) = refl
+  next_too (OuterFiles o) = refl
+  next_too (InnerFiles o config scripts) = refl
+  next_too (BothFiles o i) = refl
 
   reads_as : ReadsAs run film
   reads_as = record {
@@ -60,7 +61,7 @@ module _ (name : List ℕ) (region : Region) where
 
   -- ---- a run
 
-  pub film_ends : (old mid new : StoreModel) (s : Setup) (w : Worked) → mid ≡ asking_all old (reads run s.config) → AreAllFiles run old.files s → is_outside_of film s.config ≡ false → PerformedFilmed region mid s new w → Ends film old new w
+  pub film_ends : (old mid new : StoreModel) (s : Setup) (w : Worked) → mid ≡ asking_all old (reads run s) → AreAllFiles run old.files s → is_outside_of film s.config ≡ false → PerformedFilmed region mid s new w → Ends film old new w
   film_ends old mid new s w asked files_are inside (inl after) =
       let r = after.has_run in
       run_ends film old mid new s w asked (all_too old.files s files_are) (record {
@@ -69,6 +70,8 @@ module _ (name : List ℕ) (region : Region) where
         are = r.are;
         headline = after.headline;
         inside = inside;
+        added = (film_name, film_of region s.config (pictures_in r.are)) ∷ [];
+        added_are = refl;
         puts = r.outputs ++ (film_name, film_of region s.config (pictures_in r.are)) ∷ [];
         puts_are = refl;
         fault = after.ran.fault;

@@ -1,29 +1,22 @@
 -- How the work came to its end is why.
 use Rattle.std.proofs.Common.{◌≡◌, ℕ, Bool, true, false, List, [], ◌∷◌, ◌++◌, Option, Some, None, refl, sym, ap, subst, ◌∙◌, arith, inl, inr, ◌⊎◌}
-use Rattle.std.specs.Prelude.{IfSome, IsSomeAnd}
-use Rattle.nit_events.specs.declared.entry.Entry.{Entry}
-use Rattle.nit_store.specs.Store.{StoreModel, File}
+use Rattle.nit_top.proofs.Basics.{AllFiles, AllScripts, AreAllFiles, AreAudited, AreSetup, Audit, BothFiles, Came, Capture, Clip, Command, Course, Entry, Fault, File, FilesRead, FirstFiles, Gen, HasRead, HasValidFiles, IfSome, InnerFiles, IsAudit, IsAudited, IsBothRead, IsCommandRun, IsCutShort, IsEarly, IsLastRead, IsMadeBefore, IsMadeInPart, IsNotBegun, IsOutside, IsPutWhole, IsRefusedAt, IsRefusedWith, IsSetupOf, IsSomeAnd, IsValid, IsValidSo, Judged, Nested, NoCommand, NoFile, OuterFiles, Refused, Run, RunFiles, Still, StoreModel, WithRun, asked_also, audited_line, code_of, is_outside_of, made_by, names_read, next_name, reads, summary_line, totals}
 use Rattle.nit_top.specs.declared.finish.End.{End}
 use Rattle.nit_top.specs.declared.finish.End.TheVariants as ends
-use Rattle.nit_top.specs.declared.finish.Fault.{Fault}
-use Rattle.nit_top.specs.Command.{Command, Still, Run, Gen, Audit, Capture, NoCommand}
-use Rattle.nit_top.specs.Judgement.{AreSetup, Judged, Refused, IsRefusedWith, IsValid, reads}
-use Rattle.nit_top.specs.RunFilm.{is_outside_of}
-use Rattle.nit_top.specs.FilesRead.{names_read, FilesRead, NoFile, FirstFiles, AllScripts, AllFiles, HasRead, AreAllFiles, IsSetupOf, next_name}
-use Rattle.nit_top.specs.ProgramLines.{audited_line, summary_line}
-use Rattle.nit_top.specs.Course.{IsCommandRun, Course, WithRun, asked_also, IsNotBegun, IsOutside, IsLastRead, made_by, IsMadeBefore, IsMadeInPart, IsPutWhole, IsRefusedAt, IsCutShort, totals}
-use Rattle.nit_top.specs.Audited.{IsAudit, AreAudited, IsAudited}
-use Rattle.nit_top.specs.Answer.{Came, code_of, HasValidFiles, IsValidSo, IsEarly}
 use Rattle.nit_top.proofs.Scripts.{told_so}
 use Rattle.nit_top.proofs.JudgementLemmas.{told_valid, told_refused, told_codes, told_side, told_outside, no_refusal, no_setup}
 use Rattle.nit_top.proofs.EndCodes.{is_fault_code, not_fault, not_early_0, not_early_4, not_early_7}
 use Rattle.nit_top.proofs.AuditCourse.{with_run, with_run_not, audit_makes_none, not_run, empty_course, front_none, front_same}
+use Rattle.nit_hall.proofs.ForCallers.{not_both}
 
 -- ---- what came, by its code
 
 module _ (c : Command) (old : StoreModel) (files : Option (List File)) (asked : Option (List (List ℕ))) (journal : List Entry) (course : Course old c journal) where
   not_begun : (name : List ℕ) → IsLastRead course files asked name → IsNotBegun course files asked
   not_begun name l = record { none = l.none; same = l.same; read = l.read; valid = l.valid; asks = inr (name, l.next, l.asks) }
+
+  both_begun : IsBothRead course files asked → IsNotBegun course files asked
+  both_begun b = record { none = b.none; same = b.same; read = BothFiles b.o b.i; valid = b.valid; asks = inl b.asks }
 
   outside_begun : IsOutside course files asked → IsNotBegun course files asked
   outside_begun o = record { none = o.none; same = o.same; read = AllFiles o.setup; valid = o.valid; asks = inl o.asks }
@@ -32,22 +25,26 @@ module _ (c : Command) (old : StoreModel) (files : Option (List File)) (asked : 
   audit_begun : (count : ℕ) → IsAudited course files asked count → IsNotBegun course files asked
   audit_begun count a = let far = at c a.audit a.told a.asks in record { none = a.none; same = a.same; read = AllScripts a.setup; valid = far.0; asks = inr (far.1.0, far.1.1, far.1.2) }
     where
-      at : (k : Command) → IsAudit k → IfSome old.files (λ all. AreAudited k all a.setup a.entries) → asked ≡ asked_also old.asked (reads k a.setup.config)
+      at : (k : Command) → IsAudit k → IfSome old.files (λ all. AreAudited k all a.setup a.entries) → asked ≡ asked_also old.asked (reads k a.setup)
           → HasRead k old.files (AllScripts a.setup) × ((name : List ℕ) × (next_name k (AllScripts a.setup) ≡ Some name) × (asked ≡ asked_also old.asked (names_read k (AllScripts a.setup) ++ name ∷ [])))
       at (Audit configuration journal) is told asks = (record { runnable = a.runnable; valid = told_so (λ all. AreAudited (Audit configuration journal) all a.setup a.entries) (λ all. AreSetup configuration all a.setup) old.files (λ all p. p.0) told }, (journal, refl, asks))
       at (Still width height script) is told asks = absurd is
       at (Run beside configuration) is told asks = absurd is
       at (Gen number) is told asks = absurd is
+      at (Clip configuration) is told asks = absurd is
       at (Capture configuration region) is told asks = absurd is
+      at (Nested outer inner) is told asks = absurd is
       at NoCommand is told asks = absurd is
 
   pub usage_at : (e : End) (line : List ℕ) → Came course files asked e line → code_of e ≡ 2 → c ≡ NoCommand
   usage_at ends.Usage line h n = h.0
   usage_at (ends.Refused f) line h n = absurd (not_fault f 2 n refl)
+  usage_at (ends.Unfit f) line h n = absurd (not_fault f 2 n refl)
   usage_at e line h n = absurd (omega arith)
 
   pub refused_at : (n : ℕ) (e : End) (line : List ℕ) → Came course files asked e line → code_of e ≡ n → is_fault_code n ≡ true → IfSome old.files (λ told. IsRefusedWith n c told)
   refused_at n (ends.Refused f) line h is some = told_so (λ told. Judged c told (Refused h.0 f)) (λ told. IsRefusedWith n c told) old.files (λ told p. (h.0, f, p, is)) h.2
+  refused_at n (ends.Unfit f) line h is some = told_so (λ told. Judged c told (Refused h.0 f)) (λ told. IsRefusedWith n c told) old.files (λ told p. (h.0, f, p, is)) h.2
   refused_at n e line h is some = absurd (let other = subst (λ (k : ℕ). is_fault_code k ≡ true) (sym is) some in cc)
 
   -- all was done: a run put all that it puts, or an audit said yes
@@ -58,18 +55,21 @@ module _ (c : Command) (old : StoreModel) (files : Option (List File)) (asked : 
   whole_at ends.Whole line h n = inr h
   whole_at (ends.Audited count) line h n = inl (count, h.0, h.1)
   whole_at (ends.Refused f) line h n = absurd (not_fault f 0 n refl)
+  whole_at (ends.Unfit f) line h n = absurd (not_fault f 0 n refl)
   whole_at e line h n = absurd (omega arith)
 
   pub before_at : (e : End) (line : List ℕ) → Came course files asked e line → code_of e ≡ 4
       → (name : List ℕ) × (IsMadeBefore course files asked name ⊎ WithRun course (λ run. IsRefusedAt run files asked name))
   before_at ends.WriteFault line h n = (h.0, h.1)
   before_at (ends.Refused f) line h n = absurd (not_fault f 4 n refl)
+  before_at (ends.Unfit f) line h n = absurd (not_fault f 4 n refl)
   before_at e line h n = absurd (omega arith)
 
   pub early_at : (e : End) (line : List ℕ) → Came course files asked e line → IsEarly (code_of e) → IsNotBegun course files asked
   early_at ends.Usage line h early = h.1
   early_at ends.ReadFault line h early = not_begun h.0 h.1
   early_at (ends.Refused f) line h early = not_begun h.0 h.1
+  early_at (ends.Unfit f) line h early = both_begun h.1
   early_at ends.WriteFault line h early = absurd (not_early_4 early)
   early_at ends.NoMemory line h early = absurd (not_early_7 early)
   early_at ends.Outside line h early = outside_begun h.0
@@ -82,6 +82,7 @@ module _ (c : Command) (old : StoreModel) (files : Option (List File)) (asked : 
   so_far ends.Usage line h = inl h.1
   so_far ends.ReadFault line h = inl (not_begun h.0 h.1)
   so_far (ends.Refused f) line h = inl (not_begun h.0 h.1)
+  so_far (ends.Unfit f) line h = inl (both_begun h.1)
   so_far ends.WriteFault line h = elim h.1 [
     | inl made ↦ inr (inl (inl (h.0, made)))
     | inr x ↦ inr (inr (with_run course (λ run. IsRefusedAt run files asked h.0) (λ run. IsPutWhole run files asked ⊎ IsCutShort run files asked) (λ run r. inr (h.0, inl r)) x))
@@ -103,11 +104,17 @@ module _ (c : Command) (old : StoreModel) (files : Option (List File)) (asked : 
   none_next (FirstFiles config scripts) name h e = h
   none_next (AllScripts s) name h e = h
   none_next (AllFiles s) name h e = cc
+  none_next (OuterFiles o) name h e = h
+  none_next (InnerFiles o config scripts) name h e = h
+  none_next (BothFiles o i) name h e = h
 
   nothing_read : (name : List ℕ) → c ≡ NoCommand → IsLastRead course files asked name → ⊥
   nothing_read name is l =
       let both : HasRead NoCommand old.files l.read × (next_name NoCommand l.read ≡ Some name) = subst (λ (k : Command). HasRead k old.files l.read × (next_name k l.read ≡ Some name)) is (l.valid, l.next) in
       none_next l.read name both.0 both.1
+
+  nothing_both : c ≡ NoCommand → IsBothRead course files asked → ⊥
+  nothing_both is b = subst (λ (k : Command). HasRead k old.files (BothFiles b.o b.i)) is b.valid
 
   nothing_run : (r : IsCommandRun old c journal) → c ≡ NoCommand → ⊥
   nothing_run r is = subst (λ (k : Command). IsSetupOf k r.setup) is r.files_are.of_command
@@ -130,6 +137,7 @@ module _ (c : Command) (old : StoreModel) (files : Option (List File)) (asked : 
   no_command ends.Usage line is h = inl refl
   no_command ends.ReadFault line is h = absurd (nothing_read h.0 is h.1)
   no_command (ends.Refused f) line is h = absurd (nothing_read h.0 is h.1)
+  no_command (ends.Unfit f) line is h = absurd (nothing_both is h.1)
   no_command ends.WriteFault line is h = absurd (elim h.1 [ inl m ↦ made_no_command h.0 is m | inr x ↦ no_run _ is x ])
   no_command ends.NoMemory line is h = inr refl
   no_command ends.Outside line is h = absurd (subst (λ (k : Command). IsSetupOf k h.0.setup) is h.0.valid.of_command)
@@ -151,7 +159,9 @@ module _ (c : Command) (old : StoreModel) (files : Option (List File)) (asked : 
       no_generated None n number r = r
       no_generated (Some all) n number r = r.2
   made_not_refused (Audit configuration journal) n r = refl
+  made_not_refused (Clip configuration) n r = refl
   made_not_refused (Capture configuration region) n r = refl
+  made_not_refused (Nested outer inner) n r = refl
   made_not_refused NoCommand n r = refl
 
   -- the files of an audit that said yes are valid
@@ -163,13 +173,16 @@ module _ (c : Command) (old : StoreModel) (files : Option (List File)) (asked : 
       at (Still width height script) all p = absurd p
       at (Run beside configuration) all p = absurd p
       at (Gen number) all p = absurd p
+      at (Clip configuration) all p = absurd p
       at (Capture configuration region) all p = absurd p
+      at (Nested outer inner) all p = absurd p
       at NoCommand all p = absurd p
 
   pub is_refused_at : (n : ℕ) (e : End) (line : List ℕ) → Came course files asked e line → IsSomeAnd old.files (λ told. IsRefusedWith n c told) → (code_of e ≡ 3) ⊎ ((code_of e ≡ n) ⊎ (code_of e ≡ 7))
   is_refused_at n ends.Usage line h r = absurd (no_refusal old.files n (subst (λ (k : Command). IsSomeAnd old.files (λ told. IsRefusedWith n k told)) h.0 r))
   is_refused_at n ends.ReadFault line h r = inl refl
   is_refused_at n (ends.Refused f) line h r = inr (inl (told_codes c old.files h.0 f n h.2 r))
+  is_refused_at n (ends.Unfit f) line h r = inr (inl (told_codes c old.files h.0 f n h.2 r))
   is_refused_at n ends.WriteFault line h r = absurd (elim h.1 [ inl m ↦ made_none h.0 (made_not_refused c n r) m | inr x ↦ no_valid_run n _ x r ])
   is_refused_at n ends.NoMemory line h r = inr (inr refl)
   is_refused_at n ends.Outside line h r = absurd (told_valid c old.files h.0.setup n h.0.valid.valid r)
@@ -182,6 +195,9 @@ module _ (c : Command) (old : StoreModel) (files : Option (List File)) (asked : 
   none_generated number (FirstFiles config scripts) name h e = h
   none_generated number (AllScripts s) name h e = h
   none_generated number (AllFiles s) name h e = cc
+  none_generated number (OuterFiles o) name h e = h
+  none_generated number (InnerFiles o config scripts) name h e = h
+  none_generated number (BothFiles o i) name h e = h
 
   generated_not_read : (number : ℕ) (name : List ℕ) → c ≡ Gen number → IsLastRead course files asked name → ⊥
   generated_not_read number name is l =
@@ -194,23 +210,34 @@ module _ (c : Command) (old : StoreModel) (files : Option (List File)) (asked : 
   valid_kept (Run beside configuration) is name f v r l = told_refused (Run beside configuration) old.files name f r false v
   valid_kept (Gen number) is name f v r l = generated_not_read number name is l
   valid_kept (Audit configuration journal) is name f v r l = told_refused (Audit configuration journal) old.files name f r false v
+  valid_kept (Clip configuration) is name f v r l = told_refused (Clip configuration) old.files name f r false v
   valid_kept (Capture configuration region) is name f v r l = told_refused (Capture configuration region) old.files name f r false v
+  valid_kept (Nested outer inner) is name f v r l = told_refused (Nested outer inner) old.files name f r false v
   valid_kept NoCommand is name f v r l = told_refused NoCommand old.files name f r false v
+
+  -- nor are those of two configurations
+  both_kept : (k : Command) (name : List ℕ) (f : Fault) → HasValidFiles k old.files → IfSome old.files (λ told. Judged k told (Refused name f)) → (o i : RunFiles) → HasRead k old.files (BothFiles o i) → ⊥
+  both_kept (Still width height script) name f v r o i h = h
+  both_kept (Run beside configuration) name f v r o i h = h
+  both_kept (Gen number) name f v r o i h = h
+  both_kept (Audit configuration journal) name f v r o i h = h
+  both_kept (Clip configuration) name f v r o i h = h
+  both_kept (Capture configuration region) name f v r o i h = h
+  both_kept (Nested outer inner) name f v r o i h = told_refused (Nested outer inner) old.files name f r false v
+  both_kept NoCommand name f v r o i h = h
 
   -- where all is valid, and the region lies on the screen, it does not lie outside
   outside_not : (k : Command) → c ≡ k → HasValidFiles k old.files → IsOutside course files asked → ⊥
   outside_not k is v o = at k v (subst (λ (k : Command). AreAllFiles k old.files o.setup) is o.valid) (sym (ap (λ (k : Command). is_outside_of k o.setup.config) is) ∙ o.outside)
     where
-      not_both : (b : Bool) → b ≡ true → b ≡ false → ⊥
-      not_both true x y = cc
-      not_both false x y = cc
-
       at : (k : Command) → HasValidFiles k old.files → AreAllFiles k old.files o.setup → is_outside_of k o.setup.config ≡ true → ⊥
       at (Still width height script) v all out = not_both (is_outside_of (Still width height script) o.setup.config) out refl
       at (Run beside configuration) v all out = not_both (is_outside_of (Run beside configuration) o.setup.config) out refl
       at (Gen number) v all out = not_both (is_outside_of (Gen number) o.setup.config) out refl
       at (Audit configuration journal) v all out = absurd all.of_command
+      at (Clip configuration) v all out = not_both (is_outside_of (Clip configuration) o.setup.config) out refl
       at (Capture configuration region) v all out = not_both (is_outside_of (Capture configuration region) o.setup.config) out (told_side (Capture configuration region) old.files o.setup false all.valid v)
+      at (Nested outer inner) v all out = not_both (is_outside_of (Nested outer inner) o.setup.config) out refl
       at NoCommand v all out = absurd all.of_command
 
   -- a run was begun only where the region lies on the screen
@@ -227,7 +254,9 @@ module _ (c : Command) (old : StoreModel) (files : Option (List File)) (asked : 
       no_generated None v = v
       no_generated (Some all) v = let e = v.2 in cc
   made_not_outside (Audit configuration journal) v = refl
+  made_not_outside (Clip configuration) v = refl
   made_not_outside (Capture configuration region) v = refl
+  made_not_outside (Nested outer inner) v = refl
   made_not_outside NoCommand v = refl
 
   -- an audit films no region
@@ -237,18 +266,22 @@ module _ (c : Command) (old : StoreModel) (files : Option (List File)) (asked : 
   no_outside_audit (Still width height script) told is v = is
   no_outside_audit (Run beside configuration) told is v = is
   no_outside_audit (Gen number) told is v = is
+  no_outside_audit (Clip configuration) told is v = is
   no_outside_audit (Capture configuration region) told is v = is
+  no_outside_audit (Nested outer inner) told is v = is
   no_outside_audit NoCommand told is v = is
 
   pub outside_at : (e : End) (line : List ℕ) → Came course files asked e line → code_of e ≡ 10 → IfSome old.files (IsValidSo c true)
   outside_at ends.Outside line h n = told_outside c old.files h.0.setup true h.0.valid.valid h.0.outside
   outside_at (ends.Refused f) line h n = absurd (not_fault f 10 n refl)
+  outside_at (ends.Unfit f) line h n = absurd (not_fault f 10 n refl)
   outside_at e line h n = absurd (omega arith)
 
   pub is_outside_at : (e : End) (line : List ℕ) → Came course files asked e line → IsSomeAnd old.files (IsValidSo c true) → (code_of e ≡ 3) ⊎ ((code_of e ≡ 10) ⊎ (code_of e ≡ 7))
   is_outside_at ends.Usage line h v = absurd (no_setup old.files true (subst (λ (k : Command). IsSomeAnd old.files (IsValidSo k true)) h.0 v))
   is_outside_at ends.ReadFault line h v = inl refl
   is_outside_at (ends.Refused f) line h v = absurd (told_refused c old.files h.0 f h.2 true v)
+  is_outside_at (ends.Unfit f) line h v = absurd (told_refused c old.files h.0 f h.2 true v)
   is_outside_at ends.WriteFault line h v = absurd (elim h.1 [ inl m ↦ made_none h.0 (made_not_outside c v) m | inr x ↦ no_outside_run _ x v ])
   is_outside_at ends.NoMemory line h v = inr (inr refl)
   is_outside_at ends.Outside line h v = inr (inl refl)
@@ -259,6 +292,7 @@ module _ (c : Command) (old : StoreModel) (files : Option (List File)) (asked : 
   is_valid_at ends.Usage line h v = absurd (no_setup old.files false (subst (λ (k : Command). HasValidFiles k old.files) h.0 v))
   is_valid_at ends.ReadFault line h v = inl refl
   is_valid_at (ends.Refused f) line h v = absurd (valid_kept c refl h.0 f v h.2 h.1)
+  is_valid_at (ends.Unfit f) line h v = absurd (both_kept c h.0 f v h.2 h.1.o h.1.i h.1.valid)
   is_valid_at ends.WriteFault line h v = inr (inl refl)
   is_valid_at ends.NoMemory line h v = inr (inr (inr refl))
   is_valid_at ends.Outside line h v = absurd (outside_not c refl v h.0)
@@ -276,6 +310,7 @@ module _ (c : Command) (old : StoreModel) (files : Option (List File)) (asked : 
   audit_same is ends.Usage line h = h.1.same
   audit_same is ends.ReadFault line h = h.1.same
   audit_same is (ends.Refused f) line h = h.1.same
+  audit_same is (ends.Unfit f) line h = h.1.same
   audit_same is ends.WriteFault line h = absurd (elim h.1 [ inl m ↦ made_none h.0 (audit_makes_none c is) m | inr x ↦ no_audit_run _ is x ])
   audit_same is ends.NoMemory line h = elim h.0 [
     | inl b ↦ b.same

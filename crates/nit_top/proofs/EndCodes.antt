@@ -1,20 +1,17 @@
 -- The codes of the ways that a command ends, and what the counts of faults say of them.
 use Rattle.std.proofs.Common.{◌≡◌, ℕ, ◌≤◌, Bool, true, false, [], ◌∷◌, refl, subst, arith, inl, inr, ◌⊎◌}
-use Rattle.std.specs.Prelude.{IsTrue, ◌==◌}
-use Rattle.std.specs.List.{list_any}
-use Rattle.nit_store.specs.Store.{StoreModel, Rose}
+use Rattle.std.specs.Prelude.{◌==◌}
+use Rattle.nit_top.proofs.Basics.{Counts, Fault, IsEarly, IsTrue, Rose, StoreModel, code_of, fault_code, list_any}
 use Rattle.nit_top.specs.declared.finish.End.{End}
 use Rattle.nit_top.specs.declared.finish.End.TheVariants as ends
-use Rattle.nit_top.specs.declared.finish.Fault.{Fault}
 use Rattle.nit_top.specs.declared.finish.Fault.TheVariants as fault
-use Rattle.nit_top.specs.Judgement.{fault_code}
-use Rattle.nit_top.specs.Answer.{Counts, code_of, IsEarly}
+use Rattle.nit_hall.proofs.ForCallers.{not_both}
 
 -- ---- codes
 
 -- a refusal has one of these codes
 abbrev pub is_fault_code : ℕ → Bool
-is_fault_code n = list_any (λ s. s == n) (5 ∷ 6 ∷ 8 ∷ 9 ∷ [])
+is_fault_code n = list_any (λ s. s == n) (5 ∷ 6 ∷ 8 ∷ 9 ∷ 11 ∷ [])
 
 fault_codes : (f : Fault) → is_fault_code (fault_code f) ≡ true
 fault_codes (fault.BadConfig e) = refl
@@ -25,16 +22,13 @@ fault_codes fault.PhasesDiffer = refl
 fault_codes fault.LongJournal = refl
 fault_codes (fault.BadEntry n) = refl
 fault_codes (fault.NotARun n) = refl
-
-not_both : (b : Bool) → b ≡ true → b ≡ false → ⊥
-not_both true x y = cc
-not_both false x y = cc
+fault_codes fault.FramesTooLong = refl
 
 pub not_fault : (f : Fault) (n : ℕ) → fault_code f ≡ n → is_fault_code n ≡ false → ⊥
 not_fault f n e other = not_both (is_fault_code n) (subst (λ (k : ℕ). is_fault_code k ≡ true) e (fault_codes f)) other
 
 abbrev pub Known : ℕ → Type 0
-Known n = IsTrue (list_any (λ s. s == n) (0 ∷ 2 ∷ 3 ∷ 4 ∷ 5 ∷ 6 ∷ 7 ∷ 8 ∷ 9 ∷ 10 ∷ []))
+Known n = IsTrue (list_any (λ s. s == n) (0 ∷ 2 ∷ 3 ∷ 4 ∷ 5 ∷ 6 ∷ 7 ∷ 8 ∷ 9 ∷ 10 ∷ 11 ∷ []))
 
 pub known_fault : (f : Fault) → Known (fault_code f)
 known_fault (fault.BadConfig e) = refl
@@ -45,11 +39,13 @@ known_fault fault.PhasesDiffer = refl
 known_fault fault.LongJournal = refl
 known_fault (fault.BadEntry n) = refl
 known_fault (fault.NotARun n) = refl
+known_fault fault.FramesTooLong = refl
 
 pub known_code : (e : End) → Known (code_of e)
 known_code ends.Usage = refl
 known_code ends.ReadFault = refl
 known_code (ends.Refused f) = known_fault f
+known_code (ends.Unfit f) = known_fault f
 known_code ends.WriteFault = refl
 known_code ends.NoMemory = refl
 known_code ends.Outside = refl
@@ -74,6 +70,7 @@ pub reads_by : (old mid : StoreModel) (e : End) → Counts old mid e → ((code_
 reads_by old mid ends.Usage h = inr h.0
 reads_by old mid ends.ReadFault h = inl (refl, h.0)
 reads_by old mid (ends.Refused f) h = inr h.0
+reads_by old mid (ends.Unfit f) h = inr h.0
 reads_by old mid ends.WriteFault h = inr h.0
 reads_by old mid ends.NoMemory h = inr h.0
 reads_by old mid ends.Outside h = inr h.0
@@ -83,12 +80,14 @@ reads_by old mid (ends.Audited n) h = inr h.0
 pub read_rose : (old mid : StoreModel) (e : End) → Counts old mid e → code_of e ≡ 3 → Rose old.read_faults mid.read_faults
 read_rose old mid ends.ReadFault h c = h.0
 read_rose old mid (ends.Refused f) h c = absurd (not_fault f 3 c refl)
+read_rose old mid (ends.Unfit f) h c = absurd (not_fault f 3 c refl)
 read_rose old mid e h c = absurd (omega arith)
 
 pub writes_by : (old mid : StoreModel) (e : End) → Counts old mid e → ((code_of e ≡ 4) × Rose old.write_faults mid.write_faults) ⊎ (mid.write_faults ≡ old.write_faults)
 writes_by old mid ends.Usage h = inr h.1
 writes_by old mid ends.ReadFault h = inr h.1
 writes_by old mid (ends.Refused f) h = inr h.1
+writes_by old mid (ends.Unfit f) h = inr h.1
 writes_by old mid ends.WriteFault h = inl (refl, h.1)
 writes_by old mid ends.NoMemory h = inr h.1
 writes_by old mid ends.Outside h = inr h.1
@@ -98,6 +97,7 @@ writes_by old mid (ends.Audited n) h = inr h.1
 pub write_rose : (old mid : StoreModel) (e : End) → Counts old mid e → code_of e ≡ 4 → Rose old.write_faults mid.write_faults
 write_rose old mid ends.WriteFault h c = h.1
 write_rose old mid (ends.Refused f) h c = absurd (not_fault f 4 c refl)
+write_rose old mid (ends.Unfit f) h c = absurd (not_fault f 4 c refl)
 write_rose old mid e h c = absurd (omega arith)
 
 pub writes_later : (old mid : StoreModel) (e : End) → Counts old mid e → old.write_faults ≤ mid.write_faults
@@ -105,6 +105,7 @@ writes_later old mid ends.WriteFault h = h.2
 writes_later old mid ends.Usage h = let same = h.1 in omega arith
 writes_later old mid ends.ReadFault h = let same = h.1 in omega arith
 writes_later old mid (ends.Refused f) h = let same = h.1 in omega arith
+writes_later old mid (ends.Unfit f) h = let same = h.1 in omega arith
 writes_later old mid ends.NoMemory h = let same = h.1 in omega arith
 writes_later old mid ends.Outside h = let same = h.1 in omega arith
 writes_later old mid ends.Whole h = let same = h.1 in omega arith

@@ -1,27 +1,11 @@
 -- How many entries a whole journal has, and how many a generated run has.
 use Rattle.std.proofs.Common.{◌≡◌, ◌∙◌, ℕ, zero, suc, ◌+◌, ◌*◌, ◌<◌, ◌≤◌, true, false, List, [], ◌∷◌, ◌++◌, length, map, refl, sym, ap, subst, arith, inl, inr}
-use Rattle.std.specs.Prelude.{◌==◌, count_by, filter}
-use Rattle.std.specs.List.{range_with_len}
-use Rattle.std.proofs.lemmas.Bool.{cases_Bool}
-use Rattle.std.proofs.lemmas.Bool.Decides.{nat_tests}
-use Rattle.std.proofs.lemmas.List.{length-map}
-use Rattle.std.proofs.lemmas.List.Sums.{length-filter}
-use Rattle.nit_events.specs.declared.call.Call.{Call}
-use Rattle.nit_events.specs.declared.call.Reply.{Reply}
-use Rattle.nit_events.specs.declared.entry.Entry.{Entry}
+use Rattle.std.specs.Prelude.{◌==◌}
+use Rattle.nit_top.proofs.Basics.{Call, Does, Entry, InputLine, IsJournal, IsLegal, IsOpen, LegalFrom, Line, Reply, Shoots, State, UserAction, after, as_many, as_many_as_clients, calls_from, calls_of, calls_to_make, cases_Bool, client_script, count_by, done, filter, first_state, front_open, generated_setup, is_call, is_device, length-filter, length-map, nat_tests, range_with_len, shots, to_do, user_actions_from, user_actions_of, user_actions_to_do, user_script}
 use Rattle.nit_events.specs.declared.entry.Entry.TheVariants as entry
-use Rattle.nit_journal.specs.Replay.{IsLegal, IsOpen, LegalFrom, shots}
-use Rattle.nit_journal.specs.State.{State, after, first_state}
-use Rattle.nit_journal.specs.WholeJournals.{UserAction, Does, Shoots, calls_of, user_actions_of, done, to_do}
-use Rattle.nit_journal.proofs.ForCallers.{front_open, as_many, as_many_as_clients}
-use Rattle.nit_script.specs.declared.line.Line.{Line}
 use Rattle.nit_script.specs.declared.line.Line.TheVariants as line
-use Rattle.nit_script.specs.declared.line.InputLine.{InputLine}
 use Rattle.nit_script.specs.declared.line.InputLine.TheVariants as input
-use Rattle.nit_plan.specs.Calls.{calls_from, calls_to_make, user_actions_from, user_actions_to_do}
-use Rattle.nit_report.specs.Generator.{client_script, generated_configuration, is_call, is_device, is_shot_line, user_script}
-use Rattle.nit_top.specs.Outputs.{IsJournal}
-use Rattle.nit_top.specs.Setup.{generated_setup}
+use Rattle.nit_report.specs.Generator.{generated_configuration, is_shot_line}
 
 -- ---- the calls of all sessions
 

@@ -1,13 +1,6 @@
 -- The names of clients' events.
 use Rattle.std.proofs.Common.{◌≡◌, ℕ, zero, suc, ◌<◌, true, List, [], ◌∷◌, ◌++◌, slice_index, arith, rules}
-use Rattle.std.specs.Prelude.{codes}
-use Rattle.std.specs.List.{list_all}
-use Rattle.std.specs.Str.{IsUtf8}
-use Rattle.std.proofs.lemmas.Bool.{and_parts}
-use Rattle.std.proofs.lemmas.Bool.Decides.{nat_tests}
-use Rattle.std.proofs.lemmas.Str.{IsUtf8-append, IsUtf8-from_ascii}
-use Rattle.nit_glyph.specs.Texts.{is_label, is_label_byte}
-use Rattle.nit_top.specs.Outputs.{events_name}
+use Rattle.nit_top.proofs.Basics.{IsUtf8, IsUtf8-append, IsUtf8-from_ascii, and_parts, codes, events_name, is_label, is_label_byte, list_all, nat_tests}
 
 byte_is_ascii : (c : ℕ) → is_label_byte c ≡ true → c < 128
 byte_is_ascii c h = grind (arith, nat_tests)

@@ -1,17 +1,6 @@
 -- The events of clients, put one after the other.
 use Rattle.std.proofs.Common.{◌≡◌, ◌∙◌, ℕ, ◌+◌, ◌<◌, List, map, length, get_or, sym, ap, subst, zero-add}
-use Rattle.std.specs.List.{range_with_len}
-use Rattle.std.proofs.lemmas.List.FromFn.{map-range_with_len_more}
-use Rattle.nit_config.specs.declared.config.Member.{Member}
-use Rattle.nit_config.specs.Configuration.{Configuration}
-use Rattle.nit_journal.specs.Replay.{replay}
-use Rattle.nit_journal.specs.State.{session}
-use Rattle.nit_events.specs.declared.entry.Entry.{Entry}
-use Rattle.nit_report.specs.EventsText.{events_text}
-use Rattle.nit_store.specs.Store.{File}
-use Rattle.nit_store.specs.Puts.{PutState, PutsAll, PutsNext}
-use Rattle.nit_store.proofs.ForCallers.{puts_more}
-use Rattle.nit_top.specs.Outputs.{ending_of, events_file, events_name}
+use Rattle.nit_top.proofs.Basics.{Configuration, Entry, File, Member, PutState, PutsAll, PutsNext, ending_of, events_file, events_name, events_text, map-range_with_len_more, puts_more, range_with_len, replay, session}
 use Rattle.nit_top.proofs.PerClient.{at_member}
 
 pub one_more_text : (config : Configuration) (journal : List Entry) (clients : List Member) (sid : ℕ) (client : Member) (old mid new : PutState) → clients ≡ config.clients → sid < length clients → client ≡ get_or clients sid client

@@ -1,24 +1,11 @@
 -- The events that a client takes are those among its replies.
 use Rattle.std.proofs.Common.{◌≡◌, ◌∙◌, ℕ, ◌+◌, ◌*◌, ◌==◌, Bool, true, false, cond, ◌&&◌, nat_lt, nat_le, List, [], ◌∷◌, ◌++◌, length, Option, Some, None, refl, sym, ap, subst}
-use Rattle.std.specs.List.{flat_map}
-use Rattle.nit_rect.specs.Rectangle.{is_place, is_rectangle}
-use Rattle.nit_events.specs.declared.event.Event.{Event}
-use Rattle.nit_events.specs.declared.event.Status.{Status}
+use Rattle.nit_top.proofs.Basics.{Above, Back, Buffer, Call, Close, Destroy, Entry, Event, Front, LegalFrom, Offset, Place, Refresh, Reply, Session, State, Status, Take, Title, Upgrade, accepted, after, buffer_left, buffer_need, by_call, by_handle, by_quota, by_refusal, by_status, events_among, flat_map, has_view, is_place, is_rectangle, is_side, is_title, refusal, replies_to, session, taken, unless, view_left, view_need, ◌orelse◌}
 use Rattle.nit_events.specs.declared.event.Status.TheVariants as status
-use Rattle.nit_events.specs.declared.call.Call.{Call}
-use Rattle.nit_events.specs.declared.call.Call.TheVariants.{Buffer, View, Place, Offset, Front, Back, Above, Title, Destroy, Refresh, Take, Upgrade, Close}
-use Rattle.nit_events.specs.declared.call.Reply.{Reply}
+use Rattle.nit_events.specs.declared.call.Call.TheVariants.{View}
 use Rattle.nit_events.specs.declared.call.Reply.TheVariants as reply
-use Rattle.nit_events.specs.declared.entry.Entry.{Entry}
 use Rattle.nit_events.specs.declared.entry.Entry.TheVariants as entry
-use Rattle.nit_glyph.specs.Texts.{is_title}
-use Rattle.nit_slots.specs.Account.{buffer_need, buffer_left, view_need, view_left}
-use Rattle.nit_journal.specs.Replay.{LegalFrom}
-use Rattle.nit_journal.specs.Projection.{replies_to}
-use Rattle.nit_journal.specs.Session.{Session, ◌orelse◌, accepted, by_call, by_handle, by_quota, by_refusal, by_status, has_view, is_side, refusal, serve, unless}
-use Rattle.nit_journal.specs.State.{State, after, session}
-use Rattle.nit_report.specs.EventsText.{taken}
-use Rattle.nit_top.specs.Headline.{events_among}
+use Rattle.nit_journal.specs.Session.{serve}
 
 -- ---- which replies are events
 

@@ -1,33 +1,8 @@
 -- The film that a store has made is that of the files that were put.
 use Rattle.std.proofs.Common.{◌≡◌, ◌≢◌, ℕ, zero, suc, ◌+◌, ◌<◌, ◌≤◌, ◌^◌, Bool, true, false, List, [], ◌∷◌, ◌++◌, map, length, Option, Some, None, Result, Ok, Err, refl, sym, ap, subst, ◌∙◌, arith, append_assoc}
-use Rattle.std.specs.Prelude.{codes, option_map, slice_index, unwrap_or}
-use Rattle.std.specs.List.{AllByRecursion, range_with_len}
-use Rattle.nit_events.specs.declared.entry.Entry.{Entry}
+use Rattle.nit_top.proofs.Basics.{AfterPut, AllByRecursion, AreOutputs, CaptureModel, Configuration, Entry, File, HasFilmed, HasRun, HasTaken, IsFilmOf, IsLegal, IsNearPicture, LegalFrom, PutEach, PutError, PutFault, PutFiles, PutIn, PutState, PutsAll, PutsNext, Ran, Region, Setup, ShotsBehind, State, StoreModel, after, begun_of, bytes_of, bytes_under, codes, cropped_bytes, events_file, events_files, events_name, file_at, film_header, film_name, film_of, final_name, final_picture, first_state, journal_file, member, option_map, picture_names, pictures_in, put_state_of_run, puts_more, range_with_len, records, refusal_of, shot_name, shots, slice_index, text_files, unrefused, unwrap_or}
 use Rattle.nit_events.specs.declared.entry.Entry.TheVariants as entry
-use Rattle.nit_config.specs.Configuration.{Configuration, member}
-use Rattle.nit_journal.specs.State.{State, after, first_state}
-use Rattle.nit_journal.specs.Replay.{IsLegal, LegalFrom, shots}
-use Rattle.nit_capture.specs.Capture.{CaptureModel, cropped_bytes}
-use Rattle.nit_capture.specs.Film.{film_header, records}
-use Rattle.nit_store.specs.declared.store.PutError.{PutError}
 use Rattle.nit_store.specs.declared.store.PutError.TheVariants as put
-use Rattle.nit_store.specs.Store.{StoreModel, File, PutIn, bytes_of, file_at}
-use Rattle.nit_store.specs.StoreAnswers.{AfterPut}
-use Rattle.nit_store.specs.Puts.{PutsAll, PutsNext, PutState, unrefused}
-use Rattle.nit_store.proofs.ForCallers.{puts_more}
-use Rattle.nit_actor.specs.RoundsRun.{shot_name}
-use Rattle.nit_actor.specs.Pictures.{IsNearPicture}
-use Rattle.nit_actor.specs.Shots.{ShotsBehind}
-use Rattle.nit_top.specs.declared.region.Region.{Region}
-use Rattle.nit_top.specs.declared.run.PutFault.{PutFault}
-use Rattle.nit_top.specs.declared.run.Ran.{Ran}
-use Rattle.nit_top.specs.Course.{PutEach, PutFiles}
-use Rattle.nit_top.specs.CaptureRun.{HasFilmed, begun_of}
-use Rattle.nit_top.specs.FilmStore.{HasTaken, IsFilmOf, bytes_under, picture_names}
-use Rattle.nit_top.specs.RunFilm.{film_name, film_of, pictures_in}
-use Rattle.nit_top.specs.Setup.{Setup}
-use Rattle.nit_top.specs.Outputs.{AreOutputs, events_file, events_files, events_name, final_name, final_picture, journal_file, text_files}
-use Rattle.nit_top.specs.Work.{HasRun, put_state_of_run, refusal_of}
 use Rattle.nit_top.proofs.FilmPictures.{shots_apart}
 use Rattle.nit_top.proofs.RunLemmas.{with_texts}
 use Rattle.nit_top.proofs.PutLemmas.{PutAll, PutSo, all_put}

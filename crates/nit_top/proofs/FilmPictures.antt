@@ -1,20 +1,8 @@
 -- The pictures of a film, and the files under their names.
 use Rattle.std.proofs.Common.{◌≡◌, ◌≢◌, ℕ, zero, suc, ◌+◌, ◌<◌, ◌≤◌, ◌^◌, Bool, true, false, List, [], ◌∷◌, ◌++◌, map, Option, Some, None, Result, Ok, Err, refl, sym, ap, subst, ◌∙◌, arith, append_assoc, inl, inr}
-use Rattle.std.specs.Prelude.{codes, slice_index, unwrap_or}
-use Rattle.std.specs.Fmt.{decimal}
-use Rattle.std.specs.List.{AllByRecursion, range_with_len}
-use Rattle.std.proofs.lemmas.Fmt.{decimal_injective}
-use Rattle.std.proofs.lemmas.List.{append-nil, append_cancel_left, append_cancel_right}
-use Rattle.std.proofs.lemmas.List.FromFn.{map-range_with_len_more}
-use Rattle.nit_capture.specs.Capture.{CaptureModel, next_record, cropped_bytes, with_last}
-use Rattle.nit_capture.specs.Film.{film_header, record_of, records}
-use Rattle.nit_store.specs.declared.store.PutError.{PutError}
+use Rattle.nit_top.proofs.Basics.{AfterPut, AllByRecursion, CaptureModel, File, HasTaken, IsFilmOf, IsPut, PutError, PutIn, StoreModel, all_append, append-nil, append_cancel_left, append_cancel_right, bytes_of, bytes_under, codes, cropped_bytes, decimal, decimal_injective, file_at, film_header, final_name, last_of, map-range_with_len_more, next_record, picture_names, range_with_len, record_of, records, shot_name, slice_index, unwrap_or, with_last}
 use Rattle.nit_store.specs.declared.store.PutError.TheVariants as put
-use Rattle.nit_store.specs.Store.{StoreModel, File, IsPut, PutIn, bytes_of, file_at}
-use Rattle.nit_store.specs.StoreAnswers.{AfterPut}
-use Rattle.nit_actor.specs.RoundsRun.{shot_name}
-use Rattle.nit_top.specs.FilmStore.{HasTaken, IsFilmOf, bytes_under, last_of, picture_names}
-use Rattle.nit_top.specs.Outputs.{final_name}
+use Rattle.nit_top.proofs.PutLemmas.{same_files}
 
 -- ---- names
 
@@ -29,13 +17,9 @@ all_shots : (P : List ℕ → Type 0) (first count : ℕ) → ((k : ℕ) → fir
 all_shots P first zero each = tt
 all_shots P first (suc count) each = (each first (omega arith) (omega arith), all_shots P (first + 1) count (λ k low high. each k (omega arith) (omega arith)))
 
-all_also : {A : Type 0} (P : A → Type 0) (xs ys : List A) → AllByRecursion P xs → AllByRecursion P ys → AllByRecursion P (xs ++ ys)
-all_also P [] ys p q = q
-all_also P (x ∷ xs) ys p q = (p.0, all_also P xs ys p.1 q)
-
 pub all_names : (P : List ℕ → Type 0) (count : ℕ) (ended : Bool) → ((k : ℕ) → k < 1 + count → P (shot_name k)) → P final_name → AllByRecursion P (picture_names count ended)
-all_names P count true each last = all_also P (map shot_name (range_with_len 1 count)) (final_name ∷ []) (all_shots P 1 count (λ k low high. each k high)) (last, tt)
-all_names P count false each last = all_also P (map shot_name (range_with_len 1 count)) [] (all_shots P 1 count (λ k low high. each k high)) tt
+all_names P count true each last = all_append P (map shot_name (range_with_len 1 count)) (final_name ∷ []) (all_shots P 1 count (λ k low high. each k high)) (last, tt)
+all_names P count false each last = all_append P (map shot_name (range_with_len 1 count)) [] (all_shots P 1 count (λ k low high. each k high)) tt
 
 pub one_shot_more : (count : ℕ) → picture_names (count + 1) false ≡ picture_names count false ++ shot_name (count + 1) ∷ []
 one_shot_more count =
@@ -109,9 +93,6 @@ pub record ToldBefore (name : List ℕ) (old : StoreModel) (files : List File) :
   pub told : old.files ≡ Some before
   pub others : (n : List ℕ) → n ≢ name → file_at n files ≡ file_at n before
 
-same_files : (a b : List File) → Some a ≡ Some b → a ≡ b
-same_files a b e = cc
-
 -- a put that was done, where files are told
 pub record ToldPut (name bytes : List ℕ) (old : Option (List File)) (files : List File) : Type 0 where
   pub before : List File
@@ -160,14 +141,14 @@ film_grows begun now next names bytes more old new name ppm done apart h same la
 -- the names of shots differ from that of the last picture, and from that of a later shot
 pub before_shot : (count : ℕ) → count < 65536 → AllByRecursion (λ n. n ≢ shot_name (count + 1)) (picture_names count false)
 before_shot count few =
-    all_also (λ n. n ≢ shot_name (count + 1)) (map shot_name (range_with_len 1 count)) [] (all_shots (λ n. n ≢ shot_name (count + 1)) 1 count
+    all_append (λ n. n ≢ shot_name (count + 1)) (map shot_name (range_with_len 1 count)) [] (all_shots (λ n. n ≢ shot_name (count + 1)) 1 count
     (λ k low high same. let e : k ≡ count + 1 = shots_apart k (count + 1) (omega arith) (omega arith) same in omega arith)) tt
 
 apart_letters : ◌≡◌ {A = ℕ} 115 102 → ⊥
 apart_letters e = omega arith
 
 pub before_last : (count : ℕ) → AllByRecursion (λ n. n ≢ final_name) (picture_names count false)
-before_last count = all_also (λ n. n ≢ final_name) (map shot_name (range_with_len 1 count)) [] (all_shots (λ n. n ≢ final_name) 1 count (λ k low high same. other_letter (decimal k ++ codes ".ppm") same)) tt
+before_last count = all_append (λ n. n ≢ final_name) (map shot_name (range_with_len 1 count)) [] (all_shots (λ n. n ≢ final_name) 1 count (λ k low high same. other_letter (decimal k ++ codes ".ppm") same)) tt
   where
     other_letter : (rest : List ℕ) → codes "shot-" ++ rest ≡ final_name → ⊥
     other_letter rest same = apart_letters (ap (λ (bytes : List ℕ). slice_index bytes 0) same)

@@ -1,29 +1,9 @@
 -- The raw words of the last picture: each is the word that its source has in the tables.
 use Rattle.std.proofs.Common.{◌≡◌, ◌∙◌, ℕ, ◌<◌, List, [], ◌∷◌, ◌++◌, map, length, take, drop, Option, Some, None, refl, sym, ap, subst, arith, zero-add, inl, inr}
-use Rattle.std.specs.Prelude.{IfSome, nat_lt, slice_index, ℤ, pos, negsuc}
-use Rattle.std.proofs.Math.Seq.{take-append_seam}
-use Rattle.std.proofs.lemmas.Bool.{cases_lt, cases_Bool, ltb-true}
-use Rattle.std.proofs.lemmas.List.{get_or_past}
-use Rattle.std.proofs.lemmas.List.FromFn.{get_or-map-range_with_len}
-use Rattle.nit_rect.specs.declared.point.Point.{Point}
-use Rattle.nit_word.specs.Sight.{Sight}
-use Rattle.nit_events.specs.declared.entry.Entry.{Entry}
+use Rattle.nit_top.proofs.Basics.{Bare, Black, Configuration, Entry, HaveTables, IfSome, IsWordOfSource, Painted, PixelSource, Point, SceneModel, Session, Sight, Size, State, Word, after, among, as_many_as_clients, bar_rows, black_or_word, buffer_place, buffer_size, cases_Bool, cases_lt, first_session, first_state, frame, get_or-map-range_with_len, get_or_past, glass_in, index_at, kept_config, ltb-true, nat_lt, negsuc, owner, picture, picture_by, pixel, pixel_count, pos, raw_words, replay, replay_from, same_frame, scenery_of, session_in, shown_index, slice_index, source_at, source_under, state_now, take-append_seam, told_word, ℤ}
 use Rattle.nit_events.specs.declared.entry.Entry.TheVariants as entry
 use Rattle.nit_stack.specs.declared.view.View.{View}
-use Rattle.nit_stack.specs.Sources.{PixelSource, Bare, Black, Word, Size, pixel, owner, among, buffer_place, index_at, shown_index, black_or_word, source_under}
-use Rattle.nit_config.specs.Configuration.{Configuration, bar_rows}
-use Rattle.nit_journal.specs.Session.{Session, first_session}
-use Rattle.nit_journal.specs.State.{State, after, buffer_size, first_state, session_in}
-use Rattle.nit_journal.specs.Replay.{replay, replay_from}
-use Rattle.nit_journal.proofs.ForCallers.{as_many_as_clients, kept_config}
-use Rattle.nit_overlay.specs.Frame.{frame}
-use Rattle.nit_overlay.proofs.ForCallers.{same_frame}
-use Rattle.nit_report.specs.Picture.{picture}
-use Rattle.nit_paint.specs.Repaint.{IsWordOfSource}
-use Rattle.nit_scene.specs.RawWords.{Painted, glass_in, pixel_count, source_at}
-use Rattle.nit_scene.specs.Scene.{SceneModel, scenery_of, state_now}
 use Rattle.nit_actor.specs.Drawing.{word_from}
-use Rattle.nit_top.specs.Outputs.{HaveTables, picture_by, raw_words}
 use Rattle.nit_top.proofs.PerClient.{itself_at}
 
 -- ---- a word is of a session that there is
@@ -65,14 +45,10 @@ of_a_session sessions p (Some v) t i e =
 
 -- ---- each word
 
-told_at : (o : Option (List ℕ)) (words : List ℕ) (i w : ℕ) → o ≡ Some words → IfSome o (λ ws. w ≡ slice_index ws i) → w ≡ slice_index words i
-told_at None words i w is told = absurd cc
-told_at (Some ws) words i w is told = let same : ws ≡ words = cc in told ∙ ap (λ (x : List ℕ). slice_index x i) same
-
 held_word : (glasses : ℕ → Sight) (tables : ℕ → List ℕ) (source : PixelSource) (w : ℕ) → ((t i : ℕ) → source ≡ Word t i → (glasses t).words ≡ Some (tables t)) → IsWordOfSource glasses source w → w ≡ word_from tables source
 held_word glasses tables Bare w told held = held
 held_word glasses tables Black w told held = held
-held_word glasses tables (Word t i) w told held = told_at (glasses t).words (tables t) i w (told t i refl) held.told
+held_word glasses tables (Word t i) w told held = told_word (glasses t).words (tables t) i w (told t i refl) held.told
 
 -- each glass tells the words of its session
 abbrev Tell : State → (ℕ → Sight) → (ℕ → List ℕ) → Type 0

@@ -1,41 +1,12 @@
 -- Generated runs: they can be run, and how their work comes to its end.
 use Rattle.std.proofs.Common.{◌≡◌, ℕ, ◌<◌, ◌≤◌, zero, suc, ◌+◌, true, List, [], ◌∷◌, ◌++◌, length, map, Option, Some, None, refl, sym, ap, subst, ◌∙◌, arith, inl, inr, zero-add}
-use Rattle.std.specs.Prelude.{IfSome, codes, slice_index_or, Vec}
-use Rattle.std.specs.List.{AllByRecursion, AllZip, range_with_len}
-use Rattle.std.proofs.lemmas.List.{append-nil, length-map, get_or-map}
-use Rattle.std.proofs.lemmas.List.FromFn.{length-map-range_with_len, get_or-map-range_with_len, map-range_with_len_more}
-use Rattle.std.proofs.lemmas.Fmt.{decimal_digit}
-use Rattle.std.proofs.lemmas.Str.{IsUtf8-from_ascii}
-use Rattle.std.specs.Str.{IsAscii, IsUtf8}
-use Rattle.std.specs.Global.{Global}
-use Rattle.std.specs.Option.{is_some}
-use Rattle.nit_store.proofs.ForCallers.{puts_more}
-use Rattle.nit_config.specs.Configuration.{Configuration}
-use Rattle.nit_config.specs.ConfigurationRanges.{IsConfiguration}
-use Rattle.nit_events.specs.declared.entry.Entry.{Entry}
-use Rattle.nit_script.specs.declared.line.Line.{Line}
-use Rattle.nit_script.specs.declared.line.InputLine.{InputLine}
-use Rattle.nit_script.specs.Grammar.{ReadsClient}
-use Rattle.nit_script.specs.Phases.{phases, input_phases}
-use Rattle.nit_script.specs.Spelling.{FitsLine, FitsInputLine}
-use Rattle.nit_report.specs.Generator.{client_script, client_text, generated_configuration, script_name, user_script}
-use Rattle.nit_store.specs.declared.store.PutError.{PutError}
+use Rattle.nit_top.proofs.Basics.{AllByRecursion, AllZip, AreAllFiles, AreOutputs, Configuration, Course, Entry, File, FitsInputLine, FitsLine, Gen, Global, HasRun, Headline, IfSome, InputLine, IsAfterRun, IsAscii, IsConfiguration, IsJournal, IsMadeUpTo, IsRunnable, IsUtf8, IsUtf8-from_ascii, Line, NoFile, NotBegun, Performed, PutError, PutFault, PutFiles, PutState, PutsAll, PutsNext, ReadsClient, Rose, Setup, StoreModel, Totals, Vec, Worked, append-nil, asked_also, client_script, client_text, codes, decimal_digit, end_of_put, end_of_run, file_names, generated_files, generated_setup, get_or-map, get_or-map-range_with_len, input_phases, is_some, length-map, length-map-range_with_len, map-range_with_len_more, name_text, output_name, phases, put_state_of_run, puts_more, range_with_len, refusal_of, script_files, script_name, setup_of, slice_index_or, unrefused, user_script}
+use Rattle.nit_report.specs.Generator.{generated_configuration}
 use Rattle.nit_store.specs.declared.store.PutError.TheVariants as put
-use Rattle.nit_store.specs.Store.{StoreModel, File, Rose}
-use Rattle.nit_store.specs.Puts.{PutState, PutsAll, PutsNext, unrefused}
 use Rattle.nit_top.specs.declared.finish.End.{End}
 use Rattle.nit_top.specs.declared.finish.End.TheVariants as ends
 use Rattle.nit_top.specs.declared.finish.Name.TheVariants as file_name
-use Rattle.nit_top.specs.declared.finish.Worked.{Worked}
-use Rattle.nit_top.specs.declared.run.PutFault.{PutFault}
-use Rattle.nit_top.specs.Command.{Gen}
-use Rattle.nit_top.specs.Setup.{Setup, IsRunnable, generated_files, generated_setup, script_files}
-use Rattle.nit_top.specs.FilesRead.{NoFile, AreAllFiles}
-use Rattle.nit_top.specs.Outputs.{IsJournal, AreOutputs}
-use Rattle.nit_top.specs.Headline.{Headline}
-use Rattle.nit_top.specs.ProgramLines.{Totals, name_text, output_name}
-use Rattle.nit_top.specs.Course.{asked_also, file_names, Course, NotBegun, IsMadeUpTo, PutFiles}
-use Rattle.nit_top.specs.Work.{end_of_run, end_of_put, put_state_of_run, refusal_of, setup_of, HasRun, IsAfterRun, Performed, Ends}
+use Rattle.nit_top.specs.Work.{Ends}
 use Rattle.nit_top.proofs.AskedNames.{also_none, also_more, asking_none}
 use Rattle.nit_top.proofs.WorkLemmas.{CameTo, ends_by, performed_ends, totals_on}
 use Rattle.nit_top.proofs.PutLemmas.{PutAll, PutUntil, PutRefused, all_put}
@@ -73,6 +44,7 @@ generated_runnable n laws = record {
       both_all (AllByRecursion FitsLine) (λ (ls : List Line). length ls ≤ 65536) (scripts_of n) laws.fits
       (all_mapped (λ (ls : List Line). length ls ≤ 65536) (client_script n) (λ c. let e = laws.lines c in omega arith) 0 8);
   input_lines = (laws.input_fits, let e = laws.input_lines in omega arith);
+  clips_each = inl refl;
 }
 
 -- the same setup without the files that are made before it
@@ -80,7 +52,7 @@ abbrev pub unmade : ℕ → Setup
 unmade n = setup_of generated_configuration (scripts_of n) (user_script n) true true
 
 pub unmade_runnable : (n : ℕ) → IsRunnable (generated_setup n) → IsRunnable (unmade n)
-unmade_runnable n r = record { configured = r.configured; scripts = r.scripts; phases = r.phases; lines = r.lines; input_lines = r.input_lines }
+unmade_runnable n r = record { configured = r.configured; scripts = r.scripts; phases = r.phases; lines = r.lines; input_lines = r.input_lines; clips_each = inl refl }
 
 files_are : (n : ℕ) (told : Option (List File)) → IsRunnable (generated_setup n) → AreAllFiles (Gen n) told (generated_setup n)
 files_are n told r = record { runnable = r; of_command = refl; valid = told_all told }
@@ -283,5 +255,5 @@ module _ (n : ℕ) (old : StoreModel) where
   -- ---- the whole
 
   pub generated_ends : IsRunnable s → BothLaw → HeadlineLaw → (mid new : StoreModel) (w : Worked) → PutsAll (generated_files n) (unrefused old) (unrefused mid) → Performed mid (unmade n) new w → Ends (Gen n) old new w
-  generated_ends runnable both headline mid new w made (inl after) = performed_ends (Gen n) old old new s w (λ config pictures. refl, λ config. refl) (asking_none old) (files_are n old.files runnable) (inl (run_too runnable both headline mid new w made after))
+  generated_ends runnable both headline mid new w made (inl after) = performed_ends (Gen n) old old new s w (λ s journal files are. refl, λ config. refl) (asking_none old) (files_are n old.files runnable) (inl (run_too runnable both headline mid new w made after))
   generated_ends runnable both headline mid new w made (inr (is, same, empty)) = subst (λ (t : StoreModel). Ends (Gen n) old t w) (sym same) (made_whole mid w made is empty)

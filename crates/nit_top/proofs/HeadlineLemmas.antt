@@ -1,49 +1,9 @@
 -- What the headline says, from the laws of the crates below.
 use Rattle.std.proofs.Common.{◌≡◌, ◌∙◌, ℕ, suc, ◌+◌, ◌*◌, ◌<◌, Bool, true, false, cond, List, [], ◌∷◌, ◌++◌, length, map, Some, None, refl, sym, ap, subst, arith, inl, inr, ◌⊎◌, zero-add}
-use Rattle.std.specs.Prelude.{slice_get, slice_index, option_map, Contains}
-use Rattle.std.specs.List.{AllByRecursion, range_with_len}
-use Rattle.std.proofs.lemmas.List.{length_push, length-append, map-append}
-use Rattle.std.proofs.lemmas.List.Elements.{Contains-append_left, Contains-append_right, Contains-push}
-use Rattle.std.proofs.lemmas.List.FromFn.{get_or-map-range_with_len, length-map-range_with_len}
-use Rattle.std.proofs.lemmas.Option.{slice_get_within, get_or_from_slice_get}
-use Rattle.nit_events.specs.declared.call.Call.{Call}
-use Rattle.nit_events.specs.declared.call.Call.TheVariants.{Close}
-use Rattle.nit_events.specs.declared.call.Reply.{Reply}
-use Rattle.nit_events.specs.declared.device.Device.{Device}
+use Rattle.nit_top.proofs.Basics.{Action, AllByRecursion, AreNearShots, AreOutputs, AreRoundsOf, AreShotsOf, AreTexts, Call, Close, Configuration, Contains, Contains-append_left, Contains-append_right, Contains-push, Device, Entry, File, FitsEntry, Flat, HasPicture, HoldsAtEnd, HoldsAtShot, HoldsByWay, InputLine, IsClickOn, IsDrawnPicture, IsJournal, IsLegal, IsNear, IsNearFrame, IsNearPicture, Line, Reply, Routed, Scenery, Session, Setup, ShowsBy, State, Xray, action_of, actions_of_turns, after, alone_machine, as_many_files, donation_of, drawn_by_shot, ending_of, events_file, events_files, events_name, events_text, file_of_a_shot, final_name, final_picture, focus_after, frame, get_or-map-range_with_len, get_or_from_slice_get, is_accepted, is_button, journal_file, length-append, length-map-range_with_len, length_push, map-append, member, option_map, owner_of, picture_of, pixel, pixel_count, point, projection, range_with_len, raw_word, replay, rounds, same_throughout, scenery_of, session, shot_name, shots, shots_of, shown, slice_get, slice_get_within, slice_index, tables_left, text_files, words_of}
 use Rattle.nit_events.specs.declared.device.Device.TheVariants as device
-use Rattle.nit_events.specs.declared.device.Mode.TheVariants.{Flat, Xray}
-use Rattle.nit_events.specs.declared.entry.Entry.{Entry}
 use Rattle.nit_events.specs.declared.entry.Entry.TheVariants as entry
-use Rattle.nit_events.specs.declared.event.Routed.{Routed}
-use Rattle.nit_events.specs.Input.{is_button}
-use Rattle.nit_stack.specs.Sources.{pixel, point}
-use Rattle.nit_config.specs.Configuration.{Configuration, donation_of, member}
-use Rattle.nit_journal.specs.Replay.{IsLegal, replay, shots}
-use Rattle.nit_journal.specs.Projection.{alone_machine, projection}
-use Rattle.nit_journal.specs.Session.{Session}
-use Rattle.nit_journal.proofs.ForCallers.{same_throughout}
-use Rattle.nit_journal.specs.State.{State, after, owner_of, session}
-use Rattle.nit_journal.specs.StackAfter.{is_accepted}
-use Rattle.nit_journal.specs.WholeJournals.{Action, Ends, action_of}
-use Rattle.nit_script.specs.declared.line.Line.{Line}
-use Rattle.nit_script.specs.declared.line.InputLine.{InputLine}
-use Rattle.nit_overlay.specs.Frame.{Scenery, shown, frame}
-use Rattle.nit_scene.specs.RawWords.{pixel_count}
-use Rattle.nit_scene.specs.Scene.{scenery_of}
-use Rattle.nit_report.specs.EventsText.{events_text}
-use Rattle.nit_report.specs.JournalText.{FitsEntry}
-use Rattle.nit_store.specs.Store.{File}
-use Rattle.nit_actor.specs.TurnActions.{AreRoundsOf, actions_of_turns}
-use Rattle.nit_actor.specs.Rounds.{rounds}
-use Rattle.nit_actor.specs.RoundsRun.{shot_name}
-use Rattle.nit_actor.specs.Drawing.{picture_of, shots_of, words_of}
-use Rattle.nit_actor.specs.Shots.{AreShotsOf, IsDrawnPicture, drawn_by_shot}
-use Rattle.nit_actor.specs.Pictures.{AreNearShots, IsNearPicture}
-use Rattle.nit_hall.specs.NearWords.{IsNear, IsNearFrame}
-use Rattle.nit_actor.proofs.ForCallers.{as_many_files, file_of_a_shot}
-use Rattle.nit_top.specs.Setup.{Setup}
-use Rattle.nit_top.specs.Outputs.{IsJournal, AreOutputs, ending_of, events_file, events_files, events_name, final_name, final_picture, journal_file, raw_word, tables_left, text_files}
-use Rattle.nit_top.specs.Headline.{AreTexts, IsClickOn, focus_after, ShowsBy, HasPicture, HoldsAtShot, HoldsByWay, HoldsAtEnd}
+use Rattle.nit_journal.specs.WholeJournals.{Ends}
 use Rattle.nit_top.proofs.RunLemmas.{with_texts}
 
 -- ---- the focus

@@ -1,38 +1,12 @@
 -- The entries of a run's journal are within the format of texts.
 use Rattle.std.proofs.Common.{◌≡◌, ◌∙◌, ℕ, zero, suc, ◌+◌, ◌<◌, ◌≤◌, Bool, true, false, cond, List, [], ◌∷◌, ◌++◌, length, get_or, refl, sym, ap, subst, arith, zero-add, append_assoc}
-use Rattle.std.specs.Prelude.{All, option_map, ◌==◌}
-use Rattle.std.specs.List.{AllByRecursion}
-use Rattle.std.proofs.lemmas.Bool.{eq-eqb}
-use Rattle.std.proofs.lemmas.List.{get_or-map, length-append, length-map}
-use Rattle.nit_events.specs.declared.call.Call.{Call}
-use Rattle.nit_events.specs.declared.call.Call.TheVariants.{Close}
-use Rattle.nit_events.specs.declared.call.Reply.{Reply}
-use Rattle.nit_events.specs.declared.device.Device.{Device}
-use Rattle.nit_events.specs.declared.event.Delivery.{Delivery}
-use Rattle.nit_events.specs.declared.event.Routed.{Routed}
-use Rattle.nit_events.specs.declared.entry.Entry.{Entry}
+use Rattle.std.specs.Prelude.{◌==◌}
+use Rattle.nit_top.proofs.Basics.{Agrees, All, AllByRecursion, AreLines, Call, Calls, Close, Configuration, Delivery, Device, Does, Entry, FitsCall, FitsDelivery, FitsDevice, FitsEntry, FitsInputLine, FitsItem, FitsLine, FitsReply, Gets, InputLine, InputState, IsJournal, IsLegal, IsLive, IsRunnable, Line, Observation, Reply, Routed, Session, Setup, Shoots, State, UserAction, after, alone_machine, bar_rows, calls_from, calls_of, calls_of-append, calls_to_make, clicks_on, deliveries_of, donation_of, done, each_at, eq-eqb, first_session, first_state, forget, get_or-map, input_after_call, is_accepted, items_to, length-append, length-map, option_map, owner, point, pointer_after, projection, replay, replay_from, routed_as, session, shots, user_actions_from, user_actions_of}
 use Rattle.nit_events.specs.declared.entry.Entry.TheVariants as entry
-use Rattle.nit_events.specs.Input.{InputState, deliveries_of, forget, pointer_after, routed_as}
 use Rattle.nit_stack.specs.declared.view.View.{View}
-use Rattle.nit_stack.specs.Sources.{owner, point}
-use Rattle.nit_config.specs.Configuration.{Configuration, bar_rows, donation_of}
-use Rattle.nit_journal.specs.Deliveries.{IsLive}
-use Rattle.nit_journal.specs.Replay.{Agrees, IsLegal, replay, replay_from, shots}
-use Rattle.nit_journal.specs.Projection.{Observation, Calls, Gets, alone_machine, items_to, projection}
-use Rattle.nit_journal.specs.Session.{Session, first_session}
-use Rattle.nit_journal.specs.State.{State, after, clicks_on, input_after_call, first_state, route, session}
-use Rattle.nit_journal.specs.StackAfter.{is_accepted}
-use Rattle.nit_journal.specs.WholeJournals.{UserAction, Does, Shoots, calls_of, user_actions_of, done}
-use Rattle.nit_journal.proofs.ForCallers.{calls_of-append}
-use Rattle.nit_script.specs.declared.line.Line.{Line}
+use Rattle.nit_journal.specs.State.{route}
 use Rattle.nit_script.specs.declared.line.Line.TheVariants as line
-use Rattle.nit_script.specs.declared.line.InputLine.{InputLine}
 use Rattle.nit_script.specs.declared.line.InputLine.TheVariants as input
-use Rattle.nit_script.specs.Spelling.{FitsCall, FitsDevice, FitsInputLine, FitsLine}
-use Rattle.nit_plan.specs.Calls.{calls_from, calls_to_make, user_actions_from}
-use Rattle.nit_report.specs.JournalText.{FitsDelivery, FitsEntry, FitsItem, FitsReply}
-use Rattle.nit_top.specs.Setup.{Setup, AreLines, IsRunnable}
-use Rattle.nit_top.specs.Outputs.{IsJournal}
 use Rattle.nit_top.proofs.RoutesFit.{ItemsFit, PointsFit, moved_fits, routing_fits}
 use Rattle.nit_top.proofs.MachinesFit.{IsFine, MomentFits, answer_fits, calls_among, moments_fine, opens_fine}
 
@@ -41,11 +15,6 @@ use Rattle.nit_top.proofs.MachinesFit.{IsFine, MomentFits, answer_fits, calls_am
 all_by_front : {A : Type 0} (P : A → Type 0) (xs : List A) → ((front : List A) (x : A) (rest : List A) → xs ≡ front ++ x ∷ rest → P x) → AllByRecursion P xs
 all_by_front P [] f = tt
 all_by_front {A = A} P (x ∷ xs) f = (f [] x xs refl, all_by_front P xs (λ front y rest e. f (x ∷ front) y rest (ap (λ (ys : List A). x ∷ ys) e)))
-
-all_at : {A : Type 0} (P : A → Type 0) (xs : List A) (k : ℕ) (d : A) → k < length xs → AllByRecursion P xs → P (get_or xs k d)
-all_at P [] k d inside h = absurd (omega arith)
-all_at P (x ∷ xs) zero d inside h = h.0
-all_at P (x ∷ xs) (suc k) d inside h = all_at P xs k d (omega arith) h.1
 
 -- ---- what scripts have done
 
@@ -217,7 +186,7 @@ module _ (laws : Laws) (s : Setup) (runnable : IsRunnable s) (journal : List Ent
   front_few front e rest sid parts inside =
       let there : sid < length s.scripts = subst (λ (n : ℕ). sid < n) (sym runnable.scripts) inside in
       let script = get_or s.scripts sid [] in
-      let lines = (all_at (AreLines FitsLine) s.scripts sid [] there runnable.lines).1 in
+      let lines = (each_at (AreLines FitsLine) s.scripts sid [] there runnable.lines).1 in
       let short = calls_short 0 script in
       let few = calls_few sid front in
       let all = ap length (sym (calls_are sid there) ∙ ap (calls_of sid) parts ∙ calls_of-append sid front (e ∷ rest)) ∙ length-append (calls_of sid front) (calls_of sid (e ∷ rest)) in
@@ -227,7 +196,7 @@ module _ (laws : Laws) (s : Setup) (runnable : IsRunnable s) (journal : List Ent
   call_fits front sid call r rest parts inside =
       let there : sid < length s.scripts = subst (λ (n : ℕ). sid < n) (sym runnable.scripts) inside in
       let script = get_or s.scripts sid [] in
-      let fits : AllByRecursion FitsCall (done (calls_to_make script)) = calls_fit 0 script (all_at (AreLines FitsLine) s.scripts sid [] there runnable.lines).0 in
+      let fits : AllByRecursion FitsCall (done (calls_to_make script)) = calls_fit 0 script (each_at (AreLines FitsLine) s.scripts sid [] there runnable.lines).0 in
       let calls : calls_of sid journal ≡ done (calls_to_make script) = calls_are sid there in
       call_there front sid call r rest (subst (λ (es : List Entry). AllByRecursion FitsCall (calls_of sid es)) parts (subst (λ (cs : List Call). AllByRecursion FitsCall cs) (sym calls) fits))
 

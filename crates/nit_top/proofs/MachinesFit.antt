@@ -1,24 +1,11 @@
 -- What the machine of a session answers is within the format of texts.
 use Rattle.std.proofs.Common.{◌≡◌, ℕ, ◌+◌, ◌*◌, ◌<◌, ◌≤◌, ◌^◌, Bool, true, false, cond, ◌&&◌, nat_lt, nat_le, List, [], ◌∷◌, ◌++◌, length, Option, Some, None, refl, subst, arith}
-use Rattle.std.specs.List.{AllByRecursion}
-use Rattle.std.proofs.Math.Nat.{min-le_right, mul-le-mul_left, mul-le-mul_right}
-use Rattle.std.proofs.lemmas.Bool.{and_parts, leb-true}
-use Rattle.nit_rect.specs.Rectangle.{is_place, is_rectangle}
-use Rattle.nit_events.specs.declared.event.Event.{Event}
-use Rattle.nit_events.specs.declared.event.Item.{Item}
+use Rattle.nit_top.proofs.Basics.{Above, AllByRecursion, Answered, Back, Buffer, Call, Calls, Close, Destroy, Event, FitsCall, FitsEvent, FitsItem, FitsReply, Front, Gets, Item, Observation, Offset, Place, Refresh, Reply, Session, Status, Take, Title, Upgrade, accepted, after_observations, and_parts, buffer_left, buffer_need, by_call, by_handle, by_life, by_quota, by_refusal, by_reserve, by_status, first_session, has_view, is_place, is_rectangle, is_side, is_title, leb-true, min-le_right, mul-le-mul_left, mul-le-mul_right, receive, refusal, second_none, taking, unless, view_left, view_need, ◌orelse◌}
 use Rattle.nit_events.specs.declared.event.Item.TheVariants as item
-use Rattle.nit_events.specs.declared.event.Status.{Status}
 use Rattle.nit_events.specs.declared.event.Status.TheVariants as status
-use Rattle.nit_events.specs.declared.call.Call.{Call}
-use Rattle.nit_events.specs.declared.call.Call.TheVariants.{Buffer, View, Place, Offset, Front, Back, Above, Title, Destroy, Refresh, Take, Upgrade, Close}
-use Rattle.nit_events.specs.declared.call.Reply.{Reply}
+use Rattle.nit_events.specs.declared.call.Call.TheVariants.{View}
 use Rattle.nit_events.specs.declared.call.Reply.TheVariants as reply
-use Rattle.nit_glyph.specs.Texts.{is_title}
-use Rattle.nit_slots.specs.Account.{buffer_need, buffer_left, view_need, view_left}
-use Rattle.nit_journal.specs.Session.{Session, Answered, ◌orelse◌, accepted, by_call, by_handle, by_life, by_quota, by_refusal, by_reserve, by_status, has_view, is_side, first_session, receive, refusal, serve, taking, unless}
-use Rattle.nit_journal.specs.Projection.{Observation, Calls, Gets, after_observations}
-use Rattle.nit_script.specs.Spelling.{FitsCall}
-use Rattle.nit_report.specs.JournalText.{FitsEvent, FitsItem, FitsReply}
+use Rattle.nit_journal.specs.Session.{serve}
 
 -- what is known of a machine that was called at most so often
 pub record IsFine (t : Session) (n : ℕ) : Type 0 where
@@ -126,11 +113,6 @@ accepted_fits t n (Back v) f few none = record { reply_fits = tt; fine = later t
 accepted_fits t n (Above v w) f few none = record { reply_fits = tt; fine = later t n f }
 accepted_fits t n (Title v text) f few none = record { reply_fits = tt; fine = later t n f }
 accepted_fits t n (Refresh x y w h) f few none = record { reply_fits = tt; fine = later t n f }
-
--- where neither refuses, the second does not
-second_none : (p q : Option Reply) → (p orelse q) ≡ None → q ≡ None
-second_none (Some r) q e = absurd cc
-second_none None q e = e
 
 served : (t : Session) (n : ℕ) (call : Call) → IsFine t n → n ≤ 2000000 → FitsCall call → AnswerFits (serve t call) n
 unfolding serve

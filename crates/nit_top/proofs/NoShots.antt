@@ -1,40 +1,16 @@
 -- The pictures of a run whose user takes no shot.
 use Rattle.std.proofs.Common.{◌≡◌, ℕ, zero, suc, List, [], ◌∷◌, ◌++◌, map, replicate, refl, ap, ◌∙◌}
-use Rattle.std.specs.Prelude.{count_by, fold}
-use Rattle.nit_events.specs.declared.entry.Entry.{Entry}
+use Rattle.nit_top.proofs.Basics.{ActorLine, AreOutputs, ByClient, ByUser, Configuration, Drawing, Entry, File, InputLine, IsJournal, Line, LineTurn, UserAction, after_turn, count_by, done, final_name, final_picture, fold, input_by_user, input_lines_of, is_phase, opening_drawing, rounds, shot_file, shots, shots_after, still_setup, user_actions_from, user_actions_of}
 use Rattle.nit_events.specs.declared.entry.Entry.TheVariants as entry
-use Rattle.nit_config.specs.Configuration.{Configuration}
-use Rattle.nit_journal.specs.Replay.{shots}
-use Rattle.nit_journal.specs.WholeJournals.{UserAction, user_actions_of, done}
-use Rattle.nit_plan.specs.Calls.{user_actions_from}
-use Rattle.nit_script.specs.declared.line.Line.{Line}
-use Rattle.nit_script.specs.declared.line.InputLine.{InputLine}
 use Rattle.nit_script.specs.declared.line.InputLine.TheVariants as input
-use Rattle.nit_script.specs.Phases.{is_phase}
-use Rattle.nit_store.specs.Store.{File}
-use Rattle.nit_actor.specs.Turn.{ActorLine, ByClient, ByUser, LineTurn}
-use Rattle.nit_actor.specs.Rounds.{rounds}
-use Rattle.nit_actor.specs.TurnActions.{input_by_user, input_lines_of}
-use Rattle.nit_actor.specs.ShotFrames.{shot_file}
-use Rattle.nit_actor.specs.Drawing.{Drawing, after_turn, drawn, opening_drawing, shots_after}
-use Rattle.nit_top.specs.Setup.{still_setup}
-use Rattle.nit_top.specs.Outputs.{IsJournal, AreOutputs, final_name, final_picture}
+use Rattle.nit_actor.specs.Drawing.{drawn}
+use Rattle.nit_top.proofs.RoomRunLemmas.{no_shots}
 
 -- ---- a user who does nothing
 
 no_deeds : (n phase : ℕ) → user_actions_from phase (replicate n input.Phase) ≡ []
 no_deeds zero phase = refl
 no_deeds (suc n) phase = no_deeds n (suc phase)
-
-some_deed : (d : UserAction) (ds : List UserAction) → d ∷ ds ≡ [] → ⊥
-some_deed d ds e = cc
-
-no_shots : (journal : List Entry) → user_actions_of journal ≡ [] → shots journal ≡ 0
-no_shots [] e = refl
-no_shots (entry.Shot n ∷ rest) e = absurd (some_deed _ _ e)
-no_shots (entry.Input d r ∷ rest) e = absurd (some_deed _ _ e)
-no_shots (entry.Call s c r ∷ rest) e = no_shots rest e
-no_shots (entry.Final ∷ rest) e = no_shots rest e
 
 phase_first : (n : ℕ) (l : InputLine) (rest : List InputLine) → l ∷ rest ≡ replicate n input.Phase → (l ≡ input.Phase) × ((k : ℕ) × (rest ≡ replicate k input.Phase))
 phase_first zero l rest e = absurd cc

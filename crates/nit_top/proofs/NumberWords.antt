@@ -1,13 +1,7 @@
 -- The number that a word spells, among those from a number on.
 use Rattle.std.proofs.Common.{◌≡◌, ℕ, suc, zero, ◌+◌, ◌<◌, ◌≤◌, ◌^◌, true, false, List, Option, Some, None, refl, sym, ap, ◌∙◌, arith, inl, inr}
-use Rattle.std.specs.Prelude.{find, IfSome, IfNone}
-use Rattle.std.specs.List.{range_with_len}
-use Rattle.std.specs.Str.{bytes_eq}
-use Rattle.std.specs.Fmt.{decimal}
-use Rattle.std.proofs.lemmas.Bool.{cases_Bool}
-use Rattle.std.proofs.lemmas.Fmt.{decimal_injective}
-use Rattle.std.proofs.lemmas.Slice.Eq.{bytes_eq-Decides}
-use Rattle.nit_top.specs.Command.{number_among, number_up_to}
+use Rattle.nit_top.proofs.Basics.{IfNone, IfSome, bytes_eq, bytes_eq-Decides, cases_Bool, decimal, decimal_injective, find, number_up_to, range_with_len}
+use Rattle.nit_top.specs.Command.{number_among}
 
 abbrev search_from : List ℕ → ℕ → ℕ → Option ℕ
 search_from word a k = find (λ n. bytes_eq (decimal n) word) (range_with_len a k)

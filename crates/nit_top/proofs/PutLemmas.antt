@@ -1,17 +1,7 @@
 -- What files that are put one after the other leave: all were put; or those before one, which was refused.
 use Rattle.std.proofs.Common.{◌≡◌, ℕ, true, false, List, [], ◌∷◌, ◌++◌, map, Option, Some, None, Result, Ok, Err, refl, sym, ap, subst, ◌∙◌, append_assoc, inr}
-use Rattle.std.specs.Option.{is_some}
-use Rattle.std.proofs.lemmas.List.{append-nil}
-use Rattle.nit_store.specs.declared.store.PutError.{PutError}
+use Rattle.nit_top.proofs.Basics.{AfterPut, AskedAtMost, File, IsPut, PutEach, PutError, PutFault, PutFiles, PutIn, PutRefusal, PutState, PutsAll, PutsFile, PutsNext, PutsUnless, StoreModel, WriteFaulted, append-nil, asked_also, asking_all, is_some, none_behind, output_name, put_state_of_run, refusal_by, unrefused, with_asked}
 use Rattle.nit_store.specs.declared.store.PutError.TheVariants as put
-use Rattle.nit_store.specs.Store.{StoreModel, File, IsPut, PutIn, WriteFaulted, with_asked}
-use Rattle.nit_store.specs.StoreAnswers.{AfterPut, AskedAtMost}
-use Rattle.nit_store.specs.Puts.{PutState, PutsAll, PutsFile, PutsNext, PutsUnless, PutRefusal, refusal_by, unrefused}
-use Rattle.nit_store.proofs.ForCallers.{none_behind}
-use Rattle.nit_top.specs.Course.{asked_also, PutEach, PutFiles}
-use Rattle.nit_top.specs.ProgramLines.{output_name}
-use Rattle.nit_top.specs.declared.run.PutFault.{PutFault}
-use Rattle.nit_top.specs.Work.{asking_all, put_state_of_run}
 use Rattle.nit_top.proofs.AskedNames.{also_more, asking_none}
 
 -- these files were put
@@ -45,7 +35,7 @@ each_more : (files : List File) (f : File) (old mid new : List File) → PutEach
 each_more [] f old mid new h p = (new, subst (λ (o : List File). IsPut f.0 f.1 o new) h p, refl)
 each_more (g ∷ files) f old mid new h p = (h.0, h.1, each_more files f h.0 mid new h.2 p)
 
-same_files : (a b : List File) → Some a ≡ Some b → a ≡ b
+pub same_files : (a b : List File) → Some a ≡ Some b → a ≡ b
 same_files a b e = cc
 
 files_more : (files : List File) (f : File) (old mid new : Option (List File)) → PutFiles files old mid → PutIn f.0 f.1 mid new → PutFiles (files ++ f ∷ []) old new

@@ -1,22 +1,7 @@
 -- A film of a region tells of nothing else.
 use Rattle.std.proofs.Common.{◌≡◌, ℕ, zero, suc, ◌+◌, ◌-◌, ◌*◌, ◌/◌, ◌%◌, ◌<◌, List, [], ◌∷◌, length, map, refl, sym, ap, ap₂, ◌∙◌, arith, mul_comm}
-use Rattle.std.specs.Prelude.{pos, slice_index}
-use Rattle.std.specs.List.{range_with_len}
-use Rattle.std.proofs.lemmas.Nat.{div_below, mod_below}
-use Rattle.std.proofs.lemmas.Int.{ints}
-use Rattle.std.proofs.lemmas.Bool.{and_parts}
-use Rattle.nit_rect.specs.Rectangle.{Rectangle, rectangle, spans}
-use Rattle.nit_rect.specs.Intersection.{HasPixels, LiesIn}
-use Rattle.nit_rect.proofs.ForCallers.{and_true, spans_holds, spans_tells}
-use Rattle.nit_config.specs.Configuration.{Configuration}
-use Rattle.nit_capture.specs.Tiles.{IsPicture}
-use Rattle.nit_capture.specs.Film.{stream}
-use Rattle.nit_capture.specs.Crop.{Shows, crop, crop_bytes, crop_pixel, crop_place, screen, word_of_bytes}
-use Rattle.nit_report.specs.Picture.{picture, picture_header}
-use Rattle.nit_top.specs.declared.region.Region.{Region}
-use Rattle.nit_top.specs.Region.{rectangle_of}
-use Rattle.nit_top.specs.RunFilm.{film_of}
-use Rattle.nit_top.specs.RegionPictures.{AgreeInRegion, AllAgreeInRegion, HaveOneScreen, word_seen}
+use Rattle.nit_top.proofs.Basics.{AgreeInRegion, AllAgreeInRegion, Configuration, HasPixels, HaveOneScreen, IsPicture, LiesIn, Rectangle, Region, Shows, and_parts, and_true, crop, crop_pixel, div_below, film_of, ints, mod_below, picture, picture_header, pos, range_with_len, rectangle, rectangle_of, screen, slice_index, spans, spans_holds, spans_tells, stream, word_of_bytes, word_seen}
+use Rattle.nit_capture.specs.Crop.{crop_bytes, crop_place}
 
 -- ---- films of pictures that agree
 

@@ -1,51 +1,12 @@
 -- A run whose clients are beside each other: its beginning, and what it leaves.
 use Rattle.std.proofs.Common.{◌≡◌, ◌∙◌, true, false, ℕ, zero, suc, ◌+◌, ◌<◌, List, [], ◌∷◌, ◌++◌, length, length-append, map, take, Some, refl, sym, ap, subst, arith, append_assoc, zero-add}
-use Rattle.std.specs.Prelude.{All, slice_get, slice_index_or}
-use Rattle.std.specs.List.{range_with_len}
-use Rattle.std.proofs.lemmas.List.{append-nil, take_all}
-use Rattle.std.proofs.lemmas.List.FromFn.{get_or-map-range_with_len, length-map-range_with_len}
+use Rattle.nit_top.proofs.Basics.{All, AreBlank, AreBuffers, AreDone, AreKeysBlank, AreNearShots, AreOutputs, Bare, Belongs, Black, BufferName, Configuration, Entry, File, HasRun, InputLine, IsDoneUser, IsJournal, IsKnownWhole, IsLegal, IsNearPicture, IsOpen, IsOpening, IsReady, IsSetting, IsWhole, Line, OpeningParts, PassModel, PixelSource, PlanModel, PutState, PutsAll, PutsNext, PutsShotsBehind, Ran, Role, RoomModel, Setup, ShotsBehind, State, StoreModel, UserAction, UserBelongs, UserPassModel, UserRole, Word, append-nil, calls_to_make, deeds_done, deeds_of-append, donation_of, events_files, files_both, final_name, final_picture, first_pass, first_state, fit_again, fits_belongs, frame, get_or-map-range_with_len, journal_file, left_word, length-map-range_with_len, new_sight, no_files, parts_of, picture, picture_of, pixel_count, plan_in, plans_of, put_state_of_run, puts_both, range_with_len, raw_word, replay, role_at, role_of, roles_fit, roles_long, same_throughout, scenery_of, setup_of, shots, slice_get, slice_index_or, source_at, table_size, tables_left, take_all, text_files, unrefused, user_actions_in, user_actions_of, user_actions_to_do, user_role_of, words_left_in, words_of}
 use mathlib.Core.List.{IsPrefix}
-use Rattle.nit_events.specs.declared.entry.Entry.{Entry}
 use Rattle.nit_events.specs.declared.entry.Entry.TheVariants as entry
-use Rattle.nit_script.specs.declared.line.Line.{Line}
-use Rattle.nit_script.specs.declared.line.InputLine.{InputLine}
-use Rattle.nit_stack.specs.Sources.{PixelSource, Bare, Black, Word}
-use Rattle.nit_config.specs.Configuration.{Configuration, donation_of}
-use Rattle.nit_journal.specs.State.{State, first_state}
-use Rattle.nit_journal.specs.Replay.{IsLegal, IsOpen, replay, shots}
-use Rattle.nit_journal.specs.WholeJournals.{UserAction, IsWhole, user_actions_of}
-use Rattle.nit_journal.proofs.ForCallers.{deeds_of-append, same_throughout}
-use Rattle.nit_plan.specs.Calls.{calls_to_make, user_actions_to_do}
-use Rattle.nit_plan.specs.ScriptWords.{table_size}
-use Rattle.nit_plan.specs.SessionLists.{plan_in}
-use Rattle.nit_plan.specs.Plan.{PlanModel}
-use Rattle.nit_overlay.specs.Frame.{frame}
-use Rattle.nit_pixels.specs.End.{BufferName, End, new_sight}
-use Rattle.nit_report.specs.Picture.{picture}
-use Rattle.nit_scene.specs.RawWords.{source_at, pixel_count}
-use Rattle.nit_scene.specs.Scene.{scenery_of}
-use Rattle.nit_store.specs.Store.{File, StoreModel}
-use Rattle.nit_store.specs.Puts.{PutState, PutsAll, PutsNext, unrefused}
-use Rattle.nit_store.proofs.ForCallers.{puts_both}
-use Rattle.nit_hall.specs.ServedLines.{user_actions_in}
-use Rattle.nit_hall.specs.OpeningParts.{OpeningParts}
-use Rattle.nit_hall.specs.Pass.{PassModel, UserPassModel, Belongs, UserBelongs, AreDone, IsDoneUser}
-use Rattle.nit_hall.specs.Room.{RoomModel}
-use Rattle.nit_hall.specs.Opening.{AreBlank, IsOpening, IsSetting, first_pass, parts_of}
-use Rattle.nit_hall.specs.RoomEnd.{left_word, words_left_in}
-use Rattle.nit_hall.proofs.ForCallers.{deeds_done}
-use Rattle.nit_actor.specs.Drawing.{picture_of, word_from, words_of}
-use Rattle.nit_actor.specs.Role.{Role, UserRole, role_of, user_role_of}
-use Rattle.nit_actor.specs.Pictures.{AreNearShots, IsNearPicture, PutsShotsBehind}
-use Rattle.nit_actor.specs.Shots.{ShotsBehind}
-use Rattle.nit_actor.proofs.ForCallers.{files_both, no_files, fit_again, fits_belongs, role_at, roles_fit, roles_long}
-use Rattle.nit_top.specs.declared.run.Ran.{Ran}
-use Rattle.nit_top.specs.Setup.{Setup}
-use Rattle.nit_top.specs.RoomRun.{AreBuffers, AreKeysBlank, IsReady, IsKnownWhole}
-use Rattle.nit_top.specs.RoundsOpening.{plans_of}
-use Rattle.nit_top.specs.Outputs.{AreOutputs, IsJournal, events_files, final_name, final_picture, journal_file, raw_word, tables_left, text_files}
-use Rattle.nit_top.specs.Work.{HasRun, put_state_of_run, setup_of}
+use Rattle.nit_pixels.specs.End.{End}
+use Rattle.nit_actor.specs.Drawing.{word_from}
 use Rattle.nit_top.proofs.FinalWords.{OneMore}
+use Rattle.nit_top.proofs.PerClient.{plans_long}
 
 -- the setup of an opening, as it runs
 abbrev pub setup_in : OpeningParts → Setup
@@ -53,7 +14,7 @@ setup_in parts = setup_of parts.config parts.scripts parts.input true true
 
 -- ---- lists
 
-at_get : {X : Type 0} (xs : List X) (k : ℕ) (x d : X) → slice_get xs k ≡ Some x → (k < length xs) × (slice_index_or xs k d ≡ x)
+pub at_get : {X : Type 0} (xs : List X) (k : ℕ) (x d : X) → slice_get xs k ≡ Some x → (k < length xs) × (slice_index_or xs k d ≡ x)
 at_get [] k x d e = absurd cc
 at_get (y ∷ ys) zero x d e = (omega arith, cc)
 at_get (y ∷ ys) (suc k) x d e = let rest = at_get ys k x d e in (let n = rest.0 in omega (arith, n), rest.1)
@@ -81,9 +42,6 @@ one_key config plans k keys keys' key counted all is more =
     (subst (λ (n : ℕ). key.sight ≡ new_sight n (table_size (donation_of config n)) (plan_in plans n).ink) (sym counted) is))
 
 -- ---- the plans
-
-pub plans_long : (config : Configuration) (scripts : List (List Line)) (plans : List PlanModel) → plans ≡ plans_of config scripts → length plans ≡ length scripts
-plans_long config scripts plans are = ap (λ (ps : List PlanModel). length ps) are ∙ length-map-range_with_len _ 0 (length scripts)
 
 -- ---- the beginning
 
@@ -173,7 +131,7 @@ known_whole scripts input next known entries journal (more, front) ended is all 
     let n = ap length (deeds ∙ ap user_actions_of parts ∙ deeds_of-append known rest) in
     (rest, parts, empty (user_actions_of rest) (omega (arith, n, length-append (user_actions_of known) (user_actions_of rest))))
 
-no_shots : (es : List Entry) → user_actions_of es ≡ [] → shots es ≡ 0
+pub no_shots : (es : List Entry) → user_actions_of es ≡ [] → shots es ≡ 0
 no_shots [] none = refl
 no_shots (entry.Call s c r ∷ es) none = no_shots es none
 no_shots (entry.Input dev routed ∷ es) none = absurd cc

@@ -1,19 +1,9 @@
 -- What the user's input delivers is within the format of texts.
 use Rattle.std.proofs.Common.{◌≡◌, ℕ, ◌-◌, ◌≤◌, Bool, true, false, cond, not, ◌&&◌, List, [], ◌∷◌, ◌++◌, Option, Some, None, refl, arith}
-use Rattle.std.specs.Prelude.{filter, ◌==◌}
-use Rattle.std.specs.List.{AllByRecursion}
-use Rattle.std.proofs.Math.Nat.{min-le_left}
-use Rattle.nit_events.specs.declared.event.Delivery.{Delivery}
-use Rattle.nit_events.specs.declared.event.Event.{Event}
+use Rattle.std.specs.Prelude.{◌==◌}
+use Rattle.nit_top.proofs.Basics.{AllByRecursion, Delivery, Device, Event, FitsDevice, FitsEvent, FitsItem, Flat, InputState, IsCode, Kill, Mode, Routing, Xray, filter, first_press, focusing, hovering, ignored, is_button, is_held, is_same, kill_button, kill_key, kill_mode, killing, leaving, letting_go, min-le_left, moving, pointer_after, press, pressing, received, release, routing, switching, takes_focus, to, unreceived, with_held, xray_key, xray_mode}
 use Rattle.nit_events.specs.declared.event.Event.TheVariants as event
-use Rattle.nit_events.specs.declared.device.Device.{Device}
 use Rattle.nit_events.specs.declared.device.Device.TheVariants as device
-use Rattle.nit_events.specs.declared.device.Mode.{Mode}
-use Rattle.nit_events.specs.declared.device.Mode.TheVariants.{Flat, Xray, Kill}
-use Rattle.nit_events.specs.Input.{InputState, Routing, first_press, focusing, with_held, hovering, ignored, is_button, is_held, is_same, kill_button, kill_key, kill_mode, killing, leaving, letting_go, moving, pointer_after, press, pressing, received, release, routing, switching, takes_focus, to, unreceived, xray_key, xray_mode}
-use Rattle.nit_events.specs.Ranges.{IsCode}
-use Rattle.nit_script.specs.Spelling.{FitsDevice}
-use Rattle.nit_report.specs.JournalText.{FitsEvent, FitsItem}
 
 -- each item is within the format
 abbrev pub ItemsFit : List Delivery → Type 0

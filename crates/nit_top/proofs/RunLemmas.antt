@@ -1,29 +1,7 @@
 -- What a run leaves: its journal, and its files.
 use Rattle.std.proofs.Common.{◌≡◌, ◌∙◌, ℕ, ◌+◌, Bool, true, false, cond, List, [], ◌∷◌, ◌++◌, map, refl, sym, ap, subst, arith}
-use Rattle.std.specs.Prelude.{count_by}
-use Rattle.std.proofs.lemmas.List.Sums.{sum_by-cons}
-use Rattle.nit_word.specs.Sight.{Sight}
-use Rattle.nit_events.specs.declared.entry.Entry.{Entry}
+use Rattle.nit_top.proofs.Basics.{AreOutputs, AreRoundsOf, Configuration, Entry, File, HasRun, HaveTables, InputLine, IsJournal, IsLegal, IsRoundsRun, IsWhole, Line, PutState, PutsAll, PutsNext, PutsShots, Ran, SceneModel, Setup, Sight, State, StoreModel, calls_to_make, count_by, events_files, final_name, final_picture, first_state, is_shot_entry, journal_file, picture_by, put_state_of_run, puts_both, replay, rounds, shots, shots_of, state_now, sum_by-cons, tables_left, text_files, unrefused, user_actions_to_do}
 use Rattle.nit_events.specs.declared.entry.Entry.TheVariants as entry
-use Rattle.nit_script.specs.declared.line.Line.{Line}
-use Rattle.nit_script.specs.declared.line.InputLine.{InputLine}
-use Rattle.nit_config.specs.Configuration.{Configuration}
-use Rattle.nit_journal.specs.State.{State, first_state}
-use Rattle.nit_journal.specs.Replay.{IsLegal, replay, shots}
-use Rattle.nit_journal.specs.WholeJournals.{IsWhole}
-use Rattle.nit_plan.specs.Calls.{calls_to_make, user_actions_to_do}
-use Rattle.nit_scene.specs.Scene.{SceneModel, state_now}
-use Rattle.nit_store.specs.Store.{File, StoreModel}
-use Rattle.nit_store.specs.Puts.{PutState, PutsAll, PutsNext, unrefused}
-use Rattle.nit_store.proofs.ForCallers.{puts_both}
-use Rattle.nit_actor.specs.TurnActions.{AreRoundsOf}
-use Rattle.nit_actor.specs.Rounds.{rounds}
-use Rattle.nit_actor.specs.RoundsRun.{IsRoundsRun}
-use Rattle.nit_actor.specs.Drawing.{PutsShots, shots_of}
-use Rattle.nit_top.specs.declared.run.Ran.{Ran}
-use Rattle.nit_top.specs.Setup.{Setup}
-use Rattle.nit_top.specs.Outputs.{HaveTables, AreOutputs, IsJournal, events_files, final_name, final_picture, journal_file, picture_by, tables_left, text_files}
-use Rattle.nit_top.specs.Work.{HasRun, is_shot_entry, put_state_of_run}
 use Rattle.nit_top.proofs.FinalWords.{OneMore}
 use Rattle.nit_top.proofs.PerClient.{left_tables}
 

@@ -1,30 +1,8 @@
 -- What the files make of a command, and that it can be run.
 use Rattle.std.proofs.Common.{◌≡◌, Bool, true, ℕ, zero, suc, ◌+◌, ◌≤◌, List, [], ◌∷◌, ◌++◌, length, replicate, take, Some, None, Err, refl, sym, ap, subst, ◌∙◌, arith, inl, inr, append_assoc, ◌*◌, cond}
-use Rattle.std.specs.Prelude.{IfSome, count_by, slice_get}
-use Rattle.std.proofs.lemmas.List.{length-map, length-replicate, take_all}
-use Rattle.std.proofs.Math.Seq.{take-append_seam}
-use Rattle.std.proofs.lemmas.List.Folds.{sum_by-replicate}
-use Rattle.std.proofs.lemmas.List.Sums.{count_by-le-length}
-use Rattle.std.specs.List.{AllByRecursion}
-use Rattle.nit_config.specs.Configuration.{Configuration}
-use Rattle.nit_config.specs.ConfigurationRanges.{IsConfiguration}
-use Rattle.nit_config.proofs.ForCallers.{still_configured}
-use Rattle.nit_script.specs.declared.line.Line.{Line}
-use Rattle.nit_script.specs.declared.line.InputLine.{InputLine}
+use Rattle.nit_top.proofs.Basics.{AllByRecursion, AreAllFiles, AreLines, AreScripts, Command, Configuration, Fault, FirstFiles, FitsInputLine, FitsLine, HasRead, HasReadScripts, HaveSamePhases, IfSome, InputLine, IsClientFault, IsClientScript, IsConfig, IsConfigFault, IsConfiguration, IsInputFault, IsInputScript, IsRunnable, IsValid, Judged, Line, NoFile, Performed, ReadScripts, Refused, Run, SoFar, SpellScripts, Still, Stop, StoppedAmong, StoppedAt, StoreModel, Worked, asking_all, bytes_of, count_by, count_by-le-length, first_names, idle_user, input_phases, is_input_phase, is_phase, length-map, length-replicate, name_text, names_in, phases, reads, script_names, setup_of, slice_get, still_configured, still_setup, sum_by-replicate, take-append_seam, take_all, wanted_by, with_asked, wrong_input, wrong_phases}
 use Rattle.nit_script.specs.declared.line.InputLine.TheVariants as input
-use Rattle.nit_script.specs.Phases.{is_phase, phases, is_input_phase, input_phases}
-use Rattle.nit_script.specs.Spelling.{FitsLine, FitsInputLine}
-use Rattle.nit_store.specs.Store.{StoreModel, bytes_of, with_asked}
-use Rattle.nit_top.specs.declared.finish.Fault.{Fault}
-use Rattle.nit_top.specs.declared.finish.Stop.{Stop}
-use Rattle.nit_top.specs.declared.finish.Worked.{Worked}
-use Rattle.nit_top.specs.Command.{Command, Still, Run}
-use Rattle.nit_actor.specs.IdleUser.{idle_user}
-use Rattle.nit_top.specs.Setup.{AreLines, still_setup, HaveSamePhases, IsRunnable}
-use Rattle.nit_top.specs.Judgement.{IsConfig, IsConfigFault, IsClientScript, IsClientFault, IsInputScript, IsInputFault, SpellScripts, AreScripts, script_names, wanted_by, wrong_phases, wrong_input, Judged, Refused, IsValid, names_in, reads}
-use Rattle.nit_top.specs.FilesRead.{NoFile, FirstFiles, HasRead, AreAllFiles, first_names}
-use Rattle.nit_top.specs.ProgramLines.{name_text}
-use Rattle.nit_top.specs.Work.{asking_all, SoFar, StoppedAt, StoppedAmong, HasReadScripts, ReadScripts, setup_of, Performed, Ends}
+use Rattle.nit_top.specs.Work.{Ends}
 use Rattle.nit_top.proofs.AskedNames.{asking_none, asking_both, asking_more}
 use Rattle.nit_top.proofs.Scripts.{told_so, told_so_both, phases_are}
 use Rattle.nit_top.proofs.WorkLemmas.{stopped_ends, performed_ends}
@@ -34,7 +12,7 @@ use Rattle.nit_top.proofs.WorkLemmas.{stopped_ends, performed_ends}
 some_none : (f : Fault) → Some f ≡ None → ⊥
 some_none f e = cc
 
-all_so : {A : Type 0} (P Q : A → Type 0) (xs : List A) → ((x : A) → P x → Q x) → AllByRecursion P xs → AllByRecursion Q xs
+pub all_so : {A : Type 0} (P Q : A → Type 0) (xs : List A) → ((x : A) → P x → Q x) → AllByRecursion P xs → AllByRecursion Q xs
 all_so P Q [] f all = tt
 all_so P Q (x ∷ xs) f all = (f x all.0, all_so P Q xs f all.1)
 
@@ -51,7 +29,7 @@ pub run_runnable : (beside : Bool) (config : Configuration) (scripts : List (Lis
 run_runnable beside config scripts lines configured counted fit same input_fits right =
     let count : length scripts ≡ length config.clients = counted ∙ length-map config.clients (λ m. m.script) in
     let some : 1 ≤ length scripts = let c = configured.count.0 in omega arith in
-    record { configured = configured; scripts = count; phases = all_phases scripts lines some same right; lines = fit; input_lines = input_fits }
+    record { configured = configured; scripts = count; phases = all_phases scripts lines some same right; lines = fit; input_lines = input_fits; clips_each = inl refl }
 
 -- ---- a user who does nothing
 
@@ -66,6 +44,7 @@ still_runnable width height lines some few tall short fits = record {
   phases = (ap (λ (n : ℕ). n + 1) (sym (count_all (count_by is_phase lines))), tt);
   lines = (fits, tt);
   input_lines = (idle_fits (count_by is_phase lines), idle_few);
+  clips_each = inl refl;
 }
   where
     idle_few : length (idle_user lines) ≤ 65536
@@ -88,7 +67,7 @@ module _ (width height : ℕ) (script : List ℕ) (old : StoreModel) where
 
   pub still_ends : (mid new : StoreModel) (lines : List Line) (w : Worked) → mid ≡ with_asked old script → IfSome old.files (λ files. IsClientScript None (bytes_of script files) lines) → IsRunnable (still_setup width height lines) → Performed mid (still_setup width height lines) new w → Ends still old new w
   still_ends mid new lines w asked valid runnable h =
-      performed_ends still old mid new (still_setup width height lines) w (λ config pictures. refl, λ config. refl) asked
+      performed_ends still old mid new (still_setup width height lines) w (λ s journal files are. refl, λ config. refl) asked
       (record {
         runnable = runnable;
         of_command = (lines, refl);
@@ -99,10 +78,10 @@ module _ (width height : ℕ) (script : List ℕ) (old : StoreModel) where
 -- ---- lists
 
 -- the first items of a list, as many as another list has
-take_front : {A B : Type 0} (before behind : List A) (xs : List B) → length xs ≡ length before → take (length xs) (before ++ behind) ≡ before
+pub take_front : {A B : Type 0} (before behind : List A) (xs : List B) → length xs ≡ length before → take (length xs) (before ++ behind) ≡ before
 take_front before behind xs same = ap (λ (n : ℕ). take n (before ++ behind)) same ∙ take-append_seam before behind
 
-get_behind : {A B : Type 0} (before : List A) (x : A) (behind : List A) (xs : List B) → length xs ≡ length before → slice_get (before ++ x ∷ behind) (length xs) ≡ Some x
+pub get_behind : {A B : Type 0} (before : List A) (x : A) (behind : List A) (xs : List B) → length xs ≡ length before → slice_get (before ++ x ∷ behind) (length xs) ≡ Some x
 get_behind {A = A} before x behind xs same = ap (λ (n : ℕ). slice_get (before ++ x ∷ behind) n) same ∙ at before
   where
     at : (ys : List A) → slice_get (ys ++ x ∷ behind) (length ys) ≡ Some x
@@ -177,17 +156,17 @@ module _ (beside : Bool) (name : List ℕ) (first : StoreModel) where
           mid stop w (asked_now ∙ ap (λ (ns : List (List ℕ)). asking_all first (name ∷ ns)) (sym all_names)) is h at none
 
       -- all names were asked for
-      all_asked : (now : StoreModel) → now ≡ with_asked mid config.input → now ≡ asking_all first (reads run config)
+      all_asked : (now : StoreModel) → now ≡ with_asked mid config.input → now ≡ asking_all first (reads run (setup_of config scripts [] true beside))
       all_asked now read = read ∙ ap (λ (s : StoreModel). with_asked s config.input) asked_now ∙ asking_more first (name ∷ script_names config) config.input
 
       -- all files are valid
       all_files : (lines : List InputLine) → IfSome mid.files (λ files. IsInputScript (wanted_by scripts) (bytes_of config.input files) lines) → IsRunnable (setup_of config scripts lines true beside) → AreAllFiles run first.files (setup_of config scripts lines true beside)
       all_files lines valid runnable = record {
         runnable = runnable;
-        of_command = (refl, refl, refl);
+        of_command = (refl, refl, refl, refl);
         valid =
             told_so_both (λ files. IsConfig (bytes_of name files) config × AreScripts files (script_names config) scripts) (λ files. IsInputScript (wanted_by scripts) (bytes_of config.input files) lines) (λ files. IsValid run files (setup_of config scripts lines true beside)) first.files
-            (λ files v q. (v.0, record { scripts = v.1; input = q }, refl, refl, refl)) (valid_too (script_names config) scripts valid_scripts)
+            (λ files v q. (v.0, record { scripts = v.1; input = q }, refl, refl, refl, refl)) (valid_too (script_names config) scripts valid_scripts)
             (subst (λ (s : StoreModel). IfSome s.files (λ files. IsInputScript (wanted_by scripts) (bytes_of config.input files) lines)) asked_now valid);
       }
 
@@ -200,7 +179,7 @@ module _ (beside : Bool) (name : List ℕ) (first : StoreModel) (config : Config
 
   -- what was read, where all is valid
   pub read_whole : (scripts : List (List Line)) (lines : List InputLine) (now : StoreModel) → HasReadScripts config old scripts lines now → IsRunnable (setup_of config scripts lines true beside)
-      → (now ≡ asking_all first (reads (Run beside name) config)) × AreAllFiles (Run beside name) first.files (setup_of config scripts lines true beside)
+      → (now ≡ asking_all first (reads (Run beside name) (setup_of config scripts lines true beside))) × AreAllFiles (Run beside name) first.files (setup_of config scripts lines true beside)
   read_whole scripts lines now h runnable = (
     all_asked beside name first config configured is_config old h.between start scripts h.clients now h.asked,
     all_files beside name first config configured is_config old h.between start scripts h.clients lines h.valid runnable,
@@ -210,4 +189,4 @@ module _ (beside : Bool) (name : List ℕ) (first : StoreModel) (config : Config
       → Performed now (setup_of config scripts lines true beside) new w → Ends (Run beside name) first new w
   all_read scripts lines now new w h runnable performed =
       let all = read_whole scripts lines now h runnable in
-      performed_ends (Run beside name) first now new (setup_of config scripts lines true beside) w (λ k pictures. refl, λ k. refl) all.0 all.1 performed
+      performed_ends (Run beside name) first now new (setup_of config scripts lines true beside) w (λ k journal files are. refl, λ k. refl) all.0 all.1 performed

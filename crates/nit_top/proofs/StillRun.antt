@@ -1,33 +1,8 @@
 -- A run of one client whose user does nothing: its beginning, and what it leaves.
 use Rattle.std.proofs.Common.{◌≡◌, ◌∙◌, true, false, ℕ, ◌+◌, ◌<◌, List, [], ◌∷◌, ◌++◌, length, map, Some, refl, sym, ap, subst, arith}
-use Rattle.std.specs.Prelude.{drop, slice_get, slice_index_or, count_by}
-use Rattle.nit_config.specs.Configuration.{Configuration}
-use Rattle.nit_events.specs.declared.entry.Entry.{Entry}
+use Rattle.nit_top.proofs.Basics.{AreOutputs, AreRoundsOf, Belongs, Configuration, Entry, File, HasRun, InputLine, IsAlone, IsJournal, IsLegal, IsOpening, IsReady, IsReadyAlone, IsWhole, Line, OpeningParts, PassModel, PlanModel, PutsNext, Ran, RoomModel, Setup, StepTogether, StoreModel, UserPassModel, calls_to_make, count_by, drawn, drop, final_name, final_picture, idle_user, is_phase, put_state_of_run, rounds, setup_of, shot_file, shots, slice_get, slice_index_or, unrefused, user_actions_to_do}
 use Rattle.nit_events.specs.declared.entry.Entry.TheVariants as entry
-use Rattle.nit_journal.specs.Replay.{IsLegal, shots}
-use Rattle.nit_journal.specs.WholeJournals.{IsWhole}
-use Rattle.nit_script.specs.declared.line.Line.{Line}
-use Rattle.nit_script.specs.declared.line.InputLine.{InputLine}
-use Rattle.nit_script.specs.Phases.{is_phase}
-use Rattle.nit_plan.specs.Calls.{calls_to_make, user_actions_to_do}
-use Rattle.nit_plan.specs.Plan.{PlanModel}
 use Rattle.nit_pixels.specs.End.{End}
-use Rattle.nit_store.specs.Store.{File, StoreModel}
-use Rattle.nit_store.specs.Puts.{PutsNext, unrefused}
-use Rattle.nit_hall.specs.Opening.{IsOpening}
-use Rattle.nit_hall.specs.OpeningParts.{OpeningParts}
-use Rattle.nit_hall.specs.Pass.{PassModel, UserPassModel, Belongs}
-use Rattle.nit_hall.specs.Room.{RoomModel}
-use Rattle.nit_actor.specs.TurnActions.{AreRoundsOf}
-use Rattle.nit_actor.specs.ShotFrames.{shot_file}
-use Rattle.nit_actor.specs.Drawing.{drawn}
-use Rattle.nit_actor.specs.IdleUser.{StepTogether, idle_user}
-use Rattle.nit_actor.specs.Rounds.{rounds}
-use Rattle.nit_top.specs.declared.run.Ran.{Ran}
-use Rattle.nit_top.specs.RoomRun.{IsAlone, IsReady, IsReadyAlone}
-use Rattle.nit_top.specs.Outputs.{AreOutputs, IsJournal, final_name, final_picture}
-use Rattle.nit_top.specs.Setup.{Setup}
-use Rattle.nit_top.specs.Work.{HasRun, put_state_of_run, setup_of}
 use Rattle.nit_top.proofs.RoomRunLemmas.{get_at, is_ready}
 use Rattle.nit_top.proofs.NoShots.{UserOnce, no_picture}
 

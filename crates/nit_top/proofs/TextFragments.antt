@@ -1,10 +1,6 @@
 -- Pieces of a text that are said one after the other.
-use Rattle.std.specs.List.{flat_map}
+use Rattle.nit_top.proofs.Basics.{PutError, SayingRefused, Says, StoreModel, flat_map, saying-saying, with_said}
 use Rattle.std.proofs.Common.{◌≡◌, ℕ, zero, suc, ◌+◌, ◌<◌, length, take, drop, get_or, arith, add-one, List, [], ◌∷◌, ◌++◌, Result, Ok, Err, refl, sym, ap, subst, ◌∙◌, append_assoc}
-use Rattle.nit_store.specs.declared.store.PutError.{PutError}
-use Rattle.nit_store.specs.Store.{StoreModel, with_said}
-use Rattle.nit_store.proofs.ForCallers.{saying-saying}
-use Rattle.nit_top.specs.SaidText.{Says, SayingRefused}
 
 -- a piece, and then the rest of the text
 pub says_then : {T : Type 0} (old : StoreModel) (a b : List ℕ) (mid new : StoreModel) (r : Result T PutError) → mid ≡ with_said old a → Says mid b new r → Says old (a ++ b) new r

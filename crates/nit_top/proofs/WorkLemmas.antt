@@ -1,33 +1,11 @@
 -- How the work comes to its end: before a run is begun, and after one.
 use Rattle.std.proofs.Common.{◌≡◌, ℕ, ◌+◌, ◌≤◌, true, false, List, [], ◌∷◌, ◌++◌, length, Option, Some, None, refl, sym, ap, subst, ◌∙◌, inl, inr}
-use Rattle.std.specs.Prelude.{IfSome, option_map}
-use Rattle.std.proofs.lemmas.List.{append-nil}
-use Rattle.nit_config.specs.Configuration.{Configuration}
-use Rattle.nit_events.specs.declared.entry.Entry.{Entry}
-use Rattle.nit_journal.specs.Replay.{shots}
-use Rattle.nit_store.specs.declared.store.PutError.{PutError}
+use Rattle.nit_top.proofs.Basics.{AllFiles, AreAdded, AreAllFiles, AreOutputs, Begun, Came, Command, Configuration, Counts, Course, Entry, Fault, File, FilesRead, HasRead, Headline, IfSome, IsCommandRun, IsLastRead, IsPutBefore, Judged, Name, NoCommand, NoFile, NotBegun, Performed, PutError, PutFault, PutFiles, PutsAll, Refused, Rose, Setup, Stop, StoppedAt, StoreModel, Totals, Worked, append-nil, asked_also, asking_all, bytes_of, end_of_put, end_of_run, file_names, is_outside_of, line_of, name_text, names_read, next_name, option_map, output_name, put_state_of_run, reads, refusal_of, shots, unrefused}
 use Rattle.nit_store.specs.declared.store.PutError.TheVariants as put
-use Rattle.nit_store.specs.Store.{StoreModel, File, bytes_of, Rose}
-use Rattle.nit_store.specs.Puts.{PutsAll, unrefused}
 use Rattle.nit_top.specs.declared.finish.End.{End}
 use Rattle.nit_top.specs.declared.finish.End.TheVariants as ends
-use Rattle.nit_top.specs.declared.finish.Fault.{Fault}
-use Rattle.nit_top.specs.declared.finish.Name.{Name}
 use Rattle.nit_top.specs.declared.finish.Name.TheVariants as file_name
-use Rattle.nit_top.specs.declared.finish.Stop.{Stop}
-use Rattle.nit_top.specs.declared.finish.Worked.{Worked}
-use Rattle.nit_top.specs.declared.run.PutFault.{PutFault}
-use Rattle.nit_top.specs.Command.{Command, NoCommand}
-use Rattle.nit_top.specs.Setup.{Setup}
-use Rattle.nit_top.specs.Judgement.{Judged, Refused, reads}
-use Rattle.nit_top.specs.FilesRead.{FilesRead, NoFile, AllFiles, HasRead, AreAllFiles, names_read, next_name}
-use Rattle.nit_top.specs.Outputs.{AreOutputs}
-use Rattle.nit_top.specs.RunFilm.{added_by, is_outside_of, pictures_in}
-use Rattle.nit_top.specs.Headline.{Headline}
-use Rattle.nit_top.specs.ProgramLines.{Totals, name_text, output_name, line_of}
-use Rattle.nit_top.specs.Course.{asked_also, PutFiles, IsCommandRun, Course, Begun, NotBegun, IsLastRead, file_names, IsPutBefore}
-use Rattle.nit_top.specs.Answer.{Came, Counts}
-use Rattle.nit_top.specs.Work.{asking_all, StoppedAt, end_of_run, end_of_put, put_state_of_run, refusal_of, Performed, Ends}
+use Rattle.nit_top.specs.Work.{Ends}
 use Rattle.nit_top.proofs.AskedNames.{also_none, also_more}
 use Rattle.nit_top.proofs.PutLemmas.{PutAll, PutRefused, PutSo, all_put}
 
@@ -89,6 +67,7 @@ module _ (c : Command) (old : StoreModel) (read : FilesRead) (valid : HasRead c 
   stopped t ends.WriteFault h = absurd h
   stopped t ends.Outside h = absurd h
   stopped t ends.Whole h = absurd h
+  stopped t (ends.Unfit f) h = absurd h
   stopped t (ends.Audited n) h = absurd h
 
   -- the work of a command stopped at a file
@@ -108,9 +87,9 @@ abbrev totals_of : Setup → List Entry → Totals
 totals_of s journal = record { clients = length s.config.clients; entries = length journal; frames = shots journal + 1 }
 
 module _ (c : Command) (old : StoreModel) (s : Setup) (files_are : AreAllFiles c old.files s) (journal : List Entry) (outputs : List File) (are : AreOutputs s journal outputs) (headline : Headline s journal outputs)
-    (inside : is_outside_of c s.config ≡ false) (puts : List File) (puts_are : puts ≡ outputs ++ added_by c s.config (pictures_in are)) (new : StoreModel) where
+    (inside : is_outside_of c s.config ≡ false) (added : List File) (added_are : AreAdded c are added) (puts : List File) (puts_are : puts ≡ outputs ++ added) (new : StoreModel) where
   abbrev start : StoreModel
-  start = asking_all old (reads c s.config)
+  start = asking_all old (reads c s)
 
   abbrev run : IsCommandRun old c journal
   run = record {
@@ -120,13 +99,15 @@ module _ (c : Command) (old : StoreModel) (s : Setup) (files_are : AreAllFiles c
     outputs = outputs;
     are = are;
     headline = headline;
+    added = added;
+    added_are = added_are;
     puts = puts;
     puts_are = puts_are;
   }
 
   -- the names of outputs stand behind those that were read
-  behind : (names : List (List ℕ)) → asked_also start.asked names ≡ asked_also old.asked (reads c s.config ++ names)
-  behind names = also_more old.asked (reads c s.config) names
+  behind : (names : List (List ℕ)) → asked_also start.asked names ≡ asked_also old.asked (reads c s ++ names)
+  behind names = also_more old.asked (reads c s) names
 
   all_put_too : PutAll start puts new → CameTo c old new journal ends.Whole [] (totals_of s journal)
   all_put_too p = record {
@@ -192,7 +173,7 @@ module _ (c : Command) (old : StoreModel) (s : Setup) (files_are : AreAllFiles c
       subst (λ (n : Name). CameTo c old new journal (end_of_put f.error) (name_text n) t) (sym named) (refused (output_name f.file) p.front p.bytes p.back p.parts p.mid p.put t f.error p.refused)
 
 -- memory ran out before the first round
-unbegun : (c : Command) (old : StoreModel) (s : Setup) → AreAllFiles c old.files s → (new : StoreModel) (name : List ℕ) (t : Totals) → new ≡ asking_all old (reads c s.config) → CameTo c old new [] ends.NoMemory name t
+unbegun : (c : Command) (old : StoreModel) (s : Setup) → AreAllFiles c old.files s → (new : StoreModel) (name : List ℕ) (t : Totals) → new ≡ asking_all old (reads c s) → CameTo c old new [] ends.NoMemory name t
 unbegun c old s files_are new name t e = record {
   course = NotBegun refl;
   came = (inl (record { none = tt; same = ap (λ (s : StoreModel). s.files) e; read = AllFiles s; valid = files_are; asks = inl (ap (λ (s : StoreModel). s.asked) e) }), refl);
@@ -219,8 +200,10 @@ pub record IsRunOf (c : Command) (mid : StoreModel) (s : Setup) (new : StoreMode
   pub are : AreOutputs s journal outputs
   pub headline : Headline s journal outputs
   pub inside : is_outside_of c s.config ≡ false
+  pub added : List File
+  pub added_are : AreAdded c are added
   pub puts : List File
-  pub puts_are : puts ≡ outputs ++ added_by c s.config (pictures_in are)
+  pub puts_are : puts ≡ outputs ++ added
   pub fault : Option PutFault
   pub put : PutsAll puts (unrefused mid) (put_state_of_run new fault)
   pub end_is : w.stop.end ≡ end_of_run fault
@@ -230,26 +213,26 @@ pub record IsRunOf (c : Command) (mid : StoreModel) (s : Setup) (new : StoreMode
   pub frames_are : w.frames ≡ shots journal + 1
 
 -- the work of a command whose files are read and valid, and whose run went to its end
-pub run_ends : (c : Command) (old mid new : StoreModel) (s : Setup) (w : Worked) → mid ≡ asking_all old (reads c s.config) → AreAllFiles c old.files s → IsRunOf c mid s new w → Ends c old new w
+pub run_ends : (c : Command) (old mid new : StoreModel) (s : Setup) (w : Worked) → mid ≡ asking_all old (reads c s) → AreAllFiles c old.files s → IsRunOf c mid s new w → Ends c old new w
 run_ends c old mid new s w asked files_are r =
     let j = r.journal in
-    let start = asking_all old (reads c s.config) in
+    let start = asking_all old (reads c s) in
     let puts : PutSo start r.puts new (option_map refusal_of r.fault) = all_put start r.puts (put_state_of_run new r.fault) (subst (λ (m : StoreModel). PutsAll r.puts (unrefused m) (put_state_of_run new r.fault)) asked r.put) in
     let totals = same_totals s w j files_are.runnable.scripts r.clients_are r.journal_is r.frames_are in
     let here : CameTo c old new j (end_of_run r.fault) (name_text w.stop.name) (totals_on w) =
-    puts_end c old s files_are j r.outputs r.are r.headline r.inside r.puts r.puts_are new r.fault w.stop.name (totals_on w) totals r.name_is puts in
+    puts_end c old s files_are j r.outputs r.are r.headline r.inside r.added r.added_are r.puts r.puts_are new r.fault w.stop.name (totals_on w) totals r.name_is puts in
     let so : CameTo c old new j w.stop.end (name_text w.stop.name) (totals_on w) = subst (λ (e : End). CameTo c old new j e (name_text w.stop.name) (totals_on w)) (sym r.end_is) here in
     ends_by c old new w (subst (λ (k : List Entry). CameTo c old new k w.stop.end (name_text w.stop.name) (totals_on w)) (sym r.journal_is) so)
 
 -- the work of a command whose files are read and valid, where memory ran out before the run
-pub unbegun_ends : (c : Command) (old mid new : StoreModel) (s : Setup) (w : Worked) → mid ≡ asking_all old (reads c s.config) → AreAllFiles c old.files s → w.stop.end ≡ ends.NoMemory → new ≡ mid → w.journal.items ≡ [] → Ends c old new w
+pub unbegun_ends : (c : Command) (old mid new : StoreModel) (s : Setup) (w : Worked) → mid ≡ asking_all old (reads c s) → AreAllFiles c old.files s → w.stop.end ≡ ends.NoMemory → new ≡ mid → w.journal.items ≡ [] → Ends c old new w
 unbegun_ends c old mid new s w asked files_are end same none =
     let here : CameTo c old new [] ends.NoMemory (name_text w.stop.name) (totals_on w) = unbegun c old s files_are new (name_text w.stop.name) (totals_on w) (same ∙ asked) in
     let so : CameTo c old new [] w.stop.end (name_text w.stop.name) (totals_on w) = subst (λ (e : End). CameTo c old new [] e (name_text w.stop.name) (totals_on w)) (sym end) here in
     ends_by c old new w (subst (λ (k : List Entry). CameTo c old new k w.stop.end (name_text w.stop.name) (totals_on w)) (sym none) so)
 
 -- the region that is to be filmed does not lie on the screen
-pub outside_ends : (c : Command) (old new : StoreModel) (s : Setup) (w : Worked) → new ≡ asking_all old (reads c s.config) → AreAllFiles c old.files s → is_outside_of c s.config ≡ true → w.stop.end ≡ ends.Outside → w.journal.items ≡ [] → Ends c old new w
+pub outside_ends : (c : Command) (old new : StoreModel) (s : Setup) (w : Worked) → new ≡ asking_all old (reads c s) → AreAllFiles c old.files s → is_outside_of c s.config ≡ true → w.stop.end ≡ ends.Outside → w.journal.items ≡ [] → Ends c old new w
 outside_ends c old new s w asked files_are outside end none =
     let here : CameTo c old new [] ends.Outside (name_text w.stop.name) (totals_on w) = record {
       course = NotBegun refl;
@@ -262,10 +245,10 @@ outside_ends c old new s w asked files_are outside end none =
 
 -- the command films nothing: it adds no file, and no region lies outside
 abbrev pub FilmsNothing : Command → Type 0
-FilmsNothing c = ((config : Configuration) (pictures : List (List ℕ)) → added_by c config pictures ≡ []) × ((config : Configuration) → is_outside_of c config ≡ false)
+FilmsNothing c = ((s : Setup) (journal : List Entry) (files : List File) (are : AreOutputs s journal files) → AreAdded c are []) × ((config : Configuration) → is_outside_of c config ≡ false)
 
 -- the work of a command whose files are read and valid, and which films nothing
-pub performed_ends : (c : Command) (old mid new : StoreModel) (s : Setup) (w : Worked) → FilmsNothing c → mid ≡ asking_all old (reads c s.config) → AreAllFiles c old.files s → Performed mid s new w → Ends c old new w
+pub performed_ends : (c : Command) (old mid new : StoreModel) (s : Setup) (w : Worked) → FilmsNothing c → mid ≡ asking_all old (reads c s) → AreAllFiles c old.files s → Performed mid s new w → Ends c old new w
 performed_ends c old mid new s w nothing asked files_are (inl after) =
     let r = after.has_run in
     run_ends c old mid new s w asked files_are (record {
@@ -274,8 +257,10 @@ performed_ends c old mid new s w nothing asked files_are (inl after) =
       are = r.are;
       headline = after.headline;
       inside = nothing.1 s.config;
+      added = [];
+      added_are = nothing.0 s after.ran.journal.items r.outputs r.are;
       puts = r.outputs;
-      puts_are = sym (ap (λ (more : List File). r.outputs ++ more) (nothing.0 s.config (pictures_in r.are)) ∙ append-nil r.outputs);
+      puts_are = sym (append-nil r.outputs);
       fault = after.ran.fault;
       put = r.puts;
       end_is = after.end_is;

@@ -1,10 +1,7 @@
 -- What the top call answers, and why.
 use Rattle.std.specs.Prelude.{◌≡◌, ◌⊎◌, ℕ, ◌<◌, ◌≤◌, ◌==◌, Bool, true, false, IsTrue, List, [], ◌∷◌, ◌++◌, Option, option_map, Result, Ok, Err, IfSome, IsSomeAnd, if◌then◌else◌}
-use Rattle.std.specs.List.{list_any}
-use Rattle.nit_events.specs.declared.entry.Entry.{Entry}
-use Rattle.nit_store.specs.declared.store.PutError.{PutError}
+use Rattle.nit_top.specs.Below.{Entry, File, PutError, Rose, StoreModel, list_any}
 use Rattle.nit_store.specs.declared.store.PutError.TheVariants as put
-use Rattle.nit_store.specs.Store.{StoreModel, File, Rose}
 use Rattle.nit_top.specs.declared.finish.End.{End}
 use Rattle.nit_top.specs.declared.finish.End.TheVariants as ends
 use Rattle.nit_top.specs.Command.{Gen, NoCommand, Command, command}
@@ -12,7 +9,7 @@ use Rattle.nit_top.specs.Setup.{Setup}
 use Rattle.nit_top.specs.Judgement.{Refused, Judged, IsRefusedWith, IsValid, fault_code}
 use Rattle.nit_top.specs.RunFilm.{is_outside_of}
 use Rattle.nit_top.specs.ProgramLines.{usage_line, read_fault_line, write_fault_line, outside_line, fault_line, audited_line, generated_line, summary_line, no_memory_line}
-use Rattle.nit_top.specs.Course.{Course, WithRun, IsNotBegun, IsOutside, IsLastRead, IsMadeBefore, IsMadeInPart, IsPutWhole, IsRefusedAt, IsCutShort, totals}
+use Rattle.nit_top.specs.Course.{Course, WithRun, IsBothRead, IsNotBegun, IsOutside, IsLastRead, IsMadeBefore, IsMadeInPart, IsPutWhole, IsRefusedAt, IsCutShort, totals}
 use Rattle.nit_top.specs.Audited.{IsAudit, AuditOr, IsAudited}
 
 -- ---- how the work came to its end
@@ -26,6 +23,9 @@ Came course files asked ends.ReadFault line =
     (name : List ℕ) × IsLastRead course files asked name × (line ≡ read_fault_line name)
 Came {old = old} {c = c} course files asked (ends.Refused f) line =
     (name : List ℕ) × IsLastRead course files asked name
+    × IfSome old.files (λ told. Judged c told (Refused name f)) × (line ≡ fault_line name f)
+Came {old = old} {c = c} course files asked (ends.Unfit f) line =
+    (name : List ℕ) × IsBothRead course files asked
     × IfSome old.files (λ told. Judged c told (Refused name f)) × (line ≡ fault_line name f)
 Came course files asked ends.Outside line = IsOutside course files asked × (line ≡ outside_line)
 Came course files asked ends.WriteFault line =
@@ -59,6 +59,7 @@ abbrev pub code_of : End → ℕ
 code_of ends.Usage = 2
 code_of ends.ReadFault = 3
 code_of (ends.Refused f) = fault_code f
+code_of (ends.Unfit f) = fault_code f
 code_of ends.WriteFault = 4
 code_of ends.NoMemory = 7
 code_of ends.Outside = 10
@@ -123,14 +124,15 @@ HasValidFiles c told = IsSomeAnd told (IsValidSo c false)
 
 -- the status is one of those with which the work ends before a run
 abbrev pub IsEarly : ℕ → Type 0
-IsEarly status = IsTrue (list_any (λ s. s == status) (2 ∷ 3 ∷ 5 ∷ 6 ∷ 8 ∷ 9 ∷ 10 ∷ []))
+IsEarly status = IsTrue (list_any (λ s. s == status) (2 ∷ 3 ∷ 5 ∷ 6 ∷ 8 ∷ 9 ∷ 10 ∷ 11 ∷ []))
 
 pub record Answer (old : StoreModel) (words : List (List ℕ)) (new : StoreModel) (status : ℕ)
     (journal : List Entry) : Type 0 where
   -- a run was begun, and this is it; or none was begun, and the journal is empty
   pub course : Course old (command words) journal
   -- there is no other status
-  pub statuses : IsTrue (list_any (λ s. s == status) (0 ∷ 2 ∷ 3 ∷ 4 ∷ 5 ∷ 6 ∷ 7 ∷ 8 ∷ 9 ∷ 10 ∷ []))
+  pub statuses : IsTrue (list_any (λ s. s == status)
+      (0 ∷ 2 ∷ 3 ∷ 4 ∷ 5 ∷ 6 ∷ 7 ∷ 8 ∷ 9 ∷ 10 ∷ 11 ∷ []))
   -- 2 exactly where the words are no command; 7 is free
   pub usage : status ≡ 2 → command words ≡ NoCommand
   pub is_usage : command words ≡ NoCommand → (status ≡ 2) ⊎ (status ≡ 7)
@@ -165,6 +167,12 @@ pub record Answer (old : StoreModel) (words : List (List ℕ)) (new : StoreModel
   pub outside : status ≡ 10 → IfSome old.files (IsValidSo (command words) true)
   pub is_outside : NoFault old.read_faults new.read_faults
       → IsSomeAnd old.files (IsValidSo (command words) true) → (status ≡ 10) ⊎ (status ≡ 7)
+  -- 11 exactly where all files are valid and the frames of the inner ones are too long for the
+  -- script that is to show them
+  pub frames_long : status ≡ 11 → IfSome old.files (λ files. IsRefusedWith 11 (command words) files)
+  pub are_frames_long : NoFault old.read_faults new.read_faults
+      → IsSomeAnd old.files (λ files. IsRefusedWith 11 (command words) files)
+      → (status ≡ 11) ⊎ (status ≡ 7)
   -- where the work ends before a run, nothing is put and the journal is empty
   pub nothing_put : IsEarly status → (new.files ≡ old.files) × (journal ≡ [])
   -- there the names that are asked for are those of valid files that were read, and at most the

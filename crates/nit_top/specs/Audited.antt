@@ -1,13 +1,7 @@
 -- A journal that was audited, and found to be one of a run.
 use Rattle.std.specs.Prelude.{◌≡◌, ℕ, ◌<◌, List, length, map, Option, IfSome}
-use Rattle.nit_events.specs.declared.entry.Entry.{Entry}
-use Rattle.nit_config.specs.Configuration.{donation_of}
-use Rattle.nit_journal.specs.Replay.{IsLegal}
-use Rattle.nit_journal.specs.Projection.{alone, projection, replies_to}
-use Rattle.nit_journal.specs.WholeJournals.{IsWhole}
-use Rattle.nit_plan.specs.Calls.{calls_to_make, user_actions_to_do}
+use Rattle.nit_top.specs.Below.{Entry, File, IsLegal, IsWhole, StoreModel, alone, bytes_of, calls_to_make, donation_of, projection, replies_to, user_actions_to_do}
 use Rattle.nit_audit.specs.declared.auditing.Verdict.TheVariants as verdict
-use Rattle.nit_store.specs.Store.{StoreModel, File, bytes_of}
 use Rattle.nit_top.specs.declared.finish.End.{End}
 use Rattle.nit_top.specs.declared.finish.End.TheVariants as end
 use Rattle.nit_top.specs.declared.finish.Fault.TheVariants as fault
@@ -56,7 +50,7 @@ pub record IsAudited {old : StoreModel} {c : Command} {journal : List Entry}
   pub counted : length entries ≡ count
   pub of_a_run : IsOfARun setup entries
   pub told : IfSome old.files (λ all. AreAudited c all setup entries)
-  pub asks : asked ≡ asked_also old.asked (reads c setup.config)
+  pub asks : asked ≡ asked_also old.asked (reads c setup)
 
 -- how an audit of entries ends, unless memory runs out
 abbrev pub IsAuditEnd : Setup → List Entry → End → Type 0

@@ -1,13 +1,8 @@
 -- What a run leaves that is filmed.
 use Rattle.std.specs.Prelude.{◌≡◌, ◌⊎◌, ℕ, ◌+◌, List, [], ◌∷◌, ◌++◌, length, Option, Result, Ok, Err, IfSome}
 use Rattle.nit_rect.specs.declared.memory.NoMemory.{NoMemory}
-use Rattle.nit_events.specs.declared.entry.Entry.{Entry}
-use Rattle.nit_journal.specs.Replay.{shots}
-use Rattle.nit_config.specs.Configuration.{Configuration}
-use Rattle.nit_capture.specs.Capture.{CaptureModel, first_capture}
+use Rattle.nit_top.specs.Below.{CaptureModel, Configuration, Entry, File, PutsAll, StoreModel, first_capture, shots, unrefused}
 use Rattle.nit_top.specs.Region.{rectangle_of}
-use Rattle.nit_store.specs.Store.{StoreModel, File}
-use Rattle.nit_store.specs.Puts.{PutsAll, unrefused}
 use Rattle.nit_top.specs.declared.finish.End.TheVariants as end
 use Rattle.nit_top.specs.declared.finish.Name.TheVariants as name
 use Rattle.nit_top.specs.declared.finish.Worked.{Worked}

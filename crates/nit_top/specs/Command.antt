@@ -1,9 +1,6 @@
 -- What the words of the command line ask for.
 use Rattle.std.specs.Prelude.{ℕ, ◌^◌, Bool, true, false, List, [], ◌∷◌, map, find, codes, Option, Some, None, String, if◌then◌else◌}
-use Rattle.std.specs.List.{range_with_len}
-use Rattle.std.specs.String.{string_bytes}
-use Rattle.std.specs.Str.{bytes_eq}
-use Rattle.std.specs.Fmt.{decimal}
+use Rattle.nit_top.specs.Below.{bytes_eq, decimal, most_height, most_width, range_with_len, string_bytes}
 use Rattle.nit_top.specs.declared.region.Region.{Region}
 
 -- the words as lists of bytes
@@ -13,14 +10,18 @@ texts words = map string_bytes words
 -- a picture of one client's script, on a screen of this width and height; or the run of a
 -- configuration, with its clients beside each other on threads of their own, or by turns; or the
 -- generated run of this number, with its clients beside each other; or the audit of a journal by a
--- configuration; or such a run of a configuration and the film of a region; or nothing that the
--- program does
+-- configuration; or a run of a configuration with its clients beside each other, and a clip script
+-- for each; or such a run without clip scripts, and the film of a region; or such a run of one
+-- configuration whose first client shows what the run of another by turns shows; or nothing that
+-- the program does
 pub data Command : Type 0 where
   Still : (width : ℕ) → (height : ℕ) → (script : List ℕ) → Command
   Run : (beside : Bool) → (configuration : List ℕ) → Command
   Gen : (number : ℕ) → Command
   Audit : (configuration : List ℕ) → (journal : List ℕ) → Command
+  Clip : (configuration : List ℕ) → Command
   Capture : (configuration : List ℕ) → (region : Region) → Command
+  Nested : (outer : List ℕ) → (inner : List ℕ) → Command
   NoCommand : Command
 
 -- the command starts threads
@@ -29,7 +30,9 @@ starts_threads (Still width height script) = false
 starts_threads (Run beside configuration) = beside
 starts_threads (Gen number) = true
 starts_threads (Audit configuration journal) = false
+starts_threads (Clip configuration) = true
 starts_threads (Capture configuration region) = true
+starts_threads (Nested outer inner) = true
 starts_threads NoCommand = false
 
 -- the number that a word spells in decimal, among so many from the first one on
@@ -63,23 +66,26 @@ capture configuration (Some x) (Some y) None h = NoCommand
 capture configuration (Some x) None w h = NoCommand
 capture configuration None y w h = NoCommand
 
--- `turns` or `run`, and the name of a configuration; or `gen`, and a number
+-- `turns`, `run` or `clip`, and the name of a configuration; or `gen`, and a number
 abbrev pub run_of : List ℕ → List ℕ → Command
 run_of verb word =
     if bytes_eq verb (codes "turns") then Run false word
     else (if bytes_eq verb (codes "run") then Run true word
-    else (if bytes_eq verb (codes "gen") then gen (natural_of word) else NoCommand))
+    else (if bytes_eq verb (codes "gen") then gen (natural_of word)
+    else (if bytes_eq verb (codes "clip") then Clip word else NoCommand)))
 
--- `audit`, and the names of a configuration and of a journal
-abbrev pub audit_of : List ℕ → List ℕ → List ℕ → Command
-audit_of verb configuration journal =
-    if bytes_eq verb (codes "audit") then Audit configuration journal else NoCommand
+-- `audit`, and the names of a configuration and of a journal; or `nested`, and the names of two
+-- configurations
+abbrev pub pair_of : List ℕ → List ℕ → List ℕ → Command
+pair_of verb first second =
+    if bytes_eq verb (codes "audit") then Audit first second
+    else (if bytes_eq verb (codes "nested") then Nested first second else NoCommand)
 
 -- `still`, a width of 1 up to 1024, a height of 1 up to 768, and the name of a script
 abbrev pub still_of : List ℕ → List ℕ → List ℕ → List ℕ → Command
 still_of verb width height script =
-    if bytes_eq verb (codes "still") then still (number_up_to 1024 width)
-    (number_up_to 768 height) script else NoCommand
+    if bytes_eq verb (codes "still") then still (number_up_to most_width width)
+    (number_up_to most_height height) script else NoCommand
 
 -- `capture`, the name of a configuration, and the four numbers of a region
 abbrev pub capture_command : List ℕ → List ℕ → List ℕ → List ℕ → List ℕ → List ℕ → Command
@@ -91,7 +97,7 @@ capture_command verb configuration x y w h =
 -- what all words ask for
 abbrev pub command : List (List ℕ) → Command
 command (verb ∷ word ∷ []) = run_of verb word
-command (verb ∷ configuration ∷ journal ∷ []) = audit_of verb configuration journal
+command (verb ∷ first ∷ second ∷ []) = pair_of verb first second
 command (verb ∷ width ∷ height ∷ script ∷ []) = still_of verb width height script
 command (verb ∷ configuration ∷ x ∷ y ∷ w ∷ h ∷ []) = capture_command verb configuration x y w h
 command words = NoCommand

@@ -1,8 +1,6 @@
 -- The work of a command, and then the line on it.
 use Rattle.std.specs.Prelude.{◌≡◌, ℕ, List, Result}
-use Rattle.nit_events.specs.declared.entry.Entry.{Entry}
-use Rattle.nit_store.specs.declared.store.PutError.{PutError}
-use Rattle.nit_store.specs.Store.{StoreModel}
+use Rattle.nit_top.specs.Below.{Entry, PutError, StoreModel}
 use Rattle.nit_top.specs.declared.finish.Worked.{Worked}
 use Rattle.nit_top.specs.Command.{Command}
 use Rattle.nit_top.specs.SaidText.{Says}

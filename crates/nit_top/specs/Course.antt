@@ -1,14 +1,13 @@
 -- How far a command came: the files that it read, the run, and the files that were put.
 use Rattle.std.specs.Prelude.{◌≡◌, ◌⊎◌, ℕ, ◌+◌, true, false, List, [], ◌∷◌, ◌++◌, length, map, Option, Some, None, option_map}
-use Rattle.nit_events.specs.declared.entry.Entry.{Entry}
-use Rattle.nit_journal.specs.Replay.{shots}
-use Rattle.nit_store.specs.Store.{StoreModel, File, IsPut}
+use Rattle.nit_top.specs.Below.{Entry, File, IsPut, StoreModel, shots}
 use Rattle.nit_top.specs.Command.{Command, Gen}
-use Rattle.nit_top.specs.Setup.{Setup, generated_files}
+use Rattle.nit_top.specs.Setup.{RunFiles, Setup, generated_files}
 use Rattle.nit_top.specs.Judgement.{reads}
-use Rattle.nit_top.specs.FilesRead.{FilesRead, HasRead, AreAllFiles, names_read, next_name}
+use Rattle.nit_top.specs.FilesRead.{FilesRead, BothFiles, HasRead, AreAllFiles, names_read, next_name}
 use Rattle.nit_top.specs.Outputs.{AreOutputs}
-use Rattle.nit_top.specs.RunFilm.{added_by, is_outside_of, pictures_in}
+use Rattle.nit_top.specs.RunFilm.{is_outside_of}
+use Rattle.nit_top.specs.AddedFiles.{AreAdded}
 use Rattle.nit_top.specs.Headline.{Headline}
 use Rattle.nit_top.specs.ProgramLines.{Totals}
 
@@ -43,8 +42,10 @@ pub record IsCommandRun (old : StoreModel) (c : Command) (journal : List Entry) 
   pub outputs : List File
   pub are : AreOutputs setup journal outputs
   pub headline : Headline setup journal outputs
+  pub added : List File
+  pub added_are : AreAdded c are added
   pub puts : List File
-  pub puts_are : puts ≡ outputs ++ added_by c setup.config (pictures_in are)
+  pub puts_are : puts ≡ outputs ++ added
 
 -- A run was begun, and this is it; or none was begun, and the journal is empty.
 pub data Course (old : StoreModel) (c : Command) (journal : List Entry) : Type 0 where
@@ -109,7 +110,19 @@ pub record IsOutside {old : StoreModel} {c : Command} {journal : List Entry}
   pub setup : Setup
   pub valid : AreAllFiles c old.files setup
   pub outside : is_outside_of c setup.config ≡ true
-  pub asks : asked ≡ asked_also old.asked (reads c setup.config)
+  pub asks : asked ≡ asked_also old.asked (reads c setup)
+
+-- No run was begun, and no file was put. All files of two configurations were read, and each is
+-- valid.
+pub record IsBothRead {old : StoreModel} {c : Command} {journal : List Entry}
+    (course : Course old c journal)
+    (files : Option (List File)) (asked : Option (List (List ℕ))) : Type 0 where
+  pub none : WithoutRun course
+  pub same : files ≡ old.files
+  pub o : RunFiles
+  pub i : RunFiles
+  pub valid : HasRead c old.files (BothFiles o i)
+  pub asks : asked ≡ asked_also old.asked (names_read c (BothFiles o i))
 
 -- ---- the files that are made before a run
 
@@ -153,7 +166,7 @@ IsMadeInPart course files asked =
 -- the names that a run asked for: those that the command reads, and then these
 abbrev pub asked_in : {old : StoreModel} {c : Command} {journal : List Entry}
     → IsCommandRun old c journal → List (List ℕ) → Option (List (List ℕ))
-asked_in {old = old} {c = c} run names = asked_also old.asked (reads c run.setup.config ++ names)
+asked_in {old = old} {c = c} run names = asked_also old.asked (reads c run.setup ++ names)
 
 -- All that the run puts was put, and nothing else.
 pub record IsPutWhole {old : StoreModel} {c : Command} {journal : List Entry}

@@ -1,10 +1,6 @@
 -- A film that is made of the pictures that a store is given.
 use Rattle.std.specs.Prelude.{◌≡◌, ℕ, Bool, true, List, [], ◌∷◌, ◌++◌, map, Option, Some, if◌then◌else◌}
-use Rattle.std.specs.List.{range_with_len}
-use Rattle.nit_capture.specs.Capture.{CaptureModel, cropped_bytes}
-use Rattle.nit_capture.specs.Film.{film_header, records}
-use Rattle.nit_store.specs.Store.{File, bytes_of}
-use Rattle.nit_actor.specs.RoundsRun.{shot_name}
+use Rattle.nit_top.specs.Below.{CaptureModel, File, bytes_of, cropped_bytes, film_header, range_with_len, records, shot_name}
 use Rattle.nit_top.specs.Outputs.{final_name}
 
 -- the names of the pictures of so many shots, and of the last picture, if that was taken

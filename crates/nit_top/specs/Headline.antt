@@ -1,43 +1,11 @@
 -- The headline: what a run promises of its journal and of its pictures.
 use Rattle.std.specs.Prelude.{◌≡◌, ◌⊎◌, ℕ, ◌+◌, ◌<◌, Bool, true, false, List, [], ◌∷◌, ◌++◌, length, slice_index, All, Contains, Option, Some, None, option_map, if◌then◌else◌}
-use Rattle.std.specs.List.{flat_map}
-use Rattle.nit_events.specs.declared.call.Call.{Call}
-use Rattle.nit_events.specs.declared.call.Call.TheVariants.{Close}
-use Rattle.nit_events.specs.declared.call.Reply.{Reply}
+use Rattle.nit_top.specs.Below.{Call, Close, Configuration, Device, Entry, Event, File, Flat, Gets, IsDown, IsLive, IsNear, Line, Observation, ReadsJournal, Reply, Routed, State, Xray, alone, alone_machine, calls_of, calls_to_make, deliveries_of, donation_of, done, drawn_by_shot, events_text, flat_map, is_accepted, is_button, journal_text, member, own_machine, owner_of, picture, pixel, pixel_count, point, projection, replay, replies_to, scenery_of, script_in, serve, shot_name, shots, shown, taken}
 use Rattle.nit_events.specs.declared.call.Reply.TheVariants as reply
-use Rattle.nit_events.specs.declared.device.Device.{Device}
 use Rattle.nit_events.specs.declared.device.Device.TheVariants as device
-use Rattle.nit_events.specs.declared.device.Mode.TheVariants.{Flat, Xray}
-use Rattle.nit_events.specs.declared.entry.Entry.{Entry}
 use Rattle.nit_events.specs.declared.entry.Entry.TheVariants as entry
-use Rattle.nit_events.specs.declared.event.Event.{Event}
 use Rattle.nit_events.specs.declared.event.Event.TheVariants as event
 use Rattle.nit_events.specs.declared.event.Item.TheVariants as item
-use Rattle.nit_events.specs.declared.event.Routed.{Routed}
-use Rattle.nit_events.specs.Input.{is_button, deliveries_of}
-use Rattle.nit_stack.specs.Sources.{pixel, point}
-use Rattle.nit_config.specs.Configuration.{Configuration, donation_of, member}
-use Rattle.nit_journal.specs.Deliveries.{IsLive}
-use Rattle.nit_journal.specs.Replay.{replay, shots}
-use Rattle.nit_journal.specs.Presses.{IsDown}
-use Rattle.nit_journal.specs.Projection.{Gets, Observation, alone, alone_machine, own_machine, projection, replies_to}
-use Rattle.nit_journal.specs.Session.{serve}
-use Rattle.nit_journal.specs.State.{State, owner_of}
-use Rattle.nit_journal.specs.StackAfter.{is_accepted}
-use Rattle.nit_journal.specs.WholeJournals.{calls_of, done}
-use Rattle.nit_script.specs.declared.line.Line.{Line}
-use Rattle.nit_plan.specs.Calls.{calls_to_make}
-use Rattle.nit_overlay.specs.Frame.{shown}
-use Rattle.nit_scene.specs.RawWords.{pixel_count}
-use Rattle.nit_scene.specs.Scene.{scenery_of}
-use Rattle.nit_report.specs.Picture.{picture}
-use Rattle.nit_report.specs.EventsText.{events_text, taken}
-use Rattle.nit_report.specs.JournalText.{ReadsJournal, journal_text}
-use Rattle.nit_store.specs.Store.{File}
-use Rattle.nit_plan.specs.SessionLists.{script_in}
-use Rattle.nit_hall.specs.NearWords.{IsNear}
-use Rattle.nit_actor.specs.RoundsRun.{shot_name}
-use Rattle.nit_actor.specs.Shots.{drawn_by_shot}
 use Rattle.nit_top.specs.Setup.{Setup}
 use Rattle.nit_top.specs.Outputs.{IsJournal, AreOutputs, ending_of, events_name, final_name, journal_file, raw_word, tables_left}
 

@@ -1,11 +1,7 @@
 -- What the bytes of a journal's file make of an audit.
 use Rattle.std.specs.Prelude.{ℕ, ◌^◌, ◌<◌, ◌≤◌, List, length}
-use Rattle.nit_events.specs.declared.entry.Entry.{Entry}
-use Rattle.nit_report.specs.JournalText.{ReadsJournal, IsFirstBadEntry}
-use Rattle.nit_audit.specs.declared.auditing.Verdict.{Verdict}
+use Rattle.nit_top.specs.Below.{Entry, IsFirstBadEntry, IsGood, IsVerdict, ReadsJournal, Verdict}
 use Rattle.nit_audit.specs.declared.auditing.Verdict.TheVariants as verdict
-use Rattle.nit_audit.specs.GoodEntries.{IsGood}
-use Rattle.nit_audit.specs.Verdict.{IsVerdict}
 use Rattle.nit_top.specs.declared.finish.Fault.{Fault}
 use Rattle.nit_top.specs.declared.finish.Fault.TheVariants as fault
 use Rattle.nit_top.specs.Setup.{Setup}

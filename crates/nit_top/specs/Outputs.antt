@@ -1,26 +1,8 @@
 -- What a run puts, and what its journal is.
 use Rattle.std.specs.Prelude.{◌≡◌, ℕ, ◌<◌, true, false, List, [], ◌∷◌, ◌++◌, length, map, codes, Some, if◌then◌else◌}
-use Rattle.std.specs.List.{range_with_len}
-use Rattle.nit_word.specs.Sight.{Sight}
-use Rattle.nit_events.specs.declared.entry.Entry.{Entry}
+use Rattle.nit_top.specs.Below.{AreNearShots, AreRoundsOf, Configuration, Ending, Entry, File, IsLegal, IsWhole, Line, Session, Sight, State, calls_to_make, donation_of, events_text, glass_in, journal_text, member, picture_of, range_with_len, replay, script_in, session, shots_of, source_at, user_actions_to_do, words_left, words_of}
 use Rattle.nit_events.specs.declared.entry.Entry.TheVariants as entry
-use Rattle.nit_config.specs.Configuration.{Configuration, donation_of, member}
-use Rattle.nit_journal.specs.Session.{Session}
-use Rattle.nit_journal.specs.State.{State, session}
-use Rattle.nit_journal.specs.Replay.{replay, IsLegal}
-use Rattle.nit_journal.specs.WholeJournals.{IsWhole}
-use Rattle.nit_scene.specs.RawWords.{glass_in, source_at}
-use Rattle.nit_script.specs.declared.line.Line.{Line}
-use Rattle.nit_plan.specs.Calls.{calls_to_make, user_actions_to_do}
-use Rattle.nit_plan.specs.ScriptWords.{words_left}
-use Rattle.nit_plan.specs.SessionLists.{script_in}
-use Rattle.nit_report.specs.declared.events.Ending.{Ending}
-use Rattle.nit_report.specs.EventsText.{events_text}
-use Rattle.nit_report.specs.JournalText.{journal_text}
-use Rattle.nit_store.specs.Store.{File}
-use Rattle.nit_actor.specs.TurnActions.{AreRoundsOf}
-use Rattle.nit_actor.specs.Drawing.{picture_of, shots_of, word_from, words_of}
-use Rattle.nit_actor.specs.Pictures.{AreNearShots}
+use Rattle.nit_actor.specs.Drawing.{word_from}
 use Rattle.nit_top.specs.Setup.{Setup}
 
 -- the entries are, in order, those of the rounds of the scripts, and then the last picture

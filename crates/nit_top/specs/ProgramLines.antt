@@ -1,7 +1,6 @@
 -- The lines that the program says.
 use Rattle.std.specs.Prelude.{ℕ, List, ◌++◌, take, codes}
-use Rattle.std.specs.Fmt.{decimal}
-use Rattle.nit_config.specs.declared.error.ConfigError.{ConfigError}
+use Rattle.nit_top.specs.Below.{ConfigError, decimal, script_name, shot_name}
 use Rattle.nit_config.specs.declared.error.ConfigError.TheVariants as config
 use Rattle.nit_top.specs.declared.finish.End.{End}
 use Rattle.nit_top.specs.declared.finish.End.TheVariants as end
@@ -14,10 +13,11 @@ use Rattle.nit_top.specs.declared.finish.Name.{Name}
 use Rattle.nit_top.specs.declared.finish.Name.TheVariants as name
 use Rattle.nit_top.specs.declared.say.Piece.{Piece}
 use Rattle.nit_top.specs.declared.say.Piece.TheVariants as piece
-use Rattle.nit_actor.specs.RoundsRun.{shot_name}
-use Rattle.nit_report.specs.Generator.{script_name}
 use Rattle.nit_top.specs.Outputs.{events_name, final_name, journal_name}
 use Rattle.nit_top.specs.RunFilm.{film_name}
+use Rattle.nit_top.specs.RunInner.{inner_journal_name}
+use Rattle.nit_top.specs.RunClips.{clips_name}
+use Rattle.nit_top.specs.Judgement.{clip_name}
 
 -- the text of a label that is kept as a plain value
 abbrev pub label_text : LabelBytes → List ℕ
@@ -33,10 +33,13 @@ output_name output.GeneratedConfig = codes "gen.toml"
 output_name (output.GeneratedScript client) = script_name client
 output_name output.GeneratedInput = codes "gen.in"
 output_name output.Film = film_name
+output_name output.Clips = clips_name
+output_name output.InnerJournal = inner_journal_name
 
 -- the text of a name
 abbrev pub name_text : Name → List ℕ
 name_text (name.Text text) = text.now
+name_text (name.ClipsOf script) = clip_name script.now
 name_text (name.Put file) = output_name file
 
 -- the bytes of a part of a line
@@ -51,7 +54,8 @@ says_of name rest = codes "nitpicker: " ++ (name ++ rest)
 
 abbrev pub usage_line : List ℕ
 usage_line =
-    codes "nitpicker: usage: nitpicker still W H SCRIPT, turns CONFIG, run CONFIG, gen N, audit CONFIG JOURNAL or capture CONFIG X Y W H\n"
+    codes "nitpicker: usage: nitpicker still W H SCRIPT, turns CONFIG, run CONFIG, gen N, "
+    ++ codes "audit CONFIG JOURNAL, clip CONFIG, capture CONFIG X Y W H or nested OUTER INNER\n"
 
 abbrev pub read_fault_line : List ℕ → List ℕ
 read_fault_line name = says_of name (codes ": read fault\n")
@@ -92,6 +96,9 @@ too_long_line name = says_of name (codes ": too long\n")
 abbrev pub phases_line : List ℕ → List ℕ
 phases_line name = says_of name (codes ": phases differ\n")
 
+abbrev pub frames_long_line : List ℕ → List ℕ
+frames_long_line name = says_of name (codes ": inner frames too long\n")
+
 -- the line on a file that is refused
 abbrev pub fault_line : List ℕ → Fault → List ℕ
 fault_line name (fault.BadConfig error) = bad_configuration_line name (kind_text error)
@@ -104,6 +111,7 @@ fault_line name (fault.BadEntry number) =
     numbered_line name (codes ": line ") number (codes ": bad journal\n")
 fault_line name (fault.NotARun number) =
     numbered_line name (codes ": entry ") number (codes ": not a run\n")
+fault_line name fault.FramesTooLong = frames_long_line name
 
 abbrev pub no_memory_line : List ℕ
 no_memory_line = codes "nitpicker: no memory\n"
@@ -134,6 +142,7 @@ abbrev pub line_of : End → List ℕ → Totals → List ℕ
 line_of end.Usage name totals = usage_line
 line_of end.ReadFault name totals = read_fault_line name
 line_of (end.Refused f) name totals = fault_line name f
+line_of (end.Unfit f) name totals = fault_line name f
 line_of end.Outside name totals = outside_line
 line_of end.WriteFault name totals = write_fault_line name
 line_of end.NoMemory name totals = no_memory_line

@@ -1,6 +1,6 @@
 -- Regions of a screen, by four numbers.
 use Rattle.std.specs.Prelude.{ℕ, ◌+◌, ◌<◌, ◌^◌, Bool, ◌==◌, ◌||◌, pos, nat_lt}
-use Rattle.nit_rect.specs.Rectangle.{Rectangle, rectangle}
+use Rattle.nit_top.specs.Below.{Rectangle, rectangle}
 use Rattle.nit_top.specs.declared.region.Region.{Region}
 
 -- each number has at most nine digits

@@ -1,8 +1,6 @@
 -- What pictures of a screen, as bytes, show inside a region.
 use Rattle.std.specs.Prelude.{◌≡◌, ℕ, ◌+◌, ◌-◌, ◌*◌, ◌<◌, ◌≤◌, List, length}
-use Rattle.std.specs.List.{AllZip}
-use Rattle.nit_config.specs.Configuration.{Configuration}
-use Rattle.nit_capture.specs.Crop.{word_of_bytes}
+use Rattle.nit_top.specs.Below.{AllZip, Configuration, word_of_bytes}
 use Rattle.nit_top.specs.declared.region.Region.{Region}
 
 -- two configurations have a screen of one size

@@ -1,21 +1,8 @@
 -- A run in a room: what it begins with, with its clients beside each other or one alone, and what
 -- its user knows at its end.
 use Rattle.std.specs.Prelude.{◌∷◌, ◌≡◌, ◌++◌, ℕ, ◌*◌, ◌≤◌, List, [], All, length, map, slice_get, Some, vec_len, vec_capacity}
-use Rattle.nit_events.specs.declared.entry.Entry.{Entry}
-use Rattle.nit_config.specs.Configuration.{Configuration, donation_of}
-use Rattle.nit_plan.specs.Plan.{PlanModel}
-use Rattle.nit_plan.specs.ScriptWords.{table_size}
-use Rattle.nit_plan.specs.SessionLists.{plan_in}
-use Rattle.nit_journal.specs.Replay.{IsOpen}
-use Rattle.nit_journal.specs.WholeJournals.{user_actions_of}
-use Rattle.nit_report.specs.Picture.{picture_length}
-use Rattle.nit_pixels.specs.End.{End, BufferName, new_sight}
-use Rattle.nit_hall.specs.OpeningParts.{OpeningParts}
-use Rattle.nit_hall.specs.Pass.{PassModel, UserPassModel, Belongs, UserBelongs}
-use Rattle.nit_hall.specs.Room.{RoomModel}
-use Rattle.nit_script.specs.declared.line.Line.{Line}
-use Rattle.nit_script.specs.declared.line.InputLine.{InputLine}
-use Rattle.nit_actor.specs.IdleUser.{StepTogether, idle_user}
+use Rattle.nit_top.specs.Below.{Belongs, BufferName, Configuration, Entry, InputLine, IsOpen, Line, OpeningParts, PassModel, PlanModel, RoomModel, StepTogether, UserBelongs, UserPassModel, donation_of, idle_user, new_sight, picture_length, plan_in, table_size, user_actions_of}
+use Rattle.nit_pixels.specs.End.{End}
 use Rattle.nit_top.specs.declared.memory.Memory.{Memory}
 
 -- the key of this number is to words 0, one for each place of the table of its session, with the

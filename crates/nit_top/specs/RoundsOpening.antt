@@ -1,16 +1,6 @@
 -- A run before its first round.
 use Rattle.std.specs.Prelude.{◌≡◌, ◌+◌, ◌*◌, ◌≤◌, List, [], length, map}
-use Rattle.std.specs.List.{range_with_len}
-use Rattle.nit_word.specs.Sight.{Sight}
-use Rattle.nit_script.specs.declared.line.Line.{Line}
-use Rattle.nit_script.specs.declared.line.InputLine.{InputLine}
-use Rattle.nit_config.specs.Configuration.{Configuration, donation_of}
-use Rattle.nit_plan.specs.Plan.{PlanModel, plan_of_script}
-use Rattle.nit_plan.specs.SessionLists.{script_in}
-use Rattle.nit_report.specs.Picture.{picture_length}
-use Rattle.nit_actor.specs.TurnActions.{actions_of_turns}
-use Rattle.nit_actor.specs.Rounds.{rounds}
-use Rattle.nit_actor.specs.RoundsRun.{IsSetUp, glass_after}
+use Rattle.nit_top.specs.Below.{Configuration, InputLine, IsSetUp, Line, PlanModel, Sight, actions_of_turns, donation_of, glass_after, picture_length, plan_of_script, range_with_len, rounds, script_in}
 use Rattle.nit_top.specs.declared.opening.Opened.{Opened}
 
 -- the plan of each client's script, in order
@@ -26,13 +16,12 @@ glasses_of config scripts =
     (range_with_len 0 (length scripts))
 
 -- The rounds of these scripts can begin: nothing is recorded, and there is room for the entries of
--- the rounds and for the last picture; no line is done; and the frame and the bytes have the size
--- of the screen's picture.
+-- the rounds and for the last picture; no line is done; and there are as many bytes as the screen's
+-- picture has.
 pub record IsRoundsOpening (config : Configuration) (scripts : List (List Line))
     (input : List InputLine) (o : Opened) : Type 0 where
   pub configuration : o.scene.config ≡ config
   pub entries : o.scene.entries ≡ []
   pub spare : length (actions_of_turns (rounds scripts input)) + 1 ≤ o.scene.spare
   pub set_up : IsSetUp config scripts o.plans.items o.scene.glasses o.owns.items
-  pub frame : length o.frame.items ≡ config.width * config.height
   pub text : length o.text.items ≡ picture_length config.width config.height

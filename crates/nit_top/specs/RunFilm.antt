@@ -1,10 +1,6 @@
 -- The film of a region, which a command puts behind the files of its run.
-use Rattle.std.specs.Prelude.{ℕ, Bool, false, List, [], ◌∷◌, ◌++◌, map, codes}
-use Rattle.nit_events.specs.declared.entry.Entry.{Entry}
-use Rattle.nit_config.specs.Configuration.{Configuration}
-use Rattle.nit_store.specs.Store.{File}
-use Rattle.nit_capture.specs.Film.{stream}
-use Rattle.nit_capture.specs.Crop.{crop_bytes}
+use Rattle.std.specs.Prelude.{◌≡◌, ℕ, Bool, false, List, [], ◌∷◌, ◌++◌, map, codes}
+use Rattle.nit_top.specs.Below.{Configuration, Entry, File, crop_bytes, stream}
 use Rattle.nit_top.specs.declared.region.Region.{Region}
 use Rattle.nit_top.specs.Region.{is_off_screen, rectangle_of}
 use Rattle.nit_top.specs.Command.{Command, Capture}
@@ -32,7 +28,7 @@ film_of region config pictures =
     let cut = crop_bytes config.width config.height (rectangle_of region) in
     stream region.w region.h (map cut pictures)
 
--- the files that a command adds behind those of its run: for `capture` the film of the run's
+-- the film that a command adds behind the files of its run: for `capture` that of the run's
 -- pictures
 abbrev pub added_by : Command → Configuration → List (List ℕ) → List File
 added_by (Capture configuration region) config pictures =

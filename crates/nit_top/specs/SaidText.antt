@@ -1,8 +1,7 @@
 -- A text that is said in pieces.
 use Rattle.std.specs.Prelude.{◌≡◌, List, ℕ, ◌++◌, Result, Ok, Err}
-use Rattle.nit_store.specs.declared.store.PutError.{PutError}
+use Rattle.nit_top.specs.Below.{PutError, StoreModel, WriteFaulted, with_said}
 use Rattle.nit_store.specs.declared.store.PutError.TheVariants as put
-use Rattle.nit_store.specs.Store.{StoreModel, with_said, WriteFaulted}
 
 -- what a refusal of a saying leaves
 abbrev pub SayingRefused : StoreModel → StoreModel → PutError → Type 0

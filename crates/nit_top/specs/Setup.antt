@@ -1,20 +1,18 @@
 -- What a run is made of.
-use Rattle.std.specs.Prelude.{◌≡◌, ℕ, ◌≤◌, Bool, false, true, List, [], ◌∷◌, ◌++◌, length, map, codes}
-use Rattle.std.specs.List.{AllByRecursion, range_with_len}
-use Rattle.nit_config.specs.Configuration.{Configuration, still_configuration}
-use Rattle.nit_config.specs.ConfigurationRanges.{IsConfiguration}
-use Rattle.nit_script.specs.declared.line.Line.{Line}
-use Rattle.nit_script.specs.declared.line.InputLine.{InputLine}
-use Rattle.nit_script.specs.Phases.{phases, input_phases}
-use Rattle.nit_script.specs.Spelling.{FitsLine, FitsInputLine}
-use Rattle.nit_actor.specs.IdleUser.{idle_user}
-use Rattle.nit_report.specs.Generator.{client_script, client_text, config_text, generated_configuration, script_name, user_script, user_text}
-use Rattle.nit_store.specs.Store.{File}
+use Rattle.std.specs.Prelude.{◌≡◌, ◌⊎◌, ℕ, ◌≤◌, Bool, false, true, List, [], ◌∷◌, ◌++◌, length, map, codes, Option, None}
+use Rattle.nit_top.specs.Below.{AllByRecursion, ClipLine, Configuration, File, FitsInputLine, FitsLine, InputLine, IsConfiguration, Line, client_script, client_text, clip_phases, config_text, generated_configuration, idle_user, input_phases, most_lines, phases, range_with_len, script_name, still_configuration, user_script, user_text}
+
+-- a configuration, the clients' scripts in its order, and the input script
+pub record RunFiles : Type 0 where
+  pub config : Configuration
+  pub scripts : List (List Line)
+  pub input : List InputLine
 
 -- The configuration, the clients' scripts in its order, and the input script. Texts: those of the
 -- events and of the journal are put behind the pictures. Beside: the clients run beside each other,
 -- each on a thread of its own; else all run by rounds, on one thread. Made: files that are put
--- before the run.
+-- before the run. Inner: what was run by turns before, where the first client's script shows that.
+-- Clips: a clip script for each client, in order, or none at all.
 pub record Setup : Type 0 where
   pub config : Configuration
   pub scripts : List (List Line)
@@ -22,6 +20,8 @@ pub record Setup : Type 0 where
   pub texts : Bool
   pub beside : Bool
   pub made : List File
+  pub inner : Option RunFiles
+  pub clips : List (List ClipLine)
 
 -- the setup of a picture of one client's script, by rounds and without texts
 abbrev pub still_setup : ℕ → ℕ → List Line → Setup
@@ -32,6 +32,8 @@ still_setup width height lines = record {
   texts = false;
   beside = false;
   made = [];
+  inner = None;
+  clips = [];
 }
 
 -- the scripts of the first so many clients of a generated run
@@ -53,6 +55,21 @@ generated_setup n = record {
   texts = true;
   beside = true;
   made = generated_files n;
+  inner = None;
+  clips = [];
+}
+
+-- the setup of a run by turns, with texts
+abbrev pub by_turns : RunFiles → Setup
+by_turns i = record {
+  config = i.config;
+  scripts = i.scripts;
+  input = i.input;
+  texts = true;
+  beside = false;
+  made = [];
+  inner = None;
+  clips = [];
 }
 
 -- all scripts have as many phases as the first
@@ -62,13 +79,20 @@ HaveSamePhases (first ∷ rest) = AllByRecursion (λ lines. phases lines ≡ pha
 
 -- at most 65,536 lines, each within the grammar
 abbrev pub AreLines : {L : Type 0} → (L → Type 0) → List L → Type 0
-AreLines Fits lines = AllByRecursion Fits lines × (length lines ≤ 65536)
+AreLines Fits lines = AllByRecursion Fits lines × (length lines ≤ most_lines)
+
+-- there is no clip script; or there is one for each script, in order, and each has so many phases
+abbrev pub AreClipsOf : List (List Line) → ℕ → List (List ClipLine) → Type 0
+AreClipsOf scripts wanted clips = (clips ≡ [])
+    ⊎ ((length clips ≡ length scripts) × AllByRecursion (λ lines. clip_phases lines ≡ wanted) clips)
 
 -- The configuration is within its ranges, and there is a script for each client. All scripts have
--- as many phases as the input script, and each has at most 65,536 lines, all within the grammar.
+-- as many phases as the input script, and each has at most 65,536 lines, all within the grammar. Clip
+-- scripts have as many phases too, and where there are some there is one for each client.
 pub record IsRunnable (s : Setup) : Type 0 where
   pub configured : IsConfiguration s.config
   pub scripts : length s.scripts ≡ length s.config.clients
   pub phases : AllByRecursion (λ lines. phases lines ≡ input_phases s.input) s.scripts
   pub lines : AllByRecursion (AreLines FitsLine) s.scripts
   pub input_lines : AreLines FitsInputLine s.input
+  pub clips_each : AreClipsOf s.scripts (input_phases s.input) s.clips

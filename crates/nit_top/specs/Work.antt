@@ -1,24 +1,11 @@
 -- How the work of a command comes to its end, before the line is said.
 use Rattle.std.specs.Prelude.{◌≡◌, ◌⊎◌, ℕ, ◌+◌, ◌<◌, ◌≤◌, Bool, true, false, List, [], ◌∷◌, ◌++◌, length, Option, Some, None, option_map, Result, Ok, Err, IfSome, Vec}
-use Rattle.std.specs.List.{AllByRecursion}
-use Rattle.std.specs.Global.{Global}
-use Rattle.nit_config.specs.Configuration.{Configuration}
-use Rattle.nit_events.specs.declared.entry.Entry.{Entry}
+use Rattle.nit_top.specs.Below.{AllByRecursion, AskedAtMost, Configuration, Entry, File, FitsLine, Global, InputLine, JournalError, Line, PutError, PutRefusal, PutState, PutsAll, ReadFaulted, ScriptError, StoreModel, bytes_of, shots, unrefused, with_asked}
 use Rattle.nit_events.specs.declared.entry.Entry.TheVariants as entry
-use Rattle.nit_journal.specs.Replay.{shots}
 use Rattle.nit_rect.specs.declared.memory.NoMemory.{NoMemory}
-use Rattle.nit_script.specs.declared.error.ScriptError.{ScriptError}
 use Rattle.nit_script.specs.declared.error.ScriptError.TheVariants as script
-use Rattle.nit_script.specs.declared.line.Line.{Line}
-use Rattle.nit_script.specs.declared.line.InputLine.{InputLine}
-use Rattle.nit_script.specs.Spelling.{FitsLine}
-use Rattle.nit_report.specs.declared.error.JournalError.{JournalError}
 use Rattle.nit_report.specs.declared.error.JournalError.TheVariants as journal
-use Rattle.nit_store.specs.declared.store.PutError.{PutError}
 use Rattle.nit_store.specs.declared.store.PutError.TheVariants as put
-use Rattle.nit_store.specs.Store.{StoreModel, File, bytes_of, with_asked, ReadFaulted}
-use Rattle.nit_store.specs.StoreAnswers.{AskedAtMost}
-use Rattle.nit_store.specs.Puts.{PutState, PutsAll, PutRefusal, unrefused}
 use Rattle.nit_top.specs.declared.finish.End.{End}
 use Rattle.nit_top.specs.declared.finish.End.TheVariants as end
 use Rattle.nit_top.specs.declared.finish.Fault.{Fault}
@@ -165,6 +152,8 @@ setup_of config scripts input texts beside =
       beside =
           beside;
       made = [];
+      inner = None;
+      clips = [];
     }
 
 -- the put that was refused

@@ -2,12 +2,7 @@
 
 ghost use Rattle.std.specs.Prelude.{false, ◌≡◌, ◌*◌, ◌++◌, ◌∷◌, [], length, map};
 ghost use Rattle.nit_events.specs.declared.entry.Entry.TheVariants as entry;
-ghost use Rattle.nit_journal.specs.Replay.{IsOpen};
-ghost use Rattle.nit_report.specs.Picture.{picture_length};
-ghost use Rattle.nit_hall.specs.Pass.{AreDone, IsDoneUser};
-ghost use Rattle.nit_top.specs.RoomRun.{IsAlone, IsReady, IsReadyAlone};
-ghost use Rattle.nit_top.specs.Setup.{IsRunnable};
-ghost use Rattle.nit_top.specs.Work.{HasRun, Runs, setup_of};
+ghost use Rattle.nit_top.specs.Terms.{AreDone, HasRun, IsAlone, IsDoneUser, IsOpen, IsReady, IsReadyAlone, IsRunnable, Runs, picture_length, setup_of};
 
 use crate::beside::last_picture;
 use crate::desk::put_final;

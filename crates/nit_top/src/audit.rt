@@ -1,13 +1,8 @@
 //! The audit of a journal: whether it is one of a run of a configuration's scripts.
 
 ghost use Rattle.std.specs.Prelude.{false, true, ◌≡◌, ◌≤◌, ◌^◌, ℕ, List, IfSome, length};
-ghost use Rattle.nit_config.specs.ConfigurationRanges.{IsConfiguration};
-ghost use Rattle.nit_store.specs.Store.{StoreModel, bytes_of, with_asked};
-ghost use Rattle.nit_top.specs.Audited.{IsAuditEnd};
-ghost use Rattle.nit_top.specs.Command.{Audit};
-ghost use Rattle.nit_top.specs.Judgement.{IsConfig};
-ghost use Rattle.nit_top.specs.Setup.{IsRunnable};
-ghost use Rattle.nit_top.specs.Work.{Ends, setup_of};
+ghost use Rattle.nit_top.specs.Terms.{Audit, IsAuditEnd, IsConfig, IsConfiguration, IsRunnable, StoreModel, bytes_of, setup_of, with_asked};
+ghost use Rattle.nit_top.specs.Work.{Ends};
 
 use crate::finish::{End, Fault, Worked, at, unbegun};
 use crate::load::load_journal;

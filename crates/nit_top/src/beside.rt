@@ -2,20 +2,8 @@
 
 ghost use Rattle.std.specs.Prelude.{true, ◌≡◌, ◌*◌, ◌++◌, ◌∷◌, ◌≤◌, [], All, length, map};
 ghost use mathlib.Core.List.{IsPrefix};
-ghost use Rattle.nit_word.specs.Inks.{IsWord};
+ghost use Rattle.nit_top.specs.Terms.{AreDone, HasRun, IsDoneUser, IsKnownWhole, IsLegal, IsMemory, IsOpen, IsReady, IsRunnable, IsWhole, IsWord, Runs, calls_to_make, final_picture, frame, most_height, most_width, picture, picture_length, scenery_of, setup_of, state_now, user_actions_to_do, words_left_in};
 ghost use Rattle.nit_events.specs.declared.entry.Entry.TheVariants as entry;
-ghost use Rattle.nit_journal.specs.Replay.{IsLegal, IsOpen};
-ghost use Rattle.nit_journal.specs.WholeJournals.{IsWhole};
-ghost use Rattle.nit_overlay.specs.Frame.{frame};
-ghost use Rattle.nit_scene.specs.Scene.{scenery_of, state_now};
-ghost use Rattle.nit_plan.specs.Calls.{calls_to_make, user_actions_to_do};
-ghost use Rattle.nit_report.specs.Picture.{picture, picture_length};
-ghost use Rattle.nit_hall.specs.RoomEnd.{words_left_in};
-ghost use Rattle.nit_hall.specs.Pass.{AreDone, IsDoneUser};
-ghost use Rattle.nit_top.specs.RoomRun.{IsKnownWhole, IsMemory, IsReady};
-ghost use Rattle.nit_top.specs.Outputs.{final_picture};
-ghost use Rattle.nit_top.specs.Setup.{IsRunnable};
-ghost use Rattle.nit_top.specs.Work.{HasRun, Runs, setup_of};
 
 use crate::desk::{put_final, refused_shot};
 use crate::memory::{Memory, buffers_of, canvases_of, memory_of};
@@ -134,15 +122,43 @@ pub fn last_picture<'a>(
     ensures picture { let parts = room.entry.parts in text.new.items ≡ final_picture
         (setup_of parts.config parts.scripts parts.input true true) result.entries }
 {
-    one_more_entry();
     let mut room = room;
     let mut passes = passes;
     let mut user = user;
+    end_with_picture(&mut room, &mut passes, &mut user, frame, text);
+    room.into_scene()
+}
+
+/// Ends the room by the passes, and sets `text` to the bytes of its last picture. Its journal is
+/// then whole.
+pub fn end_with_picture<'a>(
+    room: &mut Room<'a>,
+    passes: &mut Vec<Pass<'a>>,
+    user: &mut UserPass<'a>,
+    frame: &mut Vec<u32>,
+    text: &mut Vec<u8>,
+)
+    requires done { AreDone room.old.parts passes.old.items }
+    requires user { IsDoneUser room.old.parts user.old }
+    requires open { IsOpen room.old.scene.entries }
+    requires frame { length frame.old.items
+        ≡ room.old.parts.config.width * room.old.parts.config.height }
+    requires text { length text.old.items
+        ≡ picture_length room.old.parts.config.width room.old.parts.config.height }
+    ensures parts { room.new.parts ≡ room.old.parts }
+    ensures config { room.new.scene.config ≡ room.old.parts.config }
+    ensures legal { IsLegal room.old.parts.config room.new.scene.entries }
+    ensures whole { IsWhole (map calls_to_make room.old.parts.scripts)
+        (user_actions_to_do room.old.parts.input) room.new.scene.entries }
+    ensures known { IsKnownWhole user.old.seen room.new.scene.entries }
+    ensures picture { let parts = room.old.parts in text.new.items ≡ final_picture
+        (setup_of parts.config parts.scripts parts.input true true) room.new.scene.entries }
+{
+    one_more_entry();
     let (width, height) = room.scene().size();
     let _known = user.next();
-    end_room(&mut room, &mut passes, &mut user, frame);
+    end_room(room, passes, user, frame);
     picture_into(text, width, height, frame);
-    room.into_scene()
 }
 
 /// Ends the room, and sets `out` to its last picture.
@@ -157,6 +173,7 @@ fn end_room<'a>(
     requires open { IsOpen room.old.scene.entries }
     requires out { length out.old.items
         ≡ room.old.parts.config.width * room.old.parts.config.height }
+    ensures parts { room.new.parts ≡ room.old.parts }
     ensures whole { IsWhole (map calls_to_make room.old.parts.scripts)
         (user_actions_to_do room.old.parts.input) room.new.scene.entries }
     ensures legal { IsLegal room.old.parts.config room.new.scene.entries }
@@ -173,7 +190,7 @@ fn end_room<'a>(
 
 /// Sets `text` to the picture of a frame.
 fn picture_into(text: &mut Vec<u8>, width: u32, height: u32, frame: &[u32])
-    requires screen { (width ≤ 1024) × (height ≤ 768) }
+    requires screen { (width ≤ most_width) × (height ≤ most_height) }
     requires frame { length frame.now ≡ width * height }
     requires text { length text.old.items ≡ picture_length width height }
     requires words { All IsWord frame.now }

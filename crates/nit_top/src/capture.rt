@@ -1,19 +1,8 @@
 //! The run of a configuration that is filmed.
 
 ghost use Rattle.std.specs.Prelude.{false, true, ◌≡◌, ◌≤◌, ◌+◌, ◌++◌, ◌∷◌, [], ℕ, List, IfSome};
-ghost use Rattle.nit_config.specs.ConfigurationRanges.{IsConfiguration};
-ghost use Rattle.nit_capture.specs.Film.{film_header};
-ghost use Rattle.nit_store.specs.Store.{StoreModel, bytes_of, with_asked};
-ghost use Rattle.nit_store.specs.Puts.{PutsNext};
-ghost use Rattle.nit_top.specs.Command.{Capture};
-ghost use Rattle.nit_top.specs.RunFilm.{film_name};
-ghost use Rattle.nit_top.specs.Judgement.{IsConfig};
-ghost use Rattle.nit_top.specs.declared.region.Region.{Region};
-ghost use Rattle.nit_top.specs.Region.{IsRegionWords, is_off_screen};
-ghost use Rattle.nit_top.specs.Setup.{IsRunnable};
-ghost use Rattle.nit_top.specs.CaptureRun.{PerformedFilmed, RunsFilmed, begun_of};
-ghost use Rattle.nit_top.specs.Work.{Ends, Runs, put_state_of_run, setup_of};
-ghost use Rattle.nit_top.specs.FilmStore.{IsFilmOf, picture_names};
+ghost use Rattle.nit_top.specs.Terms.{Capture, IsConfig, IsConfiguration, IsFilmOf, IsRegionWords, IsRunnable, PerformedFilmed, PutsNext, Region, Runs, RunsFilmed, StoreModel, begun_of, bytes_of, film_header, film_name, is_off_screen, picture_names, put_state_of_run, setup_of, with_asked};
+ghost use Rattle.nit_top.specs.Work.{Ends};
 
 use crate::beside::run_beside;
 use crate::desk::put_next;
@@ -70,7 +59,8 @@ fn perform_filmed<'a, R: Threads + Wait + Sync, S: Store, G: Gate>(
     region: Region,
     gate: &G,
 ) -> Worked<'a>
-    requires runnable { IsRunnable (setup_of config.now scripts.now.clients.items scripts.now.input true true) }
+    requires runnable { IsRunnable
+        (setup_of config.now scripts.now.clients.items scripts.now.input true true) }
     requires inside { is_off_screen region config.now.width config.now.height ≡ false }
     ensures { PerformedFilmed region (S.shown store.old)
         (setup_of config.now scripts.now.clients.items scripts.now.input true true)

@@ -6,6 +6,7 @@ ghost use Rattle.nit_capture.specs.Tiles.{IsPictureSize};
 ghost use Rattle.nit_capture.specs.Crop.{screen};
 ghost use Rattle.nit_capture.specs.Capture.{first_capture, next_record, cropped_bytes, with_last};
 ghost use Rattle.nit_capture.specs.Film.{film_header};
+ghost use Rattle.nit_capture.specs.Tiles.{most_pixels};
 
 use nit_capture::Capture;
 use nit_rect::{NoMemory, Rect};
@@ -19,7 +20,7 @@ pub struct Film {
     /// How many pixels the screen has.
     pub pixels: usize,
     ghost screen: { pixels ≡ capture.width * capture.height },
-    ghost few: { pixels ≤ 786432 },
+    ghost few: { pixels ≤ most_pixels },
 }
 
 impl Film {

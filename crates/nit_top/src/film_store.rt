@@ -3,6 +3,7 @@
 ghost use Rattle.std.specs.Prelude.{◌≡◌};
 ghost use Rattle.nit_capture.specs.Capture.{with_last};
 ghost use Rattle.nit_top.specs.FilmStore.{IsFilmOf, picture_names};
+ghost use Rattle.nit_script.specs.Grammar.{most_lines};
 
 use crate::film::Film;
 use crate::filmed::{is_picture_name, is_shot_name, put_filmed};
@@ -76,7 +77,7 @@ impl<S: Store, F: Filming> FilmStore<'_, S, F> {
     fn takes(&self, bytes: &[u8]) -> bool
         ensures whole { result ≡ true → self.now.whole ≡ true }
         ensures going { result ≡ true → self.now.ended ≡ false }
-        ensures few { result ≡ true → self.now.count < 65536 }
+        ensures few { result ≡ true → self.now.count < most_lines }
         ensures long { result ≡ true
             → 3 * (self.now.film.capture.width * self.now.film.capture.height) ≤ length bytes.now }
     {
@@ -88,8 +89,9 @@ impl<S: Store, F: Filming> FilmStore<'_, S, F> {
         requires name { name.now ≡ shot_name (self.old.count + 1) }
         requires whole { self.old.whole ≡ true }
         requires going { self.old.ended ≡ false }
-        requires few { self.old.count < 65536 }
-        requires long { 3 * (self.old.film.capture.width * self.old.film.capture.height) ≤ length bytes.now }
+        requires few { self.old.count < most_lines }
+        requires long { 3 * (self.old.film.capture.width * self.old.film.capture.height)
+            ≤ length bytes.now }
         ensures { AfterPut (S.shown self.old.store.now) name.now bytes.now
             (S.shown self.new.store.now) result }
     {
@@ -105,7 +107,8 @@ impl<S: Store, F: Filming> FilmStore<'_, S, F> {
         requires name { name.now ≡ final_name }
         requires whole { self.old.whole ≡ true }
         requires going { self.old.ended ≡ false }
-        requires long { 3 * (self.old.film.capture.width * self.old.film.capture.height) ≤ length bytes.now }
+        requires long { 3 * (self.old.film.capture.width * self.old.film.capture.height)
+            ≤ length bytes.now }
         ensures { AfterPut (S.shown self.old.store.now) name.now bytes.now
             (S.shown self.new.store.now) result }
     {

@@ -1,10 +1,7 @@
 //! A put of a picture that is filmed.
 
 ghost use Rattle.std.specs.Prelude.{true, ◌≡◌, ◌≤◌, ◌*◌, ◌+◌, ◌++◌, ℕ, OnOk, length, take};
-ghost use Rattle.nit_capture.specs.Capture.{next_record, cropped_bytes, with_last};
-ghost use Rattle.nit_actor.specs.RoundsRun.{shot_name};
-ghost use Rattle.nit_store.specs.StoreAnswers.{AfterPut};
-ghost use Rattle.nit_top.specs.Outputs.{final_name};
+ghost use Rattle.nit_top.specs.Terms.{AfterPut, cropped_bytes, final_name, next_record, shot_name, with_last};
 
 use crate::film::Film;
 use nit_report::write::{number, text};

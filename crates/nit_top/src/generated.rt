@@ -1,14 +1,8 @@
 //! A generated run: its files are put, and then it is run as they say.
 
 ghost use Rattle.std.specs.Prelude.{◌≡◌, ℕ, ◌∷◌, ◌≤◌, ◌<◌, ◌^◌, [], IfOk, length, map, take, true};
-ghost use Rattle.std.specs.List.{range_with_len};
-ghost use Rattle.nit_script.specs.Grammar.{ReadsClient, ReadsInput};
-ghost use Rattle.nit_report.specs.Generator.{client_script, client_text, generated, script_name, user_script};
-ghost use Rattle.nit_store.specs.Puts.{PutsAll, PutsNext, unrefused};
-ghost use Rattle.nit_top.specs.Command.{Gen};
-ghost use Rattle.nit_top.specs.ProgramLines.{output_name};
-ghost use Rattle.nit_top.specs.Setup.{IsRunnable, generated_files, script_files};
-ghost use Rattle.nit_top.specs.Work.{Ends, put_state_of_run, setup_of};
+ghost use Rattle.nit_top.specs.Terms.{Gen, IsRunnable, PutsAll, PutsNext, ReadsClient, ReadsInput, client_script, client_text, generated, generated_files, output_name, put_state_of_run, range_with_len, script_files, script_name, setup_of, unrefused, user_script};
+ghost use Rattle.nit_top.specs.Work.{Ends};
 
 use crate::desk::put_next;
 use crate::finish::{End, Output, Worked, at, unbegun};

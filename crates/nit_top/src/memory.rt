@@ -2,9 +2,7 @@
 //! thread.
 
 ghost use Rattle.std.specs.Prelude.{◌≡◌, ◌<◌, All, IfOk, length, map, slice_index_or, vec_len};
-ghost use Rattle.nit_word.specs.Inks.{IsWord};
-ghost use Rattle.nit_config.specs.ConfigurationRanges.{IsConfiguration};
-ghost use Rattle.nit_top.specs.RoomRun.{AreBuffers, IsMemory};
+ghost use Rattle.nit_top.specs.Terms.{AreBuffers, IsConfiguration, IsMemory, IsWord};
 
 use crate::opening::{blank_frame, blank_text, table_words};
 use nit_config::Config;
@@ -43,7 +41,7 @@ pub fn memory_of<'a>(alloc: Global, config: &Config) -> Result<Memory<'a>, NoMem
 }
 
 /// So many flags that are not raised.
-fn flags(alloc: Global, count: usize) -> Result<Vec<AtomicBool>, NoMemory>
+pub fn flags(alloc: Global, count: usize) -> Result<Vec<AtomicBool>, NoMemory>
     ensures { IfOk result (λ v. vec_len v ≡ count) }
 {
     let mut flags = Vec::new(alloc);

@@ -1,15 +1,7 @@
 //! The memory of a run, all of which is taken before its first round.
 
 ghost use Rattle.std.specs.Prelude.{◌≡◌, ◌+◌, ◌*◌, ◌<◌, ◌≤◌, All, IfOk, length, map, sum, List};
-ghost use Rattle.nit_word.specs.Inks.{IsWord};
-ghost use Rattle.nit_config.specs.ConfigurationRanges.{IsConfiguration};
-ghost use Rattle.nit_slots.specs.Account.{IsDonation};
-ghost use Rattle.nit_script.specs.declared.line.Line.{Line};
-ghost use Rattle.nit_plan.specs.ScriptWords.{table_size};
-ghost use Rattle.nit_plan.specs.Plan.{IsPlanOf};
-ghost use Rattle.nit_report.specs.Picture.{picture_length};
-ghost use Rattle.nit_actor.specs.RoundsRun.{glass_after};
-ghost use Rattle.nit_top.specs.RoundsOpening.{IsRoundsOpening, glasses_of, plans_of};
+ghost use Rattle.nit_top.specs.Terms.{IsConfiguration, IsDonation, IsPlanOf, IsRoundsOpening, IsWord, Line, glass_after, glasses_of, most_words, picture_length, plans_of, table_size};
 
 use nit_actor::laws::each_line_once;
 use nit_config::Config;
@@ -27,13 +19,12 @@ use std::alloc::Global;
 const WORD_UNITS: u32 = 8;
 
 /// A run before its first round: the scene, and for each client its plan and its own glass; and the
-/// room for a picture, as a frame and as the bytes of a file.
+/// room for the bytes of a picture's file.
 #[derive(Drop)]
 pub struct Opened {
     pub scene: Scene<Inked>,
     pub owns: Vec<Inked>,
     pub plans: Vec<Plan>,
-    pub frame: Vec<u32>,
     pub text: Vec<u8>,
 }
 
@@ -56,13 +47,11 @@ pub fn open(
     let glasses = glasses_of(alloc, config, scripts, &plans)?;
     let lines = line_count(scripts, input);
     let scene = Scene::new(alloc, config, glasses, lines + 1)?;
-    let frame = blank_frame(alloc, config)?;
     let text = blank_text(alloc, config)?;
     Ok(Opened {
         scene,
         owns,
         plans,
-        frame,
         text,
     })
 }
@@ -121,7 +110,7 @@ fn glass(alloc: Global, sid: u32, plan: &Plan, donation: u32) -> Result<Inked, N
 pub fn table_words(donation: u32) -> u32
     requires { IsDonation donation }
     ensures size { result ≡ table_size donation }
-    ensures range { (1 ≤ result) × (result ≤ 1048576) }
+    ensures range { (1 ≤ result) × (result ≤ most_words) }
 {
     room(donation) / WORD_UNITS
 }

@@ -1,14 +1,8 @@
 //! The work of a command: what is to be run, the run, and how it came to its end.
 
 ghost use Rattle.std.specs.Prelude.{false, true, Bool, ◌≡◌, ◌<◌, ◌≤◌, ◌∷◌, [], ℕ, List, IfOk, IfSome};
-ghost use Rattle.nit_config.specs.Configuration.{still_configuration};
-ghost use Rattle.nit_config.specs.ConfigurationRanges.{IsConfiguration};
-ghost use Rattle.nit_store.specs.Store.{StoreModel, bytes_of, with_asked};
-ghost use Rattle.nit_top.specs.Judgement.{IsConfig};
-ghost use Rattle.nit_top.specs.RoomRun.{IsAlone};
-ghost use Rattle.nit_top.specs.Command.{Run, Still};
-ghost use Rattle.nit_top.specs.Setup.{IsRunnable};
-ghost use Rattle.nit_top.specs.Work.{Ends, Performed, ReadScripts, setup_of, end_of_run};
+ghost use Rattle.nit_top.specs.Terms.{IsAlone, IsConfig, IsConfiguration, IsRunnable, Performed, ReadScripts, Run, Still, StoreModel, bytes_of, end_of_run, most_height, most_width, setup_of, still_configuration, with_asked};
+ghost use Rattle.nit_top.specs.Work.{Ends};
 
 use crate::alone::run_one;
 use crate::beside::run_beside;
@@ -35,7 +29,7 @@ pub fn still<'a, S: Store>(
     height: u32,
     script: &'a str,
 ) -> Worked<'a>
-    requires { (0 < width) × (width ≤ 1024) × (0 < height) × (height ≤ 768) }
+    requires { (0 < width) × (width ≤ most_width) × (0 < height) × (height ≤ most_height) }
     ensures { Ends (Still width height script.entry.now) (S.shown store.old)
         (S.shown store.new) result }
 {

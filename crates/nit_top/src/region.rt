@@ -1,9 +1,7 @@
 //! Regions of a screen.
 
 ghost use Rattle.std.specs.Prelude.{◌≡◌, ◌≤◌, false};
-ghost use Rattle.nit_rect.specs.Intersection.{HasPixels, LiesIn};
-ghost use Rattle.nit_capture.specs.Crop.{screen};
-ghost use Rattle.nit_top.specs.Region.{IsRegionWords, is_off_screen, rectangle_of};
+ghost use Rattle.nit_top.specs.Terms.{HasPixels, IsRegionWords, LiesIn, is_off_screen, most_height, most_width, rectangle_of, screen};
 
 use nit_rect::Rect;
 
@@ -28,7 +26,7 @@ impl Region {
 
     /// The rectangle of a region that lies on a screen of this width and height.
     pub fn rect(&self, width: u32, height: u32) -> Rect
-        requires screen { (width ≤ 1024) × (height ≤ 768) }
+        requires screen { (width ≤ most_width) × (height ≤ most_height) }
         requires inside { is_off_screen self.now width height ≡ false }
         ensures value { result ≡ rectangle_of self.now }
         ensures inside { LiesIn result (screen width height) }

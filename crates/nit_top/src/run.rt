@@ -1,12 +1,7 @@
 //! The run of a setup.
 
 ghost use Rattle.std.specs.Prelude.{false, true, ◌≡◌, ◌+◌, ◌≤◌, ◌++◌, ◌∷◌, [], length};
-ghost use Rattle.nit_journal.specs.Replay.{shots};
-ghost use Rattle.nit_store.specs.Puts.{PutsAll};
-ghost use Rattle.nit_top.specs.RoundsOpening.{IsRoundsOpening};
-ghost use Rattle.nit_top.specs.Setup.{IsRunnable};
-ghost use Rattle.nit_top.specs.Outputs.{events_files, journal_file};
-ghost use Rattle.nit_top.specs.Work.{HasRun, Runs, is_shot_entry, put_state_of_run, setup_of};
+ghost use Rattle.nit_top.specs.Terms.{HasRun, IsRoundsOpening, IsRunnable, PutsAll, Runs, events_files, is_shot_entry, journal_file, put_state_of_run, setup_of, shots};
 
 use crate::desk::{put_final, refused_shot};
 use crate::finish::Output;
@@ -87,12 +82,11 @@ fn play<S: Store>(
         mut scene,
         mut owns,
         plans,
-        frame,
         text,
     } = opened;
     let mut desk = Desk {
         store,
-        frame,
+        frame: Vec::new(alloc),
         text,
         fault: None,
         tried: 0,
@@ -101,12 +95,12 @@ fn play<S: Store>(
     let refused = refused_shot(&desk);
     let Desk {
         store,
-        mut frame,
+        frame: _frame,
         mut text,
         fault: _,
         tried: _,
     } = desk;
-    draw_last(&mut scene, &mut owns, &mut frame, &mut text);
+    draw_last(&mut scene, &mut owns, &mut text);
     let fault = put_final(store, refused, &text);
     leave_texts(alloc, store, fault, &config.clients, scene)
 }

@@ -1,13 +1,7 @@
 //! The texts that a run puts behind its pictures: the events of each client, and the journal.
 
 ghost use Rattle.std.specs.Prelude.{◌≡◌, ◌<◌, ◌≤◌, length, take};
-ghost use Rattle.nit_journal.specs.State.{session};
-ghost use Rattle.nit_report.specs.EventsText.{events_text};
-ghost use Rattle.nit_scene.specs.Scene.{state_now};
-ghost use Rattle.nit_store.specs.Puts.{PutsAll, PutsFile, PutsNext, unrefused};
-ghost use Rattle.nit_top.specs.ProgramLines.{output_name};
-ghost use Rattle.nit_top.specs.Outputs.{ending_of, events_files, events_name, journal_file};
-ghost use Rattle.nit_top.specs.Work.{put_state_of_run};
+ghost use Rattle.nit_top.specs.Terms.{PutsAll, PutsFile, PutsNext, ending_of, events_files, events_name, events_text, journal_file, output_name, put_state_of_run, session, state_now, unrefused};
 
 use crate::desk::put_next;
 use crate::finish::{LabelBytes, Output};

@@ -1,17 +1,17 @@
 //! The top call.
 
 ghost use Rattle.std.specs.Prelude.{false, true, ◌≡◌, ◌^◌, ◌<◌};
-ghost use Rattle.nit_top.specs.Command.{Audit, Capture, Gen, Run, command, starts_threads, texts};
-ghost use Rattle.nit_top.specs.Answer.{Answer};
-ghost use Rattle.nit_top.specs.CommandEnd.{Ended, Finished};
-ghost use Rattle.nit_top.specs.Region.{IsRegionWords};
+ghost use Rattle.nit_top.specs.Terms.{Answer, Audit, Capture, Clip, Ended, Finished, Gen, IsRegionWords, Nested, Run, command, starts_threads, texts};
 
 use crate::audit::audited;
 use crate::capture::capture;
+use crate::clip_run::clip;
 use crate::finish::{Done, End, Worked, at, status, unbegun};
 use crate::generated::generated;
 use crate::laws::generated_runs_count;
 use crate::load::load_config;
+use crate::nested::nested;
+use crate::outer::read_outer;
 use crate::perform;
 use crate::region::Region;
 use crate::say::tell;
@@ -39,7 +39,9 @@ pub fn nitpicker<R: Threads + Wait + Sync, S: Store, G: Gate>(
     match parse_words(words) {
         Some(Asked::Run { config }) => beside(rt, alloc, store, config, gate),
         Some(Asked::Gen { number }) => made(rt, alloc, store, number, gate),
+        Some(Asked::Clip { config }) => clipped(rt, alloc, store, config, gate),
         Some(Asked::Capture { config, region }) => filmed(rt, alloc, store, config, region, gate),
+        Some(Asked::Nested { outer, inner }) => within(rt, alloc, store, outer, inner, gate),
         _ => nitpicker_alone(alloc, words, store),
     }
 }
@@ -54,13 +56,20 @@ pub fn nitpicker_alone<S: Store>(alloc: Global, words: &[String], store: &mut S)
     work(alloc, words, store)
 }
 
-/// Whether the words ask for a command that starts threads, which is `run`, `gen` or `capture`.
+/// Whether the words ask for a command that starts threads, which is `run`, `gen`, `clip`,
+/// `capture` or `nested`.
 pub fn starts_threads(words: &[String]) -> bool
     ensures { result ≡ starts_threads (command (texts words.now)) }
 {
     matches!(
         parse_words(words),
-        Some(Asked::Run { .. } | Asked::Gen { .. } | Asked::Capture { .. })
+        Some(
+            Asked::Run { .. }
+                | Asked::Gen { .. }
+                | Asked::Clip { .. }
+                | Asked::Capture { .. }
+                | Asked::Nested { .. },
+        )
     )
 }
 
@@ -84,7 +93,13 @@ fn work<S: Store>(alloc: Global, words: &[String], store: &mut S) -> Done
         }
         Some(Asked::Turns { config }) => turns(alloc, store, config),
         Some(Asked::Audit { config, journal }) => audit(alloc, store, config, journal),
-        Some(Asked::Run { .. } | Asked::Gen { .. } | Asked::Capture { .. }) => unreachable!(),
+        Some(
+            Asked::Run { .. }
+            | Asked::Gen { .. }
+            | Asked::Clip { .. }
+            | Asked::Capture { .. }
+            | Asked::Nested { .. },
+        ) => unreachable!(),
     }
 }
 
@@ -150,6 +165,26 @@ fn made<R: Threads + Wait + Sync, S: Store, G: Gate>(
     finish(store, worked)
 }
 
+/// Runs the configuration of this name with each client on a thread of its own, and a clip script
+/// for each.
+fn clipped<R: Threads + Wait + Sync, S: Store, G: Gate>(
+    rt: &R,
+    alloc: Global,
+    store: &mut S,
+    name: &str,
+    gate: &G,
+) -> Done
+    ensures { Ended (S.shown store.old) (Clip name.now)
+        (S.shown store.new) result.status result.journal.items }
+{
+    let config = match load_config(alloc, store, name) {
+        Ok(config) => config,
+        Err(stop) => return finish(store, unbegun(alloc, stop)),
+    };
+    let worked = clip(rt, alloc, store, &config, gate);
+    finish(store, worked)
+}
+
 /// Runs the configuration of this name with each client on a thread of its own, and films the
 /// region.
 fn filmed<R: Threads + Wait + Sync, S: Store, G: Gate>(
@@ -169,6 +204,35 @@ fn filmed<R: Threads + Wait + Sync, S: Store, G: Gate>(
         Err(stop) => return finish(store, unbegun(alloc, stop)),
     };
     let worked = capture(rt, alloc, store, &config, region, gate);
+    finish(store, worked)
+}
+
+/// Runs the configuration of the first name with each client on a thread of its own, the first one
+/// showing what the run of the configuration of the second name shows.
+fn within<R: Threads + Wait + Sync, S: Store, G: Gate>(
+    rt: &R,
+    alloc: Global,
+    store: &mut S,
+    outer: &str,
+    inner: &str,
+    gate: &G,
+) -> Done
+    ensures { Ended (S.shown store.old) (Nested outer.now inner.now)
+        (S.shown store.new) result.status result.journal.items }
+{
+    let config = match load_config(alloc, store, outer) {
+        Ok(config) => config,
+        Err(stop) => return finish(store, unbegun(alloc, stop)),
+    };
+    let shown = match read_outer(alloc, store, &config) {
+        Ok(shown) => shown,
+        Err(stop) => return finish(store, unbegun(alloc, stop)),
+    };
+    let within = match load_config(alloc, store, inner) {
+        Ok(within) => within,
+        Err(stop) => return finish(store, unbegun(alloc, stop)),
+    };
+    let worked = nested(rt, alloc, store, &config, shown, inner, &within, gate);
     finish(store, worked)
 }
 

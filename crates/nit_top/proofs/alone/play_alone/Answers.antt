@@ -1,15 +1,5 @@
 use Rattle.std.proofs.Common.{◌≡◌, ◌∙◌, ◌+◌, List, Option, ap, map, subst, sym, true}
-use Rattle.nit_events.specs.declared.entry.Entry.{Entry}
-use Rattle.nit_journal.specs.Replay.{IsLegal, shots}
-use Rattle.nit_journal.specs.WholeJournals.{IsWhole}
-use Rattle.nit_plan.specs.Calls.{calls_to_make, user_actions_to_do}
-use Rattle.nit_store.specs.Puts.{PutsNext, unrefused}
-use Rattle.nit_top.specs.declared.run.PutFault.{PutFault}
-use Rattle.nit_journal.specs.Journal.{JournalModel}
-use Rattle.nit_hall.specs.OpeningParts.{OpeningParts}
-use Rattle.nit_top.specs.Outputs.{final_name, final_picture}
-use Rattle.nit_top.specs.Work.{put_state_of_run, setup_of}
-use Rattle.nit_top.proofs.StillRun.{alone_leaves}
+use Rattle.nit_top.proofs.Lemmas.{Entry, IsLegal, IsWhole, JournalModel, OpeningParts, PutFault, PutsNext, alone_leaves, calls_to_make, final_name, final_picture, put_state_of_run, setup_of, shots, unrefused, user_actions_to_do}
 use Rattle.nit_top.proofs.alone.play_alone.Goals as goal
 
 pub returns : goal.returns

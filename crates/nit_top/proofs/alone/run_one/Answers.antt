@@ -1,6 +1,4 @@
-use Rattle.std.proofs.Common.{◌∙◌}
-use Rattle.nit_top.proofs.RoomRunLemmas.{plans_long}
-use Rattle.nit_top.proofs.StillRun.{is_ready_alone}
+use Rattle.nit_top.proofs.Lemmas.{is_ready_alone, plans_long, ◌∙◌}
 use Rattle.nit_top.proofs.alone.run_one.Goals as goal
 
 pub play_alone-requires-clause-ready : goal.play_alone-requires-clause-ready

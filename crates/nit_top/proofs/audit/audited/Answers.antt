@@ -1,11 +1,6 @@
-use Rattle.std.proofs.Common.{List, true, false, sym, ap, subst}
-use Rattle.nit_events.specs.declared.entry.Entry.{Entry}
+use Rattle.nit_top.proofs.Lemmas.{Entry, IsAuditEnd, List, ap, false, found_ends, name_text, not_read, read_whole, setup_of, subst, sym, text_ends, true}
 use Rattle.nit_top.specs.declared.finish.End.{End}
-use Rattle.nit_top.specs.Audited.{IsAuditEnd}
-use Rattle.nit_top.specs.ProgramLines.{name_text}
-use Rattle.nit_top.specs.Work.{setup_of}
-use Rattle.nit_top.proofs.AuditEnds.{ends_before, found_ends, text_ends}
-use Rattle.nit_top.proofs.SetupLemmas.{not_read, read_whole}
+use Rattle.nit_top.proofs.AuditEnds.{ends_before}
 use Rattle.nit_top.proofs.audit.audited.Goals as goal
 
 pub returns-in-Err : goal.returns-in-Err

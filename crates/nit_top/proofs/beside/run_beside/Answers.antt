@@ -1,6 +1,4 @@
-use Rattle.std.proofs.Common.{◌∙◌, List, length, ap}
-use Rattle.nit_plan.specs.Plan.{PlanModel}
-use Rattle.nit_top.proofs.RoomRunLemmas.{is_ready, plans_long, setting}
+use Rattle.nit_top.proofs.Lemmas.{List, PlanModel, ap, is_ready, length, plans_long, setting, ◌∙◌}
 use Rattle.nit_top.proofs.beside.run_beside.Goals as goal
 
 pub buffers_of-requires-clause-each : goal.buffers_of-requires-clause-each

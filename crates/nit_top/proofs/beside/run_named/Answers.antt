@@ -1,16 +1,6 @@
 use Rattle.std.proofs.Common.{rules, ◌≡◌, ◌∙◌, ◌++◌, ◌∷◌, [], Option, map, ap, sym, subst}
-use Rattle.nit_config.specs.Configuration.{Configuration}
-use Rattle.nit_journal.specs.Replay.{IsLegal}
-use Rattle.nit_journal.specs.WholeJournals.{IsWhole}
-use Rattle.nit_plan.specs.Calls.{calls_to_make, user_actions_to_do}
-use Rattle.nit_store.specs.Store.{File, StoreModel}
-use Rattle.nit_store.specs.Puts.{PutsAll, PutsNext, PutState, PutRefusal}
-use Rattle.nit_hall.specs.OpeningParts.{OpeningParts}
-use Rattle.nit_hall.specs.Pass.{AreDone, IsDoneUser}
+use Rattle.nit_top.proofs.Lemmas.{AreDone, Configuration, File, HasRun, IsDoneUser, IsLegal, IsWhole, OpeningParts, PutRefusal, PutState, PutsAll, PutsNext, StoreModel, all_done, beside_leaves, calls_to_make, events_files, final_name, final_picture, journal_file, put_state_of_run, setup_in, user_actions_to_do, user_done}
 use Rattle.nit_actor.specs.RoundsRun.{put_state_of_desk as desk_putting}
-use Rattle.nit_top.specs.Outputs.{events_files, final_name, final_picture, journal_file}
-use Rattle.nit_top.specs.Work.{HasRun, put_state_of_run}
-use Rattle.nit_top.proofs.RoomRunLemmas.{all_done, beside_leaves, setup_in, user_done}
 use Rattle.nit_top.proofs.beside.run_named.Goals as goal
 
 -- a put behind what a desk shows

@@ -1,12 +1,4 @@
-use Rattle.std.proofs.Common.{◌∙◌, true, ap, sym}
-use Rattle.nit_config.specs.Configuration.{Configuration}
-use Rattle.nit_top.specs.Region.{is_off_screen}
-use Rattle.nit_top.specs.declared.finish.Stop.{Stop}
-use Rattle.nit_top.specs.Work.{setup_of}
-use Rattle.nit_top.proofs.CaptureEnds.{all_too, ends_too, film_ends}
-use Rattle.nit_top.proofs.WorkLemmas.{outside_ends}
-use Rattle.nit_top.proofs.SetupLemmas.{not_read, read_whole}
-use Rattle.nit_top.specs.Command.{Capture}
+use Rattle.nit_top.proofs.Lemmas.{Capture, Configuration, Stop, all_too, ap, ends_too, film_ends, is_off_screen, not_read, outside_ends, read_whole, setup_of, sym, true, ◌∙◌}
 use Rattle.nit_top.proofs.capture.capture.Goals as goal
 
 pub returns-in-Err : goal.returns-in-Err

@@ -1,4 +1,4 @@
-use Rattle.std.proofs.Common.{◌∙◌, sym}
+use Rattle.nit_top.proofs.Lemmas.{sym, ◌∙◌}
 use Rattle.nit_top.proofs.capture.film_named.Goals as goal
 
 pub returns-clause-same_store : goal.returns-clause-same_store

@@ -1,11 +1,5 @@
 use Rattle.std.proofs.Common.{◌≡◌, ◌∙◌, List, length, true, ap, inl}
-use Rattle.nit_rect.specs.Rectangle.{Rectangle}
-use Rattle.nit_config.specs.Configuration.{Configuration}
-use Rattle.nit_capture.specs.Capture.{first_capture}
-use Rattle.nit_script.specs.declared.line.Line.{Line}
-use Rattle.nit_top.specs.CaptureRun.{HasFilmed, begun_of}
-use Rattle.nit_top.specs.Region.{rectangle_of}
-use Rattle.nit_top.specs.Work.{setup_of}
+use Rattle.nit_top.proofs.Lemmas.{Configuration, HasFilmed, Line, Rectangle, begun_of, first_capture, rectangle_of, setup_of}
 use Rattle.nit_top.proofs.capture.perform_filmed.Goals as goal
 
 pub returns : goal.returns

@@ -1,7 +1,5 @@
 use Rattle.std.proofs.Common.{◌++◌, ◌∷◌, [], ap, sym}
-use Rattle.nit_top.specs.RunFilm.{film_name}
-use Rattle.nit_top.specs.ProgramLines.{output_name}
-use Rattle.nit_top.proofs.PutLemmas.{no_text}
+use Rattle.nit_top.proofs.Lemmas.{film_name, no_text, output_name}
 use Rattle.nit_top.proofs.capture.put_film.Goals as goal
 
 pub returns-then-not-whole-clause-not_whole : goal.returns-then-not-whole-clause-not_whole

@@ -1,11 +1,6 @@
 use Rattle.std.proofs.Common.{rules, ◌≡◌, ℕ, List, Result, true, refl, sym, subst}
-use Rattle.nit_events.specs.declared.entry.Entry.{Entry}
-use Rattle.nit_store.specs.Store.{StoreModel}
-use Rattle.nit_top.specs.CaptureRun.{HasFilmed}
+use Rattle.nit_top.proofs.Lemmas.{Entry, HasFilmed, HasRun, Ran, Runs, StoreModel, film_leaves, setup_of}
 use Rattle.nit_rect.specs.declared.memory.NoMemory.{NoMemory}
-use Rattle.nit_top.specs.declared.run.Ran.{Ran}
-use Rattle.nit_top.specs.Work.{HasRun, Runs, setup_of}
-use Rattle.nit_top.proofs.FilmFiles.{film_leaves}
 use Rattle.nit_top.proofs.capture.run_filmed.Goals as goal
 
 pub returns-in_default : goal.returns-in_default

@@ -1,5 +1,4 @@
-use Rattle.std.proofs.Common.{arith}
-use Rattle.nit_report.proofs.ForCallers.{few_digits}
+use Rattle.nit_top.proofs.Lemmas.{arith, few_digits}
 use Rattle.nit_top.proofs.filmed.write_name.Goals as goal
 
 pub number-at-requires : goal.number-at-requires

@@ -1,12 +1,4 @@
-use Rattle.std.proofs.Common.{◌∙◌, Option, ap, rules, subst, sym}
-use Rattle.nit_config.specs.ConfigurationRanges.{IsConfiguration}
-use Rattle.nit_store.specs.Puts.{PutsAll, unrefused}
-use Rattle.nit_top.specs.declared.finish.Stop.{Stop}
-use Rattle.nit_top.specs.declared.run.PutFault.{PutFault}
-use Rattle.nit_top.specs.Setup.{Setup, IsRunnable, generated_files}
-use Rattle.nit_top.specs.Work.{Performed, put_state_of_run}
-use Rattle.nit_top.proofs.GeneratedRuns.{GeneratorLaws, clients_fit, generated_ends, generated_runnable, made_in_part, made_whole, nothing_made, same_unmade, scripts_of, unmade_runnable}
-use Rattle.nit_top.proofs.PutLemmas.{none_is}
+use Rattle.nit_top.proofs.Lemmas.{GeneratorLaws, IsConfiguration, IsRunnable, Option, Performed, PutFault, PutsAll, Setup, Stop, ap, clients_fit, generated_ends, generated_files, generated_runnable, made_in_part, made_whole, none_is, nothing_made, put_state_of_run, rules, same_unmade, scripts_of, subst, sym, unmade_runnable, unrefused, ◌∙◌}
 use Rattle.nit_top.proofs.generated.generated.Goals as goal
 
 pub returns-in_default : goal.returns-in_default

@@ -1,5 +1,4 @@
-use Rattle.std.proofs.Common.{sym, subst}
-use Rattle.std.specs.Str.{IsUtf8}
+use Rattle.nit_top.proofs.Lemmas.{IsUtf8, subst, sym}
 use Rattle.nit_top.proofs.GeneratedRuns.{name_is_text}
 use Rattle.nit_top.proofs.generated.put_script.Goals as goal
 

@@ -1,8 +1,5 @@
 use Rattle.std.proofs.Common.{◌∙◌, ◌≡◌, ℕ, arith, refl, subst}
-use Rattle.nit_store.specs.Puts.{PutsAll}
-use Rattle.nit_top.specs.Setup.{script_files}
-use Rattle.nit_top.specs.Work.{put_state_of_run}
-use Rattle.nit_top.proofs.GeneratedRuns.{one_script_more, text_at}
+use Rattle.nit_top.proofs.Lemmas.{PutsAll, one_script_more, put_state_of_run, script_files, text_at}
 use Rattle.nit_top.proofs.generated.put_scripts.Goals as goal
 
 pub clients-init : goal.clients-init

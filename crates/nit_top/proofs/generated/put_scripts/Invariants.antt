@@ -1,6 +1,4 @@
-use Rattle.nit_store.specs.Puts.{PutsAll}
-use Rattle.nit_top.specs.Setup.{script_files}
-use Rattle.nit_top.specs.Work.{put_state_of_run}
+use Rattle.nit_top.proofs.Lemmas.{PutsAll, put_state_of_run, script_files}
 use Rattle.nit_top.proofs.generated.put_scripts.Given as goal
 
 abbrev pub invariant-clients : goal.invariant-clients

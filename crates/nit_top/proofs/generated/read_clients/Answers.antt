@@ -1,7 +1,4 @@
-use Rattle.std.proofs.Common.{◌∙◌, List, ℕ, subst, sym}
-use Rattle.nit_report.specs.Generator.{client_script}
-use Rattle.nit_script.specs.Grammar.{ReadsClient}
-use Rattle.nit_top.proofs.GeneratedRuns.{text_at}
+use Rattle.nit_top.proofs.Lemmas.{List, ReadsClient, client_script, subst, sym, text_at, ℕ, ◌∙◌}
 use Rattle.nit_top.proofs.generated.read_clients.Goals as goal
 
 pub read_client-requires : goal.read_client-requires

@@ -1,6 +1,5 @@
 use Rattle.std.proofs.Common.{◌≡◌, map}
-use Rattle.std.specs.List.{range_with_len}
-use Rattle.nit_report.specs.Generator.{client_script}
+use Rattle.nit_top.proofs.Lemmas.{client_script, range_with_len}
 use Rattle.nit_top.proofs.generated.read_clients.Given as goal
 
 abbrev pub invariant-clients : goal.invariant-clients

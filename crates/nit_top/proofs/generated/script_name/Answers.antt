@@ -1,5 +1,4 @@
-use Rattle.std.proofs.Common.{sym}
-use Rattle.nit_top.proofs.GeneratedRuns.{name_bytes}
+use Rattle.nit_top.proofs.Lemmas.{name_bytes, sym}
 use Rattle.nit_top.proofs.generated.script_name.Goals as goal
 
 pub returns : goal.returns

@@ -1,4 +1,4 @@
-use Rattle.nit_top.proofs.EntryCounts.{generated_entries}
+use Rattle.nit_top.proofs.Lemmas.{generated_entries}
 use Rattle.nit_top.proofs.laws.generated_runs_count.Goals as goal
 
 pub returns : goal.returns

@@ -1,16 +1,7 @@
 use Rattle.std.proofs.Common.{◌≡◌, ◌∙◌, ◌++◌, ◌∷◌, [], ℕ, ◌<◌, List, length, sym, ap, subst}
-use Rattle.std.proofs.lemmas.List.{length-map, get_or-map}
-use Rattle.nit_events.specs.declared.call.Reply.{Reply}
+use Rattle.nit_top.proofs.Lemmas.{Entry, IsLegal, NearLaws, Reply, after, calls_to_make, done, end_shows, events_among, events_taken, files_counted, first_state, focus_by_call, focus_by_click, get_or-map, length-map, replay, shot_shows, texts_tell}
 use Rattle.nit_events.specs.declared.call.Reply.TheVariants as reply
-use Rattle.nit_events.specs.declared.entry.Entry.{Entry}
 use Rattle.nit_events.specs.declared.entry.Entry.TheVariants as entry
-use Rattle.nit_journal.specs.Replay.{IsLegal, replay}
-use Rattle.nit_journal.specs.State.{first_state, after}
-use Rattle.nit_journal.specs.WholeJournals.{done}
-use Rattle.nit_plan.specs.Calls.{calls_to_make}
-use Rattle.nit_top.specs.Headline.{events_among}
-use Rattle.nit_top.proofs.Events.{events_taken}
-use Rattle.nit_top.proofs.HeadlineLemmas.{NearLaws, focus_by_call, focus_by_click, shot_shows, end_shows, texts_tell, files_counted}
 use Rattle.nit_top.proofs.laws.headline.Goals as goal
 
 pub returns : goal.returns

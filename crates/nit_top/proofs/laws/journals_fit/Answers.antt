@@ -1,4 +1,4 @@
-use Rattle.nit_top.proofs.JournalsFit.{journal_fits}
+use Rattle.nit_top.proofs.Lemmas.{journal_fits}
 use Rattle.nit_top.proofs.laws.journals_fit.Goals as goal
 
 pub returns : goal.returns

@@ -1,4 +1,4 @@
-use Rattle.nit_top.proofs.HeadlineLemmas.{same_journal, same_files}
+use Rattle.nit_top.proofs.Lemmas.{same_files, same_journal}
 use Rattle.nit_top.proofs.laws.one_setup_one_run.Goals as goal
 
 pub returns-clause-journal : goal.returns-clause-journal

@@ -1,5 +1,4 @@
-use Rattle.std.proofs.Common.{map, refl}
-use Rattle.nit_plan.specs.Calls.{calls_to_make, user_actions_to_do}
+use Rattle.nit_top.proofs.Lemmas.{calls_to_make, map, refl, user_actions_to_do}
 use Rattle.nit_top.proofs.laws.runs_are_audited.Goals as goal
 
 pub returns-clause-yes : goal.returns-clause-yes

@@ -1,14 +1,6 @@
 use Rattle.std.proofs.Common.{◌≡◌, ◌∙◌, ◌+◌, ◌<◌, ◌++◌, ◌∷◌, [], ℕ, List, length, map, ap, sym, subst}
-use Rattle.std.specs.Prelude.{slice_index_or}
-use Rattle.std.proofs.lemmas.List.{length_push, get_or_default, map_push}
-use Rattle.nit_config.specs.declared.config.Member.{Member}
-use Rattle.nit_config.specs.Configuration.{Configuration, donation_of}
-use Rattle.nit_plan.specs.ScriptWords.{table_size}
-use Rattle.nit_plan.specs.SessionLists.{plan_in}
-use Rattle.nit_plan.specs.Plan.{PlanModel}
-use Rattle.nit_pixels.specs.End.{BufferName, End, new_sight}
-use Rattle.nit_top.proofs.RoomRunLemmas.{one_key}
-use Rattle.nit_top.proofs.PerClient.{at_member}
+use Rattle.nit_top.proofs.Lemmas.{BufferName, Configuration, Member, PlanModel, at_member, donation_of, get_or_default, length_push, map_push, new_sight, one_key, plan_in, slice_index_or, table_size}
+use Rattle.nit_pixels.specs.End.{End}
 use Rattle.nit_top.proofs.memory.buffers_of.Goals as goal
 
 pub loop-sid-preserved : goal.loop-sid-preserved

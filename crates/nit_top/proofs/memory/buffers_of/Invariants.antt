@@ -1,6 +1,6 @@
 use Rattle.std.proofs.Common.{◌≡◌, length, map}
 use Rattle.nit_pixels.specs.End.{End}
-use Rattle.nit_top.specs.RoomRun.{AreKeysBlank}
+use Rattle.nit_top.proofs.Lemmas.{AreKeysBlank}
 use Rattle.nit_top.proofs.memory.buffers_of.Given as goal
 
 abbrev pub invariant-loop-sid : goal.invariant-loop-sid

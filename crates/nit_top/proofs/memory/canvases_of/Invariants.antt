@@ -1,5 +1,5 @@
 use Rattle.std.proofs.Common.{◌≡◌, ◌++◌, length}
-use Rattle.std.specs.Vec.Iter.{into_iter_items}
+use Rattle.nit_top.proofs.Lemmas.{into_iter_items}
 use Rattle.nit_top.proofs.memory.canvases_of.Given as goal
 
 abbrev pub invariant-loop-key : goal.invariant-loop-key

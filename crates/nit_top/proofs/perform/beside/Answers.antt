@@ -1,5 +1,4 @@
-use Rattle.std.proofs.Common.{true}
-use Rattle.nit_top.proofs.SetupLemmas.{not_read, all_read}
+use Rattle.nit_top.proofs.Lemmas.{all_read, not_read, true}
 use Rattle.nit_top.proofs.perform.beside.Goals as goal
 
 pub returns-in-Err : goal.returns-in-Err

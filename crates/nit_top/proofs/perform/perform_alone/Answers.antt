@@ -1,5 +1,4 @@
-use Rattle.std.proofs.Common.{false, inl}
-use Rattle.nit_top.specs.Work.{setup_of}
+use Rattle.nit_top.proofs.Lemmas.{false, inl, setup_of}
 use Rattle.nit_top.proofs.perform.perform_alone.Goals as goal
 
 pub returns : goal.returns

@@ -1,6 +1,4 @@
-use Rattle.std.proofs.Common.{◌∙◌, List, true, ap, length, subst, inl}
-use Rattle.nit_script.specs.declared.line.Line.{Line}
-use Rattle.nit_top.specs.Work.{HasRun, setup_of}
+use Rattle.nit_top.proofs.Lemmas.{HasRun, Line, List, ap, inl, length, setup_of, subst, true, ◌∙◌}
 use Rattle.nit_top.proofs.perform.perform_beside.Goals as goal
 
 pub returns : goal.returns

@@ -1,11 +1,5 @@
 use Rattle.std.proofs.Common.{◌≡◌, ◌∙◌, ℕ, List, Option, None, length, map, ap, subst, inl}
-use Rattle.std.specs.Prelude.{IfSome}
-use Rattle.nit_config.specs.declared.config.Member.{Member}
-use Rattle.nit_config.specs.Configuration.{Configuration}
-use Rattle.nit_store.specs.Store.{bytes_of, with_asked}
-use Rattle.nit_top.specs.Judgement.{IsInputScript, script_names, wanted_by, wrong_input}
-use Rattle.nit_top.specs.Work.{SoFar, StoppedAmong}
-use Rattle.nit_top.proofs.SetupLemmas.{run_runnable}
+use Rattle.nit_top.proofs.Lemmas.{Configuration, IfSome, IsInputScript, Member, SoFar, StoppedAmong, bytes_of, run_runnable, script_names, wanted_by, with_asked, wrong_input}
 use Rattle.nit_top.proofs.perform.read_scripts.Goals as goal
 
 pub returns-in-Err-clause-read : goal.returns-in-Err-clause-read

@@ -1,18 +1,10 @@
 use Rattle.std.proofs.Common.{◌≡◌, ◌∙◌, false, ◌∷◌, [], ℕ, List, None, sym, ap, subst, inl, refl, arith}
-use Rattle.nit_script.specs.declared.line.Line.{Line}
-use Rattle.nit_script.specs.declared.line.InputLine.{InputLine}
-use Rattle.nit_config.specs.Configuration.{Configuration, still_configuration}
+use Rattle.nit_top.proofs.Lemmas.{Configuration, InputLine, IsClientFault, IsRunnable, Line, Performed, Setup, StoppedAt, idle_user, name_text, setup_of, still_configuration, still_ends, still_runnable, still_setup, still_stopped}
 use Rattle.nit_top.specs.declared.finish.End.{End}
-use Rattle.nit_top.specs.Judgement.{IsClientFault}
-use Rattle.nit_actor.specs.IdleUser.{idle_user}
-use Rattle.nit_top.specs.Setup.{Setup, still_setup, IsRunnable}
-use Rattle.nit_top.specs.ProgramLines.{name_text}
-use Rattle.nit_top.specs.Work.{StoppedAt, Performed, setup_of}
-use Rattle.nit_top.proofs.SetupLemmas.{still_stopped, still_runnable, still_ends}
 use Rattle.nit_top.proofs.perform.still.Goals as goal
 
 same_setup : (width height : ℕ) (config : Configuration) (lines read : List Line) (input : List InputLine) → config ≡ still_configuration width height → read ≡ lines → input ≡ idle_user read → setup_of config (lines ∷ []) input false false ≡ still_setup width height lines
-same_setup width height config lines read input c r i = let u : input ≡ idle_user lines = i ∙ ap idle_user r in λ j. record { config = c j; scripts = lines ∷ []; input = u j; texts = false; beside = false; made = [] }
+same_setup width height config lines read input c r i = let u : input ≡ idle_user lines = i ∙ ap idle_user r in λ j. record { config = c j; scripts = lines ∷ []; input = u j; texts = false; beside = false; made = []; inner = None; clips = [] }
 
 pub returns-in-Err : goal.returns-in-Err
 returns-in-Err g c =

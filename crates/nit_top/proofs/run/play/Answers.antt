@@ -1,17 +1,6 @@
 use Rattle.std.proofs.Common.{rules, ◌≡◌, ◌∙◌, ◌<◌, ◌++◌, ◌∷◌, [], List, Option, length, ℕ, ap, sym, subst, refl, false, true}
-use Rattle.nit_word.specs.Sight.{Sight}
-use Rattle.nit_config.specs.Configuration.{Configuration}
-use Rattle.nit_scene.specs.RawWords.{glass_in}
-use Rattle.nit_scene.specs.Scene.{state_now}
-use Rattle.nit_scene.specs.Screen.{IsGlass}
-use Rattle.nit_store.specs.Store.{File, StoreModel}
-use Rattle.nit_store.specs.Puts.{PutsAll, PutsNext, PutState, PutRefusal}
+use Rattle.nit_top.proofs.Lemmas.{AreLeft, Configuration, File, HasRun, HaveTables, IsGlass, PutRefusal, PutState, PutsAll, PutsLast, PutsNext, Sight, StoreModel, events_files, final_name, glass_in, journal_file, left_glass, put_state_of_run, run_leaves, setup_of, state_now, text_files, with_texts, written_whole}
 use Rattle.nit_actor.specs.RoundsRun.{put_state_of_desk as desk_putting}
-use Rattle.nit_top.specs.Outputs.{HaveTables, events_files, final_name, journal_file, text_files}
-use Rattle.nit_top.specs.Work.{HasRun, put_state_of_run, setup_of}
-use Rattle.nit_top.proofs.FinalWords.{written_whole}
-use Rattle.nit_top.proofs.RunLemmas.{PutsLast, run_leaves, with_texts}
-use Rattle.nit_top.proofs.PerClient.{AreLeft, left_glass}
 use Rattle.nit_top.proofs.run.play.Goals as goal
 
 -- a put behind what a desk shows
@@ -41,7 +30,7 @@ returns g c =
     let at = desk_putting (shown desk.store.now) desk.fault desk.tried in
     let final = put_state_of_run (shown c.put_final-fault.new.store) c.put_final-fault.result in
     let owns : c.deref_mut-2.result.now ≡ c.run_rounds.new.owns = c.deref_mut-2.ensures.value ∙ written_whole opened.owns.len c.run_rounds.new.owns opened.owns.items (c.run_rounds.auto.owns ∙ c.deref_mut.ensures.len) in
-    let text : c.deref-2.result.now ≡ c.draw_last.new.text = c.deref-2.ensures.value ∙ written_whole desk.text.len c.draw_last.new.text desk.text.items (c.draw_last.auto.text ∙ c.deref_mut-4.ensures.len) in
+    let text : c.deref-2.result.now ≡ c.draw_last.new.text = c.deref-2.ensures.value ∙ written_whole desk.text.len c.draw_last.new.text desk.text.items (c.draw_last.auto.text ∙ c.deref_mut-3.ensures.len) in
     let config : ended.config ≡ c.args.config.now = c.draw_last.ensures.config ∙ c.run_rounds.ensures.run.config ∙ c.requires.opened.configuration in
     let puts : PutsLast (state_now mid) c.run_rounds.new.owns at final =
     λ tables have.

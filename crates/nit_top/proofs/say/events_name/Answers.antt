@@ -1,11 +1,5 @@
 use Rattle.std.proofs.Common.{ℕ, List, ◌++◌, [], sym, ap, subst, refl}
-use Rattle.std.specs.Prelude.{codes}
-use Rattle.std.proofs.lemmas.Result.{err_from_is_err_and}
-use Rattle.nit_store.proofs.ForCallers.{saying-nil}
-use Rattle.nit_top.specs.ProgramLines.{label_text}
-use Rattle.nit_top.specs.SaidText.{Says}
-use Rattle.nit_top.specs.Outputs.{events_name}
-use Rattle.nit_top.proofs.TextFragments.{says_then, says_stop}
+use Rattle.nit_top.proofs.Lemmas.{Says, codes, err_from_is_err_and, events_name, label_text, saying-nil, says_stop, says_then}
 use Rattle.nit_top.proofs.say.events_name.Goals as goal
 
 pub returns-in_err-text : goal.returns-in_err-text

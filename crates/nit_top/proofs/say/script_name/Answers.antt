@@ -1,10 +1,5 @@
 use Rattle.std.proofs.Common.{◌++◌, [], sym, refl}
-use Rattle.std.specs.Prelude.{codes}
-use Rattle.std.specs.Fmt.{decimal}
-use Rattle.std.proofs.lemmas.Result.{err_from_is_err_and}
-use Rattle.nit_store.proofs.ForCallers.{saying-nil}
-use Rattle.nit_report.specs.Generator.{script_name}
-use Rattle.nit_top.proofs.TextFragments.{says_then, says_stop}
+use Rattle.nit_top.proofs.Lemmas.{codes, decimal, err_from_is_err_and, saying-nil, says_stop, says_then, script_name}
 use Rattle.nit_top.proofs.say.script_name.Goals as goal
 
 pub returns-in_err-text : goal.returns-in_err-text

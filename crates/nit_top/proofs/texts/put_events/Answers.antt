@@ -1,7 +1,5 @@
 use Rattle.std.proofs.Common.{arith, ◌<◌, List, length, subst}
-use Rattle.nit_config.specs.declared.config.Member.{Member}
-use Rattle.nit_top.specs.Work.{put_state_of_run}
-use Rattle.nit_top.proofs.EventTexts.{one_more_text}
+use Rattle.nit_top.proofs.Lemmas.{Member, one_more_text, put_state_of_run}
 use Rattle.nit_top.proofs.texts.put_events.Goals as goal
 
 pub overflow_cast-sid : goal.overflow_cast-sid

@@ -1,8 +1,4 @@
-use Rattle.std.proofs.Common.{map}
-use Rattle.std.specs.List.{range_with_len}
-use Rattle.nit_store.specs.Puts.{PutsAll}
-use Rattle.nit_top.specs.Outputs.{events_file}
-use Rattle.nit_top.specs.Work.{put_state_of_run}
+use Rattle.nit_top.proofs.Lemmas.{PutsAll, events_file, map, put_state_of_run, range_with_len}
 use Rattle.nit_top.proofs.texts.put_events.Given as goal
 
 abbrev pub invariant-loop-sid : goal.invariant-loop-sid

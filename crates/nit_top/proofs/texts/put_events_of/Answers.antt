@@ -1,9 +1,4 @@
-use Rattle.std.proofs.Common.{sym}
-use Rattle.nit_journal.specs.State.{session}
-use Rattle.nit_report.specs.EventsText.{events_text}
-use Rattle.nit_scene.specs.Scene.{state_now}
-use Rattle.nit_top.specs.Outputs.{ending_of, events_name}
-use Rattle.nit_top.proofs.PutLemmas.{no_text}
+use Rattle.nit_top.proofs.Lemmas.{ending_of, events_name, events_text, no_text, session, state_now, sym}
 use Rattle.nit_top.proofs.texts.put_events_of.Goals as goal
 
 pub returns-in-Err : goal.returns-in-Err

@@ -1,8 +1,6 @@
-use Rattle.std.proofs.Common.{refl, sym}
+use Rattle.nit_top.proofs.Lemmas.{journal_file, no_text, refl, sym}
 use Rattle.nit_store.specs.declared.store.PutError.TheVariants as put
 use Rattle.nit_top.specs.declared.finish.Output.TheVariants as output
-use Rattle.nit_top.specs.Outputs.{journal_file}
-use Rattle.nit_top.proofs.PutLemmas.{no_text}
 use Rattle.nit_top.proofs.texts.put_journal.Goals as goal
 
 pub returns-in-Err : goal.returns-in-Err

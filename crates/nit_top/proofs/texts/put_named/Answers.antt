@@ -1,6 +1,4 @@
-use Rattle.std.proofs.Common.{◌∙◌, sym, ap, subst}
-use Rattle.std.specs.Str.{IsUtf8}
-use Rattle.nit_top.specs.Outputs.{events_name}
+use Rattle.nit_top.proofs.Lemmas.{IsUtf8, ap, events_name, subst, sym, ◌∙◌}
 use Rattle.nit_top.proofs.EventNames.{name_is_text}
 use Rattle.nit_top.proofs.texts.put_named.Goals as goal
 

@@ -1,6 +1,5 @@
-use Rattle.std.proofs.Common.{false}
+use Rattle.nit_top.proofs.Lemmas.{config_stopped, false}
 use Rattle.nit_top.proofs.AuditEnds.{ends_before}
-use Rattle.nit_top.proofs.SetupLemmas.{config_stopped}
 use Rattle.nit_top.proofs.top.audit.Goals as goal
 
 pub returns-in-Err : goal.returns-in-Err

@@ -1,5 +1,4 @@
-use Rattle.std.proofs.Common.{true}
-use Rattle.nit_top.proofs.SetupLemmas.{config_stopped}
+use Rattle.nit_top.proofs.Lemmas.{config_stopped, true}
 use Rattle.nit_top.proofs.top.beside.Goals as goal
 
 pub returns-in-Err : goal.returns-in-Err

@@ -1,6 +1,4 @@
-use Rattle.std.proofs.Common.{true}
-use Rattle.nit_top.proofs.CaptureEnds.{ends_too}
-use Rattle.nit_top.proofs.SetupLemmas.{config_stopped}
+use Rattle.nit_top.proofs.Lemmas.{config_stopped, ends_too, true}
 use Rattle.nit_top.proofs.top.filmed.Goals as goal
 
 pub returns-in-Err : goal.returns-in-Err

@@ -1,7 +1,4 @@
-use Rattle.std.proofs.Common.{sym, subst}
-use Rattle.nit_top.specs.Command.{Command}
-use Rattle.nit_top.specs.CommandEnd.{Ended}
-use Rattle.nit_top.proofs.Causes.{causes}
+use Rattle.nit_top.proofs.Lemmas.{Command, Ended, causes, subst, sym}
 use Rattle.nit_top.proofs.top.nitpicker.Goals as goal
 
 pub returns-in-Some-Run : goal.returns-in-Some-Run
@@ -14,7 +11,17 @@ returns-in-Some-Gen g c =
     let asked = rw c.in-Some-Gen.field-0-is at c.in-Some-Gen.ensures.some in
     causes c.generated_runs_count.ensures _ _ _ _ _ (subst (λ (k : Command). Ended (g.S.Store.shown c.args.store.now) k (g.S.Store.shown c.made.new.store) c.made.result.status c.made.result.journal.items) (sym asked) c.made.ensures)
 
+pub returns-in-Some-Clip : goal.returns-in-Some-Clip
+returns-in-Some-Clip g c =
+    let asked = rw c.in-Some-Clip.field-0-is at c.in-Some-Clip.ensures.some in
+    causes c.generated_runs_count.ensures _ _ _ _ _ (subst (λ (k : Command). Ended (g.S.Store.shown c.args.store.now) k (g.S.Store.shown c.clipped.new.store) c.clipped.result.status c.clipped.result.journal.items) (sym asked) c.clipped.ensures)
+
 pub returns-in-Some-Capture : goal.returns-in-Some-Capture
 returns-in-Some-Capture g c =
     let asked = rw c.in-Some-Capture.field-0-is at c.in-Some-Capture.ensures.some in
     causes c.generated_runs_count.ensures _ _ _ _ _ (subst (λ (k : Command). Ended (g.S.Store.shown c.args.store.now) k (g.S.Store.shown c.filmed.new.store) c.filmed.result.status c.filmed.result.journal.items) (sym asked) c.filmed.ensures)
+
+pub returns-in-Some-Nested : goal.returns-in-Some-Nested
+returns-in-Some-Nested g c =
+    let asked = rw c.in-Some-Nested.field-0-is at c.in-Some-Nested.ensures.some in
+    causes c.generated_runs_count.ensures _ _ _ _ _ (subst (λ (k : Command). Ended (g.S.Store.shown c.args.store.now) k (g.S.Store.shown c.within.new.store) c.within.result.status c.within.result.journal.items) (sym asked) c.within.ensures)

@@ -1,6 +1,5 @@
 use Rattle.std.proofs.Common.{◌≡◌, ◌^◌, ℕ, List, subst}
-use Rattle.nit_top.specs.Command.{number_among}
-use Rattle.nit_top.proofs.NumberWords.{number_is}
+use Rattle.nit_top.proofs.Lemmas.{number_among, number_is}
 use Rattle.nit_top.proofs.words.whole_number.Goals as goal
 
 pub returns-clause-number : goal.returns-clause-number

@@ -1,8 +1,5 @@
 use Rattle.std.proofs.Common.{◌≢◌, ◌∙◌, ◌+◌, ◌++◌, ◌∷◌, [], Bool, ℕ, List, true, false, ap, subst, sym}
-use Rattle.std.specs.List.{AllByRecursion}
-use Rattle.nit_capture.specs.Capture.{CaptureModel, with_last}
-use Rattle.nit_top.specs.FilmStore.{IsFilmOf, picture_names}
-use Rattle.nit_top.proofs.FilmPictures.{before_shot, film_grows, one_shot_more}
+use Rattle.nit_top.proofs.Lemmas.{AllByRecursion, CaptureModel, IsFilmOf, before_shot, film_grows, one_shot_more, picture_names, with_last}
 use Rattle.nit_top.proofs.film_store.FilmStore.put_shot.Goals as goal
 
 pub invariant_of-self-2 : goal.invariant_of-self-2

@@ -1,4 +1,4 @@
-use Rattle.nit_top.proofs.FilmPictures.{film_stays, other_names}
+use Rattle.nit_top.proofs.Lemmas.{film_stays, other_names}
 use Rattle.nit_top.proofs.film_store.FilmStoreStore.put.Goals as goal
 
 pub invariant_of-self : goal.invariant_of-self

@@ -1,0 +1,113 @@
+-- The words of the library and of the crates below that are used here.
+pub use Rattle.nit_actor.specs.ClipRole.{ClipRole, IsPairIn, PairRole, clip_role_of, pair_role_of}
+pub use Rattle.nit_actor.specs.Drawing.{Drawing, PutsShots, after_turn, drawn, drawn_shot, frame_of, opening_drawing, picture_of, shot_frames_of, shots_after, shots_of, words_of}
+pub use Rattle.nit_actor.specs.IdleUser.{StepTogether, idle_user}
+pub use Rattle.nit_actor.specs.Pictures.{AreNearShots, IsNearPicture, PutsShotsBehind}
+pub use Rattle.nit_actor.specs.Role.{Role, UserRole, role_of, user_role_of}
+pub use Rattle.nit_actor.specs.Rounds.{rounds}
+pub use Rattle.nit_actor.specs.RoundsRun.{IsRoundsRun, IsSetUp, glass_after, refusal_at, shot_name}
+pub use Rattle.nit_actor.specs.ShotFrames.{ShotFrame, ShowsEach, shot_file}
+pub use Rattle.nit_actor.specs.Shots.{AreShotsOf, IsDrawnPicture, ShotsBehind, drawn_by_shot}
+pub use Rattle.nit_actor.specs.Turn.{ActorLine, ByClient, ByUser, LineTurn}
+pub use Rattle.nit_actor.specs.TurnActions.{AreRoundsOf, actions_of_turns, input_by_user, input_lines_of}
+pub use Rattle.nit_actor.specs.declared.clip_beside.Pair.{Pair}
+pub use Rattle.nit_audit.specs.GoodEntries.{IsGood}
+pub use Rattle.nit_audit.specs.Verdict.{IsVerdict}
+pub use Rattle.nit_audit.specs.declared.auditing.Verdict.{Verdict}
+pub use Rattle.nit_capture.specs.Capture.{CaptureModel, cropped_bytes, first_capture, next_record, with_last}
+pub use Rattle.nit_capture.specs.Crop.{Shows, crop, crop_bytes, crop_pixel, screen, word_of_bytes}
+pub use Rattle.nit_capture.specs.Film.{film_header, record_of, records, stream}
+pub use Rattle.nit_capture.specs.Tiles.{IsPicture}
+pub use Rattle.nit_clip.specs.ClipGrammar.{clip_phases, is_clip_phase}
+pub use Rattle.nit_clip.specs.ClipSpelling.{FitsClipLine, clip_line_spelling, clip_text}
+pub use Rattle.nit_clip.specs.LegalClips.{IsLegalClips, before_final}
+pub use Rattle.nit_clip.specs.WholeClips.{IsWholeClips, clips_to_make}
+pub use Rattle.nit_clip.specs.declared.call.ClipEntry.{ClipEntry}
+pub use Rattle.nit_clip.specs.declared.error.ClipError.{ClipError}
+pub use Rattle.nit_clip.specs.declared.line.ClipLine.{ClipLine}
+pub use Rattle.nit_config.specs.Configuration.{Configuration, bar_rows, donation_of, member, still_configuration}
+pub use Rattle.nit_config.specs.ConfigurationRanges.{IsConfiguration}
+pub use Rattle.nit_config.specs.ConfigurationText.{IsConfigurationOf}
+pub use Rattle.nit_config.specs.declared.config.Member.{Member}
+pub use Rattle.nit_config.specs.declared.error.ConfigError.{ConfigError}
+pub use Rattle.nit_events.specs.Input.{InputState, Routing, deliveries_of, first_press, focusing, forget, hovering, ignored, is_button, is_held, is_same, kill_button, kill_key, kill_mode, killing, leaving, letting_go, moving, pointer_after, press, pressing, received, release, routed_as, routing, switching, takes_focus, to, unreceived, with_held, xray_key, xray_mode}
+pub use Rattle.nit_events.specs.Ranges.{IsCode}
+pub use Rattle.nit_events.specs.declared.call.Call.{Call}
+pub use Rattle.nit_events.specs.declared.call.Call.TheVariants.{Above, Back, Buffer, Close, Destroy, Front, Offset, Place, Refresh, Take, Title, Upgrade}
+pub use Rattle.nit_events.specs.declared.call.Reply.{Reply}
+pub use Rattle.nit_events.specs.declared.device.Device.{Device}
+pub use Rattle.nit_events.specs.declared.device.Mode.{Mode}
+pub use Rattle.nit_events.specs.declared.device.Mode.TheVariants.{Flat, Kill, Xray}
+pub use Rattle.nit_events.specs.declared.entry.Entry.{Entry}
+pub use Rattle.nit_events.specs.declared.event.Delivery.{Delivery}
+pub use Rattle.nit_events.specs.declared.event.Event.{Event}
+pub use Rattle.nit_events.specs.declared.event.Item.{Item}
+pub use Rattle.nit_events.specs.declared.event.Routed.{Routed}
+pub use Rattle.nit_events.specs.declared.event.Status.{Status}
+pub use Rattle.nit_glyph.specs.Texts.{is_label, is_label_byte, is_title}
+pub use Rattle.nit_hall.specs.ClipOpening.{AreFirstClipPasses, first_clip_pass, with_clip_scripts}
+pub use Rattle.nit_hall.specs.ClipPass.{AreDoneClips, ClipBelongs, ClipPassModel, IsDoneClip, clip_number}
+pub use Rattle.nit_hall.specs.NearWords.{IsNear, IsNearFrame}
+pub use Rattle.nit_hall.specs.Opening.{AreBlank, IsOpening, IsSetting, first_pass, parts_of}
+pub use Rattle.nit_hall.specs.OpeningParts.{OpeningParts}
+pub use Rattle.nit_hall.specs.Pass.{AreDone, Belongs, IsDoneUser, PassModel, UserBelongs, UserPassModel}
+pub use Rattle.nit_hall.specs.Room.{RoomModel}
+pub use Rattle.nit_hall.specs.RoomEnd.{left_word, words_left_in}
+pub use Rattle.nit_hall.specs.ServedLines.{user_actions_in}
+pub use Rattle.nit_journal.specs.Deliveries.{IsLive}
+pub use Rattle.nit_journal.specs.Journal.{JournalModel}
+pub use Rattle.nit_journal.specs.Presses.{IsDown}
+pub use Rattle.nit_journal.specs.Projection.{Calls, Gets, Observation, after_observations, alone, alone_machine, items_to, own_machine, projection, replies_to}
+pub use Rattle.nit_journal.specs.Replay.{Agrees, IsLegal, IsOpen, LegalFrom, replay, replay_from, shots}
+pub use Rattle.nit_journal.specs.Session.{Answered, Session, accepted, by_call, by_handle, by_life, by_quota, by_refusal, by_reserve, by_status, first_session, has_view, is_side, receive, refusal, serve, taking, unless, ◌orelse◌}
+pub use Rattle.nit_journal.specs.StackAfter.{is_accepted}
+pub use Rattle.nit_journal.specs.State.{State, after, buffer_size, clicks_on, first_state, input_after_call, owner_of, session, session_in}
+pub use Rattle.nit_journal.specs.WholeJournals.{Action, Does, IsWhole, Shoots, UserAction, action_of, calls_of, done, to_do, user_actions_of}
+pub use Rattle.nit_nested.specs.FrameLines.{frame_lines}
+pub use Rattle.nit_nested.specs.FrameScript.{count_lines, first_forbidden, frames_behind, next_frame, woven}
+pub use Rattle.nit_nested.specs.Nest.{NestModel, UnlessMemory, frame_answer, lines_of_frames, nest_script, script_answer}
+pub use Rattle.nit_nested.specs.ShownFrames.{CanPay, ShowsFrames}
+pub use Rattle.nit_nested.specs.declared.error.NestError.{NestError}
+pub use Rattle.nit_nested.specs.declared.error.NestError.TheVariants.{Bad, Phases, TooLong}
+pub use Rattle.nit_overlay.specs.Frame.{Scenery, frame, shown}
+pub use Rattle.nit_paint.specs.Repaint.{IsWordOfSource, no_sight}
+pub use Rattle.nit_pixels.specs.End.{BufferName, new_sight}
+pub use Rattle.nit_plan.specs.Calls.{calls_from, calls_in, calls_to_make, user_actions_from, user_actions_to_do}
+pub use Rattle.nit_plan.specs.Plan.{IsPlanOf, PlanModel, plan_of_script}
+pub use Rattle.nit_plan.specs.ScriptWords.{Painting, blank, ink, painted_from, static, table_size, words_after, words_left}
+pub use Rattle.nit_plan.specs.SessionLists.{plan_in, script_in}
+pub use Rattle.nit_rect.specs.Intersection.{HasPixels, LiesIn}
+pub use Rattle.nit_rect.specs.Limits.{most_height, most_width, most_words}
+pub use Rattle.nit_rect.specs.Rectangle.{Rectangle, is_place, is_rectangle, rectangle, spans}
+pub use Rattle.nit_rect.specs.declared.point.Point.{Point}
+pub use Rattle.nit_report.specs.EventsText.{events_text, taken}
+pub use Rattle.nit_report.specs.Generator.{client_script, client_text, config_text, generated, generated_configuration, is_call, is_device, script_name, user_script, user_text}
+pub use Rattle.nit_report.specs.JournalText.{FitsDelivery, FitsEntry, FitsEvent, FitsItem, FitsReply, IsFirstBadEntry, ReadsJournal, journal_text}
+pub use Rattle.nit_report.specs.Picture.{picture, picture_header, picture_length}
+pub use Rattle.nit_report.specs.declared.error.JournalError.{JournalError}
+pub use Rattle.nit_report.specs.declared.events.Ending.{Ending}
+pub use Rattle.nit_scene.specs.RawWords.{Painted, glass_in, pixel_count, source_at}
+pub use Rattle.nit_scene.specs.Scene.{SceneModel, scenery_of, state_now}
+pub use Rattle.nit_scene.specs.Screen.{IsGlass}
+pub use Rattle.nit_script.specs.Grammar.{IsFirstBad, IsTooLong, Reads, ReadsClient, ReadsInput, most_lines}
+pub use Rattle.nit_script.specs.Phases.{input_phases, is_input_phase, is_phase, phases}
+pub use Rattle.nit_script.specs.Spelling.{FitsCall, FitsDevice, FitsInputLine, FitsLine, input_spelling, line_spelling}
+pub use Rattle.nit_script.specs.declared.error.ScriptError.{ScriptError}
+pub use Rattle.nit_script.specs.declared.line.InputLine.{InputLine}
+pub use Rattle.nit_script.specs.declared.line.Line.{Line}
+pub use Rattle.nit_slots.specs.Account.{IsDonation, buffer_left, buffer_need, view_left, view_need}
+pub use Rattle.nit_stack.specs.Sources.{Bare, Black, PixelSource, Size, Word, among, black_or_word, buffer_place, index_at, owner, pixel, point, shown_index, source_under}
+pub use Rattle.nit_store.specs.Puts.{PutRefusal, PutState, PutsAll, PutsFile, PutsNext, PutsUnless, refusal_by, unrefused}
+pub use Rattle.nit_store.specs.Store.{File, IsPut, PutIn, ReadFaulted, Rose, StoreModel, WriteFaulted, bytes_of, file_at, with_asked, with_said}
+pub use Rattle.nit_store.specs.StoreAnswers.{AfterPut, AfterRead, AskedAtMost}
+pub use Rattle.nit_store.specs.declared.store.PutError.{PutError}
+pub use Rattle.nit_word.specs.Inks.{IsWord}
+pub use Rattle.nit_word.specs.Sight.{Sight, inked_sight}
+pub use Rattle.std.specs.Fmt.{decimal}
+pub use Rattle.std.specs.Global.{Global}
+pub use Rattle.std.specs.List.{AllByRecursion, AllZip, flat_map, list_all, list_any, range_with_len, sum_by}
+pub use Rattle.std.specs.Option.{is_some}
+pub use Rattle.std.specs.Prelude.{All, Contains, IfNone, IfOk, IfSome, IsSomeAnd, IsTrue, Vec, codes, cond, count_by, drop, filter, find, fold, nat_lt, negsuc, option_map, pos, slice_get, slice_index, slice_index_or, sum, unwrap_or, vec_len, ℤ}
+pub use Rattle.std.specs.Str.{IsAscii, IsUtf8, bytes_eq}
+pub use Rattle.std.specs.String.{string_bytes}
+pub use Rattle.std.specs.Vec.Iter.{into_iter_items}

@@ -1,0 +1,50 @@
+-- A run in a room with clip scripts: what it begins with, and its clip list at its end.
+use Rattle.std.specs.Prelude.{◌≡◌, ℕ, ◌*◌, ◌≤◌, true, List, [], All, length, map, Result, IfOk, Vec, vec_capacity, vec_len}
+use Rattle.nit_top.specs.Below.{ClipEntry, ClipLine, Configuration, Entry, Global, InputLine, IsPairIn, Line, OpeningParts, Pair, RoomModel, UserPassModel, clip_text, picture_length}
+use Rattle.nit_rect.specs.declared.memory.NoMemory.{NoMemory}
+use Rattle.nit_top.specs.declared.clip_run.ClipMemory.{ClipMemory}
+use Rattle.nit_top.specs.declared.pairs.Paired.{Paired}
+use Rattle.nit_top.specs.Setup.{Setup}
+use Rattle.nit_top.specs.RunClips.{IsClipList}
+use Rattle.nit_top.specs.RoomRun.{IsReady}
+use Rattle.nit_top.specs.Work.{setup_of}
+
+-- the setup of a run with these clip scripts
+abbrev pub clips_setup : Configuration → List (List Line) → List InputLine → List (List ClipLine)
+    → Setup
+clips_setup config scripts input clips =
+    record (setup_of config scripts input true true) { clips = clips }
+
+-- the setup of an opening with clip scripts, as it runs
+abbrev pub clips_setup_in : OpeningParts → Setup
+clips_setup_in parts = clips_setup parts.config parts.scripts parts.input parts.clips
+
+-- A flag for each client, room for all pairs to wait, and a word and bytes for each pixel of the
+-- screen.
+pub record IsClipMemory (config : Configuration) (m : ClipMemory) : Type 0 where
+  pub flags : vec_len m.raised ≡ length config.clients
+  pub waiting : m.waiting.items ≡ []
+  pub room : length config.clients ≤ vec_capacity m.waiting
+  pub frame : length m.frame.items ≡ config.width * config.height
+  pub text : length m.text.items ≡ picture_length config.width config.height
+
+-- there is room for the passes and the clip passes of all pairs
+pub record HasRoomBack (p : Paired) : Type 0 where
+  pub passes : p.passes.items ≡ []
+  pub clips : p.clips.items ≡ []
+  pub passes_room : length p.pairs.items ≤ vec_capacity p.passes
+  pub clips_room : length p.pairs.items ≤ vec_capacity p.clips
+
+-- The run of this opening can begin, as without clip scripts. There is a clip script for each
+-- client, and each client's pass and its clip pass go together.
+pub record IsReadyWithClips (parts : OpeningParts) (r : RoomModel) (pairs : List Pair)
+    (u : UserPassModel) : Type 0 where
+  pub ready : IsReady parts r (map (λ b. b.pass) pairs) u
+  pub each : length pairs ≡ length parts.scripts
+  pub clips_each : length parts.clips ≡ length parts.scripts
+  pub pairs_in : All (λ b. IsPairIn parts b.pass b.clip) pairs
+
+-- the text of a clip list of the run, unless memory ran out for it
+abbrev pub IsClipListText : Setup → List Entry → Result (Vec ℕ Global) NoMemory → Type 0
+IsClipListText s journal text = (clips : List ClipEntry) × IsClipList s journal clips
+    × IfOk text (λ v. v.items ≡ clip_text clips)
