@@ -1,11 +1,14 @@
 //! Texts of a run, and what the audit says of them.
 
+ghost use Rattle.std.specs.Prelude.{◌≤◌, length, IfOk};
+ghost use Rattle.nit_events.specs.Ranges.{most_read};
+
 use nit_audit::{Verdict, audit};
 use nit_config::read_config;
+use nit_events::Entry;
 use nit_report::parse_journal;
-use nit_script::{parse_client, parse_input};
+use nit_script::{Client, ScriptError, parse_client, parse_input};
 use std::alloc::{AllocError, Global};
-use std::process::Abort;
 use std::test::Fail;
 
 /// The most bytes of a journal.
@@ -16,71 +19,94 @@ const CONFIG: &[u8] = b"[screen]\nwidth = 8\nheight = 4\n\n[input]\nscript = \"i
                         [[client]]\nlabel = \"a\"\ndonation = 65536\nscript = \"a.nit\"\n\n\
                         [[client]]\nlabel = \"b\"\ndonation = 65536\nscript = \"b.nit\"\n";
 
-/// The scripts of two clients and of the user.
-pub struct Scripts {
+/// The scripts of two clients and of the user, and the lines of the journal of their run.
+#[derive(Clone, Copy)]
+pub struct Run {
     pub first: &'static [u8],
     pub second: &'static [u8],
     pub user: &'static [u8],
+    pub lines: &'static [&'static str],
 }
 
-/// A journal's text of these lines.
-fn text_of(alloc: Global, lines: &[&str]) -> Result<Vec<u8>, AllocError> {
+/// How a journal differs from that of a run. Lines have numbers from 1.
+#[derive(Clone, Copy, Debug)]
+pub enum Edit {
+    Nothing,
+    /// This line is taken out.
+    Out(usize),
+    /// It is doubled.
+    Twice(usize),
+    /// It and the next one change places.
+    Swapped(usize),
+    /// It says something else.
+    Says(usize, &'static str),
+}
+
+use Edit::{Out, Says, Swapped, Twice};
+
+impl Edit {
+    /// How often a line stands there.
+    fn times(self, number: usize) -> u32 {
+        match self {
+            Out(of) if of == number => 0,
+            Twice(of) if of == number => 2,
+            _ => 1,
+        }
+    }
+
+    /// What stands there in place of a line.
+    fn line(self, lines: &[&'static str], number: usize) -> &'static str {
+        let from = match self {
+            Says(of, text) if of == number => return text,
+            Swapped(of) if of == number => number.saturating_add(1),
+            Swapped(of) if of == number.saturating_sub(1) => of,
+            _ => number,
+        };
+        match lines.get(from.saturating_sub(1)) {
+            Some(line) => line,
+            None => "",
+        }
+    }
+}
+
+/// The text of a run's journal with an edit.
+fn text_of(alloc: Global, lines: &[&'static str], edit: Edit) -> Result<Vec<u8>, AllocError> {
     let mut text = Vec::new(alloc);
-    for line in lines {
-        text.extend_from_slice(line.as_bytes())?;
-        text.push(b'\n')?;
+    for number in 1..=lines.len() {
+        for _time in 0..edit.times(number) {
+            text.extend_from_slice(edit.line(lines, number).as_bytes())?;
+            text.push(b'\n')?;
+        }
     }
     Ok(text)
 }
 
-/// The verdict on a journal of these lines.
-pub fn judged(
-    rt: &impl Abort,
-    alloc: Global,
-    by: &Scripts,
-    lines: &[&str],
-) -> Result<Verdict, Fail> {
-    let config = read_config(alloc, CONFIG)?;
-    let scripts = [
-        parse_client(alloc, by.first)?,
-        parse_client(alloc, by.second)?,
-    ];
-    let input = parse_input(alloc, by.user)?;
-    let text = text_of(alloc, lines)?;
-    assert!(rt; text.len() <= MOST);
-    let entries = parse_journal(alloc, &text)?;
-    assert!(rt; config.clients.len() == scripts.len());
-    Ok(audit(alloc, &config, &scripts, &input, &entries)?)
-}
-
-/// A journal of these lines is none of a run, and this entry is named.
-pub fn refused(
-    rt: &impl Abort,
-    alloc: Global,
-    by: &Scripts,
-    lines: &[&str],
-    entry: u32,
-) -> Result<(), Fail> {
-    let found = judged(rt, alloc, by, lines)?;
-    assert_eq!(rt; found, Verdict::No { entry }, "of {lines:?}");
-    Ok(())
-}
-
-/// So it is with one line changed: each row has its number from 1, what it says then, and the
-/// entry.
-pub fn refused_at(
-    rt: &impl Abort,
-    alloc: Global,
-    by: &Scripts,
-    lines: &[&str],
-    rows: &[(usize, &str, u32)],
-) -> Result<(), Fail> {
-    for (number, text, entry) in rows {
-        let mut changed = Vec::new(alloc);
-        for (i, line) in lines.iter().enumerate() {
-            changed.push(if i + 1 == *number { *text } else { *line })?;
-        }
-        refused(rt, alloc, by, &changed, *entry)?;
+/// The entries of a run's journal with an edit.
+fn entries_of(alloc: Global, run: &Run, edit: Edit) -> Result<Vec<Entry>, Fail>
+    ensures { IfOk result (λ v. length v.items ≤ most_read) }
+{
+    let text = text_of(alloc, run.lines, edit)?;
+    if text.len() > MOST {
+        return Err(Fail::from("too long"));
     }
-    Ok(())
+    Ok(parse_journal(alloc, &text)?)
+}
+
+/// The scripts of a run's clients.
+fn scripts_of(alloc: Global, run: &Run) -> Result<[Client; 2], ScriptError> {
+    let first = parse_client(alloc, run.first)?;
+    let second = parse_client(alloc, run.second)?;
+    Ok([first, second])
+}
+
+/// The verdict on the journal of a run with an edit.
+pub fn judged(alloc: Global, run: &Run, edit: Edit) -> Result<Verdict, Fail> {
+    let config = read_config(alloc, CONFIG)?;
+    let scripts = scripts_of(alloc, run)?;
+    let input = parse_input(alloc, run.user)?;
+    let entries = entries_of(alloc, run, edit)?;
+    if config.clients.len() != scripts.len() {
+        return Err(Fail::from("not two clients"));
+    }
+    Ok(audit(alloc, &config, &scripts, &input, &entries)?)
 }

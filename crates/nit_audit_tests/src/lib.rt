@@ -8,8 +8,6 @@
 #[cfg(test)]
 mod bench;
 #[cfg(test)]
-mod kill_tests;
+mod run_tests;
 #[cfg(test)]
-mod two_tests;
-#[cfg(test)]
-mod view_tests;
+mod same;

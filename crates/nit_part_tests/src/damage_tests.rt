@@ -1,6 +1,10 @@
 //! Pieces over three views that overlap. The pictures were drawn by hand.
 
+ghost use Rattle.std.specs.Prelude.{◌≡◌, length};
+ghost use Rattle.nit_damage.specs.Cutter.{FitsStack};
+
 use crate::pictures::picture;
+use crate::same::same;
 use nit_damage::Cutter;
 use nit_rect::{NoMemory, Rect};
 use nit_stack::{Stack, ViewRef};
@@ -108,62 +112,75 @@ const BARE: &str = "____________\
         ____________\
         ____..______";
 
+/// The pixels that a cutter begins with.
+#[derive(Clone, Copy, Debug)]
+enum Pixels {
+    All,
+    /// What the view at this place owns of a rectangle.
+    Owned(u32, (i32, i32, u32, u32)),
+    /// The view at this place, which was in a rectangle before.
+    Moved(u32, (i32, i32, u32, u32)),
+    /// What of a rectangle no view in front of this place covers.
+    Gone((i32, i32, u32, u32), u32),
+    /// What of a rectangle no view covers.
+    Bare((i32, i32, u32, u32)),
+}
+
+use Pixels::{All, Bare, Gone, Moved, Owned};
+
+/// The rows of the bar, what the cutter begins with, and the picture.
+const CASES: [(u32, Pixels, &str); 6] = [
+    (7, All, ALL),
+    (0, All, ALL_WITHOUT_A_BAR),
+    (7, Owned(2, (2, 9, 3, 3)), OWNED),
+    (7, Moved(1, (2, 8, 4, 3)), MOVED),
+    (7, Gone((4, 6, 6, 6), 1), GONE),
+    (7, Bare((4, 6, 6, 6)), BARE),
+];
+
+fn rect(rt: &impl Abort, numbers: (i32, i32, u32, u32)) -> Rect {
+    let (x, y, w, h) = numbers;
+    Rect::new(x, y, w, h).expect(rt, "in range")
+}
+
+/// Begins with these pixels of a stack of three views.
+fn begin(rt: &impl Abort, cutter: &mut Cutter, stack: &Stack, begin: Pixels)
+    requires three { length stack.now.views ≡ 3 }
+    requires room { cutter.old.room ≡ 3 }
+    ensures { FitsStack cutter.new stack.now }
+{
+    match begin {
+        All => cutter.begin_all(stack),
+        Owned(place, part) => {
+            assert!(rt; place < 3);
+            cutter.begin_owned(stack, stack.at(place), rect(rt, part));
+        }
+        Moved(place, old) => {
+            assert!(rt; place < 3);
+            cutter.begin_moved(stack, stack.at(place), rect(rt, old));
+        }
+        Gone(part, place) => {
+            assert!(rt; place < 3);
+            cutter.begin_gone(stack, rect(rt, part), Some(stack.at(place)));
+        }
+        Bare(part) => cutter.begin_gone(stack, rect(rt, part), None),
+    }
+}
+
+/// What was to come before a begin is dropped, and nothing comes behind the picture.
 #[test]
-fn all_pixels(rt: HostRuntime) -> Result<(), Fail> {
+fn pieces(rt: HostRuntime) -> Result<(), Fail> {
     let alloc = rt.alloc();
-    for (bar, want) in [(7, ALL), (0, ALL_WITHOUT_A_BAR)] {
-        let stack = three_views(&rt, alloc, bar)?;
+    for (bar, how, want) in &CASES {
+        let stack = three_views(&rt, alloc, *bar)?;
         let mut cutter = Cutter::with_room(alloc, 3)?;
         assert!(rt; stack.len() == 3);
         cutter.begin_all(&stack);
-        let all = picture(&rt, &mut cutter, &stack);
-        assert_eq!(rt; all.as_slice(), want.as_bytes());
+        assert!(rt; cutter.next(&stack).is_some());
+        begin(&rt, &mut cutter, &stack, *how);
+        let found = picture(&rt, &mut cutter, &stack);
+        same(&rt, &(*bar, *how), &found.as_slice(), &want.as_bytes());
         assert!(rt; cutter.next(&stack).is_none());
     }
-    Ok(())
-}
-
-/// What was to come before a begin is dropped.
-#[test]
-fn owned_by_the_view_behind(rt: HostRuntime) -> Result<(), Fail> {
-    let alloc = rt.alloc();
-    let stack = three_views(&rt, alloc, 7)?;
-    let mut cutter = Cutter::with_room(alloc, 3)?;
-    assert!(rt; stack.len() == 3);
-    cutter.begin_all(&stack);
-    assert!(rt; cutter.next(&stack).is_some());
-    let part = Rect::new(2, 9, 3, 3).ok_or("no rectangle")?;
-    cutter.begin_owned(&stack, stack.at(2), part);
-    let owned = picture(&rt, &mut cutter, &stack);
-    assert_eq!(rt; owned.as_slice(), OWNED.as_bytes());
-    Ok(())
-}
-
-#[test]
-fn moved_view_in_the_middle(rt: HostRuntime) -> Result<(), Fail> {
-    let alloc = rt.alloc();
-    let stack = three_views(&rt, alloc, 7)?;
-    let mut cutter = Cutter::with_room(alloc, 3)?;
-    assert!(rt; stack.len() == 3);
-    let old = Rect::new(2, 8, 4, 3).ok_or("no rectangle")?;
-    cutter.begin_moved(&stack, stack.at(1), old);
-    let moved = picture(&rt, &mut cutter, &stack);
-    assert_eq!(rt; moved.as_slice(), MOVED.as_bytes());
-    Ok(())
-}
-
-#[test]
-fn gone_behind_the_front_view(rt: HostRuntime) -> Result<(), Fail> {
-    let alloc = rt.alloc();
-    let stack = three_views(&rt, alloc, 7)?;
-    let mut cutter = Cutter::with_room(alloc, 3)?;
-    assert!(rt; stack.len() == 3);
-    let gone = Rect::new(4, 6, 6, 6).ok_or("no rectangle")?;
-    cutter.begin_gone(&stack, gone, Some(stack.at(1)));
-    let behind = picture(&rt, &mut cutter, &stack);
-    assert_eq!(rt; behind.as_slice(), GONE.as_bytes());
-    cutter.begin_gone(&stack, gone, None);
-    let bare = picture(&rt, &mut cutter, &stack);
-    assert_eq!(rt; bare.as_slice(), BARE.as_bytes());
     Ok(())
 }

@@ -3,6 +3,7 @@
 ghost use Rattle.std.specs.Prelude.{◌≡◌, IfOk};
 ghost use Rattle.nit_capture.specs.Tiles.{IsPictureSize};
 
+use crate::same::same;
 use nit_capture::Capture;
 use nit_rect::{NoMemory, Rect};
 use std::alloc::Global;
@@ -181,31 +182,30 @@ fn film(
     Ok(out)
 }
 
-#[test]
-fn parts_of_a_screen(rt: HostRuntime) -> Result<(), Fail> {
-    for (left, want) in [(0, &LEFT[..]), (4, &RIGHT[..])] {
-        let out = film(rt.alloc(), 8, 4, (left, 0, 4, 2), &TWO)?;
-        assert_eq!(rt; &out[..], want, "from column {left} on");
-    }
-    Ok(())
-}
+/// The sides of a screen, the part that is filmed, its pictures, and the film.
+type Film = (
+    u32,
+    u32,
+    (i32, i32, u32, u32),
+    &'static [Picture],
+    &'static [u8],
+);
+
+const FILMS: [Film; 6] = [
+    (8, 4, (0, 0, 4, 2), &TWO, &LEFT),
+    (8, 4, (4, 0, 4, 2), &TWO, &RIGHT),
+    (20, 18, (0, 0, 20, 18), &CUT_OFF, &CUT),
+    (16, 17, (0, 0, 16, 17), &[Picture::White(255)], &WHITE_255),
+    (16, 17, (0, 0, 16, 17), &[Picture::White(256)], &WHITE_256),
+    (16, 17, (0, 0, 16, 17), &[Picture::White(257)], &WHITE_257),
+];
 
 #[test]
-fn tiles_that_are_cut_off(rt: HostRuntime) -> Result<(), Fail> {
-    let out = film(rt.alloc(), 20, 18, (0, 0, 20, 18), &CUT_OFF)?;
-    assert_eq!(rt; &out[..], &CUT[..]);
-    Ok(())
-}
-
-#[test]
-fn long_runs(rt: HostRuntime) -> Result<(), Fail> {
-    for (count, want) in [
-        (255, &WHITE_255[..]),
-        (256, &WHITE_256[..]),
-        (257, &WHITE_257[..]),
-    ] {
-        let out = film(rt.alloc(), 16, 17, (0, 0, 16, 17), &[Picture::White(count)])?;
-        assert_eq!(rt; &out[..], want, "of {count} pixels");
+fn films(rt: HostRuntime) -> Result<(), Fail> {
+    for (case, (width, height, rect, pictures, want)) in FILMS.iter().enumerate() {
+        assert!(rt; 1 <= *width && *width <= 1024 && 1 <= *height && *height <= 768);
+        let out = film(rt.alloc(), *width, *height, *rect, pictures)?;
+        same(&rt, &case, &out.as_slice(), want);
     }
     Ok(())
 }

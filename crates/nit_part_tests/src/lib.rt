@@ -30,7 +30,11 @@ mod pixel_tests;
 #[cfg(test)]
 mod place_tests;
 #[cfg(test)]
+mod play_tests;
+#[cfg(test)]
 mod queue_tests;
+#[cfg(test)]
+mod same;
 #[cfg(test)]
 mod shade_tests;
 #[cfg(test)]

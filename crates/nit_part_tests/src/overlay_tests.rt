@@ -5,6 +5,7 @@ ghost use Rattle.nit_word.specs.Inks.{IsWord};
 ghost use Rattle.nit_overlay.specs.Look.{IsLook};
 ghost use Rattle.nit_part_tests.specs.Pictured.{IsPlacedAt, labels, two_views};
 
+use crate::same::same;
 use nit_events::Mode;
 use nit_glyph::Label;
 use nit_overlay::{Look, frame_into, overlay_rect};
@@ -131,7 +132,7 @@ fn label_beside_a_view(rt: HostRuntime) -> Result<(), Fail> {
     let place = Some(Point { x: 3, y: 0 });
     let out = picture(rt.alloc(), Mode::Xray, None, 3, place, None)?;
     let want = [GREY, 0x7F, GREY, 0, 0, F, 0, 0, F, F, 0, 0];
-    assert_eq!(rt; line(&out, 1), want.as_slice());
+    same(&rt, &1, &line(&out, 1), &want.as_slice());
     Ok(())
 }
 
@@ -143,7 +144,7 @@ fn no_room_for_a_label(rt: HostRuntime) -> Result<(), Fail> {
     let want = [
         GREY, 0x7F, 0x7F, GREY, dimmed, dimmed, dimmed, dimmed, dimmed, dimmed, dimmed, GREY,
     ];
-    assert_eq!(rt; line(&out, 1), want.as_slice());
+    same(&rt, &1, &line(&out, 1), &want.as_slice());
     Ok(())
 }
 
@@ -153,7 +154,7 @@ fn label_in_kill_mode(rt: HostRuntime) -> Result<(), Fail> {
     let place = Some(Point { x: 3, y: 0 });
     let out = picture(rt.alloc(), Mode::Kill, None, 3, place, None)?;
     let want = [RED, 0x80007F, RED, 0, 0, F, 0, 0, F, F, 0, 0];
-    assert_eq!(rt; line(&out, 1), want.as_slice());
+    same(&rt, &1, &line(&out, 1), &want.as_slice());
     Ok(())
 }
 
@@ -162,7 +163,7 @@ fn label_in_kill_mode(rt: HostRuntime) -> Result<(), Fail> {
 fn focused_session(rt: HostRuntime) -> Result<(), Fail> {
     let out = picture(rt.alloc(), Mode::Xray, Some(0), 4, None, None)?;
     let want = [GREY, 0x7F, 0x7F, GREY, RED, RED, RED, RED, RED, RED, RED, F];
-    assert_eq!(rt; line(&out, 1), want.as_slice());
+    same(&rt, &1, &line(&out, 1), &want.as_slice());
     Ok(())
 }
 
@@ -175,10 +176,10 @@ fn part_of_a_picture(rt: HostRuntime) -> Result<(), Fail> {
         RED, RED, 0x7F, GREY, 0x7F0000, RED, RED, RED, RED, RED, RED, RED,
     ];
     let outside = [RED; 12];
-    assert_eq!(rt; line(&out, 0), outside.as_slice());
-    assert_eq!(rt; line(&out, 1), inside.as_slice());
-    assert_eq!(rt; line(&out, 2), inside.as_slice());
-    assert_eq!(rt; line(&out, 3), outside.as_slice());
+    same(&rt, &0, &line(&out, 0), &outside.as_slice());
+    same(&rt, &1, &line(&out, 1), &inside.as_slice());
+    same(&rt, &2, &line(&out, 2), &inside.as_slice());
+    same(&rt, &3, &line(&out, 3), &outside.as_slice());
     Ok(())
 }
 
@@ -187,10 +188,10 @@ fn part_of_a_picture(rt: HostRuntime) -> Result<(), Fail> {
 fn status_bar(rt: HostRuntime) -> Result<(), Fail> {
     let out = barred(rt.alloc())?;
     let want = [0, F, F, F, 0, F, 0, 0, 0, 0, F, 0];
-    assert_eq!(rt; line(&out, 1), want.as_slice());
-    assert_eq!(rt; line(&out, 6), [0; 12].as_slice());
+    same(&rt, &1, &line(&out, 1), &want.as_slice());
+    same(&rt, &6, &line(&out, 6), &[0; 12].as_slice());
     for y in 7..12 {
-        assert_eq!(rt; line(&out, y), [RED; 12].as_slice());
+        same(&rt, &y, &line(&out, y), &[RED; 12].as_slice());
     }
     Ok(())
 }

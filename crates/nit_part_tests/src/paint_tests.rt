@@ -3,6 +3,7 @@
 ghost use Rattle.std.specs.Prelude.{◌≡◌, ◌≤◌, length};
 ghost use Rattle.nit_rect.specs.Rectangle.{IsPlace};
 
+use crate::same::same;
 use nit_paint::{paint_bare, paint_view};
 use nit_rect::{NoMemory, Rect};
 use nit_stack::{Piece, Stack, ViewRef};
@@ -60,7 +61,7 @@ fn moved_by_one_column(rt: HostRuntime) -> Result<(), Fail> {
         7, 7, 7, 7, 7, 32, 32, 32, 7, 0, 11, 12, 13, 32, 32, 32, 7, 0, 21, 22, 23, 32, 32, 32, 7,
         7, 7, 7, 7, 32, 32, 32,
     ];
-    assert_eq!(rt; raw, want);
+    same(&rt, &"moved by one column", &raw, &want);
     Ok(())
 }
 
@@ -78,7 +79,7 @@ fn moved_to_the_left_and_up(rt: HostRuntime) -> Result<(), Fail> {
         7, 7, 7, 7, 7, 32, 32, 32, 7, 0, 255, 256, 0, 32, 32, 32, 7, 0, 0, 0, 0, 32, 32, 32, 7, 7,
         7, 7, 7, 32, 32, 32,
     ];
-    assert_eq!(rt; raw, want);
+    same(&rt, &"moved to the left and up", &raw, &want);
     Ok(())
 }
 
@@ -95,6 +96,6 @@ fn not_moved(rt: HostRuntime) -> Result<(), Fail> {
         7, 7, 7, 7, 7, 32, 32, 32, 7, 11, 12, 13, 14, 32, 32, 32, 7, 21, 22, 23, 24, 32, 32, 32, 7,
         7, 7, 7, 7, 32, 32, 32,
     ];
-    assert_eq!(rt; raw, want);
+    same(&rt, &"not moved", &raw, &want);
     Ok(())
 }

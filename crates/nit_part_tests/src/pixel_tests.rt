@@ -2,6 +2,7 @@
 ghost use Rattle.std.specs.Prelude.{◌≡◌, ◌<◌};
 ghost use Rattle.nit_pixels.specs.Inks.{IsInked};
 
+use crate::same::same;
 use nit_pixels::{Canvas, Lens, PixelBuffer};
 use nit_word::Glass;
 use std::test::Fail;
@@ -17,12 +18,10 @@ fn both_ends_see_what_was_stored(rt: HostRuntime) -> Result<(), Fail> {
     let mut canvas = buffer.canvas(key);
     let mut lens = canvas.split();
     canvas.store(1, RED);
-    assert_eq!(rt; lens.load(0), 0);
-    assert_eq!(rt; canvas.load(0), 0);
-    assert_eq!(rt; lens.load(1), RED);
-    assert_eq!(rt; canvas.load(1), RED);
+    same(&rt, &0, &(lens.load(0), canvas.load(0)), &(0, 0));
+    same(&rt, &1, &(lens.load(1), canvas.load(1)), &(RED, RED));
     canvas.store(1, 0);
-    assert_eq!(rt; lens.load(1), 0);
+    same(&rt, &1, &lens.load(1), &0);
     Ok(())
 }
 

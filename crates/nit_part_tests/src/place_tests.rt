@@ -1,12 +1,14 @@
 //! Where labels stand.
 
 ghost use Rattle.std.specs.Prelude.{◌≡◌, true, IfOk};
-ghost use Rattle.nit_stack.specs.Stack.{IsBar, IsScreenSize, has_slot};
+ghost use Rattle.nit_stack.specs.Stack.{has_slot};
 
+use crate::same::same;
 use nit_place::place_label;
 use nit_rect::{NoMemory, Point, Rect};
 use nit_stack::{Stack, ViewRef};
 use std::alloc::Global;
+use std::process::Abort;
 use std::test::Fail;
 
 const BACK: ViewRef = ViewRef(0);
@@ -15,195 +17,213 @@ const LEFT: ViewRef = ViewRef(1);
 
 const RIGHT: ViewRef = ViewRef(2);
 
-/// A view without columns and rows.
-const NOTHING: (i32, i32, u32, u32) = (0, 0, 0, 0);
+/// A rectangle: column, row, width and height.
+type Numbers = (i32, i32, u32, u32);
 
-fn rect(numbers: (i32, i32, u32, u32)) -> Result<Rect, &'static str> {
-    let (x, y, w, h) = numbers;
-    Rect::new(x, y, w, h).ok_or("no rectangle")
+/// A view without columns and rows.
+const NOTHING: Numbers = (0, 0, 0, 0);
+
+/// A view, the width and the height of a label, and its place.
+type Row = (ViewRef, (u32, u32), Option<Point>);
+
+/// The width, the height and the bar of a screen, its views, and where labels stand.
+struct Case {
+    size: (u32, u32, u32),
+    back: Numbers,
+    left: Numbers,
+    right: Numbers,
+    rows: &'static [Row],
 }
 
+/// A label stands with its corner there.
+macro_rules! at {
+    ($x:expr, $y:expr) => {
+        Some(Point { x: $x, y: $y })
+    };
+}
+
+const CASES: [Case; 13] = [
+    // The label of nine columns fills the free part of its view exactly.
+    Case {
+        size: (12, 7, 0),
+        back: (0, 0, 12, 7),
+        left: (0, 0, 3, 7),
+        right: NOTHING,
+        rows: &[
+            (BACK, (9, 7), at!(3, 0)),
+            (LEFT, (5, 7), None),
+            (LEFT, (3, 7), at!(0, 0)),
+        ],
+    },
+    Case {
+        size: (12, 7, 0),
+        back: (0, 0, 12, 7),
+        left: (0, 0, 4, 7),
+        right: NOTHING,
+        rows: &[(BACK, (9, 7), None), (LEFT, (5, 7), None)],
+    },
+    // A view that begins left of the screen and above it shows six columns and seven rows of it.
+    Case {
+        size: (12, 7, 0),
+        back: (-5, -3, 11, 20),
+        left: NOTHING,
+        right: NOTHING,
+        rows: &[
+            (BACK, (5, 7), at!(0, 0)),
+            (BACK, (6, 7), at!(0, 0)),
+            (BACK, (7, 7), None),
+            (BACK, (6, 8), None),
+        ],
+    },
+    Case {
+        size: (12, 7, 0),
+        back: (-5, -3, 5, 20),
+        left: NOTHING,
+        right: NOTHING,
+        rows: &[(BACK, (1, 1), None)],
+    },
+    Case {
+        size: (12, 7, 0),
+        back: (8, 0, 20, 7),
+        left: NOTHING,
+        right: NOTHING,
+        rows: &[(BACK, (4, 7), at!(8, 0)), (BACK, (5, 7), None)],
+    },
+    // Below the bar.
+    Case {
+        size: (12, 20, 7),
+        back: (2, 3, 8, 12),
+        left: NOTHING,
+        right: NOTHING,
+        rows: &[
+            (BACK, (5, 7), at!(2, 7)),
+            (BACK, (8, 8), at!(2, 7)),
+            (BACK, (5, 9), None),
+        ],
+    },
+    Case {
+        size: (12, 20, 7),
+        back: (0, 0, 12, 7),
+        left: NOTHING,
+        right: NOTHING,
+        rows: &[(BACK, (1, 1), None)],
+    },
+    Case {
+        size: (12, 20, 7),
+        back: (2, 9, 8, 7),
+        left: NOTHING,
+        right: NOTHING,
+        rows: &[(BACK, (5, 7), at!(2, 9))],
+    },
+    // Two views in front leave the columns 6 to 10.
+    Case {
+        size: (20, 10, 0),
+        back: (0, 0, 20, 10),
+        left: (0, 0, 6, 10),
+        right: (11, 0, 9, 10),
+        rows: &[
+            (BACK, (5, 7), at!(6, 0)),
+            (BACK, (6, 7), None),
+            (RIGHT, (9, 7), at!(11, 0)),
+        ],
+    },
+    // The row above counts before the column further left.
+    Case {
+        size: (20, 10, 0),
+        back: (0, 0, 20, 10),
+        left: (0, 0, 10, 2),
+        right: NOTHING,
+        rows: &[
+            (BACK, (10, 7), at!(10, 0)),
+            (BACK, (11, 7), at!(0, 2)),
+            (BACK, (11, 9), None),
+        ],
+    },
+    Case {
+        size: (20, 10, 0),
+        back: (0, 0, 20, 10),
+        left: (0, 0, 20, 2),
+        right: (0, 2, 15, 2),
+        rows: &[(BACK, (5, 5), at!(15, 2)), (BACK, (6, 5), at!(0, 4))],
+    },
+    // A view in front without columns or rows covers nothing, and neither does a view behind.
+    Case {
+        size: (12, 7, 0),
+        back: (0, 0, 12, 7),
+        left: (3, 2, 0, 5),
+        right: (3, 2, 5, 0),
+        rows: &[
+            (BACK, (9, 7), at!(0, 0)),
+            (LEFT, (1, 1), None),
+            (RIGHT, (1, 1), None),
+        ],
+    },
+    Case {
+        size: (12, 7, 0),
+        back: (0, 0, 12, 7),
+        left: (0, 0, 12, 7),
+        right: (0, 0, 12, 7),
+        rows: &[
+            (RIGHT, (12, 7), at!(0, 0)),
+            (LEFT, (1, 1), None),
+            (BACK, (1, 1), None),
+        ],
+    },
+];
+
 /// A view at the back and two views of another session in front of it.
-fn screen(
-    alloc: Global,
-    width: u32,
-    height: u32,
-    bar: u32,
-    back: Rect,
-    left: Rect,
-    right: Rect,
-) -> Result<Stack, NoMemory>
-    requires screen { IsScreenSize width height }
-    requires bar { IsBar bar height }
+fn screen(rt: &impl Abort, alloc: Global, of: &Case) -> Result<Stack, NoMemory>
     ensures back { IfOk result (λ s. has_slot 0 s.views ≡ true) }
     ensures left { IfOk result (λ s. has_slot 1 s.views ≡ true) }
     ensures right { IfOk result (λ s. has_slot 2 s.views ≡ true) }
 {
+    let (width, height, bar) = of.size;
+    assert!(rt; 1 <= width && width <= 1024 && 1 <= height && height <= 768);
+    assert!(rt; bar == 0 || bar == 7);
+    assert!(rt; bar < height);
     let mut stack = Stack::new(alloc, width, height, 2, 3)?;
     stack.set_bar(bar);
     stack.push_front(BACK, 0, 1);
     stack.push_front(LEFT, 1, 1);
     stack.push_front(RIGHT, 1, 2);
-    stack.place(BACK, back);
-    stack.place(LEFT, left);
-    stack.place(RIGHT, right);
+    stack.place(BACK, rect(rt, of.back));
+    stack.place(LEFT, rect(rt, of.left));
+    stack.place(RIGHT, rect(rt, of.right));
     Ok(stack)
 }
 
-/// The label of nine columns fills the free part of its view exactly.
-#[test]
-fn beside_a_view_in_front(rt: HostRuntime) -> Result<(), Fail> {
-    let back = rect((0, 0, 12, 7))?;
-    let nothing = rect(NOTHING)?;
-    let stack = screen(rt.alloc(), 12, 7, 0, back, rect((0, 0, 3, 7))?, nothing)?;
-    assert_eq!(rt; place_label(&stack, BACK, 9, 7), Some(Point { x: 3, y: 0 }));
-    assert_eq!(rt; place_label(&stack, LEFT, 5, 7), None);
-    assert_eq!(rt; place_label(&stack, LEFT, 3, 7), Some(Point { x: 0, y: 0 }));
-    let stack = screen(rt.alloc(), 12, 7, 0, back, rect((0, 0, 4, 7))?, nothing)?;
-    assert_eq!(rt; place_label(&stack, BACK, 9, 7), None);
-    assert_eq!(rt; place_label(&stack, LEFT, 5, 7), None);
-    Ok(())
+fn rect(rt: &impl Abort, numbers: Numbers) -> Rect {
+    let (x, y, w, h) = numbers;
+    Rect::new(x, y, w, h).expect(rt, "in range")
 }
 
-/// A view that begins left of the screen and above it shows six columns and seven rows of it.
-#[test]
-fn partly_off_the_screen(rt: HostRuntime) -> Result<(), Fail> {
-    let nothing = rect(NOTHING)?;
-    let stack = screen(
-        rt.alloc(),
-        12,
-        7,
-        0,
-        rect((-5, -3, 11, 20))?,
-        nothing,
-        nothing,
-    )?;
-    assert_eq!(rt; place_label(&stack, BACK, 5, 7), Some(Point { x: 0, y: 0 }));
-    assert_eq!(rt; place_label(&stack, BACK, 6, 7), Some(Point { x: 0, y: 0 }));
-    assert_eq!(rt; place_label(&stack, BACK, 7, 7), None);
-    assert_eq!(rt; place_label(&stack, BACK, 6, 8), None);
-    let stack = screen(
-        rt.alloc(),
-        12,
-        7,
-        0,
-        rect((-5, -3, 5, 20))?,
-        nothing,
-        nothing,
-    )?;
-    assert_eq!(rt; place_label(&stack, BACK, 1, 1), None);
-    let stack = screen(rt.alloc(), 12, 7, 0, rect((8, 0, 20, 7))?, nothing, nothing)?;
-    assert_eq!(rt; place_label(&stack, BACK, 4, 7), Some(Point { x: 8, y: 0 }));
-    assert_eq!(rt; place_label(&stack, BACK, 5, 7), None);
-    Ok(())
+/// Where the label of a view stands, which is one of the three.
+fn place(rt: &impl Abort, stack: &Stack, view: ViewRef, size: (u32, u32)) -> Option<Point>
+    requires back { has_slot 0 stack.now.views ≡ true }
+    requires left { has_slot 1 stack.now.views ≡ true }
+    requires right { has_slot 2 stack.now.views ≡ true }
+{
+    let (w, h) = size;
+    assert!(rt; 1 <= w && w <= 133 && 1 <= h && h <= 133);
+    match view {
+        BACK => place_label(stack, BACK, w, h),
+        LEFT => place_label(stack, LEFT, w, h),
+        _ => place_label(stack, RIGHT, w, h),
+    }
 }
 
 #[test]
-fn below_the_bar(rt: HostRuntime) -> Result<(), Fail> {
-    let nothing = rect(NOTHING)?;
-    let stack = screen(
-        rt.alloc(),
-        12,
-        20,
-        7,
-        rect((2, 3, 8, 12))?,
-        nothing,
-        nothing,
-    )?;
-    assert_eq!(rt; place_label(&stack, BACK, 5, 7), Some(Point { x: 2, y: 7 }));
-    assert_eq!(rt; place_label(&stack, BACK, 8, 8), Some(Point { x: 2, y: 7 }));
-    assert_eq!(rt; place_label(&stack, BACK, 5, 9), None);
-    let stack = screen(
-        rt.alloc(),
-        12,
-        20,
-        7,
-        rect((0, 0, 12, 7))?,
-        nothing,
-        nothing,
-    )?;
-    assert_eq!(rt; place_label(&stack, BACK, 1, 1), None);
-    let stack = screen(rt.alloc(), 12, 20, 7, rect((2, 9, 8, 7))?, nothing, nothing)?;
-    assert_eq!(rt; place_label(&stack, BACK, 5, 7), Some(Point { x: 2, y: 9 }));
-    Ok(())
-}
-
-/// Two views in front leave the columns 6 to 10.
-#[test]
-fn between_two_views_in_front(rt: HostRuntime) -> Result<(), Fail> {
-    let back = rect((0, 0, 20, 10))?;
-    let stack = screen(
-        rt.alloc(),
-        20,
-        10,
-        0,
-        back,
-        rect((0, 0, 6, 10))?,
-        rect((11, 0, 9, 10))?,
-    )?;
-    assert_eq!(rt; place_label(&stack, BACK, 5, 7), Some(Point { x: 6, y: 0 }));
-    assert_eq!(rt; place_label(&stack, BACK, 6, 7), None);
-    assert_eq!(rt;
-        place_label(&stack, RIGHT, 9, 7),
-        Some(Point { x: 11, y: 0 })
-    );
-    Ok(())
-}
-
-/// The row above counts before the column further left.
-#[test]
-fn rows_before_columns(rt: HostRuntime) -> Result<(), Fail> {
-    let back = rect((0, 0, 20, 10))?;
-    let nothing = rect(NOTHING)?;
-    let stack = screen(rt.alloc(), 20, 10, 0, back, rect((0, 0, 10, 2))?, nothing)?;
-    assert_eq!(rt;
-        place_label(&stack, BACK, 10, 7),
-        Some(Point { x: 10, y: 0 })
-    );
-    assert_eq!(rt;
-        place_label(&stack, BACK, 11, 7),
-        Some(Point { x: 0, y: 2 })
-    );
-    assert_eq!(rt; place_label(&stack, BACK, 11, 9), None);
-    let stack = screen(
-        rt.alloc(),
-        20,
-        10,
-        0,
-        back,
-        rect((0, 0, 20, 2))?,
-        rect((0, 2, 15, 2))?,
-    )?;
-    assert_eq!(rt;
-        place_label(&stack, BACK, 5, 5),
-        Some(Point { x: 15, y: 2 })
-    );
-    assert_eq!(rt; place_label(&stack, BACK, 6, 5), Some(Point { x: 0, y: 4 }));
-    Ok(())
-}
-
-/// A view in front without columns or rows covers nothing, and neither does a view behind.
-#[test]
-fn nothing_in_the_way(rt: HostRuntime) -> Result<(), Fail> {
-    let back = rect((0, 0, 12, 7))?;
-    let stack = screen(
-        rt.alloc(),
-        12,
-        7,
-        0,
-        back,
-        rect((3, 2, 0, 5))?,
-        rect((3, 2, 5, 0))?,
-    )?;
-    assert_eq!(rt; place_label(&stack, BACK, 9, 7), Some(Point { x: 0, y: 0 }));
-    assert_eq!(rt; place_label(&stack, LEFT, 1, 1), None);
-    assert_eq!(rt; place_label(&stack, RIGHT, 1, 1), None);
-    let stack = screen(rt.alloc(), 12, 7, 0, back, back, back)?;
-    assert_eq!(rt;
-        place_label(&stack, RIGHT, 12, 7),
-        Some(Point { x: 0, y: 0 })
-    );
-    assert_eq!(rt; place_label(&stack, LEFT, 1, 1), None);
-    assert_eq!(rt; place_label(&stack, BACK, 1, 1), None);
+fn places(rt: HostRuntime) -> Result<(), Fail> {
+    for (case, of) in CASES.iter().enumerate() {
+        let stack = screen(&rt, rt.alloc(), of)?;
+        for (view, size, want) in of.rows {
+            same(
+                &rt,
+                &(case, *view, *size),
+                &place(&rt, &stack, *view, *size),
+                want,
+            );
+        }
+    }
     Ok(())
 }

@@ -1,5 +1,6 @@
 //! The events that wait for a session.
 
+use crate::same::same;
 use nit_events::{Event, Queue};
 use std::test::Fail;
 
@@ -10,11 +11,11 @@ fn full_queue(rt: HostRuntime) -> Result<(), Fail> {
     for code in 0..64 {
         assert!(rt; queue.offer(Event::Press(code)), "at {code}");
     }
-    assert_eq!(rt; queue.len(), 64);
+    same(&rt, &"length", &queue.len(), &64);
     assert!(rt; !queue.offer(Event::Press(64)));
     for code in 0..64 {
-        assert_eq!(rt; queue.take(), Some(Event::Press(code)));
+        same(&rt, &code, &queue.take(), &Some(Event::Press(code)));
     }
-    assert_eq!(rt; queue.take(), None);
+    same(&rt, &"empty", &queue.take(), &None);
     Ok(())
 }

@@ -3,6 +3,7 @@
 ghost use Rattle.std.specs.Prelude.{◌≡◌, All, IfOk, length};
 ghost use Rattle.nit_word.specs.Inks.{IsWord};
 
+use crate::same::same;
 use nit_word::{dim, dim_row, tint, tint_row};
 use std::alloc::{AllocError, Global};
 use std::process::Abort;
@@ -33,17 +34,21 @@ fn assert_shaded(rt: &impl Abort, alloc: Global, words: &[u32]) -> Result<(), Al
     let mut tinted = words.to_vec(alloc)?;
     tint_row(&mut tinted);
     for k in 0..words.len() {
-        assert_eq!(rt; dimmed[k], dim(words[k]), "at {k}");
-        assert_eq!(rt; tinted[k], tint(words[k]), "at {k}");
+        same(
+            rt,
+            &k,
+            &(dimmed[k], tinted[k]),
+            &(dim(words[k]), tint(words[k])),
+        );
     }
     Ok(())
 }
 
 #[test]
 fn words_by_hand(rt: HostRuntime) {
-    assert_eq!(rt; dim(0xFF8040), 0x7F4020);
-    assert_eq!(rt; tint(0xFF8040), 0xFF4020);
-    assert_eq!(rt; dim(0), 0);
+    same(&rt, &"dim", &dim(0xFF8040), &0x7F4020);
+    same(&rt, &"tint", &tint(0xFF8040), &0xFF4020);
+    same(&rt, &"black", &dim(0), &0);
 }
 
 #[test]

@@ -7,10 +7,10 @@ ghost use Rattle.std.specs.Prelude.{IfOk};
 ghost use Rattle.nit_capture.specs.Tiles.{IsPictureSize, IsPicture};
 
 use crate::film_tests::{CUT, LEFT, RIGHT};
+use crate::same::same;
 use nit_capture::{Played, Player};
 use nit_rect::NoMemory;
 use std::alloc::Global;
-use std::process::Abort;
 use std::test::Fail;
 
 /// What bytes play to their end.
@@ -213,7 +213,7 @@ const CHANGED_CUT: [Change; 71] = [
 ];
 
 /// A black picture.
-fn black(alloc: Global, w: u32, h: u32) -> Result<Vec<u32>, NoMemory>
+pub fn black(alloc: Global, w: u32, h: u32) -> Result<Vec<u32>, NoMemory>
     requires { IsPictureSize w h }
     ensures { IfOk result (λ v. IsPicture w h v.items) }
 {
@@ -313,75 +313,26 @@ fn wrong_change(
 
 #[test]
 fn fronts(rt: HostRuntime) -> Result<(), Fail> {
-    for (stream, rows) in [
-        (&LEFT[..], &FRONTS_LEFT[..]),
-        (&RIGHT[..], &FRONTS_RIGHT[..]),
-        (&CUT[..], &FRONTS_CUT[..]),
-    ] {
-        let wrong = wrong_front(rt.alloc(), stream, rows)?;
-        assert_eq!(rt; wrong, None);
+    let streams: [(&[u8], &[Front]); 3] = [
+        (&LEFT, &FRONTS_LEFT),
+        (&RIGHT, &FRONTS_RIGHT),
+        (&CUT, &FRONTS_CUT),
+    ];
+    for (case, (stream, rows)) in streams.iter().enumerate() {
+        same(&rt, &case, &wrong_front(rt.alloc(), stream, rows)?, &None);
     }
     Ok(())
 }
 
 #[test]
 fn changes(rt: HostRuntime) -> Result<(), Fail> {
-    for (stream, rows) in [
-        (&LEFT[..], &CHANGED_LEFT[..]),
-        (&RIGHT[..], &CHANGED_RIGHT[..]),
-        (&CUT[..], &CHANGED_CUT[..]),
-    ] {
-        let wrong = wrong_change(rt.alloc(), stream, rows)?;
-        assert_eq!(rt; wrong, None);
+    let streams: [(&[u8], &[Change]); 3] = [
+        (&LEFT, &CHANGED_LEFT),
+        (&RIGHT, &CHANGED_RIGHT),
+        (&CUT, &CHANGED_CUT),
+    ];
+    for (case, (stream, rows)) in streams.iter().enumerate() {
+        same(&rt, &case, &wrong_change(rt.alloc(), stream, rows)?, &None);
     }
-    Ok(())
-}
-
-/// A film of two pictures, each of 4 by 2 equal pixels, plays them and then ends, each time again.
-fn plays_two(rt: &impl Abort, stream: &[u8], first: u32, second: u32) -> Result<(), Fail> {
-    let mut player = Player::new(stream).ok_or("no player")?;
-    assert_eq!(rt; player.size(), (4, 2));
-    let mut frame = [0; 8];
-    assert_eq!(rt; player.next(&mut frame), Played::Frame);
-    assert_eq!(rt; frame, [first; 8]);
-    assert_eq!(rt; player.next(&mut frame), Played::Frame);
-    assert_eq!(rt; frame, [second; 8]);
-    assert_eq!(rt; player.next(&mut frame), Played::End);
-    assert_eq!(rt; player.next(&mut frame), Played::End);
-    assert_eq!(rt; frame, [second; 8]);
-    Ok(())
-}
-
-#[test]
-fn parts_played(rt: HostRuntime) -> Result<(), Fail> {
-    plays_two(&rt, &LEFT, 0xFF, 0xFF0000)?;
-    plays_two(&rt, &RIGHT, 0x20, 0x20)
-}
-
-#[test]
-fn tiles_played(rt: HostRuntime) -> Result<(), Fail> {
-    let mut player = Player::new(&CUT).ok_or("no player")?;
-    assert_eq!(rt; player.size(), (20, 18));
-    let mut frame = black(rt.alloc(), 20, 18)?;
-    assert_eq!(rt; player.next(&mut frame), Played::Frame);
-    assert_eq!(rt; frame[0], 0xFF);
-    assert_eq!(rt; &frame[1..359], &[0; 358][..]);
-    assert_eq!(rt; frame[359], 0x010203);
-    assert_eq!(rt; player.next(&mut frame), Played::Frame);
-    assert_eq!(rt; &frame[..], &[0x112233; 360][..]);
-    assert_eq!(rt; player.next(&mut frame), Played::End);
-    Ok(())
-}
-
-/// Behind a film whose last byte is cut off, no end comes.
-#[test]
-fn last_byte_cut_off(rt: HostRuntime) -> Result<(), Fail> {
-    let mut player = Player::new(&LEFT[..26]).ok_or("no player")?;
-    assert_eq!(rt; player.size(), (4, 2));
-    let mut frame = [0; 8];
-    assert_eq!(rt; player.next(&mut frame), Played::Frame);
-    assert_eq!(rt; player.next(&mut frame), Played::Frame);
-    assert_eq!(rt; player.next(&mut frame), Played::Bad);
-    assert_eq!(rt; player.next(&mut frame), Played::Bad);
     Ok(())
 }

@@ -1,42 +1,73 @@
 //! Titles and labels.
 
+use crate::same::same;
 use nit_glyph::{Label, Title, label_text};
 use std::test::Fail;
 
+/// Texts, and whether they are titles.
+const TITLES: [(&str, bool); 11] = [
+    ("", true),
+    ("log 2", true),
+    ("abcdefghijkl", true),
+    ("0-9._ z", true),
+    (" ", true),
+    ("Log", false),
+    ("abcdefghijklm", false),
+    ("a:b", false),
+    ("a\n", false),
+    ("\u{e9}", false),
+    ("a=b", false),
+];
+
+/// Texts, and whether they are labels.
+const LABELS: [(&str, bool); 9] = [
+    ("a", true),
+    ("terminal", true),
+    ("abcdefghijklmnopqrst", true),
+    ("0-9._z", true),
+    ("", false),
+    ("A", false),
+    ("a b", false),
+    ("a:b", false),
+    ("abcdefghijklmnopqrstu", false),
+];
+
 #[test]
 fn titles(rt: HostRuntime) {
-    for text in ["", "log 2", "abcdefghijkl", "0-9._ z", " "] {
-        assert!(rt; Title::new(text.as_bytes()).is_some(), "at {text:?}");
-    }
-    for text in ["Log", "abcdefghijklm", "a:b", "a\n", "\u{e9}", "a=b"] {
-        assert!(rt; Title::new(text.as_bytes()).is_none(), "at {text:?}");
+    for (text, want) in &TITLES {
+        same(&rt, text, &Title::new(text.as_bytes()).is_some(), want);
     }
 }
 
 #[test]
 fn labels(rt: HostRuntime) {
-    for text in ["a", "terminal", "abcdefghijklmnopqrst", "0-9._z"] {
-        assert!(rt; Label::new(text.as_bytes()).is_some(), "at {text:?}");
-    }
-    for text in ["", "A", "a b", "a:b", "abcdefghijklmnopqrstu"] {
-        assert!(rt; Label::new(text.as_bytes()).is_none(), "at {text:?}");
+    for (text, want) in &LABELS {
+        same(&rt, text, &Label::new(text.as_bytes()).is_some(), want);
     }
 }
 
+/// Labels and titles, and the text of a view that has both.
+const VIEWS: [(&str, &str, &str); 3] = [
+    ("terminal", "tab 1", "terminal:tab 1"),
+    ("b", "", "b"),
+    (
+        "abcdefghijklmnopqrst",
+        "abcdefghijkl",
+        "abcdefghijklmnopqrst:abcdefghijkl",
+    ),
+];
+
 #[test]
 fn texts_of_views(rt: HostRuntime) -> Result<(), Fail> {
-    for (label, title, want) in [
-        ("terminal", "tab 1", "terminal:tab 1"),
-        ("b", "", "b"),
-        (
-            "abcdefghijklmnopqrst",
-            "abcdefghijkl",
-            "abcdefghijklmnopqrst:abcdefghijkl",
-        ),
-    ] {
+    for (label, title, want) in &VIEWS {
         let label = Label::new(label.as_bytes()).ok_or("no label")?;
         let title = Title::new(title.as_bytes()).ok_or("no title")?;
-        assert_eq!(rt; label_text(&label, &title).as_bytes(), want.as_bytes());
+        same(
+            &rt,
+            want,
+            &label_text(&label, &title).as_bytes(),
+            &want.as_bytes(),
+        );
     }
     Ok(())
 }

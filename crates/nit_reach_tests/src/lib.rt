@@ -7,4 +7,10 @@
 #[cfg(test)]
 mod clip_tests;
 #[cfg(test)]
+mod hall_opening;
+#[cfg(test)]
+mod hall_steps;
+#[cfg(test)]
+mod hall_tests;
+#[cfg(test)]
 mod nest_tests;

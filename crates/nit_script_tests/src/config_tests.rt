@@ -1,5 +1,7 @@
 //! Configurations, and why bytes are none.
 
+use crate::same::same;
+use ConfigError::{Kind, Label, Missing, Range, Syntax, TooMany, Twice, Unknown};
 use nit_config::{Config, ConfigError, Member, read_config};
 use std::alloc::{AllocError, Global};
 use std::process::Abort;
@@ -16,131 +18,123 @@ fn changed(alloc: Global, old: &str, new: &str) -> Result<String, Fail> {
     Ok(format!(in alloc; "{before}{new}{after}")?)
 }
 
-fn read_text(alloc: Global, text: &str) -> Result<Config, ConfigError> {
-    read_config(alloc, text.as_bytes())
+/// A client: its label, its script, its layer, and whether a click on it moves the focus.
+type Client = (&'static str, &'static str, u32, bool);
+
+/// What is changed in the configuration to what, its height, whether it has a bar, and its clients.
+type Read = (&'static str, &'static str, u32, bool, [Client; 2]);
+
+const READ: [Read; 5] = [
+    (
+        "",
+        "",
+        4,
+        false,
+        [("a", "a.nit", 0, true), ("b", "b.nit", 0, true)],
+    ),
+    (
+        "label = \"a\"",
+        "label = \"a\"\nlayer = 7\nfocus = \"none\"",
+        4,
+        false,
+        [("a", "a.nit", 7, false), ("b", "b.nit", 0, true)],
+    ),
+    (
+        "label = \"a\"",
+        "label = \"a\"\nlayer = 0\nfocus = \"click\"",
+        4,
+        false,
+        [("a", "a.nit", 0, true), ("b", "b.nit", 0, true)],
+    ),
+    (
+        "height = 4",
+        "height = 8\nbar = true",
+        8,
+        true,
+        [("a", "a.nit", 0, true), ("b", "b.nit", 0, true)],
+    ),
+    (
+        "height = 4",
+        "height = 4\nbar = false",
+        4,
+        false,
+        [("a", "a.nit", 0, true), ("b", "b.nit", 0, true)],
+    ),
+];
+
+fn assert_client(rt: &impl Abort, case: usize, found: Option<&Member>, want: &Client) {
+    let found = found.expect(rt, "the client is there");
+    let (label, script, layer, clicks) = *want;
+    same(rt, &case, &found.label.as_bytes(), &label.as_bytes());
+    same(rt, &case, &found.script.as_str(), &script);
+    let numbers = (found.donation, found.layer, found.clicks);
+    same(rt, &case, &numbers, &(65_536, layer, clicks));
 }
 
-fn assert_member(
-    rt: &impl Abort,
-    member: Option<&Member>,
-    label: &str,
-    script: &str,
-    layer: u32,
-    clicks: bool,
-) {
-    let member = member.expect(rt, "the client is there");
-    assert_eq!(rt; member.label.as_bytes(), label.as_bytes());
-    assert_eq!(rt; member.donation, 65_536);
-    assert_eq!(rt; member.script.as_str(), script);
-    assert_eq!(rt; member.layer, layer);
-    assert_eq!(rt; member.clicks, clicks);
+fn assert_read(rt: &impl Abort, case: usize, found: &Config, want: &Read) {
+    let (_, _, height, bar, clients) = want;
+    let screen = (found.width, found.height, found.bar);
+    same(rt, &case, &screen, &(8, *height, *bar));
+    same(rt, &case, &found.input.as_str(), &"two.in");
+    same(rt, &case, &found.clients.len(), &2);
+    assert_client(rt, case, found.clients.first(), &clients[0]);
+    assert_client(rt, case, found.clients.last(), &clients[1]);
+}
+
+/// The configuration with the first `old` changed to `new`.
+fn read_changed(alloc: Global, old: &str, new: &str) -> Result<Config, Fail> {
+    let text = changed(alloc, old, new)?;
+    Ok(read_config(alloc, text.as_bytes())?)
 }
 
 #[test]
 fn two_clients(rt: HostRuntime) -> Result<(), Fail> {
-    let config = read_text(rt.alloc(), TWO)?;
-    assert_eq!(rt; config.width, 8);
-    assert_eq!(rt; config.height, 4);
-    assert_eq!(rt; config.bar, false);
-    assert_eq!(rt; config.input.as_str(), "two.in");
-    assert_eq!(rt; config.clients.len(), 2);
-    assert_member(&rt, config.clients.first(), "a", "a.nit", 0, true);
-    assert_member(&rt, config.clients.last(), "b", "b.nit", 0, true);
+    for (case, want) in READ.iter().enumerate() {
+        let config = read_changed(rt.alloc(), want.0, want.1)?;
+        assert_read(&rt, case, &config, want);
+    }
     Ok(())
 }
 
-#[test]
-fn optional_keys(rt: HostRuntime) -> Result<(), Fail> {
-    let alloc = rt.alloc();
-    let text = changed(
-        alloc,
-        "label = \"a\"",
-        "label = \"a\"\nlayer = 7\nfocus = \"none\"",
-    )?;
-    let config = read_text(alloc, &text)?;
-    assert_member(&rt, config.clients.first(), "a", "a.nit", 7, false);
-    assert_member(&rt, config.clients.last(), "b", "b.nit", 0, true);
-    let text = changed(
-        alloc,
-        "label = \"a\"",
-        "label = \"a\"\nlayer = 0\nfocus = \"click\"",
-    )?;
-    let config = read_text(alloc, &text)?;
-    assert_member(&rt, config.clients.first(), "a", "a.nit", 0, true);
-    let text = changed(alloc, "height = 4", "height = 8\nbar = true")?;
-    let config = read_text(alloc, &text)?;
-    assert_eq!(rt; config.bar, true);
-    let text = changed(alloc, "height = 4", "height = 4\nbar = false")?;
-    let config = read_text(alloc, &text)?;
-    assert_eq!(rt; config.bar, false);
-    Ok(())
+/// What is changed in the configuration to what, and why it is refused then.
+const REFUSED: [(&str, &str, ConfigError); 24] = [
+    ("[screen]", "[screen", Syntax),
+    ("width = 8", "width = \"8\"", Kind),
+    ("height = 4\n", "", Missing),
+    ("height = 4\n", "height = 4\ndepth = 24\n", Unknown),
+    ("donation = 65536", "donation = 255", Range),
+    ("label = \"a\"", "label = \"A\"", Label),
+    ("label = \"b\"", "label = \"a\"", Twice),
+    ("label = \"a\"", "label = \"a\"\nlayer = 8", Range),
+    ("label = \"a\"", "label = \"a\"\nlayer = -1", Range),
+    ("label = \"a\"", "label = \"a\"\nfocus = \"always\"", Range),
+    ("label = \"a\"", "label = \"a\"\nlayer = \"1\"", Kind),
+    ("label = \"a\"", "label = \"a\"\nfocus = true", Kind),
+    ("height = 4", "height = 7\nbar = true", Range),
+    ("height = 4", "height = 8\nbar = 1", Kind),
+    ("width = 8", "width = 0", Range),
+    ("width = 8", "width = 1025", Range),
+    ("height = 4", "height = 769", Range),
+    ("donation = 65536", "donation = 8388609", Range),
+    ("\"two.in\"", "\"\"", Range),
+    ("\"b.nit\"", "\"\\u00e9\"", Range),
+    ("label = \"b\"", "label = \"\"", Label),
+    // of two that apply, the first by kind and not by place
+    ("height = 4\n\n[input]\nscript", "\n[input]\nscrip", Missing),
+    ("\"a\"\ndonation = 65536", "\"A\"\ndonation = 255", Range),
+    ("[input]\nscript = \"two.in\"", "", Missing),
+];
+
+/// Why a text is refused.
+fn refusal(alloc: Global, text: &str) -> Option<ConfigError> {
+    read_config(alloc, text.as_bytes()).err()
 }
 
 #[test]
 fn refusals(rt: HostRuntime) -> Result<(), Fail> {
-    let rows = [
-        ("[screen]", "[screen", ConfigError::Syntax),
-        ("width = 8", "width = \"8\"", ConfigError::Kind),
-        ("height = 4\n", "", ConfigError::Missing),
-        (
-            "height = 4\n",
-            "height = 4\ndepth = 24\n",
-            ConfigError::Unknown,
-        ),
-        ("donation = 65536", "donation = 255", ConfigError::Range),
-        ("label = \"a\"", "label = \"A\"", ConfigError::Label),
-        ("label = \"b\"", "label = \"a\"", ConfigError::Twice),
-        (
-            "label = \"a\"",
-            "label = \"a\"\nlayer = 8",
-            ConfigError::Range,
-        ),
-        (
-            "label = \"a\"",
-            "label = \"a\"\nlayer = -1",
-            ConfigError::Range,
-        ),
-        (
-            "label = \"a\"",
-            "label = \"a\"\nfocus = \"always\"",
-            ConfigError::Range,
-        ),
-        (
-            "label = \"a\"",
-            "label = \"a\"\nlayer = \"1\"",
-            ConfigError::Kind,
-        ),
-        (
-            "label = \"a\"",
-            "label = \"a\"\nfocus = true",
-            ConfigError::Kind,
-        ),
-        ("height = 4", "height = 7\nbar = true", ConfigError::Range),
-        ("height = 4", "height = 8\nbar = 1", ConfigError::Kind),
-        ("width = 8", "width = 0", ConfigError::Range),
-        ("width = 8", "width = 1025", ConfigError::Range),
-        ("height = 4", "height = 769", ConfigError::Range),
-        ("donation = 65536", "donation = 8388609", ConfigError::Range),
-        ("\"two.in\"", "\"\"", ConfigError::Range),
-        ("\"b.nit\"", "\"\\u00e9\"", ConfigError::Range),
-        ("label = \"b\"", "label = \"\"", ConfigError::Label),
-        // of two that apply, the first by kind and not by place
-        (
-            "height = 4\n\n[input]\nscript",
-            "\n[input]\nscrip",
-            ConfigError::Missing,
-        ),
-        (
-            "\"a\"\ndonation = 65536",
-            "\"A\"\ndonation = 255",
-            ConfigError::Range,
-        ),
-        ("[input]\nscript = \"two.in\"", "", ConfigError::Missing),
-    ];
-    for (old, new, want) in rows {
+    for (old, new, want) in &REFUSED {
         let text = changed(rt.alloc(), old, new)?;
-        let answer = read_text(rt.alloc(), &text);
-        assert_eq!(rt; answer.err(), Some(want), "at {new:?}");
+        same(&rt, new, &refusal(rt.alloc(), &text), &Some(*want));
     }
     Ok(())
 }
@@ -157,35 +151,51 @@ fn crowd(alloc: Global, more: u32) -> Result<String, AllocError> {
     Ok(text)
 }
 
+/// How many clients a text has.
+fn count(alloc: Global, text: &str) -> Result<usize, ConfigError> {
+    match read_config(alloc, text.as_bytes()) {
+        Ok(config) => Ok(config.clients.len()),
+        Err(refusal) => Err(refusal),
+    }
+}
+
+/// How many clients there are more than two, and the answer.
+const CROWDS: [(u32, Result<usize, ConfigError>); 2] = [(14, Ok(16)), (15, Err(TooMany))];
+
 #[test]
 fn number_of_clients(rt: HostRuntime) -> Result<(), Fail> {
-    let alloc = rt.alloc();
-    let most = crowd(alloc, 14)?;
-    let config = read_text(alloc, &most)?;
-    assert_eq!(rt; config.clients.len(), 16);
-    let more = crowd(alloc, 15)?;
-    assert_eq!(rt; read_text(alloc, &more).err(), Some(ConfigError::TooMany));
-    let (none, _) = TWO.split_once("[[client]]").ok_or("not there")?;
-    assert_eq!(rt; read_text(alloc, none).err(), Some(ConfigError::Missing));
-    assert_eq!(rt; read_text(alloc, "").err(), Some(ConfigError::Missing));
+    for (more, want) in &CROWDS {
+        let text = crowd(rt.alloc(), *more)?;
+        same(&rt, more, &count(rt.alloc(), &text), want);
+    }
     Ok(())
 }
 
 #[test]
+fn no_clients(rt: HostRuntime) -> Result<(), Fail> {
+    let (none, _) = TWO.split_once("[[client]]").ok_or("not there")?;
+    same(&rt, &"none", &refusal(rt.alloc(), none), &Some(Missing));
+    same(&rt, &"empty", &refusal(rt.alloc(), ""), &Some(Missing));
+    Ok(())
+}
+
+/// Refusals, and their texts.
+const TEXTS: [(ConfigError, &str); 8] = [
+    (Syntax, "syntax"),
+    (Kind, "kind"),
+    (Missing, "missing"),
+    (Unknown, "unknown"),
+    (TooMany, "too many"),
+    (Range, "range"),
+    (Label, "label"),
+    (Twice, "twice"),
+];
+
+#[test]
 fn texts_of_refusals(rt: HostRuntime) -> Result<(), Fail> {
-    let rows = [
-        (ConfigError::Syntax, "syntax"),
-        (ConfigError::Kind, "kind"),
-        (ConfigError::Missing, "missing"),
-        (ConfigError::Unknown, "unknown"),
-        (ConfigError::TooMany, "too many"),
-        (ConfigError::Range, "range"),
-        (ConfigError::Label, "label"),
-        (ConfigError::Twice, "twice"),
-    ];
-    for (refusal, want) in rows {
+    for (refusal, want) in &TEXTS {
         let text = format!(in rt.alloc(); "{refusal}")?;
-        assert_eq!(rt; text.as_str(), want);
+        same(&rt, refusal, &text.as_str(), want);
     }
     Ok(())
 }

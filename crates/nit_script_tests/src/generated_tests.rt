@@ -3,6 +3,7 @@
 //! What they are was worked out apart from this code, by a few lines that follow the description of
 //! the files.
 
+use crate::same::same;
 use nit_config::{Config, Member, read_config};
 use nit_report::{Files, gen_config, generate};
 use std::process::Abort;
@@ -47,12 +48,11 @@ fn mark(bytes: &[u8]) -> u32 {
 }
 
 fn assert_file(rt: &impl Abort, bytes: &[u8], length: usize, wanted: u32) {
-    assert_eq!(rt; bytes.len(), length);
-    assert_eq!(rt; mark(bytes), wanted);
+    same(rt, &"file", &(bytes.len(), mark(bytes)), &(length, wanted));
 }
 
 fn assert_clients(rt: &impl Abort, files: &Files) {
-    assert_eq!(rt; files.clients.len(), CLIENTS.len());
+    same(rt, &"clients", &files.clients.len(), &CLIENTS.len());
     for (client, (length, wanted)) in CLIENTS.iter().enumerate() {
         let script = files.clients.get(client).expect(rt, "the script is there");
         assert_file(rt, script, *length, *wanted);
@@ -86,19 +86,23 @@ fn run_999999999(rt: HostRuntime) -> Result<(), Fail> {
 }
 
 fn assert_member(rt: &impl Abort, read: &Member, made: &Member) {
-    assert_eq!(rt; read.label.as_bytes(), made.label.as_bytes());
-    assert_eq!(rt; read.donation, made.donation);
-    assert_eq!(rt; read.script.as_str(), made.script.as_str());
-    assert_eq!(rt; read.layer, made.layer);
-    assert_eq!(rt; read.clicks, made.clicks);
+    let name = made.script.as_str();
+    same(rt, &name, &read.label.as_bytes(), &made.label.as_bytes());
+    same(rt, &name, &read.script.as_str(), &name);
+    same(rt, &name, &read.donation, &made.donation);
+    same(
+        rt,
+        &name,
+        &(read.layer, read.clicks),
+        &(made.layer, made.clicks),
+    );
 }
 
 fn assert_same(rt: &impl Abort, read: &Config, made: &Config) {
-    assert_eq!(rt; read.width, made.width);
-    assert_eq!(rt; read.height, made.height);
-    assert_eq!(rt; read.bar, made.bar);
-    assert_eq!(rt; read.input.as_str(), made.input.as_str());
-    assert_eq!(rt; read.clients.len(), made.clients.len());
+    let own = (read.width, read.height, read.bar, read.clients.len());
+    let wanted = (made.width, made.height, made.bar, made.clients.len());
+    same(rt, &"configuration", &own, &wanted);
+    same(rt, &"input", &read.input.as_str(), &made.input.as_str());
     for (client, member) in made.clients.iter().enumerate() {
         let found = read.clients.get(client).expect(rt, "the client is there");
         assert_member(rt, found, member);
@@ -111,8 +115,7 @@ fn configuration(rt: HostRuntime) -> Result<(), Fail> {
     let files = generate(rt.alloc(), 7)?;
     let read = read_config(rt.alloc(), &files.config)?;
     let made = gen_config(rt.alloc())?;
-    assert_eq!(rt; made.clients.len(), 8);
-    assert_eq!(rt; made.width, 320);
+    same(&rt, &"made", &(made.clients.len(), made.width), &(8, 320));
     assert_same(&rt, &read, &made);
     Ok(())
 }

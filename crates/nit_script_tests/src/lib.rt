@@ -20,4 +20,6 @@ mod print_tests;
 #[cfg(test)]
 mod round_tests;
 #[cfg(test)]
+mod same;
+#[cfg(test)]
 mod text_tests;

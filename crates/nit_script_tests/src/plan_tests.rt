@@ -4,6 +4,8 @@ ghost use Rattle.nit_slots.specs.Account.{IsDonation};
 ghost use Rattle.nit_plan.specs.ScriptWords.{words_after, words_left};
 ghost use Rattle.nit_plan.specs.Surface.{IsPaintedTo};
 
+use crate::same::same;
+use Expect::{Nothing, Taken};
 use nit_events::Reply;
 use nit_plan::laws::no_line_done;
 use nit_plan::{Expect, Plan, Step, ink_of, plan_of, stroke};
@@ -16,34 +18,159 @@ use std::process::Abort;
 use std::test::Fail;
 
 /// A step with a buffer of w by h after it.
-fn step(w: u32, h: u32, expect: Expect) -> Step {
-    Step { w, h, expect }
+macro_rules! step {
+    ($w:expr, $h:expr, $expect:expr) => {
+        Step {
+            w: $w,
+            h: $h,
+            expect: $expect,
+        }
+    };
 }
 
-/// The session answers so, and its buffer is then w by h.
-fn reply(w: u32, h: u32, reply: Reply) -> Step {
-    step(w, h, Expect::Reply(reply))
+const DONE: Expect = Expect::Reply(Reply::Done);
+
+const FIRST_VIEW: Expect = Expect::Reply(Reply::Handle(1));
+
+const SECOND_VIEW: Expect = Expect::Reply(Reply::Handle(2));
+
+const CLOSED: Expect = Expect::Reply(Reply::Closed);
+
+/// A script, its donation, its steps, and the words that it may draw.
+type PlanCase = (&'static str, u32, &'static [Step], &'static [u32]);
+
+const PLANS: [PlanCase; 4] = [
+    // A painter.
+    (
+        "buffer 4 2\nfill 0 0 4 2 FF0000\nview\nplace 1 0 0 4 2\nphase\nphase\nphase\n",
+        65536,
+        &[
+            step!(4, 2, DONE),
+            step!(4, 2, Nothing),
+            step!(4, 2, FIRST_VIEW),
+            step!(4, 2, DONE),
+            step!(4, 2, Nothing),
+            step!(4, 2, Nothing),
+            step!(4, 2, Nothing),
+        ],
+        &[0xFF0000],
+    ),
+    // A session that the user kills.
+    (
+        "buffer 4 4\nfill 0 0 4 4 FF0000\nview\nplace 1 0 0 4 4\nphase\nphase\ntake\nview\nclose\n",
+        65536,
+        &[
+            step!(4, 4, DONE),
+            step!(4, 4, Nothing),
+            step!(4, 4, FIRST_VIEW),
+            step!(4, 4, DONE),
+            step!(4, 4, Nothing),
+            step!(4, 4, Nothing),
+            step!(4, 4, Taken),
+            step!(4, 4, SECOND_VIEW),
+            step!(0, 0, DONE),
+        ],
+        &[0xFF0000],
+    ),
+    // A take behind a close.
+    (
+        "take\nbuffer 2 1\ncheck 0 0 2 1 000001 000002\nclose\ntake\nview\n",
+        512,
+        &[
+            step!(0, 0, Taken),
+            step!(2, 1, DONE),
+            step!(2, 1, Nothing),
+            step!(0, 0, DONE),
+            step!(0, 0, CLOSED),
+            step!(0, 0, CLOSED),
+        ],
+        &[1, 2],
+    ),
+    // Refusals of a small donation.
+    (
+        "buffer 4 4\nview\nbuffer 8 8\nupgrade 513\nupgrade 512\nbuffer 8 8\n\
+         destroy 1\nview\nfront 1\n",
+        512,
+        &[
+            step!(4, 4, DONE),
+            step!(4, 4, FIRST_VIEW),
+            step!(
+                4,
+                4,
+                Expect::Reply(Reply::OutOfQuota {
+                    need: 512,
+                    left: 256
+                })
+            ),
+            step!(
+                4,
+                4,
+                Expect::Reply(Reply::NoReserve {
+                    need: 513,
+                    left: 512
+                })
+            ),
+            step!(4, 4, DONE),
+            step!(8, 8, DONE),
+            step!(8, 8, DONE),
+            step!(8, 8, SECOND_VIEW),
+            step!(8, 8, Expect::Reply(Reply::NoSuchView(1))),
+        ],
+        &[],
+    ),
+];
+
+#[test]
+fn plans(rt: HostRuntime) -> Result<(), Fail> {
+    for case in &PLANS {
+        assert_plan(&rt, rt.alloc(), case)?;
+    }
+    Ok(())
 }
 
-fn nothing(w: u32, h: u32) -> Step {
-    step(w, h, Expect::Nothing)
+/// A script, its donation, the most words that it may have, and the first of those that it leaves.
+type WordsCase = (&'static str, u32, usize, &'static [u32]);
+
+const WORDS: [WordsCase; 3] = [
+    // The red rectangle.
+    (
+        "buffer 4 2\nfill 0 0 4 2 FF0000\nview\nplace 1 1 1 4 2\n",
+        65536,
+        16384,
+        &[0xFF0000; 8],
+    ),
+    // An accepted buffer clears its own words alone.
+    (
+        "buffer 2 2\nfill 0 0 2 2 000007\nbuffer 3 1\nfill 1 0 1 1 000009\n",
+        512,
+        128,
+        &[0, 9, 0, 7],
+    ),
+    // A refused one clears nothing, and a stroke after the close has no place.
+    (
+        "buffer 2 2\nfill 0 0 2 2 000007\nbuffer 9 9\nclose\nfill 0 0 2 2 000009\n",
+        512,
+        128,
+        &[7, 7, 7, 7],
+    ),
+];
+
+#[test]
+fn words(rt: HostRuntime) -> Result<(), Fail> {
+    for case in &WORDS {
+        assert_words(&rt, rt.alloc(), case)?;
+    }
+    Ok(())
 }
 
 /// The plan of the text has these steps and this ink.
-fn assert_plan(
-    rt: &impl Abort,
-    alloc: Global,
-    text: &str,
-    donation: u32,
-    steps: &[Step],
-    ink: &[u32],
-) -> Result<(), Fail>
-    requires { IsDonation donation }
-{
+fn assert_plan(rt: &impl Abort, alloc: Global, case: &PlanCase) -> Result<(), Fail> {
+    let (text, donation, steps, ink) = *case;
+    assert!(rt; 256 <= donation && donation <= 8_388_608);
     let client = parse_client(alloc, text.as_bytes()).map_err(|_| "no script")?;
     let plan = plan_of(alloc, &client, donation)?;
-    assert_eq!(rt; plan.steps(), steps);
-    assert_eq!(rt; plan.ink(), ink);
+    same(rt, &text, &plan.steps(), &steps);
+    same(rt, &text, &plan.ink(), &ink);
     Ok(())
 }
 
@@ -71,144 +198,24 @@ fn do_lines(glass: &mut Inked, client: &Client, plan: &Plan, donation: u32)
     }
 }
 
-/// The lines of the text leave these words first, and all others 0.
-fn assert_words(
-    rt: &impl Abort,
-    alloc: Global,
-    text: &str,
-    donation: u32,
-    count: usize,
-    first: &[u32],
-) -> Result<(), Fail>
+/// What the lines of a text leave.
+fn glass_of(alloc: Global, text: &str, donation: u32) -> Result<Inked, Fail>
     requires { IsDonation donation }
 {
     let client = parse_client(alloc, text.as_bytes()).map_err(|_| "no script")?;
-    let glass = strokes(alloc, &client, donation)?;
+    Ok(strokes(alloc, &client, donation)?)
+}
+
+/// The lines of the text leave these words first, and all others 0.
+fn assert_words(rt: &impl Abort, alloc: Global, case: &WordsCase) -> Result<(), Fail> {
+    let (text, donation, count, first) = *case;
+    assert!(rt; 256 <= donation && donation <= 8_388_608);
+    let glass = glass_of(alloc, text, donation)?;
     let words = glass.words();
     assert!(rt; words.len() <= count);
     assert!(rt; first.len() <= words.len());
-    assert_eq!(rt; words[..first.len()], *first);
-    assert!(rt; words[first.len()..].iter().all(|word| *word == 0));
+    let (begin, rest) = words.split_at(first.len());
+    same(rt, &text, &begin, &first);
+    assert!(rt; rest.iter().all(|word| *word == 0), "in case {text:?}");
     Ok(())
-}
-
-#[test]
-fn a_painter(rt: HostRuntime) -> Result<(), Fail> {
-    assert_plan(
-        &rt,
-        rt.alloc(),
-        "buffer 4 2\nfill 0 0 4 2 FF0000\nview\nplace 1 0 0 4 2\nphase\nphase\nphase\n",
-        65536,
-        &[
-            reply(4, 2, Reply::Done),
-            nothing(4, 2),
-            reply(4, 2, Reply::Handle(1)),
-            reply(4, 2, Reply::Done),
-            nothing(4, 2),
-            nothing(4, 2),
-            nothing(4, 2),
-        ],
-        &[0xFF0000],
-    )
-}
-
-#[test]
-fn a_session_that_the_user_kills(rt: HostRuntime) -> Result<(), Fail> {
-    assert_plan(
-        &rt,
-        rt.alloc(),
-        "buffer 4 4\nfill 0 0 4 4 FF0000\nview\nplace 1 0 0 4 4\nphase\nphase\ntake\nview\nclose\n",
-        65536,
-        &[
-            reply(4, 4, Reply::Done),
-            nothing(4, 4),
-            reply(4, 4, Reply::Handle(1)),
-            reply(4, 4, Reply::Done),
-            nothing(4, 4),
-            nothing(4, 4),
-            step(4, 4, Expect::Taken),
-            reply(4, 4, Reply::Handle(2)),
-            reply(0, 0, Reply::Done),
-        ],
-        &[0xFF0000],
-    )
-}
-
-#[test]
-fn a_take_behind_a_close(rt: HostRuntime) -> Result<(), Fail> {
-    assert_plan(
-        &rt,
-        rt.alloc(),
-        "take\nbuffer 2 1\ncheck 0 0 2 1 000001 000002\nclose\ntake\nview\n",
-        512,
-        &[
-            step(0, 0, Expect::Taken),
-            reply(2, 1, Reply::Done),
-            nothing(2, 1),
-            reply(0, 0, Reply::Done),
-            reply(0, 0, Reply::Closed),
-            reply(0, 0, Reply::Closed),
-        ],
-        &[1, 2],
-    )
-}
-
-#[test]
-fn refusals_of_a_small_donation(rt: HostRuntime) -> Result<(), Fail> {
-    assert_plan(
-        &rt,
-        rt.alloc(),
-        "buffer 4 4\nview\nbuffer 8 8\nupgrade 513\nupgrade 512\nbuffer 8 8\n\
-         destroy 1\nview\nfront 1\n",
-        512,
-        &[
-            reply(4, 4, Reply::Done),
-            reply(4, 4, Reply::Handle(1)),
-            reply(
-                4,
-                4,
-                Reply::OutOfQuota {
-                    need: 512,
-                    left: 256,
-                },
-            ),
-            reply(
-                4,
-                4,
-                Reply::NoReserve {
-                    need: 513,
-                    left: 512,
-                },
-            ),
-            reply(4, 4, Reply::Done),
-            reply(8, 8, Reply::Done),
-            reply(8, 8, Reply::Done),
-            reply(8, 8, Reply::Handle(2)),
-            reply(8, 8, Reply::NoSuchView(1)),
-        ],
-        &[],
-    )
-}
-
-#[test]
-fn words_of_the_red_rectangle(rt: HostRuntime) -> Result<(), Fail> {
-    assert_words(
-        &rt,
-        rt.alloc(),
-        "buffer 4 2\nfill 0 0 4 2 FF0000\nview\nplace 1 1 1 4 2\n",
-        65536,
-        16384,
-        &[0xFF0000; 8],
-    )
-}
-
-#[test]
-fn words_behind_a_second_buffer(rt: HostRuntime) -> Result<(), Fail> {
-    let alloc = rt.alloc();
-    // An accepted buffer clears its own words alone.
-    let smaller = "buffer 2 2\nfill 0 0 2 2 000007\nbuffer 3 1\nfill 1 0 1 1 000009\n";
-    assert_words(&rt, alloc, smaller, 512, 128, &[0, 9, 0, 7])?;
-    // A refused one clears nothing, and a stroke after the close has no place.
-    let refused = "buffer 2 2\nfill 0 0 2 2 000007\nbuffer 9 9\nclose\nfill 0 0 2 2 000009\n";
-    assert_words(&rt, alloc, refused, 512, 128, &[7, 7, 7, 7])
 }

@@ -190,8 +190,8 @@ pub fn assert_shown(
 }
 
 /// A picture of this width and height, as `8 4`: R is red, G is green, B is blue, K is black, W is
-/// white, M is the grey of an outline, r and b are red and blue of half the light, and all else is
-/// bare.
+/// white, M is the grey of an outline, r, b and n are red, blue and the bare screen of half the
+/// light, and all else is bare.
 pub fn picture(alloc: Global, size: &str, rows: &[&str]) -> Result<Vec<u8>, AllocError> {
     let mut bytes = format!(in alloc; "P6\n{size}\n255\n")?.into_bytes();
     for row in rows {
@@ -212,6 +212,7 @@ fn colour(pixel: u8) -> [u8; 3] {
         b'M' => [0x80, 0x80, 0x80],
         b'r' => [0x7F, 0x00, 0x00],
         b'b' => [0x00, 0x00, 0x7F],
+        b'n' => [0x00, 0x00, 0x10],
         _ => [0x00, 0x00, 0x20],
     }
 }

@@ -14,6 +14,8 @@ mod bench;
 #[cfg(test)]
 mod capture_tests;
 #[cfg(test)]
+mod clip_tests;
+#[cfg(test)]
 mod desk_tests;
 #[cfg(test)]
 mod entries;
@@ -27,6 +29,8 @@ mod input_tests;
 mod layer_tests;
 #[cfg(test)]
 mod mode_tests;
+#[cfg(test)]
+mod nested_tests;
 #[cfg(test)]
 mod refused_tests;
 #[cfg(test)]

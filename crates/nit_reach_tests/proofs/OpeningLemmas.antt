@@ -1,0 +1,69 @@
+-- What a room is opened with, client by client.
+use Rattle.std.proofs.Common.{◌≡◌, ◌∙◌, ℕ, zero, suc, ◌<◌, List, [], ◌∷◌, ◌++◌, length, get_or, Some, refl, sym, ap, subst, arith}
+use Rattle.std.specs.Prelude.{All, slice_get, slice_index_or}
+use Rattle.std.proofs.lemmas.List.{get_or_default}
+use Rattle.std.proofs.lemmas.Option.{slice_get-get_or}
+use Rattle.nit_script.specs.declared.line.Line.{Line}
+use Rattle.nit_script.specs.declared.line.InputLine.{InputLine}
+use Rattle.nit_config.specs.declared.config.Member.{Member}
+use Rattle.nit_config.specs.Configuration.{Configuration, member}
+use Rattle.nit_journal.specs.Replay.{IsOpen}
+use Rattle.nit_plan.specs.Plan.{PlanModel}
+use Rattle.nit_pixels.specs.End.{End}
+use Rattle.nit_clip.specs.declared.line.ClipLine.{ClipLine}
+use Rattle.nit_hall.specs.OpeningParts.{OpeningParts}
+use Rattle.nit_hall.specs.Pass.{PassModel, UserPassModel, Belongs, UserBelongs}
+use Rattle.nit_hall.specs.ClipPass.{ClipPassModel, ClipBelongs}
+use Rattle.nit_hall.specs.Opening.{IsOpening, first_pass, first_user}
+use Rattle.nit_hall.specs.ClipOpening.{AreFirstClipPasses, with_clip_scripts}
+use Rattle.nit_hall.specs.Room.{RoomModel}
+use Rattle.nit_reach_tests.specs.HallOpening.{IsReady}
+
+-- ---- one by one
+
+-- the client in a list of a configuration's clients
+pub at_member : (config : Configuration) (clients : List Member) (k : ℕ) (other : Member) → clients ≡ config.clients → k < length config.clients → get_or clients k other ≡ member config k
+at_member config clients k other are inside = ap (λ (ms : List Member). get_or ms k other) are ∙ get_or_default config.clients k other _ inside
+
+-- what holds of all elements by their numbers, and of one more
+all_push : {X : Type 0} (P : ℕ → X → Type 0) (xs : List X) (x : X) → ((k : ℕ) (y : X) → slice_get xs k ≡ Some y → P k y) → P (length xs) x → (k : ℕ) (y : X) → slice_get (xs ++ x ∷ []) k ≡ Some y → P k y
+all_push P [] x all here zero y at = let same : x ≡ y = cc in subst (P 0) same here
+all_push P [] x all here (suc k) y at = absurd cc
+all_push P (z ∷ xs) x all here zero y at = all zero y at
+all_push P (z ∷ xs) x all here (suc k) y at = all_push (λ n. P (suc n)) xs x (λ n w e. all (suc n) w e) here k y at
+
+-- and so where the longer list has a name
+pub one_more : {X : Type 0} (P : ℕ → X → Type 0) (xs : List X) (x : X) (k : ℕ) (more : List X) → length xs ≡ k → more ≡ xs ++ x ∷ [] → ((n : ℕ) (y : X) → slice_get xs n ≡ Some y → P n y) → P k x
+    → (n : ℕ) (y : X) → slice_get more n ≡ Some y → P n y
+one_more {X = X} P xs x k more counted are all here = subst (λ (ys : List X). (n : ℕ) (y : X) → slice_get ys n ≡ Some y → P n y) (sym are) (all_push P xs x all (subst (λ (n : ℕ). P n x) (sym counted) here))
+
+-- ---- the beginning
+
+-- a room that got clip scripts, and its passes, before the first line
+pub is_ready : (config : Configuration) (scripts : List (List Line)) (plans : List PlanModel) (input : List InputLine) (canvases : List End) (clips : List (List ClipLine)) (r₀ r : RoomModel) (ps₀ ps : List PassModel) (u₀ u : UserPassModel) (qs : List ClipPassModel)
+    → length plans ≡ length scripts → IsOpening config scripts plans input canvases r₀ ps₀ u₀ → r ≡ with_clip_scripts r₀ clips → ps ≡ ps₀ → u ≡ u₀ → length clips ≡ length scripts → AreFirstClipPasses r.parts qs → IsReady r.parts r ps u qs
+is_ready config scripts plans input canvases clips r₀ r ps₀ ps u₀ u qs plans_each o er ep eu clips_each first =
+    let parts : OpeningParts = record { name = r₀.parts.name; config = config; scripts = scripts; plans = plans; input = input; clips = clips } in
+    let are : r.parts ≡ parts = ap (λ (x : RoomModel). x.parts) er ∙ ap (λ (x : OpeningParts). record x { clips = clips }) o.room.parts_are in
+    record {
+      parts_are = refl;
+      open_now = subst (λ (x : RoomModel). IsOpen x.scene.entries) (sym er) (subst IsOpen (sym o.room.entries) tt);
+      belong = λ k d inside.
+          let here = o.passes k (slice_index_or ps k d) (ap (λ (xs : List PassModel). slice_get xs k) (sym ep) ∙ slice_get-get_or ps k d inside) in
+          let each = o.each in
+          let long = ap (λ (xs : List PassModel). length xs) ep in
+          subst (λ (q : OpeningParts). Belongs q (slice_index_or ps k d)) (sym are)
+          (subst (λ (p : PassModel). Belongs parts p) (sym (here.2 ∙ ap (λ (q : OpeningParts). first_pass q k here.0) o.room.parts_are))
+          (record {
+            name = refl;
+            script = slice_get-get_or scripts k [] (omega (arith, inside, each, long));
+            plan = slice_get-get_or plans k (record { steps = []; ink = [] }) (omega (arith, inside, each, long, plans_each));
+            donation = refl;
+          }));
+      user_belongs = subst (λ (q : OpeningParts). UserBelongs q u) (sym are) (subst (λ (v : UserPassModel). UserBelongs parts v) (sym (eu ∙ o.user ∙ ap first_user o.room.parts_are)) (record { number = refl; name = refl; input = refl }));
+      clips_belong = λ k d inside.
+          let here = first.first k (slice_index_or qs k d) (slice_get-get_or qs k d inside) in
+          let each = first.each in
+          subst (λ (q : ClipPassModel). ClipBelongs r.parts q) (sym here) (record { name = refl; script = slice_get-get_or r.parts.clips k [] (omega (arith, inside, each)); number = refl });
+      each = let a = first.each in let b = ap (λ (q : OpeningParts). length q.clips) are in let d = o.each in let e = ap (λ (xs : List PassModel). length xs) ep in omega (arith, a, b, d, e, clips_each);
+    }
