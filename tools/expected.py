@@ -5,7 +5,7 @@ import tomllib
 
 import model
 
-USAGE = "usage: nitpicker still W H SCRIPT, turns CONFIG, run CONFIG, gen N, audit CONFIG JOURNAL or capture CONFIG X Y W H"
+USAGE = "usage: nitpicker still W H SCRIPT, turns CONFIG, run CONFIG, gen N, audit CONFIG JOURNAL, clip CONFIG, capture CONFIG X Y W H or nested OUTER INNER"
 
 
 class Setup:

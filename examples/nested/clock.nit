@@ -1,0 +1,13 @@
+buffer 48 48
+fill 0 0 48 48 203040
+fill 4 4 40 40 E8E8E0
+fill 22 8 4 4 203040
+fill 22 36 4 4 203040
+fill 8 22 4 4 203040
+fill 36 22 4 4 203040
+fill 23 14 2 11 C02020
+fill 23 23 10 2 203040
+view
+place 1 184 92 48 48
+phase
+phase

@@ -1,0 +1,14 @@
+buffer 84 64
+fill 0 0 84 64 FFF8E0
+fill 0 0 84 12 207040
+fill 4 3 60 6 FFFFFF
+fill 6 18 30 40 80B0D0
+fill 6 44 30 14 60A050
+fill 42 18 36 4 806020
+fill 42 26 36 3 B0A080
+fill 42 32 28 3 B0A080
+fill 42 38 34 3 B0A080
+check 42 46 36 12 D0C090 FFF8E0
+view
+place 1 66 28 84 64
+phase
