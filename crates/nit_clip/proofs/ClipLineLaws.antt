@@ -1,6 +1,6 @@
--- Lines of a clip script are read exactly, and only one answer fits the bytes.
-use Rattle.nit_clip.proofs.Basics.{Bad, ClipCall, ClipError, ClipLine, FitsClipCall, FitsClipLine, IfOk, IsClipScriptAnswer, IsFirstBadClip, IsKind, IsReader, IsTooLongClip, NoMemory, ReadsClip, Takes, TooLong, UnlessMemory, anything, at_made, bad_and_long, clip_call_spelling, clip_line_spelling, codes, ended_again, ended_takes, first_takes, kind, made_takes, nothing, read_and_bad, read_and_long, same_bad, same_read, stops_text, text_fields}
-use Rattle.std.proofs.Common.{Err, List, Ok, Result, Some, ap, length, refl, subst, ℕ, ◌++◌, ◌∷◌, ◌≡◌, ◌≤◌}
+-- Lines of a clip script are read exactly.
+use Rattle.nit_clip.proofs.Basics.{ClipCall, ClipLine, FitsClipCall, FitsClipLine, HasOneReading, IsKind, IsReader, Takes, anything, at_made, clip_call_spelling, clip_line_spelling, codes, ended_again, ended_takes, first_takes, kind, made_takes, nothing, one_reading, stops_text, text_fields}
+use Rattle.std.proofs.Common.{List, Some, refl, ℕ, ◌++◌, ◌∷◌, ◌≡◌}
 use Rattle.nit_clip.specs.ClipReaders.{clip_call_at, clip_front_at, clip_line_at, clip_phase_at, copy_at, paste_at}
 use Rattle.nit_clip.specs.declared.call.ClipCall.TheVariants as call
 use Rattle.nit_clip.specs.declared.line.ClipLine.TheVariants as line
@@ -44,30 +44,6 @@ clip_reader = record {
   again = λ l rest fits. ended_again clip_front_at clip_line_spelling l rest (front_again l rest fits);
 }
 
--- ---- what an answer says
-
-pub read_is : (bytes : List ℕ) (r : Result (List ClipLine) ClipError) → IsClipScriptAnswer bytes r → IfOk r (λ c. ReadsClip bytes c × (length c ≤ 65536))
-read_is bytes (Ok c) a = a
-read_is bytes (Err e) a = tt
-
-pub is_read : (bytes : List ℕ) (r : Result (List ClipLine) ClipError) (lines : List ClipLine) → IsClipScriptAnswer bytes r → ReadsClip bytes lines → length lines ≤ 65536 → UnlessMemory r (r ≡ Ok lines)
-is_read bytes (Ok c) lines a h few = ap (λ (x : List ClipLine). Ok x) (same_read clip_reader bytes c lines a.0 h)
-is_read bytes (Err (Bad n)) lines a h few = absurd (read_and_bad clip_reader bytes lines n h a)
-is_read bytes (Err TooLong) lines a h few = absurd (read_and_long clip_reader bytes lines h few a)
-is_read bytes (Err NoMemory) lines a h few = tt
-
-pub is_bad : (bytes : List ℕ) (r : Result (List ClipLine) ClipError) (number : ℕ) → IsClipScriptAnswer bytes r → IsFirstBadClip bytes number → UnlessMemory r (r ≡ Err (Bad number))
-is_bad bytes (Ok c) number a h = absurd (read_and_bad clip_reader bytes c number a.0 h)
-is_bad bytes (Err (Bad n)) number a h = ap (λ (k : ℕ). Err (Bad k)) (same_bad clip_reader bytes n number a h)
-is_bad bytes (Err TooLong) number a h = absurd (bad_and_long clip_reader bytes number h a)
-is_bad bytes (Err NoMemory) number a h = tt
-
-pub is_long : (bytes : List ℕ) (r : Result (List ClipLine) ClipError) → IsClipScriptAnswer bytes r → IsTooLongClip bytes → UnlessMemory r (r ≡ Err TooLong)
-is_long bytes (Ok c) a h = absurd (read_and_long clip_reader bytes c a.0 a.1 h)
-is_long bytes (Err (Bad n)) a h = absurd (bad_and_long clip_reader bytes n a h)
-is_long bytes (Err TooLong) a h = refl
-is_long bytes (Err NoMemory) a h = tt
-
--- the answer, where it is known
-pub answer_at : (bytes : List ℕ) (r s : Result (List ClipLine) ClipError) → IsClipScriptAnswer bytes r → r ≡ s → IsClipScriptAnswer bytes s
-answer_at bytes r s a e = subst (λ (x : Result (List ClipLine) ClipError). IsClipScriptAnswer bytes x) e a
+-- bytes begin with one line of a clip script at most
+pub clip_reading : HasOneReading FitsClipLine clip_line_spelling
+clip_reading = one_reading clip_reader

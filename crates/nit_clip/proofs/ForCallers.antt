@@ -1,2 +1,2 @@
--- What other crates cite of clip scripts: that their reader undoes the spelling of lines.
-pub use Rattle.nit_clip.proofs.ClipLineLaws.{clip_reader}
+-- What other crates cite of clip scripts: that bytes begin with one of their lines at most.
+pub use Rattle.nit_clip.proofs.ClipLineLaws.{clip_reading}

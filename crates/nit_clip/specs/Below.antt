@@ -6,7 +6,8 @@ pub use Rattle.nit_journal.specs.Replay.{IsOpen, replay}
 pub use Rattle.nit_journal.specs.WholeJournals.{UserAction, calls_of, done, left, next_phase, phases_along, to_do}
 pub use Rattle.nit_rect.specs.Options.{Gives}
 pub use Rattle.nit_script.specs.FieldReaders.{at_ended, at_kind, at_made, first_of, nothing_at, text_field}
-pub use Rattle.nit_script.specs.Grammar.{IsFirstBad, IsTooLong, Reads, most_lines, spelled}
+pub use Rattle.nit_script.specs.Grammar.{HasOneReading, IsFirstBad, IsTooLong, Reads, UnlessMemory, most_lines, spelled}
+pub use Rattle.nit_script.specs.Phases.{phases_by}
 pub use Rattle.nit_script.specs.Spelling.{FitsText, nat, text}
 pub use Rattle.std.specs.List.{AllByRecursion, flat_map, slice_get}
-pub use Rattle.std.specs.Prelude.{IfOk, List, Option, codes, count_by, ℕ}
+pub use Rattle.std.specs.Prelude.{Bool, List, Option, codes, count_by, false, true, ℕ}

@@ -1,8 +1,5 @@
 -- Clip scripts and their texts.
-use Rattle.std.specs.Prelude.{◌≤◌, ℕ, ◌+◌, Bool, true, false, List, length, count_by, Result, Ok, Err}
-use Rattle.nit_clip.specs.Below.{IsFirstBad, IsTooLong, Reads, most_lines}
-use Rattle.nit_clip.specs.declared.error.ClipError.{ClipError}
-use Rattle.nit_clip.specs.declared.error.ClipError.TheVariants.{Bad, TooLong, NoMemory}
+use Rattle.nit_clip.specs.Below.{Bool, IsFirstBad, IsTooLong, List, Reads, false, phases_by, true, ℕ}
 use Rattle.nit_clip.specs.declared.line.ClipLine.{ClipLine}
 use Rattle.nit_clip.specs.declared.line.ClipLine.TheVariants as line
 use Rattle.nit_clip.specs.ClipSpelling.{FitsClipLine, clip_line_spelling}
@@ -24,20 +21,6 @@ abbrev pub is_clip_phase : ClipLine → Bool
 is_clip_phase line.Phase = true
 is_clip_phase (line.Call c) = false
 
--- the number of lines that end a phase, and one
+-- how many phases a clip script has
 abbrev pub clip_phases : List ClipLine → ℕ
-clip_phases lines = count_by is_clip_phase lines + 1
-
--- The fact holds, or memory ran out.
-abbrev pub UnlessMemory : {A : Type 0} → Result A ClipError → Type 0 → Type 0
-UnlessMemory (Ok c) P = P
-UnlessMemory (Err (Bad line)) P = P
-UnlessMemory (Err TooLong) P = P
-UnlessMemory (Err NoMemory) P = Unit {0}
-
--- What reading bytes as a clip script may answer.
-abbrev pub IsClipScriptAnswer : List ℕ → Result (List ClipLine) ClipError → Type 0
-IsClipScriptAnswer bytes (Ok lines) = ReadsClip bytes lines × (length lines ≤ most_lines)
-IsClipScriptAnswer bytes (Err (Bad line)) = IsFirstBadClip bytes line
-IsClipScriptAnswer bytes (Err TooLong) = IsTooLongClip bytes
-IsClipScriptAnswer bytes (Err NoMemory) = Unit {0}
+clip_phases = phases_by is_clip_phase

@@ -1,7 +1,7 @@
 -- The words that clauses use: those that come from outside, and those of this crate.
-pub use Rattle.nit_clip.specs.Below.{AllByRecursion, Call, Configuration, Entry, Gives, IfOk, IsOpen, UserAction, at_made, calls_of, codes, count_by, done, left, most_lines, nat, next_phase, phases_along, replay, slice_get, text, to_do}
+pub use Rattle.nit_clip.specs.Below.{AllByRecursion, Call, Configuration, Entry, Gives, HasOneReading, IsOpen, UnlessMemory, UserAction, at_made, calls_of, codes, count_by, done, left, most_lines, nat, next_phase, phases_along, replay, slice_get, text, to_do}
 pub use Rattle.nit_clip.specs.Clip.{ClipModel, IsClip, most_clips}
-pub use Rattle.nit_clip.specs.ClipGrammar.{IsClipScriptAnswer, IsFirstBadClip, IsTooLongClip, ReadsClip, UnlessMemory, clip_phases, is_clip_phase}
+pub use Rattle.nit_clip.specs.ClipGrammar.{IsFirstBadClip, IsTooLongClip, ReadsClip, is_clip_phase}
 pub use Rattle.nit_clip.specs.ClipReaders.{clip_call_at, clip_front_at, clip_line_at, clip_phase_at, copy_at, paste_at}
 pub use Rattle.nit_clip.specs.ClipSpelling.{FitsClipCall, FitsClipLine, clip_call_spelling, clip_entry_spelling, clip_line_spelling, clip_reply_spelling, clip_text}
 pub use Rattle.nit_clip.specs.Clipboard.{AreAnswered, AreAnsweredFrom, IsClipAnswer, NeverFall, clip_answer, clipboard_after, clipboard_after_entry, clipboard_of, focused_answer, has_focus, last_at, pasted}
@@ -10,6 +10,4 @@ pub use Rattle.nit_clip.specs.WholeClips.{AreInPhases, IsInPhase, calls_up_to, c
 pub use Rattle.nit_clip.specs.declared.call.ClipCall.{ClipCall}
 pub use Rattle.nit_clip.specs.declared.call.ClipEntry.{ClipEntry}
 pub use Rattle.nit_clip.specs.declared.call.ClipReply.{ClipReply}
-pub use Rattle.nit_clip.specs.declared.error.ClipError.{ClipError}
-pub use Rattle.nit_clip.specs.declared.error.ClipError.TheVariants.{Bad, NoMemory, TooLong}
 pub use Rattle.nit_clip.specs.declared.line.ClipLine.{ClipLine}

@@ -1,44 +1,12 @@
-//! What the definitions of clip scripts and clip lists say of each other, over plain lists: a text
-//! has one reading, and a clip list stays legal and in its phases while the journal grows.
+//! What the definitions of clip scripts and clip lists say of each other, over plain lists: a clip
+//! list stays legal and in its phases while the journal grows. What holds of a clip script's text
+//! and of its phases are the laws of [`nit_script`] for this kind of line.
 
-ghost use Rattle.std.specs.Prelude.{◌≡◌, ◌≤◌, ◌<◌, ◌+◌, ◌++◌, ◌∷◌, [], ◌⊎◌, ℕ, List, Option, Some, length, take, drop, count_by, if◌then◌else◌};
-ghost use Rattle.nit_clip.specs.Terms.{AllByRecursion, AreInPhases, Call, ClipCall, ClipEntry, ClipLine, ClipReply, Configuration, Entry, IsClipAnswer, IsFirstBadClip, IsInPhase, IsLegalClips, IsOpen, IsTooLongClip, ReadsClip, UserAction, before_final, clip_answer, clip_calls_in, clip_calls_of, clip_phases, clipboard_of, clips_to_do, clips_to_make, done, is_clip_phase, last_at, left_after, most_lines, next_phase, replay, slice_get};
+ghost use Rattle.std.specs.Prelude.{◌≡◌, ◌≤◌, ◌<◌, ◌+◌, ◌++◌, ◌∷◌, [], ◌⊎◌, ℕ, List, Option, Some, length, take, drop, count_by};
+ghost use Rattle.nit_clip.specs.Terms.{AllByRecursion, AreInPhases, Call, ClipCall, ClipEntry, ClipLine, ClipReply, Configuration, Entry, IsClipAnswer, IsInPhase, IsLegalClips, IsOpen, UserAction, before_final, clip_answer, clip_calls_in, clip_calls_of, clipboard_of, clips_to_do, clips_to_make, done, is_clip_phase, last_at, left_after, next_phase, replay, slice_get};
 ghost use Rattle.nit_clip.specs.declared.call.ClipCall.TheVariants as call;
 ghost use Rattle.nit_clip.specs.declared.call.ClipReply.TheVariants as reply;
 ghost use Rattle.nit_clip.specs.declared.line.ClipLine.TheVariants as line;
-
-/// A text has one reading as a clip script at most, and a list of lines has one text.
-pub fn clip_reading_is_one()
-    ensures lines { (bytes : List ℕ) (a b : List ClipLine) →
-        ReadsClip bytes a → ReadsClip bytes b → a ≡ b }
-    ensures bytes { (lines : List ClipLine) (a b : List ℕ) →
-        ReadsClip a lines → ReadsClip b lines → a ≡ b }
-{}
-
-/// A text with a reading has no first bad line, and is not too long where the reading has at most
-/// 65,536 lines.
-pub fn clip_reading_is_whole()
-    ensures not_bad { (bytes : List ℕ) (lines : List ClipLine) (line : ℕ) →
-        ReadsClip bytes lines → IsFirstBadClip bytes line → ⊥ }
-    ensures not_long { (bytes : List ℕ) (lines : List ClipLine) →
-        ReadsClip bytes lines → length lines ≤ most_lines → IsTooLongClip bytes → ⊥ }
-{}
-
-/// A text has one first bad line at most, and none where it is too long.
-pub fn clip_first_bad_is_one()
-    ensures one { (bytes : List ℕ) (a b : ℕ) →
-        IsFirstBadClip bytes a → IsFirstBadClip bytes b → a ≡ b }
-    ensures not_long { (bytes : List ℕ) (line : ℕ) →
-        IsFirstBadClip bytes line → IsTooLongClip bytes → ⊥ }
-{}
-
-/// A clip script of no lines has one phase, and each line `phase` behind it ends one more.
-pub fn clip_phases_count()
-    ensures first { clip_phases [] ≡ 1 }
-    ensures more { (lines : List ClipLine) (line : ClipLine) →
-        clip_phases (lines ++ line ∷ [])
-        ≡ (if is_clip_phase line then clip_phases lines + 1 else clip_phases lines) }
-{}
 
 /// The clip calls of a script: they are those that it has its client make. One more line adds its
 /// call, if it is one. The next call is done in the phase that the lines before it lead to.

@@ -14,17 +14,17 @@
 
 mod call;
 mod clip;
-mod error;
 pub mod laws;
 mod line;
+mod lines;
 mod parse;
 mod script;
 mod text;
 
 pub use call::{ClipCall, ClipEntry, ClipReply};
 pub use clip::Clip;
-pub use error::ClipError;
 pub use line::ClipLine;
+pub use nit_script::ScriptError as ClipError;
 pub use parse::parse_clip;
 pub use script::ClipScript;
 pub use text::clip_text;

@@ -1,13 +1,11 @@
-//! Clip scripts, line by line.
+//! Clip scripts.
 
 ghost use Rattle.std.specs.Prelude.{◌≡◌, ◌≤◌, ℕ, List, length, Ok, Err, IfOk};
-ghost use Rattle.nit_clip.specs.Terms.{ClipLine, Gives, IsClipScriptAnswer, IsFirstBadClip, IsTooLongClip, ReadsClip, UnlessMemory, clip_call_at, clip_front_at, clip_line_at, clip_phase_at, copy_at, most_lines, paste_at};
+ghost use Rattle.nit_clip.specs.Terms.{ClipLine, IsFirstBadClip, IsTooLongClip, ReadsClip, UnlessMemory, most_lines};
 
-use crate::call::ClipCall;
-use crate::error::ClipError;
-use crate::line::ClipLine;
+use crate::ClipError;
 use crate::script::ClipScript;
-use nit_script::{MOST_LINES, take_byte, take_word, text_field};
+use nit_script::parse_lines;
 use std::alloc::Global;
 
 /// The clip script that the bytes spell. `Bad` comes exactly where one of the first 65,536 lines
@@ -31,87 +29,8 @@ pub fn parse_clip(alloc: Global, bytes: &[u8]) -> Result<ClipScript, ClipError>
     ensures is_long { IsTooLongClip bytes.now →
         UnlessMemory result (result ≡ Err ClipError.TooLong) }
 {
-    clip_lines(alloc, bytes)
-}
-
-fn clip_lines(alloc: Global, bytes: &[u8]) -> Result<ClipScript, ClipError>
-    ensures { IsClipScriptAnswer bytes.now result }
-{
-    let mut lines = Vec::new(alloc);
-    let mut rest = bytes;
-    for number in 0..MOST_LINES {
-        if rest.is_empty() {
-            return Ok(ClipScript { lines });
-        }
-        let Some((found, after)) = take_line(rest) else {
-            return Err(ClipError::Bad { line: number + 1 });
-        };
-        lines.push(found)?;
-        rest = after;
+    match parse_lines(alloc, bytes) {
+        Ok(lines) => Ok(ClipScript { lines }),
+        Err(error) => Err(error),
     }
-    if rest.is_empty() {
-        Ok(ClipScript { lines })
-    } else {
-        Err(ClipError::TooLong)
-    }
-}
-
-/// The line in front, with its line feed, and what follows it.
-#[tactic(auto, unfolding(crate::specs::ClipReaders::clip_line_at))]
-fn take_line(bytes: &[u8]) -> Option<(ClipLine, &[u8])>
-    ensures { Gives (λ x. (x.0, x.1.now)) result (clip_line_at bytes.now) }
-{
-    let Some((line, rest)) = take_front(bytes) else {
-        return None;
-    };
-    Some((line, take_byte(rest, b'\n')?))
-}
-
-/// The same up to the line feed.
-#[tactic(auto, unfolding(crate::specs::ClipReaders::clip_front_at))]
-fn take_front(bytes: &[u8]) -> Option<(ClipLine, &[u8])>
-    ensures { Gives (λ x. (x.0, x.1.now)) result (clip_front_at bytes.now) }
-{
-    if let Some((call, rest)) = take_call(bytes) {
-        return Some((ClipLine::Call(call), rest));
-    }
-    take_phase(bytes)
-}
-
-#[tactic(auto, unfolding(crate::specs::ClipReaders::clip_phase_at))]
-fn take_phase(bytes: &[u8]) -> Option<(ClipLine, &[u8])>
-    ensures { Gives (λ x. (x.0, x.1.now)) result (clip_phase_at bytes.now) }
-{
-    let rest = take_word(bytes, b"phase")?;
-    Some((ClipLine::Phase, rest))
-}
-
-/// The call in front.
-#[tactic(auto, unfolding(crate::specs::ClipReaders::clip_call_at))]
-fn take_call(bytes: &[u8]) -> Option<(ClipCall, &[u8])>
-    ensures { Gives (λ x. (x.0, x.1.now)) result (clip_call_at bytes.now) }
-{
-    if let Some(found) = take_copy(bytes) {
-        return Some(found);
-    }
-    take_paste(bytes)
-}
-
-#[tactic(auto, unfolding(crate::specs::ClipReaders::copy_at))]
-fn take_copy(bytes: &[u8]) -> Option<(ClipCall, &[u8])>
-    ensures { Gives (λ x. (x.0, x.1.now)) result (copy_at bytes.now) }
-{
-    let rest = take_word(bytes, b"copy")?;
-    let Some((text, rest)) = text_field(rest) else {
-        return None;
-    };
-    Some((ClipCall::Copy(text), rest))
-}
-
-#[tactic(auto, unfolding(crate::specs::ClipReaders::paste_at))]
-fn take_paste(bytes: &[u8]) -> Option<(ClipCall, &[u8])>
-    ensures { Gives (λ x. (x.0, x.1.now)) result (paste_at bytes.now) }
-{
-    let rest = take_word(bytes, b"paste")?;
-    Some((ClipCall::Paste, rest))
 }

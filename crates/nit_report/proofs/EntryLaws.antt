@@ -1,5 +1,5 @@
 -- Entries are read exactly.
-use Rattle.nit_report.proofs.Basics.{Call, Device, Entry, Exact, FitsCall, FitsDevice, FitsEntry, IsKind, IsReader, Reply, Routed, Takes, anything, both, call_again, call_at, call_spelling, call_takes, codes, deliveries_of, device_again, device_at, device_spelling, device_takes, ended_again, ended_takes, entry_spelling, first_takes, kind, nothing, spaced, stops}
+use Rattle.nit_report.proofs.Basics.{Call, Device, Entry, Exact, FitsCall, FitsDevice, FitsEntry, HasOneReading, IsKind, IsReader, Reply, Routed, Takes, anything, both, call_again, call_at, call_spelling, call_takes, codes, deliveries_of, device_again, device_at, device_spelling, device_takes, ended_again, ended_takes, entry_spelling, first_takes, kind, nothing, one_reading, spaced, stops}
 use Rattle.std.proofs.Common.{List, Some, ap, refl, sym, ℕ, ◌++◌, ◌∙◌, ◌∷◌, ◌≡◌}
 use Rattle.nit_report.specs.EntryReaders.{answered_at, behind_reply_at, entry_at, entry_front_at, final_at, input_entry_at, shot_entry_at}
 use Rattle.nit_events.specs.declared.entry.Entry.TheVariants as entry
@@ -67,3 +67,7 @@ journal_reader = record {
   takes = λ bytes e rest h. ended_takes entry_front_at entry_spelling FitsEntry front_takes bytes e rest h;
   again = λ e rest fits. ended_again entry_front_at entry_spelling e rest (front_again e rest fits);
 }
+
+-- bytes begin with one entry's line at most
+pub journal_reading : HasOneReading FitsEntry entry_spelling
+journal_reading = one_reading journal_reader

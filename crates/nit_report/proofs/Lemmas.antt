@@ -4,7 +4,7 @@ pub use Rattle.nit_report.proofs.Decimals.{few_digits, one_digit, one_digit_more
 pub use Rattle.nit_report.proofs.DrawLemmas.{appends_one, appends_then, each_done, each_more, each_none, flat_map_next}
 pub use Rattle.nit_report.proofs.DrawnCounts.{client_calls, client_lines, client_phases, user_devices, user_lines, user_phase_count, user_shots}
 pub use Rattle.nit_report.proofs.DrawnFits.{client_fits, user_fits}
-pub use Rattle.nit_report.proofs.EntryLaws.{journal_reader}
+pub use Rattle.nit_report.proofs.EntryLaws.{journal_reading}
 pub use Rattle.nit_report.proofs.GeneratedClients.{generated_is_configured}
 pub use Rattle.nit_report.proofs.GeneratedTexts.{clients_read, user_reads}
 pub use Rattle.nit_report.proofs.JournalLemmas.{HasRead, answer_at, bad_is_one, few_are_read, few_entries, first_bad, has_read_more, is_bad, is_read, read_and_bad, read_is, shorter}

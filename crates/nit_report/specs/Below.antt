@@ -20,7 +20,7 @@ pub use Rattle.nit_rect.specs.Limits.{most_height, most_width}
 pub use Rattle.nit_rect.specs.Options.{Gives}
 pub use Rattle.nit_script.specs.CallReaders.{call_at}
 pub use Rattle.nit_script.specs.FieldReaders.{at_both, at_ended, at_kind, at_made, at_spaced, at_tested, first_of, nat_field, nothing_at}
-pub use Rattle.nit_script.specs.Grammar.{Begins, HasNoReading, Reads, ReadsClient, ReadsInput, most_lines, spelled}
+pub use Rattle.nit_script.specs.Grammar.{Begins, HasNoReading, HasOneReading, Reads, ReadsClient, ReadsInput, most_lines, spelled}
 pub use Rattle.nit_script.specs.InputReaders.{device_at}
 pub use Rattle.nit_script.specs.Phases.{input_phases, is_input_phase, is_phase, phases}
 pub use Rattle.nit_script.specs.Spelling.{FitsCall, FitsDevice, FitsInputLine, FitsInt, FitsLine, FitsNat, FitsPointerPlace, call_spelling, device_spelling, input_spelling, int, line_spelling, nat}

@@ -1,5 +1,5 @@
 -- The words that clauses use: those that come from outside, and those of this crate.
-pub use Rattle.nit_report.specs.Below.{AllByRecursion, AllZip, Begins, Call, Closed, Delivery, Device, Entry, Event, FitsCall, FitsDevice, FitsInputLine, FitsInt, FitsLine, Gives, IfOk, InputLine, IsConfiguration, IsMember, IsOkAnd, IsWord, Item, Killed, Line, List, Live, Member, ReadsClient, ReadsInput, Reply, Routed, Stroke, at_made, call_at, call_spelling, channels, codes, decimal, deliveries_of, delivery, device_at, device_spelling, first_of, flat_map, input_phases, input_spelling, is_file_name, is_input_phase, is_label, is_label_byte, is_phase, is_printable, is_text, line_spelling, most_height, most_read, most_width, nat, phases, range_with_len, routed_as, spelled, sum_by, ℕ}
+pub use Rattle.nit_report.specs.Below.{AllByRecursion, AllZip, Begins, Call, Closed, Delivery, Device, Entry, Event, FitsCall, FitsDevice, FitsInputLine, FitsInt, FitsLine, Gives, HasOneReading, IfOk, InputLine, IsConfiguration, IsMember, IsOkAnd, IsWord, Item, Killed, Line, List, Live, Member, ReadsClient, ReadsInput, Reply, Routed, Stroke, at_made, call_at, call_spelling, channels, codes, decimal, deliveries_of, delivery, device_at, device_spelling, first_of, flat_map, input_phases, input_spelling, is_file_name, is_input_phase, is_label, is_label_byte, is_phase, is_printable, is_text, line_spelling, most_height, most_read, most_width, nat, phases, range_with_len, routed_as, spelled, sum_by, ℕ}
 pub use Rattle.nit_report.specs.Draw.{AppendsDraws, Draw, Draws, below, draws_in_turn, following, for_each, just}
 pub use Rattle.nit_report.specs.EntryReaders.{answered_at, bad_at, behind_reply_at, deliveries_at, delivery_at, done_at, entry_at, entry_front_at, event_at, event_reply_at, final_at, focus_enter_at, focus_leave_at, handle_at, holding_at, input_entry_at, is_session_number, is_shot_number, item_at, leave_at, no_view_at, one_in_front, plain_at, quota_at, reply_at, reserve_at, routed_at, session_field, shot_entry_at, shot_field, told}
 pub use Rattle.nit_report.specs.EntrySpelling.{delivery_spelling, entry_spelling, event_spelling, item_spelling, reply_spelling}

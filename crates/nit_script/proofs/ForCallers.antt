@@ -2,7 +2,7 @@
 pub use Rattle.nit_script.proofs.CallLaws.{call_again, call_takes}
 pub use Rattle.nit_script.proofs.Digits.{stops}
 pub use Rattle.nit_script.proofs.Exact.{Exact, anything, both, nat_fields, nothing, spaced, stops_text, tested, text_fields}
-pub use Rattle.nit_script.proofs.InputLaws.{device_again, device_takes, input_reader}
+pub use Rattle.nit_script.proofs.InputLaws.{device_again, device_takes, input_reading}
 pub use Rattle.nit_script.proofs.LineKinds.{IsKind, Takes, ended_again, ended_takes, first_takes, kind, made_takes}
-pub use Rattle.nit_script.proofs.LineLaws.{client_reader}
-pub use Rattle.nit_script.proofs.Scripts.{HasRead, IsReader, bad_and_long, begins_more, first_bad_here, fits_push, has_read_more, no_reading, not_empty, nothing_spelled, read_and_bad, read_and_long, reads_begins, same_bad, same_lines, same_read}
+pub use Rattle.nit_script.proofs.LineLaws.{client_reading}
+pub use Rattle.nit_script.proofs.Scripts.{IsReader, bad_for, begins_more, fits_push, in_front, no_reading, not_empty, nothing_spelled, one_reading, read_and_bad, read_and_long, reads_begins, same_lines, same_read, taken_begins}

@@ -1,12 +1,12 @@
 -- Lines of an input script are read exactly.
 use Rattle.std.proofs.Common.{List, Some, arith, negsuc, pos, refl, true, ℕ, ℤ, ◌++◌, ◌∷◌, ◌≡◌}
-use Rattle.nit_script.proofs.Basics.{Device, FitsDevice, FitsInputLine, FitsInt, FitsPointerPlace, InputLine, IsCode, IsWheel, Motion, Press, Release, Wheel, at_made, code_field, codes, device_spelling, input_phase_at, input_spelling, int, ints, is_code, is_pointer_place, is_wheel, le-leb, leb-true, nat, nat_tests, pointer_field, shot_at, wheel_field}
+use Rattle.nit_script.proofs.Basics.{Device, FitsDevice, FitsInputLine, FitsInt, FitsPointerPlace, HasOneReading, InputLine, IsCode, IsWheel, Motion, Press, Release, Wheel, at_made, code_field, codes, device_spelling, input_phase_at, input_spelling, int, ints, is_code, is_pointer_place, is_wheel, le-leb, leb-true, nat, nat_tests, pointer_field, shot_at, wheel_field}
 use Rattle.nit_script.specs.InputReaders.{device_at, input_at, input_front_at, motion_at, press_at, release_at, wheel_at}
 use Rattle.nit_script.specs.declared.line.InputLine.TheVariants as input
 use Rattle.nit_script.proofs.Digits.{stops}
 use Rattle.nit_script.proofs.Exact.{Exact, both, tested, nothing, anything, nat_fields, int_fields}
 use Rattle.nit_script.proofs.LineKinds.{Takes, IsKind, kind, first_takes, made_takes, ended_takes, ended_again}
-use Rattle.nit_script.proofs.Scripts.{IsReader}
+use Rattle.nit_script.proofs.Scripts.{IsReader, one_reading}
 
 -- ---- numbers within their bounds
 
@@ -87,3 +87,7 @@ input_reader = record {
   takes = λ bytes l rest e. ended_takes input_front_at input_spelling FitsInputLine front_takes bytes l rest e;
   again = λ l rest fits. ended_again input_front_at input_spelling l rest (front_again l rest fits);
 }
+
+-- bytes begin with one line of an input script at most
+pub input_reading : HasOneReading FitsInputLine input_spelling
+input_reading = one_reading input_reader

@@ -1,6 +1,6 @@
 -- What answers use: all that lemmas use, and this crate's lemmas.
-pub use Rattle.nit_script.proofs.Basics.{FitsInputLine, FitsLine, KeepsBytes, [], arith, digits_value, eqb-true, field_spelling, flat_map, input_spelling, line_spelling, nil_from_length, some_pair_parts, spelled, sym, ◌∙◌}
+pub use Rattle.nit_script.proofs.Basics.{KeepsBytes, [], arith, digits_value, eqb-true, field_spelling, flat_map, nil_from_length, some_pair_parts, spelled, sym, ◌∙◌}
 pub use Rattle.nit_script.proofs.Digits.{next_value, number_found, number_read}
-pub use Rattle.nit_script.proofs.InputLaws.{input_reader}
-pub use Rattle.nit_script.proofs.LineLaws.{client_reader}
-pub use Rattle.nit_script.proofs.Scripts.{HasRead, answer_at, bad_and_long, first_bad_here, has_read_more, is_bad, is_long, is_read, not_empty, read_and_bad, read_and_long, read_is, same_bad, same_read}
+pub use Rattle.nit_script.proofs.InputLaws.{input_reader, input_reading}
+pub use Rattle.nit_script.proofs.LineLaws.{client_reader, client_reading}
+pub use Rattle.nit_script.proofs.Scripts.{HasRead, answer_at, bad_and_long, bad_for, first_bad_here, has_read_more, in_front, is_bad, is_long, is_read, not_empty, read_and_bad, read_and_long, read_is, same_bad, same_read}

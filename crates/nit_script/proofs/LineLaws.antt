@@ -1,6 +1,6 @@
 -- Lines of a client's script are read exactly.
 use Rattle.std.proofs.Common.{List, Some, refl, ℕ, ◌++◌, ◌∷◌, ◌≡◌}
-use Rattle.nit_script.proofs.Basics.{Check, Fill, FitsCall, FitsLine, FitsStroke, Line, Stroke, at_made, call_spelling, codes, line_spelling, phase_at, stroke_spelling}
+use Rattle.nit_script.proofs.Basics.{Check, Fill, FitsCall, FitsLine, FitsStroke, HasOneReading, Line, Stroke, at_made, call_spelling, codes, line_spelling, phase_at, stroke_spelling}
 use Rattle.nit_script.specs.CallReaders.{above_at, back_at, buffer_at, call_at, close_at, destroy_at, front_at, offset_at, place_at, refresh_at, session_call_at, title_at, upgrade_at, view_at, view_call_at}
 use Rattle.nit_script.specs.LineReaders.{check_at, fill_at, line_at, line_front_at, stroke_at}
 use Rattle.nit_script.specs.declared.line.Line.TheVariants as line
@@ -8,7 +8,7 @@ use Rattle.nit_script.specs.CallReaders.{take_at}
 use Rattle.nit_script.proofs.Exact.{both, nothing, anything, nat_fields, colour_fields}
 use Rattle.nit_script.proofs.LineKinds.{Takes, IsKind, kind, first_takes, made_takes, ended_takes, ended_again}
 use Rattle.nit_script.proofs.CallLaws.{call_takes, call_again}
-use Rattle.nit_script.proofs.Scripts.{IsReader}
+use Rattle.nit_script.proofs.Scripts.{IsReader, one_reading}
 
 fills : IsKind fill_at stroke_spelling FitsStroke anything (λ (p : ℕ × (ℕ × (ℕ × (ℕ × ℕ)))). Fill p.0 p.1.0 p.1.1.0 p.1.1.1.0 p.1.1.1.1)
 unfolding fill_at
@@ -52,3 +52,7 @@ client_reader = record {
   takes = λ bytes l rest e. ended_takes line_front_at line_spelling FitsLine front_takes bytes l rest e;
   again = λ l rest fits. ended_again line_front_at line_spelling l rest (front_again l rest fits);
 }
+
+-- bytes begin with one line of a client's script at most
+pub client_reading : HasOneReading FitsLine line_spelling
+client_reading = one_reading client_reader

@@ -8,7 +8,9 @@ pub use Rattle.nit_events.specs.declared.device.Device.TheVariants.{Motion, Pres
 pub use Rattle.nit_rect.specs.Options.{Gives}
 pub use Rattle.std.specs.Char.{digit_value, is_ascii_digit}
 pub use Rattle.std.specs.Fmt.{decimal, signed_decimal}
+pub use Rattle.std.specs.Global.{Global}
 pub use Rattle.std.specs.Int.{IsInRange, is_in_range}
 pub use Rattle.std.specs.List.{AllByRecursion, flat_map, list_all, prefix_len, starts_with}
-pub use Rattle.std.specs.Prelude.{IfOk, List, Option, codes, not, ℕ}
+pub use Rattle.std.specs.Option.{MatchOption}
+pub use Rattle.std.specs.Prelude.{IfOk, IsOkAnd, List, Option, Vec, codes, not, ℕ}
 pub use Rattle.std.specs.Str.Parse.{AllDigits, digits_value}

@@ -1,6 +1,6 @@
 -- Scripts and their texts, for any kind of line: which lines fit, and how each is spelled.
-use Rattle.std.specs.Prelude.{◌≡◌, ◌≢◌, ◌≤◌, ℕ, ◌+◌, List, [], ◌∷◌, ◌++◌, length, Result, Ok, Err}
-use Rattle.nit_script.specs.Below.{AllByRecursion, flat_map}
+use Rattle.std.specs.Prelude.{◌≡◌, ◌≢◌, ◌≤◌, ℕ, ◌+◌, List, [], ◌∷◌, ◌++◌, length, Result, Ok, Err, Vec}
+use Rattle.nit_script.specs.Below.{AllByRecursion, Global, flat_map}
 use Rattle.nit_script.specs.declared.error.ScriptError.{ScriptError}
 use Rattle.nit_script.specs.declared.error.ScriptError.TheVariants.{Bad, TooLong, NoMemory}
 use Rattle.nit_script.specs.declared.line.Line.{Line}
@@ -19,6 +19,15 @@ spelled spelling l = spelling l ++ 10 ∷ []
 abbrev pub Reads : {L : Type 0} → (L → Type 0) → (L → List ℕ) → List ℕ → List L → Type 0
 Reads Fits spelling bytes lines =
     AllByRecursion Fits lines × (bytes ≡ flat_map (spelled spelling) lines)
+
+-- The bytes begin with this line, which fits, and a line feed; then comes the rest.
+abbrev pub BeginsWith : {L : Type 0} → (L → Type 0) → (L → List ℕ) → List ℕ → L → List ℕ → Type 0
+BeginsWith Fits spelling bytes l rest = Fits l × (bytes ≡ spelled spelling l ++ rest)
+
+-- Any bytes begin with one line at most.
+pub record HasOneReading {L : Type 0} (Fits : L → Type 0) (spelling : L → List ℕ) : Type 0 where
+  pub same : (bytes : List ℕ) (a b : L) (r s : List ℕ) → BeginsWith Fits spelling bytes a r
+      → BeginsWith Fits spelling bytes b s → (a ≡ b) × (r ≡ s)
 
 -- The bytes do not begin with the spelling of a line that fits and a line feed.
 abbrev pub HasNoReading : {L : Type 0} → (L → Type 0) → (L → List ℕ) → List ℕ → Type 0
@@ -83,11 +92,11 @@ UnlessMemory (Err (Bad line)) P = P
 UnlessMemory (Err TooLong) P = P
 UnlessMemory (Err NoMemory) P = Unit {0}
 
--- What reading bytes as a script may answer.
+-- What reading bytes as lines may answer.
 abbrev pub IsScriptAnswer : {L : Type 0} → (L → Type 0) → (L → List ℕ) → List ℕ
-    → Result (List L) ScriptError → Type 0
-IsScriptAnswer Fits spelling bytes (Ok lines) =
-    Reads Fits spelling bytes lines × (length lines ≤ most_lines)
+    → Result (Vec L Global) ScriptError → Type 0
+IsScriptAnswer Fits spelling bytes (Ok v) =
+    Reads Fits spelling bytes v.items × (length v.items ≤ most_lines)
 IsScriptAnswer Fits spelling bytes (Err (Bad line)) = IsFirstBad Fits spelling bytes line
 IsScriptAnswer Fits spelling bytes (Err TooLong) = IsTooLong Fits spelling bytes
 IsScriptAnswer Fits spelling bytes (Err NoMemory) = Unit {0}

@@ -5,20 +5,24 @@ use Rattle.nit_script.specs.declared.line.Line.TheVariants as line
 use Rattle.nit_script.specs.declared.line.InputLine.{InputLine}
 use Rattle.nit_script.specs.declared.line.InputLine.TheVariants as input
 
+-- how many phases lines have, by which of them end one: those, and one more
+abbrev pub phases_by : {L : Type 0} → (L → Bool) → List L → ℕ
+phases_by ends lines = count_by ends lines + 1
+
 -- the line ends a phase
 abbrev pub is_phase : Line → Bool
 is_phase line.Phase = true
 is_phase other = false
 
--- the number of lines that end a phase, and one
+-- how many phases a client's script has
 abbrev pub phases : List Line → ℕ
-phases lines = count_by is_phase lines + 1
+phases = phases_by is_phase
 
 -- the line ends a phase
 abbrev pub is_input_phase : InputLine → Bool
 is_input_phase input.Phase = true
 is_input_phase other = false
 
--- the number of lines that end a phase, and one
+-- how many phases an input script has
 abbrev pub input_phases : List InputLine → ℕ
-input_phases lines = count_by is_input_phase lines + 1
+input_phases = phases_by is_input_phase

@@ -24,6 +24,7 @@
 
 mod bytes;
 mod call_lines;
+mod counts;
 mod device_lines;
 mod error;
 mod fields;
@@ -34,20 +35,20 @@ mod numbers;
 mod parse;
 mod print;
 mod script;
+mod script_line;
 mod stroke_lines;
 mod write;
 
 pub use bytes::{take_byte, take_word};
 pub use call_lines::take_call;
+pub use counts::{phase_lines, phases};
 pub use device_lines::take_device;
 pub use error::ScriptError;
 pub use fields::{natural_field, text_field};
-pub use laws::{
-    client_first_bad_is_one, client_phases_count, client_reading_is_one, client_reading_is_whole,
-    input_first_bad_is_one, input_phases_count, input_reading_is_one, input_reading_is_whole,
-};
+pub use laws::{first_bad_is_one, phases_count, reading_is_one, reading_is_whole};
 pub use line::{InputLine, Line, Stroke};
 pub use numbers::natural;
-pub use parse::{MOST_LINES, parse_client, parse_input};
-pub use print::{print_client, print_input, put_call, put_device};
+pub use parse::{MOST_LINES, parse_client, parse_input, parse_lines};
+pub use print::{print_client, print_input, print_lines, put_call, put_device};
 pub use script::{Client, Input};
+pub use script_line::ScriptLine;

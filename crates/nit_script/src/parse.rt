@@ -1,11 +1,11 @@
 //! Scripts, line by line.
 
 ghost use Rattle.std.specs.Prelude.{◌≡◌, ◌≤◌, ℕ, List, length, Ok, Err, IfOk};
-ghost use Rattle.nit_script.specs.Terms.{FitsInputLine, FitsLine, InputLine, IsFirstBadClient, IsFirstBadInput, IsScriptAnswer, IsTooLongClient, IsTooLongInput, Line, ReadsClient, ReadsInput, UnlessMemory, input_spelling, line_spelling, most_lines};
+ghost use Rattle.nit_script.specs.Terms.{InputLine, IsFirstBad, IsFirstBadClient, IsFirstBadInput, IsOkAnd, IsScriptAnswer, IsTooLong, IsTooLongClient, IsTooLongInput, Line, Reads, ReadsClient, ReadsInput, UnlessMemory, most_lines};
 
 use crate::error::ScriptError;
-use crate::lines::{take_input_line, take_line};
 use crate::script::{Client, Input};
+use crate::script_line::ScriptLine;
 use std::alloc::Global;
 
 /// How many lines a script may have.
@@ -33,7 +33,10 @@ pub fn parse_client(alloc: Global, bytes: &[u8]) -> Result<Client, ScriptError>
     ensures is_long { IsTooLongClient bytes.now
         → UnlessMemory result (result ≡ Err ScriptError.TooLong) }
 {
-    client_lines(alloc, bytes)
+    match parse_lines(alloc, bytes) {
+        Ok(lines) => Ok(Client { lines }),
+        Err(error) => Err(error),
+    }
 }
 
 /// The input script that the bytes spell. It refuses as [`parse_client`] does, by the lines of an
@@ -56,48 +59,54 @@ pub fn parse_input(alloc: Global, bytes: &[u8]) -> Result<Input, ScriptError>
     ensures is_long { IsTooLongInput bytes.now
         → UnlessMemory result (result ≡ Err ScriptError.TooLong) }
 {
-    input_lines(alloc, bytes)
+    match parse_lines(alloc, bytes) {
+        Ok(lines) => Ok(Input { lines }),
+        Err(error) => Err(error),
+    }
 }
 
-fn client_lines(alloc: Global, bytes: &[u8]) -> Result<Client, ScriptError>
-    ensures { IsScriptAnswer FitsLine line_spelling bytes.now result }
+/// The lines that the bytes spell, of one kind. It refuses as [`parse_client`] does, by the lines of
+/// this kind.
+pub fn parse_lines<L: ScriptLine>(alloc: Global, bytes: &[u8]) -> Result<Vec<L>, ScriptError>
+    // What is read is spelled so, and what is spelled so is read, unless memory runs out.
+    ensures read { IfOk result (λ v. Reads L.Fits L.spelling bytes.now v.items
+        × (length v.items ≤ most_lines)) }
+    ensures reads { (lines : List L)
+        → Reads L.Fits L.spelling bytes.now lines → length lines ≤ most_lines
+        → UnlessMemory result (IsOkAnd result (λ v. v.items ≡ lines)) }
+
+    // Exactly the first line without a reading is named.
+    ensures bad { (line : ℕ) → result ≡ Err (ScriptError.Bad line)
+        → IsFirstBad L.Fits L.spelling bytes.now line }
+    ensures is_bad { (line : ℕ) → IsFirstBad L.Fits L.spelling bytes.now line →
+        UnlessMemory result (result ≡ Err (ScriptError.Bad line)) }
+
+    // Exactly where bytes stand behind 65,536 lines.
+    ensures long { result ≡ Err ScriptError.TooLong → IsTooLong L.Fits L.spelling bytes.now }
+    ensures is_long { IsTooLong L.Fits L.spelling bytes.now
+        → UnlessMemory result (result ≡ Err ScriptError.TooLong) }
+{
+    L::one_in_front();
+    read_lines(alloc, bytes)
+}
+
+fn read_lines<L: ScriptLine>(alloc: Global, bytes: &[u8]) -> Result<Vec<L>, ScriptError>
+    ensures { IsScriptAnswer L.Fits L.spelling bytes.now result }
 {
     let mut lines = Vec::new(alloc);
     let mut rest = bytes;
     for number in 0..MOST_LINES {
         if rest.is_empty() {
-            return Ok(Client { lines });
+            return Ok(lines);
         }
-        let Some((found, after)) = take_line(rest) else {
+        let Some((found, after)) = L::take(rest) else {
             return Err(ScriptError::Bad { line: number + 1 });
         };
         lines.push(found)?;
         rest = after;
     }
     if rest.is_empty() {
-        Ok(Client { lines })
-    } else {
-        Err(ScriptError::TooLong)
-    }
-}
-
-fn input_lines(alloc: Global, bytes: &[u8]) -> Result<Input, ScriptError>
-    ensures { IsScriptAnswer FitsInputLine input_spelling bytes.now result }
-{
-    let mut lines = Vec::new(alloc);
-    let mut rest = bytes;
-    for number in 0..MOST_LINES {
-        if rest.is_empty() {
-            return Ok(Input { lines });
-        }
-        let Some((found, after)) = take_input_line(rest) else {
-            return Err(ScriptError::Bad { line: number + 1 });
-        };
-        lines.push(found)?;
-        rest = after;
-    }
-    if rest.is_empty() {
-        Ok(Input { lines })
+        Ok(lines)
     } else {
         Err(ScriptError::TooLong)
     }

@@ -1,10 +1,11 @@
 //! Scripts written as bytes.
 
 ghost use Rattle.std.specs.Prelude.{◌≡◌, ◌++◌, IfOk, OnOk, OnErr};
-ghost use Rattle.nit_script.specs.Terms.{ReadsClient, ReadsInput, call_spelling, device_spelling, input_spelling, line_spelling, stroke_spelling};
+ghost use Rattle.nit_script.specs.Terms.{ReadsClient, ReadsInput, call_spelling, device_spelling, flat_map, input_spelling, line_spelling, spelled, stroke_spelling};
 
 use crate::line::{InputLine, Line, Stroke};
 use crate::script::{Client, Input};
+use crate::script_line::ScriptLine;
 use crate::write::{Field, put_words};
 use nit_events::{Call, Device};
 use nit_rect::NoMemory;
@@ -14,27 +15,31 @@ use std::alloc::Global;
 pub fn print_client(alloc: Global, c: &Client) -> Result<Vec<u8>, NoMemory>
     ensures { IfOk result (λ v. ReadsClient v.items c.now) }
 {
-    let mut out = Vec::new(alloc);
-    for line in c.lines() {
-        put_line(alloc, &mut out, line)?;
-        out.push(b'\n')?;
-    }
-    Ok(out)
+    print_lines(alloc, c.lines())
 }
 
 /// The bytes that spell an input script. It can be refused for want of memory alone.
 pub fn print_input(alloc: Global, i: &Input) -> Result<Vec<u8>, NoMemory>
     ensures { IfOk result (λ v. ReadsInput v.items i.now) }
 {
+    print_lines(alloc, i.lines())
+}
+
+/// The bytes that spell these lines, each with its line feed. It can be refused for want of memory
+/// alone.
+pub fn print_lines<L: ScriptLine>(alloc: Global, lines: &[L]) -> Result<Vec<u8>, NoMemory>
+    ensures { IfOk result (λ v. v.items ≡ flat_map (spelled L.spelling) lines.now) }
+{
     let mut out = Vec::new(alloc);
-    for line in i.lines() {
-        put_input_line(alloc, &mut out, line)?;
+    for line in lines {
+        line.put(alloc, &mut out)?;
         out.push(b'\n')?;
     }
     Ok(out)
 }
 
-fn put_line(alloc: Global, out: &mut Vec<u8>, line: &Line) -> Result<(), NoMemory>
+/// Writes a line of a client's script, without a line feed.
+pub fn put_line(alloc: Global, out: &mut Vec<u8>, line: &Line) -> Result<(), NoMemory>
     ensures { OnOk result (out.new.items ≡ out.old.items ++ line_spelling line.now) }
 {
     match line {
@@ -44,7 +49,8 @@ fn put_line(alloc: Global, out: &mut Vec<u8>, line: &Line) -> Result<(), NoMemor
     }
 }
 
-fn put_input_line(alloc: Global, out: &mut Vec<u8>, line: &InputLine) -> Result<(), NoMemory>
+/// Writes a line of an input script, without a line feed.
+pub fn put_input_line(alloc: Global, out: &mut Vec<u8>, line: &InputLine) -> Result<(), NoMemory>
     ensures { OnOk result (out.new.items ≡ out.old.items ++ input_spelling line.now) }
 {
     match line {
