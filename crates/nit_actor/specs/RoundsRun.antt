@@ -2,6 +2,8 @@
 -- put.
 use Rattle.std.specs.Prelude.{◌≡◌, ℕ, ◌+◌, ◌<◌, List, ◌++◌, length, codes, Option, Some, None}
 use Rattle.nit_actor.specs.Below.{Configuration, InputLine, IsLegal, IsOpen, IsPlanOf, Line, PlanModel, PutError, PutRefusal, PutState, SceneModel, Sight, StoreModel, decimal, donation_of, glass_in, ink, inked_sight, plan_in, script_in, words_after, words_left}
+use Rattle.nit_actor.specs.declared.desk.PictureName.{PictureName}
+use Rattle.nit_actor.specs.declared.desk.PictureName.TheVariants as name
 use Rattle.nit_actor.specs.TurnActions.{AreRoundsOf}
 
 -- ---- what a run begins with
@@ -29,13 +31,22 @@ pub record IsSetUp (config : Configuration) (scripts : List (List Line)) (plans 
 abbrev pub shot_name : ℕ → List ℕ
 shot_name number = codes "shot-" ++ decimal number ++ codes ".ppm"
 
--- the put of a picture that was refused so, where the shot of this number was tried last
-abbrev pub refusal_at : Option PutError → ℕ → Option PutRefusal
-refusal_at None tried = None
-refusal_at (Some e) tried = Some (record { name = shot_name tried; error = e })
+-- the name of the last picture
+abbrev pub final_name : List ℕ
+final_name = codes "final.ppm"
 
--- what a desk shows: its store, and the refusal that it met, at the shot that it tried last to put
-abbrev pub put_state_of_desk : StoreModel → Option PutError → ℕ → PutState
+-- the bytes of a picture's name
+abbrev pub picture_name : PictureName → List ℕ
+picture_name (name.Shot number) = shot_name number
+picture_name name.Final = final_name
+
+-- the put of a picture that was refused so, where that of this name was tried last
+abbrev pub refusal_at : Option PutError → PictureName → Option PutRefusal
+refusal_at None tried = None
+refusal_at (Some e) tried = Some (record { name = picture_name tried; error = e })
+
+-- what a desk shows: its store, and the refusal that it met, at the picture that it tried last
+abbrev pub put_state_of_desk : StoreModel → Option PutError → PictureName → PutState
 put_state_of_desk shown fault tried = record { shown = shown; refused = refusal_at fault tried }
 
 -- ---- what a run leaves

@@ -8,7 +8,7 @@ pub use Rattle.nit_actor.specs.Pictures.{AreNearShots, GrowsQuietly, IsNearPictu
 pub use Rattle.nit_actor.specs.Places.{ArePlaces, HasTurn, IsAtTurn, IsFirstActive, IsNextTurn, NoneHas, StandsAt, is_active, left_at, left_from, lefts, rest_of_phase, script_of, stepped, turn_by, turn_of, turns_left}
 pub use Rattle.nit_actor.specs.Role.{IsRoleIn, Role, role_of, user_role_of}
 pub use Rattle.nit_actor.specs.Rounds.{all_rounds, greatest, in_phase, phase_count, phase_rounds, round, rounds}
-pub use Rattle.nit_actor.specs.RoundsRun.{IsRoundsRun, IsSetUp, glass_after, put_state_of_desk, shot_name}
+pub use Rattle.nit_actor.specs.RoundsRun.{IsRoundsRun, IsSetUp, final_name, glass_after, picture_name, put_state_of_desk, shot_name}
 pub use Rattle.nit_actor.specs.RunState.{AreLoaded, AreQuiet, AreQuietBut, IsDrawn, IsMoved, IsPlanned, IsRecorded, IsShowing, IsUnderWay, IsUserRecorded, ShowsLine, is_number_in, next_shot, takes_place}
 pub use Rattle.nit_actor.specs.ShotFrames.{ShotFrame, ShowsEach, shot_file}
 pub use Rattle.nit_actor.specs.Shots.{AreShotsOf, IsDrawnPicture, ShotsBehind, drawn_by_shot, shoots, turns_before}

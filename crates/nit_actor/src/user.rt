@@ -3,7 +3,7 @@
 ghost use Rattle.std.specs.Prelude.{◌≡◌, ◌*◌, ◌+◌, All, Some, length, slice_get};
 ghost use Rattle.nit_actor.specs.Terms.{GrowsQuietly, IsAtDevice, IsAtShot, IsAtUserPhase, IsWord, PutsShotsBehind, TellsShot, UserBelongs, picture_length, put_state_of_desk, user_role_of};
 
-use crate::desk::Desk;
+use crate::desk::{Desk, PictureName};
 use crate::gate::Checkpoint;
 use nit_hall::{Hall, Name, UserPass};
 use nit_script::InputLine;
@@ -80,7 +80,7 @@ fn shoot<'a, N: Name, S: Store, R: Wait>(
     let (width, height) = hall.size();
     let _known = user.next();
     let number = take_shot(rt, hall, user, &mut desk.frame);
-    desk.put_shot(width, height, number);
+    desk.put_copied(width, height, PictureName::Shot(number));
     let _known = user.next();
 }
 

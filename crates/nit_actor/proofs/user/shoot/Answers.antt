@@ -11,4 +11,4 @@ returns-clause-put g c =
       before_is = c.next-known.ensures.known;
       after_is = c.next-known-2.ensures.known ∙ ap (λ (v : UserPassModel). user_actions_in (take v.next v.input)) t.ensures.user;
     })
-    t.ensures.told c.size-width.ensures.size c.put_shot.ensures.put
+    t.ensures.told c.size-width.ensures.size c.put_copied.ensures.put
