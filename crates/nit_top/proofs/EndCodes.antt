@@ -2,9 +2,9 @@
 use Rattle.std.proofs.Common.{◌≡◌, ℕ, ◌≤◌, Bool, true, false, [], ◌∷◌, refl, subst, arith, inl, inr, ◌⊎◌}
 use Rattle.std.specs.Prelude.{◌==◌}
 use Rattle.nit_top.proofs.Basics.{Counts, Fault, IsEarly, IsTrue, Rose, StoreModel, code_of, fault_code, list_any}
-use Rattle.nit_top.specs.declared.finish.End.{End}
-use Rattle.nit_top.specs.declared.finish.End.TheVariants as ends
-use Rattle.nit_top.specs.declared.finish.Fault.TheVariants as fault
+use Rattle.nit_top.specs.declared.report.finish.End.{End}
+use Rattle.nit_top.specs.declared.report.finish.End.TheVariants as ends
+use Rattle.nit_top.specs.declared.report.finish.Fault.TheVariants as fault
 use Rattle.nit_hall.proofs.ForCallers.{not_both}
 
 -- ---- codes

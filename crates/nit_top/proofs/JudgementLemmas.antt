@@ -1,7 +1,7 @@
 -- The files of a command are judged in one way.
 use Rattle.std.proofs.Common.{◌≡◌, ℕ, Bool, List, [], ◌∷◌, ◌++◌, map, take, Option, Some, None, refl, sym, ap, subst, ◌∙◌, arith, inl, inr, ◌⊎◌}
-use Rattle.nit_top.proofs.Basics.{AreClipScripts, Audit, Capture, Clip, ClipLine, Command, Configuration, Entry, Fault, File, FitsClipLine, Gen, HasVerdict, IfSome, InputLine, IsClipFault, IsClipScript, IsFirstClipFault, IsGood, IsJournalFault, IsJournalText, IsRefusedWith, IsSomeAnd, IsValid, IsValidSo, IsVerdict, IsVerdictOn, Judged, Line, Nested, NoCommand, Refused, Run, Setup, Still, Verdict, bytes_of, calls_to_make, client_reader, clip_line_spelling, clip_names, clip_phases, clip_reader, fault_code, good_fewer, is_outside_of, journal_reader, one_configuration, one_verdict, same_read, user_actions_to_do, wanted_by, wrong_client, wrong_clip}
-use Rattle.nit_top.specs.declared.finish.Fault.TheVariants as fault
+use Rattle.nit_top.proofs.Basics.{AreClipScripts, Audit, Capture, Clip, ClipLine, Command, Configuration, Entry, Fault, File, FitsClipLine, Gen, HasVerdict, IfSome, InputLine, IsClipFault, IsClipScript, IsFirstClipFault, IsGood, IsJournalFault, IsJournalText, IsRefusedWith, IsSomeAnd, IsValid, IsValidSo, IsVerdict, IsVerdictOn, Judged, Line, Nested, NoCommand, Refused, Run, Setup, Still, Verdict, bytes_of, calls_to_make, client_reading, clip_line_spelling, clip_names, clip_phases, clip_reading, fault_code, good_fewer, is_outside_of, journal_reading, one_configuration, one_verdict, same_read, user_actions_to_do, wanted_by, wrong_client, wrong_clip}
+use Rattle.nit_top.specs.declared.report.finish.Fault.TheVariants as fault
 use Rattle.nit_report.proofs.ForCallers.{read_and_bad as journal_and_bad}
 use Rattle.nit_audit.specs.declared.auditing.Verdict.TheVariants as verdict
 use Rattle.nit_top.proofs.SetupJudgements.{IsSameSetup, client_code, no_script_code, not_faulty, one_setup, phases_code, setup_codes, setup_not_refused}
@@ -26,7 +26,7 @@ not_yes_and_no s entries k yes_ no_ =
 -- a journal on which the verdict is yes has no fault
 journal_not_refused : (s t : Setup) (bytes : List ℕ) (f : Fault) → IsSameSetup s t → HasVerdict s bytes verdict.Yes → IsJournalFault t bytes f → ⊥
 journal_not_refused s t bytes (fault.NotARun k) same (entries, text, yes_) (more, is, no_) =
-    let one : more ≡ entries = same_read journal_reader bytes more entries is.1 text.1 in
+    let one : more ≡ entries = same_read journal_reading bytes more entries is.1 text.1 in
     not_yes_and_no s entries k yes_ (subst (λ (es : List Entry). IsVerdictOn s es (verdict.No k)) one (same_verdict s t more (verdict.No k) same no_))
 journal_not_refused s t bytes (fault.BadEntry line) same (entries, text, yes_) r = journal_and_bad bytes entries line text.1 r.1
 journal_not_refused s t bytes fault.LongJournal same (entries, text, yes_) r = let few = text.0 in absurd (omega arith)
@@ -78,7 +78,7 @@ clip_at files wanted (b ∷ before) name behind (lines ∷ clips) v = clip_at fi
 first_clip_fault_not : (files : List File) (wanted : Option ℕ) (names : List (List ℕ)) (clips : List (List ClipLine)) (name : List ℕ) (f : Fault) → AreClipScripts files wanted names clips → IsFirstClipFault files wanted names name f → ⊥
 first_clip_fault_not files wanted names clips name f v r =
     let at = clip_at files wanted r.before name r.behind clips (subst (λ (ns : List (List ℕ)). AreClipScripts files wanted ns clips) r.parts v) in
-    not_faulty clip_reader (wrong_clip wanted) (bytes_of name files) at.0 f at.1.0 at.1.1 r.fault
+    not_faulty clip_reading (wrong_clip wanted) (bytes_of name files) at.0 f at.1.0 at.1.1 r.fault
 
 -- the clip scripts of two setups with the same scripts have the same fault
 same_clip_fault : (files : List File) (s t : Setup) (name : List ℕ) (f : Fault) → IsSameSetup s t → IsFirstClipFault files (wanted_by t.scripts) (clip_names t.config) name f → IsFirstClipFault files (wanted_by s.scripts) (clip_names s.config) name f
@@ -103,7 +103,7 @@ clips_codes configuration files m n f g (inr (s, are, p)) (inr (t, are_too, q)) 
 
 -- files that make a command valid are not refused
 pub valid_not_refused : (c : Command) (files : List File) (s : Setup) (name : List ℕ) (f : Fault) → IsValid c files s → Judged c files (Refused name f) → ⊥
-valid_not_refused (Still width height script) files s name f v r = not_faulty client_reader (wrong_client None) (bytes_of script files) v.0 f v.1.0 v.1.1 r.1
+valid_not_refused (Still width height script) files s name f v r = not_faulty client_reading (wrong_client None) (bytes_of script files) v.0 f v.1.0 v.1.1 r.1
 valid_not_refused (Run beside configuration) files s name f v r = setup_not_refused configuration files s name f (v.0, v.1) r
 valid_not_refused (Gen number) files s name f v r = r
 valid_not_refused (Audit configuration journal) files s name f v r = audit_not_refused configuration journal files s name f v r

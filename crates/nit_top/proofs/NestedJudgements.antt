@@ -1,7 +1,7 @@
 -- The files of two configurations are judged in one way, and so is whether they fit together.
 use Rattle.std.proofs.Common.{◌≡◌, ℕ, List, [], ◌∷◌, ◌++◌, Option, Some, None, refl, sym, ap, subst, ◌∙◌, inl, inr, ◌⊎◌}
-use Rattle.nit_top.proofs.Basics.{AreOuterFiles, AreOuterScripts, AreSetup, Configuration, Fault, File, FitsInputLine, FitsLine, IsFirstOuterFault, IsInputFault, IsOuterFault, IsOuterInputFault, IsOuterSetupFault, IsScript, IsSetupFault, IsValid, Judged, Line, MayShowFrames, Nested, Refused, RunFiles, Setup, SpellScripts, by_turns, bytes_of, client_reader, fault_code, first_forbidden, input_reader, input_spelling, line_spelling, misfit, one_configuration, option_map, same_read, script_names, wrong_input, wrong_outer}
-use Rattle.nit_top.specs.declared.finish.Fault.TheVariants as fault
+use Rattle.nit_top.proofs.Basics.{AreOuterFiles, AreOuterScripts, AreSetup, Configuration, Fault, File, FitsInputLine, FitsLine, IsFirstOuterFault, IsInputFault, IsOuterFault, IsOuterInputFault, IsOuterSetupFault, IsScript, IsSetupFault, IsValid, Judged, Line, MayShowFrames, Nested, Refused, RunFiles, Setup, SpellScripts, by_turns, bytes_of, client_reading, fault_code, first_forbidden, input_reading, input_spelling, line_spelling, misfit, one_configuration, option_map, same_read, script_names, wrong_input, wrong_outer}
+use Rattle.nit_top.specs.declared.report.finish.Fault.TheVariants as fault
 use Rattle.nit_top.proofs.SetupJudgements.{config_code, config_not_both, input_code, no_script_code, none_some, not_faulty, one_setup, same_scripts, setup_codes, setup_not_refused, spelled_at, this_fault}
 
 -- ---- the outer files
@@ -14,7 +14,7 @@ first_outer_not : (files : List File) (names : List (List ℕ)) (scripts : List 
 first_outer_not files names scripts name f v r =
     let at = spelled_at files r.before name r.behind scripts r.scripts (subst (λ (ns : List (List ℕ)). SpellScripts files ns scripts) r.parts v.0) r.valid.0 in
     let may : MayShowFrames (r.scripts ++ at.0 ∷ at.1) = subst MayShowFrames at.2 v.1 in
-    not_faulty client_reader (wrong_outer r.scripts) (bytes_of name files) at.0 f at.3 (outer_right_at r.scripts at.0 at.1 may) r.fault
+    not_faulty client_reading (wrong_outer r.scripts) (bytes_of name files) at.0 f at.3 (outer_right_at r.scripts at.0 at.1 may) r.fault
 
 -- outer files that are valid have no fault
 outer_not_refused : (outer : List ℕ) (files : List File) (o : RunFiles) (name : List ℕ) (f : Fault) → AreOuterFiles outer files o → IsOuterSetupFault outer files name f → ⊥
@@ -23,7 +23,7 @@ outer_not_refused outer files o name f v (inr (config, is, r)) =
     let same : config ≡ o.config = one_configuration (bytes_of outer files) config o.config is.1 v.config.1 in
     elim r [
       | inl first ↦ first_outer_not files (script_names o.config) o.scripts name f v.scripts (subst (λ (k : Configuration). IsFirstOuterFault files (script_names k) name f) same first)
-      | inr inputs ↦ not_faulty input_reader (wrong_input None) (bytes_of o.config.input files) o.input f v.input.0 refl
+      | inr inputs ↦ not_faulty input_reading (wrong_input None) (bytes_of o.config.input files) o.input f v.input.0 refl
           (subst (λ (k : Configuration). IsInputFault None (bytes_of k.input files) f) same (subst (λ (n : List ℕ). IsInputFault None (bytes_of n files) f) inputs.name_is inputs.fault))
     ]
 
@@ -32,7 +32,7 @@ one_outer : (outer : List ℕ) (files : List File) (o p : RunFiles) → AreOuter
 one_outer outer files o p v w =
     let config : o.config ≡ p.config = one_configuration (bytes_of outer files) o.config p.config v.config.1 w.config.1 in
     let scripts : o.scripts ≡ p.scripts = same_scripts files (script_names o.config) o.scripts p.scripts v.scripts.0 (subst (λ (k : Configuration). SpellScripts files (script_names k) p.scripts) (sym config) w.scripts.0) in
-    let input = same_read input_reader (bytes_of o.config.input files) o.input p.input v.input.0.1 (subst (λ (k : Configuration). IsScript FitsInputLine input_spelling (bytes_of k.input files) p.input) (sym config) w.input.0).1 in
+    let input = same_read input_reading (bytes_of o.config.input files) o.input p.input v.input.0.1 (subst (λ (k : Configuration). IsScript FitsInputLine input_spelling (bytes_of k.input files) p.input) (sym config) w.input.0).1 in
     λ i. record { config = config i; scripts = scripts i; input = input i }
 
 outer_line_code : (o : Option ℕ) (f : Fault) → option_map fault.BadLine o ≡ Some f → fault_code f ≡ 6

@@ -1,8 +1,7 @@
 -- The run whose first client shows what another run has shown: that it can be run, and what it leaves.
 use Rattle.std.proofs.Common.{◌≡◌, ◌∙◌, ℕ, ◌+◌, true, false, List, [], ◌∷◌, length, Option, Some, None, refl, sym, ap, subst, inl, arith, get_or, ◌<◌, ◌≤◌}
-use Rattle.nit_top.proofs.Basics.{AllByRecursion, AreLines, AreOutputs, Entry, File, FirstShows, FitsLine, HasRun, Headline, IfSome, InputLine, IsAfterNested, IsJournal, IsOuter, IsRunnable, Line, MayShowFrames, NestModel, PutFault, PutsNext, Ran, RunFiles, Setup, ShowsNest, StoreModel, Worked, count_by, end_of_run, first_forbidden, first_other, frames_of, inner_journal_name, input_phases, is_too_long, journal_text, length-map, misfit, names_in, nest_of, nest_script, nested_setup, phase_counts, phases, put_state_of_run, puts_more, script_names, setup_of, shots, shown_first, too_long_for, unless_other, unrefused}
-use Rattle.nit_top.specs.declared.finish.Name.TheVariants as file_name
-use Rattle.nit_top.specs.InnerFrames.{is_shot_line}
+use Rattle.nit_top.proofs.Basics.{AllByRecursion, AreLines, AreOutputs, Entry, File, FirstShows, FitsLine, HasRun, Headline, IfSome, InputLine, IsAfterNested, IsJournal, IsOuter, IsRunnable, Line, MayShowFrames, NestModel, PutFault, PutsNext, Ran, RunFiles, Setup, ShowsNest, StoreModel, Worked, count_by, end_of_run, first_forbidden, first_other, frames_of, inner_journal_name, input_phases, is_shot_line, is_too_long, journal_text, length-map, misfit, names_in, nest_of, nest_script, nested_setup, phase_counts, phases, put_state_of_run, puts_more, script_names, setup_of, shots, shown_first, too_long_for, unless_other, unrefused}
+use Rattle.nit_top.specs.declared.report.finish.Name.TheVariants as file_name
 use Rattle.nit_top.proofs.InnerLemmas.{UserOnce, frames_counted}
 use Rattle.nit_top.proofs.Misfits.{all_wanted, by_length, one_wanted}
 use Rattle.nit_top.proofs.SetupLemmas.{all_so}

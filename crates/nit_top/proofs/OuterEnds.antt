@@ -1,6 +1,6 @@
 -- How the work on two configurations comes to its end while the outer files are read.
 use Rattle.std.proofs.Common.{◌≡◌, ◌∙◌, ℕ, ◌+◌, List, [], ◌∷◌, ◌++◌, length, take, None, Err, refl, sym, ap, subst, inl, inr, append_assoc, arith}
-use Rattle.nit_top.proofs.Basics.{AreAllOuterFiles, AreOuterFiles, AreOuterScripts, Command, Configuration, FirstFiles, HasReadOuter, IfSome, InputLine, IsConfig, IsConfigFault, IsConfiguration, IsInputFault, IsInputScript, IsOuter, IsOuterFault, Judged, Line, Nested, NoFile, OuterSoFar, OuterStopped, ReadOuter, Refused, SpellScripts, Stop, StoppedAt, StoreModel, Worked, asking_all, bytes_of, files_of, first_names, name_text, names_in, script_names, slice_get, take_all, with_asked}
+use Rattle.nit_top.proofs.Basics.{AreAllOuterFiles, AreOuterFiles, AreOuterScripts, Command, Configuration, FirstFiles, HasReadOuter, IfSome, InputLine, IsConfig, IsConfigFault, IsConfiguration, IsInputFault, IsInputScript, IsOuter, IsOuterFault, Judged, Line, Nested, NoFile, OuterSoFar, OuterStopped, ReadOuter, Refused, SpellScripts, Stop, StoppedAt, StoreModel, Worked, asking_all, bytes_of, first_names, name_text, names_in, run_files, script_names, slice_get, take_all, with_asked}
 use Rattle.nit_top.specs.Work.{Ends}
 use Rattle.nit_top.proofs.AskedNames.{asking_both, asking_more, asking_none}
 use Rattle.nit_top.proofs.Scripts.{told_so, told_so_both}
@@ -75,11 +75,11 @@ module _ (outer inner : List ℕ) (first : StoreModel) where
       outer_asked : (now : StoreModel) → now ≡ with_asked mid config.input → now ≡ asking_all first (outer ∷ names_in config)
       outer_asked now read = read ∙ ap (λ (s : StoreModel). with_asked s config.input) asked_now ∙ asking_more first (outer ∷ script_names config) config.input
 
-      outer_files : (lines : List InputLine) → IfSome mid.files (λ files. IsInputScript None (bytes_of config.input files) lines) → IsOuter (files_of config scripts lines) → AreAllOuterFiles outer first.files (files_of config scripts lines)
+      outer_files : (lines : List InputLine) → IfSome mid.files (λ files. IsInputScript None (bytes_of config.input files) lines) → IsOuter (run_files config scripts lines) → AreAllOuterFiles outer first.files (run_files config scripts lines)
       outer_files lines valid is_outer = record {
         is_outer = is_outer;
         valid =
-            told_so_both (λ files. IsConfig (bytes_of outer files) config × AreOuterScripts files (script_names config) scripts) (λ files. IsInputScript None (bytes_of config.input files) lines) (λ files. AreOuterFiles outer files (files_of config scripts lines)) first.files
+            told_so_both (λ files. IsConfig (bytes_of outer files) config × AreOuterScripts files (script_names config) scripts) (λ files. IsInputScript None (bytes_of config.input files) lines) (λ files. AreOuterFiles outer files (run_files config scripts lines)) first.files
             (λ files v q. record { config = v.0; scripts = v.1; input = q }) (valid_too (script_names config) scripts valid_scripts)
             (subst (λ (s : StoreModel). IfSome s.files (λ files. IsInputScript None (bytes_of config.input files) lines)) asked_now valid);
       }
@@ -89,6 +89,6 @@ module _ (outer inner : List ℕ) (first : StoreModel) where
     outer_not_read old start new stop w (inr s) at none = outer_input_stopped old s.between start s.scripts s.clients new stop w s.name_is s.stopped at none
 
     -- what was read, where all outer files are valid
-    pub outer_read : (old : StoreModel) → old ≡ with_asked first outer → (scripts : List (List Line)) (lines : List InputLine) (now : StoreModel) → HasReadOuter config old scripts lines now → IsOuter (files_of config scripts lines)
-        → (now ≡ asking_all first (outer ∷ names_in config)) × AreAllOuterFiles outer first.files (files_of config scripts lines)
+    pub outer_read : (old : StoreModel) → old ≡ with_asked first outer → (scripts : List (List Line)) (lines : List InputLine) (now : StoreModel) → HasReadOuter config old scripts lines now → IsOuter (run_files config scripts lines)
+        → (now ≡ asking_all first (outer ∷ names_in config)) × AreAllOuterFiles outer first.files (run_files config scripts lines)
     outer_read old start scripts lines now h is_outer = (outer_asked old h.between start scripts h.clients now h.asked, outer_files old h.between start scripts h.clients lines h.valid is_outer)

@@ -166,12 +166,12 @@ last_is more parts config entries journal size out text same sized ended shown b
 true_false : true ≡ false → ⊥
 true_false e = cc
 
-pub beside_leaves : (parts : OpeningParts) (known known' : List Entry) (first new : StoreModel) (at final : PutState) (text : List ℕ) (journal : List Entry) (ran : Ran)
+pub beside_leaves : (parts : OpeningParts) (known known' : List Entry) (first new : StoreModel) (at final : PutState) (journal : List Entry) (ran : Ran)
     → known ≡ [] → PutsShotsBehind parts known known' (unrefused first) at → IsKnownWhole known' journal → IsLegal parts.config journal
-    → IsWhole (map calls_to_make parts.scripts) (user_actions_to_do parts.input) journal → text ≡ final_picture (setup_in parts) journal
-    → PutsNext (final_name, text) at final → PutsAll (events_files parts.config journal ++ journal_file journal ∷ []) final (put_state_of_run new ran.fault)
+    → IsWhole (map calls_to_make parts.scripts) (user_actions_to_do parts.input) journal
+    → PutsNext (final_name, final_picture (setup_in parts) journal) at final → PutsAll (events_files parts.config journal ++ journal_file journal ∷ []) final (put_state_of_run new ran.fault)
     → ran.journal.items ≡ journal → ran.frames ≡ shots journal + 1 → HasRun first (setup_in parts) new ran
-beside_leaves parts known known' first new at final text journal ran none puts (rest, front, quiet) legal whole bytes last texts is frames =
+beside_leaves parts known known' first new at final journal ran none puts (rest, front, quiet) legal whole last texts is frames =
     let s = setup_in parts in
     let outputs = puts.files ++ (final_name, final_picture s journal) ∷ text_files s journal in
     record {
@@ -180,7 +180,7 @@ beside_leaves parts known known' first new at final text journal ran none puts (
       outputs = outputs;
       are = subst (λ (es : List Entry). AreOutputs s es outputs) (sym is) (puts.files, record { by_rounds = λ alone. absurd (true_false alone); beside = λ together. near }, refl);
       puts = puts_both puts.files ((final_name, final_picture s journal) ∷ text_files s journal) (unrefused first) at (put_state_of_run new ran.fault) puts.put
-          (final, subst (λ (b : List ℕ). PutsNext (final_name, b) at final) bytes last, texts);
+          (final, last, texts);
     }
   where
     Pic : List Entry → List ℕ → Type 0

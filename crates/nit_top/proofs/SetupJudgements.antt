@@ -1,9 +1,9 @@
 -- The files of one configuration are judged in one way.
+use Rattle.nit_top.proofs.Basics.{AllByRecursion, AreRead, AreScripts, AreSetup, Configuration, Fault, File, FitsInputLine, FitsLine, HasOneReading, HaveSamePhases, IsClientFault, IsConfig, IsConfigFault, IsFaulty, IsFirstFault, IsInputFault, IsInputsFault, IsNoScript, IsScript, IsSetupFault, Line, Setup, SpellScripts, bytes_of, cases_Bool, client_reading, fault_code, input_phases, input_reading, input_spelling, line_spelling, nat_tests, one_configuration, phases, read_and_bad, read_and_long, same_read, script_names, wanted_by, wrong_client, wrong_input, wrong_phases}
 use Rattle.std.proofs.Common.{◌≡◌, ℕ, true, List, [], ◌∷◌, ◌++◌, Option, Some, None, refl, sym, ap, subst, ◌∙◌, arith, inl, inr, ◌⊎◌}
 use Rattle.std.specs.Prelude.{◌==◌}
-use Rattle.nit_top.proofs.Basics.{AllByRecursion, AreRead, AreScripts, AreSetup, Configuration, Fault, File, FitsInputLine, FitsLine, HaveSamePhases, IsClientFault, IsConfig, IsConfigFault, IsFaulty, IsFirstFault, IsInputFault, IsInputsFault, IsNoScript, IsReader, IsScript, IsSetupFault, Line, Setup, SpellScripts, bytes_of, cases_Bool, client_reader, fault_code, input_phases, input_reader, input_spelling, line_spelling, nat_tests, one_configuration, phases, read_and_bad, read_and_long, same_read, script_names, wanted_by, wrong_client, wrong_input, wrong_phases}
 use Rattle.nit_config.proofs.ForCallers.{not_both}
-use Rattle.nit_top.specs.declared.finish.Fault.TheVariants as fault
+use Rattle.nit_top.specs.declared.report.finish.Fault.TheVariants as fault
 
 -- ---- a configuration
 
@@ -37,19 +37,19 @@ some_none f e = cc
 pub none_some : (f : Fault) → None ≡ Some f → ⊥
 none_some f e = cc
 
-pub not_faulty : {L : Type 0} {Fits : L → Type 0} {spelling : L → List ℕ} {at : List ℕ → Option (L × List ℕ)} → IsReader Fits spelling at → (wrong : List L → Option Fault) (bytes : List ℕ) (lines : List L) (f : Fault)
+pub not_faulty : {L : Type 0} {Fits : L → Type 0} {spelling : L → List ℕ} → HasOneReading Fits spelling → (wrong : List L → Option Fault) (bytes : List ℕ) (lines : List L) (f : Fault)
     → IsScript Fits spelling bytes lines → wrong lines ≡ None → IsFaulty Fits spelling wrong bytes f → ⊥
-not_faulty reader wrong bytes lines (fault.BadLine n) v right (inl r) = read_and_bad reader bytes lines n v.1 r.1
-not_faulty reader wrong bytes lines fault.TooLong v right (inl (inl more)) = let few = v.0 in absurd (omega arith)
-not_faulty reader wrong bytes lines fault.TooLong v right (inl (inr long)) = read_and_long reader bytes lines v.1 v.2 long
-not_faulty reader wrong bytes lines (fault.BadConfig e) v right (inl r) = r
-not_faulty reader wrong bytes lines fault.LongConfig v right (inl r) = r
-not_faulty reader wrong bytes lines fault.PhasesDiffer v right (inl r) = r
-not_faulty reader wrong bytes lines fault.LongJournal v right (inl r) = r
-not_faulty reader wrong bytes lines (fault.BadEntry n) v right (inl r) = r
-not_faulty reader wrong bytes lines (fault.NotARun n) v right (inl r) = r
-not_faulty reader wrong bytes lines fault.FramesTooLong v right (inl r) = r
-not_faulty reader wrong bytes lines f v right (inr (more, is, w)) = some_none f (sym w ∙ ap wrong (sym (same_read reader bytes lines more v.1 is.1)) ∙ right)
+not_faulty one wrong bytes lines (fault.BadLine n) v right (inl r) = read_and_bad one bytes lines n v.1 r.1
+not_faulty one wrong bytes lines fault.TooLong v right (inl (inl more)) = let few = v.0 in absurd (omega arith)
+not_faulty one wrong bytes lines fault.TooLong v right (inl (inr long)) = read_and_long one bytes lines v.1 v.2 long
+not_faulty one wrong bytes lines (fault.BadConfig e) v right (inl r) = r
+not_faulty one wrong bytes lines fault.LongConfig v right (inl r) = r
+not_faulty one wrong bytes lines fault.PhasesDiffer v right (inl r) = r
+not_faulty one wrong bytes lines fault.LongJournal v right (inl r) = r
+not_faulty one wrong bytes lines (fault.BadEntry n) v right (inl r) = r
+not_faulty one wrong bytes lines (fault.NotARun n) v right (inl r) = r
+not_faulty one wrong bytes lines fault.FramesTooLong v right (inl r) = r
+not_faulty one wrong bytes lines f v right (inr (more, is, w)) = some_none f (sym w ∙ ap wrong (sym (same_read one bytes lines more v.1 is.1)) ∙ right)
 
 pub no_script_code : {L : Type 0} (Fits : L → Type 0) (spelling : L → List ℕ) (bytes : List ℕ) (f : Fault) → IsNoScript Fits spelling bytes f → fault_code f ≡ 6
 no_script_code Fits spelling bytes (fault.BadConfig e) r = absurd r
@@ -91,7 +91,7 @@ spelled_at files [] name behind (lines ∷ more) (x ∷ some) v w = absurd w
 spelled_at files (b ∷ before) name behind [] some v w = absurd v
 spelled_at files (b ∷ before) name behind (lines ∷ all) [] v w = absurd w
 spelled_at files (b ∷ before) name behind (lines ∷ all) (x ∷ some) v w =
-    let same : lines ≡ x = same_read client_reader (bytes_of b files) lines x v.0.1 w.0.1 in
+    let same : lines ≡ x = same_read client_reading (bytes_of b files) lines x v.0.1 w.0.1 in
     let rest = spelled_at files before name behind all some v.1 w.1 in
     (rest.0, rest.1, ap (λ (l : List Line). l ∷ all) same ∙ ap (λ (ls : List (List Line)). x ∷ ls) rest.2, rest.3)
 
@@ -102,7 +102,7 @@ same_scripts files [] [] (y ∷ b) v w = absurd w
 same_scripts files (n ∷ names) [] b v w = absurd v
 same_scripts files (n ∷ names) (x ∷ a) [] v w = absurd w
 same_scripts files (n ∷ names) (x ∷ a) (y ∷ b) v w =
-    let first : x ≡ y = same_read client_reader (bytes_of n files) x y v.0.1 w.0.1 in
+    let first : x ≡ y = same_read client_reading (bytes_of n files) x y v.0.1 w.0.1 in
     let rest : a ≡ b = same_scripts files names a b v.1 w.1 in
     λ i. first i ∷ rest i
 
@@ -125,14 +125,14 @@ first_fault_not : (files : List File) (names : List (List ℕ)) (scripts : List 
 first_fault_not files names scripts name f v r =
     let at = spelled_at files r.before name r.behind scripts r.scripts (subst (λ (ns : List (List ℕ)). SpellScripts files ns scripts) r.parts v.0) r.valid.0 in
     let same : HaveSamePhases (r.scripts ++ at.0 ∷ at.1) = subst HaveSamePhases at.2 v.1 in
-    not_faulty client_reader (wrong_client (wanted_by r.scripts)) (bytes_of name files) at.0 f at.3 (right_at r.scripts at.0 at.1 same) r.fault
+    not_faulty client_reading (wrong_client (wanted_by r.scripts)) (bytes_of name files) at.0 f at.3 (right_at r.scripts at.0 at.1 same) r.fault
 
 inputs_fault_not : (files : List File) (s : Setup) (name : List ℕ) (f : Fault) → AreRead files s → IsInputsFault files s.config name f → ⊥
 inputs_fault_not files s name f v r =
     let same : r.scripts ≡ s.scripts = same_scripts files (script_names s.config) r.scripts s.scripts r.valid.0 v.scripts.0 in
     let wrong : IsInputFault (wanted_by s.scripts) (bytes_of s.config.input files) f =
     subst (λ (ss : List (List Line)). IsInputFault (wanted_by ss) (bytes_of s.config.input files) f) same (subst (λ (n : List ℕ). IsInputFault (wanted_by r.scripts) (bytes_of n files) f) r.name_is r.fault) in
-    not_faulty input_reader (wrong_input (wanted_by s.scripts)) (bytes_of s.config.input files) s.input f v.input.0 v.input.1 wrong
+    not_faulty input_reading (wrong_input (wanted_by s.scripts)) (bytes_of s.config.input files) s.input f v.input.0 v.input.1 wrong
 
 -- ---- a setup
 
@@ -155,7 +155,7 @@ one_setup configuration files s t v w =
     let config : s.config ≡ t.config = one_configuration (bytes_of configuration files) s.config t.config v.0.1 w.0.1 in
     let there : SpellScripts files (script_names s.config) t.scripts = subst (λ (k : Configuration). SpellScripts files (script_names k) t.scripts) (sym config) w.1.scripts.0 in
     let other : IsScript FitsInputLine input_spelling (bytes_of s.config.input files) t.input = subst (λ (k : Configuration). IsScript FitsInputLine input_spelling (bytes_of k.input files) t.input) (sym config) w.1.input.0 in
-    (config, same_scripts files (script_names s.config) s.scripts t.scripts v.1.scripts.0 there, same_read input_reader (bytes_of s.config.input files) s.input t.input v.1.input.0.1 other.1)
+    (config, same_scripts files (script_names s.config) s.scripts t.scripts v.1.scripts.0 there, same_read input_reading (bytes_of s.config.input files) s.input t.input v.1.input.0.1 other.1)
 
 script_code : (files : List File) (config : Configuration) (name : List ℕ) (f : Fault) → IsFirstFault files (script_names config) name f ⊎ IsInputsFault files config name f → fault_code f ≡ 6
 script_code files config name f (inl r) = client_code (wanted_by r.scripts) (bytes_of name files) f r.fault

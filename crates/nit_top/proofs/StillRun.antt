@@ -71,16 +71,16 @@ OneClient = (config : Configuration) (script : List Line) (lines : List InputLin
 abbrev pub IdleDoes : Type 0
 IdleDoes = (lines : List Line) → user_actions_to_do (idle_user lines) ≡ []
 
-pub alone_leaves : OneClient → IdleDoes → UserOnce → (config : Configuration) (scripts : List (List Line)) (lines : List InputLine) (first new : StoreModel) (text : List ℕ) (journal : List Entry) (ran : Ran) → IsAlone scripts lines → length config.clients ≡ 1 → IsLegal config journal
-    → IsWhole (map calls_to_make scripts) (user_actions_to_do lines) journal → text ≡ final_picture (setup_of config scripts lines false false) journal → PutsNext (final_name, text) (unrefused first) (put_state_of_run new ran.fault) → ran.journal.items ≡ journal → ran.frames ≡ shots journal + 1
+pub alone_leaves : OneClient → IdleDoes → UserOnce → (config : Configuration) (scripts : List (List Line)) (lines : List InputLine) (first new : StoreModel) (journal : List Entry) (ran : Ran) → IsAlone scripts lines → length config.clients ≡ 1 → IsLegal config journal
+    → IsWhole (map calls_to_make scripts) (user_actions_to_do lines) journal → PutsNext (final_name, final_picture (setup_of config scripts lines false false) journal) (unrefused first) (put_state_of_run new ran.fault) → ran.journal.items ≡ journal → ran.frames ≡ shots journal + 1
     → HasRun first (setup_of config scripts lines false false) new ran
-alone_leaves one_client idle once config scripts lines first new text journal ran (script, are, quiet) one legal whole bytes puts is frames =
+alone_leaves one_client idle once config scripts lines first new journal ran (script, are, quiet) one legal whole puts is frames =
     record {
       journal = subst (λ (es : List Entry). IsJournal s es) (sym is) (record { legal = legal; whole = whole; rounds = λ together. by_rounds });
       frames = frames ∙ ap (λ (es : List Entry). shots es + 1) (sym is);
       outputs = outputs;
       are = subst (λ (es : List Entry). AreOutputs s es outputs) (sym is) ([], record { by_rounds = λ together. sym (ap (map shot_file) no_shots); beside = λ together. absurd (false_true together) }, refl);
-      puts = (put_state_of_run new ran.fault, subst (λ (b : List ℕ). PutsNext (final_name, b) (unrefused first) (put_state_of_run new ran.fault)) bytes puts, refl);
+      puts = (put_state_of_run new ran.fault, puts, refl);
     }
   where
     false_true : false ≡ true → ⊥

@@ -1,7 +1,7 @@
 -- What the words ask for, as the code has it.
 use Rattle.std.specs.Prelude.{◌^◌, ◌<◌, ◌≤◌, true, false}
-use Rattle.nit_top.specs.declared.words.Asked.{Asked}
-use Rattle.nit_top.specs.declared.words.Asked.TheVariants as asked
+use Rattle.nit_top.specs.declared.command.words.Asked.{Asked}
+use Rattle.nit_top.specs.declared.command.words.Asked.TheVariants as asked
 use Rattle.nit_top.specs.Command.{Command, Still, Run, Gen, Audit, Clip, Capture, Nested}
 use Rattle.nit_top.specs.Region.{IsRegionWords}
 use Rattle.nit_top.specs.Below.{most_height, most_width}

@@ -5,7 +5,7 @@ pub use Rattle.nit_actor.specs.IdleUser.{StepTogether, idle_user}
 pub use Rattle.nit_actor.specs.Pictures.{AreNearShots, IsNearPicture, PutsShotsBehind}
 pub use Rattle.nit_actor.specs.Role.{Role, UserRole, role_of, user_role_of}
 pub use Rattle.nit_actor.specs.Rounds.{rounds}
-pub use Rattle.nit_actor.specs.RoundsRun.{IsRoundsRun, IsSetUp, glass_after, refusal_at, shot_name}
+pub use Rattle.nit_actor.specs.RoundsRun.{IsRoundsRun, IsSetUp, final_name, glass_after, picture_name, put_state_of_desk, shot_name}
 pub use Rattle.nit_actor.specs.ShotFrames.{ShotFrame, ShowsEach, shot_file}
 pub use Rattle.nit_actor.specs.Shots.{AreShotsOf, IsDrawnPicture, ShotsBehind, drawn_by_shot}
 pub use Rattle.nit_actor.specs.Turn.{ActorLine, ByClient, ByUser, LineTurn}
@@ -23,7 +23,6 @@ pub use Rattle.nit_clip.specs.ClipSpelling.{FitsClipLine, clip_line_spelling, cl
 pub use Rattle.nit_clip.specs.LegalClips.{IsLegalClips, before_final}
 pub use Rattle.nit_clip.specs.WholeClips.{IsWholeClips, clips_to_make}
 pub use Rattle.nit_clip.specs.declared.call.ClipEntry.{ClipEntry}
-pub use Rattle.nit_clip.specs.declared.error.ClipError.{ClipError}
 pub use Rattle.nit_clip.specs.declared.line.ClipLine.{ClipLine}
 pub use Rattle.nit_config.specs.Configuration.{Configuration, bar_rows, donation_of, member, still_configuration}
 pub use Rattle.nit_config.specs.ConfigurationRanges.{IsConfiguration}
@@ -81,7 +80,7 @@ pub use Rattle.nit_rect.specs.Limits.{most_height, most_width, most_words}
 pub use Rattle.nit_rect.specs.Rectangle.{Rectangle, is_place, is_rectangle, rectangle, spans}
 pub use Rattle.nit_rect.specs.declared.point.Point.{Point}
 pub use Rattle.nit_report.specs.EventsText.{events_text, taken}
-pub use Rattle.nit_report.specs.Generator.{client_script, client_text, config_text, generated, generated_configuration, is_call, is_device, script_name, user_script, user_text}
+pub use Rattle.nit_report.specs.Generator.{client_script, client_text, config_text, generated, generated_configuration, is_call, is_device, is_shot_line, script_name, user_script, user_text}
 pub use Rattle.nit_report.specs.JournalText.{FitsDelivery, FitsEntry, FitsEvent, FitsItem, FitsReply, IsFirstBadEntry, ReadsJournal, journal_text}
 pub use Rattle.nit_report.specs.Picture.{picture, picture_header, picture_length}
 pub use Rattle.nit_report.specs.declared.error.JournalError.{JournalError}
@@ -89,8 +88,8 @@ pub use Rattle.nit_report.specs.declared.events.Ending.{Ending}
 pub use Rattle.nit_scene.specs.RawWords.{Painted, glass_in, pixel_count, source_at}
 pub use Rattle.nit_scene.specs.Scene.{SceneModel, scenery_of, state_now}
 pub use Rattle.nit_scene.specs.Screen.{IsGlass}
-pub use Rattle.nit_script.specs.Grammar.{IsFirstBad, IsTooLong, Reads, ReadsClient, ReadsInput, most_lines}
-pub use Rattle.nit_script.specs.Phases.{input_phases, is_input_phase, is_phase, phases}
+pub use Rattle.nit_script.specs.Grammar.{HasOneReading, IsFirstBad, IsTooLong, Reads, ReadsClient, ReadsInput, most_lines}
+pub use Rattle.nit_script.specs.Phases.{input_phases, is_input_phase, is_phase, phases, phases_by}
 pub use Rattle.nit_script.specs.Spelling.{FitsCall, FitsDevice, FitsInputLine, FitsLine, input_spelling, line_spelling}
 pub use Rattle.nit_script.specs.declared.error.ScriptError.{ScriptError}
 pub use Rattle.nit_script.specs.declared.line.InputLine.{InputLine}
@@ -107,7 +106,7 @@ pub use Rattle.std.specs.Fmt.{decimal}
 pub use Rattle.std.specs.Global.{Global}
 pub use Rattle.std.specs.List.{AllByRecursion, AllZip, flat_map, list_all, list_any, range_with_len, sum_by}
 pub use Rattle.std.specs.Option.{is_some}
-pub use Rattle.std.specs.Prelude.{All, Contains, IfNone, IfOk, IfSome, IsSomeAnd, IsTrue, Vec, codes, cond, count_by, drop, filter, find, fold, nat_lt, negsuc, option_map, pos, slice_get, slice_index, slice_index_or, sum, unwrap_or, vec_len, ℤ}
+pub use Rattle.std.specs.Prelude.{All, Contains, IfNone, IfOk, IfSome, IsSomeAnd, IsTrue, Vec, codes, cond, count_by, drop, false, filter, find, fold, nat_lt, negsuc, option_map, pos, slice_get, slice_index, slice_index_or, sum, true, unwrap_or, vec_len, ℤ}
 pub use Rattle.std.specs.Str.{IsAscii, IsUtf8, bytes_eq}
 pub use Rattle.std.specs.String.{string_bytes}
 pub use Rattle.std.specs.Vec.Iter.{into_iter_items}

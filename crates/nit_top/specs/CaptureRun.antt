@@ -3,12 +3,12 @@ use Rattle.std.specs.Prelude.{◌≡◌, ◌⊎◌, ℕ, ◌+◌, List, [], ◌�
 use Rattle.nit_rect.specs.declared.memory.NoMemory.{NoMemory}
 use Rattle.nit_top.specs.Below.{CaptureModel, Configuration, Entry, File, PutsAll, StoreModel, first_capture, shots, unrefused}
 use Rattle.nit_top.specs.Region.{rectangle_of}
-use Rattle.nit_top.specs.declared.finish.End.TheVariants as end
-use Rattle.nit_top.specs.declared.finish.Name.TheVariants as name
-use Rattle.nit_top.specs.declared.finish.Worked.{Worked}
-use Rattle.nit_top.specs.declared.region.Region.{Region}
-use Rattle.nit_top.specs.declared.run.PutFault.{PutFault}
-use Rattle.nit_top.specs.declared.run.Ran.{Ran}
+use Rattle.nit_top.specs.declared.report.finish.End.TheVariants as end
+use Rattle.nit_top.specs.declared.report.finish.Name.TheVariants as name
+use Rattle.nit_top.specs.declared.report.finish.Worked.{Worked}
+use Rattle.nit_top.specs.declared.command.region.Region.{Region}
+use Rattle.nit_top.specs.declared.report.ran.PutFault.{PutFault}
+use Rattle.nit_top.specs.declared.report.ran.Ran.{Ran}
 use Rattle.nit_top.specs.Setup.{Setup}
 use Rattle.nit_top.specs.Outputs.{IsJournal, AreOutputs}
 use Rattle.nit_top.specs.RunFilm.{film_name, film_of, pictures_in}

@@ -2,8 +2,8 @@
 use Rattle.std.specs.Prelude.{◌≡◌, ℕ, ◌*◌, ◌≤◌, true, List, [], All, length, map, Result, IfOk, Vec, vec_capacity, vec_len}
 use Rattle.nit_top.specs.Below.{ClipEntry, ClipLine, Configuration, Entry, Global, InputLine, IsPairIn, Line, OpeningParts, Pair, RoomModel, UserPassModel, clip_text, picture_length}
 use Rattle.nit_rect.specs.declared.memory.NoMemory.{NoMemory}
-use Rattle.nit_top.specs.declared.clip_run.ClipMemory.{ClipMemory}
-use Rattle.nit_top.specs.declared.pairs.Paired.{Paired}
+use Rattle.nit_top.specs.declared.setup.memory.ClipMemory.{ClipMemory}
+use Rattle.nit_top.specs.declared.setup.pairs.Paired.{Paired}
 use Rattle.nit_top.specs.Setup.{Setup}
 use Rattle.nit_top.specs.RunClips.{IsClipList}
 use Rattle.nit_top.specs.RoomRun.{IsReady}

@@ -1,31 +1,22 @@
 -- What the parts of the work of a run with clip scripts leave.
 use Rattle.std.specs.Prelude.{◌≡◌, ◌⊎◌, ℕ, ◌+◌, ◌≤◌, true, List, [], ◌∷◌, ◌++◌, length, map, Option, None, Result, Ok, Err, IfSome, Vec}
-use Rattle.nit_top.specs.Below.{AllByRecursion, ClipError, ClipLine, Configuration, Entry, File, Global, PutsAll, StoreModel, shots, unrefused}
-use Rattle.nit_clip.specs.declared.error.ClipError.TheVariants as clip
+use Rattle.nit_top.specs.Below.{AllByRecursion, ClipLine, Configuration, Entry, File, Global, PutsAll, StoreModel, shots, unrefused}
 use Rattle.nit_rect.specs.declared.memory.NoMemory.{NoMemory}
-use Rattle.nit_top.specs.declared.finish.Name.TheVariants as name
-use Rattle.nit_top.specs.declared.finish.Worked.{Worked}
-use Rattle.nit_top.specs.declared.perform.Scripts.{Scripts}
-use Rattle.nit_top.specs.declared.run.PutFault.{PutFault}
-use Rattle.nit_top.specs.declared.run.Ran.{Ran}
+use Rattle.nit_top.specs.declared.report.finish.Name.TheVariants as name
+use Rattle.nit_top.specs.declared.report.finish.Worked.{Worked}
+use Rattle.nit_top.specs.declared.setup.scripts.Scripts.{Scripts}
+use Rattle.nit_top.specs.declared.report.ran.PutFault.{PutFault}
+use Rattle.nit_top.specs.declared.report.ran.Ran.{Ran}
 use Rattle.nit_top.specs.Setup.{Setup}
 use Rattle.nit_top.specs.Outputs.{IsJournal, AreOutputs}
 use Rattle.nit_top.specs.RunClips.{IsClipFile}
 use Rattle.nit_top.specs.Headline.{Headline}
-use Rattle.nit_top.specs.declared.finish.End.{End}
-use Rattle.nit_top.specs.declared.finish.End.TheVariants as end
-use Rattle.nit_top.specs.declared.finish.Fault.TheVariants as fault
-use Rattle.nit_top.specs.declared.finish.Stop.{Stop}
+use Rattle.nit_top.specs.declared.report.finish.End.TheVariants as end
+use Rattle.nit_top.specs.declared.report.finish.Stop.{Stop}
 use Rattle.nit_top.specs.Judgement.{AreClipScripts, IsClipFault, clip_name, wrong_clip}
 use Rattle.nit_top.specs.ProgramLines.{name_text}
 use Rattle.nit_top.specs.Work.{StoppedAt, asking_all, end_of_run, put_state_of_run}
 use Rattle.nit_top.specs.ClipRoom.{clips_setup}
-
--- how the work ends where bytes are no clip script
-abbrev pub end_of_clip_script : ClipError → End
-end_of_clip_script (clip.Bad number) = end.Refused (fault.BadLine number)
-end_of_clip_script clip.TooLong = end.Refused fault.TooLong
-end_of_clip_script clip.NoMemory = end.NoMemory
 
 -- The clip scripts of these scripts' names were read, and are valid.
 pub record AreClipsRead (wanted : Option ℕ) (old : StoreModel) (scripts : List (List ℕ))

@@ -1,7 +1,7 @@
 -- What the words of the command line ask for.
 use Rattle.std.specs.Prelude.{ℕ, ◌^◌, Bool, true, false, List, [], ◌∷◌, map, find, codes, Option, Some, None, String, if◌then◌else◌}
 use Rattle.nit_top.specs.Below.{bytes_eq, decimal, most_height, most_width, range_with_len, string_bytes}
-use Rattle.nit_top.specs.declared.region.Region.{Region}
+use Rattle.nit_top.specs.declared.command.region.Region.{Region}
 
 -- the words as lists of bytes
 abbrev pub texts : {Z : Type 0} → List (String Z) → List (List ℕ)

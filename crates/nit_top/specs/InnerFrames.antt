@@ -1,8 +1,7 @@
 -- A server within a client: what a run by turns shows, as frames, and the setup of a run whose first
 -- client's script shows these frames.
-use Rattle.std.specs.Prelude.{ℕ, Bool, true, false, List, [], ◌∷◌, ◌++◌, map, Some}
-use Rattle.nit_top.specs.Below.{CanPay, InputLine, Line, NestModel, ShowsFrames, drawn, frame_of, nest_script, rounds, shot_frames_of}
-use Rattle.nit_script.specs.declared.line.InputLine.TheVariants as input
+use Rattle.std.specs.Prelude.{ℕ, true, List, [], ◌∷◌, ◌++◌, map, Some}
+use Rattle.nit_top.specs.Below.{CanPay, Line, NestModel, ShowsFrames, drawn, frame_of, nest_script, rounds, shot_frames_of}
 use Rattle.nit_top.specs.Setup.{RunFiles, Setup}
 use Rattle.nit_top.specs.Outputs.{raw_word, tables_left}
 
@@ -18,11 +17,6 @@ last_frame i =
 abbrev pub frames_of : RunFiles → List (List ℕ)
 frames_of i =
     map (λ f. f.words) (shot_frames_of i.config i.scripts i.input) ++ last_frame i ∷ []
-
--- the line of an input script takes a shot
-abbrev pub is_shot_line : InputLine → Bool
-is_shot_line input.Shot = true
-is_shot_line other = false
 
 -- with the size of their screen
 abbrev pub nest_of : RunFiles → NestModel

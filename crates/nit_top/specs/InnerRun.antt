@@ -2,10 +2,10 @@
 use Rattle.std.specs.Prelude.{◌≡◌, ◌⊎◌, ℕ, ◌*◌, ◌++◌, ◌∷◌, [], false, true, List, length, Option, Some, None, Result, Ok, Err}
 use Rattle.nit_top.specs.Below.{Configuration, InputLine, Line, NestError, NestModel, TooLong, frame_answer, nest_script}
 use Rattle.nit_nested.specs.declared.error.NestError.TheVariants.{NoMemory}
-use Rattle.nit_top.specs.declared.finish.End.{End}
-use Rattle.nit_top.specs.declared.finish.End.TheVariants as end
-use Rattle.nit_top.specs.declared.finish.Fault.TheVariants as fault
-use Rattle.nit_top.specs.declared.inner.Inner.{Inner}
+use Rattle.nit_top.specs.declared.report.finish.End.{End}
+use Rattle.nit_top.specs.declared.report.finish.End.TheVariants as end
+use Rattle.nit_top.specs.declared.report.finish.Fault.TheVariants as fault
+use Rattle.nit_top.specs.declared.run.inner.Inner.{Inner}
 use Rattle.nit_top.specs.Setup.{RunFiles, by_turns}
 use Rattle.nit_top.specs.InnerFrames.{ShowsNest, nest_of}
 use Rattle.nit_top.specs.Judgement.{is_too_long}
@@ -37,9 +37,9 @@ TakesAll [] old now = now ≡ old
 TakesAll (words ∷ rest) old now =
     (mid : NestState) × TakesNext words old mid × TakesAll rest mid now
 
--- the files of a run
-abbrev pub files_of : Configuration → List (List Line) → List InputLine → RunFiles
-files_of config scripts input = record { config = config; scripts = scripts; input = input }
+-- what a run is made of, as its files
+abbrev pub run_files : Configuration → List (List Line) → List InputLine → RunFiles
+run_files config scripts input = record { config = config; scripts = scripts; input = input }
 
 -- a refusal of a frame, or of a script that fits but for its length
 abbrev pub MayCome : NestError → Type 0

@@ -2,8 +2,8 @@
 use Rattle.std.specs.Prelude.{ℕ, ◌^◌, ◌<◌, ◌≤◌, List, length}
 use Rattle.nit_top.specs.Below.{Entry, IsFirstBadEntry, IsGood, IsVerdict, ReadsJournal, Verdict}
 use Rattle.nit_audit.specs.declared.auditing.Verdict.TheVariants as verdict
-use Rattle.nit_top.specs.declared.finish.Fault.{Fault}
-use Rattle.nit_top.specs.declared.finish.Fault.TheVariants as fault
+use Rattle.nit_top.specs.declared.report.finish.Fault.{Fault}
+use Rattle.nit_top.specs.declared.report.finish.Fault.TheVariants as fault
 use Rattle.nit_top.specs.Setup.{Setup}
 
 -- at most 2^27 bytes that spell these entries

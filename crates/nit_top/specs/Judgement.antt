@@ -1,10 +1,10 @@
 -- What the files make of the command that names them. They are judged one by one, in the order in
 -- which they are read.
 use Rattle.std.specs.Prelude.{◌≡◌, ◌⊎◌, ℕ, ◌+◌, ◌<◌, ◌≤◌, ◌==◌, nat_lt, Bool, true, false, List, [], ◌∷◌, ◌++◌, length, map, codes, Option, Some, None, option_map, if◌then◌else◌}
-use Rattle.nit_top.specs.Below.{AllZip, ClipLine, Configuration, File, FitsClipLine, FitsInputLine, FitsLine, InputLine, IsConfigurationOf, IsFirstBad, IsTooLong, Line, NestModel, Reads, bytes_of, clip_line_spelling, clip_phases, count_lines, first_forbidden, input_phases, input_spelling, line_spelling, lines_of_frames, most_lines, phases}
+use Rattle.nit_top.specs.Below.{AllZip, ClipLine, Configuration, File, FitsClipLine, FitsInputLine, FitsLine, InputLine, IsConfigurationOf, IsFirstBad, IsTooLong, Line, NestModel, Reads, bytes_of, clip_line_spelling, count_lines, first_forbidden, input_phases, input_spelling, is_clip_phase, is_input_phase, is_phase, line_spelling, lines_of_frames, most_lines, phases, phases_by}
 use Rattle.nit_config.specs.ConfigurationText.{MeetsRefusal as IsRefusedConfig}
-use Rattle.nit_top.specs.declared.finish.Fault.{Fault}
-use Rattle.nit_top.specs.declared.finish.Fault.TheVariants as fault
+use Rattle.nit_top.specs.declared.report.finish.Fault.{Fault}
+use Rattle.nit_top.specs.declared.report.finish.Fault.TheVariants as fault
 use Rattle.nit_top.specs.Command.{Command, Still, Run, Gen, Audit, Clip, Capture, Nested, NoCommand}
 use Rattle.nit_audit.specs.declared.auditing.Verdict.TheVariants as verdict
 use Rattle.nit_top.specs.JournalFiles.{HasVerdict, IsJournalFault}
@@ -54,38 +54,51 @@ abbrev pub wrong_phases : Option ℕ → ℕ → Option Fault
 wrong_phases None count = None
 wrong_phases (Some wanted) count = if count == wanted then None else Some fault.PhasesDiffer
 
+-- the same of lines, by which of them end a phase
+abbrev pub wrong_lines : {L : Type 0} → (L → Bool) → Option ℕ → List L → Option Fault
+wrong_lines ends wanted lines = wrong_phases wanted (phases_by ends lines)
+
+-- a script that has as many phases as are wanted
+abbrev pub IsPhasedScript : {L : Type 0} → (L → Type 0) → (L → List ℕ) → (L → Bool) → Option ℕ
+    → List ℕ → List L → Type 0
+IsPhasedScript Fits spelling ends wanted bytes lines =
+    IsScript Fits spelling bytes lines × (wrong_lines ends wanted lines ≡ None)
+
+-- and what is wrong with bytes that are none
+abbrev pub IsPhasedFault : {L : Type 0} → (L → Type 0) → (L → List ℕ) → (L → Bool) → Option ℕ
+    → List ℕ → Fault → Type 0
+IsPhasedFault Fits spelling ends wanted bytes f =
+    IsFaulty Fits spelling (wrong_lines ends wanted) bytes f
+
+-- of a client's script
 abbrev pub wrong_client : Option ℕ → List Line → Option Fault
-wrong_client wanted lines = wrong_phases wanted (phases lines)
+wrong_client = wrong_lines is_phase
 
-abbrev pub wrong_input : Option ℕ → List InputLine → Option Fault
-wrong_input wanted lines = wrong_phases wanted (input_phases lines)
-
--- a client's script, where so many phases are wanted, and what is wrong with it
 abbrev pub IsClientScript : Option ℕ → List ℕ → List Line → Type 0
-IsClientScript wanted bytes lines = IsScript FitsLine line_spelling bytes lines
-    × (wrong_client wanted lines ≡ None)
+IsClientScript = IsPhasedScript FitsLine line_spelling is_phase
 
 abbrev pub IsClientFault : Option ℕ → List ℕ → Fault → Type 0
-IsClientFault wanted bytes f = IsFaulty FitsLine line_spelling (wrong_client wanted) bytes f
+IsClientFault = IsPhasedFault FitsLine line_spelling is_phase
 
--- the same of an input script
+-- of an input script
+abbrev pub wrong_input : Option ℕ → List InputLine → Option Fault
+wrong_input = wrong_lines is_input_phase
+
 abbrev pub IsInputScript : Option ℕ → List ℕ → List InputLine → Type 0
-IsInputScript wanted bytes lines = IsScript FitsInputLine input_spelling bytes lines
-    × (wrong_input wanted lines ≡ None)
+IsInputScript = IsPhasedScript FitsInputLine input_spelling is_input_phase
 
 abbrev pub IsInputFault : Option ℕ → List ℕ → Fault → Type 0
-IsInputFault wanted bytes f = IsFaulty FitsInputLine input_spelling (wrong_input wanted) bytes f
+IsInputFault = IsPhasedFault FitsInputLine input_spelling is_input_phase
 
+-- of a clip script
 abbrev pub wrong_clip : Option ℕ → List ClipLine → Option Fault
-wrong_clip wanted lines = wrong_phases wanted (clip_phases lines)
+wrong_clip = wrong_lines is_clip_phase
 
--- the same of a clip script
 abbrev pub IsClipScript : Option ℕ → List ℕ → List ClipLine → Type 0
-IsClipScript wanted bytes lines = IsScript FitsClipLine clip_line_spelling bytes lines
-    × (wrong_clip wanted lines ≡ None)
+IsClipScript = IsPhasedScript FitsClipLine clip_line_spelling is_clip_phase
 
 abbrev pub IsClipFault : Option ℕ → List ℕ → Fault → Type 0
-IsClipFault wanted bytes f = IsFaulty FitsClipLine clip_line_spelling (wrong_clip wanted) bytes f
+IsClipFault = IsPhasedFault FitsClipLine clip_line_spelling is_clip_phase
 
 -- ---- the scripts of a configuration
 

@@ -1,10 +1,10 @@
 -- What the work on two configurations leaves, part by part.
 use Rattle.std.specs.Prelude.{◌≡◌, ◌⊎◌, ℕ, ◌+◌, List, [], ◌∷◌, ◌++◌, length, Option, IfSome}
 use Rattle.nit_top.specs.Below.{Configuration, Entry, File, PutsAll, StoreModel, bytes_of, journal_text, shots, unrefused, with_asked}
-use Rattle.nit_top.specs.declared.finish.End.TheVariants as end
-use Rattle.nit_top.specs.declared.finish.Name.TheVariants as name
-use Rattle.nit_top.specs.declared.finish.Worked.{Worked}
-use Rattle.nit_top.specs.declared.run.PutFault.{PutFault}
+use Rattle.nit_top.specs.declared.report.finish.End.TheVariants as end
+use Rattle.nit_top.specs.declared.report.finish.Name.TheVariants as name
+use Rattle.nit_top.specs.declared.report.finish.Worked.{Worked}
+use Rattle.nit_top.specs.declared.report.ran.PutFault.{PutFault}
 use Rattle.nit_top.specs.Setup.{RunFiles, Setup}
 use Rattle.nit_top.specs.Judgement.{IsConfig, names_in}
 use Rattle.nit_top.specs.Outputs.{IsJournal, AreOutputs}

@@ -1,19 +1,19 @@
 -- The lines that the program says.
 use Rattle.std.specs.Prelude.{ℕ, List, ◌++◌, take, codes}
-use Rattle.nit_top.specs.Below.{ConfigError, decimal, script_name, shot_name}
+use Rattle.nit_top.specs.Below.{ConfigError, decimal, picture_name, script_name}
 use Rattle.nit_config.specs.declared.error.ConfigError.TheVariants as config
-use Rattle.nit_top.specs.declared.finish.End.{End}
-use Rattle.nit_top.specs.declared.finish.End.TheVariants as end
-use Rattle.nit_top.specs.declared.finish.Fault.{Fault}
-use Rattle.nit_top.specs.declared.finish.Fault.TheVariants as fault
-use Rattle.nit_top.specs.declared.finish.LabelBytes.{LabelBytes}
-use Rattle.nit_top.specs.declared.finish.Output.{Output}
-use Rattle.nit_top.specs.declared.finish.Output.TheVariants as output
-use Rattle.nit_top.specs.declared.finish.Name.{Name}
-use Rattle.nit_top.specs.declared.finish.Name.TheVariants as name
-use Rattle.nit_top.specs.declared.say.Piece.{Piece}
-use Rattle.nit_top.specs.declared.say.Piece.TheVariants as piece
-use Rattle.nit_top.specs.Outputs.{events_name, final_name, journal_name}
+use Rattle.nit_top.specs.declared.report.finish.End.{End}
+use Rattle.nit_top.specs.declared.report.finish.End.TheVariants as end
+use Rattle.nit_top.specs.declared.report.finish.Fault.{Fault}
+use Rattle.nit_top.specs.declared.report.finish.Fault.TheVariants as fault
+use Rattle.nit_top.specs.declared.report.finish.LabelBytes.{LabelBytes}
+use Rattle.nit_top.specs.declared.report.finish.Output.{Output}
+use Rattle.nit_top.specs.declared.report.finish.Output.TheVariants as output
+use Rattle.nit_top.specs.declared.report.finish.Name.{Name}
+use Rattle.nit_top.specs.declared.report.finish.Name.TheVariants as name
+use Rattle.nit_top.specs.declared.report.say.Piece.{Piece}
+use Rattle.nit_top.specs.declared.report.say.Piece.TheVariants as piece
+use Rattle.nit_top.specs.Outputs.{events_name, journal_name}
 use Rattle.nit_top.specs.RunFilm.{film_name}
 use Rattle.nit_top.specs.RunInner.{inner_journal_name}
 use Rattle.nit_top.specs.RunClips.{clips_name}
@@ -25,8 +25,7 @@ label_text label = take label.length label.bytes
 
 -- the name of a file that a run puts
 abbrev pub output_name : Output → List ℕ
-output_name (output.Shot number) = shot_name number
-output_name output.Final = final_name
+output_name (output.Picture picture) = picture_name picture
 output_name (output.Events label) = events_name (label_text label)
 output_name output.Journal = journal_name
 output_name output.GeneratedConfig = codes "gen.toml"

@@ -1,7 +1,7 @@
 -- Regions of a screen, by four numbers.
 use Rattle.std.specs.Prelude.{ℕ, ◌+◌, ◌<◌, ◌^◌, Bool, ◌==◌, ◌||◌, pos, nat_lt}
 use Rattle.nit_top.specs.Below.{Rectangle, rectangle}
-use Rattle.nit_top.specs.declared.region.Region.{Region}
+use Rattle.nit_top.specs.declared.command.region.Region.{Region}
 
 -- each number has at most nine digits
 abbrev pub IsRegionWords : Region → Type 0

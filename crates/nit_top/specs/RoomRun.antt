@@ -3,7 +3,7 @@
 use Rattle.std.specs.Prelude.{◌∷◌, ◌≡◌, ◌++◌, ℕ, ◌*◌, ◌≤◌, List, [], All, length, map, slice_get, Some, vec_len, vec_capacity}
 use Rattle.nit_top.specs.Below.{Belongs, BufferName, Configuration, Entry, InputLine, IsOpen, Line, OpeningParts, PassModel, PlanModel, RoomModel, StepTogether, UserBelongs, UserPassModel, donation_of, idle_user, new_sight, picture_length, plan_in, table_size, user_actions_of}
 use Rattle.nit_pixels.specs.End.{End}
-use Rattle.nit_top.specs.declared.memory.Memory.{Memory}
+use Rattle.nit_top.specs.declared.setup.memory.Memory.{Memory}
 
 -- the key of this number is to words 0, one for each place of the table of its session, with the
 -- ink of its plan

@@ -6,17 +6,17 @@ use Rattle.nit_rect.specs.declared.memory.NoMemory.{NoMemory}
 use Rattle.nit_script.specs.declared.error.ScriptError.TheVariants as script
 use Rattle.nit_report.specs.declared.error.JournalError.TheVariants as journal
 use Rattle.nit_store.specs.declared.store.PutError.TheVariants as put
-use Rattle.nit_top.specs.declared.finish.End.{End}
-use Rattle.nit_top.specs.declared.finish.End.TheVariants as end
-use Rattle.nit_top.specs.declared.finish.Fault.{Fault}
-use Rattle.nit_top.specs.declared.finish.Fault.TheVariants as fault
-use Rattle.nit_top.specs.declared.finish.Name.TheVariants as name
-use Rattle.nit_top.specs.declared.finish.Stop.{Stop}
-use Rattle.nit_top.specs.declared.finish.Worked.{Worked}
-use Rattle.nit_top.specs.declared.run.PutFault.{PutFault}
-use Rattle.nit_top.specs.declared.run.Ran.{Ran}
+use Rattle.nit_top.specs.declared.report.finish.End.{End}
+use Rattle.nit_top.specs.declared.report.finish.End.TheVariants as end
+use Rattle.nit_top.specs.declared.report.finish.Fault.{Fault}
+use Rattle.nit_top.specs.declared.report.finish.Fault.TheVariants as fault
+use Rattle.nit_top.specs.declared.report.finish.Name.TheVariants as name
+use Rattle.nit_top.specs.declared.report.finish.Stop.{Stop}
+use Rattle.nit_top.specs.declared.report.finish.Worked.{Worked}
+use Rattle.nit_top.specs.declared.report.ran.PutFault.{PutFault}
+use Rattle.nit_top.specs.declared.report.ran.Ran.{Ran}
 use Rattle.nit_top.specs.Command.{Command}
-use Rattle.nit_top.specs.declared.perform.Scripts.{Scripts}
+use Rattle.nit_top.specs.declared.setup.scripts.Scripts.{Scripts}
 use Rattle.nit_top.specs.Judgement.{SpellScripts, wanted_by, script_names, IsClientFault, IsInputScript, IsInputFault, AreScripts}
 use Rattle.nit_top.specs.Setup.{Setup, AreLines, HaveSamePhases}
 use Rattle.nit_top.specs.Outputs.{IsJournal, AreOutputs}
@@ -67,7 +67,14 @@ StoppedAt Faulty old name new (end.Refused f) = (new ≡ with_asked old name)
 StoppedAt Faulty old name new end.NoMemory = AskedAtMost old name new
 StoppedAt Faulty old name new other = ⊥
 
--- a file was read and judged
+-- a file was read and judged, or so the work ends
+abbrev pub FileJudged : {V : Type 0} → (List ℕ → V → Type 0) → (List ℕ → Fault → Type 0)
+    → StoreModel → List ℕ → StoreModel → Result V End → Type 0
+FileJudged Valid Faulty old name new (Ok v) = (new ≡ with_asked old name)
+    × IfSome old.files (λ files. Valid (bytes_of name files) v)
+FileJudged Valid Faulty old name new (Err end) = StoppedAt Faulty old name new end
+
+-- the same, where it is told at which file
 abbrev pub FileLoaded : {V : Type 0} → (List ℕ → V → Type 0) → (List ℕ → Fault → Type 0)
     → StoreModel → List ℕ → StoreModel → Result V Stop → Type 0
 FileLoaded Valid Faulty old name new (Ok v) = (new ≡ with_asked old name)

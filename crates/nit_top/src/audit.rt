@@ -1,12 +1,12 @@
 //! The audit of a journal: whether it is one of a run of a configuration's scripts.
 
-ghost use Rattle.std.specs.Prelude.{false, true, ◌≡◌, ◌≤◌, ◌^◌, ℕ, List, IfSome, length};
+ghost use Rattle.std.specs.Prelude.{◌≡◌, ℕ, List, IfSome, false, true, ◌≤◌, ◌^◌, length};
 ghost use Rattle.nit_top.specs.Terms.{Audit, IsAuditEnd, IsConfig, IsConfiguration, IsRunnable, StoreModel, bytes_of, setup_of, with_asked};
 ghost use Rattle.nit_top.specs.Work.{Ends};
 
-use crate::finish::{End, Fault, Worked, at, unbegun};
-use crate::load::load_journal;
-use crate::perform::{Scripts, read_scripts};
+use crate::report::finish::{End, Fault, Worked, at, unbegun};
+use crate::setup::load::load_journal;
+use crate::setup::scripts::{Scripts, read_scripts};
 use nit_audit::{Verdict, audit};
 use nit_config::Config;
 use nit_events::Entry;

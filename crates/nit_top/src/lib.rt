@@ -16,6 +16,10 @@
 //! | `nested OUTER INNER` | the same as `run` for OUTER, whose first client shows the frames of a run
 //! by turns of INNER; the journal of that one is put last |
 //!
+//! The words and what they ask for stand in `command`; reading files and taking memory, of which a
+//! run's setup is made, in `setup`; the ways to perform a run in `run`; its last files, the end of
+//! the work and the line that is said in `report`.
+//!
 //! In each case the work is: read the files and judge them one by one; take all memory of the run;
 //! run, and put the files; say how it went. What a run is made of, its configuration and its
 //! scripts, is called its setup. A generated run reads no file: its files are made, and put before
@@ -31,35 +35,13 @@
 //! to its end.
 #![tactic(auto)]
 
-mod alone;
 mod audit;
-mod beside;
-mod capture;
-mod clip_load;
-mod clip_run;
-mod desk;
-mod film;
-mod film_store;
-mod filmed;
-mod finish;
-mod generated;
-mod inner;
-mod last;
+mod command;
 pub mod laws;
-mod load;
-mod memory;
-mod nested;
-mod opening;
-mod outer;
-mod pairs;
-mod perform;
-mod region;
+mod report;
 mod run;
-mod say;
-mod texts;
+mod setup;
 mod top;
-mod user;
-mod words;
 
-pub use finish::Done;
+pub use report::finish::Done;
 pub use top::{nitpicker, nitpicker_alone, starts_threads};

@@ -1,21 +1,20 @@
 //! The top call.
 
-ghost use Rattle.std.specs.Prelude.{false, true, ◌≡◌, ◌^◌, ◌<◌};
+ghost use Rattle.std.specs.Prelude.{◌<◌, false, ◌≡◌, true, ◌^◌};
 ghost use Rattle.nit_top.specs.Terms.{Answer, Audit, Capture, Clip, Ended, Finished, Gen, IsRegionWords, Nested, Run, command, starts_threads, texts};
 
 use crate::audit::audited;
-use crate::capture::capture;
-use crate::clip_run::clip;
-use crate::finish::{Done, End, Worked, at, status, unbegun};
-use crate::generated::generated;
+use crate::command::region::Region;
+use crate::command::words::{Asked, parse_words};
 use crate::laws::generated_runs_count;
-use crate::load::load_config;
-use crate::nested::nested;
-use crate::outer::read_outer;
-use crate::perform;
-use crate::region::Region;
-use crate::say::tell;
-use crate::words::{Asked, parse_words};
+use crate::report::finish::{Done, End, Worked, at, status, unbegun};
+use crate::report::say::tell;
+use crate::run::capture::capture;
+use crate::run::clips::clip;
+use crate::run::nested::nested;
+use crate::run::perform;
+use crate::setup::load::load_config;
+use crate::setup::outer::read_outer;
 use nit_actor::Gate;
 use nit_store::Store;
 use std::alloc::Global;
@@ -161,7 +160,7 @@ fn made<R: Threads + Wait + Sync, S: Store, G: Gate>(
     ensures { Ended (S.shown store.old) (Gen number)
         (S.shown store.new) result.status result.journal.items }
 {
-    let worked = generated(rt, alloc, store, number, gate);
+    let worked = perform::generated(rt, alloc, store, number, gate);
     finish(store, worked)
 }
 

@@ -1,5 +1,5 @@
 use Rattle.std.proofs.Common.{◌∙◌, ◌∷◌, ap}
-use Rattle.nit_top.proofs.Lemmas.{files_of, inner_config_stopped, outer_config_stopped, outer_not_read, outer_read, with_asked}
+use Rattle.nit_top.proofs.Lemmas.{inner_config_stopped, outer_config_stopped, outer_not_read, outer_read, run_files, with_asked}
 use Rattle.nit_top.proofs.top.within.Goals as goal
 
 pub returns-in-Err : goal.returns-in-Err
@@ -32,7 +32,7 @@ returns-in-Err-load_config g c =
     let loaded = c.in-Ok.ensures.loaded in
     let again = c.in-Err-load_config.ensures.loaded in
     let s = c.in-Ok-read_outer.shown in
-    let o = files_of c.in-Ok.config s.clients.items s.input in
+    let o = run_files c.in-Ok.config s.clients.items s.input in
     let read = outer_read c.args.outer.now c.args.inner.now first c.in-Ok.config c.in-Ok.ensures.configured loaded.1 (g.S.Store.shown c.load_config.new.store) loaded.0 s.clients.items s.input mid c.in-Ok-read_outer.ensures.read c.in-Ok-read_outer.ensures.outer in
     record {
       mid = g.S.Store.shown c.load_config-2.new.store;

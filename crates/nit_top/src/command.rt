@@ -1,0 +1,4 @@
+//! What the words of the command line ask for.
+
+pub mod region;
+pub mod words;

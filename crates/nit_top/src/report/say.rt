@@ -1,0 +1,278 @@
+//! Lines that are said in pieces, without memory.
+
+ghost use Rattle.std.specs.Prelude.{◌++◌, ◌∷◌, [], ℕ, List, length, ◌≡◌};
+ghost use Rattle.nit_top.specs.Terms.{Says, audited_line, bad_configuration_line, clip_name, decimal, events_name, fault_line, flat_map, kind_text, label_text, line_on, name_text, numbered_line, output_name, picture_name, piece_text, script_name, shot_name, summary_line};
+
+use crate::report::finish::{End, Fault, LabelBytes, Name, Output, Worked};
+use nit_actor::PictureName;
+use nit_config::ConfigError;
+use nit_store::{PutError, Store};
+
+/// A part of a line.
+#[derive(Clone, Copy)]
+enum Piece<'a> {
+    Text(&'a [u8]),
+    Number(u64),
+    Name(Name<'a>),
+}
+
+/// Says how the work came to its end.
+pub fn tell<S: Store>(store: &mut S, worked: &Worked) -> Result<(), PutError>
+    ensures { Says (S.shown store.old) (line_on worked.now) (S.shown store.new) result }
+{
+    let head = Piece::Text(b"nitpicker: ");
+    let name = Piece::Name(worked.stop.name);
+    match worked.stop.end {
+        End::Usage => say_all(
+            store,
+            &[
+                head,
+                Piece::Text(b"usage: nitpicker still W H SCRIPT, turns CONFIG, "),
+                Piece::Text(b"run CONFIG, gen N, audit CONFIG JOURNAL, clip CONFIG, "),
+                Piece::Text(b"capture CONFIG X Y W H or nested OUTER INNER\n"),
+            ],
+        ),
+        End::ReadFault => say_all(store, &[head, name, Piece::Text(b": read fault\n")]),
+        End::Refused(fault) | End::Unfit(fault) => tell_fault(store, fault, worked.stop.name),
+        End::Outside => say_all(store, &[head, Piece::Text(b"capture outside\n")]),
+        End::WriteFault => say_all(store, &[head, name, Piece::Text(b": write fault\n")]),
+        End::NoMemory => say_all(store, &[head, Piece::Text(b"no memory\n")]),
+        End::Whole => tell_summary(
+            store,
+            worked.clients as u64,
+            worked.journal.len() as u64,
+            worked.frames as u64,
+        ),
+        End::Audited(entries) => tell_audited(store, entries),
+    }
+}
+
+/// Says that a journal of so many entries is one of a run.
+fn tell_audited<S: Store>(store: &mut S, entries: u32) -> Result<(), PutError>
+    ensures { Says (S.shown store.old) (audited_line entries) (S.shown store.new) result }
+{
+    say_all(
+        store,
+        &[
+            Piece::Text(b"nitpicker: audit yes entries "),
+            Piece::Number(entries as u64),
+            Piece::Text(b"\n"),
+        ],
+    )
+}
+
+/// Says how many clients, journal entries and pictures a run had.
+fn tell_summary<S: Store>(
+    store: &mut S,
+    clients: u64,
+    entries: u64,
+    frames: u64,
+) -> Result<(), PutError>
+    ensures { Says (S.shown store.old)
+        (summary_line (record { clients = clients; entries = entries; frames = frames }))
+        (S.shown store.new) result }
+{
+    say_all(
+        store,
+        &[
+            Piece::Text(b"nitpicker: clients "),
+            Piece::Number(clients),
+            Piece::Text(b" entries "),
+            Piece::Number(entries),
+            Piece::Text(b" frames "),
+            Piece::Number(frames),
+            Piece::Text(b"\n"),
+        ],
+    )
+}
+
+/// Says why the file of this name is refused.
+fn tell_fault<S: Store>(store: &mut S, fault: Fault, name: Name) -> Result<(), PutError>
+    ensures { Says (S.shown store.old) (fault_line (name_text name.entry) fault)
+        (S.shown store.new) result }
+{
+    let head = Piece::Text(b"nitpicker: ");
+    let file = Piece::Name(name);
+    match fault {
+        Fault::BadConfig(error) => tell_kind(store, name, kind_text(error)),
+        Fault::LongConfig => tell_kind(store, name, b"too long"),
+        Fault::BadLine(line) => tell_number(store, name, b": line ", line, b": bad script\n"),
+        Fault::TooLong | Fault::LongJournal => {
+            say_all(store, &[head, file, Piece::Text(b": too long\n")])
+        }
+        Fault::PhasesDiffer => say_all(store, &[head, file, Piece::Text(b": phases differ\n")]),
+        Fault::BadEntry(line) => tell_number(store, name, b": line ", line, b": bad journal\n"),
+        Fault::NotARun(entry) => tell_number(store, name, b": entry ", entry, b": not a run\n"),
+        Fault::FramesTooLong => {
+            say_all(
+                store,
+                &[head, file, Piece::Text(b": inner frames too long\n")],
+            )
+        }
+    }
+}
+
+/// Says of a file what is wrong at this line or entry of it.
+fn tell_number<'a, S: Store>(
+    store: &mut S,
+    name: Name<'a>,
+    before: &'a [u8],
+    number: u32,
+    behind: &'a [u8],
+) -> Result<(), PutError>
+    ensures { Says (S.shown store.old)
+        (numbered_line (name_text name.entry) before.now number behind.now)
+        (S.shown store.new) result }
+{
+    say_all(
+        store,
+        &[
+            Piece::Text(b"nitpicker: "),
+            Piece::Name(name),
+            Piece::Text(before),
+            Piece::Number(number as u64),
+            Piece::Text(behind),
+        ],
+    )
+}
+
+/// Says that the configuration of this name is refused, and the kind of its refusal.
+fn tell_kind<'a, S: Store>(store: &mut S, name: Name<'a>, kind: &'a [u8]) -> Result<(), PutError>
+    ensures { Says (S.shown store.old) (bad_configuration_line (name_text name.entry) kind.now)
+        (S.shown store.new) result }
+{
+    say_all(
+        store,
+        &[
+            Piece::Text(b"nitpicker: "),
+            Piece::Name(name),
+            Piece::Text(b": bad configuration: "),
+            Piece::Text(kind),
+            Piece::Text(b"\n"),
+        ],
+    )
+}
+
+/// The kind of a refusal.
+fn kind_text(error: ConfigError) -> &'static [u8]
+    ensures { result.now ≡ kind_text error }
+{
+    match error {
+        ConfigError::Syntax => b"syntax",
+        ConfigError::Kind => b"kind",
+        ConfigError::Missing => b"missing",
+        ConfigError::Unknown => b"unknown",
+        ConfigError::TooMany => b"too many",
+        ConfigError::Range => b"range",
+        ConfigError::Label => b"label",
+        ConfigError::Twice => b"twice",
+        ConfigError::NoMemory => b"no memory",
+    }
+}
+
+/// Says a line piece by piece, up to a refusal.
+fn say_all<S: Store>(store: &mut S, pieces: &[Piece]) -> Result<(), PutError>
+    ensures { Says (S.shown store.old) (flat_map piece_text pieces.now) (S.shown store.new) result }
+{
+    for part in pieces {
+        say_piece(store, part)?;
+    }
+    Ok(())
+}
+
+fn say_piece<S: Store>(store: &mut S, piece: &Piece) -> Result<(), PutError>
+    ensures { Says (S.shown store.old) (piece_text piece.now) (S.shown store.new) result }
+{
+    match piece {
+        Piece::Text(bytes) => text(store, bytes),
+        Piece::Number(n) => number(store, *n),
+        Piece::Name(Name::Text(name)) => text(store, name.as_bytes()),
+        Piece::Name(Name::ClipsOf(script)) => clip_name(store, script),
+        Piece::Name(Name::Put(file)) => output_name(store, file),
+    }
+}
+
+/// Says the name of a file that a run puts.
+fn output_name<S: Store>(store: &mut S, file: &Output) -> Result<(), PutError>
+    ensures { Says (S.shown store.old) (output_name file.now) (S.shown store.new) result }
+{
+    match file {
+        Output::Picture(picture) => picture_name(store, picture),
+        Output::Events(label) => events_name(store, label),
+        Output::Journal => text(store, b"journal.txt"),
+        Output::GeneratedConfig => text(store, b"gen.toml"),
+        Output::GeneratedScript(client) => script_name(store, *client),
+        Output::GeneratedInput => text(store, b"gen.in"),
+        Output::Film => text(store, b"capture.ncap"),
+        Output::Clips => text(store, b"clip.txt"),
+        Output::InnerJournal => text(store, b"inner-journal.txt"),
+    }
+}
+
+/// Says the name of a picture of a run.
+fn picture_name<S: Store>(store: &mut S, picture: &PictureName) -> Result<(), PutError>
+    ensures { Says (S.shown store.old) (picture_name picture.now) (S.shown store.new) result }
+{
+    match picture {
+        PictureName::Shot(number) => shot_name(store, *number),
+        PictureName::Final => text(store, b"final.ppm"),
+    }
+}
+
+/// Says the name of a shot's picture.
+fn shot_name<S: Store>(store: &mut S, shot: u32) -> Result<(), PutError>
+    ensures { Says (S.shown store.old) (shot_name shot) (S.shown store.new) result }
+{
+    text(store, b"shot-")?;
+    number(store, shot as u64)?;
+    text(store, b".ppm")
+}
+
+/// Says the name of the events of the client of this label.
+fn events_name<S: Store>(store: &mut S, label: &LabelBytes) -> Result<(), PutError>
+    ensures { Says (S.shown store.old) (events_name (label_text label.now))
+        (S.shown store.new) result }
+{
+    text(store, b"events-")?;
+    text(store, label.as_bytes())?;
+    text(store, b".txt")
+}
+
+/// Says the name of the script of a client of a generated run.
+fn script_name<S: Store>(store: &mut S, client: u32) -> Result<(), PutError>
+    ensures { Says (S.shown store.old) (script_name client) (S.shown store.new) result }
+{
+    text(store, b"g")?;
+    number(store, client as u64)?;
+    text(store, b".nit")
+}
+
+/// Says the name of the clip script of the client with the script of this name.
+fn clip_name<S: Store>(store: &mut S, script: &str) -> Result<(), PutError>
+    ensures { Says (S.shown store.old) (clip_name script.now) (S.shown store.new) result }
+{
+    text(store, script.as_bytes())?;
+    text(store, b".clip")
+}
+
+/// Says a text, which may be empty.
+fn text<S: Store>(store: &mut S, bytes: &[u8]) -> Result<(), PutError>
+    ensures { Says (S.shown store.old) bytes.now (S.shown store.new) result }
+{
+    if bytes.is_empty() {
+        Ok(())
+    } else {
+        store.say(bytes)
+    }
+}
+
+/// Says a number in decimal, digit by digit.
+fn number<S: Store>(store: &mut S, n: u64) -> Result<(), PutError>
+    ensures { Says (S.shown store.old) (decimal n) (S.shown store.new) result }
+{
+    if n < 10 {
+        return text(store, &[b'0' + n as u8]);
+    }
+    number(store, n / 10)?;
+    text(store, &[b'0' + (n % 10) as u8])
+}

@@ -1,0 +1,168 @@
+//! A run whose first client shows what another run has shown.
+
+ghost use Rattle.std.specs.Prelude.{◌+◌, ℕ, List, Some, ◌≡◌, count_by, ◌≤◌, length, None, IfNone, IfSome, map, ◌∷◌, true};
+ghost use Rattle.nit_top.specs.Terms.{IsAfterOuter, IsConfiguration, IsOuter, IsRunnable, Line, Nested, PerformedNested, RunFiles, StoreModel, first_other, is_shot_line, names_in, phase_counts, phases, run_files, setup_of};
+ghost use Rattle.nit_top.specs.Work.{Ends};
+
+use crate::laws::headline;
+use crate::report::added::put_inner_journal;
+use crate::report::finish::{End, Fault, Worked, at, unbegun};
+use crate::report::ran::Ran;
+use crate::run::beside::run_beside;
+use crate::run::inner::run_inner;
+use crate::setup::scripts::{Scripts, read_scripts};
+use nit_actor::Gate;
+use nit_actor::laws::each_line_once;
+use nit_config::{Config, Member};
+use nit_events::Entry;
+use nit_nested::laws::phases_stay;
+use nit_script::{Client, Input, InputLine, phases};
+use nit_store::Store;
+use std::alloc::Global;
+use std::sync::Wait;
+use std::thread::Threads;
+
+/// Reads the scripts of the inner configuration, which has this name, and runs it by turns. Then it
+/// runs the outer configuration, whose scripts these are, with each client on a thread of its own.
+/// There the first client shows the frames of the inner run.
+pub fn nested<'a, R: Threads + Wait + Sync, S: Store, G: Gate>(
+    rt: &R,
+    alloc: Global,
+    store: &mut S,
+    outer: &'a Config,
+    shown: Scripts,
+    name: &'a str,
+    inner: &'a Config,
+    gate: &G,
+) -> Worked<'a>
+    requires configured { IsConfiguration inner.now }
+    requires outer { IsOuter (run_files outer.now shown.clients.items shown.input) }
+    ensures { (outer_name : List ℕ) → (first : StoreModel)
+        → IsAfterOuter outer_name name.entry.now first
+        (run_files outer.entry.now shown.clients.items shown.input)
+        inner.entry.now (S.shown store.old)
+        → Ends (Nested outer_name name.entry.now) first (S.shown store.new) result }
+{
+    each_line_once();
+    phases_stay();
+    let scripts = match read_scripts(alloc, store, inner) {
+        Ok(scripts) => scripts,
+        Err(stop) => return unbegun(alloc, stop),
+    };
+    if let Some(other) = first_other(frame_count(&scripts.input), outer, &shown) {
+        return unbegun(alloc, at(End::Unfit(Fault::PhasesDiffer), other));
+    }
+    let clients = scripts.clients.as_slice();
+    match run_inner(alloc, inner, clients, &scripts.input, &shown.clients[0]) {
+        Ok(made) => {
+            let _known = made.script.lines();
+            let shown = with_first(shown, made.script);
+            perform_nested(rt, alloc, store, outer, &shown, &made.journal, gate)
+        }
+        Err(end) => unbegun(alloc, at(end, name)),
+    }
+}
+
+/// How many frames a run by turns has with this input script: one for each shot, and the last one.
+fn frame_count(input: &Input) -> usize
+    ensures { result ≡ count_by is_shot_line input.now + 1 }
+{
+    shot_lines(input.lines()) + 1
+}
+
+/// How many lines of an input script take a shot.
+fn shot_lines(lines: &[InputLine]) -> usize
+    ensures count { result ≡ count_by is_shot_line lines.now }
+    ensures most { result ≤ length lines.now }
+{
+    lines.iter().filter(|line| is_shot(line)).count()
+}
+
+fn is_shot(line: &InputLine) -> bool
+    ensures { result ≡ is_shot_line line.now }
+{
+    matches!(line, InputLine::Shot)
+}
+
+/// The name of the first script of a configuration that has not so many phases, in the order of the
+/// clients and then the input script.
+fn first_other<'a>(wanted: usize, config: &'a Config, scripts: &Scripts) -> Option<&'a str>
+    requires { length scripts.now.clients.items ≡ length config.now.clients }
+    ensures some { IfSome result (λ name. first_other wanted (names_in config.entry.now)
+        (phase_counts (run_files config.entry.now scripts.now.clients.items scripts.now.input))
+        ≡ Some name.now) }
+    ensures none { IfNone result (first_other wanted (names_in config.entry.now)
+        (phase_counts (run_files config.entry.now scripts.now.clients.items scripts.now.input))
+        ≡ None) }
+{
+    let other = first_other_client(wanted, &config.clients, &scripts.clients);
+    if other.is_some() {
+        return other;
+    }
+    if phases(scripts.input.lines()) == wanted {
+        None
+    } else {
+        Some(config.input.as_str())
+    }
+}
+
+/// The same among the clients' scripts.
+fn first_other_client<'a>(
+    wanted: usize,
+    clients: &'a [Member],
+    scripts: &[Client],
+) -> Option<&'a str>
+    requires { length scripts.now ≡ length clients.now }
+    ensures some { IfSome result (λ name.
+        first_other wanted (map (λ m. m.script) clients.entry.now) (map phases scripts.now)
+        ≡ Some name.now) }
+    ensures none { IfNone result
+        (first_other wanted (map (λ m. m.script) clients.entry.now) (map phases scripts.now)
+        ≡ None) }
+{
+    for (k, script) in scripts.iter().enumerate() {
+        if phases(script.lines()) != wanted {
+            return Some(clients[k].script.as_str());
+        }
+    }
+    None
+}
+
+/// The scripts, with this one in the first client's place.
+fn with_first(scripts: Scripts, first: Client) -> Scripts
+    requires { 1 ≤ length scripts.clients.items }
+    ensures first { (own : List Line) (rest : List (List Line))
+        → scripts.clients.items ≡ own ∷ rest → result.clients.items ≡ first ∷ rest }
+    ensures input { result.input ≡ scripts.input }
+{
+    let Scripts { mut clients, input } = scripts;
+    clients[0] = first;
+    Scripts { clients, input }
+}
+
+/// Runs a setup with texts, each client on a thread of its own, and puts the journal of an inner run
+/// behind its files. A run that is not begun leaves everything.
+fn perform_nested<'a, R: Threads + Wait + Sync, S: Store, G: Gate>(
+    rt: &R,
+    alloc: Global,
+    store: &mut S,
+    config: &Config,
+    scripts: &Scripts,
+    journal: &[Entry],
+    gate: &G,
+) -> Worked<'a>
+    requires { IsRunnable
+        (setup_of config.now scripts.now.clients.items scripts.now.input true true) }
+    ensures { (i : RunFiles)
+        → let s = setup_of config.now scripts.now.clients.items scripts.now.input true true in
+        PerformedNested journal.now (S.shown store.old) (record s { inner = Some i })
+        (S.shown store.new) result }
+{
+    headline();
+    let clients = scripts.clients.as_slice();
+    let Ok(ran) = run_beside(rt, alloc, gate, config, clients, &scripts.input, store) else {
+        return unbegun(alloc, at(End::NoMemory, ""));
+    };
+    let fault = put_inner_journal(alloc, store, ran.fault, journal);
+    ran.with_fault(fault).worked(clients.len())
+}

@@ -1,0 +1,181 @@
+//! The work of a command: what is to be run, the run, and how it came to its end.
+
+ghost use Rattle.std.specs.Prelude.{◌<◌, ◌≤◌, false, ◌≡◌, ℕ, List, IfSome, true, ◌∷◌, ◌^◌, [], length, take};
+ghost use Rattle.nit_top.specs.Terms.{Gen, IsAlone, IsConfig, IsConfiguration, IsRunnable, Performed, Run, Still, StoreModel, bytes_of, generated, most_height, most_width, output_name, setup_of, still_configuration, with_asked};
+ghost use Rattle.nit_top.specs.Work.{Ends};
+
+use crate::laws::headline;
+use crate::report::finish::{End, Worked, at, unbegun};
+use crate::report::ran::stop_after;
+use crate::run::alone::run_one;
+use crate::run::beside::run_beside;
+use crate::run::turns::run_turns;
+use crate::setup::generated::{put_files, read_files};
+use crate::setup::load::load_client;
+use crate::setup::scripts::{Scripts, read_scripts};
+use crate::setup::still::{idle_user, still_configuration};
+use nit_actor::Gate;
+use nit_config::Config;
+use nit_rect::NoMemory;
+use nit_report::{gen_config, generate, generated_client_counts, generated_user_counts};
+use nit_script::{Client, Input};
+use nit_store::Store;
+use nit_store::laws::puts_go_on;
+use std::alloc::Global;
+use std::sync::Wait;
+use std::thread::Threads;
+
+/// Makes the picture of the script of this name.
+pub fn still<'a, S: Store>(
+    alloc: Global,
+    store: &mut S,
+    width: u32,
+    height: u32,
+    script: &'a str,
+) -> Worked<'a>
+    requires { (0 < width) × (width ≤ most_width) × (0 < height) × (height ≤ most_height) }
+    ensures { Ends (Still width height script.entry.now) (S.shown store.old)
+        (S.shown store.new) result }
+{
+    let client = match load_client(alloc, store, script, None) {
+        Ok(client) => client,
+        Err(stop) => return unbegun(alloc, stop),
+    };
+    let Ok(config) = still_configuration(alloc, width, height) else {
+        return unbegun(alloc, at(End::NoMemory, script));
+    };
+    let Ok(input) = idle_user(alloc, client.lines()) else {
+        return unbegun(alloc, at(End::NoMemory, script));
+    };
+    perform_alone(alloc, store, &config, &[client], &input)
+}
+
+/// Runs the scripts of a configuration by turns.
+pub fn turns<'a, S: Store>(alloc: Global, store: &mut S, config: &'a Config) -> Worked<'a>
+    requires { IsConfiguration config.now }
+    ensures { (name : List ℕ) → (first : StoreModel) → (S.shown store.old) ≡ with_asked first name
+        → IfSome first.files (λ files. IsConfig (bytes_of name files) config.entry.now)
+        → Ends (Run false name) first (S.shown store.new) result }
+{
+    let scripts = match read_scripts(alloc, store, config) {
+        Ok(scripts) => scripts,
+        Err(stop) => return unbegun(alloc, stop),
+    };
+    perform(alloc, store, config, &scripts.clients, &scripts.input)
+}
+
+/// Runs the scripts of a configuration with each client on a thread of its own.
+pub fn beside<'a, R: Threads + Wait + Sync, S: Store, G: Gate>(
+    rt: &R,
+    alloc: Global,
+    store: &mut S,
+    config: &'a Config,
+    gate: &G,
+) -> Worked<'a>
+    requires { IsConfiguration config.now }
+    ensures { (name : List ℕ) → (first : StoreModel) → (S.shown store.old) ≡ with_asked first name
+        → IfSome first.files (λ files. IsConfig (bytes_of name files) config.entry.now)
+        → Ends (Run true name) first (S.shown store.new) result }
+{
+    let scripts = match read_scripts(alloc, store, config) {
+        Ok(scripts) => scripts,
+        Err(stop) => return unbegun(alloc, stop),
+    };
+    perform_beside(rt, alloc, store, config, &scripts, gate)
+}
+
+/// Puts the files of the generated run of this number, and runs it as they say, with each client on
+/// a thread of its own. The scripts are read from their own bytes.
+pub fn generated<'a, R: Threads + Wait + Sync, S: Store, G: Gate>(
+    rt: &R,
+    alloc: Global,
+    store: &mut S,
+    number: u32,
+    gate: &G,
+) -> Worked<'a>
+    requires { number < 10 ^ 9 }
+    ensures { Ends (Gen number) (S.shown store.old) (S.shown store.new) result }
+{
+    generated_client_counts();
+    generated_user_counts();
+    headline();
+    puts_go_on();
+    let Ok(files) = generate(alloc, number) else {
+        return unbegun(alloc, at(End::NoMemory, ""));
+    };
+    let fault = put_files(store, number, &files);
+    if fault.is_some() {
+        return unbegun(alloc, stop_after(fault));
+    }
+    let Ok(scripts) = read_files(alloc, number, &files) else {
+        return unbegun(alloc, at(End::NoMemory, ""));
+    };
+    let Ok(config) = gen_config(alloc) else {
+        return unbegun(alloc, at(End::NoMemory, ""));
+    };
+    perform_beside(rt, alloc, store, &config, &scripts, gate)
+}
+
+/// Runs a setup by rounds, with texts. A run that is not begun leaves everything.
+fn perform<'a, S: Store>(
+    alloc: Global,
+    store: &mut S,
+    config: &Config,
+    scripts: &[Client],
+    input: &Input,
+) -> Worked<'a>
+    requires { IsRunnable (setup_of config.now scripts.now input.now true false) }
+    ensures { Performed (S.shown store.old) (setup_of config.now scripts.now input.now true false)
+        (S.shown store.new) result }
+{
+    headline();
+    let Ok(ran) = run_turns(alloc, config, scripts, input, store) else {
+        return unbegun(alloc, at(End::NoMemory, ""));
+    };
+    ran.worked(scripts.len())
+}
+
+/// Runs one client whose user does nothing, without texts. A run that is not begun leaves
+/// everything.
+fn perform_alone<'a, S: Store>(
+    alloc: Global,
+    store: &mut S,
+    config: &Config,
+    scripts: &[Client],
+    input: &Input,
+) -> Worked<'a>
+    requires runnable { IsRunnable (setup_of config.now scripts.now input.now false false) }
+    requires alone { IsAlone scripts.now input.now }
+    ensures { Performed (S.shown store.old) (setup_of config.now scripts.now input.now false false)
+        (S.shown store.new) result }
+{
+    headline();
+    let Ok(ran) = run_one(alloc, config, scripts, input, store) else {
+        return unbegun(alloc, at(End::NoMemory, ""));
+    };
+    ran.worked(scripts.len())
+}
+
+/// Runs a setup with texts, each client on a thread of its own. A run that is not begun leaves
+/// everything.
+pub fn perform_beside<'a, R: Threads + Wait + Sync, S: Store, G: Gate>(
+    rt: &R,
+    alloc: Global,
+    store: &mut S,
+    config: &Config,
+    scripts: &Scripts,
+    gate: &G,
+) -> Worked<'a>
+    requires { IsRunnable
+        (setup_of config.now scripts.now.clients.items scripts.now.input true true) }
+    ensures { Performed (S.shown store.old)
+        (setup_of config.now scripts.now.clients.items scripts.now.input true true)
+        (S.shown store.new) result }
+{
+    headline();
+    let clients = scripts.clients.as_slice();
+    let Ok(ran) = run_beside(rt, alloc, gate, config, clients, &scripts.input, store) else {
+        return unbegun(alloc, at(End::NoMemory, ""));
+    };
+    ran.worked(clients.len())
+}
