@@ -1,10 +1,11 @@
 //! Texts of a run, and what the audit says of them.
 
-ghost use Rattle.std.specs.Prelude.{◌≤◌, length, IfOk};
+ghost use Rattle.std.specs.Prelude.{◌≡◌, ◌≤◌, IfOk, length};
 ghost use Rattle.nit_events.specs.Ranges.{most_read};
+ghost use Rattle.nit_config.specs.ConfigurationRanges.{IsConfiguration};
 
 use nit_audit::{Verdict, audit};
-use nit_config::read_config;
+use nit_config::{Config, read_config};
 use nit_events::Entry;
 use nit_report::parse_journal;
 use nit_script::{Client, ScriptError, parse_client, parse_input};
@@ -29,7 +30,7 @@ pub struct Run {
 }
 
 /// How a journal differs from that of a run. Lines have numbers from 1.
-#[derive(Clone, Copy, Debug)]
+#[derive(Clone, Copy)]
 pub enum Edit {
     Nothing,
     /// This line is taken out.
@@ -69,14 +70,25 @@ impl Edit {
     }
 }
 
+/// Puts a line of a run's journal with an edit behind a text, as often as it stands there.
+fn put_line(
+    text: &mut Vec<u8>,
+    lines: &[&'static str],
+    edit: Edit,
+    number: usize,
+) -> Result<(), AllocError> {
+    for _time in 0..edit.times(number) {
+        text.extend_from_slice(edit.line(lines, number).as_bytes())?;
+        text.push(b'\n')?;
+    }
+    Ok(())
+}
+
 /// The text of a run's journal with an edit.
 fn text_of(alloc: Global, lines: &[&'static str], edit: Edit) -> Result<Vec<u8>, AllocError> {
     let mut text = Vec::new(alloc);
     for number in 1..=lines.len() {
-        for _time in 0..edit.times(number) {
-            text.extend_from_slice(edit.line(lines, number).as_bytes())?;
-            text.push(b'\n')?;
-        }
+        put_line(&mut text, lines, edit, number)?;
     }
     Ok(text)
 }
@@ -102,11 +114,32 @@ fn scripts_of(alloc: Global, run: &Run) -> Result<[Client; 2], ScriptError> {
 /// The verdict on the journal of a run with an edit.
 pub fn judged(alloc: Global, run: &Run, edit: Edit) -> Result<Verdict, Fail> {
     let config = read_config(alloc, CONFIG)?;
-    let scripts = scripts_of(alloc, run)?;
-    let input = parse_input(alloc, run.user)?;
-    let entries = entries_of(alloc, run, edit)?;
-    if config.clients.len() != scripts.len() {
+    judged_with(alloc, &config, run, edit)
+}
+
+/// The same by a configuration, which is to have two clients.
+fn judged_with(alloc: Global, config: &Config, run: &Run, edit: Edit) -> Result<Verdict, Fail>
+    requires { IsConfiguration config.now }
+{
+    if config.clients.len() != 2 {
         return Err(Fail::from("not two clients"));
     }
-    Ok(audit(alloc, &config, &scripts, &input, &entries)?)
+    let scripts = scripts_of(alloc, run)?;
+    judged_by(alloc, config, &scripts, run, edit)
+}
+
+/// The same by a configuration and the scripts of its clients.
+fn judged_by(
+    alloc: Global,
+    config: &Config,
+    scripts: &[Client],
+    run: &Run,
+    edit: Edit,
+) -> Result<Verdict, Fail>
+    requires configured { IsConfiguration config.now }
+    requires each { length scripts.now ≡ length config.now.clients }
+{
+    let input = parse_input(alloc, run.user)?;
+    let entries = entries_of(alloc, run, edit)?;
+    Ok(audit(alloc, config, scripts, &input, &entries)?)
 }

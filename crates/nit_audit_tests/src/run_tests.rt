@@ -83,22 +83,22 @@ const VIEWS: Run = Run {
     ],
 };
 
-/// The journal of a run is one of it.
-#[test]
-fn the_runs_themselves(rt: HostRuntime) -> Result<(), Fail> {
-    for (case, run) in [TWO, KILL, VIEWS].iter().enumerate() {
-        same(
-            &rt,
-            &case,
-            &judged(rt.alloc(), run, Nothing)?,
-            &Verdict::Yes,
-        );
-    }
+/// The verdict on the journal of a run with an edit is this one.
+fn assert_judged(
+    rt: &impl Abort,
+    alloc: Global,
+    row: usize,
+    run: &Run,
+    edit: Edit,
+    want: &Verdict,
+) -> Result<(), Fail> {
+    let found = judged(alloc, run, edit)?;
+    same(rt, &(run.lines.len(), row), &found, want);
     Ok(())
 }
 
 /// Changes of the journal of two clients, and the entry that is named.
-const CHANGED_TWO: [(Edit, u32); 40] = [
+const CHANGED_TWO: &[(Edit, u32)] = &[
     // The next line of the same script is the bad one, or the last picture where there is none.
     // Where the last picture is taken out, it is the place behind all.
     (Out(1), 1),
@@ -148,7 +148,7 @@ const CHANGED_TWO: [(Edit, u32); 40] = [
 ];
 
 /// The same of the run in which a client is locked out: a delivery or a reply is another.
-const CHANGED_KILL: [(Edit, u32); 18] = [
+const CHANGED_KILL: &[(Edit, u32)] = &[
     (Says(7, "input motion 1 1"), 7),
     (Says(7, "input motion 1 1 > 1 motion 1 1"), 7),
     (Says(7, "input motion 1 1 > 0 motion 1 2"), 7),
@@ -170,7 +170,7 @@ const CHANGED_KILL: [(Edit, u32); 18] = [
 ];
 
 /// The same of the run with three views: an entry tells of another view.
-const CHANGED_VIEWS: [(Edit, u32); 8] = [
+const CHANGED_VIEWS: &[(Edit, u32)] = &[
     (Says(3, "call 0 handle 2 < view"), 3),
     (Says(9, "call 0 no-such-view 3 < front 3"), 9),
     (Says(10, "call 0 done < destroy 2"), 10),
@@ -181,6 +181,28 @@ const CHANGED_VIEWS: [(Edit, u32); 8] = [
     (Says(18, "call 0 event motion 0 1 < take"), 18),
 ];
 
+/// A run, and the changes of its journal.
+type Changed = (Run, &'static [(Edit, u32)]);
+
+const CHANGED: [Changed; 3] = [
+    (TWO, CHANGED_TWO),
+    (KILL, CHANGED_KILL),
+    (VIEWS, CHANGED_VIEWS),
+];
+
+fn assert_runs(rt: &impl Abort, alloc: Global, rows: &[Changed]) -> Result<(), Fail> {
+    for (run, _) in rows {
+        assert_judged(rt, alloc, 0, run, Nothing, &Verdict::Yes)?;
+    }
+    Ok(())
+}
+
+/// The journal of a run is one of it.
+#[test]
+fn the_runs_themselves(rt: HostRuntime) -> Result<(), Fail> {
+    assert_runs(&rt, rt.alloc(), &CHANGED)
+}
+
 /// Each change of a run's journal names its entry.
 fn assert_changes(
     rt: &impl Abort,
@@ -188,16 +210,20 @@ fn assert_changes(
     run: &Run,
     changes: &[(Edit, u32)],
 ) -> Result<(), Fail> {
-    for (edit, entry) in changes {
-        let found = judged(alloc, run, *edit)?;
-        same(rt, edit, &found, &Verdict::No { entry: *entry });
+    for (row, (edit, entry)) in changes.iter().enumerate() {
+        assert_judged(rt, alloc, row, run, *edit, &Verdict::No { entry: *entry })?;
+    }
+    Ok(())
+}
+
+fn assert_all_changes(rt: &impl Abort, alloc: Global, rows: &[Changed]) -> Result<(), Fail> {
+    for (run, changes) in rows {
+        assert_changes(rt, alloc, run, changes)?;
     }
     Ok(())
 }
 
 #[test]
 fn changed_journals(rt: HostRuntime) -> Result<(), Fail> {
-    assert_changes(&rt, rt.alloc(), &TWO, &CHANGED_TWO)?;
-    assert_changes(&rt, rt.alloc(), &KILL, &CHANGED_KILL)?;
-    assert_changes(&rt, rt.alloc(), &VIEWS, &CHANGED_VIEWS)
+    assert_all_changes(&rt, rt.alloc(), &CHANGED)
 }

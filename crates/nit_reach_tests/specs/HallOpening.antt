@@ -7,8 +7,8 @@ use Rattle.nit_hall.specs.ClipPass.{ClipPassModel, ClipBelongs}
 use Rattle.nit_hall.specs.Room.{RoomModel}
 
 -- the lines of this opening can be done: its journal is open, and all passes are of it
-pub record IsReady (parts : OpeningParts) (r : RoomModel) (ps : List PassModel) (u : UserPassModel)
-    (qs : List ClipPassModel) : Type 0 where
+pub record IsOpenRoom (parts : OpeningParts) (r : RoomModel) (ps : List PassModel)
+    (u : UserPassModel) (qs : List ClipPassModel) : Type 0 where
   pub parts_are : r.parts ≡ parts
   pub open_now : IsOpen r.scene.entries
   pub belong : All (Belongs parts) ps

@@ -6,7 +6,7 @@ ghost use Rattle.nit_slots.specs.Account.{IsDonation};
 ghost use Rattle.nit_plan.specs.ScriptWords.{table_size};
 ghost use Rattle.nit_config.specs.ConfigurationRanges.{IsConfiguration};
 ghost use Rattle.nit_hall.specs.Opening.{AreBlank, IsSetting};
-ghost use Rattle.nit_reach_tests.specs.HallOpening.{IsReady};
+ghost use Rattle.nit_reach_tests.specs.HallOpening.{IsOpenRoom};
 
 use nit_clip::ClipScript;
 use nit_config::Config;
@@ -94,7 +94,7 @@ pub fn all_opened<'a>(
     requires setting { IsSetting config.now scripts.now plans.now }
     requires canvases { AreBlank config.now plans.now canvases.items }
     requires each { length clips.now ≡ length scripts.now }
-    ensures { IfOk result (λ o. IsReady o.opened.room.parts o.opened.room o.opened.passes.items
+    ensures { IfOk result (λ o. IsOpenRoom o.opened.room.parts o.opened.room o.opened.passes.items
         o.opened.user o.clips.items) }
 {
     let opened = open(alloc, config, scripts, plans, input, canvases)?;

@@ -3,7 +3,7 @@
 
 ghost use Rattle.std.specs.Prelude.{◌≡◌, length};
 ghost use Rattle.nit_config.specs.ConfigurationRanges.{IsConfiguration};
-ghost use Rattle.nit_reach_tests.specs.HallOpening.{IsReady};
+ghost use Rattle.nit_reach_tests.specs.HallOpening.{IsOpenRoom};
 
 use crate::hall_opening::{all_opened, buffers_of, canvases_of, plans_of};
 use crate::hall_steps::do_phases;
@@ -146,7 +146,7 @@ fn serve_all<'a, N: Name, R: Abort + Wait>(
     opened: ClipOpened<'a>,
     wanted: &[u8],
 ) -> Result<(), NoMemory>
-    requires { IsReady N.parts opened.opened.room opened.opened.passes.items opened.opened.user
+    requires { IsOpenRoom N.parts opened.opened.room opened.opened.passes.items opened.opened.user
         opened.clips.items }
 {
     let ClipOpened { opened, clips } = opened;

@@ -7,6 +7,7 @@ ghost use Rattle.nit_config.specs.ConfigurationRanges.{IsConfiguration};
 ghost use Rattle.nit_journal.specs.Replay.{IsOpen};
 ghost use Rattle.nit_scene.specs.Screen.{IsGlass};
 
+use crate::same::same;
 use nit_config::{Config, read_config};
 use nit_events::{Call, Device};
 use nit_scene::Scene;
@@ -134,39 +135,52 @@ fn take_steps(scene: &mut Scene<Inked>, first: &mut Inked, second: &mut Inked, s
     }
 }
 
-/// The frame after the steps of a run, of words that are all loaded again and of places that are
-/// all worked out again.
-fn frame_anew(alloc: Global, config: &Config, steps: &[Step]) -> Result<Vec<u32>, Fail>
-    requires config { IsConfiguration config.now }
-    requires two { length config.now.clients ≡ 2 }
-    requires few { length steps.now < ROOM }
+/// A picture of zeros.
+fn blank(alloc: Global, config: &Config) -> Result<Vec<u32>, Fail>
+    requires { IsConfiguration config.now }
+    ensures { IfOk result (λ v. length v.items ≡ config.now.width * config.now.height) }
 {
-    let mut scene = scene(alloc, config)?;
-    let mut first = glass(alloc, config, 0, 0xFF0000)?;
-    let mut second = glass(alloc, config, 1, 0x0000FF)?;
-    let mut out = vec![in alloc; 0; config.width as usize * config.height as usize]?;
-    take_steps(&mut scene, &mut first, &mut second, steps);
-    scene.finish(&mut [first, second], out.as_mut_slice());
-    Ok(out)
+    Ok(vec![in alloc; 0; config.width as usize * config.height as usize]?)
 }
 
-/// The frame that a scene keeps after these steps is the one that is made anew.
+/// The frame that a scene keeps after these steps is its last picture, for which all words are
+/// loaded and all places worked out again.
+fn assert_steps(
+    rt: &impl Abort,
+    mut scene: Scene<Inked>,
+    mut first: Inked,
+    mut second: Inked,
+    steps: &[Step],
+    kept: &mut [u32],
+    anew: &mut [u32],
+)
+    requires two { length scene.config.clients ≡ 2 }
+    requires open { IsOpen scene.entries }
+    requires spare { length steps.now < scene.spare }
+    requires first { IsGlass scene.config 0 first }
+    requires second { IsGlass scene.config 1 second }
+    requires kept { length kept.old ≡ scene.config.width * scene.config.height }
+    requires anew { length anew.old ≡ scene.config.width * scene.config.height }
+{
+    take_steps(&mut scene, &mut first, &mut second, steps);
+    kept.copy_from_slice(scene.frame());
+    scene.finish(&mut [first, second], anew);
+    let (kept, anew): (&[u32], &[u32]) = (kept, anew);
+    same(rt, &steps.len(), &kept, &anew);
+}
+
+/// The same of a new scene.
 fn assert_kept(rt: &impl Abort, alloc: Global, config: &Config, steps: &[Step]) -> Result<(), Fail>
     requires config { IsConfiguration config.now }
     requires two { length config.now.clients ≡ 2 }
     requires few { length steps.now < ROOM }
 {
-    let mut scene = scene(alloc, config)?;
-    let mut first = glass(alloc, config, 0, 0xFF0000)?;
-    let mut second = glass(alloc, config, 1, 0x0000FF)?;
-    take_steps(&mut scene, &mut first, &mut second, steps);
-    let anew = frame_anew(alloc, config, steps)?;
-    assert_eq!(rt;
-        scene.frame(),
-        anew.as_slice(),
-        "after {} steps",
-        steps.len()
-    );
+    let mut kept = blank(alloc, config)?;
+    let mut anew = blank(alloc, config)?;
+    let first = glass(alloc, config, 0, 0xFF0000)?;
+    let second = glass(alloc, config, 1, 0x0000FF)?;
+    let scene = scene(alloc, config)?;
+    assert_steps(rt, scene, first, second, steps, &mut kept, &mut anew);
     Ok(())
 }
 
@@ -182,90 +196,87 @@ fn assert_run(rt: &impl Abort, alloc: Global, text: &str, steps: &[Step]) -> Res
 }
 
 /// A client is locked out, and the other stays.
-#[test]
-fn kill_run(rt: HostRuntime) -> Result<(), Fail> {
-    let steps = [
-        Step::Call(0, Call::Buffer(4, 4)),
-        Step::Call(0, Call::View),
-        Step::Call(0, Call::Place(1, 0, 0, 4, 4)),
-        Step::Call(1, Call::Buffer(4, 4)),
-        Step::Call(1, Call::View),
-        Step::Call(1, Call::Place(1, 4, 0, 4, 4)),
-        Step::Input(Device::Motion(1, 1)),
-        Step::Input(Device::Press(272)),
-        Step::Input(Device::Release(272)),
-        Step::Input(Device::Press(99)),
-        Step::Input(Device::Press(272)),
-        Step::Input(Device::Release(272)),
-        Step::Call(0, Call::Take),
-        Step::Call(0, Call::View),
-        Step::Call(0, Call::Close),
-        Step::Call(1, Call::Take),
-    ];
-    assert_run(&rt, rt.alloc(), TWO, &steps)
-}
+const KILL_STEPS: [Step; 16] = [
+    Step::Call(0, Call::Buffer(4, 4)),
+    Step::Call(0, Call::View),
+    Step::Call(0, Call::Place(1, 0, 0, 4, 4)),
+    Step::Call(1, Call::Buffer(4, 4)),
+    Step::Call(1, Call::View),
+    Step::Call(1, Call::Place(1, 4, 0, 4, 4)),
+    Step::Input(Device::Motion(1, 1)),
+    Step::Input(Device::Press(272)),
+    Step::Input(Device::Release(272)),
+    Step::Input(Device::Press(99)),
+    Step::Input(Device::Press(272)),
+    Step::Input(Device::Release(272)),
+    Step::Call(0, Call::Take),
+    Step::Call(0, Call::View),
+    Step::Call(0, Call::Close),
+    Step::Call(1, Call::Take),
+];
 
 /// Two views in X-ray mode, which change there.
-#[test]
-fn xray_run(rt: HostRuntime) -> Result<(), Fail> {
-    let steps = [
-        Step::Call(0, Call::Buffer(12, 7)),
-        Step::Call(0, Call::View),
-        Step::Call(0, Call::Place(1, 0, 0, 12, 7)),
-        Step::Call(1, Call::Buffer(4, 7)),
-        Step::Call(1, Call::View),
-        Step::Call(1, Call::Place(1, 0, 0, 3, 7)),
-        Step::Input(Device::Press(70)),
-        Step::Call(1, Call::Place(1, 9, 0, 3, 7)),
-        Step::Call(0, Call::Front(1)),
-        Step::Call(1, Call::Refresh(0, 0, 4, 7)),
-        Step::Call(0, Call::Back(1)),
-        Step::Call(1, Call::Offset(1, 1, 1)),
-        Step::Call(1, Call::Buffer(2, 2)),
-        Step::Call(1, Call::Destroy(1)),
-        Step::Input(Device::Press(70)),
-        Step::Call(0, Call::Offset(1, -3, 2)),
-    ];
-    assert_run(&rt, rt.alloc(), LABELS, &steps)
-}
+const XRAY_STEPS: [Step; 16] = [
+    Step::Call(0, Call::Buffer(12, 7)),
+    Step::Call(0, Call::View),
+    Step::Call(0, Call::Place(1, 0, 0, 12, 7)),
+    Step::Call(1, Call::Buffer(4, 7)),
+    Step::Call(1, Call::View),
+    Step::Call(1, Call::Place(1, 0, 0, 3, 7)),
+    Step::Input(Device::Press(70)),
+    Step::Call(1, Call::Place(1, 9, 0, 3, 7)),
+    Step::Call(0, Call::Front(1)),
+    Step::Call(1, Call::Refresh(0, 0, 4, 7)),
+    Step::Call(0, Call::Back(1)),
+    Step::Call(1, Call::Offset(1, 1, 1)),
+    Step::Call(1, Call::Buffer(2, 2)),
+    Step::Call(1, Call::Destroy(1)),
+    Step::Input(Device::Press(70)),
+    Step::Call(0, Call::Offset(1, -3, 2)),
+];
 
 /// The status bar in all three modes: a click on a view, a click in the bar, and the end of the
 /// session that has the focus.
+const BAR_STEPS: [Step; 32] = [
+    Step::Call(0, Call::Buffer(20, 16)),
+    Step::Call(0, Call::View),
+    Step::Call(0, Call::Place(1, 0, 0, 20, 16)),
+    Step::Call(1, Call::Buffer(20, 16)),
+    Step::Call(1, Call::View),
+    Step::Call(1, Call::Place(1, 20, 0, 20, 16)),
+    Step::Input(Device::Motion(1, 9)),
+    Step::Input(Device::Press(272)),
+    Step::Input(Device::Release(272)),
+    Step::Input(Device::Motion(1, 1)),
+    Step::Input(Device::Press(272)),
+    Step::Input(Device::Release(272)),
+    Step::Input(Device::Press(70)),
+    Step::Input(Device::Motion(30, 9)),
+    Step::Input(Device::Press(272)),
+    Step::Input(Device::Release(272)),
+    Step::Input(Device::Motion(30, 1)),
+    Step::Input(Device::Press(272)),
+    Step::Input(Device::Release(272)),
+    Step::Input(Device::Press(99)),
+    Step::Input(Device::Press(272)),
+    Step::Input(Device::Release(272)),
+    Step::Input(Device::Press(99)),
+    Step::Input(Device::Motion(1, 9)),
+    Step::Input(Device::Press(272)),
+    Step::Input(Device::Release(272)),
+    Step::Call(0, Call::Close),
+    Step::Input(Device::Motion(30, 9)),
+    Step::Input(Device::Press(272)),
+    Step::Input(Device::Release(272)),
+    Step::Input(Device::Press(70)),
+    Step::Call(1, Call::Close),
+];
+
 #[test]
-fn bar_run(rt: HostRuntime) -> Result<(), Fail> {
-    let steps = [
-        Step::Call(0, Call::Buffer(20, 16)),
-        Step::Call(0, Call::View),
-        Step::Call(0, Call::Place(1, 0, 0, 20, 16)),
-        Step::Call(1, Call::Buffer(20, 16)),
-        Step::Call(1, Call::View),
-        Step::Call(1, Call::Place(1, 20, 0, 20, 16)),
-        Step::Input(Device::Motion(1, 9)),
-        Step::Input(Device::Press(272)),
-        Step::Input(Device::Release(272)),
-        Step::Input(Device::Motion(1, 1)),
-        Step::Input(Device::Press(272)),
-        Step::Input(Device::Release(272)),
-        Step::Input(Device::Press(70)),
-        Step::Input(Device::Motion(30, 9)),
-        Step::Input(Device::Press(272)),
-        Step::Input(Device::Release(272)),
-        Step::Input(Device::Motion(30, 1)),
-        Step::Input(Device::Press(272)),
-        Step::Input(Device::Release(272)),
-        Step::Input(Device::Press(99)),
-        Step::Input(Device::Press(272)),
-        Step::Input(Device::Release(272)),
-        Step::Input(Device::Press(99)),
-        Step::Input(Device::Motion(1, 9)),
-        Step::Input(Device::Press(272)),
-        Step::Input(Device::Release(272)),
-        Step::Call(0, Call::Close),
-        Step::Input(Device::Motion(30, 9)),
-        Step::Input(Device::Press(272)),
-        Step::Input(Device::Release(272)),
-        Step::Input(Device::Press(70)),
-        Step::Call(1, Call::Close),
-    ];
-    assert_run(&rt, rt.alloc(), BAR, &steps)
+fn runs(rt: HostRuntime) -> Result<(), Fail> {
+    let runs: [(&str, &[Step]); 3] = [(TWO, &KILL_STEPS), (LABELS, &XRAY_STEPS), (BAR, &BAR_STEPS)];
+    for (text, steps) in &runs {
+        assert_run(&rt, rt.alloc(), text, steps)?;
+    }
+    Ok(())
 }

@@ -6,6 +6,7 @@ ghost use Rattle.nit_config.specs.ConfigurationRanges.{IsConfiguration};
 ghost use Rattle.nit_journal.specs.Replay.{IsOpen};
 ghost use Rattle.nit_scene.specs.Screen.{IsGlass};
 
+use crate::same::same;
 use nit_config::{Config, read_config};
 use nit_events::Call;
 use nit_scene::Scene;
@@ -112,7 +113,7 @@ fn assert_loads(
     loads[0].set(0);
     loads[1].set(0);
     let _reply = scene.call(sid, call, own);
-    assert_eq!(rt; (loads[0].get(), loads[1].get()), want, "at {call:?}");
+    same(rt, call, &(loads[0].get(), loads[1].get()), &want);
 }
 
 /// Serves these calls of both clients, with so many loads from each session's glasses.
@@ -158,38 +159,62 @@ fn two_clients(rt: &impl Abort, alloc: Global) -> Result<Config, Fail>
     Ok(config)
 }
 
+/// Calls before a shot, each with its session and how many words it loads from each session's
+/// glasses.
+const BEFORE: [(u32, Call, (u32, u32)); 6] = [
+    (0, Call::Buffer(4, 2), (0, 0)),
+    (0, Call::View, (0, 0)),
+    (0, Call::Place(1, 0, 0, 4, 2), (8, 0)),
+    (1, Call::Buffer(4, 2), (0, 0)),
+    (1, Call::View, (0, 0)),
+    (1, Call::Place(1, 0, 0, 4, 2), (0, 8)),
+];
+
+/// Calls after it.
+const AFTER: [(u32, Call, (u32, u32)); 3] = [
+    (1, Call::Place(1, 4, 2, 4, 2), (8, 8)),
+    (1, Call::Refresh(1, 0, 2, 1), (0, 2)),
+    (1, Call::Place(1, 40_000, 0, 1, 1), (0, 0)),
+];
+
+/// Both tables of calls load so many words, the shot between them loads none, and the last picture
+/// loads all that is shown.
+fn assert_all<'a>(
+    rt: &impl Abort,
+    mut scene: Scene<Counting<'a>>,
+    mut first: Counting<'a>,
+    mut second: Counting<'a>,
+    loads: &[Cell<u32>; 2],
+)
+    requires two { length scene.config.clients ≡ 2 }
+    requires open { IsOpen scene.entries }
+    requires spare { scene.spare ≡ 16 }
+    requires screen { scene.config.width * scene.config.height ≡ PIXELS }
+    requires first { IsGlass scene.config 0 first.glass }
+    requires second { IsGlass scene.config 1 second.glass }
+{
+    let mut out = [0; PIXELS];
+    assert_rows(rt, &mut scene, &mut first, &mut second, loads, &BEFORE);
+    loads[0].set(0);
+    loads[1].set(0);
+    let _number = scene.shot(&mut out);
+    same(rt, &"shot", &(loads[0].get(), loads[1].get()), &(0, 0));
+    assert_rows(rt, &mut scene, &mut first, &mut second, loads, &AFTER);
+    loads[0].set(0);
+    loads[1].set(0);
+    scene.finish(&mut [first, second], &mut out);
+    same(rt, &"last", &(loads[0].get(), loads[1].get()), &(8, 8));
+}
+
 /// Each pixel that a call makes dirty and that shows a word is loaded once, and nothing else is.
 #[test]
 fn loads_by_entry(rt: HostRuntime) -> Result<(), Fail> {
     let alloc = rt.alloc();
     let loads = [Cell::new(0), Cell::new(0)];
     let config = two_clients(&rt, alloc)?;
-    let mut scene = scene(alloc, &config, &loads)?;
-    let mut first = glass(alloc, &config, 0, &loads[0])?;
-    let mut second = glass(alloc, &config, 1, &loads[1])?;
-    let mut out = [0; PIXELS];
-    let before = [
-        (0, Call::Buffer(4, 2), (0, 0)),
-        (0, Call::View, (0, 0)),
-        (0, Call::Place(1, 0, 0, 4, 2), (8, 0)),
-        (1, Call::Buffer(4, 2), (0, 0)),
-        (1, Call::View, (0, 0)),
-        (1, Call::Place(1, 0, 0, 4, 2), (0, 8)),
-    ];
-    let after = [
-        (1, Call::Place(1, 4, 2, 4, 2), (8, 8)),
-        (1, Call::Refresh(1, 0, 2, 1), (0, 2)),
-        (1, Call::Place(1, 40_000, 0, 1, 1), (0, 0)),
-    ];
-    assert_rows(&rt, &mut scene, &mut first, &mut second, &loads, &before);
-    loads[0].set(0);
-    loads[1].set(0);
-    let _number = scene.shot(&mut out);
-    assert_eq!(rt; (loads[0].get(), loads[1].get()), (0, 0));
-    assert_rows(&rt, &mut scene, &mut first, &mut second, &loads, &after);
-    loads[0].set(0);
-    loads[1].set(0);
-    scene.finish(&mut [first, second], &mut out);
-    assert_eq!(rt; (loads[0].get(), loads[1].get()), (8, 8));
+    let first = glass(alloc, &config, 0, &loads[0])?;
+    let second = glass(alloc, &config, 1, &loads[1])?;
+    let scene = scene(alloc, &config, &loads)?;
+    assert_all(&rt, scene, first, second, &loads);
     Ok(())
 }

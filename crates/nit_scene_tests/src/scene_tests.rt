@@ -6,23 +6,24 @@ ghost use Rattle.nit_config.specs.ConfigurationRanges.{IsConfiguration};
 ghost use Rattle.nit_journal.specs.Replay.{IsOpen};
 ghost use Rattle.nit_scene.specs.Screen.{IsGlass};
 
+use crate::same::same;
 use nit_config::{Config, read_config};
 use nit_events::{Entry, Reply};
 use nit_scene::Scene;
 use nit_script::{Line, parse_client};
 use nit_slots::room;
 use nit_word::Inked;
-use std::alloc::Global;
+use std::alloc::{AllocError, Global};
 use std::process::Abort;
 use std::test::Fail;
 
 /// A screen of 8 by 4 and one client of 512 units.
-const SMALL: &str =
-    "[screen]\nwidth = 8\nheight = 4\n\n[input]\nscript = \"i\"\n\n[[client]]\nlabel = \"a\"\ndonation = 512\nscript = \"a\"\n";
+const SMALL: &str = "[screen]\nwidth = 8\nheight = 4\n\n[input]\nscript = \"i\"\n\n\
+     [[client]]\nlabel = \"a\"\ndonation = 512\nscript = \"a\"\n";
 
 /// The same with a client of all units.
-const GREAT: &str =
-    "[screen]\nwidth = 8\nheight = 4\n\n[input]\nscript = \"i\"\n\n[[client]]\nlabel = \"a\"\ndonation = 8388608\nscript = \"a\"\n";
+const GREAT: &str = "[screen]\nwidth = 8\nheight = 4\n\n[input]\nscript = \"i\"\n\n\
+     [[client]]\nlabel = \"a\"\ndonation = 8388608\nscript = \"a\"\n";
 
 /// A glass of zeros for the first client.
 fn glass(alloc: Global, config: &Config) -> Result<Inked, Fail>
@@ -70,13 +71,17 @@ fn serve_all(scene: &mut Scene<Inked>, own: &mut Inked, lines: &[Line])
 }
 
 /// The entries are calls with these replies.
-fn assert_replies(rt: &impl Abort, entries: &[Entry], replies: &[Reply]) {
-    assert_eq!(rt; entries.len(), replies.len());
-    for (entry, expected) in entries.iter().zip(replies) {
-        match entry {
-            Entry::Call { reply, .. } => assert_eq!(rt; *reply, *expected),
-            _ => assert!(rt; false),
-        }
+fn assert_replies(rt: &impl Abort, script: &str, entries: &[Entry], replies: &[Reply]) {
+    same(rt, &script, &entries.len(), &replies.len());
+    for (entry, want) in entries.iter().zip(replies) {
+        same(rt, &script, &reply_of(entry), &Some(*want));
+    }
+}
+
+fn reply_of(entry: &Entry) -> Option<Reply> {
+    match entry {
+        Entry::Call { reply, .. } => Some(*reply),
+        _ => None,
     }
 }
 
@@ -91,11 +96,11 @@ fn assert_served(
     requires config { IsConfiguration config.now }
     requires one { length config.now.clients ≡ 1 }
 {
-    let script = parse_client(alloc, script.as_bytes())?;
+    let client = parse_client(alloc, script.as_bytes())?;
     let mut own = glass(alloc, config)?;
     let mut scene = scene(alloc, config)?;
-    serve_all(&mut scene, &mut own, script.lines());
-    assert_replies(rt, scene.journal().entries(), replies);
+    serve_all(&mut scene, &mut own, client.lines());
+    assert_replies(rt, script, scene.journal().entries(), replies);
     Ok(())
 }
 
@@ -109,107 +114,95 @@ fn configuration(rt: &impl Abort, alloc: Global, text: &str) -> Result<Config, F
     Ok(config)
 }
 
-#[test]
-fn calls_of_512_units(rt: HostRuntime) -> Result<(), Fail> {
-    let alloc = rt.alloc();
-    let config = configuration(&rt, alloc, SMALL)?;
-    let views = [
-        Reply::Handle(1),
-        Reply::Handle(2),
-        Reply::OutOfQuota { need: 256, left: 0 },
-    ];
-    assert_served(&rt, alloc, &config, "view\nview\nview\n", &views)?;
-    let buffers = [
-        Reply::Done,
-        Reply::Handle(1),
-        Reply::OutOfQuota {
-            need: 512,
-            left: 256,
-        },
-    ];
-    assert_served(
-        &rt,
-        alloc,
-        &config,
+/// A configuration, the script of its client, and the replies.
+const CASES: [(&str, &str, &[Reply]); 6] = [
+    (
+        SMALL,
+        "view\nview\nview\n",
+        &[
+            Reply::Handle(1),
+            Reply::Handle(2),
+            Reply::OutOfQuota { need: 256, left: 0 },
+        ],
+    ),
+    (
+        SMALL,
         "buffer 4 4\nview\nbuffer 8 8\n",
-        &buffers,
-    )?;
-    let upgrades = [
-        Reply::Handle(1),
-        Reply::Handle(2),
-        Reply::Done,
-        Reply::Handle(3),
-        Reply::NoReserve {
-            need: 257,
-            left: 256,
-        },
-        Reply::Done,
-        Reply::NoReserve { need: 1, left: 0 },
-    ];
-    assert_served(
-        &rt,
-        alloc,
-        &config,
+        &[
+            Reply::Done,
+            Reply::Handle(1),
+            Reply::OutOfQuota {
+                need: 512,
+                left: 256,
+            },
+        ],
+    ),
+    (
+        SMALL,
         "view\nview\nupgrade 256\nview\nupgrade 257\nupgrade 256\nupgrade 1\n",
-        &upgrades,
-    )
-}
-
-#[test]
-fn names_and_numbers(rt: HostRuntime) -> Result<(), Fail> {
-    let alloc = rt.alloc();
-    let config = configuration(&rt, alloc, GREAT)?;
-    let handles = [
-        Reply::Handle(1),
-        Reply::Done,
-        Reply::Handle(2),
-        Reply::NoSuchView(1),
-    ];
-    assert_served(
-        &rt,
-        alloc,
-        &config,
+        &[
+            Reply::Handle(1),
+            Reply::Handle(2),
+            Reply::Done,
+            Reply::Handle(3),
+            Reply::NoReserve {
+                need: 257,
+                left: 256,
+            },
+            Reply::Done,
+            Reply::NoReserve { need: 1, left: 0 },
+        ],
+    ),
+    (
+        GREAT,
         "view\ndestroy 1\nview\nplace 1 0 0 1 1\n",
-        &handles,
-    )?;
-    let titles = [
-        Reply::Handle(1),
-        Reply::Done,
-        Reply::BadTitle,
-        Reply::BadTitle,
-        Reply::NoSuchView(2),
-    ];
-    assert_served(
-        &rt,
-        alloc,
-        &config,
+        &[
+            Reply::Handle(1),
+            Reply::Done,
+            Reply::Handle(2),
+            Reply::NoSuchView(1),
+        ],
+    ),
+    (
+        GREAT,
         "view\ntitle 1 =log 2\ntitle 1 =Log\ntitle 1 =abcdefghijklm\ntitle 2 =\n",
-        &titles,
-    )?;
-    let ranges = [
-        Reply::Handle(1),
-        Reply::Done,
-        Reply::BadRect,
-        Reply::BadRect,
-        Reply::BadSize,
-        Reply::BadSize,
-        Reply::Done,
-        Reply::Closed,
-        Reply::Closed,
-    ];
-    assert_served(
-        &rt,
-        alloc,
-        &config,
-        "view\nplace 1 32767 -32768 32767 32767\nplace 1 32768 0 1 1\nrefresh 0 0 32768 1\nbuffer 4097 1\nbuffer 0 1\nclose\nclose\ntake\n",
-        &ranges,
-    )
-}
+        &[
+            Reply::Handle(1),
+            Reply::Done,
+            Reply::BadTitle,
+            Reply::BadTitle,
+            Reply::NoSuchView(2),
+        ],
+    ),
+    (
+        GREAT,
+        "view\nplace 1 32767 -32768 32767 32767\nplace 1 32768 0 1 1\nrefresh 0 0 32768 1\n\
+         buffer 4097 1\nbuffer 0 1\nclose\nclose\ntake\n",
+        &[
+            Reply::Handle(1),
+            Reply::Done,
+            Reply::BadRect,
+            Reply::BadRect,
+            Reply::BadSize,
+            Reply::BadSize,
+            Reply::Done,
+            Reply::Closed,
+            Reply::Closed,
+        ],
+    ),
+];
 
 #[test]
-fn views_of_all_units(rt: HostRuntime) -> Result<(), Fail> {
-    let alloc = rt.alloc();
-    let config = configuration(&rt, alloc, GREAT)?;
+fn replies(rt: HostRuntime) -> Result<(), Fail> {
+    for (config, script, replies) in &CASES {
+        let config = configuration(&rt, rt.alloc(), config)?;
+        assert_served(&rt, rt.alloc(), &config, script, replies)?;
+    }
+    Ok(())
+}
+
+/// As many views as there may be, and one more: the script, and the replies.
+fn all_views(alloc: Global) -> Result<(String, Vec<Reply>), AllocError> {
     let mut script = String::new(alloc);
     let mut replies = Vec::new(alloc);
     for handle in 1..=64 {
@@ -218,5 +211,12 @@ fn views_of_all_units(rt: HostRuntime) -> Result<(), Fail> {
     }
     script.push_str("view\n")?;
     replies.push(Reply::TooManyViews)?;
-    assert_served(&rt, alloc, &config, &script, &replies)
+    Ok((script, replies))
+}
+
+#[test]
+fn views_of_all_units(rt: HostRuntime) -> Result<(), Fail> {
+    let config = configuration(&rt, rt.alloc(), GREAT)?;
+    let (script, replies) = all_views(rt.alloc())?;
+    assert_served(&rt, rt.alloc(), &config, &script, &replies)
 }

@@ -22,7 +22,7 @@ fn changed(alloc: Global, old: &str, new: &str) -> Result<String, Fail> {
 type Client = (&'static str, &'static str, u32, bool);
 
 /// What is changed in the configuration to what, its height, whether it has a bar, and its clients.
-type Read = (&'static str, &'static str, u32, bool, [Client; 2]);
+type Read = (&'static str, &'static str, u32, bool, &'static [Client]);
 
 const READ: [Read; 5] = [
     (
@@ -30,35 +30,35 @@ const READ: [Read; 5] = [
         "",
         4,
         false,
-        [("a", "a.nit", 0, true), ("b", "b.nit", 0, true)],
+        &[("a", "a.nit", 0, true), ("b", "b.nit", 0, true)],
     ),
     (
         "label = \"a\"",
         "label = \"a\"\nlayer = 7\nfocus = \"none\"",
         4,
         false,
-        [("a", "a.nit", 7, false), ("b", "b.nit", 0, true)],
+        &[("a", "a.nit", 7, false), ("b", "b.nit", 0, true)],
     ),
     (
         "label = \"a\"",
         "label = \"a\"\nlayer = 0\nfocus = \"click\"",
         4,
         false,
-        [("a", "a.nit", 0, true), ("b", "b.nit", 0, true)],
+        &[("a", "a.nit", 0, true), ("b", "b.nit", 0, true)],
     ),
     (
         "height = 4",
         "height = 8\nbar = true",
         8,
         true,
-        [("a", "a.nit", 0, true), ("b", "b.nit", 0, true)],
+        &[("a", "a.nit", 0, true), ("b", "b.nit", 0, true)],
     ),
     (
         "height = 4",
         "height = 4\nbar = false",
         4,
         false,
-        [("a", "a.nit", 0, true), ("b", "b.nit", 0, true)],
+        &[("a", "a.nit", 0, true), ("b", "b.nit", 0, true)],
     ),
 ];
 
@@ -77,8 +77,9 @@ fn assert_read(rt: &impl Abort, case: usize, found: &Config, want: &Read) {
     same(rt, &case, &screen, &(8, *height, *bar));
     same(rt, &case, &found.input.as_str(), &"two.in");
     same(rt, &case, &found.clients.len(), &2);
-    assert_client(rt, case, found.clients.first(), &clients[0]);
-    assert_client(rt, case, found.clients.last(), &clients[1]);
+    for (place, client) in clients.iter().enumerate() {
+        assert_client(rt, case, found.clients.get(place), client);
+    }
 }
 
 /// The configuration with the first `old` changed to `new`.
@@ -87,17 +88,23 @@ fn read_changed(alloc: Global, old: &str, new: &str) -> Result<Config, Fail> {
     Ok(read_config(alloc, text.as_bytes())?)
 }
 
-#[test]
-fn two_clients(rt: HostRuntime) -> Result<(), Fail> {
-    for (case, want) in READ.iter().enumerate() {
-        let config = read_changed(rt.alloc(), want.0, want.1)?;
-        assert_read(&rt, case, &config, want);
+fn assert_all_read(rt: &impl Abort, alloc: Global, rows: &[Read]) -> Result<(), Fail> {
+    for (case, want) in rows.iter().enumerate() {
+        let config = read_changed(alloc, want.0, want.1)?;
+        assert_read(rt, case, &config, want);
     }
     Ok(())
 }
 
+#[test]
+fn two_clients(rt: HostRuntime) -> Result<(), Fail> {
+    assert_all_read(&rt, rt.alloc(), &READ)
+}
+
 /// What is changed in the configuration to what, and why it is refused then.
-const REFUSED: [(&str, &str, ConfigError); 24] = [
+type Refused = (&'static str, &'static str, ConfigError);
+
+const REFUSED: [Refused; 24] = [
     ("[screen]", "[screen", Syntax),
     ("width = 8", "width = \"8\"", Kind),
     ("height = 4\n", "", Missing),
@@ -130,25 +137,33 @@ fn refusal(alloc: Global, text: &str) -> Option<ConfigError> {
     read_config(alloc, text.as_bytes()).err()
 }
 
-#[test]
-fn refusals(rt: HostRuntime) -> Result<(), Fail> {
-    for (old, new, want) in &REFUSED {
-        let text = changed(rt.alloc(), old, new)?;
-        same(&rt, new, &refusal(rt.alloc(), &text), &Some(*want));
+fn assert_all_refused(rt: &impl Abort, alloc: Global, rows: &[Refused]) -> Result<(), Fail> {
+    for (old, new, want) in rows {
+        let text = changed(alloc, old, new)?;
+        same(rt, new, &refusal(alloc, &text), &Some(*want));
     }
     Ok(())
+}
+
+#[test]
+fn refusals(rt: HostRuntime) -> Result<(), Fail> {
+    assert_all_refused(&rt, rt.alloc(), &REFUSED)
 }
 
 /// Two clients, and this many more.
 fn crowd(alloc: Global, more: u32) -> Result<String, AllocError> {
     let mut text = String::from_str(alloc, TWO)?;
     for k in 0..more {
-        let client = format!(in alloc;
-            "\n[[client]]\nlabel = \"c{k}\"\ndonation = 256\nscript = \"c\"\n"
-        )?;
-        text.push_str(&client)?;
+        add_client(alloc, &mut text, k)?;
     }
     Ok(text)
+}
+
+fn add_client(alloc: Global, text: &mut String, k: u32) -> Result<(), AllocError> {
+    let client = format!(in alloc;
+        "\n[[client]]\nlabel = \"c{k}\"\ndonation = 256\nscript = \"c\"\n"
+    )?;
+    text.push_str(&client)
 }
 
 /// How many clients a text has.
@@ -191,11 +206,19 @@ const TEXTS: [(ConfigError, &str); 8] = [
     (Twice, "twice"),
 ];
 
-#[test]
-fn texts_of_refusals(rt: HostRuntime) -> Result<(), Fail> {
-    for (refusal, want) in &TEXTS {
-        let text = format!(in rt.alloc(); "{refusal}")?;
-        same(&rt, refusal, &text.as_str(), want);
+fn assert_texts(
+    rt: &impl Abort,
+    alloc: Global,
+    rows: &[(ConfigError, &'static str)],
+) -> Result<(), Fail> {
+    for (refusal, want) in rows {
+        let text = format!(in alloc; "{refusal}")?;
+        same(rt, refusal, &text.as_str(), want);
     }
     Ok(())
+}
+
+#[test]
+fn texts_of_refusals(rt: HostRuntime) -> Result<(), Fail> {
+    assert_texts(&rt, rt.alloc(), &TEXTS)
 }

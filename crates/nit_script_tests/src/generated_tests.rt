@@ -6,6 +6,7 @@
 use crate::same::same;
 use nit_config::{Config, Member, read_config};
 use nit_report::{Files, gen_config, generate};
+use std::alloc::Global;
 use std::process::Abort;
 use std::test::Fail;
 
@@ -59,29 +60,41 @@ fn assert_clients(rt: &impl Abort, files: &Files) {
     }
 }
 
+/// The first lines of the user in run 7.
+const FIRST_INPUT: &str = "phase\nmotion 314 49\npress 272\nrelease 272\nwheel 1\nmotion 270 200\n";
+
+/// The bytes begin with these lines.
+fn assert_begins(rt: &impl Abort, bytes: &[u8], lines: &str) {
+    assert!(rt; bytes.starts_with(lines.as_bytes()));
+}
+
+fn assert_run_7(rt: &impl Abort, files: &Files) {
+    assert_file(rt, &files.config, 549, 0x850A3D75);
+    assert_clients(rt, files);
+    assert_file(rt, &files.input, 2252, 0xC21D1337);
+    let first = files.clients.first().expect(rt, "the first client");
+    assert_begins(rt, first, FIRST_LINES);
+    assert_begins(rt, &files.input, FIRST_INPUT);
+}
+
 #[test]
 fn run_7(rt: HostRuntime) -> Result<(), Fail> {
     let files = generate(rt.alloc(), 7)?;
-    assert_file(&rt, &files.config, 549, 0x850A3D75);
-    assert_clients(&rt, &files);
-    assert_file(&rt, &files.input, 2252, 0xC21D1337);
-    let first = files.clients.first().expect(&rt, "the first client");
-    assert!(rt; first.starts_with(FIRST_LINES.as_bytes()));
-    assert!(rt;
-        files.input.starts_with(
-            b"phase\nmotion 314 49\npress 272\nrelease 272\nwheel 1\nmotion 270 200\n"
-        )
-    );
+    assert_run_7(&rt, &files);
     Ok(())
+}
+
+fn assert_run_999999999(rt: &impl Abort, files: &Files) {
+    let last = files.clients.last().expect(rt, "the last client");
+    assert_file(rt, last, 33048, 0x9752ED7A);
+    assert_file(rt, &files.input, 2246, 0xB044F24F);
 }
 
 /// The greatest number of the command line.
 #[test]
 fn run_999999999(rt: HostRuntime) -> Result<(), Fail> {
     let files = generate(rt.alloc(), 999_999_999)?;
-    let last = files.clients.last().expect(&rt, "the last client");
-    assert_file(&rt, last, 33048, 0x9752ED7A);
-    assert_file(&rt, &files.input, 2246, 0xB044F24F);
+    assert_run_999999999(&rt, &files);
     Ok(())
 }
 
@@ -109,13 +122,21 @@ fn assert_same(rt: &impl Abort, read: &Config, made: &Config) {
     }
 }
 
+fn assert_made(rt: &impl Abort, alloc: Global, read: &Config) -> Result<(), Fail> {
+    let made = gen_config(alloc)?;
+    same(rt, &"made", &(made.clients.len(), made.width), &(8, 320));
+    assert_same(rt, read, &made);
+    Ok(())
+}
+
+fn read_generated(alloc: Global) -> Result<Config, Fail> {
+    let files = generate(alloc, 7)?;
+    Ok(read_config(alloc, &files.config)?)
+}
+
 /// The text of the configuration is read as its value.
 #[test]
 fn configuration(rt: HostRuntime) -> Result<(), Fail> {
-    let files = generate(rt.alloc(), 7)?;
-    let read = read_config(rt.alloc(), &files.config)?;
-    let made = gen_config(rt.alloc())?;
-    same(&rt, &"made", &(made.clients.len(), made.width), &(8, 320));
-    assert_same(&rt, &read, &made);
-    Ok(())
+    let read = read_generated(rt.alloc())?;
+    assert_made(&rt, rt.alloc(), &read)
 }

@@ -4,8 +4,11 @@ use crate::same::same;
 use nit_config::FileName;
 use nit_events::{Entry, Event, Queue};
 use nit_journal::Journal;
+use nit_rect::NoMemory;
 use nit_slots::{Slots, Table};
 use nit_stack::Stack;
+use std::alloc::Global;
+use std::process::Abort;
 use std::test::Fail;
 
 #[test]
@@ -19,25 +22,45 @@ fn journal_with_room(rt: HostRuntime) -> Result<(), Fail> {
 
 #[test]
 fn greatest_of_all(rt: HostRuntime) -> Result<(), Fail> {
-    let slots = Slots::new(rt.alloc(), 1024)?;
-    same(&rt, &"slots", &slots.taken(), &0);
-    let table = Table::new(rt.alloc(), 64)?;
-    same(&rt, &"table", &table.last(), &None);
-    let stack = Stack::new(rt.alloc(), 1024, 768, 16, 1024)?;
-    same(&rt, &"stack", &stack.size(), &(1024, 768));
-    let journal = Journal::with_room(rt.alloc(), 1_114_113)?;
-    same(&rt, &"empty", &journal.entries().len(), &0);
+    same(&rt, &"slots", &taken_of_all(rt.alloc())?, &0);
+    same(&rt, &"table", &last_of_none(rt.alloc())?, &None);
+    same(&rt, &"stack", &greatest_size(rt.alloc())?, &(1024, 768));
+    same(&rt, &"empty", &entries_of_none(rt.alloc())?, &0);
     Ok(())
+}
+
+fn taken_of_all(alloc: Global) -> Result<u32, NoMemory> {
+    let slots = Slots::new(alloc, 1024)?;
+    Ok(slots.taken())
+}
+
+fn last_of_none(alloc: Global) -> Result<Option<u32>, NoMemory> {
+    let table = Table::new(alloc, 64)?;
+    Ok(table.last())
+}
+
+fn greatest_size(alloc: Global) -> Result<(u32, u32), NoMemory> {
+    let stack = Stack::new(alloc, 1024, 768, 16, 1024)?;
+    Ok(stack.size())
+}
+
+fn entries_of_none(alloc: Global) -> Result<usize, NoMemory> {
+    let journal = Journal::with_room(alloc, 1_114_113)?;
+    Ok(journal.entries().len())
 }
 
 #[test]
 fn queue_of_events(rt: HostRuntime) -> Result<(), Fail> {
     let mut queue = Queue::new(rt.alloc())?;
-    assert!(rt; queue.offer(Event::Press(272)));
-    assert!(rt; queue.offer(Event::Wheel(-1)));
-    same(&rt, &"first", &queue.take(), &Some(Event::Press(272)));
-    same(&rt, &"left", &queue.len(), &1);
+    assert_queue(&rt, &mut queue);
     Ok(())
+}
+
+fn assert_queue(rt: &impl Abort, queue: &mut Queue) {
+    same(rt, &"press", &queue.offer(Event::Press(272)), &true);
+    same(rt, &"wheel", &queue.offer(Event::Wheel(-1)), &true);
+    same(rt, &"first", &queue.take(), &Some(Event::Press(272)));
+    same(rt, &"left", &queue.len(), &1);
 }
 
 #[test]

@@ -120,12 +120,16 @@ const PLANS: [PlanCase; 4] = [
     ),
 ];
 
-#[test]
-fn plans(rt: HostRuntime) -> Result<(), Fail> {
-    for case in &PLANS {
-        assert_plan(&rt, rt.alloc(), case)?;
+fn assert_plans(rt: &impl Abort, alloc: Global, cases: &[PlanCase]) -> Result<(), Fail> {
+    for case in cases {
+        assert_plan(rt, alloc, case)?;
     }
     Ok(())
+}
+
+#[test]
+fn plans(rt: HostRuntime) -> Result<(), Fail> {
+    assert_plans(&rt, rt.alloc(), &PLANS)
 }
 
 /// A script, its donation, the most words that it may have, and the first of those that it leaves.
@@ -155,23 +159,34 @@ const WORDS: [WordsCase; 3] = [
     ),
 ];
 
-#[test]
-fn words(rt: HostRuntime) -> Result<(), Fail> {
-    for case in &WORDS {
-        assert_words(&rt, rt.alloc(), case)?;
+fn assert_all_words(rt: &impl Abort, alloc: Global, cases: &[WordsCase]) -> Result<(), Fail> {
+    for case in cases {
+        assert_words(rt, alloc, case)?;
     }
     Ok(())
+}
+
+#[test]
+fn words(rt: HostRuntime) -> Result<(), Fail> {
+    assert_all_words(&rt, rt.alloc(), &WORDS)
 }
 
 /// The plan of the text has these steps and this ink.
 fn assert_plan(rt: &impl Abort, alloc: Global, case: &PlanCase) -> Result<(), Fail> {
     let (text, donation, steps, ink) = *case;
     assert!(rt; 256 <= donation && donation <= 8_388_608);
-    let client = parse_client(alloc, text.as_bytes()).map_err(|_| "no script")?;
-    let plan = plan_of(alloc, &client, donation)?;
+    let plan = planned(alloc, text, donation)?;
     same(rt, &text, &plan.steps(), &steps);
     same(rt, &text, &plan.ink(), &ink);
     Ok(())
+}
+
+/// The plan of a text.
+fn planned(alloc: Global, text: &str, donation: u32) -> Result<Plan, Fail>
+    requires { IsDonation donation }
+{
+    let client = parse_client(alloc, text.as_bytes())?;
+    Ok(plan_of(alloc, &client, donation)?)
 }
 
 /// All lines of the script, done one after the other on the words of a new session.
@@ -202,7 +217,7 @@ fn do_lines(glass: &mut Inked, client: &Client, plan: &Plan, donation: u32)
 fn glass_of(alloc: Global, text: &str, donation: u32) -> Result<Inked, Fail>
     requires { IsDonation donation }
 {
-    let client = parse_client(alloc, text.as_bytes()).map_err(|_| "no script")?;
+    let client = parse_client(alloc, text.as_bytes())?;
     Ok(strokes(alloc, &client, donation)?)
 }
 
@@ -211,11 +226,15 @@ fn assert_words(rt: &impl Abort, alloc: Global, case: &WordsCase) -> Result<(), 
     let (text, donation, count, first) = *case;
     assert!(rt; 256 <= donation && donation <= 8_388_608);
     let glass = glass_of(alloc, text, donation)?;
-    let words = glass.words();
-    assert!(rt; words.len() <= count);
+    assert!(rt; glass.words().len() <= count);
+    assert_begin(rt, text, glass.words(), first);
+    Ok(())
+}
+
+/// These words come first, and all others are 0.
+fn assert_begin(rt: &impl Abort, text: &str, words: &[u32], first: &[u32]) {
     assert!(rt; first.len() <= words.len());
     let (begin, rest) = words.split_at(first.len());
     same(rt, &text, &begin, &first);
-    assert!(rt; rest.iter().all(|word| *word == 0), "in case {text:?}");
-    Ok(())
+    same(rt, &text, &rest.iter().all(|word| *word == 0), &true);
 }

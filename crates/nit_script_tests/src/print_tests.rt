@@ -3,6 +3,7 @@
 use crate::same::same;
 use nit_script::{ScriptError, parse_client, parse_input, print_client, print_input};
 use std::alloc::Global;
+use std::process::Abort;
 use std::test::Fail;
 
 const CLIENTS: [&str; 3] = [
@@ -30,17 +31,26 @@ fn input_again(alloc: Global, text: &str) -> Result<Vec<u8>, Fail> {
     Ok(print_input(alloc, &script)?)
 }
 
-#[test]
-fn scripts(rt: HostRuntime) -> Result<(), Fail> {
-    for text in &CLIENTS {
-        let again = client_again(rt.alloc(), text)?;
-        same(&rt, text, &again.as_slice(), &text.as_bytes());
-    }
-    for text in &INPUTS {
-        let again = input_again(rt.alloc(), text)?;
-        same(&rt, text, &again.as_slice(), &text.as_bytes());
+fn assert_clients(rt: &impl Abort, alloc: Global, texts: &[&'static str]) -> Result<(), Fail> {
+    for text in texts {
+        let again = client_again(alloc, text)?;
+        same(rt, text, &again.as_slice(), &text.as_bytes());
     }
     Ok(())
+}
+
+fn assert_inputs(rt: &impl Abort, alloc: Global, texts: &[&'static str]) -> Result<(), Fail> {
+    for text in texts {
+        let again = input_again(alloc, text)?;
+        same(rt, text, &again.as_slice(), &text.as_bytes());
+    }
+    Ok(())
+}
+
+#[test]
+fn scripts(rt: HostRuntime) -> Result<(), Fail> {
+    assert_clients(&rt, rt.alloc(), &CLIENTS)?;
+    assert_inputs(&rt, rt.alloc(), &INPUTS)
 }
 
 /// Texts, and the line without a reading.
@@ -54,10 +64,14 @@ const BAD_INPUTS: [(&str, u32); 7] = [
     ("shot", 1),
 ];
 
+fn assert_bad(rt: &impl Abort, alloc: Global, rows: &[(&'static str, u32)]) {
+    for (text, line) in rows {
+        let answer = parse_input(alloc, text.as_bytes()).err();
+        same(rt, text, &answer, &Some(ScriptError::Bad { line: *line }));
+    }
+}
+
 #[test]
 fn input_lines_without_reading(rt: HostRuntime) {
-    for (text, line) in &BAD_INPUTS {
-        let answer = parse_input(rt.alloc(), text.as_bytes()).err();
-        same(&rt, text, &answer, &Some(ScriptError::Bad { line: *line }));
-    }
+    assert_bad(&rt, rt.alloc(), &BAD_INPUTS);
 }

@@ -101,13 +101,34 @@ fn clients(alloc: Global, texts: &[&str]) -> Result<Vec<Client>, ScriptError> {
     Ok(all)
 }
 
-#[test]
-fn rounds(rt: HostRuntime) -> Result<(), Fail> {
-    for (case, (scripts, user, want)) in ROUNDS.iter().enumerate() {
-        let clients = clients(rt.alloc(), scripts)?;
-        let input = parse_input(rt.alloc(), user.as_bytes())?;
-        assert!(rt; clients.len() <= 16);
-        assert_turns(&rt, &mut Turns::new(&clients, &input), case, want);
+fn assert_round(rt: &impl Abort, alloc: Global, case: usize, round: &Round) -> Result<(), Fail> {
+    let (scripts, user, want) = *round;
+    let clients = clients(alloc, scripts)?;
+    assert_round_of(rt, alloc, case, &clients, user, want)
+}
+
+fn assert_round_of(
+    rt: &impl Abort,
+    alloc: Global,
+    case: usize,
+    clients: &[Client],
+    user: &str,
+    want: &[(u32, usize)],
+) -> Result<(), Fail> {
+    let input = parse_input(alloc, user.as_bytes())?;
+    assert!(rt; clients.len() <= 16);
+    assert_turns(rt, &mut Turns::new(clients, &input), case, want);
+    Ok(())
+}
+
+fn assert_rounds(rt: &impl Abort, alloc: Global, rounds: &[Round]) -> Result<(), Fail> {
+    for (case, round) in rounds.iter().enumerate() {
+        assert_round(rt, alloc, case, round)?;
     }
     Ok(())
+}
+
+#[test]
+fn rounds(rt: HostRuntime) -> Result<(), Fail> {
+    assert_rounds(&rt, rt.alloc(), &ROUNDS)
 }

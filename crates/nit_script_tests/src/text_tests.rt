@@ -3,6 +3,8 @@
 use crate::same::same;
 use nit_events::{Call, Delivery, Device, Entry, Event, Item, Reply, Routed, Status, Text};
 use nit_report::{Ending, JournalError, events_text, journal_text, parse_journal};
+use std::alloc::Global;
+use std::process::Abort;
 use std::test::Fail;
 
 /// A call of a session, with its answer.
@@ -63,19 +65,39 @@ const MOVED: [Entry; 2] = [
 
 const MOVED_TEXT: &str = "input motion 6 1 > 0 leave > 1 motion 6 1\ninput motion 1 1\n";
 
-#[test]
-fn journals(rt: HostRuntime) -> Result<(), Fail> {
-    for (entries, want) in &[(&TWO_ENTRIES[..], TWO), (&MOVED[..], MOVED_TEXT)] {
-        let text = journal_text(rt.alloc(), entries)?;
-        same(&rt, want, &text.as_slice(), &want.as_bytes());
-    }
+/// The journal of these entries has this text.
+fn assert_text(rt: &impl Abort, alloc: Global, entries: &[Entry], want: &str) -> Result<(), Fail> {
+    let text = journal_text(alloc, entries)?;
+    same(rt, &want, &text.as_slice(), &want.as_bytes());
     Ok(())
 }
 
 #[test]
-fn journal_read_again(rt: HostRuntime) {
-    let entries = parse_journal(rt.alloc(), TWO.as_bytes()).expect(&rt, "a journal");
-    same(&rt, &TWO, &entries.as_slice(), &TWO_ENTRIES.as_slice());
+fn journals(rt: HostRuntime) -> Result<(), Fail> {
+    assert_text(&rt, rt.alloc(), &TWO_ENTRIES, TWO)?;
+    assert_text(&rt, rt.alloc(), &MOVED, MOVED_TEXT)
+}
+
+/// The most bytes of a journal.
+const MOST: usize = 134_217_728;
+
+/// The entries of a text.
+fn read(rt: &impl Abort, alloc: Global, text: &str) -> Result<Vec<Entry>, JournalError> {
+    let bytes = text.as_bytes();
+    assert!(rt; bytes.len() <= MOST);
+    parse_journal(alloc, bytes)
+}
+
+/// The text of these entries is read as them.
+fn assert_entries(rt: &impl Abort, alloc: Global, text: &str, want: &[Entry]) -> Result<(), Fail> {
+    let entries = read(rt, alloc, text)?;
+    same(rt, &text, &entries.as_slice(), &want);
+    Ok(())
+}
+
+#[test]
+fn journal_read_again(rt: HostRuntime) -> Result<(), Fail> {
+    assert_entries(&rt, rt.alloc(), TWO, &TWO_ENTRIES)
 }
 
 /// Texts, and the line that spells no entry.
@@ -90,12 +112,16 @@ const BAD: [(&str, u32); 5] = [
     ),
 ];
 
+fn assert_bad(rt: &impl Abort, alloc: Global, rows: &[(&'static str, u32)]) {
+    for (text, line) in rows {
+        let answer = read(rt, alloc, text).err();
+        same(rt, text, &answer, &Some(JournalError::Bad { line: *line }));
+    }
+}
+
 #[test]
 fn lines_that_spell_no_entry(rt: HostRuntime) {
-    for (text, line) in &BAD {
-        let answer = parse_journal(rt.alloc(), text.as_bytes()).err();
-        same(&rt, text, &answer, &Some(JournalError::Bad { line: *line }));
-    }
+    assert_bad(&rt, rt.alloc(), &BAD);
 }
 
 /// A title that holds what parts a reply from a call and a delivery from a line.
@@ -103,10 +129,8 @@ fn lines_that_spell_no_entry(rt: HostRuntime) {
 fn a_title_with_marks(rt: HostRuntime) -> Result<(), Fail> {
     let title = Text::new(b"a < b > c").expect(&rt, "a text");
     let entries = [call!(3, Call::Title(2, title), Reply::BadTitle)];
-    let text = journal_text(rt.alloc(), &entries)?;
-    let want = b"call 3 bad-title < title 2 =a < b > c\n";
-    same(&rt, &"title", &text.as_slice(), &want.as_slice());
-    Ok(())
+    let want = "call 3 bad-title < title 2 =a < b > c\n";
+    assert_text(&rt, rt.alloc(), &entries, want)
 }
 
 /// What two sessions take.
@@ -119,13 +143,23 @@ const TAKEN: [Entry; 4] = [
 
 #[test]
 fn events_of_a_session(rt: HostRuntime) -> Result<(), Fail> {
+    let want = b"motion 1 1\nfocus-enter\nlost 1\nleft 0\nstate live\n";
+    assert_events(&rt, rt.alloc(), &TAKEN, want)
+}
+
+/// What session 0 has taken, one event being lost and none left, has this text.
+fn assert_events(
+    rt: &impl Abort,
+    alloc: Global,
+    entries: &[Entry],
+    want: &[u8],
+) -> Result<(), Fail> {
     let end = Ending {
         lost: 1,
         left: 0,
         status: Status::Live,
     };
-    let text = events_text(rt.alloc(), &TAKEN, 0, &end)?;
-    let want = b"motion 1 1\nfocus-enter\nlost 1\nleft 0\nstate live\n";
-    same(&rt, &"events", &text.as_slice(), &want.as_slice());
+    let text = events_text(alloc, entries, 0, &end)?;
+    same(rt, &"events", &text.as_slice(), &want);
     Ok(())
 }

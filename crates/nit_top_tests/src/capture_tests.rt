@@ -1,19 +1,13 @@
 //! Films of the run of two clients.
 
-use crate::bench::{
-    assert_asked, assert_bytes, assert_names, assert_refused, assert_said, command, files, store,
-};
+use crate::case::{Case, assert_cases};
+use crate::content::Want;
+use crate::journals::{Journal, List};
 use crate::two_tests::{FILES, SUMMARY};
-use nit_store::MemoryStore;
-use nit_top::Done;
-use std::alloc::{AllocError, Global};
-use std::process::Abort;
-use std::sync::Wait;
 use std::test::Fail;
-use std::thread::Threads;
 
 /// The names of the files that a capture reads and puts, in this order.
-static FILMED: [&str; 10] = [
+const FILMED: [&str; 10] = [
     "two.toml",
     "a.nit",
     "b.nit",
@@ -42,95 +36,82 @@ const RIGHT: [u8; 21] = [
     0,
 ];
 
-/// The first names.
-fn front(count: usize) -> &'static [&'static str] {
-    let (names, _) = FILMED.split_at(count.min(FILMED.len()));
-    names
+/// The film of the upper rows from a column on: a call of the store that fails, what is said with
+/// which status, how many files are there then, how many were asked for, what they hold, and how
+/// the journal is.
+macro_rules! film {
+    ($x:expr, $failing:expr, $status:expr, $said:expr, $there:expr, $asked:expr, $holds:expr,
+     $journal:expr) => {
+        Case {
+            words: &["capture", "two.toml", $x, "0", "4", "2"],
+            files: &FILES,
+            failing: $failing,
+            status: $status,
+            said: $said,
+            asked: (&FILMED, $asked),
+            there: (&FILMED, $there),
+            holds: $holds,
+            journal: &[$journal],
+        }
+    };
 }
 
-/// The capture of a region over a store of which the calls with these numbers fail.
-fn captured<R: Abort + Threads + Wait + Sync>(
-    rt: &R,
-    alloc: Global,
-    region: &[&str; 4],
-    failing: &[u64],
-) -> Result<(Done, MemoryStore), AllocError> {
-    let mut store = store(rt, alloc, files(alloc, &FILES)?, failing)?;
-    let words = [
-        "capture", "two.toml", region[0], region[1], region[2], region[3],
-    ];
-    let done = command(rt, alloc, &words, &mut store)?;
-    Ok((done, store))
-}
-
-/// The film of a region stands behind the files of the run.
-fn assert_film<R: Abort + Threads + Wait + Sync>(
-    rt: &R,
-    alloc: Global,
-    region: &[&str; 4],
-    film: &[u8],
-) -> Result<(), AllocError> {
-    let (done, store) = captured(rt, alloc, region, &[])?;
-    assert_said(rt, &store, SUMMARY);
-    assert_eq!(rt; done.status, 0);
-    assert_names(rt, &store, &FILMED);
-    assert_asked(rt, &store, &FILMED);
-    assert_bytes(rt, &store, "capture.ncap", film);
-    Ok(())
-}
-
-/// The films of the two halves of the upper rows.
-#[test]
-fn films_of_two_clients(rt: HostRuntime) -> Result<(), Fail> {
-    assert_film(&rt, rt.alloc(), &["0", "0", "4", "2"], &LEFT)?;
-    assert_film(&rt, rt.alloc(), &["4", "0", "4", "2"], &RIGHT)?;
-    Ok(())
-}
-
-/// A region that ends a column too far to the right is refused, and nothing is put.
-#[test]
-fn a_region_outside(rt: HostRuntime) -> Result<(), Fail> {
-    let (done, store) = captured(&rt, rt.alloc(), &["5", "0", "4", "2"], &[])?;
-    let line = "nitpicker: capture outside\n";
-    assert_refused(&rt, &done, &store, 10, line, front(4));
-    assert_names(&rt, &store, front(4));
-    Ok(())
-}
-
-/// A put of a capture is refused: what is said, how many files are there, and how many were asked
-/// for.
-fn assert_unput<R: Abort + Threads + Wait + Sync>(
-    rt: &R,
-    alloc: Global,
-    number: u64,
-    line: &str,
-    counts: (usize, usize),
-) -> Result<(), AllocError> {
-    let (done, store) = captured(rt, alloc, &["0", "0", "4", "2"], &[number])?;
-    assert_said(rt, &store, line);
-    assert_eq!(rt; done.status, 4, "at {line:?}");
-    assert_names(rt, &store, front(counts.0));
-    assert_asked(rt, &store, front(counts.1));
-    Ok(())
-}
-
-/// No film is put behind a put that was refused. Where its own is refused, all else is there.
-#[test]
-fn refused_puts_of_a_capture(rt: HostRuntime) -> Result<(), Fail> {
-    let alloc = rt.alloc();
-    assert_unput(
-        &rt,
-        alloc,
-        5,
-        "nitpicker: shot-1.ppm: write fault\n",
-        (4, 5),
-    )?;
-    assert_unput(
-        &rt,
-        alloc,
+static CASES: [Case; 5] = [
+    film!(
+        "0",
+        &[],
+        0,
+        SUMMARY,
         10,
+        10,
+        &[("capture.ncap", Want::Bytes(&LEFT))],
+        Journal::Whole(List::Two)
+    ),
+    film!(
+        "4",
+        &[],
+        0,
+        SUMMARY,
+        10,
+        10,
+        &[("capture.ncap", Want::Bytes(&RIGHT))],
+        Journal::Whole(List::Two)
+    ),
+    // a region that ends a column too far to the right is refused, and nothing is put
+    film!(
+        "5",
+        &[],
+        10,
+        "nitpicker: capture outside\n",
+        4,
+        4,
+        &[],
+        Journal::Count(0)
+    ),
+    // No film is put behind a put that was refused. Where its own is refused, all else is there.
+    film!(
+        "0",
+        &[5],
+        4,
+        "nitpicker: shot-1.ppm: write fault\n",
+        4,
+        5,
+        &[],
+        Journal::Whole(List::Two)
+    ),
+    film!(
+        "0",
+        &[10],
+        4,
         "nitpicker: capture.ncap: write fault\n",
-        (9, 10),
-    )?;
-    Ok(())
+        9,
+        10,
+        &[],
+        Journal::Whole(List::Two)
+    ),
+];
+
+#[test]
+fn films(rt: HostRuntime) -> Result<(), Fail> {
+    assert_cases(&rt, rt.alloc(), &CASES)
 }

@@ -1,13 +1,11 @@
 //! Generated runs. Whatever the number, and whatever the threads do, they say the same line.
 
-use crate::bench::{assert_asked, assert_names, assert_said, command, store};
-use crate::sessions::assert_alone;
+use crate::case::{Case, assert_cases, assert_store, command, store};
+use crate::journals::Journal;
+use nit_actor::Open;
 use nit_store::MemoryStore;
 use std::alloc::{AllocError, Global};
-use std::process::Abort;
 use std::test::Fail;
-
-const LINE: &str = "nitpicker: clients 8 entries 12260 frames 2\n";
 
 /// The files that are made, in the order in which they are put, and then those of the run.
 const NAMES: [&str; 21] = [
@@ -37,28 +35,64 @@ const NAMES: [&str; 21] = [
 /// How many files are made.
 const MADE: usize = 10;
 
-/// A store of no file, of which the calls with these numbers fail.
-fn empty_store(rt: &impl Abort, alloc: Global, failing: &[u64]) -> Result<MemoryStore, AllocError> {
-    store(rt, alloc, Vec::new(alloc), failing)
+/// A run puts 21 files. The replies of each client are its own.
+const GEN: Case = Case {
+    words: &["gen", "7"],
+    files: &[],
+    failing: &[],
+    status: 0,
+    said: "nitpicker: clients 8 entries 12260 frames 2\n",
+    asked: (&NAMES, 21),
+    there: (&NAMES, 21),
+    holds: &[],
+    journal: &[Journal::Count(12_260), Journal::Sessions(8)],
+};
+
+/// A put is refused, and so many entries are there.
+macro_rules! fails {
+    ($number:expr, $there:expr, $said:expr, $entries:expr) => {
+        Case {
+            failing: &[$number],
+            status: 4,
+            said: $said,
+            asked: (&NAMES, $number),
+            there: (&NAMES, $there),
+            journal: &[Journal::Count($entries)],
+            ..GEN
+        }
+    };
 }
 
-/// Runs of the least and the greatest number put 21 files each, and say the same. The replies of
-/// each client are its own.
+/// Runs of the least and the greatest number. Where one of the files cannot be put that are made,
+/// no run is begun; the eleventh put is that of the run's first picture.
+static CASES: [Case; 13] = [
+    Case {
+        words: &["gen", "0"],
+        ..GEN
+    },
+    Case {
+        words: &["gen", "999999999"],
+        ..GEN
+    },
+    fails!(1, 0, "nitpicker: gen.toml: write fault\n", 0),
+    fails!(2, 1, "nitpicker: g0.nit: write fault\n", 0),
+    fails!(3, 2, "nitpicker: g1.nit: write fault\n", 0),
+    fails!(4, 3, "nitpicker: g2.nit: write fault\n", 0),
+    fails!(5, 4, "nitpicker: g3.nit: write fault\n", 0),
+    fails!(6, 5, "nitpicker: g4.nit: write fault\n", 0),
+    fails!(7, 6, "nitpicker: g5.nit: write fault\n", 0),
+    fails!(8, 7, "nitpicker: g6.nit: write fault\n", 0),
+    fails!(9, 8, "nitpicker: g7.nit: write fault\n", 0),
+    fails!(10, 9, "nitpicker: gen.in: write fault\n", 0),
+    fails!(11, 10, "nitpicker: shot-1.ppm: write fault\n", 12_260),
+];
+
 #[test]
 fn generated_runs(rt: HostRuntime) -> Result<(), Fail> {
-    let alloc = rt.alloc();
-    for number in ["0", "999999999"] {
-        let mut store = empty_store(&rt, alloc, &[])?;
-        let done = command(&rt, alloc, &["gen", number], &mut store)?;
-        assert_said(&rt, &store, LINE);
-        assert_eq!(rt; done.status, 0, "at {number:?}");
-        assert_eq!(rt; done.journal.len(), 12260, "at {number:?}");
-        assert_alone(&rt, alloc, &done.journal, 8)?;
-        assert_names(&rt, &store, &NAMES);
-        assert_asked(&rt, &store, &NAMES);
-    }
-    Ok(())
+    assert_cases(&rt, rt.alloc(), &CASES)
 }
+
+static SEVEN: Case = GEN;
 
 /// The first files of a store, as many as are made.
 fn made_files(alloc: Global, store: &MemoryStore) -> Result<Vec<(String, Vec<u8>)>, AllocError> {
@@ -72,38 +106,15 @@ fn made_files(alloc: Global, store: &MemoryStore) -> Result<Vec<(String, Vec<u8>
     Ok(files)
 }
 
-/// The files that were made are run as the files of any other configuration.
+/// The files that were made are run as the files of any other configuration, which are asked for in
+/// the same order.
 #[test]
 fn the_files_that_were_made(rt: HostRuntime) -> Result<(), Fail> {
     let alloc = rt.alloc();
-    let mut first = empty_store(&rt, alloc, &[])?;
-    let done = command(&rt, alloc, &["gen", "7"], &mut first)?;
-    assert_eq!(rt; done.status, 0);
+    let mut first = store(&rt, alloc, Vec::new(alloc), &[])?;
+    let made = command(&rt, alloc, SEVEN.words, &mut first, &Open)?;
+    assert_store(&rt, alloc, &SEVEN, &made, &first)?;
     let mut again = store(&rt, alloc, made_files(alloc, &first)?, &[])?;
-    let done = command(&rt, alloc, &["run", "gen.toml"], &mut again)?;
-    assert_said(&rt, &again, LINE);
-    assert_eq!(rt; done.status, 0);
-    assert_eq!(rt; done.journal.len(), 12260);
-    assert_names(&rt, &again, &NAMES);
-    Ok(())
-}
-
-/// Where one of the files cannot be put that are made, no run is begun; the eleventh put is that of
-/// the run's first picture.
-#[test]
-fn made_files_that_are_refused(rt: HostRuntime) -> Result<(), Fail> {
-    let alloc = rt.alloc();
-    for number in 1..12 {
-        let mut store = empty_store(&rt, alloc, &[number])?;
-        let done = command(&rt, alloc, &["gen", "7"], &mut store)?;
-        let there = number as usize - 1;
-        let name = NAMES.get(there).ok_or("no such file")?;
-        let line = format!(in alloc; "nitpicker: {name}: write fault\n")?;
-        assert_said(&rt, &store, line.as_str());
-        assert_eq!(rt; done.status, 4, "at {number}");
-        assert_eq!(rt; store.files().len(), there, "at {number}");
-        let entries = if number == 11 { 12260 } else { 0 };
-        assert_eq!(rt; done.journal.len(), entries, "at {number}");
-    }
-    Ok(())
+    let done = command(&rt, alloc, &["run", "gen.toml"], &mut again, &Open)?;
+    assert_store(&rt, alloc, &SEVEN, &done, &again)
 }

@@ -1,8 +1,9 @@
-//! Worked rows of the top call: the status, the files, the line and the journal of given words and
+//! Worked cases of the top call: the status, the files, the line and the journal of given words and
 //! files.
 //!
-//! Each expected value stands in the rows as it was worked out by hand, and never comes from the
-//! program. The crate has nothing but these tests.
+//! Each expected value stands in a case as it was worked out by hand, and never comes from the
+//! program. The cases are constants; `case` runs one and compares all of it, on threads and, where
+//! its words start none, on one thread too. The crate has nothing but these tests.
 #![tactic(auto)]
 
 #[cfg(test)]
@@ -10,11 +11,13 @@ mod audit_tests;
 #[cfg(test)]
 mod bad_config_tests;
 #[cfg(test)]
-mod bench;
-#[cfg(test)]
 mod capture_tests;
 #[cfg(test)]
+mod case;
+#[cfg(test)]
 mod clip_tests;
+#[cfg(test)]
+mod content;
 #[cfg(test)]
 mod desk_tests;
 #[cfg(test)]
@@ -22,11 +25,13 @@ mod entries;
 #[cfg(test)]
 mod failing_tests;
 #[cfg(test)]
+mod gate_tests;
+#[cfg(test)]
 mod gen_tests;
 #[cfg(test)]
 mod input_tests;
 #[cfg(test)]
-mod layer_tests;
+mod journals;
 #[cfg(test)]
 mod mode_tests;
 #[cfg(test)]
@@ -37,6 +42,8 @@ mod refused_tests;
 mod reply_tests;
 #[cfg(test)]
 mod run_tests;
+#[cfg(test)]
+mod same;
 #[cfg(test)]
 mod sessions;
 #[cfg(test)]

@@ -1,13 +1,9 @@
-//! Pictures of the X-ray mode and of the status bar, and runs in which the user locks a client out.
+//! Pictures of the X-ray mode, of layers and of the status bar, and runs in which the user locks a
+//! client out.
 
-use crate::bench::{assert_ended, assert_shown, turns};
-use crate::entries::{called, ignored, kill, sent, sent_twice, to};
-use crate::input_tests::assert_placed_then;
-use nit_events::{Call, Device, Entry, Event, Reply};
-use nit_store::MemoryStore;
-use nit_top::Done;
-use std::alloc::{AllocError, Global};
-use std::process::Abort;
+use crate::case::{Case, assert_cases};
+use crate::content::{Content, Piece, Want};
+use crate::journals::{Journal, List};
 use std::test::Fail;
 
 /// Two clients on a screen of 12 by 7.
@@ -48,41 +44,41 @@ const UNLABELLED: [&str; 7] = [
 ];
 
 /// The shot, and the last picture in the same mode, have these rows.
-fn assert_xray(
-    rt: &impl Abort,
-    alloc: Global,
-    second: &str,
-    rows: &[&str],
-) -> Result<(), AllocError> {
-    let files = [
-        ("xray.toml", XRAY),
-        ("xa.nit", XA),
-        ("xb.nit", second),
-        ("xray.in", "phase\nphase\npress 70\nshot\n"),
-    ];
-    let (done, store) = turns(rt, alloc, "xray.toml", &files)?;
-    assert_ended(
-        rt,
-        &done,
-        &store,
-        "nitpicker: clients 2 entries 9 frames 2\n",
-    );
-    assert_shown(rt, alloc, &store, "shot-1.ppm", "12 7", rows)?;
-    assert_shown(rt, alloc, &store, "final.ppm", "12 7", rows)?;
-    Ok(())
+macro_rules! xray {
+    ($second:expr, $rows:expr) => {
+        Case {
+            words: &["turns", "xray.toml"],
+            files: &[
+                ("xray.toml", Content::Plain(XRAY)),
+                ("xa.nit", Content::Plain(XA)),
+                ("xb.nit", Content::Plain($second)),
+                ("xray.in", Content::Plain("phase\nphase\npress 70\nshot\n")),
+            ],
+            failing: &[],
+            status: 0,
+            said: "nitpicker: clients 2 entries 9 frames 2\n",
+            asked: (&XRAY_NAMES, 9),
+            there: (&XRAY_NAMES, 9),
+            holds: &[
+                ("shot-1.ppm", Want::Picture("12 7", $rows)),
+                ("final.ppm", Want::Picture("12 7", $rows)),
+            ],
+            journal: &[],
+        }
+    };
 }
 
-#[test]
-fn label_that_fills_its_place(rt: HostRuntime) -> Result<(), Fail> {
-    assert_xray(&rt, rt.alloc(), NARROW, &LABELLED)?;
-    Ok(())
-}
-
-#[test]
-fn labels_without_room(rt: HostRuntime) -> Result<(), Fail> {
-    assert_xray(&rt, rt.alloc(), WIDE, &UNLABELLED)?;
-    Ok(())
-}
+const XRAY_NAMES: [&str; 9] = [
+    "xray.toml",
+    "xa.nit",
+    "xb.nit",
+    "xray.in",
+    "shot-1.ppm",
+    "final.ppm",
+    "events-ab.txt",
+    "events-b.txt",
+    "journal.txt",
+];
 
 /// Two clients on a screen of 8 by 4.
 const KILL: &str = "[screen]\nwidth = 8\nheight = 4\n\n[input]\nscript = \"kill.in\"\n\n\
@@ -100,121 +96,208 @@ const KB: &str = "buffer 4 4\nfill 0 0 4 4 0000FF\nview\nplace 1 4 0 4 4\nphase\
 const KILLING: &str =
     "phase\nmotion 1 1\npress 272\nrelease 272\npress 99\npress 272\nrelease 272\nphase\n";
 
-/// The run of the second client beside a first one with this script.
-fn killing(rt: &impl Abort, alloc: Global, first: &str) -> Result<(Done, MemoryStore), AllocError> {
-    let files = [
-        ("kill.toml", KILL),
-        ("ka.nit", first),
-        ("kb.nit", KB),
-        ("kill.in", KILLING),
-    ];
-    turns(rt, alloc, "kill.toml", &files)
-}
-
-/// The click in kill mode locks the first client out, and no later call of it does anything.
-fn killed() -> [Entry; 11] {
-    [
-        sent(Device::Motion(1, 1), to(0, Event::Motion(1, 1))),
-        sent_twice(
-            Device::Press(272),
-            to(0, Event::FocusEnter),
-            to(0, Event::Press(272)),
-        ),
-        sent(Device::Release(272), to(0, Event::Release(272))),
-        sent(Device::Press(99), to(0, Event::Leave)),
-        sent(Device::Press(272), kill(0)),
-        ignored(Device::Release(272)),
-        called(0, Call::Take, Reply::Killed),
-        called(1, Call::Take, Reply::NoEvent),
-        called(0, Call::View, Reply::Killed),
-        called(0, Call::Close, Reply::Killed),
-        Entry::Final,
-    ]
-}
-
-#[test]
-fn killed_client(rt: HostRuntime) -> Result<(), Fail> {
-    let alloc = rt.alloc();
-    let (done, store) = killing(&rt, alloc, KA)?;
-    assert_ended(
-        &rt,
-        &done,
-        &store,
-        "nitpicker: clients 2 entries 17 frames 1\n",
-    );
-    let want = killed();
-    assert_placed_then(&rt, &done.journal, want.as_slice());
-    let rows = ["....BBBB", "....BBBB", "....BBBB", "....BBBB"];
-    assert_shown(&rt, alloc, &store, "final.ppm", "8 4", &rows)?;
-    Ok(())
-}
-
-/// What a session is answered, in order.
-fn replies_of(alloc: Global, journal: &[Entry], session: u32) -> Result<Vec<Reply>, AllocError> {
-    let mut replies = Vec::new(alloc);
-    for entry in journal {
-        if let Entry::Call { sid, reply, .. } = entry {
-            if *sid == session {
-                replies.push(*reply)?;
-            }
-        }
-    }
-    Ok(replies)
-}
-
 /// The second client is answered the same where the first is killed as where it does nothing.
-#[test]
-fn client_beside_another(rt: HostRuntime) -> Result<(), Fail> {
-    let want = [Reply::Done, Reply::Handle(1), Reply::Done, Reply::NoEvent];
-    for (first, line) in [
-        (KA, "nitpicker: clients 2 entries 17 frames 1\n"),
-        (
-            "phase\nphase\n",
-            "nitpicker: clients 2 entries 11 frames 1\n",
-        ),
-    ] {
-        let alloc = rt.alloc();
-        let (done, store) = killing(&rt, alloc, first)?;
-        assert_ended(&rt, &done, &store, line);
-        let replies = replies_of(alloc, &done.journal, 1)?;
-        assert_eq!(rt; replies.as_slice(), want.as_slice());
-    }
-    Ok(())
+const REPLIES: [Piece; 1] = [Piece {
+    times: 1,
+    counts: &[],
+    end: "done\nhandle 1\ndone\nno-event\n",
+}];
+
+/// The run of the second client beside a first one with this script: what is said, and how files
+/// and the journal are then.
+macro_rules! killing {
+    ($first:expr, $said:expr, $holds:expr, $journal:expr) => {
+        Case {
+            words: &["turns", "kill.toml"],
+            files: &[
+                ("kill.toml", Content::Plain(KILL)),
+                ("ka.nit", Content::Plain($first)),
+                ("kb.nit", Content::Plain(KB)),
+                ("kill.in", Content::Plain(KILLING)),
+            ],
+            failing: &[],
+            status: 0,
+            said: $said,
+            asked: (&KILL_NAMES, 8),
+            there: (&KILL_NAMES, 8),
+            holds: $holds,
+            journal: $journal,
+        }
+    };
 }
 
-/// A screen of 25 by 8 with a status bar.
-const BAR: &str = "[screen]\nwidth = 25\nheight = 8\nbar = true\n\n[input]\nscript = \"bar.in\"\n\n\
-                   [[client]]\nlabel = \"a\"\ndonation = 65536\nscript = \"a.nit\"\n";
+const KILL_NAMES: [&str; 8] = [
+    "kill.toml",
+    "ka.nit",
+    "kb.nit",
+    "kill.in",
+    "final.ppm",
+    "events-a.txt",
+    "events-b.txt",
+    "journal.txt",
+];
 
-const UNDER_BAR: &str = "buffer 25 8\nfill 0 0 25 8 FF0000\nview\nplace 1 0 0 25 8\nphase\n";
+const KILLED: [&str; 4] = ["....BBBB", "....BBBB", "....BBBB", "....BBBB"];
+
+/// Two clients of which the first stands one layer behind.
+const PAIR: &str = "[screen]\nwidth = 8\nheight = 4\n\n[input]\nscript = \"pair.in\"\n\n\
+                    [[client]]\nlabel = \"a\"\ndonation = 65536\nscript = \"pa.nit\"\nlayer = 1\n\n\
+                    [[client]]\nlabel = \"b\"\ndonation = 65536\nscript = \"pb.nit\"\n";
+
+const PA: &str = "buffer 4 4\nfill 0 0 4 4 FF0000\nview\nplace 1 0 0 4 4\nphase\nfront 1\n";
+
+const PB: &str = "buffer 4 4\nfill 0 0 4 4 0000FF\nview\nplace 1 0 0 4 4\nphase\n";
+
+const PAIR_NAMES: [&str; 8] = [
+    "pair.toml",
+    "pa.nit",
+    "pb.nit",
+    "pair.in",
+    "final.ppm",
+    "events-a.txt",
+    "events-b.txt",
+    "journal.txt",
+];
+
+/// A view of a layer behind comes to the front of its own layer alone.
+const BEHIND: Case = Case {
+    words: &["turns", "pair.toml"],
+    files: &[
+        ("pair.toml", Content::Plain(PAIR)),
+        ("pa.nit", Content::Plain(PA)),
+        ("pb.nit", Content::Plain(PB)),
+        ("pair.in", Content::Plain("phase\n")),
+    ],
+    failing: &[],
+    status: 0,
+    said: "nitpicker: clients 2 entries 8 frames 1\n",
+    asked: (&PAIR_NAMES, 8),
+    there: (&PAIR_NAMES, 8),
+    holds: &[(
+        "final.ppm",
+        Want::Picture("8 4", &["BBBB....", "BBBB....", "BBBB....", "BBBB...."]),
+    )],
+    journal: &[],
+};
+
+/// A screen with a status bar, of this size: what the user does, and what is said and shown.
+macro_rules! bar {
+    ($config:expr, $script:expr, $input:expr, $names:expr, $said:expr, $size:expr, $rows:expr) => {
+        Case {
+            words: &["turns", "bar.toml"],
+            files: &[
+                ("bar.toml", Content::Plain($config)),
+                ("a.nit", Content::Plain($script)),
+                $input,
+            ],
+            failing: &[],
+            status: 0,
+            said: $said,
+            asked: ($names, 6),
+            there: ($names, 6),
+            holds: &[("final.ppm", Want::Picture($size, $rows))],
+            journal: &[],
+        }
+    };
+}
+
+const BAR_NAMES: [&str; 6] = [
+    "bar.toml",
+    "a.nit",
+    "bar.in",
+    "final.ppm",
+    "events-a.txt",
+    "journal.txt",
+];
+
+const NO_INPUT_NAMES: [&str; 6] = [
+    "bar.toml",
+    "a.nit",
+    "no.in",
+    "final.ppm",
+    "events-a.txt",
+    "journal.txt",
+];
+
+const WIDE_BAR: &str =
+    "[screen]\nwidth = 25\nheight = 8\nbar = true\n\n[input]\nscript = \"bar.in\"\n\n\
+     [[client]]\nlabel = \"a\"\ndonation = 65536\nscript = \"a.nit\"\n";
+
+const UNDER_WIDE: &str = "buffer 25 8\nfill 0 0 25 8 FF0000\nview\nplace 1 0 0 25 8\nphase\n";
 
 /// After a click the bar has the word `flat` and the label of the client with the focus, as
 /// `flat:a`.
-#[test]
-fn status_bar_with_the_focus(rt: HostRuntime) -> Result<(), Fail> {
-    let alloc = rt.alloc();
-    let files = [
-        ("bar.toml", BAR),
-        ("a.nit", UNDER_BAR),
-        ("bar.in", "phase\nmotion 1 7\npress 272\n"),
-    ];
-    let (done, store) = turns(&rt, alloc, "bar.toml", &files)?;
-    assert_ended(
-        &rt,
-        &done,
-        &store,
+const FOCUSED: [&str; 8] = [
+    "KKKKKKKKKKKKKKKKKKKKKKKKK",
+    "KWWWKWKKKKWKKWWWKKKKKKWKK",
+    "KWKKKWKKKWKWKKWKKKWKKWKWK",
+    "KWWKKWKKKWWWKKWKKKKKKWWWK",
+    "KWKKKWKKKWKWKKWKKKWKKWKWK",
+    "KWKKKWWWKWKWKKWKKKKKKWKWK",
+    "KKKKKKKKKKKKKKKKKKKKKKKKK",
+    "RRRRRRRRRRRRRRRRRRRRRRRRR",
+];
+
+const NARROW_BAR: &str =
+    "[screen]\nwidth = 12\nheight = 12\nbar = true\n\n[input]\nscript = \"no.in\"\n\n\
+     [[client]]\nlabel = \"a\"\ndonation = 65536\nscript = \"a.nit\"\n";
+
+const UNDER_NARROW: &str = "buffer 12 12\nfill 0 0 12 12 FF0000\nview\nplace 1 0 0 12 12\n";
+
+/// The bar has as much of the word `flat` as there is room for, and hides what the client shows
+/// there.
+const UNFOCUSED: [&str; 12] = [
+    "KKKKKKKKKKKK",
+    "KWWWKWKKKKWK",
+    "KWKKKWKKKWKW",
+    "KWWKKWKKKWWW",
+    "KWKKKWKKKWKW",
+    "KWKKKWWWKWKW",
+    "KKKKKKKKKKKK",
+    "RRRRRRRRRRRR",
+    "RRRRRRRRRRRR",
+    "RRRRRRRRRRRR",
+    "RRRRRRRRRRRR",
+    "RRRRRRRRRRRR",
+];
+
+static CASES: [Case; 7] = [
+    xray!(NARROW, &LABELLED),
+    xray!(WIDE, &UNLABELLED),
+    killing!(
+        KA,
+        "nitpicker: clients 2 entries 17 frames 1\n",
+        &[("final.ppm", Want::Picture("8 4", &KILLED))],
+        &[Journal::Placed(List::Killed), Journal::Replies(1, &REPLIES)]
+    ),
+    killing!(
+        "phase\nphase\n",
+        "nitpicker: clients 2 entries 11 frames 1\n",
+        &[],
+        &[Journal::Replies(1, &REPLIES)]
+    ),
+    BEHIND,
+    bar!(
+        WIDE_BAR,
+        UNDER_WIDE,
+        ("bar.in", Content::Plain("phase\nmotion 1 7\npress 272\n")),
+        &BAR_NAMES,
         "nitpicker: clients 1 entries 6 frames 1\n",
-    );
-    let rows = [
-        "KKKKKKKKKKKKKKKKKKKKKKKKK",
-        "KWWWKWKKKKWKKWWWKKKKKKWKK",
-        "KWKKKWKKKWKWKKWKKKWKKWKWK",
-        "KWWKKWKKKWWWKKWKKKKKKWWWK",
-        "KWKKKWKKKWKWKKWKKKWKKWKWK",
-        "KWKKKWWWKWKWKKWKKKKKKWKWK",
-        "KKKKKKKKKKKKKKKKKKKKKKKKK",
-        "RRRRRRRRRRRRRRRRRRRRRRRRR",
-    ];
-    assert_shown(&rt, alloc, &store, "final.ppm", "25 8", &rows)?;
-    Ok(())
+        "25 8",
+        &FOCUSED
+    ),
+    bar!(
+        NARROW_BAR,
+        UNDER_NARROW,
+        ("no.in", Content::Plain("")),
+        &NO_INPUT_NAMES,
+        "nitpicker: clients 1 entries 4 frames 1\n",
+        "12 12",
+        &UNFOCUSED
+    ),
+];
+
+#[test]
+fn modes_and_layers(rt: HostRuntime) -> Result<(), Fail> {
+    assert_cases(&rt, rt.alloc(), &CASES)
 }

@@ -1,329 +1,297 @@
-//! Runs with each client on a thread of its own. Whatever the threads do, these rows come out the
+//! Runs with each client on a thread of its own. Whatever the threads do, these cases come out the
 //! same.
 
-use crate::bench::{
-    assert_asked, assert_bytes, assert_names, assert_said, assert_shown, bytes_of, command, files,
-    run_at, store,
-};
-use crate::sessions::assert_alone;
-use crate::two_tests::{
-    A, B, CONFIG, EVENTS, FILES, FINAL, INPUT, JOURNAL, NAMES, SHOT, SUMMARY, journal,
-};
-use nit_actor::{Gate, Open};
-use std::alloc::{AllocError, Global};
-use std::process::Abort;
-use std::sync::Wait;
-use std::sync::atomic::{AtomicBool, Ordering};
+use crate::case::{Case, assert_cases};
+use crate::content::{Content, Piece, Want};
+use crate::journals::Journal;
+use crate::two_tests::{A, B, CONFIG, FINAL, INPUT, NAMES, SHOT, TURNS};
 use std::test::Fail;
-use std::thread::Threads;
-
-/// The words that ask for the run of the two clients.
-const RUN_TWO: [&str; 2] = ["run", "two.toml"];
 
 /// In each phase one actor acts, so the run by threads has the journal and the files of the run by
 /// turns.
-#[test]
-fn two_clients_beside_each_other(rt: HostRuntime) -> Result<(), Fail> {
-    let alloc = rt.alloc();
-    for _round in 0..20 {
-        let mut store = store(&rt, alloc, files(alloc, &FILES)?, &[])?;
-        let done = command(&rt, alloc, &RUN_TWO, &mut store)?;
-        assert_said(&rt, &store, SUMMARY);
-        assert_eq!(rt; done.status, 0);
-        let journal = journal();
-        assert_eq!(rt; done.journal.as_slice(), journal.as_slice());
-        assert_names(&rt, &store, &NAMES);
-        assert_asked(&rt, &store, &NAMES);
-        assert_shown(&rt, alloc, &store, "shot-1.ppm", "8 4", &SHOT)?;
-        assert_shown(&rt, alloc, &store, "final.ppm", "8 4", &FINAL)?;
-        assert_bytes(&rt, &store, "events-a.txt", EVENTS.as_bytes());
-        assert_bytes(&rt, &store, "events-b.txt", EVENTS.as_bytes());
-        assert_bytes(&rt, &store, "journal.txt", JOURNAL.as_bytes());
-    }
-    Ok(())
-}
+const BESIDE: Case = Case {
+    words: &["run", "two.toml"],
+    ..TURNS
+};
 
-/// A put that is refused, and what is there then.
-#[test]
-fn puts_that_are_refused(rt: HostRuntime) -> Result<(), Fail> {
-    let alloc = rt.alloc();
-    let rows = [
-        (5, "nitpicker: shot-1.ppm: write fault\n", 4),
-        (6, "nitpicker: final.ppm: write fault\n", 5),
-        (7, "nitpicker: events-a.txt: write fault\n", 6),
-        (9, "nitpicker: journal.txt: write fault\n", 8),
-    ];
-    for (number, line, there) in rows {
-        let mut store = store(&rt, alloc, files(alloc, &FILES)?, &[number])?;
-        let done = command(&rt, alloc, &RUN_TWO, &mut store)?;
-        assert_said(&rt, &store, line);
-        assert_eq!(rt; done.status, 4, "at {line:?}");
-        assert_eq!(rt; store.files().len(), there, "at {line:?}");
-        assert_eq!(rt; done.journal.len(), 9, "at {line:?}");
-    }
-    Ok(())
-}
-
-// ---- both clients at once
-
-/// A gate at which each of two clients shows that it has come, and looks for the other.
-#[derive(Drop)]
-struct Meeting {
-    first: Visit,
-    second: Visit,
-}
-
-/// Whether a client has come to its first line, and whether it has seen the other one there.
-#[derive(Drop)]
-struct Visit {
-    came: AtomicBool,
-    met: AtomicBool,
-}
-
-impl Visit {
-    fn new() -> Visit {
-        Visit {
-            came: AtomicBool::new(false),
-            met: AtomicBool::new(false),
+/// A put is refused, and what is there then.
+macro_rules! fails {
+    ($number:expr, $said:expr, $there:expr) => {
+        Case {
+            failing: &[$number],
+            status: 4,
+            said: $said,
+            asked: (&NAMES, $number),
+            there: (&NAMES, $there),
+            holds: &[],
+            journal: &[Journal::Count(9)],
+            ..BESIDE
         }
-    }
-
-    /// Comes, and looks for the other at most 1,000,000,000 times.
-    fn meet(&self, other: &Visit) {
-        self.came.store(true, Ordering::SeqCst);
-        for _look in 0..1_000_000_000 {
-            if other.came.load(Ordering::SeqCst) {
-                self.met.store(true, Ordering::SeqCst);
-                return;
-            }
-        }
-    }
-}
-
-impl Gate for Meeting {
-    fn at(&self, actor: u32, line: u32) {
-        if line == 1 && actor == 0 {
-            self.first.meet(&self.second);
-        } else if line == 1 && actor == 1 {
-            self.second.meet(&self.first);
-        }
-    }
-}
-
-/// Each of two clients waits at its first line until the other has come to its own. Clients that
-/// run one after the other do not meet.
-#[test]
-fn both_clients_at_once(rt: HostRuntime) -> Result<(), Fail> {
-    let alloc = rt.alloc();
-    let named = [
-        ("two.toml", CONFIG),
-        ("a.nit", "view\n"),
-        ("b.nit", "view\n"),
-        ("two.in", ""),
-    ];
-    let gate = Meeting {
-        first: Visit::new(),
-        second: Visit::new(),
     };
-    let mut store = store(&rt, alloc, files(alloc, &named)?, &[])?;
-    let done = run_at(&rt, alloc, "two.toml", &mut store, &gate)?;
-    assert_eq!(rt; done.status, 0);
-    assert!(rt; gate.first.met.load(Ordering::SeqCst));
-    assert!(rt; gate.second.met.load(Ordering::SeqCst));
-    Ok(())
 }
 
-// ---- phases
-
-/// A gate at which the user, before its first line, looks for a while whether client 0 has come to
-/// its second line. Then it raises a flag. Client 0 sees whether the flag is raised when it comes
-/// there.
-#[derive(Drop)]
-struct Ending {
-    came: AtomicBool,
-    raised: AtomicBool,
-    seen: AtomicBool,
-}
-
-impl Gate for Ending {
-    fn at(&self, actor: u32, line: u32) {
-        if actor == 0 && line == 2 {
-            self.came.store(true, Ordering::SeqCst);
-            self.seen
-                .store(self.raised.load(Ordering::SeqCst), Ordering::SeqCst);
-        } else if actor == 1 && line == 1 {
-            for _look in 0..1_000_000 {
-                if self.came.load(Ordering::SeqCst) {
-                    break;
-                }
-            }
-            self.raised.store(true, Ordering::SeqCst);
+/// A text, a number of times.
+macro_rules! times {
+    ($times:expr, $text:expr) => {
+        Piece {
+            times: $times,
+            counts: &[],
+            end: $text,
         }
-    }
+    };
 }
 
-/// A stroke of the next phase waits until the user has ended the phase before.
-#[test]
-fn strokes_wait_for_their_phase(rt: HostRuntime) -> Result<(), Fail> {
-    let alloc = rt.alloc();
-    let config = "[screen]\nwidth = 8\nheight = 4\n\n[input]\nscript = \"one.in\"\n\n\
-                  [[client]]\nlabel = \"a\"\ndonation = 65536\nscript = \"a.nit\"\n";
-    let named = [
-        ("one.toml", config),
-        ("a.nit", "phase\nfill 0 0 1 1 FF0000\n"),
-        ("one.in", "phase\n"),
-    ];
-    let gate = Ending {
-        came: AtomicBool::new(false),
-        raised: AtomicBool::new(false),
-        seen: AtomicBool::new(false),
-    };
-    let mut store = store(&rt, alloc, files(alloc, &named)?, &[])?;
-    let done = run_at(&rt, alloc, "one.toml", &mut store, &gate)?;
-    assert_eq!(rt; done.status, 0);
-    assert!(rt; gate.seen.load(Ordering::SeqCst));
-    Ok(())
-}
+/// The scripts of the two clients, with one phase more.
+const LONGER_A: [Piece; 2] = [times!(1, A), times!(1, "phase\n")];
+
+const LONGER_B: [Piece; 2] = [times!(1, B), times!(1, "phase\n")];
+
+const LONGER_INPUT: [Piece; 2] = [times!(1, INPUT), times!(1, "phase\nshot\n")];
+
+const LONGER_NAMES: [&str; 10] = [
+    "two.toml",
+    "a.nit",
+    "b.nit",
+    "two.in",
+    "shot-1.ppm",
+    "shot-2.ppm",
+    "final.ppm",
+    "events-a.txt",
+    "events-b.txt",
+    "journal.txt",
+];
 
 /// In a further phase the user takes a second shot, when all clients are done: it is the last
 /// picture. Its red pixels were loaded for a call of the other client.
+const LONGER: Case = Case {
+    files: &[
+        ("two.toml", Content::Plain(CONFIG)),
+        ("a.nit", Content::Pieces(&LONGER_A)),
+        ("b.nit", Content::Pieces(&LONGER_B)),
+        ("two.in", Content::Pieces(&LONGER_INPUT)),
+    ],
+    said: "nitpicker: clients 2 entries 10 frames 3\n",
+    asked: (&LONGER_NAMES, 10),
+    there: (&LONGER_NAMES, 10),
+    holds: &[
+        ("shot-1.ppm", Want::Picture("8 4", &SHOT)),
+        ("shot-2.ppm", Want::Picture("8 4", &FINAL)),
+        ("final.ppm", Want::Picture("8 4", &FINAL)),
+    ],
+    journal: &[Journal::Count(10)],
+    ..BESIDE
+};
+
+static PUTS: [Case; 6] = [
+    LONGER,
+    SIXTEEN,
+    fails!(5, "nitpicker: shot-1.ppm: write fault\n", 4),
+    fails!(6, "nitpicker: final.ppm: write fault\n", 5),
+    fails!(7, "nitpicker: events-a.txt: write fault\n", 6),
+    fails!(9, "nitpicker: journal.txt: write fault\n", 8),
+];
+
 #[test]
-fn a_shot_after_all_calls(rt: HostRuntime) -> Result<(), Fail> {
-    let alloc = rt.alloc();
-    let a = format!(in alloc; "{A}phase\n")?;
-    let b = format!(in alloc; "{B}phase\n")?;
-    let input = format!(in alloc; "{INPUT}phase\nshot\n")?;
-    let named = [
-        ("two.toml", CONFIG),
-        ("a.nit", a.as_str()),
-        ("b.nit", b.as_str()),
-        ("two.in", input.as_str()),
-    ];
-    let mut store = store(&rt, alloc, files(alloc, &named)?, &[])?;
-    let done = command(&rt, alloc, &RUN_TWO, &mut store)?;
-    assert_said(&rt, &store, "nitpicker: clients 2 entries 10 frames 3\n");
-    assert_eq!(rt; done.status, 0);
-    assert_shown(&rt, alloc, &store, "shot-1.ppm", "8 4", &SHOT)?;
-    assert_shown(&rt, alloc, &store, "shot-2.ppm", "8 4", &FINAL)?;
-    assert_shown(&rt, alloc, &store, "final.ppm", "8 4", &FINAL)?;
-    Ok(())
-}
-
-// ---- the storm
-
-/// A text that begins so, and then has these two lines in turn, so often.
-fn lines(
-    alloc: Global,
-    head: &str,
-    first: &str,
-    second: &str,
-    times: u32,
-) -> Result<String, AllocError> {
-    let mut text = String::from_str(alloc, head)?;
-    for _pair in 0..times {
-        text.push_str(first)?;
-        text.push_str(second)?;
-    }
-    Ok(text)
-}
-
-/// Whether each pixel of this picture, which has 13 bytes in front of them, is bare, black, red or
-/// blue.
-fn is_stormy(bytes: &[u8]) -> bool {
-    let Some((_, pixels)) = bytes.split_at_checked(13) else {
-        return false;
-    };
-    pixels.chunks(3).all(|pixel| {
-        matches!(
-            pixel,
-            [0, 0, 0x20] | [0, 0, 0] | [0xFF, 0, 0] | [0, 0, 0xFF]
-        )
-    })
-}
-
-/// One client paints the whole screen over and over, another one calls without end, and the user
-/// takes shots, twenty times. What is fixed is the line, each client's replies, the colours of the
-/// shots, and the last picture.
-#[test]
-fn storms(rt: HostRuntime) -> Result<(), Fail> {
-    for _round in 0..20 {
-        storm(&rt, rt.alloc())?;
-    }
-    Ok(())
-}
-
-fn storm<R: Abort + Threads + Wait + Sync>(rt: &R, alloc: Global) -> Result<(), Fail> {
-    let config = "[screen]\nwidth = 64\nheight = 48\n\n[input]\nscript = \"storm.in\"\n\n\
-                  [[client]]\nlabel = \"a\"\ndonation = 65536\nscript = \"a.nit\"\n\n\
-                  [[client]]\nlabel = \"b\"\ndonation = 65536\nscript = \"b.nit\"\n";
-    let head = "buffer 64 48\nview\nplace 1 0 0 64 48\n";
-    let (red, blue) = ("fill 0 0 64 48 FF0000\n", "fill 0 0 64 48 0000FF\n");
-    let a = lines(alloc, head, red, blue, 2000)?;
-    let b = lines(
-        alloc,
-        "buffer 1 1\nview\nplace 1 0 0 1 1\n",
-        "front 1\n",
-        "back 1\n",
-        1000,
-    )?;
-    let input = lines(alloc, "", "shot\n", "shot\n", 10)?;
-    let named = [
-        ("storm.toml", config),
-        ("a.nit", a.as_str()),
-        ("b.nit", b.as_str()),
-        ("storm.in", input.as_str()),
-    ];
-    let mut store = store(rt, alloc, files(alloc, &named)?, &[])?;
-    let done = command(rt, alloc, &["run", "storm.toml"], &mut store)?;
-    assert_said(rt, &store, "nitpicker: clients 2 entries 2027 frames 21\n");
-    assert_eq!(rt; done.status, 0);
-    assert_alone(rt, alloc, &done.journal, 2)?;
-    for number in 1..21 {
-        let name = format!(in alloc; "shot-{number}.ppm")?;
-        let shot = bytes_of(&store, name.as_str()).ok_or("no shot")?;
-        assert_eq!(rt; shot.len(), 9229);
-        assert!(rt; is_stormy(shot));
-    }
-    let last = bytes_of(&store, "final.ppm").ok_or("no picture")?;
-    assert_eq!(rt; last.len(), 9229);
-    let (_, pixels) = last.split_at_checked(13).ok_or("no pixels")?;
-    assert!(rt; pixels.chunks(3).all(|pixel| matches!(pixel, [0, 0, 0xFF])));
-    Ok(())
+fn puts_beside_each_other(rt: HostRuntime) -> Result<(), Fail> {
+    assert_cases(&rt, rt.alloc(), &PUTS)
 }
 
 // ---- 16 clients
 
+/// One client of sixteen, with a red view of one pixel in this column.
+macro_rules! column {
+    ($column:expr) => {
+        Content::Pieces(&[Piece {
+            times: 1,
+            counts: &[("buffer 1 1\nfill 0 0 1 1 FF0000\nview\nplace 1 ", $column, 0)],
+            end: " 0 1 1\n",
+        }])
+    };
+}
+
+const MANY: [Piece; 2] = [
+    times!(
+        1,
+        "[screen]\nwidth = 16\nheight = 1\n\n[input]\nscript = \"many.in\"\n"
+    ),
+    Piece {
+        times: 16,
+        counts: &[
+            ("\n[[client]]\nlabel = \"c", 0, 1),
+            ("\"\ndonation = 65536\nscript = \"c", 0, 1),
+        ],
+        end: ".nit\"\n",
+    },
+];
+
 /// Sixteen clients, each with a view of one pixel beside those of the others.
+const SIXTEEN: Case = Case {
+    words: &["run", "many.toml"],
+    files: &[
+        ("many.toml", Content::Pieces(&MANY)),
+        ("c0.nit", column!(0)),
+        ("c1.nit", column!(1)),
+        ("c2.nit", column!(2)),
+        ("c3.nit", column!(3)),
+        ("c4.nit", column!(4)),
+        ("c5.nit", column!(5)),
+        ("c6.nit", column!(6)),
+        ("c7.nit", column!(7)),
+        ("c8.nit", column!(8)),
+        ("c9.nit", column!(9)),
+        ("c10.nit", column!(10)),
+        ("c11.nit", column!(11)),
+        ("c12.nit", column!(12)),
+        ("c13.nit", column!(13)),
+        ("c14.nit", column!(14)),
+        ("c15.nit", column!(15)),
+        ("many.in", Content::Plain("")),
+    ],
+    said: "nitpicker: clients 16 entries 49 frames 1\n",
+    asked: (&SIXTEEN_NAMES, 36),
+    there: (&SIXTEEN_NAMES, 36),
+    holds: &[("final.ppm", Want::Picture("16 1", &["RRRRRRRRRRRRRRRR"]))],
+    journal: &[Journal::Count(49)],
+    ..BESIDE
+};
+
+const SIXTEEN_NAMES: [&str; 36] = [
+    "many.toml",
+    "c0.nit",
+    "c1.nit",
+    "c2.nit",
+    "c3.nit",
+    "c4.nit",
+    "c5.nit",
+    "c6.nit",
+    "c7.nit",
+    "c8.nit",
+    "c9.nit",
+    "c10.nit",
+    "c11.nit",
+    "c12.nit",
+    "c13.nit",
+    "c14.nit",
+    "c15.nit",
+    "many.in",
+    "final.ppm",
+    "events-c0.txt",
+    "events-c1.txt",
+    "events-c2.txt",
+    "events-c3.txt",
+    "events-c4.txt",
+    "events-c5.txt",
+    "events-c6.txt",
+    "events-c7.txt",
+    "events-c8.txt",
+    "events-c9.txt",
+    "events-c10.txt",
+    "events-c11.txt",
+    "events-c12.txt",
+    "events-c13.txt",
+    "events-c14.txt",
+    "events-c15.txt",
+    "journal.txt",
+];
+
+// ---- the storm
+
+/// One client paints the whole screen over and over, another one calls without end, and the user
+/// takes shots. What is fixed is the line, each client's replies, the colours of the shots, and the
+/// last picture.
+const STORM: Case = Case {
+    words: &["run", "storm.toml"],
+    files: &[
+        ("storm.toml", Content::Plain(STORM_CONFIG)),
+        ("a.nit", Content::Pieces(&PAINTER)),
+        ("b.nit", Content::Pieces(&CALLER)),
+        ("storm.in", Content::Pieces(&[times!(20, "shot\n")])),
+    ],
+    said: "nitpicker: clients 2 entries 2027 frames 21\n",
+    asked: (&STORM_NAMES, 28),
+    there: (&STORM_NAMES, 28),
+    holds: &[
+        ("shot-1.ppm", STORMY),
+        ("shot-2.ppm", STORMY),
+        ("shot-3.ppm", STORMY),
+        ("shot-4.ppm", STORMY),
+        ("shot-5.ppm", STORMY),
+        ("shot-6.ppm", STORMY),
+        ("shot-7.ppm", STORMY),
+        ("shot-8.ppm", STORMY),
+        ("shot-9.ppm", STORMY),
+        ("shot-10.ppm", STORMY),
+        ("shot-11.ppm", STORMY),
+        ("shot-12.ppm", STORMY),
+        ("shot-13.ppm", STORMY),
+        ("shot-14.ppm", STORMY),
+        ("shot-15.ppm", STORMY),
+        ("shot-16.ppm", STORMY),
+        ("shot-17.ppm", STORMY),
+        ("shot-18.ppm", STORMY),
+        ("shot-19.ppm", STORMY),
+        ("shot-20.ppm", STORMY),
+        ("final.ppm", Want::Among(9229, &[[0, 0, 0xFF]])),
+    ],
+    journal: &[Journal::Sessions(2)],
+    ..BESIDE
+};
+
+/// Each pixel is bare, black, red or blue.
+const STORMY: Want = Want::Among(9229, &[[0, 0, 0x20], [0, 0, 0], [0xFF, 0, 0], [0, 0, 0xFF]]);
+
+const STORM_CONFIG: &str = "[screen]\nwidth = 64\nheight = 48\n\n[input]\nscript = \"storm.in\"\n\n\
+     [[client]]\nlabel = \"a\"\ndonation = 65536\nscript = \"a.nit\"\n\n\
+     [[client]]\nlabel = \"b\"\ndonation = 65536\nscript = \"b.nit\"\n";
+
+const PAINTER: [Piece; 2] = [
+    times!(1, "buffer 64 48\nview\nplace 1 0 0 64 48\n"),
+    times!(2000, "fill 0 0 64 48 FF0000\nfill 0 0 64 48 0000FF\n"),
+];
+
+const CALLER: [Piece; 2] = [
+    times!(1, "buffer 1 1\nview\nplace 1 0 0 1 1\n"),
+    times!(1000, "front 1\nback 1\n"),
+];
+
+const STORM_NAMES: [&str; 28] = [
+    "storm.toml",
+    "a.nit",
+    "b.nit",
+    "storm.in",
+    "shot-1.ppm",
+    "shot-2.ppm",
+    "shot-3.ppm",
+    "shot-4.ppm",
+    "shot-5.ppm",
+    "shot-6.ppm",
+    "shot-7.ppm",
+    "shot-8.ppm",
+    "shot-9.ppm",
+    "shot-10.ppm",
+    "shot-11.ppm",
+    "shot-12.ppm",
+    "shot-13.ppm",
+    "shot-14.ppm",
+    "shot-15.ppm",
+    "shot-16.ppm",
+    "shot-17.ppm",
+    "shot-18.ppm",
+    "shot-19.ppm",
+    "shot-20.ppm",
+    "final.ppm",
+    "events-a.txt",
+    "events-b.txt",
+    "journal.txt",
+];
+
+static ROUNDS: [Case; 2] = [BESIDE, STORM];
+
+/// Twenty times, whatever the threads do.
 #[test]
-fn sixteen_clients(rt: HostRuntime) -> Result<(), Fail> {
-    let alloc = rt.alloc();
-    let mut config = String::from_str(
-        alloc,
-        "[screen]\nwidth = 16\nheight = 1\n\n[input]\nscript = \"many.in\"\n",
-    )?;
-    let mut all = files(alloc, &[("many.in", "")])?;
-    for sid in 0..16 {
-        let member = format!(in alloc;
-            "\n[[client]]\nlabel = \"c{sid}\"\ndonation = 65536\nscript = \"c{sid}.nit\"\n"
-        )?;
-        config.push_str(member.as_str())?;
-        let script = format!(in alloc;
-            "buffer 1 1\nfill 0 0 1 1 FF0000\nview\nplace 1 {sid} 0 1 1\n"
-        )?;
-        all.push((format!(in alloc; "c{sid}.nit")?, script.into_bytes()))?;
+fn rounds(rt: HostRuntime) -> Result<(), Fail> {
+    for _round in 0..20 {
+        assert_cases(&rt, rt.alloc(), &ROUNDS)?;
     }
-    all.push((String::from_str(alloc, "many.toml")?, config.into_bytes()))?;
-    let mut store = store(&rt, alloc, all, &[])?;
-    let done = run_at(&rt, alloc, "many.toml", &mut store, &Open)?;
-    assert_said(&rt, &store, "nitpicker: clients 16 entries 49 frames 1\n");
-    assert_eq!(rt; done.status, 0);
-    assert_shown(
-        &rt,
-        alloc,
-        &store,
-        "final.ppm",
-        "16 1",
-        &["RRRRRRRRRRRRRRRR"],
-    )?;
     Ok(())
 }

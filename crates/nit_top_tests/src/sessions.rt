@@ -1,6 +1,8 @@
 //! Sessions that are never refused, each by itself: what they answer to their own calls, given what
 //! is routed to them.
 
+use crate::case::Case;
+use crate::same::same;
 use nit_events::{Call, Delivery, Entry, Event, Item, Reply};
 use std::alloc::{AllocError, Global};
 use std::process::Abort;
@@ -83,24 +85,30 @@ fn answer(all: &mut [Session], sid: u32, call: &Call) -> Option<Reply> {
 }
 
 /// Each reply of the journal is the one that its session gives by itself.
-pub fn assert_alone(
+pub fn assert_sessions(
     rt: &impl Abort,
     alloc: Global,
+    case: &Case,
     journal: &[Entry],
     count: usize,
 ) -> Result<(), AllocError> {
     let mut all = sessions(alloc, count)?;
     for entry in journal {
-        assert_entry(rt, &mut all, entry)?;
+        assert_entry(rt, case, &mut all, entry)?;
     }
     Ok(())
 }
 
 /// The reply of this entry is the one that its session gives by itself.
-fn assert_entry(rt: &impl Abort, all: &mut [Session], entry: &Entry) -> Result<(), AllocError> {
+fn assert_entry(
+    rt: &impl Abort,
+    case: &Case,
+    all: &mut [Session],
+    entry: &Entry,
+) -> Result<(), AllocError> {
     match *entry {
         Entry::Call { sid, call, reply } => {
-            assert_eq!(rt; answer(all, sid, &call), Some(reply));
+            same(rt, &case.label(), &answer(all, sid, &call), &Some(reply));
             Ok(())
         }
         Entry::Input { routed, .. } => {

@@ -1,15 +1,10 @@
-//! The run of two clients on a screen of 8 by 4: a red view of 4 by 2, and a blue one that first stands in front of it
-//! and then moves away.
+//! The run of two clients on a screen of 8 by 4: a red view of 4 by 2, and a blue one that first
+//! stands in front of it and then moves away.
 
-use crate::bench::{
-    alone, assert_asked, assert_bytes, assert_names, assert_refused, assert_said, assert_shown,
-    files, store,
-};
-use crate::entries::{done, viewed};
-use nit_events::{Call, Entry};
-use nit_store::MemoryStore;
-use nit_top::Done;
-use std::alloc::{AllocError, Global};
+use crate::case::{Case, assert_alone, assert_cases, files};
+use crate::content::{Content, Want};
+use crate::journals::{Journal, List};
+use std::alloc::Global;
 use std::process::Abort;
 use std::test::Fail;
 
@@ -26,18 +21,15 @@ pub const B: &str = "phase\nbuffer 4 2\nfill 0 0 4 2 0000FF\nview\nplace 1 0 0 4
 pub const INPUT: &str = "phase\nphase\nshot\nphase\n";
 
 /// The files that the run reads, in this order.
-pub const FILES: [(&str, &str); 4] = [
-    ("two.toml", CONFIG),
-    ("a.nit", A),
-    ("b.nit", B),
-    ("two.in", INPUT),
+pub const FILES: [(&str, Content); 4] = [
+    ("two.toml", Content::Plain(CONFIG)),
+    ("a.nit", Content::Plain(A)),
+    ("b.nit", Content::Plain(B)),
+    ("two.in", Content::Plain(INPUT)),
 ];
 
-/// The words that ask for the run.
-pub const TURNS_TWO: [&str; 2] = ["turns", "two.toml"];
-
 /// The names of the files that it reads and puts, in this order.
-pub static NAMES: [&str; 9] = [
+pub const NAMES: [&str; 9] = [
     "two.toml",
     "a.nit",
     "b.nit",
@@ -61,194 +53,202 @@ pub const EVENTS: &str = "lost 0\nleft 0\nstate live\n";
 /// The text of the journal.
 pub const JOURNAL: &str =
     "call 0 done < buffer 4 2\ncall 0 handle 1 < view\ncall 0 done < place 1 0 0 4 2\n\
-                       call 1 done < buffer 4 2\ncall 1 handle 1 < view\ncall 1 done < place 1 0 0 4 2\n\
-                       shot 1\ncall 1 done < place 1 4 2 4 2\nfinal\n";
+     call 1 done < buffer 4 2\ncall 1 handle 1 < view\ncall 1 done < place 1 0 0 4 2\n\
+     shot 1\ncall 1 done < place 1 4 2 4 2\nfinal\n";
 
-/// The journal of the run.
-pub fn journal() -> [Entry; 9] {
-    [
-        done(0, Call::Buffer(4, 2)),
-        viewed(0),
-        done(0, Call::Place(1, 0, 0, 4, 2)),
-        done(1, Call::Buffer(4, 2)),
-        viewed(1),
-        done(1, Call::Place(1, 0, 0, 4, 2)),
-        Entry::Shot { number: 1 },
-        done(1, Call::Place(1, 4, 2, 4, 2)),
-        Entry::Final,
-    ]
+/// The run by turns. The files that it reads are as they were.
+pub const TURNS: Case = Case {
+    words: &["turns", "two.toml"],
+    files: &FILES,
+    failing: &[],
+    status: 0,
+    said: SUMMARY,
+    asked: (&NAMES, 9),
+    there: (&NAMES, 9),
+    holds: &[
+        ("two.toml", Want::Is(Content::Plain(CONFIG))),
+        ("a.nit", Want::Is(Content::Plain(A))),
+        ("b.nit", Want::Is(Content::Plain(B))),
+        ("two.in", Want::Is(Content::Plain(INPUT))),
+        ("shot-1.ppm", Want::Picture("8 4", &SHOT)),
+        ("final.ppm", Want::Picture("8 4", &FINAL)),
+        ("events-a.txt", Want::Is(Content::Plain(EVENTS))),
+        ("events-b.txt", Want::Is(Content::Plain(EVENTS))),
+        ("journal.txt", Want::Is(Content::Plain(JOURNAL))),
+    ],
+    journal: &[Journal::Whole(List::Two)],
+};
+
+/// This call of the store fails once: what is said with which status, how many files are there
+/// then, how many were asked for, and how many entries the journal has.
+macro_rules! fails {
+    ($number:expr, $status:expr, $said:expr, $there:expr, $asked:expr, $entries:expr) => {
+        Case {
+            failing: &[$number],
+            status: $status,
+            said: $said,
+            asked: (&NAMES, $asked),
+            there: (&NAMES, $there),
+            holds: &[],
+            journal: &[Journal::Count($entries)],
+            ..TURNS
+        }
+    };
 }
 
-/// The first names.
-fn front(count: usize) -> &'static [&'static str] {
-    let (names, _) = NAMES.split_at(count.min(NAMES.len()));
-    names
+/// Each call of the store up to the first saying fails once.
+static FAILING: [Case; 10] = [
+    fails!(1, 3, "nitpicker: two.toml: read fault\n", 4, 1, 0),
+    fails!(2, 3, "nitpicker: a.nit: read fault\n", 4, 2, 0),
+    fails!(3, 3, "nitpicker: b.nit: read fault\n", 4, 3, 0),
+    fails!(4, 3, "nitpicker: two.in: read fault\n", 4, 4, 0),
+    fails!(5, 4, "nitpicker: shot-1.ppm: write fault\n", 4, 5, 9),
+    fails!(6, 4, "nitpicker: final.ppm: write fault\n", 5, 6, 9),
+    fails!(7, 4, "nitpicker: events-a.txt: write fault\n", 6, 7, 9),
+    fails!(8, 4, "nitpicker: events-b.txt: write fault\n", 7, 8, 9),
+    fails!(9, 4, "nitpicker: journal.txt: write fault\n", 8, 9, 9),
+    fails!(10, 4, "", 9, 9, 9),
+];
+
+/// The whole run. Where the last picture is not put, the shot that was put stays, and the run goes
+/// to its end.
+static WHOLE: [Case; 2] = [
+    TURNS,
+    Case {
+        failing: &[6],
+        status: 4,
+        said: "nitpicker: final.ppm: write fault\n",
+        asked: (&NAMES, 6),
+        there: (&NAMES, 5),
+        holds: &[("shot-1.ppm", Want::Picture("8 4", &SHOT))],
+        ..TURNS
+    },
+];
+
+/// Scripts that are refused, by this line, and how many files were asked for then.
+macro_rules! refused {
+    ($a:expr, $b:expr, $input:expr, $said:expr, $asked:expr) => {
+        Case {
+            files: &[
+                ("two.toml", Content::Plain(CONFIG)),
+                ("a.nit", Content::Plain($a)),
+                ("b.nit", Content::Plain($b)),
+                ("two.in", Content::Plain($input)),
+            ],
+            status: 6,
+            said: $said,
+            asked: (&NAMES, $asked),
+            there: (&NAMES, 4),
+            holds: &[],
+            journal: &[Journal::Count(0)],
+            ..TURNS
+        }
+    };
 }
 
-/// The run over a store of which the calls with these numbers fail.
-fn failing(
+const INPUT_DIFFERS: &str = "nitpicker: two.in: phases differ\n";
+
+const B_DIFFERS: &str = "nitpicker: b.nit: phases differ\n";
+
+static REFUSED: [Case; 7] = [
+    refused!(A, B, "", INPUT_DIFFERS, 4),
+    refused!(A, B, "shot\nphase\n", INPUT_DIFFERS, 4),
+    refused!(A, "phase\n", INPUT, B_DIFFERS, 3),
+    // the number of phases is that of the first client's script
+    refused!("", B, INPUT, B_DIFFERS, 3),
+    refused!("buffer 4\n", B, INPUT, LINE_1, 2),
+    refused!(
+        A,
+        "phase\nView\n",
+        INPUT,
+        "nitpicker: b.nit: line 2: bad script\n",
+        3
+    ),
+    refused!(
+        A,
+        B,
+        "phase\nview\n",
+        "nitpicker: two.in: line 2: bad script\n",
+        4
+    ),
+];
+
+const LINE_1: &str = "nitpicker: a.nit: line 1: bad script\n";
+
+/// The first client's script has so many bytes at least and at most: what is said, and how many
+/// files were asked for then.
+macro_rules! cut {
+    ($first:expr, $last:expr, $said:expr, $asked:expr) => {
+        (
+            $first,
+            $last,
+            Case {
+                files: &[],
+                status: 6,
+                said: $said,
+                asked: (&NAMES, $asked),
+                there: (&NAMES, 4),
+                holds: &[],
+                journal: &[Journal::Count(0)],
+                ..TURNS
+            },
+        )
+    };
+}
+
+/// Behind a whole line it has fewer phases than the other client's, and elsewhere its last line has
+/// no reading.
+static CUTS: [(usize, usize, Case); 15] = [
+    cut!(0, 0, B_DIFFERS, 3),
+    cut!(1, 10, LINE_1, 2),
+    cut!(11, 11, B_DIFFERS, 3),
+    cut!(12, 30, "nitpicker: a.nit: line 2: bad script\n", 2),
+    cut!(31, 31, B_DIFFERS, 3),
+    cut!(32, 35, "nitpicker: a.nit: line 3: bad script\n", 2),
+    cut!(36, 36, B_DIFFERS, 3),
+    cut!(37, 51, "nitpicker: a.nit: line 4: bad script\n", 2),
+    cut!(52, 52, B_DIFFERS, 3),
+    cut!(53, 57, "nitpicker: a.nit: line 5: bad script\n", 2),
+    cut!(58, 58, B_DIFFERS, 3),
+    cut!(59, 63, "nitpicker: a.nit: line 6: bad script\n", 2),
+    cut!(64, 64, B_DIFFERS, 3),
+    cut!(65, 69, "nitpicker: a.nit: line 7: bad script\n", 2),
+    (70, 70, TURNS),
+];
+
+/// The run comes out so with each cut of the first client's script.
+fn assert_cuts(
     rt: &impl Abort,
     alloc: Global,
-    numbers: &[u64],
-) -> Result<(Done, MemoryStore), AllocError> {
-    let mut store = store(rt, alloc, files(alloc, &FILES)?, numbers)?;
-    let done = alone(rt, alloc, &TURNS_TWO, &mut store)?;
-    Ok((done, store))
+    first: usize,
+    last: usize,
+    case: &Case,
+) -> Result<(), Fail> {
+    for length in first..=last {
+        let cut = [
+            ("two.toml", Content::Plain(CONFIG)),
+            ("a.nit", Content::Front(A, length)),
+            ("b.nit", Content::Plain(B)),
+            ("two.in", Content::Plain(INPUT)),
+        ];
+        assert_alone(rt, alloc, case, files(alloc, &cut)?)?;
+    }
+    Ok(())
+}
+
+#[test]
+fn cut_scripts(rt: HostRuntime) -> Result<(), Fail> {
+    for (first, last, case) in &CUTS {
+        assert_cuts(&rt, rt.alloc(), *first, *last, case)?;
+    }
+    Ok(())
 }
 
 #[test]
 fn two_clients(rt: HostRuntime) -> Result<(), Fail> {
-    let alloc = rt.alloc();
-    let (done, store) = failing(&rt, alloc, &[])?;
-    assert_said(&rt, &store, SUMMARY);
-    assert_eq!(rt; done.status, 0);
-    let journal = journal();
-    assert_eq!(rt; done.journal.as_slice(), journal.as_slice());
-    assert_names(&rt, &store, &NAMES);
-    assert_asked(&rt, &store, &NAMES);
-    assert_shown(&rt, alloc, &store, "shot-1.ppm", "8 4", &SHOT)?;
-    assert_shown(&rt, alloc, &store, "final.ppm", "8 4", &FINAL)?;
-    assert_bytes(&rt, &store, "events-a.txt", EVENTS.as_bytes());
-    assert_bytes(&rt, &store, "events-b.txt", EVENTS.as_bytes());
-    assert_bytes(&rt, &store, "journal.txt", JOURNAL.as_bytes());
-    assert_scripts_kept(&rt, &store);
-    Ok(())
-}
-
-/// The files that are read are as they were.
-fn assert_scripts_kept(rt: &impl Abort, store: &MemoryStore) {
-    for (name, text) in &FILES {
-        assert_bytes(rt, store, name, text.as_bytes());
-    }
-}
-
-/// Each call of the store up to the first saying fails once: how many files are there then, how many were asked for, and
-/// how many entries the journal has.
-#[test]
-fn stores_that_fail_once(rt: HostRuntime) -> Result<(), Fail> {
-    let rows = [
-        (1, 3, "nitpicker: two.toml: read fault\n", 4, 1, 0),
-        (2, 3, "nitpicker: a.nit: read fault\n", 4, 2, 0),
-        (3, 3, "nitpicker: b.nit: read fault\n", 4, 3, 0),
-        (4, 3, "nitpicker: two.in: read fault\n", 4, 4, 0),
-        (5, 4, "nitpicker: shot-1.ppm: write fault\n", 4, 5, 9),
-        (6, 4, "nitpicker: final.ppm: write fault\n", 5, 6, 9),
-        (7, 4, "nitpicker: events-a.txt: write fault\n", 6, 7, 9),
-        (8, 4, "nitpicker: events-b.txt: write fault\n", 7, 8, 9),
-        (9, 4, "nitpicker: journal.txt: write fault\n", 8, 9, 9),
-        (10, 4, "", 9, 9, 9),
-    ];
-    for (number, status, line, there, asked, entries) in rows {
-        let (done, store) = failing(&rt, rt.alloc(), &[number])?;
-        assert_said(&rt, &store, line);
-        assert_eq!(rt; done.status, status, "at {line:?}");
-        assert_names(&rt, &store, front(there));
-        assert_asked(&rt, &store, front(asked));
-        assert_eq!(rt; done.journal.len(), entries, "at {line:?}");
+    let tables: [&[Case]; 3] = [&WHOLE, &FAILING, &REFUSED];
+    for cases in &tables {
+        assert_cases(&rt, rt.alloc(), cases)?;
     }
     Ok(())
-}
-
-/// The shot that was put stays, and the run goes to its end.
-#[test]
-fn a_last_picture_that_is_not_put(rt: HostRuntime) -> Result<(), Fail> {
-    let alloc = rt.alloc();
-    let (done, store) = failing(&rt, alloc, &[6])?;
-    assert_shown(&rt, alloc, &store, "shot-1.ppm", "8 4", &SHOT)?;
-    let journal = journal();
-    assert_eq!(rt; done.journal.as_slice(), journal.as_slice());
-    Ok(())
-}
-
-/// The files of the run with another text under one name.
-fn changed(alloc: Global, name: &str, text: &str) -> Result<Vec<(String, Vec<u8>)>, AllocError> {
-    let mut all = Vec::new(alloc);
-    for (own, before) in FILES {
-        let now = if own == name { text } else { before };
-        all.push((String::from_str(alloc, own)?, now.as_bytes().to_vec(alloc)?))?;
-    }
-    Ok(all)
-}
-
-/// Scripts that are refused, and how many files were asked for then.
-#[test]
-fn refused_scripts(rt: HostRuntime) -> Result<(), Fail> {
-    let rows = [
-        ("two.in", "", "nitpicker: two.in: phases differ\n", 4),
-        (
-            "two.in",
-            "shot\nphase\n",
-            "nitpicker: two.in: phases differ\n",
-            4,
-        ),
-        ("b.nit", "phase\n", "nitpicker: b.nit: phases differ\n", 3),
-        // the number of phases is that of the first client's script
-        ("a.nit", "", "nitpicker: b.nit: phases differ\n", 3),
-        (
-            "a.nit",
-            "buffer 4\n",
-            "nitpicker: a.nit: line 1: bad script\n",
-            2,
-        ),
-        (
-            "b.nit",
-            "phase\nView\n",
-            "nitpicker: b.nit: line 2: bad script\n",
-            3,
-        ),
-        (
-            "two.in",
-            "phase\nview\n",
-            "nitpicker: two.in: line 2: bad script\n",
-            4,
-        ),
-    ];
-    for (name, text, line, asked) in rows {
-        let alloc = rt.alloc();
-        let mut store = store(&rt, alloc, changed(alloc, name, text)?, &[])?;
-        let done = alone(&rt, alloc, &TURNS_TWO, &mut store)?;
-        assert_refused(&rt, &done, &store, 6, line, front(asked));
-        assert_names(&rt, &store, front(4));
-    }
-    Ok(())
-}
-
-/// The first client's script is cut: behind a whole line it has fewer phases than the other client's, and elsewhere its
-/// last line has no reading.
-#[test]
-fn cut_scripts(rt: HostRuntime) -> Result<(), Fail> {
-    for length in 0..=A.len() {
-        let text = A.get(..length).ok_or("no text")?;
-        assert_cut(&rt, rt.alloc(), text)?;
-    }
-    Ok(())
-}
-
-fn assert_cut(rt: &impl Abort, alloc: Global, text: &str) -> Result<(), AllocError> {
-    let mut store = store(rt, alloc, changed(alloc, "a.nit", text)?, &[])?;
-    let done = alone(rt, alloc, &TURNS_TWO, &mut store)?;
-    match text.len() {
-        70 => {
-            assert_said(rt, &store, SUMMARY);
-            assert_eq!(rt; done.status, 0);
-        }
-        0 | 11 | 31 | 36 | 52 | 58 | 64 => {
-            let line = "nitpicker: b.nit: phases differ\n";
-            assert_refused(rt, &done, &store, 6, line, front(3));
-        }
-        _ => {
-            let number = line_feeds(text).saturating_add(1);
-            let line = format!(in alloc; "nitpicker: a.nit: line {number}: bad script\n")?;
-            assert_refused(rt, &done, &store, 6, &line, front(2));
-        }
-    }
-    Ok(())
-}
-
-/// How many lines have an end.
-fn line_feeds(text: &str) -> usize {
-    text.as_bytes()
-        .iter()
-        .filter(|byte| **byte == b'\n')
-        .count()
 }

@@ -1,13 +1,12 @@
 use Rattle.std.proofs.Common.{◌≡◌, ◌∙◌, ◌+◌, ◌<◌, ◌++◌, ◌∷◌, [], ℕ, List, length, map, ap, sym, subst}
 use Rattle.std.specs.Prelude.{slice_index_or}
 use Rattle.std.proofs.lemmas.List.{length_push, get_or_default, map_push}
-use Rattle.nit_config.specs.declared.config.Member.{Member}
 use Rattle.nit_config.specs.Configuration.{Configuration, donation_of}
 use Rattle.nit_plan.specs.ScriptWords.{table_size}
 use Rattle.nit_plan.specs.SessionLists.{plan_in}
 use Rattle.nit_plan.specs.Plan.{PlanModel}
 use Rattle.nit_pixels.specs.End.{BufferName, End, new_sight}
-use Rattle.nit_reach_tests.proofs.OpeningLemmas.{at_member, one_more}
+use Rattle.nit_reach_tests.proofs.OpeningLemmas.{donation_at, one_more}
 use Rattle.nit_reach_tests.proofs.hall_opening.buffers_of.Goals as goal
 
 pub loop-sid-preserved : goal.loop-sid-preserved
@@ -20,7 +19,7 @@ loop-sid-preserved c =
     let more = c.in_ok-push-2.ensures.items in
     let inside : k < length config.clients = subst (λ (n : ℕ). k < n) c.requires.each c.loop-sid-test.true in
     let client : (slice_index_or c.as_slice-clients.result.now k c.index-clients-sid.result).donation ≡ donation_of config k =
-    ap (λ (m : Member). m.donation) (at_member config c.as_slice-clients.result.now k c.index-clients-sid.result (c.as_slice-clients.ensures.value ∙ ap (λ (x : Configuration). x.clients) c.config.view_is) inside) in
+    donation_at config c.as_slice-clients.result.now k c.index-clients-sid.result (c.as_slice-clients.ensures.value ∙ ap (λ (x : Configuration). x.clients) c.config.view_is) inside in
     let size : c.table_words-words.result ≡ table_size (donation_of config k) = c.table_words-words.ensures.size ∙ ap table_size client in
     let plan : c.index-plans-sid.result ≡ plan_in c.args.plans.now k = c.index-plans-sid.is ∙ get_or_default c.args.plans.now k c.index-plans-sid.result (record { steps = []; ink = [] }) c.loop-sid-test.true in
     let ink : c.ink.result.now ≡ (plan_in c.args.plans.now k).ink = c.ink.ensures ∙ ap (λ (p : PlanModel). p.ink) plan in

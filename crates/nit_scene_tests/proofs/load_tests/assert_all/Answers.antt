@@ -1,5 +1,5 @@
 use Rattle.std.proofs.Common.{◌<◌, zero, suc, arith}
-use Rattle.nit_scene_tests.proofs.load_tests.loads_by_entry.Goals as goal
+use Rattle.nit_scene_tests.proofs.load_tests.assert_all.Goals as goal
 
 pub finish-requires-clause-tables : goal.finish-requires-clause-tables
 finish-requires-clause-tables g c zero lt = c.assert_rows-2.ensures.first
