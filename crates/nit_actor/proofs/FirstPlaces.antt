@@ -1,8 +1,7 @@
 -- All actors stand at their first lines: nothing is done yet.
 use Rattle.std.proofs.Common.{List, [], ap, arith, length, map, refl, replicate, subst, suc, sym, zero, ℕ, ◌++◌, ◌+◌, ◌-◌, ◌<◌, ◌∙◌, ◌∷◌, ◌≡◌, ◌≤◌}
-use Rattle.nit_actor.proofs.Basics.{ActorLine, ArePlaces, InputLine, Line, LineTurn, Places, StandsAt, actors, flat_map, get_or-replicate, in_phase, lefts, phase_count, phase_rounds, range_with_len, rounds, script_of, turns_left, turns_of}
+use Rattle.nit_actor.proofs.Basics.{ActorLine, ArePlaces, InputLine, Line, LineTurn, Place, Places, StandsAt, actors, flat_map, get_or-replicate, in_phase, lefts, phase_count, phase_rounds, range_with_len, rounds, script_of, turns_left, turns_of}
 use Rattle.nit_actor.specs.Places.{left_from}
-use Rattle.nit_actor.specs.declared.places.Place.{Place}
 use Rattle.nit_actor.proofs.Scripts.{below}
 use Rattle.nit_actor.proofs.PlaceLemmas.{actors_long}
 use Rattle.nit_actor.proofs.PhaseRest.{at_begin}

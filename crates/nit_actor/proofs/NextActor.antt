@@ -1,9 +1,8 @@
 -- How the actors go on: to the next one with a line to do, into a new round, into a new phase.
 use Rattle.std.proofs.Common.{Bool, List, Some, [], add-one, ap, arith, false, get_or, get_or-set_other, get_or-set_same, inl, inr, length, length-set, map, refl, set, subst, suc, sym, true, zero, ℕ, ◌+◌, ◌<◌, ◌∙◌, ◌∷◌, ◌≡◌, ◌≤◌}
-use Rattle.nit_actor.proofs.Basics.{ActorLine, AllByRecursion, ArePlaces, ByClient, ByUser, HasTurn, InputLine, IsAtTurn, Line, LineTurn, NoneHas, Places, StandsAt, actors, cases_eq, cases_lt, ends_phase, get_or-map, get_or_default, in_phase, is_active, left_at, left_from, lefts, length-map, phase_count, script_of, slice_get, stepped, turn_by, turns_left}
+use Rattle.nit_actor.proofs.Basics.{ActorLine, AllByRecursion, ArePlaces, ByClient, ByUser, HasTurn, InputLine, IsAtTurn, Line, LineTurn, NoneHas, Place, Places, StandsAt, actors, cases_eq, cases_lt, ends_phase, get_or-map, get_or_default, in_phase, is_active, left_at, left_from, lefts, length-map, phase_count, script_of, slice_get, stepped, turn_by, turns_left}
 use Rattle.nit_script.specs.declared.line.Line.TheVariants as line
 use Rattle.nit_script.specs.declared.line.InputLine.TheVariants as input_line
-use Rattle.nit_actor.specs.declared.places.Place.{Place}
 use Rattle.nit_actor.specs.declared.turn.Turn.TheVariants as turn
 use Rattle.nit_actor.proofs.PhaseRest.{turned_to, round_begun, phase_begun, nothing_left, one_taken}
 use Rattle.nit_actor.proofs.PlaceLemmas.{script_client, script_user, actors_long, lefts_long, get_lefts, set_lefts, active_parts, idle, nothing_more, not_in_phase, left_first, step_stands, phase_stands}

@@ -1,7 +1,6 @@
 -- Actors at places of their scripts: what each has left, and how places go on.
 use Rattle.std.proofs.Common.{Bool, List, Some, [], add-one, ap, ap₂, arith, cond, drop, false, get_or, inl, inr, length, length-append, map, nat_lt, refl, set, subst, suc, sym, true, zero, zero-add, ℕ, ◌+◌, ◌<◌, ◌==◌, ◌∙◌, ◌∷◌, ◌≡◌, ◌≤◌}
-use Rattle.nit_actor.proofs.Basics.{ActorLine, AllByRecursion, ByClient, ByUser, InputLine, Line, LineTurn, StandsAt, actors, and_parts, cases_eq, cases_lt, clients_from, drop_all, drop_more, ends_phase, eq-eqb, eqb-true, false≢true, get_or_default, in_phase, is_active, is_input_phase, is_phase, left_at, lefts, length-map, lt-ltb, ltb-true, script_of, slice_get, stepped, turns_from}
-use Rattle.nit_actor.specs.declared.places.Place.{Place}
+use Rattle.nit_actor.proofs.Basics.{ActorLine, AllByRecursion, ByClient, ByUser, InputLine, Line, LineTurn, Place, StandsAt, actors, and_parts, cases_eq, cases_lt, clients_from, drop_all, drop_more, ends_phase, eq-eqb, eqb-true, false≢true, get_or_default, in_phase, is_active, is_input_phase, is_phase, left_at, lefts, length-map, lt-ltb, ltb-true, script_of, slice_get, stepped, turns_from}
 use Rattle.nit_actor.proofs.OneActor.{later}
 use Rattle.nit_actor.proofs.Scripts.{script_of_client, script_of_user}
 

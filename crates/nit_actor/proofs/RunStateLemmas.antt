@@ -1,8 +1,7 @@
 -- A run that is under way: how it begins, what one turn does, and what holds at its end.
 use Rattle.std.proofs.Common.{Bool, List, None, Option, Some, [], add-zero, ap, append-nil, append_assoc, arith, cond, false, get_or-set_other, get_or-set_same, inl, inr, length, length-append, length-set, map, refl, set, subst, sym, take, true, zero-add, ℕ, ◌++◌, ◌+◌, ◌<◌, ◌∙◌, ◌∷◌, ◌≡◌, ◌≢◌, ◌≤◌}
-use Rattle.nit_actor.proofs.Basics.{Action, ActorLine, AreQuiet, AreRaw, Bare, ByClient, ByUser, Configuration, Drawing, Entry, InputLine, IsDrawn, IsLegal, IsMoved, IsOpen, IsRawOf, IsRecorded, IsRoundsRun, IsSetUp, IsShowing, IsUnderWay, IsUserRecorded, Line, LineTurn, Painting, PixelSource, PlanModel, Point, SceneModel, ShotFrame, ShowsEach, ShowsLine, Sight, Size, State, action_of, actions_of_line, actions_of_turns, after_turn, bar_rows, bare_word, blank, buffer_size, cases_eq, cases_lt, donation_of, done_after, drawn, drawn_shot, entry_of, eq-eqb, first_state, flat_map-append, get_or_past, glass_after, glass_in, in_bar, ink, input_lines_of, length-map, length-take-le, line_by, lines_of, map-append, ne_eqb, no_sight, painted_from, pixel, pixel_count, replay, rounds, script_in, shot_frames_of, shots, shots_after, slice_get, slice_get_within, slice_index_or, source_at, source_under, state_now, tables_after, turn_of, words_after, words_left}
+use Rattle.nit_actor.proofs.Basics.{Action, ActorLine, AreQuiet, AreRaw, Bare, ByClient, ByUser, Configuration, Drawing, Entry, InputLine, IsDrawn, IsLegal, IsMoved, IsOpen, IsRawOf, IsRecorded, IsRoundsRun, IsSetUp, IsShowing, IsUnderWay, IsUserRecorded, Line, LineTurn, Painting, PixelSource, PlanModel, Point, SceneModel, ShotFrame, ShowsEach, ShowsLine, Sight, Size, State, View, action_of, actions_of_line, actions_of_turns, after_turn, bar_rows, bare_word, blank, buffer_size, cases_eq, cases_lt, donation_of, done_after, drawn, drawn_shot, entry_of, eq-eqb, first_state, flat_map-append, get_or_past, glass_after, glass_in, in_bar, ink, input_lines_of, length-map, length-take-le, line_by, lines_of, map-append, ne_eqb, no_sight, painted_from, pixel, pixel_count, replay, rounds, script_in, shot_frames_of, shots, shots_after, slice_get, slice_get_within, slice_index_or, source_at, source_under, state_now, tables_after, turn_of, words_after, words_left}
 use Rattle.nit_events.specs.declared.entry.Entry.TheVariants as entry
-use Rattle.nit_stack.specs.declared.view.View.{View}
 use Rattle.nit_script.specs.declared.line.Line.TheVariants as line
 use Rattle.nit_script.specs.declared.line.InputLine.TheVariants as input
 use Rattle.nit_actor.specs.declared.turn.Turn.TheVariants as turn

@@ -1,7 +1,6 @@
 -- A journal of rounds is whole.
-use Rattle.std.proofs.Common.{Bool, List, [], ap, ap₂, false, get_or, get_or-set_other, get_or-set_same, inl, inr, length, map, refl, set, subst, suc, sym, true, zero, ℕ, ◌++◌, ◌==◌, ◌∙◌, ◌∷◌, ◌≡◌}
+use Rattle.std.proofs.Common.{Bool, List, [], ap, ap₂, false, get_or, get_or-set_other, get_or-set_same, inl, inr, length, map, refl, set, subst, suc, sym, true, zero, ℕ, ◌++◌, ◌==◌, ◌∙◌, ◌∷◌, ◌≡◌, if◌then◌else◌}
 use Rattle.nit_actor.proofs.Basics.{ActorLine, Acts, AreRoundsOf, ByClient, ByUser, Call, Calls, Does, Entry, InputLine, IsNonDecreasing, IsWhole, Line, LineTurn, Shoots, UserAction, action_of, actions_of_turns, actors, calls_from, calls_of, calls_to_make, cases_eq, cases_lt, done, eq-eqb, flat_map, get_or_past, left, ne_eqb, next_phase, phase_count, phases_along, rounds, to_do, turns_from, turns_of, user_actions_from, user_actions_of, user_actions_to_do}
-use Rattle.std.specs.Prelude.{if◌then◌else◌}
 use Rattle.nit_events.specs.declared.entry.Entry.TheVariants as entry
 use Rattle.nit_script.specs.declared.line.Line.TheVariants as line
 use Rattle.nit_script.specs.declared.line.InputLine.TheVariants as input

@@ -1,4 +1,11 @@
--- The words of the library and of the crates below that are used here.
+-- The words of the library and of the crates below that are used here, and the crate's plain types.
+pub use Rattle.nit_actor.specs.declared.clip_beside.Pair.{Pair}
+pub use Rattle.nit_actor.specs.declared.desk.PictureName.{PictureName}
+pub use Rattle.nit_actor.specs.declared.places.Place.{Place}
+pub use Rattle.nit_actor.specs.declared.places.Places.{Places}
+pub use Rattle.nit_actor.specs.declared.stale.Stale.{Stale}
+pub use Rattle.nit_actor.specs.declared.turn.Turn.{Turn}
+pub use Rattle.nit_actor.specs.declared.turn.Turn.TheVariants.{Client, User}
 pub use Rattle.nit_clip.specs.ClipGrammar.{clip_phases, is_clip_phase}
 pub use Rattle.nit_clip.specs.declared.line.ClipLine.{ClipLine}
 pub use Rattle.nit_config.specs.Configuration.{Configuration, bar_rows, donation_of}
@@ -50,6 +57,7 @@ pub use Rattle.nit_script.specs.declared.line.Stroke.{Stroke}
 pub use Rattle.nit_script.specs.declared.line.Stroke.TheVariants.{Fill}
 pub use Rattle.nit_slots.specs.Account.{IsDonation}
 pub use Rattle.nit_stack.specs.Sources.{Bare, Black, PixelSource, Size, Word, in_bar, pixel, source_under}
+pub use Rattle.nit_stack.specs.declared.view.View.{View}
 pub use Rattle.nit_store.specs.Puts.{PutRefusal, PutState, PutsAll, PutsFile, PutsNext, unrefused}
 pub use Rattle.nit_store.specs.Store.{File, StoreModel}
 pub use Rattle.nit_store.specs.declared.store.PutError.{PutError}
@@ -62,5 +70,5 @@ pub use Rattle.std.specs.Fmt.{decimal}
 pub use Rattle.std.specs.List.{AllByRecursion, AllZip, flat_map, range_with_len, slice_get, slice_index_or}
 pub use Rattle.std.specs.List.Sorted.{IsNonDecreasing}
 pub use Rattle.std.specs.Option.{option_map}
-pub use Rattle.std.specs.Prelude.{All, IfNone, IsTrue, codes, slice_index}
+pub use Rattle.std.specs.Prelude.{All, IfNone, IsTrue, codes, slice_index, vec_capacity}
 pub use Rattle.std.specs.Str.{IsUtf8}

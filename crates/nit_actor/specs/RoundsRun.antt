@@ -1,8 +1,7 @@
 -- What a run by rounds leaves: its journal, the words of its sessions, and the pictures that it
 -- put.
 use Rattle.std.specs.Prelude.{◌≡◌, ℕ, ◌+◌, ◌<◌, List, ◌++◌, length, codes, Option, Some, None}
-use Rattle.nit_actor.specs.Below.{Configuration, InputLine, IsLegal, IsOpen, IsPlanOf, Line, PlanModel, PutError, PutRefusal, PutState, SceneModel, Sight, StoreModel, decimal, donation_of, glass_in, ink, inked_sight, plan_in, script_in, words_after, words_left}
-use Rattle.nit_actor.specs.declared.desk.PictureName.{PictureName}
+use Rattle.nit_actor.specs.Below.{Configuration, InputLine, IsLegal, IsOpen, IsPlanOf, Line, PictureName, PlanModel, PutError, PutRefusal, PutState, SceneModel, Sight, StoreModel, decimal, donation_of, glass_in, ink, inked_sight, plan_in, script_in, words_after, words_left}
 use Rattle.nit_actor.specs.declared.desk.PictureName.TheVariants as name
 use Rattle.nit_actor.specs.TurnActions.{AreRoundsOf}
 

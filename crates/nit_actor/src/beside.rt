@@ -3,8 +3,7 @@
 
 ghost use Rattle.std.specs.Prelude.{◌≡◌, ◌*◌, ◌≤◌, All, [], length, map, vec_len, vec_capacity};
 ghost use base.Fml.{ftrue};
-ghost use Rattle.nit_report.specs.Picture.{picture_length};
-ghost use Rattle.nit_hall.specs.Pass.{Belongs, UserBelongs};
+ghost use Rattle.nit_actor.specs.Below.{Belongs, UserBelongs, picture_length};
 ghost use Rattle.nit_actor.specs.RoundsRun.{put_state_of_desk};
 ghost use Rattle.nit_actor.specs.Role.{Role, IsRoleIn, role_of, user_role_of};
 ghost use Rattle.nit_actor.specs.Pictures.{PutsShotsBehind};

@@ -2,10 +2,8 @@
 //! with its clip pass, and the user on the calling one.
 
 ghost use Rattle.std.specs.Prelude.{◌≡◌, ◌*◌, ◌≤◌, All, IfNone, [], length, map, vec_len};
-ghost use Rattle.std.specs.Prelude.{vec_capacity};
+ghost use Rattle.nit_actor.specs.Below.{UserBelongs, picture_length, vec_capacity};
 ghost use base.Fml.{ftrue};
-ghost use Rattle.nit_report.specs.Picture.{picture_length};
-ghost use Rattle.nit_hall.specs.Pass.{UserBelongs};
 ghost use Rattle.nit_actor.specs.RoundsRun.{put_state_of_desk};
 ghost use Rattle.nit_actor.specs.Role.{user_role_of};
 ghost use Rattle.nit_actor.specs.ClipRole.{IsPairIn, IsPairRoleIn, PairRole, pair_role_of};

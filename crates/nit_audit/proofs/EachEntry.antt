@@ -1,7 +1,6 @@
 -- The audit, entry by entry.
-use Rattle.std.proofs.Common.{Bool, List, [], add-one, ap, arith, drop, drop-cons, false, get_or, inl, inr, length, refl, subst, suc, sym, true, zero, ℕ, ◌+◌, ◌<◌, ◌∙◌, ◌∷◌, ◌≡◌}
+use Rattle.std.proofs.Common.{Bool, List, [], add-one, ap, arith, drop, drop-cons, false, get_or, inl, inr, length, refl, subst, suc, sym, true, zero, ℕ, ◌+◌, ◌<◌, ◌∙◌, ◌∷◌, ◌≡◌, ◌≢◌, ◌⊎◌}
 use Rattle.nit_audit.proofs.Basics.{Audited, Call, Configuration, Entry, Err, IfOk, IsAhead, IsFollowed, IsFollowing, IsGoodFor, IsGoodFrom, IsMatched, IsNothingLeft, IsReplay, IsVerdict, IsVerdictFrom, MayFollow, Ok, Result, UnderwayModel, UserAction, Verdict, audited, first_audited, followed, left, length-set, to_do}
-use Rattle.std.specs.Prelude.{◌≢◌, ◌⊎◌}
 use mathlib.Core.List.{cons≢nil}
 use Rattle.nit_events.specs.declared.entry.Entry.TheVariants as entry
 use Rattle.nit_audit.specs.declared.auditing.Verdict.TheVariants as verdict

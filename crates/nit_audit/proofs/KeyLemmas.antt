@@ -1,8 +1,6 @@
 -- The views of keys, when keys and records change.
-use Rattle.nit_audit.proofs.Basics.{AllByRecursion, AllHaveViews, Change, Err, HasView, IfSome, IsSomeAnd, Ok, OnOk, Point, Result, Slab, Updates, Which, above_is, changed, changed_if, covers, eq-eqb, eqb-true, false≢true, find-map, front_is, get, has_key, in_bar, insert, is_meant, is_some, map-insert, map-map, map-put_above, map-put_back, map-put_front, map-without, map_twice, moved, moved_found, option_map, owner, position_or_len, put_above, put_again, put_back, put_front, swept, taken_if, view_or, view_under, views_at, with_change, without}
-use Rattle.std.proofs.Common.{Bool, List, None, Option, Some, [], ap, cond, false, filter, find, map, nat_le, not, refl, subst, suc, sym, true, zero, ℕ, ◌+◌, ◌<◌, ◌==◌, ◌||◌, ◌∙◌, ◌∷◌, ◌≡◌}
-use Rattle.std.specs.Prelude.{◌≢◌}
-use Rattle.nit_stack.specs.declared.view.View.{View}
+use Rattle.nit_audit.proofs.Basics.{AllByRecursion, AllHaveViews, Change, Err, HasView, IfSome, IsSomeAnd, Ok, OnOk, Point, Result, Slab, Updates, View, Which, above_is, changed, changed_if, covers, eq-eqb, eqb-true, false≢true, find-map, front_is, get, has_key, in_bar, insert, is_meant, is_some, map-insert, map-map, map-put_above, map-put_back, map-put_front, map-without, map_twice, moved, moved_found, option_map, owner, position_or_len, put_above, put_again, put_back, put_front, swept, taken_if, view_or, view_under, views_at, with_change, without}
+use Rattle.std.proofs.Common.{Bool, List, None, Option, Some, [], ap, cond, false, filter, find, map, nat_le, not, refl, subst, suc, sym, true, zero, ℕ, ◌+◌, ◌<◌, ◌==◌, ◌||◌, ◌∙◌, ◌∷◌, ◌≡◌, ◌≢◌}
 use Rattle.nit_audit.specs.declared.keys.Change.TheVariants as change
 
 -- ---- what holds of the keys of a list

@@ -1,7 +1,6 @@
 -- What is answered of entries, one at a time.
-use Rattle.std.proofs.Common.{Bool, List, [], ap, arith, false, inl, inr, refl, subst, suc, sym, take, true, zero, ℕ, ◌++◌, ◌+◌, ◌<◌, ◌∙◌, ◌∷◌, ◌≡◌, ◌≤◌}
+use Rattle.std.proofs.Common.{Bool, List, [], ap, arith, false, inl, inr, refl, subst, suc, sym, take, true, zero, ℕ, ◌++◌, ◌+◌, ◌<◌, ◌∙◌, ◌∷◌, ◌≡◌, ◌≤◌, ◌↔◌, ◌≢◌, ◌⊎◌}
 use Rattle.nit_audit.proofs.Basics.{Call, Device, Entry, Err, IfOk, IsEnded, IsLeastBad, IsOpen, IsVerdict, IsVerdictFrom, Ok, Reply, Result, Routed, Verdict, cases_lt, false≢true}
-use Rattle.std.specs.Prelude.{◌↔◌, ◌≢◌, ◌⊎◌}
 use mathlib.Core.List.{cons≢nil}
 use Rattle.nit_events.specs.declared.entry.Entry.TheVariants as entry
 use Rattle.nit_audit.specs.declared.auditing.Verdict.TheVariants as verdict

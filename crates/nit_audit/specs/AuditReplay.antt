@@ -1,10 +1,8 @@
 -- What an audit keeps of a run, and what holds of it.
 use Rattle.std.specs.Prelude.{◌≡◌, ℕ, ◌+◌, ◌*◌, ◌<◌, ◌≤◌, Bool, true, false, List, length, drop, slice_index_or, IsTrue}
-use Rattle.nit_audit.specs.Below.{Agrees, Call, Close, Configuration, Device, Entry, FocusModel, InputState, Place, Routing, Session, State, Title, UserAction, after, forget, is_rectangle, is_title, member, most_sessions, route, session_in}
+use Rattle.nit_audit.specs.Below.{Agrees, Call, Close, Configuration, Device, Entry, FocusModel, InputState, Place, Routing, Session, State, Title, UserAction, Verdict, View, after, forget, is_rectangle, is_title, member, most_sessions, route, session_in}
 use Rattle.nit_events.specs.declared.entry.Entry.TheVariants as entry
-use Rattle.nit_stack.specs.declared.view.View.{View}
 use Rattle.nit_audit.specs.Underway.{Audited, IsGoodFrom, MayFollow, followed}
-use Rattle.nit_audit.specs.declared.auditing.Verdict.{Verdict}
 use Rattle.nit_audit.specs.Verdict.{IsVerdictFrom}
 
 -- the machines, the views front first, where the input goes, how many shots were taken, and how

@@ -1,4 +1,7 @@
--- The words of the library and of the crates below that are used here.
+-- The words of the library and of the crates below that are used here, and the crate's plain types.
+pub use Rattle.nit_audit.specs.declared.auditing.Verdict.{Verdict}
+pub use Rattle.nit_audit.specs.declared.keys.Change.{Change}
+pub use Rattle.nit_audit.specs.declared.keys.Which.{Which}
 pub use Rattle.nit_config.specs.Configuration.{Configuration, bar_rows, donation_of, member}
 pub use Rattle.nit_config.specs.ConfigurationRanges.{IsConfiguration, IsMember}
 pub use Rattle.nit_config.specs.declared.config.Member.{Member}
@@ -21,7 +24,7 @@ pub use Rattle.nit_journal.specs.Replay.{Agrees, IsLegal, IsOpen, LegalFrom}
 pub use Rattle.nit_journal.specs.Session.{Answered, Session, accepted, answered, by_call, by_handle, by_life, by_quota, by_status, ended, first_session, given, has_view, is_side, queued, receive, refusal, serve, taking, unless, ◌orelse◌}
 pub use Rattle.nit_journal.specs.StackAfter.{after_accepted, after_deliveries, is_accepted, new_view}
 pub use Rattle.nit_journal.specs.State.{State, after, clicks_on, delivered, first_state, input_after_call, layer, route, session_in}
-pub use Rattle.nit_journal.specs.WholeJournals.{Does, IsWhole, Shoots, UserAction, calls_of, left, next_phase, phases_along, to_do, user_actions_of}
+pub use Rattle.nit_journal.specs.WholeJournals.{Does, IsWhole, Shoots, UserAction, calls_of, done, left, next_phase, phases_along, to_do, user_actions_of}
 pub use Rattle.nit_plan.specs.Calls.{calls_from, calls_to_make, user_actions_from, user_actions_to_do}
 pub use Rattle.nit_rect.specs.Limits.{most_sessions}
 pub use Rattle.nit_rect.specs.Rectangle.{covers, is_place, is_rectangle, rectangle}
@@ -34,6 +37,7 @@ pub use Rattle.nit_slots.specs.Account.{IsDonation, buffer_left, buffer_need, vi
 pub use Rattle.nit_stack.specs.LabelPlaces.{is_view}
 pub use Rattle.nit_stack.specs.Orders.{changed, moved, put_above, put_again, put_back, put_front, without}
 pub use Rattle.nit_stack.specs.Sources.{in_bar, owner}
+pub use Rattle.nit_stack.specs.declared.view.View.{View}
 pub use Rattle.slab.specs.Slab.{Slab, Updates, get}
 pub use Rattle.std.specs.List.{AllByRecursion, insert, list_any, position_or_len}
 pub use Rattle.std.specs.List.Sorted.{IsNonDecreasing}

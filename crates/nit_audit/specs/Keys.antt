@@ -1,10 +1,7 @@
 -- The views as the audit keeps them: the records under their keys, and the keys, front first.
 use Rattle.std.specs.Prelude.{ℕ, ◌<◌, ◌==◌, Bool, List, map, Option, Some, None, option_map, IsSomeAnd, if◌then◌else◌}
-use Rattle.nit_audit.specs.Below.{AllByRecursion, Slab, get, is_view, list_any, most_sessions, new_view}
-use Rattle.nit_stack.specs.declared.view.View.{View}
-use Rattle.nit_audit.specs.declared.keys.Change.{Change}
+use Rattle.nit_audit.specs.Below.{AllByRecursion, Change, Slab, View, Which, get, is_view, list_any, most_sessions, new_view}
 use Rattle.nit_audit.specs.declared.keys.Change.TheVariants as change
-use Rattle.nit_audit.specs.declared.keys.Which.{Which}
 use Rattle.nit_audit.specs.declared.keys.Which.TheVariants as which
 
 -- the record that was found; one of no session's view where there is none

@@ -1,8 +1,7 @@
 -- What is answered of a list of entries.
 use Rattle.std.specs.Prelude.{◌≡◌, ◌⊎◌, ℕ, ◌+◌, ◌<◌, ◌≤◌, List, [], ◌∷◌, ◌++◌, length, take}
-use Rattle.nit_audit.specs.Below.{Entry, IsOpen}
+use Rattle.nit_audit.specs.Below.{Entry, IsOpen, Verdict}
 use Rattle.nit_events.specs.declared.entry.Entry.TheVariants as entry
-use Rattle.nit_audit.specs.declared.auditing.Verdict.{Verdict}
 use Rattle.nit_audit.specs.declared.auditing.Verdict.TheVariants as verdict
 
 -- the last entry is the last picture

@@ -1,7 +1,6 @@
 -- The part of a picture inside a rectangle.
 use Rattle.nit_capture.proofs.Basics.{All, HasPixels, IsPicture, IsPlace, IsWord, LiesIn, Rectangle, Shows, blue, channels, crop, crop_pixel, div-mul-add, div_below, flat_map, get_or-drop, get_or-take, green, ints, mod-mul-add, mod_below, mul-add-lt, nat_abs, negsuc, pos, range_with_len, red, screen, slice_index, take_all, to_z-of_z, within, word_of, ℤ}
-use Rattle.std.proofs.Common.{List, [], ap, ap₂, arith, drop, length, length-append, map, mul_comm, of_z, refl, subst, suc, sym, take, to_z, w32, zero, ℕ, ◌%◌, ◌*◌, ◌++◌, ◌+◌, ◌-◌, ◌/◌, ◌<◌, ◌^◌, ◌∙◌, ◌∷◌, ◌≡◌, ◌≤◌}
-use Rattle.std.specs.Prelude.{◌+ℤ◌, ◌≤ℤ◌}
+use Rattle.std.proofs.Common.{List, [], ap, ap₂, arith, drop, length, length-append, map, mul_comm, of_z, refl, subst, suc, sym, take, to_z, w32, zero, ℕ, ◌%◌, ◌*◌, ◌++◌, ◌+◌, ◌-◌, ◌/◌, ◌<◌, ◌^◌, ◌∙◌, ◌∷◌, ◌≡◌, ◌≤◌, ◌+ℤ◌, ◌≤ℤ◌}
 use Rattle.nit_capture.specs.Crop.{crop_bytes, crop_place, crop_row_place, word_of_bytes}
 use Rattle.nit_capture.proofs.RunsRead.{AreBytes}
 use Rattle.nit_capture.proofs.TileDifferences.{same_map}

@@ -1,7 +1,6 @@
 -- What the definitions of films say of each other.
 use Rattle.nit_capture.proofs.Basics.{AgreeInside, AllAgree, AllByRecursion, HasPixels, HasRecord, IsPicture, IsPictureSize, LiesIn, Rectangle, and_true, black, crop, ints, length-replicate, nat_abs, negsuc, pos, record_of, records, screen, slice_index, spans, spans_holds, stream, within, ℤ}
-use Rattle.std.proofs.Common.{List, [], ap, append_assoc, ap₂, arith, drop, length, map, refl, subst, sym, true, ℕ, ◌%◌, ◌*◌, ◌++◌, ◌+◌, ◌/◌, ◌<◌, ◌∙◌, ◌∷◌, ◌≡◌}
-use Rattle.std.specs.Prelude.{◌≤ℤ◌}
+use Rattle.std.proofs.Common.{List, [], ap, append_assoc, ap₂, arith, drop, length, map, refl, subst, sym, true, ℕ, ◌%◌, ◌*◌, ◌++◌, ◌+◌, ◌/◌, ◌<◌, ◌∙◌, ◌∷◌, ◌≡◌, ◌≤ℤ◌}
 use Rattle.nit_capture.specs.Crop.{crop_place}
 use Rattle.nit_capture.proofs.TileDifferences.{same_map}
 use Rattle.nit_capture.proofs.RecordsRead.{one_record, no_record}

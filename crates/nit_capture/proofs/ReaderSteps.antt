@@ -1,6 +1,5 @@
 -- What reading does at one pixel and at one tile, for the loops that read.
-use Rattle.std.proofs.Common.{Bool, List, None, Option, Some, ap, arith, false, not, refl, suc, true, zero, ℕ, ◌+◌, ◌-◌, ◌<◌, ◌||◌, ◌∙◌, ◌≡◌, ◌≤◌}
-use Rattle.std.specs.Prelude.{◌==◌}
+use Rattle.std.proofs.Common.{Bool, List, None, Option, Some, ap, arith, false, not, refl, suc, true, zero, ℕ, ◌+◌, ◌-◌, ◌<◌, ◌||◌, ◌∙◌, ◌≡◌, ◌≤◌, ◌==◌}
 use Rattle.nit_capture.specs.RecordReaders.{pixels_at, tiles_at, turn_at}
 use Rattle.nit_capture.proofs.Basics.{behind_two, is_next, place, run_at, slice_index, slice_set, tile_at}
 

@@ -1,7 +1,6 @@
 -- A whole record read back.
 use Rattle.nit_capture.proofs.Basics.{All, AllByRecursion, HasRecord, IsWord, area, behind_two, bind_some, cases_eq, cases_lt, changed_tiles, cond, differs, eq-eqb, eqb-true, filter, flat_map, get_or_past, is_next, ne_eqb, place, range_with_len, record_at, run_bytes, runs, slice_index, some_pair_parts, tile, tile_at, tile_count, two_bytes, ◌>>=◌}
-use Rattle.std.proofs.Common.{Bool, List, None, Option, Some, [], ap, append_assoc, ap₂, arith, false, inl, inr, length, refl, subst, suc, sym, true, zero, ℕ, ◌%◌, ◌*◌, ◌++◌, ◌+◌, ◌-◌, ◌/◌, ◌<◌, ◌^◌, ◌∙◌, ◌∷◌, ◌≡◌, ◌≤◌, ◌⊎◌}
-use Rattle.std.specs.Prelude.{◌==◌}
+use Rattle.std.proofs.Common.{Bool, List, None, Option, Some, [], ap, append_assoc, ap₂, arith, false, inl, inr, length, refl, subst, suc, sym, true, zero, ℕ, ◌%◌, ◌*◌, ◌++◌, ◌+◌, ◌-◌, ◌/◌, ◌<◌, ◌^◌, ◌∙◌, ◌∷◌, ◌≡◌, ◌≤◌, ◌⊎◌, ◌==◌}
 use Rattle.nit_capture.specs.Film.{record_of, tile_bytes}
 use Rattle.nit_capture.specs.RecordReaders.{tiles_at, turn_at}
 use Rattle.nit_capture.proofs.TileDifferences.{differs_at, differs_where, same_tile, same_pixel}

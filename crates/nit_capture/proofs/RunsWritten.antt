@@ -1,7 +1,6 @@
 -- Runs written from left to right.
-use Rattle.std.proofs.Common.{List, [], add-zero, ap, append_assoc, ap₂, arith, drop, false, inl, inr, length, refl, suc, sym, take, true, ℕ, ◌++◌, ◌+◌, ◌-◌, ◌<◌, ◌∙◌, ◌∷◌, ◌≡◌, ◌≤◌}
+use Rattle.std.proofs.Common.{List, [], add-zero, ap, append_assoc, ap₂, arith, drop, false, inl, inr, length, refl, suc, sym, take, true, ℕ, ◌++◌, ◌+◌, ◌-◌, ◌<◌, ◌∙◌, ◌∷◌, ◌≡◌, ◌≤◌, ◌==◌}
 use Rattle.nit_capture.proofs.Basics.{append-nil, cases_eq, drop-drop, eq-eqb, flat_map, get_or-drop, length-drop, ne_eqb, nil_from_length, prefix_len, run_bytes, runs, slice_index, take_all}
-use Rattle.std.specs.Prelude.{◌==◌}
 use Rattle.nit_capture.proofs.RunsRead.{First, first_run, longer, apart, runs_one, no_runs}
 
 -- a run is the pixels that follow with its word

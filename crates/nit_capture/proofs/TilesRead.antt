@@ -1,7 +1,6 @@
 -- What is read as a record is one, and what is a record is read.
 use Rattle.nit_capture.proofs.Basics.{area, bind_some, cases_eq, cond, cond_some, differs, ext_get_or, filter, flat_map, get_or-set_other, get_or-set_same, length-set, no_word, or_cases, place, range_with_len, run_at, run_bytes, runs, same_tests, slice_index, slice_set, tile, tile_at, tile_count, tile_pixels, true≢false}
-use Rattle.std.proofs.Common.{Bool, List, Some, ap, ap₂, arith, false, inl, inr, length, lit<, not, refl, subst, suc, sym, true, zero, ℕ, ◌*◌, ◌++◌, ◌+◌, ◌<◌, ◌^◌, ◌||◌, ◌∙◌, ◌∷◌, ◌≡◌, ◌≤◌, ◌⊎◌}
-use Rattle.std.specs.Prelude.{◌==◌}
+use Rattle.std.proofs.Common.{Bool, List, Some, ap, ap₂, arith, false, inl, inr, length, lit<, not, refl, subst, suc, sym, true, zero, ℕ, ◌*◌, ◌++◌, ◌+◌, ◌<◌, ◌^◌, ◌||◌, ◌∙◌, ◌∷◌, ◌≡◌, ◌≤◌, ◌⊎◌, ◌==◌}
 use Rattle.nit_capture.specs.RecordReaders.{pixels_at}
 use Rattle.nit_capture.proofs.Tiles.{place_within, same_place, lies_at}
 use Rattle.nit_capture.proofs.TileDifferences.{same_map, differs_at, differs_where, unlike, like}

@@ -1,4 +1,5 @@
--- The words of the library and of the crates below that are used here.
+-- The words of the library and of the crates below that are used here, and the crate's plain types.
+pub use Rattle.nit_capture.specs.declared.player.Played.TheVariants.{Bad, End, Frame}
 pub use Rattle.nit_rect.specs.Intersection.{HasPixels, LiesIn}
 pub use Rattle.nit_rect.specs.Limits.{most_height, most_width}
 pub use Rattle.nit_rect.specs.Options.{Gives}

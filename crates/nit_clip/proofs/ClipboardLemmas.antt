@@ -1,7 +1,6 @@
 -- What an answer says where the clipboard is not known.
-use Rattle.std.proofs.Common.{Bool, List, None, Option, Some, ap, cond, false, inl, inr, refl, sym, true, ℕ, ◌==◌, ◌∙◌, ◌≡◌}
+use Rattle.std.proofs.Common.{Bool, List, None, Option, Some, ap, cond, false, inl, inr, refl, sym, true, ℕ, ◌==◌, ◌∙◌, ◌≡◌, ◌⊎◌}
 use Rattle.nit_clip.proofs.Basics.{ClipCall, ClipReply, IsClipAnswer, clip_answer, eq-eqb, eqb-true, focused_answer, pasted}
-use Rattle.std.specs.Prelude.{◌⊎◌}
 use Rattle.nit_clip.specs.declared.call.ClipCall.TheVariants as call
 use Rattle.nit_clip.specs.declared.call.ClipReply.TheVariants as reply
 

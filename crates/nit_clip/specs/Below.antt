@@ -1,4 +1,8 @@
--- The words of the library and of the crates below that are used here.
+-- The words of the library and of the crates below that are used here, and the crate's plain types.
+pub use Rattle.nit_clip.specs.declared.call.ClipCall.{ClipCall}
+pub use Rattle.nit_clip.specs.declared.call.ClipEntry.{ClipEntry}
+pub use Rattle.nit_clip.specs.declared.call.ClipReply.{ClipReply}
+pub use Rattle.nit_clip.specs.declared.line.ClipLine.{ClipLine}
 pub use Rattle.nit_events.specs.declared.call.Call.{Call}
 pub use Rattle.nit_events.specs.declared.entry.Entry.{Entry}
 pub use Rattle.nit_journal.specs.Configuration.{Configuration}

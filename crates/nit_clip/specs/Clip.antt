@@ -1,6 +1,6 @@
 -- A clip list that has room.
 use Rattle.std.specs.Prelude.{◌≡◌, ◌≤◌, ℕ, ◌+◌, List, Option}
-use Rattle.nit_clip.specs.declared.call.ClipEntry.{ClipEntry}
+use Rattle.nit_clip.specs.Below.{ClipEntry}
 use Rattle.nit_clip.specs.Clipboard.{AreAnswered, NeverFall, clipboard_of, last_at}
 
 -- how many clip calls there can be: one for each line of 16 clients

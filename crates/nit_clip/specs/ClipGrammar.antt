@@ -1,6 +1,5 @@
 -- Clip scripts and their texts.
-use Rattle.nit_clip.specs.Below.{Bool, IsFirstBad, IsTooLong, List, Reads, false, phases_by, true, ℕ}
-use Rattle.nit_clip.specs.declared.line.ClipLine.{ClipLine}
+use Rattle.nit_clip.specs.Below.{Bool, ClipLine, IsFirstBad, IsTooLong, List, Reads, false, phases_by, true, ℕ}
 use Rattle.nit_clip.specs.declared.line.ClipLine.TheVariants as line
 use Rattle.nit_clip.specs.ClipSpelling.{FitsClipLine, clip_line_spelling}
 

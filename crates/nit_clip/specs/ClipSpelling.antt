@@ -1,12 +1,8 @@
 -- What the lines of a clip script and of a clip list's text are spelled as.
 use Rattle.std.specs.Prelude.{ℕ, List, ◌∷◌, ◌++◌, codes}
-use Rattle.nit_clip.specs.Below.{FitsText, flat_map, nat, spelled, text}
-use Rattle.nit_clip.specs.declared.call.ClipCall.{ClipCall}
+use Rattle.nit_clip.specs.Below.{ClipCall, ClipEntry, ClipLine, ClipReply, FitsText, flat_map, nat, spelled, text}
 use Rattle.nit_clip.specs.declared.call.ClipCall.TheVariants as call
-use Rattle.nit_clip.specs.declared.call.ClipReply.{ClipReply}
 use Rattle.nit_clip.specs.declared.call.ClipReply.TheVariants as reply
-use Rattle.nit_clip.specs.declared.call.ClipEntry.{ClipEntry}
-use Rattle.nit_clip.specs.declared.line.ClipLine.{ClipLine}
 use Rattle.nit_clip.specs.declared.line.ClipLine.TheVariants as line
 
 -- ---- what has a spelling

@@ -1,10 +1,8 @@
 -- The clipboard, and what is answered to a clip call.
 use Rattle.std.specs.Prelude.{◌≡◌, ◌≤◌, ℕ, ◌==◌, Bool, false, List, [], ◌∷◌, fold, Option, Some, None, if◌then◌else◌}
-use Rattle.nit_clip.specs.declared.call.ClipCall.{ClipCall}
+use Rattle.nit_clip.specs.Below.{ClipCall, ClipEntry, ClipReply}
 use Rattle.nit_clip.specs.declared.call.ClipCall.TheVariants as call
-use Rattle.nit_clip.specs.declared.call.ClipReply.{ClipReply}
 use Rattle.nit_clip.specs.declared.call.ClipReply.TheVariants as reply
-use Rattle.nit_clip.specs.declared.call.ClipEntry.{ClipEntry}
 
 -- the session has the focus
 abbrev pub has_focus : Option ℕ → ℕ → Bool

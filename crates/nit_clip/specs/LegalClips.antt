@@ -1,8 +1,7 @@
 -- Clip lists that are legal for a journal.
 use Rattle.std.specs.Prelude.{◌≡◌, ◌≤◌, ℕ, suc, ◌<◌, List, [], ◌∷◌, length, take}
-use Rattle.nit_clip.specs.Below.{AllByRecursion, Configuration, Entry, replay}
+use Rattle.nit_clip.specs.Below.{AllByRecursion, ClipEntry, Configuration, Entry, replay}
 use Rattle.nit_events.specs.declared.entry.Entry.TheVariants as entry
-use Rattle.nit_clip.specs.declared.call.ClipEntry.{ClipEntry}
 use Rattle.nit_clip.specs.Clipboard.{AreAnswered, NeverFall}
 
 -- how many entries stand before the last picture

@@ -1,5 +1,5 @@
 -- The words that clauses use: those that come from outside, and those of this crate.
-pub use Rattle.nit_clip.specs.Below.{AllByRecursion, Call, Configuration, Entry, Gives, HasOneReading, IsOpen, UnlessMemory, UserAction, at_made, calls_of, codes, count_by, done, left, most_lines, nat, next_phase, phases_along, replay, slice_get, text, to_do}
+pub use Rattle.nit_clip.specs.Below.{AllByRecursion, Call, ClipCall, ClipEntry, ClipLine, ClipReply, Configuration, Entry, Gives, HasOneReading, IsOpen, UnlessMemory, UserAction, at_made, calls_of, codes, count_by, done, left, most_lines, nat, next_phase, phases_along, replay, slice_get, text, to_do}
 pub use Rattle.nit_clip.specs.Clip.{ClipModel, IsClip, most_clips}
 pub use Rattle.nit_clip.specs.ClipGrammar.{IsFirstBadClip, IsTooLongClip, ReadsClip, is_clip_phase}
 pub use Rattle.nit_clip.specs.ClipReaders.{clip_call_at, clip_front_at, clip_line_at, clip_phase_at, copy_at, paste_at}
@@ -7,7 +7,3 @@ pub use Rattle.nit_clip.specs.ClipSpelling.{FitsClipCall, FitsClipLine, clip_cal
 pub use Rattle.nit_clip.specs.Clipboard.{AreAnswered, AreAnsweredFrom, IsClipAnswer, NeverFall, clip_answer, clipboard_after, clipboard_after_entry, clipboard_of, focused_answer, has_focus, last_at, pasted}
 pub use Rattle.nit_clip.specs.LegalClips.{IsLegalClips, IsThere, before_final}
 pub use Rattle.nit_clip.specs.WholeClips.{AreInPhases, IsInPhase, calls_up_to, clip_calls_in, clip_calls_of, clips_from, clips_to_do, clips_to_make, left_after, one_clip_done}
-pub use Rattle.nit_clip.specs.declared.call.ClipCall.{ClipCall}
-pub use Rattle.nit_clip.specs.declared.call.ClipEntry.{ClipEntry}
-pub use Rattle.nit_clip.specs.declared.call.ClipReply.{ClipReply}
-pub use Rattle.nit_clip.specs.declared.line.ClipLine.{ClipLine}

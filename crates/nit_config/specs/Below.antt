@@ -1,4 +1,12 @@
--- The words of the library and of the crates below that are used here.
+-- The words of the library and of the crates below that are used here, and the crate's plain types.
+pub use Rattle.nit_config.specs.declared.error.ConfigError.{ConfigError}
+pub use Rattle.nit_config.specs.declared.error.ConfigError.TheVariants.{Kind, Label, Missing, NoMemory, Range, Syntax, TooMany, Twice, Unknown}
+pub use Rattle.nit_config.specs.declared.keys.Key.{Key}
+pub use Rattle.nit_config.specs.declared.keys.Kind.TheVariants.{Boolean, Integer, Table, Tables, Text}
+pub use Rattle.nit_config.specs.declared.keys.Place.{Place}
+pub use Rattle.nit_config.specs.declared.keys.Place.TheVariants.{Client, Input, Screen, Top}
+pub use Rattle.nit_config.specs.declared.refusals.Fault.{Fault}
+pub use Rattle.nit_config.specs.declared.refusals.Fault.TheVariants.{Lacking, OtherKind}
 pub use Rattle.nit_glyph.specs.Texts.{is_label}
 pub use Rattle.nit_rect.specs.Limits.{first_printable, last_printable, least_units, most_height, most_sessions, most_units, most_width}
 pub use Rattle.std.specs.BTreeMap.{keys}

@@ -1,9 +1,7 @@
 -- The configuration that a text is, and the refusal that it meets.
 use Rattle.std.specs.Prelude.{◌≡◌, ℕ, pos, false, List, codes, Some, None, bytes_eq, Result, Ok, Err}
-use Rattle.nit_config.specs.Below.{AllZip, Members, get_member, integer, string}
+use Rattle.nit_config.specs.Below.{AllZip, ConfigError, Members, NoMemory, Syntax, get_member, integer, string}
 use Rattle.nit_config.specs.declared.config.Member.{Member}
-use Rattle.nit_config.specs.declared.error.ConfigError.{ConfigError}
-use Rattle.nit_config.specs.declared.error.ConfigError.TheVariants.{Syntax, NoMemory}
 use Rattle.nit_config.specs.Configuration.{Configuration}
 use Rattle.nit_config.specs.Tree.{ReadsTable, integer_at, string_at, boolean_at, screen_table, input_table, client_tables}
 use Rattle.nit_config.specs.Refusals.{first_refusal}

@@ -1,11 +1,7 @@
 -- The keys of a configuration.
 use Rattle.std.specs.Prelude.{ℕ, Bool, true, false, not, ◌&&◌, ◌||◌, is_some, is_none, List, [], ◌∷◌, map, codes, bytes_eq}
-use Rattle.nit_config.specs.Below.{Data, Members, as_array, as_bool, as_integer, as_str, as_table, get_member, list_all, list_any, member, no_members, option_map_or}
+use Rattle.nit_config.specs.Below.{Boolean, Client, Data, Input, Integer, Key, Members, Place, Screen, Table, Tables, Text, Top, as_array, as_bool, as_integer, as_str, as_table, get_member, list_all, list_any, member, no_members, option_map_or}
 use Rattle.nit_config.specs.declared.keys.Kind.{Kind}
-use Rattle.nit_config.specs.declared.keys.Kind.TheVariants.{Integer, Boolean, Text, Table, Tables}
-use Rattle.nit_config.specs.declared.keys.Key.{Key}
-use Rattle.nit_config.specs.declared.keys.Place.{Place}
-use Rattle.nit_config.specs.declared.keys.Place.TheVariants.{Top, Screen, Input, Client}
 use Rattle.nit_config.specs.Tree.{list_of}
 
 -- a key, the kind of its value, and whether it has to be there

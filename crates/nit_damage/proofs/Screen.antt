@@ -1,7 +1,6 @@
 -- Rectangles of the screen.
 use Rattle.nit_damage.proofs.Basics.{HasPixels, IsOnScreen, IsScreenRectangle, IsSpanned, IsStack, IsWithin, LiesIn, Point, Rectangle, StackModel, and_parts, and_true, bar_part, covers, false_from_ne_true, in_bar, ints, not-true, part_below_bar, rectangle, same_tests, spans, spans_holds, spans_tells, within}
-use Rattle.std.proofs.Common.{ap, arith, false, not, pos, true, ℕ, ◌+◌, ◌-◌, ◌≡◌, ◌≤◌}
-use Rattle.std.specs.Prelude.{◌<ℤ◌, ◌≤ℤ◌}
+use Rattle.std.proofs.Common.{ap, arith, false, not, pos, true, ℕ, ◌+◌, ◌-◌, ◌≡◌, ◌≤◌, ◌<ℤ◌, ◌≤ℤ◌}
 
 -- a pixel in rows of the screen, from one row on
 pub record IsAmong (width from high : ℕ) (p : Point) : Type 0 where

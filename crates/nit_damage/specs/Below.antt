@@ -1,4 +1,5 @@
--- The words of the library and of the crates below that are used here.
+-- The words of the library and of the crates below that are used here, and the crate's plain types.
+pub use Rattle.nit_damage.specs.declared.cutting.Job.{Job}
 pub use Rattle.nit_rect.specs.Intersection.{CoversBoth, HasPixels, IsApart, LiesIn}
 pub use Rattle.nit_rect.specs.Limits.{most_slots}
 pub use Rattle.nit_rect.specs.Rectangle.{Rectangle, covers, rectangle, spans}

@@ -1,7 +1,6 @@
 -- One cut.
 use Rattle.std.specs.Prelude.{All, ◌≡◌, ℕ, ◌+◌, ◌≤◌, ◌<◌, ◌&&◌, List, ◌++◌, length, map, sum_by, Option, IfSome, MatchOption}
-use Rattle.nit_damage.specs.Below.{CoversBoth, HasPixels, IsApart, Piece, Point, Rectangle, StackModel, covers, times}
-use Rattle.nit_damage.specs.declared.cutting.Job.{Job}
+use Rattle.nit_damage.specs.Below.{CoversBoth, HasPixels, IsApart, Job, Piece, Point, Rectangle, StackModel, covers, times}
 use Rattle.nit_damage.specs.Damage.{once}
 use Rattle.nit_damage.specs.Cutter.{FitsJobs, IsPieceOf, job_at, job_to_come, jobs_to_come, piece_times, weight, weight_of}
 

@@ -1,15 +1,9 @@
 -- The state of the user's input, and what one device event does to it.
 use Rattle.std.specs.Prelude.{ℕ, ◌-◌, min, Bool, true, false, ◌&&◌, not, nat_le, ◌==◌, List, [], ◌∷◌, ◌++◌, filter, Option, Some, None, if◌then◌else◌}
-use Rattle.nit_events.specs.Below.{list_any}
-use Rattle.nit_events.specs.declared.event.Event.{Event}
+use Rattle.nit_events.specs.Below.{Delivery, Device, Event, Flat, Kill, Mode, Routed, Xray, list_any}
 use Rattle.nit_events.specs.declared.event.Event.TheVariants as event
 use Rattle.nit_events.specs.declared.event.Item.TheVariants as item
-use Rattle.nit_events.specs.declared.event.Delivery.{Delivery}
-use Rattle.nit_events.specs.declared.event.Routed.{Routed}
-use Rattle.nit_events.specs.declared.device.Device.{Device}
 use Rattle.nit_events.specs.declared.device.Device.TheVariants as device
-use Rattle.nit_events.specs.declared.device.Mode.{Mode}
-use Rattle.nit_events.specs.declared.device.Mode.TheVariants.{Flat, Xray, Kill}
 
 -- the mode; the pointer's column and row; the codes that are held down; the session that gets what
 -- is held, the one under the pointer, and the one that has the focus

@@ -1,8 +1,7 @@
 -- The ranges of codes and wheels, and how many events wait.
 use Rattle.std.specs.Prelude.{ℕ, ◌≤◌, ℤ, pos, negsuc, ◌≤ℤ◌, ◌≡◌, ◌^◌}
-use Rattle.nit_events.specs.declared.event.Event.{Event}
+use Rattle.nit_events.specs.Below.{Device, Event}
 use Rattle.nit_events.specs.declared.event.Event.TheVariants as event
-use Rattle.nit_events.specs.declared.device.Device.{Device}
 use Rattle.nit_events.specs.declared.device.Device.TheVariants as device
 
 -- how many events wait for a session at most

@@ -1,7 +1,6 @@
 -- The codes that are held down: one more always fits.
-use Rattle.std.proofs.Common.{Bool, List, [], arith, false, filter, length, refl, true, ℕ, ◌++◌, ◌<◌, ◌==◌, ◌∙◌, ◌∷◌, ◌≡◌, ◌≤◌}
+use Rattle.std.proofs.Common.{Bool, List, [], arith, false, filter, length, refl, true, ℕ, ◌++◌, ◌<◌, ◌==◌, ◌∙◌, ◌∷◌, ◌≡◌, ◌≤◌, if◌then◌else◌}
 use Rattle.nit_focus.proofs.Basics.{All-contains, All-filter, All-from_recursion, All-nil, All-push, AllByRecursion, Contains-from_any, IsDistinct-cons, IsDistinct-head, IsDistinct-push, IsDistinct-tail, IsHeld, eqb, eqb-true, length-le_from_distinct_below, length_push, list_any, nat_eq_equiv, recursion_from_All}
-use Rattle.std.specs.Prelude.{if◌then◌else◌}
 use Rattle.std.specs.List.{IsDistinct}
 
 -- a code is looked for from either side

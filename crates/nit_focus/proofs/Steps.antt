@@ -1,8 +1,7 @@
 -- What holds of the sessions that the input knows holds of those that a device event reaches and leaves known; and
 -- who is killed is forgotten.
 use Rattle.nit_focus.proofs.Basics.{All, All-append, All-cons, All-nil, All-weaker, AllOfInput, Delivery, Device, Event, Flat, HasForgotten, IfSome, InputState, IsForgottenIfKilled, Item, Kill, Mode, Routing, Xray, cases_eq, either, eq-eqb, ne_eqb}
-use Rattle.std.proofs.Common.{Bool, List, None, Option, Some, [], false, filter, inl, inr, not, refl, true, ℕ, ◌++◌, ◌==◌, ◌∷◌, ◌≡◌, ◌≢◌}
-use Rattle.std.specs.Prelude.{if◌then◌else◌, ◌&&◌}
+use Rattle.std.proofs.Common.{Bool, List, None, Option, Some, [], false, filter, inl, inr, not, refl, true, ℕ, ◌++◌, ◌==◌, ◌∷◌, ◌≡◌, ◌≢◌, if◌then◌else◌, ◌&&◌}
 use Rattle.nit_events.specs.declared.event.Event.TheVariants as event
 use Rattle.nit_events.specs.declared.event.Item.TheVariants as item
 use Rattle.nit_events.specs.declared.device.Device.TheVariants as device

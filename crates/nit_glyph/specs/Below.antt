@@ -1,4 +1,4 @@
--- The words of the library and of the crates below that are used here.
+-- The words of the library and of the crates below that are used here, and the crate's plain types.
 pub use Rattle.std.specs.Char.{is_ascii_digit, is_ascii_lowercase}
 pub use Rattle.std.specs.Cmp.{partial_equiv_from_equiv}
 pub use Rattle.std.specs.Cmp.Lexicographic.{nat_list_eq_equiv}

@@ -1,7 +1,7 @@
--- The words of the library and of the crates below that are used here.
+-- The words of the library and of the crates below that are used here, and the crate's plain types.
 pub use Rattle.nit_clip.specs.Clip.{ClipModel, most_clips}
 pub use Rattle.nit_clip.specs.ClipGrammar.{is_clip_phase}
-pub use Rattle.nit_clip.specs.Clipboard.{clip_answer, clipboard_of}
+pub use Rattle.nit_clip.specs.Clipboard.{IsClipAnswer, clip_answer, clipboard_of}
 pub use Rattle.nit_clip.specs.LegalClips.{IsLegalClips, IsThere, before_final}
 pub use Rattle.nit_clip.specs.WholeClips.{AreInPhases, IsInPhase, IsWholeClips, calls_up_to, clip_calls_in, clip_calls_of, clips_to_do, clips_to_make, left_after}
 pub use Rattle.nit_clip.specs.declared.call.ClipCall.{ClipCall}
@@ -57,5 +57,5 @@ pub use Rattle.nit_word.specs.Updates.{with_words}
 pub use Rattle.std.specs.List.{AllByRecursion, range_with_len}
 pub use Rattle.std.specs.List.Sorted.{IsNonDecreasing}
 pub use Rattle.std.specs.Option.{option_map}
-pub use Rattle.std.specs.Prelude.{IsTrue, List, Option, Some, count_by, length, nat_le, replicate, slice_get, slice_index, slice_index_or, sum, sum_by, take}
+pub use Rattle.std.specs.Prelude.{IfNone, IsTrue, List, Option, Some, count_by, length, nat_le, replicate, slice_get, slice_index, slice_index_or, sum, sum_by, take}
 pub use Rattle.std.specs.Vec.Iter.{into_iter_items}

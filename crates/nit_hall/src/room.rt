@@ -8,7 +8,7 @@ mod last;
 mod phases;
 
 ghost use Rattle.std.specs.Prelude.{◌≡◌, ◌+◌, ◌*◌, ◌≤◌, ◌==◌, [], length, replicate};
-ghost use Rattle.nit_hall.specs.Terms.{AreNear, Belongs, HaveInks, IsLegal, IsPaintedTo, IsRoom, Some, UserBelongs, bare_word, lines_of_all, most_height, most_width, served, slice_index, take, without_final, words_after};
+ghost use Rattle.nit_hall.specs.Terms.{AreNear, Belongs, HaveInks, IsLegal, IsPaintedTo, IsRoom, Some, UserBelongs, bare_word, lines_of_all, most_height, most_sessions, most_width, served, slice_index, take, without_final, words_after};
 ghost use mathlib.Core.List.{IsPrefix};
 
 use crate::pass::Pass;
@@ -93,7 +93,7 @@ impl<'a> Room<'a> {
         clip: Clip,
     ) -> Room<'a>
         requires clients { (length scripts.now ≡ length scene.config.clients)
-            × (length scripts.now ≤ 16) }
+            × (length scripts.now ≤ most_sessions) }
         requires entries { (scene.entries ≡ []) × (book.entries ≡ []) }
         requires room { scene.spare ≡ lines_of_all scripts.now input.now + 1 }
         requires raw { scene.raw ≡ replicate (scene.config.width * scene.config.height) bare_word }

@@ -1,8 +1,7 @@
 -- What it tells that a call is refused, and that no refusal meets it; and which replies are refusals.
 use Rattle.std.proofs.Common.{Bool, IfSome, List, None, Option, Some, [], false, length, nat_le, nat_lt, refl, subst, true, ℕ, ◌&&◌, ◌*◌, ◌∷◌, ◌≡◌, ◌≤◌}
-use Rattle.nit_journal.proofs.Basics.{Above, Back, Buffer, Call, Close, Destroy, Event, Front, Offset, Place, Refresh, Reply, Session, Status, Take, Title, Upgrade, accepted, answered, buffer_left, buffer_need, by_call, by_handle, by_quota, by_reserve, by_status, has_view, is_accepted, is_place, is_rectangle, is_side, is_title, leb-true, most_views, refusal, taking, unless, view_left, view_need, ◌orelse◌}
+use Rattle.nit_journal.proofs.Basics.{Above, Back, Buffer, Call, Close, Destroy, Event, Front, Offset, Place, Refresh, Reply, Session, Status, Take, Title, Upgrade, View, accepted, answered, buffer_left, buffer_need, by_call, by_handle, by_quota, by_reserve, by_status, has_view, is_accepted, is_place, is_rectangle, is_side, is_title, leb-true, most_views, refusal, taking, unless, view_left, view_need, ◌orelse◌}
 use Rattle.nit_journal.specs.Session.{serve}
-use Rattle.nit_events.specs.declared.call.Call.TheVariants.{View}
 use Rattle.nit_events.specs.declared.call.Reply.TheVariants as reply
 use Rattle.nit_events.specs.declared.event.Status.TheVariants as status
 

@@ -1,7 +1,6 @@
 -- A device event gives at most three deliveries, and an entry keeps them all.
-use Rattle.std.proofs.Common.{Bool, List, None, Option, Some, [], arith, false, length, refl, true, ℕ, ◌&&◌, ◌++◌, ◌+◌, ◌==◌, ◌∷◌, ◌≡◌, ◌≤◌}
+use Rattle.std.proofs.Common.{Bool, List, None, Option, Some, [], arith, false, length, refl, true, ℕ, ◌&&◌, ◌++◌, ◌+◌, ◌==◌, ◌∷◌, ◌≡◌, ◌≤◌, if◌then◌else◌}
 use Rattle.nit_journal.proofs.Basics.{Configuration, Delivery, Device, Event, Flat, Kill, Mode, Xray, bar_rows, clicks_on, length-append, not, option_map, owner, point}
-use Rattle.std.specs.Prelude.{if◌then◌else◌}
 use Rattle.nit_journal.specs.State.{route}
 use Rattle.nit_events.specs.declared.event.Event.TheVariants as event
 use Rattle.nit_events.specs.declared.device.Device.TheVariants as device

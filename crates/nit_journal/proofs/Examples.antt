@@ -1,12 +1,11 @@
 -- Worked rows of one session and of a small journal, computed from the definitions.
 use Rattle.std.proofs.Common.{List, Some, [], arith, map, negsuc, pos, refl, ◌++◌, ◌∷◌, ◌≡◌}
-use Rattle.nit_journal.proofs.Basics.{Bare, Buffer, Call, Calls, Close, Destroy, Entry, IsLegal, Observation, Place, Refresh, Take, Title, Upgrade, Word, alone, codes, first_session, own_machine, point, replay, routed_as, source_of, still_configuration, to}
+use Rattle.nit_journal.proofs.Basics.{Bare, Buffer, Call, Calls, Close, Destroy, Entry, IsLegal, Observation, Place, Refresh, Take, Title, Upgrade, View, Word, alone, codes, first_session, own_machine, point, replay, routed_as, source_of, still_configuration, to}
 use Rattle.nit_journal.specs.Session.{serve}
 use Rattle.nit_journal.specs.StackAfter.{stack_after_call}
 use Rattle.nit_journal.specs.State.{route}
 use Rattle.nit_events.specs.declared.event.Event.TheVariants as event
 use Rattle.nit_events.specs.declared.device.Device.TheVariants as device
-use Rattle.nit_events.specs.declared.call.Call.TheVariants.{View}
 use Rattle.nit_events.specs.declared.call.Reply.TheVariants as reply
 use Rattle.nit_events.specs.declared.entry.Entry.TheVariants as entry
 

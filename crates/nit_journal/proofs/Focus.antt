@@ -1,7 +1,6 @@
 -- Who has the focus: no call gives it, and only a click of the user does.
-use Rattle.std.proofs.Common.{Bool, List, None, Option, Some, [], ap, false, filter, inl, inr, refl, subst, sym, true, ℕ, ◌&&◌, ◌==◌, ◌∙◌, ◌∷◌, ◌≡◌, ◌⊎◌}
+use Rattle.std.proofs.Common.{Bool, List, None, Option, Some, [], ap, false, filter, inl, inr, refl, subst, sym, true, ℕ, ◌&&◌, ◌==◌, ◌∙◌, ◌∷◌, ◌≡◌, ◌⊎◌, if◌then◌else◌}
 use Rattle.nit_journal.proofs.Basics.{Call, Close, Device, Event, Flat, Kill, Mode, Reply, Routed, State, Xray, after, and_parts, cases_eq, clicks_on, eq-eqb, is_accepted, member, ne_eqb, not, option_map, owner_of, point}
-use Rattle.std.specs.Prelude.{if◌then◌else◌}
 use Rattle.nit_journal.specs.State.{route}
 use Rattle.nit_events.specs.declared.event.Event.TheVariants as event
 use Rattle.nit_events.specs.declared.device.Device.TheVariants as device

@@ -1,8 +1,7 @@
 -- What holds of the sessions that the input knows and points at holds of those that a device event tells, and of
 -- those that are known afterwards. And who is killed is killed alone, and forgotten.
 use Rattle.nit_journal.proofs.Basics.{All, All-append, All-cons, All-head, All-nil, All-tail, Configuration, Delivery, Device, Event, Flat, InputState, IsKillAlone, Kill, Mode, Point, Routing, Xray, bar_rows, cases_eq, clicks_on, covers, either, eq-eqb, in_bar, is_kill, kills, ne_eqb, not, option_map, or_from, owner, point}
-use Rattle.std.proofs.Common.{Bool, IfSome, List, None, Option, Some, [], ap, false, filter, find, inl, inr, length, refl, subst, sym, true, ℕ, ◌&&◌, ◌++◌, ◌==◌, ◌∷◌, ◌≡◌, ◌≢◌, ◌⊎◌}
-use Rattle.std.specs.Prelude.{if◌then◌else◌}
+use Rattle.std.proofs.Common.{Bool, IfSome, List, None, Option, Some, [], ap, false, filter, find, inl, inr, length, refl, subst, sym, true, ℕ, ◌&&◌, ◌++◌, ◌==◌, ◌∷◌, ◌≡◌, ◌≢◌, ◌⊎◌, if◌then◌else◌}
 use Rattle.nit_journal.specs.State.{route}
 use Rattle.nit_events.specs.declared.event.Event.TheVariants as event
 use Rattle.nit_events.specs.declared.event.Item.TheVariants as item

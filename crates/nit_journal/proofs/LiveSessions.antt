@@ -1,13 +1,11 @@
 -- Whoever the input knows, and whoever has a view, is live in every state that a legal journal leads to. So whoever is
 -- told anything is live.
-use Rattle.nit_journal.proofs.Basics.{Above, Agrees, All, All-cons, All-filter, All-head, All-map, All-nil, All-same, All-tail, All-weaker, Back, Call, Close, Configuration, Delivery, Destroy, Device, Entry, Event, Front, IfSome_then, InputState, IsLegal, IsLive, Item, LegalFrom, Offset, Place, Put, Put-above, Put-back, Put-front, Reply, Routed, Routing, Session, State, Status, Take, Title, accepted, after, after_accepted, after_deliveries, after_delivery, by_call, by_life, by_refusal, by_status, changed, delivered, deliveries_of, eqb-false, first_session, first_state, forget, input_after_call, insert, is_accepted, is_kill, is_view, layer, moved, new_view, not, put_above, put_again, put_back, put_front, receive, rectangle, refusal, replay, replay_from, route, routed_to, session, session_in, shots, taking, without, ◌orelse◌}
-use Rattle.std.proofs.Common.{Bool, List, None, Option, Some, [], ap, cond, false, find, get_or-set_other, inl, inr, length, nat_lt, refl, set, subst, suc, sym, true, zero, ℕ, ◌++◌, ◌+◌, ◌<◌, ◌==◌, ◌∙◌, ◌∷◌, ◌≡◌, ◌≢◌}
-use Rattle.std.specs.Prelude.{if◌then◌else◌}
+use Rattle.nit_journal.proofs.Basics.{Above, Agrees, All, All-cons, All-filter, All-head, All-map, All-nil, All-same, All-tail, All-weaker, Back, Call, Close, Configuration, Delivery, Destroy, Device, Entry, Event, Front, IfSome_then, InputState, IsLegal, IsLive, Item, LegalFrom, Offset, Place, Put, Put-above, Put-back, Put-front, Reply, Routed, Routing, Session, State, Status, Take, Title, View, accepted, after, after_accepted, after_deliveries, after_delivery, by_call, by_life, by_refusal, by_status, changed, delivered, deliveries_of, eqb-false, first_session, first_state, forget, input_after_call, insert, is_accepted, is_kill, is_view, layer, moved, new_view, not, put_above, put_again, put_back, put_front, receive, rectangle, refusal, replay, replay_from, route, routed_to, session, session_in, shots, taking, without, ◌orelse◌}
+use Rattle.std.proofs.Common.{Bool, List, None, Option, Some, [], ap, cond, false, find, get_or-set_other, inl, inr, length, nat_lt, refl, set, subst, suc, sym, true, zero, ℕ, ◌++◌, ◌+◌, ◌<◌, ◌==◌, ◌∙◌, ◌∷◌, ◌≡◌, ◌≢◌, if◌then◌else◌}
 use Rattle.nit_journal.specs.Session.{serve}
 use Rattle.nit_journal.specs.StackAfter.{stack_after_call}
 use Rattle.nit_events.specs.declared.event.Item.TheVariants as item
 use Rattle.nit_events.specs.declared.event.Status.TheVariants as status
-use Rattle.nit_events.specs.declared.call.Call.TheVariants.{View}
 use Rattle.nit_events.specs.declared.call.Reply.TheVariants as reply
 use Rattle.nit_events.specs.declared.entry.Entry.TheVariants as entry
 use Rattle.nit_stack.specs.declared.view.View.{View as ViewOf}

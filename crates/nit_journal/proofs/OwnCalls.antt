@@ -1,8 +1,7 @@
 -- While a session is live, the user's input is seen in its queue and its losses alone. The rest of it is as its
 -- calls alone would have it.
-use Rattle.std.proofs.Common.{Bool, List, None, Option, Some, [], ap, false, inl, inr, length, nat_lt, refl, subst, sym, true, ℕ, ◌++◌, ◌+◌, ◌<◌, ◌∙◌, ◌∷◌, ◌≡◌}
+use Rattle.std.proofs.Common.{Bool, List, None, Option, Some, [], ap, false, inl, inr, length, nat_lt, refl, subst, sym, true, ℕ, ◌++◌, ◌+◌, ◌<◌, ◌∙◌, ◌∷◌, ◌≡◌, if◌then◌else◌}
 use Rattle.nit_journal.proofs.Basics.{Call, Configuration, Delivery, Entry, Event, Item, Reply, Session, State, Status, Take, accepted, after, after_calls, by_call, by_life, by_refusal, by_status, calls_of, cases_eq, delivered, donation_of, eq-eqb, first_session, first_state, ne_eqb, own_machine, receive, refusal, replay, replay_from, route, session, session_in, taking, ◌orelse◌}
-use Rattle.std.specs.Prelude.{if◌then◌else◌}
 use Rattle.nit_journal.specs.Session.{serve}
 use Rattle.nit_events.specs.declared.event.Item.TheVariants as item
 use Rattle.nit_events.specs.declared.event.Status.TheVariants as status

@@ -1,7 +1,6 @@
 -- Each release that a session gets follows a press of the same code that it got, with no release of it between.
 use Rattle.nit_journal.proofs.Basics.{Call, Calls, Close, Configuration, Delivery, Device, Entry, Event, Flat, Gets, InputState, IsDown, IsLegal, Item, Kill, LegalFrom, Mode, Observation, Reply, Routing, State, Xray, after, bar_rows, clicks_on, either, eq-eqb, eqb-true, false≢true, first_state, input_after_call, is_accepted, is_release, items_to, list_any, not, option_map, or_from, or_parts, owner, point, projection}
-use Rattle.std.proofs.Common.{Bool, List, None, Option, Some, [], ap, append-nil, append_assoc, cond, false, filter, refl, subst, sym, true, ℕ, ◌&&◌, ◌++◌, ◌+◌, ◌==◌, ◌∙◌, ◌∷◌, ◌≡◌}
-use Rattle.std.specs.Prelude.{if◌then◌else◌, ◌||◌}
+use Rattle.std.proofs.Common.{Bool, List, None, Option, Some, [], ap, append-nil, append_assoc, cond, false, filter, refl, subst, sym, true, ℕ, ◌&&◌, ◌++◌, ◌+◌, ◌==◌, ◌∙◌, ◌∷◌, ◌≡◌, if◌then◌else◌, ◌||◌}
 use Rattle.nit_journal.specs.State.{route}
 use Rattle.nit_events.specs.declared.event.Event.TheVariants as event
 use Rattle.nit_events.specs.declared.event.Item.TheVariants as item

@@ -1,10 +1,9 @@
 -- Refusals for want of quota or reserve: only a live session gets one, what is left is less than what is needed, and
 -- the session's donation and its own calls are enough to tell it.
 use Rattle.std.proofs.Common.{Bool, IfSome, List, None, Option, Some, [], ap, false, length, nat_le, nat_lt, refl, subst, sym, true, ℕ, ◌&&◌, ◌*◌, ◌++◌, ◌<◌, ◌∙◌, ◌∷◌, ◌≡◌}
-use Rattle.nit_journal.proofs.Basics.{Above, Agrees, Back, Buffer, Call, Close, Configuration, Destroy, Entry, Event, Front, IsLegal, Offset, Place, Refresh, Reply, Session, Status, Take, Title, Upgrade, accepted, buffer_left, buffer_need, by_call, by_handle, by_quota, by_refusal, by_reserve, by_status, has_view, is_place, is_rectangle, is_side, is_title, leb-false, own_machine, refusal, replay, session, shots, taking, unless, view_left, view_need, ◌orelse◌}
+use Rattle.nit_journal.proofs.Basics.{Above, Agrees, Back, Buffer, Call, Close, Configuration, Destroy, Entry, Event, Front, IsLegal, Offset, Place, Refresh, Reply, Session, Status, Take, Title, Upgrade, View, accepted, buffer_left, buffer_need, by_call, by_handle, by_quota, by_refusal, by_reserve, by_status, has_view, is_place, is_rectangle, is_side, is_title, leb-false, own_machine, refusal, replay, session, shots, taking, unless, view_left, view_need, ◌orelse◌}
 use Rattle.nit_journal.specs.Session.{serve}
 use Rattle.nit_events.specs.declared.event.Status.TheVariants as status
-use Rattle.nit_events.specs.declared.call.Call.TheVariants.{View}
 use Rattle.nit_events.specs.declared.call.Reply.TheVariants as reply
 use Rattle.nit_events.specs.declared.entry.Entry.TheVariants as entry
 use Rattle.nit_journal.proofs.JournalFronts.{agrees_behind}

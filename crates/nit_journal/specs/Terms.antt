@@ -1,5 +1,5 @@
 -- The words that clauses use: those that come from outside, and those of this crate.
-pub use Rattle.nit_journal.specs.Below.{Above, All, Back, Bare, Buffer, Call, Close, Configuration, Delivery, Destroy, Device, Entry, Event, Flat, Front, InputState, Item, Kill, Member, Mode, Offset, Place, Point, Refresh, Reply, Routed, Routing, Status, Take, Title, Upgrade, Word, Xray, bar_rows, buffer_left, buffer_need, changed, codes, covers, deliveries_of, donation_of, forget, in_bar, insert, is_place, is_rectangle, is_title, is_view, list_any, member, most_views, moved, not, option_map, owner, point, put_above, put_again, put_back, put_front, rectangle, routed_as, slice_set, source_under, still_configuration, to, view_left, view_need, without}
+pub use Rattle.nit_journal.specs.Below.{Above, All, Back, Bare, Buffer, Call, Close, Configuration, Delivery, Destroy, Device, Entry, Event, Flat, Front, InputState, Item, Kill, Member, Mode, Offset, Place, Point, Refresh, Reply, Routed, Routing, Status, Take, Title, Upgrade, View, Word, Xray, bar_rows, buffer_left, buffer_need, changed, codes, covers, deliveries_of, donation_of, forget, in_bar, insert, is_place, is_rectangle, is_title, is_view, list_any, member, most_views, moved, not, option_map, owner, point, put_above, put_again, put_back, put_front, rectangle, routed_as, slice_set, source_under, still_configuration, to, view_left, view_need, without}
 pub use Rattle.nit_journal.specs.Deliveries.{IsKillAlone, IsLive, is_kill, kills}
 pub use Rattle.nit_journal.specs.Journal.{most_entries}
 pub use Rattle.nit_journal.specs.Presses.{IsDown, is_release}

@@ -2,10 +2,7 @@
 use Rattle.std.specs.Prelude.{◌≡◌, ℕ, ◌+◌, ◌<◌, List, [], ◌∷◌, ◌++◌, length, Option, Some, None}
 use mathlib.Core.Option.{some}
 use lib.ListN.{get_elem?}
-use Rattle.nit_ledger.specs.Below.{Entry, Me, State, Step}
-use Rattle.nit_ledger.specs.declared.view.Token.{Token}
-use Rattle.nit_ledger.specs.declared.view.BookView.{BookView}
-use Rattle.nit_ledger.specs.declared.view.BookView.TheVariants.{OfBook, OfShare, Spent}
+use Rattle.nit_ledger.specs.Below.{BookView, Entry, Me, OfBook, OfShare, Spent, State, Step, Token}
 use Rattle.nit_ledger.specs.Book.{raised_by, IsInStep}
 
 -- what a share knows

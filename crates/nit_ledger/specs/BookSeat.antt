@@ -1,9 +1,6 @@
 -- What is seen of the seats of a book and of a share.
 use Rattle.std.specs.Prelude.{◌≡◌, ℕ, ◌<◌, List, [], Option, Some, None}
-use Rattle.nit_ledger.specs.Below.{Entry, Seat, TableId}
-use Rattle.nit_ledger.specs.declared.view.Token.{Token}
-use Rattle.nit_ledger.specs.declared.view.BookView.{BookView}
-use Rattle.nit_ledger.specs.declared.view.BookView.TheVariants.{OfBook, OfShare}
+use Rattle.nit_ledger.specs.Below.{BookView, Entry, OfBook, OfShare, Seat, TableId, Token}
 use Rattle.nit_ledger.specs.Book.{BookName, BookModel, ShareModel}
 use Rattle.nit_ledger.specs.BookRule.{token, token_of, book_at_rest, book_with_share}
 

@@ -1,8 +1,5 @@
 -- The words that clauses use: those that come from outside, and those of this crate.
-pub use Rattle.nit_ledger.specs.Below.{Allows, Entry, Joins, Me, Splits, State, keeps, opening, step}
+pub use Rattle.nit_ledger.specs.Below.{Allows, BookView, Entry, Joins, Me, OfBook, OfShare, Spent, Splits, State, Token, keeps, opening, step}
 pub use Rattle.nit_ledger.specs.Book.{IsShareOf, most_shares, raised, raised_by}
 pub use Rattle.nit_ledger.specs.BookRule.{Bears, BearsShare, FitsView, IsBookAt, IsBookRule, IsTokenInStep, StepDone, book_after_split, book_at_rest, book_with_share, newest_share, share_in, token, with_share, without_share}
 pub use Rattle.nit_ledger.specs.BookSeat.{IsHolding, IsResting, IsSeatOf, IsShares, counts_at, entries_at, taken_token, token_at}
-pub use Rattle.nit_ledger.specs.declared.view.BookView.{BookView}
-pub use Rattle.nit_ledger.specs.declared.view.BookView.TheVariants.{OfBook, OfShare, Spent}
-pub use Rattle.nit_ledger.specs.declared.view.Token.{Token}

@@ -1,9 +1,17 @@
--- The words of the library and of the crates below that are used here.
+-- The words of the library and of the crates below that are used here, and the crate's plain types.
 pub use Rattle.nit_events.specs.Input.{is_same}
 pub use Rattle.nit_events.specs.declared.device.Mode.{Mode}
 pub use Rattle.nit_events.specs.declared.device.Mode.TheVariants.{Flat, Kill, Xray}
 pub use Rattle.nit_glyph.specs.Pictures.{dot, picture_height, picture_width}
 pub use Rattle.nit_glyph.specs.Texts.{bar_text_of, label_text_of}
+pub use Rattle.nit_overlay.specs.declared.area.Area.{Area}
+pub use Rattle.nit_overlay.specs.declared.look.Look.{Look}
+pub use Rattle.nit_overlay.specs.declared.owner.Owner.{Owner}
+pub use Rattle.nit_overlay.specs.declared.paint.Rule.{Rule}
+pub use Rattle.nit_overlay.specs.declared.paint.Rule.TheVariants.{Dim, Fill, Raw, Text, Tint}
+pub use Rattle.nit_overlay.specs.declared.paint.Tag.{Tag}
+pub use Rattle.nit_overlay.specs.declared.span.Span.{Span}
+pub use Rattle.nit_overlay.specs.declared.stripe.Stripe.{Stripe}
 pub use Rattle.nit_rect.specs.Limits.{most_edge, most_height, most_length, most_width}
 pub use Rattle.nit_rect.specs.Rectangle.{IsPlace, Rectangle, covers, rectangle, spans}
 pub use Rattle.nit_rect.specs.declared.point.Point.{Point}

@@ -1,7 +1,6 @@
 -- What a look shows, and when it is one.
 use Rattle.std.specs.Prelude.{◌≡◌, ℕ, ◌<◌, Bool, true, false, length, slice_get, All, Some, option_map, IfSome, IsTrue}
-use Rattle.nit_overlay.specs.Below.{Flat, Mode, Point, SlotView, point, views_of}
-use Rattle.nit_overlay.specs.declared.look.Look.{Look}
+use Rattle.nit_overlay.specs.Below.{Flat, Look, Mode, Point, SlotView, point, views_of}
 use Rattle.nit_overlay.specs.Frame.{Scenery, label_place_of}
 
 -- what frames are made by: the screen, the bar and the views of the stack, and what else the look

@@ -1,7 +1,6 @@
 -- The owner of a pixel, as a row is painted by it.
 use Rattle.std.specs.Prelude.{◌≡◌, ◌<◌, length, IsTrue, option_map}
-use Rattle.nit_overlay.specs.declared.look.Look.{Look}
-use Rattle.nit_overlay.specs.declared.owner.Owner.{Owner}
+use Rattle.nit_overlay.specs.Below.{Look, Owner}
 use Rattle.nit_overlay.specs.Frame.{label_place_of}
 use Rattle.nit_overlay.specs.Look.{draws_labels, pixel_at, scenery}
 

@@ -1,6 +1,6 @@
 -- Columns and rows of the screen, moved so that none is below 0.
 use Rattle.std.specs.Prelude.{ℕ, ◌+◌, ◌-◌, ◌==◌, ℤ, pos, negsuc, Bool, ◌&&◌, ◌||◌, nat_le, nat_lt}
-use Rattle.nit_overlay.specs.declared.span.Span.{Span}
+use Rattle.nit_overlay.specs.Below.{Span}
 
 -- a column or row moved by 32768
 abbrev pub moved_of : ℤ → ℕ

@@ -1,10 +1,6 @@
 -- The rules of the pixels of a view, in a row.
 use Rattle.std.specs.Prelude.{ℕ, ◌+◌, ◌<◌, ◌≤◌, ◌^◌, Bool, true, false, ◌&&◌, ◌||◌, nat_le, nat_lt, length, Option, None, Some, if◌then◌else◌}
-use Rattle.nit_overlay.specs.Below.{Flat, Kill, Mode, Xray, picture_height, picture_width}
-use Rattle.nit_overlay.specs.declared.paint.Tag.{Tag}
-use Rattle.nit_overlay.specs.declared.paint.Rule.{Rule}
-use Rattle.nit_overlay.specs.declared.paint.Rule.TheVariants.{Fill, Raw, Dim, Tint, Text}
-use Rattle.nit_overlay.specs.declared.stripe.Stripe.{Stripe}
+use Rattle.nit_overlay.specs.Below.{Dim, Fill, Flat, Kill, Mode, Raw, Rule, Stripe, Tag, Text, Tint, Xray, picture_height, picture_width}
 use Rattle.nit_overlay.specs.Frame.{white_word, grey_word, red_word}
 use Rattle.nit_overlay.specs.Span.{has_at_end}
 

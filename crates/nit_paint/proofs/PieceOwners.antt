@@ -1,7 +1,6 @@
 -- What the pixels of a piece show, by its owner.
 use Rattle.nit_paint.proofs.Basics.{All_found, Bare, Block, HasPixels, IsOnScreen, IsPiece, IsScreenSize, IsSlotView, IsStack, IsTrue, Piece, PixelSource, Point, Reach, Rectangle, Repainted, Sight, StackModel, View, ViewRef, among, black_or_word, buffer_place, covers, has_pixel, in_rows, index_at, ints, is_slot, mul-le-mul_left, nat_tests, option_map, option_map_or, owner_in, pixel, point, reached, rectangle, row_at, rows, session_of, session_shown, shown_index, size_of, slot_view_in, source_bare, source_is, source_of_number, view_ref, ℤ}
-use Rattle.std.proofs.Common.{List, None, Some, ap, arith, length, pos, refl, subst, sym, ℕ, ◌%◌, ◌*◌, ◌+◌, ◌/◌, ◌<◌, ◌∙◌, ◌≡◌, ◌≤◌}
-use Rattle.std.specs.Prelude.{◌+ℤ◌, ◌-ℤ◌}
+use Rattle.std.proofs.Common.{List, None, Some, ap, arith, length, pos, refl, subst, sym, ℕ, ◌%◌, ◌*◌, ◌+◌, ◌/◌, ◌<◌, ◌∙◌, ◌≡◌, ◌≤◌, ◌+ℤ◌, ◌-ℤ◌}
 use Rattle.nit_paint.proofs.RepaintLemmas.{repainted_same}
 
 -- a width that is the screen's

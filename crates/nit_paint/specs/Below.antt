@@ -1,7 +1,7 @@
--- The words of the library and of the crates below that are used here.
+-- The words of the library and of the crates below that are used here, and the crate's plain types.
 pub use Rattle.nit_rect.specs.Intersection.{HasPixels}
-pub use Rattle.nit_rect.specs.Limits.{most_side}
-pub use Rattle.nit_rect.specs.Rectangle.{Rectangle, covers, rectangle}
+pub use Rattle.nit_rect.specs.Limits.{most_height, most_side, most_width}
+pub use Rattle.nit_rect.specs.Rectangle.{IsPlace, Rectangle, covers, rectangle}
 pub use Rattle.nit_rect.specs.Strips.{IsScreenRectangle}
 pub use Rattle.nit_rect.specs.declared.point.Point.{Point}
 pub use Rattle.nit_stack.specs.SourceAnswers.{session_of, word_count}

@@ -1,9 +1,7 @@
 //! Pixels of the screen in rows of one length.
 
 ghost use Rattle.std.specs.Prelude.{◌≡◌, ◌+◌, ◌≤◌, pos, ◌+ℤ◌, ◌≤ℤ◌};
-ghost use Rattle.nit_rect.specs.Rectangle.{rectangle};
-ghost use Rattle.nit_rect.specs.Strips.{IsScreenRectangle};
-ghost use Rattle.nit_rect.specs.Limits.{most_width, most_height};
+ghost use Rattle.nit_paint.specs.Below.{IsScreenRectangle, most_height, most_width, rectangle};
 
 use nit_rect::Rect;
 

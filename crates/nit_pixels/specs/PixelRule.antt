@@ -1,11 +1,9 @@
 -- The rule of the pixel words, and what each kind of step does to the view of the seat that makes
 -- it.
 use Rattle.std.specs.Prelude.{◌≡◌, ℕ, List, [], ◌∷◌, ◌++◌, All, Some, None, IfSome, IsSome, slice_index, slice_set}
-use Rattle.nit_pixels.specs.Below.{IsInked, IsWord, Me, State, Step, option_map, zeros}
+use Rattle.nit_pixels.specs.Below.{Identity, IsInked, IsWord, Me, PixelView, State, Step, option_map, zeros}
 use mathlib.Core.Option.{some}
 use lib.ListN.{get_elem?}
-use Rattle.nit_pixels.specs.declared.steps.PixelView.{PixelView}
-use Rattle.nit_pixels.specs.declared.steps.Identity.{Identity}
 
 -- the owner's view of words that are all 0
 abbrev pub owner_view : Identity → PixelView

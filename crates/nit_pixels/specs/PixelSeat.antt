@@ -1,7 +1,6 @@
 -- What is seen of a seat of the words.
 use Rattle.std.specs.Prelude.{◌≡◌, ◌<◌, [], length, Some, None}
-use Rattle.nit_pixels.specs.Below.{Seat, Sight, option_map}
-use Rattle.nit_pixels.specs.declared.steps.PixelView.{PixelView}
+use Rattle.nit_pixels.specs.Below.{PixelView, Seat, Sight, option_map}
 use Rattle.nit_pixels.specs.End.{End}
 
 -- a seat of the words

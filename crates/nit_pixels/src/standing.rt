@@ -1,6 +1,5 @@
 //! Where an end stands.
-ghost use Rattle.std.specs.Prelude.{ℕ};
-ghost use Rattle.atomic_table.specs.Seated.{TableId, table_id_coded};
+ghost use Rattle.nit_pixels.specs.Below.{TableId, table_id_coded, ℕ};
 ghost use base.Fml.{ftrue};
 
 use std::marker::Model;

@@ -1,9 +1,6 @@
 -- Where a rectangle lies in an area and meets none of the n parts in front.
 use Rattle.std.specs.Prelude.{◌≡◌, ℕ, ◌+◌, ◌<◌, ◌≤◌, ◌⊎◌, Bool, true, false, ◌&&◌, nat_lt, min, IfSome, Option, Some, None, if◌then◌else◌}
-use Rattle.nit_place.specs.Below.{Point, most_edge, point}
-use Rattle.nit_place.specs.declared.part.Part.{Part}
-use Rattle.nit_place.specs.declared.search.Row.{Row}
-use Rattle.nit_place.specs.declared.search.Row.TheVariants.{Free, Full}
+use Rattle.nit_place.specs.Below.{Free, Full, Part, Point, Row, most_edge, point}
 
 -- the part shares a pixel with the rectangle of w by h at (x, y)
 abbrev pub meets : ℕ → ℕ → ℕ → ℕ → Part → Bool

@@ -1,7 +1,6 @@
 -- What of a view lies on the screen, by its edges.
-use Rattle.nit_place.specs.Below.{List, Rectangle, View, fresh, max, min, slice_index_or, ℕ}
+use Rattle.nit_place.specs.Below.{List, Part, Rectangle, View, fresh, max, min, slice_index_or, ℕ}
 use Rattle.nit_place.specs.Edges.{on_screen, right_of, bottom_of}
-use Rattle.nit_place.specs.declared.part.Part.{Part}
 
 -- the part of a rectangle at columns and rows from 0 on
 abbrev pub part_of : Rectangle → Part

@@ -1,6 +1,6 @@
 -- What lemmas use: the words of clauses, the library's lemmas, and those of the crates below.
 pub use Rattle.nit_journal.proofs.ForCallers.{as_its_calls_have_it, first_none, holds_of, second_none, serve_accepted, serve_refused, within_quota, within_reserve}
-pub use Rattle.nit_plan.specs.Terms.{AccountModel, AllByRecursion, Answered, AreRising, Buffer, Call, Check, Close, Configuration, Destroy, Entry, Event, Expect, Fill, FitsLine, IsInked, IsMachine, IsPaintedTo, IsWord, Line, List, Nothing, Painting, PlanModel, Session, Sight, Size, Status, Step, Stroke, Take, Taken, TellsAll, Upgrade, View, accepted, accepts, after_calls, after_line, blank, buffer_left, buffer_need, by_call, by_quota, by_refusal, by_status, calls_from, calls_in, calls_of, calls_to_make, cleared, colours, donation_of, done, enumerate_from, first_session, has_view, in_turn, ink, is_accepted, is_between, is_set_by, is_side, is_stroked, is_within, list_any, option_map, painted_from, place_colour, plan_of_script, refusal, replay, room, serve, session, session_after, session_size, set_where, slice_get, slice_index, static, step_of, steps_from, stroke_colour, stroked, table_size, taking, unless, view_left, with_words, word_after_stroke, words_after, words_after_call, words_by_step, words_left, zeros, ◌orelse◌}
+pub use Rattle.nit_plan.specs.Terms.{AccountModel, AllByRecursion, Answered, AreRising, Buffer, Call, Check, Close, Configuration, Destroy, Entry, Event, Expect, Fill, FitsLine, IsInked, IsMachine, IsPaintedTo, IsWord, Line, List, Nothing, Painting, PlanModel, Reply, Session, Sight, Size, Status, Step, Stroke, Take, Taken, TellsAll, Upgrade, View, accepted, accepts, after_calls, after_line, blank, buffer_left, buffer_need, by_call, by_quota, by_refusal, by_status, calls_from, calls_in, calls_of, calls_to_make, cleared, colours, donation_of, done, enumerate_from, first_session, has_view, in_turn, ink, is_accepted, is_between, is_set_by, is_side, is_stroked, is_within, list_any, option_map, painted_from, place_colour, plan_of_script, refusal, replay, room, serve, session, session_after, session_size, set_where, slice_get, slice_index, static, step_of, steps_from, stroke_colour, stroked, table_size, taking, unless, view_left, with_words, word_after_stroke, words_after, words_after_call, words_by_step, words_left, zeros, ◌orelse◌}
 pub use Rattle.nit_word.proofs.ForCallers.{are_set, before_row, both_set, column_and_row, length-zeros, next_between, none_between, none_set, one_of, same_colours, same_set, set_long, turn_there, word_at, zero_at}
 pub use Rattle.std.proofs.Common.{ap, arith, length, refl, rules, sym, ◌∙◌}
 pub use Rattle.std.proofs.Math.ListN.{get_or-eq_default}

@@ -1,7 +1,8 @@
--- The words of the library and of the crates below that are used here.
+-- The words of the library and of the crates below that are used here, and the crate's plain types.
 pub use Rattle.nit_config.specs.Configuration.{Configuration, donation_of}
 pub use Rattle.nit_events.specs.declared.call.Call.{Call}
 pub use Rattle.nit_events.specs.declared.call.Call.TheVariants.{Buffer, Close, Destroy, Take, Upgrade, View}
+pub use Rattle.nit_events.specs.declared.call.Reply.{Reply}
 pub use Rattle.nit_events.specs.declared.entry.Entry.{Entry}
 pub use Rattle.nit_events.specs.declared.event.Event.{Event}
 pub use Rattle.nit_events.specs.declared.event.Status.{Status}
@@ -10,6 +11,10 @@ pub use Rattle.nit_journal.specs.Session.{Answered, Session, accepted, after_cal
 pub use Rattle.nit_journal.specs.StackAfter.{is_accepted}
 pub use Rattle.nit_journal.specs.State.{session}
 pub use Rattle.nit_journal.specs.WholeJournals.{Does, Shoots, UserAction, calls_of, done}
+pub use Rattle.nit_plan.specs.declared.area.Area.{Area}
+pub use Rattle.nit_plan.specs.declared.plan.Expect.{Expect}
+pub use Rattle.nit_plan.specs.declared.plan.Expect.TheVariants.{Nothing, Taken}
+pub use Rattle.nit_plan.specs.declared.plan.Step.{Step}
 pub use Rattle.nit_rect.specs.Limits.{most_side, most_units}
 pub use Rattle.nit_script.specs.Grammar.{most_lines}
 pub use Rattle.nit_script.specs.Spelling.{FitsLine, FitsStroke}

@@ -1,7 +1,6 @@
 -- Rectangles by their columns and rows.
-use Rattle.std.proofs.Common.{Bool, ap, ap₂, arith, false, inl, inr, refl, sym, true, ℕ, ◌&&◌, ◌*◌, ◌+◌, ◌-◌, ◌<◌, ◌∙◌, ◌≡◌, ◌⊎◌}
+use Rattle.std.proofs.Common.{Bool, ap, ap₂, arith, false, inl, inr, refl, sym, true, ℕ, ◌&&◌, ◌*◌, ◌+◌, ◌-◌, ◌<◌, ◌∙◌, ◌≡◌, ◌⊎◌, if◌then◌else◌, ◌+ℤ◌, ◌≤ℤ◌}
 use Rattle.nit_rect.proofs.Basics.{CoversBoth, HasPixels, IsApart, LiesIn, Point, Rectangle, and_parts, covers, empty_rectangle, int_le, ints, pos, rectangle, spans, times, times_among, ℤ}
-use Rattle.std.specs.Prelude.{if◌then◌else◌, ◌+ℤ◌, ◌≤ℤ◌}
 use mathlib.Core.Logic.{dite}
 use native.Mathlib.Decide.{ℕ_discrete, dec_lt}
 use Rattle.nit_rect.proofs.Spans.{no_place, regrouped, and_true, IsSpanned, spans_tells, spans_holds, le_tested}

@@ -1,7 +1,6 @@
 -- Places that follow one another.
-use Rattle.std.proofs.Common.{Bool, T, ap, arith, false, refl, sym, true, ℕ, ◌&&◌, ◌+◌, ◌<◌, ◌∙◌, ◌≡◌, ◌≤◌}
+use Rattle.std.proofs.Common.{Bool, T, ap, arith, false, refl, sym, true, ℕ, ◌&&◌, ◌+◌, ◌<◌, ◌∙◌, ◌≡◌, ◌≤◌, ◌+ℤ◌, ◌<ℤ◌, ◌≤ℤ◌}
 use Rattle.nit_rect.proofs.Basics.{and_parts, by_lt_z, false_from_ne_true, int_le, int_lt, ints, pos, spans, times_among, ℤ}
-use Rattle.std.specs.Prelude.{◌+ℤ◌, ◌<ℤ◌, ◌≤ℤ◌}
 use mathlib.Core.Logic.{dite}
 use native.Mathlib.Decide.{dec_lt}
 

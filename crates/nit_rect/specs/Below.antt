@@ -1,3 +1,4 @@
--- The words of the library and of the crates below that are used here.
+-- The words of the library and of the crates below that are used here, and the crate's plain types.
+pub use Rattle.nit_rect.specs.declared.point.Point.{Point}
 pub use Rattle.std.specs.List.{AllByRecursion}
 pub use Rattle.std.specs.Prelude.{int_le, int_lt, pos, ℕ, ℤ}

@@ -1,7 +1,7 @@
 -- What rectangles cover together.
 use Rattle.std.specs.Prelude.{◌≡◌, ◌<◌, false, ◌&&◌, pos, IsTrue}
 use Rattle.nit_rect.specs.Rectangle.{Rectangle, rectangle, covers}
-use Rattle.nit_rect.specs.declared.point.Point.{Point}
+use Rattle.nit_rect.specs.Below.{Point}
 
 -- the rectangle that stands for no pixels
 abbrev pub empty_rectangle : Rectangle

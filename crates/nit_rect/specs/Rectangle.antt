@@ -1,6 +1,6 @@
 -- Rectangles as sets of pixels.
 use Rattle.std.specs.Prelude.{ℕ, Bool, ◌&&◌, ℤ, pos, negsuc, ◌+ℤ◌, ◌≤ℤ◌, int_lt, int_le, nat_le}
-use Rattle.nit_rect.specs.declared.point.Point.{Point}
+use Rattle.nit_rect.specs.Below.{Point}
 use Rattle.nit_rect.specs.Limits.{most_length}
 
 -- a left column, a top row, a width and a height

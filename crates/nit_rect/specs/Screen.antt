@@ -1,6 +1,6 @@
 -- The pixels of a screen.
 use Rattle.std.specs.Prelude.{ℕ, pos, ◌≤ℤ◌, ◌<ℤ◌}
-use Rattle.nit_rect.specs.declared.point.Point.{Point}
+use Rattle.nit_rect.specs.Below.{Point}
 
 -- a screen of this width and height has the pixel
 abbrev pub IsOnScreen : ℕ → ℕ → Point → Type 0

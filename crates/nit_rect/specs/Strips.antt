@@ -1,7 +1,7 @@
 -- A rectangle of the screen, divided into strips round a cut.
 use Rattle.std.specs.Prelude.{◌≡◌, ℕ, ◌+◌, ℤ, pos, ◌+ℤ◌, ◌≤ℤ◌, if◌then◌else◌}
 use Rattle.nit_rect.specs.Rectangle.{Rectangle, spans, covers}
-use Rattle.nit_rect.specs.declared.point.Point.{Point}
+use Rattle.nit_rect.specs.Below.{Point}
 use Rattle.nit_rect.specs.declared.strips.Strips.{Strips}
 use Rattle.nit_rect.specs.Limits.{most_width, most_height}
 

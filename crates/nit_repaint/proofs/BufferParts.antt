@@ -1,7 +1,6 @@
 -- Where a view shows a part of its session's buffer.
 use Rattle.nit_repaint.proofs.Basics.{CoversBoth, IsOnScreen, IsSpanned, Point, Rectangle, View, among, buffer_place, column_of, covers, index_at, int_le, ints, is_index_in, le_tested, nat_tests, negsuc, point, pos, rectangle, row_of, same_tests, shown_index, spans, spans_holds, spans_tells, ℤ}
-use Rattle.std.proofs.Common.{Bool, None, Some, ap, arith, cond, false, nat_le, nat_lt, refl, sym, true, ℕ, ◌&&◌, ◌-◌, ◌<◌, ◌∙◌, ◌≡◌, ◌≤◌}
-use Rattle.std.specs.Prelude.{◌+ℤ◌, ◌<ℤ◌, ◌≤ℤ◌}
+use Rattle.std.proofs.Common.{Bool, None, Some, ap, arith, cond, false, nat_le, nat_lt, refl, sym, true, ℕ, ◌&&◌, ◌-◌, ◌<◌, ◌∙◌, ◌≡◌, ◌≤◌, ◌+ℤ◌, ◌<ℤ◌, ◌≤ℤ◌}
 
 -- a place of the screen stands for a number of any sign
 module _ (n c : ℕ) (z : ℤ) (h : nat_le n c ≡ int_le z (pos c)) where

@@ -1,4 +1,4 @@
--- The words of the library and of the crates below that are used here.
+-- The words of the library and of the crates below that are used here, and the crate's plain types.
 pub use Rattle.nit_damage.specs.Cutter.{CutterModel, FitsStack, pieces_left, to_come}
 pub use Rattle.nit_damage.specs.Damage.{covered, is_behind, is_of_moved, is_owned, once, slot_view_covers}
 pub use Rattle.nit_overlay.specs.Frame.{frame, shown}
@@ -8,6 +8,7 @@ pub use Rattle.nit_paint.specs.FrameCopy.{AreSet}
 pub use Rattle.nit_paint.specs.Pieces.{IsPiece, has_pixel, session_shown, source_of_number, words_shown}
 pub use Rattle.nit_paint.specs.Repaint.{Repainted, no_sight, with_glass}
 pub use Rattle.nit_rect.specs.Intersection.{CoversBoth}
+pub use Rattle.nit_rect.specs.Limits.{most_length, most_sessions, most_side}
 pub use Rattle.nit_rect.specs.Rectangle.{IsPlace, Rectangle, covers, rectangle, spans}
 pub use Rattle.nit_rect.specs.Strips.{times}
 pub use Rattle.nit_rect.specs.declared.point.Point.{Point}

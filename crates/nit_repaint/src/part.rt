@@ -1,7 +1,7 @@
 //! Where a view shows a part of its session's buffer.
 
 ghost use Rattle.std.specs.Prelude.{◌≡◌, ℕ, ◌+◌, ◌<◌, ◌≤◌, nat_le, int_le, pos};
-ghost use Rattle.nit_repaint.specs.Terms.{IsOnScreen, IsPlace, IsScreenSize, Point, buffer_place, covers, is_index_in, rectangle, shown_index, spans};
+ghost use Rattle.nit_repaint.specs.Terms.{IsOnScreen, IsPlace, IsScreenSize, Point, buffer_place, covers, is_index_in, most_length, most_side, rectangle, shown_index, spans};
 
 use nit_rect::Rect;
 use nit_stack::View;
@@ -23,8 +23,8 @@ fn clipped(place: i32, most: u32) -> u32
 /// on: the first, and how many.
 fn shown_run(from: i32, long: u32, corner: i32, offset: i32, most: u32) -> (u32, u32)
     requires places { IsPlace from × IsPlace corner × IsPlace offset }
-    requires long { long ≤ 32767 }
-    requires most { most ≤ 1024 }
+    requires long { long ≤ most_length }
+    requires most { most ≤ most_length }
     ensures within { result.0 + result.1 ≤ most }
     ensures same { (c : ℕ) → c < most
         → spans (pos result.0) result.1 (pos c)
@@ -49,7 +49,7 @@ pub(crate) fn shown_part(
     height: u32,
 ) -> Rect
     requires screen { IsScreenSize width height }
-    requires size { (size.0 ≤ 4096) × (size.1 ≤ 4096) }
+    requires size { (size.0 ≤ most_side) × (size.1 ≤ most_side) }
     requires offset { IsPlace view.now.ox × IsPlace view.now.oy }
     ensures same { (p : Point) → IsOnScreen width height p
         → covers result p
@@ -66,7 +66,7 @@ pub(crate) fn shown_part(
 
 /// A rectangle of the screen.
 fn screen_part(left: u32, top: u32, wide: u32, tall: u32) -> Rect
-    requires { (left + wide ≤ 1024) × (top + tall ≤ 1024) }
+    requires { (left + wide ≤ most_length) × (top + tall ≤ most_length) }
     ensures { result ≡ rectangle (pos left) (pos top) wide tall }
 {
     let Some(rect) = Rect::new(left as i32, top as i32, wide, tall) else {

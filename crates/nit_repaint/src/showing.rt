@@ -1,16 +1,6 @@
 //! Showing again, where more is shown than raw words, what views of one session show.
 
-ghost use Rattle.std.specs.Prelude.{
-  ◌≡◌,
-  ◌*◌,
-  ◌<◌,
-  ◌≤◌,
-  ◌&&◌,
-  All,
-  Some,
-  length,
-  slice_get,
-};
+ghost use Rattle.std.specs.Prelude.{◌≡◌, ◌*◌, ◌<◌, ◌≤◌, ◌&&◌, All, Some, length, slice_get};
 ghost use Rattle.nit_repaint.specs.Terms.{AreSet, FitsStack, IsLook, IsWord, SlotView, frame, is_slot, is_to_come, is_wanted, owner_passes, pixel, scenery, shown_at, wanted};
 
 use crate::buffers::wanted_rect;

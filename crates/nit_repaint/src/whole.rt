@@ -1,7 +1,7 @@
 //! Loading by one list of glasses alone, where no session calls.
 
 ghost use Rattle.std.specs.Prelude.{◌≡◌, ◌*◌, ◌≤◌, length, map, true};
-ghost use Rattle.nit_repaint.specs.Terms.{HoldBuffers, Repainted, glass_in, source_of_number};
+ghost use Rattle.nit_repaint.specs.Terms.{HoldBuffers, Repainted, glass_in, most_sessions, source_of_number};
 
 use crate::pieces::paint_to_come;
 use nit_damage::Cutter;
@@ -33,7 +33,7 @@ impl<const N: usize> Glass for Nobody<N> {
 pub fn paint_whole<C: Glass>(cutter: &mut Cutter, stack: &Stack, raw: &mut [u32], owns: &mut [C])
     requires room { length stack.now.views ≤ cutter.old.room }
     requires pixels { length raw.old ≡ stack.now.width * stack.now.height }
-    requires few { length owns.old ≤ 16 }
+    requires few { length owns.old ≤ most_sessions }
     requires held { HoldBuffers stack.now (length owns.old) (glass_in (map C.sight owns.old)) }
     ensures room { cutter.new.room ≡ cutter.old.room }
     ensures painted { Repainted (source_of_number stack.now) (λ k. true) (length raw.old)

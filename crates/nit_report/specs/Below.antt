@@ -1,4 +1,4 @@
--- The words of the library and of the crates below that are used here.
+-- The words of the library and of the crates below that are used here, and the crate's plain types.
 pub use Rattle.nit_config.specs.Configuration.{Configuration, is_file_name}
 pub use Rattle.nit_config.specs.ConfigurationRanges.{IsConfiguration, IsMember}
 pub use Rattle.nit_config.specs.declared.config.Member.{Member}
@@ -18,6 +18,10 @@ pub use Rattle.nit_events.specs.declared.event.Status.TheVariants.{Closed, Kille
 pub use Rattle.nit_glyph.specs.Texts.{is_label, is_label_byte}
 pub use Rattle.nit_rect.specs.Limits.{most_height, most_width}
 pub use Rattle.nit_rect.specs.Options.{Gives}
+pub use Rattle.nit_report.specs.declared.drawn_lines.Part.{Part}
+pub use Rattle.nit_report.specs.declared.error.JournalError.{JournalError}
+pub use Rattle.nit_report.specs.declared.error.JournalError.TheVariants.{Bad, NoMemory}
+pub use Rattle.nit_report.specs.declared.events.Ending.{Ending}
 pub use Rattle.nit_script.specs.CallReaders.{call_at}
 pub use Rattle.nit_script.specs.FieldReaders.{at_both, at_ended, at_kind, at_made, at_spaced, at_tested, first_of, nat_field, nothing_at}
 pub use Rattle.nit_script.specs.Grammar.{Begins, HasNoReading, HasOneReading, Reads, ReadsClient, ReadsInput, most_lines, spelled}

@@ -1,12 +1,11 @@
 -- The text of the events that a session has taken.
 use Rattle.std.specs.Prelude.{ℕ, ◌==◌, List, [], ◌∷◌, ◌++◌, codes, if◌then◌else◌}
-use Rattle.nit_report.specs.Below.{Entry, Event, Status, flat_map, nat, spelled}
+use Rattle.nit_report.specs.Below.{Ending, Entry, Event, Status, flat_map, nat, spelled}
 use Rattle.nit_events.specs.declared.event.Status.TheVariants as status
 use Rattle.nit_events.specs.declared.call.Call.TheVariants as call
 use Rattle.nit_events.specs.declared.call.Reply.TheVariants as reply
 use Rattle.nit_events.specs.declared.entry.Entry.TheVariants as entry
 use Rattle.nit_report.specs.EntrySpelling.{event_spelling}
-use Rattle.nit_report.specs.declared.events.Ending.{Ending}
 
 -- the event that a session takes in this entry, where it takes one
 abbrev pub taken : ℕ → Entry → List Event

@@ -1,13 +1,11 @@
 -- The text of a journal, and the entries that it can tell.
 use Rattle.std.specs.Prelude.{◌≡◌, ◌≢◌, ◌≤◌, ℕ, ◌+◌, List, [], length, Result, Ok, Err}
-use Rattle.nit_report.specs.Below.{AllByRecursion, Begins, Delivery, Entry, Event, FitsCall, FitsDevice, FitsNat, FitsPointerPlace, HasNoReading, IsCode, IsWheel, Item, Reads, Reply, Routed, deliveries_of, flat_map, most_lines, routed_as, spelled}
+use Rattle.nit_report.specs.Below.{AllByRecursion, Bad, Begins, Delivery, Entry, Event, FitsCall, FitsDevice, FitsNat, FitsPointerPlace, HasNoReading, IsCode, IsWheel, Item, JournalError, NoMemory, Reads, Reply, Routed, deliveries_of, flat_map, most_lines, routed_as, spelled}
 use Rattle.nit_events.specs.declared.event.Event.TheVariants as event
 use Rattle.nit_events.specs.declared.event.Item.TheVariants as item
 use Rattle.nit_events.specs.declared.call.Reply.TheVariants as reply
 use Rattle.nit_events.specs.declared.entry.Entry.TheVariants as entry
 use Rattle.nit_report.specs.EntrySpelling.{entry_spelling}
-use Rattle.nit_report.specs.declared.error.JournalError.{JournalError}
-use Rattle.nit_report.specs.declared.error.JournalError.TheVariants.{Bad, NoMemory}
 
 -- a line for each entry, in order
 abbrev pub journal_text : List Entry → List ℕ

@@ -1,7 +1,6 @@
 -- The sizes of the sessions' buffers after a call or an item, and the sources of pixels by them.
-use Rattle.std.proofs.Common.{Bool, List, None, Option, Some, [], ap, false, get_or, get_or-set_other, length, nat_lt, refl, set, sym, true, ℕ, ◌++◌, ◌+◌, ◌∙◌, ◌∷◌, ◌≡◌}
+use Rattle.std.proofs.Common.{Bool, List, None, Option, Some, [], ap, false, get_or, get_or-set_other, length, nat_lt, refl, set, sym, true, ℕ, ◌++◌, ◌+◌, ◌∙◌, ◌∷◌, ◌≡◌, if◌then◌else◌}
 use Rattle.nit_scene.proofs.Basics.{Buffer, Call, Close, Event, Point, Reply, Session, Size, Status, Take, accepted, accepted_reply, buffer_size, by_life, by_refusal, eqb-false, first_session, get_or-map, is_accepted, is_session, map-set_same, receive, refusal, session_in, source_under, taking}
-use Rattle.std.specs.Prelude.{if◌then◌else◌}
 use Rattle.nit_journal.specs.Session.{serve}
 use Rattle.nit_events.specs.declared.event.Item.TheVariants as item
 use Rattle.nit_events.specs.declared.event.Status.TheVariants as status

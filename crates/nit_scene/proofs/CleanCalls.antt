@@ -1,9 +1,7 @@
 -- The owner and the source of a pixel that a call does not make dirty.
-use Rattle.std.proofs.Common.{Bool, List, None, Option, Some, ap, arith, cond, false, find, map, nat_lt, option_map, refl, set, subst, sym, true, ℕ, ◌&&◌, ◌==◌, ◌||◌, ◌∙◌, ◌≡◌}
-use Rattle.nit_scene.proofs.Basics.{Above, Agrees, Back, Buffer, Call, Close, Destroy, Front, InputState, Offset, Place, Point, Reply, Session, Size, State, Title, after, after_accepted, bar_rows, buffer_size, changed, covers, dirty_by_call, in_bar, input_after_call, is_accepted, is_session, is_view, layer, le-ltb, moved, nat_le, negsuc, new_view, option_map_or, or_parts, owner, owner_of, pos, put_above, put_back, put_front, rectangle, serve, session, source, source_of, source_under, spans, with_new, without, ℤ}
-use Rattle.std.specs.Prelude.{if◌then◌else◌}
+use Rattle.std.proofs.Common.{Bool, List, None, Option, Some, ap, arith, cond, false, find, map, nat_lt, option_map, refl, set, subst, sym, true, ℕ, ◌&&◌, ◌==◌, ◌||◌, ◌∙◌, ◌≡◌, if◌then◌else◌}
+use Rattle.nit_scene.proofs.Basics.{Above, Agrees, Back, Buffer, Call, Close, Destroy, Front, InputState, Offset, Place, Point, Reply, Session, Size, State, Title, View, after, after_accepted, bar_rows, buffer_size, changed, covers, dirty_by_call, in_bar, input_after_call, is_accepted, is_session, is_view, layer, le-ltb, moved, nat_le, negsuc, new_view, option_map_or, or_parts, owner, owner_of, pos, put_above, put_back, put_front, rectangle, serve, session, source, source_of, source_under, spans, with_new, without, ℤ}
 use Rattle.nit_journal.specs.StackAfter.{stack_after_call}
-use Rattle.nit_events.specs.declared.call.Call.TheVariants.{View}
 use Rattle.nit_events.specs.declared.call.Reply.TheVariants as reply
 use Rattle.nit_events.specs.declared.entry.Entry.TheVariants as entry
 use Rattle.nit_stack.specs.declared.view.View.{View as ViewOf}

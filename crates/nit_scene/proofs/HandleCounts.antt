@@ -1,8 +1,7 @@
 -- No entry makes more than one view, so no session's next handle grows by more than one.
 use Rattle.std.proofs.Common.{List, None, Option, Some, [], arith, get_or, set, suc, zero, ℕ, ◌+◌, ◌∷◌, ◌≤◌}
-use Rattle.nit_scene.proofs.Basics.{Call, Entry, Reply, Session, State, Take, accepted, after, by_refusal, first_session, refusal, route, session}
+use Rattle.nit_scene.proofs.Basics.{Call, Entry, Reply, Session, State, Take, View, accepted, after, by_refusal, first_session, refusal, route, session}
 use Rattle.nit_journal.specs.Session.{serve}
-use Rattle.nit_events.specs.declared.call.Call.TheVariants.{View}
 use Rattle.nit_events.specs.declared.entry.Entry.TheVariants as entry
 use Rattle.nit_scene.proofs.Handles.{delivered_keeps_next, taking_keeps_next}
 

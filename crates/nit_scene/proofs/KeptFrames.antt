@@ -1,7 +1,6 @@
 -- A kept frame stays the frame of the state and of the raw words.
-use Rattle.nit_scene.proofs.Basics.{Above, Agrees, All-replicate, AreSet, Back, Bare, Black, Buffer, Call, CanShow, Close, Configuration, Delivery, Destroy, Device, Flat, Front, InputState, IsCopied, IsPartOf, IsQuiet, IsServed, IsWord, IsWordOfSource, Kill, Mode, Offset, Painted, PixelSource, Place, Point, Rectangle, Refresh, Reply, Scenery, ServerModel, Sight, Size, StackModel, State, Take, Title, Upgrade, Word, Xray, after, bar_rows, bar_word, bare_word, black_or_word, buffer_size, covering, covers, dirty, dirty_by_call, draws_labels, flat_same, flat_shown, frame, in_bar, ints, is_accepted, is_owned_by, is_session, is_some, is_view, is_word_in, layer, length-frame, on_screen, option_map_or, or_from, owner, owner_word, pixel, pixel_count, pos, rectangle, refusal, renewed, rows_hold, scenery_of, session, set_same, shown, shown_by, shown_index, shows_part, slice_index, source_of, source_under, state_of, view_owns, wanted, with_delivered, with_routed}
+use Rattle.nit_scene.proofs.Basics.{Above, Agrees, All-replicate, AreSet, Back, Bare, Black, Buffer, Call, CanShow, Close, Configuration, Delivery, Destroy, Device, Flat, Front, InputState, IsCopied, IsPartOf, IsQuiet, IsServed, IsWord, IsWordOfSource, Kill, Mode, Offset, Painted, PixelSource, Place, Point, Rectangle, Refresh, Reply, Scenery, ServerModel, Sight, Size, StackModel, State, Take, Title, Upgrade, View, Word, Xray, after, bar_rows, bar_word, bare_word, black_or_word, buffer_size, covering, covers, dirty, dirty_by_call, draws_labels, flat_same, flat_shown, frame, in_bar, ints, is_accepted, is_owned_by, is_session, is_some, is_view, is_word_in, layer, length-frame, on_screen, option_map_or, or_from, owner, owner_word, pixel, pixel_count, pos, rectangle, refusal, renewed, rows_hold, scenery_of, session, set_same, shown, shown_by, shown_index, shows_part, slice_index, source_of, source_under, state_of, view_owns, wanted, with_delivered, with_routed}
 use Rattle.std.proofs.Common.{All, Bool, IsTrue, List, None, Option, Some, ap, arith, cond, false, length, map, refl, replicate, subst, sym, true, ℕ, ◌&&◌, ◌*◌, ◌<◌, ◌||◌, ◌∙◌, ◌≡◌}
-use Rattle.nit_events.specs.declared.call.Call.TheVariants.{View}
 use Rattle.nit_events.specs.declared.entry.Entry.TheVariants as entry
 use Rattle.nit_stack.specs.declared.view.View.{View as ViewOf}
 use Rattle.nit_scene.proofs.CleanCalls.{call_is_clean, stack_accepted}

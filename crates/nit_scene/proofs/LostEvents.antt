@@ -1,7 +1,6 @@
 -- How many events a session loses at most.
 use Rattle.nit_scene.proofs.Basics.{All-head, All-tail, Call, Delivery, Entry, Event, Item, MayLose, Reply, Routed, ServerModel, Session, State, Status, Take, accepted, after, all_kept, at_most_one, by_life, by_refusal, delivered, deliveries_of, delivery, first_session, receive, refusal, route, routed_as, session, session_in, taking, with_delivered}
-use Rattle.std.proofs.Common.{All, Bool, IfSome, List, None, Option, Some, [], ap, arith, false, length, nat_lt, set, true, ℕ, ◌++◌, ◌+◌, ◌∷◌, ◌≡◌, ◌≤◌}
-use Rattle.std.specs.Prelude.{if◌then◌else◌}
+use Rattle.std.proofs.Common.{All, Bool, IfSome, List, None, Option, Some, [], ap, arith, false, length, nat_lt, set, true, ℕ, ◌++◌, ◌+◌, ◌∷◌, ◌≡◌, ◌≤◌, if◌then◌else◌}
 use Rattle.nit_journal.specs.Session.{serve}
 use Rattle.nit_events.specs.declared.event.Item.TheVariants as item
 use Rattle.nit_events.specs.declared.event.Status.TheVariants as status

@@ -1,12 +1,9 @@
 -- The pixels that the marks of a call mean are those that the call makes dirty.
-use Rattle.nit_scene.proofs.Basics.{Above, Back, Buffer, Call, Close, Destroy, Front, IsNamedBy, IsServed, IsServer, MeanSame, Offset, Place, Point, Rectangle, Refresh, Reply, ServerModel, State, Take, Title, Upgrade, agree_by, bar_rows, buffer_size, covers, dirty_by_call, first_session, found_fails, get_or-map, in_bar, is_accepted, is_of_session, is_session, is_slot, is_view, is_word_in, layer, option_map_or, owner, owner_named, owner_of_session, owner_passes, owns_either, pixel, rectangle, refusal, same_Some, serve_accepted, session, session_owns, set-get_or, shows_part, size_of, size_of_buffer, source, source_at, source_in, state_of, view_owns, views_of, without}
-use Rattle.nit_repaint.proofs.ForCallers.{none_left}
+use Rattle.nit_scene.proofs.Basics.{Above, Back, Buffer, Call, Close, Destroy, Front, IsNamedBy, IsServed, IsServer, MeanSame, Offset, Place, Point, Rectangle, Refresh, Reply, ServerModel, State, Take, Title, Upgrade, View, agree_by, bar_rows, buffer_size, covers, dirty_by_call, first_session, found_fails, get_or-map, in_bar, is_accepted, is_of_session, is_session, is_slot, is_view, is_word_in, layer, none_left, option_map_or, owner, owner_named, owner_of_session, owner_passes, owns_either, pixel, rectangle, refusal, same_Some, serve_accepted, session, session_owns, set-get_or, shows_part, size_of, size_of_buffer, source, source_at, source_in, state_of, view_owns, views_of, without}
 use Rattle.std.proofs.Common.{Bool, List, None, Option, Some, ap, cond, false, find, refl, set, sym, true, ℕ, ◌||◌, ◌∙◌, ◌≡◌}
-use Rattle.nit_events.specs.declared.call.Call.TheVariants.{View}
 use Rattle.nit_stack.specs.declared.view.View.{View as ViewOf}
 use Rattle.nit_paint.specs.Pieces as pieces
-use Rattle.nit_scene.proofs.Marks.{Mark, OfSession, OfPart, is_meant}
-use Rattle.nit_scene.proofs.Marks.{IsMarkOf, IsMarkOfView}
+use Rattle.nit_scene.proofs.Marks.{Mark, OfSession, OfPart, is_meant, IsMarkOf, IsMarkOfView}
 use Rattle.nit_scene.proofs.CleanCalls.{stack_accepted}
 use Rattle.nit_scene.proofs.CallAnswers.{unrefused_reply}
 

@@ -1,8 +1,7 @@
 -- A server to which a view comes.
-use Rattle.nit_scene.proofs.Basics.{Answered, AreServerParts, AreSlotsNamed, Configuration, InputState, IsNamedBy, IsPaid, IsServed, IsStack, MeanSame, SceneSessionModel, ServerModel, Session, SlotView, SlotsModel, StackModel, accepted, agree_by, fresh, fresh_in, has-name, has-put_front, has_handle, has_slot, is_named, is_some, is_taken, keeps_push, layer, layer_of, length-append, length-map, list_any, map-set, map-set_same, name-put_front, name_has_slot, name_in, ne_eqb, no_scene_session, pairs_of, put_front, refusal, scene_session_at, serve, serve_accepted, server_of, session_in, size_of_buffer, slot_view_layer, view_layer, views_of, views_put_front, with_slot}
+use Rattle.nit_scene.proofs.Basics.{Answered, AreServerParts, AreSlotsNamed, Configuration, InputState, IsNamedBy, IsPaid, IsServed, IsStack, MeanSame, SceneSessionModel, ServerModel, Session, SlotView, SlotsModel, StackModel, View, accepted, agree_by, fresh, fresh_in, has-name, has-put_front, has_handle, has_slot, is_named, is_some, is_taken, keeps_push, layer, layer_of, length-append, length-map, list_any, map-set, map-set_same, name-put_front, name_has_slot, name_in, ne_eqb, no_scene_session, pairs_of, put_front, refusal, scene_session_at, serve, serve_accepted, server_of, session_in, size_of_buffer, slot_view_layer, view_layer, views_of, views_put_front, with_slot}
 use Rattle.std.proofs.Common.{Bool, List, None, Option, Some, [], ap, arith, cond, false, length, map, refl, set, subst, sym, true, ℕ, ◌++◌, ◌+◌, ◌<◌, ◌==◌, ◌||◌, ◌∙◌, ◌∷◌, ◌≡◌, ◌≤◌}
 use Rattle.nit_journal.specs.StackAfter.{stack_after_call}
-use Rattle.nit_events.specs.declared.call.Call.TheVariants.{View}
 use Rattle.nit_events.specs.declared.call.Reply.TheVariants as reply
 use Rattle.nit_scene.proofs.SlotLemmas.{among_more, seated_more, slot_of-none, slots_more}
 use Rattle.nit_scene.proofs.ServerLemmas.{PaysAgain, layers_are, machine_is, session_of_member, stepped}

@@ -1,8 +1,7 @@
 -- Calls that make nothing dirty paint nothing.
 use Rattle.std.proofs.Common.{List, false, refl, ℕ, ◌≡◌}
-use Rattle.nit_scene.proofs.Basics.{Above, Back, Buffer, Call, Close, Destroy, Front, IsClean, IsQuiet, Offset, Painted, Place, Point, Refresh, Reply, Sight, State, Take, Title, Upgrade, dirty, dirty_by_call, is_accepted}
+use Rattle.nit_scene.proofs.Basics.{Above, Back, Buffer, Call, Close, Destroy, Front, IsClean, IsQuiet, Offset, Painted, Place, Point, Refresh, Reply, Sight, State, Take, Title, Upgrade, View, dirty, dirty_by_call, is_accepted}
 use Rattle.nit_events.specs.declared.entry.Entry.TheVariants as entry
-use Rattle.nit_events.specs.declared.call.Call.TheVariants.{View}
 use Rattle.nit_scene.proofs.CleanCalls.{right_fails}
 use Rattle.nit_scene.proofs.ScreenLemmas.{unpainted}
 

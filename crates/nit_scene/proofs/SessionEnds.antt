@@ -1,6 +1,5 @@
 -- A session ends: what is left of the server, and what is painted.
-use Rattle.nit_scene.proofs.Basics.{Close, IsServer, Painted, PixelSource, Point, Repainted, ServerModel, Session, Sight, Size, SlotView, StackModel, Status, black_or_word, covers, ended, eqb-false, first_session, forget, found_fails, glass_in, glasses_of_call, in_bar, is_of_session, no_sight, no_size, nobody_calls, owner_of_views, owner_passes, pixel, pixel_count, repainted_same, session_in, session_owns, set-set, shown_index, size_of, source_at, source_in, source_under, state_of, with_ended, without, without_session, without_views}
-use Rattle.nit_repaint.proofs.ForCallers.{none_left}
+use Rattle.nit_scene.proofs.Basics.{Close, IsServer, Painted, PixelSource, Point, Repainted, ServerModel, Session, Sight, Size, SlotView, StackModel, Status, black_or_word, covers, ended, eqb-false, first_session, forget, found_fails, glass_in, glasses_of_call, in_bar, is_of_session, no_sight, no_size, nobody_calls, none_left, owner_of_views, owner_passes, pixel, pixel_count, repainted_same, session_in, session_owns, set-set, shown_index, size_of, source_at, source_in, source_under, state_of, with_ended, without, without_session, without_views}
 use Rattle.std.proofs.Common.{Bool, List, None, Option, Some, [], ap, cond, false, find, get_or-set_other, get_or-set_same, length, map, option_map, refl, set, subst, sym, true, ℕ, ◌*◌, ◌<◌, ◌==◌, ◌∙◌, ◌≡◌, ◌≤◌}
 use Rattle.nit_events.specs.declared.entry.Entry.TheVariants as entry
 use Rattle.nit_paint.specs.Pieces as pieces

@@ -1,10 +1,9 @@
 -- A call that draws the views of a session makes their pixels dirty, and paints them.
-use Rattle.nit_scene.proofs.Basics.{Above, Back, Buffer, Call, Close, Destroy, Front, IsPartOf, IsServed, IsServer, Offset, Painted, Place, Point, Rectangle, Refresh, Repainted, Reply, ServerModel, Sight, StackModel, State, Take, Title, Upgrade, all_of_session, dirty, dirty_by_call, is_accepted, part_of_session, pixel, pixel_count, rectangle, refusal, repainted_same, session, source_at, state_of, wanted}
+use Rattle.nit_scene.proofs.Basics.{Above, Back, Buffer, Call, Close, Destroy, Front, IsPartOf, IsServed, IsServer, Offset, Painted, Place, Point, Rectangle, Refresh, Repainted, Reply, ServerModel, Sight, StackModel, State, Take, Title, Upgrade, View, all_of_session, dirty, dirty_by_call, is_accepted, part_of_session, pixel, pixel_count, rectangle, refusal, repainted_same, session, source_at, state_of, wanted}
 use Rattle.std.proofs.Common.{Bool, List, None, Option, ap, refl, subst, sym, ℕ, ◌&&◌, ◌∙◌, ◌≡◌}
 use Rattle.nit_events.specs.declared.entry.Entry.TheVariants as entry
 use Rattle.nit_paint.specs.Pieces as pieces
 use Rattle.nit_scene.proofs.MarkLemmas.{part_meant, session_meant, source_of_number}
-use Rattle.nit_events.specs.declared.call.Call.TheVariants.{View}
 use Rattle.nit_scene.proofs.CallAnswers.{unrefused_reply}
 
 wanted_dirty : (before after' : ServerModel) (sid : ℕ) (part : Option Rectangle) (call : Call) (p : Point) → IsServer after' → IsPartOf part call → wanted sid part after'.stack p ≡ dirty_by_call sid call (state_of before) (state_of after') p

@@ -1,10 +1,9 @@
 -- What a stack of views keeps at every entry, where it keeps it as views are taken out, changed under their names,
 -- moved, and put in.
 use Rattle.std.proofs.Common.{Bool, List, [], cond, false, refl, true, ℕ, ◌==◌, ◌∷◌, ◌≡◌}
-use Rattle.nit_scene.proofs.Basics.{Above, Back, Call, Close, Delivery, Destroy, Entry, Front, Item, Offset, Place, Reply, State, Title, after, after_accepted, after_deliveries, after_delivery, changed, is_accepted, is_session, is_view, layer, moved, new_view, put_above, put_back, put_front, rectangle, route, without}
+use Rattle.nit_scene.proofs.Basics.{Above, Back, Call, Close, Delivery, Destroy, Entry, Front, Item, Offset, Place, Reply, State, Title, View, after, after_accepted, after_deliveries, after_delivery, changed, is_accepted, is_session, is_view, layer, moved, new_view, put_above, put_back, put_front, rectangle, route, without}
 use Rattle.nit_journal.specs.StackAfter.{stack_after_call}
 use Rattle.nit_events.specs.declared.event.Item.TheVariants as item
-use Rattle.nit_events.specs.declared.call.Call.TheVariants.{View}
 use Rattle.nit_events.specs.declared.call.Reply.TheVariants as reply
 use Rattle.nit_events.specs.declared.entry.Entry.TheVariants as entry
 use Rattle.nit_stack.specs.declared.view.View.{View as ViewOf}

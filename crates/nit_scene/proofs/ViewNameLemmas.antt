@@ -1,8 +1,6 @@
 -- No two views have the same session and handle.
-use Rattle.nit_repaint.proofs.ForCallers.{none_left}
-use Rattle.nit_scene.proofs.Basics.{Entry, HaveOwnNames, IsNewlyNamed, State, after, and_parts, eqb-true, flip, found_passes, is_view, list_any, put_again, without}
+use Rattle.nit_scene.proofs.Basics.{Entry, HaveOwnNames, IsNewlyNamed, State, View, after, and_parts, eqb-true, flip, found_passes, is_view, list_any, none_left, put_again, without}
 use Rattle.std.proofs.Common.{Bool, List, None, Option, Some, ap, cond, false, find, refl, subst, sym, true, ℕ, ◌&&◌, ◌==◌, ◌∙◌, ◌≡◌}
-use Rattle.nit_events.specs.declared.call.Call.TheVariants.{View}
 use Rattle.nit_events.specs.declared.call.Reply.TheVariants as reply
 use Rattle.nit_events.specs.declared.entry.Entry.TheVariants as entry
 use Rattle.nit_stack.specs.declared.view.View.{View as ViewOf}

@@ -1,10 +1,9 @@
 -- A server from which views go.
-use Rattle.nit_scene.proofs.Basics.{AllByRecursion, Answered, AreServerParts, AreSlotsNamed, Close, Configuration, Destroy, InputState, IsPaid, IsServed, SceneSessionModel, ServerModel, Session, Size, SlotView, SlotsModel, StackModel, Status, accepted, agree_by, ended, eqb-true, first_session, forget, found_in_slot, found_passes, found_some, has-name, has-without, has_slot, is_named, is_of_session, is_slot, is_some, is_taken, is_view, keeps_remove, keeps_size, list_any, map-set, map-set_same, map-without, name-without, name_in, name_of, no_scene_session, no_size, pairs_of, refusal, scene_session_at, serve, serve_accepted, server_of, session_in, set-get_or, set-set, size_of_buffer, slice_set, slot_of, views_closed, with_ended, without, without_handle, without_slot, without_view, without_views}
+use Rattle.nit_scene.proofs.Basics.{AllByRecursion, Answered, AreServerParts, AreSlotsNamed, Close, Configuration, Destroy, InputState, IsPaid, IsServed, SceneSessionModel, ServerModel, Session, Size, SlotView, SlotsModel, StackModel, Status, accepted, agree_by, ended, eqb-true, first_session, forget, found_in_slot, found_passes, found_some, has-name, has-without, has_slot, is_named, is_of_session, is_slot, is_some, is_taken, is_view, keeps_remove, keeps_size, list_any, map-set, map-set_same, map-without, name-without, name_in, name_of, no_scene_session, no_size, pairs_of, refusal, scene_session_at, serve, serve_accepted, server_of, session_in, set-get_or, set-set, size_of_buffer, slice_set, slot_of, views_closed, with_ended, without, without_handle, without_none, without_slot, without_view, without_views}
 use Rattle.std.proofs.Common.{Bool, List, None, Some, [], ap, arith, cond, false, filter, get_or-set_same, length, map, not, option_map, refl, set, subst, sym, true, ℕ, ◌&&◌, ◌+◌, ◌<◌, ◌==◌, ◌||◌, ◌∙◌, ◌∷◌, ◌≡◌, ◌≤◌}
 use Rattle.nit_journal.specs.StackAfter.{stack_after_call}
 use Rattle.nit_events.specs.declared.event.Status.TheVariants as status
 use Rattle.nit_events.specs.declared.call.Reply.TheVariants as reply
-use Rattle.nit_stack.proofs.ForCallers.{without_none}
 use Rattle.nit_scene.proofs.SlotLemmas.{among_less, member_set, seated_less, slots_less}
 use Rattle.nit_scene.proofs.ServerLemmas.{PaysAgain, session_of_member, stepped}
 use Rattle.nit_scene.proofs.Lists.{without_same}

@@ -1,11 +1,11 @@
--- The words of the library and of the crates below that are used here.
+-- The words of the library and of the crates below that are used here, and the crate's plain types.
 pub use Rattle.nit_config.specs.Configuration.{Configuration, bar_rows, is_file_name, member}
 pub use Rattle.nit_config.specs.ConfigurationRanges.{IsConfiguration, IsMember}
 pub use Rattle.nit_config.specs.declared.config.Member.{Member}
 pub use Rattle.nit_events.specs.Input.{InputState, Routing, deliveries_of, delivery, first_input, forget, pointer_after, routed_as, routing, unless_it_is}
-pub use Rattle.nit_events.specs.Ranges.{IsDevice}
+pub use Rattle.nit_events.specs.Ranges.{IsDevice, most_waiting}
 pub use Rattle.nit_events.specs.declared.call.Call.{Call}
-pub use Rattle.nit_events.specs.declared.call.Call.TheVariants.{Above, Back, Buffer, Close, Destroy, Front, Offset, Place, Refresh, Take, Title, Upgrade}
+pub use Rattle.nit_events.specs.declared.call.Call.TheVariants.{Above, Back, Buffer, Close, Destroy, Front, Offset, Place, Refresh, Take, Title, Upgrade, View}
 pub use Rattle.nit_events.specs.declared.call.Reply.{Reply}
 pub use Rattle.nit_events.specs.declared.call.Reply.TheVariants.{Done}
 pub use Rattle.nit_events.specs.declared.device.Device.{Device}
@@ -35,7 +35,7 @@ pub use Rattle.nit_paint.specs.FrameCopy.{AreSet, IsCopied}
 pub use Rattle.nit_paint.specs.Pieces.{source_of_number}
 pub use Rattle.nit_paint.specs.Repaint.{IsAmongLoads, IsWordOfSource, Repainted, no_sight}
 pub use Rattle.nit_rect.specs.Intersection.{IsApart}
-pub use Rattle.nit_rect.specs.Limits.{most_side, most_slots, most_units}
+pub use Rattle.nit_rect.specs.Limits.{most_sessions, most_side, most_slots, most_units}
 pub use Rattle.nit_rect.specs.Rectangle.{IsPlace, Rectangle, covers, is_length, is_place, is_rectangle, rectangle, spans}
 pub use Rattle.nit_rect.specs.declared.point.Point.{Point}
 pub use Rattle.nit_repaint.specs.Glasses.{HoldBuffers, glasses_of_call}
@@ -43,7 +43,8 @@ pub use Rattle.nit_repaint.specs.PixelOwners.{is_word_in, owner_passes, source_i
 pub use Rattle.nit_repaint.specs.ViewChange.{IsViewChange, slot_owns_either}
 pub use Rattle.nit_repaint.specs.ViewRemoval.{IsRemovedFrom, uncovered, without_session}
 pub use Rattle.nit_repaint.specs.WantedPixels.{wanted}
-pub use Rattle.nit_slots.specs.Account.{AccountModel, IsDonation, buffer_left, buffer_need, room, table_size, view_slots}
+pub use Rattle.nit_scene.specs.declared.screen.pixels.Pixels.{Pixels}
+pub use Rattle.nit_slots.specs.Account.{AccountModel, IsDonation, buffer_left, buffer_need, most_views, room, table_size, view_slots}
 pub use Rattle.nit_slots.specs.Slots.{SlotsModel, is_among, is_taken, spare, with_slot, without_slot}
 pub use Rattle.nit_slots.specs.Table.{IsTable, TableModel, has_handle, slot_of, without_handle}
 pub use Rattle.nit_stack.specs.LabelPlaces.{fits, is_owner, is_view, label_place}

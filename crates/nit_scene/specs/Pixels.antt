@@ -1,7 +1,6 @@
 -- A frame that is kept, with what it is made by.
 use Rattle.std.specs.Prelude.{◌≡◌, ℕ, ◌*◌, ◌<◌, ◌≤◌, ◌++◌, Bool, true, false, All, IsTrue, List, drop, length, map, replicate, slice_index, vec_capacity, if◌then◌else◌}
-use Rattle.nit_scene.specs.Below.{IsWord, State, bar_rows, bare_word, draws_labels, frame, in_bar, pixel, shown}
-use Rattle.nit_scene.specs.declared.screen.pixels.Pixels.{Pixels}
+use Rattle.nit_scene.specs.Below.{IsWord, Pixels, State, bar_rows, bare_word, draws_labels, frame, in_bar, pixel, shown}
 use Rattle.nit_scene.specs.Scene.{scenery_of}
 use Rattle.nit_scene.specs.Server.{ServerModel, state_of}
 

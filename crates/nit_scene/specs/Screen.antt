@@ -1,7 +1,6 @@
 -- What contracts see of a screen, and what holds of it.
 use Rattle.std.specs.Prelude.{◌≡◌, ℕ, ◌<◌, List, length}
-use Rattle.nit_scene.specs.Below.{Configuration, Sight, member, table_size}
-use Rattle.nit_scene.specs.declared.screen.pixels.Pixels.{Pixels}
+use Rattle.nit_scene.specs.Below.{Configuration, Pixels, Sight, member, table_size}
 use Rattle.nit_scene.specs.Pixels.{ArePixels}
 use Rattle.nit_scene.specs.RawWords.{glass_in}
 use Rattle.nit_scene.specs.Server.{ServerModel}

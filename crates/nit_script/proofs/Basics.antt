@@ -8,7 +8,7 @@ pub use Rattle.std.proofs.lemmas.Bool.Decides.{nat_tests}
 pub use Rattle.std.proofs.lemmas.Fmt.{decimal-digits_value, decimal_digit, decimal_is_IsNumeral, first_decimal, length-decimal-le}
 pub use Rattle.std.proofs.lemmas.Int.{ints}
 pub use Rattle.std.proofs.lemmas.Int.Digits.{digits_value_more}
-pub use Rattle.std.proofs.lemmas.List.{append-nil, drop_at, get_or_append_left, length-append, length_push, nil_from_length, take-append-drop}
+pub use Rattle.std.proofs.lemmas.List.{append-nil, drop_at, get_or_append_left, length-append, length_push, nil_from_length, take-append-drop, take_at}
 pub use Rattle.std.proofs.lemmas.List.Folds.{length-prefix_len}
 pub use Rattle.std.proofs.lemmas.List.Sums.{prefix_len-le-length}
 pub use Rattle.std.proofs.lemmas.Option.{cond_some, some_pair_parts}

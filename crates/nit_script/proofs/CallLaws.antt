@@ -1,8 +1,7 @@
 -- Calls are read exactly.
 use Rattle.std.proofs.Common.{List, Option, Some, refl, ℕ, ℤ, ◌++◌, ◌∷◌, ◌≡◌}
 use Rattle.nit_script.proofs.Basics.{Above, Back, Buffer, Call, Close, Destroy, FitsCall, Front, Offset, Place, Refresh, Take, Title, Upgrade, View, call_spelling, codes, first_of}
-use Rattle.nit_script.specs.CallReaders.{above_at, back_at, buffer_at, call_at, close_at, destroy_at, front_at, offset_at, place_at, refresh_at, session_call_at, title_at, upgrade_at, view_at, view_call_at}
-use Rattle.nit_script.specs.CallReaders.{take_at}
+use Rattle.nit_script.specs.CallReaders.{above_at, back_at, buffer_at, call_at, close_at, destroy_at, front_at, offset_at, place_at, refresh_at, session_call_at, title_at, upgrade_at, view_at, view_call_at, take_at}
 use Rattle.nit_script.proofs.Exact.{both, nothing, anything, nat_fields, int_fields, text_fields, stops_text}
 use Rattle.nit_script.proofs.Digits.{stops}
 use Rattle.nit_script.proofs.LineKinds.{Takes, IsKind, kind, first_takes}

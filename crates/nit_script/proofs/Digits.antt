@@ -1,8 +1,7 @@
 -- Digits in front of bytes, and the numbers that they spell.
 use Rattle.std.proofs.Common.{Bool, List, Some, [], ap, arith, drop, eqb, get_or, inl, inr, length, refl, suc, sym, take, true, zero, ℕ, ◌*◌, ◌++◌, ◌+◌, ◌-◌, ◌<◌, ◌^◌, ◌∙◌, ◌∷◌, ◌≡◌, ◌≤◌}
-use Rattle.nit_script.proofs.Basics.{AllDigits, IsInRange, IsNumeralModel, and_from, and_parts, append-nil, cases_Bool, cases_eq, cond_some, decimal, decimal-digits_value, decimal_digit, decimal_is_IsNumeral, digit_at, digit_from_value, digit_value, digit_value_digit, digits_value, digits_value-take-le, digits_value_more, digits_value_short, drop_at, eq-eqb, eqb-false, eqb-true, first_decimal, is_ascii_digit, is_number, le-leb, leb-true, length-decimal-le, length-prefix_len, lt-ltb, ltb-true, ne_eqb, not, not-true, numerals_by_value, or_cases, or_left, or_right, prefix_len, prefix_len-le-length, take-append-drop, tells_digits}
+use Rattle.nit_script.proofs.Basics.{AllDigits, IsInRange, IsNumeralModel, and_from, and_parts, append-nil, cases_Bool, cases_eq, cond_some, decimal, decimal-digits_value, decimal_digit, decimal_is_IsNumeral, digit_at, digit_from_value, digit_value, digit_value_digit, digits_value, digits_value-take-le, digits_value_more, digits_value_short, drop_at, eq-eqb, eqb-false, eqb-true, first_decimal, is_ascii_digit, is_number, le-leb, leb-true, length-decimal-le, length-prefix_len, lt-ltb, ltb-true, ne_eqb, not, not-true, numerals_by_value, or_cases, or_left, or_right, prefix_len, prefix_len-le-length, take-append-drop, take_at, tells_digits}
 use Rattle.nit_script.specs.FieldReaders.{nat_at}
-use Rattle.std.proofs.lemmas.List.{take_at}
 
 -- a byte that passes the test of a digit
 is_digit : (c : ℕ) → is_ascii_digit c ≡ true → IsInRange 48 57 c

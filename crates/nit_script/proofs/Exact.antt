@@ -1,10 +1,8 @@
 -- A reader takes what is spelled so, and nothing else.
-use Rattle.nit_script.proofs.Basics.{FitsColour, FitsInt, FitsNat, FitsText, Nibbles, and_parts, at_both, at_made, at_spaced, at_tested, bind_some, byte_at, bytes_eq-Decides, colour, colour_field, cond_some, decimal, decimal_is_IsNumeral, digit_at, drop_at, eq-eqb, eqb-true, get_or_append_left, hex, hex_value, int, int_field, is_printable, is_text, list_all, nat, nat_at, nat_field, nat_tests, ne_eqb, negative, nibble_at, nibbles_at, not, not-true, nothing_at, positive, prefix_len, signed_at, signed_decimal, some_pair_parts, starts_with, take-append-drop, text, text_field, value_of_nibbles, word_at, ◌>>=◌}
-use Rattle.std.proofs.Common.{Bool, List, None, Option, Some, [], ap, append_assoc, arith, drop, eqb, get_or, length, nat_eq, negsuc, pos, refl, subst, suc, sym, take, true, zero, ℕ, ℤ, ◌%◌, ◌*◌, ◌++◌, ◌+◌, ◌/◌, ◌<◌, ◌^◌, ◌∙◌, ◌∷◌, ◌≡◌, ◌≤◌}
-use Rattle.std.specs.Prelude.{if◌then◌else◌}
+use Rattle.nit_script.proofs.Basics.{FitsColour, FitsInt, FitsNat, FitsText, Nibbles, and_parts, at_both, at_made, at_spaced, at_tested, bind_some, byte_at, bytes_eq-Decides, colour, colour_field, cond_some, decimal, decimal_is_IsNumeral, digit_at, drop_at, eq-eqb, eqb-true, get_or_append_left, hex, hex_value, int, int_field, is_printable, is_text, list_all, nat, nat_at, nat_field, nat_tests, ne_eqb, negative, nibble_at, nibbles_at, not, not-true, nothing_at, positive, prefix_len, signed_at, signed_decimal, some_pair_parts, starts_with, take-append-drop, take_at, text, text_field, value_of_nibbles, word_at, ◌>>=◌}
+use Rattle.std.proofs.Common.{Bool, List, None, Option, Some, [], ap, append_assoc, arith, drop, eqb, get_or, length, nat_eq, negsuc, pos, refl, subst, suc, sym, take, true, zero, ℕ, ℤ, ◌%◌, ◌*◌, ◌++◌, ◌+◌, ◌/◌, ◌<◌, ◌^◌, ◌∙◌, ◌∷◌, ◌≡◌, ◌≤◌, if◌then◌else◌}
 use Rattle.nit_script.specs.FieldReaders.{colour_at, int_at, text_at}
 use Rattle.nit_script.specs.Spelling.{hex_digits}
-use Rattle.std.proofs.lemmas.List.{take_at}
 use Rattle.nit_script.proofs.Digits.{stops, nat_takes, nat_again}
 
 -- At bytes that do not stop it, a reader takes what text spells of a value that fits.

@@ -1,10 +1,9 @@
 -- Lines of a client's script are read exactly.
 use Rattle.std.proofs.Common.{List, Some, refl, ℕ, ◌++◌, ◌∷◌, ◌≡◌}
 use Rattle.nit_script.proofs.Basics.{Check, Fill, FitsCall, FitsLine, FitsStroke, HasOneReading, Line, Stroke, at_made, call_spelling, codes, line_spelling, phase_at, stroke_spelling}
-use Rattle.nit_script.specs.CallReaders.{above_at, back_at, buffer_at, call_at, close_at, destroy_at, front_at, offset_at, place_at, refresh_at, session_call_at, title_at, upgrade_at, view_at, view_call_at}
+use Rattle.nit_script.specs.CallReaders.{above_at, back_at, buffer_at, call_at, close_at, destroy_at, front_at, offset_at, place_at, refresh_at, session_call_at, title_at, upgrade_at, view_at, view_call_at, take_at}
 use Rattle.nit_script.specs.LineReaders.{check_at, fill_at, line_at, line_front_at, stroke_at}
 use Rattle.nit_script.specs.declared.line.Line.TheVariants as line
-use Rattle.nit_script.specs.CallReaders.{take_at}
 use Rattle.nit_script.proofs.Exact.{both, nothing, anything, nat_fields, colour_fields}
 use Rattle.nit_script.proofs.LineKinds.{Takes, IsKind, kind, first_takes, made_takes, ended_takes, ended_again}
 use Rattle.nit_script.proofs.CallLaws.{call_takes, call_again}

@@ -1,7 +1,6 @@
 -- What a part of a line is written as.
 use Rattle.std.specs.Prelude.{◌≡◌, ℕ, List, length, take}
-use Rattle.nit_script.specs.declared.write.Field.{Field}
-use Rattle.nit_script.specs.declared.write.Field.TheVariants.{Natural, Integer, Colour, Text}
+use Rattle.nit_script.specs.Below.{Colour, Field, Integer, Natural, Text}
 use Rattle.nit_script.specs.Spelling.{nat, int, colour, text}
 
 -- the bytes that were there before stand in front now

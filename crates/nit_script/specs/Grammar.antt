@@ -1,10 +1,6 @@
 -- Scripts and their texts, for any kind of line: which lines fit, and how each is spelled.
 use Rattle.std.specs.Prelude.{◌≡◌, ◌≢◌, ◌≤◌, ℕ, ◌+◌, List, [], ◌∷◌, ◌++◌, length, Result, Ok, Err, Vec}
-use Rattle.nit_script.specs.Below.{AllByRecursion, Global, flat_map}
-use Rattle.nit_script.specs.declared.error.ScriptError.{ScriptError}
-use Rattle.nit_script.specs.declared.error.ScriptError.TheVariants.{Bad, TooLong, NoMemory}
-use Rattle.nit_script.specs.declared.line.Line.{Line}
-use Rattle.nit_script.specs.declared.line.InputLine.{InputLine}
+use Rattle.nit_script.specs.Below.{AllByRecursion, Bad, Global, InputLine, Line, NoMemory, ScriptError, TooLong, flat_map}
 use Rattle.nit_script.specs.Spelling.{FitsLine, FitsInputLine, line_spelling, input_spelling}
 
 -- how many lines a script has at most

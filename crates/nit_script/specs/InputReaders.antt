@@ -1,7 +1,6 @@
 -- Lines of an input script read from left to right.
 use Rattle.std.specs.Prelude.{ℕ, ℤ, Bool, ◌&&◌, nat_le, int_le, List, Option, codes}
-use Rattle.nit_script.specs.Below.{Device, Motion, Press, Release, Wheel, least_turn, most_code, most_pointer, most_turn}
-use Rattle.nit_script.specs.declared.line.InputLine.{InputLine}
+use Rattle.nit_script.specs.Below.{Device, InputLine, Motion, Press, Release, Wheel, least_turn, most_code, most_pointer, most_turn}
 use Rattle.nit_script.specs.declared.line.InputLine.TheVariants as input
 use Rattle.nit_script.specs.FieldReaders.{first_of, nothing_at, at_both, at_made, at_tested, at_kind, at_ended, nat_field, int_field}
 

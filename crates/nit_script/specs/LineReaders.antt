@@ -1,8 +1,5 @@
 -- Lines read from left to right.
-use Rattle.nit_script.specs.Below.{List, Option, codes, ℕ}
-use Rattle.nit_script.specs.declared.line.Stroke.{Stroke}
-use Rattle.nit_script.specs.declared.line.Stroke.TheVariants.{Fill, Check}
-use Rattle.nit_script.specs.declared.line.Line.{Line}
+use Rattle.nit_script.specs.Below.{Check, Fill, Line, List, Option, Stroke, codes, ℕ}
 use Rattle.nit_script.specs.declared.line.Line.TheVariants as line
 use Rattle.nit_script.specs.FieldReaders.{first_of, nothing_at, at_both, at_made, at_kind, at_ended, nat_field, colour_field}
 use Rattle.nit_script.specs.CallReaders.{call_at}

@@ -1,8 +1,7 @@
 -- The phases of a script.
 use Rattle.std.specs.Prelude.{ℕ, ◌+◌, Bool, true, false, List, count_by}
-use Rattle.nit_script.specs.declared.line.Line.{Line}
+use Rattle.nit_script.specs.Below.{InputLine, Line}
 use Rattle.nit_script.specs.declared.line.Line.TheVariants as line
-use Rattle.nit_script.specs.declared.line.InputLine.{InputLine}
 use Rattle.nit_script.specs.declared.line.InputLine.TheVariants as input
 
 -- how many phases lines have, by which of them end one: those, and one more

@@ -1,13 +1,9 @@
 -- What each line of a script is spelled as, and which lines have a spelling.
 use Rattle.std.specs.Prelude.{◌≤◌, ◌<◌, ℕ, zero, suc, ◌+◌, ◌/◌, ◌%◌, ◌^◌, ℤ, pos, negsuc, IsTrue, List, [], ◌∷◌, ◌++◌, codes, nat_lt, if◌then◌else◌}
-use Rattle.nit_script.specs.Below.{Call, Device, IsCode, IsWheel, decimal, is_text, most_pointer, signed_decimal}
+use Rattle.nit_script.specs.Below.{Call, Check, Device, Fill, InputLine, IsCode, IsWheel, Line, Stroke, decimal, is_text, most_pointer, signed_decimal}
 use Rattle.nit_events.specs.declared.call.Call.TheVariants as call
 use Rattle.nit_events.specs.declared.device.Device.TheVariants as device
-use Rattle.nit_script.specs.declared.line.Stroke.{Stroke}
-use Rattle.nit_script.specs.declared.line.Stroke.TheVariants.{Fill, Check}
-use Rattle.nit_script.specs.declared.line.Line.{Line}
 use Rattle.nit_script.specs.declared.line.Line.TheVariants as line
-use Rattle.nit_script.specs.declared.line.InputLine.{InputLine}
 use Rattle.nit_script.specs.declared.line.InputLine.TheVariants as input
 
 -- ---- fields, each with the space before it

@@ -16,9 +16,5 @@ pub fn take_byte(bytes: &[u8], wanted: u8) -> Option<&[u8]>
 pub fn take_word<'a>(bytes: &'a [u8], wanted: &[u8]) -> Option<&'a [u8]>
     ensures { Gives (λ x. x.now) result (word_at wanted.now bytes.now) }
 {
-    match wanted {
-        // Most words differ in their first byte, which is cheaper to see than a whole prefix.
-        [first, ..] if take_byte(bytes, *first).is_none() => None,
-        _ => bytes.strip_prefix(wanted),
-    }
+    bytes.strip_prefix(wanted)
 }

@@ -1,8 +1,7 @@
 -- What a session has, what it uses, and what a request needs and has left. All in units but views
 -- and words.
 use Rattle.std.specs.Prelude.{◌≡◌, ℕ, ◌+◌, ◌-◌, ◌*◌, ◌/◌, ◌<◌, ◌≤◌, min}
-use Rattle.nit_slots.specs.declared.need.Need.{Need}
-use Rattle.nit_slots.specs.Below.{least_units, most_units}
+use Rattle.nit_slots.specs.Below.{Need, least_units, most_units}
 
 -- the donation, the reserve, the number of views and the number of the buffer's words
 pub record AccountModel : Type 0 where

@@ -3,4 +3,4 @@ pub use Rattle.nit_slots.specs.Account.{IsAccount, IsDonation, IsShort, buffer_l
 pub use Rattle.nit_slots.specs.Below.{IsStrictlyIncreasing, list_any, most_side, most_slots, range_with_len}
 pub use Rattle.nit_slots.specs.FreeSlots.{Differ, IsFreeList, taken_beside}
 pub use Rattle.nit_slots.specs.Slots.{AreSlots, is_among, is_taken, spare, with_slot, without_slot}
-pub use Rattle.nit_slots.specs.Table.{IsTable, Rises, has_handle, slot_of, without_handle}
+pub use Rattle.nit_slots.specs.Table.{IsTable, Rises, has_handle, last_handle, slot_of, without_handle}

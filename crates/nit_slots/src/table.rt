@@ -1,6 +1,5 @@
 ghost use Rattle.std.specs.Prelude.{◌≡◌, ◌+◌, ◌-◌, ◌^◌, ◌<◌, ◌≤◌, ◌↔◌, true, false, [], ◌∷◌, ◌++◌, IfOk, IsSome, IsNone, IfSome, IsSomeAnd, All, length, vec_capacity};
-ghost use Rattle.nit_slots.specs.Terms.{IsTable, has_handle, is_taken, most_views, slot_of, spare, with_slot, without_handle, without_slot};
-ghost use Rattle.nit_slots.specs.Table.{last_handle};
+ghost use Rattle.nit_slots.specs.Terms.{IsTable, has_handle, is_taken, last_handle, most_views, slot_of, spare, with_slot, without_handle, without_slot};
 
 use crate::slots::Slots;
 use nit_rect::NoMemory;

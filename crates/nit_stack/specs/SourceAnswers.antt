@@ -1,9 +1,7 @@
 -- The answers of a stack, against the definitions of owners and sources.
 use Rattle.std.specs.Prelude.{ℕ, ◌*◌, List, Option, Some, None}
-use Rattle.nit_stack.specs.Below.{option_map_or}
-use Rattle.nit_stack.specs.declared.view.Source.{Source}
+use Rattle.nit_stack.specs.Below.{Source, ViewRef, option_map_or}
 use Rattle.nit_stack.specs.declared.view.Source.TheVariants.{Bare, Black, Word}
-use Rattle.nit_stack.specs.declared.view.ViewRef.{ViewRef}
 use Rattle.nit_stack.specs.Sources as sources
 use Rattle.nit_stack.specs.Stack.{SlotView, slot_view_in}
 

@@ -1,6 +1,6 @@
 -- The stack as it is kept: the slots in their order, and the views by slot.
 use Rattle.std.specs.Prelude.{ℕ, ◌<◌, List, length, map, slice_index_or}
-use Rattle.nit_stack.specs.declared.view.View.{View}
+use Rattle.nit_stack.specs.Below.{View}
 use Rattle.nit_stack.specs.Sources.{Size}
 use Rattle.nit_stack.specs.Stack.{SlotView, StackModel, fresh, slot_view_layer}
 

@@ -1,7 +1,6 @@
 -- Views by their slots, and by their sessions and handles.
 use Rattle.std.specs.Prelude.{◌≡◌, ℕ, ◌==◌, Bool, List, map, Option, Some, if◌then◌else◌}
-use Rattle.nit_stack.specs.Below.{AllByRecursion, option_map}
-use Rattle.nit_stack.specs.declared.view.View.{View}
+use Rattle.nit_stack.specs.Below.{AllByRecursion, View, option_map}
 use Rattle.nit_stack.specs.LabelPlaces.{is_view}
 use Rattle.nit_stack.specs.Orders.{moved, put_above}
 use Rattle.nit_stack.specs.Stack.{NoPair, SlotView, is_named, is_slot, same_name, same_slot, slot_view_in}

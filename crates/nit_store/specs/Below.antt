@@ -1,4 +1,7 @@
--- The words of the library and of the crates below that are used here.
+-- The words of the library and of the crates below that are used here, and the crate's plain types.
+pub use Rattle.nit_store.specs.declared.store.PutError.{PutError}
+pub use Rattle.nit_store.specs.declared.store.PutError.TheVariants.{Failed, NoMemory}
+pub use Rattle.nit_store.specs.declared.store.ReadError.{ReadError}
 pub use Rattle.std.specs.Global.{Global}
 pub use Rattle.std.specs.List.{position, position_or_len}
 pub use Rattle.std.specs.Option.{option_copied}

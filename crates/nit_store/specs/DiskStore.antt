@@ -1,7 +1,6 @@
 -- The real files and the standard output.
 use Rattle.std.specs.Prelude.{◌≡◌, ℕ, ◌≤◌, None, Result, Ok, Err}
-use Rattle.nit_store.specs.declared.store.PutError.{PutError}
-use Rattle.nit_store.specs.declared.store.PutError.TheVariants.{Failed, NoMemory}
+use Rattle.nit_store.specs.Below.{Failed, NoMemory, PutError}
 use Rattle.nit_store.specs.Store.{StoreModel, one_more}
 
 -- how often reads and how often writes failed

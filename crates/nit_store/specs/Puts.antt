@@ -1,6 +1,6 @@
 -- Files that are put one after the other, until a put is refused.
 use Rattle.std.specs.Prelude.{◌≡◌, ℕ, List, [], ◌∷◌, Option, Some, None, Result, Ok, Err}
-use Rattle.nit_store.specs.declared.store.PutError.{PutError}
+use Rattle.nit_store.specs.Below.{PutError}
 use Rattle.nit_store.specs.Store.{File, StoreModel}
 use Rattle.nit_store.specs.StoreAnswers.{AfterPut}
 

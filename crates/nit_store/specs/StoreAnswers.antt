@@ -1,9 +1,7 @@
 -- What each answer of a store means.
 use Rattle.std.specs.Prelude.{◌≡◌, ℕ, ◌<◌, ◌≤◌, ◌⊎◌, List, length, Result, Ok, Err, IfSome, Vec}
-use Rattle.nit_store.specs.Below.{Global}
-use Rattle.nit_store.specs.declared.store.ReadError.{ReadError}
+use Rattle.nit_store.specs.Below.{Global, PutError, ReadError}
 use Rattle.nit_store.specs.declared.store.ReadError.TheVariants as read
-use Rattle.nit_store.specs.declared.store.PutError.{PutError}
 use Rattle.nit_store.specs.declared.store.PutError.TheVariants as put
 use Rattle.nit_store.specs.Store.{StoreModel, bytes_of, with_said, with_asked, ReadFaulted, WriteFaulted, PutIn}
 

@@ -1,19 +1,6 @@
 //! A scene before its first entry.
 
-ghost use Rattle.std.specs.Prelude.{
-  ◌≡◌,
-  ◌+◌,
-  ◌-◌,
-  ◌<◌,
-  ◌≤◌,
-  IfOk,
-  length,
-  ℕ,
-  ◌*◌,
-  map,
-  [],
-  replicate,
-};
+ghost use Rattle.std.specs.Prelude.{◌≡◌, ◌+◌, ◌-◌, ◌<◌, ◌≤◌, IfOk, length, ℕ, ◌*◌, map, [], replicate};
 ghost use Rattle.nit_scene.specs.Terms.{IsConfiguration, IsGlass, bare_word, glass_in, shots, spare};
 
 use crate::scene::Scene;

@@ -1,16 +1,6 @@
 //! Where the labels of the views stand.
 
-ghost use Rattle.std.specs.Prelude.{
-  ◌≡◌,
-  ◌-◌,
-  ◌<◌,
-  ◌≤◌,
-  length,
-  IsTrue,
-  Some,
-  slice_get,
-  option_map,
-};
+ghost use Rattle.std.specs.Prelude.{◌≡◌, ◌-◌, ◌<◌, ◌≤◌, length, IsTrue, Some, slice_get, option_map};
 ghost use Rattle.nit_scene.specs.Terms.{AreLabelled, Point, SlotView, draws_labels, label_place_of, label_scenery, pixel_at};
 
 use nit_events::Mode;

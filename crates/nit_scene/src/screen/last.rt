@@ -1,8 +1,8 @@
 //! The whole screen, for the last picture.
 
 ghost use Rattle.std.specs.Prelude.{◌≡◌, ◌+◌, ◌<◌, ◌≤◌, true, length, ℕ, ◌*◌, map};
+ghost use Rattle.nit_scene.specs.Terms.{HoldBuffers, IsGlassOf, IsServer, Painted, Repainted, glass_in, most_sessions, source_of_number, state_of};
 ghost use Rattle.nit_events.specs.declared.entry.Entry.TheVariants as entry;
-ghost use Rattle.nit_scene.specs.Terms.{HoldBuffers, IsGlassOf, IsServer, Painted, Repainted, glass_in, source_of_number, state_of};
 
 use crate::screen::Screen;
 use crate::screen::pixels::show_again;
@@ -45,7 +45,7 @@ pub(crate) fn load_whole<C: Glass>(
 )
     requires room { server.now.stack.most ≤ cutter.old.room }
     requires pixels { length raw.old.items ≡ server.now.config.width * server.now.config.height }
-    requires few { length owns.old ≤ 16 }
+    requires few { length owns.old ≤ most_sessions }
     requires held { HoldBuffers server.now.stack (length owns.old)
         (glass_in (map C.sight owns.old)) }
     ensures room { cutter.new.room ≡ cutter.old.room }

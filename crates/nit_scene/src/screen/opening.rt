@@ -1,22 +1,7 @@
 //! A screen before its first entry.
 
-ghost use Rattle.std.specs.Prelude.{
-  ◌≡◌,
-  ◌+◌,
-  ◌-◌,
-  ◌<◌,
-  ◌≤◌,
-  None,
-  IfOk,
-  length,
-  ℕ,
-  ◌*◌,
-  map,
-  false,
-  replicate,
-  vec_capacity,
-};
-ghost use Rattle.nit_scene.specs.Terms.{IsConfiguration, IsGlass, Point, bar_rows, bare_word, first_state, glass_in, state_of};
+ghost use Rattle.std.specs.Prelude.{◌≡◌, ◌+◌, ◌-◌, ◌<◌, ◌≤◌, None, IfOk, length, ℕ, ◌*◌, map, false, replicate, vec_capacity};
+ghost use Rattle.nit_scene.specs.Terms.{IsConfiguration, IsGlass, Point, bar_rows, bare_word, first_state, glass_in, most_slots, state_of};
 
 use crate::screen::Screen;
 use crate::screen::pixels::{Pixels, show_again};
@@ -70,7 +55,8 @@ fn bare_pixels(alloc: Global, config: &Config, bar: usize) -> Result<Pixels, NoM
     ensures spare { IfOk result (λ p.
         config.now.width * config.now.height ≤ vec_capacity p.frame) }
     ensures named { IfOk result (λ p. p.labels.items ≡ map (λ m. m.label) config.now.clients) }
-    ensures room { IfOk result (λ p. (1024 ≤ p.cutter.room) × (1024 ≤ length p.places.items)) }
+    ensures room { IfOk result (λ p.
+        (most_slots ≤ p.cutter.room) × (most_slots ≤ length p.places.items)) }
 {
     let cutter = Cutter::with_room(alloc, MOST_VIEWS as u32)?;
     let raw = bare_words(alloc, config)?;
@@ -123,7 +109,7 @@ fn bare_words(alloc: Global, config: &Config) -> Result<Vec<u32>, NoMemory>
 
 /// Room for the place of each view's label.
 fn no_places(alloc: Global) -> Result<Vec<Option<Point>>, NoMemory>
-    ensures { IfOk result (λ v. 1024 ≤ length v.items) }
+    ensures { IfOk result (λ v. most_slots ≤ length v.items) }
 {
     Ok(vec![in alloc; None; MOST_VIEWS]?)
 }

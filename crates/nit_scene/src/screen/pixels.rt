@@ -1,22 +1,6 @@
 //! The pixels of a screen, and the frame that is kept of them.
 
-ghost use Rattle.std.specs.Prelude.{
-  ◌≡◌,
-  ℕ,
-  ◌*◌,
-  ◌<◌,
-  ◌≤◌,
-  All,
-  IsTrue,
-  Option,
-  false,
-  length,
-  map,
-  nat_lt,
-  slice_index,
-  true,
-  if◌then◌else◌,
-};
+ghost use Rattle.std.specs.Prelude.{◌≡◌, ℕ, ◌*◌, ◌<◌, ◌≤◌, All, IsTrue, Option, false, length, map, nat_lt, slice_index, true, if◌then◌else◌};
 ghost use Rattle.nit_scene.specs.Terms.{ArePixels, AreSet, CanShowBy, Flat, IsServer, IsWord, ShowsBelow, bar_rows, bar_word, draws_labels, frame, kept_frame, pixel, raw_of, scenery_of, shown_by, state_of, wanted};
 
 use crate::screen::labels::place_drawn;

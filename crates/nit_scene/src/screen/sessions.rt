@@ -1,19 +1,6 @@
 //! Calls on a whole session, its end, and exactly the pixels that they make dirty.
 
-ghost use Rattle.std.specs.Prelude.{
-  ◌≡◌,
-  ◌-◌,
-  ◌^◌,
-  ◌<◌,
-  ◌≤◌,
-  None,
-  false,
-  length,
-  ℕ,
-  ◌*◌,
-  map,
-  slice_index_or,
-};
+ghost use Rattle.std.specs.Prelude.{◌≡◌, ◌-◌, ◌^◌, ◌<◌, ◌≤◌, None, false, length, ℕ, ◌*◌, map, slice_index_or};
 ghost use Rattle.nit_events.specs.declared.call.Call.TheVariants as call;
 ghost use Rattle.nit_events.specs.declared.entry.Entry.TheVariants as entry;
 ghost use Rattle.nit_events.specs.declared.event.Status.TheVariants as status;

@@ -1,23 +1,7 @@
 //! The user's input at a server: who is pointed at, and who is told what.
 
-ghost use Rattle.std.specs.Prelude.{
-  ◌≡◌,
-  ◌-◌,
-  ◌<◌,
-  ◌≤◌,
-  true,
-  None,
-  length,
-  All,
-  ℕ,
-  false,
-  Some,
-  slice_index_or,
-  [],
-  IfSome,
-  ◌∷◌,
-};
-ghost use Rattle.nit_scene.specs.Terms.{IsConfiguration, IsDevice, IsForgottenIfKilled, IsServerInput, MayLose, client_in, deliveries_of, delivery, first_input, is_kill, killed_in, kills, pointed_by, route, routed_as, routing_of, session, with_delivered, with_routed};
+ghost use Rattle.std.specs.Prelude.{◌≡◌, ◌-◌, ◌<◌, ◌≤◌, true, None, length, All, ℕ, false, Some, slice_index_or, [], IfSome, ◌∷◌};
+ghost use Rattle.nit_scene.specs.Terms.{IsConfiguration, IsDevice, IsForgottenIfKilled, IsServerInput, MayLose, client_in, deliveries_of, delivery, first_input, is_kill, killed_in, kills, most_sessions, pointed_by, route, routed_as, routing_of, session, with_delivered, with_routed};
 ghost use Rattle.nit_events.specs.declared.event.Item.TheVariants as item;
 
 use crate::server::Server;
@@ -59,7 +43,7 @@ impl Server {
     fn pointed(&self, dev: Device) -> Option<u32>
         ensures session { result ≡ pointed_by self.now dev }
         ensures known { IfSome result (λ t. t < length self.now.config.clients) }
-        ensures few { IfSome result (λ t. t < 16) }
+        ensures few { IfSome result (λ t. t < most_sessions) }
     {
         match self.stack.owner(self.focus.clamp(dev)) {
             Some(v) => Some(self.stack.view(v).sid),
@@ -137,8 +121,8 @@ pub(crate) fn opened_focus(config: &Config) -> Focus
 
 /// Tells the focus which clients take no focus by clicks.
 fn set_clicks(focus: &mut Focus, clients: &[nit_config::Member])
-    requires few { length clients.now ≤ 16 }
-    requires all { (t : ℕ) → t < 16 → slice_index_or focus.old.clicks t false ≡ true }
+    requires few { length clients.now ≤ most_sessions }
+    requires all { (t : ℕ) → t < most_sessions → slice_index_or focus.old.clicks t false ≡ true }
     ensures rest { focus.new ≡ record focus.old { clicks = focus.new.clicks } }
     ensures clicks { (t : ℕ) → t < length clients.now → slice_index_or focus.new.clicks t false ≡
         (client_in clients.now t).clicks }

@@ -1,21 +1,8 @@
 //! A server before its first entry.
 
-ghost use Rattle.std.specs.Prelude.{
-  ◌≡◌,
-  ◌+◌,
-  ◌-◌,
-  ◌<◌,
-  ◌≤◌,
-  IfOk,
-  length,
-  All,
-  IsTrue,
-  map,
-  [],
-  if◌then◌else◌,
-};
+ghost use Rattle.std.specs.Prelude.{◌≡◌, ◌+◌, ◌-◌, ◌<◌, ◌≤◌, IfOk, length, All, IsTrue, map, [], if◌then◌else◌};
+ghost use Rattle.nit_scene.specs.Terms.{IsConfiguration, IsMember, first_scene_session, first_stack, first_state, most_sessions, most_slots, slots_of_all, state_of, view_slots};
 ghost use Rattle.nit_events.specs.declared.entry.Entry.TheVariants as entry;
-ghost use Rattle.nit_scene.specs.Terms.{IsConfiguration, IsMember, first_scene_session, first_stack, first_state, most_slots, slots_of_all, state_of, view_slots};
 
 use crate::member::Member;
 use crate::server::Server;
@@ -55,7 +42,7 @@ impl Server {
 
 /// The slots that all clients together may ever need.
 pub(crate) fn slots_of_all(clients: &[nit_config::Member]) -> u32
-    requires few { length clients.now ≤ 16 }
+    requires few { length clients.now ≤ most_sessions }
     requires clients { All IsMember clients.now }
     ensures sum { result ≡ slots_of_all clients.now }
     ensures most { result ≤ most_slots }
@@ -100,7 +87,7 @@ fn opened_stack(alloc: Global, config: &Config) -> Result<Stack, NoMemory>
 
 /// Gives each client's session its layer.
 fn set_layers(stack: &mut Stack, clients: &[nit_config::Member])
-    requires few { length clients.now ≤ 16 }
+    requires few { length clients.now ≤ most_sessions }
     requires empty { stack.old.views ≡ [] }
     requires sizes { length stack.old.sizes ≡ length clients.now }
     requires layers { length stack.old.layers ≡ length clients.now }

@@ -1,19 +1,7 @@
 //! Accepted calls that change a session alone, and its end.
 
 ghost use Rattle.nit_scene.specs.Terms.{IsServed, accepted, has_view, is_of_session, list_any, refusal, session, session_in, with_ended, without_views};
-ghost use Rattle.std.specs.Prelude.{
-  ◌≡◌,
-  ◌-◌,
-  ◌<◌,
-  true,
-  None,
-  length,
-  false,
-  Some,
-  [],
-  IfSome,
-  IfNone,
-};
+ghost use Rattle.std.specs.Prelude.{◌≡◌, ◌-◌, ◌<◌, true, None, length, false, Some, [], IfSome, IfNone};
 ghost use Rattle.nit_events.specs.declared.call.Call.TheVariants as call;
 
 use crate::server::Server;

@@ -1,5 +1,4 @@
-use Rattle.nit_actor.proofs.Lemmas.{All-set, IsPairRoleIn, Pair, PairRole, arith, pair_role_of, role_of_pair, subst, sym, ◌∙◌}
-use Rattle.nit_actor.proofs.PhaseCounts.{same_set}
+use Rattle.nit_actor.proofs.Lemmas.{All-set, IsPairRoleIn, Pair, PairRole, arith, pair_role_of, role_of_pair, same_set, subst, sym, ◌∙◌}
 use Rattle.nit_actor.proofs.clip_beside.do_turn.Goals as goal
 
 pub pairs-preserved : goal.pairs-preserved

@@ -1,5 +1,4 @@
-use Rattle.nit_actor.proofs.Lemmas.{ClipPassModel, IsPairIn, PassModel, arith, clip_role_of, pairs_set, role_of, zip_at, zip_long, ◌∙◌}
-use Rattle.nit_actor.proofs.PhaseCounts.{same_set}
+use Rattle.nit_actor.proofs.Lemmas.{ClipPassModel, IsPairIn, PassModel, arith, clip_role_of, pairs_set, role_of, same_set, zip_at, zip_long, ◌∙◌}
 use Rattle.nit_actor.proofs.clip_mine.do_turn.Goals as goal
 
 pub pairs-preserved : goal.pairs-preserved

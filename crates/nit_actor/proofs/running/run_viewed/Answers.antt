@@ -1,5 +1,4 @@
-use Rattle.nit_actor.proofs.Lemmas.{Configuration, IsShowing, LineTurn, List, SceneModel, Sight, ap, front_move, settled, subst, sym}
-use Rattle.nit_actor.proofs.RunStateLemmas.{begun}
+use Rattle.nit_actor.proofs.Lemmas.{Configuration, IsShowing, LineTurn, List, SceneModel, Sight, ap, begun, front_move, settled, subst, sym}
 use Rattle.nit_actor.proofs.running.run_viewed.Goals as goal
 
 pub lines-init : goal.lines-init

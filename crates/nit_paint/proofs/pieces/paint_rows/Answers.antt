@@ -1,6 +1,5 @@
-use Rattle.std.proofs.Common.{ap, arith, pos, refl, sym, ◌*◌, ◌∙◌, ◌≡◌}
+use Rattle.std.proofs.Common.{ap, arith, pos, refl, sym, ◌*◌, ◌∙◌, ◌≡◌, ◌+ℤ◌}
 use Rattle.nit_paint.proofs.Lemmas.{among, black_or_word, index_at, ints, option_map, reached, row_told, rows_end, rows_more, rows_none, to_z-of_z}
-use Rattle.std.specs.Prelude.{◌+ℤ◌}
 use mir.Syntax.{w32}
 use mir.Val.{of_z, to_z}
 use Rattle.nit_paint.proofs.pieces.paint_rows.Goals as goal

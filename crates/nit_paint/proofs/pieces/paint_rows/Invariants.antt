@@ -1,5 +1,4 @@
-use Rattle.std.proofs.Common.{length, pos, ℕ, ◌+◌, ◌<◌, ◌≡◌}
-use Rattle.std.specs.Prelude.{◌+ℤ◌}
+use Rattle.std.proofs.Common.{length, pos, ℕ, ◌+◌, ◌<◌, ◌≡◌, ◌+ℤ◌}
 use Rattle.nit_paint.proofs.Lemmas.{PixelSource, Repainted, Sight, among, black_or_word, in_rows, index_at, reached, row_at, with_glass}
 use Rattle.nit_paint.proofs.pieces.paint_rows.Given as goal
 

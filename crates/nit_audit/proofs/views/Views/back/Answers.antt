@@ -1,6 +1,5 @@
 use Rattle.std.proofs.Common.{List, None, Some, ap, find, not, subst, sym, ℕ, ◌∙◌, ◌≡◌}
-use Rattle.nit_audit.proofs.Lemmas.{AllHaveViews, HasView, all_filter, backed, found_all, insert, is_view, layer, moved, on_ok, put_back, stays, view_under, views_at}
-use Rattle.nit_stack.specs.declared.view.View.{View}
+use Rattle.nit_audit.proofs.Lemmas.{AllHaveViews, HasView, View, all_filter, backed, found_all, insert, is_view, layer, moved, on_ok, put_back, stays, view_under, views_at}
 use Rattle.nit_audit.proofs.views.Views.back.Goals as goal
 
 pub returns-in_default : goal.returns-in_default

@@ -1,5 +1,4 @@
-use Rattle.nit_audit.proofs.Lemmas.{List, ap, changed, changed_kept, changed_views, is_meant, with_change, ◌∙◌}
-use Rattle.nit_stack.specs.declared.view.View.{View}
+use Rattle.nit_audit.proofs.Lemmas.{List, View, ap, changed, changed_kept, changed_views, is_meant, with_change, ◌∙◌}
 use Rattle.nit_audit.specs.declared.keys.Which.TheVariants as which
 use Rattle.nit_audit.proofs.views.Views.change.Goals as goal
 

@@ -1,5 +1,4 @@
-use Rattle.nit_audit.proofs.Lemmas.{List, ap, created_views, layer, new_view, on_ok, put_front, views_at, ◌∙◌}
-use Rattle.nit_stack.specs.declared.view.View.{View}
+use Rattle.nit_audit.proofs.Lemmas.{List, View, ap, created_views, layer, new_view, on_ok, put_front, views_at, ◌∙◌}
 use Rattle.nit_audit.proofs.views.Views.create.Goals as goal
 
 pub returns : goal.returns

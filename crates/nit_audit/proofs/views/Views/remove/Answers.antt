@@ -1,5 +1,4 @@
-use Rattle.nit_audit.proofs.Lemmas.{AllHaveViews, List, ap, is_meant, removed_kept, removed_views, subst, sym, views_at, without, ◌∙◌}
-use Rattle.nit_stack.specs.declared.view.View.{View}
+use Rattle.nit_audit.proofs.Lemmas.{AllHaveViews, List, View, ap, is_meant, removed_kept, removed_views, subst, sym, views_at, without, ◌∙◌}
 use Rattle.nit_audit.proofs.views.Views.remove.Goals as goal
 
 pub invariant_of-self : goal.invariant_of-self

@@ -1,5 +1,4 @@
-use Rattle.nit_scene.proofs.Lemmas.{IsClean, IsFrameOf, IsTrue, Mode, Sight, ap, by_mode, can_still, clean_call, clean_painted, draws_labels, false, false≢true, kept_frame, kept_served, length, no_sight, nothing_set, pixel, raw_long, raw_of, refl, same_most, slice_index, state_of, subst, sym, vec_capacity, ℕ, ◌∙◌}
-use Rattle.nit_scene.proofs.ScreenLemmas.{same_config}
+use Rattle.nit_scene.proofs.Lemmas.{IsClean, IsFrameOf, IsTrue, Mode, Sight, ap, by_mode, can_still, clean_call, clean_painted, draws_labels, false, false≢true, kept_frame, kept_served, length, no_sight, nothing_set, pixel, raw_long, raw_of, refl, same_config, same_most, slice_index, state_of, subst, sym, vec_capacity, ℕ, ◌∙◌}
 use Rattle.nit_scene.proofs.screen.calls.serve_clean.Goals as goal
 
 pub show_views-requires-clause-can : goal.show_views-requires-clause-can

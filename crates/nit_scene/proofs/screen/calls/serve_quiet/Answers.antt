@@ -1,5 +1,4 @@
-use Rattle.nit_scene.proofs.Lemmas.{IsTrue, Mode, Scenery, ap, can_still, draws_labels, frame, length, quiet_painted, quiet_scenery, raw_of, refl, same_most, state_of, subst, sym, vec_capacity, ◌∙◌}
-use Rattle.nit_scene.proofs.ScreenLemmas.{same_config}
+use Rattle.nit_scene.proofs.Lemmas.{IsTrue, Mode, Scenery, ap, can_still, draws_labels, frame, length, quiet_painted, quiet_scenery, raw_of, refl, same_config, same_most, state_of, subst, sym, vec_capacity, ◌∙◌}
 use Rattle.nit_scene.proofs.screen.calls.serve_quiet.Goals as goal
 
 pub returns-clause-pixels : goal.returns-clause-pixels

@@ -1,7 +1,6 @@
-use Rattle.nit_scene.proofs.Lemmas.{Close, Configuration, IsFrameOf, IsPartOf, Mode, bar_kept, by_mode, can_still, dirty_by_views, draws_labels, entry_painted_in, false≢true, few_views, flat_kept, frame, glasses_of_call, held_by_glasses, kept_part, length-frame, mode_stays, painted_by_views, pixel, raw_in, repainted_words, same_most, scenery_of, state_of, vec_capacity, wanted}
+use Rattle.nit_scene.proofs.Lemmas.{Close, Configuration, IsFrameOf, IsPartOf, Mode, bar_kept, by_mode, can_still, dirty_by_views, draws_labels, entry_painted_in, false≢true, few_views, flat_kept, frame, glasses_of_call, held_by_glasses, kept_part, length-frame, mode_stays, painted_by_views, pixel, raw_in, repainted_words, same_config, same_most, scenery_of, state_of, vec_capacity, wanted}
 use Rattle.std.proofs.Common.{Bool, IsTrue, ap, arith, cond, length, map, subst, sym, true, ℕ, ◌*◌, ◌<◌, ◌∙◌, ◌≡◌}
 use Rattle.nit_events.specs.declared.entry.Entry.TheVariants as entry
-use Rattle.nit_scene.proofs.ScreenLemmas.{same_config}
 use Rattle.nit_scene.proofs.screen.sessions.change_buffer.Goals as goal
 
 pub paint_views-requires-clause-room : goal.paint_views-requires-clause-room

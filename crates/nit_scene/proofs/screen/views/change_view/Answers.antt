@@ -1,7 +1,6 @@
-use Rattle.nit_scene.proofs.Lemmas.{Configuration, IsFrameOf, IsOn, IsViewChange, Mode, bar_kept, by_mode, can_still, change_stood, dirty_by_change, draws_labels, entry_painted_in, false≢true, few_views, flat_kept, glasses_of_call, held_by_glasses, named_stands, painted_by_change, pixel, repainted_words, same_most, slot_owns_either, state_of, vec_capacity}
+use Rattle.nit_scene.proofs.Lemmas.{Configuration, IsFrameOf, IsOn, IsViewChange, Mode, bar_kept, by_mode, can_still, change_stood, dirty_by_change, draws_labels, entry_painted_in, false≢true, few_views, flat_kept, glasses_of_call, held_by_glasses, named_stands, painted_by_change, pixel, repainted_words, same_config, same_most, slot_owns_either, state_of, vec_capacity}
 use Rattle.std.proofs.Common.{IsTrue, ap, arith, length, map, subst, sym, ℕ, ◌*◌, ◌<◌, ◌∙◌}
 use Rattle.nit_events.specs.declared.entry.Entry.TheVariants as entry
-use Rattle.nit_scene.proofs.ScreenLemmas.{same_config}
 use Rattle.nit_scene.proofs.screen.views.change_view.Goals as goal
 
 pub stood-place-requires : goal.stood-place-requires
