@@ -1,10 +1,8 @@
 -- How an audit comes to its end: as a run of its configuration does before it is begun, or at the journal.
 use Rattle.std.proofs.Common.{◌≡◌, ℕ, false, List, [], Option, Some, None, refl, sym, ap, subst, ◌∙◌, inl, inr}
-use Rattle.nit_top.proofs.Basics.{AllFiles, AllScripts, AreAllFiles, AreAllScripts, AreSetup, Audit, BothFiles, Command, Entry, Fault, File, FilesRead, FirstFiles, HasRead, IfSome, InnerFiles, IsAuditEnd, IsJournalFault, IsJournalText, IsNoJournalText, IsValid, Judged, NoFile, NotBegun, OuterFiles, Refused, Run, Setup, Stop, StoppedAt, StoreModel, Worked, asking_all, bytes_of, name_text, names_read, next_name, reads, with_asked}
-use Rattle.nit_top.specs.declared.report.finish.End.{End}
+use Rattle.nit_top.proofs.Basics.{AllFiles, AllScripts, AreAllFiles, AreAllScripts, AreSetup, Audit, BothFiles, Command, End, Ends, Entry, Fault, File, FilesRead, FirstFiles, HasRead, IfSome, InnerFiles, IsAuditEnd, IsJournalFault, IsJournalText, IsNoJournalText, IsValid, Judged, NoFile, NotBegun, OuterFiles, Refused, Run, Setup, Stop, StoppedAt, StoreModel, Worked, asking_all, bytes_of, name_text, names_read, next_name, reads, with_asked}
 use Rattle.nit_top.specs.declared.report.finish.End.TheVariants as ends
 use Rattle.nit_top.specs.declared.report.finish.Fault.TheVariants as fault
-use Rattle.nit_top.specs.Work.{Ends}
 use Rattle.nit_top.proofs.AskedNames.{asking_more}
 use Rattle.nit_top.proofs.Scripts.{told_so, told_so_both}
 use Rattle.nit_top.proofs.BeforeRun.{ReadsAs, ends_as}

@@ -1,10 +1,8 @@
 -- A command that reads files as a run does comes to its end before a run as that run does.
 use Rattle.std.proofs.Common.{◌≡◌, ℕ, Bool, List, [], ◌∷◌, ◌++◌, Option, Some, sym, ap, ◌∙◌, inl, inr}
-use Rattle.nit_top.proofs.Basics.{Begun, Came, Command, Course, Entry, Fault, File, FilesRead, HasRead, IsJournal, IsLastRead, IsMadeBefore, IsMadeInPart, IsMadeUpTo, IsNotBegun, Judged, NoCommand, NotBegun, Refused, Run, Setup, StoreModel, Worked, asked_also, line_on, made_by, names_read, next_name}
+use Rattle.nit_top.proofs.Basics.{Begun, Came, Command, Course, End, Ends, Entry, Fault, File, FilesRead, HasRead, IsJournal, IsLastRead, IsMadeBefore, IsMadeInPart, IsMadeUpTo, IsNotBegun, Judged, NoCommand, NotBegun, Refused, Run, Setup, StoreModel, Worked, asked_also, line_on, made_by, names_read, next_name}
 use Rattle.nit_events.specs.declared.entry.Entry.TheVariants as entry
-use Rattle.nit_top.specs.declared.report.finish.End.{End}
 use Rattle.nit_top.specs.declared.report.finish.End.TheVariants as ends
-use Rattle.nit_top.specs.Work.{Ends}
 use Rattle.nit_top.proofs.Scripts.{told_so}
 
 -- a run has entries

@@ -1,8 +1,7 @@
 -- How the work of a capture comes to its end: as that of a run does before it is begun, and with the film behind
 -- the files of one that was.
 use Rattle.std.proofs.Common.{◌≡◌, ℕ, true, false, List, [], ◌∷◌, ◌++◌, Option, refl, ◌∙◌, inl, inr}
-use Rattle.nit_top.proofs.Basics.{AllFiles, AllScripts, AreAllFiles, BothFiles, Capture, Command, File, FilesRead, FirstFiles, HasRead, InnerFiles, NoFile, OuterFiles, PerformedFilmed, Region, Run, Setup, StoreModel, Worked, asking_all, film_name, film_of, is_outside_of, names_read, next_name, pictures_in, reads}
-use Rattle.nit_top.specs.Work.{Ends}
+use Rattle.nit_top.proofs.Basics.{AllFiles, AllScripts, AreAllFiles, BothFiles, Capture, Command, Ends, File, FilesRead, FirstFiles, HasRead, InnerFiles, NoFile, OuterFiles, PerformedFilmed, Region, Run, Setup, StoreModel, Worked, asking_all, film_name, film_of, is_outside_of, names_read, next_name, pictures_in, reads}
 use Rattle.nit_top.proofs.BeforeRun.{ReadsAs, ends_as}
 use Rattle.nit_top.proofs.WorkLemmas.{run_ends, unbegun_ends}
 

@@ -1,13 +1,11 @@
 -- How the work came to its end is why.
 use Rattle.std.proofs.Common.{◌≡◌, ℕ, Bool, true, false, List, [], ◌∷◌, ◌++◌, Option, Some, None, refl, sym, ap, subst, ◌∙◌, arith, inl, inr, ◌⊎◌}
-use Rattle.nit_top.proofs.Basics.{AllFiles, AllScripts, AreAllFiles, AreAudited, AreSetup, Audit, BothFiles, Came, Capture, Clip, Command, Course, Entry, Fault, File, FilesRead, FirstFiles, Gen, HasRead, HasValidFiles, IfSome, InnerFiles, IsAudit, IsAudited, IsBothRead, IsCommandRun, IsCutShort, IsEarly, IsLastRead, IsMadeBefore, IsMadeInPart, IsNotBegun, IsOutside, IsPutWhole, IsRefusedAt, IsRefusedWith, IsSetupOf, IsSomeAnd, IsValid, IsValidSo, Judged, Nested, NoCommand, NoFile, OuterFiles, Refused, Run, RunFiles, Still, StoreModel, WithRun, asked_also, audited_line, code_of, is_outside_of, made_by, names_read, next_name, reads, summary_line, totals}
-use Rattle.nit_top.specs.declared.report.finish.End.{End}
+use Rattle.nit_top.proofs.Basics.{AllFiles, AllScripts, AreAllFiles, AreAudited, AreSetup, Audit, BothFiles, Came, Capture, Clip, Command, Course, End, Entry, Fault, File, FilesRead, FirstFiles, Gen, HasRead, HasValidFiles, IfSome, InnerFiles, IsAudit, IsAudited, IsBothRead, IsCommandRun, IsCutShort, IsEarly, IsLastRead, IsMadeBefore, IsMadeInPart, IsNotBegun, IsOutside, IsPutWhole, IsRefusedAt, IsRefusedWith, IsSetupOf, IsSomeAnd, IsValid, IsValidSo, Judged, Nested, NoCommand, NoFile, OuterFiles, Refused, Run, RunFiles, Still, StoreModel, WithRun, asked_also, audited_line, code_of, is_outside_of, made_by, names_read, next_name, not_both, reads, summary_line, totals}
 use Rattle.nit_top.specs.declared.report.finish.End.TheVariants as ends
 use Rattle.nit_top.proofs.Scripts.{told_so}
 use Rattle.nit_top.proofs.JudgementLemmas.{told_valid, told_refused, told_codes, told_side, told_outside, no_refusal, no_setup}
 use Rattle.nit_top.proofs.EndCodes.{is_fault_code, not_fault, not_early_0, not_early_4, not_early_7}
 use Rattle.nit_top.proofs.AuditCourse.{with_run, with_run_not, audit_makes_none, not_run, empty_course, front_none, front_same}
-use Rattle.nit_hall.proofs.ForCallers.{not_both}
 
 -- ---- what came, by its code
 

@@ -1,11 +1,8 @@
 -- The codes of the ways that a command ends, and what the counts of faults say of them.
-use Rattle.std.proofs.Common.{◌≡◌, ℕ, ◌≤◌, Bool, true, false, [], ◌∷◌, refl, subst, arith, inl, inr, ◌⊎◌}
-use Rattle.std.specs.Prelude.{◌==◌}
-use Rattle.nit_top.proofs.Basics.{Counts, Fault, IsEarly, IsTrue, Rose, StoreModel, code_of, fault_code, list_any}
-use Rattle.nit_top.specs.declared.report.finish.End.{End}
+use Rattle.std.proofs.Common.{◌≡◌, ℕ, ◌≤◌, Bool, true, false, [], ◌∷◌, refl, subst, arith, inl, inr, ◌⊎◌, ◌==◌}
+use Rattle.nit_top.proofs.Basics.{Counts, End, Fault, IsEarly, IsTrue, Rose, StoreModel, code_of, fault_code, list_any, not_both}
 use Rattle.nit_top.specs.declared.report.finish.End.TheVariants as ends
 use Rattle.nit_top.specs.declared.report.finish.Fault.TheVariants as fault
-use Rattle.nit_hall.proofs.ForCallers.{not_both}
 
 -- ---- codes
 

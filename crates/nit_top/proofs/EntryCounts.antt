@@ -1,6 +1,5 @@
 -- How many entries a whole journal has, and how many a generated run has.
-use Rattle.std.proofs.Common.{◌≡◌, ◌∙◌, ℕ, zero, suc, ◌+◌, ◌*◌, ◌<◌, ◌≤◌, true, false, List, [], ◌∷◌, ◌++◌, length, map, refl, sym, ap, subst, arith, inl, inr}
-use Rattle.std.specs.Prelude.{◌==◌}
+use Rattle.std.proofs.Common.{◌≡◌, ◌∙◌, ℕ, zero, suc, ◌+◌, ◌*◌, ◌<◌, ◌≤◌, true, false, List, [], ◌∷◌, ◌++◌, length, map, refl, sym, ap, subst, arith, inl, inr, ◌==◌}
 use Rattle.nit_top.proofs.Basics.{Call, Does, Entry, InputLine, IsJournal, IsLegal, IsOpen, LegalFrom, Line, Reply, Shoots, State, UserAction, after, as_many, as_many_as_clients, calls_from, calls_of, calls_to_make, cases_Bool, client_script, count_by, done, filter, first_state, front_open, generated_setup, is_call, is_device, is_shot_line, length-filter, length-map, nat_tests, range_with_len, shots, to_do, user_actions_from, user_actions_of, user_actions_to_do, user_script}
 use Rattle.nit_events.specs.declared.entry.Entry.TheVariants as entry
 use Rattle.nit_script.specs.declared.line.Line.TheVariants as line

@@ -1,12 +1,10 @@
 -- Generated runs: they can be run, and how their work comes to its end.
 use Rattle.std.proofs.Common.{◌≡◌, ℕ, ◌<◌, ◌≤◌, zero, suc, ◌+◌, true, List, [], ◌∷◌, ◌++◌, length, map, Option, Some, None, refl, sym, ap, subst, ◌∙◌, arith, inl, inr, zero-add}
-use Rattle.nit_top.proofs.Basics.{AllByRecursion, AllZip, AreAllFiles, AreOutputs, Configuration, Course, Entry, File, FitsInputLine, FitsLine, Gen, Global, HasRun, Headline, IfSome, InputLine, IsAfterRun, IsAscii, IsConfiguration, IsJournal, IsMadeUpTo, IsRunnable, IsUtf8, IsUtf8-from_ascii, Line, NoFile, NotBegun, Performed, PutError, PutFault, PutFiles, PutState, PutsAll, PutsNext, ReadsClient, Rose, Setup, StoreModel, Totals, Vec, Worked, append-nil, asked_also, client_script, client_text, codes, decimal_digit, end_of_put, end_of_run, file_names, generated_files, generated_setup, get_or-map, get_or-map-range_with_len, input_phases, is_some, length-map, length-map-range_with_len, map-range_with_len_more, name_text, output_name, phases, put_state_of_run, puts_more, range_with_len, refusal_of, script_files, script_name, setup_of, slice_index_or, unrefused, user_script}
+use Rattle.nit_top.proofs.Basics.{AllByRecursion, AllZip, AreAllFiles, AreOutputs, Configuration, Course, End, Ends, Entry, File, FitsInputLine, FitsLine, Gen, Global, HasRun, Headline, IfSome, InputLine, IsAfterRun, IsAscii, IsConfiguration, IsJournal, IsMadeUpTo, IsRunnable, IsUtf8, IsUtf8-from_ascii, Line, NoFile, NotBegun, Performed, PutError, PutFault, PutFiles, PutState, PutsAll, PutsNext, ReadsClient, Rose, Setup, StoreModel, Totals, Vec, Worked, append-nil, asked_also, client_script, client_text, codes, decimal_digit, end_of_put, end_of_run, file_names, generated_files, generated_setup, get_or-map, get_or-map-range_with_len, input_phases, is_some, length-map, length-map-range_with_len, map-range_with_len_more, name_text, output_name, phases, put_state_of_run, puts_more, range_with_len, refusal_of, script_files, script_name, setup_of, slice_index_or, unrefused, user_script}
 use Rattle.nit_report.specs.Generator.{generated_configuration}
 use Rattle.nit_store.specs.declared.store.PutError.TheVariants as put
-use Rattle.nit_top.specs.declared.report.finish.End.{End}
 use Rattle.nit_top.specs.declared.report.finish.End.TheVariants as ends
 use Rattle.nit_top.specs.declared.report.finish.Name.TheVariants as file_name
-use Rattle.nit_top.specs.Work.{Ends}
 use Rattle.nit_top.proofs.AskedNames.{also_none, also_more, asking_none}
 use Rattle.nit_top.proofs.WorkLemmas.{CameTo, ends_by, performed_ends, totals_on}
 use Rattle.nit_top.proofs.PutLemmas.{PutAll, PutUntil, PutRefused, all_put}

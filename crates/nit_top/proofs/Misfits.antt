@@ -1,6 +1,5 @@
 -- The first script of another number of phases, and scripts that fit.
-use Rattle.std.proofs.Common.{◌≡◌, ◌∙◌, ℕ, ◌+◌, ◌<◌, Bool, true, false, cond, List, [], ◌∷◌, ◌++◌, map, length, take, drop, get_or, Option, Some, None, refl, sym, ap, subst, eqb-true, arith}
-use Rattle.std.specs.Prelude.{◌==◌}
+use Rattle.std.proofs.Common.{◌≡◌, ◌∙◌, ℕ, ◌+◌, ◌<◌, Bool, true, false, cond, List, [], ◌∷◌, ◌++◌, map, length, take, drop, get_or, Option, Some, None, refl, sym, ap, subst, eqb-true, arith, ◌==◌}
 use Rattle.nit_top.proofs.Basics.{AllByRecursion, IfNone, IfSome, Line, Member, RunFiles, eq-eqb, first_other, frames_of, is_some, is_too_long, length-map, length-take-le, misfit, names_in, ne_eqb, nest_of, phase_counts, phases, too_long_for, unless_other}
 use Rattle.nit_top.specs.declared.report.finish.Fault.TheVariants as fault
 use Rattle.nit_top.proofs.Scripts.{map_at, map_more}

@@ -115,8 +115,11 @@ next_stays shown f (Some fault) e = refl
 pub next_goes : (f : File) (old : StoreModel) (fault : Option PutFault) (new : PutState) → is_some fault ≡ false → PutsFile f (put_state_of_run old None) new → PutsNext f (put_state_of_run old fault) new
 next_goes f old fault new e puts = subst (λ (o : Option PutFault). PutsNext f (put_state_of_run old o) new) (sym (none_is fault e)) puts
 
--- where none was, and memory runs out for the text, nothing is put
+-- where memory runs out for the text, nothing is put
+pub no_put : (f : File) (old : StoreModel) (now : PutFault) → output_name now.file ≡ f.0 → now.error ≡ put.NoMemory → PutsFile f (unrefused old) (put_state_of_run old (Some now))
+no_put f old now named is =
+    record { answer = Err put.NoMemory; put = inr refl; kept = ap (λ (n : List ℕ). Some (refused_as n now.error)) named ∙ ap (λ (x : PutError). Some (refused_as f.0 x)) is }
+
+-- so where none was refused before
 pub no_text : (f : File) (old : StoreModel) (fault : Option PutFault) (now : PutFault) → is_some fault ≡ false → output_name now.file ≡ f.0 → now.error ≡ put.NoMemory → PutsNext f (put_state_of_run old fault) (put_state_of_run old (Some now))
-no_text f old fault now e named is =
-    next_goes f old fault (put_state_of_run old (Some now)) e
-    (record { answer = Err put.NoMemory; put = inr refl; kept = ap (λ (n : List ℕ). Some (refused_as n now.error)) named ∙ ap (λ (x : PutError). Some (refused_as f.0 x)) is })
+no_text f old fault now e named is = next_goes f old fault (put_state_of_run old (Some now)) e (no_put f old now named is)

@@ -1,6 +1,5 @@
 -- What the user's input delivers is within the format of texts.
-use Rattle.std.proofs.Common.{◌≡◌, ℕ, ◌-◌, ◌≤◌, Bool, true, false, cond, not, ◌&&◌, List, [], ◌∷◌, ◌++◌, Option, Some, None, refl, arith}
-use Rattle.std.specs.Prelude.{◌==◌}
+use Rattle.std.proofs.Common.{◌≡◌, ℕ, ◌-◌, ◌≤◌, Bool, true, false, cond, not, ◌&&◌, List, [], ◌∷◌, ◌++◌, Option, Some, None, refl, arith, ◌==◌}
 use Rattle.nit_top.proofs.Basics.{AllByRecursion, Delivery, Device, Event, FitsDevice, FitsEvent, FitsItem, Flat, InputState, IsCode, Kill, Mode, Routing, Xray, filter, first_press, focusing, hovering, ignored, is_button, is_held, is_same, kill_button, kill_key, kill_mode, killing, leaving, letting_go, min-le_left, moving, pointer_after, press, pressing, received, release, routing, switching, takes_focus, to, unreceived, with_held, xray_key, xray_mode}
 use Rattle.nit_events.specs.declared.event.Event.TheVariants as event
 use Rattle.nit_events.specs.declared.device.Device.TheVariants as device

@@ -1,7 +1,6 @@
 -- The files of one configuration are judged in one way.
 use Rattle.nit_top.proofs.Basics.{AllByRecursion, AreRead, AreScripts, AreSetup, Configuration, Fault, File, FitsInputLine, FitsLine, HasOneReading, HaveSamePhases, IsClientFault, IsConfig, IsConfigFault, IsFaulty, IsFirstFault, IsInputFault, IsInputsFault, IsNoScript, IsScript, IsSetupFault, Line, Setup, SpellScripts, bytes_of, cases_Bool, client_reading, fault_code, input_phases, input_reading, input_spelling, line_spelling, nat_tests, one_configuration, phases, read_and_bad, read_and_long, same_read, script_names, wanted_by, wrong_client, wrong_input, wrong_phases}
-use Rattle.std.proofs.Common.{◌≡◌, ℕ, true, List, [], ◌∷◌, ◌++◌, Option, Some, None, refl, sym, ap, subst, ◌∙◌, arith, inl, inr, ◌⊎◌}
-use Rattle.std.specs.Prelude.{◌==◌}
+use Rattle.std.proofs.Common.{◌≡◌, ℕ, true, List, [], ◌∷◌, ◌++◌, Option, Some, None, refl, sym, ap, subst, ◌∙◌, arith, inl, inr, ◌⊎◌, ◌==◌}
 use Rattle.nit_config.proofs.ForCallers.{not_both}
 use Rattle.nit_top.specs.declared.report.finish.Fault.TheVariants as fault
 

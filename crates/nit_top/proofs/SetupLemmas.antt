@@ -1,8 +1,7 @@
 -- What the files make of a command, and that it can be run.
 use Rattle.std.proofs.Common.{◌≡◌, Bool, true, ℕ, zero, suc, ◌+◌, ◌≤◌, List, [], ◌∷◌, ◌++◌, length, replicate, take, Some, None, Err, refl, sym, ap, subst, ◌∙◌, arith, inl, inr, append_assoc, ◌*◌, cond}
-use Rattle.nit_top.proofs.Basics.{AllByRecursion, AreAllFiles, AreLines, AreScripts, Command, Configuration, Fault, FirstFiles, FitsInputLine, FitsLine, HasRead, HasReadScripts, HaveSamePhases, IfSome, InputLine, IsClientFault, IsClientScript, IsConfig, IsConfigFault, IsConfiguration, IsInputFault, IsInputScript, IsRunnable, IsValid, Judged, Line, NoFile, Performed, ReadScripts, Refused, Run, SoFar, SpellScripts, Still, Stop, StoppedAmong, StoppedAt, StoreModel, Worked, asking_all, bytes_of, count_by, count_by-le-length, first_names, idle_user, input_phases, is_input_phase, is_phase, length-map, length-replicate, name_text, names_in, phases, reads, script_names, setup_of, slice_get, still_configured, still_setup, sum_by-replicate, take-append_seam, take_all, wanted_by, with_asked, wrong_input, wrong_phases}
+use Rattle.nit_top.proofs.Basics.{AllByRecursion, AreAllFiles, AreLines, AreScripts, Command, Configuration, Ends, Fault, FirstFiles, FitsInputLine, FitsLine, HasRead, HasReadScripts, HaveSamePhases, IfSome, InputLine, IsClientFault, IsClientScript, IsConfig, IsConfigFault, IsConfiguration, IsInputFault, IsInputScript, IsRunnable, IsValid, Judged, Line, NoFile, Performed, ReadScripts, Refused, Run, SoFar, SpellScripts, Still, Stop, StoppedAmong, StoppedAt, StoreModel, Worked, asking_all, bytes_of, count_by, count_by-le-length, first_names, idle_user, input_phases, is_input_phase, is_phase, length-map, length-replicate, name_text, names_in, phases, reads, script_names, setup_of, slice_get, still_configured, still_setup, sum_by-replicate, take-append_seam, take_all, wanted_by, with_asked, wrong_input, wrong_phases}
 use Rattle.nit_script.specs.declared.line.InputLine.TheVariants as input
-use Rattle.nit_top.specs.Work.{Ends}
 use Rattle.nit_top.proofs.AskedNames.{asking_none, asking_both, asking_more}
 use Rattle.nit_top.proofs.Scripts.{told_so, told_so_both, phases_are}
 use Rattle.nit_top.proofs.WorkLemmas.{stopped_ends, performed_ends}

@@ -1,11 +1,9 @@
 -- How the work comes to its end: before a run is begun, and after one.
 use Rattle.std.proofs.Common.{◌≡◌, ℕ, ◌+◌, ◌≤◌, true, false, List, [], ◌∷◌, ◌++◌, length, Option, Some, None, refl, sym, ap, subst, ◌∙◌, inl, inr}
-use Rattle.nit_top.proofs.Basics.{AllFiles, AreAdded, AreAllFiles, AreOutputs, Begun, Came, Command, Configuration, Counts, Course, Entry, Fault, File, FilesRead, HasRead, Headline, IfSome, IsCommandRun, IsLastRead, IsPutBefore, Judged, Name, NoCommand, NoFile, NotBegun, Performed, PutError, PutFault, PutFiles, PutsAll, Refused, Rose, Setup, Stop, StoppedAt, StoreModel, Totals, Worked, append-nil, asked_also, asking_all, bytes_of, end_of_put, end_of_run, file_names, is_outside_of, line_of, name_text, names_read, next_name, option_map, output_name, put_state_of_run, reads, refusal_of, shots, unrefused}
+use Rattle.nit_top.proofs.Basics.{AllFiles, AreAdded, AreAllFiles, AreOutputs, Begun, Came, Command, Configuration, Counts, Course, End, Ends, Entry, Fault, File, FilesRead, HasRead, Headline, IfSome, IsCommandRun, IsLastRead, IsPutBefore, Judged, Name, NoCommand, NoFile, NotBegun, Performed, PutError, PutFault, PutFiles, PutsAll, Refused, Rose, Setup, Stop, StoppedAt, StoreModel, Totals, Worked, append-nil, asked_also, asking_all, bytes_of, end_of_put, end_of_run, file_names, is_outside_of, line_of, name_text, names_read, next_name, option_map, output_name, put_state_of_run, reads, refusal_of, shots, unrefused}
 use Rattle.nit_store.specs.declared.store.PutError.TheVariants as put
-use Rattle.nit_top.specs.declared.report.finish.End.{End}
 use Rattle.nit_top.specs.declared.report.finish.End.TheVariants as ends
 use Rattle.nit_top.specs.declared.report.finish.Name.TheVariants as file_name
-use Rattle.nit_top.specs.Work.{Ends}
 use Rattle.nit_top.proofs.AskedNames.{also_none, also_more}
 use Rattle.nit_top.proofs.PutLemmas.{PutAll, PutRefused, PutSo, all_put}
 

@@ -1,8 +1,7 @@
 -- What the top call answers, and why.
 use Rattle.std.specs.Prelude.{◌≡◌, ◌⊎◌, ℕ, ◌<◌, ◌≤◌, ◌==◌, Bool, true, false, IsTrue, List, [], ◌∷◌, ◌++◌, Option, option_map, Result, Ok, Err, IfSome, IsSomeAnd, if◌then◌else◌}
-use Rattle.nit_top.specs.Below.{Entry, File, PutError, Rose, StoreModel, list_any}
+use Rattle.nit_top.specs.Below.{End, Entry, File, PutError, Rose, StoreModel, list_any}
 use Rattle.nit_store.specs.declared.store.PutError.TheVariants as put
-use Rattle.nit_top.specs.declared.report.finish.End.{End}
 use Rattle.nit_top.specs.declared.report.finish.End.TheVariants as ends
 use Rattle.nit_top.specs.Command.{Gen, NoCommand, Command, command}
 use Rattle.nit_top.specs.Setup.{Setup}

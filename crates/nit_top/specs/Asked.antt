@@ -1,10 +1,9 @@
 -- What the words ask for, as the code has it.
-use Rattle.std.specs.Prelude.{◌^◌, ◌<◌, ◌≤◌, true, false}
-use Rattle.nit_top.specs.declared.command.words.Asked.{Asked}
+use Rattle.std.specs.Prelude.{◌<◌, ◌≤◌, true, false}
+use Rattle.nit_top.specs.Below.{Asked, most_height, most_width}
 use Rattle.nit_top.specs.declared.command.words.Asked.TheVariants as asked
-use Rattle.nit_top.specs.Command.{Command, Still, Run, Gen, Audit, Clip, Capture, Nested}
+use Rattle.nit_top.specs.Command.{Command, Still, Run, Gen, Audit, Clip, Capture, Nested, number_end}
 use Rattle.nit_top.specs.Region.{IsRegionWords}
-use Rattle.nit_top.specs.Below.{most_height, most_width}
 
 -- the command that is asked for
 abbrev pub asks_for : Asked → Command
@@ -22,6 +21,6 @@ asks_for (asked.Nested outer inner) = Nested outer.now inner.now
 abbrev pub IsAskedInRange : Asked → Type 0
 IsAskedInRange (asked.Still width height script) = (0 < width) × (width ≤ most_width) × (0 < height)
     × (height ≤ most_height)
-IsAskedInRange (asked.Gen number) = number < 10 ^ 9
+IsAskedInRange (asked.Gen number) = number < number_end
 IsAskedInRange (asked.Capture config region) = IsRegionWords region
 IsAskedInRange other = Unit {0}

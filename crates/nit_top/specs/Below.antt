@@ -1,6 +1,6 @@
--- The words of the library and of the crates below that are used here.
+-- The words of the library and of the crates below that are used here, and the crate's plain types.
 pub use Rattle.nit_actor.specs.ClipRole.{ClipRole, IsPairIn, PairRole, clip_role_of, pair_role_of}
-pub use Rattle.nit_actor.specs.Drawing.{Drawing, PutsShots, after_turn, drawn, drawn_shot, frame_of, opening_drawing, picture_of, shot_frames_of, shots_after, shots_of, words_of}
+pub use Rattle.nit_actor.specs.Drawing.{Drawing, PutsShots, after_turn, drawn, drawn_shot, frame_of, opening_drawing, picture_of, shot_frames_of, shots_after, shots_of, word_from, words_of}
 pub use Rattle.nit_actor.specs.IdleUser.{StepTogether, idle_user}
 pub use Rattle.nit_actor.specs.Pictures.{AreNearShots, IsNearPicture, PutsShotsBehind}
 pub use Rattle.nit_actor.specs.Role.{Role, UserRole, role_of, user_role_of}
@@ -17,7 +17,7 @@ pub use Rattle.nit_audit.specs.declared.auditing.Verdict.{Verdict}
 pub use Rattle.nit_capture.specs.Capture.{CaptureModel, cropped_bytes, first_capture, next_record, with_last}
 pub use Rattle.nit_capture.specs.Crop.{Shows, crop, crop_bytes, crop_pixel, screen, word_of_bytes}
 pub use Rattle.nit_capture.specs.Film.{film_header, record_of, records, stream}
-pub use Rattle.nit_capture.specs.Tiles.{IsPicture}
+pub use Rattle.nit_capture.specs.Tiles.{IsPicture, IsPictureSize, most_pixels}
 pub use Rattle.nit_clip.specs.ClipGrammar.{clip_phases, is_clip_phase}
 pub use Rattle.nit_clip.specs.ClipSpelling.{FitsClipLine, clip_line_spelling, clip_text}
 pub use Rattle.nit_clip.specs.LegalClips.{IsLegalClips, before_final}
@@ -76,8 +76,9 @@ pub use Rattle.nit_plan.specs.Plan.{IsPlanOf, PlanModel, plan_of_script}
 pub use Rattle.nit_plan.specs.ScriptWords.{Painting, blank, ink, painted_from, static, table_size, words_after, words_left}
 pub use Rattle.nit_plan.specs.SessionLists.{plan_in, script_in}
 pub use Rattle.nit_rect.specs.Intersection.{HasPixels, LiesIn}
-pub use Rattle.nit_rect.specs.Limits.{most_height, most_width, most_words}
+pub use Rattle.nit_rect.specs.Limits.{most_height, most_sessions, most_width, most_words}
 pub use Rattle.nit_rect.specs.Rectangle.{Rectangle, is_place, is_rectangle, rectangle, spans}
+pub use Rattle.nit_rect.specs.declared.memory.NoMemory.{NoMemory}
 pub use Rattle.nit_rect.specs.declared.point.Point.{Point}
 pub use Rattle.nit_report.specs.EventsText.{events_text, taken}
 pub use Rattle.nit_report.specs.Generator.{client_script, client_text, config_text, generated, generated_configuration, is_call, is_device, is_shot_line, script_name, user_script, user_text}
@@ -96,10 +97,21 @@ pub use Rattle.nit_script.specs.declared.line.InputLine.{InputLine}
 pub use Rattle.nit_script.specs.declared.line.Line.{Line}
 pub use Rattle.nit_slots.specs.Account.{IsDonation, buffer_left, buffer_need, view_left, view_need}
 pub use Rattle.nit_stack.specs.Sources.{Bare, Black, PixelSource, Size, Word, among, black_or_word, buffer_place, index_at, owner, pixel, point, shown_index, source_under}
+pub use Rattle.nit_stack.specs.declared.view.View.{View}
 pub use Rattle.nit_store.specs.Puts.{PutRefusal, PutState, PutsAll, PutsFile, PutsNext, PutsUnless, refusal_by, unrefused}
 pub use Rattle.nit_store.specs.Store.{File, IsPut, PutIn, ReadFaulted, Rose, StoreModel, WriteFaulted, bytes_of, file_at, with_asked, with_said}
 pub use Rattle.nit_store.specs.StoreAnswers.{AfterPut, AfterRead, AskedAtMost}
 pub use Rattle.nit_store.specs.declared.store.PutError.{PutError}
+pub use Rattle.nit_top.specs.declared.command.region.Region.{Region}
+pub use Rattle.nit_top.specs.declared.command.words.Asked.{Asked}
+pub use Rattle.nit_top.specs.declared.report.finish.End.{End}
+pub use Rattle.nit_top.specs.declared.report.finish.Fault.{Fault}
+pub use Rattle.nit_top.specs.declared.report.finish.LabelBytes.{LabelBytes}
+pub use Rattle.nit_top.specs.declared.run.inner.Inner.{Inner}
+pub use Rattle.nit_top.specs.declared.setup.memory.Memory.{Memory}
+pub use Rattle.nit_top.specs.declared.setup.opening.Opened.{Opened}
+pub use Rattle.nit_top.specs.declared.setup.pairs.Paired.{Paired}
+pub use Rattle.nit_top.specs.declared.setup.scripts.Scripts.{Scripts}
 pub use Rattle.nit_word.specs.Inks.{IsWord}
 pub use Rattle.nit_word.specs.Sight.{Sight, inked_sight}
 pub use Rattle.std.specs.Fmt.{decimal}

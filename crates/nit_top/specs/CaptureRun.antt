@@ -1,12 +1,10 @@
 -- What a run leaves that is filmed.
 use Rattle.std.specs.Prelude.{◌≡◌, ◌⊎◌, ℕ, ◌+◌, List, [], ◌∷◌, ◌++◌, length, Option, Result, Ok, Err, IfSome}
-use Rattle.nit_rect.specs.declared.memory.NoMemory.{NoMemory}
-use Rattle.nit_top.specs.Below.{CaptureModel, Configuration, Entry, File, PutsAll, StoreModel, first_capture, shots, unrefused}
+use Rattle.nit_top.specs.Below.{CaptureModel, Configuration, Entry, File, NoMemory, PutsAll, Region, StoreModel, first_capture, shots, unrefused}
 use Rattle.nit_top.specs.Region.{rectangle_of}
 use Rattle.nit_top.specs.declared.report.finish.End.TheVariants as end
 use Rattle.nit_top.specs.declared.report.finish.Name.TheVariants as name
 use Rattle.nit_top.specs.declared.report.finish.Worked.{Worked}
-use Rattle.nit_top.specs.declared.command.region.Region.{Region}
 use Rattle.nit_top.specs.declared.report.ran.PutFault.{PutFault}
 use Rattle.nit_top.specs.declared.report.ran.Ran.{Ran}
 use Rattle.nit_top.specs.Setup.{Setup}

@@ -1,9 +1,6 @@
 -- A run in a room with clip scripts: what it begins with, and its clip list at its end.
 use Rattle.std.specs.Prelude.{◌≡◌, ℕ, ◌*◌, ◌≤◌, true, List, [], All, length, map, Result, IfOk, Vec, vec_capacity, vec_len}
-use Rattle.nit_top.specs.Below.{ClipEntry, ClipLine, Configuration, Entry, Global, InputLine, IsPairIn, Line, OpeningParts, Pair, RoomModel, UserPassModel, clip_text, picture_length}
-use Rattle.nit_rect.specs.declared.memory.NoMemory.{NoMemory}
-use Rattle.nit_top.specs.declared.setup.memory.ClipMemory.{ClipMemory}
-use Rattle.nit_top.specs.declared.setup.pairs.Paired.{Paired}
+use Rattle.nit_top.specs.Below.{ClipEntry, ClipLine, Configuration, Entry, Global, InputLine, IsPairIn, Line, NoMemory, OpeningParts, Pair, Paired, RoomModel, UserPassModel, clip_text, picture_length}
 use Rattle.nit_top.specs.Setup.{Setup}
 use Rattle.nit_top.specs.RunClips.{IsClipList}
 use Rattle.nit_top.specs.RoomRun.{IsReady}
@@ -18,15 +15,6 @@ clips_setup config scripts input clips =
 -- the setup of an opening with clip scripts, as it runs
 abbrev pub clips_setup_in : OpeningParts → Setup
 clips_setup_in parts = clips_setup parts.config parts.scripts parts.input parts.clips
-
--- A flag for each client, room for all pairs to wait, and a word and bytes for each pixel of the
--- screen.
-pub record IsClipMemory (config : Configuration) (m : ClipMemory) : Type 0 where
-  pub flags : vec_len m.raised ≡ length config.clients
-  pub waiting : m.waiting.items ≡ []
-  pub room : length config.clients ≤ vec_capacity m.waiting
-  pub frame : length m.frame.items ≡ config.width * config.height
-  pub text : length m.text.items ≡ picture_length config.width config.height
 
 -- there is room for the passes and the clip passes of all pairs
 pub record HasRoomBack (p : Paired) : Type 0 where

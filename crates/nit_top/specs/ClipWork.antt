@@ -1,10 +1,8 @@
 -- What the parts of the work of a run with clip scripts leave.
 use Rattle.std.specs.Prelude.{◌≡◌, ◌⊎◌, ℕ, ◌+◌, ◌≤◌, true, List, [], ◌∷◌, ◌++◌, length, map, Option, None, Result, Ok, Err, IfSome, Vec}
-use Rattle.nit_top.specs.Below.{AllByRecursion, ClipLine, Configuration, Entry, File, Global, PutsAll, StoreModel, shots, unrefused}
-use Rattle.nit_rect.specs.declared.memory.NoMemory.{NoMemory}
+use Rattle.nit_top.specs.Below.{AllByRecursion, ClipLine, Configuration, Entry, File, Global, NoMemory, PutsAll, Scripts, StoreModel, shots, unrefused}
 use Rattle.nit_top.specs.declared.report.finish.Name.TheVariants as name
 use Rattle.nit_top.specs.declared.report.finish.Worked.{Worked}
-use Rattle.nit_top.specs.declared.setup.scripts.Scripts.{Scripts}
 use Rattle.nit_top.specs.declared.report.ran.PutFault.{PutFault}
 use Rattle.nit_top.specs.declared.report.ran.Ran.{Ran}
 use Rattle.nit_top.specs.Setup.{Setup}

@@ -1,7 +1,6 @@
 -- What the words of the command line ask for.
 use Rattle.std.specs.Prelude.{ℕ, ◌^◌, Bool, true, false, List, [], ◌∷◌, map, find, codes, Option, Some, None, String, if◌then◌else◌}
-use Rattle.nit_top.specs.Below.{bytes_eq, decimal, most_height, most_width, range_with_len, string_bytes}
-use Rattle.nit_top.specs.declared.command.region.Region.{Region}
+use Rattle.nit_top.specs.Below.{Region, bytes_eq, decimal, most_height, most_width, range_with_len, string_bytes}
 
 -- the words as lists of bytes
 abbrev pub texts : {Z : Type 0} → List (String Z) → List (List ℕ)
@@ -39,9 +38,13 @@ starts_threads NoCommand = false
 unfoldable pub number_among : ℕ → ℕ → List ℕ → Option ℕ
 number_among first count word = find (λ n. bytes_eq (decimal n) word) (range_with_len first count)
 
+-- the first number of more than nine digits
+abbrev pub number_end : ℕ
+number_end = 10 ^ 9
+
 -- the number that a word spells in at most nine digits
 abbrev pub natural_of : List ℕ → Option ℕ
-natural_of word = number_among 0 (10 ^ 9) word
+natural_of word = number_among 0 number_end word
 
 -- the number of 1 up to most that a word spells
 abbrev pub number_up_to : ℕ → List ℕ → Option ℕ

@@ -1,11 +1,9 @@
 -- What an inner run leaves: frames in a nest, the script that shows them, and the journal.
 use Rattle.std.specs.Prelude.{◌≡◌, ◌⊎◌, ℕ, ◌*◌, ◌++◌, ◌∷◌, [], false, true, List, length, Option, Some, None, Result, Ok, Err}
-use Rattle.nit_top.specs.Below.{Configuration, InputLine, Line, NestError, NestModel, TooLong, frame_answer, nest_script}
+use Rattle.nit_top.specs.Below.{Configuration, End, Inner, InputLine, Line, NestError, NestModel, TooLong, frame_answer, nest_script}
 use Rattle.nit_nested.specs.declared.error.NestError.TheVariants.{NoMemory}
-use Rattle.nit_top.specs.declared.report.finish.End.{End}
 use Rattle.nit_top.specs.declared.report.finish.End.TheVariants as end
 use Rattle.nit_top.specs.declared.report.finish.Fault.TheVariants as fault
-use Rattle.nit_top.specs.declared.run.inner.Inner.{Inner}
 use Rattle.nit_top.specs.Setup.{RunFiles, by_turns}
 use Rattle.nit_top.specs.InnerFrames.{ShowsNest, nest_of}
 use Rattle.nit_top.specs.Judgement.{is_too_long}

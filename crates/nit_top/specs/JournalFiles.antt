@@ -1,19 +1,23 @@
 -- What the bytes of a journal's file make of an audit.
 use Rattle.std.specs.Prelude.{ℕ, ◌^◌, ◌<◌, ◌≤◌, List, length}
-use Rattle.nit_top.specs.Below.{Entry, IsFirstBadEntry, IsGood, IsVerdict, ReadsJournal, Verdict}
+use Rattle.nit_top.specs.Below.{Entry, Fault, IsFirstBadEntry, IsGood, IsVerdict, ReadsJournal, Verdict}
 use Rattle.nit_audit.specs.declared.auditing.Verdict.TheVariants as verdict
-use Rattle.nit_top.specs.declared.report.finish.Fault.{Fault}
 use Rattle.nit_top.specs.declared.report.finish.Fault.TheVariants as fault
 use Rattle.nit_top.specs.Setup.{Setup}
 
--- at most 2^27 bytes that spell these entries
+-- the bytes of a journal's file
+abbrev pub most_journal_bytes : ℕ
+most_journal_bytes = 2 ^ 27
+
+-- at most so many bytes, which spell these entries
 abbrev pub IsJournalText : List ℕ → List Entry → Type 0
-IsJournalText bytes entries = (length bytes ≤ 2 ^ 27) × ReadsJournal bytes entries
+IsJournalText bytes entries = (length bytes ≤ most_journal_bytes) × ReadsJournal bytes entries
 
 -- more bytes than that, or a first line that spells no entry
 abbrev pub IsNoJournalText : List ℕ → Fault → Type 0
-IsNoJournalText bytes fault.LongJournal = 2 ^ 27 < length bytes
-IsNoJournalText bytes (fault.BadEntry line) = (length bytes ≤ 2 ^ 27) × IsFirstBadEntry bytes line
+IsNoJournalText bytes fault.LongJournal = most_journal_bytes < length bytes
+IsNoJournalText bytes (fault.BadEntry line) =
+    (length bytes ≤ most_journal_bytes) × IsFirstBadEntry bytes line
 IsNoJournalText bytes other = ⊥
 
 -- this is the verdict on entries, by the scripts of the setup

@@ -1,9 +1,8 @@
 -- What the files make of the command that names them. They are judged one by one, in the order in
 -- which they are read.
 use Rattle.std.specs.Prelude.{◌≡◌, ◌⊎◌, ℕ, ◌+◌, ◌<◌, ◌≤◌, ◌==◌, nat_lt, Bool, true, false, List, [], ◌∷◌, ◌++◌, length, map, codes, Option, Some, None, option_map, if◌then◌else◌}
-use Rattle.nit_top.specs.Below.{AllZip, ClipLine, Configuration, File, FitsClipLine, FitsInputLine, FitsLine, InputLine, IsConfigurationOf, IsFirstBad, IsTooLong, Line, NestModel, Reads, bytes_of, clip_line_spelling, count_lines, first_forbidden, input_phases, input_spelling, is_clip_phase, is_input_phase, is_phase, line_spelling, lines_of_frames, most_lines, phases, phases_by}
+use Rattle.nit_top.specs.Below.{AllZip, ClipLine, Configuration, Fault, File, FitsClipLine, FitsInputLine, FitsLine, InputLine, IsConfigurationOf, IsFirstBad, IsTooLong, Line, NestModel, Reads, bytes_of, clip_line_spelling, count_lines, first_forbidden, input_phases, input_spelling, is_clip_phase, is_input_phase, is_phase, line_spelling, lines_of_frames, most_lines, phases, phases_by}
 use Rattle.nit_config.specs.ConfigurationText.{MeetsRefusal as IsRefusedConfig}
-use Rattle.nit_top.specs.declared.report.finish.Fault.{Fault}
 use Rattle.nit_top.specs.declared.report.finish.Fault.TheVariants as fault
 use Rattle.nit_top.specs.Command.{Command, Still, Run, Gen, Audit, Clip, Capture, Nested, NoCommand}
 use Rattle.nit_audit.specs.declared.auditing.Verdict.TheVariants as verdict

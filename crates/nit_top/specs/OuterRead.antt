@@ -1,8 +1,7 @@
 -- How the files of the outer configuration are read and judged, one after the other.
 use Rattle.std.specs.Prelude.{◌≡◌, ◌⊎◌, ℕ, List, [], ◌∷◌, ◌++◌, length, None, Result, Ok, Err, IfSome, Vec}
-use Rattle.nit_top.specs.Below.{AllByRecursion, Configuration, FitsLine, Global, InputLine, Line, StoreModel, bytes_of, with_asked}
+use Rattle.nit_top.specs.Below.{AllByRecursion, Configuration, FitsLine, Global, InputLine, Line, Scripts, StoreModel, bytes_of, with_asked}
 use Rattle.nit_top.specs.declared.report.finish.Stop.{Stop}
-use Rattle.nit_top.specs.declared.setup.scripts.Scripts.{Scripts}
 use Rattle.nit_top.specs.Setup.{AreLines}
 use Rattle.nit_top.specs.Judgement.{SpellScripts, script_names, MayShowFrames, AreOuterScripts, IsOuterFault, IsInputScript, IsInputFault}
 use Rattle.nit_top.specs.ProgramLines.{name_text}

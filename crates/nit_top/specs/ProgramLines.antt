@@ -1,12 +1,9 @@
 -- The lines that the program says.
 use Rattle.std.specs.Prelude.{ℕ, List, ◌++◌, take, codes}
-use Rattle.nit_top.specs.Below.{ConfigError, decimal, picture_name, script_name}
+use Rattle.nit_top.specs.Below.{ConfigError, End, Fault, LabelBytes, decimal, picture_name, script_name}
 use Rattle.nit_config.specs.declared.error.ConfigError.TheVariants as config
-use Rattle.nit_top.specs.declared.report.finish.End.{End}
 use Rattle.nit_top.specs.declared.report.finish.End.TheVariants as end
-use Rattle.nit_top.specs.declared.report.finish.Fault.{Fault}
 use Rattle.nit_top.specs.declared.report.finish.Fault.TheVariants as fault
-use Rattle.nit_top.specs.declared.report.finish.LabelBytes.{LabelBytes}
 use Rattle.nit_top.specs.declared.report.finish.Output.{Output}
 use Rattle.nit_top.specs.declared.report.finish.Output.TheVariants as output
 use Rattle.nit_top.specs.declared.report.finish.Name.{Name}

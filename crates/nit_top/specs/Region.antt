@@ -1,11 +1,12 @@
 -- Regions of a screen, by four numbers.
-use Rattle.std.specs.Prelude.{ℕ, ◌+◌, ◌<◌, ◌^◌, Bool, ◌==◌, ◌||◌, pos, nat_lt}
-use Rattle.nit_top.specs.Below.{Rectangle, rectangle}
-use Rattle.nit_top.specs.declared.command.region.Region.{Region}
+use Rattle.std.specs.Prelude.{ℕ, ◌+◌, ◌<◌, Bool, ◌==◌, ◌||◌, pos, nat_lt}
+use Rattle.nit_top.specs.Below.{Rectangle, Region, rectangle}
+use Rattle.nit_top.specs.Command.{number_end}
 
 -- each number has at most nine digits
 abbrev pub IsRegionWords : Region → Type 0
-IsRegionWords r = (r.x < 10 ^ 9) × (r.y < 10 ^ 9) × (r.w < 10 ^ 9) × (r.h < 10 ^ 9)
+IsRegionWords r =
+    (r.x < number_end) × (r.y < number_end) × (r.w < number_end) × (r.h < number_end)
 
 -- the region has no pixels, or does not lie on a screen of this width and height
 abbrev pub is_off_screen : Region → ℕ → ℕ → Bool

@@ -1,7 +1,6 @@
 -- What pictures of a screen, as bytes, show inside a region.
 use Rattle.std.specs.Prelude.{◌≡◌, ℕ, ◌+◌, ◌-◌, ◌*◌, ◌<◌, ◌≤◌, List, length}
-use Rattle.nit_top.specs.Below.{AllZip, Configuration, word_of_bytes}
-use Rattle.nit_top.specs.declared.command.region.Region.{Region}
+use Rattle.nit_top.specs.Below.{AllZip, Configuration, Region, word_of_bytes}
 
 -- two configurations have a screen of one size
 abbrev pub HaveOneScreen : Configuration → Configuration → Type 0

@@ -1,7 +1,6 @@
 -- A run before its first round.
 use Rattle.std.specs.Prelude.{◌≡◌, ◌+◌, ◌*◌, ◌≤◌, List, [], length, map}
-use Rattle.nit_top.specs.Below.{Configuration, InputLine, IsSetUp, Line, PlanModel, Sight, actions_of_turns, donation_of, glass_after, picture_length, plan_of_script, range_with_len, rounds, script_in}
-use Rattle.nit_top.specs.declared.setup.opening.Opened.{Opened}
+use Rattle.nit_top.specs.Below.{Configuration, InputLine, IsSetUp, Line, Opened, PlanModel, Sight, actions_of_turns, donation_of, glass_after, picture_length, plan_of_script, range_with_len, rounds, script_in}
 
 -- the plan of each client's script, in order
 abbrev pub plans_of : Configuration → List (List Line) → List PlanModel

@@ -1,14 +1,11 @@
 -- How the work of a command comes to its end, before the line is said.
 use Rattle.std.specs.Prelude.{◌≡◌, ◌⊎◌, ℕ, ◌+◌, ◌<◌, ◌≤◌, Bool, true, false, List, [], ◌∷◌, ◌++◌, length, Option, Some, None, option_map, Result, Ok, Err, IfSome, Vec}
-use Rattle.nit_top.specs.Below.{AllByRecursion, AskedAtMost, Configuration, Entry, File, FitsLine, Global, InputLine, JournalError, Line, PutError, PutRefusal, PutState, PutsAll, ReadFaulted, ScriptError, StoreModel, bytes_of, shots, unrefused, with_asked}
+use Rattle.nit_top.specs.Below.{AllByRecursion, AskedAtMost, Configuration, End, Entry, Fault, File, FitsLine, Global, InputLine, JournalError, Line, NoMemory, PutError, PutRefusal, PutState, PutsAll, ReadFaulted, ScriptError, Scripts, StoreModel, bytes_of, shots, unrefused, with_asked}
 use Rattle.nit_events.specs.declared.entry.Entry.TheVariants as entry
-use Rattle.nit_rect.specs.declared.memory.NoMemory.{NoMemory}
 use Rattle.nit_script.specs.declared.error.ScriptError.TheVariants as script
 use Rattle.nit_report.specs.declared.error.JournalError.TheVariants as journal
 use Rattle.nit_store.specs.declared.store.PutError.TheVariants as put
-use Rattle.nit_top.specs.declared.report.finish.End.{End}
 use Rattle.nit_top.specs.declared.report.finish.End.TheVariants as end
-use Rattle.nit_top.specs.declared.report.finish.Fault.{Fault}
 use Rattle.nit_top.specs.declared.report.finish.Fault.TheVariants as fault
 use Rattle.nit_top.specs.declared.report.finish.Name.TheVariants as name
 use Rattle.nit_top.specs.declared.report.finish.Stop.{Stop}
@@ -16,7 +13,6 @@ use Rattle.nit_top.specs.declared.report.finish.Worked.{Worked}
 use Rattle.nit_top.specs.declared.report.ran.PutFault.{PutFault}
 use Rattle.nit_top.specs.declared.report.ran.Ran.{Ran}
 use Rattle.nit_top.specs.Command.{Command}
-use Rattle.nit_top.specs.declared.setup.scripts.Scripts.{Scripts}
 use Rattle.nit_top.specs.Judgement.{SpellScripts, wanted_by, script_names, IsClientFault, IsInputScript, IsInputFault, AreScripts}
 use Rattle.nit_top.specs.Setup.{Setup, AreLines, HaveSamePhases}
 use Rattle.nit_top.specs.Outputs.{IsJournal, AreOutputs}

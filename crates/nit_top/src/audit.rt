@@ -1,12 +1,9 @@
 //! The audit of a journal: whether it is one of a run of a configuration's scripts.
 
-ghost use Rattle.std.specs.Prelude.{◌≡◌, ℕ, List, IfSome, false, true, ◌≤◌, ◌^◌, length};
-ghost use Rattle.nit_top.specs.Terms.{Audit, IsAuditEnd, IsConfig, IsConfiguration, IsRunnable, StoreModel, bytes_of, setup_of, with_asked};
-ghost use Rattle.nit_top.specs.Work.{Ends};
+ghost use Rattle.std.specs.Prelude.{◌≡◌, ℕ, List, IfSome, false, true, ◌≤◌, length};
+ghost use Rattle.nit_top.specs.Terms.{Audit, Ends, IsAuditEnd, IsConfig, IsConfiguration, IsRunnable, StoreModel, bytes_of, most_journal_bytes, setup_of, with_asked};
 
-use crate::report::finish::{End, Fault, Worked, at, unbegun};
-use crate::setup::load::load_journal;
-use crate::setup::scripts::{Scripts, read_scripts};
+use crate::{End, Fault, Scripts, Worked, at, load_journal, read_scripts, unbegun};
 use nit_audit::{Verdict, audit};
 use nit_config::Config;
 use nit_events::Entry;
@@ -44,7 +41,7 @@ pub fn audited<'a, S: Store>(
 fn audit_end(alloc: Global, config: &Config, scripts: &Scripts, entries: &[Entry]) -> End
     requires runnable { IsRunnable
         (setup_of config.now scripts.now.clients.items scripts.now.input true false) }
-    requires few { length entries.now ≤ 2 ^ 27 }
+    requires few { length entries.now ≤ most_journal_bytes }
     ensures { IsAuditEnd
         (setup_of config.now scripts.now.clients.items scripts.now.input true false)
         entries.now result }

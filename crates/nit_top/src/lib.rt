@@ -43,5 +43,13 @@ mod run;
 mod setup;
 mod top;
 
+use laws::{generated_runs_count, headline};
 pub use report::finish::Done;
+use report::finish::{End, Fault, LabelBytes, Name, Output, Stop, Worked, at, status, unbegun};
+use report::last::{last_picture, last_with_clips, put_last, take_last};
+use report::ran::{PutFault, Ran, leave_pictures, left, stop_after};
+use run::host::Host;
+use setup::load::{load_client, load_config, load_input, load_journal, load_lines};
+use setup::opening::{Opened, blank_frame, blank_text, open, plans_of, table_words};
+use setup::scripts::{Scripts, read_scripts, wanted_by};
 pub use top::{nitpicker, nitpicker_alone, starts_threads};

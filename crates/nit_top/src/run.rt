@@ -4,6 +4,7 @@ pub mod alone;
 pub mod beside;
 pub mod capture;
 pub mod clips;
+pub mod host;
 pub mod inner;
 pub mod nested;
 pub mod perform;

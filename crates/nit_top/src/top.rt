@@ -1,20 +1,18 @@
 //! The top call.
 
-ghost use Rattle.std.specs.Prelude.{◌<◌, false, ◌≡◌, true, ◌^◌};
-ghost use Rattle.nit_top.specs.Terms.{Answer, Audit, Capture, Clip, Ended, Finished, Gen, IsRegionWords, Nested, Run, command, starts_threads, texts};
+ghost use Rattle.std.specs.Prelude.{◌<◌, false, ◌≡◌, true};
+ghost use Rattle.nit_top.specs.Terms.{Answer, Audit, Capture, Clip, Ended, Finished, Gen, IsRegionWords, Nested, Run, command, number_end, starts_threads, texts};
 
 use crate::audit::audited;
 use crate::command::region::Region;
 use crate::command::words::{Asked, parse_words};
-use crate::laws::generated_runs_count;
-use crate::report::finish::{Done, End, Worked, at, status, unbegun};
 use crate::report::say::tell;
 use crate::run::capture::capture;
 use crate::run::clips::clip;
 use crate::run::nested::nested;
 use crate::run::perform;
-use crate::setup::load::load_config;
 use crate::setup::outer::read_outer;
+use crate::{Done, End, Host, Worked, at, generated_runs_count, load_config, status, unbegun};
 use nit_actor::Gate;
 use nit_store::Store;
 use std::alloc::Global;
@@ -35,12 +33,13 @@ pub fn nitpicker<R: Threads + Wait + Sync, S: Store, G: Gate>(
         (S.shown store.new) result.status result.journal.items }
 {
     generated_runs_count();
+    let host = Host { rt, alloc, gate };
     match parse_words(words) {
-        Some(Asked::Run { config }) => beside(rt, alloc, store, config, gate),
-        Some(Asked::Gen { number }) => made(rt, alloc, store, number, gate),
-        Some(Asked::Clip { config }) => clipped(rt, alloc, store, config, gate),
-        Some(Asked::Capture { config, region }) => filmed(rt, alloc, store, config, region, gate),
-        Some(Asked::Nested { outer, inner }) => within(rt, alloc, store, outer, inner, gate),
+        Some(Asked::Run { config }) => beside(&host, store, config),
+        Some(Asked::Gen { number }) => made(&host, store, number),
+        Some(Asked::Clip { config }) => clipped(&host, store, config),
+        Some(Asked::Capture { config, region }) => filmed(&host, store, config, region),
+        Some(Asked::Nested { outer, inner }) => within(&host, store, outer, inner),
         _ => nitpicker_alone(alloc, words, store),
     }
 }
@@ -130,108 +129,98 @@ fn audit<S: Store>(alloc: Global, store: &mut S, name: &str, journal: &str) -> D
 
 /// Runs the configuration of this name with each client on a thread of its own.
 fn beside<R: Threads + Wait + Sync, S: Store, G: Gate>(
-    rt: &R,
-    alloc: Global,
+    host: &Host<R, G>,
     store: &mut S,
     name: &str,
-    gate: &G,
 ) -> Done
     ensures { Ended (S.shown store.old) (Run true name.now)
         (S.shown store.new) result.status result.journal.items }
 {
-    let config = match load_config(alloc, store, name) {
+    let config = match load_config(host.alloc, store, name) {
         Ok(config) => config,
-        Err(stop) => return finish(store, unbegun(alloc, stop)),
+        Err(stop) => return finish(store, unbegun(host.alloc, stop)),
     };
-    let worked = perform::beside(rt, alloc, store, &config, gate);
+    let worked = perform::beside(host, store, &config);
     finish(store, worked)
 }
 
 /// Makes the files of the generated run of this number, and runs it with each client on a thread of
 /// its own.
 fn made<R: Threads + Wait + Sync, S: Store, G: Gate>(
-    rt: &R,
-    alloc: Global,
+    host: &Host<R, G>,
     store: &mut S,
     number: u32,
-    gate: &G,
 ) -> Done
-    requires { number < 10 ^ 9 }
+    requires { number < number_end }
     ensures { Ended (S.shown store.old) (Gen number)
         (S.shown store.new) result.status result.journal.items }
 {
-    let worked = perform::generated(rt, alloc, store, number, gate);
+    let worked = perform::generated(host, store, number);
     finish(store, worked)
 }
 
 /// Runs the configuration of this name with each client on a thread of its own, and a clip script
 /// for each.
 fn clipped<R: Threads + Wait + Sync, S: Store, G: Gate>(
-    rt: &R,
-    alloc: Global,
+    host: &Host<R, G>,
     store: &mut S,
     name: &str,
-    gate: &G,
 ) -> Done
     ensures { Ended (S.shown store.old) (Clip name.now)
         (S.shown store.new) result.status result.journal.items }
 {
-    let config = match load_config(alloc, store, name) {
+    let config = match load_config(host.alloc, store, name) {
         Ok(config) => config,
-        Err(stop) => return finish(store, unbegun(alloc, stop)),
+        Err(stop) => return finish(store, unbegun(host.alloc, stop)),
     };
-    let worked = clip(rt, alloc, store, &config, gate);
+    let worked = clip(host, store, &config);
     finish(store, worked)
 }
 
 /// Runs the configuration of this name with each client on a thread of its own, and films the
 /// region.
 fn filmed<R: Threads + Wait + Sync, S: Store, G: Gate>(
-    rt: &R,
-    alloc: Global,
+    host: &Host<R, G>,
     store: &mut S,
     name: &str,
     region: Region,
-    gate: &G,
 ) -> Done
     requires { IsRegionWords region }
     ensures { Ended (S.shown store.old) (Capture name.now region)
         (S.shown store.new) result.status result.journal.items }
 {
-    let config = match load_config(alloc, store, name) {
+    let config = match load_config(host.alloc, store, name) {
         Ok(config) => config,
-        Err(stop) => return finish(store, unbegun(alloc, stop)),
+        Err(stop) => return finish(store, unbegun(host.alloc, stop)),
     };
-    let worked = capture(rt, alloc, store, &config, region, gate);
+    let worked = capture(host, store, &config, region);
     finish(store, worked)
 }
 
 /// Runs the configuration of the first name with each client on a thread of its own, the first one
 /// showing what the run of the configuration of the second name shows.
 fn within<R: Threads + Wait + Sync, S: Store, G: Gate>(
-    rt: &R,
-    alloc: Global,
+    host: &Host<R, G>,
     store: &mut S,
     outer: &str,
     inner: &str,
-    gate: &G,
 ) -> Done
     ensures { Ended (S.shown store.old) (Nested outer.now inner.now)
         (S.shown store.new) result.status result.journal.items }
 {
-    let config = match load_config(alloc, store, outer) {
+    let config = match load_config(host.alloc, store, outer) {
         Ok(config) => config,
-        Err(stop) => return finish(store, unbegun(alloc, stop)),
+        Err(stop) => return finish(store, unbegun(host.alloc, stop)),
     };
-    let shown = match read_outer(alloc, store, &config) {
+    let shown = match read_outer(host.alloc, store, &config) {
         Ok(shown) => shown,
-        Err(stop) => return finish(store, unbegun(alloc, stop)),
+        Err(stop) => return finish(store, unbegun(host.alloc, stop)),
     };
-    let within = match load_config(alloc, store, inner) {
+    let within = match load_config(host.alloc, store, inner) {
         Ok(within) => within,
-        Err(stop) => return finish(store, unbegun(alloc, stop)),
+        Err(stop) => return finish(store, unbegun(host.alloc, stop)),
     };
-    let worked = nested(rt, alloc, store, &config, shown, inner, &within, gate);
+    let worked = nested(host, store, &config, shown, inner, &within);
     finish(store, worked)
 }
 

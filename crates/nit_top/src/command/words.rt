@@ -1,7 +1,7 @@
 //! The words of the command line.
 
-ghost use Rattle.std.specs.Prelude.{◌<◌, ◌≡◌, IfSome, IfNone, Some, ◌^◌, ◌≤◌};
-ghost use Rattle.nit_top.specs.Terms.{IsAskedInRange, NoCommand, asks_for, capture, capture_command, command, gen, most_height, most_width, natural_of, number_up_to, pair_of, run_of, still, still_of, texts};
+ghost use Rattle.std.specs.Prelude.{◌<◌, ◌≡◌, IfSome, IfNone, Some, ◌≤◌};
+ghost use Rattle.nit_top.specs.Terms.{IsAskedInRange, NoCommand, asks_for, capture, capture_command, command, gen, most_height, most_width, natural_of, number_end, number_up_to, pair_of, run_of, still, still_of, texts};
 
 use crate::command::region::Region;
 use nit_rect::{MOST_HEIGHT, MOST_WIDTH};
@@ -216,7 +216,7 @@ fn captured<'a>(config: &'a str, x: &str, y: &str, w: &str, h: &str) -> Option<A
 /// The number below 10^9 that the word spells.
 fn whole_number(word: &str) -> Option<u32>
     ensures number { result ≡ natural_of word.now }
-    ensures range { IfSome result (λ n. n < 10 ^ 9) }
+    ensures range { IfSome result (λ n. n < number_end) }
 {
     natural(word.as_bytes())
 }

@@ -4,13 +4,12 @@ ghost use Rattle.std.specs.Prelude.{◌≡◌, ◌≤◌, [], ℕ, List, IfOk, v
 ghost use Rattle.nit_top.specs.Terms.{PutsNext, clips_name, film_name, inner_journal_name, journal_text, put_state_of_run};
 
 use crate::report::film::Film;
-use crate::report::finish::Output;
-use crate::report::puts::put_next;
-use crate::report::ran::{PutFault, Ran};
+use crate::report::puts::put_made;
+use crate::{Output, PutFault, Ran};
 use nit_events::Entry;
 use nit_rect::NoMemory;
 use nit_report::journal_text;
-use nit_store::{PutError, Store};
+use nit_store::Store;
 use std::alloc::Global;
 
 /// Puts the clip list behind the files of a run, unless a put was refused before. Want of memory
@@ -22,31 +21,8 @@ pub fn put_clips<S: Store>(store: &mut S, ran: Ran, list: Result<Vec<u8>, NoMemo
         → PutsNext (clips_name, text) (put_state_of_run (S.shown store.old) ran.fault)
         (put_state_of_run (S.shown store.new) result.fault) }
 {
-    let fault = put_list(store, ran.fault, list);
+    let fault = put_made(store, ran.fault, Output::Clips, "clip.txt", list);
     ran.with_fault(fault)
-}
-
-/// Puts the clip list, unless a put was refused before. Gives the put that was refused, if there is
-/// one. Want of memory for the text counts as a put that is refused.
-fn put_list<S: Store>(
-    store: &mut S,
-    fault: Option<PutFault>,
-    list: Result<Vec<u8>, NoMemory>,
-) -> Option<PutFault>
-    ensures { (text : List ℕ) → IfOk list (λ v. v.items ≡ text)
-        → PutsNext (clips_name, text) (put_state_of_run (S.shown store.old) fault)
-        (put_state_of_run (S.shown store.new) result) }
-{
-    if fault.is_some() {
-        return fault;
-    }
-    match list {
-        Ok(bytes) => put_next(store, None, Output::Clips, "clip.txt", &bytes),
-        Err(_) => Some(PutFault {
-            file: Output::Clips,
-            error: PutError::NoMemory,
-        }),
-    }
 }
 
 /// Puts a film behind the files of a run, unless a put was refused before. One that is not whole is
@@ -78,26 +54,16 @@ fn put_film<S: Store>(
     ensures not_whole { whole ≡ false → (bytes : List ℕ) → PutsNext (film_name, bytes)
         (put_state_of_run (S.shown store.old) fault) (put_state_of_run (S.shown store.new) result) }
 {
-    if fault.is_some() {
-        return fault;
-    }
-    if !whole {
-        return Some(unfilmed());
-    }
-    match film.into_stream() {
-        Ok(bytes) => put_next(store, None, Output::Film, "capture.ncap", &bytes),
-        Err(_) => Some(unfilmed()),
-    }
-}
-
-/// The put of a film for which memory ran out.
-fn unfilmed() -> PutFault
-    ensures file { result.file ≡ Output.Film }
-    ensures error { result.error ≡ PutError.NoMemory }
-{
-    PutFault {
-        file: Output::Film,
-        error: PutError::NoMemory,
+    if whole {
+        put_made(
+            store,
+            fault,
+            Output::Film,
+            "capture.ncap",
+            film.into_stream(),
+        )
+    } else {
+        put_made(store, fault, Output::Film, "capture.ncap", Err(NoMemory))
     }
 }
 
@@ -115,17 +81,12 @@ pub fn put_inner_journal<S: Store>(
     if fault.is_some() {
         return fault;
     }
-    match journal_text(alloc, journal) {
-        Ok(bytes) => put_next(
-            store,
-            None,
-            Output::InnerJournal,
-            "inner-journal.txt",
-            &bytes,
-        ),
-        Err(_) => Some(PutFault {
-            file: Output::InnerJournal,
-            error: PutError::NoMemory,
-        }),
-    }
+    let text = journal_text(alloc, journal);
+    put_made(
+        store,
+        fault,
+        Output::InnerJournal,
+        "inner-journal.txt",
+        text,
+    )
 }

@@ -1,11 +1,7 @@
 //! A film while it is made.
 
 ghost use Rattle.std.specs.Prelude.{◌≡◌, ◌≤◌, ◌*◌, true, ◌++◌, ◌∷◌, [], IfOk, OnOk, length};
-ghost use Rattle.nit_capture.specs.Crop.{screen};
-ghost use Rattle.nit_capture.specs.Tiles.{most_pixels, IsPictureSize};
-ghost use Rattle.nit_rect.specs.Intersection.{HasPixels, LiesIn};
-ghost use Rattle.nit_capture.specs.Capture.{first_capture, next_record, cropped_bytes, with_last};
-ghost use Rattle.nit_capture.specs.Film.{film_header};
+ghost use Rattle.nit_top.specs.Below.{HasPixels, IsPictureSize, LiesIn, cropped_bytes, film_header, first_capture, most_pixels, next_record, screen, with_last};
 
 use nit_capture::Capture;
 use nit_rect::{NoMemory, Rect};

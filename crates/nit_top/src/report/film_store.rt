@@ -1,9 +1,8 @@
 //! A store that films the pictures that are put through it.
 
 ghost use Rattle.std.specs.Prelude.{◌≡◌};
-ghost use Rattle.nit_capture.specs.Capture.{with_last};
+ghost use Rattle.nit_top.specs.Below.{most_lines, with_last};
 ghost use Rattle.nit_top.specs.FilmStore.{IsFilmOf, picture_names};
-ghost use Rattle.nit_script.specs.Grammar.{most_lines};
 
 use crate::report::film::Film;
 use crate::report::filmed::{is_picture_name, is_shot_name, put_filmed};

@@ -3,7 +3,7 @@
 ghost use Rattle.std.specs.Prelude.{◌≡◌, ◌+◌, ◌≤◌, length, ◌<◌, IfSome};
 ghost use Rattle.nit_top.specs.Terms.{StoreModel, end_of_run, is_shot_entry, put_state_of_desk, put_state_of_run, shots};
 
-use crate::report::finish::{End, Name, Output, Stop, Worked, at};
+use crate::{End, Name, Output, Stop, Worked, at};
 use nit_actor::PictureName;
 use nit_events::Entry;
 use nit_rect::NoMemory;

@@ -3,9 +3,8 @@
 ghost use Rattle.std.specs.Prelude.{◌≡◌, ◌+◌, ◌++◌, ◌∷◌, [], ◌<◌, length, ◌≤◌, take};
 ghost use Rattle.nit_top.specs.Terms.{PutsAll, PutsFile, PutsNext, ending_of, events_files, events_name, events_text, journal_file, output_name, put_state_of_run, session, shots, state_now, unrefused};
 
-use crate::report::finish::{LabelBytes, Output};
-use crate::report::puts::put_next;
-use crate::report::ran::{PutFault, Ran, left};
+use crate::report::puts::put_made;
+use crate::{LabelBytes, Output, PutFault, Ran, left};
 use nit_config::Member;
 use nit_events::Entry;
 use nit_glyph::Label;
@@ -60,28 +59,26 @@ pub fn put_events<S: Store, G: Glass + Drop>(
     let _ = scene.size();
     let mut fault = fault;
     for (sid, client) in clients.iter().enumerate() {
-        fault = put_events_of(alloc, store, fault, &client.label, scene, sid as u32);
+        if fault.is_none() {
+            fault = put_events_of(alloc, store, &client.label, scene, sid as u32);
+        }
     }
     fault
 }
 
-/// Puts the events of one client, which has this label, unless a put was refused before.
+/// Puts the events of one client, which has this label. Gives the put, where it is refused.
 fn put_events_of<S: Store, G: Glass + Drop>(
     alloc: Global,
     store: &mut S,
-    fault: Option<PutFault>,
     label: &Label,
     scene: &Scene<G>,
     sid: u32,
 ) -> Option<PutFault>
     requires { sid < length scene.now.config.clients }
     ensures { let end = ending_of (session (state_now scene.now) sid) in
-        PutsNext (events_name label.now, events_text scene.now.entries sid end)
-        (put_state_of_run (S.shown store.old) fault) (put_state_of_run (S.shown store.new) result) }
+        PutsFile (events_name label.now, events_text scene.now.entries sid end)
+        (unrefused (S.shown store.old)) (put_state_of_run (S.shown store.new) result) }
 {
-    if fault.is_some() {
-        return fault;
-    }
     let entries = scene.journal().entries();
     match events_text(alloc, entries, sid, &ending(scene, sid)) {
         Ok(bytes) => put_named(store, label, &bytes),
@@ -155,11 +152,6 @@ pub fn put_journal<S: Store>(
     if fault.is_some() {
         return fault;
     }
-    match journal_text(alloc, journal) {
-        Ok(bytes) => put_next(store, None, Output::Journal, "journal.txt", &bytes),
-        Err(_) => Some(PutFault {
-            file: Output::Journal,
-            error: PutError::NoMemory,
-        }),
-    }
+    let text = journal_text(alloc, journal);
+    put_made(store, fault, Output::Journal, "journal.txt", text)
 }

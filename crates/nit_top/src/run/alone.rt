@@ -4,10 +4,8 @@ ghost use Rattle.std.specs.Prelude.{false, ◌++◌, ◌∷◌, [], map, ◌≡�
 ghost use Rattle.nit_top.specs.Terms.{AreDone, HasRun, IsAlone, IsDoneUser, IsOpen, IsReady, IsReadyAlone, IsRunnable, Runs, picture_length, setup_of};
 ghost use Rattle.nit_events.specs.declared.entry.Entry.TheVariants as entry;
 
-use crate::report::last::last_picture;
-use crate::report::ran::{PutFault, Ran, leave_pictures};
 use crate::setup::memory::{buffers_of, canvases_of};
-use crate::setup::opening::{blank_frame, blank_text, plans_of};
+use crate::{PutFault, Ran, blank_frame, blank_text, last_picture, leave_pictures, plans_of};
 use nit_actor::laws::{each_line_once, idle_user_does_nothing, one_client_goes_by_rounds};
 use nit_actor::{Desk, PictureName, run_alone};
 use nit_config::Config;

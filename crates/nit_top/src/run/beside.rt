@@ -3,14 +3,12 @@
 ghost use Rattle.std.specs.Prelude.{true, ◌≡◌};
 ghost use Rattle.nit_top.specs.Terms.{HasRun, IsMemory, IsReady, IsRunnable, Runs, frame, setup_of};
 
-use crate::report::last::last_picture;
-use crate::report::ran::{PutFault, Ran};
 use crate::report::texts::leave_texts;
 use crate::setup::memory::{Memory, buffers_of, canvases_of};
-use crate::setup::opening::plans_of;
+use crate::{Host, PutFault, Ran, last_picture, plans_of};
 use nit_actor::{Desk, Gate, Mine, PictureName};
 use nit_config::{Config, Member};
-use nit_hall::{Hall, Name, Opened, open};
+use nit_hall::{Hall, Name, Opened, Pass, open};
 use nit_rect::NoMemory;
 use nit_script::{Client, Input};
 use nit_store::Store;
@@ -23,9 +21,7 @@ use std::thread::Threads;
 /// Each shot is put as it is taken, then the last picture, and then the texts, until a put is
 /// refused. Where memory runs out before the first thread, nothing was done.
 pub fn run_beside<R: Threads + Wait + Sync, S: Store, G: Gate>(
-    rt: &R,
-    alloc: Global,
-    gate: &G,
+    host: &Host<R, G>,
     config: &Config,
     scripts: &[Client],
     input: &Input,
@@ -35,24 +31,23 @@ pub fn run_beside<R: Threads + Wait + Sync, S: Store, G: Gate>(
     ensures { Runs (S.shown store.old) (setup_of config.now scripts.now input.now true true)
         (S.shown store.new) result }
 {
+    let alloc = host.alloc;
     let plans = plans_of(alloc, config, scripts)?;
     let (buffers, keys) = buffers_of(alloc, config, &plans)?;
     let canvases = canvases_of(alloc, &buffers, keys)?;
     let opened = open(alloc, config, scripts, &plans, input, canvases)?;
     let memory = Memory::new(alloc, config)?;
     let clients = config.clients.as_slice();
-    Ok(run_named::<Brand, R, S, G>(rt, alloc, gate, clients, opened, memory, store))
+    Ok(run_named::<Brand, R, S, G>(host, clients, opened, memory, store))
 }
 
 /// Runs an opening that N names, takes the last picture, and puts what is to be put behind the
 /// pictures of the shots. Until the texts it takes no memory.
 fn run_named<'a, N: Name + Send + Sync, R: Threads + Wait + Sync, S: Store, G: Gate>(
-    rt: &R,
-    alloc: Global,
-    gate: &G,
+    host: &Host<R, G>,
     clients: &[Member],
     opened: Opened<'a>,
-    memory: Memory<'a>,
+    memory: Memory<Pass<'a>>,
     store: &mut S,
 ) -> Ran
     requires ready { IsReady N.parts opened.room opened.passes.items opened.user }
@@ -79,7 +74,9 @@ fn run_named<'a, N: Name + Send + Sync, R: Threads + Wait + Sync, S: Store, G: G
     };
     let mine = Mine { user, desk };
     let hall: Hall<'a, N> = Hall::new(room);
-    let mine = nit_actor::run_beside(rt, &hall, gate, &raised, passes, waiting, &mut back, mine);
+    let mine = nit_actor::run_beside(
+        host.rt, &hall, host.gate, &raised, passes, waiting, &mut back, mine,
+    );
     let Mine { user, mut desk } = mine;
     let scene = last_picture(hall.into_room(), back, user, &mut desk);
     let Desk {
@@ -90,5 +87,5 @@ fn run_named<'a, N: Name + Send + Sync, R: Threads + Wait + Sync, S: Store, G: G
         tried,
     } = desk;
     let fault = PutFault::of_picture(fault, tried);
-    leave_texts(alloc, store, fault, clients, scene)
+    leave_texts(host.alloc, store, fault, clients, scene)
 }

@@ -1,23 +1,18 @@
 //! The run of a configuration that is filmed.
 
 ghost use Rattle.std.specs.Prelude.{◌≡◌, ◌+◌, ℕ, List, IfSome, false, true, ◌≤◌};
-ghost use Rattle.nit_top.specs.Terms.{Capture, IsConfig, IsConfiguration, IsFilmOf, IsRegionWords, IsRunnable, PerformedFilmed, Region, Runs, RunsFilmed, StoreModel, begun_of, bytes_of, film_header, is_off_screen, picture_names, setup_of, with_asked};
-ghost use Rattle.nit_top.specs.Work.{Ends};
+ghost use Rattle.nit_top.specs.Terms.{Capture, Ends, IsConfig, IsConfiguration, IsFilmOf, IsRegionWords, IsRunnable, PerformedFilmed, Region, Runs, RunsFilmed, StoreModel, begun_of, bytes_of, film_header, is_off_screen, picture_names, setup_of, with_asked};
 
 use crate::command::region::Region;
-use crate::laws::headline;
 use crate::report::added::end_film;
 use crate::report::film::Film;
 use crate::report::film_store::{FilmStore, Filming, Reel};
-use crate::report::finish::{End, Worked, at, unbegun};
-use crate::report::ran::Ran;
 use crate::run::beside::run_beside;
-use crate::setup::scripts::{Scripts, read_scripts};
+use crate::{End, Host, Ran, Scripts, Worked, at, headline, read_scripts, unbegun};
 use nit_actor::Gate;
 use nit_config::Config;
 use nit_rect::NoMemory;
 use nit_store::Store;
-use std::alloc::Global;
 use std::marker::{Brand, PhantomData};
 use std::sync::Wait;
 use std::thread::Threads;
@@ -25,12 +20,10 @@ use std::thread::Threads;
 /// Runs the scripts of a configuration with each client on a thread of its own, and films a region
 /// of the screen, which is to lie on it.
 pub fn capture<'a, R: Threads + Wait + Sync, S: Store, G: Gate>(
-    rt: &R,
-    alloc: Global,
+    host: &Host<R, G>,
     store: &mut S,
     config: &'a Config,
     region: Region,
-    gate: &G,
 ) -> Worked<'a>
     requires configured { IsConfiguration config.now }
     requires numbers { IsRegionWords region }
@@ -38,26 +31,24 @@ pub fn capture<'a, R: Threads + Wait + Sync, S: Store, G: Gate>(
         → IfSome first.files (λ files. IsConfig (bytes_of name files) config.entry.now)
         → Ends (Capture name region) first (S.shown store.new) result }
 {
-    let scripts = match read_scripts(alloc, store, config) {
+    let scripts = match read_scripts(host.alloc, store, config) {
         Ok(scripts) => scripts,
-        Err(stop) => return unbegun(alloc, stop),
+        Err(stop) => return unbegun(host.alloc, stop),
     };
     if region.is_outside(config.width, config.height) {
-        return unbegun(alloc, at(End::Outside, ""));
+        return unbegun(host.alloc, at(End::Outside, ""));
     }
-    perform_filmed(rt, alloc, store, config, &scripts, region, gate)
+    perform_filmed(host, store, config, &scripts, region)
 }
 
 /// Runs a setup with texts, each client on a thread of its own, and films a region of the screen. A
 /// run that is not begun leaves everything.
 fn perform_filmed<'a, R: Threads + Wait + Sync, S: Store, G: Gate>(
-    rt: &R,
-    alloc: Global,
+    host: &Host<R, G>,
     store: &mut S,
     config: &Config,
     scripts: &Scripts,
     region: Region,
-    gate: &G,
 ) -> Worked<'a>
     requires runnable { IsRunnable
         (setup_of config.now scripts.now.clients.items scripts.now.input true true) }
@@ -69,20 +60,18 @@ fn perform_filmed<'a, R: Threads + Wait + Sync, S: Store, G: Gate>(
     headline();
     let clients = scripts.clients.as_slice();
     let rect = region.rect(config.width, config.height);
-    let Ok(film) = Film::new(alloc, config.width, config.height, rect) else {
-        return unbegun(alloc, at(End::NoMemory, ""));
+    let Ok(film) = Film::new(host.alloc, config.width, config.height, rect) else {
+        return unbegun(host.alloc, at(End::NoMemory, ""));
     };
-    let Ok(ran) = run_filmed(rt, alloc, gate, config, scripts, film, store) else {
-        return unbegun(alloc, at(End::NoMemory, ""));
+    let Ok(ran) = run_filmed(host, config, scripts, film, store) else {
+        return unbegun(host.alloc, at(End::NoMemory, ""));
     };
     ran.worked(clients.len())
 }
 
 /// Runs a setup through a store that adds its pictures to this film, and puts the film last.
 fn run_filmed<R: Threads + Wait + Sync, S: Store, G: Gate>(
-    rt: &R,
-    alloc: Global,
-    gate: &G,
+    host: &Host<R, G>,
     config: &Config,
     scripts: &Scripts,
     film: Film,
@@ -103,7 +92,7 @@ fn run_filmed<R: Threads + Wait + Sync, S: Store, G: Gate>(
         ended: false,
         whole: true,
     };
-    let Reeled { reel, ran } = film_named::<Brand, R, S, G>(rt, alloc, gate, config, scripts, reel);
+    let Reeled { reel, ran } = film_named::<Brand, R, S, G>(host, config, scripts, reel);
     let Reel {
         store,
         film,
@@ -127,9 +116,7 @@ struct Reeled<'s, S> {
 
 /// Runs a setup through the store of a film, which F names.
 fn film_named<'s, F: Filming, R: Threads + Wait + Sync, S: Store, G: Gate>(
-    rt: &R,
-    alloc: Global,
-    gate: &G,
+    host: &Host<R, G>,
     config: &Config,
     scripts: &Scripts,
     reel: Reel<'s, S>,
@@ -163,7 +150,7 @@ fn film_named<'s, F: Filming, R: Threads + Wait + Sync, S: Store, G: Gate>(
         of: PhantomData,
     };
     let clients = scripts.clients.as_slice();
-    let ran = run_beside(rt, alloc, gate, config, clients, &scripts.input, &mut front);
+    let ran = run_beside(host, config, clients, &scripts.input, &mut front);
     let FilmStore {
         store,
         film,

@@ -2,21 +2,18 @@
 //! calling thread.
 
 ghost use Rattle.std.specs.Prelude.{◌≡◌, ◌≤◌, [], ℕ, List, IfSome, vec_capacity, vec_len, length};
-ghost use Rattle.nit_top.specs.Terms.{Clip, HasRoomBack, HasRunClips, IsClipMemory, IsConfig, IsConfiguration, IsReadyWithClips, IsRunnable, PerformedClips, RunsClips, StoreModel, bytes_of, clips_setup_in, clips_setup_of, with_asked};
-ghost use Rattle.nit_top.specs.Work.{Ends};
+ghost use Rattle.nit_top.specs.Terms.{Clip, Ends, HasRoomBack, HasRunClips, IsConfig, IsConfiguration, IsMemory, IsReadyWithClips, IsRunnable, PerformedClips, RunsClips, StoreModel, bytes_of, clips_setup_in, clips_setup_of, with_asked};
 
-use crate::laws::headline;
 use crate::report::added::put_clips;
-use crate::report::finish::{End, Worked, at, unbegun};
-use crate::report::last::last_with_clips;
-use crate::report::ran::{PutFault, Ran};
 use crate::report::texts::leave_texts;
 use crate::setup::clip_load::load_clips;
-use crate::setup::memory::{ClipMemory, buffers_of, canvases_of};
-use crate::setup::opening::plans_of;
+use crate::setup::memory::{Memory, buffers_of, canvases_of};
 use crate::setup::pairs::{Paired, open_pairs, take_apart};
-use crate::setup::scripts::{Scripts, read_scripts, wanted_by};
-use nit_actor::{Desk, Gate, Mine, PictureName, run_beside_clips};
+use crate::{
+    End, Host, PutFault, Ran, Scripts, Worked, at, headline, last_with_clips, plans_of,
+    read_scripts, unbegun, wanted_by,
+};
+use nit_actor::{Desk, Gate, Mine, Pair, PictureName, run_beside_clips};
 use nit_clip::ClipScript;
 use nit_config::{Config, Member};
 use nit_hall::{Hall, Name};
@@ -30,39 +27,35 @@ use std::thread::Threads;
 /// Runs the scripts of a configuration with each client on a thread of its own, and a clip script
 /// for each.
 pub fn clip<'a, R: Threads + Wait + Sync, S: Store, G: Gate>(
-    rt: &R,
-    alloc: Global,
+    host: &Host<R, G>,
     store: &mut S,
     config: &'a Config,
-    gate: &G,
 ) -> Worked<'a>
     requires { IsConfiguration config.now }
     ensures { (name : List ℕ) → (first : StoreModel) → (S.shown store.old) ≡ with_asked first name
         → IfSome first.files (λ files. IsConfig (bytes_of name files) config.entry.now)
         → Ends (Clip name) first (S.shown store.new) result }
 {
-    let scripts = match read_scripts(alloc, store, config) {
+    let scripts = match read_scripts(host.alloc, store, config) {
         Ok(scripts) => scripts,
-        Err(stop) => return unbegun(alloc, stop),
+        Err(stop) => return unbegun(host.alloc, stop),
     };
     let wanted = wanted_by(&scripts.clients);
-    let clips = match load_clips(alloc, store, &config.clients, wanted) {
+    let clips = match load_clips(host.alloc, store, &config.clients, wanted) {
         Ok(clips) => clips,
-        Err(stop) => return unbegun(alloc, stop),
+        Err(stop) => return unbegun(host.alloc, stop),
     };
-    perform_clips(rt, alloc, store, config, &scripts, &clips, gate)
+    perform_clips(host, store, config, &scripts, &clips)
 }
 
 /// Runs a setup with texts and a clip script for each client. A run that is not begun leaves
 /// everything.
 fn perform_clips<'a, R: Threads + Wait + Sync, S: Store, G: Gate>(
-    rt: &R,
-    alloc: Global,
+    host: &Host<R, G>,
     store: &mut S,
     config: &Config,
     scripts: &Scripts,
     clips: &[ClipScript],
-    gate: &G,
 ) -> Worked<'a>
     requires runnable { IsRunnable (clips_setup_of config.now scripts.now clips.now) }
     requires each { length clips.now ≡ length scripts.now.clients.items }
@@ -71,8 +64,8 @@ fn perform_clips<'a, R: Threads + Wait + Sync, S: Store, G: Gate>(
 {
     headline();
     let clients = scripts.clients.as_slice();
-    let Ok(ran) = run_with_clips(rt, alloc, gate, config, scripts, clips, store) else {
-        return unbegun(alloc, at(End::NoMemory, ""));
+    let Ok(ran) = run_with_clips(host, config, scripts, clips, store) else {
+        return unbegun(host.alloc, at(End::NoMemory, ""));
     };
     ran.worked(clients.len())
 }
@@ -80,9 +73,7 @@ fn perform_clips<'a, R: Threads + Wait + Sync, S: Store, G: Gate>(
 /// Takes all memory of a run, and does it up to its end. The clip list is put behind the texts,
 /// unless a put was refused. Where memory runs out before the first thread, nothing was done.
 fn run_with_clips<R: Threads + Wait + Sync, S: Store, G: Gate>(
-    rt: &R,
-    alloc: Global,
-    gate: &G,
+    host: &Host<R, G>,
     config: &Config,
     scripts: &Scripts,
     clips: &[ClipScript],
@@ -93,6 +84,7 @@ fn run_with_clips<R: Threads + Wait + Sync, S: Store, G: Gate>(
     ensures { RunsClips (S.shown store.old) (clips_setup_of config.now scripts.now clips.now)
         (S.shown store.new) result }
 {
+    let alloc = host.alloc;
     let clients = scripts.clients.as_slice();
     let plans = plans_of(alloc, config, clients)?;
     let (buffers, keys) = buffers_of(alloc, config, &plans)?;
@@ -106,25 +98,23 @@ fn run_with_clips<R: Threads + Wait + Sync, S: Store, G: Gate>(
         canvases,
         clips,
     )?;
-    let memory = ClipMemory::new(alloc, config)?;
+    let memory = Memory::new(alloc, config)?;
     let members = config.clients.as_slice();
-    Ok(run_clips_named::<Brand, R, S, G>(rt, alloc, gate, members, actors, memory, store))
+    Ok(run_clips_named::<Brand, R, S, G>(host, members, actors, memory, store))
 }
 
 /// Runs the actors of an opening that N names, takes the last picture, and puts what is to be put
 /// behind the pictures of the shots. Until the texts it takes no memory.
 fn run_clips_named<'a, N: Name + Send + Sync, R: Threads + Wait + Sync, S: Store, G: Gate>(
-    rt: &R,
-    alloc: Global,
-    gate: &G,
+    host: &Host<R, G>,
     clients: &[Member],
     actors: Paired<'a>,
-    memory: ClipMemory<'a>,
+    memory: Memory<Pair<'a>>,
     store: &mut S,
 ) -> Ran
     requires ready { IsReadyWithClips N.parts actors.room actors.pairs.items actors.user }
     requires back { HasRoomBack actors }
-    requires memory { IsClipMemory N.parts.config memory }
+    requires memory { IsMemory N.parts.config memory }
     requires clients { clients.now ≡ N.parts.config.clients }
     ensures { HasRunClips (S.shown store.old) (clips_setup_in N.parts) (S.shown store.new)
         result.journal.items result.frames result.fault }
@@ -136,7 +126,7 @@ fn run_clips_named<'a, N: Name + Send + Sync, R: Threads + Wait + Sync, S: Store
         mut passes,
         mut clips,
     } = actors;
-    let ClipMemory {
+    let Memory {
         raised,
         waiting,
         mut back,
@@ -152,11 +142,13 @@ fn run_clips_named<'a, N: Name + Send + Sync, R: Threads + Wait + Sync, S: Store
     };
     let mine = Mine { user, desk };
     let hall: Hall<'a, N> = Hall::new(room);
-    let mine = run_beside_clips(rt, &hall, gate, &raised, pairs, waiting, &mut back, mine);
+    let mine = run_beside_clips(
+        host.rt, &hall, host.gate, &raised, pairs, waiting, &mut back, mine,
+    );
     let Mine { user, mut desk } = mine;
     take_apart(&mut back, &mut passes, &mut clips);
     let room = hall.into_room();
-    let (scene, list) = last_with_clips(alloc, room, passes, clips, user, &mut desk);
+    let (scene, list) = last_with_clips(host.alloc, room, passes, clips, user, &mut desk);
     let Desk {
         store,
         frame: _frame,
@@ -165,6 +157,6 @@ fn run_clips_named<'a, N: Name + Send + Sync, R: Threads + Wait + Sync, S: Store
         tried,
     } = desk;
     let fault = PutFault::of_picture(fault, tried);
-    let ran = leave_texts(alloc, store, fault, clients, scene);
+    let ran = leave_texts(host.alloc, store, fault, clients, scene);
     put_clips(store, ran, list)
 }

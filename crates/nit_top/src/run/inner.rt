@@ -3,9 +3,7 @@
 ghost use Rattle.std.specs.Prelude.{true, ◌≤◌, ◌++◌, ◌∷◌, ℕ, List, ◌≡◌, ◌*◌, All, length, Err, Ok, None, []};
 ghost use Rattle.nit_top.specs.Terms.{IsInnerEnd, IsJournal, IsRoundsOpening, IsRunnable, IsWord, MayCome, TakesAll, TakesNext, by_turns, end_of_nest, first_forbidden, frames_of, phases, run_files};
 
-use crate::report::finish::{End, Fault};
-use crate::report::last::take_last;
-use crate::setup::opening::{Opened, open};
+use crate::{End, Fault, Opened, open, take_last};
 use nit_actor::laws::{drawn_as_replayed, rounds_are_whole};
 use nit_actor::{Viewer, run_viewed};
 use nit_config::Config;

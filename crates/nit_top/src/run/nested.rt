@@ -1,16 +1,12 @@
 //! A run whose first client shows what another run has shown.
 
 ghost use Rattle.std.specs.Prelude.{◌+◌, ℕ, List, Some, ◌≡◌, count_by, ◌≤◌, length, None, IfNone, IfSome, map, ◌∷◌, true};
-ghost use Rattle.nit_top.specs.Terms.{IsAfterOuter, IsConfiguration, IsOuter, IsRunnable, Line, Nested, PerformedNested, RunFiles, StoreModel, first_other, is_shot_line, names_in, phase_counts, phases, run_files, setup_of};
-ghost use Rattle.nit_top.specs.Work.{Ends};
+ghost use Rattle.nit_top.specs.Terms.{Ends, IsAfterOuter, IsConfiguration, IsOuter, IsRunnable, Line, Nested, PerformedNested, RunFiles, StoreModel, first_other, is_shot_line, names_in, phase_counts, phases, run_files, setup_of};
 
-use crate::laws::headline;
 use crate::report::added::put_inner_journal;
-use crate::report::finish::{End, Fault, Worked, at, unbegun};
-use crate::report::ran::Ran;
 use crate::run::beside::run_beside;
 use crate::run::inner::run_inner;
-use crate::setup::scripts::{Scripts, read_scripts};
+use crate::{End, Fault, Host, Ran, Scripts, Worked, at, headline, read_scripts, unbegun};
 use nit_actor::Gate;
 use nit_actor::laws::each_line_once;
 use nit_config::{Config, Member};
@@ -18,7 +14,6 @@ use nit_events::Entry;
 use nit_nested::laws::phases_stay;
 use nit_script::{Client, Input, InputLine, phases};
 use nit_store::Store;
-use std::alloc::Global;
 use std::sync::Wait;
 use std::thread::Threads;
 
@@ -26,14 +21,12 @@ use std::thread::Threads;
 /// runs the outer configuration, whose scripts these are, with each client on a thread of its own.
 /// There the first client shows the frames of the inner run.
 pub fn nested<'a, R: Threads + Wait + Sync, S: Store, G: Gate>(
-    rt: &R,
-    alloc: Global,
+    host: &Host<R, G>,
     store: &mut S,
     outer: &'a Config,
     shown: Scripts,
     name: &'a str,
     inner: &'a Config,
-    gate: &G,
 ) -> Worked<'a>
     requires configured { IsConfiguration inner.now }
     requires outer { IsOuter (run_files outer.now shown.clients.items shown.input) }
@@ -45,21 +38,27 @@ pub fn nested<'a, R: Threads + Wait + Sync, S: Store, G: Gate>(
 {
     each_line_once();
     phases_stay();
-    let scripts = match read_scripts(alloc, store, inner) {
+    let scripts = match read_scripts(host.alloc, store, inner) {
         Ok(scripts) => scripts,
-        Err(stop) => return unbegun(alloc, stop),
+        Err(stop) => return unbegun(host.alloc, stop),
     };
     if let Some(other) = first_other(frame_count(&scripts.input), outer, &shown) {
-        return unbegun(alloc, at(End::Unfit(Fault::PhasesDiffer), other));
+        return unbegun(host.alloc, at(End::Unfit(Fault::PhasesDiffer), other));
     }
     let clients = scripts.clients.as_slice();
-    match run_inner(alloc, inner, clients, &scripts.input, &shown.clients[0]) {
+    match run_inner(
+        host.alloc,
+        inner,
+        clients,
+        &scripts.input,
+        &shown.clients[0],
+    ) {
         Ok(made) => {
             let _known = made.script.lines();
             let shown = with_first(shown, made.script);
-            perform_nested(rt, alloc, store, outer, &shown, &made.journal, gate)
+            perform_nested(host, store, outer, &shown, &made.journal)
         }
-        Err(end) => unbegun(alloc, at(end, name)),
+        Err(end) => unbegun(host.alloc, at(end, name)),
     }
 }
 
@@ -143,13 +142,11 @@ fn with_first(scripts: Scripts, first: Client) -> Scripts
 /// Runs a setup with texts, each client on a thread of its own, and puts the journal of an inner run
 /// behind its files. A run that is not begun leaves everything.
 fn perform_nested<'a, R: Threads + Wait + Sync, S: Store, G: Gate>(
-    rt: &R,
-    alloc: Global,
+    host: &Host<R, G>,
     store: &mut S,
     config: &Config,
     scripts: &Scripts,
     journal: &[Entry],
-    gate: &G,
 ) -> Worked<'a>
     requires { IsRunnable
         (setup_of config.now scripts.now.clients.items scripts.now.input true true) }
@@ -160,9 +157,9 @@ fn perform_nested<'a, R: Threads + Wait + Sync, S: Store, G: Gate>(
 {
     headline();
     let clients = scripts.clients.as_slice();
-    let Ok(ran) = run_beside(rt, alloc, gate, config, clients, &scripts.input, store) else {
-        return unbegun(alloc, at(End::NoMemory, ""));
+    let Ok(ran) = run_beside(host, config, clients, &scripts.input, store) else {
+        return unbegun(host.alloc, at(End::NoMemory, ""));
     };
-    let fault = put_inner_journal(alloc, store, ran.fault, journal);
+    let fault = put_inner_journal(host.alloc, store, ran.fault, journal);
     ran.with_fault(fault).worked(clients.len())
 }

@@ -1,19 +1,16 @@
 //! The work of a command: what is to be run, the run, and how it came to its end.
 
-ghost use Rattle.std.specs.Prelude.{◌<◌, ◌≤◌, false, ◌≡◌, ℕ, List, IfSome, true, ◌∷◌, ◌^◌, [], length, take};
-ghost use Rattle.nit_top.specs.Terms.{Gen, IsAlone, IsConfig, IsConfiguration, IsRunnable, Performed, Run, Still, StoreModel, bytes_of, generated, most_height, most_width, output_name, setup_of, still_configuration, with_asked};
-ghost use Rattle.nit_top.specs.Work.{Ends};
+ghost use Rattle.std.specs.Prelude.{◌<◌, ◌≤◌, false, ◌≡◌, ℕ, List, IfSome, true, ◌∷◌, [], length, take};
+ghost use Rattle.nit_top.specs.Terms.{Ends, Gen, IsAlone, IsConfig, IsConfiguration, IsRunnable, Performed, Run, Still, StoreModel, bytes_of, generated, most_height, most_width, number_end, output_name, setup_of, still_configuration, with_asked};
 
-use crate::laws::headline;
-use crate::report::finish::{End, Worked, at, unbegun};
-use crate::report::ran::stop_after;
 use crate::run::alone::run_one;
 use crate::run::beside::run_beside;
 use crate::run::turns::run_turns;
 use crate::setup::generated::{put_files, read_files};
-use crate::setup::load::load_client;
-use crate::setup::scripts::{Scripts, read_scripts};
 use crate::setup::still::{idle_user, still_configuration};
+use crate::{
+    End, Host, Scripts, Worked, at, headline, load_client, read_scripts, stop_after, unbegun,
+};
 use nit_actor::Gate;
 use nit_config::Config;
 use nit_rect::NoMemory;
@@ -66,54 +63,50 @@ pub fn turns<'a, S: Store>(alloc: Global, store: &mut S, config: &'a Config) -> 
 
 /// Runs the scripts of a configuration with each client on a thread of its own.
 pub fn beside<'a, R: Threads + Wait + Sync, S: Store, G: Gate>(
-    rt: &R,
-    alloc: Global,
+    host: &Host<R, G>,
     store: &mut S,
     config: &'a Config,
-    gate: &G,
 ) -> Worked<'a>
     requires { IsConfiguration config.now }
     ensures { (name : List ℕ) → (first : StoreModel) → (S.shown store.old) ≡ with_asked first name
         → IfSome first.files (λ files. IsConfig (bytes_of name files) config.entry.now)
         → Ends (Run true name) first (S.shown store.new) result }
 {
-    let scripts = match read_scripts(alloc, store, config) {
+    let scripts = match read_scripts(host.alloc, store, config) {
         Ok(scripts) => scripts,
-        Err(stop) => return unbegun(alloc, stop),
+        Err(stop) => return unbegun(host.alloc, stop),
     };
-    perform_beside(rt, alloc, store, config, &scripts, gate)
+    perform_beside(host, store, config, &scripts)
 }
 
 /// Puts the files of the generated run of this number, and runs it as they say, with each client on
 /// a thread of its own. The scripts are read from their own bytes.
 pub fn generated<'a, R: Threads + Wait + Sync, S: Store, G: Gate>(
-    rt: &R,
-    alloc: Global,
+    host: &Host<R, G>,
     store: &mut S,
     number: u32,
-    gate: &G,
 ) -> Worked<'a>
-    requires { number < 10 ^ 9 }
+    requires { number < number_end }
     ensures { Ends (Gen number) (S.shown store.old) (S.shown store.new) result }
 {
     generated_client_counts();
     generated_user_counts();
     headline();
     puts_go_on();
-    let Ok(files) = generate(alloc, number) else {
-        return unbegun(alloc, at(End::NoMemory, ""));
+    let Ok(files) = generate(host.alloc, number) else {
+        return unbegun(host.alloc, at(End::NoMemory, ""));
     };
     let fault = put_files(store, number, &files);
     if fault.is_some() {
-        return unbegun(alloc, stop_after(fault));
+        return unbegun(host.alloc, stop_after(fault));
     }
-    let Ok(scripts) = read_files(alloc, number, &files) else {
-        return unbegun(alloc, at(End::NoMemory, ""));
+    let Ok(scripts) = read_files(host.alloc, number, &files) else {
+        return unbegun(host.alloc, at(End::NoMemory, ""));
     };
-    let Ok(config) = gen_config(alloc) else {
-        return unbegun(alloc, at(End::NoMemory, ""));
+    let Ok(config) = gen_config(host.alloc) else {
+        return unbegun(host.alloc, at(End::NoMemory, ""));
     };
-    perform_beside(rt, alloc, store, &config, &scripts, gate)
+    perform_beside(host, store, &config, &scripts)
 }
 
 /// Runs a setup by rounds, with texts. A run that is not begun leaves everything.
@@ -159,12 +152,10 @@ fn perform_alone<'a, S: Store>(
 /// Runs a setup with texts, each client on a thread of its own. A run that is not begun leaves
 /// everything.
 pub fn perform_beside<'a, R: Threads + Wait + Sync, S: Store, G: Gate>(
-    rt: &R,
-    alloc: Global,
+    host: &Host<R, G>,
     store: &mut S,
     config: &Config,
     scripts: &Scripts,
-    gate: &G,
 ) -> Worked<'a>
     requires { IsRunnable
         (setup_of config.now scripts.now.clients.items scripts.now.input true true) }
@@ -174,8 +165,8 @@ pub fn perform_beside<'a, R: Threads + Wait + Sync, S: Store, G: Gate>(
 {
     headline();
     let clients = scripts.clients.as_slice();
-    let Ok(ran) = run_beside(rt, alloc, gate, config, clients, &scripts.input, store) else {
-        return unbegun(alloc, at(End::NoMemory, ""));
+    let Ok(ran) = run_beside(host, config, clients, &scripts.input, store) else {
+        return unbegun(host.alloc, at(End::NoMemory, ""));
     };
     ran.worked(clients.len())
 }

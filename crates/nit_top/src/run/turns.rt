@@ -2,10 +2,8 @@
 
 ghost use Rattle.nit_top.specs.Terms.{HasRun, IsRoundsOpening, IsRunnable, Runs, false, setup_of, true};
 
-use crate::report::last::put_last;
-use crate::report::ran::{PutFault, Ran};
 use crate::report::texts::leave_texts;
-use crate::setup::opening::{Opened, open};
+use crate::{Opened, PutFault, Ran, open, put_last};
 use nit_actor::laws::rounds_are_whole;
 use nit_actor::{Desk, PictureName, run_rounds};
 use nit_config::Config;

@@ -3,8 +3,7 @@
 ghost use Rattle.std.specs.Prelude.{map, ◌≡◌, None, IfOk, string_bytes};
 ghost use Rattle.nit_top.specs.Terms.{FileLoaded, IsClipFault, IsClipScript, LoadedClips, clip_name, wrong_clip};
 
-use crate::report::finish::{End, Name, Stop};
-use crate::setup::load::load_lines;
+use crate::{End, Name, Stop, load_lines};
 use nit_clip::ClipScript;
 use nit_config::Member;
 use nit_rect::NoMemory;

@@ -3,10 +3,8 @@
 ghost use Rattle.std.specs.Prelude.{◌∷◌, ◌≤◌, [], length, take, true, ◌≡◌, ◌<◌, map, ℕ, IfOk};
 ghost use Rattle.nit_top.specs.Terms.{IsRunnable, PutsAll, PutsNext, ReadsClient, ReadsInput, client_script, client_text, generated, generated_files, output_name, put_state_of_run, range_with_len, script_files, script_name, setup_of, unrefused, user_script};
 
-use crate::report::finish::Output;
 use crate::report::puts::put_next;
-use crate::report::ran::PutFault;
-use crate::setup::scripts::Scripts;
+use crate::{Output, PutFault, Scripts};
 use nit_rect::NoMemory;
 use nit_report::{Files, generated_client_counts, generated_user_counts};
 use nit_script::{

@@ -1,9 +1,9 @@
 //! Reading files, and judging them.
 
-ghost use Rattle.nit_top.specs.Terms.{AfterRead, AllByRecursion, AreLines, FileJudged, FileLoaded, FitsInputLine, FitsLine, IsClientFault, IsClientScript, IsConfig, IsConfigFault, IsConfiguration, IsInputFault, IsInputScript, IsJournalText, IsNoJournalText, IsPhasedFault, IsPhasedScript, JudgedBytes, ReadFor, end_of_journal, end_of_script, most_bytes, most_lines, wrong_client, wrong_input, wrong_lines};
-ghost use Rattle.std.specs.Prelude.{IfOk, ◌≡◌, None, ◌≤◌, length, ◌^◌};
+ghost use Rattle.nit_top.specs.Terms.{AfterRead, AllByRecursion, AreLines, FileJudged, FileLoaded, FitsInputLine, FitsLine, IsClientFault, IsClientScript, IsConfig, IsConfigFault, IsConfiguration, IsInputFault, IsInputScript, IsJournalText, IsNoJournalText, IsPhasedFault, IsPhasedScript, JudgedBytes, ReadFor, end_of_journal, end_of_script, most_bytes, most_journal_bytes, most_lines, wrong_client, wrong_input, wrong_lines};
+ghost use Rattle.std.specs.Prelude.{IfOk, ◌≡◌, None, ◌≤◌, length};
 
-use crate::report::finish::{End, Fault, Stop, at};
+use crate::{End, Fault, Stop, at};
 use nit_config::{Config, ConfigError, read_config};
 use nit_events::Entry;
 use nit_report::{JournalError, parse_journal};
@@ -118,7 +118,7 @@ pub fn load_journal<'a, S: Store>(
 ) -> Result<Vec<Entry>, Stop<'a>>
     ensures loaded { FileLoaded (λ bytes v. IsJournalText bytes v.items) IsNoJournalText
         (S.shown store.old) name.entry.now (S.shown store.new) result }
-    ensures few { IfOk result (λ v. length v.items ≤ 2 ^ 27) }
+    ensures few { IfOk result (λ v. length v.items ≤ most_journal_bytes) }
 {
     let bytes = match read(store, name, MAX_JOURNAL, Fault::LongJournal) {
         Ok(bytes) => bytes,
@@ -167,10 +167,10 @@ fn judge_lines<L: ScriptLine>(
 }
 
 fn judge_journal(alloc: Global, bytes: &[u8]) -> Result<Vec<Entry>, End>
-    requires { length bytes.now ≤ 2 ^ 27 }
+    requires { length bytes.now ≤ most_journal_bytes }
     ensures judged { JudgedBytes (λ bytes v. IsJournalText bytes v.items) IsNoJournalText
         bytes.now result }
-    ensures few { IfOk result (λ v. length v.items ≤ 2 ^ 27) }
+    ensures few { IfOk result (λ v. length v.items ≤ most_journal_bytes) }
 {
     match parse_journal(alloc, bytes) {
         Ok(entries) => Ok(entries),

@@ -2,12 +2,10 @@
 //! thread.
 
 ghost use Rattle.std.specs.Prelude.{◌<◌, slice_index_or, IfOk, ◌≤◌, [], vec_capacity, vec_len, ◌≡◌, All, length, map};
-ghost use Rattle.nit_top.specs.Terms.{AreBuffers, IsClipMemory, IsConfiguration, IsMemory, IsWord};
+ghost use Rattle.nit_top.specs.Terms.{AreBuffers, IsConfiguration, IsMemory, IsWord};
 
-use crate::setup::opening::{blank_frame, blank_text, table_words};
-use nit_actor::Pair;
+use crate::{blank_frame, blank_text, table_words};
 use nit_config::Config;
-use nit_hall::Pass;
 use nit_pixels::{Canvas, Key, PixelBuffer};
 use nit_plan::Plan;
 use nit_rect::NoMemory;
@@ -15,54 +13,25 @@ use std::alloc::Global;
 use std::sync::atomic::AtomicBool;
 
 /// What a run needs besides its opening: a flag for each client, which is raised where its thread
-/// could not be started; the place where such passes wait, with room for all; where passes come
-/// back; and the room for a picture, as a frame and as the bytes of a file.
+/// could not be started; the place where what such threads were to be given waits, with room for
+/// all; where it comes back; and the room for a picture, as a frame and as the bytes of a file.
 #[derive(Drop)]
-pub struct Memory<'a> {
+pub struct Memory<T> {
     pub raised: Vec<AtomicBool>,
-    pub waiting: Vec<Pass<'a>>,
-    pub back: Vec<Pass<'a>>,
+    pub waiting: Vec<T>,
+    pub back: Vec<T>,
     pub frame: Vec<u32>,
     pub text: Vec<u8>,
 }
 
-impl<'a> Memory<'a> {
+impl<T: Drop> Memory<T> {
     /// Takes what a run of this configuration needs besides its opening.
-    pub fn new(alloc: Global, config: &Config) -> Result<Memory<'a>, NoMemory>
+    pub fn new(alloc: Global, config: &Config) -> Result<Memory<T>, NoMemory>
         requires { IsConfiguration config.now }
         ensures { IfOk result (λ m. IsMemory config.now m) }
     {
         let clients = config.clients.len();
         Ok(Memory {
-            raised: flags(alloc, clients)?,
-            waiting: Vec::with_capacity(alloc, clients)?,
-            back: Vec::new(alloc),
-            frame: blank_frame(alloc, config)?,
-            text: blank_text(alloc, config)?,
-        })
-    }
-}
-
-/// What a run with a clip script for each client needs besides its actors: a flag for each client, which is raised where its
-/// thread could not be started; the place where such pairs wait, with room for all; where pairs come
-/// back; and the room for a picture, as a frame and as the bytes of a file.
-#[derive(Drop)]
-pub struct ClipMemory<'a> {
-    pub raised: Vec<AtomicBool>,
-    pub waiting: Vec<Pair<'a>>,
-    pub back: Vec<Pair<'a>>,
-    pub frame: Vec<u32>,
-    pub text: Vec<u8>,
-}
-
-impl<'a> ClipMemory<'a> {
-    /// Takes what such a run of this configuration needs besides its actors.
-    pub fn new(alloc: Global, config: &Config) -> Result<ClipMemory<'a>, NoMemory>
-        requires { IsConfiguration config.now }
-        ensures { IfOk result (λ m. IsClipMemory config.now m) }
-    {
-        let clients = config.clients.len();
-        Ok(ClipMemory {
             raised: flags(alloc, clients)?,
             waiting: Vec::with_capacity(alloc, clients)?,
             back: Vec::new(alloc),

@@ -1,7 +1,7 @@
 //! The memory of a run, all of which is taken before its first round.
 
 ghost use Rattle.std.specs.Prelude.{◌<◌, ◌≡◌, ◌+◌, IfOk, length, All, List, ◌≤◌, map, sum, ◌*◌};
-ghost use Rattle.nit_top.specs.Terms.{IsConfiguration, IsDonation, IsPlanOf, IsRoundsOpening, IsWord, Line, glass_after, glasses_of, most_words, picture_length, plans_of, table_size};
+ghost use Rattle.nit_top.specs.Terms.{IsConfiguration, IsDonation, IsPlanOf, IsRoundsOpening, IsWord, Line, glass_after, glasses_of, most_sessions, most_words, picture_length, plans_of, table_size};
 
 use nit_actor::laws::each_line_once;
 use nit_config::Config;
@@ -117,7 +117,7 @@ pub fn table_words(donation: u32) -> u32
 
 /// How many lines all scripts have.
 fn line_count(scripts: &[Client], input: &Input) -> usize
-    requires { length scripts.now ≤ 16 }
+    requires { length scripts.now ≤ most_sessions }
     ensures count { result ≡ sum (map length scripts.now) + length input.now }
     ensures most { result ≤ 1114112 }
 {

@@ -3,9 +3,7 @@
 ghost use Rattle.std.specs.Prelude.{None, IfOk, map, ◌≡◌};
 ghost use Rattle.nit_top.specs.Terms.{AreLines, FileLoaded, FitsLine, IsConfiguration, IsOuter, IsOuterFault, IsOuterScript, OuterLoaded, ReadOuter, run_files, wrong_outer};
 
-use crate::report::finish::{End, Fault, Stop, at};
-use crate::setup::load::{load_client, load_input};
-use crate::setup::scripts::Scripts;
+use crate::{End, Fault, Scripts, Stop, at, load_client, load_input};
 use nit_config::{Config, Member};
 use nit_nested::find_forbidden;
 use nit_script::Client;

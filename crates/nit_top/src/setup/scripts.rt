@@ -3,8 +3,7 @@
 ghost use Rattle.std.specs.Prelude.{◌<◌, true, Bool, IfOk, map, ◌≡◌};
 ghost use Rattle.nit_top.specs.Terms.{AfterRead, AllByRecursion, IsConfiguration, IsRunnable, LoadedAll, ReadScripts, phases, setup_of, wanted_by};
 
-use crate::report::finish::{End, Stop, at};
-use crate::setup::load::{load_client, load_input};
+use crate::{End, Stop, at, load_client, load_input};
 use nit_config::{Config, Member};
 use nit_script::{Client, Input, phases};
 use nit_store::Store;

@@ -1,5 +1,4 @@
-use Rattle.nit_top.proofs.Lemmas.{Entry, IsAuditEnd, List, ap, false, found_ends, name_text, not_read, read_whole, setup_of, subst, sym, text_ends, true}
-use Rattle.nit_top.specs.declared.report.finish.End.{End}
+use Rattle.nit_top.proofs.Lemmas.{End, Entry, IsAuditEnd, List, ap, false, found_ends, name_text, not_read, read_whole, setup_of, subst, sym, text_ends, true}
 use Rattle.nit_top.proofs.AuditEnds.{ends_before}
 use Rattle.nit_top.proofs.audit.audited.Goals as goal
 

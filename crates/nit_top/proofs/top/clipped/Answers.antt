@@ -1,5 +1,4 @@
-use Rattle.nit_top.proofs.Lemmas.{config_stopped, true}
-use Rattle.nit_top.proofs.ClipEnds.{ends_before}
+use Rattle.nit_top.proofs.Lemmas.{config_stopped, ends_before, true}
 use Rattle.nit_top.proofs.top.clipped.Goals as goal
 
 pub returns-in-Err : goal.returns-in-Err

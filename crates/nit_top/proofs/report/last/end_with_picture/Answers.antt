@@ -1,7 +1,6 @@
 use Rattle.std.proofs.Common.{◌≡◌, ◌∙◌, ℕ, List, map, ap, refl, sym, subst}
-use Rattle.nit_top.proofs.Lemmas.{Configuration, InputLine, IsWhole, PutsNext, SceneModel, calls_to_make, final_name, known_whole, picture, put_state_of_desk, user_actions_to_do}
+use Rattle.nit_top.proofs.Lemmas.{Configuration, InputLine, IsWhole, PutsNext, SceneModel, calls_to_make, final_name, known_whole, last_is, picture, put_state_of_desk, user_actions_to_do}
 use Rattle.nit_pixels.specs.End.{End}
-use Rattle.nit_top.proofs.RoomRunLemmas.{last_is}
 use Rattle.nit_top.proofs.report.last.end_with_picture.Goals as goal
 
 pub returns-clause-known : goal.returns-clause-known

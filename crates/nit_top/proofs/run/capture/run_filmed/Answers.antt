@@ -1,6 +1,5 @@
 use Rattle.std.proofs.Common.{rules, ◌≡◌, ℕ, List, Result, true, refl, sym, subst}
-use Rattle.nit_top.proofs.Lemmas.{Entry, HasFilmed, HasRun, Ran, Runs, StoreModel, film_leaves, setup_of}
-use Rattle.nit_rect.specs.declared.memory.NoMemory.{NoMemory}
+use Rattle.nit_top.proofs.Lemmas.{Entry, HasFilmed, HasRun, NoMemory, Ran, Runs, StoreModel, film_leaves, setup_of}
 use Rattle.nit_top.proofs.run.capture.run_filmed.Goals as goal
 
 pub returns-in_default : goal.returns-in_default

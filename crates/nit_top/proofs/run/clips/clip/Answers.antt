@@ -1,6 +1,5 @@
 use Rattle.std.proofs.Common.{◌≡◌, ◌∙◌, List, ℕ, Option, true, length, map, ap, subst, sym}
-use Rattle.nit_top.proofs.Lemmas.{AreClipsRead, ClipLine, IsRunnable, Member, PerformedClips, StoppedAtClip, StoreModel, clip_stopped, clips_end, clips_runnable, clips_setup_of, names_long, not_read, read_whole, script_names, wanted_by}
-use Rattle.nit_top.proofs.ClipEnds.{ends_before}
+use Rattle.nit_top.proofs.Lemmas.{AreClipsRead, ClipLine, IsRunnable, Member, PerformedClips, StoppedAtClip, StoreModel, clip_stopped, clips_end, clips_runnable, clips_setup_of, ends_before, names_long, not_read, read_whole, script_names, wanted_by}
 use Rattle.nit_top.proofs.run.clips.clip.Goals as goal
 
 pub returns-in-Err : goal.returns-in-Err

@@ -1,6 +1,5 @@
 use Rattle.std.proofs.Common.{◌≡◌, Option, Some, None, Err, refl, sym, subst}
-use Rattle.nit_top.proofs.Lemmas.{IsInnerEnd, NestError, NestModel, ShowsNest, Took, all_taken, frame_may, frame_refused, frames_of, nest_of, no_frames, run_files, script_made, script_may, script_refused}
-use Rattle.nit_top.specs.declared.report.finish.End.{End}
+use Rattle.nit_top.proofs.Lemmas.{End, IsInnerEnd, NestError, NestModel, ShowsNest, Took, all_taken, frame_may, frame_refused, frames_of, nest_of, no_frames, run_files, script_made, script_may, script_refused}
 use Rattle.nit_top.proofs.run.inner.run_inner.Goals as goal
 
 none_left : (o : Option NestError) → ((e : NestError) → o ≡ Some e → ⊥) → o ≡ None

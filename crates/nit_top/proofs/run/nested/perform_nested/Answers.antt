@@ -1,6 +1,5 @@
-use Rattle.nit_top.proofs.Basics.{IfSome, PutFault, end_of_run}
+use Rattle.nit_top.proofs.Lemmas.{HasRun, IfSome, Line, List, PutFault, Some, ap, end_of_run, inl, length, nested_leaves, runnable_of, setup_of, subst, true, ◌∙◌}
 use Rattle.std.proofs.Common.{Option, ◌≡◌}
-use Rattle.nit_top.proofs.Lemmas.{HasRun, Line, List, Some, ap, inl, length, nested_leaves, runnable_of, setup_of, subst, true, ◌∙◌}
 use Rattle.nit_top.specs.declared.report.finish.Name.TheVariants as file_name
 use Rattle.nit_top.proofs.run.nested.perform_nested.Goals as goal
 

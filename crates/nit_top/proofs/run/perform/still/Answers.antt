@@ -1,6 +1,5 @@
 use Rattle.std.proofs.Common.{◌≡◌, ◌∙◌, false, ◌∷◌, [], ℕ, List, None, sym, ap, subst, inl, refl, arith}
-use Rattle.nit_top.proofs.Lemmas.{Configuration, InputLine, IsClientFault, IsRunnable, Line, Performed, Setup, StoppedAt, idle_user, name_text, setup_of, still_configuration, still_ends, still_runnable, still_setup, still_stopped}
-use Rattle.nit_top.specs.declared.report.finish.End.{End}
+use Rattle.nit_top.proofs.Lemmas.{Configuration, End, InputLine, IsClientFault, IsRunnable, Line, Performed, Setup, StoppedAt, idle_user, name_text, setup_of, still_configuration, still_ends, still_runnable, still_setup, still_stopped}
 use Rattle.nit_top.proofs.run.perform.still.Goals as goal
 
 same_setup : (width height : ℕ) (config : Configuration) (lines read : List Line) (input : List InputLine) → config ≡ still_configuration width height → read ≡ lines → input ≡ idle_user read → setup_of config (lines ∷ []) input false false ≡ still_setup width height lines

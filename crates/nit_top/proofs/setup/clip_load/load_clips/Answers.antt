@@ -1,6 +1,5 @@
 use Rattle.std.proofs.Common.{◌+◌, ◌++◌, ◌∷◌, [], ◌∙◌, ℕ, List, map, take, drop, sym, ap, subst, inl}
-use Rattle.nit_top.proofs.Lemmas.{AreClipsRead, ClipLine, IsClipFault, Member, StoppedAt, clip_name, name_text, names_at, names_more, one_more_clip_read, stopped_at_clip}
-use Rattle.nit_top.specs.declared.report.finish.End.{End}
+use Rattle.nit_top.proofs.Lemmas.{AreClipsRead, ClipLine, End, IsClipFault, Member, StoppedAt, clip_name, name_text, names_at, names_more, one_more_clip_read, stopped_at_clip}
 use Rattle.nit_top.proofs.setup.clip_load.load_clips.Goals as goal
 
 abbrev names_of : List Member → List (List ℕ)

@@ -1,5 +1,4 @@
-use Rattle.nit_top.proofs.Lemmas.{IsUtf8, subst, sym}
-use Rattle.nit_top.proofs.GeneratedRuns.{name_is_text}
+use Rattle.nit_top.proofs.Lemmas.{IsUtf8, name_is_text, subst, sym}
 use Rattle.nit_top.proofs.setup.generated.put_script.Goals as goal
 
 pub unreachable-requires : goal.unreachable-requires

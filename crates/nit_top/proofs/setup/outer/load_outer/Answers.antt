@@ -1,6 +1,5 @@
 use Rattle.std.proofs.Common.{◌+◌, ◌++◌, ◌∷◌, [], ◌∙◌, ℕ, List, map, take, drop, sym, ap, subst, inl}
-use Rattle.nit_top.proofs.Lemmas.{IsOuterFault, Line, Member, OuterSoFar, StoppedAt, name_text, names_at, names_more}
-use Rattle.nit_top.specs.declared.report.finish.End.{End}
+use Rattle.nit_top.proofs.Lemmas.{End, IsOuterFault, Line, Member, OuterSoFar, StoppedAt, name_text, names_at, names_more}
 use Rattle.nit_top.proofs.OuterScripts.{one_more_read, stopped_here}
 use Rattle.nit_top.proofs.setup.outer.load_outer.Goals as goal
 

@@ -1,7 +1,5 @@
 use Rattle.std.proofs.Common.{◌+◌, ◌++◌, ◌∷◌, [], ◌∙◌, ℕ, List, map, take, drop, sym, ap, subst, inl}
-use Rattle.nit_top.proofs.Lemmas.{IsClientFault, Line, Member, SoFar, StoppedAt, name_text, names_at, names_more, wanted_by}
-use Rattle.nit_top.specs.declared.report.finish.End.{End}
-use Rattle.nit_top.proofs.Scripts.{one_more_read, stopped_here}
+use Rattle.nit_top.proofs.Lemmas.{End, IsClientFault, Line, Member, SoFar, StoppedAt, name_text, names_at, names_more, one_more_read, stopped_here, wanted_by}
 use Rattle.nit_top.proofs.setup.scripts.load_scripts.Goals as goal
 
 abbrev names_of : List Member → List (List ℕ)
