@@ -1,14 +1,14 @@
 //! What sessions pay for, and the handles of their views.
 
+ghost use Rattle.std.specs.Prelude.{◌≡◌, []};
+
 use crate::same::same;
-use nit_rect::NoMemory;
 use nit_slots::{Account, Need, Slots, Table};
-use std::alloc::Global;
 use std::process::Abort;
 use std::test::Fail;
 
 /// What a session is to pay for, or a number of its account that is asked for.
-#[derive(Clone, Copy, Debug)]
+#[derive(Clone, Copy)]
 enum Ask {
     View,
     Buffer(u32, u32),
@@ -134,8 +134,8 @@ fn answer(rt: &impl Abort, account: &mut Account, ask: Ask) -> Result<u32, Need>
 /// So many views are paid for, one after the other.
 fn pay_views(rt: &impl Abort, account: &mut Account, count: u32) {
     for number in 0..count {
-        same(rt, &Views, &account.views(), &number);
-        same(rt, &View, &answer(rt, account, View), &Ok(number + 1));
+        same(rt, &"views", &account.views(), &number);
+        same(rt, &number, &answer(rt, account, View), &Ok(number + 1));
     }
 }
 
@@ -145,30 +145,32 @@ fn accounts(rt: HostRuntime) {
         assert!(rt; 256 <= *donation && *donation <= 8_388_608);
         let mut account = Account::new(*donation);
         pay_views(&rt, &mut account, *views);
-        for (ask, want) in *rows {
-            same(&rt, &(case, *ask), &answer(&rt, &mut account, *ask), want);
+        for (row, (ask, want)) in rows.iter().enumerate() {
+            same(&rt, &(case, row), &answer(&rt, &mut account, *ask), want);
         }
     }
 }
 
 /// Two views in turn in one slot. What is found and counted on the way.
-fn two_views(rt: &impl Abort, alloc: Global) -> Result<(), NoMemory> {
-    let mut slots = Slots::new(alloc, 2)?;
-    let mut table = Table::new(alloc, 2)?;
-    let (first, slot) = table.create(&mut slots);
+fn two_views(rt: &impl Abort, slots: &mut Slots, table: &mut Table)
+    requires slots { slots.old ≡ record { total = 2; taken = [] } }
+    requires table { table.old ≡ record { pairs = []; next = 1; most = 2 } }
+{
+    let (first, slot) = table.create(slots);
     same(rt, &"first", &first, &1);
     same(rt, &"found", &table.find(1), &Some(slot));
-    table.destroy(&mut slots, first);
+    table.destroy(slots, first);
     same(rt, &"taken", &slots.taken(), &0);
-    let (second, _) = table.create(&mut slots);
+    let (second, _) = table.create(slots);
     same(rt, &"second", &second, &2);
     same(rt, &"gone", &table.find(1), &None);
     same(rt, &"last", &table.last(), &Some(2));
-    Ok(())
 }
 
 #[test]
 fn handles_are_not_used_again(rt: HostRuntime) -> Result<(), Fail> {
-    two_views(&rt, rt.alloc())?;
+    let mut slots = Slots::new(rt.alloc(), 2)?;
+    let mut table = Table::new(rt.alloc(), 2)?;
+    two_views(&rt, &mut slots, &mut table);
     Ok(())
 }

@@ -5,9 +5,10 @@ ghost use Rattle.nit_damage.specs.Cutter.{FitsStack};
 
 use crate::pictures::picture;
 use crate::same::same;
+use crate::screens::{put_views, rect};
 use nit_damage::Cutter;
-use nit_rect::{NoMemory, Rect};
-use nit_stack::{Stack, ViewRef};
+use nit_rect::NoMemory;
+use nit_stack::Stack;
 use std::alloc::Global;
 use std::process::Abort;
 use std::test::Fail;
@@ -15,16 +16,13 @@ use std::test::Fail;
 /// A screen of 12 by 12. View 0 lies behind, view 1 before it and under the bar, view 2 in front
 /// and beyond the screen's edges.
 fn three_views(rt: &impl Abort, alloc: Global, bar: u32) -> Result<Stack, NoMemory> {
-    let mut stack = Stack::new(alloc, 12, 12, 1, 3)?;
-    if bar == 7 {
-        stack.set_bar(7);
-    }
-    stack.push_front(ViewRef(0), 0, 1);
-    stack.place(ViewRef(0), Rect::new(0, 8, 8, 3).expect(rt, "in range"));
-    stack.push_front(ViewRef(1), 0, 2);
-    stack.place(ViewRef(1), Rect::new(4, 6, 4, 4).expect(rt, "in range"));
-    stack.push_front(ViewRef(2), 0, 3);
-    stack.place(ViewRef(2), Rect::new(6, 9, 10, 9).expect(rt, "in range"));
+    assert!(rt; bar == 0 || bar == 7);
+    let back = rect(rt, (0, 8, 8, 3));
+    let middle = rect(rt, (4, 6, 4, 4));
+    let front = rect(rt, (6, 9, 10, 9));
+    let mut stack = Stack::new(alloc, 12, 12, 2, 3)?;
+    stack.set_bar(bar);
+    put_views(&mut stack, 12, 12, bar, back, middle, front);
     Ok(stack)
 }
 
@@ -113,7 +111,7 @@ const BARE: &str = "____________\
         ____..______";
 
 /// The pixels that a cutter begins with.
-#[derive(Clone, Copy, Debug)]
+#[derive(Clone, Copy)]
 enum Pixels {
     All,
     /// What the view at this place owns of a rectangle.
@@ -137,11 +135,6 @@ const CASES: [(u32, Pixels, &str); 6] = [
     (7, Gone((4, 6, 6, 6), 1), GONE),
     (7, Bare((4, 6, 6, 6)), BARE),
 ];
-
-fn rect(rt: &impl Abort, numbers: (i32, i32, u32, u32)) -> Rect {
-    let (x, y, w, h) = numbers;
-    Rect::new(x, y, w, h).expect(rt, "in range")
-}
 
 /// Begins with these pixels of a stack of three views.
 fn begin(rt: &impl Abort, cutter: &mut Cutter, stack: &Stack, begin: Pixels)
@@ -171,7 +164,7 @@ fn begin(rt: &impl Abort, cutter: &mut Cutter, stack: &Stack, begin: Pixels)
 #[test]
 fn pieces(rt: HostRuntime) -> Result<(), Fail> {
     let alloc = rt.alloc();
-    for (bar, how, want) in &CASES {
+    for (case, (bar, how, want)) in CASES.iter().enumerate() {
         let stack = three_views(&rt, alloc, *bar)?;
         let mut cutter = Cutter::with_room(alloc, 3)?;
         assert!(rt; stack.len() == 3);
@@ -179,7 +172,7 @@ fn pieces(rt: HostRuntime) -> Result<(), Fail> {
         assert!(rt; cutter.next(&stack).is_some());
         begin(&rt, &mut cutter, &stack, *how);
         let found = picture(&rt, &mut cutter, &stack);
-        same(&rt, &(*bar, *how), &found.as_slice(), &want.as_bytes());
+        same(&rt, &case, &found.as_slice(), &want.as_bytes());
         assert!(rt; cutter.next(&stack).is_none());
     }
     Ok(())

@@ -7,6 +7,7 @@ use crate::same::same;
 use nit_capture::Capture;
 use nit_rect::{NoMemory, Rect};
 use std::alloc::Global;
+use std::process::Abort;
 use std::test::Fail;
 
 /// A picture of a screen.
@@ -130,17 +131,17 @@ fn capture(
 }
 
 /// What stands in front of the records of a film.
-fn header(alloc: Global, w: u32, h: u32) -> Result<Vec<u8>, NoMemory> {
-    let mut bytes = Vec::new(alloc);
-    bytes.extend_from_slice(b"NCAP")?;
-    let size = [
+fn header(w: u32, h: u32) -> [u8; 8] {
+    [
+        b'N',
+        b'C',
+        b'A',
+        b'P',
         (w % 256) as u8,
         (w / 256 % 256) as u8,
         (h % 256) as u8,
         (h / 256 % 256) as u8,
-    ];
-    bytes.extend_from_slice(&size)?;
-    Ok(bytes)
+    ]
 }
 
 /// Takes one picture of a screen of this size.
@@ -174,7 +175,8 @@ fn film(
     requires { IsPictureSize width height }
 {
     let mut capture = capture(alloc, width, height, rect)?;
-    let mut out = header(alloc, rect.2, rect.3)?;
+    let mut out = Vec::new(alloc);
+    out.extend_from_slice(&header(rect.2, rect.3))?;
     for picture in pictures {
         take(alloc, &mut capture, width, height, *picture, &mut out)?;
     }
@@ -200,12 +202,16 @@ const FILMS: [Film; 6] = [
     (16, 17, (0, 0, 16, 17), &[Picture::White(257)], &WHITE_257),
 ];
 
-#[test]
-fn films(rt: HostRuntime) -> Result<(), Fail> {
-    for (case, (width, height, rect, pictures, want)) in FILMS.iter().enumerate() {
+fn assert_films(rt: &impl Abort, alloc: Global, films: &[Film]) -> Result<(), Fail> {
+    for (case, (width, height, rect, pictures, want)) in films.iter().enumerate() {
         assert!(rt; 1 <= *width && *width <= 1024 && 1 <= *height && *height <= 768);
-        let out = film(rt.alloc(), *width, *height, *rect, pictures)?;
-        same(&rt, &case, &out.as_slice(), want);
+        let out = film(alloc, *width, *height, *rect, pictures)?;
+        same(rt, &case, &out.as_slice(), want);
     }
     Ok(())
+}
+
+#[test]
+fn films(rt: HostRuntime) -> Result<(), Fail> {
+    assert_films(&rt, rt.alloc(), &FILMS)
 }

@@ -11,7 +11,7 @@ use nit_rect::Point;
 use std::process::Abort;
 
 /// What happens, and what is found then.
-#[derive(Clone, Copy, Debug)]
+#[derive(Clone, Copy)]
 enum Step {
     /// A device event over the pixels of a session, and what is delivered.
     Input(Device, Option<u32>, &'static [(u32, Item)]),
@@ -167,8 +167,10 @@ const EDGE: &[Step] = &[
     Pointer(Wheel(1), Point { x: 7, y: 3 }),
 ];
 
-/// Whether session 0 takes no focus by clicks, and what happens then.
-const CASES: [(&str, bool, &[Step]); 7] = [
+/// A name, whether session 0 takes no focus by clicks, and what happens then.
+type Case = (&'static str, bool, &'static [Step]);
+
+const CASES: [Case; 7] = [
     ("drag", false, DRAG),
     ("drag with no focus", true, SHY_DRAG),
     ("held key", false, HELD_KEY),
@@ -221,15 +223,19 @@ fn assert_step(rt: &impl Abort, focus: &mut Focus, case: &(&str, usize), step: &
     }
 }
 
-#[test]
-fn inputs(rt: HostRuntime) {
-    for (name, is_shy, steps) in &CASES {
+fn assert_steps(rt: &impl Abort, cases: &[Case]) {
+    for (name, is_shy, steps) in cases {
         let mut focus = Focus::new(8, 4);
         if *is_shy {
             focus.no_click(0);
         }
         for (at, step) in steps.iter().enumerate() {
-            assert_step(&rt, &mut focus, &(*name, at), step);
+            assert_step(rt, &mut focus, &(*name, at), step);
         }
     }
+}
+
+#[test]
+fn inputs(rt: HostRuntime) {
+    assert_steps(&rt, &CASES);
 }

@@ -36,6 +36,8 @@ mod queue_tests;
 #[cfg(test)]
 mod same;
 #[cfg(test)]
+mod screens;
+#[cfg(test)]
 mod shade_tests;
 #[cfg(test)]
 mod stack_tests;

@@ -1,9 +1,10 @@
 //! Lines of pictures.
 
-ghost use Rattle.std.specs.Prelude.{◌≡◌, ◌≤◌, ◌<◌, ◌*◌, ◌+◌, length, codes, All, IfOk, IfSome};
+ghost use Rattle.std.specs.Prelude.{◌≡◌, ◌≤◌, ◌<◌, ◌*◌, All, IfOk, IfSome, length, pos};
+ghost use Rattle.nit_rect.specs.Rectangle.{rectangle};
 ghost use Rattle.nit_word.specs.Inks.{IsWord};
 ghost use Rattle.nit_overlay.specs.Look.{IsLook};
-ghost use Rattle.nit_part_tests.specs.Pictured.{IsPlacedAt, labels, two_views};
+ghost use Rattle.nit_part_tests.specs.Pictured.{IsPlacedAt, two_views};
 
 use crate::same::same;
 use nit_events::Mode;
@@ -35,21 +36,23 @@ fn raw_words(alloc: Global, blue: u32, rows: u32) -> Result<Vec<u32>, AllocError
     Ok(words)
 }
 
-/// The words of the line `y`.
-fn line(out: &[u32], y: usize) -> &[u32]
-    requires { y * 12 + 12 ≤ length out.now }
+/// A part of the screen, from its left edge on.
+fn left_part(width: u32) -> Rect
+    requires { width ≤ 12 }
+    ensures { result ≡ rectangle (pos 0) (pos 0) width 7 }
 {
-    &out[y * 12..y * 12 + 12]
+    match Rect::new(0, 0, width, 7) {
+        Some(rect) => rect,
+        None => unreachable!(),
+    }
 }
 
 /// A view of 12 by 7, and in front of it one of another session.
-fn two_views(alloc: Global, width: u32) -> Result<Stack, NoMemory>
-    requires { width ≤ 12 }
+fn two_views(alloc: Global, back: Rect, front: Rect, width: u32) -> Result<Stack, NoMemory>
+    requires back { back ≡ rectangle (pos 0) (pos 0) 12 7 }
+    requires front { front ≡ rectangle (pos 0) (pos 0) width 7 }
     ensures { IfOk result (λ s. s ≡ two_views width) }
 {
-    let (Some(back), Some(front)) = (Rect::new(0, 0, 12, 7), Rect::new(0, 0, width, 7)) else {
-        unreachable!()
-    };
     let mut stack = Stack::new(alloc, 12, 7, 2, 2)?;
     stack.push_front(ViewRef(0), 0, 1);
     stack.push_front(ViewRef(1), 1, 1);
@@ -67,6 +70,29 @@ fn label(text: &[u8]) -> Result<Label, Fail>
     }
 }
 
+/// What is shown by a look on a screen of so many rows, in a rectangle or everywhere. The first
+/// columns of the raw words are blue, and so were some of the screen.
+fn shown(
+    alloc: Global,
+    look: &Look,
+    rows: u32,
+    blue: u32,
+    before: u32,
+    part: Option<Rect>,
+) -> Result<Vec<u32>, Fail>
+    requires rows { rows ≤ 12 }
+    requires look { IsLook look.now }
+    requires size { 12 * rows ≡ look.now.stack.now.width * look.now.stack.now.height }
+{
+    let raw = raw_words(alloc, blue, rows)?;
+    let mut out = raw_words(alloc, before, rows)?;
+    match part {
+        Some(rect) => overlay_rect(look, &raw, rect, &mut out),
+        None => frame_into(look, &raw, &mut out),
+    }
+    Ok(out)
+}
+
 /// What is shown of the two views, of which the one behind has its label at `place`, on a screen
 /// that was red: in a rectangle, or everywhere.
 fn picture(
@@ -80,39 +106,36 @@ fn picture(
     requires width { width ≤ 12 }
     requires focus { IfSome focus (λ session. session < 2) }
     requires placed { IsPlacedAt mode focus width place }
-    ensures { IfOk result (λ v. length v.items ≡ 84) }
 {
-    let stack = two_views(alloc, width)?;
     let labels = [label(b"ab")?, label(b"b")?];
-    let places = [place, None];
+    let stack = two_views(alloc, left_part(12), left_part(width), width)?;
     let look = Look {
         stack: &stack,
         labels: &labels,
         mode,
         focus,
-        places: &places,
+        places: &[place, None],
     };
-    let raw = raw_words(alloc, width, 7)?;
-    let mut out = raw_words(alloc, 0, 7)?;
-    match part {
-        Some(r) => overlay_rect(&look, &raw, r, &mut out),
-        None => frame_into(&look, &raw, &mut out),
-    }
-    Ok(out)
+    shown(alloc, &look, 7, width, 0, part)
 }
 
-/// One view that has all of a screen of 12 by 12 with a bar, in mode Flat.
-fn barred(alloc: Global) -> Result<Vec<u32>, Fail>
-    ensures { IfOk result (λ v. length v.items ≡ 144) }
+/// One view that has all of a screen of 12 by 12 with a bar.
+fn barred_view(alloc: Global, all: Rect) -> Result<Stack, NoMemory>
+    ensures sessions { IfOk result (λ s. length s.sizes ≡ 1) }
+    ensures screen { IfOk result (λ s. (s.width ≡ 12) × (s.height ≡ 12)) }
 {
-    let Some(rect) = Rect::new(0, 0, 12, 12) else {
-        unreachable!()
-    };
     let mut stack = Stack::new(alloc, 12, 12, 1, 1)?;
     stack.set_bar(7);
     stack.push_front(ViewRef(0), 0, 1);
-    stack.place(ViewRef(0), rect);
+    stack.place(ViewRef(0), all);
+    Ok(stack)
+}
+
+/// What is shown of it in mode Flat, on a screen that was blue.
+fn barred(alloc: Global) -> Result<Vec<u32>, Fail> {
+    let all = Rect::new(0, 0, 12, 12).ok_or("no rectangle")?;
     let labels = [label(b"a")?];
+    let stack = barred_view(alloc, all)?;
     let look = Look {
         stack: &stack,
         labels: &labels,
@@ -120,10 +143,13 @@ fn barred(alloc: Global) -> Result<Vec<u32>, Fail>
         focus: None,
         places: &[None],
     };
-    let raw = raw_words(alloc, 0, 12)?;
-    let mut out = raw_words(alloc, 12, 12)?;
-    frame_into(&look, &raw, &mut out);
-    Ok(out)
+    shown(alloc, &look, 12, 0, 12, None)
+}
+
+/// The words of the line `y` are these.
+fn assert_line(rt: &impl Abort, out: &[u32], y: usize, want: &[u32]) {
+    assert!(rt; y < 12);
+    same(rt, &y, &out.get(y * 12..y * 12 + 12), &Some(want));
 }
 
 /// The label `ab` stands beside the view of session 1.
@@ -132,7 +158,7 @@ fn label_beside_a_view(rt: HostRuntime) -> Result<(), Fail> {
     let place = Some(Point { x: 3, y: 0 });
     let out = picture(rt.alloc(), Mode::Xray, None, 3, place, None)?;
     let want = [GREY, 0x7F, GREY, 0, 0, F, 0, 0, F, F, 0, 0];
-    same(&rt, &1, &line(&out, 1), &want.as_slice());
+    assert_line(&rt, &out, 1, &want);
     Ok(())
 }
 
@@ -144,7 +170,7 @@ fn no_room_for_a_label(rt: HostRuntime) -> Result<(), Fail> {
     let want = [
         GREY, 0x7F, 0x7F, GREY, dimmed, dimmed, dimmed, dimmed, dimmed, dimmed, dimmed, GREY,
     ];
-    same(&rt, &1, &line(&out, 1), &want.as_slice());
+    assert_line(&rt, &out, 1, &want);
     Ok(())
 }
 
@@ -154,7 +180,7 @@ fn label_in_kill_mode(rt: HostRuntime) -> Result<(), Fail> {
     let place = Some(Point { x: 3, y: 0 });
     let out = picture(rt.alloc(), Mode::Kill, None, 3, place, None)?;
     let want = [RED, 0x80007F, RED, 0, 0, F, 0, 0, F, F, 0, 0];
-    same(&rt, &1, &line(&out, 1), &want.as_slice());
+    assert_line(&rt, &out, 1, &want);
     Ok(())
 }
 
@@ -163,7 +189,7 @@ fn label_in_kill_mode(rt: HostRuntime) -> Result<(), Fail> {
 fn focused_session(rt: HostRuntime) -> Result<(), Fail> {
     let out = picture(rt.alloc(), Mode::Xray, Some(0), 4, None, None)?;
     let want = [GREY, 0x7F, 0x7F, GREY, RED, RED, RED, RED, RED, RED, RED, F];
-    same(&rt, &1, &line(&out, 1), &want.as_slice());
+    assert_line(&rt, &out, 1, &want);
     Ok(())
 }
 
@@ -176,10 +202,10 @@ fn part_of_a_picture(rt: HostRuntime) -> Result<(), Fail> {
         RED, RED, 0x7F, GREY, 0x7F0000, RED, RED, RED, RED, RED, RED, RED,
     ];
     let outside = [RED; 12];
-    same(&rt, &0, &line(&out, 0), &outside.as_slice());
-    same(&rt, &1, &line(&out, 1), &inside.as_slice());
-    same(&rt, &2, &line(&out, 2), &inside.as_slice());
-    same(&rt, &3, &line(&out, 3), &outside.as_slice());
+    assert_line(&rt, &out, 0, &outside);
+    assert_line(&rt, &out, 1, &inside);
+    assert_line(&rt, &out, 2, &inside);
+    assert_line(&rt, &out, 3, &outside);
     Ok(())
 }
 
@@ -188,10 +214,10 @@ fn part_of_a_picture(rt: HostRuntime) -> Result<(), Fail> {
 fn status_bar(rt: HostRuntime) -> Result<(), Fail> {
     let out = barred(rt.alloc())?;
     let want = [0, F, F, F, 0, F, 0, 0, 0, 0, F, 0];
-    same(&rt, &1, &line(&out, 1), &want.as_slice());
-    same(&rt, &6, &line(&out, 6), &[0; 12].as_slice());
+    assert_line(&rt, &out, 1, &want);
+    assert_line(&rt, &out, 6, &[0; 12]);
     for y in 7..12 {
-        same(&rt, &y, &line(&out, y), &[RED; 12].as_slice());
+        assert_line(&rt, &out, y, &[RED; 12]);
     }
     Ok(())
 }

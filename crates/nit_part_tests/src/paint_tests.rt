@@ -1,7 +1,9 @@
 //! What a screen of 8 by 4 holds after its pieces were painted.
 
-ghost use Rattle.std.specs.Prelude.{◌≡◌, ◌≤◌, length};
-ghost use Rattle.nit_rect.specs.Rectangle.{IsPlace};
+ghost use Rattle.std.specs.Prelude.{◌≡◌, ◌≤◌, length, pos};
+ghost use Rattle.nit_rect.specs.Rectangle.{IsPlace, rectangle};
+ghost use Rattle.nit_stack.specs.Stack.{empty_stack};
+ghost use Rattle.nit_part_tests.specs.Painted.{one_view};
 
 use crate::same::same;
 use nit_paint::{paint_bare, paint_view};
@@ -24,28 +26,56 @@ fn paint<G: Glass>(
     requires raw { length raw.old ≡ 32 }
     requires words { 8 ≤ (G.sight glass.old).size }
 {
-    let mut stack = Stack::new(alloc, 8, 4, 1, 1)?;
     let Some(viewed) = Rect::new(1, 1, 4, 2) else {
         unreachable!()
     };
     let Some(beside) = Rect::new(5, 0, 3, 4) else {
         unreachable!()
     };
+    let mut stack = Stack::new(alloc, 8, 4, 1, 1)?;
+    put_view(&mut stack, viewed, ox, oy);
+    paint_pieces(&stack, viewed, beside, ox, oy, raw, glass);
+    Ok(())
+}
+
+/// Puts the view on the screen.
+fn put_view(stack: &mut Stack, viewed: Rect, ox: i32, oy: i32)
+    requires empty { stack.old ≡ empty_stack 8 4 1 1 }
+    requires offset { IsPlace ox × IsPlace oy }
+    ensures { stack.new ≡ one_view viewed ox oy }
+{
     stack.set_buffer(0, 4, 2);
     stack.push_front(ViewRef(0), 0, 1);
     stack.place(ViewRef(0), viewed);
     stack.offset(ViewRef(0), ox, oy);
+}
+
+/// Paints both pieces.
+fn paint_pieces<G: Glass>(
+    stack: &Stack,
+    viewed: Rect,
+    beside: Rect,
+    ox: i32,
+    oy: i32,
+    raw: &mut [u32],
+    glass: &mut G,
+)
+    requires stack { stack.now ≡ one_view viewed ox oy }
+    requires viewed { viewed ≡ rectangle (pos 1) (pos 1) 4 2 }
+    requires beside { beside ≡ rectangle (pos 5) (pos 0) 3 4 }
+    requires raw { length raw.old ≡ 32 }
+    requires words { 8 ≤ (G.sight glass.old).size }
+{
     let of_view = Piece {
         rect: viewed,
         owner: Some(ViewRef(0)),
     };
-    paint_view(&stack, raw, &of_view, glass);
+    paint_view(stack, raw, &of_view, glass);
     let bare = Piece {
         rect: beside,
         owner: None,
     };
-    paint_bare(&stack, raw, &bare);
-    Ok(())
+    paint_bare(stack, raw, &bare);
 }
 
 /// The view moves its buffer by one column: its first column is black, and it shows three columns.

@@ -4,8 +4,9 @@ ghost use Rattle.std.specs.Prelude.{◌≡◌, true, IfOk};
 ghost use Rattle.nit_stack.specs.Stack.{has_slot};
 
 use crate::same::same;
+use crate::screens::{put_views, rect};
 use nit_place::place_label;
-use nit_rect::{NoMemory, Point, Rect};
+use nit_rect::{NoMemory, Point};
 use nit_stack::{Stack, ViewRef};
 use std::alloc::Global;
 use std::process::Abort;
@@ -181,20 +182,13 @@ fn screen(rt: &impl Abort, alloc: Global, of: &Case) -> Result<Stack, NoMemory>
     assert!(rt; 1 <= width && width <= 1024 && 1 <= height && height <= 768);
     assert!(rt; bar == 0 || bar == 7);
     assert!(rt; bar < height);
+    let back = rect(rt, of.back);
+    let left = rect(rt, of.left);
+    let right = rect(rt, of.right);
     let mut stack = Stack::new(alloc, width, height, 2, 3)?;
     stack.set_bar(bar);
-    stack.push_front(BACK, 0, 1);
-    stack.push_front(LEFT, 1, 1);
-    stack.push_front(RIGHT, 1, 2);
-    stack.place(BACK, rect(rt, of.back));
-    stack.place(LEFT, rect(rt, of.left));
-    stack.place(RIGHT, rect(rt, of.right));
+    put_views(&mut stack, width, height, bar, back, left, right);
     Ok(stack)
-}
-
-fn rect(rt: &impl Abort, numbers: Numbers) -> Rect {
-    let (x, y, w, h) = numbers;
-    Rect::new(x, y, w, h).expect(rt, "in range")
 }
 
 /// Where the label of a view stands, which is one of the three.
@@ -212,18 +206,23 @@ fn place(rt: &impl Abort, stack: &Stack, view: ViewRef, size: (u32, u32)) -> Opt
     }
 }
 
-#[test]
-fn places(rt: HostRuntime) -> Result<(), Fail> {
-    for (case, of) in CASES.iter().enumerate() {
-        let stack = screen(&rt, rt.alloc(), of)?;
-        for (view, size, want) in of.rows {
-            same(
-                &rt,
-                &(case, *view, *size),
-                &place(&rt, &stack, *view, *size),
-                want,
-            );
-        }
+/// Each label of a screen stands where it is to.
+fn assert_places(rt: &impl Abort, alloc: Global, case: usize, of: &Case) -> Result<(), NoMemory> {
+    let stack = screen(rt, alloc, of)?;
+    for (row, (view, size, want)) in of.rows.iter().enumerate() {
+        same(rt, &(case, row), &place(rt, &stack, *view, *size), want);
     }
     Ok(())
+}
+
+fn assert_all(rt: &impl Abort, alloc: Global, cases: &[Case]) -> Result<(), NoMemory> {
+    for (case, of) in cases.iter().enumerate() {
+        assert_places(rt, alloc, case, of)?;
+    }
+    Ok(())
+}
+
+#[test]
+fn places(rt: HostRuntime) -> Result<(), Fail> {
+    Ok(assert_all(&rt, rt.alloc(), &CASES)?)
 }

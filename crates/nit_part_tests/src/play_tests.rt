@@ -84,16 +84,31 @@ fn assert_plays(
     let mut frame = black(alloc, width, height)?;
     let mut words = Vec::new(alloc);
     play_all(rt, &mut player, &mut frame, wanted, &mut words)?;
+    assert_words(rt, alloc, &words, runs)
+}
+
+/// The first words are these.
+fn assert_words(
+    rt: &impl Abort,
+    alloc: Global,
+    words: &[u32],
+    runs: &[(usize, u32)],
+) -> Result<(), Fail> {
     let want = spread(alloc, runs)?;
-    same(rt, &size, &words.get(..want.len()), &Some(want.as_slice()));
+    same(rt, &runs, &words.get(..want.len()), &Some(want.as_slice()));
+    Ok(())
+}
+
+fn assert_all(rt: &impl Abort, alloc: Global, plays: &[Play]) -> Result<(), Fail> {
+    for (stream, size, wanted, runs) in plays {
+        assert_plays(rt, alloc, stream, *size, wanted, runs)?;
+    }
     Ok(())
 }
 
 #[test]
 fn plays(rt: HostRuntime) -> Result<(), Fail> {
-    for (stream, size, wanted, runs) in &PLAYS {
-        assert_plays(&rt, rt.alloc(), stream, *size, wanted, runs)?;
-    }
+    assert_all(&rt, rt.alloc(), &PLAYS)?;
     // Behind a film whose last byte is cut off, no end comes.
     let wanted = [Played::Frame, Played::Frame, Played::Bad, Played::Bad];
     assert_plays(&rt, rt.alloc(), &LEFT[..26], (4, 2), &wanted, &[])

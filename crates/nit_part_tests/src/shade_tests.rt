@@ -33,15 +33,17 @@ fn assert_shaded(rt: &impl Abort, alloc: Global, words: &[u32]) -> Result<(), Al
     dim_row(&mut dimmed);
     let mut tinted = words.to_vec(alloc)?;
     tint_row(&mut tinted);
-    for k in 0..words.len() {
-        same(
-            rt,
-            &k,
-            &(dimmed[k], tinted[k]),
-            &(dim(words[k]), tint(words[k])),
-        );
-    }
+    assert_darker(rt, words, &dimmed, &tinted);
     Ok(())
+}
+
+fn assert_darker(rt: &impl Abort, words: &[u32], dimmed: &[u32], tinted: &[u32])
+    requires { All IsWord words.now }
+{
+    for (k, word) in words.iter().enumerate() {
+        same(rt, &k, &dimmed.get(k), &Some(&dim(*word)));
+        same(rt, &k, &tinted.get(k), &Some(&tint(*word)));
+    }
 }
 
 #[test]

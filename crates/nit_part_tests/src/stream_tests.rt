@@ -14,7 +14,7 @@ use std::alloc::Global;
 use std::test::Fail;
 
 /// What bytes play to their end.
-#[derive(Clone, Copy, Debug, PartialEq, Eq)]
+#[derive(Clone, Copy, PartialEq, Eq)]
 enum Course {
     /// They do not begin as a film.
     NoFilm,
@@ -275,26 +275,35 @@ fn wrong_front(alloc: Global, stream: &[u8], rows: &[Front]) -> Result<Option<us
     Ok(None)
 }
 
-/// The least byte that, in this place, does not play what the rows say.
+/// The least byte that, in this place of a copy, does not play what the rows say.
 fn wrong_byte(
     alloc: Global,
+    bytes: &mut [u8],
     stream: &[u8],
     rows: &[Change],
     at: usize,
 ) -> Result<Option<u8>, NoMemory> {
-    let mut bytes = Vec::new(alloc);
-    bytes.extend_from_slice(stream)?;
     for byte in 0..=255 {
         let Some(place) = bytes.get_mut(at) else {
             return Ok(Some(byte));
         };
         *place = byte;
-        let now = played(alloc, &bytes)?;
+        let now = played(alloc, bytes)?;
         if stream.get(at) != Some(&byte) && of_change(rows, at, byte) != Some(now) {
             return Ok(Some(byte));
         }
     }
     Ok(None)
+}
+
+fn wrong_in_copy(
+    alloc: Global,
+    stream: &[u8],
+    rows: &[Change],
+    at: usize,
+) -> Result<Option<u8>, NoMemory> {
+    let mut bytes = stream.to_vec(alloc)?;
+    wrong_byte(alloc, &mut bytes, stream, rows, at)
 }
 
 /// The first place with such a byte, and the byte.
@@ -304,7 +313,7 @@ fn wrong_change(
     rows: &[Change],
 ) -> Result<Option<(usize, u8)>, NoMemory> {
     for at in 0..stream.len() {
-        if let Some(byte) = wrong_byte(alloc, stream, rows, at)? {
+        if let Some(byte) = wrong_in_copy(alloc, stream, rows, at)? {
             return Ok(Some((at, byte)));
         }
     }
