@@ -1,45 +1,44 @@
 //! Lines of clients, of their clip scripts and of the user, done one by one through a hall.
 
-ghost use Rattle.std.specs.Prelude.{◌≡◌, All, length};
+ghost use Rattle.std.specs.Prelude.{◌≡◌, ◌+◌, All, IsTrue, length};
 ghost use Rattle.nit_hall.specs.Pass.{Belongs, UserBelongs};
-ghost use Rattle.nit_hall.specs.ClipPass.{ClipBelongs, IsAtPhaseEnd};
+ghost use Rattle.nit_hall.specs.ClipPass.{ClipBelongs, IsAtClipPhase, IsAtPhaseEnd};
 
 use nit_clip::{ClipLine, ClipReply};
 use nit_hall::{ClipPass, Hall, Name, Pass, UserPass};
-use nit_rect::NoMemory;
 use nit_script::{InputLine, Line};
+use std::process::Abort;
 use std::sync::Wait;
 
 /// Does three phases of all, and answers their clip calls in order.
-pub fn do_phases<'a, N: Name, R: Wait>(
+pub fn do_phases<'a, N: Name, R: Abort + Wait>(
     rt: &R,
     hall: &Hall<'a, N>,
     passes: &mut [Pass<'a>],
     clips: &mut [ClipPass<'a>],
     user: &mut UserPass<'a>,
     replies: &mut Vec<ClipReply>,
-) -> Result<(), NoMemory>
+)
     requires passes { All (Belongs N.parts) passes.old }
     requires clips { All (ClipBelongs N.parts) clips.old }
     requires each { length clips.old ≡ length passes.old }
     requires user { UserBelongs N.parts user.old }
 {
     'phases: for _ in 0..3 {
-        do_phase(rt, hall, passes, clips, user, replies)?;
+        do_phase(rt, hall, passes, clips, user, replies);
     }
-    Ok(())
 }
 
 /// Does one phase of all: each client in order its lines and then its clip calls, and the user its
 /// lines; then all end it.
-fn do_phase<'a, N: Name, R: Wait>(
+fn do_phase<'a, N: Name, R: Abort + Wait>(
     rt: &R,
     hall: &Hall<'a, N>,
     passes: &mut [Pass<'a>],
     clips: &mut [ClipPass<'a>],
     user: &mut UserPass<'a>,
     replies: &mut Vec<ClipReply>,
-) -> Result<(), NoMemory>
+)
     requires passes { All (Belongs N.parts) passes.old }
     requires clips { All (ClipBelongs N.parts) clips.old }
     requires each { length clips.old ≡ length passes.old }
@@ -49,21 +48,20 @@ fn do_phase<'a, N: Name, R: Wait>(
     ensures each { length clips.new ≡ length passes.new }
     ensures user { UserBelongs N.parts user.new }
 {
-    do_clients(rt, hall, passes, clips, replies)?;
+    do_clients(rt, hall, passes, clips, replies);
     end_all(rt, hall, passes, clips);
     do_user_lines(rt, hall, user);
     end_user_phase(rt, hall, user);
-    Ok(())
 }
 
 /// Does the lines and then the clip calls of each client's phase, in order.
-fn do_clients<'a, N: Name, R: Wait>(
+fn do_clients<'a, N: Name, R: Abort + Wait>(
     rt: &R,
     hall: &Hall<'a, N>,
     passes: &mut [Pass<'a>],
     clips: &mut [ClipPass<'a>],
     replies: &mut Vec<ClipReply>,
-) -> Result<(), NoMemory>
+)
     requires passes { All (Belongs N.parts) passes.old }
     requires clips { All (ClipBelongs N.parts) clips.old }
     requires each { length clips.old ≡ length passes.old }
@@ -72,9 +70,8 @@ fn do_clients<'a, N: Name, R: Wait>(
     ensures each { length clips.new ≡ length passes.new }
 {
     'clients: for k in 0..passes.len() {
-        do_lines(rt, hall, &mut passes[k], &mut clips[k], replies)?;
+        do_lines(rt, hall, &mut passes[k], &mut clips[k], replies);
     }
-    Ok(())
 }
 
 /// Ends each client's phase, in order.
@@ -97,32 +94,31 @@ fn end_all<'a, N: Name, R: Wait>(
 }
 
 /// Does the lines and then the clip calls of a client's phase, of which there are few.
-fn do_lines<'a, N: Name, R: Wait>(
+fn do_lines<'a, N: Name, R: Abort + Wait>(
     rt: &R,
     hall: &Hall<'a, N>,
     pass: &mut Pass<'a>,
     clip: &mut ClipPass<'a>,
     replies: &mut Vec<ClipReply>,
-) -> Result<(), NoMemory>
+)
     requires belongs { Belongs N.parts pass.old }
     requires clip_belongs { ClipBelongs N.parts clip.old }
     ensures belongs { Belongs N.parts pass.new }
     ensures clip_belongs { ClipBelongs N.parts clip.new }
 {
     'lines: for _ in 0..16 {
-        do_line(rt, hall, pass, clip, replies)?;
+        do_line(rt, hall, pass, clip, replies);
     }
-    Ok(())
 }
 
 /// Does the client's next line or clip call of its phase.
-fn do_line<'a, N: Name, R: Wait>(
+fn do_line<'a, N: Name, R: Abort + Wait>(
     rt: &R,
     hall: &Hall<'a, N>,
     pass: &mut Pass<'a>,
     clip: &mut ClipPass<'a>,
     replies: &mut Vec<ClipReply>,
-) -> Result<(), NoMemory>
+)
     requires belongs { Belongs N.parts pass.old }
     requires clip_belongs { ClipBelongs N.parts clip.old }
     ensures belongs { Belongs N.parts pass.new }
@@ -131,25 +127,21 @@ fn do_line<'a, N: Name, R: Wait>(
     match pass.next() {
         Some(Line::Call(_)) => {
             hall.serve_next(rt, pass);
-            Ok(())
         }
-        Some(Line::Stroke(_)) => {
-            pass.stroke();
-            Ok(())
-        }
+        Some(Line::Stroke(_)) => pass.stroke(),
         Some(Line::Phase) => do_clip(rt, hall, pass, clip, replies),
         None => do_clip(rt, hall, pass, clip, replies),
     }
 }
 
 /// Does the client's next clip call, if its clip script is in the phase of its pass.
-fn do_clip<'a, N: Name, R: Wait>(
+fn do_clip<'a, N: Name, R: Abort + Wait>(
     rt: &R,
     hall: &Hall<'a, N>,
     pass: &mut Pass<'a>,
     clip: &mut ClipPass<'a>,
     replies: &mut Vec<ClipReply>,
-) -> Result<(), NoMemory>
+)
     requires belongs { Belongs N.parts pass.old }
     requires clip_belongs { ClipBelongs N.parts clip.old }
     requires phase_end { IsAtPhaseEnd pass.old }
@@ -157,14 +149,13 @@ fn do_clip<'a, N: Name, R: Wait>(
     ensures clip_belongs { ClipBelongs N.parts clip.new }
 {
     if pass.sid() != clip.sid() || pass.phase() != clip.phase() {
-        return Ok(());
+        return;
     }
     let Some(ClipLine::Call(_)) = clip.next() else {
-        return Ok(());
+        return;
     };
     let reply = hall.clip_next(rt, pass, clip);
-    replies.push(reply)?;
-    Ok(())
+    replies.push(reply).expect(rt, "memory for a reply");
 }
 
 /// Ends the client's phase, if its next line does.
@@ -193,13 +184,27 @@ fn turn<'a>(pass: &Pass<'a>, clip: &mut ClipPass<'a>)
     ensures sid { clip.new.sid ≡ clip.old.sid }
     ensures script { clip.new.script ≡ clip.old.script }
 {
-    let Some(ClipLine::Phase) = clip.next() else {
-        return;
-    };
-    let ahead = pass.phase();
-    if ahead >= 1 && ahead - 1 == clip.phase() {
+    if is_at_phase(clip) && is_ahead(pass, clip) {
         clip.turn(pass);
     }
+}
+
+/// Whether the next line of the clip script ends a phase.
+fn is_at_phase<'a>(clip: &ClipPass<'a>) -> bool
+    ensures { IsTrue result → IsAtClipPhase clip.now }
+{
+    match clip.next() {
+        Some(ClipLine::Phase) => true,
+        _ => false,
+    }
+}
+
+/// Whether the pass is one phase ahead.
+fn is_ahead<'a>(pass: &Pass<'a>, clip: &ClipPass<'a>) -> bool
+    ensures { IsTrue result → pass.now.phase ≡ clip.now.phase + 1 }
+{
+    let phase = pass.phase();
+    phase >= 1 && phase - 1 == clip.phase()
 }
 
 /// Does the user's lines of its phase, of which there are few.

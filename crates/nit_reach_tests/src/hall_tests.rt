@@ -7,9 +7,10 @@ ghost use Rattle.nit_reach_tests.specs.HallOpening.{IsOpenRoom};
 
 use crate::hall_opening::{all_opened, buffers_of, canvases_of, plans_of};
 use crate::hall_steps::do_phases;
+use crate::same::same;
 use nit_clip::{ClipEntry, ClipReply, ClipScript, clip_text, parse_clip};
 use nit_config::{Config, read_config};
-use nit_hall::{ClipOpened, Hall, Name, Opened};
+use nit_hall::{ClipOpened, ClipPass, Hall, Name, Opened, Pass, Room, UserPass};
 use nit_rect::NoMemory;
 use nit_script::{Client, Input, parse_client, parse_input};
 use std::alloc::Global;
@@ -154,18 +155,25 @@ fn serve_all<'a, N: Name, R: Abort + Wait>(
     let mut passes = passes;
     let mut user = user;
     let mut clips = clips;
-    let hall: Hall<'a, N> = Hall::new(room);
     let mut answers = Vec::new(alloc);
-    do_phases(
-        rt,
-        &hall,
-        passes.as_mut_slice(),
-        clips.as_mut_slice(),
-        &mut user,
-        &mut answers,
-    )?;
-    let room = hall.into_room();
+    let room = serve_room::<N, R>(rt, room, &mut passes, &mut clips, &mut user, &mut answers);
     assert_listed(rt, alloc, answers.as_slice(), room.clip_list(), wanted)
+}
+
+/// The same for the parts of an opening.
+fn serve_room<'a, N: Name, R: Abort + Wait>(
+    rt: &R,
+    room: Room<'a>,
+    passes: &mut [Pass<'a>],
+    clips: &mut [ClipPass<'a>],
+    user: &mut UserPass<'a>,
+    answers: &mut Vec<ClipReply>,
+) -> Room<'a>
+    requires { IsOpenRoom N.parts room passes.old user.old clips.old }
+{
+    let hall: Hall<'a, N> = Hall::new(room);
+    do_phases(rt, &hall, passes, clips, user, answers);
+    hall.into_room()
 }
 
 /// The clip list has this text, and the answers in it are these.
@@ -177,7 +185,7 @@ fn assert_listed<R: Abort>(
     wanted: &[u8],
 ) -> Result<(), NoMemory> {
     let text = clip_text(alloc, entries)?;
-    assert_eq!(rt; text.as_slice(), wanted);
+    same(rt, &wanted, &text.as_slice(), &wanted);
     assert_answers(rt, answers, entries);
     Ok(())
 }

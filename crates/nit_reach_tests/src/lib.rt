@@ -14,3 +14,5 @@ mod hall_steps;
 mod hall_tests;
 #[cfg(test)]
 mod nest_tests;
+#[cfg(test)]
+mod same;

@@ -3,8 +3,11 @@
 ghost use Rattle.std.specs.Prelude.{◌≡◌, ◌*◌, IsTrue, All, length};
 ghost use Rattle.nit_nested.specs.Spelling.{FitsColour};
 
+use crate::same::same;
 use nit_nested::{Nest, NestError};
-use nit_script::{parse_client, print_client};
+use nit_script::{Client, parse_client, print_client};
+use std::alloc::Global;
+use std::process::Abort;
 use std::test::Fail;
 
 const RED: u32 = 0xFF0000;
@@ -44,14 +47,39 @@ fn are_colours(words: &[u32]) -> bool
     words.iter().all(|word| *word < 0x100_0000)
 }
 
+/// The script that shows the frames beside these own lines has so many lines and this text.
+fn assert_script(
+    rt: &impl Abort,
+    alloc: Global,
+    nest: &Nest,
+    own: &[u8],
+    count: usize,
+    want: &str,
+) -> Result<(), Fail> {
+    let own = parse_client(alloc, own)?;
+    let script = nest.script(&own)?;
+    assert_printed(rt, alloc, &script, count, want)
+}
+
+fn assert_printed(
+    rt: &impl Abort,
+    alloc: Global,
+    script: &Client,
+    count: usize,
+    want: &str,
+) -> Result<(), Fail> {
+    same(rt, &"lines", &script.lines().len(), &count);
+    let printed = print_client(alloc, script)?;
+    same(rt, &want, &printed.as_slice(), &want.as_bytes());
+    Ok(())
+}
+
 /// The two frames of a run of two clients, shown by a client with one view.
 #[test]
 fn two_frames(rt: HostRuntime) -> Result<(), Fail> {
     let mut nest = Nest::new(rt.alloc(), 8, 4);
-    assert_eq!(rt; add(&mut nest, &FIRST), Ok(()));
-    assert_eq!(rt; add(&mut nest, &SECOND), Ok(()));
-    let own = parse_client(rt.alloc(), b"view\nplace 1 0 0 8 4\nphase\n")?;
-    let script = nest.script(&own)?;
+    same(&rt, &"first", &add(&mut nest, &FIRST), &Ok(()));
+    same(&rt, &"second", &add(&mut nest, &SECOND), &Ok(()));
     let text = "buffer 8 4\n\
         fill 0 0 4 1 0000FF\nfill 4 0 4 1 000020\n\
         fill 0 1 4 1 0000FF\nfill 4 1 4 1 000020\n\
@@ -61,9 +89,32 @@ fn two_frames(rt: HostRuntime) -> Result<(), Fail> {
         fill 0 1 4 1 FF0000\nfill 4 1 4 1 000020\n\
         fill 0 2 4 1 000020\nfill 4 2 4 1 0000FF\n\
         fill 0 3 4 1 000020\nfill 4 3 4 1 0000FF\nrefresh 0 0 8 4\n";
-    assert_eq!(rt; script.lines().len(), 20);
-    let printed = print_client(rt.alloc(), &script)?;
-    assert_eq!(rt; printed.as_slice(), text.as_bytes());
+    let own = b"view\nplace 1 0 0 8 4\nphase\n";
+    assert_script(&rt, rt.alloc(), &nest, own, 20, text)
+}
+
+/// Own lines of a script, and why they cannot show one frame.
+const REFUSED: [(&str, NestError); 5] = [
+    (
+        "view\nphase\nbuffer 1 1\nclose\n",
+        NestError::Bad { line: 3 },
+    ),
+    ("phase\nclose\n", NestError::Bad { line: 2 }),
+    ("fill 0 0 1 1 000000\n", NestError::Bad { line: 1 }),
+    ("check 0 0 1 1 000000 FFFFFF\n", NestError::Bad { line: 1 }),
+    ("view\nphase\n", NestError::Phases),
+];
+
+fn assert_refused(
+    rt: &impl Abort,
+    alloc: Global,
+    nest: &Nest,
+    rows: &[(&'static str, NestError)],
+) -> Result<(), Fail> {
+    for (text, want) in rows {
+        let own = parse_client(alloc, text.as_bytes())?;
+        same(rt, text, &nest.script(&own).err(), &Some(*want));
+    }
     Ok(())
 }
 
@@ -71,21 +122,6 @@ fn two_frames(rt: HostRuntime) -> Result<(), Fail> {
 #[test]
 fn refused(rt: HostRuntime) -> Result<(), Fail> {
     let mut nest = Nest::new(rt.alloc(), 8, 4);
-    assert_eq!(rt; add(&mut nest, &FIRST), Ok(()));
-    let rows = [
-        (
-            "view\nphase\nbuffer 1 1\nclose\n",
-            NestError::Bad { line: 3 },
-        ),
-        ("phase\nclose\n", NestError::Bad { line: 2 }),
-        ("fill 0 0 1 1 000000\n", NestError::Bad { line: 1 }),
-        ("check 0 0 1 1 000000 FFFFFF\n", NestError::Bad { line: 1 }),
-        ("view\nphase\n", NestError::Phases),
-    ];
-    for (text, error) in rows {
-        let own = parse_client(rt.alloc(), text.as_bytes())?;
-        let answer = nest.script(&own);
-        assert_eq!(rt; answer.err(), Some(error), "at {text:?}");
-    }
-    Ok(())
+    same(&rt, &"first", &add(&mut nest, &FIRST), &Ok(()));
+    assert_refused(&rt, rt.alloc(), &nest, &REFUSED)
 }
