@@ -1,15 +1,11 @@
 //! Audits of journals by the configuration and the scripts of two clients.
 
-use crate::case::{Case, alone, assert_cases, command, files, store};
-use crate::content::Content;
-use crate::journals::Journal;
-use crate::same::same;
+use crate::case::{Case, alone, assert_cases, files, over};
 use crate::two_tests::{A, B, CONFIG, FILES, INPUT, JOURNAL};
-use nit_actor::Open;
-use std::test::Fail;
+use crate::{Abort, Content, Fail, Global, Journal, MemoryStore, same};
 
 /// The names of the files that the audit reads, in this order.
-const NAMES: [&str; 5] = ["two.toml", "a.nit", "b.nit", "two.in", "journal.txt"];
+const NAMES: &str = "two.toml a.nit b.nit two.in journal.txt";
 
 /// The words that ask for the audit.
 const AUDIT: [&str; 3] = ["audit", "two.toml", "journal.txt"];
@@ -42,8 +38,8 @@ macro_rules! audit {
             failing: $failing,
             status: $status,
             said: $said,
-            asked: (&NAMES, $asked),
-            there: (&NAMES, 5),
+            asked: (NAMES, $asked),
+            there: (NAMES, 5),
             holds: &[],
             journal: &[Journal::Count(0)],
         }
@@ -116,11 +112,15 @@ static OTHERS: [Case; 8] = [
     audit!(INPUT, UNENDED, &[6], 9, "", 5),
     audit!(INPUT, "call", &[6], 8, "", 5),
     Case {
+        words: &AUDIT,
         files: &FILES,
+        failing: &[],
         status: 3,
         said: UNREAD,
-        there: (&NAMES, 4),
-        ..OWN
+        asked: (NAMES, 5),
+        there: (NAMES, 4),
+        holds: &[],
+        journal: &[Journal::Count(0)],
     },
 ];
 
@@ -133,16 +133,28 @@ fn audits(rt: HostRuntime) -> Result<(), Fail> {
     Ok(())
 }
 
-/// The journals that runs put, by turns and beside each other.
+/// The runs of the two clients, by turns and beside each other.
+const RUNS: [[&str; 2]; 2] = [["turns", "two.toml"], ["run", "two.toml"]];
+
+/// The journal of this store is found to be one of a run.
+fn assert_audited(
+    rt: &impl Abort,
+    alloc: Global,
+    words: &[&str],
+    mut store: MemoryStore,
+) -> Result<(), Fail> {
+    let audit = alone(alloc, &AUDIT, &mut store)?.ok_or("threads")?;
+    same(rt, &words, &audit.status, &0);
+    Ok(())
+}
+
 #[test]
 fn journals_that_runs_put(rt: HostRuntime) -> Result<(), Fail> {
     let alloc = rt.alloc();
-    for word in &["turns", "run"] {
-        let mut store = store(&rt, alloc, files(alloc, &FILES)?, &[])?;
-        let ran = command(&rt, alloc, &[*word, "two.toml"], &mut store, &Open)?;
-        same(&rt, word, &ran.status, &0);
-        let audit = alone(alloc, &AUDIT, &mut store)?.ok_or("threads")?;
-        same(&rt, word, &audit.status, &0);
+    for words in &RUNS {
+        let (ran, store) = over(&rt, alloc, words, files(alloc, &FILES)?, &[])?;
+        same(&rt, words, &ran.status, &0);
+        assert_audited(&rt, alloc, words, store)?;
     }
     Ok(())
 }

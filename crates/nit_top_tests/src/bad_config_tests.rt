@@ -1,29 +1,27 @@
 //! Configurations that are refused.
 
-use crate::case::{Case, assert_cases};
-use crate::content::{Content, Piece, Want};
-use crate::journals::Journal;
-use crate::two_tests::{A, B, CONFIG, INPUT, NAMES, TURNS};
-use std::test::Fail;
+use crate::two_tests::{A, B, CONFIG, INPUT, NAMES, SUMMARY};
+use crate::{Case, Content, Fail, Journal, List, Piece, Want, assert_cases};
 
 /// The configuration of two clients is this one, and is refused by this line: nothing else is read,
 /// and nothing is put.
 macro_rules! bad {
     ($config:expr, $said:expr) => {
         Case {
+            words: &["turns", "two.toml"],
             files: &[
                 ("two.toml", $config),
                 ("a.nit", Content::Plain(A)),
                 ("b.nit", Content::Plain(B)),
                 ("two.in", Content::Plain(INPUT)),
             ],
+            failing: &[],
             status: 5,
             said: $said,
-            asked: (&NAMES, 1),
-            there: (&NAMES, 4),
+            asked: (NAMES, 1),
+            there: (NAMES, 4),
             holds: &[],
             journal: &[Journal::Count(0)],
-            ..TURNS
         }
     };
 }
@@ -104,14 +102,20 @@ static CASES: [Case; 15] = [
         "nitpicker: two.toml: bad configuration: too many\n"
     ),
     Case {
+        words: &["turns", "two.toml"],
         files: &[
             ("two.toml", Content::Pieces(&LONG)),
             ("a.nit", Content::Plain(A)),
             ("b.nit", Content::Plain(B)),
             ("two.in", Content::Plain(INPUT)),
         ],
+        failing: &[],
+        status: 0,
+        said: SUMMARY,
+        asked: (NAMES, 9),
+        there: (NAMES, 9),
         holds: &[("two.toml", Want::Length(1_048_576))],
-        ..TURNS
+        journal: &[Journal::Whole(List::Two)],
     },
     bad!(
         Content::Pieces(&TOO_LONG),

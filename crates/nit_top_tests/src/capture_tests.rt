@@ -1,24 +1,11 @@
 //! Films of the run of two clients.
 
-use crate::case::{Case, assert_cases};
-use crate::content::Want;
-use crate::journals::{Journal, List};
 use crate::two_tests::{FILES, SUMMARY};
-use std::test::Fail;
+use crate::{Case, Fail, Journal, List, Want, assert_cases};
 
 /// The names of the files that a capture reads and puts, in this order.
-const FILMED: [&str; 10] = [
-    "two.toml",
-    "a.nit",
-    "b.nit",
-    "two.in",
-    "shot-1.ppm",
-    "final.ppm",
-    "events-a.txt",
-    "events-b.txt",
-    "journal.txt",
-    "capture.ncap",
-];
+const FILMED: &str = "two.toml a.nit b.nit two.in shot-1.ppm final.ppm events-a.txt events-b.txt \
+    journal.txt capture.ncap";
 
 /// The film of the left half of the upper rows: blue in the shot, and red at the end.
 const LEFT: [u8; 27] = [
@@ -48,8 +35,8 @@ macro_rules! film {
             failing: $failing,
             status: $status,
             said: $said,
-            asked: (&FILMED, $asked),
-            there: (&FILMED, $there),
+            asked: (FILMED, $asked),
+            there: (FILMED, $there),
             holds: $holds,
             journal: &[$journal],
         }

@@ -2,18 +2,13 @@
 
 use crate::content::{Content, Want, bytes, picture};
 use crate::journals::{Journal, assert_journal};
-use crate::same::same;
+use crate::{Abort, AllocError, Fail, Global, Threads, Wait, same};
 use nit_actor::{Gate, Open};
 use nit_store::{MemoryStore, Store, have_different_names};
 use nit_top::{Done, nitpicker, nitpicker_alone, starts_threads};
-use std::alloc::{AllocError, Global};
-use std::process::Abort;
-use std::sync::Wait;
-use std::test::Fail;
-use std::thread::Threads;
 
-/// The first so many of these names.
-pub type Names = (&'static [&'static str], usize);
+/// The first so many of these names, between which there is a space.
+pub type Names = (&'static str, usize);
 
 /// A command, and what comes of it.
 pub struct Case {
@@ -91,10 +86,29 @@ pub fn alone<S: Store>(
     store: &mut S,
 ) -> Result<Option<Done>, AllocError> {
     let words = texts(alloc, words)?;
-    if starts_threads(&words) {
-        return Ok(None);
+    Ok(unless_threads(alloc, &words, store))
+}
+
+/// The same with words of their own.
+fn unless_threads<S: Store>(alloc: Global, words: &[String], store: &mut S) -> Option<Done> {
+    if starts_threads(words) {
+        return None;
     }
-    Ok(Some(nitpicker_alone(alloc, &words, store)))
+    Some(nitpicker_alone(alloc, words, store))
+}
+
+/// Does what the words ask for over a store with these files, of which the calls with these numbers
+/// fail.
+pub fn over<R: Abort + Threads + Wait + Sync>(
+    rt: &R,
+    alloc: Global,
+    words: &[&str],
+    files: Vec<(String, Vec<u8>)>,
+    failing: &[u64],
+) -> Result<(Done, MemoryStore), AllocError> {
+    let mut store = store(rt, alloc, files, failing)?;
+    let done = command(rt, alloc, words, &mut store, &Open)?;
+    Ok((done, store))
 }
 
 /// The cases come out so.
@@ -145,7 +159,7 @@ pub fn assert_store(
     store: &MemoryStore,
 ) -> Result<(), Fail> {
     assert_done(rt, alloc, case, done, store.said(), store.files())?;
-    assert_asked(rt, case, store.asked())
+    Ok(assert_names(rt, alloc, case, store.asked(), case.asked)?)
 }
 
 /// The command of a case came out so, but for what was asked for.
@@ -158,7 +172,7 @@ pub fn assert_done(
     files: &[(String, Vec<u8>)],
 ) -> Result<(), Fail> {
     assert_end(rt, case, done, said);
-    assert_there(rt, case, files)?;
+    assert_names(rt, alloc, case, &names_of(alloc, files)?, case.there)?;
     assert_holds(rt, alloc, case, files)?;
     assert_journal(rt, alloc, case, &done.journal)
 }
@@ -174,25 +188,37 @@ pub fn assert_end(rt: &impl Abort, case: &Case, done: &Done, said: &[u8]) {
     );
 }
 
-/// These names are asked for, in order.
-fn assert_asked(rt: &impl Abort, case: &Case, asked: &[String]) -> Result<(), Fail> {
-    let (names, count) = case.asked;
-    let names = names.get(..count).ok_or("too few names")?;
-    same(rt, &case.label(), &asked.len(), &count);
-    for (name, want) in asked.iter().zip(names) {
-        same(rt, &case.label(), &name.as_str(), want);
+/// The names of files.
+fn names_of(alloc: Global, files: &[(String, Vec<u8>)]) -> Result<Vec<String>, AllocError> {
+    let mut names = Vec::new(alloc);
+    for file in files {
+        names.push(String::from_str(alloc, file.0.as_str())?)?;
     }
-    Ok(())
+    Ok(names)
 }
 
-/// Files of these names are there, in order.
-fn assert_there(rt: &impl Abort, case: &Case, files: &[(String, Vec<u8>)]) -> Result<(), Fail> {
-    let (names, count) = case.there;
-    let names = names.get(..count).ok_or("too few names")?;
-    same(rt, &case.label(), &files.len(), &count);
-    for (file, want) in files.iter().zip(names) {
-        same(rt, &case.label(), &file.0.as_str(), want);
+/// At most so many names of a text.
+fn first_names(alloc: Global, text: &str, count: usize) -> Result<Vec<String>, AllocError> {
+    let mut names = Vec::new(alloc);
+    for name in text.split(' ') {
+        if names.len() < count {
+            names.push(String::from_str(alloc, name)?)?;
+        }
     }
+    Ok(names)
+}
+
+/// The names that are found are these, in order.
+fn assert_names(
+    rt: &impl Abort,
+    alloc: Global,
+    case: &Case,
+    found: &[String],
+    names: Names,
+) -> Result<(), AllocError> {
+    let want = first_names(alloc, names.0, names.1)?;
+    same(rt, &case.label(), &want.len(), &names.1);
+    same(rt, &case.label(), &found, &want.as_slice());
     Ok(())
 }
 

@@ -1,24 +1,11 @@
 //! Runs with clip scripts: the worked rows, clip scripts that are refused, and puts that are.
 
-use crate::case::{Case, assert_cases};
-use crate::content::{Content, Piece, Want};
-use crate::journals::Journal;
-use std::test::Fail;
+use crate::{Case, Content, Fail, Journal, Piece, Want, assert_cases};
 
 /// The names of the files that the run of both clients reads and puts, in this order.
-const CLIPPED: [&str; 11] = [
-    "pair.toml",
-    "pa.nit",
-    "pb.nit",
-    "clip.in",
-    "pa.nit.clip",
-    "pb.nit.clip",
-    "final.ppm",
-    "events-a.txt",
-    "events-b.txt",
-    "journal.txt",
-    "clip.txt",
-];
+const CLIPPED: &str =
+    "pair.toml pa.nit pb.nit clip.in pa.nit.clip pb.nit.clip final.ppm events-a.txt \
+    events-b.txt journal.txt clip.txt";
 
 /// Both clients of the drag.
 const PAIR: &str = "[screen]\nwidth = 8\nheight = 4\n\n[input]\nscript = \"clip.in\"\n\n\
@@ -55,23 +42,26 @@ const OTHER_LINES: [&str; 3] = [
     "clip 9 1 not-focused < paste\nclip 9 0 copied < copy =hi\nclip 9 0 pasted =hi < paste\n",
 ];
 
+/// The files that the run of both reads, in this order.
+const FILES: [(&str, Content); 6] = [
+    ("pair.toml", Content::Plain(PAIR)),
+    ("pa.nit", Content::Plain(LEFT)),
+    ("pb.nit", Content::Plain(RIGHT)),
+    ("clip.in", Content::Plain(CLICK)),
+    ("pa.nit.clip", Content::Plain(FIRST)),
+    ("pb.nit.clip", Content::Plain(SECOND)),
+];
+
 /// Two clients. The first asks without the focus, and then copies and pastes with it; the second
 /// never has it.
 const BOTH: Case = Case {
     words: &["clip", "pair.toml"],
-    files: &[
-        ("pair.toml", Content::Plain(PAIR)),
-        ("pa.nit", Content::Plain(LEFT)),
-        ("pb.nit", Content::Plain(RIGHT)),
-        ("clip.in", Content::Plain(CLICK)),
-        ("pa.nit.clip", Content::Plain(FIRST)),
-        ("pb.nit.clip", Content::Plain(SECOND)),
-    ],
+    files: &FILES,
     failing: &[],
     status: 0,
     said: "nitpicker: clients 2 entries 10 frames 1\n",
-    asked: (&CLIPPED, 11),
-    there: (&CLIPPED, 11),
+    asked: (CLIPPED, 11),
+    there: (CLIPPED, 11),
     holds: &[("clip.txt", Want::OneOf(&FIRST_LINES, &OTHER_LINES))],
     journal: &[Journal::Count(10)],
 };
@@ -92,6 +82,7 @@ fn two_clients_with_a_clipboard(rt: HostRuntime) -> Result<(), Fail> {
 macro_rules! refused {
     ($input:expr, $first:expr, $second:expr, $said:expr, $asked:expr) => {
         Case {
+            words: &["clip", "pair.toml"],
             files: &[
                 ("pair.toml", Content::Plain(PAIR)),
                 ("pa.nit", Content::Plain(LEFT)),
@@ -100,13 +91,13 @@ macro_rules! refused {
                 ("pa.nit.clip", Content::Plain($first)),
                 ("pb.nit.clip", $second),
             ],
+            failing: &[],
             status: 6,
             said: $said,
-            asked: (&CLIPPED, $asked),
-            there: (&CLIPPED, 6),
+            asked: (CLIPPED, $asked),
+            there: (CLIPPED, 6),
             holds: &[],
             journal: &[Journal::Count(0)],
-            ..BOTH
         }
     };
 }
@@ -171,38 +162,33 @@ static REFUSED: [Case; 7] = [
     ),
 ];
 
-const ONE_NAMES: [&str; 8] = [
-    "pair.toml",
-    "pa.nit",
-    "clip.in",
-    "pa.nit.clip",
-    "final.ppm",
-    "events-a.txt",
-    "journal.txt",
-    "clip.txt",
-];
+const ONE_NAMES: &str =
+    "pair.toml pa.nit clip.in pa.nit.clip final.ppm events-a.txt journal.txt clip.txt";
 
 static OTHERS: [Case; 5] = [
     // a client alone that is focused by a click and only pastes
     Case {
+        words: &["clip", "pair.toml"],
         files: &[
             ("pair.toml", Content::Plain(ONE)),
             ("pa.nit", Content::Plain(LEFT)),
             ("clip.in", Content::Plain(CLICK)),
             ("pa.nit.clip", Content::Plain(SECOND)),
         ],
+        failing: &[],
+        status: 0,
         said: "nitpicker: clients 1 entries 7 frames 1\n",
-        asked: (&ONE_NAMES, 8),
-        there: (&ONE_NAMES, 8),
+        asked: (ONE_NAMES, 8),
+        there: (ONE_NAMES, 8),
         holds: &[(
             "clip.txt",
             Want::Is(Content::Plain("clip 6 0 empty < paste\n")),
         )],
         journal: &[Journal::Count(7)],
-        ..BOTH
     },
     // a clip script that is not there
     Case {
+        words: &["clip", "pair.toml"],
         files: &[
             ("pair.toml", Content::Plain(PAIR)),
             ("pa.nit", Content::Plain(LEFT)),
@@ -210,44 +196,49 @@ static OTHERS: [Case; 5] = [
             ("clip.in", Content::Plain(CLICK)),
             ("pa.nit.clip", Content::Plain(FIRST)),
         ],
+        failing: &[],
         status: 3,
         said: "nitpicker: pb.nit.clip: read fault\n",
-        asked: (&CLIPPED, 6),
-        there: (&CLIPPED, 5),
+        asked: (CLIPPED, 6),
+        there: (CLIPPED, 5),
         holds: &[],
         journal: &[Journal::Count(0)],
-        ..BOTH
     },
     // one that cannot be read
     Case {
+        words: &["clip", "pair.toml"],
+        files: &FILES,
         failing: &[5],
         status: 3,
         said: "nitpicker: pa.nit.clip: read fault\n",
-        asked: (&CLIPPED, 5),
-        there: (&CLIPPED, 6),
+        asked: (CLIPPED, 5),
+        there: (CLIPPED, 6),
         holds: &[],
         journal: &[Journal::Count(0)],
-        ..BOTH
     },
     // No clip list is put behind a put that was refused. Where its own is refused, all else is
     // there.
     Case {
+        words: &["clip", "pair.toml"],
+        files: &FILES,
         failing: &[10],
         status: 4,
         said: "nitpicker: journal.txt: write fault\n",
-        asked: (&CLIPPED, 10),
-        there: (&CLIPPED, 9),
+        asked: (CLIPPED, 10),
+        there: (CLIPPED, 9),
         holds: &[],
-        ..BOTH
+        journal: &[Journal::Count(10)],
     },
     Case {
+        words: &["clip", "pair.toml"],
+        files: &FILES,
         failing: &[11],
         status: 4,
         said: "nitpicker: clip.txt: write fault\n",
-        asked: (&CLIPPED, 11),
-        there: (&CLIPPED, 10),
+        asked: (CLIPPED, 11),
+        there: (CLIPPED, 10),
         holds: &[],
-        ..BOTH
+        journal: &[Journal::Count(10)],
     },
 ];
 

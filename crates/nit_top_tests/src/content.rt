@@ -1,7 +1,6 @@
 //! What a file holds, and what it is to hold.
 
-use std::alloc::{AllocError, Global};
-use std::test::Fail;
+use crate::{AllocError, Fail, Global};
 
 /// The bytes of a file.
 #[derive(Clone, Copy)]

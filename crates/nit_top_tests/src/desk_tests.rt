@@ -1,25 +1,10 @@
 //! The desk of three clients on a screen of 1024 by 768, each on a thread of its own.
 
-use crate::case::{Case, assert_cases, bytes_of, command, files, store};
-use crate::content::{Content, Piece, Want};
-use crate::journals::Journal;
-use nit_actor::Open;
-use std::test::Fail;
+use crate::case::{Case, assert_cases, bytes_of, files, over};
+use crate::{Abort, Content, Fail, Global, Journal, Piece, Threads, Wait, Want, same};
 
-const NAMES: [&str; 12] = [
-    "desk.toml",
-    "term.nit",
-    "web.nit",
-    "stat.nit",
-    "desk.in",
-    "shot-1.ppm",
-    "shot-2.ppm",
-    "final.ppm",
-    "events-terminal.txt",
-    "events-browser.txt",
-    "events-status.txt",
-    "journal.txt",
-];
+const NAMES: &str = "desk.toml term.nit web.nit stat.nit desk.in shot-1.ppm shot-2.ppm final.ppm \
+    events-terminal.txt events-browser.txt events-status.txt journal.txt";
 
 /// The status line: two views that share a grey buffer.
 const STATUS: &str = "buffer 1024 40\nfill 0 0 1024 40 404040\nview\nview\n\
@@ -136,8 +121,8 @@ static CASES: [Case; 1] = [Case {
     failing: &[],
     status: 0,
     said: "nitpicker: clients 3 entries 245 frames 3\n",
-    asked: (&NAMES, 12),
-    there: (&NAMES, 12),
+    asked: (NAMES, 12),
+    there: (NAMES, 12),
     holds: &[("final.ppm", Want::Ends(2_359_312, 2_236_432, 0x40))],
     journal: &[Journal::Count(245), Journal::Sessions(3)],
 }];
@@ -147,18 +132,23 @@ fn desk_beside_each_other(rt: HostRuntime) -> Result<(), Fail> {
     assert_cases(&rt, rt.alloc(), &CASES)
 }
 
-/// Where each client has a layer of its own, no thread changes what stands in front, and the last
-/// picture is that of the run by turns.
+/// The last picture of this run, where each client has a layer of its own.
+fn last_picture<R: Abort + Threads + Wait + Sync>(
+    rt: &R,
+    alloc: Global,
+    words: &[&str],
+) -> Result<Vec<u8>, Fail> {
+    let (done, store) = over(rt, alloc, words, files(alloc, &LAYERS)?, &[])?;
+    same(rt, &words, &done.status, &0);
+    let picture = bytes_of(store.files(), "final.ppm").ok_or("no picture")?;
+    Ok(picture.to_vec(alloc)?)
+}
+
+/// There no thread changes what stands in front, and the last picture is that of the run by turns.
 #[test]
 fn desk_in_layers(rt: HostRuntime) -> Result<(), Fail> {
-    let alloc = rt.alloc();
-    let mut beside = store(&rt, alloc, files(alloc, &LAYERS)?, &[])?;
-    let mut by_turns = store(&rt, alloc, files(alloc, &LAYERS)?, &[])?;
-    let first = command(&rt, alloc, &["run", "desk.toml"], &mut beside, &Open)?;
-    let second = command(&rt, alloc, &["turns", "desk.toml"], &mut by_turns, &Open)?;
-    assert!(rt; first.status == 0 && second.status == 0);
-    let last = bytes_of(beside.files(), "final.ppm").ok_or("no picture")?;
-    let other = bytes_of(by_turns.files(), "final.ppm").ok_or("no picture")?;
-    assert!(rt; last == other);
+    let beside = last_picture(&rt, rt.alloc(), &["run", "desk.toml"])?;
+    let by_turns = last_picture(&rt, rt.alloc(), &["turns", "desk.toml"])?;
+    assert!(rt; beside == by_turns);
     Ok(())
 }

@@ -1,11 +1,10 @@
 //! Runs with each client on a thread of its own, at gates that see which thread has come how far.
 
 use crate::case::{Case, assert_case};
-use crate::content::Content;
-use crate::two_tests::{CONFIG, TURNS};
+use crate::two_tests::CONFIG;
+use crate::{Content, Fail};
 use nit_actor::Gate;
 use std::sync::atomic::{AtomicBool, Ordering};
-use std::test::Fail;
 
 // ---- both clients at once
 
@@ -63,24 +62,17 @@ static MEETING: Case = Case {
         ("b.nit", Content::Plain("view\n")),
         ("two.in", Content::Plain("")),
     ],
+    failing: &[],
+    status: 0,
     said: "nitpicker: clients 2 entries 3 frames 1\n",
-    asked: (&MEETING_NAMES, 8),
-    there: (&MEETING_NAMES, 8),
+    asked: (MEETING_NAMES, 8),
+    there: (MEETING_NAMES, 8),
     holds: &[],
     journal: &[],
-    ..TURNS
 };
 
-const MEETING_NAMES: [&str; 8] = [
-    "two.toml",
-    "a.nit",
-    "b.nit",
-    "two.in",
-    "final.ppm",
-    "events-a.txt",
-    "events-b.txt",
-    "journal.txt",
-];
+const MEETING_NAMES: &str =
+    "two.toml a.nit b.nit two.in final.ppm events-a.txt events-b.txt journal.txt";
 
 #[test]
 fn both_clients_at_once(rt: HostRuntime) -> Result<(), Fail> {
@@ -131,25 +123,19 @@ static ENDING: Case = Case {
         ("a.nit", Content::Plain("phase\nfill 0 0 1 1 FF0000\n")),
         ("one.in", Content::Plain("phase\n")),
     ],
+    failing: &[],
+    status: 0,
     said: "nitpicker: clients 1 entries 1 frames 1\n",
-    asked: (&ENDING_NAMES, 6),
-    there: (&ENDING_NAMES, 6),
+    asked: (ENDING_NAMES, 6),
+    there: (ENDING_NAMES, 6),
     holds: &[],
     journal: &[],
-    ..TURNS
 };
 
 const ONE: &str = "[screen]\nwidth = 8\nheight = 4\n\n[input]\nscript = \"one.in\"\n\n\
                    [[client]]\nlabel = \"a\"\ndonation = 65536\nscript = \"a.nit\"\n";
 
-const ENDING_NAMES: [&str; 6] = [
-    "one.toml",
-    "a.nit",
-    "one.in",
-    "final.ppm",
-    "events-a.txt",
-    "journal.txt",
-];
+const ENDING_NAMES: &str = "one.toml a.nit one.in final.ppm events-a.txt journal.txt";
 
 #[test]
 fn strokes_wait_for_their_phase(rt: HostRuntime) -> Result<(), Fail> {

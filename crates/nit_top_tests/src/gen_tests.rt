@@ -1,36 +1,13 @@
 //! Generated runs. Whatever the number, and whatever the threads do, they say the same line.
 
-use crate::case::{Case, assert_cases, assert_store, command, store};
-use crate::journals::Journal;
-use nit_actor::Open;
-use nit_store::MemoryStore;
-use std::alloc::{AllocError, Global};
-use std::test::Fail;
+use crate::case::{Case, assert_cases, assert_store, over};
+use crate::{Abort, AllocError, Fail, Global, Journal, MemoryStore, Threads, Wait};
 
 /// The files that are made, in the order in which they are put, and then those of the run.
-const NAMES: [&str; 21] = [
-    "gen.toml",
-    "g0.nit",
-    "g1.nit",
-    "g2.nit",
-    "g3.nit",
-    "g4.nit",
-    "g5.nit",
-    "g6.nit",
-    "g7.nit",
-    "gen.in",
-    "shot-1.ppm",
-    "final.ppm",
-    "events-g0.txt",
-    "events-g1.txt",
-    "events-g2.txt",
-    "events-g3.txt",
-    "events-g4.txt",
-    "events-g5.txt",
-    "events-g6.txt",
-    "events-g7.txt",
-    "journal.txt",
-];
+const NAMES: &str =
+    "gen.toml g0.nit g1.nit g2.nit g3.nit g4.nit g5.nit g6.nit g7.nit gen.in shot-1.ppm \
+    final.ppm events-g0.txt events-g1.txt events-g2.txt events-g3.txt events-g4.txt \
+    events-g5.txt events-g6.txt events-g7.txt journal.txt";
 
 /// How many files are made.
 const MADE: usize = 10;
@@ -42,8 +19,8 @@ const GEN: Case = Case {
     failing: &[],
     status: 0,
     said: "nitpicker: clients 8 entries 12260 frames 2\n",
-    asked: (&NAMES, 21),
-    there: (&NAMES, 21),
+    asked: (NAMES, 21),
+    there: (NAMES, 21),
     holds: &[],
     journal: &[Journal::Count(12_260), Journal::Sessions(8)],
 };
@@ -55,8 +32,8 @@ macro_rules! fails {
             failing: &[$number],
             status: 4,
             said: $said,
-            asked: (&NAMES, $number),
-            there: (&NAMES, $there),
+            asked: (NAMES, $number),
+            there: (NAMES, $there),
             journal: &[Journal::Count($entries)],
             ..GEN
         }
@@ -106,15 +83,25 @@ fn made_files(alloc: Global, store: &MemoryStore) -> Result<Vec<(String, Vec<u8>
     Ok(files)
 }
 
+/// These words come out as the generated run does, over a store with these files.
+fn ran<R: Abort + Threads + Wait + Sync>(
+    rt: &R,
+    alloc: Global,
+    words: &[&str],
+    files: Vec<(String, Vec<u8>)>,
+) -> Result<MemoryStore, Fail> {
+    let (done, store) = over(rt, alloc, words, files, &[])?;
+    assert_store(rt, alloc, &SEVEN, &done, &store)?;
+    Ok(store)
+}
+
 /// The files that were made are run as the files of any other configuration, which are asked for in
 /// the same order.
 #[test]
 fn the_files_that_were_made(rt: HostRuntime) -> Result<(), Fail> {
     let alloc = rt.alloc();
-    let mut first = store(&rt, alloc, Vec::new(alloc), &[])?;
-    let made = command(&rt, alloc, SEVEN.words, &mut first, &Open)?;
-    assert_store(&rt, alloc, &SEVEN, &made, &first)?;
-    let mut again = store(&rt, alloc, made_files(alloc, &first)?, &[])?;
-    let done = command(&rt, alloc, &["run", "gen.toml"], &mut again, &Open)?;
-    assert_store(&rt, alloc, &SEVEN, &done, &again)
+    let made = ran(&rt, alloc, SEVEN.words, Vec::new(alloc))?;
+    let files = made_files(alloc, &made)?;
+    let _again = ran(&rt, alloc, &["run", "gen.toml"], files)?;
+    Ok(())
 }

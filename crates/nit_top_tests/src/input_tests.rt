@@ -1,9 +1,6 @@
 //! What the user's devices deliver, by whole runs.
 
-use crate::case::{Case, assert_cases};
-use crate::content::{Content, Piece, Want};
-use crate::journals::{Journal, List};
-use std::test::Fail;
+use crate::{Case, Content, Fail, Journal, List, Piece, Want, assert_cases};
 
 /// Two clients on a screen of 8 by 4.
 const PAIR: &str = "[screen]\nwidth = 8\nheight = 4\n\n[input]\nscript = \"pair.in\"\n\n\
@@ -31,16 +28,8 @@ const HELD: &str = "phase\npress 30\nmotion 1 1\npress 272\nrelease 272\nrelease
 /// A mode key while another key is held, and after it.
 const MODES: &str = "phase\nmotion 1 1\npress 30\npress 70\nrelease 30\npress 70\nmotion 1 1\n";
 
-const PAIR_NAMES: [&str; 8] = [
-    "pair.toml",
-    "pa.nit",
-    "pb.nit",
-    "pair.in",
-    "final.ppm",
-    "events-a.txt",
-    "events-b.txt",
-    "journal.txt",
-];
+const PAIR_NAMES: &str =
+    "pair.toml pa.nit pb.nit pair.in final.ppm events-a.txt events-b.txt journal.txt";
 
 /// The run of both clients under this configuration, with what the user does: what is said, the
 /// entries behind those of both clients, and what files hold.
@@ -57,8 +46,8 @@ macro_rules! pair {
             failing: &[],
             status: 0,
             said: $said,
-            asked: (&PAIR_NAMES, 8),
-            there: (&PAIR_NAMES, 8),
+            asked: (PAIR_NAMES, 8),
+            there: (PAIR_NAMES, 8),
             holds: $holds,
             journal: &[Journal::Placed($list)],
         }
@@ -108,14 +97,7 @@ const FULL_EVENTS: [Piece; 2] = [
     times!(1, "lost 1\nleft 0\nstate live\n"),
 ];
 
-const FULL_NAMES: [&str; 6] = [
-    "full.toml",
-    "fa.nit",
-    "full.in",
-    "final.ppm",
-    "events-a.txt",
-    "journal.txt",
-];
+const FULL_NAMES: &str = "full.toml fa.nit full.in final.ppm events-a.txt journal.txt";
 
 const FULL_QUEUE: Case = Case {
     words: &["turns", "full.toml"],
@@ -127,8 +109,8 @@ const FULL_QUEUE: Case = Case {
     failing: &[],
     status: 0,
     said: "nitpicker: clients 1 entries 134 frames 1\n",
-    asked: (&FULL_NAMES, 6),
-    there: (&FULL_NAMES, 6),
+    asked: (FULL_NAMES, 6),
+    there: (FULL_NAMES, 6),
     holds: &[("events-a.txt", Want::Is(Content::Pieces(&FULL_EVENTS)))],
     journal: &[Journal::Whole(List::Full)],
 };
@@ -140,14 +122,7 @@ const BAR: &str =
 
 const UNDER_BAR: &str = "buffer 12 12\nfill 0 0 12 12 FF0000\nview\nplace 1 0 0 12 12\nphase\n";
 
-const BAR_NAMES: [&str; 6] = [
-    "bar.toml",
-    "a.nit",
-    "bar.in",
-    "final.ppm",
-    "events-a.txt",
-    "journal.txt",
-];
+const BAR_NAMES: &str = "bar.toml a.nit bar.in final.ppm events-a.txt journal.txt";
 
 /// Motions in the status bar and under it.
 const BAR_MOTIONS: Case = Case {
@@ -160,8 +135,8 @@ const BAR_MOTIONS: Case = Case {
     failing: &[],
     status: 0,
     said: "nitpicker: clients 1 entries 6 frames 1\n",
-    asked: (&BAR_NAMES, 6),
-    there: (&BAR_NAMES, 6),
+    asked: (BAR_NAMES, 6),
+    there: (BAR_NAMES, 6),
     holds: &[],
     journal: &[Journal::Whole(List::Bar)],
 };

@@ -1,14 +1,9 @@
 //! How the journal of a case is: how many entries it has, which, and what is answered in it.
 
-use crate::case::Case;
 use crate::content::{Piece, joined};
-use crate::entries;
-use crate::same::same;
 use crate::sessions::assert_sessions;
+use crate::{Abort, AllocError, Case, Fail, Global, entries, same};
 use nit_events::{Entry, Reply};
-use std::alloc::{AllocError, Global};
-use std::process::Abort;
-use std::test::Fail;
 
 /// How a journal is.
 pub enum Journal {
@@ -100,8 +95,18 @@ fn assert_list(rt: &impl Abort, case: &Case, found: &[Entry], list: &List) {
 /// The entries are those of the full queue.
 fn assert_full(rt: &impl Abort, case: &Case, found: &[Entry]) {
     same(rt, &case.label(), &found.len(), &134);
-    for (place, entry) in found.iter().enumerate() {
-        same(rt, &case.label(), entry, &entries::filled(place));
+    let first = entries::FULL;
+    same(rt, &case.label(), &found.get(..3), &Some(first.as_slice()));
+    assert_each(rt, case, found.get(3..68), &entries::HEARD);
+    assert_each(rt, case, found.get(68..132), &entries::TAKEN);
+    let last = entries::EMPTIED;
+    same(rt, &case.label(), &found.get(132..), &Some(last.as_slice()));
+}
+
+/// Each of these entries is this one.
+fn assert_each(rt: &impl Abort, case: &Case, found: Option<&[Entry]>, want: &Entry) {
+    for entry in found.unwrap_or(&[]) {
+        same(rt, &case.label(), entry, want);
     }
 }
 

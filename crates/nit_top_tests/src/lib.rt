@@ -52,3 +52,24 @@ mod still_tests;
 mod two_tests;
 #[cfg(test)]
 mod usage_tests;
+
+#[cfg(test)]
+use case::{Case, assert_cases};
+#[cfg(test)]
+use content::{Content, Piece, Want};
+#[cfg(test)]
+use journals::{Journal, List};
+#[cfg(test)]
+use nit_store::MemoryStore;
+#[cfg(test)]
+use same::same;
+#[cfg(test)]
+use std::alloc::{AllocError, Global};
+#[cfg(test)]
+use std::process::Abort;
+#[cfg(test)]
+use std::sync::Wait;
+#[cfg(test)]
+use std::test::Fail;
+#[cfg(test)]
+use std::thread::Threads;

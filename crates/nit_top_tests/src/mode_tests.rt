@@ -1,10 +1,7 @@
 //! Pictures of the X-ray mode, of layers and of the status bar, and runs in which the user locks a
 //! client out.
 
-use crate::case::{Case, assert_cases};
-use crate::content::{Content, Piece, Want};
-use crate::journals::{Journal, List};
-use std::test::Fail;
+use crate::{Case, Content, Fail, Journal, List, Piece, Want, assert_cases};
 
 /// Two clients on a screen of 12 by 7.
 const XRAY: &str = "[screen]\nwidth = 12\nheight = 7\n\n[input]\nscript = \"xray.in\"\n\n\
@@ -57,8 +54,8 @@ macro_rules! xray {
             failing: &[],
             status: 0,
             said: "nitpicker: clients 2 entries 9 frames 2\n",
-            asked: (&XRAY_NAMES, 9),
-            there: (&XRAY_NAMES, 9),
+            asked: (XRAY_NAMES, 9),
+            there: (XRAY_NAMES, 9),
             holds: &[
                 ("shot-1.ppm", Want::Picture("12 7", $rows)),
                 ("final.ppm", Want::Picture("12 7", $rows)),
@@ -68,17 +65,9 @@ macro_rules! xray {
     };
 }
 
-const XRAY_NAMES: [&str; 9] = [
-    "xray.toml",
-    "xa.nit",
-    "xb.nit",
-    "xray.in",
-    "shot-1.ppm",
-    "final.ppm",
-    "events-ab.txt",
-    "events-b.txt",
-    "journal.txt",
-];
+const XRAY_NAMES: &str =
+    "xray.toml xa.nit xb.nit xray.in shot-1.ppm final.ppm events-ab.txt events-b.txt \
+    journal.txt";
 
 /// Two clients on a screen of 8 by 4.
 const KILL: &str = "[screen]\nwidth = 8\nheight = 4\n\n[input]\nscript = \"kill.in\"\n\n\
@@ -118,24 +107,16 @@ macro_rules! killing {
             failing: &[],
             status: 0,
             said: $said,
-            asked: (&KILL_NAMES, 8),
-            there: (&KILL_NAMES, 8),
+            asked: (KILL_NAMES, 8),
+            there: (KILL_NAMES, 8),
             holds: $holds,
             journal: $journal,
         }
     };
 }
 
-const KILL_NAMES: [&str; 8] = [
-    "kill.toml",
-    "ka.nit",
-    "kb.nit",
-    "kill.in",
-    "final.ppm",
-    "events-a.txt",
-    "events-b.txt",
-    "journal.txt",
-];
+const KILL_NAMES: &str =
+    "kill.toml ka.nit kb.nit kill.in final.ppm events-a.txt events-b.txt journal.txt";
 
 const KILLED: [&str; 4] = ["....BBBB", "....BBBB", "....BBBB", "....BBBB"];
 
@@ -148,16 +129,8 @@ const PA: &str = "buffer 4 4\nfill 0 0 4 4 FF0000\nview\nplace 1 0 0 4 4\nphase\
 
 const PB: &str = "buffer 4 4\nfill 0 0 4 4 0000FF\nview\nplace 1 0 0 4 4\nphase\n";
 
-const PAIR_NAMES: [&str; 8] = [
-    "pair.toml",
-    "pa.nit",
-    "pb.nit",
-    "pair.in",
-    "final.ppm",
-    "events-a.txt",
-    "events-b.txt",
-    "journal.txt",
-];
+const PAIR_NAMES: &str =
+    "pair.toml pa.nit pb.nit pair.in final.ppm events-a.txt events-b.txt journal.txt";
 
 /// A view of a layer behind comes to the front of its own layer alone.
 const BEHIND: Case = Case {
@@ -171,8 +144,8 @@ const BEHIND: Case = Case {
     failing: &[],
     status: 0,
     said: "nitpicker: clients 2 entries 8 frames 1\n",
-    asked: (&PAIR_NAMES, 8),
-    there: (&PAIR_NAMES, 8),
+    asked: (PAIR_NAMES, 8),
+    there: (PAIR_NAMES, 8),
     holds: &[(
         "final.ppm",
         Want::Picture("8 4", &["BBBB....", "BBBB....", "BBBB....", "BBBB...."]),
@@ -201,23 +174,9 @@ macro_rules! bar {
     };
 }
 
-const BAR_NAMES: [&str; 6] = [
-    "bar.toml",
-    "a.nit",
-    "bar.in",
-    "final.ppm",
-    "events-a.txt",
-    "journal.txt",
-];
+const BAR_NAMES: &str = "bar.toml a.nit bar.in final.ppm events-a.txt journal.txt";
 
-const NO_INPUT_NAMES: [&str; 6] = [
-    "bar.toml",
-    "a.nit",
-    "no.in",
-    "final.ppm",
-    "events-a.txt",
-    "journal.txt",
-];
+const NO_INPUT_NAMES: &str = "bar.toml a.nit no.in final.ppm events-a.txt journal.txt";
 
 const WIDE_BAR: &str =
     "[screen]\nwidth = 25\nheight = 8\nbar = true\n\n[input]\nscript = \"bar.in\"\n\n\
@@ -281,7 +240,7 @@ static CASES: [Case; 7] = [
         WIDE_BAR,
         UNDER_WIDE,
         ("bar.in", Content::Plain("phase\nmotion 1 7\npress 272\n")),
-        &BAR_NAMES,
+        BAR_NAMES,
         "nitpicker: clients 1 entries 6 frames 1\n",
         "25 8",
         &FOCUSED
@@ -290,7 +249,7 @@ static CASES: [Case; 7] = [
         NARROW_BAR,
         UNDER_NARROW,
         ("no.in", Content::Plain("")),
-        &NO_INPUT_NAMES,
+        NO_INPUT_NAMES,
         "nitpicker: clients 1 entries 4 frames 1\n",
         "12 12",
         &UNFOCUSED

@@ -1,10 +1,7 @@
 //! A run within a client: the run of two clients, shown by one client of a screen of the same size.
 
-use crate::case::{Case, assert_cases};
-use crate::content::{Content, Want};
-use crate::journals::Journal;
 use crate::two_tests::{A, B, CONFIG, EVENTS, FINAL, INPUT, JOURNAL};
-use std::test::Fail;
+use crate::{Case, Content, Fail, Journal, Want, assert_cases};
 
 /// The outer configuration, of one client.
 const OUTER: &str = "[screen]\nwidth = 8\nheight = 4\n\n[input]\nscript = \"o.in\"\n\n\
@@ -19,19 +16,9 @@ const BOTH: &str = "[screen]\nwidth = 8\nheight = 4\n\n[input]\nscript = \"o.in\
 const OWN: &str = "view\nplace 1 0 0 8 4\nphase\n";
 
 /// The names of the files that are read and put, in this order.
-const NAMES: [&str; 11] = [
-    "out.toml",
-    "o.nit",
-    "o.in",
-    "two.toml",
-    "a.nit",
-    "b.nit",
-    "two.in",
-    "final.ppm",
-    "events-o.txt",
-    "journal.txt",
-    "inner-journal.txt",
-];
+const NAMES: &str =
+    "out.toml o.nit o.in two.toml a.nit b.nit two.in final.ppm events-o.txt journal.txt \
+    inner-journal.txt";
 
 /// The text of the outer journal: a refresh behind each frame.
 const OUTER_JOURNAL: &str = "call 0 done < buffer 8 4\ncall 0 done < refresh 0 0 8 4\n\
@@ -44,31 +31,12 @@ const XRAY: [&str; 4] = ["MMMMMMMM", "MrrrnnnM", "MnnnbbbM", "MMMMMMMM"];
 
 /// The names of the files of a configuration within itself, in the order in which they are asked
 /// for.
-const TWICE: [&str; 11] = [
-    "out.toml",
-    "o.nit",
-    "o.in",
-    "out.toml",
-    "o.nit",
-    "o.in",
-    "shot-1.ppm",
-    "final.ppm",
-    "events-o.txt",
-    "journal.txt",
-    "inner-journal.txt",
-];
+const TWICE: &str = "out.toml o.nit o.in out.toml o.nit o.in shot-1.ppm final.ppm events-o.txt \
+    journal.txt inner-journal.txt";
 
 /// The names of its files, in the order in which they are there.
-const TWICE_THERE: [&str; 8] = [
-    "out.toml",
-    "o.nit",
-    "o.in",
-    "shot-1.ppm",
-    "final.ppm",
-    "events-o.txt",
-    "journal.txt",
-    "inner-journal.txt",
-];
+const TWICE_THERE: &str =
+    "out.toml o.nit o.in shot-1.ppm final.ppm events-o.txt journal.txt inner-journal.txt";
 
 const BLACK: [&str; 4] = ["KKKKKKKK", "KKKKKKKK", "KKKKKKKK", "KKKKKKKK"];
 
@@ -95,8 +63,8 @@ const NESTED: Case = Case {
     failing: &[],
     status: 0,
     said: "nitpicker: clients 1 entries 6 frames 1\n",
-    asked: (&NAMES, 11),
-    there: (&NAMES, 11),
+    asked: (NAMES, 11),
+    there: (NAMES, 11),
     holds: &[
         ("final.ppm", Want::Picture("8 4", &FINAL)),
         ("events-o.txt", Want::Is(Content::Plain(EVENTS))),
@@ -131,31 +99,26 @@ const WIDE_SCRIPT: &str = "buffer 434 151\ncheck 0 0 434 151 FF0000 0000FF\nview
 const WIDE_JOURNAL: &str = "call 0 done < buffer 434 151\ncall 0 handle 1 < view\n\
                             call 0 done < place 1 0 0 434 151\nfinal\n";
 
-const WIDE_NAMES: [&str; 10] = [
-    "out.toml",
-    "o.nit",
-    "o.in",
-    "wide.toml",
-    "w.nit",
-    "w.in",
-    "final.ppm",
-    "events-o.txt",
-    "journal.txt",
-    "inner-journal.txt",
-];
+const WIDE_NAMES: &str =
+    "out.toml o.nit o.in wide.toml w.nit w.in final.ppm events-o.txt journal.txt \
+    inner-journal.txt";
 
 static TAKEN: [Case; 5] = [
     NESTED,
     // the outer user turns X-ray on, which the inner run knows nothing of
     Case {
+        words: &["nested", "out.toml", "two.toml"],
         files: two_in!(OWN, "phase\npress 70\n", A, B, INPUT),
+        failing: &[],
+        status: 0,
         said: "nitpicker: clients 1 entries 7 frames 1\n",
+        asked: (NAMES, 11),
+        there: (NAMES, 11),
         holds: &[
             ("final.ppm", Want::Picture("8 4", &XRAY)),
             ("inner-journal.txt", Want::Is(Content::Plain(JOURNAL))),
         ],
         journal: &[Journal::Count(7)],
-        ..NESTED
     },
     // A configuration within itself. Its client has no buffer in the inner run, so all is black
     // there, and the outer run shows that.
@@ -166,9 +129,11 @@ static TAKEN: [Case; 5] = [
             ("o.nit", Content::Plain(OWN)),
             ("o.in", Content::Plain("phase\nshot\n")),
         ],
+        failing: &[],
+        status: 0,
         said: "nitpicker: clients 1 entries 7 frames 2\n",
-        asked: (&TWICE, 11),
-        there: (&TWICE_THERE, 8),
+        asked: (TWICE, 11),
+        there: (TWICE_THERE, 8),
         holds: &[
             ("shot-1.ppm", Want::Picture("8 4", &BLACK)),
             ("final.ppm", Want::Picture("8 4", &BLACK)),
@@ -180,29 +145,29 @@ static TAKEN: [Case; 5] = [
             ),
         ],
         journal: &[Journal::Count(7)],
-        ..NESTED
     },
     // with the `buffer` line these are 65,536 lines, and no line more
     Case {
         words: &["nested", "out.toml", "wide.toml"],
         files: wide_in!(""),
+        failing: &[],
+        status: 0,
         said: "nitpicker: clients 1 entries 3 frames 1\n",
-        asked: (&WIDE_NAMES, 10),
-        there: (&WIDE_NAMES, 10),
+        asked: (WIDE_NAMES, 10),
+        there: (WIDE_NAMES, 10),
         holds: &[("inner-journal.txt", Want::Is(Content::Plain(WIDE_JOURNAL)))],
         journal: &[Journal::Count(3)],
-        ..NESTED
     },
     Case {
         words: &["nested", "out.toml", "wide.toml"],
         files: wide_in!("view\n"),
+        failing: &[],
         status: 11,
         said: "nitpicker: wide.toml: inner frames too long\n",
-        asked: (&WIDE_NAMES, 6),
-        there: (&WIDE_NAMES, 6),
+        asked: (WIDE_NAMES, 6),
+        there: (WIDE_NAMES, 6),
         holds: &[],
         journal: &[Journal::Count(0)],
-        ..NESTED
     },
 ];
 
@@ -210,14 +175,15 @@ static TAKEN: [Case; 5] = [
 macro_rules! refused {
     ($files:expr, $said:expr, $asked:expr) => {
         Case {
+            words: &["nested", "out.toml", "two.toml"],
             files: $files,
+            failing: &[],
             status: 6,
             said: $said,
-            asked: (&NAMES, $asked),
-            there: (&NAMES, 7),
+            asked: (NAMES, $asked),
+            there: (NAMES, 7),
             holds: &[],
             journal: &[Journal::Count(0)],
-            ..NESTED
         }
     };
 }
@@ -271,31 +237,31 @@ static REFUSED: [Case; 13] = [
     inner!(A, B, "", "nitpicker: two.in: phases differ\n", 7),
     // the inner configuration is refused behind the outer scripts
     Case {
+        words: &["nested", "out.toml", "two.toml"],
         files: &[
             ("out.toml", Content::Plain(OUTER)),
             ("o.nit", Content::Plain("phase\nphase\n")),
             ("o.in", Content::Plain("phase\n")),
             ("two.toml", Content::Plain("")),
         ],
+        failing: &[],
         status: 5,
         said: "nitpicker: two.toml: bad configuration: missing\n",
-        asked: (&NAMES, 4),
-        there: (&NAMES, 4),
+        asked: (NAMES, 4),
+        there: (NAMES, 4),
         holds: &[],
         journal: &[Journal::Count(0)],
-        ..NESTED
     },
 ];
 
-const BESIDE: [&str; 8] = [
-    "out.toml", "o.nit", "p.nit", "o.in", "two.toml", "a.nit", "b.nit", "two.in",
-];
+const BESIDE: &str = "out.toml o.nit p.nit o.in two.toml a.nit b.nit two.in";
 
 /// The two clients within the first one of two, of which the second may draw by itself. The first
 /// script that has not as many phases as there are frames is refused, whatever the others have.
 macro_rules! beside {
     ($own:expr, $other:expr, $input:expr, $said:expr) => {
         Case {
+            words: &["nested", "out.toml", "two.toml"],
             files: &[
                 ("out.toml", Content::Plain(BOTH)),
                 ("o.nit", Content::Plain($own)),
@@ -306,13 +272,13 @@ macro_rules! beside {
                 ("b.nit", Content::Plain(B)),
                 ("two.in", Content::Plain(INPUT)),
             ],
+            failing: &[],
             status: 6,
             said: $said,
-            asked: (&BESIDE, 8),
-            there: (&BESIDE, 8),
+            asked: (BESIDE, 8),
+            there: (BESIDE, 8),
             holds: &[],
             journal: &[Journal::Count(0)],
-            ..NESTED
         }
     };
 }
@@ -331,14 +297,15 @@ static TWO_OUTER: [Case; 4] = [
 macro_rules! fails {
     ($number:expr, $status:expr, $said:expr, $there:expr, $asked:expr, $entries:expr) => {
         Case {
+            words: &["nested", "out.toml", "two.toml"],
+            files: two_in!(OWN, "phase\n", A, B, INPUT),
             failing: &[$number],
             status: $status,
             said: $said,
-            asked: (&NAMES, $asked),
-            there: (&NAMES, $there),
+            asked: (NAMES, $asked),
+            there: (NAMES, $there),
             holds: &[],
             journal: &[Journal::Count($entries)],
-            ..NESTED
         }
     };
 }

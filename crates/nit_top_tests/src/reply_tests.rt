@@ -1,9 +1,6 @@
 //! What a client's calls are answered, by whole runs.
 
-use crate::case::{Case, assert_cases};
-use crate::content::{Content, Piece, Want};
-use crate::journals::Journal;
-use std::test::Fail;
+use crate::{Case, Content, Fail, Journal, Piece, Want, assert_cases};
 
 /// A text, a number of times.
 macro_rules! times {
@@ -25,8 +22,8 @@ macro_rules! still {
             failing: &[],
             status: 0,
             said: $said,
-            asked: (&["a.nit", "final.ppm"], 2),
-            there: (&["a.nit", "final.ppm"], 2),
+            asked: ("a.nit final.ppm", 2),
+            there: ("a.nit final.ppm", 2),
             holds: &[],
             journal: &[Journal::Replies(0, $replies)],
         }
@@ -118,14 +115,7 @@ static ALL_UNITS: [Case; 10] = [
 const SMALL: &str = "[screen]\nwidth = 8\nheight = 4\n\n[input]\nscript = \"no.in\"\n\n\
                      [[client]]\nlabel = \"a\"\ndonation = 512\nscript = \"a.nit\"\n";
 
-const SMALL_NAMES: [&str; 6] = [
-    "small.toml",
-    "a.nit",
-    "no.in",
-    "final.ppm",
-    "events-a.txt",
-    "journal.txt",
-];
+const SMALL_NAMES: &str = "small.toml a.nit no.in final.ppm events-a.txt journal.txt";
 
 /// The script of a client of 512 units: what is said, the replies, and what files hold.
 macro_rules! small {
@@ -140,8 +130,8 @@ macro_rules! small {
             failing: &[],
             status: 0,
             said: $said,
-            asked: (&SMALL_NAMES, 6),
-            there: (&SMALL_NAMES, 6),
+            asked: (SMALL_NAMES, 6),
+            there: (SMALL_NAMES, 6),
             holds: $holds,
             journal: &[Journal::Replies(0, &[times!(1, $replies)])],
         }

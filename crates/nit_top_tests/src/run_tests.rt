@@ -1,11 +1,8 @@
 //! Runs with each client on a thread of its own. Whatever the threads do, these cases come out the
 //! same.
 
-use crate::case::{Case, assert_cases};
-use crate::content::{Content, Piece, Want};
-use crate::journals::Journal;
-use crate::two_tests::{A, B, CONFIG, FINAL, INPUT, NAMES, SHOT, TURNS};
-use std::test::Fail;
+use crate::two_tests::{A, B, CONFIG, FILES, FINAL, INPUT, NAMES, SHOT, TURNS};
+use crate::{Case, Content, Fail, Journal, Piece, Want, assert_cases};
 
 /// In each phase one actor acts, so the run by threads has the journal and the files of the run by
 /// turns.
@@ -18,14 +15,15 @@ const BESIDE: Case = Case {
 macro_rules! fails {
     ($number:expr, $said:expr, $there:expr) => {
         Case {
+            words: &["run", "two.toml"],
+            files: &FILES,
             failing: &[$number],
             status: 4,
             said: $said,
-            asked: (&NAMES, $number),
-            there: (&NAMES, $there),
+            asked: (NAMES, $number),
+            there: (NAMES, $there),
             holds: &[],
             journal: &[Journal::Count(9)],
-            ..BESIDE
         }
     };
 }
@@ -48,38 +46,31 @@ const LONGER_B: [Piece; 2] = [times!(1, B), times!(1, "phase\n")];
 
 const LONGER_INPUT: [Piece; 2] = [times!(1, INPUT), times!(1, "phase\nshot\n")];
 
-const LONGER_NAMES: [&str; 10] = [
-    "two.toml",
-    "a.nit",
-    "b.nit",
-    "two.in",
-    "shot-1.ppm",
-    "shot-2.ppm",
-    "final.ppm",
-    "events-a.txt",
-    "events-b.txt",
-    "journal.txt",
-];
+const LONGER_NAMES: &str =
+    "two.toml a.nit b.nit two.in shot-1.ppm shot-2.ppm final.ppm events-a.txt \
+    events-b.txt journal.txt";
 
 /// In a further phase the user takes a second shot, when all clients are done: it is the last
 /// picture. Its red pixels were loaded for a call of the other client.
 const LONGER: Case = Case {
+    words: &["run", "two.toml"],
     files: &[
         ("two.toml", Content::Plain(CONFIG)),
         ("a.nit", Content::Pieces(&LONGER_A)),
         ("b.nit", Content::Pieces(&LONGER_B)),
         ("two.in", Content::Pieces(&LONGER_INPUT)),
     ],
+    failing: &[],
+    status: 0,
     said: "nitpicker: clients 2 entries 10 frames 3\n",
-    asked: (&LONGER_NAMES, 10),
-    there: (&LONGER_NAMES, 10),
+    asked: (LONGER_NAMES, 10),
+    there: (LONGER_NAMES, 10),
     holds: &[
         ("shot-1.ppm", Want::Picture("8 4", &SHOT)),
         ("shot-2.ppm", Want::Picture("8 4", &FINAL)),
         ("final.ppm", Want::Picture("8 4", &FINAL)),
     ],
     journal: &[Journal::Count(10)],
-    ..BESIDE
 };
 
 static PUTS: [Case; 6] = [
@@ -147,52 +138,21 @@ const SIXTEEN: Case = Case {
         ("c15.nit", column!(15)),
         ("many.in", Content::Plain("")),
     ],
+    failing: &[],
+    status: 0,
     said: "nitpicker: clients 16 entries 49 frames 1\n",
-    asked: (&SIXTEEN_NAMES, 36),
-    there: (&SIXTEEN_NAMES, 36),
+    asked: (SIXTEEN_NAMES, 36),
+    there: (SIXTEEN_NAMES, 36),
     holds: &[("final.ppm", Want::Picture("16 1", &["RRRRRRRRRRRRRRRR"]))],
     journal: &[Journal::Count(49)],
-    ..BESIDE
 };
 
-const SIXTEEN_NAMES: [&str; 36] = [
-    "many.toml",
-    "c0.nit",
-    "c1.nit",
-    "c2.nit",
-    "c3.nit",
-    "c4.nit",
-    "c5.nit",
-    "c6.nit",
-    "c7.nit",
-    "c8.nit",
-    "c9.nit",
-    "c10.nit",
-    "c11.nit",
-    "c12.nit",
-    "c13.nit",
-    "c14.nit",
-    "c15.nit",
-    "many.in",
-    "final.ppm",
-    "events-c0.txt",
-    "events-c1.txt",
-    "events-c2.txt",
-    "events-c3.txt",
-    "events-c4.txt",
-    "events-c5.txt",
-    "events-c6.txt",
-    "events-c7.txt",
-    "events-c8.txt",
-    "events-c9.txt",
-    "events-c10.txt",
-    "events-c11.txt",
-    "events-c12.txt",
-    "events-c13.txt",
-    "events-c14.txt",
-    "events-c15.txt",
-    "journal.txt",
-];
+const SIXTEEN_NAMES: &str =
+    "many.toml c0.nit c1.nit c2.nit c3.nit c4.nit c5.nit c6.nit c7.nit c8.nit c9.nit \
+    c10.nit c11.nit c12.nit c13.nit c14.nit c15.nit many.in final.ppm events-c0.txt \
+    events-c1.txt events-c2.txt events-c3.txt events-c4.txt events-c5.txt events-c6.txt \
+    events-c7.txt events-c8.txt events-c9.txt events-c10.txt events-c11.txt \
+    events-c12.txt events-c13.txt events-c14.txt events-c15.txt journal.txt";
 
 // ---- the storm
 
@@ -207,9 +167,11 @@ const STORM: Case = Case {
         ("b.nit", Content::Pieces(&CALLER)),
         ("storm.in", Content::Pieces(&[times!(20, "shot\n")])),
     ],
+    failing: &[],
+    status: 0,
     said: "nitpicker: clients 2 entries 2027 frames 21\n",
-    asked: (&STORM_NAMES, 28),
-    there: (&STORM_NAMES, 28),
+    asked: (STORM_NAMES, 28),
+    there: (STORM_NAMES, 28),
     holds: &[
         ("shot-1.ppm", STORMY),
         ("shot-2.ppm", STORMY),
@@ -234,7 +196,6 @@ const STORM: Case = Case {
         ("final.ppm", Want::Among(9229, &[[0, 0, 0xFF]])),
     ],
     journal: &[Journal::Sessions(2)],
-    ..BESIDE
 };
 
 /// Each pixel is bare, black, red or blue.
@@ -254,36 +215,11 @@ const CALLER: [Piece; 2] = [
     times!(1000, "front 1\nback 1\n"),
 ];
 
-const STORM_NAMES: [&str; 28] = [
-    "storm.toml",
-    "a.nit",
-    "b.nit",
-    "storm.in",
-    "shot-1.ppm",
-    "shot-2.ppm",
-    "shot-3.ppm",
-    "shot-4.ppm",
-    "shot-5.ppm",
-    "shot-6.ppm",
-    "shot-7.ppm",
-    "shot-8.ppm",
-    "shot-9.ppm",
-    "shot-10.ppm",
-    "shot-11.ppm",
-    "shot-12.ppm",
-    "shot-13.ppm",
-    "shot-14.ppm",
-    "shot-15.ppm",
-    "shot-16.ppm",
-    "shot-17.ppm",
-    "shot-18.ppm",
-    "shot-19.ppm",
-    "shot-20.ppm",
-    "final.ppm",
-    "events-a.txt",
-    "events-b.txt",
-    "journal.txt",
-];
+const STORM_NAMES: &str =
+    "storm.toml a.nit b.nit storm.in shot-1.ppm shot-2.ppm shot-3.ppm shot-4.ppm \
+    shot-5.ppm shot-6.ppm shot-7.ppm shot-8.ppm shot-9.ppm shot-10.ppm shot-11.ppm \
+    shot-12.ppm shot-13.ppm shot-14.ppm shot-15.ppm shot-16.ppm shot-17.ppm shot-18.ppm \
+    shot-19.ppm shot-20.ppm final.ppm events-a.txt events-b.txt journal.txt";
 
 static ROUNDS: [Case; 2] = [BESIDE, STORM];
 

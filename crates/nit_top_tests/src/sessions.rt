@@ -1,11 +1,8 @@
 //! Sessions that are never refused, each by itself: what they answer to their own calls, given what
 //! is routed to them.
 
-use crate::case::Case;
-use crate::same::same;
+use crate::{Abort, AllocError, Case, Global, same};
 use nit_events::{Call, Delivery, Entry, Event, Item, Reply};
-use std::alloc::{AllocError, Global};
-use std::process::Abort;
 
 /// The most events that wait for a session.
 const QUEUE: usize = 64;

@@ -1,13 +1,9 @@
 //! Pictures of scripts that are taken.
 
 use crate::case::{Case, alone, assert_cases, assert_done, assert_end, files};
-use crate::content::{Content, Piece, Want};
-use crate::journals::{Journal, List};
+use crate::{Abort, Content, Fail, Global, Journal, List, Piece, Want};
 use nit_store::{NeverFails, have_different_names};
 use nit_top::Done;
-use std::alloc::Global;
-use std::process::Abort;
-use std::test::Fail;
 
 /// A script of a red buffer of 4 by 2, in a view at (1, 1).
 pub const FIRST: &str = "buffer 4 2\nfill 0 0 4 2 FF0000\nview\nplace 1 1 1 4 2\n";
@@ -25,8 +21,8 @@ pub const STILL_RED: Case = Case {
     failing: &[],
     status: 0,
     said: FOUR,
-    asked: (&["first.nit", "final.ppm"], 2),
-    there: (&["first.nit", "final.ppm"], 2),
+    asked: ("first.nit final.ppm", 2),
+    there: ("first.nit final.ppm", 2),
     holds: &[
         ("first.nit", Want::Is(Content::Plain(FIRST))),
         ("final.ppm", Want::Length(107)),
@@ -44,8 +40,8 @@ macro_rules! shows {
             failing: &[],
             status: 0,
             said: $said,
-            asked: (&["a.nit", "final.ppm"], 2),
-            there: (&["a.nit", "final.ppm"], 2),
+            asked: ("a.nit final.ppm", 2),
+            there: ("a.nit final.ppm", 2),
             holds: &[("final.ppm", Want::Picture("8 4", $rows))],
             journal: &[],
         }
@@ -86,8 +82,8 @@ static CASES: [Case; 11] = [
         failing: &[],
         status: 0,
         said: "nitpicker: clients 1 entries 1 frames 1\n",
-        asked: (&["empty.nit", "final.ppm"], 2),
-        there: (&["empty.nit", "final.ppm"], 2),
+        asked: ("empty.nit final.ppm", 2),
+        there: ("empty.nit final.ppm", 2),
         holds: &[("final.ppm", Want::Picture("8 4", &BARE))],
         journal: &[Journal::Whole(List::Empty)],
     },
@@ -170,8 +166,8 @@ static UNFAILING: [Case; 2] = [
         failing: &[],
         status: 0,
         said: "nitpicker: clients 1 entries 1 frames 1\n",
-        asked: (&["gone.nit", "final.ppm"], 2),
-        there: (&["final.ppm"], 1),
+        asked: ("gone.nit final.ppm", 2),
+        there: ("final.ppm", 1),
         holds: &[("final.ppm", Want::Picture("8 4", &BARE))],
         journal: &[Journal::Whole(List::Empty)],
     },

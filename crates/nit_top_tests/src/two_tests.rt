@@ -2,11 +2,7 @@
 //! stands in front of it and then moves away.
 
 use crate::case::{Case, assert_alone, assert_cases, files};
-use crate::content::{Content, Want};
-use crate::journals::{Journal, List};
-use std::alloc::Global;
-use std::process::Abort;
-use std::test::Fail;
+use crate::{Abort, Content, Fail, Global, Journal, List, Want};
 
 /// The configuration.
 pub const CONFIG: &str = "[screen]\nwidth = 8\nheight = 4\n\n[input]\nscript = \"two.in\"\n\n\
@@ -29,17 +25,9 @@ pub const FILES: [(&str, Content); 4] = [
 ];
 
 /// The names of the files that it reads and puts, in this order.
-pub const NAMES: [&str; 9] = [
-    "two.toml",
-    "a.nit",
-    "b.nit",
-    "two.in",
-    "shot-1.ppm",
-    "final.ppm",
-    "events-a.txt",
-    "events-b.txt",
-    "journal.txt",
-];
+pub const NAMES: &str =
+    "two.toml a.nit b.nit two.in shot-1.ppm final.ppm events-a.txt events-b.txt \
+    journal.txt";
 
 pub const SUMMARY: &str = "nitpicker: clients 2 entries 9 frames 2\n";
 
@@ -63,8 +51,8 @@ pub const TURNS: Case = Case {
     failing: &[],
     status: 0,
     said: SUMMARY,
-    asked: (&NAMES, 9),
-    there: (&NAMES, 9),
+    asked: (NAMES, 9),
+    there: (NAMES, 9),
     holds: &[
         ("two.toml", Want::Is(Content::Plain(CONFIG))),
         ("a.nit", Want::Is(Content::Plain(A))),
@@ -84,14 +72,15 @@ pub const TURNS: Case = Case {
 macro_rules! fails {
     ($number:expr, $status:expr, $said:expr, $there:expr, $asked:expr, $entries:expr) => {
         Case {
+            words: &["turns", "two.toml"],
+            files: &FILES,
             failing: &[$number],
             status: $status,
             said: $said,
-            asked: (&NAMES, $asked),
-            there: (&NAMES, $there),
+            asked: (NAMES, $asked),
+            there: (NAMES, $there),
             holds: &[],
             journal: &[Journal::Count($entries)],
-            ..TURNS
         }
     };
 }
@@ -115,13 +104,15 @@ static FAILING: [Case; 10] = [
 static WHOLE: [Case; 2] = [
     TURNS,
     Case {
+        words: &["turns", "two.toml"],
+        files: &FILES,
         failing: &[6],
         status: 4,
         said: "nitpicker: final.ppm: write fault\n",
-        asked: (&NAMES, 6),
-        there: (&NAMES, 5),
+        asked: (NAMES, 6),
+        there: (NAMES, 5),
         holds: &[("shot-1.ppm", Want::Picture("8 4", &SHOT))],
-        ..TURNS
+        journal: &[Journal::Whole(List::Two)],
     },
 ];
 
@@ -129,19 +120,20 @@ static WHOLE: [Case; 2] = [
 macro_rules! refused {
     ($a:expr, $b:expr, $input:expr, $said:expr, $asked:expr) => {
         Case {
+            words: &["turns", "two.toml"],
             files: &[
                 ("two.toml", Content::Plain(CONFIG)),
                 ("a.nit", Content::Plain($a)),
                 ("b.nit", Content::Plain($b)),
                 ("two.in", Content::Plain($input)),
             ],
+            failing: &[],
             status: 6,
             said: $said,
-            asked: (&NAMES, $asked),
-            there: (&NAMES, 4),
+            asked: (NAMES, $asked),
+            there: (NAMES, 4),
             holds: &[],
             journal: &[Journal::Count(0)],
-            ..TURNS
         }
     };
 }
@@ -183,14 +175,15 @@ macro_rules! cut {
             $first,
             $last,
             Case {
+                words: &["turns", "two.toml"],
                 files: &[],
+                failing: &[],
                 status: 6,
                 said: $said,
-                asked: (&NAMES, $asked),
-                there: (&NAMES, 4),
+                asked: (NAMES, $asked),
+                there: (NAMES, 4),
                 holds: &[],
                 journal: &[Journal::Count(0)],
-                ..TURNS
             },
         )
     };
