@@ -4,6 +4,7 @@ ghost use Rattle.std.specs.Prelude.{◌≡◌, ◌+◌, Some, length, slice_get}
 ghost use Rattle.nit_actor.specs.Terms.{Belongs, role_of};
 
 use crate::gate::{AtGate, Checkpoint, Gate};
+use crate::work::Work;
 use nit_hall::{Hall, Name, Pass};
 use nit_script::Line;
 use std::sync::Wait;
@@ -21,14 +22,17 @@ pub fn run_actor<'a, N: Name, G: Gate, R: Wait>(
     ensures same { role_of pass.new ≡ role_of pass.old }
     ensures done { pass.new.next ≡ length pass.new.script }
 {
-    run_lines(rt, hall, &AtGate(gate), pass)
+    let work = Work {
+        hall,
+        checkpoint: AtGate(gate),
+    };
+    run_lines(rt, &work, pass)
 }
 
 /// The same, with what is called before each line.
 pub(crate) fn run_lines<'a, N: Name, K: Checkpoint, R: Wait>(
     rt: &R,
-    hall: &Hall<'a, N>,
-    checkpoint: &K,
+    work: &Work<'_, 'a, N, K>,
     pass: &mut Pass<'a>,
 )
     requires belongs { Belongs N.parts pass.old }
@@ -37,7 +41,7 @@ pub(crate) fn run_lines<'a, N: Name, K: Checkpoint, R: Wait>(
 {
     let mut arrived = false;
     'lines: while let Some(line) = pass.next() {
-        do_line(rt, hall, checkpoint, pass, &line, arrived);
+        do_line(rt, work, pass, &line, arrived);
         arrived = matches!(line, Line::Phase);
     }
 }
@@ -46,8 +50,7 @@ pub(crate) fn run_lines<'a, N: Name, K: Checkpoint, R: Wait>(
 /// of a phase, a stroke waits until the room serves the next one.
 pub(crate) fn do_line<'a, N: Name, K: Checkpoint, R: Wait>(
     rt: &R,
-    hall: &Hall<'a, N>,
-    checkpoint: &K,
+    work: &Work<'_, 'a, N, K>,
     pass: &mut Pass<'a>,
     line: &Line,
     arrived: bool,
@@ -58,14 +61,14 @@ pub(crate) fn do_line<'a, N: Name, K: Checkpoint, R: Wait>(
     ensures next { pass.new.next ≡ pass.old.next + 1 }
 {
     if arrived && matches!(line, Line::Stroke(_)) {
-        hall.wait_ready(rt, pass);
+        work.hall.wait_ready(rt, pass);
     }
-    checkpoint.reach(pass.sid(), pass.line() + 1);
+    work.checkpoint.reach(pass.sid(), pass.line() + 1);
     match line {
         Line::Call(_) => {
-            hall.serve_next(rt, pass);
+            work.hall.serve_next(rt, pass);
         }
         Line::Stroke(_) => pass.stroke(),
-        Line::Phase => hall.arrive(rt, pass),
+        Line::Phase => work.hall.arrive(rt, pass),
     }
 }

@@ -13,6 +13,7 @@ use crate::crew::{Crew, Own, run_crew};
 use crate::desk::Desk;
 use crate::gate::{AtGate, Checkpoint, Gate};
 use crate::mine::run_turns;
+use crate::work::Work;
 use nit_hall::{Hall, Name, Pass, UserPass};
 use nit_store::Store;
 use std::marker::Model;
@@ -37,21 +38,6 @@ impl Model for PassRole {
     ghost also_owns = { λ _. ftrue };
 }
 
-/// What all threads of a run share.
-struct Work<'h, 'a, N: Name, K> {
-    hall: &'h Hall<'a, N>,
-    checkpoint: &'h K,
-}
-
-impl<'h, 'a, N: Name, K> Drop for Work<'h, 'a, N, K> {
-    fn drop(self) {
-        let Self {
-            hall: _,
-            checkpoint: _,
-        } = self;
-    }
-}
-
 impl<'h, 'a, N: Name, K: Checkpoint> Crew<Pass<'a>> for Work<'h, 'a, N, K> {
     ghost use Rattle.std.specs.Prelude.{◌≡◌, length};
     ghost use Rattle.nit_actor.specs.Role.{IsRoleIn, role_of};
@@ -65,7 +51,7 @@ impl<'h, 'a, N: Name, K: Checkpoint> Crew<Pass<'a>> for Work<'h, 'a, N, K> {
     ghost ended = { λ p. p.next ≡ length p.script };
 
     fn run<R: Wait>(&self, rt: &R, pass: &mut Pass<'a>) {
-        run_lines(rt, self.hall, self.checkpoint, pass);
+        run_lines(rt, self, pass);
     }
 }
 
@@ -94,7 +80,7 @@ impl<'h, 'a, 's, N: Name, K: Checkpoint, S: Store> Own<Pass<'a>, Work<'h, 'a, N,
 
     fn run_mine<R: Wait>(self, rt: &R, crew: &Work<'h, 'a, N, K>, passes: &mut [Pass<'a>]) -> Self {
         let Mine { mut user, mut desk } = self;
-        run_turns(rt, crew.hall, crew.checkpoint, passes, &mut user, &mut desk);
+        run_turns(rt, crew, passes, &mut user, &mut desk);
         Mine { user, desk }
     }
 }
@@ -102,8 +88,7 @@ impl<'h, 'a, 's, N: Name, K: Checkpoint, S: Store> Own<Pass<'a>, Work<'h, 'a, N,
 /// Does what is left of all passes and of the user, on the calling thread.
 fn run_left<'a, N: Name, K: Checkpoint, S: Store, R: Wait>(
     rt: &R,
-    hall: &Hall<'a, N>,
-    checkpoint: &K,
+    work: &Work<'_, 'a, N, K>,
     passes: &mut Vec<Pass<'a>>,
     user: &mut UserPass<'a>,
     desk: &mut Desk<S>,
@@ -124,7 +109,7 @@ fn run_left<'a, N: Name, K: Checkpoint, S: Store, R: Wait>(
     ensures text { length desk.new.text.items ≡ length desk.old.text.items }
     ensures same_store { desk.new.store.ghost_name ≡ desk.old.store.ghost_name }
 {
-    run_turns(rt, hall, checkpoint, passes, user, desk)
+    run_turns(rt, work, passes, user, desk)
 }
 
 /// Does all lines of all scripts: each pass on a thread of its own, and on the calling thread the
@@ -163,13 +148,12 @@ pub fn run_beside<'a, 's, N: Name + Send + Sync, G: Gate, S: Store, R: Threads +
     ensures text { length result.desk.text.items ≡ length mine.entry.desk.text.items }
     ensures same_store { result.desk.store.ghost_name ≡ mine.entry.desk.store.ghost_name }
 {
-    let checkpoint = AtGate(gate);
-    let crew = Work {
+    let work = Work {
         hall,
-        checkpoint: &checkpoint,
+        checkpoint: AtGate(gate),
     };
-    let mine = run_crew(rt, &crew, raised, passes, waiting, back, mine);
+    let mine = run_crew(rt, &work, raised, passes, waiting, back, mine);
     let Mine { mut user, mut desk } = mine;
-    run_left(rt, hall, &checkpoint, back, &mut user, &mut desk);
+    run_left(rt, &work, back, &mut user, &mut desk);
     Mine { user, desk }
 }

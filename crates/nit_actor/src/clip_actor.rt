@@ -5,6 +5,7 @@ ghost use Rattle.nit_actor.specs.Terms.{Belongs, ClipBelongs, GoTogether, IsAtCl
 
 use crate::actor::do_line;
 use crate::gate::{AtGate, Checkpoint, Gate};
+use crate::work::Work;
 use nit_clip::ClipLine;
 use nit_hall::{ClipPass, Hall, Name, Pass};
 use nit_script::Line;
@@ -31,14 +32,17 @@ pub fn run_clips<'a, N: Name, G: Gate, R: Wait>(
     ensures clip_done { clip.new.next ≡ length clip.new.script }
     ensures together { GoTogether pass.new clip.new }
 {
-    run_pair(rt, hall, &AtGate(gate), pass, clip)
+    let work = Work {
+        hall,
+        checkpoint: AtGate(gate),
+    };
+    run_pair(rt, &work, pass, clip)
 }
 
 /// The same, with what is called before each line.
 pub(crate) fn run_pair<'a, N: Name, K: Checkpoint, R: Wait>(
     rt: &R,
-    hall: &Hall<'a, N>,
-    checkpoint: &K,
+    work: &Work<'_, 'a, N, K>,
     pass: &mut Pass<'a>,
     clip: &mut ClipPass<'a>,
 )
@@ -51,10 +55,10 @@ pub(crate) fn run_pair<'a, N: Name, K: Checkpoint, R: Wait>(
 {
     let mut arrived = false;
     'lines: while let Some(line) = pass.next() {
-        do_pair_line(rt, hall, checkpoint, pass, clip, &line, arrived);
+        do_pair_line(rt, work, pass, clip, &line, arrived);
         arrived = matches!(line, Line::Phase);
     }
-    do_last_clips(rt, hall, pass, clip);
+    do_last_clips(rt, work.hall, pass, clip);
 }
 
 /// Does the next line of the pass, which is this one. Where it ends a phase, the clip calls of the
@@ -63,8 +67,7 @@ pub(crate) fn run_pair<'a, N: Name, K: Checkpoint, R: Wait>(
 #[tactic(auto, using(crate::proofs::Pairs::line_together))]
 pub(crate) fn do_pair_line<'a, N: Name, K: Checkpoint, R: Wait>(
     rt: &R,
-    hall: &Hall<'a, N>,
-    checkpoint: &K,
+    work: &Work<'_, 'a, N, K>,
     pass: &mut Pass<'a>,
     clip: &mut ClipPass<'a>,
     line: &Line,
@@ -78,10 +81,10 @@ pub(crate) fn do_pair_line<'a, N: Name, K: Checkpoint, R: Wait>(
     ensures together { GoTogether pass.new clip.new }
 {
     match line {
-        Line::Phase => end_phase(rt, hall, checkpoint, pass, clip),
+        Line::Phase => end_phase(rt, work, pass, clip),
         Line::Call(_) | Line::Stroke(_) => {
             let _before = pass.phase();
-            do_line(rt, hall, checkpoint, pass, line, arrived);
+            do_line(rt, work, pass, line, arrived);
             let _after = pass.phase();
         }
     }
@@ -92,8 +95,7 @@ pub(crate) fn do_pair_line<'a, N: Name, K: Checkpoint, R: Wait>(
 #[tactic(auto, using(crate::proofs::Pairs::one_ahead, crate::proofs::Pairs::turned))]
 fn end_phase<'a, N: Name, K: Checkpoint, R: Wait>(
     rt: &R,
-    hall: &Hall<'a, N>,
-    checkpoint: &K,
+    work: &Work<'_, 'a, N, K>,
     pass: &mut Pass<'a>,
     clip: &mut ClipPass<'a>,
 )
@@ -104,9 +106,9 @@ fn end_phase<'a, N: Name, K: Checkpoint, R: Wait>(
     ensures next { pass.new.next ≡ pass.old.next + 1 }
     ensures together { GoTogether pass.new clip.new }
 {
-    do_phase_clips(rt, hall, pass, clip);
+    do_phase_clips(rt, work.hall, pass, clip);
     let _before = pass.phase();
-    do_line(rt, hall, checkpoint, pass, &Line::Phase, false);
+    do_line(rt, work, pass, &Line::Phase, false);
     let _after = pass.phase();
     clip.turn(pass);
 }

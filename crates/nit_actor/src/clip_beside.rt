@@ -16,6 +16,7 @@ use crate::crew::{Crew, Own, run_crew};
 use crate::desk::Desk;
 use crate::gate::{AtGate, Checkpoint, Gate};
 use crate::mine::do_user_turn;
+use crate::work::Work;
 use nit_hall::{ClipPass, Hall, Name, Pass, UserPass};
 use nit_store::Store;
 use std::marker::Model;
@@ -39,22 +40,7 @@ impl Model for OnePairRole {
     ghost also_owns = { λ _. ftrue };
 }
 
-/// What all threads of a run share.
-struct ClipWork<'h, 'a, N: Name, K> {
-    hall: &'h Hall<'a, N>,
-    checkpoint: &'h K,
-}
-
-impl<'h, 'a, N: Name, K> Drop for ClipWork<'h, 'a, N, K> {
-    fn drop(self) {
-        let Self {
-            hall: _,
-            checkpoint: _,
-        } = self;
-    }
-}
-
-impl<'h, 'a, N: Name, K: Checkpoint> Crew<Pair<'a>> for ClipWork<'h, 'a, N, K> {
+impl<'h, 'a, N: Name, K: Checkpoint> Crew<Pair<'a>> for Work<'h, 'a, N, K> {
     ghost use Rattle.std.specs.Prelude.{◌≡◌, ◌*◌, length};
     ghost use Rattle.nit_actor.specs.ClipRole.{IsPairRoleIn, pair_role_of};
 
@@ -69,13 +55,7 @@ impl<'h, 'a, N: Name, K: Checkpoint> Crew<Pair<'a>> for ClipWork<'h, 'a, N, K> {
 
     #[tactic(auto, using(crate::proofs::Pairs::fits_pair, crate::proofs::Pairs::pair_role_again))]
     fn run<R: Wait>(&self, rt: &R, pair: &mut Pair<'a>) {
-        run_pair(
-            rt,
-            self.hall,
-            self.checkpoint,
-            &mut pair.pass,
-            &mut pair.clip,
-        );
+        run_pair(rt, self, &mut pair.pass, &mut pair.clip);
     }
 }
 
@@ -83,8 +63,7 @@ impl<'h, 'a, N: Name, K: Checkpoint> Crew<Pair<'a>> for ClipWork<'h, 'a, N, K> {
 /// script.
 fn do_turn<'a, N: Name, K: Checkpoint, R: Wait>(
     rt: &R,
-    hall: &Hall<'a, N>,
-    checkpoint: &K,
+    work: &Work<'_, 'a, N, K>,
     pairs: &mut [Pair<'a>],
     phase: u32,
 )
@@ -94,7 +73,7 @@ fn do_turn<'a, N: Name, K: Checkpoint, R: Wait>(
     ensures fits { All (λ b. IsPairRoleIn N.parts (pair_role_of b.pass b.clip)) pairs.new }
 {
     'pairs: for pair in pairs.iter_mut() {
-        do_one_turn(rt, hall, checkpoint, pair, phase);
+        do_one_turn(rt, work, pair, phase);
     }
 }
 
@@ -103,8 +82,7 @@ fn do_turn<'a, N: Name, K: Checkpoint, R: Wait>(
 #[tactic(auto, using(crate::proofs::Pairs::fits_pair, crate::proofs::Pairs::pair_role_again))]
 fn do_one_turn<'a, N: Name, K: Checkpoint, R: Wait>(
     rt: &R,
-    hall: &Hall<'a, N>,
-    checkpoint: &K,
+    work: &Work<'_, 'a, N, K>,
     pair: &mut Pair<'a>,
     phase: u32,
 )
@@ -112,7 +90,7 @@ fn do_one_turn<'a, N: Name, K: Checkpoint, R: Wait>(
     ensures same { pair_role_of pair.new.pass pair.new.clip
         ≡ pair_role_of pair.old.pass pair.old.clip }
 {
-    do_pair_turn(rt, hall, checkpoint, &mut pair.pass, &mut pair.clip, phase);
+    do_pair_turn(rt, work, &mut pair.pass, &mut pair.clip, phase);
 }
 
 /// The least phase of those that are not done, or `None` where all are done.
@@ -128,7 +106,7 @@ fn least_phase(pairs: &[Pair<'_>], user: &UserPass<'_>) -> Option<u32>
     lesser_of_user(user, least)
 }
 
-impl<'h, 'a, 's, N: Name, K: Checkpoint, S: Store> Own<Pair<'a>, ClipWork<'h, 'a, N, K>>
+impl<'h, 'a, 's, N: Name, K: Checkpoint, S: Store> Own<Pair<'a>, Work<'h, 'a, N, K>>
     for Mine<'a, 's, S> {
     ghost use Rattle.std.specs.Prelude.{◌≡◌, ◌*◌, length};
     ghost use Rattle.nit_report.specs.Picture.{picture_length};
@@ -151,14 +129,9 @@ impl<'h, 'a, 's, N: Name, K: Checkpoint, S: Store> Own<Pair<'a>, ClipWork<'h, 'a
         × (length after'.desk.text.items ≡ length before.desk.text.items)
         × (after'.desk.store.ghost_name ≡ before.desk.store.ghost_name) };
 
-    fn run_mine<R: Wait>(
-        self,
-        rt: &R,
-        crew: &ClipWork<'h, 'a, N, K>,
-        pairs: &mut [Pair<'a>],
-    ) -> Self {
+    fn run_mine<R: Wait>(self, rt: &R, crew: &Work<'h, 'a, N, K>, pairs: &mut [Pair<'a>]) -> Self {
         let Mine { mut user, mut desk } = self;
-        run_pairs(rt, crew.hall, crew.checkpoint, pairs, &mut user, &mut desk);
+        run_pairs(rt, crew, pairs, &mut user, &mut desk);
         Mine { user, desk }
     }
 }
@@ -166,8 +139,7 @@ impl<'h, 'a, 's, N: Name, K: Checkpoint, S: Store> Own<Pair<'a>, ClipWork<'h, 'a
 /// Does all that is left of these pairs and of the user, by turns.
 fn run_pairs<'a, N: Name, K: Checkpoint, S: Store, R: Wait>(
     rt: &R,
-    hall: &Hall<'a, N>,
-    checkpoint: &K,
+    work: &Work<'_, 'a, N, K>,
     pairs: &mut [Pair<'a>],
     user: &mut UserPass<'a>,
     desk: &mut Desk<S>,
@@ -194,8 +166,8 @@ fn run_pairs<'a, N: Name, K: Checkpoint, S: Store, R: Wait>(
         let Some(phase) = least_phase(pairs, user) else {
             return;
         };
-        do_turn(rt, hall, checkpoint, pairs, phase);
-        do_user_turn(rt, hall, checkpoint, user, phase, desk);
+        do_turn(rt, work, pairs, phase);
+        do_user_turn(rt, work, user, phase, desk);
     }
     unreachable!()
 }
@@ -203,8 +175,7 @@ fn run_pairs<'a, N: Name, K: Checkpoint, S: Store, R: Wait>(
 /// The same of a vector.
 fn run_left<'a, N: Name, K: Checkpoint, S: Store, R: Wait>(
     rt: &R,
-    hall: &Hall<'a, N>,
-    checkpoint: &K,
+    work: &Work<'_, 'a, N, K>,
     pairs: &mut Vec<Pair<'a>>,
     user: &mut UserPass<'a>,
     desk: &mut Desk<S>,
@@ -227,7 +198,7 @@ fn run_left<'a, N: Name, K: Checkpoint, S: Store, R: Wait>(
     ensures text { length desk.new.text.items ≡ length desk.old.text.items }
     ensures same_store { desk.new.store.ghost_name ≡ desk.old.store.ghost_name }
 {
-    run_pairs(rt, hall, checkpoint, pairs, user, desk)
+    run_pairs(rt, work, pairs, user, desk)
 }
 
 /// Does all lines of all scripts and clip scripts, as [`run_beside`](crate::run_beside) does those
@@ -269,13 +240,12 @@ pub fn run_beside_clips<'a, 's, N: Name + Send + Sync, G: Gate, S: Store, R: Thr
     ensures text { length result.desk.text.items ≡ length mine.entry.desk.text.items }
     ensures same_store { result.desk.store.ghost_name ≡ mine.entry.desk.store.ghost_name }
 {
-    let checkpoint = AtGate(gate);
-    let crew = ClipWork {
+    let work = Work {
         hall,
-        checkpoint: &checkpoint,
+        checkpoint: AtGate(gate),
     };
-    let mine = run_crew(rt, &crew, raised, pairs, waiting, back, mine);
+    let mine = run_crew(rt, &work, raised, pairs, waiting, back, mine);
     let Mine { mut user, mut desk } = mine;
-    run_left(rt, hall, &checkpoint, back, &mut user, &mut desk);
+    run_left(rt, &work, back, &mut user, &mut desk);
     Mine { user, desk }
 }

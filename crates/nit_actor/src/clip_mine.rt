@@ -8,6 +8,7 @@ use crate::clip_actor::{do_last_clips, do_pair_line};
 use crate::desk::Desk;
 use crate::gate::{AtGate, Checkpoint, Gate};
 use crate::mine::{do_user_turn, lesser};
+use crate::work::Work;
 use nit_hall::{ClipPass, Hall, Name, Pass, UserPass};
 use nit_store::Store;
 use std::sync::Wait;
@@ -49,13 +50,16 @@ pub fn run_mine_clips<'a, N: Name, G: Gate, S: Store, R: Wait>(
     ensures text { length desk.new.text.items ≡ length desk.old.text.items }
     ensures same_store { desk.new.store.ghost_name ≡ desk.old.store.ghost_name }
 {
-    let checkpoint = AtGate(gate);
+    let work = Work {
+        hall,
+        checkpoint: AtGate(gate),
+    };
     'turns: for _ in rt.forever() {
         let Some(phase) = least_phase(passes, clips, user) else {
             return;
         };
-        do_turn(rt, hall, &checkpoint, passes, clips, phase);
-        do_user_turn(rt, hall, &checkpoint, user, phase, desk);
+        do_turn(rt, &work, passes, clips, phase);
+        do_user_turn(rt, &work, user, phase, desk);
     }
     unreachable!()
 }
@@ -64,8 +68,7 @@ pub fn run_mine_clips<'a, N: Name, G: Gate, S: Store, R: Wait>(
 /// script.
 fn do_turn<'a, N: Name, K: Checkpoint, R: Wait>(
     rt: &R,
-    hall: &Hall<'a, N>,
-    checkpoint: &K,
+    work: &Work<'_, 'a, N, K>,
     passes: &mut [Pass<'a>],
     clips: &mut [ClipPass<'a>],
     phase: u32,
@@ -76,7 +79,7 @@ fn do_turn<'a, N: Name, K: Checkpoint, R: Wait>(
     ensures fits { AllZip (IsPairIn N.parts) passes.new clips.new }
 {
     'pairs: for k in 0..passes.len() {
-        do_pair_turn(rt, hall, checkpoint, &mut passes[k], &mut clips[k], phase);
+        do_pair_turn(rt, work, &mut passes[k], &mut clips[k], phase);
     }
 }
 
@@ -84,8 +87,7 @@ fn do_turn<'a, N: Name, K: Checkpoint, R: Wait>(
 /// its clip script is done.
 pub(crate) fn do_pair_turn<'a, N: Name, K: Checkpoint, R: Wait>(
     rt: &R,
-    hall: &Hall<'a, N>,
-    checkpoint: &K,
+    work: &Work<'_, 'a, N, K>,
     pass: &mut Pass<'a>,
     clip: &mut ClipPass<'a>,
     phase: u32,
@@ -99,8 +101,8 @@ pub(crate) fn do_pair_turn<'a, N: Name, K: Checkpoint, R: Wait>(
         return;
     }
     match pass.next() {
-        Some(line) => do_pair_line(rt, hall, checkpoint, pass, clip, &line, true),
-        None => do_last_clips(rt, hall, pass, clip),
+        Some(line) => do_pair_line(rt, work, pass, clip, &line, true),
+        None => do_last_clips(rt, work.hall, pass, clip),
     }
 }
 

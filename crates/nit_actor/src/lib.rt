@@ -58,6 +58,7 @@ mod turn;
 mod turns;
 mod user;
 mod viewer;
+mod work;
 
 pub use actor::run_actor;
 pub use beside::{Mine, run_beside};

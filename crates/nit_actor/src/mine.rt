@@ -8,6 +8,7 @@ use crate::actor::do_line;
 use crate::desk::Desk;
 use crate::gate::{AtGate, Checkpoint, Gate};
 use crate::user::do_user_line;
+use crate::work::Work;
 use nit_hall::{Hall, Name, Pass, UserPass};
 use nit_store::Store;
 use std::sync::Wait;
@@ -40,14 +41,17 @@ pub fn run_mine<'a, N: Name, G: Gate, S: Store, R: Wait>(
     ensures text { length desk.new.text.items ≡ length desk.old.text.items }
     ensures same_store { desk.new.store.ghost_name ≡ desk.old.store.ghost_name }
 {
-    run_turns(rt, hall, &AtGate(gate), passes, user, desk)
+    let work = Work {
+        hall,
+        checkpoint: AtGate(gate),
+    };
+    run_turns(rt, &work, passes, user, desk)
 }
 
 /// The same, with what is called before each line.
 pub(crate) fn run_turns<'a, N: Name, K: Checkpoint, S: Store, R: Wait>(
     rt: &R,
-    hall: &Hall<'a, N>,
-    checkpoint: &K,
+    work: &Work<'_, 'a, N, K>,
     passes: &mut [Pass<'a>],
     user: &mut UserPass<'a>,
     desk: &mut Desk<S>,
@@ -72,8 +76,8 @@ pub(crate) fn run_turns<'a, N: Name, K: Checkpoint, S: Store, R: Wait>(
         let Some(phase) = least_phase(passes, user) else {
             return;
         };
-        do_turn(rt, hall, checkpoint, passes, phase);
-        do_user_turn(rt, hall, checkpoint, user, phase, desk);
+        do_turn(rt, work, passes, phase);
+        do_user_turn(rt, work, user, phase, desk);
     }
     unreachable!()
 }
@@ -81,8 +85,7 @@ pub(crate) fn run_turns<'a, N: Name, K: Checkpoint, S: Store, R: Wait>(
 /// Each pass that is in this phase does its next line, if it has one.
 fn do_turn<'a, N: Name, K: Checkpoint, R: Wait>(
     rt: &R,
-    hall: &Hall<'a, N>,
-    checkpoint: &K,
+    work: &Work<'_, 'a, N, K>,
     passes: &mut [Pass<'a>],
     phase: u32,
 )
@@ -91,15 +94,14 @@ fn do_turn<'a, N: Name, K: Checkpoint, R: Wait>(
     ensures fits { All (λ p. IsRoleIn N.parts (role_of p)) passes.new }
 {
     'passes: for pass in passes.iter_mut() {
-        do_pass_turn(rt, hall, checkpoint, pass, phase);
+        do_pass_turn(rt, work, pass, phase);
     }
 }
 
 /// The pass does its next line, if it has one and is in this phase.
 fn do_pass_turn<'a, N: Name, K: Checkpoint, R: Wait>(
     rt: &R,
-    hall: &Hall<'a, N>,
-    checkpoint: &K,
+    work: &Work<'_, 'a, N, K>,
     pass: &mut Pass<'a>,
     phase: u32,
 )
@@ -110,15 +112,14 @@ fn do_pass_turn<'a, N: Name, K: Checkpoint, R: Wait>(
         return;
     }
     if let Some(line) = pass.next() {
-        do_line(rt, hall, checkpoint, pass, &line, true);
+        do_line(rt, work, pass, &line, true);
     }
 }
 
 /// The user does its next line, if it has one and is in this phase.
 pub(crate) fn do_user_turn<'a, N: Name, K: Checkpoint, S: Store, R: Wait>(
     rt: &R,
-    hall: &Hall<'a, N>,
-    checkpoint: &K,
+    work: &Work<'_, 'a, N, K>,
     user: &mut UserPass<'a>,
     phase: u32,
     desk: &mut Desk<S>,
@@ -139,7 +140,7 @@ pub(crate) fn do_user_turn<'a, N: Name, K: Checkpoint, S: Store, R: Wait>(
         return;
     }
     if let Some(line) = user.next() {
-        do_user_line(rt, hall, checkpoint, user, &line, desk);
+        do_user_line(rt, work, user, &line, desk);
     }
 }
 

@@ -5,6 +5,7 @@ ghost use Rattle.nit_actor.specs.Terms.{GrowsQuietly, IsAtDevice, IsAtShot, IsAt
 
 use crate::desk::{Desk, PictureName};
 use crate::gate::Checkpoint;
+use crate::work::Work;
 use nit_hall::{Hall, Name, UserPass};
 use nit_script::InputLine;
 use nit_store::Store;
@@ -88,8 +89,7 @@ fn shoot<'a, N: Name, S: Store, R: Wait>(
 /// shot is put, unless a put was refused before.
 pub(crate) fn do_user_line<'a, N: Name, K: Checkpoint, S: Store, R: Wait>(
     rt: &R,
-    hall: &Hall<'a, N>,
-    checkpoint: &K,
+    work: &Work<'_, 'a, N, K>,
     user: &mut UserPass<'a>,
     line: &InputLine,
     desk: &mut Desk<S>,
@@ -108,10 +108,10 @@ pub(crate) fn do_user_line<'a, N: Name, K: Checkpoint, S: Store, R: Wait>(
     ensures text { length desk.new.text.items ≡ length desk.old.text.items }
     ensures same_store { desk.new.store.ghost_name ≡ desk.old.store.ghost_name }
 {
-    checkpoint.reach(hall.clients(), user.line() + 1);
+    work.checkpoint.reach(work.hall.clients(), user.line() + 1);
     match line {
-        InputLine::Device(_) => do_device(rt, hall, user),
-        InputLine::Phase => end_phase(rt, hall, user),
-        InputLine::Shot => shoot(rt, hall, user, desk),
+        InputLine::Device(_) => do_device(rt, work.hall, user),
+        InputLine::Phase => end_phase(rt, work.hall, user),
+        InputLine::Shot => shoot(rt, work.hall, user, desk),
     }
 }

@@ -1,0 +1,18 @@
+//! What all actors of a run share.
+
+use nit_hall::{Hall, Name};
+
+/// What all actors of a run share: the hall, and what is called before each line.
+pub(crate) struct Work<'h, 'a, N: Name, K> {
+    pub hall: &'h Hall<'a, N>,
+    pub checkpoint: K,
+}
+
+impl<'h, 'a, N: Name, K: Drop> Drop for Work<'h, 'a, N, K> {
+    fn drop(self) {
+        let Self {
+            hall: _,
+            checkpoint: _,
+        } = self;
+    }
+}
