@@ -9,7 +9,7 @@ ghost use Rattle.nit_actor.specs.Role.{Role, IsRoleIn, role_of, user_role_of};
 ghost use Rattle.nit_actor.specs.Pictures.{PutsShotsBehind};
 
 use crate::actor::run_lines;
-use crate::crew::{Crew, Own, run_crew};
+use crate::crew::{Crew, Own, Unstarted, run_crew};
 use crate::desk::Desk;
 use crate::gate::{AtGate, Checkpoint, Gate};
 use crate::mine::run_turns;
@@ -18,7 +18,6 @@ use nit_hall::{Hall, Name, Pass, UserPass};
 use nit_store::Store;
 use std::marker::Model;
 use std::sync::Wait;
-use std::sync::atomic::AtomicBool;
 use std::thread::Threads;
 
 /// What the calling thread has of its own: the user's pass, and the desk for the pictures of the
@@ -114,30 +113,28 @@ fn run_left<'a, N: Name, K: Checkpoint, S: Store, R: Wait>(
 
 /// Does all lines of all scripts: each pass on a thread of its own, and on the calling thread the
 /// user, by turns with the passes whose threads could not be started. The pictures of the shots are
-/// put meanwhile, until a put is refused. Each pass comes back in `back`, at its place and with all
-/// its lines done. No memory is taken but by the store: `waiting` is empty and has room for all
-/// passes, and there is a flag for each pass, which is not raised. Where the flag of a pass is
-/// raised, its thread leaves it as it is, and the calling thread steps it at the end.
+/// put meanwhile, until a put is refused. Afterwards each pass is at its place, with all its lines
+/// done. No memory is taken but by the store: where unstarted passes wait it is empty, with room
+/// for all passes, and there is a flag for each pass, which is not raised. Where the flag of a pass
+/// is raised, its thread leaves it as it is, and the calling thread steps it at the end.
 pub fn run_beside<'a, 's, N: Name + Send + Sync, G: Gate, S: Store, R: Threads + Wait + Sync>(
     rt: &R,
     hall: &Hall<'a, N>,
     gate: &G,
-    raised: &[AtomicBool],
-    passes: Vec<Pass<'a>>,
-    waiting: Vec<Pass<'a>>,
-    back: &mut Vec<Pass<'a>>,
+    unstarted: Unstarted<'_, Pass<'a>>,
+    passes: &mut Vec<Pass<'a>>,
     mine: Mine<'a, 's, S>,
 ) -> Mine<'a, 's, S>
-    requires passes { All (Belongs N.parts) passes.items }
+    requires passes { All (Belongs N.parts) passes.old.items }
     requires user { UserBelongs N.parts mine.user }
     requires frame { length mine.desk.frame.items ≡ N.parts.config.width * N.parts.config.height }
     requires text { length mine.desk.text.items
         ≡ picture_length N.parts.config.width N.parts.config.height }
-    requires waiting { waiting.items ≡ [] }
-    requires flags { vec_len passes ≤ length raised.now }
-    requires room { vec_len passes ≤ vec_capacity waiting }
-    ensures same { map role_of back.new.items ≡ map role_of passes.entry.items }
-    ensures done { All (λ p. p.next ≡ length p.script) back.new.items }
+    requires waiting { unstarted.waiting.items ≡ [] }
+    requires flags { vec_len passes.old ≤ length unstarted.raised.now }
+    requires room { vec_len passes.old ≤ vec_capacity unstarted.waiting }
+    ensures same { map role_of passes.new.items ≡ map role_of passes.old.items }
+    ensures done { All (λ p. p.next ≡ length p.script) passes.new.items }
     ensures user_same { user_role_of result.user ≡ user_role_of mine.entry.user }
     ensures user_done { result.user.next ≡ length result.user.input }
     ensures put { PutsShotsBehind N.parts mine.entry.user.seen result.user.seen
@@ -152,8 +149,8 @@ pub fn run_beside<'a, 's, N: Name + Send + Sync, G: Gate, S: Store, R: Threads +
         hall,
         checkpoint: AtGate(gate),
     };
-    let mine = run_crew(rt, &work, raised, passes, waiting, back, mine);
+    let mine = run_crew(rt, &work, unstarted, passes, mine);
     let Mine { mut user, mut desk } = mine;
-    run_left(rt, &work, back, &mut user, &mut desk);
+    run_left(rt, &work, passes, &mut user, &mut desk);
     Mine { user, desk }
 }

@@ -12,7 +12,7 @@ ghost use Rattle.nit_actor.specs.Pictures.{PutsShotsBehind};
 use crate::beside::Mine;
 use crate::clip_actor::run_pair;
 use crate::clip_mine::{do_pair_turn, lesser_of_pair, lesser_of_user};
-use crate::crew::{Crew, Own, run_crew};
+use crate::crew::{Crew, Own, Unstarted, run_crew};
 use crate::desk::Desk;
 use crate::gate::{AtGate, Checkpoint, Gate};
 use crate::mine::do_user_turn;
@@ -21,7 +21,6 @@ use nit_hall::{ClipPass, Hall, Name, Pass, UserPass};
 use nit_store::Store;
 use std::marker::Model;
 use std::sync::Wait;
-use std::sync::atomic::AtomicBool;
 use std::thread::Threads;
 
 /// A client's pass and its clip pass. They go to one thread.
@@ -203,33 +202,31 @@ fn run_left<'a, N: Name, K: Checkpoint, S: Store, R: Wait>(
 
 /// Does all lines of all scripts and clip scripts, as [`run_beside`](crate::run_beside) does those
 /// of all scripts: each pair on a thread of its own, and on the calling thread the user, by turns
-/// with the pairs whose threads could not be started. Each pair comes back in `back`, at its place,
-/// with all its lines done. No memory is taken but by the store: `waiting` is empty and has room
-/// for all pairs, and there is a flag for each pair, which is not raised. Where the flag of a pair
-/// is raised, its thread leaves it as it is, and the calling thread steps it at the end.
+/// with the pairs whose threads could not be started. Afterwards each pair is at its place, with
+/// all its lines done. No memory is taken but by the store: where unstarted pairs wait it is empty,
+/// with room for all pairs, and there is a flag for each pair, which is not raised. Where the flag
+/// of a pair is raised, its thread leaves it as it is, and the calling thread steps it at the end.
 #[tactic(auto, using(crate::proofs::PairLists::pairs_fit))]
 pub fn run_beside_clips<'a, 's, N: Name + Send + Sync, G: Gate, S: Store, R: Threads + Wait + Sync>(
     rt: &R,
     hall: &Hall<'a, N>,
     gate: &G,
-    raised: &[AtomicBool],
-    pairs: Vec<Pair<'a>>,
-    waiting: Vec<Pair<'a>>,
-    back: &mut Vec<Pair<'a>>,
+    unstarted: Unstarted<'_, Pair<'a>>,
+    pairs: &mut Vec<Pair<'a>>,
     mine: Mine<'a, 's, S>,
 ) -> Mine<'a, 's, S>
-    requires pairs { All (λ b. IsPairIn N.parts b.pass b.clip) pairs.items }
+    requires pairs { All (λ b. IsPairIn N.parts b.pass b.clip) pairs.old.items }
     requires user { UserBelongs N.parts mine.user }
     requires frame { length mine.desk.frame.items ≡ N.parts.config.width * N.parts.config.height }
     requires text { length mine.desk.text.items
         ≡ picture_length N.parts.config.width N.parts.config.height }
-    requires waiting { waiting.items ≡ [] }
-    requires flags { vec_len pairs ≤ length raised.now }
-    requires room { vec_len pairs ≤ vec_capacity waiting }
-    ensures same { map (λ b. pair_role_of b.pass b.clip) back.new.items
-        ≡ map (λ b. pair_role_of b.pass b.clip) pairs.entry.items }
+    requires waiting { unstarted.waiting.items ≡ [] }
+    requires flags { vec_len pairs.old ≤ length unstarted.raised.now }
+    requires room { vec_len pairs.old ≤ vec_capacity unstarted.waiting }
+    ensures same { map (λ b. pair_role_of b.pass b.clip) pairs.new.items
+        ≡ map (λ b. pair_role_of b.pass b.clip) pairs.old.items }
     ensures done { All (λ b. (b.pass.next ≡ length b.pass.script)
-        × (b.clip.next ≡ length b.clip.script)) back.new.items }
+        × (b.clip.next ≡ length b.clip.script)) pairs.new.items }
     ensures user_same { user_role_of result.user ≡ user_role_of mine.entry.user }
     ensures user_done { result.user.next ≡ length result.user.input }
     ensures put { PutsShotsBehind N.parts mine.entry.user.seen result.user.seen
@@ -244,8 +241,8 @@ pub fn run_beside_clips<'a, 's, N: Name + Send + Sync, G: Gate, S: Store, R: Thr
         hall,
         checkpoint: AtGate(gate),
     };
-    let mine = run_crew(rt, &work, raised, pairs, waiting, back, mine);
+    let mine = run_crew(rt, &work, unstarted, pairs, mine);
     let Mine { mut user, mut desk } = mine;
-    run_left(rt, &work, back, &mut user, &mut desk);
+    run_left(rt, &work, pairs, &mut user, &mut desk);
     Mine { user, desk }
 }

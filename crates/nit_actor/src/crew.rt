@@ -10,8 +10,8 @@ use std::marker::PhantomData;
 use std::snapshot::Snapshot;
 use std::sync::Wait;
 use std::sync::atomic::{AtomicBool, Ordering};
-use std::thread;
 use std::thread::{Promise, PromisedHandle, Scope, Threads};
+use std::{mem, thread};
 
 /// Runs passes of a type P, each on any thread.
 pub(crate) trait Crew<P> {
@@ -76,6 +76,14 @@ pub(crate) enum Started<P, W: Crew<P>> {
     Here(P),
 }
 
+/// What there is for passes whose threads could not be started: a flag for each pass of the run,
+/// which is raised then, and the place where such passes wait.
+#[derive(Drop)]
+pub struct Unstarted<'r, P> {
+    pub raised: &'r [AtomicBool],
+    pub waiting: Vec<P>,
+}
+
 /// Runs a pass, unless its flag is raised.
 fn stepped<P, W: Crew<P>, R: Wait>(rt: &R, crew: &W, raised: &AtomicBool, pass: P) -> P
     requires { W.fits (W.role pass) }
@@ -120,42 +128,52 @@ fn start<'s, E, P: Send + Drop + 's, W: Crew<P> + Sync, R: Threads + Wait + Sync
 }
 
 /// Starts the thread of each pass, from the last to the first, then runs what is here, and waits
-/// for the threads. Each pass comes back at its place. `waiting` has room for those whose threads
-/// could not be started.
-fn run_rest<'s, E, P: Send + Drop + 's, U: Own<P, W>, W: Crew<P> + Sync, R: Threads + Wait + Sync>(
+/// for the threads. Each pass comes back at its place. There is room for those whose threads could
+/// not be started.
+fn run_rest<
+    's,
+    'r: 's,
+    E,
+    P: Send + Drop + 's,
+    U: Own<P, W>,
+    W: Crew<P> + Sync,
+    R: Threads + Wait + Sync,
+>(
     scope: &Scope<'s, E>,
     rt: &'s R,
     crew: &'s W,
-    raised: &'s [AtomicBool],
+    unstarted: &mut Unstarted<'r, P>,
     passes: &mut Vec<P>,
-    waiting: &mut Vec<P>,
     own: U,
 ) -> U
     requires fits { All (λ p. W.fits (W.role p)) passes.old.items }
-    requires waiting { All (λ p. W.fits (W.role p)) waiting.old.items }
+    requires waiting { All (λ p. W.fits (W.role p)) unstarted.old.waiting.items }
     requires ready { U.ready own }
-    requires flags { vec_len passes.old ≤ length raised.now }
-    requires room { vec_len passes.old + vec_len waiting.old ≤ vec_capacity waiting.old }
+    requires flags { vec_len passes.old ≤ length unstarted.old.raised.now }
+    requires room { vec_len passes.old + vec_len unstarted.old.waiting
+        ≤ vec_capacity unstarted.old.waiting }
     ensures passes { map W.role passes.new.items ≡ map W.role passes.old.items }
-    ensures waiting { map W.role waiting.new.items ≡ map W.role waiting.old.items }
+    ensures waiting { map W.role unstarted.new.waiting.items
+        ≡ map W.role unstarted.old.waiting.items }
     ensures kept { U.kept own result }
     ensures passes_room { vec_capacity passes.new ≡ vec_capacity passes.old }
-    ensures waiting_room { vec_capacity waiting.new ≡ vec_capacity waiting.old }
+    ensures waiting_room { vec_capacity unstarted.new.waiting
+        ≡ vec_capacity unstarted.old.waiting }
 {
     let Some(pass) = passes.pop() else {
-        return own.run_mine(rt, crew, waiting.as_mut_slice());
+        return own.run_mine(rt, crew, unstarted.waiting.as_mut_slice());
     };
-    let flag = &raised[passes.len()];
+    let flag = &unstarted.raised[passes.len()];
     match start::<E, P, W, R>(scope, rt, crew, flag, pass) {
         Started::There(child) => {
-            let own = run_rest(scope, rt, crew, raised, passes, waiting, own);
+            let own = run_rest(scope, rt, crew, unstarted, passes, own);
             passes.push_reserved(child.join(rt));
             own
         }
         Started::Here(pass) => {
-            waiting.push_reserved(pass);
-            let own = run_rest(scope, rt, crew, raised, passes, waiting, own);
-            let Some(pass) = waiting.pop() else {
+            unstarted.waiting.push_reserved(pass);
+            let own = run_rest(scope, rt, crew, unstarted, passes, own);
+            let Some(pass) = unstarted.waiting.pop() else {
                 unreachable!()
             };
             passes.push_reserved(pass);
@@ -169,16 +187,15 @@ fn run_rest<'s, E, P: Send + Drop + 's, U: Own<P, W>, W: Crew<P> + Sync, R: Thre
 fn run_all<P: Send + Drop, U: Own<P, W> + Drop, W: Crew<P> + Sync, R: Threads + Wait + Sync>(
     rt: &R,
     crew: &W,
-    raised: &[AtomicBool],
+    unstarted: Unstarted<'_, P>,
     passes: Vec<P>,
-    waiting: Vec<P>,
     own: U,
 ) -> (Vec<P>, U)
     requires fits { All (λ p. W.fits (W.role p)) passes.items }
-    requires waiting { waiting.items ≡ [] }
+    requires waiting { unstarted.waiting.items ≡ [] }
     requires ready { U.ready own }
-    requires flags { vec_len passes ≤ length raised.now }
-    requires room { vec_len passes ≤ vec_capacity waiting }
+    requires flags { vec_len passes ≤ length unstarted.raised.now }
+    requires room { vec_len passes ≤ vec_capacity unstarted.waiting }
     ensures passes { map W.role result.0.items ≡ map W.role passes.items }
     ensures kept { U.kept own result.1 }
 {
@@ -187,46 +204,39 @@ fn run_all<P: Send + Drop, U: Own<P, W> + Drop, W: Crew<P> + Sync, R: Threads + 
         rt,
         |scope| -> (Vec<P>, U)
             requires fits { All (λ p. W.fits (W.role p)) passes.items }
-            requires waiting { waiting.items ≡ [] }
+            requires waiting { unstarted.waiting.items ≡ [] }
             requires ready { U.ready own }
-            requires flags { vec_len passes ≤ length raised.now }
-            requires room { vec_len passes ≤ vec_capacity waiting }
+            requires flags { vec_len passes ≤ length unstarted.raised.now }
+            requires room { vec_len passes ≤ vec_capacity unstarted.waiting }
             ensures passes { map W.role result.0.items ≡ map W.role passes.items }
             ensures kept { U.kept own result.1 }
         {
             let mut passes = passes;
-            let mut waiting = waiting;
-            let own = run_rest(scope, rt, crew, raised, &mut passes, &mut waiting, own);
+            let mut unstarted = unstarted;
+            let own = run_rest(scope, rt, crew, &mut unstarted, &mut passes, own);
             (passes, own)
         },
     )
 }
 
-/// The same, with the passes given back in `back`, and what is the caller's own alone as the
-/// result: a store that it lends keeps its last value only so.
+/// The same with passes that are lent, and what is the caller's own alone as the result: a store
+/// that it lends keeps its last value only so.
 pub(crate) fn run_crew<
     P: Send + Drop,
     U: Own<P, W> + Drop,
     W: Crew<P> + Sync,
     R: Threads + Wait + Sync,
->(
-    rt: &R,
-    crew: &W,
-    raised: &[AtomicBool],
-    passes: Vec<P>,
-    waiting: Vec<P>,
-    back: &mut Vec<P>,
-    own: U,
-) -> U
-    requires fits { All (λ p. W.fits (W.role p)) passes.items }
-    requires waiting { waiting.items ≡ [] }
+>(rt: &R, crew: &W, unstarted: Unstarted<'_, P>, passes: &mut Vec<P>, own: U) -> U
+    requires fits { All (λ p. W.fits (W.role p)) passes.old.items }
+    requires waiting { unstarted.waiting.items ≡ [] }
     requires ready { U.ready own }
-    requires flags { vec_len passes ≤ length raised.now }
-    requires room { vec_len passes ≤ vec_capacity waiting }
-    ensures passes { map W.role back.new.items ≡ map W.role passes.items }
+    requires flags { vec_len passes.old ≤ length unstarted.raised.now }
+    requires room { vec_len passes.old ≤ vec_capacity unstarted.waiting }
+    ensures passes { map W.role passes.new.items ≡ map W.role passes.old.items }
     ensures kept { U.kept own result }
 {
-    let (passes, own) = run_all(rt, crew, raised, passes, waiting, own);
-    *back = passes;
+    let none = Vec::new(*passes.allocator());
+    let (ran, own) = run_all(rt, crew, unstarted, mem::replace(passes, none), own);
+    *passes = ran;
     own
 }

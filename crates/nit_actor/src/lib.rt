@@ -65,6 +65,7 @@ pub use beside::{Mine, run_beside};
 pub use clip_actor::run_clips;
 pub use clip_beside::{Pair, run_beside_clips};
 pub use clip_mine::run_mine_clips;
+pub use crew::Unstarted;
 pub use desk::{Desk, PictureName};
 pub use gate::{Gate, Open};
 pub use mine::run_mine;

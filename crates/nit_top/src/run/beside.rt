@@ -6,7 +6,7 @@ ghost use Rattle.nit_top.specs.Terms.{HasRun, IsMemory, IsReady, IsRunnable, Run
 use crate::report::texts::leave_texts;
 use crate::setup::memory::{Memory, buffers_of, canvases_of};
 use crate::{Host, PutFault, Ran, last_picture, plans_of};
-use nit_actor::{Desk, Gate, Mine, PictureName};
+use nit_actor::{Desk, Gate, Mine, PictureName, Unstarted};
 use nit_config::{Config, Member};
 use nit_hall::{Hall, Name, Opened, Pass, open};
 use nit_rect::NoMemory;
@@ -57,11 +57,14 @@ fn run_named<'a, N: Name + Send + Sync, R: Threads + Wait + Sync, S: Store, G: G
         (setup_of N.parts.config N.parts.scripts N.parts.input true true)
         (S.shown store.new) result }
 {
-    let Opened { room, passes, user } = opened;
+    let Opened {
+        room,
+        mut passes,
+        user,
+    } = opened;
     let Memory {
         raised,
         waiting,
-        mut back,
         frame,
         text,
     } = memory;
@@ -74,11 +77,13 @@ fn run_named<'a, N: Name + Send + Sync, R: Threads + Wait + Sync, S: Store, G: G
     };
     let mine = Mine { user, desk };
     let hall: Hall<'a, N> = Hall::new(room);
-    let mine = nit_actor::run_beside(
-        host.rt, &hall, host.gate, &raised, passes, waiting, &mut back, mine,
-    );
+    let unstarted = Unstarted {
+        raised: &raised,
+        waiting,
+    };
+    let mine = nit_actor::run_beside(host.rt, &hall, host.gate, unstarted, &mut passes, mine);
     let Mine { user, mut desk } = mine;
-    let scene = last_picture(hall.into_room(), back, user, &mut desk);
+    let scene = last_picture(hall.into_room(), passes, user, &mut desk);
     let Desk {
         store,
         frame: _frame,

@@ -13,7 +13,7 @@ use crate::{
     End, Host, PutFault, Ran, Scripts, Worked, at, headline, last_with_clips, plans_of,
     read_scripts, unbegun, wanted_by,
 };
-use nit_actor::{Desk, Gate, Mine, Pair, PictureName, run_beside_clips};
+use nit_actor::{Desk, Gate, Mine, Pair, PictureName, Unstarted, run_beside_clips};
 use nit_clip::ClipScript;
 use nit_config::{Config, Member};
 use nit_hall::{Hall, Name};
@@ -122,14 +122,13 @@ fn run_clips_named<'a, N: Name + Send + Sync, R: Threads + Wait + Sync, S: Store
     let Paired {
         room,
         user,
-        pairs,
+        mut pairs,
         mut passes,
         mut clips,
     } = actors;
     let Memory {
         raised,
         waiting,
-        mut back,
         frame,
         text,
     } = memory;
@@ -142,11 +141,13 @@ fn run_clips_named<'a, N: Name + Send + Sync, R: Threads + Wait + Sync, S: Store
     };
     let mine = Mine { user, desk };
     let hall: Hall<'a, N> = Hall::new(room);
-    let mine = run_beside_clips(
-        host.rt, &hall, host.gate, &raised, pairs, waiting, &mut back, mine,
-    );
+    let unstarted = Unstarted {
+        raised: &raised,
+        waiting,
+    };
+    let mine = run_beside_clips(host.rt, &hall, host.gate, unstarted, &mut pairs, mine);
     let Mine { user, mut desk } = mine;
-    take_apart(&mut back, &mut passes, &mut clips);
+    take_apart(&mut pairs, &mut passes, &mut clips);
     let room = hall.into_room();
     let (scene, list) = last_with_clips(host.alloc, room, passes, clips, user, &mut desk);
     let Desk {

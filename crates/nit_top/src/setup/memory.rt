@@ -14,12 +14,11 @@ use std::sync::atomic::AtomicBool;
 
 /// What a run needs besides its opening: a flag for each client, which is raised where its thread
 /// could not be started; the place where what such threads were to be given waits, with room for
-/// all; where it comes back; and the room for a picture, as a frame and as the bytes of a file.
+/// all; and the room for a picture, as a frame and as the bytes of a file.
 #[derive(Drop)]
 pub struct Memory<T> {
     pub raised: Vec<AtomicBool>,
     pub waiting: Vec<T>,
-    pub back: Vec<T>,
     pub frame: Vec<u32>,
     pub text: Vec<u8>,
 }
@@ -34,7 +33,6 @@ impl<T: Drop> Memory<T> {
         Ok(Memory {
             raised: flags(alloc, clients)?,
             waiting: Vec::with_capacity(alloc, clients)?,
-            back: Vec::new(alloc),
             frame: blank_frame(alloc, config)?,
             text: blank_text(alloc, config)?,
         })

@@ -4,8 +4,8 @@ use Rattle.nit_top.proofs.run.beside.run_named.Goals as goal
 
 pub last_picture-scene-requires-clause-done : goal.last_picture-scene-requires-clause-done
 last_picture-scene-requires-clause-done g c =
-    subst (λ (q : OpeningParts). AreDone q c.run_beside-mine.new.back.items) (sym c.into_room.ensures.parts)
-    (all_done g.N.Name.parts c.args.opened.room c.args.opened.passes.items c.run_beside-mine.new.back.items c.args.opened.user c.requires.ready c.run_beside-mine.ensures.same c.run_beside-mine.ensures.done)
+    subst (λ (q : OpeningParts). AreDone q c.run_beside-mine.new.passes.items) (sym c.into_room.ensures.parts)
+    (all_done g.N.Name.parts c.args.opened.room c.args.opened.passes.items c.run_beside-mine.new.passes.items c.args.opened.user c.requires.ready c.run_beside-mine.ensures.same c.run_beside-mine.ensures.done)
 
 pub last_picture-scene-requires-clause-user : goal.last_picture-scene-requires-clause-user
 last_picture-scene-requires-clause-user g c =

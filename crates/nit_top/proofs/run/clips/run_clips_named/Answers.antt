@@ -5,7 +5,7 @@ use Rattle.nit_top.proofs.run.clips.run_clips_named.Goals as goal
 pub take_apart-requires-clause-room : goal.take_apart-requires-clause-room
 take_apart-requires-clause-room g c =
     let a = c.args.actors in
-    let back = c.run_beside_clips-mine.new.back in
+    let back = c.run_beside_clips-mine.new.pairs in
     let long = back_long g.N.Name.parts a.room a.pairs.items back.items a.user c.requires.ready c.run_beside_clips-mine.ensures.same c.run_beside_clips-mine.ensures.done in
     let none = ap (λ (ps : List PassModel). length ps) c.requires.back.passes in
     let here : vec_len a.passes ≡ length a.passes.items = a.passes.ok.0 in
@@ -16,7 +16,7 @@ take_apart-requires-clause-room g c =
 pub take_apart-requires-clause-clips_room : goal.take_apart-requires-clause-clips_room
 take_apart-requires-clause-clips_room g c =
     let a = c.args.actors in
-    let back = c.run_beside_clips-mine.new.back in
+    let back = c.run_beside_clips-mine.new.pairs in
     let long = back_long g.N.Name.parts a.room a.pairs.items back.items a.user c.requires.ready c.run_beside_clips-mine.ensures.same c.run_beside_clips-mine.ensures.done in
     let none = ap (λ (qs : List ClipPassModel). length qs) c.requires.back.clips in
     let here : vec_len a.clips ≡ length a.clips.items = a.clips.ok.0 in
@@ -27,7 +27,7 @@ take_apart-requires-clause-clips_room g c =
 pub last_with_clips-scene-requires-clause-done : goal.last_with_clips-scene-requires-clause-done
 last_with_clips-scene-requires-clause-done g c =
     let a = c.args.actors in
-    let back = c.run_beside_clips-mine.new.back.items in
+    let back = c.run_beside_clips-mine.new.pairs.items in
     let are : c.take_apart.new.passes.items ≡ map (λ (b : Pair). b.pass) back = c.take_apart.ensures.passes ∙ ap (λ (ps : List PassModel). ps ++ map (λ (b : Pair). b.pass) back) c.requires.back.passes in
     subst (λ (q : OpeningParts). AreDone q c.take_apart.new.passes.items) (sym c.into_room-room.ensures.parts)
     (subst (λ (ps : List PassModel). AreDone g.N.Name.parts ps) (sym are) (passes_done g.N.Name.parts a.room a.pairs.items back a.user c.requires.ready c.run_beside_clips-mine.ensures.same c.run_beside_clips-mine.ensures.done))
@@ -35,7 +35,7 @@ last_with_clips-scene-requires-clause-done g c =
 pub last_with_clips-scene-requires-clause-clips : goal.last_with_clips-scene-requires-clause-clips
 last_with_clips-scene-requires-clause-clips g c =
     let a = c.args.actors in
-    let back = c.run_beside_clips-mine.new.back.items in
+    let back = c.run_beside_clips-mine.new.pairs.items in
     let are : c.take_apart.new.clips.items ≡ map (λ (b : Pair). b.clip) back = c.take_apart.ensures.clips ∙ ap (λ (qs : List ClipPassModel). qs ++ map (λ (b : Pair). b.clip) back) c.requires.back.clips in
     subst (λ (q : OpeningParts). AreDoneClips q c.take_apart.new.clips.items) (sym c.into_room-room.ensures.parts)
     (subst (λ (qs : List ClipPassModel). AreDoneClips g.N.Name.parts qs) (sym are) (clips_done g.N.Name.parts a.room a.pairs.items back a.user c.requires.ready c.run_beside_clips-mine.ensures.same c.run_beside_clips-mine.ensures.done))
