@@ -23,4 +23,4 @@ pub use Rattle.nit_actor.proofs.ShotFiles.{drawn_counted, drawn_each, shots_draw
 pub use Rattle.nit_actor.proofs.ShownFrames.{put_as_pictures, stays_throughout}
 pub use Rattle.nit_actor.proofs.StaleLemmas.{all_own, as_but, behind_again, copied_first, drawn_but, nothing_drawn, settles}
 pub use Rattle.nit_actor.proofs.TurnNumbers.{tells_client, tells_user}
-pub use Rattle.nit_actor.proofs.TurnPremises.{found_here, front_move, moved_settled, read_here, read_same, settled_turn, users_turn}
+pub use Rattle.nit_actor.proofs.TurnPremises.{found_here, front_move, moved_settled, read_same, settled_turn, users_turn}

@@ -87,10 +87,6 @@ read_same {X = X} xs ys k d same inside = ap (λ (zs : List X). get_or zs k d) s
 pub found_here : {X : Type 0} → (xs : List X) (k : ℕ) (x y : X) → slice_get xs k ≡ Some x → y ≡ get_or xs k y → x ≡ y
 found_here xs k x y found got = sym (get_or_from_slice_get xs k x y found) ∙ sym got
 
--- what stands in a list is the same under each default
-pub read_here : {X : Type 0} → (xs : List X) (k : ℕ) (d x : X) → k < length xs → x ≡ get_or xs k x → x ≡ get_or xs k d
-read_here xs k d x inside is = is ∙ get_or_default xs k x d inside
-
 -- ---- the user's turn
 
 -- all that the next line of the input script asks for

@@ -50,6 +50,7 @@ mod drawing;
 mod gate;
 pub mod laws;
 mod mine;
+mod parts;
 mod places;
 mod running;
 mod single;
