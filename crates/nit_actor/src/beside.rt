@@ -114,9 +114,9 @@ fn run_left<'a, N: Name, K: Checkpoint, S: Store, R: Wait>(
 /// Does all lines of all scripts: each pass on a thread of its own, and on the calling thread the
 /// user, by turns with the passes whose threads could not be started. The pictures of the shots are
 /// put meanwhile, until a put is refused. Afterwards each pass is at its place, with all its lines
-/// done. No memory is taken but by the store: where unstarted passes wait it is empty, with room
-/// for all passes, and there is a flag for each pass, which is not raised. Where the flag of a pass
-/// is raised, its thread leaves it as it is, and the calling thread steps it at the end.
+/// done. No memory is taken but by the store: the place where unstarted passes wait is empty and
+/// has room for all, and there is a flag for each pass, which is not raised. Where the flag of a
+/// pass is raised, its thread leaves it as it is, and the calling thread steps it at the end.
 pub fn run_beside<'a, 's, N: Name + Send + Sync, G: Gate, S: Store, R: Threads + Wait + Sync>(
     rt: &R,
     hall: &Hall<'a, N>,

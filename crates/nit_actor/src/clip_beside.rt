@@ -203,9 +203,10 @@ fn run_left<'a, N: Name, K: Checkpoint, S: Store, R: Wait>(
 /// Does all lines of all scripts and clip scripts, as [`run_beside`](crate::run_beside) does those
 /// of all scripts: each pair on a thread of its own, and on the calling thread the user, by turns
 /// with the pairs whose threads could not be started. Afterwards each pair is at its place, with
-/// all its lines done. No memory is taken but by the store: where unstarted pairs wait it is empty,
-/// with room for all pairs, and there is a flag for each pair, which is not raised. Where the flag
-/// of a pair is raised, its thread leaves it as it is, and the calling thread steps it at the end.
+/// all its lines done. No memory is taken but by the store: the place where unstarted pairs wait is
+/// empty and has room for all, and there is a flag for each pair, which is not raised. Where the
+/// flag of a pair is raised, its thread leaves it as it is, and the calling thread steps it at the
+/// end.
 #[tactic(auto, using(crate::proofs::PairLists::pairs_fit))]
 pub fn run_beside_clips<'a, 's, N: Name + Send + Sync, G: Gate, S: Store, R: Threads + Wait + Sync>(
     rt: &R,
