@@ -3,64 +3,75 @@
 ghost use Rattle.std.specs.Prelude.{◌≡◌, ◌*◌, ◌≤◌, length, map};
 ghost use Rattle.nit_repaint.specs.Terms.{FitsStack, HoldBuffers, IsOnScreen, IsViewChange, Point, Repainted, StackModel, glass_in, glasses_of_call, once, pixel, slot_owns_either, source_of_number, to_come};
 
-use crate::pieces::paint_to_come;
+use crate::painter::Painter;
 use nit_damage::Cutter;
 use nit_rect::Rect;
 use nit_stack::{Stack, ViewRef};
 use nit_word::Glass;
 
-/// Begins with what a view owned before a change or owns after it. Before, it stood at this place
-/// from the front, with this rectangle. It may be gone now.
-pub(crate) fn begin_changed(cutter: &mut Cutter, stack: &Stack, v: ViewRef, place: u32, rect: Rect)
+/// A view as it stood in the stack before a change.
+#[derive(Clone, Copy, Debug, PartialEq, Eq)]
+pub struct ViewBefore {
+    pub view: ViewRef,
+    /// Its place, counted from the front.
+    pub place: u32,
+    pub rect: Rect,
+}
+
+/// Begins with what a view owned before a change or owns after it. It may be gone now.
+fn begin_changed(cutter: &mut Cutter, stack: &Stack, was: &ViewBefore)
     requires room { length stack.now.views ≤ cutter.old.room }
     ensures room { cutter.new.room ≡ cutter.old.room }
     ensures fits { FitsStack cutter.new stack.now }
-    ensures to_come { (before : StackModel) → IsViewChange v.0 place rect before stack.now
+    ensures to_come { (before : StackModel)
+        → IsViewChange was.now.view.0 was.now.place was.now.rect before stack.now
         → (p : Point) → IsOnScreen stack.now.width stack.now.height p
-        → to_come cutter.new stack.now p ≡ once (slot_owns_either v.0 before stack.now p) }
+        → to_come cutter.new stack.now p
+        ≡ once (slot_owns_either was.now.view.0 before stack.now p) }
 {
-    let now = stack.place_of(v);
+    let now = stack.place_of(was.view);
     if stack.len() <= now {
-        cutter.begin_behind(stack, rect, place);
+        cutter.begin_behind(stack, was.rect, was.place);
         return;
     }
-    if place < now {
-        cutter.begin_behind(stack, rect, place);
+    if was.place < now {
+        cutter.begin_behind(stack, was.rect, was.place);
         return;
     }
-    cutter.begin_moved(stack, v, rect);
+    cutter.begin_moved(stack, was.view, was.rect);
 }
 
-/// Loads again exactly what the view in slot `v` owned before a change, or owns after it. Before,
-/// it stood at `place`, counted from the front, with the rectangle `rect`. It may be gone now. All
-/// other views stand as they stood, and it has kept its place or its rectangle.
-pub fn paint_changed<G: Glass, C: Glass>(
-    cutter: &mut Cutter,
-    stack: &Stack,
-    v: ViewRef,
-    place: u32,
-    rect: Rect,
-    raw: &mut [u32],
-    glasses: &mut [G],
-    sid: u32,
-    own: &mut C,
-)
-    requires room { length stack.now.views ≤ cutter.old.room }
-    requires pixels { length raw.old ≡ stack.now.width * stack.now.height }
-    requires held { HoldBuffers stack.now (length glasses.old)
-        (glasses_of_call (map G.sight glasses.old) sid (C.sight own.old)) }
-    ensures room { cutter.new.room ≡ cutter.old.room }
-    ensures painted { (before : StackModel) → IsViewChange v.0 place rect before stack.now
-        → Repainted (source_of_number stack.now)
-        (λ k. slot_owns_either v.0 before stack.now (pixel stack.now.width k)) (length raw.old)
-        (glasses_of_call (map G.sight glasses.old) sid (C.sight own.old))
-        (glasses_of_call (map G.sight glasses.new) sid (C.sight own.new))
-        raw.old raw.new }
-    ensures count { length raw.new ≡ length raw.old }
-    ensures idle { glass_in (map G.sight glasses.new) sid ≡ glass_in (map G.sight glasses.old) sid }
-    ensures rest { C.rest own.new ≡ C.rest own.old }
-    ensures rests { map G.rest glasses.new ≡ map G.rest glasses.old }
-{
-    begin_changed(cutter, stack, v, place, rect);
-    paint_to_come(cutter, stack, raw, glasses, sid, own);
+impl<G: Glass + Drop> Painter<G> {
+    /// Loads again exactly what a view owned before a change, where it stood as `was` says, or owns
+    /// after it. It may be gone now. All other views stand as they stood, and it has kept its place
+    /// or its rectangle.
+    pub fn paint_changed<C: Glass>(
+        &mut self,
+        stack: &Stack,
+        was: &ViewBefore,
+        sid: u32,
+        own: &mut C,
+    )
+        requires room { length stack.now.views ≤ self.old.cutter.room }
+        requires pixels { length self.old.raw.items ≡ stack.now.width * stack.now.height }
+        requires held { HoldBuffers stack.now (length self.old.glasses.items)
+            (glasses_of_call (map G.sight self.old.glasses.items) sid (C.sight own.old)) }
+        ensures room { self.new.cutter.room ≡ self.old.cutter.room }
+        ensures painted { (before : StackModel)
+            → IsViewChange was.now.view.0 was.now.place was.now.rect before stack.now
+            → Repainted (source_of_number stack.now)
+            (λ k. slot_owns_either was.now.view.0 before stack.now (pixel stack.now.width k))
+            (length self.old.raw.items)
+            (glasses_of_call (map G.sight self.old.glasses.items) sid (C.sight own.old))
+            (glasses_of_call (map G.sight self.new.glasses.items) sid (C.sight own.new))
+            self.old.raw.items self.new.raw.items }
+        ensures count { length self.new.raw.items ≡ length self.old.raw.items }
+        ensures idle { glass_in (map G.sight self.new.glasses.items) sid
+            ≡ glass_in (map G.sight self.old.glasses.items) sid }
+        ensures rest { C.rest own.new ≡ C.rest own.old }
+        ensures rests { map G.rest self.new.glasses.items ≡ map G.rest self.old.glasses.items }
+    {
+        begin_changed(&mut self.cutter, stack, was);
+        self.paint_to_come(stack, sid, own);
+    }
 }

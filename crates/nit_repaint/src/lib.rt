@@ -5,22 +5,26 @@
 //! through the glasses of the sessions, each once, and no other. The calls of this crate do that
 //! for one kind of change each:
 //!
-//! - [`paint_changed`]: one view has moved, has another rectangle or offset, or is gone. What it
-//!   owned before or owns now is loaded.
-//! - [`paint_session`]: what all views of a session own, or what of it shows a part of its buffer.
-//! - [`paint_whole`]: all pixels.
+//! - [`Painter::paint_changed`]: one view has moved, has another rectangle or offset, or is gone.
+//!   What it owned before or owns now is loaded.
+//! - [`Painter::paint_session`]: what all views of a session own, or what of it shows a part of its
+//!   buffer.
+//! - [`Painter::paint_whole`]: all pixels.
 //!
 //! Where all views of a session go, they are taken away from the rear one to the front one, each as
 //! a view that is gone. So a pixel that several of them cover is loaded once, when the front one
 //! goes, and then shows a view of another session or the bare screen (`IsTaken`, `uncovered`).
 //!
 //! Each call begins with a set of pixels on a [`nit_damage::Cutter`], which hands them out as
-//! rectangles with one owner each, and paints these one after the other ([`paint_to_come`]). A view
-//! of the session that calls is painted through the glass that it hands in, all others through the
-//! glasses of the scene. The promise is `Repainted` of nit_paint: exactly the marked pixels were
-//! loaded, each once, and what they hold then. In mode Flat a view's pixels show their raw words.
-//! In the other modes [`show_session`] sets what was loaded to what is shown there, and
-//! [`show_whole`] makes the whole frame. Both go by the cutter's pieces too.
+//! rectangles with one owner each, and paints these one after the other
+//! ([`Painter::paint_to_come`]). A view of the session that calls is painted through the glass that
+//! it hands in, all others through the glasses of the scene. The promise is `Repainted` of
+//! nit_paint: exactly the marked pixels were loaded, each once, and what they hold then. In mode
+//! Flat a view's pixels show their raw words. In the other modes [`Painter::show_session`] sets
+//! what was loaded to what is shown there, and [`Painter::show_whole`] makes the whole frame. Both
+//! go by the cutter's pieces too.
+//!
+//! All of it is done on one [`Painter`], which has the cutter, the raw words and the glasses.
 //!
 //! Nothing is known here of sessions' rights, of the journal or of input. No call takes memory.
 #![tactic(auto)]
@@ -28,13 +32,12 @@
 mod buffers;
 mod changes;
 pub mod laws;
+mod painter;
 mod part;
 mod pieces;
 mod showing;
 mod whole;
 
-pub use buffers::paint_session;
-pub use changes::paint_changed;
-pub use pieces::paint_to_come;
-pub use showing::{show_session, show_whole};
-pub use whole::{Nobody, paint_whole};
+pub use changes::ViewBefore;
+pub use painter::Painter;
+pub use whole::Nobody;

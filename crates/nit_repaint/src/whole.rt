@@ -1,11 +1,13 @@
 //! Loading by one list of glasses alone, where no session calls.
 
-ghost use Rattle.std.specs.Prelude.{◌≡◌, ◌*◌, ◌≤◌, length, map, true};
-ghost use Rattle.nit_repaint.specs.Terms.{HoldBuffers, Repainted, glass_in, most_sessions, source_of_number};
+ghost use Rattle.std.specs.Prelude.{◌≡◌, ◌*◌, ◌≤◌, IfSome, length, map, true};
+ghost use Rattle.nit_repaint.specs.Terms.{FitsStack, HoldBuffers, IsPiece, Repainted, glass_in, has_pixel, has_slot, is_to_come, source_of_number};
 
-use crate::pieces::paint_to_come;
+use crate::painter::Painter;
+use crate::pieces::{load_bare, load_view, session_of};
 use nit_damage::Cutter;
-use nit_stack::Stack;
+use nit_paint::laws::pieces_of_owners;
+use nit_stack::{Piece, Stack};
 use nit_word::Glass;
 use std::marker::Model;
 
@@ -28,20 +30,65 @@ impl<const N: usize> Glass for Nobody<N> {
     }
 }
 
-/// Loads all pixels of the screen again, each through its session's glass of this list. It has one
-/// for each session, and at most 16.
-pub fn paint_whole<C: Glass>(cutter: &mut Cutter, stack: &Stack, raw: &mut [u32], owns: &mut [C])
-    requires room { length stack.now.views ≤ cutter.old.room }
-    requires pixels { length raw.old ≡ stack.now.width * stack.now.height }
-    requires few { length owns.old ≤ most_sessions }
+impl<G: Glass + Drop> Painter<G> {
+    /// Loads all pixels of the screen again, each through its session's glass of this list, and
+    /// none through the scene's. The list has a glass for each session.
+    pub fn paint_whole<C: Glass>(&mut self, stack: &Stack, owns: &mut [C])
+        requires room { length stack.now.views ≤ self.old.cutter.room }
+        requires pixels { length self.old.raw.items ≡ stack.now.width * stack.now.height }
+        requires held { HoldBuffers stack.now (length owns.old) (glass_in (map C.sight owns.old)) }
+        ensures room { self.new.cutter.room ≡ self.old.cutter.room }
+        ensures painted { Repainted (source_of_number stack.now) (λ k. true)
+            (length self.old.raw.items)
+            (glass_in (map C.sight owns.old)) (glass_in (map C.sight owns.new))
+            self.old.raw.items self.new.raw.items }
+        ensures count { length self.new.raw.items ≡ length self.old.raw.items }
+        ensures rests { map C.rest owns.new ≡ map C.rest owns.old }
+        ensures glasses { self.new.glasses ≡ self.old.glasses }
+    {
+        self.cutter.begin_all(stack);
+        paint_by(&mut self.cutter, stack, &mut self.raw, owns);
+    }
+}
+
+/// Paints all pixels that are to come by the cutter, each through its session's glass of this list.
+fn paint_by<C: Glass>(cutter: &mut Cutter, stack: &Stack, raw: &mut Vec<u32>, owns: &mut [C])
+    requires fits { FitsStack cutter.old stack.now }
+    requires pixels { length raw.old.items ≡ stack.now.width * stack.now.height }
     requires held { HoldBuffers stack.now (length owns.old) (glass_in (map C.sight owns.old)) }
     ensures room { cutter.new.room ≡ cutter.old.room }
-    ensures painted { Repainted (source_of_number stack.now) (λ k. true) (length raw.old)
-        (glass_in (map C.sight owns.old)) (glass_in (map C.sight owns.new)) raw.old raw.new }
-    ensures count { length raw.new ≡ length raw.old }
+    ensures painted { Repainted (source_of_number stack.now) (is_to_come cutter.old stack.now)
+        (length raw.old.items)
+        (glass_in (map C.sight owns.old)) (glass_in (map C.sight owns.new))
+        raw.old.items raw.new.items }
+    ensures count { length raw.new.items ≡ length raw.old.items }
     ensures rests { map C.rest owns.new ≡ map C.rest owns.old }
 {
-    cutter.begin_all(stack);
-    let nobody = owns.len() as u32;
-    paint_to_come(cutter, stack, raw, owns, nobody, &mut Nobody::<0>);
+    pieces_of_owners();
+    let _screen = stack.size();
+    'pieces: while let Some(piece) = cutter.next(stack) {
+        paint_piece_by(stack, &piece, raw, owns);
+    }
+}
+
+/// Paints a piece, through its session's glass of this list.
+fn paint_piece_by<C: Glass>(stack: &Stack, piece: &Piece, raw: &mut Vec<u32>, owns: &mut [C])
+    requires pixels { length raw.old.items ≡ stack.now.width * stack.now.height }
+    requires piece { IsPiece stack.now piece.now }
+    requires stands { IfSome piece.now.owner (λ v. has_slot v.0 stack.now.views ≡ true) }
+    requires held { HoldBuffers stack.now (length owns.old) (glass_in (map C.sight owns.old)) }
+    ensures painted { Repainted (source_of_number stack.now)
+        (has_pixel stack.now.width piece.now.rect) (length raw.old.items)
+        (glass_in (map C.sight owns.old)) (glass_in (map C.sight owns.new))
+        raw.old.items raw.new.items }
+    ensures count { length raw.new.items ≡ length raw.old.items }
+    ensures rests { map C.rest owns.new ≡ map C.rest owns.old }
+{
+    match piece.owner {
+        Some(v) => {
+            let session = session_of(stack, v);
+            load_view(stack, raw, piece, &mut owns[session as usize]);
+        }
+        None => load_bare(stack, raw, piece),
+    }
 }

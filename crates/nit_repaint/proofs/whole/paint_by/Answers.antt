@@ -1,32 +1,30 @@
 use Rattle.nit_repaint.proofs.Lemmas.{all_came, arith, none_came, one_came, other_count, refl, screen_of, source_of_number, still_held, ◌∙◌}
-use Rattle.nit_repaint.proofs.pieces.paint_to_come.Goals as goal
+use Rattle.nit_repaint.proofs.whole.paint_by.Goals as goal
 
 pub pieces-init : goal.pieces-init
 pieces-init g c = record {
   fits = c.requires.fits;
   room = refl;
   less = λ p. omega arith;
-  painted = none_came (source_of_number c.args.stack.now) c.args.stack.now _ c.args.cutter.now _ c.args.raw.now;
+  painted = none_came (source_of_number c.args.stack.now) c.args.stack.now _ c.args.cutter.now _ c.args.raw.now.items;
   count = refl;
-  idle = refl;
-  rest = refl;
   rests = refl;
 }
 
-pub paint_piece-requires-clause-piece : goal.paint_piece-requires-clause-piece
-paint_piece-requires-clause-piece g c =
+pub paint_piece_by-requires-clause-piece : goal.paint_piece_by-requires-clause-piece
+paint_piece_by-requires-clause-piece g c =
     let e = c.in-Some.ensures in
     c.pieces_of_owners.ensures c.args.stack.now c.in-Some.piece (screen_of c.size-screen.result c.args.stack.now c.size-screen.ensures.size c.size-screen.ensures.range) e.pixels e.on_screen e.owner
 
-pub paint_piece-requires-clause-held : goal.paint_piece-requires-clause-held
-paint_piece-requires-clause-held g c =
-    still_held c.args.stack.now _ _ _ _ c.pieces.invariant.painted.loads c.pieces.auto.glasses c.pieces.invariant.painted.sights c.requires.held
+pub paint_piece_by-requires-clause-held : goal.paint_piece_by-requires-clause-held
+paint_piece_by-requires-clause-held g c =
+    still_held c.args.stack.now _ _ _ _ c.pieces.invariant.painted.loads c.pieces.auto.owns c.pieces.invariant.painted.sights c.requires.held
 
 pub pieces-preserved : goal.pieces-preserved
 pieces-preserved g c =
     let i = c.pieces.invariant in
     let e = c.in-Some.ensures in
-    let p' = c.paint_piece.ensures in
+    let p' = c.paint_piece_by.ensures in
     record {
       fits = e.fits;
       room = e.room ∙ i.room;
@@ -34,8 +32,6 @@ pieces-preserved g c =
       painted = one_came (source_of_number c.args.stack.now) c.args.stack.now _ c.args.cutter.now c.pieces.cutter c.next.new.self c.in-Some.piece.rect _ _ _ _ _ _
           c.requires.fits.once i.less e.count e.came i.painted (other_count _ _ _ _ _ _ _ _ i.count p'.painted);
       count = p'.count ∙ i.count;
-      idle = p'.idle ∙ i.idle;
-      rest = p'.rest ∙ i.rest;
       rests = p'.rests ∙ i.rests;
     }
 

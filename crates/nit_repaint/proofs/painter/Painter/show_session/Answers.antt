@@ -1,0 +1,30 @@
+use Rattle.nit_repaint.proofs.Lemmas.{arith, first_shown, last_shown, length, next_shown, refl, seat_here, seat_there, shown_at, ◌∙◌}
+use Rattle.nit_repaint.proofs.painter.Painter.show_session.Goals as goal
+
+pub views-init : goal.views-init
+views-init g c = record {
+  room = refl;
+  raw = refl;
+  glasses = refl;
+  shown = first_shown c.args.look.now.stack.now (length c.args.self.now.raw.items) c.args.of c.args.part.now (shown_at c.args.look.now c.args.self.now.raw.items) c.args.frame.now;
+}
+
+pub views-preserved : goal.views-preserved
+views-preserved g c =
+    let s = c.args.look.now.stack.now in
+    let word = shown_at c.args.look.now c.args.self.now.raw.items in
+    let v = c.views.invariant in
+    let e = c.show_seat.ensures in
+    let x = seat_there s.views c.views.i (omega (arith, c.views-test.true, c.len-views.ensures.count)) in
+    record {
+      room = e.room ∙ v.room;
+      raw = e.kept.0 ∙ v.raw;
+      glasses = e.kept.1 ∙ v.glasses;
+      shown = next_shown s (length c.args.self.now.raw.items) c.args.of c.args.part.now c.views.i x.0 word word c.args.frame.now c.views.frame c.show_seat.new.frame
+          c.len-views.ensures.standing.slots (seat_here s.views c.views.i x.0 c.len-views.ensures.standing.slots x.1) x.1 (λ k out. refl) v.shown (rw v.raw at (e.shown x.0 x.1));
+    }
+
+pub returns-clause-shown : goal.returns-clause-shown
+returns-clause-shown g c =
+    last_shown c.args.look.now.stack.now (length c.args.self.now.raw.items) c.args.of c.args.part.now c.views.i (shown_at c.args.look.now c.args.self.now.raw.items) c.args.frame.now c.views.frame
+    (omega (arith, c.views-test.false, c.len-views.ensures.count)) c.views.invariant.shown

@@ -1,9 +1,0 @@
-use Rattle.nit_repaint.proofs.Lemmas.{length, shown_as, shown_at, true, whole_shown}
-use Rattle.nit_repaint.proofs.showing.show_whole.Goals as goal
-
-pub returns-clause-shown : goal.returns-clause-shown
-returns-clause-shown c =
-    let s = c.args.look.now.stack.now in
-    whole_shown c.args.look.now c.args.raw.now c.args.out.now c.show_to_come.new.frame c.requires.pixels c.requires.out
-    (shown_as s c.begin_all.new.self (λ p. true) (length c.args.raw.now) (shown_at c.args.look.now c.args.raw.now) c.args.out.now c.show_to_come.new.frame c.requires.pixels c.begin_all.ensures.to_come
-    c.show_to_come.ensures.shown)
