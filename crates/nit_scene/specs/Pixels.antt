@@ -13,12 +13,12 @@ unbarred bar words = replicate bar bare_word ++ drop bar words
 abbrev pub raw_in : Bool → ℕ → List ℕ → List ℕ
 raw_in is_apart bar words = if is_apart then words else unbarred bar words
 
-abbrev pub raw_of : Pixels → List ℕ
-raw_of p = raw_in p.is_apart p.bar p.raw.items
+abbrev pub raw_of : {G : Type 0} → Pixels G → List ℕ
+raw_of p = raw_in p.is_apart p.bar p.painter.raw.items
 
 -- the frame: a list of its own where the raw words stand apart from it, or the list that is both
-abbrev pub kept_frame : Pixels → List ℕ
-kept_frame p = if p.is_apart then p.frame.items else p.raw.items
+abbrev pub kept_frame : {G : Type 0} → Pixels G → List ℕ
+kept_frame p = if p.is_apart then p.frame.items else p.painter.raw.items
 
 -- A frame can be made: a word below 2^24 for each pixel, room for as many words of a frame apart, of
 -- which some are there, room to cut out every view, the label of each session, room for the place of
@@ -47,16 +47,16 @@ ShowsBelow s words =
     → shown_by s words k ≡ slice_index words k
 
 -- the pixels have all that a frame of the server is made by
-abbrev pub CanShowBy : ServerModel → Pixels → Type 0
+abbrev pub CanShowBy : {G : Type 0} → ServerModel → Pixels G → Type 0
 CanShowBy s p =
-    CanShow s p.raw.items (length p.frame.items) (vec_capacity p.frame) p.cutter.room p.labels.items
+    CanShow s p.painter.raw.items (length p.frame.items) (vec_capacity p.frame) p.painter.cutter.room p.labels.items
     (length p.places.items) p.bar
 
 -- the frame is the one of the server's state and of the raw words
-abbrev pub IsFrameOf : ServerModel → Pixels → Type 0
+abbrev pub IsFrameOf : {G : Type 0} → ServerModel → Pixels G → Type 0
 IsFrameOf s p = kept_frame p ≡ frame (scenery_of (state_of s)) (raw_of p)
 
 -- and so it is; where labels are drawn, the raw words stand apart
-abbrev pub ArePixels : ServerModel → Pixels → Type 0
+abbrev pub ArePixels : {G : Type 0} → ServerModel → Pixels G → Type 0
 ArePixels s p =
     CanShowBy s p × IsFrameOf s p × (IsTrue (draws_labels s.input.mode) → p.is_apart ≡ true)

@@ -20,7 +20,8 @@ abbrev pub IsGlassOf : ServerModel → ℕ → Sight → Type 0
 IsGlassOf s t sight = IsGlass s.config t sight
 
 -- the pixels show what they are to show, and each session has a glass
-pub record IsScreen (s : ServerModel) (sights : List Sight) (pixels : Pixels) : Type 0 where
+pub record IsScreen {G : Type 0} (s : ServerModel) (sights : List Sight)
+    (pixels : Pixels G) : Type 0 where
   pub shown : ArePixels s pixels
   pub glasses : length sights ≡ length s.config.clients
   pub tables : (t : ℕ) → t < length s.config.clients → IsGlassOf s t (glass_in sights t)

@@ -19,12 +19,11 @@ use crate::server::Server;
 use nit_word::Glass;
 use std::marker::Model;
 
-/// The server with the words that its screen shows, and the glasses of the sessions.
+/// The server with the words that its screen shows, and with what they are loaded again by.
 #[derive(Drop)]
 pub(crate) struct Screen<G: Glass + Drop> {
     pub(crate) server: Server,
-    pub(crate) glasses: Vec<G>,
-    pub(crate) pixels: Pixels,
+    pub(crate) pixels: Pixels<G>,
 }
 
 impl<G: Glass + Drop> Model for Screen<G> {
@@ -37,10 +36,11 @@ impl<G: Glass + Drop> Model for Screen<G> {
     ghost view = { λ s. record {
       serving = s.server;
       raw = raw_of s.pixels;
-      glasses = s.glasses.items;
+      glasses = s.pixels.painter.glasses.items;
     } };
 
-    ghost invariant = { λ s. IsScreen s.server (map G.sight s.glasses.items) s.pixels };
+    ghost invariant = { λ s. IsScreen s.server (map G.sight s.pixels.painter.glasses.items)
+        s.pixels };
 }
 
 impl<G: Glass + Drop> Screen<G> {

@@ -40,6 +40,6 @@ impl Screen<Inked> {
               (slice_index_or self.old.glasses sid no_sight));
         } }
     {
-        self.glasses[sid as usize].copy(from, to, own);
+        self.pixels.painter.glasses[sid as usize].copy(from, to, own);
     }
 }

@@ -34,6 +34,6 @@ impl Screen<Inked> {
               (stored (slice_index_or self.old.glasses sid no_sight) i w);
         } }
     {
-        self.glasses[sid as usize].store(i, w);
+        self.pixels.painter.glasses[sid as usize].store(i, w);
     }
 }

@@ -11,7 +11,6 @@ use crate::screen::pixels::{Pixels, show_views};
 use crate::screen::sessions::{change_buffer, close};
 use crate::screen::views::change_view;
 use crate::server::Server;
-use nit_damage::Cutter;
 use nit_events::{Call, Reply};
 use nit_glyph::Title;
 use nit_rect::Rect;
@@ -45,22 +44,14 @@ impl<G: Glass + Drop> Screen<G> {
             return reply;
         }
         self.server.facts();
-        serve_call(
-            &mut self.server,
-            &mut self.pixels,
-            &mut self.glasses,
-            sid,
-            call,
-            own,
-        )
+        serve_call(&mut self.server, &mut self.pixels, sid, call, own)
     }
 }
 
 /// Serves an accepted call, and loads again exactly the pixels that it makes dirty.
-pub(crate) fn serve_call<G: Glass, C: Glass>(
+pub(crate) fn serve_call<G: Glass + Drop, C: Glass>(
     server: &mut Server,
-    pixels: &mut Pixels,
-    glasses: &mut Vec<G>,
+    pixels: &mut Pixels<G>,
     sid: u32,
     call: &Call,
     own: &mut C,
@@ -69,32 +60,32 @@ pub(crate) fn serve_call<G: Glass, C: Glass>(
     requires accepted { refusal (session_in server.old.sessions sid) call.now ≡ None }
     requires handles { (session_in server.old.sessions sid).next < 2 ^ 32 - 1 }
     requires pixels { ArePixels server.old pixels.old }
-    requires glasses { length glasses.old.items ≡ length server.old.config.clients }
+    requires glasses { length pixels.old.painter.glasses.items ≡ length server.old.config.clients }
     requires tables { (t : ℕ) → t < length server.old.config.clients → IsGlassOf server.old t
-        (glass_in (map G.sight glasses.old.items) t) }
+        (glass_in (map G.sight pixels.old.painter.glasses.items) t) }
     requires raw { AreRaw (state_of server.old) (raw_of pixels.old) }
     requires own { IsGlassOf server.old sid (C.sight own.old) }
     ensures served { IsServed sid call.now result server.old server.new }
     ensures pixels { ArePixels server.new pixels.new }
     ensures painted { Painted (state_of server.old) (entry.Call sid call.now result)
         (state_of server.new)
-        (glasses_of_call (map G.sight glasses.old.items) sid (C.sight own.old))
-        (glasses_of_call (map G.sight glasses.new.items) sid (C.sight own.new))
+        (glasses_of_call (map G.sight pixels.old.painter.glasses.items) sid (C.sight own.old))
+        (glasses_of_call (map G.sight pixels.new.painter.glasses.items) sid (C.sight own.new))
         (raw_of pixels.old) (raw_of pixels.new) }
-    ensures idle { glass_in (map G.sight glasses.new.items) sid ≡ glass_in
-        (map G.sight glasses.old.items) sid }
+    ensures idle { glass_in (map G.sight pixels.new.painter.glasses.items) sid ≡ glass_in
+        (map G.sight pixels.old.painter.glasses.items) sid }
     ensures rest { C.rest own.new ≡ C.rest own.old }
-    ensures rests { map G.rest glasses.new.items ≡ map G.rest glasses.old.items }
+    ensures rests { map G.rest pixels.new.painter.glasses.items
+        ≡ map G.rest pixels.old.painter.glasses.items }
 {
     make_one(server, pixels);
-    serve_accepted(server, pixels, glasses, sid, call, own)
+    serve_accepted(server, pixels, sid, call, own)
 }
 
 /// The same, where in mode Flat one list is both the raw words and the frame.
-fn serve_accepted<G: Glass, C: Glass>(
+fn serve_accepted<G: Glass + Drop, C: Glass>(
     server: &mut Server,
-    pixels: &mut Pixels,
-    glasses: &mut Vec<G>,
+    pixels: &mut Pixels<G>,
     sid: u32,
     call: &Call,
     own: &mut C,
@@ -104,21 +95,22 @@ fn serve_accepted<G: Glass, C: Glass>(
     requires handles { (session_in server.old.sessions sid).next < 2 ^ 32 - 1 }
     requires pixels { ArePixels server.old pixels.old }
     requires one { server.old.input.mode ≡ Flat → pixels.old.is_apart ≡ false }
-    requires glasses { length glasses.old.items ≡ length server.old.config.clients }
+    requires glasses { length pixels.old.painter.glasses.items ≡ length server.old.config.clients }
     requires tables { (t : ℕ) → t < length server.old.config.clients → IsGlassOf server.old t
-        (glass_in (map G.sight glasses.old.items) t) }
+        (glass_in (map G.sight pixels.old.painter.glasses.items) t) }
     requires own { IsGlassOf server.old sid (C.sight own.old) }
     ensures served { IsServed sid call.now result server.old server.new }
     ensures pixels { ArePixels server.new pixels.new }
     ensures painted { Painted (state_of server.old) (entry.Call sid call.now result)
         (state_of server.new)
-        (glasses_of_call (map G.sight glasses.old.items) sid (C.sight own.old))
-        (glasses_of_call (map G.sight glasses.new.items) sid (C.sight own.new))
+        (glasses_of_call (map G.sight pixels.old.painter.glasses.items) sid (C.sight own.old))
+        (glasses_of_call (map G.sight pixels.new.painter.glasses.items) sid (C.sight own.new))
         (raw_of pixels.old) (raw_of pixels.new) }
-    ensures idle { glass_in (map G.sight glasses.new.items) sid ≡ glass_in
-        (map G.sight glasses.old.items) sid }
+    ensures idle { glass_in (map G.sight pixels.new.painter.glasses.items) sid ≡ glass_in
+        (map G.sight pixels.old.painter.glasses.items) sid }
     ensures rest { C.rest own.new ≡ C.rest own.old }
-    ensures rests { map G.rest glasses.new.items ≡ map G.rest glasses.old.items }
+    ensures rests { map G.rest pixels.new.painter.glasses.items
+        ≡ map G.rest pixels.old.painter.glasses.items }
 {
     match *call {
         Call::Place(handle, ..)
@@ -126,20 +118,20 @@ fn serve_accepted<G: Glass, C: Glass>(
         | Call::Front(handle)
         | Call::Back(handle)
         | Call::Above(handle, _)
-        | Call::Destroy(handle) => { change_view(server, pixels, glasses, sid, handle, call, own) }
-        Call::Buffer(..) => change_buffer(server, pixels, glasses, sid, &None, call, own),
+        | Call::Destroy(handle) => change_view(server, pixels, sid, handle, call, own),
+        Call::Buffer(..) => change_buffer(server, pixels, sid, &None, call, own),
         Call::Refresh(x, y, w, h) => {
             let part = part(x, y, w, h);
-            change_buffer(server, pixels, glasses, sid, &part, call, own)
+            change_buffer(server, pixels, sid, &part, call, own)
         }
-        Call::Close => close(server, pixels, glasses, sid, own),
+        Call::Close => close(server, pixels, sid, own),
         Call::View | Call::Title(..) => serve_clean(server, pixels, sid, call),
         Call::Take | Call::Upgrade(_) => serve_quiet(server, pixels, sid, call),
     }
 }
 
 /// Serves an accepted call that makes no pixel dirty.
-fn serve_clean(server: &mut Server, pixels: &mut Pixels, sid: u32, call: &Call) -> Reply
+fn serve_clean<G: Drop>(server: &mut Server, pixels: &mut Pixels<G>, sid: u32, call: &Call) -> Reply
     requires session { sid < length server.old.sessions }
     requires accepted { refusal (session_in server.old.sessions sid) call.now ≡ None }
     requires handles { (session_in server.old.sessions sid).next < 2 ^ 32 - 1 }
@@ -148,6 +140,7 @@ fn serve_clean(server: &mut Server, pixels: &mut Pixels, sid: u32, call: &Call) 
     ensures served { IsServed sid call.now result server.old server.new }
     ensures pixels { ArePixels server.new pixels.new }
     ensures raw { raw_of pixels.new ≡ raw_of pixels.old }
+    ensures glasses { pixels.new.painter.glasses ≡ pixels.old.painter.glasses }
     ensures painted { (glasses : ℕ → Sight) (raw : List ℕ)
         → Painted (state_of server.old) (entry.Call sid call.now result) (state_of server.new)
         glasses glasses raw raw }
@@ -160,7 +153,7 @@ fn serve_clean(server: &mut Server, pixels: &mut Pixels, sid: u32, call: &Call) 
 }
 
 /// Serves an accepted call that changes nothing of what is shown.
-fn serve_quiet(server: &mut Server, pixels: &Pixels, sid: u32, call: &Call) -> Reply
+fn serve_quiet<G: Drop>(server: &mut Server, pixels: &Pixels<G>, sid: u32, call: &Call) -> Reply
     requires session { sid < length server.old.sessions }
     requires accepted { refusal (session_in server.old.sessions sid) call.now ≡ None }
     requires handles { (session_in server.old.sessions sid).next < 2 ^ 32 - 1 }

@@ -38,7 +38,7 @@ impl<G: Glass + Drop> Screen<G> {
         let focus = self.server.focus();
         let routed = self.server.route(dev);
         if let Some(sid) = killed(&routed) {
-            kill_session(&mut self.server, sid, &mut self.pixels, &mut self.glasses);
+            kill_session(&mut self.server, sid, &mut self.pixels);
             return routed;
         }
         self.server.tell_all(&routed);

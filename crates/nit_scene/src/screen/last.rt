@@ -7,8 +7,7 @@ ghost use Rattle.nit_events.specs.declared.entry.Entry.TheVariants as entry;
 use crate::screen::Screen;
 use crate::screen::pixels::show_again;
 use crate::server::Server;
-use nit_damage::Cutter;
-use nit_repaint::paint_whole;
+use nit_repaint::Painter;
 use nit_word::Glass;
 
 impl<G: Glass + Drop> Screen<G> {
@@ -26,36 +25,31 @@ impl<G: Glass + Drop> Screen<G> {
         ensures rests { map C.rest owns.new ≡ map C.rest owns.old }
     {
         self.server.facts();
-        load_whole(
-            &self.server,
-            &mut self.pixels.cutter,
-            &mut self.pixels.raw,
-            owns,
-        );
+        load_whole(&self.server, &mut self.pixels.painter, owns);
         show_again(&self.server, &mut self.pixels);
     }
 }
 
 /// Loads each pixel of the screen again, by the sessions' own glasses.
-pub(crate) fn load_whole<C: Glass>(
+pub(crate) fn load_whole<G: Glass + Drop, C: Glass>(
     server: &Server,
-    cutter: &mut Cutter,
-    raw: &mut Vec<u32>,
+    painter: &mut Painter<G>,
     owns: &mut [C],
 )
-    requires room { server.now.stack.most ≤ cutter.old.room }
-    requires pixels { length raw.old.items ≡ server.now.config.width * server.now.config.height }
-    requires few { length owns.old ≤ most_sessions }
+    requires room { server.now.stack.most ≤ painter.old.cutter.room }
+    requires pixels { length painter.old.raw.items
+        ≡ server.now.config.width * server.now.config.height }
     requires held { HoldBuffers server.now.stack (length owns.old)
         (glass_in (map C.sight owns.old)) }
-    ensures room { cutter.new.room ≡ cutter.old.room }
+    ensures room { painter.new.cutter.room ≡ painter.old.cutter.room }
     ensures painted { Repainted (source_of_number server.now.stack) (λ k. true)
-        (length raw.old.items)
+        (length painter.old.raw.items)
         (glass_in (map C.sight owns.old)) (glass_in (map C.sight owns.new))
-        raw.old.items raw.new.items }
-    ensures long { length raw.new.items ≡ length raw.old.items }
+        painter.old.raw.items painter.new.raw.items }
+    ensures long { length painter.new.raw.items ≡ length painter.old.raw.items }
     ensures rests { map C.rest owns.new ≡ map C.rest owns.old }
+    ensures glasses { painter.new.glasses ≡ painter.old.glasses }
     ensures facts { IsServer server.now }
 {
-    paint_whole(cutter, server.stack(), raw.as_mut_slice(), owns);
+    painter.paint_whole(server.stack(), owns);
 }

@@ -43,11 +43,12 @@ pub(crate) fn take_bar_off(raw: &mut Vec<u32>, is_apart: bool, bar: usize)
 }
 
 /// In mode Flat, makes the frame the one list of which both are seen.
-pub(crate) fn make_one(server: &Server, pixels: &mut Pixels)
+pub(crate) fn make_one<G: Drop>(server: &Server, pixels: &mut Pixels<G>)
     requires pixels { ArePixels server.now pixels.old }
     requires raw { AreRaw (state_of server.now) (raw_of pixels.old) }
     ensures pixels { ArePixels server.now pixels.new }
     ensures raw { raw_of pixels.new ≡ raw_of pixels.old }
+    ensures glasses { pixels.new.painter.glasses ≡ pixels.old.painter.glasses }
     ensures one { server.now.input.mode ≡ Flat → pixels.new.is_apart ≡ false }
 {
     match server.mode() {
@@ -57,18 +58,19 @@ pub(crate) fn make_one(server: &Server, pixels: &mut Pixels)
 }
 
 /// The same, where the mode is Flat.
-fn join(server: &Server, pixels: &mut Pixels)
+fn join<G: Drop>(server: &Server, pixels: &mut Pixels<G>)
     requires flat { server.now.input.mode ≡ Flat }
     requires pixels { ArePixels server.now pixels.old }
     requires raw { AreRaw (state_of server.now) (raw_of pixels.old) }
     ensures pixels { ArePixels server.now pixels.new }
     ensures raw { raw_of pixels.new ≡ raw_of pixels.old }
+    ensures glasses { pixels.new.painter.glasses ≡ pixels.old.painter.glasses }
     ensures one { pixels.new.is_apart ≡ false }
 {
     server.facts();
     if !pixels.is_apart {
         return;
     }
-    swap(&mut pixels.raw, &mut pixels.frame);
+    swap(&mut pixels.painter.raw, &mut pixels.frame);
     pixels.is_apart = false;
 }

@@ -10,6 +10,7 @@ use nit_config::Config;
 use nit_damage::Cutter;
 use nit_glyph::Label;
 use nit_rect::{NoMemory, Point};
+use nit_repaint::Painter;
 use nit_word::{BARE, Glass};
 use std::alloc::Global;
 
@@ -34,21 +35,23 @@ impl<G: Glass + Drop> Screen<G> {
     {
         let server = Server::new(alloc, config)?;
         server.facts();
-        let mut pixels = bare_pixels(alloc, config, bar_pixels(&server))?;
+        let mut pixels = bare_pixels(alloc, config, glasses, bar_pixels(&server))?;
         show_again(&server, &mut pixels);
-        Ok(Screen {
-            server,
-            glasses,
-            pixels,
-        })
+        Ok(Screen { server, pixels })
     }
 }
 
 /// The pixels of a bare screen in mode Flat, without the bar.
-fn bare_pixels(alloc: Global, config: &Config, bar: usize) -> Result<Pixels, NoMemory>
+fn bare_pixels<G: Drop>(
+    alloc: Global,
+    config: &Config,
+    glasses: Vec<G>,
+    bar: usize,
+) -> Result<Pixels<G>, NoMemory>
     requires { IsConfiguration config.now }
-    ensures raw { IfOk result (λ p. p.raw.items
+    ensures raw { IfOk result (λ p. p.painter.raw.items
         ≡ replicate (config.now.width * config.now.height) bare_word) }
+    ensures glasses { IfOk result (λ p. p.painter.glasses ≡ glasses) }
     ensures one { IfOk result (λ p. p.is_apart ≡ false) }
     ensures bar { IfOk result (λ p. p.bar ≡ bar) }
     ensures none { IfOk result (λ p. length p.frame.items ≡ 0) }
@@ -56,16 +59,20 @@ fn bare_pixels(alloc: Global, config: &Config, bar: usize) -> Result<Pixels, NoM
         config.now.width * config.now.height ≤ vec_capacity p.frame) }
     ensures named { IfOk result (λ p. p.labels.items ≡ map (λ m. m.label) config.now.clients) }
     ensures room { IfOk result (λ p.
-        (most_slots ≤ p.cutter.room) × (most_slots ≤ length p.places.items)) }
+        (most_slots ≤ p.painter.cutter.room) × (most_slots ≤ length p.places.items)) }
 {
     let cutter = Cutter::with_room(alloc, MOST_VIEWS as u32)?;
     let raw = bare_words(alloc, config)?;
     let frame = Vec::with_capacity(alloc, raw.len())?;
     let labels = labels_of(alloc, config)?;
     let places = no_places(alloc)?;
-    Ok(Pixels {
+    let painter = Painter {
         cutter,
         raw,
+        glasses,
+    };
+    Ok(Pixels {
+        painter,
         frame,
         is_apart: false,
         bar,

@@ -6,24 +6,23 @@ ghost use Rattle.nit_scene.specs.Terms.{ArePixels, AreSet, CanShowBy, Flat, IsSe
 use crate::screen::labels::place_drawn;
 use crate::screen::lists::{reach, take_bar_off};
 use crate::server::Server;
-use nit_damage::Cutter;
 use nit_events::Mode;
 use nit_glyph::Label;
 use nit_overlay::{Look, bar_into};
 use nit_rect::{Point, Rect};
-use nit_repaint::{show_session, show_whole};
+use nit_repaint::Painter;
 
 /// The raw word of each pixel of a screen and the frame of them, each row by row from the top, with
-/// what they are cut and shown by: the labels of the sessions, and the places of the views' labels.
+/// what they are loaded and shown by: the glasses and the labels of the sessions, and the places of
+/// the views' labels.
 ///
 /// Where labels are drawn, the raw words stand apart from the frame. In mode Flat one list is both:
-/// `raw` has the frame, which differs from the raw words in the pixels of the bar alone, and the
-/// words of `frame` have no meaning. So a pixel is written once when it is loaded, and `frame` is
-/// room alone until labels are drawn for the first time.
+/// the painter's `raw` has the frame, which differs from the raw words in the pixels of the bar
+/// alone, and the words of `frame` have no meaning. So a pixel is written once when it is loaded,
+/// and `frame` is room alone until labels are drawn for the first time.
 #[derive(Drop)]
-pub struct Pixels {
-    pub cutter: Cutter,
-    pub raw: Vec<u32>,
+pub struct Pixels<G: Drop> {
+    pub painter: Painter<G>,
     pub frame: Vec<u32>,
     /// Whether the raw words stand apart from the frame.
     pub is_apart: bool,
@@ -33,7 +32,7 @@ pub struct Pixels {
     pub places: Vec<Option<Point>>,
 }
 
-impl Pixels {
+impl<G: Drop> Pixels<G> {
     /// The frame.
     pub(crate) fn frame(&self) -> &[u32]
         ensures { result.now ≡ kept_frame self.now }
@@ -41,28 +40,30 @@ impl Pixels {
         if self.is_apart {
             self.frame.as_slice()
         } else {
-            self.raw.as_slice()
+            self.painter.raw.as_slice()
         }
     }
 }
 
 /// Sets `out` to the whole frame. Where the mode draws labels, their places are worked out first.
-fn frame_of(
+fn frame_of<G: Drop>(
     server: &Server,
-    cutter: &mut Cutter,
+    painter: &mut Painter<G>,
     labels: &[Label],
     places: &mut [Option<Point>],
-    raw: &[u32],
     out: &mut [u32],
 )
-    requires room { server.now.stack.most ≤ cutter.old.room }
+    requires room { server.now.stack.most ≤ painter.old.cutter.room }
     requires named { labels.now ≡ map (λ m. m.label) server.now.config.clients }
     requires placed { server.now.stack.most ≤ length places.old }
-    requires pixels { length raw.now ≡ server.now.config.width * server.now.config.height }
+    requires pixels { length painter.old.raw.items
+        ≡ server.now.config.width * server.now.config.height }
     requires out { length out.old ≡ server.now.config.width * server.now.config.height }
-    requires words { All IsWord raw.now }
-    ensures room { cutter.new.room ≡ cutter.old.room }
-    ensures shown { out.new ≡ frame (scenery_of (state_of server.now)) raw.now }
+    requires words { All IsWord painter.old.raw.items }
+    ensures room { painter.new.cutter.room ≡ painter.old.cutter.room }
+    ensures kept { (painter.new.raw ≡ painter.old.raw) ×
+        (painter.new.glasses ≡ painter.old.glasses) }
+    ensures shown { out.new ≡ frame (scenery_of (state_of server.now)) painter.old.raw.items }
     ensures places { length places.new ≡ length places.old }
 {
     server.facts();
@@ -75,24 +76,24 @@ fn frame_of(
         focus: server.focus(),
         places,
     };
-    show_whole(cutter, &look, raw, out);
+    painter.show_whole(&look, out);
 }
 
 /// Makes the whole frame again, apart from the raw words.
-pub(crate) fn redraw(server: &Server, pixels: &mut Pixels)
+pub(crate) fn redraw<G: Drop>(server: &Server, pixels: &mut Pixels<G>)
     requires can { CanShowBy server.now pixels.old }
     ensures pixels { ArePixels server.now pixels.new }
     ensures raw { raw_of pixels.new ≡ raw_of pixels.old }
+    ensures glasses { pixels.new.painter.glasses ≡ pixels.old.painter.glasses }
 {
-    take_bar_off(&mut pixels.raw, pixels.is_apart, pixels.bar);
+    take_bar_off(&mut pixels.painter.raw, pixels.is_apart, pixels.bar);
     pixels.is_apart = true;
-    reach(&mut pixels.frame, pixels.raw.len());
+    reach(&mut pixels.frame, pixels.painter.raw.len());
     frame_of(
         server,
-        &mut pixels.cutter,
+        &mut pixels.painter,
         pixels.labels.as_slice(),
         pixels.places.as_mut_slice(),
-        pixels.raw.as_slice(),
         pixels.frame.as_mut_slice(),
     );
 }
@@ -100,7 +101,12 @@ pub(crate) fn redraw(server: &Server, pixels: &mut Pixels)
 /// Shows again, after the input went on, what was shown in this mode with this focus: the bar where
 /// the focus moved in mode Flat, the whole frame where the mode changed or the focus moved in
 /// another mode, and nothing else.
-pub(crate) fn show_input(server: &Server, mode: Mode, focus: Option<u32>, pixels: &mut Pixels)
+pub(crate) fn show_input<G: Drop>(
+    server: &Server,
+    mode: Mode,
+    focus: Option<u32>,
+    pixels: &mut Pixels<G>,
+)
     requires can { CanShowBy server.now pixels.old }
     requires before { kept_frame pixels.old
         ≡ frame (record (scenery_of (state_of server.now)) { mode = mode; focus = focus })
@@ -108,6 +114,7 @@ pub(crate) fn show_input(server: &Server, mode: Mode, focus: Option<u32>, pixels
     requires apart { IsTrue (draws_labels mode) → pixels.old.is_apart ≡ true }
     ensures pixels { ArePixels server.now pixels.new }
     ensures raw { raw_of pixels.new ≡ raw_of pixels.old }
+    ensures glasses { pixels.new.painter.glasses ≡ pixels.old.painter.glasses }
 {
     if server.mode() != mode {
         redraw(server, pixels);
@@ -121,12 +128,13 @@ pub(crate) fn show_input(server: &Server, mode: Mode, focus: Option<u32>, pixels
 
 /// Shows again, where one list is both and is right below the bar in mode Flat, the bar, and else the
 /// whole frame.
-pub(crate) fn show_again(server: &Server, pixels: &mut Pixels)
+pub(crate) fn show_again<G: Drop>(server: &Server, pixels: &mut Pixels<G>)
     requires can { CanShowBy server.now pixels.old }
     requires below { server.now.input.mode ≡ Flat → pixels.old.is_apart ≡ false
-        → ShowsBelow (state_of server.now) pixels.old.raw.items }
+        → ShowsBelow (state_of server.now) pixels.old.painter.raw.items }
     ensures pixels { ArePixels server.now pixels.new }
     ensures raw { raw_of pixels.new ≡ raw_of pixels.old }
+    ensures glasses { pixels.new.painter.glasses ≡ pixels.old.painter.glasses }
 {
     if pixels.is_apart {
         redraw(server, pixels);
@@ -139,19 +147,20 @@ pub(crate) fn show_again(server: &Server, pixels: &mut Pixels)
 }
 
 /// Draws the bar into the one list of mode Flat.
-fn redraw_bar(server: &Server, pixels: &mut Pixels)
+fn redraw_bar<G: Drop>(server: &Server, pixels: &mut Pixels<G>)
     requires flat { server.now.input.mode ≡ Flat }
     requires one { pixels.old.is_apart ≡ false }
     requires can { CanShowBy server.now pixels.old }
-    requires below { ShowsBelow (state_of server.now) pixels.old.raw.items }
+    requires below { ShowsBelow (state_of server.now) pixels.old.painter.raw.items }
     ensures pixels { ArePixels server.now pixels.new }
     ensures raw { raw_of pixels.new ≡ raw_of pixels.old }
+    ensures glasses { pixels.new.painter.glasses ≡ pixels.old.painter.glasses }
 {
     draw_bar(
         server,
         pixels.labels.as_slice(),
         pixels.places.as_slice(),
-        &mut pixels.raw,
+        &mut pixels.painter.raw,
     );
 }
 
@@ -180,11 +189,12 @@ fn draw_bar(server: &Server, labels: &[Label], places: &[Option<Point>], words: 
 
 /// Shows again all, in the modes that draw labels, where views or their titles changed.
 /// In mode Flat nothing is to be done: one list has the words that were loaded and the frame.
-pub(crate) fn show_views(mode: Mode, server: &Server, pixels: &mut Pixels)
+pub(crate) fn show_views<G: Drop>(mode: Mode, server: &Server, pixels: &mut Pixels<G>)
     requires mode { mode ≡ server.now.input.mode }
     requires can { CanShowBy server.now pixels.old }
     ensures can { CanShowBy server.now pixels.new }
     ensures raw { raw_of pixels.new ≡ raw_of pixels.old }
+    ensures glasses { pixels.new.painter.glasses ≡ pixels.old.painter.glasses }
     ensures flat { mode ≡ Flat → pixels.new ≡ pixels.old }
     ensures labelled { IsTrue (draws_labels mode) → ArePixels server.now pixels.new }
 {
@@ -196,24 +206,26 @@ pub(crate) fn show_views(mode: Mode, server: &Server, pixels: &mut Pixels)
 
 /// Shows again, in the modes that draw labels, what views of a session own and what of it shows
 /// this part of its buffer, or all of it, once it was loaded. In mode Flat the frame stays.
-pub(crate) fn show_part(
+pub(crate) fn show_part<G: Drop>(
     mode: Mode,
     server: &Server,
     of: u32,
     part: &Option<Rect>,
-    pixels: &mut Pixels,
+    pixels: &mut Pixels<G>,
 )
     requires mode { mode ≡ server.now.input.mode }
     requires can { CanShowBy server.now pixels.old }
     requires apart { IsTrue (draws_labels mode)
-        → length pixels.old.frame.items ≡ length pixels.old.raw.items }
+        → length pixels.old.frame.items ≡ length pixels.old.painter.raw.items }
     ensures can { CanShowBy server.now pixels.new }
-    ensures raw { pixels.new.raw ≡ pixels.old.raw }
+    ensures raw { pixels.new.painter.raw ≡ pixels.old.painter.raw }
+    ensures glasses { pixels.new.painter.glasses ≡ pixels.old.painter.glasses }
     ensures kept { (pixels.new.is_apart ≡ pixels.old.is_apart) × (pixels.new.bar ≡ pixels.old.bar) }
     ensures flat { mode ≡ Flat → pixels.new ≡ pixels.old }
     ensures labelled { IsTrue (draws_labels mode) → AreSet
         (λ k. wanted of part.now server.now.stack (pixel server.now.stack.width k))
-        (length pixels.new.raw.items) (shown_by (state_of server.now) pixels.new.raw.items)
+        (length pixels.new.painter.raw.items)
+        (shown_by (state_of server.now) pixels.new.painter.raw.items)
         pixels.old.frame.items pixels.new.frame.items }
 {
     match mode {
@@ -224,50 +236,54 @@ pub(crate) fn show_part(
 
 /// Sets the frame to what is shown at what views of a session own, or at what of it shows a part of
 /// its buffer.
-fn overlay_part(server: &Server, of: u32, part: &Option<Rect>, pixels: &mut Pixels)
+fn overlay_part<G: Drop>(server: &Server, of: u32, part: &Option<Rect>, pixels: &mut Pixels<G>)
     requires can { CanShowBy server.now pixels.old }
-    requires apart { length pixels.old.frame.items ≡ length pixels.old.raw.items }
+    requires apart { length pixels.old.frame.items ≡ length pixels.old.painter.raw.items }
     ensures can { CanShowBy server.now pixels.new }
-    ensures raw { pixels.new.raw ≡ pixels.old.raw }
+    ensures raw { pixels.new.painter.raw ≡ pixels.old.painter.raw }
+    ensures glasses { pixels.new.painter.glasses ≡ pixels.old.painter.glasses }
     ensures kept { (pixels.new.is_apart ≡ pixels.old.is_apart) × (pixels.new.bar ≡ pixels.old.bar) }
     ensures shown { AreSet
         (λ k. wanted of part.now server.now.stack (pixel server.now.stack.width k))
-        (length pixels.new.raw.items) (shown_by (state_of server.now) pixels.new.raw.items)
+        (length pixels.new.painter.raw.items)
+        (shown_by (state_of server.now) pixels.new.painter.raw.items)
         pixels.old.frame.items pixels.new.frame.items }
 {
     part_of(
         server,
         of,
         part,
-        &mut pixels.cutter,
+        &mut pixels.painter,
         pixels.labels.as_slice(),
         pixels.places.as_mut_slice(),
-        pixels.raw.as_slice(),
         pixels.frame.as_mut_slice(),
     );
 }
 
 /// The same, of a frame by itself. Where the labels stand is worked out first.
-fn part_of(
+fn part_of<G: Drop>(
     server: &Server,
     of: u32,
     part: &Option<Rect>,
-    cutter: &mut Cutter,
+    painter: &mut Painter<G>,
     labels: &[Label],
     places: &mut [Option<Point>],
-    raw: &[u32],
     out: &mut [u32],
 )
-    requires room { server.now.stack.most ≤ cutter.old.room }
+    requires room { server.now.stack.most ≤ painter.old.cutter.room }
     requires named { labels.now ≡ map (λ m. m.label) server.now.config.clients }
     requires placed { server.now.stack.most ≤ length places.old }
-    requires pixels { length raw.now ≡ server.now.config.width * server.now.config.height }
+    requires pixels { length painter.old.raw.items
+        ≡ server.now.config.width * server.now.config.height }
     requires out { length out.old ≡ server.now.config.width * server.now.config.height }
-    requires words { All IsWord raw.now }
-    ensures room { cutter.new.room ≡ cutter.old.room }
+    requires words { All IsWord painter.old.raw.items }
+    ensures room { painter.new.cutter.room ≡ painter.old.cutter.room }
+    ensures kept { (painter.new.raw ≡ painter.old.raw) ×
+        (painter.new.glasses ≡ painter.old.glasses) }
     ensures shown { AreSet
         (λ k. wanted of part.now server.now.stack (pixel server.now.stack.width k))
-        (length raw.now) (shown_by (state_of server.now) raw.now) out.old out.new }
+        (length painter.old.raw.items) (shown_by (state_of server.now) painter.old.raw.items)
+        out.old out.new }
     ensures places { length places.new ≡ length places.old }
 {
     server.facts();
@@ -280,5 +296,5 @@ fn part_of(
         focus: server.focus(),
         places,
     };
-    show_session(cutter, &look, of, part, raw, out);
+    painter.show_session(&look, of, part, out);
 }

@@ -2,12 +2,12 @@ use Rattle.nit_scene.proofs.Lemmas.{IsTrue, Mode, Scenery, ap, can_still, draws_
 use Rattle.nit_scene.proofs.screen.calls.serve_quiet.Goals as goal
 
 pub returns-clause-pixels : goal.returns-clause-pixels
-returns-clause-pixels c =
+returns-clause-pixels g c =
     let s = c.args.server.now in
     let s' = c.accept-reply.new.self in
     let p = c.args.pixels.now in
     let same = quiet_scenery s s' c.args.sid c.args.call.now c.accept-reply.result c.requires.accepted c.accept-reply.ensures c.requires.quiet in (
-      can_still s s' p.raw.items p.raw.items (length p.frame.items) (vec_capacity p.frame) p.cutter.room p.cutter.room p.labels.items (length p.places.items) p.bar
+      can_still s s' p.painter.raw.items p.painter.raw.items (length p.frame.items) (vec_capacity p.frame) p.painter.cutter.room p.painter.cutter.room p.labels.items (length p.places.items) p.bar
           (same_config c.args.sid c.args.call.now c.accept-reply.result s s' c.accept-reply.ensures)
           (same_most s s' c.args.sid c.args.call.now c.accept-reply.result c.facts.ensures c.facts-2.ensures c.accept-reply.ensures)
           refl c.requires.pixels.0.words refl c.requires.pixels.0,
@@ -16,4 +16,4 @@ returns-clause-pixels c =
     )
 
 pub returns-clause-painted : goal.returns-clause-painted
-returns-clause-painted c glasses raw = quiet_painted (state_of c.args.server.now) (state_of c.accept-reply.new.self) c.args.sid c.args.call.now c.accept-reply.result glasses raw c.requires.quiet
+returns-clause-painted g c glasses raw = quiet_painted (state_of c.args.server.now) (state_of c.accept-reply.new.self) c.args.sid c.args.call.now c.accept-reply.result glasses raw c.requires.quiet

@@ -5,18 +5,14 @@ use Rattle.nit_scene.proofs.screen.last.load_whole.Goals as goal
 pub paint_whole-requires-clause-room : goal.paint_whole-requires-clause-room
 paint_whole-requires-clause-room g c =
     let few = few_views c.args.server.now.stack c.stack.ensures.facts.standing in
-    subst (λ (s : StackModel). length s.views ≤ c.args.cutter.now.room) (sym c.stack.ensures.stack) (omega (arith, few, c.requires.room))
+    subst (λ (s : StackModel). length s.views ≤ c.args.painter.now.cutter.room) (sym c.stack.ensures.stack) (omega (arith, few, c.requires.room))
 
 pub paint_whole-requires-clause-pixels : goal.paint_whole-requires-clause-pixels
 paint_whole-requires-clause-pixels g c =
-    ap length c.as_mut_slice.ensures.value ∙ c.requires.pixels ∙ (λ i. sym c.stack.ensures.facts.screen.0 i * sym c.stack.ensures.facts.screen.1 i) ∙ ap (λ (s : StackModel). s.width * s.height) (sym c.stack.ensures.stack)
+    c.requires.pixels ∙ (λ i. sym c.stack.ensures.facts.screen.0 i * sym c.stack.ensures.facts.screen.1 i) ∙ ap (λ (s : StackModel). s.width * s.height) (sym c.stack.ensures.stack)
 
 pub paint_whole-requires-clause-held : goal.paint_whole-requires-clause-held
 paint_whole-requires-clause-held g c = subst (λ (s : StackModel). HoldBuffers s (length c.args.owns.now) (glass_in (map g.C.Glass.sight c.args.owns.now))) (sym c.stack.ensures.stack) c.requires.held
 
 pub returns-clause-painted : goal.returns-clause-painted
-returns-clause-painted g c =
-    let same_words : length c.paint_whole.new.raw ≡ c.args.raw.now.len = omega (arith, c.paint_whole.ensures.count, c.as_mut_slice.ensures.len) in
-    handed_on (λ (s : StackModel) (n : ℕ) (a b : ℕ → Sight) (raw raw' : List ℕ). Repainted (source_of_number s) (λ (k : ℕ). true) n a b raw raw')
-    _ _ _ _ (glass_in (map g.C.Glass.sight c.args.owns.now)) _ (glass_in (map g.C.Glass.sight c.paint_whole.new.owns)) _ _ _ _ _ c.stack.ensures.stack (ap length c.as_mut_slice.ensures.value) (λ i. glass_in (map g.C.Glass.sight c.args.owns.now)) (λ i. glass_in (map g.C.Glass.sight c.paint_whole.new.owns))
-    c.as_mut_slice.ensures.value (put_back_whole c.args.raw.now.len c.paint_whole.new.raw (drop (length c.paint_whole.new.raw) c.args.raw.now.items) same_words) c.paint_whole.ensures.painted
+returns-clause-painted g c = rw c.stack.ensures.stack at c.paint_whole.ensures.painted

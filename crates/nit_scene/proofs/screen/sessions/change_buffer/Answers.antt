@@ -16,7 +16,7 @@ paint_views-requires-clause-pixels g c =
 
 pub paint_views-requires-clause-held : goal.paint_views-requires-clause-held
 paint_views-requires-clause-held g c =
-    let gs = c.args.glasses.now.items in
+    let gs = c.args.pixels.now.painter.glasses.items in
     held_by_glasses c.args.server.now c.accept-reply.new.self (map g.G.Glass.sight gs) (length gs) c.args.sid (g.C.Glass.sight c.args.own.now) c.facts-2.ensures
     (same_config c.args.sid c.args.call.now c.accept-reply.result c.args.server.now c.accept-reply.new.self c.accept-reply.ensures)
     c.requires.glasses c.requires.tables c.requires.own
@@ -26,11 +26,11 @@ show_part-requires-clause-can g c =
     let s = c.args.server.now in
     let s' = c.accept-reply.new.self in
     let p = c.args.pixels.now in
-    let raw' = c.paint_views.new.raw.items in
-    can_still s s' p.raw.items raw' (length p.frame.items) (vec_capacity p.frame) p.cutter.room c.paint_views.new.cutter.room p.labels.items (length p.places.items) p.bar
+    let raw' = c.paint_views.new.painter.raw.items in
+    can_still s s' p.painter.raw.items raw' (length p.frame.items) (vec_capacity p.frame) p.painter.cutter.room c.paint_views.new.painter.cutter.room p.labels.items (length p.places.items) p.bar
     (same_config c.args.sid c.args.call.now c.accept-reply.result s s' c.accept-reply.ensures)
     (same_most s s' c.args.sid c.args.call.now c.accept-reply.result c.facts.ensures c.facts-2.ensures c.accept-reply.ensures)
-    c.paint_views.ensures.count (repainted_words _ _ _ _ _ p.raw.items raw' c.paint_views.ensures.count c.paint_views.ensures.painted c.requires.pixels.0.words)
+    c.paint_views.ensures.count (repainted_words _ _ _ _ _ p.painter.raw.items raw' c.paint_views.ensures.count c.paint_views.ensures.painted c.requires.pixels.0.words)
     c.paint_views.ensures.room c.requires.pixels.0
 
 pub show_part-requires-clause-apart : goal.show_part-requires-clause-apart
@@ -39,8 +39,8 @@ show_part-requires-clause-apart g c = λ m.
     let p = c.args.pixels.now in
     let other : c.args.call.now ≡ Close → ⊥ = λ q. subst (IsPartOf c.args.part.now) q c.requires.on in
     let labelled : IsTrue (draws_labels s.input.mode) = subst (λ (x : Mode). IsTrue (draws_labels x)) (c.mode.ensures ∙ mode_stays s c.accept-reply.new.self c.args.sid c.args.call.now c.accept-reply.result other c.accept-reply.ensures) m in
-    let was : p.frame.items ≡ frame (scenery_of (state_of s)) p.raw.items = subst (λ (b : Bool). cond b p.frame.items p.raw.items ≡ frame (scenery_of (state_of s)) (raw_in b p.bar p.raw.items)) (c.requires.pixels.2 labelled) c.requires.pixels.1 in
-    ap length was ∙ length-frame (scenery_of (state_of s)) p.raw.items ∙ sym (c.paint_views.ensures.count ∙ c.requires.pixels.0.pixels)
+    let was : p.frame.items ≡ frame (scenery_of (state_of s)) p.painter.raw.items = subst (λ (b : Bool). cond b p.frame.items p.painter.raw.items ≡ frame (scenery_of (state_of s)) (raw_in b p.bar p.painter.raw.items)) (c.requires.pixels.2 labelled) c.requires.pixels.1 in
+    ap length was ∙ length-frame (scenery_of (state_of s)) p.painter.raw.items ∙ sym (c.paint_views.ensures.count ∙ c.requires.pixels.0.pixels)
 
 -- the pixels that are shown again are the dirty ones
 pub returns-clause-pixels : goal.returns-clause-pixels
@@ -52,11 +52,11 @@ returns-clause-pixels g c =
     let e = c.show_part.ensures in
     let call = c.args.call.now in
     let reply = c.accept-reply.result in
-    let glasses = glasses_of_call (map g.G.Glass.sight c.args.glasses.now.items) c.args.sid (g.C.Glass.sight c.args.own.now) in
-    let glasses' = glasses_of_call (map g.G.Glass.sight c.paint_views.new.glasses.items) c.args.sid (g.C.Glass.sight c.paint_views.new.own) in
+    let glasses = glasses_of_call (map g.G.Glass.sight c.args.pixels.now.painter.glasses.items) c.args.sid (g.C.Glass.sight c.args.own.now) in
+    let glasses' = glasses_of_call (map g.G.Glass.sight c.paint_views.new.painter.glasses.items) c.args.sid (g.C.Glass.sight c.paint_views.new.own) in
     let chosen : ℕ → Bool = λ k. wanted c.args.sid c.args.part.now s'.stack (pixel s'.stack.width k) in
     let painted = painted_by_views s s' c.args.sid c.args.part.now call reply c.facts-2.ensures c.requires.accepted c.accept-reply.ensures c.requires.on
-    (length p.raw.items) glasses glasses' p.raw.items c.paint_views.new.raw.items c.requires.pixels.0.pixels c.paint_views.ensures.painted in
+    (length p.painter.raw.items) glasses glasses' p.painter.raw.items c.paint_views.new.painter.raw.items c.requires.pixels.0.pixels c.paint_views.ensures.painted in
     let many = ap (λ w. length w.items) e.raw ∙ c.paint_views.ensures.count ∙ c.requires.pixels.0.pixels in
     let is_dirty = dirty_by_views s s' c.args.sid c.args.part.now call reply c.facts-2.ensures c.requires.accepted c.accept-reply.ensures c.requires.on in
     let bar_ = bar_kept s s' p.bar (same_config c.args.sid call reply s s' c.accept-reply.ensures) c.requires.pixels.0.bar in
@@ -65,16 +65,16 @@ returns-clause-pixels g c =
     by_mode s'.input.mode
     (λ m. (
       e.can,
-      subst (IsFrameOf s') (sym (e.flat (c.mode.ensures ∙ m))) (flat_kept s s' c.args.sid call reply glasses glasses' p.is_apart p.bar p.raw.items c.paint_views.new.raw.items p.frame.items (length p.frame.items) (vec_capacity p.frame) p.cutter.room p.labels.items (length p.places.items) chosen
+      subst (IsFrameOf s') (sym (e.flat (c.mode.ensures ∙ m))) (flat_kept s s' c.args.sid call reply glasses glasses' p.is_apart p.bar p.painter.raw.items c.paint_views.new.painter.raw.items p.frame.items (length p.frame.items) (vec_capacity p.frame) p.painter.cutter.room p.labels.items (length p.places.items) chosen
           c.requires.session other c.accept-reply.ensures some c.requires.pixels.0 c.paint_views.ensures.count bar_ painted is_dirty c.requires.one m c.requires.pixels.1),
       λ d. absurd (false≢true (sym (ap draws_labels m) ∙ d)),
     ))
     (λ m.
     let apart : p.is_apart ≡ true = c.requires.pixels.2 (subst (λ (x : Mode). IsTrue (draws_labels x)) (mode_stays s s' c.args.sid call reply other c.accept-reply.ensures) m) in
-    let was : p.frame.items ≡ frame (scenery_of (state_of s)) p.raw.items = subst (λ (b : Bool). cond b p.frame.items p.raw.items ≡ frame (scenery_of (state_of s)) (raw_in b p.bar p.raw.items)) apart c.requires.pixels.1 in (
+    let was : p.frame.items ≡ frame (scenery_of (state_of s)) p.painter.raw.items = subst (λ (b : Bool). cond b p.frame.items p.painter.raw.items ≡ frame (scenery_of (state_of s)) (raw_in b p.bar p.painter.raw.items)) apart c.requires.pixels.1 in (
       e.can,
-      subst (λ (b : Bool). cond b p'.frame.items p'.raw.items ≡ frame (scenery_of (state_of s')) (raw_in b p'.bar p'.raw.items)) (sym (e.kept.0 ∙ apart))
-          (kept_part s s' c.args.sid c.args.part.now call reply glasses glasses' p.raw.items p'.raw.items p.frame.items p'.frame.items chosen
+      subst (λ (b : Bool). cond b p'.frame.items p'.painter.raw.items ≡ frame (scenery_of (state_of s')) (raw_in b p'.bar p'.painter.raw.items)) (sym (e.kept.0 ∙ apart))
+          (kept_part s s' c.args.sid c.args.part.now call reply glasses glasses' p.painter.raw.items p'.painter.raw.items p.frame.items p'.frame.items chosen
           c.requires.accepted c.accept-reply.ensures c.requires.on (rw e.raw painted) many is_dirty (e.labelled (subst (λ (x : Mode). IsTrue (draws_labels x)) (sym c.mode.ensures) m)) was),
       λ d. e.kept.0 ∙ apart,
     ))
@@ -85,6 +85,6 @@ returns-clause-painted g c =
     let s' = c.accept-reply.new.self in
     let p = c.args.pixels.now in
     let e = c.show_part.ensures in
-    rw e.kept.0 (rw e.kept.1 (rw e.raw (entry_painted_in p.is_apart p.bar (state_of s) (entry.Call c.args.sid c.args.call.now c.accept-reply.result) (state_of s') _ _ p.raw.items c.paint_views.new.raw.items (bar_kept s s' p.bar (same_config c.args.sid c.args.call.now c.accept-reply.result s s' c.accept-reply.ensures) c.requires.pixels.0.bar)
+    rw e.glasses (rw e.kept.0 (rw e.kept.1 (rw e.raw (entry_painted_in p.is_apart p.bar (state_of s) (entry.Call c.args.sid c.args.call.now c.accept-reply.result) (state_of s') _ _ p.painter.raw.items c.paint_views.new.painter.raw.items (bar_kept s s' p.bar (same_config c.args.sid c.args.call.now c.accept-reply.result s s' c.accept-reply.ensures) c.requires.pixels.0.bar)
     (painted_by_views s s' c.args.sid c.args.part.now c.args.call.now c.accept-reply.result c.facts-2.ensures c.requires.accepted c.accept-reply.ensures c.requires.on
-    _ _ _ p.raw.items c.paint_views.new.raw.items c.requires.pixels.0.pixels c.paint_views.ensures.painted))))
+    _ _ _ p.painter.raw.items c.paint_views.new.painter.raw.items c.requires.pixels.0.pixels c.paint_views.ensures.painted)))))

@@ -6,7 +6,7 @@ use Rattle.nit_scene.proofs.screen.sessions.close.Goals as goal
 
 pub end_session-requires-clause-held : goal.end_session-requires-clause-held
 end_session-requires-clause-held g c =
-    let gs = c.args.glasses.now.items in
+    let gs = c.args.pixels.now.painter.glasses.items in
     held_by_glasses c.args.server.now c.args.server.now (map g.G.Glass.sight gs) (length gs) c.args.sid (g.C.Glass.sight c.args.own.now) c.facts.ensures refl c.requires.glasses c.requires.tables c.requires.own
 
 pub returns-clause-served : goal.returns-clause-served
@@ -18,11 +18,11 @@ redraw-requires g c =
     let s = c.args.server.now in
     let s' = c.end_session.new.server in
     let p = c.args.pixels.now in
-    let raw' = c.end_session.new.raw.items in
+    let raw' = c.end_session.new.painter.raw.items in
     let e = c.end_session.ensures in
     record {
-      can = can_still s s' p.raw.items raw' (length p.frame.items) (vec_capacity p.frame) p.cutter.room c.end_session.new.cutter.room p.labels.items (length p.places.items) p.bar
-          (ap (λ (t : ServerModel). t.config) e.server) (ap (λ (t : ServerModel). t.stack.most) e.server) e.count (repainted_words _ _ _ _ _ p.raw.items raw' e.count e.painted c.requires.pixels.0.words) e.room c.requires.pixels.0;
+      can = can_still s s' p.painter.raw.items raw' (length p.frame.items) (vec_capacity p.frame) p.painter.cutter.room c.end_session.new.painter.cutter.room p.labels.items (length p.places.items) p.bar
+          (ap (λ (t : ServerModel). t.config) e.server) (ap (λ (t : ServerModel). t.stack.most) e.server) e.count (repainted_words _ _ _ _ _ p.painter.raw.items raw' e.count e.painted c.requires.pixels.0.words) e.room c.requires.pixels.0;
     }
 
 pub returns-clause-painted : goal.returns-clause-painted
@@ -30,5 +30,5 @@ returns-clause-painted g c =
     let s = c.args.server.now in
     let s' = c.end_session.new.server in
     let p = c.args.pixels.now in
-    rw c.redraw.ensures.raw (entry_painted_in p.is_apart p.bar (state_of s) (entry.Call c.args.sid call.Close reply.Done) (state_of s') _ _ p.raw.items c.end_session.new.raw.items (bar_kept s s' p.bar (ap (λ (t : ServerModel). t.config) c.end_session.ensures.server) c.requires.pixels.0.bar)
-    (close_painted s s' c.args.sid _ _ p.raw.items c.end_session.new.raw.items c.end_session.ensures.painted))
+    rw c.redraw.ensures.glasses (rw c.redraw.ensures.raw (entry_painted_in p.is_apart p.bar (state_of s) (entry.Call c.args.sid call.Close reply.Done) (state_of s') _ _ p.painter.raw.items c.end_session.new.painter.raw.items (bar_kept s s' p.bar (ap (λ (t : ServerModel). t.config) c.end_session.ensures.server) c.requires.pixels.0.bar)
+    (close_painted s s' c.args.sid _ _ p.painter.raw.items c.end_session.new.painter.raw.items c.end_session.ensures.painted)))

@@ -17,4 +17,4 @@ returns-clause-server g c =
 pub returns-clause-painted : goal.returns-clause-painted
 returns-clause-painted g c =
     let now = ended_server c.args.of c.args.how c.args.server.now c.take_views_away.new.server c.end_session.new.self c.requires.session c.take_views_away.ensures.session c.take_views_away.ensures.left c.end_session.ensures in
-    ended_painted c.args.server.now c.end_session.new.self c.args.of c.args.how _ _ _ c.args.raw.now.items c.take_views_away.new.raw.items c.facts.ensures c.facts-2.ensures now c.requires.pixels c.take_views_away.ensures.painted
+    ended_painted c.args.server.now c.end_session.new.self c.args.of c.args.how _ _ _ c.args.painter.now.raw.items c.take_views_away.new.painter.raw.items c.facts.ensures c.facts-2.ensures now c.requires.pixels c.take_views_away.ensures.painted

@@ -7,7 +7,7 @@ returns-then-view-of-clause-taken g c = stays c.args.of c.args.i c.args.server.n
 pub returns-then-view-of-clause-painted : goal.returns-then-view-of-clause-painted
 returns-then-view-of-clause-painted g c =
     let s = c.args.server.now.stack in
-    c.nothing_repainted.ensures _ (λ (k : ℕ). uncovered c.args.of s s (pixel s.width k)) _ _ c.args.raw.now.items (λ k l. stays_clean c.args.of s (pixel s.width k))
+    c.nothing_repainted.ensures _ (λ (k : ℕ). uncovered c.args.of s s (pixel s.width k)) _ _ c.args.painter.now.raw.items (λ k l. stays_clean c.args.of s (pixel s.width k))
 
 pub paint_change-requires-clause-room : goal.paint_change-requires-clause-room
 paint_change-requires-clause-room g c =
@@ -15,7 +15,7 @@ paint_change-requires-clause-room g c =
     let k = c.seated-view.result.0.0 in
     let h = c.seated-view.result.1.handle in
     let by : IsNamedBy k c.args.of h s.stack.views = subst (λ (t : ℕ). IsNamedBy k t h s.stack.views) c.if-view-of.false c.seated-view.ensures.named in
-    gone_room s.stack c.remove_view.new.self.stack k c.args.cutter.now.room (gone_by_slot s c.remove_view.new.self c.args.of h k by c.remove_view.ensures) c.requires.room
+    gone_room s.stack c.remove_view.new.self.stack k c.args.painter.now.cutter.room (gone_by_slot s c.remove_view.new.self c.args.of h k by c.remove_view.ensures) c.requires.room
 
 pub returns-clause-taken : goal.returns-clause-taken
 returns-clause-taken g c =
@@ -40,4 +40,4 @@ returns-clause-painted g c =
     let at = c.seated-view.ensures.place in
     let change : IsViewChange k c.args.i view.rect s.stack s'.stack = gone_change s.stack s'.stack k c.args.i view by.slots (seat_here s.stack.views c.args.i _ by.slots at) (sym (place_is s.stack.views c.args.i _ by.slots at)) now in
     goes_painted c.args.of c.args.i k s.stack s'.stack _ by.slots at refl c.if-view-of.false c.requires.behind now _ _ _ _ _
-    (gone_painted s.stack s'.stack k _ _ _ c.args.raw.now.items c.paint_change.new.raw.items now (c.paint_change.ensures.painted s.stack change))
+    (gone_painted s.stack s'.stack k _ _ _ c.args.painter.now.raw.items c.paint_change.new.painter.raw.items now (c.paint_change.ensures.painted s.stack change))

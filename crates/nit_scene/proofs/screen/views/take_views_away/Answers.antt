@@ -10,7 +10,7 @@ views-init g c =
       left = refl;
       session = c.requires.session;
       room = refl;
-      painted = repainted_none _ (λ (k : ℕ). uncovered c.args.of s s (pixel s.width k)) _ _ c.args.raw.now.items (λ k l. stays_clean c.args.of s (pixel s.width k));
+      painted = repainted_none _ (λ (k : ℕ). uncovered c.args.of s s (pixel s.width k)) _ _ c.args.painter.now.raw.items (λ k l. stays_clean c.args.of s (pixel s.width k));
       count = refl;
       many = refl;
       idle = refl;
@@ -40,8 +40,8 @@ take_seat_away-requires-clause-pixels g c = c.views.invariant.count ∙ c.requir
 pub take_seat_away-requires-clause-held : goal.take_seat_away-requires-clause-held
 take_seat_away-requires-clause-held g c =
     let i = c.views.invariant in
-    taken_held c.args.of c.views.i _ _ c.args.server.now.stack c.views.server.stack (glasses_of_call (map g.G.Glass.sight c.args.glasses.now.items) c.args.sid (g.C.Glass.sight c.args.own.now))
-    (glasses_of_call (map g.G.Glass.sight c.views.glasses.items) c.args.sid (g.C.Glass.sight c.views.own)) i.painted.loads i.taken i.many i.painted.sights c.requires.held
+    taken_held c.args.of c.views.i _ _ c.args.server.now.stack c.views.server.stack (glasses_of_call (map g.G.Glass.sight c.args.painter.now.glasses.items) c.args.sid (g.C.Glass.sight c.args.own.now))
+    (glasses_of_call (map g.G.Glass.sight c.views.painter.glasses.items) c.args.sid (g.C.Glass.sight c.views.own)) i.painted.loads i.taken i.many i.painted.sights c.requires.held
 
 pub views-preserved : goal.views-preserved
 views-preserved g c =
@@ -57,7 +57,7 @@ views-preserved g c =
       room = e.room ∙ i.room;
       painted = painted_more c.args.of (c.views.i - 1) _ s mid c.take_seat_away.new.server.stack _ _ _ _ _ _ first e.taken i.painted (other_count _ _ _ _ _ _ _ _ i.count e.painted);
       count = e.count ∙ i.count;
-      many = sym (length-map c.take_seat_away.new.glasses.items g.G.Glass.rest) ∙ ap length e.rests ∙ length-map c.views.glasses.items g.G.Glass.rest ∙ i.many;
+      many = sym (length-map c.take_seat_away.new.painter.glasses.items g.G.Glass.rest) ∙ ap length e.rests ∙ length-map c.views.painter.glasses.items g.G.Glass.rest ∙ i.many;
       idle = e.idle ∙ i.idle;
       rest = e.rest ∙ i.rest;
       rests = e.rests ∙ i.rests;
