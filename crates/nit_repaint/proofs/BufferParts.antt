@@ -1,5 +1,5 @@
 -- Where a view shows a part of its session's buffer.
-use Rattle.nit_repaint.proofs.Basics.{CoversBoth, IsOnScreen, IsSpanned, Point, Rectangle, View, among, buffer_place, column_of, covers, index_at, int_le, ints, is_index_in, le_tested, nat_tests, negsuc, point, pos, rectangle, row_of, same_tests, shown_index, spans, spans_holds, spans_tells, ℤ}
+use Rattle.nit_repaint.proofs.Basics.{CoversBoth, IsOnScreen, IsSpanned, Point, Rectangle, View, among, buffer_place, column_of, covers, false≢true, index_at, int_le, ints, is_index_in, le_tested, nat_tests, negsuc, point, pos, rectangle, row_of, same_tests, shown_index, spans, spans_holds, spans_tells, ℤ}
 use Rattle.std.proofs.Common.{Bool, None, Some, ap, arith, cond, false, nat_le, nat_lt, refl, sym, true, ℕ, ◌&&◌, ◌-◌, ◌<◌, ◌∙◌, ◌≡◌, ◌≤◌, ◌+ℤ◌, ◌<ℤ◌, ◌≤ℤ◌}
 
 -- a place of the screen stands for a number of any sign
@@ -50,6 +50,19 @@ run_none from corner offset first end long left right c f e l r none = same_test
     let a : left ≤ c = behind left c first l (omega (arith, ints)) in
     let b : c < right = before_it right c end r (omega (arith, ints)) in
     absurd (omega (arith, a, b, none)))
+
+-- nothing lies in a rectangle without pixels
+nowhere : (x : ℤ) → spans (pos 0) 0 x ≡ false
+nowhere x = same_tests (spans (pos 0) 0 x) false
+    (λ is.
+    let s : IsSpanned (pos 0) 0 x = spans_tells (pos 0) 0 x is in
+    let low = s.low in
+    let high = s.high in
+    absurd (omega (arith, ints)))
+    (λ is. absurd (false≢true is))
+
+pub none_in : (p : Point) → covers (rectangle (pos 0) (pos 0) 0 0) p ≡ false
+none_in p = ap (λ (b : Bool). b && spans (pos 0) 0 p.y) (nowhere p.x)
 
 -- ---- a place of a buffer
 

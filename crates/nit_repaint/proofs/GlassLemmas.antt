@@ -1,5 +1,5 @@
 -- What the painting of one piece does to the glasses of a call.
-use Rattle.nit_repaint.proofs.Basics.{CutterModel, HoldBuffers, IsOnScreen, IsScreenSize, Piece, PixelSource, Point, Repainted, Sight, StackModel, ViewRef, eq-eqb, eqb-false, eqb-true, get_or-map, get_or_past, glass_in, glasses_of_call, is_to_come, length-map, map-set, ne_eqb, no_sight, option_map_or, pixel, repainted_same, seen, session_of, session_shown, set-get_or, size_of, to_come, with_glass, word_count, words_shown}
+use Rattle.nit_repaint.proofs.Basics.{CutterModel, HoldBuffers, IsOnScreen, IsScreenSize, Piece, PixelSource, Point, Repainted, Sight, StackModel, ViewRef, eqb-false, eqb-true, get_or-map, get_or_past, glass_in, glasses_of_call, is_to_come, length-map, map-set, no_sight, option_map_or, pixel, repainted_same, seen, session_of, session_shown, set-get_or, size_of, to_come, with_glass, word_count, words_shown}
 use Rattle.std.proofs.Common.{Bool, List, Some, ap, arith, cond, false, get_or-set_other, get_or-set_same, length, map, nat_lt, refl, set, slice_index_or, subst, sym, true, ℕ, ◌*◌, ◌<◌, ◌==◌, ◌∙◌, ◌≡◌, ◌≤◌}
 use Rattle.nit_repaint.proofs.Screen.{on_screen}
 

@@ -112,24 +112,25 @@ owned_covers s k seat p apart there owns = go (in_bar s.bar p) (sym (owned_by s 
     go true e = cc
     go false e = (and_parts (covers seat.view.rect p) (not (covered (take (place_of k s.views) s.views) p)) e).0
 
+-- what is wanted of a view of the session, and of another one
+pub wanted_here : (s : StackModel) (view : View) (sid : ℕ) (part : Option Rectangle) (p : Point) → view.sid ≡ sid
+    → wants part (size_of s.sizes view.sid) view p ≡ ((view.sid == sid) && wants part (size_of s.sizes sid) view p)
+wanted_here s view sid part p own =
+    ap (λ (t : ℕ). wants part (size_of s.sizes t) view p) own ∙ ap (λ (b : Bool). b && wants part (size_of s.sizes sid) view p) (sym (eq-eqb view.sid sid own))
+
+pub not_wanted : (s : StackModel) (view : View) (sid : ℕ) (part : Option Rectangle) (p : Point) → (view.sid ≡ sid → ⊥)
+    → false ≡ ((view.sid == sid) && wants part (size_of s.sizes sid) view p)
+not_wanted s view sid part p other = ap (λ (b : Bool). b && wants part (size_of s.sizes sid) view p) (sym (ne_eqb view.sid sid other))
+
 pub seat_set : (s : StackModel) (rect : Rectangle) (v : ViewRef) (view : View) (x : SlotView) (sid : ℕ) (part : Option Rectangle) (p : Point) → NoPair same_slot s.views → slot_view_in v.0 s.views ≡ Some (record { slot = v.0; view = view })
-    → record { slot = v.0; view = view } ≡ x → view.sid ≡ sid → (covers view.rect p ≡ true → covers rect p ≡ wants part (size_of s.sizes view.sid) view p)
+    → record { slot = v.0; view = view } ≡ x → (covers view.rect p ≡ true → covers rect p ≡ ((view.sid == sid) && wants part (size_of s.sizes sid) view p))
     → is_owned v s rect p ≡ (owner_passes (is_slot x.slot) s p && is_wanted sid part s p x)
-seat_set s rect v view x sid part p apart there same own shows =
+seat_set s rect v view x sid part p apart there same shows =
     subst (λ (y : SlotView). is_owned v s rect p ≡ (owner_passes (is_slot y.slot) s p && is_wanted sid part s p y)) same (go (owner_passes (is_slot v.0) s p) refl)
   where
     go : (b : Bool) → owner_passes (is_slot v.0) s p ≡ b → (covers rect p && b) ≡ (b && (is_of_session sid (record { slot = v.0; view = view }) && wants part (size_of s.sizes sid) view p))
     go false e = never (covers rect p)
-    go true e =
-        let yes : (view.sid == sid) ≡ true = eq-eqb view.sid sid own in
-        sym (none_and (covers rect p)) ∙ shows (owned_covers s v.0 (record { slot = v.0; view = view }) p apart there e)
-        ∙ ap (λ (t : ℕ). wants part (size_of s.sizes t) view p) own
-        ∙ ap (λ (b : Bool). b && wants part (size_of s.sizes sid) view p) (sym yes)
-
-pub seat_not : (s : StackModel) (view : View) (x : SlotView) (slot sid : ℕ) (part : Option Rectangle) (p : Point) → record { slot = slot; view = view } ≡ x → (view.sid ≡ sid → ⊥) → (owner_passes (is_slot x.slot) s p && is_wanted sid part s p x) ≡ false
-seat_not s view x slot sid part p same other =
-    let no : (x.view.sid == sid) ≡ false = ap (λ (y : SlotView). y.view.sid == sid) (sym same) ∙ ne_eqb view.sid sid other in
-    ap (λ (b : Bool). owner_passes (is_slot x.slot) s p && (b && wants part (size_of s.sizes sid) x.view p)) no ∙ never (owner_passes (is_slot x.slot) s p)
+    go true e = sym (none_and (covers rect p)) ∙ shows (owned_covers s v.0 (record { slot = v.0; view = view }) p apart there e)
 
 -- ---- the first so many views
 

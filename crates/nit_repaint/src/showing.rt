@@ -3,7 +3,7 @@
 ghost use Rattle.std.specs.Prelude.{◌≡◌, ◌*◌, ◌<◌, ◌≤◌, ◌&&◌, All, Some, length, slice_get};
 ghost use Rattle.nit_repaint.specs.Terms.{AreSet, FitsStack, IsLook, IsWord, SlotView, frame, is_slot, is_to_come, is_wanted, owner_passes, pixel, scenery, shown_at, wanted};
 
-use crate::buffers::wanted_rect;
+use crate::buffers::begin_seat;
 use crate::painter::Painter;
 use nit_damage::Cutter;
 use nit_overlay::{Look, overlay_piece};
@@ -26,36 +26,6 @@ fn show_to_come(cutter: &mut Cutter, look: &Look, raw: &[u32], frame: &mut [u32]
 }
 
 impl<G: Drop> Painter<G> {
-    /// Sets the frame to what is shown at each pixel that is wanted of the view at a place, where
-    /// it is one of the session.
-    fn show_seat(&mut self, look: &Look, i: u32, of: u32, part: &Option<Rect>, frame: &mut [u32])
-        requires look { IsLook look.now }
-        requires place { i < length look.now.stack.now.views }
-        requires room { length look.now.stack.now.views ≤ self.old.cutter.room }
-        requires pixels { length self.old.raw.items
-            ≡ look.now.stack.now.width * look.now.stack.now.height }
-        requires frame { length frame.old ≡ length self.old.raw.items }
-        requires words { All IsWord self.old.raw.items }
-        ensures room { self.new.cutter.room ≡ self.old.cutter.room }
-        ensures kept { (self.new.raw ≡ self.old.raw) × (self.new.glasses ≡ self.old.glasses) }
-        ensures shown { (s : SlotView) → slice_get look.now.stack.now.views i ≡ Some s
-            → AreSet (λ k. let p = pixel look.now.stack.now.width k in
-            owner_passes (is_slot s.slot) look.now.stack.now p
-            && is_wanted of part.now look.now.stack.now p s)
-            (length self.old.raw.items) (shown_at look.now self.old.raw.items) frame.old frame.new }
-        ensures count { length frame.new ≡ length frame.old }
-    {
-        let stack = look.stack;
-        let v = stack.at(i);
-        let view = stack.view(v);
-        if view.sid != of {
-            return;
-        }
-        let rect = wanted_rect(stack, &view, part);
-        self.cutter.begin_owned(stack, v, rect);
-        show_to_come(&mut self.cutter, look, self.raw.as_slice(), frame);
-    }
-
     /// Sets the frame to what is shown at each pixel that views of the session `of` own and that
     /// shows `part` of its buffer, or at all that they own where no part is given, as
     /// [`Painter::paint_session`] loads them. Each raw word is below 2^24.
@@ -74,7 +44,8 @@ impl<G: Drop> Painter<G> {
     {
         let views = look.stack.len();
         'views: for i in 0..views {
-            self.show_seat(look, i, of, part, frame);
+            begin_seat(&mut self.cutter, look.stack, i, of, part);
+            show_to_come(&mut self.cutter, look, self.raw.as_slice(), frame);
         }
     }
 
