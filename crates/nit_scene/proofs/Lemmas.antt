@@ -7,12 +7,11 @@ pub use Rattle.nit_scene.proofs.Handles.{keeps_below, named_throughout, names_an
 pub use Rattle.nit_scene.proofs.KeptFrames.{bare_are_words, can_still, input_scenery, kept_part, kept_served, part_shown, quiet_scenery}
 pub use Rattle.nit_scene.proofs.Kills.{kill_alone, kill_is_live, killed_painted, killed_state, no_kill, told_paints_nothing}
 pub use Rattle.nit_scene.proofs.LabelSlotLemmas.{LabelledSoFar, all_labelled, holds_at, labelled_more, own_label, slot_within}
-pub use Rattle.nit_scene.proofs.Lists.{put_back_whole}
 pub use Rattle.nit_scene.proofs.Loads.{keeps_inked, keeps_raw}
 pub use Rattle.nit_scene.proofs.LostEvents.{each_one, may_lose}
 pub use Rattle.nit_scene.proofs.NewViews.{IsNewView, created, new_name, view_comes}
 pub use Rattle.nit_scene.proofs.OneList.{bar_again, bar_is_bare, bar_kept, bare_unbarred, by_mode, entry_painted_in, flat_below, flat_kept, made_one, mode_stays, other_focus, painted_bare, painted_in, raw_long}
-pub use Rattle.nit_scene.proofs.OneViewChanges.{change_of_call, change_stood, dirty_by_change, gone_by_slot, handed, named_stands, painted_by_change}
+pub use Rattle.nit_scene.proofs.OneViewChanges.{change_of_call, change_stood, dirty_by_change, gone_by_slot, named_stands, painted_by_change}
 pub use Rattle.nit_scene.proofs.QuietCalls.{clean_call, clean_painted, quiet_painted}
 pub use Rattle.nit_scene.proofs.SceneLemmas.{inks_now, open_more, played, raws_after, raws_now, replays, shots_fit, stays_legal}
 pub use Rattle.nit_scene.proofs.SceneOpening.{played_begun}
@@ -24,7 +23,7 @@ pub use Rattle.nit_scene.proofs.ServerLemmas.{has_member, machine_is, own_member
 pub use Rattle.nit_scene.proofs.ServerOpeningLemmas.{opened_server, opened_state}
 pub use Rattle.nit_scene.proofs.SessionCalls.{buffered, own_machine, taken, told, upgraded}
 pub use Rattle.nit_scene.proofs.SessionEnds.{close_painted, ended_painted, ended_server, nobody_ends}
-pub use Rattle.nit_scene.proofs.SessionViews.{dirty_by_views, handed_on, painted_by_views}
+pub use Rattle.nit_scene.proofs.SessionViews.{dirty_by_views, painted_by_views}
 pub use Rattle.nit_scene.proofs.SlotLemmas.{slot_of-none}
 pub use Rattle.nit_scene.proofs.StackRoom.{few_views, same_most}
 pub use Rattle.nit_scene.proofs.ViewCalls.{backed, fronted, offset_by, offset_range, placed, put_above_next, refreshed, same_layer, there, titled}

@@ -171,19 +171,6 @@ change_stood before after' sid handle k call r place rect hb ha none s on by pla
     (subst (λ (q : Rectangle). IsViewChange k (place_of k before.stack.views) q before.stack after'.stack) seat.2
     (change_of_call before after' sid handle k call r seat.0 hb ha none s on by seat.1))
 
--- the same of a stack that was handed out
-pub handed : (k place n m : ℕ) (rect : Rectangle) (t s : StackModel) (a a' b b' : ℕ → Sight) (raw raw' old new : List ℕ) → t ≡ s → n ≡ m → a ≡ a' → b ≡ b' → raw ≡ old → raw' ≡ new
-    → ((before : StackModel) → IsViewChange k place rect before t → Repainted (pieces.source_of_number t) (λ j. slot_owns_either k before t (pixel t.width j)) n a b raw raw')
-    → (before : StackModel) → IsViewChange k place rect before s → Repainted (pieces.source_of_number s) (λ j. slot_owns_either k before s (pixel s.width j)) m a' b' old new
-handed k place n m rect t s a a' b b' raw raw' old new e f g h i j told =
-    subst (λ (u : StackModel). (before : StackModel) → IsViewChange k place rect before u → Repainted (pieces.source_of_number u) (λ j. slot_owns_either k before u (pixel u.width j)) m a' b' old new) e
-    (λ before change.
-    subst (λ (x : ℕ). Repainted (pieces.source_of_number t) (λ j. slot_owns_either k before t (pixel t.width j)) x a' b' old new) f
-    (subst (λ (x : ℕ → Sight). Repainted (pieces.source_of_number t) (λ j. slot_owns_either k before t (pixel t.width j)) n x b' old new) g
-    (subst (λ (x : ℕ → Sight). Repainted (pieces.source_of_number t) (λ j. slot_owns_either k before t (pixel t.width j)) n a x old new) h
-    (subst (λ (x : List ℕ). Repainted (pieces.source_of_number t) (λ j. slot_owns_either k before t (pixel t.width j)) n a b x new) i
-    (subst (λ (x : List ℕ). Repainted (pieces.source_of_number t) (λ j. slot_owns_either k before t (pixel t.width j)) n a b raw x) j (told before change))))))
-
 -- ---- one view goes
 
 -- the server without a view, by the view's slot

@@ -37,10 +37,3 @@ module _ (before after' : ServerModel) (sid : ℕ) (part : Option Rectangle) (ca
   painted_by_views n glasses glasses' raw raw' count painted =
       subst (λ (c : ℕ). Repainted (source_at (state_of after')) (λ k. dirty (state_of before) (entry.Call sid call r) (state_of after') (pixel before.config.width k)) c glasses glasses' raw raw') count
       (repainted_same _ _ _ _ n glasses glasses glasses' glasses' raw raw' (λ k l. dirty_by_views k) (λ k l m. source_of_number after' ha k) (λ t. refl) (λ t. refl) painted)
-
--- what is said of a stack and of slices that were handed out, in the words of their owners
-pub handed_on : (P : StackModel → ℕ → (ℕ → Sight) → (ℕ → Sight) → List ℕ → List ℕ → Type 0) (t s : StackModel) (n m : ℕ) (a a' b b' : ℕ → Sight) (raw old raw' new : List ℕ) → t ≡ s → n ≡ m → a ≡ a' → b ≡ b' → raw ≡ old → raw' ≡ new
-    → P t n a b raw raw' → P s m a' b' old new
-handed_on P t s n m a a' b b' raw old raw' new e f g h i j told =
-    subst (λ (x : StackModel). P x m a' b' old new) e (subst (λ (x : ℕ). P t x a' b' old new) f (subst (λ (x : ℕ → Sight). P t n x b' old new) g
-    (subst (λ (x : ℕ → Sight). P t n a x old new) h (subst (λ (x : List ℕ). P t n a b x new) i (subst (λ (x : List ℕ). P t n a b raw x) j told)))))

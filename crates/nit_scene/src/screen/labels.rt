@@ -9,16 +9,28 @@ use nit_place::place_label;
 use nit_rect::Point;
 use nit_stack::Stack;
 
-/// Does so where the mode draws labels. In mode Flat, which draws none, no place is worked out.
-pub(crate) fn place_drawn(mode: Mode, stack: &Stack, labels: &[Label], places: &mut [Option<Point>])
-    requires labels { length labels.now ≡ length stack.now.sizes }
-    requires slots { stack.now.most ≤ length places.old }
-    ensures placed { IsTrue (draws_labels mode) → AreLabelled stack.now labels.now places.new }
-    ensures count { length places.new ≡ length places.old }
-{
-    match mode {
-        Mode::Flat => {}
-        _ => place_labels(stack, labels, places),
+/// The label of each session, and at the slot of each view the place of the view's label.
+#[derive(Drop)]
+pub struct Labels {
+    pub texts: Vec<Label>,
+    pub places: Vec<Option<Point>>,
+}
+
+impl Labels {
+    /// Works out where the labels of the views stand, where the mode draws labels. In mode Flat,
+    /// which draws none, no place is worked out.
+    pub(crate) fn place(&mut self, mode: Mode, stack: &Stack)
+        requires labels { length self.old.texts.items ≡ length stack.now.sizes }
+        requires slots { stack.now.most ≤ length self.old.places.items }
+        ensures placed { IsTrue (draws_labels mode)
+            → AreLabelled stack.now self.old.texts.items self.new.places.items }
+        ensures count { length self.new.places.items ≡ length self.old.places.items }
+        ensures texts { self.new.texts ≡ self.old.texts }
+    {
+        match mode {
+            Mode::Flat => {}
+            _ => place_labels(stack, self.texts.as_slice(), self.places.as_mut_slice()),
+        }
     }
 }
 

@@ -4,6 +4,7 @@ ghost use Rattle.std.specs.Prelude.{◌≡◌, ◌+◌, ◌-◌, ◌<◌, ◌≤
 ghost use Rattle.nit_scene.specs.Terms.{IsConfiguration, IsGlass, Point, bar_rows, bare_word, first_state, glass_in, most_slots, state_of};
 
 use crate::screen::Screen;
+use crate::screen::labels::Labels;
 use crate::screen::pixels::{Pixels, show_again};
 use crate::server::Server;
 use nit_config::Config;
@@ -57,15 +58,17 @@ fn bare_pixels<G: Drop>(
     ensures none { IfOk result (λ p. length p.frame.items ≡ 0) }
     ensures spare { IfOk result (λ p.
         config.now.width * config.now.height ≤ vec_capacity p.frame) }
-    ensures named { IfOk result (λ p. p.labels.items ≡ map (λ m. m.label) config.now.clients) }
+    ensures named { IfOk result (λ p. p.labels.texts.items ≡ map (λ m. m.label) config.now.clients) }
     ensures room { IfOk result (λ p.
-        (most_slots ≤ p.painter.cutter.room) × (most_slots ≤ length p.places.items)) }
+        (most_slots ≤ p.painter.cutter.room) × (most_slots ≤ length p.labels.places.items)) }
 {
     let cutter = Cutter::with_room(alloc, MOST_VIEWS as u32)?;
     let raw = bare_words(alloc, config)?;
     let frame = Vec::with_capacity(alloc, raw.len())?;
-    let labels = labels_of(alloc, config)?;
-    let places = no_places(alloc)?;
+    let labels = Labels {
+        texts: labels_of(alloc, config)?,
+        places: no_places(alloc)?,
+    };
     let painter = Painter {
         cutter,
         raw,
@@ -77,7 +80,6 @@ fn bare_pixels<G: Drop>(
         is_apart: false,
         bar,
         labels,
-        places,
     })
 }
 

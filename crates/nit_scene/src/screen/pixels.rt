@@ -3,13 +3,12 @@
 ghost use Rattle.std.specs.Prelude.{◌≡◌, ℕ, ◌*◌, ◌<◌, ◌≤◌, All, IsTrue, Option, false, length, map, nat_lt, slice_index, true, if◌then◌else◌};
 ghost use Rattle.nit_scene.specs.Terms.{ArePixels, AreSet, CanShowBy, Flat, IsServer, IsWord, ShowsBelow, bar_rows, bar_word, draws_labels, frame, kept_frame, pixel, raw_of, scenery_of, shown_by, state_of, wanted};
 
-use crate::screen::labels::place_drawn;
+use crate::screen::labels::Labels;
 use crate::screen::lists::{reach, take_bar_off};
 use crate::server::Server;
 use nit_events::Mode;
-use nit_glyph::Label;
 use nit_overlay::{Look, bar_into};
-use nit_rect::{Point, Rect};
+use nit_rect::Rect;
 use nit_repaint::Painter;
 
 /// The raw word of each pixel of a screen and the frame of them, each row by row from the top, with
@@ -28,8 +27,7 @@ pub struct Pixels<G: Drop> {
     pub is_apart: bool,
     /// How many pixels the bar has. They are the first ones.
     pub bar: usize,
-    pub labels: Vec<Label>,
-    pub places: Vec<Option<Point>>,
+    pub labels: Labels,
 }
 
 impl<G: Drop> Pixels<G> {
@@ -49,13 +47,12 @@ impl<G: Drop> Pixels<G> {
 fn frame_of<G: Drop>(
     server: &Server,
     painter: &mut Painter<G>,
-    labels: &[Label],
-    places: &mut [Option<Point>],
+    labels: &mut Labels,
     out: &mut [u32],
 )
     requires room { server.now.stack.most ≤ painter.old.cutter.room }
-    requires named { labels.now ≡ map (λ m. m.label) server.now.config.clients }
-    requires placed { server.now.stack.most ≤ length places.old }
+    requires named { labels.old.texts.items ≡ map (λ m. m.label) server.now.config.clients }
+    requires placed { server.now.stack.most ≤ length labels.old.places.items }
     requires pixels { length painter.old.raw.items
         ≡ server.now.config.width * server.now.config.height }
     requires out { length out.old ≡ server.now.config.width * server.now.config.height }
@@ -64,17 +61,18 @@ fn frame_of<G: Drop>(
     ensures kept { (painter.new.raw ≡ painter.old.raw) ×
         (painter.new.glasses ≡ painter.old.glasses) }
     ensures shown { out.new ≡ frame (scenery_of (state_of server.now)) painter.old.raw.items }
-    ensures places { length places.new ≡ length places.old }
+    ensures places { length labels.new.places.items ≡ length labels.old.places.items }
+    ensures texts { labels.new.texts ≡ labels.old.texts }
 {
     server.facts();
     let mode = server.mode();
-    place_drawn(mode, server.stack(), labels, places);
+    labels.place(mode, server.stack());
     let look = Look {
         stack: server.stack(),
-        labels,
+        labels: labels.texts.as_slice(),
         mode,
         focus: server.focus(),
-        places,
+        places: labels.places.as_slice(),
     };
     painter.show_whole(&look, out);
 }
@@ -92,8 +90,7 @@ pub(crate) fn redraw<G: Drop>(server: &Server, pixels: &mut Pixels<G>)
     frame_of(
         server,
         &mut pixels.painter,
-        pixels.labels.as_slice(),
-        pixels.places.as_mut_slice(),
+        &mut pixels.labels,
         pixels.frame.as_mut_slice(),
     );
 }
@@ -156,18 +153,13 @@ fn redraw_bar<G: Drop>(server: &Server, pixels: &mut Pixels<G>)
     ensures raw { raw_of pixels.new ≡ raw_of pixels.old }
     ensures glasses { pixels.new.painter.glasses ≡ pixels.old.painter.glasses }
 {
-    draw_bar(
-        server,
-        pixels.labels.as_slice(),
-        pixels.places.as_slice(),
-        &mut pixels.painter.raw,
-    );
+    draw_bar(server, &pixels.labels, &mut pixels.painter.raw);
 }
 
 /// Sets the words of the bar's pixels to what is shown there in mode Flat.
-fn draw_bar(server: &Server, labels: &[Label], places: &[Option<Point>], words: &mut Vec<u32>)
+fn draw_bar(server: &Server, labels: &Labels, words: &mut Vec<u32>)
     requires flat { server.now.input.mode ≡ Flat }
-    requires named { labels.now ≡ map (λ m. m.label) server.now.config.clients }
+    requires named { labels.now.texts.items ≡ map (λ m. m.label) server.now.config.clients }
     requires pixels { length words.old.items ≡ server.now.config.width * server.now.config.height }
     ensures facts { IsServer server.now }
     ensures shown { (k : ℕ) → slice_index words.new.items k
@@ -179,10 +171,10 @@ fn draw_bar(server: &Server, labels: &[Label], places: &[Option<Point>], words: 
     server.facts();
     let look = Look {
         stack: server.stack(),
-        labels,
+        labels: labels.texts.as_slice(),
         mode: Mode::Flat,
         focus: server.focus(),
-        places,
+        places: labels.places.as_slice(),
     };
     bar_into(&look, words.as_mut_slice());
 }
@@ -254,8 +246,7 @@ fn overlay_part<G: Drop>(server: &Server, of: u32, part: &Option<Rect>, pixels: 
         of,
         part,
         &mut pixels.painter,
-        pixels.labels.as_slice(),
-        pixels.places.as_mut_slice(),
+        &mut pixels.labels,
         pixels.frame.as_mut_slice(),
     );
 }
@@ -266,13 +257,12 @@ fn part_of<G: Drop>(
     of: u32,
     part: &Option<Rect>,
     painter: &mut Painter<G>,
-    labels: &[Label],
-    places: &mut [Option<Point>],
+    labels: &mut Labels,
     out: &mut [u32],
 )
     requires room { server.now.stack.most ≤ painter.old.cutter.room }
-    requires named { labels.now ≡ map (λ m. m.label) server.now.config.clients }
-    requires placed { server.now.stack.most ≤ length places.old }
+    requires named { labels.old.texts.items ≡ map (λ m. m.label) server.now.config.clients }
+    requires placed { server.now.stack.most ≤ length labels.old.places.items }
     requires pixels { length painter.old.raw.items
         ≡ server.now.config.width * server.now.config.height }
     requires out { length out.old ≡ server.now.config.width * server.now.config.height }
@@ -284,17 +274,18 @@ fn part_of<G: Drop>(
         (λ k. wanted of part.now server.now.stack (pixel server.now.stack.width k))
         (length painter.old.raw.items) (shown_by (state_of server.now) painter.old.raw.items)
         out.old out.new }
-    ensures places { length places.new ≡ length places.old }
+    ensures places { length labels.new.places.items ≡ length labels.old.places.items }
+    ensures texts { labels.new.texts ≡ labels.old.texts }
 {
     server.facts();
     let mode = server.mode();
-    place_drawn(mode, server.stack(), labels, places);
+    labels.place(mode, server.stack());
     let look = Look {
         stack: server.stack(),
-        labels,
+        labels: labels.texts.as_slice(),
         mode,
         focus: server.focus(),
-        places,
+        places: labels.places.as_slice(),
     };
     painter.show_session(&look, of, part, out);
 }

@@ -6,7 +6,7 @@ show_views-requires-clause-can g c =
     let s = c.args.server.now in
     let s' = c.accept-reply.new.self in
     let p = c.args.pixels.now in
-    can_still s s' p.painter.raw.items p.painter.raw.items (length p.frame.items) (vec_capacity p.frame) p.painter.cutter.room p.painter.cutter.room p.labels.items (length p.places.items) p.bar
+    can_still s s' p.painter.raw.items p.painter.raw.items (length p.frame.items) (vec_capacity p.frame) p.painter.cutter.room p.painter.cutter.room p.labels.texts.items (length p.labels.places.items) p.bar
     (same_config c.args.sid c.args.call.now c.accept-reply.result s s' c.accept-reply.ensures)
     (same_most s s' c.args.sid c.args.call.now c.accept-reply.result c.facts.ensures c.facts-2.ensures c.accept-reply.ensures)
     refl c.requires.pixels.0.words refl c.requires.pixels.0

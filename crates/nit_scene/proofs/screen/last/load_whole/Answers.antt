@@ -1,5 +1,5 @@
-use Rattle.std.proofs.Common.{List, ap, arith, drop, length, map, subst, sym, true, ℕ, ◌*◌, ◌∙◌, ◌≡◌, ◌≤◌}
-use Rattle.nit_scene.proofs.Lemmas.{HoldBuffers, Repainted, Sight, StackModel, few_views, glass_in, handed_on, put_back_whole, source_of_number}
+use Rattle.std.proofs.Common.{ap, arith, length, map, subst, sym, ◌*◌, ◌∙◌, ◌≤◌}
+use Rattle.nit_scene.proofs.Lemmas.{HoldBuffers, StackModel, few_views, glass_in}
 use Rattle.nit_scene.proofs.screen.last.load_whole.Goals as goal
 
 pub paint_whole-requires-clause-room : goal.paint_whole-requires-clause-room

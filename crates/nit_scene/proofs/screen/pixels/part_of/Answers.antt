@@ -17,7 +17,7 @@ returns-clause-shown g c =
       height = (ap (λ (s : StackModel). s.height) is ∙ screen.1) i;
       bar = (ap (λ (s : StackModel). s.bar) is ∙ screen.2) i;
       stack = views_of (is i).views;
-      labels = c.requires.named i;
+      labels = (c.as_slice.ensures.value ∙ ap (λ v. v.items) c.place.ensures.texts ∙ c.requires.named) i;
       mode = c.mode-mode.ensures i;
       focus = c.focus.ensures.focus i;
     })

@@ -27,7 +27,7 @@ show_part-requires-clause-can g c =
     let s' = c.accept-reply.new.self in
     let p = c.args.pixels.now in
     let raw' = c.paint_views.new.painter.raw.items in
-    can_still s s' p.painter.raw.items raw' (length p.frame.items) (vec_capacity p.frame) p.painter.cutter.room c.paint_views.new.painter.cutter.room p.labels.items (length p.places.items) p.bar
+    can_still s s' p.painter.raw.items raw' (length p.frame.items) (vec_capacity p.frame) p.painter.cutter.room c.paint_views.new.painter.cutter.room p.labels.texts.items (length p.labels.places.items) p.bar
     (same_config c.args.sid c.args.call.now c.accept-reply.result s s' c.accept-reply.ensures)
     (same_most s s' c.args.sid c.args.call.now c.accept-reply.result c.facts.ensures c.facts-2.ensures c.accept-reply.ensures)
     c.paint_views.ensures.count (repainted_words _ _ _ _ _ p.painter.raw.items raw' c.paint_views.ensures.count c.paint_views.ensures.painted c.requires.pixels.0.words)
@@ -65,7 +65,7 @@ returns-clause-pixels g c =
     by_mode s'.input.mode
     (λ m. (
       e.can,
-      subst (IsFrameOf s') (sym (e.flat (c.mode.ensures ∙ m))) (flat_kept s s' c.args.sid call reply glasses glasses' p.is_apart p.bar p.painter.raw.items c.paint_views.new.painter.raw.items p.frame.items (length p.frame.items) (vec_capacity p.frame) p.painter.cutter.room p.labels.items (length p.places.items) chosen
+      subst (IsFrameOf s') (sym (e.flat (c.mode.ensures ∙ m))) (flat_kept s s' c.args.sid call reply glasses glasses' p.is_apart p.bar p.painter.raw.items c.paint_views.new.painter.raw.items p.frame.items (length p.frame.items) (vec_capacity p.frame) p.painter.cutter.room p.labels.texts.items (length p.labels.places.items) chosen
           c.requires.session other c.accept-reply.ensures some c.requires.pixels.0 c.paint_views.ensures.count bar_ painted is_dirty c.requires.one m c.requires.pixels.1),
       λ d. absurd (false≢true (sym (ap draws_labels m) ∙ d)),
     ))

@@ -21,7 +21,7 @@ redraw-requires g c =
     let raw' = c.end_session.new.painter.raw.items in
     let e = c.end_session.ensures in
     record {
-      can = can_still s s' p.painter.raw.items raw' (length p.frame.items) (vec_capacity p.frame) p.painter.cutter.room c.end_session.new.painter.cutter.room p.labels.items (length p.places.items) p.bar
+      can = can_still s s' p.painter.raw.items raw' (length p.frame.items) (vec_capacity p.frame) p.painter.cutter.room c.end_session.new.painter.cutter.room p.labels.texts.items (length p.labels.places.items) p.bar
           (ap (λ (t : ServerModel). t.config) e.server) (ap (λ (t : ServerModel). t.stack.most) e.server) e.count (repainted_words _ _ _ _ _ p.painter.raw.items raw' e.count e.painted c.requires.pixels.0.words) e.room c.requires.pixels.0;
     }
 

@@ -30,7 +30,7 @@ show_views-requires-clause-can g c =
     let change : IsViewChange c.stood-was.result.view.0 c.stood-was.result.place c.stood-was.result.rect s.stack s'.stack =
     change_stood s s' c.args.sid c.args.handle c.stood-was.result.view.0 c.args.call.now c.accept-reply.result c.stood-was.result.place c.stood-was.result.rect c.facts.ensures c.facts-2.ensures c.requires.accepted c.accept-reply.ensures c.requires.on c.stood-was.ensures.named
     c.stood-was.ensures.place c.stood-was.ensures.seat in
-    can_still s s' p.painter.raw.items raw' (length p.frame.items) (vec_capacity p.frame) p.painter.cutter.room c.paint_change.new.painter.cutter.room p.labels.items (length p.places.items) p.bar
+    can_still s s' p.painter.raw.items raw' (length p.frame.items) (vec_capacity p.frame) p.painter.cutter.room c.paint_change.new.painter.cutter.room p.labels.texts.items (length p.labels.places.items) p.bar
     (same_config c.args.sid c.args.call.now c.accept-reply.result s s' c.accept-reply.ensures)
     (same_most s s' c.args.sid c.args.call.now c.accept-reply.result c.facts.ensures c.facts-2.ensures c.accept-reply.ensures)
     c.paint_change.ensures.count (repainted_words _ _ _ _ _ p.painter.raw.items raw' c.paint_change.ensures.count (c.paint_change.ensures.painted s.stack change) c.requires.pixels.0.words)
@@ -55,7 +55,7 @@ returns-clause-pixels g c =
     by_mode s'.input.mode
     (λ m. (
       e.can,
-      subst (IsFrameOf s') (sym (e.flat (c.mode.ensures ∙ m))) (flat_kept s s' c.args.sid c.args.call.now c.accept-reply.result _ _ p.is_apart p.bar p.painter.raw.items c.paint_change.new.painter.raw.items p.frame.items (length p.frame.items) (vec_capacity p.frame) p.painter.cutter.room p.labels.items (length p.places.items)
+      subst (IsFrameOf s') (sym (e.flat (c.mode.ensures ∙ m))) (flat_kept s s' c.args.sid c.args.call.now c.accept-reply.result _ _ p.is_apart p.bar p.painter.raw.items c.paint_change.new.painter.raw.items p.frame.items (length p.frame.items) (vec_capacity p.frame) p.painter.cutter.room p.labels.texts.items (length p.labels.places.items)
           (λ (k : ℕ). slot_owns_either v.0 s.stack s'.stack (pixel s'.stack.width k))
           c.requires.session (λ q. subst (IsOn c.args.handle) q c.requires.on) c.accept-reply.ensures some c.requires.pixels.0 c.paint_change.ensures.count bar_ painted
           (dirty_by_change s s' c.args.sid c.args.handle v c.args.call.now c.accept-reply.result c.facts.ensures c.facts-2.ensures c.requires.accepted c.accept-reply.ensures c.requires.on c.stood-was.ensures.named)
