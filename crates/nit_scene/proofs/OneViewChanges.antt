@@ -1,5 +1,5 @@
 -- An accepted call on a view changes that view alone in the stack.
-use Rattle.nit_scene.proofs.Basics.{Above, AllByRecursion, Back, Buffer, Call, Close, Destroy, Front, IsNamedBy, IsOn, IsServed, IsServer, IsViewChange, MeanSame, Offset, Painted, Place, Put, Put-above, Put-back, Put-front, Rectangle, Refresh, Repainted, Reply, ServerModel, Sight, SlotView, StackModel, State, Take, Title, Upgrade, View, ViewRef, after_accepted, agree_by, any_found, bar_rows, dirty, dirty_by_call, find-map, find_moved, found_passes, has_slot, is_accepted, is_named, is_slot, is_view, layer, length-set, list_any, map-without, moved, name_of, none_left, or_parts, pixel, pixel_count, place_changed, place_of, position_or_len, put_above, put_back, put_front, rectangle, refusal, repainted_same, same_Some, session, slot_owns_either, slot_view_in, source_at, state_of, views_of, without, without_changed, without_moved, without_view}
+use Rattle.nit_scene.proofs.Basics.{Above, AllByRecursion, Back, Buffer, Call, Close, Destroy, Front, IsNamedBy, IsOn, IsServed, IsServer, IsViewChange, MeanSame, Offset, Painted, Place, Put, Put-above, Put-back, Put-front, Rectangle, Refresh, Repainted, Reply, ServerModel, Sight, SlotView, State, Take, Title, Upgrade, View, ViewRef, after_accepted, agree_by, any_found, bar_rows, dirty, dirty_by_call, find-map, find_moved, found_passes, has_slot, is_accepted, is_named, is_slot, is_view, layer, length-set, list_any, map-without, moved, name_of, none_left, or_parts, pixel, pixel_count, place_changed, place_of, position_or_len, put_above, put_back, put_front, rectangle, refusal, repainted_same, same_Some, session, slot_owns_either, slot_view_in, source_at, state_of, views_of, without, without_changed, without_moved, without_view}
 use Rattle.std.proofs.Common.{Bool, List, None, Option, Some, [], ap, cond, false, find, inl, inr, length, not, option_map, refl, subst, sym, true, ℕ, ◌&&◌, ◌+◌, ◌<◌, ◌==◌, ◌∙◌, ◌∷◌, ◌≡◌, ◌⊎◌}
 use Rattle.nit_events.specs.declared.entry.Entry.TheVariants as entry
 use Rattle.nit_paint.specs.Pieces as pieces

@@ -1,6 +1,6 @@
 -- A scene before its first entry.
-use Rattle.std.proofs.Common.{Bool, List, None, [], ap, arith, cond, false, refl, replicate, slice_index_or, subst, sym, true, ℕ, ◌*◌, ◌∙◌, ◌≡◌, ◌≤◌}
-use Rattle.nit_scene.proofs.Basics.{AreRaw, Bare, Configuration, IsRawOf, IsScene, Member, PixelSource, Point, ServerModel, State, bar_rows, bare_everywhere, bare_word, buffer_size, first_session, first_state, get_or-map, get_or-replicate, in_bar, pixel, session_in, source_of, source_under, state_of}
+use Rattle.std.proofs.Common.{List, [], ap, arith, false, refl, replicate, slice_index_or, subst, sym, ℕ, ◌*◌, ◌∙◌, ◌≡◌, ◌≤◌}
+use Rattle.nit_scene.proofs.Basics.{AreRaw, Configuration, IsRawOf, IsScene, Member, PixelSource, ServerModel, State, bare_everywhere, bare_word, first_session, first_state, get_or-map, get_or-replicate, pixel, session_in, state_of}
 
 pub raw_begun : (config : Configuration) → AreRaw (first_state config) (replicate (config.width * config.height) bare_word)
 raw_begun config k l =

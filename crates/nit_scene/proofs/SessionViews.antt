@@ -1,5 +1,5 @@
 -- A call that draws the views of a session makes their pixels dirty, and paints them.
-use Rattle.nit_scene.proofs.Basics.{Above, Back, Buffer, Call, Close, Destroy, Front, IsPartOf, IsServed, IsServer, Offset, Painted, Place, Point, Rectangle, Refresh, Repainted, Reply, ServerModel, Sight, StackModel, State, Take, Title, Upgrade, View, all_of_session, dirty, dirty_by_call, is_accepted, part_of_session, pixel, pixel_count, rectangle, refusal, repainted_same, session, source_at, state_of, wanted}
+use Rattle.nit_scene.proofs.Basics.{Above, Back, Buffer, Call, Close, Destroy, Front, IsPartOf, IsServed, IsServer, Offset, Painted, Place, Point, Rectangle, Refresh, Repainted, Reply, ServerModel, Sight, State, Take, Title, Upgrade, View, all_of_session, dirty, dirty_by_call, is_accepted, part_of_session, pixel, pixel_count, rectangle, refusal, repainted_same, session, source_at, state_of, wanted}
 use Rattle.std.proofs.Common.{Bool, List, None, Option, ap, refl, subst, sym, ℕ, ◌&&◌, ◌∙◌, ◌≡◌}
 use Rattle.nit_events.specs.declared.entry.Entry.TheVariants as entry
 use Rattle.nit_paint.specs.Pieces as pieces

@@ -49,7 +49,8 @@ ShowsBelow s words =
 -- the pixels have all that a frame of the server is made by
 abbrev pub CanShowBy : {G : Type 0} → ServerModel → Pixels G → Type 0
 CanShowBy s p =
-    CanShow s p.painter.raw.items (length p.frame.items) (vec_capacity p.frame) p.painter.cutter.room p.labels.texts.items
+    CanShow s p.painter.raw.items (length p.frame.items) (vec_capacity p.frame)
+    p.painter.cutter.room p.labels.texts.items
     (length p.labels.places.items) p.bar
 
 -- the frame is the one of the server's state and of the raw words

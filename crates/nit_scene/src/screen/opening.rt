@@ -58,7 +58,8 @@ fn bare_pixels<G: Drop>(
     ensures none { IfOk result (λ p. length p.frame.items ≡ 0) }
     ensures spare { IfOk result (λ p.
         config.now.width * config.now.height ≤ vec_capacity p.frame) }
-    ensures named { IfOk result (λ p. p.labels.texts.items ≡ map (λ m. m.label) config.now.clients) }
+    ensures named { IfOk result (λ p.
+        p.labels.texts.items ≡ map (λ m. m.label) config.now.clients) }
     ensures room { IfOk result (λ p.
         (most_slots ≤ p.painter.cutter.room) × (most_slots ≤ length p.labels.places.items)) }
 {

@@ -123,8 +123,8 @@ pub(crate) fn show_input<G: Drop>(
     show_again(server, pixels);
 }
 
-/// Shows again, where one list is both and is right below the bar in mode Flat, the bar, and else the
-/// whole frame.
+/// Shows again, where one list is both and is right below the bar in mode Flat, the bar, and else
+/// the whole frame.
 pub(crate) fn show_again<G: Drop>(server: &Server, pixels: &mut Pixels<G>)
     requires can { CanShowBy server.now pixels.old }
     requires below { server.now.input.mode ≡ Flat → pixels.old.is_apart ≡ false
