@@ -9,7 +9,6 @@ use crate::server::Server;
 use nit_events::{Call, Reply};
 use nit_paint::laws::nothing_repainted;
 use nit_repaint::{Painter, ViewBefore};
-use nit_stack::ViewRef;
 use nit_word::Glass;
 
 /// Serves an accepted call on a view that stands in this slot, and loads again what the view owned
