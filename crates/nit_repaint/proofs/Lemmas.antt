@@ -8,4 +8,4 @@ pub use Rattle.nit_repaint.proofs.PieceLemmas.{all_came, none_came, one_came}
 pub use Rattle.nit_repaint.proofs.ViewChangeLemmas.{changes, moves_above, moves_back, moves_front}
 pub use Rattle.nit_repaint.proofs.ViewRemovalLemmas.{gone_change}
 pub use Rattle.nit_repaint.proofs.ViewsInFront.{stands_nowhere, stands_there}
-pub use Rattle.nit_repaint.proofs.WantedLemmas.{all_of_session, all_wanted, comes_as, none_wanted, not_wanted, one_wanted, part_of_session, seat_here, seat_set, seat_there, wanted_here}
+pub use Rattle.nit_repaint.proofs.WantedLemmas.{all_of_session, all_wanted, comes_as, none_wanted, one_wanted, part_of_session, seat_here, seat_set, seat_there, seat_unset, wanted_here}

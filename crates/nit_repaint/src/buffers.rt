@@ -29,23 +29,6 @@ fn shown_rect(stack: &Stack, view: &View, part: &Option<Rect>) -> Rect
     }
 }
 
-/// The rectangle at which a view shows what is wanted of a session: one without pixels, where the
-/// view is another session's.
-fn wanted_rect(stack: &Stack, view: &View, of: u32, part: &Option<Rect>) -> Rect
-    requires session { view.now.sid < length stack.now.sizes }
-    requires offset { IsPlace view.now.ox × IsPlace view.now.oy }
-    ensures same { (p : Point) → IsOnScreen stack.now.width stack.now.height p
-        → covers view.now.rect p ≡ true
-        → covers result p
-        ≡ ((view.now.sid == of) && wants part.now (size_of stack.now.sizes of) view.now p) }
-{
-    if view.sid == of {
-        shown_rect(stack, view, part)
-    } else {
-        screen_part(0, 0, 0, 0)
-    }
-}
-
 /// Begins with what is wanted of the view at a place, where it is one of the session, and else with
 /// nothing.
 pub(crate) fn begin_seat(cutter: &mut Cutter, stack: &Stack, i: u32, of: u32, part: &Option<Rect>)
@@ -60,7 +43,11 @@ pub(crate) fn begin_seat(cutter: &mut Cutter, stack: &Stack, i: u32, of: u32, pa
 {
     let v = stack.at(i);
     let view = stack.view(v);
-    let rect = wanted_rect(stack, &view, of, part);
+    if view.sid != of {
+        cutter.begin_behind(stack, screen_part(0, 0, 0, 0), 0);
+        return;
+    }
+    let rect = shown_rect(stack, &view, part);
     cutter.begin_owned(stack, v, rect);
 }
 
