@@ -2,7 +2,7 @@
 pub use Rattle.nit_overlay.proofs.AreaLemmas.{RowsSoFar, cut_off, last_row, next_of, next_row}
 pub use Rattle.nit_overlay.proofs.AreaParts.{area_as, in_columns, in_rows, more_columns, more_rows, no_columns, no_rows, part_at}
 pub use Rattle.nit_overlay.proofs.BarLemmas.{bar_area, bar_black, bar_done, bar_row, bar_shown, bar_unowned}
-pub use Rattle.nit_overlay.proofs.Basics.{All_found, IsAreaBy, IsOverlaid, IsPainted, IsPlaced, IsSlotView, List, Some, Text, ap, arith, bar_word, div-mul-add, frame, in_area, is_slot, length, max, mod-mul-add, mul-le-mul_right, nat_lt, owner, owner_word, pixel, point, scenery, shown, stripe_rule, subst, sym, unowned_word, view_word, word_by, ℕ, ◌∙◌}
+pub use Rattle.nit_overlay.proofs.Basics.{All_found, IsAreaBy, IsOverlaid, IsPainted, IsPlaced, IsSlotView, List, Some, Text, ap, arith, bar_word, between, div-mul-add, frame, in_area, is_slot, length, max, mod-mul-add, mul-le-mul_right, nat_lt, owner, owner_word, pixel, point, scenery, shown, stripe_rule, subst, sym, unowned_word, view_word, word_by, ℕ, ◌∙◌}
 pub use Rattle.nit_overlay.proofs.FrameLemmas.{frame_fits, get_or-frame, is_frame, is_whole, length-frame, rect_shown, same_frame}
 pub use Rattle.nit_overlay.proofs.KeptFrames.{flat_same, renewed}
 pub use Rattle.nit_overlay.proofs.PieceOwners.{shown_owned, shown_unowned}

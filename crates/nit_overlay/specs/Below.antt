@@ -10,6 +10,7 @@ pub use Rattle.nit_overlay.specs.declared.owner.Owner.{Owner}
 pub use Rattle.nit_overlay.specs.declared.paint.Rule.{Rule}
 pub use Rattle.nit_overlay.specs.declared.paint.Rule.TheVariants.{Dim, Fill, Raw, Text, Tint}
 pub use Rattle.nit_overlay.specs.declared.paint.Tag.{Tag}
+pub use Rattle.nit_overlay.specs.declared.row_part.RowPart.{RowPart}
 pub use Rattle.nit_overlay.specs.declared.span.Span.{Span}
 pub use Rattle.nit_overlay.specs.declared.stripe.Stripe.{Stripe}
 pub use Rattle.nit_rect.specs.Limits.{most_edge, most_height, most_length, most_width}

@@ -5,7 +5,7 @@ pub use Rattle.nit_overlay.specs.Frame.{Scenery, bar_text, bar_word, by_label, b
 pub use Rattle.nit_overlay.specs.FrameRenewal.{IsRenewed}
 pub use Rattle.nit_overlay.specs.Look.{IsLook, IsPlaced, draws_labels, pixel_at, scenery}
 pub use Rattle.nit_overlay.specs.Owner.{IsOwner}
-pub use Rattle.nit_overlay.specs.PixelRow.{IsPainted}
+pub use Rattle.nit_overlay.specs.PixelRow.{IsPainted, IsRowPart}
 pub use Rattle.nit_overlay.specs.Rule.{IsInTag, IsTagged, word_by}
 pub use Rattle.nit_overlay.specs.Span.{has_at_end, moved_of, span_has}
 pub use Rattle.nit_overlay.specs.Stripe.{IsRowOfTag, in_tag, mode_rule, stripe_rule, tag_rule}

@@ -3,6 +3,7 @@
 ghost use Rattle.std.specs.Prelude.{◌≡◌, ℕ, ◌<◌, ◌≤◌, ◌&&◌, nat_le, nat_lt};
 ghost use Rattle.nit_overlay.specs.Terms.{IsArea, covers, in_area, point, span_has};
 
+use crate::row_part::RowPart;
 use crate::span::{SHIFT, Span, span_of};
 use nit_rect::Rect;
 
@@ -14,6 +15,19 @@ pub(crate) struct Area {
     pub top: u32,
     pub right: u32,
     pub bottom: u32,
+}
+
+impl Area {
+    /// Its pixels in the row y.
+    pub fn row(&self, y: u32) -> RowPart
+        ensures { result ≡ record { y = y; from = self.now.left; to = self.now.right } }
+    {
+        RowPart {
+            y,
+            from: self.left,
+            to: self.right,
+        }
+    }
 }
 
 /// The first of these columns or rows that the screen has, of `most`, and the first one behind

@@ -1,10 +1,11 @@
 //! The status bar.
 
 ghost use Rattle.std.specs.Prelude.{◌≡◌, ℕ, ◌*◌, ◌<◌, ◌≤◌, List, length, nat_lt, slice_index, if◌then◌else◌};
-ghost use Rattle.nit_overlay.specs.Terms.{IsLook, IsPainted, bar_text, bar_word, mode_word, most_width, pixel, point, scenery};
+ghost use Rattle.nit_overlay.specs.Terms.{IsLook, IsPainted, IsRowPart, bar_text, bar_word, mode_word, most_width, pixel, point, scenery};
 
 use crate::look::Look;
 use crate::paint::{Tag, fill_part, paint_tag};
+use crate::row_part::RowPart;
 use crate::stripe::width_of;
 use nit_events::Mode;
 use nit_glyph::{Label, LabelText, bar_text};
@@ -40,15 +41,13 @@ fn text_of(look: &Look) -> LabelText
     }
 }
 
-/// Paints the pixels of a row of the bar from the column `from` to before `to`.
-pub(crate) fn overlay_bar(look: &Look, y: u32, from: u32, to: u32, out: &mut [u32])
+/// Paints these pixels of a row of the bar.
+pub(crate) fn overlay_bar(look: &Look, part: RowPart, out: &mut [u32])
     requires look { IsLook look.now }
-    requires in_order { from ≤ to }
-    requires within { to ≤ length out.old }
-    requires across { to ≤ most_width }
-    requires down { y < 7 }
-    ensures { (raw : List ℕ) → IsPainted (λ x w. bar_word (scenery look.now) (point x y))
-        raw out.old out.new from to }
+    requires part { IsRowPart (length out.old) part }
+    requires down { part.y < 7 }
+    ensures { (raw : List ℕ) → IsPainted (λ x w. bar_word (scenery look.now) (point x part.y))
+        raw out.old out.new part.from part.to }
 {
     let text = text_of(look);
     let tag = Tag {
@@ -56,11 +55,11 @@ pub(crate) fn overlay_bar(look: &Look, y: u32, from: u32, to: u32, out: &mut [u3
         left: 0,
         top: 0,
     };
-    let cut = width_of(&text).min(to).max(from);
-    if from < cut {
-        paint_tag(&tag, out, from, cut, y);
+    let cut = width_of(&text).min(part.to).max(part.from);
+    if part.from < cut {
+        paint_tag(&tag, RowPart { to: cut, ..part }, out);
     }
-    fill_part(0, out, cut, to);
+    fill_part(0, out, cut, part.to);
 }
 
 /// Sets the words of the bar's pixels, which are the first of `out`, to what is shown there; all
@@ -78,6 +77,11 @@ pub fn bar_into(look: &Look, out: &mut [u32])
     let (width, _height) = look.stack.size();
     'rows: for y in 0..look.stack.bar() {
         let at = y as usize * width as usize;
-        overlay_bar(look, y, 0, width, &mut out[at..at + width as usize]);
+        let part = RowPart {
+            y,
+            from: 0,
+            to: width,
+        };
+        overlay_bar(look, part, &mut out[at..at + width as usize]);
     }
 }

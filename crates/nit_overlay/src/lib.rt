@@ -42,6 +42,7 @@ mod owner;
 mod paint;
 mod piece;
 mod row;
+mod row_part;
 mod span;
 mod stripe;
 

@@ -64,13 +64,6 @@ fn overlay_area(look: &Look, raw: &[u32], area: &Area, width: u32, out: &mut [u3
     'rows: for y in area.top..area.bottom {
         let at = y as usize * width as usize;
         let end = at + width as usize;
-        overlay_row(
-            look,
-            y,
-            area.left,
-            area.right,
-            &raw[at..end],
-            &mut out[at..end],
-        );
+        overlay_row(look, area.row(y), &raw[at..end], &mut out[at..end]);
     }
 }

@@ -1,8 +1,9 @@
 //! A run of pixels that have one rule.
 
 ghost use Rattle.std.specs.Prelude.{◌≡◌, ℕ, ◌+◌, ◌<◌, ◌≤◌, List, length, slice_index, All};
-ghost use Rattle.nit_overlay.specs.Terms.{IsInTag, IsPainted, IsTagged, IsWord, most_width, word_by};
+ghost use Rattle.nit_overlay.specs.Terms.{IsInTag, IsPainted, IsRowPart, IsTagged, IsWord, most_width, word_by};
 
+use crate::row_part::RowPart;
 use nit_glyph::{LabelText, label_bit};
 use nit_word::{dim_row, tint_row};
 
@@ -29,31 +30,34 @@ pub(crate) enum Rule {
     Text(Tag),
 }
 
-/// Paints the pixels of the row y from the column `from` to before `to` by the rule.
-pub(crate) fn paint_part(rule: &Rule, raw: &[u32], out: &mut [u32], from: u32, to: u32, y: u32)
+/// Paints these pixels of a row by the rule.
+pub(crate) fn paint_part(rule: &Rule, part: RowPart, raw: &[u32], out: &mut [u32])
     requires same_length { length out.old ≡ length raw.now }
     requires words { All IsWord raw.now }
-    requires in_order { from ≤ to }
-    requires within { to ≤ length raw.now }
-    requires across { to ≤ most_width }
-    requires tagged { IsTagged rule.now from to y }
-    ensures { IsPainted (λ x w. word_by rule.now x y w) raw.now out.old out.new from to }
+    requires part { IsRowPart (length raw.now) part }
+    requires tagged { IsTagged rule.now part.from part.to part.y }
+    ensures { IsPainted (λ x w. word_by rule.now x part.y w) raw.now out.old out.new part.from
+        part.to }
 {
-    let (start, end) = (from as usize, to as usize);
-    paint(rule, &raw[start..end], &mut out[start..end], from, y);
+    let (start, end) = (part.from as usize, part.to as usize);
+    paint(
+        rule,
+        &raw[start..end],
+        &mut out[start..end],
+        part.from,
+        part.y,
+    );
 }
 
-/// Paints the pixels of the row y from the column `from` to before `to`, all in the picture of the
-/// text. No raw word is needed.
-pub(crate) fn paint_tag(tag: &Tag, out: &mut [u32], from: u32, to: u32, y: u32)
-    requires in_order { from ≤ to }
-    requires within { to ≤ length out.old }
-    requires across { to ≤ most_width }
-    requires tagged { IsInTag tag.now from to y }
-    ensures { (raw : List ℕ) → IsPainted (λ x w. word_by (Rule.Text tag.now) x y 0)
-        raw out.old out.new from to }
+/// Paints these pixels of a row, all in the picture of the text. No raw word is needed.
+pub(crate) fn paint_tag(tag: &Tag, part: RowPart, out: &mut [u32])
+    requires part { IsRowPart (length out.old) part }
+    requires tagged { IsInTag tag.now part.from part.to part.y }
+    ensures { (raw : List ℕ) → IsPainted (λ x w. word_by (Rule.Text tag.now) x part.y 0)
+        raw out.old out.new part.from part.to }
 {
-    paint_text(tag, &mut out[from as usize..to as usize], from, y);
+    let (start, end) = (part.from as usize, part.to as usize);
+    paint_text(tag, &mut out[start..end], part.from, part.y);
 }
 
 /// Gives the pixels from the column `from` to before `to` this word.

@@ -1,13 +1,14 @@
 //! Pieces of the screen, each of which has one owner or none.
 
 ghost use Rattle.std.specs.Prelude.{◌≡◌, ℕ, ◌*◌, ◌<◌, ◌≤◌, length, slice_index, All, IfSome, IsTrue, None, Some, true, if◌then◌else◌};
-ghost use Rattle.nit_overlay.specs.Terms.{IsArea, IsAreaBy, IsLook, IsOwner, IsPainted, IsRowOfTag, IsScreenSize, IsShownIn, IsTagged, IsWord, Point, covers, has_slot, in_area, most_height, most_width, option_map, pixel, point, scenery, seat_owner, shown, slot_view_in, stripe_rule, unowned_word, view_ref, view_word, word_by};
+ghost use Rattle.nit_overlay.specs.Terms.{IsArea, IsAreaBy, IsLook, IsOwner, IsPainted, IsRowOfTag, IsRowPart, IsScreenSize, IsShownIn, IsTagged, IsWord, Point, covers, has_slot, in_area, most_height, most_width, option_map, pixel, point, scenery, seat_owner, shown, slot_view_in, stripe_rule, unowned_word, view_ref, view_word, word_by};
 
 use crate::area::{Area, area_of};
 use crate::bar::overlay_bar;
 use crate::look::Look;
 use crate::owner::{Owner, owner_of};
 use crate::paint::{Rule, paint_part};
+use crate::row_part::RowPart;
 use crate::stripe::{Stripe, band_at, run_at};
 use nit_stack::{Piece, ViewRef};
 use nit_word::BARE;
@@ -35,15 +36,14 @@ pub fn overlay_piece(look: &Look, raw: &[u32], piece: &Piece, out: &mut [u32])
     let (width, height) = look.stack.size();
     let area = area_of(&piece.rect, width, height);
     match piece.owner {
-        Some(v) => overlay_owned(look, v, raw, &area, width, out),
+        Some(v) => overlay_owned(look, v, raw, &area, out),
         None => overlay_unowned(look, raw, &area, width, out),
     }
 }
 
 /// Paints an area of which this view owns every pixel.
-fn overlay_owned(look: &Look, v: ViewRef, raw: &[u32], area: &Area, width: u32, out: &mut [u32])
+fn overlay_owned(look: &Look, v: ViewRef, raw: &[u32], area: &Area, out: &mut [u32])
     requires look { IsLook look.now }
-    requires width { width ≡ look.now.stack.now.width }
     requires screen { IsScreenSize look.now.stack.now.width look.now.stack.now.height }
     requires raw { length raw.now ≡ look.now.stack.now.width * look.now.stack.now.height }
     requires out { length out.old ≡ length raw.now }
@@ -55,21 +55,21 @@ fn overlay_owned(look: &Look, v: ViewRef, raw: &[u32], area: &Area, width: u32, 
     ensures { IsShownIn area.now look.now raw.now out.old out.new }
 {
     let owner = owner_of(look, v);
-    overlay_view(look, &owner, raw, area, width, out);
+    overlay_view(look, &owner, raw, area, out);
 }
 
 /// Paints an area as pixels of this view, one band of rows after the other.
-fn overlay_view(look: &Look, owner: &Owner, raw: &[u32], area: &Area, width: u32, out: &mut [u32])
+fn overlay_view(look: &Look, owner: &Owner, raw: &[u32], area: &Area, out: &mut [u32])
     requires owner { IsOwner look.now owner.now }
-    requires width { (1 ≤ width) × (width ≤ most_width) }
     requires same_length { length out.old ≡ length raw.now }
     requires words { All IsWord raw.now }
-    requires area { IsArea width most_height area.now }
-    requires within { area.now.bottom * width ≤ length raw.now }
+    requires area { IsArea look.now.stack.now.width most_height area.now }
+    requires within { area.now.bottom * look.now.stack.now.width ≤ length raw.now }
     ensures { IsAreaBy
         (λ x y w. view_word look.now.mode (scenery look.now) owner.now.view (point x y) w)
-        area.now width raw.now out.old out.new (length raw.now) }
+        area.now look.now.stack.now.width raw.now out.old out.new (length raw.now) }
 {
+    let (width, _height) = look.stack.size();
     let mut y = area.top;
     'bands: while y < area.bottom {
         let band = band_at(look, owner, y, area.bottom);
@@ -126,14 +126,7 @@ fn overlay_block(rule: &Rule, raw: &[u32], area: &Area, width: u32, out: &mut [u
     'rows: for y in area.top..area.bottom {
         let at = y as usize * width as usize;
         let end = at + width as usize;
-        paint_part(
-            rule,
-            &raw[at..end],
-            &mut out[at..end],
-            area.left,
-            area.right,
-            y,
-        );
+        paint_part(rule, area.row(y), &raw[at..end], &mut out[at..end]);
     }
 }
 
@@ -153,31 +146,22 @@ fn overlay_unowned(look: &Look, raw: &[u32], area: &Area, width: u32, out: &mut 
     'rows: for y in area.top..area.bottom {
         let at = y as usize * width as usize;
         let end = at + width as usize;
-        bare_row(
-            look,
-            y,
-            area.left,
-            area.right,
-            &raw[at..end],
-            &mut out[at..end],
-        );
+        bare_row(look, area.row(y), &raw[at..end], &mut out[at..end]);
     }
 }
 
-/// Paints the pixels of the row y from the column `from` to before `to`, which no view owns.
-fn bare_row(look: &Look, y: u32, from: u32, to: u32, raw: &[u32], out: &mut [u32])
+/// Paints these pixels of a row, which no view owns.
+fn bare_row(look: &Look, part: RowPart, raw: &[u32], out: &mut [u32])
     requires look { IsLook look.now }
     requires same_length { length out.old ≡ length raw.now }
     requires words { All IsWord raw.now }
-    requires in_order { from ≤ to }
-    requires within { to ≤ length raw.now }
-    requires across { to ≤ most_width }
-    ensures { IsPainted (λ x w. unowned_word (scenery look.now) (point x y))
-        raw.now out.old out.new from to }
+    requires part { IsRowPart (length raw.now) part }
+    ensures { IsPainted (λ x w. unowned_word (scenery look.now) (point x part.y))
+        raw.now out.old out.new part.from part.to }
 {
-    if y < look.stack.bar() {
-        overlay_bar(look, y, from, to, out);
+    if part.y < look.stack.bar() {
+        overlay_bar(look, part, out);
     } else {
-        paint_part(&Rule::Fill(BARE), raw, out, from, to, y);
+        paint_part(&Rule::Fill(BARE), part, raw, out);
     }
 }

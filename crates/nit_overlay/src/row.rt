@@ -1,101 +1,95 @@
 //! A row of the screen, by the pieces of it that have one owner.
 
 ghost use Rattle.std.specs.Prelude.{◌≡◌, ℕ, ◌<◌, ◌≤◌, length, option_map, All, IfSome};
-ghost use Rattle.nit_overlay.specs.Terms.{IsLook, IsOwner, IsPainted, IsRowOfTag, IsWord, most_height, most_width, owner, owner_word, point, scenery, shown, stripe_rule, views_of, word_by};
+ghost use Rattle.nit_overlay.specs.Terms.{IsLook, IsOwner, IsPainted, IsRowOfTag, IsRowPart, IsWord, most_height, most_width, owner, owner_word, point, scenery, shown, stripe_rule, views_of, word_by};
 
 use crate::bar::overlay_bar;
 use crate::look::Look;
 use crate::owner::{Owner, piece_at};
 use crate::paint::{Rule, paint_part};
+use crate::row_part::RowPart;
 use crate::stripe::{Stripe, band_at, run_at};
 use nit_word::BARE;
 
-/// Paints the pixels of a row of a view from the column `from` to before `to`, run by run.
-fn overlay_stripe(stripe: &Stripe, y: u32, from: u32, to: u32, raw: &[u32], out: &mut [u32])
-    requires met { IfSome stripe.now.tag (IsRowOfTag y) }
+/// Paints these pixels of a row of a view, run by run.
+fn overlay_stripe(stripe: &Stripe, part: RowPart, raw: &[u32], out: &mut [u32])
+    requires met { IfSome stripe.now.tag (IsRowOfTag part.y) }
     requires same_length { length out.old ≡ length raw.now }
     requires words { All IsWord raw.now }
-    requires in_order { from ≤ to }
-    requires within { to ≤ length raw.now }
-    requires across { to ≤ most_width }
-    ensures { IsPainted (λ x w. word_by (stripe_rule stripe.now x) x y w) raw.now out.old out.new
-        from to }
+    requires part { IsRowPart (length raw.now) part }
+    ensures { IsPainted (λ x w. word_by (stripe_rule stripe.now x) x part.y w)
+        raw.now out.old out.new part.from part.to }
 {
-    let mut x = from;
-    'runs: while x < to {
-        let run = run_at(stripe, x, y, to);
-        paint_part(&run.rule, raw, out, x, run.end, y);
+    let mut x = part.from;
+    'runs: while x < part.to {
+        let run = run_at(stripe, x, part.y, part.to);
+        let here = RowPart {
+            from: x,
+            to: run.end,
+            ..part
+        };
+        paint_part(&run.rule, here, raw, out);
         x = run.end;
     }
 }
 
-/// Paints the pixels of the row y from the column `from` to before `to`, which have one owner or
-/// none.
-fn overlay_owned(
-    look: &Look,
-    owner: Option<Owner>,
-    y: u32,
-    from: u32,
-    to: u32,
-    raw: &[u32],
-    out: &mut [u32],
-)
+/// Paints these pixels of a row, which have one owner or none.
+fn overlay_owned(look: &Look, owner: Option<Owner>, part: RowPart, raw: &[u32], out: &mut [u32])
     requires owner { IfSome owner (IsOwner look.now) }
     requires same_length { length out.old ≡ length raw.now }
     requires words { All IsWord raw.now }
-    requires in_order { from ≤ to }
-    requires within { to ≤ length raw.now }
-    requires across { to ≤ most_width }
-    requires down { y < most_height }
+    requires part { IsRowPart (length raw.now) part }
+    requires down { part.y < most_height }
     ensures { IsPainted
-        (λ x w. owner_word (scenery look.now) (point x y) w (option_map (λ o. o.view) owner))
-        raw.now out.old out.new from to }
+        (λ x w. owner_word (scenery look.now) (point x part.y) w (option_map (λ o. o.view) owner))
+        raw.now out.old out.new part.from part.to }
 {
     match owner {
         Some(owner) => {
-            let band = band_at(look, &owner, y, y + 1);
-            overlay_stripe(&band.stripe, y, from, to, raw, out);
+            let band = band_at(look, &owner, part.y, part.y + 1);
+            overlay_stripe(&band.stripe, part, raw, out);
         }
-        None => paint_part(&Rule::Fill(BARE), raw, out, from, to, y),
+        None => paint_part(&Rule::Fill(BARE), part, raw, out),
     }
 }
 
-/// Paints the pixels of a row below the bar from the column `from` to before `to`.
-fn overlay_below(look: &Look, y: u32, from: u32, to: u32, raw: &[u32], out: &mut [u32])
+/// Paints these pixels of a row below the bar.
+fn overlay_below(look: &Look, part: RowPart, raw: &[u32], out: &mut [u32])
     requires look { IsLook look.now }
     requires same_length { length out.old ≡ length raw.now }
     requires words { All IsWord raw.now }
-    requires in_order { from ≤ to }
-    requires within { to ≤ length raw.now }
-    requires across { to ≤ most_width }
-    requires down { y < most_height }
-    requires below { look.now.stack.now.bar ≤ y }
-    ensures { IsPainted (λ x w. shown (scenery look.now) (point x y) w)
-        raw.now out.old out.new from to }
+    requires part { IsRowPart (length raw.now) part }
+    requires down { part.y < most_height }
+    requires below { look.now.stack.now.bar ≤ part.y }
+    ensures { IsPainted (λ x w. shown (scenery look.now) (point x part.y) w)
+        raw.now out.old out.new part.from part.to }
 {
-    let mut x = from;
-    'pieces: while x < to {
-        let piece = piece_at(look, x, y, to);
-        overlay_owned(look, piece.owner, y, x, piece.end, raw, out);
+    let mut x = part.from;
+    'pieces: while x < part.to {
+        let piece = piece_at(look, x, part.y, part.to);
+        let here = RowPart {
+            from: x,
+            to: piece.end,
+            ..part
+        };
+        overlay_owned(look, piece.owner, here, raw, out);
         x = piece.end;
     }
 }
 
-/// Paints the pixels of the row y from the column `from` to before `to`.
-pub(crate) fn overlay_row(look: &Look, y: u32, from: u32, to: u32, raw: &[u32], out: &mut [u32])
+/// Paints these pixels of a row.
+pub(crate) fn overlay_row(look: &Look, part: RowPart, raw: &[u32], out: &mut [u32])
     requires look { IsLook look.now }
     requires same_length { length out.old ≡ length raw.now }
     requires words { All IsWord raw.now }
-    requires in_order { from ≤ to }
-    requires within { to ≤ length raw.now }
-    requires across { to ≤ most_width }
-    requires down { y < most_height }
-    ensures { IsPainted (λ x w. shown (scenery look.now) (point x y) w)
-        raw.now out.old out.new from to }
+    requires part { IsRowPart (length raw.now) part }
+    requires down { part.y < most_height }
+    ensures { IsPainted (λ x w. shown (scenery look.now) (point x part.y) w)
+        raw.now out.old out.new part.from part.to }
 {
-    if y < look.stack.bar() {
-        overlay_bar(look, y, from, to, out);
+    if part.y < look.stack.bar() {
+        overlay_bar(look, part, out);
     } else {
-        overlay_below(look, y, from, to, raw, out);
+        overlay_below(look, part, raw, out);
     }
 }

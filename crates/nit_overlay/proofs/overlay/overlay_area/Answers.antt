@@ -1,5 +1,5 @@
 use Rattle.std.proofs.Common.{ap, ap₂, arith, subst, sym, ℕ, ◌%◌, ◌*◌, ◌+◌, ◌-◌, ◌/◌, ◌<◌, ◌≡◌, ◌≤◌}
-use Rattle.nit_overlay.proofs.Lemmas.{IsOverlaid, RowsSoFar, div-mul-add, in_area, last_row, mod-mul-add, mul-le-mul_right, next_row, painted_by, pixel, point, scenery, shown}
+use Rattle.nit_overlay.proofs.Lemmas.{IsOverlaid, IsPainted, RowsSoFar, between, div-mul-add, in_area, last_row, mod-mul-add, mul-le-mul_right, next_row, painted_by, pixel, point, scenery, shown}
 use Rattle.nit_overlay.proofs.overlay.overlay_area.Goals as goal
 
 pub rows-preserved : goal.rows-preserved
@@ -13,7 +13,7 @@ rows-preserved c =
     (omega arith) (omega arith) c.rows.invariant
     (painted_by _ _ _ _ c.overlay_row.new.out c.args.area.now.left c.args.area.now.right
     (λ x w from less. let lt : x < width = omega arith in ap₂ (λ p q. shown s (point p q) w) (sym (mod-mul-add c.rows.y width x lt)) (sym (div-mul-add c.rows.y width x lt)))
-    c.overlay_row.ensures)
+    (subst (λ p. IsPainted (λ x w. shown s (point x p.y) w) (between (c.rows.y * width) (c.rows.y * width + width) c.args.raw.now) (between (c.rows.y * width) (c.rows.y * width + width) c.rows.out) c.overlay_row.new.out p.from p.to) c.row.ensures c.overlay_row.ensures))
 
 pub returns : goal.returns
 returns c =

@@ -1,5 +1,5 @@
 use Rattle.std.proofs.Common.{ap, arith, subst, sym, ℕ, ◌%◌, ◌*◌, ◌+◌, ◌-◌, ◌/◌, ◌≡◌, ◌≤◌}
-use Rattle.nit_overlay.proofs.Lemmas.{IsAreaBy, RowsSoFar, area_as, last_row, mul-le-mul_right, next_of, point, scenery, shown, shown_unowned, unowned_word}
+use Rattle.nit_overlay.proofs.Lemmas.{IsAreaBy, IsPainted, RowsSoFar, area_as, between, last_row, mul-le-mul_right, next_of, point, scenery, shown, shown_unowned, unowned_word}
 use Rattle.nit_overlay.proofs.piece.overlay_unowned.Goals as goal
 
 pub rows-preserved : goal.rows-preserved
@@ -9,7 +9,8 @@ rows-preserved c =
     let count : width * c.args.look.now.stack.now.height ≡ c.args.look.now.stack.now.width * c.args.look.now.stack.now.height = ap (λ n. n * c.args.look.now.stack.now.height) c.requires.width in
     next_of (λ x y w. unowned_word (scenery c.args.look.now) (point x y)) c.args.area.now width c.rows.y (c.rows.y * width + width - c.rows.y * width)
     c.args.raw.now c.args.out.now c.rows.out c.bare_row.new.out (omega arith) c.requires.area.across (omega arith) c.rows-test.true
-    (omega arith) (omega arith) c.rows.invariant c.bare_row.ensures
+    (omega arith) (omega arith) c.rows.invariant
+    (subst (λ p. IsPainted (λ x w. unowned_word (scenery c.args.look.now) (point x p.y)) (between (c.rows.y * width) (c.rows.y * width + width) c.args.raw.now) (between (c.rows.y * width) (c.rows.y * width + width) c.rows.out) c.bare_row.new.out p.from p.to) c.row.ensures c.bare_row.ensures)
 
 pub returns : goal.returns
 returns c =
