@@ -3,7 +3,7 @@
 //! The scene loads a session's words by its own glass of it only in events of others. So strokes in
 //! a row that cover each other are copied once.
 
-ghost use Rattle.std.specs.Prelude.{◌≡◌, ◌+◌, ◌<◌, ◌≤◌, ◌&&◌, ◌||◌, Bool, true, ℕ, None, Some, IfSome, length, nat_le, slice_set};
+ghost use Rattle.std.specs.Prelude.{◌≡◌, ◌+◌, ◌<◌, ◌≤◌, ◌&&◌, ◌||◌, true, ℕ, None, Some, IfSome, length, nat_le, slice_set};
 ghost use Rattle.nit_actor.specs.Terms.{AreBehind, FitsInto, IsBehind, IsButFor, glass_in, is_stale, most_side};
 
 use crate::copying::copy_area;

@@ -1,7 +1,7 @@
 //! A row of the screen, by the pieces of it that have one owner.
 
-ghost use Rattle.std.specs.Prelude.{◌≡◌, ℕ, ◌<◌, ◌≤◌, length, option_map, All, IfSome};
-ghost use Rattle.nit_overlay.specs.Terms.{IsLook, IsOwner, IsPainted, IsRowOfTag, IsRowPart, IsWord, most_height, most_width, owner, owner_word, point, scenery, shown, stripe_rule, views_of, word_by};
+ghost use Rattle.std.specs.Prelude.{◌≡◌, ◌<◌, ◌≤◌, length, option_map, All, IfSome};
+ghost use Rattle.nit_overlay.specs.Terms.{IsLook, IsOwner, IsPainted, IsRowOfTag, IsRowPart, IsWord, most_height, owner, owner_word, point, scenery, shown, stripe_rule, word_by};
 
 use crate::bar::overlay_bar;
 use crate::look::Look;

@@ -52,8 +52,8 @@ run_none from corner offset first end long left right c f e l r none = same_test
     absurd (omega (arith, a, b, none)))
 
 -- nothing lies in a rectangle without pixels
-nowhere : (x : ℤ) → spans (pos 0) 0 x ≡ false
-nowhere x = same_tests (spans (pos 0) 0 x) false
+pub nothing_spanned : (x : ℤ) → spans (pos 0) 0 x ≡ false
+nothing_spanned x = same_tests (spans (pos 0) 0 x) false
     (λ is.
     let s : IsSpanned (pos 0) 0 x = spans_tells (pos 0) 0 x is in
     let low = s.low in
@@ -62,7 +62,7 @@ nowhere x = same_tests (spans (pos 0) 0 x) false
     (λ is. absurd (false≢true is))
 
 pub none_in : (p : Point) → covers (rectangle (pos 0) (pos 0) 0 0) p ≡ false
-none_in p = ap (λ (b : Bool). b && spans (pos 0) 0 p.y) (nowhere p.x)
+none_in p = ap (λ (b : Bool). b && spans (pos 0) 0 p.y) (nothing_spanned p.x)
 
 -- ---- a place of a buffer
 

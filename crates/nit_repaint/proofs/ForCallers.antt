@@ -1,4 +1,5 @@
 -- What the crates above cite of this crate's proofs.
+pub use Rattle.nit_repaint.proofs.BufferParts.{nothing_spanned}
 pub use Rattle.nit_repaint.proofs.ViewsInFront.{without_none}
 pub use Rattle.nit_repaint.proofs.GlassLemmas.{held_by_all, nobody_calls}
 pub use Rattle.nit_repaint.proofs.ViewChangeLemmas.{find_moved, place_changed, without_changed, without_moved}

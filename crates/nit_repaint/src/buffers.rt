@@ -1,6 +1,6 @@
 //! Loading again what views of one session show.
 
-ghost use Rattle.std.specs.Prelude.{◌≡◌, ◌*◌, ◌<◌, ◌≤◌, ◌&&◌, ◌==◌, Some, length, map, slice_get, true};
+ghost use Rattle.std.specs.Prelude.{◌≡◌, ◌*◌, ◌<◌, ◌≤◌, ◌&&◌, Some, length, map, slice_get, true};
 ghost use Rattle.nit_repaint.specs.Terms.{FitsStack, HoldBuffers, IsOnScreen, IsPlace, Point, Repainted, SlotView, covers, glass_in, glasses_of_call, is_slot, is_wanted, once, owner_passes, pixel, size_of, source_of_number, to_come, wanted, wants};
 
 use crate::painter::Painter;

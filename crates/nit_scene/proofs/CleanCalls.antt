@@ -1,6 +1,6 @@
 -- The owner and the source of a pixel that a call does not make dirty.
-use Rattle.std.proofs.Common.{Bool, List, None, Option, Some, ap, arith, cond, false, find, map, nat_lt, option_map, refl, set, subst, sym, true, ℕ, ◌&&◌, ◌==◌, ◌||◌, ◌∙◌, ◌≡◌, if◌then◌else◌}
-use Rattle.nit_scene.proofs.Basics.{Above, Agrees, Back, Buffer, Call, Close, Destroy, Front, InputState, Offset, Place, Point, Reply, Session, Size, State, Title, View, after, after_accepted, bar_rows, buffer_size, changed, covers, dirty_by_call, in_bar, input_after_call, is_accepted, is_session, is_view, layer, le-ltb, moved, nat_le, negsuc, new_view, option_map_or, or_parts, owner, owner_of, pos, put_above, put_back, put_front, rectangle, serve, session, source, source_of, source_under, spans, with_new, without, ℤ}
+use Rattle.std.proofs.Common.{Bool, List, None, Option, Some, ap, cond, false, find, map, option_map, refl, set, subst, sym, true, ℕ, ◌&&◌, ◌==◌, ◌||◌, ◌∙◌, ◌≡◌, if◌then◌else◌}
+use Rattle.nit_scene.proofs.Basics.{Above, Agrees, Back, Buffer, Call, Close, Destroy, Front, InputState, Offset, Place, Point, Reply, Session, Size, State, Title, View, after, after_accepted, bar_rows, buffer_size, changed, covers, dirty_by_call, in_bar, input_after_call, is_accepted, is_session, is_view, layer, moved, new_view, nothing_spanned, option_map_or, or_parts, owner, owner_of, pos, put_above, put_back, put_front, rectangle, serve, session, source, source_of, source_under, spans, with_new, without}
 use Rattle.nit_journal.specs.StackAfter.{stack_after_call}
 use Rattle.nit_events.specs.declared.call.Reply.TheVariants as reply
 use Rattle.nit_events.specs.declared.entry.Entry.TheVariants as entry
@@ -44,12 +44,8 @@ pub right_fails : (a b : Bool) → b ≡ false → (a && b) ≡ false
 right_fails true b h = h
 right_fails false b h = refl
 
-spans_none : (z : ℤ) → spans (pos 0) 0 z ≡ false
-spans_none (pos n) = right_fails (nat_le 0 n) (nat_lt n 0) (le-ltb n 0 (omega arith))
-spans_none (negsuc n) = refl
-
 new_covers_none : (sid handle : ℕ) (p : Point) → over p (new_view sid handle) ≡ false
-new_covers_none sid handle p = ap (λ b. b && spans (pos 0) 0 p.y) (spans_none p.x)
+new_covers_none sid handle p = ap (λ b. b && spans (pos 0) 0 p.y) (nothing_spanned p.x)
 
 owner-new : (layers : ℕ → ℕ) (sid : ℕ) (r : Reply) (rows : ℕ) (p : Point) (stack : List ViewOf) → owner rows (with_new layers sid r stack) p ≡ owner rows stack p
 owner-new layers sid (reply.Handle h) rows p stack =

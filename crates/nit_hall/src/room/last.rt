@@ -2,7 +2,7 @@
 
 ghost use Rattle.std.specs.Prelude.{◌≡◌, ℕ, ◌*◌, All, length, map, slice_get, Some};
 ghost use mathlib.Core.List.{IsPrefix};
-ghost use Rattle.nit_hall.specs.Terms.{AreDone, IsDonePass, IsDoneUser, IsKnownPass, IsLegal, IsOpen, IsWhole, IsWord, Painted, PassModel, UserBelongs, calls_to_make, frame, glass_in, knowing, rest_of, scenery_of, state_now, user_actions_to_do, with_final, without_final, words_left_in};
+ghost use Rattle.nit_hall.specs.Terms.{AreDone, IsDonePass, IsDoneUser, IsKnownPass, IsLegal, IsOpen, IsWhole, IsWord, Painted, PassModel, calls_to_make, frame, glass_in, knowing, rest_of, scenery_of, state_now, user_actions_to_do, with_final, without_final, words_left_in};
 ghost use Rattle.nit_events.specs.declared.entry.Entry.TheVariants as entry;
 
 use crate::laws::clips_stay;

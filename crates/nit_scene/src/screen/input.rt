@@ -1,7 +1,7 @@
 //! What the user does, and exactly the pixels that it makes dirty.
 
-ghost use Rattle.std.specs.Prelude.{◌≡◌, ◌+◌, ◌-◌, ◌<◌, length, All, false, Some, map};
-ghost use Rattle.nit_scene.specs.Terms.{IsDevice, IsLive, MayLose, Painted, Repainted, after, deliveries_of, glass_in, kills, pixel, pixel_count, route, routed_as, routing_of, session_owns, source_at, state_of, with_ended};
+ghost use Rattle.std.specs.Prelude.{◌≡◌, ◌+◌, ◌-◌, ◌<◌, All, false, Some, map};
+ghost use Rattle.nit_scene.specs.Terms.{IsDevice, IsLive, MayLose, Painted, after, deliveries_of, glass_in, kills, route, routed_as, routing_of, state_of};
 ghost use Rattle.nit_events.specs.declared.entry.Entry.TheVariants as entry;
 ghost use Rattle.nit_events.specs.declared.event.Status.TheVariants as status;
 

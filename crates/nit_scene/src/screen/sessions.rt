@@ -1,10 +1,10 @@
 //! Calls on a whole session, its end, and exactly the pixels that they make dirty.
 
-ghost use Rattle.std.specs.Prelude.{◌≡◌, ◌-◌, ◌^◌, ◌<◌, ◌≤◌, None, false, length, ℕ, ◌*◌, map, slice_index_or};
+ghost use Rattle.std.specs.Prelude.{◌≡◌, ◌-◌, ◌^◌, ◌<◌, ◌≤◌, None, false, length, ℕ, ◌*◌, map};
 ghost use Rattle.nit_events.specs.declared.call.Call.TheVariants as call;
 ghost use Rattle.nit_events.specs.declared.entry.Entry.TheVariants as entry;
 ghost use Rattle.nit_events.specs.declared.event.Status.TheVariants as status;
-ghost use Rattle.nit_scene.specs.Terms.{ArePixels, CanShowBy, Flat, HoldBuffers, IsGlassOf, IsPartOf, IsServed, IsServer, Painted, Repainted, accepted, glass_in, glasses_of_call, no_sight, pixel, pixel_count, raw_of, refusal, session, session_in, session_owns, source_of_number, state_of, wanted, with_ended};
+ghost use Rattle.nit_scene.specs.Terms.{ArePixels, CanShowBy, Flat, HoldBuffers, IsGlassOf, IsPartOf, IsServed, IsServer, Painted, Repainted, accepted, glass_in, glasses_of_call, pixel, pixel_count, raw_of, refusal, session, session_in, session_owns, source_of_number, state_of, wanted, with_ended};
 ghost use Rattle.nit_scene.specs.RawWords.{source_at as scene_source_at};
 
 use crate::screen::pixels::{Pixels, redraw, show_part};

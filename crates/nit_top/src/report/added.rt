@@ -1,6 +1,6 @@
 //! The files that a command adds behind those of its run: a clip list, a film, or an inner journal.
 
-ghost use Rattle.std.specs.Prelude.{◌≡◌, ◌≤◌, [], ℕ, List, IfOk, vec_capacity, vec_len, false, true, ◌+◌, ◌++◌, ◌∷◌, None, Some};
+ghost use Rattle.std.specs.Prelude.{◌≡◌, [], ℕ, List, IfOk, false, true, ◌+◌, ◌++◌, ◌∷◌};
 ghost use Rattle.nit_top.specs.Terms.{PutsNext, clips_name, film_name, inner_journal_name, journal_text, put_state_of_run};
 
 use crate::report::film::Film;

@@ -1,7 +1,7 @@
 //! A run with each client on a thread of its own and a clip script for each, and the user on the
 //! calling thread.
 
-ghost use Rattle.std.specs.Prelude.{◌≡◌, ◌≤◌, [], ℕ, List, IfSome, vec_capacity, vec_len, length};
+ghost use Rattle.std.specs.Prelude.{◌≡◌, ℕ, List, IfSome, length};
 ghost use Rattle.nit_top.specs.Terms.{Clip, Ends, HasRoomBack, HasRunClips, IsConfig, IsConfiguration, IsMemory, IsReadyWithClips, IsRunnable, PerformedClips, RunsClips, StoreModel, bytes_of, clips_setup_in, clips_setup_of, with_asked};
 
 use crate::report::added::put_clips;

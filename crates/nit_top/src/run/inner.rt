@@ -1,6 +1,6 @@
 //! The inner run: by turns, with its frames taken into a nest.
 
-ghost use Rattle.std.specs.Prelude.{true, ◌≤◌, ◌++◌, ◌∷◌, ℕ, List, ◌≡◌, ◌*◌, All, length, Err, Ok, None, []};
+ghost use Rattle.std.specs.Prelude.{◌≡◌, ◌*◌, All, length, Err, Ok, None, []};
 ghost use Rattle.nit_top.specs.Terms.{IsInnerEnd, IsJournal, IsRoundsOpening, IsRunnable, IsWord, MayCome, TakesAll, TakesNext, by_turns, end_of_nest, first_forbidden, frames_of, phases, run_files};
 
 use crate::{End, Fault, Opened, open, take_last};

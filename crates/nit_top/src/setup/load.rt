@@ -1,6 +1,6 @@
 //! Reading files, and judging them.
 
-ghost use Rattle.nit_top.specs.Terms.{AfterRead, AllByRecursion, AreLines, FileJudged, FileLoaded, FitsInputLine, FitsLine, IsClientFault, IsClientScript, IsConfig, IsConfigFault, IsConfiguration, IsInputFault, IsInputScript, IsJournalText, IsNoJournalText, IsPhasedFault, IsPhasedScript, JudgedBytes, ReadFor, end_of_journal, end_of_script, most_bytes, most_journal_bytes, most_lines, wrong_client, wrong_input, wrong_lines};
+ghost use Rattle.nit_top.specs.Terms.{AreLines, FileJudged, FileLoaded, FitsInputLine, FitsLine, IsClientFault, IsClientScript, IsConfig, IsConfigFault, IsConfiguration, IsInputFault, IsInputScript, IsJournalText, IsNoJournalText, IsPhasedFault, IsPhasedScript, JudgedBytes, ReadFor, end_of_journal, end_of_script, most_bytes, most_journal_bytes, most_lines, wrong_client, wrong_input, wrong_lines};
 ghost use Rattle.std.specs.Prelude.{IfOk, ◌≡◌, None, ◌≤◌, length};
 
 use crate::{End, Fault, Stop, at};

@@ -1,7 +1,7 @@
 //! The memory of a run whose clients are beside each other, all of which is taken before the first
 //! thread.
 
-ghost use Rattle.std.specs.Prelude.{◌<◌, slice_index_or, IfOk, ◌≤◌, [], vec_capacity, vec_len, ◌≡◌, All, length, map};
+ghost use Rattle.std.specs.Prelude.{◌<◌, IfOk, vec_len, ◌≡◌, All, length, map};
 ghost use Rattle.nit_top.specs.Terms.{AreBuffers, IsConfiguration, IsMemory, IsWord};
 
 use crate::{blank_frame, blank_text, table_words};
