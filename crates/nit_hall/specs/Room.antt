@@ -1,6 +1,6 @@
 -- What contracts see of a room, and what holds of it.
 use Rattle.std.specs.Prelude.{◌≡◌, ◌⊎◌, ℕ, ◌+◌, ◌-◌, ◌<◌, ◌≤◌, ◌==◌, if◌then◌else◌, List, [], ◌∷◌, ◌++◌, length, map, sum, take, count_by, slice_index}
-use Rattle.nit_hall.specs.Below.{ClipEntry, ClipModel, ClipReply, End, Entry, InputLine, IsLegal, IsNonDecreasing, IsOpen, Line, SceneModel, Sight, Standing, calls_in, calls_of, calls_to_make, glass_in, ink, is_input_phase, is_phase, phases_along, raised, script_in, state_now, user_actions_of, user_actions_to_do}
+use Rattle.nit_hall.specs.Below.{ClipEntry, ClipModel, ClipReply, End, Entry, InputLine, IsLegal, IsNonDecreasing, IsOpen, Line, SceneModel, Sight, Standing, calls_in, calls_of, calls_to_make, glass_in, ink, is_input_phase, is_phase, most_sessions, phases_along, raised, script_in, state_now, user_actions_of, user_actions_to_do}
 use Rattle.nit_events.specs.declared.entry.Entry.TheVariants as entry
 use Rattle.nit_hall.specs.OpeningParts.{OpeningParts}
 use Rattle.nit_hall.specs.ServedLines.{served, user_actions_in, lines_of_all}
@@ -149,7 +149,7 @@ pub record IsRoom (r : RoomModel) : Type 0 where
   pub config : r.scene.config ≡ r.parts.config
   pub legal : IsLegal r.parts.config r.scene.entries
   pub sessions : length r.parts.scripts ≡ length r.parts.config.clients
-  pub clients : length r.parts.scripts ≤ 16
+  pub clients : length r.parts.scripts ≤ most_sessions
   pub follows : Follows r.parts.scripts r.parts.input r.counts r.phase
       (without_final r.scene.entries)
   pub phases : IsServedPhase r.phase r.arrived

@@ -54,6 +54,9 @@ fn put_film<S: Store>(
     ensures not_whole { whole ≡ false → (bytes : List ℕ) → PutsNext (film_name, bytes)
         (put_state_of_run (S.shown store.old) fault) (put_state_of_run (S.shown store.new) result) }
 {
+    if fault.is_some() {
+        return fault;
+    }
     if whole {
         put_made(
             store,
