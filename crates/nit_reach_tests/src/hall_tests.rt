@@ -185,7 +185,7 @@ fn assert_listed<R: Abort>(
     wanted: &[u8],
 ) -> Result<(), NoMemory> {
     let text = clip_text(alloc, entries)?;
-    same(rt, &wanted, &text.as_slice(), &wanted);
+    same(rt, "the clip list", &text.as_slice(), &wanted);
     assert_answers(rt, answers, entries);
     Ok(())
 }
