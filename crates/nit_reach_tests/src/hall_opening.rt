@@ -6,15 +6,12 @@ ghost use Rattle.nit_slots.specs.Account.{IsDonation};
 ghost use Rattle.nit_plan.specs.ScriptWords.{table_size};
 ghost use Rattle.nit_config.specs.ConfigurationRanges.{IsConfiguration};
 ghost use Rattle.nit_hall.specs.Opening.{AreBlank, IsSetting};
-ghost use Rattle.nit_reach_tests.specs.HallOpening.{IsOpenRoom};
 
-use nit_clip::ClipScript;
 use nit_config::Config;
-use nit_hall::{ClipOpened, open, open_clips};
 use nit_pixels::{Canvas, Key, PixelBuffer};
 use nit_plan::{Plan, plan_of};
 use nit_rect::NoMemory;
-use nit_script::{Client, Input};
+use nit_script::Client;
 use nit_slots::room;
 use std::alloc::Global;
 
@@ -78,28 +75,6 @@ pub fn canvases_of<'a>(
         sid += 1;
     }
     Ok(canvases)
-}
-
-/// A room with these scripts and a clip script for each, before its first line.
-pub fn all_opened<'a>(
-    alloc: Global,
-    config: &Config,
-    scripts: &'a [Client],
-    plans: &'a [Plan],
-    input: &'a Input,
-    canvases: Vec<Canvas<'a>>,
-    clips: &'a [ClipScript],
-) -> Result<ClipOpened<'a>, NoMemory>
-    requires config { IsConfiguration config.now }
-    requires setting { IsSetting config.now scripts.now plans.now }
-    requires canvases { AreBlank config.now plans.now canvases.items }
-    requires each { length clips.now ≡ length scripts.now }
-    ensures { IfOk result (λ o. IsOpenRoom o.opened.room.parts o.opened.room o.opened.passes.items
-        o.opened.user o.clips.items) }
-{
-    let opened = open(alloc, config, scripts, plans, input, canvases)?;
-    let ready = open_clips(alloc, opened, clips)?;
-    Ok(ready)
 }
 
 /// How many words the table of a session has that opens with this donation.

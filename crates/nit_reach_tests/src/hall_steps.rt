@@ -10,7 +10,8 @@ use nit_script::{InputLine, Line};
 use std::process::Abort;
 use std::sync::Wait;
 
-/// Does three phases of all, and answers their clip calls in order.
+/// Does three phases of all, and answers their clip calls in order: in a phase each client in order
+/// does its lines and then its clip calls, they end it, and the user does its lines and ends it.
 pub fn do_phases<'a, N: Name, R: Abort + Wait>(
     rt: &R,
     hall: &Hall<'a, N>,
@@ -25,33 +26,10 @@ pub fn do_phases<'a, N: Name, R: Abort + Wait>(
     requires user { UserBelongs N.parts user.old }
 {
     'phases: for _ in 0..3 {
-        do_phase(rt, hall, passes, clips, user, replies);
+        do_clients(rt, hall, passes, clips, replies);
+        end_all(rt, hall, passes, clips);
+        do_user_phase(rt, hall, user);
     }
-}
-
-/// Does one phase of all: each client in order its lines and then its clip calls, and the user its
-/// lines; then all end it.
-fn do_phase<'a, N: Name, R: Abort + Wait>(
-    rt: &R,
-    hall: &Hall<'a, N>,
-    passes: &mut [Pass<'a>],
-    clips: &mut [ClipPass<'a>],
-    user: &mut UserPass<'a>,
-    replies: &mut Vec<ClipReply>,
-)
-    requires passes { All (Belongs N.parts) passes.old }
-    requires clips { All (ClipBelongs N.parts) clips.old }
-    requires each { length clips.old ≡ length passes.old }
-    requires user { UserBelongs N.parts user.old }
-    ensures passes { All (Belongs N.parts) passes.new }
-    ensures clips { All (ClipBelongs N.parts) clips.new }
-    ensures each { length clips.new ≡ length passes.new }
-    ensures user { UserBelongs N.parts user.new }
-{
-    do_clients(rt, hall, passes, clips, replies);
-    end_all(rt, hall, passes, clips);
-    do_user_lines(rt, hall, user);
-    end_user_phase(rt, hall, user);
 }
 
 /// Does the lines and then the clip calls of each client's phase, in order.
@@ -129,8 +107,7 @@ fn do_line<'a, N: Name, R: Abort + Wait>(
             hall.serve_next(rt, pass);
         }
         Some(Line::Stroke(_)) => pass.stroke(),
-        Some(Line::Phase) => do_clip(rt, hall, pass, clip, replies),
-        None => do_clip(rt, hall, pass, clip, replies),
+        Some(Line::Phase) | None => do_clip(rt, hall, pass, clip, replies),
     }
 }
 
@@ -207,14 +184,19 @@ fn is_ahead<'a>(pass: &Pass<'a>, clip: &ClipPass<'a>) -> bool
     phase >= 1 && phase - 1 == clip.phase()
 }
 
-/// Does the user's lines of its phase, of which there are few.
-fn do_user_lines<'a, N: Name, R: Wait>(rt: &R, hall: &Hall<'a, N>, user: &mut UserPass<'a>)
+/// Does the user's lines of its phase, of which there are few, and ends the phase, if the next line
+/// does.
+fn do_user_phase<'a, N: Name, R: Wait>(rt: &R, hall: &Hall<'a, N>, user: &mut UserPass<'a>)
     requires { UserBelongs N.parts user.old }
     ensures { UserBelongs N.parts user.new }
 {
     'lines: for _ in 0..16 {
         do_user_line(rt, hall, user);
     }
+    let Some(InputLine::Phase) = user.next() else {
+        return;
+    };
+    hall.arrive_user(rt, user);
 }
 
 /// Does the user's next line, if it is of a device.
@@ -226,15 +208,4 @@ fn do_user_line<'a, N: Name, R: Wait>(rt: &R, hall: &Hall<'a, N>, user: &mut Use
         return;
     };
     hall.user_next(rt, user);
-}
-
-/// Ends the user's phase, if its next line does.
-fn end_user_phase<'a, N: Name, R: Wait>(rt: &R, hall: &Hall<'a, N>, user: &mut UserPass<'a>)
-    requires { UserBelongs N.parts user.old }
-    ensures { UserBelongs N.parts user.new }
-{
-    let Some(InputLine::Phase) = user.next() else {
-        return;
-    };
-    hall.arrive_user(rt, user);
 }

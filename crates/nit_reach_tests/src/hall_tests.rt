@@ -1,23 +1,20 @@
 //! Clip scripts that are served beside clients' scripts, through a hall: what each clip call is
 //! answered is what the clip list has of it at the end.
 
-ghost use Rattle.std.specs.Prelude.{◌≡◌, length};
 ghost use Rattle.nit_config.specs.ConfigurationRanges.{IsConfiguration};
 ghost use Rattle.nit_reach_tests.specs.HallOpening.{IsOpenRoom};
 
-use crate::hall_opening::{all_opened, buffers_of, canvases_of, plans_of};
+use crate::hall_opening::{buffers_of, canvases_of, plans_of};
 use crate::hall_steps::do_phases;
 use crate::same::same;
 use nit_clip::{ClipEntry, ClipReply, ClipScript, clip_text, parse_clip};
 use nit_config::{Config, read_config};
-use nit_hall::{ClipOpened, ClipPass, Hall, Name, Opened, Pass, Room, UserPass};
-use nit_rect::NoMemory;
+use nit_hall::{ClipOpened, Hall, Name, Opened, open, open_clips};
 use nit_script::{Client, Input, parse_client, parse_input};
 use std::alloc::Global;
 use std::marker::Brand;
 use std::process::Abort;
 use std::sync::Wait;
-use std::test::Fail;
 
 /// Both clients of the drag, with a further phase.
 const PAIR: &str = "[screen]\nwidth = 8\nheight = 4\n\n[input]\nscript = \"pair.in\"\n\n\
@@ -38,61 +35,71 @@ const CLICK: &str = "phase\nmotion 1 1\npress 272\nrelease 272\nphase\n";
 /// Asks once, in the last phase.
 const LATE: &str = "phase\nphase\npaste\n";
 
-/// Two clients. The first asks without the focus, and then copies and pastes with it; the second
-/// never has it.
-#[test]
-fn two_clients_through_a_hall(rt: HostRuntime) -> Result<(), Fail> {
-    let wanted = "clip 3 0 not-focused < paste\n\
-        clip 9 0 copied < copy =hi\n\
-        clip 9 0 pasted =hi < paste\n\
-        clip 9 1 not-focused < paste\n";
-    let clips = ["paste\nphase\nphase\ncopy =hi\npaste\n", LATE];
-    through_a_hall(&rt, rt.alloc(), PAIR, &[LEFT, RIGHT], &clips, wanted)
+/// Texts of a run, and the text of its clip list at the end.
+#[derive(Drop)]
+struct Row {
+    config: &'static str,
+    scripts: &'static [&'static str],
+    clips: &'static [&'static str],
+    wanted: &'static str,
 }
 
+/// The first asks without the focus, and then copies and pastes with it; the second never has it.
+static TWO_CLIENTS: Row = Row {
+    config: PAIR,
+    scripts: &[LEFT, RIGHT],
+    clips: &["paste\nphase\nphase\ncopy =hi\npaste\n", LATE],
+    wanted: "clip 3 0 not-focused < paste\n\
+        clip 9 0 copied < copy =hi\n\
+        clip 9 0 pasted =hi < paste\n\
+        clip 9 1 not-focused < paste\n",
+};
+
 /// A client alone that is focused by a click and only pastes.
+static ONE_CLIENT: Row = Row {
+    config: ONE,
+    scripts: &[LEFT],
+    clips: &[LATE],
+    wanted: "clip 6 0 empty < paste\n",
+};
+
 #[test]
-fn one_client_through_a_hall(rt: HostRuntime) -> Result<(), Fail> {
-    let wanted = "clip 6 0 empty < paste\n";
-    through_a_hall(&rt, rt.alloc(), ONE, &[LEFT], &[LATE], wanted)
+fn two_clients_through_a_hall(rt: HostRuntime) {
+    serve_row(&rt, rt.alloc(), &TWO_CLIENTS);
+}
+
+#[test]
+fn one_client_through_a_hall(rt: HostRuntime) {
+    serve_row(&rt, rt.alloc(), &ONE_CLIENT);
 }
 
 /// Reads all texts, serves them through a hall, and looks at the clip list that is wanted.
-fn through_a_hall<R: Abort + Wait>(
-    rt: &R,
-    alloc: Global,
-    config: &str,
-    scripts: &[&str],
-    clips: &[&str],
-    wanted: &str,
-) -> Result<(), Fail> {
-    let input = parse_input(alloc, CLICK.as_bytes())?;
-    let scripts = scripts_of(alloc, scripts)?;
-    let clips = clip_scripts_of(alloc, clips)?;
-    let config = read_config(alloc, config.as_bytes())?;
+fn serve_row<R: Abort + Wait>(rt: &R, alloc: Global, row: &Row) {
+    let config = read_config(alloc, row.config.as_bytes()).expect(rt, "a configuration");
     let read = Read {
-        scripts,
-        input,
-        clips,
+        scripts: scripts_of(rt, alloc, row.scripts),
+        input: parse_input(alloc, CLICK.as_bytes()).expect(rt, "an input"),
+        clips: clip_scripts_of(rt, alloc, row.clips),
     };
-    serve_texts(rt, alloc, &config, &read, wanted.as_bytes())?;
-    Ok(())
+    serve_texts(rt, alloc, &config, &read, row.wanted.as_bytes());
 }
 
-fn scripts_of(alloc: Global, texts: &[&str]) -> Result<Vec<Client>, Fail> {
+fn scripts_of(rt: &impl Abort, alloc: Global, texts: &[&str]) -> Vec<Client> {
     let mut scripts = Vec::new(alloc);
     for text in texts {
-        scripts.push(parse_client(alloc, text.as_bytes())?)?;
+        let script = parse_client(alloc, text.as_bytes()).expect(rt, "a script");
+        scripts.push(script).expect(rt, "memory for a script");
     }
-    Ok(scripts)
+    scripts
 }
 
-fn clip_scripts_of(alloc: Global, texts: &[&str]) -> Result<Vec<ClipScript>, Fail> {
+fn clip_scripts_of(rt: &impl Abort, alloc: Global, texts: &[&str]) -> Vec<ClipScript> {
     let mut scripts = Vec::new(alloc);
     for text in texts {
-        scripts.push(parse_clip(alloc, text.as_bytes())?)?;
+        let script = parse_clip(alloc, text.as_bytes()).expect(rt, "a clip script");
+        scripts.push(script).expect(rt, "memory for a clip script");
     }
-    Ok(scripts)
+    scripts
 }
 
 /// What the texts of a row are.
@@ -103,41 +110,23 @@ struct Read {
     clips: Vec<ClipScript>,
 }
 
-/// Opens a room with these scripts and clip scripts, and does all.
-fn serve_texts<R: Abort + Wait>(
-    rt: &R,
-    alloc: Global,
-    config: &Config,
-    read: &Read,
-    wanted: &[u8],
-) -> Result<(), NoMemory>
+/// Opens a room with these scripts and clip scripts, of which there is one for each client, and
+/// does all.
+fn serve_texts<R: Abort + Wait>(rt: &R, alloc: Global, config: &Config, read: &Read, wanted: &[u8])
     requires configured { IsConfiguration config.now }
-{
-    let clients = config.clients.len();
-    assert!(rt; read.scripts.len() == clients);
-    assert!(rt; read.clips.len() == clients);
-    serve_opened(rt, alloc, config, read, wanted)
-}
-
-/// The same, where there is a script and a clip script for each client.
-fn serve_opened<R: Abort + Wait>(
-    rt: &R,
-    alloc: Global,
-    config: &Config,
-    read: &Read,
-    wanted: &[u8],
-) -> Result<(), NoMemory>
-    requires configured { IsConfiguration config.now }
-    requires each { length read.now.scripts.items ≡ length config.now.clients }
-    requires clips { length read.now.clips.items ≡ length read.now.scripts.items }
 {
     let clients = read.scripts.as_slice();
     let clips = read.clips.as_slice();
-    let plans = plans_of(alloc, config, clients)?;
-    let (buffers, keys) = buffers_of(alloc, config, &plans)?;
-    let canvases = canvases_of(alloc, &buffers, keys)?;
-    let opened = all_opened(alloc, config, clients, &plans, &read.input, canvases, clips)?;
-    serve_all::<Brand, R>(rt, alloc, opened, wanted)
+    assert!(rt; clients.len() == config.clients.len());
+    assert!(rt; clips.len() == clients.len());
+    let plans = plans_of(alloc, config, clients).expect(rt, "plans");
+    let made = buffers_of(alloc, config, &plans);
+    let (buffers, keys) = made.expect(rt, "buffers");
+    let canvases = canvases_of(alloc, &buffers, keys).expect(rt, "canvases");
+    let opened = open(alloc, config, clients, &plans, &read.input, canvases);
+    let opened = opened.expect(rt, "a room");
+    let opened = open_clips(alloc, opened, clips).expect(rt, "a room with clip scripts");
+    serve_all::<Brand, R>(rt, alloc, opened, wanted);
 }
 
 /// Does all lines of an opening that N names, in three phases.
@@ -146,53 +135,36 @@ fn serve_all<'a, N: Name, R: Abort + Wait>(
     alloc: Global,
     opened: ClipOpened<'a>,
     wanted: &[u8],
-) -> Result<(), NoMemory>
+)
     requires { IsOpenRoom N.parts opened.opened.room opened.opened.passes.items opened.opened.user
         opened.clips.items }
 {
-    let ClipOpened { opened, clips } = opened;
-    let Opened { room, passes, user } = opened;
-    let mut passes = passes;
-    let mut user = user;
-    let mut clips = clips;
+    let ClipOpened { opened, mut clips } = opened;
+    let Opened {
+        room,
+        mut passes,
+        mut user,
+    } = opened;
     let mut answers = Vec::new(alloc);
-    let room = serve_room::<N, R>(rt, room, &mut passes, &mut clips, &mut user, &mut answers);
-    assert_listed(rt, alloc, answers.as_slice(), room.clip_list(), wanted)
-}
-
-/// The same for the parts of an opening.
-fn serve_room<'a, N: Name, R: Abort + Wait>(
-    rt: &R,
-    room: Room<'a>,
-    passes: &mut [Pass<'a>],
-    clips: &mut [ClipPass<'a>],
-    user: &mut UserPass<'a>,
-    answers: &mut Vec<ClipReply>,
-) -> Room<'a>
-    requires { IsOpenRoom N.parts room passes.old user.old clips.old }
-{
     let hall: Hall<'a, N> = Hall::new(room);
-    do_phases(rt, &hall, passes, clips, user, answers);
-    hall.into_room()
+    do_phases(rt, &hall, &mut passes, &mut clips, &mut user, &mut answers);
+    let room = hall.into_room();
+    assert_listed(rt, alloc, answers.as_slice(), room.clip_list(), wanted);
 }
 
 /// The clip list has this text, and the answers in it are these.
-fn assert_listed<R: Abort>(
-    rt: &R,
+fn assert_listed(
+    rt: &impl Abort,
     alloc: Global,
     answers: &[ClipReply],
     entries: &[ClipEntry],
     wanted: &[u8],
-) -> Result<(), NoMemory> {
-    let text = clip_text(alloc, entries)?;
+) {
+    let text = clip_text(alloc, entries).expect(rt, "memory for a text");
     same(rt, "the clip list", &text.as_slice(), &wanted);
-    assert_answers(rt, answers, entries);
-    Ok(())
-}
-
-fn assert_answers<R: Abort>(rt: &R, answers: &[ClipReply], entries: &[ClipEntry]) {
-    assert!(rt; answers.len() == entries.len());
-    for (answer, entry) in answers.iter().zip(entries) {
-        assert!(rt; *answer == entry.reply);
+    let mut listed = Vec::new(alloc);
+    for entry in entries {
+        listed.push(entry.reply).expect(rt, "memory for a reply");
     }
+    same(rt, "the answers", &answers, &listed.as_slice());
 }
