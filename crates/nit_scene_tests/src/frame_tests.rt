@@ -1,17 +1,16 @@
 //! The frame that a scene keeps, against the one that is made anew of the same state.
 
-ghost use Rattle.std.specs.Prelude.{◌≡◌, ◌+◌, ◌-◌, ◌*◌, ◌<◌, ◌≤◌, ◌∷◌, [], All, IfOk, IsTrue, length};
-ghost use Rattle.nit_word.specs.Inks.{IsInked};
+ghost use Rattle.std.specs.Prelude.{◌≡◌, ◌+◌, ◌-◌, ◌*◌, ◌<◌, ◌≤◌, IfOk, IsTrue, length};
 ghost use Rattle.nit_events.specs.Ranges.{IsDevice};
 ghost use Rattle.nit_config.specs.ConfigurationRanges.{IsConfiguration};
 ghost use Rattle.nit_journal.specs.Replay.{IsOpen};
 ghost use Rattle.nit_scene.specs.Screen.{IsGlass};
 
+use crate::glasses::glass;
 use crate::same::same;
 use nit_config::{Config, read_config};
 use nit_events::{Call, Device};
 use nit_scene::Scene;
-use nit_slots::room;
 use nit_word::Inked;
 use std::alloc::Global;
 use std::process::Abort;
@@ -42,27 +41,6 @@ const BAR: &str = "[screen]\nwidth = 40\nheight = 16\nbar = true\n\n[input]\nscr
 /// Room for the entries of a run.
 const ROOM: usize = 64;
 
-/// So many words of this colour, or 0.
-fn words(alloc: Global, count: usize, colour: u32) -> Result<Vec<u32>, Fail>
-    requires { colour < 16777216 }
-    ensures count { IfOk result (λ v. length v.items ≡ count) }
-    ensures inked { IfOk result (λ v. All (IsInked (colour ∷ [])) v.items) }
-{
-    Ok(vec![in alloc; colour; count]?)
-}
-
-/// A glass of this colour for a client.
-fn glass(alloc: Global, config: &Config, sid: u32, colour: u32) -> Result<Inked, Fail>
-    requires config { IsConfiguration config.now }
-    requires client { sid < length config.now.clients }
-    requires colour { colour < 16777216 }
-    ensures { IfOk result (λ g. IsGlass config.now sid g) }
-{
-    let count = room(config.clients[sid as usize].donation) / 8;
-    let words = words(alloc, count as usize, colour)?;
-    Ok(Inked::new(sid, words, vec![in alloc; colour; 1]?))
-}
-
 /// A scene of two clients, one red and one blue.
 fn scene(alloc: Global, config: &Config) -> Result<Scene<Inked>, Fail>
     requires config { IsConfiguration config.now }
@@ -71,9 +49,9 @@ fn scene(alloc: Global, config: &Config) -> Result<Scene<Inked>, Fail>
     ensures config { IfOk result (λ s. s.config ≡ config.now) }
     ensures spare { IfOk result (λ s. s.spare ≡ ROOM) }
 {
-    let mut glasses = Vec::new(alloc);
-    glasses.push(glass(alloc, config, 0, 0xFF0000)?)?;
-    glasses.push(glass(alloc, config, 1, 0x0000FF)?)?;
+    let mut glasses = Vec::with_capacity(alloc, 2)?;
+    glasses.push_reserved(glass(alloc, config, 0, 0xFF0000)?);
+    glasses.push_reserved(glass(alloc, config, 1, 0x0000FF)?);
     Ok(Scene::new(alloc, config, glasses, ROOM)?)
 }
 
@@ -143,6 +121,11 @@ fn blank(alloc: Global, config: &Config) -> Result<Vec<u32>, Fail>
     Ok(vec![in alloc; 0; config.width as usize * config.height as usize]?)
 }
 
+/// The frame that is kept after so many steps is the one that is made anew.
+fn assert_frame(rt: &impl Abort, count: usize, kept: &[u32], anew: &[u32]) {
+    same(rt, &count, &kept, &anew);
+}
+
 /// The frame that a scene keeps after these steps is its last picture, for which all words are
 /// loaded and all places worked out again.
 fn assert_steps(
@@ -165,8 +148,8 @@ fn assert_steps(
     take_steps(&mut scene, &mut first, &mut second, steps);
     kept.copy_from_slice(scene.frame());
     scene.finish(&mut [first, second], anew);
-    let (kept, anew): (&[u32], &[u32]) = (kept, anew);
-    same(rt, &steps.len(), &kept, &anew);
+    drop(scene);
+    assert_frame(rt, steps.len(), kept, anew);
 }
 
 /// The same of a new scene.
@@ -273,10 +256,16 @@ const BAR_STEPS: [Step; 32] = [
 ];
 
 #[test]
-fn runs(rt: HostRuntime) -> Result<(), Fail> {
-    let runs: [(&str, &[Step]); 3] = [(TWO, &KILL_STEPS), (LABELS, &XRAY_STEPS), (BAR, &BAR_STEPS)];
-    for (text, steps) in &runs {
-        assert_run(&rt, rt.alloc(), text, steps)?;
-    }
-    Ok(())
+fn run_with_a_kill(rt: HostRuntime) -> Result<(), Fail> {
+    assert_run(&rt, rt.alloc(), TWO, &KILL_STEPS)
+}
+
+#[test]
+fn run_in_xray_mode(rt: HostRuntime) -> Result<(), Fail> {
+    assert_run(&rt, rt.alloc(), LABELS, &XRAY_STEPS)
+}
+
+#[test]
+fn run_with_the_bar(rt: HostRuntime) -> Result<(), Fail> {
+    assert_run(&rt, rt.alloc(), BAR, &BAR_STEPS)
 }

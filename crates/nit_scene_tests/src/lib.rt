@@ -9,6 +9,8 @@
 #[cfg(test)]
 mod frame_tests;
 #[cfg(test)]
+mod glasses;
+#[cfg(test)]
 mod load_tests;
 #[cfg(test)]
 mod same;

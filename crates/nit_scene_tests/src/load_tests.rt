@@ -1,16 +1,15 @@
 //! How many words of each session a scene loads at each entry.
 
-ghost use Rattle.std.specs.Prelude.{◌≡◌, ◌+◌, ◌-◌, ◌*◌, ◌<◌, ◌≤◌, [], All, IfOk, length};
-ghost use Rattle.nit_word.specs.Inks.{IsInked};
+ghost use Rattle.std.specs.Prelude.{◌≡◌, ◌+◌, ◌-◌, ◌*◌, ◌<◌, ◌≤◌, IfOk, length};
 ghost use Rattle.nit_config.specs.ConfigurationRanges.{IsConfiguration};
 ghost use Rattle.nit_journal.specs.Replay.{IsOpen};
 ghost use Rattle.nit_scene.specs.Screen.{IsGlass};
 
+use crate::glasses::glass;
 use crate::same::same;
 use nit_config::{Config, read_config};
 use nit_events::Call;
 use nit_scene::Scene;
-use nit_slots::room;
 use nit_word::{Glass, Inked};
 use std::alloc::Global;
 use std::cell::Cell;
@@ -45,16 +44,8 @@ impl Glass for Counting<'_> {
     }
 }
 
-/// So many words that are 0.
-fn zeros(alloc: Global, count: usize) -> Result<Vec<u32>, Fail>
-    ensures count { IfOk result (λ v. length v.items ≡ count) }
-    ensures inked { IfOk result (λ v. All (IsInked []) v.items) }
-{
-    Ok(vec![in alloc; 0; count]?)
-}
-
 /// A glass of zeros for a client, which counts its loads here.
-fn glass<'a>(
+fn counted<'a>(
     alloc: Global,
     config: &Config,
     sid: u32,
@@ -64,12 +55,8 @@ fn glass<'a>(
     requires client { sid < length config.now.clients }
     ensures { IfOk result (λ g. IsGlass config.now sid g.glass) }
 {
-    let words = room(config.clients[sid as usize].donation) / 8;
-    let zeros = zeros(alloc, words as usize)?;
-    Ok(Counting {
-        glass: Inked::new(sid, zeros, Vec::new(alloc)),
-        loads,
-    })
+    let glass = glass(alloc, config, sid, 0)?;
+    Ok(Counting { glass, loads })
 }
 
 /// A scene of two clients, whose glasses count their loads here.
@@ -84,10 +71,15 @@ fn scene<'a>(
     ensures config { IfOk result (λ s. s.config ≡ config.now) }
     ensures spare { IfOk result (λ s. s.spare ≡ 16) }
 {
-    let mut glasses = Vec::new(alloc);
-    glasses.push(glass(alloc, config, 0, &loads[0])?)?;
-    glasses.push(glass(alloc, config, 1, &loads[1])?)?;
+    let mut glasses = Vec::with_capacity(alloc, 2)?;
+    glasses.push_reserved(counted(alloc, config, 0, &loads[0])?);
+    glasses.push_reserved(counted(alloc, config, 1, &loads[1])?);
     Ok(Scene::new(alloc, config, glasses, 16)?)
+}
+
+/// How many words each session's glasses have loaded since this was asked last.
+fn taken(loads: &[Cell<u32>; 2]) -> (u32, u32) {
+    (loads[0].replace(0), loads[1].replace(0))
 }
 
 /// Serves a call of the client of this glass, for which each session's glasses together load so
@@ -110,10 +102,8 @@ fn assert_loads(
     ensures spare { scene.new.spare ≡ scene.old.spare - 1 }
     ensures own { IsGlass scene.new.config sid own.new.glass }
 {
-    loads[0].set(0);
-    loads[1].set(0);
     let _reply = scene.call(sid, call, own);
-    same(rt, call, &(loads[0].get(), loads[1].get()), &want);
+    same(rt, call, &taken(loads), &want);
 }
 
 /// Serves these calls of both clients, with so many loads from each session's glasses.
@@ -177,44 +167,81 @@ const AFTER: [(u32, Call, (u32, u32)); 3] = [
     (1, Call::Place(1, 40_000, 0, 1, 1), (0, 0)),
 ];
 
-/// Both tables of calls load so many words, the shot between them loads none, and the last picture
-/// loads all that is shown.
-fn assert_all<'a>(
+/// The calls before a shot load so many words.
+fn assert_before(
     rt: &impl Abort,
-    mut scene: Scene<Counting<'a>>,
-    mut first: Counting<'a>,
-    mut second: Counting<'a>,
+    scene: &mut Scene<Counting<'_>>,
+    first: &mut Counting<'_>,
+    second: &mut Counting<'_>,
+    loads: &[Cell<u32>; 2],
+)
+    requires two { length scene.old.config.clients ≡ 2 }
+    requires open { IsOpen scene.old.entries }
+    requires spare { scene.old.spare ≡ 16 }
+    requires first { IsGlass scene.old.config 0 first.old.glass }
+    requires second { IsGlass scene.old.config 1 second.old.glass }
+    ensures config { scene.new.config ≡ scene.old.config }
+    ensures open { IsOpen scene.new.entries }
+    ensures spare { scene.new.spare ≡ 10 }
+    ensures first { IsGlass scene.new.config 0 first.new.glass }
+    ensures second { IsGlass scene.new.config 1 second.new.glass }
+{
+    assert_rows(rt, scene, first, second, loads, &BEFORE);
+}
+
+/// A shot loads no words.
+fn assert_shot(rt: &impl Abort, scene: &mut Scene<Counting<'_>>, loads: &[Cell<u32>; 2])
+    requires open { IsOpen scene.old.entries }
+    requires spare { scene.old.spare ≡ 10 }
+    requires screen { scene.old.config.width * scene.old.config.height ≡ PIXELS }
+    ensures config { scene.new.config ≡ scene.old.config }
+    ensures open { IsOpen scene.new.entries }
+    ensures spare { scene.new.spare ≡ 9 }
+{
+    let _number = scene.shot(&mut [0; PIXELS]);
+    same(rt, &"shot", &taken(loads), &(0, 0));
+}
+
+/// The calls after a shot load so many words, and the last picture loads all that is shown.
+fn assert_after(
+    rt: &impl Abort,
+    mut scene: Scene<Counting<'_>>,
+    mut first: Counting<'_>,
+    mut second: Counting<'_>,
     loads: &[Cell<u32>; 2],
 )
     requires two { length scene.config.clients ≡ 2 }
     requires open { IsOpen scene.entries }
-    requires spare { scene.spare ≡ 16 }
+    requires spare { scene.spare ≡ 9 }
     requires screen { scene.config.width * scene.config.height ≡ PIXELS }
     requires first { IsGlass scene.config 0 first.glass }
     requires second { IsGlass scene.config 1 second.glass }
 {
-    let mut out = [0; PIXELS];
-    assert_rows(rt, &mut scene, &mut first, &mut second, loads, &BEFORE);
-    loads[0].set(0);
-    loads[1].set(0);
-    let _number = scene.shot(&mut out);
-    same(rt, &"shot", &(loads[0].get(), loads[1].get()), &(0, 0));
     assert_rows(rt, &mut scene, &mut first, &mut second, loads, &AFTER);
-    loads[0].set(0);
-    loads[1].set(0);
-    scene.finish(&mut [first, second], &mut out);
-    same(rt, &"last", &(loads[0].get(), loads[1].get()), &(8, 8));
+    scene.finish(&mut [first, second], &mut [0; PIXELS]);
+    drop(scene);
+    same(rt, &"last", &taken(loads), &(8, 8));
+}
+
+/// Both tables of calls load so many words, and the shot between them loads none.
+fn assert_all(rt: &impl Abort, alloc: Global, config: &Config) -> Result<(), Fail>
+    requires config { IsConfiguration config.now }
+    requires two { length config.now.clients ≡ 2 }
+    requires screen { config.now.width * config.now.height ≡ PIXELS }
+{
+    let loads = [Cell::new(0), Cell::new(0)];
+    let mut first = counted(alloc, config, 0, &loads[0])?;
+    let mut second = counted(alloc, config, 1, &loads[1])?;
+    let mut scene = scene(alloc, config, &loads)?;
+    assert_before(rt, &mut scene, &mut first, &mut second, &loads);
+    assert_shot(rt, &mut scene, &loads);
+    assert_after(rt, scene, first, second, &loads);
+    Ok(())
 }
 
 /// Each pixel that a call makes dirty and that shows a word is loaded once, and nothing else is.
 #[test]
 fn loads_by_entry(rt: HostRuntime) -> Result<(), Fail> {
-    let alloc = rt.alloc();
-    let loads = [Cell::new(0), Cell::new(0)];
-    let config = two_clients(&rt, alloc)?;
-    let first = glass(alloc, &config, 0, &loads[0])?;
-    let second = glass(alloc, &config, 1, &loads[1])?;
-    let scene = scene(alloc, &config, &loads)?;
-    assert_all(&rt, scene, first, second, &loads);
-    Ok(())
+    let config = two_clients(&rt, rt.alloc())?;
+    assert_all(&rt, rt.alloc(), &config)
 }

@@ -1,17 +1,16 @@
 //! What a scene answers to the calls of one client.
 
-ghost use Rattle.std.specs.Prelude.{◌≡◌, ◌<◌, ◌≤◌, [], All, IfOk, length};
-ghost use Rattle.nit_word.specs.Inks.{IsInked};
+ghost use Rattle.std.specs.Prelude.{◌≡◌, ◌<◌, ◌≤◌, IfOk, length};
 ghost use Rattle.nit_config.specs.ConfigurationRanges.{IsConfiguration};
 ghost use Rattle.nit_journal.specs.Replay.{IsOpen};
 ghost use Rattle.nit_scene.specs.Screen.{IsGlass};
 
+use crate::glasses::glass;
 use crate::same::same;
 use nit_config::{Config, read_config};
 use nit_events::{Entry, Reply};
 use nit_scene::Scene;
 use nit_script::{Line, parse_client};
-use nit_slots::room;
 use nit_word::Inked;
 use std::alloc::{AllocError, Global};
 use std::process::Abort;
@@ -25,24 +24,6 @@ const SMALL: &str = "[screen]\nwidth = 8\nheight = 4\n\n[input]\nscript = \"i\"\
 const GREAT: &str = "[screen]\nwidth = 8\nheight = 4\n\n[input]\nscript = \"i\"\n\n\
      [[client]]\nlabel = \"a\"\ndonation = 8388608\nscript = \"a\"\n";
 
-/// A glass of zeros for the first client.
-fn glass(alloc: Global, config: &Config) -> Result<Inked, Fail>
-    requires { IsConfiguration config.now }
-    ensures { IfOk result (λ g. IsGlass config.now 0 g) }
-{
-    let words = room(config.clients[0].donation) / 8;
-    let zeros = zeros(alloc, words as usize)?;
-    Ok(Inked::new(0, zeros, Vec::new(alloc)))
-}
-
-/// So many words that are 0.
-fn zeros(alloc: Global, count: usize) -> Result<Vec<u32>, Fail>
-    ensures count { IfOk result (λ v. length v.items ≡ count) }
-    ensures inked { IfOk result (λ v. All (IsInked []) v.items) }
-{
-    Ok(vec![in alloc; 0; count]?)
-}
-
 /// A scene of one client, of this configuration.
 fn scene(alloc: Global, config: &Config) -> Result<Scene<Inked>, Fail>
     requires config { IsConfiguration config.now }
@@ -51,8 +32,8 @@ fn scene(alloc: Global, config: &Config) -> Result<Scene<Inked>, Fail>
     ensures config { IfOk result (λ s. s.config ≡ config.now) }
     ensures spare { IfOk result (λ s. s.spare ≡ 65536) }
 {
-    let mut glasses = Vec::new(alloc);
-    glasses.push(glass(alloc, config)?)?;
+    let mut glasses = Vec::with_capacity(alloc, 1)?;
+    glasses.push_reserved(glass(alloc, config, 0, 0)?);
     Ok(Scene::new(alloc, config, glasses, 65_536)?)
 }
 
@@ -70,19 +51,29 @@ fn serve_all(scene: &mut Scene<Inked>, own: &mut Inked, lines: &[Line])
     }
 }
 
-/// The entries are calls with these replies.
-fn assert_replies(rt: &impl Abort, script: &str, entries: &[Entry], replies: &[Reply]) {
-    same(rt, &script, &entries.len(), &replies.len());
-    for (entry, want) in entries.iter().zip(replies) {
-        same(rt, &script, &reply_of(entry), &Some(*want));
+/// The replies to the calls among these entries.
+fn replies_of(alloc: Global, entries: &[Entry]) -> Result<Vec<Reply>, AllocError> {
+    let mut replies = Vec::new(alloc);
+    for entry in entries {
+        if let Entry::Call { reply, .. } = entry {
+            replies.push(*reply)?;
+        }
     }
+    Ok(replies)
 }
 
-fn reply_of(entry: &Entry) -> Option<Reply> {
-    match entry {
-        Entry::Call { reply, .. } => Some(*reply),
-        _ => None,
-    }
+/// The entries are calls with these replies.
+fn assert_replies(
+    rt: &impl Abort,
+    alloc: Global,
+    script: &str,
+    entries: &[Entry],
+    want: &[Reply],
+) -> Result<(), Fail> {
+    let replies = replies_of(alloc, entries)?;
+    let found = (entries.len(), replies.as_slice());
+    same(rt, &script, &found, &(want.len(), want));
+    Ok(())
 }
 
 /// The client of this configuration gets these replies to the calls of its script.
@@ -97,11 +88,12 @@ fn assert_served(
     requires one { length config.now.clients ≡ 1 }
 {
     let client = parse_client(alloc, script.as_bytes())?;
-    let mut own = glass(alloc, config)?;
+    let mut own = glass(alloc, config, 0, 0)?;
     let mut scene = scene(alloc, config)?;
     serve_all(&mut scene, &mut own, client.lines());
-    assert_replies(rt, script, scene.journal().entries(), replies);
-    Ok(())
+    let answer = assert_replies(rt, alloc, script, scene.journal().entries(), replies);
+    drop(scene);
+    answer
 }
 
 /// The configuration of this text, which has one client.
@@ -192,31 +184,48 @@ const CASES: [(&str, &str, &[Reply]); 6] = [
     ),
 ];
 
+/// The client of the configuration of this text gets these replies.
+fn assert_case(
+    rt: &impl Abort,
+    alloc: Global,
+    text: &str,
+    script: &str,
+    replies: &[Reply],
+) -> Result<(), Fail> {
+    let config = configuration(rt, alloc, text)?;
+    assert_served(rt, alloc, &config, script, replies)
+}
+
 #[test]
 fn replies(rt: HostRuntime) -> Result<(), Fail> {
-    for (config, script, replies) in &CASES {
-        let config = configuration(&rt, rt.alloc(), config)?;
-        assert_served(&rt, rt.alloc(), &config, script, replies)?;
+    for (text, script, replies) in &CASES {
+        assert_case(&rt, rt.alloc(), text, script, replies)?;
     }
     Ok(())
 }
 
-/// As many views as there may be, and one more: the script, and the replies.
-fn all_views(alloc: Global) -> Result<(String, Vec<Reply>), AllocError> {
+/// As many views as there may be, and one more.
+fn all_views(alloc: Global) -> Result<String, AllocError> {
     let mut script = String::new(alloc);
+    for _ in 0..65 {
+        script.push_str("view\n")?;
+    }
+    Ok(script)
+}
+
+/// The replies to them.
+fn all_handles(alloc: Global) -> Result<Vec<Reply>, AllocError> {
     let mut replies = Vec::new(alloc);
     for handle in 1..=64 {
-        script.push_str("view\n")?;
         replies.push(Reply::Handle(handle))?;
     }
-    script.push_str("view\n")?;
     replies.push(Reply::TooManyViews)?;
-    Ok((script, replies))
+    Ok(replies)
 }
 
 #[test]
 fn views_of_all_units(rt: HostRuntime) -> Result<(), Fail> {
-    let config = configuration(&rt, rt.alloc(), GREAT)?;
-    let (script, replies) = all_views(rt.alloc())?;
-    assert_served(&rt, rt.alloc(), &config, &script, &replies)
+    let script = all_views(rt.alloc())?;
+    let replies = all_handles(rt.alloc())?;
+    assert_case(&rt, rt.alloc(), GREAT, &script, &replies)
 }
