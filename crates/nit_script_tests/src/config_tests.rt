@@ -22,64 +22,84 @@ fn changed(alloc: Global, old: &str, new: &str) -> Result<String, Fail> {
 type Client = (&'static str, &'static str, u32, bool);
 
 /// What is changed in the configuration to what, its height, whether it has a bar, and its clients.
-type Read = (&'static str, &'static str, u32, bool, &'static [Client]);
+type Read = (&'static str, &'static str, u32, bool, Client, Client);
 
-const READ: [Read; 5] = [
+static READ: [Read; 5] = [
     (
         "",
         "",
         4,
         false,
-        &[("a", "a.nit", 0, true), ("b", "b.nit", 0, true)],
+        ("a", "a.nit", 0, true),
+        ("b", "b.nit", 0, true),
     ),
     (
         "label = \"a\"",
         "label = \"a\"\nlayer = 7\nfocus = \"none\"",
         4,
         false,
-        &[("a", "a.nit", 7, false), ("b", "b.nit", 0, true)],
+        ("a", "a.nit", 7, false),
+        ("b", "b.nit", 0, true),
     ),
     (
         "label = \"a\"",
         "label = \"a\"\nlayer = 0\nfocus = \"click\"",
         4,
         false,
-        &[("a", "a.nit", 0, true), ("b", "b.nit", 0, true)],
+        ("a", "a.nit", 0, true),
+        ("b", "b.nit", 0, true),
     ),
     (
         "height = 4",
         "height = 8\nbar = true",
         8,
         true,
-        &[("a", "a.nit", 0, true), ("b", "b.nit", 0, true)],
+        ("a", "a.nit", 0, true),
+        ("b", "b.nit", 0, true),
     ),
     (
         "height = 4",
         "height = 4\nbar = false",
         4,
         false,
-        &[("a", "a.nit", 0, true), ("b", "b.nit", 0, true)],
+        ("a", "a.nit", 0, true),
+        ("b", "b.nit", 0, true),
     ),
 ];
 
-fn assert_client(rt: &impl Abort, case: usize, found: Option<&Member>, want: &Client) {
-    let found = found.expect(rt, "the client is there");
-    let (label, script, layer, clicks) = *want;
-    same(rt, &case, &found.label.as_bytes(), &label.as_bytes());
-    same(rt, &case, &found.script.as_str(), &script);
-    let numbers = (found.donation, found.layer, found.clicks);
-    same(rt, &case, &numbers, &(65_536, layer, clicks));
+/// What a client is told to be: its label, its script, its donation, its layer, and whether a click
+/// on it moves the focus.
+pub type Told<'a> = (&'a [u8], &'a str, u32, u32, bool);
+
+/// What this client is told to be.
+pub fn told(member: &Member) -> Told<'_> {
+    (
+        member.label.as_bytes(),
+        member.script.as_str(),
+        member.donation,
+        member.layer,
+        member.clicks,
+    )
 }
 
-fn assert_read(rt: &impl Abort, case: usize, found: &Config, want: &Read) {
-    let (_, _, height, bar, clients) = want;
-    let screen = (found.width, found.height, found.bar);
-    same(rt, &case, &screen, &(8, *height, *bar));
-    same(rt, &case, &found.input.as_str(), &"two.in");
-    same(rt, &case, &found.clients.len(), &2);
-    for (place, client) in clients.iter().enumerate() {
-        assert_client(rt, case, found.clients.get(place), client);
-    }
+fn assert_client(rt: &impl Abort, case: &str, found: Option<&Member>, want: &Client) {
+    let found = told(found.expect(rt, "the client is there"));
+    let (label, script, layer, clicks) = *want;
+    same(
+        rt,
+        case,
+        found,
+        (label.as_bytes(), script, 65_536, layer, clicks),
+    );
+}
+
+fn assert_read(rt: &impl Abort, found: &Config, want: &Read) {
+    let (_, case, height, bar, first, second) = want;
+    let (width, input) = (found.width, found.input.as_str());
+    let screen = (width, found.height, found.bar, input, found.clients.len());
+    same(rt, case, screen, (8, *height, *bar, "two.in", 2));
+    assert_client(rt, case, found.clients.first(), first);
+    assert_client(rt, case, found.clients.last(), second);
 }
 
 /// The configuration with the first `old` changed to `new`.
@@ -89,9 +109,9 @@ fn read_changed(alloc: Global, old: &str, new: &str) -> Result<Config, Fail> {
 }
 
 fn assert_all_read(rt: &impl Abort, alloc: Global, rows: &[Read]) -> Result<(), Fail> {
-    for (case, want) in rows.iter().enumerate() {
+    for want in rows {
         let config = read_changed(alloc, want.0, want.1)?;
-        assert_read(rt, case, &config, want);
+        assert_read(rt, &config, want);
     }
     Ok(())
 }
@@ -140,7 +160,7 @@ fn refusal(alloc: Global, text: &str) -> Option<ConfigError> {
 fn assert_all_refused(rt: &impl Abort, alloc: Global, rows: &[Refused]) -> Result<(), Fail> {
     for (old, new, want) in rows {
         let text = changed(alloc, old, new)?;
-        same(rt, new, &refusal(alloc, &text), &Some(*want));
+        same(rt, new, refusal(alloc, &text), Some(*want));
     }
     Ok(())
 }
@@ -174,14 +194,17 @@ fn count(alloc: Global, text: &str) -> Result<usize, ConfigError> {
     }
 }
 
-/// How many clients there are more than two, and the answer.
-const CROWDS: [(u32, Result<usize, ConfigError>); 2] = [(14, Ok(16)), (15, Err(TooMany))];
+/// How many clients there are more than two, that in words, and the answer.
+const CROWDS: [(u32, &str, Result<usize, ConfigError>); 2] = [
+    (14, "14 more", Ok(16)),
+    (15, "15 more", Err(TooMany)),
+];
 
 #[test]
 fn number_of_clients(rt: HostRuntime) -> Result<(), Fail> {
-    for (more, want) in &CROWDS {
+    for (more, case, want) in &CROWDS {
         let text = crowd(rt.alloc(), *more)?;
-        same(&rt, more, &count(rt.alloc(), &text), want);
+        same(&rt, case, count(rt.alloc(), &text), *want);
     }
     Ok(())
 }
@@ -189,8 +212,8 @@ fn number_of_clients(rt: HostRuntime) -> Result<(), Fail> {
 #[test]
 fn no_clients(rt: HostRuntime) -> Result<(), Fail> {
     let (none, _) = TWO.split_once("[[client]]").ok_or("not there")?;
-    same(&rt, &"none", &refusal(rt.alloc(), none), &Some(Missing));
-    same(&rt, &"empty", &refusal(rt.alloc(), ""), &Some(Missing));
+    let found = (refusal(rt.alloc(), none), refusal(rt.alloc(), ""));
+    same(&rt, "none, empty", found, (Some(Missing), Some(Missing)));
     Ok(())
 }
 
@@ -213,7 +236,7 @@ fn assert_texts(
 ) -> Result<(), Fail> {
     for (refusal, want) in rows {
         let text = format!(in alloc; "{refusal}")?;
-        same(rt, refusal, &text.as_str(), want);
+        same(rt, want, text.as_str(), *want);
     }
     Ok(())
 }

@@ -3,8 +3,9 @@
 //! What they are was worked out apart from this code, by a few lines that follow the description of
 //! the files.
 
+use crate::config_tests::told;
 use crate::same::same;
-use nit_config::{Config, Member, read_config};
+use nit_config::{Config, read_config};
 use nit_report::{Files, gen_config, generate};
 use std::alloc::Global;
 use std::process::Abort;
@@ -49,13 +50,12 @@ fn mark(bytes: &[u8]) -> u32 {
 }
 
 fn assert_file(rt: &impl Abort, bytes: &[u8], length: usize, wanted: u32) {
-    same(rt, &"file", &(bytes.len(), mark(bytes)), &(length, wanted));
+    same(rt, "file", (bytes.len(), mark(bytes)), (length, wanted));
 }
 
 fn assert_clients(rt: &impl Abort, files: &Files) {
-    same(rt, &"clients", &files.clients.len(), &CLIENTS.len());
-    for (client, (length, wanted)) in CLIENTS.iter().enumerate() {
-        let script = files.clients.get(client).expect(rt, "the script is there");
+    same(rt, "clients", files.clients.len(), CLIENTS.len());
+    for (script, (length, wanted)) in files.clients.iter().zip(&CLIENTS) {
         assert_file(rt, script, *length, *wanted);
     }
 }
@@ -98,33 +98,23 @@ fn run_999999999(rt: HostRuntime) -> Result<(), Fail> {
     Ok(())
 }
 
-fn assert_member(rt: &impl Abort, read: &Member, made: &Member) {
-    let name = made.script.as_str();
-    same(rt, &name, &read.label.as_bytes(), &made.label.as_bytes());
-    same(rt, &name, &read.script.as_str(), &name);
-    same(rt, &name, &read.donation, &made.donation);
-    same(
-        rt,
-        &name,
-        &(read.layer, read.clicks),
-        &(made.layer, made.clicks),
-    );
+fn assert_same(rt: &impl Abort, read: &Config, made: &Config) {
+    same(rt, "configuration", screen(read), screen(made));
+    for (found, wanted) in read.clients.iter().zip(&made.clients) {
+        same(rt, "client", told(found), told(wanted));
+    }
 }
 
-fn assert_same(rt: &impl Abort, read: &Config, made: &Config) {
-    let own = (read.width, read.height, read.bar, read.clients.len());
-    let wanted = (made.width, made.height, made.bar, made.clients.len());
-    same(rt, &"configuration", &own, &wanted);
-    same(rt, &"input", &read.input.as_str(), &made.input.as_str());
-    for (client, member) in made.clients.iter().enumerate() {
-        let found = read.clients.get(client).expect(rt, "the client is there");
-        assert_member(rt, found, member);
-    }
+/// The screen of this configuration, the script of the user, and how many clients there are.
+fn screen(config: &Config) -> (u32, u32, bool, &str, usize) {
+    let input = config.input.as_str();
+    let clients = config.clients.len();
+    (config.width, config.height, config.bar, input, clients)
 }
 
 fn assert_made(rt: &impl Abort, alloc: Global, read: &Config) -> Result<(), Fail> {
     let made = gen_config(alloc)?;
-    same(rt, &"made", &(made.clients.len(), made.width), &(8, 320));
+    same(rt, "made", (made.clients.len(), made.width), (8, 320));
     assert_same(rt, read, &made);
     Ok(())
 }

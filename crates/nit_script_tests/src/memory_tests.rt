@@ -14,18 +14,26 @@ use std::test::Fail;
 #[test]
 fn journal_with_room(rt: HostRuntime) -> Result<(), Fail> {
     let mut journal = Journal::with_room(rt.alloc(), 1)?;
-    same(&rt, &"empty", &journal.entries().len(), &0);
+    let empty = journal.entries().len();
     journal.append(Entry::Final);
-    same(&rt, &"one", &journal.entries(), &[Entry::Final].as_slice());
+    let entries = journal.entries();
+    same(&rt, "none, one", (empty, entries), (0, &[Entry::Final]));
     Ok(())
 }
 
 #[test]
 fn greatest_of_all(rt: HostRuntime) -> Result<(), Fail> {
-    same(&rt, &"slots", &taken_of_all(rt.alloc())?, &0);
-    same(&rt, &"table", &last_of_none(rt.alloc())?, &None);
-    same(&rt, &"stack", &greatest_size(rt.alloc())?, &(1024, 768));
-    same(&rt, &"empty", &entries_of_none(rt.alloc())?, &0);
+    let taken = taken_of_all(rt.alloc())?;
+    let last = last_of_none(rt.alloc())?;
+    let size = greatest_size(rt.alloc())?;
+    let count = entries_of_none(rt.alloc())?;
+    let found = (taken, last, size, count);
+    same(
+        &rt,
+        "slots, table, stack, empty",
+        found,
+        (0, None, (1024, 768), 0),
+    );
     Ok(())
 }
 
@@ -57,15 +65,16 @@ fn queue_of_events(rt: HostRuntime) -> Result<(), Fail> {
 }
 
 fn assert_queue(rt: &impl Abort, queue: &mut Queue) {
-    same(rt, &"press", &queue.offer(Event::Press(272)), &true);
-    same(rt, &"wheel", &queue.offer(Event::Wheel(-1)), &true);
-    same(rt, &"first", &queue.take(), &Some(Event::Press(272)));
-    same(rt, &"left", &queue.len(), &1);
+    let press = queue.offer(Event::Press(272));
+    let wheel = queue.offer(Event::Wheel(-1));
+    let found = (press, wheel, queue.take(), queue.len());
+    let want = (true, true, Some(Event::Press(272)), 1);
+    same(rt, "press, wheel, first, left", found, want);
 }
 
 #[test]
 fn name_of_a_file(rt: HostRuntime) -> Result<(), Fail> {
     let name = FileName::new(rt.alloc(), b"still")?;
-    same(&rt, &"name", &name.as_str(), &"still");
+    same(&rt, "name", name.as_str(), "still");
     Ok(())
 }

@@ -39,7 +39,7 @@ const CLOSED: Expect = Expect::Reply(Reply::Closed);
 /// A script, its donation, its steps, and the words that it may draw.
 type PlanCase = (&'static str, u32, &'static [Step], &'static [u32]);
 
-const PLANS: [PlanCase; 4] = [
+static PLANS: [PlanCase; 4] = [
     // A painter.
     (
         "buffer 4 2\nfill 0 0 4 2 FF0000\nview\nplace 1 0 0 4 2\nphase\nphase\nphase\n",
@@ -135,7 +135,7 @@ fn plans(rt: HostRuntime) -> Result<(), Fail> {
 /// A script, its donation, the most words that it may have, and the first of those that it leaves.
 type WordsCase = (&'static str, u32, usize, &'static [u32]);
 
-const WORDS: [WordsCase; 3] = [
+static WORDS: [WordsCase; 3] = [
     // The red rectangle.
     (
         "buffer 4 2\nfill 0 0 4 2 FF0000\nview\nplace 1 1 1 4 2\n",
@@ -176,8 +176,7 @@ fn assert_plan(rt: &impl Abort, alloc: Global, case: &PlanCase) -> Result<(), Fa
     let (text, donation, steps, ink) = *case;
     assert!(rt; 256 <= donation && donation <= 8_388_608);
     let plan = planned(alloc, text, donation)?;
-    same(rt, &text, &plan.steps(), &steps);
-    same(rt, &text, &plan.ink(), &ink);
+    same(rt, text, (plan.steps(), plan.ink()), (steps, ink));
     Ok(())
 }
 
@@ -235,6 +234,6 @@ fn assert_words(rt: &impl Abort, alloc: Global, case: &WordsCase) -> Result<(), 
 fn assert_begin(rt: &impl Abort, text: &str, words: &[u32], first: &[u32]) {
     assert!(rt; first.len() <= words.len());
     let (begin, rest) = words.split_at(first.len());
-    same(rt, &text, &begin, &first);
-    same(rt, &text, &rest.iter().all(|word| *word == 0), &true);
+    let blank = rest.iter().all(|word| *word == 0);
+    same(rt, text, (begin, blank), (first, true));
 }

@@ -34,7 +34,7 @@ fn input_again(alloc: Global, text: &str) -> Result<Vec<u8>, Fail> {
 fn assert_clients(rt: &impl Abort, alloc: Global, texts: &[&'static str]) -> Result<(), Fail> {
     for text in texts {
         let again = client_again(alloc, text)?;
-        same(rt, text, &again.as_slice(), &text.as_bytes());
+        same(rt, text, again.as_slice(), text.as_bytes());
     }
     Ok(())
 }
@@ -42,7 +42,7 @@ fn assert_clients(rt: &impl Abort, alloc: Global, texts: &[&'static str]) -> Res
 fn assert_inputs(rt: &impl Abort, alloc: Global, texts: &[&'static str]) -> Result<(), Fail> {
     for text in texts {
         let again = input_again(alloc, text)?;
-        same(rt, text, &again.as_slice(), &text.as_bytes());
+        same(rt, text, again.as_slice(), text.as_bytes());
     }
     Ok(())
 }
@@ -67,7 +67,7 @@ const BAD_INPUTS: [(&str, u32); 7] = [
 fn assert_bad(rt: &impl Abort, alloc: Global, rows: &[(&'static str, u32)]) {
     for (text, line) in rows {
         let answer = parse_input(alloc, text.as_bytes()).err();
-        same(rt, text, &answer, &Some(ScriptError::Bad { line: *line }));
+        same(rt, text, answer, Some(ScriptError::Bad { line: *line }));
     }
 }
 

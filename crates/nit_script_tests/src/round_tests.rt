@@ -9,17 +9,18 @@ use std::test::Fail;
 
 const USER: u32 = 99;
 
-/// The scripts of clients and of the user, and the turns that come: whose line it is, and its
-/// number.
+/// A round: what is special about it, the scripts of clients and of the user, and the turns that
+/// come: whose line it is, and its number.
 type Round = (
+    &'static str,
     &'static [&'static str],
     &'static str,
     &'static [(u32, usize)],
 );
 
-const ROUNDS: [Round; 4] = [
-    // One actor in each phase.
+static ROUNDS: [Round; 4] = [
     (
+        "one actor in each phase",
         &[
             "buffer 4 2\nfill 0 0 4 2 FF0000\nview\nplace 1 0 0 4 2\nphase\nphase\nphase\n",
             "phase\nbuffer 4 2\nfill 0 0 4 2 0000FF\nview\nplace 1 0 0 4 2\nphase\nphase\n\
@@ -48,8 +49,8 @@ const ROUNDS: [Round; 4] = [
             (1, 7),
         ],
     ),
-    // The first to end a phase wait.
     (
+        "the first to end a phase wait",
         &["view\nview\nphase\nview\n", "phase\nview\nview\nview\n"],
         "phase\nmotion 1 1\n",
         &[
@@ -65,14 +66,13 @@ const ROUNDS: [Round; 4] = [
             (1, 3),
         ],
     ),
-    // A last phase without lines.
     (
+        "a last phase without lines",
         &["phase\ntake\n", "view\nphase\n"],
         "phase\n",
         &[(0, 0), (1, 0), (USER, 0), (1, 1), (0, 1)],
     ),
-    // No lines.
-    (&[""], "", &[]),
+    ("no lines", &[""], "", &[]),
 ];
 
 /// The turn of a client's line, or of the user's.
@@ -85,12 +85,11 @@ fn turn(who: u32, line: usize) -> Turn {
 }
 
 /// These turns come, and then none any more.
-fn assert_turns(rt: &impl Abort, turns: &mut Turns, case: usize, want: &[(u32, usize)]) {
+fn assert_turns(rt: &impl Abort, turns: &mut Turns, case: &str, want: &[(u32, usize)]) {
     for (who, line) in want {
-        same(rt, &case, &turns.next(), &Some(turn(*who, *line)));
+        same(rt, case, turns.next(), Some(turn(*who, *line)));
     }
-    same(rt, &case, &turns.next(), &None);
-    same(rt, &case, &turns.next(), &None);
+    same(rt, case, (turns.next(), turns.next()), (None, None));
 }
 
 fn clients(alloc: Global, texts: &[&str]) -> Result<Vec<Client>, ScriptError> {
@@ -101,8 +100,8 @@ fn clients(alloc: Global, texts: &[&str]) -> Result<Vec<Client>, ScriptError> {
     Ok(all)
 }
 
-fn assert_round(rt: &impl Abort, alloc: Global, case: usize, round: &Round) -> Result<(), Fail> {
-    let (scripts, user, want) = *round;
+fn assert_round(rt: &impl Abort, alloc: Global, round: &Round) -> Result<(), Fail> {
+    let (case, scripts, user, want) = *round;
     let clients = clients(alloc, scripts)?;
     assert_round_of(rt, alloc, case, &clients, user, want)
 }
@@ -110,7 +109,7 @@ fn assert_round(rt: &impl Abort, alloc: Global, case: usize, round: &Round) -> R
 fn assert_round_of(
     rt: &impl Abort,
     alloc: Global,
-    case: usize,
+    case: &str,
     clients: &[Client],
     user: &str,
     want: &[(u32, usize)],
@@ -122,8 +121,8 @@ fn assert_round_of(
 }
 
 fn assert_rounds(rt: &impl Abort, alloc: Global, rounds: &[Round]) -> Result<(), Fail> {
-    for (case, round) in rounds.iter().enumerate() {
-        assert_round(rt, alloc, case, round)?;
+    for round in rounds {
+        assert_round(rt, alloc, round)?;
     }
     Ok(())
 }

@@ -68,7 +68,7 @@ const MOVED_TEXT: &str = "input motion 6 1 > 0 leave > 1 motion 6 1\ninput motio
 /// The journal of these entries has this text.
 fn assert_text(rt: &impl Abort, alloc: Global, entries: &[Entry], want: &str) -> Result<(), Fail> {
     let text = journal_text(alloc, entries)?;
-    same(rt, &want, &text.as_slice(), &want.as_bytes());
+    same(rt, want, text.as_slice(), want.as_bytes());
     Ok(())
 }
 
@@ -91,7 +91,7 @@ fn read(rt: &impl Abort, alloc: Global, text: &str) -> Result<Vec<Entry>, Journa
 /// The text of these entries is read as them.
 fn assert_entries(rt: &impl Abort, alloc: Global, text: &str, want: &[Entry]) -> Result<(), Fail> {
     let entries = read(rt, alloc, text)?;
-    same(rt, &text, &entries.as_slice(), &want);
+    same(rt, text, entries.as_slice(), want);
     Ok(())
 }
 
@@ -115,7 +115,7 @@ const BAD: [(&str, u32); 5] = [
 fn assert_bad(rt: &impl Abort, alloc: Global, rows: &[(&'static str, u32)]) {
     for (text, line) in rows {
         let answer = read(rt, alloc, text).err();
-        same(rt, text, &answer, &Some(JournalError::Bad { line: *line }));
+        same(rt, text, answer, Some(JournalError::Bad { line: *line }));
     }
 }
 
@@ -160,6 +160,6 @@ fn assert_events(
         status: Status::Live,
     };
     let text = events_text(alloc, entries, 0, &end)?;
-    same(rt, &"events", &text.as_slice(), &want);
+    same(rt, "events", text.as_slice(), want);
     Ok(())
 }
