@@ -55,7 +55,8 @@ fn assert_file(rt: &impl Abort, bytes: &[u8], length: usize, wanted: u32) {
 
 fn assert_clients(rt: &impl Abort, files: &Files) {
     same(rt, "clients", files.clients.len(), CLIENTS.len());
-    for (script, (length, wanted)) in files.clients.iter().zip(&CLIENTS) {
+    for (client, (length, wanted)) in CLIENTS.iter().enumerate() {
+        let script = files.clients.get(client).expect(rt, "the script is there");
         assert_file(rt, script, *length, *wanted);
     }
 }
@@ -100,8 +101,9 @@ fn run_999999999(rt: HostRuntime) -> Result<(), Fail> {
 
 fn assert_same(rt: &impl Abort, read: &Config, made: &Config) {
     same(rt, "configuration", screen(read), screen(made));
-    for (found, wanted) in read.clients.iter().zip(&made.clients) {
-        same(rt, "client", told(found), told(wanted));
+    for (client, member) in made.clients.iter().enumerate() {
+        let found = read.clients.get(client).expect(rt, "the client is there");
+        same(rt, "client", told(found), told(member));
     }
 }
 
