@@ -5,25 +5,23 @@ ghost use Rattle.nit_damage.specs.Cutter.{FitsStack};
 
 use crate::pictures::picture;
 use crate::same::same;
-use crate::screens::{put_views, rect};
+use crate::screens::{Numbers, put_views, rect};
 use nit_damage::Cutter;
-use nit_rect::NoMemory;
 use nit_stack::Stack;
 use std::alloc::Global;
 use std::process::Abort;
-use std::test::Fail;
 
 /// A screen of 12 by 12. View 0 lies behind, view 1 before it and under the bar, view 2 in front
 /// and beyond the screen's edges.
-fn three_views(rt: &impl Abort, alloc: Global, bar: u32) -> Result<Stack, NoMemory> {
+fn three_views(rt: &impl Abort, alloc: Global, bar: u32) -> Stack {
     assert!(rt; bar == 0 || bar == 7);
-    let back = rect(rt, (0, 8, 8, 3));
-    let middle = rect(rt, (4, 6, 4, 4));
-    let front = rect(rt, (6, 9, 10, 9));
-    let mut stack = Stack::new(alloc, 12, 12, 2, 3)?;
+    let back = rect(rt, [0, 8, 8, 3]);
+    let middle = rect(rt, [4, 6, 4, 4]);
+    let front = rect(rt, [6, 9, 10, 9]);
+    let mut stack = Stack::new(alloc, 12, 12, 2, 3).expect(rt, "memory");
     stack.set_bar(bar);
     put_views(&mut stack, 12, 12, bar, back, middle, front);
-    Ok(stack)
+    stack
 }
 
 /// The bar has no owner.
@@ -115,25 +113,27 @@ const BARE: &str = "____________\
 enum Pixels {
     All,
     /// What the view at this place owns of a rectangle.
-    Owned(u32, (i32, i32, u32, u32)),
+    Owned(u32, Numbers),
     /// The view at this place, which was in a rectangle before.
-    Moved(u32, (i32, i32, u32, u32)),
+    Moved(u32, Numbers),
     /// What of a rectangle no view in front of this place covers.
-    Gone((i32, i32, u32, u32), u32),
+    Gone(Numbers, u32),
     /// What of a rectangle no view covers.
-    Bare((i32, i32, u32, u32)),
+    Bare(Numbers),
 }
 
 use Pixels::{All, Bare, Gone, Moved, Owned};
 
-/// The rows of the bar, what the cutter begins with, and the picture.
-const CASES: [(u32, Pixels, &str); 6] = [
-    (7, All, ALL),
-    (0, All, ALL_WITHOUT_A_BAR),
-    (7, Owned(2, (2, 9, 3, 3)), OWNED),
-    (7, Moved(1, (2, 8, 4, 3)), MOVED),
-    (7, Gone((4, 6, 6, 6), 1), GONE),
-    (7, Bare((4, 6, 6, 6)), BARE),
+/// A name, the rows of the bar, what the cutter begins with, and the picture.
+type Case = (&'static str, u32, Pixels, &'static str);
+
+const CASES: &[Case] = &[
+    ("all", 7, All, ALL),
+    ("all without a bar", 0, All, ALL_WITHOUT_A_BAR),
+    ("owned", 7, Owned(2, [2, 9, 3, 3]), OWNED),
+    ("moved", 7, Moved(1, [2, 8, 4, 3]), MOVED),
+    ("gone", 7, Gone([4, 6, 6, 6], 1), GONE),
+    ("bare", 7, Bare([4, 6, 6, 6]), BARE),
 ];
 
 /// Begins with these pixels of a stack of three views.
@@ -161,19 +161,22 @@ fn begin(rt: &impl Abort, cutter: &mut Cutter, stack: &Stack, begin: Pixels)
 }
 
 /// What was to come before a begin is dropped, and nothing comes behind the picture.
+fn assert_pieces(rt: &impl Abort, alloc: Global, case: &Case) {
+    let (name, bar, how, want) = case;
+    let stack = three_views(rt, alloc, *bar);
+    let mut cutter = Cutter::with_room(alloc, 3).expect(rt, "memory");
+    assert!(rt; stack.len() == 3);
+    cutter.begin_all(&stack);
+    assert!(rt; cutter.next(&stack).is_some());
+    begin(rt, &mut cutter, &stack, *how);
+    let found = picture(rt, &mut cutter, &stack);
+    same(rt, name, &found.as_slice(), &want.as_bytes());
+    assert!(rt; cutter.next(&stack).is_none());
+}
+
 #[test]
-fn pieces(rt: HostRuntime) -> Result<(), Fail> {
-    let alloc = rt.alloc();
-    for (case, (bar, how, want)) in CASES.iter().enumerate() {
-        let stack = three_views(&rt, alloc, *bar)?;
-        let mut cutter = Cutter::with_room(alloc, 3)?;
-        assert!(rt; stack.len() == 3);
-        cutter.begin_all(&stack);
-        assert!(rt; cutter.next(&stack).is_some());
-        begin(&rt, &mut cutter, &stack, *how);
-        let found = picture(&rt, &mut cutter, &stack);
-        same(&rt, &case, &found.as_slice(), &want.as_bytes());
-        assert!(rt; cutter.next(&stack).is_none());
+fn pieces(rt: HostRuntime) {
+    for case in CASES {
+        assert_pieces(&rt, rt.alloc(), case);
     }
-    Ok(())
 }

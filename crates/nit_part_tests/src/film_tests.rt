@@ -1,14 +1,14 @@
 //! Films of pictures, written and played.
 
-ghost use Rattle.std.specs.Prelude.{◌≡◌, IfOk};
+ghost use Rattle.std.specs.Prelude.{◌≡◌};
 ghost use Rattle.nit_capture.specs.Tiles.{IsPictureSize};
 
 use crate::same::same;
+use crate::screens::{Numbers, rect};
 use nit_capture::Capture;
-use nit_rect::{NoMemory, Rect};
+use nit_rect::Rect;
 use std::alloc::Global;
 use std::process::Abort;
-use std::test::Fail;
 
 /// A picture of a screen.
 #[derive(Clone, Copy)]
@@ -92,126 +92,131 @@ const WHITE_257: [u8; 28] = [
 ];
 
 /// A picture as bytes. Only its last bytes count, so the front need not be that of a P6 file.
-fn bytes_of(alloc: Global, picture: Picture, pixels: u32) -> Result<Vec<u8>, NoMemory> {
+fn bytes_of(rt: &impl Abort, alloc: Global, picture: Picture, pixels: u32) -> Vec<u8> {
     let mut bytes = Vec::new(alloc);
-    bytes.extend_from_slice(b"any front")?;
+    bytes.extend_from_slice(b"any front").expect(rt, "memory");
     for k in 0..pixels {
-        let word = word(picture, k);
-        let channels = [
-            (word / 0x10000 % 0x100) as u8,
-            (word / 0x100 % 0x100) as u8,
-            (word % 0x100) as u8,
-        ];
-        bytes.extend_from_slice(&channels)?;
+        let [_, red, green, blue] = word(picture, k).to_be_bytes();
+        bytes
+            .extend_from_slice(&[red, green, blue])
+            .expect(rt, "memory");
     }
-    Ok(bytes)
+    bytes
 }
 
-/// A capture of a rectangle of a screen.
-fn capture(
-    alloc: Global,
-    width: u32,
-    height: u32,
-    numbers: (i32, i32, u32, u32),
-) -> Result<Capture, Fail>
+/// A capture of a part of a screen.
+fn capture(rt: &impl Abort, alloc: Global, width: u32, height: u32, part: Rect) -> Capture
     requires { IsPictureSize width height }
-    ensures { IfOk result (λ c. (c.width ≡ width) × (c.height ≡ height)) }
+    ensures { (result.width ≡ width) × (result.height ≡ height) }
 {
-    let (x, y, w, h) = numbers;
-    let Some(rect) = Rect::new(x, y, w, h) else {
-        return Err(Fail::from("no rectangle"));
-    };
-    let Some(screen) = Rect::new(0, 0, width, height) else {
-        return Err(Fail::from("no screen"));
-    };
-    if rect.w() == 0 || rect.h() == 0 || !rect.inside(&screen) {
-        return Err(Fail::from("not on the screen"));
-    }
-    Ok(Capture::new(alloc, width, height, rect)?)
+    let screen = Rect::new(0, 0, width, height).expect(rt, "in range");
+    assert!(rt; part.w() != 0 && part.h() != 0 && part.inside(&screen));
+    Capture::new(alloc, width, height, part).expect(rt, "memory")
 }
 
 /// What stands in front of the records of a film.
 fn header(w: u32, h: u32) -> [u8; 8] {
-    [
-        b'N',
-        b'C',
-        b'A',
-        b'P',
-        (w % 256) as u8,
-        (w / 256 % 256) as u8,
-        (h % 256) as u8,
-        (h / 256 % 256) as u8,
-    ]
-}
-
-/// Takes one picture of a screen of this size.
-fn take(
-    alloc: Global,
-    capture: &mut Capture,
-    width: u32,
-    height: u32,
-    picture: Picture,
-    out: &mut Vec<u8>,
-) -> Result<(), Fail>
-    requires size { IsPictureSize width height }
-    requires screen { (capture.old.width ≡ width) × (capture.old.height ≡ height) }
-    ensures { (capture.new.width ≡ width) × (capture.new.height ≡ height) }
-{
-    let bytes = bytes_of(alloc, picture, width * height)?;
-    if bytes.len() < 3 * (width * height) as usize {
-        return Err(Fail::from("too few bytes"));
-    }
-    Ok(capture.picture(&bytes, out)?)
+    let [w0, w1, ..] = w.to_le_bytes();
+    let [h0, h1, ..] = h.to_le_bytes();
+    [b'N', b'C', b'A', b'P', w0, w1, h0, h1]
 }
 
 /// The stream of a film of pictures.
 fn film(
+    rt: &impl Abort,
     alloc: Global,
     width: u32,
     height: u32,
-    rect: (i32, i32, u32, u32),
+    part: Numbers,
     pictures: &[Picture],
-) -> Result<Vec<u8>, Fail>
+) -> Vec<u8>
     requires { IsPictureSize width height }
 {
-    let mut capture = capture(alloc, width, height, rect)?;
+    let part = rect(rt, part);
+    let mut capture = capture(rt, alloc, width, height, part);
     let mut out = Vec::new(alloc);
-    out.extend_from_slice(&header(rect.2, rect.3))?;
+    out.extend_from_slice(&header(part.w(), part.h()))
+        .expect(rt, "memory");
     for picture in pictures {
-        take(alloc, &mut capture, width, height, *picture, &mut out)?;
+        let bytes = bytes_of(rt, alloc, *picture, width * height);
+        assert!(rt; 3 * (width * height) as usize <= bytes.len());
+        capture.picture(&bytes, &mut out).expect(rt, "memory");
     }
-    out.push(0)?;
-    Ok(out)
+    out.push(0).expect(rt, "memory");
+    out
 }
 
 /// The sides of a screen, the part that is filmed, its pictures, and the film.
-type Film = (
-    u32,
-    u32,
-    (i32, i32, u32, u32),
-    &'static [Picture],
-    &'static [u8],
-);
+struct Filmed {
+    name: &'static str,
+    width: u32,
+    height: u32,
+    part: Numbers,
+    pictures: &'static [Picture],
+    bytes: &'static [u8],
+}
 
-const FILMS: [Film; 6] = [
-    (8, 4, (0, 0, 4, 2), &TWO, &LEFT),
-    (8, 4, (4, 0, 4, 2), &TWO, &RIGHT),
-    (20, 18, (0, 0, 20, 18), &CUT_OFF, &CUT),
-    (16, 17, (0, 0, 16, 17), &[Picture::White(255)], &WHITE_255),
-    (16, 17, (0, 0, 16, 17), &[Picture::White(256)], &WHITE_256),
-    (16, 17, (0, 0, 16, 17), &[Picture::White(257)], &WHITE_257),
+const FILMS: &[Filmed] = &[
+    Filmed {
+        name: "left",
+        width: 8,
+        height: 4,
+        part: [0, 0, 4, 2],
+        pictures: &TWO,
+        bytes: &LEFT,
+    },
+    Filmed {
+        name: "right",
+        width: 8,
+        height: 4,
+        part: [4, 0, 4, 2],
+        pictures: &TWO,
+        bytes: &RIGHT,
+    },
+    Filmed {
+        name: "tiles that are cut off",
+        width: 20,
+        height: 18,
+        part: [0, 0, 20, 18],
+        pictures: &CUT_OFF,
+        bytes: &CUT,
+    },
+    Filmed {
+        name: "255 white pixels",
+        width: 16,
+        height: 17,
+        part: [0, 0, 16, 17],
+        pictures: &[Picture::White(255)],
+        bytes: &WHITE_255,
+    },
+    Filmed {
+        name: "256 white pixels",
+        width: 16,
+        height: 17,
+        part: [0, 0, 16, 17],
+        pictures: &[Picture::White(256)],
+        bytes: &WHITE_256,
+    },
+    Filmed {
+        name: "257 white pixels",
+        width: 16,
+        height: 17,
+        part: [0, 0, 16, 17],
+        pictures: &[Picture::White(257)],
+        bytes: &WHITE_257,
+    },
 ];
 
-fn assert_films(rt: &impl Abort, alloc: Global, films: &[Film]) -> Result<(), Fail> {
-    for (case, (width, height, rect, pictures, want)) in films.iter().enumerate() {
-        assert!(rt; 1 <= *width && *width <= 1024 && 1 <= *height && *height <= 768);
-        let out = film(alloc, *width, *height, *rect, pictures)?;
-        same(rt, &case, &out.as_slice(), want);
-    }
-    Ok(())
+fn assert_film(rt: &impl Abort, alloc: Global, of: &Filmed) {
+    let (w, h) = (of.width, of.height);
+    assert!(rt; 1 <= w && w <= 1024 && 1 <= h && h <= 768);
+    let found = film(rt, alloc, w, h, of.part, of.pictures);
+    same(rt, of.name, &found.as_slice(), &of.bytes);
 }
 
 #[test]
-fn films(rt: HostRuntime) -> Result<(), Fail> {
-    assert_films(&rt, rt.alloc(), &FILMS)
+fn films(rt: HostRuntime) {
+    for of in FILMS {
+        assert_film(&rt, rt.alloc(), of);
+    }
 }

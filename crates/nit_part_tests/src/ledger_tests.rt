@@ -2,11 +2,10 @@
 
 use nit_events::{Call, Entry, Reply};
 use nit_ledger::Book;
-use std::test::Fail;
 
 #[test]
-fn two_shares_append_count_and_meet(rt: HostRuntime) -> Result<(), Fail> {
-    let mut book = Book::new(rt.alloc())?;
+fn two_shares_append_count_and_meet(rt: HostRuntime) {
+    let mut book = Book::new(rt.alloc()).expect(&rt, "memory");
     let mut first = book.share();
     let mut second = book.share();
     let viewed = Entry::Call {
@@ -26,7 +25,6 @@ fn two_shares_append_count_and_meet(rt: HostRuntime) -> Result<(), Fail> {
     book.meet(&mut second);
     can_be_sent(&first);
     can_be_sent(&book);
-    Ok(())
 }
 
 /// Compiles for what can be sent to another thread.

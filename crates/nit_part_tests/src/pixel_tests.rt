@@ -5,7 +5,6 @@ ghost use Rattle.nit_pixels.specs.Inks.{IsInked};
 use crate::same::same;
 use nit_pixels::{Canvas, Lens, PixelBuffer};
 use nit_word::Glass;
-use std::test::Fail;
 use std::thread::join;
 
 const RED: u32 = 0xFF0000;
@@ -13,26 +12,24 @@ const RED: u32 = 0xFF0000;
 const TIMES: u32 = 100_000;
 
 #[test]
-fn both_ends_see_what_was_stored(rt: HostRuntime) -> Result<(), Fail> {
-    let (buffer, key) = PixelBuffer::new(rt.alloc(), 0, 4, &[RED])?;
+fn both_ends_see_what_was_stored(rt: HostRuntime) {
+    let (buffer, key) = PixelBuffer::new(rt.alloc(), 0, 4, &[RED]).expect(&rt, "memory");
     let mut canvas = buffer.canvas(key);
     let mut lens = canvas.split();
     canvas.store(1, RED);
-    same(&rt, &0, &(lens.load(0), canvas.load(0)), &(0, 0));
-    same(&rt, &1, &(lens.load(1), canvas.load(1)), &(RED, RED));
+    let stored = [lens.load(0), canvas.load(0), lens.load(1), canvas.load(1)];
     canvas.store(1, 0);
-    same(&rt, &1, &lens.load(1), &0);
-    Ok(())
+    same(&rt, "words 0 and 1", &stored, &[0, 0, RED, RED]);
+    same(&rt, "word 1", &lens.load(1), &0);
 }
 
 #[test]
-fn a_reader_beside_the_owner_sees_a_stored_word_or_0(rt: HostRuntime) -> Result<(), Fail> {
-    let (buffer, key) = PixelBuffer::new(rt.alloc(), 0, 4, &[RED])?;
+fn a_reader_beside_the_owner_sees_a_stored_word_or_0(rt: HostRuntime) {
+    let (buffer, key) = PixelBuffer::new(rt.alloc(), 0, 4, &[RED]).expect(&rt, "memory");
     let mut canvas = buffer.canvas(key);
     let lens = canvas.split();
     let (fine, ()) = join(&rt, move || watch(lens), move || flicker(canvas));
     assert!(rt; fine);
-    Ok(())
 }
 
 /// Stores red and 0 at word 0 in turn.

@@ -3,24 +3,27 @@
 use crate::same::same;
 use nit_events::{Event, Queue};
 use std::process::Abort;
-use std::test::Fail;
 
-fn assert_full(rt: &impl Abort, queue: &mut Queue) {
-    for code in 0..64 {
-        assert!(rt; queue.offer(Event::Press(code)), "at {code}");
+/// The first 64 events find room, and the next one is refused.
+fn assert_filled(rt: &impl Abort, queue: &mut Queue) {
+    for code in 0..65 {
+        let has_room = queue.offer(Event::Press(code));
+        same(rt, "room", &(code, has_room), &(code, code < 64));
     }
-    same(rt, &"length", &queue.len(), &64);
-    assert!(rt; !queue.offer(Event::Press(64)));
-    for code in 0..64 {
-        same(rt, &code, &queue.take(), &Some(Event::Press(code)));
-    }
-    same(rt, &"empty", &queue.take(), &None);
 }
 
-/// The 65th event is refused, and the others come in their order.
+/// The events come in their order.
+fn assert_emptied(rt: &impl Abort, queue: &mut Queue) {
+    for code in 0..64 {
+        same(rt, "order", &queue.take(), &Some(Event::Press(code)));
+    }
+}
+
 #[test]
-fn full_queue(rt: HostRuntime) -> Result<(), Fail> {
-    let mut queue = Queue::new(rt.alloc())?;
-    assert_full(&rt, &mut queue);
-    Ok(())
+fn full_queue(rt: HostRuntime) {
+    let mut queue = Queue::new(rt.alloc()).expect(&rt, "memory");
+    assert_filled(&rt, &mut queue);
+    same(&rt, "length", &queue.len(), &64);
+    assert_emptied(&rt, &mut queue);
+    same(&rt, "empty", &queue.take(), &None);
 }

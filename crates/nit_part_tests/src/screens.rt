@@ -7,10 +7,14 @@ use nit_rect::Rect;
 use nit_stack::{Stack, ViewRef};
 use std::process::Abort;
 
-/// A rectangle: its column, its row, its width and its height.
-pub fn rect(rt: &impl Abort, numbers: (i32, i32, u32, u32)) -> Rect {
-    let (x, y, w, h) = numbers;
-    Rect::new(x, y, w, h).expect(rt, "in range")
+/// The column, the row, the width and the height of a rectangle.
+pub type Numbers = [i32; 4];
+
+/// The rectangle of these numbers.
+pub fn rect(rt: &impl Abort, numbers: Numbers) -> Rect {
+    let [x, y, w, h] = numbers;
+    assert!(rt; 0 <= w && 0 <= h);
+    Rect::new(x, y, w as u32, h as u32).expect(rt, "in range")
 }
 
 /// Puts a view at the back, and two views of another session in front of it.

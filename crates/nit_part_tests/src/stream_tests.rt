@@ -3,15 +3,13 @@
 //! What each of them plays was worked out by a reader and a writer that stand apart from this
 //! repository.
 
-ghost use Rattle.std.specs.Prelude.{IfOk};
 ghost use Rattle.nit_capture.specs.Tiles.{IsPictureSize, IsPicture};
 
 use crate::film_tests::{CUT, LEFT, RIGHT};
 use crate::same::same;
 use nit_capture::{Played, Player};
-use nit_rect::NoMemory;
 use std::alloc::Global;
-use std::test::Fail;
+use std::process::Abort;
 
 /// What bytes play to their end.
 #[derive(Clone, Copy, PartialEq, Eq)]
@@ -212,12 +210,21 @@ const CHANGED_CUT: [Change; 71] = [
     (58, 1, 255, Bad(2)),
 ];
 
+/// A stream, and what its fronts and its changes play.
+#[derive(Clone, Copy)]
+struct Stream {
+    name: &'static str,
+    bytes: &'static [u8],
+    fronts: &'static [Front],
+    changes: &'static [Change],
+}
+
 /// A black picture.
-pub fn black(alloc: Global, w: u32, h: u32) -> Result<Vec<u32>, NoMemory>
+pub fn black(rt: &impl Abort, alloc: Global, w: u32, h: u32) -> Vec<u32>
     requires { IsPictureSize w h }
-    ensures { IfOk result (λ v. IsPicture w h v.items) }
+    ensures { IsPicture w h result.items }
 {
-    Ok(vec![in alloc; 0; (w * h) as usize]?)
+    vec![in alloc; 0; (w * h) as usize].expect(rt, "memory")
 }
 
 /// Plays to the end, and at most 100 pictures.
@@ -235,13 +242,13 @@ fn play(player: &mut Player<'_>, frame: &mut [u32]) -> Course
 }
 
 /// What bytes play.
-fn played(alloc: Global, bytes: &[u8]) -> Result<Course, NoMemory> {
+fn played(rt: &impl Abort, alloc: Global, bytes: &[u8]) -> Course {
     let Some(mut player) = Player::new(bytes) else {
-        return Ok(NoFilm);
+        return NoFilm;
     };
     let (width, height) = player.size();
-    let mut frame = black(alloc, width, height)?;
-    Ok(play(&mut player, &mut frame))
+    let mut frame = black(rt, alloc, width, height);
+    play(&mut player, &mut frame)
 }
 
 /// What a front of so many bytes is to play.
@@ -265,83 +272,72 @@ fn of_change(rows: &[Change], at: usize, byte: u8) -> Option<Course> {
 }
 
 /// The least length of a front that does not play what the rows say.
-fn wrong_front(alloc: Global, stream: &[u8], rows: &[Front]) -> Result<Option<usize>, NoMemory> {
-    for length in 0..=stream.len() {
-        let now = played(alloc, &stream[..length])?;
-        if of_front(rows, length) != Some(now) {
-            return Ok(Some(length));
+fn wrong_front(rt: &impl Abort, alloc: Global, of: &Stream) -> Option<usize> {
+    for length in 0..=of.bytes.len() {
+        let now = played(rt, alloc, &of.bytes[..length]);
+        if of_front(of.fronts, length) != Some(now) {
+            return Some(length);
         }
     }
-    Ok(None)
+    None
 }
 
 /// The least byte that, in this place of a copy, does not play what the rows say.
 fn wrong_byte(
+    rt: &impl Abort,
     alloc: Global,
-    bytes: &mut [u8],
-    stream: &[u8],
-    rows: &[Change],
+    of: &Stream,
+    copy: &mut [u8],
     at: usize,
-) -> Result<Option<u8>, NoMemory> {
+) -> Option<u8> {
     for byte in 0..=255 {
-        let Some(place) = bytes.get_mut(at) else {
-            return Ok(Some(byte));
-        };
-        *place = byte;
-        let now = played(alloc, bytes)?;
-        if stream.get(at) != Some(&byte) && of_change(rows, at, byte) != Some(now) {
-            return Ok(Some(byte));
+        assert!(rt; at < copy.len() && at < of.bytes.len());
+        copy[at] = byte;
+        let now = played(rt, alloc, copy);
+        if byte != of.bytes[at] && of_change(of.changes, at, byte) != Some(now) {
+            return Some(byte);
         }
     }
-    Ok(None)
-}
-
-fn wrong_in_copy(
-    alloc: Global,
-    stream: &[u8],
-    rows: &[Change],
-    at: usize,
-) -> Result<Option<u8>, NoMemory> {
-    let mut bytes = stream.to_vec(alloc)?;
-    wrong_byte(alloc, &mut bytes, stream, rows, at)
+    None
 }
 
 /// The first place with such a byte, and the byte.
-fn wrong_change(
-    alloc: Global,
-    stream: &[u8],
-    rows: &[Change],
-) -> Result<Option<(usize, u8)>, NoMemory> {
-    for at in 0..stream.len() {
-        if let Some(byte) = wrong_in_copy(alloc, stream, rows, at)? {
-            return Ok(Some((at, byte)));
+fn wrong_change(rt: &impl Abort, alloc: Global, of: &Stream) -> Option<(usize, u8)> {
+    for at in 0..of.bytes.len() {
+        let mut copy = of.bytes.to_vec(alloc).expect(rt, "memory");
+        if let Some(byte) = wrong_byte(rt, alloc, of, &mut copy, at) {
+            return Some((at, byte));
         }
     }
-    Ok(None)
+    None
+}
+
+fn assert_stream(rt: &impl Abort, alloc: Global, of: &Stream) {
+    same(rt, of.name, &wrong_front(rt, alloc, of), &None);
+    same(rt, of.name, &wrong_change(rt, alloc, of), &None);
 }
 
 #[test]
-fn fronts(rt: HostRuntime) -> Result<(), Fail> {
-    let streams: [(&[u8], &[Front]); 3] = [
-        (&LEFT, &FRONTS_LEFT),
-        (&RIGHT, &FRONTS_RIGHT),
-        (&CUT, &FRONTS_CUT),
-    ];
-    for (case, (stream, rows)) in streams.iter().enumerate() {
-        same(&rt, &case, &wrong_front(rt.alloc(), stream, rows)?, &None);
-    }
-    Ok(())
-}
-
-#[test]
-fn changes(rt: HostRuntime) -> Result<(), Fail> {
-    let streams: [(&[u8], &[Change]); 3] = [
-        (&LEFT, &CHANGED_LEFT),
-        (&RIGHT, &CHANGED_RIGHT),
-        (&CUT, &CHANGED_CUT),
-    ];
-    for (case, (stream, rows)) in streams.iter().enumerate() {
-        same(&rt, &case, &wrong_change(rt.alloc(), stream, rows)?, &None);
-    }
-    Ok(())
+fn streams(rt: HostRuntime) {
+    let left = Stream {
+        name: "left",
+        bytes: &LEFT,
+        fronts: &FRONTS_LEFT,
+        changes: &CHANGED_LEFT,
+    };
+    assert_stream(&rt, rt.alloc(), &left);
+    let right = Stream {
+        name: "right",
+        bytes: &RIGHT,
+        fronts: &FRONTS_RIGHT,
+        changes: &CHANGED_RIGHT,
+    };
+    assert_stream(&rt, rt.alloc(), &right);
+    let cut = Stream {
+        name: "tiles that are cut off",
+        bytes: &CUT,
+        fronts: &FRONTS_CUT,
+        changes: &CHANGED_CUT,
+    };
+    assert_stream(&rt, rt.alloc(), &cut);
 }

@@ -2,10 +2,9 @@
 
 use crate::same::same;
 use nit_glyph::{Label, Title, label_text};
-use std::test::Fail;
 
 /// Texts, and whether they are titles.
-const TITLES: [(&str, bool); 11] = [
+const TITLES: &[(&str, bool)] = &[
     ("", true),
     ("log 2", true),
     ("abcdefghijkl", true),
@@ -20,7 +19,7 @@ const TITLES: [(&str, bool); 11] = [
 ];
 
 /// Texts, and whether they are labels.
-const LABELS: [(&str, bool); 9] = [
+const LABELS: &[(&str, bool)] = &[
     ("a", true),
     ("terminal", true),
     ("abcdefghijklmnopqrst", true),
@@ -34,20 +33,20 @@ const LABELS: [(&str, bool); 9] = [
 
 #[test]
 fn titles(rt: HostRuntime) {
-    for (text, want) in &TITLES {
+    for (text, want) in TITLES {
         same(&rt, text, &Title::new(text.as_bytes()).is_some(), want);
     }
 }
 
 #[test]
 fn labels(rt: HostRuntime) {
-    for (text, want) in &LABELS {
+    for (text, want) in LABELS {
         same(&rt, text, &Label::new(text.as_bytes()).is_some(), want);
     }
 }
 
 /// Labels and titles, and the text of a view that has both.
-const VIEWS: [(&str, &str, &str); 3] = [
+const VIEWS: &[(&str, &str, &str)] = &[
     ("terminal", "tab 1", "terminal:tab 1"),
     ("b", "", "b"),
     (
@@ -58,16 +57,11 @@ const VIEWS: [(&str, &str, &str); 3] = [
 ];
 
 #[test]
-fn texts_of_views(rt: HostRuntime) -> Result<(), Fail> {
-    for (label, title, want) in &VIEWS {
-        let label = Label::new(label.as_bytes()).ok_or("no label")?;
-        let title = Title::new(title.as_bytes()).ok_or("no title")?;
-        same(
-            &rt,
-            want,
-            &label_text(&label, &title).as_bytes(),
-            &want.as_bytes(),
-        );
+fn texts_of_views(rt: HostRuntime) {
+    for (label, title, want) in VIEWS {
+        let label = Label::new(label.as_bytes()).expect(&rt, "a label");
+        let title = Title::new(title.as_bytes()).expect(&rt, "a title");
+        let text = label_text(&label, &title);
+        same(&rt, want, &text.as_bytes(), &want.as_bytes());
     }
-    Ok(())
 }
