@@ -1,16 +1,11 @@
 //! Texts of a run, and what the audit says of them.
 
-ghost use Rattle.std.specs.Prelude.{◌≡◌, ◌≤◌, IfOk, length};
-ghost use Rattle.nit_events.specs.Ranges.{most_read};
-ghost use Rattle.nit_config.specs.ConfigurationRanges.{IsConfiguration};
-
 use nit_audit::{Verdict, audit};
-use nit_config::{Config, read_config};
-use nit_events::Entry;
+use nit_config::read_config;
 use nit_report::parse_journal;
-use nit_script::{Client, ScriptError, parse_client, parse_input};
-use std::alloc::{AllocError, Global};
-use std::test::Fail;
+use nit_script::{Client, parse_client, parse_input};
+use std::alloc::Global;
+use std::process::Abort;
 
 /// The most bytes of a journal.
 const MOST: usize = 134_217_728;
@@ -23,6 +18,7 @@ const CONFIG: &[u8] = b"[screen]\nwidth = 8\nheight = 4\n\n[input]\nscript = \"i
 /// The scripts of two clients and of the user, and the lines of the journal of their run.
 #[derive(Clone, Copy)]
 pub struct Run {
+    pub name: &'static str,
     pub first: &'static [u8],
     pub second: &'static [u8],
     pub user: &'static [u8],
@@ -32,15 +28,15 @@ pub struct Run {
 /// How a journal differs from that of a run. Lines have numbers from 1.
 #[derive(Clone, Copy)]
 pub enum Edit {
-    Nothing,
-    /// This line is taken out.
+    /// This line says something else.
+    Says(usize, &'static str),
+    /// It is taken out.
     Out(usize),
     /// It is doubled.
     Twice(usize),
     /// It and the next one change places.
     Swapped(usize),
-    /// It says something else.
-    Says(usize, &'static str),
+    Nothing,
 }
 
 use Edit::{Out, Says, Swapped, Twice};
@@ -72,74 +68,43 @@ impl Edit {
 
 /// Puts a line of a run's journal with an edit behind a text, as often as it stands there.
 fn put_line(
+    rt: &impl Abort,
     text: &mut Vec<u8>,
     lines: &[&'static str],
     edit: Edit,
     number: usize,
-) -> Result<(), AllocError> {
+) {
+    let line = edit.line(lines, number).as_bytes();
     for _time in 0..edit.times(number) {
-        text.extend_from_slice(edit.line(lines, number).as_bytes())?;
-        text.push(b'\n')?;
+        text.extend_from_slice(line).expect(rt, "memory");
+        text.push(b'\n').expect(rt, "memory");
     }
-    Ok(())
 }
 
 /// The text of a run's journal with an edit.
-fn text_of(alloc: Global, lines: &[&'static str], edit: Edit) -> Result<Vec<u8>, AllocError> {
+fn text_of(rt: &impl Abort, alloc: Global, lines: &[&'static str], edit: Edit) -> Vec<u8> {
     let mut text = Vec::new(alloc);
     for number in 1..=lines.len() {
-        put_line(&mut text, lines, edit, number)?;
+        put_line(rt, &mut text, lines, edit, number);
     }
-    Ok(text)
-}
-
-/// The entries of a run's journal with an edit.
-fn entries_of(alloc: Global, run: &Run, edit: Edit) -> Result<Vec<Entry>, Fail>
-    ensures { IfOk result (λ v. length v.items ≤ most_read) }
-{
-    let text = text_of(alloc, run.lines, edit)?;
-    if text.len() > MOST {
-        return Err(Fail::from("too long"));
-    }
-    Ok(parse_journal(alloc, &text)?)
+    text
 }
 
 /// The scripts of a run's clients.
-fn scripts_of(alloc: Global, run: &Run) -> Result<[Client; 2], ScriptError> {
-    let first = parse_client(alloc, run.first)?;
-    let second = parse_client(alloc, run.second)?;
-    Ok([first, second])
+fn scripts_of(rt: &impl Abort, alloc: Global, run: &Run) -> [Client; 2] {
+    let first = parse_client(alloc, run.first).expect(rt, "a script");
+    let second = parse_client(alloc, run.second).expect(rt, "a script");
+    [first, second]
 }
 
 /// The verdict on the journal of a run with an edit.
-pub fn judged(alloc: Global, run: &Run, edit: Edit) -> Result<Verdict, Fail> {
-    let config = read_config(alloc, CONFIG)?;
-    judged_with(alloc, &config, run, edit)
-}
-
-/// The same by a configuration, which is to have two clients.
-fn judged_with(alloc: Global, config: &Config, run: &Run, edit: Edit) -> Result<Verdict, Fail>
-    requires { IsConfiguration config.now }
-{
-    if config.clients.len() != 2 {
-        return Err(Fail::from("not two clients"));
-    }
-    let scripts = scripts_of(alloc, run)?;
-    judged_by(alloc, config, &scripts, run, edit)
-}
-
-/// The same by a configuration and the scripts of its clients.
-fn judged_by(
-    alloc: Global,
-    config: &Config,
-    scripts: &[Client],
-    run: &Run,
-    edit: Edit,
-) -> Result<Verdict, Fail>
-    requires configured { IsConfiguration config.now }
-    requires each { length scripts.now ≡ length config.now.clients }
-{
-    let input = parse_input(alloc, run.user)?;
-    let entries = entries_of(alloc, run, edit)?;
-    Ok(audit(alloc, config, scripts, &input, &entries)?)
+pub fn judged(rt: &impl Abort, alloc: Global, run: &Run, edit: Edit) -> Verdict {
+    let config = read_config(alloc, CONFIG).expect(rt, "a configuration");
+    assert!(rt; config.clients.len() == 2);
+    let scripts = scripts_of(rt, alloc, run);
+    let input = parse_input(alloc, run.user).expect(rt, "a script");
+    let text = text_of(rt, alloc, run.lines, edit);
+    assert!(rt; text.len() <= MOST);
+    let entries = parse_journal(alloc, &text).expect(rt, "a journal");
+    audit(alloc, &config, &scripts, &input, &entries).expect(rt, "memory")
 }

@@ -6,10 +6,10 @@ use crate::same::same;
 use nit_audit::Verdict;
 use std::alloc::Global;
 use std::process::Abort;
-use std::test::Fail;
 
 /// Two clients, of which one moves its view between a shot and the last picture.
 const TWO: Run = Run {
+    name: "two",
     first: b"buffer 4 2\nfill 0 0 4 2 FF0000\nview\nplace 1 0 0 4 2\nphase\nphase\nphase\n",
     second: b"phase\nbuffer 4 2\nfill 0 0 4 2 0000FF\nview\nplace 1 0 0 4 2\nphase\nphase\n\
               place 1 4 2 4 2\n",
@@ -29,6 +29,7 @@ const TWO: Run = Run {
 
 /// A click, the secure key, and a second click that locks a client out.
 const KILL: Run = Run {
+    name: "kill",
     first: b"buffer 4 4\nview\nplace 1 0 0 4 4\nphase\nphase\ntake\nview\nclose\n",
     second: b"buffer 4 4\nview\nplace 1 4 0 4 4\nphase\nphase\ntake\n",
     user: b"phase\nmotion 1 1\npress 272\nrelease 272\npress 99\npress 272\nrelease 272\nphase\n",
@@ -55,6 +56,7 @@ const KILL: Run = Run {
 
 /// Views that move, change and go, and an event that is taken.
 const VIEWS: Run = Run {
+    name: "views",
     first: b"view\nview\nview\nplace 1 0 0 4 4\nplace 2 0 0 4 4\nplace 3 0 0 2 2\n\
              back 3\nabove 1 2\nfront 3\ndestroy 3\noffset 1 1 1\ntitle 1 =log\n\
              phase\nphase\ntake\n",
@@ -82,20 +84,6 @@ const VIEWS: Run = Run {
         "final",
     ],
 };
-
-/// The verdict on the journal of a run with an edit is this one.
-fn assert_judged(
-    rt: &impl Abort,
-    alloc: Global,
-    row: usize,
-    run: &Run,
-    edit: Edit,
-    want: &Verdict,
-) -> Result<(), Fail> {
-    let found = judged(alloc, run, edit)?;
-    same(rt, &(run.lines.len(), row), &found, want);
-    Ok(())
-}
 
 /// Changes of the journal of two clients, and the entry that is named.
 const CHANGED_TWO: &[(Edit, u32)] = &[
@@ -182,48 +170,49 @@ const CHANGED_VIEWS: &[(Edit, u32)] = &[
 ];
 
 /// A run, and the changes of its journal.
-type Changed = (Run, &'static [(Edit, u32)]);
+struct Changed {
+    run: Run,
+    changes: &'static [(Edit, u32)],
+}
 
-const CHANGED: [Changed; 3] = [
-    (TWO, CHANGED_TWO),
-    (KILL, CHANGED_KILL),
-    (VIEWS, CHANGED_VIEWS),
+const CHANGED: &[Changed] = &[
+    Changed {
+        run: TWO,
+        changes: CHANGED_TWO,
+    },
+    Changed {
+        run: KILL,
+        changes: CHANGED_KILL,
+    },
+    Changed {
+        run: VIEWS,
+        changes: CHANGED_VIEWS,
+    },
 ];
 
-fn assert_runs(rt: &impl Abort, alloc: Global, rows: &[Changed]) -> Result<(), Fail> {
-    for (run, _) in rows {
-        assert_judged(rt, alloc, 0, run, Nothing, &Verdict::Yes)?;
-    }
-    Ok(())
-}
-
 /// The journal of a run is one of it.
-#[test]
-fn the_runs_themselves(rt: HostRuntime) -> Result<(), Fail> {
-    assert_runs(&rt, rt.alloc(), &CHANGED)
+fn assert_unchanged(rt: &impl Abort, alloc: Global, run: &Run) {
+    same(
+        rt,
+        run.name,
+        &judged(rt, alloc, run, Nothing),
+        &Verdict::Yes,
+    );
 }
 
-/// Each change of a run's journal names its entry.
-fn assert_changes(
-    rt: &impl Abort,
-    alloc: Global,
-    run: &Run,
-    changes: &[(Edit, u32)],
-) -> Result<(), Fail> {
+/// Each change of the journal of a run names its entry. A change is told by its row.
+fn assert_changes(rt: &impl Abort, alloc: Global, run: &Run, changes: &[(Edit, u32)]) {
     for (row, (edit, entry)) in changes.iter().enumerate() {
-        assert_judged(rt, alloc, row, run, *edit, &Verdict::No { entry: *entry })?;
+        let found = judged(rt, alloc, run, *edit);
+        let want = Verdict::No { entry: *entry };
+        same(rt, run.name, &(row, found), &(row, want));
     }
-    Ok(())
-}
-
-fn assert_all_changes(rt: &impl Abort, alloc: Global, rows: &[Changed]) -> Result<(), Fail> {
-    for (run, changes) in rows {
-        assert_changes(rt, alloc, run, changes)?;
-    }
-    Ok(())
 }
 
 #[test]
-fn changed_journals(rt: HostRuntime) -> Result<(), Fail> {
-    assert_all_changes(&rt, rt.alloc(), &CHANGED)
+fn journals(rt: HostRuntime) {
+    for of in CHANGED {
+        assert_unchanged(&rt, rt.alloc(), &of.run);
+        assert_changes(&rt, rt.alloc(), &of.run, of.changes);
+    }
 }
