@@ -85,8 +85,8 @@ const VIEWS: Run = Run {
     ],
 };
 
-/// Changes of the journal of two clients, and the entry that is named.
-const CHANGED_TWO: &[(Edit, u32)] = &[
+/// Changes of the lines of the journal of two clients, and the entry that is named.
+const MOVED_TWO: &[(Edit, u32)] = &[
     // The next line of the same script is the bad one, or the last picture where there is none.
     // Where the last picture is taken out, it is the place behind all.
     (Out(1), 1),
@@ -118,7 +118,10 @@ const CHANGED_TWO: &[(Edit, u32)] = &[
     (Swapped(6), 7),
     (Swapped(7), 8),
     (Swapped(8), 8),
-    // A line says something else.
+];
+
+/// Changes of one of its lines, which says something else.
+const SAID_TWO: &[(Edit, u32)] = &[
     (Says(1, "call 0 killed < buffer 4 2"), 1),
     (Says(1, "call 0 done < buffer 2 4"), 1),
     (Says(1, "call 1 done < buffer 4 2"), 2),
@@ -136,7 +139,7 @@ const CHANGED_TWO: &[(Edit, u32)] = &[
 ];
 
 /// The same of the run in which a client is locked out: a delivery or a reply is another.
-const CHANGED_KILL: &[(Edit, u32)] = &[
+const SAID_KILL: &[(Edit, u32)] = &[
     (Says(7, "input motion 1 1"), 7),
     (Says(7, "input motion 1 1 > 1 motion 1 1"), 7),
     (Says(7, "input motion 1 1 > 0 motion 1 2"), 7),
@@ -158,7 +161,7 @@ const CHANGED_KILL: &[(Edit, u32)] = &[
 ];
 
 /// The same of the run with three views: an entry tells of another view.
-const CHANGED_VIEWS: &[(Edit, u32)] = &[
+const SAID_VIEWS: &[(Edit, u32)] = &[
     (Says(3, "call 0 handle 2 < view"), 3),
     (Says(9, "call 0 no-such-view 3 < front 3"), 9),
     (Says(10, "call 0 done < destroy 2"), 10),
@@ -167,27 +170,6 @@ const CHANGED_VIEWS: &[(Edit, u32)] = &[
     (Says(17, "input motion 0 0 > 1 motion 0 0"), 17),
     (Says(18, "call 0 no-event < take"), 18),
     (Says(18, "call 0 event motion 0 1 < take"), 18),
-];
-
-/// A run, and the changes of its journal.
-struct Changed {
-    run: Run,
-    changes: &'static [(Edit, u32)],
-}
-
-const CHANGED: &[Changed] = &[
-    Changed {
-        run: TWO,
-        changes: CHANGED_TWO,
-    },
-    Changed {
-        run: KILL,
-        changes: CHANGED_KILL,
-    },
-    Changed {
-        run: VIEWS,
-        changes: CHANGED_VIEWS,
-    },
 ];
 
 /// The journal of a run is one of it.
@@ -200,7 +182,7 @@ fn assert_unchanged(rt: &impl Abort, alloc: Global, run: &Run) {
     );
 }
 
-/// Each change of the journal of a run names its entry. A change is told by its row.
+/// Each change of the journal of a run names its entry, and is told by its row.
 fn assert_changes(rt: &impl Abort, alloc: Global, run: &Run, changes: &[(Edit, u32)]) {
     for (row, (edit, entry)) in changes.iter().enumerate() {
         let found = judged(rt, alloc, run, *edit);
@@ -210,9 +192,23 @@ fn assert_changes(rt: &impl Abort, alloc: Global, run: &Run, changes: &[(Edit, u
 }
 
 #[test]
-fn journals(rt: HostRuntime) {
-    for of in CHANGED {
-        assert_unchanged(&rt, rt.alloc(), &of.run);
-        assert_changes(&rt, rt.alloc(), &of.run, of.changes);
-    }
+fn two_clients(rt: HostRuntime) {
+    let run = &TWO;
+    assert_unchanged(&rt, rt.alloc(), run);
+    assert_changes(&rt, rt.alloc(), run, MOVED_TWO);
+    assert_changes(&rt, rt.alloc(), run, SAID_TWO);
+}
+
+#[test]
+fn client_locked_out(rt: HostRuntime) {
+    let run = &KILL;
+    assert_unchanged(&rt, rt.alloc(), run);
+    assert_changes(&rt, rt.alloc(), run, SAID_KILL);
+}
+
+#[test]
+fn three_views(rt: HostRuntime) {
+    let run = &VIEWS;
+    assert_unchanged(&rt, rt.alloc(), run);
+    assert_changes(&rt, rt.alloc(), run, SAID_VIEWS);
 }
