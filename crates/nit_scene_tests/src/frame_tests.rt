@@ -123,7 +123,7 @@ fn blank(alloc: Global, config: &Config) -> Result<Vec<u32>, Fail>
 
 /// The frame that is kept after so many steps is the one that is made anew.
 fn assert_frame(rt: &impl Abort, count: usize, kept: &[u32], anew: &[u32]) {
-    same(rt, &count, &kept, &anew);
+    same(rt, "steps and a frame", &(count, kept), &(count, anew));
 }
 
 /// The frame that a scene keeps after these steps is its last picture, for which all words are

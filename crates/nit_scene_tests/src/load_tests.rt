@@ -103,7 +103,12 @@ fn assert_loads(
     ensures own { IsGlass scene.new.config sid own.new.glass }
 {
     let _reply = scene.call(sid, call, own);
-    same(rt, call, &taken(loads), &want);
+    same(
+        rt,
+        "loads of a call",
+        &(*call, taken(loads)),
+        &(*call, want),
+    );
 }
 
 /// Serves these calls of both clients, with so many loads from each session's glasses.
@@ -199,7 +204,7 @@ fn assert_shot(rt: &impl Abort, scene: &mut Scene<Counting<'_>>, loads: &[Cell<u
     ensures spare { scene.new.spare ≡ 9 }
 {
     let _number = scene.shot(&mut [0; PIXELS]);
-    same(rt, &"shot", &taken(loads), &(0, 0));
+    same(rt, "shot", &taken(loads), &(0, 0));
 }
 
 /// The calls after a shot load so many words, and the last picture loads all that is shown.
@@ -220,7 +225,7 @@ fn assert_after(
     assert_rows(rt, &mut scene, &mut first, &mut second, loads, &AFTER);
     scene.finish(&mut [first, second], &mut [0; PIXELS]);
     drop(scene);
-    same(rt, &"last", &taken(loads), &(8, 8));
+    same(rt, "last", &taken(loads), &(8, 8));
 }
 
 /// Both tables of calls load so many words, and the shot between them loads none.

@@ -4,6 +4,6 @@ use std::fmt::Debug;
 use std::process::Abort;
 
 /// Both are the same. Where they are not, the case is told.
-pub fn same<C: Debug, T: Debug + PartialEq>(rt: &impl Abort, case: &C, found: &T, want: &T) {
+pub fn same<T: Debug + PartialEq>(rt: &impl Abort, case: &str, found: &T, want: &T) {
     assert_eq!(rt; found, want, "in case {case:?}");
 }

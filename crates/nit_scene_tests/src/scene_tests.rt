@@ -72,7 +72,7 @@ fn assert_replies(
 ) -> Result<(), Fail> {
     let replies = replies_of(alloc, entries)?;
     let found = (entries.len(), replies.as_slice());
-    same(rt, &script, &found, &(want.len(), want));
+    same(rt, script, &found, &(want.len(), want));
     Ok(())
 }
 

@@ -7,8 +7,8 @@ use Rattle.nit_config.specs.Configuration.{Configuration, donation_of}
 use Rattle.nit_script.specs.declared.line.Line.{Line}
 use Rattle.nit_plan.specs.Plan.{PlanModel, IsPlanOf, plan_of_script}
 use Rattle.nit_plan.specs.SessionLists.{script_in}
-use Rattle.nit_reach_tests.proofs.OpeningLemmas.{donation_at, one_more}
-use Rattle.nit_reach_tests.proofs.hall_opening.plans_of.Goals as goal
+use Rattle.nit_scene_tests.proofs.OpeningLemmas.{donation_at, one_more}
+use Rattle.nit_scene_tests.proofs.hall_opening.plans_of.Goals as goal
 
 pub loop-sid-preserved : goal.loop-sid-preserved
 loop-sid-preserved c =

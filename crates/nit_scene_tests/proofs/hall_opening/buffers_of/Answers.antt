@@ -6,8 +6,8 @@ use Rattle.nit_plan.specs.ScriptWords.{table_size}
 use Rattle.nit_plan.specs.SessionLists.{plan_in}
 use Rattle.nit_plan.specs.Plan.{PlanModel}
 use Rattle.nit_pixels.specs.End.{BufferName, End, new_sight}
-use Rattle.nit_reach_tests.proofs.OpeningLemmas.{donation_at, one_more}
-use Rattle.nit_reach_tests.proofs.hall_opening.buffers_of.Goals as goal
+use Rattle.nit_scene_tests.proofs.OpeningLemmas.{donation_at, one_more}
+use Rattle.nit_scene_tests.proofs.hall_opening.buffers_of.Goals as goal
 
 pub loop-sid-preserved : goal.loop-sid-preserved
 loop-sid-preserved c =

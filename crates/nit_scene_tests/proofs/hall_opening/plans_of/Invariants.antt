@@ -4,7 +4,7 @@ use Rattle.nit_word.specs.Inks.{IsWord}
 use Rattle.nit_plan.specs.Plan.{PlanModel, IsPlanOf}
 use Rattle.nit_plan.specs.SessionLists.{script_in}
 use Rattle.nit_config.specs.Configuration.{donation_of}
-use Rattle.nit_reach_tests.proofs.hall_opening.plans_of.Given as goal
+use Rattle.nit_scene_tests.proofs.hall_opening.plans_of.Given as goal
 
 abbrev pub invariant-loop-sid : goal.invariant-loop-sid
 invariant-loop-sid l = record {

@@ -2,8 +2,8 @@ use Rattle.std.proofs.Common.{rules, ◌≡◌, length, subst}
 use Rattle.std.specs.Prelude.{IfOk}
 use Rattle.nit_hall.specs.Opening.{IsOpening}
 use Rattle.nit_hall.specs.ClipOpening.{AreFirstClipPasses, with_clip_scripts}
-use Rattle.nit_reach_tests.proofs.OpeningLemmas.{open_room}
-use Rattle.nit_reach_tests.proofs.hall_tests.serve_texts.Goals as goal
+use Rattle.nit_scene_tests.proofs.OpeningLemmas.{open_room}
+use Rattle.nit_scene_tests.proofs.hall_tests.serve_texts.Goals as goal
 
 pub serve_all-requires : goal.serve_all-requires
 serve_all-requires g c =
@@ -18,7 +18,7 @@ serve_all-requires g c =
     let plans_each : length plans ≡ length scripts = search rules in
     let clips_each : length clips ≡ length scripts = search rules in
     let opening : IsOpening config scripts plans input canvases one.room one.passes.items one.user =
-        subst (λ r. IfOk r (λ o. IsOpening config scripts plans input canvases o.room o.passes.items o.user)) c.expect-opened.ensures c.open-opened.ensures in
+    subst (λ r. IfOk r (λ o. IsOpening config scripts plans input canvases o.room o.passes.items o.user)) c.expect-opened.ensures c.open-opened.ensures in
     let room : two.opened.room ≡ with_clip_scripts one.room clips = subst (λ r. IfOk r (λ o. o.opened.room ≡ with_clip_scripts one.room clips)) c.expect-opened-2.ensures c.open_clips.ensures.room in
     let passes : two.opened.passes.items ≡ one.passes.items = subst (λ r. IfOk r (λ o. o.opened.passes.items ≡ one.passes.items)) c.expect-opened-2.ensures c.open_clips.ensures.passes in
     let user : two.opened.user ≡ one.user = subst (λ r. IfOk r (λ o. o.opened.user ≡ one.user)) c.expect-opened-2.ensures c.open_clips.ensures.user in

@@ -2,7 +2,7 @@
 //! answered is what the clip list has of it at the end.
 
 ghost use Rattle.nit_config.specs.ConfigurationRanges.{IsConfiguration};
-ghost use Rattle.nit_reach_tests.specs.HallOpening.{IsOpenRoom};
+ghost use Rattle.nit_scene_tests.specs.HallOpening.{IsOpenRoom};
 
 use crate::hall_opening::{buffers_of, canvases_of, plans_of};
 use crate::hall_steps::do_phases;

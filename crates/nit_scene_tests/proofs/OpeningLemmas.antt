@@ -17,7 +17,7 @@ use Rattle.nit_hall.specs.ClipPass.{ClipPassModel, ClipBelongs}
 use Rattle.nit_hall.specs.Opening.{IsOpening, first_pass, first_user}
 use Rattle.nit_hall.specs.ClipOpening.{AreFirstClipPasses, with_clip_scripts}
 use Rattle.nit_hall.specs.Room.{RoomModel}
-use Rattle.nit_reach_tests.specs.HallOpening.{IsOpenRoom}
+use Rattle.nit_scene_tests.specs.HallOpening.{IsOpenRoom}
 
 -- ---- one by one
 

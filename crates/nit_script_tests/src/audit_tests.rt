@@ -1,7 +1,7 @@
 //! Runs, and what the audit says of their journals and of journals that differ in one place.
 
-use crate::bench::Edit::{Nothing, Out, Says, Swapped, Twice};
-use crate::bench::{Edit, Run, judged};
+use crate::audit_bench::Edit::{Nothing, Out, Says, Swapped, Twice};
+use crate::audit_bench::{Edit, Run, judged};
 use crate::same::same;
 use nit_audit::Verdict;
 use std::alloc::Global;
@@ -174,12 +174,7 @@ const SAID_VIEWS: &[(Edit, u32)] = &[
 
 /// The journal of a run is one of it.
 fn assert_unchanged(rt: &impl Abort, alloc: Global, run: &Run) {
-    same(
-        rt,
-        run.name,
-        &judged(rt, alloc, run, Nothing),
-        &Verdict::Yes,
-    );
+    same(rt, run.name, judged(rt, alloc, run, Nothing), Verdict::Yes);
 }
 
 /// Each change of the journal of a run names its entry, and is told by its row.
@@ -187,7 +182,7 @@ fn assert_changes(rt: &impl Abort, alloc: Global, run: &Run, changes: &[(Edit, u
     for (row, (edit, entry)) in changes.iter().enumerate() {
         let found = judged(rt, alloc, run, *edit);
         let want = Verdict::No { entry: *entry };
-        same(rt, run.name, &(row, found), &(row, want));
+        same(rt, run.name, (row, found), (row, want));
     }
 }
 

@@ -1,6 +1,6 @@
 use Rattle.nit_hall.specs.Pass.{Belongs}
 use Rattle.nit_hall.specs.ClipPass.{ClipBelongs}
-use Rattle.nit_reach_tests.proofs.hall_steps.do_lines.Given as goal
+use Rattle.nit_scene_tests.proofs.hall_steps.do_lines.Given as goal
 
 abbrev pub invariant-lines : goal.invariant-lines
 invariant-lines g l = record {

@@ -3,7 +3,7 @@ use Rattle.nit_config.specs.Configuration.{donation_of}
 use Rattle.nit_plan.specs.ScriptWords.{table_size}
 use Rattle.nit_plan.specs.SessionLists.{plan_in}
 use Rattle.nit_pixels.specs.End.{End, new_sight}
-use Rattle.nit_reach_tests.proofs.hall_opening.buffers_of.Given as goal
+use Rattle.nit_scene_tests.proofs.hall_opening.buffers_of.Given as goal
 
 abbrev pub invariant-loop-sid : goal.invariant-loop-sid
 invariant-loop-sid l = record {

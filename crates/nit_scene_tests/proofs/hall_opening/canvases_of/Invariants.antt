@@ -1,6 +1,6 @@
 use Rattle.std.proofs.Common.{◌≡◌, ◌++◌, length}
 use Rattle.std.specs.Vec.Iter.{into_iter_items}
-use Rattle.nit_reach_tests.proofs.hall_opening.canvases_of.Given as goal
+use Rattle.nit_scene_tests.proofs.hall_opening.canvases_of.Given as goal
 
 abbrev pub invariant-loop-key : goal.invariant-loop-key
 invariant-loop-key l = record {

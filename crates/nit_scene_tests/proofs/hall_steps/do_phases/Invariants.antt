@@ -2,7 +2,7 @@ use Rattle.std.proofs.Common.{◌≡◌, length}
 use Rattle.std.specs.Prelude.{All}
 use Rattle.nit_hall.specs.Pass.{Belongs, UserBelongs}
 use Rattle.nit_hall.specs.ClipPass.{ClipBelongs}
-use Rattle.nit_reach_tests.proofs.hall_steps.do_phases.Given as goal
+use Rattle.nit_scene_tests.proofs.hall_steps.do_phases.Given as goal
 
 abbrev pub invariant-phases : goal.invariant-phases
 invariant-phases g l = record {
