@@ -121,25 +121,19 @@ fn header(w: u32, h: u32) -> [u8; 8] {
     [b'N', b'C', b'A', b'P', w0, w1, h0, h1]
 }
 
-/// The stream of a film of pictures.
-fn film(
-    rt: &impl Abort,
-    alloc: Global,
-    width: u32,
-    height: u32,
-    part: Numbers,
-    pictures: &[Picture],
-) -> Vec<u8>
-    requires { IsPictureSize width height }
+/// The stream of the film of these pictures.
+fn film(rt: &impl Abort, alloc: Global, of: &Filmed) -> Vec<u8>
+    requires { IsPictureSize of.now.width of.now.height }
 {
-    let part = rect(rt, part);
-    let mut capture = capture(rt, alloc, width, height, part);
+    let part = rect(rt, of.part);
+    let mut capture = capture(rt, alloc, of.width, of.height, part);
     let mut out = Vec::new(alloc);
     out.extend_from_slice(&header(part.w(), part.h()))
         .expect(rt, "memory");
-    for picture in pictures {
-        let bytes = bytes_of(rt, alloc, *picture, width * height);
-        assert!(rt; 3 * (width * height) as usize <= bytes.len());
+    let pixels = of.width * of.height;
+    for picture in of.pictures {
+        let bytes = bytes_of(rt, alloc, *picture, pixels);
+        assert!(rt; 3 * pixels as usize <= bytes.len());
         capture.picture(&bytes, &mut out).expect(rt, "memory");
     }
     out.push(0).expect(rt, "memory");
@@ -210,7 +204,7 @@ const FILMS: &[Filmed] = &[
 fn assert_film(rt: &impl Abort, alloc: Global, of: &Filmed) {
     let (w, h) = (of.width, of.height);
     assert!(rt; 1 <= w && w <= 1024 && 1 <= h && h <= 768);
-    let found = film(rt, alloc, w, h, of.part, of.pictures);
+    let found = film(rt, alloc, of);
     same(rt, of.name, &found.as_slice(), &of.bytes);
 }
 

@@ -71,55 +71,38 @@ fn label(rt: &impl Abort, text: &[u8]) -> Label
     Label::new(text).expect(rt, "a label")
 }
 
-/// What is shown by a look on a screen of so many rows, in a rectangle or everywhere. The first
-/// columns of the raw words are blue, and so were some of the screen.
-fn shown(
-    rt: &impl Abort,
-    alloc: Global,
-    look: &Look,
-    rows: u32,
-    blue: u32,
-    before: u32,
-    part: Option<Rect>,
-) -> Vec<u32>
-    requires rows { rows ≤ 12 }
-    requires look { IsLook look.now }
-    requires size { 12 * rows ≡ look.now.stack.now.width * look.now.stack.now.height }
-{
-    let raw = raw_words(rt, alloc, blue, rows);
-    let mut out = raw_words(rt, alloc, before, rows);
-    match part {
-        Some(rect) => overlay_rect(look, &raw, rect, &mut out),
-        None => frame_into(look, &raw, &mut out),
-    }
-    out
-}
-
-/// What is shown of the two views, of which the one behind has its label at `place`, on a screen
-/// that was red: in a rectangle, or everywhere.
-fn picture(
-    rt: &impl Abort,
-    alloc: Global,
+/// How the two views are shown: the mode and the focus, the width of the view in front, and the
+/// place of the label of the one behind.
+#[derive(Clone, Copy)]
+struct Shown {
     mode: Mode,
     focus: Option<u32>,
     width: u32,
     place: Option<Point>,
-    part: Option<Rect>,
-) -> Vec<u32>
-    requires width { width ≤ 12 }
-    requires focus { IfSome focus (λ session. session < 2) }
-    requires placed { IsPlacedAt mode focus width place }
+}
+
+/// What is shown of the two views on a screen that was red: in a rectangle, or everywhere.
+fn picture(rt: &impl Abort, alloc: Global, by: Shown, part: Option<Rect>) -> Vec<u32>
+    requires width { by.width ≤ 12 }
+    requires focus { IfSome by.focus (λ session. session < 2) }
+    requires placed { IsPlacedAt by.mode by.focus by.width by.place }
 {
     let labels = [label(rt, b"ab"), label(rt, b"b")];
-    let stack = two_views(rt, alloc, left_part(12), left_part(width), width);
+    let stack = two_views(rt, alloc, left_part(12), left_part(by.width), by.width);
     let look = Look {
         stack: &stack,
         labels: &labels,
-        mode,
-        focus,
-        places: &[place, None],
+        mode: by.mode,
+        focus: by.focus,
+        places: &[by.place, None],
     };
-    shown(rt, alloc, &look, 7, width, 0, part)
+    let raw = raw_words(rt, alloc, by.width, 7);
+    let mut out = raw_words(rt, alloc, 0, 7);
+    match part {
+        Some(rect) => overlay_rect(&look, &raw, rect, &mut out),
+        None => frame_into(&look, &raw, &mut out),
+    }
+    out
 }
 
 /// One view that has all of a screen of 12 by 12 with a bar.
@@ -145,7 +128,10 @@ fn barred(rt: &impl Abort, alloc: Global) -> Vec<u32> {
         focus: None,
         places: &[None],
     };
-    shown(rt, alloc, &look, 12, 0, 12, None)
+    let raw = raw_words(rt, alloc, 0, 12);
+    let mut out = raw_words(rt, alloc, 12, 12);
+    frame_into(&look, &raw, &mut out);
+    out
 }
 
 /// The words from some place on are these.
@@ -157,7 +143,13 @@ fn assert_words(rt: &impl Abort, case: &str, found: Option<&[u32]>, want: &[u32]
 #[test]
 fn label_beside_a_view(rt: HostRuntime) {
     let place = Some(Point { x: 3, y: 0 });
-    let out = picture(&rt, rt.alloc(), Mode::Xray, None, 3, place, None);
+    let by = Shown {
+        mode: Mode::Xray,
+        focus: None,
+        width: 3,
+        place,
+    };
+    let out = picture(&rt, rt.alloc(), by, None);
     let want = &[GREY, 0x7F, GREY, 0, 0, F, 0, 0, F, F, 0, 0];
     assert_words(&rt, "line 1", out.get(12..24), want);
 }
@@ -165,7 +157,13 @@ fn label_beside_a_view(rt: HostRuntime) {
 /// Beside a wider view there is no room for it.
 #[test]
 fn no_room_for_a_label(rt: HostRuntime) {
-    let out = picture(&rt, rt.alloc(), Mode::Xray, None, 4, None, None);
+    let by = Shown {
+        mode: Mode::Xray,
+        focus: None,
+        width: 4,
+        place: None,
+    };
+    let out = picture(&rt, rt.alloc(), by, None);
     let want = &[
         GREY, 0x7F, 0x7F, GREY, DIM, DIM, DIM, DIM, DIM, DIM, DIM, GREY,
     ];
@@ -176,7 +174,13 @@ fn no_room_for_a_label(rt: HostRuntime) {
 #[test]
 fn label_in_kill_mode(rt: HostRuntime) {
     let place = Some(Point { x: 3, y: 0 });
-    let out = picture(&rt, rt.alloc(), Mode::Kill, None, 3, place, None);
+    let by = Shown {
+        mode: Mode::Kill,
+        focus: None,
+        width: 3,
+        place,
+    };
+    let out = picture(&rt, rt.alloc(), by, None);
     let want = &[RED, 0x80007F, RED, 0, 0, F, 0, 0, F, F, 0, 0];
     assert_words(&rt, "line 1", out.get(12..24), want);
 }
@@ -184,7 +188,13 @@ fn label_in_kill_mode(rt: HostRuntime) {
 /// The view of the session with the focus has its own words, and a white ring.
 #[test]
 fn focused_session(rt: HostRuntime) {
-    let out = picture(&rt, rt.alloc(), Mode::Xray, Some(0), 4, None, None);
+    let by = Shown {
+        mode: Mode::Xray,
+        focus: Some(0),
+        width: 4,
+        place: None,
+    };
+    let out = picture(&rt, rt.alloc(), by, None);
     let want = &[GREY, 0x7F, 0x7F, GREY, RED, RED, RED, RED, RED, RED, RED, F];
     assert_words(&rt, "line 1", out.get(12..24), want);
 }
@@ -193,7 +203,13 @@ fn focused_session(rt: HostRuntime) {
 #[test]
 fn part_of_a_picture(rt: HostRuntime) {
     let part = Some(rect(&rt, [2, 1, 3, 2]));
-    let out = picture(&rt, rt.alloc(), Mode::Xray, None, 4, None, part);
+    let by = Shown {
+        mode: Mode::Xray,
+        focus: None,
+        width: 4,
+        place: None,
+    };
+    let out = picture(&rt, rt.alloc(), by, part);
     #[rattlefmt::skip]
     let want = &[
         RED, RED, RED, RED, RED, RED, RED, RED, RED, RED, RED, RED,

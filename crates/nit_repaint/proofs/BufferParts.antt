@@ -61,9 +61,6 @@ nothing_spanned x = same_tests (spans (pos 0) 0 x) false
     absurd (omega (arith, ints)))
     (λ is. absurd (false≢true is))
 
-pub none_in : (p : Point) → covers (rectangle (pos 0) (pos 0) 0 0) p ≡ false
-none_in p = ap (λ (b : Bool). b && spans (pos 0) 0 p.y) (nothing_spanned p.x)
-
 -- ---- a place of a buffer
 
 fails : (b c : Bool) → (b && (false && c)) ≡ false

@@ -1,6 +1,6 @@
 -- What answers use: all that lemmas use, and this crate's lemmas.
 pub use Rattle.nit_repaint.proofs.Basics.{All_found, AreSet, FitsStack, IsSlotView, Point, Repainted, arith, eqb-true, found_passes, found_some, glasses_of_call, has_come, get_or_default, glass_in, ints, is_slot, is_wanted, length, list_any, map, no_sight, nothing_set, once, other_count, owner_passes, pieces_left, pixel, place_of, refl, same_Some, shown_at, slice_index_or, slot_owns_either, source_of_number, to_come, true, wanted_of_first, with_offset, with_rect, without, ◌∙◌}
-pub use Rattle.nit_repaint.proofs.BufferParts.{across_told, down_told, none_in, part_same, run_none, run_same}
+pub use Rattle.nit_repaint.proofs.BufferParts.{across_told, down_told, part_same, run_none, run_same}
 pub use Rattle.nit_repaint.proofs.ChangedOwners.{fallen_owns, gone_owns, moved_owns}
 pub use Rattle.nit_repaint.proofs.FrameCopies.{all_shown, first_shown, last_shown, next_shown, none_shown, one_shown, piece_shown, shown_as, whole_shown}
 pub use Rattle.nit_repaint.proofs.GlassLemmas.{all_painted, as_many, held_words, idle_at, left_at, listed_painted, scene_painted, screen_of, shown_session, still_held}

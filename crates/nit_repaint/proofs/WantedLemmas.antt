@@ -1,5 +1,5 @@
 -- What is wanted of views, one after the other.
-use Rattle.nit_repaint.proofs.Basics.{CutterModel, IsOnScreen, NoPair, PixelSource, Point, Rectangle, Repainted, Sight, SlotView, StackModel, View, ViewRef, and_parts, black_or_word, covered, covers, eq-eqb, eqb-true, in_bar, is_behind, is_index_in, is_of_session, is_owned, is_slot, is_to_come, is_wanted, is_word_in, list_any, ne_eqb, once, option_map, option_map_or, owned_is, owner_in, owner_of_views, owner_passes, pixel, place_is, place_of, repainted_none, repainted_same, repainted_union, same_slot, shown_index, size_of, slice_get, slot_view_covers, slot_view_in, source_in, source_under, to_come, wanted, wanted_of_first, wants}
+use Rattle.nit_repaint.proofs.Basics.{CutterModel, IsOnScreen, NoPair, PixelSource, Point, Rectangle, Repainted, Sight, SlotView, StackModel, View, ViewRef, and_parts, black_or_word, covered, covers, eq-eqb, eqb-true, in_bar, is_index_in, is_of_session, is_owned, is_slot, is_to_come, is_wanted, is_word_in, list_any, ne_eqb, once, option_map, option_map_or, owned_is, owner_in, owner_of_views, owner_passes, pixel, place_is, place_of, repainted_none, repainted_same, repainted_union, same_slot, shown_index, size_of, slice_get, slot_view_covers, slot_view_in, source_in, source_under, to_come, wanted, wanted_of_first, wants}
 use Rattle.std.proofs.Common.{Bool, List, None, Option, Some, [], add-one, ap, arith, cond, false, find, length, nat_lt, not, refl, subst, suc, sym, take, take_all, true, zero, ℕ, ◌&&◌, ◌*◌, ◌+◌, ◌<◌, ◌==◌, ◌||◌, ◌∙◌, ◌∷◌, ◌≡◌, ◌≤◌}
 use Rattle.nit_repaint.proofs.Screen.{on_screen}
 use Rattle.nit_repaint.proofs.ChangedOwners.{owned_by}
@@ -118,23 +118,16 @@ pub wanted_here : (s : StackModel) (view : View) (sid : ℕ) (part : Option Rect
 wanted_here s view sid part p own =
     ap (λ (t : ℕ). wants part (size_of s.sizes t) view p) own ∙ ap (λ (b : Bool). b && wants part (size_of s.sizes sid) view p) (sym (eq-eqb view.sid sid own))
 
--- a view of another session, and a rectangle without pixels
-pub seat_unset : (s : StackModel) (rect : Rectangle) (view : View) (x : SlotView) (sid : ℕ) (part : Option Rectangle) (p : Point) → covers rect p ≡ false
-    → (view.sid ≡ sid → ⊥) → x.view ≡ view
-    → is_behind 0 s rect p ≡ (owner_passes (is_slot x.slot) s p && is_wanted sid part s p x)
-seat_unset s rect view x sid part p bare other same =
-    ap (λ (b : Bool). not (in_bar s.bar p) && b && not (covered (take 0 s.views) p)) bare
-    ∙ nothing (not (in_bar s.bar p)) (not (covered (take 0 s.views) p))
-    ∙ sym (ap (λ (b : Bool). owner_passes (is_slot x.slot) s p && (b && wants part (size_of s.sizes sid) x.view p)) (ap (λ (v : View). v.sid == sid) same ∙ ne_eqb view.sid sid other)
-    ∙ nowhere (owner_passes (is_slot x.slot) s p) (wants part (size_of s.sizes sid) x.view p))
+-- a view of another session
+pub seat_unset : (s : StackModel) (view : View) (x : SlotView) (sid : ℕ) (part : Option Rectangle) (p : Point) → (view.sid ≡ sid → ⊥) → x.view ≡ view
+    → (owner_passes (is_slot x.slot) s p && is_wanted sid part s p x) ≡ false
+seat_unset s view x sid part p other same =
+    ap (λ (b : Bool). owner_passes (is_slot x.slot) s p && (b && wants part (size_of s.sizes sid) x.view p)) (ap (λ (v : View). v.sid == sid) same ∙ ne_eqb view.sid sid other)
+    ∙ nothing (owner_passes (is_slot x.slot) s p) (wants part (size_of s.sizes sid) x.view p)
   where
-    nothing : (b c : Bool) → (b && false && c) ≡ false
+    nothing : (b c : Bool) → (b && (false && c)) ≡ false
     nothing true c = refl
     nothing false c = refl
-
-    nowhere : (b c : Bool) → (b && (false && c)) ≡ false
-    nowhere true c = refl
-    nowhere false c = refl
 
 pub seat_set : (s : StackModel) (rect : Rectangle) (v : ViewRef) (view : View) (x : SlotView) (sid : ℕ) (part : Option Rectangle) (p : Point) → NoPair same_slot s.views → slot_view_in v.0 s.views ≡ Some (record { slot = v.0; view = view })
     → record { slot = v.0; view = view } ≡ x → (covers view.rect p ≡ true → covers rect p ≡ ((view.sid == sid) && wants part (size_of s.sizes sid) view p))

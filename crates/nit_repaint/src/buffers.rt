@@ -1,10 +1,10 @@
 //! Loading again what views of one session show.
 
-ghost use Rattle.std.specs.Prelude.{◌≡◌, ◌*◌, ◌<◌, ◌≤◌, ◌&&◌, Some, length, map, slice_get, true};
+ghost use Rattle.std.specs.Prelude.{false, ◌≡◌, ◌*◌, ◌<◌, ◌≤◌, ◌&&◌, Some, length, map, slice_get, true};
 ghost use Rattle.nit_repaint.specs.Terms.{FitsStack, HoldBuffers, IsOnScreen, IsPlace, Point, Repainted, SlotView, covers, glass_in, glasses_of_call, is_slot, is_wanted, once, owner_passes, pixel, size_of, source_of_number, to_come, wanted, wants};
 
 use crate::painter::Painter;
-use crate::part::{screen_part, shown_part};
+use crate::part::shown_part;
 use nit_damage::Cutter;
 use nit_rect::Rect;
 use nit_stack::{Stack, View};
@@ -29,26 +29,36 @@ fn shown_rect(stack: &Stack, view: &View, part: &Option<Rect>) -> Rect
     }
 }
 
-/// Begins with what is wanted of the view at a place, where it is one of the session, and else with
-/// nothing.
-pub(crate) fn begin_seat(cutter: &mut Cutter, stack: &Stack, i: u32, of: u32, part: &Option<Rect>)
+/// Begins with what is wanted of the view at a place, where it is one of the session. Gives whether
+/// it is: of another session's view nothing is wanted.
+pub(crate) fn begin_seat(
+    cutter: &mut Cutter,
+    stack: &Stack,
+    i: u32,
+    of: u32,
+    part: &Option<Rect>,
+) -> bool
     requires place { i < length stack.now.views }
     requires room { length stack.now.views ≤ cutter.old.room }
     ensures room { cutter.new.room ≡ cutter.old.room }
-    ensures fits { FitsStack cutter.new stack.now }
-    ensures to_come { (s : SlotView) → slice_get stack.now.views i ≡ Some s
+    ensures fits { result ≡ true → FitsStack cutter.new stack.now }
+    ensures to_come { result ≡ true → (s : SlotView) → slice_get stack.now.views i ≡ Some s
         → (p : Point) → IsOnScreen stack.now.width stack.now.height p
         → to_come cutter.new stack.now p
         ≡ once (owner_passes (is_slot s.slot) stack.now p && is_wanted of part.now stack.now p s) }
+    ensures none { result ≡ false → (s : SlotView) → slice_get stack.now.views i ≡ Some s
+        → (p : Point)
+        → (owner_passes (is_slot s.slot) stack.now p && is_wanted of part.now stack.now p s)
+        ≡ false }
 {
     let v = stack.at(i);
     let view = stack.view(v);
     if view.sid != of {
-        cutter.begin_behind(stack, screen_part(0, 0, 0, 0), 0);
-        return;
+        return false;
     }
     let rect = shown_rect(stack, &view, part);
     cutter.begin_owned(stack, v, rect);
+    true
 }
 
 impl<G: Glass + Drop> Painter<G> {
@@ -81,7 +91,10 @@ impl<G: Glass + Drop> Painter<G> {
     {
         let views = stack.len();
         'views: for i in 0..views {
-            begin_seat(&mut self.cutter, stack, i, of, part);
+            let is_of_session = begin_seat(&mut self.cutter, stack, i, of, part);
+            if !is_of_session {
+                continue;
+            }
             self.paint_to_come(stack, sid, own);
         }
     }

@@ -65,7 +65,7 @@ pub(crate) fn shown_part(
 }
 
 /// A rectangle of the screen.
-pub(crate) fn screen_part(left: u32, top: u32, wide: u32, tall: u32) -> Rect
+fn screen_part(left: u32, top: u32, wide: u32, tall: u32) -> Rect
     requires { (left + wide ≤ most_length) × (top + tall ≤ most_length) }
     ensures { result ≡ rectangle (pos left) (pos top) wide tall }
 {

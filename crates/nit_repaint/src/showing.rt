@@ -44,7 +44,10 @@ impl<G: Drop> Painter<G> {
     {
         let views = look.stack.len();
         'views: for i in 0..views {
-            begin_seat(&mut self.cutter, look.stack, i, of, part);
+            let is_of_session = begin_seat(&mut self.cutter, look.stack, i, of, part);
+            if !is_of_session {
+                continue;
+            }
             show_to_come(&mut self.cutter, look, self.raw.as_slice(), frame);
         }
     }

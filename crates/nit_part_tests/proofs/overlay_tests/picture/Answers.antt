@@ -2,6 +2,10 @@ use Rattle.std.proofs.Common.{ap₂, ◌∷◌, [], refl}
 use Rattle.nit_part_tests.proofs.overlay_tests.picture.Goals as goal
 use Rattle.nit_part_tests.proofs.Looking.{is_look}
 
-pub shown-requires-clause-look : goal.shown-requires-clause-look
-shown-requires-clause-look g c =
-    is_look _ c.args.width c.args.place c.two_views-stack.ensures (ap₂ (λ a b. a ∷ b ∷ []) c.label.ensures c.label-2.ensures) refl c.requires.focus c.requires.placed
+pub overlay_rect-requires-clause-look : goal.overlay_rect-requires-clause-look
+overlay_rect-requires-clause-look g c =
+    is_look _ c.args.by.width c.args.by.place c.two_views-stack.ensures (ap₂ (λ a b. a ∷ b ∷ []) c.label.ensures c.label-2.ensures) refl c.requires.focus c.requires.placed
+
+pub frame_into-requires-clause-look : goal.frame_into-requires-clause-look
+frame_into-requires-clause-look g c =
+    is_look _ c.args.by.width c.args.by.place c.two_views-stack.ensures (ap₂ (λ a b. a ∷ b ∷ []) c.label.ensures c.label-2.ensures) refl c.requires.focus c.requires.placed

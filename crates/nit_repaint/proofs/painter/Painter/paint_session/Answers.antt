@@ -1,4 +1,5 @@
 use Rattle.std.proofs.Common.{◌&&◌}
+use Rattle.nit_repaint.proofs.Basics.{pixel, repainted_none}
 use Rattle.nit_repaint.proofs.Lemmas.{Point, all_wanted, arith, as_many, comes_as, is_slot, is_wanted, none_wanted, one_wanted, other_count, owner_passes, refl, seat_here, seat_there, source_of_number, still_held, ◌∙◌}
 use Rattle.nit_repaint.proofs.painter.Painter.paint_session.Goals as goal
 
@@ -24,15 +25,31 @@ views-preserved g c =
     let e = c.paint_to_come.ensures in
     let x = seat_there s.views c.views.i (omega (arith, c.views-test.true, c.len-views.ensures.count)) in
     record {
-      room = e.room ∙ c.begin_seat.ensures.room ∙ v.room;
+      room = e.room ∙ c.begin_seat-is_of_session.ensures.room ∙ v.room;
       painted = one_wanted (source_of_number s) s _ c.args.of c.args.part.now c.views.i x.0 _ _ _ _ _ _ c.len-views.ensures.standing.slots (seat_here s.views c.views.i x.0 c.len-views.ensures.standing.slots x.1) x.1 v.painted
           (other_count _ _ _ _ _ _ _ _ v.count
-          (comes_as _ s c.begin_seat.new.cutter (λ (p : Point). owner_passes (is_slot x.0.slot) s p && is_wanted c.args.of c.args.part.now s p x.0) _ _ _ _ _ (v.count ∙ c.requires.pixels) (c.begin_seat.ensures.to_come x.0 x.1) e.painted));
+          (comes_as _ s c.begin_seat-is_of_session.new.cutter (λ (p : Point). owner_passes (is_slot x.0.slot) s p && is_wanted c.args.of c.args.part.now s p x.0) _ _ _ _ _ (v.count ∙ c.requires.pixels) (c.begin_seat-is_of_session.ensures.to_come c.if-not-is_of_session.false x.0 x.1) e.painted));
       count = e.count ∙ v.count;
       many = as_many g.G.Glass.rest c.paint_to_come.new.self.glasses.items c.views.self.glasses.items e.rests ∙ v.many;
       idle = e.idle ∙ v.idle;
       rest = e.rest ∙ v.rest;
       rests = e.rests ∙ v.rests;
+    }
+
+pub views-preserved-then-not-is_of_session : goal.views-preserved-then-not-is_of_session
+views-preserved-then-not-is_of_session g c =
+    let s = c.args.stack.now in
+    let v = c.views.invariant in
+    let x = seat_there s.views c.views.i (omega (arith, c.views-test.true, c.len-views.ensures.count)) in
+    record {
+      room = c.begin_seat-is_of_session.ensures.room ∙ v.room;
+      painted = one_wanted (source_of_number s) s _ c.args.of c.args.part.now c.views.i x.0 _ _ _ _ _ _ c.len-views.ensures.standing.slots (seat_here s.views c.views.i x.0 c.len-views.ensures.standing.slots x.1) x.1 v.painted
+          (repainted_none _ _ _ _ _ (λ k l. c.begin_seat-is_of_session.ensures.none c.if-not-is_of_session.true x.0 x.1 (pixel s.width k)));
+      count = v.count;
+      many = v.many;
+      idle = v.idle;
+      rest = v.rest;
+      rests = v.rests;
     }
 
 pub returns-clause-painted : goal.returns-clause-painted
