@@ -11,6 +11,7 @@ ghost use Rattle.std.specs.Prelude.{◌≡◌, ◌+◌, ◌*◌, ◌≤◌, ◌=
 ghost use Rattle.nit_hall.specs.Terms.{AreNear, Belongs, HaveInks, IsLegal, IsPaintedTo, IsRoom, Some, UserBelongs, bare_word, lines_of_all, most_height, most_sessions, most_width, served, slice_index, take, without_final, words_after};
 ghost use mathlib.Core.List.{IsPrefix};
 
+use crate::parts::Parts;
 use crate::pass::Pass;
 use crate::user::UserPass;
 pub use clip_opening::{ClipOpened, open_clips};
@@ -18,9 +19,7 @@ use nit_clip::laws::no_clips;
 use nit_clip::{Clip, ClipScript};
 use nit_ledger::Book;
 use nit_pixels::Lens;
-use nit_plan::Plan;
 use nit_scene::Scene;
-use nit_script::{Client, Input};
 use std::marker::Model;
 
 /// All sessions on one screen, and which lines of which scripts were served. Contracts see its
@@ -30,9 +29,7 @@ use std::marker::Model;
 pub struct Room<'a> {
     scene: Scene<Lens<'a>>,
     book: Book,
-    scripts: &'a [Client],
-    plans: &'a [Plan],
-    input: &'a Input,
+    parts: Parts<'a>,
     phase: u32,
     arrived: u32,
     clip: Clip,
@@ -49,34 +46,34 @@ impl<'a> Model for Room<'a> {
       parts = record {
         name = r.book.name;
         config = r.scene.config;
-        scripts = r.scripts.now;
-        plans = r.plans.now;
-        input = r.input.now;
+        scripts = r.parts.scripts.now;
+        plans = r.parts.plans.now;
+        input = r.parts.input.now;
         clips = r.clips.now;
       };
       scene = r.scene;
-      counts = take (length r.scripts.now + 1) r.book.counts;
+      counts = take (length r.parts.scripts.now + 1) r.book.counts;
       phase = r.phase;
       arrived = r.arrived;
       clips = r.clip;
-      clip_counts = drop (length r.scripts.now + 1) r.book.counts;
+      clip_counts = drop (length r.parts.scripts.now + 1) r.book.counts;
     } };
 
     ghost invariant = { λ r. IsRoom (record {
       parts = record {
         name = r.book.name;
         config = r.scene.config;
-        scripts = r.scripts.now;
-        plans = r.plans.now;
-        input = r.input.now;
+        scripts = r.parts.scripts.now;
+        plans = r.parts.plans.now;
+        input = r.parts.input.now;
         clips = r.clips.now;
       };
       scene = r.scene;
-      counts = take (length r.scripts.now + 1) r.book.counts;
+      counts = take (length r.parts.scripts.now + 1) r.book.counts;
       phase = r.phase;
       arrived = r.arrived;
       clips = r.clip;
-      clip_counts = drop (length r.scripts.now + 1) r.book.counts;
+      clip_counts = drop (length r.parts.scripts.now + 1) r.book.counts;
     }) × (r.book.entries ≡ without_final r.scene.entries) };
 }
 
@@ -84,29 +81,22 @@ impl<'a> Room<'a> {
     /// The room of a scene without an entry, and of a book without an entry, with a share for each
     /// client in order and one for the user, which have counted nothing. It has no clip scripts,
     /// and the clip list has no room.
-    pub(crate) fn new(
-        scene: Scene<Lens<'a>>,
-        book: Book,
-        scripts: &'a [Client],
-        plans: &'a [Plan],
-        input: &'a Input,
-        clip: Clip,
-    ) -> Room<'a>
-        requires clients { (length scripts.now ≡ length scene.config.clients)
-            × (length scripts.now ≤ most_sessions) }
+    pub(crate) fn new(scene: Scene<Lens<'a>>, book: Book, parts: Parts<'a>, clip: Clip) -> Room<'a>
+        requires clients { (length parts.scripts.now ≡ length scene.config.clients)
+            × (length parts.scripts.now ≤ most_sessions) }
         requires entries { (scene.entries ≡ []) × (book.entries ≡ []) }
-        requires room { scene.spare ≡ lines_of_all scripts.now input.now + 1 }
+        requires room { scene.spare ≡ lines_of_all parts.scripts.now parts.input.now + 1 }
         requires raw { scene.raw ≡ replicate (scene.config.width * scene.config.height) bare_word }
-        requires inks { HaveInks scripts.now scene.glasses }
-        requires counts { book.counts ≡ replicate (length scripts.now + 1) 0 }
+        requires inks { HaveInks parts.scripts.now scene.glasses }
+        requires counts { book.counts ≡ replicate (length parts.scripts.now + 1) 0 }
         requires clip { clip ≡ record { entries = []; spare = 0 } }
         ensures { result ≡ record {
           parts = record {
             name = book.name;
             config = scene.entry.config;
-            scripts = scripts.entry.now;
-            plans = plans.entry.now;
-            input = input.entry.now;
+            scripts = parts.entry.scripts.now;
+            plans = parts.entry.plans.now;
+            input = parts.entry.input.now;
             clips = [];
           };
           scene = scene.entry;
@@ -121,9 +111,7 @@ impl<'a> Room<'a> {
         Room {
             scene,
             book,
-            scripts,
-            plans,
-            input,
+            parts,
             phase: 0,
             arrived: 0,
             clip,
@@ -157,7 +145,7 @@ impl<'a> Room<'a> {
     pub(crate) fn clients(&self) -> u32
         ensures { result ≡ length self.now.parts.scripts }
     {
-        self.scripts.len() as u32
+        self.parts.scripts.len() as u32
     }
 
     /// The scene. Its journal is legal and follows the scripts, and each pixel's raw word is one
@@ -180,9 +168,7 @@ impl<'a> Room<'a> {
         let Room {
             scene,
             book: _,
-            scripts: _,
-            plans: _,
-            input: _,
+            parts: _,
             phase: _,
             arrived: _,
             clip: _,

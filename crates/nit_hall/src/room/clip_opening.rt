@@ -41,9 +41,7 @@ pub fn open_clips<'a>(
     let Room {
         scene,
         mut book,
-        scripts: clients,
-        plans,
-        input,
+        parts,
         phase,
         arrived,
         clip: _,
@@ -54,9 +52,7 @@ pub fn open_clips<'a>(
     let room = Room {
         scene,
         book,
-        scripts: clients,
-        plans,
-        input,
+        parts,
         phase,
         arrived,
         clip,

@@ -33,7 +33,11 @@ impl<'a> Room<'a> {
         self.book.count(&mut pass.share);
         pass.next += 1;
         pass.phase += 1;
-        (self.phase, self.arrived) = after_arrival(self.scripts.len(), self.phase, self.arrived);
+        (self.phase, self.arrived) = after_arrival(
+            self.parts.scripts.len(),
+            self.phase,
+            self.arrived,
+        );
     }
 
     /// The user, whose next line ends a phase, has ended it. Once all clients have too, the next
@@ -58,7 +62,11 @@ impl<'a> Room<'a> {
         self.book.count(&mut user.share);
         user.next += 1;
         user.phase += 1;
-        (self.phase, self.arrived) = after_arrival(self.scripts.len(), self.phase, self.arrived);
+        (self.phase, self.arrived) = after_arrival(
+            self.parts.scripts.len(),
+            self.phase,
+            self.arrived,
+        );
     }
 }
 

@@ -15,7 +15,7 @@ serve-reply-requires-clause-room c =
 pub returns-clause-room : goal.returns-clause-room
 returns-clause-room c =
     let er = c.self.view_is ∙ c.meet.ensures.room in
-    let n = length c.self.inside.scripts.now + 1 in
+    let n = length c.self.inside.parts.scripts.now + 1 in
     let number = number_is _ c.args.self.now _ c.args.clip.now c.clip.inside.share er c.clip.view_is c.clip.invariant c.requires.clip_belongs in
     let call = c.next_clip-call.ensures.call ∙ ap next_clip (sym c.clip.view_is) in
     let at = ap length (c.entries.ensures ∙ ap (λ (j : JournalModel). j.entries) c.journal.ensures.entries) in
