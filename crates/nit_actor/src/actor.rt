@@ -4,8 +4,8 @@ ghost use Rattle.std.specs.Prelude.{◌≡◌, ◌+◌, Some, length, slice_get}
 ghost use Rattle.nit_actor.specs.Terms.{Belongs, role_of};
 
 use crate::gate::{AtGate, Checkpoint, Gate};
-use crate::work::Work;
-use nit_hall::{Hall, Name, Pass};
+use crate::work::{GatedHall, Work};
+use nit_hall::{Name, Pass};
 use nit_script::Line;
 use std::sync::Wait;
 
@@ -14,14 +14,14 @@ use std::sync::Wait;
 /// but that one that stands directly behind the end of a phase waits so before it passes the gate.
 pub fn run_actor<'a, N: Name, G: Gate, R: Wait>(
     rt: &R,
-    hall: &Hall<'a, N>,
-    gate: &G,
+    gated: GatedHall<'_, 'a, N, G>,
     pass: &mut Pass<'a>,
 )
     requires belongs { Belongs N.parts pass.old }
     ensures same { role_of pass.new ≡ role_of pass.old }
     ensures done { pass.new.next ≡ length pass.new.script }
 {
+    let GatedHall { hall, gate } = gated;
     let work = Work {
         hall,
         checkpoint: AtGate(gate),

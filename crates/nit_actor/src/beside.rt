@@ -13,8 +13,8 @@ use crate::crew::{Crew, Own, Unstarted, run_crew};
 use crate::desk::Desk;
 use crate::gate::{AtGate, Checkpoint, Gate};
 use crate::mine::run_turns;
-use crate::work::Work;
-use nit_hall::{Hall, Name, Pass, UserPass};
+use crate::work::{GatedHall, Work};
+use nit_hall::{Name, Pass, UserPass};
 use nit_store::Store;
 use std::marker::Model;
 use std::sync::Wait;
@@ -119,8 +119,7 @@ fn run_left<'a, N: Name, K: Checkpoint, S: Store, R: Wait>(
 /// pass is raised, its thread leaves it as it is, and the calling thread steps it at the end.
 pub fn run_beside<'a, 's, N: Name + Send + Sync, G: Gate, S: Store, R: Threads + Wait + Sync>(
     rt: &R,
-    hall: &Hall<'a, N>,
-    gate: &G,
+    gated: GatedHall<'_, 'a, N, G>,
     unstarted: Unstarted<'_, Pass<'a>>,
     passes: &mut Vec<Pass<'a>>,
     mine: Mine<'a, 's, S>,
@@ -145,6 +144,7 @@ pub fn run_beside<'a, 's, N: Name + Send + Sync, G: Gate, S: Store, R: Threads +
     ensures text { length result.desk.text.items ≡ length mine.entry.desk.text.items }
     ensures same_store { result.desk.store.ghost_name ≡ mine.entry.desk.store.ghost_name }
 {
+    let GatedHall { hall, gate } = gated;
     let work = Work {
         hall,
         checkpoint: AtGate(gate),

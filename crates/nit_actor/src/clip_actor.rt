@@ -5,7 +5,7 @@ ghost use Rattle.nit_actor.specs.Terms.{Belongs, ClipBelongs, GoTogether, IsAtCl
 
 use crate::actor::do_line;
 use crate::gate::{AtGate, Checkpoint, Gate};
-use crate::work::Work;
+use crate::work::{GatedHall, Work};
 use nit_clip::ClipLine;
 use nit_hall::{ClipPass, Hall, Name, Pass};
 use nit_script::Line;
@@ -18,8 +18,7 @@ use std::sync::Wait;
 /// scripts have as many phases; afterwards both are done, and in one phase again.
 pub fn run_clips<'a, N: Name, G: Gate, R: Wait>(
     rt: &R,
-    hall: &Hall<'a, N>,
-    gate: &G,
+    gated: GatedHall<'_, 'a, N, G>,
     pass: &mut Pass<'a>,
     clip: &mut ClipPass<'a>,
 )
@@ -32,6 +31,7 @@ pub fn run_clips<'a, N: Name, G: Gate, R: Wait>(
     ensures clip_done { clip.new.next ≡ length clip.new.script }
     ensures together { GoTogether pass.new clip.new }
 {
+    let GatedHall { hall, gate } = gated;
     let work = Work {
         hall,
         checkpoint: AtGate(gate),

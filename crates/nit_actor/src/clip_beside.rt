@@ -16,8 +16,8 @@ use crate::crew::{Crew, Own, Unstarted, run_crew};
 use crate::desk::Desk;
 use crate::gate::{AtGate, Checkpoint, Gate};
 use crate::mine::do_user_turn;
-use crate::work::Work;
-use nit_hall::{ClipPass, Hall, Name, Pass, UserPass};
+use crate::work::{GatedHall, Work};
+use nit_hall::{ClipPass, Name, Pass, UserPass};
 use nit_store::Store;
 use std::marker::Model;
 use std::sync::Wait;
@@ -210,8 +210,7 @@ fn run_left<'a, N: Name, K: Checkpoint, S: Store, R: Wait>(
 #[tactic(auto, using(crate::proofs::PairLists::pairs_fit))]
 pub fn run_beside_clips<'a, 's, N: Name + Send + Sync, G: Gate, S: Store, R: Threads + Wait + Sync>(
     rt: &R,
-    hall: &Hall<'a, N>,
-    gate: &G,
+    gated: GatedHall<'_, 'a, N, G>,
     unstarted: Unstarted<'_, Pair<'a>>,
     pairs: &mut Vec<Pair<'a>>,
     mine: Mine<'a, 's, S>,
@@ -238,6 +237,7 @@ pub fn run_beside_clips<'a, 's, N: Name + Send + Sync, G: Gate, S: Store, R: Thr
     ensures text { length result.desk.text.items ≡ length mine.entry.desk.text.items }
     ensures same_store { result.desk.store.ghost_name ≡ mine.entry.desk.store.ghost_name }
 {
+    let GatedHall { hall, gate } = gated;
     let work = Work {
         hall,
         checkpoint: AtGate(gate),

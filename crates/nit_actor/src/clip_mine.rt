@@ -8,8 +8,8 @@ use crate::clip_actor::{do_last_clips, do_pair_line};
 use crate::desk::Desk;
 use crate::gate::{AtGate, Checkpoint, Gate};
 use crate::mine::{do_user_turn, lesser};
-use crate::work::Work;
-use nit_hall::{ClipPass, Hall, Name, Pass, UserPass};
+use crate::work::{GatedHall, Work};
+use nit_hall::{ClipPass, Name, Pass, UserPass};
 use nit_store::Store;
 use std::sync::Wait;
 
@@ -22,8 +22,7 @@ use std::sync::Wait;
 #[tactic(auto, using(crate::proofs::PairLists::all_together, crate::proofs::PhaseCounts::zip_long))]
 pub fn run_mine_clips<'a, N: Name, G: Gate, S: Store, R: Wait>(
     rt: &R,
-    hall: &Hall<'a, N>,
-    gate: &G,
+    gated: GatedHall<'_, 'a, N, G>,
     passes: &mut [Pass<'a>],
     clips: &mut [ClipPass<'a>],
     user: &mut UserPass<'a>,
@@ -50,6 +49,7 @@ pub fn run_mine_clips<'a, N: Name, G: Gate, S: Store, R: Wait>(
     ensures text { length desk.new.text.items ≡ length desk.old.text.items }
     ensures same_store { desk.new.store.ghost_name ≡ desk.old.store.ghost_name }
 {
+    let GatedHall { hall, gate } = gated;
     let work = Work {
         hall,
         checkpoint: AtGate(gate),

@@ -8,8 +8,8 @@ use crate::actor::do_line;
 use crate::desk::Desk;
 use crate::gate::{AtGate, Checkpoint, Gate};
 use crate::user::do_user_line;
-use crate::work::Work;
-use nit_hall::{Hall, Name, Pass, UserPass};
+use crate::work::{GatedHall, Work};
+use nit_hall::{Name, Pass, UserPass};
 use nit_store::Store;
 use std::sync::Wait;
 
@@ -19,8 +19,7 @@ use std::sync::Wait;
 /// passes the gate before its line, outside the lock.
 pub fn run_mine<'a, N: Name, G: Gate, S: Store, R: Wait>(
     rt: &R,
-    hall: &Hall<'a, N>,
-    gate: &G,
+    gated: GatedHall<'_, 'a, N, G>,
     passes: &mut [Pass<'a>],
     user: &mut UserPass<'a>,
     desk: &mut Desk<S>,
@@ -41,6 +40,7 @@ pub fn run_mine<'a, N: Name, G: Gate, S: Store, R: Wait>(
     ensures text { length desk.new.text.items ≡ length desk.old.text.items }
     ensures same_store { desk.new.store.ghost_name ≡ desk.old.store.ghost_name }
 {
+    let GatedHall { hall, gate } = gated;
     let work = Work {
         hall,
         checkpoint: AtGate(gate),
