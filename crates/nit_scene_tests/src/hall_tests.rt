@@ -9,7 +9,7 @@ use crate::hall_steps::do_phases;
 use crate::same::same;
 use nit_clip::{ClipEntry, ClipReply, ClipScript, clip_text, parse_clip};
 use nit_config::{Config, read_config};
-use nit_hall::{ClipOpened, Hall, Name, Opened, open, open_clips};
+use nit_hall::{ClipOpened, Hall, Name, Opened, Parts, open, open_clips};
 use nit_script::{Client, Input, parse_client, parse_input};
 use std::alloc::Global;
 use std::marker::Brand;
@@ -123,7 +123,12 @@ fn serve_texts<R: Abort + Wait>(rt: &R, alloc: Global, config: &Config, read: &R
     let made = buffers_of(alloc, config, &plans);
     let (buffers, keys) = made.expect(rt, "buffers");
     let canvases = canvases_of(alloc, &buffers, keys).expect(rt, "canvases");
-    let opened = open(alloc, config, clients, &plans, &read.input, canvases);
+    let parts = Parts {
+        scripts: clients,
+        plans: &plans,
+        input: &read.input,
+    };
+    let opened = open(alloc, config, parts, canvases);
     let opened = opened.expect(rt, "a room");
     let opened = open_clips(alloc, opened, clips).expect(rt, "a room with clip scripts");
     serve_all::<Brand, R>(rt, alloc, opened, wanted);
