@@ -9,7 +9,7 @@ use crate::{PutFault, Ran, blank_frame, blank_text, last_picture, leave_pictures
 use nit_actor::laws::{each_line_once, idle_user_does_nothing, one_client_goes_by_rounds};
 use nit_actor::{Desk, PictureName, run_alone};
 use nit_config::Config;
-use nit_hall::{Opened, Pass, Room, UserPass, open};
+use nit_hall::{Opened, Parts, Pass, Room, UserPass, open};
 use nit_rect::NoMemory;
 use nit_script::{Client, Input};
 use nit_store::Store;
@@ -33,7 +33,12 @@ pub fn run_one<S: Store>(
     let plans = plans_of(alloc, config, scripts)?;
     let (buffers, keys) = buffers_of(alloc, config, &plans)?;
     let canvases = canvases_of(alloc, &buffers, keys)?;
-    let opened = open(alloc, config, scripts, &plans, input, canvases)?;
+    let parts = Parts {
+        scripts,
+        plans: &plans,
+        input,
+    };
+    let opened = open(alloc, config, parts, canvases)?;
     let frame = blank_frame(alloc, config)?;
     let text = blank_text(alloc, config)?;
     Ok(play_alone(opened, frame, text, store))

@@ -6,9 +6,9 @@ ghost use Rattle.nit_top.specs.Terms.{HasRun, IsMemory, IsReady, IsRunnable, Run
 use crate::report::texts::leave_texts;
 use crate::setup::memory::{Memory, buffers_of, canvases_of};
 use crate::{Host, PutFault, Ran, last_picture, plans_of};
-use nit_actor::{Desk, Gate, Mine, PictureName, Unstarted};
+use nit_actor::{Desk, Gate, GatedHall, Mine, PictureName, Unstarted};
 use nit_config::{Config, Member};
-use nit_hall::{Hall, Name, Opened, Pass, open};
+use nit_hall::{Hall, Name, Opened, Parts, Pass, open};
 use nit_rect::NoMemory;
 use nit_script::{Client, Input};
 use nit_store::Store;
@@ -35,7 +35,12 @@ pub fn run_beside<R: Threads + Wait + Sync, S: Store, G: Gate>(
     let plans = plans_of(alloc, config, scripts)?;
     let (buffers, keys) = buffers_of(alloc, config, &plans)?;
     let canvases = canvases_of(alloc, &buffers, keys)?;
-    let opened = open(alloc, config, scripts, &plans, input, canvases)?;
+    let parts = Parts {
+        scripts,
+        plans: &plans,
+        input,
+    };
+    let opened = open(alloc, config, parts, canvases)?;
     let memory = Memory::new(alloc, config)?;
     let clients = config.clients.as_slice();
     Ok(run_named::<Brand, R, S, G>(host, clients, opened, memory, store))
@@ -81,7 +86,11 @@ fn run_named<'a, N: Name + Send + Sync, R: Threads + Wait + Sync, S: Store, G: G
         raised: &raised,
         waiting,
     };
-    let mine = nit_actor::run_beside(host.rt, &hall, host.gate, unstarted, &mut passes, mine);
+    let gated = GatedHall {
+        hall: &hall,
+        gate: host.gate,
+    };
+    let mine = nit_actor::run_beside(host.rt, gated, unstarted, &mut passes, mine);
     let Mine { user, mut desk } = mine;
     let scene = last_picture(hall.into_room(), passes, user, &mut desk);
     let Desk {

@@ -13,10 +13,10 @@ use crate::{
     End, Host, PutFault, Ran, Scripts, Worked, at, headline, last_with_clips, plans_of,
     read_scripts, unbegun, wanted_by,
 };
-use nit_actor::{Desk, Gate, Mine, Pair, PictureName, Unstarted, run_beside_clips};
+use nit_actor::{Desk, Gate, GatedHall, Mine, Pair, PictureName, Unstarted, run_beside_clips};
 use nit_clip::ClipScript;
 use nit_config::{Config, Member};
-use nit_hall::{Hall, Name};
+use nit_hall::{Hall, Name, Parts};
 use nit_rect::NoMemory;
 use nit_store::Store;
 use std::alloc::Global;
@@ -89,15 +89,12 @@ fn run_with_clips<R: Threads + Wait + Sync, S: Store, G: Gate>(
     let plans = plans_of(alloc, config, clients)?;
     let (buffers, keys) = buffers_of(alloc, config, &plans)?;
     let canvases = canvases_of(alloc, &buffers, keys)?;
-    let actors = open_pairs(
-        alloc,
-        config,
-        clients,
-        &plans,
-        &scripts.input,
-        canvases,
-        clips,
-    )?;
+    let parts = Parts {
+        scripts: clients,
+        plans: &plans,
+        input: &scripts.input,
+    };
+    let actors = open_pairs(alloc, config, parts, canvases, clips)?;
     let memory = Memory::new(alloc, config)?;
     let members = config.clients.as_slice();
     Ok(run_clips_named::<Brand, R, S, G>(host, members, actors, memory, store))
@@ -145,7 +142,11 @@ fn run_clips_named<'a, N: Name + Send + Sync, R: Threads + Wait + Sync, S: Store
         raised: &raised,
         waiting,
     };
-    let mine = run_beside_clips(host.rt, &hall, host.gate, unstarted, &mut pairs, mine);
+    let gated = GatedHall {
+        hall: &hall,
+        gate: host.gate,
+    };
+    let mine = run_beside_clips(host.rt, gated, unstarted, &mut pairs, mine);
     let Mine { user, mut desk } = mine;
     take_apart(&mut pairs, &mut passes, &mut clips);
     let room = hall.into_room();

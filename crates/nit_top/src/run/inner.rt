@@ -8,6 +8,7 @@ use nit_actor::laws::{drawn_as_replayed, rounds_are_whole};
 use nit_actor::{Viewer, run_viewed};
 use nit_config::Config;
 use nit_events::Entry;
+use nit_hall::Parts;
 use nit_journal::laws::one_more_entry;
 use nit_nested::laws::lines_are_counted;
 use nit_nested::{Nest, NestError};
@@ -134,7 +135,12 @@ fn play(alloc: Global, opened: Opened, config: &Config, scripts: &[Client], inpu
         nest: Nest::new(alloc, config.width, config.height),
         fault: None,
     };
-    run_viewed(&mut scene, &mut owns, scripts, &plans, input, &mut nesting);
+    let parts = Parts {
+        scripts,
+        plans: &plans,
+        input,
+    };
+    run_viewed(&mut scene, &mut owns, parts, &mut nesting);
     take_last(&mut scene, &mut owns);
     nesting.take(scene.frame());
     Played {

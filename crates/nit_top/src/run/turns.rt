@@ -7,6 +7,7 @@ use crate::{Opened, PutFault, Ran, open, put_last};
 use nit_actor::laws::rounds_are_whole;
 use nit_actor::{Desk, PictureName, run_rounds};
 use nit_config::Config;
+use nit_hall::Parts;
 use nit_journal::laws::one_more_entry;
 use nit_plan::laws::{buffer_within_table, one_more_line};
 use nit_rect::NoMemory;
@@ -65,7 +66,12 @@ fn play<S: Store>(
         fault: None,
         tried: PictureName::Final,
     };
-    run_rounds(&mut scene, &mut owns, scripts, &plans, input, &mut desk);
+    let parts = Parts {
+        scripts,
+        plans: &plans,
+        input,
+    };
+    run_rounds(&mut scene, &mut owns, parts, &mut desk);
     put_last(&mut scene, &mut owns, &mut desk);
     let Desk {
         store,

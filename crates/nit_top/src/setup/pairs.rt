@@ -6,11 +6,9 @@ ghost use Rattle.nit_top.specs.Terms.{AreBlank, HasRoomBack, IsReadyWithClips, I
 use nit_actor::Pair;
 use nit_clip::ClipScript;
 use nit_config::Config;
-use nit_hall::{ClipOpened, ClipPass, Opened, Pass, Room, UserPass, open, open_clips};
+use nit_hall::{ClipOpened, ClipPass, Opened, Parts, Pass, Room, UserPass, open, open_clips};
 use nit_pixels::Canvas;
-use nit_plan::Plan;
 use nit_rect::NoMemory;
-use nit_script::{Client, Input};
 use std::alloc::Global;
 
 /// A room with its actors: the user's pass, and each client's pass with its clip pass. The two last
@@ -29,24 +27,23 @@ pub struct Paired<'a> {
 pub fn open_pairs<'a>(
     alloc: Global,
     config: &Config,
-    scripts: &'a [Client],
-    plans: &'a [Plan],
-    input: &'a Input,
+    parts: Parts<'a>,
     canvases: Vec<Canvas<'a>>,
     clips: &'a [ClipScript],
 ) -> Result<Paired<'a>, NoMemory>
-    requires setting { IsSetting config.now scripts.now plans.now }
-    requires canvases { AreBlank config.now plans.now canvases.items }
-    requires runnable { IsRunnable (clips_setup config.now scripts.now input.now clips.now) }
-    requires each { length clips.now ≡ length scripts.now }
+    requires setting { IsSetting config.now parts.scripts.now parts.plans.now }
+    requires canvases { AreBlank config.now parts.plans.now canvases.items }
+    requires runnable { IsRunnable
+        (clips_setup config.now parts.scripts.now parts.input.now clips.now) }
+    requires each { length clips.now ≡ length parts.scripts.now }
     ensures ready { IfOk result (λ p. IsReadyWithClips p.room.parts p.room p.pairs.items p.user) }
     ensures back { IfOk result (λ p. HasRoomBack p) }
     ensures setup { IfOk result (λ p. clips_setup_in p.room.parts
-        ≡ clips_setup config.now scripts.entry.now input.entry.now clips.entry.now) }
+        ≡ clips_setup config.now parts.entry.scripts.now parts.entry.input.now clips.entry.now) }
 {
-    let opened = open(alloc, config, scripts, plans, input, canvases)?;
+    let opened = open(alloc, config, parts, canvases)?;
     let opened = open_clips(alloc, opened, clips)?;
-    let pairs = Vec::with_capacity(alloc, scripts.len())?;
+    let pairs = Vec::with_capacity(alloc, parts.scripts.len())?;
     Ok(make_pairs(opened, pairs))
 }
 

@@ -15,6 +15,6 @@ returns-clause-ready c =
     let two = c.in_ok-opened-2 in
     let made = c.make_pairs in
     let clips : List ClipPassModel = two.opened.clips.items in
-    opened_ready c.args.config.now c.args.scripts.now c.args.plans.now c.args.input.now c.args.canvases.items one.room one.passes.items one.user c.requires.setting c.in_ok-opened.ensures c.args.clips.now c.requires.runnable c.requires.each made.result.room made.result.pairs.items
+    opened_ready c.args.config.now c.args.parts.scripts.now c.args.parts.plans.now c.args.parts.input.now c.args.canvases.items one.room one.passes.items one.user c.requires.setting c.in_ok-opened.ensures c.args.clips.now c.requires.runnable c.requires.each made.result.room made.result.pairs.items
     made.result.user (made.ensures.room ∙ two.ensures.room) (made.ensures.user ∙ two.ensures.user) (made.ensures.passes ∙ two.ensures.passes)
     (subst (λ (qs : List ClipPassModel). AreFirstClipPasses made.result.room.parts qs) (sym made.ensures.clips) (subst (λ (t : RoomModel). AreFirstClipPasses t.parts clips) (sym made.ensures.room) two.ensures.clips))
