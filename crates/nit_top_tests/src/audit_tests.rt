@@ -1,160 +1,159 @@
 //! Audits of journals by the configuration and the scripts of two clients.
 
-use crate::case::{Case, alone, assert_cases, files, over};
-use crate::two_tests::{A, B, CONFIG, FILES, INPUT, JOURNAL};
-use crate::{Abort, Content, Fail, Global, Journal, MemoryStore, same};
+use crate::case::{files, store, texts};
+use crate::table::{Case, lines_of};
+use crate::{Abort, Global, MemoryStore, Threads, Wait, assert_cases, same};
+use nit_actor::Open;
+use nit_top::{nitpicker, nitpicker_alone};
 
-/// The names of the files that the audit reads, in this order.
-const NAMES: &str = "two.toml a.nit b.nit two.in journal.txt";
+const CASES: &str = r#"
 
-/// The words that ask for the audit.
-const AUDIT: [&str; 3] = ["audit", "two.toml", "journal.txt"];
+text OTHER_HANDLE
+| call 0 done < buffer 4 2
+| call 0 handle 1 < view
+| call 0 done < place 1 0 0 4 2
+| call 1 done < buffer 4 2
+| call 1 handle 2 < view
+| call 1 done < place 1 0 0 4 2
+| shot 1
+| call 1 done < place 1 4 2 4 2
+| final
 
-/// The journal of the run up to its last call, and no last picture.
-const UNENDED: &str =
-    "call 0 done < buffer 4 2\ncall 0 handle 1 < view\ncall 0 done < place 1 0 0 4 2\n\
-     call 1 done < buffer 4 2\ncall 1 handle 1 < view\ncall 1 done < place 1 0 0 4 2\n\
-     shot 1\ncall 1 done < place 1 4 2 4 2\n";
+text UNENDED
+| call 0 done < buffer 4 2
+| call 0 handle 1 < view
+| call 0 done < place 1 0 0 4 2
+| call 1 done < buffer 4 2
+| call 1 handle 1 < view
+| call 1 done < place 1 0 0 4 2
+| shot 1
+| call 1 done < place 1 4 2 4 2
 
-/// The journal of the run, but that the second client's view has another handle.
-const OTHER_HANDLE: &str =
-    "call 0 done < buffer 4 2\ncall 0 handle 1 < view\ncall 0 done < place 1 0 0 4 2\n\
-     call 1 done < buffer 4 2\ncall 1 handle 2 < view\ncall 1 done < place 1 0 0 4 2\n\
-     shot 1\ncall 1 done < place 1 4 2 4 2\nfinal\n";
+base audit
+words audit, two.toml, journal.txt
+file two.toml CONFIG
+file a.nit A
+file b.nit B
+file two.in INPUT
+file journal.txt JOURNAL
+ends 9 =nitpicker: journal.txt: entry 1: not a run\n
+asked =two.toml a.nit b.nit two.in journal.txt
+there =two.toml a.nit b.nit two.in journal.txt
+entries 0
 
-/// The audit of this journal, with this input script: which calls fail, what is said with which
-/// status, and how many files were asked for. Nothing is put.
-macro_rules! audit {
-    ($input:expr, $journal:expr, $failing:expr, $status:expr, $said:expr, $asked:expr) => {
-        Case {
-            words: &AUDIT,
-            files: &[
-                ("two.toml", Content::Plain(CONFIG)),
-                ("a.nit", Content::Plain(A)),
-                ("b.nit", Content::Plain(B)),
-                ("two.in", Content::Plain($input)),
-                ("journal.txt", Content::Plain($journal)),
-            ],
-            failing: $failing,
-            status: $status,
-            said: $said,
-            asked: (NAMES, $asked),
-            there: (NAMES, 5),
-            holds: &[],
-            journal: &[Journal::Count(0)],
-        }
-    };
-}
+case the second client's view has another handle
+with audit
+file journal.txt OTHER_HANDLE
+ends 9 =nitpicker: journal.txt: entry 5: not a run\n
 
-const YES: &str = "nitpicker: audit yes entries 9\n";
+case up to the last call, and no last picture
+with audit
+file journal.txt UNENDED
+ends 9 =nitpicker: journal.txt: entry 9: not a run\n
 
-/// The journal of the run.
-const OWN: Case = audit!(INPUT, JOURNAL, &[], 0, YES, 5);
+case
+with audit
+file journal.txt =
 
-/// Journals that are refused.
-static REFUSED: [Case; 6] = [
-    audit!(
-        INPUT,
-        OTHER_HANDLE,
-        &[],
-        9,
-        "nitpicker: journal.txt: entry 5: not a run\n",
-        5
-    ),
-    audit!(
-        INPUT,
-        UNENDED,
-        &[],
-        9,
-        "nitpicker: journal.txt: entry 9: not a run\n",
-        5
-    ),
-    audit!(INPUT, "", &[], 9, NO_ENTRY, 5),
-    audit!(INPUT, "final\n", &[], 9, NO_ENTRY, 5),
-    audit!(
-        INPUT,
-        "call 0 done < view 1\n",
-        &[],
-        8,
-        "nitpicker: journal.txt: line 1: bad journal\n",
-        5
-    ),
-    // an entry that is of no run stands before a line that is refused
-    audit!(
-        INPUT,
-        "final\nfinal",
-        &[],
-        8,
-        "nitpicker: journal.txt: line 2: bad journal\n",
-        5
-    ),
-];
+case
+with audit
+file journal.txt =final\n
 
-const NO_ENTRY: &str = "nitpicker: journal.txt: entry 1: not a run\n";
+case
+with audit
+file journal.txt =call 0 done < view 1\n
+ends 8 =nitpicker: journal.txt: line 1: bad journal\n
 
-const UNREAD: &str = "nitpicker: journal.txt: read fault\n";
+case an entry that is of no run stands before a line that is refused
+with audit
+file journal.txt =final\nfinal
+ends 8 =nitpicker: journal.txt: line 2: bad journal\n
 
-/// A script that is refused is told, and the journal is not read. Calls of the store fail once: the
-/// fifth reads the journal, and the sixth is the first saying. The last one has no journal.
-static OTHERS: [Case; 8] = [
-    OWN,
-    audit!("", "call", &[], 6, "nitpicker: two.in: phases differ\n", 4),
-    audit!(
-        INPUT,
-        JOURNAL,
-        &[4],
-        3,
-        "nitpicker: two.in: read fault\n",
-        4
-    ),
-    audit!(INPUT, JOURNAL, &[5], 3, UNREAD, 5),
-    audit!(INPUT, JOURNAL, &[6], 4, "", 5),
-    audit!(INPUT, UNENDED, &[6], 9, "", 5),
-    audit!(INPUT, "call", &[6], 8, "", 5),
-    Case {
-        words: &AUDIT,
-        files: &FILES,
-        failing: &[],
-        status: 3,
-        said: UNREAD,
-        asked: (NAMES, 5),
-        there: (NAMES, 4),
-        holds: &[],
-        journal: &[Journal::Count(0)],
-    },
-];
+case the journal of the run
+with audit
+ends 0 =nitpicker: audit yes entries 9\n
+
+case a script that is refused is told, and the journal is not read
+with audit
+file two.in =
+file journal.txt =call
+ends 6 =nitpicker: two.in: phases differ\n
+asked =two.toml a.nit b.nit two.in
+
+case the fourth call of the store reads the last script
+with audit
+fails 4
+ends 3 =nitpicker: two.in: read fault\n
+asked =two.toml a.nit b.nit two.in
+
+case the fifth reads the journal
+with audit
+fails 5
+ends 3 =nitpicker: journal.txt: read fault\n
+
+case the sixth is the first saying
+with audit
+fails 6
+ends 4 =
+
+case
+with audit
+file journal.txt UNENDED
+fails 6
+ends 9 =
+
+case
+with audit
+file journal.txt =call
+fails 6
+ends 8 =
+
+case no journal
+words audit, two.toml, journal.txt
+file two.toml CONFIG
+file a.nit A
+file b.nit B
+file two.in INPUT
+ends 3 =nitpicker: journal.txt: read fault\n
+asked =two.toml a.nit b.nit two.in journal.txt
+there =two.toml a.nit b.nit two.in
+entries 0
+
+"#;
 
 #[test]
-fn audits(rt: HostRuntime) -> Result<(), Fail> {
-    let tables: [&[Case]; 2] = [&REFUSED, &OTHERS];
-    for cases in &tables {
-        assert_cases(&rt, rt.alloc(), cases)?;
-    }
-    Ok(())
+fn audits(rt: HostRuntime) {
+    assert_cases(&rt, rt.alloc(), CASES);
 }
 
-/// The runs of the two clients, by turns and beside each other.
-const RUNS: [[&str; 2]; 2] = [["turns", "two.toml"], ["run", "two.toml"]];
+/// Does what the words say, which succeeds.
+fn audited(rt: &impl Abort, alloc: Global, case: &Case, store: &mut MemoryStore) -> Option<()> {
+    let words = texts(alloc, "audit, two.toml, journal.txt").ok()?;
+    let audit = nitpicker_alone(alloc, &words, store);
+    same(rt, case, &audit.status, &0);
+    Some(())
+}
 
-/// The journal of this store is found to be one of a run.
-fn assert_audited(
-    rt: &impl Abort,
+/// The journal that this run puts is found to be one of a run.
+fn assert_audited<R: Abort + Threads + Wait + Sync>(
+    rt: &R,
     alloc: Global,
-    words: &[&str],
-    mut store: MemoryStore,
-) -> Result<(), Fail> {
-    let audit = alone(alloc, &AUDIT, &mut store)?.ok_or("threads")?;
-    same(rt, &words, &audit.status, &0);
-    Ok(())
+    words: &str,
+) -> Option<()> {
+    let lines = lines_of(alloc, CASES, "no journal")?;
+    let case = Case {
+        table: CASES,
+        lines: &lines,
+    };
+    let words = texts(alloc, words).ok()?;
+    let mut store = store(rt, alloc, &case, files(alloc, &case)?)?;
+    let ran = nitpicker(rt, alloc, &words, &mut store, &Open);
+    same(rt, &case, &ran.status, &0);
+    audited(rt, alloc, &case, &mut store)
 }
 
 #[test]
-fn journals_that_runs_put(rt: HostRuntime) -> Result<(), Fail> {
-    let alloc = rt.alloc();
-    for words in &RUNS {
-        let (ran, store) = over(&rt, alloc, words, files(alloc, &FILES)?, &[])?;
-        same(&rt, words, &ran.status, &0);
-        assert_audited(&rt, alloc, words, store)?;
-    }
-    Ok(())
+fn journals_that_runs_put(rt: HostRuntime) {
+    assert!(rt; assert_audited(&rt, rt.alloc(), "turns, two.toml").is_some());
+    assert!(rt; assert_audited(&rt, rt.alloc(), "run, two.toml").is_some());
 }

@@ -1,129 +1,137 @@
 //! Configurations that are refused.
 
-use crate::two_tests::{A, B, CONFIG, INPUT, NAMES, SUMMARY};
-use crate::{Case, Content, Fail, Journal, List, Piece, Want, assert_cases};
+use crate::assert_cases;
 
-/// The configuration of two clients is this one, and is refused by this line: nothing else is read,
-/// and nothing is put.
-macro_rules! bad {
-    ($config:expr, $said:expr) => {
-        Case {
-            words: &["turns", "two.toml"],
-            files: &[
-                ("two.toml", $config),
-                ("a.nit", Content::Plain(A)),
-                ("b.nit", Content::Plain(B)),
-                ("two.in", Content::Plain(INPUT)),
-            ],
-            failing: &[],
-            status: 5,
-            said: $said,
-            asked: (NAMES, 1),
-            there: (NAMES, 4),
-            holds: &[],
-            journal: &[Journal::Count(0)],
-        }
-    };
-}
+const CASES: &str = r#"
 
-/// The same where one part of it is replaced by another one.
-macro_rules! changed {
-    ($old:expr, $new:expr, $said:expr) => {
-        bad!(Content::Changed(CONFIG, $old, $new), $said)
-    };
-}
+text SCREEN
+| [screen]
+| width = 8
+| height = 4
+|
+| [input]
+| script = "two.in"
+|
 
-const SYNTAX: &str = "nitpicker: two.toml: bad configuration: syntax\n";
+text CLIENTS
+| [[client]]
+| label = "a"
+| donation = 65536
+| script = "a.nit"
+|
+| [[client]]
+| label = "b"
+| donation = 65536
+| script = "b.nit"
 
-const KIND: &str = "nitpicker: two.toml: bad configuration: kind\n";
+base bad
+words turns, two.toml
+file two.toml =[screen\nwidth = 8\nheight = 4\n\n[input]\nscript = "two.in"\n\n
+more two.toml CLIENTS
+file a.nit A
+file b.nit B
+file two.in INPUT
+ends 5 =nitpicker: two.toml: bad configuration: syntax\n
+asked =two.toml
+there =two.toml a.nit b.nit two.in
+entries 0
 
-const MISSING: &str = "nitpicker: two.toml: bad configuration: missing\n";
+case
+with bad
 
-const UNKNOWN: &str = "nitpicker: two.toml: bad configuration: unknown\n";
+case
+with bad
+file two.toml =[screen]\nwidth = "8"\nheight = 4\n\n[input]\nscript = "two.in"\n\n
+more two.toml CLIENTS
+ends 5 =nitpicker: two.toml: bad configuration: kind\n
 
-const RANGE: &str = "nitpicker: two.toml: bad configuration: range\n";
+case
+with bad
+file two.toml =[screen]\nwidth = 8\n\n[input]\nscript = "two.in"\n\n
+more two.toml CLIENTS
+ends 5 =nitpicker: two.toml: bad configuration: missing\n
 
-const LABEL: &str = "nitpicker: two.toml: bad configuration: label\n";
+case
+with bad
+file two.toml =[screen]\ndepth = 24\nwidth = 8\nheight = 4\n\n[input]\nscript = "two.in"\n\n
+more two.toml CLIENTS
+ends 5 =nitpicker: two.toml: bad configuration: unknown\n
 
-const TWICE: &str = "nitpicker: two.toml: bad configuration: twice\n";
+case
+with bad
+file two.toml SCREEN
+more two.toml =[[client]]\nlabel = "a"\ndonation = 255\nscript = "a.nit"\n\n
+more two.toml =[[client]]\nlabel = "b"\ndonation = 65536\nscript = "b.nit"\n
+ends 5 =nitpicker: two.toml: bad configuration: range\n
 
-/// A text, a number of times.
-macro_rules! times {
-    ($times:expr, $text:expr) => {
-        Piece {
-            times: $times,
-            counts: &[],
-            end: $text,
-        }
-    };
-}
+case
+with bad
+file two.toml SCREEN
+more two.toml =[[client]]\nlabel = "A"\ndonation = 65536\nscript = "a.nit"\n\n
+more two.toml =[[client]]\nlabel = "b"\ndonation = 65536\nscript = "b.nit"\n
+ends 5 =nitpicker: two.toml: bad configuration: label\n
 
-/// Fifteen clients more, which are seventeen.
-const SEVENTEEN: [Piece; 2] = [
-    times!(1, CONFIG),
-    Piece {
-        times: 15,
-        counts: &[("\n[[client]]\nlabel = \"c", 0, 1)],
-        end: "\"\ndonation = 65536\nscript = \"a.nit\"\n",
-    },
-];
+case
+with bad
+file two.toml SCREEN
+more two.toml =[[client]]\nlabel = "a"\ndonation = 65536\nscript = "a.nit"\n\n
+more two.toml =[[client]]\nlabel = "a"\ndonation = 65536\nscript = "b.nit"\n
+ends 5 =nitpicker: two.toml: bad configuration: twice\n
 
-/// The configuration has 173 bytes. A comment makes the file just as long as it may be.
-const LONG: [Piece; 3] = [
-    times!(1, CONFIG),
-    times!(1, "#xx"),
-    times!(65_525, "xxxxxxxxxxxxxxxx"),
-];
+case more ways to be cut or doubled
+with bad
+file two.toml =[screen]\nwidth = 8\nwidth = 8\nheight = 4\n\n[input]\nscript = "two.in"\n\n
+more two.toml CLIENTS
 
-/// Or one byte too long.
-const TOO_LONG: [Piece; 3] = [
-    times!(1, CONFIG),
-    times!(1, "#xxx"),
-    times!(65_525, "xxxxxxxxxxxxxxxx"),
-];
+case
+with bad
+file two.toml =[screen]\nwidth =\nheight = 4\n\n[input]\nscript = "two.in"\n\n
+more two.toml CLIENTS
 
-static CASES: [Case; 15] = [
-    changed!("[screen]", "[screen", SYNTAX),
-    changed!("width = 8", "width = \"8\"", KIND),
-    changed!("height = 4\n", "", MISSING),
-    changed!("[screen]\n", "[screen]\ndepth = 24\n", UNKNOWN),
-    changed!("donation = 65536", "donation = 255", RANGE),
-    changed!("label = \"a\"", "label = \"A\"", LABEL),
-    changed!("label = \"b\"", "label = \"a\"", TWICE),
-    // more ways to be cut or doubled
-    changed!("width = 8", "width = 8\nwidth = 8", SYNTAX),
-    changed!("width = 8", "width =", SYNTAX),
-    // few lines
-    bad!(Content::Plain("client = 3"), KIND),
-    bad!(Content::Plain("[screen]\nwidth = 8\nheight = 4\n"), MISSING),
-    bad!(Content::Plain("[screen]\nwidth ="), SYNTAX),
-    bad!(
-        Content::Pieces(&SEVENTEEN),
-        "nitpicker: two.toml: bad configuration: too many\n"
-    ),
-    Case {
-        words: &["turns", "two.toml"],
-        files: &[
-            ("two.toml", Content::Pieces(&LONG)),
-            ("a.nit", Content::Plain(A)),
-            ("b.nit", Content::Plain(B)),
-            ("two.in", Content::Plain(INPUT)),
-        ],
-        failing: &[],
-        status: 0,
-        said: SUMMARY,
-        asked: (NAMES, 9),
-        there: (NAMES, 9),
-        holds: &[("two.toml", Want::Length(1_048_576))],
-        journal: &[Journal::Whole(List::Two)],
-    },
-    bad!(
-        Content::Pieces(&TOO_LONG),
-        "nitpicker: two.toml: bad configuration: too long\n"
-    ),
-];
+case few lines
+with bad
+file two.toml =client = 3
+ends 5 =nitpicker: two.toml: bad configuration: kind\n
+
+case
+with bad
+file two.toml =[screen]\nwidth = 8\nheight = 4\n
+ends 5 =nitpicker: two.toml: bad configuration: missing\n
+
+case
+with bad
+file two.toml =[screen]\nwidth =
+
+case fifteen clients more, which are seventeen
+with bad
+file two.toml CONFIG
+more two.toml 15 =\n[[client]]\nlabel = "c{0+1}"\ndonation = 65536\nscript = "a.nit"\n
+ends 5 =nitpicker: two.toml: bad configuration: too many\n
+
+case a comment makes the file, of 173 bytes, one byte too long
+with bad
+file two.toml CONFIG
+more two.toml =#xxx
+more two.toml 65525 =xxxxxxxxxxxxxxxx
+ends 5 =nitpicker: two.toml: bad configuration: too long\n
+
+case or just as long as it may be
+words turns, two.toml
+file two.toml CONFIG
+more two.toml =#xx
+more two.toml 65525 =xxxxxxxxxxxxxxxx
+file a.nit A
+file b.nit B
+file two.in INPUT
+ends 0 =nitpicker: clients 2 entries 9 frames 2\n
+asked =two.toml a.nit b.nit two.in shot-1.ppm final.ppm events-a.txt events-b.txt journal.txt
+there =two.toml a.nit b.nit two.in shot-1.ppm final.ppm events-a.txt events-b.txt journal.txt
+is two.toml long 1048576
+whole two
+
+"#;
 
 #[test]
-fn configurations(rt: HostRuntime) -> Result<(), Fail> {
-    assert_cases(&rt, rt.alloc(), &CASES)
+fn configurations(rt: HostRuntime) {
+    assert_cases(&rt, rt.alloc(), CASES);
 }

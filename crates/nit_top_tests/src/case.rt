@@ -1,127 +1,138 @@
-//! A command over a store in memory, and what comes of it: a case, and whether it is so.
+//! A command over a store in memory, and what comes of it: whether a case is so.
+//!
+//! Of a case's lines `words WORD, ..` is the command. `file NAME TEXT` is a file that is there
+//! before, and `more NAME TEXT` adds to it. `fails N ..` has the numbers of the store's calls that
+//! fail. `ends STATUS TEXT` is how the command ends, and what is said. `asked TEXT` has the names
+//! that the store is asked for, and `there TEXT` those of the files that are there afterwards, each
+//! in order. `entries N` says how many the journal has. Of several lines of a kind, or of one name
+//! of a file, the last one counts. Any other line wants something of a file or of the journal
+//! (`want`, `journals`), but for `cut FIRST LAST`, which `two_tests` alone reads.
 
-use crate::content::{Content, Want, bytes, picture};
-use crate::journals::{Journal, assert_journal};
-use crate::{Abort, AllocError, Fail, Global, Threads, Wait, same};
+use crate::journals::assert_journal;
+use crate::table::{Case, lines, number, worded};
+use crate::want::assert_file;
+use crate::{Abort, AllocError, Global, Threads, Wait, same};
 use nit_actor::{Gate, Open};
-use nit_store::{MemoryStore, Store, have_different_names};
+use nit_store::{MemoryStore, have_different_names};
 use nit_top::{Done, nitpicker, nitpicker_alone, starts_threads};
 
-/// The first so many of these names, between which there is a space.
-pub type Names = (&'static str, usize);
+/// Files by name, in order.
+pub type Files = Vec<(String, Vec<u8>)>;
 
-/// A command, and what comes of it.
-pub struct Case {
-    /// The words of the command.
-    pub words: &'static [&'static str],
-    /// The files that are there before.
-    pub files: &'static [(&'static str, Content)],
-    /// The numbers of the store's calls that fail.
-    pub failing: &'static [u64],
-    pub status: u8,
-    /// All that is said.
-    pub said: &'static str,
-    /// What the store is asked for, in order.
-    pub asked: Names,
-    /// The files that are there afterwards, in order.
-    pub there: Names,
-    /// What some of them hold then.
-    pub holds: &'static [(&'static str, Want)],
-    /// How the journal is.
-    pub journal: &'static [Journal],
-}
+// ---- what goes in
 
-impl Case {
-    /// What names the case where it comes out otherwise.
-    pub fn label(&self) -> (&'static [&'static str], &'static str) {
-        (self.words, self.said)
-    }
+/// The words of the command.
+pub fn words(alloc: Global, case: &Case) -> Option<Vec<String>> {
+    texts(alloc, case.last("words")?).ok()
 }
 
 /// Words of their own.
-fn texts(alloc: Global, words: &[&str]) -> Result<Vec<String>, AllocError> {
-    let mut all = Vec::new(alloc);
-    for word in words {
-        all.push(String::from_str(alloc, word)?)?;
+pub fn texts(alloc: Global, words: &str) -> Result<Vec<String>, AllocError> {
+    let mut texts = Vec::new(alloc);
+    if words.is_empty() {
+        return Ok(texts);
     }
-    Ok(all)
+    for word in words.split(", ") {
+        texts.push(String::from_str(alloc, word)?)?;
+    }
+    Ok(texts)
 }
 
-/// Files with these contents.
-pub fn files(alloc: Global, named: &[(&str, Content)]) -> Result<Vec<(String, Vec<u8>)>, Fail> {
+/// The numbers of the store's calls that fail.
+fn failing(alloc: Global, case: &Case) -> Option<Vec<u64>> {
+    let mut numbers = Vec::new(alloc);
+    let line = case.last("fails").unwrap_or("");
+    for digits in line.split_whitespace() {
+        numbers.push(number(digits)?).ok()?;
+    }
+    Some(numbers)
+}
+
+/// The files that are there before.
+pub fn files(alloc: Global, case: &Case) -> Option<Files> {
     let mut files = Vec::new(alloc);
-    for (name, content) in named {
-        files.push((String::from_str(alloc, name)?, bytes(alloc, content)?))?;
+    for line in case.lines.lines() {
+        put_line(alloc, case, &mut files, line)?;
     }
-    Ok(files)
+    Some(files)
 }
 
-/// A store with these files, of which the calls with these numbers fail.
-pub fn store(
-    rt: &impl Abort,
-    alloc: Global,
-    files: Vec<(String, Vec<u8>)>,
-    failing: &[u64],
-) -> Result<MemoryStore, AllocError> {
-    assert!(rt; have_different_names(&files));
-    Ok(MemoryStore::new(alloc, files, failing.to_vec(alloc)?))
+fn put_line(alloc: Global, case: &Case, files: &mut Files, line: &str) -> Option<()> {
+    let (word, rest) = worded(line);
+    match word {
+        "file" => set_file(alloc, case, files, rest),
+        "more" => add_to_file(alloc, case, files, rest),
+        _ => Some(()),
+    }
 }
 
-/// Does what the words ask for, with each line of a client on a thread at this gate.
-pub fn command<R: Threads + Wait + Sync, G: Gate>(
+fn set_file(alloc: Global, case: &Case, files: &mut Files, rest: &str) -> Option<()> {
+    let (name, meant) = worded(rest);
+    let bytes = case.text(alloc, meant)?.into_bytes();
+    if let Some(place) = place_of(files, name) {
+        *place = bytes;
+        return Some(());
+    }
+    let name = String::from_str(alloc, name).ok()?;
+    files.push((name, bytes)).ok()
+}
+
+fn add_to_file(alloc: Global, case: &Case, files: &mut Files, rest: &str) -> Option<()> {
+    let (name, meant) = worded(rest);
+    let text = case.text(alloc, meant)?;
+    let bytes = place_of(files, name)?;
+    bytes.extend_from_slice(text.as_bytes()).ok()
+}
+
+/// The bytes of the file of this name.
+fn place_of<'a>(files: &'a mut Files, name: &str) -> Option<&'a mut Vec<u8>> {
+    for file in files.iter_mut() {
+        if file.0.as_str() == name {
+            return Some(&mut file.1);
+        }
+    }
+    None
+}
+
+// ---- what comes of it
+
+/// The cases of a table come out so.
+pub fn assert_cases<R: Abort + Threads + Wait + Sync>(rt: &R, alloc: Global, table: &str) {
+    for block in table.split("\n\n") {
+        let read = assert_block(rt, alloc, table, block);
+        assert!(rt; read.is_some(), "cannot be read: {block}");
+    }
+}
+
+/// A block is one of a table, and where it is a case, that comes out so.
+fn assert_block<R: Abort + Threads + Wait + Sync>(
     rt: &R,
     alloc: Global,
-    words: &[&str],
-    store: &mut MemoryStore,
-    gate: &G,
-) -> Result<Done, AllocError> {
-    let words = texts(alloc, words)?;
-    Ok(nitpicker(rt, alloc, &words, store, gate))
-}
-
-/// Does what the words ask for on one thread, or nothing where they start some.
-pub fn alone<S: Store>(
-    alloc: Global,
-    words: &[&str],
-    store: &mut S,
-) -> Result<Option<Done>, AllocError> {
-    let words = texts(alloc, words)?;
-    Ok(unless_threads(alloc, &words, store))
-}
-
-/// The same with words of their own.
-fn unless_threads<S: Store>(alloc: Global, words: &[String], store: &mut S) -> Option<Done> {
-    if starts_threads(words) {
-        return None;
+    table: &str,
+    block: &str,
+) -> Option<()> {
+    let (head, _lines) = block.split_once('\n').unwrap_or((block, ""));
+    match worded(head).0 {
+        "case" => assert_lines(rt, alloc, table, block),
+        "text" | "base" | "" => Some(()),
+        _ => None,
     }
-    Some(nitpicker_alone(alloc, words, store))
 }
 
-/// Does what the words ask for over a store with these files, of which the calls with these numbers
-/// fail.
-pub fn over<R: Abort + Threads + Wait + Sync>(
+/// The case of this block comes out so.
+fn assert_lines<R: Abort + Threads + Wait + Sync>(
     rt: &R,
     alloc: Global,
-    words: &[&str],
-    files: Vec<(String, Vec<u8>)>,
-    failing: &[u64],
-) -> Result<(Done, MemoryStore), AllocError> {
-    let mut store = store(rt, alloc, files, failing)?;
-    let done = command(rt, alloc, words, &mut store, &Open)?;
-    Ok((done, store))
-}
-
-/// The cases come out so.
-pub fn assert_cases<R: Abort + Threads + Wait + Sync>(
-    rt: &R,
-    alloc: Global,
-    cases: &[Case],
-) -> Result<(), Fail> {
-    for case in cases {
-        assert_case(rt, alloc, case, &Open)?;
-        assert_alone(rt, alloc, case, files(alloc, case.files)?)?;
-    }
-    Ok(())
+    table: &str,
+    block: &str,
+) -> Option<()> {
+    let lines = lines(alloc, table, block)?;
+    let case = Case {
+        table,
+        lines: &lines,
+    };
+    assert_case(rt, alloc, &case, &Open)?;
+    assert_alone(rt, alloc, &case, files(alloc, &case)?)
 }
 
 /// The case comes out so at this gate.
@@ -130,24 +141,39 @@ pub fn assert_case<R: Abort + Threads + Wait + Sync, G: Gate>(
     alloc: Global,
     case: &Case,
     gate: &G,
-) -> Result<(), Fail> {
-    let mut store = store(rt, alloc, files(alloc, case.files)?, case.failing)?;
-    let done = command(rt, alloc, case.words, &mut store, gate)?;
+) -> Option<()> {
+    let words = words(alloc, case)?;
+    let mut store = store(rt, alloc, case, files(alloc, case)?)?;
+    let done = nitpicker(rt, alloc, &words, &mut store, gate);
     assert_store(rt, alloc, case, &done, &store)
 }
 
 /// A case that starts no thread comes out so on one thread, with these files.
-pub fn assert_alone(
-    rt: &impl Abort,
-    alloc: Global,
-    case: &Case,
-    files: Vec<(String, Vec<u8>)>,
-) -> Result<(), Fail> {
-    let mut store = store(rt, alloc, files, case.failing)?;
-    match alone(alloc, case.words, &mut store)? {
-        Some(done) => assert_store(rt, alloc, case, &done, &store),
-        None => Ok(()),
+pub fn assert_alone(rt: &impl Abort, alloc: Global, case: &Case, files: Files) -> Option<()> {
+    let words = words(alloc, case)?;
+    if starts_threads(&words) {
+        return Some(());
     }
+    let mut store = store(rt, alloc, case, files)?;
+    let done = nitpicker_alone(alloc, &words, &mut store);
+    assert_store(rt, alloc, case, &done, &store)
+}
+
+/// A store with these files, of which the calls fail that the case says.
+pub fn store(rt: &impl Abort, alloc: Global, case: &Case, files: Files) -> Option<MemoryStore> {
+    let failing = failing(alloc, case)?;
+    assert!(rt; have_different_names(&files));
+    Some(MemoryStore::new(alloc, files, failing))
+}
+
+/// What came of a command.
+#[derive(Clone, Copy)]
+pub struct Came<'a> {
+    pub done: &'a Done,
+    /// All that was said.
+    pub said: &'a [u8],
+    /// The files that are there afterwards.
+    pub files: &'a [(String, Vec<u8>)],
 }
 
 /// The command of a case came out so over this store.
@@ -157,83 +183,59 @@ pub fn assert_store(
     case: &Case,
     done: &Done,
     store: &MemoryStore,
-) -> Result<(), Fail> {
-    assert_done(rt, alloc, case, done, store.said(), store.files())?;
-    Ok(assert_names(rt, alloc, case, store.asked(), case.asked)?)
+) -> Option<()> {
+    let asked = store.asked().join(alloc, " ").ok()?;
+    same(rt, case, &asked, &case.text(alloc, case.last("asked")?)?);
+    let came = Came {
+        done,
+        said: store.said(),
+        files: store.files(),
+    };
+    assert_came(rt, alloc, case, &came)
 }
 
 /// The command of a case came out so, but for what was asked for.
-pub fn assert_done(
-    rt: &impl Abort,
-    alloc: Global,
-    case: &Case,
-    done: &Done,
-    said: &[u8],
-    files: &[(String, Vec<u8>)],
-) -> Result<(), Fail> {
-    assert_end(rt, case, done, said);
-    assert_names(rt, alloc, case, &names_of(alloc, files)?, case.there)?;
-    assert_holds(rt, alloc, case, files)?;
-    assert_journal(rt, alloc, case, &done.journal)
+pub fn assert_came(rt: &impl Abort, alloc: Global, case: &Case, came: &Came) -> Option<()> {
+    assert_end(rt, alloc, case, came)?;
+    let there = names_of(alloc, came.files).ok()?;
+    same(rt, case, &there, &case.text(alloc, case.last("there")?)?);
+    for line in case.lines.lines() {
+        assert_line(rt, alloc, case, came, line)?;
+    }
+    Some(())
 }
 
-/// The command of a case ends so.
-pub fn assert_end(rt: &impl Abort, case: &Case, done: &Done, said: &[u8]) {
-    same(rt, &case.label(), &done.status, &case.status);
-    same(
-        rt,
-        &case.label(),
-        &std::str::from_utf8(said),
-        &Ok(case.said),
-    );
+/// The command ends so, and says this. The journal has so many entries.
+pub fn assert_end(rt: &impl Abort, alloc: Global, case: &Case, came: &Came) -> Option<()> {
+    let (status, said) = worded(case.last("ends")?);
+    same(rt, case, &(came.done.status as u64), &number(status)?);
+    same(rt, case, &came.said, &case.text(alloc, said)?.as_bytes());
+    if let Some(entries) = case.last("entries") {
+        let count = came.done.journal.len() as u64;
+        same(rt, case, &count, &number(entries)?);
+    }
+    Some(())
 }
 
 /// The names of files.
-fn names_of(alloc: Global, files: &[(String, Vec<u8>)]) -> Result<Vec<String>, AllocError> {
+fn names_of(alloc: Global, files: &[(String, Vec<u8>)]) -> Result<String, AllocError> {
     let mut names = Vec::new(alloc);
     for file in files {
-        names.push(String::from_str(alloc, file.0.as_str())?)?;
+        names.push(file.0.as_str())?;
     }
-    Ok(names)
+    names.join(alloc, " ")
 }
 
-/// At most so many names of a text.
-fn first_names(alloc: Global, text: &str, count: usize) -> Result<Vec<String>, AllocError> {
-    let mut names = Vec::new(alloc);
-    for name in text.split(' ') {
-        if names.len() < count {
-            names.push(String::from_str(alloc, name)?)?;
+/// What came of a case is as this line says.
+fn assert_line(rt: &impl Abort, alloc: Global, case: &Case, came: &Came, line: &str) -> Option<()> {
+    match worded(line).0 {
+        "case" | "with" | "words" | "file" | "more" => Some(()),
+        "cut" | "fails" | "ends" | "asked" | "there" | "entries" => Some(()),
+        "whole" | "placed" | "replies" | "sessions" => {
+            assert_journal(rt, alloc, case, &came.done.journal, line)
         }
+        _ => assert_file(rt, alloc, case, came.files, line),
     }
-    Ok(names)
-}
-
-/// The names that are found are these, in order.
-fn assert_names(
-    rt: &impl Abort,
-    alloc: Global,
-    case: &Case,
-    found: &[String],
-    names: Names,
-) -> Result<(), AllocError> {
-    let want = first_names(alloc, names.0, names.1)?;
-    same(rt, &case.label(), &want.len(), &names.1);
-    same(rt, &case.label(), &found, &want.as_slice());
-    Ok(())
-}
-
-/// Some of the files hold this.
-fn assert_holds(
-    rt: &impl Abort,
-    alloc: Global,
-    case: &Case,
-    files: &[(String, Vec<u8>)],
-) -> Result<(), Fail> {
-    for (name, want) in case.holds {
-        let found = bytes_of(files, name).ok_or("no such file")?;
-        assert_file(rt, alloc, case, found, want)?;
-    }
-    Ok(())
 }
 
 /// The bytes under a name.
@@ -244,86 +246,4 @@ pub fn bytes_of<'a>(files: &'a [(String, Vec<u8>)], name: &str) -> Option<&'a [u
         }
     }
     None
-}
-
-/// A file holds this.
-fn assert_file(
-    rt: &impl Abort,
-    alloc: Global,
-    case: &Case,
-    found: &[u8],
-    want: &Want,
-) -> Result<(), Fail> {
-    match want {
-        Want::Is(content) => same(
-            rt,
-            &case.label(),
-            &found,
-            &bytes(alloc, content)?.as_slice(),
-        ),
-        Want::Bytes(bytes) => same(rt, &case.label(), &found, bytes),
-        Want::Picture(size, rows) => {
-            same(
-                rt,
-                &case.label(),
-                &found,
-                &picture(alloc, size, rows)?.as_slice(),
-            )
-        }
-        Want::Length(length) => same(rt, &case.label(), &found.len(), length),
-        Want::Among(length, colours) => {
-            same(rt, &case.label(), &found.len(), length);
-            same(rt, &case.label(), &has_colours(found, colours), &true);
-        }
-        Want::Ends(length, front, byte) => {
-            same(rt, &case.label(), &found.len(), length);
-            same(rt, &case.label(), &ends_with(found, *front, *byte), &true);
-        }
-        Want::OneOf(firsts, others) => same(
-            rt,
-            &case.label(),
-            &is_one_of(found, firsts, others),
-            &true,
-        ),
-    }
-    Ok(())
-}
-
-/// Whether each pixel of a picture, which has 13 bytes in front of them, has one of these colours.
-fn has_colours(bytes: &[u8], colours: &[[u8; 3]]) -> bool {
-    match bytes.get(13..) {
-        Some(pixels) => pixels.chunks(3).all(|pixel| is_among(pixel, colours)),
-        None => false,
-    }
-}
-
-fn is_among(pixel: &[u8], colours: &[[u8; 3]]) -> bool {
-    colours.iter().any(|colour| pixel == colour.as_slice())
-}
-
-/// Whether the bytes behind so many are all this one.
-fn ends_with(bytes: &[u8], front: usize, byte: u8) -> bool {
-    match bytes.get(front..) {
-        Some(end) => end.iter().all(|one| *one == byte),
-        None => false,
-    }
-}
-
-/// Whether the first line is one of these, and what stands behind its end one of those.
-fn is_one_of(bytes: &[u8], firsts: &[&str], others: &[&str]) -> bool {
-    let text = std::str::from_utf8(bytes).unwrap_or("");
-    match text.split_once('\n') {
-        Some((first, rest)) => is_text(first, firsts) && is_text(rest, others),
-        None => false,
-    }
-}
-
-/// Whether this is one of the texts.
-fn is_text(text: &str, texts: &[&str]) -> bool {
-    for one in texts {
-        if text == *one {
-            return true;
-        }
-    }
-    false
 }

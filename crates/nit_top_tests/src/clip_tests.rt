@@ -1,252 +1,367 @@
 //! Runs with clip scripts: the worked rows, clip scripts that are refused, and puts that are.
 
-use crate::{Case, Content, Fail, Journal, Piece, Want, assert_cases};
+use crate::assert_cases;
 
-/// The names of the files that the run of both clients reads and puts, in this order.
-const CLIPPED: &str =
-    "pair.toml pa.nit pb.nit clip.in pa.nit.clip pb.nit.clip final.ppm events-a.txt \
-    events-b.txt journal.txt clip.txt";
+const WORKED: &str = r#"
 
-/// Both clients of the drag.
-const PAIR: &str = "[screen]\nwidth = 8\nheight = 4\n\n[input]\nscript = \"clip.in\"\n\n\
-                    [[client]]\nlabel = \"a\"\ndonation = 65536\nscript = \"pa.nit\"\n\n\
-                    [[client]]\nlabel = \"b\"\ndonation = 65536\nscript = \"pb.nit\"\n";
+text PAIR
+| [screen]
+| width = 8
+| height = 4
+|
+| [input]
+| script = "clip.in"
+|
+| [[client]]
+| label = "a"
+| donation = 65536
+| script = "pa.nit"
+|
+| [[client]]
+| label = "b"
+| donation = 65536
+| script = "pb.nit"
 
-/// The first of them alone.
-const ONE: &str = "[screen]\nwidth = 8\nheight = 4\n\n[input]\nscript = \"clip.in\"\n\n\
-                   [[client]]\nlabel = \"a\"\ndonation = 65536\nscript = \"pa.nit\"\n";
+text LEFT
+| buffer 4 4
+| fill 0 0 4 4 FF0000
+| view
+| place 1 0 0 4 4
+| phase
+| phase
 
-const LEFT: &str = "buffer 4 4\nfill 0 0 4 4 FF0000\nview\nplace 1 0 0 4 4\nphase\nphase\n";
+text RIGHT
+| buffer 4 4
+| fill 0 0 4 4 0000FF
+| view
+| place 1 4 0 4 4
+| phase
+| phase
 
-const RIGHT: &str = "buffer 4 4\nfill 0 0 4 4 0000FF\nview\nplace 1 4 0 4 4\nphase\nphase\n";
+text CLICK
+| phase
+| motion 1 1
+| press 272
+| release 272
+| phase
 
-/// A click on the left half.
-const CLICK: &str = "phase\nmotion 1 1\npress 272\nrelease 272\nphase\n";
+text FIRST
+| paste
+| phase
+| phase
+| copy =hi
+| paste
 
-const FIRST: &str = "paste\nphase\nphase\ncopy =hi\npaste\n";
+text SECOND
+| phase
+| phase
+| paste
 
-const SECOND: &str = "phase\nphase\npaste\n";
+text CLIPPED
+=pair.toml pa.nit pb.nit clip.in pa.nit.clip pb.nit.clip final.ppm events-a.txt events-b.txt
+= journal.txt clip.txt
 
-/// The first line of the clip list, by how far the other client is then.
-const FIRST_LINES: [&str; 4] = [
-    "clip 3 0 not-focused < paste",
-    "clip 4 0 not-focused < paste",
-    "clip 5 0 not-focused < paste",
-    "clip 6 0 not-focused < paste",
-];
+text 3A
+| clip 3 0 not-focused < paste
+| clip 9 0 copied < copy =hi
+| clip 9 0 pasted =hi < paste
+| clip 9 1 not-focused < paste
 
-/// The other lines, in each order that keeps the first client's.
-const OTHER_LINES: [&str; 3] = [
-    "clip 9 0 copied < copy =hi\nclip 9 0 pasted =hi < paste\nclip 9 1 not-focused < paste\n",
-    "clip 9 0 copied < copy =hi\nclip 9 1 not-focused < paste\nclip 9 0 pasted =hi < paste\n",
-    "clip 9 1 not-focused < paste\nclip 9 0 copied < copy =hi\nclip 9 0 pasted =hi < paste\n",
-];
+text 3B
+| clip 3 0 not-focused < paste
+| clip 9 0 copied < copy =hi
+| clip 9 1 not-focused < paste
+| clip 9 0 pasted =hi < paste
 
-/// The files that the run of both reads, in this order.
-const FILES: [(&str, Content); 6] = [
-    ("pair.toml", Content::Plain(PAIR)),
-    ("pa.nit", Content::Plain(LEFT)),
-    ("pb.nit", Content::Plain(RIGHT)),
-    ("clip.in", Content::Plain(CLICK)),
-    ("pa.nit.clip", Content::Plain(FIRST)),
-    ("pb.nit.clip", Content::Plain(SECOND)),
-];
+text 3C
+| clip 3 0 not-focused < paste
+| clip 9 1 not-focused < paste
+| clip 9 0 copied < copy =hi
+| clip 9 0 pasted =hi < paste
 
-/// Two clients. The first asks without the focus, and then copies and pastes with it; the second
-/// never has it.
-const BOTH: Case = Case {
-    words: &["clip", "pair.toml"],
-    files: &FILES,
-    failing: &[],
-    status: 0,
-    said: "nitpicker: clients 2 entries 10 frames 1\n",
-    asked: (CLIPPED, 11),
-    there: (CLIPPED, 11),
-    holds: &[("clip.txt", Want::OneOf(&FIRST_LINES, &OTHER_LINES))],
-    journal: &[Journal::Count(10)],
-};
+text 4A
+| clip 4 0 not-focused < paste
+| clip 9 0 copied < copy =hi
+| clip 9 0 pasted =hi < paste
+| clip 9 1 not-focused < paste
 
-static WORKED: [Case; 1] = [BOTH];
+text 4B
+| clip 4 0 not-focused < paste
+| clip 9 0 copied < copy =hi
+| clip 9 1 not-focused < paste
+| clip 9 0 pasted =hi < paste
+
+text 4C
+| clip 4 0 not-focused < paste
+| clip 9 1 not-focused < paste
+| clip 9 0 copied < copy =hi
+| clip 9 0 pasted =hi < paste
+
+text 5A
+| clip 5 0 not-focused < paste
+| clip 9 0 copied < copy =hi
+| clip 9 0 pasted =hi < paste
+| clip 9 1 not-focused < paste
+
+text 5B
+| clip 5 0 not-focused < paste
+| clip 9 0 copied < copy =hi
+| clip 9 1 not-focused < paste
+| clip 9 0 pasted =hi < paste
+
+text 5C
+| clip 5 0 not-focused < paste
+| clip 9 1 not-focused < paste
+| clip 9 0 copied < copy =hi
+| clip 9 0 pasted =hi < paste
+
+text 6A
+| clip 6 0 not-focused < paste
+| clip 9 0 copied < copy =hi
+| clip 9 0 pasted =hi < paste
+| clip 9 1 not-focused < paste
+
+text 6B
+| clip 6 0 not-focused < paste
+| clip 9 0 copied < copy =hi
+| clip 9 1 not-focused < paste
+| clip 9 0 pasted =hi < paste
+
+text 6C
+| clip 6 0 not-focused < paste
+| clip 9 1 not-focused < paste
+| clip 9 0 copied < copy =hi
+| clip 9 0 pasted =hi < paste
+
+case
+words clip, pair.toml
+file pair.toml PAIR
+file pa.nit LEFT
+file pb.nit RIGHT
+file clip.in CLICK
+file pa.nit.clip FIRST
+file pb.nit.clip SECOND
+ends 0 =nitpicker: clients 2 entries 10 frames 1\n
+asked CLIPPED
+there CLIPPED
+entries 10
+is clip.txt one-of 3A 3B 3C 4A 4B 4C 5A 5B 5C 6A 6B 6C
+
+"#;
+
+const CASES: &str = r#"
+
+text PAIR
+| [screen]
+| width = 8
+| height = 4
+|
+| [input]
+| script = "clip.in"
+|
+| [[client]]
+| label = "a"
+| donation = 65536
+| script = "pa.nit"
+|
+| [[client]]
+| label = "b"
+| donation = 65536
+| script = "pb.nit"
+
+text LEFT
+| buffer 4 4
+| fill 0 0 4 4 FF0000
+| view
+| place 1 0 0 4 4
+| phase
+| phase
+
+text RIGHT
+| buffer 4 4
+| fill 0 0 4 4 0000FF
+| view
+| place 1 4 0 4 4
+| phase
+| phase
+
+text CLICK
+| phase
+| motion 1 1
+| press 272
+| release 272
+| phase
+
+text SECOND
+| phase
+| phase
+| paste
+
+text FIRST
+| paste
+| phase
+| phase
+| copy =hi
+| paste
+
+text LONG
+65537 =paste\n
+
+text ONE
+| [screen]
+| width = 8
+| height = 4
+|
+| [input]
+| script = "clip.in"
+|
+| [[client]]
+| label = "a"
+| donation = 65536
+| script = "pa.nit"
+
+text NAMES
+=pair.toml pa.nit pb.nit clip.in pa.nit.clip pb.nit.clip final.ppm events-a.txt events-b.txt
+= journal.txt
+
+text CLIPPED
+=pair.toml pa.nit pb.nit clip.in pa.nit.clip pb.nit.clip final.ppm events-a.txt events-b.txt
+= journal.txt clip.txt
+
+base refused
+words clip, pair.toml
+file pair.toml PAIR
+file pa.nit LEFT
+file pb.nit RIGHT
+file clip.in CLICK
+file pa.nit.clip FIRST
+file pb.nit.clip SECOND
+asked =pair.toml pa.nit pb.nit clip.in pa.nit.clip
+there =pair.toml pa.nit pb.nit clip.in pa.nit.clip pb.nit.clip
+entries 0
+
+case clip scripts are judged behind all other scripts, in order
+with refused
+file pa.nit.clip =paste\nbuffer 4 4\n
+file pb.nit.clip =paste\n
+ends 6 =nitpicker: pa.nit.clip: line 2: bad script\n
+
+case
+with refused
+file pa.nit.clip =copy hi\n
+ends 6 =nitpicker: pa.nit.clip: line 1: bad script\n
+
+case
+with refused
+file pa.nit.clip =paste\n
+file pb.nit.clip =Paste\n
+ends 6 =nitpicker: pa.nit.clip: phases differ\n
+
+case
+with refused
+file pb.nit.clip =phase\nphase\nphase\n
+ends 6 =nitpicker: pb.nit.clip: phases differ\n
+asked =pair.toml pa.nit pb.nit clip.in pa.nit.clip pb.nit.clip
+
+case the input script is judged before them
+with refused
+file clip.in =Phase\n
+file pa.nit.clip =Paste\n
+ends 6 =nitpicker: clip.in: line 1: bad script\n
+asked =pair.toml pa.nit pb.nit clip.in
+
+case
+with refused
+file clip.in =phase\n
+file pa.nit.clip =Paste\n
+ends 6 =nitpicker: clip.in: phases differ\n
+asked =pair.toml pa.nit pb.nit clip.in
+
+case one line too many
+with refused
+file pb.nit.clip LONG
+ends 6 =nitpicker: pb.nit.clip: too long\n
+asked =pair.toml pa.nit pb.nit clip.in pa.nit.clip pb.nit.clip
+
+base clip
+words clip, pair.toml
+entries 0
+
+case a client alone that is focused by a click and only pastes
+with clip
+file pair.toml ONE
+file pa.nit LEFT
+file clip.in CLICK
+file pa.nit.clip SECOND
+ends 0 =nitpicker: clients 1 entries 7 frames 1\n
+asked =pair.toml pa.nit clip.in pa.nit.clip final.ppm events-a.txt journal.txt clip.txt
+there =pair.toml pa.nit clip.in pa.nit.clip final.ppm events-a.txt journal.txt clip.txt
+entries 7
+holds clip.txt =clip 6 0 empty < paste\n
+
+case a clip script that is not there
+with clip
+file pair.toml PAIR
+file pa.nit LEFT
+file pb.nit RIGHT
+file clip.in CLICK
+file pa.nit.clip FIRST
+ends 3 =nitpicker: pb.nit.clip: read fault\n
+asked =pair.toml pa.nit pb.nit clip.in pa.nit.clip pb.nit.clip
+there =pair.toml pa.nit pb.nit clip.in pa.nit.clip
+
+case one that cannot be read
+with clip
+file pair.toml PAIR
+file pa.nit LEFT
+file pb.nit RIGHT
+file clip.in CLICK
+file pa.nit.clip FIRST
+file pb.nit.clip SECOND
+fails 5
+ends 3 =nitpicker: pa.nit.clip: read fault\n
+asked =pair.toml pa.nit pb.nit clip.in pa.nit.clip
+there =pair.toml pa.nit pb.nit clip.in pa.nit.clip pb.nit.clip
+
+case no clip list is put behind a put that was refused
+with clip
+file pair.toml PAIR
+file pa.nit LEFT
+file pb.nit RIGHT
+file clip.in CLICK
+file pa.nit.clip FIRST
+file pb.nit.clip SECOND
+fails 10
+ends 4 =nitpicker: journal.txt: write fault\n
+asked NAMES
+there =pair.toml pa.nit pb.nit clip.in pa.nit.clip pb.nit.clip final.ppm events-a.txt events-b.txt
+entries 10
+
+case where its own is refused, all else is there
+with clip
+file pair.toml PAIR
+file pa.nit LEFT
+file pb.nit RIGHT
+file clip.in CLICK
+file pa.nit.clip FIRST
+file pb.nit.clip SECOND
+fails 11
+ends 4 =nitpicker: clip.txt: write fault\n
+asked CLIPPED
+there NAMES
+entries 10
+
+"#;
 
 /// Whatever the threads do, it comes out so.
 #[test]
-fn two_clients_with_a_clipboard(rt: HostRuntime) -> Result<(), Fail> {
+fn two_clients_with_a_clipboard(rt: HostRuntime) {
     for _round in 0..20 {
-        assert_cases(&rt, rt.alloc(), &WORKED)?;
+        assert_cases(&rt, rt.alloc(), WORKED);
     }
-    Ok(())
 }
-
-/// This input script and these clip scripts are refused by this line, behind so many files. Clip
-/// scripts are judged behind all other scripts, in order.
-macro_rules! refused {
-    ($input:expr, $first:expr, $second:expr, $said:expr, $asked:expr) => {
-        Case {
-            words: &["clip", "pair.toml"],
-            files: &[
-                ("pair.toml", Content::Plain(PAIR)),
-                ("pa.nit", Content::Plain(LEFT)),
-                ("pb.nit", Content::Plain(RIGHT)),
-                ("clip.in", Content::Plain($input)),
-                ("pa.nit.clip", Content::Plain($first)),
-                ("pb.nit.clip", $second),
-            ],
-            failing: &[],
-            status: 6,
-            said: $said,
-            asked: (CLIPPED, $asked),
-            there: (CLIPPED, 6),
-            holds: &[],
-            journal: &[Journal::Count(0)],
-        }
-    };
-}
-
-/// A clip script of one line too many.
-const LONG: [Piece; 1] = [Piece {
-    times: 65_537,
-    counts: &[],
-    end: "paste\n",
-}];
-
-static REFUSED: [Case; 7] = [
-    refused!(
-        CLICK,
-        "paste\nbuffer 4 4\n",
-        Content::Plain("paste\n"),
-        "nitpicker: pa.nit.clip: line 2: bad script\n",
-        5
-    ),
-    refused!(
-        CLICK,
-        "copy hi\n",
-        Content::Plain(SECOND),
-        "nitpicker: pa.nit.clip: line 1: bad script\n",
-        5
-    ),
-    refused!(
-        CLICK,
-        "paste\n",
-        Content::Plain("Paste\n"),
-        "nitpicker: pa.nit.clip: phases differ\n",
-        5
-    ),
-    refused!(
-        CLICK,
-        FIRST,
-        Content::Plain("phase\nphase\nphase\n"),
-        "nitpicker: pb.nit.clip: phases differ\n",
-        6
-    ),
-    // the input script is judged before them
-    refused!(
-        "Phase\n",
-        "Paste\n",
-        Content::Plain(SECOND),
-        "nitpicker: clip.in: line 1: bad script\n",
-        4
-    ),
-    refused!(
-        "phase\n",
-        "Paste\n",
-        Content::Plain(SECOND),
-        "nitpicker: clip.in: phases differ\n",
-        4
-    ),
-    refused!(
-        CLICK,
-        FIRST,
-        Content::Pieces(&LONG),
-        "nitpicker: pb.nit.clip: too long\n",
-        6
-    ),
-];
-
-const ONE_NAMES: &str =
-    "pair.toml pa.nit clip.in pa.nit.clip final.ppm events-a.txt journal.txt clip.txt";
-
-static OTHERS: [Case; 5] = [
-    // a client alone that is focused by a click and only pastes
-    Case {
-        words: &["clip", "pair.toml"],
-        files: &[
-            ("pair.toml", Content::Plain(ONE)),
-            ("pa.nit", Content::Plain(LEFT)),
-            ("clip.in", Content::Plain(CLICK)),
-            ("pa.nit.clip", Content::Plain(SECOND)),
-        ],
-        failing: &[],
-        status: 0,
-        said: "nitpicker: clients 1 entries 7 frames 1\n",
-        asked: (ONE_NAMES, 8),
-        there: (ONE_NAMES, 8),
-        holds: &[(
-            "clip.txt",
-            Want::Is(Content::Plain("clip 6 0 empty < paste\n")),
-        )],
-        journal: &[Journal::Count(7)],
-    },
-    // a clip script that is not there
-    Case {
-        words: &["clip", "pair.toml"],
-        files: &[
-            ("pair.toml", Content::Plain(PAIR)),
-            ("pa.nit", Content::Plain(LEFT)),
-            ("pb.nit", Content::Plain(RIGHT)),
-            ("clip.in", Content::Plain(CLICK)),
-            ("pa.nit.clip", Content::Plain(FIRST)),
-        ],
-        failing: &[],
-        status: 3,
-        said: "nitpicker: pb.nit.clip: read fault\n",
-        asked: (CLIPPED, 6),
-        there: (CLIPPED, 5),
-        holds: &[],
-        journal: &[Journal::Count(0)],
-    },
-    // one that cannot be read
-    Case {
-        words: &["clip", "pair.toml"],
-        files: &FILES,
-        failing: &[5],
-        status: 3,
-        said: "nitpicker: pa.nit.clip: read fault\n",
-        asked: (CLIPPED, 5),
-        there: (CLIPPED, 6),
-        holds: &[],
-        journal: &[Journal::Count(0)],
-    },
-    // No clip list is put behind a put that was refused. Where its own is refused, all else is
-    // there.
-    Case {
-        words: &["clip", "pair.toml"],
-        files: &FILES,
-        failing: &[10],
-        status: 4,
-        said: "nitpicker: journal.txt: write fault\n",
-        asked: (CLIPPED, 10),
-        there: (CLIPPED, 9),
-        holds: &[],
-        journal: &[Journal::Count(10)],
-    },
-    Case {
-        words: &["clip", "pair.toml"],
-        files: &FILES,
-        failing: &[11],
-        status: 4,
-        said: "nitpicker: clip.txt: write fault\n",
-        asked: (CLIPPED, 11),
-        there: (CLIPPED, 10),
-        holds: &[],
-        journal: &[Journal::Count(10)],
-    },
-];
 
 #[test]
-fn clips(rt: HostRuntime) -> Result<(), Fail> {
-    let tables: [&[Case]; 2] = [&REFUSED, &OTHERS];
-    for cases in &tables {
-        assert_cases(&rt, rt.alloc(), cases)?;
-    }
-    Ok(())
+fn clips(rt: HostRuntime) {
+    assert_cases(&rt, rt.alloc(), CASES);
 }

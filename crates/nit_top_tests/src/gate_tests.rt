@@ -1,10 +1,46 @@
 //! Runs with each client on a thread of its own, at gates that see which thread has come how far.
 
-use crate::case::{Case, assert_case};
-use crate::two_tests::CONFIG;
-use crate::{Content, Fail};
+use crate::case::assert_case;
+use crate::table::{Case, lines_of};
+use crate::{Abort, Global, Threads, Wait};
 use nit_actor::Gate;
 use std::sync::atomic::{AtomicBool, Ordering};
+
+const CASES: &str = r#"
+
+text ONE
+| [screen]
+| width = 8
+| height = 4
+|
+| [input]
+| script = "one.in"
+|
+| [[client]]
+| label = "a"
+| donation = 65536
+| script = "a.nit"
+
+case meeting
+words run, two.toml
+file two.toml CONFIG
+file a.nit =view\n
+file b.nit =view\n
+file two.in =
+ends 0 =nitpicker: clients 2 entries 3 frames 1\n
+asked =two.toml a.nit b.nit two.in final.ppm events-a.txt events-b.txt journal.txt
+there =two.toml a.nit b.nit two.in final.ppm events-a.txt events-b.txt journal.txt
+
+case phases
+words run, one.toml
+file one.toml ONE
+file a.nit =phase\nfill 0 0 1 1 FF0000\n
+file one.in =phase\n
+ends 0 =nitpicker: clients 1 entries 1 frames 1\n
+asked =one.toml a.nit one.in final.ppm events-a.txt journal.txt
+there =one.toml a.nit one.in final.ppm events-a.txt journal.txt
+
+"#;
 
 // ---- both clients at once
 
@@ -52,38 +88,32 @@ impl Gate for Meeting {
     }
 }
 
+/// The case of this title comes out so at this gate.
+fn assert_at<R: Abort + Threads + Wait + Sync, G: Gate>(
+    rt: &R,
+    alloc: Global,
+    title: &str,
+    gate: &G,
+) -> Option<()> {
+    let lines = lines_of(alloc, CASES, title)?;
+    let case = Case {
+        table: CASES,
+        lines: &lines,
+    };
+    assert_case(rt, alloc, &case, gate)
+}
+
 /// Each of two clients waits at its first line until the other has come to its own. Clients that
 /// run one after the other do not meet.
-static MEETING: Case = Case {
-    words: &["run", "two.toml"],
-    files: &[
-        ("two.toml", Content::Plain(CONFIG)),
-        ("a.nit", Content::Plain("view\n")),
-        ("b.nit", Content::Plain("view\n")),
-        ("two.in", Content::Plain("")),
-    ],
-    failing: &[],
-    status: 0,
-    said: "nitpicker: clients 2 entries 3 frames 1\n",
-    asked: (MEETING_NAMES, 8),
-    there: (MEETING_NAMES, 8),
-    holds: &[],
-    journal: &[],
-};
-
-const MEETING_NAMES: &str =
-    "two.toml a.nit b.nit two.in final.ppm events-a.txt events-b.txt journal.txt";
-
 #[test]
-fn both_clients_at_once(rt: HostRuntime) -> Result<(), Fail> {
+fn both_clients_at_once(rt: HostRuntime) {
     let gate = Meeting {
         first: Visit::new(),
         second: Visit::new(),
     };
-    assert_case(&rt, rt.alloc(), &MEETING, &gate)?;
+    assert!(rt; assert_at(&rt, rt.alloc(), "meeting", &gate).is_some());
     assert!(rt; gate.first.met.load(Ordering::SeqCst));
     assert!(rt; gate.second.met.load(Ordering::SeqCst));
-    Ok(())
 }
 
 // ---- phases
@@ -116,35 +146,13 @@ impl Gate for Ending {
 }
 
 /// A stroke of the next phase waits until the user has ended the phase before.
-static ENDING: Case = Case {
-    words: &["run", "one.toml"],
-    files: &[
-        ("one.toml", Content::Plain(ONE)),
-        ("a.nit", Content::Plain("phase\nfill 0 0 1 1 FF0000\n")),
-        ("one.in", Content::Plain("phase\n")),
-    ],
-    failing: &[],
-    status: 0,
-    said: "nitpicker: clients 1 entries 1 frames 1\n",
-    asked: (ENDING_NAMES, 6),
-    there: (ENDING_NAMES, 6),
-    holds: &[],
-    journal: &[],
-};
-
-const ONE: &str = "[screen]\nwidth = 8\nheight = 4\n\n[input]\nscript = \"one.in\"\n\n\
-                   [[client]]\nlabel = \"a\"\ndonation = 65536\nscript = \"a.nit\"\n";
-
-const ENDING_NAMES: &str = "one.toml a.nit one.in final.ppm events-a.txt journal.txt";
-
 #[test]
-fn strokes_wait_for_their_phase(rt: HostRuntime) -> Result<(), Fail> {
+fn strokes_wait_for_their_phase(rt: HostRuntime) {
     let gate = Ending {
         came: AtomicBool::new(false),
         raised: AtomicBool::new(false),
         seen: AtomicBool::new(false),
     };
-    assert_case(&rt, rt.alloc(), &ENDING, &gate)?;
+    assert!(rt; assert_at(&rt, rt.alloc(), "phases", &gate).is_some());
     assert!(rt; gate.seen.load(Ordering::SeqCst));
-    Ok(())
 }

@@ -1,162 +1,213 @@
 //! What the user's devices deliver, by whole runs.
 
-use crate::{Case, Content, Fail, Journal, List, Piece, Want, assert_cases};
+use crate::assert_cases;
 
-/// Two clients on a screen of 8 by 4.
-const PAIR: &str = "[screen]\nwidth = 8\nheight = 4\n\n[input]\nscript = \"pair.in\"\n\n\
-                    [[client]]\nlabel = \"a\"\ndonation = 65536\nscript = \"pa.nit\"\n\n\
-                    [[client]]\nlabel = \"b\"\ndonation = 65536\nscript = \"pb.nit\"\n";
+const CASES: &str = r#"
 
-/// The same, but the first client takes no focus.
-const SHY: &str = "[screen]\nwidth = 8\nheight = 4\n\n[input]\nscript = \"pair.in\"\n\n\
-                   [[client]]\nlabel = \"a\"\ndonation = 65536\nscript = \"pa.nit\"\n\
-                   focus = \"none\"\n\n\
-                   [[client]]\nlabel = \"b\"\ndonation = 65536\nscript = \"pb.nit\"\n";
+text PAIR
+| [screen]
+| width = 8
+| height = 4
+|
+| [input]
+| script = "pair.in"
+|
+| [[client]]
+| label = "a"
+| donation = 65536
+| script = "pa.nit"
+|
+| [[client]]
+| label = "b"
+| donation = 65536
+| script = "pb.nit"
 
-/// The first client is red on the left half of the screen.
-const PA: &str = "buffer 4 4\nfill 0 0 4 4 FF0000\nview\nplace 1 0 0 4 4\nphase\n";
+text PA
+| buffer 4 4
+| fill 0 0 4 4 FF0000
+| view
+| place 1 0 0 4 4
+| phase
 
-/// The second client is blue on the right half.
-const PB: &str = "buffer 4 4\nfill 0 0 4 4 0000FF\nview\nplace 1 4 0 4 4\nphase\n";
+text PB
+| buffer 4 4
+| fill 0 0 4 4 0000FF
+| view
+| place 1 4 0 4 4
+| phase
 
-/// A drag out of the first client, and then a motion over the second.
-const DRAG: &str = "phase\nmotion 1 1\npress 272\nmotion 5 1\nrelease 272\nmotion 6 1\n";
+text DRAG
+| phase
+| motion 1 1
+| press 272
+| motion 5 1
+| release 272
+| motion 6 1
 
-/// A key is held before the first click.
-const HELD: &str = "phase\npress 30\nmotion 1 1\npress 272\nrelease 272\nrelease 30\npress 272\n";
+text SHY
+| [screen]
+| width = 8
+| height = 4
+|
+| [input]
+| script = "pair.in"
+|
+| [[client]]
+| label = "a"
+| donation = 65536
+| script = "pa.nit"
+| focus = "none"
+|
+| [[client]]
+| label = "b"
+| donation = 65536
+| script = "pb.nit"
 
-/// A mode key while another key is held, and after it.
-const MODES: &str = "phase\nmotion 1 1\npress 30\npress 70\nrelease 30\npress 70\nmotion 1 1\n";
+text HELD
+| phase
+| press 30
+| motion 1 1
+| press 272
+| release 272
+| release 30
+| press 272
 
-const PAIR_NAMES: &str =
-    "pair.toml pa.nit pb.nit pair.in final.ppm events-a.txt events-b.txt journal.txt";
+text MODES
+| phase
+| motion 1 1
+| press 30
+| press 70
+| release 30
+| press 70
+| motion 1 1
 
-/// The run of both clients under this configuration, with what the user does: what is said, the
-/// entries behind those of both clients, and what files hold.
-macro_rules! pair {
-    ($config:expr, $input:expr, $said:expr, $list:expr, $holds:expr) => {
-        Case {
-            words: &["turns", "pair.toml"],
-            files: &[
-                ("pair.toml", Content::Plain($config)),
-                ("pa.nit", Content::Plain(PA)),
-                ("pb.nit", Content::Plain(PB)),
-                ("pair.in", Content::Plain($input)),
-            ],
-            failing: &[],
-            status: 0,
-            said: $said,
-            asked: (PAIR_NAMES, 8),
-            there: (PAIR_NAMES, 8),
-            holds: $holds,
-            journal: &[Journal::Placed($list)],
-        }
-    };
-}
+text XRAY
+| MMMMMMMM
+| MrrMMbbM
+| MrrMMbbM
+| MMMMMMMM
 
-const TWELVE: &str = "nitpicker: clients 2 entries 12 frames 1\n";
+text FULL
+| [screen]
+| width = 8
+| height = 4
+|
+| [input]
+| script = "full.in"
+|
+| [[client]]
+| label = "a"
+| donation = 65536
+| script = "fa.nit"
 
-const THIRTEEN: &str = "nitpicker: clients 2 entries 13 frames 1\n";
+text FULL_SCRIPT
+| buffer 4 4
+| fill 0 0 4 4 FF0000
+| view
+| place 1 0 0 4 4
+| phase
+| phase
+65 =take\n
 
-/// A picture of the X-ray mode, without labels, for which there is no room.
-const XRAY: [&str; 4] = ["MMMMMMMM", "MrrMMbbM", "MrrMMbbM", "MMMMMMMM"];
+text FULL_INPUT
+| phase
+65 =motion 1 1\n
+| phase
 
-/// One client on a screen of 8 by 4.
-const FULL: &str = "[screen]\nwidth = 8\nheight = 4\n\n[input]\nscript = \"full.in\"\n\n\
-                    [[client]]\nlabel = \"a\"\ndonation = 65536\nscript = \"fa.nit\"\n";
+text FULL_EVENTS
+64 =motion 1 1\n
+| lost 1
+| left 0
+| state live
 
-/// A text, a number of times.
-macro_rules! times {
-    ($times:expr, $text:expr) => {
-        Piece {
-            times: $times,
-            counts: &[],
-            end: $text,
-        }
-    };
-}
+text BAR
+| [screen]
+| width = 12
+| height = 12
+| bar = true
+|
+| [input]
+| script = "bar.in"
+|
+| [[client]]
+| label = "a"
+| donation = 65536
+| script = "a.nit"
 
-/// What the client of the full queue does before it takes events, and then it takes 65.
-const FULL_SCRIPT: [Piece; 2] = [
-    times!(
-        1,
-        "buffer 4 4\nfill 0 0 4 4 FF0000\nview\nplace 1 0 0 4 4\nphase\nphase\n"
-    ),
-    times!(65, "take\n"),
-];
+text UNDER_BAR
+| buffer 12 12
+| fill 0 0 12 12 FF0000
+| view
+| place 1 0 0 12 12
+| phase
 
-const FULL_INPUT: [Piece; 3] = [
-    times!(1, "phase\n"),
-    times!(65, "motion 1 1\n"),
-    times!(1, "phase\n"),
-];
+base pair
+words turns, pair.toml
+ends 0 =nitpicker: clients 2 entries 12 frames 1\n
+asked =pair.toml pa.nit pb.nit pair.in final.ppm events-a.txt events-b.txt journal.txt
+there =pair.toml pa.nit pb.nit pair.in final.ppm events-a.txt events-b.txt journal.txt
 
-/// The queue keeps 64 of the 65 motions.
-const FULL_EVENTS: [Piece; 2] = [
-    times!(64, "motion 1 1\n"),
-    times!(1, "lost 1\nleft 0\nstate live\n"),
-];
+case a drag out of the first client, and then a motion over the second
+with pair
+file pair.toml PAIR
+file pa.nit PA
+file pb.nit PB
+file pair.in DRAG
+placed drag
 
-const FULL_NAMES: &str = "full.toml fa.nit full.in final.ppm events-a.txt journal.txt";
+case the same, but the first client takes no focus
+with pair
+file pair.toml SHY
+file pa.nit PA
+file pb.nit PB
+file pair.in DRAG
+placed shy-drag
 
-const FULL_QUEUE: Case = Case {
-    words: &["turns", "full.toml"],
-    files: &[
-        ("full.toml", Content::Plain(FULL)),
-        ("fa.nit", Content::Pieces(&FULL_SCRIPT)),
-        ("full.in", Content::Pieces(&FULL_INPUT)),
-    ],
-    failing: &[],
-    status: 0,
-    said: "nitpicker: clients 1 entries 134 frames 1\n",
-    asked: (FULL_NAMES, 6),
-    there: (FULL_NAMES, 6),
-    holds: &[("events-a.txt", Want::Is(Content::Pieces(&FULL_EVENTS)))],
-    journal: &[Journal::Whole(List::Full)],
-};
+case a key is held before the first click
+with pair
+file pair.toml PAIR
+file pa.nit PA
+file pb.nit PB
+file pair.in HELD
+ends 0 =nitpicker: clients 2 entries 13 frames 1\n
+placed held
 
-/// A screen of 12 by 12 with a status bar.
-const BAR: &str =
-    "[screen]\nwidth = 12\nheight = 12\nbar = true\n\n[input]\nscript = \"bar.in\"\n\n\
-     [[client]]\nlabel = \"a\"\ndonation = 65536\nscript = \"a.nit\"\n";
+case a mode key while another key is held, and after it
+with pair
+file pair.toml PAIR
+file pa.nit PA
+file pb.nit PB
+file pair.in MODES
+ends 0 =nitpicker: clients 2 entries 13 frames 1\n
+picture final.ppm 8 4 XRAY
+placed modes
 
-const UNDER_BAR: &str = "buffer 12 12\nfill 0 0 12 12 FF0000\nview\nplace 1 0 0 12 12\nphase\n";
+case the queue keeps 64 of 65 motions
+with pair
+words turns, full.toml
+file full.toml FULL
+file fa.nit FULL_SCRIPT
+file full.in FULL_INPUT
+ends 0 =nitpicker: clients 1 entries 134 frames 1\n
+asked =full.toml fa.nit full.in final.ppm events-a.txt journal.txt
+there =full.toml fa.nit full.in final.ppm events-a.txt journal.txt
+holds events-a.txt FULL_EVENTS
+whole full
 
-const BAR_NAMES: &str = "bar.toml a.nit bar.in final.ppm events-a.txt journal.txt";
+case motions in the status bar and under it
+with pair
+words turns, bar.toml
+file bar.toml BAR
+file a.nit UNDER_BAR
+file bar.in =phase\nmotion 1 1\nmotion 1 7\n
+ends 0 =nitpicker: clients 1 entries 6 frames 1\n
+asked =bar.toml a.nit bar.in final.ppm events-a.txt journal.txt
+there =bar.toml a.nit bar.in final.ppm events-a.txt journal.txt
+whole bar
 
-/// Motions in the status bar and under it.
-const BAR_MOTIONS: Case = Case {
-    words: &["turns", "bar.toml"],
-    files: &[
-        ("bar.toml", Content::Plain(BAR)),
-        ("a.nit", Content::Plain(UNDER_BAR)),
-        ("bar.in", Content::Plain("phase\nmotion 1 1\nmotion 1 7\n")),
-    ],
-    failing: &[],
-    status: 0,
-    said: "nitpicker: clients 1 entries 6 frames 1\n",
-    asked: (BAR_NAMES, 6),
-    there: (BAR_NAMES, 6),
-    holds: &[],
-    journal: &[Journal::Whole(List::Bar)],
-};
-
-static CASES: [Case; 6] = [
-    pair!(PAIR, DRAG, TWELVE, List::Drag, &[]),
-    pair!(SHY, DRAG, TWELVE, List::ShyDrag, &[]),
-    pair!(PAIR, HELD, THIRTEEN, List::Held, &[]),
-    pair!(
-        PAIR,
-        MODES,
-        THIRTEEN,
-        List::Modes,
-        &[("final.ppm", Want::Picture("8 4", &XRAY))]
-    ),
-    FULL_QUEUE,
-    BAR_MOTIONS,
-];
+"#;
 
 #[test]
-fn inputs(rt: HostRuntime) -> Result<(), Fail> {
-    assert_cases(&rt, rt.alloc(), &CASES)
+fn inputs(rt: HostRuntime) {
+    assert_cases(&rt, rt.alloc(), CASES);
 }

@@ -1,121 +1,115 @@
-//! How the journal of a case is: how many entries it has, which, and what is answered in it.
+//! How the journal of a case is, by a line of it.
+//!
+//! `whole LIST` says that it has just these entries, which are written out in `entries`, and
+//! `placed LIST` that it has them behind what the two clients of a pair are answered. `replies SID
+//! TEXT` is what this session is answered, one reply a line, where the last entry is the last
+//! picture. `sessions N` says that each reply is the one that its session, of so many, gives by
+//! itself.
 
-use crate::content::{Piece, joined};
 use crate::sessions::assert_sessions;
-use crate::{Abort, AllocError, Case, Fail, Global, entries, same};
+use crate::table::{Case, number, worded};
+use crate::{Abort, AllocError, Global, entries, same};
 use nit_events::{Entry, Reply};
 
-/// How a journal is.
-pub enum Journal {
-    /// It has so many entries.
-    Count(usize),
-    /// It has just these entries.
-    Whole(List),
-    /// It begins with what the two clients of a pair are answered, and then has just these entries.
-    Placed(List),
-    /// This session is answered this, one reply a line, and the last entry is the last picture.
-    Replies(u32, &'static [Piece]),
-    /// Each reply is the one that its session, of so many, gives by itself.
-    Sessions(usize),
-}
-
-/// Entries that are written out in `entries`.
-pub enum List {
-    Empty,
-    Red,
-    Two,
-    Drag,
-    ShyDrag,
-    Held,
-    Modes,
-    Killed,
-    Bar,
-    Full,
-}
-
-/// The journal is so.
+/// The journal is as this line says.
 pub fn assert_journal(
     rt: &impl Abort,
     alloc: Global,
     case: &Case,
     journal: &[Entry],
-) -> Result<(), Fail> {
-    for want in case.journal {
-        assert_one(rt, alloc, case, journal, want)?;
+    line: &str,
+) -> Option<()> {
+    let (word, rest) = worded(line);
+    match word {
+        "whole" => assert_list(rt, alloc, case, journal, rest),
+        "placed" => assert_placed(rt, alloc, case, journal, rest),
+        "replies" => assert_replies(rt, alloc, case, journal, rest),
+        _ => assert_sessions(rt, alloc, case, journal, number(rest)?).ok(),
     }
-    Ok(())
 }
 
-fn assert_one(
+/// Behind what both clients of a pair are answered the entries are those of this list.
+fn assert_placed(
     rt: &impl Abort,
     alloc: Global,
     case: &Case,
     journal: &[Entry],
-    want: &Journal,
-) -> Result<(), Fail> {
-    match want {
-        Journal::Count(count) => same(rt, &case.label(), &journal.len(), count),
-        Journal::Whole(list) => assert_list(rt, case, journal, list),
-        Journal::Placed(list) => {
-            let first = entries::PLACED;
-            same(
-                rt,
-                &case.label(),
-                &journal.get(..6),
-                &Some(first.as_slice()),
-            );
-            assert_list(rt, case, journal.get(6..).unwrap_or(&[]), list);
-        }
-        Journal::Replies(sid, want) => {
-            same(rt, &case.label(), &journal.last(), &Some(&Entry::Final));
-            let found = replies(alloc, journal, *sid)?;
-            same(rt, &case.label(), &found, &joined(alloc, want)?);
-        }
-        Journal::Sessions(count) => assert_sessions(rt, alloc, case, journal, *count)?,
-    }
-    Ok(())
+    list: &str,
+) -> Option<()> {
+    same(rt, case, &journal.get(..6)?, &entries::PLACED.as_slice());
+    assert_list(rt, alloc, case, journal.get(6..)?, list)
+}
+
+/// The session is answered this, as `1 TEXT`.
+fn assert_replies(
+    rt: &impl Abort,
+    alloc: Global,
+    case: &Case,
+    journal: &[Entry],
+    want: &str,
+) -> Option<()> {
+    let (session, want) = worded(want);
+    same(rt, case, journal.last()?, &Entry::Final);
+    let found = replies(alloc, journal, number(session)?).ok()?;
+    same(rt, case, &found, &case.text(alloc, want)?);
+    Some(())
 }
 
 /// The entries are those of this list.
-fn assert_list(rt: &impl Abort, case: &Case, found: &[Entry], list: &List) {
-    match list {
-        List::Empty => same(rt, &case.label(), &found, &[Entry::Final].as_slice()),
-        List::Red => same(rt, &case.label(), &found, &entries::RED.as_slice()),
-        List::Two => same(rt, &case.label(), &found, &entries::TWO.as_slice()),
-        List::Drag => same(rt, &case.label(), &found, &entries::DRAG.as_slice()),
-        List::ShyDrag => same(rt, &case.label(), &found, &entries::SHY_DRAG.as_slice()),
-        List::Held => same(rt, &case.label(), &found, &entries::HELD.as_slice()),
-        List::Modes => same(rt, &case.label(), &found, &entries::MODES.as_slice()),
-        List::Killed => same(rt, &case.label(), &found, &entries::KILLED.as_slice()),
-        List::Bar => same(rt, &case.label(), &found, &entries::BAR.as_slice()),
-        List::Full => assert_full(rt, case, found),
+fn assert_list(
+    rt: &impl Abort,
+    alloc: Global,
+    case: &Case,
+    found: &[Entry],
+    list: &str,
+) -> Option<()> {
+    if list == "full" {
+        return assert_full(rt, case, found);
     }
+    same(rt, case, &found, &listed(alloc, list)?.as_slice());
+    Some(())
+}
+
+/// The entries of a list.
+fn listed(alloc: Global, list: &str) -> Option<Vec<Entry>> {
+    let listed = match list {
+        "empty" => [Entry::Final].to_vec(alloc),
+        "red" => entries::RED.to_vec(alloc),
+        "two" => entries::TWO.to_vec(alloc),
+        "drag" => entries::DRAG.to_vec(alloc),
+        "shy-drag" => entries::SHY_DRAG.to_vec(alloc),
+        "held" => entries::HELD.to_vec(alloc),
+        "modes" => entries::MODES.to_vec(alloc),
+        "killed" => entries::KILLED.to_vec(alloc),
+        "bar" => entries::BAR.to_vec(alloc),
+        _ => return None,
+    };
+    listed.ok()
 }
 
 /// The entries are those of the full queue.
-fn assert_full(rt: &impl Abort, case: &Case, found: &[Entry]) {
-    same(rt, &case.label(), &found.len(), &134);
-    let first = entries::FULL;
-    same(rt, &case.label(), &found.get(..3), &Some(first.as_slice()));
-    assert_each(rt, case, found.get(3..68), &entries::HEARD);
-    assert_each(rt, case, found.get(68..132), &entries::TAKEN);
-    let last = entries::EMPTIED;
-    same(rt, &case.label(), &found.get(132..), &Some(last.as_slice()));
+fn assert_full(rt: &impl Abort, case: &Case, found: &[Entry]) -> Option<()> {
+    same(rt, case, &found.len(), &134);
+    same(rt, case, &found.get(..3)?, &entries::FULL.as_slice());
+    assert_each(rt, case, found.get(3..68)?, &entries::HEARD);
+    assert_each(rt, case, found.get(68..132)?, &entries::TAKEN);
+    same(rt, case, &found.get(132..)?, &entries::EMPTIED.as_slice());
+    Some(())
 }
 
 /// Each of these entries is this one.
-fn assert_each(rt: &impl Abort, case: &Case, found: Option<&[Entry]>, want: &Entry) {
-    for entry in found.unwrap_or(&[]) {
-        same(rt, &case.label(), entry, want);
+fn assert_each(rt: &impl Abort, case: &Case, found: &[Entry], want: &Entry) {
+    for entry in found {
+        same(rt, case, entry, want);
     }
 }
 
 /// What this session is answered, one reply a line.
-fn replies(alloc: Global, journal: &[Entry], session: u32) -> Result<String, AllocError> {
+fn replies(alloc: Global, journal: &[Entry], session: u64) -> Result<String, AllocError> {
     let mut text = String::new(alloc);
     for entry in journal {
         if let Entry::Call { sid, reply, .. } = entry {
-            if *sid == session {
+            if *sid as u64 == session {
                 text.push_str(&spelled(alloc, reply)?)?;
                 text.push_str("\n")?;
             }

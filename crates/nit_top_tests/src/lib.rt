@@ -2,8 +2,9 @@
 //! files.
 //!
 //! Each expected value stands in a case as it was worked out by hand, and never comes from the
-//! program. The cases are constants; `case` runs one and compares all of it, on threads and, where
-//! its words start none, on one thread too. The crate has nothing but these tests.
+//! program. The cases are tables of text (`table`); `case` runs them and compares all that comes of
+//! each, on threads and, where its words start none, on one thread too. The crate has nothing but
+//! these tests.
 #![tactic(auto)]
 
 #[cfg(test)]
@@ -16,8 +17,6 @@ mod capture_tests;
 mod case;
 #[cfg(test)]
 mod clip_tests;
-#[cfg(test)]
-mod content;
 #[cfg(test)]
 mod desk_tests;
 #[cfg(test)]
@@ -47,18 +46,20 @@ mod same;
 #[cfg(test)]
 mod sessions;
 #[cfg(test)]
+mod shared;
+#[cfg(test)]
 mod still_tests;
+#[cfg(test)]
+mod table;
 #[cfg(test)]
 mod two_tests;
 #[cfg(test)]
 mod usage_tests;
+#[cfg(test)]
+mod want;
 
 #[cfg(test)]
-use case::{Case, assert_cases};
-#[cfg(test)]
-use content::{Content, Piece, Want};
-#[cfg(test)]
-use journals::{Journal, List};
+use case::assert_cases;
 #[cfg(test)]
 use nit_store::MemoryStore;
 #[cfg(test)]
@@ -69,7 +70,5 @@ use std::alloc::{AllocError, Global};
 use std::process::Abort;
 #[cfg(test)]
 use std::sync::Wait;
-#[cfg(test)]
-use std::test::Fail;
 #[cfg(test)]
 use std::thread::Threads;

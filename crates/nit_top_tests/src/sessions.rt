@@ -1,7 +1,8 @@
 //! Sessions that are never refused, each by itself: what they answer to their own calls, given what
 //! is routed to them.
 
-use crate::{Abort, AllocError, Case, Global, same};
+use crate::table::Case;
+use crate::{Abort, AllocError, Global, same};
 use nit_events::{Call, Delivery, Entry, Event, Item, Reply};
 
 /// The most events that wait for a session.
@@ -53,7 +54,7 @@ impl Session {
 }
 
 /// So many sessions.
-fn sessions(alloc: Global, count: usize) -> Result<Vec<Session>, AllocError> {
+fn sessions(alloc: Global, count: u64) -> Result<Vec<Session>, AllocError> {
     let mut all = Vec::new(alloc);
     for _sid in 0..count {
         all.push(Session::new(alloc))?;
@@ -87,7 +88,7 @@ pub fn assert_sessions(
     alloc: Global,
     case: &Case,
     journal: &[Entry],
-    count: usize,
+    count: u64,
 ) -> Result<(), AllocError> {
     let mut all = sessions(alloc, count)?;
     for entry in journal {
@@ -105,7 +106,7 @@ fn assert_entry(
 ) -> Result<(), AllocError> {
     match *entry {
         Entry::Call { sid, call, reply } => {
-            same(rt, &case.label(), &answer(all, sid, &call), &Some(reply));
+            same(rt, case, &answer(all, sid, &call), &Some(reply));
             Ok(())
         }
         Entry::Input { routed, .. } => {

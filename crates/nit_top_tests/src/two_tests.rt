@@ -1,247 +1,303 @@
 //! The run of two clients on a screen of 8 by 4: a red view of 4 by 2, and a blue one that first
 //! stands in front of it and then moves away.
 
-use crate::case::{Case, assert_alone, assert_cases, files};
-use crate::{Abort, Content, Fail, Global, Journal, List, Want};
+use crate::case::{assert_alone, files};
+use crate::table::{Case, lines, number, worded};
+use crate::{Abort, Global, assert_cases};
 
-/// The configuration.
-pub const CONFIG: &str = "[screen]\nwidth = 8\nheight = 4\n\n[input]\nscript = \"two.in\"\n\n\
-                          [[client]]\nlabel = \"a\"\ndonation = 65536\nscript = \"a.nit\"\n\n\
-                          [[client]]\nlabel = \"b\"\ndonation = 65536\nscript = \"b.nit\"\n";
+const CASES: &str = r#"
 
-pub const A: &str = "buffer 4 2\nfill 0 0 4 2 FF0000\nview\nplace 1 0 0 4 2\nphase\nphase\nphase\n";
+base turns
+words turns, two.toml
+file two.toml CONFIG
+file a.nit A
+file b.nit B
+file two.in INPUT
+ends 4 =nitpicker: final.ppm: write fault\n
+asked =two.toml a.nit b.nit two.in shot-1.ppm final.ppm events-a.txt events-b.txt journal.txt
+there =two.toml a.nit b.nit two.in
 
-pub const B: &str = "phase\nbuffer 4 2\nfill 0 0 4 2 0000FF\nview\nplace 1 0 0 4 2\nphase\nphase\n\
-                 place 1 4 2 4 2\n";
+case the whole run
+with turns
+ends 0 =nitpicker: clients 2 entries 9 frames 2\n
+there =two.toml a.nit b.nit two.in shot-1.ppm final.ppm events-a.txt events-b.txt journal.txt
+holds two.toml CONFIG
+holds a.nit A
+holds b.nit B
+holds two.in INPUT
+picture shot-1.ppm 8 4 SHOT
+picture final.ppm 8 4 FINAL
+holds events-a.txt EVENTS
+holds events-b.txt EVENTS
+holds journal.txt JOURNAL
+whole two
 
-pub const INPUT: &str = "phase\nphase\nshot\nphase\n";
+case where the last picture is not put, the shot stays, and the run goes to its end
+with turns
+fails 6
+asked =two.toml a.nit b.nit two.in shot-1.ppm final.ppm
+there =two.toml a.nit b.nit two.in shot-1.ppm
+picture shot-1.ppm 8 4 SHOT
+whole two
 
-/// The files that the run reads, in this order.
-pub const FILES: [(&str, Content); 4] = [
-    ("two.toml", Content::Plain(CONFIG)),
-    ("a.nit", Content::Plain(A)),
-    ("b.nit", Content::Plain(B)),
-    ("two.in", Content::Plain(INPUT)),
-];
+case each call of the store up to the first saying fails once
+with turns
+fails 1
+ends 3 =nitpicker: two.toml: read fault\n
+asked =two.toml
+entries 0
 
-/// The names of the files that it reads and puts, in this order.
-pub const NAMES: &str =
-    "two.toml a.nit b.nit two.in shot-1.ppm final.ppm events-a.txt events-b.txt \
-    journal.txt";
+case
+with turns
+fails 2
+ends 3 =nitpicker: a.nit: read fault\n
+asked =two.toml a.nit
+entries 0
 
-pub const SUMMARY: &str = "nitpicker: clients 2 entries 9 frames 2\n";
+case
+with turns
+fails 3
+ends 3 =nitpicker: b.nit: read fault\n
+asked =two.toml a.nit b.nit
+entries 0
 
-pub const SHOT: [&str; 4] = ["BBBB....", "BBBB....", "........", "........"];
+case
+with turns
+fails 4
+ends 3 =nitpicker: two.in: read fault\n
+asked =two.toml a.nit b.nit two.in
+entries 0
 
-pub const FINAL: [&str; 4] = ["RRRR....", "RRRR....", "....BBBB", "....BBBB"];
+case
+with turns
+fails 5
+ends 4 =nitpicker: shot-1.ppm: write fault\n
+asked =two.toml a.nit b.nit two.in shot-1.ppm
+entries 9
 
-/// What either client's events tell: it took none, lost none, and is served.
-pub const EVENTS: &str = "lost 0\nleft 0\nstate live\n";
+case
+with turns
+fails 6
+asked =two.toml a.nit b.nit two.in shot-1.ppm final.ppm
+there =two.toml a.nit b.nit two.in shot-1.ppm
+entries 9
 
-/// The text of the journal.
-pub const JOURNAL: &str =
-    "call 0 done < buffer 4 2\ncall 0 handle 1 < view\ncall 0 done < place 1 0 0 4 2\n\
-     call 1 done < buffer 4 2\ncall 1 handle 1 < view\ncall 1 done < place 1 0 0 4 2\n\
-     shot 1\ncall 1 done < place 1 4 2 4 2\nfinal\n";
+case
+with turns
+fails 7
+ends 4 =nitpicker: events-a.txt: write fault\n
+asked =two.toml a.nit b.nit two.in shot-1.ppm final.ppm events-a.txt
+there =two.toml a.nit b.nit two.in shot-1.ppm final.ppm
+entries 9
 
-/// The run by turns. The files that it reads are as they were.
-pub const TURNS: Case = Case {
-    words: &["turns", "two.toml"],
-    files: &FILES,
-    failing: &[],
-    status: 0,
-    said: SUMMARY,
-    asked: (NAMES, 9),
-    there: (NAMES, 9),
-    holds: &[
-        ("two.toml", Want::Is(Content::Plain(CONFIG))),
-        ("a.nit", Want::Is(Content::Plain(A))),
-        ("b.nit", Want::Is(Content::Plain(B))),
-        ("two.in", Want::Is(Content::Plain(INPUT))),
-        ("shot-1.ppm", Want::Picture("8 4", &SHOT)),
-        ("final.ppm", Want::Picture("8 4", &FINAL)),
-        ("events-a.txt", Want::Is(Content::Plain(EVENTS))),
-        ("events-b.txt", Want::Is(Content::Plain(EVENTS))),
-        ("journal.txt", Want::Is(Content::Plain(JOURNAL))),
-    ],
-    journal: &[Journal::Whole(List::Two)],
-};
+case
+with turns
+fails 8
+ends 4 =nitpicker: events-b.txt: write fault\n
+asked =two.toml a.nit b.nit two.in shot-1.ppm final.ppm events-a.txt events-b.txt
+there =two.toml a.nit b.nit two.in shot-1.ppm final.ppm events-a.txt
+entries 9
 
-/// This call of the store fails once: what is said with which status, how many files are there
-/// then, how many were asked for, and how many entries the journal has.
-macro_rules! fails {
-    ($number:expr, $status:expr, $said:expr, $there:expr, $asked:expr, $entries:expr) => {
-        Case {
-            words: &["turns", "two.toml"],
-            files: &FILES,
-            failing: &[$number],
-            status: $status,
-            said: $said,
-            asked: (NAMES, $asked),
-            there: (NAMES, $there),
-            holds: &[],
-            journal: &[Journal::Count($entries)],
-        }
-    };
+case
+with turns
+fails 9
+ends 4 =nitpicker: journal.txt: write fault\n
+there =two.toml a.nit b.nit two.in shot-1.ppm final.ppm events-a.txt events-b.txt
+entries 9
+
+case
+with turns
+fails 10
+ends 4 =
+there =two.toml a.nit b.nit two.in shot-1.ppm final.ppm events-a.txt events-b.txt journal.txt
+entries 9
+
+base refused
+words turns, two.toml
+file two.toml CONFIG
+file a.nit A
+file b.nit B
+file two.in INPUT
+ends 6 =nitpicker: two.in: phases differ\n
+asked =two.toml a.nit b.nit two.in
+there =two.toml a.nit b.nit two.in
+entries 0
+
+case
+with refused
+file two.in =
+
+case
+with refused
+file two.in =shot\nphase\n
+
+case
+with refused
+file b.nit =phase\n
+ends 6 =nitpicker: b.nit: phases differ\n
+asked =two.toml a.nit b.nit
+
+case the number of phases is that of the first client's script
+with refused
+file a.nit =
+ends 6 =nitpicker: b.nit: phases differ\n
+asked =two.toml a.nit b.nit
+
+case
+with refused
+file a.nit =buffer 4\n
+ends 6 =nitpicker: a.nit: line 1: bad script\n
+asked =two.toml a.nit
+
+case
+with refused
+file b.nit =phase\nView\n
+ends 6 =nitpicker: b.nit: line 2: bad script\n
+asked =two.toml a.nit b.nit
+
+case
+with refused
+file two.in =phase\nview\n
+ends 6 =nitpicker: two.in: line 2: bad script\n
+
+"#;
+
+const CUTS: &str = r#"
+
+base cut
+words turns, two.toml
+file two.toml CONFIG
+file a.nit A
+file b.nit B
+file two.in INPUT
+ends 6 =nitpicker: b.nit: phases differ\n
+asked =two.toml a.nit b.nit
+there =two.toml a.nit b.nit two.in
+entries 0
+
+case
+with cut
+cut 0 0
+
+case
+with cut
+ends 6 =nitpicker: a.nit: line 1: bad script\n
+asked =two.toml a.nit
+cut 1 10
+
+case
+with cut
+cut 11 11
+
+case
+with cut
+ends 6 =nitpicker: a.nit: line 2: bad script\n
+asked =two.toml a.nit
+cut 12 30
+
+case
+with cut
+cut 31 31
+
+case
+with cut
+ends 6 =nitpicker: a.nit: line 3: bad script\n
+asked =two.toml a.nit
+cut 32 35
+
+case
+with cut
+cut 36 36
+
+case
+with cut
+ends 6 =nitpicker: a.nit: line 4: bad script\n
+asked =two.toml a.nit
+cut 37 51
+
+case
+with cut
+cut 52 52
+
+case
+with cut
+ends 6 =nitpicker: a.nit: line 5: bad script\n
+asked =two.toml a.nit
+cut 53 57
+
+case
+with cut
+cut 58 58
+
+case
+with cut
+ends 6 =nitpicker: a.nit: line 6: bad script\n
+asked =two.toml a.nit
+cut 59 63
+
+case
+with cut
+cut 64 64
+
+case
+with cut
+ends 6 =nitpicker: a.nit: line 7: bad script\n
+asked =two.toml a.nit
+cut 65 69
+
+case
+words turns, two.toml
+file two.toml CONFIG
+file a.nit A
+file b.nit B
+file two.in INPUT
+ends 0 =nitpicker: clients 2 entries 9 frames 2\n
+asked =two.toml a.nit b.nit two.in shot-1.ppm final.ppm events-a.txt events-b.txt journal.txt
+there =two.toml a.nit b.nit two.in shot-1.ppm final.ppm events-a.txt events-b.txt journal.txt
+cut 70 70
+holds two.toml CONFIG
+holds a.nit A
+holds b.nit B
+holds two.in INPUT
+picture shot-1.ppm 8 4 SHOT
+picture final.ppm 8 4 FINAL
+holds events-a.txt EVENTS
+holds events-b.txt EVENTS
+holds journal.txt JOURNAL
+whole two
+
+"#;
+
+#[test]
+fn two_clients(rt: HostRuntime) {
+    assert_cases(&rt, rt.alloc(), CASES);
 }
 
-/// Each call of the store up to the first saying fails once.
-static FAILING: [Case; 10] = [
-    fails!(1, 3, "nitpicker: two.toml: read fault\n", 4, 1, 0),
-    fails!(2, 3, "nitpicker: a.nit: read fault\n", 4, 2, 0),
-    fails!(3, 3, "nitpicker: b.nit: read fault\n", 4, 3, 0),
-    fails!(4, 3, "nitpicker: two.in: read fault\n", 4, 4, 0),
-    fails!(5, 4, "nitpicker: shot-1.ppm: write fault\n", 4, 5, 9),
-    fails!(6, 4, "nitpicker: final.ppm: write fault\n", 5, 6, 9),
-    fails!(7, 4, "nitpicker: events-a.txt: write fault\n", 6, 7, 9),
-    fails!(8, 4, "nitpicker: events-b.txt: write fault\n", 7, 8, 9),
-    fails!(9, 4, "nitpicker: journal.txt: write fault\n", 8, 9, 9),
-    fails!(10, 4, "", 9, 9, 9),
-];
-
-/// The whole run. Where the last picture is not put, the shot that was put stays, and the run goes
-/// to its end.
-static WHOLE: [Case; 2] = [
-    TURNS,
-    Case {
-        words: &["turns", "two.toml"],
-        files: &FILES,
-        failing: &[6],
-        status: 4,
-        said: "nitpicker: final.ppm: write fault\n",
-        asked: (NAMES, 6),
-        there: (NAMES, 5),
-        holds: &[("shot-1.ppm", Want::Picture("8 4", &SHOT))],
-        journal: &[Journal::Whole(List::Two)],
-    },
-];
-
-/// Scripts that are refused, by this line, and how many files were asked for then.
-macro_rules! refused {
-    ($a:expr, $b:expr, $input:expr, $said:expr, $asked:expr) => {
-        Case {
-            words: &["turns", "two.toml"],
-            files: &[
-                ("two.toml", Content::Plain(CONFIG)),
-                ("a.nit", Content::Plain($a)),
-                ("b.nit", Content::Plain($b)),
-                ("two.in", Content::Plain($input)),
-            ],
-            failing: &[],
-            status: 6,
-            said: $said,
-            asked: (NAMES, $asked),
-            there: (NAMES, 4),
-            holds: &[],
-            journal: &[Journal::Count(0)],
-        }
+/// The run comes out so with each cut of the first client's script, which is the second file.
+fn assert_cuts(rt: &impl Abort, alloc: Global, block: &str) -> Option<()> {
+    let lines = lines(alloc, CUTS, block)?;
+    let case = Case {
+        table: CUTS,
+        lines: &lines,
     };
-}
-
-const INPUT_DIFFERS: &str = "nitpicker: two.in: phases differ\n";
-
-const B_DIFFERS: &str = "nitpicker: b.nit: phases differ\n";
-
-static REFUSED: [Case; 7] = [
-    refused!(A, B, "", INPUT_DIFFERS, 4),
-    refused!(A, B, "shot\nphase\n", INPUT_DIFFERS, 4),
-    refused!(A, "phase\n", INPUT, B_DIFFERS, 3),
-    // the number of phases is that of the first client's script
-    refused!("", B, INPUT, B_DIFFERS, 3),
-    refused!("buffer 4\n", B, INPUT, LINE_1, 2),
-    refused!(
-        A,
-        "phase\nView\n",
-        INPUT,
-        "nitpicker: b.nit: line 2: bad script\n",
-        3
-    ),
-    refused!(
-        A,
-        B,
-        "phase\nview\n",
-        "nitpicker: two.in: line 2: bad script\n",
-        4
-    ),
-];
-
-const LINE_1: &str = "nitpicker: a.nit: line 1: bad script\n";
-
-/// The first client's script has so many bytes at least and at most: what is said, and how many
-/// files were asked for then.
-macro_rules! cut {
-    ($first:expr, $last:expr, $said:expr, $asked:expr) => {
-        (
-            $first,
-            $last,
-            Case {
-                words: &["turns", "two.toml"],
-                files: &[],
-                failing: &[],
-                status: 6,
-                said: $said,
-                asked: (NAMES, $asked),
-                there: (NAMES, 4),
-                holds: &[],
-                journal: &[Journal::Count(0)],
-            },
-        )
-    };
-}
-
-/// Behind a whole line it has fewer phases than the other client's, and elsewhere its last line has
-/// no reading.
-static CUTS: [(usize, usize, Case); 15] = [
-    cut!(0, 0, B_DIFFERS, 3),
-    cut!(1, 10, LINE_1, 2),
-    cut!(11, 11, B_DIFFERS, 3),
-    cut!(12, 30, "nitpicker: a.nit: line 2: bad script\n", 2),
-    cut!(31, 31, B_DIFFERS, 3),
-    cut!(32, 35, "nitpicker: a.nit: line 3: bad script\n", 2),
-    cut!(36, 36, B_DIFFERS, 3),
-    cut!(37, 51, "nitpicker: a.nit: line 4: bad script\n", 2),
-    cut!(52, 52, B_DIFFERS, 3),
-    cut!(53, 57, "nitpicker: a.nit: line 5: bad script\n", 2),
-    cut!(58, 58, B_DIFFERS, 3),
-    cut!(59, 63, "nitpicker: a.nit: line 6: bad script\n", 2),
-    cut!(64, 64, B_DIFFERS, 3),
-    cut!(65, 69, "nitpicker: a.nit: line 7: bad script\n", 2),
-    (70, 70, TURNS),
-];
-
-/// The run comes out so with each cut of the first client's script.
-fn assert_cuts(
-    rt: &impl Abort,
-    alloc: Global,
-    first: usize,
-    last: usize,
-    case: &Case,
-) -> Result<(), Fail> {
-    for length in first..=last {
-        let cut = [
-            ("two.toml", Content::Plain(CONFIG)),
-            ("a.nit", Content::Front(A, length)),
-            ("b.nit", Content::Plain(B)),
-            ("two.in", Content::Plain(INPUT)),
-        ];
-        assert_alone(rt, alloc, case, files(alloc, &cut)?)?;
+    let (first, last) = worded(case.last("cut")?);
+    for length in number(first)?..=number(last)? {
+        assert_cut(rt, alloc, &case, length)?;
     }
-    Ok(())
+    Some(())
+}
+
+fn assert_cut(rt: &impl Abort, alloc: Global, case: &Case, length: u64) -> Option<()> {
+    let mut files = files(alloc, case)?;
+    files.get_mut(1)?.1.truncate(length as usize);
+    assert_alone(rt, alloc, case, files)
 }
 
 #[test]
-fn cut_scripts(rt: HostRuntime) -> Result<(), Fail> {
-    for (first, last, case) in &CUTS {
-        assert_cuts(&rt, rt.alloc(), *first, *last, case)?;
+fn cut_scripts(rt: HostRuntime) {
+    for block in CUTS.split("\n\n") {
+        if block.starts_with("case") {
+            assert!(rt; assert_cuts(&rt, rt.alloc(), block).is_some(), "{block}");
+        }
     }
-    Ok(())
-}
-
-#[test]
-fn two_clients(rt: HostRuntime) -> Result<(), Fail> {
-    let tables: [&[Case]; 3] = [&WHOLE, &FAILING, &REFUSED];
-    for cases in &tables {
-        assert_cases(&rt, rt.alloc(), cases)?;
-    }
-    Ok(())
 }
