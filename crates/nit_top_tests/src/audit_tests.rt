@@ -1,10 +1,10 @@
 //! Audits of journals by the configuration and the scripts of two clients.
 
-use crate::case::{files, store, texts};
+use crate::case::{alone, files, store, texts};
 use crate::table::{Case, lines_of};
 use crate::{Abort, Global, MemoryStore, Threads, Wait, assert_cases, same};
 use nit_actor::Open;
-use nit_top::{nitpicker, nitpicker_alone};
+use nit_top::nitpicker;
 
 const CASES: &str = r#"
 
@@ -126,15 +126,15 @@ fn audits(rt: HostRuntime) {
     assert_cases(&rt, rt.alloc(), CASES);
 }
 
-/// Does what the words say, which succeeds.
+/// The journal of this store is found to be one of a run.
 fn audited(rt: &impl Abort, alloc: Global, case: &Case, store: &mut MemoryStore) -> Option<()> {
     let words = texts(alloc, "audit, two.toml, journal.txt").ok()?;
-    let audit = nitpicker_alone(alloc, &words, store);
+    let audit = alone(alloc, &words, store)?;
     same(rt, case, &audit.status, &0);
     Some(())
 }
 
-/// The journal that this run puts is found to be one of a run.
+/// What this run puts is audited.
 fn assert_audited<R: Abort + Threads + Wait + Sync>(
     rt: &R,
     alloc: Global,

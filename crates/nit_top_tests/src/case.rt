@@ -13,7 +13,7 @@ use crate::table::{Case, lines, number, worded};
 use crate::want::assert_file;
 use crate::{Abort, AllocError, Global, Threads, Wait, same};
 use nit_actor::{Gate, Open};
-use nit_store::{MemoryStore, have_different_names};
+use nit_store::{MemoryStore, Store, have_different_names};
 use nit_top::{Done, nitpicker, nitpicker_alone, starts_threads};
 
 /// Files by name, in order.
@@ -148,15 +148,22 @@ pub fn assert_case<R: Abort + Threads + Wait + Sync, G: Gate>(
     assert_store(rt, alloc, case, &done, &store)
 }
 
+/// Does what the words ask for on one thread, or nothing where they start some.
+pub fn alone<S: Store>(alloc: Global, words: &[String], store: &mut S) -> Option<Done> {
+    if starts_threads(words) {
+        return None;
+    }
+    Some(nitpicker_alone(alloc, words, store))
+}
+
 /// A case that starts no thread comes out so on one thread, with these files.
 pub fn assert_alone(rt: &impl Abort, alloc: Global, case: &Case, files: Files) -> Option<()> {
     let words = words(alloc, case)?;
-    if starts_threads(&words) {
-        return Some(());
-    }
     let mut store = store(rt, alloc, case, files)?;
-    let done = nitpicker_alone(alloc, &words, &mut store);
-    assert_store(rt, alloc, case, &done, &store)
+    match alone(alloc, &words, &mut store) {
+        Some(done) => assert_store(rt, alloc, case, &done, &store),
+        None => Some(()),
+    }
 }
 
 /// A store with these files, of which the calls fail that the case says.

@@ -1,10 +1,10 @@
 //! Pictures of scripts that are taken.
 
-use crate::case::{Came, assert_came, assert_end, files, words};
+use crate::case::{Came, alone, assert_came, assert_end, files, words};
 use crate::table::{Case, lines_of};
 use crate::{Abort, Global, assert_cases};
 use nit_store::{NeverFails, have_different_names};
-use nit_top::{Done, nitpicker_alone};
+use nit_top::Done;
 
 const CASES: &str = r#"
 
@@ -154,7 +154,7 @@ fn assert_unfailing(rt: &impl Abort, alloc: Global, table: &str, title: &str) ->
     let files = files(alloc, &case)?;
     assert!(rt; have_different_names(&files));
     let mut store = NeverFails::new(alloc, files);
-    let done = nitpicker_alone(alloc, &words, &mut store);
+    let done = alone(alloc, &words, &mut store)?;
     let came = Came {
         done: &done,
         said: store.said(),
