@@ -1,10 +1,8 @@
 //! Audits of journals by the configuration and the scripts of two clients.
 
-use crate::case::{alone, files, store, texts};
+use crate::case::{alone, files, over, texts};
 use crate::table::{Case, lines_of};
 use crate::{Abort, Global, MemoryStore, Threads, Wait, assert_cases, same};
-use nit_actor::Open;
-use nit_top::nitpicker;
 
 const CASES: &str = r#"
 
@@ -145,9 +143,7 @@ fn assert_audited<R: Abort + Threads + Wait + Sync>(
         table: CASES,
         lines: &lines,
     };
-    let words = texts(alloc, words).ok()?;
-    let mut store = store(rt, alloc, &case, files(alloc, &case)?)?;
-    let ran = nitpicker(rt, alloc, &words, &mut store, &Open);
+    let (ran, mut store) = over(rt, alloc, &case, words, files(alloc, &case)?)?;
     same(rt, &case, &ran.status, &0);
     audited(rt, alloc, &case, &mut store)
 }

@@ -135,6 +135,32 @@ fn assert_lines<R: Abort + Threads + Wait + Sync>(
     assert_alone(rt, alloc, &case, files(alloc, &case)?)
 }
 
+/// Does what the words ask for, with each line of a client on a thread at this gate.
+fn command<R: Threads + Wait + Sync, G: Gate>(
+    rt: &R,
+    alloc: Global,
+    words: &[String],
+    store: &mut MemoryStore,
+    gate: &G,
+) -> Done {
+    nitpicker(rt, alloc, words, store, gate)
+}
+
+/// Does what these words ask for over these files, with the calls of the store failing that the
+/// case says.
+pub fn over<R: Abort + Threads + Wait + Sync>(
+    rt: &R,
+    alloc: Global,
+    case: &Case,
+    words: &str,
+    files: Files,
+) -> Option<(Done, MemoryStore)> {
+    let words = texts(alloc, words).ok()?;
+    let mut store = store(rt, alloc, case, files)?;
+    let done = command(rt, alloc, &words, &mut store, &Open);
+    Some((done, store))
+}
+
 /// The case comes out so at this gate.
 pub fn assert_case<R: Abort + Threads + Wait + Sync, G: Gate>(
     rt: &R,
@@ -144,7 +170,7 @@ pub fn assert_case<R: Abort + Threads + Wait + Sync, G: Gate>(
 ) -> Option<()> {
     let words = words(alloc, case)?;
     let mut store = store(rt, alloc, case, files(alloc, case)?)?;
-    let done = nitpicker(rt, alloc, &words, &mut store, gate);
+    let done = command(rt, alloc, &words, &mut store, gate);
     assert_store(rt, alloc, case, &done, &store)
 }
 
@@ -167,7 +193,7 @@ pub fn assert_alone(rt: &impl Abort, alloc: Global, case: &Case, files: Files) -
 }
 
 /// A store with these files, of which the calls fail that the case says.
-pub fn store(rt: &impl Abort, alloc: Global, case: &Case, files: Files) -> Option<MemoryStore> {
+fn store(rt: &impl Abort, alloc: Global, case: &Case, files: Files) -> Option<MemoryStore> {
     let failing = failing(alloc, case)?;
     assert!(rt; have_different_names(&files));
     Some(MemoryStore::new(alloc, files, failing))

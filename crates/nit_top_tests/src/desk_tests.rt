@@ -1,10 +1,8 @@
 //! The desk of three clients on a screen of 1024 by 768, each on a thread of its own.
 
-use crate::case::{bytes_of, files, store, texts};
+use crate::case::{bytes_of, files, over};
 use crate::table::{Case, lines};
 use crate::{Abort, Global, Threads, Wait, assert_cases, same};
-use nit_actor::Open;
-use nit_top::nitpicker;
 
 const CASES: &str = r#"
 
@@ -145,9 +143,7 @@ fn last_picture<R: Abort + Threads + Wait + Sync>(
         table: CASES,
         lines: &lines,
     };
-    let words = texts(alloc, words).ok()?;
-    let mut store = store(rt, alloc, &case, files(alloc, &case)?)?;
-    let done = nitpicker(rt, alloc, &words, &mut store, &Open);
+    let (done, store) = over(rt, alloc, &case, words, files(alloc, &case)?)?;
     same(rt, &case, &done.status, &0);
     bytes_of(store.files(), "final.ppm")?.to_vec(alloc).ok()
 }

@@ -1,10 +1,8 @@
 //! Generated runs. Whatever the number, and whatever the threads do, they say the same line.
 
-use crate::case::{Files, assert_store, store, texts};
+use crate::case::{Files, assert_store, over};
 use crate::table::{Case, lines_of};
 use crate::{Abort, AllocError, Global, MemoryStore, Threads, Wait, assert_cases};
-use nit_actor::Open;
-use nit_top::nitpicker;
 
 const CASES: &str = r#"
 
@@ -144,9 +142,7 @@ fn ran<R: Abort + Threads + Wait + Sync>(
         table: CASES,
         lines: &lines,
     };
-    let words = texts(alloc, words).ok()?;
-    let mut store = store(rt, alloc, &case, files)?;
-    let done = nitpicker(rt, alloc, &words, &mut store, &Open);
+    let (done, store) = over(rt, alloc, &case, words, files)?;
     assert_store(rt, alloc, &case, &done, &store)?;
     Some(store)
 }
