@@ -104,8 +104,10 @@ fn push_line(text: &mut String, line: &str) -> Option<()> {
 
 /// A piece as often as the number says, or once where there is none.
 fn push_times(text: &mut String, times: &str, piece: &str) -> Option<()> {
-    let times = number(times.trim_end()).unwrap_or(1);
-    for time in 0..times {
+    if times.is_empty() {
+        return push_piece(text, piece, 0);
+    }
+    for time in 0..number(times.trim_end())? {
         push_piece(text, piece, time)?;
     }
     Some(())
