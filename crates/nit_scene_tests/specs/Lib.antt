@@ -1,5 +1,0 @@
-pub use Rattle.nit_config.specs.Configuration
-pub use Rattle.nit_config.specs.ConfigurationRanges
-pub use Rattle.nit_plan.specs.SessionLists
-pub use Rattle.nit_plan.specs.ScriptWords
-pub mod HallOpening

@@ -1,0 +1,77 @@
+//! Scripts that are read and printed again.
+
+use crate::same::same;
+use nit_script::{ScriptError, parse_client, parse_input, print_client, print_input};
+use std::alloc::Global;
+use std::process::Abort;
+use std::test::Fail;
+
+const CLIENTS: [&str; 3] = [
+    "buffer 4 2\nfill 0 0 4 2 FF0000\nview\nplace 1 1 1 4 2\n",
+    "",
+    "buffer 0 999999999\nview\nplace 7 -5 32768 0 1\noffset 1 -1 40000\nfront 1\nback 2\n\
+     above 3 4\ntitle 1 =log 2\ntitle 1 =\ntitle 2 =<a > b>=\ndestroy 9\n\
+     refresh -1 0 3 4\ntake\nupgrade 1\nclose\n\
+     fill 1 2 3 4 00FF7A\ncheck 0 0 4 2 FF0000 00FF00\nphase\n",
+];
+
+const INPUTS: [&str; 3] = [
+    "phase\nphase\nshot\nphase\n",
+    "",
+    "press 767\nrelease 0\nmotion 65535 0\nwheel -127\nwheel 127\nshot\nphase\n",
+];
+
+fn client_again(alloc: Global, text: &str) -> Result<Vec<u8>, Fail> {
+    let script = parse_client(alloc, text.as_bytes())?;
+    Ok(print_client(alloc, &script)?)
+}
+
+fn input_again(alloc: Global, text: &str) -> Result<Vec<u8>, Fail> {
+    let script = parse_input(alloc, text.as_bytes())?;
+    Ok(print_input(alloc, &script)?)
+}
+
+fn assert_clients(rt: &impl Abort, alloc: Global, texts: &[&'static str]) -> Result<(), Fail> {
+    for text in texts {
+        let again = client_again(alloc, text)?;
+        same(rt, text, &again.as_slice(), &text.as_bytes());
+    }
+    Ok(())
+}
+
+fn assert_inputs(rt: &impl Abort, alloc: Global, texts: &[&'static str]) -> Result<(), Fail> {
+    for text in texts {
+        let again = input_again(alloc, text)?;
+        same(rt, text, &again.as_slice(), &text.as_bytes());
+    }
+    Ok(())
+}
+
+#[test]
+fn scripts(rt: HostRuntime) -> Result<(), Fail> {
+    assert_clients(&rt, rt.alloc(), &CLIENTS)?;
+    assert_inputs(&rt, rt.alloc(), &INPUTS)
+}
+
+/// Texts, and the line without a reading.
+const BAD_INPUTS: [(&str, u32); 7] = [
+    ("press 768\n", 1),
+    ("shot\nrelease 1000\n", 2),
+    ("motion 65536 0\n", 1),
+    ("wheel 128\n", 1),
+    ("wheel -128\n", 1),
+    ("phase\nphase\nview\n", 3),
+    ("shot", 1),
+];
+
+fn assert_bad(rt: &impl Abort, alloc: Global, rows: &[(&'static str, u32)]) {
+    for (text, line) in rows {
+        let answer = parse_input(alloc, text.as_bytes()).err();
+        same(rt, text, &answer, &Some(ScriptError::Bad { line: *line }));
+    }
+}
+
+#[test]
+fn input_lines_without_reading(rt: HostRuntime) {
+    assert_bad(&rt, rt.alloc(), &BAD_INPUTS);
+}
