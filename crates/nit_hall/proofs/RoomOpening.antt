@@ -1,6 +1,6 @@
 -- A room and its passes before the first line.
-use Rattle.std.proofs.Common.{Bool, IfSome, List, None, Option, Some, [], ap, arith, cond, drop, false, get_or, inl, inr, length, map, refl, replicate, slice_get, subst, suc, sym, take, true, zero, ℕ, ⊎_elim, ◌*◌, ◌++◌, ◌+◌, ◌<◌, ◌∙◌, ◌∷◌, ◌≡◌, ◌≤◌, ◌⊎◌}
-use Rattle.nit_hall.proofs.Basics.{AreBlank, AreNear, AreSplitOff, Bare, BookModel, BookName, ClipLine, ClipModel, ClipPassModel, Configuration, End, Entry, Follows, FollowsClips, HaveInks, InputLine, IsDonation, IsFirst, IsGlass, IsLegalClips, IsNearBy, IsPass, IsPlanOf, IsRoom, IsSetting, Line, Member, OpeningParts, Painting, PassModel, PixelSource, PlanModel, Point, RoomModel, ShareModel, Sight, bar_rows, bare_everywhere, bare_word, buffer_size, calls_in, calls_of, cases_lt, clip_calls_in, clip_script_in, donation_of, first_pass, first_state, get_or-replicate, get_or_default, get_or_from_slice_get, get_or_past, glass_in, in_bar, ink, length-map, length-replicate, lines_of_all, lines_of_clips, new_sight, no_sight, none-some, option_map, painted_from, parts_of, phases_before, pixel, plan_in, reader_sight, replicate-append-replicate, same_Some, script_in, served, slice_get-get_or, slice_get-map, slice_index, slice_index_or, source_of, source_under, sum, sum_by-cons, table_size, user_actions_in, with_clip_scripts, words_after}
+use Rattle.std.proofs.Common.{IfSome, List, Option, Some, [], ap, arith, drop, false, get_or, inl, inr, length, map, refl, replicate, slice_get, subst, suc, sym, take, zero, ℕ, ⊎_elim, ◌*◌, ◌++◌, ◌+◌, ◌<◌, ◌∙◌, ◌∷◌, ◌≡◌, ◌≤◌, ◌⊎◌}
+use Rattle.nit_hall.proofs.Basics.{AreBlank, AreNear, AreSplitOff, BookModel, BookName, ClipLine, ClipModel, ClipPassModel, Configuration, End, Entry, Follows, FollowsClips, HaveInks, InputLine, IsDonation, IsFirst, IsGlass, IsLegalClips, IsNearBy, IsPass, IsPlanOf, IsRoom, IsSetting, Line, Member, OpeningParts, Painting, PassModel, PixelSource, PlanModel, RoomModel, ShareModel, Sight, bare_everywhere, bare_word, calls_in, calls_of, cases_lt, clip_calls_in, clip_script_in, donation_of, first_pass, get_or-replicate, get_or_default, get_or_from_slice_get, get_or_past, glass_in, ink, length-map, length-replicate, lines_of_all, lines_of_clips, new_sight, no_sight, none-some, option_map, painted_from, parts_of, phases_before, pixel, plan_in, reader_sight, replicate-append-replicate, same_Some, script_in, served, slice_get-get_or, slice_get-map, slice_index, slice_index_or, sum, sum_by-cons, table_size, user_actions_in, with_clip_scripts, words_after}
 use Rattle.nit_hall.proofs.CountParts.{front_before_more, front_whole, back_is_more}
 use Rattle.nit_hall.proofs.Phases.{phases_begun}
 

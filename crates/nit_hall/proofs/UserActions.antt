@@ -1,9 +1,9 @@
 -- A room and the user's pass after a device event, and after a shot.
-use Rattle.nit_hall.proofs.Basics.{AreNear, Configuration, Device, End, Entry, Follows, HaveInks, InputLine, IsLegal, IsOpen, IsRoom, IsUserPass, Line, Painted, RoomModel, Routed, SceneModel, ShareModel, Sight, UserBelongs, UserPassModel, count_by, deeds_of-append, glass_in, input_phases_before, is_input_phase, raised, slice_get_within, slice_index, state_now, sum_by_push, user_actions_in, user_actions_of, without_final}
-use Rattle.std.proofs.Common.{Bool, List, Some, [], ap, arith, cond, false, inl, length, length-append, map, refl, slice_get, subst, sym, take, ℕ, ◌++◌, ◌+◌, ◌-◌, ◌∙◌, ◌∷◌, ◌≡◌, ◌≤◌}
+use Rattle.nit_hall.proofs.Basics.{AreNear, Configuration, Device, End, Entry, Follows, HaveInks, InputLine, IsLegal, IsOpen, IsRoom, IsUserPass, Line, Painted, RoomModel, Routed, SceneModel, ShareModel, Sight, UserBelongs, UserPassModel, deeds_of-append, glass_in, input_phases_before, is_input_phase, raised, slice_get_within, slice_index, state_now, user_actions_in, user_actions_of, without_final}
+use Rattle.std.proofs.Common.{List, Some, [], ap, arith, inl, length, length-append, map, refl, slice_get, subst, sym, take, ℕ, ◌++◌, ◌+◌, ◌-◌, ◌∙◌, ◌∷◌, ◌≡◌, ◌≤◌}
 use Rattle.nit_events.specs.declared.entry.Entry.TheVariants as entry
 use Rattle.nit_script.specs.declared.line.InputLine.TheVariants as inputs
-use Rattle.nit_hall.proofs.LineLemmas.{take_line, deeds_line}
+use Rattle.nit_hall.proofs.LineLemmas.{deeds_line}
 use Rattle.nit_hall.proofs.NearLemmas.{Laws, near_more, near_painted}
 use Rattle.nit_hall.proofs.ScriptsFollowed.{AddsDeed, follows_deed}
 use Rattle.nit_hall.proofs.Phases.{user_phases_same}

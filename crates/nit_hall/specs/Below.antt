@@ -8,7 +8,7 @@ pub use Rattle.nit_clip.specs.declared.call.ClipCall.{ClipCall}
 pub use Rattle.nit_clip.specs.declared.call.ClipEntry.{ClipEntry}
 pub use Rattle.nit_clip.specs.declared.call.ClipReply.{ClipReply}
 pub use Rattle.nit_clip.specs.declared.line.ClipLine.{ClipLine}
-pub use Rattle.nit_config.specs.Configuration.{Configuration, bar_rows, donation_of}
+pub use Rattle.nit_config.specs.Configuration.{Configuration, donation_of}
 pub use Rattle.nit_config.specs.ConfigurationRanges.{IsConfiguration}
 pub use Rattle.nit_config.specs.declared.config.Member.{Member}
 pub use Rattle.nit_events.specs.Input.{deliveries_of, routed_as}
@@ -19,11 +19,11 @@ pub use Rattle.nit_events.specs.declared.device.Device.{Device}
 pub use Rattle.nit_events.specs.declared.entry.Entry.{Entry}
 pub use Rattle.nit_events.specs.declared.event.Routed.{Routed}
 pub use Rattle.nit_journal.specs.Deliveries.{kills}
-pub use Rattle.nit_journal.specs.Journal.{JournalModel}
+pub use Rattle.nit_journal.specs.Journal.{JournalModel, most_entries}
 pub use Rattle.nit_journal.specs.Replay.{Agrees, IsLegal, IsOpen, LegalFrom, replay, replay_from, shots}
 pub use Rattle.nit_journal.specs.Session.{serve}
 pub use Rattle.nit_journal.specs.StackAfter.{is_accepted}
-pub use Rattle.nit_journal.specs.State.{State, after, buffer_size, first_state, route, session, source_of}
+pub use Rattle.nit_journal.specs.State.{State, after, first_state, route, session, source_of}
 pub use Rattle.nit_journal.specs.WholeJournals.{Does, IsWhole, Shoots, UserAction, calls_of, done, next_phase, phases_along, to_do, user_actions_of}
 pub use Rattle.nit_ledger.specs.Book.{BookModel, BookName, ShareModel, most_shares, raised}
 pub use Rattle.nit_overlay.specs.Frame.{frame}
@@ -49,7 +49,7 @@ pub use Rattle.nit_script.specs.declared.line.InputLine.{InputLine}
 pub use Rattle.nit_script.specs.declared.line.Line.{Line}
 pub use Rattle.nit_script.specs.declared.line.Stroke.{Stroke}
 pub use Rattle.nit_slots.specs.Account.{IsDonation}
-pub use Rattle.nit_stack.specs.Sources.{Bare, Black, PixelSource, Word, in_bar, pixel, source_under}
+pub use Rattle.nit_stack.specs.Sources.{Bare, Black, PixelSource, Word, pixel}
 pub use Rattle.nit_word.specs.Channels.{bare_word}
 pub use Rattle.nit_word.specs.Inks.{IsInked, IsWord}
 pub use Rattle.nit_word.specs.Sight.{IsLoaded, Sight, seen}

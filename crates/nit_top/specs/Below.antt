@@ -76,7 +76,7 @@ pub use Rattle.nit_plan.specs.Plan.{IsPlanOf, PlanModel, plan_of_script}
 pub use Rattle.nit_plan.specs.ScriptWords.{Painting, blank, ink, painted_from, static, table_size, words_after, words_left}
 pub use Rattle.nit_plan.specs.SessionLists.{plan_in, script_in}
 pub use Rattle.nit_rect.specs.Intersection.{HasPixels, LiesIn}
-pub use Rattle.nit_rect.specs.Limits.{most_height, most_sessions, most_width, most_words}
+pub use Rattle.nit_rect.specs.Limits.{most_height, most_width, most_words}
 pub use Rattle.nit_rect.specs.Rectangle.{Rectangle, is_place, is_rectangle, rectangle, spans}
 pub use Rattle.nit_rect.specs.declared.memory.NoMemory.{NoMemory}
 pub use Rattle.nit_rect.specs.declared.point.Point.{Point}
@@ -100,7 +100,7 @@ pub use Rattle.nit_stack.specs.Sources.{Bare, Black, PixelSource, Size, Word, am
 pub use Rattle.nit_stack.specs.declared.view.View.{View}
 pub use Rattle.nit_store.specs.Puts.{PutRefusal, PutState, PutsAll, PutsFile, PutsNext, PutsUnless, refusal_by, unrefused}
 pub use Rattle.nit_store.specs.Store.{File, IsPut, PutIn, ReadFaulted, Rose, StoreModel, WriteFaulted, bytes_of, file_at, with_asked, with_said}
-pub use Rattle.nit_store.specs.StoreAnswers.{AfterPut, AfterRead, AskedAtMost}
+pub use Rattle.nit_store.specs.StoreAnswers.{AfterPut, AskedAtMost}
 pub use Rattle.nit_store.specs.declared.store.PutError.{PutError}
 pub use Rattle.nit_top.specs.declared.command.region.Region.{Region}
 pub use Rattle.nit_top.specs.declared.command.words.Asked.{Asked}
@@ -118,7 +118,7 @@ pub use Rattle.std.specs.Fmt.{decimal}
 pub use Rattle.std.specs.Global.{Global}
 pub use Rattle.std.specs.List.{AllByRecursion, AllZip, flat_map, list_all, list_any, range_with_len, sum_by}
 pub use Rattle.std.specs.Option.{is_some}
-pub use Rattle.std.specs.Prelude.{All, Contains, IfNone, IfOk, IfSome, IsSomeAnd, IsTrue, Vec, codes, cond, count_by, drop, false, filter, find, fold, nat_lt, negsuc, option_map, pos, slice_get, slice_index, slice_index_or, sum, true, unwrap_or, vec_len, ℤ}
+pub use Rattle.std.specs.Prelude.{All, Contains, IfNone, IfOk, IfSome, IsSomeAnd, IsTrue, Vec, codes, cond, count_by, drop, false, filter, find, fold, nat_lt, negsuc, option_map, pos, slice_get, slice_index, slice_index_or, true, unwrap_or, vec_len, ℤ}
 pub use Rattle.std.specs.Str.{IsAscii, IsUtf8, bytes_eq}
 pub use Rattle.std.specs.String.{string_bytes}
 pub use Rattle.std.specs.Vec.Iter.{into_iter_items}

@@ -1,10 +1,11 @@
 //! The memory of a run, all of which is taken before its first round.
 
-ghost use Rattle.std.specs.Prelude.{◌<◌, ◌≡◌, ◌+◌, IfOk, length, All, List, ◌≤◌, map, sum, ◌*◌};
-ghost use Rattle.nit_top.specs.Terms.{IsConfiguration, IsDonation, IsPlanOf, IsRoundsOpening, IsWord, Line, glass_after, glasses_of, most_sessions, most_words, picture_length, plans_of, table_size};
+ghost use Rattle.std.specs.Prelude.{◌<◌, ◌≡◌, ◌+◌, IfOk, length, All, List, ◌≤◌, ◌*◌};
+ghost use Rattle.nit_top.specs.Terms.{IsConfiguration, IsDonation, IsPlanOf, IsRoundsOpening, IsWord, Line, glass_after, glasses_of, most_words, picture_length, plans_of, table_size};
 
 use nit_actor::laws::each_line_once;
 use nit_config::Config;
+use nit_hall::line_count;
 use nit_plan::laws::{buffer_within_table, one_more_line};
 use nit_plan::{Plan, plan_of};
 use nit_rect::NoMemory;
@@ -113,19 +114,6 @@ pub fn table_words(donation: u32) -> u32
     ensures range { (1 ≤ result) × (result ≤ most_words) }
 {
     room(donation) / WORD_UNITS
-}
-
-/// How many lines all scripts have.
-fn line_count(scripts: &[Client], input: &Input) -> usize
-    requires { length scripts.now ≤ most_sessions }
-    ensures count { result ≡ sum (map length scripts.now) + length input.now }
-    ensures most { result ≤ 1114112 }
-{
-    let mut count = input.lines().len();
-    for script in scripts {
-        count += script.lines().len();
-    }
-    count
 }
 
 /// A word for each pixel of the screen.
