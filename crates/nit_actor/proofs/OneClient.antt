@@ -1,5 +1,5 @@
 -- A run of one client, whose user does nothing but end phases, is by rounds.
-use Rattle.nit_actor.proofs.Basics.{Action, ActorLine, AreRoundsOf, ByClient, ByUser, Calls, Configuration, Entry, InputLine, IsLegal, IsWhole, LegalFrom, Line, LineTurn, State, UserAction, action_of, actions_of_line, actions_of_turns, after, as_many, as_many_as_clients, calls_from, calls_of, calls_to_make, done, eq-eqb, first_state, input_by_user, input_lines_of, line_by, lines_of, ne_eqb, rounds, user_actions_from, user_actions_of, user_actions_to_do}
+use Rattle.nit_actor.proofs.Basics.{Action, ActorLine, AreRoundsOf, ByClient, ByUser, Calls, Configuration, Entry, InputLine, IsLegal, IsWhole, LegalFrom, Line, LineTurn, State, action_of, actions_of_line, actions_of_turns, after, as_many, as_many_as_clients, calls_from, calls_of, calls_to_make, done, eq-eqb, first_state, input_by_user, input_lines_of, line_by, lines_of, ne_eqb, rounds, user_actions_from, user_actions_of, user_actions_to_do}
 use Rattle.std.proofs.Common.{Bool, List, [], ap, arith, false, length, map, refl, subst, suc, sym, true, zero, ℕ, ◌++◌, ◌==◌, ◌∙◌, ◌∷◌, ◌≡◌, if◌then◌else◌}
 use Rattle.nit_events.specs.declared.entry.Entry.TheVariants as entry
 use Rattle.nit_script.specs.declared.line.Line.TheVariants as line

@@ -1,6 +1,6 @@
 -- What the lines that are done tell of a count of lines, such as that of the phases that they end.
-use Rattle.std.proofs.Common.{Bool, List, Some, [], ap, arith, cond, count_by, false, get_or, length, map, refl, set, subst, suc, take, take_all, true, zero, ℕ, ◌+◌, ◌<◌, ◌∙◌, ◌∷◌, ◌≡◌, ◌≤◌}
-use Rattle.nit_actor.proofs.Basics.{AllZip, count_by_more_no, count_by_more_yes, counted_more, get_or_from_slice_get, slice_get, slice_get_within, sum_by-take-le}
+use Rattle.std.proofs.Common.{Bool, List, Some, [], ap, arith, cond, count_by, get_or, length, map, refl, set, subst, suc, take, take_all, true, zero, ℕ, ◌+◌, ◌<◌, ◌∷◌, ◌≡◌, ◌≤◌}
+use Rattle.nit_actor.proofs.Basics.{AllZip, counted_more, slice_get, sum_by-take-le}
 
 -- before a line that counts there are fewer than in all
 pub counted_fewer : {X : Type 0} (p : X → Bool) (xs : List X) (k : ℕ) (x : X) → slice_get xs k ≡ Some x → p x ≡ true
