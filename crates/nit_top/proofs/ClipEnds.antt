@@ -1,7 +1,7 @@
 -- How the work of a run with clip scripts comes to its end: as that of a run does before its clip scripts are
 -- read, at one of these, or with the text of its clip list behind the files of the run.
 use Rattle.std.proofs.Common.{◌≡◌, ℕ, ◌≤◌, true, List, [], ◌∷◌, ◌++◌, length, length-append, map, take, Option, Some, None, refl, sym, ap, subst, ◌∙◌, arith, inl, inr}
-use Rattle.nit_top.proofs.Basics.{AllByRecursion, AllFiles, AllScripts, AreAllFiles, AreClipScripts, AreClipsRead, AreFirstClips, AreSetup, BothFiles, Clip, ClipLine, Command, Configuration, Ends, Fault, File, FilesRead, FirstFiles, HasRead, IfSome, InnerFiles, InputLine, IsClipFault, IsRunnable, IsValid, Judged, Line, NoFile, OuterFiles, PerformedClips, Refused, Run, Setup, Stop, StoppedAtClip, StoreModel, Worked, append-nil, asking_all, bytes_of, clip_name, clip_names, clip_phases, input_phases, length-map, map-append, name_text, names_in, names_read, next_name, phases, reads, script_names, setup_of, slice_get, take_all, wanted_by, wrong_clip}
+use Rattle.nit_top.proofs.Basics.{AllByRecursion, AllFiles, AllScripts, AreAllFiles, AreClipScripts, AreClipsRead, AreFirstClips, AreSetup, BothFiles, Clip, ClipLine, Command, Configuration, Ends, File, FilesRead, FirstFiles, HasRead, IfSome, InnerFiles, InputLine, IsClipFault, IsRunnable, IsValid, Judged, Line, NoFile, OuterFiles, PerformedClips, Refused, Run, Setup, Stop, StoppedAtClip, StoreModel, Worked, append-nil, asking_all, bytes_of, clip_name, clip_names, clip_phases, input_phases, length-map, map-append, names_in, names_read, next_name, phases, reads, script_names, setup_of, slice_get, wanted_by, wrong_clip}
 use Rattle.nit_top.proofs.AskedNames.{asking_both}
 use Rattle.nit_top.proofs.Scripts.{phases_are, told_so, told_so_both}
 use Rattle.nit_top.proofs.SetupLemmas.{all_so, get_behind, take_front}

@@ -1,6 +1,6 @@
 -- A run with clip scripts whose clients are beside each other: its beginning, and what it leaves.
-use Rattle.std.proofs.Common.{◌≡◌, ◌∙◌, true, ℕ, zero, suc, ◌<◌, List, [], ◌∷◌, ◌++◌, length, map, Option, Some, Result, refl, sym, ap, subst, arith, inl, inr}
-use Rattle.nit_top.proofs.Basics.{All, All-map, AllByRecursion, AreClipsOf, AreDone, AreDoneClips, AreFirstClipPasses, Belongs, ClipBelongs, ClipLine, ClipPassModel, ClipRole, Configuration, Entry, Global, HasRun, HasRunClips, IfOk, InputLine, IsClipListText, IsDoneClip, IsOpening, IsPairIn, IsReady, IsReadyWithClips, IsRunnable, IsSetting, Line, NoMemory, OpeningParts, Pair, PairRole, PassModel, PlanModel, PutFault, PutsNext, Ran, Role, RoomModel, StoreModel, UserPassModel, Vec, clip_number, clip_phases, clip_role_of, clip_text, clips_name, clips_setup, clips_setup_in, first_clip_pass, input_phases, length-map, pair_role_of, phases, put_state_of_run, puts_more, role_of, slice_get, slice_index_or, unrefused, with_clip_scripts}
+use Rattle.std.proofs.Common.{◌≡◌, ◌∙◌, ℕ, zero, suc, ◌<◌, List, [], ◌∷◌, length, map, Option, Some, Result, refl, sym, ap, subst, arith, inl, inr}
+use Rattle.nit_top.proofs.Basics.{All, All-map, AllByRecursion, AreClipsOf, AreDone, AreDoneClips, AreFirstClipPasses, Belongs, ClipBelongs, ClipLine, ClipPassModel, ClipRole, Configuration, Global, HasRun, HasRunClips, IfOk, InputLine, IsClipListText, IsDoneClip, IsOpening, IsPairIn, IsReady, IsReadyWithClips, IsRunnable, IsSetting, Line, NoMemory, OpeningParts, Pair, PairRole, PassModel, PlanModel, PutFault, PutsNext, Ran, Role, RoomModel, StoreModel, UserPassModel, Vec, clip_number, clip_phases, clip_role_of, clip_text, clips_name, clips_setup, clips_setup_in, first_clip_pass, input_phases, length-map, pair_role_of, phases, put_state_of_run, puts_more, role_of, slice_get, slice_index_or, unrefused, with_clip_scripts}
 use Rattle.nit_pixels.specs.End.{End}
 use Rattle.nit_top.proofs.RoomRunLemmas.{all_done, at_get, get_at, is_ready, setup_in}
 

@@ -1,5 +1,5 @@
 -- The clip scripts of the clients, read and judged one after the other.
-use Rattle.std.proofs.Common.{◌≡◌, ℕ, List, [], ◌∷◌, ◌++◌, length, map, Option, Some, None, refl, sym, ap, subst, ◌∙◌, arith}
+use Rattle.std.proofs.Common.{◌≡◌, ℕ, List, [], ◌∷◌, ◌++◌, map, Option, Some, None, refl, sym, ap, subst, ◌∙◌, arith}
 use Rattle.nit_top.proofs.Basics.{AreClipScripts, AreClipsRead, ClipLine, File, IfSome, IsClipFault, IsClipScript, Stop, StoppedAt, StoppedAtClip, StoreModel, asking_all, bytes_of, clip_name, fits_push, length_push, map_push, name_text, with_asked, wrong_clip}
 use Rattle.nit_top.proofs.AskedNames.{asking_none, asking_more}
 use Rattle.nit_top.proofs.Scripts.{told_so_both, zip_more}

@@ -1,5 +1,5 @@
 -- How the work came to its end is why.
-use Rattle.std.proofs.Common.{◌≡◌, ℕ, Bool, true, false, List, [], ◌∷◌, ◌++◌, Option, Some, None, refl, sym, ap, subst, ◌∙◌, arith, inl, inr, ◌⊎◌}
+use Rattle.std.proofs.Common.{◌≡◌, ℕ, true, false, List, [], ◌∷◌, ◌++◌, Option, Some, None, refl, sym, ap, subst, ◌∙◌, arith, inl, inr, ◌⊎◌}
 use Rattle.nit_top.proofs.Basics.{AllFiles, AllScripts, AreAllFiles, AreAudited, AreSetup, Audit, BothFiles, Came, Capture, Clip, Command, Course, End, Entry, Fault, File, FilesRead, FirstFiles, Gen, HasRead, HasValidFiles, IfSome, InnerFiles, IsAudit, IsAudited, IsBothRead, IsCommandRun, IsCutShort, IsEarly, IsLastRead, IsMadeBefore, IsMadeInPart, IsNotBegun, IsOutside, IsPutWhole, IsRefusedAt, IsRefusedWith, IsSetupOf, IsSomeAnd, IsValid, IsValidSo, Judged, Nested, NoCommand, NoFile, OuterFiles, Refused, Run, RunFiles, Still, StoreModel, WithRun, asked_also, audited_line, code_of, is_outside_of, made_by, names_read, next_name, not_both, reads, summary_line, totals}
 use Rattle.nit_top.specs.declared.report.finish.End.TheVariants as ends
 use Rattle.nit_top.proofs.Scripts.{told_so}

@@ -1,6 +1,6 @@
 -- The raw words of the last picture: each is the word that its source has in the tables.
 use Rattle.std.proofs.Common.{◌≡◌, ◌∙◌, ℕ, ◌<◌, List, [], ◌∷◌, ◌++◌, map, length, take, drop, Option, Some, None, refl, sym, ap, subst, arith, zero-add, inl, inr}
-use Rattle.nit_top.proofs.Basics.{Bare, Black, Configuration, Entry, HaveTables, IfSome, IsWordOfSource, Painted, PixelSource, Point, SceneModel, Session, Sight, Size, State, View, Word, after, among, as_many_as_clients, bar_rows, black_or_word, buffer_place, buffer_size, cases_Bool, cases_lt, first_session, first_state, frame, get_or-map-range_with_len, get_or_past, glass_in, index_at, kept_config, ltb-true, nat_lt, negsuc, owner, picture, picture_by, pixel, pixel_count, pos, raw_words, replay, replay_from, same_frame, scenery_of, session_in, shown_index, slice_index, source_at, source_under, state_now, take-append_seam, told_word, word_from, ℤ}
+use Rattle.nit_top.proofs.Basics.{Bare, Black, Configuration, Entry, HaveTables, IsWordOfSource, Painted, PixelSource, Point, SceneModel, Session, Sight, Size, State, View, Word, after, among, as_many_as_clients, bar_rows, black_or_word, buffer_place, buffer_size, cases_Bool, cases_lt, first_session, first_state, frame, get_or-map-range_with_len, get_or_past, glass_in, index_at, kept_config, ltb-true, nat_lt, negsuc, owner, picture, picture_by, pixel, pixel_count, pos, raw_words, replay, replay_from, same_frame, scenery_of, session_in, shown_index, slice_index, source_at, source_under, state_now, take-append_seam, told_word, word_from, ℤ}
 use Rattle.nit_events.specs.declared.entry.Entry.TheVariants as entry
 use Rattle.nit_top.proofs.PerClient.{itself_at}
 

@@ -1,6 +1,6 @@
 -- The frames of an inner run: how many there are, and what is known of the nest that took them.
-use Rattle.std.proofs.Common.{◌≡◌, ◌∙◌, ℕ, ◌+◌, ◌<◌, ◌≤◌, Bool, true, false, cond, List, [], ◌∷◌, ◌++◌, map, length, fold, Option, Some, None, Result, Ok, Err, refl, sym, ap, subst, inl, inr, arith, nat_lt, add-zero, zero-add, append_assoc, append-nil, length-append, ◌==◌}
-use Rattle.nit_top.proofs.Basics.{ActorLine, AreRoundsOf, Bad, ByClient, ByUser, Configuration, Drawing, Entry, InputLine, IsInnerEnd, IsJournal, IsLegal, IsWhole, Line, LineTurn, MayCome, NestError, NestModel, NestState, Phases, RunFiles, SceneModel, ShotFrame, ShowsEach, Sight, State, TakesAll, TakesNext, TakesUnless, TooLong, UnlessMemory, action_of, actions_of_turns, after_turn, by_turns, calls_to_make, cases_Bool, count_by, count_lines, drawn_shot, end_of_nest, eq-eqb, first_forbidden, frame, frame_answer, frame_lines, frames_of, input_by_user, input_lines_of, is_shot_line, is_too_long, last_frame, length-map, lines_of_frames, lt-ltb, ltb-true, map-append, most_lines, nest_of, nest_script, opening_drawing, phases, raw_words, replay, rounds, scenery_of, script_answer, shot_frames_of, shots_after, state_now, sum_by, sum_by-append, sum_by-cons, tables_left, user_actions_to_do}
+use Rattle.std.proofs.Common.{◌≡◌, ◌∙◌, ℕ, ◌+◌, ◌<◌, Bool, true, false, cond, List, [], ◌∷◌, ◌++◌, map, length, fold, Option, Some, None, Result, Ok, Err, refl, sym, ap, subst, inl, inr, arith, nat_lt, add-zero, zero-add, append_assoc, append-nil, length-append}
+use Rattle.nit_top.proofs.Basics.{ActorLine, AreRoundsOf, Bad, ByClient, ByUser, Configuration, Drawing, Entry, InputLine, IsInnerEnd, IsJournal, IsLegal, IsWhole, Line, LineTurn, MayCome, NestError, NestModel, NestState, Phases, RunFiles, SceneModel, ShotFrame, ShowsEach, Sight, State, TakesAll, TakesNext, TakesUnless, TooLong, UnlessMemory, action_of, actions_of_turns, after_turn, by_turns, calls_to_make, count_by, count_lines, drawn_shot, end_of_nest, eq-eqb, first_forbidden, frame, frame_answer, frame_lines, frames_of, input_by_user, input_lines_of, is_shot_line, is_too_long, last_frame, length-map, lines_of_frames, lt-ltb, ltb-true, map-append, most_lines, nest_of, nest_script, opening_drawing, phases, raw_words, replay, rounds, scenery_of, script_answer, shot_frames_of, shots_after, state_now, sum_by-append, sum_by-cons, tables_left, user_actions_to_do}
 use Rattle.nit_events.specs.declared.entry.Entry.TheVariants as entry
 use Rattle.nit_script.specs.declared.line.InputLine.TheVariants as input
 use Rattle.nit_nested.specs.declared.error.NestError.TheVariants.{NoMemory}

@@ -1,6 +1,6 @@
 -- The frames of an inner run are those of the pictures that a run by turns puts.
 use Rattle.std.proofs.Common.{◌≡◌, ◌∙◌, ℕ, List, [], ◌∷◌, ◌++◌, map, fold, refl, sym, ap, subst}
-use Rattle.nit_top.proofs.Basics.{ActorLine, AllByRecursion, AreOutputs, ByClient, ByUser, Configuration, Drawing, Entry, File, InputLine, IsJournal, IsLegal, Line, LineTurn, RunFiles, ShotFrame, State, after, after_turn, all_append, by_turns, drawn_shot, final_picture, frame_of, frames_of, last_frame, map-append, opening_drawing, picture, picture_of, pictures_in, raw_word, replay, rounds, shot_file, shot_frames_of, shots_after, shots_of, tables_left}
+use Rattle.nit_top.proofs.Basics.{ActorLine, AllByRecursion, AreOutputs, ByClient, ByUser, Configuration, Drawing, Entry, File, InputLine, IsJournal, IsLegal, Line, LineTurn, RunFiles, ShotFrame, State, after, after_turn, all_append, by_turns, drawn_shot, final_picture, frame_of, frames_of, last_frame, map-append, opening_drawing, picture, picture_of, pictures_in, raw_word, replay, rounds, shot_file, shot_frames_of, shots_after, tables_left}
 use Rattle.nit_events.specs.declared.entry.Entry.TheVariants as entry
 use Rattle.nit_script.specs.declared.line.InputLine.TheVariants as input
 use Rattle.nit_actor.specs.Drawing.{drawn}

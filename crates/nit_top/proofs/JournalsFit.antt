@@ -1,5 +1,5 @@
 -- The entries of a run's journal are within the format of texts.
-use Rattle.std.proofs.Common.{◌≡◌, ◌∙◌, ℕ, zero, suc, ◌+◌, ◌<◌, ◌≤◌, Bool, true, false, cond, List, [], ◌∷◌, ◌++◌, length, get_or, refl, sym, ap, subst, arith, zero-add, append_assoc, ◌==◌}
+use Rattle.std.proofs.Common.{◌≡◌, ◌∙◌, ℕ, suc, ◌+◌, ◌<◌, ◌≤◌, Bool, true, false, cond, List, [], ◌∷◌, ◌++◌, length, get_or, refl, sym, ap, subst, arith, zero-add, append_assoc, ◌==◌}
 use Rattle.nit_top.proofs.Basics.{Agrees, All, AllByRecursion, AreLines, Call, Calls, Close, Configuration, Delivery, Device, Does, Entry, FitsCall, FitsDelivery, FitsDevice, FitsEntry, FitsInputLine, FitsItem, FitsLine, FitsReply, Gets, InputLine, InputState, IsJournal, IsLegal, IsLive, IsRunnable, Line, Observation, Reply, Routed, Session, Setup, Shoots, State, UserAction, View, after, alone_machine, bar_rows, calls_from, calls_of, calls_of-append, calls_to_make, clicks_on, deliveries_of, donation_of, done, each_at, eq-eqb, first_session, first_state, forget, get_or-map, input_after_call, is_accepted, items_to, length-append, length-map, option_map, owner, point, pointer_after, projection, replay, replay_from, routed_as, session, shots, user_actions_from, user_actions_of}
 use Rattle.nit_events.specs.declared.entry.Entry.TheVariants as entry
 use Rattle.nit_journal.specs.State.{route}

@@ -1,7 +1,7 @@
 -- What answers use: all that lemmas use, and this crate's lemmas.
 pub use Rattle.nit_top.proofs.AskedNames.{asking_both}
 pub use Rattle.nit_top.proofs.AuditEnds.{found_ends, text_ends}
-pub use Rattle.nit_top.proofs.Basics.{All, All-push, AllByRecursion, AreClipsRead, AreDone, AreDoneClips, AreFirstClipPasses, AreKeysBlank, AreLines, AreOutputs, AreShots, BufferName, Capture, CaptureModel, ClipLine, ClipPassModel, Command, Configuration, End, Ended, Entry, Err, File, FirstShows, FitsLine, HasFilmed, HasRun, HasRunClips, HaveTables, IfSome, InputLine, IsAuditEnd, IsClientFault, IsClipFault, IsClipListText, IsConfiguration, IsDoneUser, IsFilmOf, IsGlass, IsInnerEnd, IsInnerJournal, IsInputScript, IsJournal, IsLegal, IsOuterFault, IsRunnable, IsUtf8, IsWhole, IsWord, JournalModel, Line, List, Member, NestError, NestModel, NestState, NoCommand, NoMemory, None, Ok, OpeningParts, Option, OuterSoFar, Pair, PassModel, Performed, PerformedClips, PerformedNested, PlanModel, PutFault, PutRefusal, PutState, PutsAll, PutsNext, Ran, ReadsClient, Rectangle, Reply, RoomModel, RunFiles, Runs, Says, SceneModel, Setup, ShotFrame, ShowsNest, Sight, SoFar, Some, State, Stop, StoppedAmong, StoppedAt, StoppedAtClip, StoreModel, TakesAll, TakesNext, [], actions_of_turns, after, ap, arith, asking_all, begun_of, by_turns, bytes_of, calls_to_make, client_script, clip_name, clips_setup_in, clips_setup_of, codes, command, decimal, decimal_digit, decimal_injective, decimal_step, donation_of, done, end_of_run, ending_of, eq-eqb, err_from_is_err_and, events_among, events_file, events_files, events_name, events_text, false, few_digits, film_name, film_of, final_name, final_picture, first_capture, first_other, first_state, flat_map, frame, frames_of, generated_files, get_or-map, get_or_default, glass_after, glass_in, idle_user, inl, input_phases, into_iter_items, is_off_screen, journal_file, journal_text, label_text, last_frame, length, length-map, length_push, lt-ltb, ltb-true, map, map_push, name_text, names_in, ne_eqb, nest_of, new_sight, number_among, phase_counts, phases, picture, picture_names, pictures_in, piece_text, plan_in, plan_of_script, put_state_of_desk, put_state_of_run, range_with_len, rectangle_of, refl, replay, rounds, rules, run_files, saying-nil, scenery_of, script_files, script_in, script_name, script_names, session, setup_of, shot_frames_of, shot_name, shots, shots_of, shown_first, slice_index_or, state_now, still_configuration, still_setup, subst, sym, table_size, tables_left, take, text_files, texts, true, unrefused, user_actions_to_do, vec_len, wanted_by, with_asked, with_last, with_said, wrong_input, ℕ, ◌∙◌}
+pub use Rattle.nit_top.proofs.Basics.{All, All-push, AllByRecursion, AreClipsRead, AreDone, AreDoneClips, AreFirstClipPasses, AreKeysBlank, AreLines, AreOutputs, AreShots, BufferName, Capture, CaptureModel, ClipLine, ClipPassModel, Command, Configuration, End, Ended, Entry, Err, File, FirstShows, FitsLine, HasFilmed, HasRun, HasRunClips, HaveTables, IfSome, InputLine, IsAuditEnd, IsClientFault, IsClipFault, IsClipListText, IsConfiguration, IsDoneUser, IsFilmOf, IsGlass, IsInnerEnd, IsInnerJournal, IsInputScript, IsJournal, IsLegal, IsOuterFault, IsRunnable, IsUtf8, IsWhole, IsWord, JournalModel, Line, List, Member, NestError, NestModel, NestState, NoCommand, NoMemory, None, Ok, OpeningParts, Option, OuterSoFar, Pair, PassModel, Performed, PerformedClips, PerformedNested, PlanModel, PutFault, PutState, PutsAll, PutsNext, Ran, ReadsClient, Rectangle, Reply, RoomModel, RunFiles, Runs, Says, SceneModel, Setup, ShotFrame, ShowsNest, Sight, SoFar, Some, State, Stop, StoppedAmong, StoppedAt, StoppedAtClip, StoreModel, TakesAll, TakesNext, [], actions_of_turns, after, ap, arith, asking_all, begun_of, by_turns, bytes_of, calls_to_make, client_script, clip_name, clips_setup_in, clips_setup_of, codes, command, decimal, decimal_digit, decimal_injective, decimal_step, donation_of, done, end_of_run, ending_of, eq-eqb, err_from_is_err_and, events_among, events_file, events_files, events_name, events_text, false, few_digits, film_name, film_of, final_name, final_picture, first_capture, first_other, first_state, flat_map, frame, frames_of, generated_files, get_or-map, get_or_default, glass_after, glass_in, idle_user, inl, input_phases, into_iter_items, is_off_screen, journal_file, journal_text, label_text, last_frame, length, length-map, length_push, lt-ltb, ltb-true, map, map_push, name_text, names_in, ne_eqb, nest_of, new_sight, number_among, phase_counts, phases, picture, picture_names, pictures_in, piece_text, plan_in, plan_of_script, put_state_of_desk, put_state_of_run, range_with_len, rectangle_of, refl, replay, rounds, rules, run_files, saying-nil, scenery_of, script_files, script_in, script_name, script_names, session, setup_of, shot_frames_of, shot_name, shots, shots_of, shown_first, slice_index_or, state_now, still_configuration, still_setup, subst, sym, table_size, tables_left, take, text_files, texts, true, unrefused, user_actions_to_do, vec_len, wanted_by, with_asked, with_last, with_said, wrong_input, ℕ, ◌∙◌}
 pub use Rattle.nit_top.proofs.CaptureEnds.{all_too, ends_too, film_ends}
 pub use Rattle.nit_top.proofs.Causes.{causes}
 pub use Rattle.nit_top.proofs.ClipEnds.{clip_stopped, clips_end, clips_runnable, ends_before, names_long}
@@ -20,7 +20,7 @@ pub use Rattle.nit_top.proofs.InnerPictures.{frames_pictured}
 pub use Rattle.nit_top.proofs.JournalsFit.{journal_fits}
 pub use Rattle.nit_top.proofs.Misfits.{found_front, found_other, none_more, none_there, one_more_wanted, other_here, other_phases, some_so}
 pub use Rattle.nit_top.proofs.NestedEnds.{inner_before, inner_config_stopped, inner_scripts, inner_stopped, nested_ends, unfit_ends}
-pub use Rattle.nit_top.proofs.NestedRuns.{begun, begun_first, first_counts, first_may, first_shows, fits_first, nested_leaves, no_other, outer_runnable, own_counts, own_may, runnable_of, setup_is, they_fit}
+pub use Rattle.nit_top.proofs.NestedRuns.{begun, begun_first, first_counts, first_may, first_shows, fits_first, nested_leaves, no_other, outer_runnable, own_counts, runnable_of, setup_is, they_fit}
 pub use Rattle.nit_top.proofs.NoShots.{no_shot, one_file}
 pub use Rattle.nit_top.proofs.NumberWords.{number_is, size_found, size_none}
 pub use Rattle.nit_top.proofs.OuterEnds.{outer_config_stopped, outer_not_read, outer_read}

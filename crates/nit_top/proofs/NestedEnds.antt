@@ -1,7 +1,7 @@
 -- How the work on two configurations comes to its end: while the inner files are read, when both were read, and after
 -- the run.
-use Rattle.std.proofs.Common.{◌≡◌, ◌∙◌, ℕ, ◌+◌, true, false, List, [], ◌∷◌, ◌++◌, length, Option, Some, None, Err, refl, sym, ap, subst, inl, inr, append_assoc}
-use Rattle.nit_top.proofs.Basics.{AllFiles, AllScripts, AreAllFiles, AreAllOuterFiles, AreAllScripts, AreOuterFiles, AreSetup, Begun, BothFiles, Came, Command, Course, End, Ends, Entry, Fault, File, FilesRead, FirstFiles, FirstShows, HasRead, InnerFiles, IsConfigFault, IsInnerEnd, IsJournal, IsLastRead, IsMadeUpTo, IsNotBegun, IsRunnable, IsValid, Judged, Line, Nested, NoCommand, NoFile, NotBegun, OuterFiles, PerformedNested, Refused, Run, RunFiles, Setup, Stop, StoppedAt, StoreModel, Worked, append-nil, asked_also, asking_all, by_turns, bytes_of, file_names, first_other, frames_of, inner_journal_name, is_too_long, journal_text, line_on, misfit, name_text, names_in, names_read, nest_of, nested_setup, next_name, phase_counts, phases, run_files}
+use Rattle.std.proofs.Common.{◌≡◌, ◌∙◌, ℕ, true, false, List, [], ◌∷◌, ◌++◌, length, Option, Some, None, Err, refl, sym, ap, subst, inl, inr, append_assoc}
+use Rattle.nit_top.proofs.Basics.{AllFiles, AllScripts, AreAllFiles, AreAllOuterFiles, AreAllScripts, AreOuterFiles, AreSetup, Begun, BothFiles, Came, Command, Course, End, Ends, Entry, Fault, File, FilesRead, FirstFiles, FirstShows, HasRead, InnerFiles, IsConfigFault, IsInnerEnd, IsJournal, IsLastRead, IsMadeUpTo, IsNotBegun, IsRunnable, IsValid, Judged, Line, Nested, NoCommand, NoFile, NotBegun, OuterFiles, PerformedNested, Refused, Run, RunFiles, Setup, Stop, StoppedAt, StoreModel, Worked, append-nil, asked_also, asking_all, by_turns, bytes_of, file_names, first_other, frames_of, inner_journal_name, is_too_long, journal_text, line_on, misfit, name_text, names_in, names_read, nest_of, nested_setup, next_name, phase_counts, run_files}
 use Rattle.nit_top.specs.declared.report.finish.End.TheVariants as ends
 use Rattle.nit_top.specs.declared.report.finish.Fault.TheVariants as fault
 use Rattle.nit_top.proofs.AskedNames.{also_more}

@@ -1,7 +1,6 @@
 -- The pictures of a run whose user takes no shot.
 use Rattle.std.proofs.Common.{◌≡◌, ℕ, zero, suc, List, [], ◌∷◌, ◌++◌, map, replicate, refl, ap, ◌∙◌}
-use Rattle.nit_top.proofs.Basics.{ActorLine, AreOutputs, ByClient, ByUser, Configuration, Drawing, Entry, File, InputLine, IsJournal, Line, LineTurn, UserAction, after_turn, count_by, done, final_name, final_picture, fold, input_by_user, input_lines_of, is_phase, opening_drawing, rounds, shot_file, shots, shots_after, still_setup, user_actions_from, user_actions_of}
-use Rattle.nit_events.specs.declared.entry.Entry.TheVariants as entry
+use Rattle.nit_top.proofs.Basics.{ActorLine, AreOutputs, ByClient, ByUser, Configuration, Drawing, Entry, File, InputLine, IsJournal, Line, LineTurn, after_turn, count_by, done, final_name, final_picture, fold, input_by_user, input_lines_of, is_phase, opening_drawing, rounds, shot_file, shots, shots_after, still_setup, user_actions_from, user_actions_of}
 use Rattle.nit_script.specs.declared.line.InputLine.TheVariants as input
 use Rattle.nit_actor.specs.Drawing.{drawn}
 use Rattle.nit_top.proofs.RoomRunLemmas.{no_shots}

@@ -1,5 +1,5 @@
 -- How the work on two configurations comes to its end while the outer files are read.
-use Rattle.std.proofs.Common.{◌≡◌, ◌∙◌, ℕ, ◌+◌, List, [], ◌∷◌, ◌++◌, length, take, None, Err, refl, sym, ap, subst, inl, inr, append_assoc, arith}
+use Rattle.std.proofs.Common.{◌≡◌, ◌∙◌, ℕ, List, [], ◌∷◌, ◌++◌, length, take, None, Err, refl, sym, ap, subst, inl, inr, append_assoc, arith}
 use Rattle.nit_top.proofs.Basics.{AreAllOuterFiles, AreOuterFiles, AreOuterScripts, Command, Configuration, Ends, FirstFiles, HasReadOuter, IfSome, InputLine, IsConfig, IsConfigFault, IsConfiguration, IsInputFault, IsInputScript, IsOuter, IsOuterFault, Judged, Line, Nested, NoFile, OuterSoFar, OuterStopped, ReadOuter, Refused, SpellScripts, Stop, StoppedAt, StoreModel, Worked, asking_all, bytes_of, first_names, name_text, names_in, run_files, script_names, slice_get, take_all, with_asked}
 use Rattle.nit_top.proofs.AskedNames.{asking_both, asking_more, asking_none}
 use Rattle.nit_top.proofs.Scripts.{told_so, told_so_both}

@@ -1,5 +1,5 @@
 -- The scripts of the outer configuration's clients, read and judged one after the other.
-use Rattle.std.proofs.Common.{◌≡◌, ◌∙◌, ℕ, ◌+◌, List, [], ◌∷◌, ◌++◌, length, Option, Some, None, refl, sym, ap, subst, arith}
+use Rattle.std.proofs.Common.{◌≡◌, ◌∙◌, ℕ, List, [], ◌∷◌, ◌++◌, Option, Some, None, refl, sym, ap, subst, arith}
 use Rattle.nit_top.proofs.Basics.{AreLines, AreOuterScripts, Fault, File, FitsLine, IfSome, IsOuterFault, IsOuterScript, Line, MayShowFrames, OuterSoFar, OuterStopped, SpellScripts, Stop, StoppedAt, StoreModel, asking_all, bytes_of, first_forbidden, fits_push, length_push, name_text, option_map, with_asked, wrong_outer}
 use Rattle.nit_top.specs.declared.report.finish.Fault.TheVariants as fault
 use Rattle.nit_top.proofs.AskedNames.{asking_none, asking_more}

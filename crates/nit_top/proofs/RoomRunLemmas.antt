@@ -1,6 +1,6 @@
 -- A run whose clients are beside each other: its beginning, and what it leaves.
 use Rattle.std.proofs.Common.{◌≡◌, ◌∙◌, true, false, ℕ, zero, suc, ◌+◌, ◌<◌, List, [], ◌∷◌, ◌++◌, length, length-append, map, take, Some, refl, sym, ap, subst, arith, append_assoc, zero-add}
-use Rattle.nit_top.proofs.Basics.{All, AreBlank, AreBuffers, AreDone, AreKeysBlank, AreNearShots, AreOutputs, Bare, Belongs, Black, BufferName, Configuration, Entry, File, HasRun, InputLine, IsDoneUser, IsJournal, IsKnownWhole, IsLegal, IsNearPicture, IsOpen, IsOpening, IsReady, IsSetting, IsWhole, Line, OpeningParts, PassModel, PixelSource, PlanModel, PutState, PutsAll, PutsNext, PutsShotsBehind, Ran, Role, RoomModel, Setup, ShotsBehind, State, StoreModel, UserAction, UserBelongs, UserPassModel, UserRole, Word, append-nil, calls_to_make, deeds_done, deeds_of-append, donation_of, events_files, files_both, final_name, final_picture, first_pass, first_state, fit_again, fits_belongs, frame, get_or-map-range_with_len, journal_file, left_word, length-map-range_with_len, new_sight, no_files, parts_of, picture, picture_of, pixel_count, plan_in, plans_of, put_state_of_run, puts_both, range_with_len, raw_word, replay, role_at, role_of, roles_fit, roles_long, same_throughout, scenery_of, setup_of, shots, slice_get, slice_index_or, source_at, table_size, tables_left, take_all, text_files, unrefused, user_actions_in, user_actions_of, user_actions_to_do, user_role_of, word_from, words_left_in, words_of}
+use Rattle.nit_top.proofs.Basics.{All, AreBlank, AreBuffers, AreDone, AreKeysBlank, AreNearShots, AreOutputs, Bare, Belongs, Black, BufferName, Configuration, Entry, File, HasRun, InputLine, IsDoneUser, IsJournal, IsKnownWhole, IsLegal, IsNearPicture, IsOpen, IsOpening, IsReady, IsSetting, IsWhole, Line, OpeningParts, PassModel, PixelSource, PlanModel, PutState, PutsAll, PutsNext, PutsShotsBehind, Ran, Role, RoomModel, Setup, ShotsBehind, State, StoreModel, UserAction, UserBelongs, UserPassModel, UserRole, Word, append-nil, calls_to_make, deeds_done, deeds_of-append, donation_of, events_files, files_both, final_name, final_picture, first_pass, first_state, fit_again, fits_belongs, frame, get_or-map-range_with_len, journal_file, left_word, new_sight, no_files, parts_of, picture, picture_of, pixel_count, plan_in, plans_of, put_state_of_run, puts_both, range_with_len, raw_word, replay, role_at, role_of, roles_fit, roles_long, same_throughout, scenery_of, setup_of, shots, slice_get, slice_index_or, source_at, table_size, tables_left, take_all, text_files, unrefused, user_actions_in, user_actions_of, user_actions_to_do, user_role_of, word_from, words_left_in, words_of}
 use mathlib.Core.List.{IsPrefix}
 use Rattle.nit_events.specs.declared.entry.Entry.TheVariants as entry
 use Rattle.nit_pixels.specs.End.{End}

@@ -1,6 +1,6 @@
 -- Where a pixel of the outer run's last picture shows the first session's buffer, it shows the last inner frame.
 use Rattle.std.proofs.Common.{◌≡◌, ◌∙◌, ℕ, suc, ◌+◌, ◌*◌, ◌<◌, ◌≤◌, List, [], ◌∷◌, ◌++◌, map, length, take, get_or, None, false, refl, sym, ap, subst, inl, inr, arith, length-append}
-use Rattle.nit_top.proofs.Basics.{Buffer, Call, CanPay, Configuration, Entry, HoldsAtEnd, IsJournal, Line, NestModel, RunFiles, Session, Setup, ShotFrame, ShowsFrames, ShowsNest, State, Word, alone_machine, buffer_size, calls_in, calls_of, calls_to_make, cases_Bool, donation_of, done, first_forbidden, first_session, frames_behind, frames_of, get_or-take, is_accepted, last_frame, lines_of_frames, nest_of, nest_script, next_frame, owner_of, phases, pixel, projection, replay, script_in, serve, session, shot_frames_of, slice_index, source_at, static, tables_left, take_all, to_do, words_left, woven}
+use Rattle.nit_top.proofs.Basics.{Buffer, CanPay, Configuration, Entry, HoldsAtEnd, IsJournal, Line, NestModel, RunFiles, Session, Setup, ShotFrame, ShowsFrames, ShowsNest, State, Word, buffer_size, calls_in, calls_of, calls_to_make, cases_Bool, donation_of, done, first_forbidden, first_session, frames_behind, frames_of, get_or-take, is_accepted, last_frame, lines_of_frames, nest_of, nest_script, next_frame, owner_of, phases, pixel, projection, replay, script_in, serve, session, shot_frames_of, slice_index, source_at, static, tables_left, take_all, to_do, words_left, woven}
 use Rattle.nit_events.specs.declared.event.Status.TheVariants as status
 use Rattle.nit_scene.specs.RawWords.{word_from}
 use Rattle.nit_top.proofs.HeadlineLemmas.{MachinesLaw}

@@ -1,5 +1,5 @@
 -- A machine that is not served has no buffer.
-use Rattle.std.proofs.Common.{◌≡◌, Bool, true, false, cond, ℕ, ◌+◌, List, [], ◌∷◌, ◌++◌, length, nat_lt, Option, Some, None, refl, inl, inr, ◌⊎◌}
+use Rattle.std.proofs.Common.{◌≡◌, Bool, true, false, cond, ◌+◌, List, [], ◌∷◌, ◌++◌, length, nat_lt, Option, Some, None, refl, inl, inr, ◌⊎◌}
 use Rattle.nit_top.proofs.Basics.{Call, Calls, Close, Event, Gets, Item, Observation, Reply, Session, Status, Take, accepted, after_observations, by_call, by_life, by_refusal, by_status, first_none, receive, refusal, taking}
 use Rattle.nit_events.specs.declared.event.Item.TheVariants as item
 use Rattle.nit_events.specs.declared.event.Status.TheVariants as status

@@ -1,5 +1,5 @@
 -- A run of one client whose user does nothing: its beginning, and what it leaves.
-use Rattle.std.proofs.Common.{◌≡◌, ◌∙◌, true, false, ℕ, ◌+◌, ◌<◌, List, [], ◌∷◌, ◌++◌, length, map, Some, refl, sym, ap, subst, arith}
+use Rattle.std.proofs.Common.{◌≡◌, ◌∙◌, true, false, ◌+◌, ◌<◌, List, [], ◌∷◌, ◌++◌, length, map, Some, refl, sym, ap, subst, arith}
 use Rattle.nit_top.proofs.Basics.{AreOutputs, AreRoundsOf, Belongs, Configuration, Entry, File, HasRun, InputLine, IsAlone, IsJournal, IsLegal, IsOpening, IsReady, IsReadyAlone, IsWhole, Line, OpeningParts, PassModel, PlanModel, PutsNext, Ran, RoomModel, Setup, StepTogether, StoreModel, UserPassModel, calls_to_make, count_by, drawn, drop, final_name, final_picture, idle_user, is_phase, put_state_of_run, rounds, setup_of, shot_file, shots, slice_get, slice_index_or, unrefused, user_actions_to_do}
 use Rattle.nit_events.specs.declared.entry.Entry.TheVariants as entry
 use Rattle.nit_pixels.specs.End.{End}

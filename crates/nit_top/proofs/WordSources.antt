@@ -1,5 +1,5 @@
 -- A pixel whose source is a word of a session shows a place within the session's buffer.
-use Rattle.std.proofs.Common.{◌≡◌, ◌∙◌, Bool, true, false, cond, ℕ, ◌+◌, ◌*◌, ◌<◌, ℤ, pos, negsuc, Option, Some, None, refl, sym, ap, subst, nat_lt}
+use Rattle.std.proofs.Common.{◌≡◌, ◌∙◌, Bool, true, false, cond, ℕ, ◌*◌, ◌<◌, ℤ, pos, negsuc, Option, Some, None, refl, ap, subst, nat_lt}
 use Rattle.nit_top.proofs.Basics.{Bare, Black, PixelSource, Point, Size, View, Word, among, black_or_word, buffer_place, index_at, ltb-true, mul-add-lt, shown_index, source_under}
 
 abbrev number_in : Option ℕ → ℕ

@@ -116,7 +116,7 @@ pub use Rattle.nit_word.specs.Inks.{IsWord}
 pub use Rattle.nit_word.specs.Sight.{Sight, inked_sight}
 pub use Rattle.std.specs.Fmt.{decimal}
 pub use Rattle.std.specs.Global.{Global}
-pub use Rattle.std.specs.List.{AllByRecursion, AllZip, flat_map, list_all, list_any, range_with_len, sum_by}
+pub use Rattle.std.specs.List.{AllByRecursion, AllZip, flat_map, list_all, list_any, range_with_len}
 pub use Rattle.std.specs.Option.{is_some}
 pub use Rattle.std.specs.Prelude.{All, Contains, IfNone, IfOk, IfSome, IsSomeAnd, IsTrue, Vec, codes, cond, count_by, drop, false, filter, find, fold, nat_lt, negsuc, option_map, pos, slice_get, slice_index, slice_index_or, true, unwrap_or, vec_len, ℤ}
 pub use Rattle.std.specs.Str.{IsAscii, IsUtf8, bytes_eq}

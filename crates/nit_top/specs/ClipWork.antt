@@ -1,5 +1,5 @@
 -- What the parts of the work of a run with clip scripts leave.
-use Rattle.std.specs.Prelude.{◌≡◌, ◌⊎◌, ℕ, ◌+◌, ◌≤◌, true, List, [], ◌∷◌, ◌++◌, length, map, Option, None, Result, Ok, Err, IfSome, Vec}
+use Rattle.std.specs.Prelude.{◌≡◌, ◌⊎◌, ℕ, ◌+◌, List, [], ◌∷◌, ◌++◌, length, map, Option, None, Result, Ok, Err, IfSome, Vec}
 use Rattle.nit_top.specs.Below.{AllByRecursion, ClipLine, Configuration, Entry, File, Global, NoMemory, PutsAll, Scripts, StoreModel, shots, unrefused}
 use Rattle.nit_top.specs.declared.report.finish.Name.TheVariants as name
 use Rattle.nit_top.specs.declared.report.finish.Worked.{Worked}

@@ -1,5 +1,5 @@
 -- How the files of the outer configuration are read and judged, one after the other.
-use Rattle.std.specs.Prelude.{◌≡◌, ◌⊎◌, ℕ, List, [], ◌∷◌, ◌++◌, length, None, Result, Ok, Err, IfSome, Vec}
+use Rattle.std.specs.Prelude.{◌≡◌, ◌⊎◌, ℕ, List, ◌∷◌, ◌++◌, length, None, Result, Ok, Err, IfSome, Vec}
 use Rattle.nit_top.specs.Below.{AllByRecursion, Configuration, FitsLine, Global, InputLine, Line, Scripts, StoreModel, bytes_of, with_asked}
 use Rattle.nit_top.specs.declared.report.finish.Stop.{Stop}
 use Rattle.nit_top.specs.Setup.{AreLines}

@@ -1,5 +1,5 @@
 -- A run before its first round.
-use Rattle.std.specs.Prelude.{◌≡◌, ◌+◌, ◌*◌, ◌≤◌, List, [], length, map}
+use Rattle.std.specs.Prelude.{◌≡◌, ◌+◌, ◌≤◌, List, [], length, map}
 use Rattle.nit_top.specs.Below.{Configuration, InputLine, IsSetUp, Line, Opened, PlanModel, Sight, actions_of_turns, donation_of, glass_after, picture_length, plan_of_script, range_with_len, rounds, script_in}
 
 -- the plan of each client's script, in order

@@ -1,5 +1,5 @@
 -- The clip list of a run, which a command puts behind the files of the run.
-use Rattle.std.specs.Prelude.{◌≡◌, ℕ, ◌≤◌, List, [], ◌∷◌, map, take, codes, Some}
+use Rattle.std.specs.Prelude.{◌≡◌, ℕ, ◌≤◌, List, map, take, codes, Some}
 use Rattle.nit_top.specs.Below.{AllByRecursion, ClipEntry, Configuration, Entry, File, IsLegalClips, IsWholeClips, before_final, calls_to_make, clip_text, clips_to_make, replay, user_actions_to_do}
 use Rattle.nit_clip.specs.declared.call.ClipReply.TheVariants as reply
 use Rattle.nit_top.specs.Setup.{Setup}

@@ -1,5 +1,5 @@
 -- The film of a region, which a command puts behind the files of its run.
-use Rattle.std.specs.Prelude.{◌≡◌, ℕ, Bool, false, List, [], ◌∷◌, ◌++◌, map, codes}
+use Rattle.std.specs.Prelude.{ℕ, Bool, false, List, [], ◌∷◌, ◌++◌, map, codes}
 use Rattle.nit_top.specs.Below.{Configuration, Entry, File, Region, crop_bytes, stream}
 use Rattle.nit_top.specs.Region.{is_off_screen, rectangle_of}
 use Rattle.nit_top.specs.Command.{Command, Capture}

@@ -1,5 +1,4 @@
-use Rattle.std.proofs.Common.{◌∙◌, ◌∷◌, ap}
-use Rattle.nit_top.proofs.Lemmas.{inner_config_stopped, outer_config_stopped, outer_not_read, outer_read, run_files, with_asked}
+use Rattle.nit_top.proofs.Lemmas.{ap, inner_config_stopped, outer_config_stopped, outer_not_read, outer_read, run_files, with_asked, ◌∙◌}
 use Rattle.nit_top.proofs.top.within.Goals as goal
 
 pub returns-in-Err : goal.returns-in-Err

@@ -1,5 +1,4 @@
-use Rattle.std.proofs.Common.{◌≡◌, ◌∙◌, ℕ, List, map, ap, refl, sym, subst}
-use Rattle.nit_top.proofs.Lemmas.{Configuration, InputLine, IsWhole, PutsNext, SceneModel, calls_to_make, final_name, known_whole, last_is, picture, put_state_of_desk, user_actions_to_do}
+use Rattle.nit_top.proofs.Lemmas.{Configuration, InputLine, IsWhole, List, PutsNext, SceneModel, ap, calls_to_make, final_name, known_whole, last_is, map, picture, put_state_of_desk, refl, subst, sym, user_actions_to_do, ℕ, ◌∙◌}
 use Rattle.nit_pixels.specs.End.{End}
 use Rattle.nit_top.proofs.report.last.end_with_picture.Goals as goal
 

@@ -1,5 +1,4 @@
-use Rattle.std.proofs.Common.{ℕ, List, ◌++◌, [], ap, sym, subst}
-use Rattle.nit_top.proofs.Lemmas.{Says, clip_name, codes, err_from_is_err_and, saying-nil, says_stop, says_then}
+use Rattle.nit_top.proofs.Lemmas.{List, Says, [], ap, clip_name, codes, err_from_is_err_and, saying-nil, says_stop, says_then, subst, sym, ℕ}
 use Rattle.nit_top.proofs.report.say.clip_name.Goals as goal
 
 pub returns-in_err-text : goal.returns-in_err-text

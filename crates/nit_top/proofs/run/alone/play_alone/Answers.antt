@@ -1,4 +1,4 @@
-use Rattle.std.proofs.Common.{rules, ◌≡◌, ◌∙◌, ◌+◌, List, Option, ap, false, map, subst, sym, true}
+use Rattle.std.proofs.Common.{rules, ◌≡◌, ◌∙◌, ◌+◌, List, ap, false, map, subst, sym, true}
 use Rattle.nit_top.proofs.Lemmas.{Entry, HasRun, IsLegal, IsWhole, JournalModel, OpeningParts, PutState, PutsNext, StoreModel, alone_leaves, calls_to_make, final_name, final_picture, put_state_of_desk, put_state_of_run, setup_of, shots, unrefused, user_actions_to_do}
 use Rattle.nit_top.proofs.run.alone.play_alone.Goals as goal
 

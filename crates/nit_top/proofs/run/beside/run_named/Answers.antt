@@ -1,5 +1,5 @@
-use Rattle.std.proofs.Common.{rules, ◌≡◌, ◌∙◌, ◌++◌, ◌∷◌, [], Option, map, ap, sym, subst}
-use Rattle.nit_top.proofs.Lemmas.{AreDone, Configuration, File, HasRun, IsDoneUser, IsLegal, IsWhole, OpeningParts, PutRefusal, PutState, PutsAll, PutsNext, StoreModel, all_done, beside_leaves, calls_to_make, events_files, final_name, final_picture, journal_file, put_state_of_desk, put_state_of_run, setup_in, user_actions_to_do, user_done}
+use Rattle.std.proofs.Common.{rules, ◌≡◌, ◌∙◌, ◌++◌, ◌∷◌, [], map, ap, sym, subst}
+use Rattle.nit_top.proofs.Lemmas.{AreDone, Configuration, HasRun, IsDoneUser, IsLegal, IsWhole, OpeningParts, PutState, PutsAll, PutsNext, StoreModel, all_done, beside_leaves, calls_to_make, events_files, final_name, final_picture, journal_file, put_state_of_desk, put_state_of_run, setup_in, user_actions_to_do, user_done}
 use Rattle.nit_top.proofs.run.beside.run_named.Goals as goal
 
 pub last_picture-scene-requires-clause-done : goal.last_picture-scene-requires-clause-done

@@ -1,5 +1,5 @@
-use Rattle.std.proofs.Common.{rules, ◌≡◌, ◌∙◌, ◌≤◌, ◌+◌, ◌++◌, ◌∷◌, [], ℕ, List, Option, length, map, ap, sym, subst, arith}
-use Rattle.nit_top.proofs.Lemmas.{AreDone, AreDoneClips, ClipPassModel, Configuration, Entry, File, HasRun, HasRunClips, IsClipListText, IsLegal, IsWhole, OpeningParts, Pair, PassModel, PutRefusal, PutState, PutsAll, PutsNext, StoreModel, back_long, beside_leaves, calls_to_make, clips_done, clips_leave, clips_setup_in, events_files, final_name, final_picture, journal_file, passes_done, put_state_of_desk, put_state_of_run, setup_in, user_actions_to_do, vec_len}
+use Rattle.std.proofs.Common.{rules, ◌≡◌, ◌∙◌, ◌++◌, ◌∷◌, [], ℕ, List, length, map, ap, sym, subst, arith}
+use Rattle.nit_top.proofs.Lemmas.{AreDone, AreDoneClips, ClipPassModel, Configuration, Entry, HasRun, HasRunClips, IsClipListText, IsLegal, IsWhole, OpeningParts, Pair, PassModel, PutState, PutsAll, PutsNext, StoreModel, back_long, beside_leaves, calls_to_make, clips_done, clips_leave, clips_setup_in, events_files, final_name, final_picture, journal_file, passes_done, put_state_of_desk, put_state_of_run, setup_in, user_actions_to_do, vec_len}
 use Rattle.nit_top.proofs.run.clips.run_clips_named.Goals as goal
 
 pub take_apart-requires-clause-room : goal.take_apart-requires-clause-room

@@ -1,5 +1,5 @@
 use Rattle.std.proofs.Common.{◌≡◌, ◌∙◌, ◌<◌, List, [], length, map, ℕ, ap, sym, subst, None}
-use Rattle.nit_top.proofs.Lemmas.{AreLeft, Configuration, Entry, HaveTables, IsGlass, IsJournal, JournalModel, NestModel, NestState, ShotFrame, Sight, TakesAll, TakesNext, by_turns, frames_of, glass_in, last_frame, left_glass, left_tables, no_frames, rounds_journal, run_files, shot_frames_of, tables_left, taken_all, takes_more, written_whole}
+use Rattle.nit_top.proofs.Lemmas.{AreLeft, Configuration, Entry, HaveTables, IsGlass, IsJournal, JournalModel, NestModel, NestState, ShotFrame, Sight, TakesAll, TakesNext, by_turns, glass_in, last_frame, left_glass, left_tables, no_frames, rounds_journal, run_files, shot_frames_of, tables_left, taken_all, takes_more, written_whole}
 use Rattle.nit_top.proofs.InnerLemmas.{last_is}
 use Rattle.nit_top.proofs.run.inner.play.Goals as goal
 

@@ -1,5 +1,5 @@
-use Rattle.std.proofs.Common.{◌≡◌, ◌∙◌, ◌==◌, ℕ, List, [], ◌∷◌, ◌++◌, length, map, Option, Some, None, false, true, refl, sym, ap, subst}
-use Rattle.nit_top.proofs.Lemmas.{Configuration, IfSome, InputLine, Line, Member, eq-eqb, first_other, found_front, input_phases, length-map, ne_eqb, none_more, none_there, other_here, phases, script_names, some_so}
+use Rattle.std.proofs.Common.{◌≡◌, ◌∙◌, ℕ, List, [], ◌∷◌, map, Some, None, sym, ap, subst}
+use Rattle.nit_top.proofs.Lemmas.{Configuration, Line, Member, eq-eqb, first_other, found_front, input_phases, length-map, ne_eqb, none_more, none_there, other_here, phases, script_names, some_so}
 use Rattle.nit_top.proofs.run.nested.first_other.Goals as goal
 
 pub returns-then-is_some-clause-some : goal.returns-then-is_some-clause-some

@@ -1,5 +1,5 @@
 use Rattle.std.proofs.Common.{◌≡◌, ◌∙◌, ◌∷◌, Some, Ok, Err, true, false, ℕ, List, length, ap, sym, subst}
-use Rattle.nit_top.proofs.Lemmas.{AreLines, Entry, FitsLine, IsInnerEnd, IsRunnable, Line, PerformedNested, Setup, Stop, asking_all, asking_both, begun, by_turns, first_other, first_shows, frames_counted, frames_of, inner_before, inner_scripts, inner_stopped, name_text, names_in, nested_ends, no_other, not_read, other_phases, outer_runnable, own_counts, own_may, phase_counts, phases, read_whole, run_files, runnable_of, setup_is, setup_of, they_fit, unfit_ends}
+use Rattle.nit_top.proofs.Lemmas.{AreLines, Entry, FitsLine, IsInnerEnd, IsRunnable, Line, PerformedNested, Setup, Stop, asking_all, asking_both, begun, by_turns, first_other, first_shows, frames_counted, frames_of, inner_before, inner_scripts, inner_stopped, name_text, names_in, nested_ends, no_other, not_read, other_phases, outer_runnable, own_counts, phase_counts, phases, read_whole, run_files, runnable_of, setup_is, setup_of, they_fit, unfit_ends}
 use Rattle.nit_top.specs.declared.report.finish.Fault.TheVariants as fault
 use Rattle.nit_top.proofs.run.nested.nested.Goals as goal
 

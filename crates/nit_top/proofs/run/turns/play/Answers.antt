@@ -1,5 +1,5 @@
-use Rattle.std.proofs.Common.{rules, ◌≡◌, ◌∙◌, ◌<◌, ◌++◌, ◌∷◌, [], List, Option, length, ℕ, ap, sym, subst, refl, false, true}
-use Rattle.nit_top.proofs.Lemmas.{AreLeft, Configuration, File, HasRun, HaveTables, IsGlass, PutRefusal, PutState, PutsAll, PutsLast, PutsNext, Sight, StoreModel, events_files, final_name, glass_in, journal_file, left_glass, put_state_of_desk, put_state_of_run, run_leaves, setup_of, state_now, text_files, with_texts, written_whole}
+use Rattle.std.proofs.Common.{rules, ◌≡◌, ◌∙◌, ◌<◌, ◌++◌, ◌∷◌, [], List, length, ℕ, ap, sym, subst, refl, false, true}
+use Rattle.nit_top.proofs.Lemmas.{AreLeft, Configuration, File, HasRun, HaveTables, IsGlass, PutState, PutsAll, PutsLast, Sight, StoreModel, events_files, glass_in, journal_file, left_glass, put_state_of_desk, put_state_of_run, run_leaves, setup_of, state_now, text_files, with_texts, written_whole}
 use Rattle.nit_top.proofs.run.turns.play.Goals as goal
 
 pub put_last-requires-clause-tables : goal.put_last-requires-clause-tables
