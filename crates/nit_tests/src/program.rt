@@ -10,7 +10,6 @@ mod capture_tests;
 mod case;
 mod clip_tests;
 mod desk_tests;
-mod entries;
 mod failing_tests;
 mod gate_tests;
 mod gen_tests;

@@ -127,7 +127,7 @@ ends 0 =nitpicker: clients 2 entries 9 frames 2\n
 asked =two.toml a.nit b.nit two.in shot-1.ppm final.ppm events-a.txt events-b.txt journal.txt
 there =two.toml a.nit b.nit two.in shot-1.ppm final.ppm events-a.txt events-b.txt journal.txt
 is two.toml long 1048576
-whole two
+whole JOURNAL
 
 "#;
 

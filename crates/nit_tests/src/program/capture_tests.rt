@@ -21,13 +21,13 @@ there FILMED
 case the left half
 with film
 bytes capture.ncap =4E 43 41 50 04 00 02 00 01 01 00 00 00 07 00 00 FF 01 01 00 00 00 07 FF 00 00 00
-whole two
+whole JOURNAL
 
 case the right half
 with film
 words capture, two.toml, 4, 0, 4, 2
 bytes capture.ncap =4E 43 41 50 04 00 02 00 01 01 00 00 00 07 00 00 20 01 00 00 00
-whole two
+whole JOURNAL
 
 case a region that ends a column too far to the right is refused, and nothing is put
 with film
@@ -43,14 +43,14 @@ fails 5
 ends 4 =nitpicker: shot-1.ppm: write fault\n
 asked =two.toml a.nit b.nit two.in shot-1.ppm
 there =two.toml a.nit b.nit two.in
-whole two
+whole JOURNAL
 
 case where its own is refused, all else is there
 with film
 fails 10
 ends 4 =nitpicker: capture.ncap: write fault\n
 there =two.toml a.nit b.nit two.in shot-1.ppm final.ppm events-a.txt events-b.txt journal.txt
-whole two
+whole JOURNAL
 
 "#;
 

@@ -218,12 +218,7 @@ pub fn assert_store(
     store: &MemoryStore,
 ) -> Option<()> {
     let asked = store.asked().join(alloc, " ").ok()?;
-    same(
-        rt,
-        case.lines,
-        &asked,
-        &case.text(alloc, case.last("asked")?)?,
-    );
+    assert_text(rt, alloc, case, case.last("asked")?, &asked);
     let came = Came {
         done,
         said: store.said(),
@@ -232,16 +227,19 @@ pub fn assert_store(
     assert_came(rt, alloc, case, &came)
 }
 
+/// What is found is the text that is meant.
+pub fn assert_text(rt: &impl Abort, alloc: Global, case: &Case, meant: &str, found: &str) {
+    match case.text(alloc, meant) {
+        Some(want) => same(rt, case.lines, &found, &want.as_str()),
+        None => panic!(rt; "no text {meant}"),
+    }
+}
+
 /// The command of a case came out so, but for what was asked for.
 pub fn assert_came(rt: &impl Abort, alloc: Global, case: &Case, came: &Came) -> Option<()> {
     assert_end(rt, alloc, case, came)?;
     let there = names_of(alloc, came.files).ok()?;
-    same(
-        rt,
-        case.lines,
-        &there,
-        &case.text(alloc, case.last("there")?)?,
-    );
+    assert_text(rt, alloc, case, case.last("there")?, &there);
     for line in case.lines.lines() {
         assert_line(rt, alloc, case, came, line)?;
     }
@@ -252,12 +250,7 @@ pub fn assert_came(rt: &impl Abort, alloc: Global, case: &Case, came: &Came) -> 
 pub fn assert_end(rt: &impl Abort, alloc: Global, case: &Case, came: &Came) -> Option<()> {
     let (status, said) = worded(case.last("ends")?);
     same(rt, case.lines, &(came.done.status as u64), &number(status)?);
-    same(
-        rt,
-        case.lines,
-        &came.said,
-        &case.text(alloc, said)?.as_bytes(),
-    );
+    assert_text(rt, alloc, case, said, std::str::from_utf8(came.said).ok()?);
     if let Some(entries) = case.last("entries") {
         let count = came.done.journal.len() as u64;
         same(rt, case.lines, &count, &number(entries)?);
@@ -279,7 +272,7 @@ fn assert_line(rt: &impl Abort, alloc: Global, case: &Case, came: &Came, line: &
     match worded(line).0 {
         "case" | "with" | "words" | "file" | "more" => Some(()),
         "cut" | "fails" | "ends" | "asked" | "there" | "entries" => Some(()),
-        "whole" | "placed" | "replies" | "sessions" => {
+        "whole" | "replies" | "sessions" => {
             assert_journal(rt, alloc, case, &came.done.journal, line)
         }
         _ => assert_file(rt, alloc, case, came.files, line),

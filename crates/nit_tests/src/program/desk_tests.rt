@@ -2,7 +2,7 @@
 
 use crate::program::case::{bytes_of, files, over};
 use crate::program::table::{Case, lines};
-use crate::program::{Abort, Global, Threads, Wait, assert_cases, same};
+use crate::program::{Abort, Global, MemoryStore, Threads, Wait, assert_cases, same};
 
 const CASES: &str = r#"
 
@@ -145,6 +145,10 @@ fn last_picture<R: Abort + Threads + Wait + Sync>(
     };
     let (done, store) = over(rt, alloc, &case, words, files(alloc, &case)?)?;
     same(rt, case.lines, &done.status, &0);
+    picture(alloc, &store)
+}
+
+fn picture(alloc: Global, store: &MemoryStore) -> Option<Vec<u8>> {
     bytes_of(store.files(), "final.ppm")?.to_vec(alloc).ok()
 }
 

@@ -27,7 +27,7 @@ with red
 file first.nit FIRST
 ends 4 =nitpicker: final.ppm: write fault\n
 asked =first.nit final.ppm
-whole red
+whole RED_ENTRIES
 
 case the read and the saying fail
 with red
@@ -41,7 +41,7 @@ file first.nit FIRST
 fails 2 3
 ends 4 =
 asked =first.nit final.ppm
-whole red
+whole RED_ENTRIES
 
 case a saying that fails leaves each status but 0
 with red
@@ -80,15 +80,23 @@ fn failing_stores(rt: HostRuntime) {
 /// What is said of the red rectangle.
 const LINE: &str = "nitpicker: clients 1 entries 4 frames 1\n";
 
-/// A front of the line is said: whether it is all of it.
-fn assert_said(rt: &impl Abort, case: &Case, done: &Done, store: &MemoryStore) -> bool {
+/// The picture is put, and a front of the line is said: whether it is all of it.
+fn assert_said(
+    rt: &impl Abort,
+    alloc: Global,
+    case: &Case,
+    done: &Done,
+    store: &MemoryStore,
+) -> Option<bool> {
+    let _picture = bytes_of(store.files(), "final.ppm")?;
+    assert_journal(rt, alloc, case, &done.journal, "whole RED_ENTRIES")?;
     let said = store.said();
     let whole = done.status == 0;
     let status = if whole { 0 } else { 4 };
     same(rt, case.lines, &done.status, &status);
     same(rt, case.lines, &LINE.as_bytes().starts_with(said), &true);
     same(rt, case.lines, &(said.len() == LINE.len()), &whole);
-    whole
+    Some(whole)
 }
 
 /// The red rectangle over a store of which the call with this number fails, behind that of the
@@ -102,10 +110,7 @@ fn saying<R: Abort + Threads + Wait + Sync>(rt: &R, alloc: Global, number: u64) 
     };
     let words = case.last("words")?;
     let (done, store) = over(rt, alloc, &case, words, files(alloc, &case)?)?;
-    let picture = bytes_of(store.files(), "final.ppm");
-    same(rt, case.lines, &picture.is_some(), &true);
-    assert_journal(rt, alloc, &case, &done.journal, "whole red")?;
-    Some(assert_said(rt, &case, &done, &store))
+    assert_said(rt, alloc, &case, &done, &store)
 }
 
 /// A line may be said in several pieces, and the store may fail at each of them, but not at a later

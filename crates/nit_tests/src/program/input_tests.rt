@@ -141,6 +141,57 @@ text UNDER_BAR
 | place 1 0 0 12 12
 | phase
 
+text DRAG_ENTRIES
+| input motion 1 1 > 0 motion 1 1
+| input press 272 > 0 focus-enter > 0 press 272
+| input motion 5 1 > 0 motion 5 1
+| input release 272 > 0 release 272
+| input motion 6 1 > 0 leave > 1 motion 6 1
+| final
+
+text SHY_ENTRIES
+| input motion 1 1 > 0 motion 1 1
+| input press 272 > 0 press 272
+| input motion 5 1 > 0 motion 5 1
+| input release 272 > 0 release 272
+| input motion 6 1 > 0 leave > 1 motion 6 1
+| final
+
+text HELD_ENTRIES
+| input press 30
+| input motion 1 1
+| input press 272
+| input release 272
+| input release 30
+| input press 272 > 0 focus-enter > 0 press 272
+| final
+
+text MODES_ENTRIES
+| input motion 1 1 > 0 motion 1 1
+| input press 30
+| input press 70
+| input release 30
+| input press 70 > 0 leave
+| input motion 1 1
+| final
+
+text FULL_ENTRIES
+| call 0 done < buffer 4 4
+| call 0 handle 1 < view
+| call 0 done < place 1 0 0 4 4
+65=input motion 1 1 > 0 motion 1 1\n
+64=call 0 event motion 1 1 < take\n
+| call 0 no-event < take
+| final
+
+text BAR_ENTRIES
+| call 0 done < buffer 12 12
+| call 0 handle 1 < view
+| call 0 done < place 1 0 0 12 12
+| input motion 1 1
+| input motion 1 7 > 0 motion 1 7
+| final
+
 base pair
 words turns, pair.toml
 ends 0 =nitpicker: clients 2 entries 12 frames 1\n
@@ -153,7 +204,7 @@ file pair.toml PAIR
 file pa.nit PA
 file pb.nit PB
 file pair.in DRAG
-placed drag
+whole PLACED DRAG_ENTRIES
 
 case the same, but the first client takes no focus
 with pair
@@ -161,7 +212,7 @@ file pair.toml SHY
 file pa.nit PA
 file pb.nit PB
 file pair.in DRAG
-placed shy-drag
+whole PLACED SHY_ENTRIES
 
 case a key is held before the first click
 with pair
@@ -170,7 +221,7 @@ file pa.nit PA
 file pb.nit PB
 file pair.in HELD
 ends 0 =nitpicker: clients 2 entries 13 frames 1\n
-placed held
+whole PLACED HELD_ENTRIES
 
 case a mode key while another key is held, and after it
 with pair
@@ -180,7 +231,7 @@ file pb.nit PB
 file pair.in MODES
 ends 0 =nitpicker: clients 2 entries 13 frames 1\n
 picture final.ppm 8 4 XRAY
-placed modes
+whole PLACED MODES_ENTRIES
 
 case the queue keeps 64 of 65 motions
 with pair
@@ -192,7 +243,7 @@ ends 0 =nitpicker: clients 1 entries 134 frames 1\n
 asked =full.toml fa.nit full.in final.ppm events-a.txt journal.txt
 there =full.toml fa.nit full.in final.ppm events-a.txt journal.txt
 holds events-a.txt FULL_EVENTS
-whole full
+whole FULL_ENTRIES
 
 case motions in the status bar and under it
 with pair
@@ -203,7 +254,7 @@ file bar.in =phase\nmotion 1 1\nmotion 1 7\n
 ends 0 =nitpicker: clients 1 entries 6 frames 1\n
 asked =bar.toml a.nit bar.in final.ppm events-a.txt journal.txt
 there =bar.toml a.nit bar.in final.ppm events-a.txt journal.txt
-whole bar
+whole BAR_ENTRIES
 
 "#;
 

@@ -1,15 +1,19 @@
 //! How the journal of a case is, by a line of it.
 //!
-//! `whole LIST` says that it has just these entries, which are written out in `entries`, and
-//! `placed LIST` that it has them behind what the two clients of a pair are answered. `replies SID
-//! TEXT` is what this session is answered, one reply a line, where the last entry is the last
-//! picture. `sessions N` says that each reply is the one that its session, of so many, gives by
-//! itself.
+//! `whole TEXT..` says that it has just the entries that these texts spell, one behind the other.
+//! `replies SID TEXT` is what this session is answered, one reply a line, where the last entry is
+//! the last picture. `sessions N` says that each reply is the one that its session, of so many,
+//! gives by itself.
 
+use crate::program::case::assert_text;
 use crate::program::sessions::assert_sessions;
 use crate::program::table::{Case, number, worded};
-use crate::program::{Abort, AllocError, Global, entries, same};
+use crate::program::{Abort, AllocError, Global, same};
 use nit_events::{Entry, Reply};
+use nit_report::parse_journal;
+
+/// The most bytes that the reader of journals takes are more than this; no table comes near it.
+const MOST: usize = 1_000_000;
 
 /// The journal is as this line says.
 pub fn assert_journal(
@@ -21,28 +25,10 @@ pub fn assert_journal(
 ) -> Option<()> {
     let (word, rest) = worded(line);
     match word {
-        "whole" => assert_list(rt, alloc, case, journal, rest),
-        "placed" => assert_placed(rt, alloc, case, journal, rest),
+        "whole" => assert_entries(rt, alloc, case, journal, rest),
         "replies" => assert_replies(rt, alloc, case, journal, rest),
         _ => assert_sessions(rt, alloc, case, journal, number(rest)?).ok(),
     }
-}
-
-/// Behind what both clients of a pair are answered the entries are those of this list.
-fn assert_placed(
-    rt: &impl Abort,
-    alloc: Global,
-    case: &Case,
-    journal: &[Entry],
-    list: &str,
-) -> Option<()> {
-    same(
-        rt,
-        case.lines,
-        &journal.get(..6)?,
-        &entries::PLACED.as_slice(),
-    );
-    assert_list(rt, alloc, case, journal.get(6..)?, list)
 }
 
 /// The session is answered this, as `1 TEXT`.
@@ -56,62 +42,37 @@ fn assert_replies(
     let (session, want) = worded(want);
     same(rt, case.lines, journal.last()?, &Entry::Final);
     let found = replies(alloc, journal, number(session)?).ok()?;
-    same(rt, case.lines, &found, &case.text(alloc, want)?);
+    assert_text(rt, alloc, case, want, &found);
     Some(())
 }
 
-/// The entries are those of this list.
-fn assert_list(
+/// The entries are those that these texts spell, one behind the other.
+fn assert_entries(
     rt: &impl Abort,
     alloc: Global,
     case: &Case,
     found: &[Entry],
-    list: &str,
+    names: &str,
 ) -> Option<()> {
-    if list == "full" {
-        return assert_full(rt, case, found);
+    let mut text = String::new(alloc);
+    for name in names.split(' ') {
+        push_named(alloc, case, &mut text, name)?;
     }
-    same(rt, case.lines, &found, &listed(alloc, list)?.as_slice());
+    same(rt, case.lines, &found, &entries(alloc, &text)?.as_slice());
     Some(())
 }
 
-/// The entries of a list.
-fn listed(alloc: Global, list: &str) -> Option<Vec<Entry>> {
-    let listed = match list {
-        "empty" => [Entry::Final].to_vec(alloc),
-        "red" => entries::RED.to_vec(alloc),
-        "two" => entries::TWO.to_vec(alloc),
-        "drag" => entries::DRAG.to_vec(alloc),
-        "shy-drag" => entries::SHY_DRAG.to_vec(alloc),
-        "held" => entries::HELD.to_vec(alloc),
-        "modes" => entries::MODES.to_vec(alloc),
-        "killed" => entries::KILLED.to_vec(alloc),
-        "bar" => entries::BAR.to_vec(alloc),
-        _ => return None,
-    };
-    listed.ok()
+fn push_named(alloc: Global, case: &Case, text: &mut String, name: &str) -> Option<()> {
+    let named = case.text(alloc, name)?;
+    text.push_str(&named).ok()
 }
 
-/// The entries are those of the full queue.
-fn assert_full(rt: &impl Abort, case: &Case, found: &[Entry]) -> Option<()> {
-    same(rt, case.lines, &found.len(), &134);
-    same(rt, case.lines, &found.get(..3)?, &entries::FULL.as_slice());
-    assert_each(rt, case, found.get(3..68)?, &entries::HEARD);
-    assert_each(rt, case, found.get(68..132)?, &entries::TAKEN);
-    same(
-        rt,
-        case.lines,
-        &found.get(132..)?,
-        &entries::EMPTIED.as_slice(),
-    );
-    Some(())
-}
-
-/// Each of these entries is this one.
-fn assert_each(rt: &impl Abort, case: &Case, found: &[Entry], want: &Entry) {
-    for entry in found {
-        same(rt, case.lines, entry, want);
+/// The entries that a text spells, by the reader of journals.
+fn entries(alloc: Global, text: &str) -> Option<Vec<Entry>> {
+    if text.len() > MOST {
+        return None;
     }
+    parse_journal(alloc, text.as_bytes()).ok()
 }
 
 /// What this session is answered, one reply a line.

@@ -119,6 +119,19 @@ text KILLED
 | ....BBBB
 | ....BBBB
 
+text KILLED_ENTRIES
+| input motion 1 1 > 0 motion 1 1
+| input press 272 > 0 focus-enter > 0 press 272
+| input release 272 > 0 release 272
+| input press 99 > 0 leave
+| input press 272 > 0 kill
+| input release 272
+| call 0 killed < take
+| call 1 no-event < take
+| call 0 killed < view
+| call 0 killed < close
+| final
+
 text REPLIES
 | done
 | handle 1
@@ -259,7 +272,7 @@ case the first client is killed, and goes on
 with kill
 ends 0 =nitpicker: clients 2 entries 17 frames 1\n
 picture final.ppm 8 4 KILLED
-placed killed
+whole PLACED KILLED_ENTRIES
 
 case where it does nothing, the second client is answered the same
 with kill

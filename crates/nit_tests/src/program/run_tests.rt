@@ -161,7 +161,7 @@ picture final.ppm 8 4 FINAL
 holds events-a.txt EVENTS
 holds events-b.txt EVENTS
 holds journal.txt JOURNAL
-whole two
+whole JOURNAL
 
 case one client paints over and over, another one calls without end, and the user takes shots
 words run, storm.toml

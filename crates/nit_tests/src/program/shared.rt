@@ -64,6 +64,20 @@ text JOURNAL
 | call 1 done < place 1 4 2 4 2
 | final
 
+text RED_ENTRIES
+| call 0 done < buffer 4 2
+| call 0 handle 1 < view
+| call 0 done < place 1 1 1 4 2
+| final
+
+text PLACED
+| call 0 done < buffer 4 4
+| call 1 done < buffer 4 4
+| call 0 handle 1 < view
+| call 1 handle 1 < view
+| call 0 done < place 1 0 0 4 4
+| call 1 done < place 1 4 0 4 4
+
 text SHOT
 | BBBB....
 | BBBB....

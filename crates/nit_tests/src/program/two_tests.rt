@@ -30,7 +30,7 @@ picture final.ppm 8 4 FINAL
 holds events-a.txt EVENTS
 holds events-b.txt EVENTS
 holds journal.txt JOURNAL
-whole two
+whole JOURNAL
 
 case where the last picture is not put, the shot stays, and the run goes to its end
 with turns
@@ -38,7 +38,7 @@ fails 6
 asked =two.toml a.nit b.nit two.in shot-1.ppm final.ppm
 there =two.toml a.nit b.nit two.in shot-1.ppm
 picture shot-1.ppm 8 4 SHOT
-whole two
+whole JOURNAL
 
 case each call of the store up to the first saying fails once
 with turns
@@ -264,7 +264,7 @@ picture final.ppm 8 4 FINAL
 holds events-a.txt EVENTS
 holds events-b.txt EVENTS
 holds journal.txt JOURNAL
-whole two
+whole JOURNAL
 
 "#;
 

@@ -176,7 +176,7 @@ file a.nit =
 ends 0 =nitpicker: clients 1 entries 1 frames 1\n
 asked =a.nit final.ppm
 there =a.nit final.ppm
-whole empty
+whole =final\n
 
 case the least screen
 with screen
