@@ -1,6 +1,6 @@
 -- What a room is opened with, client by client.
 use Rattle.std.proofs.Common.{◌≡◌, ◌∙◌, ℕ, ◌<◌, List, [], ◌∷◌, ◌++◌, inl, inr, length, length-append, get_or, Some, refl, sym, ap, subst, arith}
-use Rattle.std.specs.Prelude.{All, slice_get, slice_index_or}
+use Rattle.std.specs.Prelude.{slice_get, slice_index_or}
 use Rattle.std.proofs.lemmas.List.{get_or_append_left, get_or_default, get_or_push}
 use Rattle.std.proofs.lemmas.Option.{get_or_from_slice_get, slice_get-get_or, slice_get_cases, slice_get_within}
 use Rattle.nit_script.specs.declared.line.Line.{Line}

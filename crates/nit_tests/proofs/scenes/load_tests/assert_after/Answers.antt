@@ -1,4 +1,4 @@
-use Rattle.std.proofs.Common.{◌<◌, zero, suc, arith}
+use Rattle.std.proofs.Common.{zero, suc, arith}
 use Rattle.nit_tests.proofs.scenes.load_tests.assert_after.Goals as goal
 
 pub finish-requires-clause-tables : goal.finish-requires-clause-tables
