@@ -318,7 +318,7 @@ fn assert_stream(rt: &impl Abort, alloc: Global, of: &Stream) {
 }
 
 #[test]
-fn streams(rt: HostRuntime) {
+fn part_at_the_top_left(rt: HostRuntime) {
     let left = Stream {
         name: "left",
         bytes: &LEFT,
@@ -326,6 +326,10 @@ fn streams(rt: HostRuntime) {
         changes: &CHANGED_LEFT,
     };
     assert_stream(&rt, rt.alloc(), &left);
+}
+
+#[test]
+fn part_at_the_top_right(rt: HostRuntime) {
     let right = Stream {
         name: "right",
         bytes: &RIGHT,
@@ -333,6 +337,10 @@ fn streams(rt: HostRuntime) {
         changes: &CHANGED_RIGHT,
     };
     assert_stream(&rt, rt.alloc(), &right);
+}
+
+#[test]
+fn tiles_that_are_cut_off(rt: HostRuntime) {
     let cut = Stream {
         name: "tiles that are cut off",
         bytes: &CUT,

@@ -131,8 +131,13 @@ fn assert_lines<R: Abort + Threads + Wait + Sync>(
         table,
         lines: &lines,
     };
-    assert_case(rt, alloc, &case, &Open)?;
-    assert_alone(rt, alloc, &case, files(alloc, &case)?)
+    assert_both(rt, alloc, &case)
+}
+
+/// The case comes out so, and on one thread too where it starts none.
+fn assert_both<R: Abort + Threads + Wait + Sync>(rt: &R, alloc: Global, case: &Case) -> Option<()> {
+    assert_case(rt, alloc, case, &Open)?;
+    assert_alone(rt, alloc, case, files(alloc, case)?)
 }
 
 /// Does what the words ask for, with each line of a client on a thread at this gate.

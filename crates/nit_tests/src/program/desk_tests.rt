@@ -143,7 +143,16 @@ fn last_picture<R: Abort + Threads + Wait + Sync>(
         table: CASES,
         lines: &lines,
     };
-    let (done, store) = over(rt, alloc, &case, words, files(alloc, &case)?)?;
+    picture_of(rt, alloc, &case, words)
+}
+
+fn picture_of<R: Abort + Threads + Wait + Sync>(
+    rt: &R,
+    alloc: Global,
+    case: &Case,
+    words: &str,
+) -> Option<Vec<u8>> {
+    let (done, store) = over(rt, alloc, case, words, files(alloc, case)?)?;
     same(rt, case.lines, &done.status, &0);
     picture(alloc, &store)
 }

@@ -108,9 +108,13 @@ fn saying<R: Abort + Threads + Wait + Sync>(rt: &R, alloc: Global, number: u64) 
         table: CASES,
         lines: &lines,
     };
+    said(rt, alloc, &case)
+}
+
+fn said<R: Abort + Threads + Wait + Sync>(rt: &R, alloc: Global, case: &Case) -> Option<bool> {
     let words = case.last("words")?;
-    let (done, store) = over(rt, alloc, &case, words, files(alloc, &case)?)?;
-    assert_said(rt, alloc, &case, &done, &store)
+    let (done, store) = over(rt, alloc, case, words, files(alloc, case)?)?;
+    assert_said(rt, alloc, case, &done, &store)
 }
 
 /// A line may be said in several pieces, and the store may fail at each of them, but not at a later

@@ -280,9 +280,13 @@ fn assert_cuts(rt: &impl Abort, alloc: Global, block: &str) -> Option<()> {
         table: CUTS,
         lines: &lines,
     };
+    assert_each_cut(rt, alloc, &case)
+}
+
+fn assert_each_cut(rt: &impl Abort, alloc: Global, case: &Case) -> Option<()> {
     let (first, last) = worded(case.last("cut")?);
     for length in number(first)?..=number(last)? {
-        assert_cut(rt, alloc, &case, length)?;
+        assert_cut(rt, alloc, case, length)?;
     }
     Some(())
 }

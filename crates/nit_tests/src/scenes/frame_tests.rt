@@ -1,6 +1,6 @@
 //! The frame that a scene keeps, against the one that is made anew of the same state.
 
-ghost use Rattle.std.specs.Prelude.{◌≡◌, ◌+◌, ◌-◌, ◌*◌, ◌<◌, ◌≤◌, IfOk, IsTrue, length};
+ghost use Rattle.std.specs.Prelude.{◌≡◌, ◌+◌, ◌-◌, ◌*◌, ◌<◌, ◌≤◌, IsTrue, length};
 ghost use Rattle.nit_events.specs.Ranges.{IsDevice};
 ghost use Rattle.nit_config.specs.ConfigurationRanges.{IsConfiguration};
 ghost use Rattle.nit_journal.specs.Replay.{IsOpen};
@@ -14,7 +14,6 @@ use nit_scene::Scene;
 use nit_word::Inked;
 use std::alloc::Global;
 use std::process::Abort;
-use std::test::Fail;
 
 /// One call of a session, or what the user does.
 #[derive(Clone, Copy)]
@@ -42,17 +41,17 @@ const BAR: &str = "[screen]\nwidth = 40\nheight = 16\nbar = true\n\n[input]\nscr
 const ROOM: usize = 64;
 
 /// A scene of two clients, one red and one blue.
-fn scene(alloc: Global, config: &Config) -> Result<Scene<Inked>, Fail>
+fn scene(rt: &impl Abort, alloc: Global, config: &Config) -> Scene<Inked>
     requires config { IsConfiguration config.now }
     requires two { length config.now.clients ≡ 2 }
-    ensures open { IfOk result (λ s. IsOpen s.entries) }
-    ensures config { IfOk result (λ s. s.config ≡ config.now) }
-    ensures spare { IfOk result (λ s. s.spare ≡ ROOM) }
+    ensures open { IsOpen result.entries }
+    ensures config { result.config ≡ config.now }
+    ensures spare { result.spare ≡ ROOM }
 {
-    let mut glasses = Vec::with_capacity(alloc, 2)?;
-    glasses.push_reserved(glass(alloc, config, 0, 0xFF0000)?);
-    glasses.push_reserved(glass(alloc, config, 1, 0x0000FF)?);
-    Ok(Scene::new(alloc, config, glasses, ROOM)?)
+    let mut glasses = Vec::with_capacity(alloc, 2).expect(rt, "memory for glasses");
+    glasses.push_reserved(glass(rt, alloc, config, 0, 0xFF0000));
+    glasses.push_reserved(glass(rt, alloc, config, 1, 0x0000FF));
+    Scene::new(alloc, config, glasses, ROOM).expect(rt, "memory for a scene")
 }
 
 /// Whether the numbers of a device event are in range.
@@ -114,11 +113,12 @@ fn take_steps(scene: &mut Scene<Inked>, first: &mut Inked, second: &mut Inked, s
 }
 
 /// A picture of zeros.
-fn blank(alloc: Global, config: &Config) -> Result<Vec<u32>, Fail>
+fn blank(rt: &impl Abort, alloc: Global, config: &Config) -> Vec<u32>
     requires { IsConfiguration config.now }
-    ensures { IfOk result (λ v. length v.items ≡ config.now.width * config.now.height) }
+    ensures { length result.items ≡ config.now.width * config.now.height }
 {
-    Ok(vec![in alloc; 0; config.width as usize * config.height as usize]?)
+    let pixels = config.width as usize * config.height as usize;
+    vec![in alloc; 0; pixels].expect(rt, "memory for a picture")
 }
 
 /// The frame that is kept after so many steps is the one that is made anew.
@@ -153,29 +153,27 @@ fn assert_steps(
 }
 
 /// The same of a new scene.
-fn assert_kept(rt: &impl Abort, alloc: Global, config: &Config, steps: &[Step]) -> Result<(), Fail>
+fn assert_kept(rt: &impl Abort, alloc: Global, config: &Config, steps: &[Step])
     requires config { IsConfiguration config.now }
     requires two { length config.now.clients ≡ 2 }
     requires few { length steps.now < ROOM }
 {
-    let mut kept = blank(alloc, config)?;
-    let mut anew = blank(alloc, config)?;
-    let first = glass(alloc, config, 0, 0xFF0000)?;
-    let second = glass(alloc, config, 1, 0x0000FF)?;
-    let scene = scene(alloc, config)?;
+    let mut kept = blank(rt, alloc, config);
+    let mut anew = blank(rt, alloc, config);
+    let first = glass(rt, alloc, config, 0, 0xFF0000);
+    let second = glass(rt, alloc, config, 1, 0x0000FF);
+    let scene = scene(rt, alloc, config);
     assert_steps(rt, scene, first, second, steps, &mut kept, &mut anew);
-    Ok(())
 }
 
 /// It is so after each step of a run.
-fn assert_run(rt: &impl Abort, alloc: Global, text: &str, steps: &[Step]) -> Result<(), Fail> {
-    let config = read_config(alloc, text.as_bytes())?;
+fn assert_run(rt: &impl Abort, alloc: Global, text: &str, steps: &[Step]) {
+    let config = read_config(alloc, text.as_bytes()).expect(rt, "a configuration");
     assert!(rt; config.clients.len() == 2);
     assert!(rt; steps.len() < ROOM);
     for count in 0..=steps.len() {
-        assert_kept(rt, alloc, &config, &steps[..count])?;
+        assert_kept(rt, alloc, &config, &steps[..count]);
     }
-    Ok(())
 }
 
 /// A client is locked out, and the other stays.
@@ -256,16 +254,16 @@ const BAR_STEPS: [Step; 32] = [
 ];
 
 #[test]
-fn run_with_a_kill(rt: HostRuntime) -> Result<(), Fail> {
-    assert_run(&rt, rt.alloc(), TWO, &KILL_STEPS)
+fn run_with_a_kill(rt: HostRuntime) {
+    assert_run(&rt, rt.alloc(), TWO, &KILL_STEPS);
 }
 
 #[test]
-fn run_in_xray_mode(rt: HostRuntime) -> Result<(), Fail> {
-    assert_run(&rt, rt.alloc(), LABELS, &XRAY_STEPS)
+fn run_in_xray_mode(rt: HostRuntime) {
+    assert_run(&rt, rt.alloc(), LABELS, &XRAY_STEPS);
 }
 
 #[test]
-fn run_with_the_bar(rt: HostRuntime) -> Result<(), Fail> {
-    assert_run(&rt, rt.alloc(), BAR, &BAR_STEPS)
+fn run_with_the_bar(rt: HostRuntime) {
+    assert_run(&rt, rt.alloc(), BAR, &BAR_STEPS);
 }

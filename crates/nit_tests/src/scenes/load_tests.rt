@@ -1,6 +1,6 @@
 //! How many words of each session a scene loads at each entry.
 
-ghost use Rattle.std.specs.Prelude.{◌≡◌, ◌+◌, ◌-◌, ◌*◌, ◌<◌, ◌≤◌, IfOk, length};
+ghost use Rattle.std.specs.Prelude.{◌≡◌, ◌+◌, ◌-◌, ◌*◌, ◌<◌, ◌≤◌, length};
 ghost use Rattle.nit_config.specs.ConfigurationRanges.{IsConfiguration};
 ghost use Rattle.nit_journal.specs.Replay.{IsOpen};
 ghost use Rattle.nit_scene.specs.Screen.{IsGlass};
@@ -14,7 +14,6 @@ use nit_word::{Glass, Inked};
 use std::alloc::Global;
 use std::cell::Cell;
 use std::process::Abort;
-use std::test::Fail;
 
 /// Two clients on a screen of 8 by 4.
 const TWO: &str = "[screen]\nwidth = 8\nheight = 4\n\n[input]\nscript = \"i\"\n\n\
@@ -46,35 +45,37 @@ impl Glass for Counting<'_> {
 
 /// A glass of zeros for a client, which counts its loads here.
 fn counted<'a>(
+    rt: &impl Abort,
     alloc: Global,
     config: &Config,
     sid: u32,
     loads: &'a Cell<u32>,
-) -> Result<Counting<'a>, Fail>
+) -> Counting<'a>
     requires config { IsConfiguration config.now }
     requires client { sid < length config.now.clients }
-    ensures { IfOk result (λ g. IsGlass config.now sid g.glass) }
+    ensures { IsGlass config.now sid result.glass }
 {
-    let glass = glass(alloc, config, sid, 0)?;
-    Ok(Counting { glass, loads })
+    let glass = glass(rt, alloc, config, sid, 0);
+    Counting { glass, loads }
 }
 
 /// A scene of two clients, whose glasses count their loads here.
 fn scene<'a>(
+    rt: &impl Abort,
     alloc: Global,
     config: &Config,
     loads: &'a [Cell<u32>; 2],
-) -> Result<Scene<Counting<'a>>, Fail>
+) -> Scene<Counting<'a>>
     requires config { IsConfiguration config.now }
     requires two { length config.now.clients ≡ 2 }
-    ensures open { IfOk result (λ s. IsOpen s.entries) }
-    ensures config { IfOk result (λ s. s.config ≡ config.now) }
-    ensures spare { IfOk result (λ s. s.spare ≡ 16) }
+    ensures open { IsOpen result.entries }
+    ensures config { result.config ≡ config.now }
+    ensures spare { result.spare ≡ 16 }
 {
-    let mut glasses = Vec::with_capacity(alloc, 2)?;
-    glasses.push_reserved(counted(alloc, config, 0, &loads[0])?);
-    glasses.push_reserved(counted(alloc, config, 1, &loads[1])?);
-    Ok(Scene::new(alloc, config, glasses, 16)?)
+    let mut glasses = Vec::with_capacity(alloc, 2).expect(rt, "memory for glasses");
+    glasses.push_reserved(counted(rt, alloc, config, 0, &loads[0]));
+    glasses.push_reserved(counted(rt, alloc, config, 1, &loads[1]));
+    Scene::new(alloc, config, glasses, 16).expect(rt, "memory for a scene")
 }
 
 /// How many words each session's glasses have loaded since this was asked last.
@@ -143,15 +144,15 @@ fn assert_rows(
 }
 
 /// The configuration of the two clients.
-fn two_clients(rt: &impl Abort, alloc: Global) -> Result<Config, Fail>
-    ensures config { IfOk result (λ c. IsConfiguration c) }
-    ensures two { IfOk result (λ c. length c.clients ≡ 2) }
-    ensures screen { IfOk result (λ c. c.width * c.height ≡ PIXELS) }
+fn two_clients(rt: &impl Abort, alloc: Global) -> Config
+    ensures config { IsConfiguration result }
+    ensures two { length result.clients ≡ 2 }
+    ensures screen { result.width * result.height ≡ PIXELS }
 {
-    let config = read_config(alloc, TWO.as_bytes())?;
+    let config = read_config(alloc, TWO.as_bytes()).expect(rt, "a configuration");
     assert!(rt; config.clients.len() == 2);
     assert!(rt; config.width == 8 && config.height == 4);
-    Ok(config)
+    config
 }
 
 /// Calls before a shot, each with its session and how many words it loads from each session's
@@ -229,24 +230,23 @@ fn assert_after(
 }
 
 /// Both tables of calls load so many words, and the shot between them loads none.
-fn assert_all(rt: &impl Abort, alloc: Global, config: &Config) -> Result<(), Fail>
+fn assert_all(rt: &impl Abort, alloc: Global, config: &Config)
     requires config { IsConfiguration config.now }
     requires two { length config.now.clients ≡ 2 }
     requires screen { config.now.width * config.now.height ≡ PIXELS }
 {
     let loads = [Cell::new(0), Cell::new(0)];
-    let mut first = counted(alloc, config, 0, &loads[0])?;
-    let mut second = counted(alloc, config, 1, &loads[1])?;
-    let mut scene = scene(alloc, config, &loads)?;
+    let mut first = counted(rt, alloc, config, 0, &loads[0]);
+    let mut second = counted(rt, alloc, config, 1, &loads[1]);
+    let mut scene = scene(rt, alloc, config, &loads);
     assert_before(rt, &mut scene, &mut first, &mut second, &loads);
     assert_shot(rt, &mut scene, &loads);
     assert_after(rt, scene, first, second, &loads);
-    Ok(())
 }
 
 /// Each pixel that a call makes dirty and that shows a word is loaded once, and nothing else is.
 #[test]
-fn loads_by_entry(rt: HostRuntime) -> Result<(), Fail> {
-    let config = two_clients(&rt, rt.alloc())?;
-    assert_all(&rt, rt.alloc(), &config)
+fn loads_by_entry(rt: HostRuntime) {
+    let config = two_clients(&rt, rt.alloc());
+    assert_all(&rt, rt.alloc(), &config);
 }

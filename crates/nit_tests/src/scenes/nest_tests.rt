@@ -5,7 +5,8 @@ ghost use Rattle.nit_nested.specs.Spelling.{FitsColour};
 
 use crate::same::same;
 use nit_nested::{Nest, NestError};
-use nit_script::{parse_client, print_client};
+use nit_script::{Client, parse_client, print_client};
+use std::alloc::Global;
 use std::process::Abort;
 
 const RED: u32 = 0xFF0000;
@@ -42,15 +43,18 @@ fn are_colours(words: &[u32]) -> bool
     words.iter().all(|word| *word < 0x100_0000)
 }
 
-/// The two frames of a run of two clients, shown by a client with one view.
+/// The script of a client with one view that shows the two frames of a run of two clients.
+fn script_of_two(rt: &impl Abort, alloc: Global) -> Client {
+    let mut nest = Nest::new(alloc, 8, 4);
+    add(rt, &mut nest, &FIRST);
+    add(rt, &mut nest, &SECOND);
+    let own = parse_client(alloc, b"view\nplace 1 0 0 8 4\nphase\n").expect(rt, "a script");
+    nest.script(&own).expect(rt, "a script of frames")
+}
+
 #[test]
 fn two_frames(rt: HostRuntime) {
-    let mut nest = Nest::new(rt.alloc(), 8, 4);
-    add(&rt, &mut nest, &FIRST);
-    add(&rt, &mut nest, &SECOND);
-    let own = b"view\nplace 1 0 0 8 4\nphase\n";
-    let own = parse_client(rt.alloc(), own).expect(&rt, "a script");
-    let script = nest.script(&own).expect(&rt, "a script of frames");
+    let script = script_of_two(&rt, rt.alloc());
     same(&rt, "lines", &script.lines().len(), &20);
     let printed = print_client(rt.alloc(), &script).expect(&rt, "memory for a text");
     let want = "buffer 8 4\n\

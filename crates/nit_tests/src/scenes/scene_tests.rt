@@ -1,6 +1,6 @@
 //! What a scene answers to the calls of one client.
 
-ghost use Rattle.std.specs.Prelude.{◌≡◌, ◌<◌, ◌≤◌, IfOk, length};
+ghost use Rattle.std.specs.Prelude.{◌≡◌, ◌<◌, ◌≤◌, length};
 ghost use Rattle.nit_config.specs.ConfigurationRanges.{IsConfiguration};
 ghost use Rattle.nit_journal.specs.Replay.{IsOpen};
 ghost use Rattle.nit_scene.specs.Screen.{IsGlass};
@@ -14,7 +14,6 @@ use nit_script::{Line, parse_client};
 use nit_word::Inked;
 use std::alloc::{AllocError, Global};
 use std::process::Abort;
-use std::test::Fail;
 
 /// A screen of 8 by 4 and one client of 512 units.
 const SMALL: &str = "[screen]\nwidth = 8\nheight = 4\n\n[input]\nscript = \"i\"\n\n\
@@ -25,16 +24,16 @@ const GREAT: &str = "[screen]\nwidth = 8\nheight = 4\n\n[input]\nscript = \"i\"\
      [[client]]\nlabel = \"a\"\ndonation = 8388608\nscript = \"a\"\n";
 
 /// A scene of one client, of this configuration.
-fn scene(alloc: Global, config: &Config) -> Result<Scene<Inked>, Fail>
+fn scene(rt: &impl Abort, alloc: Global, config: &Config) -> Scene<Inked>
     requires config { IsConfiguration config.now }
     requires one { length config.now.clients ≡ 1 }
-    ensures open { IfOk result (λ s. IsOpen s.entries) }
-    ensures config { IfOk result (λ s. s.config ≡ config.now) }
-    ensures spare { IfOk result (λ s. s.spare ≡ 65536) }
+    ensures open { IsOpen result.entries }
+    ensures config { result.config ≡ config.now }
+    ensures spare { result.spare ≡ 65536 }
 {
-    let mut glasses = Vec::with_capacity(alloc, 1)?;
-    glasses.push_reserved(glass(alloc, config, 0, 0)?);
-    Ok(Scene::new(alloc, config, glasses, 65_536)?)
+    let mut glasses = Vec::with_capacity(alloc, 1).expect(rt, "memory for a glass");
+    glasses.push_reserved(glass(rt, alloc, config, 0, 0));
+    Scene::new(alloc, config, glasses, 65_536).expect(rt, "memory for a scene")
 }
 
 /// Serves the calls of these lines.
@@ -63,47 +62,32 @@ fn replies_of(alloc: Global, entries: &[Entry]) -> Result<Vec<Reply>, AllocError
 }
 
 /// The entries are calls with these replies.
-fn assert_replies(
-    rt: &impl Abort,
-    alloc: Global,
-    script: &str,
-    entries: &[Entry],
-    want: &[Reply],
-) -> Result<(), Fail> {
-    let replies = replies_of(alloc, entries)?;
+fn assert_replies(rt: &impl Abort, alloc: Global, script: &str, entries: &[Entry], want: &[Reply]) {
+    let replies = replies_of(alloc, entries).expect(rt, "memory for replies");
     let found = (entries.len(), replies.as_slice());
     same(rt, script, &found, &(want.len(), want));
-    Ok(())
 }
 
 /// The client of this configuration gets these replies to the calls of its script.
-fn assert_served(
-    rt: &impl Abort,
-    alloc: Global,
-    config: &Config,
-    script: &str,
-    replies: &[Reply],
-) -> Result<(), Fail>
+fn assert_served(rt: &impl Abort, alloc: Global, config: &Config, script: &str, replies: &[Reply])
     requires config { IsConfiguration config.now }
     requires one { length config.now.clients ≡ 1 }
 {
-    let client = parse_client(alloc, script.as_bytes())?;
-    let mut own = glass(alloc, config, 0, 0)?;
-    let mut scene = scene(alloc, config)?;
+    let client = parse_client(alloc, script.as_bytes()).expect(rt, "a script");
+    let mut own = glass(rt, alloc, config, 0, 0);
+    let mut scene = scene(rt, alloc, config);
     serve_all(&mut scene, &mut own, client.lines());
-    let answer = assert_replies(rt, alloc, script, scene.journal().entries(), replies);
-    drop(scene);
-    answer
+    assert_replies(rt, alloc, script, scene.journal().entries(), replies);
 }
 
 /// The configuration of this text, which has one client.
-fn configuration(rt: &impl Abort, alloc: Global, text: &str) -> Result<Config, Fail>
-    ensures config { IfOk result (λ c. IsConfiguration c) }
-    ensures one { IfOk result (λ c. length c.clients ≡ 1) }
+fn configuration(rt: &impl Abort, alloc: Global, text: &str) -> Config
+    ensures config { IsConfiguration result }
+    ensures one { length result.clients ≡ 1 }
 {
-    let config = read_config(alloc, text.as_bytes())?;
+    let config = read_config(alloc, text.as_bytes()).expect(rt, "a configuration");
     assert!(rt; config.clients.len() == 1);
-    Ok(config)
+    config
 }
 
 /// A configuration, the script of its client, and the replies.
@@ -185,23 +169,16 @@ const CASES: [(&str, &str, &[Reply]); 6] = [
 ];
 
 /// The client of the configuration of this text gets these replies.
-fn assert_case(
-    rt: &impl Abort,
-    alloc: Global,
-    text: &str,
-    script: &str,
-    replies: &[Reply],
-) -> Result<(), Fail> {
-    let config = configuration(rt, alloc, text)?;
-    assert_served(rt, alloc, &config, script, replies)
+fn assert_case(rt: &impl Abort, alloc: Global, text: &str, script: &str, replies: &[Reply]) {
+    let config = configuration(rt, alloc, text);
+    assert_served(rt, alloc, &config, script, replies);
 }
 
 #[test]
-fn replies(rt: HostRuntime) -> Result<(), Fail> {
+fn replies(rt: HostRuntime) {
     for (text, script, replies) in &CASES {
-        assert_case(&rt, rt.alloc(), text, script, replies)?;
+        assert_case(&rt, rt.alloc(), text, script, replies);
     }
-    Ok(())
 }
 
 /// As many views as there may be, and one more.
@@ -224,8 +201,8 @@ fn all_handles(alloc: Global) -> Result<Vec<Reply>, AllocError> {
 }
 
 #[test]
-fn views_of_all_units(rt: HostRuntime) -> Result<(), Fail> {
-    let script = all_views(rt.alloc())?;
-    let replies = all_handles(rt.alloc())?;
-    assert_case(&rt, rt.alloc(), GREAT, &script, &replies)
+fn views_of_all_units(rt: HostRuntime) {
+    let script = all_views(rt.alloc()).expect(&rt, "memory for a script");
+    let replies = all_handles(rt.alloc()).expect(&rt, "memory for replies");
+    assert_case(&rt, rt.alloc(), GREAT, &script, &replies);
 }

@@ -2,6 +2,7 @@
 
 use nit_audit::{Verdict, audit};
 use nit_config::read_config;
+use nit_events::Entry;
 use nit_report::parse_journal;
 use nit_script::{Client, parse_client, parse_input};
 use std::alloc::Global;
@@ -103,8 +104,13 @@ pub fn judged(rt: &impl Abort, alloc: Global, run: &Run, edit: Edit) -> Verdict 
     assert!(rt; config.clients.len() == 2);
     let scripts = scripts_of(rt, alloc, run);
     let input = parse_input(alloc, run.user).expect(rt, "a script");
+    let entries = entries_of(rt, alloc, run, edit);
+    audit(alloc, &config, &scripts, &input, &entries).expect(rt, "memory")
+}
+
+/// The journal of a run with an edit.
+fn entries_of(rt: &impl Abort, alloc: Global, run: &Run, edit: Edit) -> Vec<Entry> {
     let text = text_of(rt, alloc, run.lines, edit);
     assert!(rt; text.len() <= MOST);
-    let entries = parse_journal(alloc, &text).expect(rt, "a journal");
-    audit(alloc, &config, &scripts, &input, &entries).expect(rt, "memory")
+    parse_journal(alloc, &text).expect(rt, "a journal")
 }
