@@ -1,0 +1,367 @@
+//! Runs with clip scripts: the worked rows, clip scripts that are refused, and puts that are.
+
+use crate::assert_cases;
+
+const WORKED: &str = r#"
+
+text PAIR
+| [screen]
+| width = 8
+| height = 4
+|
+| [input]
+| script = "clip.in"
+|
+| [[client]]
+| label = "a"
+| donation = 65536
+| script = "pa.nit"
+|
+| [[client]]
+| label = "b"
+| donation = 65536
+| script = "pb.nit"
+
+text LEFT
+| buffer 4 4
+| fill 0 0 4 4 FF0000
+| view
+| place 1 0 0 4 4
+| phase
+| phase
+
+text RIGHT
+| buffer 4 4
+| fill 0 0 4 4 0000FF
+| view
+| place 1 4 0 4 4
+| phase
+| phase
+
+text CLICK
+| phase
+| motion 1 1
+| press 272
+| release 272
+| phase
+
+text FIRST
+| paste
+| phase
+| phase
+| copy =hi
+| paste
+
+text SECOND
+| phase
+| phase
+| paste
+
+text CLIPPED
+=pair.toml pa.nit pb.nit clip.in pa.nit.clip pb.nit.clip final.ppm events-a.txt events-b.txt
+= journal.txt clip.txt
+
+text 3A
+| clip 3 0 not-focused < paste
+| clip 9 0 copied < copy =hi
+| clip 9 0 pasted =hi < paste
+| clip 9 1 not-focused < paste
+
+text 3B
+| clip 3 0 not-focused < paste
+| clip 9 0 copied < copy =hi
+| clip 9 1 not-focused < paste
+| clip 9 0 pasted =hi < paste
+
+text 3C
+| clip 3 0 not-focused < paste
+| clip 9 1 not-focused < paste
+| clip 9 0 copied < copy =hi
+| clip 9 0 pasted =hi < paste
+
+text 4A
+| clip 4 0 not-focused < paste
+| clip 9 0 copied < copy =hi
+| clip 9 0 pasted =hi < paste
+| clip 9 1 not-focused < paste
+
+text 4B
+| clip 4 0 not-focused < paste
+| clip 9 0 copied < copy =hi
+| clip 9 1 not-focused < paste
+| clip 9 0 pasted =hi < paste
+
+text 4C
+| clip 4 0 not-focused < paste
+| clip 9 1 not-focused < paste
+| clip 9 0 copied < copy =hi
+| clip 9 0 pasted =hi < paste
+
+text 5A
+| clip 5 0 not-focused < paste
+| clip 9 0 copied < copy =hi
+| clip 9 0 pasted =hi < paste
+| clip 9 1 not-focused < paste
+
+text 5B
+| clip 5 0 not-focused < paste
+| clip 9 0 copied < copy =hi
+| clip 9 1 not-focused < paste
+| clip 9 0 pasted =hi < paste
+
+text 5C
+| clip 5 0 not-focused < paste
+| clip 9 1 not-focused < paste
+| clip 9 0 copied < copy =hi
+| clip 9 0 pasted =hi < paste
+
+text 6A
+| clip 6 0 not-focused < paste
+| clip 9 0 copied < copy =hi
+| clip 9 0 pasted =hi < paste
+| clip 9 1 not-focused < paste
+
+text 6B
+| clip 6 0 not-focused < paste
+| clip 9 0 copied < copy =hi
+| clip 9 1 not-focused < paste
+| clip 9 0 pasted =hi < paste
+
+text 6C
+| clip 6 0 not-focused < paste
+| clip 9 1 not-focused < paste
+| clip 9 0 copied < copy =hi
+| clip 9 0 pasted =hi < paste
+
+case
+words clip, pair.toml
+file pair.toml PAIR
+file pa.nit LEFT
+file pb.nit RIGHT
+file clip.in CLICK
+file pa.nit.clip FIRST
+file pb.nit.clip SECOND
+ends 0 =nitpicker: clients 2 entries 10 frames 1\n
+asked CLIPPED
+there CLIPPED
+entries 10
+is clip.txt one-of 3A 3B 3C 4A 4B 4C 5A 5B 5C 6A 6B 6C
+
+"#;
+
+const CASES: &str = r#"
+
+text PAIR
+| [screen]
+| width = 8
+| height = 4
+|
+| [input]
+| script = "clip.in"
+|
+| [[client]]
+| label = "a"
+| donation = 65536
+| script = "pa.nit"
+|
+| [[client]]
+| label = "b"
+| donation = 65536
+| script = "pb.nit"
+
+text LEFT
+| buffer 4 4
+| fill 0 0 4 4 FF0000
+| view
+| place 1 0 0 4 4
+| phase
+| phase
+
+text RIGHT
+| buffer 4 4
+| fill 0 0 4 4 0000FF
+| view
+| place 1 4 0 4 4
+| phase
+| phase
+
+text CLICK
+| phase
+| motion 1 1
+| press 272
+| release 272
+| phase
+
+text SECOND
+| phase
+| phase
+| paste
+
+text FIRST
+| paste
+| phase
+| phase
+| copy =hi
+| paste
+
+text LONG
+65537 =paste\n
+
+text ONE
+| [screen]
+| width = 8
+| height = 4
+|
+| [input]
+| script = "clip.in"
+|
+| [[client]]
+| label = "a"
+| donation = 65536
+| script = "pa.nit"
+
+text NAMES
+=pair.toml pa.nit pb.nit clip.in pa.nit.clip pb.nit.clip final.ppm events-a.txt events-b.txt
+= journal.txt
+
+text CLIPPED
+=pair.toml pa.nit pb.nit clip.in pa.nit.clip pb.nit.clip final.ppm events-a.txt events-b.txt
+= journal.txt clip.txt
+
+base refused
+words clip, pair.toml
+file pair.toml PAIR
+file pa.nit LEFT
+file pb.nit RIGHT
+file clip.in CLICK
+file pa.nit.clip FIRST
+file pb.nit.clip SECOND
+asked =pair.toml pa.nit pb.nit clip.in pa.nit.clip
+there =pair.toml pa.nit pb.nit clip.in pa.nit.clip pb.nit.clip
+entries 0
+
+case clip scripts are judged behind all other scripts, in order
+with refused
+file pa.nit.clip =paste\nbuffer 4 4\n
+file pb.nit.clip =paste\n
+ends 6 =nitpicker: pa.nit.clip: line 2: bad script\n
+
+case
+with refused
+file pa.nit.clip =copy hi\n
+ends 6 =nitpicker: pa.nit.clip: line 1: bad script\n
+
+case
+with refused
+file pa.nit.clip =paste\n
+file pb.nit.clip =Paste\n
+ends 6 =nitpicker: pa.nit.clip: phases differ\n
+
+case
+with refused
+file pb.nit.clip =phase\nphase\nphase\n
+ends 6 =nitpicker: pb.nit.clip: phases differ\n
+asked =pair.toml pa.nit pb.nit clip.in pa.nit.clip pb.nit.clip
+
+case the input script is judged before them
+with refused
+file clip.in =Phase\n
+file pa.nit.clip =Paste\n
+ends 6 =nitpicker: clip.in: line 1: bad script\n
+asked =pair.toml pa.nit pb.nit clip.in
+
+case
+with refused
+file clip.in =phase\n
+file pa.nit.clip =Paste\n
+ends 6 =nitpicker: clip.in: phases differ\n
+asked =pair.toml pa.nit pb.nit clip.in
+
+case one line too many
+with refused
+file pb.nit.clip LONG
+ends 6 =nitpicker: pb.nit.clip: too long\n
+asked =pair.toml pa.nit pb.nit clip.in pa.nit.clip pb.nit.clip
+
+base clip
+words clip, pair.toml
+entries 0
+
+case a client alone that is focused by a click and only pastes
+with clip
+file pair.toml ONE
+file pa.nit LEFT
+file clip.in CLICK
+file pa.nit.clip SECOND
+ends 0 =nitpicker: clients 1 entries 7 frames 1\n
+asked =pair.toml pa.nit clip.in pa.nit.clip final.ppm events-a.txt journal.txt clip.txt
+there =pair.toml pa.nit clip.in pa.nit.clip final.ppm events-a.txt journal.txt clip.txt
+entries 7
+holds clip.txt =clip 6 0 empty < paste\n
+
+case a clip script that is not there
+with clip
+file pair.toml PAIR
+file pa.nit LEFT
+file pb.nit RIGHT
+file clip.in CLICK
+file pa.nit.clip FIRST
+ends 3 =nitpicker: pb.nit.clip: read fault\n
+asked =pair.toml pa.nit pb.nit clip.in pa.nit.clip pb.nit.clip
+there =pair.toml pa.nit pb.nit clip.in pa.nit.clip
+
+case one that cannot be read
+with clip
+file pair.toml PAIR
+file pa.nit LEFT
+file pb.nit RIGHT
+file clip.in CLICK
+file pa.nit.clip FIRST
+file pb.nit.clip SECOND
+fails 5
+ends 3 =nitpicker: pa.nit.clip: read fault\n
+asked =pair.toml pa.nit pb.nit clip.in pa.nit.clip
+there =pair.toml pa.nit pb.nit clip.in pa.nit.clip pb.nit.clip
+
+case no clip list is put behind a put that was refused
+with clip
+file pair.toml PAIR
+file pa.nit LEFT
+file pb.nit RIGHT
+file clip.in CLICK
+file pa.nit.clip FIRST
+file pb.nit.clip SECOND
+fails 10
+ends 4 =nitpicker: journal.txt: write fault\n
+asked NAMES
+there =pair.toml pa.nit pb.nit clip.in pa.nit.clip pb.nit.clip final.ppm events-a.txt events-b.txt
+entries 10
+
+case where its own is refused, all else is there
+with clip
+file pair.toml PAIR
+file pa.nit LEFT
+file pb.nit RIGHT
+file clip.in CLICK
+file pa.nit.clip FIRST
+file pb.nit.clip SECOND
+fails 11
+ends 4 =nitpicker: clip.txt: write fault\n
+asked CLIPPED
+there NAMES
+entries 10
+
+"#;
+
+/// Whatever the threads do, it comes out so.
+#[test]
+fn two_clients_with_a_clipboard(rt: HostRuntime) {
+    for _round in 0..20 {
+        assert_cases(&rt, rt.alloc(), WORKED);
+    }
+}
+
+#[test]
+fn clips(rt: HostRuntime) {
+    assert_cases(&rt, rt.alloc(), CASES);
+}

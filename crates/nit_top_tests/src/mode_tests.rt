@@ -1,0 +1,318 @@
+//! Pictures of the X-ray mode, of layers and of the status bar, and runs in which the user locks a
+//! client out.
+
+use crate::assert_cases;
+
+const CASES: &str = r#"
+
+text XRAY
+| [screen]
+| width = 12
+| height = 7
+|
+| [input]
+| script = "xray.in"
+|
+| [[client]]
+| label = "ab"
+| donation = 65536
+| script = "xa.nit"
+|
+| [[client]]
+| label = "b"
+| donation = 65536
+| script = "xb.nit"
+
+text XA
+| buffer 12 7
+| fill 0 0 12 7 FF0000
+| view
+| place 1 0 0 12 7
+| phase
+| phase
+
+text NARROW
+| phase
+| buffer 4 7
+| fill 0 0 4 7 0000FF
+| view
+| place 1 0 0 3 7
+| phase
+
+text LABELLED
+| MMMKKKKKKKKK
+| MbMKKWKKWWKK
+| MbMKWKWKWKWK
+| MbMKWWWKWWKK
+| MbMKWKWKWKWK
+| MbMKWKWKWWKK
+| MMMKKKKKKKKK
+
+text WIDE
+| phase
+| buffer 4 7
+| fill 0 0 4 7 0000FF
+| view
+| place 1 0 0 4 7
+| phase
+
+text UNLABELLED
+| MMMMMMMMMMMM
+| MbbMrrrrrrrM
+| MbbMrrrrrrrM
+| MbbMrrrrrrrM
+| MbbMrrrrrrrM
+| MbbMrrrrrrrM
+| MMMMMMMMMMMM
+
+text KILL
+| [screen]
+| width = 8
+| height = 4
+|
+| [input]
+| script = "kill.in"
+|
+| [[client]]
+| label = "a"
+| donation = 65536
+| script = "ka.nit"
+|
+| [[client]]
+| label = "b"
+| donation = 65536
+| script = "kb.nit"
+
+text KA
+| buffer 4 4
+| fill 0 0 4 4 FF0000
+| view
+| place 1 0 0 4 4
+| phase
+| phase
+| take
+| view
+| close
+
+text KB
+| buffer 4 4
+| fill 0 0 4 4 0000FF
+| view
+| place 1 4 0 4 4
+| phase
+| phase
+| take
+
+text KILLING
+| phase
+| motion 1 1
+| press 272
+| release 272
+| press 99
+| press 272
+| release 272
+| phase
+
+text KILLED
+| ....BBBB
+| ....BBBB
+| ....BBBB
+| ....BBBB
+
+text KILLED_ENTRIES
+| input motion 1 1 > 0 motion 1 1
+| input press 272 > 0 focus-enter > 0 press 272
+| input release 272 > 0 release 272
+| input press 99 > 0 leave
+| input press 272 > 0 kill
+| input release 272
+| call 0 killed < take
+| call 1 no-event < take
+| call 0 killed < view
+| call 0 killed < close
+| final
+
+text REPLIES
+| done
+| handle 1
+| done
+| no-event
+
+text PAIR
+| [screen]
+| width = 8
+| height = 4
+|
+| [input]
+| script = "pair.in"
+|
+| [[client]]
+| label = "a"
+| donation = 65536
+| script = "pa.nit"
+| layer = 1
+|
+| [[client]]
+| label = "b"
+| donation = 65536
+| script = "pb.nit"
+
+text PA
+| buffer 4 4
+| fill 0 0 4 4 FF0000
+| view
+| place 1 0 0 4 4
+| phase
+| front 1
+
+text PB
+| buffer 4 4
+| fill 0 0 4 4 0000FF
+| view
+| place 1 0 0 4 4
+| phase
+
+text WIDE_BAR
+| [screen]
+| width = 25
+| height = 8
+| bar = true
+|
+| [input]
+| script = "bar.in"
+|
+| [[client]]
+| label = "a"
+| donation = 65536
+| script = "a.nit"
+
+text UNDER_WIDE
+| buffer 25 8
+| fill 0 0 25 8 FF0000
+| view
+| place 1 0 0 25 8
+| phase
+
+text FOCUSED
+| KKKKKKKKKKKKKKKKKKKKKKKKK
+| KWWWKWKKKKWKKWWWKKKKKKWKK
+| KWKKKWKKKWKWKKWKKKWKKWKWK
+| KWWKKWKKKWWWKKWKKKKKKWWWK
+| KWKKKWKKKWKWKKWKKKWKKWKWK
+| KWKKKWWWKWKWKKWKKKKKKWKWK
+| KKKKKKKKKKKKKKKKKKKKKKKKK
+| RRRRRRRRRRRRRRRRRRRRRRRRR
+
+text NARROW_BAR
+| [screen]
+| width = 12
+| height = 12
+| bar = true
+|
+| [input]
+| script = "no.in"
+|
+| [[client]]
+| label = "a"
+| donation = 65536
+| script = "a.nit"
+
+text UNDER_NARROW
+| buffer 12 12
+| fill 0 0 12 12 FF0000
+| view
+| place 1 0 0 12 12
+
+text UNFOCUSED
+| KKKKKKKKKKKK
+| KWWWKWKKKKWK
+| KWKKKWKKKWKW
+| KWWKKWKKKWWW
+| KWKKKWKKKWKW
+| KWKKKWWWKWKW
+| KKKKKKKKKKKK
+| RRRRRRRRRRRR
+| RRRRRRRRRRRR
+| RRRRRRRRRRRR
+| RRRRRRRRRRRR
+| RRRRRRRRRRRR
+
+base xray
+words turns, xray.toml
+file xray.toml XRAY
+file xa.nit XA
+file xb.nit NARROW
+file xray.in =phase\nphase\npress 70\nshot\n
+ends 0 =nitpicker: clients 2 entries 9 frames 2\n
+asked =xray.toml xa.nit xb.nit xray.in shot-1.ppm final.ppm events-ab.txt events-b.txt journal.txt
+there =xray.toml xa.nit xb.nit xray.in shot-1.ppm final.ppm events-ab.txt events-b.txt journal.txt
+
+case the first client's label fills what is seen of its view, and the second has no room for its own
+with xray
+picture shot-1.ppm 12 7 LABELLED
+picture final.ppm 12 7 LABELLED
+
+case neither label has room
+with xray
+file xb.nit WIDE
+picture shot-1.ppm 12 7 UNLABELLED
+picture final.ppm 12 7 UNLABELLED
+
+base kill
+words turns, kill.toml
+file kill.toml KILL
+file ka.nit KA
+file kb.nit KB
+file kill.in KILLING
+asked =kill.toml ka.nit kb.nit kill.in final.ppm events-a.txt events-b.txt journal.txt
+there =kill.toml ka.nit kb.nit kill.in final.ppm events-a.txt events-b.txt journal.txt
+replies 1 REPLIES
+
+case the first client is killed, and goes on
+with kill
+ends 0 =nitpicker: clients 2 entries 17 frames 1\n
+picture final.ppm 8 4 KILLED
+whole PLACED KILLED_ENTRIES
+
+case where it does nothing, the second client is answered the same
+with kill
+file ka.nit =phase\nphase\n
+ends 0 =nitpicker: clients 2 entries 11 frames 1\n
+
+case a view of a layer behind comes to the front of its own layer alone
+words turns, pair.toml
+file pair.toml PAIR
+file pa.nit PA
+file pb.nit PB
+file pair.in =phase\n
+ends 0 =nitpicker: clients 2 entries 8 frames 1\n
+asked =pair.toml pa.nit pb.nit pair.in final.ppm events-a.txt events-b.txt journal.txt
+there =pair.toml pa.nit pb.nit pair.in final.ppm events-a.txt events-b.txt journal.txt
+picture final.ppm 8 4 =BBBB....\nBBBB....\nBBBB....\nBBBB....
+
+case after a click the bar has `flat` and the label of the client with the focus, as `flat:a`
+words turns, bar.toml
+file bar.toml WIDE_BAR
+file a.nit UNDER_WIDE
+file bar.in =phase\nmotion 1 7\npress 272\n
+ends 0 =nitpicker: clients 1 entries 6 frames 1\n
+asked =bar.toml a.nit bar.in final.ppm events-a.txt journal.txt
+there =bar.toml a.nit bar.in final.ppm events-a.txt journal.txt
+picture final.ppm 25 8 FOCUSED
+
+case the bar has as much of `flat` as there is room for, and hides what the client shows there
+words turns, bar.toml
+file bar.toml NARROW_BAR
+file a.nit UNDER_NARROW
+file no.in =
+ends 0 =nitpicker: clients 1 entries 4 frames 1\n
+asked =bar.toml a.nit no.in final.ppm events-a.txt journal.txt
+there =bar.toml a.nit no.in final.ppm events-a.txt journal.txt
+picture final.ppm 12 12 UNFOCUSED
+
+"#;
+
+#[test]
+fn modes_and_layers(rt: HostRuntime) {
+    assert_cases(&rt, rt.alloc(), CASES);
+}

@@ -1,0 +1,157 @@
+//! What a client's calls are answered, by whole runs.
+
+use crate::assert_cases;
+
+const CASES: &str = r#"
+
+text A_NIT
+| view
+| place 1 32767 -32768 32767 32767
+| place 1 32768 0 1 1
+| refresh 0 0 32768 1
+| buffer 4097 1
+| buffer 0 1
+| close
+| close
+| take
+
+text A_NIT_2
+| view
+| place 1 0 -32769 1 1
+| place 1 0 0 32768 1
+| offset 1 -32769 0
+| offset 1 32767 -32768
+
+text VIEWS
+65 =view\n
+
+text HANDLES
+64 =handle {1+1}\n
+| too-many-views
+
+text SMALL
+| [screen]
+| width = 8
+| height = 4
+|
+| [input]
+| script = "no.in"
+|
+| [[client]]
+| label = "a"
+| donation = 512
+| script = "a.nit"
+
+text HALF
+| RRRRKKKK
+| RRRRKKKK
+| RRRRKKKK
+| RRRRKKKK
+
+base all
+words still, 8, 4, a.nit
+file a.nit =view\ndestroy 1\nview\nplace 1 0 0 1 1\n
+ends 0 =nitpicker: clients 1 entries 6 frames 1\n
+asked =a.nit final.ppm
+there =a.nit final.ppm
+
+case
+with all
+ends 0 =nitpicker: clients 1 entries 5 frames 1\n
+replies 0 =handle 1\ndone\nhandle 2\nno-such-view 1\n
+
+case
+with all
+file a.nit =view\ntitle 1 =log 2\ntitle 1 =Log\ntitle 1 =abcdefghijklm\ntitle 2 =\n
+replies 0 =handle 1\ndone\nbad-title\nbad-title\nno-such-view 2\n
+
+case
+with all
+file a.nit =view\nview\nview\nabove 1 3\nabove 1 1\nabove 1 9\nback 1\n
+ends 0 =nitpicker: clients 1 entries 8 frames 1\n
+replies 0 =handle 1\nhandle 2\nhandle 3\ndone\ndone\nno-such-view 9\ndone\n
+
+case
+with all
+file a.nit A_NIT
+ends 0 =nitpicker: clients 1 entries 10 frames 1\n
+replies 0 =handle 1\ndone\nbad-rect\nbad-rect\nbad-size\nbad-size\ndone\nclosed\nclosed\n
+
+case
+with all
+file a.nit =upgrade 1\n
+ends 0 =nitpicker: clients 1 entries 2 frames 1\n
+replies 0 =no-reserve 1 0\n
+
+case
+with all
+file a.nit =take\nphase\ntake\n
+ends 0 =nitpicker: clients 1 entries 3 frames 1\n
+replies 0 =no-event\nno-event\n
+
+case
+with all
+file a.nit =place 1 0 0 1 1\nview\nplace 0 0 0 1 1\n
+ends 0 =nitpicker: clients 1 entries 4 frames 1\n
+replies 0 =no-such-view 1\nhandle 1\nno-such-view 0\n
+
+case
+with all
+file a.nit A_NIT_2
+replies 0 =handle 1\nbad-rect\nbad-rect\nbad-rect\ndone\n
+
+case
+with all
+file a.nit =buffer 1 0\nbuffer 4096 256\nbuffer 4096 257\nview\nfront 1\nbuffer 1001 1\n
+ends 0 =nitpicker: clients 1 entries 7 frames 1\n
+replies 0 =bad-size\ndone\nout-of-quota 8421376 8388608\nout-of-quota 256 0\nno-such-view 1\ndone\n
+
+case as many views as there may be, and one more
+with all
+file a.nit VIEWS
+ends 0 =nitpicker: clients 1 entries 66 frames 1\n
+replies 0 HANDLES
+
+base few
+words turns, small.toml
+file small.toml SMALL
+file a.nit =view\nview\nview\n
+file no.in =
+ends 0 =nitpicker: clients 1 entries 4 frames 1\n
+asked =small.toml a.nit no.in final.ppm events-a.txt journal.txt
+there =small.toml a.nit no.in final.ppm events-a.txt journal.txt
+
+case
+with few
+replies 0 =handle 1\nhandle 2\nout-of-quota 256 0\n
+
+case
+with few
+file a.nit =buffer 4 4\nbuffer 8 8\n
+ends 0 =nitpicker: clients 1 entries 3 frames 1\n
+replies 0 =done\ndone\n
+
+case
+with few
+file a.nit =buffer 4 4\nview\nbuffer 8 8\n
+replies 0 =done\nhandle 1\nout-of-quota 512 256\n
+
+case
+with few
+file a.nit =view\nview\nupgrade 256\nview\nupgrade 257\nupgrade 256\nupgrade 1\n
+ends 0 =nitpicker: clients 1 entries 8 frames 1\n
+replies 0 =handle 1\nhandle 2\ndone\nhandle 3\nno-reserve 257 256\ndone\nno-reserve 1 0\n
+
+case a buffer that is refused leaves the one before it
+with few
+file a.nit =buffer 4 4\nfill 0 0 4 4 FF0000\nview\nplace 1 0 0 8 4\nbuffer 8 8\n
+ends 0 =nitpicker: clients 1 entries 5 frames 1\n
+picture final.ppm 8 4 HALF
+replies 0 =done\nhandle 1\ndone\nout-of-quota 512 256\n
+
+"#;
+
+#[test]
+fn replies(rt: HostRuntime) {
+    assert_cases(&rt, rt.alloc(), CASES);
+}
