@@ -5,7 +5,6 @@ use ConfigError::{Kind, Label, Missing, Range, Syntax, TooMany, Twice, Unknown};
 use nit_config::{Config, ConfigError, Member, read_config};
 use std::alloc::{AllocError, Global};
 use std::process::Abort;
-use std::test::Fail;
 
 /// Two clients on a screen of 8 by 4.
 const TWO: &str = "[screen]\nwidth = 8\nheight = 4\n\n[input]\nscript = \"two.in\"\n\n\
@@ -13,9 +12,9 @@ const TWO: &str = "[screen]\nwidth = 8\nheight = 4\n\n[input]\nscript = \"two.in
                    [[client]]\nlabel = \"b\"\ndonation = 65536\nscript = \"b.nit\"\n";
 
 /// The bytes of this configuration with the first `old` changed to `new`.
-fn changed(alloc: Global, old: &str, new: &str) -> Result<String, Fail> {
-    let (before, after) = TWO.split_once(old).ok_or("not there")?;
-    Ok(format!(in alloc; "{before}{new}{after}")?)
+fn changed(rt: &impl Abort, alloc: Global, old: &str, new: &str) -> String {
+    let (before, after) = TWO.split_once(old).expect(rt, "it is there");
+    format!(in alloc; "{before}{new}{after}").expect(rt, "memory for a text")
 }
 
 /// A client: its label, its script, its layer, and whether a click on it moves the focus.
@@ -103,22 +102,21 @@ fn assert_read(rt: &impl Abort, found: &Config, want: &Read) {
 }
 
 /// The configuration with the first `old` changed to `new`.
-fn read_changed(alloc: Global, old: &str, new: &str) -> Result<Config, Fail> {
-    let text = changed(alloc, old, new)?;
-    Ok(read_config(alloc, text.as_bytes())?)
+fn read_changed(rt: &impl Abort, alloc: Global, old: &str, new: &str) -> Config {
+    let text = changed(rt, alloc, old, new);
+    read_config(alloc, text.as_bytes()).expect(rt, "a configuration")
 }
 
-fn assert_all_read(rt: &impl Abort, alloc: Global, rows: &[Read]) -> Result<(), Fail> {
+fn assert_all_read(rt: &impl Abort, alloc: Global, rows: &[Read]) {
     for want in rows {
-        let config = read_changed(alloc, want.0, want.1)?;
+        let config = read_changed(rt, alloc, want.0, want.1);
         assert_read(rt, &config, want);
     }
-    Ok(())
 }
 
 #[test]
-fn two_clients(rt: HostRuntime) -> Result<(), Fail> {
-    assert_all_read(&rt, rt.alloc(), &READ)
+fn two_clients(rt: HostRuntime) {
+    assert_all_read(&rt, rt.alloc(), &READ);
 }
 
 /// What is changed in the configuration to what, and why it is refused then.
@@ -157,17 +155,16 @@ fn refusal(alloc: Global, text: &str) -> Option<ConfigError> {
     read_config(alloc, text.as_bytes()).err()
 }
 
-fn assert_all_refused(rt: &impl Abort, alloc: Global, rows: &[Refused]) -> Result<(), Fail> {
+fn assert_all_refused(rt: &impl Abort, alloc: Global, rows: &[Refused]) {
     for (old, new, want) in rows {
-        let text = changed(alloc, old, new)?;
+        let text = changed(rt, alloc, old, new);
         same(rt, new, &refusal(alloc, &text), &Some(*want));
     }
-    Ok(())
 }
 
 #[test]
-fn refusals(rt: HostRuntime) -> Result<(), Fail> {
-    assert_all_refused(&rt, rt.alloc(), &REFUSED)
+fn refusals(rt: HostRuntime) {
+    assert_all_refused(&rt, rt.alloc(), &REFUSED);
 }
 
 /// Two clients, and this many more.
@@ -201,20 +198,18 @@ const CROWDS: [(u32, &str, Result<usize, ConfigError>); 2] = [
 ];
 
 #[test]
-fn number_of_clients(rt: HostRuntime) -> Result<(), Fail> {
+fn number_of_clients(rt: HostRuntime) {
     for (more, case, want) in &CROWDS {
-        let text = crowd(rt.alloc(), *more)?;
+        let text = crowd(rt.alloc(), *more).expect(&rt, "memory for a text");
         same(&rt, case, &count(rt.alloc(), &text), want);
     }
-    Ok(())
 }
 
 #[test]
-fn no_clients(rt: HostRuntime) -> Result<(), Fail> {
-    let (none, _) = TWO.split_once("[[client]]").ok_or("not there")?;
+fn no_clients(rt: HostRuntime) {
+    let (none, _) = TWO.split_once("[[client]]").expect(&rt, "it is there");
     let found = (refusal(rt.alloc(), none), refusal(rt.alloc(), ""));
     same(&rt, "none, empty", &found, &(Some(Missing), Some(Missing)));
-    Ok(())
 }
 
 /// Refusals, and their texts.
@@ -229,19 +224,14 @@ const TEXTS: [(ConfigError, &str); 8] = [
     (Twice, "twice"),
 ];
 
-fn assert_texts(
-    rt: &impl Abort,
-    alloc: Global,
-    rows: &[(ConfigError, &'static str)],
-) -> Result<(), Fail> {
+fn assert_texts(rt: &impl Abort, alloc: Global, rows: &[(ConfigError, &'static str)]) {
     for (refusal, want) in rows {
-        let text = format!(in alloc; "{refusal}")?;
+        let text = format!(in alloc; "{refusal}").expect(rt, "memory for a text");
         same(rt, want, &text.as_str(), want);
     }
-    Ok(())
 }
 
 #[test]
-fn texts_of_refusals(rt: HostRuntime) -> Result<(), Fail> {
-    assert_texts(&rt, rt.alloc(), &TEXTS)
+fn texts_of_refusals(rt: HostRuntime) {
+    assert_texts(&rt, rt.alloc(), &TEXTS);
 }

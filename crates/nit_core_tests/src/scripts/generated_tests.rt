@@ -9,7 +9,6 @@ use nit_config::{Config, read_config};
 use nit_report::{Files, gen_config, generate};
 use std::alloc::Global;
 use std::process::Abort;
-use std::test::Fail;
 
 /// The first lines of the first client in run 7, with at least one of each kind.
 const FIRST_LINES: &str =
@@ -79,10 +78,9 @@ fn assert_run_7(rt: &impl Abort, files: &Files) {
 }
 
 #[test]
-fn run_7(rt: HostRuntime) -> Result<(), Fail> {
-    let files = generate(rt.alloc(), 7)?;
+fn run_7(rt: HostRuntime) {
+    let files = generate(rt.alloc(), 7).expect(&rt, "files");
     assert_run_7(&rt, &files);
-    Ok(())
 }
 
 fn assert_run_999999999(rt: &impl Abort, files: &Files) {
@@ -93,10 +91,9 @@ fn assert_run_999999999(rt: &impl Abort, files: &Files) {
 
 /// The greatest number of the command line.
 #[test]
-fn run_999999999(rt: HostRuntime) -> Result<(), Fail> {
-    let files = generate(rt.alloc(), 999_999_999)?;
+fn run_999999999(rt: HostRuntime) {
+    let files = generate(rt.alloc(), 999_999_999).expect(&rt, "files");
     assert_run_999999999(&rt, &files);
-    Ok(())
 }
 
 fn assert_same(rt: &impl Abort, read: &Config, made: &Config) {
@@ -114,21 +111,20 @@ fn screen(config: &Config) -> (u32, u32, bool, &str, usize) {
     (config.width, config.height, config.bar, input, clients)
 }
 
-fn assert_made(rt: &impl Abort, alloc: Global, read: &Config) -> Result<(), Fail> {
-    let made = gen_config(alloc)?;
+fn assert_made(rt: &impl Abort, alloc: Global, read: &Config) {
+    let made = gen_config(alloc).expect(rt, "a configuration");
     same(rt, "made", &(made.clients.len(), made.width), &(8, 320));
     assert_same(rt, read, &made);
-    Ok(())
 }
 
-fn read_generated(alloc: Global) -> Result<Config, Fail> {
-    let files = generate(alloc, 7)?;
-    Ok(read_config(alloc, &files.config)?)
+fn read_generated(rt: &impl Abort, alloc: Global) -> Config {
+    let files = generate(alloc, 7).expect(rt, "files");
+    read_config(alloc, &files.config).expect(rt, "a configuration")
 }
 
 /// The text of the configuration is read as its value.
 #[test]
-fn configuration(rt: HostRuntime) -> Result<(), Fail> {
-    let read = read_generated(rt.alloc())?;
-    assert_made(&rt, rt.alloc(), &read)
+fn configuration(rt: HostRuntime) {
+    let read = read_generated(&rt, rt.alloc());
+    assert_made(&rt, rt.alloc(), &read);
 }

@@ -4,29 +4,26 @@ use crate::same::same;
 use nit_config::FileName;
 use nit_events::{Entry, Event, Queue};
 use nit_journal::Journal;
-use nit_rect::NoMemory;
 use nit_slots::{Slots, Table};
 use nit_stack::Stack;
 use std::alloc::Global;
 use std::process::Abort;
-use std::test::Fail;
 
 #[test]
-fn journal_with_room(rt: HostRuntime) -> Result<(), Fail> {
-    let mut journal = Journal::with_room(rt.alloc(), 1)?;
+fn journal_with_room(rt: HostRuntime) {
+    let mut journal = Journal::with_room(rt.alloc(), 1).expect(&rt, "a journal");
     let empty = journal.entries().len();
     journal.append(Entry::Final);
     let entries = journal.entries();
     same(&rt, "none, one", &(empty, entries), &(0, &[Entry::Final]));
-    Ok(())
 }
 
 #[test]
-fn greatest_of_all(rt: HostRuntime) -> Result<(), Fail> {
-    let taken = taken_of_all(rt.alloc())?;
-    let last = last_of_none(rt.alloc())?;
-    let size = greatest_size(rt.alloc())?;
-    let count = entries_of_none(rt.alloc())?;
+fn greatest_of_all(rt: HostRuntime) {
+    let taken = taken_of_all(&rt, rt.alloc());
+    let last = last_of_none(&rt, rt.alloc());
+    let size = greatest_size(&rt, rt.alloc());
+    let count = entries_of_none(&rt, rt.alloc());
     let found = (taken, last, size, count);
     same(
         &rt,
@@ -34,34 +31,32 @@ fn greatest_of_all(rt: HostRuntime) -> Result<(), Fail> {
         &found,
         &(0, None, (1024, 768), 0),
     );
-    Ok(())
 }
 
-fn taken_of_all(alloc: Global) -> Result<u32, NoMemory> {
-    let slots = Slots::new(alloc, 1024)?;
-    Ok(slots.taken())
+fn taken_of_all(rt: &impl Abort, alloc: Global) -> u32 {
+    let slots = Slots::new(alloc, 1024).expect(rt, "slots");
+    slots.taken()
 }
 
-fn last_of_none(alloc: Global) -> Result<Option<u32>, NoMemory> {
-    let table = Table::new(alloc, 64)?;
-    Ok(table.last())
+fn last_of_none(rt: &impl Abort, alloc: Global) -> Option<u32> {
+    let table = Table::new(alloc, 64).expect(rt, "a table");
+    table.last()
 }
 
-fn greatest_size(alloc: Global) -> Result<(u32, u32), NoMemory> {
-    let stack = Stack::new(alloc, 1024, 768, 16, 1024)?;
-    Ok(stack.size())
+fn greatest_size(rt: &impl Abort, alloc: Global) -> (u32, u32) {
+    let stack = Stack::new(alloc, 1024, 768, 16, 1024).expect(rt, "a stack");
+    stack.size()
 }
 
-fn entries_of_none(alloc: Global) -> Result<usize, NoMemory> {
-    let journal = Journal::with_room(alloc, 1_114_113)?;
-    Ok(journal.entries().len())
+fn entries_of_none(rt: &impl Abort, alloc: Global) -> usize {
+    let journal = Journal::with_room(alloc, 1_114_113).expect(rt, "a journal");
+    journal.entries().len()
 }
 
 #[test]
-fn queue_of_events(rt: HostRuntime) -> Result<(), Fail> {
-    let mut queue = Queue::new(rt.alloc())?;
+fn queue_of_events(rt: HostRuntime) {
+    let mut queue = Queue::new(rt.alloc()).expect(&rt, "a queue");
     assert_queue(&rt, &mut queue);
-    Ok(())
 }
 
 fn assert_queue(rt: &impl Abort, queue: &mut Queue) {
@@ -73,8 +68,7 @@ fn assert_queue(rt: &impl Abort, queue: &mut Queue) {
 }
 
 #[test]
-fn name_of_a_file(rt: HostRuntime) -> Result<(), Fail> {
-    let name = FileName::new(rt.alloc(), b"still")?;
+fn name_of_a_file(rt: HostRuntime) {
+    let name = FileName::new(rt.alloc(), b"still").expect(&rt, "a name");
     same(&rt, "name", &name.as_str(), &"still");
-    Ok(())
 }

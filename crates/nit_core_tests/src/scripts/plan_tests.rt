@@ -15,7 +15,6 @@ use nit_slots::room;
 use nit_word::Inked;
 use std::alloc::Global;
 use std::process::Abort;
-use std::test::Fail;
 
 /// A step with a buffer of w by h after it.
 macro_rules! step {
@@ -120,16 +119,15 @@ static PLANS: [PlanCase; 4] = [
     ),
 ];
 
-fn assert_plans(rt: &impl Abort, alloc: Global, cases: &[PlanCase]) -> Result<(), Fail> {
+fn assert_plans(rt: &impl Abort, alloc: Global, cases: &[PlanCase]) {
     for case in cases {
-        assert_plan(rt, alloc, case)?;
+        assert_plan(rt, alloc, case);
     }
-    Ok(())
 }
 
 #[test]
-fn plans(rt: HostRuntime) -> Result<(), Fail> {
-    assert_plans(&rt, rt.alloc(), &PLANS)
+fn plans(rt: HostRuntime) {
+    assert_plans(&rt, rt.alloc(), &PLANS);
 }
 
 /// A script, its donation, the most words that it may have, and the first of those that it leaves.
@@ -159,33 +157,31 @@ static WORDS: [WordsCase; 3] = [
     ),
 ];
 
-fn assert_all_words(rt: &impl Abort, alloc: Global, cases: &[WordsCase]) -> Result<(), Fail> {
+fn assert_all_words(rt: &impl Abort, alloc: Global, cases: &[WordsCase]) {
     for case in cases {
-        assert_words(rt, alloc, case)?;
+        assert_words(rt, alloc, case);
     }
-    Ok(())
 }
 
 #[test]
-fn words(rt: HostRuntime) -> Result<(), Fail> {
-    assert_all_words(&rt, rt.alloc(), &WORDS)
+fn words(rt: HostRuntime) {
+    assert_all_words(&rt, rt.alloc(), &WORDS);
 }
 
 /// The plan of the text has these steps and this ink.
-fn assert_plan(rt: &impl Abort, alloc: Global, case: &PlanCase) -> Result<(), Fail> {
+fn assert_plan(rt: &impl Abort, alloc: Global, case: &PlanCase) {
     let (text, donation, steps, ink) = *case;
     assert!(rt; 256 <= donation && donation <= 8_388_608);
-    let plan = planned(alloc, text, donation)?;
+    let plan = planned(rt, alloc, text, donation);
     same(rt, text, &(plan.steps(), plan.ink()), &(steps, ink));
-    Ok(())
 }
 
 /// The plan of a text.
-fn planned(alloc: Global, text: &str, donation: u32) -> Result<Plan, Fail>
+fn planned(rt: &impl Abort, alloc: Global, text: &str, donation: u32) -> Plan
     requires { IsDonation donation }
 {
-    let client = parse_client(alloc, text.as_bytes())?;
-    Ok(plan_of(alloc, &client, donation)?)
+    let client = parse_client(alloc, text.as_bytes()).expect(rt, "a script");
+    plan_of(alloc, &client, donation).expect(rt, "a plan")
 }
 
 /// All lines of the script, done one after the other on the words of a new session.
@@ -213,21 +209,20 @@ fn do_lines(glass: &mut Inked, client: &Client, plan: &Plan, donation: u32)
 }
 
 /// What the lines of a text leave.
-fn glass_of(alloc: Global, text: &str, donation: u32) -> Result<Inked, Fail>
+fn glass_of(rt: &impl Abort, alloc: Global, text: &str, donation: u32) -> Inked
     requires { IsDonation donation }
 {
-    let client = parse_client(alloc, text.as_bytes())?;
-    Ok(strokes(alloc, &client, donation)?)
+    let client = parse_client(alloc, text.as_bytes()).expect(rt, "a script");
+    strokes(alloc, &client, donation).expect(rt, "a glass")
 }
 
 /// The lines of the text leave these words first, and all others 0.
-fn assert_words(rt: &impl Abort, alloc: Global, case: &WordsCase) -> Result<(), Fail> {
+fn assert_words(rt: &impl Abort, alloc: Global, case: &WordsCase) {
     let (text, donation, count, first) = *case;
     assert!(rt; 256 <= donation && donation <= 8_388_608);
-    let glass = glass_of(alloc, text, donation)?;
+    let glass = glass_of(rt, alloc, text, donation);
     assert!(rt; glass.words().len() <= count);
     assert_begin(rt, text, glass.words(), first);
-    Ok(())
 }
 
 /// These words come first, and all others are 0.

@@ -4,7 +4,6 @@ use crate::same::same;
 use nit_script::{ScriptError, parse_client, parse_input, print_client, print_input};
 use std::alloc::Global;
 use std::process::Abort;
-use std::test::Fail;
 
 const CLIENTS: [&str; 3] = [
     "buffer 4 2\nfill 0 0 4 2 FF0000\nview\nplace 1 1 1 4 2\n",
@@ -21,36 +20,34 @@ const INPUTS: [&str; 3] = [
     "press 767\nrelease 0\nmotion 65535 0\nwheel -127\nwheel 127\nshot\nphase\n",
 ];
 
-fn client_again(alloc: Global, text: &str) -> Result<Vec<u8>, Fail> {
-    let script = parse_client(alloc, text.as_bytes())?;
-    Ok(print_client(alloc, &script)?)
+fn client_again(rt: &impl Abort, alloc: Global, text: &str) -> Vec<u8> {
+    let script = parse_client(alloc, text.as_bytes()).expect(rt, "a script");
+    print_client(alloc, &script).expect(rt, "memory for a text")
 }
 
-fn input_again(alloc: Global, text: &str) -> Result<Vec<u8>, Fail> {
-    let script = parse_input(alloc, text.as_bytes())?;
-    Ok(print_input(alloc, &script)?)
+fn input_again(rt: &impl Abort, alloc: Global, text: &str) -> Vec<u8> {
+    let script = parse_input(alloc, text.as_bytes()).expect(rt, "a script");
+    print_input(alloc, &script).expect(rt, "memory for a text")
 }
 
-fn assert_clients(rt: &impl Abort, alloc: Global, texts: &[&'static str]) -> Result<(), Fail> {
+fn assert_clients(rt: &impl Abort, alloc: Global, texts: &[&'static str]) {
     for text in texts {
-        let again = client_again(alloc, text)?;
+        let again = client_again(rt, alloc, text);
         same(rt, text, &again.as_slice(), &text.as_bytes());
     }
-    Ok(())
 }
 
-fn assert_inputs(rt: &impl Abort, alloc: Global, texts: &[&'static str]) -> Result<(), Fail> {
+fn assert_inputs(rt: &impl Abort, alloc: Global, texts: &[&'static str]) {
     for text in texts {
-        let again = input_again(alloc, text)?;
+        let again = input_again(rt, alloc, text);
         same(rt, text, &again.as_slice(), &text.as_bytes());
     }
-    Ok(())
 }
 
 #[test]
-fn scripts(rt: HostRuntime) -> Result<(), Fail> {
-    assert_clients(&rt, rt.alloc(), &CLIENTS)?;
-    assert_inputs(&rt, rt.alloc(), &INPUTS)
+fn scripts(rt: HostRuntime) {
+    assert_clients(&rt, rt.alloc(), &CLIENTS);
+    assert_inputs(&rt, rt.alloc(), &INPUTS);
 }
 
 /// Texts, and the line without a reading.

@@ -5,7 +5,6 @@ use nit_events::{Call, Delivery, Device, Entry, Event, Item, Reply, Routed, Stat
 use nit_report::{Ending, JournalError, events_text, journal_text, parse_journal};
 use std::alloc::Global;
 use std::process::Abort;
-use std::test::Fail;
 
 /// A call of a session, with its answer.
 macro_rules! call {
@@ -66,16 +65,15 @@ const MOVED: [Entry; 2] = [
 const MOVED_TEXT: &str = "input motion 6 1 > 0 leave > 1 motion 6 1\ninput motion 1 1\n";
 
 /// The journal of these entries has this text.
-fn assert_text(rt: &impl Abort, alloc: Global, entries: &[Entry], want: &str) -> Result<(), Fail> {
-    let text = journal_text(alloc, entries)?;
+fn assert_text(rt: &impl Abort, alloc: Global, entries: &[Entry], want: &str) {
+    let text = journal_text(alloc, entries).expect(rt, "memory for a text");
     same(rt, want, &text.as_slice(), &want.as_bytes());
-    Ok(())
 }
 
 #[test]
-fn journals(rt: HostRuntime) -> Result<(), Fail> {
-    assert_text(&rt, rt.alloc(), &TWO_ENTRIES, TWO)?;
-    assert_text(&rt, rt.alloc(), &MOVED, MOVED_TEXT)
+fn journals(rt: HostRuntime) {
+    assert_text(&rt, rt.alloc(), &TWO_ENTRIES, TWO);
+    assert_text(&rt, rt.alloc(), &MOVED, MOVED_TEXT);
 }
 
 /// The most bytes of a journal.
@@ -89,15 +87,14 @@ fn read(rt: &impl Abort, alloc: Global, text: &str) -> Result<Vec<Entry>, Journa
 }
 
 /// The text of these entries is read as them.
-fn assert_entries(rt: &impl Abort, alloc: Global, text: &str, want: &[Entry]) -> Result<(), Fail> {
-    let entries = read(rt, alloc, text)?;
+fn assert_entries(rt: &impl Abort, alloc: Global, text: &str, want: &[Entry]) {
+    let entries = read(rt, alloc, text).expect(rt, "a journal");
     same(rt, text, &entries.as_slice(), &want);
-    Ok(())
 }
 
 #[test]
-fn journal_read_again(rt: HostRuntime) -> Result<(), Fail> {
-    assert_entries(&rt, rt.alloc(), TWO, &TWO_ENTRIES)
+fn journal_read_again(rt: HostRuntime) {
+    assert_entries(&rt, rt.alloc(), TWO, &TWO_ENTRIES);
 }
 
 /// Texts, and the line that spells no entry.
@@ -126,11 +123,11 @@ fn lines_that_spell_no_entry(rt: HostRuntime) {
 
 /// A title that holds what parts a reply from a call and a delivery from a line.
 #[test]
-fn a_title_with_marks(rt: HostRuntime) -> Result<(), Fail> {
+fn a_title_with_marks(rt: HostRuntime) {
     let title = Text::new(b"a < b > c").expect(&rt, "a text");
     let entries = [call!(3, Call::Title(2, title), Reply::BadTitle)];
     let want = "call 3 bad-title < title 2 =a < b > c\n";
-    assert_text(&rt, rt.alloc(), &entries, want)
+    assert_text(&rt, rt.alloc(), &entries, want);
 }
 
 /// What two sessions take.
@@ -142,24 +139,18 @@ const TAKEN: [Entry; 4] = [
 ];
 
 #[test]
-fn events_of_a_session(rt: HostRuntime) -> Result<(), Fail> {
+fn events_of_a_session(rt: HostRuntime) {
     let want = b"motion 1 1\nfocus-enter\nlost 1\nleft 0\nstate live\n";
-    assert_events(&rt, rt.alloc(), &TAKEN, want)
+    assert_events(&rt, rt.alloc(), &TAKEN, want);
 }
 
 /// What session 0 has taken, one event being lost and none left, has this text.
-fn assert_events(
-    rt: &impl Abort,
-    alloc: Global,
-    entries: &[Entry],
-    want: &[u8],
-) -> Result<(), Fail> {
+fn assert_events(rt: &impl Abort, alloc: Global, entries: &[Entry], want: &[u8]) {
     let end = Ending {
         lost: 1,
         left: 0,
         status: Status::Live,
     };
-    let text = events_text(alloc, entries, 0, &end)?;
+    let text = events_text(alloc, entries, 0, &end).expect(rt, "memory for a text");
     same(rt, "events", &text.as_slice(), &want);
-    Ok(())
 }
