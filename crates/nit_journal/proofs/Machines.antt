@@ -1,6 +1,6 @@
 -- The machine of each session of a legal journal is the one that serves it alone.
 use Rattle.std.proofs.Common.{List, [], ap, inl, inr, length, refl, subst, sym, ℕ, ◌++◌, ◌+◌, ◌<◌, ◌∙◌, ◌∷◌, ◌≡◌}
-use Rattle.nit_journal.proofs.Basics.{Call, Calls, Configuration, Delivery, Entry, IsLegal, LegalFrom, Observation, Reply, Session, State, after, after_observations, alone_machine, cases_eq, delivered, donation_of, eq-eqb, first_state, items_to, ne_eqb, projection, replay, replay_from, route, serve, session, session_in}
+use Rattle.nit_journal.proofs.Basics.{Configuration, Delivery, Entry, IsLegal, LegalFrom, Observation, Session, State, after, after_observations, alone_machine, cases_eq, delivered, donation_of, eq-eqb, first_state, items_to, ne_eqb, projection, replay, replay_from, route, serve, session, session_in}
 use Rattle.nit_events.specs.declared.entry.Entry.TheVariants as entry
 use Rattle.nit_journal.proofs.SessionLists.{opens, there_at_first, call_of_its_own, call_of_another, handed, still_handed, handed_to_it, handed_to_another, still_there}
 use Rattle.nit_journal.proofs.Isolation.{entry_keeps_all}
