@@ -1,5 +1,5 @@
 -- Pictures in the P6 form of Netpbm's PPM.
-use Rattle.std.specs.Prelude.{ℕ, ◌+◌, ◌*◌, List, [], ◌∷◌, ◌++◌, length, codes}
+use Rattle.std.specs.Prelude.{ℕ, ◌+◌, ◌*◌, List, ◌++◌, length, codes}
 use Rattle.nit_report.specs.Below.{channels, decimal, flat_map}
 
 -- the width and the height in decimal, and the greatest value of a channel
