@@ -1,18 +1,12 @@
 //! Worked rows of the parts: what each of them answers by itself, and two or three together.
 //!
 //! The parts here are those that know nothing of scripts, configurations and journals: words,
-//! glyphs, the stack of views, sessions' accounts, the user's input, queues, labels, cuts,
-//! painting, frames, shared words, the book of entries, and films.
+//! glyphs, queues, labels, cuts, shared words, the book of entries, and films.
 //!
 //! Rows of shaded words are compared with the same words shaded one by one.
 
-mod account_tests;
 mod damage_tests;
-mod film_tests;
-mod focus_tests;
 mod ledger_tests;
-mod overlay_tests;
-mod paint_tests;
 mod pictures;
 mod pixel_tests;
 mod place_tests;
@@ -20,6 +14,5 @@ mod play_tests;
 mod queue_tests;
 mod screens;
 mod shade_tests;
-mod stack_tests;
 mod stream_tests;
 mod text_tests;

@@ -1,5 +1,5 @@
 -- The lines of a frame tell its words.
-use Rattle.nit_nested.proofs.Basics.{All, AllByRecursion, FitsColour, IsFrame, IsNest, Line, Run, all_append, append-nil, count_lines, eqb-true, fills, flat_map, flat_map-append, frame_lines, map-append, most_lines, mul-suc, recursion_from_All, row_lines, row_runs, rows_lines, run_joined, sum_by-append, take-append-drop, words_of_lines}
+use Rattle.nit_nested.proofs.Basics.{All, FitsColour, IsFrame, IsNest, Line, Run, all_append, append-nil, count_lines, eqb-true, fills, flat_map, flat_map-append, frame_lines, map-append, most_lines, mul-suc, recursion_from_All, row_lines, row_runs, rows_lines, run_joined, sum_by-append, take-append-drop, words_of_lines}
 use Rattle.std.proofs.Common.{Bool, List, [], add-one, ap, arith, cond, drop, false, length, length-drop, map, refl, replicate, suc, sym, take, true, zero, ℕ, ◌*◌, ◌++◌, ◌+◌, ◌==◌, ◌∙◌, ◌∷◌, ◌≡◌, ◌≤◌}
 
 -- the words of runs

@@ -78,6 +78,127 @@ more two.toml =[[client]]\nlabel = "a"\ndonation = 65536\nscript = "a.nit"\n\n
 more two.toml =[[client]]\nlabel = "a"\ndonation = 65536\nscript = "b.nit"\n
 ends 5 =nitpicker: two.toml: bad configuration: twice\n
 
+case
+with bad
+file two.toml SCREEN
+more two.toml =[[client]]\nlabel = "a"\nlayer = 8\ndonation = 65536\nscript = "a.nit"\n\n
+more two.toml =[[client]]\nlabel = "b"\ndonation = 65536\nscript = "b.nit"\n
+ends 5 =nitpicker: two.toml: bad configuration: range\n
+
+case
+with bad
+file two.toml SCREEN
+more two.toml =[[client]]\nlabel = "a"\nlayer = -1\ndonation = 65536\nscript = "a.nit"\n\n
+more two.toml =[[client]]\nlabel = "b"\ndonation = 65536\nscript = "b.nit"\n
+ends 5 =nitpicker: two.toml: bad configuration: range\n
+
+case
+with bad
+file two.toml SCREEN
+more two.toml =[[client]]\nlabel = "a"\nfocus = "always"\ndonation = 65536\nscript = "a.nit"\n\n
+more two.toml =[[client]]\nlabel = "b"\ndonation = 65536\nscript = "b.nit"\n
+ends 5 =nitpicker: two.toml: bad configuration: range\n
+
+case
+with bad
+file two.toml SCREEN
+more two.toml =[[client]]\nlabel = "a"\nlayer = "1"\ndonation = 65536\nscript = "a.nit"\n\n
+more two.toml =[[client]]\nlabel = "b"\ndonation = 65536\nscript = "b.nit"\n
+ends 5 =nitpicker: two.toml: bad configuration: kind\n
+
+case
+with bad
+file two.toml SCREEN
+more two.toml =[[client]]\nlabel = "a"\nfocus = true\ndonation = 65536\nscript = "a.nit"\n\n
+more two.toml =[[client]]\nlabel = "b"\ndonation = 65536\nscript = "b.nit"\n
+ends 5 =nitpicker: two.toml: bad configuration: kind\n
+
+case
+with bad
+file two.toml =[screen]\nwidth = 8\nheight = 7\nbar = true\n\n[input]\nscript = "two.in"\n\n
+more two.toml CLIENTS
+ends 5 =nitpicker: two.toml: bad configuration: range\n
+
+case
+with bad
+file two.toml =[screen]\nwidth = 8\nheight = 8\nbar = 1\n\n[input]\nscript = "two.in"\n\n
+more two.toml CLIENTS
+ends 5 =nitpicker: two.toml: bad configuration: kind\n
+
+case
+with bad
+file two.toml =[screen]\nwidth = 0\nheight = 4\n\n[input]\nscript = "two.in"\n\n
+more two.toml CLIENTS
+ends 5 =nitpicker: two.toml: bad configuration: range\n
+
+case
+with bad
+file two.toml =[screen]\nwidth = 1025\nheight = 4\n\n[input]\nscript = "two.in"\n\n
+more two.toml CLIENTS
+ends 5 =nitpicker: two.toml: bad configuration: range\n
+
+case
+with bad
+file two.toml =[screen]\nwidth = 8\nheight = 769\n\n[input]\nscript = "two.in"\n\n
+more two.toml CLIENTS
+ends 5 =nitpicker: two.toml: bad configuration: range\n
+
+case
+with bad
+file two.toml SCREEN
+more two.toml =[[client]]\nlabel = "a"\ndonation = 8388609\nscript = "a.nit"\n\n
+more two.toml =[[client]]\nlabel = "b"\ndonation = 65536\nscript = "b.nit"\n
+ends 5 =nitpicker: two.toml: bad configuration: range\n
+
+case
+with bad
+file two.toml =[screen]\nwidth = 8\nheight = 4\n\n[input]\nscript = ""\n\n
+more two.toml CLIENTS
+ends 5 =nitpicker: two.toml: bad configuration: range\n
+
+case
+with bad
+file two.toml SCREEN
+more two.toml =[[client]]\nlabel = "a"\ndonation = 65536\nscript = "\u00e9"\n\n
+more two.toml =[[client]]\nlabel = "b"\ndonation = 65536\nscript = "b.nit"\n
+ends 5 =nitpicker: two.toml: bad configuration: range\n
+
+case
+with bad
+file two.toml SCREEN
+more two.toml =[[client]]\nlabel = ""\ndonation = 65536\nscript = "a.nit"\n\n
+more two.toml =[[client]]\nlabel = "b"\ndonation = 65536\nscript = "b.nit"\n
+ends 5 =nitpicker: two.toml: bad configuration: label\n
+
+case of two that apply, the first by kind and not by place
+with bad
+file two.toml =[screen]\nwidth = 8\n\n[input]\nscrip = "two.in"\n\n
+more two.toml CLIENTS
+ends 5 =nitpicker: two.toml: bad configuration: missing\n
+
+case
+with bad
+file two.toml SCREEN
+more two.toml =[[client]]\nlabel = "A"\ndonation = 255\nscript = "a.nit"\n\n
+more two.toml =[[client]]\nlabel = "b"\ndonation = 65536\nscript = "b.nit"\n
+ends 5 =nitpicker: two.toml: bad configuration: range\n
+
+case
+with bad
+file two.toml =[screen]\nwidth = 8\nheight = 4\n\n
+more two.toml CLIENTS
+ends 5 =nitpicker: two.toml: bad configuration: missing\n
+
+case no clients, and an empty file
+with bad
+file two.toml SCREEN
+ends 5 =nitpicker: two.toml: bad configuration: missing\n
+
+case
+with bad
+file two.toml =
+ends 5 =nitpicker: two.toml: bad configuration: missing\n
+
 case more ways to be cut or doubled
 with bad
 file two.toml =[screen]\nwidth = 8\nwidth = 8\nheight = 4\n\n[input]\nscript = "two.in"\n\n
@@ -114,6 +235,20 @@ file two.toml CONFIG
 more two.toml =#xxx
 more two.toml 65525 =xxxxxxxxxxxxxxxx
 ends 5 =nitpicker: two.toml: bad configuration: too long\n
+
+case what a client has where it says nothing may be said
+words turns, two.toml
+file two.toml =[screen]\nwidth = 8\nheight = 4\nbar = false\n\n[input]\nscript = "two.in"\n\n
+more two.toml =[[client]]\nlabel = "a"\nlayer = 0\nfocus = "click"\ndonation = 65536\nscript = "a.nit"\n\n
+more two.toml =[[client]]\nlabel = "b"\ndonation = 65536\nscript = "b.nit"\n
+file a.nit A
+file b.nit B
+file two.in INPUT
+ends 0 =nitpicker: clients 2 entries 9 frames 2\n
+asked =two.toml a.nit b.nit two.in shot-1.ppm final.ppm events-a.txt events-b.txt journal.txt
+there =two.toml a.nit b.nit two.in shot-1.ppm final.ppm events-a.txt events-b.txt journal.txt
+picture final.ppm 8 4 FINAL
+whole JOURNAL
 
 case or just as long as it may be
 words turns, two.toml

@@ -6,7 +6,8 @@
 //! that the store is asked for, and `there TEXT` those of the files that are there afterwards, each
 //! in order. `entries N` says how many the journal has. Of several lines of a kind, or of one name
 //! of a file, the last one counts. Any other line wants something of a file or of the journal
-//! (`want`, `journals`), but for `cut FIRST LAST`, which `two_tests` alone reads.
+//! (`want`, `journals`), but for `cut FIRST LAST` and `edits JOURNAL EDITS`, which `two_tests` and
+//! `audit_tests` read.
 
 use crate::journals::assert_journal;
 use crate::table::{Case, lines, number, worded};
@@ -276,7 +277,7 @@ fn names_of(alloc: Global, files: &[(String, Vec<u8>)]) -> Result<String, AllocE
 fn assert_line(rt: &impl Abort, alloc: Global, case: &Case, came: &Came, line: &str) -> Option<()> {
     match worded(line).0 {
         "case" | "with" | "words" | "file" | "more" => Some(()),
-        "cut" | "fails" | "ends" | "asked" | "there" | "entries" => Some(()),
+        "cut" | "edits" | "fails" | "ends" | "asked" | "there" | "entries" => Some(()),
         "whole" | "replies" | "sessions" => {
             assert_journal(rt, alloc, case, &came.done.journal, line)
         }

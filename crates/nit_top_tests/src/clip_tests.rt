@@ -228,6 +228,70 @@ text CLIPPED
 =pair.toml pa.nit pb.nit clip.in pa.nit.clip pb.nit.clip final.ppm events-a.txt events-b.txt
 = journal.txt clip.txt
 
+text FIRST_PHASE
+| buffer 4 4
+| fill 0 0 4 4 FF0000
+| view
+| place 1 0 0 4 4
+4 =phase\n
+
+text SECOND_PHASE
+| phase
+| buffer 4 4
+| fill 0 0 4 4 0000FF
+| view
+| place 1 4 0 4 4
+3 =phase\n
+
+text CLICK_IN_THIRD
+| phase
+| phase
+| motion 1 1
+| press 272
+| release 272
+| phase
+| phase
+
+text FIRST_IN_TURN
+| paste
+| phase
+| phase
+| phase
+| copy =hi
+| paste
+| phase
+
+text SECOND_IN_TURN
+4 =phase\n
+| paste
+
+text IN_TURN
+| clip 3 0 not-focused < paste
+| clip 9 0 copied < copy =hi
+| clip 9 0 pasted =hi < paste
+| clip 9 1 not-focused < paste
+
+text PASTING
+3 =phase\n
+| paste
+| phase
+| paste
+
+text COPYING_UNFOCUSED
+3 =phase\n
+| copy =
+| phase
+
+text NOTHING_COPIED
+| clip 9 0 empty < paste
+| clip 9 1 not-focused < copy =
+| clip 9 0 empty < paste
+
+text NOTHING_COPIED_2
+| clip 9 1 not-focused < copy =
+| clip 9 0 empty < paste
+| clip 9 0 empty < paste
+
 base refused
 words clip, pair.toml
 file pair.toml PAIR
@@ -277,6 +341,51 @@ file pa.nit.clip =Paste\n
 ends 6 =nitpicker: clip.in: phases differ\n
 asked =pair.toml pa.nit pb.nit clip.in
 
+case
+with refused
+file pa.nit.clip =paste\ncopy\n
+ends 6 =nitpicker: pa.nit.clip: line 2: bad script\n
+
+case
+with refused
+file pa.nit.clip =paste \n
+ends 6 =nitpicker: pa.nit.clip: line 1: bad script\n
+
+case
+with refused
+file pa.nit.clip = paste\n
+ends 6 =nitpicker: pa.nit.clip: line 1: bad script\n
+
+case
+with refused
+file pa.nit.clip =copy  =hi\n
+ends 6 =nitpicker: pa.nit.clip: line 1: bad script\n
+
+case
+with refused
+file pa.nit.clip =phase\n\n
+ends 6 =nitpicker: pa.nit.clip: line 2: bad script\n
+
+case
+with refused
+file pa.nit.clip =paste
+ends 6 =nitpicker: pa.nit.clip: line 1: bad script\n
+
+case
+with refused
+file pa.nit.clip =copy =12345678901234567890123456789012345678901\n
+ends 6 =nitpicker: pa.nit.clip: line 1: bad script\n
+
+case
+with refused
+file pa.nit.clip =copy =ä\n
+ends 6 =nitpicker: pa.nit.clip: line 1: bad script\n
+
+case
+with refused
+file pa.nit.clip =phase\nview\n
+ends 6 =nitpicker: pa.nit.clip: line 2: bad script\n
+
 case one line too many
 with refused
 file pb.nit.clip LONG
@@ -298,6 +407,29 @@ asked =pair.toml pa.nit clip.in pa.nit.clip final.ppm events-a.txt journal.txt c
 there =pair.toml pa.nit clip.in pa.nit.clip final.ppm events-a.txt journal.txt clip.txt
 entries 7
 holds clip.txt =clip 6 0 empty < paste\n
+
+base turn
+words clip, pair.toml
+file pair.toml PAIR
+file pa.nit FIRST_PHASE
+file pb.nit SECOND_PHASE
+file clip.in CLICK_IN_THIRD
+ends 0 =nitpicker: clients 2 entries 10 frames 1\n
+asked CLIPPED
+there CLIPPED
+entries 10
+
+case in each phase one actor acts, so there is one order of the clip calls
+with turn
+file pa.nit.clip FIRST_IN_TURN
+file pb.nit.clip SECOND_IN_TURN
+holds clip.txt IN_TURN
+
+case what a client copies without the focus is not there for the other one
+with turn
+file pa.nit.clip PASTING
+file pb.nit.clip COPYING_UNFOCUSED
+is clip.txt one-of NOTHING_COPIED NOTHING_COPIED_2
 
 case a clip script that is not there
 with clip

@@ -11,6 +11,75 @@ text NAMES
 = events-g0.txt events-g1.txt events-g2.txt events-g3.txt events-g4.txt events-g5.txt
 = events-g6.txt events-g7.txt journal.txt
 
+text FIRST_LINES
+| buffer 128 96
+| fill 0 0 128 96 AF2EC6
+| view
+| view
+| view
+| view
+| view
+| view
+| view
+| view
+| view
+| view
+| view
+| view
+| view
+| view
+| view
+| view
+| place 1 229 143 103 16
+| place 2 300 72 96 48
+| place 3 239 69 101 36
+| place 4 109 200 68 57
+| place 5 205 230 50 48
+| place 6 126 229 43 42
+| place 7 251 93 109 42
+| place 8 51 -20 102 18
+| place 9 48 138 31 18
+| place 10 92 232 67 43
+| place 11 161 176 116 26
+| place 12 203 1 103 68
+| place 13 82 172 94 17
+| place 14 196 131 61 35
+| place 15 31 195 93 25
+| place 16 208 188 26 39
+| title 1 =w1
+| title 2 =w2
+| title 3 =w3
+| title 4 =w4
+| title 5 =w5
+| title 6 =w6
+| title 7 =w7
+| title 8 =w8
+| title 9 =w9
+| title 10 =w10
+| title 11 =w11
+| title 12 =w12
+| title 13 =w13
+| title 14 =w14
+| title 15 =w15
+| title 16 =w16
+| phase
+| fill 45 60 61 31 60311F
+| check 0 75 5 43 D4F9B9 D1D32D
+| place 13 5 63 66 38
+| front 15
+| back 14
+| refresh 4 39 12 47
+| take
+| offset 11 8 -12
+
+text FIRST_INPUT
+| phase
+| motion 314 49
+| press 272
+| release 272
+| wheel 1
+| motion 270 200
+
 base gen
 words gen, 7
 ends 0 =nitpicker: clients 8 entries 12260 frames 2\n
@@ -24,9 +93,27 @@ words gen, 0
 entries 12260
 sessions 8
 
+case a run between, of whose first client's lines at least one of each kind is here
+with gen
+is gen.toml marked 549 850A3D75
+is g0.nit marked 33078 669A12F7
+is g1.nit marked 33113 8C94D15D
+is g2.nit marked 33079 5818F908
+is g3.nit marked 33040 D0906836
+is g4.nit marked 33053 6E509156
+is g5.nit marked 33049 DDBBC430
+is g6.nit marked 33083 B7282874
+is g7.nit marked 33103 FFD6B93D
+is gen.in marked 2252 C21D1337
+is g0.nit begins FIRST_LINES
+is gen.in begins FIRST_INPUT
+entries 12260
+
 case the greatest number
 with gen
 words gen, 999999999
+is g7.nit marked 33048 9752ED7A
+is gen.in marked 2246 B044F24F
 entries 12260
 sessions 8
 

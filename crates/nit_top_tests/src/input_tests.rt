@@ -141,6 +141,80 @@ text UNDER_BAR
 | place 1 0 0 12 12
 | phase
 
+text CLOSING
+| buffer 4 4
+| fill 0 0 4 4 FF0000
+| view
+| place 1 0 0 4 4
+| phase
+| phase
+| close
+| phase
+
+text STAYING
+| buffer 4 4
+| fill 0 0 4 4 0000FF
+| view
+| place 1 4 0 4 4
+| phase
+| phase
+| phase
+
+text TAKING_A
+| buffer 4 4
+| fill 0 0 4 4 FF0000
+| view
+| place 1 0 0 4 4
+| phase
+| phase
+6 =take\n
+
+text TAKING_B
+| buffer 4 4
+| fill 0 0 4 4 0000FF
+| view
+| place 1 4 0 4 4
+| phase
+| phase
+2 =take\n
+
+text DRAG_AND_PHASE
+| phase
+| motion 1 1
+| press 272
+| motion 5 1
+| release 272
+| motion 6 1
+| phase
+
+text TAKEN_A
+| motion 1 1
+| focus-enter
+| press 272
+| motion 5 1
+| release 272
+| leave
+| lost 0
+| left 0
+| state live
+
+text TAKEN_B
+| motion 6 1
+| lost 0
+| left 0
+| state live
+
+text CLOSED_ENTRIES
+| input press 272 > 0 focus-enter > 0 press 272
+| call 0 done < close
+| input release 272
+| final
+
+text EDGE_ENTRIES
+| input motion 65535 65535 > 1 motion 7 3
+| input wheel 1 > 1 wheel 1
+| final
+
 text DRAG_ENTRIES
 | input motion 1 1 > 0 motion 1 1
 | input press 272 > 0 focus-enter > 0 press 272
@@ -232,6 +306,34 @@ file pair.in MODES
 ends 0 =nitpicker: clients 2 entries 13 frames 1\n
 picture final.ppm 8 4 XRAY
 whole PLACED MODES_ENTRIES
+
+case a session that closes gets nothing of what is still held
+with pair
+file pair.toml PAIR
+file pa.nit CLOSING
+file pb.nit STAYING
+file pair.in =phase\npress 272\nphase\nphase\nrelease 272\n
+ends 0 =nitpicker: clients 2 entries 10 frames 1\n
+whole PLACED CLOSED_ENTRIES
+
+case the pointer stays on the screen, and where it is when the wheel turns
+with pair
+file pair.toml PAIR
+file pa.nit PA
+file pb.nit PB
+file pair.in =phase\nmotion 65535 65535\nwheel 1\n
+ends 0 =nitpicker: clients 2 entries 9 frames 1\n
+whole PLACED EDGE_ENTRIES
+
+case each client takes what was delivered to it
+with pair
+file pair.toml PAIR
+file pa.nit TAKING_A
+file pb.nit TAKING_B
+file pair.in DRAG_AND_PHASE
+ends 0 =nitpicker: clients 2 entries 20 frames 1\n
+holds events-a.txt TAKEN_A
+holds events-b.txt TAKEN_B
 
 case the queue keeps 64 of 65 motions
 with pair

@@ -56,6 +56,8 @@ mod two_tests;
 #[cfg(test)]
 mod usage_tests;
 #[cfg(test)]
+mod view_tests;
+#[cfg(test)]
 mod want;
 
 #[cfg(test)]

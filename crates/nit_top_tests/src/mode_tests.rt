@@ -65,6 +65,64 @@ text UNLABELLED
 | MbbMrrrrrrrM
 | MMMMMMMMMMMM
 
+text TINTED
+| RRRKKKKKKKKK
+| RtRKKWKKWWKK
+| RtRKWKWKWKWK
+| RtRKWWWKWWKK
+| RtRKWKWKWKWK
+| RtRKWKWKWWKK
+| RRRKKKKKKKKK
+
+text OWN_WORDS
+| MMMMWWWWWWWW
+| MbbMRRRRRRRW
+| MbbMRRRRRRRW
+| MbbMRRRRRRRW
+| MbbMRRRRRRRW
+| MbbMRRRRRRRW
+| MMMMWWWWWWWW
+
+text REFRESHING
+| buffer 12 7
+| fill 0 0 12 7 FF0000
+| view
+| place 1 0 0 12 7
+| phase
+| phase
+| phase
+| fill 0 0 12 7 00FF00
+| refresh 2 1 3 2
+| phase
+
+text WIDE_AND_PHASES
+| phase
+| buffer 4 7
+| fill 0 0 4 7 0000FF
+| view
+| place 1 0 0 4 7
+| phase
+| phase
+| phase
+
+text REFRESHED
+| MMMMMMMMMMMM
+| MbbMgrrrrrrM
+| MbbMgrrrrrrM
+| MbbMrrrrrrrM
+| MbbMrrrrrrrM
+| MbbMrrrrrrrM
+| MMMMMMMMMMMM
+
+text ALL_REFRESHED
+| MMMMMMMMMMMM
+| MbbMgggggggM
+| MbbMgggggggM
+| MbbMgggggggM
+| MbbMgggggggM
+| MbbMgggggggM
+| MMMMMMMMMMMM
+
 text KILL
 | [screen]
 | width = 8
@@ -151,6 +209,26 @@ text PAIR
 | donation = 65536
 | script = "pa.nit"
 | layer = 1
+|
+| [[client]]
+| label = "b"
+| donation = 65536
+| script = "pb.nit"
+
+text SEVENTH
+| [screen]
+| width = 8
+| height = 4
+|
+| [input]
+| script = "pair.in"
+|
+| [[client]]
+| label = "a"
+| donation = 65536
+| script = "pa.nit"
+| layer = 7
+| focus = "none"
 |
 | [[client]]
 | label = "b"
@@ -258,6 +336,29 @@ file xb.nit WIDE
 picture shot-1.ppm 12 7 UNLABELLED
 picture final.ppm 12 7 UNLABELLED
 
+case in kill mode the label stands there too, the rings are red, and the words are tinted
+with xray
+file xray.in =phase\nphase\npress 99\nshot\n
+picture shot-1.ppm 12 7 TINTED
+picture final.ppm 12 7 TINTED
+
+case the view of the client with the focus has its own words, and a white ring
+with xray
+file xb.nit WIDE
+file xray.in =phase\nphase\nmotion 9 3\npress 272\nrelease 272\npress 70\nshot\n
+ends 0 =nitpicker: clients 2 entries 12 frames 2\n
+picture shot-1.ppm 12 7 OWN_WORDS
+picture final.ppm 12 7 OWN_WORDS
+
+case a refresh shows its part of the words that are new, and the last picture all of them
+with xray
+file xa.nit REFRESHING
+file xb.nit WIDE_AND_PHASES
+file xray.in =phase\nphase\npress 70\nphase\nphase\nshot\n
+ends 0 =nitpicker: clients 2 entries 10 frames 2\n
+picture shot-1.ppm 12 7 REFRESHED
+picture final.ppm 12 7 ALL_REFRESHED
+
 base kill
 words turns, kill.toml
 file kill.toml KILL
@@ -282,6 +383,17 @@ ends 0 =nitpicker: clients 2 entries 11 frames 1\n
 case a view of a layer behind comes to the front of its own layer alone
 words turns, pair.toml
 file pair.toml PAIR
+file pa.nit PA
+file pb.nit PB
+file pair.in =phase\n
+ends 0 =nitpicker: clients 2 entries 8 frames 1\n
+asked =pair.toml pa.nit pb.nit pair.in final.ppm events-a.txt events-b.txt journal.txt
+there =pair.toml pa.nit pb.nit pair.in final.ppm events-a.txt events-b.txt journal.txt
+picture final.ppm 8 4 =BBBB....\nBBBB....\nBBBB....\nBBBB....
+
+case the same of the layer that is the last
+words turns, pair.toml
+file pair.toml SEVENTH
 file pa.nit PA
 file pb.nit PB
 file pair.in =phase\n

@@ -266,6 +266,21 @@ ends 6 =nitpicker: o.nit: line 3: bad script\n
 
 case
 with refused
+file o.nit =view\nphase\nbuffer 1 1\nclose\n
+ends 6 =nitpicker: o.nit: line 3: bad script\n
+
+case
+with refused
+file o.nit =phase\nclose\n
+ends 6 =nitpicker: o.nit: line 2: bad script\n
+
+case
+with refused
+file o.nit =fill 0 0 1 1 000000\n
+ends 6 =nitpicker: o.nit: line 1: bad script\n
+
+case
+with refused
 file o.nit =check 0 0 1 1 FF0000 0000FF\nphase\n
 file o.in =
 ends 6 =nitpicker: o.nit: line 1: bad script\n

@@ -29,6 +29,28 @@ text HANDLES
 64 =handle {1+1}\n
 | too-many-views
 
+text VIEWS_AND_BUFFERS
+64 =view\n
+| buffer 4096 256
+| buffer 4096 255
+
+text ROOM_BESIDE_VIEWS
+64 =handle {1+1}\n
+| out-of-quota 8388608 8372224
+| done
+
+text TITLES
+| view
+| title 1 =
+| title 1 =log 2
+| title 1 =abcdefghijkl
+| title 1 =0-9._ z
+| title 1 = 
+| title 1 =Log
+| title 1 =abcdefghijklm
+| title 1 =a:b
+| title 1 =a=b
+
 text SMALL
 | [screen]
 | width = 8
@@ -112,6 +134,18 @@ file a.nit VIEWS
 ends 0 =nitpicker: clients 1 entries 66 frames 1\n
 replies 0 HANDLES
 
+case the views leave 16,384 units less than the whole donation, in which the whole has no room
+with all
+file a.nit VIEWS_AND_BUFFERS
+ends 0 =nitpicker: clients 1 entries 67 frames 1\n
+replies 0 ROOM_BESIDE_VIEWS
+
+case
+with all
+file a.nit TITLES
+ends 0 =nitpicker: clients 1 entries 11 frames 1\n
+replies 0 =handle 1\ndone\ndone\ndone\ndone\ndone\nbad-title\nbad-title\nbad-title\nbad-title\n
+
 base few
 words turns, small.toml
 file small.toml SMALL
@@ -141,6 +175,12 @@ with few
 file a.nit =view\nview\nupgrade 256\nview\nupgrade 257\nupgrade 256\nupgrade 1\n
 ends 0 =nitpicker: clients 1 entries 8 frames 1\n
 replies 0 =handle 1\nhandle 2\ndone\nhandle 3\nno-reserve 257 256\ndone\nno-reserve 1 0\n
+
+case a title with what parts a reply from a call and a delivery from a line
+with few
+file a.nit =view\nview\ntitle 2 =a < b > c\n
+holds journal.txt =call 0 handle 1 < view\ncall 0 handle 2 < view\ncall 0 bad-title < title 2 =a < b > c\nfinal\n
+replies 0 =handle 1\nhandle 2\nbad-title\n
 
 case a buffer that is refused leaves the one before it
 with few

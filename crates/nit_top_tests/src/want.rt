@@ -4,7 +4,8 @@
 //! `picture NAME W H ROWS` a picture of this width and height, in whose rows a letter is a colour.
 //! Less is said by `is NAME long N`, a number of bytes; `is NAME among LETTERS`, a picture whose
 //! pixels have some of these colours; `is NAME all BYTE FRONT`, the same byte all over behind so
-//! many; and `is NAME one-of TEXT..`, one of these texts.
+//! many; `is NAME one-of TEXT..`, one of these texts; `is NAME begins TEXT`, bytes that begin so; and
+//! `is NAME marked N MARK`, so many bytes with this mark in hexadecimal digits.
 
 use crate::case::bytes_of;
 use crate::table::{Case, number, worded};
@@ -51,6 +52,8 @@ fn is_so(alloc: Global, case: &Case, found: &[u8], want: &str) -> Option<bool> {
         "long" => Some(found.len() as u64 == number(want)?),
         "among" => Some(is_among(found.get(13..)?, want)),
         "all" => is_all(found, want),
+        "begins" => Some(found.starts_with(case.text(alloc, want)?.as_bytes())),
+        "marked" => is_marked(found, want),
         "one-of" => is_text(alloc, case, std::str::from_utf8(found).ok()?, want),
         _ => None,
     }
@@ -84,7 +87,8 @@ fn push_rows(bytes: &mut Vec<u8>, rows: &str) -> Result<(), AllocError> {
 }
 
 /// R is red, G is green, B is blue, K is black, W is white, M is the grey of an outline, r, b and n
-/// are red, blue and the bare screen of half the light, and all else is bare.
+/// are red, blue and the bare screen of half the light, g and t are green of half the light and blue
+/// that is tinted, and all else is bare.
 fn colour(letter: u8) -> [u8; 3] {
     match letter {
         b'R' => [0xFF, 0x00, 0x00],
@@ -96,6 +100,8 @@ fn colour(letter: u8) -> [u8; 3] {
         b'r' => [0x7F, 0x00, 0x00],
         b'b' => [0x00, 0x00, 0x7F],
         b'n' => [0x00, 0x00, 0x10],
+        b'g' => [0x00, 0x7F, 0x00],
+        b't' => [0x80, 0x00, 0x7F],
         _ => [0x00, 0x00, 0x20],
     }
 }
@@ -130,4 +136,21 @@ fn is_text(alloc: Global, case: &Case, found: &str, names: &str) -> Option<bool>
         }
     }
     Some(false)
+}
+
+/// Whether there are so many bytes, with this mark.
+fn is_marked(bytes: &[u8], want: &str) -> Option<bool> {
+    let (length, digits) = worded(want);
+    let wanted = u32::from_str_radix(digits, 16).ok()?;
+    Some(bytes.len() as u64 == number(length)? && mark(bytes) == wanted)
+}
+
+/// A number that tells a text from most others: each byte adds to 31 times the number so far, cut
+/// off to 32 bits.
+fn mark(bytes: &[u8]) -> u32 {
+    let mut mark: u32 = 0;
+    for byte in bytes {
+        mark = mark.wrapping_mul(31).wrapping_add(u32::from(*byte));
+    }
+    mark
 }

@@ -2,8 +2,7 @@
 
 ghost use Rattle.nit_capture.specs.Tiles.{IsPicture};
 
-use crate::parts::film_tests::{CUT, LEFT, RIGHT};
-use crate::parts::stream_tests::black;
+use crate::parts::stream_tests::{CUT, LEFT, RIGHT, black};
 use crate::same::same;
 use nit_capture::{Played, Player};
 use std::alloc::Global;

@@ -4,10 +4,18 @@ use crate::same::same;
 use nit_events::{Event, Queue};
 use std::process::Abort;
 
+/// An event of this number.
+fn event(number: u16) -> Event {
+    match number {
+        1 => Event::Wheel(-1),
+        _ => Event::Press(number),
+    }
+}
+
 /// The first 64 events find room, and the next one is refused.
 fn assert_filled(rt: &impl Abort, queue: &mut Queue) {
     for code in 0..65 {
-        let has_room = queue.offer(Event::Press(code));
+        let has_room = queue.offer(event(code));
         same(rt, "room", &(code, has_room), &(code, code < 64));
     }
 }
@@ -15,7 +23,7 @@ fn assert_filled(rt: &impl Abort, queue: &mut Queue) {
 /// The events come in their order.
 fn assert_emptied(rt: &impl Abort, queue: &mut Queue) {
     for code in 0..64 {
-        same(rt, "order", &queue.take(), &Some(Event::Press(code)));
+        same(rt, "order", &queue.take(), &Some(event(code)));
     }
 }
 

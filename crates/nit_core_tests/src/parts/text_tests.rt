@@ -2,66 +2,49 @@
 
 use crate::same::same;
 use nit_glyph::{Label, Title, label_text};
+use std::process::Abort;
 
-/// Texts, and whether they are titles.
-const TITLES: &[(&str, bool)] = &[
-    ("", true),
-    ("log 2", true),
-    ("abcdefghijkl", true),
-    ("0-9._ z", true),
-    (" ", true),
-    ("Log", false),
-    ("abcdefghijklm", false),
-    ("a:b", false),
-    ("a\n", false),
-    ("\u{e9}", false),
-    ("a=b", false),
-];
+/// Titles, with `|` between them.
+const TITLES: &str = "|log 2|abcdefghijkl|0-9._ z| ";
 
-/// Texts, and whether they are labels.
-const LABELS: &[(&str, bool)] = &[
-    ("a", true),
-    ("terminal", true),
-    ("abcdefghijklmnopqrst", true),
-    ("0-9._z", true),
-    ("", false),
-    ("A", false),
-    ("a b", false),
-    ("a:b", false),
-    ("abcdefghijklmnopqrstu", false),
-];
+const NO_TITLES: &str = "Log|abcdefghijklm|a:b|a\n|\u{e9}|a=b";
 
-#[test]
-fn titles(rt: HostRuntime) {
-    for (text, want) in TITLES {
-        same(&rt, text, &Title::new(text.as_bytes()).is_some(), want);
+const LABELS: &str = "a|terminal|abcdefghijklmnopqrst|0-9._z";
+
+const NO_LABELS: &str = "|A|a b|a:b|abcdefghijklmnopqrstu";
+
+fn assert_titles(rt: &impl Abort, texts: &str, want: bool) {
+    for text in texts.split('|') {
+        same(rt, text, &Title::new(text.as_bytes()).is_some(), &want);
+    }
+}
+
+fn assert_labels(rt: &impl Abort, texts: &str, want: bool) {
+    for text in texts.split('|') {
+        same(rt, text, &Label::new(text.as_bytes()).is_some(), &want);
     }
 }
 
 #[test]
-fn labels(rt: HostRuntime) {
-    for (text, want) in LABELS {
-        same(&rt, text, &Label::new(text.as_bytes()).is_some(), want);
-    }
+fn titles_and_labels(rt: HostRuntime) {
+    assert_titles(&rt, TITLES, true);
+    assert_titles(&rt, NO_TITLES, false);
+    assert_labels(&rt, LABELS, true);
+    assert_labels(&rt, NO_LABELS, false);
 }
 
-/// Labels and titles, and the text of a view that has both.
-const VIEWS: &[(&str, &str, &str)] = &[
-    ("terminal", "tab 1", "terminal:tab 1"),
-    ("b", "", "b"),
-    (
-        "abcdefghijklmnopqrst",
-        "abcdefghijkl",
-        "abcdefghijklmnopqrst:abcdefghijkl",
-    ),
-];
+/// The text of a view that has this label and title.
+fn assert_text(rt: &impl Abort, label: &str, title: &str, want: &str) {
+    let label = Label::new(label.as_bytes()).expect(rt, "a label");
+    let title = Title::new(title.as_bytes()).expect(rt, "a title");
+    let text = label_text(&label, &title);
+    same(rt, want, &text.as_bytes(), &want.as_bytes());
+}
 
 #[test]
 fn texts_of_views(rt: HostRuntime) {
-    for (label, title, want) in VIEWS {
-        let label = Label::new(label.as_bytes()).expect(&rt, "a label");
-        let title = Title::new(title.as_bytes()).expect(&rt, "a title");
-        let text = label_text(&label, &title);
-        same(&rt, want, &text.as_bytes(), &want.as_bytes());
-    }
+    assert_text(&rt, "terminal", "tab 1", "terminal:tab 1");
+    assert_text(&rt, "b", "", "b");
+    let longest = "abcdefghijklmnopqrst:abcdefghijkl";
+    assert_text(&rt, "abcdefghijklmnopqrst", "abcdefghijkl", longest);
 }

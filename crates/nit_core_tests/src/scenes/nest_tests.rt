@@ -4,7 +4,7 @@ ghost use Rattle.std.specs.Prelude.{◌≡◌, ◌*◌, IsTrue, All, length};
 ghost use Rattle.nit_nested.specs.Spelling.{FitsColour};
 
 use crate::same::same;
-use nit_nested::{Nest, NestError};
+use nit_nested::Nest;
 use nit_script::{Client, parse_client, print_client};
 use std::alloc::Global;
 use std::process::Abort;
@@ -67,27 +67,4 @@ fn two_frames(rt: HostRuntime) {
         fill 0 2 4 1 000020\nfill 4 2 4 1 0000FF\n\
         fill 0 3 4 1 000020\nfill 4 3 4 1 0000FF\nrefresh 0 0 8 4\n";
     same(&rt, want, &printed.as_slice(), &want.as_bytes());
-}
-
-/// Own lines of a script, and why they cannot show one frame.
-const REFUSED: [(&str, NestError); 5] = [
-    (
-        "view\nphase\nbuffer 1 1\nclose\n",
-        NestError::Bad { line: 3 },
-    ),
-    ("phase\nclose\n", NestError::Bad { line: 2 }),
-    ("fill 0 0 1 1 000000\n", NestError::Bad { line: 1 }),
-    ("check 0 0 1 1 000000 FFFFFF\n", NestError::Bad { line: 1 }),
-    ("view\nphase\n", NestError::Phases),
-];
-
-/// The lines that may not stand in the script come before the number of phases.
-#[test]
-fn refused(rt: HostRuntime) {
-    let mut nest = Nest::new(rt.alloc(), 8, 4);
-    add(&rt, &mut nest, &FIRST);
-    for (text, want) in &REFUSED {
-        let own = parse_client(rt.alloc(), text.as_bytes()).expect(&rt, "a script");
-        same(&rt, text, &nest.script(&own).err(), &Some(*want));
-    }
 }

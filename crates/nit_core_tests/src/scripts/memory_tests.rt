@@ -2,7 +2,7 @@
 
 use crate::same::same;
 use nit_config::FileName;
-use nit_events::{Entry, Event, Queue};
+use nit_events::Entry;
 use nit_journal::Journal;
 use nit_slots::{Slots, Table};
 use nit_stack::Stack;
@@ -51,20 +51,6 @@ fn greatest_size(rt: &impl Abort, alloc: Global) -> (u32, u32) {
 fn entries_of_none(rt: &impl Abort, alloc: Global) -> usize {
     let journal = Journal::with_room(alloc, 1_114_113).expect(rt, "a journal");
     journal.entries().len()
-}
-
-#[test]
-fn queue_of_events(rt: HostRuntime) {
-    let mut queue = Queue::new(rt.alloc()).expect(&rt, "a queue");
-    assert_queue(&rt, &mut queue);
-}
-
-fn assert_queue(rt: &impl Abort, queue: &mut Queue) {
-    let press = queue.offer(Event::Press(272));
-    let wheel = queue.offer(Event::Wheel(-1));
-    let found = (press, wheel, queue.take(), queue.len());
-    let want = (true, true, Some(Event::Press(272)), 1);
-    same(rt, "press, wheel, first, left", &found, &want);
 }
 
 #[test]

@@ -1,7 +1,7 @@
 //! Scripts that are read and printed again.
 
 use crate::same::same;
-use nit_script::{ScriptError, parse_client, parse_input, print_client, print_input};
+use nit_script::{parse_client, parse_input, print_client, print_input};
 use std::alloc::Global;
 use std::process::Abort;
 
@@ -48,27 +48,4 @@ fn assert_inputs(rt: &impl Abort, alloc: Global, texts: &[&'static str]) {
 fn scripts(rt: HostRuntime) {
     assert_clients(&rt, rt.alloc(), &CLIENTS);
     assert_inputs(&rt, rt.alloc(), &INPUTS);
-}
-
-/// Texts, and the line without a reading.
-const BAD_INPUTS: [(&str, u32); 7] = [
-    ("press 768\n", 1),
-    ("shot\nrelease 1000\n", 2),
-    ("motion 65536 0\n", 1),
-    ("wheel 128\n", 1),
-    ("wheel -128\n", 1),
-    ("phase\nphase\nview\n", 3),
-    ("shot", 1),
-];
-
-fn assert_bad(rt: &impl Abort, alloc: Global, rows: &[(&'static str, u32)]) {
-    for (text, line) in rows {
-        let answer = parse_input(alloc, text.as_bytes()).err();
-        same(rt, text, &answer, &Some(ScriptError::Bad { line: *line }));
-    }
-}
-
-#[test]
-fn input_lines_without_reading(rt: HostRuntime) {
-    assert_bad(&rt, rt.alloc(), &BAD_INPUTS);
 }
