@@ -1,7 +1,9 @@
-//! Tests of what is read and planned before a run: scripts that are printed again, and plans.
+//! Tests of what is read and planned before a run, and of what is told after it: scripts that are
+//! printed again, plans, and the texts of journals and events.
 //!
 //! They also run the calls that take the memory of a run, where there is enough.
 
 mod memory_tests;
 mod plan_tests;
 mod print_tests;
+mod text_tests;

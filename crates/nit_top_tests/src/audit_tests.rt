@@ -240,6 +240,26 @@ with audit
 file journal.txt =call 0 done < view 1\n
 ends 8 =nitpicker: journal.txt: line 1: bad journal\n
 
+case
+with audit
+file journal.txt =final\ncall 16 done < view\n
+ends 8 =nitpicker: journal.txt: line 2: bad journal\n
+
+case
+with audit
+file journal.txt =shot 0\n
+ends 8 =nitpicker: journal.txt: line 1: bad journal\n
+
+case
+with audit
+file journal.txt =shot 1\nfinal
+ends 8 =nitpicker: journal.txt: line 2: bad journal\n
+
+case four deliveries
+with audit
+file journal.txt =input press 30 > 0 press 30 > 0 press 30 > 0 press 30 > 0 press 30\n
+ends 8 =nitpicker: journal.txt: line 1: bad journal\n
+
 case an entry that is of no run stands before a line that is refused
 with audit
 file journal.txt =final\nfinal
