@@ -360,18 +360,9 @@ fn assert_audited<R: Abort + Threads + Wait + Sync>(
         table: CASES,
         lines: &lines,
     };
-    assert_put_and_audited(rt, alloc, &case, words)
-}
-
-fn assert_put_and_audited<R: Abort + Threads + Wait + Sync>(
-    rt: &R,
-    alloc: Global,
-    case: &Case,
-    words: &str,
-) -> Option<()> {
-    let (ran, mut store) = over(rt, alloc, case, words, files(alloc, case)?)?;
+    let (ran, mut store) = over(rt, alloc, &case, words, files(alloc, &case)?)?;
     same(rt, case.lines, &ran.status, &0);
-    audited(rt, alloc, case, &mut store)
+    audited(rt, alloc, &case, &mut store)
 }
 
 #[test]
