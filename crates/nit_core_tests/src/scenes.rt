@@ -12,3 +12,4 @@ mod hall_steps;
 mod hall_tests;
 mod load_tests;
 mod nest_tests;
+mod stage;
