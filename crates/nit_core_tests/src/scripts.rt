@@ -1,7 +1,7 @@
 //! Tests of what is read and planned before a run, and of what is told after it: scripts that are
-//! printed again, plans, and the texts of journals and events.
+//! printed again, plans, and the texts of journals.
 //!
-//! They also run the calls that take the memory of a run, where there is enough.
+//! They also run calls that take the most memory of a run, where there is enough.
 
 mod memory_tests;
 mod plan_tests;

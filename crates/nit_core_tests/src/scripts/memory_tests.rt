@@ -1,22 +1,11 @@
-//! Calls that may answer want of memory, where there is enough.
+//! Calls that may answer want of memory, for the most that they are asked for, where there is enough.
 
 use crate::same::same;
-use nit_config::FileName;
-use nit_events::Entry;
 use nit_journal::Journal;
 use nit_slots::{Slots, Table};
 use nit_stack::Stack;
 use std::alloc::Global;
 use std::process::Abort;
-
-#[test]
-fn journal_with_room(rt: HostRuntime) {
-    let mut journal = Journal::with_room(rt.alloc(), 1).expect(&rt, "a journal");
-    let empty = journal.entries().len();
-    journal.append(Entry::Final);
-    let entries = journal.entries();
-    same(&rt, "none, one", &(empty, entries), &(0, &[Entry::Final]));
-}
 
 #[test]
 fn greatest_of_all(rt: HostRuntime) {
@@ -51,10 +40,4 @@ fn greatest_size(rt: &impl Abort, alloc: Global) -> (u32, u32) {
 fn entries_of_none(rt: &impl Abort, alloc: Global) -> usize {
     let journal = Journal::with_room(alloc, 1_114_113).expect(rt, "a journal");
     journal.entries().len()
-}
-
-#[test]
-fn name_of_a_file(rt: HostRuntime) {
-    let name = FileName::new(rt.alloc(), b"still").expect(&rt, "a name");
-    same(&rt, "name", &name.as_str(), &"still");
 }

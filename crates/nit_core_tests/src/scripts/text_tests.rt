@@ -1,8 +1,8 @@
-//! Journals and events as texts.
+//! Journals as texts, and their entries as values.
 
 use crate::same::same;
-use nit_events::{Call, Delivery, Device, Entry, Event, Item, Reply, Routed, Status, Text};
-use nit_report::{Ending, events_text, journal_text, parse_journal};
+use nit_events::{Call, Delivery, Device, Entry, Event, Item, Reply, Routed};
+use nit_report::{journal_text, parse_journal};
 use std::alloc::Global;
 use std::process::Abort;
 
@@ -89,38 +89,4 @@ fn assert_entries(rt: &impl Abort, alloc: Global, text: &str, want: &[Entry]) {
 #[test]
 fn journal_read_again(rt: HostRuntime) {
     assert_entries(&rt, rt.alloc(), TWO, &TWO_ENTRIES);
-}
-
-/// A title that holds what parts a reply from a call and a delivery from a line.
-#[test]
-fn a_title_with_marks(rt: HostRuntime) {
-    let title = Text::new(b"a < b > c").expect(&rt, "a text");
-    let entries = [call!(3, Call::Title(2, title), Reply::BadTitle)];
-    let want = "call 3 bad-title < title 2 =a < b > c\n";
-    assert_text(&rt, rt.alloc(), &entries, want);
-}
-
-/// What two sessions take.
-const TAKEN: [Entry; 4] = [
-    call!(0, Call::Take, Reply::Event(Event::Motion(1, 1))),
-    call!(1, Call::Take, Reply::Event(Event::Leave)),
-    call!(0, Call::Take, Reply::Event(Event::FocusEnter)),
-    call!(0, Call::Take, Reply::NoEvent),
-];
-
-#[test]
-fn events_of_a_session(rt: HostRuntime) {
-    let want = b"motion 1 1\nfocus-enter\nlost 1\nleft 0\nstate live\n";
-    assert_events(&rt, rt.alloc(), &TAKEN, want);
-}
-
-/// What session 0 has taken, one event being lost and none left, has this text.
-fn assert_events(rt: &impl Abort, alloc: Global, entries: &[Entry], want: &[u8]) {
-    let end = Ending {
-        lost: 1,
-        left: 0,
-        status: Status::Live,
-    };
-    let text = events_text(alloc, entries, 0, &end).expect(rt, "memory for a text");
-    same(rt, "events", &text.as_slice(), &want);
 }
