@@ -371,13 +371,14 @@ fn journals_that_runs_put(rt: HostRuntime) {
     assert!(rt; assert_audited(&rt, rt.alloc(), "run, two.toml").is_some());
 }
 
-/// The lines of a case with this edit of its journal: of several lines for one file, or for the end,
-/// the last one counts.
+/// The lines of a case with this edit of its journal: of several lines for one file, or for the
+/// end, the last one counts.
 fn edited(alloc: Global, case: &Case, journal: &str, edit: &str) -> Option<String> {
     let (entry, edit) = worded(edit);
     let journal = edited_text(alloc, journal, edit)?;
     format!(in alloc;
-        "{}\nfile journal.txt ={journal}\nends 9 =nitpicker: journal.txt: entry {entry}: not a run\\n",
+        "{}\nfile journal.txt ={journal}\n\
+         ends 9 =nitpicker: journal.txt: entry {entry}: not a run\\n",
         case.lines
     )
     .ok()

@@ -239,7 +239,8 @@ ends 5 =nitpicker: two.toml: bad configuration: too long\n
 case what a client has where it says nothing may be said
 words turns, two.toml
 file two.toml =[screen]\nwidth = 8\nheight = 4\nbar = false\n\n[input]\nscript = "two.in"\n\n
-more two.toml =[[client]]\nlabel = "a"\nlayer = 0\nfocus = "click"\ndonation = 65536\nscript = "a.nit"\n\n
+more two.toml =[[client]]\nlabel = "a"\nlayer = 0\nfocus = "click"\n
+more two.toml =donation = 65536\nscript = "a.nit"\n\n
 more two.toml =[[client]]\nlabel = "b"\ndonation = 65536\nscript = "b.nit"\n
 file a.nit A
 file b.nit B

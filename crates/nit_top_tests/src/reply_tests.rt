@@ -51,6 +51,12 @@ text TITLES
 | title 1 =a:b
 | title 1 =a=b
 
+text MARKS
+| call 0 handle 1 < view
+| call 0 handle 2 < view
+| call 0 bad-title < title 2 =a < b > c
+| final
+
 text SMALL
 | [screen]
 | width = 8
@@ -179,7 +185,7 @@ replies 0 =handle 1\nhandle 2\ndone\nhandle 3\nno-reserve 257 256\ndone\nno-rese
 case a title with what parts a reply from a call and a delivery from a line
 with few
 file a.nit =view\nview\ntitle 2 =a < b > c\n
-holds journal.txt =call 0 handle 1 < view\ncall 0 handle 2 < view\ncall 0 bad-title < title 2 =a < b > c\nfinal\n
+holds journal.txt MARKS
 replies 0 =handle 1\nhandle 2\nbad-title\n
 
 case a buffer that is refused leaves the one before it

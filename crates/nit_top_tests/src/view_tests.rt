@@ -72,6 +72,10 @@ text LAYERS
 | donation = 65536
 | script = "b.nit"
 
+text LAYERED
+=layers.toml a.nit b.nit layers.in shot-1.ppm shot-2.ppm final.ppm events-a.txt events-b.txt
+= journal.txt
+
 text BEHIND
 | buffer 10 1
 | fill 0 0 5 1 FF0000
@@ -128,7 +132,7 @@ with offset
 more a.nit =offset 1 -1 -1\n
 picture final.ppm 8 4 =........\n.rbnK...\n.KKKK...\n........
 
-case three views of one client, of which the first comes above the last, above itself, and to the back
+case of three views the first comes above the last, above itself, and to the back
 words turns, order.toml
 file order.toml ORDER
 file a.nit THREE_VIEWS
@@ -148,8 +152,8 @@ file a.nit BEHIND
 file b.nit BEFORE
 file layers.in =phase\nphase\nphase\nshot\nphase\nphase\nshot\nphase\n
 ends 0 =nitpicker: clients 2 entries 17 frames 3\n
-asked =layers.toml a.nit b.nit layers.in shot-1.ppm shot-2.ppm final.ppm events-a.txt events-b.txt journal.txt
-there =layers.toml a.nit b.nit layers.in shot-1.ppm shot-2.ppm final.ppm events-a.txt events-b.txt journal.txt
+asked LAYERED
+there LAYERED
 picture shot-1.ppm 7 1 =RGGBBB.
 picture shot-2.ppm 7 1 =RRRBBB.
 picture final.ppm 7 1 =RRWBBBW

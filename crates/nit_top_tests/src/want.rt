@@ -4,8 +4,8 @@
 //! `picture NAME W H ROWS` a picture of this width and height, in whose rows a letter is a colour.
 //! Less is said by `is NAME long N`, a number of bytes; `is NAME among LETTERS`, a picture whose
 //! pixels have some of these colours; `is NAME all BYTE FRONT`, the same byte all over behind so
-//! many; `is NAME one-of TEXT..`, one of these texts; `is NAME begins TEXT`, bytes that begin so; and
-//! `is NAME marked N MARK`, so many bytes with this mark in hexadecimal digits.
+//! many; `is NAME one-of TEXT..`, one of these texts; `is NAME begins TEXT`, bytes that begin so;
+//! and `is NAME marked N MARK`, so many bytes with this mark in hexadecimal digits.
 
 use crate::case::bytes_of;
 use crate::table::{Case, number, worded};
@@ -87,7 +87,7 @@ fn push_rows(bytes: &mut Vec<u8>, rows: &str) -> Result<(), AllocError> {
 }
 
 /// R is red, G is green, B is blue, K is black, W is white, M is the grey of an outline, r, b and n
-/// are red, blue and the bare screen of half the light, g and t are green of half the light and blue
+/// are red, blue and the bare screen of half the light, g is green of half the light, t is blue
 /// that is tinted, and all else is bare.
 fn colour(letter: u8) -> [u8; 3] {
     match letter {

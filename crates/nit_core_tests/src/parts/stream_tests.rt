@@ -26,7 +26,8 @@ pub const RIGHT: [u8; 21] = [
     0,
 ];
 
-/// A film whose tiles are 16 by 16, 4 by 16, 16 by 2 and 4 by 2. Runs of 255 and 256 pixels are in its first tile.
+/// A film whose tiles are 16 by 16, 4 by 16, 16 by 2 and 4 by 2. Runs of 255 and 256 pixels are in
+/// its first tile.
 pub const CUT: [u8; 59] = [
     0x4E, 0x43, 0x41, 0x50, 20, 0, 18, 0, // NCAP, 20 by 18
     1, 2, 0, // two tiles

@@ -1,4 +1,5 @@
-//! Calls that may answer want of memory, for the most that they are asked for, where there is enough.
+//! Calls that may answer want of memory, for the most that they are asked for, where there is
+//! enough.
 
 use crate::same::same;
 use nit_journal::Journal;
