@@ -360,9 +360,18 @@ fn assert_audited<R: Abort + Threads + Wait + Sync>(
         table: CASES,
         lines: &lines,
     };
-    let (ran, mut store) = over(rt, alloc, &case, words, files(alloc, &case)?)?;
+    assert_put_and_audited(rt, alloc, &case, words)
+}
+
+fn assert_put_and_audited<R: Abort + Threads + Wait + Sync>(
+    rt: &R,
+    alloc: Global,
+    case: &Case,
+    words: &str,
+) -> Option<()> {
+    let (ran, mut store) = over(rt, alloc, case, words, files(alloc, case)?)?;
     same(rt, case.lines, &ran.status, &0);
-    audited(rt, alloc, &case, &mut store)
+    audited(rt, alloc, case, &mut store)
 }
 
 #[test]
@@ -419,19 +428,35 @@ fn assert_edits(rt: &impl Abort, alloc: Global, title: &str) -> Option<()> {
         lines: &lines,
     };
     let (journal, edits) = worded(case.last("edits")?);
-    let journal = case.text(alloc, journal)?;
+    assert_each_edit(rt, alloc, &case, &case.text(alloc, journal)?, edits)
+}
+
+/// Each of these edits of its journal does so.
+fn assert_each_edit(
+    rt: &impl Abort,
+    alloc: Global,
+    case: &Case,
+    journal: &str,
+    edits: &str,
+) -> Option<()> {
     let edits = case.text(alloc, edits)?;
     for edit in edits.lines() {
-        assert_edit(rt, alloc, &edited(alloc, &case, &journal, edit)?)?;
+        assert_edit(rt, alloc, case, journal, edit)?;
     }
     Some(())
 }
 
-/// The case of these lines comes out so.
-fn assert_edit(rt: &impl Abort, alloc: Global, lines: &str) -> Option<()> {
+fn assert_edit(
+    rt: &impl Abort,
+    alloc: Global,
+    case: &Case,
+    journal: &str,
+    edit: &str,
+) -> Option<()> {
+    let lines = edited(alloc, case, journal, edit)?;
     let case = Case {
         table: CASES,
-        lines,
+        lines: &lines,
     };
     assert_alone(rt, alloc, &case, files(alloc, &case)?)
 }

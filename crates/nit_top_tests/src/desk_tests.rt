@@ -2,7 +2,7 @@
 
 use crate::case::{bytes_of, files, over};
 use crate::table::{Case, lines};
-use crate::{Abort, Global, Threads, Wait, assert_cases, same};
+use crate::{Abort, Global, MemoryStore, Threads, Wait, assert_cases, same};
 
 const CASES: &str = r#"
 
@@ -143,8 +143,21 @@ fn last_picture<R: Abort + Threads + Wait + Sync>(
         table: CASES,
         lines: &lines,
     };
-    let (done, store) = over(rt, alloc, &case, words, files(alloc, &case)?)?;
+    picture_of(rt, alloc, &case, words)
+}
+
+fn picture_of<R: Abort + Threads + Wait + Sync>(
+    rt: &R,
+    alloc: Global,
+    case: &Case,
+    words: &str,
+) -> Option<Vec<u8>> {
+    let (done, store) = over(rt, alloc, case, words, files(alloc, case)?)?;
     same(rt, case.lines, &done.status, &0);
+    picture(alloc, &store)
+}
+
+fn picture(alloc: Global, store: &MemoryStore) -> Option<Vec<u8>> {
     bytes_of(store.files(), "final.ppm")?.to_vec(alloc).ok()
 }
 

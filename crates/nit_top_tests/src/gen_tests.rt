@@ -229,8 +229,18 @@ fn ran<R: Abort + Threads + Wait + Sync>(
         table: CASES,
         lines: &lines,
     };
-    let (done, store) = over(rt, alloc, &case, words, files)?;
-    assert_store(rt, alloc, &case, &done, &store)?;
+    came_out(rt, alloc, &case, words, files)
+}
+
+fn came_out<R: Abort + Threads + Wait + Sync>(
+    rt: &R,
+    alloc: Global,
+    case: &Case,
+    words: &str,
+    files: Files,
+) -> Option<MemoryStore> {
+    let (done, store) = over(rt, alloc, case, words, files)?;
+    assert_store(rt, alloc, case, &done, &store)?;
     Some(store)
 }
 

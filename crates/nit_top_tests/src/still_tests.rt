@@ -124,6 +124,10 @@ fn give_up(rt: &impl Abort, alloc: Global) -> Option<()> {
         table: CASES,
         lines: &lines,
     };
+    assert_given_up(rt, alloc, &case)
+}
+
+fn assert_given_up(rt: &impl Abort, alloc: Global, case: &Case) -> Option<()> {
     let done = Done {
         status: 7,
         journal: Vec::new(alloc),
@@ -133,7 +137,7 @@ fn give_up(rt: &impl Abort, alloc: Global) -> Option<()> {
         said: b"",
         files: &[],
     };
-    assert_end(rt, alloc, &case, &came)
+    assert_end(rt, alloc, case, &came)
 }
 
 /// It is refused by the case of the red rectangle.

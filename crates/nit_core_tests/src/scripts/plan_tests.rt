@@ -36,14 +36,19 @@ const SECOND_VIEW: Expect = Expect::Reply(Reply::Handle(2));
 const CLOSED: Expect = Expect::Reply(Reply::Closed);
 
 /// A script, its donation, its steps, and the words that it may draw.
-type PlanCase = (&'static str, u32, &'static [Step], &'static [u32]);
+struct PlanCase {
+    text: &'static str,
+    donation: u32,
+    steps: &'static [Step],
+    ink: &'static [u32],
+}
 
-static PLANS: [PlanCase; 4] = [
+const PLANS: &[PlanCase] = &[
     // A painter.
-    (
-        "buffer 4 2\nfill 0 0 4 2 FF0000\nview\nplace 1 0 0 4 2\nphase\nphase\nphase\n",
-        65536,
-        &[
+    PlanCase {
+        text: "buffer 4 2\nfill 0 0 4 2 FF0000\nview\nplace 1 0 0 4 2\nphase\nphase\nphase\n",
+        donation: 65536,
+        steps: &[
             step!(4, 2, DONE),
             step!(4, 2, Nothing),
             step!(4, 2, FIRST_VIEW),
@@ -52,13 +57,14 @@ static PLANS: [PlanCase; 4] = [
             step!(4, 2, Nothing),
             step!(4, 2, Nothing),
         ],
-        &[0xFF0000],
-    ),
+        ink: &[0xFF0000],
+    },
     // A session that the user kills.
-    (
-        "buffer 4 4\nfill 0 0 4 4 FF0000\nview\nplace 1 0 0 4 4\nphase\nphase\ntake\nview\nclose\n",
-        65536,
-        &[
+    PlanCase {
+        text: "buffer 4 4\nfill 0 0 4 4 FF0000\nview\nplace 1 0 0 4 4\n\
+         phase\nphase\ntake\nview\nclose\n",
+        donation: 65536,
+        steps: &[
             step!(4, 4, DONE),
             step!(4, 4, Nothing),
             step!(4, 4, FIRST_VIEW),
@@ -69,13 +75,13 @@ static PLANS: [PlanCase; 4] = [
             step!(4, 4, SECOND_VIEW),
             step!(0, 0, DONE),
         ],
-        &[0xFF0000],
-    ),
+        ink: &[0xFF0000],
+    },
     // A take behind a close.
-    (
-        "take\nbuffer 2 1\ncheck 0 0 2 1 000001 000002\nclose\ntake\nview\n",
-        512,
-        &[
+    PlanCase {
+        text: "take\nbuffer 2 1\ncheck 0 0 2 1 000001 000002\nclose\ntake\nview\n",
+        donation: 512,
+        steps: &[
             step!(0, 0, Taken),
             step!(2, 1, DONE),
             step!(2, 1, Nothing),
@@ -83,14 +89,14 @@ static PLANS: [PlanCase; 4] = [
             step!(0, 0, CLOSED),
             step!(0, 0, CLOSED),
         ],
-        &[1, 2],
-    ),
+        ink: &[1, 2],
+    },
     // Refusals of a small donation.
-    (
-        "buffer 4 4\nview\nbuffer 8 8\nupgrade 513\nupgrade 512\nbuffer 8 8\n\
+    PlanCase {
+        text: "buffer 4 4\nview\nbuffer 8 8\nupgrade 513\nupgrade 512\nbuffer 8 8\n\
          destroy 1\nview\nfront 1\n",
-        512,
-        &[
+        donation: 512,
+        steps: &[
             step!(4, 4, DONE),
             step!(4, 4, FIRST_VIEW),
             step!(
@@ -115,74 +121,69 @@ static PLANS: [PlanCase; 4] = [
             step!(8, 8, SECOND_VIEW),
             step!(8, 8, Expect::Reply(Reply::NoSuchView(1))),
         ],
-        &[],
-    ),
+        ink: &[],
+    },
 ];
 
-fn assert_plans(rt: &impl Abort, alloc: Global, cases: &[PlanCase]) {
-    for case in cases {
-        assert_plan(rt, alloc, case);
-    }
+/// A session may open with this donation.
+fn assert_donation(rt: &impl Abort, donation: u32)
+    ensures { IsDonation donation }
+{
+    assert!(rt; 256 <= donation && donation <= 8_388_608);
+}
+
+/// The plan of the text.
+fn planned(rt: &impl Abort, alloc: Global, case: &PlanCase) -> Plan {
+    assert_donation(rt, case.donation);
+    let client = parse_client(alloc, case.text.as_bytes()).expect(rt, "a script");
+    plan_of(alloc, &client, case.donation).expect(rt, "a plan")
+}
+
+/// The plan has these steps and this ink.
+fn assert_plan(rt: &impl Abort, case: &PlanCase, plan: &Plan) {
+    same(rt, case.text, &plan.steps(), &case.steps);
+    same(rt, case.text, &plan.ink(), &case.ink);
 }
 
 #[test]
 fn plans(rt: HostRuntime) {
-    assert_plans(&rt, rt.alloc(), &PLANS);
-}
-
-/// A script, its donation, the most words that it may have, and the first of those that it leaves.
-type WordsCase = (&'static str, u32, usize, &'static [u32]);
-
-static WORDS: [WordsCase; 3] = [
-    // The red rectangle.
-    (
-        "buffer 4 2\nfill 0 0 4 2 FF0000\nview\nplace 1 1 1 4 2\n",
-        65536,
-        16384,
-        &[0xFF0000; 8],
-    ),
-    // An accepted buffer clears its own words alone.
-    (
-        "buffer 2 2\nfill 0 0 2 2 000007\nbuffer 3 1\nfill 1 0 1 1 000009\n",
-        512,
-        128,
-        &[0, 9, 0, 7],
-    ),
-    // A refused one clears nothing, and a stroke after the close has no place.
-    (
-        "buffer 2 2\nfill 0 0 2 2 000007\nbuffer 9 9\nclose\nfill 0 0 2 2 000009\n",
-        512,
-        128,
-        &[7, 7, 7, 7],
-    ),
-];
-
-fn assert_all_words(rt: &impl Abort, alloc: Global, cases: &[WordsCase]) {
-    for case in cases {
-        assert_words(rt, alloc, case);
+    for case in PLANS {
+        let plan = planned(&rt, rt.alloc(), case);
+        assert_plan(&rt, case, &plan);
     }
 }
 
-#[test]
-fn words(rt: HostRuntime) {
-    assert_all_words(&rt, rt.alloc(), &WORDS);
+/// A script, its donation, the most words that it may have, and the first of those that it leaves.
+struct WordsCase {
+    text: &'static str,
+    donation: u32,
+    most: usize,
+    first: &'static [u32],
 }
 
-/// The plan of the text has these steps and this ink.
-fn assert_plan(rt: &impl Abort, alloc: Global, case: &PlanCase) {
-    let (text, donation, steps, ink) = *case;
-    assert!(rt; 256 <= donation && donation <= 8_388_608);
-    let plan = planned(rt, alloc, text, donation);
-    same(rt, text, &(plan.steps(), plan.ink()), &(steps, ink));
-}
-
-/// The plan of a text.
-fn planned(rt: &impl Abort, alloc: Global, text: &str, donation: u32) -> Plan
-    requires { IsDonation donation }
-{
-    let client = parse_client(alloc, text.as_bytes()).expect(rt, "a script");
-    plan_of(alloc, &client, donation).expect(rt, "a plan")
-}
+const WORDS: &[WordsCase] = &[
+    // The red rectangle.
+    WordsCase {
+        text: "buffer 4 2\nfill 0 0 4 2 FF0000\nview\nplace 1 1 1 4 2\n",
+        donation: 65536,
+        most: 16384,
+        first: &[0xFF0000; 8],
+    },
+    // An accepted buffer clears its own words alone.
+    WordsCase {
+        text: "buffer 2 2\nfill 0 0 2 2 000007\nbuffer 3 1\nfill 1 0 1 1 000009\n",
+        donation: 512,
+        most: 128,
+        first: &[0, 9, 0, 7],
+    },
+    // A refused one clears nothing, and a stroke after the close has no place.
+    WordsCase {
+        text: "buffer 2 2\nfill 0 0 2 2 000007\nbuffer 9 9\nclose\nfill 0 0 2 2 000009\n",
+        donation: 512,
+        most: 128,
+        first: &[7, 7, 7, 7],
+    },
+];
 
 /// All lines of the script, done one after the other on the words of a new session.
 fn strokes(alloc: Global, client: &Client, donation: u32) -> Result<Inked, NoMemory>
@@ -208,27 +209,27 @@ fn do_lines(glass: &mut Inked, client: &Client, plan: &Plan, donation: u32)
     }
 }
 
-/// What the lines of a text leave.
-fn glass_of(rt: &impl Abort, alloc: Global, text: &str, donation: u32) -> Inked
-    requires { IsDonation donation }
-{
-    let client = parse_client(alloc, text.as_bytes()).expect(rt, "a script");
-    strokes(alloc, &client, donation).expect(rt, "a glass")
+/// What the lines of the text leave.
+fn glass_of(rt: &impl Abort, alloc: Global, case: &WordsCase) -> Inked {
+    assert_donation(rt, case.donation);
+    let client = parse_client(alloc, case.text.as_bytes()).expect(rt, "a script");
+    strokes(alloc, &client, case.donation).expect(rt, "a glass")
 }
 
-/// The lines of the text leave these words first, and all others 0.
-fn assert_words(rt: &impl Abort, alloc: Global, case: &WordsCase) {
-    let (text, donation, count, first) = *case;
-    assert!(rt; 256 <= donation && donation <= 8_388_608);
-    let glass = glass_of(rt, alloc, text, donation);
-    assert!(rt; glass.words().len() <= count);
-    assert_begin(rt, text, glass.words(), first);
+/// The first words are these, and all others 0.
+fn assert_words(rt: &impl Abort, case: &WordsCase, words: &[u32]) {
+    let fits = (case.first.len() <= words.len(), words.len() <= case.most);
+    same(rt, case.text, &fits, &(true, true));
+    for (k, word) in words.iter().enumerate() {
+        let want = case.first.get(k).unwrap_or(&0);
+        same(rt, case.text, &(k, word), &(k, want));
+    }
 }
 
-/// These words come first, and all others are 0.
-fn assert_begin(rt: &impl Abort, text: &str, words: &[u32], first: &[u32]) {
-    assert!(rt; first.len() <= words.len());
-    let (begin, rest) = words.split_at(first.len());
-    let blank = rest.iter().all(|word| *word == 0);
-    same(rt, text, &(begin, blank), &(first, true));
+#[test]
+fn words(rt: HostRuntime) {
+    for case in WORDS {
+        let glass = glass_of(&rt, rt.alloc(), case);
+        assert_words(&rt, case, glass.words());
+    }
 }
