@@ -420,8 +420,8 @@ fn change<'a>(lines: &mut Vec<&'a str>, edit: &'a str) -> Option<()> {
     Some(())
 }
 
-/// Each edit of the journal of the case of this title makes it one of no run.
-fn assert_edits(rt: &impl Abort, alloc: Global, title: &str) -> Option<()> {
+/// Each edit of the journal of the case of this title makes it one of no run: how many there are.
+fn assert_edits(rt: &impl Abort, alloc: Global, title: &str) -> Option<u64> {
     let lines = lines_of(alloc, CASES, title)?;
     let case = Case {
         table: CASES,
@@ -431,19 +431,21 @@ fn assert_edits(rt: &impl Abort, alloc: Global, title: &str) -> Option<()> {
     assert_each_edit(rt, alloc, &case, &case.text(alloc, journal)?, edits)
 }
 
-/// Each of these edits of its journal does so.
+/// Each of these edits of its journal does so: how many there are.
 fn assert_each_edit(
     rt: &impl Abort,
     alloc: Global,
     case: &Case,
     journal: &str,
     edits: &str,
-) -> Option<()> {
+) -> Option<u64> {
     let edits = case.text(alloc, edits)?;
+    let mut count: u64 = 0;
     for edit in edits.lines() {
         assert_edit(rt, alloc, case, journal, edit)?;
+        count = count.saturating_add(1);
     }
-    Some(())
+    Some(count)
 }
 
 fn assert_edit(
@@ -463,7 +465,7 @@ fn assert_edit(
 
 #[test]
 fn edited_journals(rt: HostRuntime) {
-    assert!(rt; assert_edits(&rt, rt.alloc(), "two clients").is_some());
-    assert!(rt; assert_edits(&rt, rt.alloc(), "a client is locked out").is_some());
-    assert!(rt; assert_edits(&rt, rt.alloc(), "three views").is_some());
+    assert!(rt; assert_edits(&rt, rt.alloc(), "two clients") == Some(40));
+    assert!(rt; assert_edits(&rt, rt.alloc(), "a client is locked out") == Some(18));
+    assert!(rt; assert_edits(&rt, rt.alloc(), "three views") == Some(8));
 }

@@ -11,6 +11,54 @@ text NAMES
 = events-g0.txt events-g1.txt events-g2.txt events-g3.txt events-g4.txt events-g5.txt
 = events-g6.txt events-g7.txt journal.txt
 
+text CONFIGURATION
+| [screen]
+| width = 320
+| height = 240
+|
+| [input]
+| script = "gen.in"
+|
+| [[client]]
+| label = "g0"
+| donation = 262144
+| script = "g0.nit"
+|
+| [[client]]
+| label = "g1"
+| donation = 262144
+| script = "g1.nit"
+|
+| [[client]]
+| label = "g2"
+| donation = 262144
+| script = "g2.nit"
+|
+| [[client]]
+| label = "g3"
+| donation = 262144
+| script = "g3.nit"
+|
+| [[client]]
+| label = "g4"
+| donation = 262144
+| script = "g4.nit"
+|
+| [[client]]
+| label = "g5"
+| donation = 262144
+| script = "g5.nit"
+|
+| [[client]]
+| label = "g6"
+| donation = 262144
+| script = "g6.nit"
+|
+| [[client]]
+| label = "g7"
+| donation = 262144
+| script = "g7.nit"
+
 text FIRST_LINES
 | buffer 128 96
 | fill 0 0 128 96 AF2EC6
@@ -96,6 +144,8 @@ sessions 8
 case a run between, of whose first client's lines at least one of each kind is here
 with gen
 is gen.toml marked 549 850A3D75
+holds gen.toml CONFIGURATION
+is final.ppm long 230415
 is g0.nit marked 33078 669A12F7
 is g1.nit marked 33113 8C94D15D
 is g2.nit marked 33079 5818F908

@@ -63,6 +63,35 @@ text SHY
 | donation = 65536
 | script = "pb.nit"
 
+text CLICKING
+| [screen]
+| width = 8
+| height = 4
+|
+| [input]
+| script = "pair.in"
+|
+| [[client]]
+| label = "a"
+| donation = 65536
+| script = "pa.nit"
+| layer = 0
+| focus = "click"
+|
+| [[client]]
+| label = "b"
+| donation = 65536
+| script = "pb.nit"
+
+text DRAG_AND_KEY
+| phase
+| motion 1 1
+| press 272
+| motion 5 1
+| release 272
+| motion 6 1
+| press 30
+
 text HELD
 | phase
 | press 30
@@ -169,6 +198,15 @@ text TAKING_A
 | phase
 6 =take\n
 
+text TAKING_ONE
+| buffer 4 4
+| fill 0 0 4 4 FF0000
+| view
+| place 1 0 0 4 4
+| phase
+| phase
+| take
+
 text TAKING_B
 | buffer 4 4
 | fill 0 0 4 4 0000FF
@@ -208,6 +246,7 @@ text CLOSED_ENTRIES
 | input press 272 > 0 focus-enter > 0 press 272
 | call 0 done < close
 | input release 272
+| input press 30
 | final
 
 text EDGE_ENTRIES
@@ -229,6 +268,24 @@ text SHY_ENTRIES
 | input motion 5 1 > 0 motion 5 1
 | input release 272 > 0 release 272
 | input motion 6 1 > 0 leave > 1 motion 6 1
+| final
+
+text DRAG_AND_KEY_ENTRIES
+| input motion 1 1 > 0 motion 1 1
+| input press 272 > 0 focus-enter > 0 press 272
+| input motion 5 1 > 0 motion 5 1
+| input release 272 > 0 release 272
+| input motion 6 1 > 0 leave > 1 motion 6 1
+| input press 30 > 0 press 30
+| final
+
+text SHY_AND_KEY_ENTRIES
+| input motion 1 1 > 0 motion 1 1
+| input press 272 > 0 press 272
+| input motion 5 1 > 0 motion 5 1
+| input release 272 > 0 release 272
+| input motion 6 1 > 0 leave > 1 motion 6 1
+| input press 30
 | final
 
 text HELD_ENTRIES
@@ -288,6 +345,24 @@ file pb.nit PB
 file pair.in DRAG
 whole PLACED SHY_ENTRIES
 
+case that it takes the focus by clicks may be said, and a key goes to it then
+with pair
+file pair.toml CLICKING
+file pa.nit PA
+file pb.nit PB
+file pair.in DRAG_AND_KEY
+ends 0 =nitpicker: clients 2 entries 13 frames 1\n
+whole PLACED DRAG_AND_KEY_ENTRIES
+
+case where it takes none, a key goes to nobody
+with pair
+file pair.toml SHY
+file pa.nit PA
+file pb.nit PB
+file pair.in DRAG_AND_KEY
+ends 0 =nitpicker: clients 2 entries 13 frames 1\n
+whole PLACED SHY_AND_KEY_ENTRIES
+
 case a key is held before the first click
 with pair
 file pair.toml PAIR
@@ -307,13 +382,13 @@ ends 0 =nitpicker: clients 2 entries 13 frames 1\n
 picture final.ppm 8 4 XRAY
 whole PLACED MODES_ENTRIES
 
-case a session that closes gets nothing of what is still held
+case a session that closes gets nothing of what is still held, and has no focus then
 with pair
 file pair.toml PAIR
 file pa.nit CLOSING
 file pb.nit STAYING
-file pair.in =phase\npress 272\nphase\nphase\nrelease 272\n
-ends 0 =nitpicker: clients 2 entries 10 frames 1\n
+file pair.in =phase\npress 272\nphase\nphase\nrelease 272\npress 30\n
+ends 0 =nitpicker: clients 2 entries 11 frames 1\n
 whole PLACED CLOSED_ENTRIES
 
 case the pointer stays on the screen, and where it is when the wheel turns
@@ -334,6 +409,15 @@ file pair.in DRAG_AND_PHASE
 ends 0 =nitpicker: clients 2 entries 20 frames 1\n
 holds events-a.txt TAKEN_A
 holds events-b.txt TAKEN_B
+
+case of six events it takes one, so five are left
+with pair
+file pair.toml PAIR
+file pa.nit TAKING_ONE
+file pb.nit TAKING_B
+file pair.in DRAG_AND_PHASE
+ends 0 =nitpicker: clients 2 entries 15 frames 1\n
+holds events-a.txt =motion 1 1\nlost 0\nleft 5\nstate live\n
 
 case the queue keeps 64 of 65 motions
 with pair

@@ -92,7 +92,7 @@ text REFRESHING
 | phase
 | phase
 | fill 0 0 12 7 00FF00
-| refresh 2 1 3 2
+| refresh 1 2 7 2
 | phase
 
 text WIDE_AND_PHASES
@@ -107,9 +107,9 @@ text WIDE_AND_PHASES
 
 text REFRESHED
 | MMMMMMMMMMMM
-| MbbMgrrrrrrM
-| MbbMgrrrrrrM
 | MbbMrrrrrrrM
+| MbbMggggrrrM
+| MbbMggggrrrM
 | MbbMrrrrrrrM
 | MbbMrrrrrrrM
 | MMMMMMMMMMMM
@@ -170,6 +170,31 @@ text KILLING
 | press 272
 | release 272
 | phase
+
+text KILLING_AND_KEY
+| phase
+| motion 1 1
+| press 272
+| release 272
+| press 99
+| press 272
+| release 272
+| press 30
+| phase
+
+text KILLED_AND_KEY_ENTRIES
+| input motion 1 1 > 0 motion 1 1
+| input press 272 > 0 focus-enter > 0 press 272
+| input release 272 > 0 release 272
+| input press 99 > 0 leave
+| input press 272 > 0 kill
+| input release 272
+| input press 30
+| call 0 killed < take
+| call 1 no-event < take
+| call 0 killed < view
+| call 0 killed < close
+| final
 
 text KILLED
 | ....BBBB
@@ -234,6 +259,7 @@ text SEVENTH
 | label = "b"
 | donation = 65536
 | script = "pb.nit"
+| layer = 6
 
 text PA
 | buffer 4 4
@@ -374,6 +400,12 @@ with kill
 ends 0 =nitpicker: clients 2 entries 17 frames 1\n
 picture final.ppm 8 4 KILLED
 whole PLACED KILLED_ENTRIES
+
+case and the focus is nobody's then
+with kill
+file kill.in KILLING_AND_KEY
+ends 0 =nitpicker: clients 2 entries 18 frames 1\n
+whole PLACED KILLED_AND_KEY_ENTRIES
 
 case where it does nothing, the second client is answered the same
 with kill

@@ -39,6 +39,44 @@ text ROOM_BESIDE_VIEWS
 | out-of-quota 8388608 8372224
 | done
 
+text VIEWS_AGAIN
+64 =view\n
+| destroy 1
+| view
+| view
+
+text HANDLES_AGAIN
+64 =handle {1+1}\n
+| done
+| handle 65
+| too-many-views
+
+text LEAST
+| [screen]
+| width = 8
+| height = 4
+|
+| [input]
+| script = "no.in"
+|
+| [[client]]
+| label = "a"
+| donation = 256
+| script = "a.nit"
+
+text GREATEST
+| [screen]
+| width = 8
+| height = 4
+|
+| [input]
+| script = "no.in"
+|
+| [[client]]
+| label = "a"
+| donation = 8388608
+| script = "a.nit"
+
 text TITLES
 | view
 | title 1 =
@@ -152,6 +190,12 @@ file a.nit TITLES
 ends 0 =nitpicker: clients 1 entries 11 frames 1\n
 replies 0 =handle 1\ndone\ndone\ndone\ndone\ndone\nbad-title\nbad-title\nbad-title\nbad-title\n
 
+case a view that goes makes room for another one, which has a handle of its own
+with all
+file a.nit VIEWS_AGAIN
+ends 0 =nitpicker: clients 1 entries 68 frames 1\n
+replies 0 HANDLES_AGAIN
+
 base few
 words turns, small.toml
 file small.toml SMALL
@@ -170,6 +214,25 @@ with few
 file a.nit =buffer 4 4\nbuffer 8 8\n
 ends 0 =nitpicker: clients 1 entries 3 frames 1\n
 replies 0 =done\ndone\n
+
+case of which nothing is left
+with few
+file a.nit =buffer 4 4\nbuffer 8 8\nview\n
+replies 0 =done\ndone\nout-of-quota 256 0\n
+
+case the least donation
+with few
+file small.toml LEAST
+file a.nit =view\nview\n
+ends 0 =nitpicker: clients 1 entries 3 frames 1\n
+replies 0 =handle 1\nout-of-quota 256 0\n
+
+case the greatest donation
+with few
+file small.toml GREATEST
+file a.nit =buffer 4096 256\nview\n
+ends 0 =nitpicker: clients 1 entries 3 frames 1\n
+replies 0 =done\nout-of-quota 256 0\n
 
 case
 with few

@@ -360,6 +360,36 @@ fn assert_front(rt: &impl Abort, alloc: Global, of: &Stream, row: &Front) {
     }
 }
 
+/// How many fronts the rows are of.
+fn fronts(rows: &[Front]) -> usize {
+    let mut count: usize = 0;
+    for (from, to, _) in rows {
+        count = count
+            .saturating_add(to.saturating_sub(*from))
+            .saturating_add(1);
+    }
+    count
+}
+
+/// How many changes they are of.
+fn changes(rows: &[Change]) -> usize {
+    let mut count: usize = 0;
+    for (_, from, to, _) in rows {
+        count = count
+            .saturating_add(to.saturating_sub(*from) as usize)
+            .saturating_add(1);
+    }
+    count
+}
+
+/// Each front of a stream is in a row, and each of the 255 other bytes in each place.
+fn assert_whole(rt: &impl Abort, of: &Stream) {
+    let length = of.bytes.len();
+    let found = (fronts(of.fronts), changes(of.changes));
+    let want = (length.saturating_add(1), length.saturating_mul(255));
+    same(rt, of.name, &found, &want);
+}
+
 fn assert_fronts(rt: &impl Abort, alloc: Global, of: &Stream) {
     for row in of.fronts {
         assert_front(rt, alloc, of, row);
@@ -386,6 +416,7 @@ fn assert_changes(rt: &impl Abort, alloc: Global, of: &Stream) {
 #[test]
 fn streams(rt: HostRuntime) {
     for of in STREAMS {
+        assert_whole(&rt, of);
         assert_fronts(&rt, rt.alloc(), of);
         assert_changes(&rt, rt.alloc(), of);
     }

@@ -2,6 +2,7 @@
 //! enough.
 
 use crate::same::same;
+use nit_clip::Clip;
 use nit_journal::Journal;
 use nit_slots::{Slots, Table};
 use nit_stack::Stack;
@@ -14,12 +15,13 @@ fn greatest_of_all(rt: HostRuntime) {
     let last = last_of_none(&rt, rt.alloc());
     let size = greatest_size(&rt, rt.alloc());
     let count = entries_of_none(&rt, rt.alloc());
-    let found = (taken, last, size, count);
+    let calls = calls_of_none(&rt, rt.alloc());
+    let found = (taken, last, size, count, calls);
     same(
         &rt,
-        "slots, table, stack, empty",
+        "slots, table, stack, journal, clip list",
         &found,
-        &(0, None, (1024, 768), 0),
+        &(0, None, (1024, 768), 0, 0),
     );
 }
 
@@ -41,4 +43,9 @@ fn greatest_size(rt: &impl Abort, alloc: Global) -> (u32, u32) {
 fn entries_of_none(rt: &impl Abort, alloc: Global) -> usize {
     let journal = Journal::with_room(alloc, 1_114_113).expect(rt, "a journal");
     journal.entries().len()
+}
+
+fn calls_of_none(rt: &impl Abort, alloc: Global) -> usize {
+    let clip = Clip::with_room(alloc, 1_048_576).expect(rt, "a clip list");
+    clip.entries().len()
 }
