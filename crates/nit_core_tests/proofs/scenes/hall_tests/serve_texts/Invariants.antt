@@ -1,4 +1,0 @@
-use Rattle.nit_core_tests.proofs.scenes.hall_tests.serve_texts.Given as goal
-
-abbrev pub ghosts-serve_all : goal.ghosts-serve_all
-ghosts-serve_all g a = record { parts = a.opened.opened.room.parts }

@@ -1,0 +1,129 @@
+//! What a screen of 8 by 4 holds after its pieces were painted.
+
+ghost use Rattle.std.specs.Prelude.{◌≡◌, ◌≤◌, length, pos};
+ghost use Rattle.nit_rect.specs.Rectangle.{IsPlace, rectangle};
+ghost use Rattle.nit_stack.specs.Stack.{empty_stack};
+ghost use Rattle.nit_tests.specs.Painted.{one_view};
+
+use crate::checks::same;
+use nit_paint::{paint_bare, paint_view};
+use nit_rect::Rect;
+use nit_stack::{Piece, Stack, ViewRef};
+use nit_word::{Glass, Inked, Plain};
+use std::alloc::Global;
+use std::process::Abort;
+
+/// The screen of 8 by 4 on which one view of 4 by 2 stands at (1, 1), after the view's rectangle
+/// was painted, and what is to the right of it. The view's session has a buffer of 4 by 2.
+fn painted<G: Glass>(rt: &impl Abort, alloc: Global, ox: i32, oy: i32, glass: &mut G) -> [u32; 32]
+    requires offset { IsPlace ox × IsPlace oy }
+    requires words { 8 ≤ (G.sight glass.old).size }
+{
+    let Some(viewed) = Rect::new(1, 1, 4, 2) else {
+        unreachable!()
+    };
+    let Some(beside) = Rect::new(5, 0, 3, 4) else {
+        unreachable!()
+    };
+    let mut stack = Stack::new(alloc, 8, 4, 1, 1).expect(rt, "memory");
+    put_view(&mut stack, viewed, ox, oy);
+    let mut raw = [7; 32];
+    paint_pieces(&stack, viewed, beside, ox, oy, &mut raw, glass);
+    raw
+}
+
+/// Puts the view on the screen.
+fn put_view(stack: &mut Stack, viewed: Rect, ox: i32, oy: i32)
+    requires empty { stack.old ≡ empty_stack 8 4 1 1 }
+    requires offset { IsPlace ox × IsPlace oy }
+    ensures { stack.new ≡ one_view viewed ox oy }
+{
+    stack.set_buffer(0, 4, 2);
+    stack.push_front(ViewRef(0), 0, 1);
+    stack.place(ViewRef(0), viewed);
+    stack.offset(ViewRef(0), ox, oy);
+}
+
+/// Paints both pieces.
+fn paint_pieces<G: Glass>(
+    stack: &Stack,
+    viewed: Rect,
+    beside: Rect,
+    ox: i32,
+    oy: i32,
+    raw: &mut [u32],
+    glass: &mut G,
+)
+    requires stack { stack.now ≡ one_view viewed ox oy }
+    requires viewed { viewed ≡ rectangle (pos 1) (pos 1) 4 2 }
+    requires beside { beside ≡ rectangle (pos 5) (pos 0) 3 4 }
+    requires raw { length raw.old ≡ 32 }
+    requires words { 8 ≤ (G.sight glass.old).size }
+{
+    let of_view = Piece {
+        rect: viewed,
+        owner: Some(ViewRef(0)),
+    };
+    paint_view(stack, raw, &of_view, glass);
+    let bare = Piece {
+        rect: beside,
+        owner: None,
+    };
+    paint_bare(stack, raw, &bare);
+}
+
+/// The same where the buffer moves by so much and has other words in each of its pixels.
+fn plain(rt: &impl Abort, alloc: Global, ox: i32, oy: i32) -> [u32; 32]
+    requires { IsPlace ox × IsPlace oy }
+{
+    let words = vec![in alloc; 11, 12, 13, 14, 21, 22, 23, 24].expect(rt, "memory");
+    let mut glass = Plain::new(0, words);
+    painted(rt, alloc, ox, oy, &mut glass)
+}
+
+/// The view moves its buffer by one column: its first column is black, and it shows three columns.
+#[test]
+fn moved_by_one_column(rt: HostRuntime) {
+    #[rattlefmt::skip]
+    let want = &[
+        7, 7, 7, 7, 7, 32, 32, 32, 7, 0, 11, 12, 13, 32, 32, 32, 7, 0, 21, 22, 23, 32, 32, 32, 7,
+        7, 7, 7, 7, 32, 32, 32,
+    ];
+    same(
+        &rt,
+        "moved by one column",
+        &plain(&rt, rt.alloc(), 1, 0),
+        want,
+    );
+}
+
+/// The buffer moved up and to the left: its last row and its last three columns are shown.
+#[test]
+fn moved_to_the_left_and_up(rt: HostRuntime) {
+    let alloc = rt.alloc();
+    let ink = vec![in alloc; 255, 256].expect(&rt, "memory");
+    let words = vec![in alloc; 255, 255, 255, 255, 256, 0, 255, 256].expect(&rt, "memory");
+    let mut glass = Inked::new(0, words, ink);
+    #[rattlefmt::skip]
+    let want = &[
+        7, 7, 7, 7, 7, 32, 32, 32, 7, 0, 255, 256, 0, 32, 32, 32, 7, 0, 0, 0, 0, 32, 32, 32, 7, 7,
+        7, 7, 7, 32, 32, 32,
+    ];
+    same(
+        &rt,
+        "moved to the left and up",
+        &painted(&rt, alloc, -1, -1, &mut glass),
+        want,
+    );
+}
+
+/// The buffer lies where the view does.
+#[test]
+fn not_moved(rt: HostRuntime) {
+    #[rattlefmt::skip]
+    let want = &[
+        7, 7, 7, 7, 7, 32, 32, 32, 7, 11, 12, 13, 14, 32, 32, 32, 7, 21, 22, 23, 24, 32, 32, 32, 7,
+        7, 7, 7, 7, 32, 32, 32,
+    ];
+    same(&rt, "not moved", &plain(&rt, rt.alloc(), 0, 0), want);
+}

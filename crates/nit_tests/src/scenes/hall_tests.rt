@@ -1,0 +1,192 @@
+//! Clip scripts that are served beside clients' scripts, through a hall: what each clip call is
+//! answered is what the clip list has of it at the end.
+
+ghost use Rattle.nit_config.specs.ConfigurationRanges.{IsConfiguration};
+ghost use Rattle.nit_tests.specs.HallOpening.{IsOpenRoom};
+
+use crate::checks::{must, same};
+use crate::scenes::actors::{Client, User, clients};
+use crate::scenes::hall_opening::{buffers_of, canvases_of, plans_of};
+use nit_clip::{ClipEntry, ClipReply, ClipScript, clip_text, parse_clip};
+use nit_config::{Config, read_config};
+use nit_hall::{ClipOpened, Hall, Name, Opened, Parts, open, open_clips};
+use nit_script::{Client as ClientScript, Input, parse_client, parse_input};
+use std::alloc::Global;
+use std::marker::Brand;
+use std::process::Abort;
+use std::sync::Wait;
+
+/// Both clients of the drag, with a further phase.
+const PAIR: &str = "[screen]\nwidth = 8\nheight = 4\n\n[input]\nscript = \"pair.in\"\n\n\
+                    [[client]]\nlabel = \"a\"\ndonation = 65536\nscript = \"pa.nit\"\n\n\
+                    [[client]]\nlabel = \"b\"\ndonation = 65536\nscript = \"pb.nit\"\n";
+
+/// The first client alone.
+const ONE: &str = "[screen]\nwidth = 8\nheight = 4\n\n[input]\nscript = \"one.in\"\n\n\
+                   [[client]]\nlabel = \"a\"\ndonation = 65536\nscript = \"pa.nit\"\n";
+
+const LEFT: &str = "buffer 4 4\nfill 0 0 4 4 FF0000\nview\nplace 1 0 0 4 4\nphase\nphase\n";
+
+const RIGHT: &str = "buffer 4 4\nfill 0 0 4 4 0000FF\nview\nplace 1 4 0 4 4\nphase\nphase\n";
+
+/// A click on the left half.
+const CLICK: &str = "phase\nmotion 1 1\npress 272\nrelease 272\nphase\n";
+
+/// How many phases there are.
+const PHASES: u32 = 3;
+
+/// Asks once, in the last phase.
+const LATE: &str = "phase\nphase\npaste\n";
+
+/// Texts of a run, and the text of its clip list at the end.
+#[derive(Drop)]
+struct Row {
+    config: &'static str,
+    scripts: &'static [&'static str],
+    clips: &'static [&'static str],
+    wanted: &'static str,
+}
+
+/// The first asks without the focus, and then copies and pastes with it; the second never has it.
+static TWO_CLIENTS: Row = Row {
+    config: PAIR,
+    scripts: &[LEFT, RIGHT],
+    clips: &["paste\nphase\nphase\ncopy =hi\npaste\n", LATE],
+    wanted: "clip 3 0 not-focused < paste\n\
+        clip 9 0 copied < copy =hi\n\
+        clip 9 0 pasted =hi < paste\n\
+        clip 9 1 not-focused < paste\n",
+};
+
+/// A client alone that is focused by a click and only pastes.
+static ONE_CLIENT: Row = Row {
+    config: ONE,
+    scripts: &[LEFT],
+    clips: &[LATE],
+    wanted: "clip 6 0 empty < paste\n",
+};
+
+#[test]
+fn two_clients_through_a_hall(rt: HostRuntime) {
+    serve_row(&rt, rt.alloc(), &TWO_CLIENTS);
+}
+
+#[test]
+fn one_client_through_a_hall(rt: HostRuntime) {
+    serve_row(&rt, rt.alloc(), &ONE_CLIENT);
+}
+
+/// Reads all texts, serves them through a hall, and looks at the clip list that is wanted.
+fn serve_row<R: Abort + Wait>(rt: &R, alloc: Global, row: &Row) {
+    let config = read_config(alloc, row.config.as_bytes()).expect(rt, "a configuration");
+    let read = Read {
+        scripts: scripts_of(rt, alloc, row.scripts),
+        input: parse_input(alloc, CLICK.as_bytes()).expect(rt, "an input"),
+        clips: clip_scripts_of(rt, alloc, row.clips),
+    };
+    serve_texts(rt, alloc, &config, &read, row.wanted.as_bytes());
+}
+
+fn scripts_of(rt: &impl Abort, alloc: Global, texts: &[&str]) -> Vec<ClientScript> {
+    let mut scripts = Vec::new(alloc);
+    for text in texts {
+        let script = parse_client(alloc, text.as_bytes()).expect(rt, "a script");
+        scripts.push(script).expect(rt, "memory for a script");
+    }
+    scripts
+}
+
+fn clip_scripts_of(rt: &impl Abort, alloc: Global, texts: &[&str]) -> Vec<ClipScript> {
+    let mut scripts = Vec::new(alloc);
+    for text in texts {
+        let script = parse_clip(alloc, text.as_bytes()).expect(rt, "a clip script");
+        scripts.push(script).expect(rt, "memory for a clip script");
+    }
+    scripts
+}
+
+/// What the texts of a row are.
+#[derive(Drop)]
+struct Read {
+    scripts: Vec<ClientScript>,
+    input: Input,
+    clips: Vec<ClipScript>,
+}
+
+/// Opens a room with these scripts and clip scripts, of which there is one for each client, and
+/// does all.
+fn serve_texts<R: Abort + Wait>(rt: &R, alloc: Global, config: &Config, read: &Read, wanted: &[u8])
+    requires configured { IsConfiguration config.now }
+{
+    let clients = read.scripts.as_slice();
+    let clips = read.clips.as_slice();
+    must(rt, "scripts", clients.len() == config.clients.len());
+    must(rt, "clip scripts", clips.len() == clients.len());
+    let plans = plans_of(alloc, config, clients).expect(rt, "plans");
+    let made = buffers_of(alloc, config, &plans);
+    let (buffers, keys) = made.expect(rt, "buffers");
+    let canvases = canvases_of(alloc, &buffers, keys).expect(rt, "canvases");
+    let parts = Parts {
+        scripts: clients,
+        plans: &plans,
+        input: &read.input,
+    };
+    let opened = open(alloc, config, parts, canvases);
+    let opened = opened.expect(rt, "a room");
+    let opened = open_clips(alloc, opened, clips).expect(rt, "a room with clip scripts");
+    serve_all::<Brand, R>(rt, alloc, opened, wanted);
+}
+
+/// Does all lines of an opening that `N` names, in three phases: in each the clients in order, and
+/// then the user.
+fn serve_all<'a, N: Name, R: Abort + Wait>(
+    rt: &R,
+    alloc: Global,
+    opened: ClipOpened<'a>,
+    wanted: &[u8],
+)
+    requires { IsOpenRoom N.parts opened.opened.room opened.opened.passes.items opened.opened.user
+        opened.clips.items }
+{
+    let ClipOpened { opened, clips } = opened;
+    let Opened { room, passes, user } = opened;
+    let hall: Hall<'a, N> = Hall::new(room);
+    let mut clients: Vec<Client<'a, N>> = clients(rt, alloc, passes, clips);
+    let mut user: User<'a, N> = User::new(user);
+    let mut answers = Vec::new(alloc);
+    for _ in 0..PHASES {
+        do_phase(rt, &hall, &mut clients, &mut answers);
+        user.do_phase(rt, &hall);
+    }
+    let room = hall.into_room();
+    assert_listed(rt, alloc, answers.as_slice(), room.clip_list(), wanted);
+}
+
+/// Does a phase of each client, in order.
+fn do_phase<'a, N: Name, R: Abort + Wait>(
+    rt: &R,
+    hall: &Hall<'a, N>,
+    clients: &mut [Client<'a, N>],
+    answers: &mut Vec<ClipReply>,
+) {
+    for client in clients.iter_mut() {
+        client.do_phase(rt, hall, answers);
+    }
+}
+
+/// The clip list has this text, and the answers in it are these.
+fn assert_listed(
+    rt: &impl Abort,
+    alloc: Global,
+    answers: &[ClipReply],
+    entries: &[ClipEntry],
+    wanted: &[u8],
+) {
+    let text = clip_text(alloc, entries).expect(rt, "memory for a text");
+    same(rt, "the clip list", &text.as_slice(), &wanted);
+    let mut listed = Vec::new(alloc);
+    for entry in entries {
+        listed.push(entry.reply).expect(rt, "memory for a reply");
+    }
+    same(rt, "the answers", &answers, &listed.as_slice());
+}
