@@ -1,6 +1,6 @@
-//! What a test looks at. Where it is not so, the case is told.
+//! What a test looks at. Where it is not so, the case is told, or what is missing.
 
-ghost use Rattle.std.specs.Prelude.{IsTrue};
+ghost use Rattle.std.specs.Prelude.{IsTrue, false};
 
 use std::fmt::Debug;
 use std::process::Abort;
@@ -25,7 +25,9 @@ pub fn found<T>(rt: &impl Abort, what: &str, option: Option<T>) -> T {
     }
 }
 
-/// Something came that must not.
-pub fn fail(rt: &impl Abort, what: &str) {
+/// Something came that must not. It does not return.
+pub fn fail(rt: &impl Abort, what: &str)
+    ensures { IsTrue false }
+{
     panic!(rt; "{what}")
 }

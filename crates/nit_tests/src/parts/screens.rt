@@ -20,6 +20,7 @@ pub fn rect(rt: &impl Abort, numbers: Numbers) -> Rect {
 
 /// The number, which is from 1 to the most that it may be.
 pub fn within(rt: &impl Abort, number: u32, most: u32) -> u32
+    ensures same { result ≡ number }
     ensures least { 1 ≤ result }
     ensures most { result ≤ most }
 {
