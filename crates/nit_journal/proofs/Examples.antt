@@ -1,6 +1,6 @@
 -- Worked rows of one session and of a small journal, computed from the definitions.
-use Rattle.std.proofs.Common.{List, Some, [], arith, map, negsuc, pos, refl, ◌++◌, ◌∷◌, ◌≡◌}
-use Rattle.nit_journal.proofs.Basics.{Bare, Buffer, Call, Calls, Close, Destroy, Entry, IsLegal, Observation, Place, Refresh, Take, Title, Upgrade, View, Word, alone, codes, first_session, own_machine, point, replay, routed_as, source_of, still_configuration, to}
+use Rattle.std.proofs.Common.{List, Some, [], arith, false, map, negsuc, pos, refl, true, ◌++◌, ◌∷◌, ◌≡◌}
+use Rattle.nit_journal.proofs.Basics.{Bare, Buffer, Call, Calls, Close, Destroy, Entry, IsLegal, Observation, Place, Refresh, Take, Title, Upgrade, View, Word, alone, codes, first_session, is_key, own_machine, point, replay, routed_as, source_of, still_configuration, to, under_pointer}
 use Rattle.nit_journal.specs.Session.{serve}
 use Rattle.nit_journal.specs.StackAfter.{stack_after_call}
 use Rattle.nit_journal.specs.State.{route}
@@ -88,3 +88,11 @@ clicked_by_itself = refl
 clicked_has_the_focus : (replay (still_configuration 8 4) clicked).input.focus ≡ Some 0
 unfolding serve stack_after_call route
 clicked_has_the_focus = refl
+
+-- a key, the two mode keys, a button, and a code behind the buttons
+which_are_keys : map is_key (30 ∷ 70 ∷ 99 ∷ 272 ∷ 280 ∷ []) ≡ true ∷ false ∷ false ∷ false ∷ true ∷ []
+which_are_keys = refl
+
+clicked_is_pointed : under_pointer (replay (still_configuration 8 4) clicked) ≡ Some 0
+unfolding serve stack_after_call route
+clicked_is_pointed = refl

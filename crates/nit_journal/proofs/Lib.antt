@@ -12,6 +12,7 @@ pub mod Focus
 pub mod KnownSessions
 pub mod LiveSessions
 pub mod PressLemmas
+pub mod ReachLemmas
 pub mod Examples
 pub mod Machines
 pub mod CallRefusals

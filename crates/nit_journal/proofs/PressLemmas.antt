@@ -1,5 +1,5 @@
 -- Each release that a session gets follows a press of the same code that it got, with no release of it between.
-use Rattle.nit_journal.proofs.Basics.{Call, Calls, Close, Configuration, Delivery, Device, Entry, Event, Flat, Gets, InputState, IsDown, IsLegal, Item, Kill, LegalFrom, Mode, Observation, Reply, Routing, State, Xray, after, bar_rows, clicks_on, either, eq-eqb, eqb-true, false≢true, first_state, input_after_call, is_accepted, is_release, items_to, list_any, not, option_map, or_from, or_parts, owner, point, projection}
+use Rattle.nit_journal.proofs.Basics.{Call, Calls, Close, Configuration, Delivery, Device, Entry, Event, Flat, Gets, InputState, IsDown, IsLegal, Item, Kill, LegalFrom, Mode, Observation, Reply, Routing, State, Xray, after, bar_rows, clicks_on, either, eq-eqb, eqb-true, false≢true, first_state, input_after_call, is_accepted, is_release, items_to, list_any, not, option_map, or_from, or_parts, owner, point, projection, replay, replay_from}
 use Rattle.std.proofs.Common.{Bool, List, None, Option, Some, [], ap, append-nil, append_assoc, cond, false, filter, refl, subst, sym, true, ℕ, ◌&&◌, ◌++◌, ◌+◌, ◌==◌, ◌∙◌, ◌∷◌, ◌≡◌, if◌then◌else◌, ◌||◌}
 use Rattle.nit_journal.specs.State.{route}
 use Rattle.nit_events.specs.declared.event.Event.TheVariants as event
@@ -364,6 +364,32 @@ module _ (x k : ℕ) where
       (paired_both k b (items_to x ds) (projection x rest) step.0 (paired_from (after s (entry.Input dev routed)) taken rest (down_after k b (items_to x ds)) legal.1 step.1))
   paired_from s taken (entry.Shot number ∷ rest) b legal was = paired_from s (taken + 1) rest b legal.1 was
   paired_from s taken (entry.Final ∷ rest) b legal was = subst (λ (js : List Entry). Paired k b (projection x js)) (sym legal) tt
+
+  -- where the session receives what is held behind the journal, it is down for it
+  still_held : (s : State) (taken : ℕ) (journal : List Entry) (b : Bool) → LegalFrom s taken journal → (Holds s.input → b ≡ true) → Holds (replay_from s journal).input
+      → down_after k b (projection x journal) ≡ true
+  still_held s taken [] b legal was holds = was holds
+  still_held s taken (entry.Call sid call r ∷ rest) b legal was holds =
+      go (sid == x) (still_held (after s (entry.Call sid call r)) taken rest b legal.1 (λ t. was (after_call sid call r s.input t)) holds)
+    where
+      go : (c : Bool) → down_after k b (projection x rest) ≡ true → down_after k b (if c then Calls call ∷ projection x rest else projection x rest) ≡ true
+      go true p = p
+      go false p = p
+  still_held s taken (entry.Input dev routed ∷ rest) b legal was holds =
+      let ds = (route s.config s.input s.stack dev).deliveries in
+      let step = route_step s.config s.input s.stack dev b was in
+      let kept = entry_keeps_all s taken dev routed legal.0 in
+      subst (λ (es : List Delivery). down_after k b (items_to x es ++ projection x rest) ≡ true) (sym kept)
+      (down_both k b (items_to x ds) (projection x rest)
+      ∙ still_held (after s (entry.Input dev routed)) taken rest (down_after k b (items_to x ds)) legal.1 step.1 holds)
+  still_held s taken (entry.Shot number ∷ rest) b legal was holds = still_held s (taken + 1) rest b legal.1 was holds
+  still_held s taken (entry.Final ∷ rest) b legal was holds =
+      subst (λ (js : List Entry). Holds (replay_from s js).input → down_after k b (projection x js) ≡ true) (sym legal) was holds
+
+pub receiver_holds : (config : Configuration) (journal : List Entry) (x k : ℕ) → IsLegal config journal → let s = replay config journal in
+    s.input.receiver ≡ Some x → Input.is_held s.input k ≡ true → IsDown k (projection x journal)
+receiver_holds config journal x k legal = λ receives held.
+    down_is k false [] (projection x journal) (λ e. cc) (still_held x k (first_state config) 0 journal false legal (λ t. let none = t.0 in cc) (receives, held))
 
 pub releases_follow : (config : Configuration) (journal : List Entry) (s k : ℕ) (before rest : List Observation) → IsLegal config journal → projection s journal ≡ before ++ Gets (item.Event (event.Release k)) ∷ rest → IsDown k before
 releases_follow config journal s k before rest legal is =

@@ -1,7 +1,7 @@
 -- The words of the library and of the crates below that are used here, and the crate's plain types.
 pub use Rattle.nit_config.specs.Configuration.{Configuration, bar_rows, donation_of, member, still_configuration}
 pub use Rattle.nit_config.specs.declared.config.Member.{Member}
-pub use Rattle.nit_events.specs.Input.{InputState, Routing, deliveries_of, first_input, forget, is_button, pointer_after, routed_as, routing, to}
+pub use Rattle.nit_events.specs.Input.{InputState, Routing, deliveries_of, first_input, forget, is_button, is_held, kill_key, pointer_after, routed_as, routing, to, xray_key}
 pub use Rattle.nit_events.specs.Ranges.{most_waiting}
 pub use Rattle.nit_events.specs.declared.call.Call.{Call}
 pub use Rattle.nit_events.specs.declared.call.Call.TheVariants.{Above, Back, Buffer, Close, Destroy, Front, Offset, Place, Refresh, Take, Title, Upgrade, View}

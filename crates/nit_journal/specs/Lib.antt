@@ -14,5 +14,6 @@ pub mod Projection
 pub mod WholeJournals
 pub mod Deliveries
 pub mod Presses
+pub mod Reach
 pub mod Below
 pub mod Terms

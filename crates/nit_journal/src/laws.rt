@@ -1,8 +1,9 @@
 //! Laws of journals, over plain lists.
 
 ghost use Rattle.std.specs.Prelude.{All, ◌≡◌, ◌≢◌, ◌+◌, ◌++◌, ◌∷◌, [], ℕ, List, length, ◌<◌, ◌⊎◌, true, map, Some, None};
-ghost use Rattle.nit_journal.specs.Terms.{Agrees, Call, Close, Configuration, Device, Entry, Event, Gets, InputState, IsClickAt, IsDown, IsKillAlone, IsLegal, IsLive, IsOpen, LegalFrom, Observation, Reply, Routed, State, Take, action_of, after, alone, alone_machine, deliveries_of, donation_of, is_accepted, own_machine, projection, replay, replay_from, replies_to, route, serve, session, shots};
+ghost use Rattle.nit_journal.specs.Terms.{Agrees, Call, Close, Configuration, Delivery, Device, Entry, Event, Flat, Gets, InputState, IsClickAt, IsDown, IsKillAlone, IsLegal, IsLive, IsOpen, Kill, KillsPointed, LegalFrom, Observation, Reply, Routed, State, Take, TellsFocus, TellsLeave, Xray, action_of, after, alone, alone_machine, deliveries_of, donation_of, is_accepted, is_button, is_held, is_key, is_mode_key, own_machine, projection, replay, replay_from, replies_to, route, serve, session, shots, to, under_pointer};
 ghost use Rattle.nit_events.specs.declared.call.Reply.TheVariants as reply;
+ghost use Rattle.nit_events.specs.declared.device.Device.TheVariants as device;
 ghost use Rattle.nit_events.specs.declared.event.Event.TheVariants as event;
 ghost use Rattle.nit_events.specs.declared.event.Item.TheVariants as item;
 ghost use Rattle.nit_events.specs.declared.event.Status.TheVariants as status;
@@ -175,4 +176,41 @@ pub fn focus_is_the_users()
     ensures clicks { (s : State) (dev : Device) (routed : Routed) (x : ℕ)
         → (after s (entry.Input dev routed)).input.focus ≡ Some x
         → (s.input.focus ≡ Some x) ⊎ IsClickAt s dev x }
+{}
+
+/// Where keys and buttons go. In mode Flat, with nothing held down, a key goes to the focused
+/// session, and a button to the session that owns the pixel under the pointer. No other session is
+/// told anything, but for the news of the focus that a click moves. While something is held, all
+/// that the user does goes to one session, the receiver, which got the press of each code that is
+/// held. A mode key goes to nobody.
+///
+/// Behind any journal, in the modes Xray and Kill, no session gets a key, a button, a motion or a
+/// turn of the wheel, whatever the user does. All that is told there is, in mode Xray, who lost the
+/// focus and who has it now, and in mode Kill, to the session under the pointer, that it is locked
+/// out.
+pub fn input_goes_where_it_is_meant()
+    ensures keys { (s : State) (k : ℕ)
+        → s.input.mode ≡ Flat → s.input.held ≡ [] → is_key k ≡ true
+        → (route s.config s.input s.stack (device.Press k)).deliveries
+        ≡ to s.input.focus (event.Press k) }
+    ensures buttons { (s : State) (k : ℕ)
+        → s.input.mode ≡ Flat → s.input.held ≡ [] → is_button k ≡ true
+        → (told : List Delivery) × All (TellsFocus s) told
+        × ((route s.config s.input s.stack (device.Press k)).deliveries
+        ≡ told ++ to (under_pointer s) (event.Press k)) }
+    ensures held { (s : State) (dev : Device) → s.input.held ≢ []
+        → All (λ d. s.input.receiver ≡ Some d.sid) (route s.config s.input s.stack dev).deliveries }
+    ensures receiver { (config : Configuration) (journal : List Entry) (x k : ℕ)
+        → IsLegal config journal → let s = replay config journal in
+        s.input.receiver ≡ Some x → is_held s.input k ≡ true → IsDown k (projection x journal) }
+    ensures mode_keys { (s : State) (k : ℕ) → is_mode_key k ≡ true
+        → All (TellsLeave s) (route s.config s.input s.stack (device.Press k)).deliveries }
+    ensures xray { (config : Configuration) (journal : List Entry) (dev : Device)
+        → let s = replay config journal in
+        s.input.mode ≡ Xray
+        → All (TellsFocus s) (route s.config s.input s.stack dev).deliveries }
+    ensures kill { (config : Configuration) (journal : List Entry) (dev : Device)
+        → let s = replay config journal in
+        s.input.mode ≡ Kill
+        → All (KillsPointed s) (route s.config s.input s.stack dev).deliveries }
 {}

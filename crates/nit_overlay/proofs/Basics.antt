@@ -1,10 +1,10 @@
 -- What lemmas use: the words of clauses, the library's lemmas, and those of the crates below.
-pub use Rattle.nit_overlay.specs.Terms.{Area, Flat, IsAreaBy, IsOverlaid, IsPainted, IsPlaced, IsRenewed, IsShownIn, IsSlotView, IsWord, Kill, Look, Mode, NoPair, Point, Rectangle, Scenery, SlotView, Text, View, ViewRef, Xray, bar_text, bar_word, bare_word, between, by_label, by_mode, codes, covering, covers, dim, dot, frame, grey_word, has_dot, in_area, in_bar, ink_of, is_in_picture, is_slot, is_some, max, nat_lt, option_map, owner, owner_word, picture_width, pixel, point, range_with_len, rectangle, same_slot, scenery, seat_owner, shown, slice_get, slot_view_in, stripe_rule, unowned_word, view_ref, view_word, views_of, white_word, word_by}
+pub use Rattle.nit_overlay.specs.Terms.{Area, Flat, IsAreaBy, IsBright, IsMark, IsOfNamed, IsOverlaid, IsPainted, IsPlaced, IsReddish, IsRenewed, IsShownIn, IsSlotView, IsTrue, IsWord, Kill, Look, Mode, NoPair, Point, Rectangle, Scenery, SlotView, Text, View, ViewRef, Xray, bar_text, bar_text_of, bar_word, bare_word, between, by_label, by_mode, codes, covering, covers, dim, dot, draws_labels, frame, grey_word, has_dot, in_area, in_bar, in_label, ink_of, is_dot_of_text, is_in_picture, is_in_text, is_label_dot, is_on_ring, is_same, is_slot, is_some, label_of, label_place_of, max, mode_word, nat_lt, option_map, owner, owner_word, picture_width, pixel, point, range_with_len, rectangle, red_word, same_slot, scenery, seat_owner, shown, slice_get, slot_view_in, stripe_rule, tint, unowned_word, view_ref, view_text, view_word, views_of, white_word, word_by}
 pub use Rattle.nit_stack.proofs.ForCallers.{All_found, owner_is, owner_of_views}
 pub use Rattle.nit_word.proofs.ForCallers.{column_and_row}
 pub use Rattle.std.proofs.Common.{List, Some, ap, arith, length, subst, sym, ℕ, ◌∙◌}
 pub use Rattle.std.proofs.Math.Nat.{div-lt_iff_lt-mul, mul-le-mul_right}
-pub use Rattle.std.proofs.lemmas.Bool.{cases_lt, le-ltb}
+pub use Rattle.std.proofs.lemmas.Bool.{cases_lt, eqb-true, le-ltb}
 pub use Rattle.std.proofs.lemmas.Bool.Decides.{nat_tests}
 pub use Rattle.std.proofs.lemmas.Grind.{same_number_lists}
 pub use Rattle.std.proofs.lemmas.Int.{ints}

@@ -1,6 +1,6 @@
 -- Worked rows of the screen, computed from the definitions.
-use Rattle.std.proofs.Common.{None, [], map, pos, refl, ℕ, ◌∷◌, ◌≡◌}
-use Rattle.nit_overlay.proofs.Basics.{Flat, Scenery, View, Xray, codes, point, range_with_len, rectangle, shown}
+use Rattle.std.proofs.Common.{None, [], false, map, pos, refl, true, ℕ, ◌∷◌, ◌≡◌}
+use Rattle.nit_overlay.proofs.Basics.{Flat, Kill, Scenery, View, Xray, codes, in_label, is_label_dot, point, range_with_len, rectangle, shown}
 use Rattle.nit_glyph.specs.Pictures.{dot, glyph_rows}
 
 -- two views on a screen of 12 by 7: that of session 1, of 3 by 7, stands in front of the other, of 12 by 7
@@ -21,6 +21,19 @@ label_row = refl
 label_dots : map (λ x. shown labelled (point x 1) 0xFF0000) (3 ∷ 4 ∷ 5 ∷ 6 ∷ 7 ∷ 8 ∷ 9 ∷ 10 ∷ 11 ∷ []) ≡ 0 ∷ 0 ∷ F ∷ 0 ∷ 0 ∷ F ∷ F ∷ 0 ∷ 0 ∷ []
 unfolding dot glyph_rows
 label_dots = refl
+
+-- the label covers columns 3 to 11, and has its dots where white is shown
+label_covers : map (λ x. in_label labelled (view_of 0 12) (point x 1)) (2 ∷ 3 ∷ 11 ∷ []) ≡ false ∷ true ∷ true ∷ []
+label_covers = refl
+
+label_has_dots : map (λ x. is_label_dot labelled (view_of 0 12) (point x 1)) (2 ∷ 4 ∷ 5 ∷ 8 ∷ []) ≡ false ∷ false ∷ true ∷ true ∷ []
+unfolding dot glyph_rows
+label_has_dots = refl
+
+-- in mode Kill a client that paints white is shown as a light red, but for ring and label
+killed_row : map (λ x. shown (record labelled { mode = Kill }) (point x 1) 0xFFFFFF) (0 ∷ 1 ∷ 4 ∷ 5 ∷ []) ≡ 0xFF0000 ∷ 0xFF7F7F ∷ 0 ∷ F ∷ []
+unfolding dot glyph_rows
+killed_row = refl
 
 -- a status bar of a screen of 12 by 12
 abbrev with_bar : Scenery

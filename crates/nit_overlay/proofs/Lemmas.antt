@@ -5,6 +5,7 @@ pub use Rattle.nit_overlay.proofs.BarLemmas.{bar_area, bar_black, bar_done, bar_
 pub use Rattle.nit_overlay.proofs.Basics.{All_found, IsAreaBy, IsOverlaid, IsPainted, IsPlaced, IsSlotView, List, Some, Text, ap, arith, bar_word, between, div-mul-add, frame, in_area, is_slot, length, max, mod-mul-add, mul-le-mul_right, nat_lt, owner, owner_word, pixel, point, scenery, shown, stripe_rule, subst, sym, unowned_word, view_word, word_by, ℕ, ◌∙◌}
 pub use Rattle.nit_overlay.proofs.FrameLemmas.{frame_fits, get_or-frame, is_frame, is_whole, length-frame, rect_shown, same_frame}
 pub use Rattle.nit_overlay.proofs.KeptFrames.{flat_same, renewed}
+pub use Rattle.nit_overlay.proofs.MarkLemmas.{kill_tints, label_shown, plain_is_label, xray_bright}
 pub use Rattle.nit_overlay.proofs.PieceOwners.{shown_owned, shown_unowned}
 pub use Rattle.nit_overlay.proofs.RowParts.{RowSoFar, further, painted_by}
 pub use Rattle.nit_overlay.proofs.RunOwners.{RunSoFar, bare_run, below_bar, owned_run}

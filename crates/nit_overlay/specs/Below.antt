@@ -22,9 +22,9 @@ pub use Rattle.nit_stack.specs.Stack.{IsScreenSize, IsSlotView, IsStack, NoPair,
 pub use Rattle.nit_stack.specs.ViewNames.{views_of}
 pub use Rattle.nit_stack.specs.declared.view.View.{View}
 pub use Rattle.nit_stack.specs.declared.view.ViewRef.{ViewRef}
-pub use Rattle.nit_word.specs.Channels.{bare_word, dim, tint}
+pub use Rattle.nit_word.specs.Channels.{bare_word, blue, dim, green, red, tint}
 pub use Rattle.nit_word.specs.Inks.{IsWord}
 pub use Rattle.std.specs.List.{between, range_with_len}
 pub use Rattle.std.specs.Option.{is_some, option_map}
 pub use Rattle.std.specs.Ordering.{int_eq}
-pub use Rattle.std.specs.Prelude.{codes, max, nat_lt, slice_get}
+pub use Rattle.std.specs.Prelude.{IsTrue, codes, max, nat_lt, slice_get}

@@ -3,6 +3,7 @@ pub use Rattle.nit_word.specs.Inks
 pub use Rattle.nit_stack.specs.Sources
 pub mod Frame
 pub mod FrameRenewal
+pub mod Marks
 pub mod Look
 pub mod PixelRow
 pub mod Area

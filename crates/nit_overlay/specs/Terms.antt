@@ -1,11 +1,12 @@
 -- The words that clauses use: those that come from outside, and those of this crate.
 pub use Rattle.nit_overlay.specs.Area.{IsArea, IsAreaBy, IsOverlaid, IsShownIn, in_area}
-pub use Rattle.nit_overlay.specs.Below.{Area, Flat, IsPlace, IsScreenSize, IsSlotView, IsStack, IsWord, Kill, Look, Mode, NoPair, Point, Rectangle, Rule, SlotView, Text, View, ViewRef, Xray, bare_word, between, codes, covering, covers, dim, dot, has_slot, in_bar, int_eq, is_same, is_slot, is_some, max, most_edge, most_height, most_length, most_width, nat_lt, option_map, owner, picture_height, picture_width, pixel, point, range_with_len, rectangle, same_slot, seat_owner, slice_get, slot_view_in, spans, view_ref, views_of}
-pub use Rattle.nit_overlay.specs.Frame.{Scenery, bar_text, bar_word, by_label, by_mode, frame, grey_word, has_dot, ink_of, is_in_picture, is_on_ring, label_place_of, mode_word, owner_word, shown, unowned_word, view_text, view_word, white_word}
+pub use Rattle.nit_overlay.specs.Below.{Area, Flat, IsPlace, IsScreenSize, IsSlotView, IsStack, IsTrue, IsWord, Kill, Look, Mode, NoPair, Point, Rectangle, Rule, SlotView, Text, View, ViewRef, Xray, bar_text_of, bare_word, between, codes, covering, covers, dim, dot, has_slot, in_bar, int_eq, is_same, is_slot, is_some, max, most_edge, most_height, most_length, most_width, nat_lt, option_map, owner, picture_width, pixel, point, range_with_len, rectangle, same_slot, seat_owner, slice_get, slot_view_in, spans, tint, view_ref, views_of}
+pub use Rattle.nit_overlay.specs.Frame.{Scenery, bar_text, bar_word, by_label, by_mode, frame, grey_word, has_dot, ink_of, is_in_picture, is_on_ring, label_of, label_place_of, mode_word, owner_word, red_word, shown, unowned_word, view_text, view_word, white_word}
 pub use Rattle.nit_overlay.specs.FrameRenewal.{IsRenewed}
 pub use Rattle.nit_overlay.specs.Look.{IsLook, IsPlaced, draws_labels, pixel_at, scenery}
+pub use Rattle.nit_overlay.specs.Marks.{IsBright, IsMark, IsOfNamed, IsReddish, in_label, is_dot_of_text, is_in_text, is_label_dot}
 pub use Rattle.nit_overlay.specs.Owner.{IsOwner}
 pub use Rattle.nit_overlay.specs.PixelRow.{IsPainted, IsRowPart}
 pub use Rattle.nit_overlay.specs.Rule.{IsInTag, IsTagged, word_by}
 pub use Rattle.nit_overlay.specs.Span.{has_at_end, moved_of, span_has}
-pub use Rattle.nit_overlay.specs.Stripe.{IsRowOfTag, in_tag, mode_rule, stripe_rule, tag_rule}
+pub use Rattle.nit_overlay.specs.Stripe.{IsRowOfTag, mode_rule, stripe_rule, tag_rule}

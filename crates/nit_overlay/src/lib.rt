@@ -22,6 +22,9 @@
 //! elsewhere. In
 //!   mode Kill it is the tinted word.
 //!
+//! In mode Xray no client without the focus can show the white of labels or the grey of rings, and
+//! in mode Kill none can show white or black ([`laws::marks_are_the_servers`]).
+//!
 //! A frame may be kept: where just the pixels whose shown word may differ are set to what is shown
 //! now, it is the new frame ([`laws::kept_frames`]). In mode Flat and below the bar the shown word
 //! depends on the raw word, and on whether the pixel has an owner, alone. So there the raw words of

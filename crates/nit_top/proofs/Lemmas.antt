@@ -29,6 +29,7 @@ pub use Rattle.nit_top.proofs.PutLemmas.{next_goes, next_stays, no_put, no_text,
 pub use Rattle.nit_top.proofs.RegionFilms.{picture_seen, same_film}
 pub use Rattle.nit_top.proofs.RoomRunLemmas.{all_done, beside_leaves, is_ready, known_whole, last_is, one_key, setting, setup_in, user_done}
 pub use Rattle.nit_top.proofs.RunLemmas.{PutsLast, run_leaves, with_texts}
+pub use Rattle.nit_top.proofs.SameEvents.{both_there, same_events, same_text}
 pub use Rattle.nit_top.proofs.Scripts.{names_at, names_more, one_more_read, stopped_here}
 pub use Rattle.nit_top.proofs.SeenFrames.{SeenLaws, seen}
 pub use Rattle.nit_top.proofs.SetupLemmas.{all_read, config_stopped, not_read, read_whole, run_runnable, still_ends, still_runnable, still_stopped}

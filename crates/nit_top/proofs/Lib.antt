@@ -25,6 +25,7 @@ pub mod ClipRunLemmas
 pub mod StillRun
 pub mod HeadlineLemmas
 pub mod Events
+pub mod SameEvents
 pub mod EventNames
 pub mod EventTexts
 pub mod RoutesFit

@@ -80,7 +80,8 @@ pub use Rattle.nit_rect.specs.Limits.{most_height, most_width, most_words}
 pub use Rattle.nit_rect.specs.Rectangle.{Rectangle, is_place, is_rectangle, rectangle, spans}
 pub use Rattle.nit_rect.specs.declared.memory.NoMemory.{NoMemory}
 pub use Rattle.nit_rect.specs.declared.point.Point.{Point}
-pub use Rattle.nit_report.specs.EventsText.{events_text, taken}
+pub use Rattle.nit_report.specs.EntrySpelling.{event_spelling}
+pub use Rattle.nit_report.specs.EventsText.{ending_text, events_text, taken}
 pub use Rattle.nit_report.specs.Generator.{client_script, client_text, config_text, generated, generated_configuration, is_call, is_device, is_shot_line, script_name, user_script, user_text}
 pub use Rattle.nit_report.specs.JournalText.{FitsDelivery, FitsEntry, FitsEvent, FitsItem, FitsReply, IsFirstBadEntry, ReadsJournal, journal_text}
 pub use Rattle.nit_report.specs.Picture.{picture, picture_header, picture_length}
@@ -89,7 +90,7 @@ pub use Rattle.nit_report.specs.declared.events.Ending.{Ending}
 pub use Rattle.nit_scene.specs.RawWords.{Painted, glass_in, pixel_count, source_at}
 pub use Rattle.nit_scene.specs.Scene.{SceneModel, scenery_of, state_now}
 pub use Rattle.nit_scene.specs.Screen.{IsGlass}
-pub use Rattle.nit_script.specs.Grammar.{HasOneReading, IsFirstBad, IsTooLong, Reads, ReadsClient, ReadsInput, most_lines}
+pub use Rattle.nit_script.specs.Grammar.{HasOneReading, IsFirstBad, IsTooLong, Reads, ReadsClient, ReadsInput, most_lines, spelled}
 pub use Rattle.nit_script.specs.Phases.{input_phases, is_input_phase, is_phase, phases, phases_by}
 pub use Rattle.nit_script.specs.Spelling.{FitsCall, FitsDevice, FitsInputLine, FitsLine, input_spelling, line_spelling}
 pub use Rattle.nit_script.specs.declared.error.ScriptError.{ScriptError}

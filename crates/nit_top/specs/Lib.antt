@@ -53,6 +53,7 @@ pub mod ProgramLines
 pub mod SaidText
 pub mod Headline
 pub mod SeenFrames
+pub mod SameClient
 pub mod FilesRead
 pub mod Course
 pub mod Audited
