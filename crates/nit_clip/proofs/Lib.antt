@@ -7,3 +7,5 @@ pub mod ClipScriptLemmas
 pub mod Basics
 pub mod ForCallers
 pub mod Lemmas
+pub mod ClipTextLemmas
+pub mod ClipFits

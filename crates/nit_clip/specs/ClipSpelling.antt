@@ -1,5 +1,5 @@
 -- What the lines of a clip script and of a clip list's text are spelled as.
-use Rattle.std.specs.Prelude.{ℕ, List, ◌∷◌, ◌++◌, codes}
+use Rattle.std.specs.Prelude.{◌<◌, ◌^◌, ℕ, List, ◌∷◌, ◌++◌, None, codes}
 use Rattle.nit_clip.specs.Below.{ClipCall, ClipEntry, ClipLine, ClipReply, FitsText, flat_map, nat, spelled, text}
 use Rattle.nit_clip.specs.declared.call.ClipCall.TheVariants as call
 use Rattle.nit_clip.specs.declared.call.ClipReply.TheVariants as reply
@@ -15,6 +15,19 @@ FitsClipCall call.Paste = Unit {0}
 abbrev pub FitsClipLine : ClipLine → Type 0
 FitsClipLine (line.Call c) = FitsClipCall c
 FitsClipLine line.Phase = Unit {0}
+
+-- a reply to this call: a text is pasted for a `paste` alone, and is within the grammar
+abbrev pub FitsClipReply : ClipCall → ClipReply → Type 0
+FitsClipReply call.Paste (reply.Pasted t) = FitsText t
+FitsClipReply (call.Copy c) (reply.Pasted t) = ⊥
+FitsClipReply c r = Unit {0}
+
+-- Place and session are numbers of 32 bits, and the call and its reply are within the grammar.
+pub record FitsClipEntry (e : ClipEntry) : Type 0 where
+  pub place : e.at < 2 ^ 32
+  pub session : e.sid < 2 ^ 32
+  pub call : FitsClipCall e.call
+  pub reply : FitsClipReply e.call e.reply
 
 -- ---- lines, without their line feed
 
@@ -44,3 +57,7 @@ clip_entry_spelling e =
 -- the text of a clip list: a line for each entry, in order
 abbrev pub clip_text : List ClipEntry → List ℕ
 clip_text entries = flat_map (spelled clip_entry_spelling) entries
+
+-- an entry without the focus, of which its line tells nothing
+abbrev pub without_focus : ClipEntry → ClipEntry
+without_focus e = record e { focus = None }

@@ -1,9 +1,10 @@
 //! What the definitions of clip scripts and clip lists say of each other, over plain lists: a clip
-//! list stays legal and in its phases while the journal grows. What holds of a clip script's text
-//! and of its phases are the laws of [`nit_script`] for this kind of line.
+//! list stays legal and in its phases while the journal grows, and no other list has its text. What
+//! holds of a clip script's text and of its phases are the laws of [`nit_script`] for this kind of
+//! line.
 
-ghost use Rattle.std.specs.Prelude.{◌≡◌, ◌≤◌, ◌<◌, ◌+◌, ◌++◌, ◌∷◌, [], ◌⊎◌, ℕ, List, Option, Some, length, take, drop, count_by};
-ghost use Rattle.nit_clip.specs.Terms.{AllByRecursion, AreInPhases, Call, ClipCall, ClipEntry, ClipLine, ClipReply, Configuration, Entry, IsClipAnswer, IsInPhase, IsLegalClips, IsOpen, UserAction, before_final, clip_answer, clip_calls_in, clip_calls_of, clipboard_of, clips_to_do, clips_to_make, done, is_clip_phase, last_at, left_after, next_phase, replay, slice_get};
+ghost use Rattle.std.specs.Prelude.{◌≡◌, ◌≤◌, ◌<◌, ◌+◌, ◌^◌, ◌++◌, ◌∷◌, [], ◌⊎◌, ℕ, List, Option, Some, length, map, take, drop, count_by};
+ghost use Rattle.nit_clip.specs.Terms.{AllByRecursion, AreInPhases, Call, ClipCall, ClipEntry, ClipLine, ClipReply, Configuration, Entry, FitsClipEntry, FitsClipLine, IsClipAnswer, IsInPhase, IsLegalClips, IsOpen, IsWholeClips, UserAction, before_final, clip_answer, clip_calls_in, clip_calls_of, clip_text, clipboard_of, clips_to_do, clips_to_make, done, is_clip_phase, last_at, left_after, next_phase, replay, slice_get, without_focus};
 ghost use Rattle.nit_clip.specs.declared.call.ClipCall.TheVariants as call;
 ghost use Rattle.nit_clip.specs.declared.call.ClipReply.TheVariants as reply;
 ghost use Rattle.nit_clip.specs.declared.line.ClipLine.TheVariants as line;
@@ -22,6 +23,35 @@ pub fn calls_of_a_clip_script()
         → slice_get lines k ≡ Some (line.Call c)
         → let made = length (clip_calls_in (take k lines)) in
         next_phase (drop made (clips_to_make lines)) ≡ count_by is_clip_phase (take k lines) }
+{}
+
+/// Two clip lists with one text differ at most in the focus that their entries keep: each entry's
+/// place, session, call and reply are the same. Lists that differ in the focus alone have one text.
+/// Of the lists that are legal for a journal, one at most has a text.
+pub fn clip_text_is_one()
+    ensures entries { (a b : List ClipEntry)
+        → AllByRecursion FitsClipEntry a → AllByRecursion FitsClipEntry b
+        → clip_text a ≡ clip_text b → map without_focus a ≡ map without_focus b }
+    ensures text { (a b : List ClipEntry)
+        → map without_focus a ≡ map without_focus b → clip_text a ≡ clip_text b }
+    ensures legal { (config : Configuration) (journal : List Entry) (a b : List ClipEntry)
+        → AllByRecursion FitsClipEntry a → AllByRecursion FitsClipEntry b
+        → IsLegalClips config journal a → IsLegalClips config journal b
+        → clip_text a ≡ clip_text b → a ≡ b }
+{}
+
+/// The entries of a legal and whole clip list fit where the lines of the clip scripts do, there is
+/// one script for each client, and the journal has fewer than 2^32 entries.
+pub fn whole_clips_fit()
+    ensures { (config : Configuration) (clients : List (List (ℕ × Call)))
+        → (user : List (ℕ × UserAction)) (journal : List Entry)
+        → (scripts : List (List ClipLine)) (clips : List ClipEntry)
+        → AllByRecursion (AllByRecursion FitsClipLine) scripts
+        → length config.clients ≡ length scripts
+        → length scripts ≤ 2 ^ 32 → length journal < 2 ^ 32
+        → IsLegalClips config journal clips
+        → IsWholeClips clients user journal (map clips_to_make scripts) clips
+        → AllByRecursion FitsClipEntry clips }
 {}
 
 /// The list without entries is legal for any journal.
