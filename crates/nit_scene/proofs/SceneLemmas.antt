@@ -1,10 +1,8 @@
 -- A scene after one entry more.
-use Rattle.nit_journal.proofs.ForCallers.{same_config}
+use Rattle.nit_scene.proofs.Basics.{Agrees, AreInked, AreRaw, Bare, Black, Configuration, Entry, IsLegal, IsOpen, IsRawOf, IsScene, IsWord, Painted, PixelSource, Scenery, ServerModel, ShowsLabels, Sight, State, Word, after, entry_loses, first_state, frame, get_or_default, labels_stand, legal_more, length-append, pixel_count, replay, replay_more, same_config, scenery_of, session_in, shots, source_at, state_of}
 use Rattle.std.proofs.Common.{All, List, [], ap, arith, length, slice_index_or, subst, sym, zero-add, ℕ, ◌++◌, ◌+◌, ◌-◌, ◌<◌, ◌∙◌, ◌∷◌, ◌≡◌, ◌≤◌}
-use Rattle.nit_scene.proofs.Basics.{Agrees, AreInked, AreRaw, Bare, Black, Configuration, Entry, IsLegal, IsOpen, IsRawOf, IsScene, IsWord, Painted, PixelSource, ServerModel, Sight, State, Word, after, first_state, get_or_default, legal_more, length-append, pixel_count, replay, replay_more, session_in, shots, source_at, state_of}
 use Rattle.nit_events.specs.declared.entry.Entry.TheVariants as entry
 use Rattle.nit_scene.proofs.HandleCounts.{entry_adds}
-use Rattle.nit_scene.proofs.LostEvents.{entry_loses}
 
 -- raw words are words
 held_word : (source : PixelSource) (w : ℕ) → IsRawOf source w → IsWord w
@@ -100,3 +98,13 @@ open_more (entry.Call sid call r ∷ rest) e h k = open_more rest e h k
 open_more (entry.Input dev routed ∷ rest) e h k = open_more rest e h k
 open_more (entry.Shot n ∷ rest) e h k = open_more rest e h k
 open_more (entry.Final ∷ rest) e h k = absurd h
+
+-- ---- labels
+
+-- at a scene that is in such a state
+pub still_shows : (s s' : ServerModel) (entries : List Entry) (spare taken : ℕ) (raw raw' words : List ℕ) → IsScene s entries spare raw taken → s' ≡ s
+    → words ≡ frame (scenery_of (state_of s')) raw' → ShowsLabels (scenery_of (replay s.config entries)) words
+still_shows s s' entries spare taken raw raw' words i same is =
+    let now : state_of s' ≡ replay s.config entries = ap state_of same ∙ i.replayed in
+    subst (ShowsLabels (scenery_of (replay s.config entries))) (sym (is ∙ ap (λ (t : State). frame (scenery_of t) raw') now))
+    (labels_stand s.config entries raw' i.legal)

@@ -1,8 +1,6 @@
 -- What contracts see of a scene, and what holds of it.
-use Rattle.std.specs.Prelude.{◌≡◌, ℕ, ◌+◌, ◌*◌, ◌≤◌, List, length, map}
-use Rattle.nit_scene.specs.Below.{Configuration, Entry, IsLegal, Scenery, State, bar_rows, replay, session_in, shots}
-use Rattle.nit_scene.specs.RawWords.{AreRaw}
-use Rattle.nit_scene.specs.Server.{ServerModel, state_of}
+use Rattle.std.specs.Prelude.{◌≡◌, ℕ, ◌+◌, ◌*◌, ◌≤◌, List, length}
+use Rattle.nit_scene.specs.Below.{AreRaw, Configuration, Entry, IsLegal, ServerModel, State, replay, session_in, shots, state_of}
 
 -- the configuration, the entries of the journal and for how many more there is room, the raw words
 -- of the screen's pixels, and the glasses through which the sessions' words are loaded
@@ -16,19 +14,6 @@ pub record SceneModel (G : Type 0) : Type 0 where
 -- the state that a scene is in is the one that its journal leads to
 abbrev pub state_now : {G : Type 0} → SceneModel G → State
 state_now p = replay p.config p.entries
-
--- what a state shows, but for the words of the clients
-abbrev pub scenery_of : State → Scenery
-scenery_of s =
-    record {
-      width = s.config.width;
-      height = s.config.height;
-      bar = bar_rows s.config;
-      stack = s.stack;
-      labels = map (λ m. m.label) s.config.clients;
-      mode = s.input.mode;
-      focus = s.input.focus;
-    }
 
 -- The server is in the state that a legal journal leads to, and the raw words are as the pixels'
 -- sources want them. No session has made more views than there are entries, or lost more than three

@@ -5,7 +5,6 @@ ghost use Rattle.std.specs.Prelude.{◌≡◌, ◌<◌, ◌≤◌, length, slice
 ghost use Rattle.nit_scene.specs.Terms.{is_between, no_sight, set_where, told_at, with_words};
 
 use crate::scene::Scene;
-use crate::screen::Screen;
 use nit_word::Inked;
 
 impl Scene<Inked> {
@@ -25,21 +24,5 @@ impl Scene<Inked> {
     {
         self.screen.facts();
         self.screen.draw_row(sid, from, to, own);
-    }
-}
-
-impl Screen<Inked> {
-    fn draw_row(&mut self, sid: u32, from: usize, to: usize, own: &Inked)
-        requires session { sid < length self.old.glasses }
-        requires order { from ≤ to }
-        requires room { to ≤ (slice_index_or self.old.glasses sid no_sight).size }
-        requires ink { own.now.ink ≡ (slice_index_or self.old.glasses sid no_sight).ink }
-        ensures { self.new ≡ record self.old {
-          glasses = slice_set self.old.glasses sid
-              (with_words (set_where (is_between from to) (told_at own.now))
-              (slice_index_or self.old.glasses sid no_sight));
-        } }
-    {
-        self.pixels.painter.glasses[sid as usize].copy(from, to, own);
     }
 }

@@ -4,7 +4,6 @@ ghost use Rattle.std.specs.Prelude.{◌≡◌, ◌<◌, length, slice_index_or, 
 ghost use Rattle.nit_scene.specs.Terms.{IsInked, no_sight, session, stored};
 
 use crate::scene::Scene;
-use crate::screen::Screen;
 use nit_word::Inked;
 
 impl Scene<Inked> {
@@ -21,19 +20,5 @@ impl Scene<Inked> {
     {
         self.screen.facts();
         self.screen.draw(sid, i, w);
-    }
-}
-
-impl Screen<Inked> {
-    fn draw(&mut self, sid: u32, i: usize, w: u32)
-        requires session { sid < length self.old.glasses }
-        requires place { i < (slice_index_or self.old.glasses sid no_sight).size }
-        requires word { IsInked (slice_index_or self.old.glasses sid no_sight).ink w }
-        ensures { self.new ≡ record self.old {
-          glasses = slice_set self.old.glasses sid
-              (stored (slice_index_or self.old.glasses sid no_sight) i w);
-        } }
-    {
-        self.pixels.painter.glasses[sid as usize].store(i, w);
     }
 }

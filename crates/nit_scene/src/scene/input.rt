@@ -4,10 +4,10 @@ ghost use Rattle.std.specs.Prelude.{◌≡◌, ◌-◌, ◌≤◌, All, false, m
 ghost use Rattle.nit_scene.specs.Terms.{AreAlone, AreInked, AreRaw, FollowPresses, IsDevice, IsLegal, IsLive, IsOpen, Painted, deliveries_of, glass_in, kills, route, routed_as, state_now};
 ghost use Rattle.nit_events.specs.declared.entry.Entry.TheVariants as entry;
 
-use crate::laws::{ink_stays, raw_stays_raw};
 use crate::scene::Scene;
 use nit_events::{Device, Entry, Routed};
 use nit_journal::laws::{deliveries_go_to_live_sessions, isolation, releases_follow_presses};
+use nit_screen::laws::{ink_stays, raw_stays_raw};
 use nit_word::Glass;
 
 impl<G: Glass + Drop> Scene<G> {

@@ -4,10 +4,10 @@ ghost use Rattle.std.specs.Prelude.{◌≡◌, ◌+◌, ◌-◌, ◌<◌, ◌≤
 ghost use Rattle.nit_scene.specs.Terms.{IsConfiguration, IsGlass, bare_word, glass_in, shots, spare};
 
 use crate::scene::Scene;
-use crate::screen::Screen;
 use nit_config::Config;
 use nit_journal::Journal;
 use nit_rect::NoMemory;
+use nit_screen::Screen;
 use nit_word::Glass;
 use std::alloc::Global;
 

@@ -5,16 +5,8 @@ ghost use Rattle.nit_scene.specs.Terms.{IsConfiguration, reserved, session, stat
 
 use crate::scene::Scene;
 use nit_events::Status;
+use nit_server::Counts;
 use nit_word::Glass;
-
-/// How many slots of views the sessions have for their opening donations, how many views there are,
-/// and how many sessions.
-#[derive(Clone, Copy, Debug, PartialEq, Eq)]
-pub struct Counts {
-    pub reserved: u32,
-    pub used: u32,
-    pub sessions: u32,
-}
 
 impl<G: Glass + Drop> Scene<G> {
     /// How many slots of views the sessions have for their opening donations, how many views there
@@ -32,8 +24,7 @@ impl<G: Glass + Drop> Scene<G> {
         ensures size { result ≡ (self.now.config.width, self.now.config.height) }
         ensures configured { IsConfiguration self.now.config }
     {
-        let config = &self.screen.server().config;
-        (config.width, config.height)
+        self.screen.server().size()
     }
 
     /// How many events the session `sid` has lost, since its queue held 64.

@@ -1,6 +1,0 @@
-use Rattle.std.proofs.Common.{map, take, ◌≡◌}
-use Rattle.nit_scene.proofs.Lemmas.{first_scene_session}
-use Rattle.nit_scene.proofs.server.opening.opened_members.Given as goal
-
-abbrev pub invariant-loop-client : goal.invariant-loop-client
-invariant-loop-client l = l.members.items ≡ map first_scene_session (take l.client-index l.clients)

@@ -1,0 +1,62 @@
+-- A frame that is kept, with what it is made by.
+use Rattle.std.specs.Prelude.{◌≡◌, ℕ, ◌*◌, ◌<◌, ◌≤◌, ◌++◌, Bool, true, false, All, IsTrue, List, drop, length, map, replicate, slice_index, vec_capacity, if◌then◌else◌}
+use Rattle.nit_screen.specs.Below.{IsWord, Pixels, ServerModel, State, bar_rows, bare_word, draws_labels, frame, in_bar, pixel, shown, state_of}
+use Rattle.nit_screen.specs.StateScenery.{scenery_of}
+
+-- the words with the bare word in place of the first so many, where the bar stands
+abbrev pub unbarred : ℕ → List ℕ → List ℕ
+unbarred bar words = replicate bar bare_word ++ drop bar words
+
+-- the raw words: the kept ones, where they stand apart from the frame; and those of the frame but
+-- for the bar, where one list is both
+abbrev pub raw_in : Bool → ℕ → List ℕ → List ℕ
+raw_in is_apart bar words = if is_apart then words else unbarred bar words
+
+abbrev pub raw_of : {G : Type 0} → Pixels G → List ℕ
+raw_of p = raw_in p.is_apart p.bar p.painter.raw.items
+
+-- the frame: a list of its own where the raw words stand apart from it, or the list that is both
+abbrev pub kept_frame : {G : Type 0} → Pixels G → List ℕ
+kept_frame p = if p.is_apart then p.frame.items else p.painter.raw.items
+
+-- A frame can be made: a word below 2^24 for each pixel, room for as many words of a frame apart, of
+-- which some are there, room to cut out every view, the label of each session, room for the place of
+-- each view's label, and the number of pixels that the bar has.
+pub record CanShow (s : ServerModel) (raw : List ℕ) (reached most room : ℕ)
+    (labels : List (List ℕ)) (places first : ℕ) : Type 0 where
+  pub words : All IsWord raw
+  pub pixels : length raw ≡ s.config.width * s.config.height
+  pub few : reached ≤ s.config.width * s.config.height
+  pub spare : s.config.width * s.config.height ≤ most
+  pub cuts : s.stack.most ≤ room
+  pub named : labels ≡ map (λ m. m.label) s.config.clients
+  pub placed : s.stack.most ≤ places
+  pub bar : first ≡ s.config.width * bar_rows s.config
+  pub fits : first ≤ length raw
+
+-- what is shown at the pixel of a number, by the raw words
+abbrev pub shown_by : State → List ℕ → ℕ → ℕ
+shown_by s raw k = shown (scenery_of s) (pixel s.config.width k) (slice_index raw k)
+
+-- below the bar each of these words is what is shown at its pixel, by the word itself
+abbrev pub ShowsBelow : State → List ℕ → Type 0
+ShowsBelow s words =
+    (k : ℕ) → k < s.config.width * s.config.height
+    → in_bar (bar_rows s.config) (pixel s.config.width k) ≡ false
+    → shown_by s words k ≡ slice_index words k
+
+-- the pixels have all that a frame of the server is made by
+abbrev pub CanShowBy : {G : Type 0} → ServerModel → Pixels G → Type 0
+CanShowBy s p =
+    CanShow s p.painter.raw.items (length p.frame.items) (vec_capacity p.frame)
+    p.painter.cutter.room p.labels.texts.items
+    (length p.labels.places.items) p.bar
+
+-- the frame is the one of the server's state and of the raw words
+abbrev pub IsFrameOf : {G : Type 0} → ServerModel → Pixels G → Type 0
+IsFrameOf s p = kept_frame p ≡ frame (scenery_of (state_of s)) (raw_of p)
+
+-- and so it is; where labels are drawn, the raw words stand apart
+abbrev pub ArePixels : {G : Type 0} → ServerModel → Pixels G → Type 0
+ArePixels s p =
+    CanShowBy s p × IsFrameOf s p × (IsTrue (draws_labels s.input.mode) → p.is_apart ≡ true)

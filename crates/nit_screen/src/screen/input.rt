@@ -1,0 +1,48 @@
+//! What the user does, and exactly the pixels that it makes dirty.
+
+ghost use Rattle.std.specs.Prelude.{◌≡◌, ◌+◌, ◌-◌, ◌<◌, All, false, Some, map};
+ghost use Rattle.nit_screen.specs.Terms.{IsDevice, IsLive, MayLose, Painted, after, deliveries_of, glass_in, kills, route, routed_as, routing_of, state_of};
+ghost use Rattle.nit_events.specs.declared.entry.Entry.TheVariants as entry;
+ghost use Rattle.nit_events.specs.declared.event.Status.TheVariants as status;
+
+use crate::screen::Screen;
+use crate::screen::pixels::show_input;
+use crate::screen::sessions::kill_session;
+use nit_events::{Device, Routed};
+use nit_journal::laws::kills_stand_alone;
+use nit_server::killed;
+use nit_word::Glass;
+
+impl<G: Glass + Drop> Screen<G> {
+    /// Serves a device event. Exactly the pixels of a session that is locked out are loaded again.
+    pub fn input(&mut self, dev: Device) -> Routed
+        requires device { IsDevice dev }
+        requires live { All (λ d. IsLive (state_of self.old.serving) d.sid)
+            (routing_of self.old.serving dev).deliveries }
+        requires lost { MayLose 3 self.old.serving }
+        ensures routed { result ≡ routed_as (routing_of self.old.serving dev).deliveries }
+        ensures delivered { deliveries_of result ≡ (routing_of self.old.serving dev).deliveries }
+        ensures state { state_of self.new.serving ≡ after (state_of self.old.serving)
+            (entry.Input dev result) }
+        ensures painted { Painted (state_of self.old.serving) (entry.Input dev result)
+            (state_of self.new.serving)
+            (glass_in (map G.sight self.old.glasses)) (glass_in (map G.sight self.new.glasses))
+            self.old.raw self.new.raw }
+        ensures rests { map G.rest self.new.glasses ≡ map G.rest self.old.glasses }
+        ensures quiet { kills (deliveries_of result) ≡ false → (self.new.raw ≡ self.old.raw) ×
+            (self.new.glasses ≡ self.old.glasses) }
+    {
+        kills_stand_alone();
+        self.server.facts();
+        let mode = self.server.mode();
+        let focus = self.server.focus();
+        let routed = self.server.route(dev);
+        if let Some(sid) = killed(&routed) {
+            kill_session(&mut self.server, sid, &mut self.pixels);
+            return routed;
+        }
+        self.server.tell_all(&routed);
+        show_input(&self.server, mode, focus, &mut self.pixels);
+        routed
+    }
+}

@@ -1,0 +1,121 @@
+//! A screen before its first entry.
+
+ghost use Rattle.std.specs.Prelude.{◌≡◌, ◌+◌, ◌-◌, ◌<◌, ◌≤◌, None, IfOk, length, ℕ, ◌*◌, map, false, replicate, vec_capacity};
+ghost use Rattle.nit_screen.specs.Terms.{IsConfiguration, IsGlass, Point, bar_rows, bare_word, first_state, glass_in, most_slots, state_of};
+
+use crate::screen::Screen;
+use crate::screen::labels::Labels;
+use crate::screen::pixels::{Pixels, show_again};
+use nit_config::Config;
+use nit_damage::Cutter;
+use nit_glyph::Label;
+use nit_rect::{NoMemory, Point};
+use nit_repaint::Painter;
+use nit_server::Server;
+use nit_word::{BARE, Glass};
+use std::alloc::Global;
+
+/// The most views that all sessions together may have.
+const MOST_VIEWS: usize = 1024;
+
+impl<G: Glass + Drop> Screen<G> {
+    /// A screen of this configuration without any view.
+    pub fn new(alloc: Global, config: &Config, glasses: Vec<G>) -> Result<Screen<G>, NoMemory>
+        requires config { IsConfiguration config.now }
+        requires glasses { length glasses.items ≡ length config.now.clients }
+        requires tables { (t : ℕ) → t < length config.now.clients → IsGlass config.now t
+            (glass_in (map G.sight glasses.items) t) }
+        ensures state { IfOk result (λ s. state_of s.serving ≡ first_state config.now) }
+        ensures raw { IfOk result (λ s. s.raw ≡ replicate
+            (config.now.width * config.now.height) bare_word) }
+        ensures glasses { IfOk result (λ s. s.glasses ≡ glasses.items) }
+    {
+        let server = Server::new(alloc, config)?;
+        server.facts();
+        let mut pixels = bare_pixels(alloc, config, glasses, bar_pixels(&server))?;
+        show_again(&server, &mut pixels);
+        Ok(Screen { server, pixels })
+    }
+}
+
+/// The pixels of a bare screen in mode Flat, without the bar.
+fn bare_pixels<G: Drop>(
+    alloc: Global,
+    config: &Config,
+    glasses: Vec<G>,
+    bar: usize,
+) -> Result<Pixels<G>, NoMemory>
+    requires { IsConfiguration config.now }
+    ensures raw { IfOk result (λ p. p.painter.raw.items
+        ≡ replicate (config.now.width * config.now.height) bare_word) }
+    ensures glasses { IfOk result (λ p. p.painter.glasses ≡ glasses) }
+    ensures one { IfOk result (λ p. p.is_apart ≡ false) }
+    ensures bar { IfOk result (λ p. p.bar ≡ bar) }
+    ensures none { IfOk result (λ p. length p.frame.items ≡ 0) }
+    ensures spare { IfOk result (λ p.
+        config.now.width * config.now.height ≤ vec_capacity p.frame) }
+    ensures named { IfOk result (λ p.
+        p.labels.texts.items ≡ map (λ m. m.label) config.now.clients) }
+    ensures room { IfOk result (λ p.
+        (most_slots ≤ p.painter.cutter.room) × (most_slots ≤ length p.labels.places.items)) }
+{
+    let cutter = Cutter::with_room(alloc, MOST_VIEWS as u32)?;
+    let raw = bare_words(alloc, config)?;
+    let frame = Vec::with_capacity(alloc, raw.len())?;
+    let labels = Labels {
+        texts: labels_of(alloc, config)?,
+        places: no_places(alloc)?,
+    };
+    let painter = Painter {
+        cutter,
+        raw,
+        glasses,
+    };
+    Ok(Pixels {
+        painter,
+        frame,
+        is_apart: false,
+        bar,
+        labels,
+    })
+}
+
+/// How many pixels the bar has.
+fn bar_pixels(server: &Server) -> usize
+    ensures bar { result ≡ server.now.config.width * bar_rows server.now.config }
+    ensures fits { result ≤ server.now.config.width * server.now.config.height }
+{
+    server.facts();
+    let stack = server.stack();
+    let (width, _height) = stack.size();
+    width as usize * stack.bar() as usize
+}
+
+/// The labels of the clients, in order.
+fn labels_of(alloc: Global, config: &Config) -> Result<Vec<Label>, NoMemory>
+    ensures { IfOk result (λ v. v.items ≡ map (λ m. m.label) config.now.clients) }
+{
+    let mut labels = Vec::new(alloc);
+    for client in config.clients.as_slice() {
+        labels.push(client.label)?;
+    }
+    Ok(labels)
+}
+
+/// The bare word for each pixel of the screen.
+fn bare_words(alloc: Global, config: &Config) -> Result<Vec<u32>, NoMemory>
+    requires { IsConfiguration config.now }
+    ensures words { IfOk result (λ v. v.items ≡ replicate
+        (config.now.width * config.now.height) bare_word) }
+    ensures count { IfOk result (λ v. length v.items ≡ config.now.width * config.now.height) }
+{
+    let pixels = config.width as usize * config.height as usize;
+    Ok(vec![in alloc; BARE; pixels]?)
+}
+
+/// Room for the place of each view's label.
+fn no_places(alloc: Global) -> Result<Vec<Option<Point>>, NoMemory>
+    ensures { IfOk result (λ v. most_slots ≤ length v.items) }
+{
+    Ok(vec![in alloc; None; MOST_VIEWS]?)
+}

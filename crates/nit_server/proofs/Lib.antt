@@ -1,0 +1,17 @@
+pub mod FirstFound
+pub mod Lists
+pub mod NoRefusal
+pub mod NewViews
+pub mod ServedCalls
+pub mod ServerInputLemmas
+pub mod ServerLemmas
+pub mod ServerOpeningLemmas
+pub mod SessionCalls
+pub mod SlotLemmas
+pub mod KeptSessionLemmas
+pub mod ViewCalls
+pub mod ViewsGone
+pub mod LostEvents
+pub mod Basics
+pub mod Lemmas
+pub mod ForCallers

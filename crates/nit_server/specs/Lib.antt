@@ -1,0 +1,16 @@
+pub use Rattle.nit_events.specs.Input
+pub use Rattle.nit_events.specs.Ranges
+pub use Rattle.nit_stack.specs.Stack
+pub use Rattle.nit_journal.specs.Session
+pub use Rattle.nit_journal.specs.State
+pub use Rattle.nit_journal.specs.Replay
+pub use Rattle.nit_journal.specs.Deliveries
+pub use Rattle.nit_journal.specs.Presses
+pub use Rattle.nit_journal.specs.Projection
+pub mod KeptSession
+pub mod Server
+pub mod ServerInput
+pub mod ServerOpening
+pub mod ViewsTaken
+pub mod Below
+pub mod Terms
