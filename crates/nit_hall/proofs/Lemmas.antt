@@ -6,7 +6,7 @@ pub use Rattle.nit_hall.proofs.FinalEntries.{open_whole}
 pub use Rattle.nit_hall.proofs.LastDirty.{last_found, one_last}
 pub use Rattle.nit_hall.proofs.LineLemmas.{line_counted}
 pub use Rattle.nit_hall.proofs.NearLemmas.{near_word}
-pub use Rattle.nit_hall.proofs.PhaseEnds.{deeds_known, few_arrived, pass_phase, pass_stroke, phase_small, room_phase, room_user_phase, user_open, user_phase, user_phase_small}
+pub use Rattle.nit_hall.proofs.PhaseEnds.{deeds_known, few_arrived, pass_admitted, pass_phase, pass_stroke, phase_small, room_phase, room_user_phase, user_open, user_phase, user_phase_small}
 pub use Rattle.nit_hall.proofs.RoomEndLemmas.{IsEnded, Settled, all_served, booked_still, last_frame, long_same, met_below, rests_again, rests_knowing, room_ended, room_of, same_sights, step_far, step_met, still_there, tables_settled, tells_left}
 pub use Rattle.nit_hall.proofs.RoomEntered.{entered}
 pub use Rattle.nit_hall.proofs.RoomOpening.{clip_pass_more, each_more, get_seam, lens_inks, lens_tables, new_clip_pass, opened_clips, pass_at, pass_begun, room_begun, room_with_clips, zeros_behind, zeros_push}

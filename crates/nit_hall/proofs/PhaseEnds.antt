@@ -48,11 +48,11 @@ words_stay next script donation k at = ap (λ (p : Painting). p.words) (next (bl
 -- the end of a phase was served
 pub pass_phase : NextLine → (p : PassModel) (share share' : ShareModel) (name : _) (known known' : List Entry) → IsPass p share → slice_get p.script p.next ≡ Some line.Phase → share' ≡ record share { count = share.count + 1; seen = known }
     → calls_of p.sid known' ≡ calls_in (take p.next p.script) →
-    IsPass (record { sid = p.sid; next = p.next + 1; phase = p.phase + 1; name = name; script = p.script; plan = p.plan; donation = p.donation; seen = known'; sight = p.sight; stand = p.stand }) share'
+    IsPass (record { sid = p.sid; next = p.next + 1; phase = p.phase + 1; met = p.met; name = name; script = p.script; plan = p.plan; donation = p.donation; seen = known'; sight = p.sight; stand = p.stand }) share'
 pass_phase next p share share' name known known' is at e knows =
     let same = words_stay next p.script p.donation p.next at in
     let h = is.painted in
-    subst (λ (s : ShareModel). IsPass (record { sid = p.sid; next = p.next + 1; phase = p.phase + 1; name = name; script = p.script; plan = p.plan; donation = p.donation; seen = known'; sight = p.sight; stand = p.stand }) s) (sym e)
+    subst (λ (s : ShareModel). IsPass (record { sid = p.sid; next = p.next + 1; phase = p.phase + 1; met = p.met; name = name; script = p.script; plan = p.plan; donation = p.donation; seen = known'; sight = p.sight; stand = p.stand }) s) (sym e)
     (record {
       number = is.number;
       counted = ap (λ (n : ℕ). n + 1) is.counted ∙ sym (served_counted p.script p.next line.Phase at refl);
@@ -64,10 +64,14 @@ pass_phase next p share share' name known known' is at e knows =
       told = is.told ∙ ap (λ (ws : List ℕ). Some ws) (sym same);
     })
 
+-- the pass found a phase served
+pub pass_admitted : (p : PassModel) (share : ShareModel) (met : ℕ) → IsPass p share → IsPass (record p { met = met }) share
+pass_admitted p share met is = record { number = is.number; counted = is.counted; within = is.within; phase = is.phase; known = is.known; owner = is.owner; painted = is.painted; told = is.told }
+
 -- a stroke was made
 pub pass_stroke : (p : PassModel) (share : ShareModel) (s : Stroke) (sight : Sight) (stand : _) → IsPass p share → slice_get p.script p.next ≡ Some (line.Stroke s) → IsPaintedTo p.script p.donation p.plan (p.next + 1) sight
     → sight ≡ with_words (λ words. words_after p.script p.donation (p.next + 1)) p.sight
-    → IsPass (record { sid = p.sid; next = p.next + 1; phase = p.phase; name = p.name; script = p.script; plan = p.plan; donation = p.donation; seen = p.seen; sight = sight; stand = stand }) share
+    → IsPass (record { sid = p.sid; next = p.next + 1; phase = p.phase; met = p.met; name = p.name; script = p.script; plan = p.plan; donation = p.donation; seen = p.seen; sight = sight; stand = stand }) share
 pass_stroke p share s sight stand is at painted set =
     record {
       number = is.number;

@@ -131,14 +131,14 @@ each_more parts canvases k ps qs p c pushed long at is all j q e =
 -- the pass of a client, by what stands at its number
 pub pass_at : (name name' : BookName) (config : Configuration) (clients : List Member) (scripts : List (List Line)) (plans : List PlanModel) (input : List InputLine) (k : ℕ) (script : List Line) (plan : PlanModel) (m : Member) (share : ShareModel) (c : End) (p : PassModel)
     → k < length scripts → k < length plans → k < length clients → clients ≡ config.clients → share ≡ record { name = name'; number = k; count = 0; seen = [] } → name' ≡ name
-    → p ≡ record { sid = k; next = 0; phase = 0; name = share.name; script = get_or scripts k script; plan = get_or plans k plan; donation = (get_or clients k m).donation; seen = share.seen; sight = c.sight; stand = c.stand } → p ≡ first_pass (parts_of name config scripts plans input) k c
+    → p ≡ record { sid = k; next = 0; phase = 0; met = 0; name = share.name; script = get_or scripts k script; plan = get_or plans k plan; donation = (get_or clients k m).donation; seen = share.seen; sight = c.sight; stand = c.stand } → p ≡ first_pass (parts_of name config scripts plans input) k c
 pass_at name name' config clients scripts plans input k script plan m share c p hs hp hm ec eh en is =
     let s : get_or scripts k script ≡ script_in scripts k = get_or_default scripts k script [] hs in
     let q : get_or plans k plan ≡ plan_in plans k = get_or_default plans k plan (record { steps = []; ink = [] }) hp in
     let n : (get_or clients k m).donation ≡ donation_of config k = ap (λ (x : Member). x.donation) (get_or_default clients k m (record { label = []; donation = 0; script = []; layer = 0; clicks = false }) hm ∙ ap (λ (ms : List Member). get_or ms k (record { label = []; donation = 0; script = []; layer = 0; clicks = false })) ec) in
     let named : share.name ≡ name = ap (λ (x : ShareModel). x.name) eh ∙ en in
     let known : share.seen ≡ [] = ap (λ (x : ShareModel). x.seen) eh in
-    is ∙ (λ i. record { sid = k; next = 0; phase = 0; name = named i; script = s i; plan = q i; donation = n i; seen = known i; sight = c.sight; stand = c.stand })
+    is ∙ (λ i. record { sid = k; next = 0; phase = 0; met = 0; name = named i; script = s i; plan = q i; donation = n i; seen = known i; sight = c.sight; stand = c.stand })
 
 -- one more count of 0
 pub zeros_push : (n m : ℕ) (cs ds : List ℕ) → ds ≡ cs ++ 0 ∷ [] → cs ≡ replicate n 0 → m ≡ n + 1 → ds ≡ replicate m 0

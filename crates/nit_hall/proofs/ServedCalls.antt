@@ -188,10 +188,10 @@ told_after p told = ap (option_map (λ words. words_after p.script p.donation (p
 pub told_between : (p : PassModel) (share : ShareModel) (between : Sight) → IsPass p share → between ≡ with_words (λ words. words_after p.script p.donation (p.next + 1)) p.sight → between.words ≡ Some (words_after p.script p.donation (p.next + 1))
 told_between p share between is set = ap (λ (g : Sight). g.words) set ∙ told_after p is.told
 
-pub pass_call : (p : PassModel) (share : ShareModel) (c : Call) (name : _) (known : List Entry) (sight : Sight) (stand : _) → IsPass p share → slice_get p.script p.next ≡ Some (line.Call c) → IsLoadedAfter p sight → calls_of p.sid known ≡ calls_in (take (p.next + 1) p.script)
-    → IsPass (record { sid = p.sid; next = p.next + 1; phase = p.phase; name = name; script = p.script; plan = p.plan; donation = p.donation; seen = known; sight = sight; stand = stand })
+pub pass_call : (p : PassModel) (share : ShareModel) (c : Call) (met : ℕ) (name : _) (known : List Entry) (sight : Sight) (stand : _) → IsPass p share → slice_get p.script p.next ≡ Some (line.Call c) → IsLoadedAfter p sight → calls_of p.sid known ≡ calls_in (take (p.next + 1) p.script)
+    → IsPass (record { sid = p.sid; next = p.next + 1; phase = p.phase; met = met; name = name; script = p.script; plan = p.plan; donation = p.donation; seen = known; sight = sight; stand = stand })
     (record { name = name; number = share.number; count = share.count + 1; seen = known })
-pass_call p share c name known sight stand is at l knows =
+pass_call p share c met name known sight stand is at l knows =
     record {
       number = is.number;
       counted = ap (λ (n : ℕ). n + 1) is.counted ∙ sym (served_counted p.script p.next (line.Call c) at refl);
@@ -220,7 +220,7 @@ found r₀ r p₀ p known call er ep ec of at ready counted =
 
 -- a pass that has met the room knows its calls so far
 pub pass_met : (r r₀ : RoomModel) (p : PassModel) (share share' : ShareModel) (known : List Entry) → IsRoom r → r ≡ r₀ → Belongs r₀.parts p → IsPass p share → slice_index r.counts share.number ≡ share.count → known ≡ without_final r.scene.entries
-    → share' ≡ record share { seen = known } → IsPass (record { sid = p.sid; next = p.next; phase = p.phase; name = share'.name; script = p.script; plan = p.plan; donation = p.donation; seen = share'.seen; sight = p.sight; stand = p.stand }) share'
+    → share' ≡ record share { seen = known } → IsPass (record { sid = p.sid; next = p.next; phase = p.phase; met = p.met; name = share'.name; script = p.script; plan = p.plan; donation = p.donation; seen = share'.seen; sight = p.sight; stand = p.stand }) share'
 pass_met r r₀ p share share' known room same of is counted book seen_ =
     let here : slice_get r.parts.scripts p.sid ≡ Some p.script = ap (λ (x : RoomModel). slice_get x.parts.scripts p.sid) same ∙ of.script in
     let count : slice_index r.counts p.sid ≡ length (served (take p.next p.script)) = ap (λ (n : ℕ). slice_index r.counts n) (sym is.number) ∙ counted ∙ is.counted in

@@ -42,6 +42,7 @@ first_pass parts k canvas =
       sid = k;
       next = 0;
       phase = 0;
+      met = 0;
       name = parts.name;
       script = script_in parts.scripts k;
       plan = plan_in parts.plans k;

@@ -9,13 +9,15 @@ use Rattle.nit_script.specs.declared.line.InputLine.TheVariants as input
 use Rattle.nit_hall.specs.ServedLines.{served, user_actions_in, phases_before, input_phases_before}
 use Rattle.nit_hall.specs.OpeningParts.{OpeningParts}
 
--- A client's pass: its number, how many lines of its script are done, and how many phases; the name
--- of its room's book, its script, plan and donation; the entries that it knows; what it sees of its
--- words, and where its end of them stands.
+-- A client's pass: its number, how many lines of its script are done, and how many phases; the phase
+-- that it last found served, by a call or by waiting; the name of its room's book, its script, plan
+-- and donation; the entries that it knows; what it sees of its words, and where its end of them
+-- stands.
 pub record PassModel : Type 0 where
   pub sid : ℕ
   pub next : ℕ
   pub phase : ℕ
+  pub met : ℕ
   pub name : BookName
   pub script : List Line
   pub plan : PlanModel
@@ -75,6 +77,10 @@ IsAtCall p = slice_get p.script p.next ≡ Some (line.Call (next_call p))
 -- the next line is a stroke
 abbrev pub IsAtStroke : PassModel → Type 0
 IsAtStroke p = (s : Stroke) × (slice_get p.script p.next ≡ Some (line.Stroke s))
+
+-- the pass has found the phase served that it is in
+abbrev pub HasMetPhase : PassModel → Type 0
+HasMetPhase p = p.met ≡ p.phase
 
 -- the next line ends a phase
 abbrev pub IsAtPhase : PassModel → Type 0

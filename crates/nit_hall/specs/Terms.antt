@@ -5,7 +5,7 @@ pub use Rattle.nit_hall.specs.ClipPass.{AreDoneClips, AreTogether, ClipBelongs, 
 pub use Rattle.nit_hall.specs.NearWords.{AreNear, IsLastDirtied, IsNear, IsNearBy, IsNearFrame, IsWordOfScripts, is_dirtied, words_at_call}
 pub use Rattle.nit_hall.specs.Opening.{AreBlank, AreSplitOff, IsFirst, IsOpening, IsSetting, first_pass, first_user, parts_of}
 pub use Rattle.nit_hall.specs.OpeningParts.{OpeningParts}
-pub use Rattle.nit_hall.specs.Pass.{AreDone, Belongs, HasLoaded, IsAtCall, IsAtDevice, IsAtPhase, IsAtShot, IsAtUserPhase, IsDonePass, IsDoneUser, IsPass, IsUserPass, PassModel, UserBelongs, UserPassModel, call_entry, device_entry, knowing, next_call, next_device, rest_of, sight_after_line}
+pub use Rattle.nit_hall.specs.Pass.{AreDone, Belongs, HasLoaded, HasMetPhase, IsAtCall, IsAtDevice, IsAtPhase, IsAtShot, IsAtUserPhase, IsDonePass, IsDoneUser, IsPass, IsUserPass, PassModel, UserBelongs, UserPassModel, call_entry, device_entry, knowing, next_call, next_device, rest_of, sight_after_line}
 pub use Rattle.nit_hall.specs.Room.{AllServed, Follows, HaveInks, IsRoom, IsServedPhase, RoomModel, after_arrival, arrived_one, clip_entry, lenses, phases_ended, stands, with_clip, with_entry, with_final, without_final}
 pub use Rattle.nit_hall.specs.RoomClips.{FollowsClips, lines_of_clips}
 pub use Rattle.nit_hall.specs.RoomEnd.{IsKnownPass, left_word, words_left_in}

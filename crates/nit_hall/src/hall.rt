@@ -70,6 +70,13 @@ impl<'a, N: Name> Kept<'a, N> {
         self.room.ready_user(user)
     }
 
+    fn admit(&self, pass: &mut Pass<'a>)
+        requires ready { pass.old.phase ≡ self.now.phase }
+        ensures { pass.new ≡ record pass.old { met = pass.old.phase } }
+    {
+        self.room.admit(pass);
+    }
+
     fn serve(&mut self, pass: &mut Pass<'a>) -> Reply
         requires belongs { Belongs N.parts pass.old }
         requires ready { pass.old.phase ≡ self.old.phase }
@@ -78,6 +85,7 @@ impl<'a, N: Name> Kept<'a, N> {
         ensures legal { IsLegal N.parts.config pass.new.seen }
         ensures pass { pass.new ≡ record pass.old {
           next = pass.old.next + 1;
+          met = pass.old.phase;
           seen = pass.new.seen;
           sight = pass.new.sight;
         } }
@@ -112,7 +120,8 @@ impl<'a, N: Name> Kept<'a, N> {
             (next_clip clip.old) result }
         ensures grows { IsPrefix pass.old.seen pass.new.seen }
         ensures legal { IsLegal N.parts.config pass.new.seen }
-        ensures pass { pass.new ≡ record pass.old { seen = pass.new.seen } }
+        ensures pass { pass.new
+            ≡ record pass.old { met = pass.old.phase; seen = pass.new.seen } }
         ensures clip { clip.new
             ≡ record clip.old { next = clip.old.next + 1; seen = pass.new.seen } }
     {
@@ -222,6 +231,7 @@ impl<'a, N: Name> Hall<'a, N> {
         ensures legal { IsLegal N.parts.config pass.new.seen }
         ensures pass { pass.new ≡ record pass.old {
           next = pass.old.next + 1;
+          met = pass.old.phase;
           seen = pass.new.seen;
           sight = pass.new.sight;
         } }
@@ -273,7 +283,8 @@ impl<'a, N: Name> Hall<'a, N> {
             (next_clip clip.old) result }
         ensures grows { IsPrefix pass.old.seen pass.new.seen }
         ensures legal { IsLegal N.parts.config pass.new.seen }
-        ensures pass { pass.new ≡ record pass.old { seen = pass.new.seen } }
+        ensures pass { pass.new
+            ≡ record pass.old { met = pass.old.phase; seen = pass.new.seen } }
         ensures clip { clip.new
             ≡ record clip.old { next = clip.old.next + 1; seen = pass.new.seen } }
     {
@@ -339,10 +350,14 @@ impl<'a, N: Name> Hall<'a, N> {
         kept.shoot(user, out)
     }
 
-    /// Returns once the pass is ready. No contract tells what it waited for.
-    pub fn wait_ready<R: Wait>(&self, rt: &R, pass: &Pass<'a>) {
-        self.moved
-            .wait_while(rt, self.room.lock(rt), |kept| !kept.ready(pass));
+    /// Waits until the pass is ready, and lets it find its phase served ([`Room::admit`]). It may
+    /// make the strokes of this phase then, and they wait for nobody.
+    pub fn wait_ready<R: Wait>(&self, rt: &R, pass: &mut Pass<'a>)
+        ensures { pass.new ≡ record pass.old { met = pass.old.phase } }
+    {
+        let kept = self.room.lock(rt);
+        let kept = self.moved.wait_while(rt, kept, |kept| !kept.ready(pass));
+        kept.admit(pass);
     }
 
     /// The room. It is of this opening, and its journal is not ended.

@@ -6,6 +6,7 @@ mod clips;
 mod deeds;
 mod last;
 mod phases;
+mod served;
 
 ghost use Rattle.std.specs.Prelude.{◌≡◌, ◌+◌, ◌*◌, ◌≤◌, ◌==◌, [], length, replicate};
 ghost use Rattle.nit_hall.specs.Terms.{AreNear, Belongs, HaveInks, IsLegal, IsPaintedTo, IsRoom, Some, UserBelongs, bare_word, lines_of_all, most_height, most_sessions, most_width, served, slice_index, take, without_final, words_after};
@@ -20,6 +21,7 @@ use nit_clip::{Clip, ClipScript};
 use nit_ledger::Book;
 use nit_pixels::Lens;
 use nit_scene::Scene;
+pub(crate) use served::Served;
 use std::marker::Model;
 
 /// All sessions on one screen, and which lines of which scripts were served. Contracts see its
@@ -124,6 +126,16 @@ impl<'a> Room<'a> {
         ensures { result ≡ (pass.now.phase == self.now.phase) }
     {
         pass.phase == self.phase
+    }
+
+    /// Lets the pass find its phase served: it may make the strokes of this phase then. The pass is
+    /// ready.
+    #[tactic(auto, using(crate::proofs::PhaseEnds::pass_admitted))]
+    pub fn admit(&self, pass: &mut Pass<'a>)
+        requires ready { pass.old.phase ≡ self.now.phase }
+        ensures { pass.new ≡ record pass.old { met = pass.old.phase } }
+    {
+        pass.met = self.served();
     }
 
     /// Whether the user is in the phase that is served.

@@ -27,6 +27,7 @@ impl<'a> Room<'a> {
             self.new.scene.raw self.new.scene.glasses }
         ensures pass { pass.new ≡ record pass.old {
           next = pass.old.next + 1;
+          met = pass.old.phase;
           seen = self.new.scene.entries;
           sight = pass.new.sight;
         } }
@@ -56,6 +57,7 @@ impl<'a> Room<'a> {
         self.meet(pass);
         let call = pass.next_call();
         stroke(&mut pass.canvas, pass.script, pass.plan, pass.next as usize);
+        pass.met = self.served();
         let reply = self.scene.call(pass.sid, &call, &mut pass.canvas);
         let entry = Entry::Call {
             sid: pass.sid,

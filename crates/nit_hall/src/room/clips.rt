@@ -26,7 +26,8 @@ impl<'a> Room<'a> {
         ensures reply { result ≡ clip_answer (clipboard_of self.old.clips.entries)
             (state_now self.old.scene).input.focus clip.old.sid (next_clip clip.old) }
         ensures room { self.new ≡ with_clip self.old (clip_entry self.old clip.old result) }
-        ensures pass { pass.new ≡ record pass.old { seen = self.old.scene.entries } }
+        ensures pass { pass.new
+            ≡ record pass.old { met = pass.old.phase; seen = self.old.scene.entries } }
         ensures clip { clip.new
             ≡ record clip.old { next = clip.old.next + 1; seen = self.old.scene.entries } }
         ensures before { IsPrefix pass.old.seen self.old.scene.entries }
@@ -43,6 +44,7 @@ impl<'a> Room<'a> {
         one_more_placed();
         let _ended = pass.phase();
         self.meet(pass);
+        self.admit(pass);
         let call = clip.next_clip();
         self.book.count(&mut clip.share);
         let at = self.scene.journal().entries().len() as u32;

@@ -60,7 +60,10 @@ impl<'a, N: Name> Client<'a, N> {
             Some(Line::Call(_)) => {
                 hall.serve_next(rt, &mut self.pass);
             }
-            Some(Line::Stroke(_)) => self.pass.stroke(),
+            Some(Line::Stroke(_)) => {
+                hall.wait_ready(rt, &mut self.pass);
+                self.pass.stroke();
+            }
             Some(Line::Phase) | None => {
                 do_clip(rt, hall, &mut self.pass, &mut self.clip, answers);
             }

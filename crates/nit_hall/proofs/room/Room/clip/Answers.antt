@@ -1,5 +1,5 @@
 use Rattle.std.proofs.Common.{List, ap, drop, length, refl, subst, sym, take, ◌+◌, ◌∙◌, ◌≡◌, ◌≤◌}
-use Rattle.nit_hall.proofs.Lemmas.{BookModel, CallLaws, ClipPassModel, Entry, IsLegalClips, IsRoom, JournalModel, RoomModel, ShareModel, back_raised, clip_answer, clip_counted, clip_pass_call, clipboard_of, follows_then, found_clip, front_stays, next_clip, number_is, open_whole, room_clip, room_left, served_clip, state_now, without_final}
+use Rattle.nit_hall.proofs.Lemmas.{BookModel, CallLaws, ClipPassModel, Entry, IsLegalClips, IsRoom, JournalModel, PassModel, RoomModel, ShareModel, back_raised, clip_answer, clip_counted, clip_pass_call, clipboard_of, follows_then, found_clip, front_stays, next_clip, number_is, open_whole, room_clip, room_left, served_clip, state_now, without_final}
 use mathlib.Core.List.{IsPrefix}
 use Rattle.nit_hall.proofs.room.Room.clip.Goals as goal
 
@@ -42,7 +42,9 @@ invariant_of-clip c =
     clip_pass_call laws _ _ c.count.new.share c.clip.invariant (rw (← c.clip.view_is) at c.requires.next) (ap (λ (s : ShareModel). s.count) c.count.ensures.share)
 
 pub returns-clause-pass : goal.returns-clause-pass
-returns-clause-pass c = c.meet.ensures.pass ∙ ap (λ (js : List Entry). record c.args.pass.now { seen = js }) (open_whole _ c.requires.«open»)
+returns-clause-pass c =
+    c.admit.ensures ∙ ap (λ (p : PassModel). record p { met = p.phase }) c.meet.ensures.pass
+    ∙ ap (λ (js : List Entry). record c.args.pass.now { met = c.args.pass.now.phase; seen = js }) (open_whole _ c.requires.«open»)
 
 pub returns-clause-clip : goal.returns-clause-clip
 returns-clause-clip c =
