@@ -9,7 +9,7 @@ from pathlib import Path
 
 WORD = re.compile(r'"(?:[^"\\]|\\.)*"|\[\]|[()\[\]{};,]|[^\s()\[\]{};,"]+')
 COMMENT = re.compile(r"(?:^|(?<=\s))--(?=[\s-]|$).*$", re.M)
-USE = re.compile(r"(pub )?(?:ghost )?use ([^\s;{]+?)(?:\.\{([^}]*)\})?(?: as (\S+?))?;?\s*\Z")
+USE = re.compile(r"(?:(?:pub|unfoldable) )*use ([^\s{]+?)(?:\.\{([^}]*)\})?(?: as (\S+))?\s*\Z")
 HEAD = re.compile(r"((?:abbrev |pub |unfoldable )*)(record |data )?(\S+)(.*)\Z", re.S)
 # a line of a `do`, and what it stands for: what is done, and its result's name for what follows
 DO = (re.compile(r"^( +)(\S+) ← (.*(?:\n\1 +.*)*)$", re.M), r"\1>>= (\3) λ \2.")
@@ -38,7 +38,10 @@ class Definition:
 
     def reads(self):
         """What it names: definitions, and words of the library."""
-        return self.home.reads_of(self)
+        try:
+            return self.home.reads_of(self)
+        except (IndexError, KeyError, ValueError) as error:
+            raise NotUnderstood(f"{self}: {error}") from error
 
 
 # Reading.
@@ -193,15 +196,15 @@ class Module:
             self.bring(use)
         elif re.match(r"(pub )?mod |infix", chunk):
             pass
-        elif re.match(r"(?:(?:abbrev|pub|unfoldable) )+", chunk):
+        elif re.match(r"(?:(?:abbrev|pub|unfoldable) )+(?!use )", chunk):
             self.declare(chunk)
         else:
             self.clause(chunk)
 
     def bring(self, use):
-        names, module = use[3], use[2]
+        module, names = use[1], use[2]
         if names is None:
-            self.aliases[use[4] or module.split(".")[-1]] = module
+            self.aliases[use[3] or module.split(".")[-1]] = module
         for name in (names or "").split(","):
             if name.strip():
                 given, _, other = name.strip().partition(" as ")

@@ -104,7 +104,7 @@ pub struct Answered {
     "crates/nit_top/specs/Lib.antt": "pub use Rattle.low.specs.Words\n",
     "crates/nit_top/specs/Below.antt": """pub use Rattle.low.specs.Shapes.{Angle, double, hidden}
 pub use Rattle.low.specs.Shapes.{◌>>=◌, ◌beside◌}
-pub use Rattle.low.specs.declared.kind.Kind.{Kind}
+unfoldable pub use Rattle.low.specs.declared.kind.Kind.{Kind}
 pub use Rattle.nit_top.specs.Words.{Words}
 pub use Rattle.std.specs.Prelude.{ℕ, Option, Some, false}
 """,

@@ -11,7 +11,7 @@ FUNCTION = r"^pub fn {}\b.*?(?=^\{{)"
 GHOST_USE = re.compile(r"^ *ghost (use [^;]*);\n", re.M)
 FILES_USE = re.compile(r"^ghost (use [^;]*);\n", re.M)
 RUST_USE = re.compile(r"^(?:pub )?use ([^;]*);", re.M)
-CLAUSE = re.compile(r"\b(?:requires|ensures)(?: \w+)? (?=\{)|\bghost \w+: (?=\{)|\bby (?=\{)")
+CLAUSE = re.compile(r"\b(?:(?:requires|ensures)(?:\s+\w+)?|ghost \w+:|by)\s+(?=\{)")
 OF_RUST = set("Vec Option Result String Box Self Sync Send Drop Copy Clone".split())
 
 
