@@ -5,7 +5,6 @@ above), or is looked up: in its file, by the file's `use` lines, and through `pu
 where it is declared. A name that is none of these is an error, so nothing is passed over.
 """
 import re
-from pathlib import Path
 
 WORD = re.compile(r'"(?:[^"\\]|\\.)*"|\[\]|[()\[\]{};,]|[^\s()\[\]{};,"]+')
 COMMENT = re.compile(r"(?:^|(?<=\s))--(?=[\s-]|$).*$", re.M)
@@ -26,11 +25,11 @@ class Library(str):
 
 
 class Definition:
-    """A definition, or a type of src: its file, its constructors, its code, the names in it."""
+    """A definition, or a type of src: its file, its constructors, and its code in pieces."""
 
     def __init__(self, home, name, kind):
         self.home, self.file, self.name, self.kind = home, home.file, name, kind
-        self.constructors, self.fields, self.pieces = [], [], []
+        self.constructors, self.pieces = [], []
         self.lines = 0
 
     def __repr__(self):
@@ -191,17 +190,19 @@ class Module:
                 self.add(chunk.strip("\n"))
 
     def add(self, chunk):
-        use = USE.match(chunk)
-        if use:
-            self.bring(use)
+        if re.match(r"(?:(?:pub|unfoldable) )*use ", chunk):
+            self.bring(chunk)
         elif re.match(r"(pub )?mod |infix", chunk):
             pass
-        elif re.match(r"(?:(?:abbrev|pub|unfoldable) )+(?!use )", chunk):
+        elif re.match(r"(?:abbrev|pub|unfoldable) ", chunk):
             self.declare(chunk)
         else:
             self.clause(chunk)
 
-    def bring(self, use):
+    def bring(self, chunk):
+        use = USE.match(chunk)
+        if not use:
+            raise NotUnderstood(f"{self.file}: {chunk}")
         module, names = use[1], use[2]
         if names is None:
             self.aliases[use[3] or module.split(".")[-1]] = module
@@ -226,18 +227,17 @@ class Module:
             one.pieces.append(("type", head[4]))
             return
         parameters, *parts = re.split(r"\n  (?=\S)", head[4])
-        one.pieces.append(("parameters", parameters.removesuffix("where")))
+        one.pieces.append(("parameters", parameters))
         for part in parts:
             if part.strip() == "where":
                 continue
             field = re.match(r"(?:pub )?(\S+) :\s(.*)", part, re.S)
             if not field:
                 raise NotUnderstood(f"{self.file}: {part}")
-            name = field[1]
-            (one.fields if kind == "record" else one.constructors).append(name)
-            one.pieces.append((kind, (name, field[2])))
+            one.pieces.append((kind, (field[1], field[2])))
             if kind == "data":
-                self.constructors[name] = one
+                one.constructors.append(field[1])
+                self.constructors[field[1]] = one
 
     def clause(self, chunk):
         words = words_of(chunk)

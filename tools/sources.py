@@ -98,8 +98,6 @@ class Source:
         if found[1] == "enum":
             outer, body = by_depth(body[body.index("{") + 1:-1])
             one.constructors = re.findall(r"\w+", outer)
-        elif found[1] == "struct" and not value:
-            one.fields = re.findall(r"(\w+):(?!:)", body)
         one.pieces = [value or body]
         return one
 
@@ -196,7 +194,8 @@ class World:
 
     def find(self, module, name):
         """What a module has under a name, or hands on."""
-        root, crate, *rest = [*module.split("."), ""][:2] + module.split(".")[2:]
+        root, _, inside = module.partition(".")
+        crate, *rest = inside.split(".")
         if root != "Rattle" or not self.has(crate):
             return Library(name)
         if rest[1:2] == ["declared"]:
