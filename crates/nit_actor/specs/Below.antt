@@ -46,8 +46,9 @@ pub use Rattle.nit_rect.specs.declared.point.Point.{Point}
 pub use Rattle.nit_report.specs.Picture.{picture, picture_length}
 pub use Rattle.nit_scene.specs.DirtyPixels.{dirty}
 pub use Rattle.nit_scene.specs.RawWords.{AreRaw, IsRawOf, Painted, glass_in, glasses_of_call, pixel_count, source_at}
-pub use Rattle.nit_scene.specs.Scene.{SceneModel, scenery_of, state_now}
+pub use Rattle.nit_scene.specs.Scene.{SceneModel, state_now}
 pub use Rattle.nit_scene.specs.Screen.{IsGlass}
+pub use Rattle.nit_scene.specs.StateScenery.{scenery_of}
 pub use Rattle.nit_script.specs.Grammar.{most_lines}
 pub use Rattle.nit_script.specs.Phases.{input_phases, is_input_phase, is_phase, phases}
 pub use Rattle.nit_script.specs.Spelling.{FitsInputLine}

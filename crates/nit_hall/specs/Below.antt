@@ -40,8 +40,9 @@ pub use Rattle.nit_rect.specs.declared.point.Point.{Point}
 pub use Rattle.nit_repaint.specs.Glasses.{glasses_of_call}
 pub use Rattle.nit_scene.specs.DirtyPixels.{dirty}
 pub use Rattle.nit_scene.specs.RawWords.{Painted, glass_in, pixel_count, source_at}
-pub use Rattle.nit_scene.specs.Scene.{SceneModel, scenery_of, state_now}
+pub use Rattle.nit_scene.specs.Scene.{SceneModel, state_now}
 pub use Rattle.nit_scene.specs.Screen.{IsGlass}
+pub use Rattle.nit_scene.specs.StateScenery.{scenery_of}
 pub use Rattle.nit_script.specs.Grammar.{most_lines}
 pub use Rattle.nit_script.specs.Phases.{is_input_phase, is_phase}
 pub use Rattle.nit_script.specs.Spelling.{FitsDevice}

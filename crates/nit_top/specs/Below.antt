@@ -88,8 +88,9 @@ pub use Rattle.nit_report.specs.Picture.{picture, picture_header, picture_length
 pub use Rattle.nit_report.specs.declared.error.JournalError.{JournalError}
 pub use Rattle.nit_report.specs.declared.events.Ending.{Ending}
 pub use Rattle.nit_scene.specs.RawWords.{Painted, glass_in, pixel_count, source_at}
-pub use Rattle.nit_scene.specs.Scene.{SceneModel, scenery_of, state_now}
+pub use Rattle.nit_scene.specs.Scene.{SceneModel, state_now}
 pub use Rattle.nit_scene.specs.Screen.{IsGlass}
+pub use Rattle.nit_scene.specs.StateScenery.{scenery_of}
 pub use Rattle.nit_script.specs.Grammar.{HasOneReading, IsFirstBad, IsTooLong, Reads, ReadsClient, ReadsInput, most_lines, spelled}
 pub use Rattle.nit_script.specs.Phases.{input_phases, is_input_phase, is_phase, phases, phases_by}
 pub use Rattle.nit_script.specs.Spelling.{FitsCall, FitsDevice, FitsInputLine, FitsLine, input_spelling, line_spelling}
