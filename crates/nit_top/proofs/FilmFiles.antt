@@ -1,42 +1,13 @@
 -- The film that a store has made is that of the files that were put.
-use Rattle.std.proofs.Common.{◌≡◌, ◌≢◌, ℕ, zero, suc, ◌+◌, ◌<◌, ◌≤◌, ◌^◌, Bool, true, false, List, [], ◌∷◌, ◌++◌, map, length, Option, Some, None, Result, Ok, Err, refl, sym, ap, subst, ◌∙◌, arith, append_assoc}
-use Rattle.nit_top.proofs.Basics.{AfterPut, AllByRecursion, AreOutputs, CaptureModel, Configuration, Entry, File, HasFilmed, HasRun, HasTaken, IsFilmOf, IsLegal, IsNearPicture, LegalFrom, PutEach, PutError, PutFault, PutFiles, PutIn, PutState, PutsAll, PutsNext, Ran, Region, Setup, ShotsBehind, State, StoreModel, after, begun_of, bytes_of, bytes_under, codes, cropped_bytes, events_file, events_files, events_name, file_at, film_header, film_name, film_of, final_name, final_picture, first_state, journal_file, member, option_map, picture_names, pictures_in, put_state_of_run, puts_more, range_with_len, records, refusal_of, shot_name, shots, slice_index, text_files, unrefused, unwrap_or}
-use Rattle.nit_events.specs.declared.entry.Entry.TheVariants as entry
+use Rattle.std.proofs.Common.{◌≡◌, ℕ, ◌+◌, ◌<◌, ◌≤◌, ◌^◌, Bool, true, false, List, [], ◌∷◌, ◌++◌, map, length, Option, Some, None, Result, Ok, Err, refl, sym, ap, subst, ◌∙◌, arith, append_assoc}
+use Rattle.nit_top.proofs.Basics.{AfterPut, AreOutputs, CaptureModel, Configuration, Entry, File, HasFilmed, HasRun, HasTaken, IsFilmOf, IsLegal, IsNearPicture, PutEach, PutError, PutFault, PutFiles, PutIn, PutState, PutsAll, PutsNext, Ran, Region, Setup, StoreModel, begun_of, bytes_of, bytes_under, cropped_bytes, events_files, film_header, film_name, film_of, final_name, final_picture, first_state, journal_file, option_map, picture_names, pictures_in, put_state_of_run, puts_more, range_with_len, records, refusal_of, shot_name, shots, text_files, unrefused, unwrap_or}
 use Rattle.nit_store.specs.declared.store.PutError.TheVariants as put
-use Rattle.nit_top.proofs.FilmPictures.{shots_apart}
+use Rattle.nit_top.proofs.FileNames.{Numbered, OtherThan, later_shots, numbered, other_both, other_letter, stays}
+use Rattle.nit_top.proofs.RunNames.{texts_other}
 use Rattle.nit_top.proofs.RunLemmas.{with_texts}
 use Rattle.nit_top.proofs.PutLemmas.{PutAll, PutSo, all_put}
 
--- ---- the files of shots
-
--- the files have the names of shots that are numbered on from this one
-abbrev Numbered : ℕ → List File → Type 0
-Numbered first [] = Unit {0}
-Numbered first (f ∷ files) = (f.0 ≡ shot_name first) × Numbered (first + 1) files
-
--- so it is with those of a legal journal
-numbered : (P : List Entry → List ℕ → Type 0) (s : State) (taken : ℕ) (before es : List Entry) (files : List File) → LegalFrom s taken es → ShotsBehind P before es files → Numbered (taken + 1) files × (length files ≡ shots es)
-numbered P s taken before [] files legal is = (subst (λ (fs : List File). Numbered (taken + 1) fs) (sym is) tt, ap (λ (fs : List File). length fs) is)
-numbered P s taken before (entry.Call sid call r ∷ es) files legal are = numbered P (after s (entry.Call sid call r)) taken (before ++ entry.Call sid call r ∷ []) es files legal.1 are
-numbered P s taken before (entry.Input dev routed ∷ es) files legal are = numbered P (after s (entry.Input dev routed)) taken (before ++ entry.Input dev routed ∷ []) es files legal.1 are
-numbered P s taken before (entry.Shot number ∷ es) files legal (bytes, more, is, picture, rest) =
-    let others = numbered P s (taken + 1) (before ++ entry.Shot number ∷ []) es more legal.1 rest in (
-      subst (λ (fs : List File). Numbered (taken + 1) fs) (sym is) (ap shot_name legal.0, others.0),
-      ap (λ (fs : List File). length fs) is ∙ ap (λ (n : ℕ). suc n) others.1,
-    )
-numbered P s taken before (entry.Final ∷ es) files legal are =
-    let none : files ≡ [] = subst (λ (rest : List Entry). ShotsBehind P (before ++ entry.Final ∷ []) rest files) legal are in
-    (subst (λ (fs : List File). Numbered (taken + 1) fs) (sym none) tt, ap (λ (fs : List File). length fs) none ∙ sym (ap (λ (rest : List Entry). shots rest) legal))
-
 -- ---- what files have at the end
-
--- none of these files has this name
-abbrev OtherThan : List ℕ → List File → Type 0
-OtherThan name files = AllByRecursion (λ f. name ≢ f.0) files
-
-stays : (files : List File) (name : List ℕ) (old new : List File) → PutEach files old new → OtherThan name files → file_at name new ≡ file_at name old
-stays [] name old new puts other = ap (λ (fs : List File). file_at name fs) puts
-stays (f ∷ files) name old new (mid, p, puts) other = stays files name mid new puts other.1 ∙ p.others name other.0
 
 put_stays : (f : File) (files : List File) (old new : List File) → PutEach (f ∷ files) old new → OtherThan f.0 files → bytes_of f.0 new ≡ f.1
 put_stays f files old new (mid, p, puts) other = ap (λ (o : Option (List ℕ)). unwrap_or o []) (stays files f.0 mid new puts other ∙ p.this)
@@ -49,16 +20,6 @@ record PutBehind (files : List File) (new : List File) : Type 0 where
 behind : (front files old new : List File) → PutEach (front ++ files) old new → PutBehind files new
 behind [] files old new puts = record { mid = old; puts = puts }
 behind (f ∷ front) files old new (mid, p, puts) = behind front files mid new puts
-
-other_both : (name : List ℕ) (xs ys : List File) → OtherThan name xs → OtherThan name ys → OtherThan name (xs ++ ys)
-other_both name [] ys a b = b
-other_both name (x ∷ xs) ys a b = (a.0, other_both name xs ys a.1 b)
-
--- the shots behind one have other names
-later_shots : (n first : ℕ) (files : List File) → n < first → first + length files < 2 ^ 64 → Numbered first files → OtherThan (shot_name n) files
-later_shots n first [] less few is = tt
-later_shots n first (f ∷ files) less few is =
-    (λ same. let e : n ≡ first = shots_apart n first (omega arith) (omega arith) (same ∙ is.0) in omega arith, later_shots n (first + 1) files (omega arith) (omega arith) is.1)
 
 -- none of these files has the name of a shot
 abbrev NoShots : List File → Type 0
@@ -73,34 +34,6 @@ shots_under first (f ∷ files) rest old new few is none puts =
     let more : bytes_under new (map shot_name (range_with_len (first + 1) (length files))) ≡ map (λ g. g.1) files = shots_under (first + 1) files rest puts.0 new (omega arith) is.1 none puts.2 in
     λ i. one i ∷ more i
 
--- ---- names by their first letter
-
-letters_apart : (a b : List ℕ) (m n : ℕ) → slice_index a 0 ≡ m → slice_index b 0 ≡ n → (m ≡ n → ⊥) → a ≡ b → ⊥
-letters_apart a b m n is at apart same = apart (sym is ∙ ap (λ (name : List ℕ). slice_index name 0) same ∙ at)
-
-other_events : (config : Configuration) (journal : List Entry) (name : List ℕ) (m : ℕ) → slice_index name 0 ≡ m → (m ≡ 101 → ⊥) → (first count : ℕ) → OtherThan name (map (events_file config journal) (range_with_len first count))
-other_events config journal name m is apart first zero = tt
-other_events config journal name m is apart first (suc count) = (letters_apart name (events_name (member config first).label) m 101 is refl apart, other_events config journal name m is apart (first + 1) count)
-
-other_texts : (config : Configuration) (journal : List Entry) (name : List ℕ) (m : ℕ) → slice_index name 0 ≡ m → (m ≡ 101 → ⊥) → (m ≡ 106 → ⊥) → OtherThan name (events_files config journal ++ journal_file journal ∷ [])
-other_texts config journal name m is apart more =
-    other_both name (events_files config journal) (journal_file journal ∷ []) (other_events config journal name m is apart 0 (length config.clients)) (letters_apart name (codes "journal.txt") m 106 is refl more, tt)
-
-differ_115_101 : ◌≡◌ {A = ℕ} 115 101 → ⊥
-differ_115_101 e = omega arith
-
-differ_115_106 : ◌≡◌ {A = ℕ} 115 106 → ⊥
-differ_115_106 e = omega arith
-
-differ_115_102 : ◌≡◌ {A = ℕ} 115 102 → ⊥
-differ_115_102 e = omega arith
-
-differ_102_101 : ◌≡◌ {A = ℕ} 102 101 → ⊥
-differ_102_101 e = omega arith
-
-differ_102_106 : ◌≡◌ {A = ℕ} 102 106 → ⊥
-differ_102_106 e = omega arith
-
 -- ---- the pictures of a run
 
 -- under the names of its pictures stand the run's pictures
@@ -114,10 +47,10 @@ pictures_under s journal outputs are old new texts beside made legal few puts =
     let all : PutEach (files ++ last ∷ words) old new = subst (λ (fs : List File). PutEach fs old new) parts puts in
     let counted = numbered (IsNearPicture s.config s.scripts) (first_state s.config) 0 [] journal files legal (are.1.beside beside) in
     let long : length files ≡ shots journal = counted.1 in
-    let none : NoShots (last ∷ words) = λ n. (letters_apart (shot_name n) final_name 115 102 refl refl differ_115_102, other_texts s.config journal (shot_name n) 115 refl differ_115_101 differ_115_106) in
+    let none : NoShots (last ∷ words) = λ n. other_letter (shot_name n) 115 (last ∷ words) refl ((λ e. omega arith), texts_other s.config journal 115 (λ e. omega arith) (λ e. omega arith)) in
     let shown : bytes_under new (map shot_name (range_with_len 1 (length files))) ≡ map (λ f. f.1) files = shots_under 1 files (last ∷ words) old new (omega arith) counted.0 none all in
     let b = behind files (last ∷ words) old new all in
-    let end : bytes_of final_name new ≡ final_picture s journal = put_stays last words b.mid new b.puts (other_texts s.config journal final_name 102 refl differ_102_101 differ_102_106) in
+    let end : bytes_of final_name new ≡ final_picture s journal = put_stays last words b.mid new b.puts (other_letter final_name 102 words refl (texts_other s.config journal 102 (λ e. omega arith) (λ e. omega arith))) in
     under_both new (map shot_name (range_with_len 1 (shots journal))) final_name
     ∙ ap (λ (n : ℕ). bytes_under new (map shot_name (range_with_len 1 n)) ++ bytes_of final_name new ∷ []) (sym long)
     ∙ ap (λ (bs : List (List ℕ)). bs ++ bytes_of final_name new ∷ []) shown ∙ ap (λ (b : List ℕ). map (λ f. f.1) files ++ b ∷ []) end

@@ -96,7 +96,7 @@ module _ (s : Setup) (journal : List Entry) (outputs : List File) (j : IsJournal
   abbrev IsDrawn : List Entry → List ℕ → Type 0
   IsDrawn = IsDrawnPicture s.config s.scripts s.input
 
-  drawn_along : s.beside ≡ false → ShotsLaw → FrontsLaw → AreShotsOf IsDrawn journal shot_list
+  pub drawn_along : s.beside ≡ false → ShotsLaw → FrontsLaw → AreShotsOf IsDrawn journal shot_list
   drawn_along alone law fronts =
       let r = j.rounds alone in
       let entries = r.0 in

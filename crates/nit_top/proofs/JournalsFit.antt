@@ -32,7 +32,7 @@ deeds_fit phase (input.Device d ∷ rest) f = (f.0, deeds_fit phase rest f.1)
 deeds_fit phase (input.Shot ∷ rest) f = (tt, deeds_fit phase rest f.1)
 deeds_fit phase (input.Phase ∷ rest) f = deeds_fit (suc phase) rest f.1
 
-deeds_few : (phase : ℕ) (lines : List InputLine) → length (done (user_actions_from phase lines)) ≤ length lines
+pub deeds_few : (phase : ℕ) (lines : List InputLine) → length (done (user_actions_from phase lines)) ≤ length lines
 deeds_few phase [] = omega arith
 deeds_few phase (input.Device d ∷ rest) = let more = deeds_few phase rest in omega arith
 deeds_few phase (input.Shot ∷ rest) = let more = deeds_few phase rest in omega arith

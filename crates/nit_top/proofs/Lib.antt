@@ -14,6 +14,7 @@ pub mod SaidLines
 pub mod EndCodes
 pub mod AuditCourse
 pub mod EndCauses
+pub mod StoredFiles
 pub mod Causes
 pub mod PutLemmas
 pub mod NoShots
@@ -32,6 +33,9 @@ pub mod RoutesFit
 pub mod MachinesFit
 pub mod JournalsFit
 pub mod FilmPictures
+pub mod FileNames
+pub mod MadeNames
+pub mod RunNames
 pub mod FilmFiles
 pub mod RegionFilms
 pub mod BeforeRun

@@ -9,6 +9,7 @@ use Rattle.nit_top.specs.Judgement.{Refused, Judged, IsRefusedWith, IsValid, fau
 use Rattle.nit_top.specs.RunFilm.{is_outside_of}
 use Rattle.nit_top.specs.ProgramLines.{usage_line, read_fault_line, write_fault_line, outside_line, fault_line, audited_line, generated_line, summary_line, no_memory_line}
 use Rattle.nit_top.specs.Course.{Course, WithRun, IsBothRead, IsNotBegun, IsOutside, IsLastRead, IsMadeBefore, IsMadeInPart, IsPutWhole, IsRefusedAt, IsCutShort, totals}
+use Rattle.nit_top.specs.Stored.{AreStored, to_put}
 use Rattle.nit_top.specs.Audited.{IsAudit, AuditOr, IsAudited}
 
 -- ---- how the work came to its end
@@ -206,6 +207,9 @@ pub record Answer (old : StoreModel) (words : List (List ℕ)) (new : StoreModel
       ⊎ (IsMadeInPart course new.files new.asked
       ⊎ WithRun course (λ run. IsPutWhole run new.files new.asked
       ⊎ IsCutShort run new.files new.asked))
+  -- where the store tells its files, each that was put stands there at the end under its name, with
+  -- its bytes: at 0 all that are to be put, and else the first of them, or none
+  pub stored : AreStored (to_put course) status old.files new.files
   -- the line on how the work came to its end is what is said, and the status goes by both
   pub said : IsSaid course new status
   -- valid files, with a region on the screen, are run to the end, and a journal of a run is found

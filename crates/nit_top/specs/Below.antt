@@ -100,6 +100,7 @@ pub use Rattle.nit_script.specs.declared.line.Line.{Line}
 pub use Rattle.nit_slots.specs.Account.{IsDonation, buffer_left, buffer_need, view_left, view_need}
 pub use Rattle.nit_stack.specs.Sources.{Bare, Black, PixelSource, Size, Word, among, black_or_word, buffer_place, index_at, owner, pixel, point, shown_index, source_under}
 pub use Rattle.nit_stack.specs.declared.view.View.{View}
+pub use Rattle.nit_store.specs.Files.{HasDifferentNames, have_different_names}
 pub use Rattle.nit_store.specs.Puts.{PutRefusal, PutState, PutsAll, PutsFile, PutsNext, PutsUnless, refusal_by, unrefused}
 pub use Rattle.nit_store.specs.Store.{File, IsPut, PutIn, ReadFaulted, Rose, StoreModel, WriteFaulted, bytes_of, file_at, with_asked, with_said}
 pub use Rattle.nit_store.specs.StoreAnswers.{AfterPut, AskedAtMost}

@@ -1,4 +1,5 @@
 pub use Rattle.nit_store.specs.Store
+pub use Rattle.nit_store.specs.Files
 pub use Rattle.nit_store.specs.Puts
 pub use Rattle.nit_script.specs.Grammar
 pub use Rattle.nit_script.specs.Spelling
@@ -56,6 +57,7 @@ pub mod SeenFrames
 pub mod SameClient
 pub mod FilesRead
 pub mod Course
+pub mod Stored
 pub mod Audited
 pub mod Answer
 pub mod Work

@@ -43,7 +43,7 @@ mod run;
 mod setup;
 mod top;
 
-use laws::{generated_runs_count, headline};
+use laws::{generated_runs_count, headline, names_differ};
 pub use report::finish::Done;
 use report::finish::{End, Fault, LabelBytes, Name, Output, Stop, Worked, at, status, unbegun};
 use report::last::{last_picture, last_with_clips, put_last, take_last};

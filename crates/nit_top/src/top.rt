@@ -12,7 +12,9 @@ use crate::run::clips::clip;
 use crate::run::nested::nested;
 use crate::run::perform;
 use crate::setup::outer::read_outer;
-use crate::{Done, End, Host, Worked, at, generated_runs_count, load_config, status, unbegun};
+use crate::{
+    Done, End, Host, Worked, at, generated_runs_count, load_config, names_differ, status, unbegun,
+};
 use nit_actor::Gate;
 use nit_store::Store;
 use std::alloc::Global;
@@ -33,6 +35,7 @@ pub fn nitpicker<R: Threads + Wait + Sync, S: Store, G: Gate>(
         (S.shown store.new) result.status result.journal.items }
 {
     generated_runs_count();
+    names_differ();
     let host = Host { rt, alloc, gate };
     match parse_words(words) {
         Some(Asked::Run { config }) => beside(&host, store, config),
@@ -51,6 +54,7 @@ pub fn nitpicker_alone<S: Store>(alloc: Global, words: &[String], store: &mut S)
         (S.shown store.new) result.status result.journal.items }
 {
     generated_runs_count();
+    names_differ();
     work(alloc, words, store)
 }
 
