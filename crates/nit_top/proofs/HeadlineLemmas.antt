@@ -1,10 +1,36 @@
 -- What the headline says, from the laws of the crates below.
-use Rattle.std.proofs.Common.{◌≡◌, ◌∙◌, ℕ, suc, ◌+◌, ◌*◌, ◌<◌, Bool, true, false, cond, List, [], ◌∷◌, ◌++◌, length, map, Some, None, refl, sym, ap, subst, arith, inl, inr, ◌⊎◌, zero-add}
-use Rattle.nit_top.proofs.Basics.{Action, AllByRecursion, AreNearShots, AreOutputs, AreRoundsOf, AreShotsOf, AreTexts, Call, Close, Configuration, Contains, Contains-append_left, Contains-append_right, Contains-push, Device, Entry, File, FitsEntry, Flat, HasPicture, HoldsAtEnd, HoldsAtShot, HoldsByWay, InputLine, IsClickOn, IsDrawnPicture, IsJournal, IsLegal, IsNear, IsNearFrame, IsNearPicture, Line, Reply, Routed, Scenery, Session, Setup, ShowsBy, State, Xray, action_of, actions_of_turns, after, alone_machine, as_many_files, donation_of, drawn_by_shot, ending_of, events_file, events_files, events_name, events_text, file_of_a_shot, final_name, final_picture, focus_after, frame, get_or-map-range_with_len, get_or_from_slice_get, is_accepted, is_button, journal_file, length-append, length-map-range_with_len, length_push, map-append, member, option_map, owner_of, picture_of, pixel, pixel_count, point, projection, range_with_len, raw_word, replay, rounds, same_throughout, scenery_of, session, shot_name, shots, shots_of, shown, slice_get, slice_get_within, slice_index, tables_left, text_files, words_of}
+use Rattle.std.proofs.Common.{◌≡◌, ◌≢◌, ◌∙◌, ℕ, suc, ◌+◌, ◌*◌, ◌<◌, Bool, true, false, cond, List, [], ◌∷◌, ◌++◌, length, map, Some, None, refl, sym, ap, subst, arith, inl, inr, ◌⊎◌, zero-add}
+use Rattle.nit_top.proofs.Basics.{Action, All, AllByRecursion, AreNearShots, AreOutputs, AreRoundsOf, AreShotsOf, AreTexts, Call, Close, Configuration, Contains, Contains-append_left, Contains-append_right, Contains-push, Delivery, Device, Entry, File, FitsEntry, Flat, HasPicture, HoldsAtEnd, HoldsAtShot, HoldsByWay, InputLine, IsClickOn, IsDrawnPicture, IsJournal, IsLegal, IsMeant, IsNear, IsNearFrame, IsNearPicture, Kill, KillsPointed, Line, Reply, Routed, Scenery, Session, Setup, ShowsBy, State, TellsFocus, TellsLeave, Xray, action_of, actions_of_turns, after, alone_machine, as_many_files, deliveries_of, donation_of, drawn_by_shot, ending_of, events_file, events_files, events_name, events_text, file_of_a_shot, final_name, final_picture, focus_after, frame, get_or-map-range_with_len, get_or_from_slice_get, is_accepted, is_button, is_key, is_mode_key, journal_file, length-append, length-map-range_with_len, length_push, map-append, member, option_map, owner_of, picture_of, pixel, pixel_count, point, projection, range_with_len, raw_word, replay, rounds, same_throughout, scenery_of, session, shot_name, shots, shots_of, shown, slice_get, slice_get_within, slice_index, tables_left, text_files, to, under_pointer, words_of}
 use Rattle.nit_events.specs.declared.device.Device.TheVariants as device
 use Rattle.nit_events.specs.declared.entry.Entry.TheVariants as entry
+use Rattle.nit_events.specs.declared.event.Event.TheVariants as event
+use Rattle.nit_journal.specs.State.{route}
 use Rattle.nit_journal.specs.WholeJournals.{Ends}
 use Rattle.nit_top.proofs.RunLemmas.{with_texts}
+
+-- ---- the user's input
+
+-- what the law of input says of a state
+pub record InputLaw (s : State) : Type 0 where
+  pub keys : (code : ℕ) → s.input.mode ≡ Flat → s.input.held ≡ [] → is_key code ≡ true → (route s.config s.input s.stack (device.Press code)).deliveries ≡ to s.input.focus (event.Press code)
+  pub buttons : (code : ℕ) → s.input.mode ≡ Flat → s.input.held ≡ [] → is_button code ≡ true
+      → (news : List Delivery) × All (TellsFocus s) news × ((route s.config s.input s.stack (device.Press code)).deliveries ≡ news ++ to (under_pointer s) (event.Press code))
+  pub held : (dev : Device) → s.input.held ≢ [] → All (λ d. s.input.receiver ≡ Some d.sid) (route s.config s.input s.stack dev).deliveries
+  pub mode_keys : (code : ℕ) → is_mode_key code ≡ true → All (TellsLeave s) (route s.config s.input s.stack (device.Press code)).deliveries
+  pub xray : (dev : Device) → s.input.mode ≡ Xray → All (TellsFocus s) (route s.config s.input s.stack dev).deliveries
+  pub kill : (dev : Device) → s.input.mode ≡ Kill → All (KillsPointed s) (route s.config s.input s.stack dev).deliveries
+
+pub meant : (s : State) (dev : Device) (routed : Routed) → InputLaw s → deliveries_of routed ≡ (route s.config s.input s.stack dev).deliveries → IsMeant s dev (deliveries_of routed)
+meant s dev routed law kept =
+    let routes = λ (d : Device). (route s.config s.input s.stack d).deliveries in
+    subst (λ (ds : List Delivery). IsMeant s dev ds) (sym kept) (record {
+      keys = λ code is key flat none. ap routes is ∙ law.keys code flat none key;
+      buttons = λ code is button flat none. let (news, told, all) = law.buttons code flat none button in (news, told, ap routes is ∙ all);
+      held = law.held dev;
+      mode_keys = λ code is key. subst (λ (d : Device). All (TellsLeave s) (routes d)) (sym is) (law.mode_keys code key);
+      xray = law.xray dev;
+      kill = law.kill dev;
+    })
 
 -- ---- the focus
 

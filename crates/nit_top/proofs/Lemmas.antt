@@ -15,7 +15,7 @@ pub use Rattle.nit_top.proofs.FilmFiles.{film_leaves}
 pub use Rattle.nit_top.proofs.FilmPictures.{before_last, before_shot, film_grows, film_stays, last_more, one_shot_more, other_names}
 pub use Rattle.nit_top.proofs.FinalWords.{finished_frame, last_picture, written_whole}
 pub use Rattle.nit_top.proofs.GeneratedRuns.{GeneratorLaws, clients_fit, generated_ends, generated_runnable, made_in_part, made_whole, name_bytes, name_is_text, nothing_made, one_script_more, same_unmade, scripts_of, text_at, unmade_runnable}
-pub use Rattle.nit_top.proofs.HeadlineLemmas.{NearLaws, end_shows, files_counted, focus_by_call, focus_by_click, same_files, same_journal, shot_shows, texts_tell}
+pub use Rattle.nit_top.proofs.HeadlineLemmas.{NearLaws, end_shows, files_counted, focus_by_call, focus_by_click, meant, same_files, same_journal, shot_shows, texts_tell}
 pub use Rattle.nit_top.proofs.InnerLemmas.{Took, all_taken, frame_may, frame_refused, frames_counted, no_frames, rounds_journal, script_made, script_may, script_refused, taken_all, takes_more}
 pub use Rattle.nit_top.proofs.InnerPictures.{frames_pictured}
 pub use Rattle.nit_top.proofs.JournalsFit.{journal_fits}

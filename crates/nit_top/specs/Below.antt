@@ -57,6 +57,7 @@ pub use Rattle.nit_journal.specs.Deliveries.{IsLive}
 pub use Rattle.nit_journal.specs.Journal.{JournalModel}
 pub use Rattle.nit_journal.specs.Presses.{IsDown}
 pub use Rattle.nit_journal.specs.Projection.{Calls, Gets, Observation, after_observations, alone, alone_machine, items_to, own_machine, projection, replies_to}
+pub use Rattle.nit_journal.specs.Reach.{KillsPointed, TellsFocus, TellsLeave, is_key, is_mode_key, under_pointer}
 pub use Rattle.nit_journal.specs.Replay.{Agrees, IsLegal, IsOpen, LegalFrom, replay, replay_from, shots}
 pub use Rattle.nit_journal.specs.Session.{Answered, Session, accepted, by_call, by_handle, by_life, by_quota, by_refusal, by_reserve, by_status, first_session, has_view, is_side, receive, refusal, serve, taking, unless, ◌orelse◌}
 pub use Rattle.nit_journal.specs.StackAfter.{is_accepted}

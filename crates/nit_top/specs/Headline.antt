@@ -1,6 +1,6 @@
 -- The headline: what a run promises of its journal and of its pictures.
-use Rattle.std.specs.Prelude.{◌≡◌, ◌⊎◌, ℕ, ◌+◌, ◌<◌, Bool, true, false, List, [], ◌∷◌, ◌++◌, length, slice_index, All, Contains, Option, Some, None, option_map, if◌then◌else◌}
-use Rattle.nit_top.specs.Below.{Call, Close, Configuration, Device, Entry, Event, File, Flat, Gets, IsDown, IsLive, IsNear, Line, Observation, ReadsJournal, Reply, Routed, State, Xray, alone, alone_machine, calls_of, calls_to_make, deliveries_of, donation_of, done, drawn_by_shot, events_text, final_name, flat_map, is_accepted, is_button, journal_text, member, own_machine, owner_of, picture, pixel, pixel_count, point, projection, replay, replies_to, scenery_of, script_in, serve, shot_name, shots, shown, taken}
+use Rattle.std.specs.Prelude.{◌≡◌, ◌≢◌, ◌⊎◌, ℕ, ◌+◌, ◌<◌, Bool, true, false, List, [], ◌∷◌, ◌++◌, length, slice_index, All, Contains, Option, Some, None, option_map, if◌then◌else◌}
+use Rattle.nit_top.specs.Below.{Call, Close, Configuration, Delivery, Device, Entry, Event, File, Flat, Gets, IsDown, IsLive, IsNear, Kill, KillsPointed, Line, Observation, ReadsJournal, Reply, Routed, State, TellsFocus, TellsLeave, Xray, alone, alone_machine, calls_of, calls_to_make, deliveries_of, donation_of, done, drawn_by_shot, events_text, final_name, flat_map, is_accepted, is_button, is_held, is_key, is_mode_key, journal_text, member, own_machine, owner_of, picture, pixel, pixel_count, point, projection, replay, replies_to, scenery_of, script_in, serve, shot_name, shots, shown, taken, to, under_pointer}
 use Rattle.nit_events.specs.declared.call.Reply.TheVariants as reply
 use Rattle.nit_events.specs.declared.device.Device.TheVariants as device
 use Rattle.nit_events.specs.declared.entry.Entry.TheVariants as entry
@@ -42,12 +42,42 @@ pub record IsServedAlone (config : Configuration) (scripts : List (List Line))
 
 -- ---- the user's input, and the focus
 
+-- What a device event delivers in this state goes to those whom it is meant for.
+pub record IsMeant (s : State) (dev : Device) (ds : List Delivery) : Type 0 where
+  -- with nothing held and in mode Flat, a key's press goes to the focused session and to nobody else
+  pub keys : (code : ℕ) → dev ≡ device.Press code → is_key code ≡ true
+      → s.input.mode ≡ Flat → s.input.held ≡ []
+      → ds ≡ to s.input.focus (event.Press code)
+  -- a button's goes to the session that owns the pixel under the pointer, behind news of the focus
+  pub buttons : (code : ℕ) → dev ≡ device.Press code → is_button code ≡ true
+      → s.input.mode ≡ Flat → s.input.held ≡ []
+      → (news : List Delivery) × All (TellsFocus s) news
+      × (ds ≡ news ++ to (under_pointer s) (event.Press code))
+  -- while something is held, all goes to one session, the receiver
+  pub held : s.input.held ≢ [] → All (λ d. s.input.receiver ≡ Some d.sid) ds
+  -- a mode key's press goes to nobody: at most the pointed session is told that the pointer leaves
+  pub mode_keys : (code : ℕ) → dev ≡ device.Press code → is_mode_key code ≡ true
+      → All (TellsLeave s) ds
+  -- in mode Xray nothing is told but news of the focus: nobody gets a press
+  pub xray : s.input.mode ≡ Xray → All (TellsFocus s) ds
+  -- in mode Kill nothing is told but that the session under the pointer is locked out
+  pub kill : s.input.mode ≡ Kill → All (KillsPointed s) ds
+
 -- The user's input goes to those whom it is meant for.
 pub record IsRoutedRight (config : Configuration) (journal : List Entry) : Type 0 where
   -- each delivery goes to a session that is live in the state before its entry
   pub deliveries : (front rest : List Entry) (dev : Device) (routed : Routed)
       → journal ≡ front ++ entry.Input dev routed ∷ rest
       → All (λ d. IsLive (replay config front) d.sid) (deliveries_of routed)
+  -- and to those whom it is meant for in that state
+  pub meant : (front rest : List Entry) (dev : Device) (routed : Routed)
+      → journal ≡ front ++ entry.Input dev routed ∷ rest
+      → IsMeant (replay config front) dev (deliveries_of routed)
+  -- who gets all while something is held: the session that got the press of each code that is held
+  pub receiver : (front rest : List Entry) (sid code : ℕ) → journal ≡ front ++ rest
+      → (replay config front).input.receiver ≡ Some sid
+      → is_held (replay config front).input code ≡ true
+      → IsDown code (projection sid front)
   -- each release that is routed to a session follows a press of the same code to it, with no
   -- release of it between
   pub releases : (sid code : ℕ) (before rest : List Observation)

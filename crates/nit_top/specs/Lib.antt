@@ -27,6 +27,7 @@ pub use Rattle.nit_hall.specs.NearWords
 pub use Rattle.nit_audit.specs.GoodEntries
 pub use Rattle.nit_audit.specs.Verdict
 pub use Rattle.nit_journal.specs.Projection
+pub use Rattle.nit_journal.specs.Reach
 pub use Rattle.nit_capture.specs.Tiles
 pub use Rattle.nit_capture.specs.Film
 pub use Rattle.nit_capture.specs.Crop

@@ -1,5 +1,5 @@
 use Rattle.std.proofs.Common.{◌≡◌, ◌∙◌, ◌++◌, ◌∷◌, [], ℕ, ◌<◌, List, length, sym, ap, subst}
-use Rattle.nit_top.proofs.Lemmas.{Entry, IsLegal, NearLaws, Reply, after, calls_to_make, done, end_shows, events_among, events_taken, files_counted, first_state, focus_by_call, focus_by_click, get_or-map, length-map, replay, shot_shows, texts_tell}
+use Rattle.nit_top.proofs.Lemmas.{Entry, IsLegal, NearLaws, Reply, after, calls_to_make, done, end_shows, events_among, events_taken, files_counted, first_state, focus_by_call, focus_by_click, get_or-map, length-map, meant, replay, shot_shows, shots, texts_tell}
 use Rattle.nit_events.specs.declared.call.Reply.TheVariants as reply
 use Rattle.nit_events.specs.declared.entry.Entry.TheVariants as entry
 use Rattle.nit_top.proofs.laws.headline.Goals as goal
@@ -31,6 +31,14 @@ returns c = λ s journal outputs runnable j are.
           };
       routed = record {
         deliveries = λ front rest dev routed parts. c.deliveries_go_to_live_sessions.ensures.legal config front dev routed rest (legal (front ++ entry.Input dev routed ∷ rest) parts);
+        meant = λ front rest dev routed parts.
+            let all = legal (front ++ entry.Input dev routed ∷ rest) parts in
+            let law = c.input_goes_where_it_is_meant.ensures in
+            let t = replay config front in
+            meant t dev routed
+            (record { keys = law.keys t; buttons = law.buttons t; held = law.held t; mode_keys = law.mode_keys t; xray = law.xray config front; kill = law.kill config front })
+            (c.deliveries_fit.ensures t (shots front) dev routed (c.fronts_are_legal.ensures.agrees config front (entry.Input dev routed) rest all));
+        receiver = λ front rest sid code parts. c.input_goes_where_it_is_meant.ensures.receiver config front sid code (c.fronts_are_legal.ensures.legal config front rest (legal (front ++ rest) parts));
         releases = λ sid code before rest parts. c.releases_follow_presses.ensures config journal sid code before rest j.legal parts;
       };
       focus = record {
