@@ -29,7 +29,7 @@ pub use Rattle.nit_top.specs.RunClips.{IsAlwaysToldSo, IsClipList, NeverHasFocus
 pub use Rattle.nit_top.specs.RunFilm.{film_name, film_of, is_outside_of, pictures_in}
 pub use Rattle.nit_top.specs.RunInner.{IsInnerJournal, inner_journal_name}
 pub use Rattle.nit_top.specs.SaidText.{SayingRefused, Says}
-pub use Rattle.nit_top.specs.SameClient.{IsSameClient}
+pub use Rattle.nit_top.specs.SameClient.{HaveSameEvents, IsSameClient}
 pub use Rattle.nit_top.specs.SeenFrames.{HoldsInner, TellsInnerRun}
 pub use Rattle.nit_top.specs.Setup.{AreClipsOf, AreLines, HaveSamePhases, IsRunnable, RunFiles, Setup, by_turns, generated_files, generated_setup, script_files, still_setup}
 pub use Rattle.nit_top.specs.Stored.{AreStored, Stand, StandIn, to_put}
