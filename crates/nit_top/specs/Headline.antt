@@ -55,7 +55,7 @@ pub record IsMeant (s : State) (dev : Device) (ds : List Delivery) : Type 0 wher
       × (ds ≡ news ++ to (under_pointer s) (event.Press code))
   -- while something is held, all goes to one session, the receiver
   pub held : s.input.held ≢ [] → All (λ d. s.input.receiver ≡ Some d.sid) ds
-  -- a mode key's press goes to nobody: at most the pointed session is told that the pointer leaves
+  -- a mode key's press goes to nobody: at most the hovered session is told that the pointer leaves
   pub mode_keys : (code : ℕ) → dev ≡ device.Press code → is_mode_key code ≡ true
       → All (TellsLeave s) ds
   -- in mode Xray nothing is told but news of the focus: nobody gets a press
@@ -172,7 +172,8 @@ pub record Headline (s : Setup) (journal : List Entry) (outputs : List File) : T
   -- each client is served as if it were alone
   pub clients : (sid : ℕ) → sid < length s.config.clients
       → IsServedAlone s.config s.scripts journal sid
-  -- the user's input goes to live sessions, and no release comes without its press
+  -- the user's input goes to live sessions for which it is meant, and no release is routed to one
+  -- without its press
   pub routed : IsRoutedRight s.config journal
   -- the user alone gives the focus
   pub focus : IsFocusTheUsers s.config journal
