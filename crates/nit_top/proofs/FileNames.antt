@@ -1,9 +1,8 @@
 -- Files with different names, and what stands under these once the files are put.
 use Rattle.std.proofs.Common.{◌≡◌, ◌≢◌, ℕ, Bool, true, false, cond, List, [], ◌∷◌, ◌++◌, length, Option, Some, None, refl, sym, ap, ◌∙◌, subst, suc, ◌+◌, ◌<◌, ◌^◌, arith, is_none}
-use Rattle.nit_top.proofs.Basics.{All, AllByRecursion, Entry, File, HasDifferentNames, LegalFrom, PutEach, PutFiles, ShotsBehind, Stand, StandIn, State, after, all_append, and_parts, bytes_eq, bytes_eq-Decides, file_at, have_different_names, shot_name, shots, slice_index}
+use Rattle.nit_top.proofs.Basics.{All, All-from_recursion, AllByRecursion, Entry, File, HasDifferentNames, LegalFrom, PutEach, PutFiles, ShotsBehind, Stand, StandIn, State, after, all_append, and_parts, bytes_eq, bytes_eq-Decides, file_at, have_different_names, shot_name, shots, slice_index}
 use Rattle.nit_events.specs.declared.entry.Entry.TheVariants as entry
 use Rattle.nit_top.proofs.FilmPictures.{shots_apart}
-use Rattle.std.proofs.lemmas.List.Elements.{All-from_recursion}
 
 -- none of these files has this name
 abbrev pub OtherThan : List ℕ → List File → Type 0

@@ -1,10 +1,9 @@
 -- What the headline says, from the laws of the crates below.
 use Rattle.std.proofs.Common.{◌≡◌, ◌≢◌, ◌∙◌, ℕ, suc, ◌+◌, ◌*◌, ◌<◌, Bool, true, false, cond, List, [], ◌∷◌, ◌++◌, length, map, Some, None, refl, sym, ap, subst, arith, inl, inr, ◌⊎◌, zero-add}
-use Rattle.nit_top.proofs.Basics.{Action, All, AllByRecursion, AreNearShots, AreOutputs, AreRoundsOf, AreShotsOf, AreTexts, Call, Close, Configuration, Contains, Contains-append_left, Contains-append_right, Contains-push, Delivery, Device, Entry, File, FitsEntry, Flat, HasPicture, HoldsAtEnd, HoldsAtShot, HoldsByWay, InputLine, IsClickOn, IsDrawnPicture, IsJournal, IsLegal, IsMeant, IsNear, IsNearFrame, IsNearPicture, Kill, KillsPointed, Line, Reply, Routed, Scenery, Session, Setup, ShowsBy, State, TellsFocus, TellsLeave, Xray, action_of, actions_of_turns, after, alone_machine, as_many_files, deliveries_of, donation_of, drawn_by_shot, ending_of, events_file, events_files, events_name, events_text, file_of_a_shot, final_name, final_picture, focus_after, frame, get_or-map-range_with_len, get_or_from_slice_get, is_accepted, is_button, is_key, is_mode_key, journal_file, length-append, length-map-range_with_len, length_push, map-append, member, option_map, owner_of, picture_of, pixel, pixel_count, point, projection, range_with_len, raw_word, replay, rounds, same_throughout, scenery_of, session, shot_name, shots, shots_of, shown, slice_get, slice_get_within, slice_index, tables_left, text_files, to, under_pointer, words_of}
+use Rattle.nit_top.proofs.Basics.{Action, All, AllByRecursion, AreNearShots, AreOutputs, AreRoundsOf, AreShotsOf, AreTexts, Call, Close, Configuration, Contains, Contains-append_left, Contains-append_right, Contains-push, Delivery, Device, Entry, File, FitsEntry, Flat, HasPicture, HoldsAtEnd, HoldsAtShot, HoldsByWay, InputLine, IsClickOn, IsDrawnPicture, IsJournal, IsLegal, IsMeant, IsNear, IsNearFrame, IsNearPicture, Kill, KillsPointed, Line, Reply, Routed, Scenery, Session, Setup, ShowsBy, State, TellsFocus, TellsLeave, Xray, action_of, actions_of_turns, after, alone_machine, as_many_files, deliveries_of, donation_of, drawn_by_shot, ending_of, events_file, events_files, events_name, events_text, file_of_a_shot, final_name, final_picture, focus_after, frame, get_or-map-range_with_len, get_or_from_slice_get, is_accepted, is_button, is_key, is_mode_key, journal_file, length-append, length-map-range_with_len, length_push, map-append, member, option_map, owner_of, picture_of, pixel, pixel_count, point, projection, range_with_len, raw_word, replay, rounds, route, same_throughout, scenery_of, session, shot_name, shots, shots_of, shown, slice_get, slice_get_within, slice_index, tables_left, text_files, to, under_pointer, words_of}
 use Rattle.nit_events.specs.declared.device.Device.TheVariants as device
 use Rattle.nit_events.specs.declared.entry.Entry.TheVariants as entry
 use Rattle.nit_events.specs.declared.event.Event.TheVariants as event
-use Rattle.nit_journal.specs.State.{route}
 use Rattle.nit_journal.specs.WholeJournals.{Ends}
 use Rattle.nit_top.proofs.RunLemmas.{with_texts}
 

@@ -19,8 +19,8 @@ pub use Rattle.nit_top.proofs.HeadlineLemmas.{NearLaws, end_shows, files_counted
 pub use Rattle.nit_top.proofs.InnerLemmas.{Took, all_taken, frame_may, frame_refused, frames_counted, no_frames, rounds_journal, script_made, script_may, script_refused, taken_all, takes_more}
 pub use Rattle.nit_top.proofs.InnerPictures.{frames_pictured}
 pub use Rattle.nit_top.proofs.JournalsFit.{journal_fits}
-pub use Rattle.nit_top.proofs.Misfits.{found_front, found_other, none_more, none_there, one_more_wanted, other_here, other_phases, some_so}
 pub use Rattle.nit_top.proofs.MadeNames.{made_differ}
+pub use Rattle.nit_top.proofs.Misfits.{found_front, found_other, none_more, none_there, one_more_wanted, other_here, other_phases, some_so}
 pub use Rattle.nit_top.proofs.NestedEnds.{inner_before, inner_config_stopped, inner_scripts, inner_stopped, nested_ends, unfit_ends}
 pub use Rattle.nit_top.proofs.NestedRuns.{begun, begun_first, first_counts, first_may, first_shows, fits_first, nested_leaves, no_other, outer_runnable, own_counts, runnable_of, setup_is, they_fit}
 pub use Rattle.nit_top.proofs.NoShots.{no_shot, one_file}
@@ -30,8 +30,8 @@ pub use Rattle.nit_top.proofs.PerClient.{AreLeft, at_member, blank_glass, glasse
 pub use Rattle.nit_top.proofs.PutLemmas.{next_goes, next_stays, no_put, no_text, none_is, refused_as}
 pub use Rattle.nit_top.proofs.RegionFilms.{picture_seen, same_film}
 pub use Rattle.nit_top.proofs.RoomRunLemmas.{all_done, beside_leaves, is_ready, known_whole, last_is, one_key, setting, setup_in, user_done}
-pub use Rattle.nit_top.proofs.RunNames.{outputs_differ, puts_differ}
 pub use Rattle.nit_top.proofs.RunLemmas.{PutsLast, run_leaves, with_texts}
+pub use Rattle.nit_top.proofs.RunNames.{outputs_differ, puts_differ}
 pub use Rattle.nit_top.proofs.SameEvents.{both_there, same_events, same_text}
 pub use Rattle.nit_top.proofs.Scripts.{names_at, names_more, one_more_read, stopped_here}
 pub use Rattle.nit_top.proofs.SeenFrames.{SeenLaws, seen}

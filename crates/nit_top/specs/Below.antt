@@ -61,7 +61,7 @@ pub use Rattle.nit_journal.specs.Reach.{KillsPointed, TellsFocus, TellsLeave, is
 pub use Rattle.nit_journal.specs.Replay.{Agrees, IsLegal, IsOpen, LegalFrom, replay, replay_from, shots}
 pub use Rattle.nit_journal.specs.Session.{Answered, Session, accepted, by_call, by_handle, by_life, by_quota, by_refusal, by_reserve, by_status, first_session, has_view, is_side, receive, refusal, serve, taking, unless, ◌orelse◌}
 pub use Rattle.nit_journal.specs.StackAfter.{is_accepted}
-pub use Rattle.nit_journal.specs.State.{State, after, buffer_size, clicks_on, first_state, input_after_call, owner_of, session, session_in}
+pub use Rattle.nit_journal.specs.State.{State, after, buffer_size, clicks_on, first_state, input_after_call, owner_of, route, session, session_in}
 pub use Rattle.nit_journal.specs.WholeJournals.{Action, Does, IsWhole, Shoots, UserAction, action_of, calls_of, done, to_do, user_actions_of}
 pub use Rattle.nit_nested.specs.FrameLines.{frame_lines}
 pub use Rattle.nit_nested.specs.FrameScript.{count_lines, first_forbidden, frames_behind, next_frame, woven}
