@@ -44,7 +44,8 @@ pub record IsServedAlone (config : Configuration) (scripts : List (List Line))
 
 -- What a device event delivers in this state goes to those whom it is meant for.
 pub record IsMeant (s : State) (dev : Device) (ds : List Delivery) : Type 0 where
-  -- with nothing held and in mode Flat, a key's press goes to the focused session and to nobody else
+  -- with nothing held and in mode Flat, a key's press goes to the focused session and to nobody
+  -- else
   pub keys : (code : ℕ) → dev ≡ device.Press code → is_key code ≡ true
       → s.input.mode ≡ Flat → s.input.held ≡ []
       → ds ≡ to s.input.focus (event.Press code)

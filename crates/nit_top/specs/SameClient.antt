@@ -3,8 +3,8 @@ use Rattle.std.specs.Prelude.{◌≡◌, ℕ, ◌<◌, List, length, Contains}
 use Rattle.nit_top.specs.Below.{Configuration, Entry, File, donation_of, member, projection}
 use Rattle.nit_top.specs.Outputs.{events_name}
 
--- A session of each of two journals, of any two configurations. It has the same donation in both, and
--- sees the same: its calls, and what the user's input routes to it, in order.
+-- A session of each of two journals, of any two configurations. It has the same donation in both,
+-- and sees the same: its calls, and what the user's input routes to it, in order.
 pub record IsSameClient (c d : Configuration) (js ks : List Entry) (s t : ℕ) : Type 0 where
   pub inside : s < length c.clients
   pub other_inside : t < length d.clients
