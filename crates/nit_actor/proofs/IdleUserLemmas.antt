@@ -51,14 +51,14 @@ idle_phase ls =
 
 -- ---- one line of the client's
 
-pub step_on : (r r' : RoomModel) (p p' : PassModel) (u : UserPassModel) (l : Line) (seen : List Entry) (sight : Sight)
+pub step_on : (r r' : RoomModel) (p p' : PassModel) (u : UserPassModel) (l : Line) (met : ℕ) (seen : List Entry) (sight : Sight)
     → StepTogether r p u → slice_get p.script p.next ≡ Some l → is_phase l ≡ false
-    → r'.parts ≡ r.parts → r'.phase ≡ r.phase → r'.arrived ≡ r.arrived → p' ≡ record p { next = p.next + 1; seen = seen; sight = sight } → StepTogether r' p' u
-step_on r r' p p' u l seen sight s at other parts phase arrived is =
+    → r'.parts ≡ r.parts → r'.phase ≡ r.phase → r'.arrived ≡ r.arrived → p' ≡ record p { next = p.next + 1; met = met; seen = seen; sight = sight } → StepTogether r' p' u
+step_on r r' p p' u l met seen sight s at other parts phase arrived is =
     subst (λ (q : PassModel). StepTogether r' q u) (sym is)
     (record {
       one = ap (λ x. length x.scripts) parts ∙ s.one;
-      belongs = subst (λ x. Belongs x (record p { next = p.next + 1; seen = seen; sight = sight })) (sym parts)
+      belongs = subst (λ x. Belongs x (record p { next = p.next + 1; met = met; seen = seen; sight = sight })) (sym parts)
           (record { name = s.belongs.name; script = s.belongs.script; plan = s.belongs.plan; donation = s.belongs.donation });
       user_belongs = subst (λ x. UserBelongs x u) (sym parts) s.user_belongs;
       phase = s.phase ∙ sym phase;
@@ -118,9 +118,9 @@ acts_behind : (es : List Entry) (e : Entry) (more : List Action) → map action_
 acts_behind [] e more = refl
 acts_behind (x ∷ es) e more = ap (λ (xs : List Action). action_of x ∷ xs) (acts_behind es e more)
 
-pub call_recorded : (entries now : List Entry) (p p' : PassModel) (c : Call) (r : Reply) (seen : List Entry) (sight : Sight) → slice_get p.script p.next ≡ Some (line.Call c)
-    → now ≡ entries ++ entry.Call p.sid c r ∷ [] → p' ≡ record p { next = p.next + 1; seen = seen; sight = sight } → actions_to_be now p' ≡ actions_to_be entries p
-call_recorded entries now p p' c r seen sight at recorded is =
+pub call_recorded : (entries now : List Entry) (p p' : PassModel) (c : Call) (r : Reply) (met : ℕ) (seen : List Entry) (sight : Sight) → slice_get p.script p.next ≡ Some (line.Call c)
+    → now ≡ entries ++ entry.Call p.sid c r ∷ [] → p' ≡ record p { next = p.next + 1; met = met; seen = seen; sight = sight } → actions_to_be now p' ≡ actions_to_be entries p
+call_recorded entries now p p' c r met seen sight at recorded is =
     ap (λ (x : PassModel). actions_to_be now x) is ∙ ap (λ (es : List Entry). map action_of es ++ map (Calls p.sid) (calls_in (drop (p.next + 1) p.script))) recorded
     ∙ acts_behind entries (entry.Call p.sid c r) (map (Calls p.sid) (calls_in (drop (p.next + 1) p.script)))
     ∙ ap (λ (ls : List Line). map action_of entries ++ map (Calls p.sid) (calls_in ls)) (sym (drop_at p.script p.next (line.Call c) at))

@@ -1,11 +1,12 @@
 -- What answers use: all that lemmas use, and this crate's lemmas.
-pub use Rattle.nit_actor.proofs.Basics.{All, All-set, AllZip, AreBehind, Belongs, ByClient, ByUser, ClipPassModel, Configuration, IfNone, InputLine, IsAtPhaseEnd, IsBehind, IsMoved, IsNearPicture, IsOpen, IsPairIn, IsPairRoleIn, IsPlanOf, IsRoleIn, IsShowing, IsUnderWay, IsUtf8, Line, LineTurn, List, NoneHas, Pair, PairRole, PassModel, PlanModel, PutsShotsBehind, Role, RoomModel, SceneModel, Sight, Some, StepTogether, UserPassModel, [], actions_to_be, ap, arith, clip_role_of, donation_of, entry_of, few_digits, get_or_default, glass_after, glass_in, is_stale, length, line_here, next_device, no_sight, pair_role_of, pixel, put_state_of_desk, refl, replay, role_of, same_throughout, scenery_of, script_in, settled, shown, slice_get, slice_index, slice_index_or, state_now, subst, sym, take, told_at, user_actions_in, user_role_of, with_words, ℕ, ◌∙◌}
+pub use Rattle.nit_actor.proofs.Basics.{All, All-set, AllZip, AreBehind, Belongs, ByClient, ByUser, ClipPassModel, Configuration, IfNone, InputLine, IsAtPhaseEnd, IsBehind, IsLeastOf, IsMoved, IsNearPicture, IsOpen, IsPairIn, IsPairRoleIn, IsPlanOf, IsRoleIn, IsShowing, IsUnderWay, IsUtf8, Line, LineTurn, List, NoneHas, Pair, PairRole, PassModel, PlanModel, PutsShotsBehind, Role, RoomModel, SceneModel, Sight, Some, StepTogether, UserPassModel, [], actions_to_be, ap, arith, clip_role_of, donation_of, entry_of, few_digits, get_or_default, glass_after, glass_in, is_stale, length, line_here, next_device, no_sight, pair_phase_left, pair_role_of, phase_left, pixel, put_state_of_desk, refl, replay, role_of, same_throughout, scenery_of, script_in, settled, shown, slice_get, slice_index, slice_index_or, state_now, subst, sym, take, told_at, user_actions_in, user_role_of, with_words, ℕ, ◌∙◌}
 pub use Rattle.nit_actor.proofs.Copies.{all_drawn, glass_there, row_drawn, rows_to}
 pub use Rattle.nit_actor.proofs.Counts.{as_many_as_lines, few_acts}
 pub use Rattle.nit_actor.proofs.DrawnAsReplayed.{as_replayed}
 pub use Rattle.nit_actor.proofs.EntryEffects.{input_moved, served_moved, shot_moved}
 pub use Rattle.nit_actor.proofs.FirstPlaces.{kept_first, left_first_of}
 pub use Rattle.nit_actor.proofs.IdleUserLemmas.{at_call, at_line, idle_deeds, nothing_recorded, phase_ended, step_on, user_at_phase, user_ended}
+pub use Rattle.nit_actor.proofs.LeastPhases.{all_ended, client_ended, left_in_all, left_more, pair_ended, pairs_all_ended, zip_get, zip_length}
 pub use Rattle.nit_actor.proofs.LineOnGlass.{after_stroke, fits, painted_to, step_there}
 pub use Rattle.nit_actor.proofs.LineRecords.{behind_still, call_counted, call_moved, call_recorded, glasses_still, is_glass, none_moved, none_recorded, quiet_others, room_there}
 pub use Rattle.nit_actor.proofs.LinesDone.{client_done, client_lines, user_done, user_lines}

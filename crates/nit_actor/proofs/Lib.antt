@@ -30,6 +30,7 @@ pub mod RoleLemmas
 pub mod PhaseCounts
 pub mod Pairs
 pub mod PairLists
+pub mod LeastPhases
 pub mod PictureLemmas
 pub mod IdleUserLemmas
 pub mod OneClient

@@ -23,7 +23,7 @@ pub use Rattle.nit_hall.specs.ClipPass.{AreTogether, ClipBelongs, ClipPassModel,
 pub use Rattle.nit_hall.specs.Hall.{Tells, TellsShot}
 pub use Rattle.nit_hall.specs.NearWords.{IsNear, IsNearFrame}
 pub use Rattle.nit_hall.specs.OpeningParts.{OpeningParts}
-pub use Rattle.nit_hall.specs.Pass.{Belongs, IsAtDevice, IsAtPhase, IsAtShot, IsAtUserPhase, PassModel, UserBelongs, UserPassModel, call_of_line, next_device}
+pub use Rattle.nit_hall.specs.Pass.{Belongs, HasMetPhase, IsAtDevice, IsAtPhase, IsAtShot, IsAtStroke, IsAtUserPhase, PassModel, UserBelongs, UserPassModel, call_of_line, next_device, sight_after_line}
 pub use Rattle.nit_hall.specs.Room.{RoomModel, after_arrival, arrived_one}
 pub use Rattle.nit_hall.specs.ServedLines.{phases_before, user_actions_in}
 pub use Rattle.nit_journal.specs.Replay.{IsLegal, IsOpen, LegalFrom, replay, replay_from, shots}

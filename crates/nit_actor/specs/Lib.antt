@@ -23,6 +23,7 @@ pub mod Role
 pub mod ClipRole
 pub mod Pictures
 pub mod Crew
+pub mod PhasesLeft
 pub mod IdleUser
 pub mod Below
 pub mod Terms

@@ -53,17 +53,14 @@ pub(crate) fn run_pair<'a, N: Name, K: Checkpoint, R: Wait>(
     ensures clip_done { clip.new.next ≡ length clip.new.script }
     ensures together { GoTogether pass.new clip.new }
 {
-    let mut arrived = false;
     'lines: while let Some(line) = pass.next() {
-        do_pair_line(rt, work, pass, clip, &line, arrived);
-        arrived = matches!(line, Line::Phase);
+        do_pair_line(rt, work, pass, clip, &line);
     }
     do_last_clips(rt, work.hall, pass, clip);
 }
 
 /// Does the next line of the pass, which is this one. Where it ends a phase, the clip calls of the
-/// phase are done before it, and the clip script's line `phase` behind it. Where the pass has just
-/// `arrived` at the end of a phase, a stroke waits until the room serves the next one.
+/// phase are done before it, and the clip script's line `phase` behind it.
 #[tactic(auto, using(crate::proofs::Pairs::line_together))]
 pub(crate) fn do_pair_line<'a, N: Name, K: Checkpoint, R: Wait>(
     rt: &R,
@@ -71,7 +68,6 @@ pub(crate) fn do_pair_line<'a, N: Name, K: Checkpoint, R: Wait>(
     pass: &mut Pass<'a>,
     clip: &mut ClipPass<'a>,
     line: &Line,
-    arrived: bool,
 )
     requires pair { IsPairIn N.parts pass.old clip.old }
     requires next { slice_get pass.old.script pass.old.next ≡ Some line.now }
@@ -84,7 +80,7 @@ pub(crate) fn do_pair_line<'a, N: Name, K: Checkpoint, R: Wait>(
         Line::Phase => end_phase(rt, work, pass, clip),
         Line::Call(_) | Line::Stroke(_) => {
             let _before = pass.phase();
-            do_line(rt, work, pass, line, arrived);
+            do_line(rt, work, pass, line);
             let _after = pass.phase();
         }
     }
@@ -108,7 +104,7 @@ fn end_phase<'a, N: Name, K: Checkpoint, R: Wait>(
 {
     do_phase_clips(rt, work.hall, pass, clip);
     let _before = pass.phase();
-    do_line(rt, work, pass, &Line::Phase, false);
+    do_line(rt, work, pass, &Line::Phase);
     let _after = pass.phase();
     clip.turn(pass);
 }
@@ -124,7 +120,7 @@ fn do_phase_clips<'a, N: Name, R: Wait>(
 )
     requires pair { IsPairIn N.parts pass.old clip.old }
     requires next { IsAtPhase pass.old }
-    ensures pass { pass.new ≡ record pass.old { seen = pass.new.seen } }
+    ensures pass { pass.new ≡ record pass.old { met = pass.new.met; seen = pass.new.seen } }
     ensures clip { clip.new ≡ record clip.old { next = clip.new.next; seen = clip.new.seen } }
     ensures pair { IsPairIn N.parts pass.new clip.new }
     ensures clip_next { IsAtClipPhase clip.new }
@@ -163,7 +159,7 @@ fn do_clips<'a, N: Name, R: Wait>(
 )
     requires pair { IsPairIn N.parts pass.old clip.old }
     requires at { IsAtPhaseEnd pass.old }
-    ensures pass { pass.new ≡ record pass.old { seen = pass.new.seen } }
+    ensures pass { pass.new ≡ record pass.old { met = pass.new.met; seen = pass.new.seen } }
     ensures clip { clip.new ≡ record clip.old { next = clip.new.next; seen = clip.new.seen } }
     ensures pair { IsPairIn N.parts pass.new clip.new }
     ensures ended { IsAtClipPhase clip.new ⊎ (clip.new.next ≡ length clip.new.script) }

@@ -1,21 +1,22 @@
 //! All actors of a run with clip scripts beside each other: each client on a thread of its own,
 //! with its clip pass, and the user on the calling one.
 
-ghost use Rattle.std.specs.Prelude.{◌≡◌, ◌*◌, ◌≤◌, All, IfNone, [], length, map, vec_len};
+ghost use Rattle.std.specs.Prelude.{◌≡◌, ◌*◌, ◌≤◌, All, [], length, map, vec_len};
 ghost use Rattle.nit_actor.specs.Below.{UserBelongs, picture_length, vec_capacity};
 ghost use base.Fml.{ftrue};
 ghost use Rattle.nit_actor.specs.RoundsRun.{put_state_of_desk};
 ghost use Rattle.nit_actor.specs.Role.{user_role_of};
 ghost use Rattle.nit_actor.specs.ClipRole.{IsPairIn, IsPairRoleIn, PairRole, pair_role_of};
+ghost use Rattle.nit_actor.specs.PhasesLeft.{IsLeastOf, pair_phase_left, phases_left};
 ghost use Rattle.nit_actor.specs.Pictures.{PutsShotsBehind};
 
 use crate::beside::Mine;
 use crate::clip_actor::run_pair;
-use crate::clip_mine::{do_pair_turn, lesser_of_pair, lesser_of_user};
+use crate::clip_mine::{do_pair_turn, pair_phase_left};
 use crate::crew::{Crew, Own, Unstarted, run_crew};
 use crate::desk::Desk;
 use crate::gate::{AtGate, Checkpoint, Gate};
-use crate::mine::do_user_turn;
+use crate::mine::{do_user_turn, lesser, user_phase_left};
 use crate::work::{GatedHall, Work};
 use nit_hall::{ClipPass, Name, Pass, UserPass};
 use nit_store::Store;
@@ -94,15 +95,14 @@ fn do_one_turn<'a, N: Name, K: Checkpoint, R: Wait>(
 
 /// The least phase of those that are not done, or `None` where all are done.
 fn least_phase(pairs: &[Pair<'_>], user: &UserPass<'_>) -> Option<u32>
-    ensures pairs { IfNone result (All (λ b. (b.pass.next ≡ length b.pass.script)
-        × (b.clip.next ≡ length b.clip.script)) pairs.now) }
-    ensures user { IfNone result (user.now.next ≡ length user.now.input) }
+    ensures { IsLeastOf result (phases_left
+        (λ b. pair_phase_left b.pass b.clip) pairs.now user.now) }
 {
     let mut least = None;
     'pairs: for pair in pairs {
-        least = lesser_of_pair(&pair.pass, &pair.clip, least);
+        least = lesser(least, pair_phase_left(&pair.pass, &pair.clip));
     }
-    lesser_of_user(user, least)
+    lesser(least, user_phase_left(user))
 }
 
 impl<'h, 'a, 's, N: Name, K: Checkpoint, S: Store> Own<Pair<'a>, Work<'h, 'a, N, K>>

@@ -1,13 +1,13 @@
 //! What the calling thread does where clients have clip scripts too: the user, and some clients'
 //! passes and clip passes, by turns.
 
-ghost use Rattle.std.specs.Prelude.{◌≡◌, ◌*◌, All, IfNone, None, length, map};
-ghost use Rattle.nit_actor.specs.Terms.{AllZip, Belongs, ClipBelongs, GoTogether, IsPairIn, PutsShotsBehind, UserBelongs, clip_role_of, picture_length, put_state_of_desk, role_of, user_role_of};
+ghost use Rattle.std.specs.Prelude.{◌≡◌, ◌*◌, ◌+◌, All, Some, length, map, zip};
+ghost use Rattle.nit_actor.specs.Terms.{AllZip, Belongs, ClipBelongs, GoTogether, IsLeastOf, IsPairIn, PutsShotsBehind, UserBelongs, clip_role_of, pair_phase_left, phase_left, phases_left, picture_length, put_state_of_desk, role_of, user_role_of};
 
 use crate::clip_actor::{do_last_clips, do_pair_line};
 use crate::desk::Desk;
 use crate::gate::{AtGate, Checkpoint, Gate};
-use crate::mine::{do_user_turn, lesser};
+use crate::mine::{do_user_turn, lesser, user_phase_left};
 use crate::work::{GatedHall, Work};
 use nit_hall::{ClipPass, Name, Pass, UserPass};
 use nit_store::Store;
@@ -95,13 +95,16 @@ pub(crate) fn do_pair_turn<'a, N: Name, K: Checkpoint, R: Wait>(
     requires pair { IsPairIn N.parts pass.old clip.old }
     ensures same { role_of pass.new ≡ role_of pass.old }
     ensures clip_same { clip_role_of clip.new ≡ clip_role_of clip.old }
+    ensures in_phase { phase_left pass.old ≡ Some phase → pass.new.next ≡ pass.old.next + 1 }
+    ensures others { (pass.old.phase ≡ phase → ⊥)
+        → (pass.new ≡ pass.old) × (clip.new ≡ clip.old) }
     ensures together { GoTogether pass.new clip.new }
 {
     if pass.phase() != phase {
         return;
     }
     match pass.next() {
-        Some(line) => do_pair_line(rt, work, pass, clip, &line, true),
+        Some(line) => do_pair_line(rt, work, pass, clip, &line),
         None => do_last_clips(rt, work.hall, pass, clip),
     }
 }
@@ -110,44 +113,23 @@ pub(crate) fn do_pair_turn<'a, N: Name, K: Checkpoint, R: Wait>(
 /// where all are done.
 fn least_phase(passes: &[Pass<'_>], clips: &[ClipPass<'_>], user: &UserPass<'_>) -> Option<u32>
     requires { length clips.now ≡ length passes.now }
-    ensures passes { IfNone result (All (λ p. p.next ≡ length p.script) passes.now) }
-    ensures clips { IfNone result (All (λ q. q.next ≡ length q.script) clips.now) }
-    ensures user { IfNone result (user.now.next ≡ length user.now.input) }
+    ensures { IsLeastOf result (phases_left
+        (λ b. pair_phase_left b.0 b.1) (zip passes.now clips.now) user.now) }
 {
     let mut least = None;
     'pairs: for k in 0..passes.len() {
-        least = lesser_of_pair(&passes[k], &clips[k], least);
+        least = lesser(least, pair_phase_left(&passes[k], &clips[k]));
     }
-    lesser_of_user(user, least)
+    lesser(least, user_phase_left(user))
 }
 
-/// The lesser of the pass's phase and of one that may be there; the latter alone where the pass is
-/// done and its clip pass too.
-pub(crate) fn lesser_of_pair(
-    pass: &Pass<'_>,
-    clip: &ClipPass<'_>,
-    other: Option<u32>,
-) -> Option<u32>
-    ensures other { IfNone result (other ≡ None) }
-    ensures pass { IfNone result (pass.now.next ≡ length pass.now.script) }
-    ensures clip { IfNone result (clip.now.next ≡ length clip.now.script) }
+/// The phase that the client is in, or `None` where it is done with both of its scripts.
+pub(crate) fn pair_phase_left(pass: &Pass<'_>, clip: &ClipPass<'_>) -> Option<u32>
+    ensures { result ≡ pair_phase_left pass.now clip.now }
 {
     if pass.done() && clip.done() {
-        other
+        None
     } else {
-        lesser(pass.phase(), other)
-    }
-}
-
-/// The lesser of the user's phase and of one that may be there; the latter alone where the user is
-/// done.
-pub(crate) fn lesser_of_user(user: &UserPass<'_>, other: Option<u32>) -> Option<u32>
-    ensures other { IfNone result (other ≡ None) }
-    ensures user { IfNone result (user.now.next ≡ length user.now.input) }
-{
-    if user.done() {
-        other
-    } else {
-        lesser(user.phase(), other)
+        Some(pass.phase())
     }
 }

@@ -1,8 +1,8 @@
 //! What the calling thread does: the user, and the passes whose threads could not be started, by
 //! turns.
 
-ghost use Rattle.std.specs.Prelude.{◌≡◌, ◌*◌, All, IfNone, IsSome, length, map};
-ghost use Rattle.nit_actor.specs.Terms.{Belongs, IsRoleIn, PutsShotsBehind, UserBelongs, picture_length, put_state_of_desk, role_of, user_role_of};
+ghost use Rattle.std.specs.Prelude.{◌≡◌, ◌*◌, ◌+◌, All, Some, length, map};
+ghost use Rattle.nit_actor.specs.Terms.{Belongs, IsLeastOf, IsRoleIn, PutsShotsBehind, UserBelongs, lesser, phase_left, phases_left, picture_length, put_state_of_desk, role_of, user_phase_left, user_role_of};
 
 use crate::actor::do_line;
 use crate::desk::Desk;
@@ -107,12 +107,14 @@ fn do_pass_turn<'a, N: Name, K: Checkpoint, R: Wait>(
 )
     requires fits { IsRoleIn N.parts (role_of pass.old) }
     ensures same { role_of pass.new ≡ role_of pass.old }
+    ensures in_phase { phase_left pass.old ≡ Some phase → pass.new.next ≡ pass.old.next + 1 }
+    ensures others { (pass.old.phase ≡ phase → ⊥) → pass.new ≡ pass.old }
 {
     if pass.phase() != phase {
         return;
     }
     if let Some(line) = pass.next() {
-        do_line(rt, work, pass, &line, true);
+        do_line(rt, work, pass, &line);
     }
 }
 
@@ -129,6 +131,8 @@ pub(crate) fn do_user_turn<'a, N: Name, K: Checkpoint, S: Store, R: Wait>(
     requires text { length desk.old.text.items
         ≡ picture_length N.parts.config.width N.parts.config.height }
     ensures same { user_role_of user.new ≡ user_role_of user.old }
+    ensures in_phase { user_phase_left user.old ≡ Some phase → user.new.next ≡ user.old.next + 1 }
+    ensures others { (user.old.phase ≡ phase → ⊥) → user.new ≡ user.old }
     ensures put { PutsShotsBehind N.parts user.old.seen user.new.seen
         (put_state_of_desk (S.shown desk.old.store.now) desk.old.fault desk.old.tried)
         (put_state_of_desk (S.shown desk.new.store.now) desk.new.fault desk.new.tried) }
@@ -146,28 +150,44 @@ pub(crate) fn do_user_turn<'a, N: Name, K: Checkpoint, S: Store, R: Wait>(
 
 /// The least phase of those that are not done, or `None` where all are done.
 fn least_phase(passes: &[Pass<'_>], user: &UserPass<'_>) -> Option<u32>
-    ensures passes { IfNone result (All (λ p. p.next ≡ length p.script) passes.now) }
-    ensures user { IfNone result (user.now.next ≡ length user.now.input) }
+    ensures { IsLeastOf result (phases_left phase_left passes.now user.now) }
 {
     let mut least = None;
     'passes: for pass in passes {
-        if !pass.done() {
-            least = lesser(pass.phase(), least);
-        }
+        least = lesser(least, phase_left(pass));
     }
-    if user.done() {
-        least
+    lesser(least, user_phase_left(user))
+}
+
+/// The phase that the client is in, or `None` where it is done.
+fn phase_left(pass: &Pass<'_>) -> Option<u32>
+    ensures { result ≡ phase_left pass.now }
+{
+    if pass.done() {
+        None
     } else {
-        lesser(user.phase(), least)
+        Some(pass.phase())
     }
 }
 
-/// The lesser of a phase and of one that may be there.
-pub(crate) fn lesser(phase: u32, other: Option<u32>) -> Option<u32>
-    ensures { IsSome result }
+/// The phase that the user is in, or `None` where it is done.
+pub(crate) fn user_phase_left(user: &UserPass<'_>) -> Option<u32>
+    ensures { result ≡ user_phase_left user.now }
 {
-    match other {
-        Some(other) if other < phase => Some(other),
-        _ => Some(phase),
+    if user.done() {
+        None
+    } else {
+        Some(user.phase())
+    }
+}
+
+/// The lesser of two numbers, of which each may be missing.
+pub(crate) fn lesser(one: Option<u32>, other: Option<u32>) -> Option<u32>
+    ensures { result ≡ lesser one other }
+{
+    match (one, other) {
+        (Some(one), Some(other)) if one < other => Some(one),
+        (one, None) => one,
+        (_, other) => other,
     }
 }

@@ -1,7 +1,7 @@
 //! A run of one client, without a lock and on the calling thread.
 
 ghost use Rattle.std.specs.Prelude.{◌≡◌, ◌+◌, ◌++◌, Some, drop, length, map, slice_get};
-ghost use Rattle.nit_actor.specs.Terms.{Calls, IsAtPhase, IsOpen, StepTogether, action_of, actions_to_be, calls_in, role_of, user_role_of};
+ghost use Rattle.nit_actor.specs.Terms.{Calls, IsAtPhase, IsAtStroke, IsOpen, StepTogether, action_of, actions_to_be, calls_in, role_of, sight_after_line, user_role_of};
 
 use nit_hall::{Pass, Room, UserPass};
 use nit_script::Line;
@@ -46,9 +46,23 @@ fn do_line<'a>(room: &mut Room<'a>, pass: &mut Pass<'a>, user: &mut UserPass<'a>
         Line::Call(_) => {
             room.serve(pass);
         }
-        Line::Stroke(_) => pass.stroke(),
+        Line::Stroke(_) => stroke(room, pass),
         Line::Phase => end_phase(room, pass, user),
     }
+}
+
+/// The client makes its next line, which is a stroke, in the phase that is served.
+fn stroke<'a>(room: &Room<'a>, pass: &mut Pass<'a>)
+    requires next { IsAtStroke pass.old }
+    requires ready { pass.old.phase ≡ room.now.phase }
+    ensures { pass.new ≡ record pass.old {
+      next = pass.old.next + 1;
+      met = pass.old.phase;
+      sight = sight_after_line pass.old;
+    } }
+{
+    room.admit(pass);
+    pass.stroke();
 }
 
 /// The client ends its phase, and the user with it.

@@ -1,4 +1,5 @@
-use Rattle.nit_actor.proofs.Lemmas.{puts_also, ◌∙◌}
+use Rattle.std.proofs.Common.{◌≡◌}
+use Rattle.nit_actor.proofs.Lemmas.{Pair, all_ended, length, pair_ended, pair_phase_left, puts_also, ◌∙◌}
 use Rattle.nit_actor.proofs.clip_beside.run_pairs.Goals as goal
 
 pub turns-preserved : goal.turns-preserved
@@ -15,3 +16,8 @@ turns-preserved g c =
       put = puts_also g.N.Name.parts _ _ _ _ _ _ i.put u.put;
       same_store = u.same_store ∙ i.same_store;
     }
+
+pub returns-in_default-clause-done : goal.returns-in_default-clause-done
+returns-in_default-clause-done g c =
+    (all_ended (λ (b : Pair). pair_phase_left b.pass b.clip) (λ b. (b.pass.next ≡ length b.pass.script) × (b.clip.next ≡ length b.clip.script)) (λ b is. pair_ended b.pass b.clip is)
+    c.turns.pairs c.turns.user c.in_default.ensures).0

@@ -1,4 +1,4 @@
-use Rattle.nit_actor.proofs.Lemmas.{all_pairs, puts_also, puts_none, refl, ◌∙◌}
+use Rattle.nit_actor.proofs.Lemmas.{IsPairIn, all_pairs, pairs_all_ended, puts_also, puts_none, refl, zip_long, ◌∙◌}
 use Rattle.nit_actor.proofs.clip_mine.run_mine_clips.Goals as goal
 
 pub turns-preserved : goal.turns-preserved
@@ -28,3 +28,9 @@ turns-init g c = record {
   put = puts_none g.N.Name.parts _ _;
   same_store = refl;
 }
+
+pub returns-in_default-clause-done : goal.returns-in_default-clause-done
+returns-in_default-clause-done g c = (pairs_all_ended c.turns.passes c.turns.clips c.turns.user (zip_long (IsPairIn g.N.Name.parts) c.turns.passes c.turns.clips c.turns.invariant.fit) c.in_default.ensures).0
+
+pub returns-in_default-clause-clips_done : goal.returns-in_default-clause-clips_done
+returns-in_default-clause-clips_done g c = (pairs_all_ended c.turns.passes c.turns.clips c.turns.user (zip_long (IsPairIn g.N.Name.parts) c.turns.passes c.turns.clips c.turns.invariant.fit) c.in_default.ensures).1

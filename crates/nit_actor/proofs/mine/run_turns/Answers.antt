@@ -1,4 +1,5 @@
-use Rattle.nit_actor.proofs.Lemmas.{puts_also, ◌∙◌}
+use Rattle.std.proofs.Common.{◌≡◌}
+use Rattle.nit_actor.proofs.Lemmas.{PassModel, all_ended, client_ended, length, phase_left, puts_also, ◌∙◌}
 use Rattle.nit_actor.proofs.mine.run_turns.Goals as goal
 
 pub turns-preserved : goal.turns-preserved
@@ -15,3 +16,6 @@ turns-preserved g c =
       put = puts_also g.N.Name.parts _ _ _ _ _ _ i.put u.put;
       same_store = u.same_store ∙ i.same_store;
     }
+
+pub returns-in_default-clause-done : goal.returns-in_default-clause-done
+returns-in_default-clause-done g c = (all_ended phase_left (λ (p : PassModel). p.next ≡ length p.script) client_ended c.turns.passes c.turns.user c.in_default.ensures).0

@@ -1,0 +1,33 @@
+-- The phases of the actors that are not done, and the least of them.
+use Rattle.std.specs.Prelude.{◌≡◌, ◌==◌, ◌&&◌, ◌≤◌, ◌++◌, ◌∷◌, [], ℕ, List, Option, Some, None, All, Contains, filter_map, if◌then◌else◌, length, min}
+use Rattle.nit_actor.specs.Below.{ClipPassModel, PassModel, UserPassModel}
+
+-- the phase that a client is in, where it is not done: a line of its script is left
+abbrev pub phase_left : PassModel → Option ℕ
+phase_left p = if p.next == length p.script then None else Some p.phase
+
+-- the same of a client with a clip script: a line of one of the two scripts is left
+abbrev pub pair_phase_left : PassModel → ClipPassModel → Option ℕ
+pair_phase_left p q =
+    if (p.next == length p.script) && (q.next == length q.script) then None else Some p.phase
+
+-- the same of the user
+abbrev pub user_phase_left : UserPassModel → Option ℕ
+user_phase_left u = if u.next == length u.input then None else Some u.phase
+
+-- the phases of those clients that are not done, in order, and last the user's where it is not
+-- done; each client's phase is told by `left`
+abbrev pub phases_left : {X : Type 0} → (X → Option ℕ) → List X → UserPassModel → List ℕ
+phases_left left clients u = filter_map left clients ++ filter_map user_phase_left (u ∷ [])
+
+-- the least of some numbers: one of them, and none of them is less; there is none only where there
+-- are no numbers
+abbrev pub IsLeastOf : Option ℕ → List ℕ → Type 0
+IsLeastOf None numbers = numbers ≡ []
+IsLeastOf (Some n) numbers = Contains numbers n × All (λ m. n ≤ m) numbers
+
+-- the lesser of two numbers, of which each may be missing
+abbrev pub lesser : Option ℕ → Option ℕ → Option ℕ
+lesser None other = other
+lesser (Some n) None = Some n
+lesser (Some n) (Some m) = Some (min n m)
