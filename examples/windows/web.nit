@@ -1,0 +1,31 @@
+buffer 240 190
+fill 0 0 240 190 F4F0E4
+fill 0 0 240 12 406080
+fill 6 3 140 6 FFFFFF
+fill 12 22 120 8 203040
+check 12 36 130 3 606060 F4F0E4
+check 12 43 120 3 606060 F4F0E4
+check 12 50 126 3 606060 F4F0E4
+fill 150 22 78 60 80B0D8
+fill 150 62 78 20 60A050
+fill 12 96 100 8 203040
+check 12 110 210 3 606060 F4F0E4
+check 12 117 216 3 606060 F4F0E4
+check 12 124 190 3 606060 F4F0E4
+check 12 131 204 3 606060 F4F0E4
+check 12 138 120 3 606060 F4F0E4
+view
+view
+place 1 190 40 240 190
+place 2 226 78 240 190
+title 1 =page 1
+title 2 =page 2
+refresh 0 0 240 190
+phase
+phase
+take
+take
+take
+take
+take
+take
