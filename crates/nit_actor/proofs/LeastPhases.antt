@@ -1,11 +1,11 @@
 -- The least of the phases of those that are not done.
-use Rattle.std.proofs.Common.{All, Bool, Contains, List, None, Option, Some, [], ap, arith, cond, filter_map, get_or, inl, inr, length, false, min, refl, subst, suc, sym, take, true, zero, zip, ℕ, ◌&&◌, ◌++◌, ◌+◌, ◌<◌, ◌==◌, ◌∙◌, ◌∷◌, ◌≡◌, ◌≤◌}
+use Rattle.std.proofs.Common.{All, Bool, Contains, IfSome, List, None, Option, Some, [], ap, arith, cond, filter_map, get_or, inl, inr, length, false, min, refl, subst, suc, sym, take, true, zero, zip, ℕ, ◌&&◌, ◌++◌, ◌+◌, ◌<◌, ◌==◌, ◌∙◌, ◌∷◌, ◌≡◌, ◌≤◌}
 use Rattle.std.specs.List.{cons_option}
 use Rattle.std.proofs.Math.Nat.{min-eq_left, min-eq_right, min-le_left, min-le_right}
 use Rattle.std.proofs.lemmas.List.{append-nil, take_all, take_more}
 use Rattle.std.proofs.lemmas.List.Elements.{All-cons, All-push, Contains-append_left, Contains-push, filter_map-append}
 use Rattle.std.proofs.lemmas.Option.{none-some}
-use Rattle.nit_actor.proofs.Basics.{ClipPassModel, IsLeastOf, PassModel, UserPassModel, and_parts, cases_lt, eqb-true, lesser, pair_phase_left, phase_left, phases_left, user_phase_left}
+use Rattle.nit_actor.proofs.Basics.{ClipPassModel, IsLeastOf, NoneIsBefore, PassModel, UserPassModel, and_parts, cases_lt, eqb-true, lesser, pair_phase_left, phase_left, phases_left, user_phase_left}
 
 -- ---- one more
 
@@ -41,6 +41,27 @@ left_in_all h xs u i a b c end last both is =
     subst (λ o. IsLeastOf o (phases_left h xs u)) (sym both)
     (subst (λ o. IsLeastOf (lesser a b) (filter_map h xs ++ cons_option o [])) last
     (least_more (filter_map h xs) a b (subst (λ ys. IsLeastOf a (filter_map h ys)) (take_all i xs end) is)))
+
+-- ---- none is before
+
+first_after : (n : ℕ) (o : Option ℕ) (ns ms : List ℕ) → All (λ m. n ≤ m) (cons_option o ns ++ ms) → IfSome o (λ m. n ≤ m) × All (λ m. n ≤ m) (ns ++ ms)
+first_after n None ns ms all = (tt, all)
+first_after n (Some m) ns ms all = (all 0 m (omega arith), λ k d inside. all (suc k) d (omega (arith, inside)))
+
+each_after : {X : Type 0} (h : X → Option ℕ) (n : ℕ) (xs : List X) (ms : List ℕ) → All (λ m. n ≤ m) (filter_map h xs ++ ms)
+    → NoneIsBefore h n xs × All (λ m. n ≤ m) ms
+each_after h n [] ms all = (λ k d inside. absurd (omega arith), all)
+each_after h n (x ∷ xs) ms all =
+    let here = first_after n (h x) (filter_map h xs) ms all in
+    let rest = each_after h n xs ms here.1 in
+    (All-cons (λ y. IfSome (h y) (λ m. n ≤ m)) x xs here.0 rest.0, rest.1)
+
+-- before the least phase nobody is
+pub none_before : {X : Type 0} (h : X → Option ℕ) (xs : List X) (u : UserPassModel) (a : Option ℕ) (n : ℕ) → IsLeastOf a (phases_left h xs u) → a ≡ Some n
+    → NoneIsBefore h n xs × NoneIsBefore user_phase_left n (u ∷ [])
+none_before h xs u a n least is =
+    let all = each_after h n xs (filter_map user_phase_left (u ∷ [])) (subst (λ o. IsLeastOf o (phases_left h xs u)) is least).1 in
+    (all.0, (each_after user_phase_left n (u ∷ []) [] (subst (λ ms. All (λ m. n ≤ m) ms) (sym (append-nil (filter_map user_phase_left (u ∷ [])))) all.1)).0)
 
 -- ---- none
 

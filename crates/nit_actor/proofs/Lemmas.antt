@@ -6,7 +6,7 @@ pub use Rattle.nit_actor.proofs.DrawnAsReplayed.{as_replayed}
 pub use Rattle.nit_actor.proofs.EntryEffects.{input_moved, served_moved, shot_moved}
 pub use Rattle.nit_actor.proofs.FirstPlaces.{kept_first, left_first_of}
 pub use Rattle.nit_actor.proofs.IdleUserLemmas.{at_call, at_line, idle_deeds, nothing_recorded, phase_ended, step_on, user_at_phase, user_ended}
-pub use Rattle.nit_actor.proofs.LeastPhases.{all_ended, client_ended, left_in_all, left_more, pair_ended, pairs_all_ended, zip_get, zip_length}
+pub use Rattle.nit_actor.proofs.LeastPhases.{all_ended, client_ended, left_in_all, left_more, none_before, pair_ended, pairs_all_ended, zip_get, zip_length}
 pub use Rattle.nit_actor.proofs.LineOnGlass.{after_stroke, fits, painted_to, step_there}
 pub use Rattle.nit_actor.proofs.LineRecords.{behind_still, call_counted, call_moved, call_recorded, glasses_still, is_glass, none_moved, none_recorded, quiet_others, room_there}
 pub use Rattle.nit_actor.proofs.LinesDone.{client_done, client_lines, user_done, user_lines}

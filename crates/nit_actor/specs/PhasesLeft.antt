@@ -1,5 +1,5 @@
 -- The phases of the actors that are not done, and the least of them.
-use Rattle.std.specs.Prelude.{◌≡◌, ◌==◌, ◌&&◌, ◌≤◌, ◌++◌, ◌∷◌, [], ℕ, List, Option, Some, None, All, Contains, filter_map, if◌then◌else◌, length, min}
+use Rattle.std.specs.Prelude.{◌≡◌, ◌==◌, ◌&&◌, ◌≤◌, ◌++◌, ◌∷◌, [], ℕ, List, Option, Some, None, All, Contains, IfSome, filter_map, if◌then◌else◌, length, min}
 use Rattle.nit_actor.specs.Below.{ClipPassModel, PassModel, UserPassModel}
 
 -- the phase that a client is in, where it is not done: a line of its script is left
@@ -25,6 +25,10 @@ phases_left left clients u = filter_map left clients ++ filter_map user_phase_le
 abbrev pub IsLeastOf : Option ℕ → List ℕ → Type 0
 IsLeastOf None numbers = numbers ≡ []
 IsLeastOf (Some n) numbers = Contains numbers n × All (λ m. n ≤ m) numbers
+
+-- no one of these who is not done is in a phase before this one
+abbrev pub NoneIsBefore : {X : Type 0} → (X → Option ℕ) → ℕ → List X → Type 0
+NoneIsBefore left phase actors = All (λ x. IfSome (left x) (λ n. phase ≤ n)) actors
 
 -- the lesser of two numbers, of which each may be missing
 abbrev pub lesser : Option ℕ → Option ℕ → Option ℕ

@@ -4,7 +4,7 @@ pub use Rattle.nit_actor.specs.ClipRole.{ClipRole, GoTogether, IsPairIn, IsPairR
 pub use Rattle.nit_actor.specs.Crew.{IsStarted}
 pub use Rattle.nit_actor.specs.Drawing.{Drawing, PutsShots, after_turn, done_after, drawn, drawn_shot, entry_of, frame_of, opening_drawing, picture_of, shot_frames_of, shots_after, shots_of, state_after, tables_after, word_after_entry, word_from}
 pub use Rattle.nit_actor.specs.IdleUser.{StepTogether, actions_to_be, idle_user}
-pub use Rattle.nit_actor.specs.PhasesLeft.{IsLeastOf, lesser, pair_phase_left, phase_left, phases_left, user_phase_left}
+pub use Rattle.nit_actor.specs.PhasesLeft.{IsLeastOf, NoneIsBefore, lesser, pair_phase_left, phase_left, phases_left, user_phase_left}
 pub use Rattle.nit_actor.specs.Pictures.{AreNearShots, GrowsQuietly, IsNearPicture, PutsShotsBehind}
 pub use Rattle.nit_actor.specs.Places.{ArePlaces, HasTurn, IsAtTurn, IsFirstActive, IsNextTurn, NoneHas, StandsAt, is_active, left_at, left_from, lefts, rest_of_phase, script_of, stepped, turn_by, turn_of, turns_left}
 pub use Rattle.nit_actor.specs.Role.{IsRoleIn, Role, role_of, user_role_of}

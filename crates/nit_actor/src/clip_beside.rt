@@ -7,7 +7,7 @@ ghost use base.Fml.{ftrue};
 ghost use Rattle.nit_actor.specs.RoundsRun.{put_state_of_desk};
 ghost use Rattle.nit_actor.specs.Role.{user_role_of};
 ghost use Rattle.nit_actor.specs.ClipRole.{IsPairIn, IsPairRoleIn, PairRole, pair_role_of};
-ghost use Rattle.nit_actor.specs.PhasesLeft.{IsLeastOf, pair_phase_left, phases_left};
+ghost use Rattle.nit_actor.specs.PhasesLeft.{IsLeastOf, NoneIsBefore, pair_phase_left, phases_left};
 ghost use Rattle.nit_actor.specs.Pictures.{PutsShotsBehind};
 
 use crate::beside::Mine;
@@ -60,7 +60,7 @@ impl<'h, 'a, N: Name, K: Checkpoint> Crew<Pair<'a>> for Work<'h, 'a, N, K> {
 }
 
 /// Each pair that is in this phase does its next line, if it has one, or what is left of its clip
-/// script.
+/// script. No pair that is not done is in a lesser phase.
 fn do_turn<'a, N: Name, K: Checkpoint, R: Wait>(
     rt: &R,
     work: &Work<'_, 'a, N, K>,
@@ -68,6 +68,7 @@ fn do_turn<'a, N: Name, K: Checkpoint, R: Wait>(
     phase: u32,
 )
     requires fits { All (λ b. IsPairRoleIn N.parts (pair_role_of b.pass b.clip)) pairs.old }
+    requires least { NoneIsBefore (λ b. pair_phase_left b.pass b.clip) phase pairs.old }
     ensures same { map (λ b. pair_role_of b.pass b.clip) pairs.new
         ≡ map (λ b. pair_role_of b.pass b.clip) pairs.old }
     ensures fits { All (λ b. IsPairRoleIn N.parts (pair_role_of b.pass b.clip)) pairs.new }

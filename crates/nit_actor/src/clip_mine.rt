@@ -2,7 +2,7 @@
 //! passes and clip passes, by turns.
 
 ghost use Rattle.std.specs.Prelude.{◌≡◌, ◌*◌, ◌+◌, All, Some, length, map, zip};
-ghost use Rattle.nit_actor.specs.Terms.{AllZip, Belongs, ClipBelongs, GoTogether, IsLeastOf, IsPairIn, PutsShotsBehind, UserBelongs, clip_role_of, pair_phase_left, phase_left, phases_left, picture_length, put_state_of_desk, role_of, user_role_of};
+ghost use Rattle.nit_actor.specs.Terms.{AllZip, Belongs, ClipBelongs, GoTogether, IsLeastOf, IsPairIn, NoneIsBefore, PutsShotsBehind, UserBelongs, clip_role_of, pair_phase_left, phase_left, phases_left, picture_length, put_state_of_desk, role_of, user_role_of};
 
 use crate::clip_actor::{do_last_clips, do_pair_line};
 use crate::desk::Desk;
@@ -65,7 +65,7 @@ pub fn run_mine_clips<'a, N: Name, G: Gate, S: Store, R: Wait>(
 }
 
 /// Each pass that is in this phase does its next line, if it has one, or what is left of its clip
-/// script.
+/// script. No client that is not done is in a lesser phase.
 fn do_turn<'a, N: Name, K: Checkpoint, R: Wait>(
     rt: &R,
     work: &Work<'_, 'a, N, K>,
@@ -74,6 +74,8 @@ fn do_turn<'a, N: Name, K: Checkpoint, R: Wait>(
     phase: u32,
 )
     requires fits { AllZip (IsPairIn N.parts) passes.old clips.old }
+    requires least { NoneIsBefore
+        (λ b. pair_phase_left b.0 b.1) phase (zip passes.old clips.old) }
     ensures same { map role_of passes.new ≡ map role_of passes.old }
     ensures clips_same { map clip_role_of clips.new ≡ map clip_role_of clips.old }
     ensures fits { AllZip (IsPairIn N.parts) passes.new clips.new }

@@ -1,8 +1,8 @@
 //! What the calling thread does: the user, and the passes whose threads could not be started, by
 //! turns.
 
-ghost use Rattle.std.specs.Prelude.{◌≡◌, ◌*◌, ◌+◌, All, Some, length, map};
-ghost use Rattle.nit_actor.specs.Terms.{Belongs, IsLeastOf, IsRoleIn, PutsShotsBehind, UserBelongs, lesser, phase_left, phases_left, picture_length, put_state_of_desk, role_of, user_phase_left, user_role_of};
+ghost use Rattle.std.specs.Prelude.{◌≡◌, ◌*◌, ◌+◌, ◌∷◌, [], All, Some, length, map};
+ghost use Rattle.nit_actor.specs.Terms.{Belongs, IsLeastOf, IsRoleIn, NoneIsBefore, PutsShotsBehind, UserBelongs, lesser, phase_left, phases_left, picture_length, put_state_of_desk, role_of, user_phase_left, user_role_of};
 
 use crate::actor::do_line;
 use crate::desk::Desk;
@@ -82,7 +82,8 @@ pub(crate) fn run_turns<'a, N: Name, K: Checkpoint, S: Store, R: Wait>(
     unreachable!()
 }
 
-/// Each pass that is in this phase does its next line, if it has one.
+/// Each pass that is in this phase does its next line, if it has one. No pass that is not done is
+/// in a lesser phase.
 fn do_turn<'a, N: Name, K: Checkpoint, R: Wait>(
     rt: &R,
     work: &Work<'_, 'a, N, K>,
@@ -90,6 +91,7 @@ fn do_turn<'a, N: Name, K: Checkpoint, R: Wait>(
     phase: u32,
 )
     requires fits { All (λ p. IsRoleIn N.parts (role_of p)) passes.old }
+    requires least { NoneIsBefore phase_left phase passes.old }
     ensures same { map role_of passes.new ≡ map role_of passes.old }
     ensures fits { All (λ p. IsRoleIn N.parts (role_of p)) passes.new }
 {
@@ -118,7 +120,8 @@ fn do_pass_turn<'a, N: Name, K: Checkpoint, R: Wait>(
     }
 }
 
-/// The user does its next line, if it has one and is in this phase.
+/// The user does its next line, if it has one and is in this phase. It is done, or in no lesser
+/// phase.
 pub(crate) fn do_user_turn<'a, N: Name, K: Checkpoint, S: Store, R: Wait>(
     rt: &R,
     work: &Work<'_, 'a, N, K>,
@@ -127,6 +130,7 @@ pub(crate) fn do_user_turn<'a, N: Name, K: Checkpoint, S: Store, R: Wait>(
     desk: &mut Desk<S>,
 )
     requires belongs { UserBelongs N.parts user.old }
+    requires least { NoneIsBefore user_phase_left phase (user.old ∷ []) }
     requires frame { length desk.old.frame.items ≡ N.parts.config.width * N.parts.config.height }
     requires text { length desk.old.text.items
         ≡ picture_length N.parts.config.width N.parts.config.height }
