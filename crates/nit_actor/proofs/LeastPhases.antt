@@ -1,11 +1,6 @@
 -- The least of the phases of those that are not done.
 use Rattle.std.proofs.Common.{All, Bool, Contains, IfSome, List, None, Option, Some, [], ap, arith, cond, filter_map, get_or, inl, inr, length, false, min, refl, subst, suc, sym, take, true, zero, zip, ℕ, ◌&&◌, ◌++◌, ◌+◌, ◌<◌, ◌==◌, ◌∙◌, ◌∷◌, ◌≡◌, ◌≤◌}
-use Rattle.std.specs.List.{cons_option}
-use Rattle.std.proofs.Math.Nat.{min-eq_left, min-eq_right, min-le_left, min-le_right}
-use Rattle.std.proofs.lemmas.List.{append-nil, take_all, take_more}
-use Rattle.std.proofs.lemmas.List.Elements.{All-cons, All-push, Contains-append_left, Contains-push, filter_map-append}
-use Rattle.std.proofs.lemmas.Option.{none-some}
-use Rattle.nit_actor.proofs.Basics.{ClipPassModel, IsLeastOf, NoneIsBefore, PassModel, UserPassModel, and_parts, cases_lt, eqb-true, lesser, pair_phase_left, phase_left, phases_left, user_phase_left}
+use Rattle.nit_actor.proofs.Basics.{All-cons, All-push, ClipPassModel, Contains-append_left, Contains-push, IsLeastOf, NoneIsBefore, PassModel, UserPassModel, and_parts, append-nil, cases_lt, cons_option, eqb-true, filter_map-append, lesser, min-eq_left, min-eq_right, min-le_left, min-le_right, none-some, pair_phase_left, phase_left, phases_left, take_all, take_more, user_phase_left}
 
 -- ---- one more
 

@@ -1,5 +1,5 @@
 -- What answers use: all that lemmas use, and this crate's lemmas.
-pub use Rattle.nit_actor.proofs.Basics.{All, All-set, AllZip, AreBehind, Belongs, ByClient, ByUser, ClipPassModel, Configuration, IfNone, InputLine, IsAtPhaseEnd, IsBehind, IsLeastOf, IsMoved, IsNearPicture, IsOpen, IsPairIn, IsPairRoleIn, IsPlanOf, IsRoleIn, IsShowing, IsUnderWay, IsUtf8, Line, LineTurn, List, NoneHas, Pair, PairRole, PassModel, PlanModel, PutsShotsBehind, Role, RoomModel, SceneModel, Sight, Some, StepTogether, UserPassModel, [], actions_to_be, ap, arith, clip_role_of, donation_of, entry_of, few_digits, get_or_default, glass_after, glass_in, is_stale, length, line_here, next_device, no_sight, pair_phase_left, pair_role_of, phase_left, pixel, put_state_of_desk, refl, replay, role_of, same_throughout, scenery_of, script_in, settled, shown, slice_get, slice_index, slice_index_or, state_now, subst, sym, take, told_at, user_actions_in, user_role_of, with_words, ℕ, ◌∙◌}
+pub use Rattle.nit_actor.proofs.Basics.{All, All-set, AllZip, AreBehind, Belongs, ByClient, ByUser, ClipPassModel, Configuration, InputLine, IsAtPhaseEnd, IsBehind, IsLeastOf, IsMoved, IsNearPicture, IsOpen, IsPairIn, IsPairRoleIn, IsPlanOf, IsRoleIn, IsShowing, IsUnderWay, IsUtf8, Line, LineTurn, List, NoneHas, Pair, PairRole, PassModel, PlanModel, PutsShotsBehind, Role, RoomModel, SceneModel, Sight, Some, StepTogether, UserPassModel, [], actions_to_be, ap, arith, clip_role_of, donation_of, entry_of, few_digits, filter_map, get_or_default, glass_after, glass_in, is_stale, length, line_here, next_device, no_sight, pair_phase_left, pair_role_of, phase_left, pixel, put_state_of_desk, refl, replay, role_of, same_throughout, scenery_of, script_in, settled, shown, slice_get, slice_index, slice_index_or, state_now, subst, sym, take, told_at, user_actions_in, user_role_of, with_words, zip, ℕ, ◌∙◌}
 pub use Rattle.nit_actor.proofs.Copies.{all_drawn, glass_there, row_drawn, rows_to}
 pub use Rattle.nit_actor.proofs.Counts.{as_many_as_lines, few_acts}
 pub use Rattle.nit_actor.proofs.DrawnAsReplayed.{as_replayed}

@@ -1,5 +1,4 @@
-use Rattle.std.proofs.Common.{filter_map, take}
-use Rattle.nit_actor.proofs.Lemmas.{IsLeastOf, Pair, pair_phase_left}
+use Rattle.nit_actor.proofs.Lemmas.{IsLeastOf, Pair, filter_map, pair_phase_left, take}
 use Rattle.nit_actor.proofs.clip_beside.least_phase.Given as goal
 
 abbrev pub invariant-pairs : goal.invariant-pairs

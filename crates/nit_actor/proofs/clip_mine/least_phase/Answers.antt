@@ -1,5 +1,4 @@
-use Rattle.std.proofs.Common.{sym, zip, ◌∙◌}
-use Rattle.nit_actor.proofs.Lemmas.{ClipPassModel, PassModel, arith, left_in_all, left_more, pair_phase_left, zip_get, zip_length}
+use Rattle.nit_actor.proofs.Lemmas.{ClipPassModel, PassModel, arith, left_in_all, left_more, pair_phase_left, sym, zip, zip_get, zip_length, ◌∙◌}
 use Rattle.nit_actor.proofs.clip_mine.least_phase.Goals as goal
 
 pub pairs-preserved : goal.pairs-preserved

@@ -1,5 +1,4 @@
-use Rattle.std.proofs.Common.{filter_map, take, zip}
-use Rattle.nit_actor.proofs.Lemmas.{ClipPassModel, IsLeastOf, PassModel, pair_phase_left}
+use Rattle.nit_actor.proofs.Lemmas.{ClipPassModel, IsLeastOf, PassModel, filter_map, pair_phase_left, take, zip}
 use Rattle.nit_actor.proofs.clip_mine.least_phase.Given as goal
 
 abbrev pub invariant-pairs : goal.invariant-pairs

@@ -1,5 +1,4 @@
-use Rattle.std.proofs.Common.{zip}
-use Rattle.nit_actor.proofs.Lemmas.{ClipPassModel, IsPairIn, PassModel, all_pairs, none_before, pair_phase_left, pairs_all_ended, puts_also, puts_none, refl, zip_long, ◌∙◌}
+use Rattle.nit_actor.proofs.Lemmas.{ClipPassModel, IsPairIn, PassModel, all_pairs, none_before, pair_phase_left, pairs_all_ended, puts_also, puts_none, refl, zip, zip_long, ◌∙◌}
 use Rattle.nit_actor.proofs.clip_mine.run_mine_clips.Goals as goal
 
 pub turns-preserved : goal.turns-preserved
