@@ -1,4 +1,6 @@
 """Runs of the program in folders of their own, for the tools beside it."""
+import importlib.machinery
+import importlib.util
 import os
 import subprocess
 from pathlib import Path
@@ -24,6 +26,14 @@ def program_at(path):
     if not (program.is_file() and os.access(program, os.X_OK)):
         raise SystemExit(f"{path}: not a program")
     return str(program)
+
+
+def tool(name):
+    """Another tool of this folder, as a module."""
+    loader = importlib.machinery.SourceFileLoader(name, str(TOP / "tools" / name))
+    module = importlib.util.module_from_spec(importlib.util.spec_from_loader(name, loader))
+    loader.exec_module(module)
+    return module
 
 
 def write_files(folder, files):

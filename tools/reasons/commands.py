@@ -1,0 +1,261 @@
+"""What the program would say to the words of a command line, and why. Nothing is run or put."""
+import copy
+import os
+import re
+
+import model
+from expected import USAGE, Setup, outputs_by_turns
+
+from . import config, journal, scripts
+from .faults import Note, Refused, Verdict, quoted, shown
+
+NUMBER = re.compile(r"0|[1-9][0-9]{0,8}")
+COMMANDS = {
+    "still": ("W", "H", "SCRIPT"), "turns": ("CONFIG",), "run": ("CONFIG",), "gen": ("N",),
+    "audit": ("CONFIG", "JOURNAL"), "clip": ("CONFIG",), "capture": ("CONFIG", "X", "Y", "W", "H"),
+    "nested": ("OUTER", "INNER"),
+}
+USAGE_RULE = "docs/FORMATS.md, The command line"
+
+
+def usage(what, right):
+    return Refused(2, USAGE, Note("the words", what, right, USAGE_RULE))
+
+
+def form_of(command):
+    return f"`{' '.join([command, *COMMANDS[command]])}`"
+
+
+# The words.
+
+
+def check_number(command, name, word):
+    """That a word is a number within the bounds of its place."""
+    least, most = 0, 999999999
+    if command == "still":
+        least, most = 1, {"W": 1024, "H": 768}[name]
+    if not (NUMBER.fullmatch(word) and least <= int(word) <= most):
+        raise usage(f"{quoted(word)} stands where {name} is to stand in {form_of(command)}",
+                    f"a number from {least} to {most}, in decimal without leading zeros")
+
+
+def check_words(words):
+    """That the words are those of a command."""
+    for word in words:
+        try:
+            word.encode()
+        except UnicodeEncodeError as wrong:
+            raise usage(f"{quoted(word)} is no UTF-8", "all words are UTF-8") from wrong
+    known = "one of " + ", ".join(f"`{name}`" for name in COMMANDS)
+    if not words:
+        raise usage("there are none", f"the first is {known}")
+    if words[0] not in COMMANDS:
+        raise usage(f"{quoted(words[0])} is no command", known)
+    command, given = words[0], words[1:]
+    names = COMMANDS[command]
+    if len(given) != len(names):
+        raise usage(f"`{command}` takes {len(names)} word{'s' if len(names) > 1 else ''}, and "
+                    f"{len(given)} are given", form_of(command))
+    for name, word in zip(names, given):
+        if len(name) == 1:
+            check_number(command, name, word)
+
+
+# Files.
+
+
+class Folder:
+    """The folder that a run would be in, with the files that it reads."""
+
+    def __init__(self, path="."):
+        self.path = path
+
+    def read(self, name, most):
+        """The bytes of a file, as many as tell whether it is too long."""
+        try:
+            with open(os.path.join(self.path, name) if name else "", "rb") as file:
+                return file.read(most + 1)
+        except (OSError, ValueError) as wrong:
+            raise Refused(3, f"{name}: read fault", self.why_not(name, wrong)) from wrong
+
+    def why_not(self, name, wrong):
+        path = os.path.join(self.path, name) if name else ""
+        what = getattr(wrong, "strerror", None) or str(wrong)
+        here = shown(os.path.realpath(self.path))
+        right = ""
+        if not name:
+            what = "the name is empty"
+        elif os.path.isdir(path):
+            what = "it is a folder"
+        elif isinstance(wrong, FileNotFoundError):
+            what = f"there is no such file in {here}"
+            right = "names go from the folder in which the program is started, also those in a " \
+                "configuration"
+        return Note(name or "''", f"it cannot be read: {what}", right,
+                    "docs/FAILURES.md, Reading")
+
+    def phases(self, name):
+        """How many lines `phase` a file has, whatever its other lines are, or none."""
+        try:
+            return self.read(name, scripts.MOST_BYTES).split(b"\n").count(b"phase")
+        except Refused:
+            return None
+
+    def is_blocked(self, name):
+        """Whether a folder stands where a file is to be put."""
+        path = os.path.join(self.path, name)
+        return os.path.isdir(path) and not os.path.islink(path)
+
+    def is_closed(self):
+        return not os.access(self.path, os.W_OK | os.X_OK)
+
+
+def read_setup(folder, name, first_line=None, has_phases=True):
+    """A configuration and its scripts, each judged before the next one is read."""
+    table = config.read_config(name, folder.read(name, config.MOST_BYTES))
+    names = [client["script"] for client in table["client"]] + [table["input"]["script"]]
+    found = []
+    for place, script_name in enumerate(names):
+        kind = "input" if place == len(names) - 1 else "client"
+        data = folder.read(script_name, scripts.MOST_BYTES)
+        script = scripts.read_script(script_name, data, kind, None if place else first_line)
+        if found and has_phases:
+            check_phases(folder, names, (script_name, script), found[0].count("phase"))
+        found.append(script)
+    setup = Setup(table, found[:-1], found[-1])
+    setup.names = names
+    return setup
+
+
+def check_phases(folder, names, named_script, count, of_whom=None):
+    """That a script has as many lines `phase` as the first one of `names`, or as `of_whom` asks."""
+    name, script = named_script
+    if script.count("phase") == count:
+        return
+    counts = [(other, number) for other in dict.fromkeys([*names, name])
+              for number in [folder.phases(other)] if number is not None]
+    raise scripts.phases_fault(name, script, count,
+                               of_whom or f"the first client's {shown(names[0])} has", counts)
+
+
+def check_puts(folder, names):
+    for name in names:
+        if folder.is_closed() or folder.is_blocked(name):
+            what = "the folder has no leave to write" if folder.is_closed() else \
+                "a folder stands in its place"
+            raise Refused(4, f"{name}: write fault",
+                          Note(name, f"it cannot be put: {what}", "", "docs/FAILURES.md, Putting"))
+
+
+def puts_of(setup):
+    """The names of what a run puts, in their order."""
+    shots = [f"shot-{number}.ppm" for number in range(1, setup.user.count("shot") + 1)]
+    return [*shots, "final.ppm", *(f"events-{label}.txt" for label in setup.labels()), "journal.txt"]
+
+
+# The commands. Each answers the line of status 0.
+
+
+def do_still(folder, _width, _height, name):
+    script = scripts.read_script(name, folder.read(name, scripts.MOST_BYTES), "client")
+    check_puts(folder, ["final.ppm"])
+    client = {"label": "still", "donation": 8388608}
+    return Setup({"client": [client]}, [script], []).summary()
+
+
+def do_turns(folder, name, more=()):
+    setup = read_setup(folder, name)
+    check_puts(folder, [*puts_of(setup), *more])
+    return setup.summary()
+
+
+def do_gen(folder, _number):
+    made = ["gen.toml", *(f"g{client}.nit" for client in range(8)), "gen.in"]
+    texts = [f"events-g{client}.txt" for client in range(8)]
+    check_puts(folder, [*made, "shot-1.ppm", "final.ppm", *texts, "journal.txt"])
+    return "clients 8 entries 12260 frames 2"
+
+
+def do_audit(folder, name, journal_name):
+    setup = read_setup(folder, name)
+    entries = journal.read_journal(journal_name, folder.read(journal_name, journal.MOST_BYTES))
+    journal.judge(journal_name, entries, setup)
+    return f"audit yes entries {len(entries)}"
+
+
+def do_clip(folder, name):
+    setup = read_setup(folder, name)
+    count = setup.clients[0].count("phase")
+    for script_name in setup.names[:-1]:
+        clip = f"{script_name}.clip"
+        lines = scripts.read_script(clip, folder.read(clip, scripts.MOST_BYTES), "clip")
+        check_phases(folder, setup.names, (clip, lines), count)
+    check_puts(folder, [*puts_of(setup), "clip.txt"])
+    return setup.summary()
+
+
+def do_capture(folder, name, *region):
+    setup = read_setup(folder, name)
+    x, y, width, height = map(int, region)
+    screen = setup.config["screen"]
+    across, down = screen["width"], screen["height"]
+    what = "the region has no pixels" if not width or not height else \
+        f"the region goes to column {x + width} and row {y + height}, and the screen has {across} " \
+        f"and {down}" if x + width > across or y + height > down else None
+    if what:
+        raise Refused(10, "capture outside", Note(
+            "the words", what, f"X + W is at most {across}, Y + H at most {down}, W and H at least 1",
+            "docs/FORMATS.md, Statuses and lines"))
+    check_puts(folder, [*puts_of(setup), "capture.ncap"])
+    return setup.summary()
+
+
+def do_nested(folder, outer_name, inner_name):
+    outer = read_setup(folder, outer_name, scripts.nested_line, has_phases=False)
+    inner = read_setup(folder, inner_name)
+    frames = inner.user.count("shot") + 1
+    for name, script in zip(outer.names, [*outer.clients, outer.user]):
+        check_phases(folder, outer.names, (name, script), frames - 1,
+                     f"{shown(inner_name)} has {frames} frames, which takes")
+    drawn = 1 + sum(map(frame_lines, frames_of(inner)))
+    if drawn + len(outer.clients[0]) > scripts.MOST_LINES:
+        raise Refused(11, f"{inner_name}: inner frames too long", Note(
+            inner_name, f"its frames are {drawn:,} lines, {outer.names[0]} has "
+            f"{len(outer.clients[0]):,}, and {scripts.MOST_LINES:,} are the most",
+            "fewer shots, a smaller screen or plainer pictures",
+            "docs/FORMATS.md, Frames as lines of a script"))
+    check_puts(folder, [*puts_of(outer), "inner-journal.txt"])
+    made = copy.copy(outer)
+    calls = 1 + frames
+    said = made.summary().split(" ")
+    said[3] = str(int(said[3]) + calls)
+    return " ".join(said)
+
+
+def frames_of(inner):
+    """The pictures of the inner run by turns, each as rows of words of three bytes."""
+    screen, outputs = inner.config["screen"], outputs_by_turns(inner)
+    for name, picture in outputs.items():
+        if name.endswith(".ppm"):
+            body = picture[len(model.header(screen["width"], screen["height"])):]
+            yield [body[at : at + 3 * screen["width"]]
+                   for at in range(0, len(body), 3 * screen["width"])]
+
+
+def frame_lines(rows):
+    """How many lines a frame makes: one for each run of equal words, and one to show it."""
+    return 1 + sum(1 + sum(row[at : at + 3] != row[at - 3 : at] for at in range(3, len(row), 3))
+                   for row in rows)
+
+
+DO = {"still": do_still, "turns": do_turns, "run": do_turns, "gen": do_gen, "audit": do_audit,
+      "clip": do_clip, "capture": do_capture, "nested": do_nested}
+
+
+def verdict_of(words, path="."):
+    """How the program would end with these words in the folder of this path."""
+    try:
+        check_words(words)
+        return Verdict(0, DO[words[0]](Folder(path), *words[1:]))
+    except Refused as refused:
+        return refused.verdict
