@@ -214,9 +214,10 @@ def faults_of_call(row, how, told, outcome):
 def try_calls(row, library, top):
     """Each call in each way, until a run makes fewer. Answers what is wrong."""
     files = row.files | dict.fromkeys(row.puts, OLDER)
-    log, count, parts, wrong = top / "log", 0, 0, []
+    log, count, parts, wrong, progress = top / "log", 0, 0, [], runs.Progress()
     for how in ("fail", "on", "full", "half", "interrupted", "kill", "cut"):
         for number in range(1, 10000):
+            progress.tell(number, f"{' '.join(row.words)}, {how}: call")
             log.unlink(missing_ok=True)
             environment = {"LD_PRELOAD": str(library), "DISK_AT": str(number),
                            "DISK_HOW": how, "DISK_LOG": str(log)}

@@ -1,12 +1,73 @@
-"""Runs of the program in folders of their own, for the tools beside it."""
+"""What the tools share: their words, how far they are, and runs of the program in folders of their own."""
 import importlib.machinery
 import importlib.util
 import os
 import subprocess
+import sys
+import time
 from pathlib import Path
 
 TOP = Path(__file__).resolve().parent.parent
 SECONDS = 120
+BETWEEN = 5.0
+
+
+class WrongWords(SystemExit):
+    """Words that a tool does not know, and why. It ends a tool that does not catch it."""
+
+
+def usage_of(about):
+    """The lines of a tool's text that say its words."""
+    return next(part for part in about.split("\n\n") if part.startswith("usage:")).strip()
+
+
+def command(main, about):
+    """Runs a tool and ends. `--help` prints what it is; words that it does not know have status 2."""
+    words, name, status = sys.argv[1:], Path(sys.argv[0]).name, 0
+    try:
+        if "--help" in words or "-h" in words:
+            print(about.strip())
+        else:
+            status = main(words)
+        sys.stdout.flush()
+    except WrongWords as wrong:
+        print(f"tools/{name}: {wrong}\n{usage_of(about)}", file=sys.stderr)
+        status = 2
+    except KeyboardInterrupt:
+        status = 130
+    except BrokenPipeError:
+        os.dup2(os.open(os.devnull, os.O_WRONLY), sys.stdout.fileno())
+        status = 141
+    sys.exit(status)
+
+
+def program_and_rows(words, rows):
+    """The program that the first word names, or bin/nitpicker, and the rows that the others name.
+
+    A row is known by its first word. Where none is named, all are meant.
+    """
+    options = [word for word in words if word.startswith("-")]
+    if options:
+        raise WrongWords(f"no such word: {options[0]}")
+    for row in words[1:]:
+        if row not in rows:
+            raise WrongWords(f"no such row: {row}; there are {', '.join(rows)}")
+    return program_at(words[0] if words else TOP / "bin" / "nitpicker"), words[1:] or list(rows)
+
+
+class Progress:
+    """Says on standard error how far a tool is, every few seconds."""
+
+    def __init__(self, total=None):
+        self.total, self.said, self.begun = total, time.monotonic(), time.monotonic()
+
+    def tell(self, number, what):
+        now = time.monotonic()
+        if now - self.said >= BETWEEN:
+            self.said = now
+            of_all = f" of {self.total}" if self.total else ""
+            print(f"tools/{Path(sys.argv[0]).name}: {what} {number}{of_all}, {now - self.begun:.0f} s",
+                  file=sys.stderr, flush=True)
 
 
 class Outcome:
@@ -24,7 +85,7 @@ def program_at(path):
         subprocess.run([program], stdout=subprocess.DEVNULL, check=False)
         program = crate / "out" / "nitpicker"
     if not (program.is_file() and os.access(program, os.X_OK)):
-        raise SystemExit(f"{path}: not a program")
+        raise WrongWords(f"{path}: not a program")
     return str(program)
 
 

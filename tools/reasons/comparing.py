@@ -4,7 +4,6 @@ import os
 import random
 import shlex
 import shutil
-import sys
 import tempfile
 from pathlib import Path
 
@@ -200,8 +199,9 @@ def compare_examples(program, top, counts):
 
 
 def compare_broken(program, numbers, top, kept, counts):
-    good = None
+    good, progress = None, runs.Progress(len(numbers))
     for number in numbers:
+        progress.tell(number - numbers[0], "input")
         if good is None or number % FROM_ONE == 0:
             good = Good(number // FROM_ONE)
         kind, words, files, what = broken(good, number)
@@ -212,8 +212,6 @@ def compare_broken(program, numbers, top, kept, counts):
             shutil.copytree(folder, kept / str(number))
             print(f"  input {number}, {what}: kept in {kept / str(number)}", flush=True)
         shutil.rmtree(folder)
-        if number % 500 == 0:
-            print(f"tools/explain: input {number} of {numbers[-1]}", file=sys.stderr, flush=True)
 
 
 def main(count, seed, words):

@@ -231,8 +231,9 @@ def text_of(name, data):
     try:
         return data.decode()
     except UnicodeDecodeError as wrong:
-        text = data.decode("latin-1")
-        fault = Fault(wrong.start, wrong.end, f"the byte 0x{data[wrong.start]:02X} is no UTF-8",
+        text = data.decode("utf-8", "surrogateescape")
+        at = len(data[: wrong.start].decode())
+        fault = Fault(at, at + 1, f"the byte 0x{data[wrong.start]:02X} is no UTF-8",
                       "save the file as UTF-8")
         raise refused(name, "syntax", Finding(name, text, fault,
                                               f"{FORM}: it is a TOML file")) from wrong

@@ -56,13 +56,13 @@ class Refused(Exception):
 def letter_shown(letter):
     """A character as it is, or as an escape where a terminal would act on it or show nothing."""
     code = ord(letter)
-    if letter == "\\" or letter.isprintable() and code < 128:
+    if letter.isprintable():
         return letter
     simple = {"\t": "\\t", "\r": "\\r", "\n": "\\n"}
     if letter in simple:
         return simple[letter]
-    if letter.isprintable() and code > 255:
-        return letter
+    if 0xDC80 <= code <= 0xDCFF:
+        code -= 0xDC00
     return f"\\x{code:02x}" if code < 256 else f"\\u{{{code:x}}}"
 
 

@@ -1,6 +1,7 @@
 """How a line of a script or of a journal is read, word by word, and where it stops to have a reading.
 
-Written from docs/FORMATS.md. A line is a text of the bytes 0 to 255, without its line feed.
+Written from docs/FORMATS.md. A line is a text without its line feed. Each of its bytes is a character:
+that of ASCII, or by `surrogateescape` one that stands for a byte from 128 on.
 """
 import difflib
 import re
@@ -58,6 +59,8 @@ SPELLED = {
 PARTED = "words are parted by exactly one space, with nothing before the first and after the last"
 ENDED = "each line ends with one line feed"
 NOTHING = "there are no comments and no empty lines"
+MARK = b"\xef\xbb\xbf".decode("ascii", "surrogateescape")
+UTF_16 = ("\udcff\udcfe", "\udcfe\udcff")
 ODD = {
     "\t": "a tab", "\r": "a carriage return", "\0": "a NUL byte", "\x7f": "the control character DEL",
     "\x0b": "a vertical tab", "\x0c": "a form feed", "\x1b": "the control character ESC",
@@ -75,7 +78,7 @@ def odd_at(text, start, end):
 def name_of_odd(letter):
     if letter in ODD:
         return ODD[letter]
-    return f"the byte 0x{ord(letter):02X}" + (" (no ASCII)" if letter > "~" else "")
+    return f"the byte 0x{ord(letter) & 255:02X}" + (" (no ASCII)" if letter > "~" else "")
 
 
 class Reader:
@@ -274,10 +277,10 @@ def check_start(reader):
     line = reader.text
     if not line:
         reader.fail(0, 0, "the line is empty", "take the line out", NOTHING)
-    if line.startswith("\xef\xbb\xbf"):
+    if line.startswith(MARK):
         reader.fail(0, 3, "a byte order mark (EF BB BF) stands here",
                     "save the file as UTF-8 without one, or as ASCII")
-    if line.startswith(("\xff\xfe", "\xfe\xff")):
+    if line.startswith(UTF_16):
         reader.fail(0, 2, "the file is UTF-16", "save it as ASCII")
     if line[0] in " \t":
         reader.fail(0, len(line) - len(line.lstrip(" \t")),

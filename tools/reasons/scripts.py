@@ -27,7 +27,7 @@ def nested_line(reader):
 
 def pieces_of(data):
     """The lines that end with a line feed, and what is left behind the last one."""
-    *whole, rest = data.decode("latin-1").split("\n")
+    *whole, rest = data.decode("ascii", "surrogateescape").split("\n")
     return whole, rest
 
 

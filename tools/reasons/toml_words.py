@@ -6,7 +6,7 @@ from .faults import Fault, letter_shown, quoted
 
 MOST_PARTS = 80
 BARE = re.compile(r"[A-Za-z0-9_-]+")
-WORD = re.compile(r"[A-Za-z0-9_+\-.:]+(?: (?=[0-9])[A-Za-z0-9_+\-.:]+)?")
+WORD = re.compile(r"[0-9]{4}-[0-9]{2}-[0-9]{2} [0-9][A-Za-z0-9_+\-.:]*|[A-Za-z0-9_+\-.:]+")
 BLANKS = re.compile(r"[ \t]*")
 GAP = re.compile(r"(?:[ \t]+|\r?\n|#[^\x00-\x08\x0a-\x1f\x7f]*)*")
 MOST_DIGITS = 20

@@ -1,0 +1,83 @@
+"""Programs that stand in for the program in tools/selftest: right ones, and ones that answer wrongly."""
+import shlex
+import shutil
+import subprocess
+
+# Says what a script's picture takes, and puts it, in the way that its name tells.
+PUTTING = r"""
+#include <errno.h>
+#include <fcntl.h>
+#include <stdlib.h>
+#include <stdio.h>
+#include <string.h>
+#include <unistd.h>
+
+static int say(const char *line, int status) {
+    return write(1, line, strlen(line)) == (ssize_t)strlen(line) ? status : status ? status : 4;
+}
+
+int main(void) {
+    char *volatile room = malloc(100);
+    if (!room)
+        return say("nitpicker: no memory\n", NO_MEMORY);
+    memset(room, 'x', 100);
+    int file = open(PART, O_WRONLY | O_CREAT | O_TRUNC, 0600);
+    if (file < 0)
+        return say("nitpicker: final.ppm: write fault\n", 4);
+    int is_put = write(file, room, 100) == 100 && !close(file);
+    is_put = is_put && (!strcmp(PART, "final.ppm") || !rename(PART, "final.ppm"));
+    if (!is_put && strcmp(PART, "final.ppm"))
+        unlink(PART);
+    return is_put ? say("nitpicker: clients 1 entries 3 frames 1\n", 0)
+                  : say("nitpicker: final.ppm: write fault\n", 4);
+}
+"""
+
+
+def executable(path, text):
+    path.write_text(text)
+    path.chmod(0o755)
+    return str(path)
+
+
+def putting(folder, name, part="final.ppm.1.part", no_memory=7):
+    """A program that puts `final.ppm` by way of another name, or at once, which is wrong."""
+    source, path = folder / f"{name}.c", folder / name
+    source.write_text(PUTTING)
+    command = ["gcc", "-O1", f'-DPART="{part}"', f"-DNO_MEMORY={no_memory}", "-o", path, source]
+    subprocess.run(command, check=True)
+    return str(path)
+
+
+def saying(folder, name, line):
+    """A program that says a line, whatever its words are. `$$` is another number at each start."""
+    return executable(folder / name, f'#!/bin/sh\necho "{line}"\n')
+
+
+def wrapped(folder, name, program, changed="", behind=":"):
+    """The program itself, whose line goes through a command, and behind whose runs another one is done."""
+    return executable(folder / name, f"""#!/bin/sh
+said=$({shlex.quote(program)} "$@"; echo "status $?")
+status=${{said##*status }}
+printf '%s' "${{said%status *}}" {"| " + changed if changed else ""}
+{behind}
+exit "$status"
+""")
+
+
+def wrong_line(folder, program):
+    """The program, but for a number in its line."""
+    return wrapped(folder, "wrong-line", program, "sed 's/line [0-9]*/line 7/; s/entries /entries 9/'")
+
+
+def wrong_picture(folder, program):
+    """The program, but for the last byte of its last picture."""
+    return wrapped(folder, "wrong-picture", program, "", "[ -f final.ppm ] && [ ! -L final.ppm ] && "
+                   "truncate -s -1 final.ppm && printf 'x' >> final.ppm")
+
+
+def copied(folder, source):
+    """A copy of a folder of the repository without what was made in it."""
+    target = folder / source.name
+    shutil.copytree(source, target, ignore=shutil.ignore_patterns("out", "must-fail"))
+    return target
