@@ -1,4 +1,4 @@
-"""What the tools share: their words, how far they are, and runs of the program in folders of their own."""
+"""What the tools share: their words, how far they are, and runs in folders of their own."""
 import importlib.machinery
 import importlib.util
 import os
@@ -22,7 +22,7 @@ def usage_of(about):
 
 
 def command(main, about):
-    """Runs a tool and ends. `--help` prints what it is; words that it does not know have status 2."""
+    """Runs a tool and ends. `--help` prints what it is; words that it refuses have status 2."""
     words, name, status = sys.argv[1:], Path(sys.argv[0]).name, 0
     try:
         if "--help" in words or "-h" in words:
@@ -66,8 +66,9 @@ class Progress:
         if now - self.said >= BETWEEN:
             self.said = now
             of_all = f" of {self.total}" if self.total else ""
-            print(f"tools/{Path(sys.argv[0]).name}: {what} {number}{of_all}, {now - self.begun:.0f} s",
-                  file=sys.stderr, flush=True)
+            name, seconds = Path(sys.argv[0]).name, now - self.begun
+            print(f"tools/{name}: {what} {number}{of_all}, {seconds:.0f} s", file=sys.stderr,
+                  flush=True)
 
 
 class Outcome:

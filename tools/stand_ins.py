@@ -1,4 +1,4 @@
-"""Programs that stand in for the program in tools/selftest: right ones, and ones that answer wrongly."""
+"""Programs that stand in for the program in tools/selftest, right ones and wrong ones."""
 import shlex
 import shutil
 import subprocess
@@ -55,7 +55,7 @@ def saying(folder, name, line):
 
 
 def wrapped(folder, name, program, changed="", behind=":"):
-    """The program itself, whose line goes through a command, and behind whose runs another one is done."""
+    """The program itself. Its line goes through a command, and another one is done behind it."""
     return executable(folder / name, f"""#!/bin/sh
 said=$({shlex.quote(program)} "$@"; echo "status $?")
 status=${{said##*status }}
@@ -67,13 +67,14 @@ exit "$status"
 
 def wrong_line(folder, program):
     """The program, but for a number in its line."""
-    return wrapped(folder, "wrong-line", program, "sed 's/line [0-9]*/line 7/; s/entries /entries 9/'")
+    changed = "sed 's/line [0-9]*/line 7/; s/entries /entries 9/'"
+    return wrapped(folder, "wrong-line", program, changed)
 
 
 def wrong_picture(folder, program):
     """The program, but for the last byte of its last picture."""
-    return wrapped(folder, "wrong-picture", program, "", "[ -f final.ppm ] && [ ! -L final.ppm ] && "
-                   "truncate -s -1 final.ppm && printf 'x' >> final.ppm")
+    behind = "[ -f final.ppm ] && truncate -s -1 final.ppm && printf 'x' >> final.ppm"
+    return wrapped(folder, "wrong-picture", program, "", behind)
 
 
 def copied(folder, source):

@@ -1,5 +1,4 @@
 """What the program would say to the words of a command line, and why. Nothing is run or put."""
-import copy
 import os
 import re
 
@@ -70,15 +69,15 @@ class Folder:
     def __init__(self, path="."):
         self.path = path
 
-    def read(self, name, most):
-        """The bytes of a file, as many as tell whether it is too long."""
+    def read(self, name, most, beside=""):
+        """The bytes of a file, as many as tell whether it is too long. `beside` names it."""
         try:
             with open(os.path.join(self.path, name) if name else "", "rb") as file:
                 return file.read(most + 1)
         except (OSError, ValueError) as wrong:
-            raise Refused(3, f"{name}: read fault", self.why_not(name, wrong)) from wrong
+            raise Refused(3, f"{name}: read fault", self.why_not(name, wrong, beside)) from wrong
 
-    def why_not(self, name, wrong):
+    def why_not(self, name, wrong, beside):
         path = os.path.join(self.path, name) if name else ""
         what = getattr(wrong, "strerror", None) or str(wrong)
         here = shown(os.path.realpath(self.path))
@@ -91,6 +90,9 @@ class Folder:
             what = f"there is no such file in {here}"
             right = "names go from the folder in which the program is started, also those in a " \
                 "configuration"
+            home = os.path.dirname(beside)
+            if os.path.isfile(os.path.join(self.path, home, name)):
+                right += f"; there is one in {shown(home)}: start the program there"
         return Note(name or "''", f"it cannot be read: {what}", right,
                     "docs/FAILURES.md, Reading")
 
@@ -117,7 +119,7 @@ def read_setup(folder, name, first_line=None, has_phases=True):
     found = []
     for place, script_name in enumerate(names):
         kind = "input" if place == len(names) - 1 else "client"
-        data = folder.read(script_name, scripts.MOST_BYTES)
+        data = folder.read(script_name, scripts.MOST_BYTES, beside=name)
         script = scripts.read_script(script_name, data, kind, None if place else first_line)
         if found and has_phases:
             check_phases(folder, names, (script_name, script), found[0].count("phase"))
@@ -150,7 +152,8 @@ def check_puts(folder, names):
 def puts_of(setup):
     """The names of what a run puts, in their order."""
     shots = [f"shot-{number}.ppm" for number in range(1, setup.user.count("shot") + 1)]
-    return [*shots, "final.ppm", *(f"events-{label}.txt" for label in setup.labels()), "journal.txt"]
+    texts = [f"events-{label}.txt" for label in setup.labels()]
+    return [*shots, "final.ppm", *texts, "journal.txt"]
 
 
 # The commands. Each answers the line of status 0.
@@ -199,13 +202,16 @@ def do_capture(folder, name, *region):
     x, y, width, height = map(int, region)
     screen = setup.config["screen"]
     across, down = screen["width"], screen["height"]
-    what = "the region has no pixels" if not width or not height else \
-        f"the region goes to column {x + width} and row {y + height}, and the screen has {across} " \
-        f"and {down}" if x + width > across or y + height > down else None
+    what = None
+    if not width or not height:
+        what = "the region has no pixels"
+    elif x + width > across or y + height > down:
+        what = f"the region ends at column {x + width} and row {y + height}, and the screen has " \
+            f"{across} and {down}"
     if what:
-        raise Refused(10, "capture outside", Note(
-            "the words", what, f"X + W is at most {across}, Y + H at most {down}, W and H at least 1",
-            "docs/FORMATS.md, Statuses and lines"))
+        right = f"X + W is at most {across}, Y + H at most {down}, W and H at least 1"
+        raise Refused(10, "capture outside", Note("the words", what, right,
+                                                  "docs/FORMATS.md, Statuses and lines"))
     check_puts(folder, [*puts_of(setup), "capture.ncap"])
     return setup.summary()
 
@@ -225,10 +231,8 @@ def do_nested(folder, outer_name, inner_name):
             "fewer shots, a smaller screen or plainer pictures",
             "docs/FORMATS.md, Frames as lines of a script"))
     check_puts(folder, [*puts_of(outer), "inner-journal.txt"])
-    made = copy.copy(outer)
-    calls = 1 + frames
-    said = made.summary().split(" ")
-    said[3] = str(int(said[3]) + calls)
+    said = outer.summary().split(" ")
+    said[3] = str(int(said[3]) + 1 + frames)
     return " ".join(said)
 
 

@@ -18,7 +18,8 @@ from .journal import Unpainted
 
 FROM_ONE = 40
 KINDS = {"client": 4, "input": 4, "clip": 4, "config": 6, "journal": 6, "words": 1, "nested": 1}
-WORD_MARKS = [b"0", b"1", b"9", b"-", b"+", b" ", b"\n", b"x", b".", b"00", b"1024", b"1025", b"769"]
+WORD_MARKS = [b"0", b"1", b"9", b"-", b"+", b" ", b"\n", b"x", b".", b"00", b"1024", b"1025",
+              b"769"]
 
 
 # Good inputs.
@@ -27,7 +28,8 @@ WORD_MARKS = [b"0", b"1", b"9", b"-", b"+", b" ", b"\n", b"x", b".", b"00", b"10
 def clip_text(rng, phases):
     lines = []
     for phase in range(phases + 1):
-        lines += [rng.choice(["paste", f"copy ={pick_title(rng)}"]) for _ in range(rng.randint(0, 3))]
+        for _ in range(rng.randint(0, 3)):
+            lines.append(rng.choice(["paste", f"copy ={pick_title(rng)}"]))
         lines += ["phase"] * (phase < phases)
     return text_of(lines)
 
@@ -70,9 +72,11 @@ class Good:
         """An outer configuration with two scripts, whose frames are those of a small inner one."""
         frames = rng.randint(1, 3)
         self.files["i.in"] = text_of(["shot"] * (frames - 1))
-        self.files["i.nit"] = text_of(["buffer 3 2", "view", "place 1 0 0 3 2", "fill 1 0 2 1 00FF00"])
-        self.files["o.nit"] = text_of(["view", "place 1 0 0 4 4"] + ["phase"] * (frames - 1) + ["take"])
-        self.files["o.in"] = text_of(["motion 1 1"] + ["phase"] * (frames - 1) + ["shot"])
+        self.files["i.nit"] = text_of(["buffer 3 2", "view", "place 1 0 0 3 2",
+                                       "fill 1 0 2 1 00FF00"])
+        phases = ["phase"] * (frames - 1)
+        self.files["o.nit"] = text_of(["view", "place 1 0 0 4 4", *phases, "take"])
+        self.files["o.in"] = text_of(["motion 1 1", *phases, "shot"])
         for letter in "io":
             config = {"screen": {"width": 8, "height": 6}, "input": {"script": f"{letter}.in"},
                       "client": [{"label": "a", "donation": 9000, "script": f"{letter}.nit"}]}
@@ -86,7 +90,7 @@ class Memory(commands.Folder):
         super().__init__()
         self.files = files
 
-    def read(self, name, most):
+    def read(self, name, most, beside=""):
         return self.files[os.path.normpath(name)]
 
 
@@ -123,7 +127,8 @@ def broken(good, number):
 def other_values(rng, config):
     """A configuration with values that are refused."""
     config, names = copy.deepcopy(config), []
-    for make in sorted(rng.sample(BREAKS, rng.choice([1, 1, 2, 3])), key=BREAKS.index, reverse=True):
+    breaks = rng.sample(BREAKS, rng.choice([1, 1, 2, 3]))
+    for make in sorted(breaks, key=BREAKS.index, reverse=True):
         names.append(make(rng, config))
     return toml_text(rng, config).encode(), ", ".join(names)
 
@@ -134,7 +139,8 @@ def words_of(rng, good):
     region = [str(rng.randint(0, screen[side] // most + 1)) for most in (2, 2)
               for side in ("width", "height")]
     lists = [["still", str(rng.randint(1, 40)), str(rng.randint(1, 20)), good.names[0]],
-             ["turns", "c.toml"], ["run", "c.toml"], ["audit", "c.toml", "j.txt"], ["clip", "c.toml"],
+             ["turns", "c.toml"], ["run", "c.toml"], ["audit", "c.toml", "j.txt"],
+             ["clip", "c.toml"],
              ["capture", "c.toml", *region], ["capture", "c.toml", *region],
              ["nested", "o.toml", "i.toml"]]
     words = rng.choice(lists)
@@ -223,5 +229,6 @@ def main(count, seed, words):
     if not any(kept.iterdir()):
         kept.rmdir()
     print("\n".join(counts.told()))
-    print(f"inputs {sum(sum(row.values()) for row in counts.rows.values())}, differed {counts.differ}")
+    total = sum(sum(row.values()) for row in counts.rows.values())
+    print(f"inputs {total}, differed {counts.differ}")
     return 1 if counts.differ else 0

@@ -1,4 +1,4 @@
-"""Why a configuration is refused: each key that breaks a rule of docs/FORMATS.md, in the order of kinds."""
+"""Why a configuration is refused: each key that breaks a rule of docs/FORMATS.md, by kinds."""
 import difflib
 
 from . import toml_places
@@ -26,7 +26,8 @@ TOP = {"screen": ("a table", True, "`[screen]`"), "input": ("a table", True, "`[
        "client": ("an array of tables", True, "`[[client]]` for each of 1 to 16 clients")}
 RULES = {
     "missing": "there is at least one client", "unknown": "no other keys stand there",
-    "too many": "16 clients are the most", "label": f"a label is {CLIENT['label'][2]}", "twice": "no two clients have one label",
+    "too many": "16 clients are the most", "label": f"a label is {CLIENT['label'][2]}",
+    "twice": "no two clients have one label",
 }
 RANGES = {"width": (1, 1024), "height": (1, 768), "donation": (256, 8388608), "layer": (0, 7)}
 SAMPLES = {"width": "640", "height": "480", "bar": "true", "label": '"mail"', "donation": "65536",
@@ -35,7 +36,7 @@ LETTERS = "abcdefghijklmnopqrstuvwxyz0123456789-._"
 
 
 class Part:
-    """A table of the configuration: its name for a person, its value, and the keys that it may have."""
+    """A table of the configuration: its name for a person, its value, and its keys."""
 
     def __init__(self, name, value, keys):
         self.name, self.value, self.keys = name, value, keys
@@ -118,7 +119,8 @@ def missing_keys(parts, text):
                 at = len(text.rstrip("\n")) if is_top else part.value.at
                 sample = right if is_top else f"`{key} = {SAMPLES[key]}`: {right}"
                 yield "missing", Fault(at, at + 1 if is_top else part.value.end,
-                                       f"{part.key(key)} is missing", sample, row_of(part.keys, key))
+                                       f"{part.key(key)} is missing", sample,
+                                       row_of(part.keys, key))
     clients = parts[0].value.get("client")
     if clients and clients.kind == "an array" and not clients.data:
         yield "missing", Fault(clients.at, clients.end, "there is no client", TOP["client"][2])
@@ -143,8 +145,8 @@ def too_many(parts):
     clients = [part for part in parts if part.keys is CLIENT]
     if len(clients) > 16:
         value = clients[16].value
-        yield "too many", Fault(value.at, value.end, f"there are {len(clients)} clients, and this is "
-                                "the 17th", "16 are the most")
+        yield "too many", Fault(value.at, value.end, f"there are {len(clients)} clients, and this "
+                                "is the 17th", "16 are the most")
 
 
 def out_of_range(parts):
@@ -240,7 +242,7 @@ def text_of(name, data):
 
 
 def read_config(name, data):
-    """The configuration as plain values. Raises why it is refused, all of it where it is a table."""
+    """The configuration as plain values. Raises why it is refused, by all that is wrong."""
     if len(data) > MOST_BYTES:
         raise refused(name, "too long", Note(
             name, f"the file has more than {MOST_BYTES:,} bytes", "", FORM))

@@ -1,15 +1,17 @@
 """Broken inputs, made out of good ones by small edits."""
 import re
 
-MARKS = [b"\0", b"\t", b"\n", b"\r", b"\r\n", b" ", b"  ", b"-", b"0", b"9", b"=", b"A", b"a", b"<",
-         b">", b"\x7f", b"\xe9", b"\xc3\xa9", b"#", b"+", b".", b"_", b"\x1b", b"\xef\xbb\xbf"]
+MARKS = [b"\0", b"\t", b"\n", b"\r", b"\r\n", b" ", b"  ", b"-", b"0", b"9", b"=", b"A", b"a",
+         b"<", b">", b"\x7f", b"\xe9", b"\xc3\xa9", b"#", b"+", b".", b"_", b"\x1b",
+         b"\xef\xbb\xbf"]
 TOML_MARKS = [
-    b"'", b'"', b"'''", b'"""', b"\\", b"\\e", b"\\x41", b"\\u0041", b"\\q", b"[", b"]", b"[[", b"]]",
-    b"{", b"}", b",", b"{}", b"[]", b"#", b"\n#", b"1e999", b"0x", b"0o17", b"0b1", b"1_0", b"1__0", b"_",
-    b"1979-05-27", b"07:32", b"07:32:60", b"1979-02-30", b"1979-05-27 07:32", b"0000-01-01", b"inf",
-    b"-nan", b"true", b"9223372036854775808", b"-9223372036854775808", b"a.b", b".x = 1\n", b" = ",
-    b"\n[screen]\n", b"\n[[client]]\n", b"\n[client.x]\n", b"\nscreen.bar = true\n", b"\n[a.b]\nc = 1\n",
-    b"\n[a]\n", b"\nx = {a = 1,\n b = 2,}\n", b"\nx = [1, [2], ]\n", b"\n'' = 1\n", b"\n\"\\e\" = 1\n"]
+    b"'", b'"', b"'''", b'"""', b"\\", b"\\e", b"\\x41", b"\\u0041", b"\\q", b"[", b"]", b"[[",
+    b"]]", b"{", b"}", b",", b"{}", b"[]", b"#", b"\n#", b"1e999", b"0x", b"0o17", b"0b1", b"1_0",
+    b"1__0", b"_", b"1979-05-27", b"07:32", b"07:32:60", b"1979-02-30", b"1979-05-27 07:32",
+    b"0000-01-01", b"inf", b"-nan", b"true", b"9223372036854775808", b"-9223372036854775808",
+    b"a.b", b".x = 1\n", b" = ", b"\n[screen]\n", b"\n[[client]]\n", b"\n[client.x]\n",
+    b"\nscreen.bar = true\n", b"\n[a.b]\nc = 1\n", b"\n[a]\n", b"\nx = {a = 1,\n b = 2,}\n",
+    b"\nx = [1, [2], ]\n", b"\n'' = 1\n", b"\n\"\\e\" = 1\n"]
 
 
 # Edits of bytes.
@@ -44,7 +46,8 @@ def change_number(rng, data, marks):
     match = rng.choice(found)
     number = match[0]
     new = rng.choice([b"0" + number, b"-" + number, b"+" + number, number + b"0", b"0", b"-0", b"1",
-                      b"2", b"128", b"767", b"768", b"65535", b"65536", b"999999999", b"1000000000"])
+                      b"2", b"128", b"767", b"768", b"65535", b"65536", b"999999999",
+                      b"1000000000"])
     return data[: match.start()] + new + data[match.end() :]
 
 
@@ -61,7 +64,9 @@ def swap_lines(rng, data, marks):
 
 
 def move_line(rng, data, marks):
-    return edit_lines(rng, data, lambda lines, first, second: lines.insert(second, lines.pop(first)))
+    def move(lines, first, second):
+        lines.insert(second, lines.pop(first))
+    return edit_lines(rng, data, move)
 
 
 def double_line(rng, data, marks):

@@ -71,13 +71,17 @@ def shown(text):
     return "".join(map(letter_shown, text))
 
 
+def counted(number, what):
+    return f"{number} {what}{'' if number == 1 else 's'}"
+
+
 def quoted(text, most=40):
     """A piece of a file between back quotes, cut where it is long."""
     return f"`{shown(text[:most])}`" + (" .." if len(text) > most else "")
 
 
 def excerpt(line, column, length):
-    """The line, cut to what fits, and the line of carets under `length` characters from `column`."""
+    """The line, cut to what fits, and the carets under `length` characters from `column` on."""
     column = min(column, len(line) + 1)
     start = max(0, column - 1 - WIDEST // 2) if len(line) > WIDEST else 0
     front = ".. " if start else ""
@@ -97,7 +101,8 @@ def text_of_finding(finding, paint=lambda what, colour: what):
         number, column, start, end = finding.place()
         above, under = excerpt(finding.text[start:end], column, fault.end - fault.at)
         margin = f"{number:>6} | "
-        lines = [paint(f"{shown(finding.name)}: line {number}, column {column}: {fault.what}", "bold"),
+        place = f"{shown(finding.name)}: line {number}, column {column}"
+        lines = [paint(f"{place}: {fault.what}", "bold"),
                  margin + above, " " * (len(margin) - 2) + "| " + paint(under, "red")]
         finding = Note("", "", fault.right, finding.rule)
     lines += [f"  right: {finding.right}"] if finding.right else []

@@ -42,7 +42,7 @@ def read_journal(name, data):
 
 
 class Wrong(Exception):
-    """Why an entry is none of a run: what is wrong at which place of it, what is right, by which rule."""
+    """Why an entry is none of a run: what is wrong where in it, what is right, and the rule."""
 
     def __init__(self, at, end, what, right, rule):
         super().__init__(what)
@@ -86,11 +86,11 @@ class Run:
         if self.is_over:
             raise Wrong(0, len(entry), "it stands behind the last picture",
                         "`final` is the last entry", RUN_RULE)
-        word = entry.split(" ")[0]
-        {"call": self.call, "input": self.device, "shot": self.shot, "final": self.final}[word](entry)
+        steps = {"call": self.call, "input": self.device, "shot": self.shot, "final": self.final}
+        steps[entry.split(" ")[0]](entry)
 
     def take(self, actor, entry, at, line):
-        """That the entry's line, which stands at this place of it, is the next one of its script."""
+        """That the entry's line, which stands at this place of it, is its script's next one."""
         end, wanted = at + len(line), actor.peek()
         if wanted is None:
             raise Wrong(at, end, f"all that {actor.name} asks for stands in front of it",
@@ -111,8 +111,9 @@ class Run:
         _, who, rest = entry.split(" ", 2)
         number, at = int(who), len(f"call {who} ")
         if number >= len(self.actors):
-            raise Wrong(5, at - 1, f"there is no session {number}", "sessions are numbered from 0, in "
-                        f"the order of the configuration, here up to {len(self.actors) - 1}", AUDIT)
+            raise Wrong(5, at - 1, f"there is no session {number}", "sessions are numbered from 0, "
+                        f"in the order of the configuration, here up to {len(self.actors) - 1}",
+                        AUDIT)
         reply, line = rest.split(" < ", 1)
         self.take(self.actors[number], entry, len(entry) - len(line), line)
         right = self.scene.call(number, line)
@@ -142,8 +143,8 @@ class Run:
             given = " ".join(["input", line, *(f"> {part}" for part in right)])
             who = "nobody" if focus is None else f"session {self.scene.sessions.index(focus)}"
             raise Wrong(6 + len(line), len(entry), "this was delivered" if told else
-                        "nothing was delivered", f"the rules give `{given}`; the mode was {mode}, and "
-                        f"{who} had the focus", DELIVERIES)
+                        "nothing was delivered", f"the rules give `{given}`; the mode was {mode}, "
+                        f"and {who} had the focus", DELIVERIES)
 
     def shot(self, entry):
         self.take(self.user, entry, 0, "shot")
@@ -157,7 +158,8 @@ class Run:
             if actor.peek():
                 number, _, text = actor.peek()
                 raise Wrong(0, len(entry), f"line {number} of {actor.name} is not done yet",
-                            f"{quoted(text)} and what follows it in front of the last picture", AUDIT)
+                            f"{quoted(text)} and what follows it, and then the last picture",
+                            AUDIT)
         self.is_over = True
 
 
@@ -183,5 +185,5 @@ def what_is_lacking(name, number, run):
         return Note(name, f"entry {number} is missing: the journal ends without the last picture",
                     "`final` is the last line", RUN_RULE)
     line, _, text = left.peek()
-    return Note(name, f"entry {number} is missing: the journal ends, and line {line} of {left.name} is "
-                "not done", f"{quoted(text)} and what follows it, and `final` last", RUN_RULE)
+    what = f"the journal ends, and line {line} of {left.name} is not done"
+    return Note(name, f"entry {number} is missing: {what}", f"{quoted(text)} and what follows it, and `final` last", RUN_RULE)

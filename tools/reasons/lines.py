@@ -1,7 +1,7 @@
-"""How a line of a script or of a journal is read, word by word, and where it stops to have a reading.
+"""How a line of a script or a journal is read, word by word, and where it stops to have a reading.
 
-Written from docs/FORMATS.md. A line is a text without its line feed. Each of its bytes is a character:
-that of ASCII, or by `surrogateescape` one that stands for a byte from 128 on.
+Written from docs/FORMATS.md. A line is a text without its line feed. Each of its bytes is a
+character: that of ASCII, or by `surrogateescape` one that stands for a byte from 128 on.
 """
 import difflib
 import re
@@ -31,7 +31,8 @@ CALLS = {
     "upgrade": ("NAT units",),
     "close": (),
 }
-STROKES = {"fill": (*AREA, "COLOUR colour"), "check": (*AREA, "COLOUR colour", "COLOUR second colour")}
+STROKES = {"fill": (*AREA, "COLOUR colour"),
+           "check": (*AREA, "COLOUR colour", "COLOUR second colour")}
 DEVICES = {"press": ("CODE code",), "release": ("CODE code",), "motion": ("AT x", "AT y"),
            "wheel": ("STEPS steps",)}
 PHASE = {"phase": ()}
@@ -62,8 +63,9 @@ NOTHING = "there are no comments and no empty lines"
 MARK = b"\xef\xbb\xbf".decode("ascii", "surrogateescape")
 UTF_16 = ("\udcff\udcfe", "\udcfe\udcff")
 ODD = {
-    "\t": "a tab", "\r": "a carriage return", "\0": "a NUL byte", "\x7f": "the control character DEL",
-    "\x0b": "a vertical tab", "\x0c": "a form feed", "\x1b": "the control character ESC",
+    "\t": "a tab", "\r": "a carriage return", "\0": "a NUL byte",
+    "\x7f": "the control character DEL", "\x0b": "a vertical tab", "\x0c": "a form feed",
+    "\x1b": "the control character ESC",
 }
 
 
@@ -187,10 +189,12 @@ def read_colour(reader, name):
         reader.fail(start + bad, start + bad + 1, f"{quoted(word)} has a lower-case letter",
                     f"`{word.upper()}`", SPELLED["COLOUR"])
     if bare != word and re.fullmatch("[0-9a-fA-F]{6}", bare):
-        reader.fail(start, start + len(word) - 6, f"{quoted(word)}: nothing stands before the digits",
+        reader.fail(start, start + len(word) - 6,
+                    f"{quoted(word)}: nothing stands before the digits",
                     f"`{bare.upper()}`", SPELLED["COLOUR"])
     if re.fullmatch("[0-9a-fA-F]+", word):
-        reader.fail(start, reader.at, f"{quoted(word)} has {len(word)} digits, and a colour has six",
+        reader.fail(start, reader.at,
+                    f"{quoted(word)} has {len(word)} digits, and a colour has six",
                     "red is `FF0000`", SPELLED["COLOUR"])
     reader.fail(start, reader.at, f"{quoted(word)} stands where {name} is to stand",
                 f"red is `FF0000`; {reader.form}", SPELLED["COLOUR"])

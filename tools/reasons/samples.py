@@ -1,4 +1,4 @@
-"""Files with one fault each, and the line, the column and words that `tools/explain` has to say of them."""
+"""Files with one fault each, and the line, the column and words that `tools/explain` is to say."""
 
 CLIENT = [
     (b"buffer 4 2\nfill 0 0 4 2 fF0000\n", 2, 14, "lower-case letter"),
@@ -83,7 +83,7 @@ CONFIG = [
     (START + ONE.replace(b"256", b"255"), 5, 12, "`donation` of client 1 (a) is 255"),
     (START + ONE.replace(b"256", b'"256"'), 5, 12, "is a string, and has to be an integer"),
     (START + ONE.replace(b"[[client]]", b"[client]"), 3, 2, "`[[client]]`, with two brackets"),
-    (START + ONE.replace(b'"a"\nd', b'"A"\nd'), 4, 9, "the label of client 1 (A) has the character `A`"),
+    (START + ONE.replace(b'"a"\nd', b'"A"\nd'), 4, 9, "client 1 (A) has the character `A`"),
     (START + ONE + ONE, 8, 9, "client 2 (a) has the label of client 1"),
     (START + ONE * 17, 67, 3, "there are 17 clients"),
     (START + ONE.replace(b'script = "a"\n', b""), 3, 3, "`script` of client 1 (a) is missing"),

@@ -21,7 +21,7 @@ def nested_line(reader):
     lines.client_line(reader)
     word = reader.text.split(" ")[0]
     if word in FORBIDDEN:
-        raise Fault(0, len(word), f"`{word}` may not stand in the script that shows the inner frames",
+        raise Fault(0, len(word), f"`{word}` may not stand in the script that shows inner frames",
                     "no `buffer`, `fill`, `check` or `close`: the inner frames are drawn there")
 
 
@@ -56,7 +56,8 @@ def later_lines(name, whole, number, read):
     more = [at for at, _ in zip(later, range(MORE_LINES + 1))]
     if not more:
         return []
-    told = ", ".join(map(str, more[:MORE_LINES])) + (" and others" if len(more) > MORE_LINES else "")
+    told = ", ".join(map(str, more[:MORE_LINES]))
+    told += " and others" if len(more) > MORE_LINES else ""
     return [Note(name, f"{'line' if len(more) == 1 else 'lines'} {told} behind it "
                  f"{'has' if len(more) == 1 else 'have'} no reading either")]
 
@@ -68,7 +69,8 @@ def read_script(name, data, kind, read=None):
     if len(data) > MOST_BYTES:
         raise Refused(6, f"{name}: too long", Note(
             name, f"the file has more than {MOST_BYTES:,} bytes", "",
-            f"{SCRIPTS}: a script has at most {MOST_LINES:,} lines, and its file {MOST_BYTES:,} bytes"))
+            f"{SCRIPTS}: a script has at most {MOST_LINES:,} lines, and its file {MOST_BYTES:,} "
+            "bytes"))
     whole, rest = pieces_of(data)
     bad = first_bad(whole[:MOST_LINES], read)
     if bad is None and len(whole) + bool(rest) > MOST_LINES:
@@ -91,7 +93,7 @@ def phases_in(script):
     return [number for number, line in enumerate(script, 1) if line == "phase"]
 
 
-def counted(count):
+def phases_told(count):
     return f"{count} line{'' if count == 1 else 's'} `phase`"
 
 
@@ -104,6 +106,6 @@ def phases_fault(name, script, count, of_whom, others):
     where += " .." if len(own) > 8 else ""
     counts = ", ".join(f"{shown(other)} {number}" for other, number in others)
     return Refused(6, f"{name}: phases differ", Note(
-        name, f"it has {counted(len(own))}{where}, and {of_whom} {count}",
+        name, f"it has {phases_told(len(own))}{where}, and {of_whom} {count}",
         f"as many in each script; as they are, these have: {counts}",
         RULE.format("Phases: all scripts of a run have as many phases")))

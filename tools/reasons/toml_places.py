@@ -5,7 +5,8 @@ inline tables over several lines, `\\e` and `\\x41`, times without seconds, a by
 start, and numbers that are too large. This reader has the text of TOML 1.1 in those.
 """
 from .faults import Fault, quoted
-from .toml_words import after_blanks, after_gap, is_control, line_end, read_key, read_string, read_word
+from .toml_words import (
+    after_blanks, after_gap, is_control, line_end, read_key, read_string, read_word)
 
 MOST_DEPTH = 80
 
@@ -13,14 +14,19 @@ MOST_DEPTH = 80
 class Value:
     """A value: its kind in words, what it is in Python, and its place.
 
-    A table's `data` is a dict from keys to pairs of the key's place and end, and the value. `origin`
-    tells how a table came to be: by its own header, by a longer header, by a dotted key, or inline.
-    An array's `data` is a list of values; `grows` where headers of double brackets make it.
+    A table's `data` is a dict from keys to pairs of the key's place and end, and the value.
+    `origin` tells how a table came to be: by its own header, by a longer header, by a dotted key,
+    or inline.
+    An array's `data` is a list of values.
     """
 
-    def __init__(self, kind, data, at, end, origin="inline", grows=False):
-        self.kind, self.data, self.at, self.end = kind, data, at, end
-        self.origin, self.grows = origin, grows
+    def __init__(self, kind, data, at, end, origin="inline"):
+        self.kind, self.data, self.at, self.end, self.origin = kind, data, at, end, origin
+
+    @property
+    def grows(self):
+        """Whether headers of double brackets make it."""
+        return self.kind == "an array of tables"
 
     def get(self, key):
         """The value at a key of a table, or none."""
@@ -88,7 +94,7 @@ def through_header(table, part):
     if found.grows:
         return found.data[-1]
     if found.kind != "a table" or found.origin == "inline":
-        raise Fault(part[1], part[2], f"{quoted(part[0])} is a value already, and no table to go on")
+        raise Fault(part[1], part[2], f"{quoted(part[0])} is a value already, and no open table")
     return found
 
 
@@ -96,7 +102,7 @@ def define_header(table, part, is_array):
     found = table.get(part[0])
     if is_array:
         if found is None:
-            found = Value("an array of tables", [], part[1], part[2], grows=True)
+            found = Value("an array of tables", [], part[1], part[2])
             table.data[part[0]] = ((part[1], part[2]), found)
         if found.grows:
             found.data.append(new_table(part, "header"))

@@ -212,7 +212,7 @@ def are_in_range(parts):
     year = parts.get("year", 1)
     is_leap = year % 4 == 0 and (year % 100 != 0 or year % 400 == 0)
     month = parts.get("month", 1)
-    days = 29 if month == 2 and is_leap else 28 if month == 2 else 30 if month in (4, 6, 9, 11) else 31
+    days = {2: 29 if is_leap else 28, 4: 30, 6: 30, 9: 30, 11: 30}.get(month, 31)
     bounds = {"month": (1, 12), "day": (1, days), "hour": (0, 23), "minute": (0, 59),
               "second": (0, 60), "hours": (0, 23), "minutes": (0, 59)}
     return all(bounds[key][0] <= number <= bounds[key][1]
