@@ -21,7 +21,7 @@ int main(void) {
     if (!room)
         return say("nitpicker: no memory\n", NO_MEMORY);
     memset(room, 'x', 100);
-    int file = open(PART, O_WRONLY | O_CREAT | O_TRUNC, 0600);
+    int file = open(PART, O_WRONLY | O_CREAT | O_TRUNC | O_NONBLOCK, 0600);
     if (file < 0)
         return say("nitpicker: final.ppm: write fault\n", 4);
     int is_put = write(file, room, 100) == 100 && !close(file);
