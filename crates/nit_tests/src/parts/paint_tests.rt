@@ -2,13 +2,13 @@
 
 ghost use Rattle.std.specs.Prelude.{◌≡◌, ◌≤◌, length, pos};
 ghost use Rattle.nit_rect.specs.Rectangle.{IsPlace, rectangle};
-ghost use Rattle.nit_stack.specs.Stack.{empty_stack};
+ghost use Rattle.nit_stack.specs.Stack.{IsOnScreen, empty_stack};
 ghost use Rattle.nit_tests.specs.Painted.{one_view};
 
 use crate::checks::same;
 use nit_paint::{paint_bare, paint_view};
-use nit_rect::Rect;
-use nit_stack::{Piece, Stack, ViewRef};
+use nit_rect::{Point, Rect};
+use nit_stack::{Piece, Source, Stack, ViewRef};
 use nit_word::{Glass, Inked, Plain};
 use std::alloc::Global;
 use std::process::Abort;
@@ -126,4 +126,38 @@ fn not_moved(rt: HostRuntime) {
         7, 7, 7, 7, 32, 32, 32,
     ];
     same(&rt, "not moved", &plain(&rt, rt.alloc(), 0, 0), want);
+}
+
+/// Where the word of this pixel comes from, where the view moves its buffer by one column.
+fn source(stack: &Stack, x: i32, y: i32) -> Source
+    requires stack { stack.now ≡ one_view (rectangle (pos 1) (pos 1) 4 2) (pos 1) (pos 0) }
+    requires pixel { IsOnScreen 8 4 (record { x = x; y = y }) }
+{
+    stack.source(Point { x, y })
+}
+
+/// A pixel beside the view, its first column, and the two words of its buffer at either end.
+#[test]
+fn sources_of_words(rt: HostRuntime) {
+    let Some(viewed) = Rect::new(1, 1, 4, 2) else {
+        unreachable!()
+    };
+    let mut stack = Stack::new(rt.alloc(), 8, 4, 1, 1).expect(&rt, "memory");
+    put_view(&mut stack, viewed, 1, 0);
+    let found = [
+        source(&stack, 0, 0),
+        source(&stack, 1, 1),
+        source(&stack, 2, 1),
+        source(&stack, 4, 2),
+        source(&stack, 5, 2),
+    ];
+    let v = ViewRef(0);
+    let want = [
+        Source::Bare,
+        Source::Black(v),
+        Source::Word(v, 0),
+        Source::Word(v, 6),
+        Source::Bare,
+    ];
+    same(&rt, "sources", &found, &want);
 }

@@ -290,6 +290,16 @@ with refused
 file o.nit =view\nView\n
 ends 6 =nitpicker: o.nit: line 2: bad script\n
 
+case a line without a reading comes before one that may not stand there, in either order of both
+with refused
+file o.nit =buffer 8 4\nView\n
+ends 6 =nitpicker: o.nit: line 2: bad script\n
+
+case
+with refused
+file o.nit =View\nbuffer 8 4\n
+ends 6 =nitpicker: o.nit: line 1: bad script\n
+
 case
 with refused
 file o.nit OWN
