@@ -16,6 +16,7 @@ mod pixel_tests;
 mod place_tests;
 mod play_tests;
 mod queue_tests;
+mod row_tests;
 mod screens;
 mod shade_tests;
 mod stream_tests;

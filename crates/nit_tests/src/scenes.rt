@@ -6,6 +6,7 @@
 //! again.
 
 mod actors;
+mod count_tests;
 mod frame_tests;
 mod glasses;
 mod hall_opening;

@@ -1,7 +1,7 @@
 //! How many words of each session a scene loads at each entry.
 
 use crate::checks::same;
-use crate::scenes::stage::{Loads, Stage, TWO, set_up, taken};
+use crate::scenes::stage::{Counting, Loads, Stage, TWO, set_up, taken};
 use std::alloc::Global;
 use std::cell::Cell;
 use std::process::Abort;
@@ -22,7 +22,13 @@ const LINES: &str = "\
 ";
 
 /// Serves a line, for which as many words are loaded as it says.
-fn assert_loads(rt: &impl Abort, alloc: Global, stage: &mut Stage, loads: &Loads, line: &str) {
+fn assert_loads(
+    rt: &impl Abort,
+    alloc: Global,
+    stage: &mut Stage<Counting>,
+    loads: &Loads,
+    line: &str,
+) {
     let [first, b' ', second, b' ', words @ ..] = line.as_bytes() else {
         panic!(rt; "no digits of loads");
     };

@@ -12,7 +12,7 @@ use crate::scenes::glasses::glass;
 use crate::words::repeated;
 use nit_config::{Config, read_config};
 use nit_events::{Call, Device};
-use nit_scene::Scene;
+use nit_scene::{Counts, Scene};
 use nit_script::{take_call, take_device};
 use nit_word::{Glass, Inked};
 use std::alloc::Global;
@@ -41,7 +41,7 @@ pub fn taken(loads: &Loads) -> [u8; 2] {
 
 /// A glass that counts its loads.
 #[derive(Drop)]
-struct Counting<'a> {
+pub struct Counting<'a> {
     glass: Inked,
     loads: &'a Cell<u8>,
 }
@@ -84,14 +84,14 @@ fn glasses<'a>(
 
 /// A scene, its two clients, and for how many lines more there is room.
 #[derive(Drop)]
-pub struct Stage<'a> {
-    scene: Scene<Counting<'a>>,
+pub struct Stage<'a, G: Glass + Drop> {
+    scene: Scene<G>,
     first: Counting<'a>,
     second: Counting<'a>,
     left: usize,
 }
 
-impl<'a> Model for Stage<'a> {
+impl<'a, G: Glass + Drop> Model for Stage<'a, G> {
     ghost use Rattle.std.specs.Prelude.{◌≡◌, length};
     ghost use Rattle.nit_journal.specs.Replay.{IsOpen};
     ghost use Rattle.nit_scene.specs.Screen.{IsGlass};
@@ -105,15 +105,52 @@ impl<'a> Model for Stage<'a> {
         × IsGlass s.scene.config 1 s.second.glass };
 }
 
-/// The stage of the two clients of a configuration. It and its scene have glasses of their own.
-pub fn set_up<'a>(rt: &impl Abort, alloc: Global, text: &str, loads: &'a Loads) -> Stage<'a> {
+/// A configuration of two clients.
+fn two_clients(rt: &impl Abort, alloc: Global, text: &str) -> Config
+    ensures config { IsConfiguration result }
+    ensures two { length result.clients ≡ 2 }
+{
     let config = read_config(alloc, text.as_bytes()).expect(rt, "a configuration");
     must(rt, text, config.clients.len() == 2);
+    config
+}
+
+/// The stage of the two clients of a configuration. It and its scene have glasses of their own.
+pub fn set_up<'a>(
+    rt: &impl Abort,
+    alloc: Global,
+    text: &str,
+    loads: &'a Loads,
+) -> Stage<'a, Counting<'a>> {
+    let config = two_clients(rt, alloc, text);
     let mut all = Vec::with_capacity(alloc, 2).expect(rt, "memory for glasses");
     let (first, second) = glasses(rt, alloc, &config, loads);
     all.push_reserved(first);
     all.push_reserved(second);
     let scene = Scene::new(alloc, &config, all, ROOM).expect(rt, "memory for a scene");
+    let (first, second) = glasses(rt, alloc, &config, loads);
+    Stage {
+        scene,
+        first,
+        second,
+        left: ROOM,
+    }
+}
+
+/// The same with a red and a blue glass of the scene's own that can be drawn in: the first word of
+/// the red one is 0.
+pub fn set_up_drawn<'a>(
+    rt: &impl Abort,
+    alloc: Global,
+    text: &str,
+    loads: &'a Loads,
+) -> Stage<'a, Inked> {
+    let config = two_clients(rt, alloc, text);
+    let mut all = Vec::with_capacity(alloc, 2).expect(rt, "memory for glasses");
+    all.push_reserved(glass(rt, alloc, &config, 0, 0xFF0000));
+    all.push_reserved(glass(rt, alloc, &config, 1, 0x0000FF));
+    let mut scene = Scene::new(alloc, &config, all, ROOM).expect(rt, "memory for a scene");
+    scene.draw(0, 0, 0);
     let (first, second) = glasses(rt, alloc, &config, loads);
     Stage {
         scene,
@@ -152,7 +189,17 @@ fn device_of(rt: &impl Abort, words: &[u8]) -> Device
     dev
 }
 
-impl Stage<'_> {
+impl<G: Glass + Drop> Stage<'_, G> {
+    /// The frame that the scene keeps.
+    pub fn frame(&self) -> &[u32] {
+        self.scene.frame()
+    }
+
+    /// How many slots, views and sessions there are.
+    pub fn counts(&self) -> Counts {
+        self.scene.counts()
+    }
+
     /// Serves a line.
     pub fn serve(&mut self, rt: &impl Abort, line: &[u8]) {
         must(rt, "room", self.left > 0);

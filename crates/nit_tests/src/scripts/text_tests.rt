@@ -1,9 +1,11 @@
-//! Journals as texts, and their entries as values.
+//! Journals as texts, and their entries as values; and the texts of refused configurations.
 
 use crate::checks::{must, same};
+use nit_config::ConfigError;
 use nit_events::{Call, Delivery, Device, Entry, Event, Item, Reply, Routed};
 use nit_report::{journal_text, parse_journal};
 use std::alloc::Global;
+use std::fmt::Write;
 use std::process::Abort;
 
 /// A call of a session, with its answer.
@@ -89,4 +91,27 @@ fn assert_entries(rt: &impl Abort, alloc: Global, text: &str, want: &[Entry]) {
 #[test]
 fn journal_read_again(rt: HostRuntime) {
     assert_entries(&rt, rt.alloc(), TWO, &TWO_ENTRIES);
+}
+
+/// All that a configuration may be refused for.
+const REFUSALS: [ConfigError; 9] = [
+    ConfigError::Syntax,
+    ConfigError::Kind,
+    ConfigError::Missing,
+    ConfigError::Unknown,
+    ConfigError::TooMany,
+    ConfigError::Range,
+    ConfigError::Label,
+    ConfigError::Twice,
+    ConfigError::NoMemory,
+];
+
+#[test]
+fn refused_configurations(rt: HostRuntime) {
+    let mut texts = String::new(rt.alloc());
+    for refusal in &REFUSALS {
+        write!(texts, "{refusal}\n").expect(&rt, "memory");
+    }
+    let want = "syntax\nkind\nmissing\nunknown\ntoo many\nrange\nlabel\ntwice\nno memory\n";
+    same(&rt, "texts", &texts.as_str(), &want);
 }
