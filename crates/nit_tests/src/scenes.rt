@@ -3,9 +3,10 @@
 //! clipboard through a hall; and frames of a server that are shown by a client of another.
 //!
 //! A kept frame is compared with the last picture of its scene, for which all is loaded and shown
-//! again.
+//! again; and along a worked run with the frame that is made of the raw words.
 
 mod actors;
+mod anew_tests;
 mod count_tests;
 mod frame_tests;
 mod glasses;
