@@ -147,7 +147,8 @@ class Repository:
         """How `bin/nitpicker` ended with these words, in bytes."""
         environment = {**self.environment, **more}
         return subprocess.run(self.command(words), cwd=here or self.folder, env=environment,
-                              stdin=subprocess.DEVNULL, capture_output=True, timeout=60, check=False)
+                              stdin=subprocess.DEVNULL, capture_output=True, timeout=300,
+                              check=False)
 
     def begin(self, *words, here=None, **more):
         """Starts it, and does not wait for its end."""
