@@ -13,7 +13,7 @@ from cases import BREAKS, pick_title, toml_text, valid_case
 from expected import entry_of_device, is_call, text_of
 
 from . import commands
-from .edits import MARKS, TOML_MARKS, edited, other_entry
+from .edits import MARKS, TOML_MARKS, edited, other_entry, other_statements
 from .journal import Unpainted
 
 FROM_ONE = 40
@@ -118,6 +118,8 @@ def broken(good, number):
         data, what = other_entry(rng, good.files[name])
     elif kind == "config" and rng.random() < 0.3:
         data, what = other_values(rng, good.config)
+    elif kind == "config" and rng.random() < 0.5:
+        data, what = other_statements(rng, good.files[name])
     else:
         marks = MARKS + TOML_MARKS if name.endswith(".toml") else MARKS
         data, what = edited(rng, good.files[name], marks)

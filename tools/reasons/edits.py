@@ -1,6 +1,10 @@
 """Broken inputs, made out of good ones by small edits."""
 import re
 
+from expected import text_of
+
+from .statements import HEADERS, KEYS, VALUES
+
 MARKS = [b"\0", b"\t", b"\n", b"\r", b"\r\n", b" ", b"  ", b"-", b"0", b"9", b"=", b"A", b"a",
          b"<", b">", b"\x7f", b"\xe9", b"\xc3\xa9", b"#", b"+", b".", b"_", b"\x1b",
          b"\xef\xbb\xbf"]
@@ -111,7 +115,17 @@ EDITS = {
     "a line moved": move_line, "a line doubled": double_line, "a line left out": drop_line,
     "line ends": end_lines, "a mark in front": mark_front, "cut": cut, "words swapped": swap_words,
 }
-WEIGHTS = [6, 6, 5, 3, 8, 2, 3, 3, 3, 3, 0.3, 1, 3]
+WEIGHTS = [6, 6, 5, 3, 8, 2, 3, 3, 3, 3, 1, 1, 3]
+
+
+def other_statements(rng, data):
+    """A configuration with lines of TOML at any line of it, whether they have a reading or not."""
+    lines = data.decode().split("\n")
+    for _ in range(rng.choice([1, 1, 2, 3])):
+        pair = f"{rng.choice(KEYS)} = {rng.choice(VALUES)}"
+        lines.insert(rng.randint(0, len(lines)), pair if rng.random() < 0.7 else rng.choice(HEADERS))
+    mark = "\ufeff" if rng.random() < 0.1 else ""
+    return (mark + rng.choice(["\n"] * 5 + ["\r\n"]).join(lines)).encode(), "statements"
 
 
 # Edits that leave each line of a journal a reading.
@@ -142,8 +156,18 @@ def other_number(rng, line):
     return re.sub(r"\d+$", str(rng.choice([0, 1, 2, 30, 70, 99, 272])), line)
 
 
+def move_entry(rng, data):
+    """An entry changes places with one that stands a few places behind: another actor's, mostly."""
+    lines = data.decode().split("\n")[:-1]
+    at = rng.randrange(len(lines))
+    lines.insert(at + rng.choice([-3, -2, -1, 1, 2, 3]), lines.pop(at))
+    return text_of(lines), f"an entry moved from line {at + 1}"
+
+
 def other_entry(rng, data):
     """A journal with an entry that is another one, or stands elsewhere, and what was done."""
+    if rng.random() < 0.3:
+        return move_entry(rng, data)
     if rng.random() < 0.4:
         name = rng.choice(["lines swapped", "a line moved", "a line doubled", "a line left out"])
         return EDITS[name](rng, data[:-1], MARKS) + b"\n", name
