@@ -122,8 +122,10 @@ def other_statements(rng, data):
     """A configuration with lines of TOML at any line of it, whether they have a reading or not."""
     lines = data.decode().split("\n")
     for _ in range(rng.choice([1, 1, 2, 3])):
-        pair = f"{rng.choice(KEYS)} = {rng.choice(VALUES)}"
-        lines.insert(rng.randint(0, len(lines)), pair if rng.random() < 0.7 else rng.choice(HEADERS))
+        line = f"{rng.choice(KEYS)} = {rng.choice(VALUES)}"
+        if rng.random() < 0.3:
+            line = rng.choice(HEADERS)
+        lines.insert(rng.randint(0, len(lines)), line)
     mark = "\ufeff" if rng.random() < 0.1 else ""
     return (mark + rng.choice(["\n"] * 5 + ["\r\n"]).join(lines)).encode(), "statements"
 

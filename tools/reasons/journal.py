@@ -186,4 +186,5 @@ def what_is_lacking(name, number, run):
                     "`final` is the last line", RUN_RULE)
     line, _, text = left.peek()
     what = f"the journal ends, and line {line} of {left.name} is not done"
-    return Note(name, f"entry {number} is missing: {what}", f"{quoted(text)} and what follows it, and `final` last", RUN_RULE)
+    return Note(name, f"entry {number} is missing: {what}",
+                f"{quoted(text)} and what follows it, and `final` last", RUN_RULE)
