@@ -70,7 +70,7 @@ class Folder:
         self.path = path
 
     def read(self, name, most, beside=""):
-        """The bytes of a file, as many as tell whether it is too long. `beside` names it."""
+        """The bytes of a file, as many as tell whether it is too long. `beside` is what names it."""
         try:
             with open(os.path.join(self.path, name) if name else "", "rb") as file:
                 return file.read(most + 1)
