@@ -5,6 +5,7 @@
 //! A kept frame is compared with the last picture of its scene, for which all is loaded and shown
 //! again; and along a worked run with the frame that is made of the raw words.
 
+mod acting;
 mod actors;
 mod anew_tests;
 mod count_tests;

@@ -5,8 +5,8 @@ use Rattle.nit_hall.specs.ClipOpening.{AreFirstClipPasses, with_clip_scripts}
 use Rattle.nit_tests.proofs.OpeningLemmas.{open_room}
 use Rattle.nit_tests.proofs.scenes.hall_tests.serve_texts.Goals as goal
 
-pub serve_all-requires : goal.serve_all-requires
-serve_all-requires g c =
+pub serve_all-requires-clause-ready : goal.serve_all-requires-clause-ready
+serve_all-requires-clause-ready g c κs within =
     let config = c.args.config.now in
     let scripts = c.as_slice-clients.result.now in
     let plans = c.deref-3.result.now in
