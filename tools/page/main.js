@@ -1,0 +1,132 @@
+// The page: which run is seen, at which step, and what keys and buttons do.
+
+const go = (step) => page.go(step);
+const stage = new Stage();
+const line = new Line(go);
+const lanes = new Lanes(go);
+const panel = new Panel(go);
+const clients = new Clients();
+
+const page = {
+  run: runs[0],
+  timer: null,
+
+  open(run) {
+    this.stop();
+    this.run = run;
+    document.title = run.name;
+    byId("name").textContent = run.name;
+    byId("said").textContent = run.said;
+    for (const tab of byId("tabs").children) {
+      tab.setAttribute("aria-pressed", runs[Number(tab.dataset.run)] === run);
+    }
+    stage.begin(run);
+    lanes.begin(run);
+    line.begin(run);
+    clients.begin(run);
+    showLists(run, (step) => {
+      this.go(step);
+      byId("figure").scrollIntoView({ block: "nearest" });
+    });
+    byId("stops").replaceChildren(...stops(run));
+    this.show();
+  },
+
+  go(step) {
+    const bounded = Math.max(0, Math.min(step, this.run.steps.length));
+    if (!Number.isInteger(bounded) || bounded === this.run.at) return;
+    this.run.at = bounded;
+    this.show();
+  },
+
+  show() {
+    const { run } = this;
+    stage.show();
+    lanes.show();
+    line.show(lanes.first, lanes.first + lanes.count);
+    panel.show(run);
+    clients.show();
+    for (const stop of byId("stops").children) {
+      stop.setAttribute("aria-pressed", Number(stop.dataset.step) === run.at);
+    }
+  },
+
+  fit() {
+    lanes.fit();
+    line.draw();
+    this.show();
+  },
+
+  play() {
+    if (this.timer !== null) {
+      this.stop();
+      return;
+    }
+    if (this.run.at === this.run.steps.length) this.go(0);
+    byId("play").textContent = "stop";
+    this.timer = setInterval(() => {
+      this.go(this.run.at + 1);
+      if (this.run.at === this.run.steps.length) this.stop();
+    }, 120);
+  },
+
+  stop() {
+    clearInterval(this.timer);
+    this.timer = null;
+    byId("play").textContent = "play";
+  },
+};
+
+// A button for each picture, as long as there are few.
+function stops(run) {
+  if (run.pictures.length > 12) return [];
+  return run.pictures.map(([name, step]) => {
+    const stop = made("button", "stop", name.replace(".ppm", ""));
+    stop.type = "button";
+    stop.dataset.step = step;
+    stop.addEventListener("click", () => page.go(step));
+    return stop;
+  });
+}
+
+function onKey(event) {
+  if (event.altKey || event.ctrlKey || event.metaKey) return;
+  const { at, steps } = page.run;
+  const far = event.shiftKey ? 10 : 1;
+  const places = { ArrowLeft: at - far, ArrowRight: at + far, Home: 0, End: steps.length };
+  if (!(event.key in places)) return;
+  event.preventDefault();
+  page.stop();
+  page.go(places[event.key]);
+}
+
+function tabs() {
+  const names = ["outer run", "inner run"];
+  return runs.map((run, place) => {
+    const tab = made("button", "", names[place]);
+    tab.type = "button";
+    tab.dataset.run = place;
+    tab.addEventListener("click", () => page.open(run));
+    return tab;
+  });
+}
+
+function begin() {
+  const buttons = {
+    first: () => 0, before: () => page.run.at - 1, after: () => page.run.at + 1,
+    last: () => page.run.steps.length,
+  };
+  for (const [id, place] of Object.entries(buttons)) {
+    byId(id).addEventListener("click", () => page.go(place()));
+  }
+  byId("play").addEventListener("click", () => page.play());
+  document.addEventListener("keydown", onKey);
+  byId("tabs").hidden = runs.length < 2;
+  byId("tabs").append(...tabs());
+  const wanted = /^#(\d{1,9})$/.exec(location.hash);
+  if (wanted) page.run.at = Math.min(Number(wanted[1]), page.run.steps.length);
+  page.open(page.run);
+  new ResizeObserver(() => page.fit()).observe(byId("lanes"));
+}
+
+begin();

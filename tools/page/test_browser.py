@@ -1,0 +1,303 @@
+"""Pages in Debian's chromium: pictures, scrubbing and lanes, at two widths, light and dark."""
+import base64
+import json
+import shutil
+import struct
+import tempfile
+import unittest
+from pathlib import Path
+
+import expected
+import model
+import runs
+from page import build, test_runs
+from page.browser import Browser
+from page.command import picture_of
+from page.commands import Command
+from page.frames import EACH_WHOLE
+from page.png import size_of
+from page.replay import value_at
+from page.sources import read_sources
+from page.test_rules import frames_along
+
+LOOKS = [(1280, 900, "light", False), (1280, 900, "dark", False),
+         (400, 800, "light", True), (400, 800, "dark", True)]
+ROWS = test_runs.ROWS | {"desk": ["turns", "desk.toml"]}
+HOSTILE_TITLES = ["</script><script>hostile=1</script>", "<img src=x onerror=hostile=1>",
+                  "<svg onload=hostile=1>", "\"'`${hostile=1}&lt;b&gt;"]
+SEEN = """(() => {
+  const canvas = document.querySelector('#canvas');
+  const data = canvas.getContext('2d').getImageData(0, 0, canvas.width, canvas.height).data;
+  const parts = [];
+  for (let at = 0; at < data.length; at += 4) {
+    parts.push(String.fromCharCode(data[at], data[at + 1], data[at + 2]));
+  }
+  return btoa(parts.join(''));
+})()"""
+
+
+class BrowserTest(unittest.TestCase):
+    @classmethod
+    def setUpClass(cls):
+        cls.folder = Path(tempfile.mkdtemp(prefix="nitpicker-pages-"))
+        cls.addClassCleanup(shutil.rmtree, cls.folder)
+        cls.browser = cls.enterClassContext(Browser())
+        cls.pages = {}
+
+    def page(self, example, words=None, folder=None):
+        """The page of an example, and its runs."""
+        if example not in self.pages:
+            folder = folder or test_runs.EXAMPLES / example
+            shown = Command(str(test_runs.PROGRAM), folder, words or ROWS[example]).runs()
+            path = self.folder / f"{example}.html"
+            path.write_text(build.page_of(shown), "utf-8")
+            self.pages[example] = path, shown
+        return self.pages[example]
+
+    def open(self, example, look=LOOKS[0], place=""):
+        path, shown = self.page(example)
+        self.browser.look(*look)
+        self.browser.open(path, place)
+        return shown
+
+    def text(self, selector):
+        return self.browser.value(f"document.querySelector({json.dumps(selector)}).textContent")
+
+    def count(self, selector):
+        return self.browser.value(f"document.querySelectorAll({json.dumps(selector)}).length")
+
+    def seen(self):
+        """The pixels of the picture at the top of the page."""
+        self.browser.wait("document.querySelector('#canvas').dataset.step === "
+                          "document.querySelector('#line').getAttribute('aria-valuenow')")
+        return base64.b64decode(self.browser.value(SEEN))
+
+    def check_quiet(self):
+        """That nothing was logged, and that the page asked for nothing but itself. That these
+        tests read a canvas again and again is told too, and is theirs."""
+        logged = [line for line in self.browser.logged if "willReadFrequently" not in line]
+        self.assertEqual(logged, [])
+        others = [url for url in self.browser.asked if not url.startswith("data:image/png;base64,")]
+        self.assertEqual(len(others), 1, others)
+
+    # Each page, in each look.
+
+    def test_each_page_stands_in_each_look(self):
+        for example in ROWS:
+            for look in LOOKS:
+                with self.subTest(example=example, look=look):
+                    [run, *_] = self.open(example, look)
+                    self.assertEqual(self.text("#name"), run.name)
+                    self.assertEqual(self.count("#labels span"), len(run.labels()) + 1)
+                    self.assertGreater(self.count("#marks .mark"), 3)
+                    self.assertEqual(self.count("#clients article"), len(run.labels()))
+                    self.assertEqual(self.count("#pictures canvas"), len(run.pictures))
+                    wide = self.browser.value("document.documentElement.scrollWidth")
+                    self.assertEqual(wide, look[0])
+                    self.check_colours(look[2])
+                    self.check_quiet()
+
+    def check_colours(self, scheme):
+        light = [self.browser.value(
+            f"getComputedStyle(document.body).{name}.match(/[0-9]+/g).slice(0, 3)"
+            ".reduce((sum, part) => sum + Number(part) / 765, 0)")
+            for name in ("backgroundColor", "color")]
+        darker, lighter = sorted(light)
+        self.assertEqual(light[0] == lighter, scheme == "light")
+        self.assertGreater(lighter - darker, 0.6)
+
+    # Pictures.
+
+    def test_pictures_are_those_of_the_program(self):
+        for example in ("desk", "nested", "capture", "xray"):
+            [run, *_] = self.open(example)
+            for number, (name, _) in enumerate(run.pictures, 1):
+                with self.subTest(example=example, name=name):
+                    self.browser.click(f"#stops button:nth-child({number})")
+                    self.assertTrue(self.text("#caption").startswith(name))
+                    self.assertEqual(self.seen(), size_of(run.files[name])[2])
+            self.check_quiet()
+
+    def test_frames_are_those_of_the_rules_there_and_back(self):
+        [run] = self.open_moving()
+        wanted = [size_of(frame)[2] for frame in frames_behind_entries(run.setup)]
+        last = len(wanted) - 1
+        self.assertGreater(len(run.frames.list), 2 * EACH_WHOLE)
+        self.browser.press("Home")
+        for number in range(last + 1):
+            self.assertEqual(self.seen(), wanted[number], f"entry {number}")
+            self.browser.press("ArrowRight")
+        for number in range(last, -1, -1):
+            self.assertEqual(self.seen(), wanted[number], f"back at entry {number}")
+            self.browser.press("ArrowLeft")
+        for number in (last, 7, last // 2, 3, last - 5):
+            self.browser.press("Home")
+            for _ in range(number // 10):
+                self.browser.press("ArrowRight", shift=True)
+            for _ in range(number % 10):
+                self.browser.press("ArrowRight")
+            self.assertEqual(self.seen(), wanted[number], f"leapt to entry {number}")
+        self.check_quiet()
+
+    def open_moving(self):
+        """A run by turns in which most entries change the frame."""
+        if "moving" not in self.pages:
+            folder = self.folder / "moving"
+            runs.write_files(folder, moving_files())
+            self.page("moving", ["turns", "moving.toml"], folder)
+        return self.open("moving")
+
+    def test_a_picture_of_the_page(self):
+        path, [run] = self.page("kill")
+        picture_of(path, run, self.folder / "kill.png")
+        data = (self.folder / "kill.png").read_bytes()
+        self.assertEqual(struct.unpack(">8sI4sII", data[:24])[2:], (b"IHDR", 1280, 1060))
+
+    # The line of time, the lanes and the panel.
+
+    def test_keys_and_buttons(self):
+        [run] = self.open("desk")
+        count = len(run.replay.steps)
+        self.assertEqual(self.text("#place"), f"Entry {count} of {count}")
+        for key, shift, place in (("Home", False, "Before the first entry"),
+                                  ("ArrowLeft", False, "Before the first entry"),
+                                  ("ArrowRight", False, f"Entry 1 of {count}"),
+                                  ("ArrowRight", True, f"Entry 11 of {count}"),
+                                  ("ArrowLeft", False, f"Entry 10 of {count}"),
+                                  ("End", False, f"Entry {count} of {count}"),
+                                  ("ArrowRight", False, f"Entry {count} of {count}")):
+            self.browser.press(key, shift)
+            self.assertEqual(self.text("#place"), place, key)
+        for button, place in (("#first", 0), ("#after", 1), ("#before", 0), ("#last", count)):
+            self.browser.click(button)
+            self.assertEqual(self.browser.value(
+                "Number(document.querySelector('#line').getAttribute('aria-valuenow'))"), place)
+        self.browser.click("#first")
+        self.browser.click("#play")
+        self.browser.wait("document.querySelector('#place').textContent.startsWith('Entry 3 ')")
+        self.browser.click("#play")
+        self.check_quiet()
+
+    def test_scrubbing_by_mouse_and_by_touch(self):
+        for look in (LOOKS[0], LOOKS[2]):
+            for strip in ("#line", "#marks"):
+                with self.subTest(look=look, strip=strip):
+                    [run] = self.open("kill", look)
+                    count = len(run.replay.steps)
+                    for number, place in ((0, "Before the first entry"), (8, f"Entry 8 of {count}"),
+                                          (count, f"Entry {count} of {count}")):
+                        part = (number + 0.5) / (count + 1)
+                        self.browser.drag(strip, [0.3, 0.7, part], touch=look[3])
+                        self.assertEqual(self.text("#place"), place)
+                    self.check_quiet()
+
+    def test_lanes_have_calls_refusals_and_deliveries(self):
+        [run] = self.open("kill")
+        steps = run.replay.steps
+        self.assertEqual(self.count("#marks .mark"), len(steps))
+        self.assertEqual(self.count("#marks .delivery"), sum(len(step.told) for step in steps))
+        self.assertEqual(self.count("#marks .delivery.kill"), 1)
+        self.assertEqual(self.count("#marks .mark.refused"), 3)
+        self.assertIn("killed", self.text("#marks .reason"))
+        self.assertEqual(self.count("#refused .line.bad"), 3)
+        red = "getComputedStyle(document.querySelector('#marks .mark.refused')).stroke"
+        self.assertEqual(self.browser.value(red), "rgb(192, 22, 36)")
+
+    def test_the_panel_says_what_the_journal_and_the_rules_say(self):
+        [run] = self.open("kill")
+        self.browser.press("Home")
+        for number, step in enumerate(run.replay.steps, 1):
+            self.browser.press("ArrowRight")
+            self.assertEqual(self.text("#text"), step.text)
+            self.assertEqual(self.text("#plain"), step.plain)
+            self.assertEqual(self.count("#told li"), len(step.told))
+            values = {name: value_at(run.replay.tracks.pairs[name], number)
+                      for name in ("mode", "focus", "hover", "pointer")}
+            state = self.text("#state")
+            for name in ("focus", "hover"):
+                label = "nobody" if values[name] is None else run.labels()[values[name]]
+                self.assertIn(f"{name}{label}", state)
+            self.assertIn(f"mode{values['mode'].replace('xray', 'X-ray')}", state)
+            self.assertIn("pointer({}, {})".format(*values["pointer"]), state)
+
+    def test_clipboard_film_and_inner_run(self):
+        [run] = self.open("clip")
+        self.assertEqual(self.count("#marks .mark.clip"), 4)
+        self.assertIn("clipboard“hi”", self.text("#state"))
+        self.open("capture")
+        cut = self.browser.value("(() => { const c = document.querySelector('#cut');"
+                                 "return [c.width, c.height, c.offsetWidth > 0]; })()")
+        self.assertEqual(cut, [24, 24, True])
+        self.assertEqual(self.count("#over .region"), 2)
+        outer, inner = self.open("nested")
+        self.browser.click("#tabs button:nth-child(2)")
+        self.assertEqual(self.text("#name"), inner.name)
+        self.assertEqual(self.seen(), size_of(inner.files["final.ppm"])[2])
+        self.browser.click("#tabs button:nth-child(1)")
+        self.assertEqual(self.seen(), size_of(outer.files["final.ppm"])[2])
+        self.check_quiet()
+
+    # Hostile texts.
+
+    def test_hostile_texts_stay_texts(self):
+        name = "<img src=x onerror=hostile=1>.toml"
+        folder = self.folder / "hostile"
+        sources = read_sources(test_runs.EXAMPLES / "clip", ROWS["clip"])
+        titles = "".join(f"title 1 ={title}\n" for title in HOSTILE_TITLES)
+        sources["pa.nit"] = sources["pa.nit"].replace(b"phase\n", titles.encode() + b"phase\n", 1)
+        copy = f"copy ={HOSTILE_TITLES[0]}\npaste\n".encode()
+        sources["pa.nit.clip"] = sources["pa.nit.clip"].replace(b"copy =hi\n", copy)
+        sources[name] = sources.pop("clip.toml")
+        runs.write_files(folder, sources)
+        for look in LOOKS:
+            [run] = self.page("hostile", ["clip", name], folder)[1]
+            self.open("hostile", look)
+            self.browser.press("Home")
+            said = []
+            for _ in run.replay.steps:
+                self.browser.press("ArrowRight")
+                said.append(self.text("#text"))
+            self.assertEqual(said, [step.text for step in run.replay.steps])
+            for title in HOSTILE_TITLES:
+                self.assertTrue(any(title in text for text in said))
+            self.assertEqual(self.text("#name"), f"clip {name}")
+            self.assertEqual(self.count("img, iframe, #lanes script, [onload], [onerror]"), 0)
+            self.assertEqual(self.count("script"), 2)
+            self.assertIsNone(self.browser.value("window.hostile"))
+            self.check_quiet()
+
+    def test_the_policy_stops_what_gets_in_all_the_same(self):
+        self.open("kill")
+        self.browser.value("document.body.insertAdjacentHTML('beforeend',"
+                           "'<img src=x onerror=\"hostile=1\"><svg onload=\"hostile=1\"></svg>')")
+        self.browser.value("(() => { const s = document.createElement('script');"
+                           "s.textContent = 'hostile = 1'; document.body.append(s); })()")
+        self.browser.settle()
+        self.assertIsNone(self.browser.value("window.hostile"))
+        self.assertTrue(any("Content Security Policy" in line for line in self.browser.logged))
+
+
+def moving_files():
+    """Two clients whose views move, and a user who clicks and changes the mode."""
+    first = ["buffer 14 8", "check 0 0 14 8 FF8000 0000FF", "view", "title 1 =x"]
+    second = ["buffer 12 9", "fill 0 0 12 9 00C040", "view", "view", "place 2 20 10 9 9"]
+    user = []
+    for number in range(30):
+        first.append(f"place 1 {number % 21 - 3} {number * 5 % 17 - 2} 16 9")
+        second.append(f"place 1 {number * 7 % 25} {number % 13} 12 9")
+        user += [f"motion {number} {number * 3 % 20}", "press 272", "release 272"]
+        user += [f"press {70 if number % 2 else 99}"] * (number % 3)
+        user += ["shot"] * (number % 10 == 9)
+    config = "[screen]\nwidth = 32\nheight = 20\nbar = true\n[input]\nscript = 'user.in'\n"
+    for label in ("one", "two"):
+        config += f"[[client]]\nlabel = '{label}'\ndonation = 9999\nscript = '{label}.nit'\n"
+    return {"moving.toml": config.encode(), "one.nit": expected.text_of(first),
+            "two.nit": expected.text_of(second), "user.in": expected.text_of(user)}
+
+
+def frames_behind_entries(setup):
+    """The frame of the beginning, and the one behind each entry, pixel by pixel."""
+    yield model.Scene(setup.config).frame()
+    for _, line, said, frame in frames_along(setup, model.Scene(setup.config)):
+        if said is not None or line in ("shot", "final"):
+            yield frame
