@@ -8,7 +8,7 @@ import subprocess
 import tempfile
 import time
 
-SECONDS = 60
+SECONDS = 240
 FLAGS = ("--headless=new", "--no-sandbox", "--disable-gpu", "--disable-dev-shm-usage",
          "--no-first-run", "--disable-extensions", "--disable-background-networking",
          "--remote-debugging-pipe", "--hide-scrollbars")
@@ -148,7 +148,6 @@ class Browser:
                  "modifiers": 8 if shift else 0}
         self.ask("Input.dispatchKeyEvent", {"type": "keyDown"} | event)
         self.ask("Input.dispatchKeyEvent", {"type": "keyUp"} | event)
-        self.settle()
 
     def place_of(self, selector):
         """The rectangle of an element in the window, once it is scrolled into it."""

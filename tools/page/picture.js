@@ -57,12 +57,15 @@ class Picture {
 function loaded(run, file) {
   run.images ??= [];
   run.loading ??= [];
-  run.loading[file] ??= (async () => {
+  run.loading[file] ??= new Promise((done, failed) => {
     const image = new Image();
+    image.onload = () => {
+      run.images[file] = image;
+      done();
+    };
+    image.onerror = () => failed(new Error(`picture ${file} cannot be read`));
     image.src = `data:image/png;base64,${run.files[file]}`;
-    await image.decode();
-    run.images[file] = image;
-  })();
+  });
   return run.loading[file];
 }
 

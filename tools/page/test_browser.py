@@ -18,7 +18,7 @@ from page.frames import EACH_WHOLE
 from page.png import size_of
 from page.replay import value_at
 from page.sources import read_sources
-from page.test_rules import frames_along
+from page.test_scenes import frames_along, moving_files
 
 LOOKS = [(1280, 900, "light", False), (1280, 900, "dark", False),
          (400, 800, "light", True), (400, 800, "dark", True)]
@@ -123,29 +123,37 @@ class BrowserTest(unittest.TestCase):
         wanted = [size_of(frame)[2] for frame in frames_behind_entries(run.setup)]
         last = len(wanted) - 1
         self.assertGreater(len(run.frames.list), 2 * EACH_WHOLE)
-        self.browser.press("Home")
-        for number in range(last + 1):
-            self.assertEqual(self.seen(), wanted[number], f"entry {number}")
-            self.browser.press("ArrowRight")
-        for number in range(last, -1, -1):
-            self.assertEqual(self.seen(), wanted[number], f"back at entry {number}")
-            self.browser.press("ArrowLeft")
-        for number in (last, 7, last // 2, 3, last - 5):
-            self.browser.press("Home")
-            for _ in range(number // 10):
-                self.browser.press("ArrowRight", shift=True)
-            for _ in range(number % 10):
-                self.browser.press("ArrowRight")
-            self.assertEqual(self.seen(), wanted[number], f"leapt to entry {number}")
+        far = EACH_WHOLE + 12
+        for first, key, places in (("Home", "ArrowRight", range(far + 1)),
+                                   ("End", "ArrowLeft", range(last, last - far - 1, -1)),
+                                   ("Home", "ArrowRight", [0, 1]), ("End", "ArrowLeft", [last])):
+            pictures = self.walk([first, *[key] * (len(places) - 1)])
+            for place, picture in zip(places, pictures, strict=True):
+                self.assertEqual(picture, wanted[place], f"by {key} at {place}")
         self.check_quiet()
+
+    def walk(self, keys):
+        """The pixels of the picture behind each of these keys."""
+        return [base64.b64decode(text) for text in self.browser.value(f"""(async () => {{
+          const pictures = [];
+          for (const key of {json.dumps(keys)}) {{
+            document.dispatchEvent(new KeyboardEvent('keydown', {{ key }}));
+            const place = document.querySelector('#line').getAttribute('aria-valuenow');
+            while (document.querySelector('#canvas').dataset.step !== place) {{
+              await new Promise((done) => setTimeout(done));
+            }}
+            pictures.push({SEEN});
+          }}
+          return pictures;
+        }})()""")]
 
     def open_moving(self):
         """A run by turns in which most entries change the frame."""
         if "moving" not in self.pages:
             folder = self.folder / "moving"
             runs.write_files(folder, moving_files())
-            self.page("moving", ["turns", "moving.toml"], folder)
-        return self.open("moving")
+            self.page("moving", ["turns", "x.toml"], folder)
+        return self.open("moving", (400, 300, "light", False))
 
     def test_a_picture_of_the_page(self):
         path, [run] = self.page("kill")
@@ -275,24 +283,6 @@ class BrowserTest(unittest.TestCase):
         self.browser.settle()
         self.assertIsNone(self.browser.value("window.hostile"))
         self.assertTrue(any("Content Security Policy" in line for line in self.browser.logged))
-
-
-def moving_files():
-    """Two clients whose views move, and a user who clicks and changes the mode."""
-    first = ["buffer 14 8", "check 0 0 14 8 FF8000 0000FF", "view", "title 1 =x"]
-    second = ["buffer 12 9", "fill 0 0 12 9 00C040", "view", "view", "place 2 20 10 9 9"]
-    user = []
-    for number in range(30):
-        first.append(f"place 1 {number % 21 - 3} {number * 5 % 17 - 2} 16 9")
-        second.append(f"place 1 {number * 7 % 25} {number % 13} 12 9")
-        user += [f"motion {number} {number * 3 % 20}", "press 272", "release 272"]
-        user += [f"press {70 if number % 2 else 99}"] * (number % 3)
-        user += ["shot"] * (number % 10 == 9)
-    config = "[screen]\nwidth = 32\nheight = 20\nbar = true\n[input]\nscript = 'user.in'\n"
-    for label in ("one", "two"):
-        config += f"[[client]]\nlabel = '{label}'\ndonation = 9999\nscript = '{label}.nit'\n"
-    return {"moving.toml": config.encode(), "one.nit": expected.text_of(first),
-            "two.nit": expected.text_of(second), "user.in": expected.text_of(user)}
 
 
 def frames_behind_entries(setup):

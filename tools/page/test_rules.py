@@ -16,38 +16,39 @@ from page.frames import Frames, check_picture
 from page.png import differences, part_of, png
 from page.run import Run
 from page.sources import Fault
+from page.test_scenes import frames_along, label_files, moving_files, refresh_files, setup_from
 
 SEEDS = 25
 
 
-def frames_along(setup, scene):
-    """What a scene says and shows behind each line of a run by turns."""
-    for who, line in model.rounds(setup.clients + [setup.user]):
-        said = None
-        if who < len(setup.clients):
-            scene.drawings[who].do(line)
-            if expected.is_call(line):
-                said = scene.call(who, line)
-        elif line not in ("shot", "phase"):
-            said = scene.device(line)
-        yield who, line, said, scene.frame()
-    scene.finish()
-    yield None, "final", None, scene.frame()
-
-
 class FramesTest(unittest.TestCase):
-    def test_frames_by_rectangles_are_those_pixel_by_pixel(self):
+    def check(self, setup, what):
+        """That frames by rectangles are those pixel by pixel."""
+        slow = frames_along(setup, model.Scene(setup.config))
+        fast = frames_along(setup, pixels.Scene(setup.config))
+        for number, (one, other) in enumerate(zip(slow, fast, strict=True)):
+            self.assertEqual(one, other, f"{what}, line {number}")
+
+    def test_frames_of_random_runs(self):
         for seed in range(SEEDS):
             rng = random.Random(f"show {seed}")
-            setup = expected.setup_of(cases.valid_case(rng, rng.choice(["free", "phases"])))
-            slow = frames_along(setup, model.Scene(setup.config))
-            fast = frames_along(setup, pixels.Scene(setup.config))
-            for number, (one, other) in enumerate(zip(slow, fast, strict=True)):
-                self.assertEqual(one, other, f"seed {seed}, line {number}")
+            kind = rng.choice(["free", "phases"])
+            self.check(expected.setup_of(cases.valid_case(rng, kind)), f"seed {seed}")
+
+    def test_frames_of_labels_that_just_fit(self):
+        for width in range(8, 24):
+            for height, cover in ((6, 5), (7, 30), (8, 12), (11, 17), (11, 18)):
+                self.check(setup_from(label_files(width, height, cover)), (width, height, cover))
+
+    def test_frames_of_parts_that_are_loaded_again(self):
+        for seed in range(20):
+            self.check(setup_from(refresh_files(random.Random(f"refresh {seed}"))), seed)
+
+    def test_frames_of_views_that_move(self):
+        self.check(setup_from(moving_files()), "moving")
 
     def test_frames_of_a_page_give_each_frame_again(self):
-        rng = random.Random("frames")
-        setup = expected.setup_of(cases.valid_case(rng, "free"))
+        setup = setup_from(moving_files())
         made = [row[3] for row in frames_along(setup, pixels.Scene(setup.config))]
         width, height = setup.config["screen"]["width"], setup.config["screen"]["height"]
         bodies = [data[len(model.header(width, height)) :] for data in made]
@@ -206,13 +207,16 @@ class Elements(HTMLParser):
         self.texts[self.open] = self.texts.get(self.open, "") + data
 
 
-HOSTILE = ["</script><script>hostile = 1</script>", "<!--<script>",
+HOSTILE = ["</script><script>hostile = 1</script>", "<!--<script>", "</script ",
            "]]><img src=x onerror=hostile=1>", "&lt;img&gt; &amp;", "\u2028 \\u003c \\",
            "{{SCRIPT}} ${hostile = 1}"]
 
 
 class PageTest(unittest.TestCase):
     def test_hostile_texts_stay_texts(self):
+        self.assertEqual(json.loads(build.as_json(HOSTILE)), HOSTILE)
+        for letter in "<>&":
+            self.assertNotIn(letter, build.as_json(HOSTILE))
         plain = Elements(build.page_of([StandIn("name")]))
         for text in HOSTILE:
             page = Elements(build.page_of([StandIn(text)]))
