@@ -55,8 +55,9 @@ def picture_of(page, run, path):
     if browser.program() is None:
         raise Fault("chromium is not here, so there is no picture of the page")
     with browser.Browser() as shown:
-        shown.look(1280, 1060)
+        shown.look(1180, 1000)
         shown.open(page, f"#{run.pictures[0][1]}" if run.pictures else "")
+        shown.wait("document.querySelector('#canvas').dataset.step")
         shown.picture(path)
 
 

@@ -159,7 +159,7 @@ class BrowserTest(unittest.TestCase):
         path, [run] = self.page("kill")
         picture_of(path, run, self.folder / "kill.png")
         data = (self.folder / "kill.png").read_bytes()
-        self.assertEqual(struct.unpack(">8sI4sII", data[:24])[2:], (b"IHDR", 1280, 1060))
+        self.assertEqual(struct.unpack(">8sI4sII", data[:24])[2:], (b"IHDR", 1180, 1000))
 
     # The line of time, the lanes and the panel.
 
