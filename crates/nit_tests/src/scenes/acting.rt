@@ -1,14 +1,21 @@
 //! Whole runs through a hall: of each client's lines some are done on a thread, and the others on
 //! the calling one, by turns with the user, as where a thread could not be started.
 
-ghost use Rattle.std.specs.Prelude.{◌≡◌, ◌*◌, All, length};
+ghost use Rattle.std.specs.Prelude.{◌≡◌, ◌*◌, All, length, map};
+ghost use Rattle.std.specs.List.{AllZip};
 ghost use Rattle.nit_report.specs.Picture.{picture_length};
 ghost use Rattle.nit_hall.specs.Pass.{Belongs, UserBelongs};
+ghost use Rattle.nit_hall.specs.ClipPass.{ClipBelongs};
+ghost use Rattle.nit_hall.specs.ClipOpening.{AreFirstClipPasses};
+ghost use Rattle.nit_actor.specs.ClipRole.{GoTogether, clip_role_of};
 
 use crate::checks::{must, same};
 use crate::words::repeated;
-use nit_actor::{Desk, GatedHall, Mine, Open, PictureName, run_actor, run_mine};
-use nit_hall::{Hall, Name, Pass, UserPass};
+use nit_actor::{
+    Desk, GatedHall, Mine, Open, PictureName, run_actor, run_clips, run_mine, run_mine_clips,
+};
+use nit_clip::{ClipEntry, clip_text};
+use nit_hall::{ClipPass, Hall, Name, Pass, UserPass};
 use nit_report::{journal_text, ppm_len};
 use nit_store::MemoryStore;
 use std::alloc::Global;
@@ -17,13 +24,16 @@ use std::sync::Wait;
 use std::thread::{Threads, join};
 
 /// How the lines of a run are done: one by one through the hall; or by the calls that do all lines
-/// of an actor, with a thread for neither client or for one of the two.
+/// of an actor, with a thread for neither client or for one of the two. By the last two a client
+/// alone does its clip calls too, on the calling thread or on its own.
 #[derive(Clone, Copy)]
 pub enum Way {
     OneByOne,
     Neither,
     First,
     Second,
+    ClipsHere,
+    ClipsThere,
 }
 
 /// The picture of the one shot of the run: the blue view is in front of the red one.
@@ -44,18 +54,133 @@ pub fn act<'a, N: Name + Send + Sync, R: Abort + Threads + Wait + Sync>(
     let (mut passes, user) = actors;
     let (way, journal) = wanted;
     let mut store = MemoryStore::new(alloc, Vec::new(alloc), Vec::new(alloc));
+    let mine = mine(rt, alloc, &hall, user, &mut store);
+    run_started(rt, &hall, &mut passes, mine, way);
+    assert_picture(rt, alloc, store.files());
+    assert_journal(rt, alloc, hall, journal);
+}
+
+/// What the calling thread has: the user, and a desk over this store.
+fn mine<'a, 's, N: Name>(
+    rt: &impl Abort,
+    alloc: Global,
+    hall: &Hall<'a, N>,
+    user: UserPass<'a>,
+    store: &'s mut MemoryStore,
+) -> Mine<'a, 's, MemoryStore>
+    ensures user { result.user ≡ user.entry }
+    ensures frame { length result.desk.frame.items
+        ≡ N.parts.config.width * N.parts.config.height }
+    ensures text { length result.desk.text.items
+        ≡ picture_length N.parts.config.width N.parts.config.height }
+{
     let (width, height) = hall.size();
     let text = vec![in alloc; 0; ppm_len(width, height)].expect(rt, "memory for a picture");
     let desk = Desk {
-        store: &mut store,
+        store,
         frame: repeated(rt, alloc, 0, (width * height) as usize),
         text,
         fault: None,
         tried: PictureName::Final,
     };
-    run_started(rt, &hall, &mut passes, Mine { user, desk }, way);
-    assert_picture(rt, alloc, store.files());
-    assert_journal(rt, alloc, hall, journal);
+    Mine { user, desk }
+}
+
+/// Does all lines and clip calls of one client and of the user, and looks at the text of the clip
+/// list.
+#[tactic(auto, using(crate::proofs::OpeningLemmas::clips_done))]
+pub fn act_clips<'a, N: Name + Send + Sync, R: Abort + Threads + Wait + Sync>(
+    rt: &R,
+    alloc: Global,
+    hall: Hall<'a, N>,
+    actors: (Vec<Pass<'a>>, Vec<ClipPass<'a>>, UserPass<'a>),
+    wanted: (Way, &[u8]),
+)
+    requires passes { All (Belongs N.parts) actors.0.items }
+    requires clips { All (ClipBelongs N.parts) actors.1.items }
+    requires together { AllZip GoTogether actors.0.items actors.1.items }
+    requires first { AreFirstClipPasses N.parts actors.1.items }
+    requires user { UserBelongs N.parts actors.2 }
+{
+    let (mut passes, mut clips, user) = actors;
+    let (way, list) = wanted;
+    let mut store = MemoryStore::new(alloc, Vec::new(alloc), Vec::new(alloc));
+    let mine = mine(rt, alloc, &hall, user, &mut store);
+    let (passes, clips) = (passes.as_mut_slice(), clips.as_mut_slice());
+    if let Way::ClipsThere = way {
+        run_parted_clips(rt, &hall, passes, clips, mine);
+        return assert_list(rt, alloc, hall.into_room().clip_list(), list);
+    }
+    run_clips_here(rt, &hall, passes, clips, mine);
+    let mut room = hall.into_room();
+    assert_list(rt, alloc, room.clips(clips), list);
+}
+
+fn assert_list(rt: &impl Abort, alloc: Global, entries: &[ClipEntry], wanted: &[u8]) {
+    let text = clip_text(alloc, entries).expect(rt, "memory for a text");
+    same(rt, "the clip list", &text.as_slice(), &wanted);
+}
+
+/// Does all on the calling thread.
+fn run_clips_here<'a, N: Name, R: Wait>(
+    rt: &R,
+    hall: &Hall<'a, N>,
+    passes: &mut [Pass<'a>],
+    clips: &mut [ClipPass<'a>],
+    mine: Mine<'a, '_, MemoryStore>,
+)
+    requires passes { All (Belongs N.parts) passes.old }
+    requires clips { All (ClipBelongs N.parts) clips.old }
+    requires together { AllZip GoTogether passes.old clips.old }
+    requires user { UserBelongs N.parts mine.user }
+    requires frame { length mine.desk.frame.items ≡ N.parts.config.width * N.parts.config.height }
+    requires text { length mine.desk.text.items
+        ≡ picture_length N.parts.config.width N.parts.config.height }
+    ensures same { map clip_role_of clips.new ≡ map clip_role_of clips.old }
+    ensures done { All (λ q. q.next ≡ length q.script) clips.new }
+{
+    let Mine { mut user, mut desk } = mine;
+    let gated = GatedHall { hall, gate: &Open };
+    run_mine_clips(rt, gated, passes, clips, &mut user, &mut desk);
+}
+
+/// Does the lines and clip calls of the client on a thread, and the user's on the calling one.
+fn run_parted_clips<'a, N: Name + Send + Sync, R: Threads + Wait + Sync>(
+    rt: &R,
+    hall: &Hall<'a, N>,
+    passes: &mut [Pass<'a>],
+    clips: &mut [ClipPass<'a>],
+    mine: Mine<'a, '_, MemoryStore>,
+)
+    requires passes { All (Belongs N.parts) passes.old }
+    requires clips { All (ClipBelongs N.parts) clips.old }
+    requires together { AllZip GoTogether passes.old clips.old }
+    requires user { UserBelongs N.parts mine.user }
+    requires frame { length mine.desk.frame.items ≡ N.parts.config.width * N.parts.config.height }
+    requires text { length mine.desk.text.items
+        ≡ picture_length N.parts.config.width N.parts.config.height }
+{
+    join(
+        rt,
+        || run_first_pair(rt, hall, passes, clips),
+        || run_clips_here(rt, hall, &mut [], &mut [], mine),
+    );
+}
+
+/// Does the lines and clip calls of the first client, where there is one.
+fn run_first_pair<'a, N: Name, R: Wait>(
+    rt: &R,
+    hall: &Hall<'a, N>,
+    passes: &mut [Pass<'a>],
+    clips: &mut [ClipPass<'a>],
+)
+    requires passes { All (Belongs N.parts) passes.old }
+    requires clips { All (ClipBelongs N.parts) clips.old }
+    requires together { AllZip GoTogether passes.old clips.old }
+{
+    if let ([pass, ..], [clip, ..]) = (passes, clips) {
+        run_clips(rt, GatedHall { hall, gate: &Open }, pass, clip);
+    }
 }
 
 /// The lines of at most one pass are done on a thread.
@@ -74,7 +199,6 @@ fn run_started<'a, N: Name + Send + Sync, R: Abort + Threads + Wait + Sync>(
 {
     must(rt, "two passes", passes.len() == 2);
     match way {
-        Way::OneByOne | Way::Neither => run_parted(rt, hall, &mut [], passes, mine),
         Way::First => {
             let (first, second) = passes.split_at_mut(1);
             run_parted(rt, hall, first, second, mine);
@@ -83,6 +207,7 @@ fn run_started<'a, N: Name + Send + Sync, R: Abort + Threads + Wait + Sync>(
             let (first, second) = passes.split_at_mut(1);
             run_parted(rt, hall, second, first, mine);
         }
+        _ => run_parted(rt, hall, &mut [], passes, mine),
     }
 }
 

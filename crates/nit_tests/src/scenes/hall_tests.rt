@@ -2,20 +2,23 @@
 //! answered is what the clip list has of it at the end. And all lines of an actor are done by one
 //! call, on a thread or not.
 
-ghost use Rattle.std.specs.Prelude.{All};
+ghost use Rattle.std.specs.Prelude.{◌≡◌, All};
+ghost use Rattle.std.specs.List.{AllZip};
+ghost use Rattle.nit_script.specs.Phases.{phases};
+ghost use Rattle.nit_clip.specs.ClipGrammar.{clip_phases};
 ghost use Rattle.nit_config.specs.ConfigurationRanges.{IsConfiguration};
 ghost use Rattle.nit_hall.specs.Pass.{Belongs, UserBelongs};
 ghost use Rattle.nit_hall.specs.ClipPass.{ClipBelongs};
 ghost use Rattle.nit_tests.specs.HallOpening.{IsOpenRoom};
 
-use crate::checks::{must, same};
-use crate::scenes::acting::{Way, act};
+use crate::checks::{fail, must, same};
+use crate::scenes::acting::{Way, act, act_clips};
 use crate::scenes::actors::{Client, User, clients};
 use crate::scenes::hall_opening::{buffers_of, canvases_of, plans_of};
 use nit_clip::{ClipEntry, ClipReply, ClipScript, clip_text, parse_clip};
 use nit_config::{Config, read_config};
 use nit_hall::{ClipOpened, ClipPass, Hall, Name, Opened, Parts, Pass, UserPass, open, open_clips};
-use nit_script::{Client as ClientScript, Input, parse_client, parse_input};
+use nit_script::{Client as ClientScript, Input, parse_client, parse_input, phases};
 use std::alloc::Global;
 use std::marker::Brand;
 use std::process::Abort;
@@ -107,6 +110,12 @@ fn one_client_through_a_hall(rt: HostRuntime) {
     serve_row(&rt, rt.alloc(), &ONE_CLIENT, Way::OneByOne);
 }
 
+#[test]
+fn all_clip_calls_of_a_client(rt: HostRuntime) {
+    serve_row(&rt, rt.alloc(), &ONE_CLIENT, Way::ClipsHere);
+    serve_row(&rt, rt.alloc(), &ONE_CLIENT, Way::ClipsThere);
+}
+
 /// Whichever client has a thread, and where none has, it comes out so.
 #[test]
 fn all_lines_of_an_actor(rt: HostRuntime) {
@@ -167,6 +176,7 @@ fn serve_texts<R: Abort + Threads + Wait + Sync>(
     let clips = read.clips.as_slice();
     must(rt, "scripts", clients.len() == config.clients.len());
     must(rt, "clip scripts", clips.len() == clients.len());
+    must_match(rt, clients, clips);
     let plans = plans_of(alloc, config, clients).expect(rt, "plans");
     let made = buffers_of(alloc, config, &plans);
     let (buffers, keys) = made.expect(rt, "buffers");
@@ -180,6 +190,24 @@ fn serve_texts<R: Abort + Threads + Wait + Sync>(
     let opened = opened.expect(rt, "a room");
     let opened = open_clips(alloc, opened, clips).expect(rt, "a room with clip scripts");
     serve_all::<Brand, R>(rt, alloc, opened, wanted.0, wanted.1);
+}
+
+/// Each clip script has as many phases as the client's script.
+fn must_match(rt: &impl Abort, scripts: &[ClientScript], clips: &[ClipScript])
+    ensures { AllZip (λ s q. clip_phases q ≡ phases s) scripts.now clips.now }
+{
+    match (scripts, clips) {
+        ([], []) => {}
+        ([script, scripts @ ..], [clip, clips @ ..]) => {
+            must(
+                rt,
+                "as many phases",
+                phases(clip.lines()) == phases(script.lines()),
+            );
+            must_match(rt, scripts, clips)
+        }
+        _ => fail(rt, "as many clip scripts"),
+    }
 }
 
 /// Does all lines of an opening that `N` names in this way.
@@ -198,6 +226,9 @@ fn serve_all<'a, N: Name + Send + Sync, R: Abort + Threads + Wait + Sync>(
     let hall: Hall<'a, N> = Hall::new(room);
     match way {
         Way::OneByOne => serve_lines(rt, alloc, hall, (passes, clips, user), wanted),
+        Way::ClipsHere | Way::ClipsThere => {
+            act_clips(rt, alloc, hall, (passes, clips, user), (way, wanted))
+        }
         _ => act(rt, alloc, hall, (passes, user), (way, wanted)),
     }
 }

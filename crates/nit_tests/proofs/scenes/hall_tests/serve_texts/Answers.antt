@@ -24,4 +24,4 @@ serve_all-requires-clause-ready g c κs within =
     let user : two.opened.user ≡ one.user = subst (λ r. IfOk r (λ o. o.opened.user ≡ one.user)) c.expect-opened-2.ensures c.open_clips.ensures.user in
     let first : AreFirstClipPasses two.opened.room.parts two.clips.items = subst (λ r. IfOk r (λ o. AreFirstClipPasses o.opened.room.parts o.clips.items)) c.expect-opened-2.ensures c.open_clips.ensures.clips in
     open_room config scripts plans input canvases clips one.room two.opened.room one.passes.items two.opened.passes.items one.user two.opened.user two.clips.items
-    plans_each opening room passes user clips_each first
+    plans_each opening room passes user clips_each c.must_match.ensures first
