@@ -46,11 +46,9 @@ class Child:
         return self.process.wait()
 
 
-def link_all(folder, to, but=None):
-    """Makes a link for each thing of a folder, but for one."""
-    for name in os.listdir(folder):
-        if name != but:
-            os.symlink(folder / name, to / name)
+def link_all(names, folder, to):
+    for name in names:
+        os.symlink(folder / name, to / name)
 
 
 def mirror(top, folder):
@@ -59,12 +57,14 @@ def mirror(top, folder):
     at, to, hidden = Path(folder.anchor), top, []
     for name in folder.parts[1:]:
         try:
-            link_all(at, to, name)
+            names = os.listdir(at)
         except PermissionError:
+            names = []
             hidden.append(at)
+        link_all((it for it in names if it != name), at, to)
         at, to = at / name, to / name
         to.mkdir()
-    link_all(at, to)
+    link_all(os.listdir(at), at, to)
     return to, hidden
 
 

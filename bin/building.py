@@ -11,7 +11,6 @@ import shutil
 import signal
 import subprocess
 import sys
-import threading
 import time
 from concurrent.futures import FIRST_COMPLETED, ThreadPoolExecutor, wait
 
@@ -40,7 +39,7 @@ class Commands:
     """The commands that run now, which all end where the build is broken off."""
 
     def __init__(self):
-        self.running, self.guard, self.signal, self.is_over = set(), threading.Lock(), None, False
+        self.running, self.signal, self.is_over = set(), None, False
         for number in (signal.SIGINT, signal.SIGTERM, signal.SIGHUP):
             if signal.getsignal(number) != signal.SIG_IGN:
                 signal.signal(number, self.hand_on)
@@ -57,14 +56,14 @@ class Commands:
     def run(self, words, folder, log):
         """The status of a command, whose lines go into the log."""
         with open(log, "wb") as lines:
-            with self.guard:
-                if self.is_over:
-                    return -signal.SIGTERM
-                process = subprocess.Popen(words, cwd=folder, stdin=subprocess.DEVNULL,
-                                           stdout=lines, stderr=subprocess.STDOUT)
-                self.running.add(process)
-            status = process.wait()
-            self.running.discard(process)
+            process = subprocess.Popen(words, cwd=folder, stdin=subprocess.DEVNULL,
+                                       stdout=lines, stderr=subprocess.STDOUT)
+        self.running.add(process)
+        # It may have begun while all were ended.
+        if self.is_over:
+            process.terminate()
+        status = process.wait()
+        self.running.discard(process)
         return status
 
 

@@ -1,4 +1,5 @@
 """The words of bin/nitpicker's own, in front of a command of the program."""
+import contextlib
 import os
 import resource
 import signal
@@ -14,7 +15,10 @@ HELP = TOP / "bin" / "help.txt"
 
 
 def say(text):
-    print(f"bin/nitpicker: {text}", file=sys.stderr)
+    """Says it on standard error, where that is open and takes it."""
+    with contextlib.suppress(OSError, AttributeError):
+        sys.stderr.write(f"bin/nitpicker: {text}\n")
+        sys.stderr.flush()
 
 
 def own_words(words):

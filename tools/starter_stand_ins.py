@@ -102,9 +102,11 @@ elif words[:1] == [b"hang"]:
     print("hangs", os.getpid(), flush=True)
     time.sleep(60)
 elif words[:1] == [b"many"]:
-    for number in range(30):
+    for number in range(400):
         put(f"{number}.txt", words[1])
-        time.sleep(0.005)
+    print("put", flush=True)
+    while not os.path.exists(words[2]):
+        time.sleep(0.001)
 elif words[:1] == [b"read"]:
     print("nitpicker: " + open(words[1]).read().strip())
 else:
