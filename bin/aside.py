@@ -118,4 +118,4 @@ def run_aside(words, out, say):
         shutil.rmtree(made, ignore_errors=True)
     if status == 3 and hidden:
         say(f"{', '.join(map(str, hidden))} may not be listed: no name leads through there by ..")
-    return -child.signal if child.signal else status
+    return status
