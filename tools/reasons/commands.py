@@ -1,4 +1,5 @@
 """What the program would say to the words of a command line, and why. Nothing is run or put."""
+import difflib
 import os
 import re
 
@@ -14,6 +15,7 @@ COMMANDS = {
     "audit": ("CONFIG", "JOURNAL"), "clip": ("CONFIG",), "capture": ("CONFIG", "X", "Y", "W", "H"),
     "nested": ("OUTER", "INNER"),
 }
+KNOWN = ", ".join(f"`{name}`" for name in COMMANDS)
 USAGE_RULE = "docs/FORMATS.md, The command line"
 
 
@@ -38,6 +40,15 @@ def check_number(command, name, word):
                     f"a number from {least} to {most}, in decimal without leading zeros")
 
 
+def command_near(word):
+    """What is right where a word is no command."""
+    if word.lower() in COMMANDS:
+        return f"`{word.lower()}`, in lower case"
+    close = difflib.get_close_matches(word.lower(), COMMANDS, 1, 0.6)
+    return f"perhaps `{close[0]}`; the commands are {KNOWN}" if close else \
+        f"one of {KNOWN}, or the name of a file that is there"
+
+
 def check_words(words):
     """That the words are those of a command."""
     for word in words:
@@ -45,11 +56,10 @@ def check_words(words):
             word.encode()
         except UnicodeEncodeError as wrong:
             raise usage(f"{quoted(word)} is no UTF-8", "all words are UTF-8") from wrong
-    known = "one of " + ", ".join(f"`{name}`" for name in COMMANDS)
     if not words:
-        raise usage("there are none", f"the first is {known}")
+        raise usage("there are none", f"the first is one of {KNOWN}")
     if words[0] not in COMMANDS:
-        raise usage(f"{quoted(words[0])} is no command", known)
+        raise usage(f"{quoted(words[0])} is no command", command_near(words[0]))
     command, given = words[0], words[1:]
     names = COMMANDS[command]
     if len(given) != len(names):
@@ -64,10 +74,11 @@ def check_words(words):
 
 
 class Folder:
-    """The folder that a run would be in, with the files that it reads."""
+    """The folder that a run would be in, with the files that it reads. `is_aside` tells that it puts
+    none of its own there."""
 
-    def __init__(self, path="."):
-        self.path = path
+    def __init__(self, path=".", is_aside=False):
+        self.path, self.is_aside = path, is_aside
 
     def read(self, name, most, beside=""):
         """The bytes of a file, as many as tell whether it is too long. `beside` is what names it."""
@@ -141,7 +152,7 @@ def check_phases(folder, names, named_script, count, of_whom=None):
 
 
 def check_puts(folder, names):
-    for name in names:
+    for name in [] if folder.is_aside else names:
         if folder.is_closed() or folder.is_blocked(name):
             what = "the folder has no leave to write" if folder.is_closed() else \
                 "a folder stands in its place"
@@ -256,10 +267,10 @@ DO = {"still": do_still, "turns": do_turns, "run": do_turns, "gen": do_gen, "aud
       "clip": do_clip, "capture": do_capture, "nested": do_nested}
 
 
-def verdict_of(words, path="."):
+def verdict_of(words, path=".", is_aside=False):
     """How the program would end with these words in the folder of this path."""
     try:
         check_words(words)
-        return Verdict(0, DO[words[0]](Folder(path), *words[1:]))
+        return Verdict(0, DO[words[0]](Folder(path, is_aside), *words[1:]))
     except Refused as refused:
         return refused.verdict
