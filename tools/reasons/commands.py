@@ -6,7 +6,7 @@ import re
 import model
 from expected import USAGE, Setup, outputs_by_turns
 
-from . import config, journal, scripts
+from . import calls, config, journal, scripts
 from .faults import Note, Refused, Verdict, quoted, shown
 
 NUMBER = re.compile(r"0|[1-9][0-9]{0,8}")
@@ -167,34 +167,49 @@ def puts_of(setup):
     return [*shots, "final.ppm", *texts, "journal.txt"]
 
 
-# The commands. Each answers the line of status 0.
+# The commands. Each answers the verdict of status 0.
 
 
-def do_still(folder, _width, _height, name):
+def do_still(folder, width, height, name):
     script = scripts.read_script(name, folder.read(name, scripts.MOST_BYTES), "client")
     check_puts(folder, ["final.ppm"])
+    screen = {"width": int(width), "height": int(height)}
     client = {"label": "still", "donation": 8388608}
-    return Setup({"client": [client]}, [script], []).summary()
+    user = ["phase"] * script.count("phase")
+    setup = Setup({"screen": screen, "client": [client]}, [script], user)
+    setup.names = [name, ""]
+    return Verdict(0, setup.summary(), notes=calls.refused_by_turns(setup))
 
 
-def do_turns(folder, name, more=()):
+def do_turns(folder, name):
     setup = read_setup(folder, name)
+    check_puts(folder, puts_of(setup))
+    return Verdict(0, setup.summary(), notes=calls.refused_by_turns(setup))
+
+
+def do_run(folder, name):
+    setup = read_setup(folder, name)
+    return on_threads(folder, setup)
+
+
+def on_threads(folder, setup, more=()):
+    """The verdict of a run on threads that puts these files more than `turns`."""
     check_puts(folder, [*puts_of(setup), *more])
-    return setup.summary()
+    return Verdict(0, setup.summary(), notes=calls.refused_on_threads(setup))
 
 
 def do_gen(folder, _number):
     made = ["gen.toml", *(f"g{client}.nit" for client in range(8)), "gen.in"]
     texts = [f"events-g{client}.txt" for client in range(8)]
     check_puts(folder, [*made, "shot-1.ppm", "final.ppm", *texts, "journal.txt"])
-    return "clients 8 entries 12260 frames 2"
+    return Verdict(0, "clients 8 entries 12260 frames 2")
 
 
 def do_audit(folder, name, journal_name):
     setup = read_setup(folder, name)
     entries = journal.read_journal(journal_name, folder.read(journal_name, journal.MOST_BYTES))
     journal.judge(journal_name, entries, setup)
-    return f"audit yes entries {len(entries)}"
+    return Verdict(0, f"audit yes entries {len(entries)}")
 
 
 def do_clip(folder, name):
@@ -204,8 +219,7 @@ def do_clip(folder, name):
         clip = f"{script_name}.clip"
         lines = scripts.read_script(clip, folder.read(clip, scripts.MOST_BYTES), "clip")
         check_phases(folder, setup.names, (clip, lines), count)
-    check_puts(folder, [*puts_of(setup), "clip.txt"])
-    return setup.summary()
+    return on_threads(folder, setup, ["clip.txt"])
 
 
 def do_capture(folder, name, *region):
@@ -223,8 +237,7 @@ def do_capture(folder, name, *region):
         right = f"X + W is at most {across}, Y + H at most {down}, W and H at least 1"
         raise Refused(10, "capture outside", Note("the words", what, right,
                                                   "docs/FORMATS.md, Statuses and lines"))
-    check_puts(folder, [*puts_of(setup), "capture.ncap"])
-    return setup.summary()
+    return on_threads(folder, setup, ["capture.ncap"])
 
 
 def do_nested(folder, outer_name, inner_name):
@@ -244,7 +257,7 @@ def do_nested(folder, outer_name, inner_name):
     check_puts(folder, [*puts_of(outer), "inner-journal.txt"])
     said = outer.summary().split(" ")
     said[3] = str(int(said[3]) + 1 + frames)
-    return " ".join(said)
+    return Verdict(0, " ".join(said))
 
 
 def frames_of(inner):
@@ -263,7 +276,7 @@ def frame_lines(rows):
                    for row in rows)
 
 
-DO = {"still": do_still, "turns": do_turns, "run": do_turns, "gen": do_gen, "audit": do_audit,
+DO = {"still": do_still, "turns": do_turns, "run": do_run, "gen": do_gen, "audit": do_audit,
       "clip": do_clip, "capture": do_capture, "nested": do_nested}
 
 
@@ -271,6 +284,6 @@ def verdict_of(words, path=".", is_aside=False):
     """How the program would end with these words in the folder of this path."""
     try:
         check_words(words)
-        return Verdict(0, DO[words[0]](Folder(path, is_aside), *words[1:]))
+        return DO[words[0]](Folder(path, is_aside), *words[1:])
     except Refused as refused:
         return refused.verdict

@@ -2,6 +2,7 @@
 import copy
 import os
 import random
+import re
 import shlex
 import shutil
 import tempfile
@@ -12,8 +13,9 @@ import runs
 from cases import BREAKS, pick_title, toml_text, valid_case
 from expected import entry_of_device, is_call, text_of
 
-from . import commands
+from . import calls, commands
 from .edits import MARKS, TOML_MARKS, edited, other_entry, other_statements
+from .faults import quoted
 from .journal import Unpainted
 
 FROM_ONE = 40
@@ -181,16 +183,43 @@ def is_same(verdict, outcome):
     return (outcome.status, outcome.said) == (verdict.status, said)
 
 
+def refused_in(journal, labels):
+    """Of each client with refused calls in a journal: its label, how many, and the first one."""
+    rows = {}
+    for entry in journal.decode().splitlines():
+        match = re.match(r"call (\d+) (([a-z-]+)[^<]*) < (.*)", entry)
+        if match and match[3] in calls.REFUSALS:
+            rows.setdefault(int(match[1]), []).append(f"{quoted(match[4])} gets `{match[2]}`")
+    return [(labels[who], str(len(rows[who])), rows[who][0]) for who in sorted(rows)]
+
+
+def calls_told(verdict, words, folder):
+    """The labels of a run and what is told of its refused calls, or none where that is left out."""
+    if verdict.status != 0 or words[0] not in ("turns", "run", "clip", "capture"):
+        return None
+    setup = commands.read_setup(commands.Folder(folder), words[1])
+    if words[0] != "turns" and calls.KILL in setup.user:
+        return None
+    told = [re.match(r"(.*?): (\d+) .*?: (`.*)", note).groups() for note in verdict.notes]
+    return setup.labels(), told
+
+
 def compared(program, kind, words, folder, counts):
     """Says what both say of the words in the folder, where it is not the same."""
     verdict = commands.verdict_of(words, folder)
+    told = calls_told(verdict, words, folder)
     outcome = runs.run(program, words, folder)
-    differs = not is_same(verdict, outcome)
-    counts.add(kind, verdict, differs)
-    if differs:
+    is_good = is_same(verdict, outcome)
+    tells = not (is_good and told) or \
+        told[1] == refused_in(outcome.files["journal.txt"], told[0])
+    counts.add(kind, verdict, not (is_good and tells))
+    if not is_good:
         print(f"{kind}, {shlex.join(words)}: explain says {verdict.status}, {verdict.line!r}; the "
               f"program {outcome.status}, {outcome.said!r}", flush=True)
-    return differs
+    if not tells:
+        print(f"{kind}, {shlex.join(words)}: the journal has other refused calls than explain says",
+              flush=True)
+    return not (is_good and tells)
 
 
 def compare_examples(program, top, counts):

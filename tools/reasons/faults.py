@@ -15,11 +15,12 @@ class Fault(Exception):
 
 
 class Finding:
-    """A fault of a file: the text, the first line's number, and the rule that is broken."""
+    """A fault of a file: the text, the first line's number, and the rule that is broken, which is
+    left out where none is given."""
 
     def __init__(self, name, text, fault, rule="", first_line=1):
         self.name, self.text, self.fault = name, text, fault
-        self.rule = f"{rule}: {fault.rule}" if fault.rule else rule
+        self.rule = f"{rule}: {fault.rule}" if rule and fault.rule else rule
         self.first_line = first_line
 
     def place(self):
@@ -39,10 +40,12 @@ class Note:
 
 
 class Verdict:
-    """How the program would end: the status, its line behind `nitpicker: `, and why."""
+    """How the program would end: the status, its line behind `nitpicker: `, and why. `notes` are
+    lines on a run that is not refused; they are worked out when they are asked for."""
 
-    def __init__(self, status, line, findings=()):
+    def __init__(self, status, line, findings=(), notes=()):
         self.status, self.line, self.findings = status, line, list(findings)
+        self.notes = notes
 
 
 class Refused(Exception):
