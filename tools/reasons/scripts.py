@@ -1,10 +1,9 @@
-"""Why a script is refused: its first line without a reading, its size, its phases."""
+"""Why a script is refused: its lines without a reading, its size, its phases."""
 from . import lines
 from .faults import Fault, Finding, Note, Refused, shown
 
 MOST_BYTES = 1048576
 MOST_LINES = 65536
-MORE_LINES = 3
 FORBIDDEN = ("buffer", "fill", "check", "close")
 RULE = "docs/FORMATS.md, {}"
 SCRIPTS = RULE.format("Scripts")
@@ -31,13 +30,12 @@ def pieces_of(data):
     return whole, rest
 
 
-def first_bad(whole, read):
-    """The number of the first line without a reading, and its fault, or none."""
+def bad_lines(whole, read):
+    """The number of each line without a reading, and its fault."""
     for number, line in enumerate(whole, 1):
         fault = lines.first_fault(line, read)
         if fault:
-            return number, fault
-    return None
+            yield number, fault
 
 
 def open_end(rest, read):
@@ -47,19 +45,6 @@ def open_end(rest, read):
         return fault
     return Fault(len(rest), len(rest) + 1, "the file ends here without a line feed",
                  "a line feed behind the last line too; `echo >> FILE` adds it", lines.ENDED)
-
-
-def later_lines(name, whole, number, read):
-    """A note on further lines without a reading."""
-    later = (at for at, line in enumerate(whole[number:], number + 1)
-             if lines.first_fault(line, read))
-    more = [at for at, _ in zip(later, range(MORE_LINES + 1))]
-    if not more:
-        return []
-    told = ", ".join(map(str, more[:MORE_LINES]))
-    told += " and others" if len(more) > MORE_LINES else ""
-    return [Note(name, f"{'line' if len(more) == 1 else 'lines'} {told} behind it "
-                 f"{'has' if len(more) == 1 else 'have'} no reading either")]
 
 
 def read_script(name, data, kind, read=None):
@@ -72,20 +57,19 @@ def read_script(name, data, kind, read=None):
             f"{SCRIPTS}: a script has at most {MOST_LINES:,} lines, and its file {MOST_BYTES:,} "
             "bytes"))
     whole, rest = pieces_of(data)
-    bad = first_bad(whole[:MOST_LINES], read)
-    if bad is None and len(whole) + bool(rest) > MOST_LINES:
+    bad = list(bad_lines(whole[:MOST_LINES], read))
+    if not bad and len(whole) + bool(rest) > MOST_LINES:
         raise Refused(6, f"{name}: too long", Note(
             name, f"the script has {len(whole) + bool(rest):,} lines, and {MOST_LINES:,} are the "
             "most", "", f"{SCRIPTS}: a script has at most {MOST_LINES:,} lines"))
-    if bad is None and rest:
-        bad = len(whole) + 1, open_end(rest, read)
-    if bad is None:
+    if rest and len(whole) < MOST_LINES:
+        bad.append((len(whole) + 1, open_end(rest, read)))
+    if not bad:
         return whole
-    number, fault = bad
-    rule = SCRIPTS if fault.rule in GENERAL else rule
-    finding = Finding(name, (whole + [rest])[number - 1], fault, rule, number)
-    raise Refused(6, f"{name}: line {number}: bad script", finding,
-                  *later_lines(name, whole, number, read))
+    rules = [SCRIPTS if bad[0][1].rule in GENERAL else rule] + [""] * (len(bad) - 1)
+    raise Refused(6, f"{name}: line {bad[0][0]}: bad script", *(
+        Finding(name, (whole + [rest])[number - 1], fault, rule, number)
+        for (number, fault), rule in zip(bad, rules)))
 
 
 def phases_in(script):
