@@ -1,5 +1,6 @@
 """Why a configuration is refused: each key that breaks a rule of docs/FORMATS.md, by kinds."""
 import difflib
+import re
 
 from . import toml_places
 from .faults import Fault, Finding, Note, Refused, quoted, shown
@@ -32,6 +33,7 @@ RULES = {
 RANGES = {"width": (1, 1024), "height": (1, 768), "donation": (256, 8388608), "layer": (0, 7)}
 SAMPLES = {"width": "640", "height": "480", "bar": "true", "label": '"mail"', "donation": "65536",
            "script": '"mail.nit"', "layer": "0", "focus": '"none"'}
+NO = ("0", "false", "no", "none", "off")
 LETTERS = "abcdefghijklmnopqrstuvwxyz0123456789-._"
 
 
@@ -106,9 +108,33 @@ def wrong_kinds(parts):
 
 
 def sample_of(key, right, value):
+    if key == "bar":
+        return boolean_sample(key, str(value.data))
     if key == "client" and value.kind == "a table":
         return "`[[client]]`, with two brackets, for each client"
     return f"`{key} = {SAMPLES[key]}`" if key in SAMPLES else right
+
+
+def boolean_sample(key, word):
+    """The line with the boolean that a word may stand for."""
+    return f"`{key} = {'false' if word.lower() in NO else 'true'}`"
+
+
+def at_known_key(text, fault):
+    """The fault, or what says it better where a word without quotes stands at a key that takes a
+    boolean or a number: quotes would not mend that."""
+    word, start = text[fault.at : fault.end], text.rfind("\n", 0, fault.at) + 1
+    match = re.search(r"(?:^|[ \t.{,])([a-z]+)[ \t]*=[ \t]*\Z", text[start : fault.at][-80:])
+    keys = SCREEN | INPUT | CLIENT
+    kind = keys[match[1]][0] if match and match[1] in keys else None
+    if kind not in ("a boolean", "an integer") or not re.fullmatch("[A-Za-z]+", word):
+        return fault
+    key, what = match[1], f"`{match[1]}` is {quoted(word)}, and has to be {kind}"
+    if kind == "a boolean":
+        is_spelled = word.lower() in ("true", "false")
+        return Fault(fault.at, fault.end, fault.what if is_spelled else what,
+                     boolean_sample(key, word), row_of(keys, key))
+    return Fault(fault.at, fault.end, what, f"`{key} = {SAMPLES[key]}`", row_of(keys, key))
 
 
 def missing_keys(parts, text):
@@ -250,8 +276,9 @@ def read_config(name, data):
     try:
         top = toml_places.read(text)
     except Fault as fault:
-        raise refused(name, "syntax", Finding(name, text, fault,
-                                              f"{FORM}: it is a TOML file")) from fault
+        fault = at_known_key(text, fault)
+        rule = FORM if fault.rule else f"{FORM}: it is a TOML file"
+        raise refused(name, "syntax", Finding(name, text, fault, rule)) from fault
     found = list(refusals(top, text))
     if found:
         raise refused(name, found[0][0], *(

@@ -72,7 +72,13 @@ CONFIG = [
     (b"[screen]\nwidth 8\n", 2, 7, "where `=` is to stand"),
     (b"[screen]\nwidth = 08\n", 2, 9, "leading zero"),
     (b"[screen]\nwidth = 8 4\n", 2, 11, "where the line is to end"),
-    (b"[screen]\nbar = True\n", 2, 7, "`true`"),
+    (b"[screen]\nbar = True\n", 2, 7, "right: `bar = true`\n"),
+    (b"[screen]\nbar = yes\n", 2, 7, "right: `bar = true`\n"),
+    (b"[screen]\nbar=on # c\n", 2, 5, "`bar` is `on`, and has to be a boolean"),
+    (b"screen.bar = no\n", 1, 14, "right: `bar = false`\n"),
+    (b"screen = { width = 8, bar = OFF }\n", 1, 29, "right: `bar = false`\n"),
+    (b"[screen]\nwidth = wide\n", 2, 9, "right: `width = 640`\n"),
+    (b"[screen]\nfoobar = yes\n", 2, 10, 'right: `"yes"`\n'),
     (b"[screen]\nwidth = 8\nwidth = 9\n", 3, 1, "a second time"),
     (b"[input]\nscript = two.in\n", 2, 10, "a text without quotes"),
     (b"[input]\nscript = \"two.in\n", 2, 10, "is not ended"),
@@ -90,6 +96,8 @@ CONFIG = [
     (START + ONE + b'focus = "on"\n', 7, 9, "`focus` of client 1 (a) is `on`"),
     (START + ONE + b'focus = "\\u001B[31m"\n', 7, 9, "is `\\x1b[31m`"),
     (START.replace(b" }", b", bar = true }") + ONE, 1, 41, "the bar is on"),
+    (START.replace(b" }", b", bar = 0 }") + ONE, 1, 41, "right: `bar = false`\n"),
+    (START.replace(b" }", b', bar = "yes" }') + ONE, 1, 41, "right: `bar = true`\n"),
     (START, 2, 19, "`client` is missing"),
 ]
 ALL = {"client": CLIENT, "input": INPUT, "clip": CLIP, "journal": JOURNAL, "config": CONFIG}
