@@ -1,12 +1,15 @@
 """Each command of the program, done and made into what its page shows."""
 import os
 import re
+import shlex
 
 from page.png import size_of
 from page.replay import Step, journal_lines
 from page.run import Run
 from page.sources import Fault, read_sources, run_apart, setup_of
+from reasons.faults import shown
 
+EXPLAINED = (5, 6, 8)
 COMMANDS = ("still", "turns", "run", "gen", "audit", "clip", "capture", "nested")
 
 
@@ -16,7 +19,7 @@ class Command:
     def __init__(self, program, folder, words):
         if not words or words[0] not in COMMANDS:
             raise Fault(f"the commands are {', '.join(COMMANDS)}")
-        self.program, self.words = program, words
+        self.program, self.folder, self.words = program, folder, words
         self.files = read_sources(folder, words)
 
     def done(self, words, statuses=(0,)):
@@ -24,8 +27,14 @@ class Command:
         outcome = run_apart(self.program, words, self.files)
         if outcome.status not in statuses:
             said = outcome.said.decode("utf-8", "replace").strip()
-            raise Fault(f"the program ends with status {outcome.status}: {said}")
+            why = f"; {self.explain(words)} says why" if outcome.status in EXPLAINED else ""
+            raise Fault(f"the program ends with status {outcome.status}: {said}{why}")
         return outcome
+
+    def explain(self, words):
+        """The tool that says why a file is refused, with the words for it."""
+        within = [] if str(self.folder) == "." else ["-C", str(self.folder)]
+        return shown(shlex.join(["tools/explain", *within, *words]))
 
     def runs(self):
         """What the page shows: a run, and for `nested` the inner one behind it."""

@@ -128,9 +128,11 @@ class RunsTest(unittest.TestCase):
 
     def test_a_run_that_is_refused_has_no_page(self):
         for words, said in ((["turns", "capital.toml"], "status 3: .*read fault"),
-                            (["still", "8", "4", "zero.nit"], "status 6: .*bad script"),
+                            (["still", "8", "4", "zero.nit"], "status 6: .*bad script; "
+                             "tools/explain -C .*broken still 8 4 zero.nit says why"),
                             (["turns"], "status 2"), (["film"], "the commands are"),
-                            ([], "the commands are"), (["turns", "kind.toml"], "status 5")):
+                            ([], "the commands are"),
+                            (["turns", "kind.toml"], "status 5: .* says why")):
             with self.assertRaisesRegex(Fault, said):
                 runs_of("broken", words)
 

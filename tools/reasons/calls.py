@@ -1,4 +1,4 @@
-"""The calls of a run that are refused. The run is valid: each of them is answered by its refusal."""
+"""The calls of a run that are refused. The run is valid: its journal has each with its refusal."""
 import model
 import runs
 
@@ -44,6 +44,6 @@ def refused_by_turns(setup, run="the run"):
 
 
 def refused_on_threads(setup):
-    """The same for a run on threads, where no client is killed: a reply that refuses depends then on
-    the client's own calls alone, and `take` is never refused."""
+    """The same for a run on threads where no client is killed: whether a call is refused depends
+    then on the client's own calls alone."""
     return () if KILL in setup.user else refused_by_turns(setup)

@@ -74,14 +74,14 @@ def check_words(words):
 
 
 class Folder:
-    """The folder that a run would be in, with the files that it reads. `is_aside` tells that it puts
-    none of its own there."""
+    """The folder that a run would be in, with the files that it reads. `is_aside` tells that it
+    puts its own elsewhere."""
 
     def __init__(self, path=".", is_aside=False):
         self.path, self.is_aside = path, is_aside
 
     def read(self, name, most, beside=""):
-        """The bytes of a file, as many as tell whether it is too long. `beside` is what names it."""
+        """The bytes of a file, enough to tell whether it is too long. `beside` names it."""
         try:
             with open(os.path.join(self.path, name) if name else "", "rb") as file:
                 return file.read(most + 1)
