@@ -67,8 +67,9 @@ def read_script(name, data, kind, read=None):
     if not bad:
         return whole
     rules = [SCRIPTS if bad[0][1].rule in GENERAL else rule] + [""] * (len(bad) - 1)
+    texts = whole + [rest]
     raise Refused(6, f"{name}: line {bad[0][0]}: bad script", *(
-        Finding(name, (whole + [rest])[number - 1], fault, rule, number)
+        Finding(name, texts[number - 1], fault, rule, number)
         for (number, fault), rule in zip(bad, rules)))
 
 
