@@ -54,7 +54,13 @@ class Run {
     this.steps = given.steps.map((step) => new Step(step));
     this.entries = this.steps.filter((step) => step.entry !== null).length;
     this.hasUser = this.steps.some((step) => ["motion", "press", "wheel"].includes(step.kind));
+    this.firstMotion = this.steps.findIndex((step) => step.kind === "motion") + 1;
     this.at = this.steps.length;
+  }
+
+  // Whether the page lays an arrow over the picture: from the journal's first motion on.
+  hasArrow() {
+    return this.firstMotion > 0 && this.at >= this.firstMotion;
   }
 
   // The value of a track behind so many steps.
@@ -87,6 +93,24 @@ class Run {
     let at = number;
     while (at > 0 && this.steps[at - 1].entry === null) at -= 1;
     return at === 0 ? 0 : this.steps[at - 1].entry;
+  }
+
+  // The step of an entry, or the last one where there is no such entry.
+  stepOfEntry(entry) {
+    if (entry === 0) return 0;
+    return this.steps.findIndex((step) => step.entry === entry) + 1 || this.steps.length;
+  }
+
+  // A step in the page's address: `29` is entry 29, and `29.2` the second clip call behind it.
+  address(number = this.at) {
+    const entry = this.entryUpTo(number);
+    const behind = number - this.stepOfEntry(entry);
+    return behind === 0 ? `${entry}` : `${entry}.${behind}`;
+  }
+
+  stepOfAddress(address) {
+    const [entry, behind = 0] = address.split(".").map(Number);
+    return Math.min(this.stepOfEntry(entry) + behind, this.steps.length);
   }
 
   // The picture that the entries up to a step lead up to: its name and its step.

@@ -264,18 +264,45 @@ function markOf(step, x, y) {
   return step.lane === null ? mark : colour(mark, step.lane);
 }
 
-// The forms that this run has, each with its word.
+// The marks, arrows and bands that this run has, each with its word.
 function legend(run) {
-  const words = {
-    call: "call", take: "event taken", refused: "refused", clip: "clip call", motion: "motion",
-    press: "press", release: "release", wheel: "wheel", shot: "picture",
-  };
-  const kinds = new Set(run.steps.map((step) => (step.kind === "final" ? "shot" : step.kind)));
-  return Object.keys(words).filter((kind) => kinds.has(kind)).map((kind) => {
-    const image = drawn("svg", { viewBox: "-9 -9 18 18", width: 16, height: 16 });
-    const lane = run.steps.find((step) => step.kind === kind)?.lane ?? null;
-    const why = kind === "refused" ? kind : "";
-    image.append(markOf(new Step(["", "", lane, kind, why, [], 0]), 0, 0));
-    return made("li", "", "", [image, made("span", "", words[kind])]);
+  return [...legendMarks(run), ...legendArrows(run), ...legendBands(run)].map(([image, word]) => {
+    const svg = drawn("svg", { viewBox: "-9 -9 18 18", width: 16, height: 16 });
+    svg.append(image);
+    return made("li", "", "", [svg, made("span", "", word)]);
   });
+}
+
+function legendMarks(run) {
+  const words = {
+    call: "call", take: "event taken", refused: "refused call", clip: "clip call",
+    "clip bad": "refused clip call", motion: "motion", press: "press", release: "release",
+    wheel: "wheel", shot: "picture", wrong: "no entry of a run",
+  };
+  const wordOf = ({ kind, why }) =>
+    (kind === "final" ? words.shot : words[kind === "clip" && why ? "clip bad" : kind]);
+  return Object.values(words).flatMap((word) => {
+    const step = run.steps.find((one) => wordOf(one) === word);
+    return step ? [[markOf(step, 0, 0), word]] : [];
+  });
+}
+
+function legendArrows(run) {
+  const told = run.steps.flatMap((step) => step.told);
+  const arrow = (kind, word, pair) => (pair
+    ? [[colour(drawn("path", { class: kind, d: "M0 -8V7M-3.5 3L0 8L3.5 3" }), pair[0]), word]]
+    : []);
+  return [
+    ...arrow("delivery", "a client gets an event", told.find(([, item]) => item !== "kill")),
+    ...arrow("delivery kill", "a client is locked out", told.find(([, item]) => item === "kill")),
+  ];
+}
+
+function legendBands(run) {
+  const has = (name, value) => run.tracks[name].some((pair) => pair[1] === value);
+  const band = (kind) => drawn("rect", { class: kind, x: -9, y: -6, width: 18, height: 12 });
+  const modes = ["xray", "kill"].filter((mode) => has("mode", mode))
+    .map((mode) => [band(`mode ${mode}`), `${MODES[mode]} mode`]);
+  const focused = run.tracks.focus.find((pair) => pair[1] !== null);
+  return focused ? [...modes, [colour(band("focus"), focused[1]), "has the focus"]] : modes;
 }

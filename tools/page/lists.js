@@ -2,6 +2,8 @@
 // what was checked.
 
 const LINES_AT_ONCE = 300;
+const SMALL_WIDTH = 512;
+const SMALL_HEIGHT = 384;
 
 // Fills a list with lines of the journal. A long one is filled part by part.
 function fill(list, run, numbers, go, isPlain = false) {
@@ -23,6 +25,20 @@ function fill(list, run, numbers, go, isPlain = false) {
   add(0);
 }
 
+// How wide a small picture is: a whole number of its pixels fit into one of the screen's, or the
+// other way round, so that labels can be read and checks have no moire.
+function acrossOf({ width, height }) {
+  const room = Math.min(SMALL_WIDTH / width, SMALL_HEIGHT / height);
+  return room >= 1 ? width * Math.floor(room) : width / Math.ceil(1 / room);
+}
+
+function goButton(kind, go) {
+  const button = made("button", kind);
+  button.type = "button";
+  button.addEventListener("click", go);
+  return button;
+}
+
 // A picture beside the lines of the journal since the one before.
 function pictureCard(run, place, go) {
   const [name, step] = run.pictures[place];
@@ -31,14 +47,17 @@ function pictureCard(run, place, go) {
   canvas.setAttribute("role", "img");
   canvas.setAttribute("aria-label", name);
   canvas.style.setProperty("--ratio", run.width / run.height);
-  const show = made("button", run.width > 416 ? "open smooth" : "open", "", [canvas]);
-  show.type = "button";
+  const across = acrossOf(run);
+  canvas.style.setProperty("--across", `${across}px`);
+  const show = goButton(across < run.width ? "open smooth" : "open", () => go(step));
+  show.append(canvas);
   show.title = `Go to ${name}`;
-  show.addEventListener("click", () => go(step));
+  const large = goButton("large", () => go(step));
+  large.textContent = "see it large";
   const mode = run.value("mode", step);
   const caption = made("figcaption", "", "", [made("b", "", name),
     made("span", `mode ${mode}`, MODES[mode]), made("span", "", "focus"),
-    chip(run, run.value("focus", step))]);
+    chip(run, run.value("focus", step)), large]);
   const lines = made("ol", "journal");
   fill(lines, run, Array.from({ length: step - start + 1 }, (_, at) => start + at), go);
   new Picture(run, canvas).show(step);

@@ -25,9 +25,8 @@ class Panel {
     const step = run.step();
     byId("place").textContent = run.place();
     byId("text").textContent = step === null ? "" : step.text;
-    byId("plain").textContent = step === null ? "Nobody has done anything yet." : step.plain;
-    byId("why").hidden = step === null || !step.isRefused();
-    byId("why").textContent = step === null ? "" : `Refused: ${step.why}.`;
+    byId("plain").replaceChildren(
+      ...(step === null ? ["Nobody has done anything yet."] : plainParts(step)));
     byId("told").replaceChildren(...(step === null ? [] : told(run, step)));
     byId("state").replaceChildren(...stateOf(run));
     const near = byId("near");
@@ -46,6 +45,13 @@ class Panel {
       return line;
     });
   }
+}
+
+// A step in plain words, what was refused in red.
+function plainParts(step) {
+  const why = step.kind === "wrong" ? step.plain : `Refused: ${step.why}.`;
+  if (!step.isRefused() || !step.plain.endsWith(why)) return [step.plain];
+  return [step.plain.slice(0, -why.length), made("span", "why", why)];
 }
 
 // Who got what at a step.
@@ -109,6 +115,8 @@ class Clients {
       ["now", own.join(", ")],
       ["buffer", width === 0 ? "none" : `${width} × ${height}`],
       ["views", has("views")],
+      ...(has("state") === "live" ? [["units", `${has("units")} of ${has("donation")} left, `
+        + `${has("reserve")} in reserve`]] : []),
       ["events", `${has("queued")} queued, ${has("lost")} lost`],
       ["opened with", `${kept.donation} units, layer ${kept.layer}`
         + (kept.focus === "none" ? ", no focus by clicks" : "")],

@@ -105,6 +105,7 @@ class Stage {
     const step = run.at;
     const caption = captionOf(run);
     byId("caption").textContent = caption.text;
+    byId("laid").textContent = laidOver(run);
     byId("canvas").setAttribute("aria-label", caption.text);
     this.screen.classList.toggle("ahead", caption.isAhead);
     this.drawOver();
@@ -124,7 +125,7 @@ class Stage {
       parts.push(drawn("rect", { class: "region back", x, y, width, height }));
       parts.push(drawn("rect", { class: "region", x, y, width, height }));
     }
-    if (run.hasUser) {
+    if (run.hasArrow()) {
       const [x, y] = run.value("pointer");
       parts.push(drawn("path", {
         class: "pointer", d: "M0 0V17L4 13L7 20L10 18.5L7 12H13Z",
@@ -149,6 +150,14 @@ function captionOf(run) {
   const isAhead = step > run.at;
   const what = isAhead ? "These entries lead to" : "Behind";
   return { text: `${what} ${name}, taken at entry ${run.entryUpTo(step)}`, isAhead };
+}
+
+// What of the picture is the page's own.
+function laidOver(run) {
+  if (run.frames.length === 0) return "";
+  const arrow = "The arrow is the page's, where the pointer is.";
+  const region = "The dashed lines are the page's, around what is filmed.";
+  return [run.hasArrow() ? arrow : "", run.region === null ? "" : region].join(" ").trim();
 }
 
 // The film's picture: the region of the picture that is shown.

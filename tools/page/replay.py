@@ -149,8 +149,11 @@ class Replay:
 
 
 def session_state(session):
+    views, (width, height) = len(session.views), session.size
     return {"state": session.state, "queued": len(session.queue), "lost": session.lost,
-            "views": len(session.views), "buffer": list(session.size)}
+            "views": views, "buffer": [width, height], "donation": session.donation,
+            "reserve": session.reserve,
+            "units": session.donation - 256 * views - 8 * width * height}
 
 
 def journal_lines(data):

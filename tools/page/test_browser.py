@@ -228,6 +228,74 @@ class BrowserTest(unittest.TestCase):
             self.assertIn(f"mode{values['mode'].replace('xray', 'X-ray')}", state)
             self.assertIn("pointer({}, {})".format(*values["pointer"]), state)
 
+    def test_a_refusal_is_told_once(self):
+        [run] = self.open("kill")
+        for number, step in enumerate(run.replay.steps, 1):
+            if step.kind == "refused":
+                place = sum(one.kind == "refused" for one in run.replay.steps[:number])
+                self.browser.click(f"#refused li:nth-child({place}) button")
+                self.assertEqual(self.text("#plain"), step.plain)
+                self.assertEqual(self.text("#plain .why"), f"Refused: {step.why}.")
+                self.assertEqual(self.text("#panel").count(step.why), 1)
+
+    def test_units_on_the_cards(self):
+        [run] = self.open("kill")
+        self.browser.press("Home")
+        pairs = run.replay.tracks.pairs
+        for number in range(len(run.replay.steps)):
+            left, given, reserve, state = (value_at(pairs[f"0 {name}"], number) for name in (
+                "units", "donation", "reserve", "state"))
+            said = f"units{left} of {given} left, {reserve} in reserve"
+            self.assertEqual(said in self.text("#clients article"), state == "live", number)
+            self.browser.press("ArrowRight")
+
+    # The arrow and the legend.
+
+    def test_the_arrow_stands_from_the_first_motion_and_is_said_to_be_the_pages(self):
+        for example in ("kill", "desk"):
+            [run] = self.open(example)
+            self.browser.press("Home")
+            moved = False
+            for step in [None, *run.replay.steps]:
+                if step:
+                    self.browser.press("ArrowRight")
+                    moved = moved or step.text.startswith("input motion ")
+                self.assertEqual(self.count("#over .pointer"), moved)
+                self.assertEqual("arrow is the page's" in self.text("#laid"), moved)
+            self.assertTrue(moved)
+        self.open("first")
+        self.assertEqual((self.count("#over .pointer"), self.text("#laid")), (0, ""))
+        self.open("capture")
+        self.assertIn("dashed lines are the page's", self.text("#laid"))
+
+    def test_the_legend_has_what_the_lanes_have(self):
+        rows = {
+            "first": ["call", "picture"],
+            "xray": ["call", "press", "picture", "X-ray mode"],
+            "kill": ["call", "refused call", "motion", "press", "release", "picture",
+                     "a client gets an event", "a client is locked out", "kill mode",
+                     "has the focus"],
+            "clip": ["call", "clip call", "refused clip call", "motion", "press", "release",
+                     "picture", "a client gets an event", "has the focus"],
+        }
+        for example, words in rows.items():
+            self.open(example)
+            self.assertEqual(self.browser.value(
+                "[...document.querySelectorAll('#legend li')].map((item) => item.textContent)"),
+                words)
+
+    def test_small_pictures_are_sharp_and_lead_to_the_large_one(self):
+        for example in ("desk", "two", "kill"):
+            [run] = self.open(example)
+            for number, (name, _) in enumerate(run.pictures, 1):
+                card = f"#pictures article:nth-child({number})"
+                across = self.browser.value(f"document.querySelector('{card} canvas').offsetWidth")
+                larger, smaller = max(across, run.scene.width), min(across, run.scene.width)
+                self.assertEqual(larger % smaller, 0, example)
+                self.browser.click(f"{card} .large")
+                self.assertTrue(self.text("#caption").startswith(name))
+                self.assertEqual(self.seen(), size_of(run.files[name])[2])
+
     def test_clipboard_film_and_inner_run(self):
         [run] = self.open("clip")
         self.assertEqual(self.count("#marks .mark.clip"), 4)

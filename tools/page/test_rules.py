@@ -16,7 +16,8 @@ from page.frames import Frames, check_picture
 from page.png import differences, part_of, png
 from page.run import Run
 from page.sources import Fault
-from page.test_scenes import frames_along, label_files, moving_files, refresh_files, setup_from
+from page.test_scenes import (frames_along, label_files, moving_files, refresh_files, scene_files,
+                              setup_from)
 
 SEEDS = 25
 
@@ -288,6 +289,19 @@ class ReplayTest(unittest.TestCase):
                                 ("hover", number_of(scene, scene.hovered))):
                 pairs = run.replay.tracks.pairs[name]
                 self.assertEqual(replay.value_at(pairs, number), value, f"{name} behind {number}")
+
+    def test_units_that_are_left(self):
+        lines = ["buffer 10 9", "view", "view", "destroy 1", "upgrade 1", "buffer 40 40", "close"]
+        setup = setup_from(scene_files((9, 9, "false"), {"a": lines}, []))
+        made = replay.Replay(setup.config, False)
+        for line in lines:
+            made.act(0, line)
+        self.assertEqual(made.steps[5].text, "call 0 out-of-quota 12800 9744 < buffer 40 40")
+        pairs = made.tracks.pairs
+        self.assertEqual(pairs["0 units"], [[0, 9999], [1, 9279], [2, 9023], [3, 8767], [4, 9023],
+                                            [5, 9024], [7, 10000]])
+        self.assertEqual(pairs["0 donation"], [[0, 9999], [5, 10000]])
+        self.assertEqual(pairs["0 reserve"], [[0, 9999], [5, 9998]])
 
     def test_what_is_wrong_is_told(self):
         setup, files = self.setup_and_files()
