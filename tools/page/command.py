@@ -16,9 +16,11 @@ its calls, what the user did and who got it, and in plain words what each entry 
 and `still` it has the frame behind every entry, by the rules of docs/RULES.md in Python.
 
 The command's files are read in the folder where this is started, or in the one behind -C. The
-page is FILE, or a file in a new temporary folder, and its name is printed. The status is 1, and a
-line says why, where the program ends in another way, or where a picture, a reply, a delivery or a
-client's events are not as the rules give them."""
+page is FILE, or a file in a new temporary folder, and its name is printed.
+`page.html#29` opens at entry 29, and the page's address goes along as one scrubs.
+
+The status is 1, and a line says why, where the program ends in another way, or where a picture, a
+reply, a delivery or a client's events are not as the rules give them."""
 EXAMPLES = """examples:
   cd examples/desk && ../../tools/show turns desk.toml --out /tmp/desk.html
   tools/show -C examples/clip clip clip.toml
@@ -56,7 +58,7 @@ def picture_of(page, run, path):
         raise Fault("chromium is not here, so there is no picture of the page")
     with browser.Browser() as shown:
         shown.look(1180, 1000)
-        shown.open(page, f"#{run.pictures[0][1]}" if run.pictures else "")
+        shown.open(page, f"#{run.entry_of(run.pictures[0][1])}" if run.pictures else "")
         shown.wait("document.querySelector('#canvas').dataset.step")
         shown.picture(path)
 

@@ -10,6 +10,7 @@ const clients = new Clients();
 const page = {
   run: runs[0],
   timer: null,
+  noting: null,
 
   open(run) {
     this.stop();
@@ -37,6 +38,7 @@ const page = {
     if (!Number.isInteger(bounded) || bounded === this.run.at) return;
     this.run.at = bounded;
     this.show();
+    this.note();
   },
 
   show() {
@@ -49,6 +51,12 @@ const page = {
     for (const stop of byId("stops").children) {
       stop.setAttribute("aria-pressed", Number(stop.dataset.step) === run.at);
     }
+  },
+
+  // Writes the place into the address, once it has stood for a while: browsers limit how often.
+  note() {
+    clearTimeout(this.noting);
+    this.noting = setTimeout(() => history.replaceState(null, "", addressOf(this.run)), 200);
   },
 
   fit() {
@@ -106,9 +114,25 @@ function tabs() {
     const tab = made("button", "", names[place]);
     tab.type = "button";
     tab.dataset.run = place;
-    tab.addEventListener("click", () => page.open(run));
+    tab.addEventListener("click", () => {
+      page.open(run);
+      page.note();
+    });
     return tab;
   });
+}
+
+// The address of a run's place: `#29` of the first run, and `#inner-29` of the inner one.
+function addressOf(run) {
+  return `#${run === runs[0] ? "" : "inner-"}${run.address()}`;
+}
+
+// Opens the run at the place that the address names, and else where it stands.
+function openByAddress() {
+  const wanted = /^#(inner-)?(\d{1,9}(?:\.\d{1,9})?)$/.exec(location.hash);
+  const run = wanted ? runs[wanted[1] ? 1 : 0] ?? page.run : page.run;
+  if (wanted) run.at = run.stepOfAddress(wanted[2]);
+  page.open(run);
 }
 
 function begin() {
@@ -123,9 +147,8 @@ function begin() {
   document.addEventListener("keydown", onKey);
   byId("tabs").hidden = runs.length < 2;
   byId("tabs").append(...tabs());
-  const wanted = /^#(\d{1,9})$/.exec(location.hash);
-  if (wanted) page.run.at = Math.min(Number(wanted[1]), page.run.steps.length);
-  page.open(page.run);
+  window.addEventListener("hashchange", openByAddress);
+  openByAddress();
   new ResizeObserver(() => page.fit()).observe(byId("lanes"));
 }
 

@@ -33,6 +33,10 @@ class Run:
     def note_picture(self, name):
         self.pictures.append([name, len(self.replay.steps)])
 
+    def entry_of(self, step):
+        """The number of a step in the journal."""
+        return self.replay.steps[step - 1].entry
+
     def file(self, name):
         data = self.files.get(name)
         if data is None:

@@ -249,7 +249,7 @@ class BrowserTest(unittest.TestCase):
             self.assertEqual(said in self.text("#clients article"), state == "live", number)
             self.browser.press("ArrowRight")
 
-    # The arrow and the legend.
+    # The arrow, the legend and the address.
 
     def test_the_arrow_stands_from_the_first_motion_and_is_said_to_be_the_pages(self):
         for example in ("kill", "desk"):
@@ -283,6 +283,43 @@ class BrowserTest(unittest.TestCase):
             self.assertEqual(self.browser.value(
                 "[...document.querySelectorAll('#legend li')].map((item) => item.textContent)"),
                 words)
+
+    def address(self, wanted):
+        self.browser.wait(f"location.hash === {json.dumps(wanted)}")
+
+    def test_the_address_is_that_of_the_entry(self):
+        [run] = self.open("desk", place="#29")
+        count = len(run.replay.steps)
+        self.assertEqual(self.text("#place"), f"Entry 29 of {count}")
+        self.browser.press("ArrowRight")
+        self.address("#30")
+        self.browser.press("Home")
+        self.address("#0")
+        self.browser.value("location.hash = '#12'")
+        self.browser.wait(f"document.querySelector('#place').textContent === 'Entry 12 of {count}'")
+        for place in ("#999999", "#x", "#", "#inner-3x"):
+            self.open("desk", place=place)
+            self.assertEqual(self.text("#place"), f"Entry {count} of {count}")
+        self.check_quiet()
+
+    def test_the_address_of_clip_calls_and_of_the_inner_run(self):
+        [run] = self.open("clip", place="#0")
+        behind = 0
+        for step in run.replay.steps:
+            behind = behind + 1 if step.entry is None else 0
+            entry = step.entry or int(step.text.split(" ")[1])
+            self.browser.press("ArrowRight")
+            wanted = f"#{entry}" if step.entry else f"#{entry}.{behind}"
+            self.address(wanted)
+            self.open("clip", place=wanted)
+            self.assertEqual(self.text("#text"), step.text)
+        inner = self.open("nested")[1]
+        self.browser.click("#tabs button:nth-child(2)")
+        self.address(f"#inner-{len(inner.replay.steps)}")
+        self.open("nested", place="#inner-3")
+        self.assertEqual(self.text("#name"), inner.name)
+        self.assertEqual(self.text("#text"), inner.replay.steps[2].text)
+        self.check_quiet()
 
     def test_small_pictures_are_sharp_and_lead_to_the_large_one(self):
         for example in ("desk", "two", "kill"):
