@@ -136,6 +136,20 @@ class RunsTest(unittest.TestCase):
             with self.assertRaisesRegex(Fault, said):
                 runs_of("broken", words)
 
+    def test_a_file_that_is_refused_is_explained_elsewhere(self):
+        folder = EXAMPLES / "broken"
+        rows = ((["still", "8", "4", "zero.nit"], "still 8 4 zero.nit"),
+                (["turns", "kind.toml"], "turns kind.toml"),
+                (["turns", "capital.toml"], None), (["turns"], None))
+        for words, named in rows:
+            with self.assertRaises(Fault) as raised:
+                runs_of("broken", words)
+            ending = f"; tools/explain -C {folder} {named} says why"
+            if named:
+                self.assertTrue(str(raised.exception).endswith(ending), raised.exception)
+            else:
+                self.assertNotIn("explain", str(raised.exception))
+
 
 class SourcesTest(unittest.TestCase):
     def test_names_that_lead_elsewhere_are_read_and_nothing_is_written_there(self):
