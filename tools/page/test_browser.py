@@ -322,7 +322,8 @@ class BrowserTest(unittest.TestCase):
         self.check_quiet()
 
     def test_small_pictures_are_sharp_and_lead_to_the_large_one(self):
-        for example in ("desk", "two", "kill"):
+        self.page("windows", ["turns", "windows.toml"])
+        for example in ("desk", "windows", "kill"):
             [run] = self.open(example)
             for number, (name, _) in enumerate(run.pictures, 1):
                 card = f"#pictures article:nth-child({number})"
