@@ -115,6 +115,23 @@ impl Focus {
         self.state.mode()
     }
 
+    /// The column and the row of the pointer, which is on the screen, in pixels.
+    pub fn pointer(&self) -> (u16, u16)
+        ensures place { result ≡ (self.now.input.x, self.now.input.y) }
+        ensures column { result.0 < self.now.width }
+        ensures row { result.1 < self.now.height }
+    {
+        self.state.pointer()
+    }
+
+    /// The session that the pointer was last told to, below 16; none where it is over no session.
+    pub fn hover(&self) -> Option<u32>
+        ensures hovered { result ≡ self.now.input.hover }
+        ensures known { IfSome result (λ s. s < most_sessions) }
+    {
+        self.state.hover()
+    }
+
     /// The focused session, below 16; none where no session has the focus.
     pub fn focus(&self) -> Option<u32>
         ensures focused { result ≡ self.now.input.focus }

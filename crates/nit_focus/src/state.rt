@@ -73,6 +73,20 @@ impl State {
         self.mode
     }
 
+    /// The column and the row of the pointer, in pixels.
+    pub(crate) fn pointer(&self) -> (u16, u16)
+        ensures { result ≡ (self.now.x, self.now.y) }
+    {
+        (self.x, self.y)
+    }
+
+    /// The hovered session.
+    pub(crate) fn hover(&self) -> Option<u32>
+        ensures { result ≡ self.now.hover }
+    {
+        self.hover
+    }
+
     /// The focused session.
     pub(crate) fn focus(&self) -> Option<u32>
         ensures { result ≡ self.now.focus }

@@ -13,6 +13,8 @@ pub mod Replay
 pub mod Projection
 pub mod WholeJournals
 pub mod Deliveries
+pub mod Live
+pub mod Steps
 pub mod Presses
 pub mod Reach
 pub mod Below

@@ -1,7 +1,7 @@
 //! Laws of journals, over plain lists.
 
 ghost use Rattle.std.specs.Prelude.{All, ◌≡◌, ◌≢◌, ◌+◌, ◌++◌, ◌∷◌, [], ℕ, List, length, ◌<◌, ◌⊎◌, true, map, Some, None};
-ghost use Rattle.nit_journal.specs.Terms.{Agrees, Call, Close, Configuration, Delivery, Device, Entry, Event, Flat, Gets, InputState, IsClickAt, IsDown, IsKillAlone, IsLegal, IsLive, IsOpen, Kill, KillsPointed, LegalFrom, Observation, Reply, Routed, State, Take, TellsFocus, TellsLeave, Xray, action_of, after, alone, alone_machine, deliveries_of, donation_of, is_accepted, is_button, is_held, is_key, is_mode_key, own_machine, projection, replay, replay_from, replies_to, route, serve, session, shots, to, under_pointer};
+ghost use Rattle.nit_journal.specs.Terms.{Agrees, AreLive, AreSteps, Call, Close, Configuration, Delivery, Device, Entry, Event, Flat, Gets, InputState, IsClickAt, IsDown, IsKillAlone, IsLegal, IsLive, IsOpen, Kill, KillsPointed, LegalFrom, Observation, Reply, Routed, State, Step, Take, TellsFocus, TellsLeave, Xray, action_of, after, after_observations, after_steps, alone, alone_machine, deliveries_of, donation_of, first_input, first_state, is_accepted, is_button, is_held, is_key, is_mode_key, opened, opening_of, own_machine, projection, replay, replay_from, replies_from, replies_to, route, serve, session, shots, since_opening, to, under_pointer, vacant_state};
 ghost use Rattle.nit_events.specs.declared.call.Reply.TheVariants as reply;
 ghost use Rattle.nit_events.specs.declared.device.Device.TheVariants as device;
 ghost use Rattle.nit_events.specs.declared.event.Event.TheVariants as event;
@@ -75,6 +75,47 @@ pub fn deliveries_go_to_live_sessions()
     ensures next { (config : Configuration) (journal : List Entry) (dev : Device)
         → IsLegal config journal → let s = replay config journal in
         All (λ d. IsLive s d.sid) (route s.config s.input s.stack dev).deliveries }
+{}
+
+/// In a state in which whoever the input knows and whoever has a view is live, a device event tells
+/// live sessions alone. States are such before the first step, and stay such along any steps.
+pub fn live_sessions_stay()
+    ensures first { (config : Configuration) → AreLive (first_state config) }
+    ensures vacant { (config : Configuration) → AreLive (vacant_state config) }
+    ensures entry { (s : State) (taken : ℕ) (e : Entry) → AreLive s → Agrees s taken e → AreLive
+        (after s e) }
+    ensures opened { (s : State) (sid : ℕ) (label : List ℕ) → AreLive s → AreLive
+        (opened sid label s) }
+    ensures steps { (s : State) (steps : List Step) → AreLive s → AreSteps s steps → AreLive
+        (after_steps s steps) }
+    ensures told { (s : State) (dev : Device) → AreLive s
+        → All (λ d. IsLive s d.sid) (route s.config s.input s.stack dev).deliveries }
+{}
+
+/// Along any steps, whatever the other sessions do and whoever opens, each session is served as if
+/// it were alone since it last opened: its replies and its machine come from the donation that it
+/// opened with, its own calls and the items that were routed to it since then. What was before its
+/// opening does not matter. A session that did not open goes on from where it was.
+pub fn seats_stand_alone()
+    ensures replies { (s : State) (steps : List Step) (x : ℕ)
+        → length s.sessions ≡ length s.config.clients → AreSteps s steps → x < length s.sessions
+        → replies_to x (since_opening x steps)
+        ≡ replies_from (opening_of s x steps) (projection x (since_opening x steps)) }
+    ensures machine { (s : State) (steps : List Step) (x : ℕ)
+        → length s.sessions ≡ length s.config.clients → AreSteps s steps → x < length s.sessions
+        → session (after_steps s steps) x
+        ≡ after_observations (opening_of s x steps) (projection x (since_opening x steps)) }
+{}
+
+/// Along any steps from a state in which the user has done nothing, each release that was routed to
+/// a session since it last opened follows a press of the same code that was routed to it since then,
+/// with no other release of it between.
+pub fn releases_follow_presses_since_opening()
+    ensures { (s : State) (steps : List Step) (x k : ℕ) (before rest : List Observation)
+        → AreLive s → s.input ≡ first_input → AreSteps s steps
+        → projection x (since_opening x steps)
+        ≡ before ++ Gets (item.Event (event.Release k)) ∷ rest
+        → IsDown k before }
 {}
 
 /// Among the items that a legal journal routes to a session, each release of a code follows a press

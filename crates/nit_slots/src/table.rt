@@ -7,7 +7,7 @@ use std::alloc::Global;
 use std::marker::Model;
 
 /// The views that one session holds, each as its handle and its slot, in the order of creation.
-/// Handles are given as 1, 2, 3 and so on, and never again.
+/// Handles are given as 1, 2, 3 and so on, and none twice before [`restart`](Table::restart).
 #[derive(Drop)]
 pub struct Table {
     pairs: Vec<(u32, u32)>,
@@ -41,6 +41,21 @@ impl Table {
             next: 1,
             most,
         })
+    }
+
+    /// The handle of the next view.
+    pub fn next(&self) -> u32
+        ensures { result ≡ self.now.next }
+    {
+        self.next
+    }
+
+    /// Handles begin at 1 again. The table holds no view.
+    pub fn restart(&mut self)
+        requires { self.old.pairs ≡ [] }
+        ensures { self.new ≡ record self.old { next = 1 } }
+    {
+        self.next = 1;
     }
 
     /// A new view: the next handle, and a slot that was free. Which of the free slots it is, is

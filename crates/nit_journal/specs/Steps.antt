@@ -1,0 +1,81 @@
+-- Steps of a server that goes on without a journal: what an entry tells, or that a session opens
+-- again.
+use Rattle.std.specs.Prelude.{◌≡◌, ◌≢◌, ℕ, ◌==◌, ◌<◌, Bool, false, List, [], ◌∷◌, ◌++◌, fold, length, map, slice_set, if◌then◌else◌}
+use Rattle.nit_journal.specs.Below.{Configuration, Entry, donation_of, list_any, member}
+use Rattle.nit_events.specs.declared.event.Status.TheVariants as status
+use Rattle.nit_journal.specs.Session.{Session, ended, first_session}
+use Rattle.nit_journal.specs.State.{State, after, first_state, session}
+use Rattle.nit_journal.specs.Replay.{Agrees}
+
+-- the client of this session has this label; all else of the configuration stays
+abbrev pub relabelled : ℕ → List ℕ → Configuration → Configuration
+relabelled sid label config =
+    record config {
+      clients = slice_set config.clients sid (record (member config sid) { label = label });
+    }
+
+-- no other session has this label
+abbrev pub IsFreeLabel : Configuration → ℕ → List ℕ → Type 0
+IsFreeLabel config sid label =
+    (t : ℕ) → t < length config.clients → t ≢ sid → (member config t).label ≢ label
+
+-- the session is the first one of its donation again, under this label; all else stays
+abbrev pub opened : ℕ → List ℕ → State → State
+opened sid label s =
+    record s {
+      config = relabelled sid label s.config;
+      sessions = slice_set s.sessions sid (first_session (donation_of s.config sid));
+    }
+
+-- before the first step, with no session open
+abbrev pub vacant_state : Configuration → State
+vacant_state config =
+    record (first_state config) {
+      sessions = map (λ m. ended status.Closed (first_session m.donation)) config.clients;
+    }
+
+-- what an entry tells was served, or a session opened under a label
+pub data Step : Type 0 where
+  Serves : Entry → Step
+  Opens : ℕ → List ℕ → Step
+
+abbrev pub after_step : State → Step → State
+after_step s (Serves e) = after s e
+after_step s (Opens sid label) = opened sid label s
+
+-- an entry agrees with the state before it, and only a session that is over opens again
+abbrev pub IsStepOf : State → Step → Type 0
+IsStepOf s (Serves e) = (taken : ℕ) × Agrees s taken e
+IsStepOf s (Opens sid label) =
+    (sid < length s.sessions) × ((session s sid).status ≢ status.Live)
+
+-- each step is one of the state that those before it lead to
+abbrev pub AreSteps : State → List Step → Type 0
+AreSteps s [] = Unit {0}
+AreSteps s (t ∷ ts) = IsStepOf s t × AreSteps (after_step s t) ts
+
+-- the state after all steps of a list
+abbrev pub after_steps : State → List Step → State
+after_steps s steps = fold after_step s steps
+
+-- ---- one session along steps
+
+-- the step opens this session
+abbrev pub is_opening : ℕ → Step → Bool
+is_opening x (Serves e) = false
+is_opening x (Opens sid label) = sid == x
+
+-- what was done since the session last opened, behind what was done before
+abbrev pub since : ℕ → List Entry → List Step → List Entry
+since x done [] = done
+since x done (Serves e ∷ rest) = since x (done ++ e ∷ []) rest
+since x done (Opens sid label ∷ rest) = if sid == x then since x [] rest else since x done rest
+
+-- the entries since the session last opened, or all where it did not open
+abbrev pub since_opening : ℕ → List Step → List Entry
+since_opening x steps = since x [] steps
+
+-- the machine that the session last opened with, or the one that it had where it did not open
+abbrev pub opening_of : State → ℕ → List Step → Session
+opening_of s x steps =
+    if list_any (is_opening x) steps then first_session (donation_of s.config x) else session s x
