@@ -1,0 +1,3 @@
+pub mod Desktop
+pub mod Below
+pub mod Terms

@@ -1,0 +1,127 @@
+//! What can be read of a desktop.
+
+ghost use Rattle.std.specs.Prelude.{◌≡◌, ◌<◌, ◌⊎◌, IfSome, IsTrue, length, ⊥, false};
+ghost use Rattle.nit_desktop.specs.Terms.{IsConfiguration, IsFreeLabel, member, refusal, session};
+
+use crate::desktop::Desktop;
+use nit_events::{Call, Mode, Reply, Status};
+use nit_glyph::Label;
+use nit_word::Glass;
+
+impl<G: Glass + Drop> Desktop<G> {
+    /// How many more entries it serves.
+    pub fn left(&self) -> u64
+        ensures { result ≡ self.now.left }
+    {
+        self.left
+    }
+
+    /// What holds of every desktop.
+    pub fn facts(&self)
+        ensures config { IsConfiguration self.now.state.config }
+        ensures sessions { length self.now.state.sessions ≡ length self.now.state.config.clients }
+        ensures glasses { length self.now.glasses ≡ length self.now.state.config.clients }
+    {
+        self.screen.facts();
+    }
+
+    /// The refusal that a call of the session `sid` meets. None where it is accepted.
+    pub fn refused(&self, sid: u32, call: &Call) -> Option<Reply>
+        requires { sid < length self.now.state.sessions }
+        ensures { result ≡ refusal (session self.now.state sid) call.now }
+    {
+        self.screen.server().refused(sid, call)
+    }
+
+    /// How many sessions there are, 1..=16.
+    pub fn sessions(&self) -> u32
+        ensures { result ≡ length self.now.state.sessions }
+    {
+        self.screen.server().counts().sessions
+    }
+
+    /// Whether the session `sid` is served, or has ended.
+    pub fn status(&self, sid: u32) -> Status
+        requires { sid < length self.now.state.sessions }
+        ensures { result ≡ (session self.now.state sid).status }
+    {
+        self.screen.server().status(sid)
+    }
+
+    /// How many events wait for the session `sid`, at most 64.
+    pub fn waiting(&self, sid: u32) -> u32
+        requires { sid < length self.now.state.sessions }
+        ensures { result ≡ length (session self.now.state sid).queue }
+    {
+        self.screen.server().left(sid)
+    }
+
+    /// How many events the session `sid` has lost since it opened, since 64 were waiting.
+    pub fn lost(&self, sid: u32) -> u64
+        requires { sid < length self.now.state.sessions }
+        ensures { result ≡ (session self.now.state sid).lost }
+    {
+        self.screen.server().lost(sid)
+    }
+
+    /// The handle of the next view of the session `sid`, from 1.
+    pub fn next_handle(&self, sid: u32) -> u32
+        requires { sid < length self.now.state.sessions }
+        ensures { result ≡ (session self.now.state sid).next }
+    {
+        self.screen.server().next_handle(sid)
+    }
+
+    /// The label of the session `sid`.
+    pub fn label(&self, sid: u32) -> Label
+        requires { sid < length self.now.state.sessions }
+        ensures { result ≡ (member self.now.state.config sid).label }
+    {
+        self.screen.server().label(sid)
+    }
+
+    /// Whether no session but `sid` has this label.
+    pub fn is_free(&self, sid: u32, label: &Label) -> bool
+        ensures free { IsTrue result → IsFreeLabel self.now.state.config sid label.now }
+        ensures taken { result ≡ false → IsFreeLabel self.now.state.config sid label.now → ⊥ }
+    {
+        self.screen.server().is_free(sid, label)
+    }
+
+    /// The mode of the user's input.
+    pub fn mode(&self) -> Mode
+        ensures { result ≡ self.now.state.input.mode }
+    {
+        self.screen.server().mode()
+    }
+
+    /// The session that has the focus. None where no session has it.
+    pub fn focus(&self) -> Option<u32>
+        ensures focus { result ≡ self.now.state.input.focus }
+        ensures known { IfSome result (λ sid. sid < length self.now.state.sessions) }
+    {
+        self.screen.server().focus()
+    }
+
+    /// The session that the pointer was last told to. None where it is over no session.
+    pub fn hover(&self) -> Option<u32>
+        ensures hover { result ≡ self.now.state.input.hover }
+        ensures known { IfSome result (λ sid. sid < length self.now.state.sessions) }
+    {
+        self.screen.server().hover()
+    }
+
+    /// The column and the row of the pointer, in pixels.
+    pub fn pointer(&self) -> (u16, u16)
+        ensures { result ≡ (self.now.state.input.x, self.now.state.input.y) }
+    {
+        self.screen.server().pointer()
+    }
+
+    /// The width, 1..=1024, and the height, 1..=768, of the screen, in pixels.
+    pub fn size(&self) -> (u32, u32)
+        ensures { result ≡ (self.now.state.config.width, self.now.state.config.height) }
+    {
+        self.screen.server().size()
+    }
+}
