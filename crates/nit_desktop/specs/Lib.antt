@@ -1,3 +1,4 @@
+pub mod Blank
 pub mod Desktop
 pub mod Below
 pub mod Terms

@@ -9,6 +9,7 @@
 //! All memory is taken by [`Desktop::new`]. A refused call changes nothing.
 #![tactic(auto)]
 
+mod blank;
 mod desktop;
 
 pub use desktop::Desktop;

@@ -38,4 +38,23 @@ impl<G: Glass + Drop> Desktop<G> {
             left: MOST_ENTRIES,
         })
     }
+
+    /// The same screen with no session open: each is over as if its client had closed it, and opens
+    /// when a client comes.
+    pub fn vacant(alloc: Global, config: &Config, glasses: Vec<G>) -> Result<Desktop<G>, NoMemory>
+        requires config { IsConfiguration config.now }
+        requires glasses { length glasses.items ≡ length config.now.clients }
+        requires tables { (t : ℕ) → t < length config.now.clients → IsGlass config.now t
+            (glass_in (map G.sight glasses.items) t) }
+        ensures state { IfOk result (λ d. d.state ≡ vacant_state config.now) }
+        ensures left { IfOk result (λ d. d.left ≡ 4611686018427387904) }
+        ensures raw { IfOk result (λ d. d.raw ≡ replicate
+            (config.now.width * config.now.height) bare_word) }
+        ensures sights { IfOk result (λ d. map G.sight d.glasses ≡ map G.sight glasses.items) }
+        ensures rests { IfOk result (λ d. map G.rest d.glasses ≡ map G.rest glasses.items) }
+    {
+        let mut desktop = Desktop::new(alloc, config, glasses)?;
+        desktop.close_all();
+        Ok(desktop)
+    }
 }

@@ -1,0 +1,35 @@
+//! Clients that come.
+
+ghost use Rattle.std.specs.Prelude.{◌≡◌, None, Some, Ok, Err};
+ghost use Rattle.nit_host.specs.Terms.{Unseated, seated, unseated};
+
+use crate::host::Host;
+use crate::refusal::Unseated;
+use crate::sheet::Sheet;
+use nit_events::Status;
+use nit_glyph::Label;
+
+impl Host {
+    /// Gives a free seat to a client, under a label that no other seat has or had last. The client
+    /// begins with the seat's donation, no view, no buffer and no event; its handles begin at 1, and
+    /// its words are 0. Nothing of an earlier client of the seat is left, and nothing else changes.
+    ///
+    /// # Errors
+    ///
+    /// `NoSeat`, `Taken` and `LabelTaken`, the first of them that applies.
+    pub fn seat(&mut self, seat: u32, label: Label) -> Result<(), Unseated>
+        ensures seated { unseated self.old seat label ≡ None
+            → (result ≡ Ok tt) × (self.new ≡ seated seat label self.old) }
+        ensures unseated { (why : Unseated) → unseated self.old seat label ≡ Some why
+            → (result ≡ Err why) × (self.new ≡ self.old) }
+    {
+        if let Some(why) = self.unseated(seat, &label) {
+            return Err(why);
+        }
+        let mut sheet = self.take_sheet(seat);
+        sheet.wipe();
+        self.desktop.reopen(seat, label, &mut sheet);
+        self.last = None;
+        Ok(())
+    }
+}

@@ -1,0 +1,23 @@
+//! A display server that a host program drives, with the words of its clients.
+//!
+//! A host has up to 16 seats. A client comes to a free one under a label ([`Host::seat`]), calls
+//! ([`Host::call`]), hands in words ([`Host::refresh`]) and goes. What the user does is one call
+//! ([`Host::input`]), and so is a look at what of the frame changed ([`Host::look`]).
+//!
+//! What contracts see of a host is a value of its own, [`HostModel`](specs::Host): the state, the
+//! words that each seat's client handed in, and the last entry. Each call answers and leaves what
+//! the definitions say of it, and nothing else. The frame is a function of that value: each pixel
+//! shows, as the mode has it, the word that its session handed in last for the place, so that no
+//! word is ever stale.
+//!
+//! All memory is taken at opening. A call that is not served changes nothing.
+#![tactic(auto)]
+
+mod host;
+mod plan;
+mod refusal;
+mod sheet;
+
+pub use host::Host;
+pub use plan::{SeatPlan, plan};
+pub use refusal::{PlanError, Unseated, Unserved};

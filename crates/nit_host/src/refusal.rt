@@ -1,0 +1,42 @@
+//! Why a host does not serve.
+
+/// Why a call of a seat's client, or a device event, was not served.
+#[derive(Clone, Copy, Debug, PartialEq, Eq)]
+pub enum Unserved {
+    /// There is no such seat.
+    NoSeat,
+    /// A key's or a button's code is over 767, or a turn of the wheel is -128.
+    BadDevice,
+    /// The words that were handed in are fewer than the buffer has.
+    ShortWords,
+    /// The client has had 2^32 - 2 views, and its handles are used up.
+    HandlesUsedUp,
+    /// The host has served 2^62 entries.
+    WornOut,
+}
+
+/// Why a client was not given a seat.
+#[derive(Clone, Copy, Debug, PartialEq, Eq)]
+pub enum Unseated {
+    /// There is no such seat.
+    NoSeat,
+    /// A client sits there.
+    Taken,
+    /// Another seat has the label, or had it last.
+    LabelTaken,
+}
+
+/// Why a plan of a screen and its seats is refused.
+#[derive(Clone, Copy, Debug, PartialEq, Eq)]
+pub enum PlanError {
+    /// Memory ran out.
+    NoMemory,
+    /// The screen is not 1..=1024 pixels wide and 1..=768 high, or has a bar with fewer than 8 rows.
+    Screen,
+    /// There are not 1 to 16 seats.
+    Seats,
+    /// A donation is not 256..=8,388,608 units.
+    Donation,
+    /// A layer is over 7.
+    Layer,
+}

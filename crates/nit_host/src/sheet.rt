@@ -1,0 +1,127 @@
+//! The words of one seat, as they were handed in.
+
+ghost use Rattle.std.specs.Prelude.{◌≡◌, ◌+◌, ◌*◌, ◌<◌, ◌≤◌, ◌%◌, ◌^◌, All, IfOk, length, slice_index, vec_capacity, ℕ};
+ghost use Rattle.nit_host.specs.Terms.{IsWord, SheetModel, blank_sheet, filled_up, is_between, plain_sight, set_where, told_words};
+
+use nit_rect::NoMemory;
+use nit_word::Glass;
+use std::alloc::Global;
+use std::marker::Model;
+
+/// A word of a pixel is below this number.
+const WORDS: u32 = 1 << 24;
+
+/// The glass of a seat. Words from the first place that was never reached on are 0 and are not kept,
+/// so that a blank sheet takes no time, and one without room takes no memory: it is nothing but a
+/// size.
+#[derive(Drop)]
+pub(crate) struct Sheet {
+    owner: u32,
+    size: usize,
+    reached: Vec<u32>,
+}
+
+impl Model for Sheet {
+    ghost use Rattle.std.specs.Prelude.{◌≤◌, All, length, vec_capacity};
+    ghost use Rattle.nit_host.specs.Below.{IsWord, filled_up, plain_sight};
+    ghost use Rattle.nit_host.specs.Sheet.{SheetModel};
+
+    ghost Value = { SheetModel };
+
+    ghost view = { λ s. record {
+      sight = plain_sight s.owner (filled_up s.size s.reached.items);
+      room = vec_capacity s.reached;
+    } };
+
+    ghost invariant = { λ s. All IsWord s.reached.items × (length s.reached.items ≤ s.size) };
+}
+
+impl Sheet {
+    /// A sheet of so many words, which are 0, with room for them. Only this takes memory.
+    pub(crate) fn new(alloc: Global, owner: u32, size: usize) -> Result<Sheet, NoMemory>
+        ensures sight { IfOk result (λ s. s.sight ≡ blank_sheet owner size) }
+        ensures room { IfOk result (λ s. size ≤ s.room) }
+    {
+        Ok(Sheet {
+            owner,
+            size,
+            reached: Vec::with_capacity(alloc, size)?,
+        })
+    }
+
+    /// A sheet that is nothing but its size: its words are 0, and it has no room for others.
+    pub(crate) fn hollow(alloc: Global, owner: u32, size: usize) -> Sheet
+        ensures { result.sight ≡ blank_sheet owner size }
+    {
+        Sheet {
+            owner,
+            size,
+            reached: Vec::new(alloc),
+        }
+    }
+
+    /// Each word is 0 again.
+    pub(crate) fn wipe(&mut self)
+        ensures sight { self.new.sight ≡ blank_sheet self.old.sight.owner self.old.sight.size }
+        ensures room { self.new.room ≡ self.old.room }
+    {
+        self.reached.clear();
+    }
+
+    /// Sets the words at the places from `from` to before `to` to the low three bytes of those that
+    /// stand there in `words`, which has these places, as the sheet has.
+    pub(crate) fn hand_in(&mut self, from: usize, to: usize, words: &[u32])
+        requires order { from ≤ to }
+        requires words { to ≤ length words.now }
+        requires places { to ≤ self.old.sight.size }
+        requires room { self.old.sight.size ≤ self.old.room }
+        ensures sight { self.new.sight ≡ plain_sight self.old.sight.owner (set_where
+            (is_between from to) (λ n. slice_index words.now n % 2 ^ 24)
+            (told_words self.old.sight.words)) }
+        ensures room { self.old.sight.size ≤ self.new.room }
+    {
+        self.reach(to);
+        set_row(&mut self.reached.as_mut_slice()[from..to], &words[from..to]);
+    }
+
+    /// At least so many words are kept. There is room for them.
+    fn reach(&mut self, count: usize)
+        requires places { count ≤ self.old.sight.size }
+        requires room { self.old.sight.size ≤ self.old.room }
+        ensures sight { self.new.sight ≡ self.old.sight }
+        ensures room { self.old.sight.size ≤ self.new.room }
+    {
+        if self.reached.len() < count {
+            let grown = self.reached.resize(count, 0);
+            let fits = grown.is_ok();
+            prove!(fits);
+        }
+    }
+}
+
+/// Sets the words of a row to the low three bytes of others, as many.
+fn set_row(row: &mut [u32], words: &[u32])
+    requires { length row.old ≡ length words.now }
+    ensures count { length row.new ≡ length row.old }
+    ensures words { (j : ℕ) → j < length row.old
+        → slice_index row.new j ≡ slice_index words.now j % 2 ^ 24 }
+{
+    'places: for j in 0..row.len() {
+        row[j] = words[j] % WORDS;
+    }
+}
+
+impl Glass for Sheet {
+    type Rest = ();
+
+    ghost sight = { λ s. s.sight };
+
+    ghost rest = { λ _. tt };
+
+    fn load(&mut self, i: usize) -> u32 {
+        match self.reached.get(i) {
+            Some(word) => *word,
+            None => 0,
+        }
+    }
+}
