@@ -390,8 +390,7 @@ module _ (x k : ℕ) where
   still_held s taken (entry.Final ∷ rest) b legal was holds =
       subst (λ (js : List Entry). Holds (replay_from s js).input → down_after k b (projection x js) ≡ true) (sym legal) was holds
 
-pub receiver_holds : (config : Configuration) (journal : List Entry) (x k : ℕ) → IsLegal config journal → let s = replay config journal in
-    s.input.receiver ≡ Some x → Input.is_held s.input k ≡ true → IsDown k (projection x journal)
+pub receiver_holds : (config : Configuration) (journal : List Entry) (x k : ℕ) → IsLegal config journal → let s = replay config journal in s.input.receiver ≡ Some x → Input.is_held s.input k ≡ true → IsDown k (projection x journal)
 receiver_holds config journal x k legal = λ receives held.
     down_is k false [] (projection x journal) (λ e. cc) (still_held x k (first_state config) 0 journal false legal (λ t. let none = t.0 in cc) (receives, held))
 

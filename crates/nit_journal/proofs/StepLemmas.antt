@@ -92,7 +92,7 @@ along s (Opens sid label ∷ rest) x donation m entries each are lt is h =
         → IsAlone (after_steps (opened sid label s) rest) x (machine_of donation m (b || list_any (is_opening x) rest)) (if b then since x [] rest else since x entries rest)
     go true e later =
         let own : session (opened sid label s) x ≡ first_session donation =
-            subst (λ (y : ℕ). session (opened sid label s) y ≡ first_session (donation_of s.config y)) (eqb-true sid x e) (begun s sid label are.0.0) ∙ ap first_session is in
+        subst (λ (y : ℕ). session (opened sid label s) y ≡ first_session (donation_of s.config y)) (eqb-true sid x e) (begun s sid label are.0.0) ∙ ap first_session is in
         subst (λ (n : Session). IsAlone (after_steps (opened sid label s) rest) x n (since x [] rest)) (reopened donation m (list_any (is_opening x) rest))
         (later (first_session donation) [] (record { machine = own; replies = refl }))
     go false e later =
