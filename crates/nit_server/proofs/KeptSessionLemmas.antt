@@ -6,6 +6,11 @@ use Rattle.nit_server.proofs.Basics.{AccountModel, Event, Session, Status, Table
 abbrev pub handles_of : List (ℕ × ℕ) → List ℕ
 handles_of pairs = map (λ p. p.0) pairs
 
+-- no handles, no pairs
+pub none_of : (pairs : List (ℕ × ℕ)) → handles_of pairs ≡ [] → pairs ≡ []
+none_of [] e = refl
+none_of (p ∷ pairs) e = cc
+
 -- a session has the views that its table holds
 pub has_as_held : (pairs : List (ℕ × ℕ)) (h : ℕ) → list_any (λ k. k == h) (handles_of pairs) ≡ has_handle pairs h
 has_as_held [] h = refl

@@ -1,11 +1,12 @@
 -- What answers use: all that lemmas use, and this crate's lemmas.
-pub use Rattle.nit_server.proofs.Basics.{All_found, Close, Configuration, Delivery, Destroy, Done, IfNone, IsServed, IsServer, IsServerInput, IsSlotView, IsSomeAnd, KeptSessionModel, MayLose, Routing, ServerModel, Session, SlotsModel, StackModel, accepted, ap, client_in, delivered_length, delivery, ended, first_kept_session, first_session, has_handle, has_view, is_of_session, is_slot, is_taken, kept_session_at, length-map, length-set, list_any, name_of, owner_is, pairs_of, refusal, routed_as, routing_of, server_of, session_in, slot_of, slots_of_all, subst, sym, to_z-of_z, without_slot, without_view, without_views, ◌∙◌}
-pub use Rattle.nit_server.proofs.KeptSessionLemmas.{has_as_held, session_without}
+pub use Rattle.nit_server.proofs.Basics.{All_found, Close, Configuration, Delivery, Destroy, Done, IfNone, IsServed, IsServer, IsServerInput, IsSlotView, IsSomeAnd, KeptSessionModel, MayLose, Routing, ServerModel, Session, SlotsModel, StackModel, accepted, ap, client_in, delivered_length, delivery, ended, first_kept_session, first_session, has_handle, has_view, is_of_session, is_slot, is_taken, kept_session_at, length-map, length-set, list_any, member, name_of, owner_is, pairs_of, refusal, routed_as, routing_of, server_of, session_in, slot_of, slots_of_all, subst, sym, to_z-of_z, without_slot, without_view, without_views, ◌∙◌}
+pub use Rattle.nit_server.proofs.KeptSessionLemmas.{has_as_held, none_of, session_without}
 pub use Rattle.nit_server.proofs.LostEvents.{each_one, may_lose}
 pub use Rattle.nit_server.proofs.NewViews.{IsNewView, created, new_name, view_comes}
+pub use Rattle.nit_server.proofs.SeatLemmas.{begun, one_more, seat_holds, seat_leaves}
 pub use Rattle.nit_server.proofs.ServedCalls.{is_serving}
 pub use Rattle.nit_server.proofs.ServerInputLemmas.{attends_less, is_client, is_few, no_owner, pointed_is, routed_is}
-pub use Rattle.nit_server.proofs.ServerLemmas.{has_member, machine_is, own_member, slot_is_free}
+pub use Rattle.nit_server.proofs.ServerLemmas.{has_member, machine_is, no_client, own_member, slot_is_free}
 pub use Rattle.nit_server.proofs.ServerOpeningLemmas.{opened_server, opened_state}
 pub use Rattle.nit_server.proofs.SessionCalls.{buffered, own_machine, taken, told, upgraded}
 pub use Rattle.nit_server.proofs.SlotLemmas.{slot_of-none}

@@ -12,6 +12,7 @@ pub mod KeptSessionLemmas
 pub mod ViewCalls
 pub mod ViewsGone
 pub mod LostEvents
+pub mod SeatLemmas
 pub mod Basics
 pub mod Lemmas
 pub mod ForCallers

@@ -25,7 +25,8 @@ pub own_member : {user : InputState} (config : Configuration) (stack : StackMode
     → (m : KeptSessionModel) → m ≡ get_or members sid m → m ≡ kept_session_at members sid
 own_member config stack members sid s e lt m is = get_or_read_under members sid (length members) m no_kept_session is (has_member config stack members sid s e lt) refl
 
-abbrev no_client : Member
+-- the client of no session
+abbrev pub no_client : Member
 no_client = record { label = []; donation = 0; script = []; layer = 0; clicks = false }
 
 -- the layers of the stack are those of the configuration

@@ -1,5 +1,5 @@
 -- The words of the library and of the crates below that are used here, and the crate's plain types.
-pub use Rattle.nit_config.specs.Configuration.{Configuration, bar_rows, is_file_name, member}
+pub use Rattle.nit_config.specs.Configuration.{Configuration, bar_rows, donation_of, is_file_name, member}
 pub use Rattle.nit_config.specs.ConfigurationRanges.{IsConfiguration, IsMember}
 pub use Rattle.nit_config.specs.declared.config.Member.{Member}
 pub use Rattle.nit_events.specs.Input.{InputState, Routing, deliveries_of, delivery, first_input, forget, pointer_after, routed_as, routing, unless_it_is}
@@ -22,6 +22,7 @@ pub use Rattle.nit_journal.specs.Projection.{reserved, views_in_use}
 pub use Rattle.nit_journal.specs.Session.{Answered, Session, accepted, answered, by_call, by_handle, by_life, by_quota, by_refusal, by_status, ended, first_session, has_view, is_side, queued, receive, refusal, serve, taking, unless}
 pub use Rattle.nit_journal.specs.StackAfter.{after_accepted, is_accepted, stack_after_call}
 pub use Rattle.nit_journal.specs.State.{State, after, clicks_on, delivered, first_state, input_after_call, layer, route, session, session_in}
+pub use Rattle.nit_journal.specs.Steps.{IsFreeLabel, relabelled}
 pub use Rattle.nit_rect.specs.Limits.{most_sessions, most_side, most_slots, most_units}
 pub use Rattle.nit_rect.specs.Rectangle.{IsPlace, Rectangle, is_length, is_place, is_rectangle, rectangle}
 pub use Rattle.nit_rect.specs.declared.point.Point.{Point}

@@ -4,6 +4,7 @@ pub use Rattle.nit_stack.specs.Stack
 pub use Rattle.nit_journal.specs.Session
 pub use Rattle.nit_journal.specs.State
 pub use Rattle.nit_journal.specs.Replay
+pub use Rattle.nit_journal.specs.Steps
 pub use Rattle.nit_journal.specs.Deliveries
 pub use Rattle.nit_journal.specs.Presses
 pub use Rattle.nit_journal.specs.Projection
@@ -12,5 +13,6 @@ pub mod Server
 pub mod ServerInput
 pub mod ServerOpening
 pub mod ViewsTaken
+pub mod Seats
 pub mod Below
 pub mod Terms

@@ -213,6 +213,24 @@ impl Member {
         self.height = 0;
     }
 
+    /// The session is the first one of this donation again, 256..=8388608 units, once it has no
+    /// view.
+    pub(crate) fn open(&mut self, donation: u32)
+        requires donation { IsDonation donation }
+        requires pairs { self.old.pairs ≡ [] }
+        requires most { self.old.most ≡ view_slots donation }
+        ensures { self.new
+            ≡ record { session = first_session donation; pairs = []; most = view_slots donation } }
+    {
+        self.account = Account::new(donation);
+        self.table.restart();
+        self.queue.clear();
+        self.status = Status::Live;
+        self.width = 0;
+        self.height = 0;
+        self.lost = 0;
+    }
+
     /// A session that is live gets an event.
     pub(crate) fn tell(&mut self, e: Event)
         requires { self.old.session.lost < 2 ^ 64 - 1 }
@@ -232,6 +250,13 @@ impl Member {
         if !self.queue.offer(e) {
             self.lost += 1;
         }
+    }
+
+    /// The handle of the next view.
+    pub(crate) fn next_handle(&self) -> u32
+        ensures { result ≡ self.now.session.next }
+    {
+        self.table.next()
     }
 
     /// How many views the session has.

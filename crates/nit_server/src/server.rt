@@ -9,6 +9,7 @@ mod copy;
 mod input;
 mod opening;
 mod reading;
+mod seats;
 mod sessions;
 mod views;
 

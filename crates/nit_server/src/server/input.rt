@@ -25,6 +25,21 @@ impl Server {
         self.focus.focus()
     }
 
+    /// The column and the row of the pixel under the pointer.
+    pub fn pointer(&self) -> (u16, u16)
+        ensures { result ≡ (self.now.input.x, self.now.input.y) }
+    {
+        self.focus.pointer()
+    }
+
+    /// The session that the pointer is over, as it was last told. None where it is over no session.
+    pub fn hover(&self) -> Option<u32>
+        ensures hover { result ≡ self.now.input.hover }
+        ensures known { IfSome result (λ sid. sid < length self.now.sessions) }
+    {
+        self.focus.hover()
+    }
+
     /// A device event is routed: the input goes on, and nobody is told anything yet.
     pub fn route(&mut self, dev: Device) -> Routed
         requires { IsDevice dev }

@@ -1,10 +1,6 @@
 use Rattle.std.proofs.Common.{List, [], ap, get_or-set_same, length, map, refl, set, subst, sym, ℕ, ◌<◌, ◌∙◌, ◌∷◌, ◌≡◌}
-use Rattle.nit_server.proofs.Lemmas.{KeptSessionModel, ServerModel, Session, attends_less, ended, first_session, has_member, kept_session_at, length-set, machine_is, own_member, server_of, session_ends, session_in, session_over, without_views}
+use Rattle.nit_server.proofs.Lemmas.{KeptSessionModel, ServerModel, Session, attends_less, ended, first_session, has_member, kept_session_at, length-set, machine_is, none_of, own_member, server_of, session_ends, session_in, session_over, without_views}
 use Rattle.nit_server.proofs.server.Server.end_session.Goals as goal
-
-none_of : (pairs : List (ℕ × ℕ)) → map (λ p. p.0) pairs ≡ [] → pairs ≡ []
-none_of [] e = refl
-none_of (p ∷ pairs) e = cc
 
 still_there : (sid : ℕ) (s t : ServerModel) → t ≡ without_views sid s → sid < length s.sessions → sid < length t.sessions
 still_there sid s t e lt =
