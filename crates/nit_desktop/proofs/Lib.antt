@@ -1,2 +1,3 @@
 pub mod DesktopLemmas
+pub mod Openings
 pub mod Basics

@@ -3,6 +3,7 @@
 use nit_word::Glass;
 
 /// A glass that tells nothing but its owner and its size. Each word that is loaded through it is 0.
+#[derive(Drop)]
 pub(crate) struct Blank {
     pub(crate) owner: u32,
     pub(crate) size: usize,
