@@ -1,0 +1,110 @@
+-- A desktop on which nothing was done yet, whose sessions are closed one after the other.
+use Rattle.std.proofs.Common.{Bool, List, [], ap, arith, cond, false, get_or, get_or-set_other, get_or-set_same, inl, inr, length, map, refl, set, subst, suc, sym, true, zero, ℕ, ◌+◌, ◌*◌, ◌<◌, ◌==◌, ◌∙◌, ◌≡◌, ◌≤◌, ◌≢◌}
+use Rattle.std.proofs.Math.ListN.{get_or-map, length-set}
+use Rattle.std.proofs.lemmas.List.{length-map}
+use Rattle.nit_desktop.proofs.Basics.{Configuration, Entry, Member, Painted, Reply, Session, Sight, State, after, cases_eq, clean_seen, clean_words, dirty, ended, ext_get_or, first_input, first_session, first_state, is_accepted, pixel, pixel_count, serve, serve_accepted, session, session_in, source_at, vacant_state}
+use Rattle.nit_events.specs.declared.call.Call.TheVariants as call
+use Rattle.nit_events.specs.declared.call.Reply.TheVariants as reply
+use Rattle.nit_events.specs.declared.entry.Entry.TheVariants as entry
+use Rattle.nit_events.specs.declared.event.Status.TheVariants as status
+use Rattle.nit_journal.specs.Session.{Answered}
+use Rattle.nit_journal.specs.StackAfter.{stack_after_call}
+use Rattle.nit_stack.specs.declared.view.View.{View}
+
+abbrev no_client : Member
+no_client = record { label = []; donation = 0; script = []; layer = 0; clicks = false }
+
+-- a session that just opened closes
+abbrev pub closed_first : ℕ → Session
+closed_first d = ended status.Closed (first_session d)
+
+bare_still : (layers : ℕ → ℕ) (sid : ℕ) (r : Reply) → stack_after_call layers sid call.Close r [] ≡ []
+unfolding stack_after_call
+bare_still layers sid r = go (is_accepted r)
+  where
+    go : (b : Bool) → cond {A = List View} b [] [] ≡ []
+    go true = refl
+    go false = refl
+
+module _ (s : State) (sid d : ℕ) (r : Reply) (first : session s sid ≡ first_session d) (bare : s.stack ≡ []) (idle : s.input ≡ first_input) (answer : r ≡ (serve (session s sid) call.Close).reply) where
+  served : serve (session s sid) call.Close ≡ record { reply = reply.Done; session = closed_first d }
+  served = ap (λ (t : Session). serve t call.Close) first ∙ serve_accepted (first_session d) call.Close refl
+
+  done : r ≡ reply.Done
+  done = answer ∙ ap (λ (a : Answered). a.reply) served
+
+  pub closes : after s (entry.Call sid call.Close r) ≡ record s { sessions = set s.sessions sid (closed_first d) }
+  closes = λ i. record s {
+    sessions = set s.sessions sid (ap (λ (a : Answered). a.session) served i);
+    stack = ((λ j. stack_after_call (Rattle.nit_journal.specs.State.layer s.config) sid call.Close r (bare j)) ∙ bare_still (Rattle.nit_journal.specs.State.layer s.config) sid r ∙ sym bare) i;
+    input = ((λ j. Rattle.nit_journal.specs.State.input_after_call sid call.Close (done j) (idle j)) ∙ sym idle) i;
+  }
+
+  -- no pixel is dirty
+  clean : (s' : State) (k : ℕ) → dirty s (entry.Call sid call.Close r) s' (pixel s.config.width k) ≡ false
+  clean s' k = rw (done, bare) refl
+
+  pub closes_clean : (s' : State) (a b : ℕ → Sight) (raw raw' : List ℕ) → Painted s (entry.Call sid call.Close r) s' a b raw raw' → length raw' ≡ length raw → raw' ≡ raw
+  closes_clean s' a b raw raw' painted long = clean_words (source_at s') _ (pixel_count s) a b raw raw' (clean s') long painted
+
+  pub closes_unseen : (s' : State) (a b : ℕ → Sight) (raw raw' : List ℕ) → Painted s (entry.Call sid call.Close r) s' a b raw raw' → (t : ℕ) → b t ≡ a t
+  closes_unseen s' a b raw raw' painted = clean_seen (source_at s') _ (pixel_count s) a b raw raw' (clean s') painted
+
+-- ---- all of them
+
+-- those before n are closed, and those from n on have just opened
+pub record AreClosedTo (config : Configuration) (n : ℕ) (s : State) : Type 0 where
+  pub configured : s.config ≡ config
+  pub count : length s.sessions ≡ length config.clients
+  pub closed : (t : ℕ) → t < n → t < length config.clients → session s t ≡ closed_first (Rattle.nit_config.specs.Configuration.member config t).donation
+  pub first : (t : ℕ) → n ≤ t → session s t ≡ first_session (Rattle.nit_config.specs.Configuration.member config t).donation
+  pub bare : s.stack ≡ []
+  pub idle : s.input ≡ first_input
+
+pub none_closed : (config : Configuration) (s : State) → s ≡ first_state config → AreClosedTo config 0 s
+none_closed config s is = record {
+  configured = ap (λ (t : State). t.config) is;
+  count = ap (λ (t : State). length t.sessions) is ∙ length-map config.clients (λ (m : Member). first_session m.donation);
+  closed = λ t none. absurd (omega (arith, none));
+  first = λ t l. ap (λ (u : State). session u t) is ∙ get_or-map (λ (m : Member). first_session m.donation) config.clients t no_client;
+  bare = ap (λ (t : State). t.stack) is;
+  idle = ap (λ (t : State). t.input) is;
+}
+
+pub one_closed : (config : Configuration) (n d : ℕ) (s s' : State) → AreClosedTo config n s → n < length config.clients → d ≡ (Rattle.nit_config.specs.Configuration.member config n).donation
+    → s' ≡ record s { sessions = set s.sessions n (closed_first d) } → AreClosedTo config (n + 1) s'
+one_closed config n d s s' h lt donated is = record {
+  configured = ap (λ (t : State). t.config) is ∙ h.configured;
+  count = ap (λ (t : State). length t.sessions) is ∙ length-set s.sessions n (closed_first d) ∙ h.count;
+  closed = λ t below there.
+      elim (cases_eq t n) [
+        | inl e ↦ ap (λ (u : State). session u t) is ∙ ap (λ (m : ℕ). session_in (set s.sessions n (closed_first d)) m) e
+            ∙ get_or-set_same s.sessions n (closed_first d) (first_session 0) (subst (λ (m : ℕ). n < m) (sym h.count) lt)
+            ∙ ap closed_first donated ∙ ap (λ (m : ℕ). closed_first (Rattle.nit_config.specs.Configuration.member config m).donation) (sym e)
+        | inr other ↦ ap (λ (u : State). session u t) is ∙ get_or-set_other s.sessions n t (closed_first d) (first_session 0) other ∙ h.closed t (omega (arith, below, other)) there
+      ];
+  first = λ t l. ap (λ (u : State). session u t) is ∙ get_or-set_other s.sessions n t (closed_first d) (first_session 0) (λ e. omega (arith, l, e)) ∙ h.first t (omega (arith, l));
+  bare = ap (λ (t : State). t.stack) is ∙ h.bare;
+  idle = ap (λ (t : State). t.input) is ∙ h.idle;
+}
+
+pub all_closed : (config : Configuration) (s : State) → AreClosedTo config (length config.clients) s → s ≡ vacant_state config
+all_closed config s h = λ i. record {
+  config = h.configured i;
+  sessions = same i;
+  stack = h.bare i;
+  input = h.idle i;
+}
+  where
+    wanted : List Session
+    wanted = map (λ m. closed_first m.donation) config.clients
+
+    same : s.sessions ≡ wanted
+    same = ext_get_or (first_session 0) s.sessions wanted (h.count ∙ sym (length-map config.clients (λ (m : Member). closed_first m.donation)))
+        (λ t l.
+        let there : t < length config.clients = subst (λ (m : ℕ). t < m) h.count l in
+        h.closed t there there ∙ sym (ap (λ (m : Member). closed_first m.donation) refl) ∙ sym (at t there))
+      where
+        at : (t : ℕ) → t < length config.clients → get_or wanted t (first_session 0) ≡ closed_first (Rattle.nit_config.specs.Configuration.member config t).donation
+        at t there = Rattle.std.proofs.lemmas.List.get_or_default wanted t (first_session 0) (closed_first 0) (subst (λ (m : ℕ). t < m) (sym (length-map config.clients (λ (m : Member). closed_first m.donation))) there)
+            ∙ get_or-map (λ (m : Member). closed_first m.donation) config.clients t no_client
