@@ -20,6 +20,8 @@ pub mod SessionEnds
 pub mod SessionViews
 pub mod StackRoom
 pub mod StackFacts
+pub mod Openings
+pub mod SeatLemmas
 pub mod Basics
 pub mod Lemmas
 pub mod ForCallers

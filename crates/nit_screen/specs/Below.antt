@@ -1,7 +1,8 @@
 -- The words of the library and of the crates below that are used here, and the crate's plain types.
 pub use Rattle.nit_config.specs.Configuration.{Configuration, bar_rows, member}
 pub use Rattle.nit_config.specs.ConfigurationRanges.{IsConfiguration}
-pub use Rattle.nit_events.specs.Input.{InputState, Routing, deliveries_of, forget, routed_as}
+pub use Rattle.nit_config.specs.declared.config.Member.{Member}
+pub use Rattle.nit_events.specs.Input.{InputState, Routing, deliveries_of, forget, routed_as, unless_it_is}
 pub use Rattle.nit_events.specs.Ranges.{IsDevice}
 pub use Rattle.nit_events.specs.declared.call.Call.{Call}
 pub use Rattle.nit_events.specs.declared.call.Call.TheVariants.{Above, Back, Buffer, Close, Destroy, Front, Offset, Place, Refresh, Take, Title, Upgrade, View}
@@ -19,15 +20,17 @@ pub use Rattle.nit_focus.specs.Reach.{IsForgottenIfKilled}
 pub use Rattle.nit_glyph.specs.Pictures.{dot, picture_height, picture_width}
 pub use Rattle.nit_glyph.specs.Texts.{label_text_of}
 pub use Rattle.nit_journal.specs.Deliveries.{IsKillAlone, IsLive, is_kill, kills}
+pub use Rattle.nit_journal.specs.Live.{AreLive}
 pub use Rattle.nit_journal.specs.Replay.{Agrees, IsLegal, LegalFrom, replay, replay_from}
 pub use Rattle.nit_journal.specs.Session.{Session, accepted, by_life, by_refusal, by_status, ended, first_session, has_view, receive, refusal, serve, taking, unless, ◌orelse◌}
 pub use Rattle.nit_journal.specs.StackAfter.{after_accepted, after_deliveries, after_delivery, is_accepted, new_view, with_new}
 pub use Rattle.nit_journal.specs.State.{State, after, buffer_size, delivered, first_state, input_after_call, layer, owner_of, route, session, session_in, source_of}
+pub use Rattle.nit_journal.specs.Steps.{IsFreeLabel, opened, relabelled}
 pub use Rattle.nit_overlay.specs.Frame.{Scenery, bar_word, frame, has_dot, ink_of, is_in_picture, label_place_of, owner_word, shown, view_text, view_word}
 pub use Rattle.nit_overlay.specs.Look.{draws_labels, pixel_at}
 pub use Rattle.nit_paint.specs.FrameCopy.{AreSet, IsCopied}
 pub use Rattle.nit_paint.specs.Pieces.{source_of_number}
-pub use Rattle.nit_paint.specs.Repaint.{IsAmongLoads, IsWordOfSource, Repainted, no_sight}
+pub use Rattle.nit_paint.specs.Repaint.{IsAmongLoads, IsWordOfSource, Repainted, loads_at, no_sight, times_shown}
 pub use Rattle.nit_rect.specs.Intersection.{IsApart}
 pub use Rattle.nit_rect.specs.Limits.{most_slots}
 pub use Rattle.nit_rect.specs.Rectangle.{Rectangle, covers, is_rectangle, rectangle, spans}
@@ -38,6 +41,7 @@ pub use Rattle.nit_repaint.specs.ViewChange.{IsViewChange, slot_owns_either}
 pub use Rattle.nit_repaint.specs.ViewRemoval.{IsRemovedFrom, uncovered, without_session}
 pub use Rattle.nit_repaint.specs.WantedPixels.{wanted}
 pub use Rattle.nit_screen.specs.declared.screen.pixels.Pixels.{Pixels}
+pub use Rattle.nit_server.specs.Seats.{with_opened, with_reopened}
 pub use Rattle.nit_server.specs.Server.{IsServed, IsServer, ServerModel, size_of_buffer, state_of}
 pub use Rattle.nit_server.specs.ServerInput.{MayLose, killed_by, killed_in, routing_of, with_delivered, with_routed}
 pub use Rattle.nit_server.specs.ViewsTaken.{with_ended, without_view, without_views}

@@ -9,6 +9,8 @@ pub use Rattle.nit_stack.specs.Stack
 pub use Rattle.nit_journal.specs.Session
 pub use Rattle.nit_journal.specs.State
 pub use Rattle.nit_journal.specs.Replay
+pub use Rattle.nit_journal.specs.Live
+pub use Rattle.nit_journal.specs.Steps
 pub use Rattle.nit_journal.specs.Deliveries
 pub use Rattle.nit_journal.specs.Presses
 pub use Rattle.nit_journal.specs.Projection

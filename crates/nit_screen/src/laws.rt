@@ -1,8 +1,9 @@
 //! Laws of the pixels that an entry does not make dirty, of the names of views, and of their
 //! labels.
 
-ghost use Rattle.std.specs.Prelude.{◌≡◌, ℕ, List, None, Some, false};
-ghost use Rattle.nit_screen.specs.Terms.{Agrees, AreBelowNext, AreInked, AreRaw, Call, Configuration, Entry, HaveOwnNames, IsLegal, IsNamedBy, IsNewlyNamed, IsOn, IsServed, IsServer, IsViewChange, Painted, Point, Reply, ServerModel, ShowsLabels, Sight, SlotView, State, after, dirty, frame, place_of, refusal, replay, scenery_of, session, slot_view_in, source_of, state_of};
+ghost use Rattle.std.specs.Prelude.{◌≡◌, ◌≢◌, ℕ, List, None, Some, false};
+ghost use Rattle.nit_screen.specs.Terms.{Agrees, AreBelowNext, AreInked, AreLive, AreRaw, Call, Configuration, Entry, HaveOwnNames, IsLegal, IsNamedBy, IsNewlyNamed, IsOn, IsServed, IsServer, IsViewChange, Painted, Point, Reply, Scenery, ServerModel, ShowsLabels, Sight, SlotView, State, after, dirty, frame, opened, place_of, refusal, replay, scenery_of, session, slot_view_in, source_of, state_of};
+ghost use Rattle.nit_events.specs.declared.event.Status.TheVariants as status;
 
 use nit_journal::laws::deliveries_fit;
 
@@ -60,6 +61,26 @@ pub fn labels_stand()
         → IsLegal config journal
         → ShowsLabels (scenery_of (replay config journal))
         (frame (scenery_of (replay config journal)) raw) }
+{}
+
+/// Where no two views have the same session and handle, the frame shows the labels, if its mode
+/// draws them: each view for whose label there is a place has its whole label there, and no two
+/// labels share a pixel. Which raw words the frame is made of does not matter.
+pub fn own_names_show_labels()
+    ensures { (s : Scenery) (raw : List ℕ) → HaveOwnNames s.stack → ShowsLabels s (frame s raw) }
+{}
+
+/// Where whoever has a view is live, a session that is over and opens again leaves each pixel the
+/// source that it had, so that raw words of their sources stay so, and each view's handle stays
+/// below the next one of its session. The views are the same.
+pub fn openings_keep_all()
+    ensures sources { (s : State) (sid : ℕ) (label : List ℕ) (p : Point) → AreLive s
+        → (session s sid).status ≢ status.Live → source_of (opened sid label s) p ≡ source_of s p }
+    ensures raw { (s : State) (sid : ℕ) (label raw : List ℕ) → AreLive s
+        → (session s sid).status ≢ status.Live → AreRaw s raw → AreRaw (opened sid label s) raw }
+    ensures below { (s : State) (sid : ℕ) (label : List ℕ) → AreLive s
+        → (session s sid).status ≢ status.Live → AreBelowNext s
+        → AreBelowNext (opened sid label s) }
 {}
 
 /// An accepted call on a view is a change of the view in its slot.

@@ -12,6 +12,7 @@ mod last;
 mod lists;
 mod opening;
 mod pixels;
+mod seats;
 mod sessions;
 mod views;
 

@@ -9,29 +9,30 @@ use Rattle.nit_server.proofs.ServedCalls.{repaid}
 use Rattle.nit_server.proofs.ServerLemmas.{has_member, machine_is, no_client}
 
 module _ (config : Configuration) (sid : ℕ) (label : List ℕ) where
-  abbrev other : Member
-  other = record (member config sid) { label = label }
+  -- the client of the session, under the label
+  abbrev pub renamed : Member
+  renamed = record (member config sid) { label = label }
 
   abbrev now : Configuration
   now = relabelled sid label config
 
   -- what knows no label is as before
-  each_kept : {B : Type 0} (f : Member → B) → f other ≡ f (member config sid) → map f now.clients ≡ map f config.clients
-  each_kept f e = map-set_same f config.clients sid other no_client e
+  each_kept : {B : Type 0} (f : Member → B) → f renamed ≡ f (member config sid) → map f now.clients ≡ map f config.clients
+  each_kept f e = map-set_same f config.clients sid renamed no_client e
 
   -- the client of each session
-  client_now : (t : ℕ) → sid < length config.clients → member now t ≡ cond (t == sid) other (member config t)
+  client_now : (t : ℕ) → sid < length config.clients → member now t ≡ cond (t == sid) renamed (member config t)
   client_now t there = go (t == sid) refl
     where
-      go : (b : Bool) → (t == sid) ≡ b → member now t ≡ cond b other (member config t)
-      go true e = ap (member now) (eqb-true t sid e) ∙ get_or-set_same config.clients sid other no_client there
-      go false e = get_or-set_other config.clients sid t other no_client (eqb-false t sid e)
+      go : (b : Bool) → (t == sid) ≡ b → member now t ≡ cond b renamed (member config t)
+      go true e = ap (member now) (eqb-true t sid e) ∙ get_or-set_same config.clients sid renamed no_client there
+      go false e = get_or-set_other config.clients sid t renamed no_client (eqb-false t sid e)
 
   -- and what of it is no label
-  pub client_kept : {B : Type 0} (f : Member → B) → f other ≡ f (member config sid) → (t : ℕ) → sid < length config.clients → f (member now t) ≡ f (member config t)
+  pub client_kept : {B : Type 0} (f : Member → B) → f renamed ≡ f (member config sid) → (t : ℕ) → sid < length config.clients → f (member now t) ≡ f (member config t)
   client_kept f e t there = ap f (client_now t there) ∙ go (t == sid) refl
     where
-      go : (b : Bool) → (t == sid) ≡ b → f (cond b other (member config t)) ≡ f (member config t)
+      go : (b : Bool) → (t == sid) ≡ b → f (cond b renamed (member config t)) ≡ f (member config t)
       go true h = e ∙ ap (λ (n : ℕ). f (member config n)) (sym (eqb-true t sid h))
       go false h = refl
 
@@ -42,8 +43,8 @@ module _ (config : Configuration) (sid : ℕ) (label : List ℕ) where
     height = h.height;
     bar = h.bar;
     input = h.input;
-    count = subst (λ (n : ℕ). (1 ≤ n) × (n ≤ 16)) (sym (length-set config.clients sid other)) h.count;
-    clients = All-from_get_or IsMember now.clients no_client (λ t lt. each t (subst (λ (n : ℕ). t < n) (length-set config.clients sid other) lt));
+    count = subst (λ (n : ℕ). (1 ≤ n) × (n ≤ 16)) (sym (length-set config.clients sid renamed)) h.count;
+    clients = All-from_get_or IsMember now.clients no_client (λ t lt. each t (subst (λ (n : ℕ). t < n) (length-set config.clients sid renamed) lt));
     labels = apart;
   }
     where
@@ -53,7 +54,7 @@ module _ (config : Configuration) (sid : ℕ) (label : List ℕ) where
       each : (t : ℕ) → t < length config.clients → IsMember (member now t)
       each t lt = subst IsMember (sym (client_now t there)) (go (t == sid))
         where
-          go : (b : Bool) → IsMember (cond b other (member config t))
+          go : (b : Bool) → IsMember (cond b renamed (member config t))
           go true = record { label = good; donation = mine.donation; script = mine.script; layer = mine.layer }
           go false = All-get_or IsMember config.clients t no_client lt h.clients
 
@@ -61,7 +62,7 @@ module _ (config : Configuration) (sid : ℕ) (label : List ℕ) where
       apart i j d lt within = go (i == sid) refl (j == sid) refl
         where
           as_many : length now.clients ≡ length config.clients
-          as_many = length-set config.clients sid other
+          as_many = length-set config.clients sid renamed
 
           below_j : j < length config.clients
           below_j = subst (λ (n : ℕ). j < n) as_many within
@@ -73,11 +74,11 @@ module _ (config : Configuration) (sid : ℕ) (label : List ℕ) where
           plain : (t : ℕ) → t < length config.clients → get_or config.clients t d ≡ member config t
           plain t l = get_or_default config.clients t d no_client l
 
-          same : (t : ℕ) → (t == sid) ≡ true → get_or now.clients t d ≡ other
-          same t e = ap (λ (n : ℕ). get_or now.clients n d) (eqb-true t sid e) ∙ get_or-set_same config.clients sid other d there
+          same : (t : ℕ) → (t == sid) ≡ true → get_or now.clients t d ≡ renamed
+          same t e = ap (λ (n : ℕ). get_or now.clients n d) (eqb-true t sid e) ∙ get_or-set_same config.clients sid renamed d there
 
           kept : (t : ℕ) → (t == sid) ≡ false → get_or now.clients t d ≡ get_or config.clients t d
-          kept t e = get_or-set_other config.clients sid t other d (eqb-false t sid e)
+          kept t e = get_or-set_other config.clients sid t renamed d (eqb-false t sid e)
 
           go : (a : Bool) → (i == sid) ≡ a → (b : Bool) → (j == sid) ≡ b → (get_or now.clients i d).label ≢ (get_or now.clients j d).label
           go true e true f = absurd (let x = eqb-true i sid e in let y = eqb-true j sid f in omega (arith, lt, x, y))
@@ -101,7 +102,7 @@ module _ (config : Configuration) (sid : ℕ) (label : List ℕ) where
         standing = h.standing;
         screen = h.screen;
         layers = h.layers ∙ sym (each_kept (λ m. m.layer) refl);
-        each = h.each ∙ sym (length-set config.clients sid other);
+        each = h.each ∙ sym (length-set config.clients sid renamed);
         sizes = h.sizes;
         clients = λ t lt. subst (λ (n : ℕ). IsSessionOfClient n (kept_session_at members t)) (sym (client_kept (λ m. m.donation) refl t there)) (h.clients t lt);
         seated = h.seated;
@@ -117,7 +118,7 @@ module _ (config : Configuration) (sid : ℕ) (label : List ℕ) where
   }
     where
       as_many : length now.clients ≡ length config.clients
-      as_many = length-set config.clients sid other
+      as_many = length-set config.clients sid renamed
 
 -- a session as it opens
 abbrev pub begun : ℕ → KeptSessionModel
@@ -199,4 +200,4 @@ one_more clients sid i label before here t lt apart = go (t == i) refl
   where
     go : (b : Bool) → (t == i) ≡ b → (client_in clients t).label ≢ label
     go true e = subst (λ (n : ℕ). n ≢ sid → (client_in clients n).label ≢ label) (sym (eqb-true t i e)) here apart
-    go false e = let other = eqb-false t i e in before t (omega (arith, lt, other)) apart
+    go false e = let differs = eqb-false t i e in before t (omega (arith, lt, differs)) apart

@@ -1,0 +1,120 @@
+-- A session that is over opens again: what stays, where whoever has a view is live.
+use Rattle.nit_screen.proofs.Basics.{All-head, All-tail, All_found, AreBelowNext, AreLive, AreRaw, IsLive, IsRawOf, IsSpared, PixelSource, Point, Repainted, ServerModel, Session, Sight, State, bar_rows, buffer_size, covers, ended, eq-eqb, eqb-false, eqb-true, ext_get_or, first_session, forget, in_bar, is_session, loads_at, member, opened, option_map_or, owner_of, pixel, relabelled, seen, seen_none, session, session_in, session_owns, set-set, source_at, source_of, state_of, sum_by-cons, times_shown, unless_it_is, views_closed, views_of, with_reopened, without}
+use Rattle.std.proofs.Common.{All, Bool, IfSome, List, None, Option, Some, [], ap, arith, cond, false, find, get_or, get_or-set_other, length, not, refl, set, subst, suc, sym, true, zero, ℕ, ◌<◌, ◌==◌, ◌∙◌, ◌∷◌, ◌≡◌, ◌≢◌}
+use Rattle.nit_events.specs.declared.event.Status.TheVariants as status
+use Rattle.nit_stack.specs.declared.view.View.{View}
+use Rattle.nit_screen.proofs.BufferSizes.{by_other_sizes, others_stay}
+
+module _ (s : State) (sid : ℕ) (over : (session s sid).status ≢ status.Live) where
+  -- it is none of those that are live
+  apart : (t : ℕ) → IsLive s t → t ≢ sid
+  apart t live e = over (subst (λ (n : ℕ). (session s n).status ≡ status.Live) e live.1)
+
+  other : (t : ℕ) → IsLive s t → (t == sid) ≡ false
+  other t live = go (t == sid) refl
+    where
+      go : (b : Bool) → (t == sid) ≡ b → b ≡ false
+      go true e = absurd (apart t live (eqb-true t sid e))
+      go false e = refl
+
+  -- it has no view
+  pub no_views : (stack : List View) → All (λ v. IsLive s v.sid) stack → without (λ v. v.sid == sid) stack ≡ stack
+  no_views [] all = refl
+  no_views (v ∷ rest) all =
+      ap (λ (b : Bool). cond (not b) (v ∷ without (λ v. v.sid == sid) rest) (without (λ v. v.sid == sid) rest)) (other v.sid (All-head (λ v. IsLive s v.sid) v rest all))
+      ∙ ap (λ (l : List View). v ∷ l) (no_views rest (All-tail (λ v. IsLive s v.sid) v rest all))
+
+  -- and the input does not know it
+  not_known : (o : Option ℕ) → IfSome o (IsLive s) → unless_it_is sid o ≡ o
+  not_known None k = refl
+  not_known (Some t) k = ap (λ (b : Bool). cond b None (Some t)) (flipped (sid == t) refl)
+    where
+      flipped : (b : Bool) → (sid == t) ≡ b → (sid == t) ≡ false
+      flipped true e = absurd (apart t k (sym (eqb-true sid t e)))
+      flipped false e = e
+
+  module _ (h : AreLive s) where
+    pub forgotten : forget s.input sid ≡ s.input
+    forgotten = λ i. record s.input {
+      receiver = not_known s.input.receiver h.known.receiver i;
+      hover = not_known s.input.hover h.known.hover i;
+      focus = not_known s.input.focus h.known.focus i;
+    }
+
+    -- so it owns no pixel
+    spared : (p : Point) → IsSpared (is_session sid) (owner_of s p)
+    spared p = go (in_bar rows p) (find (λ v. covers v.rect p) s.stack) refl
+      where
+        rows : ℕ
+        rows = bar_rows s.config
+
+        go : (b : Bool) (o : Option View) → find (λ v. covers v.rect p) s.stack ≡ o → IsSpared (is_session sid) (cond b None o)
+        go true o e = tt
+        go false None e = tt
+        go false (Some v) e = other v.sid (All_found (λ v. IsLive s v.sid) (λ v. covers v.rect p) s.stack v h.views e)
+
+    pub owns_none : (p : Point) → session_owns sid s p ≡ false
+    owns_none p = go (owner_of s p) (spared p)
+      where
+        go : (o : Option View) → IsSpared (is_session sid) o → option_map_or (is_session sid) o false ≡ false
+        go None e = refl
+        go (Some v) e = e
+
+    module _ (label : List ℕ) where
+      abbrev begun : Session
+      begun = first_session (member s.config sid).donation
+
+      -- each pixel has the same source
+      pub opens_sources : (p : Point) → source_of (opened sid label s) p ≡ source_of s p
+      opens_sources p = by_other_sizes sid (buffer_size s.sessions) (buffer_size (set s.sessions sid begun)) p (owner_of s p) (others_stay s.sessions sid begun) (spared p)
+
+      pub opens_raw : (raw : List ℕ) → AreRaw s raw → AreRaw (opened sid label s) raw
+      opens_raw raw all = λ k l. subst (λ (source : PixelSource). IsRawOf source (get_or raw k 0)) (sym (opens_sources (pixel s.config.width k))) (all k l)
+
+      -- and each view's handle is below the same one
+      pub opens_below : AreBelowNext s → AreBelowNext (opened sid label s)
+      opens_below all = λ k v l.
+          let w = get_or s.stack k v in
+          subst (λ (u : Session). w.handle < u.next) (sym (get_or-set_other s.sessions sid w.sid begun (first_session 0) (apart w.sid (h.views k v l)))) (all k v l)
+
+-- ---- at a screen
+
+-- nothing goes before it opens
+pub only_opens : (s s' : ServerModel) (sid : ℕ) (label : List ℕ) → s' ≡ with_reopened sid label s → (session (state_of s) sid).status ≢ status.Live → AreLive (state_of s) → state_of s' ≡ opened sid label (state_of s)
+only_opens s s' sid label is over h =
+    ap state_of is
+    ∙ (λ i. record {
+      config = relabelled sid label s.config;
+      sessions = set-set s.sessions sid (ended status.Killed (session_in s.sessions sid)) (first_session (member s.config sid).donation) i;
+      stack = (views_closed sid s.stack.views ∙ no_views (state_of s) sid over (views_of s.stack.views) h.views) i;
+      input = forgotten (state_of s) sid over h i;
+    })
+
+-- and no raw word changes
+pub stays_painted : (s : State) (sid : ℕ) (source : ℕ → PixelSource) (n : ℕ) (a b : ℕ → Sight) (raw raw' : List ℕ) → (session s sid).status ≢ status.Live → AreLive s → length raw' ≡ length raw
+    → Repainted source (λ k. session_owns sid s (pixel s.config.width k)) n a b raw raw' → raw' ≡ raw
+stays_painted s sid source n a b raw raw' over h long painted =
+    ext_get_or 0 raw' raw long (λ k l. painted.others k (λ m. owns_none s sid over h (pixel s.config.width k)))
+
+-- nor does a glass tell a load
+none_shown : (source : ℕ → PixelSource) (is_marked : ℕ → Bool) (t i n : ℕ) → ((k : ℕ) → is_marked k ≡ false) → times_shown source is_marked t i n ≡ 0
+none_shown source is_marked t i zero clean = refl
+none_shown source is_marked t i (suc n) clean =
+    let before = none_shown source is_marked t i n clean in
+    let here = clean n in
+    rw (before, here) refl
+
+no_loads : (loads : List (ℕ × ℕ)) → ((i : ℕ) → loads_at i loads ≡ 0) → loads ≡ []
+no_loads [] none = refl
+no_loads (load ∷ rest) none =
+    let one : (load.0 == load.0) ≡ true = eq-eqb load.0 load.0 refl in
+    let count = sum_by-cons (λ (x : ℕ × ℕ). cond (x.0 == load.0) 1 0) load rest in
+    let first : cond (load.0 == load.0) 1 0 ≡ 1 = ap (λ (b : Bool). cond b 1 0) one in
+    absurd (omega (arith, none load.0, count, first))
+
+pub stays_seen : (s : State) (sid : ℕ) (source : ℕ → PixelSource) (n : ℕ) (a b : ℕ → Sight) (raw raw' : List ℕ) → (session s sid).status ≢ status.Live → AreLive s
+    → Repainted source (λ k. session_owns sid s (pixel s.config.width k)) n a b raw raw' → (t : ℕ) → b t ≡ a t
+stays_seen s sid source n a b raw raw' over h painted t =
+    let clean : (k : ℕ) → session_owns sid s (pixel s.config.width k) ≡ false = λ k. owns_none s sid over h (pixel s.config.width k) in
+    let none = no_loads (painted.loads t) (λ i. painted.counts t i ∙ none_shown source (λ k. session_owns sid s (pixel s.config.width k)) t i n clean) in
+    painted.sights t ∙ ap (seen (a t)) none ∙ sym (seen_none (a t))
