@@ -1,0 +1,2 @@
+pub mod DesktopLemmas
+pub mod Basics

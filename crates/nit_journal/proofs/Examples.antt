@@ -1,6 +1,6 @@
 -- Worked rows of one session and of a small journal, computed from the definitions.
-use Rattle.std.proofs.Common.{List, Some, [], arith, false, map, negsuc, pos, refl, true, ◌++◌, ◌∷◌, ◌≡◌}
-use Rattle.nit_journal.proofs.Basics.{Bare, Buffer, Call, Calls, Close, Destroy, Entry, IsLegal, Observation, Place, Refresh, Take, Title, Upgrade, View, Word, alone, codes, first_session, is_key, own_machine, point, replay, routed_as, source_of, still_configuration, to, under_pointer}
+use Rattle.std.proofs.Common.{List, Some, [], arith, false, map, negsuc, pos, refl, suc, true, zero, ℕ, ◌++◌, ◌∷◌, ◌≡◌}
+use Rattle.nit_journal.proofs.Basics.{AreSteps, Bare, Buffer, Call, Calls, Close, Configuration, Destroy, Entry, IsFreeLabel, IsLegal, Member, Observation, Opens, Place, Refresh, Serves, Step, Take, Title, Upgrade, View, Word, after_steps, alone, codes, first_session, first_state, is_key, opened, opening_of, own_machine, point, replay, replies_to, routed_as, session, since_opening, source_of, still_configuration, to, under_pointer, vacant_state}
 use Rattle.nit_journal.specs.Session.{serve}
 use Rattle.nit_journal.specs.StackAfter.{stack_after_call}
 use Rattle.nit_journal.specs.State.{route}
@@ -8,6 +8,7 @@ use Rattle.nit_events.specs.declared.event.Event.TheVariants as event
 use Rattle.nit_events.specs.declared.device.Device.TheVariants as device
 use Rattle.nit_events.specs.declared.call.Reply.TheVariants as reply
 use Rattle.nit_events.specs.declared.entry.Entry.TheVariants as entry
+use Rattle.nit_events.specs.declared.event.Status.TheVariants as status
 
 abbrev calls : List Call → List Observation
 calls xs = map (λ c. Calls c) xs
@@ -96,3 +97,60 @@ which_are_keys = refl
 clicked_is_pointed : under_pointer (replay (still_configuration 8 4) clicked) ≡ Some 0
 unfolding serve stack_after_call route
 clicked_is_pointed = refl
+
+-- two clients with donations of two views each
+abbrev client : List ℕ → Member
+client label = record { label = label; donation = 512; script = codes "still"; layer = 0; clicks = true }
+
+abbrev two_clients : Configuration
+two_clients = record (still_configuration 8 4) { clients = client (codes "log") ∷ client (codes "menu") ∷ [] }
+
+-- the first session spends its donation and ends; it opens under another label, and has the donation and its handles anew
+abbrev opened_again : List Step
+opened_again =
+    Serves (entry.Call 0 View (reply.Handle 1))
+    ∷ Serves (entry.Call 1 View (reply.Handle 1))
+    ∷ Serves (entry.Call 0 View (reply.Handle 2))
+    ∷ Serves (entry.Call 0 View (reply.OutOfQuota 256 0))
+    ∷ Serves (entry.Call 0 Close reply.Done)
+    ∷ Opens 0 (codes "clock")
+    ∷ Serves (entry.Call 0 View (reply.Handle 1))
+    ∷ Serves (entry.Call 1 View (reply.Handle 2))
+    ∷ []
+
+are_steps : AreSteps (first_state two_clients) opened_again
+unfolding serve stack_after_call
+are_steps = ((0, (omega arith, refl)), ((0, (omega arith, refl)), ((0, (omega arith, refl)), ((0, (omega arith, refl)), ((0, (omega arith, refl)), ((omega arith, λ e. cc), ((0, (omega arith, refl)), ((0, (omega arith, refl)), tt))))))))
+
+replies_since_opening : replies_to 0 (since_opening 0 opened_again) ≡ reply.Handle 1 ∷ []
+replies_since_opening = refl
+
+replies_of_the_other : replies_to 1 (since_opening 1 opened_again) ≡ reply.Handle 1 ∷ reply.Handle 2 ∷ []
+replies_of_the_other = refl
+
+opened_with : opening_of (first_state two_clients) 0 opened_again ≡ first_session 512
+opened_with = refl
+
+machine_since_opening : session (after_steps (first_state two_clients) opened_again) 0 ≡ record (first_session 512) { next = 2; handles = 1 ∷ [] }
+unfolding serve stack_after_call
+machine_since_opening = refl
+
+labels_then : map (λ m. m.label) (after_steps (first_state two_clients) opened_again).config.clients ≡ codes "clock" ∷ codes "menu" ∷ []
+unfolding serve stack_after_call
+labels_then = refl
+
+-- a label is free for a session where no other one has it
+own_label_is_free : IsFreeLabel two_clients 0 (codes "log")
+own_label_is_free zero lt other = absurd (other refl)
+own_label_is_free (suc zero) lt other = λ e. cc
+own_label_is_free (suc (suc t)) lt other = absurd (omega arith)
+
+label_of_another : IsFreeLabel two_clients 0 (codes "menu") → ⊥
+label_of_another h = h 1 (omega arith) (λ e. cc) refl
+
+-- a session that opens for the first time is the one that a run begins with
+vacant_is_over : (session (vacant_state two_clients) 0).status ≡ status.Closed
+vacant_is_over = refl
+
+vacant_opens : opened 1 (codes "menu") (opened 0 (codes "log") (vacant_state two_clients)) ≡ first_state two_clients
+vacant_opens = refl

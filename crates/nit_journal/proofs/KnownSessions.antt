@@ -1,6 +1,6 @@
 -- What holds of the sessions that the input knows and points at holds of those that a device event tells, and of
 -- those that are known afterwards. And who is killed is killed alone, and forgotten.
-use Rattle.nit_journal.proofs.Basics.{All, All-append, All-cons, All-head, All-nil, All-tail, Configuration, Delivery, Device, Event, Flat, InputState, IsKillAlone, Kill, Mode, Point, Routing, Xray, bar_rows, cases_eq, clicks_on, covers, either, eq-eqb, in_bar, is_kill, kills, ne_eqb, not, option_map, or_from, owner, point}
+use Rattle.nit_journal.proofs.Basics.{All, All-append, All-cons, All-head, All-nil, All-tail, Configuration, Delivery, Device, Event, Flat, InputState, IsKillAlone, Kill, Knows, Mode, Point, Routing, Xray, bar_rows, cases_eq, clicks_on, covers, either, eq-eqb, in_bar, is_kill, kills, ne_eqb, not, option_map, or_from, owner, point}
 use Rattle.std.proofs.Common.{Bool, IfSome, List, None, Option, Some, [], ap, false, filter, find, inl, inr, length, refl, subst, sym, true, ℕ, ◌&&◌, ◌++◌, ◌==◌, ◌∷◌, ◌≡◌, ◌≢◌, ◌⊎◌, if◌then◌else◌}
 use Rattle.nit_journal.specs.State.{route}
 use Rattle.nit_events.specs.declared.event.Event.TheVariants as event
@@ -8,12 +8,6 @@ use Rattle.nit_events.specs.declared.event.Item.TheVariants as item
 use Rattle.nit_events.specs.declared.device.Device.TheVariants as device
 use Rattle.nit_events.specs.Input
 use Rattle.nit_stack.specs.declared.view.View.{View}
-
--- this holds of the receiver, the hovered session and the focused one, where there are such
-pub record Knows (P : ℕ → Type 0) (i : InputState) : Type 0 where
-  pub receiver : IfSome i.receiver P
-  pub hover : IfSome i.hover P
-  pub focus : IfSome i.focus P
 
 -- such a session is told, and not killed
 abbrev pub IsTold : (ℕ → Type 0) → Delivery → Type 0

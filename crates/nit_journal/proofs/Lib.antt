@@ -11,7 +11,10 @@ pub mod QuotaRefusals
 pub mod Focus
 pub mod KnownSessions
 pub mod LiveSessions
+pub mod ProjectionLemmas
+pub mod StepLemmas
 pub mod PressLemmas
+pub mod PressesSince
 pub mod ReachLemmas
 pub mod Examples
 pub mod Machines

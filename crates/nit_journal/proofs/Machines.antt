@@ -16,7 +16,7 @@ items (d ∷ ds) sessions x more lt =
       | inr other ↦ rw (ne_eqb d.sid x other) (ap (λ (t : Session). after_observations t (items_to x ds ++ more)) (sym (handed_to_another d sessions x other)) ∙ later)
     ]
 
-machines : (s : State) (taken : ℕ) (journal : List Entry) (x : ℕ) → LegalFrom s taken journal → x < length s.sessions → session (replay_from s journal) x ≡ after_observations (session s x) (projection x journal)
+pub machines : (s : State) (taken : ℕ) (journal : List Entry) (x : ℕ) → LegalFrom s taken journal → x < length s.sessions → session (replay_from s journal) x ≡ after_observations (session s x) (projection x journal)
 machines s taken [] x legal lt = refl
 machines s taken (entry.Final ∷ rest) x legal lt = subst (λ (js : List Entry). session (replay_from s js) x ≡ after_observations (session s x) (projection x js)) (sym legal) refl
 machines s taken (entry.Shot n ∷ rest) x legal lt = machines s (taken + 1) rest x legal.1 lt

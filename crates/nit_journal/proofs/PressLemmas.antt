@@ -13,25 +13,25 @@ use Rattle.nit_journal.proofs.Isolation.{entry_keeps_all}
 -- ---- whether a code is down
 
 -- after one moment more
-abbrev next : ℕ → Observation → Bool → Bool
+abbrev pub next : ℕ → Observation → Bool → Bool
 next k (Gets (item.Event (event.Press j))) b = if j == k then true else b
 next k (Gets (item.Event (event.Release j))) b = if j == k then false else b
 next k other b = b
 
-abbrev down_after : ℕ → Bool → List Observation → Bool
+abbrev pub down_after : ℕ → Bool → List Observation → Bool
 down_after k b [] = b
 down_after k b (m ∷ ms) = down_after k (next k m b) ms
 
 -- each release comes where the code is down
-abbrev Paired : ℕ → Bool → List Observation → Type 0
+abbrev pub Paired : ℕ → Bool → List Observation → Type 0
 Paired k b [] = Unit {0}
 Paired k b (m ∷ ms) = (is_release k m ≡ true → b ≡ true) × Paired k (next k m b) ms
 
-down_both : (k : ℕ) (b : Bool) (xs ys : List Observation) → down_after k b (xs ++ ys) ≡ down_after k (down_after k b xs) ys
+pub down_both : (k : ℕ) (b : Bool) (xs ys : List Observation) → down_after k b (xs ++ ys) ≡ down_after k (down_after k b xs) ys
 down_both k b [] ys = refl
 down_both k b (x ∷ xs) ys = down_both k (next k x b) xs ys
 
-paired_both : (k : ℕ) (b : Bool) (xs ys : List Observation) → Paired k b xs → Paired k (down_after k b xs) ys → Paired k b (xs ++ ys)
+pub paired_both : (k : ℕ) (b : Bool) (xs ys : List Observation) → Paired k b xs → Paired k (down_after k b xs) ys → Paired k b (xs ++ ys)
 paired_both k b [] ys p q = q
 paired_both k b (x ∷ xs) ys p q = (p.0, paired_both k (next k x b) xs ys p.1 q)
 
@@ -68,6 +68,10 @@ down_is : (k : ℕ) (b : Bool) (seen ms : List Observation) → (b ≡ true → 
 down_is k b seen [] was e = subst (IsDown k) (sym (append-nil seen)) (was e)
 down_is k b seen (m ∷ ms) was e =
     subst (IsDown k) (append_assoc seen (m ∷ []) ms) (down_is k (next k m b) (seen ++ m ∷ []) ms (more_down k b seen m was) e)
+
+-- so where a release stands the code is down
+pub release_down : (k : ℕ) (ms before rest : List Observation) → Paired k false ms → ms ≡ before ++ Gets (item.Event (event.Release k)) ∷ rest → IsDown k before
+release_down k ms before rest paired is = down_is k false [] before (λ e. cc) (down_there k false before rest (subst (Paired k false) is paired))
 
 -- ---- one session and one code
 
@@ -144,7 +148,7 @@ last_held k j (y ∷ ys) apart h = go (y == k) h (last_held k j ys apart)
 
 module _ (x k : ℕ) where
   -- the session receives what is held, and the code is held
-  abbrev Holds : InputState → Type 0
+  abbrev pub Holds : InputState → Type 0
   Holds i = (i.receiver ≡ Some x) × (Input.is_held i k ≡ true)
 
   items_both : (ds es : List Delivery) → items_to x (ds ++ es) ≡ items_to x ds ++ items_to x es
@@ -348,7 +352,7 @@ module _ (x k : ℕ) where
   after_call sid Close r i t = after_close (is_accepted r) sid i t
   after_call sid other r i t = t
 
-  paired_from : (s : State) (taken : ℕ) (journal : List Entry) (b : Bool) → LegalFrom s taken journal → (Holds s.input → b ≡ true) → Paired k b (projection x journal)
+  pub paired_from : (s : State) (taken : ℕ) (journal : List Entry) (b : Bool) → LegalFrom s taken journal → (Holds s.input → b ≡ true) → Paired k b (projection x journal)
   paired_from s taken [] b legal was = tt
   paired_from s taken (entry.Call sid call r ∷ rest) b legal was =
       go (sid == x) (paired_from (after s (entry.Call sid call r)) taken rest b legal.1 (λ t. was (after_call sid call r s.input t)))
@@ -366,7 +370,7 @@ module _ (x k : ℕ) where
   paired_from s taken (entry.Final ∷ rest) b legal was = subst (λ (js : List Entry). Paired k b (projection x js)) (sym legal) tt
 
   -- where the session receives what is held behind the journal, it is down for it
-  still_held : (s : State) (taken : ℕ) (journal : List Entry) (b : Bool) → LegalFrom s taken journal → (Holds s.input → b ≡ true) → Holds (replay_from s journal).input
+  pub still_held : (s : State) (taken : ℕ) (journal : List Entry) (b : Bool) → LegalFrom s taken journal → (Holds s.input → b ≡ true) → Holds (replay_from s journal).input
       → down_after k b (projection x journal) ≡ true
   still_held s taken [] b legal was holds = was holds
   still_held s taken (entry.Call sid call r ∷ rest) b legal was holds =
@@ -386,12 +390,10 @@ module _ (x k : ℕ) where
   still_held s taken (entry.Final ∷ rest) b legal was holds =
       subst (λ (js : List Entry). Holds (replay_from s js).input → down_after k b (projection x js) ≡ true) (sym legal) was holds
 
-pub receiver_holds : (config : Configuration) (journal : List Entry) (x k : ℕ) → IsLegal config journal → let s = replay config journal in
-    s.input.receiver ≡ Some x → Input.is_held s.input k ≡ true → IsDown k (projection x journal)
+pub receiver_holds : (config : Configuration) (journal : List Entry) (x k : ℕ) → IsLegal config journal → let s = replay config journal in s.input.receiver ≡ Some x → Input.is_held s.input k ≡ true → IsDown k (projection x journal)
 receiver_holds config journal x k legal = λ receives held.
     down_is k false [] (projection x journal) (λ e. cc) (still_held x k (first_state config) 0 journal false legal (λ t. let none = t.0 in cc) (receives, held))
 
 pub releases_follow : (config : Configuration) (journal : List Entry) (s k : ℕ) (before rest : List Observation) → IsLegal config journal → projection s journal ≡ before ++ Gets (item.Event (event.Release k)) ∷ rest → IsDown k before
 releases_follow config journal s k before rest legal is =
-    let paired : Paired k false (projection s journal) = paired_from s k (first_state config) 0 journal false legal (λ t. let none = t.0 in cc) in
-    down_is k false [] before (λ e. cc) (down_there k false before rest (subst (Paired k false) is paired))
+    release_down k (projection s journal) before rest (paired_from s k (first_state config) 0 journal false legal (λ t. let none = t.0 in cc)) is

@@ -1,18 +1,25 @@
 //! A desktop before its first step.
 
-ghost use Rattle.std.specs.Prelude.{◌≡◌, ◌<◌, ◌*◌, IfOk, length, map, replicate, ℕ};
-ghost use Rattle.nit_desktop.specs.Terms.{IsConfiguration, IsGlass, bare_word, first_state, glass_in};
+ghost use Rattle.std.specs.Prelude.{◌≡◌, ◌-◌, ◌<◌, ◌≤◌, ◌*◌, IfOk, [], length, map, replicate, slice_set, ℕ};
+ghost use Rattle.nit_desktop.specs.Terms.{IsConfiguration, IsDonation, IsGlass, bare_word, ended, first_input, first_session, first_state, glass_in, member, session, vacant_state};
+ghost use Rattle.nit_events.specs.declared.event.Status.TheVariants as status;
 
+use crate::blank::Blank;
 use crate::desktop::Desktop;
 use nit_config::Config;
+use nit_events::Call;
 use nit_journal::laws::live_sessions_stay;
 use nit_rect::NoMemory;
 use nit_screen::Screen;
+use nit_slots::room;
 use nit_word::Glass;
 use std::alloc::Global;
 
 /// How many entries a desktop serves: more than ever come.
 const MOST_ENTRIES: u64 = 1 << 62;
+
+/// How many units a word of a session's table costs.
+const WORD_UNITS: u32 = 8;
 
 impl<G: Glass + Drop> Desktop<G> {
     /// A screen of this configuration without any view. Each session is open, under its client's
@@ -54,7 +61,50 @@ impl<G: Glass + Drop> Desktop<G> {
         ensures rests { IfOk result (λ d. map G.rest d.glasses ≡ map G.rest glasses.items) }
     {
         let mut desktop = Desktop::new(alloc, config, glasses)?;
-        desktop.close_all();
+        close_all(&mut desktop, config);
+        desktop.left = MOST_ENTRIES;
         Ok(desktop)
     }
+}
+
+/// Closes each session of a desktop on which nothing was done yet.
+fn close_all<G: Glass + Drop>(desktop: &mut Desktop<G>, config: &Config)
+    requires config { IsConfiguration config.now }
+    requires first { desktop.old.state ≡ first_state config.now }
+    requires left { desktop.old.left ≡ 4611686018427387904 }
+    ensures state { desktop.new.state ≡ vacant_state config.now }
+    ensures raw { desktop.new.raw ≡ desktop.old.raw }
+    ensures sights { map G.sight desktop.new.glasses ≡ map G.sight desktop.old.glasses }
+    ensures rests { map G.rest desktop.new.glasses ≡ map G.rest desktop.old.glasses }
+{
+    'sessions: for sid in 0..config.clients.len() as u32 {
+        close(desktop, sid, config.clients[sid as usize].donation);
+    }
+}
+
+/// Closes a session that opened with this donation, on a screen without views.
+fn close<G: Glass + Drop>(desktop: &mut Desktop<G>, sid: u32, donation: u32)
+    requires session { sid < length desktop.old.state.sessions }
+    requires donation { donation ≡ (member desktop.old.state.config sid).donation }
+    requires range { IsDonation donation }
+    requires first { session desktop.old.state sid ≡ first_session donation }
+    requires bare { desktop.old.state.stack ≡ [] }
+    requires idle { desktop.old.state.input ≡ first_input }
+    requires left { 1 ≤ desktop.old.left }
+    ensures state { desktop.new.state ≡ record desktop.old.state {
+      sessions = slice_set desktop.old.state.sessions sid
+          (ended status.Closed (first_session donation));
+    } }
+    ensures left { desktop.new.left ≡ desktop.old.left - 1 }
+    ensures raw { desktop.new.raw ≡ desktop.old.raw }
+    ensures sights { map G.sight desktop.new.glasses ≡ map G.sight desktop.old.glasses }
+    ensures rests { map G.rest desktop.new.glasses ≡ map G.rest desktop.old.glasses }
+{
+    let mut blank = Blank {
+        owner: sid,
+        size: (room(donation) / WORD_UNITS) as usize,
+    };
+    desktop.facts();
+    desktop.call(sid, &Call::Close, &mut blank);
+    desktop.facts();
 }

@@ -1,7 +1,7 @@
 //! What can be read of a desktop.
 
-ghost use Rattle.std.specs.Prelude.{◌≡◌, ◌<◌, ◌⊎◌, IfSome, IsTrue, length, ⊥, false};
-ghost use Rattle.nit_desktop.specs.Terms.{IsConfiguration, IsFreeLabel, member, refusal, session};
+ghost use Rattle.std.specs.Prelude.{◌≡◌, ◌<◌, ◌*◌, IfSome, IsTrue, false, length, map, ℕ, ⊥};
+ghost use Rattle.nit_desktop.specs.Terms.{AreLive, IsConfiguration, IsFreeLabel, IsGlass, glass_in, member, refusal, session};
 
 use crate::desktop::Desktop;
 use nit_events::{Call, Mode, Reply, Status};
@@ -20,7 +20,12 @@ impl<G: Glass + Drop> Desktop<G> {
     pub fn facts(&self)
         ensures config { IsConfiguration self.now.state.config }
         ensures sessions { length self.now.state.sessions ≡ length self.now.state.config.clients }
+        ensures live { AreLive self.now.state }
         ensures glasses { length self.now.glasses ≡ length self.now.state.config.clients }
+        ensures tables { (t : ℕ) → t < length self.now.state.config.clients → IsGlass
+            self.now.state.config t (glass_in (map G.sight self.now.glasses) t) }
+        ensures pixels { length self.now.raw
+            ≡ self.now.state.config.width * self.now.state.config.height }
     {
         self.screen.facts();
     }

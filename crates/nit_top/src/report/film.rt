@@ -1,6 +1,6 @@
 //! A film while it is made.
 
-ghost use Rattle.std.specs.Prelude.{◌≡◌, ◌≤◌, ◌*◌, true, ◌++◌, ◌∷◌, [], IfOk, OnOk, length};
+ghost use Rattle.std.specs.Prelude.{◌≡◌, ◌<◌, ◌≤◌, ◌*◌, true, false, ◌++◌, ◌∷◌, [], IfOk, OnOk, length};
 ghost use Rattle.nit_top.specs.Below.{HasPixels, IsPictureSize, LiesIn, cropped_bytes, film_header, first_capture, most_pixels, next_record, screen, with_last};
 
 use nit_capture::Capture;
@@ -38,8 +38,10 @@ impl Film {
 
     /// Whether these bytes are enough for a picture of the screen.
     pub fn fits(&self, bytes: &[u8]) -> bool
-        ensures { result ≡ true
+        ensures enough { result ≡ true
             → 3 * (self.now.capture.width * self.now.capture.height) ≤ length bytes.now }
+        ensures short { result ≡ false
+            → length bytes.now < 3 * (self.now.capture.width * self.now.capture.height) }
     {
         3 * self.pixels <= bytes.len()
     }

@@ -1,6 +1,6 @@
 //! A put of a picture that is filmed.
 
-ghost use Rattle.std.specs.Prelude.{◌≡◌, ◌≤◌, ◌*◌, ◌+◌, ◌++◌, OnOk, length, true, ℕ, take};
+ghost use Rattle.std.specs.Prelude.{◌≡◌, ◌≢◌, ◌≤◌, ◌*◌, ◌+◌, ◌++◌, OnOk, false, length, true, ℕ, take};
 ghost use Rattle.nit_top.specs.Terms.{AfterPut, cropped_bytes, final_name, next_record, shot_name, with_last};
 
 use crate::report::film::Film;
@@ -42,7 +42,8 @@ pub fn is_picture_name(name: &str) -> bool
 
 /// Whether this is the name of the picture of the shot of this number.
 pub fn is_shot_name(name: &str, shot: u32) -> bool
-    ensures { result ≡ true → name.now ≡ shot_name shot }
+    ensures named { result ≡ true → name.now ≡ shot_name shot }
+    ensures other { result ≡ false → name.now ≢ shot_name shot }
 {
     let mut wanted = [0; NAME_BYTES];
     let end = write_name(&mut wanted, shot);
