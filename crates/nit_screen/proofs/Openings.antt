@@ -1,5 +1,5 @@
 -- A session that is over opens again: what stays, where whoever has a view is live.
-use Rattle.nit_screen.proofs.Basics.{All-head, All-tail, All_found, AreBelowNext, AreLive, AreRaw, IsLive, IsRawOf, IsSpared, PixelSource, Point, Repainted, ServerModel, Session, Sight, State, bar_rows, buffer_size, covers, ended, eq-eqb, eqb-false, eqb-true, ext_get_or, first_session, forget, in_bar, is_session, loads_at, member, opened, option_map_or, owner_of, pixel, relabelled, seen, seen_none, session, session_in, session_owns, set-set, source_at, source_of, state_of, sum_by-cons, times_shown, unless_it_is, views_closed, views_of, with_reopened, without}
+use Rattle.nit_screen.proofs.Basics.{All-head, All-tail, All_found, AreBelowNext, AreLive, AreRaw, IsLive, IsRawOf, PixelSource, Point, Repainted, ServerModel, Session, Sight, State, bar_rows, buffer_size, covers, ended, eq-eqb, eqb-false, eqb-true, ext_get_or, first_session, forget, in_bar, is_session, loads_at, member, opened, option_map_or, owner_of, pixel, relabelled, seen, seen_none, session, session_in, session_owns, set-set, source_at, source_of, state_of, sum_by-cons, times_shown, unless_it_is, views_closed, views_of, with_reopened, without}
 use Rattle.std.proofs.Common.{All, Bool, IfSome, List, None, Option, Some, [], ap, arith, cond, false, find, get_or, get_or-set_other, length, not, refl, set, subst, suc, sym, true, zero, ℕ, ◌<◌, ◌==◌, ◌∙◌, ◌∷◌, ◌≡◌, ◌≢◌}
 use Rattle.nit_events.specs.declared.event.Status.TheVariants as status
 use Rattle.nit_stack.specs.declared.view.View.{View}
@@ -42,23 +42,13 @@ module _ (s : State) (sid : ℕ) (over : (session s sid).status ≢ status.Live)
     }
 
     -- so it owns no pixel
-    spared : (p : Point) → IsSpared (is_session sid) (owner_of s p)
-    spared p = go (in_bar rows p) (find (λ v. covers v.rect p) s.stack) refl
-      where
-        rows : ℕ
-        rows = bar_rows s.config
-
-        go : (b : Bool) (o : Option View) → find (λ v. covers v.rect p) s.stack ≡ o → IsSpared (is_session sid) (cond b None o)
-        go true o e = tt
-        go false None e = tt
-        go false (Some v) e = other v.sid (All_found (λ v. IsLive s v.sid) (λ v. covers v.rect p) s.stack v h.views e)
-
     pub owns_none : (p : Point) → session_owns sid s p ≡ false
-    owns_none p = go (owner_of s p) (spared p)
+    owns_none p = go (in_bar (bar_rows s.config) p) (find (λ v. covers v.rect p) s.stack) refl
       where
-        go : (o : Option View) → IsSpared (is_session sid) o → option_map_or (is_session sid) o false ≡ false
-        go None e = refl
-        go (Some v) e = e
+        go : (b : Bool) (o : Option View) → find (λ v. covers v.rect p) s.stack ≡ o → option_map_or (is_session sid) (cond b None o) false ≡ false
+        go true o e = refl
+        go false None e = refl
+        go false (Some v) e = other v.sid (All_found (λ v. IsLive s v.sid) (λ v. covers v.rect p) s.stack v h.views e)
 
     module _ (label : List ℕ) where
       abbrev begun : Session
@@ -66,7 +56,7 @@ module _ (s : State) (sid : ℕ) (over : (session s sid).status ≢ status.Live)
 
       -- each pixel has the same source
       pub opens_sources : (p : Point) → source_of (opened sid label s) p ≡ source_of s p
-      opens_sources p = by_other_sizes sid (buffer_size s.sessions) (buffer_size (set s.sessions sid begun)) p (owner_of s p) (others_stay s.sessions sid begun) (spared p)
+      opens_sources p = by_other_sizes sid (buffer_size s.sessions) (buffer_size (set s.sessions sid begun)) p (owner_of s p) (others_stay s.sessions sid begun) (owns_none p)
 
       pub opens_raw : (raw : List ℕ) → AreRaw s raw → AreRaw (opened sid label s) raw
       opens_raw raw all = λ k l. subst (λ (source : PixelSource). IsRawOf source (get_or raw k 0)) (sym (opens_sources (pixel s.config.width k))) (all k l)
@@ -109,7 +99,7 @@ no_loads [] none = refl
 no_loads (load ∷ rest) none =
     let one : (load.0 == load.0) ≡ true = eq-eqb load.0 load.0 refl in
     let count = sum_by-cons (λ (x : ℕ × ℕ). cond (x.0 == load.0) 1 0) load rest in
-    let first : cond (load.0 == load.0) 1 0 ≡ 1 = ap (λ (b : Bool). cond b 1 0) one in
+    let first = ap (λ (b : Bool). cond {A = ℕ} b 1 0) one in
     absurd (omega (arith, none load.0, count, first))
 
 pub stays_seen : (s : State) (sid : ℕ) (source : ℕ → PixelSource) (n : ℕ) (a b : ℕ → Sight) (raw raw' : List ℕ) → (session s sid).status ≢ status.Live → AreLive s
