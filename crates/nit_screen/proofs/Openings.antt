@@ -1,5 +1,5 @@
 -- A session that is over opens again: what stays, where whoever has a view is live.
-use Rattle.nit_screen.proofs.Basics.{All-head, All-tail, All_found, AreBelowNext, AreLive, AreRaw, IsLive, IsRawOf, PixelSource, Point, Repainted, ServerModel, Session, Sight, State, bar_rows, buffer_size, covers, ended, eq-eqb, eqb-false, eqb-true, ext_get_or, first_session, forget, in_bar, is_session, loads_at, member, opened, option_map_or, owner_of, pixel, relabelled, seen, seen_none, session, session_in, session_owns, set-set, source_at, source_of, state_of, sum_by-cons, times_shown, unless_it_is, views_closed, views_of, with_reopened, without}
+use Rattle.nit_screen.proofs.Basics.{All-head, All-tail, All_found, AreBelowNext, AreLive, AreRaw, IsLive, IsRawOf, PixelSource, Point, Repainted, ServerModel, Session, Sight, State, bar_rows, buffer_size, covers, ended, eq-eqb, eqb-true, ext_get_or, first_session, forget, in_bar, is_session, loads_at, member, opened, option_map_or, owner_of, pixel, relabelled, seen, seen_none, session, session_in, session_owns, set-set, source_of, state_of, sum_by-cons, times_shown, unless_it_is, views_closed, views_of, with_reopened, without}
 use Rattle.std.proofs.Common.{All, Bool, IfSome, List, None, Option, Some, [], ap, arith, cond, false, find, get_or, get_or-set_other, length, not, refl, set, subst, suc, sym, true, zero, ℕ, ◌<◌, ◌==◌, ◌∙◌, ◌∷◌, ◌≡◌, ◌≢◌}
 use Rattle.nit_events.specs.declared.event.Status.TheVariants as status
 use Rattle.nit_stack.specs.declared.view.View.{View}
