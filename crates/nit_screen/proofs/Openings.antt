@@ -80,13 +80,12 @@ only_opens s s' sid label is over h =
       input = forgotten (state_of s) sid over h i;
     })
 
--- and no raw word changes
-pub stays_painted : (s : State) (sid : ℕ) (source : ℕ → PixelSource) (n : ℕ) (a b : ℕ → Sight) (raw raw' : List ℕ) → (session s sid).status ≢ status.Live → AreLive s → length raw' ≡ length raw
-    → Repainted source (λ k. session_owns sid s (pixel s.config.width k)) n a b raw raw' → raw' ≡ raw
-stays_painted s sid source n a b raw raw' over h long painted =
-    ext_get_or 0 raw' raw long (λ k l. painted.others k (λ m. owns_none s sid over h (pixel s.config.width k)))
+-- ---- where no pixel is marked
 
--- nor does a glass tell a load
+-- no raw word changes
+pub clean_words : (source : ℕ → PixelSource) (is_marked : ℕ → Bool) (n : ℕ) (a b : ℕ → Sight) (raw raw' : List ℕ) → ((k : ℕ) → is_marked k ≡ false) → length raw' ≡ length raw → Repainted source is_marked n a b raw raw' → raw' ≡ raw
+clean_words source is_marked n a b raw raw' clean long painted = ext_get_or 0 raw' raw long (λ k l. painted.others k (λ m. clean k))
+
 none_shown : (source : ℕ → PixelSource) (is_marked : ℕ → Bool) (t i n : ℕ) → ((k : ℕ) → is_marked k ≡ false) → times_shown source is_marked t i n ≡ 0
 none_shown source is_marked t i zero clean = refl
 none_shown source is_marked t i (suc n) clean =
@@ -102,9 +101,8 @@ no_loads (load ∷ rest) none =
     let first = ap (λ (b : Bool). cond {A = ℕ} b 1 0) one in
     absurd (omega (arith, none load.0, count, first))
 
-pub stays_seen : (s : State) (sid : ℕ) (source : ℕ → PixelSource) (n : ℕ) (a b : ℕ → Sight) (raw raw' : List ℕ) → (session s sid).status ≢ status.Live → AreLive s
-    → Repainted source (λ k. session_owns sid s (pixel s.config.width k)) n a b raw raw' → (t : ℕ) → b t ≡ a t
-stays_seen s sid source n a b raw raw' over h painted t =
-    let clean : (k : ℕ) → session_owns sid s (pixel s.config.width k) ≡ false = λ k. owns_none s sid over h (pixel s.config.width k) in
-    let none = no_loads (painted.loads t) (λ i. painted.counts t i ∙ none_shown source (λ k. session_owns sid s (pixel s.config.width k)) t i n clean) in
+-- and no glass tells a load
+pub clean_seen : (source : ℕ → PixelSource) (is_marked : ℕ → Bool) (n : ℕ) (a b : ℕ → Sight) (raw raw' : List ℕ) → ((k : ℕ) → is_marked k ≡ false) → Repainted source is_marked n a b raw raw' → (t : ℕ) → b t ≡ a t
+clean_seen source is_marked n a b raw raw' clean painted t =
+    let none = no_loads (painted.loads t) (λ i. painted.counts t i ∙ none_shown source is_marked t i n clean) in
     painted.sights t ∙ ap (seen (a t)) none ∙ sym (seen_none (a t))
