@@ -2,4 +2,4 @@
 pub use Rattle.nit_screen.proofs.CallAnswers.{unaccepted_state}
 pub use Rattle.nit_screen.proofs.FrameLabelLemmas.{labels_shown, labels_stand}
 pub use Rattle.nit_screen.proofs.Handles.{delivered_keeps_next, taking_keeps_next}
-pub use Rattle.nit_screen.proofs.Openings.{only_opens, owns_none, stays_painted, stays_seen}
+pub use Rattle.nit_screen.proofs.Openings.{clean_seen, clean_words, only_opens, owns_none}

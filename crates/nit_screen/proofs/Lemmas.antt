@@ -1,5 +1,5 @@
 -- What answers use: all that lemmas use, and this crate's lemmas.
-pub use Rattle.nit_screen.proofs.Basics.{Close, Configuration, HoldBuffers, IsClean, IsFrameOf, IsGlass, IsNamedBy, IsOn, IsPartOf, IsRemovedFrom, IsServed, IsSlotView, IsTrue, IsViewChange, IsWord, Mode, PixelSource, Repainted, Scenery, ServerModel, Sight, SlotView, StackModel, State, [], all_painted, all_taken, ap, arith, bare_word, closed, deliveries_of, draws_labels, false, false≢true, frame, get_or-replicate, get_or_read, glass_in, glasses_of_call, goes, goes_painted, gone_change, gone_painted, gone_room, held_by_all, is_accepted, is_of_session, kept_frame, kills, length, length-frame, length-map, length-replicate, list_any, map, no_sight, nothing_set, one_less, other_count, painted_more, pixel, pixel_count, place_is, raw_in, raw_of, refl, refused_reply, repainted_none, repainted_words, rules, scenery_of, seat_here, serve_refused, session, session_in, session_owns, slice_index, slot_owns_either, slot_view_in, source_of_number, state_of, stays, stays_clean, subst, sym, taken_held, taken_more, taken_none, unbarred, uncovered, vec_capacity, views_of, wanted, without_session, without_views, ℕ, ◌∙◌}
+pub use Rattle.nit_screen.proofs.Basics.{Close, Configuration, HoldBuffers, IsClean, IsFrameOf, IsGlass, IsNamedBy, IsOn, IsPartOf, IsRemovedFrom, IsServed, IsSlotView, IsTrue, IsViewChange, IsWord, Mode, PixelSource, Repainted, Scenery, ScreenModel, ServerModel, Sight, SlotView, StackModel, State, [], all_painted, all_taken, ap, arith, bare_word, closed, deliveries_of, draws_labels, false, false≢true, frame, get_or-replicate, get_or_read, glass_in, glasses_of_call, goes, goes_painted, gone_change, gone_painted, gone_room, held_by_all, is_accepted, is_of_session, kept_frame, kills, length, length-frame, length-map, length-replicate, list_any, map, no_sight, nothing_set, one_less, other_count, painted_more, pixel, pixel_count, place_is, raw_in, raw_of, refl, refused_reply, repainted_none, repainted_words, rules, scenery_of, seat_here, serve_refused, session, session_in, session_owns, slice_get_read, slice_index, slot_owns_either, slot_view_in, source_of_number, state_of, stays, stays_clean, subst, sym, taken_held, taken_more, taken_none, unbarred, uncovered, vec_capacity, views_of, wanted, without_session, without_views, ℕ, ◌∙◌}
 pub use Rattle.nit_screen.proofs.CallAnswers.{refused_state, unrefused_reply}
 pub use Rattle.nit_screen.proofs.CleanPixels.{keeps_source}
 pub use Rattle.nit_screen.proofs.FrameLabelLemmas.{labels_shown, labels_stand}

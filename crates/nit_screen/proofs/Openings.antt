@@ -1,5 +1,5 @@
 -- A session that is over opens again: what stays, where whoever has a view is live.
-use Rattle.nit_screen.proofs.Basics.{All-head, All-tail, All_found, AreBelowNext, AreLive, AreRaw, IsLive, IsRawOf, PixelSource, Point, Repainted, ServerModel, Session, Sight, State, bar_rows, buffer_size, covers, ended, eq-eqb, eqb-false, eqb-true, ext_get_or, first_session, forget, in_bar, is_session, loads_at, member, opened, option_map_or, owner_of, pixel, relabelled, seen, seen_none, session, session_in, session_owns, set-set, source_at, source_of, state_of, sum_by-cons, times_shown, unless_it_is, views_closed, views_of, with_reopened, without}
+use Rattle.nit_screen.proofs.Basics.{All-head, All-tail, All_found, AreBelowNext, AreLive, AreRaw, IsLive, IsRawOf, PixelSource, Point, Repainted, ServerModel, Session, Sight, State, bar_rows, buffer_size, covers, ended, eq-eqb, eqb-true, ext_get_or, first_session, forget, in_bar, is_session, loads_at, member, opened, option_map_or, owner_of, pixel, relabelled, seen, seen_none, session, session_in, session_owns, set-set, source_of, state_of, sum_by-cons, times_shown, unless_it_is, views_closed, views_of, with_reopened, without}
 use Rattle.std.proofs.Common.{All, Bool, IfSome, List, None, Option, Some, [], ap, arith, cond, false, find, get_or, get_or-set_other, length, not, refl, set, subst, suc, sym, true, zero, ℕ, ◌<◌, ◌==◌, ◌∙◌, ◌∷◌, ◌≡◌, ◌≢◌}
 use Rattle.nit_events.specs.declared.event.Status.TheVariants as status
 use Rattle.nit_stack.specs.declared.view.View.{View}
@@ -80,13 +80,12 @@ only_opens s s' sid label is over h =
       input = forgotten (state_of s) sid over h i;
     })
 
--- and no raw word changes
-pub stays_painted : (s : State) (sid : ℕ) (source : ℕ → PixelSource) (n : ℕ) (a b : ℕ → Sight) (raw raw' : List ℕ) → (session s sid).status ≢ status.Live → AreLive s → length raw' ≡ length raw
-    → Repainted source (λ k. session_owns sid s (pixel s.config.width k)) n a b raw raw' → raw' ≡ raw
-stays_painted s sid source n a b raw raw' over h long painted =
-    ext_get_or 0 raw' raw long (λ k l. painted.others k (λ m. owns_none s sid over h (pixel s.config.width k)))
+-- ---- where no pixel is marked
 
--- nor does a glass tell a load
+-- no raw word changes
+pub clean_words : (source : ℕ → PixelSource) (is_marked : ℕ → Bool) (n : ℕ) (a b : ℕ → Sight) (raw raw' : List ℕ) → ((k : ℕ) → is_marked k ≡ false) → length raw' ≡ length raw → Repainted source is_marked n a b raw raw' → raw' ≡ raw
+clean_words source is_marked n a b raw raw' clean long painted = ext_get_or 0 raw' raw long (λ k l. painted.others k (λ m. clean k))
+
 none_shown : (source : ℕ → PixelSource) (is_marked : ℕ → Bool) (t i n : ℕ) → ((k : ℕ) → is_marked k ≡ false) → times_shown source is_marked t i n ≡ 0
 none_shown source is_marked t i zero clean = refl
 none_shown source is_marked t i (suc n) clean =
@@ -102,9 +101,8 @@ no_loads (load ∷ rest) none =
     let first = ap (λ (b : Bool). cond {A = ℕ} b 1 0) one in
     absurd (omega (arith, none load.0, count, first))
 
-pub stays_seen : (s : State) (sid : ℕ) (source : ℕ → PixelSource) (n : ℕ) (a b : ℕ → Sight) (raw raw' : List ℕ) → (session s sid).status ≢ status.Live → AreLive s
-    → Repainted source (λ k. session_owns sid s (pixel s.config.width k)) n a b raw raw' → (t : ℕ) → b t ≡ a t
-stays_seen s sid source n a b raw raw' over h painted t =
-    let clean : (k : ℕ) → session_owns sid s (pixel s.config.width k) ≡ false = λ k. owns_none s sid over h (pixel s.config.width k) in
-    let none = no_loads (painted.loads t) (λ i. painted.counts t i ∙ none_shown source (λ k. session_owns sid s (pixel s.config.width k)) t i n clean) in
+-- and no glass tells a load
+pub clean_seen : (source : ℕ → PixelSource) (is_marked : ℕ → Bool) (n : ℕ) (a b : ℕ → Sight) (raw raw' : List ℕ) → ((k : ℕ) → is_marked k ≡ false) → Repainted source is_marked n a b raw raw' → (t : ℕ) → b t ≡ a t
+clean_seen source is_marked n a b raw raw' clean painted t =
+    let none = no_loads (painted.loads t) (λ i. painted.counts t i ∙ none_shown source is_marked t i n clean) in
     painted.sights t ∙ ap (seen (a t)) none ∙ sym (seen_none (a t))

@@ -1,5 +1,5 @@
 -- What holds of a screen stays so when a session, of which nothing is left, opens again.
-use Rattle.std.proofs.Common.{Bool, List, ap, false, get_or-set_other, get_or-set_same, length, map, refl, set, subst, sym, true, ℕ, ◌*◌, ◌<◌, ◌==◌, ◌∙◌, ◌≡◌}
+use Rattle.std.proofs.Common.{Bool, List, ap, false, get_or-set_other, get_or-set_same, length, map, refl, set, subst, sym, true, ℕ, ◌<◌, ◌==◌, ◌∙◌, ◌≡◌}
 use Rattle.nit_screen.proofs.Basics.{CanShow, Configuration, IsGlass, IsGlassOf, IsServer, Member, ServerModel, Session, Sight, bar_rows, buffer_size, client_kept, ended, eqb-false, eqb-true, first_session, glass_in, length-map, length-set, map-set, member, no_sight, no_size, pixel, relabelled, renamed, seen, session_in, size_of_buffer, source, source_at, state_of, table_size, views_of, with_ended, with_opened}
 use Rattle.nit_screen.proofs.BufferSizes.{sizes_stay}
 use Rattle.nit_events.specs.declared.event.Status.TheVariants as status

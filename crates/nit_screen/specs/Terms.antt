@@ -6,6 +6,6 @@ pub use Rattle.nit_screen.specs.FrameLabels.{AreLabelsApart, IsLabelShown, Shows
 pub use Rattle.nit_screen.specs.LabelSlots.{AreLabelled, IsLabelled, label_scenery}
 pub use Rattle.nit_screen.specs.Pixels.{ArePixels, CanShow, CanShowBy, IsFrameOf, ShowsBelow, kept_frame, raw_in, raw_of, shown_by, unbarred}
 pub use Rattle.nit_screen.specs.RawWords.{AreInked, AreRaw, IsInkedBy, IsRawOf, Painted, glass_in, pixel_count, source_at}
-pub use Rattle.nit_screen.specs.Screen.{IsGlass, IsGlassOf}
+pub use Rattle.nit_screen.specs.Screen.{IsGlass, IsGlassOf, ScreenModel}
 pub use Rattle.nit_screen.specs.StateScenery.{scenery_of}
 pub use Rattle.nit_screen.specs.ViewNames.{AreBelowNext, HaveOwnNames, IsNewlyNamed}

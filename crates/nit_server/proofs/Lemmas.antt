@@ -1,5 +1,5 @@
 -- What answers use: all that lemmas use, and this crate's lemmas.
-pub use Rattle.nit_server.proofs.Basics.{All_found, Close, Configuration, Delivery, Destroy, Done, IfNone, IsServed, IsServer, IsServerInput, IsSlotView, IsSomeAnd, KeptSessionModel, MayLose, Routing, ServerModel, Session, SlotsModel, StackModel, accepted, ap, client_in, delivered_length, delivery, ended, first_kept_session, first_session, has_handle, has_view, is_of_session, is_slot, is_taken, kept_session_at, length-map, length-set, list_any, member, name_of, owner_is, pairs_of, refusal, routed_as, routing_of, server_of, session_in, slot_of, slots_of_all, subst, sym, to_z-of_z, without_slot, without_view, without_views, ◌∙◌}
+pub use Rattle.nit_server.proofs.Basics.{All_found, Close, Configuration, Delivery, Destroy, Done, IfNone, IsServed, IsServer, IsServerInput, IsSlotView, IsSomeAnd, KeptSessionModel, MayLose, Member, Routing, ServerModel, Session, SlotsModel, StackModel, accepted, ap, bytes_eq-Decides, client_in, delivered_length, delivery, ended, first_kept_session, first_session, get_or_default, has_handle, has_view, is_of_session, is_slot, is_taken, kept_session_at, length-map, length-set, list_any, member, name_of, not_from_Decides, owner_is, pairs_of, refusal, routed_as, routing_of, server_of, session_in, slot_of, slots_of_all, subst, sym, to_z-of_z, without_slot, without_view, without_views, ◌∙◌}
 pub use Rattle.nit_server.proofs.KeptSessionLemmas.{has_as_held, none_of, session_without}
 pub use Rattle.nit_server.proofs.LostEvents.{each_one, may_lose}
 pub use Rattle.nit_server.proofs.NewViews.{IsNewView, created, new_name, view_comes}

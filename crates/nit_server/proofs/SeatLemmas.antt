@@ -1,9 +1,6 @@
 -- What holds of a server stays so when a session, of which nothing is left, opens again.
-use Rattle.std.proofs.Common.{Bool, IsTrue, List, [], ap, arith, cond, false, get_or, get_or-set_other, get_or-set_same, length, map, refl, set, subst, sum, sym, true, ℕ, ◌+◌, ◌-◌, ◌<◌, ◌==◌, ◌∙◌, ◌∷◌, ◌≡◌, ◌≢◌, ◌≤◌}
-use Rattle.std.specs.List.{AllPairs}
-use Rattle.std.proofs.lemmas.List.Elements.{All-from_get_or}
-use Rattle.nit_glyph.specs.Texts.{is_label}
-use Rattle.nit_server.proofs.Basics.{All-get_or, AllOfInput, AreServerParts, Configuration, FocusModel, IsConfiguration, IsFreeLabel, IsMember, IsServerInput, IsSessionOfClient, KeptSessionModel, Member, ServerModel, Session, Size, SlotsModel, StackModel, client_in, eqb-false, eqb-true, first_session, get_or-map, get_or_default, kept_session_at, length-set, map-set, map-set_same, member, no_kept_session, relabelled, room, server_of, session_in, set-get_or, size_of_buffer, view_slots, with_opened}
+use Rattle.std.proofs.Common.{Bool, IsTrue, List, [], ap, arith, cond, false, get_or, get_or-set_other, get_or-set_same, length, map, refl, set, subst, sum, sym, true, ℕ, ◌+◌, ◌-◌, ◌<◌, ◌==◌, ◌∙◌, ◌≡◌, ◌≢◌, ◌≤◌}
+use Rattle.nit_server.proofs.Basics.{All-from_get_or, All-get_or, AllOfInput, AllPairs, AreServerParts, Configuration, FocusModel, IsConfiguration, IsFreeLabel, IsMember, IsServerInput, IsSessionOfClient, KeptSessionModel, Member, ServerModel, Session, Size, SlotsModel, StackModel, client_in, eqb-false, eqb-true, first_session, get_or-map, get_or_default, is_label, kept_session_at, length-set, map-set, map-set_same, member, no_kept_session, relabelled, room, server_of, session_in, set-get_or, size_of_buffer, view_slots, with_opened}
 use Rattle.nit_server.proofs.KeptSessionLemmas.{none_of}
 use Rattle.nit_server.proofs.ServedCalls.{repaid}
 use Rattle.nit_server.proofs.ServerLemmas.{has_member, machine_is, no_client}

@@ -17,6 +17,7 @@ pub use Rattle.nit_events.specs.declared.event.Routed.{Routed}
 pub use Rattle.nit_events.specs.declared.event.Status.{Status}
 pub use Rattle.nit_focus.specs.Focus.{AllOfInput, FocusModel, clicks_on_list, pointer, with_pointer}
 pub use Rattle.nit_focus.specs.Reach.{HasForgotten, IsForgottenIfKilled, IsWithinReach}
+pub use Rattle.nit_glyph.specs.Texts.{is_label}
 pub use Rattle.nit_journal.specs.Deliveries.{is_kill, kills}
 pub use Rattle.nit_journal.specs.Projection.{reserved, views_in_use}
 pub use Rattle.nit_journal.specs.Session.{Answered, Session, accepted, answered, by_call, by_handle, by_life, by_quota, by_refusal, by_status, ended, first_session, has_view, is_side, queued, receive, refusal, serve, taking, unless}
@@ -35,6 +36,6 @@ pub use Rattle.nit_stack.specs.Sources.{Size, no_size, owner, owner_in, point}
 pub use Rattle.nit_stack.specs.Stack.{IsBar, IsBufferSize, IsRectInRange, IsSlotView, IsStack, NoPair, SlotView, StackModel, fresh, fresh_in, has_slot, is_named, is_of_session, is_slot, layer_of, moved_above, on_view, put_own_back, put_own_front, slot_layer, slot_view_in, slot_view_layer, view_ref, with_offset, with_rect, with_title}
 pub use Rattle.nit_stack.specs.ViewNames.{IsNamedBy, MeanSame, name_in, name_of, view_layer, views_of}
 pub use Rattle.nit_stack.specs.declared.view.View.{View}
-pub use Rattle.std.specs.List.{AllByRecursion, list_any}
+pub use Rattle.std.specs.List.{AllByRecursion, AllPairs, list_any}
 pub use Rattle.std.specs.Option.{is_some, option_map_or}
 pub use Rattle.std.specs.Prelude.{IfNone, IsSomeAnd, List, [], int_le, length, map, nat_le, negsuc, pos, replicate, slice_set, sum, ℕ, ℤ}

@@ -1,7 +1,5 @@
 use Rattle.std.proofs.Common.{List, Some, length-set, ℕ, slice_get, slice_index_or, ◌<◌, ◌≡◌}
-use Rattle.std.proofs.lemmas.Option.{slice_get_read}
-use Rattle.nit_screen.proofs.Lemmas.{Configuration, IsGlass, ap, exchanged, length, length-map, refl, subst, sym, ◌∙◌}
-use Rattle.nit_screen.specs.Screen.{ScreenModel}
+use Rattle.nit_screen.proofs.Lemmas.{IsGlass, ScreenModel, ap, exchanged, length, length-map, refl, slice_get_read, subst, sym, ◌∙◌}
 use Rattle.nit_screen.proofs.screen.Screen.exchange.Goals as goal
 
 pub invariant_of-self : goal.invariant_of-self

@@ -1,4 +1,3 @@
-use Rattle.std.proofs.Common.{◌*◌}
 use Rattle.nit_screen.proofs.Lemmas.{PixelSource, Repainted, ap, arith, as_many, can_relabel, glass_in, label_there, length, length-map, map, pixel, pixel_count, raw_of, same_source, session_owns, state_of, subst, sym, tables_stay, vec_capacity, ℕ, ◌∙◌}
 use Rattle.nit_screen.proofs.screen.Screen.reopen.Goals as goal
 

@@ -1,4 +1,4 @@
-use Rattle.std.proofs.Common.{List, [], ap, get_or-set_same, length, map, refl, set, subst, sym, ℕ, ◌<◌, ◌∙◌, ◌∷◌, ◌≡◌}
+use Rattle.std.proofs.Common.{[], ap, get_or-set_same, length, set, subst, sym, ℕ, ◌<◌, ◌∙◌, ◌≡◌}
 use Rattle.nit_server.proofs.Lemmas.{KeptSessionModel, ServerModel, Session, attends_less, ended, first_session, has_member, kept_session_at, length-set, machine_is, none_of, own_member, server_of, session_ends, session_in, session_over, without_views}
 use Rattle.nit_server.proofs.server.Server.end_session.Goals as goal
 

@@ -1,9 +1,4 @@
-use Rattle.std.proofs.Common.{sym, ◌∙◌}
-use Rattle.std.proofs.lemmas.Bool.Decides.{not_from_Decides}
-use Rattle.std.proofs.lemmas.Slice.Eq.{bytes_eq-Decides}
-use Rattle.std.proofs.lemmas.List.{get_or_default}
-use Rattle.nit_config.specs.declared.config.Member.{Member}
-use Rattle.nit_server.proofs.Lemmas.{ap, no_client, one_more}
+use Rattle.nit_server.proofs.Lemmas.{Member, ap, bytes_eq-Decides, get_or_default, no_client, not_from_Decides, one_more, sym, ◌∙◌}
 use Rattle.nit_server.proofs.server.seats.is_free.Goals as goal
 use Rattle.nit_server.proofs.server.seats.is_free.Goals.{else-i-sid-via-then-i-sid+else-eq, else-i-sid-via-else-i-sid}
 
