@@ -1,8 +1,12 @@
 -- A desktop on which nothing was done yet, whose sessions are closed one after the other.
 use Rattle.std.proofs.Common.{Bool, List, [], ap, arith, cond, false, get_or, get_or-set_other, get_or-set_same, inl, inr, length, map, refl, set, subst, suc, sym, true, zero, ℕ, ◌+◌, ◌*◌, ◌<◌, ◌==◌, ◌∙◌, ◌≡◌, ◌≤◌, ◌≢◌}
 use Rattle.std.proofs.Math.ListN.{get_or-map, length-set}
-use Rattle.std.proofs.lemmas.List.{length-map}
-use Rattle.nit_desktop.proofs.Basics.{Configuration, Entry, Member, Painted, Reply, Session, Sight, State, after, cases_eq, clean_seen, clean_words, dirty, ended, ext_get_or, first_input, first_session, first_state, is_accepted, pixel, pixel_count, serve, serve_accepted, session, session_in, source_at, vacant_state}
+use Rattle.std.proofs.lemmas.List.{ext_get_or, get_or_default, length-map}
+use Rattle.nit_config.specs.Configuration.{donation_of}
+use Rattle.nit_journal.specs.State.{input_after_call, layer}
+use Rattle.nit_desktop.proofs.Basics.{Configuration, Entry, Member, Painted, Session, Sight, State, after, cases_eq, clean_seen, clean_words, ended, first_input, first_session, first_state, is_accepted, pixel, pixel_count, serve, serve_accepted, session, session_in, source_at, vacant_state}
+use Rattle.nit_events.specs.declared.call.Reply.{Reply}
+use Rattle.nit_screen.specs.DirtyPixels.{dirty}
 use Rattle.nit_events.specs.declared.call.Call.TheVariants as call
 use Rattle.nit_events.specs.declared.call.Reply.TheVariants as reply
 use Rattle.nit_events.specs.declared.entry.Entry.TheVariants as entry
@@ -36,8 +40,8 @@ module _ (s : State) (sid d : ℕ) (r : Reply) (first : session s sid ≡ first_
   pub closes : after s (entry.Call sid call.Close r) ≡ record s { sessions = set s.sessions sid (closed_first d) }
   closes = λ i. record s {
     sessions = set s.sessions sid (ap (λ (a : Answered). a.session) served i);
-    stack = ((λ j. stack_after_call (Rattle.nit_journal.specs.State.layer s.config) sid call.Close r (bare j)) ∙ bare_still (Rattle.nit_journal.specs.State.layer s.config) sid r ∙ sym bare) i;
-    input = ((λ j. Rattle.nit_journal.specs.State.input_after_call sid call.Close (done j) (idle j)) ∙ sym idle) i;
+    stack = ((λ j. stack_after_call (layer s.config) sid call.Close r (bare j)) ∙ bare_still (layer s.config) sid r ∙ sym bare) i;
+    input = ((λ j. input_after_call sid call.Close (done j) (idle j)) ∙ sym idle) i;
   }
 
   -- no pixel is dirty
@@ -56,8 +60,8 @@ module _ (s : State) (sid d : ℕ) (r : Reply) (first : session s sid ≡ first_
 pub record AreClosedTo (config : Configuration) (n : ℕ) (s : State) : Type 0 where
   pub configured : s.config ≡ config
   pub count : length s.sessions ≡ length config.clients
-  pub closed : (t : ℕ) → t < n → t < length config.clients → session s t ≡ closed_first (Rattle.nit_config.specs.Configuration.member config t).donation
-  pub first : (t : ℕ) → n ≤ t → session s t ≡ first_session (Rattle.nit_config.specs.Configuration.member config t).donation
+  pub closed : (t : ℕ) → t < n → t < length config.clients → session s t ≡ closed_first (donation_of config t)
+  pub first : (t : ℕ) → n ≤ t → session s t ≡ first_session (donation_of config t)
   pub bare : s.stack ≡ []
   pub idle : s.input ≡ first_input
 
@@ -71,7 +75,7 @@ none_closed config s is = record {
   idle = ap (λ (t : State). t.input) is;
 }
 
-pub one_closed : (config : Configuration) (n d : ℕ) (s s' : State) → AreClosedTo config n s → n < length config.clients → d ≡ (Rattle.nit_config.specs.Configuration.member config n).donation
+pub one_closed : (config : Configuration) (n d : ℕ) (s s' : State) → AreClosedTo config n s → n < length config.clients → d ≡ donation_of config n
     → s' ≡ record s { sessions = set s.sessions n (closed_first d) } → AreClosedTo config (n + 1) s'
 one_closed config n d s s' h lt donated is = record {
   configured = ap (λ (t : State). t.config) is ∙ h.configured;
@@ -80,7 +84,7 @@ one_closed config n d s s' h lt donated is = record {
       elim (cases_eq t n) [
         | inl e ↦ ap (λ (u : State). session u t) is ∙ ap (λ (m : ℕ). session_in (set s.sessions n (closed_first d)) m) e
             ∙ get_or-set_same s.sessions n (closed_first d) (first_session 0) (subst (λ (m : ℕ). n < m) (sym h.count) lt)
-            ∙ ap closed_first donated ∙ ap (λ (m : ℕ). closed_first (Rattle.nit_config.specs.Configuration.member config m).donation) (sym e)
+            ∙ ap closed_first donated ∙ ap (λ (m : ℕ). closed_first (donation_of config m)) (sym e)
         | inr other ↦ ap (λ (u : State). session u t) is ∙ get_or-set_other s.sessions n t (closed_first d) (first_session 0) other ∙ h.closed t (omega (arith, below, other)) there
       ];
   first = λ t l. ap (λ (u : State). session u t) is ∙ get_or-set_other s.sessions n t (closed_first d) (first_session 0) (λ e. omega (arith, l, e)) ∙ h.first t (omega (arith, l));
@@ -103,8 +107,8 @@ all_closed config s h = λ i. record {
     same = ext_get_or (first_session 0) s.sessions wanted (h.count ∙ sym (length-map config.clients (λ (m : Member). closed_first m.donation)))
         (λ t l.
         let there : t < length config.clients = subst (λ (m : ℕ). t < m) h.count l in
-        h.closed t there there ∙ sym (ap (λ (m : Member). closed_first m.donation) refl) ∙ sym (at t there))
+        h.closed t there there ∙ sym (at t there))
       where
-        at : (t : ℕ) → t < length config.clients → get_or wanted t (first_session 0) ≡ closed_first (Rattle.nit_config.specs.Configuration.member config t).donation
-        at t there = Rattle.std.proofs.lemmas.List.get_or_default wanted t (first_session 0) (closed_first 0) (subst (λ (m : ℕ). t < m) (sym (length-map config.clients (λ (m : Member). closed_first m.donation))) there)
+        at : (t : ℕ) → t < length config.clients → get_or wanted t (first_session 0) ≡ closed_first (donation_of config t)
+        at t there = get_or_default wanted t (first_session 0) (closed_first 0) (subst (λ (m : ℕ). t < m) (sym (length-map config.clients (λ (m : Member). closed_first m.donation))) there)
             ∙ get_or-map (λ (m : Member). closed_first m.donation) config.clients t no_client

@@ -1,3 +1,4 @@
+pub mod Closings
 pub mod DesktopLemmas
 pub mod Openings
 pub mod Basics

@@ -1,6 +1,6 @@
 //! What can be read of a desktop.
 
-ghost use Rattle.std.specs.Prelude.{◌≡◌, ◌<◌, ◌*◌, IfSome, IsTrue, false, length, map, ℕ, ⊥};
+ghost use Rattle.std.specs.Prelude.{◌≡◌, ◌<◌, ◌*◌, IfSome, IsTrue, false, length, map, ℕ};
 ghost use Rattle.nit_desktop.specs.Terms.{AreLive, IsConfiguration, IsFreeLabel, IsGlass, glass_in, member, refusal, session};
 
 use crate::desktop::Desktop;
