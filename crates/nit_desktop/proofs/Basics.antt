@@ -4,4 +4,4 @@ pub use Rattle.nit_journal.proofs.ForCallers.{bare_everywhere, serve_accepted}
 pub use Rattle.nit_screen.proofs.ForCallers.{clean_seen, clean_words, only_opens, owns_none, unaccepted_state}
 pub use Rattle.nit_server.proofs.ForCallers.{entry_loses}
 pub use Rattle.nit_stack.specs.declared.view.View.{View}
-pub use Rattle.std.proofs.lemmas.Bool.{cases_eq, eqb-false, eqb-true}
+pub use Rattle.std.proofs.lemmas.Bool.{cases_eq, eqb-false, eqb-true, ne_eqb}

@@ -1,12 +1,16 @@
 -- A desktop on which nothing was done yet, whose sessions are closed one after the other.
-use Rattle.std.proofs.Common.{Bool, List, [], ap, arith, cond, false, get_or, get_or-set_other, get_or-set_same, inl, inr, length, map, refl, set, subst, suc, sym, true, zero, ℕ, ◌+◌, ◌*◌, ◌<◌, ◌==◌, ◌∙◌, ◌≡◌, ◌≤◌, ◌≢◌}
+use Rattle.std.proofs.Common.{Bool, List, None, Option, Some, [], ap, arith, cond, false, get_or, get_or-set_other, get_or-set_same, inl, inr, length, map, refl, set, slice_get, subst, sym, true, ℕ, ◌+◌, ◌<◌, ◌∙◌, ◌∷◌, ◌≡◌, ◌≤◌, ◌≢◌}
 use Rattle.std.proofs.Math.ListN.{get_or-map, length-set}
 use Rattle.std.proofs.lemmas.List.{ext_get_or, get_or_default, length-map}
-use Rattle.nit_config.specs.Configuration.{donation_of}
+use Rattle.std.proofs.lemmas.Option.{get_or_from_slice_get, slice_get_within}
+use Rattle.nit_config.specs.Configuration.{bar_rows, donation_of}
+use Rattle.nit_screen.specs.Terms.{in_bar, is_session, option_map_or}
 use Rattle.nit_journal.specs.State.{input_after_call, layer}
-use Rattle.nit_desktop.proofs.Basics.{Configuration, Entry, Member, Painted, Session, Sight, State, after, cases_eq, clean_seen, clean_words, ended, first_input, first_session, first_state, is_accepted, pixel, pixel_count, serve, serve_accepted, session, session_in, source_at, vacant_state}
+use Rattle.nit_desktop.proofs.Basics.{Configuration, Member, Painted, Session, Sight, State, after, cases_eq, ne_eqb, clean_seen, clean_words, ended, first_input, first_session, first_state, is_accepted, pixel, pixel_count, serve, serve_accepted, session, session_in, source_at, vacant_state}
 use Rattle.nit_events.specs.declared.call.Reply.{Reply}
 use Rattle.nit_screen.specs.DirtyPixels.{dirty}
+use Rattle.nit_paint.specs.Repaint.{no_sight}
+use Rattle.nit_repaint.specs.Glasses.{glass_in, glasses_of_call}
 use Rattle.nit_events.specs.declared.call.Call.TheVariants as call
 use Rattle.nit_events.specs.declared.call.Reply.TheVariants as reply
 use Rattle.nit_events.specs.declared.entry.Entry.TheVariants as entry
@@ -45,14 +49,41 @@ module _ (s : State) (sid d : ℕ) (r : Reply) (first : session s sid ≡ first_
   }
 
   -- no pixel is dirty
+  no_owner : (b : Bool) → option_map_or (is_session sid) (cond {A = Option View} b None None) false ≡ false
+  no_owner true = refl
+  no_owner false = refl
+
   clean : (s' : State) (k : ℕ) → dirty s (entry.Call sid call.Close r) s' (pixel s.config.width k) ≡ false
-  clean s' k = rw (done, bare) refl
+  clean s' k = rw (done, bare) (no_owner (in_bar (bar_rows s.config) (pixel s.config.width k)))
 
   pub closes_clean : (s' : State) (a b : ℕ → Sight) (raw raw' : List ℕ) → Painted s (entry.Call sid call.Close r) s' a b raw raw' → length raw' ≡ length raw → raw' ≡ raw
   closes_clean s' a b raw raw' painted long = clean_words (source_at s') _ (pixel_count s) a b raw raw' (clean s') long painted
 
   pub closes_unseen : (s' : State) (a b : ℕ → Sight) (raw raw' : List ℕ) → Painted s (entry.Call sid call.Close r) s' a b raw raw' → (t : ℕ) → b t ≡ a t
   closes_unseen s' a b raw raw' painted = clean_seen (source_at s') _ (pixel_count s) a b raw raw' (clean s') painted
+
+-- the glasses are as before where none of them tells a load, and the one that the call left out is
+pub same_sights : (old new : List Sight) (sid : ℕ) (own own' : Sight) → length new ≡ length old → glass_in new sid ≡ glass_in old sid
+    → ((t : ℕ) → glasses_of_call new sid own' t ≡ glasses_of_call old sid own t) → new ≡ old
+same_sights old new sid own own' long idle same =
+    ext_get_or no_sight new old long (λ t l.
+    elim (cases_eq t sid) [
+      | inl e ↦ ap (glass_in new) e ∙ idle ∙ ap (glass_in old) (sym e)
+      | inr other ↦ sym (apart new own' t other) ∙ same t ∙ apart old own t other
+    ])
+  where
+    apart : (glasses : List Sight) (glass : Sight) (t : ℕ) → t ≢ sid → glasses_of_call glasses sid glass t ≡ glass_in glasses t
+    apart glasses glass t other = ap (λ (b : Bool). cond b glass (glass_in glasses t)) (ne_eqb t sid other)
+
+pub as_many_sights : {A R : Type 0} (sight : A → Sight) (rest : A → R) (old new : List A) → map rest new ≡ map rest old → length (map sight new) ≡ length (map sight old)
+as_many_sights sight rest old new rests = length-map new sight ∙ sym (length-map new rest) ∙ ap length rests ∙ length-map old rest ∙ sym (length-map old sight)
+
+-- the glass that is taken out of a list is the one of its number there
+pub taken_out : {A : Type 0} (sight : A → Sight) (glasses : List A) (sid : ℕ) (out : A) → slice_get glasses sid ≡ Some out → sight out ≡ glass_in (map sight glasses) sid
+taken_out sight glasses sid out is =
+    sym (get_or_default (map sight glasses) sid no_sight (sight out) (subst (λ (n : ℕ). sid < n) (sym (length-map glasses sight)) (slice_get_within glasses sid out is))
+    ∙ get_or-map sight glasses sid out
+    ∙ ap sight (get_or_from_slice_get glasses sid out out is))
 
 -- ---- all of them
 
@@ -92,8 +123,8 @@ one_closed config n d s s' h lt donated is = record {
   idle = ap (λ (t : State). t.input) is ∙ h.idle;
 }
 
-pub all_closed : (config : Configuration) (s : State) → AreClosedTo config (length config.clients) s → s ≡ vacant_state config
-all_closed config s h = λ i. record {
+pub all_closed : (config : Configuration) (n : ℕ) (s : State) → AreClosedTo config n s → length config.clients ≤ n → s ≡ vacant_state config
+all_closed config n s h far = λ i. record {
   config = h.configured i;
   sessions = same i;
   stack = h.bare i;
@@ -107,8 +138,19 @@ all_closed config s h = λ i. record {
     same = ext_get_or (first_session 0) s.sessions wanted (h.count ∙ sym (length-map config.clients (λ (m : Member). closed_first m.donation)))
         (λ t l.
         let there : t < length config.clients = subst (λ (m : ℕ). t < m) h.count l in
-        h.closed t there there ∙ sym (at t there))
+        h.closed t (omega (arith, there, far)) there ∙ sym (at t there))
       where
         at : (t : ℕ) → t < length config.clients → get_or wanted t (first_session 0) ≡ closed_first (donation_of config t)
         at t there = get_or_default wanted t (first_session 0) (closed_first 0) (subst (λ (m : ℕ). t < m) (sym (length-map config.clients (λ (m : Member). closed_first m.donation))) there)
             ∙ get_or-map (λ (m : Member). closed_first m.donation) config.clients t no_client
+
+-- none of them lost an event
+pub none_lost : (config : Configuration) (t : ℕ) → (session (vacant_state config) t).lost ≡ 0
+none_lost config t =
+    sym (get_or-map (λ (u : Session). u.lost) (map (λ m. closed_first m.donation) config.clients) t (first_session 0))
+    ∙ ap (λ (ns : List ℕ). get_or ns t 0) (each config.clients)
+    ∙ get_or-map (λ (m : Member). 0) config.clients t no_client
+  where
+    each : (clients : List Member) → map (λ (u : Session). u.lost) (map (λ m. closed_first m.donation) clients) ≡ map (λ (m : Member). 0) clients
+    each [] = refl
+    each (m ∷ rest) = ap (λ (ns : List ℕ). 0 ∷ ns) (each rest)

@@ -1,6 +1,6 @@
 -- A screen that keeps no journal, after one step more.
-use Rattle.std.proofs.Common.{List, [], ap, arith, length, map, refl, subst, sym, ℕ, ◌+◌, ◌*◌, ◌-◌, ◌^◌, ◌<◌, ◌∙◌, ◌≡◌, ◌≤◌, false}
-use Rattle.nit_desktop.proofs.Basics.{Agrees, AreBelowNext, AreInked, AreLive, AreRaw, Entry, HaveOwnNames, IsDesktop, Painted, Sight, State, View, after, entry_loses, session}
+use Rattle.std.proofs.Common.{List, arith, subst, sym, ℕ, ◌+◌, ◌-◌, ◌≡◌, ◌≤◌}
+use Rattle.nit_desktop.proofs.Basics.{Agrees, AreBelowNext, AreInked, AreLive, AreRaw, Entry, HaveOwnNames, IsDesktop, Painted, Sight, State, after, entry_loses, session}
 use Rattle.nit_screen.specs.ViewNames.{IsNewlyNamed}
 
 -- what the laws say

@@ -1,10 +1,9 @@
 -- A desktop before its first step, and where a session opens again.
-use Rattle.std.proofs.Common.{Bool, List, [], ap, arith, false, get_or, get_or-set_other, get_or-set_same, length, map, refl, replicate, set, subst, sym, true, ℕ, ◌+◌, ◌*◌, ◌^◌, ◌<◌, ◌==◌, ◌∙◌, ◌≡◌, ◌≢◌}
+use Rattle.std.proofs.Common.{Bool, List, [], ap, arith, false, get_or, get_or-set_other, get_or-set_same, length, refl, replicate, subst, sym, true, ℕ, ◌+◌, ◌*◌, ◌^◌, ◌<◌, ◌==◌, ◌∙◌, ◌≡◌}
 use Rattle.std.proofs.Math.ListN.{get_or-map}
 use Rattle.std.proofs.lemmas.List.{get_or-replicate}
 use Rattle.std.proofs.lemmas.List.Elements.{All-nil}
 use Rattle.nit_desktop.proofs.Basics.{AreBelowNext, AreLive, AreRaw, Configuration, HaveOwnNames, IsDesktop, IsRawOf, Member, PixelSource, Session, State, View, bare_everywhere, bare_word, eqb-false, eqb-true, first_session, first_state, opened, pixel, session, session_in}
-use Rattle.nit_events.specs.declared.event.Status.TheVariants as status
 
 abbrev no_client : Member
 no_client = record { label = []; donation = 0; script = []; layer = 0; clicks = false }

@@ -1,5 +1,5 @@
-use Rattle.std.proofs.Common.{subst, sym}
-use Rattle.nit_desktop.proofs.Basics.{Agrees, All, Delivery, IsLive, List, state_of}
+use Rattle.std.proofs.Common.{All, List, subst, sym}
+use Rattle.nit_desktop.proofs.Basics.{Agrees, Delivery, IsLive, state_of}
 use Rattle.nit_events.specs.declared.entry.Entry.TheVariants as entry
 use Rattle.nit_desktop.proofs.DesktopLemmas.{goes_on, inks_again, raw_again}
 use Rattle.nit_desktop.proofs.desktop.Desktop.input.Goals as goal

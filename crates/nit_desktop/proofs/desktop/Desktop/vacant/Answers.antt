@@ -1,0 +1,17 @@
+use Rattle.std.proofs.Common.{ap, arith, ◌∙◌}
+use Rattle.nit_desktop.proofs.Basics.{State, session}
+use Rattle.nit_desktop.specs.Desktop.{DesktopModel}
+use Rattle.nit_desktop.proofs.Closings.{none_lost}
+use Rattle.nit_desktop.proofs.desktop.Desktop.vacant.Goals as goal
+
+pub invariant_of-desktop : goal.invariant_of-desktop
+invariant_of-desktop g c =
+    let state_ = ap (λ (d : DesktopModel g.row.G.Denot). d.state) c.desktop.view_is ∙ c.close_all.ensures.state in
+    record {
+      live = c.desktop.invariant.live;
+      raw_words = c.desktop.invariant.raw_words;
+      named = c.desktop.invariant.named;
+      lost = λ t.
+          let none = ap (λ (s : State). (session s t).lost) state_ ∙ none_lost c.args.config.now t in
+          omega (arith, none);
+    }
