@@ -1,7 +1,7 @@
 //! What can be read of a desktop.
 
-ghost use Rattle.std.specs.Prelude.{◌≡◌, ◌<◌, ◌*◌, IfSome, IsTrue, false, length, map, ℕ};
-ghost use Rattle.nit_desktop.specs.Terms.{AreLive, IsConfiguration, IsFreeLabel, IsGlass, glass_in, member, refusal, session};
+ghost use Rattle.std.specs.Prelude.{◌≡◌, ◌<◌, ◌≤◌, ◌*◌, IfSome, IsTrue, false, length, map, ℕ};
+ghost use Rattle.nit_desktop.specs.Terms.{AreLive, IsConfiguration, IsFreeLabel, IsGlass, glass_in, member, refusal, session, table_size};
 
 use crate::desktop::Desktop;
 use nit_events::{Call, Mode, Reply, Status};
@@ -91,6 +91,18 @@ impl<G: Glass + Drop> Desktop<G> {
         ensures taken { result ≡ false → IsFreeLabel self.now.state.config sid label.now → ⊥ }
     {
         self.screen.server().is_free(sid, label)
+    }
+
+    /// The width and the height of the buffer of the session `sid`, in words: 0 by 0 before it has
+    /// one. All its words are within the session's table.
+    pub fn buffer(&self, sid: u32) -> (u32, u32)
+        requires { sid < length self.now.state.sessions }
+        ensures size { result
+            ≡ ((session self.now.state sid).bw, (session self.now.state sid).bh) }
+        ensures within { result.0 * result.1
+            ≤ table_size (member self.now.state.config sid).donation }
+    {
+        self.screen.server().stack().buffer(sid)
     }
 
     /// The mode of the user's input.
