@@ -250,6 +250,7 @@ static void seats(void)
     CHECK(nit_seat_for(&server, TEXT("a")) == NIT_NONE);
     CHECK(nit_seat_for(&server, TEXT("b")) == 1);
     CHECK(nit_seat(&server, 1, TEXT("b")) == NIT_DONE);
+    CHECK(nit_seat(&server, 0, TEXT("b")) == NIT_SEAT_TAKEN);
     REPLY(nit_leave(&server, 1), .kind = NIT_DONE);
     REPLY(nit_leave(&server, 0), .kind = NIT_DONE);
     CHECK(nit_seat_for(&server, TEXT("b")) == 1 && nit_seat_for(&server, TEXT("c")) == 0);

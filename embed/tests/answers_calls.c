@@ -54,6 +54,31 @@ static void units(void)
     close_plain(&server);
 }
 
+/* A view costs 256 units to the last one. */
+static void units_of_a_view(void)
+{
+    begin(511);
+    handle(nit_view(&server, 0), 1);
+    REPLY(nit_view(&server, 0), .kind = NIT_OUT_OF_QUOTA, .need = 256, .left = 255);
+    done(nit_upgrade(&server, 0, 1));
+    handle(nit_view(&server, 0), 2);
+    close_plain(&server);
+}
+
+/* A seat that is taken again has the donation of the plan, whatever the client before upgraded. */
+static void units_of_the_next(void)
+{
+    begin(1000);
+    done(nit_upgrade(&server, 0, 1000));
+    done(nit_buffer(&server, 0, 12, 11));
+    done(nit_leave(&server, 0));
+    CHECK(nit_seat(&server, 0, TEXT("b")) == NIT_DONE);
+    REPLY(nit_buffer(&server, 0, 12, 11), .kind = NIT_OUT_OF_QUOTA, .need = 1056, .left = 1000);
+    REPLY(nit_upgrade(&server, 0, 1001), .kind = NIT_NO_RESERVE, .need = 1001, .left = 1000);
+    done(nit_upgrade(&server, 0, 1000));
+    close_plain(&server);
+}
+
 /* The largest donation has no reserve, and pays for a buffer of a million words. */
 static void the_most_units(void)
 {
@@ -224,6 +249,8 @@ static void sessions_that_are_over(void)
 void calls_answer(void)
 {
     units();
+    units_of_a_view();
+    units_of_the_next();
     the_most_units();
     sizes();
     rectangles();

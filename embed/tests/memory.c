@@ -1,6 +1,5 @@
 /* What memory.h says. */
 #include "memory.h"
-#include <stdbool.h>
 
 void *__real_malloc(size_t size);
 void *__real_realloc(void *block, size_t size);
@@ -17,6 +16,11 @@ static size_t refused_at;
 void memory_refuse(size_t number)
 {
     refused_at = number ? memory_requests + number : 0;
+}
+
+bool memory_was_refused(void)
+{
+    return refused_at != 0 && memory_requests >= refused_at;
 }
 
 static bool is_refused(void)

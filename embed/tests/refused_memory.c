@@ -29,10 +29,10 @@ static void refuse_each(const char *name, uint32_t (*open)(struct nit_server *))
     for (;;) {
         memory_refuse(++number);
         uint32_t answer = open(&server);
+        CHECK(answer == (memory_was_refused() ? NIT_NO_MEMORY : NIT_DONE));
         memory_refuse(0);
         if (answer == NIT_DONE)
             break;
-        CHECK(answer == NIT_NO_MEMORY);
         CHECK(server.at == NULL && server.mark == 0 && memory_held == held);
         CHECK(nit_close(&server) == NIT_NO_SERVER);
     }
@@ -87,8 +87,9 @@ static void refuse_text(struct nit_server *server)
         memset(out, 'x', sizeof out);
         memory_refuse(++number);
         length = nit_entry(server, out, sizeof out);
+        CHECK(length == (memory_was_refused() ? SIZE_MAX : sizeof line - 1));
+        CHECK(length != SIZE_MAX || out[0] == 'x');
         memory_refuse(0);
-        CHECK(length == sizeof line - 1 || (length == SIZE_MAX && out[0] == 'x'));
         CHECK(memory_held == held);
     } while (length == SIZE_MAX);
     CHECK(memcmp(out, line, length) == 0 && out[length] == 'x');

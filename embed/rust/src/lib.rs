@@ -296,8 +296,8 @@ impl Server {
         }
     }
 
-    /// The last step as a line of a journal (`docs/FORMATS.md`), with its line feed. None where none
-    /// was done yet, or a client sat down since. This call takes memory for its time.
+    /// The last step as a line of a journal (`docs/FORMATS.md`), with its line feed. None where
+    /// none was done yet, or a client sat down since. This call takes memory for its time.
     ///
     /// # Errors
     /// [`Refusal::NoMemory`].

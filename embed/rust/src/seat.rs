@@ -29,8 +29,8 @@ pub struct SeatState {
     pub lost: u64,
 }
 
-/// A seat of a server. Its methods are the calls of the client that sits there; they go by the rules
-/// of `docs/RULES.md`.
+/// A seat of a server. Its methods are the calls of the client that sits there; they go by the
+/// rules of `docs/RULES.md`.
 ///
 /// Each may be refused with [`Refusal::NoSeat`], [`Refusal::WornOut`], [`Refusal::Closed`] and
 /// [`Refusal::Killed`], beside what stands at the call.
