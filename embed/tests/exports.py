@@ -15,6 +15,7 @@ compared where one is given. What is compared:
   by `_Static_assert` that its size and the place of each field are those that Rust's rules for
   `#[repr(C)]` give.
 - each constant of the sources that has the name of one of the header, without NIT_, has its value.
+- `raw.rs` of embed/rust says the same of functions, structs and constants.
 - the archive defines the functions of the header and no other name that another object sees, and
   wants nothing but malloc, realloc, free, memcpy, memmove, memset, memcmp and bcmp.
 
@@ -32,7 +33,7 @@ from pathlib import Path
 sys.path.insert(0, str(Path(__file__).resolve().parents[2] / "tools"))
 
 import runs
-from exports_samples import CHANGES, HEADER, OBJECTS, SOURCES
+from exports_samples import BINDING, BINDINGS, CHANGES, HEADER, OBJECTS, SOURCES
 
 WANTED = {"malloc", "realloc", "free", "memcpy", "memmove", "memset", "memcmp", "bcmp"}
 
@@ -98,7 +99,7 @@ class Sources:
 
     def __init__(self, text):
         text = re.sub(r"//.*$", "", text, flags=re.M)
-        self.structs = {snake(name): self.fields(body) for name, body in
+        self.structs = {self.struct_of(name): self.fields(body) for name, body in
                         re.findall(r"#\[repr\(C\)\][^{]*?struct (\w+) \{(.*?)\n\}", text, re.S)}
         self.functions = {
             name: ("void" if answer is None else self.type_of(answer), self.arguments(words))
@@ -107,19 +108,22 @@ class Sources:
                           re.findall(r"const (\w+): u32 = (\w+);", text)}
 
     @staticmethod
+    def struct_of(name):
+        return snake(name)
+
+    @staticmethod
     def exports(text):
         pattern = (r"#\[unsafe\(no_mangle\)\]\s*pub extern \"C\" fn (\w+)\s*\(([^)]*)\)"
                    r"(?:\s*->\s*(\w+))?")
         return [(name, words, answer or None) for name, words, answer in re.findall(pattern, text)]
 
-    @staticmethod
-    def type_of(word):
+    def type_of(self, word):
         if word in NUMBERS:
             return NUMBERS[word][0]
         if word.startswith("*mut "):
             return "void *"
-        return ("struct " + snake(word[5:]) + " *") if word.startswith("&mut ") \
-            else "struct " + snake(word)
+        return ("struct " + self.struct_of(word[5:]) + " *") if word.startswith("&mut ") \
+            else "struct " + self.struct_of(word)
 
     def arguments(self, text):
         pairs = []
@@ -140,6 +144,25 @@ class Sources:
                 kind, count = (array[1], int(array[2])) if array else (match[3], 0)
                 fields.append((self.type_of(kind), match[2], count))
         return fields
+
+
+class Binding(Sources):
+    """What the Rust crate declares of the library."""
+
+    POINTERS = {"*mut Server": "struct nit_server *", "*const u32": "const uint32_t *",
+                "*mut u32": "uint32_t *", "*const c_char": "const char *", "*mut c_char": "char *",
+                "*mut c_void": "void *"}
+
+    @staticmethod
+    def struct_of(name):
+        return "nit_" + snake(name)
+
+    @staticmethod
+    def exports(text):
+        return re.findall(r"pub fn (\w+)\(([^)]*)\) -> (\w+);", text)
+
+    def type_of(self, word):
+        return self.POINTERS.get(word) or super().type_of(word)
 
 
 # Sizes by the rules of `#[repr(C)]`.
@@ -256,12 +279,18 @@ def source_text(folder):
     return "\n".join(path.read_text() for path in sorted(Path(folder).rglob("*.rt")))
 
 
-def faults_of(header, text, archive):
+def code_faults(ours, theirs, folder):
+    faults = function_faults(ours, theirs) + struct_faults(ours, theirs, folder)
+    return faults + constant_faults(ours, theirs)
+
+
+def faults_of(header, text, archive, binding=None):
     """What differs, and what was compared."""
     ours, theirs = Header(header.read_text()), Sources(text)
-    faults = function_faults(ours, theirs)
-    faults += struct_faults(ours, theirs, header.parent)
-    faults += constant_faults(ours, theirs)
+    faults = code_faults(ours, theirs, header.parent)
+    if binding:
+        faults += [f"raw.rs: {fault}"
+                   for fault in code_faults(ours, Binding(binding), header.parent)]
     faults += archive_faults(ours, archive) if archive else []
     constants = sum(f"NIT_{name}" in ours.constants for name in theirs.constants)
     return faults, (f"functions {len(ours.functions)}, structs {len(crossing(ours))}, "
@@ -284,6 +313,11 @@ def selftest():
             faults, _ = faults_of(header, SOURCES.replace(old, new, 1), None)
             if not is_said(faults, has):
                 yield f"{new!r} in the place of {old!r}: it says {faults} and not {has!r}"
+        header.write_text(HEADER)
+        for old, new, has in [("", "", None), *BINDINGS]:
+            faults, _ = faults_of(header, SOURCES, None, BINDING.replace(old, new, 1))
+            if not is_said(faults, has):
+                yield f"{new!r} in the place of {old!r}: it says {faults} and not {has!r}"
         for text, has in OBJECTS:
             command = [compiler(), "-w", "-c", "-x", "c", "-", "-o", object_file]
             subprocess.run(command, input=text, text=True, check=True)
@@ -302,12 +336,13 @@ def main(words):
     reader.add_argument("--selftest", action="store_true")
     given = reader.parse_args(words)
     if given.selftest:
-        faults, compared = list(selftest()), f"changes {len(CHANGES) + len(OBJECTS)}"
+        faults, compared = list(selftest()), f"changes {len(CHANGES + BINDINGS + OBJECTS)}"
     else:
         text = source_text(given.sources)
         if not text:
             raise runs.WrongWords(f"{given.sources}: no sources")
-        faults, compared = faults_of(given.header, text, given.archive)
+        binding = (top / "embed" / "rust" / "src" / "raw.rs").read_text()
+        faults, compared = faults_of(given.header, text, given.archive, binding)
     print("".join(f"{fault}\n" for fault in faults), end="")
     print(f"exports: {compared}, differences {len(faults)}")
     return 1 if faults else 0

@@ -80,3 +80,45 @@ OBJECTS = [
      "abort is wanted"),
     ("void nit_tell(void) {}", "nit_put is missing"),
 ]
+
+# What the Rust crate declares of it, and what is changed there.
+BINDING = """
+pub const DONE: u32 = 1;
+#[repr(C)]
+pub struct Server {
+    pub at: *mut c_void,
+    pub mark: u64,
+}
+#[repr(C)]
+#[derive(Clone, Copy)]
+pub struct Pair {
+    pub x: u16,
+    pub y: u16,
+    pub turn: i32,
+}
+#[repr(C)]
+pub struct Told {
+    pub kind: u32,
+    pub to: [Pair; 3],
+    pub need: u64,
+}
+extern "C" {
+    pub fn nit_tell(
+        server: *mut Server,
+        w: u32,
+        x: i32,
+        text: *const c_char,
+        length: usize,
+    ) -> Told;
+    pub fn nit_put(server: *mut Server, out: *mut u32, count: usize) -> u32;
+}
+"""
+
+BINDINGS = [
+    ("        w: u32,\n        x: i32,", "        x: i32,\n        w: u32,",
+     "raw.rs: nit_tell takes"),
+    ("out: *mut u32", "out: *const u32", "raw.rs: nit_put takes"),
+    ("    pub mark: u64,\n", "", "raw.rs: struct nit_server is"),
+    ("    pub fn nit_put", "    pub fn nit_get", "raw.rs: function nit_put: in the header alone"),
+    ("DONE: u32 = 1", "DONE: u32 = 2", "raw.rs: NIT_DONE is 1 and not 2"),
+]
