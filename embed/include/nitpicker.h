@@ -82,7 +82,7 @@ enum nit_answer {
     NIT_BAD_DEVICE = 37,      /* a code over 767, a place over 65,535, a turn beyond 127 */
     NIT_SHORT_WORDS = 38,     /* fewer words than the client's buffer has */
     NIT_WRONG_FRAME = 39,     /* another number of words than the screen has pixels */
-    NIT_HANDLES_USED_UP = 40, /* 4,294,967,294 views were made on this seat since it was taken */
+    NIT_HANDLES_USED_UP = 40, /* the client has made 4,294,967,294 views: it is served no more */
     NIT_WORN_OUT = 41,        /* the server has done its 2^62 steps */
     NIT_NO_MEMORY = 42,       /* malloc answered NULL */
     NIT_IS_OPEN = 43,         /* the handle has a server */
@@ -231,7 +231,8 @@ uint32_t nit_close(struct nit_server *server);
 /* A new client sits down on a free seat. Its label is written where the user has to know whom a
  * view belongs to. It has no view, no buffer and no event; the donation of the seat is as in the
  * plan, its next view has the handle 1, and all words that it has not handed in yet are 0. Nothing
- * of an earlier client of the seat is left.
+ * of an earlier client of the seat is left. A seat of a plan that was never taken has its number as
+ * a label: `.0` to `.9`, `.a` to `.f`.
  * Answers NIT_DONE; and the first that applies of NIT_NO_SERVER, NIT_NO_SEAT, NIT_BAD_LABEL,
  * NIT_SEAT_TAKEN, NIT_LABEL_TAKEN. */
 uint32_t nit_seat(struct nit_server *server, uint32_t seat, const char *label, size_t length);
@@ -243,18 +244,19 @@ uint32_t nit_seat_for(struct nit_server *server, const char *label, size_t lengt
 
 /* ---- Calls of a client
  *
- * The client of the seat `seat` asks for this. Before its session is asked, the first that applies
- * of NIT_NO_SERVER, NIT_NO_SEAT, NIT_WORN_OUT and what stands at the call is answered. Else it is a
- * step, and the answer is the reply of docs/RULES.md: NIT_SESSION_CLOSED, NIT_SESSION_KILLED,
- * NIT_NO_SUCH_VIEW, NIT_BAD_RECT, NIT_BAD_SIZE, NIT_BAD_TITLE, NIT_TOO_MANY_VIEWS,
- * NIT_OUT_OF_QUOTA, NIT_NO_RESERVE, the first that applies, for a refusal. Any number may be handed
- * in. */
+ * The client of the seat `seat` asks for this. Where one of NIT_NO_SERVER, NIT_NO_SEAT,
+ * NIT_HANDLES_USED_UP and NIT_WORN_OUT applies, the first of them is answered, and its session is
+ * not asked. Else it is a step, and the answer is the reply of docs/RULES.md; for a refusal the
+ * first that applies of NIT_SESSION_CLOSED or NIT_SESSION_KILLED, NIT_NO_SUCH_VIEW, NIT_BAD_RECT,
+ * NIT_BAD_SIZE, NIT_BAD_TITLE, NIT_TOO_MANY_VIEWS, NIT_OUT_OF_QUOTA, NIT_NO_RESERVE. Any number
+ * may be handed in. */
 
-/* The client's buffer has this width and height, in words, each 1..4096; its words are 0. */
+/* The client's buffer has this width and height, in words, each 1..4096. A word stays by its
+ * index, which is row * w + column, whatever w was before, and is 0 until it is handed in. So a
+ * client refreshes all of its buffer next. */
 struct nit_reply nit_buffer(struct nit_server *server, uint32_t seat, uint32_t w, uint32_t h);
 
-/* A new view, in front of its layer, with the rectangle (0, 0, 0, 0). Answers NIT_HANDLE.
- * NIT_HANDLES_USED_UP: nit_leave and nit_seat begin anew. */
+/* A new view, in front of its layer, with the rectangle (0, 0, 0, 0). Answers NIT_HANDLE. */
 struct nit_reply nit_view(struct nit_server *server, uint32_t seat);
 
 /* The view has this rectangle of the screen; x and y -32768..32767, w and h 0..32767. */
@@ -275,7 +277,8 @@ struct nit_reply nit_back(struct nit_server *server, uint32_t seat, uint32_t vie
 struct nit_reply nit_above(struct nit_server *server, uint32_t seat, uint32_t view, uint32_t other);
 
 /* The view has this title, 0 to 12 of a..z, 0..9, '-', '.', '_' and the space.
- * NIT_BAD_TEXT: the bytes are no text, so no session is asked. */
+ * NIT_BAD_TEXT: the bytes are no text, so its session is not asked. It is answered behind
+ * NIT_NO_SEAT and NIT_WORN_OUT. */
 struct nit_reply nit_title(struct nit_server *server, uint32_t seat, uint32_t view,
                            const char *text, size_t length);
 
@@ -296,7 +299,8 @@ struct nit_reply nit_leave(struct nit_server *server, uint32_t seat);
  * the buffer, and `count` is at least their number. Those of the part are read, during the call
  * alone, and kept: they are what the screen shows of this client until it refreshes them again,
  * whoever moves or closes a view above. No other word is read. A reply but NIT_DONE keeps nothing.
- * NIT_SHORT_WORDS: `count` is below the number of words of the buffer. */
+ * NIT_SHORT_WORDS: `count` is below the number of words of the buffer, so its session is not
+ * asked. It is answered behind NIT_NO_SEAT. */
 struct nit_reply nit_refresh(struct nit_server *server, uint32_t seat, int32_t x, int32_t y,
                              uint32_t w, uint32_t h, const uint32_t *words, size_t count);
 

@@ -234,6 +234,20 @@ static void labels(struct nit_server *server)
     }
 }
 
+/* A seat that nobody has taken has its number as a label. */
+static void labels_of_free_seats(void)
+{
+    struct nit_server server = NIT_CLOSED;
+    open_plain(&server, 40, 30, 12, 256);
+    CHECK(nit_seat_for(&server, TEXT(".1")) == 1 && nit_seat_for(&server, TEXT(".b")) == 11);
+    CHECK(nit_seat_for(&server, TEXT(".c")) == 0 && nit_seat_for(&server, TEXT("1")) == 0);
+    CHECK(nit_seat(&server, 0, TEXT(".1")) == NIT_LABEL_TAKEN);
+    CHECK(nit_seat(&server, 1, TEXT("a")) == NIT_DONE);
+    CHECK(nit_seat_for(&server, TEXT(".1")) == 0);
+    CHECK(nit_seat(&server, 0, TEXT(".1")) == NIT_DONE);
+    close_plain(&server);
+}
+
 static void seats(void)
 {
     struct nit_server server = NIT_CLOSED;
@@ -320,6 +334,7 @@ int main(void)
     plans();
     refused_configurations();
     seated_clients();
+    labels_of_free_seats();
     seats();
     entries();
     calls_answer();

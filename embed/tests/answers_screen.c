@@ -92,9 +92,24 @@ static void words_of_a_buffer(void)
     REPLY(nit_offset(&server, 0, 1, 2, 1), .kind = NIT_DONE);
     look();
     CHECK(at(0, 0) == 0 && at(3, 2) == 5 && at(5, 3) == 0x123456 && at(1, 1) == 0);
+}
+
+/* Words stay by their index when the buffer gets another size. */
+static void other_sizes(void)
+{
+    REPLY(nit_buffer(&server, 0, 3, 4), .kind = NIT_DONE);
+    look();
+    CHECK(at(2, 1) == 0 && at(4, 2) == 5 && at(2, 3) == 6 && at(4, 4) == 0x123456);
+    CHECK(at(5, 2) == 0 && at(2, 2) == 0x123456);
+    REPLY(nit_buffer(&server, 0, 5, 3), .kind = NIT_DONE);
+    look();
+    CHECK(at(2, 2) == 5 && at(3, 2) == 6 && at(3, 3) == 0x123456 && at(4, 3) == 0);
+    REPLY(nit_buffer(&server, 0, 1, 1), .kind = NIT_DONE);
+    look();
+    CHECK(at(2, 1) == 0 && at(3, 1) == 0 && at(2, 2) == 0);
     REPLY(nit_buffer(&server, 0, 4, 3), .kind = NIT_DONE);
     look();
-    CHECK(at(3, 2) == 0 && at(5, 3) == 0);
+    CHECK(at(3, 2) == 5 && at(5, 3) == 0x123456);
 }
 
 /* What is refused is not kept either. */
@@ -106,7 +121,7 @@ static void words_refused(void)
     REPLY(nit_refresh(&server, 0, 0, 0, 4, 3, words + 1, 11), .kind = NIT_SHORT_WORDS);
     REPLY(nit_offset(&server, 0, 1, 0, 0), .kind = NIT_DONE);
     look();
-    CHECK(at(0, 0) == 0 && at(3, 2) == 0);
+    CHECK(at(0, 0) == 0 && at(3, 2) == 0x123456);
 }
 
 /* More words than the buffer has are not read, and a part that lies past it shows nothing. */
@@ -129,6 +144,7 @@ static void words(void)
     client(0, "a", 0x123456, 10, 20, 4, 3);
     look();
     words_of_a_buffer();
+    other_sizes();
     words_refused();
     words_past_the_buffer();
     close_plain(&server);

@@ -11,9 +11,9 @@ compared where one is given. What is compared:
   names of its arguments in their order, their types, and what it answers. A `Global` takes no
   place; a slice is a pointer and a length; the length may have any name.
 - each struct of the header that is an argument or an answer is a `#[repr(C)]` struct of the
-  sources: the names and types of its fields in their order, but for ghost ones. C's compiler says
-  by `_Static_assert` that its size and the place of each field are those that Rust's rules for
-  `#[repr(C)]` give.
+  sources: the names and types of its fields in their order, but for ghost ones. An array may be as
+  many fields there, of any names. C's compiler says by `_Static_assert` that its size and the place
+  of each field are those that Rust's rules for `#[repr(C)]` give.
 - each constant of the sources that has the name of one of the header, without NIT_, has its value.
 - `raw.rs` of embed/rust says the same of functions, structs and constants.
 - the archive defines the functions of the header and no other name that another object sees, and
@@ -244,14 +244,27 @@ def compiler():
     return os.environ.get("CC", "cc")
 
 
+def with_arrays(ours, theirs):
+    """The fields of the sources, with an array where the header has one for as many of them."""
+    fields, rest = [], list(theirs)
+    for kind, name, count in ours:
+        if count and [(other, number) for other, _, number in rest[:count]] == [(kind, 0)] * count:
+            fields.append((kind, name, count))
+            del rest[:count]
+        elif rest:
+            fields.append(rest.pop(0))
+    return fields + rest
+
+
 def struct_faults(header, sources, folder):
     ours = {name: header.structs[name] for name in crossing(header)}
     names, faults = both("struct", ours, sources.structs)
-    faults += [f"struct {name} is {ours[name]} and not {sources.structs[name]}"
-               for name in names if ours[name] != sources.structs[name]]
+    theirs = {name: with_arrays(ours[name], sources.structs[name]) for name in names}
+    faults += [f"struct {name} is {ours[name]} and not {theirs[name]}"
+               for name in names if ours[name] != theirs[name]]
     if not faults:
         command = [compiler(), "-std=c11", "-fsyntax-only", "-I", folder, "-x", "c", "-"]
-        ended = subprocess.run(command, input=asserts(sources.structs, names), text=True,
+        ended = subprocess.run(command, input=asserts(theirs, names), text=True,
                                capture_output=True, check=False)
         faults += re.findall(r"error: (.*)", ended.stderr) if ended.returncode else []
     return faults

@@ -56,7 +56,7 @@ pub enum Refusal {
     ShortWords,
     /// There is another number of words than the screen has pixels.
     WrongFrame,
-    /// 4,294,967,294 views were made on this seat since it was taken.
+    /// The client has made 4,294,967,294 views: it is served no more.
     HandlesUsedUp,
     /// The server has done its 2^62 steps.
     WornOut,
@@ -164,7 +164,7 @@ impl Refusal {
             Refusal::BadDevice => "a number of the device is out of range",
             Refusal::ShortWords => "there are fewer words than the buffer has",
             Refusal::WrongFrame => "the words are not as many as the pixels",
-            Refusal::HandlesUsedUp => "the seat has no handle left",
+            Refusal::HandlesUsedUp => "the client has made all views that it ever may",
             Refusal::WornOut => "the server has no step left",
             Refusal::NoMemory => "there is no memory",
             Refusal::BadPlan => "a number of the plan is out of range",

@@ -32,8 +32,8 @@ pub struct SeatState {
 /// A seat of a server. Its methods are the calls of the client that sits there; they go by the
 /// rules of `docs/RULES.md`.
 ///
-/// Each may be refused with [`Refusal::NoSeat`], [`Refusal::WornOut`], [`Refusal::Closed`] and
-/// [`Refusal::Killed`], beside what stands at the call.
+/// Each may be refused with [`Refusal::NoSeat`], [`Refusal::HandlesUsedUp`], [`Refusal::WornOut`],
+/// [`Refusal::Closed`] and [`Refusal::Killed`], beside what stands at the call.
 #[derive(Debug)]
 pub struct Seat<'a> {
     server: &'a mut raw::Server,
@@ -72,7 +72,9 @@ impl<'a> Seat<'a> {
         })
     }
 
-    /// The client's buffer has this width and height, in words, each 1..=4096; its words are 0.
+    /// The client's buffer has this width and height, in words, each 1..=4096. A word stays by its
+    /// index, which is row * w + column, whatever w was before, and is 0 until it is handed in. So
+    /// a client refreshes all of its buffer next.
     ///
     /// # Errors
     /// [`Refusal::BadSize`], [`Refusal::OutOfQuota`].
@@ -99,7 +101,7 @@ impl<'a> Seat<'a> {
     /// A new view, in front of its layer, with the rectangle (0, 0, 0, 0).
     ///
     /// # Errors
-    /// [`Refusal::TooManyViews`], [`Refusal::OutOfQuota`], [`Refusal::HandlesUsedUp`].
+    /// [`Refusal::TooManyViews`], [`Refusal::OutOfQuota`].
     pub fn view(&mut self) -> Reply<View> {
         // SAFETY: the handle is that of a `Server`.
         let reply = unsafe { raw::nit_view(self.server, self.number) };
