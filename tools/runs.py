@@ -21,9 +21,15 @@ def usage_of(about):
     return next(part for part in about.split("\n\n") if part.startswith("usage:")).strip()
 
 
+def name_of(path):
+    """A tool by its place in the repository, and one of another place as if it lay in tools."""
+    place = Path(path).resolve()
+    return str(place.relative_to(TOP)) if TOP in place.parents else f"tools/{place.name}"
+
+
 def command(main, about):
     """Runs a tool and ends. `--help` prints what it is; words that it refuses have status 2."""
-    words, name, status = sys.argv[1:], Path(sys.argv[0]).name, 0
+    words, name, status = sys.argv[1:], name_of(sys.argv[0]), 0
     try:
         if "--help" in words or "-h" in words:
             print(about.strip())
@@ -31,7 +37,7 @@ def command(main, about):
             status = main(words)
         sys.stdout.flush()
     except WrongWords as wrong:
-        print(f"tools/{name}: {wrong}\n{usage_of(about)}", file=sys.stderr)
+        print(f"{name}: {wrong}\n{usage_of(about)}", file=sys.stderr)
         status = 2
     except KeyboardInterrupt:
         status = 130
@@ -66,9 +72,8 @@ class Progress:
         if now - self.said >= BETWEEN:
             self.said = now
             of_all = f" of {self.total}" if self.total else ""
-            name, seconds = Path(sys.argv[0]).name, now - self.begun
-            print(f"tools/{name}: {what} {number}{of_all}, {seconds:.0f} s", file=sys.stderr,
-                  flush=True)
+            name, seconds = name_of(sys.argv[0]), now - self.begun
+            print(f"{name}: {what} {number}{of_all}, {seconds:.0f} s", file=sys.stderr, flush=True)
 
 
 class Outcome:

@@ -1,4 +1,5 @@
 """Programs that stand in for the program in tools/selftest, right ones and wrong ones."""
+import re
 import shlex
 import shutil
 import subprocess
@@ -80,5 +81,21 @@ def wrong_picture(folder, program):
 def copied(folder, source):
     """A copy of a folder of the repository without what was made in it."""
     target = folder / source.name
-    shutil.copytree(source, target, ignore=shutil.ignore_patterns("out", "must-fail"))
+    ignored = shutil.ignore_patterns("out", "must-fail", "target")
+    shutil.copytree(source, target, ignore=ignored)
     return target
+
+
+def silent_library(folder, embed):
+    """An archive with each function of the library's header. It answers 0, and does nothing."""
+    header = (embed / "include" / "nitpicker.h").read_text()
+    header = re.sub(r"/\*.*?\*/|static inline .*?\n}", "", header, flags=re.S)
+    lines = ['#include "nitpicker.h"', "#include <string.h>"]
+    for answer, call in re.findall(r"^((?:struct )?\w+) (nit_\w+\([^)]*\));", header, re.M):
+        body = f"{answer} none; memset(&none, 0, sizeof none); return none;"
+        lines.append(f"{answer} {call} {{ {body} }}")
+    source, part, archive = (folder / f"silent.{end}" for end in ("c", "o", "a"))
+    source.write_text("\n".join(lines) + "\n")
+    subprocess.run(["gcc", "-w", "-I", embed / "include", "-c", source, "-o", part], check=True)
+    subprocess.run(["ar", "rcs", archive, part], check=True)
+    return archive

@@ -1,0 +1,345 @@
+/* Nitpicker as a library: the proved core of a display server, which a host program drives.
+ *
+ * The host owns the window, the devices and whatever its clients speak. Each thing that it does is
+ * one call of this header. No call waits, none calls back, none keeps a pointer, and none but
+ * nit_open_seats, nit_open_config and nit_entry takes memory. There is no global state: servers
+ * that stand beside each other know nothing of each other.
+ *
+ * Words. A word of a pixel is 0x00RRGGBB; the highest byte of a word that a client hands in is
+ * ignored, and it is 0 in each word that the screen shows. A server has 1 to 16 seats, numbered
+ * from 0, and a client sits on each that is taken. The rules by which calls and input go are in
+ * docs/RULES.md, with seats in the place of sessions: the session of a client is what its seat
+ * does from nit_seat to its end.
+ *
+ * Duties of the host. Nothing tests these; all else that a host can get wrong is answered by name.
+ *   1. A handle begins as NIT_CLOSED, and none but this library changes it from then on. It is
+ *      never copied; between two calls it may be moved.
+ *   2. A pointer is not null, also where its count is 0. Behind it lie as many words or bytes as
+ *      the count says, set to values, and no other thread writes them while a call runs. What a
+ *      call writes to (`server`, `out`) overlaps nothing else that it gets.
+ *   3. All calls for one server come from the thread that opened it, and never from a signal
+ *      handler or from the child of a fork. Several servers may each have a thread of their own.
+ *   4. malloc, realloc and free are of one allocator, which aligns a block to each power of two
+ *      up to 16 that divides its size, as each C library's does.
+ *   5. The header and the archive are of one version.
+ */
+#ifndef NITPICKER_H
+#define NITPICKER_H
+
+#include <stddef.h>
+#include <stdint.h>
+
+#ifdef __cplusplus
+extern "C" {
+#endif
+
+/* ---- The handle */
+
+/* A server, or none. Where `mark` is not the library's own, it is none, and each call but the two
+ * that open answers NIT_NO_SERVER and does nothing. */
+struct nit_server {
+    void *at;
+    uint64_t mark;
+};
+
+/* A handle of no server: `struct nit_server server = NIT_CLOSED;` */
+#define NIT_CLOSED { NULL, 0 }
+
+/* No seat, where a number of one is answered. */
+#define NIT_NONE UINT32_MAX
+
+/* So many bytes hold the line that nit_entry puts, whatever the step was. */
+#define NIT_LINE 128
+
+/* ---- Answers */
+
+/* What a call answers, in the field `kind` or by itself. */
+enum nit_answer {
+    NIT_NO_SERVER = 0,        /* the handle is closed, or was never one of a server */
+
+    /* Served: replies of a client's session. Each is a step, also a refusal. Every call that is
+     * none of a client's answers NIT_DONE where it is done. */
+    NIT_DONE = 1,
+    NIT_HANDLE = 2,           /* the new view has the handle `handle` */
+    NIT_EVENT = 3,            /* `event` was the oldest that waited, and waits no more */
+    NIT_NO_EVENT = 4,         /* none waits */
+    NIT_NO_SUCH_VIEW = 5,     /* the client has no view of the handle `handle` */
+    NIT_BAD_RECT = 6,         /* a number of a rectangle or an offset is out of range */
+    NIT_BAD_SIZE = 7,         /* a side of a buffer is 0 or over 4,096 */
+    NIT_BAD_TITLE = 8,        /* over 12 characters, or one that no title has */
+    NIT_TOO_MANY_VIEWS = 9,   /* the client has 64 */
+    NIT_OUT_OF_QUOTA = 10,    /* `need` units, and `left` are left of the donation */
+    NIT_NO_RESERVE = 11,      /* `need` units, and `left` are left of the reserve */
+    NIT_SESSION_CLOSED = 12,  /* the client has left, or the seat was never taken */
+    NIT_SESSION_KILLED = 13,  /* the user has locked the client out */
+
+    /* Not served: no step, and nothing changed. */
+    NIT_NO_SEAT = 32,         /* the server has no seat of this number */
+    NIT_SEAT_TAKEN = 33,      /* a client sits there */
+    NIT_LABEL_TAKEN = 34,     /* another seat has this label, or had it last */
+    NIT_BAD_LABEL = 35,       /* no label: 1 to 20 of a..z, 0..9, '-', '.', '_' */
+    NIT_BAD_TEXT = 36,        /* over 40 bytes, or one that is not 0x20..0x7E */
+    NIT_BAD_DEVICE = 37,      /* a code over 767, a place over 65,535, a turn beyond 127 */
+    NIT_SHORT_WORDS = 38,     /* fewer words than the client's buffer has */
+    NIT_WRONG_FRAME = 39,     /* another number of words than the screen has pixels */
+    NIT_HANDLES_USED_UP = 40, /* the client has made 4,294,967,294 views: it is served no more */
+    NIT_WORN_OUT = 41,        /* the server has done its 2^62 steps */
+    NIT_NO_MEMORY = 42,       /* malloc answered NULL */
+    NIT_IS_OPEN = 43,         /* the handle has a server */
+    NIT_BAD_PLAN = 44,        /* a number of the plan is out of range */
+
+    /* Refusals of the text of a configuration, in the order of docs/FORMATS.md. */
+    NIT_CONFIG_TOO_LONG = 64, /* over 1,048,576 bytes */
+    NIT_CONFIG_SYNTAX = 65,
+    NIT_CONFIG_KIND = 66,
+    NIT_CONFIG_MISSING = 67,
+    NIT_CONFIG_UNKNOWN = 68,
+    NIT_CONFIG_TOO_MANY = 69,
+    NIT_CONFIG_RANGE = 70,
+    NIT_CONFIG_LABEL = 71,
+    NIT_CONFIG_TWICE = 72
+};
+
+/* What a client is told, or what becomes of it. */
+enum nit_event_kind {
+    NIT_NOTHING = 0,
+    NIT_PRESS = 1,            /* `code` */
+    NIT_RELEASE = 2,          /* `code` */
+    NIT_MOTION = 3,           /* `x`, `y`: the pointer's place on the screen */
+    NIT_WHEEL = 4,            /* `turn` */
+    NIT_LEAVE = 5,            /* the pointer has left the client's pixels */
+    NIT_FOCUS_ENTER = 6,
+    NIT_FOCUS_LEAVE = 7,
+    NIT_KILL = 8              /* in a delivery alone: the user has locked the client out */
+};
+
+/* An event. A field that its kind does not name is 0. */
+struct nit_event {
+    uint32_t kind;            /* enum nit_event_kind */
+    uint32_t code;            /* a key's or button's, 0..767, as in Linux's input-event-codes.h */
+    uint16_t x, y;            /* a column and a row of the screen, from 0 */
+    int32_t turn;             /* -127..127 */
+};
+
+/* The answer to a client's call. A field that its kind does not name is 0. */
+struct nit_reply {
+    uint32_t kind;            /* enum nit_answer */
+    uint32_t handle;          /* of a view, from 1 */
+    struct nit_event event;
+    uint64_t need, left;      /* in units: a view costs 256, a word of a buffer 8 */
+};
+
+/* Whom one thing that the user did went to. */
+struct nit_delivery {
+    uint32_t seat;
+    struct nit_event event;
+};
+
+/* The answer to what the user did. It went to the first `count` of `to`, in their order; the
+ * others are 0. An event waits at its seat until nit_take, unless 64 wait there already: then it
+ * is lost, and stands here all the same. */
+struct nit_routed {
+    uint32_t kind;            /* NIT_DONE, NIT_NO_SERVER, NIT_BAD_DEVICE, NIT_WORN_OUT */
+    uint32_t count;           /* 0..3 */
+    struct nit_delivery to[3];
+};
+
+/* The part of the screen that a look wrote: x <= column < x + w, y <= row < y + h. */
+struct nit_rect {
+    uint32_t kind;            /* NIT_DONE, NIT_NO_SERVER, NIT_WRONG_FRAME */
+    uint32_t x, y, w, h;      /* all 0 where nothing changed */
+};
+
+enum nit_mode { NIT_MODE_FLAT = 0, NIT_MODE_XRAY = 1, NIT_MODE_KILL = 2 };
+
+/* What can be read of a server. All but `kind` is 0 where there is none. */
+struct nit_state {
+    uint32_t kind;            /* NIT_DONE, NIT_NO_SERVER */
+    uint32_t width, height;   /* of the screen, in pixels */
+    uint32_t seats;           /* how many, 1..16 */
+    uint32_t mode;            /* enum nit_mode */
+    uint32_t focus;           /* the seat that has the focus, or NIT_NONE */
+    uint32_t hover;           /* the seat that gets `leave` when the pointer goes, or NIT_NONE */
+    uint32_t x, y;            /* the pointer's place on the screen */
+};
+
+enum nit_status { NIT_SEAT_NONE = 0, NIT_SEAT_LIVE = 1, NIT_SEAT_CLOSED = 2, NIT_SEAT_KILLED = 3 };
+
+/* What can be read of a seat. All but `kind` is 0 where there is none. A seat that was never taken
+ * is closed. */
+struct nit_seat_state {
+    uint32_t kind;            /* NIT_DONE, NIT_NO_SERVER, NIT_NO_SEAT */
+    uint32_t status;          /* enum nit_status: taken where it is live, and free else */
+    uint32_t waiting;         /* how many events wait, 0..64 */
+    uint64_t lost;            /* how many were lost since the seat was taken */
+};
+
+/* ---- Opening and closing a server */
+
+/* A seat, as long as the server stands. Whoever sits there may use `donation` units, and as many
+ * again by nit_upgrade, but never more than 8,388,608. Its views stand in `layer`. */
+struct nit_seat_plan {
+    uint32_t donation;        /* 256..8,388,608 units */
+    uint32_t layer;           /* 0..7; 0 is the front-most */
+    uint32_t clicks;          /* 1: a click on a view gives its client the focus; 0: none does */
+};
+
+/* A server. */
+struct nit_plan {
+    uint32_t width, height;   /* of the screen: 1..1024 and 1..768 pixels */
+    uint32_t bar;             /* 1: the 7 topmost rows are a status bar (height 8 or more); or 0 */
+    uint32_t count;           /* of the seats, 1..16 */
+    const struct nit_seat_plan *seats;
+};
+
+/* Opens a server whose seats are all free. `seats` has three words for each seat: donation, layer,
+ * clicks; so `words` is three times their number. All memory that the server will ever use is
+ * taken here, but for nit_entry's.
+ * Answers NIT_DONE; and the first that applies of NIT_IS_OPEN, NIT_BAD_PLAN, NIT_NO_MEMORY: then
+ * the handle is as it was before. */
+uint32_t nit_open_seats(struct nit_server *server, uint32_t width, uint32_t height, uint32_t bar,
+                        const uint32_t *seats, size_t words);
+
+/* The same by a plan. */
+static inline uint32_t nit_open(struct nit_server *server, const struct nit_plan *plan)
+{
+    uint32_t seats[48] = { 0 };
+    uint32_t count = plan->count <= 16 ? plan->count : 0;
+    for (uint32_t k = 0; k < count; k++) {
+        seats[3 * k] = plan->seats[k].donation;
+        seats[3 * k + 1] = plan->seats[k].layer;
+        seats[3 * k + 2] = plan->seats[k].clicks;
+    }
+    return nit_open_seats(server, plan->width, plan->height, plan->bar, seats, 3 * (size_t)count);
+}
+
+/* Opens a server by the text of a configuration (docs/FORMATS.md), which is UTF-8 and ends by its
+ * length. Its clients sit on the seats from the start, in their order; the names of scripts are
+ * read, and stand for nothing.
+ * Answers NIT_DONE; and the first that applies of NIT_IS_OPEN, NIT_CONFIG_TOO_LONG, NIT_NO_MEMORY
+ * at any point of reading, the other refusals of a configuration, NIT_NO_MEMORY: then the handle
+ * is as it was before. */
+uint32_t nit_open_config(struct nit_server *server, const char *text, size_t length);
+
+/* Frees all of a server, whoever sits there. The handle is NIT_CLOSED then, and may be opened
+ * again.
+ * Answers NIT_DONE, NIT_NO_SERVER. */
+uint32_t nit_close(struct nit_server *server);
+
+/* ---- Seats */
+
+/* A new client sits down on a free seat. Its label is written where the user has to know whom a
+ * view belongs to. It has no view, no buffer and no event; the donation of the seat is as in the
+ * plan, its next view has the handle 1, and all words that it has not handed in yet are 0. Nothing
+ * of an earlier client of the seat is left. A seat of a plan that was never taken has its number as
+ * a label: `.0` to `.9`, `.a` to `.f`.
+ * Answers NIT_DONE; and the first that applies of NIT_NO_SERVER, NIT_NO_SEAT, NIT_BAD_LABEL,
+ * NIT_SEAT_TAKEN, NIT_LABEL_TAKEN. */
+uint32_t nit_seat(struct nit_server *server, uint32_t seat, const char *label, size_t length);
+
+/* The seat that takes a new client of this label: the free one that had the label last, else the
+ * first free one. NIT_NONE where no seat is free, where a seat that is taken has the label, where
+ * it is no label, and where there is no server. So nit_seat on the answer is done. */
+uint32_t nit_seat_for(struct nit_server *server, const char *label, size_t length);
+
+/* ---- Calls of a client
+ *
+ * The client of the seat `seat` asks for this. Where one of NIT_NO_SERVER, NIT_NO_SEAT,
+ * NIT_HANDLES_USED_UP and NIT_WORN_OUT applies, the first of them is answered, and its session is
+ * not asked. Else it is a step, and the answer is the reply of docs/RULES.md; for a refusal the
+ * first that applies of NIT_SESSION_CLOSED or NIT_SESSION_KILLED, NIT_NO_SUCH_VIEW, NIT_BAD_RECT,
+ * NIT_BAD_SIZE, NIT_BAD_TITLE, NIT_TOO_MANY_VIEWS, NIT_OUT_OF_QUOTA, NIT_NO_RESERVE. Any number
+ * may be handed in. */
+
+/* The client's buffer has this width and height, in words, each 1..4096. A word stays by its
+ * index, which is row * w + column, whatever w was before, and is 0 until it is handed in. So a
+ * client refreshes all of its buffer next. */
+struct nit_reply nit_buffer(struct nit_server *server, uint32_t seat, uint32_t w, uint32_t h);
+
+/* A new view, in front of its layer, with the rectangle (0, 0, 0, 0). Answers NIT_HANDLE. */
+struct nit_reply nit_view(struct nit_server *server, uint32_t seat);
+
+/* The view has this rectangle of the screen; x and y -32768..32767, w and h 0..32767. */
+struct nit_reply nit_place(struct nit_server *server, uint32_t seat, uint32_t view,
+                           int32_t x, int32_t y, uint32_t w, uint32_t h);
+
+/* The view shows the buffer moved by this many columns and rows, each -32768..32767. */
+struct nit_reply nit_offset(struct nit_server *server, uint32_t seat, uint32_t view,
+                            int32_t x, int32_t y);
+
+/* The view stands in front of all of its layer. */
+struct nit_reply nit_front(struct nit_server *server, uint32_t seat, uint32_t view);
+
+/* The view stands behind all of its layer. */
+struct nit_reply nit_back(struct nit_server *server, uint32_t seat, uint32_t view);
+
+/* The view stands directly in front of `other`. */
+struct nit_reply nit_above(struct nit_server *server, uint32_t seat, uint32_t view, uint32_t other);
+
+/* The view has this title, 0 to 12 of a..z, 0..9, '-', '.', '_' and the space.
+ * NIT_BAD_TEXT: the bytes are no text, so its session is not asked. It is answered behind
+ * NIT_NO_SEAT and NIT_WORN_OUT. */
+struct nit_reply nit_title(struct nit_server *server, uint32_t seat, uint32_t view,
+                           const char *text, size_t length);
+
+/* The view is gone. */
+struct nit_reply nit_destroy(struct nit_server *server, uint32_t seat, uint32_t view);
+
+/* Takes the oldest event that waits. Answers NIT_EVENT, NIT_NO_EVENT. */
+struct nit_reply nit_take(struct nit_server *server, uint32_t seat);
+
+/* So many units of the client's reserve become donation. */
+struct nit_reply nit_upgrade(struct nit_server *server, uint32_t seat, uint32_t units);
+
+/* The client leaves. Its views are gone, and its seat is free. */
+struct nit_reply nit_leave(struct nit_server *server, uint32_t seat);
+
+/* What the client has drawn in this part of its buffer is shown: x and y -32768..32767, w and h
+ * 0..32767. `words` has the words of its whole buffer, row by row from the top, each row as wide as
+ * the buffer, and `count` is at least their number. Those of the part are read, during the call
+ * alone, and kept: they are what the screen shows of this client until it refreshes them again,
+ * whoever moves or closes a view above. No other word is read. A reply but NIT_DONE keeps nothing.
+ * NIT_SHORT_WORDS: `count` is below the number of words of the buffer, so its session is not
+ * asked. It is answered behind NIT_NO_SEAT. */
+struct nit_reply nit_refresh(struct nit_server *server, uint32_t seat, int32_t x, int32_t y,
+                             uint32_t w, uint32_t h, const uint32_t *words, size_t count);
+
+/* ---- The user
+ *
+ * Each answers the first that applies of NIT_NO_SERVER, NIT_BAD_DEVICE, NIT_WORN_OUT; else it is a
+ * step, NIT_DONE. 70 is the X-ray key and 99 the kill key; codes 272..279 are buttons. */
+
+/* A key or a button goes down; 0..767. */
+struct nit_routed nit_press(struct nit_server *server, uint32_t code);
+
+/* It goes up. */
+struct nit_routed nit_release(struct nit_server *server, uint32_t code);
+
+/* The pointer moves to this column and row, each 0..65535, or to the last one of the screen where
+ * that is past the edge. */
+struct nit_routed nit_motion(struct nit_server *server, uint32_t x, uint32_t y);
+
+/* The wheel turns by -127..127. */
+struct nit_routed nit_wheel(struct nit_server *server, int32_t turn);
+
+/* ---- Looking */
+
+/* Copies what the screen shows to `out`, which has `count` words, width times height, row by row
+ * from the top: of these only those that differ, and answers the least rectangle outside of which
+ * nothing was written. So whoever keeps `out` as a look left it gets what changed since. */
+struct nit_rect nit_look(struct nit_server *server, uint32_t *out, size_t count);
+
+struct nit_state nit_state(struct nit_server *server);
+
+struct nit_seat_state nit_seat_state(struct nit_server *server, uint32_t seat);
+
+/* Puts the last step as a line of docs/FORMATS.md's journal, with its line feed, at the head of
+ * `out`, where its `room` bytes hold it, and answers how many bytes the line has. Where they do
+ * not, nothing is put. 0 where there is no step to tell: no server, none done yet, or a client sat
+ * down since. SIZE_MAX where memory ran out: this call takes some for its time. */
+size_t nit_entry(struct nit_server *server, char *out, size_t room);
+
+#ifdef __cplusplus
+}
+#endif
+#endif

@@ -1,0 +1,144 @@
+//! The header `nitpicker.h`, line by line.
+
+use std::ffi::{c_char, c_void};
+
+pub const DONE: u32 = 1;
+pub const HANDLE: u32 = 2;
+pub const EVENT: u32 = 3;
+pub const NO_EVENT: u32 = 4;
+pub const NONE: u32 = u32::MAX;
+pub const KILL: u32 = 8;
+
+#[repr(C)]
+#[derive(Debug)]
+pub struct Server {
+    pub at: *mut c_void,
+    pub mark: u64,
+}
+
+#[repr(C)]
+#[derive(Clone, Copy)]
+pub struct Event {
+    pub kind: u32,
+    pub code: u32,
+    pub x: u16,
+    pub y: u16,
+    pub turn: i32,
+}
+
+#[repr(C)]
+#[derive(Clone, Copy)]
+pub struct Reply {
+    pub kind: u32,
+    pub handle: u32,
+    pub event: Event,
+    pub need: u64,
+    pub left: u64,
+}
+
+#[repr(C)]
+#[derive(Clone, Copy)]
+pub struct Delivery {
+    pub seat: u32,
+    pub event: Event,
+}
+
+#[repr(C)]
+#[derive(Clone, Copy)]
+pub struct Routed {
+    pub kind: u32,
+    pub count: u32,
+    pub to: [Delivery; 3],
+}
+
+#[repr(C)]
+#[derive(Clone, Copy)]
+pub struct Rect {
+    pub kind: u32,
+    pub x: u32,
+    pub y: u32,
+    pub w: u32,
+    pub h: u32,
+}
+
+#[repr(C)]
+#[derive(Clone, Copy)]
+pub struct State {
+    pub kind: u32,
+    pub width: u32,
+    pub height: u32,
+    pub seats: u32,
+    pub mode: u32,
+    pub focus: u32,
+    pub hover: u32,
+    pub x: u32,
+    pub y: u32,
+}
+
+#[repr(C)]
+#[derive(Clone, Copy)]
+pub struct SeatState {
+    pub kind: u32,
+    pub status: u32,
+    pub waiting: u32,
+    pub lost: u64,
+}
+
+extern "C" {
+    pub fn nit_open_seats(
+        server: *mut Server,
+        width: u32,
+        height: u32,
+        bar: u32,
+        seats: *const u32,
+        words: usize,
+    ) -> u32;
+    pub fn nit_open_config(server: *mut Server, text: *const c_char, length: usize) -> u32;
+    pub fn nit_close(server: *mut Server) -> u32;
+    pub fn nit_seat(server: *mut Server, seat: u32, label: *const c_char, length: usize) -> u32;
+    pub fn nit_seat_for(server: *mut Server, label: *const c_char, length: usize) -> u32;
+    pub fn nit_buffer(server: *mut Server, seat: u32, w: u32, h: u32) -> Reply;
+    pub fn nit_view(server: *mut Server, seat: u32) -> Reply;
+    pub fn nit_place(
+        server: *mut Server,
+        seat: u32,
+        view: u32,
+        x: i32,
+        y: i32,
+        w: u32,
+        h: u32,
+    ) -> Reply;
+    pub fn nit_offset(server: *mut Server, seat: u32, view: u32, x: i32, y: i32) -> Reply;
+    pub fn nit_front(server: *mut Server, seat: u32, view: u32) -> Reply;
+    pub fn nit_back(server: *mut Server, seat: u32, view: u32) -> Reply;
+    pub fn nit_above(server: *mut Server, seat: u32, view: u32, other: u32) -> Reply;
+    pub fn nit_title(
+        server: *mut Server,
+        seat: u32,
+        view: u32,
+        text: *const c_char,
+        length: usize,
+    ) -> Reply;
+    pub fn nit_destroy(server: *mut Server, seat: u32, view: u32) -> Reply;
+    pub fn nit_take(server: *mut Server, seat: u32) -> Reply;
+    pub fn nit_upgrade(server: *mut Server, seat: u32, units: u32) -> Reply;
+    pub fn nit_leave(server: *mut Server, seat: u32) -> Reply;
+    pub fn nit_refresh(
+        server: *mut Server,
+        seat: u32,
+        x: i32,
+        y: i32,
+        w: u32,
+        h: u32,
+        words: *const u32,
+        count: usize,
+    ) -> Reply;
+    pub fn nit_press(server: *mut Server, code: u32) -> Routed;
+    pub fn nit_release(server: *mut Server, code: u32) -> Routed;
+    pub fn nit_motion(server: *mut Server, x: u32, y: u32) -> Routed;
+    pub fn nit_wheel(server: *mut Server, turn: i32) -> Routed;
+    pub fn nit_look(server: *mut Server, out: *mut u32, count: usize) -> Rect;
+    pub fn nit_state(server: *mut Server) -> State;
+    pub fn nit_seat_state(server: *mut Server, seat: u32) -> SeatState;
+    pub fn nit_entry(server: *mut Server, out: *mut c_char, room: usize) -> usize;
+}

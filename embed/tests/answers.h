@@ -1,0 +1,16 @@
+/* The parts of the test `answers`. */
+#ifndef ANSWERS_H
+#define ANSWERS_H
+
+/* Handles that are none, opening and closing, seats, and what can be read: answers.c. */
+
+/* What a client's calls answer: answers_calls.c. */
+void calls_answer(void);
+
+/* What the screen shows: answers_screen.c. */
+void screen_answers(void);
+
+/* Where input goes: answers_input.c. */
+void input_answers(void);
+
+#endif

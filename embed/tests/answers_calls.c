@@ -1,0 +1,261 @@
+/* What a client's calls answer, by the tables of docs/RULES.md. */
+#include "answers.h"
+#include "parts.h"
+
+static struct nit_server server = NIT_CLOSED;
+
+/* A server with one client, whose seat has this donation. */
+static void begin(uint32_t donation)
+{
+    open_plain(&server, 40, 30, 1, donation);
+    CHECK(nit_seat(&server, 0, TEXT("a")) == NIT_DONE);
+}
+
+static void done(struct nit_reply reply)
+{
+    REPLY(reply, .kind = NIT_DONE);
+}
+
+static void handle(struct nit_reply reply, uint32_t number)
+{
+    REPLY(reply, .kind = NIT_HANDLE, .handle = number);
+}
+
+static void no_such_view(struct nit_reply reply, uint32_t number)
+{
+    REPLY(reply, .kind = NIT_NO_SUCH_VIEW, .handle = number);
+}
+
+static void bad_rect(struct nit_reply reply)
+{
+    REPLY(reply, .kind = NIT_BAD_RECT);
+}
+
+/* ---- Units. */
+
+static void units(void)
+{
+    begin(1000);
+    handle(nit_view(&server, 0), 1);
+    REPLY(nit_buffer(&server, 0, 10, 10), .kind = NIT_OUT_OF_QUOTA, .need = 800, .left = 744);
+    REPLY(nit_upgrade(&server, 0, 1001), .kind = NIT_NO_RESERVE, .need = 1001, .left = 1000);
+    REPLY(nit_upgrade(&server, 0, UINT32_MAX), .kind = NIT_NO_RESERVE, .need = UINT32_MAX,
+          .left = 1000);
+    done(nit_upgrade(&server, 0, 56));
+    done(nit_upgrade(&server, 0, 0));
+    done(nit_buffer(&server, 0, 10, 10));
+    REPLY(nit_view(&server, 0), .kind = NIT_OUT_OF_QUOTA, .need = 256, .left = 0);
+    done(nit_buffer(&server, 0, 5, 5));
+    handle(nit_view(&server, 0), 2);
+    done(nit_upgrade(&server, 0, 944));
+    REPLY(nit_upgrade(&server, 0, 1), .kind = NIT_NO_RESERVE, .need = 1, .left = 0);
+    REPLY(nit_buffer(&server, 0, 4096, 4096), .kind = NIT_OUT_OF_QUOTA, .need = 134217728,
+          .left = 1488);
+    close_plain(&server);
+}
+
+/* A view costs 256 units to the last one. */
+static void units_of_a_view(void)
+{
+    begin(511);
+    handle(nit_view(&server, 0), 1);
+    REPLY(nit_view(&server, 0), .kind = NIT_OUT_OF_QUOTA, .need = 256, .left = 255);
+    done(nit_upgrade(&server, 0, 1));
+    handle(nit_view(&server, 0), 2);
+    close_plain(&server);
+}
+
+/* A seat that is taken again has the donation of the plan, whatever the client before upgraded. */
+static void units_of_the_next(void)
+{
+    begin(1000);
+    done(nit_upgrade(&server, 0, 1000));
+    done(nit_buffer(&server, 0, 12, 11));
+    done(nit_leave(&server, 0));
+    CHECK(nit_seat(&server, 0, TEXT("b")) == NIT_DONE);
+    REPLY(nit_buffer(&server, 0, 12, 11), .kind = NIT_OUT_OF_QUOTA, .need = 1056, .left = 1000);
+    REPLY(nit_upgrade(&server, 0, 1001), .kind = NIT_NO_RESERVE, .need = 1001, .left = 1000);
+    done(nit_upgrade(&server, 0, 1000));
+    close_plain(&server);
+}
+
+/* The largest donation has no reserve, and pays for a buffer of a million words. */
+static void the_most_units(void)
+{
+    begin(8388608);
+    REPLY(nit_upgrade(&server, 0, 1), .kind = NIT_NO_RESERVE, .need = 1, .left = 0);
+    REPLY(nit_buffer(&server, 0, 4096, 257), .kind = NIT_OUT_OF_QUOTA, .need = 8421376,
+          .left = 8388608);
+    done(nit_buffer(&server, 0, 4096, 256));
+    REPLY(nit_view(&server, 0), .kind = NIT_OUT_OF_QUOTA, .need = 256, .left = 0);
+    close_plain(&server);
+    begin(8388607);
+    REPLY(nit_upgrade(&server, 0, 2), .kind = NIT_NO_RESERVE, .need = 2, .left = 1);
+    close_plain(&server);
+}
+
+/* ---- Sizes and rectangles. */
+
+static void sizes(void)
+{
+    static const uint32_t bad[][2] = { { 0, 1 }, { 1, 0 }, { 4097, 1 }, { 1, 4097 },
+                                       { UINT32_MAX, UINT32_MAX }, { 1u << 31, 2 } };
+    begin(65536);
+    for (size_t k = 0; k < sizeof bad / sizeof *bad; k++)
+        REPLY(nit_buffer(&server, 0, bad[k][0], bad[k][1]), .kind = NIT_BAD_SIZE);
+    done(nit_buffer(&server, 0, 4096, 1));
+    done(nit_buffer(&server, 0, 1, 4096));
+    close_plain(&server);
+}
+
+static void edges(void)
+{
+    done(nit_place(&server, 0, 1, -32768, -32768, 0, 0));
+    done(nit_place(&server, 0, 1, 32767, 32767, 32767, 32767));
+    bad_rect(nit_place(&server, 0, 1, -32769, 0, 1, 1));
+    bad_rect(nit_place(&server, 0, 1, 32768, 0, 1, 1));
+    bad_rect(nit_place(&server, 0, 1, 0, -32769, 1, 1));
+    bad_rect(nit_place(&server, 0, 1, 0, 32768, 1, 1));
+    bad_rect(nit_place(&server, 0, 1, 0, 0, 32768, 1));
+    bad_rect(nit_place(&server, 0, 1, 0, 0, 1, 32768));
+    bad_rect(nit_place(&server, 0, 1, INT32_MIN, INT32_MAX, UINT32_MAX, UINT32_MAX));
+    no_such_view(nit_place(&server, 0, 2, INT32_MIN, 0, 1, 1), 2);
+    done(nit_offset(&server, 0, 1, -32768, 32767));
+    bad_rect(nit_offset(&server, 0, 1, 32768, 0));
+    bad_rect(nit_offset(&server, 0, 1, 0, -32769));
+    no_such_view(nit_offset(&server, 0, 0, 0, -32769), 0);
+}
+
+static void rectangles(void)
+{
+    begin(65536);
+    handle(nit_view(&server, 0), 1);
+    edges();
+    close_plain(&server);
+}
+
+/* ---- Views. */
+
+static void views(void)
+{
+    begin(65536);
+    for (uint32_t k = 1; k <= 64; k++)
+        handle(nit_view(&server, 0), k);
+    REPLY(nit_view(&server, 0), .kind = NIT_TOO_MANY_VIEWS);
+    done(nit_destroy(&server, 0, 7));
+    no_such_view(nit_destroy(&server, 0, 7), 7);
+    handle(nit_view(&server, 0), 65);
+    REPLY(nit_view(&server, 0), .kind = NIT_TOO_MANY_VIEWS);
+    no_such_view(nit_front(&server, 0, 7), 7);
+    no_such_view(nit_back(&server, 0, UINT32_MAX), UINT32_MAX);
+    no_such_view(nit_above(&server, 0, 66, 7), 66);
+    no_such_view(nit_above(&server, 0, 1, 7), 7);
+    done(nit_front(&server, 0, 65));
+    done(nit_back(&server, 0, 65));
+    done(nit_above(&server, 0, 65, 1));
+    done(nit_above(&server, 0, 65, 65));
+    close_plain(&server);
+}
+
+/* ---- Texts. */
+
+static void titles(void)
+{
+    char text[42];
+    memset(text, 'a', sizeof text);
+    begin(65536);
+    handle(nit_view(&server, 0), 1);
+    done(nit_title(&server, 0, 1, text, 0));
+    done(nit_title(&server, 0, 1, TEXT("a z-0._9")));
+    done(nit_title(&server, 0, 1, text, 12));
+    REPLY(nit_title(&server, 0, 1, text, 13), .kind = NIT_BAD_TITLE);
+    REPLY(nit_title(&server, 0, 1, text, 40), .kind = NIT_BAD_TITLE);
+    REPLY(nit_title(&server, 0, 1, text, 41), .kind = NIT_BAD_TEXT);
+    REPLY(nit_title(&server, 0, 1, TEXT("A")), .kind = NIT_BAD_TITLE);
+    REPLY(nit_title(&server, 0, 1, TEXT("a:b")), .kind = NIT_BAD_TITLE);
+    REPLY(nit_title(&server, 0, 1, TEXT("~")), .kind = NIT_BAD_TITLE);
+    REPLY(nit_title(&server, 0, 1, TEXT("\x7F")), .kind = NIT_BAD_TEXT);
+    REPLY(nit_title(&server, 0, 1, TEXT("a\n")), .kind = NIT_BAD_TEXT);
+    REPLY(nit_title(&server, 0, 1, TEXT("\0")), .kind = NIT_BAD_TEXT);
+    REPLY(nit_title(&server, 0, 2, TEXT("\xC3\xA4")), .kind = NIT_BAD_TEXT);
+    no_such_view(nit_title(&server, 0, 2, TEXT("A")), 2);
+    char *many = guarded_text(1 << 20);
+    REPLY(nit_title(&server, 0, 1, many, 1 << 20), .kind = NIT_BAD_TEXT);
+    close_plain(&server);
+}
+
+/* ---- Refreshes. */
+
+static void refreshes(void)
+{
+    uint32_t *words = guarded_words(12), *none = guarded_words(0);
+    begin(65536);
+    done(nit_refresh(&server, 0, 0, 0, 4, 3, none, 0));
+    done(nit_buffer(&server, 0, 4, 3));
+    done(nit_refresh(&server, 0, 0, 0, 4, 3, words, 12));
+    REPLY(nit_refresh(&server, 0, 0, 0, 4, 3, words + 1, 11), .kind = NIT_SHORT_WORDS);
+    REPLY(nit_refresh(&server, 0, 0, 0, 0, 0, none, 0), .kind = NIT_SHORT_WORDS);
+    REPLY(nit_refresh(&server, 0, INT32_MIN, 0, 1, 1, none, 0), .kind = NIT_SHORT_WORDS);
+    done(nit_refresh(&server, 0, -32768, -32768, 32767, 32767, words, 12));
+    done(nit_refresh(&server, 0, 32767, 32767, 32767, 32767, words, 12));
+    done(nit_refresh(&server, 0, -5, -5, 32767, 32767, words, 12));
+    bad_rect(nit_refresh(&server, 0, -32769, 0, 1, 1, words, 12));
+    bad_rect(nit_refresh(&server, 0, 0, 32768, 1, 1, words, 12));
+    bad_rect(nit_refresh(&server, 0, 0, 0, 32768, 1, words, 12));
+    bad_rect(nit_refresh(&server, 0, 0, 0, 1, 32768, words, 12));
+    bad_rect(nit_refresh(&server, 0, INT32_MAX, INT32_MIN, UINT32_MAX, UINT32_MAX, words, 12));
+    close_plain(&server);
+}
+
+/* ---- Sessions that are over, and seats that are not there. */
+
+static void each_call(uint32_t seat, uint32_t kind)
+{
+    uint32_t *none = guarded_words(0);
+    struct nit_reply replies[] = {
+        nit_buffer(&server, seat, 0, 0), nit_view(&server, seat),
+        nit_place(&server, seat, 1, INT32_MIN, 0, 1, 1), nit_offset(&server, seat, 9, 0, 0),
+        nit_front(&server, seat, 1), nit_back(&server, seat, 1), nit_above(&server, seat, 1, 2),
+        nit_title(&server, seat, 1, TEXT("A")), nit_destroy(&server, seat, 1),
+        nit_take(&server, seat), nit_upgrade(&server, seat, UINT32_MAX),
+        nit_refresh(&server, seat, 0, 0, 32768, 0, none, 0), nit_leave(&server, seat) };
+    for (size_t k = 0; k < sizeof replies / sizeof *replies; k++)
+        REPLY(replies[k], .kind = kind);
+}
+
+static void sessions_that_are_over(void)
+{
+    begin(65536);
+    each_call(1, NIT_NO_SEAT);
+    each_call(16, NIT_NO_SEAT);
+    each_call(UINT32_MAX, NIT_NO_SEAT);
+    REPLY(nit_title(&server, 1, 1, TEXT("\n")), .kind = NIT_NO_SEAT);
+    handle(nit_view(&server, 0), 1);
+    done(nit_buffer(&server, 0, 4, 3));
+    done(nit_leave(&server, 0));
+    SEAT(nit_seat_state(&server, 0), .kind = NIT_DONE, .status = NIT_SEAT_CLOSED);
+    each_call(0, NIT_SESSION_CLOSED);
+    CHECK(nit_seat(&server, 0, TEXT("b")) == NIT_DONE);
+    handle(nit_view(&server, 0), 1);
+    done(nit_place(&server, 0, 1, 0, 0, 1, 1));
+    ROUTED(nit_press(&server, 99), NOBODY);
+    ROUTED(nit_press(&server, 272), TOLD(0, NIT_KILL));
+    SEAT(nit_seat_state(&server, 0), .kind = NIT_DONE, .status = NIT_SEAT_KILLED);
+    each_call(0, NIT_SESSION_KILLED);
+    REPLY(nit_title(&server, 0, 1, TEXT("\n")), .kind = NIT_BAD_TEXT);
+    close_plain(&server);
+}
+
+void calls_answer(void)
+{
+    units();
+    units_of_a_view();
+    units_of_the_next();
+    the_most_units();
+    sizes();
+    rectangles();
+    views();
+    titles();
+    refreshes();
+    sessions_that_are_over();
+}

@@ -1,0 +1,127 @@
+"""A small header and small sources for the test of exports.py, and what is changed in them."""
+
+HEADER = """#include <stddef.h>
+#include <stdint.h>
+struct nit_server { void *at; uint64_t mark; };
+enum nit_answer { NIT_DONE = 1, /* done */ NIT_LATE = 32 };
+struct nit_pair { uint16_t x, y; int32_t turn; };
+struct nit_told { uint32_t kind; struct nit_pair to[3]; uint64_t need; };
+struct nit_told nit_tell(struct nit_server *server, uint32_t w, int32_t x, const char *text,
+                         size_t length);
+uint32_t nit_put(struct nit_server *server, uint32_t *out, size_t count);
+static inline uint32_t nit_more(struct nit_server *server)
+{
+    return nit_put(server, 0, 0);
+}
+"""
+
+SOURCES = """
+const DONE: u32 = 1;
+const LATE: u32 = 32;
+#[repr(C)]
+#[derive(Drop)]
+pub struct NitServer {
+    at: *mut u8,
+    mark: u64,
+    alloc: Global,
+    pub ghost value: { Served } by { served_coded },
+}
+/// A pair.
+#[repr(C)]
+pub struct NitPair {
+    pub x: u16,
+    pub y: u16,
+    pub turn: i32,
+}
+#[repr(C)]
+pub struct NitTold {
+    pub kind: u32,
+    pub to: [NitPair; 3],
+    pub need: u64,
+}
+#[unsafe(no_mangle)]
+pub extern "C" fn nit_tell(
+    alloc: Global,
+    server: &mut NitServer,
+    w: u32,
+    x: i32,
+    text: &[u8],
+) -> NitTold
+    ensures told { Told server.old.value w x text.now result }
+{
+    tell()
+}
+#[unsafe(no_mangle)]
+pub extern "C" fn nit_put(alloc: Global, server: &mut NitServer, out: &mut [u32]) -> u32 {
+    1
+}
+"""
+
+# What is changed in the sources or the header, and what is to be said of it.
+CHANGES = [
+    ("    w: u32,\n    x: i32,", "    x: i32,\n    w: u32,", "nit_tell takes"),
+    ("    w: u32,", "    h: u32,", "nit_tell takes w where it is to take h"),
+    ("text: &[u8]", "text: &mut [u8]", "nit_tell takes"),
+    ("-> u32 {", "-> u64 {", "nit_put answers"),
+    ("fn nit_put", "fn nit_get", "nit_put: in the header alone"),
+    ("    pub x: u16,\n    pub y: u16,", "    pub y: u16,\n    pub x: u16,", "struct nit_pair is"),
+    ("[NitPair; 3]", "[NitPair; 2]", "struct nit_told is"),
+    ("    pub to: [NitPair; 3],", "    pub a: NitPair,\n    pub b: NitPair,\n    pub c: NitPair,",
+     None),
+    ("    pub to: [NitPair; 3],", "    pub a: NitPair,\n    pub b: NitPair,", "struct nit_told is"),
+    ("    mark: u64,\n", "", "struct nit_server is"),
+    ("LATE: u32 = 32", "LATE: u32 = 33", "NIT_LATE is 32 and not 33"),
+    ("uint32_t nit_put(", "uint32_t nit_set(", "nit_set: in the header alone"),
+    ("#include <stddef.h>", "#include <stddef.h>\n#pragma pack(1)", "place of nit_told.need"),
+]
+
+# What an archive has, and what is to be said of it.
+OBJECTS = [
+    ("void nit_tell(void) {} void nit_put(void) {} static void of_ours(void) {}", None),
+    ("void nit_tell(void) {} void nit_put(void) {} void open(void) {}", "open is defined"),
+    ("void abort(void); void nit_tell(void) { abort(); } void nit_put(void) {}",
+     "abort is wanted"),
+    ("void nit_tell(void) {}", "nit_put is missing"),
+]
+
+# What the Rust crate declares of it, and what is changed there.
+BINDING = """
+pub const DONE: u32 = 1;
+#[repr(C)]
+pub struct Server {
+    pub at: *mut c_void,
+    pub mark: u64,
+}
+#[repr(C)]
+#[derive(Clone, Copy)]
+pub struct Pair {
+    pub x: u16,
+    pub y: u16,
+    pub turn: i32,
+}
+#[repr(C)]
+pub struct Told {
+    pub kind: u32,
+    pub to: [Pair; 3],
+    pub need: u64,
+}
+extern "C" {
+    pub fn nit_tell(
+        server: *mut Server,
+        w: u32,
+        x: i32,
+        text: *const c_char,
+        length: usize,
+    ) -> Told;
+    pub fn nit_put(server: *mut Server, out: *mut u32, count: usize) -> u32;
+}
+"""
+
+BINDINGS = [
+    ("        w: u32,\n        x: i32,", "        x: i32,\n        w: u32,",
+     "raw.rs: nit_tell takes"),
+    ("out: *mut u32", "out: *const u32", "raw.rs: nit_put takes"),
+    ("    pub mark: u64,\n", "", "raw.rs: struct nit_server is"),
+    ("    pub fn nit_put", "    pub fn nit_get", "raw.rs: function nit_put: in the header alone"),
+    ("DONE: u32 = 1", "DONE: u32 = 2", "raw.rs: NIT_DONE is 1 and not 2"),
+]

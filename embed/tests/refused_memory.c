@@ -1,0 +1,109 @@
+/* Each request for memory is refused once: what opens says so and has kept nothing, and what does
+ * not open makes none, but for the text of a step. */
+#include "memory.h"
+#include "parts.h"
+
+#define CLIENT(label) "[[client]]\nlabel = \"" label "\"\ndonation = 65536\nscript = \"s\"\n"
+
+static const char TEXT_OF_TWO[] = "[screen]\nwidth = 64\nheight = 32\nbar = true\n\n"
+    "[input]\nscript = \"i\"\n\n" CLIENT("a") CLIENT("b");
+
+static uint32_t open_by_text(struct nit_server *server)
+{
+    return nit_open_config(server, TEXT(TEXT_OF_TWO));
+}
+
+static uint32_t open_by_seats(struct nit_server *server)
+{
+    uint32_t seats[48];
+    for (size_t k = 0; k < 48; k++)
+        seats[k] = (const uint32_t[]){ 4096, 0, 1 }[k % 3];
+    return nit_open_seats(server, 64, 32, 1, seats, 48);
+}
+
+/* Refuses the first request, then the second and so on, until none is left to refuse. */
+static void refuse_each(const char *name, uint32_t (*open)(struct nit_server *))
+{
+    struct nit_server server = NIT_CLOSED;
+    size_t held = memory_held, number = 0;
+    for (;;) {
+        memory_refuse(++number);
+        uint32_t answer = open(&server);
+        CHECK(answer == (memory_was_refused() ? NIT_NO_MEMORY : NIT_DONE));
+        memory_refuse(0);
+        if (answer == NIT_DONE)
+            break;
+        CHECK(server.at == NULL && server.mark == 0 && memory_held == held);
+        CHECK(nit_close(&server) == NIT_NO_SERVER);
+    }
+    CHECK(number > 1 && memory_held > held);
+    close_plain(&server);
+    CHECK(memory_held == held);
+    printf("refused_memory: %s, %zu requests\n", name, number - 1);
+}
+
+/* ---- No other call makes a request. */
+
+static void calls(struct nit_server *server)
+{
+    static uint32_t words[64], frame[64 * 32];
+    CHECK(nit_seat_for(server, TEXT("a")) == 0 && nit_seat(server, 0, TEXT("a")) == NIT_DONE);
+    REPLY(nit_view(server, 0), .kind = NIT_HANDLE, .handle = 1);
+    REPLY(nit_buffer(server, 0, 8, 8), .kind = NIT_DONE);
+    REPLY(nit_place(server, 0, 1, 0, 0, 64, 32), .kind = NIT_DONE);
+    REPLY(nit_offset(server, 0, 1, 1, 1), .kind = NIT_DONE);
+    REPLY(nit_title(server, 0, 1, TEXT("t")), .kind = NIT_DONE);
+    REPLY(nit_front(server, 0, 1), .kind = NIT_DONE);
+    REPLY(nit_back(server, 0, 1), .kind = NIT_DONE);
+    REPLY(nit_above(server, 0, 1, 1), .kind = NIT_DONE);
+    REPLY(nit_refresh(server, 0, 0, 0, 8, 8, words, 64), .kind = NIT_DONE);
+    REPLY(nit_upgrade(server, 0, 4096), .kind = NIT_DONE);
+    CHECK(nit_motion(server, 9, 9).count == 1 && nit_wheel(server, 1).count == 1);
+    CHECK(nit_press(server, 272).count == 2 && nit_release(server, 272).count == 1);
+    CHECK(nit_press(server, 70).count == 1 && nit_look(server, frame, 64 * 32).w == 64);
+    CHECK(nit_press(server, 70).count == 0 && nit_take(server, 0).kind == NIT_EVENT);
+    CHECK(nit_state(server).seats == 16 && nit_seat_state(server, 0).waiting == 5);
+    REPLY(nit_destroy(server, 0, 1), .kind = NIT_DONE);
+    REPLY(nit_leave(server, 0), .kind = NIT_DONE);
+    CHECK(nit_seat(server, 0, TEXT("b")) == NIT_DONE);
+}
+
+static void calls_make_none(struct nit_server *server)
+{
+    size_t requests = memory_requests, held = memory_held;
+    calls(server);
+    CHECK(memory_requests == requests && memory_held == held);
+}
+
+/* ---- The text of a step takes memory for its time, or says that there is none. */
+
+static void refuse_text(struct nit_server *server)
+{
+    static const char line[] = "call 0 handle 1 < view\n";
+    size_t number = 0, held = memory_held, length;
+    char out[NIT_LINE];
+    REPLY(nit_view(server, 0), .kind = NIT_HANDLE, .handle = 1);
+    do {
+        memset(out, 'x', sizeof out);
+        memory_refuse(++number);
+        length = nit_entry(server, out, sizeof out);
+        CHECK(length == (memory_was_refused() ? SIZE_MAX : sizeof line - 1));
+        CHECK(length != SIZE_MAX || out[0] == 'x');
+        memory_refuse(0);
+        CHECK(memory_held == held);
+    } while (length == SIZE_MAX);
+    CHECK(memcmp(out, line, length) == 0 && out[length] == 'x');
+    printf("refused_memory: the text of a step, %zu requests\n", number - 1);
+}
+
+int main(void)
+{
+    struct nit_server server = NIT_CLOSED;
+    refuse_each("a configuration", open_by_text);
+    refuse_each("a plan", open_by_seats);
+    CHECK(open_by_seats(&server) == NIT_DONE);
+    calls_make_none(&server);
+    refuse_text(&server);
+    close_plain(&server);
+    return 0;
+}

@@ -1,0 +1,184 @@
+#!/usr/bin/env python3
+"""Makes random runs through the library, and compares all that it answers with the rules.
+
+usage: embed/tests/replay.py [--runs N] [--seed S] [--program PROGRAM] REPLAY
+
+REPLAY is the program that `make -C embed out/replay` builds of replay.c and the library. N runs by
+`turns` are made, 1000 where no number is given, of the valid cases of tools/fuzz from the seed S
+on; so `--runs 1 --seed S` makes one again. S is 1 where none is given. The journal of a run is the
+one that PROGRAM leaves by `turns`, and where none is given the one that the rules give
+(tools/expected.py).
+
+REPLAY makes the calls and the input of the journal with two servers, one that the configuration
+opens and one that is opened by seats. Of each step are compared the reply or the deliveries, and
+the text. At each shot, and at the end, each live client refreshes all that its script has drawn by
+then; then the screen is to show the picture that tools/model.py gives, and at the end also
+`final.ppm` of PROGRAM, and a look is to tell the least part that changed.
+
+The status is 1 where a run differs. Its files are then kept, and said.
+"""
+import argparse
+import subprocess
+import sys
+import tempfile
+from pathlib import Path
+
+sys.path.insert(0, str(Path(__file__).resolve().parents[2] / "tools"))
+
+import model
+import runs
+from cases import case_of
+from expected import expected_of
+
+
+class Refused(Exception):
+    """What is wrong with a run before it is made again."""
+
+
+def cases_from(seed):
+    """The valid cases of `turns`, each with its seed and what it comes to."""
+    while True:
+        case = case_of(seed)
+        if case.words[:1] == ["turns"]:
+            want = expected_of(case)
+            if want.status == 0:
+                yield seed, case, want
+        seed += 1
+
+
+def files_of_run(case, want, program, folder):
+    """The journal's lines and the last picture: the program's, or those of the rules."""
+    files = want.puts
+    if program:
+        folder.mkdir()
+        runs.write_files(folder, case.files)
+        outcome = runs.run(program, case.words, folder)
+        if outcome.status != 0:
+            raise Refused(f"the program ends with {outcome.status}: {outcome.said!r}")
+        files = outcome.files
+    return files["journal.txt"].decode("latin-1").split("\n")[:-1], files["final.ppm"]
+
+
+class Play:
+    """The lines of a play, and its files. It goes along the journal with the rules beside."""
+
+    def __init__(self, setup, folder):
+        self.scene, self.folder = model.Scene(setup.config), folder
+        self.scripts = [list(lines) for lines in setup.clients]
+        self.lines, self.pictures = self.head(setup.config), 0
+
+    @staticmethod
+    def head(config):
+        screen = config["screen"]
+        lines = ["config c.toml"]
+        lines.append(f"screen {screen['width']} {screen['height']} {int(screen.get('bar', False))}")
+        for client in config["client"]:
+            clicks = int(client.get("focus", "click") == "click")
+            lines.append(f"seat {client['donation']} {client.get('layer', 0)} {clicks} "
+                         f"{client['label']}")
+        return [*lines, "begin"]
+
+    def draw(self, who, until=None):
+        """The strokes of a client up to its next call, which is to be this one, or to the end."""
+        script = self.scripts[who]
+        while script:
+            line = script.pop(0)
+            word = line.split(" ")[0]
+            if word in model.STROKES:
+                self.lines.append(f"stroke {who} {line}")
+            if word != "phase":
+                self.scene.drawings[who].do(line)
+            if word in model.CALLS:
+                if line != until:
+                    raise Refused(f"client {who} is to do {line!r} and not {until!r}")
+                return
+
+    def picture(self, data=None):
+        """All clients refresh all they have; the screen is to show this."""
+        self.scene.finish()
+        self.pictures += 1
+        name = f"picture-{self.pictures}.ppm"
+        (self.folder / name).write_bytes(data or self.scene.frame())
+        self.lines.append(f"picture {name}")
+
+    def entry(self, entry):
+        if entry.startswith("call "):
+            who = int(entry.split(" ")[1])
+            line = entry.split(" < ", 1)[1]
+            self.draw(who, line)
+            self.scene.call(who, line)
+            self.lines.append(entry)
+        elif entry.startswith("input "):
+            self.scene.device(entry[6:].split(" > ")[0])
+            self.lines.append(entry)
+        elif entry.startswith("shot "):
+            self.picture()
+        else:
+            raise Refused(f"no entry: {entry!r}")
+
+
+def make_play(case, want, program, folder):
+    """Puts the play of a case and its files into the folder."""
+    journal, last = files_of_run(case, want, program, folder / "run")
+    play = Play(want.setup, folder)
+    (folder / "c.toml").write_bytes(case.files["c.toml"])
+    for entry in journal[:-1]:
+        play.entry(entry)
+    for who in range(len(play.scripts)):
+        play.draw(who)
+    play.picture()
+    play.picture(last)
+    (folder / "play").write_text("".join(line + "\n" for line in play.lines))
+    return len(journal)
+
+
+def fault_of(replay, case, want, program, folder):
+    """What is wrong with a case, or none; and how many entries it has."""
+    try:
+        entries = make_play(case, want, program, folder)
+    except Refused as why:
+        return str(why), 0
+    ended = subprocess.run([replay, "play"], cwd=folder, capture_output=True, text=True,
+                           errors="replace", timeout=runs.SECONDS, check=False)
+    if ended.returncode != 0:
+        return f"status {ended.returncode}: {ended.stderr.strip()[:2000]}", entries
+    return None, entries
+
+
+def words_of(words):
+    reader = argparse.ArgumentParser(prog="embed/tests/replay.py", add_help=False,
+                                     usage=runs.usage_of(__doc__)[7:])
+    reader.add_argument("replay")
+    reader.add_argument("--runs", type=int, default=1000)
+    reader.add_argument("--seed", type=int, default=1)
+    reader.add_argument("--program")
+    given = reader.parse_args(words)
+    replay = Path(given.replay).resolve()
+    if not replay.is_file():
+        raise runs.WrongWords(f"{given.replay}: not a program")
+    program = runs.program_at(given.program) if given.program else None
+    return given, str(replay), program
+
+
+def main(words):
+    given, replay, program = words_of(words)
+    kept, failed, entries = Path(tempfile.mkdtemp(prefix="replay-kept-")), 0, 0
+    progress, cases = runs.Progress(given.runs), cases_from(given.seed)
+    for number in range(given.runs):
+        progress.tell(number, "run")
+        seed, case, want = next(cases)
+        with tempfile.TemporaryDirectory(prefix="replay-") as top:
+            fault, count = fault_of(replay, case, want, program, Path(top))
+            entries += count
+            if fault:
+                failed += 1
+                runs.write_files(kept / f"run-{seed}", runs.read_files(top))
+                print(f"seed {seed}: {fault}: kept in {kept / f'run-{seed}'}", flush=True)
+    if not failed:
+        kept.rmdir()
+    print(f"runs {given.runs}, entries {entries}, failed {failed}")
+    return 1 if failed else 0
+
+
+if __name__ == "__main__":
+    runs.command(main, __doc__)

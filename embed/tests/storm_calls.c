@@ -1,0 +1,243 @@
+/* The random calls and the random user of the test `storm`. */
+#include "storm.h"
+
+/* ---- Numbers of all sizes. */
+
+uint32_t below(struct storm *s, uint32_t most)
+{
+    return (uint32_t)draw(&s->random, most);
+}
+
+uint32_t any(struct storm *s)
+{
+    static const uint32_t edges[] = { 0, 1, 255, 256, 272, 767, 768, 4096, 4097, 32767, 32768,
+                                      65535, 65536, 8388608, INT32_MAX, 1u << 31, UINT32_MAX };
+    switch (below(s, 16)) {
+    case 0: return edges[below(s, sizeof edges / sizeof *edges)];
+    case 1: return (uint32_t)(draw(&s->random, 1ull << 32) >> below(s, 32));
+    case 2: return 0 - below(s, 70000);
+    default: return below(s, SIDE);
+    }
+}
+
+static int32_t any_place(struct storm *s)
+{
+    uint32_t number = below(s, 4) == 0 ? 0 - below(s, SIDE) : any(s);
+    return (int32_t)number;
+}
+
+/* Mostly one of the last views that the seat made. */
+static uint32_t any_view(struct storm *s, uint32_t seat)
+{
+    if (seat >= s->seats || below(s, 20) == 0)
+        return any(s);
+    return s->handle[seat] - below(s, below(s, 4) == 0 ? 64 : 6);
+}
+
+uint32_t any_seat(struct storm *s)
+{
+    return below(s, 100) == 0 ? s->seats + any(s) % 100 : below(s, s->seats);
+}
+
+/* ---- What a reply may be. */
+
+/* A set of kinds, which are below 64. */
+#define KIND(kind) (1ull << (kind))
+#define OF_VIEW (KIND(NIT_DONE) | KIND(NIT_NO_SUCH_VIEW))
+#define OF_RECT (OF_VIEW | KIND(NIT_BAD_RECT))
+
+static void has_no_event(struct nit_event e)
+{
+    CHECK(e.kind == NIT_NOTHING && e.code == 0 && e.x == 0 && e.y == 0 && e.turn == 0);
+}
+
+static void is_event(const struct storm *s, struct nit_event e)
+{
+    bool code = e.kind == NIT_PRESS || e.kind == NIT_RELEASE;
+    CHECK(e.kind >= NIT_PRESS && e.kind <= NIT_FOCUS_LEAVE);
+    CHECK(code ? e.code <= 767 : e.code == 0);
+    CHECK(e.kind == NIT_MOTION ? e.x < s->width && e.y < s->height : e.x == 0 && e.y == 0);
+    CHECK(e.kind == NIT_WHEEL ? e.turn >= -127 && e.turn <= 127 : e.turn == 0);
+}
+
+static void has_fields(const struct storm *s, struct nit_reply r)
+{
+    bool handle = r.kind == NIT_HANDLE || r.kind == NIT_NO_SUCH_VIEW;
+    bool needs = r.kind == NIT_OUT_OF_QUOTA || r.kind == NIT_NO_RESERVE;
+    CHECK(handle || r.handle == 0);
+    CHECK(r.kind != NIT_HANDLE || r.handle != 0);
+    CHECK(needs ? r.need > r.left : r.need == 0 && r.left == 0);
+    if (r.kind == NIT_EVENT)
+        is_event(s, r.event);
+    else
+        has_no_event(r.event);
+}
+
+/* The text of the last step: another one that begins so, or the same as before. */
+void told(struct storm *s, bool is_served, const char *begins)
+{
+    char line[NIT_LINE];
+    size_t length = nit_entry(&s->server, line, sizeof line);
+    CHECK(length <= sizeof line);
+    if (is_served)
+        CHECK(length > strlen(begins) && memcmp(line, begins, strlen(begins)) == 0);
+    else
+        CHECK(length == s->length && memcmp(line, s->line, length) == 0);
+    CHECK(length == 0 || memchr(line, '\n', length) == line + length - 1);
+    memcpy(s->line, line, length);
+    s->length = length;
+}
+
+/* What a reply is to a seat of this status, where a live one may answer these kinds. */
+static void is_reply(struct storm *s, uint32_t seat, uint32_t status, struct nit_reply r,
+                     uint64_t kinds)
+{
+    const uint64_t unserved = KIND(NIT_BAD_TEXT) | KIND(NIT_SHORT_WORDS);
+    char begins[20];
+    if (seat >= s->seats)
+        kinds = KIND(NIT_NO_SEAT);
+    else if (status == NIT_SEAT_CLOSED)
+        kinds = (kinds & unserved) | KIND(NIT_SESSION_CLOSED);
+    else if (status == NIT_SEAT_KILLED)
+        kinds = (kinds & unserved) | KIND(NIT_SESSION_KILLED);
+    CHECK(r.kind < 64 && (kinds & KIND(r.kind)) != 0);
+    s->seen |= KIND(r.kind);
+    if (r.kind == NIT_HANDLE)
+        s->handle[seat] = r.handle;
+    has_fields(s, r);
+    snprintf(begins, sizeof begins, "call %u ", seat);
+    told(s, r.kind < NIT_NO_SEAT, begins);
+}
+
+/* ---- Calls. */
+
+static struct nit_reply refresh(struct storm *s, uint32_t seat)
+{
+    size_t count = below(s, 3) == 0 ? below(s, ROOM + 1) : ROOM;
+    const uint32_t *words = s->words + ROOM - count;
+    s->words[below(s, ROOM)] = (uint32_t)draw(&s->random, 1ull << 32);
+    return nit_refresh(&s->server, seat, any_place(s), any_place(s), any(s), any(s), words, count);
+}
+
+static struct nit_reply title(struct storm *s, uint32_t seat)
+{
+    char text[64];
+    size_t length = below(s, 4) == 0 ? below(s, sizeof text) : below(s, 13);
+    for (size_t k = 0; k < length; k++)
+        text[k] = (char)(below(s, 20) == 0 ? below(s, 256) : 'a' + below(s, 26));
+    return nit_title(&s->server, seat, any_view(s, seat), text, length);
+}
+
+static struct nit_reply rare(struct storm *s, uint32_t seat, uint64_t *kinds)
+{
+    struct nit_server *server = &s->server;
+    switch (below(s, 8)) {
+    case 0:
+        if (below(s, 16) == 0) {
+            *kinds = KIND(NIT_DONE);
+            return nit_leave(server, seat);
+        } /* fall through */
+    case 1:
+    case 2:
+        *kinds = KIND(NIT_DONE) | KIND(NIT_NO_RESERVE);
+        return nit_upgrade(server, seat, any(s));
+    case 3:
+    case 4:
+        *kinds = OF_VIEW;
+        return nit_destroy(server, seat, any_view(s, seat));
+    default:
+        *kinds = KIND(NIT_DONE) | KIND(NIT_BAD_SIZE) | KIND(NIT_OUT_OF_QUOTA);
+        return nit_buffer(server, seat, any(s), any(s));
+    }
+}
+
+static struct nit_reply usual(struct storm *s, uint32_t seat, uint64_t *kinds)
+{
+    struct nit_server *server = &s->server;
+    *kinds = OF_VIEW;
+    switch (below(s, 8)) {
+    case 0: return nit_front(server, seat, any_view(s, seat));
+    case 1: return nit_back(server, seat, any_view(s, seat));
+    case 2: return nit_above(server, seat, any_view(s, seat), any_view(s, seat));
+    case 3:
+        *kinds = KIND(NIT_HANDLE) | KIND(NIT_TOO_MANY_VIEWS) | KIND(NIT_OUT_OF_QUOTA);
+        return nit_view(server, seat);
+    case 4:
+        *kinds = OF_VIEW | KIND(NIT_BAD_TITLE) | KIND(NIT_BAD_TEXT);
+        return title(s, seat);
+    case 5:
+        *kinds = KIND(NIT_EVENT) | KIND(NIT_NO_EVENT);
+        return nit_take(server, seat);
+    case 6:
+        *kinds = OF_RECT;
+        return nit_offset(server, seat, any_view(s, seat), any_place(s), any_place(s));
+    default:
+        *kinds = OF_RECT;
+        return nit_place(server, seat, any_view(s, seat), any_place(s), any_place(s), any(s),
+                         any(s));
+    }
+}
+
+void client_calls(struct storm *s)
+{
+    uint32_t seat = any_seat(s);
+    uint32_t status = nit_seat_state(&s->server, seat).status;
+    uint64_t kinds = KIND(NIT_DONE) | KIND(NIT_BAD_RECT) | KIND(NIT_SHORT_WORDS);
+    struct nit_reply reply;
+    if (below(s, 4) == 0)
+        reply = refresh(s, seat);
+    else if (below(s, 8) == 0)
+        reply = rare(s, seat, &kinds);
+    else
+        reply = usual(s, seat, &kinds);
+    is_reply(s, seat, status, reply, kinds);
+}
+
+/* ---- The user. */
+
+static uint32_t any_code(struct storm *s)
+{
+    static const uint32_t codes[] = { 272, 272, 273, 30, 70, 99 };
+    return below(s, 20) == 0 ? any(s) : codes[below(s, sizeof codes / sizeof *codes)];
+}
+
+/* A press, or the release of what was pressed last, so that mostly nothing is held. */
+static struct nit_routed press_or_release(struct storm *s, bool *is_range)
+{
+    uint32_t code = s->held;
+    s->held = 0;
+    if (code != 0 && below(s, 4) != 0) {
+        *is_range = code <= 767;
+        return nit_release(&s->server, code);
+    }
+    s->held = any_code(s);
+    *is_range = s->held <= 767;
+    return below(s, 8) == 0 ? nit_release(&s->server, s->held) : nit_press(&s->server, s->held);
+}
+
+void user_does(struct storm *s)
+{
+    uint32_t x = any(s), y = any(s), live = 0;
+    int32_t turn = (int32_t)(any(s) - SIDE / 2);
+    bool is_range;
+    struct nit_routed r;
+    for (uint32_t seat = 0; seat < s->seats; seat++)
+        live |= (nit_seat_state(&s->server, seat).status == NIT_SEAT_LIVE ? 1u : 0u) << seat;
+    switch (below(s, 4)) {
+    case 0:
+    case 1: r = press_or_release(s, &is_range); break;
+    case 2: r = nit_motion(&s->server, x, y); is_range = x <= 65535 && y <= 65535; break;
+    default: r = nit_wheel(&s->server, turn); is_range = turn >= -127 && turn <= 127;
+    }
+    CHECK(r.kind == (is_range ? NIT_DONE : NIT_BAD_DEVICE) && r.count <= (is_range ? 3 : 0));
+    for (uint32_t k = 0; k < r.count; k++) {
+        CHECK(r.to[k].seat < s->seats && (live >> r.to[k].seat & 1) == 1);
+        if (r.to[k].event.kind != NIT_KILL)
+            is_event(s, r.to[k].event);
+        else
+            CHECK(nit_seat_state(&s->server, r.to[k].seat).status == NIT_SEAT_KILLED);
+    }
+    for (uint32_t k = r.count; k < 3; k++)
+        has_no_event(r.to[k].event);
+    told(s, is_range, "input ");
+}
