@@ -1,0 +1,9 @@
+pub mod Held
+pub mod Steps
+pub mod Numbers
+pub mod Replies
+pub mod Routing
+pub mod Seating
+pub mod Reading
+pub mod Looking
+pub mod Opening

@@ -1,0 +1,76 @@
+-- A look at the screen, and at the last step.
+use Rattle.std.specs.Prelude.{◌≡◌, ◌≢◌, ◌*◌, ◌≤◌, ◌<◌, ◌-◌, ◌^◌, ◌++◌, ◌⊎◌, ℕ, pos, List, length, drop, Option, Some, None}
+use Rattle.nit_look.specs.Look.{CoversChange, IsTouched, LiesOn}
+use Rattle.nit_overlay.specs.Frame.{frame}
+use Rattle.nit_rect.specs.Rectangle.{Rectangle, rectangle}
+use Rattle.nit_screen.specs.FrameLabels.{ShowsLabels}
+use Rattle.nit_screen.specs.StateScenery.{scenery_of}
+use Rattle.nit_host.specs.Host.{HostModel, last_text, picture}
+use Rattle.nit_c.specs.Steps.{Steps}
+use Rattle.nit_c.specs.declared.looking.NitRect.{NitRect}
+
+-- an answer that is its kind alone
+abbrev pub only_rect : ℕ → NitRect
+only_rect kind = record { kind = kind; x = 0; y = 0; w = 0; h = 0 }
+
+-- a rectangle of the screen, or none, as C reads it
+abbrev pub IsRect : Option Rectangle → NitRect → Type 0
+IsRect None answer = answer ≡ only_rect 1
+IsRect (Some r) answer =
+    (answer.kind ≡ 1) × (r ≡ rectangle (pos answer.x) (pos answer.y) answer.w answer.h)
+
+-- the least rectangle of the screen that covers each pixel at which the words were others before
+pub record IsChange (width height : ℕ) (now before : List ℕ) (r : Rectangle) : Type 0 where
+  pub screen : LiesOn width height r
+  pub inside : CoversChange width now before r
+  pub least : IsTouched width now before r
+
+-- where the words were others before, their rectangle, and none where they were the same
+abbrev pub IsLook : ℕ → ℕ → List ℕ → List ℕ → Option Rectangle → Type 0
+IsLook width height now before (Some r) = IsChange width height now before r
+IsLook width height now before None = before ≡ now
+
+-- The words became the frame that the screen shows; the answer is the least rectangle that has all
+-- places at which they were another word, or says that there is none.
+pub record ShowsFrame (h : HostModel) (before now : List ℕ) (answer : NitRect) : Type 0 where
+  pub changed : Option Rectangle
+  pub shown : now ≡ frame (scenery_of h.state) (picture h)
+  pub labels : ShowsLabels (scenery_of h.state) now
+  pub look : IsLook h.state.config.width h.state.config.height now before changed
+  pub told : IsRect changed answer
+
+-- a look: a copy where there are as many words as the screen has pixels, and else a refusal
+pub record IsLooked (h : HostModel) (before now : List ℕ) (answer : NitRect) : Type 0 where
+  pub copied : length before ≡ h.state.config.width * h.state.config.height
+      → ShowsFrame h before now answer
+  pub refused : length before ≢ h.state.config.width * h.state.config.height
+      → (now ≡ before) × (answer ≡ only_rect 39)
+
+-- a look by a handle
+abbrev pub IsLookedBy : Option HostModel → Option HostModel → List ℕ → List ℕ → NitRect → Type 0
+IsLookedBy old new before now answer =
+    Steps old new ((now ≡ before) × (answer ≡ only_rect 0))
+    (λ h g. (g ≡ h) × IsLooked h before now answer)
+
+-- ---- the last step
+
+-- the answer where memory ran out
+abbrev pub no_room : ℕ
+no_room = 2 ^ 64 - 1
+
+-- the answer is how long the text is, and the bytes begin with it where it fits there
+pub record IsLine (text before now : List ℕ) (answer : ℕ) : Type 0 where
+  pub count : answer ≡ length text
+  pub put : length text ≤ length before → now ≡ text ++ drop (length text) before
+  pub idle : length before < length text → now ≡ before
+
+-- the same, unless memory ran out
+abbrev pub IsLineOrNone : List ℕ → List ℕ → List ℕ → ℕ → Type 0
+IsLineOrNone text before now answer =
+    ((now ≡ before) × (answer ≡ no_room)) ⊎ IsLine text before now answer
+
+-- the line of the last step, by a handle
+abbrev pub IsEntry : Option HostModel → Option HostModel → List ℕ → List ℕ → ℕ → Type 0
+IsEntry old new before now answer =
+    Steps old new ((now ≡ before) × (answer ≡ 0))
+    (λ h g. (g ≡ h) × IsLineOrNone (last_text h.last) before now answer)

@@ -1,0 +1,62 @@
+-- What can be read of a server, as C reads it.
+use Rattle.std.specs.Prelude.{◌≡◌, ℕ, nat_lt, List, length, Option, None, if◌then◌else◌}
+use Rattle.nit_journal.specs.State.{session}
+use Rattle.nit_host.specs.Host.{HostModel}
+use Rattle.nit_c.specs.Numbers.{mode_number, seat_number, status_number}
+use Rattle.nit_c.specs.Steps.{Steps}
+use Rattle.nit_c.specs.declared.reading.NitState.{NitState}
+use Rattle.nit_c.specs.declared.reading.NitSeatState.{NitSeatState}
+
+-- a state that is its kind alone
+abbrev pub no_state : NitState
+no_state = record {
+  kind = 0;
+  width = 0;
+  height = 0;
+  seats = 0;
+  mode = 0;
+  focus = 0;
+  hover = 0;
+  x = 0;
+  y = 0;
+}
+
+abbrev pub c_state : HostModel → NitState
+c_state h = record {
+  kind = 1;
+  width = h.state.config.width;
+  height = h.state.config.height;
+  seats = length h.state.sessions;
+  mode = mode_number h.state.input.mode;
+  focus = seat_number h.state.input.focus;
+  hover = seat_number h.state.input.hover;
+  x = h.state.input.x;
+  y = h.state.input.y;
+}
+
+-- a seat's state that is its kind alone
+abbrev pub no_seat_state : ℕ → NitSeatState
+no_seat_state kind = record { kind = kind; status = 0; waiting = 0; lost = 0 }
+
+abbrev pub c_seat_state : HostModel → ℕ → NitSeatState
+c_seat_state h seat =
+    let s = session h.state seat in
+    if nat_lt seat (length h.state.sessions)
+    then
+    record {
+      kind = 1;
+      status = status_number s.status;
+      waiting = length s.queue;
+      lost = s.lost;
+    }
+    else no_seat_state 32
+
+-- the server is read, by a handle
+abbrev pub IsStateOf : Option HostModel → Option HostModel → NitState → Type 0
+IsStateOf old new answer =
+    Steps old new (answer ≡ no_state) (λ h g. (g ≡ h) × (answer ≡ c_state h))
+
+-- a seat is read, by a handle
+abbrev pub IsSeatStateOf : Option HostModel → Option HostModel → ℕ → NitSeatState → Type 0
+IsSeatStateOf old new seat answer =
+    Steps old new (answer ≡ no_seat_state 0) (λ h g. (g ≡ h) × (answer ≡ c_seat_state h seat))

@@ -1,0 +1,121 @@
+//! A look at the screen, and at the last step.
+
+ghost use Rattle.std.specs.Prelude.{◌≡◌, ◌≤ℤ◌, IfSome, pos};
+ghost use Rattle.nit_c.specs.Looking.{IsEntry, IsLineOrNone, IsLooked, IsLookedBy, IsRect, only_rect};
+ghost use Rattle.nit_c.specs.Steps.{host_of};
+ghost use Rattle.nit_host.specs.Terms.{last_text};
+
+use crate::handle::NitServer;
+use crate::numbers::{DONE, NO_SERVER, WRONG_FRAME};
+use nit_host::Host;
+use nit_rect::Rect;
+use std::alloc::Global;
+
+/// The answer where memory runs out.
+const NO_ROOM: usize = usize::MAX;
+
+/// The part of the screen that a look wrote. All but `kind` is 0 where nothing changed.
+#[repr(C)]
+#[derive(Clone, Copy)]
+pub struct NitRect {
+    /// The kind of the answer.
+    pub kind: u32,
+    /// The first column.
+    pub x: u32,
+    /// The first row.
+    pub y: u32,
+    /// How many columns.
+    pub w: u32,
+    /// How many rows.
+    pub h: u32,
+}
+
+/// An answer that is its kind alone.
+fn only_rect(kind: u32) -> NitRect
+    ensures { result ≡ only_rect kind }
+{
+    NitRect {
+        kind,
+        x: 0,
+        y: 0,
+        w: 0,
+        h: 0,
+    }
+}
+
+/// A rectangle of the screen, or none, as C reads it.
+fn rect_of(rect: &Option<Rect>) -> NitRect
+    requires left { IfSome rect.now (λ r. pos 0 ≤ℤ r.x) }
+    requires top { IfSome rect.now (λ r. pos 0 ≤ℤ r.y) }
+    ensures { IsRect rect.now result }
+{
+    match rect {
+        Some(rect) => NitRect {
+            kind: DONE,
+            x: rect.x() as u32,
+            y: rect.y() as u32,
+            w: rect.w(),
+            h: rect.h(),
+        },
+        None => only_rect(DONE),
+    }
+}
+
+/// Copies what the screen shows, where `out` has as many words as the screen has pixels.
+fn show(host: &Host, out: &mut [u32]) -> NitRect
+    ensures { IsLooked host.now out.old out.new result }
+{
+    if host.frame().len() == out.len() {
+        rect_of(&host.look(out))
+    } else {
+        only_rect(WRONG_FRAME)
+    }
+}
+
+/// Puts the line of the last step at the head of `out`, where it fits there, and answers how many
+/// bytes it has.
+fn put_entry(alloc: Global, host: &Host, out: &mut [u8]) -> usize
+    ensures { IsLineOrNone (last_text host.now.last) out.old out.new result }
+{
+    let Ok(text) = host.entry_text(alloc) else {
+        return NO_ROOM;
+    };
+    let count = text.len();
+    if count <= out.len() {
+        out[..count].copy_from_slice(&text);
+    }
+    count
+}
+
+/// Copies what the screen shows to `out`, which has `width * height` words: of these only those
+/// that differ. Answers the least rectangle outside of which nothing was written.
+#[unsafe(no_mangle)]
+pub extern "C" fn nit_look(alloc: Global, server: &mut NitServer, out: &mut [u32]) -> NitRect
+    ensures { IsLookedBy (host_of server.old.mark server.old.value)
+        (host_of server.new.mark server.new.value) out.old out.new result }
+{
+    if !server.is_live() {
+        return only_rect(NO_SERVER);
+    }
+    let host = server.take(alloc);
+    let rect = show(host.as_ref(), out);
+    *server = NitServer::of(host);
+    rect
+}
+
+/// Puts the last step as a line of the journal, with its line feed, at the head of `out`, where it
+/// fits there. Answers how many bytes the line has: 0 where there is no step to tell, and the
+/// greatest number where memory runs out.
+#[unsafe(no_mangle)]
+pub extern "C" fn nit_entry(alloc: Global, server: &mut NitServer, out: &mut [u8]) -> usize
+    ensures { IsEntry (host_of server.old.mark server.old.value)
+        (host_of server.new.mark server.new.value) out.old out.new result }
+{
+    if !server.is_live() {
+        return 0;
+    }
+    let host = server.take(alloc);
+    let count = put_entry(alloc, host.as_ref(), out);
+    *server = NitServer::of(host);
+    count
+}

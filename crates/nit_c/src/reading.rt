@@ -1,0 +1,141 @@
+//! What can be read of a server.
+
+ghost use Rattle.std.specs.Prelude.{◌≡◌};
+ghost use Rattle.nit_c.specs.Reading.{IsSeatStateOf, IsStateOf, c_seat_state, c_state, no_seat_state, no_state};
+ghost use Rattle.nit_c.specs.Steps.{host_of};
+
+use crate::handle::NitServer;
+use crate::numbers::{DONE, NO_SEAT, NO_SERVER, mode_number, seat_number, status_number};
+use nit_host::Host;
+use std::alloc::Global;
+
+/// What can be read of a server. All but `kind` is 0 where there is none.
+#[repr(C)]
+#[derive(Clone, Copy)]
+pub struct NitState {
+    /// The kind of the answer.
+    pub kind: u32,
+    /// The width of the screen, 1..=1024, in pixels.
+    pub width: u32,
+    /// Its height, 1..=768.
+    pub height: u32,
+    /// How many seats there are, 1..=16.
+    pub seats: u32,
+    /// 0..=2: flat, X-ray, kill.
+    pub mode: u32,
+    /// The seat that has the focus. 4,294,967,295 where none has it.
+    pub focus: u32,
+    /// The seat that is told when the pointer goes. 4,294,967,295 where none is.
+    pub hover: u32,
+    /// The pointer's column.
+    pub x: u32,
+    /// The pointer's row.
+    pub y: u32,
+}
+
+/// What can be read of a seat. All but `kind` is 0 where there is none.
+#[repr(C)]
+#[derive(Clone, Copy)]
+pub struct NitSeatState {
+    /// The kind of the answer.
+    pub kind: u32,
+    /// 1..=3: live, closed, killed.
+    pub status: u32,
+    /// How many events wait, 0..=64.
+    pub waiting: u32,
+    /// How many were lost since the seat was taken.
+    pub lost: u64,
+}
+
+/// The state of no server.
+fn no_state() -> NitState
+    ensures { result ≡ no_state }
+{
+    NitState {
+        kind: NO_SERVER,
+        width: 0,
+        height: 0,
+        seats: 0,
+        mode: 0,
+        focus: 0,
+        hover: 0,
+        x: 0,
+        y: 0,
+    }
+}
+
+/// What can be read of a server.
+fn state_of(host: &Host) -> NitState
+    ensures { result ≡ c_state host.now }
+{
+    let (width, height) = host.size();
+    let (x, y) = host.pointer();
+    NitState {
+        kind: DONE,
+        width,
+        height,
+        seats: host.seats(),
+        mode: mode_number(host.mode()),
+        focus: seat_number(host.focus()),
+        hover: seat_number(host.hover()),
+        x: u32::from(x),
+        y: u32::from(y),
+    }
+}
+
+/// A seat's state that is its kind alone.
+fn no_seat_state(kind: u32) -> NitSeatState
+    ensures { result ≡ no_seat_state kind }
+{
+    NitSeatState {
+        kind,
+        status: 0,
+        waiting: 0,
+        lost: 0,
+    }
+}
+
+/// What can be read of a seat.
+fn seat_state_of(host: &Host, seat: u32) -> NitSeatState
+    ensures { result ≡ c_seat_state host.now seat }
+{
+    if host.seats() <= seat {
+        return no_seat_state(NO_SEAT);
+    }
+    NitSeatState {
+        kind: DONE,
+        status: status_number(host.status(seat)),
+        waiting: host.waiting(seat),
+        lost: host.lost(seat),
+    }
+}
+
+/// What can be read of the server.
+#[unsafe(no_mangle)]
+pub extern "C" fn nit_state(alloc: Global, server: &mut NitServer) -> NitState
+    ensures { IsStateOf (host_of server.old.mark server.old.value)
+        (host_of server.new.mark server.new.value) result }
+{
+    if !server.is_live() {
+        return no_state();
+    }
+    let host = server.take(alloc);
+    let state = state_of(host.as_ref());
+    *server = NitServer::of(host);
+    state
+}
+
+/// What can be read of a seat.
+#[unsafe(no_mangle)]
+pub extern "C" fn nit_seat_state(alloc: Global, server: &mut NitServer, seat: u32) -> NitSeatState
+    ensures { IsSeatStateOf (host_of server.old.mark server.old.value)
+        (host_of server.new.mark server.new.value) seat result }
+{
+    if !server.is_live() {
+        return no_seat_state(NO_SERVER);
+    }
+    let host = server.take(alloc);
+    let state = seat_state_of(host.as_ref(), seat);
+    *server = NitServer::of(host);
+    state
+}

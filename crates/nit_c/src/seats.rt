@@ -1,0 +1,68 @@
+//! Clients that come to a seat.
+
+ghost use Rattle.std.specs.Prelude.{◌≡◌};
+ghost use Rattle.nit_c.specs.Seating.{IsSeatFor, IsSeated, IsSeatedBy, seat_of};
+ghost use Rattle.nit_c.specs.Steps.{host_of};
+
+use crate::handle::NitServer;
+use crate::numbers::{BAD_LABEL, DONE, NO_SEAT, NO_SERVER, seat_number, unseated_number};
+use nit_glyph::Label;
+use nit_host::Host;
+use std::alloc::Global;
+
+/// Gives a seat to a client under a label, and answers what became of that.
+fn sit(host: &mut Host, seat: u32, label: &[u8]) -> u32
+    ensures { IsSeated host.old host.new seat label.now result }
+{
+    if host.seats() <= seat {
+        return NO_SEAT;
+    }
+    let Some(label) = Label::new(label) else {
+        return BAD_LABEL;
+    };
+    match host.seat(seat, label) {
+        Ok(()) => DONE,
+        Err(why) => unseated_number(why),
+    }
+}
+
+/// The seat that takes a new client of this label. None also where the bytes are no label.
+fn seat_of(host: &Host, label: &[u8]) -> Option<u32>
+    ensures { result ≡ seat_of host.now label.now }
+{
+    match Label::new(label) {
+        Some(label) => host.seat_for(&label),
+        None => None,
+    }
+}
+
+/// A new client sits down on a free seat, under this label.
+#[unsafe(no_mangle)]
+pub extern "C" fn nit_seat(alloc: Global, server: &mut NitServer, seat: u32, label: &[u8]) -> u32
+    ensures { IsSeatedBy (host_of server.old.mark server.old.value)
+        (host_of server.new.mark server.new.value) seat label.now result }
+{
+    if !server.is_live() {
+        return NO_SERVER;
+    }
+    let mut host = server.take(alloc);
+    let answer = sit(host.as_mut(), seat, label);
+    *server = NitServer::of(host);
+    answer
+}
+
+/// The seat that takes a new client of this label: the free one that had the label last, else the
+/// first free one. 4,294,967,295 where there is none.
+#[unsafe(no_mangle)]
+pub extern "C" fn nit_seat_for(alloc: Global, server: &mut NitServer, label: &[u8]) -> u32
+    ensures { IsSeatFor (host_of server.old.mark server.old.value)
+        (host_of server.new.mark server.new.value) label.now result }
+{
+    if !server.is_live() {
+        return seat_number(None);
+    }
+    let host = server.take(alloc);
+    let answer = seat_number(seat_of(host.as_ref(), label));
+    *server = NitServer::of(host);
+    answer
+}
