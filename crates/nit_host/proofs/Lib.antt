@@ -2,3 +2,4 @@ mod Sheets
 mod Plans
 mod SheetLists
 mod Freshness
+mod ActLemmas
