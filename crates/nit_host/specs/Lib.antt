@@ -1,0 +1,4 @@
+pub mod Sheet
+pub mod Plan
+pub mod Below
+pub mod Terms
