@@ -1,2 +1,4 @@
 mod Sheets
 mod Plans
+mod SheetLists
+mod Freshness

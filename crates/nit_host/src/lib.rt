@@ -14,10 +14,10 @@
 #![tactic(auto)]
 
 mod host;
-mod plan;
+mod planning;
 mod refusal;
 mod sheet;
 
 pub use host::Host;
-pub use plan::{SeatPlan, plan};
+pub use planning::{SeatPlan, plan};
 pub use refusal::{PlanError, Unseated, Unserved};
