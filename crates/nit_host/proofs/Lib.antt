@@ -2,3 +2,5 @@ mod Sheets
 mod Plans
 mod SheetLists
 mod Freshness
+mod Steps
+mod Served
