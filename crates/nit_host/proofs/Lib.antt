@@ -4,3 +4,4 @@ mod SheetLists
 mod Freshness
 mod Steps
 mod Served
+mod FirstSeats
