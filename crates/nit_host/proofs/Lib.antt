@@ -5,3 +5,4 @@ mod Freshness
 mod Steps
 mod Served
 mod FirstSeats
+mod Rows
