@@ -6,3 +6,5 @@ mod Steps
 mod Served
 mod FirstSeats
 mod Rows
+mod Beginnings
+mod Inputs

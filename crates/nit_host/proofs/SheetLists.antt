@@ -153,3 +153,10 @@ own_room config sheets seat own are inside is = subst (λ (g : SheetModel). size
 
 pub own_words : (sheets : List SheetModel) (seat : ℕ) (own : SheetModel) → slice_get sheets seat ≡ Some own → told_words own.sight.words ≡ sheet_in (sheets_of sheets) seat
 own_words sheets seat own is = ap (λ (g : SheetModel). told_words g.sight.words) (sym (taken_out sheets seat own is)) ∙ sym (words_at sheets seat)
+
+-- ---- an event that is no call
+
+pub seen_sheets : (old new : List SheetModel) → AreQuiet old → ((t : ℕ) → (loads : List (ℕ × ℕ)) × (glass_in (sights new) t ≡ seen (glass_in (sights old) t) loads)) → rooms new ≡ rooms old → new ≡ old
+seen_sheets old new quiet were rests =
+    same_sheets new old
+    (λ t. let saw = were t in saw.1 ∙ not_seen (glass_in (sights old) t) saw.0 (ap (λ (g : Sight). g.log) (sight_at old t) ∙ quiet t)) rests
