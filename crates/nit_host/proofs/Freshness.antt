@@ -1,5 +1,5 @@
 -- No word of the screen is stale: what each step leaves is shown as the sheets tell it.
-use Rattle.std.proofs.Common.{Bool, List, None, Option, Some, [], ap, arith, cond, false, get_or, length, map, refl, slice_index, subst, sym, true, ℕ, ◌*◌, ◌<◌, ◌==◌, ◌∙◌, ◌≡◌, ◌≢◌, IsTrue}
+use Rattle.std.proofs.Common.{Bool, List, None, Option, Some, [], ap, arith, cond, false, get_or, length, map, refl, slice_index, subst, sym, true, ℕ, ◌*◌, ◌<◌, ◌==◌, ◌||◌, ◌∙◌, ◌≡◌, ◌≢◌, IsTrue}
 use Rattle.std.proofs.lemmas.Bool.Decides.{nat_tests}
 use Rattle.std.proofs.lemmas.List.{get_or_past}
 use Rattle.std.proofs.lemmas.List.FromFn.{get_or-map-range_with_len}
@@ -29,7 +29,7 @@ plain_told seat words sight i w is loaded = (subst (λ (s : Sight). IsLoaded s i
 none_told : (sight : Sight) (i w : ℕ) → sight ≡ no_sight → IsLoaded sight i w → w ≡ 0
 none_told sight i w is loaded = zero_of (w == 0) refl (subst (λ (s : Sight). IsLoaded s i w) is loaded).inked
   where
-    zero_of : (b : Bool) → (w == 0) ≡ b → IsTrue (cond b true false) → w ≡ 0
+    zero_of : (b : Bool) → (w == 0) ≡ b → IsTrue (b || false) → w ≡ 0
     zero_of true is_zero inked = grind (arith, nat_tests)
     zero_of false is_zero inked = cc
 

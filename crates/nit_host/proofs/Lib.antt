@@ -2,4 +2,9 @@ mod Sheets
 mod Plans
 mod SheetLists
 mod Freshness
-mod ActLemmas
+mod Steps
+mod Served
+mod FirstSeats
+mod Rows
+mod Beginnings
+mod Inputs

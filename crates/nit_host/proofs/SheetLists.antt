@@ -2,7 +2,7 @@
 use Rattle.std.proofs.Common.{List, None, Some, Bool, ap, arith, cond, false, get_or, get_or-set_other, get_or-set_same, inl, inr, length, map, refl, set, slice_get, subst, sym, true, ℕ, ◌++◌, ◌<◌, ◌∙◌, ◌≡◌, ◌≢◌, ◌≤◌}
 use Rattle.std.proofs.Math.ListN.{get_or-map, length-set}
 use Rattle.std.proofs.lemmas.Bool.{cases_eq, eq-eqb, ne_eqb}
-use Rattle.std.proofs.lemmas.List.{ext_get_or, get_or_past, length-map, map-set, set-get_or, set-set}
+use Rattle.std.proofs.lemmas.List.{ext_get_or, get_or_default, get_or_past, length-map, map-set, set-get_or, set-set}
 use Rattle.std.proofs.lemmas.Option.{get_or_from_slice_get, slice_get_within}
 use Rattle.std.specs.Option.{option_map}
 use Rattle.nit_paint.specs.Repaint.{no_sight}
@@ -11,7 +11,8 @@ use Rattle.nit_word.specs.Sight.{Sight, plain_sight, seen, told_words}
 use Rattle.nit_host.specs.Below.{Configuration}
 use Rattle.nit_host.specs.Fresh.{AreHollow, AreQuiet, AreSheets, IsPlainOf, sheet_at, sheets_of, size_at}
 use Rattle.nit_host.specs.Host.{sheet_in}
-use Rattle.nit_host.specs.Sheet.{SheetModel}
+use Rattle.nit_host.specs.Sheet.{SheetModel, blank_sheet}
+use Rattle.nit_word.proofs.ForCallers.{length-zeros}
 use mathlib.Core.Logic.{dite}
 use native.Mathlib.Decide.{dec_lt}
 
@@ -35,6 +36,13 @@ words_at sheets t = get_or-map (λ (g : SheetModel). told_words g.sight.words) s
 pub taken_out : (sheets : List SheetModel) (seat : ℕ) (out : SheetModel) → slice_get sheets seat ≡ Some out → sheet_at sheets seat ≡ out
 taken_out sheets seat out is = get_or_from_slice_get sheets seat out no_sheet is
 
+-- the one of its number, as a Vec gives it
+pub there_at : (sheets : List SheetModel) (seat : ℕ) (sheet : SheetModel) → sheet ≡ get_or sheets seat sheet → seat < length sheets → sheet_at sheets seat ≡ sheet
+there_at sheets seat sheet is inside = get_or_default sheets seat no_sheet sheet inside ∙ sym is
+
+pub put_same : (sheets : List SheetModel) (seat : ℕ) (sheet : SheetModel) → sheet_at sheets seat ≡ sheet → set sheets seat sheet ≡ sheets
+put_same sheets seat sheet is = ap (set sheets seat) (sym is) ∙ set-get_or sheets seat no_sheet
+
 pub put_there : (sheets : List SheetModel) (seat : ℕ) (sheet : SheetModel) → seat < length sheets → sheet_at (set sheets seat sheet) seat ≡ sheet
 put_there sheets seat sheet inside = get_or-set_same sheets seat sheet no_sheet inside
 
@@ -46,7 +54,7 @@ pub comes_out : (sheets : List SheetModel) (seat : ℕ) (own other out : SheetMo
 comes_out sheets seat own other out was is = sym (taken_out (set sheets seat other) seat out is) ∙ put_there sheets seat other (slice_get_within sheets seat own was)
 
 pub goes_back : (sheets : List SheetModel) (seat : ℕ) (own other : SheetModel) → slice_get sheets seat ≡ Some own → set (set sheets seat other) seat own ≡ sheets
-goes_back sheets seat own other is = set-set sheets seat other own ∙ ap (set sheets seat) (sym (taken_out sheets seat own is)) ∙ set-get_or sheets seat no_sheet
+goes_back sheets seat own other is = set-set sheets seat other own ∙ put_same sheets seat own (taken_out sheets seat own is)
 
 -- ---- sheets that tell no loads
 
@@ -125,3 +133,30 @@ with_own sheets seat own inside = λ i t. each t i
           | inr other ↦ other_seen (sights sheets) seat t own.sight other ∙ sight_at sheets t ∙ sym (ap (λ (g : SheetModel). g.sight) (put_elsewhere sheets seat t own other))
               ∙ sym (sight_at (set sheets seat own) t)
         ]
+
+-- ---- the sheets of a host
+
+pub hollow_glass : (config : Configuration) (hollows : List SheetModel) (seat : ℕ) (hollow : SheetModel) → AreHollow config hollows → seat < length config.clients → sheet_at hollows seat ≡ hollow
+    → (hollow.sight.owner ≡ seat) × (hollow.sight.size ≡ size_at config seat)
+hollow_glass config hollows seat hollow are inside is =
+    let blank : hollow.sight ≡ blank_sheet seat (size_at config seat) = ap (λ (g : SheetModel). g.sight) (sym is) ∙ are.blank seat inside in
+    (ap (λ (s : Sight). s.owner) blank, ap (λ (s : Sight). s.size) blank ∙ length-zeros (size_at config seat))
+
+pub hollow_quiet : (config : Configuration) (hollows : List SheetModel) (seat : ℕ) (hollow : SheetModel) → AreHollow config hollows → seat < length config.clients → sheet_at hollows seat ≡ hollow → hollow.sight.log ≡ None
+hollow_quiet config hollows seat hollow are inside is = ap (λ (g : SheetModel). g.sight.log) (sym is) ∙ ap (λ (s : Sight). s.log) (are.blank seat inside)
+
+pub own_plain : (config : Configuration) (sheets : List SheetModel) (seat : ℕ) (own : SheetModel) → AreSheets config sheets → seat < length config.clients → slice_get sheets seat ≡ Some own → IsPlainOf config seat own.sight
+own_plain config sheets seat own are inside is = subst (λ (g : SheetModel). IsPlainOf config seat g.sight) (taken_out sheets seat own is) (are.plain seat inside)
+
+pub own_room : (config : Configuration) (sheets : List SheetModel) (seat : ℕ) (own : SheetModel) → AreSheets config sheets → seat < length config.clients → slice_get sheets seat ≡ Some own → size_at config seat ≤ own.room
+own_room config sheets seat own are inside is = subst (λ (g : SheetModel). size_at config seat ≤ g.room) (taken_out sheets seat own is) (are.room seat inside)
+
+pub own_words : (sheets : List SheetModel) (seat : ℕ) (own : SheetModel) → slice_get sheets seat ≡ Some own → told_words own.sight.words ≡ sheet_in (sheets_of sheets) seat
+own_words sheets seat own is = ap (λ (g : SheetModel). told_words g.sight.words) (sym (taken_out sheets seat own is)) ∙ sym (words_at sheets seat)
+
+-- ---- an event that is no call
+
+pub seen_sheets : (old new : List SheetModel) → AreQuiet old → ((t : ℕ) → (loads : List (ℕ × ℕ)) × (glass_in (sights new) t ≡ seen (glass_in (sights old) t) loads)) → rooms new ≡ rooms old → new ≡ old
+seen_sheets old new quiet were rests =
+    same_sheets new old
+    (λ t. let saw = were t in saw.1 ∙ not_seen (glass_in (sights old) t) saw.0 (ap (λ (g : Sight). g.log) (sight_at old t) ∙ quiet t)) rests

@@ -14,7 +14,6 @@
 #![tactic(auto)]
 
 mod host;
-pub mod laws;
 mod planning;
 mod refusal;
 mod sheet;

@@ -12,6 +12,7 @@ use crate::sheet::Sheet;
 use nit_desktop::Desktop;
 use nit_events::{Call, Entry, Reply};
 use nit_rect::Rect;
+use nit_screen::laws::clean_pixels_keep_their_source;
 
 /// The handle that no view has any more.
 const LAST_HANDLE: u32 = u32::MAX;
@@ -33,6 +34,7 @@ impl Host {
         if let Some(why) = self.unserved(seat) {
             return Err(why);
         }
+        clean_pixels_keep_their_source();
         self.desktop.facts();
         let own = &mut self.hollows[seat as usize];
         self.desktop.exchange(seat, own);
@@ -73,6 +75,7 @@ impl Host {
         if let Some(why) = self.unserved_refresh(seat, words) {
             return Err(why);
         }
+        clean_pixels_keep_their_source();
         self.desktop.facts();
         let call = Call::Refresh(place.0, place.1, size.0, size.1);
         let part = self.part(seat, place, size);

@@ -37,6 +37,7 @@ impl Host {
     fn unseated(&self, seat: u32, label: &Label) -> Option<Unseated>
         ensures { result ≡ unseated self.now seat label.now }
     {
+        self.facts();
         if self.seats() <= seat {
             Some(Unseated::NoSeat)
         } else if self.is_taken(seat) {

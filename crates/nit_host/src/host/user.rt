@@ -6,6 +6,7 @@ ghost use Rattle.nit_host.specs.Terms.{Unserved, is_device, routed_of, told, uns
 use crate::host::Host;
 use crate::refusal::Unserved;
 use nit_events::{Device, Entry, Routed};
+use nit_screen::laws::clean_pixels_keep_their_source;
 
 /// The greatest code of a key or a button.
 const MOST_CODE: u16 = 767;
@@ -30,6 +31,8 @@ impl Host {
         if let Some(why) = self.unserved_input(device) {
             return Err(why);
         }
+        clean_pixels_keep_their_source();
+        self.desktop.facts();
         let routed = self.desktop.input(device);
         self.last = Some(Entry::Input {
             dev: device,

@@ -1,0 +1,28 @@
+-- What it means that nothing is against a call, a refresh or a device event.
+use Rattle.std.proofs.Common.{Bool, List, None, Option, Some, arith, cond, false, length, nat_lt, not, refl, sym, true, ℕ, ◌-◌, ◌*◌, ◌<◌, ◌==◌, ◌^◌, ◌∙◌, ◌≡◌, ◌≤◌, if◌then◌else◌}
+use Rattle.std.proofs.lemmas.Bool.Decides.{nat_tests}
+use Rattle.nit_host.specs.Below.{Device, IsDevice, session}
+use Rattle.nit_host.specs.Host.{HostModel, is_device, unserved_call, unserved_input, unserved_refresh}
+use Rattle.nit_host.specs.declared.refusal.Unserved.{Unserved}
+use Rattle.nit_events.specs.declared.device.Device.TheVariants as device
+
+-- the first test was passed, or was not met
+pub passed : {A : Type 0} (b : Bool) (why : A) (rest : Option A) → (if not b then Some why else rest) ≡ None → (b ≡ true) × (rest ≡ None)
+passed true why rest is = (refl, is)
+passed false why rest is = cc
+
+pub not_met : {A : Type 0} (b : Bool) (why : A) (rest : Option A) → (if b then Some why else rest) ≡ None → (b ≡ false) × (rest ≡ None)
+not_met true why rest is = cc
+not_met false why rest is = (refl, is)
+
+pub record MayCall (h : HostModel) (seat : ℕ) : Type 0 where
+  pub inside : seat < length h.state.sessions
+  pub handles : (session h.state seat).next < 2 ^ 32 - 1
+  pub left : 1 ≤ h.left
+
+pub may_call : (h : HostModel) (seat : ℕ) → unserved_call h seat ≡ None → MayCall h seat
+may_call h seat none =
+    let a = passed (nat_lt seat (length h.state.sessions)) _ _ none in
+    let b = passed (nat_lt (session h.state seat).next (2 ^ 32 - 1)) _ _ a.1 in
+    let c = not_met (h.left == 0) _ _ b.1 in
+    record { inside = grind (arith, nat_tests); handles = grind (arith, nat_tests); left = grind (arith, nat_tests) }

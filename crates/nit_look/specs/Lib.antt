@@ -1,0 +1,5 @@
+pub mod Span
+pub mod Edges
+pub mod Look
+pub mod Below
+pub mod Terms

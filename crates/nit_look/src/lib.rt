@@ -1,0 +1,13 @@
+//! What of a picture is not as it was when it was last looked at.
+//!
+//! [`look`] brings an old copy of a picture up to date, and tells the least rectangle that has all
+//! pixels at which the two differed.
+#![tactic(auto)]
+
+mod edges;
+mod picture;
+mod span;
+#[cfg(test)]
+mod tests;
+
+pub use picture::look;
