@@ -8,6 +8,7 @@ use Rattle.nit_host.specs.declared.refusal.Unserved.TheVariants as unserved
 use Rattle.nit_host.specs.declared.refusal.Unseated.{Unseated}
 use Rattle.nit_host.specs.declared.refusal.Unseated.TheVariants as why
 use Rattle.nit_journal.specs.Steps.{AreSteps, IsStepOf, Opens, Serves, Step, after_step, after_steps}
+use Rattle.nit_events.specs.declared.call.Call.{Call}
 use Rattle.nit_events.specs.declared.call.Call.TheVariants as call
 use Rattle.nit_events.specs.declared.entry.Entry.TheVariants as entry
 use Rattle.nit_events.specs.declared.event.Status.{Status}
@@ -19,8 +20,8 @@ held true why rest none = (refl, none)
 held false why rest none = cc
 
 -- a call that is served is one of a seat
-pub there : (h : HostModel) (seat : ℕ) → unserved_call h seat ≡ None → seat < length h.state.sessions
-there h seat none = ltb-true seat (length h.state.sessions) (held (nat_lt seat (length h.state.sessions)) unserved.NoSeat _ none).0
+pub there : (h : HostModel) (seat : ℕ) (c : Call) → unserved_call h seat c ≡ None → seat < length h.state.sessions
+there h seat c none = ltb-true seat (length h.state.sessions) (held (nat_lt seat (length h.state.sessions)) unserved.NoSeat _ none).0
 
 pub there_to_refresh : (h : HostModel) (seat : ℕ) (words : List ℕ) → unserved_refresh h seat words ≡ None → seat < length h.state.sessions
 there_to_refresh h seat words none = ltb-true seat (length h.state.sessions) (held (nat_lt seat (length h.state.sessions)) unserved.NoSeat _ none).0
@@ -56,7 +57,7 @@ same_call h seat x y w height words = go (is_accepted (reply_to h seat (call.Ref
     go false = refl
 
 pub one_act : (h : HostModel) (act : Act) → Goes h (after_act h act) (step_of h act)
-one_act h (Calls seat c) = one h _ _ (unserved_call h seat) (λ none. (0, (there h seat none, refl))) refl
+one_act h (Calls seat c) = one h _ _ (unserved_call h seat c) (λ none. (0, (there h seat c none, refl))) refl
 one_act h (Refreshes seat x y w height words) = one h _ _ (unserved_refresh h seat words) (λ none. (0, (there_to_refresh h seat words none, refl))) (same_call h seat x y w height words)
 one_act h (Does dev) = one h _ _ (Rattle.nit_host.specs.Terms.unserved_input h dev) (λ none. (0, refl)) refl
 one_act h (Comes seat label) = one h _ _ (unseated h seat label) (given h seat label) refl

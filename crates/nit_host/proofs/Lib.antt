@@ -8,3 +8,4 @@ mod FirstSeats
 mod Rows
 mod Beginnings
 mod Inputs
+mod ActLemmas

@@ -22,7 +22,7 @@ unless_for (Some why) served old = old
 
 -- the host behind an act
 abbrev pub after_act : HostModel → Act → HostModel
-after_act h (Calls seat call) = unless_for (unserved_call h seat) (called seat call h) h
+after_act h (Calls seat call) = unless_for (unserved_call h seat call) (called seat call h) h
 after_act h (Refreshes seat x y w height words) =
     unless_for (unserved_refresh h seat words) (refreshed seat x y w height words h) h
 after_act h (Does dev) = unless_for (unserved_input h dev) (told dev h) h
@@ -40,7 +40,7 @@ step_unless (Some why) step = []
 -- the step that an act is, if it is served
 abbrev pub step_of : HostModel → Act → List Step
 step_of h (Calls seat call) =
-    step_unless (unserved_call h seat) (Serves (entry.Call seat call (reply_to h seat call)))
+    step_unless (unserved_call h seat call) (Serves (entry.Call seat call (reply_to h seat call)))
 step_of h (Refreshes seat x y w height words) =
     let refresh = call.Refresh x y w height in
     step_unless (unserved_refresh h seat words)

@@ -2,7 +2,7 @@
 pub use Rattle.nit_config.specs.Configuration.{Configuration, donation_of, member}
 pub use Rattle.nit_config.specs.ConfigurationRanges.{IsConfiguration}
 pub use Rattle.nit_config.specs.declared.config.Member.{Member}
-pub use Rattle.nit_desktop.specs.Desktop.{DesktopModel}
+pub use Rattle.nit_desktop.specs.Desktop.{DesktopModel, asks_view}
 pub use Rattle.nit_events.specs.Input.{routed_as}
 pub use Rattle.nit_events.specs.Ranges.{IsDevice, most_code}
 pub use Rattle.nit_events.specs.declared.call.Call.{Call}

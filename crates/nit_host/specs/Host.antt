@@ -1,6 +1,6 @@
 -- A host as a value, and what each of its calls makes of it.
 use Rattle.std.specs.Prelude.{◌≡◌, ℕ, ◌-◌, ◌*◌, ◌^◌, ℤ, Bool, true, ◌&&◌, ◌==◌, nat_le, nat_lt, negsuc, int_le, not, List, [], ◌∷◌, length, map, slice_index_or, slice_set, Option, Some, None, if◌then◌else◌}
-use Rattle.nit_host.specs.Below.{Call, Configuration, Device, Entry, Rectangle, Reply, Routed, Session, State, after, covers, is_accepted, journal_text, most_code, pixel, rectangle, route, routed_as, serve, session, set_where, source_at, table_size, word_from, words_of, zeros}
+use Rattle.nit_host.specs.Below.{Call, Configuration, Device, Entry, Rectangle, Reply, Routed, Session, State, after, asks_view, covers, is_accepted, journal_text, most_code, pixel, rectangle, route, routed_as, serve, session, set_where, source_at, table_size, word_from, words_of, zeros}
 use Rattle.nit_events.specs.declared.call.Call.TheVariants as call
 use Rattle.nit_events.specs.declared.device.Device.TheVariants as device
 use Rattle.nit_events.specs.declared.entry.Entry.TheVariants as entry
@@ -53,13 +53,20 @@ last_text (Some e) = journal_text (e ∷ [])
 abbrev pub reply_to : HostModel → ℕ → Call → Reply
 reply_to h seat call = (serve (session h.state seat) call).reply
 
+-- why nothing is served any more, if it is not
+abbrev pub worn_out : HostModel → Option Unserved
+worn_out h = if h.left == 0 then Some unserved.WornOut else None
+
+-- the call asks for a view, and the seat's client has had all that there are handles for
+abbrev pub lacks_handles : Session → Call → Bool
+lacks_handles s call = asks_view call && not (nat_lt s.next (2 ^ 32 - 2))
+
 -- why a call of a seat's client is not served, if it is not
-abbrev pub unserved_call : HostModel → ℕ → Option Unserved
-unserved_call h seat =
+abbrev pub unserved_call : HostModel → ℕ → Call → Option Unserved
+unserved_call h seat call =
     if not (nat_lt seat (length h.state.sessions)) then Some unserved.NoSeat
-    else if not (nat_lt (session h.state seat).next (2 ^ 32 - 1)) then Some unserved.HandlesUsedUp
-    else if h.left == 0 then Some unserved.WornOut
-    else None
+    else if lacks_handles (session h.state seat) call then Some unserved.HandlesUsedUp
+    else worn_out h
 
 -- the host behind a call of a seat's client
 abbrev pub called : ℕ → Call → HostModel → HostModel
@@ -91,7 +98,7 @@ unserved_refresh h seat words =
     let s = session h.state seat in
     if not (nat_lt seat (length h.state.sessions)) then Some unserved.NoSeat
     else if nat_lt (length words) (s.bw * s.bh) then Some unserved.ShortWords
-    else unserved_call h seat
+    else worn_out h
 
 -- the host behind a refresh of a part: where the call is accepted, the words of the part are handed
 -- in before it
@@ -115,8 +122,7 @@ is_device (device.Motion x y) = true
 abbrev pub unserved_input : HostModel → Device → Option Unserved
 unserved_input h dev =
     if not (is_device dev) then Some unserved.BadDevice
-    else if h.left == 0 then Some unserved.WornOut
-    else None
+    else worn_out h
 
 -- who is told what of a device event
 abbrev pub routed_of : HostModel → Device → Routed

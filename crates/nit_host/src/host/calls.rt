@@ -1,7 +1,7 @@
 //! Calls of the clients at their seats.
 
-ghost use Rattle.std.specs.Prelude.{◌≡◌, ◌-◌, ◌*◌, ◌^◌, ◌<◌, ◌≤◌, None, Some, Ok, Err, length, map, nat_lt, slice_get, slice_set};
-ghost use Rattle.nit_host.specs.Terms.{AreQuiet, IsPlainOf, Painted, Reply, Unserved, after, called, glass_in, refreshed, refusal, rectangle, reply_to, serve, session, unserved_call, unserved_refresh};
+ghost use Rattle.std.specs.Prelude.{◌≡◌, ◌-◌, ◌*◌, ◌^◌, ◌<◌, ◌≤◌, None, Some, Ok, Err, length, map, nat_lt, slice_get, slice_set, true};
+ghost use Rattle.nit_host.specs.Terms.{AreQuiet, IsPlainOf, Painted, Reply, Unserved, after, asks_view, called, glass_in, refreshed, refusal, rectangle, reply_to, serve, session, unserved_call, unserved_refresh, worn_out};
 ghost use Rattle.nit_events.specs.declared.call.Call.TheVariants as call;
 ghost use Rattle.nit_events.specs.declared.entry.Entry.TheVariants as entry;
 
@@ -15,7 +15,7 @@ use nit_rect::Rect;
 use nit_screen::laws::clean_pixels_keep_their_source;
 
 /// The handle that no view has any more.
-const LAST_HANDLE: u32 = u32::MAX;
+const LAST_HANDLE: u32 = u32::MAX - 1;
 
 impl Host {
     /// Serves a call of the client at a seat. The answer is the one of a machine that serves this
@@ -23,15 +23,15 @@ impl Host {
     ///
     /// # Errors
     ///
-    /// `NoSeat`, `HandlesUsedUp` and `WornOut`, the first of them that applies.
+    /// `NoSeat`, `HandlesUsedUp` (for `View` alone) and `WornOut`, the first of them that applies.
     pub fn call(&mut self, seat: u32, call: &Call) -> Result<Reply, Unserved>
-        ensures served { unserved_call self.old seat ≡ None
+        ensures served { unserved_call self.old seat call.now ≡ None
             → (result ≡ Ok (reply_to self.old seat call.now)) ×
             (self.new ≡ called seat call.now self.old) }
-        ensures unserved { (why : Unserved) → unserved_call self.old seat ≡ Some why
+        ensures unserved { (why : Unserved) → unserved_call self.old seat call.now ≡ Some why
             → (result ≡ Err why) × (self.new ≡ self.old) }
     {
-        if let Some(why) = self.unserved(seat) {
+        if let Some(why) = self.unserved_call(seat, call) {
             return Err(why);
         }
         clean_pixels_keep_their_source();
@@ -56,8 +56,8 @@ impl Host {
     ///
     /// # Errors
     ///
-    /// `NoSeat`, `ShortWords` (there are fewer words than the buffer has), `HandlesUsedUp` and
-    /// `WornOut`, the first of them that applies.
+    /// `NoSeat`, `ShortWords` (there are fewer words than the buffer has) and `WornOut`, the first of
+    /// them that applies.
     pub fn refresh(
         &mut self,
         seat: u32,
@@ -93,14 +93,23 @@ impl Host {
     }
 
     /// Why a call of a seat's client is not served, if it is not.
-    fn unserved(&self, seat: u32) -> Option<Unserved>
-        ensures { result ≡ unserved_call self.now seat }
+    fn unserved_call(&self, seat: u32, call: &Call) -> Option<Unserved>
+        ensures { result ≡ unserved_call self.now seat call.now }
     {
         if self.seats() <= seat {
             Some(Unserved::NoSeat)
-        } else if self.desktop.next_handle(seat) == LAST_HANDLE {
+        } else if asks_view(call) && LAST_HANDLE <= self.desktop.next_handle(seat) {
             Some(Unserved::HandlesUsedUp)
-        } else if self.left() == 0 {
+        } else {
+            self.worn_out()
+        }
+    }
+
+    /// Why nothing is served any more, if it is not.
+    pub(crate) fn worn_out(&self) -> Option<Unserved>
+        ensures { result ≡ worn_out self.now }
+    {
+        if self.left() == 0 {
             Some(Unserved::WornOut)
         } else {
             None
@@ -116,7 +125,7 @@ impl Host {
         } else if self.lacks_words(seat, words) {
             Some(Unserved::ShortWords)
         } else {
-            self.unserved(seat)
+            self.worn_out()
         }
     }
 
@@ -154,7 +163,8 @@ impl Host {
 fn serve(desktop: &mut Desktop<Sheet>, seat: u32, call: &Call, own: &mut Sheet) -> Reply
     requires session { seat < length desktop.old.state.sessions }
     requires left { 1 ≤ desktop.old.left }
-    requires handles { (session desktop.old.state seat).next < 2 ^ 32 - 1 }
+    requires handles { asks_view call.now ≡ true
+        → (session desktop.old.state seat).next < 2 ^ 32 - 2 }
     requires own { IsPlainOf desktop.old.state.config seat own.old.sight }
     requires quiet { AreQuiet desktop.old.glasses }
     ensures reply { result ≡ (serve (session desktop.old.state seat) call.now).reply }
@@ -171,4 +181,11 @@ fn serve(desktop: &mut Desktop<Sheet>, seat: u32, call: &Call, own: &mut Sheet) 
     desktop.facts();
     desktop.exchange(seat, own);
     reply
+}
+
+/// Whether a call asks for a new view.
+fn asks_view(call: &Call) -> bool
+    ensures { result ≡ asks_view call.now }
+{
+    matches!(*call, Call::View)
 }

@@ -47,10 +47,8 @@ impl Host {
     {
         if !is_device(device) {
             Some(Unserved::BadDevice)
-        } else if self.left() == 0 {
-            Some(Unserved::WornOut)
         } else {
-            None
+            self.worn_out()
         }
     }
 }
