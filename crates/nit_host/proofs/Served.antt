@@ -1,8 +1,8 @@
 -- What it means that nothing is against a call, a refresh or a device event.
-use Rattle.std.proofs.Common.{Bool, List, None, Option, Some, arith, cond, false, length, nat_lt, not, refl, sym, true, ℕ, ◌-◌, ◌*◌, ◌<◌, ◌==◌, ◌^◌, ◌∙◌, ◌≡◌, ◌≤◌, if◌then◌else◌}
+use Rattle.std.proofs.Common.{Bool, List, None, Option, Some, arith, cond, false, length, nat_lt, not, refl, sym, true, ℕ, ◌-◌, ◌*◌, ◌<◌, ◌==◌, ◌^◌, ◌∙◌, ◌≡◌, ◌≤◌, ◌&&◌, if◌then◌else◌}
 use Rattle.std.proofs.lemmas.Bool.Decides.{nat_tests}
-use Rattle.nit_host.specs.Below.{Device, IsDevice, session}
-use Rattle.nit_host.specs.Host.{HostModel, is_device, unserved_call, unserved_input, unserved_refresh}
+use Rattle.nit_host.specs.Below.{Call, Device, IsDevice, asks_view, session}
+use Rattle.nit_host.specs.Host.{HostModel, is_device, lacks_handles, unserved_call, unserved_input, unserved_refresh}
 use Rattle.nit_host.specs.declared.refusal.Unserved.{Unserved}
 use Rattle.nit_events.specs.declared.device.Device.TheVariants as device
 
@@ -15,14 +15,23 @@ pub not_met : {A : Type 0} (b : Bool) (why : A) (rest : Option A) → (if b then
 not_met true why rest is = cc
 not_met false why rest is = (refl, is)
 
-pub record MayCall (h : HostModel) (seat : ℕ) : Type 0 where
+both : (a b : Bool) → (a && not b) ≡ false → a ≡ true → b ≡ true
+both true true none e = refl
+both true false none e = cc
+both false b none e = cc
+
+pub record MayCall (h : HostModel) (seat : ℕ) (call : Call) : Type 0 where
   pub inside : seat < length h.state.sessions
-  pub handles : (session h.state seat).next < 2 ^ 32 - 1
+  pub handles : asks_view call ≡ true → (session h.state seat).next < 2 ^ 32 - 2
   pub left : 1 ≤ h.left
 
-pub may_call : (h : HostModel) (seat : ℕ) → unserved_call h seat ≡ None → MayCall h seat
-may_call h seat none =
+pub may_call : (h : HostModel) (seat : ℕ) (call : Call) → unserved_call h seat call ≡ None → MayCall h seat call
+may_call h seat call none =
     let a = passed (nat_lt seat (length h.state.sessions)) _ _ none in
-    let b = passed (nat_lt (session h.state seat).next (2 ^ 32 - 1)) _ _ a.1 in
+    let b = not_met (lacks_handles (session h.state seat) call) _ _ a.1 in
     let c = not_met (h.left == 0) _ _ b.1 in
-    record { inside = grind (arith, nat_tests); handles = grind (arith, nat_tests); left = grind (arith, nat_tests) }
+    record {
+      inside = grind (arith, nat_tests);
+      handles = λ e. let room = both (asks_view call) (nat_lt (session h.state seat).next (2 ^ 32 - 2)) b.0 e in grind (arith, nat_tests);
+      left = grind (arith, nat_tests);
+    }

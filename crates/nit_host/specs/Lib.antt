@@ -4,5 +4,6 @@ pub mod Host
 pub mod Handing
 pub mod Seats
 pub mod Fresh
+pub mod Acts
 pub mod Below
 pub mod Terms

@@ -14,6 +14,7 @@
 #![tactic(auto)]
 
 mod host;
+pub mod laws;
 mod planning;
 mod refusal;
 mod sheet;
