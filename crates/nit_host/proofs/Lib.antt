@@ -8,3 +8,5 @@ mod FirstSeats
 mod Rows
 mod Beginnings
 mod Inputs
+mod Seatings
+mod Refreshing

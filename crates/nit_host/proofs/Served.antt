@@ -1,10 +1,8 @@
 -- What it means that nothing is against a call, a refresh or a device event.
 use Rattle.std.proofs.Common.{Bool, List, None, Option, Some, arith, cond, false, length, nat_lt, not, refl, sym, true, ℕ, ◌-◌, ◌*◌, ◌<◌, ◌==◌, ◌^◌, ◌∙◌, ◌≡◌, ◌≤◌, if◌then◌else◌}
 use Rattle.std.proofs.lemmas.Bool.Decides.{nat_tests}
-use Rattle.nit_host.specs.Below.{Device, IsDevice, session}
-use Rattle.nit_host.specs.Host.{HostModel, is_device, unserved_call, unserved_input, unserved_refresh}
-use Rattle.nit_host.specs.declared.refusal.Unserved.{Unserved}
-use Rattle.nit_events.specs.declared.device.Device.TheVariants as device
+use Rattle.nit_host.specs.Below.{session}
+use Rattle.nit_host.specs.Host.{HostModel, unserved_call, unserved_refresh}
 
 -- the first test was passed, or was not met
 pub passed : {A : Type 0} (b : Bool) (why : A) (rest : Option A) → (if not b then Some why else rest) ≡ None → (b ≡ true) × (rest ≡ None)
@@ -26,3 +24,13 @@ may_call h seat none =
     let b = passed (nat_lt (session h.state seat).next (2 ^ 32 - 1)) _ _ a.1 in
     let c = not_met (h.left == 0) _ _ b.1 in
     record { inside = grind (arith, nat_tests); handles = grind (arith, nat_tests); left = grind (arith, nat_tests) }
+
+pub record MayRefresh (h : HostModel) (seat : ℕ) (words : List ℕ) : Type 0 where
+  pub inside : seat < length h.state.sessions
+  pub enough : (session h.state seat).bw * (session h.state seat).bh ≤ length words
+
+pub may_refresh : (h : HostModel) (seat : ℕ) (words : List ℕ) → unserved_refresh h seat words ≡ None → MayRefresh h seat words
+may_refresh h seat words none =
+    let a = passed (nat_lt seat (length h.state.sessions)) _ _ none in
+    let b = not_met (nat_lt (length words) ((session h.state seat).bw * (session h.state seat).bh)) _ _ a.1 in
+    record { inside = grind (arith, nat_tests); enough = grind (arith, nat_tests) }
