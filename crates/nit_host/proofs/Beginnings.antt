@@ -22,7 +22,7 @@ use mathlib.Core.Logic.{dite}
 use native.Mathlib.Decide.{dec_lt}
 use Rattle.nit_stack.specs.declared.view.View.{View}
 
-abbrev no_client : Member
+abbrev pub no_client : Member
 no_client = record { label = []; donation = 0; script = []; layer = 0; clicks = false }
 
 -- ---- one sheet more
@@ -80,7 +80,7 @@ all_blank config n sheets are far = record {
   blank = λ t inside. are.blank t (omega (arith, inside, far));
 }
 
-blank_plain : (seat size : ℕ) (sight : Sight) → sight ≡ blank_sheet seat size → sight ≡ plain_sight seat (told_words sight.words)
+pub blank_plain : (seat size : ℕ) (sight : Sight) → sight ≡ blank_sheet seat size → sight ≡ plain_sight seat (told_words sight.words)
 blank_plain seat size sight is = is ∙ ap (λ (s : Sight). plain_sight seat (told_words s.words)) (sym is)
 
 pub all_sheets : (config : Configuration) (n : ℕ) (sheets : List SheetModel) → HaveRoomTo config n sheets → n ≡ length config.clients → AreSheets config sheets

@@ -62,18 +62,19 @@ free_not_taken s seat label long free =
     let within : k < length s.sessions = omega (arith, inside, length-range_with_len 0 (length s.sessions)) in
     ap (other_has s seat label) (in_order (length s.sessions) k d within) ∙ none_has s seat label k (free k (omega (arith, within, long))))
 
+pub free_of : (s : State) (seat : ℕ) (label : List ℕ) → length s.sessions ≡ length s.config.clients → is_label_taken s seat label ≡ false → IsFreeLabel s.config seat label
+free_of s seat label long none t inside other same =
+    let within : t < length s.sessions = omega (arith, inside, long) in
+    let numbered : t < length (seats_of s) = omega (arith, within, length-range_with_len 0 (length s.sessions)) in
+    let here : other_has s seat label t ≡ true = ap (λ (b : Bool). not b && has_label s label t) (ne_eqb t seat other) ∙ (bytes_eq-Decides (member s.config t).label label).1 same in
+    false≢true (sym none ∙ list_any_at (other_has s seat label) (seats_of s) t 0 numbered (ap (other_has s seat label) (in_order (length s.sessions) t 0 within) ∙ here))
+
 pub taken_unless_free : (s : State) (seat : ℕ) (label : List ℕ) → length s.sessions ≡ length s.config.clients → (IsFreeLabel s.config seat label → ⊥) → is_label_taken s seat label ≡ true
 taken_unless_free s seat label long not_free = by (is_label_taken s seat label) refl
   where
-    free_of : is_label_taken s seat label ≡ false → IsFreeLabel s.config seat label
-    free_of none t inside other same =
-        let within : t < length s.sessions = omega (arith, inside, long) in
-        let numbered : t < length (seats_of s) = omega (arith, within, length-range_with_len 0 (length s.sessions)) in
-        let here : other_has s seat label t ≡ true = ap (λ (b : Bool). not b && has_label s label t) (ne_eqb t seat other) ∙ (bytes_eq-Decides (member s.config t).label label).1 same in
-        false≢true (sym none ∙ list_any_at (other_has s seat label) (seats_of s) t 0 numbered (ap (other_has s seat label) (in_order (length s.sessions) t 0 within) ∙ here))
     by : (b : Bool) → is_label_taken s seat label ≡ b → is_label_taken s seat label ≡ true
     by true is = is
-    by false is = absurd (not_free (free_of is))
+    by false is = absurd (not_free (free_of s seat label long is))
 
 pub label_decides : (h : HostModel) (seat : ℕ) (label : List ℕ) (b : Bool) → seat < length h.state.sessions → is_taken h.state seat ≡ false → is_label_taken h.state seat label ≡ b
     → unseated h seat label ≡ (if b then Some why.LabelTaken else None)

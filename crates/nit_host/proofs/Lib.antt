@@ -9,3 +9,5 @@ mod Rows
 mod Beginnings
 mod Inputs
 mod ActLemmas
+mod Seatings
+mod Refreshing

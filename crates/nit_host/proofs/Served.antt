@@ -1,10 +1,8 @@
 -- What it means that nothing is against a call, a refresh or a device event.
 use Rattle.std.proofs.Common.{Bool, List, None, Option, Some, arith, cond, false, length, nat_lt, not, refl, sym, true, ℕ, ◌-◌, ◌*◌, ◌<◌, ◌==◌, ◌^◌, ◌∙◌, ◌≡◌, ◌≤◌, ◌&&◌, if◌then◌else◌}
 use Rattle.std.proofs.lemmas.Bool.Decides.{nat_tests}
-use Rattle.nit_host.specs.Below.{Call, Device, IsDevice, asks_view, session}
-use Rattle.nit_host.specs.Host.{HostModel, is_device, lacks_handles, unserved_call, unserved_input, unserved_refresh}
-use Rattle.nit_host.specs.declared.refusal.Unserved.{Unserved}
-use Rattle.nit_events.specs.declared.device.Device.TheVariants as device
+use Rattle.nit_host.specs.Below.{Call, asks_view, session}
+use Rattle.nit_host.specs.Host.{HostModel, lacks_handles, unserved_call, unserved_refresh}
 
 -- the first test was passed, or was not met
 pub passed : {A : Type 0} (b : Bool) (why : A) (rest : Option A) → (if not b then Some why else rest) ≡ None → (b ≡ true) × (rest ≡ None)
@@ -35,3 +33,13 @@ may_call h seat call none =
       handles = λ e. let room = both (asks_view call) (nat_lt (session h.state seat).next (2 ^ 32 - 2)) b.0 e in grind (arith, nat_tests);
       left = grind (arith, nat_tests);
     }
+
+pub record MayRefresh (h : HostModel) (seat : ℕ) (words : List ℕ) : Type 0 where
+  pub inside : seat < length h.state.sessions
+  pub enough : (session h.state seat).bw * (session h.state seat).bh ≤ length words
+
+pub may_refresh : (h : HostModel) (seat : ℕ) (words : List ℕ) → unserved_refresh h seat words ≡ None → MayRefresh h seat words
+may_refresh h seat words none =
+    let a = passed (nat_lt seat (length h.state.sessions)) _ _ none in
+    let b = not_met (nat_lt (length words) ((session h.state seat).bw * (session h.state seat).bh)) _ _ a.1 in
+    record { inside = grind (arith, nat_tests); enough = grind (arith, nat_tests) }

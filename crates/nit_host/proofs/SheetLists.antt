@@ -160,3 +160,7 @@ pub seen_sheets : (old new : List SheetModel) → AreQuiet old → ((t : ℕ) �
 seen_sheets old new quiet were rests =
     same_sheets new old
     (λ t. let saw = were t in saw.1 ∙ not_seen (glass_in (sights old) t) saw.0 (ap (λ (g : Sight). g.log) (sight_at old t) ∙ quiet t)) rests
+
+-- a plain sheet by its own number
+pub plain_by_owner : (config : Configuration) (seat : ℕ) (sight : Sight) → IsPlainOf config seat sight → sight ≡ plain_sight sight.owner (told_words sight.words)
+plain_by_owner config seat sight plain = plain.0 ∙ ap (λ (n : ℕ). plain_sight n (told_words sight.words)) (sym (ap (λ (s : Sight). s.owner) plain.0))

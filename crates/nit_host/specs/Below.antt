@@ -12,11 +12,13 @@ pub use Rattle.nit_events.specs.declared.device.Mode.{Mode}
 pub use Rattle.nit_events.specs.declared.entry.Entry.{Entry}
 pub use Rattle.nit_events.specs.declared.event.Routed.{Routed}
 pub use Rattle.nit_events.specs.declared.event.Status.{Status}
+pub use Rattle.nit_journal.specs.Live.{AreLive}
 pub use Rattle.nit_journal.specs.Replay.{Agrees}
 pub use Rattle.nit_journal.specs.Session.{Session, refusal, serve}
 pub use Rattle.nit_journal.specs.StackAfter.{is_accepted}
 pub use Rattle.nit_journal.specs.State.{State, after, first_state, route, session}
-pub use Rattle.nit_journal.specs.Steps.{IsFreeLabel, opened, vacant_state}
+pub use Rattle.nit_journal.specs.Steps.{IsFreeLabel, opened, relabelled, vacant_state}
+pub use Rattle.nit_look.specs.Look.{CoversChange, IsTouched, LiesOn}
 pub use Rattle.nit_overlay.specs.Frame.{frame}
 pub use Rattle.nit_paint.specs.Repaint.{no_sight}
 pub use Rattle.nit_rect.specs.Limits.{least_units, most_height, most_length, most_sessions, most_units, most_width}

@@ -5,7 +5,7 @@ ghost use Rattle.nit_host.specs.Terms.{IsConfiguration, IsWord, ShowsLabels, fra
 
 mod calls;
 mod handing;
-// mod looking;
+mod looking;
 mod opening;
 mod reading;
 mod seats;

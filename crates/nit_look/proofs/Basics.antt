@@ -1,5 +1,5 @@
 -- What lemmas use: the words of clauses, the library's lemmas, and those of the crates below.
-pub use Rattle.nit_look.specs.Terms.{AreEdges, Bound, CoversChange, Differs, DiffersWhere, Edges, IsBetween, IsSpan, IsTouched, LiesOn, Span, Spans, pos, rectangle_between, row_of}
+pub use Rattle.nit_look.specs.Terms.{AreEdges, Bound, CoversChange, Differs, DiffersWhere, Edges, IsBetween, IsSpan, IsTouched, LiesOn, Span, Spans, pos, rectangle_between, picture_row}
 pub use Rattle.nit_rect.proofs.ForCallers.{and_true, spans_holds}
 pub use Rattle.std.proofs.Common.{mul_comm, ◌∙◌}
 pub use Rattle.std.proofs.Math.Seq.{take-add}

@@ -1,6 +1,6 @@
 -- One row more of two pictures.
 use Rattle.std.proofs.Common.{List, Option, Some, None, ap, arith, inl, inr, max, min, refl, subst, sym, drop, ℕ, ◌*◌, ◌+◌, ◌-◌, ◌/◌, ◌%◌, ◌<◌, ◌∙◌, ◌≡◌, ◌≤◌, slice_index}
-use Rattle.nit_look.proofs.Basics.{AreEdges, Bound, Differs, DiffersWhere, Edges, IsBetween, IsSpan, Span, cases_lt, div-mul-add, div_below, get_or-drop, get_or-take, get_or_past, length-take, mod-mul-add, row_of}
+use Rattle.nit_look.proofs.Basics.{AreEdges, Bound, Differs, DiffersWhere, Edges, IsBetween, IsSpan, Span, cases_lt, div-mul-add, div_below, get_or-drop, get_or-take, get_or_past, length-take, mod-mul-add, picture_row}
 
 -- where a pixel lies of the row behind so many rows
 record InRow (width row k : ℕ) : Type 0 where
@@ -23,21 +23,21 @@ in_row width row k low high =
       row_is = ap (λ (n : ℕ). n / width) (sym is) ∙ div-mul-add row width (k - row * width) below;
     }
 
-word_of_row : (width row j : ℕ) (a : List ℕ) → j < width → slice_index (row_of width row a) j ≡ slice_index a (row * width + j)
+word_of_row : (width row j : ℕ) (a : List ℕ) → j < width → slice_index (picture_row width row a) j ≡ slice_index a (row * width + j)
 word_of_row width row j a lt = get_or-take width (drop (row * width) a) j 0 lt ∙ get_or-drop (row * width) a j 0
 
 -- a pixel of the row, seen from the row alone
-differs_there : (width row j : ℕ) (a b : List ℕ) → j < width → Differs a b (row * width + j) → Differs (row_of width row a) (row_of width row b) j
+differs_there : (width row j : ℕ) (a b : List ℕ) → j < width → Differs a b (row * width + j) → Differs (picture_row width row a) (picture_row width row b) j
 differs_there width row j a b lt differs same = differs (sym (word_of_row width row j a lt) ∙ same ∙ word_of_row width row j b lt)
 
-differs_here : (width row j : ℕ) (a b : List ℕ) → j < width → Differs (row_of width row a) (row_of width row b) j → Differs a b (row * width + j)
+differs_here : (width row j : ℕ) (a b : List ℕ) → j < width → Differs (picture_row width row a) (picture_row width row b) j → Differs a b (row * width + j)
 differs_here width row j a b lt differs same = differs (word_of_row width row j a lt ∙ same ∙ sym (word_of_row width row j b lt))
 
-past_row : (width row j : ℕ) (a : List ℕ) → width ≤ j → slice_index (row_of width row a) j ≡ 0
-past_row width row j a le = get_or_past (row_of width row a) j 0 (omega (arith, length-take width (drop (row * width) a)))
+past_row : (width row j : ℕ) (a : List ℕ) → width ≤ j → slice_index (picture_row width row a) j ≡ 0
+past_row width row j a le = get_or_past (picture_row width row a) j 0 (omega (arith, length-take width (drop (row * width) a)))
 
 -- a place at which two rows differ is one of theirs
-differs_within : (width row j : ℕ) (a b : List ℕ) → Differs (row_of width row a) (row_of width row b) j → j < width
+differs_within : (width row j : ℕ) (a b : List ℕ) → Differs (picture_row width row a) (picture_row width row b) j → j < width
 differs_within width row j a b differs = elim (cases_lt j width) [
   | inl lt ↦ lt
   | inr le ↦ absurd (differs (past_row width row j a le ∙ sym (past_row width row j b le)))
@@ -58,16 +58,16 @@ still : (width row : ℕ) (a b : List ℕ) (P : ℕ → ℕ → Type 0) → Diff
 still width row a b P w = (w.0, omega (arith, next_row row width, w.1), w.2, w.3)
 
 -- a difference in the row is one of the picture
-found : (width row j : ℕ) (a b : List ℕ) (P : ℕ → ℕ → Type 0) → Differs (row_of width row a) (row_of width row b) j → P j row
+found : (width row j : ℕ) (a b : List ℕ) (P : ℕ → ℕ → Type 0) → Differs (picture_row width row a) (picture_row width row b) j → P j row
     → DiffersWhere width ((row + 1) * width) a b P
 found width row j a b P differs holds =
     let lt = differs_within width row j a b differs in
     (row * width + j, omega (arith, next_row row width, lt), differs_here width row j a b lt differs, rw (mod-mul-add row width j lt, div-mul-add row width j lt) holds)
 
-same_here : (width row j : ℕ) (a b : List ℕ) → row_of width row a ≡ row_of width row b → j < width → slice_index a (row * width + j) ≡ slice_index b (row * width + j)
+same_here : (width row j : ℕ) (a b : List ℕ) → picture_row width row a ≡ picture_row width row b → j < width → slice_index a (row * width + j) ≡ slice_index b (row * width + j)
 same_here width row j a b same lt = sym (word_of_row width row j a lt) ∙ ap (λ (l : List ℕ). slice_index l j) same ∙ word_of_row width row j b lt
 
-pub nothing_more : (width row : ℕ) (a b : List ℕ) (e : Option Edges) → AreEdges width row a b e → row_of width row a ≡ row_of width row b → AreEdges width (row + 1) a b e
+pub nothing_more : (width row : ℕ) (a b : List ℕ) (e : Option Edges) → AreEdges width row a b e → picture_row width row a ≡ picture_row width row b → AreEdges width (row + 1) a b e
 nothing_more width row a b (Some e) is same = record {
   held = one_more width row (λ k x y. Differs a b k → IsBetween e x y) is.held (λ j lt differs. absurd (differs (same_here width row j a b same lt)));
   left = still width row a b (λ x y. x ≡ e.left) is.left;
@@ -78,7 +78,7 @@ nothing_more width row a b (Some e) is same = record {
 nothing_more width row a b None is same =
     one_more width row (λ k x y. slice_index a k ≡ slice_index b k) is (λ j lt. same_here width row j a b same lt)
 
-pub first_found : (width row : ℕ) (a b : List ℕ) (s : Span) → AreEdges width row a b None → IsSpan (row_of width row a) (row_of width row b) (Some s)
+pub first_found : (width row : ℕ) (a b : List ℕ) (s : Span) → AreEdges width row a b None → IsSpan (picture_row width row a) (picture_row width row b) (Some s)
     → Bound width ((row + 1) * width) a b (record { left = s.first; right = s.last; top = row; bottom = row })
 first_found width row a b s is span = record {
   held = one_more width row (λ k x y. Differs a b k → IsBetween (record { left = s.first; right = s.last; top = row; bottom = row }) x y)
@@ -97,7 +97,7 @@ row_above width row k lt = elim (cases_lt 0 width) [
 ]
 
 pub more_found : (width row left right : ℕ) (a b : List ℕ) (e : Edges) (s : Span) → left ≡ min e.left s.first → right ≡ max e.right s.last
-    → AreEdges width row a b (Some e) → IsSpan (row_of width row a) (row_of width row b) (Some s)
+    → AreEdges width row a b (Some e) → IsSpan (picture_row width row a) (picture_row width row b) (Some s)
     → Bound width ((row + 1) * width) a b (record { left = left; right = right; top = e.top; bottom = row })
 more_found width row left right a b e s least most is span = record {
   held = one_more width row (λ k x y. Differs a b k → IsBetween (record { left = left; right = right; top = e.top; bottom = row }) x y)

@@ -4,12 +4,13 @@ use Rattle.nit_look.specs.Below.{Edges, Rectangle, rectangle}
 use Rattle.nit_look.specs.Span.{Differs}
 
 -- a row of a picture
-abbrev pub row_of : ℕ → ℕ → List ℕ → List ℕ
-row_of width row a = take width (drop (row * width) a)
+abbrev pub picture_row : ℕ → ℕ → List ℕ → List ℕ
+picture_row width row a = take width (drop (row * width) a)
 
 -- two pictures differ at one of the first so many pixels, in whose column and row the test holds
 abbrev pub DiffersWhere : ℕ → ℕ → List ℕ → List ℕ → (ℕ → ℕ → Type 0) → Type 0
-DiffersWhere width count a b test = (k : ℕ) × (k < count) × Differs a b k × test (k % width) (k / width)
+DiffersWhere width count a b test =
+    (k : ℕ) × (k < count) × Differs a b k × test (k % width) (k / width)
 
 -- the column and the row lie between the edges
 pub record IsBetween (e : Edges) (x y : ℕ) : Type 0 where
@@ -33,4 +34,5 @@ AreEdges width rows a b None = (k : ℕ) → k < rows * width → slice_index a 
 
 -- the rectangle that the edges bound
 abbrev pub rectangle_between : Edges → Rectangle
-rectangle_between e = rectangle (pos e.left) (pos e.top) (e.right - e.left + 1) (e.bottom - e.top + 1)
+rectangle_between e =
+    rectangle (pos e.left) (pos e.top) (e.right - e.left + 1) (e.bottom - e.top + 1)

@@ -4,8 +4,8 @@ use Rattle.nit_look.specs.Below.{Point, Rectangle, covers}
 use Rattle.nit_look.specs.Span.{Differs}
 
 -- the pixel of a number, row by row from the top, on a screen of this width
-abbrev pub pixel : ℕ → ℕ → Point
-pixel width k = record { x = pos (k % width); y = pos (k / width) }
+abbrev pub place_at : ℕ → ℕ → Point
+place_at width k = record { x = pos (k % width); y = pos (k / width) }
 
 -- it lies on the screen of this width and height
 pub record LiesOn (width height : ℕ) (r : Rectangle) : Type 0 where
@@ -16,11 +16,11 @@ pub record LiesOn (width height : ℕ) (r : Rectangle) : Type 0 where
 
 -- it covers each pixel at which the pictures differ
 abbrev pub CoversChange : ℕ → List ℕ → List ℕ → Rectangle → Type 0
-CoversChange width a b r = (k : ℕ) → Differs a b k → IsTrue (covers r (pixel width k))
+CoversChange width a b r = (k : ℕ) → Differs a b k → IsTrue (covers r (place_at width k))
 
 -- the pictures differ at a pixel for which the test holds
 abbrev pub DiffersAt : ℕ → List ℕ → List ℕ → (Point → Type 0) → Type 0
-DiffersAt width a b test = (k : ℕ) × Differs a b k × test (pixel width k)
+DiffersAt width a b test = (k : ℕ) × Differs a b k × test (place_at width k)
 
 -- they differ at a pixel in its first column, in its last, in its first row and in its last
 pub record IsTouched (width : ℕ) (a b : List ℕ) (r : Rectangle) : Type 0 where

@@ -1,7 +1,7 @@
 //! The outermost columns and rows in which two pictures differ.
 
 ghost use Rattle.std.specs.Prelude.{◌≡◌, ◌≤◌, ◌<◌, ◌+◌, ◌*◌, ℕ, List, IfSome, length, slice_range};
-ghost use Rattle.nit_look.specs.Terms.{AreEdges, IsSpan, row_of};
+ghost use Rattle.nit_look.specs.Terms.{AreEdges, IsSpan, picture_row};
 
 use crate::span::Span;
 
@@ -18,7 +18,7 @@ pub(crate) struct Edges {
 pub(crate) fn with_row(found: Option<Edges>, row: usize, span: Option<Span>) -> Option<Edges>
     ensures { (width : ℕ) → (a b : List ℕ)
         → AreEdges width row a b found
-        → IsSpan (row_of width row a) (row_of width row b) span
+        → IsSpan (picture_row width row a) (picture_row width row b) span
         → AreEdges width (row + 1) a b result }
 {
     let Some(span) = span else { return found };

@@ -7,8 +7,8 @@ use crate::edges::{Edges, with_row};
 use crate::span::copy_row;
 use nit_rect::Rect;
 
-/// Copies into `out` what differs from it in a frame of `width` columns and `height` rows, and gives
-/// the least rectangle of the screen outside of which nothing was written. None exactly where
+/// Copies into `out` what differs from it in a frame of `width` columns and `height` rows, and
+/// gives the least rectangle of the screen outside of which nothing was written. None exactly where
 /// nothing differs. Then `out` is the frame.
 ///
 /// The width is 1..=1024 and the height at most 768. Both lists have a word for each pixel, row by

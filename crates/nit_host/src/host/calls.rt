@@ -77,7 +77,7 @@ impl Host {
         }
         clean_pixels_keep_their_source();
         self.desktop.facts();
-        let call = Call::Refresh(place.0, place.1, size.0, size.1);
+        let call = refresh_of(place, size);
         let part = self.part(seat, place, size);
         let buffer = self.desktop.buffer(seat);
         let own = &mut self.hollows[seat as usize];
@@ -150,12 +150,18 @@ impl Host {
             (call.Refresh place.0 place.1 size.0 size.1)
             ≡ Some r → result ≡ None }
     {
-        let call = Call::Refresh(place.0, place.1, size.0, size.1);
-        match self.desktop.refused(seat, &call) {
+        match self.desktop.refused(seat, &refresh_of(place, size)) {
             Some(_refusal) => None,
             None => Rect::new(place.0, place.1, size.0, size.1),
         }
     }
+}
+
+/// The call that refreshes a part.
+fn refresh_of(place: (i32, i32), size: (u32, u32)) -> Call
+    ensures { result ≡ call.Refresh place.0 place.1 size.0 size.1 }
+{
+    Call::Refresh(place.0, place.1, size.0, size.1)
 }
 
 /// Serves a call of the client at a seat. Its sheet, `own`, stood in the desktop before a hollow one

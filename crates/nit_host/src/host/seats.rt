@@ -6,6 +6,7 @@ ghost use Rattle.nit_host.specs.Terms.{Unseated, seated, unseated};
 use crate::host::Host;
 use crate::refusal::Unseated;
 use nit_glyph::Label;
+use nit_screen::laws::openings_keep_all;
 
 impl Host {
     /// Gives a free seat to a client, under a label that no other seat has or had last. The client
@@ -24,6 +25,7 @@ impl Host {
         if let Some(why) = self.unseated(seat, &label) {
             return Err(why);
         }
+        openings_keep_all();
         self.desktop.facts();
         let own = &mut self.hollows[seat as usize];
         self.desktop.exchange(seat, own);
