@@ -1,9 +1,8 @@
 -- What a host serves are steps.
-use Rattle.std.proofs.Common.{Bool, List, None, Option, Some, [], ap, cond, false, fold, length, nat_lt, not, refl, subst, sym, true, ℕ, ◌++◌, ◌<◌, ◌∙◌, ◌∷◌, ◌≡◌, ◌≢◌, if◌then◌else◌}
+use Rattle.std.proofs.Common.{Bool, List, None, Option, Some, [], ap, cond, false, length, nat_lt, not, refl, subst, sym, true, ℕ, ◌++◌, ◌<◌, ◌∙◌, ◌∷◌, ◌≡◌, ◌≢◌, if◌then◌else◌}
 use Rattle.std.proofs.lemmas.Bool.{ltb-true}
 use Rattle.nit_host.specs.Acts.{Act, Calls, Comes, Does, Refreshes, after_act, after_acts, step_of, step_unless, steps_of, unless_for}
 use Rattle.nit_host.specs.Terms.{HostModel, State, called, is_accepted, is_label_taken, is_live, is_taken, refreshed, reply_to, session, unseated, unserved_call, unserved_refresh}
-use Rattle.nit_host.specs.declared.refusal.Unserved.{Unserved}
 use Rattle.nit_host.specs.declared.refusal.Unserved.TheVariants as unserved
 use Rattle.nit_host.specs.declared.refusal.Unseated.{Unseated}
 use Rattle.nit_host.specs.declared.refusal.Unseated.TheVariants as why
@@ -75,8 +74,7 @@ pub all_acts : (h : HostModel) (acts : List Act) → Goes h (after_acts h acts) 
 all_acts h [] = (tt, refl)
 all_acts h (act ∷ rest) =
     let first = one_act h act in
-    let more = all_acts (after_act h act) rest in
-    (
+    let more = all_acts (after_act h act) rest in (
       both h.state (step_of h act) (steps_of (after_act h act) rest) first.0 (subst (λ (s : State). AreSteps s (steps_of (after_act h act) rest)) first.1 more.0),
       more.1 ∙ ap (λ (s : State). after_steps s (steps_of (after_act h act) rest)) first.1 ∙ sym (both_after h.state (step_of h act) (steps_of (after_act h act) rest)),
     )

@@ -1,23 +1,22 @@
 -- The sheets of a host before its first step.
-use Rattle.std.proofs.Common.{All, Bool, List, None, [], add-one, ap, arith, cond, get_or, length, map, refl, replicate, subst, sym, true, false, ℕ, ◌*◌, ◌++◌, ◌+◌, ◌<◌, ◌∙◌, ◌∷◌, ◌≡◌, ◌≤◌, slice_index}
+use Rattle.std.proofs.Common.{Bool, List, None, [], ap, arith, cond, get_or, length, refl, replicate, subst, sym, true, false, ℕ, ◌*◌, ◌++◌, ◌+◌, ◌<◌, ◌∙◌, ◌∷◌, ◌≡◌, ◌≤◌, slice_index}
 use Rattle.std.proofs.Math.Seq.{get_or-append_seam}
 use Rattle.std.proofs.lemmas.List.{ext_get_or, get_or-map, get_or-replicate, get_or_append_left, get_or_default, length-append, length-map}
-use Rattle.nit_config.specs.ConfigurationRanges.{IsConfiguration}
 use Rattle.nit_config.specs.declared.config.Member.{Member}
-use Rattle.nit_config.specs.Configuration.{bar_rows, member}
+use Rattle.nit_config.specs.Configuration.{bar_rows}
 use Rattle.nit_journal.specs.State.{buffer_size, source_of}
 use Rattle.nit_rect.specs.declared.point.Point.{Point}
-use Rattle.nit_screen.specs.RawWords.{pixel_count, source_at, word_from}
+use Rattle.nit_screen.specs.RawWords.{pixel_count, word_from}
 use Rattle.nit_stack.specs.Sources.{Bare, in_bar, owner, pixel, source_under}
 use Rattle.nit_word.specs.Channels.{bare_word}
 use Rattle.nit_word.specs.Sight.{Sight, plain_sight, told_words}
 use Rattle.nit_word.specs.Zeros.{zeros}
 use Rattle.nit_word.proofs.ForCallers.{length-zeros}
-use Rattle.nit_host.specs.Below.{Configuration, DesktopModel, Entry, IsGlass, State, glass_in, table_size}
+use Rattle.nit_host.specs.Below.{Configuration, DesktopModel, IsGlass, State, glass_in, table_size}
 use Rattle.nit_host.specs.Fresh.{AreHollow, AreSheets, IsFresh, IsHost, sheet_at, sheets_of, size_at}
-use Rattle.nit_host.specs.Host.{HostModel, blank_sheets, first_host, sheet_in}
+use Rattle.nit_host.specs.Host.{blank_sheets, first_host, sheet_in}
 use Rattle.nit_host.specs.Sheet.{SheetModel, blank_sheet}
-use Rattle.nit_host.proofs.SheetLists.{no_sheet, same_sheets, sight_at, sights, rooms}
+use Rattle.nit_host.proofs.SheetLists.{no_sheet, sight_at, sights}
 use mathlib.Core.Logic.{dite}
 use native.Mathlib.Decide.{dec_lt}
 use Rattle.nit_stack.specs.declared.view.View.{View}

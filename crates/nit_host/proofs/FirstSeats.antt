@@ -1,10 +1,10 @@
 -- The first seat that passes a test, and whether another seat has a label.
-use Rattle.std.proofs.Common.{All, Bool, List, None, Option, Some, add-zero, ap, arith, bytes_eq, cond, false, find, get_or, inl, inr, length, nat_lt, not, refl, suc, sym, true, zero, ℕ, ◌&&◌, ◌+◌, ◌<◌, ◌==◌, ◌∙◌, ◌≡◌, ◌≢◌, if◌then◌else◌}
+use Rattle.std.proofs.Common.{Bool, List, None, Some, add-zero, ap, arith, cond, false, find, get_or, inl, inr, length, nat_lt, not, refl, suc, sym, true, zero, ℕ, ◌&&◌, ◌+◌, ◌<◌, ◌==◌, ◌∙◌, ◌≡◌, ◌≢◌, if◌then◌else◌}
 use Rattle.std.proofs.lemmas.Bool.{cases_eq, eq-eqb, false_from_ne_true, false≢true, ne_eqb}
 use Rattle.std.proofs.lemmas.List.Folds.{list_any_at, list_any_none}
 use Rattle.std.proofs.lemmas.List.FromFn.{get_or-range_with_len, length-range_with_len}
 use Rattle.std.proofs.lemmas.Slice.Eq.{bytes_eq-Decides}
-use Rattle.nit_host.specs.Below.{IsFreeLabel, State, list_any, member, range_with_len}
+use Rattle.nit_host.specs.Below.{IsFreeLabel, State, member, range_with_len}
 use Rattle.nit_host.specs.Seats.{has_label, is_label_taken, is_taken, seats_of, unseated}
 use Rattle.nit_host.specs.Host.{HostModel}
 use Rattle.nit_host.specs.declared.refusal.Unseated.TheVariants as why

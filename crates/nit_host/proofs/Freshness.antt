@@ -1,5 +1,5 @@
 -- No word of the screen is stale: what each step leaves is shown as the sheets tell it.
-use Rattle.std.proofs.Common.{Bool, List, None, Option, Some, [], ap, arith, cond, false, get_or, length, map, refl, slice_index, subst, sym, true, ℕ, ◌*◌, ◌<◌, ◌==◌, ◌||◌, ◌∙◌, ◌≡◌, ◌≢◌, IsTrue}
+use Rattle.std.proofs.Common.{Bool, List, ap, arith, false, length, refl, slice_index, subst, sym, true, ℕ, ◌<◌, ◌==◌, ◌||◌, ◌∙◌, ◌≡◌, IsTrue}
 use Rattle.std.proofs.lemmas.Bool.Decides.{nat_tests}
 use Rattle.std.proofs.lemmas.List.{get_or_past}
 use Rattle.std.proofs.lemmas.List.FromFn.{get_or-map-range_with_len}
@@ -11,9 +11,8 @@ use Rattle.nit_screen.specs.DirtyPixels.{dirty}
 use Rattle.nit_screen.specs.RawWords.{Painted, pixel_count, source_at, word_from, words_of}
 use Rattle.nit_screen.specs.StateScenery.{scenery_of}
 use Rattle.nit_stack.specs.Sources.{Bare, Black, PixelSource, Word, pixel}
-use Rattle.nit_word.specs.Channels.{bare_word}
 use Rattle.nit_word.specs.Sight.{IsLoaded, Sight, plain_sight, told_words}
-use Rattle.nit_host.specs.Below.{Configuration, Entry, State, range_with_len}
+use Rattle.nit_host.specs.Below.{Configuration, Entry, State}
 use Rattle.nit_host.specs.Fresh.{AreSheets, IsFresh, sheet_at, sheets_of}
 use Rattle.nit_host.specs.Host.{sheet_in}
 use Rattle.nit_host.specs.Sheet.{SheetModel}
@@ -60,6 +59,7 @@ module _ (config : Configuration) (s s' : State) (e : Entry) (sheets : List Shee
     where
       there : k < pixel_count s
       there = subst (λ (n : ℕ). k < n) count inside
+
       by : (b : Bool) → dirty s e s' (pixel s.config.width k) ≡ b → slice_index raw' k ≡ word_from (sheet_in (sheets_of sheets)) (source_at s' k)
       by true is = source_told config sheets (source_at s' k) (slice_index raw' k) are (painted.marked k there is).0
       by false is = painted.others k (λ _. is) ∙ fresh k there ∙ ap (word_from tables) (sym (clean k is)) ∙ stays k is

@@ -1,8 +1,7 @@
 -- What a device event leaves.
-use Rattle.std.proofs.Common.{List, None, Option, Some, ap, length, refl, subst, sym, ℕ, ◌-◌, ◌∙◌, ◌≡◌}
+use Rattle.std.proofs.Common.{List, Option, Some, ap, refl, subst, sym, ◌-◌, ◌∙◌, ◌≡◌}
 use Rattle.nit_events.specs.declared.entry.Entry.TheVariants as entry
-use Rattle.nit_word.specs.Sight.{seen}
-use Rattle.nit_host.specs.Below.{Agrees, Configuration, DesktopModel, Device, Entry, Painted, Routed, Sight, State, after, glass_in, pixel, route, routed_as, source_at}
+use Rattle.nit_host.specs.Below.{Configuration, DesktopModel, Device, Entry, Painted, Routed, State, after, glass_in, pixel, route, routed_as}
 use Rattle.nit_host.specs.Fresh.{AreHollow, AreSheets, IsFresh, IsHost, sheets_of}
 use Rattle.nit_host.specs.Host.{HostModel, routed_of, sheet_in, told}
 use Rattle.nit_host.specs.Sheet.{SheetModel}

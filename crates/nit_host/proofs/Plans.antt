@@ -1,10 +1,9 @@
 -- The configuration of a plan that is not refused.
-use Rattle.std.proofs.Common.{All, AllPairs, Bool, List, None, Option, Some, [], add-one, ap, arith, cond, false, get_or, length, map, nat_le, nat_lt, not, refl, rules, subst, suc, sym, take, true, zero, ℕ, ◌&&◌, ◌++◌, ◌+◌, ◌<◌, ◌||◌, ◌∙◌, ◌∷◌, ◌≡◌, ◌≢◌, ◌≤◌, if◌then◌else◌, IsTrue}
+use Rattle.std.proofs.Common.{Bool, List, None, Option, Some, [], ap, arith, false, get_or, length, map, nat_le, not, refl, rules, subst, suc, sym, take, true, zero, ℕ, ◌++◌, ◌+◌, ◌<◌, ◌||◌, ◌∙◌, ◌∷◌, ◌≡◌, ◌≢◌, ◌≤◌, if◌then◌else◌, IsTrue}
 use Rattle.std.proofs.lemmas.Bool.{and_parts, false≢true}
 use Rattle.std.proofs.lemmas.Bool.Decides.{nat_tests}
 use Rattle.std.proofs.lemmas.List.{get_or-map, length-map, take_more, map-append, length-take-le}
 use Rattle.std.proofs.lemmas.List.FromFn.{get_or-enumerate_from, length-enumerate_from}
-use Rattle.nit_config.specs.Configuration.{Configuration}
 use Rattle.nit_config.specs.ConfigurationRanges.{IsConfiguration, IsMember}
 use Rattle.nit_config.specs.declared.config.Member.{Member}
 use Rattle.nit_glyph.specs.Texts.{is_label}

@@ -1,13 +1,13 @@
 -- What a refresh leaves, by whether it is refused.
-use Rattle.std.proofs.Common.{Bool, List, None, Option, Some, ap, arith, cond, false, get_or, inl, inr, length, map, nat_lt, refl, set, slice_get, slice_index, subst, sym, true, ℕ, ℤ, ◌&&◌, ◌*◌, ◌<◌, ◌==◌, ◌∙◌, ◌≡◌, ◌≢◌, ◌≤◌}
+use Rattle.std.proofs.Common.{Bool, List, None, Option, Some, ap, arith, cond, false, inl, inr, length, nat_lt, refl, set, slice_get, slice_index, subst, sym, true, ℕ, ℤ, ◌&&◌, ◌*◌, ◌<◌, ◌==◌, ◌∙◌, ◌≡◌, ◌≢◌, ◌≤◌}
 use Rattle.std.proofs.Math.ListN.{get_or-eq_default}
-use Rattle.std.proofs.lemmas.Bool.{cases_eq, eq-eqb, false≢true}
-use Rattle.std.proofs.lemmas.List.{get_or-set_other, get_or-set_same}
+use Rattle.std.proofs.lemmas.Bool.{cases_eq, eq-eqb}
+use Rattle.std.proofs.lemmas.List.{get_or-set_same}
 use Rattle.nit_events.specs.declared.call.Call.TheVariants as call
 use Rattle.nit_events.specs.declared.call.Reply.TheVariants as reply
 use Rattle.nit_events.specs.declared.entry.Entry.TheVariants as entry
 use Rattle.nit_journal.specs.Session.{Answered, answered, first_session}
-use Rattle.nit_journal.proofs.ForCallers.{accepted_reply, refused_reply, serve_accepted, serve_refused}
+use Rattle.nit_journal.proofs.ForCallers.{refused_reply, serve_accepted, serve_refused}
 use Rattle.nit_repaint.specs.PixelOwners.{is_word_in}
 use Rattle.nit_screen.specs.DirtyPixels.{dirty}
 use Rattle.nit_stack.specs.Sources.{Bare, Black, PixelSource, Word}
@@ -80,9 +80,10 @@ module _ (seat : ℕ) (x y : ℤ) (w h : ℕ) (words : List ℕ) (r : Reply) (ho
 -- the sheet that the words were handed in to
 pub handed_plain : (config : Rattle.nit_host.specs.Below.Configuration) (seat columns rows : ℕ) (part : Option Rectangle) (words : List ℕ) (own own' : SheetModel) → IsPlainOf config seat own.sight
     → own'.sight ≡ plain_sight own.sight.owner (after_handing columns rows part words (told_words own.sight.words)) → IsPlainOf config seat own'.sight
-handed_plain config seat columns rows part words own own' plain is =
-    (is ∙ (λ i. plain_sight (ap (λ (s : Sight). s.owner) plain.0 i) (ap (λ (s : Sight). told_words s.words) (sym is) i)),
-    ap (λ (s : Sight). s.size) is ∙ as_many part ∙ sym (ap (λ (s : Sight). s.size) plain.0) ∙ plain.1)
+handed_plain config seat columns rows part words own own' plain is = (
+  is ∙ (λ i. plain_sight (ap (λ (s : Sight). s.owner) plain.0 i) (ap (λ (s : Sight). told_words s.words) (sym is) i)),
+  ap (λ (s : Sight). s.size) is ∙ as_many part ∙ sym (ap (λ (s : Sight). s.size) plain.0) ∙ plain.1,
+)
   where
     as_many : (part : Option Rectangle) → length (after_handing columns rows part words (told_words own.sight.words)) ≡ length (told_words own.sight.words)
     as_many None = refl
@@ -124,7 +125,7 @@ module _ (d d1 d2 : DesktopModel SheetModel) (hollows : List SheetModel) (seat :
       new_words ∙ ap (λ (o : Option Rectangle). after_handing (session d.state seat).bw (session d.state seat).bh o words (sheet_in (sheets_of d.glasses) seat)) (refuses why is) in
       let sheets : sheets_of (set d.glasses seat own') ≡ sheets_of d.glasses = words_with d.state.config d.glasses seat own' ∙ same_words (sheets_of d.glasses) seat (told_words own'.sight.words) same in
       let done = called_now d d1 d2 hollows seat (call.Refresh x y w h) r hollow own own' last kept host inside swapped there out served plain enough keep
-          (λ k clean. ap (λ (ss : List (List ℕ)). word_from (sheet_in ss) (source_at (after d.state (entry.Call seat (call.Refresh x y w h) r)) k)) (sym sheets)) in
+      (λ k clean. ap (λ (ss : List (List ℕ)). word_from (sheet_in ss) (source_at (after d.state (entry.Call seat (call.Refresh x y w h) r)) k)) (sym sheets)) in
       subst (λ (m : HostModel). WasCalled seat (call.Refresh x y w h) r m d2 (set hollows seat last))
       ((λ i. record { state = d.state; sheets = same_words (sheets_of d.glasses) seat (told_words own'.sight.words) same i; left = d.left; last = kept }) ∙ view) done
 
@@ -151,8 +152,8 @@ module _ (d d1 d2 : DesktopModel SheetModel) (hollows : List SheetModel) (seat :
       let part : told_words own'.sight.words ≡ handed (session d.state seat) (rectangle x y w h) words (sheet_in (sheets_of d.glasses) seat) =
       new_words ∙ ap (λ (o : Option Rectangle). after_handing (session d.state seat).bw (session d.state seat).bh o words (sheet_in (sheets_of d.glasses) seat)) (accepts none) in
       let done = called_now d d1 d2 hollows seat (call.Refresh x y w h) r hollow own own' last kept host inside swapped there out served plain enough keep
-          (λ k clean. clean_word seat (session d.state seat).bw (session d.state seat).bh (rectangle x y w h) (low_bytes words) (sheet_in (sheets_of d.glasses)) (sheet_in (sheets_of (set d.glasses seat own')))
-          (source_at (after d.state (entry.Call seat (call.Refresh x y w h) r)) k) others (own_now ∙ part) (off_now none k clean)) in
+      (λ k clean. clean_word seat (session d.state seat).bw (session d.state seat).bh (rectangle x y w h) (low_bytes words) (sheet_in (sheets_of d.glasses)) (sheet_in (sheets_of (set d.glasses seat own')))
+      (source_at (after d.state (entry.Call seat (call.Refresh x y w h) r)) k) others (own_now ∙ part) (off_now none k clean)) in
       subst (λ (m : HostModel). WasCalled seat (call.Refresh x y w h) r m d2 (set hollows seat last))
       ((λ i. record { state = d.state; sheets = set (sheets_of d.glasses) seat (part i); left = d.left; last = kept }) ∙ ap (with_handed seat (rectangle x y w h) words) view) done
 
@@ -161,6 +162,7 @@ module _ (d d1 d2 : DesktopModel SheetModel) (hollows : List SheetModel) (seat :
     where
       replied : (a : Answered) → serve (session d.state seat) (call.Refresh x y w h) ≡ a → reply_to h0 seat (call.Refresh x y w h) ≡ a.reply
       replied a is = ap (λ (m : HostModel). (serve (session m.state seat) (call.Refresh x y w h)).reply) (sym view) ∙ ap (λ (b : Answered). b.reply) is
+
       by : (o : Option Reply) → refusal (session d.state seat) (call.Refresh x y w h) ≡ o → WasRefreshed seat x y w h words r h0 d2 (set hollows seat last)
       by None is = by_answer seat x y w h words r h0 d2 (set hollows seat last) true (ap is_accepted (replied _ (answer is))) (accepted_ h0 view is)
       by (Some why) is =

@@ -1,5 +1,5 @@
 -- A part of a buffer that is handed in row by row.
-use Rattle.std.proofs.Common.{Bool, List, Option, Some, ap, ap₂, arith, cond, false, length, map, nat_le, nat_lt, pos, refl, subst, sym, true, ℕ, ◌%◌, ◌&&◌, ◌*◌, ◌+◌, ◌/◌, ◌<◌, ◌||◌, ◌∙◌, ◌≡◌, ◌≤◌, ◌+ℤ◌, ◌≤ℤ◌, ℤ, int_le, int_lt, inl, inr}
+use Rattle.std.proofs.Common.{Bool, List, Option, Some, ap, ap₂, arith, false, length, nat_le, nat_lt, pos, refl, sym, true, ℕ, ◌%◌, ◌&&◌, ◌*◌, ◌+◌, ◌/◌, ◌<◌, ◌||◌, ◌∙◌, ◌≡◌, ◌≤◌, ◌+ℤ◌, ◌≤ℤ◌, ℤ, int_le, int_lt}
 use Rattle.std.proofs.Math.Nat.{mul-le-mul_right, mul_comm}
 use Rattle.std.proofs.lemmas.Bool.{and_parts, false_from_ne_true}
 use Rattle.std.proofs.lemmas.Bool.Decides.{nat_tests}
@@ -59,6 +59,7 @@ row_step w left right top row q m n is column fits order =
   where
     shifted : (k : ℕ) → is_between (k + left) (k + right) (k + m) ≡ is_between left right m
     shifted k = grind (arith, nat_tests)
+
     outside : (q ≡ row → ⊥) → is_between (row * w + left) (row * w + right) n ≡ false
     outside other =
         dite (dec_lt q row)
@@ -111,6 +112,7 @@ in_part columns rows left right top bottom part wide high across down n =
   where
     within : is_between left right (n % columns) ≡ true → 0 < columns
     within is = let high_ : n % columns < right = grind (arith, nat_tests) in omega arith
+
     lower : is_between top bottom (n / columns) ≡ true → n / columns < rows
     lower is = grind (arith, nat_tests)
 

@@ -1,10 +1,9 @@
 -- What is left where a client was given a seat.
-use Rattle.std.proofs.Common.{Bool, List, None, Option, Some, [], ap, arith, false, find, get_or, get_or-set_other, get_or-set_same, inl, inr, length, map, refl, set, slice_get, slice_index, subst, sym, true, ℕ, ◌<◌, ◌==◌, ◌∙◌, ◌≡◌, ◌≢◌, ◌≤◌, nat_lt, bytes_eq, not, ◌&&◌}
+use Rattle.std.proofs.Common.{List, None, Option, Some, ap, arith, false, get_or-set_other, get_or-set_same, inl, inr, length, refl, set, slice_get, slice_index, subst, sym, ℕ, ◌<◌, ◌∙◌, ◌≡◌, ◌≢◌, ◌≤◌, nat_lt}
 use Rattle.std.proofs.Math.ListN.{length-set}
 use Rattle.std.proofs.lemmas.Bool.{cases_eq, eq-eqb, false≢true}
 use Rattle.std.proofs.lemmas.Bool.Decides.{nat_tests}
 use Rattle.std.proofs.lemmas.List.{get_or_past, map-set, set-set}
-use Rattle.nit_config.specs.Configuration.{bar_rows}
 use Rattle.nit_config.specs.declared.config.Member.{Member}
 use Rattle.nit_events.specs.declared.event.Status.TheVariants as status
 use Rattle.nit_journal.specs.State.{buffer_size, owner_of, source_of}
@@ -14,7 +13,7 @@ use Rattle.nit_screen.specs.Terms.{is_session, option_map_or}
 use Rattle.nit_screen.proofs.ForCallers.{owns_none}
 use Rattle.nit_stack.specs.Sources.{black_or_word, shown_index, source_under}
 use Rattle.nit_stack.specs.declared.view.View.{View}
-use Rattle.nit_host.specs.Below.{AreLive, Configuration, DesktopModel, Entry, IsFreeLabel, Sight, State, donation_of, glass_in, member, opened, pixel, relabelled, session, source_at, table_size, told_words, word_from, zeros}
+use Rattle.nit_host.specs.Below.{AreLive, Configuration, DesktopModel, Entry, Sight, State, glass_in, member, opened, pixel, relabelled, session, table_size, told_words, word_from, zeros}
 use Rattle.nit_host.specs.Fresh.{AreHollow, AreSheets, IsFresh, IsHost, IsPlainOf, sheet_at, sheets_of, size_at}
 use Rattle.nit_host.specs.Host.{HostModel, sheet_in}
 use Rattle.nit_host.specs.Seats.{is_label_taken, is_taken, seated, unseated}

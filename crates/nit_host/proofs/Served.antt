@@ -1,5 +1,5 @@
 -- What it means that nothing is against a call, a refresh or a device event.
-use Rattle.std.proofs.Common.{Bool, List, None, Option, Some, arith, cond, false, length, nat_lt, not, refl, sym, true, ℕ, ◌-◌, ◌*◌, ◌<◌, ◌==◌, ◌^◌, ◌∙◌, ◌≡◌, ◌≤◌, ◌&&◌, if◌then◌else◌}
+use Rattle.std.proofs.Common.{Bool, List, None, Option, Some, arith, false, length, nat_lt, not, refl, true, ℕ, ◌-◌, ◌*◌, ◌<◌, ◌==◌, ◌^◌, ◌≡◌, ◌≤◌, ◌&&◌, if◌then◌else◌}
 use Rattle.std.proofs.lemmas.Bool.Decides.{nat_tests}
 use Rattle.nit_host.specs.Below.{Call, asks_view, session}
 use Rattle.nit_host.specs.Host.{HostModel, lacks_handles, unserved_call, unserved_refresh}

@@ -1,14 +1,14 @@
 -- Words that are kept as far as they were reached, and are 0 behind.
-use Rattle.std.proofs.Common.{All, Bool, List, Some, ap, arith, cond, [], false, get_or, length, refl, replicate, subst, sym, take, true, ℕ, ◌%◌, ◌++◌, ◌+◌, ◌-◌, ◌<◌, ◌==◌, ◌^◌, ◌∙◌, ◌≡◌, ◌≤◌, slice_index}
+use Rattle.std.proofs.Common.{All, Bool, List, ap, arith, cond, [], false, length, refl, subst, sym, take, true, ℕ, ◌%◌, ◌++◌, ◌+◌, ◌-◌, ◌<◌, ◌==◌, ◌^◌, ◌∙◌, ◌≡◌, ◌≤◌, slice_index}
 use Rattle.std.proofs.Math.ListN.{get_or-eq_default}
 use Rattle.std.proofs.lemmas.Bool.Decides.{nat_tests}
-use Rattle.std.proofs.lemmas.List.{ext_get_or, get_or-append_right, get_or_append_left, get_or_default, length-append, take_all, take_at}
+use Rattle.std.proofs.lemmas.List.{ext_get_or, get_or-append_right, get_or_append_left, get_or_default, length-append, take_at}
 use Rattle.std.proofs.lemmas.List.Folds.{list_any_at}
-use Rattle.nit_word.specs.Inks.{IsInked, is_inked}
+use Rattle.nit_word.specs.Inks.{IsInked}
 use Rattle.nit_word.specs.Sight.{IsLoaded}
 use Rattle.nit_word.specs.Zeros.{zeros}
-use Rattle.nit_word.proofs.ForCallers.{are_set, length-zeros, none_set, set_long, word_at, zero_at}
-use Rattle.nit_host.specs.Below.{IsWord, Sight, filled_up, is_between, plain_sight, set_where, told_words}
+use Rattle.nit_word.proofs.ForCallers.{are_set, length-zeros, set_long, word_at, zero_at}
+use Rattle.nit_host.specs.Below.{IsWord, Sight, filled_up, is_between, plain_sight, set_where}
 use Rattle.nit_host.specs.Sheet.{SheetModel, low_bytes}
 use mathlib.Core.Logic.{dite}
 use native.Mathlib.Decide.{dec_lt}
@@ -29,9 +29,6 @@ filled_long size words few = omega (arith, padded_long words (size - length word
 
 pub filled_at : (size : ℕ) (words : List ℕ) (i : ℕ) → slice_index (filled_up size words) i ≡ slice_index words i
 filled_at size words i = padded_at words (size - length words) i
-
-
-
 
 -- the words stay where more are reached
 pub same_filled : (size count : ℕ) (words more : List ℕ) → count ≤ size → length words ≤ size → more ≡ words ++ zeros (count - length words) → filled_up size more ≡ filled_up size words
@@ -74,6 +71,7 @@ word_loaded owner size words sight i w view all few place is =
   where
     inside : i < length (filled_up size words)
     inside = subst (λ (n : ℕ). i < n) (sym (ap (λ (s : Sight). s.size) view)) place
+
     inked : (b : Bool) → (w == 0) ≡ b → w ≡ slice_index (filled_up size words) i → IsInked (filled_up size words) w
     inked true zero_is told = rw zero_is refl
     inked false other told = rw other (list_any_at (λ y. y == w) (filled_up size words) i 0 inside (grind (arith, nat_tests, told)))

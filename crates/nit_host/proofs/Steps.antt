@@ -1,15 +1,15 @@
 -- What a call of a seat's client leaves, whose sheet was taken out of the desktop and is put back.
-use Rattle.std.proofs.Common.{Bool, List, None, Option, Some, [], ap, arith, cond, false, get_or, inl, inr, length, map, refl, set, slice_get, slice_set, subst, sym, true, ℕ, ◌-◌, ◌<◌, ◌∙◌, ◌≡◌, ◌≢◌, ◌≤◌}
+use Rattle.std.proofs.Common.{List, Option, Some, [], ap, false, inl, inr, length, refl, set, slice_get, subst, sym, ℕ, ◌-◌, ◌<◌, ◌∙◌, ◌≡◌, ◌≤◌}
 use Rattle.std.proofs.Math.ListN.{length-set}
 use Rattle.std.proofs.lemmas.Bool.{cases_eq}
 use Rattle.std.proofs.lemmas.List.{map-set, set-get_or, set-set}
 use Rattle.nit_events.specs.declared.entry.Entry.TheVariants as entry
 use Rattle.nit_repaint.specs.Glasses.{glass_in, glasses_of_call}
 use Rattle.nit_screen.specs.DirtyPixels.{dirty}
-use Rattle.nit_host.specs.Below.{Agrees, Call, Configuration, DesktopModel, Entry, Painted, Reply, Sight, State, after, pixel, pixel_count, plain_sight, serve, session, source_at, told_words, word_from}
+use Rattle.nit_host.specs.Below.{Agrees, Call, Configuration, DesktopModel, Entry, Painted, Reply, Sight, State, after, pixel, serve, session, source_at, told_words, word_from}
 use Rattle.nit_journal.specs.State.{source_of}
 use Rattle.nit_rect.specs.declared.point.Point.{Point}
-use Rattle.nit_host.specs.Fresh.{AreHollow, AreQuiet, AreSheets, IsFresh, IsHost, IsPlainOf, sheet_at, sheets_of, size_at}
+use Rattle.nit_host.specs.Fresh.{AreHollow, AreSheets, IsFresh, IsHost, IsPlainOf, sheet_at, sheets_of, size_at}
 use Rattle.nit_host.specs.Host.{HostModel, called, sheet_in}
 use Rattle.nit_host.specs.Sheet.{SheetModel}
 use Rattle.nit_host.proofs.Freshness.{fresh_after}
@@ -107,7 +107,7 @@ module _ (d d1 d2 : DesktopModel SheetModel) (hollows : List SheetModel) (seat :
       → IsHost d2 (set hollows seat last)
   goes_on stays =
       let fresh = fresh_after d.state.config d.state (after d.state (entry.Call seat call r)) (entry.Call seat call r) (set d.glasses seat own') (sheet_in (sheets_of d.glasses)) d.raw d2.raw all painted host.fresh refl
-          (λ k clean. keep d.state 0 (entry.Call seat call r) (pixel d.state.config.width k) agrees clean) stays in
+      (λ k clean. keep d.state 0 (entry.Call seat call r) (pixel d.state.config.width k) agrees clean) stays in
       record {
         sheets = subst (λ (config : Configuration). AreSheets config d2.glasses) (sym config_stays) (subst (AreSheets d.state.config) (sym glasses_now) all);
         hollow = subst (λ (config : Configuration). AreHollow config (set hollows seat last)) (sym config_stays) (subst (AreHollow d.state.config) (sym hollows_stay) host.hollow);
@@ -152,7 +152,7 @@ module _ (d d1 d2 : DesktopModel SheetModel) (hollows : List SheetModel) (seat :
   only_called h view =
       let client : seat < length d.state.config.clients = subst (λ (n : ℕ). seat < n) long inside in
       let done = called_now d d1 d2 hollows seat call r hollow own own last kept host inside swapped there out served (own_plain d.state.config d.glasses seat own host.sheets client out)
-          (own_room d.state.config d.glasses seat own host.sheets client out) keep
-          (λ k clean. ap (λ (gs : List SheetModel). word_from (sheet_in (sheets_of gs)) (source_at (after d.state (entry.Call seat call r)) k)) (sym (put_same d.glasses seat own (taken_out d.glasses seat own out)))) in
+      (own_room d.state.config d.glasses seat own host.sheets client out) keep
+      (λ k clean. ap (λ (gs : List SheetModel). word_from (sheet_in (sheets_of gs)) (source_at (after d.state (entry.Call seat call r)) k)) (sym (put_same d.glasses seat own (taken_out d.glasses seat own out)))) in
       subst (λ (x : HostModel). WasCalled seat call r x d2 (set hollows seat last))
       ((λ i. record { state = d.state; sheets = same_words (sheets_of d.glasses) seat (told_words own.sight.words) (own_words d.glasses seat own out) i; left = d.left; last = kept }) ∙ view) done

@@ -1,5 +1,5 @@
 -- A host as a value, and what each of its calls makes of it.
-use Rattle.std.specs.Prelude.{◌≡◌, ℕ, ◌-◌, ◌*◌, ◌^◌, ℤ, Bool, true, ◌&&◌, ◌==◌, nat_le, nat_lt, negsuc, int_le, not, List, [], ◌∷◌, length, map, slice_index_or, slice_set, Option, Some, None, if◌then◌else◌}
+use Rattle.std.specs.Prelude.{ℕ, ◌-◌, ◌*◌, ◌^◌, ℤ, Bool, true, ◌&&◌, ◌==◌, nat_le, nat_lt, negsuc, int_le, not, List, [], ◌∷◌, length, map, slice_index_or, slice_set, Option, Some, None, if◌then◌else◌}
 use Rattle.nit_host.specs.Below.{Call, Configuration, Device, Entry, Rectangle, Reply, Routed, Session, State, after, asks_view, covers, is_accepted, journal_text, most_code, pixel, rectangle, route, routed_as, serve, session, set_where, source_at, table_size, word_from, words_of, zeros}
 use Rattle.nit_events.specs.declared.call.Call.TheVariants as call
 use Rattle.nit_events.specs.declared.device.Device.TheVariants as device

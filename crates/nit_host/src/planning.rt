@@ -72,9 +72,7 @@ fn refusal(width: u32, height: u32, bar: bool, seats: &[SeatPlan]) -> Option<Pla
 fn is_screen(width: u32, height: u32, bar: bool) -> bool
     ensures { result ≡ is_screen width height bar }
 {
-    is_within(1, MOST_WIDTH, width)
-        && is_within(1, MOST_HEIGHT, height)
-        && (!bar || height >= 8)
+    is_within(1, MOST_WIDTH, width) && is_within(1, MOST_HEIGHT, height) && (!bar || height >= 8)
 }
 
 /// Whether there may be so many seats.

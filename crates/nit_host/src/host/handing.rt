@@ -26,13 +26,7 @@ pub(crate) fn hand_in(sheet: &mut Sheet, buffer: (u32, u32), part: &Option<Rect>
 }
 
 /// Takes over some columns of some rows of a buffer that has so many columns.
-fn hand_in_rows(
-    sheet: &mut Sheet,
-    width: u32,
-    columns: (u32, u32),
-    rows: (u32, u32),
-    words: &[u32],
-)
+fn hand_in_rows(sheet: &mut Sheet, width: u32, columns: (u32, u32), rows: (u32, u32), words: &[u32])
     requires columns { (columns.0 ≤ columns.1) × (columns.1 ≤ width) }
     requires rows { rows.0 ≤ rows.1 }
     requires words { width * rows.1 ≤ length words.now }
@@ -47,7 +41,11 @@ fn hand_in_rows(
 {
     'rows: for row in rows.0..rows.1 {
         let start = row as usize * width as usize;
-        sheet.hand_in(start + columns.0 as usize, start + columns.1 as usize, words);
+        sheet.hand_in(
+            start + columns.0 as usize,
+            start + columns.1 as usize,
+            words,
+        );
     }
 }
 

@@ -126,7 +126,11 @@ impl Host {
         requires { seat < length self.now.state.sessions }
         ensures { result ≡ (if is_taken self.now.state seat then None else Some seat) }
     {
-        if self.is_taken(seat) { None } else { Some(seat) }
+        if self.is_taken(seat) {
+            None
+        } else {
+            Some(seat)
+        }
     }
 
     /// The first seat that has this label.

@@ -1,4 +1,4 @@
-use Rattle.std.proofs.Common.{ap, refl, sym, ◌∙◌}
+use Rattle.std.proofs.Common.{refl, ◌∙◌}
 use Rattle.nit_host.specs.Terms.{waiting_member}
 use Rattle.nit_host.proofs.Plans.{one_more}
 use Rattle.nit_host.proofs.planning.members.Goals as goal

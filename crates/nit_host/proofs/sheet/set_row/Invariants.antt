@@ -1,4 +1,4 @@
-use Rattle.std.proofs.Common.{◌≡◌, ◌≤◌, length}
+use Rattle.std.proofs.Common.{◌≡◌}
 use Rattle.nit_host.specs.Terms.{is_between, low_bytes, set_where}
 use Rattle.nit_host.proofs.sheet.set_row.Given as goal
 

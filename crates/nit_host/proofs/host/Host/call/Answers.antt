@@ -1,5 +1,4 @@
-use Rattle.std.proofs.Common.{Ok, ap, arith, length, subst, sym, ◌<◌, ◌∙◌}
-use Rattle.nit_host.specs.Below.{Configuration}
+use Rattle.std.proofs.Common.{Ok, ap, arith, length, subst, sym, ◌<◌}
 use Rattle.nit_host.specs.Fresh.{IsPlainOf}
 use Rattle.nit_host.specs.Host.{HostModel}
 use Rattle.nit_host.specs.Sheet.{SheetModel}
@@ -46,7 +45,7 @@ returns-clause-served c = λ _.
     let session : c.args.seat < length d.state.sessions =
     subst (λ (h : HostModel). c.args.seat < length h.state.sessions) (sym c.self.view_is) (may_call c.args.self.now c.args.seat c.args.call.now (sym c.in_default.ensures)).inside in
     let done = only_called d c.exchange.new.self c.serve-reply.new.desktop c.self.inside.hollows.items c.args.seat c.args.call.now c.serve-reply.result c.index_mut-own.result.now c.exchange.new.glass c.serve-reply.new.own
-        c.self.inside.last c.self.invariant session c.facts.ensures.sessions c.exchange.ensures.desktop
-        (there_at c.self.inside.hollows.items c.args.seat c.index_mut-own.result.now c.index_mut-own.ensures.value (omega (arith, session, c.facts.ensures.sessions, hollows.count)))
-        c.exchange.ensures.out (record { reply = s.reply; state = s.state; left = s.left; glasses = s.glasses; out = s.own; painted = s.painted }) c.clean_pixels_keep_their_source.ensures c.args.self.now c.self.view_is in
+    c.self.inside.last c.self.invariant session c.facts.ensures.sessions c.exchange.ensures.desktop
+    (there_at c.self.inside.hollows.items c.args.seat c.index_mut-own.result.now c.index_mut-own.ensures.value (omega (arith, session, c.facts.ensures.sessions, hollows.count)))
+    c.exchange.ensures.out (record { reply = s.reply; state = s.state; left = s.left; glasses = s.glasses; out = s.own; painted = s.painted }) c.clean_pixels_keep_their_source.ensures c.args.self.now c.self.view_is in
     (ap Ok done.reply, done.now)

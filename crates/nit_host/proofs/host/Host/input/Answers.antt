@@ -12,5 +12,5 @@ pub returns-clause-served : goal.returns-clause-served
 returns-clause-served c = λ _.
     let e = c.input-routed.ensures in
     let done = was_told c.self.inside.desktop c.input-routed.new.self c.self.inside.hollows.items c.args.device c.input-routed.result c.self.inside.last c.self.invariant
-        e.routed e.state e.left e.painted e.rests c.clean_pixels_keep_their_source.ensures c.args.self.now c.self.view_is in
+    e.routed e.state e.left e.painted e.rests c.clean_pixels_keep_their_source.ensures c.args.self.now c.self.view_is in
     (ap Ok done.routed_now, done.now)

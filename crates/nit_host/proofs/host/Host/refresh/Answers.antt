@@ -1,4 +1,4 @@
-use Rattle.std.proofs.Common.{None, Ok, Some, ap, arith, length, subst, sym, ℕ, ◌*◌, ◌<◌, ◌∙◌, ◌≡◌, ◌≤◌}
+use Rattle.std.proofs.Common.{None, Ok, Some, ap, arith, length, subst, sym, ℕ, ◌<◌, ◌∙◌, ◌≡◌}
 use Rattle.nit_host.specs.Below.{Call, DesktopModel, Reply, plain_sight, rectangle, refusal, session, told_words}
 use Rattle.nit_events.specs.declared.call.Call.TheVariants as call
 use Rattle.nit_events.specs.declared.entry.Entry.TheVariants as entry
@@ -87,14 +87,14 @@ invariant_of-self c =
     let hollows = c.self.invariant.hollow in
     let s = c.serve-reply.ensures in
     let done = was_refreshed d c.exchange.new.self c.serve-reply.new.desktop c.self.inside.hollows.items c.args.seat c.args.place.0 c.args.place.1 c.args.size.0 c.args.size.1 c.args.words.now c.part-part.result c.serve-reply.result
-        c.index_mut-own.result.now c.exchange.new.glass c.hand_in.new.sheet c.serve-reply.new.own c.self.inside.last c.self.invariant known c.facts.ensures.sessions c.exchange.ensures.desktop
-        (there_at c.self.inside.hollows.items c.args.seat c.index_mut-own.result.now c.index_mut-own.ensures.value (omega (arith, inside, hollows.count)))
-        c.exchange.ensures.out handed c.hand_in.ensures.room
-        (subst (λ (h : HostModel). refusal (session h.state c.args.seat) (call.Refresh c.args.place.0 c.args.place.1 c.args.size.0 c.args.size.1) ≡ None → c.part-part.result ≡ Some (rectangle c.args.place.0 c.args.place.1 c.args.size.0 c.args.size.1))
-        (sym c.self.view_is) c.part-part.ensures.accepted)
-        (subst (λ (h : HostModel). (why : Reply) → refusal (session h.state c.args.seat) (call.Refresh c.args.place.0 c.args.place.1 c.args.size.0 c.args.size.1) ≡ Some why → c.part-part.result ≡ None)
-        (sym c.self.view_is) c.part-part.ensures.refused)
-        (subst (λ (k : Call). Serves c.args.seat k c.hand_in.new.sheet c.serve-reply.new.own c.exchange.new.self c.serve-reply.new.desktop c.serve-reply.result) c.refresh_of-call.ensures (record { reply = s.reply; state = s.state; left = s.left; glasses = s.glasses; out = s.own; painted = s.painted })) c.clean_pixels_keep_their_source.ensures c.args.self.now c.self.view_is in
+    c.index_mut-own.result.now c.exchange.new.glass c.hand_in.new.sheet c.serve-reply.new.own c.self.inside.last c.self.invariant known c.facts.ensures.sessions c.exchange.ensures.desktop
+    (there_at c.self.inside.hollows.items c.args.seat c.index_mut-own.result.now c.index_mut-own.ensures.value (omega (arith, inside, hollows.count)))
+    c.exchange.ensures.out handed c.hand_in.ensures.room
+    (subst (λ (h : HostModel). refusal (session h.state c.args.seat) (call.Refresh c.args.place.0 c.args.place.1 c.args.size.0 c.args.size.1) ≡ None → c.part-part.result ≡ Some (rectangle c.args.place.0 c.args.place.1 c.args.size.0 c.args.size.1))
+    (sym c.self.view_is) c.part-part.ensures.accepted)
+    (subst (λ (h : HostModel). (why : Reply) → refusal (session h.state c.args.seat) (call.Refresh c.args.place.0 c.args.place.1 c.args.size.0 c.args.size.1) ≡ Some why → c.part-part.result ≡ None)
+    (sym c.self.view_is) c.part-part.ensures.refused)
+    (subst (λ (k : Call). Serves c.args.seat k c.hand_in.new.sheet c.serve-reply.new.own c.exchange.new.self c.serve-reply.new.desktop c.serve-reply.result) c.refresh_of-call.ensures (record { reply = s.reply; state = s.state; left = s.left; glasses = s.glasses; out = s.own; painted = s.painted })) c.clean_pixels_keep_their_source.ensures c.args.self.now c.self.view_is in
     done.is_host
 
 pub returns-clause-served : goal.returns-clause-served
@@ -109,13 +109,14 @@ returns-clause-served c = λ _.
     let hollows = c.self.invariant.hollow in
     let s = c.serve-reply.ensures in
     let done = was_refreshed d c.exchange.new.self c.serve-reply.new.desktop c.self.inside.hollows.items c.args.seat c.args.place.0 c.args.place.1 c.args.size.0 c.args.size.1 c.args.words.now c.part-part.result c.serve-reply.result
-        c.index_mut-own.result.now c.exchange.new.glass c.hand_in.new.sheet c.serve-reply.new.own c.self.inside.last c.self.invariant known c.facts.ensures.sessions c.exchange.ensures.desktop
-        (there_at c.self.inside.hollows.items c.args.seat c.index_mut-own.result.now c.index_mut-own.ensures.value (omega (arith, inside, hollows.count)))
-        c.exchange.ensures.out handed c.hand_in.ensures.room
-        (subst (λ (h : HostModel). refusal (session h.state c.args.seat) (call.Refresh c.args.place.0 c.args.place.1 c.args.size.0 c.args.size.1) ≡ None → c.part-part.result ≡ Some (rectangle c.args.place.0 c.args.place.1 c.args.size.0 c.args.size.1))
-        (sym c.self.view_is) c.part-part.ensures.accepted)
-        (subst (λ (h : HostModel). (why : Reply) → refusal (session h.state c.args.seat) (call.Refresh c.args.place.0 c.args.place.1 c.args.size.0 c.args.size.1) ≡ Some why → c.part-part.result ≡ None)
-        (sym c.self.view_is) c.part-part.ensures.refused)
-        (subst (λ (k : Call). Serves c.args.seat k c.hand_in.new.sheet c.serve-reply.new.own c.exchange.new.self c.serve-reply.new.desktop c.serve-reply.result) c.refresh_of-call.ensures (record { reply = s.reply; state = s.state; left = s.left; glasses = s.glasses; out = s.own; painted = s.painted })) c.clean_pixels_keep_their_source.ensures c.args.self.now c.self.view_is in
-    (ap Ok done.replied,
-    (λ i. record { state = c.serve-reply.new.desktop.state; sheets = sheets_of c.serve-reply.new.desktop.glasses; left = c.serve-reply.new.desktop.left; last = Some (entry.Call c.args.seat (c.refresh_of-call.ensures i) c.serve-reply.result) }) ∙ done.now)
+    c.index_mut-own.result.now c.exchange.new.glass c.hand_in.new.sheet c.serve-reply.new.own c.self.inside.last c.self.invariant known c.facts.ensures.sessions c.exchange.ensures.desktop
+    (there_at c.self.inside.hollows.items c.args.seat c.index_mut-own.result.now c.index_mut-own.ensures.value (omega (arith, inside, hollows.count)))
+    c.exchange.ensures.out handed c.hand_in.ensures.room
+    (subst (λ (h : HostModel). refusal (session h.state c.args.seat) (call.Refresh c.args.place.0 c.args.place.1 c.args.size.0 c.args.size.1) ≡ None → c.part-part.result ≡ Some (rectangle c.args.place.0 c.args.place.1 c.args.size.0 c.args.size.1))
+    (sym c.self.view_is) c.part-part.ensures.accepted)
+    (subst (λ (h : HostModel). (why : Reply) → refusal (session h.state c.args.seat) (call.Refresh c.args.place.0 c.args.place.1 c.args.size.0 c.args.size.1) ≡ Some why → c.part-part.result ≡ None)
+    (sym c.self.view_is) c.part-part.ensures.refused)
+    (subst (λ (k : Call). Serves c.args.seat k c.hand_in.new.sheet c.serve-reply.new.own c.exchange.new.self c.serve-reply.new.desktop c.serve-reply.result) c.refresh_of-call.ensures (record { reply = s.reply; state = s.state; left = s.left; glasses = s.glasses; out = s.own; painted = s.painted })) c.clean_pixels_keep_their_source.ensures c.args.self.now c.self.view_is in (
+      ap Ok done.replied,
+      (λ i. record { state = c.serve-reply.new.desktop.state; sheets = sheets_of c.serve-reply.new.desktop.glasses; left = c.serve-reply.new.desktop.left; last = Some (entry.Call c.args.seat (c.refresh_of-call.ensures i) c.serve-reply.result) }) ∙ done.now,
+    )

@@ -45,10 +45,10 @@ invariant_of-self c =
     let over : (session d.state c.args.seat).status ≢ status.Live = subst (λ (h : HostModel). (session h.state c.args.seat).status ≢ status.Live) (sym c.self.view_is) may.over in
     let o = c.reopen.ensures in
     let done = was_seated d c.exchange.new.self c.reopen.new.self c.self.inside.hollows.items c.args.seat c.args.label c.index_mut-own.result.now c.exchange.new.glass c.wipe.new.self c.reopen.new.glass c.self.inside.last
-        c.self.invariant inside c.facts.ensures.live over c.exchange.ensures.desktop
-        (there_at c.self.inside.hollows.items c.args.seat c.index_mut-own.result.now c.index_mut-own.ensures.value (omega (arith, inside, hollows.count)))
-        c.exchange.ensures.out c.wipe.ensures.sight c.wipe.ensures.room
-        (record { state = o.state; left = o.left; raw = o.raw; sights_now = o.sights; rooms_now = o.rests; out = o.out }) c.openings_keep_all.ensures.sources c.args.self.now c.self.view_is in
+    c.self.invariant inside c.facts.ensures.live over c.exchange.ensures.desktop
+    (there_at c.self.inside.hollows.items c.args.seat c.index_mut-own.result.now c.index_mut-own.ensures.value (omega (arith, inside, hollows.count)))
+    c.exchange.ensures.out c.wipe.ensures.sight c.wipe.ensures.room
+    (record { state = o.state; left = o.left; raw = o.raw; sights_now = o.sights; rooms_now = o.rests; out = o.out }) c.openings_keep_all.ensures.sources c.args.self.now c.self.view_is in
     done.host
 
 pub returns-clause-seated : goal.returns-clause-seated
@@ -61,8 +61,8 @@ returns-clause-seated c = λ _.
     let over : (session d.state c.args.seat).status ≢ status.Live = subst (λ (h : HostModel). (session h.state c.args.seat).status ≢ status.Live) (sym c.self.view_is) may.over in
     let o = c.reopen.ensures in
     let done = was_seated d c.exchange.new.self c.reopen.new.self c.self.inside.hollows.items c.args.seat c.args.label c.index_mut-own.result.now c.exchange.new.glass c.wipe.new.self c.reopen.new.glass c.self.inside.last
-        c.self.invariant inside c.facts.ensures.live over c.exchange.ensures.desktop
-        (there_at c.self.inside.hollows.items c.args.seat c.index_mut-own.result.now c.index_mut-own.ensures.value (omega (arith, inside, hollows.count)))
-        c.exchange.ensures.out c.wipe.ensures.sight c.wipe.ensures.room
-        (record { state = o.state; left = o.left; raw = o.raw; sights_now = o.sights; rooms_now = o.rests; out = o.out }) c.openings_keep_all.ensures.sources c.args.self.now c.self.view_is in
+    c.self.invariant inside c.facts.ensures.live over c.exchange.ensures.desktop
+    (there_at c.self.inside.hollows.items c.args.seat c.index_mut-own.result.now c.index_mut-own.ensures.value (omega (arith, inside, hollows.count)))
+    c.exchange.ensures.out c.wipe.ensures.sight c.wipe.ensures.room
+    (record { state = o.state; left = o.left; raw = o.raw; sights_now = o.sights; rooms_now = o.rests; out = o.out }) c.openings_keep_all.ensures.sources c.args.self.now c.self.view_is in
     (refl, done.now)

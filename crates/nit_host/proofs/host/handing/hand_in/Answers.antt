@@ -1,4 +1,4 @@
-use Rattle.std.proofs.Common.{arith, ◌∙◌}
+use Rattle.std.proofs.Common.{arith}
 use Rattle.std.proofs.lemmas.Int.{ints}
 use Rattle.nit_host.specs.Terms.{told_words}
 use Rattle.nit_host.proofs.Rows.{handed_part}

@@ -1,4 +1,4 @@
-use Rattle.std.proofs.Common.{ap, arith, length, subst, sym, ◌+◌, ◌<◌, ◌∙◌, ◌≡◌}
+use Rattle.std.proofs.Common.{ap, arith, length, subst, sym, ◌+◌, ◌∙◌}
 use Rattle.nit_host.specs.Below.{Configuration}
 use Rattle.nit_host.proofs.Beginnings.{AreBlankTo, all_blank, one_blank, sized_at}
 use Rattle.nit_host.proofs.host.opening.hollows.Goals as goal
