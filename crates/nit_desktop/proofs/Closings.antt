@@ -144,13 +144,21 @@ all_closed config n s h far = λ i. record {
         at t there = get_or_default wanted t (first_session 0) (closed_first 0) (subst (λ (m : ℕ). t < m) (sym (length-map config.clients (λ (m : Member). closed_first m.donation))) there)
             ∙ get_or-map (λ (m : Member). closed_first m.donation) config.clients t no_client
 
--- none of them lost an event
-pub none_lost : (config : Configuration) (t : ℕ) → (session (vacant_state config) t).lost ≡ 0
-none_lost config t =
-    sym (get_or-map (λ (u : Session). u.lost) (map (λ m. closed_first m.donation) config.clients) t (first_session 0))
-    ∙ ap (λ (ns : List ℕ). get_or ns t 0) (each config.clients)
-    ∙ get_or-map (λ (m : Member). 0) config.clients t no_client
-  where
-    each : (clients : List Member) → map (λ (u : Session). u.lost) (map (λ m. closed_first m.donation) clients) ≡ map (λ (m : Member). 0) clients
-    each [] = refl
-    each (m ∷ rest) = ap (λ (ns : List ℕ). 0 ∷ ns) (each rest)
+-- none of them lost an event or made a view
+module _ (config : Configuration) (t : ℕ) where
+  each : (f : Session → ℕ) (n : ℕ) → ((d : ℕ) → f (closed_first d) ≡ n) → f (first_session 0) ≡ n → f (session (vacant_state config) t) ≡ n
+  each f n same none =
+      sym (get_or-map f (map (λ m. closed_first m.donation) config.clients) t (first_session 0))
+      ∙ ap (λ (ns : List ℕ). get_or ns t (f (first_session 0))) (all config.clients)
+      ∙ ap (get_or (map (λ (m : Member). n) config.clients) t) none
+      ∙ get_or-map (λ (m : Member). n) config.clients t no_client
+    where
+      all : (clients : List Member) → map f (map (λ m. closed_first m.donation) clients) ≡ map (λ (m : Member). n) clients
+      all [] = refl
+      all (m ∷ rest) = (λ i. same m.donation i ∷ all rest i)
+
+  pub none_lost : (session (vacant_state config) t).lost ≡ 0
+  none_lost = each (λ (u : Session). u.lost) 0 (λ d. refl) refl
+
+  pub none_made : (session (vacant_state config) t).next ≡ 1
+  none_made = each (λ (u : Session). u.next) 1 (λ d. refl) refl

@@ -1,5 +1,5 @@
 -- A screen that keeps no journal, after one step more.
-use Rattle.std.proofs.Common.{List, arith, subst, sym, ℕ, ◌+◌, ◌-◌, ◌≡◌, ◌≤◌}
+use Rattle.std.proofs.Common.{List, arith, subst, sym, ℕ, ◌+◌, ◌-◌, ◌^◌, ◌<◌, ◌≡◌, ◌≤◌}
 use Rattle.nit_desktop.proofs.Basics.{Agrees, AreBelowNext, AreInked, AreLive, AreRaw, Entry, HaveOwnNames, IsDesktop, Painted, Sight, State, after, entry_loses, session}
 use Rattle.nit_screen.specs.ViewNames.{IsNewlyNamed}
 
@@ -31,8 +31,9 @@ module _ (s s' : State) (e : Entry) (left : ℕ) (raw raw' : List ℕ) (h : IsDe
       subst (λ (t : State). AreInked t glasses' raw') (sym is)
       (law s 0 e glasses glasses' raw raw' agrees (subst (λ (t : State). Painted s e t glasses glasses' raw raw') is painted) inks)
 
-  pub goes_on : StaysLive → StaysRaw → StaysNamed → 1 ≤ left → IsDesktop s' raw' (left - 1)
-  goes_on stays raws names one = record {
+  pub goes_on : StaysLive → StaysRaw → StaysNamed → ((t : ℕ) → (session s' t).next < 2 ^ 32 - 1) → 1 ≤ left → IsDesktop s' raw' (left - 1)
+  goes_on stays raws names handled one = record {
+    handles = handled;
     live = subst AreLive (sym is) (stays s 0 e h.live agrees);
     raw_words = raw_again raws;
     named = subst (λ (t : State). HaveOwnNames t.stack × AreBelowNext t) (sym is)

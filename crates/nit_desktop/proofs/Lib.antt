@@ -1,4 +1,5 @@
 pub mod Closings
 pub mod DesktopLemmas
+pub mod HandleBounds
 pub mod Openings
 pub mod Basics

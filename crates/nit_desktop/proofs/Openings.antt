@@ -1,5 +1,5 @@
 -- A desktop before its first step, and where a session opens again.
-use Rattle.std.proofs.Common.{Bool, List, [], ap, arith, false, get_or, get_or-set_other, get_or-set_same, length, refl, replicate, subst, sym, true, ℕ, ◌+◌, ◌*◌, ◌^◌, ◌<◌, ◌==◌, ◌∙◌, ◌≡◌}
+use Rattle.std.proofs.Common.{Bool, List, [], ap, arith, false, get_or, get_or-set_other, get_or-set_same, length, refl, replicate, subst, sym, true, ℕ, ◌+◌, ◌-◌, ◌*◌, ◌^◌, ◌<◌, ◌==◌, ◌∙◌, ◌≡◌}
 use Rattle.std.proofs.Math.ListN.{get_or-map}
 use Rattle.std.proofs.lemmas.List.{get_or-replicate}
 use Rattle.std.proofs.lemmas.List.Elements.{All-nil}
@@ -22,6 +22,10 @@ begins s config raw first is words = record {
       let none : (session_in (first_state config).sessions t).lost ≡ 0 = ap (λ (u : Session). u.lost) (get_or-map (λ (m : Member). first_session m.donation) config.clients t no_client) in
       let now : (session s t).lost ≡ 0 = ap (λ (u : State). (session u t).lost) is ∙ none in
       omega (arith, now);
+  handles = λ t.
+      let first : (session_in (first_state config).sessions t).next ≡ 1 = ap (λ (u : Session). u.next) (get_or-map (λ (m : Member). first_session m.donation) config.clients t no_client) in
+      let now : (session s t).next ≡ 1 = ap (λ (u : State). (session u t).next) is ∙ first in
+      omega (arith, now);
 }
 
 -- what holds of the state holds again where a session opens
@@ -31,6 +35,7 @@ opens_on s sid label raw left lt live words below d = record {
   live = live;
   raw_words = words;
   named = (d.named.0, below);
+  handles = λ t. counts t (t == sid) refl;
   lost = λ t. go t (t == sid) refl;
 }
   where
@@ -42,3 +47,8 @@ opens_on s sid label raw left lt live words below d = record {
         subst (λ (u : Session). u.lost + 3 * left < 2 ^ 64) (sym (ap (session (opened sid label s)) (eqb-true t sid e) ∙ get_or-set_same s.sessions sid begun (first_session 0) lt))
         (let was = d.lost t in omega (arith, was))
     go t false e = subst (λ (u : Session). u.lost + 3 * left < 2 ^ 64) (sym (get_or-set_other s.sessions sid t begun (first_session 0) (eqb-false t sid e))) (d.lost t)
+
+    counts : (t : ℕ) (b : Bool) → (t == sid) ≡ b → (session (opened sid label s) t).next < 2 ^ 32 - 1
+    counts t true e =
+        subst (λ (u : Session). u.next < 2 ^ 32 - 1) (sym (ap (session (opened sid label s)) (eqb-true t sid e) ∙ get_or-set_same s.sessions sid begun (first_session 0) lt)) (omega arith)
+    counts t false e = subst (λ (u : Session). u.next < 2 ^ 32 - 1) (sym (get_or-set_other s.sessions sid t begun (first_session 0) (eqb-false t sid e))) (d.handles t)

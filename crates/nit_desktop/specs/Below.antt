@@ -4,6 +4,8 @@ pub use Rattle.nit_config.specs.ConfigurationRanges.{IsConfiguration}
 pub use Rattle.nit_config.specs.declared.config.Member.{Member}
 pub use Rattle.nit_events.specs.Input.{deliveries_of, first_input, routed_as}
 pub use Rattle.nit_events.specs.Ranges.{IsDevice}
+pub use Rattle.nit_events.specs.declared.call.Call.{Call}
+pub use Rattle.nit_events.specs.declared.call.Call.TheVariants.{View}
 pub use Rattle.nit_events.specs.declared.entry.Entry.{Entry}
 pub use Rattle.nit_events.specs.declared.event.Delivery.{Delivery}
 pub use Rattle.nit_journal.specs.Deliveries.{IsLive, kills}

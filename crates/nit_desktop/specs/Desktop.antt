@@ -1,6 +1,6 @@
 -- What contracts see of a screen that keeps no journal, and what holds of it.
-use Rattle.std.specs.Prelude.{ℕ, ◌+◌, ◌*◌, ◌^◌, ◌<◌, List}
-use Rattle.nit_desktop.specs.Below.{AreBelowNext, AreLive, AreRaw, HaveOwnNames, State, session}
+use Rattle.std.specs.Prelude.{ℕ, ◌+◌, ◌-◌, ◌*◌, ◌^◌, ◌<◌, Bool, true, false, List}
+use Rattle.nit_desktop.specs.Below.{AreBelowNext, AreLive, AreRaw, Call, HaveOwnNames, State, View, session}
 
 -- the state, how many more entries it serves, the raw words of the screen's pixels, and the glasses
 -- through which the sessions' words are loaded
@@ -10,11 +10,17 @@ pub record DesktopModel (G : Type 0) : Type 0 where
   pub raw : List ℕ
   pub glasses : List G
 
+-- the call asks for a new view
+abbrev pub asks_view : Call → Bool
+asks_view View = true
+asks_view other = false
+
 -- Whoever the input knows and whoever has a view is live, the raw words are as the pixels' sources
 -- want them, no two views have the same session and handle, nor does one have a handle that is still
--- to come, and no count of lost events comes to its end before the entries do.
+-- to come, and neither handles nor a count of lost events come to their end before the entries do.
 pub record IsDesktop (s : State) (raw : List ℕ) (left : ℕ) : Type 0 where
   pub live : AreLive s
   pub raw_words : AreRaw s raw
   pub named : HaveOwnNames s.stack × AreBelowNext s
+  pub handles : (t : ℕ) → (session s t).next < 2 ^ 32 - 1
   pub lost : (t : ℕ) → (session s t).lost + 3 * left < 2 ^ 64

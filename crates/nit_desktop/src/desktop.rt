@@ -1,7 +1,7 @@
 //! All sessions on one screen, and no journal.
 
-ghost use Rattle.std.specs.Prelude.{◌≡◌, ◌-◌, ◌^◌, ◌<◌, ◌≤◌, ◌*◌, All, false, length, map, ℕ};
-ghost use Rattle.nit_desktop.specs.Terms.{AreInked, AreRaw, IsDevice, IsGlass, IsLive, IsWord, Painted, ShowsLabels, after, deliveries_of, frame, glass_in, glasses_of_call, is_accepted, kills, route, routed_as, scenery_of, serve, session};
+ghost use Rattle.std.specs.Prelude.{◌≡◌, ◌-◌, ◌^◌, ◌<◌, ◌≤◌, ◌*◌, All, false, length, map, true, ℕ};
+ghost use Rattle.nit_desktop.specs.Terms.{AreInked, AreRaw, IsDevice, IsGlass, IsLive, IsWord, Painted, ShowsLabels, after, asks_view, deliveries_of, frame, glass_in, glasses_of_call, is_accepted, kills, route, routed_as, scenery_of, serve, session};
 ghost use Rattle.nit_events.specs.declared.entry.Entry.TheVariants as entry;
 
 mod opening;
@@ -43,11 +43,12 @@ impl<G: Glass + Drop> Desktop<G> {
     /// Serves a call of the session `sid`. The session's own pixels are loaded through `own`, which
     /// is a glass of the session, and those of the others through the desktop's glasses: each pixel
     /// that the call makes dirty once, and no other. A refused call changes nothing but the count of
-    /// entries.
+    /// entries. A session makes at most 2^32 - 3 views since it opens.
     pub fn call<C: Glass>(&mut self, sid: u32, call: &Call, own: &mut C) -> Reply
         requires session { sid < length self.old.state.sessions }
         requires left { 1 ≤ self.old.left }
-        requires handles { (session self.old.state sid).next < 2 ^ 32 - 1 }
+        requires handles { asks_view call.now ≡ true
+            → (session self.old.state sid).next < 2 ^ 32 - 2 }
         requires own { IsGlass self.old.state.config sid (C.sight own.old) }
         ensures reply { result ≡ (serve (session self.old.state sid) call.now).reply }
         ensures state { self.new.state ≡ after self.old.state (entry.Call sid call.now result) }

@@ -1,11 +1,10 @@
 -- A host as a value, and what each of its calls makes of it.
-use Rattle.std.specs.Prelude.{◌≡◌, ℕ, ◌-◌, ◌*◌, ◌%◌, ◌^◌, Bool, ◌&&◌, ◌==◌, nat_le, nat_lt, not, List, [], length, map, slice_index, slice_index_or, slice_set, Option, Some, None, if◌then◌else◌}
-use Rattle.nit_host.specs.Below.{Call, Configuration, Device, Entry, Rectangle, Reply, Routed, Session, State, Status, after, covers, first_state, is_accepted, is_device, member, opened, pixel, rectangle, route, routed_as, serve, session, set_where, source_at, table_size, vacant_state, word_from, words_of, zeros}
+use Rattle.std.specs.Prelude.{ℕ, ◌-◌, ◌*◌, ◌^◌, ℤ, Bool, true, ◌&&◌, ◌==◌, nat_le, nat_lt, negsuc, int_le, not, List, [], ◌∷◌, length, map, slice_index_or, slice_set, Option, Some, None, if◌then◌else◌}
+use Rattle.nit_host.specs.Below.{Call, Configuration, Device, Entry, Rectangle, Reply, Routed, Session, State, after, asks_view, covers, is_accepted, journal_text, most_code, pixel, rectangle, route, routed_as, serve, session, set_where, source_at, table_size, word_from, words_of, zeros}
 use Rattle.nit_events.specs.declared.call.Call.TheVariants as call
+use Rattle.nit_events.specs.declared.device.Device.TheVariants as device
 use Rattle.nit_events.specs.declared.entry.Entry.TheVariants as entry
-use Rattle.nit_events.specs.declared.event.Status.TheVariants as status
-use Rattle.nit_host.specs.declared.refusal.Unseated.{Unseated}
-use Rattle.nit_host.specs.declared.refusal.Unseated.TheVariants as unseated
+use Rattle.nit_host.specs.Sheet.{low_bytes}
 use Rattle.nit_host.specs.declared.refusal.Unserved.{Unserved}
 use Rattle.nit_host.specs.declared.refusal.Unserved.TheVariants as unserved
 
@@ -32,27 +31,42 @@ picture h = words_of h.state (λ k. word_from (sheet_in h.sheets) (source_at h.s
 abbrev pub blank_sheets : Configuration → List (List ℕ)
 blank_sheets config = map (λ m. zeros (table_size m.donation)) config.clients
 
+-- a host in this state that has served nothing
 abbrev pub first_host : State → Configuration → HostModel
 first_host s config =
     record { state = s; sheets = blank_sheets config; left = 2 ^ 62; last = None }
 
--- ---- one step
+-- ---- one entry
 
 -- the host behind an entry
 abbrev pub behind : Entry → HostModel → HostModel
 behind e h = record h { state = after h.state e; left = h.left - 1; last = Some e }
 
+-- the text of the last step: its line in the journal, or nothing where it was no entry
+abbrev pub last_text : Option Entry → List ℕ
+last_text None = []
+last_text (Some e) = journal_text (e ∷ [])
+
+-- ---- calls of the clients
+
 -- the reply to a call of a seat's client
 abbrev pub reply_to : HostModel → ℕ → Call → Reply
 reply_to h seat call = (serve (session h.state seat) call).reply
 
+-- why nothing is served any more, if it is not
+abbrev pub worn_out : HostModel → Option Unserved
+worn_out h = if h.left == 0 then Some unserved.WornOut else None
+
+-- the call asks for a view, and the seat's client has had all that there are handles for
+abbrev pub lacks_handles : Session → Call → Bool
+lacks_handles s call = asks_view call && not (nat_lt s.next (2 ^ 32 - 2))
+
 -- why a call of a seat's client is not served, if it is not
-abbrev pub unserved_call : HostModel → ℕ → Option Unserved
-unserved_call h seat =
+abbrev pub unserved_call : HostModel → ℕ → Call → Option Unserved
+unserved_call h seat call =
     if not (nat_lt seat (length h.state.sessions)) then Some unserved.NoSeat
-    else if not (nat_lt (session h.state seat).next (2 ^ 32 - 1)) then Some unserved.HandlesUsedUp
-    else if h.left == 0 then Some unserved.WornOut
-    else None
+    else if lacks_handles (session h.state seat) call then Some unserved.HandlesUsedUp
+    else worn_out h
 
 -- the host behind a call of a seat's client
 abbrev pub called : ℕ → Call → HostModel → HostModel
@@ -60,21 +74,21 @@ called seat call h = behind (entry.Call seat call (reply_to h seat call)) h
 
 -- ---- words that are handed in
 
--- the place lies in the buffer and in the part of it
-abbrev pub is_handed : Session → Rectangle → ℕ → Bool
-is_handed s part n = nat_lt n (s.bw * s.bh) && covers part (pixel s.bw n)
+-- the place lies in a buffer of so many columns and rows, and in the part of it
+abbrev pub is_handed : ℕ → ℕ → Rectangle → ℕ → Bool
+is_handed columns rows part n = nat_lt n (columns * rows) && covers part (pixel columns n)
 
 -- the words of a seat after a part of its buffer was handed in: what lies in the part is the low
 -- three bytes of what stands there, and all else stays
 abbrev pub handed : Session → Rectangle → List ℕ → List ℕ → List ℕ
-handed s part words sheet =
-    set_where (is_handed s part) (λ n. slice_index words n % 2 ^ 24) sheet
+handed s part words sheet = set_where (is_handed s.bw s.bh part) (low_bytes words) sheet
 
 -- the host with that part of the seat's words
 abbrev pub with_handed : ℕ → Rectangle → List ℕ → HostModel → HostModel
 with_handed seat part words h =
     record h {
-      sheets = slice_set h.sheets seat
+      sheets =
+          slice_set h.sheets seat
           (handed (session h.state seat) part words (sheet_in h.sheets seat));
     }
 
@@ -84,4 +98,36 @@ unserved_refresh h seat words =
     let s = session h.state seat in
     if not (nat_lt seat (length h.state.sessions)) then Some unserved.NoSeat
     else if nat_lt (length words) (s.bw * s.bh) then Some unserved.ShortWords
-    else unserved_call h seat
+    else worn_out h
+
+-- the host behind a refresh of a part: where the call is accepted, the words of the part are handed
+-- in before it
+abbrev pub refreshed : ℕ → ℤ → ℤ → ℕ → ℕ → List ℕ → HostModel → HostModel
+refreshed seat x y w h words host =
+    let refresh = call.Refresh x y w h in
+    if is_accepted (reply_to host seat refresh)
+    then called seat refresh (with_handed seat (rectangle x y w h) words host)
+    else called seat refresh host
+
+-- ---- what the user does
+
+-- the code of a key or a button is at most 767, and a wheel turns by -127..=127
+abbrev pub is_device : Device → Bool
+is_device (device.Press k) = nat_le k most_code
+is_device (device.Release k) = nat_le k most_code
+is_device (device.Wheel n) = int_le (negsuc 126) n
+is_device (device.Motion x y) = true
+
+-- why a device event is not served, if it is not
+abbrev pub unserved_input : HostModel → Device → Option Unserved
+unserved_input h dev =
+    if not (is_device dev) then Some unserved.BadDevice
+    else worn_out h
+
+-- who is told what of a device event
+abbrev pub routed_of : HostModel → Device → Routed
+routed_of h dev = routed_as (route h.state.config h.state.input h.state.stack dev).deliveries
+
+-- the host behind a device event
+abbrev pub told : Device → HostModel → HostModel
+told dev h = behind (entry.Input dev (routed_of h dev)) h

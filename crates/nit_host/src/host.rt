@@ -1,9 +1,10 @@
 //! The server with the words of its clients.
 
-ghost use Rattle.std.specs.Prelude.{◌≡◌, ◌*◌, All, length};
-ghost use Rattle.nit_host.specs.Terms.{IsWord, ShowsLabels, frame, picture, scenery_of};
+ghost use Rattle.std.specs.Prelude.{◌≡◌, ◌*◌, ◌<◌, All, length, ℕ};
+ghost use Rattle.nit_host.specs.Terms.{IsConfiguration, IsWord, ShowsLabels, frame, picture, scenery_of, sheet_in, size_at};
 
 mod calls;
+mod handing;
 mod looking;
 mod opening;
 mod reading;
@@ -13,7 +14,6 @@ mod user;
 use crate::sheet::Sheet;
 use nit_desktop::Desktop;
 use nit_events::Entry;
-use std::alloc::Global;
 use std::marker::Model;
 
 /// A display server that a host program drives: its seats with the words that their clients handed
@@ -21,12 +21,15 @@ use std::marker::Model;
 #[derive(Drop)]
 pub struct Host {
     pub(crate) desktop: Desktop<Sheet>,
+    /// For each seat a sheet of no words but 0, which takes no memory. It takes the place of the
+    /// seat's sheet while that is another's, as the client's own during a call.
+    pub(crate) hollows: Vec<Sheet>,
     pub(crate) last: Option<Entry>,
-    pub(crate) alloc: Global,
 }
 
 impl Model for Host {
-    ghost use Rattle.nit_host.specs.Host.{HostModel, IsHost, sheets_of};
+    ghost use Rattle.nit_host.specs.Fresh.{IsHost, sheets_of};
+    ghost use Rattle.nit_host.specs.Host.{HostModel};
 
     ghost Value = { HostModel };
 
@@ -37,7 +40,7 @@ impl Model for Host {
       last = h.last;
     } };
 
-    ghost invariant = { λ h. IsHost h.desktop };
+    ghost invariant = { λ h. IsHost h.desktop h.hollows.items };
 }
 
 impl Host {
@@ -52,5 +55,17 @@ impl Host {
             ≡ self.now.state.config.width * self.now.state.config.height }
     {
         self.desktop.frame()
+    }
+
+    /// What holds of every host: its configuration is within its ranges, and each seat has a
+    /// session, and as many words as its table has places.
+    pub fn facts(&self)
+        ensures config { IsConfiguration self.now.state.config }
+        ensures sessions { length self.now.state.sessions ≡ length self.now.state.config.clients }
+        ensures sheets { length self.now.sheets ≡ length self.now.state.config.clients }
+        ensures words { (seat : ℕ) → seat < length self.now.state.config.clients
+            → length (sheet_in self.now.sheets seat) ≡ size_at self.now.state.config seat }
+    {
+        self.desktop.facts();
     }
 }

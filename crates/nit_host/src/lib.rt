@@ -14,10 +14,11 @@
 #![tactic(auto)]
 
 mod host;
-mod plan;
+pub mod laws;
+mod planning;
 mod refusal;
 mod sheet;
 
 pub use host::Host;
-pub use plan::{SeatPlan, plan};
+pub use planning::{SeatPlan, plan};
 pub use refusal::{PlanError, Unseated, Unserved};

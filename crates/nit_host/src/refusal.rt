@@ -9,7 +9,7 @@ pub enum Unserved {
     BadDevice,
     /// The words that were handed in are fewer than the buffer has.
     ShortWords,
-    /// The client has had 2^32 - 2 views, and its handles are used up.
+    /// The client asks for a view, and has had 2^32 - 3 of them: its handles are used up.
     HandlesUsedUp,
     /// The host has served 2^62 entries.
     WornOut,

@@ -1,7 +1,7 @@
 //! The words of one seat, as they were handed in.
 
-ghost use Rattle.std.specs.Prelude.{◌≡◌, ◌+◌, ◌*◌, ◌<◌, ◌≤◌, ◌%◌, ◌^◌, All, IfOk, length, slice_index, vec_capacity, ℕ};
-ghost use Rattle.nit_host.specs.Terms.{IsWord, SheetModel, blank_sheet, filled_up, is_between, plain_sight, set_where, told_words};
+ghost use Rattle.std.specs.Prelude.{◌≡◌, ◌+◌, ◌-◌, ◌*◌, ◌<◌, ◌≤◌, ◌%◌, ◌^◌, ◌++◌, All, IfOk, length, slice_index, vec_capacity, vec_len, ℕ};
+ghost use Rattle.nit_host.specs.Terms.{IsWord, SheetModel, blank_sheet, filled_up, handed_over, is_between, low_bytes, plain_sight, set_where, zeros};
 
 use nit_rect::NoMemory;
 use nit_word::Glass;
@@ -63,7 +63,7 @@ impl Sheet {
     /// Each word is 0 again.
     pub(crate) fn wipe(&mut self)
         ensures sight { self.new.sight ≡ blank_sheet self.old.sight.owner self.old.sight.size }
-        ensures room { self.new.room ≡ self.old.room }
+        ensures room { self.old.room ≤ self.new.room }
     {
         self.reached.clear();
     }
@@ -75,53 +75,53 @@ impl Sheet {
         requires words { to ≤ length words.now }
         requires places { to ≤ self.old.sight.size }
         requires room { self.old.sight.size ≤ self.old.room }
-        ensures sight { self.new.sight ≡ plain_sight self.old.sight.owner (set_where
-            (is_between from to) (λ n. slice_index words.now n % 2 ^ 24)
-            (told_words self.old.sight.words)) }
-        ensures room { self.old.sight.size ≤ self.new.room }
+        ensures sight { self.new.sight ≡ handed_over from to words.now self.old.sight }
+        ensures room { self.old.room ≤ self.new.room }
     {
-        self.reach(to);
-        set_row(&mut self.reached.as_mut_slice()[from..to], &words[from..to]);
-    }
-
-    /// At least so many words are kept. There is room for them.
-    fn reach(&mut self, count: usize)
-        requires places { count ≤ self.old.sight.size }
-        requires room { self.old.sight.size ≤ self.old.room }
-        ensures sight { self.new.sight ≡ self.old.sight }
-        ensures room { self.old.sight.size ≤ self.new.room }
-    {
-        if self.reached.len() < count {
-            let grown = self.reached.resize(count, 0);
-            let fits = grown.is_ok();
-            prove!(fits);
-        }
+        reach(&mut self.reached, to);
+        set_row(&mut self.reached, from, to, words);
     }
 }
 
-/// Sets the words of a row to the low three bytes of others, as many.
-fn set_row(row: &mut [u32], words: &[u32])
-    requires { length row.old ≡ length words.now }
-    ensures count { length row.new ≡ length row.old }
-    ensures words { (j : ℕ) → j < length row.old
-        → slice_index row.new j ≡ slice_index words.now j % 2 ^ 24 }
+/// Adds words that are 0 until there are at least so many. There is room for them.
+fn reach(words: &mut Vec<u32>, count: usize)
+    requires { count ≤ vec_capacity words.old }
+    ensures items { words.new.items ≡ words.old.items ++ zeros (count - length words.old.items) }
+    ensures reached { count ≤ vec_len words.new }
+    ensures capacity { vec_capacity words.old ≤ vec_capacity words.new }
 {
-    'places: for j in 0..row.len() {
-        row[j] = words[j] % WORDS;
+    if words.len() < count {
+        let grown = words.resize(count, 0);
+        let fits = grown.is_ok();
+        prove!(fits);
+    }
+}
+
+/// Sets the words at the places from `from` to before `to` to the low three bytes of those that
+/// stand there in others.
+fn set_row(words: &mut [u32], from: usize, to: usize, others: &[u32])
+    requires order { from ≤ to }
+    requires room { to ≤ length words.old }
+    requires others { to ≤ length others.now }
+    ensures { words.new ≡ set_where (is_between from to) (low_bytes others.now) words.old }
+{
+    'places: for i in from..to {
+        words[i] = others[i] % WORDS;
     }
 }
 
 impl Glass for Sheet {
-    type Rest = ();
+    type Rest = usize;
 
     ghost sight = { λ s. s.sight };
 
-    ghost rest = { λ _. tt };
+    ghost rest = { λ s. s.room };
 
     fn load(&mut self, i: usize) -> u32 {
-        match self.reached.get(i) {
-            Some(word) => *word,
-            None => 0,
+        if i < self.reached.len() {
+            self.reached[i]
+        } else {
+            0
         }
     }
 }

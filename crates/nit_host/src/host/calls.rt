@@ -1,16 +1,21 @@
 //! Calls of the clients at their seats.
 
-ghost use Rattle.std.specs.Prelude.{◌≡◌, ◌≢◌, ◌-◌, ◌*◌, ◌^◌, ◌<◌, ◌≤◌, None, Some, Ok, Err, IfErr, length};
-ghost use Rattle.nit_host.specs.Terms.{Unserved, called, handed, is_accepted, rectangle, refreshed, reply_to, session, sheet_in, unserved_call, unserved_refresh, with_handed};
+ghost use Rattle.std.specs.Prelude.{◌≡◌, ◌-◌, ◌*◌, ◌^◌, ◌<◌, ◌≤◌, None, Some, Ok, Err, length, map, nat_lt, slice_get, slice_set, true};
+ghost use Rattle.nit_host.specs.Terms.{AreQuiet, IsPlainOf, Painted, Reply, Unserved, after, asks_view, called, glass_in, refreshed, refusal, rectangle, reply_to, serve, session, unserved_call, unserved_refresh, worn_out};
 ghost use Rattle.nit_events.specs.declared.call.Call.TheVariants as call;
+ghost use Rattle.nit_events.specs.declared.entry.Entry.TheVariants as entry;
 
 use crate::host::Host;
+use crate::host::handing::hand_in;
 use crate::refusal::Unserved;
-use nit_events::{Call, Reply};
+use crate::sheet::Sheet;
+use nit_desktop::Desktop;
+use nit_events::{Call, Entry, Reply};
 use nit_rect::Rect;
+use nit_screen::laws::clean_pixels_keep_their_source;
 
 /// The handle that no view has any more.
-const LAST_HANDLE: u32 = u32::MAX;
+const LAST_HANDLE: u32 = u32::MAX - 1;
 
 impl Host {
     /// Serves a call of the client at a seat. The answer is the one of a machine that serves this
@@ -18,31 +23,41 @@ impl Host {
     ///
     /// # Errors
     ///
-    /// `NoSeat`, `HandlesUsedUp` and `WornOut`, the first of them that applies.
+    /// `NoSeat`, `HandlesUsedUp` (for `View` alone) and `WornOut`, the first of them that applies.
     pub fn call(&mut self, seat: u32, call: &Call) -> Result<Reply, Unserved>
-        ensures served { unserved_call self.old seat ≡ None
+        ensures served { unserved_call self.old seat call.now ≡ None
             → (result ≡ Ok (reply_to self.old seat call.now)) ×
             (self.new ≡ called seat call.now self.old) }
-        ensures unserved { (why : Unserved) → unserved_call self.old seat ≡ Some why
+        ensures unserved { (why : Unserved) → unserved_call self.old seat call.now ≡ Some why
             → (result ≡ Err why) × (self.new ≡ self.old) }
     {
-        if let Some(why) = self.unserved(seat) {
+        if let Some(why) = self.unserved_call(seat, call) {
             return Err(why);
         }
-        Ok(self.serve(seat, call))
+        clean_pixels_keep_their_source();
+        self.desktop.facts();
+        let own = &mut self.hollows[seat as usize];
+        self.desktop.exchange(seat, own);
+        let reply = serve(&mut self.desktop, seat, call, own);
+        self.last = Some(Entry::Call {
+            sid: seat,
+            call: *call,
+            reply,
+        });
+        Ok(reply)
     }
 
-    /// Takes over the part of a client's buffer with its left upper pixel at `(x, y)`, `w` pixels
-    /// wide and `h` high, from `words`, which has the words of its whole buffer, row by row, and
-    /// serves the client's call `Refresh` of that part: what its views show of it is shown as it is
-    /// handed in here. The highest byte of a word is left out. The words are read during this call
-    /// alone, and only those of the part. Where the call is refused nothing is taken over, and where
-    /// it is not served nothing changes.
+    /// Takes over the part of a client's buffer with its left upper pixel at `place`, `size.0`
+    /// pixels wide and `size.1` high, from `words`, which has the words of its whole buffer, row by
+    /// row, and serves the client's call `Refresh` of that part: what its views show of it is shown
+    /// as it is handed in here. The highest byte of a word is left out. The words are read during
+    /// this call alone, and only those of the part. Where the call is refused nothing is taken over,
+    /// and where it is not served nothing changes.
     ///
     /// # Errors
     ///
-    /// `NoSeat`, `ShortWords` (there are fewer words than the buffer has), `HandlesUsedUp` and
-    /// `WornOut`, the first of them that applies.
+    /// `NoSeat`, `ShortWords` (there are fewer words than the buffer has) and `WornOut`, the first of
+    /// them that applies.
     pub fn refresh(
         &mut self,
         seat: u32,
@@ -60,10 +75,123 @@ impl Host {
         if let Some(why) = self.unserved_refresh(seat, words) {
             return Err(why);
         }
-        let call = Call::Refresh(place.0, place.1, size.0, size.1);
-        if self.desktop.refused(seat, &call).is_none() {
-            self.hand_in(seat, place, size, words);
-        }
-        Ok(self.serve(seat, &call))
+        clean_pixels_keep_their_source();
+        self.desktop.facts();
+        let call = refresh_of(place, size);
+        let part = self.part(seat, place, size);
+        let buffer = self.desktop.buffer(seat);
+        let own = &mut self.hollows[seat as usize];
+        self.desktop.exchange(seat, own);
+        hand_in(own, buffer, &part, words);
+        let reply = serve(&mut self.desktop, seat, &call, own);
+        self.last = Some(Entry::Call {
+            sid: seat,
+            call,
+            reply,
+        });
+        Ok(reply)
     }
+
+    /// Why a call of a seat's client is not served, if it is not.
+    fn unserved_call(&self, seat: u32, call: &Call) -> Option<Unserved>
+        ensures { result ≡ unserved_call self.now seat call.now }
+    {
+        if self.seats() <= seat {
+            Some(Unserved::NoSeat)
+        } else if asks_view(call) && LAST_HANDLE <= self.desktop.next_handle(seat) {
+            Some(Unserved::HandlesUsedUp)
+        } else {
+            self.worn_out()
+        }
+    }
+
+    /// Why nothing is served any more, if it is not.
+    pub(crate) fn worn_out(&self) -> Option<Unserved>
+        ensures { result ≡ worn_out self.now }
+    {
+        if self.left() == 0 {
+            Some(Unserved::WornOut)
+        } else {
+            None
+        }
+    }
+
+    /// Why a refresh with these words is not served, if it is not.
+    fn unserved_refresh(&self, seat: u32, words: &[u32]) -> Option<Unserved>
+        ensures { result ≡ unserved_refresh self.now seat words.now }
+    {
+        if self.seats() <= seat {
+            Some(Unserved::NoSeat)
+        } else if self.lacks_words(seat, words) {
+            Some(Unserved::ShortWords)
+        } else {
+            self.worn_out()
+        }
+    }
+
+    /// Whether there are fewer words than the buffer of a seat's client has.
+    fn lacks_words(&self, seat: u32, words: &[u32]) -> bool
+        requires { seat < length self.now.state.sessions }
+        ensures { result ≡ nat_lt (length words.now)
+            ((session self.now.state seat).bw * (session self.now.state seat).bh) }
+    {
+        let (width, height) = self.buffer(seat);
+        words.len() < width as usize * height as usize
+    }
+
+    /// The part that a refresh names. `None` where it is refused.
+    fn part(&self, seat: u32, place: (i32, i32), size: (u32, u32)) -> Option<Rect>
+        requires { seat < length self.now.state.sessions }
+        ensures accepted { refusal (session self.now.state seat)
+            (call.Refresh place.0 place.1 size.0 size.1)
+            ≡ None
+            → result ≡ Some (rectangle place.0 place.1 size.0 size.1) }
+        ensures refused { (r : Reply) → refusal (session self.now.state seat)
+            (call.Refresh place.0 place.1 size.0 size.1)
+            ≡ Some r → result ≡ None }
+    {
+        match self.desktop.refused(seat, &refresh_of(place, size)) {
+            Some(_refusal) => None,
+            None => Rect::new(place.0, place.1, size.0, size.1),
+        }
+    }
+}
+
+/// The call that refreshes a part.
+fn refresh_of(place: (i32, i32), size: (u32, u32)) -> Call
+    ensures { result ≡ call.Refresh place.0 place.1 size.0 size.1 }
+{
+    Call::Refresh(place.0, place.1, size.0, size.1)
+}
+
+/// Serves a call of the client at a seat. Its sheet, `own`, stood in the desktop before a hollow one
+/// took its place; it is seen as the client's own, and changes places with the hollow one again.
+fn serve(desktop: &mut Desktop<Sheet>, seat: u32, call: &Call, own: &mut Sheet) -> Reply
+    requires session { seat < length desktop.old.state.sessions }
+    requires left { 1 ≤ desktop.old.left }
+    requires handles { asks_view call.now ≡ true
+        → (session desktop.old.state seat).next < 2 ^ 32 - 2 }
+    requires own { IsPlainOf desktop.old.state.config seat own.old.sight }
+    requires quiet { AreQuiet desktop.old.glasses }
+    ensures reply { result ≡ (serve (session desktop.old.state seat) call.now).reply }
+    ensures state { desktop.new.state ≡ after desktop.old.state (entry.Call seat call.now result) }
+    ensures left { desktop.new.left ≡ desktop.old.left - 1 }
+    ensures glasses { desktop.new.glasses ≡ slice_set desktop.old.glasses seat own.old }
+    ensures own { slice_get desktop.old.glasses seat ≡ Some own.new }
+    ensures painted { let sights = glass_in (map (λ g. g.sight) desktop.new.glasses) in
+        Painted desktop.old.state (entry.Call seat call.now result) desktop.new.state sights sights
+        desktop.old.raw desktop.new.raw }
+{
+    desktop.facts();
+    let reply = desktop.call(seat, call, own);
+    desktop.facts();
+    desktop.exchange(seat, own);
+    reply
+}
+
+/// Whether a call asks for a new view.
+fn asks_view(call: &Call) -> bool
+    ensures { result ≡ asks_view call.now }
+{
+    matches!(*call, Call::View)
 }

@@ -1,13 +1,12 @@
 //! A host before its first step.
 
-ghost use Rattle.std.specs.Prelude.{◌≡◌, ◌<◌, IfOk, length, ℕ};
-ghost use Rattle.nit_host.specs.Terms.{AreBlank, IsConfiguration, IsDonation, blank_sheet, first_host, first_state, table_size, vacant_state};
+ghost use Rattle.std.specs.Prelude.{◌≡◌, ◌≤◌, ◌<◌, IfOk, length, ℕ};
+ghost use Rattle.nit_host.specs.Terms.{AreHollow, AreSheets, IsConfiguration, IsDonation, blank_sheet, first_host, first_state, sheet_at, size_at, table_size, vacant_state};
 
 use crate::host::Host;
 use crate::sheet::Sheet;
 use nit_config::Config;
 use nit_desktop::Desktop;
-use nit_events::Call;
 use nit_rect::NoMemory;
 use nit_slots::room;
 use std::alloc::Global;
@@ -23,12 +22,12 @@ impl Host {
         requires { IsConfiguration config.now }
         ensures { IfOk result (λ h. h ≡ first_host (vacant_state config.now) config.now) }
     {
-        let mut desktop = desktop(alloc, config)?;
-        vacate(&mut desktop);
+        let hollows = hollows(alloc, config)?;
+        let sheets = sheets(alloc, config)?;
         Ok(Host {
-            desktop,
+            desktop: Desktop::vacant(alloc, config, sheets)?,
+            hollows,
             last: None,
-            alloc,
         })
     }
 
@@ -38,10 +37,49 @@ impl Host {
         requires { IsConfiguration config.now }
         ensures { IfOk result (λ h. h ≡ first_host (first_state config.now) config.now) }
     {
+        let hollows = hollows(alloc, config)?;
+        let sheets = sheets(alloc, config)?;
         Ok(Host {
-            desktop: desktop(alloc, config)?,
+            desktop: Desktop::new(alloc, config, sheets)?,
+            hollows,
             last: None,
-            alloc,
         })
     }
+}
+
+/// A sheet for each seat, in order, whose words are 0.
+fn sheets(alloc: Global, config: &Config) -> Result<Vec<Sheet>, NoMemory>
+    requires { IsConfiguration config.now }
+    ensures blank { IfOk result (λ v. AreHollow config.now v.items) }
+    ensures room { IfOk result (λ v. AreSheets config.now v.items) }
+{
+    let clients = config.clients.as_slice();
+    let mut sheets = Vec::new(alloc);
+    'seats: for seat in 0..clients.len() {
+        let size = table_size(clients[seat].donation);
+        sheets.push(Sheet::new(alloc, seat as u32, size)?)?;
+    }
+    Ok(sheets)
+}
+
+/// A hollow sheet for each seat, in order.
+fn hollows(alloc: Global, config: &Config) -> Result<Vec<Sheet>, NoMemory>
+    requires { IsConfiguration config.now }
+    ensures { IfOk result (λ v. AreHollow config.now v.items) }
+{
+    let clients = config.clients.as_slice();
+    let mut hollows = Vec::new(alloc);
+    'seats: for seat in 0..clients.len() {
+        let size = table_size(clients[seat].donation);
+        hollows.push(Sheet::hollow(alloc, seat as u32, size))?;
+    }
+    Ok(hollows)
+}
+
+/// How many words a session of this donation can ever pay for.
+fn table_size(donation: u32) -> usize
+    requires { IsDonation donation }
+    ensures { result ≡ table_size donation }
+{
+    (room(donation) / WORD_UNITS) as usize
 }

@@ -5,9 +5,8 @@ ghost use Rattle.nit_host.specs.Terms.{Unseated, seated, unseated};
 
 use crate::host::Host;
 use crate::refusal::Unseated;
-use crate::sheet::Sheet;
-use nit_events::Status;
 use nit_glyph::Label;
+use nit_screen::laws::openings_keep_all;
 
 impl Host {
     /// Gives a free seat to a client, under a label that no other seat has or had last. The client
@@ -26,10 +25,29 @@ impl Host {
         if let Some(why) = self.unseated(seat, &label) {
             return Err(why);
         }
-        let mut sheet = self.take_sheet(seat);
-        sheet.wipe();
-        self.desktop.reopen(seat, label, &mut sheet);
+        openings_keep_all();
+        self.desktop.facts();
+        let own = &mut self.hollows[seat as usize];
+        self.desktop.exchange(seat, own);
+        own.wipe();
+        self.desktop.reopen(seat, label, own);
         self.last = None;
         Ok(())
+    }
+
+    /// Why a client is not given this seat, if it is not.
+    fn unseated(&self, seat: u32, label: &Label) -> Option<Unseated>
+        ensures { result ≡ unseated self.now seat label.now }
+    {
+        self.facts();
+        if self.seats() <= seat {
+            Some(Unseated::NoSeat)
+        } else if self.is_taken(seat) {
+            Some(Unseated::Taken)
+        } else if !self.is_free(seat, label) {
+            Some(Unseated::LabelTaken)
+        } else {
+            None
+        }
     }
 }

@@ -1,11 +1,18 @@
 //! What the user does.
 
-ghost use Rattle.std.specs.Prelude.{◌≡◌, ◌×◌, None, Some, Ok, Err};
-ghost use Rattle.nit_host.specs.Terms.{IsDevice, Unserved, told, routed_of, unserved_input};
+ghost use Rattle.std.specs.Prelude.{◌≡◌, None, Some, Ok, Err};
+ghost use Rattle.nit_host.specs.Terms.{Unserved, is_device, routed_of, told, unserved_input};
 
 use crate::host::Host;
 use crate::refusal::Unserved;
-use nit_events::{Device, Routed};
+use nit_events::{Device, Entry, Routed};
+use nit_screen::laws::clean_pixels_keep_their_source;
+
+/// The greatest code of a key or a button.
+const MOST_CODE: u16 = 767;
+
+/// The furthest that a wheel may turn back.
+const LEAST_TURN: i8 = -127;
 
 impl Host {
     /// Serves what the user does, and answers who is told what: each item goes to one seat's client,
@@ -21,14 +28,38 @@ impl Host {
         ensures unserved { (why : Unserved) → unserved_input self.old device ≡ Some why
             → (result ≡ Err why) × (self.new ≡ self.old) }
     {
-        if !is_device(device) {
-            return Err(Unserved::BadDevice);
+        if let Some(why) = self.unserved_input(device) {
+            return Err(why);
         }
-        if self.desktop.left() == 0 {
-            return Err(Unserved::WornOut);
-        }
+        clean_pixels_keep_their_source();
+        self.desktop.facts();
         let routed = self.desktop.input(device);
-        self.last = Some(Entry::Input { device, routed });
+        self.last = Some(Entry::Input {
+            dev: device,
+            routed,
+        });
         Ok(routed)
+    }
+
+    /// Why a device event is not served, if it is not.
+    fn unserved_input(&self, device: Device) -> Option<Unserved>
+        ensures { result ≡ unserved_input self.now device }
+    {
+        if !is_device(device) {
+            Some(Unserved::BadDevice)
+        } else {
+            self.worn_out()
+        }
+    }
+}
+
+/// Whether the numbers of a device event are in range.
+fn is_device(device: Device) -> bool
+    ensures { result ≡ is_device device }
+{
+    match device {
+        Device::Press(code) | Device::Release(code) => code <= MOST_CODE,
+        Device::Wheel(turn) => turn >= LEAST_TURN,
+        Device::Motion(..) => true,
     }
 }

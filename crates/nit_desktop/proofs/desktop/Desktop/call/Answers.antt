@@ -1,7 +1,8 @@
-use Rattle.std.proofs.Common.{sym, ◌∙◌}
-use Rattle.nit_desktop.proofs.Basics.{Agrees, state_of, unaccepted_state}
+use Rattle.std.proofs.Common.{subst, sym, ◌-◌, ◌^◌, ◌<◌, ◌∙◌}
+use Rattle.nit_desktop.proofs.Basics.{Agrees, State, session, state_of, unaccepted_state}
 use Rattle.nit_events.specs.declared.entry.Entry.TheVariants as entry
 use Rattle.nit_desktop.proofs.DesktopLemmas.{goes_on, inks_again, raw_again}
+use Rattle.nit_desktop.proofs.HandleBounds.{call_keeps_handles}
 use Rattle.nit_desktop.proofs.desktop.Desktop.call.Goals as goal
 
 pub invariant_of-self : goal.invariant_of-self
@@ -11,7 +12,9 @@ invariant_of-self g c =
     let agrees : Agrees s 0 e = (rw (← c.self.view_is) at c.requires.session, c.call.ensures.reply) in
     goes_on s (state_of c.call.new.self.serving) e c.self.inside.left c.self.inside.screen.raw c.call.new.self.raw c.self.invariant c.call.ensures.state agrees _ _ c.call.ensures.painted
     c.live_sessions_stay.ensures.entry c.raw_stays_raw.ensures
-    (record { own = c.names_stay_own.ensures.own; new = c.names_stay_own.ensures.new; below = c.names_stay_own.ensures.below }) (rw (← c.self.view_is) at c.requires.left)
+    (record { own = c.names_stay_own.ensures.own; new = c.names_stay_own.ensures.new; below = c.names_stay_own.ensures.below })
+    (λ t. subst (λ (u : State). (session u t).next < 2 ^ 32 - 1) (sym c.call.ensures.state) (call_keeps_handles s c.args.sid c.args.call.now c.call.result t (rw (← c.self.view_is) at c.requires.session) c.self.invariant.handles (rw (← c.self.view_is) at c.requires.handles)))
+    (rw (← c.self.view_is) at c.requires.left)
 
 pub returns-clause-raw : goal.returns-clause-raw
 returns-clause-raw g c =

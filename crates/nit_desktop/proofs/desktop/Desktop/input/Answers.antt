@@ -1,7 +1,8 @@
-use Rattle.std.proofs.Common.{All, List, subst, sym}
-use Rattle.nit_desktop.proofs.Basics.{Agrees, Delivery, IsLive, state_of}
+use Rattle.std.proofs.Common.{All, List, subst, sym, ◌-◌, ◌^◌, ◌<◌}
+use Rattle.nit_desktop.proofs.Basics.{Agrees, Delivery, IsLive, State, session, state_of}
 use Rattle.nit_events.specs.declared.entry.Entry.TheVariants as entry
 use Rattle.nit_desktop.proofs.DesktopLemmas.{goes_on, inks_again, raw_again}
+use Rattle.nit_desktop.proofs.HandleBounds.{input_keeps_handles}
 use Rattle.nit_desktop.proofs.desktop.Desktop.input.Goals as goal
 
 pub invariant_of-self : goal.invariant_of-self
@@ -11,7 +12,9 @@ invariant_of-self g c =
     let agrees : Agrees s 0 e = c.input.ensures.routed in
     goes_on s (state_of c.input.new.self.serving) e c.self.inside.left c.self.inside.screen.raw c.input.new.self.raw c.self.invariant c.input.ensures.state agrees _ _ c.input.ensures.painted
     c.live_sessions_stay.ensures.entry c.raw_stays_raw.ensures
-    (record { own = c.names_stay_own.ensures.own; new = c.names_stay_own.ensures.new; below = c.names_stay_own.ensures.below }) (rw (← c.self.view_is) at c.requires.left)
+    (record { own = c.names_stay_own.ensures.own; new = c.names_stay_own.ensures.new; below = c.names_stay_own.ensures.below })
+    (λ t. subst (λ (u : State). (session u t).next < 2 ^ 32 - 1) (sym c.input.ensures.state) (input_keeps_handles s c.args.dev c.input.result t c.self.invariant.handles))
+    (rw (← c.self.view_is) at c.requires.left)
 
 pub returns-clause-raw : goal.returns-clause-raw
 returns-clause-raw g c =

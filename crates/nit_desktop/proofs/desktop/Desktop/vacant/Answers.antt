@@ -1,7 +1,7 @@
 use Rattle.std.proofs.Common.{ap, arith, ◌∙◌}
 use Rattle.nit_desktop.proofs.Basics.{State, session}
 use Rattle.nit_desktop.specs.Desktop.{DesktopModel}
-use Rattle.nit_desktop.proofs.Closings.{none_lost}
+use Rattle.nit_desktop.proofs.Closings.{none_lost, none_made}
 use Rattle.nit_desktop.proofs.desktop.Desktop.vacant.Goals as goal
 
 pub invariant_of-desktop : goal.invariant_of-desktop
@@ -14,4 +14,7 @@ invariant_of-desktop g c =
       lost = λ t.
           let none = ap (λ (s : State). (session s t).lost) state_ ∙ none_lost c.args.config.now t in
           omega (arith, none);
+      handles = λ t.
+          let first = ap (λ (s : State). (session s t).next) state_ ∙ none_made c.args.config.now t in
+          omega (arith, first);
     }

@@ -1,0 +1,13 @@
+mod Sheets
+mod Plans
+mod SheetLists
+mod Freshness
+mod Steps
+mod Served
+mod FirstSeats
+mod Rows
+mod Beginnings
+mod Inputs
+mod ActLemmas
+mod Seatings
+mod Refreshing

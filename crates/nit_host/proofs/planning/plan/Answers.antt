@@ -1,0 +1,8 @@
+use Rattle.std.proofs.Common.{subst, sym}
+use Rattle.nit_host.specs.Terms.{IsConfiguration}
+use Rattle.nit_host.proofs.Plans.{plan_configured}
+use Rattle.nit_host.proofs.planning.plan.Goals as goal
+
+pub returns-in-Ok-clause-configured : goal.returns-in-Ok-clause-configured
+returns-in-Ok-clause-configured c =
+    subst IsConfiguration (sym c.in-Ok.ensures) (plan_configured c.args.width c.args.height c.args.bar c.args.seats.now (sym c.in_default.ensures))

@@ -1,0 +1,9 @@
+pub mod Sheet
+pub mod Plan
+pub mod Host
+pub mod Handing
+pub mod Seats
+pub mod Fresh
+pub mod Acts
+pub mod Below
+pub mod Terms

@@ -1,0 +1,181 @@
+//! What can be read of a host.
+
+ghost use Rattle.std.specs.Prelude.{◌≡◌, ◌<◌, false, find, length, IfSome, IsTrue, not, None, Some, if◌then◌else◌};
+ghost use Rattle.nit_host.specs.Terms.{IsFreeLabel, has_label, is_taken, member, seat_for, seats_of, session};
+
+use crate::host::Host;
+use nit_events::{Mode, Status};
+use nit_glyph::Label;
+
+impl Host {
+    /// How many seats there are, 1..=16. They are counted from 0.
+    pub fn seats(&self) -> u32
+        ensures { result ≡ length self.now.state.sessions }
+    {
+        self.desktop.sessions()
+    }
+
+    /// The width, 1..=1024, and the height, 1..=768, of the screen, in pixels.
+    pub fn size(&self) -> (u32, u32)
+        ensures { result ≡ (self.now.state.config.width, self.now.state.config.height) }
+    {
+        self.desktop.size()
+    }
+
+    /// How many more entries are served: calls and device events, 2^62 at first.
+    pub fn left(&self) -> u64
+        ensures { result ≡ self.now.left }
+    {
+        self.desktop.left()
+    }
+
+    /// Whether a seat's client is served, or its last one has ended.
+    pub fn status(&self, seat: u32) -> Status
+        requires { seat < length self.now.state.sessions }
+        ensures { result ≡ (session self.now.state seat).status }
+    {
+        self.desktop.status(seat)
+    }
+
+    /// How many events wait for a seat's client, at most 64.
+    pub fn waiting(&self, seat: u32) -> u32
+        requires { seat < length self.now.state.sessions }
+        ensures { result ≡ length (session self.now.state seat).queue }
+    {
+        self.desktop.waiting(seat)
+    }
+
+    /// How many events a seat's client has lost since it came, since 64 were waiting.
+    pub fn lost(&self, seat: u32) -> u64
+        requires { seat < length self.now.state.sessions }
+        ensures { result ≡ (session self.now.state seat).lost }
+    {
+        self.desktop.lost(seat)
+    }
+
+    /// The width and the height of the buffer of a seat's client, in words: 0 by 0 before it has
+    /// one.
+    pub fn buffer(&self, seat: u32) -> (u32, u32)
+        requires { seat < length self.now.state.sessions }
+        ensures { result ≡ ((session self.now.state seat).bw, (session self.now.state seat).bh) }
+    {
+        self.desktop.buffer(seat)
+    }
+
+    /// The label of a seat's client, or at a free seat the one that waits there, which the last
+    /// client had.
+    pub fn label(&self, seat: u32) -> Label
+        requires { seat < length self.now.state.sessions }
+        ensures { result ≡ (member self.now.state.config seat).label }
+    {
+        self.desktop.label(seat)
+    }
+
+    /// Whether no seat but this one has the label, or had it last.
+    pub fn is_free(&self, seat: u32, label: &Label) -> bool
+        ensures free { IsTrue result → IsFreeLabel self.now.state.config seat label.now }
+        ensures taken { result ≡ false → IsFreeLabel self.now.state.config seat label.now → ⊥ }
+    {
+        self.desktop.is_free(seat, label)
+    }
+
+    /// The mode of the user's input.
+    pub fn mode(&self) -> Mode
+        ensures { result ≡ self.now.state.input.mode }
+    {
+        self.desktop.mode()
+    }
+
+    /// The seat whose client has the focus. `None` where none has it.
+    pub fn focus(&self) -> Option<u32>
+        ensures focus { result ≡ self.now.state.input.focus }
+        ensures known { IfSome result (λ seat. seat < length self.now.state.sessions) }
+    {
+        self.desktop.focus()
+    }
+
+    /// The seat whose client was last told where the pointer is. `None` where it is over none.
+    pub fn hover(&self) -> Option<u32>
+        ensures hover { result ≡ self.now.state.input.hover }
+        ensures known { IfSome result (λ seat. seat < length self.now.state.sessions) }
+    {
+        self.desktop.hover()
+    }
+
+    /// The column and the row of the pointer, in pixels.
+    pub fn pointer(&self) -> (u16, u16)
+        ensures { result ≡ (self.now.state.input.x, self.now.state.input.y) }
+    {
+        self.desktop.pointer()
+    }
+
+    /// The seat for a client of this label: the free seat whose last client had it, else, where no
+    /// other seat has it, the first free one. `None` where a client that sits has it, or where no
+    /// seat is free.
+    pub fn seat_for(&self, label: &Label) -> Option<u32>
+        ensures { result ≡ seat_for self.now.state label.now }
+    {
+        match self.labelled(label) {
+            Some(seat) => self.unless_taken(seat),
+            None => self.first_free(),
+        }
+    }
+
+    /// The seat, where it is free.
+    fn unless_taken(&self, seat: u32) -> Option<u32>
+        requires { seat < length self.now.state.sessions }
+        ensures { result ≡ (if is_taken self.now.state seat then None else Some seat) }
+    {
+        if self.is_taken(seat) {
+            None
+        } else {
+            Some(seat)
+        }
+    }
+
+    /// The first seat that has this label.
+    fn labelled(&self, label: &Label) -> Option<u32>
+        ensures found { result ≡ find (has_label self.now.state label.now)
+            (seats_of self.now.state) }
+        ensures known { IfSome result (λ seat. seat < length self.now.state.sessions) }
+    {
+        'seats: for seat in 0..self.seats() {
+            if self.has_label(seat, label) {
+                return Some(seat);
+            }
+        }
+        None
+    }
+
+    /// The first seat that is free.
+    fn first_free(&self) -> Option<u32>
+        ensures { result ≡ find (λ seat. not (is_taken self.now.state seat))
+            (seats_of self.now.state) }
+    {
+        'seats: for seat in 0..self.seats() {
+            if !self.is_taken(seat) {
+                return Some(seat);
+            }
+        }
+        None
+    }
+
+    /// Whether a client sits there.
+    pub(crate) fn is_taken(&self, seat: u32) -> bool
+        requires { seat < length self.now.state.sessions }
+        ensures { result ≡ is_taken self.now.state seat }
+    {
+        match self.status(seat) {
+            Status::Live => true,
+            Status::Closed | Status::Killed => false,
+        }
+    }
+
+    /// Whether the seat has this label.
+    fn has_label(&self, seat: u32, label: &Label) -> bool
+        requires { seat < length self.now.state.sessions }
+        ensures { result ≡ has_label self.now.state label.now seat }
+    {
+        self.label(seat).as_bytes() == label.as_bytes()
+    }
+}

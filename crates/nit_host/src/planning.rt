@@ -1,0 +1,183 @@
+//! A configuration by values: a screen and its seats.
+
+ghost use Rattle.std.specs.Prelude.{◌≡◌, ◌<◌, ◌≤◌, None, Some, Ok, Err, IfOk, MatchResult, length, map, nat_le};
+ghost use Rattle.nit_host.specs.Terms.{IsConfiguration, PlanError, hex_digit, is_screen, is_within, least_units, list_all, most_sessions, most_units, no_script, planned, refused_plan, waiting_label, waiting_member, enumerate_from};
+
+use crate::refusal::PlanError;
+use nit_config::{Config, FileName, Member};
+use nit_glyph::Label;
+use nit_rect::{LEAST_UNITS, MOST_HEIGHT, MOST_SESSIONS, MOST_UNITS, MOST_WIDTH, NoMemory};
+use std::alloc::Global;
+
+/// What a seat gives to whoever sits there.
+#[derive(Clone, Copy, Debug, PartialEq, Eq)]
+pub struct SeatPlan {
+    /// The donation in units: 256..=8,388,608. It pays for views and for the words of the buffer.
+    pub donation: u32,
+    /// The layer of the client's views: 0..=7, of which 0 is the front-most.
+    pub layer: u32,
+    /// Whether a click on one of its views moves the focus to it.
+    pub clicks: bool,
+}
+
+/// The configuration of a screen of `width`, 1..=1024, by `height`, 1..=768, pixels, whose seven
+/// topmost rows are the status bar where there is one, with these seats, 1 to 16 of them. At a seat
+/// waits a label, `.0` to `.f`, until a client brings another. The scripts are named `-`.
+///
+/// # Errors
+///
+/// `Screen`, `Seats`, `Donation` and `Layer`, the first of them that applies, and else `NoMemory`
+/// where memory runs out.
+pub fn plan(
+    alloc: Global,
+    width: u32,
+    height: u32,
+    bar: bool,
+    seats: &[SeatPlan],
+) -> Result<Config, PlanError>
+    ensures planned { refused_plan width height bar seats.now ≡ None
+        → MatchResult result (λ config. config ≡ planned width height bar seats.now)
+        (λ why. why ≡ PlanError.NoMemory) }
+    ensures refused { (why : PlanError) → refused_plan width height bar seats.now ≡ Some why
+        → result ≡ Err why }
+    ensures configured { IfOk result (λ config. IsConfiguration config) }
+{
+    if let Some(why) = refusal(width, height, bar, seats) {
+        return Err(why);
+    }
+    match configuration(alloc, width, height, bar, seats) {
+        Ok(config) => Ok(config),
+        Err(NoMemory) => Err(PlanError::NoMemory),
+    }
+}
+
+/// Why a plan is refused, if it is.
+fn refusal(width: u32, height: u32, bar: bool, seats: &[SeatPlan]) -> Option<PlanError>
+    ensures { result ≡ refused_plan width height bar seats.now }
+{
+    if !is_screen(width, height, bar) {
+        Some(PlanError::Screen)
+    } else if !is_count(seats.len()) {
+        Some(PlanError::Seats)
+    } else if !have_donations(seats) {
+        Some(PlanError::Donation)
+    } else if !have_layers(seats) {
+        Some(PlanError::Layer)
+    } else {
+        None
+    }
+}
+
+/// Whether a screen may have this size, and the status bar fits where there is one.
+fn is_screen(width: u32, height: u32, bar: bool) -> bool
+    ensures { result ≡ is_screen width height bar }
+{
+    is_within(1, MOST_WIDTH, width) && is_within(1, MOST_HEIGHT, height) && (!bar || height >= 8)
+}
+
+/// Whether there may be so many seats.
+fn is_count(seats: usize) -> bool
+    ensures { result ≡ is_within 1 most_sessions seats }
+{
+    1 <= seats && seats <= MOST_SESSIONS
+}
+
+/// Whether a number is from the first to the last.
+fn is_within(first: u32, last: u32, number: u32) -> bool
+    ensures { result ≡ is_within first last number }
+{
+    first <= number && number <= last
+}
+
+/// Whether each donation is in its range.
+fn have_donations(seats: &[SeatPlan]) -> bool
+    ensures { result ≡ list_all (λ s. is_within least_units most_units s.donation) seats.now }
+{
+    seats
+        .iter()
+        .all(|seat| is_within(LEAST_UNITS, MOST_UNITS, seat.donation))
+}
+
+/// Whether each layer is in its range.
+fn have_layers(seats: &[SeatPlan]) -> bool
+    ensures { result ≡ list_all (λ s. nat_le s.layer 7) seats.now }
+{
+    seats.iter().all(|seat| seat.layer <= 7)
+}
+
+/// The configuration of a plan that is not refused.
+fn configuration(
+    alloc: Global,
+    width: u32,
+    height: u32,
+    bar: bool,
+    seats: &[SeatPlan],
+) -> Result<Config, NoMemory>
+    requires { refused_plan width height bar seats.now ≡ None }
+    ensures { IfOk result (λ config. config ≡ planned width height bar seats.now) }
+{
+    Ok(Config {
+        width,
+        height,
+        bar,
+        input: no_script(alloc)?,
+        clients: members(alloc, seats)?,
+    })
+}
+
+/// A client of the configuration for each seat, in order.
+fn members(alloc: Global, seats: &[SeatPlan]) -> Result<Vec<Member>, NoMemory>
+    requires { length seats.now ≤ most_sessions }
+    ensures { IfOk result
+        (λ v. v.items ≡ map (λ p. waiting_member p.0 p.1) (enumerate_from 0 seats.now)) }
+{
+    let mut members = Vec::new(alloc);
+    'seats: for seat in 0..seats.len() {
+        members.push(member(alloc, seat, seats[seat])?)?;
+    }
+    Ok(members)
+}
+
+/// A seat as a client of the configuration.
+fn member(alloc: Global, seat: usize, plan: SeatPlan) -> Result<Member, NoMemory>
+    requires { seat < most_sessions }
+    ensures { IfOk result (λ m. m ≡ waiting_member seat plan) }
+{
+    Ok(Member {
+        label: waiting_label(seat),
+        donation: plan.donation,
+        script: no_script(alloc)?,
+        layer: plan.layer,
+        clicks: plan.clicks,
+    })
+}
+
+/// The name of a script that is not there.
+fn no_script(alloc: Global) -> Result<FileName, NoMemory>
+    ensures { IfOk result (λ name. name ≡ no_script) }
+{
+    FileName::new(alloc, b"-")
+}
+
+/// The label that waits at a free seat.
+fn waiting_label(seat: usize) -> Label
+    requires { seat < most_sessions }
+    ensures { result ≡ waiting_label seat }
+{
+    match Label::new(&[b'.', hex_digit(seat as u8)]) {
+        Some(label) => label,
+        None => unreachable!(),
+    }
+}
+
+/// A digit to the base 16, of a number below 16.
+fn hex_digit(number: u8) -> u8
+    requires { number < 16 }
+    ensures { result ≡ hex_digit number }
+{
+    if number < 10 {
+        b'0' + number
+    } else {
+        b'a' - 10 + number
+    }
+}
