@@ -4,7 +4,7 @@ use Rattle.std.specs.List.{list_all, range_with_len}
 use Rattle.nit_config.specs.Configuration.{Configuration}
 use Rattle.nit_config.specs.ConfigurationText.{IsConfigAnswer, IsConfigurationOf, MeetsRefusal, UnlessMemory}
 use Rattle.nit_config.specs.declared.error.ConfigError.{ConfigError}
-use Rattle.nit_journal.specs.State.{State, first_state}
+use Rattle.nit_journal.specs.State.{first_state}
 use Rattle.nit_journal.specs.Steps.{vacant_state}
 use Rattle.nit_host.specs.Host.{HostModel, first_host}
 use Rattle.nit_host.specs.Plan.{planned, refused_plan}

@@ -1,5 +1,5 @@
 -- What can be read of a server, as C reads it.
-use Rattle.std.specs.Prelude.{◌≡◌, ℕ, nat_lt, List, length, Option, None, if◌then◌else◌}
+use Rattle.std.specs.Prelude.{◌≡◌, ℕ, nat_lt, length, Option, if◌then◌else◌}
 use Rattle.nit_journal.specs.State.{session}
 use Rattle.nit_host.specs.Host.{HostModel}
 use Rattle.nit_c.specs.Numbers.{mode_number, seat_number, status_number}

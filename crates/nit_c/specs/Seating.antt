@@ -1,5 +1,5 @@
 -- Clients that come to a seat.
-use Rattle.std.specs.Prelude.{◌≡◌, ℕ, Bool, not, nat_lt, List, length, Option, Some, None, if◌then◌else◌}
+use Rattle.std.specs.Prelude.{◌≡◌, ℕ, not, nat_lt, List, length, Option, Some, None, if◌then◌else◌}
 use Rattle.nit_glyph.specs.Texts.{is_label}
 use Rattle.nit_host.specs.Host.{HostModel}
 use Rattle.nit_host.specs.Seats.{seat_for, seated, unseated}

@@ -21,7 +21,7 @@ fn serve(alloc: Global, server: &mut NitServer, seat: u32, call: &Call) -> NitRe
         return only_kind(NO_SERVER);
     }
     let mut host = server.take(alloc);
-    let reply = answer_of(&host.as_mut().call(seat / 2, call));
+    let reply = answer_of(&host.as_mut().call(seat, call));
     *server = NitServer::of(host);
     reply
 }

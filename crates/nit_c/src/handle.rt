@@ -53,7 +53,7 @@ impl NitServer {
         ensures same { self.new ≡ self.old }
         ensures live { result ≡ nat_eq self.old.mark live_mark }
     {
-        self.mark() != 0
+        self.mark() == LIVE
     }
 
     /// The server of a live handle, in its box. The handle is closed then.

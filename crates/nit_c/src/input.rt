@@ -60,7 +60,7 @@ fn released(code: u32) -> Option<Device>
     ensures { result ≡ released code }
 {
     if code <= MOST_CODE {
-        Some(Device::Press(code as u16))
+        Some(Device::Release(code as u16))
     } else {
         None
     }

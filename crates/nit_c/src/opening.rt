@@ -1,6 +1,7 @@
 //! A server is opened, and closed.
 
-ghost use Rattle.std.specs.Prelude.{◌≡◌, ◌≤◌, ℕ, None, Some, IfOk, MatchResult, Err, length, take};
+ghost use Rattle.std.specs.Prelude.{◌≡◌, ◌≢◌, ◌≤◌, ℕ, None, Some, IfOk, MatchResult, Err, length, take};
+ghost use Rattle.nit_c.specs.Held.{IsClosed};
 ghost use Rattle.nit_c.specs.Opening.{IsShut, IsOpened, IsOpenedBy, IsMadeByPlan, IsRead, are_seats, have_clicks, plan_number, planned_config, refused_words, seat_count, seats_in};
 ghost use Rattle.nit_c.specs.Steps.{host_of};
 ghost use Rattle.nit_host.specs.Terms.{IsConfiguration, first_host, first_state, vacant_state};
@@ -164,8 +165,9 @@ pub extern "C" fn nit_open_seats(
     bar: u32,
     seats: &[u32],
 ) -> u32
-    ensures { IsOpened (host_of server.old.mark server.old.value)
+    ensures opened { IsOpened (host_of server.old.mark server.old.value)
         (host_of server.new.mark server.new.value) width height bar seats.now result }
+    ensures kept { result ≢ 1 → server.new ≡ server.old }
 {
     if server.is_live() {
         return IS_OPEN;
@@ -183,8 +185,9 @@ pub extern "C" fn nit_open_seats(
 /// seats from the start.
 #[unsafe(no_mangle)]
 pub extern "C" fn nit_open_config(alloc: Global, server: &mut NitServer, text: &[u8]) -> u32
-    ensures { IsOpenedBy (host_of server.old.mark server.old.value)
+    ensures opened { IsOpenedBy (host_of server.old.mark server.old.value)
         (host_of server.new.mark server.new.value) text.now result }
+    ensures kept { result ≢ 1 → server.new ≡ server.old }
 {
     if server.is_live() {
         return IS_OPEN;
@@ -204,8 +207,10 @@ pub extern "C" fn nit_open_config(alloc: Global, server: &mut NitServer, text: &
 /// Frees all of a server. The handle is closed then, and may be opened again.
 #[unsafe(no_mangle)]
 pub extern "C" fn nit_close(alloc: Global, server: &mut NitServer) -> u32
-    ensures { IsShut (host_of server.old.mark server.old.value)
+    ensures shut { IsShut (host_of server.old.mark server.old.value)
         (host_of server.new.mark server.new.value) result }
+    ensures closed { result ≡ 1 → IsClosed server.new.at server.new.mark }
+    ensures kept { result ≢ 1 → server.new ≡ server.old }
 {
     if !server.is_live() {
         return NO_SERVER;
