@@ -5,7 +5,7 @@ use base.Stored.{Coded}
 use denote.RattleType.{RattleType}
 use denote.RawPtr.{Ptr, null_ptr}
 use Rattle.std.specs.Box.Ownership.{box_owns}
-use Rattle.libc.specs.Heap.{chunk}
+use Rattle.nit_c.specs.HeapToken.{heap_token}
 use Rattle.nit_host.specs.contracts.host.Host.{the_row}
 use Rattle.nit_config.specs.Configuration.{Configuration}
 use Rattle.nit_host.specs.Host.{HostModel, first_host}
@@ -47,4 +47,4 @@ owns_where false what = ftrue
 
 -- the box at the address, where the mark is that of a live handle, and else nothing
 abbrev pub held_owns : ℕ → Ptr → kept_row.Denot → Fml
-held_owns mark at x = owns_where (nat_eq mark live_mark) (box_owns chunk kept_row at x)
+held_owns mark at x = owns_where (nat_eq mark live_mark) (box_owns heap_token kept_row at x)

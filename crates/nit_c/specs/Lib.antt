@@ -1,3 +1,4 @@
+pub mod HeapToken
 pub mod Held
 pub mod Steps
 pub mod Numbers

@@ -2,7 +2,7 @@
 
 ghost use Rattle.std.specs.Prelude.{◌≡◌};
 ghost use Rattle.std.specs.Box.Ownership.{box_owns};
-ghost use Rattle.libc.specs.Heap.{chunk};
+ghost use Rattle.nit_c.specs.HeapToken.{heap_token};
 
 use std::alloc::Global;
 use std::marker::Model;
@@ -14,7 +14,7 @@ pub(crate) struct RawBox<T> {
 }
 
 impl<T> Model for RawBox<T> {
-    ghost also_owns = { λ b. box_owns chunk T.row b.at b.value };
+    ghost also_owns = { λ b. box_owns heap_token T.row b.at b.value };
 }
 
 impl<T> RawBox<T> {

@@ -36,7 +36,7 @@ use types.Part.{agg}
 use types.Run.{enter, of_opd, no_more, and_then, returns}
 use types.Tokens.{lft_new}
 use Rattle.std_alloc.specs.Box.Ownership.{box_owns}
-use Rattle.libc.specs.Heap.{chunk}
+use Rattle.nit_c.specs.HeapToken.{heap_token}
 use Rattle.std_heap.specs.contracts.Global as Heap
 use Rattle.std_heap.specs.contracts.GlobalAllocator.TheImpl.{ghosts, dict}
 use Rattle.std_heap.proofs.Global.TheLaws as heap
@@ -87,7 +87,7 @@ of_spec 𝓤 𝓛 𝓜 𝓡 wired T L dT glueT =
     nothing ! $ use0 𝓛 (raw (fact 𝓤 inZ)) (fact_i 𝓤 inZ (emp 𝓤) (⊑_static (α ∷ []))) $ join ! $ use0 𝓛 (raw (fact 𝓤 inT)) (fact_i 𝓤 inT (emp 𝓤) lives) $ join ! $
     nothing ! $ move ! (2 ∷ 0 ∷ []) $ join ! $ move ! (3 ∷ 0 ∷ []) $ join ! $ move ! (0 ∷ 2 ∷ []) $ join ! $ join ! $ use1 𝓛 (raw (G.pre z)) (id⊢ 𝓤 _) $
     calls_at ! (framed 𝓤 𝓛.H 𝓜 𝓣) G known z (and_then ! (get ! refl) (no_more !)) (λ u.
-    use1 𝓛 (later (some (λ (r : Ptr). (tokens ⊛ ‵ (RawPtr.own_val r (u ∷ []))) ⊛ some (λ (ws : Lasts Ge κs' a). ‵ (lasts Ge κs' a ws) ⊛ ‵ (box_owns chunk R r x))))) (id⊢ 𝓤 _) $
+    use1 𝓛 (later (some (λ (r : Ptr). (tokens ⊛ ‵ (RawPtr.own_val r (u ∷ []))) ⊛ some (λ (ws : Lasts Ge κs' a). ‵ (lasts Ge κs' a ws) ⊛ ‵ (box_owns heap_token R r x))))) (id⊢ 𝓤 _) $
     await ! tt $ pick ! (λ r. split ! $ split ! $ move ! (1 ∷ []) $ feq_l ! (λ is_ptr. move ! (1 ∷ []) $ pick ! (λ ws. split ! $ drop ! $
     -- [the box's memory; the tokens]
     let made : To.D = record { at = r; value = x } in let w : Val = vstruct (vcons (ptr_val r) vnil) in
