@@ -4,22 +4,15 @@
 #include <string.h>
 #include <unistd.h>
 
-/* +NAME=PROGRAM starts a client, -NAME ends one, quit ends the host. */
+/* +NAME=PROGRAM starts a client, and quit ends the host. */
 static void control(struct host *host, const char *line)
 {
-    bool found = false;
-    if (line[0] == '+') {
+    if (line[0] == '+')
         seats_start(host, line + 1);
-        return;
-    }
-    for (uint32_t seat = 0; seat < SEATS && line[0] == '-'; seat++)
-        if (host->clients[seat].socket >= 0 && !strcmp(host->clients[seat].label, line + 1)) {
-            seats_close(host, seat, "ended by the control line");
-            found = true;
-        }
-    host->over |= strcmp(line, "quit") == 0;
-    if (!found && !host->over)
-        printf("window: +NAME=PROGRAM, -NAME or quit: %s\n", line);
+    else if (!strcmp(line, "quit"))
+        host->over = true;
+    else
+        printf("window: +NAME=PROGRAM or quit: %s\n", line);
 }
 
 /* Reads what is there. A line that is longer than the room is dropped whole. */

@@ -18,7 +18,7 @@ void devices_begin(struct host *host)
     SDL_memcpy(host->codes, LINUX_CODES, sizeof host->codes);
 }
 
-/* The key that SDL calls so has this code too. False where there is no such key. */
+/* The key that SDL calls so has this code. False where there is no such key. */
 bool devices_name(struct host *host, const char *key, uint16_t code)
 {
     int scancode = SDL_GetScancodeFromName(key);
@@ -28,63 +28,44 @@ bool devices_name(struct host *host, const char *key, uint16_t code)
     return true;
 }
 
-/* A key or a button goes down or up. Only buttons and the two keys of modes change the picture. */
+/* A key or a button goes down or up, where the table has it. Only buttons and the two keys of
+ * modes change the picture. */
 static struct nit_routed code_event(struct host *host, uint32_t code, bool down)
 {
+    if (code == 0)
+        return (struct nit_routed){ 0 };
     host->changed |= down && (code >= FIRST_BUTTON || code == XRAY_KEY || code == KILL_KEY);
     return down ? nit_press(&host->server, code) : nit_release(&host->server, code);
 }
 
-static void key_event(struct host *host, const SDL_KeyboardEvent *event)
+static uint32_t key_code(const struct host *host, const SDL_KeyboardEvent *event)
 {
     int scancode = event->keysym.scancode;
-    if (event->repeat || scancode >= CODES || host->codes[scancode] == 0)
-        return;
-    struct nit_routed routed =
-        code_event(host, host->codes[scancode], event->type == SDL_KEYDOWN);
-    seats_deliver(host, &routed);
+    return event->repeat || scancode >= CODES ? 0 : host->codes[scancode];
 }
 
-static void button_event(struct host *host, const SDL_MouseButtonEvent *event)
+static uint32_t button_code(const SDL_MouseButtonEvent *event)
 {
     static const uint16_t codes[] = { 0, 272, 274, 273, 275, 276 };
-    if (event->button == 0 || event->button >= sizeof codes / sizeof *codes)
-        return;
-    struct nit_routed routed =
-        code_event(host, codes[event->button], event->type == SDL_MOUSEBUTTONDOWN);
-    seats_deliver(host, &routed);
+    return event->button < sizeof codes / sizeof *codes ? codes[event->button] : 0;
 }
 
-static void motion_event(struct host *host, const SDL_MouseMotionEvent *event)
-{
-    struct nit_routed routed = nit_motion(&host->server, (uint32_t)SDL_clamp(event->x, 0, 65535),
-                                          (uint32_t)SDL_clamp(event->y, 0, 65535));
-    seats_deliver(host, &routed);
-}
-
-static void wheel_event(struct host *host, const SDL_MouseWheelEvent *event)
-{
-    struct nit_routed routed = nit_wheel(&host->server, SDL_clamp(event->y, -127, 127));
-    seats_deliver(host, &routed);
-}
-
-static void device_event(struct host *host, const SDL_Event *event)
+/* Tells the library, and answers to whom the event went: to nobody where it is none of a device. */
+static struct nit_routed device_event(struct host *host, const SDL_Event *event)
 {
     switch (event->type) {
     case SDL_KEYDOWN:
     case SDL_KEYUP:
-        key_event(host, &event->key);
-        break;
+        return code_event(host, key_code(host, &event->key), event->type == SDL_KEYDOWN);
     case SDL_MOUSEBUTTONDOWN:
     case SDL_MOUSEBUTTONUP:
-        button_event(host, &event->button);
-        break;
+        return code_event(host, button_code(&event->button),
+                          event->type == SDL_MOUSEBUTTONDOWN);
     case SDL_MOUSEMOTION:
-        motion_event(host, &event->motion);
-        break;
+        return nit_motion(&host->server, (uint32_t)SDL_clamp(event->motion.x, 0, 65535),
+                          (uint32_t)SDL_clamp(event->motion.y, 0, 65535));
     case SDL_MOUSEWHEEL:
-        wheel_event(host, &event->wheel);
-        break;
+        return nit_wheel(&host->server, SDL_clamp(event->wheel.y, -127, 127));
     case SDL_WINDOWEVENT:
         if (event->window.event == SDL_WINDOWEVENT_EXPOSED)
             SDL_UpdateWindowSurface(host->window);
@@ -93,12 +74,15 @@ static void device_event(struct host *host, const SDL_Event *event)
         host->over = true;
         break;
     }
+    return (struct nit_routed){ 0 };
 }
 
 /* All that the devices did since the last turn, in its order. */
 void devices_read(struct host *host)
 {
     SDL_Event event;
-    while (SDL_PollEvent(&event))
-        device_event(host, &event);
+    while (SDL_PollEvent(&event)) {
+        struct nit_routed routed = device_event(host, &event);
+        seats_deliver(host, &routed);
+    }
 }

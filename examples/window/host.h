@@ -58,7 +58,7 @@ bool devices_name(struct host *host, const char *key, uint16_t code);
 void devices_read(struct host *host);
 
 /* seats.c */
-bool seats_start(struct host *host, const char *word);
+void seats_start(struct host *host, const char *word);
 void seats_close(struct host *host, uint32_t seat, const char *why);
 void seats_reap(struct host *host);
 void seats_deliver(struct host *host, const struct nit_routed *routed);

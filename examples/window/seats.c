@@ -34,11 +34,11 @@ static pid_t spawn(const char *program, int socket)
     posix_spawnattr_init(&attributes);
     posix_spawnattr_setflags(&attributes, POSIX_SPAWN_SETSIGMASK);
     posix_spawnattr_setsigmask(&attributes, &none);
-    errno = posix_spawn(&process, program, &actions, &attributes, words, nothing);
-    bool started = errno == 0;
+    int refused = posix_spawn(&process, program, &actions, &attributes, words, nothing);
     posix_spawnattr_destroy(&attributes);
     posix_spawn_file_actions_destroy(&actions);
-    return started ? process : 0;
+    errno = refused;
+    return refused ? 0 : process;
 }
 
 /* The seat that the library gives to this label, but no seat that is kept for another one. */
@@ -56,40 +56,37 @@ static uint32_t sit_down(struct host *host, const char *label, size_t length)
 }
 
 /* A process for the client that has just sat down, or its seat is free again. */
-static bool bring(struct host *host, uint32_t seat, const char *program)
+static void bring(struct host *host, uint32_t seat, const char *program)
 {
     struct client *client = &host->clients[seat];
-    int pair[2];
+    int pair[2] = { -1, -1 };
+    pid_t process = 0;
     if (socketpair(AF_UNIX, SOCK_SEQPACKET | SOCK_CLOEXEC, 0, pair) == 0) {
-        client->process = spawn(program, pair[1]);
+        process = spawn(program, pair[1]);
         close(pair[1]);
-        if (client->process != 0) {
-            client->socket = pair[0];
-            client->pixels = -1;
-            client->w = client->h = 0;
-            client->woken = client->gone = false;
-            return true;
-        }
-        close(pair[0]);
     }
-    printf("window: %s: %s: %s\n", client->label, program, strerror(errno));
-    nit_leave(&host->server, seat);
-    return false;
+    client->socket = pair[0];
+    client->process = process;
+    client->pixels = -1;
+    client->w = client->h = 0;
+    client->woken = client->gone = false;
+    if (process == 0)
+        seats_close(host, seat, strerror(errno));
 }
 
 /* A new client by a word NAME=PROGRAM. */
-bool seats_start(struct host *host, const char *word)
+void seats_start(struct host *host, const char *word)
 {
     const char *program = strchr(word, '=');
     size_t length = program ? (size_t)(program - word) : 0;
     uint32_t seat = program ? sit_down(host, word, length) : NIT_NONE;
     if (seat == NIT_NONE) {
         printf("window: no seat for %s\n", word);
-        return false;
+        return;
     }
     memcpy(host->clients[seat].label, word, length);
     host->clients[seat].label[length] = 0;
-    return bring(host, seat, program + 1);
+    bring(host, seat, program + 1);
 }
 
 /* ---- Ending */
@@ -102,7 +99,8 @@ void seats_close(struct host *host, uint32_t seat, const char *why)
     printf("window: %s: %s\n", client->label, why);
     nit_leave(&host->server, seat);
     host->changed = true;
-    close(client->socket);
+    if (client->socket >= 0)
+        close(client->socket);
     client->socket = -1;
     if (client->pixels >= 0)
         close(client->pixels);

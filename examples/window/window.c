@@ -174,26 +174,30 @@ static void close_all(struct host *host)
     SDL_Quit();
 }
 
+/* Takes the words that begin with --. Answers how many there are, or -1 where one is none. */
+static int options(struct host *host, char **words, const char **size)
+{
+    int taken = 0;
+    for (; words[taken] && !strncmp(words[taken], "--", 2); taken++) {
+        const char *word = words[taken], *value = strchr(word, '=') ? strchr(word, '=') + 1 : "";
+        if (!strncmp(word, "--size=", 7))
+            *size = value;
+        else if ((strncmp(word, "--xray=", 7) || !devices_name(host, value, 70)) &&
+                 (strncmp(word, "--kill=", 7) || !devices_name(host, value, 99)))
+            return -1;
+    }
+    return taken;
+}
+
 int main(int count, char **words)
 {
     static struct host host;
     const char *size = NULL;
-    int first = 1;
     setvbuf(stdout, NULL, _IOLBF, 0);
     devices_begin(&host);
-    for (; first < count && words[first][0] == '-'; first++) {
-        const char *key = strchr(words[first], '=');
-        if (!strncmp(words[first], "--size=", 7))
-            size = key + 1;
-        else if (!strncmp(words[first], "--xray=", 7) && devices_name(&host, key + 1, 70))
-            continue;
-        else if (!strncmp(words[first], "--kill=", 7) && devices_name(&host, key + 1, 99))
-            continue;
-        else
-            return refuse(words[first]);
-    }
-    if (!open_server(&host, size, words + first, count - first))
-        return refuse("no such screen or too many clients");
+    int first = options(&host, words + 1, &size) + 1;
+    if (first == 0 || !open_server(&host, size, words + first, count - first))
+        return refuse("no such words, no such screen, or too many clients");
     if (!open_signals(&host) || !open_window(&host))
         return refuse(SDL_GetError());
     start_clients(&host, words + first, count - first);

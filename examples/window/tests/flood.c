@@ -1,8 +1,9 @@
 /* A client of the test that does nothing but refresh, as fast as it is let: it keeps 64 calls under
- * way, and reads each reply. So it floods by the rules, and the host serves it by slices. */
+ * way, and reads each reply. So it floods by the rules, and the host serves it by slices. Linux
+ * counts what it reads in /proc/PID/io, where the test finds how many calls were served. */
 #include "client.h"
 #include "protocol.h"
-#include <sys/socket.h>
+#include <unistd.h>
 
 enum { SIDE = 256, UNDER_WAY = 64 };
 
@@ -19,9 +20,9 @@ int main(void)
     client_refresh(&client, 0, 0, SIDE, SIDE);
     for (uint32_t sent = 0;; sent++) {
         client_fill(&client, 0, 0, 16, 16, sent);
-        if (send(PROTOCOL_SOCKET, &refresh, sizeof refresh, MSG_NOSIGNAL) < 0)
+        if (write(PROTOCOL_SOCKET, &refresh, sizeof refresh) < 0)
             return 0;
-        if (sent >= UNDER_WAY && recv(PROTOCOL_SOCKET, &reply, sizeof reply, 0) <= 0)
+        if (sent >= UNDER_WAY && read(PROTOCOL_SOCKET, &reply, sizeof reply) <= 0)
             return 0;
     }
 }
