@@ -1,10 +1,10 @@
 /* What the user does with mouse and keys, as the library's device events. Not proved. */
 #include "host.h"
 
-enum { XRAY_KEY = 70, KILL_KEY = 99, FIRST_BUTTON = 272 };
+enum { CODES = 256, FIRST_BUTTON = 272 };
 
 /* Linux's codes of keys by USB's, which are SDL's. */
-static const uint16_t LINUX_CODES[CODES] = {
+static uint16_t codes[CODES] = {
     0, 0, 0, 0, 30, 48, 46, 32, 18, 33, 34, 35, 23, 36, 37, 38, 50, 49, 24, 25, 16, 19, 31, 20,
     22, 47, 17, 45, 21, 44, 2, 3, 4, 5, 6, 7, 8, 9, 10, 11, 28, 1, 14, 15, 57, 12, 13, 26,
     27, 43, 43, 39, 40, 41, 51, 52, 53, 58, 59, 60, 61, 62, 63, 64, 65, 66, 67, 68, 87, 88,
@@ -13,18 +13,13 @@ static const uint16_t LINUX_CODES[CODES] = {
     [224] = 29, 42, 56, 125, 97, 54, 100, 126
 };
 
-void devices_begin(struct host *host)
-{
-    SDL_memcpy(host->codes, LINUX_CODES, sizeof host->codes);
-}
-
 /* The key that SDL calls so has this code. False where there is no such key. */
-bool devices_name(struct host *host, const char *key, uint16_t code)
+bool devices_name(const char *key, uint16_t code)
 {
     int scancode = SDL_GetScancodeFromName(key);
     if (scancode == SDL_SCANCODE_UNKNOWN || scancode >= CODES)
         return false;
-    host->codes[scancode] = code;
+    codes[scancode] = code;
     return true;
 }
 
@@ -38,16 +33,16 @@ static struct nit_routed code_event(struct host *host, uint32_t code, bool down)
     return down ? nit_press(&host->server, code) : nit_release(&host->server, code);
 }
 
-static uint32_t key_code(const struct host *host, const SDL_KeyboardEvent *event)
+static uint32_t key_code(const SDL_KeyboardEvent *event)
 {
     int scancode = event->keysym.scancode;
-    return event->repeat || scancode >= CODES ? 0 : host->codes[scancode];
+    return event->repeat || scancode >= CODES ? 0 : codes[scancode];
 }
 
 static uint32_t button_code(const SDL_MouseButtonEvent *event)
 {
-    static const uint16_t codes[] = { 0, 272, 274, 273, 275, 276 };
-    return event->button < sizeof codes / sizeof *codes ? codes[event->button] : 0;
+    static const uint16_t buttons[] = { 0, 272, 274, 273, 275, 276 };
+    return event->button < sizeof buttons / sizeof *buttons ? buttons[event->button] : 0;
 }
 
 /* Tells the library, and answers to whom the event went: to nobody where it is none of a device. */
@@ -56,7 +51,7 @@ static struct nit_routed device_event(struct host *host, const SDL_Event *event)
     switch (event->type) {
     case SDL_KEYDOWN:
     case SDL_KEYUP:
-        return code_event(host, key_code(host, &event->key), event->type == SDL_KEYDOWN);
+        return code_event(host, key_code(&event->key), event->type == SDL_KEYDOWN);
     case SDL_MOUSEBUTTONDOWN:
     case SDL_MOUSEBUTTONUP:
         return code_event(host, button_code(&event->button),

@@ -13,7 +13,8 @@ enum {
     DONATION = 4194304,      /* units of each seat */
     MOST_WORDS = 1048576,    /* of a buffer, whatever is donated: 8,388,608 units */
     SLICE = 1000,            /* microseconds for the calls of one client in one turn */
-    CODES = 256              /* keys of a keyboard that have a code */
+    XRAY_KEY = 70,           /* Linux's codes of the keys of modes */
+    KILL_KEY = 99
 };
 
 /* Who sits on a seat. Nobody does where `socket` is -1. */
@@ -39,8 +40,6 @@ struct host {
     int display;             /* the descriptor of the window system */
     bool changed;            /* a look may find something */
     uint64_t period, next;   /* microseconds between two looks; when the next may be */
-    uint16_t codes[CODES];   /* Linux's code of a key, by SDL's; 0 where it has none */
-
     int signals;             /* a descriptor that tells of SIGCHLD, SIGTERM and SIGINT */
     bool listens;            /* the control line is open */
     bool over;
@@ -52,21 +51,14 @@ uint64_t now(void);
 /* True where no client is served: what the user points at stays where it is. */
 bool frozen(struct host *host);
 
-/* devices.c */
-void devices_begin(struct host *host);
-bool devices_name(struct host *host, const char *key, uint16_t code);
+/* In devices.c, seats.c and calls.c. */
+bool devices_name(const char *key, uint16_t code);
 void devices_read(struct host *host);
-
-/* seats.c */
 void seats_start(struct host *host, const char *word);
 void seats_close(struct host *host, uint32_t seat, const char *why);
 void seats_reap(struct host *host);
 void seats_deliver(struct host *host, const struct nit_routed *routed);
-
-/* calls.c */
+void seats_control(struct host *host);
 void calls_serve(struct host *host);
-
-/* control.c */
-void control_read(struct host *host);
 
 #endif

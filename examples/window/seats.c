@@ -55,38 +55,55 @@ static uint32_t sit_down(struct host *host, const char *label, size_t length)
     return NIT_NONE;
 }
 
-/* A process for the client that has just sat down, or its seat is free again. */
-static void bring(struct host *host, uint32_t seat, const char *program)
-{
-    struct client *client = &host->clients[seat];
-    int pair[2] = { -1, -1 };
-    pid_t process = 0;
-    if (socketpair(AF_UNIX, SOCK_SEQPACKET | SOCK_CLOEXEC, 0, pair) == 0) {
-        process = spawn(program, pair[1]);
-        close(pair[1]);
-    }
-    client->socket = pair[0];
-    client->process = process;
-    client->pixels = -1;
-    client->w = client->h = 0;
-    client->woken = client->gone = false;
-    if (process == 0)
-        seats_close(host, seat, strerror(errno));
-}
-
-/* A new client by a word NAME=PROGRAM. */
+/* A new client by a word NAME=PROGRAM. Its seat is free again where it has no process. */
 void seats_start(struct host *host, const char *word)
 {
     const char *program = strchr(word, '=');
     size_t length = program ? (size_t)(program - word) : 0;
     uint32_t seat = program ? sit_down(host, word, length) : NIT_NONE;
+    int pair[2] = { -1, -1 };
     if (seat == NIT_NONE) {
         printf("window: no seat for %s\n", word);
         return;
     }
-    memcpy(host->clients[seat].label, word, length);
-    host->clients[seat].label[length] = 0;
-    bring(host, seat, program + 1);
+    struct client *client = &host->clients[seat];
+    *client = (struct client){ .pixels = -1, .kept = client->kept };
+    memcpy(client->label, word, length);
+    if (socketpair(AF_UNIX, SOCK_SEQPACKET | SOCK_CLOEXEC, 0, pair) == 0) {
+        client->process = spawn(program + 1, pair[1]);
+        close(pair[1]);
+    }
+    client->socket = pair[0];
+    if (client->process == 0)
+        seats_close(host, seat, strerror(errno));
+}
+
+/* A line of the control line: +NAME=PROGRAM starts a client, and quit ends the host. */
+static void control(struct host *host, const char *line)
+{
+    if (line[0] == '+')
+        seats_start(host, line + 1);
+    else if (!strcmp(line, "quit"))
+        host->over = true;
+    else
+        printf("window: +NAME=PROGRAM or quit: %s\n", line);
+}
+
+/* Reads what stands on the standard input. A line of over 511 bytes ends it, as its end does. */
+void seats_control(struct host *host)
+{
+    static char line[512];
+    static size_t length;
+    ssize_t got = read(STDIN_FILENO, line + length, sizeof line - 1 - length);
+    host->listens = got > 0;
+    length += got > 0 ? (size_t)got : 0;
+    line[length] = 0;
+    for (char *end; (end = strchr(line, '\n')) != NULL;) {
+        *end = 0;
+        control(host, line);
+        length -= (size_t)(end + 1 - line);
+        memmove(line, end + 1, length + 1);
+    }
 }
 
 /* ---- Ending */

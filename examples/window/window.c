@@ -109,15 +109,12 @@ static bool open_signals(struct host *host)
  * where one is due. While the host is frozen the control line and clients wake nobody. */
 static void wait_for_any(struct host *host)
 {
-    struct pollfd any[3 + SEATS];
     bool served = !frozen(host);
-    any[0] = (struct pollfd){ .fd = host->display, .events = POLLIN };
-    any[1] = (struct pollfd){ .fd = host->signals, .events = POLLIN };
-    any[2] = (struct pollfd){ .fd = served && host->listens ? STDIN_FILENO : -1,
-                              .events = POLLIN };
+    int control = served && host->listens ? STDIN_FILENO : -1;
+    struct pollfd any[3 + SEATS] = { { host->display, POLLIN, 0 }, { host->signals, POLLIN, 0 },
+                                     { control, POLLIN, 0 } };
     for (int seat = 0; seat < SEATS; seat++)
-        any[3 + seat] = (struct pollfd){ .fd = served ? host->clients[seat].socket : -1,
-                                         .events = POLLIN };
+        any[3 + seat] = (struct pollfd){ served ? host->clients[seat].socket : -1, POLLIN, 0 };
     SDL_PumpEvents();
     uint64_t time = now();
     int wait = host->changed ? (int)((host->next - SDL_min(time, host->next) + 999) / 1000) : -1;
@@ -125,7 +122,7 @@ static void wait_for_any(struct host *host)
         wait = 0;
     poll(any, 3 + SEATS, wait);
     if (any[2].revents != 0)
-        control_read(host);
+        seats_control(host);
 }
 
 static void read_signals(struct host *host)
@@ -156,8 +153,8 @@ static void show(struct host *host)
 
 static int refuse(const char *why)
 {
-    fprintf(stderr, "window: %s\n", why);
-    fprintf(stderr, "window [--size=WxH] [--xray=KEY] [--kill=KEY] [^]NAME=PROGRAM ...\n");
+    fprintf(stderr, "window: %s\n"
+                    "window [--size=WxH] [--xray=KEY] [--kill=KEY] [^]NAME=PROGRAM ...\n", why);
     return 2;
 }
 
@@ -175,15 +172,15 @@ static void close_all(struct host *host)
 }
 
 /* Takes the words that begin with --. Answers how many there are, or -1 where one is none. */
-static int options(struct host *host, char **words, const char **size)
+static int options(char **words, const char **size)
 {
     int taken = 0;
     for (; words[taken] && !strncmp(words[taken], "--", 2); taken++) {
         const char *word = words[taken], *value = strchr(word, '=') ? strchr(word, '=') + 1 : "";
         if (!strncmp(word, "--size=", 7))
             *size = value;
-        else if ((strncmp(word, "--xray=", 7) || !devices_name(host, value, 70)) &&
-                 (strncmp(word, "--kill=", 7) || !devices_name(host, value, 99)))
+        else if ((strncmp(word, "--xray=", 7) || !devices_name(value, XRAY_KEY)) &&
+                 (strncmp(word, "--kill=", 7) || !devices_name(value, KILL_KEY)))
             return -1;
     }
     return taken;
@@ -194,8 +191,7 @@ int main(int count, char **words)
     static struct host host;
     const char *size = NULL;
     setvbuf(stdout, NULL, _IOLBF, 0);
-    devices_begin(&host);
-    int first = options(&host, words + 1, &size) + 1;
+    int first = options(words + 1, &size) + 1;
     if (first == 0 || !open_server(&host, size, words + first, count - first))
         return refuse("no such words, no such screen, or too many clients");
     if (!open_signals(&host) || !open_window(&host))

@@ -68,7 +68,10 @@ class Screen:
             self.name = ":" + answer.readline().strip()
         self.display = X11.XOpenDisplay(self.name.encode())
         self.root = X11.XDefaultRootWindow(self.display)
-        self.environment = dict(os.environ, DISPLAY=self.name)
+        leaks = Path(__file__).parent / "leaks"
+        self.environment = dict(
+            os.environ, DISPLAY=self.name,
+            LSAN_OPTIONS=f"suppressions={leaks}:print_suppressions=0")
 
     def close(self):
         """Ends the X server."""

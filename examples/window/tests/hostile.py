@@ -1,5 +1,6 @@
-"""A client of the test that does what PROTOCOL.md forbids: hostile.py MISDEED. The host has to close
-it and nobody else, so it never ends by itself."""
+"""A client of the test that does what PROTOCOL.md forbids: hostile.py MISDEED.
+
+The host has to close it and nobody else, so it never ends by itself."""
 
 import fcntl
 import os
