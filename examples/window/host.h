@@ -5,7 +5,6 @@
 #include <SDL.h>
 #include <nitpicker.h>
 #include <stdbool.h>
-#include <sys/types.h>
 
 enum {
     SEATS = 16,

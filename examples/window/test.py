@@ -3,6 +3,7 @@
 
     test.py FOLDER             all cases over the programs of a folder
     test.py FOLDER CASE ..     some of them
+    test.py --measure FOLDER   measures, beside the host over a plain compositor
     test.py --pictures FOLDER  takes the pictures of the README anew
 
 `make check` builds the programs with sanitizers first. Status 0 where all is as it should be."""
@@ -334,6 +335,21 @@ def pictures(screen, programs):
         screen.picture(HERE / "kill.png")
 
 
+def measure(screen, programs):
+    """The time from a key's event to the changed pixel, by turns over both hosts."""
+    delays = {"library": [], "plain": []}
+    for _ in range(10):
+        for name, folder in (("library", programs), ("plain", Path(programs) / "plain")):
+            with Host(screen, folder, ["toggle=./toggle"]):
+                until("the toggle", lambda: screen.pixel(*TOGGLE) == 0x0000F0)
+                screen.user("mousemove 40 730 click 1")
+                time.sleep(0.2)
+                delays[name] += typing(screen, 100)
+    for name, all_of in delays.items():
+        late = sorted(all_of)[len(all_of) * 99 // 100]
+        print(f"{name}: median {statistics.median(all_of):.2f} ms, 99th percentile {late:.2f} ms")
+
+
 def main():
     """Runs what the words name."""
     words = sys.argv[1:]
@@ -342,8 +358,8 @@ def main():
         return 0 if words else 2
     screen = Screen()
     try:
-        if words[0] == "--pictures":
-            pictures(screen, words[1])
+        if words[0] in ("--measure", "--pictures"):
+            (measure if words[0] == "--measure" else pictures)(screen, words[1])
             return 0
         for name in words[1:] or CASES:
             begin = time.monotonic()
