@@ -1,8 +1,7 @@
 /* The calls of clients: one message each, answered by one. Not proved.
  *
- * A client that breaks the protocol is closed. Nothing that it sends is used before it is looked
- * at: a message has its size, a descriptor is a sealed memfd, and pixels are copied before the
- * library reads them. */
+ * A client that breaks the protocol is closed. A message has its size, a descriptor is a sealed
+ * memfd, and pixels are copied before the library reads them. */
 #include "host.h"
 #include "protocol.h"
 #include <errno.h>
@@ -148,7 +147,8 @@ static const char *serve(struct host *host, uint32_t seat, const struct call *ca
     return answer(client, &reply) ? NULL : "closed: it does not read its replies";
 }
 
-/* Serves one client until nothing is left to do or its slice of time is over. */
+/* Serves one client until nothing is left to do or its slice of the period is over. So the host
+ * has time for others, however much one asks for. */
 static void serve_client(struct host *host, uint32_t seat)
 {
     struct client *client = &host->clients[seat];
@@ -168,6 +168,7 @@ static void serve_client(struct host *host, uint32_t seat)
             close(descriptor);
         why = "closed: it broke the protocol, or left";
     }
+    client->rest = end - SLICE + host->period;
     if (why)
         seats_close(host, seat, why);
 }
@@ -176,6 +177,6 @@ static void serve_client(struct host *host, uint32_t seat)
 void calls_serve(struct host *host)
 {
     for (uint32_t seat = 0; seat < SEATS && !frozen(host); seat++)
-        if (host->clients[seat].socket >= 0)
+        if (host->clients[seat].socket >= 0 && host->clients[seat].rest <= now())
             serve_client(host, seat);
 }

@@ -11,7 +11,7 @@ enum {
     LABEL = 21,              /* a label and its 0 */
     DONATION = 4194304,      /* units of each seat */
     MOST_WORDS = 1048576,    /* of a buffer, whatever is donated: 8,388,608 units */
-    SLICE = 1000,            /* microseconds for the calls of one client in one turn */
+    SLICE = 1000,            /* microseconds for the calls of a client, in each period */
     XRAY_KEY = 70,           /* Linux's codes of the keys of modes */
     KILL_KEY = 99
 };
@@ -24,6 +24,7 @@ struct client {
     uint32_t w, h;           /* of its buffer */
     bool woken;              /* it was told that events wait, and has not found none since */
     bool gone;               /* it is closed as soon as calls are served */
+    uint64_t rest;           /* it has used up its slice, and is not served before */
     bool kept;               /* the seat stands in front, and is kept for this label */
     char label[LABEL];
 };

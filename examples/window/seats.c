@@ -123,7 +123,6 @@ void seats_close(struct host *host, uint32_t seat, const char *why)
         close(client->pixels);
     if (client->process != 0)
         kill(client->process, SIGKILL);
-    client->process = 0;
 }
 
 /* Notes which processes have ended. They are children of nobody else, so a number is not used

@@ -5,9 +5,7 @@
  * click goes, what a client's call may do. Here is what a library cannot do: a window, the
  * devices, processes and their sockets.
  *
- *     window [--size=WxH] [--xray=KEY] [--kill=KEY] [^]NAME=PROGRAM ...
- *
- * README.md says what the words do. */
+ *     window [--size=WxH] [--xray=KEY] [--kill=KEY] [^]NAME=PROGRAM ... (see README.md) */
 #include "host.h"
 #include <SDL_syswm.h>
 #include <poll.h>
@@ -105,22 +103,25 @@ static bool open_signals(struct host *host)
 
 /* ---- A turn */
 
-/* Waits for devices, signals, the control line and clients, and for the time of the next look
- * where one is due. While the host is frozen the control line and clients wake nobody. */
+/* Waits for devices, signals, the control line and clients, for the next look where one is due,
+ * and for clients that rest. While the host is frozen the control line and clients wake nobody. */
 static void wait_for_any(struct host *host)
 {
     bool served = !frozen(host);
     int control = served && host->listens ? STDIN_FILENO : -1;
     struct pollfd any[3 + SEATS] = { { host->display, POLLIN, 0 }, { host->signals, POLLIN, 0 },
                                      { control, POLLIN, 0 } };
-    for (int seat = 0; seat < SEATS; seat++)
-        any[3 + seat] = (struct pollfd){ served ? host->clients[seat].socket : -1, POLLIN, 0 };
+    uint64_t time = now(), next = host->changed ? host->next : UINT64_MAX;
+    for (int seat = 0; seat < SEATS; seat++) {
+        const struct client *client = &host->clients[seat];
+        bool rests = client->rest > time;
+        any[3 + seat] = (struct pollfd){ served && !rests ? client->socket : -1, POLLIN, 0 };
+        if (served && rests)
+            next = SDL_min(next, client->rest);
+    }
+    int wait = next == UINT64_MAX ? -1 : (int)((SDL_max(next, time) - time + 999) / 1000);
     SDL_PumpEvents();
-    uint64_t time = now();
-    int wait = host->changed ? (int)((host->next - SDL_min(time, host->next) + 999) / 1000) : -1;
-    if (SDL_HasEvents(SDL_FIRSTEVENT, SDL_LASTEVENT))
-        wait = 0;
-    poll(any, 3 + SEATS, wait);
+    poll(any, 3 + SEATS, SDL_HasEvents(SDL_FIRSTEVENT, SDL_LASTEVENT) ? 0 : wait);
     if (any[2].revents != 0)
         seats_control(host);
 }
@@ -133,16 +134,17 @@ static void read_signals(struct host *host)
     seats_reap(host);
 }
 
-/* Shows what has changed, at the display's rate. */
+/* Shows what has changed, at the display's rate and for half of the time at most. */
 static void show(struct host *host)
 {
-    if (!host->changed || now() < host->next)
+    uint64_t begin = now();
+    if (!host->changed || begin < host->next)
         return;
-    size_t count = (size_t)host->picture->w * (size_t)host->picture->h;
-    struct nit_rect part = nit_look(&host->server, host->frame, count);
+    struct nit_rect part = nit_look(&host->server, host->frame,
+                                    (size_t)(host->picture->w * host->picture->h));
     SDL_Rect from = { (int)part.x, (int)part.y, (int)part.w, (int)part.h }, to = from;
     host->changed = false;
-    host->next = now() + host->period;
+    host->next = SDL_max(begin + host->period, 2 * now() - begin);
     if (part.w == 0)
         return;
     SDL_BlitSurface(host->picture, &from, SDL_GetWindowSurface(host->window), &to);
@@ -164,9 +166,7 @@ static void close_all(struct host *host)
         if (host->clients[seat].socket >= 0)
             seats_close(host, seat, "the host ends");
     nit_close(&host->server);
-    close(host->signals);
     SDL_FreeSurface(host->picture);
-    SDL_DestroyWindow(host->window);
     SDL_free(host->frame);
     SDL_Quit();
 }
