@@ -341,6 +341,7 @@ def pictures(screen, programs):
         screen.user("key Print")
         bar(screen, "kill:game")
         screen.picture(HERE / "kill.png")
+        screen.user("key Print")
 
 
 def measure(screen, programs):

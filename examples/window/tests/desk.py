@@ -180,7 +180,11 @@ class Host:
     def end(self):
         """Ends the host by its control line. It has to end well, and say nothing of errors."""
         self.tell("quit")
-        status = self.process.wait(60)
+        try:
+            status = self.process.wait(60)
+        except subprocess.TimeoutExpired:
+            self.process.kill()
+            raise Wrong("the host does not end") from None
         if status != 0 or self.errors:
             raise Wrong(f"the host ends with {status}: {self.errors[:40]}")
 
