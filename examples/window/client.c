@@ -7,6 +7,7 @@
 #include <string.h>
 #include <sys/mman.h>
 #include <sys/socket.h>
+#include <time.h>
 #include <unistd.h>
 
 /* ---- Messages */
@@ -116,9 +117,8 @@ bool client_destroy(uint32_t view)
     return done((struct call){ .call = CALL_DESTROY, .view = view });
 }
 
-bool client_refresh(struct client *client, int32_t x, int32_t y, uint32_t w, uint32_t h)
+bool client_refresh(int32_t x, int32_t y, uint32_t w, uint32_t h)
 {
-    (void)client;
     return done((struct call){ CALL_REFRESH, 0, x, y, w, h, 0, "" });
 }
 
@@ -139,6 +139,13 @@ bool client_wait(struct client *client, int milliseconds)
         return true;
     woken = false;
     return client_wait(client, milliseconds);
+}
+
+int64_t client_time(void)
+{
+    struct timespec time;
+    clock_gettime(CLOCK_MONOTONIC, &time);
+    return (int64_t)time.tv_sec * 1000 + time.tv_nsec / 1000000;
 }
 
 /* ---- Drawing */

@@ -10,7 +10,6 @@
 struct client {
     uint32_t *words;
     uint32_t w, h;
-    bool woken;
     struct nit_event event;   /* the last one that was taken */
 };
 
@@ -28,11 +27,14 @@ bool client_title(uint32_t view, const char *title);
 bool client_destroy(uint32_t view);
 
 /* Shows what was drawn in this part of the buffer. */
-bool client_refresh(struct client *client, int32_t x, int32_t y, uint32_t w, uint32_t h);
+bool client_refresh(int32_t x, int32_t y, uint32_t w, uint32_t h);
 
 /* Waits for an event so many milliseconds at most, or for ever below 0. True where there is one,
  * in `event`. */
 bool client_wait(struct client *client, int milliseconds);
+
+/* Milliseconds of a clock that only goes forward. */
+int64_t client_time(void);
 
 /* Draws a rectangle, of which only the part in the buffer is drawn. */
 void client_fill(struct client *client, int32_t x, int32_t y, int32_t w, int32_t h,

@@ -14,7 +14,7 @@ static void draw(struct client *client)
     strftime(text, sizeof text, "%H:%M:%S", &parts);
     client_fill(client, 0, 0, WIDTH, HEIGHT, 0x101820);
     client_text(client, 8, 8, 3, text, 0x60D0FF);
-    client_refresh(client, 0, 0, WIDTH, HEIGHT);
+    client_refresh(0, 0, WIDTH, HEIGHT);
 }
 
 int main(void)
@@ -24,8 +24,13 @@ int main(void)
     if (view == 0 || !client_buffer(&client, WIDTH, HEIGHT))
         return 1;
     client_place(view, 8, 12, WIDTH, HEIGHT);
-    draw(&client);
-    for (;;)
-        if (!client_wait(&client, 500))
+    for (int64_t next = client_time();;) {
+        int64_t left = next - client_time();
+        if (left <= 0) {
             draw(&client);
+            next = client_time() + 500;
+        } else {
+            client_wait(&client, (int)left);
+        }
+    }
 }

@@ -16,7 +16,7 @@ static void move(struct game *game)
 {
     struct client *client = &game->client;
     client_fill(client, game->x, game->y, 8, 8, 0x204020);
-    client_refresh(client, game->x, game->y, 8, 8);
+    client_refresh(game->x, game->y, 8, 8);
     game->x += game->across;
     game->y += game->down;
     if (game->x <= 0 || game->x >= WIDTH - 8)
@@ -24,7 +24,7 @@ static void move(struct game *game)
     if (game->y <= 40 || game->y >= HEIGHT - 24)
         game->down = -game->down;
     client_fill(client, game->x, game->y, 8, 8, 0xFFFFFF);
-    client_refresh(client, game->x, game->y, 8, 8);
+    client_refresh(game->x, game->y, 8, 8);
 }
 
 static void bat(struct game *game, int32_t by)
@@ -33,7 +33,7 @@ static void bat(struct game *game, int32_t by)
     game->bat = to < 0 ? 0 : to > WIDTH - BAT ? WIDTH - BAT : to;
     client_fill(&game->client, 0, HEIGHT - 12, WIDTH, 6, 0x204020);
     client_fill(&game->client, game->bat, HEIGHT - 12, BAT, 6, 0xC0C0C0);
-    client_refresh(&game->client, 0, HEIGHT - 12, WIDTH, 6);
+    client_refresh(0, HEIGHT - 12, WIDTH, 6);
 }
 
 /* The copy stands in the rows of the buffer below the board. */
@@ -47,7 +47,7 @@ static void cheat(struct game *game)
     game->dots = 0;
     game->copy = client_view();
     prompt_draw(&game->client, HEIGHT);
-    client_refresh(&game->client, 0, HEIGHT, PROMPT_WIDTH, PROMPT_HEIGHT);
+    client_refresh(0, HEIGHT, PROMPT_WIDTH, PROMPT_HEIGHT);
     client_title(game->copy, "log in");
     client_offset(game->copy, 0, -HEIGHT);
     client_place(game->copy, 300, 80, PROMPT_WIDTH, PROMPT_HEIGHT);
@@ -61,7 +61,7 @@ static void press(struct game *game, uint32_t code)
         bat(game, code == 105 ? -20 : 20);
     else if (game->copy != 0 && client_letter(code) && game->dots < 18) {
         prompt_field(&game->client, HEIGHT, ++game->dots);
-        client_refresh(&game->client, 16, HEIGHT + PROMPT_FIELD, 160, 20);
+        client_refresh(16, HEIGHT + PROMPT_FIELD, 160, 20);
     }
 }
 
@@ -76,12 +76,17 @@ int main(void)
     client_fill(client, 0, 0, WIDTH, 24, 0x602020);
     client_text(client, 8, 7, 2, "game", 0xFFFFFF);
     bat(&game, 0);
-    client_refresh(client, 0, 0, WIDTH, HEIGHT);
+    client_refresh(0, 0, WIDTH, HEIGHT);
     client_title(view, "board");
     client_place(view, 200, 230, WIDTH, HEIGHT);
-    for (;;)
-        if (!client_wait(client, TICK))
+    for (int64_t next = client_time();;) {
+        int64_t left = next - client_time();
+        if (left <= 0) {
             move(&game);
-        else if (client->event.kind == NIT_PRESS && client->event.code < 272)
+            next = client_time() + TICK;
+        } else if (client_wait(client, (int)left) && client->event.kind == NIT_PRESS &&
+                   client->event.code < 272) {
             press(&game, client->event.code);
+        }
+    }
 }

@@ -9,7 +9,7 @@ int main(void)
     if (view == 0 || !client_buffer(&client, PROMPT_WIDTH, PROMPT_HEIGHT))
         return 1;
     prompt_draw(&client, 0);
-    client_refresh(&client, 0, 0, PROMPT_WIDTH, PROMPT_HEIGHT);
+    client_refresh(0, 0, PROMPT_WIDTH, PROMPT_HEIGHT);
     client_place(view, 60, 80, PROMPT_WIDTH, PROMPT_HEIGHT);
     while (client_wait(&client, -1)) {
         uint32_t code = client.event.code;
@@ -22,7 +22,7 @@ int main(void)
         else if (client_letter(code) && dots < 18)
             dots++;
         prompt_field(&client, 0, dots);
-        client_refresh(&client, 16, PROMPT_FIELD, 160, 20);
+        client_refresh(16, PROMPT_FIELD, 160, 20);
     }
     return 0;
 }

@@ -34,7 +34,7 @@ static void draw(struct pad *pad, int32_t number)
         client_text(client, 6 + (int32_t)(at % COLUMNS) * 8,
                     top + BAR + 4 + (int32_t)(at / COLUMNS) * 14, 2, letter, 0x202020);
     }
-    client_refresh(client, 0, top, WIDTH, HEIGHT);
+    client_refresh(0, top, WIDTH, HEIGHT);
 }
 
 static void place(struct note *note)

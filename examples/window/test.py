@@ -19,7 +19,7 @@ import time
 
 HERE = Path(__file__).resolve().parent
 sys.path.insert(0, str(HERE / "tests"))
-from desk import Host, Screen, Wrong, until  # noqa: E402
+from desk import Host, Screen, Wrong, text, until  # noqa: E402
 from hostile import MISDEEDS  # noqa: E402
 
 BARE, WHITE = 0x000020, 0xFFFFFF
@@ -27,10 +27,6 @@ BLUE, PAPER, BOARD, ACTIVE = 0x304878, 0xD8D8D0, 0x602020, 0xC08020
 PROMPT, COPY, BALL = (60, 80, 192, 112), (300, 80, 192, 112), (200, 260, 360, 170)
 TOGGLE = (40, 730)
 DESK = ["^clock=./clock", "login=./login", "game=./game", "pad=./pad"]
-GLYPHS = dict(zip("0123456789abcdefghijklmnopqrstuvwxyz-._: ", (
-    "75557 26227 71747 71717 55711 74717 74757 71111 75757 75717 25755 65656 34443 65556 74647 "
-    "74644 34553 55755 72227 11152 55655 44447 57755 65555 25552 65644 25563 65665 34216 72222 "
-    "55557 55552 55775 55255 55222 71247 00700 00002 00007 02020 00000").split()))
 
 
 # ---- What the cases ask
@@ -40,17 +36,6 @@ def check(what, holds):
     """Something holds, or the case ends."""
     if not holds:
         raise Wrong(what)
-
-
-def text(words):
-    """The picture of a text: 7 rows of words."""
-    rows = [[0] * (4 * len(words) + 1) for _ in range(7)]
-    for at, sign in enumerate(words):
-        for row in range(5):
-            for dot in range(3):
-                if int(GLYPHS[sign][row]) & (4 >> dot):
-                    rows[row + 1][4 * at + dot + 1] = WHITE
-    return rows
 
 
 def shows(screen, x, y, words):
@@ -183,9 +168,9 @@ def case_phishing(screen, programs):
 
 def case_frozen(screen, programs):
     """In kill mode nobody comes, and nobody's views go before the click."""
-    with Host(screen, programs, DESK) as host:
+    with Host(screen, programs, ["--kill=F12", *DESK]) as host:
         begun(screen)
-        screen.user("key Print")
+        screen.user("key F12")
         bar(screen, "kill")
         host.tell("+late=./login")
         os.kill(host.clients()["game"][0], signal.SIGKILL)
@@ -323,6 +308,18 @@ def case_idle(screen, programs):
         before = host.ticks()
         time.sleep(3)
         check("no time of processors", host.ticks() == before)
+
+
+def case_signal(screen, programs):
+    """A signal ends the host well, also in kill mode, and its clients with it."""
+    with Host(screen, programs, DESK) as host:
+        begun(screen)
+        screen.user("key Print")
+        bar(screen, "kill")
+        numbers = sum(host.clients().values(), [])
+        host.process.send_signal(signal.SIGTERM)
+        host.says("window: pad: the host ends")
+        until("all are gone", lambda: not any(Path(f"/proc/{it}").exists() for it in numbers))
 
 
 # ---- All of it

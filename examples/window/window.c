@@ -140,8 +140,8 @@ static void show(struct host *host)
     uint64_t begin = now();
     if (!host->changed || begin < host->next)
         return;
-    struct nit_rect part = nit_look(&host->server, host->frame,
-                                    (size_t)(host->picture->w * host->picture->h));
+    size_t count = (size_t)(host->picture->w * host->picture->h);
+    struct nit_rect part = nit_look(&host->server, host->frame, count);
     SDL_Rect from = { (int)part.x, (int)part.y, (int)part.w, (int)part.h }, to = from;
     host->changed = false;
     host->next = SDL_max(begin + host->period, 2 * now() - begin);
@@ -150,8 +150,6 @@ static void show(struct host *host)
     SDL_BlitSurface(host->picture, &from, SDL_GetWindowSurface(host->window), &to);
     SDL_UpdateWindowSurfaceRects(host->window, &from, 1);
 }
-
-/* ---- All of it */
 
 static int refuse(const char *why)
 {

@@ -13,6 +13,11 @@ XTEST = ctypes.CDLL("libXtst.so.6")
 EVERY_PLANE = 0xFFFFFFFF
 WHOLE_PIXELS = 2
 WIDTH, HEIGHT = 1024, 768
+WHITE = 0xFFFFFF
+GLYPHS = dict(zip("0123456789abcdefghijklmnopqrstuvwxyz-._: ", (
+    "75557 26227 71747 71717 55711 74717 74757 71111 75757 75717 25755 65656 34443 65556 74647 "
+    "74644 34553 55755 72227 11152 55655 44447 57755 65555 25552 65644 25563 65665 34216 72222 "
+    "55557 55552 55775 55255 55222 71247 00700 00002 00007 02020 00000").split()))
 
 
 class Functions(ctypes.Structure):
@@ -179,7 +184,10 @@ class Host:
 
     def end(self):
         """Ends the host by its control line. It has to end well, and say nothing of errors."""
-        self.tell("quit")
+        try:
+            self.tell("quit")
+        except BrokenPipeError:
+            pass
         try:
             status = self.process.wait(60)
         except subprocess.TimeoutExpired:
@@ -196,3 +204,14 @@ def until(what, holds, seconds=20):
         if time.monotonic() > end:
             raise Wrong(f"not after {seconds} seconds: {what}")
         time.sleep(0.01)
+
+
+def text(words):
+    """The picture of a text: 7 rows of words."""
+    rows = [[0] * (4 * len(words) + 1) for _ in range(7)]
+    for at, sign in enumerate(words):
+        for row in range(5):
+            for dot in range(3):
+                if int(GLYPHS[sign][row]) & (4 >> dot):
+                    rows[row + 1][4 * at + dot + 1] = WHITE
+    return rows

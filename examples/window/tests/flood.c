@@ -17,7 +17,7 @@ int main(void)
         return 1;
     client_place(view, 500, 500, SIDE, SIDE);
     client_fill(&client, 0, 0, SIDE, SIDE, 0xA02020);
-    client_refresh(&client, 0, 0, SIDE, SIDE);
+    client_refresh(0, 0, SIDE, SIDE);
     for (uint32_t sent = 0;; sent++) {
         client_fill(&client, 0, 0, 16, 16, sent);
         if (write(PROTOCOL_SOCKET, &refresh, sizeof refresh) < 0)

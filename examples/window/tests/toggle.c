@@ -12,7 +12,7 @@ int main(void)
     client_place(view, 10, 700, 64, 64);
     for (;;) {
         client_fill(&client, 0, 0, 64, 64, colours[keys % 2]);
-        client_refresh(&client, 0, 0, 64, 64);
+        client_refresh(0, 0, 64, 64);
         while (!client_wait(&client, -1) || client.event.kind != NIT_PRESS ||
                client.event.code >= 272)
             continue;
