@@ -292,11 +292,12 @@ def case_misdeeds(screen, programs):
             check(f"{misdeed}: {said}", ": closed" in said)
             until(f"{misdeed}: its process ends", lambda: len(host.clients()) == 1)
             typing(screen, 1)
-        descriptors = len(os.listdir(f"/proc/{host.process.pid}/fd"))
+        def descriptors():
+            return len(os.listdir(f"/proc/{host.process.pid}/fd"))
+        before = descriptors()
         host.tell(f"+evil={program(folder, 'two-memories')}")
         host.says("window: evil:")
-        check("no descriptor is left",
-              len(os.listdir(f"/proc/{host.process.pid}/fd")) == descriptors)
+        until("no descriptor is left", lambda: descriptors() == before)
 
 
 def case_idle(screen, programs):
