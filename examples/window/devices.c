@@ -1,0 +1,83 @@
+/* What the user does with mouse and keys, as the library's device events. Not proved. */
+#include "host.h"
+
+enum { CODES = 256, FIRST_BUTTON = 272 };
+
+/* Linux's codes of keys by USB's, which are SDL's. */
+static uint16_t codes[CODES] = {
+    0, 0, 0, 0, 30, 48, 46, 32, 18, 33, 34, 35, 23, 36, 37, 38, 50, 49, 24, 25, 16, 19, 31, 20,
+    22, 47, 17, 45, 21, 44, 2, 3, 4, 5, 6, 7, 8, 9, 10, 11, 28, 1, 14, 15, 57, 12, 13, 26,
+    27, 43, 43, 39, 40, 41, 51, 52, 53, 58, 59, 60, 61, 62, 63, 64, 65, 66, 67, 68, 87, 88,
+    KILL_KEY, XRAY_KEY, 119, 110, 102, 104, 111, 107, 109, 106, 105, 108, 103, 69, 98, 55, 74,
+    78, 96, 79, 80, 81, 75, 76, 77, 71, 72, 73, 82, 83, 86, 127, 116, 117,
+    [224] = 29, 42, 56, 125, 97, 54, 100, 126
+};
+
+/* The key that SDL calls so has this code. False where there is no such key. */
+bool devices_name(const char *key, uint16_t code)
+{
+    int scancode = SDL_GetScancodeFromName(key);
+    if (scancode == SDL_SCANCODE_UNKNOWN || scancode >= CODES)
+        return false;
+    codes[scancode] = code;
+    return true;
+}
+
+/* A key or a button goes down or up, where the table has it. Only buttons and the two keys of
+ * modes change the picture. */
+static struct nit_routed code_event(struct host *host, uint32_t code, bool down)
+{
+    if (code == 0)
+        return (struct nit_routed){ 0 };
+    host->changed |= down && (code >= FIRST_BUTTON || code == XRAY_KEY || code == KILL_KEY);
+    return down ? nit_press(&host->server, code) : nit_release(&host->server, code);
+}
+
+static uint32_t key_code(const SDL_KeyboardEvent *event)
+{
+    int scancode = event->keysym.scancode;
+    return event->repeat || scancode >= CODES ? 0 : codes[scancode];
+}
+
+static uint32_t button_code(const SDL_MouseButtonEvent *event)
+{
+    static const uint16_t buttons[] = { 0, 272, 274, 273, 275, 276 };
+    return event->button < sizeof buttons / sizeof *buttons ? buttons[event->button] : 0;
+}
+
+/* Tells the library, and answers to whom the event went: to nobody where it is none of a device. */
+static struct nit_routed device_event(struct host *host, const SDL_Event *event)
+{
+    switch (event->type) {
+    case SDL_KEYDOWN:
+    case SDL_KEYUP:
+        return code_event(host, key_code(&event->key), event->type == SDL_KEYDOWN);
+    case SDL_MOUSEBUTTONDOWN:
+    case SDL_MOUSEBUTTONUP:
+        return code_event(host, button_code(&event->button),
+                          event->type == SDL_MOUSEBUTTONDOWN);
+    case SDL_MOUSEMOTION:
+        return nit_motion(&host->server, (uint32_t)SDL_clamp(event->motion.x, 0, 65535),
+                          (uint32_t)SDL_clamp(event->motion.y, 0, 65535));
+    case SDL_MOUSEWHEEL:
+        return nit_wheel(&host->server, SDL_clamp(event->wheel.y, -127, 127));
+    case SDL_WINDOWEVENT:
+        if (event->window.event == SDL_WINDOWEVENT_EXPOSED)
+            SDL_UpdateWindowSurface(host->window);
+        break;
+    case SDL_QUIT:
+        host->over = true;
+        break;
+    }
+    return (struct nit_routed){ 0 };
+}
+
+/* All that the devices did since the last turn, in its order. */
+void devices_read(struct host *host)
+{
+    SDL_Event event;
+    while (SDL_PollEvent(&event)) {
+        struct nit_routed routed = device_event(host, &event);
+        seats_deliver(host, &routed);
+    }
+}

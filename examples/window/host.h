@@ -1,0 +1,64 @@
+/* The parts of the host, which is an example and not proved: see window.c. */
+#ifndef HOST_H
+#define HOST_H
+
+#include <SDL.h>
+#include <nitpicker.h>
+#include <stdbool.h>
+
+enum {
+    SEATS = 16,
+    LABEL = 21,              /* a label and its 0 */
+    DONATION = 4194304,      /* units of each seat */
+    MOST_WORDS = 1048576,    /* of a buffer, whatever is donated: 8,388,608 units */
+    SLICE = 1000,            /* microseconds for the calls of a client, in each period */
+    XRAY_KEY = 70,           /* Linux's codes of the keys of modes */
+    KILL_KEY = 99
+};
+
+/* Who sits on a seat. Nobody does where `socket` is -1. */
+struct client {
+    int socket;
+    pid_t process;           /* 0 where it has ended already */
+    int pixels;              /* the client's memfd, or -1 */
+    uint32_t w, h;           /* of its buffer */
+    bool woken;              /* it was told that events wait, and has not found none since */
+    bool gone;               /* it is closed as soon as calls are served */
+    uint64_t rest;           /* it has used up its slice, and is not served before */
+    bool kept;               /* the seat stands in front, and is kept for this label */
+    char label[LABEL];
+};
+
+struct host {
+    struct nit_server server;
+    struct client clients[SEATS];
+    uint32_t words[MOST_WORDS]; /* the part that a client refreshes is copied to its place here */
+
+    SDL_Window *window;
+    SDL_Surface *picture;    /* over `frame` */
+    uint32_t *frame;         /* as the last look left it */
+    int display;             /* the descriptor of the window system */
+    bool changed;            /* a look may find something */
+    uint64_t period, next;   /* microseconds between two looks; when the next may be */
+    int signals;             /* a descriptor that tells of SIGCHLD, SIGTERM and SIGINT */
+    bool listens;            /* the control line is open */
+    bool over;
+};
+
+/* Microseconds of a clock that only goes forward. */
+uint64_t now(void);
+
+/* True where no client is served: what the user points at stays where it is. */
+bool frozen(struct host *host);
+
+/* In devices.c, seats.c and calls.c. */
+bool devices_name(const char *key, uint16_t code);
+void devices_read(struct host *host);
+void seats_start(struct host *host, const char *word);
+void seats_close(struct host *host, uint32_t seat, const char *why);
+void seats_reap(struct host *host);
+void seats_deliver(struct host *host, const struct nit_routed *routed);
+void seats_control(struct host *host);
+void calls_serve(struct host *host);
+
+#endif
