@@ -82,7 +82,7 @@ enum nit_answer {
     NIT_BAD_DEVICE = 37,      /* a code over 767, a place over 65,535, a turn beyond 127 */
     NIT_SHORT_WORDS = 38,     /* fewer words than the client's buffer has */
     NIT_WRONG_FRAME = 39,     /* another number of words than the screen has pixels */
-    NIT_HANDLES_USED_UP = 40, /* the client has made 4,294,967,294 views: it is served no more */
+    NIT_HANDLES_USED_UP = 40, /* nit_view alone: the client has made 4,294,967,293 views */
     NIT_WORN_OUT = 41,        /* the server has done its 2^62 steps */
     NIT_NO_MEMORY = 42,       /* malloc answered NULL */
     NIT_IS_OPEN = 43,         /* the handle has a server */
@@ -244,8 +244,8 @@ uint32_t nit_seat_for(struct nit_server *server, const char *label, size_t lengt
 
 /* ---- Calls of a client
  *
- * The client of the seat `seat` asks for this. Where one of NIT_NO_SERVER, NIT_NO_SEAT,
- * NIT_HANDLES_USED_UP and NIT_WORN_OUT applies, the first of them is answered, and its session is
+ * The client of the seat `seat` asks for this. Where one of NIT_NO_SERVER, NIT_NO_SEAT, what
+ * stands at the call, and NIT_WORN_OUT applies, the first of them is answered, and its session is
  * not asked. Else it is a step, and the answer is the reply of docs/RULES.md; for a refusal the
  * first that applies of NIT_SESSION_CLOSED or NIT_SESSION_KILLED, NIT_NO_SUCH_VIEW, NIT_BAD_RECT,
  * NIT_BAD_SIZE, NIT_BAD_TITLE, NIT_TOO_MANY_VIEWS, NIT_OUT_OF_QUOTA, NIT_NO_RESERVE. Any number
@@ -256,7 +256,8 @@ uint32_t nit_seat_for(struct nit_server *server, const char *label, size_t lengt
  * client refreshes all of its buffer next. */
 struct nit_reply nit_buffer(struct nit_server *server, uint32_t seat, uint32_t w, uint32_t h);
 
-/* A new view, in front of its layer, with the rectangle (0, 0, 0, 0). Answers NIT_HANDLE. */
+/* A new view, in front of its layer, with the rectangle (0, 0, 0, 0). Answers NIT_HANDLE, or
+ * NIT_HANDLES_USED_UP where no more can be made: nit_leave and nit_seat begin anew. */
 struct nit_reply nit_view(struct nit_server *server, uint32_t seat);
 
 /* The view has this rectangle of the screen; x and y -32768..32767, w and h 0..32767. */

@@ -56,7 +56,7 @@ pub enum Refusal {
     ShortWords,
     /// There is another number of words than the screen has pixels.
     WrongFrame,
-    /// The client has made 4,294,967,294 views: it is served no more.
+    /// The client asks for a view, and has made 4,294,967,293 of them.
     HandlesUsedUp,
     /// The server has done its 2^62 steps.
     WornOut,

@@ -32,8 +32,9 @@ pub struct SeatState {
 /// A seat of a server. Its methods are the calls of the client that sits there; they go by the
 /// rules of `docs/RULES.md`.
 ///
-/// Each may be refused with [`Refusal::NoSeat`], [`Refusal::HandlesUsedUp`], [`Refusal::WornOut`],
-/// [`Refusal::Closed`] and [`Refusal::Killed`], beside what stands at the call.
+/// Each may be refused with [`Refusal::NoSeat`], [`Refusal::WornOut`], [`Refusal::Closed`] and
+/// [`Refusal::Killed`], beside what stands at the call; [`Seat::view`] with
+/// [`Refusal::HandlesUsedUp`] too.
 #[derive(Debug)]
 pub struct Seat<'a> {
     server: &'a mut raw::Server,
