@@ -1,6 +1,9 @@
 -- Worked rows of rounds, and of what they draw, computed from the definitions.
 use Rattle.std.proofs.Common.{List, [], false, map, pos, refl, take, true, ℕ, ◌∷◌, ◌≡◌}
-use Rattle.nit_actor.proofs.Basics.{Acts, Buffer, Calls, Client, Configuration, Does, Fill, InputLine, Line, Motion, Refresh, Shoots, User, actions_of_turns, bare_word, range_with_len, rounds, shot_file, shot_name, turn_of}
+use Rattle.nit_actor.proofs.Basics.{Acts, Buffer, Calls, Client, Configuration, Does, Fill}
+use Rattle.nit_actor.proofs.Basics.{InputLine, Line, Motion, Refresh, Shoots, User}
+use Rattle.nit_actor.proofs.Basics.{actions_of_turns, bare_word, range_with_len, rounds, shot_file}
+use Rattle.nit_actor.proofs.Basics.{shot_name, turn_of}
 use Rattle.nit_actor.specs.Drawing.{drawn}
 use Rattle.nit_journal.specs.Session.{serve}
 use Rattle.nit_journal.specs.StackAfter.{stack_after_call}
@@ -13,11 +16,13 @@ use Rattle.nit_script.specs.declared.line.InputLine.TheVariants as input
 -- ---- one actor acts in each phase
 
 first_script : List Line
-first_script = line.Call (Buffer 4 2) ∷ line.Stroke (Fill 0 0 4 2 0xFF0000) ∷ line.Call View ∷ line.Call (Place 1 (pos 0) (pos 0) 4 2) ∷ line.Phase ∷ line.Phase ∷ line.Phase ∷ []
+first_script = line.Call (Buffer 4 2) ∷ line.Stroke (Fill 0 0 4 2 0xFF0000) ∷ line.Call View
+    ∷ line.Call (Place 1 (pos 0) (pos 0) 4 2) ∷ line.Phase ∷ line.Phase ∷ line.Phase ∷ []
 
 second_script : List Line
 second_script =
-    line.Phase ∷ line.Call (Buffer 4 2) ∷ line.Stroke (Fill 0 0 4 2 0xFF) ∷ line.Call View ∷ line.Call (Place 1 (pos 0) (pos 0) 4 2) ∷ line.Phase ∷ line.Phase
+    line.Phase ∷ line.Call (Buffer 4 2) ∷ line.Stroke (Fill 0 0 4 2 0xFF) ∷ line.Call View
+    ∷ line.Call (Place 1 (pos 0) (pos 0) 4 2) ∷ line.Phase ∷ line.Phase
     ∷ line.Call (Place 1 (pos 4) (pos 2) 4 2) ∷ []
 
 shot_script : List InputLine
@@ -56,7 +61,8 @@ unfolding long_first long_second one_motion
 waiting_turns = refl
 
 waiting_acts : actions_of_turns (rounds (long_first ∷ long_second ∷ []) one_motion)
-    ≡ Calls 0 View ∷ Calls 0 View ∷ Calls 0 View ∷ Calls 1 View ∷ Acts (Does (Motion 1 1)) ∷ Calls 1 View ∷ Calls 1 View ∷ []
+    ≡ Calls 0 View ∷ Calls 0 View ∷ Calls 0 View ∷ Calls 1 View ∷ Acts (Does (Motion 1 1)) ∷ Calls 1 View ∷ Calls 1 View
+    ∷ []
 unfolding long_first long_second one_motion
 waiting_acts = refl
 
@@ -69,24 +75,37 @@ nothing = refl
 
 -- a screen of 3 by 1
 abbrev small : Configuration
-small = record { width = 3; height = 1; bar = false; input = []; clients = record { label = []; donation = 512; script = []; layer = 0; clicks = true } ∷ [] }
+small = record {
+  width = 3;
+  height = 1;
+  bar = false;
+  input = [];
+  clients =
+      record { label = []; donation = 512; script = []; layer = 0; clicks = true } ∷ [];
+}
 
--- the view shows both words of the buffer; one of them is drawn over, and seen with the next call; the last call sets both to 0
+-- the view shows both words of the buffer; one of them is drawn over, and seen with the next call; the last call sets
+-- both to 0
 abbrev drawing_script : List Line
 drawing_script =
-    line.Call (Buffer 2 1) ∷ line.Call View ∷ line.Stroke (Fill 0 0 2 1 7) ∷ line.Call (Place 1 (pos 0) (pos 0) 2 1) ∷ line.Stroke (Fill 1 0 1 1 8)
+    line.Call (Buffer 2 1) ∷ line.Call View ∷ line.Stroke (Fill 0 0 2 1 7) ∷ line.Call (Place 1 (pos 0) (pos 0) 2 1)
+    ∷ line.Stroke (Fill 1 0 1 1 8)
     ∷ line.Call (Refresh (pos 1) (pos 0) 1 1) ∷ line.Call (Buffer 2 1) ∷ []
 
 -- the words of the pixels after so many moves
 abbrev words_at : ℕ → List ℕ
-words_at k = map (drawn small (drawing_script ∷ []) (take k (rounds (drawing_script ∷ []) []))).word (range_with_len 0 3)
+words_at k = map (drawn small (drawing_script ∷ []) (take k (rounds (drawing_script ∷ []) []))).word
+    (range_with_len 0 3)
 
 words_drawn : map words_at (3 ∷ 4 ∷ 5 ∷ 6 ∷ 7 ∷ [])
-    ≡ (bare_word ∷ bare_word ∷ bare_word ∷ []) ∷ (7 ∷ 7 ∷ bare_word ∷ []) ∷ (7 ∷ 7 ∷ bare_word ∷ []) ∷ (7 ∷ 8 ∷ bare_word ∷ []) ∷ (0 ∷ 0 ∷ bare_word ∷ []) ∷ []
+    ≡ (bare_word ∷ bare_word ∷ bare_word ∷ []) ∷ (7 ∷ 7 ∷ bare_word ∷ []) ∷ (7 ∷ 7 ∷ bare_word ∷ [])
+    ∷ (7 ∷ 8 ∷ bare_word ∷ []) ∷ (0 ∷ 0 ∷ bare_word ∷ []) ∷ []
 unfolding drawn serve stack_after_call zeros stroked cleared
 words_drawn = refl
 
 -- the shots of the user are named by their numbers
-shots_named : map (λ f. (shot_file f).0) (drawn small ([] ∷ []) (rounds ([] ∷ []) (input.Shot ∷ input.Phase ∷ input.Shot ∷ []))).shots ≡ shot_name 1 ∷ shot_name 2 ∷ []
+shots_named : map (λ f. (shot_file f).0)
+    (drawn small ([] ∷ []) (rounds ([] ∷ []) (input.Shot ∷ input.Phase ∷ input.Shot ∷ []))).shots
+    ≡ shot_name 1 ∷ shot_name 2 ∷ []
 unfolding drawn
 shots_named = refl

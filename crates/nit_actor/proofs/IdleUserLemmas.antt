@@ -1,6 +1,13 @@
 -- One client and a user who does nothing, stepped together.
-use Rattle.nit_actor.proofs.Basics.{Action, Belongs, Call, Calls, Entry, Line, PassModel, Reply, Role, RoomModel, Sight, StepTogether, UserBelongs, UserPassModel, action_of, actions_to_be, after_arrival, arrived_one, call_of_line, calls_in, drop_at, idle_user, is_phase, role_of, slice_get, sum_by-cons, user_actions_from, user_actions_to_do}
-use Rattle.std.proofs.Common.{Bool, List, Option, Some, [], ap, ap₂, arith, cond, count_by, drop, false, length, length-drop, map, refl, replicate, subst, suc, sym, zero, ℕ, ◌++◌, ◌+◌, ◌∙◌, ◌∷◌, ◌≡◌, ◌≤◌}
+use Rattle.nit_actor.proofs.Basics.{Action, Belongs, Call, Calls, Entry, Line, PassModel, Reply}
+use Rattle.nit_actor.proofs.Basics.{Role, RoomModel, Sight, StepTogether, UserBelongs}
+use Rattle.nit_actor.proofs.Basics.{UserPassModel, action_of, actions_to_be, after_arrival}
+use Rattle.nit_actor.proofs.Basics.{arrived_one, call_of_line, calls_in, drop_at, idle_user}
+use Rattle.nit_actor.proofs.Basics.{is_phase, role_of, slice_get, sum_by-cons, user_actions_from}
+use Rattle.nit_actor.proofs.Basics.{user_actions_to_do}
+use Rattle.std.proofs.Common.{Bool, List, Option, Some, [], ap, ap₂, arith, cond, count_by, drop}
+use Rattle.std.proofs.Common.{false, length, length-drop, map, refl, replicate, subst, suc, sym}
+use Rattle.std.proofs.Common.{zero, ℕ, ◌++◌, ◌+◌, ◌∙◌, ◌∷◌, ◌≡◌, ◌≤◌}
 use Rattle.nit_events.specs.declared.entry.Entry.TheVariants as entry
 use Rattle.nit_script.specs.declared.line.Line.TheVariants as line
 use Rattle.nit_script.specs.declared.line.InputLine.TheVariants as input
@@ -26,7 +33,8 @@ nothing_left (l ∷ ls) zero e = absurd (omega (arith, e))
 nothing_left (l ∷ ls) (suc k) e = nothing_left ls k (omega (arith, e))
 
 -- the next line is a call, and this one
-pub at_call : (o : Option Line) (l : Line) (c : Call) → o ≡ Some l → l ≡ line.Call c → o ≡ Some (line.Call (call_of_line o))
+pub at_call : (o : Option Line) (l : Line) (c : Call) → o ≡ Some l → l ≡ line.Call c
+    → o ≡ Some (line.Call (call_of_line o))
 at_call o l c at is =
     let found : o ≡ Some (line.Call c) = at ∙ ap (λ (x : Line). Some x) is in
     found ∙ ap (λ (d : Call). Some (line.Call d)) (sym (ap call_of_line found))
@@ -36,12 +44,14 @@ at_line o l m at is = at ∙ ap (λ (x : Line). Some x) is
 
 -- ---- the idle user
 
-count_line : (l : Line) (ls : List Line) → count_by is_phase (l ∷ ls) ≡ cond {A = ℕ} (is_phase l) 1 0 + count_by is_phase ls
+count_line : (l : Line) (ls : List Line)
+    → count_by is_phase (l ∷ ls) ≡ cond {A = ℕ} (is_phase l) 1 0 + count_by is_phase ls
 count_line l ls = sum_by-cons _ l ls
 
 pub idle_on : (l : Line) (ls : List Line) → is_phase l ≡ false → idle_user (l ∷ ls) ≡ idle_user ls
 idle_on l ls other =
-    let n : count_by is_phase (l ∷ ls) ≡ count_by is_phase ls = count_line l ls ∙ ap (λ (b : Bool). cond {A = ℕ} b 1 0 + count_by is_phase ls) other ∙ omega arith in
+    let n : count_by is_phase (l ∷ ls) ≡ count_by is_phase ls = count_line l ls
+    ∙ ap (λ (b : Bool). cond {A = ℕ} b 1 0 + count_by is_phase ls) other ∙ omega arith in
     ap (λ (k : ℕ). replicate k input.Phase) n
 
 pub idle_phase : (ls : List Line) → idle_user (line.Phase ∷ ls) ≡ input.Phase ∷ idle_user ls
@@ -51,15 +61,24 @@ idle_phase ls =
 
 -- ---- one line of the client's
 
-pub step_on : (r r' : RoomModel) (p p' : PassModel) (u : UserPassModel) (l : Line) (met : ℕ) (seen : List Entry) (sight : Sight)
+pub step_on : (r r' : RoomModel) (p p' : PassModel) (u : UserPassModel) (l : Line) (met : ℕ) (seen : List Entry)
+    (sight : Sight)
     → StepTogether r p u → slice_get p.script p.next ≡ Some l → is_phase l ≡ false
-    → r'.parts ≡ r.parts → r'.phase ≡ r.phase → r'.arrived ≡ r.arrived → p' ≡ record p { next = p.next + 1; met = met; seen = seen; sight = sight } → StepTogether r' p' u
+    → r'.parts ≡ r.parts → r'.phase ≡ r.phase → r'.arrived ≡ r.arrived
+    → p' ≡ record p { next = p.next + 1; met = met; seen = seen; sight = sight } → StepTogether r' p' u
 step_on r r' p p' u l met seen sight s at other parts phase arrived is =
     subst (λ (q : PassModel). StepTogether r' q u) (sym is)
     (record {
       one = ap (λ x. length x.scripts) parts ∙ s.one;
-      belongs = subst (λ x. Belongs x (record p { next = p.next + 1; met = met; seen = seen; sight = sight })) (sym parts)
-          (record { name = s.belongs.name; script = s.belongs.script; plan = s.belongs.plan; donation = s.belongs.donation });
+      belongs = subst (λ x. Belongs x (record p { next = p.next + 1; met = met; seen = seen; sight = sight }))
+          (sym parts)
+          (record {
+            name = s.belongs.name;
+            script = s.belongs.script;
+            plan = s.belongs.plan;
+            donation =
+                s.belongs.donation;
+          });
       user_belongs = subst (λ x. UserBelongs x u) (sym parts) s.user_belongs;
       phase = s.phase ∙ sym phase;
       user_phase = s.user_phase ∙ sym phase;
@@ -70,70 +89,107 @@ step_on r r' p p' u l met seen sight s at other parts phase arrived is =
 -- ---- the end of a phase
 
 -- the user is at a line that ends a phase too
-pub user_at_phase : (r : RoomModel) (p : PassModel) (u : UserPassModel) → StepTogether r p u → slice_get p.script p.next ≡ Some line.Phase → slice_get u.input u.next ≡ Some input.Phase
+pub user_at_phase : (r : RoomModel) (p : PassModel) (u : UserPassModel) → StepTogether r p u
+    → slice_get p.script p.next ≡ Some line.Phase → slice_get u.input u.next ≡ Some input.Phase
 user_at_phase r p u s at =
-    first_left u.next u.input input.Phase (idle_user (drop (p.next + 1) p.script)) (s.idle ∙ ap idle_user (drop_at p.script p.next line.Phase at) ∙ idle_phase (drop (p.next + 1) p.script))
+    first_left u.next u.input input.Phase (idle_user (drop (p.next + 1) p.script))
+    (s.idle ∙ ap idle_user (drop_at p.script p.next line.Phase at) ∙ idle_phase (drop (p.next + 1) p.script))
 
 one_arrived : (n phase arrived : ℕ) → n ≡ 1 → arrived ≡ 0 → after_arrival n phase arrived ≡ (phase, 1)
-one_arrived n phase arrived one none = ap (λ (x : ℕ). after_arrival x phase arrived) one ∙ ap (λ (x : ℕ). after_arrival 1 phase x) none
+one_arrived n phase arrived one none = ap (λ (x : ℕ). after_arrival x phase arrived) one
+    ∙ ap (λ (x : ℕ). after_arrival 1 phase x) none
 
 both_arrived : (n phase arrived : ℕ) → n ≡ 1 → arrived ≡ 1 → after_arrival n phase arrived ≡ (phase + 1, 0)
-both_arrived n phase arrived one has = ap (λ (x : ℕ). after_arrival x phase arrived) one ∙ ap (λ (x : ℕ). after_arrival 1 phase x) has
+both_arrived n phase arrived one has = ap (λ (x : ℕ). after_arrival x phase arrived) one
+    ∙ ap (λ (x : ℕ). after_arrival 1 phase x) has
 
-pub phase_on : (r : RoomModel) (p : PassModel) (u : UserPassModel) (n m : ℕ) (seen known : List Entry) → StepTogether r p u → slice_get p.script p.next ≡ Some line.Phase
-    → StepTogether (arrived_one (arrived_one r n) m) (record p { next = p.next + 1; phase = p.phase + 1; seen = seen }) (record u { next = u.next + 1; phase = u.phase + 1; seen = known })
+pub phase_on : (r : RoomModel) (p : PassModel) (u : UserPassModel) (n m : ℕ) (seen known : List Entry)
+    → StepTogether r p u → slice_get p.script p.next ≡ Some line.Phase
+    → StepTogether (arrived_one (arrived_one r n) m) (record p { next = p.next + 1; phase = p.phase + 1; seen = seen })
+    (record u { next = u.next + 1; phase = u.phase + 1; seen = known })
 phase_on r p u n m seen known s at =
     let first = one_arrived (length r.parts.scripts) r.phase r.arrived s.one s.arrived in
-    let then = both_arrived (length r.parts.scripts) (arrived_one r n).phase (arrived_one r n).arrived s.one (ap (λ x. x.1) first) in
-    let served : (arrived_one (arrived_one r n) m).phase ≡ r.phase + 1 = ap (λ x. x.0) then ∙ ap (λ (x : ℕ × ℕ). x.0 + 1) first in
+    let then = both_arrived (length r.parts.scripts) (arrived_one r n).phase (arrived_one r n).arrived s.one
+    (ap (λ x. x.1) first) in
+    let served : (arrived_one (arrived_one r n) m).phase ≡ r.phase + 1 = ap (λ x. x.0) then
+    ∙ ap (λ (x : ℕ × ℕ). x.0 + 1) first in
     record {
       one = s.one;
-      belongs = record { name = s.belongs.name; script = s.belongs.script; plan = s.belongs.plan; donation = s.belongs.donation };
-      user_belongs = record { number = s.user_belongs.number; name = s.user_belongs.name; input = s.user_belongs.input };
+      belongs = record {
+        name = s.belongs.name;
+        script = s.belongs.script;
+        plan = s.belongs.plan;
+        donation =
+            s.belongs.donation;
+      };
+      user_belongs = record {
+        number = s.user_belongs.number;
+        name = s.user_belongs.name;
+        input =
+            s.user_belongs.input;
+      };
       phase = ap (λ (x : ℕ). x + 1) s.phase ∙ sym served;
       user_phase = ap (λ (x : ℕ). x + 1) s.user_phase ∙ sym served;
       arrived = ap (λ x. x.1) then;
-      idle = others_left u.next u.input input.Phase (idle_user (drop (p.next + 1) p.script)) (s.idle ∙ ap idle_user (drop_at p.script p.next line.Phase at) ∙ idle_phase (drop (p.next + 1) p.script));
+      idle = others_left u.next u.input input.Phase (idle_user (drop (p.next + 1) p.script))
+          (s.idle ∙ ap idle_user (drop_at p.script p.next line.Phase at) ∙ idle_phase (drop (p.next + 1) p.script));
     }
 
-pub phase_ended : (r r1 r2 : RoomModel) (p p' : PassModel) (u u' : UserPassModel) (n m : ℕ) (seen known : List Entry) → StepTogether r p u → slice_get p.script p.next ≡ Some line.Phase
+pub phase_ended : (r r1 r2 : RoomModel) (p p' : PassModel) (u u' : UserPassModel) (n m : ℕ) (seen known : List Entry)
+    → StepTogether r p u → slice_get p.script p.next ≡ Some line.Phase
     → r1 ≡ arrived_one r n → r2 ≡ arrived_one r1 m
-    → p' ≡ record p { next = p.next + 1; phase = p.phase + 1; seen = seen } → u' ≡ record u { next = u.next + 1; phase = u.phase + 1; seen = known } → StepTogether r2 p' u'
+    → p' ≡ record p { next = p.next + 1; phase = p.phase + 1; seen = seen }
+    → u' ≡ record u { next = u.next + 1; phase = u.phase + 1; seen = known } → StepTogether r2 p' u'
 phase_ended r r1 r2 p p' u u' n m seen known s at first second passed user_passed =
     let rooms : r2 ≡ arrived_one (arrived_one r n) m = second ∙ ap (λ (x : RoomModel). arrived_one x m) first in
-    subst (λ (x : RoomModel). StepTogether x p' u') (sym rooms) (subst (λ (x : PassModel). StepTogether (arrived_one (arrived_one r n) m) x u') (sym passed)
-    (subst (λ (x : UserPassModel). StepTogether (arrived_one (arrived_one r n) m) (record p { next = p.next + 1; phase = p.phase + 1; seen = seen }) x) (sym user_passed)
+    subst (λ (x : RoomModel). StepTogether x p' u') (sym rooms)
+    (subst (λ (x : PassModel). StepTogether (arrived_one (arrived_one r n) m) x u') (sym passed)
+    (subst (λ (x : UserPassModel). StepTogether (arrived_one (arrived_one r n) m)
+    (record p { next = p.next + 1; phase = p.phase + 1; seen = seen }) x) (sym user_passed)
     (phase_on r p u n m seen known s at)))
 
 -- ---- at the end
 
-pub user_ended : (r : RoomModel) (p : PassModel) (u : UserPassModel) → StepTogether r p u → p.next ≡ length p.script → u.next ≤ length u.input → u.next ≡ length u.input
+pub user_ended : (r : RoomModel) (p : PassModel) (u : UserPassModel) → StepTogether r p u → p.next ≡ length p.script
+    → u.next ≤ length u.input → u.next ≡ length u.input
 user_ended r p u s ended within =
     let none : drop u.next u.input ≡ [] = s.idle ∙ ap idle_user (nothing_left p.script p.next ended) in
     omega (arith, ap length none, length-drop u.next u.input, within)
 
 -- ---- what is recorded
 
-acts_behind : (es : List Entry) (e : Entry) (more : List Action) → map action_of (es ++ e ∷ []) ++ more ≡ map action_of es ++ (action_of e ∷ more)
+acts_behind : (es : List Entry) (e : Entry) (more : List Action) → map action_of (es ++ e ∷ []) ++ more
+    ≡ map action_of es ++ (action_of e ∷ more)
 acts_behind [] e more = refl
 acts_behind (x ∷ es) e more = ap (λ (xs : List Action). action_of x ∷ xs) (acts_behind es e more)
 
-pub call_recorded : (entries now : List Entry) (p p' : PassModel) (c : Call) (r : Reply) (met : ℕ) (seen : List Entry) (sight : Sight) → slice_get p.script p.next ≡ Some (line.Call c)
-    → now ≡ entries ++ entry.Call p.sid c r ∷ [] → p' ≡ record p { next = p.next + 1; met = met; seen = seen; sight = sight } → actions_to_be now p' ≡ actions_to_be entries p
+pub call_recorded : (entries now : List Entry) (p p' : PassModel) (c : Call) (r : Reply) (met : ℕ) (seen : List Entry)
+    (sight : Sight) → slice_get p.script p.next ≡ Some (line.Call c)
+    → now ≡ entries ++ entry.Call p.sid c r ∷ []
+    → p' ≡ record p { next = p.next + 1; met = met; seen = seen; sight = sight }
+    → actions_to_be now p' ≡ actions_to_be entries p
 call_recorded entries now p p' c r met seen sight at recorded is =
-    ap (λ (x : PassModel). actions_to_be now x) is ∙ ap (λ (es : List Entry). map action_of es ++ map (Calls p.sid) (calls_in (drop (p.next + 1) p.script))) recorded
+    ap (λ (x : PassModel). actions_to_be now x) is
+    ∙ ap (λ (es : List Entry). map action_of es ++ map (Calls p.sid) (calls_in (drop (p.next + 1) p.script)))
+    recorded
     ∙ acts_behind entries (entry.Call p.sid c r) (map (Calls p.sid) (calls_in (drop (p.next + 1) p.script)))
-    ∙ ap (λ (ls : List Line). map action_of entries ++ map (Calls p.sid) (calls_in ls)) (sym (drop_at p.script p.next (line.Call c) at))
+    ∙ ap (λ (ls : List Line). map action_of entries ++ map (Calls p.sid) (calls_in ls))
+    (sym (drop_at p.script p.next (line.Call c) at))
 
 -- a line that is no call records nothing
-pub nothing_recorded : (entries now : List Entry) (p p' : PassModel) (l : Line) → slice_get p.script p.next ≡ Some l → ((ls : List Line) → calls_in (l ∷ ls) ≡ calls_in ls)
+pub nothing_recorded : (entries now : List Entry) (p p' : PassModel) (l : Line) → slice_get p.script p.next ≡ Some l
+    → ((ls : List Line) → calls_in (l ∷ ls) ≡ calls_in ls)
     → now ≡ entries → role_of p' ≡ role_of p → p'.next ≡ p.next + 1 → actions_to_be now p' ≡ actions_to_be entries p
 nothing_recorded entries now p p' l at none same role next =
-    ap (λ (es : List Entry). actions_to_be es p') same ∙ ap₂ (λ (r : Role) (n : ℕ). map action_of entries ++ map (Calls r.sid) (calls_in (drop n r.script))) role next
-    ∙ ap (λ (cs : List Call). map action_of entries ++ map (Calls p.sid) cs) (sym (none (drop (p.next + 1) p.script)) ∙ ap calls_in (sym (drop_at p.script p.next l at)))
+    ap (λ (es : List Entry). actions_to_be es p') same
+    ∙ ap₂ (λ (r : Role) (n : ℕ). map action_of entries ++ map (Calls r.sid) (calls_in (drop n r.script))) role next
+    ∙ ap (λ (cs : List Call). map action_of entries ++ map (Calls p.sid) cs) (sym (none (drop (p.next + 1) p.script))
+    ∙ ap calls_in (sym (drop_at p.script p.next l at)))
 
-pub all_recorded : (p : PassModel) (entries : List Entry) → p.next ≡ length p.script → actions_to_be entries p ≡ map action_of entries
-all_recorded p entries ended = ap (λ (ls : List Line). map action_of entries ++ map (Calls p.sid) (calls_in ls)) (nothing_left p.script p.next ended) ∙ nothing_behind (map action_of entries)
+pub all_recorded : (p : PassModel) (entries : List Entry) → p.next ≡ length p.script
+    → actions_to_be entries p ≡ map action_of entries
+all_recorded p entries ended = ap (λ (ls : List Line). map action_of entries ++ map (Calls p.sid) (calls_in ls))
+    (nothing_left p.script p.next ended) ∙ nothing_behind (map action_of entries)
   where
     nothing_behind : (xs : List Action) → xs ++ [] ≡ xs
     nothing_behind [] = refl

@@ -1,27 +1,55 @@
 -- What answers use: all that lemmas use, and this crate's lemmas.
-pub use Rattle.nit_actor.proofs.Basics.{All, All-set, AllZip, AreBehind, Belongs, ByClient, ByUser, ClipPassModel, Configuration, InputLine, IsAtPhaseEnd, IsBehind, IsLeastOf, IsMoved, IsNearPicture, IsOpen, IsPairIn, IsPairRoleIn, IsPlanOf, IsRoleIn, IsShowing, IsUnderWay, IsUtf8, Line, LineTurn, List, NoneHas, Pair, PairRole, PassModel, PlanModel, PutsShotsBehind, Role, RoomModel, SceneModel, Sight, Some, StepTogether, UserPassModel, [], actions_to_be, ap, arith, clip_role_of, donation_of, entry_of, few_digits, filter_map, get_or_default, glass_after, glass_in, is_stale, length, line_here, next_device, no_sight, pair_phase_left, pair_role_of, phase_left, pixel, put_state_of_desk, refl, replay, role_of, same_throughout, scenery_of, script_in, settled, shown, slice_get, slice_index, slice_index_or, state_now, subst, sym, take, told_at, user_actions_in, user_role_of, with_words, zip, ℕ, ◌∙◌}
+pub use Rattle.nit_actor.proofs.Basics.{All, All-set, AllZip, AreBehind, Belongs, ByClient, ByUser}
+pub use Rattle.nit_actor.proofs.Basics.{ClipPassModel, Configuration, InputLine, IsAtPhaseEnd}
+pub use Rattle.nit_actor.proofs.Basics.{IsBehind, IsLeastOf, IsMoved, IsNearPicture, IsOpen}
+pub use Rattle.nit_actor.proofs.Basics.{IsPairIn, IsPairRoleIn, IsPlanOf, IsRoleIn, IsShowing}
+pub use Rattle.nit_actor.proofs.Basics.{IsUnderWay, IsUtf8, Line, LineTurn, List, NoneHas, Pair}
+pub use Rattle.nit_actor.proofs.Basics.{PairRole, PassModel, PlanModel, PutsShotsBehind, Role}
+pub use Rattle.nit_actor.proofs.Basics.{RoomModel, SceneModel, Sight, Some, StepTogether}
+pub use Rattle.nit_actor.proofs.Basics.{UserPassModel, [], actions_to_be, ap, arith, clip_role_of}
+pub use Rattle.nit_actor.proofs.Basics.{donation_of, entry_of, few_digits, filter_map}
+pub use Rattle.nit_actor.proofs.Basics.{get_or_default, glass_after, glass_in, is_stale, length}
+pub use Rattle.nit_actor.proofs.Basics.{line_here, next_device, no_sight, pair_phase_left}
+pub use Rattle.nit_actor.proofs.Basics.{pair_role_of, phase_left, pixel, put_state_of_desk, refl}
+pub use Rattle.nit_actor.proofs.Basics.{replay, role_of, same_throughout, scenery_of, script_in}
+pub use Rattle.nit_actor.proofs.Basics.{settled, shown, slice_get, slice_index, slice_index_or}
+pub use Rattle.nit_actor.proofs.Basics.{state_now, subst, sym, take, told_at, user_actions_in}
+pub use Rattle.nit_actor.proofs.Basics.{user_role_of, with_words, zip, ℕ, ◌∙◌}
 pub use Rattle.nit_actor.proofs.Copies.{all_drawn, glass_there, row_drawn, rows_to}
 pub use Rattle.nit_actor.proofs.Counts.{as_many_as_lines, few_acts}
 pub use Rattle.nit_actor.proofs.DrawnAsReplayed.{as_replayed}
 pub use Rattle.nit_actor.proofs.EntryEffects.{input_moved, served_moved, shot_moved}
 pub use Rattle.nit_actor.proofs.FirstPlaces.{kept_first, left_first_of}
-pub use Rattle.nit_actor.proofs.IdleUserLemmas.{at_call, at_line, idle_deeds, nothing_recorded, phase_ended, step_on, user_at_phase, user_ended}
-pub use Rattle.nit_actor.proofs.LeastPhases.{all_ended, client_ended, left_in_all, left_more, none_before, pair_ended, pairs_all_ended, zip_get, zip_length}
+pub use Rattle.nit_actor.proofs.IdleUserLemmas.{at_call, at_line, idle_deeds, nothing_recorded}
+pub use Rattle.nit_actor.proofs.IdleUserLemmas.{phase_ended, step_on, user_at_phase, user_ended}
+pub use Rattle.nit_actor.proofs.LeastPhases.{all_ended, client_ended, left_in_all, left_more}
+pub use Rattle.nit_actor.proofs.LeastPhases.{none_before, pair_ended, pairs_all_ended, zip_get}
+pub use Rattle.nit_actor.proofs.LeastPhases.{zip_length}
 pub use Rattle.nit_actor.proofs.LineOnGlass.{after_stroke, fits, painted_to, step_there}
-pub use Rattle.nit_actor.proofs.LineRecords.{behind_still, call_counted, call_moved, call_recorded, glasses_still, is_glass, none_moved, none_recorded, quiet_others, room_there}
+pub use Rattle.nit_actor.proofs.LineRecords.{behind_still, call_counted, call_moved, call_recorded}
+pub use Rattle.nit_actor.proofs.LineRecords.{glasses_still, is_glass, none_moved, none_recorded}
+pub use Rattle.nit_actor.proofs.LineRecords.{quiet_others, room_there}
 pub use Rattle.nit_actor.proofs.LinesDone.{client_done, client_lines, user_done, user_lines}
 pub use Rattle.nit_actor.proofs.Names.{name_is_text}
-pub use Rattle.nit_actor.proofs.NextActor.{all_done, client_turn, step_ends, to_actor, to_phase, to_round, user_turn}
+pub use Rattle.nit_actor.proofs.NextActor.{all_done, client_turn, step_ends, to_actor, to_phase}
+pub use Rattle.nit_actor.proofs.NextActor.{to_round, user_turn}
 pub use Rattle.nit_actor.proofs.OneClient.{by_rounds_alone}
-pub use Rattle.nit_actor.proofs.PairLists.{all_pairs, pairs_back, pairs_carried, pairs_fit, pairs_set, role_of_pair, roles_again}
+pub use Rattle.nit_actor.proofs.PairLists.{all_pairs, pairs_back, pairs_carried, pairs_fit}
+pub use Rattle.nit_actor.proofs.PairLists.{pairs_set, role_of_pair, roles_again}
 pub use Rattle.nit_actor.proofs.PhaseCounts.{same_set, zip_at, zip_long}
-pub use Rattle.nit_actor.proofs.PictureLemmas.{as_many_files, file_of_a_shot, puts_also, puts_none, puts_quietly, puts_shot, quiet_device, quiet_phase}
-pub use Rattle.nit_actor.proofs.PlaceLemmas.{client_end, client_inside, client_long, user_end, user_inside, user_long}
+pub use Rattle.nit_actor.proofs.PictureLemmas.{as_many_files, file_of_a_shot, puts_also, puts_none}
+pub use Rattle.nit_actor.proofs.PictureLemmas.{puts_quietly, puts_shot, quiet_device, quiet_phase}
+pub use Rattle.nit_actor.proofs.PlaceLemmas.{client_end, client_inside, client_long, user_end}
+pub use Rattle.nit_actor.proofs.PlaceLemmas.{user_inside, user_long}
 pub use Rattle.nit_actor.proofs.QuietGlasses.{same_glasses, same_own, same_seen}
-pub use Rattle.nit_actor.proofs.RoleLemmas.{fit_again, roles_back, roles_carried, roles_fit, roles_set}
-pub use Rattle.nit_actor.proofs.RunStateLemmas.{after_client, after_user, begun, clients_move, users_move}
+pub use Rattle.nit_actor.proofs.RoleLemmas.{fit_again, roles_back, roles_carried, roles_fit}
+pub use Rattle.nit_actor.proofs.RoleLemmas.{roles_set}
+pub use Rattle.nit_actor.proofs.RunStateLemmas.{after_client, after_user, begun, clients_move}
+pub use Rattle.nit_actor.proofs.RunStateLemmas.{users_move}
 pub use Rattle.nit_actor.proofs.ShotFiles.{drawn_counted, drawn_each, shots_drawn}
 pub use Rattle.nit_actor.proofs.ShownFrames.{put_as_pictures, stays_throughout}
-pub use Rattle.nit_actor.proofs.StaleLemmas.{all_own, as_but, behind_again, copied_first, drawn_but, nothing_drawn, settles}
+pub use Rattle.nit_actor.proofs.StaleLemmas.{all_own, as_but, behind_again, copied_first, drawn_but}
+pub use Rattle.nit_actor.proofs.StaleLemmas.{nothing_drawn, settles}
 pub use Rattle.nit_actor.proofs.TurnNumbers.{tells_client, tells_user}
-pub use Rattle.nit_actor.proofs.TurnPremises.{found_here, front_move, moved_settled, read_same, settled_turn, users_turn}
+pub use Rattle.nit_actor.proofs.TurnPremises.{found_here, front_move, moved_settled, read_same}
+pub use Rattle.nit_actor.proofs.TurnPremises.{settled_turn, users_turn}

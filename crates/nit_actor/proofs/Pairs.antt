@@ -1,6 +1,12 @@
 -- A pass and its clip pass, when one or both of them did a line.
-use Rattle.std.proofs.Common.{List, Some, ap, arith, false, inl, inr, length, refl, subst, sym, ℕ, ◌+◌, ◌==◌, ◌∙◌, ◌≡◌, ◌⊎◌}
-use Rattle.nit_actor.proofs.Basics.{ClipBelongs, ClipPassModel, ClipRole, GoTogether, IsAtClipPhase, IsAtPhase, IsPairIn, IsPairRoleIn, IsRoleIn, Line, OpeningParts, PassModel, Role, clip_number, clip_phases, clip_phases_before, clip_role_of, counted_more, counted_same, eq-eqb, eqb-true, is_clip_phase, is_phase, pair_role_of, phases, phases_before, role_of, slice_get}
+use Rattle.std.proofs.Common.{List, Some, ap, arith, false, inl, inr, length, refl, subst, sym, ℕ}
+use Rattle.std.proofs.Common.{◌+◌, ◌==◌, ◌∙◌, ◌≡◌, ◌⊎◌}
+use Rattle.nit_actor.proofs.Basics.{ClipBelongs, ClipPassModel, ClipRole, GoTogether, IsAtClipPhase}
+use Rattle.nit_actor.proofs.Basics.{IsAtPhase, IsPairIn, IsPairRoleIn, IsRoleIn, Line, OpeningParts}
+use Rattle.nit_actor.proofs.Basics.{PassModel, Role, clip_number, clip_phases, clip_phases_before}
+use Rattle.nit_actor.proofs.Basics.{clip_role_of, counted_more, counted_same, eq-eqb, eqb-true}
+use Rattle.nit_actor.proofs.Basics.{is_clip_phase, is_phase, pair_role_of, phases, phases_before}
+use Rattle.nit_actor.proofs.Basics.{role_of, slice_get}
 use Rattle.nit_script.specs.declared.line.Line.TheVariants as line
 use Rattle.nit_clip.specs.declared.line.ClipLine.TheVariants as clip
 use Rattle.nit_actor.proofs.RoleLemmas.{role_fits, fits_belongs}
@@ -16,12 +22,15 @@ abbrev pub IsClipCounted : ClipPassModel → Type 0
 IsClipCounted q = q.phase ≡ clip_phases_before q.script q.next
 
 -- where the pass did this line, its phases are those of one line more of the script
-one_more : (p p' : PassModel) → role_of p' ≡ role_of p → p'.next ≡ p.next + 1 → IsCounted p' → p'.phase ≡ phases_before p.script (p.next + 1)
+one_more : (p p' : PassModel) → role_of p' ≡ role_of p → p'.next ≡ p.next + 1 → IsCounted p'
+    → p'.phase ≡ phases_before p.script (p.next + 1)
 one_more p p' e n counted =
-    counted ∙ ap (λ (s : List Line). phases_before s p'.next) (ap (λ (r : Role). r.script) e) ∙ ap (phases_before p.script) n
+    counted ∙ ap (λ (s : List Line). phases_before s p'.next) (ap (λ (r : Role). r.script) e)
+    ∙ ap (phases_before p.script) n
 
 -- a line that ends no phase leaves the passes together
-pub line_together : (p p' : PassModel) (q : ClipPassModel) (l : Line) → GoTogether p q → slice_get p.script p.next ≡ Some l → is_phase l ≡ false
+pub line_together : (p p' : PassModel) (q : ClipPassModel) (l : Line) → GoTogether p q
+    → slice_get p.script p.next ≡ Some l → is_phase l ≡ false
     → role_of p' ≡ role_of p → p'.next ≡ p.next + 1 → IsCounted p → IsCounted p' → GoTogether p' q
 line_together p p' q l t at is e n before after' =
     record {
@@ -43,13 +52,16 @@ clip_phase_next p q t at counted clips (inr end) =
     absurd (omega (arith, fewer, all, t.phases_each, t.now.phase, counted, clips))
 
 -- then the pass is one phase ahead
-pub one_ahead : (p p' : PassModel) (q : ClipPassModel) → GoTogether p q → IsAtPhase p → role_of p' ≡ role_of p → p'.next ≡ p.next + 1
+pub one_ahead : (p p' : PassModel) (q : ClipPassModel) → GoTogether p q → IsAtPhase p → role_of p' ≡ role_of p
+    → p'.next ≡ p.next + 1
     → IsCounted p → IsCounted p' → p'.phase ≡ q.phase + 1
 one_ahead p p' q t at e n before after' =
-    one_more p p' e n after' ∙ counted_more is_phase p.script p.next line.Phase at refl ∙ ap (λ (k : ℕ). k + 1) (sym before ∙ t.now.phase)
+    one_more p p' e n after' ∙ counted_more is_phase p.script p.next line.Phase at refl
+    ∙ ap (λ (k : ℕ). k + 1) (sym before ∙ t.now.phase)
 
 -- and when the clip pass is too, they go together again
-pub turned : (p p' : PassModel) (q q' : ClipPassModel) → GoTogether p q → role_of p' ≡ role_of p → p'.phase ≡ q.phase + 1
+pub turned : (p p' : PassModel) (q q' : ClipPassModel) → GoTogether p q → role_of p' ≡ role_of p
+    → p'.phase ≡ q.phase + 1
     → q' ≡ record q { next = q.next + 1; phase = q.phase + 1 } → GoTogether p' q'
 turned p p' q q' t e ahead f =
     record {
@@ -57,11 +69,13 @@ turned p p' q q' t e ahead f =
         client = ap (λ (r : Role). r.sid) e ∙ t.now.client ∙ sym (ap (λ (k : ClipPassModel). k.sid) f);
         phase = ahead ∙ sym (ap (λ (k : ClipPassModel). k.phase) f);
       };
-      phases_each = ap (λ (k : ClipPassModel). clip_phases k.script) f ∙ t.phases_each ∙ sym (ap (λ (r : Role). phases r.script) e);
+      phases_each = ap (λ (k : ClipPassModel). clip_phases k.script) f ∙ t.phases_each
+          ∙ sym (ap (λ (r : Role). phases r.script) e);
     }
 
 -- where the pass is done, and no clip call is left of its phase, the clip pass is done
-pub clip_done_too : (p : PassModel) (q : ClipPassModel) → GoTogether p q → p.next ≡ length p.script → IsCounted p → IsClipCounted q
+pub clip_done_too : (p : PassModel) (q : ClipPassModel) → GoTogether p q → p.next ≡ length p.script → IsCounted p
+    → IsClipCounted q
     → IsAtClipPhase q ⊎ (q.next ≡ length q.script) → q.next ≡ length q.script
 clip_done_too p q t done counted clips (inl next) =
     let fewer = counted_fewer is_clip_phase q.script q.next clip.Phase next refl in
@@ -72,7 +86,8 @@ clip_done_too p q t done counted clips (inr end) = end
 -- ---- roles
 
 -- both passes keep their roles, and go together still
-pub pair_again : (parts : OpeningParts) (p p' : PassModel) (q q' : ClipPassModel) → IsPairIn parts p q → role_of p' ≡ role_of p → clip_role_of q' ≡ clip_role_of q
+pub pair_again : (parts : OpeningParts) (p p' : PassModel) (q q' : ClipPassModel) → IsPairIn parts p q
+    → role_of p' ≡ role_of p → clip_role_of q' ≡ clip_role_of q
     → GoTogether p' q' → IsPairIn parts p' q'
 pair_again parts p p' q q' pair e f t =
     record {
@@ -88,7 +103,8 @@ pair_again parts p p' q q' pair e f t =
       number = subst (λ (r : ClipRole). r.number ≡ clip_number parts r.sid) (sym f) pair.clip.number;
     }
 
-pub pair_fits : (parts : OpeningParts) (p : PassModel) (q : ClipPassModel) → IsPairIn parts p q → IsPairRoleIn parts (pair_role_of p q)
+pub pair_fits : (parts : OpeningParts) (p : PassModel) (q : ClipPassModel) → IsPairIn parts p q
+    → IsPairRoleIn parts (pair_role_of p q)
 pair_fits parts p q pair =
     record {
       client = role_fits parts p pair.pass;
@@ -100,7 +116,8 @@ pair_fits parts p q pair =
       in_phase = eq-eqb p.phase q.phase pair.together.now.phase;
     }
 
-pub fits_pair : (parts : OpeningParts) (p : PassModel) (q : ClipPassModel) → IsPairRoleIn parts (pair_role_of p q) → IsPairIn parts p q
+pub fits_pair : (parts : OpeningParts) (p : PassModel) (q : ClipPassModel) → IsPairRoleIn parts (pair_role_of p q)
+    → IsPairIn parts p q
 fits_pair parts p q r =
     record {
       pass = fits_belongs parts p r.client;
@@ -112,8 +129,10 @@ fits_pair parts p q r =
     }
 
 -- two passes that keep their roles and go together keep the role of both
-pub pair_role_again : (p p' : PassModel) (q q' : ClipPassModel) → GoTogether p q → GoTogether p' q' → role_of p' ≡ role_of p → clip_role_of q' ≡ clip_role_of q
+pub pair_role_again : (p p' : PassModel) (q q' : ClipPassModel) → GoTogether p q → GoTogether p' q'
+    → role_of p' ≡ role_of p → clip_role_of q' ≡ clip_role_of q
     → pair_role_of p' q' ≡ pair_role_of p q
 pair_role_again p p' q q' t u e f =
-    let is : (p'.phase == q'.phase) ≡ (p.phase == q.phase) = eq-eqb p'.phase q'.phase u.now.phase ∙ sym (eq-eqb p.phase q.phase t.now.phase) in
+    let is : (p'.phase == q'.phase) ≡ (p.phase == q.phase) = eq-eqb p'.phase q'.phase u.now.phase
+    ∙ sym (eq-eqb p.phase q.phase t.now.phase) in
     λ i. record { client = e i; clip = f i; in_phase = is i }

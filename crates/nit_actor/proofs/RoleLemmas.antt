@@ -1,6 +1,8 @@
 -- The roles of passes, one of which did a line.
-use Rattle.std.proofs.Common.{List, [], ap, arith, get_or, length, map, refl, set, subst, suc, sym, zero, ℕ, ◌<◌, ◌∙◌, ◌∷◌, ◌≡◌}
-use Rattle.nit_actor.proofs.Basics.{All, Belongs, IsRoleIn, OpeningParts, PassModel, PassRole, Role, role_of, slice_index_or}
+use Rattle.std.proofs.Common.{List, [], ap, arith, get_or, length, map, refl, set, subst, suc, sym}
+use Rattle.std.proofs.Common.{zero, ℕ, ◌<◌, ◌∙◌, ◌∷◌, ◌≡◌}
+use Rattle.nit_actor.proofs.Basics.{All, Belongs, IsRoleIn, OpeningParts, PassModel, PassRole, Role}
+use Rattle.nit_actor.proofs.Basics.{role_of, slice_index_or}
 
 abbrev roles : List PassModel → List Role
 roles ps = map (λ (p : PassModel). role_of p) ps
@@ -48,10 +50,12 @@ role_fits parts p b = record { name = b.name; script = b.script; plan = b.plan; 
 pub fits_belongs : (parts : OpeningParts) (p : PassModel) → IsRoleIn parts (role_of p) → Belongs parts p
 fits_belongs parts p r = record { name = r.name; script = r.script; plan = r.plan; donation = r.donation }
 
-pub roles_fit : (parts : OpeningParts) (ps : List PassModel) → All (λ (p : PassModel). Belongs parts p) ps → All (λ (p : PassModel). IsRoleIn parts (role_of p)) ps
+pub roles_fit : (parts : OpeningParts) (ps : List PassModel) → All (λ (p : PassModel). Belongs parts p) ps
+    → All (λ (p : PassModel). IsRoleIn parts (role_of p)) ps
 roles_fit parts ps all = λ k d inside. role_fits parts (slice_index_or ps k d) (all k d inside)
 
-pub role_at : (ps : List PassModel) (k : ℕ) (d : PassModel) → role_of (slice_index_or ps k d) ≡ slice_index_or (roles ps) k (role_of d)
+pub role_at : (ps : List PassModel) (k : ℕ) (d : PassModel)
+    → role_of (slice_index_or ps k d) ≡ slice_index_or (roles ps) k (role_of d)
 role_at [] k d = refl
 role_at (p ∷ ps) zero d = refl
 role_at (p ∷ ps) (suc k) d = role_at ps k d

@@ -1,6 +1,10 @@
 -- The phases of the rounds never fall.
-use Rattle.nit_actor.proofs.Basics.{Action, AllByRecursion, IsNonDecreasing, LineTurn, actions_of_line, all_append, eqb-true, flat_map, flat_map-append, in_phase, phase_rounds, range_with_len, round}
-use Rattle.std.proofs.Common.{Bool, List, [], arith, cond, drop, false, get_or, le_of_eq, le_trans, length, map, refl, subst, suc, sym, take, true, zero, ℕ, ◌++◌, ◌+◌, ◌<◌, ◌==◌, ◌∷◌, ◌≡◌, ◌≤◌}
+use Rattle.nit_actor.proofs.Basics.{Action, AllByRecursion, IsNonDecreasing, LineTurn}
+use Rattle.nit_actor.proofs.Basics.{actions_of_line, all_append, eqb-true, flat_map}
+use Rattle.nit_actor.proofs.Basics.{flat_map-append, in_phase, phase_rounds, range_with_len, round}
+use Rattle.std.proofs.Common.{Bool, List, [], arith, cond, drop, false, get_or, le_of_eq, le_trans}
+use Rattle.std.proofs.Common.{length, map, refl, subst, suc, sym, take, true, zero, ℕ, ◌++◌, ◌+◌}
+use Rattle.std.proofs.Common.{◌<◌, ◌==◌, ◌∷◌, ◌≡◌, ◌≤◌}
 
 -- ---- numbers that never fall
 
@@ -27,14 +31,16 @@ from_lower low mid (x ∷ xs) h r = (le_trans h r.0, r.1)
 
 same_then : (q : ℕ) (xs ys : List ℕ) → AllByRecursion (λ x. x ≡ q) xs → Rising q ys → Rising q (xs ++ ys)
 same_then q [] ys h r = r
-same_then q (x ∷ xs) ys h r = (le_of_eq (sym h.0), subst (λ (n : ℕ). Rising n (xs ++ ys)) (sym h.0) (same_then q xs ys h.1 r))
+same_then q (x ∷ xs) ys h r =
+    (le_of_eq (sym h.0), subst (λ (n : ℕ). Rising n (xs ++ ys)) (sym h.0) (same_then q xs ys h.1 r))
 
 -- ---- the moves of one phase
 
 abbrev InPhase : ℕ → List LineTurn → Type 0
 InPhase p moves = AllByRecursion (λ m. m.phase ≡ p) moves
 
-kept_in : (p : ℕ) (b : Bool) (m : LineTurn) (moves : List LineTurn) → (m.phase == p) ≡ b → InPhase p moves → InPhase p (cond b (m ∷ moves) moves)
+kept_in : (p : ℕ) (b : Bool) (m : LineTurn) (moves : List LineTurn) → (m.phase == p) ≡ b → InPhase p moves
+    → InPhase p (cond b (m ∷ moves) moves)
 kept_in p true m moves e h = (eqb-true m.phase p e, h)
 kept_in p false m moves e h = h
 
@@ -60,7 +66,8 @@ round_in p r (l ∷ all) =
 
 rounds_in : (p : ℕ) (all : List (List LineTurn)) (rs : List ℕ) → InPhase p (flat_map (round (map (in_phase p) all)) rs)
 rounds_in p all [] = tt
-rounds_in p all (r ∷ rs) = all_append (λ m. m.phase ≡ p) (round (map (in_phase p) all) r) (flat_map (round (map (in_phase p) all)) rs) (round_in p r all) (rounds_in p all rs)
+rounds_in p all (r ∷ rs) = all_append (λ m. m.phase ≡ p) (round (map (in_phase p) all) r)
+    (flat_map (round (map (in_phase p) all)) rs) (round_in p r all) (rounds_in p all rs)
 
 -- ---- the phases of what is put into a journal
 
@@ -74,12 +81,16 @@ each_same p q (a ∷ made) e = (e, each_same p q made e)
 
 all_same : (p : ℕ) (moves : List LineTurn) → InPhase p moves → AllByRecursion (λ n. n ≡ p) (flat_map act_phases moves)
 all_same p [] h = tt
-all_same p (m ∷ moves) h = all_append (λ n. n ≡ p) (act_phases m) (flat_map act_phases moves) (each_same m.phase p (actions_of_line m.doing) h.0) (all_same p moves h.1)
+all_same p (m ∷ moves) h = all_append (λ n. n ≡ p) (act_phases m) (flat_map act_phases moves)
+    (each_same m.phase p (actions_of_line m.doing) h.0) (all_same p moves h.1)
 
-pub rounds_rise : (all : List (List LineTurn)) (p n : ℕ) → Rising p (flat_map act_phases (flat_map (phase_rounds all) (range_with_len p n)))
+pub rounds_rise : (all : List (List LineTurn)) (p n : ℕ)
+    → Rising p (flat_map act_phases (flat_map (phase_rounds all) (range_with_len p n)))
 rounds_rise all p zero = tt
 rounds_rise all p (suc n) =
     rw (flat_map-append act_phases (phase_rounds all p) (flat_map (phase_rounds all) (range_with_len (p + 1) n)))
-    (same_then p (flat_map act_phases (phase_rounds all p)) (flat_map act_phases (flat_map (phase_rounds all) (range_with_len (p + 1) n)))
+    (same_then p (flat_map act_phases (phase_rounds all p))
+    (flat_map act_phases (flat_map (phase_rounds all) (range_with_len (p + 1) n)))
     (all_same p (phase_rounds all p) (rounds_in p all _))
-    (from_lower p (p + 1) (flat_map act_phases (flat_map (phase_rounds all) (range_with_len (p + 1) n))) (omega arith) (rounds_rise all (p + 1) n)))
+    (from_lower p (p + 1) (flat_map act_phases (flat_map (phase_rounds all) (range_with_len (p + 1) n))) (omega arith)
+    (rounds_rise all (p + 1) n)))

@@ -1,6 +1,9 @@
 -- Rounds one after the other: each takes the first move of each actor.
-use Rattle.std.proofs.Common.{List, [], ap, ap₂, arith, drop, drop-drop, get_or, length, length-drop, map, map-id, max, refl, subst, suc, sym, take, zero, ℕ, ◌++◌, ◌+◌, ◌-◌, ◌∙◌, ◌∷◌, ◌≡◌, ◌≤◌}
-use Rattle.nit_actor.proofs.Basics.{AllByRecursion, LineTurn, all_rounds, flat_map, flat_map-map, greatest, nil_from_length, range_with_len, round}
+use Rattle.std.proofs.Common.{List, [], ap, ap₂, arith, drop, drop-drop, get_or, length}
+use Rattle.std.proofs.Common.{length-drop, map, map-id, max, refl, subst, suc, sym, take, zero, ℕ}
+use Rattle.std.proofs.Common.{◌++◌, ◌+◌, ◌-◌, ◌∙◌, ◌∷◌, ◌≡◌, ◌≤◌}
+use Rattle.nit_actor.proofs.Basics.{AllByRecursion, LineTurn, all_rounds, flat_map, flat_map-map}
+use Rattle.nit_actor.proofs.Basics.{greatest, nil_from_length, range_with_len, round}
 
 -- lists of at most n moves
 abbrev pub Short : ℕ → List (List LineTurn) → Type 0
@@ -20,8 +23,11 @@ longer n m (l ∷ all) more h = let here : length l ≤ n = h.0 in (omega arith,
 pub short_greatest : (all : List (List LineTurn)) → Short (greatest (map length all)) all
 short_greatest [] = tt
 short_greatest (l ∷ all) =
-    let n : ℕ = greatest (map length all) in
-    (omega arith, longer (greatest (map length all)) (max (length l) (greatest (map length all))) all (omega arith) (short_greatest all))
+    let n : ℕ = greatest (map length all) in (
+      omega arith,
+      longer (greatest (map length all)) (max (length l) (greatest (map length all))) all (omega arith)
+          (short_greatest all),
+    )
 
 pub short_at : (n k : ℕ) (all : List (List LineTurn)) → Short n all → length (get_or all k []) ≤ n
 short_at n k [] h = omega arith
@@ -51,13 +57,16 @@ firsts_none (l ∷ all) h =
 
 walk_less : (n : ℕ) (all : List (List LineTurn)) → Short n all → walk (suc n) all ≡ walk n all
 walk_less zero all h = rw (firsts_none all h) refl
-walk_less (suc n) all h = ap (λ (t : List LineTurn). flat_map (take 1) all ++ t) (walk_less n (map (drop 1) all) (short_drop n all h))
+walk_less (suc n) all h = ap (λ (t : List LineTurn). flat_map (take 1) all ++ t)
+    (walk_less n (map (drop 1) all) (short_drop n all h))
 
 map_drops : (a : ℕ) (all : List (List LineTurn)) → map (drop 1) (map (drop a) all) ≡ map (drop (a + 1)) all
 map_drops a [] = refl
-map_drops a (l ∷ all) = ap₂ (λ (x : List LineTurn) (xs : List (List LineTurn)). x ∷ xs) (drop-drop 1 a l) (map_drops a all)
+map_drops a (l ∷ all) = ap₂ (λ (x : List LineTurn) (xs : List (List LineTurn)). x ∷ xs) (drop-drop 1 a l)
+    (map_drops a all)
 
-rounds_from : (all : List (List LineTurn)) (a n : ℕ) → flat_map (round all) (range_with_len a n) ≡ walk n (map (drop a) all)
+rounds_from : (all : List (List LineTurn)) (a n : ℕ) → flat_map (round all) (range_with_len a n)
+    ≡ walk n (map (drop a) all)
 rounds_from all a zero = refl
 rounds_from all a (suc n) =
     ap₂ (λ (x y : List LineTurn). x ++ y)
@@ -67,7 +76,8 @@ rounds_from all a (suc n) =
 pub all_walk : (all : List (List LineTurn)) → all_rounds all ≡ walk (greatest (map length all)) all
 all_walk all = rounds_from all 0 (greatest (map length all)) ∙ ap (walk (greatest (map length all))) (map-id all)
 
-walk_rest : (n : ℕ) (all : List (List LineTurn)) → greatest (map length all) ≡ n → walk n (map (drop 1) all) ≡ all_rounds (map (drop 1) all)
+walk_rest : (n : ℕ) (all : List (List LineTurn)) → greatest (map length all) ≡ n
+    → walk n (map (drop 1) all) ≡ all_rounds (map (drop 1) all)
 walk_rest zero all e =
     let none : greatest (map length (map (drop 1) all)) ≡ 0 = omega (arith, greatest_drop all) in
     sym (all_walk (map (drop 1) all) ∙ ap (λ (k : ℕ). walk k (map (drop 1) all)) none)

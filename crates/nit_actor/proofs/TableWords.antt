@@ -1,6 +1,11 @@
 -- Words by the tables of the sessions.
-use Rattle.nit_actor.proofs.Basics.{Bare, Black, Configuration, IsInked, IsLoaded, IsTrue, IsWordOfSource, Line, PixelSource, Sight, Word, cases_lt, donation_of, eqb-true, get_or_past, glass_after, glass_in, no_sight, script_in, slice_index, table_size, tables_after, word_from, words_after, zero_at, zeros}
-use Rattle.std.proofs.Common.{Bool, List, [], ap, false, inl, inr, length, refl, subst, suc, sym, true, zero, ℕ, ◌<◌, ◌==◌, ◌||◌, ◌∙◌, ◌≡◌, ◌≤◌}
+use Rattle.nit_actor.proofs.Basics.{Bare, Black, Configuration, IsInked, IsLoaded, IsTrue}
+use Rattle.nit_actor.proofs.Basics.{IsWordOfSource, Line, PixelSource, Sight, Word, cases_lt}
+use Rattle.nit_actor.proofs.Basics.{donation_of, eqb-true, get_or_past, glass_after, glass_in}
+use Rattle.nit_actor.proofs.Basics.{no_sight, script_in, slice_index, table_size, tables_after}
+use Rattle.nit_actor.proofs.Basics.{word_from, words_after, zero_at, zeros}
+use Rattle.std.proofs.Common.{Bool, List, [], ap, false, inl, inr, length, refl, subst, suc, sym}
+use Rattle.std.proofs.Common.{true, zero, ℕ, ◌<◌, ◌==◌, ◌||◌, ◌∙◌, ◌≡◌, ◌≤◌}
 
 -- ---- words
 
@@ -8,7 +13,8 @@ use Rattle.std.proofs.Common.{Bool, List, [], ap, false, inl, inr, length, refl,
 abbrev pub AreOf : (ℕ → Sight) → (ℕ → List ℕ) → Type 0
 AreOf glasses tables = (t i w : ℕ) → IsLoaded (glasses t) i w → w ≡ slice_index (tables t) i
 
-pub held_word : (glasses : ℕ → Sight) (tables : ℕ → List ℕ) (source : PixelSource) (w : ℕ) → AreOf glasses tables → IsWordOfSource glasses source w → w ≡ word_from tables source
+pub held_word : (glasses : ℕ → Sight) (tables : ℕ → List ℕ) (source : PixelSource) (w : ℕ) → AreOf glasses tables
+    → IsWordOfSource glasses source w → w ≡ word_from tables source
 held_word glasses tables Bare w are held = held
 held_word glasses tables Black w are held = held
 held_word glasses tables (Word t i) w are held = are t i w held
@@ -29,15 +35,21 @@ no_lines donation zero = refl
 no_lines donation (suc k) = refl
 
 -- where each glass tells the words that so many lines of its script leave, each word is of these
-pub tables_told : (config : Configuration) (scripts : List (List Line)) (owns : List Sight) (done : ℕ → ℕ) → length owns ≡ length scripts
-    → ((t : ℕ) → t < length scripts → glass_in owns t ≡ glass_after t (script_in scripts t) (donation_of config t) (done t)) → AreOf (glass_in owns) (tables_after config scripts done)
+pub tables_told : (config : Configuration) (scripts : List (List Line)) (owns : List Sight) (done : ℕ → ℕ)
+    → length owns ≡ length scripts
+    → ((t : ℕ) → t < length scripts
+    → glass_in owns t ≡ glass_after t (script_in scripts t) (donation_of config t) (done t))
+    → AreOf (glass_in owns) (tables_after config scripts done)
 tables_told config scripts owns done each tell t i w loaded =
     elim (cases_lt t (length scripts)) [
       | inl inside ↦ (subst (λ (g : Sight). IsLoaded g i w) (tell t inside) loaded).told
       | inr past ↦
-          let none : glass_in owns t ≡ no_sight = get_or_past owns t no_sight (subst (λ (n : ℕ). n ≤ t) (sym each) past) in
+          let none : glass_in owns t ≡ no_sight =
+          get_or_past owns t no_sight (subst (λ (n : ℕ). n ≤ t) (sym each) past) in
           let script : script_in scripts t ≡ [] = get_or_past scripts t [] past in
           no_ink w (subst (λ (g : Sight). IsLoaded g i w) none loaded).inked
           ∙ sym (zero_at (table_size (donation_of config t)) i)
-          ∙ sym (ap (λ (ws : List ℕ). slice_index ws i) (ap (λ (ls : List Line). words_after ls (donation_of config t) (done t)) script ∙ no_lines (donation_of config t) (done t)))
+          ∙ sym (ap (λ (ws : List ℕ). slice_index ws i)
+          (ap (λ (ls : List Line). words_after ls (donation_of config t) (done t)) script
+          ∙ no_lines (donation_of config t) (done t)))
     ]

@@ -19,23 +19,30 @@ pub use Rattle.nit_events.specs.declared.device.Device.{Device}
 pub use Rattle.nit_events.specs.declared.device.Device.TheVariants.{Motion}
 pub use Rattle.nit_events.specs.declared.entry.Entry.{Entry}
 pub use Rattle.nit_events.specs.declared.event.Routed.{Routed}
-pub use Rattle.nit_hall.specs.ClipPass.{AreTogether, ClipBelongs, ClipPassModel, IsAtClipPhase, IsAtPhaseEnd, clip_number, clip_phases_before}
+pub use Rattle.nit_hall.specs.ClipPass.{AreTogether, ClipBelongs, ClipPassModel, IsAtClipPhase}
+pub use Rattle.nit_hall.specs.ClipPass.{IsAtPhaseEnd, clip_number, clip_phases_before}
 pub use Rattle.nit_hall.specs.Hall.{Tells, TellsShot}
 pub use Rattle.nit_hall.specs.NearWords.{IsNear, IsNearFrame}
 pub use Rattle.nit_hall.specs.OpeningParts.{OpeningParts}
-pub use Rattle.nit_hall.specs.Pass.{Belongs, HasMetPhase, IsAtDevice, IsAtPhase, IsAtShot, IsAtStroke, IsAtUserPhase, PassModel, UserBelongs, UserPassModel, call_of_line, next_device, sight_after_line}
+pub use Rattle.nit_hall.specs.Pass.{Belongs, HasMetPhase, IsAtDevice, IsAtPhase, IsAtShot}
+pub use Rattle.nit_hall.specs.Pass.{IsAtStroke, IsAtUserPhase, PassModel, UserBelongs}
+pub use Rattle.nit_hall.specs.Pass.{UserPassModel, call_of_line, next_device, sight_after_line}
 pub use Rattle.nit_hall.specs.Room.{RoomModel, after_arrival, arrived_one}
 pub use Rattle.nit_hall.specs.ServedLines.{phases_before, user_actions_in}
 pub use Rattle.nit_journal.specs.Replay.{IsLegal, IsOpen, LegalFrom, replay, replay_from, shots}
 pub use Rattle.nit_journal.specs.Session.{serve}
 pub use Rattle.nit_journal.specs.State.{State, after, buffer_size, first_state, route, session}
-pub use Rattle.nit_journal.specs.WholeJournals.{Action, Acts, Calls, Does, IsWhole, Shoots, UserAction, action_of, calls_of, done, left, next_phase, phases_along, to_do, user_actions_of}
+pub use Rattle.nit_journal.specs.WholeJournals.{Action, Acts, Calls, Does, IsWhole, Shoots}
+pub use Rattle.nit_journal.specs.WholeJournals.{UserAction, action_of, calls_of, done, left}
+pub use Rattle.nit_journal.specs.WholeJournals.{next_phase, phases_along, to_do, user_actions_of}
 pub use Rattle.nit_ledger.specs.Book.{BookName}
 pub use Rattle.nit_overlay.specs.Frame.{frame, shown}
 pub use Rattle.nit_paint.specs.Repaint.{IsWordOfSource, no_sight}
-pub use Rattle.nit_plan.specs.Calls.{calls_from, calls_in, calls_to_make, user_actions_from, user_actions_to_do}
+pub use Rattle.nit_plan.specs.Calls.{calls_from, calls_in, calls_to_make, user_actions_from}
+pub use Rattle.nit_plan.specs.Calls.{user_actions_to_do}
 pub use Rattle.nit_plan.specs.Plan.{IsPlanOf, PlanModel, is_set_by, plan_of_script, step_of}
-pub use Rattle.nit_plan.specs.ScriptWords.{Painting, blank, ink, painted_from, static, table_size, words_after, words_left}
+pub use Rattle.nit_plan.specs.ScriptWords.{Painting, blank, ink, painted_from, static, table_size}
+pub use Rattle.nit_plan.specs.ScriptWords.{words_after, words_left}
 pub use Rattle.nit_plan.specs.SessionLists.{plan_in, script_in}
 pub use Rattle.nit_plan.specs.Strokes.{is_in_area}
 pub use Rattle.nit_plan.specs.Surface.{IsPaintedTo}
@@ -45,7 +52,8 @@ pub use Rattle.nit_rect.specs.Limits.{most_height, most_sessions, most_side, mos
 pub use Rattle.nit_rect.specs.declared.point.Point.{Point}
 pub use Rattle.nit_report.specs.Picture.{picture, picture_length}
 pub use Rattle.nit_scene.specs.DirtyPixels.{dirty}
-pub use Rattle.nit_scene.specs.RawWords.{AreRaw, IsRawOf, Painted, glass_in, glasses_of_call, pixel_count, source_at}
+pub use Rattle.nit_scene.specs.RawWords.{AreRaw, IsRawOf, Painted, glass_in, glasses_of_call}
+pub use Rattle.nit_scene.specs.RawWords.{pixel_count, source_at}
 pub use Rattle.nit_scene.specs.Scene.{SceneModel, state_now}
 pub use Rattle.nit_scene.specs.Screen.{IsGlass}
 pub use Rattle.nit_scene.specs.StateScenery.{scenery_of}
@@ -57,7 +65,8 @@ pub use Rattle.nit_script.specs.declared.line.Line.{Line}
 pub use Rattle.nit_script.specs.declared.line.Stroke.{Stroke}
 pub use Rattle.nit_script.specs.declared.line.Stroke.TheVariants.{Fill}
 pub use Rattle.nit_slots.specs.Account.{IsDonation}
-pub use Rattle.nit_stack.specs.Sources.{Bare, Black, PixelSource, Size, Word, in_bar, pixel, source_under}
+pub use Rattle.nit_stack.specs.Sources.{Bare, Black, PixelSource, Size, Word, in_bar, pixel}
+pub use Rattle.nit_stack.specs.Sources.{source_under}
 pub use Rattle.nit_stack.specs.declared.view.View.{View}
 pub use Rattle.nit_store.specs.Puts.{PutRefusal, PutState, PutsAll, PutsFile, PutsNext, unrefused}
 pub use Rattle.nit_store.specs.Store.{File, StoreModel}
@@ -68,7 +77,8 @@ pub use Rattle.nit_word.specs.Sight.{IsLoaded, Sight, inked_sight, seen, told_at
 pub use Rattle.nit_word.specs.Updates.{is_between, set_where, with_words}
 pub use Rattle.nit_word.specs.Zeros.{zeros}
 pub use Rattle.std.specs.Fmt.{decimal}
-pub use Rattle.std.specs.List.{AllByRecursion, AllZip, cons_option, flat_map, range_with_len, slice_get, slice_index_or}
+pub use Rattle.std.specs.List.{AllByRecursion, AllZip, cons_option, flat_map, range_with_len}
+pub use Rattle.std.specs.List.{slice_get, slice_index_or}
 pub use Rattle.std.specs.List.Sorted.{IsNonDecreasing}
 pub use Rattle.std.specs.Option.{option_map}
 pub use Rattle.std.specs.Prelude.{All, IsTrue, codes, slice_index, vec_capacity}

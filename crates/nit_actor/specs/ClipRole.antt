@@ -1,6 +1,8 @@
 -- Who a client with a clip script is and what it has to do. No line that it does changes this.
 use Rattle.std.specs.Prelude.{◌≡◌, ◌==◌, ℕ, Bool, true, List, slice_get, Some}
-use Rattle.nit_actor.specs.Below.{AreTogether, Belongs, BookName, ClipBelongs, ClipLine, ClipPassModel, OpeningParts, PassModel, clip_number, clip_phases, phases}
+use Rattle.nit_actor.specs.Below.{AreTogether, Belongs, BookName, ClipBelongs, ClipLine}
+use Rattle.nit_actor.specs.Below.{ClipPassModel, OpeningParts, PassModel, clip_number, clip_phases}
+use Rattle.nit_actor.specs.Below.{phases}
 use Rattle.nit_actor.specs.Role.{Role, IsRoleIn, role_of}
 
 -- a client's with the clipboard: its number, that of its share, the name of its room's book, and

@@ -1,7 +1,11 @@
 -- What is drawn along the rounds of some scripts: the words of the screen's pixels, and the frames
 -- of the shots with their pictures. It comes from the configuration and the scripts alone.
-use Rattle.std.specs.Prelude.{ℕ, ◌+◌, ◌==◌, List, [], ◌∷◌, ◌++◌, length, map, fold, Option, Some, None, if◌then◌else◌}
-use Rattle.nit_actor.specs.Below.{Configuration, Entry, File, InputLine, Line, PutState, PutsAll, State, after, bare_word, dirty, donation_of, first_state, frame, picture, pixel, route, routed_as, scenery_of, script_in, serve, session, source_at, words_after}
+use Rattle.std.specs.Prelude.{ℕ, ◌+◌, ◌==◌, List, [], ◌∷◌, ◌++◌, length, map, fold, Option, Some}
+use Rattle.std.specs.Prelude.{None, if◌then◌else◌}
+use Rattle.nit_actor.specs.Below.{Configuration, Entry, File, InputLine, Line, PutState, PutsAll}
+use Rattle.nit_actor.specs.Below.{State, after, bare_word, dirty, donation_of, first_state, frame}
+use Rattle.nit_actor.specs.Below.{picture, pixel, route, routed_as, scenery_of, script_in, serve}
+use Rattle.nit_actor.specs.Below.{session, source_at, words_after}
 use Rattle.nit_events.specs.declared.entry.Entry.TheVariants as entry
 use Rattle.nit_script.specs.declared.line.Line.TheVariants as line
 use Rattle.nit_script.specs.declared.line.InputLine.TheVariants as input

@@ -1,6 +1,8 @@
 -- One client and a user who does nothing, stepped together.
 use Rattle.std.specs.Prelude.{◌≡◌, List, ◌++◌, length, drop, map, replicate, count_by}
-use Rattle.nit_actor.specs.Below.{Action, Belongs, Calls, Entry, InputLine, Line, PassModel, RoomModel, UserBelongs, UserPassModel, action_of, calls_in, is_phase}
+use Rattle.nit_actor.specs.Below.{Action, Belongs, Calls, Entry, InputLine, Line, PassModel}
+use Rattle.nit_actor.specs.Below.{RoomModel, UserBelongs, UserPassModel, action_of, calls_in}
+use Rattle.nit_actor.specs.Below.{is_phase}
 use Rattle.nit_script.specs.declared.line.InputLine.TheVariants as input
 
 -- a user who does nothing: one line `phase` for each line `phase` of a client's script

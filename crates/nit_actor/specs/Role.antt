@@ -1,6 +1,7 @@
 -- Who an actor is and what it has to do. No line that it does changes this.
 use Rattle.std.specs.Prelude.{◌≡◌, ℕ, List, slice_get, Some}
-use Rattle.nit_actor.specs.Below.{BookName, InputLine, Line, OpeningParts, PassModel, PlanModel, UserPassModel, donation_of}
+use Rattle.nit_actor.specs.Below.{BookName, InputLine, Line, OpeningParts, PassModel, PlanModel}
+use Rattle.nit_actor.specs.Below.{UserPassModel, donation_of}
 
 -- a client's: its number, the name of its room's book, its script, the plan of it, and its donation
 pub record Role : Type 0 where

@@ -1,7 +1,10 @@
 -- What a run by rounds leaves: its journal, the words of its sessions, and the pictures that it
 -- put.
 use Rattle.std.specs.Prelude.{◌≡◌, ℕ, ◌+◌, ◌<◌, List, ◌++◌, length, codes, Option, Some, None}
-use Rattle.nit_actor.specs.Below.{Configuration, InputLine, IsLegal, IsOpen, IsPlanOf, Line, PictureName, PlanModel, PutError, PutRefusal, PutState, SceneModel, Sight, StoreModel, decimal, donation_of, glass_in, ink, inked_sight, plan_in, script_in, words_after, words_left}
+use Rattle.nit_actor.specs.Below.{Configuration, InputLine, IsLegal, IsOpen, IsPlanOf, Line}
+use Rattle.nit_actor.specs.Below.{PictureName, PlanModel, PutError, PutRefusal, PutState}
+use Rattle.nit_actor.specs.Below.{SceneModel, Sight, StoreModel, decimal, donation_of, glass_in}
+use Rattle.nit_actor.specs.Below.{ink, inked_sight, plan_in, script_in, words_after, words_left}
 use Rattle.nit_actor.specs.declared.desk.PictureName.TheVariants as name
 use Rattle.nit_actor.specs.TurnActions.{AreRoundsOf}
 

@@ -1,5 +1,6 @@
 -- What is drawn on a session's own glass, and not yet on the scene's.
-use Rattle.std.specs.Prelude.{◌≡◌, ℕ, ◌+◌, ◌*◌, ◌<◌, ◌≤◌, Bool, false, List, length, slice_index, slice_set, Option, Some, None}
+use Rattle.std.specs.Prelude.{◌≡◌, ℕ, ◌+◌, ◌*◌, ◌<◌, ◌≤◌, Bool, false, List, length, slice_index}
+use Rattle.std.specs.Prelude.{slice_set, Option, Some, None}
 use Rattle.nit_actor.specs.Below.{SceneModel, Sight, Stale, glass_in, most_side}
 use Rattle.nit_actor.specs.RunState.{is_number_in}
 

@@ -1,6 +1,7 @@
 -- What moves put into a journal, and which lines of whom were done in them.
 use Rattle.std.specs.Prelude.{◌≡◌, ℕ, ◌==◌, List, [], ◌∷◌, map, if◌then◌else◌}
-use Rattle.nit_actor.specs.Below.{Action, Acts, Calls, Does, Entry, InputLine, Line, Shoots, action_of, flat_map}
+use Rattle.nit_actor.specs.Below.{Action, Acts, Calls, Does, Entry, InputLine, Line, Shoots}
+use Rattle.nit_actor.specs.Below.{action_of, flat_map}
 use Rattle.nit_script.specs.declared.line.Line.TheVariants as line
 use Rattle.nit_script.specs.declared.line.InputLine.TheVariants as input
 use Rattle.nit_actor.specs.Turn.{ActorLine, ByClient, ByUser, LineTurn}

@@ -11,8 +11,9 @@ use nit_script::Line;
 use std::sync::Wait;
 
 /// Does all lines of the pass that are left, and passes the gate before each, outside the lock. A
-/// call and the end of a phase wait until the room serves the pass's phase. A stroke waits so before
-/// it passes the gate, where the pass has not found its phase served yet; all others take no lock.
+/// call and the end of a phase wait until the room serves the pass's phase. A stroke waits so
+/// before it passes the gate, where the pass has not found its phase served yet; all others take no
+/// lock.
 pub fn run_actor<'a, N: Name, G: Gate, R: Wait>(
     rt: &R,
     gated: GatedHall<'_, 'a, N, G>,

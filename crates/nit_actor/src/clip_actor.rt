@@ -1,7 +1,8 @@
 //! What a client's thread does where the client has a clip script too.
 
 ghost use Rattle.std.specs.Prelude.{◌≡◌, ◌+◌, ◌⊎◌, Some, length, slice_get};
-ghost use Rattle.nit_actor.specs.Terms.{Belongs, ClipBelongs, GoTogether, IsAtClipPhase, IsAtPhase, IsAtPhaseEnd, IsPairIn, clip_role_of, role_of};
+ghost use Rattle.nit_actor.specs.Terms.{Belongs, ClipBelongs, GoTogether, IsAtClipPhase, IsAtPhase};
+ghost use Rattle.nit_actor.specs.Terms.{IsAtPhaseEnd, IsPairIn, clip_role_of, role_of};
 
 use crate::actor::do_line;
 use crate::gate::{AtGate, Checkpoint, Gate};

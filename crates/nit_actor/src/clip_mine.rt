@@ -2,7 +2,10 @@
 //! passes and clip passes, by turns.
 
 ghost use Rattle.std.specs.Prelude.{◌≡◌, ◌*◌, ◌+◌, All, Some, length, map, zip};
-ghost use Rattle.nit_actor.specs.Terms.{AllZip, Belongs, ClipBelongs, GoTogether, IsLeastOf, IsPairIn, NoneIsBefore, PutsShotsBehind, UserBelongs, clip_role_of, pair_phase_left, phase_left, phases_left, picture_length, put_state_of_desk, role_of, user_role_of};
+ghost use Rattle.nit_actor.specs.Terms.{AllZip, Belongs, ClipBelongs, GoTogether, IsLeastOf};
+ghost use Rattle.nit_actor.specs.Terms.{IsPairIn, NoneIsBefore, PutsShotsBehind, UserBelongs};
+ghost use Rattle.nit_actor.specs.Terms.{clip_role_of, pair_phase_left, phase_left, phases_left};
+ghost use Rattle.nit_actor.specs.Terms.{picture_length, put_state_of_desk, role_of, user_role_of};
 
 use crate::clip_actor::{do_last_clips, do_pair_line};
 use crate::desk::Desk;

@@ -1,7 +1,8 @@
 //! Copies of a session's own glass to the scene's glass for it.
 
 ghost use Rattle.std.specs.Prelude.{◌≡◌, ◌+◌, ◌*◌, ◌<◌, ◌≤◌, length, slice_set};
-ghost use Rattle.nit_actor.specs.Terms.{glass_in, is_number_in, most_side, set_where, told_at, with_words};
+ghost use Rattle.nit_actor.specs.Terms.{glass_in, is_number_in, most_side, set_where, told_at};
+ghost use Rattle.nit_actor.specs.Terms.{with_words};
 
 use nit_plan::Area;
 use nit_scene::Scene;

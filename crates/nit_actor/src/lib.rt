@@ -16,8 +16,8 @@
 //! before it, and a journal with the entries of the rounds is whole.
 //!
 //! [`run_viewed`] does all of them on a scene, and shows the frames of the shots to a [`Viewer`].
-//! [`run_rounds`] does the same with a [`Desk`], which puts the pictures of these frames. What a shot
-//! shows is drawn from the configuration and the scripts alone, line by line.
+//! [`run_rounds`] does the same with a [`Desk`], which puts the pictures of these frames. What a
+//! shot shows is drawn from the configuration and the scripts alone, line by line.
 //!
 //! # On threads
 //!

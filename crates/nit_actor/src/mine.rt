@@ -2,7 +2,10 @@
 //! turns.
 
 ghost use Rattle.std.specs.Prelude.{◌≡◌, ◌*◌, ◌+◌, ◌∷◌, [], All, Some, length, map};
-ghost use Rattle.nit_actor.specs.Terms.{Belongs, IsLeastOf, IsRoleIn, NoneIsBefore, PutsShotsBehind, UserBelongs, lesser, phase_left, phases_left, picture_length, put_state_of_desk, role_of, user_phase_left, user_role_of};
+ghost use Rattle.nit_actor.specs.Terms.{Belongs, IsLeastOf, IsRoleIn, NoneIsBefore};
+ghost use Rattle.nit_actor.specs.Terms.{PutsShotsBehind, UserBelongs, lesser, phase_left};
+ghost use Rattle.nit_actor.specs.Terms.{phases_left, picture_length, put_state_of_desk, role_of};
+ghost use Rattle.nit_actor.specs.Terms.{user_phase_left, user_role_of};
 
 use crate::actor::do_line;
 use crate::desk::Desk;

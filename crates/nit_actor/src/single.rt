@@ -1,7 +1,9 @@
 //! A run of one client, without a lock and on the calling thread.
 
 ghost use Rattle.std.specs.Prelude.{◌≡◌, ◌+◌, ◌++◌, Some, drop, length, map, slice_get};
-ghost use Rattle.nit_actor.specs.Terms.{Calls, IsAtPhase, IsAtStroke, IsOpen, StepTogether, action_of, actions_to_be, calls_in, role_of, sight_after_line, user_role_of};
+ghost use Rattle.nit_actor.specs.Terms.{Calls, IsAtPhase, IsAtStroke, IsOpen, StepTogether};
+ghost use Rattle.nit_actor.specs.Terms.{action_of, actions_to_be, calls_in, role_of};
+ghost use Rattle.nit_actor.specs.Terms.{sight_after_line, user_role_of};
 
 use nit_hall::{Pass, Room, UserPass};
 use nit_script::Line;

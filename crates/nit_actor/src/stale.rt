@@ -3,8 +3,10 @@
 //! The scene loads a session's words by its own glass of it only in events of others. So strokes in
 //! a row that cover each other are copied once.
 
-ghost use Rattle.std.specs.Prelude.{◌≡◌, ◌+◌, ◌<◌, ◌≤◌, ◌&&◌, ◌||◌, true, ℕ, None, Some, IfSome, length, nat_le, slice_set};
-ghost use Rattle.nit_actor.specs.Terms.{AreBehind, FitsInto, IsBehind, IsButFor, glass_in, is_stale, most_side};
+ghost use Rattle.std.specs.Prelude.{◌≡◌, ◌+◌, ◌<◌, ◌≤◌, ◌&&◌, ◌||◌, true, ℕ, None, Some, IfSome};
+ghost use Rattle.std.specs.Prelude.{length, nat_le, slice_set};
+ghost use Rattle.nit_actor.specs.Terms.{AreBehind, FitsInto, IsBehind, IsButFor, glass_in};
+ghost use Rattle.nit_actor.specs.Terms.{is_stale, most_side};
 
 use crate::copying::copy_area;
 use nit_plan::Area;

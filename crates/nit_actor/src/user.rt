@@ -1,7 +1,9 @@
 //! The user's lines, over a hall.
 
 ghost use Rattle.std.specs.Prelude.{◌≡◌, ◌*◌, ◌+◌, All, Some, length, slice_get};
-ghost use Rattle.nit_actor.specs.Terms.{GrowsQuietly, IsAtDevice, IsAtShot, IsAtUserPhase, IsWord, PutsShotsBehind, TellsShot, UserBelongs, picture_length, put_state_of_desk, user_role_of};
+ghost use Rattle.nit_actor.specs.Terms.{GrowsQuietly, IsAtDevice, IsAtShot, IsAtUserPhase, IsWord};
+ghost use Rattle.nit_actor.specs.Terms.{PutsShotsBehind, TellsShot, UserBelongs, picture_length};
+ghost use Rattle.nit_actor.specs.Terms.{put_state_of_desk, user_role_of};
 
 use crate::desk::{Desk, PictureName};
 use crate::gate::Checkpoint;

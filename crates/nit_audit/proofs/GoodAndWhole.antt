@@ -1,6 +1,9 @@
 -- Good entries that end are a legal and whole journal, and only they are.
-use Rattle.std.proofs.Common.{List, [], ap, cond, refl, subst, sym, ℕ, ◌++◌, ◌+◌, ◌==◌, ◌∙◌, ◌∷◌, ◌≡◌}
-use Rattle.nit_audit.proofs.Basics.{Call, Configuration, Entry, IsAllDone, IsEnded, IsGoodFor, IsLegal, IsWhole, LegalFrom, State, UserAction, after, append-nil, calls_of, first_state, user_actions_of}
+use Rattle.std.proofs.Common.{List, [], ap, cond, refl, subst, sym, ℕ, ◌++◌, ◌+◌, ◌==◌, ◌∙◌, ◌∷◌}
+use Rattle.std.proofs.Common.{◌≡◌}
+use Rattle.nit_audit.proofs.Basics.{Call, Configuration, Entry, IsAllDone, IsEnded, IsGoodFor}
+use Rattle.nit_audit.proofs.Basics.{IsLegal, IsWhole, LegalFrom, State, UserAction, after}
+use Rattle.nit_audit.proofs.Basics.{append-nil, calls_of, first_state, user_actions_of}
 use mathlib.Core.List.{cons≢nil}
 use Rattle.nit_events.specs.declared.entry.Entry.TheVariants as entry
 
@@ -8,7 +11,8 @@ use Rattle.nit_events.specs.declared.entry.Entry.TheVariants as entry
 
 calls_ended : (s : ℕ) (front : List Entry) → calls_of s (front ++ entry.Final ∷ []) ≡ calls_of s front
 calls_ended s [] = refl
-calls_ended s (entry.Call sid call r ∷ front) = ap (λ (cs : List Call). cond (sid == s) (call ∷ cs) cs) (calls_ended s front)
+calls_ended s (entry.Call sid call r ∷ front) =
+    ap (λ (cs : List Call). cond (sid == s) (call ∷ cs) cs) (calls_ended s front)
 calls_ended s (entry.Input dev routed ∷ front) = calls_ended s front
 calls_ended s (entry.Shot number ∷ front) = calls_ended s front
 calls_ended s (entry.Final ∷ front) = calls_ended s front
@@ -22,7 +26,8 @@ deeds_ended (entry.Final ∷ front) = deeds_ended front
 
 -- ---- good entries that end are whole
 
-pub whole : (config : Configuration) (clients : List (List (ℕ × Call))) (user : List (ℕ × UserAction)) (entries : List Entry) → IsGoodFor config clients user entries → IsEnded entries → IsWhole clients user entries
+pub whole : (config : Configuration) (clients : List (List (ℕ × Call))) (user : List (ℕ × UserAction))
+    (entries : List Entry) → IsGoodFor config clients user entries → IsEnded entries → IsWhole clients user entries
 whole config clients user entries g ended =
     let all : IsAllDone clients user ended.0 = g.final ended.0 [] ended.1 in
     record {
@@ -39,24 +44,33 @@ not_empty [] rest is = cons≢nil is
 not_empty (e ∷ front) rest is = cons≢nil is
 
 -- nothing stands behind the last picture of legal entries
-last_of : (s : State) (taken : ℕ) (front rest : List Entry) → LegalFrom s taken (front ++ entry.Final ∷ rest) → rest ≡ []
+last_of : (s : State) (taken : ℕ) (front rest : List Entry) → LegalFrom s taken (front ++ entry.Final ∷ rest)
+    → rest ≡ []
 last_of s taken [] rest legal = legal
-last_of s taken (entry.Call sid call r ∷ front) rest legal = last_of (after s (entry.Call sid call r)) taken front rest legal.1
-last_of s taken (entry.Input dev routed ∷ front) rest legal = last_of (after s (entry.Input dev routed)) taken front rest legal.1
+last_of s taken (entry.Call sid call r ∷ front) rest legal =
+    last_of (after s (entry.Call sid call r)) taken front rest legal.1
+last_of s taken (entry.Input dev routed ∷ front) rest legal =
+    last_of (after s (entry.Input dev routed)) taken front rest legal.1
 last_of s taken (entry.Shot number ∷ front) rest legal = last_of s (taken + 1) front rest legal.1
 last_of s taken (entry.Final ∷ front) rest legal = absurd (not_empty front rest legal)
 
 -- all is done before the last picture of a legal and whole journal
-all_before : (config : Configuration) (clients : List (List (ℕ × Call))) (user : List (ℕ × UserAction)) (entries front rest : List Entry) → IsLegal config entries → IsWhole clients user entries → entries ≡ front ++ entry.Final ∷ rest → IsAllDone clients user front
+all_before : (config : Configuration) (clients : List (List (ℕ × Call))) (user : List (ℕ × UserAction))
+    (entries front rest : List Entry) → IsLegal config entries → IsWhole clients user entries
+    → entries ≡ front ++ entry.Final ∷ rest → IsAllDone clients user front
 all_before config clients user entries front rest legal w is =
-    let none : rest ≡ [] = last_of (first_state config) 0 front rest (subst (λ (es : List Entry). IsLegal config es) is legal) in
-    let ends : entries ≡ front ++ entry.Final ∷ [] = subst (λ (r : List Entry). entries ≡ front ++ entry.Final ∷ r) none is in
+    let none : rest ≡ [] = last_of (first_state config) 0 front rest
+    (subst (λ (es : List Entry). IsLegal config es) is legal) in
+    let ends : entries ≡ front ++ entry.Final ∷ [] =
+    subst (λ (r : List Entry). entries ≡ front ++ entry.Final ∷ r) none is in
     record {
       calls = λ s lt. sym (calls_ended s front) ∙ sym (ap (calls_of s) ends) ∙ w.calls s lt;
       deeds = sym (deeds_ended front) ∙ sym (ap user_actions_of ends) ∙ w.deeds;
     }
 
-pub good : (config : Configuration) (clients : List (List (ℕ × Call))) (user : List (ℕ × UserAction)) (entries : List Entry) → IsLegal config entries → IsWhole clients user entries → IsGoodFor config clients user entries
+pub good : (config : Configuration) (clients : List (List (ℕ × Call))) (user : List (ℕ × UserAction))
+    (entries : List Entry) → IsLegal config entries → IsWhole clients user entries
+    → IsGoodFor config clients user entries
 good config clients user entries legal w = record {
   legal = legal;
   calls = λ s lt. ([], append-nil (calls_of s entries) ∙ w.calls s lt);

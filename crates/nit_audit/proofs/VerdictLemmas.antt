@@ -1,6 +1,10 @@
 -- What is answered of entries, one at a time.
-use Rattle.std.proofs.Common.{Bool, List, [], ap, arith, false, inl, inr, refl, subst, suc, sym, take, true, zero, ℕ, ◌++◌, ◌+◌, ◌<◌, ◌∙◌, ◌∷◌, ◌≡◌, ◌≤◌, ◌↔◌, ◌≢◌, ◌⊎◌}
-use Rattle.nit_audit.proofs.Basics.{Call, Device, Entry, Err, IfOk, IsEnded, IsLeastBad, IsOpen, IsVerdict, IsVerdictFrom, Ok, Reply, Result, Routed, Verdict, cases_lt, false≢true}
+use Rattle.std.proofs.Common.{Bool, List, [], ap, arith, false, inl, inr, refl, subst, suc, sym}
+use Rattle.std.proofs.Common.{take, true, zero, ℕ, ◌++◌, ◌+◌, ◌<◌, ◌∙◌, ◌∷◌, ◌≡◌, ◌≤◌, ◌↔◌, ◌≢◌}
+use Rattle.std.proofs.Common.{◌⊎◌}
+use Rattle.nit_audit.proofs.Basics.{Call, Device, Entry, Err, IfOk, IsEnded, IsLeastBad, IsOpen}
+use Rattle.nit_audit.proofs.Basics.{IsVerdict, IsVerdictFrom, Ok, Reply, Result, Routed, Verdict}
+use Rattle.nit_audit.proofs.Basics.{cases_lt, false≢true}
 use mathlib.Core.List.{cons≢nil}
 use Rattle.nit_events.specs.declared.entry.Entry.TheVariants as entry
 use Rattle.nit_audit.specs.declared.auditing.Verdict.TheVariants as verdict
@@ -14,9 +18,11 @@ open_more (entry.Input dev routed) rest o h = h
 open_more (entry.Shot number) rest o h = h
 open_more entry.Final rest o h = absurd (o refl)
 
-pub front_verdict : (G H : List Entry → Type 0) (n : ℕ) (e : Entry) (rest : List Entry) (v : Verdict) → e ≢ entry.Final → G [] → ((xs : List Entry) → G (e ∷ xs) → H xs) → ((xs : List Entry) → H xs → G (e ∷ xs))
+pub front_verdict : (G H : List Entry → Type 0) (n : ℕ) (e : Entry) (rest : List Entry) (v : Verdict) → e ≢ entry.Final
+    → G [] → ((xs : List Entry) → G (e ∷ xs) → H xs) → ((xs : List Entry) → H xs → G (e ∷ xs))
     → IsVerdictFrom H (n + 1) rest v → IsVerdictFrom G n (e ∷ rest) v
-front_verdict G H n e rest verdict.Yes o none on back h = (back rest h.0, (e ∷ h.1.0, ap (λ (xs : List Entry). e ∷ xs) h.1.1))
+front_verdict G H n e rest verdict.Yes o none on back h =
+    (back rest h.0, (e ∷ h.1.0, ap (λ (xs : List Entry). e ∷ xs) h.1.1))
 front_verdict G H n e rest (verdict.No k) o none on back (j, is, inl bad) = (
   suc j,
   omega (arith, is),
@@ -41,7 +47,8 @@ front_verdict G H n e rest (verdict.No k) o none on back (j, is, inr un) = (
 )
 
 -- the entry in front is not good
-pub front_bad : (G : List Entry → Type 0) (n : ℕ) (e : Entry) (rest : List Entry) → G [] → (G (e ∷ []) → ⊥) → IsVerdictFrom G n (e ∷ rest) (verdict.No (n + 1))
+pub front_bad : (G : List Entry → Type 0) (n : ℕ) (e : Entry) (rest : List Entry) → G [] → (G (e ∷ []) → ⊥)
+    → IsVerdictFrom G n (e ∷ rest) (verdict.No (n + 1))
 front_bad G n e rest none bad = (1, refl, inl (record { within = omega arith; bad = bad; before = before }))
   where
     before : (i : ℕ) → i < 1 → G (take i (e ∷ rest))
@@ -53,11 +60,13 @@ pub none_behind : (G : List Entry → Type 0) (n : ℕ) → G [] → IsVerdictFr
 none_behind G n none = (1, refl, inr (record { behind = refl; good = none; unended = tt }))
 
 -- the last picture is the last entry
-pub final_last : (G : List Entry → Type 0) (n : ℕ) → G (entry.Final ∷ []) → IsVerdictFrom G n (entry.Final ∷ []) verdict.Yes
+pub final_last : (G : List Entry → Type 0) (n : ℕ) → G (entry.Final ∷ [])
+    → IsVerdictFrom G n (entry.Final ∷ []) verdict.Yes
 final_last G n good = (good, ([], refl))
 
 -- an entry stands behind the last picture
-pub final_behind : (G : List Entry → Type 0) (n : ℕ) (e : Entry) (rest : List Entry) → G [] → G (entry.Final ∷ []) → (G (entry.Final ∷ e ∷ []) → ⊥) → IsVerdictFrom G n (entry.Final ∷ e ∷ rest) (verdict.No (n + 2))
+pub final_behind : (G : List Entry → Type 0) (n : ℕ) (e : Entry) (rest : List Entry) → G [] → G (entry.Final ∷ [])
+    → (G (entry.Final ∷ e ∷ []) → ⊥) → IsVerdictFrom G n (entry.Final ∷ e ∷ rest) (verdict.No (n + 2))
 final_behind G n e rest none good bad = (2, refl, inl (record { within = omega arith; bad = bad; before = before }))
   where
     before : (i : ℕ) → i < 2 → G (take i (entry.Final ∷ e ∷ rest))
@@ -67,11 +76,18 @@ final_behind G n e rest none good bad = (2, refl, inl (record { within = omega a
 
 -- ---- the whole list
 
-pub verdict_for : (G H : List Entry → Type 0) (entries : List Entry) (v : Verdict) → ((xs : List Entry) → G xs → H xs) → ((xs : List Entry) → H xs → G xs) → IsVerdictFrom G 0 entries v → IsVerdict H entries v
+pub verdict_for : (G H : List Entry → Type 0) (entries : List Entry) (v : Verdict) → ((xs : List Entry) → G xs → H xs)
+    → ((xs : List Entry) → H xs → G xs) → IsVerdictFrom G 0 entries v → IsVerdict H entries v
 verdict_for G H entries verdict.Yes on back h = (on entries h.0, h.1)
 verdict_for G H entries (verdict.No k) on back (j, is, inl bad) =
     let same : j ≡ k = omega (arith, is) in
-    inl (subst (λ (n : ℕ). IsLeastBad H entries n) same (record { within = bad.within; bad = λ g. bad.bad (back (take j entries) g); before = λ i lt. on (take i entries) (bad.before i lt) }))
+    inl (subst (λ (n : ℕ). IsLeastBad H entries n) same
+    (record {
+      within = bad.within;
+      bad = λ g. bad.bad (back (take j entries) g);
+      before =
+          λ i lt. on (take i entries) (bad.before i lt);
+    }))
 verdict_for G H entries (verdict.No k) on back (j, is, inr un) =
     inr (record { behind = omega (arith, is, un.behind); good = on entries un.good; unended = un.unended })
 
@@ -107,12 +123,18 @@ not_ended_none (front, is) = cut front is
 open_not_ended : (entries : List Entry) → IsOpen entries → IsEnded entries → ⊥
 open_not_ended [] o h = not_ended_none h
 open_not_ended (entry.Final ∷ rest) o h = o
-open_not_ended (entry.Call sid call r ∷ rest) o h = not_ended_more (entry.Call sid call r) rest (λ is. absurd (not_call sid call r is)) (λ again. open_not_ended rest o again) h
-open_not_ended (entry.Input dev routed ∷ rest) o h = not_ended_more (entry.Input dev routed) rest (λ is. absurd (not_input dev routed is)) (λ again. open_not_ended rest o again) h
-open_not_ended (entry.Shot number ∷ rest) o h = not_ended_more (entry.Shot number) rest (λ is. absurd (not_shot number is)) (λ again. open_not_ended rest o again) h
+open_not_ended (entry.Call sid call r ∷ rest) o h =
+    not_ended_more (entry.Call sid call r) rest (λ is. absurd (not_call sid call r is))
+    (λ again. open_not_ended rest o again) h
+open_not_ended (entry.Input dev routed ∷ rest) o h =
+    not_ended_more (entry.Input dev routed) rest (λ is. absurd (not_input dev routed is))
+    (λ again. open_not_ended rest o again) h
+open_not_ended (entry.Shot number ∷ rest) o h =
+    not_ended_more (entry.Shot number) rest (λ is. absurd (not_shot number is)) (λ again. open_not_ended rest o again) h
 
 -- the first bad place is one
-one_place : (G : List Entry → Type 0) (entries : List Entry) (j k : ℕ) → IsLeastBad G entries j → IsLeastBad G entries k → j ≡ k
+one_place : (G : List Entry → Type 0) (entries : List Entry) (j k : ℕ) → IsLeastBad G entries j → IsLeastBad G entries k
+    → j ≡ k
 one_place G entries j k a b = go (cases_lt j k) (cases_lt k j)
   where
     go : (j < k) ⊎ (k ≤ j) → (k < j) ⊎ (j ≤ k) → j ≡ k
@@ -120,7 +142,8 @@ one_place G entries j k a b = go (cases_lt j k) (cases_lt k j)
     go (inr le) (inl lt) = absurd (b.bad (a.before k lt))
     go (inr le) (inr ge) = omega (arith, le, ge)
 
-pub one_verdict : (G : List Entry → Type 0) → ((k : ℕ) (xs : List Entry) → G xs → G (take k xs)) → (entries : List Entry) (a b : Verdict) → IsVerdict G entries a → IsVerdict G entries b → a ≡ b
+pub one_verdict : (G : List Entry → Type 0) → ((k : ℕ) (xs : List Entry) → G xs → G (take k xs))
+    → (entries : List Entry) (a b : Verdict) → IsVerdict G entries a → IsVerdict G entries b → a ≡ b
 one_verdict G fewer entries verdict.Yes verdict.Yes h i = refl
 one_verdict G fewer entries verdict.Yes (verdict.No k) h (inl bad) = absurd (bad.bad (fewer k entries h.0))
 one_verdict G fewer entries verdict.Yes (verdict.No k) h (inr un) = absurd (open_not_ended entries un.unended h.1)
@@ -134,11 +157,13 @@ one_verdict G fewer entries (verdict.No j) (verdict.No k) (inr a) (inr b) = ap v
 -- ---- an answer of the call
 
 -- a verdict that was answered holds
-pub answered_yes : {E : Type 0} (Is : Verdict → Type 0) (r : Result Verdict E) → IfOk r Is → r ≡ Ok verdict.Yes → Is verdict.Yes
+pub answered_yes : {E : Type 0} (Is : Verdict → Type 0) (r : Result Verdict E) → IfOk r Is → r ≡ Ok verdict.Yes
+    → Is verdict.Yes
 answered_yes {E} Is r h e = subst (λ (q : Result Verdict E). IfOk q Is) e h
 
 -- `Yes` is answered exactly where something holds that follows from it and gives it
-pub if_ok_yes : {E : Type 0} (Is : Verdict → Type 0) (Says : Type 0) (r : Result Verdict E) → IfOk r Is → IfOk r (λ v. (other : Verdict) → Is other → v ≡ other) → (Is verdict.Yes → Says) → (Says → Is verdict.Yes)
+pub if_ok_yes : {E : Type 0} (Is : Verdict → Type 0) (Says : Type 0) (r : Result Verdict E) → IfOk r Is
+    → IfOk r (λ v. (other : Verdict) → Is other → v ≡ other) → (Is verdict.Yes → Says) → (Says → Is verdict.Yes)
     → IfOk r (λ v. (v ≡ verdict.Yes) ↔ Says)
 if_ok_yes {E} Is Says (Ok v) h only says comes = (λ is. says (subst Is is h), λ s. only verdict.Yes (comes s))
 if_ok_yes {E} Is Says (Err e) h only says comes = tt

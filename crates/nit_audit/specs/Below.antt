@@ -5,10 +5,13 @@ pub use Rattle.nit_audit.specs.declared.keys.Which.{Which}
 pub use Rattle.nit_config.specs.Configuration.{Configuration, bar_rows, donation_of, member}
 pub use Rattle.nit_config.specs.ConfigurationRanges.{IsConfiguration, IsMember}
 pub use Rattle.nit_config.specs.declared.config.Member.{Member}
-pub use Rattle.nit_events.specs.Input.{InputState, Routing, deliveries_of, delivery, first_input, forget, pointer_after, routed_as, routing}
+pub use Rattle.nit_events.specs.Input.{InputState, Routing, deliveries_of, delivery, first_input}
+pub use Rattle.nit_events.specs.Input.{forget, pointer_after, routed_as, routing}
 pub use Rattle.nit_events.specs.Ranges.{IsDevice, most_read}
 pub use Rattle.nit_events.specs.declared.call.Call.{Call}
-pub use Rattle.nit_events.specs.declared.call.Call.TheVariants.{Above, Back, Buffer, Close, Destroy, Front, Offset, Place, Refresh, Take, Title, Upgrade}
+pub use Rattle.nit_events.specs.declared.call.Call.TheVariants.{Above, Back, Buffer, Close, Destroy}
+pub use Rattle.nit_events.specs.declared.call.Call.TheVariants.{Front, Offset, Place, Refresh, Take}
+pub use Rattle.nit_events.specs.declared.call.Call.TheVariants.{Title, Upgrade}
 pub use Rattle.nit_events.specs.declared.call.Reply.{Reply}
 pub use Rattle.nit_events.specs.declared.device.Device.{Device}
 pub use Rattle.nit_events.specs.declared.entry.Entry.{Entry}
@@ -21,11 +24,19 @@ pub use Rattle.nit_focus.specs.Focus.{FocusModel, clicks_on_list, pointer, with_
 pub use Rattle.nit_glyph.specs.Texts.{is_title}
 pub use Rattle.nit_journal.specs.Projection.{alone, projection, replies_to}
 pub use Rattle.nit_journal.specs.Replay.{Agrees, IsLegal, IsOpen, LegalFrom}
-pub use Rattle.nit_journal.specs.Session.{Answered, Session, accepted, answered, by_call, by_handle, by_life, by_quota, by_status, ended, first_session, given, has_view, is_side, queued, receive, refusal, serve, taking, unless, ◌orelse◌}
-pub use Rattle.nit_journal.specs.StackAfter.{after_accepted, after_deliveries, is_accepted, new_view}
-pub use Rattle.nit_journal.specs.State.{State, after, clicks_on, delivered, first_state, input_after_call, layer, route, session_in}
-pub use Rattle.nit_journal.specs.WholeJournals.{Does, IsWhole, Shoots, UserAction, calls_of, done, left, next_phase, phases_along, to_do, user_actions_of}
-pub use Rattle.nit_plan.specs.Calls.{calls_from, calls_to_make, user_actions_from, user_actions_to_do}
+pub use Rattle.nit_journal.specs.Session.{Answered, Session, accepted, answered, by_call, by_handle}
+pub use Rattle.nit_journal.specs.Session.{by_life, by_quota, by_status, ended, first_session, given}
+pub use Rattle.nit_journal.specs.Session.{has_view, is_side, queued, receive, refusal, serve}
+pub use Rattle.nit_journal.specs.Session.{taking, unless, ◌orelse◌}
+pub use Rattle.nit_journal.specs.StackAfter.{after_accepted, after_deliveries, is_accepted}
+pub use Rattle.nit_journal.specs.StackAfter.{new_view}
+pub use Rattle.nit_journal.specs.State.{State, after, clicks_on, delivered, first_state}
+pub use Rattle.nit_journal.specs.State.{input_after_call, layer, route, session_in}
+pub use Rattle.nit_journal.specs.WholeJournals.{Does, IsWhole, Shoots, UserAction, calls_of, done}
+pub use Rattle.nit_journal.specs.WholeJournals.{left, next_phase, phases_along, to_do}
+pub use Rattle.nit_journal.specs.WholeJournals.{user_actions_of}
+pub use Rattle.nit_plan.specs.Calls.{calls_from, calls_to_make, user_actions_from}
+pub use Rattle.nit_plan.specs.Calls.{user_actions_to_do}
 pub use Rattle.nit_rect.specs.Limits.{most_sessions}
 pub use Rattle.nit_rect.specs.Rectangle.{covers, is_place, is_rectangle, rectangle}
 pub use Rattle.nit_rect.specs.declared.point.Point.{Point}
@@ -35,7 +46,8 @@ pub use Rattle.nit_script.specs.declared.line.InputLine.{InputLine}
 pub use Rattle.nit_script.specs.declared.line.Line.{Line}
 pub use Rattle.nit_slots.specs.Account.{IsDonation, buffer_left, buffer_need, view_left, view_need}
 pub use Rattle.nit_stack.specs.LabelPlaces.{is_view}
-pub use Rattle.nit_stack.specs.Orders.{changed, moved, put_above, put_again, put_back, put_front, without}
+pub use Rattle.nit_stack.specs.Orders.{changed, moved, put_above, put_again, put_back, put_front}
+pub use Rattle.nit_stack.specs.Orders.{without}
 pub use Rattle.nit_stack.specs.Sources.{in_bar, owner}
 pub use Rattle.nit_stack.specs.declared.view.View.{View}
 pub use Rattle.slab.specs.Slab.{Slab, Updates, get}

@@ -1,6 +1,8 @@
 -- Entries that a run may have made so far.
 use Rattle.std.specs.Prelude.{◌≡◌, ℕ, ◌<◌, List, ◌∷◌, ◌++◌, map, length}
-use Rattle.nit_audit.specs.Below.{Call, Configuration, Entry, InputLine, IsLegal, IsNonDecreasing, Line, UserAction, calls_of, calls_to_make, done, phases_along, to_do, user_actions_of, user_actions_to_do}
+use Rattle.nit_audit.specs.Below.{Call, Configuration, Entry, InputLine, IsLegal, IsNonDecreasing}
+use Rattle.nit_audit.specs.Below.{Line, UserAction, calls_of, calls_to_make, done, phases_along}
+use Rattle.nit_audit.specs.Below.{to_do, user_actions_of, user_actions_to_do}
 use mathlib.Core.List.{IsPrefix}
 use Rattle.nit_events.specs.declared.entry.Entry.TheVariants as entry
 

@@ -1,6 +1,9 @@
 -- An audit under way: what the entries so far lead to, and which entry may come next.
 use Rattle.std.specs.Prelude.{◌≡◌, ℕ, ◌+◌, ◌<◌, ◌≤◌, List, [], ◌∷◌, ◌++◌, length, slice_set}
-use Rattle.nit_audit.specs.Below.{Agrees, Call, Configuration, Does, Entry, InputLine, IsNonDecreasing, LegalFrom, Line, Shoots, State, UserAction, after, calls_of, done, first_state, left, next_phase, phases_along, to_do, user_actions_of}
+use Rattle.nit_audit.specs.Below.{Agrees, Call, Configuration, Does, Entry, InputLine}
+use Rattle.nit_audit.specs.Below.{IsNonDecreasing, LegalFrom, Line, Shoots, State, UserAction}
+use Rattle.nit_audit.specs.Below.{after, calls_of, done, first_state, left, next_phase}
+use Rattle.nit_audit.specs.Below.{phases_along, to_do, user_actions_of}
 use mathlib.Core.List.{IsPrefix}
 use Rattle.nit_events.specs.declared.entry.Entry.TheVariants as entry
 use Rattle.nit_script.specs.declared.line.Line.TheVariants as line

@@ -1,7 +1,8 @@
 //! What a client's script has still to do.
 
 ghost use Rattle.std.specs.Prelude.{◌≡◌, ◌↔◌, ◌+◌, ◌≤◌, [], IsTrue, IfSome, IfNone, length};
-ghost use Rattle.nit_audit.specs.Terms.{BeginsWithCall, IsNext, calls_from, calls_to_make, left, most_lines, next_phase};
+ghost use Rattle.nit_audit.specs.Terms.{BeginsWithCall, IsNext, calls_from, calls_to_make, left};
+ghost use Rattle.nit_audit.specs.Terms.{most_lines, next_phase};
 
 use crate::same::same_call;
 use nit_events::Call;

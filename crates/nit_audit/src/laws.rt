@@ -1,7 +1,9 @@
 //! What verdicts say of each other, and of journals.
 
 ghost use Rattle.std.specs.Prelude.{◌≡◌, ◌<◌, ℕ, List, length};
-ghost use Rattle.nit_audit.specs.Terms.{Call, Configuration, Entry, IsGoodFor, IsLegal, IsVerdict, IsWhole, UserAction, Verdict, alone, donation_of, projection, replies_to};
+ghost use Rattle.nit_audit.specs.Terms.{Call, Configuration, Entry, IsGoodFor, IsLegal, IsVerdict};
+ghost use Rattle.nit_audit.specs.Terms.{IsWhole, UserAction, Verdict, alone, donation_of};
+ghost use Rattle.nit_audit.specs.Terms.{projection, replies_to};
 ghost use Rattle.nit_audit.specs.declared.auditing.Verdict.TheVariants as verdict;
 
 use nit_journal::laws::isolation;

@@ -1,7 +1,9 @@
 //! One session, done again.
 
-ghost use Rattle.std.specs.Prelude.{◌≡◌, ◌+◌, ◌-◌, ◌^◌, ◌<◌, ◌≤◌, not, filter, ◌==◌, None, IfOk, vec_capacity};
-ghost use Rattle.nit_audit.specs.Terms.{Destroy, IsDonation, Take, accepted, by_call, by_handle, ended, first_session, list_any, queued, receive, refusal};
+ghost use Rattle.std.specs.Prelude.{◌≡◌, ◌+◌, ◌-◌, ◌^◌, ◌<◌, ◌≤◌, not, filter, ◌==◌, None, IfOk};
+ghost use Rattle.std.specs.Prelude.{vec_capacity};
+ghost use Rattle.nit_audit.specs.Terms.{Destroy, IsDonation, Take, accepted, by_call, by_handle};
+ghost use Rattle.nit_audit.specs.Terms.{ended, first_session, list_any, queued, receive, refusal};
 ghost use Rattle.nit_events.specs.declared.call.Call.TheVariants.{View};
 
 use nit_events::{Call, Event, Item, Queue, Reply, Status};

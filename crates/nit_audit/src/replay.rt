@@ -1,8 +1,17 @@
 //! A run, done again entry by entry.
 
-ghost use Rattle.std.specs.Prelude.{◌≡◌, ◌+◌, ◌<◌, ◌≤◌, true, false, All, length, map, IfOk, OnOk, slice_index_or, slice_set, None, IsTrue, ◌↔◌, ℕ, ◌∷◌, [], ◌-◌, ◌^◌};
+ghost use Rattle.std.specs.Prelude.{◌≡◌, ◌+◌, ◌<◌, ◌≤◌, true, false, All, length, map, IfOk, OnOk};
+ghost use Rattle.std.specs.Prelude.{slice_index_or, slice_set, None, IsTrue, ◌↔◌, ℕ, ◌∷◌, [], ◌-◌};
+ghost use Rattle.std.specs.Prelude.{◌^◌};
 ghost use Rattle.nit_events.specs.declared.entry.Entry.TheVariants as entry;
-ghost use Rattle.nit_audit.specs.Terms.{IsConfiguration, IsDevice, IsMember, IsReplay, IsReplayAnswer, IsSound, View, accepted, after_accepted, after_deliveries, bar_rows, changed, delivered, deliveries_of, delivery, first_input, first_session, first_state, input_closing, is_rectangle, is_title, is_view, layer, member, most_read, most_sessions, rectangle, refusal, replay_routing, routed_as, session_in, state_of_replay};
+ghost use Rattle.nit_audit.specs.Terms.{IsConfiguration, IsDevice, IsMember, IsReplay};
+ghost use Rattle.nit_audit.specs.Terms.{IsReplayAnswer, IsSound, View, accepted, after_accepted};
+ghost use Rattle.nit_audit.specs.Terms.{after_deliveries, bar_rows, changed, delivered};
+ghost use Rattle.nit_audit.specs.Terms.{deliveries_of, delivery, first_input, first_session};
+ghost use Rattle.nit_audit.specs.Terms.{first_state, input_closing, is_rectangle, is_title};
+ghost use Rattle.nit_audit.specs.Terms.{is_view, layer, member, most_read, most_sessions};
+ghost use Rattle.nit_audit.specs.Terms.{rectangle, refusal, replay_routing, routed_as, session_in};
+ghost use Rattle.nit_audit.specs.Terms.{state_of_replay};
 
 use crate::keys::{Change, Which};
 use crate::machine::Machine;

@@ -1,7 +1,9 @@
 //! What the input script has still to do.
 
 ghost use Rattle.std.specs.Prelude.{◌≡◌, ◌↔◌, ◌+◌, ◌≤◌, [], IsTrue, IfSome, IfNone, length};
-ghost use Rattle.nit_audit.specs.Terms.{AllByRecursion, BeginsWithDeed, Does, FitsInputLine, IsDevice, IsNext, Shoots, left, most_lines, next_phase, user_actions_from, user_actions_to_do};
+ghost use Rattle.nit_audit.specs.Terms.{AllByRecursion, BeginsWithDeed, Does, FitsInputLine};
+ghost use Rattle.nit_audit.specs.Terms.{IsDevice, IsNext, Shoots, left, most_lines, next_phase};
+ghost use Rattle.nit_audit.specs.Terms.{user_actions_from, user_actions_to_do};
 
 use nit_events::Device;
 use nit_script::{Input, InputLine};

@@ -1,7 +1,9 @@
 //! All views in a plain list, front first.
 
 ghost use Rattle.std.specs.Prelude.{◌≡◌, ◌<◌, ◌≤◌, [], option_map, IfSome, OnOk};
-ghost use Rattle.nit_audit.specs.Terms.{changed, is_meant, is_view, layer, most_sessions, moved, new_view, owner, put_above, put_back, put_front, with_change, without};
+ghost use Rattle.nit_audit.specs.Terms.{changed, is_meant, is_view, layer, most_sessions, moved};
+ghost use Rattle.nit_audit.specs.Terms.{new_view, owner, put_above, put_back, put_front};
+ghost use Rattle.nit_audit.specs.Terms.{with_change, without};
 
 use crate::keys::{
     Change, Which, back_place, change_all, covering, drop_all, first_key, front_place, layer_of,

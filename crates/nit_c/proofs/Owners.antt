@@ -19,4 +19,5 @@ module _ {M : Type 1} {𝓤 : Ura M} (𝓛 : Logic 𝓤) (S : Owning) where
 module _ {M : Type 1} {𝓤 : Ura M} {𝓛 : Logic 𝓤} {K : Type 0} {Γ : List (Item 𝓤)} {G : Goal 𝓤 𝓛.H} (S : Owning) where
   pub owner_in : K → Plains (fields S) → (d : S.D) (vs : List Val) → Is (Struct (shape S)) (to S d) vs
       → Step K 𝓛 (‵ ((row S).own_val d vs) ∷ Γ) G (‵ (S.heap d) ∷ Γ) G
-  owner_in t pl d vs is = step (λ s. owned t (Struct (shape S)) (Is (Struct (shape S))) (Struct-Makes 𝓛 (shape S) pl) (to S d) vs is $ fjoin t $ s)
+  owner_in t pl d vs is = step (λ s. owned t (Struct (shape S)) (Is (Struct (shape S))) (Struct-Makes 𝓛 (shape S) pl)
+      (to S d) vs is $ fjoin t $ s)

@@ -6,11 +6,14 @@ use Rattle.nit_c.specs.Replies.{IsRedrawn, IsRefreshed}
 use Rattle.nit_c.specs.Steps.{host_where, host_of}
 use Rattle.nit_c.specs.declared.reply.NitReply.{NitReply}
 
-pub at_place : (old new : Option HostModel) (seat : ℕ) (x y x' y' : ℤ) (w h : ℕ) (words : List ℕ) (answer : NitReply) → x' ≡ x → y' ≡ y → IsRefreshed old new seat x' y' w h words answer → IsRefreshed old new seat x y w h words answer
+pub at_place : (old new : Option HostModel) (seat : ℕ) (x y x' y' : ℤ) (w h : ℕ) (words : List ℕ) (answer : NitReply)
+    → x' ≡ x → y' ≡ y → IsRefreshed old new seat x' y' w h words answer → IsRefreshed old new seat x y w h words answer
 at_place old new seat x y x' y' w h words answer e f is =
-    subst (λ (q : ℤ). IsRefreshed old new seat x q w h words answer) f (subst (λ (p : ℤ). IsRefreshed old new seat p y' w h words answer) e is)
+    subst (λ (q : ℤ). IsRefreshed old new seat x q w h words answer) f
+    (subst (λ (p : ℤ). IsRefreshed old new seat p y' w h words answer) e is)
 
-pub refreshed_by : (m m' : ℕ) (v v' a b : HostModel) (seat : ℕ) (x y x' y' : ℤ) (w h : ℕ) (words : List ℕ) (answer : NitReply) → nat_eq m live_mark ≡ true → m' ≡ live_mark → v ≡ a → v' ≡ b → x' ≡ x → y' ≡ y
+pub refreshed_by : (m m' : ℕ) (v v' a b : HostModel) (seat : ℕ) (x y x' y' : ℤ) (w h : ℕ) (words : List ℕ)
+    (answer : NitReply) → nat_eq m live_mark ≡ true → m' ≡ live_mark → v ≡ a → v' ≡ b → x' ≡ x → y' ≡ y
     → IsRedrawn a b seat x' y' w h words answer → IsRefreshed (host_of m v) (host_of m' v') seat x y w h words answer
 refreshed_by m m' v v' a b seat x y x' y' w h words answer live live' before after e f is =
     at_place (host_of m v) (host_of m' v') seat x y x' y' w h words answer e f

@@ -1,5 +1,6 @@
 -- A look at the screen, and at the last step.
-use Rattle.std.specs.Prelude.{◌≡◌, ◌≢◌, ◌*◌, ◌≤◌, ◌<◌, ◌-◌, ◌^◌, ◌++◌, ◌⊎◌, ℕ, pos, List, length, drop, Option, Some, None}
+use Rattle.std.specs.Prelude.{◌≡◌, ◌≢◌, ◌*◌, ◌≤◌, ◌<◌, ◌-◌, ◌^◌, ◌++◌, ◌⊎◌, ℕ, pos, List, length}
+use Rattle.std.specs.Prelude.{drop, Option, Some, None}
 use Rattle.nit_look.specs.Look.{CoversChange, IsTouched, LiesOn}
 use Rattle.nit_overlay.specs.Frame.{frame}
 use Rattle.nit_rect.specs.Rectangle.{Rectangle, rectangle}

@@ -1,8 +1,11 @@
 -- A server is opened and closed.
-use Rattle.std.specs.Prelude.{◌≡◌, ◌≤◌, ◌<◌, ◌⊎◌, ◌+◌, ◌*◌, ◌/◌, ◌==◌, ◌&&◌, not, nat_le, ℕ, Bool, List, length, map, slice_index, Option, Some, None, Result, Ok, Err, if◌then◌else◌}
+use Rattle.std.specs.Prelude.{◌≡◌, ◌≤◌, ◌<◌, ◌⊎◌, ◌+◌, ◌*◌, ◌/◌, ◌==◌, ◌&&◌, not, nat_le, ℕ, Bool}
+use Rattle.std.specs.Prelude.{List, length, map, slice_index, Option, Some, None, Result, Ok, Err}
+use Rattle.std.specs.Prelude.{if◌then◌else◌}
 use Rattle.std.specs.List.{list_all, range_with_len}
 use Rattle.nit_config.specs.Configuration.{Configuration}
-use Rattle.nit_config.specs.ConfigurationText.{IsConfigAnswer, IsConfigurationOf, MeetsRefusal, UnlessMemory}
+use Rattle.nit_config.specs.ConfigurationText.{IsConfigAnswer, IsConfigurationOf, MeetsRefusal}
+use Rattle.nit_config.specs.ConfigurationText.{UnlessMemory}
 use Rattle.nit_config.specs.declared.error.ConfigError.{ConfigError}
 use Rattle.nit_journal.specs.State.{first_state}
 use Rattle.nit_journal.specs.Steps.{vacant_state}

@@ -1,7 +1,8 @@
 //! The calls of the clients.
 
 ghost use Rattle.std.specs.Prelude.{◌≡◌};
-ghost use Rattle.nit_c.specs.Replies.{IsCalled, IsRedrawn, IsRefreshed, IsTitled, IsUntitled, untitled};
+ghost use Rattle.nit_c.specs.Replies.{IsCalled, IsRedrawn, IsRefreshed, IsTitled, IsUntitled};
+ghost use Rattle.nit_c.specs.Replies.{untitled};
 ghost use Rattle.nit_c.specs.Steps.{host_of};
 ghost use Rattle.nit_events.specs.declared.call.Call.TheVariants as call;
 

@@ -2,8 +2,8 @@
 //!
 //! A host program keeps a [`NitServer`](handle::NitServer), and each thing that it does is one
 //! export. An export takes the server out of its handle, does one call of `nit_host` and puts it
-//! back. It tests whatever a C program may get wrong, and answers it by a number; where a handle has
-//! no server it does nothing.
+//! back. It tests whatever a C program may get wrong, and answers it by a number; where a handle
+//! has no server it does nothing.
 #![tactic(auto)]
 
 mod calls;

@@ -1,8 +1,11 @@
 //! A server is opened, and closed.
 
-ghost use Rattle.std.specs.Prelude.{◌≡◌, ◌≢◌, ◌≤◌, ℕ, None, Some, IfOk, MatchResult, Err, length, take};
+ghost use Rattle.std.specs.Prelude.{◌≡◌, ◌≢◌, ◌≤◌, ℕ, None, Some, IfOk, MatchResult, Err, length};
+ghost use Rattle.std.specs.Prelude.{take};
 ghost use Rattle.nit_c.specs.Held.{IsClosed};
-ghost use Rattle.nit_c.specs.Opening.{IsShut, IsOpened, IsOpenedBy, IsMadeByPlan, IsRead, are_seats, have_clicks, plan_number, planned_config, refused_words, seat_count, seats_in};
+ghost use Rattle.nit_c.specs.Opening.{IsShut, IsOpened, IsOpenedBy, IsMadeByPlan, IsRead};
+ghost use Rattle.nit_c.specs.Opening.{are_seats, have_clicks, plan_number, planned_config};
+ghost use Rattle.nit_c.specs.Opening.{refused_words, seat_count, seats_in};
 ghost use Rattle.nit_c.specs.Steps.{host_of};
 ghost use Rattle.nit_host.specs.Terms.{IsConfiguration, first_host, first_state, vacant_state};
 
@@ -181,8 +184,8 @@ pub extern "C" fn nit_open_seats(
     }
 }
 
-/// Opens a server by the text of a configuration, of at most 1,048,576 bytes. Its clients sit on the
-/// seats from the start.
+/// Opens a server by the text of a configuration, of at most 1,048,576 bytes. Its clients sit on
+/// the seats from the start.
 #[unsafe(no_mangle)]
 pub extern "C" fn nit_open_config(alloc: Global, server: &mut NitServer, text: &[u8]) -> u32
     ensures opened { IsOpenedBy (host_of server.old.mark server.old.value)

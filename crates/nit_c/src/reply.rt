@@ -8,8 +8,8 @@ use nit_events::{Event, Reply};
 use nit_host::Unserved;
 
 /// What a client is told, or what becomes of it. `kind` is 1 to 7 in the order of
-/// `nit_events::Event`, 8 where the client is locked out, and 0 where there is nothing. A field that
-/// the kind does not name is 0.
+/// `nit_events::Event`, 8 where the client is locked out, and 0 where there is nothing. A field
+/// that the kind does not name is 0.
 #[repr(C)]
 #[derive(Clone, Copy)]
 pub struct NitEvent {

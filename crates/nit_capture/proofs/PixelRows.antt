@@ -1,6 +1,14 @@
 -- Pixels that stand side by side in a row.
-use Rattle.std.proofs.Common.{Bool, List, [], ap, append_assoc, ap₂, arith, drop, false, inl, inr, length, map, mul_comm, refl, suc, sym, take, true, zero, ℕ, ◌*◌, ◌++◌, ◌+◌, ◌-◌, ◌<◌, ◌∙◌, ◌∷◌, ◌≡◌, ◌≤◌}
-use Rattle.nit_capture.proofs.Basics.{IsPictureSize, append-nil, cases_lt, differs, div-mul-add, ext_get_or, get_or-drop, get_or-map-range_with_len, get_or-take, high, left_of, length-drop, length-map-range_with_len, length-take, map-range_with_len_more, mod-mul-add, mul-add-lt, mul-le, range_with_len, slice_index, take-put_mid, tile_count, tile_pixels, top_of, wide}
+use Rattle.std.proofs.Common.{Bool, List, [], ap, append_assoc, ap₂, arith, drop, false, inl, inr}
+use Rattle.std.proofs.Common.{length, map, mul_comm, refl, suc, sym, take, true, zero, ℕ, ◌*◌, ◌++◌}
+use Rattle.std.proofs.Common.{◌+◌, ◌-◌, ◌<◌, ◌∙◌, ◌∷◌, ◌≡◌, ◌≤◌}
+use Rattle.nit_capture.proofs.Basics.{IsPictureSize, append-nil, cases_lt, differs, div-mul-add}
+use Rattle.nit_capture.proofs.Basics.{ext_get_or, get_or-drop, get_or-map-range_with_len}
+use Rattle.nit_capture.proofs.Basics.{get_or-take, high, left_of, length-drop}
+use Rattle.nit_capture.proofs.Basics.{length-map-range_with_len, length-take}
+use Rattle.nit_capture.proofs.Basics.{map-range_with_len_more, mod-mul-add, mul-add-lt, mul-le}
+use Rattle.nit_capture.proofs.Basics.{range_with_len, slice_index, take-put_mid, tile_count}
+use Rattle.nit_capture.proofs.Basics.{tile_pixels, top_of, wide}
 use Rattle.nit_capture.specs.Tiles.{area, place, row_place}
 use borrow.Rule.Slice.PartMut.{put_mid}
 use Rattle.nit_capture.proofs.Tiles.{wide_some, high_some}
@@ -10,27 +18,34 @@ pub next_row : (row wide : ℕ) → (row + 1) * wide ≡ row * wide + wide
 next_row row wide = omega arith
 
 -- what is given for so many numbers, and for as many more
-pub map_joined : (f g : ℕ → ℕ) (m n : ℕ) → ((j : ℕ) → j < n → f (m + j) ≡ g j) → map f (range_with_len 0 (m + n)) ≡ map f (range_with_len 0 m) ++ map g (range_with_len 0 n)
-map_joined f g m zero same = let e : m + 0 ≡ m = omega arith in ap (λ (n : ℕ). map f (range_with_len 0 n)) e ∙ sym (append-nil (map f (range_with_len 0 m)))
+pub map_joined : (f g : ℕ → ℕ) (m n : ℕ) → ((j : ℕ) → j < n → f (m + j) ≡ g j)
+    → map f (range_with_len 0 (m + n)) ≡ map f (range_with_len 0 m) ++ map g (range_with_len 0 n)
+map_joined f g m zero same = let e : m + 0 ≡ m = omega arith in ap (λ (n : ℕ). map f (range_with_len 0 n)) e
+    ∙ sym (append-nil (map f (range_with_len 0 m)))
 map_joined f g m (suc n) same =
     let e : m + suc n ≡ (m + n) + 1 = omega arith in
     let one : n + 1 ≡ suc n = omega arith in
     ap (λ (k : ℕ). map f (range_with_len 0 k)) e
     ∙ map-range_with_len_more f 0 (m + n) (m + n) (omega arith)
-    ∙ ap₂ (λ (l : List ℕ) (x : ℕ). l ++ x ∷ []) (map_joined f g m n (λ j lt. same j (omega arith))) (same n (omega arith))
+    ∙ ap₂ (λ (l : List ℕ) (x : ℕ). l ++ x ∷ []) (map_joined f g m n (λ j lt. same j (omega arith)))
+    (same n (omega arith))
     ∙ append_assoc (map f (range_with_len 0 m)) (map g (range_with_len 0 n)) (g n ∷ [])
-    ∙ ap (λ (l : List ℕ). map f (range_with_len 0 m) ++ l) (sym (map-range_with_len_more g 0 n n (omega arith)) ∙ ap (λ (k : ℕ). map g (range_with_len 0 k)) one)
+    ∙ ap (λ (l : List ℕ). map f (range_with_len 0 m) ++ l) (sym (map-range_with_len_more g 0 n n (omega arith))
+    ∙ ap (λ (k : ℕ). map g (range_with_len 0 k)) one)
 
 pub part_long : (p : List ℕ) (at n : ℕ) → at + n ≤ length p → length (take n (drop at p)) ≡ n
 part_long p at n le = omega (arith, length-take n (drop at p), length-drop at p)
 
 -- the words of a list from one place on
-pub part_is : (p : List ℕ) (at n : ℕ) → at + n ≤ length p → take n (drop at p) ≡ map (λ j. slice_index p (at + j)) (range_with_len 0 n)
+pub part_is : (p : List ℕ) (at n : ℕ) → at + n ≤ length p
+    → take n (drop at p) ≡ map (λ j. slice_index p (at + j)) (range_with_len 0 n)
 part_is p at n le =
     let long = part_long p at n le in
-    ext_get_or 0 (take n (drop at p)) (map (λ j. slice_index p (at + j)) (range_with_len 0 n)) (long ∙ sym (length-map-range_with_len (λ j. slice_index p (at + j)) 0 n))
+    ext_get_or 0 (take n (drop at p)) (map (λ j. slice_index p (at + j)) (range_with_len 0 n))
+    (long ∙ sym (length-map-range_with_len (λ j. slice_index p (at + j)) 0 n))
     (λ i lt. let below : i < n = omega (arith, long) in
-    get_or-take n (drop at p) i 0 below ∙ get_or-drop at p i 0 ∙ sym (get_or-map-range_with_len (λ j. slice_index p (at + j)) 0 n i i 0 below (omega arith)))
+    get_or-take n (drop at p) i 0 below ∙ get_or-drop at p i 0
+    ∙ sym (get_or-map-range_with_len (λ j. slice_index p (at + j)) 0 n i i 0 below (omega arith)))
 
 -- ---- the rows of a tile
 
@@ -46,20 +61,24 @@ unfolding row_place
 row_within w h t row some below lt =
     let W = wide_some w t some in
     let H = high_some w h t some below in
-    let last = mul-add-lt (top_of w t + row) w (left_of w t + (wide w t - 1)) h (omega (arith, H.within)) (omega (arith, W.within, W.some)) in
+    let last = mul-add-lt (top_of w t + row) w (left_of w t + (wide w t - 1)) h (omega (arith, H.within))
+    (omega (arith, W.within, W.some)) in
     omega (arith, last, W.some)
 
 -- ---- rows of two pictures
 
-same_at : (a b : List ℕ) (at n j : ℕ) → j < n → take n (drop at a) ≡ take n (drop at b) → slice_index a (at + j) ≡ slice_index b (at + j)
+same_at : (a b : List ℕ) (at n j : ℕ) → j < n → take n (drop at a) ≡ take n (drop at b)
+    → slice_index a (at + j) ≡ slice_index b (at + j)
 same_at a b at n j lt e =
-    sym (get_or-take n (drop at a) j 0 lt ∙ get_or-drop at a j 0) ∙ ap (λ (l : List ℕ). slice_index l j) e ∙ get_or-take n (drop at b) j 0 lt ∙ get_or-drop at b j 0
+    sym (get_or-take n (drop at a) j 0 lt ∙ get_or-drop at a j 0) ∙ ap (λ (l : List ℕ). slice_index l j) e
+    ∙ get_or-take n (drop at b) j 0 lt ∙ get_or-drop at b j 0
 
 -- two pictures have the same pixels in the first rows of tile t
 abbrev pub SameRows : ℕ → ℕ → ℕ → List ℕ → List ℕ → Type 0
 SameRows w t rows a b = (k : ℕ) → k < rows * wide w t → slice_index a (place w t k) ≡ slice_index b (place w t k)
 
-pub one_more_row : (w t row : ℕ) (a b : List ℕ) → SameRows w t row a b → take (wide w t) (drop (row_place w t row) a) ≡ take (wide w t) (drop (row_place w t row) b) → SameRows w t (row + 1) a b
+pub one_more_row : (w t row : ℕ) (a b : List ℕ) → SameRows w t row a b → take (wide w t) (drop (row_place w t row) a)
+    ≡ take (wide w t) (drop (row_place w t row) b) → SameRows w t (row + 1) a b
 one_more_row w t row a b same e k lt = elim (cases_lt k (row * wide w t)) [
   | inl above ↦ same k above
   | inr here ↦
@@ -72,10 +91,14 @@ one_more_row w t row a b same e k lt = elim (cases_lt k (row * wide w t)) [
 
 pub all_rows : (w h t rows : ℕ) (a b : List ℕ) → high w h t ≤ rows → SameRows w t rows a b → differs w h a b t ≡ false
 unfolding area
-all_rows w h t rows a b le same = same_tile w h a b t (λ k below. same k (let most = mul-le (high w h t) (wide w t) rows (wide w t) le (omega arith) in omega (arith, below)))
+all_rows w h t rows a b le same =
+    same_tile w h a b t (λ k below.
+    same k (let most = mul-le (high w h t) (wide w t) rows (wide w t) le (omega arith) in omega (arith, below)))
 
-pub row_differs : (w h t row : ℕ) (a b : List ℕ) → 1 ≤ w → t < tile_count w h → row < high w h t → length a ≡ w * h → length b ≡ w * h
-    → (take (wide w t) (drop (row_place w t row) a) ≡ take (wide w t) (drop (row_place w t row) b) → ⊥) → differs w h a b t ≡ true
+pub row_differs : (w h t row : ℕ) (a b : List ℕ) → 1 ≤ w → t < tile_count w h → row < high w h t → length a ≡ w * h
+    → length b ≡ w * h
+    → (take (wide w t) (drop (row_place w t row) a) ≡ take (wide w t) (drop (row_place w t row) b) → ⊥)
+    → differs w h a b t ≡ true
 unfolding area
 row_differs w h t row a b some below lt size_a size_b ne = either (differs w h a b t) refl
   where
@@ -88,7 +111,9 @@ row_differs w h t row a b some below lt size_a size_b ne = either (differs w h a
         part_is a at (wide w t) (omega (arith, within, size_a))
         ∙ same_map (λ j. slice_index a (at + j)) (λ j. slice_index b (at + j)) 0 (wide w t) (λ j low high_.
         let is = place_in_row w t row j (omega arith) in
-        let inside : row * wide w t + j < high w h t * wide w t = let m = mul-add-lt row (wide w t) j (high w h t) lt (omega arith) in omega (arith, m, mul_comm (wide w t) (high w h t)) in
+        let inside : row * wide w t + j < high w h t * wide w t = let m =
+        mul-add-lt row (wide w t) j (high w h t) lt (omega arith) in omega
+        (arith, m, mul_comm (wide w t) (high w h t)) in
         ap (slice_index a) (sym is) ∙ same_pixel w h a b t e (row * wide w t + j) inside ∙ ap (slice_index b) is)
         ∙ sym (part_is b at (wide w t) (omega (arith, within, size_b)))))
 
@@ -100,11 +125,14 @@ place_small w h s = mul-le w h 1024 768 s.columns s.rows
 
 -- ---- a row that was copied
 
-pub part_taken : (w h t row : ℕ) (p : List ℕ) → 1 ≤ w → t < tile_count w h → row < high w h t → length p ≡ w * h → length (take (wide w t) (drop (row_place w t row) p)) ≡ wide w t
-part_taken w h t row p some below lt size = part_long p (row_place w t row) (wide w t) (omega (arith, row_within w h t row some below lt, size))
+pub part_taken : (w h t row : ℕ) (p : List ℕ) → 1 ≤ w → t < tile_count w h → row < high w h t → length p ≡ w * h
+    → length (take (wide w t) (drop (row_place w t row) p)) ≡ wide w t
+part_taken w h t row p some below lt size =
+    part_long p (row_place w t row) (wide w t) (omega (arith, row_within w h t row some below lt, size))
 
 -- A row was written behind the rows before it.
-pub row_put : (f g : ℕ → ℕ) (row wide k : ℕ) (words part : List ℕ) → row * wide + wide ≤ length words → take (row * wide) words ≡ map f (range_with_len 0 (row * wide))
+pub row_put : (f g : ℕ → ℕ) (row wide k : ℕ) (words part : List ℕ) → row * wide + wide ≤ length words
+    → take (row * wide) words ≡ map f (range_with_len 0 (row * wide))
     → part ≡ map g (range_with_len 0 wide) → ((j : ℕ) → j < wide → f (row * wide + j) ≡ g j)
     → take ((row + 1) * wide) (put_mid (row * wide) k words part) ≡ map f (range_with_len 0 ((row + 1) * wide))
 row_put f g row wide k words part room before is same =
@@ -115,11 +143,14 @@ row_put f g row wide k words part room before is same =
     ∙ sym (map_joined f g (row * wide) wide same)
     ∙ ap (λ (n : ℕ). map f (range_with_len 0 n)) (sym next)
 
-pub row_copied : (w h t row k : ℕ) (p words part : List ℕ) → 1 ≤ w → t < tile_count w h → row < high w h t → length p ≡ w * h → row * wide w t + wide w t ≤ length words
-    → take (row * wide w t) words ≡ tile_pixels w p t 0 (row * wide w t) → part ≡ take (wide w t) (drop (row_place w t row) p)
+pub row_copied : (w h t row k : ℕ) (p words part : List ℕ) → 1 ≤ w → t < tile_count w h → row < high w h t
+    → length p ≡ w * h → row * wide w t + wide w t ≤ length words
+    → take (row * wide w t) words ≡ tile_pixels w p t 0 (row * wide w t)
+    → part ≡ take (wide w t) (drop (row_place w t row) p)
     → take ((row + 1) * wide w t) (put_mid (row * wide w t) k words part) ≡ tile_pixels w p t 0 ((row + 1) * wide w t)
 row_copied w h t row k p words part some below lt size room before is =
-    row_put (λ j. slice_index p (place w t j)) (λ j. slice_index p (row_place w t row + j)) row (wide w t) k words part room before
+    row_put (λ j. slice_index p (place w t j)) (λ j. slice_index p (row_place w t row + j)) row (wide w t) k words part
+    room before
     (is ∙ part_is p (row_place w t row) (wide w t) (omega (arith, row_within w h t row some below lt, size)))
     (λ j lt. ap (slice_index p) (place_in_row w t row j lt))
 

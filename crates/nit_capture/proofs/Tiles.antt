@@ -1,7 +1,10 @@
 -- Where the pixels of tiles lie: each place of a picture is that of one pixel of one tile.
-use Rattle.std.proofs.Common.{ap, ap₂, arith, min, mul_comm, sym, ℕ, ◌%◌, ◌*◌, ◌+◌, ◌-◌, ◌/◌, ◌<◌, ◌∙◌, ◌≡◌, ◌≤◌}
-use Rattle.nit_capture.proofs.Basics.{div-add-mod', div-mul-add, div_below, mod-mul-add, mod_below, mul-add-lt, same_from_place}
-use Rattle.nit_capture.specs.Tiles.{area, high, left_of, place, tile_count, tiles_along, top_of, wide}
+use Rattle.std.proofs.Common.{ap, ap₂, arith, min, mul_comm, sym, ℕ, ◌%◌, ◌*◌, ◌+◌, ◌-◌, ◌/◌, ◌<◌}
+use Rattle.std.proofs.Common.{◌∙◌, ◌≡◌, ◌≤◌}
+use Rattle.nit_capture.proofs.Basics.{div-add-mod', div-mul-add, div_below, mod-mul-add, mod_below}
+use Rattle.nit_capture.proofs.Basics.{mul-add-lt, same_from_place}
+use Rattle.nit_capture.specs.Tiles.{area, high, left_of, place, tile_count, tiles_along, top_of}
+use Rattle.nit_capture.specs.Tiles.{wide}
 
 -- there is a tile in each row and column
 pub some_tiles : (n : ℕ) → 1 ≤ n → 1 ≤ tiles_along n
@@ -19,7 +22,8 @@ left_fits w t some =
 row_below : (w h t : ℕ) → 1 ≤ w → t < tile_count w h → t / tiles_along w < tiles_along h
 unfolding tile_count
 row_below w h t some lt =
-    let turned : tiles_along w * tiles_along h ≡ tiles_along h * tiles_along w = mul_comm (tiles_along w) (tiles_along h) in
+    let turned : tiles_along w * tiles_along h ≡ tiles_along h * tiles_along w =
+    mul_comm (tiles_along w) (tiles_along h) in
     div_below t (tiles_along w) (tiles_along h) (some_tiles w some) (omega (arith, lt, turned))
 
 pub top_fits : (w h t : ℕ) → 1 ≤ w → t < tile_count w h → top_of w t < h
@@ -35,7 +39,8 @@ pub record Wide (w t : ℕ) : Type 0 where
 
 pub wide_some : (w t : ℕ) → 1 ≤ w → Wide w t
 unfolding wide
-wide_some w t some = let within = left_fits w t some in record { some = omega arith; few = omega arith; within = omega arith }
+wide_some w t some = let within =
+    left_fits w t some in record { some = omega arith; few = omega arith; within = omega arith }
 
 pub record High (w h t : ℕ) : Type 0 where
   pub some : 1 ≤ high w h t
@@ -44,7 +49,8 @@ pub record High (w h t : ℕ) : Type 0 where
 
 pub high_some : (w h t : ℕ) → 1 ≤ w → t < tile_count w h → High w h t
 unfolding high
-high_some w h t some lt = let within = top_fits w h t some lt in record { some = omega arith; few = omega arith; within = omega arith }
+high_some w h t some lt = let within =
+    top_fits w h t some lt in record { some = omega arith; few = omega arith; within = omega arith }
 
 -- where a pixel lies within its tile
 pub record Within (w h t k : ℕ) : Type 0 where
@@ -73,7 +79,8 @@ same_parts a b r s p q e = (omega arith, omega arith)
 same_whole : (a b m : ℕ) → a / m ≡ b / m → a % m ≡ b % m → a ≡ b
 same_whole a b m p q = sym (div-add-mod' a m) ∙ ap₂ (λ (x y : ℕ). x * m + y) p q ∙ div-add-mod' b m
 
-pub same_place : (w h t u j k : ℕ) → 1 ≤ w → t < tile_count w h → u < tile_count w h → j < area w h t → k < area w h u → place w t j ≡ place w u k → (t ≡ u) × (j ≡ k)
+pub same_place : (w h t u j k : ℕ) → 1 ≤ w → t < tile_count w h → u < tile_count w h → j < area w h t → k < area w h u
+    → place w t j ≡ place w u k → (t ≡ u) × (j ≡ k)
 unfolding place left_of top_of
 same_place w h t u j k some below_t below_u below_j below_k e =
     let V = wide_some w t some in
@@ -82,12 +89,18 @@ same_place w h t u j k some below_t below_u below_j below_k e =
     let H = high_some w h u some below_u in
     let p = pixel_within w h t j some below_j in
     let q = pixel_within w h u k some below_k in
-    let s = same_from_place (top_of w t + j / wide w t) (left_of w t + j % wide w t) (top_of w u + k / wide w u) (left_of w u + k % wide w u) w (omega arith) (omega arith) e in
-    let rows = same_parts (t / tiles_along w) (u / tiles_along w) (j / wide w t) (k / wide w u) (omega arith) (omega arith) s.0 in
-    let columns = same_parts (t % tiles_along w) (u % tiles_along w) (j % wide w t) (k % wide w u) (omega arith) (omega arith) s.1 in
+    let s = same_from_place (top_of w t + j / wide w t) (left_of w t + j % wide w t) (top_of w u + k / wide w u)
+    (left_of w u + k % wide w u) w (omega arith) (omega arith) e in
+    let rows = same_parts (t / tiles_along w) (u / tiles_along w) (j / wide w t) (k / wide w u) (omega arith)
+    (omega arith) s.0 in
+    let columns = same_parts (t % tiles_along w) (u % tiles_along w) (j % wide w t) (k % wide w u) (omega arith)
+    (omega arith) s.1 in
     let tiles : t ≡ u = same_whole t u (tiles_along w) rows.0 columns.0 in
-    let widths : wide w u ≡ wide w t = ap (wide w) (sym tiles) in
-    (tiles, same_whole j k (wide w t) (rows.1 ∙ ap (λ (m : ℕ). k / m) widths) (columns.1 ∙ ap (λ (m : ℕ). k % m) widths))
+    let widths : wide w u ≡ wide w t = ap (wide w) (sym tiles) in (
+      tiles,
+      same_whole j k (wide w t) (rows.1 ∙ ap (λ (m : ℕ). k / m) widths) (columns.1
+          ∙ ap (λ (m : ℕ). k % m) widths),
+    )
 
 -- the pixel of a tile that lies at a place
 pub record LiesAt (w h i : ℕ) : Type 0 where

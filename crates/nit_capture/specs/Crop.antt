@@ -1,6 +1,8 @@
 -- The part of a screen's picture inside a rectangle.
-use Rattle.std.specs.Prelude.{◌≡◌, ℕ, ◌+◌, ◌-◌, length, ◌*◌, ◌/◌, ◌%◌, pos, nat_abs, List, [], ◌∷◌, ◌++◌, map, slice_index, IsTrue}
-use Rattle.nit_capture.specs.Below.{Rectangle, channels, covers, flat_map, range_with_len, rectangle, word_of}
+use Rattle.std.specs.Prelude.{◌≡◌, ℕ, ◌+◌, ◌-◌, length, ◌*◌, ◌/◌, ◌%◌, pos, nat_abs, List, [], ◌∷◌}
+use Rattle.std.specs.Prelude.{◌++◌, map, slice_index, IsTrue}
+use Rattle.nit_capture.specs.Below.{Rectangle, channels, covers, flat_map, range_with_len}
+use Rattle.nit_capture.specs.Below.{rectangle, word_of}
 use Rattle.nit_capture.specs.Tiles.{IsPicture}
 
 -- the screen as a rectangle

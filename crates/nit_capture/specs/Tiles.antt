@@ -1,5 +1,6 @@
 -- Pictures, and the tiles that they are cut into.
-use Rattle.std.specs.Prelude.{◌≡◌, ◌≤◌, ℕ, ◌+◌, ◌-◌, ◌*◌, ◌/◌, ◌%◌, min, Bool, not, ◌==◌, List, map, length, replicate, slice_index}
+use Rattle.std.specs.Prelude.{◌≡◌, ◌≤◌, ℕ, ◌+◌, ◌-◌, ◌*◌, ◌/◌, ◌%◌, min, Bool, not, ◌==◌, List, map}
+use Rattle.std.specs.Prelude.{length, replicate, slice_index}
 use Rattle.nit_capture.specs.Below.{All, IsWord, list_any, most_height, most_width, range_with_len}
 
 -- a picture of w by h has a word for each pixel, row by row from the top

@@ -1,7 +1,8 @@
 //! A rectangle of the screen, filmed.
 
 ghost use Rattle.std.specs.Prelude.{◌≡◌, ◌≤◌, ◌*◌, ◌++◌, ℕ, List, length, replicate};
-ghost use Rattle.nit_capture.specs.Terms.{HasPixels, IfOk, IsPictureSize, LiesIn, OnErr, OnOk, Shows, screen};
+ghost use Rattle.nit_capture.specs.Terms.{HasPixels, IfOk, IsPictureSize, LiesIn, OnErr, OnOk};
+ghost use Rattle.nit_capture.specs.Terms.{Shows, screen};
 
 use crate::cut::cut_into;
 use crate::grid::Grid;
@@ -34,7 +35,8 @@ impl Model for Capture {
 }
 
 impl Capture {
-    ghost use Rattle.nit_capture.specs.Capture.{first_capture, cropped, cropped_bytes, next_record, with_last};
+    ghost use Rattle.nit_capture.specs.Capture.{first_capture, cropped, cropped_bytes, next_record};
+    ghost use Rattle.nit_capture.specs.Capture.{with_last};
 
     /// A capture of the rectangle `r` that has no picture yet. All numbers are in pixels: the
     /// screen has 1 to 1024 columns (`width`) and 1 to 768 rows (`height`), and `r` lies on it and

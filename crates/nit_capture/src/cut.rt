@@ -1,7 +1,9 @@
 //! The pixels of a rectangle, cut out of a picture of the screen.
 
 ghost use Rattle.std.specs.Prelude.{◌≡◌, ◌≤◌, ◌<◌, ◌*◌, ◌+◌, ℕ, length, map, nat_abs, slice_index};
-ghost use Rattle.nit_capture.specs.Terms.{HasPixels, IsPicture, IsPlace, LiesIn, crop_bytes, crop_pixel, crop_row_place, most_pixels, range_with_len, screen, word_of_bytes};
+ghost use Rattle.nit_capture.specs.Terms.{HasPixels, IsPicture, IsPlace, LiesIn, crop_bytes};
+ghost use Rattle.nit_capture.specs.Terms.{crop_pixel, crop_row_place, most_pixels, range_with_len};
+ghost use Rattle.nit_capture.specs.Terms.{screen, word_of_bytes};
 
 use crate::grid::Grid;
 use nit_rect::Rect;

@@ -1,7 +1,9 @@
 //! Where a picture has the pixels of a tile.
 
 ghost use Rattle.std.specs.Prelude.{◌≡◌, ◌≢◌, ◌≤◌, ◌<◌, ◌+◌, ◌*◌, true, false, length};
-ghost use Rattle.nit_capture.specs.Tiles.{IsPictureSize, tiles_along, tile_count, left_of, top_of, wide, high, area, place, row_place, differs, tile_side, most_area, most_across, most_tiles};
+ghost use Rattle.nit_capture.specs.Tiles.{IsPictureSize, tiles_along, tile_count, left_of, top_of};
+ghost use Rattle.nit_capture.specs.Tiles.{wide, high, area, place, row_place, differs, tile_side};
+ghost use Rattle.nit_capture.specs.Tiles.{most_area, most_across, most_tiles};
 
 /// How many columns and rows a tile has that is not cut off.
 pub const SIDE: usize = 16;

@@ -1,7 +1,8 @@
 //! The runs of a tile's pixels.
 
 ghost use Rattle.std.specs.Prelude.{◌≡◌, ◌≤◌, ◌<◌, ◌*◌, ◌+◌, ◌==◌};
-ghost use Rattle.nit_capture.specs.Terms.{All, IsWord, drop, flat_map, length, most_area, prefix_len, run_bytes, runs, slice_index, take};
+ghost use Rattle.nit_capture.specs.Terms.{All, IsWord, drop, flat_map, length, most_area};
+ghost use Rattle.nit_capture.specs.Terms.{prefix_len, run_bytes, runs, slice_index, take};
 
 /// Writes the runs of pixels in front of the bytes, and answers how many bytes these are.
 pub fn write_runs(words: &[u32], bytes: &mut [u8]) -> usize

@@ -1,7 +1,11 @@
 -- Lines of a clip script are read exactly.
-use Rattle.nit_clip.proofs.Basics.{ClipCall, ClipLine, FitsClipCall, FitsClipLine, HasOneReading, IsKind, IsReader, Takes, anything, at_made, clip_call_spelling, clip_line_spelling, codes, ended_again, ended_takes, first_takes, kind, made_takes, nothing, one_reading, stops_text, text_fields}
+use Rattle.nit_clip.proofs.Basics.{ClipCall, ClipLine, FitsClipCall, FitsClipLine, HasOneReading}
+use Rattle.nit_clip.proofs.Basics.{IsKind, IsReader, Takes, anything, at_made, clip_call_spelling}
+use Rattle.nit_clip.proofs.Basics.{clip_line_spelling, codes, ended_again, ended_takes, first_takes}
+use Rattle.nit_clip.proofs.Basics.{kind, made_takes, nothing, one_reading, stops_text, text_fields}
 use Rattle.std.proofs.Common.{List, Some, refl, ℕ, ◌++◌, ◌∷◌, ◌≡◌}
-use Rattle.nit_clip.specs.ClipReaders.{clip_call_at, clip_front_at, clip_line_at, clip_phase_at, copy_at, paste_at}
+use Rattle.nit_clip.specs.ClipReaders.{clip_call_at, clip_front_at, clip_line_at, clip_phase_at}
+use Rattle.nit_clip.specs.ClipReaders.{copy_at, paste_at}
 use Rattle.nit_clip.specs.declared.call.ClipCall.TheVariants as call
 use Rattle.nit_clip.specs.declared.line.ClipLine.TheVariants as line
 
@@ -17,7 +21,8 @@ call_takes : Takes clip_call_at clip_call_spelling FitsClipCall
 unfolding clip_call_at
 call_takes = first_takes copy_at paste_at clip_call_spelling FitsClipCall copies.takes pastes.takes
 
-call_again : (c : ClipCall) (rest : List ℕ) → FitsClipCall c → clip_call_at (clip_call_spelling c ++ 10 ∷ rest) ≡ Some (c, 10 ∷ rest)
+call_again : (c : ClipCall) (rest : List ℕ) → FitsClipCall c → clip_call_at (clip_call_spelling c ++ 10 ∷ rest)
+    ≡ Some (c, 10 ∷ rest)
 unfolding clip_call_at copy_at paste_at
 call_again (call.Copy t) rest fits = rw (copies.again t (10 ∷ rest) fits refl) refl
 call_again call.Paste rest fits = refl
@@ -29,9 +34,12 @@ phases = kind nothing clip_line_spelling FitsClipLine (codes "phase") _ (λ p h.
 front_takes : Takes clip_front_at clip_line_spelling FitsClipLine
 unfolding clip_front_at
 front_takes =
-    first_takes (at_made line.Call clip_call_at) clip_phase_at clip_line_spelling FitsClipLine (made_takes clip_call_at clip_call_spelling FitsClipCall line.Call clip_line_spelling FitsClipLine call_takes (λ c. refl) (λ c h. h)) phases.takes
+    first_takes (at_made line.Call clip_call_at) clip_phase_at clip_line_spelling FitsClipLine
+    (made_takes clip_call_at clip_call_spelling FitsClipCall line.Call clip_line_spelling FitsClipLine call_takes
+    (λ c. refl) (λ c h. h)) phases.takes
 
-front_again : (l : ClipLine) (rest : List ℕ) → FitsClipLine l → clip_front_at (clip_line_spelling l ++ 10 ∷ rest) ≡ Some (l, 10 ∷ rest)
+front_again : (l : ClipLine) (rest : List ℕ) → FitsClipLine l → clip_front_at (clip_line_spelling l ++ 10 ∷ rest)
+    ≡ Some (l, 10 ∷ rest)
 unfolding clip_front_at clip_call_at copy_at paste_at clip_phase_at
 front_again (line.Call c) rest fits = rw (call_again c rest fits) refl
 front_again line.Phase rest fits = refl

@@ -1,6 +1,14 @@
 -- A clip list's text tells the list, but for what its entries keep of the focus.
-use Rattle.nit_clip.proofs.Basics.{AllByRecursion, AllDigits, ClipCall, ClipEntry, ClipReply, Configuration, Entry, FitsClipCall, FitsClipEntry, FitsClipReply, FitsText, IsLegalClips, IsThere, and_from, and_parts, append_cancel_left, append_cancel_right, clip_call_spelling, clip_entry_spelling, clip_reply_spelling, clip_text, codes, decimal, decimal_injective, decimal_is_IsNumeral, digit_from_value, eqb-false, is_printable, leb-true, list_all, ne_eqb, not, not-true, replay, spelled, without_focus}
-use Rattle.std.proofs.Common.{List, None, [], ap, append_assoc, arith, get_or, map, refl, sym, take, true, ℕ, ◌++◌, ◌==◌, ◌^◌, ◌<◌, ◌∙◌, ◌∷◌, ◌≡◌, ◌≤◌}
+use Rattle.nit_clip.proofs.Basics.{AllByRecursion, AllDigits, ClipCall, ClipEntry, ClipReply}
+use Rattle.nit_clip.proofs.Basics.{Configuration, Entry, FitsClipCall, FitsClipEntry, FitsClipReply}
+use Rattle.nit_clip.proofs.Basics.{FitsText, IsLegalClips, IsThere, and_from, and_parts}
+use Rattle.nit_clip.proofs.Basics.{append_cancel_left, append_cancel_right, clip_call_spelling}
+use Rattle.nit_clip.proofs.Basics.{clip_entry_spelling, clip_reply_spelling, clip_text, codes}
+use Rattle.nit_clip.proofs.Basics.{decimal, decimal_injective, decimal_is_IsNumeral}
+use Rattle.nit_clip.proofs.Basics.{digit_from_value, eqb-false, is_printable, leb-true, list_all}
+use Rattle.nit_clip.proofs.Basics.{ne_eqb, not, not-true, replay, spelled, without_focus}
+use Rattle.std.proofs.Common.{List, None, [], ap, append_assoc, arith, get_or, map, refl, sym, take}
+use Rattle.std.proofs.Common.{true, ℕ, ◌++◌, ◌==◌, ◌^◌, ◌<◌, ◌∙◌, ◌∷◌, ◌≡◌, ◌≤◌}
 use Rattle.nit_clip.specs.declared.call.ClipCall.TheVariants as call
 use Rattle.nit_clip.specs.declared.call.ClipReply.TheVariants as reply
 
@@ -73,10 +81,12 @@ same_calls call.Paste call.Paste e = refl
 heads : (c d : ℕ) (xs ys : List ℕ) → c ∷ xs ≡ d ∷ ys → c ≡ d
 heads c d xs ys e = cc
 
-same_behind : (r s : ClipReply) (c d : ClipCall) → FitsClipReply c r → FitsClipReply d s → behind r c ≡ behind s d → (r ≡ s) × (c ≡ d)
+same_behind : (r s : ClipReply) (c d : ClipCall) → FitsClipReply c r → FitsClipReply d s → behind r c ≡ behind s d
+    → (r ≡ s) × (c ≡ d)
 same_behind reply.Copied reply.Copied c d p q e = (refl, same_calls c d (append_cancel_left (codes "copied < ") _ _ e))
 same_behind reply.Empty reply.Empty c d p q e = (refl, same_calls c d (append_cancel_left (codes "empty < ") _ _ e))
-same_behind reply.NotFocused reply.NotFocused c d p q e = (refl, same_calls c d (append_cancel_left (codes "not-focused < ") _ _ e))
+same_behind reply.NotFocused reply.NotFocused c d p q e =
+    (refl, same_calls c d (append_cancel_left (codes "not-focused < ") _ _ e))
 same_behind (reply.Pasted t) (reply.Pasted u) call.Paste call.Paste p q e =
     (ap reply.Pasted (append_cancel_right t u (codes " < paste") (append_cancel_left (codes "pasted =") _ _ e)), refl)
 same_behind (reply.Pasted t) (reply.Pasted u) (call.Copy c) d p q e = absurd p
@@ -94,27 +104,35 @@ same_behind (reply.Pasted t) reply.Copied c d p q e = absurd (omega (arith, head
 same_behind (reply.Pasted t) reply.Empty c d p q e = absurd (omega (arith, heads 112 101 _ _ e))
 same_behind (reply.Pasted t) reply.NotFocused c d p q e = absurd (omega (arith, heads 112 110 _ _ e))
 
-line_is : (e : ClipEntry) (rest : List ℕ) → spelled clip_entry_spelling e ++ rest ≡ codes "clip " ++ (decimal e.at ++ 32 ∷ (decimal e.sid ++ 32 ∷ (behind e.reply e.call ++ 10 ∷ rest)))
+line_is : (e : ClipEntry) (rest : List ℕ) → spelled clip_entry_spelling e ++ rest
+    ≡ codes "clip " ++ (decimal e.at ++ 32 ∷ (decimal e.sid ++ 32 ∷ (behind e.reply e.call ++ 10 ∷ rest)))
 line_is e rest =
     let numbered : List ℕ = decimal e.sid ++ 32 ∷ behind e.reply e.call in
     append_assoc (clip_entry_spelling e) (10 ∷ []) rest
     ∙ ap (λ (r : List ℕ). codes "clip " ++ r) (append_assoc (decimal e.at) (32 ∷ numbered) (10 ∷ rest))
-    ∙ ap (λ (r : List ℕ). codes "clip " ++ (decimal e.at ++ 32 ∷ r)) (append_assoc (decimal e.sid) (32 ∷ behind e.reply e.call) (10 ∷ rest))
+    ∙ ap (λ (r : List ℕ). codes "clip " ++ (decimal e.at ++ 32 ∷ r))
+    (append_assoc (decimal e.sid) (32 ∷ behind e.reply e.call) (10 ∷ rest))
 
-same_line : (e f : ClipEntry) (r s : List ℕ) → FitsClipEntry e → FitsClipEntry f → spelled clip_entry_spelling e ++ r ≡ spelled clip_entry_spelling f ++ s → (without_focus e ≡ without_focus f) × (r ≡ s)
+same_line : (e f : ClipEntry) (r s : List ℕ) → FitsClipEntry e → FitsClipEntry f → spelled clip_entry_spelling e ++ r
+    ≡ spelled clip_entry_spelling f ++ s → (without_focus e ≡ without_focus f) × (r ≡ s)
 same_line e f r s p q h =
     let whole = sym (line_is e r) ∙ h ∙ line_is f s in
-    let first = parted 32 (decimal e.at) (decimal f.at) _ _ (number_lacks e.at p.place) (number_lacks f.at q.place) (append_cancel_left (codes "clip ") _ _ whole) in
-    let second = parted 32 (decimal e.sid) (decimal f.sid) _ _ (number_lacks e.sid p.session) (number_lacks f.sid q.session) first.1 in
-    let third = parted 10 (behind e.reply e.call) (behind f.reply f.call) r s (behind_lacks e.reply e.call p.call p.reply) (behind_lacks f.reply f.call q.call q.reply) second.1 in
+    let first = parted 32 (decimal e.at) (decimal f.at) _ _ (number_lacks e.at p.place) (number_lacks f.at q.place)
+    (append_cancel_left (codes "clip ") _ _ whole) in
+    let second = parted 32 (decimal e.sid) (decimal f.sid) _ _ (number_lacks e.sid p.session)
+    (number_lacks f.sid q.session) first.1 in
+    let third = parted 10 (behind e.reply e.call) (behind f.reply f.call) r s
+    (behind_lacks e.reply e.call p.call p.reply) (behind_lacks f.reply f.call q.call q.reply) second.1 in
     let at : e.at ≡ f.at = decimal_injective e.at f.at (omega (arith, p.place)) (omega (arith, q.place)) first.0 in
-    let sid : e.sid ≡ f.sid = decimal_injective e.sid f.sid (omega (arith, p.session)) (omega (arith, q.session)) second.0 in
+    let sid : e.sid ≡ f.sid = decimal_injective e.sid f.sid (omega (arith, p.session)) (omega (arith, q.session))
+    second.0 in
     let told = same_behind e.reply f.reply e.call f.call p.reply q.reply third.0 in
     (λ i. record { at = at i; sid = sid i; focus = None; call = told.1 i; reply = told.0 i }, third.1)
 
 -- ---- a list
 
-pub same_but_focus : (a b : List ClipEntry) → AllByRecursion FitsClipEntry a → AllByRecursion FitsClipEntry b → clip_text a ≡ clip_text b → map without_focus a ≡ map without_focus b
+pub same_but_focus : (a b : List ClipEntry) → AllByRecursion FitsClipEntry a → AllByRecursion FitsClipEntry b
+    → clip_text a ≡ clip_text b → map without_focus a ≡ map without_focus b
 same_but_focus [] [] p q e = refl
 same_but_focus [] (f ∷ b) p q e = absurd cc
 same_but_focus (e ∷ a) [] p q h = absurd cc
@@ -134,22 +152,27 @@ told_alike a b e = tells_no_focus a ∙ ap clip_text e ∙ sym (tells_no_focus b
 one_entry : ClipReply → ClipCall → List ClipEntry
 one_entry r c = record { at = 6; sid = 0; focus = None; call = c; reply = r } ∷ []
 
-two_lists : clip_text (one_entry (reply.Pasted (codes "a < copy =b")) call.Paste) ≡ clip_text (one_entry (reply.Pasted (codes "a")) (call.Copy (codes "b < paste")))
+two_lists : clip_text (one_entry (reply.Pasted (codes "a < copy =b")) call.Paste)
+    ≡ clip_text (one_entry (reply.Pasted (codes "a")) (call.Copy (codes "b < paste")))
 unfolding one_entry
 two_lists = refl
 
 -- ---- a list beside its journal
 
-same_there : (config : Configuration) (journal : List Entry) (e f : ClipEntry) → IsThere config journal e → IsThere config journal f → without_focus e ≡ without_focus f → e ≡ f
+same_there : (config : Configuration) (journal : List Entry) (e f : ClipEntry) → IsThere config journal e
+    → IsThere config journal f → without_focus e ≡ without_focus f → e ≡ f
 same_there config journal e f p q same =
     let at : e.at ≡ f.at = ap (λ (c : ClipEntry). c.at) same in
     let sid : e.sid ≡ f.sid = ap (λ (c : ClipEntry). c.sid) same in
     let asked : e.call ≡ f.call = ap (λ (c : ClipEntry). c.call) same in
     let answered : e.reply ≡ f.reply = ap (λ (c : ClipEntry). c.reply) same in
-    let focus : e.focus ≡ f.focus = p.focus ∙ ap (λ (k : ℕ). (replay config (take k journal)).input.focus) at ∙ sym q.focus in
+    let focus : e.focus ≡ f.focus = p.focus ∙ ap (λ (k : ℕ). (replay config (take k journal)).input.focus) at
+    ∙ sym q.focus in
     λ i. record { at = at i; sid = sid i; focus = focus i; call = asked i; reply = answered i }
 
-all_there : (config : Configuration) (journal : List Entry) (a b : List ClipEntry) → AllByRecursion (IsThere config journal) a → AllByRecursion (IsThere config journal) b → map without_focus a ≡ map without_focus b → a ≡ b
+all_there : (config : Configuration) (journal : List Entry) (a b : List ClipEntry)
+    → AllByRecursion (IsThere config journal) a → AllByRecursion (IsThere config journal) b
+    → map without_focus a ≡ map without_focus b → a ≡ b
 all_there config journal [] [] p q e = refl
 all_there config journal [] (f ∷ b) p q e = absurd cc
 all_there config journal (e ∷ a) [] p q h = absurd cc
@@ -158,5 +181,7 @@ all_there config journal (e ∷ a) (f ∷ b) p q h =
     let more : a ≡ b = all_there config journal a b p.1 q.1 cc in
     λ i. first i ∷ more i
 
-pub one_legal : (config : Configuration) (journal : List Entry) (a b : List ClipEntry) → AllByRecursion FitsClipEntry a → AllByRecursion FitsClipEntry b → IsLegalClips config journal a → IsLegalClips config journal b → clip_text a ≡ clip_text b → a ≡ b
+pub one_legal : (config : Configuration) (journal : List Entry) (a b : List ClipEntry) → AllByRecursion FitsClipEntry a
+    → AllByRecursion FitsClipEntry b → IsLegalClips config journal a → IsLegalClips config journal b
+    → clip_text a ≡ clip_text b → a ≡ b
 one_legal config journal a b p q l m e = all_there config journal a b l.there m.there (same_but_focus a b p q e)

@@ -8,10 +8,13 @@ pub use Rattle.nit_events.specs.declared.call.Call.{Call}
 pub use Rattle.nit_events.specs.declared.entry.Entry.{Entry}
 pub use Rattle.nit_journal.specs.Configuration.{Configuration}
 pub use Rattle.nit_journal.specs.Replay.{IsOpen, replay}
-pub use Rattle.nit_journal.specs.WholeJournals.{UserAction, calls_of, done, left, next_phase, phases_along, to_do}
+pub use Rattle.nit_journal.specs.WholeJournals.{UserAction, calls_of, done, left, next_phase}
+pub use Rattle.nit_journal.specs.WholeJournals.{phases_along, to_do}
 pub use Rattle.nit_rect.specs.Options.{Gives}
-pub use Rattle.nit_script.specs.FieldReaders.{at_ended, at_kind, at_made, first_of, nothing_at, text_field}
-pub use Rattle.nit_script.specs.Grammar.{HasOneReading, IsFirstBad, IsTooLong, Reads, UnlessMemory, most_lines, spelled}
+pub use Rattle.nit_script.specs.FieldReaders.{at_ended, at_kind, at_made, first_of, nothing_at}
+pub use Rattle.nit_script.specs.FieldReaders.{text_field}
+pub use Rattle.nit_script.specs.Grammar.{HasOneReading, IsFirstBad, IsTooLong, Reads, UnlessMemory}
+pub use Rattle.nit_script.specs.Grammar.{most_lines, spelled}
 pub use Rattle.nit_script.specs.Phases.{phases_by}
 pub use Rattle.nit_script.specs.Spelling.{FitsText, nat, text}
 pub use Rattle.std.specs.Fmt.{decimal}

@@ -1,5 +1,6 @@
 -- Clip scripts and their texts.
-use Rattle.nit_clip.specs.Below.{Bool, ClipLine, IsFirstBad, IsTooLong, List, Reads, false, phases_by, true, ℕ}
+use Rattle.nit_clip.specs.Below.{Bool, ClipLine, IsFirstBad, IsTooLong, List, Reads, false}
+use Rattle.nit_clip.specs.Below.{phases_by, true, ℕ}
 use Rattle.nit_clip.specs.declared.line.ClipLine.TheVariants as line
 use Rattle.nit_clip.specs.ClipSpelling.{FitsClipLine, clip_line_spelling}
 

@@ -1,6 +1,7 @@
 -- What the lines of a clip script and of a clip list's text are spelled as.
 use Rattle.std.specs.Prelude.{◌<◌, ◌^◌, ℕ, List, ◌∷◌, ◌++◌, None, codes}
-use Rattle.nit_clip.specs.Below.{ClipCall, ClipEntry, ClipLine, ClipReply, FitsText, flat_map, nat, spelled, text}
+use Rattle.nit_clip.specs.Below.{ClipCall, ClipEntry, ClipLine, ClipReply, FitsText, flat_map, nat}
+use Rattle.nit_clip.specs.Below.{spelled, text}
 use Rattle.nit_clip.specs.declared.call.ClipCall.TheVariants as call
 use Rattle.nit_clip.specs.declared.call.ClipReply.TheVariants as reply
 use Rattle.nit_clip.specs.declared.line.ClipLine.TheVariants as line

@@ -1,5 +1,6 @@
 -- The clipboard, and what is answered to a clip call.
-use Rattle.std.specs.Prelude.{◌≡◌, ◌≤◌, ℕ, ◌==◌, Bool, false, List, [], ◌∷◌, fold, Option, Some, None, if◌then◌else◌}
+use Rattle.std.specs.Prelude.{◌≡◌, ◌≤◌, ℕ, ◌==◌, Bool, false, List, [], ◌∷◌, fold, Option, Some}
+use Rattle.std.specs.Prelude.{None, if◌then◌else◌}
 use Rattle.nit_clip.specs.Below.{ClipCall, ClipEntry, ClipReply}
 use Rattle.nit_clip.specs.declared.call.ClipCall.TheVariants as call
 use Rattle.nit_clip.specs.declared.call.ClipReply.TheVariants as reply

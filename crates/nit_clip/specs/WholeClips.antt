@@ -1,8 +1,10 @@
 -- Clip lists that are whole for what the clients are to do. What a client is to do with the
 -- clipboard is a list of pairs: the number of a phase, and a clip call that is done in it. Phases
 -- count from 0.
-use Rattle.std.specs.Prelude.{◌≡◌, ◌≤◌, ℕ, suc, ◌<◌, ◌==◌, nat_le, List, [], ◌∷◌, take, filter, length, slice_index_or, slice_set, if◌then◌else◌}
-use Rattle.nit_clip.specs.Below.{AllByRecursion, Call, ClipCall, ClipEntry, ClipLine, Entry, UserAction, calls_of, done, left, next_phase, phases_along, to_do}
+use Rattle.std.specs.Prelude.{◌≡◌, ◌≤◌, ℕ, suc, ◌<◌, ◌==◌, nat_le, List, [], ◌∷◌, take, filter}
+use Rattle.std.specs.Prelude.{length, slice_index_or, slice_set, if◌then◌else◌}
+use Rattle.nit_clip.specs.Below.{AllByRecursion, Call, ClipCall, ClipEntry, ClipLine, Entry}
+use Rattle.nit_clip.specs.Below.{UserAction, calls_of, done, left, next_phase, phases_along, to_do}
 use Rattle.nit_clip.specs.declared.line.ClipLine.TheVariants as line
 
 -- the clip calls of lines that begin in a phase

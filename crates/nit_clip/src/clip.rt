@@ -1,7 +1,8 @@
 //! The clip list as the server keeps it. Its room is taken at the start; a call takes no memory.
 
 ghost use Rattle.std.specs.Prelude.{◌≡◌, ◌-◌, ◌≤◌, ◌++◌, ◌∷◌, [], IfOk};
-ghost use Rattle.nit_clip.specs.Terms.{AreAnswered, NeverFall, clip_answer, clipboard_after, clipboard_of, has_focus, last_at, most_clips, pasted};
+ghost use Rattle.nit_clip.specs.Terms.{AreAnswered, NeverFall, clip_answer, clipboard_after};
+ghost use Rattle.nit_clip.specs.Terms.{clipboard_of, has_focus, last_at, most_clips, pasted};
 
 use crate::call::{ClipCall, ClipEntry, ClipReply};
 use nit_events::Text;

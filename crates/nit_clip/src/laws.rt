@@ -3,8 +3,15 @@
 //! holds of a clip script's text and of its phases are the laws of [`nit_script`] for this kind of
 //! line.
 
-ghost use Rattle.std.specs.Prelude.{◌≡◌, ◌≤◌, ◌<◌, ◌+◌, ◌^◌, ◌++◌, ◌∷◌, [], ◌⊎◌, ℕ, List, Option, Some, length, map, take, drop, count_by};
-ghost use Rattle.nit_clip.specs.Terms.{AllByRecursion, AreInPhases, Call, ClipCall, ClipEntry, ClipLine, ClipReply, Configuration, Entry, FitsClipEntry, FitsClipLine, IsClipAnswer, IsInPhase, IsLegalClips, IsOpen, IsWholeClips, UserAction, before_final, clip_answer, clip_calls_in, clip_calls_of, clip_text, clipboard_of, clips_to_do, clips_to_make, done, is_clip_phase, last_at, left_after, next_phase, replay, slice_get, without_focus};
+ghost use Rattle.std.specs.Prelude.{◌≡◌, ◌≤◌, ◌<◌, ◌+◌, ◌^◌, ◌++◌, ◌∷◌, [], ◌⊎◌, ℕ, List, Option};
+ghost use Rattle.std.specs.Prelude.{Some, length, map, take, drop, count_by};
+ghost use Rattle.nit_clip.specs.Terms.{AllByRecursion, AreInPhases, Call, ClipCall, ClipEntry};
+ghost use Rattle.nit_clip.specs.Terms.{ClipLine, ClipReply, Configuration, Entry, FitsClipEntry};
+ghost use Rattle.nit_clip.specs.Terms.{FitsClipLine, IsClipAnswer, IsInPhase, IsLegalClips, IsOpen};
+ghost use Rattle.nit_clip.specs.Terms.{IsWholeClips, UserAction, before_final, clip_answer};
+ghost use Rattle.nit_clip.specs.Terms.{clip_calls_in, clip_calls_of, clip_text, clipboard_of};
+ghost use Rattle.nit_clip.specs.Terms.{clips_to_do, clips_to_make, done, is_clip_phase, last_at};
+ghost use Rattle.nit_clip.specs.Terms.{left_after, next_phase, replay, slice_get, without_focus};
 ghost use Rattle.nit_clip.specs.declared.call.ClipCall.TheVariants as call;
 ghost use Rattle.nit_clip.specs.declared.call.ClipReply.TheVariants as reply;
 ghost use Rattle.nit_clip.specs.declared.line.ClipLine.TheVariants as line;

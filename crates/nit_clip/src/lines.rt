@@ -1,7 +1,8 @@
 //! The lines of a clip script, each read from its first word to its last, and written.
 
 ghost use Rattle.std.specs.Prelude.{◌≡◌, ◌++◌, OnOk};
-ghost use Rattle.nit_clip.specs.Terms.{Gives, clip_call_at, clip_front_at, clip_line_at, clip_line_spelling, clip_phase_at, copy_at, paste_at};
+ghost use Rattle.nit_clip.specs.Terms.{Gives, clip_call_at, clip_front_at, clip_line_at};
+ghost use Rattle.nit_clip.specs.Terms.{clip_line_spelling, clip_phase_at, copy_at, paste_at};
 
 use crate::call::ClipCall;
 use crate::line::ClipLine;

@@ -1,7 +1,8 @@
 //! Clip scripts.
 
 ghost use Rattle.std.specs.Prelude.{◌≡◌, ◌≤◌, ℕ, List, length, Ok, Err, IfOk};
-ghost use Rattle.nit_clip.specs.Terms.{ClipLine, IsFirstBadClip, IsTooLongClip, ReadsClip, UnlessMemory, most_lines};
+ghost use Rattle.nit_clip.specs.Terms.{ClipLine, IsFirstBadClip, IsTooLongClip, ReadsClip};
+ghost use Rattle.nit_clip.specs.Terms.{UnlessMemory, most_lines};
 
 use crate::ClipError;
 use crate::script::ClipScript;

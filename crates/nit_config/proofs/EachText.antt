@@ -1,9 +1,19 @@
 -- Each text has a configuration or meets a refusal: what a table holds that no refusal applies to.
-use Rattle.std.proofs.Common.{Bool, IsUtf8, List, None, Option, Some, [], ap, arith, bytes_eq, codes, false, inl, inr, negsuc, option_and_then, pos, refl, sym, true, unwrap_or, ℕ, ℤ, ◌∙◌, ◌∷◌, ◌≡◌, ◌≤◌, ◌⊎◌}
-use Rattle.nit_config.proofs.Basics.{AllZip, ConfigError, Configuration, Data, HoldsClient, HoldsTable, IsConfigurationOf, IsUtf8-from_is_utf8, MeetsRefusal, Member, Members, ReadsTable, Syntax, as_integer, boolean_at, client_tables, false≢true, first_refusal, has_bad_focus, has_bad_label, has_bad_script, input_table, integer, integer_at, is_outside, is_utf8, is_utf8-from_IsUtf8, label_of_table, list_any, or_parts, parse_document, screen_table, string_at}
+use Rattle.nit_config.proofs.Basics.{AllZip, Bool, ConfigError, Configuration, Data, HoldsClient}
+use Rattle.nit_config.proofs.Basics.{HoldsTable, IsConfigurationOf, IsUtf8, IsUtf8-from_is_utf8}
+use Rattle.nit_config.proofs.Basics.{List, MeetsRefusal, Member, Members, None, Option, ReadsTable}
+use Rattle.nit_config.proofs.Basics.{Some, Syntax, [], ap, arith, as_integer, boolean_at, bytes_eq}
+use Rattle.nit_config.proofs.Basics.{client_tables, codes, false, false≢true, first_refusal}
+use Rattle.nit_config.proofs.Basics.{has_bad_focus, has_bad_label, has_bad_script, inl, input_table}
+use Rattle.nit_config.proofs.Basics.{inr, integer, integer_at, is_outside, is_utf8}
+use Rattle.nit_config.proofs.Basics.{is_utf8-from_IsUtf8, label_of_table, list_any, negsuc}
+use Rattle.nit_config.proofs.Basics.{option_and_then, or_parts, parse_document, pos, refl}
+use Rattle.nit_config.proofs.Basics.{screen_table, string_at, sym, true}
+use Rattle.std.proofs.Common.{unwrap_or, ℕ, ℤ, ◌∙◌, ◌∷◌, ◌≡◌, ◌≤◌, ◌⊎◌}
 use Rattle.nit_config.specs.Ranges.{has_bad_value}
 use Rattle.nit_config.proofs.RefusalTests.{IsAccepted, accepted, refused_by}
-use Rattle.nit_config.proofs.HeldValues.{inside, integer_there, string_there, script_is_name, label_is_label, file_name_length, label_length}
+use Rattle.nit_config.proofs.HeldValues.{inside, integer_there, string_there, script_is_name}
+use Rattle.nit_config.proofs.HeldValues.{label_is_label, file_name_length, label_length}
 
 -- a natural number, and 0 for a negative one
 nat_of : ℤ → ℕ
@@ -16,7 +26,8 @@ pos-nat_of (pos n) low high h = refl
 pos-nat_of (negsuc n) low high h = cc
 
 -- an integer in a range above 0 is there
-number_there : (o : Option Data) (low high : ℕ) → 1 ≤ low → is_outside (pos low) (pos high) (unwrap_or (option_and_then as_integer o) (pos 0)) ≡ false
+number_there : (o : Option Data) (low high : ℕ) → 1 ≤ low
+    → is_outside (pos low) (pos high) (unwrap_or (option_and_then as_integer o) (pos 0)) ≡ false
     → o ≡ Some (integer (pos (nat_of (unwrap_or (option_and_then as_integer o) (pos 0)))))
 number_there o low high above h =
     let z : ℤ = unwrap_or (option_and_then as_integer o) (pos 0) in
@@ -46,7 +57,8 @@ client_holds t value label =
       },
     )
 
-clients_hold : (ts : List Members) → list_any has_bad_value ts ≡ false → list_any has_bad_label ts ≡ false → (ms : List Member) × AllZip HoldsClient ts ms
+clients_hold : (ts : List Members) → list_any has_bad_value ts ≡ false → list_any has_bad_label ts ≡ false
+    → (ms : List Member) × AllZip HoldsClient ts ms
 clients_hold [] values labels = ([], tt)
 clients_hold (t ∷ ts) values labels =
     let v = or_parts (has_bad_value t) (list_any has_bad_value ts) values in
@@ -77,7 +89,8 @@ table_holds top a =
 abbrev IsJudged : List ℕ → Type 0
 IsJudged bytes = ((c : Configuration) × IsConfigurationOf bytes c) ⊎ ((e : ConfigError) × MeetsRefusal bytes e)
 
-by_table : (bytes : List ℕ) (top : Members) → ReadsTable bytes top → (r : Option ConfigError) → first_refusal top ≡ r → IsJudged bytes
+by_table : (bytes : List ℕ) (top : Members) → ReadsTable bytes top → (r : Option ConfigError) → first_refusal top ≡ r
+    → IsJudged bytes
 by_table bytes top read None h =
     let held = table_holds top (accepted top h) in
     inl (held.0, record { top = top; read = read; accepted = h; holds = held.1 })

@@ -6,6 +6,7 @@ pub list_of_items : (vs : List Value) → list_of (items_view vs) ≡ map view v
 list_of_items [] = refl
 list_of_items (v ∷ vs) = ap (λ ds. view v ∷ ds) (list_of_items vs)
 
-pub all_tables : (vs : List Value) → list_all (λ e. is_some (as_table e)) (list_of (items_view vs)) ≡ list_all (λ v. is_some (as_table (view v))) vs
+pub all_tables : (vs : List Value) → list_all (λ e. is_some (as_table e)) (list_of (items_view vs))
+    ≡ list_all (λ v. is_some (as_table (view v))) vs
 all_tables [] = refl
 all_tables (v ∷ vs) = ap (λ b. is_some (as_table (view v)) && b) (all_tables vs)

@@ -1,6 +1,11 @@
 -- What a value that is held says of the values with a default, and back.
-use Rattle.std.proofs.Common.{Bool, List, None, Option, Some, [], ap, arith, codes, false, int_lt, length, nat_le, negsuc, option_and_then, pos, suc, sym, true, unwrap_or, zero, ℕ, ℤ, ◌&&◌, ◌∷◌, ◌≡◌, ◌≤◌}
-use Rattle.nit_config.proofs.Basics.{Data, Members, and_parts, array, as_integer, as_str, boolean, datetime, float, integer, is_file_name, is_label, is_outside, label_of_table, nat_tests, or_parts, string, string_at, table}
+use Rattle.nit_config.proofs.Basics.{Bool, Data, List, Members, None, Option, Some, [], and_parts}
+use Rattle.nit_config.proofs.Basics.{ap, arith, array, as_integer, as_str, boolean, codes, datetime}
+use Rattle.nit_config.proofs.Basics.{false, float, int_lt, integer, is_file_name, is_label}
+use Rattle.nit_config.proofs.Basics.{is_outside, label_of_table, length, nat_le, nat_tests, negsuc}
+use Rattle.nit_config.proofs.Basics.{option_and_then, or_parts, pos, string, string_at, suc, sym}
+use Rattle.nit_config.proofs.Basics.{table, true}
+use Rattle.std.proofs.Common.{unwrap_or, zero, ℕ, ℤ, ◌&&◌, ◌∷◌, ◌≡◌, ◌≤◌}
 use Rattle.nit_config.specs.Ranges.{has_bad_label, has_bad_script}
 use Rattle.nit_config.proofs.BoolLemmas.{truth}
 
@@ -9,7 +14,8 @@ pos_zero zero e h = absurd (omega arith)
 pos_zero (suc n) e h = cc
 
 -- a number that is not 0 is no default
-pub integer_there : (o : Option Data) (n : ℕ) → pos n ≡ unwrap_or (option_and_then as_integer o) (pos 0) → 1 ≤ n → o ≡ Some (integer (pos n))
+pub integer_there : (o : Option Data) (n : ℕ) → pos n ≡ unwrap_or (option_and_then as_integer o) (pos 0) → 1 ≤ n
+    → o ≡ Some (integer (pos n))
 integer_there None n e h = absurd (pos_zero n e h)
 integer_there (Some (integer z)) n e h = ap (λ y. Some (integer y)) (sym e)
 integer_there (Some (string s)) n e h = absurd (pos_zero n e h)
@@ -24,7 +30,8 @@ empty_text [] e h = absurd (omega arith)
 empty_text (x ∷ s) e h = cc
 
 -- a text that is not empty is no default
-pub string_there : (o : Option Data) (s : List ℕ) → s ≡ unwrap_or (option_and_then as_str o) [] → 1 ≤ length s → o ≡ Some (string s)
+pub string_there : (o : Option Data) (s : List ℕ) → s ≡ unwrap_or (option_and_then as_str o) [] → 1 ≤ length s
+    → o ≡ Some (string s)
 string_there None s e h = absurd (empty_text s e h)
 string_there (Some (string t)) s e h = ap (λ y. Some (string y)) (sym e)
 string_there (Some (integer t)) s e h = absurd (empty_text s e h)
@@ -37,12 +44,15 @@ string_there (Some (table t)) s e h = absurd (empty_text s e h)
 -- what is not outside a range is inside it
 pub inside : (low high n : ℕ) → is_outside (pos low) (pos high) (pos n) ≡ false → (low ≤ n) × (n ≤ high)
 inside low high n h =
-    let below : int_lt (pos n) (pos low) ≡ false = (or_parts (int_lt (pos n) (pos low)) (int_lt (pos high) (pos n)) h).0 in
-    let above : int_lt (pos high) (pos n) ≡ false = (or_parts (int_lt (pos n) (pos low)) (int_lt (pos high) (pos n)) h).1 in
+    let below : int_lt (pos n) (pos low) ≡ false =
+    (or_parts (int_lt (pos n) (pos low)) (int_lt (pos high) (pos n)) h).0 in
+    let above : int_lt (pos high) (pos n) ≡ false =
+    (or_parts (int_lt (pos n) (pos low)) (int_lt (pos high) (pos n)) h).1 in
     (grind (arith, nat_tests), grind (arith, nat_tests))
 
 -- what is inside a range is inside a wider one
-pub wider : (z : ℤ) (low high least most : ℕ) → is_outside (pos low) (pos high) z ≡ false → least ≤ low → high ≤ most → is_outside (pos least) (pos most) z ≡ false
+pub wider : (z : ℤ) (low high least most : ℕ) → is_outside (pos low) (pos high) z ≡ false → least ≤ low → high ≤ most
+    → is_outside (pos least) (pos most) z ≡ false
 wider (pos n) low high least most h below above =
     let within = inside low high n h in
     let not_below : int_lt (pos n) (pos least) ≡ false = grind (arith, nat_tests) in
@@ -54,11 +64,14 @@ pub at_least_one : (high n : ℕ) (z : ℤ) → is_outside (pos 1) (pos high) z 
 at_least_one high n z h same = (inside 1 high n (rw (← same) at h)).0
 
 -- a number that is held, within its range
-pub inside_held : (o : Option Data) (low high n : ℕ) → o ≡ Some (integer (pos n)) → is_outside (pos low) (pos high) (unwrap_or (option_and_then as_integer o) (pos 0)) ≡ false → (low ≤ n) × (n ≤ high)
+pub inside_held : (o : Option Data) (low high n : ℕ) → o ≡ Some (integer (pos n))
+    → is_outside (pos low) (pos high) (unwrap_or (option_and_then as_integer o) (pos 0)) ≡ false
+    → (low ≤ n) × (n ≤ high)
 inside_held o low high n held h = inside low high n (rw held at h)
 
 -- where the bar has to fit, the height that is held is 8 or more
-pub bar_fits_held : (o : Option Data) (bar : Bool) (n : ℕ) → o ≡ Some (integer (pos n)) → (bar && int_lt (unwrap_or (option_and_then as_integer o) (pos 0)) (pos 8)) ≡ false → bar ≡ true → 8 ≤ n
+pub bar_fits_held : (o : Option Data) (bar : Bool) (n : ℕ) → o ≡ Some (integer (pos n))
+    → (bar && int_lt (unwrap_or (option_and_then as_integer o) (pos 0)) (pos 8)) ≡ false → bar ≡ true → 8 ≤ n
 bar_fits_held o bar n held h there = fits bar n (rw held at h) there
   where
     fits : (b : Bool) (k : ℕ) → (b && int_lt (pos k) (pos 8)) ≡ false → b ≡ true → 8 ≤ k

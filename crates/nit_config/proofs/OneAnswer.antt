@@ -1,6 +1,12 @@
 -- A text has one configuration or one refusal at most, so only one answer, or want of memory, fits it.
-use Rattle.std.proofs.Common.{Err, List, None, Ok, Result, Some, [], ap, inl, inr, pos, refl, subst, sym, ℕ, ◌∙◌, ◌∷◌, ◌≡◌, ◌⊎◌}
-use Rattle.nit_config.proofs.Basics.{AllZip, ConfigError, Configuration, HasNoTable, HasRefusedTable, HoldsClient, HoldsTable, IsConfigAnswer, IsConfigurationOf, Kind, Label, MeetsRefusal, Member, Members, Missing, NoMemory, Range, ReadsTable, Syntax, TooMany, Twice, Unknown, UnlessMemory, first_refusal, integer, same_Some, string}
+use Rattle.nit_config.proofs.Basics.{AllZip, ConfigError, Configuration, Err, HasNoTable}
+use Rattle.nit_config.proofs.Basics.{HasRefusedTable, HoldsClient, HoldsTable, IsConfigAnswer}
+use Rattle.nit_config.proofs.Basics.{IsConfigurationOf, Kind, Label, List, MeetsRefusal, Member}
+use Rattle.nit_config.proofs.Basics.{Members, Missing, NoMemory, None, Ok, Range, ReadsTable}
+use Rattle.nit_config.proofs.Basics.{Result, Some, Syntax, TooMany, Twice, Unknown, UnlessMemory}
+use Rattle.nit_config.proofs.Basics.{[], ap, first_refusal, inl, inr, integer, pos, refl, same_Some}
+use Rattle.nit_config.proofs.Basics.{string, subst}
+use Rattle.std.proofs.Common.{sym, ℕ, ◌∙◌, ◌∷◌, ◌≡◌, ◌⊎◌}
 
 same_integer : (m n : ℕ) → Some (integer (pos m)) ≡ Some (integer (pos n)) → m ≡ n
 same_integer m n q = cc
@@ -43,7 +49,8 @@ same_values top a b p q =
 same_top : (bytes : List ℕ) (a b : Members) → ReadsTable bytes a → ReadsTable bytes b → a ≡ b
 same_top bytes a b p q = same_Some a b (sym p.table ∙ q.table)
 
-pub one_configuration : (bytes : List ℕ) (a b : Configuration) → IsConfigurationOf bytes a → IsConfigurationOf bytes b → a ≡ b
+pub one_configuration : (bytes : List ℕ) (a b : Configuration) → IsConfigurationOf bytes a → IsConfigurationOf bytes b
+    → a ≡ b
 one_configuration bytes a b p q =
     let P : Members → Type 0 = λ t. HoldsTable t b in
     same_values p.top a b p.holds (subst P (same_top bytes q.top p.top q.read p.read) q.holds)
@@ -52,7 +59,8 @@ none_some : (a : ConfigError) → None ≡ Some a → ⊥
 none_some a q = cc
 
 -- a refusal is that of no table or that of a table
-kind_of_refusal : (bytes : List ℕ) (e : ConfigError) → MeetsRefusal bytes e → ((e ≡ Syntax) × HasNoTable bytes) ⊎ HasRefusedTable bytes e
+kind_of_refusal : (bytes : List ℕ) (e : ConfigError) → MeetsRefusal bytes e → ((e ≡ Syntax) × HasNoTable bytes)
+    ⊎ HasRefusedTable bytes e
 kind_of_refusal bytes Syntax h = inl (refl, h)
 kind_of_refusal bytes Kind h = inr h
 kind_of_refusal bytes Missing h = inr h
@@ -64,23 +72,29 @@ kind_of_refusal bytes Twice h = inr h
 kind_of_refusal bytes NoMemory h = absurd h
 
 one_of_table : (bytes : List ℕ) (a b : ConfigError) → HasRefusedTable bytes a → HasRefusedTable bytes b → a ≡ b
-one_of_table bytes a b p q = same_Some a b (sym p.first ∙ (ap first_refusal (same_top bytes p.top q.top p.read q.read) ∙ q.first))
+one_of_table bytes a b p q = same_Some a b (sym p.first
+    ∙ (ap first_refusal (same_top bytes p.top q.top p.read q.read) ∙ q.first))
 
 pub one_refusal : (bytes : List ℕ) (a b : ConfigError) → MeetsRefusal bytes a → MeetsRefusal bytes b → a ≡ b
 one_refusal bytes a b p q =
     elim (kind_of_refusal bytes a p) [
       | inl x ↦ elim (kind_of_refusal bytes b q) [ inl y ↦ x.0 ∙ sym y.0 | inr y ↦ absurd (x.1 y.top y.read) ]
-      | inr x ↦ elim (kind_of_refusal bytes b q) [ inl y ↦ absurd (y.1 x.top x.read) | inr y ↦ one_of_table bytes a b x y ]
+      | inr x ↦ elim (kind_of_refusal bytes b q) [
+        | inl y ↦ absurd (y.1 x.top x.read)
+        | inr y ↦ one_of_table bytes a b x y
+      ]
     ]
 
-pub not_both : (bytes : List ℕ) (c : Configuration) (e : ConfigError) → IsConfigurationOf bytes c → MeetsRefusal bytes e → ⊥
+pub not_both : (bytes : List ℕ) (c : Configuration) (e : ConfigError) → IsConfigurationOf bytes c → MeetsRefusal bytes e
+    → ⊥
 not_both bytes c e p q =
     elim (kind_of_refusal bytes e q) [
       | inl x ↦ x.1 p.top p.read
       | inr x ↦ none_some e (sym p.accepted ∙ (ap first_refusal (same_top bytes p.top x.top p.read x.read) ∙ x.first))
     ]
 
-pub read : (bytes : List ℕ) (r : Result Configuration ConfigError) (c : Configuration) → IsConfigAnswer bytes r → IsConfigurationOf bytes c → UnlessMemory r (r ≡ Ok c)
+pub read : (bytes : List ℕ) (r : Result Configuration ConfigError) (c : Configuration) → IsConfigAnswer bytes r
+    → IsConfigurationOf bytes c → UnlessMemory r (r ≡ Ok c)
 read bytes (Ok d) c a h = ap (λ x. Ok x) (one_configuration bytes d c a h)
 read bytes (Err NoMemory) c a h = tt
 read bytes (Err Syntax) c a h = absurd (not_both bytes c Syntax h a)
@@ -96,10 +110,12 @@ read bytes (Err Twice) c a h = absurd (not_both bytes c Twice h a)
 abbrev refusal_answer : ConfigError → Result Configuration ConfigError
 refusal_answer e = Err e
 
-this_one : (bytes : List ℕ) (a b : ConfigError) → MeetsRefusal bytes a → MeetsRefusal bytes b → refusal_answer a ≡ refusal_answer b
+this_one : (bytes : List ℕ) (a b : ConfigError) → MeetsRefusal bytes a → MeetsRefusal bytes b
+    → refusal_answer a ≡ refusal_answer b
 this_one bytes a b p q = ap refusal_answer (one_refusal bytes a b p q)
 
-pub refused : (bytes : List ℕ) (r : Result Configuration ConfigError) (e : ConfigError) → IsConfigAnswer bytes r → MeetsRefusal bytes e → UnlessMemory r (r ≡ Err e)
+pub refused : (bytes : List ℕ) (r : Result Configuration ConfigError) (e : ConfigError) → IsConfigAnswer bytes r
+    → MeetsRefusal bytes e → UnlessMemory r (r ≡ Err e)
 refused bytes (Ok c) e a h = absurd (not_both bytes c e a h)
 refused bytes (Err NoMemory) e a h = tt
 refused bytes (Err Syntax) e a h = this_one bytes Syntax e a h

@@ -1,6 +1,13 @@
 -- What is known of a table that no refusal applies to, and of one that a refusal does.
-use Rattle.std.proofs.Common.{Bool, Err, List, None, Some, [], codes, false, int_lt, length, nat_lt, pos, refl, true, ℕ, ◌&&◌, ◌∷◌, ◌≡◌, ◌≢◌}
-use Rattle.nit_config.proofs.Basics.{AllByRecursion, ConfigError, IsConfigAnswer, Kind, Label, MeetsRefusal, Members, Missing, NoMemory, Range, ReadsTable, Syntax, TooMany, Twice, Unknown, boolean_at, client_tables, elements_of, first_that_holds, has_bad_label, has_bad_script, has_bad_value, has_label_twice, input_table, integer_at, is_outside, list_any, or_parts, refusals, same_Some, screen_table}
+use Rattle.nit_config.proofs.Basics.{AllByRecursion, Bool, ConfigError, Err, IsConfigAnswer, Kind}
+use Rattle.nit_config.proofs.Basics.{Label, List, MeetsRefusal, Members, Missing, NoMemory, None}
+use Rattle.nit_config.proofs.Basics.{Range, ReadsTable, Some, Syntax, TooMany, Twice, Unknown, []}
+use Rattle.nit_config.proofs.Basics.{boolean_at, client_tables, codes, elements_of, false}
+use Rattle.nit_config.proofs.Basics.{first_that_holds, has_bad_label, has_bad_script, has_bad_value}
+use Rattle.nit_config.proofs.Basics.{has_label_twice, input_table, int_lt, integer_at, is_outside}
+use Rattle.nit_config.proofs.Basics.{length, list_any, nat_lt, or_parts, refusals, same_Some}
+use Rattle.nit_config.proofs.Basics.{screen_table}
+use Rattle.std.proofs.Common.{pos, refl, true, ℕ, ◌&&◌, ◌∷◌, ◌≡◌, ◌≢◌}
 use Rattle.nit_config.specs.Ranges.{has_bad_size}
 use Rattle.nit_config.specs.Refusals.{first_refusal, has_bad_range}
 
@@ -18,7 +25,8 @@ no_test_holds top h = none_applies (refusals top) h
 pub record IsAccepted (top : Members) : Type 0 where
   pub width : is_outside (pos 1) (pos 1024) (integer_at (codes "width") (pos 0) (screen_table top)) ≡ false
   pub height : is_outside (pos 1) (pos 768) (integer_at (codes "height") (pos 0) (screen_table top)) ≡ false
-  pub bar : (boolean_at (codes "bar") false (screen_table top) && int_lt (integer_at (codes "height") (pos 0) (screen_table top)) (pos 8)) ≡ false
+  pub bar : (boolean_at (codes "bar") false (screen_table top) && int_lt
+      (integer_at (codes "height") (pos 0) (screen_table top)) (pos 8)) ≡ false
   pub script : has_bad_script (input_table top) ≡ false
   pub some : nat_lt (length (elements_of top)) 1 ≡ false
   pub few : nat_lt 16 (length (elements_of top)) ≡ false
@@ -27,7 +35,8 @@ pub record IsAccepted (top : Members) : Type 0 where
   pub differ : has_label_twice top ≡ false
 
 by_name : (top : Members) → nat_lt (length (elements_of top)) 1 ≡ false → nat_lt 16 (length (elements_of top)) ≡ false
-    → has_bad_range top ≡ false → list_any has_bad_label (client_tables top) ≡ false → has_label_twice top ≡ false → IsAccepted top
+    → has_bad_range top ≡ false → list_any has_bad_label (client_tables top) ≡ false → has_label_twice top ≡ false
+    → IsAccepted top
 unfolding has_bad_range has_bad_size
 by_name top some few range labels differ =
     let all = or_parts _ (list_any has_bad_value (client_tables top)) range in
@@ -52,20 +61,25 @@ accepted top h =
     by_name top none.1.1.0 none.1.1.1.1.0 none.1.1.1.1.1.0 none.1.1.1.1.1.1.0 none.1.1.1.1.1.1.1.0
 
 -- an error of no test is not the first
-never_first : (x : ConfigError) (rs : List (Bool × ConfigError)) → AllByRecursion (λ r. r.1 ≢ x) rs → first_that_holds rs ≡ Some x → ⊥
+never_first : (x : ConfigError) (rs : List (Bool × ConfigError)) → AllByRecursion (λ r. r.1 ≢ x) rs
+    → first_that_holds rs ≡ Some x → ⊥
 never_first x [] others h = cc
 never_first x ((true, e) ∷ rs) others h = others.0 (same_Some e x h)
 never_first x ((false, e) ∷ rs) others h = never_first x rs others.1 h
 
-never : (top : Members) (x : ConfigError) → Kind ≢ x → Missing ≢ x → Unknown ≢ x → TooMany ≢ x → Range ≢ x → Label ≢ x → Twice ≢ x → first_refusal top ≡ Some x → ⊥
+never : (top : Members) (x : ConfigError) → Kind ≢ x → Missing ≢ x → Unknown ≢ x → TooMany ≢ x → Range ≢ x → Label ≢ x
+    → Twice ≢ x → first_refusal top ≡ Some x → ⊥
 unfolding first_refusal
 never top x kind missing unknown many range label twice h =
     never_first x (refusals top) (kind, (missing, (missing, (unknown, (many, (range, (label, (twice, tt)))))))) h
 
 -- what is refused by its table is refused
-pub refused_by : (bytes : List ℕ) (top : Members) (e : ConfigError) → ReadsTable bytes top → first_refusal top ≡ Some e → MeetsRefusal bytes e
-refused_by bytes top Syntax read h = absurd (never top Syntax (λ q. cc) (λ q. cc) (λ q. cc) (λ q. cc) (λ q. cc) (λ q. cc) (λ q. cc) h)
-refused_by bytes top NoMemory read h = absurd (never top NoMemory (λ q. cc) (λ q. cc) (λ q. cc) (λ q. cc) (λ q. cc) (λ q. cc) (λ q. cc) h)
+pub refused_by : (bytes : List ℕ) (top : Members) (e : ConfigError) → ReadsTable bytes top → first_refusal top ≡ Some e
+    → MeetsRefusal bytes e
+refused_by bytes top Syntax read h =
+    absurd (never top Syntax (λ q. cc) (λ q. cc) (λ q. cc) (λ q. cc) (λ q. cc) (λ q. cc) (λ q. cc) h)
+refused_by bytes top NoMemory read h =
+    absurd (never top NoMemory (λ q. cc) (λ q. cc) (λ q. cc) (λ q. cc) (λ q. cc) (λ q. cc) (λ q. cc) h)
 refused_by bytes top Kind read h = record { top = top; read = read; first = h }
 refused_by bytes top Missing read h = record { top = top; read = read; first = h }
 refused_by bytes top Unknown read h = record { top = top; read = read; first = h }

@@ -1,5 +1,6 @@
 -- A configuration, as a value.
-use Rattle.std.specs.Prelude.{ℕ, Bool, true, false, ◌&&◌, nat_le, List, [], ◌∷◌, length, slice_index_or, codes, if◌then◌else◌}
+use Rattle.std.specs.Prelude.{ℕ, Bool, true, false, ◌&&◌, nat_le, List, [], ◌∷◌, length}
+use Rattle.std.specs.Prelude.{slice_index_or, codes, if◌then◌else◌}
 use Rattle.nit_config.specs.Below.{first_printable, last_printable, list_all, most_units}
 use Rattle.nit_config.specs.declared.config.Member.{Member}
 

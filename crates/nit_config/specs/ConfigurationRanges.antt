@@ -1,6 +1,7 @@
 -- The configurations that are within the ranges of the format.
 use Rattle.std.specs.Prelude.{◌≢◌, ◌≤◌, length, All, AllPairs, IsTrue}
-use Rattle.nit_config.specs.Below.{is_label, least_units, most_height, most_sessions, most_units, most_width}
+use Rattle.nit_config.specs.Below.{is_label, least_units, most_height, most_sessions, most_units}
+use Rattle.nit_config.specs.Below.{most_width}
 use Rattle.nit_config.specs.declared.config.Member.{Member}
 use Rattle.nit_config.specs.Configuration.{Configuration, is_file_name}
 

@@ -1,9 +1,11 @@
 -- The configuration that a text is, and the refusal that it meets.
-use Rattle.std.specs.Prelude.{◌≡◌, ℕ, pos, false, List, codes, Some, None, bytes_eq, Result, Ok, Err}
-use Rattle.nit_config.specs.Below.{AllZip, ConfigError, Members, NoMemory, Syntax, get_member, integer, string}
+use Rattle.std.specs.Prelude.{◌≡◌, ℕ, pos, false, List, codes, Some, None, bytes_eq, Result, Ok}
+use Rattle.nit_config.specs.Below.{AllZip, ConfigError, Err, Members, NoMemory, Syntax, get_member}
+use Rattle.nit_config.specs.Below.{integer, string}
 use Rattle.nit_config.specs.declared.config.Member.{Member}
 use Rattle.nit_config.specs.Configuration.{Configuration}
-use Rattle.nit_config.specs.Tree.{ReadsTable, integer_at, string_at, boolean_at, screen_table, input_table, client_tables}
+use Rattle.nit_config.specs.Tree.{ReadsTable, integer_at, string_at, boolean_at, screen_table}
+use Rattle.nit_config.specs.Tree.{input_table, client_tables}
 use Rattle.nit_config.specs.Refusals.{first_refusal}
 
 -- the member holds the values of a client's table, with layer 0 and `click` where these keys are

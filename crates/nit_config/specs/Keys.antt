@@ -1,6 +1,10 @@
 -- The keys of a configuration.
-use Rattle.std.specs.Prelude.{ℕ, Bool, true, false, not, ◌&&◌, ◌||◌, is_some, is_none, List, [], ◌∷◌, map, codes, bytes_eq}
-use Rattle.nit_config.specs.Below.{Boolean, Client, Data, Input, Integer, Key, Members, Place, Screen, Table, Tables, Text, Top, as_array, as_bool, as_integer, as_str, as_table, get_member, list_all, list_any, member, no_members, option_map_or}
+use Rattle.std.specs.Prelude.{ℕ, Bool, true, false, not, ◌&&◌, ◌||◌, is_some, is_none, List, []}
+use Rattle.std.specs.Prelude.{◌∷◌, map, codes, bytes_eq}
+use Rattle.nit_config.specs.Below.{Boolean, Client, Data, Input, Integer, Key, Members, Place}
+use Rattle.nit_config.specs.Below.{Screen, Table, Tables, Text, Top, as_array, as_bool, as_integer}
+use Rattle.nit_config.specs.Below.{as_str, as_table, get_member, list_all, list_any, member}
+use Rattle.nit_config.specs.Below.{no_members, option_map_or}
 use Rattle.nit_config.specs.declared.keys.Kind.{Kind}
 use Rattle.nit_config.specs.Tree.{list_of}
 

@@ -1,7 +1,8 @@
 -- The ranges of the values, each where nothing else is wrong with its key.
 -- Where a required key is not there, the value that stands in for it is out of its range.
-use Rattle.std.specs.Prelude.{ℕ, ℤ, pos, Bool, false, not, ◌&&◌, ◌||◌, List, [], codes, bytes_eq, int_lt}
-use Rattle.nit_config.specs.Below.{Members, is_label, least_units, most_height, most_units, most_width}
+use Rattle.std.specs.Prelude.{ℕ, ℤ, pos, Bool, false, not, ◌&&◌, ◌||◌, List, [], codes, bytes_eq}
+use Rattle.nit_config.specs.Below.{Members, int_lt, is_label, least_units, most_height, most_units}
+use Rattle.nit_config.specs.Below.{most_width}
 use Rattle.nit_config.specs.Configuration.{is_file_name}
 use Rattle.nit_config.specs.Tree.{integer_at, string_at, boolean_at}
 

@@ -1,10 +1,13 @@
 -- The refusals of a table, in their order over the whole file.
-use Rattle.std.specs.Prelude.{ℕ, Bool, false, ◌||◌, if◌then◌else◌, nat_lt, List, [], ◌∷◌, length, map, Option, Some, None, bytes_eq}
-use Rattle.nit_config.specs.Below.{ConfigError, Fault, Lacking, Members, OtherKind, list_any, most_sessions}
+use Rattle.std.specs.Prelude.{ℕ, Bool, false, ◌||◌, if◌then◌else◌, nat_lt, List, [], ◌∷◌, length}
+use Rattle.nit_config.specs.Below.{ConfigError, Fault, Lacking, Members, None, Option, OtherKind}
+use Rattle.nit_config.specs.Below.{Some, bytes_eq, list_any, map, most_sessions}
 use Rattle.nit_config.specs.declared.error.ConfigError.TheVariants as refused
 use Rattle.nit_config.specs.declared.refusals.Fault.TheVariants.{Unknown}
-use Rattle.nit_config.specs.Keys.{KeyRow, top_rows, screen_rows, input_rows, client_rows, has_other_kind, lacks_key, has_unknown_key}
-use Rattle.nit_config.specs.Ranges.{has_bad_size, has_bad_script, has_bad_value, label_of_table, has_bad_label}
+use Rattle.nit_config.specs.Keys.{KeyRow, top_rows, screen_rows, input_rows, client_rows}
+use Rattle.nit_config.specs.Keys.{has_other_kind, lacks_key, has_unknown_key}
+use Rattle.nit_config.specs.Ranges.{has_bad_size, has_bad_script, has_bad_value, label_of_table}
+use Rattle.nit_config.specs.Ranges.{has_bad_label}
 use Rattle.nit_config.specs.Tree.{elements_of, screen_table, input_table, client_tables}
 
 -- the table has the fault, by the rows of its place

@@ -1,7 +1,9 @@
 -- What stands at a key of a table that `toml` gave, with a value for where nothing of the kind
 -- stands there.
-use Rattle.std.specs.Prelude.{◌≡◌, ℕ, ℤ, Bool, List, [], ◌∷◌, Some, map, codes, unwrap_or, option_and_then, IsUtf8}
-use Rattle.nit_config.specs.Below.{Data, Items, Members, as_array, as_bool, as_integer, as_str, as_table, get_member, item, no_items, no_members, parse_document}
+use Rattle.std.specs.Prelude.{◌≡◌, ℕ, ℤ, Bool, List, [], ◌∷◌, Some, map, codes, unwrap_or}
+use Rattle.nit_config.specs.Below.{Data, IsUtf8, Items, Members, as_array, as_bool, as_integer}
+use Rattle.nit_config.specs.Below.{as_str, as_table, get_member, item, no_items, no_members}
+use Rattle.nit_config.specs.Below.{option_and_then, parse_document}
 
 -- `toml` reads the bytes as this table: they are UTF-8, and a document
 pub record ReadsTable (bytes : List ℕ) (top : Members) : Type 0 where

@@ -1,7 +1,11 @@
 //! A configuration, made of a table that no refusal applies to.
 
-ghost use Rattle.std.specs.Prelude.{◌≡◌, ◌≤◌, ℕ, length, Some, None, [], false, pos, map, codes, IfOk};
-ghost use Rattle.nit_config.specs.Terms.{AllZip, HoldsClient, HoldsTable, first_refusal, get_member, has_bad_label, has_bad_script, has_bad_value, integer, integer_at, is_outside, list_any, members_of, most_units, no_members, string, string_at, table_view, view};
+ghost use Rattle.std.specs.Prelude.{◌≡◌, ◌≤◌, ℕ, length, Some, None, [], false, pos, map, codes};
+ghost use Rattle.nit_config.specs.Terms.{AllZip, HoldsClient, HoldsTable, IfOk, first_refusal};
+ghost use Rattle.nit_config.specs.Terms.{get_member, has_bad_label, has_bad_script, has_bad_value};
+ghost use Rattle.nit_config.specs.Terms.{integer, integer_at, is_outside, list_any, members_of};
+ghost use Rattle.nit_config.specs.Terms.{most_units, no_members, string, string_at, table_view};
+ghost use Rattle.nit_config.specs.Terms.{view};
 
 use crate::config::{Config, Member};
 use crate::name::FileName;

@@ -1,7 +1,10 @@
 //! The keys of a configuration, and what a table may have wrong by them.
 
 ghost use Rattle.std.specs.Prelude.{◌≡◌, is_some, not, bytes_eq, string_bytes};
-ghost use Rattle.nit_config.specs.Terms.{as_table, has_other_kind, has_unknown_key, is_known_key, is_lacking, is_of_kind, is_of_other_kind, keys, lacks_key, list_all, list_any, place_rows, row_of, rows_of, table_view, view};
+ghost use Rattle.nit_config.specs.Terms.{as_table, has_other_kind, has_unknown_key, is_known_key};
+ghost use Rattle.nit_config.specs.Terms.{is_lacking, is_of_kind, is_of_other_kind, keys, lacks_key};
+ghost use Rattle.nit_config.specs.Terms.{list_all, list_any, place_rows, row_of, rows_of};
+ghost use Rattle.nit_config.specs.Terms.{table_view, view};
 
 use crate::tree::find;
 use toml::{Table, Value};

@@ -1,7 +1,9 @@
 //! What the relations between texts, configurations and refusals say of each other.
 
 ghost use Rattle.std.specs.Prelude.{◌≡◌, ◌≤◌, ◌⊎◌, ℕ, List};
-ghost use Rattle.nit_config.specs.Terms.{ConfigError, Configuration, IsConfiguration, IsConfigurationOf, MeetsRefusal, most_height, most_width, still_configuration};
+ghost use Rattle.nit_config.specs.Terms.{ConfigError, Configuration, IsConfiguration};
+ghost use Rattle.nit_config.specs.Terms.{IsConfigurationOf, MeetsRefusal, most_height, most_width};
+ghost use Rattle.nit_config.specs.Terms.{still_configuration};
 
 /// A text has one configuration at most, and that is within the ranges of the format.
 pub fn configuration_is_one()

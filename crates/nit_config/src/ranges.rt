@@ -1,7 +1,10 @@
 //! The ranges of the values.
 
 ghost use Rattle.std.specs.Prelude.{◌≡◌, ◌&&◌, nat_le};
-ghost use Rattle.nit_config.specs.Terms.{first_printable, has_bad_focus, has_bad_label, has_bad_script, has_bad_size, has_bad_value, is_file_name, is_outside, label_of_table, last_printable, list_all, table_view};
+ghost use Rattle.nit_config.specs.Terms.{first_printable, has_bad_focus, has_bad_label};
+ghost use Rattle.nit_config.specs.Terms.{has_bad_script, has_bad_size, has_bad_value, is_file_name};
+ghost use Rattle.nit_config.specs.Terms.{is_outside, label_of_table, last_printable, list_all};
+ghost use Rattle.nit_config.specs.Terms.{table_view};
 
 use crate::tree::{boolean_at, integer_at, string_at};
 use nit_rect::{FIRST_PRINTABLE, LAST_PRINTABLE, LEAST_UNITS, MOST_HEIGHT, MOST_UNITS, MOST_WIDTH};

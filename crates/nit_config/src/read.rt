@@ -1,7 +1,9 @@
 //! Reading a configuration.
 
 ghost use Rattle.std.specs.Prelude.{◌≡◌, Ok, Err, IfOk};
-ghost use Rattle.nit_config.specs.Terms.{ConfigError, Configuration, IsConfigAnswer, IsConfiguration, IsConfigurationOf, MeetsRefusal, UnlessMemory};
+ghost use Rattle.nit_config.specs.Terms.{ConfigError, Configuration, IsConfigAnswer};
+ghost use Rattle.nit_config.specs.Terms.{IsConfiguration, IsConfigurationOf, MeetsRefusal};
+ghost use Rattle.nit_config.specs.Terms.{UnlessMemory};
 
 use crate::build::configuration;
 use crate::config::Config;

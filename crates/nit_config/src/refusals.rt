@@ -1,7 +1,11 @@
 //! The refusals of a table, in their order over the whole file.
 
 ghost use Rattle.std.specs.Prelude.{◌≡◌, length, map, bytes_eq};
-ghost use Rattle.nit_config.specs.Terms.{client_rows, client_tables, elements_of, first_refusal, has_bad_label, has_bad_range, has_bad_value, has_fault, has_label_twice, is_somewhere, label_of_table, list_any, members_of, no_members, place_rows, stands_twice, table_view, view};
+ghost use Rattle.nit_config.specs.Terms.{client_rows, client_tables, elements_of, first_refusal};
+ghost use Rattle.nit_config.specs.Terms.{has_bad_label, has_bad_range, has_bad_value, has_fault};
+ghost use Rattle.nit_config.specs.Terms.{has_label_twice, is_somewhere, label_of_table, list_any};
+ghost use Rattle.nit_config.specs.Terms.{members_of, no_members, place_rows, stands_twice};
+ghost use Rattle.nit_config.specs.Terms.{table_view, view};
 
 use crate::error::ConfigError;
 use crate::keys::{Place, has_other_kind, has_unknown_key, lacks_key};

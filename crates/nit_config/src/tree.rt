@@ -1,7 +1,9 @@
 //! What stands at a key of a table.
 
 ghost use Rattle.std.specs.Prelude.{◌≡◌, map, option_map};
-ghost use Rattle.nit_config.specs.Terms.{boolean_at, elements_at, elements_of, get_member, integer_at, members_at, members_of, no_members, string_at, table_view, view};
+ghost use Rattle.nit_config.specs.Terms.{boolean_at, elements_at, elements_of, get_member};
+ghost use Rattle.nit_config.specs.Terms.{integer_at, members_at, members_of, no_members, string_at};
+ghost use Rattle.nit_config.specs.Terms.{table_view, view};
 
 use toml::{Table, Value};
 

@@ -1,6 +1,8 @@
 -- Worked rows of the sets of pixels, computed from the definitions.
 use Rattle.std.proofs.Common.{None, Some, [], false, pos, refl, true, ℕ, ◌∷◌, ◌≡◌}
-use Rattle.nit_damage.proofs.Basics.{Rectangle, SlotView, StackModel, ViewRef, begun_cutter, is_of_gone, is_of_moved, is_owned, place_of, point, rectangle, to_come}
+use Rattle.nit_damage.proofs.Basics.{Rectangle, SlotView, StackModel, ViewRef, begun_cutter}
+use Rattle.nit_damage.proofs.Basics.{is_of_gone, is_of_moved, is_owned, place_of, point, rectangle}
+use Rattle.nit_damage.proofs.Basics.{to_come}
 
 abbrev seat : ℕ → Rectangle → SlotView
 seat k r = record { slot = k; view = record { sid = 0; handle = k; rect = r; ox = pos 0; oy = pos 0; title = [] } }
@@ -8,7 +10,8 @@ seat k r = record { slot = k; view = record { sid = 0; handle = k; rect = r; ox 
 -- a screen of 12 by 12 with a bar: view 2 in front, view 1 under the bar, view 0 behind
 abbrev three_views : StackModel
 three_views = record {
-  views = seat 2 (rectangle (pos 6) (pos 9) 10 9) ∷ seat 1 (rectangle (pos 4) (pos 6) 4 4) ∷ seat 0 (rectangle (pos 0) (pos 8) 8 3) ∷ [];
+  views = seat 2 (rectangle (pos 6) (pos 9) 10 9) ∷ seat 1 (rectangle (pos 4) (pos 6) 4 4)
+      ∷ seat 0 (rectangle (pos 0) (pos 8) 8 3) ∷ [];
   sizes = [];
   layers = [];
   width = 12;

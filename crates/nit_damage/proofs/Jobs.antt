@@ -1,6 +1,14 @@
 -- Lists of rectangles that are still to be cut.
-use Rattle.nit_damage.proofs.Basics.{All-cons, All-nil, FitsJobs, HasPixels, IsJob, Job, Point, Rectangle, StackModel, covered, covers_none, eq-eqb, eqb-true, fold, fold-map, get_or-append-add, get_or_append_left, get_or_push, job_at, job_to_come, jobs_to_come, no_pixels, once, pixels_of, pow-suc, times, times_all, weight, weight_of, with_pixels}
-use Rattle.std.proofs.Common.{All, Bool, List, [], add-zero, ap, arith, cond, drop, false, get_or, length, length-append, map, refl, slice_index_or, subst, suc, sym, take, true, zero, zero-add, ℕ, ◌&&◌, ◌*◌, ◌++◌, ◌+◌, ◌-◌, ◌<◌, ◌==◌, ◌^◌, ◌||◌, ◌∙◌, ◌∷◌, ◌≡◌, ◌≤◌}
+use Rattle.nit_damage.proofs.Basics.{All-cons, All-nil, FitsJobs, HasPixels, IsJob, Job, Point}
+use Rattle.nit_damage.proofs.Basics.{Rectangle, StackModel, covered, covers_none, eq-eqb, eqb-true}
+use Rattle.nit_damage.proofs.Basics.{fold, fold-map, get_or-append-add, get_or_append_left}
+use Rattle.nit_damage.proofs.Basics.{get_or_push, job_at, job_to_come, jobs_to_come, no_pixels}
+use Rattle.nit_damage.proofs.Basics.{once, pixels_of, pow-suc, times, times_all, weight, weight_of}
+use Rattle.nit_damage.proofs.Basics.{with_pixels}
+use Rattle.std.proofs.Common.{All, Bool, List, [], add-zero, ap, arith, cond, drop, false, get_or}
+use Rattle.std.proofs.Common.{length, length-append, map, refl, slice_index_or, subst, suc, sym}
+use Rattle.std.proofs.Common.{take, true, zero, zero-add, ℕ, ◌&&◌, ◌*◌, ◌++◌, ◌+◌, ◌-◌, ◌<◌, ◌==◌}
+use Rattle.std.proofs.Common.{◌^◌, ◌||◌, ◌∙◌, ◌∷◌, ◌≡◌, ◌≤◌}
 use mathlib.Core.Logic.{dite}
 use native.Mathlib.Decide.{ℕ_discrete, dec_lt}
 
@@ -24,12 +32,14 @@ all_have_pixels r = go (r.w * r.h == 0) refl
   where
     go : (b : Bool) → (r.w * r.h == 0) ≡ b → All HasPixels (cond b [] (r ∷ []))
     go true e = All-nil HasPixels
-    go false e = All-cons HasPixels r [] (pixels_of r (λ none. let no = sym (eq-eqb (r.w * r.h) 0 none) ∙ e in cc)) (All-nil HasPixels)
+    go false e = All-cons HasPixels r [] (pixels_of r (λ none. let no = sym (eq-eqb (r.w * r.h) 0 none) ∙ e in cc))
+        (All-nil HasPixels)
 
 -- what is left of a rectangle, at one pixel
 pub rest_to_come : (from at : ℕ) (s : StackModel) (p : Point) (rest : List Rectangle)
     → jobs_to_come from s (map (job_at at) rest) p ≡ cond (covered (drop at (take from s.views)) p) 0 (times_all rest p)
-rest_to_come from at s p rest = fold-map (λ n j. n + job_to_come from s p j) (job_at at) 0 rest ∙ go (covered (drop at (take from s.views)) p)
+rest_to_come from at s p rest = fold-map (λ n j. n + job_to_come from s p j) (job_at at) 0 rest
+    ∙ go (covered (drop at (take from s.views)) p)
   where
     none : (rs : List Rectangle) (n : ℕ) → fold (λ m r. m + 0) n rs ≡ n
     none [] n = refl
@@ -40,12 +50,15 @@ rest_to_come from at s p rest = fold-map (λ n j. n + job_to_come from s p j) (j
     go false = refl
 
 -- what cutting the rest may still give
-pub rest_weighs : (views at : ℕ) (rest : List Rectangle) → weight views (map (job_at at) rest) ≡ length rest * 5 ^ (views + 1 - at)
-rest_weighs views at rest = fold-map (λ n j. n + weight_of views j) (job_at at) 0 rest ∙ go (5 ^ (views + 1 - at)) rest 0 ∙ zero-add (length rest * 5 ^ (views + 1 - at))
+pub rest_weighs : (views at : ℕ) (rest : List Rectangle) → weight views (map (job_at at) rest)
+    ≡ length rest * 5 ^ (views + 1 - at)
+rest_weighs views at rest = fold-map (λ n j. n + weight_of views j) (job_at at) 0 rest
+    ∙ go (5 ^ (views + 1 - at)) rest 0 ∙ zero-add (length rest * 5 ^ (views + 1 - at))
   where
     go : (w : ℕ) (rs : List Rectangle) (n : ℕ) → fold (λ m r. m + w) n rs ≡ n + length rs * w
     go w [] n = omega arith
-    go w (r ∷ rs) n = go w rs (n + w) ∙ (let more : suc (length rs) * w ≡ w + length rs * w = omega arith in omega (arith, more))
+    go w (r ∷ rs) n = go w rs (n + w)
+        ∙ (let more : suc (length rs) * w ≡ w + length rs * w = omega arith in omega (arith, more))
 
 pub heavy : (n : ℕ) → 0 < 5 ^ n
 heavy zero = omega arith
@@ -65,7 +78,8 @@ lighter views at few before le =
         (λ n3. let e : n ≡ 4 = omega arith in rw e (omega arith)))))
 
 -- one cut, at one pixel: the rest comes where the next views let it, and the part that is cut out comes not at all
-pub cut_in_front : (now next here there : Bool) (rest : ℕ) → now ≡ (there || next) → cond here 1 0 ≡ rest + once (here && there)
+pub cut_in_front : (now next here there : Bool) (rest : ℕ) → now ≡ (there || next)
+    → cond here 1 0 ≡ rest + once (here && there)
     → cond now 0 (cond here 1 0) ≡ cond next 0 rest
 cut_in_front now next here there rest e parts = rw e (go next here there parts)
   where
@@ -80,15 +94,20 @@ cut_in_front now next here there rest e parts = rw e (go next here there parts)
     go false false false e = omega arith
 
 -- a list with more rectangles behind
-pub fits_append : (s : StackModel) (jobs more : List Job) → FitsJobs s jobs → ((k : ℕ) (d : Job) → k < length more → IsJob s (length jobs + k) (slice_index_or more k d)) → FitsJobs s (jobs ++ more)
+pub fits_append : (s : StackModel) (jobs more : List Job) → FitsJobs s jobs
+    → ((k : ℕ) (d : Job) → k < length more → IsJob s (length jobs + k) (slice_index_or more k d))
+    → FitsJobs s (jobs ++ more)
 fits_append s jobs more fits fit k d below = dite (dec_lt k (length jobs))
     (λ front. subst (IsJob s k) (sym (get_or_append_left jobs more d k front)) (fits k d front))
     (λ behind.
     let e : length jobs + (k - length jobs) ≡ k = omega arith in
     let within : k - length jobs < length more = omega (arith, length-append jobs more) in
-    let job : IsJob s (length jobs + (k - length jobs)) (slice_index_or more (k - length jobs) d) = fit (k - length jobs) d within in
-    let at : get_or (jobs ++ more) (length jobs + (k - length jobs)) d ≡ get_or more (k - length jobs) d = get_or-append-add jobs more (k - length jobs) d in
-    subst (λ (n : ℕ). IsJob s n (slice_index_or (jobs ++ more) n d)) e (subst (IsJob s (length jobs + (k - length jobs))) (sym at) job))
+    let job : IsJob s (length jobs + (k - length jobs)) (slice_index_or more (k - length jobs) d) =
+    fit (k - length jobs) d within in
+    let at : get_or (jobs ++ more) (length jobs + (k - length jobs)) d ≡ get_or more (k - length jobs) d =
+    get_or-append-add jobs more (k - length jobs) d in
+    subst (λ (n : ℕ). IsJob s n (slice_index_or (jobs ++ more) n d)) e
+    (subst (IsJob s (length jobs + (k - length jobs))) (sym at) job))
 
 -- the last rectangle of a list
 pub last_job : (s : StackModel) (jobs : List Job) (j : Job) → FitsJobs s (jobs ++ j ∷ []) → IsJob s (length jobs) j

@@ -7,7 +7,9 @@ pub use Rattle.nit_rect.specs.Strips.{IsDivided, IsScreenRectangle, times}
 pub use Rattle.nit_rect.specs.declared.point.Point.{Point}
 pub use Rattle.nit_rect.specs.declared.strips.Strips.{Strips}
 pub use Rattle.nit_stack.specs.Sources.{in_bar, owner_in, point}
-pub use Rattle.nit_stack.specs.Stack.{IsOnScreen, IsScreenSize, IsStack, NoPair, SlotView, StackModel, has_slot, is_slot, place_of, same_slot, seat_owner, slot_view_in, view_ref}
+pub use Rattle.nit_stack.specs.Stack.{IsOnScreen, IsScreenSize, IsStack, NoPair, SlotView}
+pub use Rattle.nit_stack.specs.Stack.{StackModel, has_slot, is_slot, place_of, same_slot}
+pub use Rattle.nit_stack.specs.Stack.{seat_owner, slot_view_in, view_ref}
 pub use Rattle.nit_stack.specs.declared.view.Piece.{Piece}
 pub use Rattle.nit_stack.specs.declared.view.ViewRef.{ViewRef}
 pub use Rattle.std.specs.List.{fold, list_any, position_or_len}

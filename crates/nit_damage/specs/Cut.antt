@@ -1,8 +1,11 @@
 -- One cut.
-use Rattle.std.specs.Prelude.{All, ◌≡◌, ℕ, ◌+◌, ◌≤◌, ◌<◌, ◌&&◌, List, ◌++◌, length, map, sum_by, Option, IfSome, MatchOption}
-use Rattle.nit_damage.specs.Below.{CoversBoth, HasPixels, IsApart, Job, Piece, Point, Rectangle, StackModel, covers, times}
+use Rattle.std.specs.Prelude.{All, ◌≡◌, ℕ, ◌+◌, ◌≤◌, ◌<◌, ◌&&◌, List, ◌++◌, length, map, sum_by}
+use Rattle.std.specs.Prelude.{Option, IfSome, MatchOption}
+use Rattle.nit_damage.specs.Below.{CoversBoth, HasPixels, IsApart, Job, Piece, Point, Rectangle}
+use Rattle.nit_damage.specs.Below.{StackModel, covers, times}
 use Rattle.nit_damage.specs.Damage.{once}
-use Rattle.nit_damage.specs.Cutter.{FitsJobs, IsPieceOf, job_at, job_to_come, jobs_to_come, piece_times, weight, weight_of}
+use Rattle.nit_damage.specs.Cutter.{FitsJobs, IsPieceOf, job_at, job_to_come, jobs_to_come}
+use Rattle.nit_damage.specs.Cutter.{piece_times, weight, weight_of}
 
 -- How often rectangles have the pixel, together.
 abbrev pub times_all : List Rectangle → Point → ℕ

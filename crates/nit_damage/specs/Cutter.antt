@@ -1,6 +1,10 @@
 -- What a cutter keeps, and which pixels are still to come by it.
-use Rattle.std.specs.Prelude.{◌≡◌, ℕ, ◌+◌, ◌-◌, ◌*◌, ◌^◌, ◌≤◌, ◌<◌, ◌==◌, Bool, true, false, pos, List, [], ◌∷◌, length, map, drop, take, sum_by, slice_index_or, Option, Some, None, IfSome, IsTrue, if◌then◌else◌}
-use Rattle.nit_damage.specs.Below.{HasPixels, IsOnScreen, Job, LiesIn, Piece, Point, Rectangle, StackModel, covers, has_slot, option_map, rectangle, seat_owner, times, view_ref}
+use Rattle.std.specs.Prelude.{◌≡◌, ℕ, ◌+◌, ◌-◌, ◌*◌, ◌^◌, ◌≤◌, ◌<◌, ◌==◌, Bool, true, false, pos}
+use Rattle.std.specs.Prelude.{List, [], ◌∷◌, length, map, drop, take, sum_by, slice_index_or}
+use Rattle.std.specs.Prelude.{Option, Some, None, IfSome, IsTrue, if◌then◌else◌}
+use Rattle.nit_damage.specs.Below.{HasPixels, IsOnScreen, Job, LiesIn, Piece, Point, Rectangle}
+use Rattle.nit_damage.specs.Below.{StackModel, covers, has_slot, option_map, rectangle, seat_owner}
+use Rattle.nit_damage.specs.Below.{times, view_ref}
 use Rattle.nit_damage.specs.Damage.{once, covered}
 
 -- The rectangles that are still to be cut; the first place in the stack whose view has pieces;

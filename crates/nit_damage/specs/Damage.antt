@@ -1,6 +1,9 @@
 -- Which pixels of the screen are to be drawn again. A stack of views is a list, front first.
-use Rattle.std.specs.Prelude.{ℕ, Bool, false, not, ◌&&◌, ◌||◌, List, take, Option, Some, None, if◌then◌else◌}
-use Rattle.nit_damage.specs.Below.{Point, Rectangle, SlotView, StackModel, ViewRef, covers, in_bar, is_slot, list_any, option_map_or, place_of, seat_owner, slot_view_in}
+use Rattle.std.specs.Prelude.{ℕ, Bool, false, not, ◌&&◌, ◌||◌, List, take, Option, Some, None}
+use Rattle.std.specs.Prelude.{if◌then◌else◌}
+use Rattle.nit_damage.specs.Below.{Point, Rectangle, SlotView, StackModel, ViewRef, covers, in_bar}
+use Rattle.nit_damage.specs.Below.{is_slot, list_any, option_map_or, place_of, seat_owner}
+use Rattle.nit_damage.specs.Below.{slot_view_in}
 
 -- 1 where it holds, and 0 elsewhere
 abbrev pub once : Bool → ℕ

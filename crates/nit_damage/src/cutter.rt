@@ -1,7 +1,12 @@
 //! The cutter.
 
-ghost use Rattle.std.specs.Prelude.{◌≡◌, ℕ, ◌+◌, ◌≤◌, ◌<◌, ◌&&◌, ◌||◌, not, true, length, IfOk, IfSome, IsTrue, MatchOption};
-ghost use Rattle.nit_damage.specs.Terms.{FitsStack, HasPixels, IsOnScreen, Point, Rectangle, StackModel, begun_cutter, covers, has_slot, is_behind, is_of_gone, is_of_moved, is_owned, most_slots, once, option_map, piece_times, pieces_left, seat_owner, to_come, view_ref};
+ghost use Rattle.std.specs.Prelude.{◌≡◌, ℕ, ◌+◌, ◌≤◌, ◌<◌, ◌&&◌, ◌||◌, not, true, length, IfOk};
+ghost use Rattle.std.specs.Prelude.{IfSome, IsTrue, MatchOption};
+ghost use Rattle.nit_damage.specs.Terms.{FitsStack, HasPixels, IsOnScreen, Point, Rectangle};
+ghost use Rattle.nit_damage.specs.Terms.{StackModel, begun_cutter, covers, has_slot, is_behind};
+ghost use Rattle.nit_damage.specs.Terms.{is_of_gone, is_of_moved, is_owned, most_slots, once};
+ghost use Rattle.nit_damage.specs.Terms.{option_map, piece_times, pieces_left, seat_owner, to_come};
+ghost use Rattle.nit_damage.specs.Terms.{view_ref};
 
 use crate::cutting::{Job, cut_out, next_cut, put_in};
 use crate::places::{bar_part, below_bar, part_below_bar};

@@ -1,7 +1,10 @@
 //! One cut.
 
-ghost use Rattle.std.specs.Prelude.{◌≡◌, ◌+◌, ◌++◌, ◌*◌, ◌≤◌, ◌<◌, [], length, map, vec_capacity, IfSome, MatchOption};
-ghost use Rattle.nit_damage.specs.Terms.{FitsJobs, HasPixels, IsCut, IsCutStep, IsJob, IsPieceOf, IsScreenRectangle, Point, job_at, jobs_to_come, piece_times, weight, with_pixels};
+ghost use Rattle.std.specs.Prelude.{◌≡◌, ◌+◌, ◌++◌, ◌*◌, ◌≤◌, ◌<◌, [], length, map, vec_capacity};
+ghost use Rattle.std.specs.Prelude.{IfSome, MatchOption};
+ghost use Rattle.nit_damage.specs.Terms.{FitsJobs, HasPixels, IsCut, IsCutStep, IsJob, IsPieceOf};
+ghost use Rattle.nit_damage.specs.Terms.{IsScreenRectangle, Point, job_at, jobs_to_come};
+ghost use Rattle.nit_damage.specs.Terms.{piece_times, weight, with_pixels};
 
 use nit_rect::Rect;
 use nit_stack::{Piece, Stack};

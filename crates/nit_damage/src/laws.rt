@@ -1,7 +1,9 @@
 //! What the sets of pixels have to do with each other.
 
 ghost use Rattle.std.specs.Prelude.{◌≡◌, ℕ, Some, false};
-ghost use Rattle.nit_damage.specs.Terms.{NoPair, Point, SlotView, StackModel, has_slot, is_behind, is_slot, option_map_or, owner_in, place_of, same_slot, slot_view_in};
+ghost use Rattle.nit_damage.specs.Terms.{NoPair, Point, SlotView, StackModel, has_slot, is_behind};
+ghost use Rattle.nit_damage.specs.Terms.{is_slot, option_map_or, owner_in, place_of, same_slot};
+ghost use Rattle.nit_damage.specs.Terms.{slot_view_in};
 
 /// A view owns a pixel exactly where it covers it, the pixel is below the bar, and no view in
 /// front of it covers it. A view that does not stand owns none.

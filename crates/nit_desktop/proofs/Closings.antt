@@ -1,12 +1,18 @@
 -- A desktop on which nothing was done yet, whose sessions are closed one after the other.
-use Rattle.std.proofs.Common.{Bool, List, None, Option, Some, [], ap, arith, cond, false, get_or, get_or-set_other, get_or-set_same, inl, inr, length, map, refl, set, slice_get, subst, sym, true, ℕ, ◌+◌, ◌<◌, ◌∙◌, ◌∷◌, ◌≡◌, ◌≤◌, ◌≢◌}
+use Rattle.std.proofs.Common.{Bool, List, None, Option, Some, [], ap, arith, cond, false, get_or}
+use Rattle.std.proofs.Common.{get_or-set_other, get_or-set_same, inl, inr, length, map, refl, set}
+use Rattle.std.proofs.Common.{slice_get, subst, sym, true, ℕ, ◌+◌, ◌<◌, ◌∙◌, ◌∷◌, ◌≡◌, ◌≤◌, ◌≢◌}
 use Rattle.std.proofs.Math.ListN.{get_or-map, length-set}
 use Rattle.std.proofs.lemmas.List.{ext_get_or, get_or_default, length-map}
 use Rattle.std.proofs.lemmas.Option.{get_or_from_slice_get, slice_get_within}
 use Rattle.nit_config.specs.Configuration.{bar_rows, donation_of}
 use Rattle.nit_screen.specs.Terms.{in_bar, is_session, option_map_or}
 use Rattle.nit_journal.specs.State.{input_after_call, layer}
-use Rattle.nit_desktop.proofs.Basics.{Configuration, Member, Painted, Session, Sight, State, after, cases_eq, ne_eqb, clean_seen, clean_words, ended, first_input, first_session, first_state, is_accepted, pixel, pixel_count, serve, serve_accepted, session, session_in, source_at, vacant_state}
+use Rattle.nit_desktop.proofs.Basics.{Configuration, Member, Painted, Session, Sight, State, after}
+use Rattle.nit_desktop.proofs.Basics.{cases_eq, ne_eqb, clean_seen, clean_words, ended, first_input}
+use Rattle.nit_desktop.proofs.Basics.{first_session, first_state, is_accepted, pixel, pixel_count}
+use Rattle.nit_desktop.proofs.Basics.{serve, serve_accepted, session, session_in, source_at}
+use Rattle.nit_desktop.proofs.Basics.{vacant_state}
 use Rattle.nit_events.specs.declared.call.Reply.{Reply}
 use Rattle.nit_screen.specs.DirtyPixels.{dirty}
 use Rattle.nit_paint.specs.Repaint.{no_sight}
@@ -34,7 +40,8 @@ bare_still layers sid r = go (is_accepted r)
     go true = refl
     go false = refl
 
-module _ (s : State) (sid d : ℕ) (r : Reply) (first : session s sid ≡ first_session d) (bare : s.stack ≡ []) (idle : s.input ≡ first_input) (answer : r ≡ (serve (session s sid) call.Close).reply) where
+module _ (s : State) (sid d : ℕ) (r : Reply) (first : session s sid ≡ first_session d) (bare : s.stack ≡ [])
+    (idle : s.input ≡ first_input) (answer : r ≡ (serve (session s sid) call.Close).reply) where
   served : serve (session s sid) call.Close ≡ record { reply = reply.Done; session = closed_first d }
   served = ap (λ (t : Session). serve t call.Close) first ∙ serve_accepted (first_session d) call.Close refl
 
@@ -44,7 +51,8 @@ module _ (s : State) (sid d : ℕ) (r : Reply) (first : session s sid ≡ first_
   pub closes : after s (entry.Call sid call.Close r) ≡ record s { sessions = set s.sessions sid (closed_first d) }
   closes = λ i. record s {
     sessions = set s.sessions sid (ap (λ (a : Answered). a.session) served i);
-    stack = ((λ j. stack_after_call (layer s.config) sid call.Close r (bare j)) ∙ bare_still (layer s.config) sid r ∙ sym bare) i;
+    stack = ((λ j. stack_after_call (layer s.config) sid call.Close r (bare j)) ∙ bare_still (layer s.config) sid r
+        ∙ sym bare) i;
     input = ((λ j. input_after_call sid call.Close (done j) (idle j)) ∙ sym idle) i;
   }
 
@@ -56,14 +64,18 @@ module _ (s : State) (sid d : ℕ) (r : Reply) (first : session s sid ≡ first_
   clean : (s' : State) (k : ℕ) → dirty s (entry.Call sid call.Close r) s' (pixel s.config.width k) ≡ false
   clean s' k = rw (done, bare) (no_owner (in_bar (bar_rows s.config) (pixel s.config.width k)))
 
-  pub closes_clean : (s' : State) (a b : ℕ → Sight) (raw raw' : List ℕ) → Painted s (entry.Call sid call.Close r) s' a b raw raw' → length raw' ≡ length raw → raw' ≡ raw
-  closes_clean s' a b raw raw' painted long = clean_words (source_at s') _ (pixel_count s) a b raw raw' (clean s') long painted
+  pub closes_clean : (s' : State) (a b : ℕ → Sight) (raw raw' : List ℕ)
+      → Painted s (entry.Call sid call.Close r) s' a b raw raw' → length raw' ≡ length raw → raw' ≡ raw
+  closes_clean s' a b raw raw' painted long = clean_words (source_at s') _ (pixel_count s) a b raw raw' (clean s') long
+      painted
 
-  pub closes_unseen : (s' : State) (a b : ℕ → Sight) (raw raw' : List ℕ) → Painted s (entry.Call sid call.Close r) s' a b raw raw' → (t : ℕ) → b t ≡ a t
+  pub closes_unseen : (s' : State) (a b : ℕ → Sight) (raw raw' : List ℕ)
+      → Painted s (entry.Call sid call.Close r) s' a b raw raw' → (t : ℕ) → b t ≡ a t
   closes_unseen s' a b raw raw' painted = clean_seen (source_at s') _ (pixel_count s) a b raw raw' (clean s') painted
 
 -- the glasses are as before where none of them tells a load, and the one that the call left out is
-pub same_sights : (old new : List Sight) (sid : ℕ) (own own' : Sight) → length new ≡ length old → glass_in new sid ≡ glass_in old sid
+pub same_sights : (old new : List Sight) (sid : ℕ) (own own' : Sight) → length new ≡ length old
+    → glass_in new sid ≡ glass_in old sid
     → ((t : ℕ) → glasses_of_call new sid own' t ≡ glasses_of_call old sid own t) → new ≡ old
 same_sights old new sid own own' long idle same =
     ext_get_or no_sight new old long (λ t l.
@@ -72,16 +84,21 @@ same_sights old new sid own own' long idle same =
       | inr other ↦ sym (apart new own' t other) ∙ same t ∙ apart old own t other
     ])
   where
-    apart : (glasses : List Sight) (glass : Sight) (t : ℕ) → t ≢ sid → glasses_of_call glasses sid glass t ≡ glass_in glasses t
+    apart : (glasses : List Sight) (glass : Sight) (t : ℕ) → t ≢ sid → glasses_of_call glasses sid glass t
+        ≡ glass_in glasses t
     apart glasses glass t other = ap (λ (b : Bool). cond b glass (glass_in glasses t)) (ne_eqb t sid other)
 
-pub as_many_sights : {A R : Type 0} (sight : A → Sight) (rest : A → R) (old new : List A) → map rest new ≡ map rest old → length (map sight new) ≡ length (map sight old)
-as_many_sights sight rest old new rests = length-map new sight ∙ sym (length-map new rest) ∙ ap length rests ∙ length-map old rest ∙ sym (length-map old sight)
+pub as_many_sights : {A R : Type 0} (sight : A → Sight) (rest : A → R) (old new : List A) → map rest new ≡ map rest old
+    → length (map sight new) ≡ length (map sight old)
+as_many_sights sight rest old new rests = length-map new sight ∙ sym (length-map new rest) ∙ ap length rests
+    ∙ length-map old rest ∙ sym (length-map old sight)
 
 -- the glass that is taken out of a list is the one of its number there
-pub taken_out : {A : Type 0} (sight : A → Sight) (glasses : List A) (sid : ℕ) (out : A) → slice_get glasses sid ≡ Some out → sight out ≡ glass_in (map sight glasses) sid
+pub taken_out : {A : Type 0} (sight : A → Sight) (glasses : List A) (sid : ℕ) (out : A)
+    → slice_get glasses sid ≡ Some out → sight out ≡ glass_in (map sight glasses) sid
 taken_out sight glasses sid out is =
-    sym (get_or_default (map sight glasses) sid no_sight (sight out) (subst (λ (n : ℕ). sid < n) (sym (length-map glasses sight)) (slice_get_within glasses sid out is))
+    sym (get_or_default (map sight glasses) sid no_sight (sight out)
+    (subst (λ (n : ℕ). sid < n) (sym (length-map glasses sight)) (slice_get_within glasses sid out is))
     ∙ get_or-map sight glasses sid out
     ∙ ap sight (get_or_from_slice_get glasses sid out out is))
 
@@ -99,31 +116,41 @@ pub record AreClosedTo (config : Configuration) (n : ℕ) (s : State) : Type 0 w
 pub none_closed : (config : Configuration) (s : State) → s ≡ first_state config → AreClosedTo config 0 s
 none_closed config s is = record {
   configured = ap (λ (t : State). t.config) is;
-  count = ap (λ (t : State). length t.sessions) is ∙ length-map config.clients (λ (m : Member). first_session m.donation);
+  count = ap (λ (t : State). length t.sessions) is
+      ∙ length-map config.clients (λ (m : Member). first_session m.donation);
   closed = λ t none. absurd (omega (arith, none));
-  first = λ t l. ap (λ (u : State). session u t) is ∙ get_or-map (λ (m : Member). first_session m.donation) config.clients t no_client;
+  first = λ t l. ap (λ (u : State). session u t) is
+      ∙ get_or-map (λ (m : Member). first_session m.donation) config.clients t no_client;
   bare = ap (λ (t : State). t.stack) is;
   idle = ap (λ (t : State). t.input) is;
 }
 
-pub one_closed : (config : Configuration) (n d : ℕ) (s s' : State) → AreClosedTo config n s → n < length config.clients → d ≡ donation_of config n
+pub one_closed : (config : Configuration) (n d : ℕ) (s s' : State) → AreClosedTo config n s → n < length config.clients
+    → d ≡ donation_of config n
     → s' ≡ record s { sessions = set s.sessions n (closed_first d) } → AreClosedTo config (n + 1) s'
 one_closed config n d s s' h lt donated is = record {
   configured = ap (λ (t : State). t.config) is ∙ h.configured;
   count = ap (λ (t : State). length t.sessions) is ∙ length-set s.sessions n (closed_first d) ∙ h.count;
   closed = λ t below there.
       elim (cases_eq t n) [
-        | inl e ↦ ap (λ (u : State). session u t) is ∙ ap (λ (m : ℕ). session_in (set s.sessions n (closed_first d)) m) e
-            ∙ get_or-set_same s.sessions n (closed_first d) (first_session 0) (subst (λ (m : ℕ). n < m) (sym h.count) lt)
+        | inl e ↦ ap (λ (u : State). session u t) is
+            ∙ ap (λ (m : ℕ). session_in (set s.sessions n (closed_first d)) m) e
+            ∙ get_or-set_same s.sessions n (closed_first d) (first_session 0)
+            (subst (λ (m : ℕ). n < m) (sym h.count) lt)
             ∙ ap closed_first donated ∙ ap (λ (m : ℕ). closed_first (donation_of config m)) (sym e)
-        | inr other ↦ ap (λ (u : State). session u t) is ∙ get_or-set_other s.sessions n t (closed_first d) (first_session 0) other ∙ h.closed t (omega (arith, below, other)) there
+        | inr other ↦ ap (λ (u : State). session u t) is
+            ∙ get_or-set_other s.sessions n t (closed_first d) (first_session 0) other
+            ∙ h.closed t (omega (arith, below, other)) there
       ];
-  first = λ t l. ap (λ (u : State). session u t) is ∙ get_or-set_other s.sessions n t (closed_first d) (first_session 0) (λ e. omega (arith, l, e)) ∙ h.first t (omega (arith, l));
+  first = λ t l. ap (λ (u : State). session u t) is
+      ∙ get_or-set_other s.sessions n t (closed_first d) (first_session 0) (λ e. omega (arith, l, e))
+      ∙ h.first t (omega (arith, l));
   bare = ap (λ (t : State). t.stack) is ∙ h.bare;
   idle = ap (λ (t : State). t.input) is ∙ h.idle;
 }
 
-pub all_closed : (config : Configuration) (n : ℕ) (s : State) → AreClosedTo config n s → length config.clients ≤ n → s ≡ vacant_state config
+pub all_closed : (config : Configuration) (n : ℕ) (s : State) → AreClosedTo config n s → length config.clients ≤ n
+    → s ≡ vacant_state config
 all_closed config n s h far = λ i. record {
   config = h.configured i;
   sessions = same i;
@@ -135,25 +162,30 @@ all_closed config n s h far = λ i. record {
     wanted = map (λ m. closed_first m.donation) config.clients
 
     same : s.sessions ≡ wanted
-    same = ext_get_or (first_session 0) s.sessions wanted (h.count ∙ sym (length-map config.clients (λ (m : Member). closed_first m.donation)))
+    same = ext_get_or (first_session 0) s.sessions wanted (h.count
+        ∙ sym (length-map config.clients (λ (m : Member). closed_first m.donation)))
         (λ t l.
         let there : t < length config.clients = subst (λ (m : ℕ). t < m) h.count l in
         h.closed t (omega (arith, there, far)) there ∙ sym (at t there))
       where
-        at : (t : ℕ) → t < length config.clients → get_or wanted t (first_session 0) ≡ closed_first (donation_of config t)
-        at t there = get_or_default wanted t (first_session 0) (closed_first 0) (subst (λ (m : ℕ). t < m) (sym (length-map config.clients (λ (m : Member). closed_first m.donation))) there)
+        at : (t : ℕ) → t < length config.clients → get_or wanted t (first_session 0)
+            ≡ closed_first (donation_of config t)
+        at t there = get_or_default wanted t (first_session 0) (closed_first 0)
+            (subst (λ (m : ℕ). t < m) (sym (length-map config.clients (λ (m : Member). closed_first m.donation))) there)
             ∙ get_or-map (λ (m : Member). closed_first m.donation) config.clients t no_client
 
 -- none of them lost an event or made a view
 module _ (config : Configuration) (t : ℕ) where
-  each : (f : Session → ℕ) (n : ℕ) → ((d : ℕ) → f (closed_first d) ≡ n) → f (first_session 0) ≡ n → f (session (vacant_state config) t) ≡ n
+  each : (f : Session → ℕ) (n : ℕ) → ((d : ℕ) → f (closed_first d) ≡ n) → f (first_session 0) ≡ n
+      → f (session (vacant_state config) t) ≡ n
   each f n same none =
       sym (get_or-map f (map (λ m. closed_first m.donation) config.clients) t (first_session 0))
       ∙ ap (λ (ns : List ℕ). get_or ns t (f (first_session 0))) (all config.clients)
       ∙ ap (get_or (map (λ (m : Member). n) config.clients) t) none
       ∙ get_or-map (λ (m : Member). n) config.clients t no_client
     where
-      all : (clients : List Member) → map f (map (λ m. closed_first m.donation) clients) ≡ map (λ (m : Member). n) clients
+      all : (clients : List Member) → map f (map (λ m. closed_first m.donation) clients)
+          ≡ map (λ (m : Member). n) clients
       all [] = refl
       all (m ∷ rest) = (λ i. same m.donation i ∷ all rest i)
 

@@ -1,12 +1,16 @@
 -- Handles do not come to their end: a call makes one view at most, and none but `View` makes one.
-use Rattle.std.proofs.Common.{Bool, None, Option, Some, ap, arith, cond, false, get_or-set_other, get_or-set_same, inl, inr, length, refl, set, subst, sym, true, ℕ, ◌+◌, ◌-◌, ◌^◌, ◌<◌, ◌∙◌, ◌≡◌, ◌≤◌}
+use Rattle.std.proofs.Common.{Bool, None, Option, Some, ap, arith, cond, false, get_or-set_other}
+use Rattle.std.proofs.Common.{get_or-set_same, inl, inr, length, refl, set, subst, sym, true, ℕ}
+use Rattle.std.proofs.Common.{◌+◌, ◌-◌, ◌^◌, ◌<◌, ◌∙◌, ◌≡◌, ◌≤◌}
 use Rattle.std.proofs.lemmas.Bool.{cases_eq}
 use Rattle.nit_screen.proofs.ForCallers.{delivered_keeps_next, taking_keeps_next}
 use Rattle.nit_desktop.specs.Desktop.{asks_view}
 use Rattle.nit_journal.specs.Session.{Session, accepted, by_refusal, first_session, refusal, serve}
 use Rattle.nit_journal.specs.State.{State, after, route, session, session_in}
 use Rattle.nit_events.specs.declared.call.Call.{Call}
-use Rattle.nit_events.specs.declared.call.Call.TheVariants.{Above, Back, Buffer, Close, Destroy, Front, Offset, Place, Refresh, Take, Title, Upgrade, View}
+use Rattle.nit_events.specs.declared.call.Call.TheVariants.{Above, Back, Buffer, Close, Destroy}
+use Rattle.nit_events.specs.declared.call.Call.TheVariants.{Front, Offset, Place, Refresh, Take}
+use Rattle.nit_events.specs.declared.call.Call.TheVariants.{Title, Upgrade, View}
 use Rattle.nit_events.specs.declared.call.Reply.{Reply}
 use Rattle.nit_events.specs.declared.device.Device.{Device}
 use Rattle.nit_events.specs.declared.event.Routed.{Routed}
@@ -31,7 +35,8 @@ accepted_makes t (Refresh x y w h) = omega arith
 accepted_makes t (Upgrade n) = omega arith
 accepted_makes t Close = omega arith
 
-makes_unless_refused : (t : Session) (c : Call) (refused : Option Reply) → (by_refusal t c refused).session.next ≤ t.next + made c
+makes_unless_refused : (t : Session) (c : Call) (refused : Option Reply)
+    → (by_refusal t c refused).session.next ≤ t.next + made c
 makes_unless_refused t c (Some r) = omega arith
 makes_unless_refused t c None = accepted_makes t c
 
@@ -39,22 +44,31 @@ serve_makes : (t : Session) (c : Call) → (serve t c).session.next ≤ t.next +
 unfolding serve
 serve_makes t c = makes_unless_refused t c (refusal t c)
 
-still_below : (t : Session) (c : Call) → t.next < 2 ^ 32 - 1 → (asks_view c ≡ true → t.next < 2 ^ 32 - 2) → (serve t c).session.next < 2 ^ 32 - 1
+still_below : (t : Session) (c : Call) → t.next < 2 ^ 32 - 1 → (asks_view c ≡ true → t.next < 2 ^ 32 - 2)
+    → (serve t c).session.next < 2 ^ 32 - 1
 still_below t c below room = go (asks_view c) refl
   where
     go : (b : Bool) → asks_view c ≡ b → (serve t c).session.next < 2 ^ 32 - 1
-    go true e = let more = serve_makes t c in let one = ap (λ (b : Bool). cond {A = ℕ} b 1 0) e in let far = room e in omega (arith, more, one, far)
-    go false e = let more = serve_makes t c in let none = ap (λ (b : Bool). cond {A = ℕ} b 1 0) e in omega (arith, more, none, below)
+    go true e = let more = serve_makes t c in let one = ap (λ (b : Bool). cond {A = ℕ} b 1 0) e in let far =
+        room e in omega (arith, more, one, far)
+    go false e = let more = serve_makes t c in let none =
+        ap (λ (b : Bool). cond {A = ℕ} b 1 0) e in omega (arith, more, none, below)
 
-pub call_keeps_handles : (s : State) (sid : ℕ) (c : Call) (r : Reply) (t : ℕ) → sid < length s.sessions → ((u : ℕ) → (session s u).next < 2 ^ 32 - 1) → (asks_view c ≡ true → (session s sid).next < 2 ^ 32 - 2)
+pub call_keeps_handles : (s : State) (sid : ℕ) (c : Call) (r : Reply) (t : ℕ) → sid < length s.sessions
+    → ((u : ℕ) → (session s u).next < 2 ^ 32 - 1) → (asks_view c ≡ true → (session s sid).next < 2 ^ 32 - 2)
     → (session (after s (entry.Call sid c r)) t).next < 2 ^ 32 - 1
 call_keeps_handles s sid c r t lt below room =
     elim (cases_eq t sid) [
-      | inl e ↦ subst (λ (u : Session). u.next < 2 ^ 32 - 1) (sym (ap (session_in (set s.sessions sid (serve (session s sid) c).session)) e ∙ get_or-set_same s.sessions sid (serve (session s sid) c).session (first_session 0) lt)) (still_below (session s sid) c (below sid) room)
-      | inr other ↦ subst (λ (u : Session). u.next < 2 ^ 32 - 1) (sym (get_or-set_other s.sessions sid t (serve (session s sid) c).session (first_session 0) other)) (below t)
+      | inl e ↦ subst (λ (u : Session). u.next < 2 ^ 32 - 1)
+          (sym (ap (session_in (set s.sessions sid (serve (session s sid) c).session)) e
+          ∙ get_or-set_same s.sessions sid (serve (session s sid) c).session (first_session 0) lt))
+          (still_below (session s sid) c (below sid) room)
+      | inr other ↦ subst (λ (u : Session). u.next < 2 ^ 32 - 1)
+          (sym (get_or-set_other s.sessions sid t (serve (session s sid) c).session (first_session 0) other)) (below t)
     ]
 
-pub input_keeps_handles : (s : State) (dev : Device) (routed : Routed) (t : ℕ) → ((u : ℕ) → (session s u).next < 2 ^ 32 - 1) → (session (after s (entry.Input dev routed)) t).next < 2 ^ 32 - 1
+pub input_keeps_handles : (s : State) (dev : Device) (routed : Routed) (t : ℕ)
+    → ((u : ℕ) → (session s u).next < 2 ^ 32 - 1) → (session (after s (entry.Input dev routed)) t).next < 2 ^ 32 - 1
 input_keeps_handles s dev routed t below =
     let same = delivered_keeps_next (route s.config s.input s.stack dev).deliveries s.sessions t in
     let was = below t in

@@ -1,6 +1,7 @@
 -- What contracts see of a screen that keeps no journal, and what holds of it.
 use Rattle.std.specs.Prelude.{ℕ, ◌+◌, ◌-◌, ◌*◌, ◌^◌, ◌<◌, Bool, true, false, List}
-use Rattle.nit_desktop.specs.Below.{AreBelowNext, AreLive, AreRaw, Call, HaveOwnNames, State, View, session}
+use Rattle.nit_desktop.specs.Below.{AreBelowNext, AreLive, AreRaw, Call, HaveOwnNames, State, View}
+use Rattle.nit_desktop.specs.Below.{session}
 
 -- the state, how many more entries it serves, the raw words of the screen's pixels, and the glasses
 -- through which the sessions' words are loaded
@@ -16,7 +17,8 @@ asks_view View = true
 asks_view other = false
 
 -- Whoever the input knows and whoever has a view is live, the raw words are as the pixels' sources
--- want them, no two views have the same session and handle, nor does one have a handle that is still
+-- want them, no two views have the same session and handle, nor does one have a handle that is
+-- still
 -- to come, and neither handles nor a count of lost events come to their end before the entries do.
 pub record IsDesktop (s : State) (raw : List ℕ) (left : ℕ) : Type 0 where
   pub live : AreLive s

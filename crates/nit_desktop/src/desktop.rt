@@ -1,7 +1,10 @@
 //! All sessions on one screen, and no journal.
 
 ghost use Rattle.std.specs.Prelude.{◌≡◌, ◌-◌, ◌^◌, ◌<◌, ◌≤◌, ◌*◌, All, false, length, map, true, ℕ};
-ghost use Rattle.nit_desktop.specs.Terms.{AreInked, AreRaw, IsDevice, IsGlass, IsLive, IsWord, Painted, ShowsLabels, after, asks_view, deliveries_of, frame, glass_in, glasses_of_call, is_accepted, kills, route, routed_as, scenery_of, serve, session};
+ghost use Rattle.nit_desktop.specs.Terms.{AreInked, AreRaw, IsDevice, IsGlass, IsLive, IsWord};
+ghost use Rattle.nit_desktop.specs.Terms.{Painted, ShowsLabels, after, asks_view, deliveries_of};
+ghost use Rattle.nit_desktop.specs.Terms.{frame, glass_in, glasses_of_call, is_accepted, kills};
+ghost use Rattle.nit_desktop.specs.Terms.{route, routed_as, scenery_of, serve, session};
 ghost use Rattle.nit_events.specs.declared.entry.Entry.TheVariants as entry;
 
 mod opening;
@@ -42,8 +45,8 @@ impl<G: Glass + Drop> Model for Desktop<G> {
 impl<G: Glass + Drop> Desktop<G> {
     /// Serves a call of the session `sid`. The session's own pixels are loaded through `own`, which
     /// is a glass of the session, and those of the others through the desktop's glasses: each pixel
-    /// that the call makes dirty once, and no other. A refused call changes nothing but the count of
-    /// entries. A session makes at most 2^32 - 3 views since it opens.
+    /// that the call makes dirty once, and no other. A refused call changes nothing but the count
+    /// of entries. A session makes at most 2^32 - 3 views since it opens.
     pub fn call<C: Glass>(&mut self, sid: u32, call: &Call, own: &mut C) -> Reply
         requires session { sid < length self.old.state.sessions }
         requires left { 1 ≤ self.old.left }

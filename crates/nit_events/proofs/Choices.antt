@@ -1,5 +1,6 @@
 -- What holds of a choice, and how long the list of one delivery is.
-use Rattle.std.proofs.Common.{Bool, None, Option, Some, arith, false, length, true, ◌≤◌, if◌then◌else◌}
+use Rattle.std.proofs.Common.{Bool, None, Option, Some, arith, false, length, true, ◌≤◌}
+use Rattle.std.proofs.Common.{if◌then◌else◌}
 use Rattle.nit_events.proofs.Basics.{Delivery, delivery}
 
 -- what holds of both holds of either

@@ -1,6 +1,7 @@
 -- Worked rows of the user's input, computed from the definitions.
 use Rattle.std.proofs.Common.{List, Option, Some, [], refl, true, ℕ, ◌∷◌, ◌≡◌, if◌then◌else◌}
-use Rattle.nit_events.proofs.Basics.{Delivery, Device, Event, InputState, Motion, Press, Release, first_input, nat_lt, pointer_after, routing}
+use Rattle.nit_events.proofs.Basics.{Delivery, Device, Event, InputState, Motion, Press, Release}
+use Rattle.nit_events.proofs.Basics.{first_input, nat_lt, pointer_after, routing}
 use Rattle.nit_events.specs.declared.event.Event.TheVariants as event
 use Rattle.nit_events.specs.declared.event.Item.TheVariants as item
 

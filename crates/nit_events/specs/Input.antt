@@ -1,6 +1,8 @@
 -- The state of the user's input, and what one device event does to it.
-use Rattle.std.specs.Prelude.{ℕ, ◌-◌, min, Bool, true, false, ◌&&◌, not, nat_le, ◌==◌, List, [], ◌∷◌, ◌++◌, filter, Option, Some, None, if◌then◌else◌}
-use Rattle.nit_events.specs.Below.{Delivery, Device, Event, Flat, Kill, Mode, Routed, Xray, list_any}
+use Rattle.std.specs.Prelude.{ℕ, ◌-◌, min, Bool, true, false, ◌&&◌, not, nat_le, ◌==◌, List, []}
+use Rattle.std.specs.Prelude.{◌∷◌, ◌++◌, filter, Option, Some, None, if◌then◌else◌}
+use Rattle.nit_events.specs.Below.{Delivery, Device, Event, Flat, Kill, Mode, Routed, Xray}
+use Rattle.nit_events.specs.Below.{list_any}
 use Rattle.nit_events.specs.declared.event.Event.TheVariants as event
 use Rattle.nit_events.specs.declared.event.Item.TheVariants as item
 use Rattle.nit_events.specs.declared.device.Device.TheVariants as device

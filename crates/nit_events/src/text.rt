@@ -16,7 +16,8 @@ pub struct Text {
 
 impl Model for Text {
     ghost use Rattle.std.specs.Prelude.{◌≡◌, ℕ, List, length, take, drop, true};
-    ghost use Rattle.nit_events.specs.Text.{is_text, HasZerosBehind, bytes_again, with_zeros, length_again};
+    ghost use Rattle.nit_events.specs.Text.{is_text, HasZerosBehind, bytes_again, with_zeros};
+    ghost use Rattle.nit_events.specs.Text.{length_again};
 
     ghost Value = { List ℕ };
 

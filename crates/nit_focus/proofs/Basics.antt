@@ -1,11 +1,19 @@
 -- What lemmas use: the words of clauses, the library's lemmas, and those of the crates below.
 pub use Rattle.arrayvec.proofs.ArrayVecLemmas.{filter-from_retain}
 pub use Rattle.nit_events.proofs.ForCallers.{either}
-pub use Rattle.nit_focus.specs.Terms.{All, AllByRecursion, AllOfInput, Delivery, Device, Event, Flat, FocusModel, HasForgotten, IfSome, InputState, IsDevice, IsFocus, IsForgottenIfKilled, IsHeld, IsItem, IsWithinReach, Item, Kill, Mode, Routing, Xray, clicks_on_list, deliveries_of, eqb, list_any, nat_eq_equiv, outcome, pointer_after, routing_at, with_pointer}
+pub use Rattle.nit_focus.specs.Terms.{All, AllByRecursion, AllOfInput, Delivery, Device, Event}
+pub use Rattle.nit_focus.specs.Terms.{Flat, FocusModel, HasForgotten, IfSome, InputState, IsDevice}
+pub use Rattle.nit_focus.specs.Terms.{IsFocus, IsForgottenIfKilled, IsHeld, IsItem, IsWithinReach}
+pub use Rattle.nit_focus.specs.Terms.{Item, Kill, Mode, Routing, Xray, clicks_on_list}
+pub use Rattle.nit_focus.specs.Terms.{deliveries_of, eqb, list_any, nat_eq_equiv, outcome}
+pub use Rattle.nit_focus.specs.Terms.{pointer_after, routing_at, with_pointer}
 pub use Rattle.std.proofs.Common.{lit<}
 pub use Rattle.std.proofs.lemmas.Bool.{cases_eq, eq-eqb, eqb-true, ne_eqb}
 pub use Rattle.std.proofs.lemmas.List.{length_push}
-pub use Rattle.std.proofs.lemmas.List.Elements.{All-append, All-cons, All-contains, All-filter, All-from_recursion, All-nil, All-push, All-same, All-weaker, recursion_from_All}
-pub use Rattle.std.proofs.lemmas.Map.Keys.{IsDistinct-cons, IsDistinct-head, IsDistinct-push, IsDistinct-tail}
+pub use Rattle.std.proofs.lemmas.List.Elements.{All-append, All-cons, All-contains, All-filter}
+pub use Rattle.std.proofs.lemmas.List.Elements.{All-from_recursion, All-nil, All-push, All-same}
+pub use Rattle.std.proofs.lemmas.List.Elements.{All-weaker, recursion_from_All}
+pub use Rattle.std.proofs.lemmas.Map.Keys.{IsDistinct-cons, IsDistinct-head, IsDistinct-push}
+pub use Rattle.std.proofs.lemmas.Map.Keys.{IsDistinct-tail}
 pub use Rattle.std.proofs.lemmas.Map.Steps.{length-le_from_distinct_below}
 pub use Rattle.std.proofs.lemmas.Map.Views.{Contains-from_any}

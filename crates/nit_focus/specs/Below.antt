@@ -1,5 +1,6 @@
 -- The words of the library and of the crates below that are used here, and the crate's plain types.
-pub use Rattle.nit_events.specs.Input.{InputState, Routing, deliveries_of, first_input, pointer_after, routed_as, routing, to}
+pub use Rattle.nit_events.specs.Input.{InputState, Routing, deliveries_of, first_input}
+pub use Rattle.nit_events.specs.Input.{pointer_after, routed_as, routing, to}
 pub use Rattle.nit_events.specs.Ranges.{IsCode, IsDevice, IsEvent}
 pub use Rattle.nit_events.specs.declared.device.Device.{Device}
 pub use Rattle.nit_events.specs.declared.device.Mode.{Mode}

@@ -1,6 +1,8 @@
 -- What a `Focus` stands for, and what a device event makes of it.
-use Rattle.std.specs.Prelude.{◌≡◌, ℕ, ◌<◌, ◌≤◌, pos, Bool, true, false, List, length, replicate, slice_index_or, Option, Some, None, IfSome}
-use Rattle.nit_focus.specs.Below.{Device, InputState, Point, Routing, first_input, most_height, most_sessions, most_width, pointer_after, routing}
+use Rattle.std.specs.Prelude.{◌≡◌, ℕ, ◌<◌, ◌≤◌, pos, Bool, true, false, List, length, replicate}
+use Rattle.std.specs.Prelude.{slice_index_or, Option, Some, None, IfSome}
+use Rattle.nit_focus.specs.Below.{Device, InputState, Point, Routing, first_input, most_height}
+use Rattle.nit_focus.specs.Below.{most_sessions, most_width, pointer_after, routing}
 
 -- the state of the user's input; the screen's size; and for each of 16 sessions whether a click on
 -- it moves the focus

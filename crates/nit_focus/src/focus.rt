@@ -1,5 +1,8 @@
 ghost use Rattle.std.specs.Prelude.{◌≡◌, ◌<◌, ◌≤◌, false, length, slice_set, IfSome};
-ghost use Rattle.nit_focus.specs.Terms.{All, AllOfInput, HasForgotten, IsDevice, IsForgottenIfKilled, IsItem, IsOnScreen, IsWithinReach, clicks_on_list, first_focus, most_height, most_sessions, most_width, pointer, routing_at, with_pointer};
+ghost use Rattle.nit_focus.specs.Terms.{All, AllOfInput, HasForgotten, IsDevice};
+ghost use Rattle.nit_focus.specs.Terms.{IsForgottenIfKilled, IsItem, IsOnScreen, IsWithinReach};
+ghost use Rattle.nit_focus.specs.Terms.{clicks_on_list, first_focus, most_height, most_sessions};
+ghost use Rattle.nit_focus.specs.Terms.{most_width, pointer, routing_at, with_pointer};
 ghost use Rattle.nit_events.specs.Input as input;
 
 use crate::state::State;

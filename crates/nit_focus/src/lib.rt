@@ -8,8 +8,8 @@
 //!
 //! - What is pressed first fixes a receiver: the pointed session for a button, the focused one for
 //! a key. The
-//!   receiver gets all that the user does until nothing is held any more, so a drag stays with the session that it
-//!   began in.
+//!   receiver gets all that the user does until nothing is held any more, so a drag stays with the
+//!   session that it began in.
 //! - While nothing is held, the session under the pointer is told of motions and of the wheel, and
 //! of being left.
 //! - In the mode `Xray` sessions are told of the focus alone, and in `Kill` of nothing: there a

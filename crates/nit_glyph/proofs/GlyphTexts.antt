@@ -1,6 +1,10 @@
 -- Which texts are texts of the glyphs.
-use Rattle.std.proofs.Common.{Bool, List, Option, Some, [], arith, not, refl, true, ℕ, ◌++◌, ◌<◌, ◌||◌, ◌∙◌, ◌∷◌, ◌≡◌}
-use Rattle.nit_glyph.proofs.Basics.{IfSome, IsOfGlyphs, IsTrue, None, agree_below_at, and_from, and_parts, bar_text_of, codes, is_label, is_label_byte, is_some, is_title, is_title_byte, label_text_of, list_all-append, nat_tests, or_left}
+use Rattle.std.proofs.Common.{Bool, List, Option, Some, [], arith, not, refl, true, ℕ, ◌++◌, ◌<◌}
+use Rattle.std.proofs.Common.{◌||◌, ◌∙◌, ◌∷◌, ◌≡◌}
+use Rattle.nit_glyph.proofs.Basics.{IfSome, IsOfGlyphs, IsTrue, None, agree_below_at, and_from}
+use Rattle.nit_glyph.proofs.Basics.{and_parts, bar_text_of, codes, is_label, is_label_byte, is_some}
+use Rattle.nit_glyph.proofs.Basics.{is_title, is_title_byte, label_text_of, list_all-append}
+use Rattle.nit_glyph.proofs.Basics.{nat_tests, or_left}
 use Rattle.nit_glyph.specs.Pictures.{glyph_rows}
 use Rattle.nit_glyph.proofs.BoolLemmas.{implies, list_all_weaker}
 
@@ -41,16 +45,19 @@ title_has_glyphs text is =
 -- a label is a text of the glyphs
 pub label_has_glyphs : (text : List ℕ) → IsTrue (is_label text) → IsOfGlyphs text
 label_has_glyphs text is =
-    list_all_weaker is_label_byte has_glyph text (λ c label. title_byte_has_glyph c (or_left _ _ label)) (and_parts _ _ is).1
+    list_all_weaker is_label_byte has_glyph text (λ c label. title_byte_has_glyph c (or_left _ _ label))
+    (and_parts _ _ is).1
 
 -- so is the text of a view
-pub label_text_has_glyphs : (label title : List ℕ) → IsTrue (is_label label) → IsTrue (is_title title) → IsOfGlyphs (label_text_of label title)
+pub label_text_has_glyphs : (label title : List ℕ) → IsTrue (is_label label) → IsTrue (is_title title)
+    → IsOfGlyphs (label_text_of label title)
 label_text_has_glyphs label [] is_label is_title = label_has_glyphs label is_label
 label_text_has_glyphs label (c ∷ title) is_label is_title =
     joined_has_glyphs label (c ∷ title) (label_has_glyphs label is_label) (title_has_glyphs (c ∷ title) is_title)
 
 -- and the text of the status bar
-pub bar_text_has_glyphs : (mode : List ℕ) (focus : Option (List ℕ)) → IsTrue (is_label mode) → IfSome focus (λ label. IsTrue (is_label label))
+pub bar_text_has_glyphs : (mode : List ℕ) (focus : Option (List ℕ)) → IsTrue (is_label mode)
+    → IfSome focus (λ label. IsTrue (is_label label))
     → IsOfGlyphs (bar_text_of mode focus)
 bar_text_has_glyphs mode None is_word none = label_has_glyphs mode is_word
 bar_text_has_glyphs mode (Some label) is_word is_focus =

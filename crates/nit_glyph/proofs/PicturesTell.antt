@@ -1,6 +1,11 @@
 -- What a picture tells of its text.
-use Rattle.std.proofs.Common.{Bool, List, Option, Some, [], ap, ap₂, arith, cond, false, leb, length, not, refl, sym, true, ℕ, ◌%◌, ◌*◌, ◌+◌, ◌-◌, ◌/◌, ◌<◌, ◌==◌, ◌||◌, ◌∙◌, ◌∷◌, ◌≡◌}
-use Rattle.nit_glyph.proofs.Basics.{AllPass-from_list_all, IsOfGlyphs, SamePicture, agree_below, and_parts, eqb-true, find, glyph_row, glyphs, is_some, le-leb, list_all, option_map, row_has_dot, same_number_lists, slice_index, unwrap_or}
+use Rattle.std.proofs.Common.{Bool, List, Option, Some, [], ap, ap₂, arith, cond, false, leb}
+use Rattle.std.proofs.Common.{length, not, refl, sym, true, ℕ, ◌%◌, ◌*◌, ◌+◌, ◌-◌, ◌/◌, ◌<◌, ◌==◌}
+use Rattle.std.proofs.Common.{◌||◌, ◌∙◌, ◌∷◌, ◌≡◌}
+use Rattle.nit_glyph.proofs.Basics.{AllPass-from_list_all, IsOfGlyphs, SamePicture, agree_below}
+use Rattle.nit_glyph.proofs.Basics.{and_parts, eqb-true, find, glyph_row, glyphs, is_some, le-leb}
+use Rattle.nit_glyph.proofs.Basics.{list_all, option_map, row_has_dot, same_number_lists}
+use Rattle.nit_glyph.proofs.Basics.{slice_index, unwrap_or}
 use Rattle.nit_glyph.specs.Pictures.{dot, glyph_rows}
 use Rattle.nit_glyph.proofs.BoolLemmas.{implies, agree}
 
@@ -39,7 +44,8 @@ record IsGlyphOf (table : List Glyph) (c : ℕ) (g : Glyph) : Type 0 where
   passes : (p : Glyph → Bool) → list_all p table ≡ true → p g ≡ true
 
 found_step : (g : Glyph) (table : List Glyph) (c : ℕ) (b : Bool) → (g.0 == c) ≡ b
-    → (is_some (found table c) ≡ true → (h : Glyph) × IsGlyphOf table c h) → is_some (found (g ∷ table) c) ≡ true → (h : Glyph) × IsGlyphOf (g ∷ table) c h
+    → (is_some (found table c) ≡ true → (h : Glyph) × IsGlyphOf table c h) → is_some (found (g ∷ table) c) ≡ true
+    → (h : Glyph) × IsGlyphOf (g ∷ table) c h
 found_step g table c true e rest some = (
   g,
   record {
@@ -76,13 +82,15 @@ row_of c g j is = ap (λ o. slice_index (unwrap_or o []) j) is.rows
 
 -- characters with equal dots are equal
 char_same : (c d : ℕ) → is_some (glyph_rows c) ≡ true → is_some (glyph_rows d) ≡ true
-    → ((j : ℕ) → j < 5 → (column : ℕ) → column < 3 → row_has_dot (glyph_row c j) column ≡ row_has_dot (glyph_row d j) column) → c ≡ d
+    → ((j : ℕ) → j < 5 → (column : ℕ) → column < 3 → row_has_dot (glyph_row c j) column
+    ≡ row_has_dot (glyph_row d j) column) → c ≡ d
 char_same c d some_c some_d same =
     let first = glyph_of c some_c in
     let second = glyph_of d some_d in
     let g : Glyph = first.0 in
     let h : Glyph = second.0 in
-    let told : tells g h ≡ true = second.1.passes (λ x. tells g x) (first.1.passes (λ x. list_all (λ y. tells x y) glyphs) table_tells) in
+    let told : tells g h ≡ true =
+    second.1.passes (λ x. tells g x) (first.1.passes (λ x. list_all (λ y. tells x y) glyphs) table_tells) in
     let dots : same_dots g.1 h.1 ≡ true =
     agree (λ j. same_row (slice_index g.1 j) (slice_index h.1 j)) (λ _. true) 5
     (λ j lt.
@@ -114,7 +122,8 @@ texts_same s t glyphs_s glyphs_t same =
     let long : length s ≡ length t = omega (arith, same.width) in
     same_number_lists s t long
     (λ i lt.
-    char_same (slice_index s i) (slice_index t i) (AllPass-from_list_all _ s glyphs_s i 0 lt) (AllPass-from_list_all _ t glyphs_t i 0 (omega arith))
+    char_same (slice_index s i) (slice_index t i) (AllPass-from_list_all _ s glyphs_s i 0 lt)
+    (AllPass-from_list_all _ t glyphs_t i 0 (omega arith))
     (λ j row_lt column column_lt.
     sym (dot_at s i j column row_lt column_lt)
     ∙ same.dots (4 * i + column + 1) (j + 1) (omega arith) (omega arith)

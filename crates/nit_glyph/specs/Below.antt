@@ -4,5 +4,6 @@ pub use Rattle.std.specs.Cmp.{partial_equiv_from_equiv}
 pub use Rattle.std.specs.Cmp.Lexicographic.{nat_list_eq_equiv}
 pub use Rattle.std.specs.List.{list_all, list_any}
 pub use Rattle.std.specs.Option.{option_copied, option_map}
-pub use Rattle.std.specs.Prelude.{IfSome, IsTrue, None, codes, find, is_some, slice_index, unwrap_or}
+pub use Rattle.std.specs.Prelude.{IfSome, IsTrue, None, codes, find, is_some, slice_index}
+pub use Rattle.std.specs.Prelude.{unwrap_or}
 pub use Rattle.std.specs.Str.{bytes_eq}

@@ -1,5 +1,7 @@
 -- The picture of a text.
-use Rattle.std.specs.Prelude.{◌≡◌, ℕ, ◌+◌, ◌-◌, ◌*◌, ◌/◌, ◌%◌, ◌<◌, ◌==◌, zero, suc, Bool, false, ◌&&◌, nat_le, List, [], Option, is_some, find, length, slice_index, unwrap_or, bit_and, IsTrue}
+use Rattle.std.specs.Prelude.{◌≡◌, ℕ, ◌+◌, ◌-◌, ◌*◌, ◌/◌, ◌%◌, ◌<◌, ◌==◌, zero, suc, Bool, false}
+use Rattle.std.specs.Prelude.{◌&&◌, nat_le, List, [], Option, is_some, find, length, slice_index}
+use Rattle.std.specs.Prelude.{unwrap_or, bit_and, IsTrue}
 use Rattle.nit_glyph.specs.Below.{list_all, option_map}
 use Rattle.nit_glyph.specs.Glyphs.{glyphs}
 

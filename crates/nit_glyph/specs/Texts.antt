@@ -1,5 +1,6 @@
 -- Labels, titles, and the texts that are made of them.
-use Rattle.std.specs.Prelude.{ℕ, ◌==◌, Bool, ◌&&◌, ◌||◌, List, [], ◌∷◌, ◌++◌, Option, None, Some, length, nat_le, codes}
+use Rattle.std.specs.Prelude.{ℕ, ◌==◌, Bool, ◌&&◌, ◌||◌, List, [], ◌∷◌, ◌++◌, Option, None, Some}
+use Rattle.std.specs.Prelude.{length, nat_le, codes}
 use Rattle.nit_glyph.specs.Below.{is_ascii_digit, is_ascii_lowercase, list_all, list_any}
 
 -- a byte of a label: `a` to `z`, `0` to `9`, `-`, `.` or `_`

@@ -1,7 +1,10 @@
 //! The pictures of texts.
 
-ghost use Rattle.std.specs.Prelude.{◌≡◌, ℕ, ◌<◌, ◌≤◌, ◌==◌, List, length, find, Option, IfSome, IsTrue};
-ghost use Rattle.nit_glyph.specs.Terms.{IsOfGlyphs, SamePicture, bar_text_of, dot, glyph_rows, is_label, is_title, label_text_of, most_label_text, option_map, picture_height, picture_width, row_has_dot};
+ghost use Rattle.std.specs.Prelude.{◌≡◌, ℕ, ◌<◌, ◌≤◌, ◌==◌, List, length, find, Option, IfSome};
+ghost use Rattle.std.specs.Prelude.{IsTrue};
+ghost use Rattle.nit_glyph.specs.Terms.{IsOfGlyphs, SamePicture, bar_text_of, dot, glyph_rows};
+ghost use Rattle.nit_glyph.specs.Terms.{is_label, is_title, label_text_of, most_label_text};
+ghost use Rattle.nit_glyph.specs.Terms.{option_map, picture_height, picture_width, row_has_dot};
 
 use crate::table::GLYPHS;
 use crate::text::LabelText;

@@ -1,7 +1,8 @@
 //! The texts that the server writes on the screen.
 
 ghost use Rattle.std.specs.Prelude.{◌≡◌, ◌+◌, ◌≤◌, ◌∷◌, ◌++◌, length, codes};
-ghost use Rattle.nit_glyph.specs.Terms.{IsOfGlyphs, bar_text_of, label_text_of, most_label, most_label_text, most_title, option_copied};
+ghost use Rattle.nit_glyph.specs.Terms.{IsOfGlyphs, bar_text_of, label_text_of, most_label};
+ghost use Rattle.nit_glyph.specs.Terms.{most_label_text, most_title, option_copied};
 
 use crate::label::Label;
 use crate::padded::Padded;

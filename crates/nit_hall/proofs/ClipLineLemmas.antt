@@ -1,6 +1,12 @@
 -- Clip scripts and clip lists, line by line, and what a client calls up to the end of a phase.
-use Rattle.std.proofs.Common.{Bool, List, Some, [], ap, arith, cond, false, inl, inr, length, map, refl, slice_get, suc, take, true, zero, ℕ, ◌++◌, ◌+◌, ◌<◌, ◌==◌, ◌∙◌, ◌∷◌, ◌≡◌, ◌≢◌, ◌≤◌, ◌⊎◌}
-use Rattle.nit_hall.proofs.Basics.{AllByRecursion, Call, ClipCall, ClipEntry, ClipLine, IsNonDecreasing, Line, calls_from, calls_in, calls_up_to, clip_calls_in, clip_calls_of, clip_script_in, clips_to_do, clips_to_make, eq-eqb, is_phase, nat_le, nat_tests, ne_eqb, phases_before, slice_index}
+use Rattle.nit_hall.proofs.Basics.{AllByRecursion, Bool, Call, ClipCall, ClipEntry, ClipLine}
+use Rattle.nit_hall.proofs.Basics.{IsNonDecreasing, Line, List, Some, [], ap, arith, calls_from}
+use Rattle.nit_hall.proofs.Basics.{calls_in, calls_up_to, clip_calls_in, clip_calls_of}
+use Rattle.nit_hall.proofs.Basics.{clip_script_in, clips_to_do, clips_to_make, cond, eq-eqb, false}
+use Rattle.nit_hall.proofs.Basics.{inl, inr, is_phase, length, map, nat_le, nat_tests, ne_eqb}
+use Rattle.nit_hall.proofs.Basics.{phases_before, slice_index}
+use Rattle.std.proofs.Common.{refl, slice_get, suc, take, true, zero, ℕ, ◌++◌, ◌+◌, ◌<◌, ◌==◌, ◌∙◌}
+use Rattle.std.proofs.Common.{◌∷◌, ◌≡◌, ◌≢◌, ◌≤◌, ◌⊎◌}
 use Rattle.nit_script.specs.declared.line.Line.TheVariants as line
 use Rattle.nit_clip.specs.declared.line.ClipLine.TheVariants as clips
 use Rattle.nit_hall.proofs.LineLemmas.{count_cons}
@@ -9,7 +15,8 @@ use Rattle.nit_hall.proofs.NonDecreasing.{each_below}
 -- ---- clip scripts
 
 -- the clip calls among the first lines are the first clip calls
-pub clips_front : (lines : List ClipLine) (k : ℕ) → take (length (clip_calls_in (take k lines))) (clip_calls_in lines) ≡ clip_calls_in (take k lines)
+pub clips_front : (lines : List ClipLine) (k : ℕ) → take (length (clip_calls_in (take k lines))) (clip_calls_in lines)
+    ≡ clip_calls_in (take k lines)
 clips_front lines zero = refl
 clips_front [] (suc k) = refl
 clips_front (clips.Call c ∷ lines) (suc k) = ap (λ (cs : List ClipCall). c ∷ cs) (clips_front lines k)
@@ -20,31 +27,38 @@ clips_short [] = omega arith
 clips_short (clips.Call c ∷ lines) = omega (arith, clips_short lines)
 clips_short (clips.Phase ∷ lines) = omega (arith, clips_short lines)
 
-pub made_by : (scripts : List (List ClipLine)) (t : ℕ) → clips_to_do (map clips_to_make scripts) t ≡ clips_to_make (clip_script_in scripts t)
+pub made_by : (scripts : List (List ClipLine)) (t : ℕ) → clips_to_do (map clips_to_make scripts) t
+    ≡ clips_to_make (clip_script_in scripts t)
 made_by [] t = refl
 made_by (s ∷ scripts) zero = refl
 made_by (s ∷ scripts) (suc t) = made_by scripts t
 
 -- ---- clip lists
 
-pub own_clip : (s : ℕ) (es : List ClipEntry) (e : ClipEntry) → e.sid ≡ s → clip_calls_of s (es ++ e ∷ []) ≡ clip_calls_of s es ++ e.call ∷ []
+pub own_clip : (s : ℕ) (es : List ClipEntry) (e : ClipEntry) → e.sid ≡ s
+    → clip_calls_of s (es ++ e ∷ []) ≡ clip_calls_of s es ++ e.call ∷ []
 own_clip s [] e own = ap (λ (b : Bool). cond {A = List ClipCall} b (e.call ∷ []) []) (eq-eqb e.sid s own)
 own_clip s (x ∷ es) e own = go (x.sid == s) (own_clip s es e own)
   where
     go : (b : Bool) → clip_calls_of s (es ++ e ∷ []) ≡ clip_calls_of s es ++ e.call ∷ []
-        → cond {A = List ClipCall} b (x.call ∷ clip_calls_of s (es ++ e ∷ [])) (clip_calls_of s (es ++ e ∷ [])) ≡ cond {A = List ClipCall} b (x.call ∷ clip_calls_of s es) (clip_calls_of s es) ++ e.call ∷ []
+        → cond {A = List ClipCall} b (x.call ∷ clip_calls_of s (es ++ e ∷ [])) (clip_calls_of s (es ++ e ∷ []))
+        ≡ cond {A = List ClipCall} b (x.call ∷ clip_calls_of s es) (clip_calls_of s es) ++ e.call ∷ []
     go true h = ap (λ (cs : List ClipCall). x.call ∷ cs) h
     go false h = h
 
-pub other_clip : (s : ℕ) (es : List ClipEntry) (e : ClipEntry) → e.sid ≢ s → clip_calls_of s (es ++ e ∷ []) ≡ clip_calls_of s es
+pub other_clip : (s : ℕ) (es : List ClipEntry) (e : ClipEntry) → e.sid ≢ s
+    → clip_calls_of s (es ++ e ∷ []) ≡ clip_calls_of s es
 other_clip s [] e other = ap (λ (b : Bool). cond {A = List ClipCall} b (e.call ∷ []) []) (ne_eqb e.sid s other)
-other_clip s (x ∷ es) e other = ap (λ (cs : List ClipCall). cond {A = List ClipCall} (x.sid == s) (x.call ∷ cs) cs) (other_clip s es e other)
+other_clip s (x ∷ es) e other = ap (λ (cs : List ClipCall). cond {A = List ClipCall} (x.sid == s) (x.call ∷ cs) cs)
+    (other_clip s es e other)
 
 -- ---- the calls up to the end of a phase
 
 later : (p q : ℕ) (script : List Line) → p < q → calls_up_to p (calls_from q script) ≡ []
 later p q [] h = refl
-later p q (line.Call c ∷ script) h = ap (λ (b : Bool). cond {A = List (ℕ × Call)} b ((q, c) ∷ calls_up_to p (calls_from q script)) (calls_up_to p (calls_from q script))) not_yet ∙ later p q script h
+later p q (line.Call c ∷ script) h =
+    ap (λ (b : Bool). cond {A = List (ℕ × Call)} b ((q, c) ∷ calls_up_to p (calls_from q script))
+    (calls_up_to p (calls_from q script))) not_yet ∙ later p q script h
   where
     not_yet : nat_le q p ≡ false
     not_yet = grind (arith, nat_tests)
@@ -66,33 +80,42 @@ calls_of_phases (line.Stroke s ∷ script) p zero at = elim at [
 ]
 calls_of_phases (line.Phase ∷ script) p zero at = ap length (later (p + 0) (suc p) script (omega arith))
 calls_of_phases (line.Call c ∷ script) p (suc k) at =
-    let n : p + phases_before (line.Call c ∷ script) (suc k) ≡ p + phases_before script k = omega (arith, count_cons is_phase (line.Call c) (take k script)) in
+    let n : p + phases_before (line.Call c ∷ script) (suc k) ≡ p + phases_before script k =
+    omega (arith, count_cons is_phase (line.Call c) (take k script)) in
     let passes : nat_le p (p + phases_before script k) ≡ true = grind (arith, nat_tests) in
     ap (λ (m : ℕ). length (calls_up_to m ((p, c) ∷ calls_from p script))) n
-    ∙ ap (λ (b : Bool). length (cond {A = List (ℕ × Call)} b ((p, c) ∷ calls_up_to (p + phases_before script k) (calls_from p script)) (calls_up_to (p + phases_before script k) (calls_from p script)))) passes
+    ∙ ap (λ (b : Bool). length (cond {A = List (ℕ × Call)} b
+    ((p, c) ∷ calls_up_to (p + phases_before script k) (calls_from p script))
+    (calls_up_to (p + phases_before script k) (calls_from p script)))) passes
     ∙ ap suc (calls_of_phases script p k (behind at))
   where
-    behind : (slice_get (line.Call c ∷ script) (suc k) ≡ Some line.Phase) ⊎ (suc k ≡ length (line.Call c ∷ script)) → (slice_get script k ≡ Some line.Phase) ⊎ (k ≡ length script)
+    behind : (slice_get (line.Call c ∷ script) (suc k) ≡ Some line.Phase) ⊎ (suc k ≡ length (line.Call c ∷ script))
+        → (slice_get script k ≡ Some line.Phase) ⊎ (k ≡ length script)
     behind (inl e) = inl e
     behind (inr e) = inr (omega (arith, e))
 calls_of_phases (line.Stroke s ∷ script) p (suc k) at =
-    let n : p + phases_before (line.Stroke s ∷ script) (suc k) ≡ p + phases_before script k = omega (arith, count_cons is_phase (line.Stroke s) (take k script)) in
+    let n : p + phases_before (line.Stroke s ∷ script) (suc k) ≡ p + phases_before script k =
+    omega (arith, count_cons is_phase (line.Stroke s) (take k script)) in
     ap (λ (m : ℕ). length (calls_up_to m (calls_from p script))) n ∙ calls_of_phases script p k (behind at)
   where
-    behind : (slice_get (line.Stroke s ∷ script) (suc k) ≡ Some line.Phase) ⊎ (suc k ≡ length (line.Stroke s ∷ script)) → (slice_get script k ≡ Some line.Phase) ⊎ (k ≡ length script)
+    behind : (slice_get (line.Stroke s ∷ script) (suc k) ≡ Some line.Phase) ⊎ (suc k ≡ length (line.Stroke s ∷ script))
+        → (slice_get script k ≡ Some line.Phase) ⊎ (k ≡ length script)
     behind (inl e) = inl e
     behind (inr e) = inr (omega (arith, e))
 calls_of_phases (line.Phase ∷ script) p (suc k) at =
-    let n : p + phases_before (line.Phase ∷ script) (suc k) ≡ suc p + phases_before script k = omega (arith, count_cons is_phase line.Phase (take k script)) in
+    let n : p + phases_before (line.Phase ∷ script) (suc k) ≡ suc p + phases_before script k =
+    omega (arith, count_cons is_phase line.Phase (take k script)) in
     ap (λ (m : ℕ). length (calls_up_to m (calls_from (suc p) script))) n ∙ calls_of_phases script (suc p) k (behind at)
   where
-    behind : (slice_get (line.Phase ∷ script) (suc k) ≡ Some line.Phase) ⊎ (suc k ≡ length (line.Phase ∷ script)) → (slice_get script k ≡ Some line.Phase) ⊎ (k ≡ length script)
+    behind : (slice_get (line.Phase ∷ script) (suc k) ≡ Some line.Phase) ⊎ (suc k ≡ length (line.Phase ∷ script))
+        → (slice_get script k ≡ Some line.Phase) ⊎ (k ≡ length script)
     behind (inl e) = inl e
     behind (inr e) = inr (omega (arith, e))
 
 -- ---- phases so far
 
-all_below : (xs : List ℕ) (p : ℕ) → ((i : ℕ) → i < length xs → slice_index xs i ≤ p) → (k : ℕ) → AllByRecursion (λ x. x ≤ p) (take k xs)
+all_below : (xs : List ℕ) (p : ℕ) → ((i : ℕ) → i < length xs → slice_index xs i ≤ p) → (k : ℕ)
+    → AllByRecursion (λ x. x ≤ p) (take k xs)
 all_below xs p each zero = tt
 all_below [] p each (suc k) = tt
 all_below (x ∷ xs) p each (suc k) = (each 0 (omega arith), all_below xs p (λ i h. each (suc i) (omega arith)) k)

@@ -1,20 +1,29 @@
 -- A clip list beside a journal that grows.
 use Rattle.std.proofs.Common.{List, [], subst, sym, ℕ, ◌++◌, ◌∷◌, ◌≡◌, ◌≤◌}
-use Rattle.nit_hall.proofs.Basics.{AllByRecursion, AreInPhases, Call, ClipCall, ClipEntry, ClipModel, Configuration, End, Entry, FollowsClips, IsLegalClips, IsRoom, IsThere, OpeningParts, RoomModel, SceneModel, UserAction, before_final}
+use Rattle.nit_hall.proofs.Basics.{AllByRecursion, AreInPhases, Call, ClipCall, ClipEntry}
+use Rattle.nit_hall.proofs.Basics.{ClipModel, Configuration, End, Entry, FollowsClips, IsLegalClips}
+use Rattle.nit_hall.proofs.Basics.{IsRoom, IsThere, OpeningParts, RoomModel, SceneModel, UserAction}
+use Rattle.nit_hall.proofs.Basics.{before_final}
 
 -- what the laws of clip lists say of one more entry
 pub record EntryLaws : Type 0 where
-  pub legal : (config : Configuration) (journal : List Entry) (e : Entry) (clips : List ClipEntry) → IsLegalClips config journal clips → IsLegalClips config (journal ++ e ∷ []) clips
-  pub placed : (clients : List (List (ℕ × Call))) (user : List (ℕ × UserAction)) (journal : List Entry) (e : Entry) (scripts : List (List (ℕ × ClipCall))) (clips : List ClipEntry)
-      → AllByRecursion (λ c. c.at ≤ before_final journal) clips → AreInPhases clients user journal scripts clips → AreInPhases clients user (journal ++ e ∷ []) scripts clips
+  pub legal : (config : Configuration) (journal : List Entry) (e : Entry) (clips : List ClipEntry)
+      → IsLegalClips config journal clips → IsLegalClips config (journal ++ e ∷ []) clips
+  pub placed : (clients : List (List (ℕ × Call))) (user : List (ℕ × UserAction)) (journal : List Entry) (e : Entry)
+      (scripts : List (List (ℕ × ClipCall))) (clips : List ClipEntry)
+      → AllByRecursion (λ c. c.at ≤ before_final journal) clips → AreInPhases clients user journal scripts clips
+      → AreInPhases clients user (journal ++ e ∷ []) scripts clips
 
-all_within : (config : Configuration) (journal : List Entry) (clips : List ClipEntry) → AllByRecursion (IsThere config journal) clips → AllByRecursion (λ (c : ClipEntry). c.at ≤ before_final journal) clips
+all_within : (config : Configuration) (journal : List Entry) (clips : List ClipEntry)
+    → AllByRecursion (IsThere config journal) clips
+    → AllByRecursion (λ (c : ClipEntry). c.at ≤ before_final journal) clips
 all_within config journal [] there = tt
 all_within config journal (c ∷ clips) there = (there.0.within, all_within config journal clips there.1)
 
 -- one more entry leaves a clip list that follows its clip scripts
 abbrev pub ClipsStay : Type 0
-ClipsStay = (parts : OpeningParts) (counts : List ℕ) (entries : List Entry) (e : Entry) (clips : ClipModel) → FollowsClips parts counts entries clips → FollowsClips parts counts (entries ++ e ∷ []) clips
+ClipsStay = (parts : OpeningParts) (counts : List ℕ) (entries : List Entry) (e : Entry) (clips : ClipModel)
+    → FollowsClips parts counts entries clips → FollowsClips parts counts (entries ++ e ∷ []) clips
 
 pub follow_on : EntryLaws → ClipsStay
 follow_on laws parts counts entries e clips f = record {
@@ -22,18 +31,31 @@ follow_on laws parts counts entries e clips f = record {
   each = f.each;
   calls = f.calls;
   few = f.few;
-  in_phases = laws.placed _ _ entries e _ clips.entries (all_within parts.config entries clips.entries f.legal.there) f.in_phases;
+  in_phases = laws.placed _ _ entries e _ clips.entries (all_within parts.config entries clips.entries f.legal.there)
+      f.in_phases;
   room = f.room;
 }
 
 -- the parts of a room with this configuration
 abbrev pub parts_with : RoomModel → Configuration → OpeningParts
-parts_with r config = record { name = r.parts.name; config = config; scripts = r.parts.scripts; plans = r.parts.plans; input = r.parts.input; clips = r.parts.clips }
+parts_with r config = record {
+  name = r.parts.name;
+  config = config;
+  scripts = r.parts.scripts;
+  plans =
+      r.parts.plans;
+  input = r.parts.input;
+  clips = r.parts.clips;
+}
 
-pub clips_same : (r : RoomModel) → IsRoom r → FollowsClips (parts_with r r.scene.config) r.clip_counts r.scene.entries r.clips
-clips_same r room = subst (λ (c : Configuration). FollowsClips (parts_with r c) r.clip_counts r.scene.entries r.clips) (sym room.config) room.clips_follow
+pub clips_same : (r : RoomModel) → IsRoom r
+    → FollowsClips (parts_with r r.scene.config) r.clip_counts r.scene.entries r.clips
+clips_same r room = subst (λ (c : Configuration). FollowsClips (parts_with r c) r.clip_counts r.scene.entries r.clips)
+    (sym room.config) room.clips_follow
 
-pub clips_then : ClipsStay → (r : RoomModel) (new : SceneModel End) (e : Entry) → IsRoom r → new.config ≡ r.scene.config → new.entries ≡ r.scene.entries ++ e ∷ [] → FollowsClips (parts_with r new.config) r.clip_counts new.entries r.clips
+pub clips_then : ClipsStay → (r : RoomModel) (new : SceneModel End) (e : Entry) → IsRoom r → new.config ≡ r.scene.config
+    → new.entries ≡ r.scene.entries ++ e ∷ [] → FollowsClips (parts_with r new.config) r.clip_counts new.entries r.clips
 clips_then stay r new e room config recorded =
     subst (λ (c : Configuration). FollowsClips (parts_with r c) r.clip_counts new.entries r.clips) (sym config)
-    (subst (λ (js : List Entry). FollowsClips (parts_with r r.scene.config) r.clip_counts js r.clips) (sym recorded) (stay (parts_with r r.scene.config) r.clip_counts r.scene.entries e r.clips (clips_same r room)))
+    (subst (λ (js : List Entry). FollowsClips (parts_with r r.scene.config) r.clip_counts js r.clips) (sym recorded)
+    (stay (parts_with r r.scene.config) r.clip_counts r.scene.entries e r.clips (clips_same r room)))

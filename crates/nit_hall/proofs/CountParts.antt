@@ -1,5 +1,6 @@
 -- The counts of a book in two parts: the first so many, and those behind them.
-use Rattle.std.proofs.Common.{List, [], ap, arith, drop, length, refl, suc, take, zero, ℕ, ◌++◌, ◌+◌, ◌<◌, ◌∷◌, ◌≡◌}
+use Rattle.std.proofs.Common.{List, [], ap, arith, drop, length, refl, suc, take, zero, ℕ, ◌++◌}
+use Rattle.std.proofs.Common.{◌+◌, ◌<◌, ◌∷◌, ◌≡◌}
 use Rattle.nit_hall.proofs.Basics.{raised, slice_index}
 
 -- ---- a count of the front has risen
@@ -68,7 +69,8 @@ pub front_before_more : (n : ℕ) (cs ds : List ℕ) → length cs ≡ n → tak
 front_before_more zero [] ds long = refl
 front_before_more zero (c ∷ cs) ds long = absurd (omega (arith, long))
 front_before_more (suc n) [] ds long = absurd (omega (arith, long))
-front_before_more (suc n) (c ∷ cs) ds long = ap (λ (es : List ℕ). c ∷ es) (front_before_more n cs ds (omega (arith, long)))
+front_before_more (suc n) (c ∷ cs) ds long =
+    ap (λ (es : List ℕ). c ∷ es) (front_before_more n cs ds (omega (arith, long)))
 
 pub back_is_more : (n : ℕ) (cs ds : List ℕ) → length cs ≡ n → drop n (cs ++ ds) ≡ ds
 back_is_more zero [] ds long = refl

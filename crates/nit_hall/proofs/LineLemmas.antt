@@ -1,41 +1,59 @@
 -- Scripts line by line: what the lines before the next one are, and what the next one adds.
-use Rattle.std.proofs.Common.{Bool, List, Some, [], ap, arith, cond, drop, false, filter, length, length-append, refl, slice_get, suc, sym, take, true, zero, ℕ, ◌++◌, ◌+◌, ◌∙◌, ◌∷◌, ◌≡◌, ◌≤◌}
-use Rattle.nit_hall.proofs.Basics.{Call, Device, Does, FitsDevice, InputLine, IsDevice, Line, Shoots, Stroke, calls_from, calls_in, count_by, done, filter-append, get_or_from_slice_get, input_phases_before, is_input_phase, is_phase, is_served, length-take, lines_to_call, next_phase, phases_before, served, slice_get_within, sum_by-cons, take_more, user_actions_from, user_actions_in}
+use Rattle.nit_hall.proofs.Basics.{Bool, Call, Device, Does, FitsDevice, InputLine, IsDevice, Line}
+use Rattle.nit_hall.proofs.Basics.{List, Shoots, Some, Stroke, [], ap, arith, calls_from, calls_in}
+use Rattle.nit_hall.proofs.Basics.{cond, count_by, done, drop, false, filter, filter-append}
+use Rattle.nit_hall.proofs.Basics.{get_or_from_slice_get, input_phases_before, is_input_phase}
+use Rattle.nit_hall.proofs.Basics.{is_phase, is_served, length, length-take, lines_to_call}
+use Rattle.nit_hall.proofs.Basics.{next_phase, phases_before, served, slice_get_within, sum_by-cons}
+use Rattle.nit_hall.proofs.Basics.{take_more, user_actions_from, user_actions_in}
+use Rattle.std.proofs.Common.{length-append, refl, slice_get, suc, sym, take, true, zero, ℕ, ◌++◌}
+use Rattle.std.proofs.Common.{◌+◌, ◌∙◌, ◌∷◌, ◌≡◌, ◌≤◌}
 use Rattle.nit_events.specs.declared.device.Device.TheVariants as device
 use Rattle.nit_script.specs.declared.line.Line.TheVariants as line
 use Rattle.nit_script.specs.declared.line.InputLine.TheVariants as inputs
 
 -- ---- one more line
 
-pub take_line : {X : Type 0} (xs : List X) (k : ℕ) (x : X) → slice_get xs k ≡ Some x → take (k + 1) xs ≡ take k xs ++ x ∷ []
-take_line xs k x at = take_more xs k x (slice_get_within xs k x at) ∙ ap (λ y. take k xs ++ y ∷ []) (get_or_from_slice_get xs k x x at)
+pub take_line : {X : Type 0} (xs : List X) (k : ℕ) (x : X) → slice_get xs k ≡ Some x
+    → take (k + 1) xs ≡ take k xs ++ x ∷ []
+take_line xs k x at = take_more xs k x (slice_get_within xs k x at)
+    ∙ ap (λ y. take k xs ++ y ∷ []) (get_or_from_slice_get xs k x x at)
 
 -- those of the first n that pass are the first so many that pass
-pub front_filter : {X : Type 0} (p : X → Bool) (n : ℕ) (xs : List X) → take (length (filter p (take n xs))) (filter p xs) ≡ filter p (take n xs)
+pub front_filter : {X : Type 0} (p : X → Bool) (n : ℕ) (xs : List X)
+    → take (length (filter p (take n xs))) (filter p xs) ≡ filter p (take n xs)
 front_filter p zero xs = refl
 front_filter p (suc n) [] = refl
 front_filter p (suc n) (x ∷ xs) = go (p x) (front_filter p n xs)
   where
     go : (b : Bool) → take (length (filter p (take n xs))) (filter p xs) ≡ filter p (take n xs)
-        → take (length (cond b (x ∷ filter p (take n xs)) (filter p (take n xs)))) (cond b (x ∷ filter p xs) (filter p xs)) ≡ cond b (x ∷ filter p (take n xs)) (filter p (take n xs))
+        → take (length (cond b (x ∷ filter p (take n xs)) (filter p (take n xs))))
+        (cond b (x ∷ filter p xs) (filter p xs)) ≡ cond b (x ∷ filter p (take n xs)) (filter p (take n xs))
     go true e = ap (λ ys. x ∷ ys) e
     go false e = e
 
 pub front_short : {X : Type 0} (n : ℕ) (xs ys : List X) → take n xs ≡ ys → length ys ≡ n → n ≤ length xs
 front_short n xs ys e long = omega (arith, length-take n xs, ap length e, long)
 
-pub served_line : (script : List Line) (k : ℕ) (l : Line) → slice_get script k ≡ Some l → is_served l ≡ true → served (take (k + 1) script) ≡ served (take k script) ++ l ∷ []
-served_line script k l at is = ap served (take_line script k l at) ∙ filter-append is_served (take k script) (l ∷ []) ∙ ap (λ b. served (take k script) ++ cond b (l ∷ []) []) is
+pub served_line : (script : List Line) (k : ℕ) (l : Line) → slice_get script k ≡ Some l → is_served l ≡ true
+    → served (take (k + 1) script) ≡ served (take k script) ++ l ∷ []
+served_line script k l at is = ap served (take_line script k l at) ∙ filter-append is_served (take k script) (l ∷ [])
+    ∙ ap (λ b. served (take k script) ++ cond b (l ∷ []) []) is
 
-pub unserved_line : (script : List Line) (k : ℕ) (l : Line) → slice_get script k ≡ Some l → is_served l ≡ false → length (served (take (k + 1) script)) ≡ length (served (take k script))
+pub unserved_line : (script : List Line) (k : ℕ) (l : Line) → slice_get script k ≡ Some l → is_served l ≡ false
+    → length (served (take (k + 1) script)) ≡ length (served (take k script))
 unserved_line script k l at is =
-    ap (λ ls. length (served ls)) (take_line script k l at) ∙ ap length (filter-append is_served (take k script) (l ∷ []) ∙ ap (λ b. served (take k script) ++ cond b (l ∷ []) []) is) ∙ nothing (served (take k script))
+    ap (λ ls. length (served ls)) (take_line script k l at)
+    ∙ ap length (filter-append is_served (take k script) (l ∷ [])
+    ∙ ap (λ b. served (take k script) ++ cond b (l ∷ []) []) is) ∙ nothing (served (take k script))
   where
     nothing : (ls : List Line) → length (ls ++ []) ≡ length ls
     nothing ls = omega (arith, length-append ls [])
 
-pub served_counted : (script : List Line) (k : ℕ) (l : Line) → slice_get script k ≡ Some l → is_served l ≡ true → length (served (take (k + 1) script)) ≡ length (served (take k script)) + 1
-served_counted script k l at is = ap length (served_line script k l at is) ∙ omega (arith, length-append (served (take k script)) (l ∷ []))
+pub served_counted : (script : List Line) (k : ℕ) (l : Line) → slice_get script k ≡ Some l → is_served l ≡ true
+    → length (served (take (k + 1) script)) ≡ length (served (take k script)) + 1
+served_counted script k l at is = ap length (served_line script k l at is)
+    ∙ omega (arith, length-append (served (take k script)) (l ∷ []))
 
 -- ---- calls
 
@@ -52,28 +70,37 @@ calls_served (line.Stroke s ∷ xs) = calls_served xs
 calls_served (line.Phase ∷ xs) = calls_served xs
 
 -- the calls among the served lines before the next line are those among the lines before it
-pub calls_front : (script : List Line) (k : ℕ) → calls_in (take (length (served (take k script))) (served script)) ≡ calls_in (take k script)
+pub calls_front : (script : List Line) (k : ℕ) → calls_in (take (length (served (take k script))) (served script))
+    ≡ calls_in (take k script)
 calls_front script k = ap calls_in (front_filter is_served k script) ∙ calls_served (take k script)
 
-pub calls_line : (script : List Line) (k : ℕ) (c : Call) → slice_get script k ≡ Some (line.Call c) → calls_in (take (k + 1) script) ≡ calls_in (take k script) ++ c ∷ []
-calls_line script k c at = ap calls_in (take_line script k (line.Call c) at) ∙ calls_append (take k script) (line.Call c ∷ [])
+pub calls_line : (script : List Line) (k : ℕ) (c : Call) → slice_get script k ≡ Some (line.Call c)
+    → calls_in (take (k + 1) script) ≡ calls_in (take k script) ++ c ∷ []
+calls_line script k c at = ap calls_in (take_line script k (line.Call c) at)
+    ∙ calls_append (take k script) (line.Call c ∷ [])
 
-no_more_calls : (script : List Line) (k : ℕ) (l : Line) → slice_get script k ≡ Some l → calls_in (l ∷ []) ≡ [] → calls_in (take (k + 1) script) ≡ calls_in (take k script)
-no_more_calls script k l at none = ap calls_in (take_line script k l at) ∙ calls_append (take k script) (l ∷ []) ∙ ap (λ (cs : List Call). calls_in (take k script) ++ cs) none ∙ nothing (calls_in (take k script))
+no_more_calls : (script : List Line) (k : ℕ) (l : Line) → slice_get script k ≡ Some l → calls_in (l ∷ []) ≡ []
+    → calls_in (take (k + 1) script) ≡ calls_in (take k script)
+no_more_calls script k l at none = ap calls_in (take_line script k l at) ∙ calls_append (take k script) (l ∷ [])
+    ∙ ap (λ (cs : List Call). calls_in (take k script) ++ cs) none ∙ nothing (calls_in (take k script))
   where
     nothing : (cs : List Call) → cs ++ [] ≡ cs
     nothing [] = refl
     nothing (c ∷ cs) = ap (λ ds. c ∷ ds) (nothing cs)
 
-pub no_calls_line : (script : List Line) (k : ℕ) → slice_get script k ≡ Some line.Phase → calls_in (take (k + 1) script) ≡ calls_in (take k script)
+pub no_calls_line : (script : List Line) (k : ℕ) → slice_get script k ≡ Some line.Phase
+    → calls_in (take (k + 1) script) ≡ calls_in (take k script)
 no_calls_line script k at = no_more_calls script k line.Phase at refl
 
-pub no_calls_stroke : (script : List Line) (k : ℕ) (s : Stroke) → slice_get script k ≡ Some (line.Stroke s) → calls_in (take (k + 1) script) ≡ calls_in (take k script)
+pub no_calls_stroke : (script : List Line) (k : ℕ) (s : Stroke) → slice_get script k ≡ Some (line.Stroke s)
+    → calls_in (take (k + 1) script) ≡ calls_in (take k script)
 no_calls_stroke script k s at = no_more_calls script k (line.Stroke s) at refl
 
 -- the line behind so many calls is the one that was counted
-pub line_counted : (script : List Line) (k : ℕ) (c : Call) → slice_get script k ≡ Some (line.Call c) → lines_to_call (length (calls_in (take k script)) + 1) script ≡ k + 1
-line_counted script k c at = ap (λ n. lines_to_call n script) (plus_one (length (calls_in (take k script)))) ∙ go script k at
+pub line_counted : (script : List Line) (k : ℕ) (c : Call) → slice_get script k ≡ Some (line.Call c)
+    → lines_to_call (length (calls_in (take k script)) + 1) script ≡ k + 1
+line_counted script k c at = ap (λ n. lines_to_call n script) (plus_one (length (calls_in (take k script))))
+    ∙ go script k at
   where
     plus_one : (n : ℕ) → n + 1 ≡ suc n
     plus_one n = omega arith
@@ -81,7 +108,8 @@ line_counted script k c at = ap (λ n. lines_to_call n script) (plus_one (length
     one_plus : (n : ℕ) → suc (n + 1) ≡ suc n + 1
     one_plus n = omega arith
 
-    go : (ls : List Line) (k : ℕ) → slice_get ls k ≡ Some (line.Call c) → lines_to_call (suc (length (calls_in (take k ls)))) ls ≡ k + 1
+    go : (ls : List Line) (k : ℕ) → slice_get ls k ≡ Some (line.Call c)
+        → lines_to_call (suc (length (calls_in (take k ls)))) ls ≡ k + 1
     go [] k at = absurd cc
     go (line.Call d ∷ ls) zero at = refl
     go (line.Stroke s ∷ ls) zero at = absurd cc
@@ -92,18 +120,23 @@ line_counted script k c at = ap (λ n. lines_to_call n script) (plus_one (length
 
 -- ---- phases
 
-pub count_cons : {X : Type 0} (p : X → Bool) (x : X) (xs : List X) → count_by p (x ∷ xs) ≡ cond {A = ℕ} (p x) 1 0 + count_by p xs
+pub count_cons : {X : Type 0} (p : X → Bool) (x : X) (xs : List X)
+    → count_by p (x ∷ xs) ≡ cond {A = ℕ} (p x) 1 0 + count_by p xs
 count_cons p x xs = sum_by-cons (λ y. cond {A = ℕ} (p y) 1 0) x xs
 
 -- the phase of the next call is the one that the lines before it lead to
-pub phase_of_call : (script : List Line) (p k : ℕ) (c : Call) → slice_get script k ≡ Some (line.Call c) → next_phase (drop (length (calls_in (take k script))) (calls_from p script)) ≡ p + phases_before script k
+pub phase_of_call : (script : List Line) (p k : ℕ) (c : Call) → slice_get script k ≡ Some (line.Call c)
+    → next_phase (drop (length (calls_in (take k script))) (calls_from p script)) ≡ p + phases_before script k
 phase_of_call [] p k c at = absurd cc
 phase_of_call (line.Call d ∷ ls) p zero c at = omega arith
 phase_of_call (line.Stroke s ∷ ls) p zero c at = absurd cc
 phase_of_call (line.Phase ∷ ls) p zero c at = absurd cc
-phase_of_call (line.Call d ∷ ls) p (suc k) c at = omega (arith, phase_of_call ls p k c at, count_cons is_phase (line.Call d) (take k ls))
-phase_of_call (line.Stroke s ∷ ls) p (suc k) c at = omega (arith, phase_of_call ls p k c at, count_cons is_phase (line.Stroke s) (take k ls))
-phase_of_call (line.Phase ∷ ls) p (suc k) c at = omega (arith, phase_of_call ls (suc p) k c at, count_cons is_phase line.Phase (take k ls))
+phase_of_call (line.Call d ∷ ls) p (suc k) c at =
+    omega (arith, phase_of_call ls p k c at, count_cons is_phase (line.Call d) (take k ls))
+phase_of_call (line.Stroke s ∷ ls) p (suc k) c at =
+    omega (arith, phase_of_call ls p k c at, count_cons is_phase (line.Stroke s) (take k ls))
+phase_of_call (line.Phase ∷ ls) p (suc k) c at =
+    omega (arith, phase_of_call ls (suc p) k c at, count_cons is_phase line.Phase (take k ls))
 
 -- ---- the user's lines
 
@@ -113,7 +146,8 @@ deeds_append (inputs.Device d ∷ xs) ys = ap (λ cs. Does d ∷ cs) (deeds_appe
 deeds_append (inputs.Shot ∷ xs) ys = ap (λ cs. Shoots ∷ cs) (deeds_append xs ys)
 deeds_append (inputs.Phase ∷ xs) ys = deeds_append xs ys
 
-pub deeds_line : (script : List InputLine) (k : ℕ) (l : InputLine) → slice_get script k ≡ Some l → user_actions_in (take (k + 1) script) ≡ user_actions_in (take k script) ++ user_actions_in (l ∷ [])
+pub deeds_line : (script : List InputLine) (k : ℕ) (l : InputLine) → slice_get script k ≡ Some l
+    → user_actions_in (take (k + 1) script) ≡ user_actions_in (take k script) ++ user_actions_in (l ∷ [])
 deeds_line script k l at = ap user_actions_in (take_line script k l at) ∙ deeds_append (take k script) (l ∷ [])
 
 pub deeds_done : (p : ℕ) (script : List InputLine) → user_actions_in script ≡ done (user_actions_from p script)
@@ -122,14 +156,21 @@ deeds_done p (inputs.Device d ∷ rest) = ap (λ cs. Does d ∷ cs) (deeds_done 
 deeds_done p (inputs.Shot ∷ rest) = ap (λ cs. Shoots ∷ cs) (deeds_done p rest)
 deeds_done p (inputs.Phase ∷ rest) = deeds_done (suc p) rest
 
-pub phase_of_deed : (script : List InputLine) (p k : ℕ) (l : InputLine) → slice_get script k ≡ Some l → is_input_phase l ≡ false → next_phase (drop (length (user_actions_in (take k script))) (user_actions_from p script)) ≡ p + input_phases_before script k
+pub phase_of_deed : (script : List InputLine) (p k : ℕ) (l : InputLine) → slice_get script k ≡ Some l
+    → is_input_phase l ≡ false → next_phase
+    (drop (length (user_actions_in (take k script))) (user_actions_from p script))
+    ≡ p + input_phases_before script k
 phase_of_deed [] p k l at deed = absurd cc
 phase_of_deed (inputs.Device d ∷ ls) p zero l at deed = omega arith
 phase_of_deed (inputs.Shot ∷ ls) p zero l at deed = omega arith
-phase_of_deed (inputs.Phase ∷ ls) p zero l at deed = absurd (let same : inputs.Phase ≡ l = cc in let ends : is_input_phase l ≡ true = sym (ap is_input_phase same) in cc)
-phase_of_deed (inputs.Device d ∷ ls) p (suc k) l at deed = omega (arith, phase_of_deed ls p k l at deed, count_cons is_input_phase (inputs.Device d) (take k ls))
-phase_of_deed (inputs.Shot ∷ ls) p (suc k) l at deed = omega (arith, phase_of_deed ls p k l at deed, count_cons is_input_phase inputs.Shot (take k ls))
-phase_of_deed (inputs.Phase ∷ ls) p (suc k) l at deed = omega (arith, phase_of_deed ls (suc p) k l at deed, count_cons is_input_phase inputs.Phase (take k ls))
+phase_of_deed (inputs.Phase ∷ ls) p zero l at deed =
+    absurd (let same : inputs.Phase ≡ l = cc in let ends : is_input_phase l ≡ true = sym (ap is_input_phase same) in cc)
+phase_of_deed (inputs.Device d ∷ ls) p (suc k) l at deed =
+    omega (arith, phase_of_deed ls p k l at deed, count_cons is_input_phase (inputs.Device d) (take k ls))
+phase_of_deed (inputs.Shot ∷ ls) p (suc k) l at deed =
+    omega (arith, phase_of_deed ls p k l at deed, count_cons is_input_phase inputs.Shot (take k ls))
+phase_of_deed (inputs.Phase ∷ ls) p (suc k) l at deed =
+    omega (arith, phase_of_deed ls (suc p) k l at deed, count_cons is_input_phase inputs.Phase (take k ls))
 
 pub device_fits : (dev : Device) → FitsDevice dev → IsDevice dev
 device_fits (device.Press k) h = h

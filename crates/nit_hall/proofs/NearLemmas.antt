@@ -1,6 +1,13 @@
 -- What each pixel may hold, after one more entry.
-use Rattle.nit_hall.proofs.Basics.{Agrees, AreNear, Bare, Black, Call, Configuration, Entry, IsInked, IsLegal, IsNear, IsNearBy, IsWordOfScripts, IsWordOfSource, LegalFrom, Line, Painted, PixelSource, Point, Reply, Sight, State, Word, after, cases_Bool, dirty, first_state, ink, is_dirtied, pixel, pixel_count, replay, replay_from, same_config, script_in, shots, slice_index, slice_index_or, source_at, source_of, words_at_call}
-use Rattle.std.proofs.Common.{IfSome, List, None, Option, Some, [], ap, false, inl, inr, subst, sym, true, ℕ, ◌*◌, ◌++◌, ◌+◌, ◌<◌, ◌∙◌, ◌∷◌, ◌≡◌}
+use Rattle.nit_hall.proofs.Basics.{Agrees, AreNear, Bare, Black, Call, Configuration, Entry, IfSome}
+use Rattle.nit_hall.proofs.Basics.{IsInked, IsLegal, IsNear, IsNearBy, IsWordOfScripts}
+use Rattle.nit_hall.proofs.Basics.{IsWordOfSource, LegalFrom, Line, List, None, Option, Painted}
+use Rattle.nit_hall.proofs.Basics.{PixelSource, Point, Reply, Sight, Some, State, Word, [], after}
+use Rattle.nit_hall.proofs.Basics.{ap, cases_Bool, dirty, false, first_state, ink, inl, inr}
+use Rattle.nit_hall.proofs.Basics.{is_dirtied, pixel, pixel_count, replay, replay_from, same_config}
+use Rattle.nit_hall.proofs.Basics.{script_in, shots, slice_index, slice_index_or, source_at}
+use Rattle.nit_hall.proofs.Basics.{source_of, subst, sym, words_at_call}
+use Rattle.std.proofs.Common.{true, ℕ, ◌*◌, ◌++◌, ◌+◌, ◌<◌, ◌∙◌, ◌∷◌, ◌≡◌}
 use Rattle.nit_events.specs.declared.entry.Entry.TheVariants as entry
 use Rattle.nit_hall.proofs.LastDirty.{last_is_last, last_before}
 
@@ -8,15 +15,18 @@ use Rattle.nit_hall.proofs.LastDirty.{last_is_last, last_before}
 
 -- what the law of clean pixels says
 abbrev pub KeepsSource : Type 0
-KeepsSource = (s : State) (taken : ℕ) (e : Entry) (p : Point) → Agrees s taken e → dirty s e (after s e) p ≡ false → source_of (after s e) p ≡ source_of s p
+KeepsSource = (s : State) (taken : ℕ) (e : Entry) (p : Point) → Agrees s taken e → dirty s e (after s e) p ≡ false
+    → source_of (after s e) p ≡ source_of s p
 
 -- what the law of one more entry says
 abbrev pub OneMore : Type 0
-OneMore = (s : State) (journal : List Entry) (e : Entry) → replay_from s (journal ++ e ∷ []) ≡ after (replay_from s journal) e
+OneMore = (s : State) (journal : List Entry) (e : Entry) → replay_from s (journal ++ e ∷ [])
+    ≡ after (replay_from s journal) e
 
 -- what the law of one more entry says of the last entry of a legal journal
 abbrev pub LastAgrees : Type 0
-LastAgrees = (s : State) (taken : ℕ) (journal : List Entry) (e : Entry) → LegalFrom s taken (journal ++ e ∷ []) → Agrees (replay_from s journal) (taken + shots journal) e
+LastAgrees = (s : State) (taken : ℕ) (journal : List Entry) (e : Entry) → LegalFrom s taken (journal ++ e ∷ [])
+    → Agrees (replay_from s journal) (taken + shots journal) e
 
 -- the laws of lower crates that a room goes by
 pub record Laws : Type 0 where
@@ -25,35 +35,47 @@ pub record Laws : Type 0 where
   pub agrees : LastAgrees
 
 -- a pixel that the next entry leaves clean may hold what it might before
-near_still : (config : Configuration) (scripts : List (List Line)) (journal : List Entry) (e : Entry) (k : ℕ) (source : PixelSource) (w : ℕ) → is_dirtied config journal e k ≡ false
+near_still : (config : Configuration) (scripts : List (List Line)) (journal : List Entry) (e : Entry) (k : ℕ)
+    (source : PixelSource) (w : ℕ) → is_dirtied config journal e k ≡ false
     → IsNearBy config scripts journal k source w → IsNearBy config scripts (journal ++ e ∷ []) k source w
 near_still config scripts journal e k Bare w clean near = near
 near_still config scripts journal e k Black w clean near = near
 near_still config scripts journal e k (Word t i) w clean near =
     record {
       inked = near.inked;
-      exact = λ front call r rest last. let before = last_before config journal e k front (entry.Call t call r) rest clean last in near.exact front call r before.0 before.1;
+      exact = λ front call r rest last. let before =
+          last_before config journal e k front (entry.Call t call r) rest clean last in near.exact front call r before.0
+          before.1;
     }
 
-pub near_more : Laws → (config : Configuration) (scripts : List (List Line)) (journal : List Entry) (e : Entry) (raw raw' : List ℕ)
+pub near_more : Laws → (config : Configuration) (scripts : List (List Line)) (journal : List Entry) (e : Entry)
+    (raw raw' : List ℕ)
     → IsLegal config (journal ++ e ∷ [])
     → ((k : ℕ) → k < pixel_count (replay config journal) → is_dirtied config journal e k ≡ true
-    → IsNearBy config scripts (journal ++ e ∷ []) k (source_at (after (replay config journal) e) k) (slice_index_or raw' k 0))
+    → IsNearBy config scripts (journal ++ e ∷ []) k (source_at (after (replay config journal) e) k)
+    (slice_index_or raw' k 0))
     → ((k : ℕ) → is_dirtied config journal e k ≡ false → slice_index_or raw' k 0 ≡ slice_index_or raw k 0)
     → AreNear config scripts journal raw → AreNear config scripts (journal ++ e ∷ []) raw'
 near_more laws config scripts journal e raw raw' legal loaded others near k on_screen =
     let s : State = replay config journal in
     let now : replay config (journal ++ e ∷ []) ≡ after s e = laws.more (first_state config) journal e in
-    let count : pixel_count (replay config (journal ++ e ∷ [])) ≡ pixel_count s = ap pixel_count now ∙ ap (λ (c : Configuration). c.width * c.height) (same_config s e) in
+    let count : pixel_count (replay config (journal ++ e ∷ [])) ≡ pixel_count s = ap pixel_count now
+    ∙ ap (λ (c : Configuration). c.width * c.height) (same_config s e) in
     let inside : k < pixel_count s = subst (λ (n : ℕ). k < n) count on_screen in
-    let at : source_at (replay config (journal ++ e ∷ [])) k ≡ source_of (after s e) (pixel s.config.width k) = ap (λ (x : State). source_at x k) now ∙ ap (λ (c : Configuration). source_of (after s e) (pixel c.width k)) (same_config s e) in
+    let at : source_at (replay config (journal ++ e ∷ [])) k ≡ source_of (after s e) (pixel s.config.width k) =
+    ap (λ (x : State). source_at x k) now
+    ∙ ap (λ (c : Configuration). source_of (after s e) (pixel c.width k)) (same_config s e) in
     let w : ℕ = slice_index_or raw' k 0 in
     elim (cases_Bool (is_dirtied config journal e k)) [
-      | inl is ↦ subst (λ (x : State). IsNearBy config scripts (journal ++ e ∷ []) k (source_at x k) w) (sym now) (loaded k inside is)
+      | inl is ↦ subst (λ (x : State). IsNearBy config scripts (journal ++ e ∷ []) k (source_at x k) w) (sym now)
+          (loaded k inside is)
       | inr clean ↦
-          let source : source_at (replay config (journal ++ e ∷ [])) k ≡ source_at s k = at ∙ laws.keeps s (0 + shots journal) e (pixel s.config.width k) (laws.agrees (first_state config) 0 journal e legal) clean in
+          let source : source_at (replay config (journal ++ e ∷ [])) k ≡ source_at s k = at
+          ∙ laws.keeps s (0 + shots journal) e (pixel s.config.width k)
+          (laws.agrees (first_state config) 0 journal e legal) clean in
           subst (λ (x : ℕ). IsNear config scripts (journal ++ e ∷ []) k x) (sym (others k clean))
-          (subst (λ (x : PixelSource). IsNearBy config scripts (journal ++ e ∷ []) k x (slice_index_or raw k 0)) (sym source)
+          (subst (λ (x : PixelSource). IsNearBy config scripts (journal ++ e ∷ []) k x (slice_index_or raw k 0))
+          (sym source)
           (near_still config scripts journal e k (source_at s k) (slice_index_or raw k 0) clean (near k inside)))
     ]
 
@@ -65,15 +87,19 @@ AreInks scripts glasses = (t : ℕ) → (glasses t).ink ≡ ink (script_in scrip
 
 -- where the entry is a call, the caller's glass tells the words of its script
 abbrev pub TellsWords : Configuration → List (List Line) → List Entry → Entry → (ℕ → Sight) → Type 0
-TellsWords config scripts journal e glasses = (t : ℕ) (call : Call) (r : Reply) → entry.Call t call r ≡ e → (glasses t).words ≡ Some (words_at_call config scripts t journal)
+TellsWords config scripts journal e glasses = (t : ℕ) (call : Call) (r : Reply) → entry.Call t call r ≡ e
+    → (glasses t).words ≡ Some (words_at_call config scripts t journal)
 
-pub told_word : (o : Option (List ℕ)) (words : List ℕ) (i w : ℕ) → o ≡ Some words → IfSome o (λ ws. w ≡ slice_index ws i) → w ≡ slice_index words i
+pub told_word : (o : Option (List ℕ)) (words : List ℕ) (i w : ℕ) → o ≡ Some words
+    → IfSome o (λ ws. w ≡ slice_index ws i) → w ≡ slice_index words i
 told_word None words i w is told = absurd cc
 told_word (Some ws) words i w is told = let same : ws ≡ words = cc in told ∙ ap (λ (x : List ℕ). slice_index x i) same
 
 -- what the glasses give a pixel that the next entry makes dirty is a word that it may hold then
-held_near : (config : Configuration) (scripts : List (List Line)) (journal : List Entry) (e : Entry) (glasses : ℕ → Sight) (k : ℕ) (source : PixelSource) (w : ℕ) → is_dirtied config journal e k ≡ true
-    → AreInks scripts glasses → TellsWords config scripts journal e glasses → IsWordOfSource glasses source w → IsNearBy config scripts (journal ++ e ∷ []) k source w
+held_near : (config : Configuration) (scripts : List (List Line)) (journal : List Entry) (e : Entry) (glasses : ℕ
+    → Sight) (k : ℕ) (source : PixelSource) (w : ℕ) → is_dirtied config journal e k ≡ true
+    → AreInks scripts glasses → TellsWords config scripts journal e glasses → IsWordOfSource glasses source w
+    → IsNearBy config scripts (journal ++ e ∷ []) k source w
 held_near config scripts journal e glasses k Bare w is inks tells held = held
 held_near config scripts journal e glasses k Black w is inks tells held = held
 held_near config scripts journal e glasses k (Word t i) w is inks tells held =
@@ -81,23 +107,30 @@ held_near config scripts journal e glasses k (Word t i) w is inks tells held =
       inked = subst (λ (x : List ℕ). IsInked x w) (inks t) held.inked;
       exact = λ front call r rest last.
           let at = last_is_last config journal e k front (entry.Call t call r) rest is last in
-          told_word (glasses t).words (words_at_call config scripts t front) i w (tells t call r at.1 ∙ ap (λ (js : List Entry). Some (words_at_call config scripts t js)) (sym at.0)) held.told;
+          told_word (glasses t).words (words_at_call config scripts t front) i w (tells t call r at.1
+          ∙ ap (λ (js : List Entry). Some (words_at_call config scripts t js)) (sym at.0)) held.told;
     }
 
 -- an entry that loads its dirty pixels by such glasses
-pub near_painted : Laws → (config : Configuration) (scripts : List (List Line)) (journal : List Entry) (e : Entry) (s' : State) (glasses glasses' : ℕ → Sight) (raw raw' : List ℕ)
-    → IsLegal config (journal ++ e ∷ []) → s' ≡ after (replay config journal) e → AreInks scripts glasses → TellsWords config scripts journal e glasses
-    → Painted (replay config journal) e s' glasses glasses' raw raw' → AreNear config scripts journal raw → AreNear config scripts (journal ++ e ∷ []) raw'
+pub near_painted : Laws → (config : Configuration) (scripts : List (List Line)) (journal : List Entry) (e : Entry)
+    (s' : State) (glasses glasses' : ℕ → Sight) (raw raw' : List ℕ)
+    → IsLegal config (journal ++ e ∷ []) → s' ≡ after (replay config journal) e → AreInks scripts glasses
+    → TellsWords config scripts journal e glasses
+    → Painted (replay config journal) e s' glasses glasses' raw raw' → AreNear config scripts journal raw
+    → AreNear config scripts (journal ++ e ∷ []) raw'
 near_painted laws config scripts journal e s' glasses glasses' raw raw' legal now inks tells painted near =
     let s : State = replay config journal in
-    let p : Painted s e (after s e) glasses glasses' raw raw' = subst (λ (x : State). Painted s e x glasses glasses' raw raw') now painted in
+    let p : Painted s e (after s e) glasses glasses' raw raw' =
+    subst (λ (x : State). Painted s e x glasses glasses' raw raw') now painted in
     near_more laws config scripts journal e raw raw' legal
-    (λ k inside is. held_near config scripts journal e glasses k (source_at (after s e) k) (slice_index_or raw' k 0) is inks tells (p.marked k inside is).0)
+    (λ k inside is. held_near config scripts journal e glasses k (source_at (after s e) k) (slice_index_or raw' k 0) is
+    inks tells (p.marked k inside is).0)
     (λ k clean. p.others k (λ _. clean)) near
 
 -- ---- what the scripts' colours say of it
 
-pub near_word : (config : Configuration) (scripts : List (List Line)) (journal : List Entry) (k : ℕ) (source : PixelSource) (w : ℕ) → IsNearBy config scripts journal k source w → IsWordOfScripts scripts source w
+pub near_word : (config : Configuration) (scripts : List (List Line)) (journal : List Entry) (k : ℕ)
+    (source : PixelSource) (w : ℕ) → IsNearBy config scripts journal k source w → IsWordOfScripts scripts source w
 near_word config scripts journal k Bare w near = near
 near_word config scripts journal k Black w near = near
 near_word config scripts journal k (Word t i) w near = near.inked

@@ -1,100 +1,149 @@
 -- The phase that is served, and the actors that have ended it.
-use Rattle.std.proofs.Common.{Bool, List, [], ap, arith, cond, false, get_or-set_other, get_or-set_same, inl, inr, length, length-set, refl, set, subst, suc, sym, take, true, zero, ℕ, ◌+◌, ◌<◌, ◌==◌, ◌∙◌, ◌∷◌, ◌≡◌, ◌≤◌, ◌⊎◌}
-use Rattle.nit_hall.proofs.Basics.{InputLine, IsServedPhase, Line, after_arrival, cases_Bool, cases_eq, count_by, count_by-le-length, eq-eqb, eqb-true, input_phases_before, is_phase, is_served, nat_tests, ne_eqb, phases_before, phases_ended, raised, script_in, served, set-get_or, slice_get_within, slice_index, sum_by, sum_by-set}
+use Rattle.nit_hall.proofs.Basics.{Bool, InputLine, IsServedPhase, Line, List, [], after_arrival}
+use Rattle.nit_hall.proofs.Basics.{ap, arith, cases_Bool, cases_eq, cond, count_by}
+use Rattle.nit_hall.proofs.Basics.{count_by-le-length, eq-eqb, eqb-true, false, get_or-set_other}
+use Rattle.nit_hall.proofs.Basics.{get_or-set_same, inl, input_phases_before, inr, is_phase}
+use Rattle.nit_hall.proofs.Basics.{is_served, length, length-set, nat_tests, ne_eqb, phases_before}
+use Rattle.nit_hall.proofs.Basics.{phases_ended, raised, refl, script_in, served, set, set-get_or}
+use Rattle.nit_hall.proofs.Basics.{slice_get_within, slice_index, subst, suc, sum_by, sum_by-set}
+use Rattle.std.proofs.Common.{sym, take, true, zero, ℕ, ◌+◌, ◌<◌, ◌==◌, ◌∙◌, ◌∷◌, ◌≡◌, ◌≤◌, ◌⊎◌}
 use Rattle.nit_script.specs.declared.line.Line.TheVariants as line
 use Rattle.nit_hall.proofs.LineLemmas.{count_cons, front_filter, served_counted}
 use Rattle.nit_hall.proofs.ScriptsFollowed.{IsNext, script_there}
 
 -- ---- what each actor has ended
 
-pub ended_long : (scripts : List (List Line)) (input : List InputLine) (counts : List ℕ) → length counts ≡ length scripts + 1 → length (phases_ended scripts input counts) ≡ length scripts + 1
+pub ended_long : (scripts : List (List Line)) (input : List InputLine) (counts : List ℕ)
+    → length counts ≡ length scripts + 1 → length (phases_ended scripts input counts) ≡ length scripts + 1
 ended_long [] input [] long = absurd (omega arith)
 ended_long [] input (c ∷ cs) long = refl
 ended_long (s ∷ ss) input [] long = absurd (omega arith)
 ended_long (s ∷ ss) input (c ∷ cs) long = let n = ended_long ss input cs (omega arith) in omega arith
 
-ended_at : (scripts : List (List Line)) (input : List InputLine) (counts : List ℕ) (t : ℕ) → length counts ≡ length scripts + 1 → t < length scripts
-    → slice_index (phases_ended scripts input counts) t ≡ count_by is_phase (take (slice_index counts t) (served (script_in scripts t)))
+ended_at : (scripts : List (List Line)) (input : List InputLine) (counts : List ℕ) (t : ℕ)
+    → length counts ≡ length scripts + 1 → t < length scripts
+    → slice_index (phases_ended scripts input counts) t
+    ≡ count_by is_phase (take (slice_index counts t) (served (script_in scripts t)))
 ended_at [] input counts t long h = absurd (omega arith)
 ended_at (s ∷ ss) input [] t long h = absurd (omega arith)
 ended_at (s ∷ ss) input (c ∷ cs) zero long h = refl
 ended_at (s ∷ ss) input (c ∷ cs) (suc t) long h = ended_at ss input cs t (omega arith) (omega arith)
 
-user_ended_at : (scripts : List (List Line)) (input : List InputLine) (counts : List ℕ) → length counts ≡ length scripts + 1
-    → slice_index (phases_ended scripts input counts) (length scripts) ≡ input_phases_before input (slice_index counts (length scripts))
+user_ended_at : (scripts : List (List Line)) (input : List InputLine) (counts : List ℕ)
+    → length counts ≡ length scripts + 1
+    → slice_index (phases_ended scripts input counts) (length scripts)
+    ≡ input_phases_before input (slice_index counts (length scripts))
 user_ended_at [] input [] long = absurd (omega arith)
 user_ended_at [] input (c ∷ cs) long = refl
 user_ended_at (s ∷ ss) input [] long = absurd (omega arith)
 user_ended_at (s ∷ ss) input (c ∷ cs) long = user_ended_at ss input cs (omega arith)
 
-ended_set : (scripts : List (List Line)) (input : List InputLine) (counts : List ℕ) (t n : ℕ) → length counts ≡ length scripts + 1 → t < length scripts
-    → phases_ended scripts input (set counts t n) ≡ set (phases_ended scripts input counts) t (count_by is_phase (take n (served (script_in scripts t))))
+ended_set : (scripts : List (List Line)) (input : List InputLine) (counts : List ℕ) (t n : ℕ)
+    → length counts ≡ length scripts + 1 → t < length scripts
+    → phases_ended scripts input (set counts t n)
+    ≡ set (phases_ended scripts input counts) t (count_by is_phase (take n (served (script_in scripts t))))
 ended_set [] input counts t n long h = absurd (omega arith)
 ended_set (s ∷ ss) input [] t n long h = absurd (omega arith)
 ended_set (s ∷ ss) input (c ∷ cs) zero n long h = refl
-ended_set (s ∷ ss) input (c ∷ cs) (suc t) n long h = ap (λ (xs : List ℕ). count_by is_phase (take c (served s)) ∷ xs) (ended_set ss input cs t n (omega arith) (omega arith))
+ended_set (s ∷ ss) input (c ∷ cs) (suc t) n long h =
+    ap (λ (xs : List ℕ). count_by is_phase (take c (served s)) ∷ xs)
+    (ended_set ss input cs t n (omega arith) (omega arith))
 
-user_ended_set : (scripts : List (List Line)) (input : List InputLine) (counts : List ℕ) (n : ℕ) → length counts ≡ length scripts + 1
-    → phases_ended scripts input (set counts (length scripts) n) ≡ set (phases_ended scripts input counts) (length scripts) (input_phases_before input n)
+user_ended_set : (scripts : List (List Line)) (input : List InputLine) (counts : List ℕ) (n : ℕ)
+    → length counts ≡ length scripts + 1
+    → phases_ended scripts input (set counts (length scripts) n)
+    ≡ set (phases_ended scripts input counts) (length scripts) (input_phases_before input n)
 user_ended_set [] input [] n long = absurd (omega arith)
 user_ended_set [] input (c ∷ cs) n long = refl
 user_ended_set (s ∷ ss) input [] n long = absurd (omega arith)
-user_ended_set (s ∷ ss) input (c ∷ cs) n long = ap (λ (xs : List ℕ). count_by is_phase (take c (served s)) ∷ xs) (user_ended_set ss input cs n (omega arith))
+user_ended_set (s ∷ ss) input (c ∷ cs) n long =
+    ap (λ (xs : List ℕ). count_by is_phase (take c (served s)) ∷ xs) (user_ended_set ss input cs n (omega arith))
 
 -- ---- a client's next line
 
 phases_served : (xs : List Line) → count_by is_phase (served xs) ≡ count_by is_phase xs
 phases_served [] = refl
-phases_served (line.Call c ∷ xs) = count_cons is_phase (line.Call c) (served xs) ∙ ap (λ (n : ℕ). 0 + n) (phases_served xs) ∙ sym (count_cons is_phase (line.Call c) xs)
-phases_served (line.Stroke s ∷ xs) = let n = phases_served xs in let m = count_cons is_phase (line.Stroke s) xs in omega (arith, n, m)
-phases_served (line.Phase ∷ xs) = count_cons is_phase line.Phase (served xs) ∙ ap (λ (n : ℕ). 1 + n) (phases_served xs) ∙ sym (count_cons is_phase line.Phase xs)
+phases_served (line.Call c ∷ xs) = count_cons is_phase (line.Call c) (served xs)
+    ∙ ap (λ (n : ℕ). 0 + n) (phases_served xs) ∙ sym (count_cons is_phase (line.Call c) xs)
+phases_served (line.Stroke s ∷ xs) = let n = phases_served xs in let m =
+    count_cons is_phase (line.Stroke s) xs in omega (arith, n, m)
+phases_served (line.Phase ∷ xs) = count_cons is_phase line.Phase (served xs) ∙ ap (λ (n : ℕ). 1 + n) (phases_served xs)
+    ∙ sym (count_cons is_phase line.Phase xs)
 
-phases_front : (script : List Line) (k : ℕ) → count_by is_phase (take (length (served (take k script))) (served script)) ≡ phases_before script k
+phases_front : (script : List Line) (k : ℕ) → count_by is_phase (take (length (served (take k script))) (served script))
+    ≡ phases_before script k
 phases_front script k = ap (count_by is_phase) (front_filter is_served k script) ∙ phases_served (take k script)
 
-client_ended : (scripts : List (List Line)) (input : List InputLine) (counts : List ℕ) (sid next : ℕ) (script : List Line) (l : Line) → length counts ≡ length scripts + 1 → IsNext scripts counts sid next script l
+client_ended : (scripts : List (List Line)) (input : List InputLine) (counts : List ℕ) (sid next : ℕ)
+    (script : List Line) (l : Line) → length counts ≡ length scripts + 1 → IsNext scripts counts sid next script l
     → slice_index (phases_ended scripts input counts) sid ≡ phases_before script next
 client_ended scripts input counts sid next script l long at =
     ended_at scripts input counts sid long (slice_get_within scripts sid script at.script_is)
     ∙ ap (λ (n : ℕ). count_by is_phase (take n (served (script_in scripts sid)))) at.counted
-    ∙ ap (λ (ls : List Line). count_by is_phase (take (length (served (take next script))) (served ls))) (script_there scripts counts sid next script l at)
+    ∙ ap (λ (ls : List Line). count_by is_phase (take (length (served (take next script))) (served ls)))
+    (script_there scripts counts sid next script l at)
     ∙ phases_front script next
 
-client_set : (scripts : List (List Line)) (input : List InputLine) (counts : List ℕ) (sid next : ℕ) (script : List Line) (l : Line) → length counts ≡ length scripts + 1 → IsNext scripts counts sid next script l
-    → phases_ended scripts input (raised counts sid) ≡ set (phases_ended scripts input counts) sid (phases_before script (next + 1))
+client_set : (scripts : List (List Line)) (input : List InputLine) (counts : List ℕ) (sid next : ℕ) (script : List Line)
+    (l : Line) → length counts ≡ length scripts + 1 → IsNext scripts counts sid next script l
+    → phases_ended scripts input (raised counts sid)
+    ≡ set (phases_ended scripts input counts) sid (phases_before script (next + 1))
 client_set scripts input counts sid next script l long at =
-    let up : slice_index counts sid + 1 ≡ length (served (take (next + 1) script)) = ap (λ (n : ℕ). n + 1) at.counted ∙ sym (served_counted script next l at.line_is at.served_is) in
-    ended_set scripts input counts sid (slice_index counts sid + 1) long (slice_get_within scripts sid script at.script_is)
-    ∙ ap (λ (n : ℕ). set (phases_ended scripts input counts) sid (count_by is_phase (take n (served (script_in scripts sid))))) up
-    ∙ ap (λ (ls : List Line). set (phases_ended scripts input counts) sid (count_by is_phase (take (length (served (take (next + 1) script))) (served ls)))) (script_there scripts counts sid next script l at)
+    let up : slice_index counts sid + 1 ≡ length (served (take (next + 1) script)) = ap (λ (n : ℕ). n + 1) at.counted
+    ∙ sym (served_counted script next l at.line_is at.served_is) in
+    ended_set scripts input counts sid (slice_index counts sid + 1) long
+    (slice_get_within scripts sid script at.script_is)
+    ∙ ap (λ (n : ℕ). set (phases_ended scripts input counts) sid
+    (count_by is_phase (take n (served (script_in scripts sid))))) up
+    ∙ ap (λ (ls : List Line). set (phases_ended scripts input counts) sid
+    (count_by is_phase (take (length (served (take (next + 1) script))) (served ls))))
+    (script_there scripts counts sid next script l at)
     ∙ ap (λ (n : ℕ). set (phases_ended scripts input counts) sid n) (phases_front script (next + 1))
 
 -- a line that ends no phase leaves what the actors have ended
-pub phases_same : (scripts : List (List Line)) (input : List InputLine) (counts : List ℕ) (phase arrived sid next : ℕ) (script : List Line) (l : Line) → length counts ≡ length scripts + 1 → IsNext scripts counts sid next script l
-    → phases_before script (next + 1) ≡ phases_before script next → IsServedPhase phase arrived (phases_ended scripts input counts) → IsServedPhase phase arrived (phases_ended scripts input (raised counts sid))
+pub phases_same : (scripts : List (List Line)) (input : List InputLine) (counts : List ℕ) (phase arrived sid next : ℕ)
+    (script : List Line) (l : Line) → length counts ≡ length scripts + 1 → IsNext scripts counts sid next script l
+    → phases_before script (next + 1) ≡ phases_before script next
+    → IsServedPhase phase arrived (phases_ended scripts input counts)
+    → IsServedPhase phase arrived (phases_ended scripts input (raised counts sid))
 phases_same scripts input counts phase arrived sid next script l long at same is =
-    let here : phases_before script (next + 1) ≡ slice_index (phases_ended scripts input counts) sid = same ∙ sym (client_ended scripts input counts sid next script l long at) in
+    let here : phases_before script (next + 1) ≡ slice_index (phases_ended scripts input counts) sid = same
+    ∙ sym (client_ended scripts input counts sid next script l long at) in
     let still : phases_ended scripts input (raised counts sid) ≡ phases_ended scripts input counts =
-    client_set scripts input counts sid next script l long at ∙ ap (λ (n : ℕ). set (phases_ended scripts input counts) sid n) here ∙ set-get_or (phases_ended scripts input counts) sid 0 in
+    client_set scripts input counts sid next script l long at
+    ∙ ap (λ (n : ℕ). set (phases_ended scripts input counts) sid n) here
+    ∙ set-get_or (phases_ended scripts input counts) sid 0 in
     subst (λ (xs : List ℕ). IsServedPhase phase arrived xs) (sym still) is
 
 -- ---- the user's next line
 
-user_ended : (scripts : List (List Line)) (input : List InputLine) (counts : List ℕ) (next : ℕ) → length counts ≡ length scripts + 1 → slice_index counts (length scripts) ≡ next
+user_ended : (scripts : List (List Line)) (input : List InputLine) (counts : List ℕ) (next : ℕ)
+    → length counts ≡ length scripts + 1 → slice_index counts (length scripts) ≡ next
     → slice_index (phases_ended scripts input counts) (length scripts) ≡ input_phases_before input next
-user_ended scripts input counts next long at = user_ended_at scripts input counts long ∙ ap (λ (n : ℕ). input_phases_before input n) at
+user_ended scripts input counts next long at = user_ended_at scripts input counts long
+    ∙ ap (λ (n : ℕ). input_phases_before input n) at
 
-user_set : (scripts : List (List Line)) (input : List InputLine) (counts : List ℕ) (next : ℕ) → length counts ≡ length scripts + 1 → slice_index counts (length scripts) ≡ next
-    → phases_ended scripts input (raised counts (length scripts)) ≡ set (phases_ended scripts input counts) (length scripts) (input_phases_before input (next + 1))
+user_set : (scripts : List (List Line)) (input : List InputLine) (counts : List ℕ) (next : ℕ)
+    → length counts ≡ length scripts + 1 → slice_index counts (length scripts) ≡ next
+    → phases_ended scripts input (raised counts (length scripts))
+    ≡ set (phases_ended scripts input counts) (length scripts) (input_phases_before input (next + 1))
 user_set scripts input counts next long at =
-    user_ended_set scripts input counts (slice_index counts (length scripts) + 1) long ∙ ap (λ (n : ℕ). set (phases_ended scripts input counts) (length scripts) (input_phases_before input (n + 1))) at
+    user_ended_set scripts input counts (slice_index counts (length scripts) + 1) long
+    ∙ ap (λ (n : ℕ). set (phases_ended scripts input counts) (length scripts) (input_phases_before input (n + 1)))
+    at
 
-pub user_phases_same : (scripts : List (List Line)) (input : List InputLine) (counts : List ℕ) (phase arrived next : ℕ) → length counts ≡ length scripts + 1 → slice_index counts (length scripts) ≡ next
-    → input_phases_before input (next + 1) ≡ input_phases_before input next → IsServedPhase phase arrived (phases_ended scripts input counts) → IsServedPhase phase arrived (phases_ended scripts input (raised counts (length scripts)))
+pub user_phases_same : (scripts : List (List Line)) (input : List InputLine) (counts : List ℕ) (phase arrived next : ℕ)
+    → length counts ≡ length scripts + 1 → slice_index counts (length scripts) ≡ next
+    → input_phases_before input (next + 1) ≡ input_phases_before input next
+    → IsServedPhase phase arrived (phases_ended scripts input counts)
+    → IsServedPhase phase arrived (phases_ended scripts input (raised counts (length scripts)))
 user_phases_same scripts input counts phase arrived next long at same is =
-    let here : input_phases_before input (next + 1) ≡ slice_index (phases_ended scripts input counts) (length scripts) = same ∙ sym (user_ended scripts input counts next long at) in
+    let here : input_phases_before input (next + 1) ≡ slice_index (phases_ended scripts input counts) (length scripts) =
+    same ∙ sym (user_ended scripts input counts next long at) in
     let still : phases_ended scripts input (raised counts (length scripts)) ≡ phases_ended scripts input counts =
-    user_set scripts input counts next long at ∙ ap (λ (n : ℕ). set (phases_ended scripts input counts) (length scripts) n) here ∙ set-get_or (phases_ended scripts input counts) (length scripts) 0 in
+    user_set scripts input counts next long at
+    ∙ ap (λ (n : ℕ). set (phases_ended scripts input counts) (length scripts) n) here
+    ∙ set-get_or (phases_ended scripts input counts) (length scripts) 0 in
     subst (λ (xs : List ℕ). IsServedPhase phase arrived xs) (sym still) is
 
 -- ---- numbers that pass a test
@@ -103,7 +152,8 @@ weight : (ℕ → Bool) → ℕ → ℕ
 weight p n = cond {A = ℕ} (p n) 1 0
 
 -- where all pass, each does
-pub all_pass : (p : ℕ → Bool) (xs : List ℕ) → count_by p xs ≡ length xs → (k : ℕ) → k < length xs → p (slice_index xs k) ≡ true
+pub all_pass : (p : ℕ → Bool) (xs : List ℕ) → count_by p xs ≡ length xs → (k : ℕ) → k < length xs
+    → p (slice_index xs k) ≡ true
 all_pass p [] full k h = absurd (omega arith)
 all_pass p (x ∷ xs) full k h = go (p x) refl (λ e. all_pass p xs e) k h
   where
@@ -113,101 +163,145 @@ all_pass p (x ∷ xs) full k h = go (p x) refl (λ e. all_pass p xs e) k h
     few : count_by p xs ≤ length xs
     few = count_by-le-length p xs
 
-    go : (b : Bool) → p x ≡ b → (count_by p xs ≡ length xs → (k : ℕ) → k < length xs → p (slice_index xs k) ≡ true) → (k : ℕ) → k < length (x ∷ xs) → p (slice_index (x ∷ xs) k) ≡ true
+    go : (b : Bool) → p x ≡ b → (count_by p xs ≡ length xs → (k : ℕ) → k < length xs → p (slice_index xs k) ≡ true)
+        → (k : ℕ) → k < length (x ∷ xs) → p (slice_index (x ∷ xs) k) ≡ true
     go true is behind zero h = is
-    go true is behind (suc k) h = behind (let n = rest ∙ ap (λ (b : Bool). cond {A = ℕ} b 1 0 + count_by p xs) is in omega (arith, n, full)) k (omega arith)
-    go false is behind k h = absurd (let n = rest ∙ ap (λ (b : Bool). cond {A = ℕ} b 1 0 + count_by p xs) is in omega (arith, n, full, few))
+    go true is behind (suc k) h =
+        behind (let n = rest ∙ ap (λ (b : Bool). cond {A = ℕ} b 1 0 + count_by p xs) is in omega (arith, n, full)) k
+        (omega arith)
+    go false is behind k h = absurd (let n = rest
+        ∙ ap (λ (b : Bool). cond {A = ℕ} b 1 0 + count_by p xs) is in omega (arith, n, full, few))
 
 -- where none passes, none is counted
-pub none_pass : (p : ℕ → Bool) (xs : List ℕ) → ((k : ℕ) → k < length xs → p (slice_index xs k) ≡ false) → count_by p xs ≡ 0
+pub none_pass : (p : ℕ → Bool) (xs : List ℕ) → ((k : ℕ) → k < length xs → p (slice_index xs k) ≡ false)
+    → count_by p xs ≡ 0
 none_pass p [] none = refl
-none_pass p (x ∷ xs) none = count_cons p x xs ∙ ap (λ (b : Bool). cond {A = ℕ} b 1 0 + count_by p xs) (none 0 (omega arith)) ∙ ap (λ (n : ℕ). 0 + n) (none_pass p xs (λ k h. none (suc k) (omega arith)))
+none_pass p (x ∷ xs) none = count_cons p x xs
+    ∙ ap (λ (b : Bool). cond {A = ℕ} b 1 0 + count_by p xs) (none 0 (omega arith))
+    ∙ ap (λ (n : ℕ). 0 + n) (none_pass p xs (λ k h. none (suc k) (omega arith)))
 
 -- ---- one more has ended its phase
 
 -- the list in which one that was in the phase has ended it
-counts_one_more : (phase : ℕ) (xs : List ℕ) (i : ℕ) → i < length xs → slice_index xs i ≡ phase → count_by (λ n. n == phase + 1) (set xs i (phase + 1)) ≡ count_by (λ n. n == phase + 1) xs + 1
+counts_one_more : (phase : ℕ) (xs : List ℕ) (i : ℕ) → i < length xs → slice_index xs i ≡ phase
+    → count_by (λ n. n == phase + 1) (set xs i (phase + 1)) ≡ count_by (λ n. n == phase + 1) xs + 1
 counts_one_more phase xs i inside at =
     let f : ℕ → ℕ = λ n. cond {A = ℕ} (n == phase + 1) 1 0 in
-    let moved : sum_by f (set xs i (phase + 1)) + f (slice_index xs i) ≡ sum_by f xs + f (phase + 1) = sum_by-set f xs i (phase + 1) 0 inside in
-    let was : f (slice_index xs i) ≡ 0 = ap f at ∙ ap (λ (b : Bool). cond {A = ℕ} b 1 0) (ne_eqb phase (phase + 1) (λ e. let x : phase ≡ phase + 1 = e in omega arith)) in
+    let moved : sum_by f (set xs i (phase + 1)) + f (slice_index xs i) ≡ sum_by f xs + f (phase + 1) =
+    sum_by-set f xs i (phase + 1) 0 inside in
+    let was : f (slice_index xs i) ≡ 0 = ap f at
+    ∙ ap (λ (b : Bool). cond {A = ℕ} b 1 0)
+    (ne_eqb phase (phase + 1) (λ e. let x : phase ≡ phase + 1 = e in omega arith)) in
     let is : f (phase + 1) ≡ 1 = ap (λ (b : Bool). cond {A = ℕ} b 1 0) (eq-eqb (phase + 1) (phase + 1) refl) in
     omega (arith, moved, was, is)
 
-each_one_more : (phase : ℕ) (xs : List ℕ) (i : ℕ) → i < length xs → ((k : ℕ) → k < length xs → (slice_index xs k ≡ phase) ⊎ (slice_index xs k ≡ phase + 1))
-    → (k : ℕ) → k < length (set xs i (phase + 1)) → (slice_index (set xs i (phase + 1)) k ≡ phase) ⊎ (slice_index (set xs i (phase + 1)) k ≡ phase + 1)
+each_one_more : (phase : ℕ) (xs : List ℕ) (i : ℕ) → i < length xs
+    → ((k : ℕ) → k < length xs → (slice_index xs k ≡ phase) ⊎ (slice_index xs k ≡ phase + 1))
+    → (k : ℕ) → k < length (set xs i (phase + 1)) → (slice_index (set xs i (phase + 1)) k ≡ phase)
+    ⊎ (slice_index (set xs i (phase + 1)) k ≡ phase + 1)
 each_one_more phase xs i inside each k h = elim (cases_eq k i) [
   | inl e ↦ inr (ap (λ (n : ℕ). slice_index (set xs i (phase + 1)) n) e ∙ get_or-set_same xs i (phase + 1) 0 inside)
   | inr ne ↦
       let same : slice_index (set xs i (phase + 1)) k ≡ slice_index xs k = get_or-set_other xs i k (phase + 1) 0 ne in
-      subst (λ (n : ℕ). (n ≡ phase) ⊎ (n ≡ phase + 1)) (sym same) (each k (let n = length-set xs i (phase + 1) in omega (arith, n, h)))
+      subst (λ (n : ℕ). (n ≡ phase) ⊎ (n ≡ phase + 1)) (sym same)
+      (each k (let n = length-set xs i (phase + 1) in omega (arith, n, h)))
 ]
 
 -- the last one brings the next phase, and any other one leaves it
-pub one_more_ended : (clients phase arrived : ℕ) (xs : List ℕ) (i : ℕ) → length xs ≡ clients + 1 → i < length xs → slice_index xs i ≡ phase → IsServedPhase phase arrived xs
-    → IsServedPhase (after_arrival clients phase arrived).0 (after_arrival clients phase arrived).1 (set xs i (phase + 1))
+pub one_more_ended : (clients phase arrived : ℕ) (xs : List ℕ) (i : ℕ) → length xs ≡ clients + 1 → i < length xs
+    → slice_index xs i ≡ phase → IsServedPhase phase arrived xs
+    → IsServedPhase (after_arrival clients phase arrived).0 (after_arrival clients phase arrived).1
+    (set xs i (phase + 1))
 one_more_ended clients phase arrived xs i long inside at is =
     let ys = set xs i (phase + 1) in
     let many : length ys ≡ length xs = length-set xs i (phase + 1) in
-    let more : count_by (λ n. n == phase + 1) ys ≡ count_by (λ n. n == phase + 1) xs + 1 = counts_one_more phase xs i inside at in
+    let more : count_by (λ n. n == phase + 1) ys ≡ count_by (λ n. n == phase + 1) xs + 1 =
+    counts_one_more phase xs i inside at in
     let counted = is.counted in
     let left = is.some_left in
     elim (cases_Bool (arrived == clients)) [
       | inl last ↦
           let all : arrived ≡ clients = eqb-true arrived clients last in
           let full : count_by (λ n. n == phase + 1) ys ≡ length ys = omega (arith, more, counted, all, many, long) in
-          let there : (k : ℕ) → k < length ys → slice_index ys k ≡ phase + 1 = λ k h. eqb-true (slice_index ys k) (phase + 1) (all_pass (λ n. n == phase + 1) ys full k h) in
-          subst (λ (b : Bool). let x = cond {A = ℕ × ℕ} b (phase + 1, 0) (phase, arrived + 1) in IsServedPhase x.0 x.1 ys) (sym last)
+          let there : (k : ℕ) → k < length ys → slice_index ys k ≡ phase + 1 =
+          λ k h. eqb-true (slice_index ys k) (phase + 1) (all_pass (λ n. n == phase + 1) ys full k h) in
+          subst (λ (b : Bool). let x = cond {A = ℕ × ℕ} b (phase + 1, 0) (phase, arrived + 1) in IsServedPhase x.0 x.1
+          ys) (sym last)
           (record {
             each = λ k h. inl (there k h);
-            counted = sym (none_pass (λ n. n == phase + 1 + 1) ys (λ k h. ne_eqb (slice_index ys k) (phase + 1 + 1) (λ e. let a = there k h in let b : slice_index ys k ≡ phase + 1 + 1 = e in omega (arith, a, b))));
+            counted = sym (none_pass (λ n. n == phase + 1 + 1) ys
+                (λ k h. ne_eqb (slice_index ys k) (phase + 1 + 1) (λ e. let a = there k h in let b : slice_index ys k
+                ≡ phase + 1 + 1 = e in omega (arith, a, b))));
             some_left = omega (arith, many, inside);
           })
       | inr not_last ↦
-          subst (λ (b : Bool). let x = cond {A = ℕ × ℕ} b (phase + 1, 0) (phase, arrived + 1) in IsServedPhase x.0 x.1 ys) (sym not_last)
+          subst (λ (b : Bool). let x = cond {A = ℕ × ℕ} b (phase + 1, 0) (phase, arrived + 1) in IsServedPhase x.0 x.1
+          ys) (sym not_last)
           (record {
             each = each_one_more phase xs i inside is.each;
             counted = omega (arith, more, counted);
-            some_left = let below : arrived + 1 < clients + 1 = fewer arrived clients not_last (omega (arith, left, long)) in omega (arith, below, many, long);
+            some_left = let below : arrived + 1 < clients + 1 =
+                fewer arrived clients not_last (omega (arith, left, long)) in omega (arith, below, many, long);
           })
     ]
   where
     fewer : (a c : ℕ) → (a == c) ≡ false → a ≤ c → a + 1 < c + 1
     fewer a c ne le = grind (arith, nat_tests)
 
-pub client_phase : (scripts : List (List Line)) (input : List InputLine) (counts : List ℕ) (phase arrived sid next : ℕ) (script : List Line) → length counts ≡ length scripts + 1 → IsNext scripts counts sid next script line.Phase
-    → phase ≡ phases_before script next → phases_before script (next + 1) ≡ phase + 1 → IsServedPhase phase arrived (phases_ended scripts input counts)
-    → IsServedPhase (after_arrival (length scripts) phase arrived).0 (after_arrival (length scripts) phase arrived).1 (phases_ended scripts input (raised counts sid))
+pub client_phase : (scripts : List (List Line)) (input : List InputLine) (counts : List ℕ) (phase arrived sid next : ℕ)
+    (script : List Line) → length counts ≡ length scripts + 1 → IsNext scripts counts sid next script line.Phase
+    → phase ≡ phases_before script next → phases_before script (next + 1) ≡ phase + 1
+    → IsServedPhase phase arrived (phases_ended scripts input counts)
+    → IsServedPhase (after_arrival (length scripts) phase arrived).0 (after_arrival (length scripts) phase arrived).1
+    (phases_ended scripts input (raised counts sid))
 client_phase scripts input counts phase arrived sid next script long at ready up is =
     let many = ended_long scripts input counts long in
     let h : sid < length scripts = slice_get_within scripts sid script at.script_is in
-    subst (λ (xs : List ℕ). IsServedPhase (after_arrival (length scripts) phase arrived).0 (after_arrival (length scripts) phase arrived).1 xs)
-    (sym (client_set scripts input counts sid next script line.Phase long at ∙ ap (λ (n : ℕ). set (phases_ended scripts input counts) sid n) up))
-    (one_more_ended (length scripts) phase arrived (phases_ended scripts input counts) sid many (omega (arith, many, h)) (client_ended scripts input counts sid next script line.Phase long at ∙ sym ready) is)
+    subst (λ (xs : List ℕ). IsServedPhase (after_arrival (length scripts) phase arrived).0
+    (after_arrival (length scripts) phase arrived).1 xs)
+    (sym (client_set scripts input counts sid next script line.Phase long at
+    ∙ ap (λ (n : ℕ). set (phases_ended scripts input counts) sid n) up))
+    (one_more_ended (length scripts) phase arrived (phases_ended scripts input counts) sid many (omega (arith, many, h))
+    (client_ended scripts input counts sid next script line.Phase long at ∙ sym ready) is)
 
-pub user_phase_served : (scripts : List (List Line)) (input : List InputLine) (counts : List ℕ) (phase arrived next : ℕ) → length counts ≡ length scripts + 1 → slice_index counts (length scripts) ≡ next
-    → phase ≡ input_phases_before input next → input_phases_before input (next + 1) ≡ phase + 1 → IsServedPhase phase arrived (phases_ended scripts input counts)
-    → IsServedPhase (after_arrival (length scripts) phase arrived).0 (after_arrival (length scripts) phase arrived).1 (phases_ended scripts input (raised counts (length scripts)))
+pub user_phase_served : (scripts : List (List Line)) (input : List InputLine) (counts : List ℕ) (phase arrived next : ℕ)
+    → length counts ≡ length scripts + 1 → slice_index counts (length scripts) ≡ next
+    → phase ≡ input_phases_before input next → input_phases_before input (next + 1) ≡ phase + 1
+    → IsServedPhase phase arrived (phases_ended scripts input counts)
+    → IsServedPhase (after_arrival (length scripts) phase arrived).0 (after_arrival (length scripts) phase arrived).1
+    (phases_ended scripts input (raised counts (length scripts)))
 user_phase_served scripts input counts phase arrived next long at ready up is =
     let many = ended_long scripts input counts long in
-    subst (λ (xs : List ℕ). IsServedPhase (after_arrival (length scripts) phase arrived).0 (after_arrival (length scripts) phase arrived).1 xs)
-    (sym (user_set scripts input counts next long at ∙ ap (λ (n : ℕ). set (phases_ended scripts input counts) (length scripts) n) up))
-    (one_more_ended (length scripts) phase arrived (phases_ended scripts input counts) (length scripts) many (omega (arith, many)) (user_ended scripts input counts next long at ∙ sym ready) is)
+    subst (λ (xs : List ℕ). IsServedPhase (after_arrival (length scripts) phase arrived).0
+    (after_arrival (length scripts) phase arrived).1 xs)
+    (sym (user_set scripts input counts next long at
+    ∙ ap (λ (n : ℕ). set (phases_ended scripts input counts) (length scripts) n) up))
+    (one_more_ended (length scripts) phase arrived (phases_ended scripts input counts) (length scripts) many
+    (omega (arith, many)) (user_ended scripts input counts next long at ∙ sym ready) is)
 
 -- ---- at the beginning
 
-pub phases_begun : (scripts : List (List Line)) (input : List InputLine) (counts : List ℕ) → length counts ≡ length scripts + 1 → ((k : ℕ) → slice_index counts k ≡ 0) → IsServedPhase 0 0 (phases_ended scripts input counts)
+pub phases_begun : (scripts : List (List Line)) (input : List InputLine) (counts : List ℕ)
+    → length counts ≡ length scripts + 1 → ((k : ℕ) → slice_index counts k ≡ 0)
+    → IsServedPhase 0 0 (phases_ended scripts input counts)
 phases_begun scripts input counts long none =
     record {
       each = λ k h. inl (nothing k h);
-      counted = sym (none_pass (λ n. n == 0 + 1) (phases_ended scripts input counts) (λ k h. ne_eqb (slice_index (phases_ended scripts input counts) k) 1 (λ e. let a = nothing k h in let b : slice_index (phases_ended scripts input counts) k ≡ 1 = e in omega (arith, a, b))));
+      counted = sym (none_pass (λ n. n == 0 + 1) (phases_ended scripts input counts)
+          (λ k h. ne_eqb (slice_index (phases_ended scripts input counts) k) 1 (λ e. let a =
+          nothing k h in let b : slice_index (phases_ended scripts input counts) k ≡ 1 =
+          e in omega (arith, a, b))));
       some_left = let many = ended_long scripts input counts long in omega (arith, many);
     }
   where
-    nothing : (k : ℕ) → k < length (phases_ended scripts input counts) → slice_index (phases_ended scripts input counts) k ≡ 0
+    nothing : (k : ℕ) → k < length (phases_ended scripts input counts)
+        → slice_index (phases_ended scripts input counts) k ≡ 0
     nothing k h = elim (cases_eq k (length scripts)) [
-      | inl e ↦ ap (λ (n : ℕ). slice_index (phases_ended scripts input counts) n) e ∙ user_ended_at scripts input counts long ∙ ap (λ (n : ℕ). input_phases_before input n) (none (length scripts))
+      | inl e ↦ ap (λ (n : ℕ). slice_index (phases_ended scripts input counts) n) e
+          ∙ user_ended_at scripts input counts long
+          ∙ ap (λ (n : ℕ). input_phases_before input n) (none (length scripts))
       | inr ne ↦
           let many = ended_long scripts input counts long in
-          ended_at scripts input counts k long (omega (arith, many, h, ne)) ∙ ap (λ (n : ℕ). count_by is_phase (take n (served (script_in scripts k)))) (none k)
+          ended_at scripts input counts k long (omega (arith, many, h, ne))
+          ∙ ap (λ (n : ℕ). count_by is_phase (take n (served (script_in scripts k)))) (none k)
     ]

@@ -1,18 +1,40 @@
 -- A room and its passes before the first line.
-use Rattle.std.proofs.Common.{IfSome, List, Option, Some, [], ap, arith, drop, false, get_or, inl, inr, length, map, refl, replicate, slice_get, subst, suc, sym, take, zero, ℕ, ⊎_elim, ◌*◌, ◌++◌, ◌+◌, ◌<◌, ◌∙◌, ◌∷◌, ◌≡◌, ◌≤◌, ◌⊎◌}
-use Rattle.nit_hall.proofs.Basics.{AreBlank, AreNear, AreSplitOff, BookModel, BookName, ClipLine, ClipModel, ClipPassModel, Configuration, End, Entry, Follows, FollowsClips, HaveInks, InputLine, IsDonation, IsFirst, IsGlass, IsLegalClips, IsNearBy, IsPass, IsPlanOf, IsRoom, IsSetting, Line, Member, OpeningParts, Painting, PassModel, PixelSource, PlanModel, RoomModel, ShareModel, Sight, bare_everywhere, bare_word, calls_in, calls_of, cases_lt, clip_calls_in, clip_script_in, donation_of, first_pass, get_or-replicate, get_or_default, get_or_from_slice_get, get_or_past, glass_in, ink, length-map, length-replicate, lines_of_all, lines_of_clips, new_sight, no_sight, none-some, option_map, painted_from, parts_of, phases_before, pixel, plan_in, reader_sight, replicate-append-replicate, same_Some, script_in, served, slice_get-get_or, slice_get-map, slice_index, slice_index_or, sum, sum_by-cons, table_size, user_actions_in, with_clip_scripts, words_after}
+use Rattle.nit_hall.proofs.Basics.{AreBlank, AreNear, AreSplitOff, BookModel, BookName, ClipLine}
+use Rattle.nit_hall.proofs.Basics.{ClipModel, ClipPassModel, Configuration, End, Entry, Follows}
+use Rattle.nit_hall.proofs.Basics.{FollowsClips, HaveInks, IfSome, InputLine, IsDonation, IsFirst}
+use Rattle.nit_hall.proofs.Basics.{IsGlass, IsLegalClips, IsNearBy, IsPass, IsPlanOf, IsRoom}
+use Rattle.nit_hall.proofs.Basics.{IsSetting, Line, List, Member, OpeningParts, Option, Painting}
+use Rattle.nit_hall.proofs.Basics.{PassModel, PixelSource, PlanModel, RoomModel, ShareModel, Sight}
+use Rattle.nit_hall.proofs.Basics.{Some, [], ap, arith, bare_everywhere, bare_word, calls_in}
+use Rattle.nit_hall.proofs.Basics.{calls_of, cases_lt, clip_calls_in, clip_script_in, donation_of}
+use Rattle.nit_hall.proofs.Basics.{drop, false, first_pass, get_or, get_or-replicate}
+use Rattle.nit_hall.proofs.Basics.{get_or_default, get_or_from_slice_get, get_or_past, glass_in}
+use Rattle.nit_hall.proofs.Basics.{ink, inl, inr, length, length-map, length-replicate}
+use Rattle.nit_hall.proofs.Basics.{lines_of_all, lines_of_clips, map, new_sight, no_sight}
+use Rattle.nit_hall.proofs.Basics.{none-some, option_map, painted_from, parts_of, phases_before}
+use Rattle.nit_hall.proofs.Basics.{pixel, plan_in, reader_sight, refl, replicate}
+use Rattle.nit_hall.proofs.Basics.{replicate-append-replicate, same_Some, script_in, served}
+use Rattle.nit_hall.proofs.Basics.{slice_get, slice_get-get_or, slice_get-map, slice_index}
+use Rattle.nit_hall.proofs.Basics.{slice_index_or, subst, suc, sum, sum_by-cons, sym, table_size}
+use Rattle.nit_hall.proofs.Basics.{take, user_actions_in, with_clip_scripts, words_after}
+use Rattle.std.proofs.Common.{zero, ℕ, ⊎_elim, ◌*◌, ◌++◌, ◌+◌, ◌<◌, ◌∙◌, ◌∷◌, ◌≡◌, ◌≤◌, ◌⊎◌}
 use Rattle.nit_hall.proofs.CountParts.{front_before_more, front_whole, back_is_more}
 use Rattle.nit_hall.proofs.Phases.{phases_begun}
 
-pub near_begun : (config : Configuration) (scripts : List (List Line)) → AreNear config scripts [] (replicate (config.width * config.height) bare_word)
+pub near_begun : (config : Configuration) (scripts : List (List Line))
+    → AreNear config scripts [] (replicate (config.width * config.height) bare_word)
 near_begun config scripts k inside =
-    subst (λ (x : PixelSource). IsNearBy config scripts [] k x (slice_index_or (replicate (config.width * config.height) bare_word) k 0)) (sym (bare_everywhere config (pixel config.width k)))
+    subst (λ (x : PixelSource). IsNearBy config scripts [] k x
+    (slice_index_or (replicate (config.width * config.height) bare_word) k 0))
+    (sym (bare_everywhere config (pixel config.width k)))
     (get_or-replicate (config.width * config.height) k bare_word 0 inside)
 
-begun_calls : (counts : List ℕ) (scripts : List (List Line)) → ((k : ℕ) → slice_index counts k ≡ 0) → (t : ℕ) → [] ≡ calls_in (take (slice_index counts t) (served (script_in scripts t)))
+begun_calls : (counts : List ℕ) (scripts : List (List Line)) → ((k : ℕ) → slice_index counts k ≡ 0) → (t : ℕ)
+    → [] ≡ calls_in (take (slice_index counts t) (served (script_in scripts t)))
 begun_calls counts scripts none t = sym (ap (λ (n : ℕ). calls_in (take n (served (script_in scripts t)))) (none t))
 
-pub follows_begun : (scripts : List (List Line)) (input : List InputLine) (counts : List ℕ) → length counts ≡ length scripts + 1 → ((k : ℕ) → slice_index counts k ≡ 0) → Follows scripts input counts 0 []
+pub follows_begun : (scripts : List (List Line)) (input : List InputLine) (counts : List ℕ)
+    → length counts ≡ length scripts + 1 → ((k : ℕ) → slice_index counts k ≡ 0) → Follows scripts input counts 0 []
 follows_begun scripts input counts long none =
     record {
       each = long;
@@ -47,9 +69,12 @@ no_sum zero = refl
 no_sum (suc n) = omega (arith, sum_by-cons (λ (x : ℕ). x) 0 (replicate n 0), no_sum n)
 
 -- no clip call was served
-pub clips_begun : NoClips → (parts : OpeningParts) (entries : List Entry) → FollowsClips parts (replicate (length parts.clips) 0) entries (record { entries = []; spare = lines_of_clips parts.clips })
+pub clips_begun : NoClips → (parts : OpeningParts) (entries : List Entry)
+    → FollowsClips parts (replicate (length parts.clips) 0) entries
+    (record { entries = []; spare = lines_of_clips parts.clips })
 clips_begun none parts entries =
-    let zero_ : (k : ℕ) → slice_index (replicate (length parts.clips) 0) k ≡ 0 = zero_counts (length parts.clips) (replicate (length parts.clips) 0) refl in
+    let zero_ : (k : ℕ) → slice_index (replicate (length parts.clips) 0) k ≡ 0 =
+    zero_counts (length parts.clips) (replicate (length parts.clips) 0) refl in
     record {
       legal = none parts.config entries;
       each = length-replicate (length parts.clips) 0;
@@ -59,12 +84,17 @@ clips_begun none parts entries =
       room = let n = no_sum (length parts.clips) in omega (arith, n);
     }
 
-pub room_begun : (r : RoomModel) → r.scene.config ≡ r.parts.config → length r.parts.scripts ≡ length r.scene.config.clients → length r.parts.scripts ≤ 16 → r.scene.entries ≡ []
-    → r.scene.spare ≡ lines_of_all r.parts.scripts r.parts.input + 1 → r.scene.raw ≡ replicate (r.scene.config.width * r.scene.config.height) bare_word → HaveInks r.parts.scripts r.scene.glasses
-    → r.counts ≡ replicate (length r.parts.scripts + 1) 0 → r.phase ≡ 0 → r.arrived ≡ 0 → NoClips → r.parts.clips ≡ [] → r.clips ≡ record { entries = []; spare = 0 } → r.clip_counts ≡ [] → IsRoom r
+pub room_begun : (r : RoomModel) → r.scene.config ≡ r.parts.config
+    → length r.parts.scripts ≡ length r.scene.config.clients → length r.parts.scripts ≤ 16 → r.scene.entries ≡ []
+    → r.scene.spare ≡ lines_of_all r.parts.scripts r.parts.input + 1
+    → r.scene.raw ≡ replicate (r.scene.config.width * r.scene.config.height) bare_word
+    → HaveInks r.parts.scripts r.scene.glasses
+    → r.counts ≡ replicate (length r.parts.scripts + 1) 0 → r.phase ≡ 0 → r.arrived ≡ 0 → NoClips → r.parts.clips ≡ []
+    → r.clips ≡ record { entries = []; spare = 0 } → r.clip_counts ≡ [] → IsRoom r
 room_begun r config each few empty spare raw inks counts first none no_clips none_is list no_counts =
     let zeros_ : (k : ℕ) → slice_index r.counts k ≡ 0 = zero_counts (length r.parts.scripts + 1) r.counts counts in
-    let long : length r.counts ≡ length r.parts.scripts + 1 = ap length counts ∙ length-replicate (length r.parts.scripts + 1) 0 in
+    let long : length r.counts ≡ length r.parts.scripts + 1 = ap length counts
+    ∙ length-replicate (length r.parts.scripts + 1) 0 in
     record {
       config = config;
       legal = rw empty tt;
@@ -73,11 +103,15 @@ room_begun r config each few empty spare raw inks counts first none no_clips non
       follows = rw (empty, first) (follows_begun r.parts.scripts r.parts.input r.counts long zeros_);
       phases = rw (first, none) (phases_begun r.parts.scripts r.parts.input r.counts long zeros_);
       inks = inks;
-      near = subst (λ (c : Configuration). AreNear c r.parts.scripts r.scene.entries r.scene.raw) config (rw (empty, raw) (near_begun r.scene.config r.parts.scripts));
+      near = subst (λ (c : Configuration). AreNear c r.parts.scripts r.scene.entries r.scene.raw) config
+          (rw (empty, raw) (near_begun r.scene.config r.parts.scripts));
       room = let n = ap length empty in omega (arith, n, spare);
       ended = inl (rw empty tt);
-      clips_follow = subst (λ (cs : List ℕ). FollowsClips r.parts cs r.scene.entries r.clips) (ap (λ (xs : List (List ClipLine)). replicate (length xs) 0) none_is ∙ sym no_counts)
-          (subst (λ (m : ClipModel). FollowsClips r.parts (replicate (length r.parts.clips) 0) r.scene.entries m) ((λ i. record { entries = []; spare = lines_of_clips (none_is i) }) ∙ sym list) (clips_begun no_clips r.parts r.scene.entries));
+      clips_follow = subst (λ (cs : List ℕ). FollowsClips r.parts cs r.scene.entries r.clips)
+          (ap (λ (xs : List (List ClipLine)). replicate (length xs) 0) none_is ∙ sym no_counts)
+          (subst (λ (m : ClipModel). FollowsClips r.parts (replicate (length r.parts.clips) 0) r.scene.entries m)
+          ((λ i. record { entries = []; spare = lines_of_clips (none_is i) }) ∙ sym list)
+          (clips_begun no_clips r.parts r.scene.entries));
     }
 
 -- ---- a pass
@@ -86,9 +120,12 @@ room_begun r config each few empty spare raw inks counts first none no_clips non
 abbrev pub NoLine : Type 0
 NoLine = (p : Painting) (script : List Line) → painted_from p (take 0 script) ≡ p
 
-pub pass_begun : (p : PassModel) (share : ShareModel) → IsDonation p.donation → IsPlanOf p.script p.donation p.plan → p.sight ≡ new_sight p.sid (table_size p.donation) p.plan.ink → p.next ≡ 0 → p.phase ≡ 0 → p.seen ≡ [] → share.number ≡ p.sid → share.count ≡ 0 → IsPass p share
+pub pass_begun : (p : PassModel) (share : ShareModel) → IsDonation p.donation → IsPlanOf p.script p.donation p.plan
+    → p.sight ≡ new_sight p.sid (table_size p.donation) p.plan.ink → p.next ≡ 0 → p.phase ≡ 0 → p.seen ≡ []
+    → share.number ≡ p.sid → share.count ≡ 0 → IsPass p share
 pass_begun p share opens of is none first empty number count =
-    let told : p.sight.words ≡ Some (words_after p.script p.donation p.next) = ap (λ (g : Sight). g.words) is ∙ ap (λ (n : ℕ). Some (words_after p.script p.donation n)) (sym none) in
+    let told : p.sight.words ≡ Some (words_after p.script p.donation p.next) = ap (λ (g : Sight). g.words) is
+    ∙ ap (λ (n : ℕ). Some (words_after p.script p.donation n)) (sym none) in
     record {
       number = number;
       counted = count ∙ sym (ap (λ (n : ℕ). length (served (take n p.script))) none);
@@ -101,93 +138,167 @@ pass_begun p share opens of is none first empty number count =
         planned = of;
         ink = ap (λ (g : Sight). g.ink) is ∙ ap (λ (x : PlanModel). x.ink) of;
         size = ap (λ (g : Sight). g.size) is;
-        words = subst (λ (o : Option (List ℕ)). IfSome o (λ words. words ≡ words_after p.script p.donation p.next)) (sym told) refl;
+        words = subst (λ (o : Option (List ℕ)). IfSome o (λ words. words ≡ words_after p.script p.donation p.next))
+            (sym told) refl;
       };
       told = told;
     }
 
 -- ---- passes one after the other
 
-get_push : {A : Type 0} (xs : List A) (k : ℕ) (x y : A) → slice_get (xs ++ y ∷ []) k ≡ Some x → (slice_get xs k ≡ Some x) ⊎ ((k ≡ length xs) × (y ≡ x))
+get_push : {A : Type 0} (xs : List A) (k : ℕ) (x y : A) → slice_get (xs ++ y ∷ []) k ≡ Some x
+    → (slice_get xs k ≡ Some x) ⊎ ((k ≡ length xs) × (y ≡ x))
 get_push [] zero x y e = inr (refl, same_Some y x e)
 get_push [] (suc k) x y e = absurd (none-some x e)
 get_push (z ∷ xs) zero x y e = inl e
 get_push (z ∷ xs) (suc k) x y e = ⊎_elim (λ p. inl p) (λ q. inr (ap suc q.0, q.1)) (get_push xs k x y e)
 
-pub get_seam : {A : Type 0} (xs ys : List A) (y : A) (k : ℕ) → k ≡ length xs → slice_get ((xs ++ y ∷ []) ++ ys) k ≡ Some y
+pub get_seam : {A : Type 0} (xs ys : List A) (y : A) (k : ℕ) → k ≡ length xs → slice_get ((xs ++ y ∷ []) ++ ys) k
+    ≡ Some y
 get_seam [] ys y zero e = refl
 get_seam [] ys y (suc k) e = absurd (omega arith)
 get_seam (x ∷ xs) ys y zero e = absurd (omega arith)
 get_seam (x ∷ xs) ys y (suc k) e = get_seam xs ys y k (omega arith)
 
-pub each_more : (parts : OpeningParts) (canvases : List End) (k : ℕ) (ps qs : List PassModel) (p : PassModel) (c : End) → qs ≡ ps ++ p ∷ [] → length ps ≡ k → slice_get canvases k ≡ Some c → p ≡ first_pass parts k c
-    → ((j : ℕ) (q : PassModel) → slice_get ps j ≡ Some q → IsFirst parts canvases j q) → (j : ℕ) (q : PassModel) → slice_get qs j ≡ Some q → IsFirst parts canvases j q
+pub each_more : (parts : OpeningParts) (canvases : List End) (k : ℕ) (ps qs : List PassModel) (p : PassModel) (c : End)
+    → qs ≡ ps ++ p ∷ [] → length ps ≡ k → slice_get canvases k ≡ Some c → p ≡ first_pass parts k c
+    → ((j : ℕ) (q : PassModel) → slice_get ps j ≡ Some q → IsFirst parts canvases j q) → (j : ℕ) (q : PassModel)
+    → slice_get qs j ≡ Some q → IsFirst parts canvases j q
 each_more parts canvases k ps qs p c pushed long at is all j q e =
     ⊎_elim
     (λ (x : slice_get ps j ≡ Some q). all j q x)
-    (λ (x : (j ≡ length ps) × (p ≡ q)). subst (λ (n : ℕ). IsFirst parts canvases n q) (sym (x.0 ∙ long)) (subst (λ (y : PassModel). IsFirst parts canvases k y) x.1 (c, at, is)))
+    (λ (x : (j ≡ length ps) × (p ≡ q)). subst (λ (n : ℕ). IsFirst parts canvases n q) (sym (x.0 ∙ long))
+    (subst (λ (y : PassModel). IsFirst parts canvases k y) x.1 (c, at, is)))
     (get_push ps j q p (ap (λ (xs : List PassModel). slice_get xs j) (sym pushed) ∙ e))
 
 -- the pass of a client, by what stands at its number
-pub pass_at : (name name' : BookName) (config : Configuration) (clients : List Member) (scripts : List (List Line)) (plans : List PlanModel) (input : List InputLine) (k : ℕ) (script : List Line) (plan : PlanModel) (m : Member) (share : ShareModel) (c : End) (p : PassModel)
-    → k < length scripts → k < length plans → k < length clients → clients ≡ config.clients → share ≡ record { name = name'; number = k; count = 0; seen = [] } → name' ≡ name
-    → p ≡ record { sid = k; next = 0; phase = 0; met = 0; name = share.name; script = get_or scripts k script; plan = get_or plans k plan; donation = (get_or clients k m).donation; seen = share.seen; sight = c.sight; stand = c.stand } → p ≡ first_pass (parts_of name config scripts plans input) k c
+pub pass_at : (name name' : BookName) (config : Configuration) (clients : List Member) (scripts : List (List Line))
+    (plans : List PlanModel) (input : List InputLine) (k : ℕ) (script : List Line) (plan : PlanModel) (m : Member)
+    (share : ShareModel) (c : End) (p : PassModel)
+    → k < length scripts → k < length plans → k < length clients → clients ≡ config.clients
+    → share ≡ record { name = name'; number = k; count = 0; seen = [] } → name' ≡ name
+    → p ≡ record {
+      sid = k;
+      next = 0;
+      phase = 0;
+      met = 0;
+      name = share.name;
+      script = get_or scripts k script;
+      plan =
+          get_or plans k plan;
+      donation = (get_or clients k m).donation;
+      seen = share.seen;
+      sight = c.sight;
+      stand =
+          c.stand;
+    } → p ≡ first_pass (parts_of name config scripts plans input) k c
 pass_at name name' config clients scripts plans input k script plan m share c p hs hp hm ec eh en is =
     let s : get_or scripts k script ≡ script_in scripts k = get_or_default scripts k script [] hs in
     let q : get_or plans k plan ≡ plan_in plans k = get_or_default plans k plan (record { steps = []; ink = [] }) hp in
-    let n : (get_or clients k m).donation ≡ donation_of config k = ap (λ (x : Member). x.donation) (get_or_default clients k m (record { label = []; donation = 0; script = []; layer = 0; clicks = false }) hm ∙ ap (λ (ms : List Member). get_or ms k (record { label = []; donation = 0; script = []; layer = 0; clicks = false })) ec) in
+    let n : (get_or clients k m).donation ≡ donation_of config k =
+    ap (λ (x : Member). x.donation)
+    (get_or_default clients k m (record { label = []; donation = 0; script = []; layer = 0; clicks = false }) hm
+    ∙ ap (λ (ms : List Member). get_or ms k
+    (record { label = []; donation = 0; script = []; layer = 0; clicks = false })) ec) in
     let named : share.name ≡ name = ap (λ (x : ShareModel). x.name) eh ∙ en in
     let known : share.seen ≡ [] = ap (λ (x : ShareModel). x.seen) eh in
-    is ∙ (λ i. record { sid = k; next = 0; phase = 0; met = 0; name = named i; script = s i; plan = q i; donation = n i; seen = known i; sight = c.sight; stand = c.stand })
+    is ∙ (λ i. record {
+      sid = k;
+      next = 0;
+      phase = 0;
+      met = 0;
+      name = named i;
+      script = s i;
+      plan = q i;
+      donation =
+          n i;
+      seen = known i;
+      sight = c.sight;
+      stand = c.stand;
+    })
 
 -- one more count of 0
 pub zeros_push : (n m : ℕ) (cs ds : List ℕ) → ds ≡ cs ++ 0 ∷ [] → cs ≡ replicate n 0 → m ≡ n + 1 → ds ≡ replicate m 0
-zeros_push n m cs ds is all more = is ∙ ap (λ (xs : List ℕ). xs ++ 0 ∷ []) all ∙ replicate-append-replicate n 1 0 ∙ ap (λ (k : ℕ). replicate k 0) (sym more)
+zeros_push n m cs ds is all more = is ∙ ap (λ (xs : List ℕ). xs ++ 0 ∷ []) all ∙ replicate-append-replicate n 1 0
+    ∙ ap (λ (k : ℕ). replicate k 0) (sym more)
 
 -- ---- the readers' ends
 
-canvas_at : (config : Configuration) (plans : List PlanModel) (canvases : List End) (t : ℕ) → AreBlank config plans canvases → t < length config.clients → (c : End) × (slice_get canvases t ≡ Some c)
+canvas_at : (config : Configuration) (plans : List PlanModel) (canvases : List End) (t : ℕ)
+    → AreBlank config plans canvases → t < length config.clients → (c : End) × (slice_get canvases t ≡ Some c)
 canvas_at config plans [] t b h = absurd (let n = b.canvas_each in omega (arith, n, h))
-canvas_at config plans (c ∷ cs) t b h = (get_or (c ∷ cs) t c, slice_get-get_or (c ∷ cs) t c (let n = b.canvas_each in omega (arith, n, h)))
+canvas_at config plans (c ∷ cs) t b h =
+    (get_or (c ∷ cs) t c, slice_get-get_or (c ∷ cs) t c (let n = b.canvas_each in omega (arith, n, h)))
 
-lens_at : (config : Configuration) (plans : List PlanModel) (canvases lenses : List End) (t : ℕ) → AreBlank config plans canvases → AreSplitOff canvases lenses → t < length config.clients
-    → glass_in (map (λ (e : End). e.sight) lenses) t ≡ reader_sight (new_sight t (table_size (donation_of config t)) (plan_in plans t).ink)
+lens_at : (config : Configuration) (plans : List PlanModel) (canvases lenses : List End) (t : ℕ)
+    → AreBlank config plans canvases → AreSplitOff canvases lenses → t < length config.clients
+    → glass_in (map (λ (e : End). e.sight) lenses) t
+    ≡ reader_sight (new_sight t (table_size (donation_of config t)) (plan_in plans t).ink)
 lens_at config plans canvases lenses t b are h =
     let at = canvas_at config plans canvases t b h in
     ap (λ (gs : List Sight). glass_in gs t) are.sights
-    ∙ get_or_from_slice_get (map (λ (e : End). reader_sight e.sight) canvases) t (reader_sight at.0.sight) no_sight (slice_get-map (λ (e : End). reader_sight e.sight) canvases t ∙ ap (λ (o : Option End). option_map (λ (e : End). reader_sight e.sight) o) at.1)
+    ∙ get_or_from_slice_get (map (λ (e : End). reader_sight e.sight) canvases) t (reader_sight at.0.sight) no_sight
+    (slice_get-map (λ (e : End). reader_sight e.sight) canvases t
+    ∙ ap (λ (o : Option End). option_map (λ (e : End). reader_sight e.sight) o) at.1)
     ∙ ap reader_sight (b.blank t at.0 at.1)
 
-pub lens_tables : (config : Configuration) (plans : List PlanModel) (canvases lenses : List End) → AreBlank config plans canvases → AreSplitOff canvases lenses → (t : ℕ) → t < length config.clients → IsGlass config t (glass_in (map (λ (e : End). e.sight) lenses) t)
-lens_tables config plans canvases lenses b are t h = subst (λ (g : Sight). IsGlass config t g) (sym (lens_at config plans canvases lenses t b are h)) (refl, refl)
+pub lens_tables : (config : Configuration) (plans : List PlanModel) (canvases lenses : List End)
+    → AreBlank config plans canvases → AreSplitOff canvases lenses → (t : ℕ) → t < length config.clients
+    → IsGlass config t (glass_in (map (λ (e : End). e.sight) lenses) t)
+lens_tables config plans canvases lenses b are t h =
+    subst (λ (g : Sight). IsGlass config t g) (sym (lens_at config plans canvases lenses t b are h)) (refl, refl)
 
-pub lens_inks : (config : Configuration) (scripts : List (List Line)) (plans : List PlanModel) (canvases lenses : List End) → IsSetting config scripts plans → AreBlank config plans canvases → AreSplitOff canvases lenses → HaveInks scripts lenses
+pub lens_inks : (config : Configuration) (scripts : List (List Line)) (plans : List PlanModel)
+    (canvases lenses : List End) → IsSetting config scripts plans → AreBlank config plans canvases
+    → AreSplitOff canvases lenses → HaveInks scripts lenses
 lens_inks config scripts plans canvases lenses set b are t = elim (cases_lt t (length config.clients)) [
-  | inl inside ↦ ap (λ (g : Sight). g.ink) (lens_at config plans canvases lenses t b are inside) ∙ ap (λ (p : PlanModel). p.ink) (set.planned t (let n = set.sessions in omega (arith, n, inside)))
+  | inl inside ↦ ap (λ (g : Sight). g.ink) (lens_at config plans canvases lenses t b are inside)
+      ∙ ap (λ (p : PlanModel). p.ink) (set.planned t (let n = set.sessions in omega (arith, n, inside)))
   | inr past ↦
-      let many : length lenses ≡ length config.clients = sym (length-map lenses (λ (e : End). e.sight)) ∙ ap (λ (gs : List Sight). length gs) are.sights ∙ length-map canvases (λ (e : End). reader_sight e.sight) ∙ b.canvas_each in
-      let none : glass_in (map (λ (e : End). e.sight) lenses) t ≡ no_sight = get_or_past (map (λ (e : End). e.sight) lenses) t no_sight (let m = length-map lenses (λ (e : End). e.sight) in omega (arith, m, many, past)) in
-      ap (λ (g : Sight). g.ink) none ∙ ap ink (sym (get_or_past scripts t [] (let n = set.sessions in omega (arith, n, past))))
+      let many : length lenses ≡ length config.clients = sym (length-map lenses (λ (e : End). e.sight))
+      ∙ ap (λ (gs : List Sight). length gs) are.sights ∙ length-map canvases (λ (e : End). reader_sight e.sight)
+      ∙ b.canvas_each in
+      let none : glass_in (map (λ (e : End). e.sight) lenses) t ≡ no_sight =
+      get_or_past (map (λ (e : End). e.sight) lenses) t no_sight (let m =
+      length-map lenses (λ (e : End). e.sight) in omega (arith, m, many, past)) in
+      ap (λ (g : Sight). g.ink) none
+      ∙ ap ink (sym (get_or_past scripts t [] (let n = set.sessions in omega (arith, n, past))))
 ]
 
-pub lens_count : (config : Configuration) (plans : List PlanModel) (canvases lenses : List End) → AreBlank config plans canvases → AreSplitOff canvases lenses → length lenses ≡ length config.clients
-lens_count config plans canvases lenses b are = sym (length-map lenses (λ (e : End). e.sight)) ∙ ap (λ (gs : List Sight). length gs) are.sights ∙ length-map canvases (λ (e : End). reader_sight e.sight) ∙ b.canvas_each
+pub lens_count : (config : Configuration) (plans : List PlanModel) (canvases lenses : List End)
+    → AreBlank config plans canvases → AreSplitOff canvases lenses → length lenses ≡ length config.clients
+lens_count config plans canvases lenses b are = sym (length-map lenses (λ (e : End). e.sight))
+    ∙ ap (λ (gs : List Sight). length gs) are.sights ∙ length-map canvases (λ (e : End). reader_sight e.sight)
+    ∙ b.canvas_each
 
 -- ---- clip passes
 
 -- the clip pass of this number, with a new share of this book
 abbrev pub new_clip_pass : BookModel → List (List ClipLine) → ℕ → ClipPassModel
-new_clip_pass book scripts k = record { sid = k; next = 0; phase = 0; number = length book.counts + k; name = book.name; script = clip_script_in scripts k; seen = book.entries }
+new_clip_pass book scripts k =
+    record {
+      sid = k;
+      next = 0;
+      phase = 0;
+      number = length book.counts + k;
+      name = book.name;
+      script =
+          clip_script_in scripts k;
+      seen = book.entries;
+    }
 
-pub clip_pass_more : (book : BookModel) (scripts : List (List ClipLine)) (k : ℕ) (qs rs : List ClipPassModel) (q : ClipPassModel) → rs ≡ qs ++ q ∷ [] → length qs ≡ k → q ≡ new_clip_pass book scripts k
-    → ((j : ℕ) (x : ClipPassModel) → slice_get qs j ≡ Some x → x ≡ new_clip_pass book scripts j) → (j : ℕ) (x : ClipPassModel) → slice_get rs j ≡ Some x → x ≡ new_clip_pass book scripts j
+pub clip_pass_more : (book : BookModel) (scripts : List (List ClipLine)) (k : ℕ) (qs rs : List ClipPassModel)
+    (q : ClipPassModel) → rs ≡ qs ++ q ∷ [] → length qs ≡ k → q ≡ new_clip_pass book scripts k
+    → ((j : ℕ) (x : ClipPassModel) → slice_get qs j ≡ Some x → x ≡ new_clip_pass book scripts j)
+    → (j : ℕ) (x : ClipPassModel) → slice_get rs j ≡ Some x → x ≡ new_clip_pass book scripts j
 clip_pass_more book scripts k qs rs q pushed long is all j x e =
     ⊎_elim
     (λ (h : slice_get qs j ≡ Some x). all j x h)
     (λ (h : (j ≡ length qs) × (q ≡ x)). sym h.1 ∙ is ∙ ap (new_clip_pass book scripts) (sym (h.0 ∙ long)))
     (get_push qs j x q (ap (λ (xs : List ClipPassModel). slice_get xs j) (sym pushed) ∙ e))
 
-pub room_with_clips : NoClips → (r : RoomModel) (scripts : List (List ClipLine)) → IsRoom r → IsRoom (with_clip_scripts r scripts)
+pub room_with_clips : NoClips → (r : RoomModel) (scripts : List (List ClipLine)) → IsRoom r
+    → IsRoom (with_clip_scripts r scripts)
 room_with_clips none r scripts room = record {
   config = room.config;
   legal = room.legal;
@@ -207,11 +318,22 @@ zeros_behind [] k = zeros_push k (k + 1) (replicate k 0) (replicate k 0 ++ 0 ∷
 zeros_behind (c ∷ cs) k = ap (λ (ds : List ℕ). c ∷ ds) (zeros_behind cs k)
 
 -- the room with clip scripts, part by part
-pub opened_clips : (r r₀ : RoomModel) (book : BookModel) (counts : List ℕ) (list : ClipModel) (scripts : List (List ClipLine))
-    → r ≡ r₀ → r.scene.config ≡ r.parts.config → book.name ≡ r.parts.name → length counts ≡ length r.parts.scripts + 1 → r.counts ≡ take (length r.parts.scripts + 1) counts
-    → book.counts ≡ counts ++ replicate (length scripts) 0 → list ≡ record { entries = []; spare = lines_of_clips scripts }
+pub opened_clips : (r r₀ : RoomModel) (book : BookModel) (counts : List ℕ) (list : ClipModel)
+    (scripts : List (List ClipLine))
+    → r ≡ r₀ → r.scene.config ≡ r.parts.config → book.name ≡ r.parts.name → length counts ≡ length r.parts.scripts + 1
+    → r.counts ≡ take (length r.parts.scripts + 1) counts
+    → book.counts ≡ counts ++ replicate (length scripts) 0
+    → list ≡ record { entries = []; spare = lines_of_clips scripts }
     → ◌≡◌ {A = RoomModel} (record {
-      parts = record { name = book.name; config = r.scene.config; scripts = r.parts.scripts; plans = r.parts.plans; input = r.parts.input; clips = scripts };
+      parts = record {
+        name = book.name;
+        config = r.scene.config;
+        scripts = r.parts.scripts;
+        plans =
+            r.parts.plans;
+        input = r.parts.input;
+        clips = scripts;
+      };
       scene = r.scene;
       counts = take (length r.parts.scripts + 1) book.counts;
       phase = r.phase;
@@ -221,10 +343,20 @@ pub opened_clips : (r r₀ : RoomModel) (book : BookModel) (counts : List ℕ) (
     }) (with_clip_scripts r₀ scripts)
 opened_clips r r₀ book counts list scripts er config name long are more list_is =
     let n = length r.parts.scripts + 1 in
-    let front : take n book.counts ≡ r.counts = ap (take n) more ∙ front_before_more n counts (replicate (length scripts) 0) long ∙ sym (front_whole n counts long) ∙ sym are in
-    let back : drop n book.counts ≡ replicate (length scripts) 0 = ap (drop n) more ∙ back_is_more n counts (replicate (length scripts) 0) long in
+    let front : take n book.counts ≡ r.counts = ap (take n) more
+    ∙ front_before_more n counts (replicate (length scripts) 0) long ∙ sym (front_whole n counts long) ∙ sym are in
+    let back : drop n book.counts ≡ replicate (length scripts) 0 = ap (drop n) more
+    ∙ back_is_more n counts (replicate (length scripts) 0) long in
     (λ i. record {
-      parts = record { name = name i; config = config i; scripts = r.parts.scripts; plans = r.parts.plans; input = r.parts.input; clips = scripts };
+      parts = record {
+        name = name i;
+        config = config i;
+        scripts = r.parts.scripts;
+        plans = r.parts.plans;
+        input =
+            r.parts.input;
+        clips = scripts;
+      };
       scene = r.scene;
       counts = front i;
       phase = r.phase;

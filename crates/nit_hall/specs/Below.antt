@@ -3,7 +3,9 @@ pub use Rattle.nit_clip.specs.Clip.{ClipModel, most_clips}
 pub use Rattle.nit_clip.specs.ClipGrammar.{is_clip_phase}
 pub use Rattle.nit_clip.specs.Clipboard.{IsClipAnswer, clip_answer, clipboard_of}
 pub use Rattle.nit_clip.specs.LegalClips.{IsLegalClips, IsThere, before_final}
-pub use Rattle.nit_clip.specs.WholeClips.{AreInPhases, IsInPhase, IsWholeClips, calls_up_to, clip_calls_in, clip_calls_of, clips_to_do, clips_to_make, left_after}
+pub use Rattle.nit_clip.specs.WholeClips.{AreInPhases, IsInPhase, IsWholeClips, calls_up_to}
+pub use Rattle.nit_clip.specs.WholeClips.{clip_calls_in, clip_calls_of, clips_to_do, clips_to_make}
+pub use Rattle.nit_clip.specs.WholeClips.{left_after}
 pub use Rattle.nit_clip.specs.declared.call.ClipCall.{ClipCall}
 pub use Rattle.nit_clip.specs.declared.call.ClipEntry.{ClipEntry}
 pub use Rattle.nit_clip.specs.declared.call.ClipReply.{ClipReply}
@@ -20,19 +22,23 @@ pub use Rattle.nit_events.specs.declared.entry.Entry.{Entry}
 pub use Rattle.nit_events.specs.declared.event.Routed.{Routed}
 pub use Rattle.nit_journal.specs.Deliveries.{kills}
 pub use Rattle.nit_journal.specs.Journal.{JournalModel, most_entries}
-pub use Rattle.nit_journal.specs.Replay.{Agrees, IsLegal, IsOpen, LegalFrom, replay, replay_from, shots}
+pub use Rattle.nit_journal.specs.Replay.{Agrees, IsLegal, IsOpen, LegalFrom, replay, replay_from}
+pub use Rattle.nit_journal.specs.Replay.{shots}
 pub use Rattle.nit_journal.specs.Session.{serve}
 pub use Rattle.nit_journal.specs.StackAfter.{is_accepted}
 pub use Rattle.nit_journal.specs.State.{State, after, first_state, route, session, source_of}
-pub use Rattle.nit_journal.specs.WholeJournals.{Does, IsWhole, Shoots, UserAction, calls_of, done, next_phase, phases_along, to_do, user_actions_of}
+pub use Rattle.nit_journal.specs.WholeJournals.{Does, IsWhole, Shoots, UserAction, calls_of, done}
+pub use Rattle.nit_journal.specs.WholeJournals.{next_phase, phases_along, to_do, user_actions_of}
 pub use Rattle.nit_ledger.specs.Book.{BookModel, BookName, ShareModel, most_shares, raised}
 pub use Rattle.nit_overlay.specs.Frame.{frame}
 pub use Rattle.nit_paint.specs.Repaint.{IsWordOfSource, no_sight}
 pub use Rattle.nit_pixels.specs.End.{End, new_sight, reader_sight}
 pub use Rattle.nit_pixels.specs.declared.standing.Standing.{Standing}
-pub use Rattle.nit_plan.specs.Calls.{calls_from, calls_in, calls_to_make, user_actions_from, user_actions_to_do}
+pub use Rattle.nit_plan.specs.Calls.{calls_from, calls_in, calls_to_make, user_actions_from}
+pub use Rattle.nit_plan.specs.Calls.{user_actions_to_do}
 pub use Rattle.nit_plan.specs.Plan.{IsPlanOf, PlanModel}
-pub use Rattle.nit_plan.specs.ScriptWords.{Painting, after_line, blank, ink, painted_from, table_size, words_after, words_left}
+pub use Rattle.nit_plan.specs.ScriptWords.{Painting, after_line, blank, ink, painted_from}
+pub use Rattle.nit_plan.specs.ScriptWords.{table_size, words_after, words_left}
 pub use Rattle.nit_plan.specs.SessionLists.{plan_in, script_in}
 pub use Rattle.nit_plan.specs.Surface.{IsPaintedTo}
 pub use Rattle.nit_rect.specs.Limits.{most_height, most_sessions, most_width}
@@ -58,5 +64,7 @@ pub use Rattle.nit_word.specs.Updates.{with_words}
 pub use Rattle.std.specs.List.{AllByRecursion, range_with_len}
 pub use Rattle.std.specs.List.Sorted.{IsNonDecreasing}
 pub use Rattle.std.specs.Option.{option_map}
-pub use Rattle.std.specs.Prelude.{IfNone, IsTrue, List, Option, Some, count_by, length, nat_le, replicate, slice_get, slice_index, slice_index_or, sum, sum_by, take}
+pub use Rattle.std.specs.Prelude.{IfNone, IsTrue, List, Option, Some, count_by, length, map, nat_le}
+pub use Rattle.std.specs.Prelude.{replicate, slice_get, slice_index, slice_index_or, sum, sum_by}
+pub use Rattle.std.specs.Prelude.{take}
 pub use Rattle.std.specs.Vec.Iter.{into_iter_items}

@@ -1,6 +1,7 @@
 -- What contracts see of a client's clip pass.
 use Rattle.std.specs.Prelude.{◌≡◌, ◌⊎◌, ℕ, ◌+◌, ◌≤◌, List, [], length, take, count_by}
-use Rattle.nit_hall.specs.Below.{BookName, ClipCall, ClipLine, Entry, Option, ShareModel, Some, clip_calls_in, is_clip_phase, slice_get, slice_index_or}
+use Rattle.nit_hall.specs.Below.{BookName, ClipCall, ClipLine, Entry, Option, ShareModel, Some}
+use Rattle.nit_hall.specs.Below.{clip_calls_in, is_clip_phase, slice_get, slice_index_or}
 use Rattle.nit_clip.specs.declared.call.ClipCall.TheVariants as call
 use Rattle.nit_clip.specs.declared.line.ClipLine.TheVariants as line
 use Rattle.nit_hall.specs.OpeningParts.{OpeningParts}

@@ -1,7 +1,10 @@
 -- Which words a pixel may hold after a journal, whatever the threads of the clients wrote
 -- meanwhile. Pixels count from 0, row by row from the top.
 use Rattle.std.specs.Prelude.{◌≡◌, ℕ, ◌+◌, ◌<◌, Bool, true, false, List, ◌∷◌, ◌++◌, length}
-use Rattle.nit_hall.specs.Below.{Bare, Black, Call, Configuration, Entry, IsInked, Line, PixelSource, Reply, Word, after, bare_word, calls_of, dirty, donation_of, frame, ink, pixel, pixel_count, replay, scenery_of, script_in, slice_index, slice_index_or, source_at, words_after}
+use Rattle.nit_hall.specs.Below.{Bare, Black, Call, Configuration, Entry, IsInked, Line}
+use Rattle.nit_hall.specs.Below.{PixelSource, Reply, Word, after, bare_word, calls_of, dirty}
+use Rattle.nit_hall.specs.Below.{donation_of, frame, ink, pixel, pixel_count, replay, scenery_of}
+use Rattle.nit_hall.specs.Below.{script_in, slice_index, slice_index_or, source_at, words_after}
 use Rattle.nit_events.specs.declared.entry.Entry.TheVariants as entry
 use Rattle.nit_hall.specs.ServedLines.{lines_to_call}
 

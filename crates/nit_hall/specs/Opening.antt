@@ -1,6 +1,8 @@
 -- What a room is opened with, and what it and its passes are then.
 use Rattle.std.specs.Prelude.{◌≡◌, ℕ, ◌+◌, ◌*◌, ◌<◌, List, [], length, map, replicate}
-use Rattle.nit_hall.specs.Below.{BookName, Configuration, End, InputLine, IsPlanOf, Line, PlanModel, Some, bare_word, donation_of, new_sight, plan_in, reader_sight, script_in, slice_get, table_size}
+use Rattle.nit_hall.specs.Below.{BookName, Configuration, End, InputLine, IsPlanOf, Line, PlanModel}
+use Rattle.nit_hall.specs.Below.{Some, bare_word, donation_of, new_sight, plan_in, reader_sight}
+use Rattle.nit_hall.specs.Below.{script_in, slice_get, table_size}
 use Rattle.nit_hall.specs.OpeningParts.{OpeningParts}
 use Rattle.nit_hall.specs.ServedLines.{lines_of_all}
 use Rattle.nit_hall.specs.Pass.{PassModel, UserPassModel}

@@ -1,5 +1,6 @@
 -- What one opening is made of. No call changes it.
-use Rattle.nit_hall.specs.Below.{BookName, ClipLine, Configuration, InputLine, Line, List, PlanModel}
+use Rattle.nit_hall.specs.Below.{BookName, ClipLine, Configuration, InputLine, Line, List}
+use Rattle.nit_hall.specs.Below.{PlanModel}
 
 -- the name of its book, the configuration, a script and a plan for each client in order, the input
 -- script, and a clip script for each client in order, or none at all

@@ -1,6 +1,9 @@
 -- What contracts see of a client's pass and of the user's.
 use Rattle.std.specs.Prelude.{◌≡◌, ℕ, ◌+◌, ◌≤◌, List, length, take, slice_get, Option, Some}
-use Rattle.nit_hall.specs.Below.{BookName, Call, Device, Entry, InputLine, IsPaintedTo, Line, PlanModel, Reply, Routed, ShareModel, Sight, Standing, Stroke, calls_in, calls_of, donation_of, no_sight, seen, user_actions_of, with_words, words_after}
+use Rattle.nit_hall.specs.Below.{BookName, Call, Device, Entry, InputLine, IsPaintedTo, Line}
+use Rattle.nit_hall.specs.Below.{PlanModel, Reply, Routed, ShareModel, Sight, Standing, Stroke}
+use Rattle.nit_hall.specs.Below.{calls_in, calls_of, donation_of, no_sight, seen, user_actions_of}
+use Rattle.nit_hall.specs.Below.{with_words, words_after}
 use Rattle.nit_events.specs.declared.call.Call.TheVariants as call
 use Rattle.nit_events.specs.declared.device.Device.TheVariants as device
 use Rattle.nit_events.specs.declared.entry.Entry.TheVariants as entry
@@ -9,7 +12,8 @@ use Rattle.nit_script.specs.declared.line.InputLine.TheVariants as input
 use Rattle.nit_hall.specs.ServedLines.{served, user_actions_in, phases_before, input_phases_before}
 use Rattle.nit_hall.specs.OpeningParts.{OpeningParts}
 
--- A client's pass: its number, how many lines of its script are done, and how many phases; the phase
+-- A client's pass: its number, how many lines of its script are done, and how many phases; the
+-- phase
 -- that it last found served, by a call or by waiting; the name of its room's book, its script, plan
 -- and donation; the entries that it knows; what it sees of its words, and where its end of them
 -- stands.

@@ -1,6 +1,11 @@
 -- What contracts see of a room, and what holds of it.
-use Rattle.std.specs.Prelude.{◌≡◌, ◌⊎◌, ℕ, ◌+◌, ◌-◌, ◌<◌, ◌≤◌, ◌==◌, if◌then◌else◌, List, [], ◌∷◌, ◌++◌, length, map, sum, take, count_by, slice_index}
-use Rattle.nit_hall.specs.Below.{ClipEntry, ClipModel, ClipReply, End, Entry, InputLine, IsLegal, IsNonDecreasing, IsOpen, Line, SceneModel, Sight, Standing, calls_in, calls_of, calls_to_make, glass_in, ink, is_input_phase, is_phase, most_sessions, phases_along, raised, script_in, state_now, user_actions_of, user_actions_to_do}
+use Rattle.std.specs.Prelude.{◌≡◌, ◌⊎◌, ℕ, ◌+◌, ◌-◌, ◌<◌, ◌≤◌, ◌==◌, if◌then◌else◌, List, [], ◌∷◌}
+use Rattle.std.specs.Prelude.{◌++◌, length, map, sum, take, count_by, slice_index}
+use Rattle.nit_hall.specs.Below.{ClipEntry, ClipModel, ClipReply, End, Entry, InputLine, IsLegal}
+use Rattle.nit_hall.specs.Below.{IsNonDecreasing, IsOpen, Line, SceneModel, Sight, Standing}
+use Rattle.nit_hall.specs.Below.{calls_in, calls_of, calls_to_make, glass_in, ink, is_input_phase}
+use Rattle.nit_hall.specs.Below.{is_phase, most_sessions, phases_along, raised, script_in}
+use Rattle.nit_hall.specs.Below.{state_now, user_actions_of, user_actions_to_do}
 use Rattle.nit_events.specs.declared.entry.Entry.TheVariants as entry
 use Rattle.nit_hall.specs.OpeningParts.{OpeningParts}
 use Rattle.nit_hall.specs.ServedLines.{served, user_actions_in, lines_of_all}

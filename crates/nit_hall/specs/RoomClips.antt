@@ -1,6 +1,8 @@
 -- What holds of the clip list of a room.
 use Rattle.std.specs.Prelude.{◌≡◌, ℕ, ◌+◌, ◌≤◌, List, length, map, sum, take, slice_index}
-use Rattle.nit_hall.specs.Below.{AreInPhases, ClipLine, ClipModel, Entry, IsLegalClips, calls_to_make, clip_calls_in, clip_calls_of, clips_to_make, user_actions_to_do}
+use Rattle.nit_hall.specs.Below.{AreInPhases, ClipLine, ClipModel, Entry, IsLegalClips}
+use Rattle.nit_hall.specs.Below.{calls_to_make, clip_calls_in, clip_calls_of, clips_to_make}
+use Rattle.nit_hall.specs.Below.{user_actions_to_do}
 use Rattle.nit_hall.specs.OpeningParts.{OpeningParts}
 use Rattle.nit_hall.specs.ClipPass.{clip_script_in}
 

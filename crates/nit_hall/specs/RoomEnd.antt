@@ -1,6 +1,8 @@
 -- What a room knows of passes that are done, and what its last picture shows.
 use Rattle.std.specs.Prelude.{◌≡◌, ℕ, List, length, map, take, slice_index, Some}
-use Rattle.nit_hall.specs.Below.{Bare, Black, Configuration, IsGlass, Line, PixelSource, State, Word, bare_word, donation_of, ink, pixel_count, range_with_len, script_in, source_at, words_after, words_left}
+use Rattle.nit_hall.specs.Below.{Bare, Black, Configuration, IsGlass, Line, PixelSource, State}
+use Rattle.nit_hall.specs.Below.{Word, bare_word, donation_of, ink, pixel_count, range_with_len}
+use Rattle.nit_hall.specs.Below.{script_in, source_at, words_after, words_left}
 use mathlib.Core.List.{IsPrefix}
 use Rattle.nit_hall.specs.ServedLines.{served}
 use Rattle.nit_hall.specs.Pass.{PassModel}

@@ -1,6 +1,7 @@
 -- Which lines of a script the room serves, and what they put into the journal.
-use Rattle.std.specs.Prelude.{ℕ, zero, suc, Bool, true, false, List, [], ◌∷◌, filter, take, ◌+◌, length, map, sum}
-use Rattle.nit_hall.specs.Below.{Does, InputLine, Line, Shoots, UserAction, count_by, is_input_phase, is_phase}
+use Rattle.std.specs.Prelude.{ℕ, zero, suc, Bool, true, false, List, [], ◌∷◌, filter, take, ◌+◌}
+use Rattle.nit_hall.specs.Below.{Does, InputLine, Line, Shoots, UserAction, count_by}
+use Rattle.nit_hall.specs.Below.{is_input_phase, is_phase, length, map, sum}
 use Rattle.nit_script.specs.declared.line.Line.TheVariants as line
 use Rattle.nit_script.specs.declared.line.InputLine.TheVariants as input
 

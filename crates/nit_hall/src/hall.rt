@@ -2,9 +2,13 @@
 
 ghost use Rattle.std.specs.Prelude.{◌≡◌, ◌==◌, ◌+◌, ◌*◌, ◌≤◌, All, length};
 ghost use mathlib.Core.List.{IsPrefix};
-ghost use Rattle.nit_hall.specs.Below.{IsClipAnswer, IsLegal, IsOpen, IsWord, most_height, most_width, replay};
-ghost use Rattle.nit_hall.specs.ClipPass.{AreTogether, ClipBelongs, IsAtClip, IsAtPhaseEnd, next_clip};
-ghost use Rattle.nit_hall.specs.Pass.{Belongs, UserBelongs, IsAtCall, IsAtPhase, IsAtUserPhase, HasLoaded, IsAtDevice, IsAtShot, call_entry, device_entry, sight_after_line};
+ghost use Rattle.nit_hall.specs.Below.{IsClipAnswer, IsLegal, IsOpen, IsWord, most_height};
+ghost use Rattle.nit_hall.specs.Below.{most_width, replay};
+ghost use Rattle.nit_hall.specs.ClipPass.{AreTogether, ClipBelongs, IsAtClip, IsAtPhaseEnd};
+ghost use Rattle.nit_hall.specs.ClipPass.{next_clip};
+ghost use Rattle.nit_hall.specs.Pass.{Belongs, UserBelongs, IsAtCall, IsAtPhase, IsAtUserPhase};
+ghost use Rattle.nit_hall.specs.Pass.{HasLoaded, IsAtDevice, IsAtShot, call_entry, device_entry};
+ghost use Rattle.nit_hall.specs.Pass.{sight_after_line};
 ghost use Rattle.nit_hall.specs.Hall.{IsMeasured, Tells, TellsShot};
 
 use crate::clip_pass::ClipPass;

@@ -9,7 +9,10 @@ mod phases;
 mod served;
 
 ghost use Rattle.std.specs.Prelude.{◌≡◌, ◌+◌, ◌*◌, ◌≤◌, ◌==◌, [], length, replicate};
-ghost use Rattle.nit_hall.specs.Terms.{AreNear, Belongs, HaveInks, IsLegal, IsPaintedTo, IsRoom, Some, UserBelongs, bare_word, lines_of_all, most_height, most_sessions, most_width, served, slice_index, take, without_final, words_after};
+ghost use Rattle.nit_hall.specs.Terms.{AreNear, Belongs, HaveInks, IsLegal, IsPaintedTo, IsRoom};
+ghost use Rattle.nit_hall.specs.Terms.{Some, UserBelongs, bare_word, lines_of_all, most_height};
+ghost use Rattle.nit_hall.specs.Terms.{most_sessions, most_width, served, slice_index, take};
+ghost use Rattle.nit_hall.specs.Terms.{without_final, words_after};
 ghost use mathlib.Core.List.{IsPrefix};
 
 use crate::parts::Parts;

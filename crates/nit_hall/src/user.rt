@@ -1,7 +1,8 @@
 //! What the user's thread holds.
 
 ghost use Rattle.std.specs.Prelude.{◌≡◌, ◌<◌, ◌≤◌, ◌==◌, [], length, IfNone, slice_get, take};
-ghost use Rattle.nit_hall.specs.Terms.{IsAtDevice, IsDevice, input_phases_before, most_lines, next_device, user_actions_in, user_actions_of};
+ghost use Rattle.nit_hall.specs.Terms.{IsAtDevice, IsDevice, input_phases_before, most_lines};
+ghost use Rattle.nit_hall.specs.Terms.{next_device, user_actions_in, user_actions_of};
 
 use nit_events::Device;
 use nit_ledger::Share;

@@ -1,7 +1,10 @@
 -- The sheets of a host before its first step.
-use Rattle.std.proofs.Common.{Bool, List, None, [], ap, arith, cond, get_or, length, refl, replicate, subst, sym, true, false, ℕ, ◌*◌, ◌++◌, ◌+◌, ◌<◌, ◌∙◌, ◌∷◌, ◌≡◌, ◌≤◌, slice_index}
+use Rattle.std.proofs.Common.{Bool, List, None, [], ap, arith, cond, get_or, length, refl}
+use Rattle.std.proofs.Common.{replicate, subst, sym, true, false, ℕ, ◌*◌, ◌++◌, ◌+◌, ◌<◌, ◌∙◌, ◌∷◌}
+use Rattle.std.proofs.Common.{◌≡◌, ◌≤◌, slice_index}
 use Rattle.std.proofs.Math.Seq.{get_or-append_seam}
-use Rattle.std.proofs.lemmas.List.{ext_get_or, get_or-map, get_or-replicate, get_or_append_left, get_or_default, length-append, length-map}
+use Rattle.std.proofs.lemmas.List.{ext_get_or, get_or-map, get_or-replicate, get_or_append_left}
+use Rattle.std.proofs.lemmas.List.{get_or_default, length-append, length-map}
 use Rattle.nit_config.specs.declared.config.Member.{Member}
 use Rattle.nit_config.specs.Configuration.{bar_rows}
 use Rattle.nit_journal.specs.State.{buffer_size, source_of}
@@ -13,7 +16,8 @@ use Rattle.nit_word.specs.Sight.{Sight, plain_sight, told_words}
 use Rattle.nit_word.specs.Zeros.{zeros}
 use Rattle.nit_word.proofs.ForCallers.{length-zeros}
 use Rattle.nit_host.specs.Below.{Configuration, DesktopModel, IsGlass, State, glass_in, table_size}
-use Rattle.nit_host.specs.Fresh.{AreHollow, AreSheets, IsFresh, IsHost, sheet_at, sheets_of, size_at}
+use Rattle.nit_host.specs.Fresh.{AreHollow, AreSheets, IsFresh, IsHost, sheet_at, sheets_of}
+use Rattle.nit_host.specs.Fresh.{size_at}
 use Rattle.nit_host.specs.Host.{blank_sheets, first_host, sheet_in}
 use Rattle.nit_host.specs.Sheet.{SheetModel, blank_sheet}
 use Rattle.nit_host.proofs.SheetLists.{no_sheet, sight_at, sights}
@@ -27,10 +31,13 @@ no_client = record { label = []; donation = 0; script = []; layer = 0; clicks = 
 -- ---- one sheet more
 
 -- one more of a list
-pub last_of : (sheets : List SheetModel) (sheet : SheetModel) (n : ℕ) → length sheets ≡ n → sheet_at (sheets ++ sheet ∷ []) n ≡ sheet
-last_of sheets sheet n long = ap (sheet_at (sheets ++ sheet ∷ [])) (sym long) ∙ get_or-append_seam sheets sheet [] no_sheet
+pub last_of : (sheets : List SheetModel) (sheet : SheetModel) (n : ℕ) → length sheets ≡ n
+    → sheet_at (sheets ++ sheet ∷ []) n ≡ sheet
+last_of sheets sheet n long = ap (sheet_at (sheets ++ sheet ∷ [])) (sym long)
+    ∙ get_or-append_seam sheets sheet [] no_sheet
 
-pub those_before : (sheets : List SheetModel) (sheet : SheetModel) (t : ℕ) → t < length sheets → sheet_at (sheets ++ sheet ∷ []) t ≡ sheet_at sheets t
+pub those_before : (sheets : List SheetModel) (sheet : SheetModel) (t : ℕ) → t < length sheets
+    → sheet_at (sheets ++ sheet ∷ []) t ≡ sheet_at sheets t
 those_before sheets sheet t inside = get_or_append_left sheets (sheet ∷ []) no_sheet t inside
 
 -- the sheets of the seats before n
@@ -38,14 +45,18 @@ pub record AreBlankTo (config : Configuration) (n : ℕ) (sheets : List SheetMod
   pub count : length sheets ≡ n
   pub blank : (t : ℕ) → t < n → (sheet_at sheets t).sight ≡ blank_sheet t (size_at config t)
 
-pub one_blank : (config : Configuration) (n size : ℕ) (sheets : List SheetModel) (sheet : SheetModel) → AreBlankTo config n sheets → sheet.sight ≡ blank_sheet n size → size ≡ size_at config n → AreBlankTo config (n + 1) (sheets ++ sheet ∷ [])
+pub one_blank : (config : Configuration) (n size : ℕ) (sheets : List SheetModel) (sheet : SheetModel)
+    → AreBlankTo config n sheets → sheet.sight ≡ blank_sheet n size → size ≡ size_at config n
+    → AreBlankTo config (n + 1) (sheets ++ sheet ∷ [])
 one_blank config n size sheets sheet are is sized = record {
   count = length-append sheets (sheet ∷ []) ∙ ap (λ k. k + 1) are.count;
   blank = λ t below. dite (dec_lt t n)
-      (λ before. ap (λ (g : SheetModel). g.sight) (those_before sheets sheet t (omega (arith, before, are.count))) ∙ are.blank t before)
+      (λ before. ap (λ (g : SheetModel). g.sight) (those_before sheets sheet t (omega (arith, before, are.count)))
+      ∙ are.blank t before)
       (λ past.
       let here : t ≡ n = omega arith in
-      ap (λ (k : ℕ). (sheet_at (sheets ++ sheet ∷ []) k).sight) here ∙ ap (λ (g : SheetModel). g.sight) (last_of sheets sheet n are.count) ∙ is
+      ap (λ (k : ℕ). (sheet_at (sheets ++ sheet ∷ []) k).sight) here
+      ∙ ap (λ (g : SheetModel). g.sight) (last_of sheets sheet n are.count) ∙ is
       ∙ ap (blank_sheet n) sized ∙ ap (λ (k : ℕ). blank_sheet k (size_at config k)) (sym here));
 }
 
@@ -54,87 +65,116 @@ pub record HaveRoomTo (config : Configuration) (n : ℕ) (sheets : List SheetMod
   pub blank : AreBlankTo config n sheets
   pub room : (t : ℕ) → t < n → size_at config t ≤ (sheet_at sheets t).room
 
-pub one_room : (config : Configuration) (n size : ℕ) (sheets : List SheetModel) (sheet : SheetModel) → HaveRoomTo config n sheets → sheet.sight ≡ blank_sheet n size → size ≤ sheet.room → size ≡ size_at config n
+pub one_room : (config : Configuration) (n size : ℕ) (sheets : List SheetModel) (sheet : SheetModel)
+    → HaveRoomTo config n sheets → sheet.sight ≡ blank_sheet n size → size ≤ sheet.room → size ≡ size_at config n
     → HaveRoomTo config (n + 1) (sheets ++ sheet ∷ [])
 one_room config n size sheets sheet have is fits sized = record {
   blank = one_blank config n size sheets sheet have.blank is sized;
   room = λ t below. dite (dec_lt t n)
-      (λ before. subst (λ (g : SheetModel). size_at config t ≤ g.room) (sym (those_before sheets sheet t (omega (arith, before, have.blank.count)))) (have.room t before))
+      (λ before. subst (λ (g : SheetModel). size_at config t ≤ g.room)
+      (sym (those_before sheets sheet t (omega (arith, before, have.blank.count)))) (have.room t before))
       (λ past.
       let here : t ≡ n = omega arith in
       subst (λ (k : ℕ). size_at config k ≤ (sheet_at (sheets ++ sheet ∷ []) k).room) (sym here)
-      (subst (λ (g : SheetModel). size_at config n ≤ g.room) (sym (last_of sheets sheet n have.blank.count)) (subst (λ (k : ℕ). k ≤ sheet.room) sized fits)));
+      (subst (λ (g : SheetModel). size_at config n ≤ g.room) (sym (last_of sheets sheet n have.blank.count))
+      (subst (λ (k : ℕ). k ≤ sheet.room) sized fits)));
 }
 
 -- the size of a seat's table
-pub sized_at : (config : Configuration) (clients : List Member) (seat size : ℕ) (m : Member) → clients ≡ config.clients → seat < length clients → size ≡ table_size (get_or clients seat m).donation → size ≡ size_at config seat
+pub sized_at : (config : Configuration) (clients : List Member) (seat size : ℕ) (m : Member) → clients ≡ config.clients
+    → seat < length clients → size ≡ table_size (get_or clients seat m).donation → size ≡ size_at config seat
 sized_at config clients seat size m same inside is =
-    is ∙ ap (λ (x : Member). table_size x.donation) (get_or_default clients seat m no_client inside) ∙ ap (λ (ms : List Member). table_size (get_or ms seat no_client).donation) same
+    is ∙ ap (λ (x : Member). table_size x.donation) (get_or_default clients seat m no_client inside)
+    ∙ ap (λ (ms : List Member). table_size (get_or ms seat no_client).donation) same
 
 -- ---- all sheets
 
-pub all_blank : (config : Configuration) (n : ℕ) (sheets : List SheetModel) → AreBlankTo config n sheets → n ≡ length config.clients → AreHollow config sheets
+pub all_blank : (config : Configuration) (n : ℕ) (sheets : List SheetModel) → AreBlankTo config n sheets
+    → n ≡ length config.clients → AreHollow config sheets
 all_blank config n sheets are far = record {
   count = are.count ∙ far;
   blank = λ t inside. are.blank t (omega (arith, inside, far));
 }
 
-pub blank_plain : (seat size : ℕ) (sight : Sight) → sight ≡ blank_sheet seat size → sight ≡ plain_sight seat (told_words sight.words)
+pub blank_plain : (seat size : ℕ) (sight : Sight) → sight ≡ blank_sheet seat size
+    → sight ≡ plain_sight seat (told_words sight.words)
 blank_plain seat size sight is = is ∙ ap (λ (s : Sight). plain_sight seat (told_words s.words)) (sym is)
 
-pub all_sheets : (config : Configuration) (n : ℕ) (sheets : List SheetModel) → HaveRoomTo config n sheets → n ≡ length config.clients → AreSheets config sheets
+pub all_sheets : (config : Configuration) (n : ℕ) (sheets : List SheetModel) → HaveRoomTo config n sheets
+    → n ≡ length config.clients → AreSheets config sheets
 all_sheets config n sheets have far = record {
   count = have.blank.count ∙ far;
   plain = λ t inside.
-      let is = have.blank.blank t (omega (arith, inside, far)) in
-      (blank_plain t (size_at config t) (sheet_at sheets t).sight is, ap (λ (s : Sight). s.size) is ∙ length-zeros (size_at config t));
+      let is = have.blank.blank t (omega (arith, inside, far)) in (
+        blank_plain t (size_at config t) (sheet_at sheets t).sight is,
+        ap (λ (s : Sight). s.size) is
+            ∙ length-zeros (size_at config t),
+      );
   room = λ t inside. have.room t (omega (arith, inside, far));
 }
 
 -- and they are glasses of the seats
-pub blank_glasses : (config : Configuration) (sheets : List SheetModel) → AreHollow config sheets → (t : ℕ) → t < length config.clients → IsGlass config t (glass_in (sights sheets) t)
+pub blank_glasses : (config : Configuration) (sheets : List SheetModel) → AreHollow config sheets → (t : ℕ)
+    → t < length config.clients → IsGlass config t (glass_in (sights sheets) t)
 blank_glasses config sheets are t inside =
     let is : glass_in (sights sheets) t ≡ blank_sheet t (size_at config t) = sight_at sheets t ∙ are.blank t inside in
     (ap (λ (s : Sight). s.owner) is, ap (λ (s : Sight). s.size) is ∙ length-zeros (size_at config t))
 
 -- their words are 0
-pub words_blank : (config : Configuration) (sheets : List SheetModel) → AreHollow config sheets → sheets_of sheets ≡ blank_sheets config
+pub words_blank : (config : Configuration) (sheets : List SheetModel) → AreHollow config sheets
+    → sheets_of sheets ≡ blank_sheets config
 words_blank config sheets are =
-    let long : length (sheets_of sheets) ≡ length sheets = length-map sheets (λ (g : SheetModel). told_words g.sight.words) in
-    ext_get_or [] (sheets_of sheets) (blank_sheets config) (long ∙ are.count ∙ sym (length-map config.clients (λ (m : Member). zeros (table_size m.donation))))
+    let long : length (sheets_of sheets) ≡ length sheets =
+    length-map sheets (λ (g : SheetModel). told_words g.sight.words) in
+    ext_get_or [] (sheets_of sheets) (blank_sheets config) (long ∙ are.count
+    ∙ sym (length-map config.clients (λ (m : Member). zeros (table_size m.donation))))
     (λ t inside.
     let here : t < length config.clients = omega (arith, inside, long, are.count) in
-    get_or-map (λ (g : SheetModel). told_words g.sight.words) sheets t no_sheet [] (omega (arith, inside, long)) ∙ ap (λ (s : Sight). told_words s.words) (are.blank t here)
+    get_or-map (λ (g : SheetModel). told_words g.sight.words) sheets t no_sheet [] (omega (arith, inside, long))
+    ∙ ap (λ (s : Sight). told_words s.words) (are.blank t here)
     ∙ sym (get_or-map (λ (m : Member). zeros (table_size m.donation)) config.clients t no_client [] here))
 
 -- ---- the bare screen
 
 bare_source : (s : State) (p : Point) → s.stack ≡ [] → source_of s p ≡ Bare
-bare_source s p bare = ap (λ (stack : List View). source_under (buffer_size s.sessions) p (owner (bar_rows s.config) stack p)) bare ∙ go (in_bar (bar_rows s.config) p)
+bare_source s p bare = ap (λ (stack : List View). source_under (buffer_size s.sessions) p
+    (owner (bar_rows s.config) stack p)) bare ∙ go (in_bar (bar_rows s.config) p)
   where
     go : (b : Bool) → source_under (buffer_size s.sessions) p (cond b None None) ≡ Bare
     go true = refl
     go false = refl
 
-pub bare_fresh : (s : State) (tables : ℕ → List ℕ) (raw : List ℕ) → s.stack ≡ [] → raw ≡ replicate (pixel_count s) bare_word → IsFresh s tables raw
+pub bare_fresh : (s : State) (tables : ℕ → List ℕ) (raw : List ℕ) → s.stack ≡ []
+    → raw ≡ replicate (pixel_count s) bare_word → IsFresh s tables raw
 bare_fresh s tables raw bare is k inside =
-    ap (λ (ws : List ℕ). slice_index ws k) is ∙ get_or-replicate (pixel_count s) k bare_word 0 inside ∙ sym (ap (word_from tables) (bare_source s (pixel s.config.width k) bare))
+    ap (λ (ws : List ℕ). slice_index ws k) is ∙ get_or-replicate (pixel_count s) k bare_word 0 inside
+    ∙ sym (ap (word_from tables) (bare_source s (pixel s.config.width k) bare))
 
 -- ---- the host
 
 -- the host whose desktop is in such a state
-pub begun : (s : State) (config : Configuration) (d : DesktopModel SheetModel) (sheets hollows : List SheetModel) → s.config ≡ config → s.stack ≡ [] → d.state ≡ s → d.raw ≡ replicate (config.width * config.height) bare_word → d.glasses ≡ sheets
+pub begun : (s : State) (config : Configuration) (d : DesktopModel SheetModel) (sheets hollows : List SheetModel)
+    → s.config ≡ config → s.stack ≡ [] → d.state ≡ s → d.raw ≡ replicate (config.width * config.height) bare_word
+    → d.glasses ≡ sheets
     → AreSheets config sheets → AreHollow config hollows → IsHost d hollows
 begun s config d sheets hollows configured bare is raw glasses are hollow =
     let same : d.state.config ≡ config = ap (λ (t : State). t.config) is ∙ configured in
     record {
-      sheets = subst (λ (k : Configuration). AreSheets k d.glasses) (sym same) (subst (AreSheets config) (sym glasses) are);
+      sheets = subst (λ (k : Configuration). AreSheets k d.glasses) (sym same)
+          (subst (AreSheets config) (sym glasses) are);
       hollow = subst (λ (k : Configuration). AreHollow k hollows) (sym same) hollow;
       fresh = bare_fresh d.state (sheet_in (sheets_of d.glasses)) d.raw (ap (λ (t : State). t.stack) is ∙ bare)
           (raw ∙ ap (λ (k : Configuration). replicate (k.width * k.height) bare_word) (sym same));
     }
 
-pub first_now : (s : State) (config : Configuration) (d : DesktopModel SheetModel) (sheets : List SheetModel) → d.state ≡ s → d.left ≡ 4611686018427387904 → d.glasses ≡ sheets → AreHollow config sheets
+pub first_now : (s : State) (config : Configuration) (d : DesktopModel SheetModel) (sheets : List SheetModel)
+    → d.state ≡ s → d.left ≡ 4611686018427387904 → d.glasses ≡ sheets → AreHollow config sheets
     → record { state = d.state; sheets = sheets_of d.glasses; left = d.left; last = None } ≡ first_host s config
 first_now s config d sheets is left glasses blank =
-    λ i. record { state = is i; sheets = (ap sheets_of glasses ∙ words_blank config sheets blank) i; left = left i; last = None }
+    λ i. record {
+      state = is i;
+      sheets = (ap sheets_of glasses ∙ words_blank config sheets blank) i;
+      left =
+          left i;
+      last = None;
+    }

@@ -1,5 +1,7 @@
 -- What a refresh leaves, by whether it is refused.
-use Rattle.std.proofs.Common.{Bool, List, None, Option, Some, ap, arith, cond, false, inl, inr, length, nat_lt, refl, set, slice_get, slice_index, subst, sym, true, ℕ, ℤ, ◌&&◌, ◌*◌, ◌<◌, ◌==◌, ◌∙◌, ◌≡◌, ◌≢◌, ◌≤◌}
+use Rattle.std.proofs.Common.{Bool, List, None, Option, Some, ap, arith, cond, false, inl, inr}
+use Rattle.std.proofs.Common.{length, nat_lt, refl, set, slice_get, slice_index, subst, sym, true}
+use Rattle.std.proofs.Common.{ℕ, ℤ, ◌&&◌, ◌*◌, ◌<◌, ◌==◌, ◌∙◌, ◌≡◌, ◌≢◌, ◌≤◌}
 use Rattle.std.proofs.Math.ListN.{get_or-eq_default}
 use Rattle.std.proofs.lemmas.Bool.{cases_eq, eq-eqb}
 use Rattle.std.proofs.lemmas.List.{get_or-set_same}
@@ -12,13 +14,18 @@ use Rattle.nit_repaint.specs.PixelOwners.{is_word_in}
 use Rattle.nit_screen.specs.DirtyPixels.{dirty}
 use Rattle.nit_stack.specs.Sources.{Bare, Black, PixelSource, Word}
 use Rattle.nit_word.proofs.ForCallers.{set_long, word_at}
-use Rattle.nit_host.specs.Below.{Call, DesktopModel, Entry, Rectangle, Reply, Session, Sight, State, after, covers, is_accepted, pixel, plain_sight, rectangle, refusal, serve, session, set_where, source_at, told_words, word_from}
+use Rattle.nit_host.specs.Below.{Call, DesktopModel, Entry, Rectangle, Reply, Session, Sight, State}
+use Rattle.nit_host.specs.Below.{after, covers, is_accepted, pixel, plain_sight, rectangle, refusal}
+use Rattle.nit_host.specs.Below.{serve, session, set_where, source_at, told_words, word_from}
 use Rattle.nit_host.specs.Fresh.{IsHost, IsPlainOf, sheet_at, sheets_of, size_at}
 use Rattle.nit_host.specs.Handing.{after_handing}
-use Rattle.nit_host.specs.Host.{HostModel, called, handed, is_handed, refreshed, reply_to, sheet_in, with_handed}
+use Rattle.nit_host.specs.Host.{HostModel, called, handed, is_handed, refreshed, reply_to, sheet_in}
+use Rattle.nit_host.specs.Host.{with_handed}
 use Rattle.nit_host.specs.Sheet.{SheetModel, low_bytes}
-use Rattle.nit_host.proofs.SheetLists.{own_plain, own_room, own_words, put_elsewhere, put_there, words_at}
-use Rattle.nit_host.proofs.Steps.{KeepSources, Serves, WasCalled, called_now, same_words, with_sheet, words_with}
+use Rattle.nit_host.proofs.SheetLists.{own_plain, own_room, own_words, put_elsewhere, put_there}
+use Rattle.nit_host.proofs.SheetLists.{words_at}
+use Rattle.nit_host.proofs.Steps.{KeepSources, Serves, WasCalled, called_now, same_words}
+use Rattle.nit_host.proofs.Steps.{with_sheet, words_with}
 use mathlib.Core.Logic.{dite}
 use native.Mathlib.Decide.{dec_lt}
 
@@ -27,23 +34,29 @@ second_off true b is both = both
 second_off false b is both = cc
 
 -- a word that was not handed in
-off_part : (p : ℕ → Bool) (c : ℕ → ℕ) (words : List ℕ) (i : ℕ) → p i ≡ false → slice_index words i ≡ slice_index (set_where p c words) i
+off_part : (p : ℕ → Bool) (c : ℕ → ℕ) (words : List ℕ) (i : ℕ) → p i ≡ false
+    → slice_index words i ≡ slice_index (set_where p c words) i
 off_part p c words i off =
     sym (dite (dec_lt i (length words))
     (λ inside. word_at p c words i inside ∙ ap (λ (b : Bool). cond b (c i) (slice_index words i)) off)
-    (λ behind. get_or-eq_default (set_where p c words) 0 (let long = set_long p c words in omega (arith, long, behind)) ∙ sym (get_or-eq_default words 0 (omega arith))))
+    (λ behind. get_or-eq_default (set_where p c words) 0 (let long = set_long p c words in omega (arith, long, behind))
+    ∙ sym (get_or-eq_default words 0 (omega arith))))
 
 -- the words of a pixel that does not show the part
 clean_word : (seat columns rows : ℕ) (part : Rectangle) (colour : ℕ → ℕ) (tables tables' : ℕ → List ℕ) (x : PixelSource)
-    → ((t : ℕ) → t ≢ seat → tables t ≡ tables' t) → tables' seat ≡ set_where (is_handed columns rows part) colour (tables seat) → is_word_in seat columns part x ≡ false → word_from tables x ≡ word_from tables' x
+    → ((t : ℕ) → t ≢ seat → tables t ≡ tables' t)
+    → tables' seat ≡ set_where (is_handed columns rows part) colour (tables seat)
+    → is_word_in seat columns part x ≡ false → word_from tables x ≡ word_from tables' x
 clean_word seat columns rows part colour tables tables' Bare others own off = refl
 clean_word seat columns rows part colour tables tables' Black others own off = refl
 clean_word seat columns rows part colour tables tables' (Word t i) others own off =
     elim (cases_eq t seat) [
       | inl e ↦
-          let outside : covers part (pixel columns i) ≡ false = second_off (t == seat) (covers part (pixel columns i)) (eq-eqb t seat e) off in
+          let outside : covers part (pixel columns i) ≡ false =
+          second_off (t == seat) (covers part (pixel columns i)) (eq-eqb t seat e) off in
           ap (λ (n : ℕ). slice_index (tables n) i) e
-          ∙ off_part (is_handed columns rows part) colour (tables seat) i (ap (λ (b : Bool). nat_lt i (columns * rows) && b) outside ∙ never (nat_lt i (columns * rows)))
+          ∙ off_part (is_handed columns rows part) colour (tables seat) i
+          (ap (λ (b : Bool). nat_lt i (columns * rows) && b) outside ∙ never (nat_lt i (columns * rows)))
           ∙ ap (λ (ws : List ℕ). slice_index ws i) (sym own) ∙ ap (λ (n : ℕ). slice_index (tables' n) i) (sym e)
       | inr other ↦ ap (λ (ws : List ℕ). slice_index ws i) (others t other)
     ]
@@ -53,46 +66,69 @@ clean_word seat columns rows part colour tables tables' (Word t i) others own of
     never false = refl
 
 -- what a refresh left of a host
-pub record WasRefreshed (seat : ℕ) (x y : ℤ) (w h : ℕ) (words : List ℕ) (r : Reply) (host : HostModel) (d : DesktopModel SheetModel) (hollows : List SheetModel) : Type 0 where
+pub record WasRefreshed (seat : ℕ) (x y : ℤ) (w h : ℕ) (words : List ℕ) (r : Reply) (host : HostModel)
+    (d : DesktopModel SheetModel) (hollows : List SheetModel) : Type 0 where
   pub is_host : IsHost d hollows
   pub replied : r ≡ reply_to host seat (call.Refresh x y w h)
-  pub now : record { state = d.state; sheets = sheets_of d.glasses; left = d.left; last = Some (entry.Call seat (call.Refresh x y w h) r) } ≡ refreshed seat x y w h words host
+  pub now : record {
+    state = d.state;
+    sheets = sheets_of d.glasses;
+    left = d.left;
+    last =
+        Some (entry.Call seat (call.Refresh x y w h) r);
+  } ≡ refreshed seat x y w h words host
 
-module _ (seat : ℕ) (x y : ℤ) (w h : ℕ) (words : List ℕ) (r : Reply) (host : HostModel) (d : DesktopModel SheetModel) (hollows : List SheetModel) where
+module _ (seat : ℕ) (x y : ℤ) (w h : ℕ) (words : List ℕ) (r : Reply) (host : HostModel) (d : DesktopModel SheetModel)
+    (hollows : List SheetModel) where
   refresh : Call
   refresh = call.Refresh x y w h
 
   by_answer : (b : Bool) → is_accepted (reply_to host seat (call.Refresh x y w h)) ≡ b
-      → WasCalled seat (call.Refresh x y w h) r (cond b (with_handed seat (rectangle x y w h) words host) host) d hollows → WasRefreshed seat x y w h words r host d hollows
+      → WasCalled seat (call.Refresh x y w h) r (cond b (with_handed seat (rectangle x y w h) words host) host) d
+      hollows → WasRefreshed seat x y w h words r host d hollows
   by_answer true is called_ = record {
     is_host = called_.host;
     replied = called_.reply;
     now = called_.now
-        ∙ sym (ap (λ (b : Bool). cond b (called seat (call.Refresh x y w h) (with_handed seat (rectangle x y w h) words host)) (called seat (call.Refresh x y w h) host)) is);
+        ∙ sym (ap (λ (b : Bool). cond b
+        (called seat (call.Refresh x y w h) (with_handed seat (rectangle x y w h) words host))
+        (called seat (call.Refresh x y w h) host)) is);
   }
   by_answer false is called_ = record {
     is_host = called_.host;
     replied = called_.reply;
     now = called_.now
-        ∙ sym (ap (λ (b : Bool). cond b (called seat (call.Refresh x y w h) (with_handed seat (rectangle x y w h) words host)) (called seat (call.Refresh x y w h) host)) is);
+        ∙ sym (ap (λ (b : Bool). cond b
+        (called seat (call.Refresh x y w h) (with_handed seat (rectangle x y w h) words host))
+        (called seat (call.Refresh x y w h) host)) is);
   }
 
 -- the sheet that the words were handed in to
-pub handed_plain : (config : Rattle.nit_host.specs.Below.Configuration) (seat columns rows : ℕ) (part : Option Rectangle) (words : List ℕ) (own own' : SheetModel) → IsPlainOf config seat own.sight
-    → own'.sight ≡ plain_sight own.sight.owner (after_handing columns rows part words (told_words own.sight.words)) → IsPlainOf config seat own'.sight
+pub handed_plain : (config : Rattle.nit_host.specs.Below.Configuration) (seat columns rows : ℕ)
+    (part : Option Rectangle) (words : List ℕ) (own own' : SheetModel) → IsPlainOf config seat own.sight
+    → own'.sight ≡ plain_sight own.sight.owner (after_handing columns rows part words (told_words own.sight.words))
+    → IsPlainOf config seat own'.sight
 handed_plain config seat columns rows part words own own' plain is = (
   is ∙ (λ i. plain_sight (ap (λ (s : Sight). s.owner) plain.0 i) (ap (λ (s : Sight). told_words s.words) (sym is) i)),
   ap (λ (s : Sight). s.size) is ∙ as_many part ∙ sym (ap (λ (s : Sight). s.size) plain.0) ∙ plain.1,
 )
   where
-    as_many : (part : Option Rectangle) → length (after_handing columns rows part words (told_words own.sight.words)) ≡ length (told_words own.sight.words)
+    as_many : (part : Option Rectangle) → length (after_handing columns rows part words (told_words own.sight.words))
+        ≡ length (told_words own.sight.words)
     as_many None = refl
     as_many (Some r) = set_long (is_handed columns rows r) (low_bytes words) (told_words own.sight.words)
 
-module _ (d d1 d2 : DesktopModel SheetModel) (hollows : List SheetModel) (seat : ℕ) (x y : ℤ) (w h : ℕ) (words : List ℕ) (found : Option Rectangle) (r : Reply) (hollow own own' last : SheetModel) (kept : Option Entry)
-    (host : IsHost d hollows) (inside : seat < length d.state.sessions) (long : length d.state.sessions ≡ length d.state.config.clients) (swapped : d1 ≡ with_sheet d seat hollow) (there : sheet_at hollows seat ≡ hollow)
-    (out : slice_get d.glasses seat ≡ Some own) (in_ : own'.sight ≡ plain_sight own.sight.owner (after_handing (session d.state seat).bw (session d.state seat).bh found words (told_words own.sight.words))) (room : own.room ≤ own'.room)
-    (accepts : refusal (session d.state seat) (call.Refresh x y w h) ≡ None → found ≡ Some (rectangle x y w h)) (refuses : (why : Reply) → refusal (session d.state seat) (call.Refresh x y w h) ≡ Some why → found ≡ None)
+module _ (d d1 d2 : DesktopModel SheetModel) (hollows : List SheetModel) (seat : ℕ) (x y : ℤ) (w h : ℕ) (words : List ℕ)
+    (found : Option Rectangle) (r : Reply) (hollow own own' last : SheetModel) (kept : Option Entry)
+    (host : IsHost d hollows) (inside : seat < length d.state.sessions) (long : length d.state.sessions
+    ≡ length d.state.config.clients) (swapped : d1 ≡ with_sheet d seat hollow) (there : sheet_at hollows seat
+    ≡ hollow)
+    (out : slice_get d.glasses seat ≡ Some own)
+    (in_ : own'.sight ≡ plain_sight own.sight.owner
+    (after_handing (session d.state seat).bw (session d.state seat).bh found words
+    (told_words own.sight.words))) (room : own.room ≤ own'.room)
+    (accepts : refusal (session d.state seat) (call.Refresh x y w h) ≡ None → found ≡ Some (rectangle x y w h))
+    (refuses : (why : Reply) → refusal (session d.state seat) (call.Refresh x y w h) ≡ Some why → found ≡ None)
     (served : Serves seat (call.Refresh x y w h) own' last d1 d2 r) (keep : KeepSources) where
   s : Session
   s = session d.state seat
@@ -101,70 +137,116 @@ module _ (d d1 d2 : DesktopModel SheetModel) (hollows : List SheetModel) (seat :
   client = subst (λ (n : ℕ). seat < n) long inside
 
   plain : IsPlainOf d.state.config seat own'.sight
-  plain = handed_plain d.state.config seat (session d.state seat).bw (session d.state seat).bh found words own own' (own_plain d.state.config d.glasses seat own host.sheets client out) in_
+  plain = handed_plain d.state.config seat (session d.state seat).bw (session d.state seat).bh found words own own'
+      (own_plain d.state.config d.glasses seat own host.sheets client out) in_
 
   enough : size_at d.state.config seat ≤ own'.room
-  enough = let at_first = own_room d.state.config d.glasses seat own host.sheets client out in omega (arith, at_first, room)
+  enough = let at_first = own_room d.state.config d.glasses seat own host.sheets client out in omega
+      (arith, at_first, room)
 
-  new_words : told_words own'.sight.words ≡ after_handing (session d.state seat).bw (session d.state seat).bh found words (sheet_in (sheets_of d.glasses) seat)
-  new_words = ap (λ (g : Sight). told_words g.words) in_ ∙ ap (after_handing (session d.state seat).bw (session d.state seat).bh found words) (own_words d.glasses seat own out)
+  new_words : told_words own'.sight.words ≡ after_handing (session d.state seat).bw (session d.state seat).bh found
+      words (sheet_in (sheets_of d.glasses) seat)
+  new_words = ap (λ (g : Sight). told_words g.words) in_
+      ∙ ap (after_handing (session d.state seat).bw (session d.state seat).bh found words)
+      (own_words d.glasses seat own out)
 
   others : (t : ℕ) → t ≢ seat → sheet_in (sheets_of d.glasses) t ≡ sheet_in (sheets_of (set d.glasses seat own')) t
   others t other =
-      words_at d.glasses t ∙ ap (λ (g : SheetModel). told_words g.sight.words) (sym (put_elsewhere d.glasses seat t own' other)) ∙ sym (words_at (set d.glasses seat own') t)
+      words_at d.glasses t ∙ ap (λ (g : SheetModel). told_words g.sight.words)
+      (sym (put_elsewhere d.glasses seat t own' other)) ∙ sym (words_at (set d.glasses seat own') t)
 
   own_now : sheet_in (sheets_of (set d.glasses seat own')) seat ≡ told_words own'.sight.words
   own_now =
-      words_at (set d.glasses seat own') seat ∙ ap (λ (g : SheetModel). told_words g.sight.words) (put_there d.glasses seat own' (subst (λ (n : ℕ). seat < n) (sym host.sheets.count) client))
+      words_at (set d.glasses seat own') seat
+      ∙ ap (λ (g : SheetModel). told_words g.sight.words)
+      (put_there d.glasses seat own' (subst (λ (n : ℕ). seat < n) (sym host.sheets.count) client))
 
   -- a refused one
-  refused : (h0 : HostModel) → record { state = d.state; sheets = sheets_of d.glasses; left = d.left; last = kept } ≡ h0 → (why : Reply) → refusal (session d.state seat) (call.Refresh x y w h) ≡ Some why
+  refused : (h0 : HostModel) → record { state = d.state; sheets = sheets_of d.glasses; left = d.left; last = kept } ≡ h0
+      → (why : Reply) → refusal (session d.state seat) (call.Refresh x y w h) ≡ Some why
       → WasCalled seat (call.Refresh x y w h) r h0 d2 (set hollows seat last)
   refused h0 view why is =
       let same : told_words own'.sight.words ≡ sheet_in (sheets_of d.glasses) seat =
-      new_words ∙ ap (λ (o : Option Rectangle). after_handing (session d.state seat).bw (session d.state seat).bh o words (sheet_in (sheets_of d.glasses) seat)) (refuses why is) in
-      let sheets : sheets_of (set d.glasses seat own') ≡ sheets_of d.glasses = words_with d.state.config d.glasses seat own' ∙ same_words (sheets_of d.glasses) seat (told_words own'.sight.words) same in
-      let done = called_now d d1 d2 hollows seat (call.Refresh x y w h) r hollow own own' last kept host inside swapped there out served plain enough keep
-      (λ k clean. ap (λ (ss : List (List ℕ)). word_from (sheet_in ss) (source_at (after d.state (entry.Call seat (call.Refresh x y w h) r)) k)) (sym sheets)) in
+      new_words ∙ ap (λ (o : Option Rectangle). after_handing (session d.state seat).bw (session d.state seat).bh o
+      words (sheet_in (sheets_of d.glasses) seat)) (refuses why is) in
+      let sheets : sheets_of (set d.glasses seat own') ≡ sheets_of d.glasses =
+      words_with d.state.config d.glasses seat own'
+      ∙ same_words (sheets_of d.glasses) seat (told_words own'.sight.words) same in
+      let done = called_now d d1 d2 hollows seat (call.Refresh x y w h) r hollow own own' last kept host inside swapped
+      there out served plain enough keep
+      (λ k clean. ap (λ (ss : List (List ℕ)). word_from (sheet_in ss)
+      (source_at (after d.state (entry.Call seat (call.Refresh x y w h) r)) k)) (sym sheets)) in
       subst (λ (m : HostModel). WasCalled seat (call.Refresh x y w h) r m d2 (set hollows seat last))
-      ((λ i. record { state = d.state; sheets = same_words (sheets_of d.glasses) seat (told_words own'.sight.words) same i; left = d.left; last = kept }) ∙ view) done
+      ((λ i. record {
+        state = d.state;
+        sheets = same_words (sheets_of d.glasses) seat (told_words own'.sight.words) same
+            i;
+        left = d.left;
+        last = kept;
+      }) ∙ view) done
 
   -- an accepted one
-  answer : refusal (session d.state seat) (call.Refresh x y w h) ≡ None → serve (session d.state seat) (call.Refresh x y w h) ≡ answered reply.Done (session d.state seat)
+  answer : refusal (session d.state seat) (call.Refresh x y w h) ≡ None
+      → serve (session d.state seat) (call.Refresh x y w h) ≡ answered reply.Done (session d.state seat)
   answer none = serve_accepted (session d.state seat) (call.Refresh x y w h) none
 
   reply_now : r ≡ (serve (session d.state seat) (call.Refresh x y w h)).reply
-  reply_now = served.reply ∙ ap (λ (m : DesktopModel SheetModel). (serve (session m.state seat) (call.Refresh x y w h)).reply) swapped
+  reply_now = served.reply ∙ ap
+      (λ (m : DesktopModel SheetModel). (serve (session m.state seat) (call.Refresh x y w h)).reply) swapped
 
-  columns_stay : refusal (session d.state seat) (call.Refresh x y w h) ≡ None → (session (after d.state (entry.Call seat (call.Refresh x y w h) r)) seat).bw ≡ (session d.state seat).bw
+  columns_stay : refusal (session d.state seat) (call.Refresh x y w h) ≡ None
+      → (session (after d.state (entry.Call seat (call.Refresh x y w h) r)) seat).bw ≡ (session d.state seat).bw
   columns_stay none =
-      ap (λ (t : Session). t.bw) (get_or-set_same d.state.sessions seat (serve (session d.state seat) (call.Refresh x y w h)).session (first_session 0) inside) ∙ ap (λ (a : Answered). a.session.bw) (answer none)
+      ap (λ (t : Session). t.bw) (get_or-set_same d.state.sessions seat
+      (serve (session d.state seat) (call.Refresh x y w h)).session (first_session 0) inside)
+      ∙ ap (λ (a : Answered). a.session.bw) (answer none)
 
-  off_now : refusal (session d.state seat) (call.Refresh x y w h) ≡ None → (k : ℕ) → dirty d.state (entry.Call seat (call.Refresh x y w h) r) (after d.state (entry.Call seat (call.Refresh x y w h) r)) (pixel d.state.config.width k) ≡ false
-      → is_word_in seat (session d.state seat).bw (rectangle x y w h) (source_at (after d.state (entry.Call seat (call.Refresh x y w h) r)) k) ≡ false
+  off_now : refusal (session d.state seat) (call.Refresh x y w h) ≡ None → (k : ℕ)
+      → dirty d.state (entry.Call seat (call.Refresh x y w h) r)
+      (after d.state (entry.Call seat (call.Refresh x y w h) r)) (pixel d.state.config.width k) ≡ false
+      → is_word_in seat (session d.state seat).bw (rectangle x y w h)
+      (source_at (after d.state (entry.Call seat (call.Refresh x y w h) r)) k) ≡ false
   off_now none k clean =
       let yes_ : is_accepted r ≡ true = ap is_accepted (reply_now ∙ ap (λ (a : Answered). a.reply) (answer none)) in
-      ap (λ (columns : ℕ). is_word_in seat columns (rectangle x y w h) (source_at (after d.state (entry.Call seat (call.Refresh x y w h) r)) k)) (sym (columns_stay none)) ∙ second_off (is_accepted r) _ yes_ clean
+      ap (λ (columns : ℕ). is_word_in seat columns (rectangle x y w h)
+      (source_at (after d.state (entry.Call seat (call.Refresh x y w h) r)) k)) (sym (columns_stay none))
+      ∙ second_off (is_accepted r) _ yes_ clean
 
-  accepted_ : (h0 : HostModel) → record { state = d.state; sheets = sheets_of d.glasses; left = d.left; last = kept } ≡ h0 → refusal (session d.state seat) (call.Refresh x y w h) ≡ None
-      → WasCalled seat (call.Refresh x y w h) r (with_handed seat (rectangle x y w h) words h0) d2 (set hollows seat last)
+  accepted_ : (h0 : HostModel) → record { state = d.state; sheets = sheets_of d.glasses; left = d.left; last = kept }
+      ≡ h0 → refusal (session d.state seat) (call.Refresh x y w h) ≡ None
+      → WasCalled seat (call.Refresh x y w h) r (with_handed seat (rectangle x y w h) words h0) d2
+      (set hollows seat last)
   accepted_ h0 view none =
-      let part : told_words own'.sight.words ≡ handed (session d.state seat) (rectangle x y w h) words (sheet_in (sheets_of d.glasses) seat) =
-      new_words ∙ ap (λ (o : Option Rectangle). after_handing (session d.state seat).bw (session d.state seat).bh o words (sheet_in (sheets_of d.glasses) seat)) (accepts none) in
-      let done = called_now d d1 d2 hollows seat (call.Refresh x y w h) r hollow own own' last kept host inside swapped there out served plain enough keep
-      (λ k clean. clean_word seat (session d.state seat).bw (session d.state seat).bh (rectangle x y w h) (low_bytes words) (sheet_in (sheets_of d.glasses)) (sheet_in (sheets_of (set d.glasses seat own')))
-      (source_at (after d.state (entry.Call seat (call.Refresh x y w h) r)) k) others (own_now ∙ part) (off_now none k clean)) in
+      let part : told_words own'.sight.words ≡ handed (session d.state seat) (rectangle x y w h) words
+      (sheet_in (sheets_of d.glasses) seat) =
+      new_words ∙ ap (λ (o : Option Rectangle). after_handing (session d.state seat).bw (session d.state seat).bh o
+      words (sheet_in (sheets_of d.glasses) seat)) (accepts none) in
+      let done = called_now d d1 d2 hollows seat (call.Refresh x y w h) r hollow own own' last kept host inside swapped
+      there out served plain enough keep
+      (λ k clean. clean_word seat (session d.state seat).bw (session d.state seat).bh (rectangle x y w h)
+      (low_bytes words) (sheet_in (sheets_of d.glasses)) (sheet_in (sheets_of (set d.glasses seat own')))
+      (source_at (after d.state (entry.Call seat (call.Refresh x y w h) r)) k) others (own_now ∙ part)
+      (off_now none k clean)) in
       subst (λ (m : HostModel). WasCalled seat (call.Refresh x y w h) r m d2 (set hollows seat last))
-      ((λ i. record { state = d.state; sheets = set (sheets_of d.glasses) seat (part i); left = d.left; last = kept }) ∙ ap (with_handed seat (rectangle x y w h) words) view) done
+      ((λ i. record { state = d.state; sheets = set (sheets_of d.glasses) seat (part i); left = d.left; last = kept })
+      ∙ ap (with_handed seat (rectangle x y w h) words) view) done
 
-  pub was_refreshed : (h0 : HostModel) → record { state = d.state; sheets = sheets_of d.glasses; left = d.left; last = kept } ≡ h0 → WasRefreshed seat x y w h words r h0 d2 (set hollows seat last)
+  pub was_refreshed : (h0 : HostModel)
+      → record { state = d.state; sheets = sheets_of d.glasses; left = d.left; last = kept } ≡ h0
+      → WasRefreshed seat x y w h words r h0 d2 (set hollows seat last)
   was_refreshed h0 view = by (refusal (session d.state seat) (call.Refresh x y w h)) refl
     where
-      replied : (a : Answered) → serve (session d.state seat) (call.Refresh x y w h) ≡ a → reply_to h0 seat (call.Refresh x y w h) ≡ a.reply
-      replied a is = ap (λ (m : HostModel). (serve (session m.state seat) (call.Refresh x y w h)).reply) (sym view) ∙ ap (λ (b : Answered). b.reply) is
+      replied : (a : Answered) → serve (session d.state seat) (call.Refresh x y w h) ≡ a
+          → reply_to h0 seat (call.Refresh x y w h) ≡ a.reply
+      replied a is = ap (λ (m : HostModel). (serve (session m.state seat) (call.Refresh x y w h)).reply) (sym view)
+          ∙ ap (λ (b : Answered). b.reply) is
 
-      by : (o : Option Reply) → refusal (session d.state seat) (call.Refresh x y w h) ≡ o → WasRefreshed seat x y w h words r h0 d2 (set hollows seat last)
-      by None is = by_answer seat x y w h words r h0 d2 (set hollows seat last) true (ap is_accepted (replied _ (answer is))) (accepted_ h0 view is)
+      by : (o : Option Reply) → refusal (session d.state seat) (call.Refresh x y w h) ≡ o
+          → WasRefreshed seat x y w h words r h0 d2 (set hollows seat last)
+      by None is = by_answer seat x y w h words r h0 d2 (set hollows seat last) true
+          (ap is_accepted (replied _ (answer is))) (accepted_ h0 view is)
       by (Some why) is =
-          by_answer seat x y w h words r h0 d2 (set hollows seat last) false (ap is_accepted (replied _ (serve_refused (session d.state seat) (call.Refresh x y w h) why is)) ∙ refused_reply (session d.state seat) (call.Refresh x y w h) why is)
+          by_answer seat x y w h words r h0 d2 (set hollows seat last) false
+          (ap is_accepted (replied _ (serve_refused (session d.state seat) (call.Refresh x y w h) why is))
+          ∙ refused_reply (session d.state seat) (call.Refresh x y w h) why is)
           (refused h0 view why is)

@@ -1,5 +1,7 @@
 -- What is left where a client was given a seat.
-use Rattle.std.proofs.Common.{List, None, Option, Some, ap, arith, false, get_or-set_other, get_or-set_same, inl, inr, length, refl, set, slice_get, slice_index, subst, sym, ℕ, ◌<◌, ◌∙◌, ◌≡◌, ◌≢◌, ◌≤◌, nat_lt}
+use Rattle.std.proofs.Common.{List, None, Option, Some, ap, arith, false, get_or-set_other}
+use Rattle.std.proofs.Common.{get_or-set_same, inl, inr, length, refl, set, slice_get, slice_index}
+use Rattle.std.proofs.Common.{subst, sym, ℕ, ◌<◌, ◌∙◌, ◌≡◌, ◌≢◌, ◌≤◌, nat_lt}
 use Rattle.std.proofs.Math.ListN.{length-set}
 use Rattle.std.proofs.lemmas.Bool.{cases_eq, eq-eqb, false≢true}
 use Rattle.std.proofs.lemmas.Bool.Decides.{nat_tests}
@@ -13,14 +15,18 @@ use Rattle.nit_screen.specs.Terms.{is_session, option_map_or}
 use Rattle.nit_screen.proofs.ForCallers.{owns_none}
 use Rattle.nit_stack.specs.Sources.{black_or_word, shown_index, source_under}
 use Rattle.nit_stack.specs.declared.view.View.{View}
-use Rattle.nit_host.specs.Below.{AreLive, Configuration, DesktopModel, Entry, Sight, State, glass_in, member, opened, pixel, relabelled, session, table_size, told_words, word_from, zeros}
-use Rattle.nit_host.specs.Fresh.{AreHollow, AreSheets, IsFresh, IsHost, IsPlainOf, sheet_at, sheets_of, size_at}
+use Rattle.nit_host.specs.Below.{AreLive, Configuration, DesktopModel, Entry, Sight, State}
+use Rattle.nit_host.specs.Below.{glass_in, member, opened, pixel, relabelled, session, table_size}
+use Rattle.nit_host.specs.Below.{told_words, word_from, zeros}
+use Rattle.nit_host.specs.Fresh.{AreHollow, AreSheets, IsFresh, IsHost, IsPlainOf, sheet_at}
+use Rattle.nit_host.specs.Fresh.{sheets_of, size_at}
 use Rattle.nit_host.specs.Host.{HostModel, sheet_in}
 use Rattle.nit_host.specs.Seats.{is_label_taken, is_taken, seated, unseated}
 use Rattle.nit_host.specs.Sheet.{SheetModel, blank_sheet}
 use Rattle.nit_host.proofs.Beginnings.{blank_plain, no_client}
 use Rattle.nit_host.proofs.Served.{not_met, passed}
-use Rattle.nit_host.proofs.SheetLists.{own_plain, own_room, put_elsewhere, put_there, rooms, same_sheets, sight_at, sights, words_at}
+use Rattle.nit_host.proofs.SheetLists.{own_plain, own_room, put_elsewhere, put_there, rooms}
+use Rattle.nit_host.proofs.SheetLists.{same_sheets, sight_at, sights, words_at}
 use Rattle.nit_host.proofs.Steps.{sheets_with, with_sheet, words_with}
 use Rattle.nit_word.proofs.ForCallers.{length-zeros}
 use mathlib.Core.Logic.{dite}
@@ -54,13 +60,16 @@ module _ (config : Configuration) (seat : ℕ) (label : List ℕ) where
       dite (dec_lt seat (length config.clients))
       (λ inside. ap (λ (m : Member). m.donation) (get_or-set_same config.clients seat renamed no_client inside))
       (λ behind.
-      ap (λ (m : Member). m.donation) (get_or_past (set config.clients seat renamed) seat no_client (omega (arith, length-set config.clients seat renamed)))
+      ap (λ (m : Member). m.donation)
+      (get_or_past (set config.clients seat renamed) seat no_client
+      (omega (arith, length-set config.clients seat renamed)))
       ∙ ap (λ (m : Member). m.donation) (sym (get_or_past config.clients seat no_client (omega arith))))
 
   same_donation : (t : ℕ) → (member (relabelled seat label config) t).donation ≡ (member config t).donation
   same_donation t =
       elim (cases_eq t seat) [
-        | inl e ↦ ap (λ (n : ℕ). (member (relabelled seat label config) n).donation) e ∙ here ∙ ap (λ (n : ℕ). (member config n).donation) (sym e)
+        | inl e ↦ ap (λ (n : ℕ). (member (relabelled seat label config) n).donation) e ∙ here
+            ∙ ap (λ (n : ℕ). (member config n).donation) (sym e)
         | inr other ↦ ap (λ (m : Member). m.donation) (get_or-set_other config.clients seat t renamed no_client other)
       ]
 
@@ -70,44 +79,59 @@ module _ (config : Configuration) (seat : ℕ) (label : List ℕ) where
   same_count : length (relabelled seat label config).clients ≡ length config.clients
   same_count = length-set config.clients seat renamed
 
-  pub sheets_relabelled : (sheets : List SheetModel) → AreSheets config sheets → AreSheets (relabelled seat label config) sheets
+  pub sheets_relabelled : (sheets : List SheetModel) → AreSheets config sheets
+      → AreSheets (relabelled seat label config) sheets
   sheets_relabelled sheets are = record {
     count = are.count ∙ sym same_count;
     plain = λ t inside.
         let plain = are.plain t (subst (λ (n : ℕ). t < n) same_count inside) in
         (plain.0, plain.1 ∙ sym (same_size t));
-    room = λ t inside. subst (λ (n : ℕ). n ≤ (sheet_at sheets t).room) (sym (same_size t)) (are.room t (subst (λ (n : ℕ). t < n) same_count inside));
+    room = λ t inside. subst (λ (n : ℕ). n ≤ (sheet_at sheets t).room) (sym (same_size t))
+        (are.room t (subst (λ (n : ℕ). t < n) same_count inside));
   }
 
-  pub hollow_relabelled : (sheets : List SheetModel) → AreHollow config sheets → AreHollow (relabelled seat label config) sheets
+  pub hollow_relabelled : (sheets : List SheetModel) → AreHollow config sheets
+      → AreHollow (relabelled seat label config) sheets
   hollow_relabelled sheets are = record {
     count = are.count ∙ sym same_count;
-    blank = λ t inside. are.blank t (subst (λ (n : ℕ). t < n) same_count inside) ∙ ap (blank_sheet t) (sym (same_size t));
+    blank = λ t inside. are.blank t (subst (λ (n : ℕ). t < n) same_count inside)
+        ∙ ap (blank_sheet t) (sym (same_size t));
   }
 
 -- another hollow sheet of the seat
-pub hollow_with : (config : Configuration) (hollows : List SheetModel) (seat : ℕ) (sheet : SheetModel) → AreHollow config hollows → sheet.sight ≡ blank_sheet seat (size_at config seat) → AreHollow config (set hollows seat sheet)
+pub hollow_with : (config : Configuration) (hollows : List SheetModel) (seat : ℕ) (sheet : SheetModel)
+    → AreHollow config hollows → sheet.sight ≡ blank_sheet seat (size_at config seat)
+    → AreHollow config (set hollows seat sheet)
 hollow_with config hollows seat sheet are is = record {
   count = length-set hollows seat sheet ∙ are.count;
   blank = λ t inside.
       elim (cases_eq t seat) [
         | inl e ↦
-            let here = put_there hollows seat sheet (subst (λ (n : ℕ). seat < n) (sym are.count) (subst (λ (n : ℕ). n < length config.clients) e inside)) in
-            ap (λ (n : ℕ). (sheet_at (set hollows seat sheet) n).sight) e ∙ ap (λ (g : SheetModel). g.sight) here ∙ is ∙ ap (λ (n : ℕ). blank_sheet n (size_at config n)) (sym e)
+            let here = put_there hollows seat sheet
+            (subst (λ (n : ℕ). seat < n) (sym are.count) (subst (λ (n : ℕ). n < length config.clients) e inside)) in
+            ap (λ (n : ℕ). (sheet_at (set hollows seat sheet) n).sight) e ∙ ap (λ (g : SheetModel). g.sight) here ∙ is
+            ∙ ap (λ (n : ℕ). blank_sheet n (size_at config n)) (sym e)
         | inr other ↦ ap (λ (g : SheetModel). g.sight) (put_elsewhere hollows seat t sheet other) ∙ are.blank t inside
       ];
 }
 
 -- ---- pixels that are not of a session
 
-other_word : (seat : ℕ) (tables tables' : ℕ → List ℕ) → ((t : ℕ) → t ≢ seat → tables t ≡ tables' t) → (v : View) (o : Option ℕ) → is_session seat v ≡ false → word_from tables (black_or_word v.sid o) ≡ word_from tables' (black_or_word v.sid o)
+other_word : (seat : ℕ) (tables tables' : ℕ → List ℕ) → ((t : ℕ) → t ≢ seat → tables t ≡ tables' t)
+    → (v : View) (o : Option ℕ) → is_session seat v ≡ false → word_from tables (black_or_word v.sid o)
+    ≡ word_from tables' (black_or_word v.sid o)
 other_word seat tables tables' same v None other = refl
-other_word seat tables tables' same v (Some i) other = ap (λ (ws : List ℕ). slice_index ws i) (same v.sid (λ e. false≢true (sym other ∙ eq-eqb v.sid seat e)))
+other_word seat tables tables' same v (Some i) other =
+    ap (λ (ws : List ℕ). slice_index ws i) (same v.sid (λ e. false≢true (sym other ∙ eq-eqb v.sid seat e)))
 
-word_stays : (s : State) (seat : ℕ) (p : Point) (tables tables' : ℕ → List ℕ) → ((t : ℕ) → t ≢ seat → tables t ≡ tables' t) → session_owns seat s p ≡ false → word_from tables (source_of s p) ≡ word_from tables' (source_of s p)
+word_stays : (s : State) (seat : ℕ) (p : Point) (tables tables' : ℕ → List ℕ)
+    → ((t : ℕ) → t ≢ seat → tables t ≡ tables' t) → session_owns seat s p ≡ false
+    → word_from tables (source_of s p) ≡ word_from tables' (source_of s p)
 word_stays s seat p tables tables' same none = go (owner_of s p) none
   where
-    go : (o : Option View) → option_map_or (is_session seat) o false ≡ false → word_from tables (source_under (buffer_size s.sessions) p o) ≡ word_from tables' (source_under (buffer_size s.sessions) p o)
+    go : (o : Option View) → option_map_or (is_session seat) o false ≡ false
+        → word_from tables (source_under (buffer_size s.sessions) p o)
+        ≡ word_from tables' (source_under (buffer_size s.sessions) p o)
     go None off = refl
     go (Some v) off = other_word seat tables tables' same v (shown_index (buffer_size s.sessions v.sid) v p) off
 
@@ -115,7 +139,8 @@ word_stays s seat p tables tables' same none = go (owner_of s p) none
 
 -- what a law says of openings
 abbrev pub OpeningsKeep : Type 0
-OpeningsKeep = (s : State) (sid : ℕ) (label : List ℕ) (p : Point) → AreLive s → (session s sid).status ≢ status.Live → source_of (opened sid label s) p ≡ source_of s p
+OpeningsKeep = (s : State) (sid : ℕ) (label : List ℕ) (p : Point) → AreLive s → (session s sid).status ≢ status.Live
+    → source_of (opened sid label s) p ≡ source_of s p
 
 -- what an opening left of a desktop
 pub record Opens (seat : ℕ) (label : List ℕ) (blank back : SheetModel) (d d' : DesktopModel SheetModel) : Type 0 where
@@ -126,13 +151,17 @@ pub record Opens (seat : ℕ) (label : List ℕ) (blank back : SheetModel) (d d'
   pub rooms_now : rooms d'.glasses ≡ set (rooms d.glasses) seat blank.room
   pub out : back.sight ≡ glass_in (sights d.glasses) seat
 
-pub record WasSeated (seat : ℕ) (label : List ℕ) (h : HostModel) (d : DesktopModel SheetModel) (hollows : List SheetModel) : Type 0 where
+pub record WasSeated (seat : ℕ) (label : List ℕ) (h : HostModel) (d : DesktopModel SheetModel)
+    (hollows : List SheetModel) : Type 0 where
   pub host : IsHost d hollows
   pub now : record { state = d.state; sheets = sheets_of d.glasses; left = d.left; last = None } ≡ seated seat label h
 
-module _ (d d1 d2 : DesktopModel SheetModel) (hollows : List SheetModel) (seat : ℕ) (label : List ℕ) (hollow own blank back : SheetModel) (kept : Option Entry)
-    (host : IsHost d hollows) (inside : seat < length d.state.config.clients) (live : AreLive d.state) (over : (session d.state seat).status ≢ status.Live) (swapped : d1 ≡ with_sheet d seat hollow)
-    (there : sheet_at hollows seat ≡ hollow) (out : slice_get d.glasses seat ≡ Some own) (wiped : blank.sight ≡ blank_sheet own.sight.owner own.sight.size) (room : own.room ≤ blank.room)
+module _ (d d1 d2 : DesktopModel SheetModel) (hollows : List SheetModel) (seat : ℕ) (label : List ℕ)
+    (hollow own blank back : SheetModel) (kept : Option Entry)
+    (host : IsHost d hollows) (inside : seat < length d.state.config.clients) (live : AreLive d.state)
+    (over : (session d.state seat).status ≢ status.Live) (swapped : d1 ≡ with_sheet d seat hollow)
+    (there : sheet_at hollows seat ≡ hollow) (out : slice_get d.glasses seat ≡ Some own)
+    (wiped : blank.sight ≡ blank_sheet own.sight.owner own.sight.size) (room : own.room ≤ blank.room)
     (opens : Opens seat label blank back d1 d2) (keep : OpeningsKeep) where
   config : Configuration
   config = d.state.config
@@ -143,7 +172,8 @@ module _ (d d1 d2 : DesktopModel SheetModel) (hollows : List SheetModel) (seat :
   glasses_now : d2.glasses ≡ set d.glasses seat blank
   glasses_now =
       same_sheets d2.glasses (set (set d.glasses seat hollow) seat blank)
-      (λ t. ap (λ (ss : List Sight). glass_in ss t) (o0.sights_now ∙ sym (map-set (λ (g : SheetModel). g.sight) (set d.glasses seat hollow) seat blank)))
+      (λ t. ap (λ (ss : List Sight). glass_in ss t) (o0.sights_now
+      ∙ sym (map-set (λ (g : SheetModel). g.sight) (set d.glasses seat hollow) seat blank)))
       (o0.rooms_now ∙ sym (map-set (λ (g : SheetModel). g.room) (set d.glasses seat hollow) seat blank))
       ∙ set-set d.glasses seat hollow blank
 
@@ -159,48 +189,67 @@ module _ (d d1 d2 : DesktopModel SheetModel) (hollows : List SheetModel) (seat :
   back_is : back.sight ≡ blank_sheet seat (size_at d.state.config seat)
   back_is =
       o0.out ∙ sight_at (set d.glasses seat hollow) seat
-      ∙ ap (λ (g : SheetModel). g.sight) (put_there d.glasses seat hollow (subst (λ (n : ℕ). seat < n) (sym host.sheets.count) inside) ∙ sym there) ∙ host.hollow.blank seat inside
+      ∙ ap (λ (g : SheetModel). g.sight)
+      (put_there d.glasses seat hollow (subst (λ (n : ℕ). seat < n) (sym host.sheets.count) inside) ∙ sym there)
+      ∙ host.hollow.blank seat inside
 
   all : AreSheets d.state.config (set d.glasses seat blank)
-  all = sheets_with d.state.config d.glasses seat blank host.sheets
-      (blank_plain seat (size_at d.state.config seat) blank.sight blank_is, ap (λ (s : Sight). s.size) blank_is ∙ length-zeros (size_at d.state.config seat))
+  all = sheets_with d.state.config d.glasses seat blank host.sheets (
+    blank_plain seat (size_at d.state.config seat) blank.sight blank_is,
+    ap (λ (s : Sight). s.size) blank_is
+        ∙ length-zeros (size_at d.state.config seat),
+  )
       (let enough = own_room d.state.config d.glasses seat own host.sheets inside out in omega (arith, enough, room))
 
   others : (t : ℕ) → t ≢ seat → sheet_in (sheets_of d.glasses) t ≡ sheet_in (sheets_of (set d.glasses seat blank)) t
   others t other =
-      words_at d.glasses t ∙ ap (λ (g : SheetModel). told_words g.sight.words) (sym (put_elsewhere d.glasses seat t blank other)) ∙ sym (words_at (set d.glasses seat blank) t)
+      words_at d.glasses t ∙ ap (λ (g : SheetModel). told_words g.sight.words)
+      (sym (put_elsewhere d.glasses seat t blank other)) ∙ sym (words_at (set d.glasses seat blank) t)
 
   fresh_now : IsFresh (opened seat label d.state) (sheet_in (sheets_of (set d.glasses seat blank))) d.raw
   fresh_now k within =
       let p : Point = pixel d.state.config.width k in
-      host.fresh k within ∙ word_stays d.state seat p (sheet_in (sheets_of d.glasses)) (sheet_in (sheets_of (set d.glasses seat blank))) others (owns_none d.state seat over live p)
+      host.fresh k within ∙ word_stays d.state seat p (sheet_in (sheets_of d.glasses))
+      (sheet_in (sheets_of (set d.glasses seat blank))) others (owns_none d.state seat over live p)
       ∙ ap (word_from (sheet_in (sheets_of (set d.glasses seat blank)))) (sym (keep d.state seat label p live over))
 
-  pub was_seated : (h : HostModel) → record { state = d.state; sheets = sheets_of d.glasses; left = d.left; last = kept } ≡ h → WasSeated seat label h d2 (set hollows seat back)
+  pub was_seated : (h : HostModel)
+      → record { state = d.state; sheets = sheets_of d.glasses; left = d.left; last = kept } ≡ h
+      → WasSeated seat label h d2 (set hollows seat back)
   was_seated h view =
       let config_now : d2.state.config ≡ relabelled seat label d.state.config = ap (λ (s : State). s.config) o0.state in
       subst (λ (x : HostModel). WasSeated seat label x d2 (set hollows seat back)) view
       (record {
         host = record {
           sheets = subst (λ (k : Configuration). AreSheets k d2.glasses) (sym config_now)
-              (subst (AreSheets (relabelled seat label d.state.config)) (sym glasses_now) (sheets_relabelled d.state.config seat label (set d.glasses seat blank) all));
+              (subst (AreSheets (relabelled seat label d.state.config)) (sym glasses_now)
+              (sheets_relabelled d.state.config seat label (set d.glasses seat blank) all));
           hollow = subst (λ (k : Configuration). AreHollow k (set hollows seat back)) (sym config_now)
-              (hollow_relabelled d.state.config seat label (set hollows seat back) (hollow_with d.state.config hollows seat back host.hollow back_is));
+              (hollow_relabelled d.state.config seat label (set hollows seat back)
+              (hollow_with d.state.config hollows seat back host.hollow back_is));
           fresh = subst (λ (s : State). IsFresh s (sheet_in (sheets_of d2.glasses)) d2.raw) (sym o0.state)
-              (subst (λ (gs : List SheetModel). IsFresh (opened seat label d.state) (sheet_in (sheets_of gs)) d2.raw) (sym glasses_now)
-              (subst (IsFresh (opened seat label d.state) (sheet_in (sheets_of (set d.glasses seat blank)))) (sym o0.raw) fresh_now));
+              (subst (λ (gs : List SheetModel). IsFresh (opened seat label d.state) (sheet_in (sheets_of gs)) d2.raw)
+              (sym glasses_now)
+              (subst (IsFresh (opened seat label d.state) (sheet_in (sheets_of (set d.glasses seat blank))))
+              (sym o0.raw) fresh_now));
         };
         now = λ i. record {
           state = o0.state i;
-          sheets = (ap sheets_of glasses_now ∙ words_with d.state.config d.glasses seat blank ∙ ap (set (sheets_of d.glasses) seat) blank_words) i;
+          sheets = (ap sheets_of glasses_now ∙ words_with d.state.config d.glasses seat blank
+              ∙ ap (set (sheets_of d.glasses) seat) blank_words) i;
           left = o0.left i;
           last = None;
         };
       })
 
 -- the new client's glass
-pub blank_glass : (config : Configuration) (sheets : List SheetModel) (seat : ℕ) (own blank : SheetModel) → AreSheets config sheets → seat < length config.clients → slice_get sheets seat ≡ Some own
-    → blank.sight ≡ blank_sheet own.sight.owner own.sight.size → (blank.sight.owner ≡ seat) × (blank.sight.size ≡ size_at config seat)
+pub blank_glass : (config : Configuration) (sheets : List SheetModel) (seat : ℕ) (own blank : SheetModel)
+    → AreSheets config sheets → seat < length config.clients → slice_get sheets seat ≡ Some own
+    → blank.sight ≡ blank_sheet own.sight.owner own.sight.size → (blank.sight.owner ≡ seat)
+    × (blank.sight.size ≡ size_at config seat)
 blank_glass config sheets seat own blank are inside out wiped =
-    let own_is = own_plain config sheets seat own are inside out in
-    (ap (λ (s : Sight). s.owner) wiped ∙ ap (λ (s : Sight). s.owner) own_is.0, ap (λ (s : Sight). s.size) wiped ∙ length-zeros own.sight.size ∙ own_is.1)
+    let own_is = own_plain config sheets seat own are inside out in (
+      ap (λ (s : Sight). s.owner) wiped ∙ ap (λ (s : Sight). s.owner) own_is.0,
+      ap (λ (s : Sight). s.size) wiped
+          ∙ length-zeros own.sight.size ∙ own_is.1,
+    )

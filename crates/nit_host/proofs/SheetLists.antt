@@ -1,15 +1,19 @@
 -- Lists of sheets: what is seen of each, and that a call leaves them as they are.
-use Rattle.std.proofs.Common.{List, None, Some, Bool, ap, arith, cond, get_or, get_or-set_other, get_or-set_same, inl, inr, length, map, refl, set, slice_get, subst, sym, ℕ, ◌++◌, ◌<◌, ◌∙◌, ◌≡◌, ◌≢◌, ◌≤◌}
+use Rattle.std.proofs.Common.{List, None, Some, Bool, ap, arith, cond, get_or, get_or-set_other}
+use Rattle.std.proofs.Common.{get_or-set_same, inl, inr, length, map, refl, set, slice_get, subst}
+use Rattle.std.proofs.Common.{sym, ℕ, ◌++◌, ◌<◌, ◌∙◌, ◌≡◌, ◌≢◌, ◌≤◌}
 use Rattle.std.proofs.Math.ListN.{get_or-map, length-set}
 use Rattle.std.proofs.lemmas.Bool.{cases_eq, eq-eqb, ne_eqb}
-use Rattle.std.proofs.lemmas.List.{ext_get_or, get_or_default, get_or_past, length-map, set-get_or, set-set}
+use Rattle.std.proofs.lemmas.List.{ext_get_or, get_or_default, get_or_past, length-map, set-get_or}
+use Rattle.std.proofs.lemmas.List.{set-set}
 use Rattle.std.proofs.lemmas.Option.{get_or_from_slice_get, slice_get_within}
 use Rattle.std.specs.Option.{option_map}
 use Rattle.nit_paint.specs.Repaint.{no_sight}
 use Rattle.nit_repaint.specs.Glasses.{glass_in, glasses_of_call}
 use Rattle.nit_word.specs.Sight.{Sight, plain_sight, seen, told_words}
 use Rattle.nit_host.specs.Below.{Configuration}
-use Rattle.nit_host.specs.Fresh.{AreHollow, AreQuiet, AreSheets, IsPlainOf, sheet_at, sheets_of, size_at}
+use Rattle.nit_host.specs.Fresh.{AreHollow, AreQuiet, AreSheets, IsPlainOf, sheet_at, sheets_of}
+use Rattle.nit_host.specs.Fresh.{size_at}
 use Rattle.nit_host.specs.Host.{sheet_in}
 use Rattle.nit_host.specs.Sheet.{SheetModel, blank_sheet}
 use Rattle.nit_word.proofs.ForCallers.{length-zeros}
@@ -30,36 +34,47 @@ rooms sheets = map (λ g. g.room) sheets
 pub sight_at : (sheets : List SheetModel) (t : ℕ) → glass_in (sights sheets) t ≡ (sheet_at sheets t).sight
 sight_at sheets t = get_or-map (λ (g : SheetModel). g.sight) sheets t no_sheet
 
-pub words_at : (sheets : List SheetModel) (t : ℕ) → sheet_in (sheets_of sheets) t ≡ told_words (sheet_at sheets t).sight.words
+pub words_at : (sheets : List SheetModel) (t : ℕ)
+    → sheet_in (sheets_of sheets) t ≡ told_words (sheet_at sheets t).sight.words
 words_at sheets t = get_or-map (λ (g : SheetModel). told_words g.sight.words) sheets t no_sheet
 
-pub taken_out : (sheets : List SheetModel) (seat : ℕ) (out : SheetModel) → slice_get sheets seat ≡ Some out → sheet_at sheets seat ≡ out
+pub taken_out : (sheets : List SheetModel) (seat : ℕ) (out : SheetModel) → slice_get sheets seat ≡ Some out
+    → sheet_at sheets seat ≡ out
 taken_out sheets seat out is = get_or_from_slice_get sheets seat out no_sheet is
 
 -- the one of its number, as a Vec gives it
-pub there_at : (sheets : List SheetModel) (seat : ℕ) (sheet : SheetModel) → sheet ≡ get_or sheets seat sheet → seat < length sheets → sheet_at sheets seat ≡ sheet
+pub there_at : (sheets : List SheetModel) (seat : ℕ) (sheet : SheetModel) → sheet ≡ get_or sheets seat sheet
+    → seat < length sheets → sheet_at sheets seat ≡ sheet
 there_at sheets seat sheet is inside = get_or_default sheets seat no_sheet sheet inside ∙ sym is
 
-pub put_same : (sheets : List SheetModel) (seat : ℕ) (sheet : SheetModel) → sheet_at sheets seat ≡ sheet → set sheets seat sheet ≡ sheets
+pub put_same : (sheets : List SheetModel) (seat : ℕ) (sheet : SheetModel) → sheet_at sheets seat ≡ sheet
+    → set sheets seat sheet ≡ sheets
 put_same sheets seat sheet is = ap (set sheets seat) (sym is) ∙ set-get_or sheets seat no_sheet
 
-pub put_there : (sheets : List SheetModel) (seat : ℕ) (sheet : SheetModel) → seat < length sheets → sheet_at (set sheets seat sheet) seat ≡ sheet
+pub put_there : (sheets : List SheetModel) (seat : ℕ) (sheet : SheetModel) → seat < length sheets
+    → sheet_at (set sheets seat sheet) seat ≡ sheet
 put_there sheets seat sheet inside = get_or-set_same sheets seat sheet no_sheet inside
 
-pub put_elsewhere : (sheets : List SheetModel) (seat t : ℕ) (sheet : SheetModel) → t ≢ seat → sheet_at (set sheets seat sheet) t ≡ sheet_at sheets t
+pub put_elsewhere : (sheets : List SheetModel) (seat t : ℕ) (sheet : SheetModel) → t ≢ seat
+    → sheet_at (set sheets seat sheet) t ≡ sheet_at sheets t
 put_elsewhere sheets seat t sheet other = get_or-set_other sheets seat t sheet no_sheet other
 
 -- a sheet that was put in the place of another comes out again, and the other one goes back
-pub comes_out : (sheets : List SheetModel) (seat : ℕ) (own other out : SheetModel) → slice_get sheets seat ≡ Some own → slice_get (set sheets seat other) seat ≡ Some out → out ≡ other
-comes_out sheets seat own other out was is = sym (taken_out (set sheets seat other) seat out is) ∙ put_there sheets seat other (slice_get_within sheets seat own was)
+pub comes_out : (sheets : List SheetModel) (seat : ℕ) (own other out : SheetModel) → slice_get sheets seat ≡ Some own
+    → slice_get (set sheets seat other) seat ≡ Some out → out ≡ other
+comes_out sheets seat own other out was is = sym (taken_out (set sheets seat other) seat out is)
+    ∙ put_there sheets seat other (slice_get_within sheets seat own was)
 
-pub goes_back : (sheets : List SheetModel) (seat : ℕ) (own other : SheetModel) → slice_get sheets seat ≡ Some own → set (set sheets seat other) seat own ≡ sheets
-goes_back sheets seat own other is = set-set sheets seat other own ∙ put_same sheets seat own (taken_out sheets seat own is)
+pub goes_back : (sheets : List SheetModel) (seat : ℕ) (own other : SheetModel) → slice_get sheets seat ≡ Some own
+    → set (set sheets seat other) seat own ≡ sheets
+goes_back sheets seat own other is = set-set sheets seat other own
+    ∙ put_same sheets seat own (taken_out sheets seat own is)
 
 -- ---- sheets that tell no loads
 
 not_seen : (g : Sight) (loads : List (ℕ × ℕ)) → g.log ≡ None → seen g loads ≡ g
-not_seen g loads quiet = ap (λ log. record g { log = option_map (λ before. before ++ loads) log }) quiet ∙ sym (ap (λ log. record g { log = log }) quiet)
+not_seen g loads quiet = ap (λ log. record g { log = option_map (λ before. before ++ loads) log }) quiet
+    ∙ sym (ap (λ log. record g { log = log }) quiet)
 
 pub plain_quiet : (seat : ℕ) (sight : Sight) → sight ≡ plain_sight seat (told_words sight.words) → sight.log ≡ None
 plain_quiet seat sight is = ap (λ (s : Sight). s.log) is
@@ -70,12 +85,16 @@ quiet_sheets config sheets are t =
     (λ inside. plain_quiet t (sheet_at sheets t).sight (are.plain t inside).0)
     (λ behind. ap (λ (g : SheetModel). g.sight.log) (get_or_past sheets t no_sheet (omega (arith, are.count))))
 
-pub quiet_with : (sheets : List SheetModel) (seat : ℕ) (other : SheetModel) → AreQuiet sheets → other.sight.log ≡ None → AreQuiet (set sheets seat other)
+pub quiet_with : (sheets : List SheetModel) (seat : ℕ) (other : SheetModel) → AreQuiet sheets → other.sight.log ≡ None
+    → AreQuiet (set sheets seat other)
 quiet_with sheets seat other quiet is t =
     elim (cases_eq t seat) [
       | inl e ↦ dite (dec_lt seat (length sheets))
-          (λ inside. ap (λ (n : ℕ). (sheet_at (set sheets seat other) n).sight.log) e ∙ ap (λ (g : SheetModel). g.sight.log) (put_there sheets seat other inside) ∙ is)
-          (λ behind. ap (λ (g : SheetModel). g.sight.log) (get_or_past (set sheets seat other) t no_sheet (let long = length-set sheets seat other in omega (arith, e, long))))
+          (λ inside. ap (λ (n : ℕ). (sheet_at (set sheets seat other) n).sight.log) e
+          ∙ ap (λ (g : SheetModel). g.sight.log) (put_there sheets seat other inside) ∙ is)
+          (λ behind. ap (λ (g : SheetModel). g.sight.log)
+          (get_or_past (set sheets seat other) t no_sheet (let long =
+          length-set sheets seat other in omega (arith, e, long))))
       | inr other_ ↦ ap (λ (g : SheetModel). g.sight.log) (put_elsewhere sheets seat t other other_) ∙ quiet t
     ]
 
@@ -84,29 +103,38 @@ quiet_with sheets seat other quiet is t =
 pub same_sheet : (a b : SheetModel) → a.sight ≡ b.sight → a.room ≡ b.room → a ≡ b
 same_sheet a b sight room = λ i. record { sight = sight i; room = room i }
 
-pub same_sheets : (a b : List SheetModel) → ((t : ℕ) → glass_in (sights a) t ≡ glass_in (sights b) t) → rooms a ≡ rooms b → a ≡ b
+pub same_sheets : (a b : List SheetModel) → ((t : ℕ) → glass_in (sights a) t ≡ glass_in (sights b) t)
+    → rooms a ≡ rooms b → a ≡ b
 same_sheets a b sight room =
-    let long : length a ≡ length b = sym (length-map a (λ (g : SheetModel). g.room)) ∙ ap length room ∙ length-map b (λ (g : SheetModel). g.room) in
+    let long : length a ≡ length b = sym (length-map a (λ (g : SheetModel). g.room)) ∙ ap length room
+    ∙ length-map b (λ (g : SheetModel). g.room) in
     ext_get_or no_sheet a b long
     (λ t inside. same_sheet (sheet_at a t) (sheet_at b t) (sym (sight_at a t) ∙ sight t ∙ sight_at b t)
-    (sym (get_or-map (λ (g : SheetModel). g.room) a t no_sheet) ∙ ap (λ (xs : List ℕ). get_or xs t 0) room ∙ get_or-map (λ (g : SheetModel). g.room) b t no_sheet))
+    (sym (get_or-map (λ (g : SheetModel). g.room) a t no_sheet) ∙ ap (λ (xs : List ℕ). get_or xs t 0) room
+    ∙ get_or-map (λ (g : SheetModel). g.room) b t no_sheet))
 
 own_seen : (glasses : List Sight) (seat : ℕ) (own : Sight) → glasses_of_call glasses seat own seat ≡ own
 own_seen glasses seat own = ap (λ (b : Bool). cond b own (glass_in glasses seat)) (eq-eqb seat seat refl)
 
-other_seen : (glasses : List Sight) (seat t : ℕ) (own : Sight) → t ≢ seat → glasses_of_call glasses seat own t ≡ glass_in glasses t
+other_seen : (glasses : List Sight) (seat t : ℕ) (own : Sight) → t ≢ seat → glasses_of_call glasses seat own t
+    ≡ glass_in glasses t
 other_seen glasses seat t own other = ap (λ (b : Bool). cond b own (glass_in glasses t)) (ne_eqb t seat other)
 
 abbrev pub WereSeen : List SheetModel → List SheetModel → ℕ → SheetModel → SheetModel → Type 0
 WereSeen old new seat own own' =
-    (t : ℕ) → (loads : List (ℕ × ℕ)) × (glasses_of_call (sights new) seat own'.sight t ≡ seen (glasses_of_call (sights old) seat own.sight t) loads)
+    (t : ℕ) → (loads : List (ℕ × ℕ))
+    × (glasses_of_call (sights new) seat own'.sight t ≡ seen (glasses_of_call (sights old) seat own.sight t) loads)
 
-module _ (old new : List SheetModel) (seat : ℕ) (own own' : SheetModel) (quiet : AreQuiet old) (own_quiet : own.sight.log ≡ None) (were : WereSeen old new seat own own')
-    (idle : glass_in (sights new) seat ≡ glass_in (sights old) seat) (rest : own'.room ≡ own.room) (rests : rooms new ≡ rooms old) where
+module _ (old new : List SheetModel) (seat : ℕ) (own own' : SheetModel) (quiet : AreQuiet old)
+    (own_quiet : own.sight.log ≡ None) (were : WereSeen old new seat own own')
+    (idle : glass_in (sights new) seat ≡ glass_in (sights old) seat) (rest : own'.room ≡ own.room)
+    (rests : rooms new ≡ rooms old) where
   pub own_stays : own' ≡ own
   own_stays =
       let saw = were seat in
-      same_sheet own' own (sym (own_seen (sights new) seat own'.sight) ∙ saw.1 ∙ ap (λ (g : Sight). seen g saw.0) (own_seen (sights old) seat own.sight) ∙ not_seen own.sight saw.0 own_quiet) rest
+      same_sheet own' own (sym (own_seen (sights new) seat own'.sight) ∙ saw.1
+      ∙ ap (λ (g : Sight). seen g saw.0) (own_seen (sights old) seat own.sight)
+      ∙ not_seen own.sight saw.0 own_quiet) rest
 
   at : (t : ℕ) → glass_in (sights new) t ≡ glass_in (sights old) t
   at t =
@@ -114,7 +142,8 @@ module _ (old new : List SheetModel) (seat : ℕ) (own own' : SheetModel) (quiet
         | inl e ↦ ap (glass_in (sights new)) e ∙ idle ∙ ap (glass_in (sights old)) (sym e)
         | inr other ↦
             let saw = were t in
-            sym (other_seen (sights new) seat t own'.sight other) ∙ saw.1 ∙ ap (λ (g : Sight). seen g saw.0) (other_seen (sights old) seat t own.sight other)
+            sym (other_seen (sights new) seat t own'.sight other) ∙ saw.1
+            ∙ ap (λ (g : Sight). seen g saw.0) (other_seen (sights old) seat t own.sight other)
             ∙ not_seen (glass_in (sights old) t) saw.0 (ap (λ (g : Sight). g.log) (sight_at old t) ∙ quiet t)
       ]
 
@@ -122,45 +151,65 @@ module _ (old new : List SheetModel) (seat : ℕ) (own own' : SheetModel) (quiet
   sheets_stay = same_sheets new old at rests
 
 -- the glasses of a call are those with the own one in its place
-pub with_own : (sheets : List SheetModel) (seat : ℕ) (own : SheetModel) → seat < length sheets → glasses_of_call (sights sheets) seat own.sight ≡ glass_in (sights (set sheets seat own))
+pub with_own : (sheets : List SheetModel) (seat : ℕ) (own : SheetModel) → seat < length sheets
+    → glasses_of_call (sights sheets) seat own.sight ≡ glass_in (sights (set sheets seat own))
 with_own sheets seat own inside = λ i t. each t i
   where
     each : (t : ℕ) → glasses_of_call (sights sheets) seat own.sight t ≡ glass_in (sights (set sheets seat own)) t
     each t =
         elim (cases_eq t seat) [
-          | inl e ↦ ap (glasses_of_call (sights sheets) seat own.sight) e ∙ own_seen (sights sheets) seat own.sight ∙ sym (ap (λ (g : SheetModel). g.sight) (put_there sheets seat own inside))
+          | inl e ↦ ap (glasses_of_call (sights sheets) seat own.sight) e ∙ own_seen (sights sheets) seat own.sight
+              ∙ sym (ap (λ (g : SheetModel). g.sight) (put_there sheets seat own inside))
               ∙ sym (sight_at (set sheets seat own) seat) ∙ ap (glass_in (sights (set sheets seat own))) (sym e)
-          | inr other ↦ other_seen (sights sheets) seat t own.sight other ∙ sight_at sheets t ∙ sym (ap (λ (g : SheetModel). g.sight) (put_elsewhere sheets seat t own other))
+          | inr other ↦ other_seen (sights sheets) seat t own.sight other ∙ sight_at sheets t
+              ∙ sym (ap (λ (g : SheetModel). g.sight) (put_elsewhere sheets seat t own other))
               ∙ sym (sight_at (set sheets seat own) t)
         ]
 
 -- ---- the sheets of a host
 
-pub hollow_glass : (config : Configuration) (hollows : List SheetModel) (seat : ℕ) (hollow : SheetModel) → AreHollow config hollows → seat < length config.clients → sheet_at hollows seat ≡ hollow
+pub hollow_glass : (config : Configuration) (hollows : List SheetModel) (seat : ℕ) (hollow : SheetModel)
+    → AreHollow config hollows → seat < length config.clients → sheet_at hollows seat ≡ hollow
     → (hollow.sight.owner ≡ seat) × (hollow.sight.size ≡ size_at config seat)
 hollow_glass config hollows seat hollow are inside is =
-    let blank : hollow.sight ≡ blank_sheet seat (size_at config seat) = ap (λ (g : SheetModel). g.sight) (sym is) ∙ are.blank seat inside in
+    let blank : hollow.sight ≡ blank_sheet seat (size_at config seat) = ap (λ (g : SheetModel). g.sight) (sym is)
+    ∙ are.blank seat inside in
     (ap (λ (s : Sight). s.owner) blank, ap (λ (s : Sight). s.size) blank ∙ length-zeros (size_at config seat))
 
-pub hollow_quiet : (config : Configuration) (hollows : List SheetModel) (seat : ℕ) (hollow : SheetModel) → AreHollow config hollows → seat < length config.clients → sheet_at hollows seat ≡ hollow → hollow.sight.log ≡ None
-hollow_quiet config hollows seat hollow are inside is = ap (λ (g : SheetModel). g.sight.log) (sym is) ∙ ap (λ (s : Sight). s.log) (are.blank seat inside)
+pub hollow_quiet : (config : Configuration) (hollows : List SheetModel) (seat : ℕ) (hollow : SheetModel)
+    → AreHollow config hollows → seat < length config.clients → sheet_at hollows seat ≡ hollow → hollow.sight.log ≡ None
+hollow_quiet config hollows seat hollow are inside is = ap (λ (g : SheetModel). g.sight.log) (sym is)
+    ∙ ap (λ (s : Sight). s.log) (are.blank seat inside)
 
-pub own_plain : (config : Configuration) (sheets : List SheetModel) (seat : ℕ) (own : SheetModel) → AreSheets config sheets → seat < length config.clients → slice_get sheets seat ≡ Some own → IsPlainOf config seat own.sight
-own_plain config sheets seat own are inside is = subst (λ (g : SheetModel). IsPlainOf config seat g.sight) (taken_out sheets seat own is) (are.plain seat inside)
+pub own_plain : (config : Configuration) (sheets : List SheetModel) (seat : ℕ) (own : SheetModel)
+    → AreSheets config sheets → seat < length config.clients → slice_get sheets seat ≡ Some own
+    → IsPlainOf config seat own.sight
+own_plain config sheets seat own are inside is =
+    subst (λ (g : SheetModel). IsPlainOf config seat g.sight) (taken_out sheets seat own is) (are.plain seat inside)
 
-pub own_room : (config : Configuration) (sheets : List SheetModel) (seat : ℕ) (own : SheetModel) → AreSheets config sheets → seat < length config.clients → slice_get sheets seat ≡ Some own → size_at config seat ≤ own.room
-own_room config sheets seat own are inside is = subst (λ (g : SheetModel). size_at config seat ≤ g.room) (taken_out sheets seat own is) (are.room seat inside)
+pub own_room : (config : Configuration) (sheets : List SheetModel) (seat : ℕ) (own : SheetModel)
+    → AreSheets config sheets → seat < length config.clients → slice_get sheets seat ≡ Some own
+    → size_at config seat ≤ own.room
+own_room config sheets seat own are inside is =
+    subst (λ (g : SheetModel). size_at config seat ≤ g.room) (taken_out sheets seat own is) (are.room seat inside)
 
-pub own_words : (sheets : List SheetModel) (seat : ℕ) (own : SheetModel) → slice_get sheets seat ≡ Some own → told_words own.sight.words ≡ sheet_in (sheets_of sheets) seat
-own_words sheets seat own is = ap (λ (g : SheetModel). told_words g.sight.words) (sym (taken_out sheets seat own is)) ∙ sym (words_at sheets seat)
+pub own_words : (sheets : List SheetModel) (seat : ℕ) (own : SheetModel) → slice_get sheets seat ≡ Some own
+    → told_words own.sight.words ≡ sheet_in (sheets_of sheets) seat
+own_words sheets seat own is = ap (λ (g : SheetModel). told_words g.sight.words) (sym (taken_out sheets seat own is))
+    ∙ sym (words_at sheets seat)
 
 -- ---- an event that is no call
 
-pub seen_sheets : (old new : List SheetModel) → AreQuiet old → ((t : ℕ) → (loads : List (ℕ × ℕ)) × (glass_in (sights new) t ≡ seen (glass_in (sights old) t) loads)) → rooms new ≡ rooms old → new ≡ old
+pub seen_sheets : (old new : List SheetModel) → AreQuiet old
+    → ((t : ℕ) → (loads : List (ℕ × ℕ)) × (glass_in (sights new) t ≡ seen (glass_in (sights old) t) loads))
+    → rooms new ≡ rooms old → new ≡ old
 seen_sheets old new quiet were rests =
     same_sheets new old
-    (λ t. let saw = were t in saw.1 ∙ not_seen (glass_in (sights old) t) saw.0 (ap (λ (g : Sight). g.log) (sight_at old t) ∙ quiet t)) rests
+    (λ t. let saw = were t in saw.1
+    ∙ not_seen (glass_in (sights old) t) saw.0 (ap (λ (g : Sight). g.log) (sight_at old t) ∙ quiet t)) rests
 
 -- a plain sheet by its own number
-pub plain_by_owner : (config : Configuration) (seat : ℕ) (sight : Sight) → IsPlainOf config seat sight → sight ≡ plain_sight sight.owner (told_words sight.words)
-plain_by_owner config seat sight plain = plain.0 ∙ ap (λ (n : ℕ). plain_sight n (told_words sight.words)) (sym (ap (λ (s : Sight). s.owner) plain.0))
+pub plain_by_owner : (config : Configuration) (seat : ℕ) (sight : Sight) → IsPlainOf config seat sight
+    → sight ≡ plain_sight sight.owner (told_words sight.words)
+plain_by_owner config seat sight plain = plain.0
+    ∙ ap (λ (n : ℕ). plain_sight n (told_words sight.words)) (sym (ap (λ (s : Sight). s.owner) plain.0))

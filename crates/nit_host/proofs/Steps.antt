@@ -1,62 +1,86 @@
 -- What a call of a seat's client leaves, whose sheet was taken out of the desktop and is put back.
-use Rattle.std.proofs.Common.{List, Option, Some, [], ap, false, inl, inr, length, refl, set, slice_get, subst, sym, ℕ, ◌-◌, ◌<◌, ◌∙◌, ◌≡◌, ◌≤◌}
+use Rattle.std.proofs.Common.{List, Option, Some, [], ap, false, inl, inr, length, refl, set}
+use Rattle.std.proofs.Common.{slice_get, subst, sym, ℕ, ◌-◌, ◌<◌, ◌∙◌, ◌≡◌, ◌≤◌}
 use Rattle.std.proofs.Math.ListN.{length-set}
 use Rattle.std.proofs.lemmas.Bool.{cases_eq}
 use Rattle.std.proofs.lemmas.List.{map-set, set-get_or, set-set}
 use Rattle.nit_events.specs.declared.entry.Entry.TheVariants as entry
 use Rattle.nit_repaint.specs.Glasses.{glass_in, glasses_of_call}
 use Rattle.nit_screen.specs.DirtyPixels.{dirty}
-use Rattle.nit_host.specs.Below.{Agrees, Call, Configuration, DesktopModel, Entry, Painted, Reply, Sight, State, after, pixel, serve, session, source_at, told_words, word_from}
+use Rattle.nit_host.specs.Below.{Agrees, Call, Configuration, DesktopModel, Entry, Painted, Reply}
+use Rattle.nit_host.specs.Below.{Sight, State, after, pixel, serve, session, source_at, told_words}
+use Rattle.nit_host.specs.Below.{word_from}
 use Rattle.nit_journal.specs.State.{source_of}
 use Rattle.nit_rect.specs.declared.point.Point.{Point}
-use Rattle.nit_host.specs.Fresh.{AreHollow, AreSheets, IsFresh, IsHost, IsPlainOf, sheet_at, sheets_of, size_at}
+use Rattle.nit_host.specs.Fresh.{AreHollow, AreSheets, IsFresh, IsHost, IsPlainOf, sheet_at}
+use Rattle.nit_host.specs.Fresh.{sheets_of, size_at}
 use Rattle.nit_host.specs.Host.{HostModel, called, sheet_in}
 use Rattle.nit_host.specs.Sheet.{SheetModel}
 use Rattle.nit_host.proofs.Freshness.{fresh_after}
-use Rattle.nit_host.proofs.SheetLists.{comes_out, own_plain, own_room, own_words, put_elsewhere, put_same, put_there, sights, taken_out, with_own}
+use Rattle.nit_host.proofs.SheetLists.{comes_out, own_plain, own_room, own_words, put_elsewhere}
+use Rattle.nit_host.proofs.SheetLists.{put_same, put_there, sights, taken_out, with_own}
 
 -- what a law says of pixels that are not dirty
 abbrev pub KeepSources : Type 0
-KeepSources = (s : State) (taken : ℕ) (e : Entry) (p : Point) → Agrees s taken e → dirty s e (after s e) p ≡ false → source_of (after s e) p ≡ source_of s p
+KeepSources = (s : State) (taken : ℕ) (e : Entry) (p : Point) → Agrees s taken e → dirty s e (after s e) p ≡ false
+    → source_of (after s e) p ≡ source_of s p
 
 -- the desktop with another sheet for a seat
 abbrev pub with_sheet : DesktopModel SheetModel → ℕ → SheetModel → DesktopModel SheetModel
 with_sheet d seat sheet = record d { glasses = set d.glasses seat sheet }
 
 -- what the desktop that had the sheet `own` of a seat taken out was left by a call
-pub record Serves (seat : ℕ) (call : Call) (own last : SheetModel) (d d' : DesktopModel SheetModel) (r : Reply) : Type 0 where
-  pub reply : r ≡ (serve (session d.state seat) call).reply
-  pub state : d'.state ≡ after d.state (entry.Call seat call r)
-  pub left : d'.left ≡ d.left - 1
-  pub glasses : d'.glasses ≡ set d.glasses seat own
-  pub out : slice_get d.glasses seat ≡ Some last
-  pub painted : Painted d.state (entry.Call seat call r) d'.state (glass_in (sights d'.glasses)) (glass_in (sights d'.glasses)) d.raw d'.raw
+pub record Serves (seat : ℕ) (call : Call) (own last : SheetModel) (d d' : DesktopModel SheetModel) (r : Reply) : Type 0
+  where
+    pub reply : r ≡ (serve (session d.state seat) call).reply
+    pub state : d'.state ≡ after d.state (entry.Call seat call r)
+    pub left : d'.left ≡ d.left - 1
+    pub glasses : d'.glasses ≡ set d.glasses seat own
+    pub out : slice_get d.glasses seat ≡ Some last
+    pub painted : Painted d.state (entry.Call seat call r) d'.state (glass_in (sights d'.glasses))
+        (glass_in (sights d'.glasses)) d.raw d'.raw
 
 -- what a call left of a host
-pub record WasCalled (seat : ℕ) (call : Call) (r : Reply) (h : HostModel) (d : DesktopModel SheetModel) (hollows : List SheetModel) : Type 0 where
+pub record WasCalled (seat : ℕ) (call : Call) (r : Reply) (h : HostModel) (d : DesktopModel SheetModel)
+    (hollows : List SheetModel) : Type 0 where
   pub host : IsHost d hollows
   pub reply : r ≡ (serve (session h.state seat) call).reply
-  pub now : record { state = d.state; sheets = sheets_of d.glasses; left = d.left; last = Some (entry.Call seat call r) } ≡ called seat call h
+  pub now : record {
+    state = d.state;
+    sheets = sheets_of d.glasses;
+    left = d.left;
+    last =
+        Some (entry.Call seat call r);
+  } ≡ called seat call h
 
 -- ---- sheets, one of which is another
 
 module _ (config : Configuration) (sheets : List SheetModel) (seat : ℕ) (sheet : SheetModel) where
-  pub sheets_with : AreSheets config sheets → IsPlainOf config seat sheet.sight → size_at config seat ≤ sheet.room → AreSheets config (set sheets seat sheet)
+  pub sheets_with : AreSheets config sheets → IsPlainOf config seat sheet.sight → size_at config seat ≤ sheet.room
+      → AreSheets config (set sheets seat sheet)
   sheets_with are plain room = record {
     count = length-set sheets seat sheet ∙ are.count;
     plain = λ t inside.
         elim (cases_eq t seat) [
           | inl e ↦
-              let here = put_there sheets seat sheet (subst (λ (n : ℕ). seat < n) (sym are.count) (subst (λ (n : ℕ). n < length config.clients) e inside)) in
-              subst (λ (n : ℕ). IsPlainOf config n (sheet_at (set sheets seat sheet) n).sight) (sym e) (subst (λ (g : SheetModel). IsPlainOf config seat g.sight) (sym here) plain)
-          | inr other ↦ subst (λ (g : SheetModel). IsPlainOf config t g.sight) (sym (put_elsewhere sheets seat t sheet other)) (are.plain t inside)
+              let here = put_there sheets seat sheet
+              (subst (λ (n : ℕ). seat < n) (sym are.count)
+              (subst (λ (n : ℕ). n < length config.clients) e inside)) in
+              subst (λ (n : ℕ). IsPlainOf config n (sheet_at (set sheets seat sheet) n).sight) (sym e)
+              (subst (λ (g : SheetModel). IsPlainOf config seat g.sight) (sym here) plain)
+          | inr other ↦ subst (λ (g : SheetModel). IsPlainOf config t g.sight)
+              (sym (put_elsewhere sheets seat t sheet other)) (are.plain t inside)
         ];
     room = λ t inside.
         elim (cases_eq t seat) [
           | inl e ↦
-              let here = put_there sheets seat sheet (subst (λ (n : ℕ). seat < n) (sym are.count) (subst (λ (n : ℕ). n < length config.clients) e inside)) in
-              subst (λ (n : ℕ). size_at config n ≤ (sheet_at (set sheets seat sheet) n).room) (sym e) (subst (λ (g : SheetModel). size_at config seat ≤ g.room) (sym here) room)
-          | inr other ↦ subst (λ (g : SheetModel). size_at config t ≤ g.room) (sym (put_elsewhere sheets seat t sheet other)) (are.room t inside)
+              let here = put_there sheets seat sheet
+              (subst (λ (n : ℕ). seat < n) (sym are.count)
+              (subst (λ (n : ℕ). n < length config.clients) e inside)) in
+              subst (λ (n : ℕ). size_at config n ≤ (sheet_at (set sheets seat sheet) n).room) (sym e)
+              (subst (λ (g : SheetModel). size_at config seat ≤ g.room) (sym here) room)
+          | inr other ↦ subst (λ (g : SheetModel). size_at config t ≤ g.room)
+              (sym (put_elsewhere sheets seat t sheet other)) (are.room t inside)
         ];
   }
 
@@ -65,14 +89,18 @@ module _ (config : Configuration) (sheets : List SheetModel) (seat : ℕ) (sheet
   words_with = map-set (λ (g : SheetModel). told_words g.sight.words) sheets seat sheet
 
 -- words that were there before
-pub same_words : (sheets : List (List ℕ)) (seat : ℕ) (words : List ℕ) → words ≡ sheet_in sheets seat → set sheets seat words ≡ sheets
+pub same_words : (sheets : List (List ℕ)) (seat : ℕ) (words : List ℕ) → words ≡ sheet_in sheets seat
+    → set sheets seat words ≡ sheets
 same_words sheets seat words is = ap (set sheets seat) is ∙ set-get_or sheets seat []
 
 -- ---- the host after a call
 
-module _ (d d1 d2 : DesktopModel SheetModel) (hollows : List SheetModel) (seat : ℕ) (call : Call) (r : Reply) (hollow own own' last : SheetModel) (kept : Option Entry)
-    (host : IsHost d hollows) (inside : seat < length d.state.sessions) (swapped : d1 ≡ with_sheet d seat hollow) (there : sheet_at hollows seat ≡ hollow) (out : slice_get d.glasses seat ≡ Some own)
-    (served : Serves seat call own' last d1 d2 r) (plain : IsPlainOf d.state.config seat own'.sight) (room : size_at d.state.config seat ≤ own'.room) (keep : KeepSources) where
+module _ (d d1 d2 : DesktopModel SheetModel) (hollows : List SheetModel) (seat : ℕ) (call : Call) (r : Reply)
+    (hollow own own' last : SheetModel) (kept : Option Entry)
+    (host : IsHost d hollows) (inside : seat < length d.state.sessions) (swapped : d1 ≡ with_sheet d seat hollow)
+    (there : sheet_at hollows seat ≡ hollow) (out : slice_get d.glasses seat ≡ Some own)
+    (served : Serves seat call own' last d1 d2 r) (plain : IsPlainOf d.state.config seat own'.sight)
+    (room : size_at d.state.config seat ≤ own'.room) (keep : KeepSources) where
   e : Entry
   e = entry.Call seat call r
 
@@ -97,27 +125,47 @@ module _ (d d1 d2 : DesktopModel SheetModel) (hollows : List SheetModel) (seat :
   agrees : Agrees d.state 0 (entry.Call seat call r)
   agrees = (inside, s0.reply)
 
-  painted : Painted d.state (entry.Call seat call r) (after d.state (entry.Call seat call r)) (glass_in (sights (set d.glasses seat own'))) (glass_in (sights (set d.glasses seat own'))) d.raw d2.raw
+  painted : Painted d.state (entry.Call seat call r) (after d.state (entry.Call seat call r))
+      (glass_in (sights (set d.glasses seat own'))) (glass_in (sights (set d.glasses seat own'))) d.raw d2.raw
   painted =
-      subst (λ (gs : List SheetModel). Painted d.state (entry.Call seat call r) (after d.state (entry.Call seat call r)) (glass_in (sights gs)) (glass_in (sights gs)) d.raw d2.raw) glasses_now
-      (subst (λ (s : State). Painted d.state (entry.Call seat call r) s (glass_in (sights d2.glasses)) (glass_in (sights d2.glasses)) d.raw d2.raw) s0.state s0.painted)
+      subst (λ (gs : List SheetModel). Painted d.state (entry.Call seat call r) (after d.state (entry.Call seat call r))
+      (glass_in (sights gs)) (glass_in (sights gs)) d.raw d2.raw) glasses_now
+      (subst (λ (s : State). Painted d.state (entry.Call seat call r) s (glass_in (sights d2.glasses))
+      (glass_in (sights d2.glasses)) d.raw d2.raw) s0.state s0.painted)
 
-  goes_on : ((k : ℕ) → dirty d.state (entry.Call seat call r) (after d.state (entry.Call seat call r)) (pixel d.state.config.width k) ≡ false
-      → word_from (sheet_in (sheets_of d.glasses)) (source_at (after d.state (entry.Call seat call r)) k) ≡ word_from (sheet_in (sheets_of (set d.glasses seat own'))) (source_at (after d.state (entry.Call seat call r)) k))
+  goes_on : ((k : ℕ) → dirty d.state (entry.Call seat call r) (after d.state (entry.Call seat call r))
+      (pixel d.state.config.width k) ≡ false
+      → word_from (sheet_in (sheets_of d.glasses)) (source_at (after d.state (entry.Call seat call r)) k)
+      ≡ word_from (sheet_in (sheets_of (set d.glasses seat own')))
+      (source_at (after d.state (entry.Call seat call r)) k))
       → IsHost d2 (set hollows seat last)
   goes_on stays =
-      let fresh = fresh_after d.state.config d.state (after d.state (entry.Call seat call r)) (entry.Call seat call r) (set d.glasses seat own') (sheet_in (sheets_of d.glasses)) d.raw d2.raw all painted host.fresh refl
+      let fresh = fresh_after d.state.config d.state (after d.state (entry.Call seat call r)) (entry.Call seat call r)
+      (set d.glasses seat own') (sheet_in (sheets_of d.glasses)) d.raw d2.raw all painted host.fresh refl
       (λ k clean. keep d.state 0 (entry.Call seat call r) (pixel d.state.config.width k) agrees clean) stays in
       record {
-        sheets = subst (λ (config : Configuration). AreSheets config d2.glasses) (sym config_stays) (subst (AreSheets d.state.config) (sym glasses_now) all);
-        hollow = subst (λ (config : Configuration). AreHollow config (set hollows seat last)) (sym config_stays) (subst (AreHollow d.state.config) (sym hollows_stay) host.hollow);
+        sheets = subst (λ (config : Configuration). AreSheets config d2.glasses) (sym config_stays)
+            (subst (AreSheets d.state.config) (sym glasses_now) all);
+        hollow = subst (λ (config : Configuration). AreHollow config (set hollows seat last)) (sym config_stays)
+            (subst (AreHollow d.state.config) (sym hollows_stay) host.hollow);
         fresh = subst (λ (s : State). IsFresh s (sheet_in (sheets_of d2.glasses)) d2.raw) (sym s0.state)
-            (subst (λ (gs : List SheetModel). IsFresh (after d.state (entry.Call seat call r)) (sheet_in (sheets_of gs)) d2.raw) (sym glasses_now) fresh);
+            (subst (λ (gs : List SheetModel). IsFresh (after d.state (entry.Call seat call r)) (sheet_in (sheets_of gs))
+            d2.raw) (sym glasses_now) fresh);
       }
 
-  pub called_now : ((k : ℕ) → dirty d.state (entry.Call seat call r) (after d.state (entry.Call seat call r)) (pixel d.state.config.width k) ≡ false
-      → word_from (sheet_in (sheets_of d.glasses)) (source_at (after d.state (entry.Call seat call r)) k) ≡ word_from (sheet_in (sheets_of (set d.glasses seat own'))) (source_at (after d.state (entry.Call seat call r)) k))
-      → WasCalled seat call r (record { state = d.state; sheets = set (sheets_of d.glasses) seat (told_words own'.sight.words); left = d.left; last = kept }) d2 (set hollows seat last)
+  pub called_now : ((k : ℕ) → dirty d.state (entry.Call seat call r) (after d.state (entry.Call seat call r))
+      (pixel d.state.config.width k) ≡ false
+      → word_from (sheet_in (sheets_of d.glasses)) (source_at (after d.state (entry.Call seat call r)) k)
+      ≡ word_from (sheet_in (sheets_of (set d.glasses seat own')))
+      (source_at (after d.state (entry.Call seat call r)) k))
+      → WasCalled seat call r (record {
+        state = d.state;
+        sheets =
+            set (sheets_of d.glasses) seat (told_words own'.sight.words);
+        left = d.left;
+        last = kept;
+      }) d2
+      (set hollows seat last)
   called_now stays =
       let replied = s0.reply in
       record {
@@ -134,25 +182,47 @@ module _ (d d1 d2 : DesktopModel SheetModel) (hollows : List SheetModel) (seat :
 -- ---- the call itself
 
 -- what was painted by a call with its own sheet is painted by all sheets, once it is put back
-pub painted_by_all : (s : State) (e : Entry) (d d2 d3 : DesktopModel SheetModel) (seat : ℕ) (own own' : SheetModel) → d2.glasses ≡ d.glasses → own' ≡ own → seat < length d.glasses
-    → d3 ≡ with_sheet d2 seat own' → Painted s e d2.state (glasses_of_call (sights d.glasses) seat own.sight) (glasses_of_call (sights d2.glasses) seat own'.sight) d.raw d2.raw
+pub painted_by_all : (s : State) (e : Entry) (d d2 d3 : DesktopModel SheetModel) (seat : ℕ) (own own' : SheetModel)
+    → d2.glasses ≡ d.glasses → own' ≡ own → seat < length d.glasses
+    → d3 ≡ with_sheet d2 seat own'
+    → Painted s e d2.state (glasses_of_call (sights d.glasses) seat own.sight)
+    (glasses_of_call (sights d2.glasses) seat own'.sight) d.raw d2.raw
     → Painted s e d3.state (glass_in (sights d3.glasses)) (glass_in (sights d3.glasses)) d.raw d3.raw
 painted_by_all s e d d2 d3 seat own own' stay own_stay inside put painted =
-    let before : glasses_of_call (sights d.glasses) seat own.sight ≡ glass_in (sights (set d2.glasses seat own')) = with_own d.glasses seat own inside ∙ (λ i. glass_in (sights (set (sym stay i) seat (sym own_stay i)))) in
-    let after_ : glasses_of_call (sights d2.glasses) seat own'.sight ≡ glass_in (sights (set d2.glasses seat own')) = with_own d2.glasses seat own' (subst (λ (gs : List SheetModel). seat < length gs) (sym stay) inside) in
-    subst (λ (x : DesktopModel SheetModel). Painted s e x.state (glass_in (sights x.glasses)) (glass_in (sights x.glasses)) d.raw x.raw) (sym put)
-    (subst (λ (f : ℕ → Sight). Painted s e d2.state (glass_in (sights (set d2.glasses seat own'))) f d.raw d2.raw) after_
-    (subst (λ (f : ℕ → Sight). Painted s e d2.state f (glasses_of_call (sights d2.glasses) seat own'.sight) d.raw d2.raw) before painted))
+    let before : glasses_of_call (sights d.glasses) seat own.sight ≡ glass_in (sights (set d2.glasses seat own')) =
+    with_own d.glasses seat own inside ∙ (λ i. glass_in (sights (set (sym stay i) seat (sym own_stay i)))) in
+    let after_ : glasses_of_call (sights d2.glasses) seat own'.sight ≡ glass_in (sights (set d2.glasses seat own')) =
+    with_own d2.glasses seat own' (subst (λ (gs : List SheetModel). seat < length gs) (sym stay) inside) in
+    subst (λ (x : DesktopModel SheetModel). Painted s e x.state (glass_in (sights x.glasses))
+    (glass_in (sights x.glasses)) d.raw x.raw) (sym put)
+    (subst (λ (f : ℕ → Sight). Painted s e d2.state (glass_in (sights (set d2.glasses seat own'))) f d.raw d2.raw)
+    after_
+    (subst (λ (f : ℕ → Sight). Painted s e d2.state f (glasses_of_call (sights d2.glasses) seat own'.sight) d.raw
+    d2.raw) before painted))
 
 -- a call that takes nothing over
-module _ (d d1 d2 : DesktopModel SheetModel) (hollows : List SheetModel) (seat : ℕ) (call : Call) (r : Reply) (hollow own last : SheetModel) (kept : Option Entry)
-    (host : IsHost d hollows) (inside : seat < length d.state.sessions) (long : length d.state.sessions ≡ length d.state.config.clients) (swapped : d1 ≡ with_sheet d seat hollow) (there : sheet_at hollows seat ≡ hollow)
+module _ (d d1 d2 : DesktopModel SheetModel) (hollows : List SheetModel) (seat : ℕ) (call : Call) (r : Reply)
+    (hollow own last : SheetModel) (kept : Option Entry)
+    (host : IsHost d hollows) (inside : seat < length d.state.sessions) (long : length d.state.sessions
+    ≡ length d.state.config.clients) (swapped : d1 ≡ with_sheet d seat hollow) (there : sheet_at hollows seat
+    ≡ hollow)
     (out : slice_get d.glasses seat ≡ Some own) (served : Serves seat call own last d1 d2 r) (keep : KeepSources) where
-  pub only_called : (h : HostModel) → record { state = d.state; sheets = sheets_of d.glasses; left = d.left; last = kept } ≡ h → WasCalled seat call r h d2 (set hollows seat last)
+  pub only_called : (h : HostModel)
+      → record { state = d.state; sheets = sheets_of d.glasses; left = d.left; last = kept } ≡ h
+      → WasCalled seat call r h d2 (set hollows seat last)
   only_called h view =
       let client : seat < length d.state.config.clients = subst (λ (n : ℕ). seat < n) long inside in
-      let done = called_now d d1 d2 hollows seat call r hollow own own last kept host inside swapped there out served (own_plain d.state.config d.glasses seat own host.sheets client out)
+      let done = called_now d d1 d2 hollows seat call r hollow own own last kept host inside swapped there out served
+      (own_plain d.state.config d.glasses seat own host.sheets client out)
       (own_room d.state.config d.glasses seat own host.sheets client out) keep
-      (λ k clean. ap (λ (gs : List SheetModel). word_from (sheet_in (sheets_of gs)) (source_at (after d.state (entry.Call seat call r)) k)) (sym (put_same d.glasses seat own (taken_out d.glasses seat own out)))) in
+      (λ k clean. ap (λ (gs : List SheetModel). word_from (sheet_in (sheets_of gs))
+      (source_at (after d.state (entry.Call seat call r)) k))
+      (sym (put_same d.glasses seat own (taken_out d.glasses seat own out)))) in
       subst (λ (x : HostModel). WasCalled seat call r x d2 (set hollows seat last))
-      ((λ i. record { state = d.state; sheets = same_words (sheets_of d.glasses) seat (told_words own.sight.words) (own_words d.glasses seat own out) i; left = d.left; last = kept }) ∙ view) done
+      ((λ i. record {
+        state = d.state;
+        sheets =
+            same_words (sheets_of d.glasses) seat (told_words own.sight.words) (own_words d.glasses seat own out) i;
+        left = d.left;
+        last = kept;
+      }) ∙ view) done

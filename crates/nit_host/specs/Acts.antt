@@ -4,7 +4,8 @@ use Rattle.nit_host.specs.Below.{Call, Device}
 use Rattle.nit_journal.specs.Steps.{Opens, Serves, Step}
 use Rattle.nit_events.specs.declared.call.Call.TheVariants as call
 use Rattle.nit_events.specs.declared.entry.Entry.TheVariants as entry
-use Rattle.nit_host.specs.Host.{HostModel, called, refreshed, reply_to, routed_of, told, unserved_call, unserved_input, unserved_refresh}
+use Rattle.nit_host.specs.Host.{HostModel, called, refreshed, reply_to, routed_of, told}
+use Rattle.nit_host.specs.Host.{unserved_call, unserved_input, unserved_refresh}
 use Rattle.nit_host.specs.Seats.{seated, unseated}
 
 -- a seat's client calls, or hands in words of a part of its buffer; the user does something; or a

@@ -21,7 +21,8 @@ pub use Rattle.nit_journal.specs.Steps.{IsFreeLabel, opened, relabelled, vacant_
 pub use Rattle.nit_look.specs.Look.{CoversChange, IsTouched, LiesOn}
 pub use Rattle.nit_overlay.specs.Frame.{frame}
 pub use Rattle.nit_paint.specs.Repaint.{no_sight}
-pub use Rattle.nit_rect.specs.Limits.{least_units, most_height, most_length, most_sessions, most_units, most_width}
+pub use Rattle.nit_rect.specs.Limits.{least_units, most_height, most_length, most_sessions}
+pub use Rattle.nit_rect.specs.Limits.{most_units, most_width}
 pub use Rattle.nit_rect.specs.Rectangle.{IsPlace, Rectangle, covers, rectangle, spans}
 pub use Rattle.nit_repaint.specs.Glasses.{glass_in}
 pub use Rattle.nit_report.specs.JournalText.{journal_text}

@@ -1,6 +1,9 @@
 -- What holds of a host: that no word of its screen is stale.
-use Rattle.std.specs.Prelude.{◌≡◌, ℕ, ◌<◌, ◌≤◌, List, length, map, slice_index, slice_index_or, None}
-use Rattle.nit_host.specs.Below.{Configuration, DesktopModel, Sight, State, member, no_sight, pixel_count, plain_sight, source_at, table_size, told_words, word_from}
+use Rattle.std.specs.Prelude.{◌≡◌, ℕ, ◌<◌, ◌≤◌, List, length, map, slice_index, slice_index_or}
+use Rattle.std.specs.Prelude.{None}
+use Rattle.nit_host.specs.Below.{Configuration, DesktopModel, Sight, State, member, no_sight}
+use Rattle.nit_host.specs.Below.{pixel_count, plain_sight, source_at, table_size, told_words}
+use Rattle.nit_host.specs.Below.{word_from}
 use Rattle.nit_host.specs.Host.{sheet_in}
 use Rattle.nit_host.specs.Sheet.{SheetModel, blank_sheet}
 

@@ -1,6 +1,8 @@
 -- The configuration that a plan of a screen and its seats makes, or why it makes none.
-use Rattle.std.specs.Prelude.{ℕ, ◌+◌, Bool, not, ◌&&◌, ◌||◌, nat_le, nat_lt, List, [], ◌∷◌, length, map, codes, Option, Some, None, if◌then◌else◌}
-use Rattle.nit_host.specs.Below.{Configuration, Member, enumerate_from, least_units, list_all, most_height, most_sessions, most_units, most_width}
+use Rattle.std.specs.Prelude.{ℕ, ◌+◌, Bool, not, ◌&&◌, ◌||◌, nat_le, nat_lt, List, [], ◌∷◌, length}
+use Rattle.std.specs.Prelude.{map, codes, Option, Some, None, if◌then◌else◌}
+use Rattle.nit_host.specs.Below.{Configuration, Member, enumerate_from, least_units, list_all}
+use Rattle.nit_host.specs.Below.{most_height, most_sessions, most_units, most_width}
 use Rattle.nit_host.specs.declared.planning.SeatPlan.{SeatPlan}
 use Rattle.nit_host.specs.declared.refusal.PlanError.{PlanError}
 use Rattle.nit_host.specs.declared.refusal.PlanError.TheVariants as plan_error
@@ -19,7 +21,8 @@ abbrev pub refused_plan : ℕ → ℕ → Bool → List SeatPlan → Option Plan
 refused_plan width height bar seats =
     if not (is_screen width height bar) then Some plan_error.Screen
     else if not (is_within 1 most_sessions (length seats)) then Some plan_error.Seats
-    else if not (list_all (λ s. is_within least_units most_units s.donation) seats) then Some plan_error.Donation
+    else if not (list_all (λ s. is_within least_units most_units s.donation) seats) then Some
+    plan_error.Donation
     else if not (list_all (λ s. nat_le s.layer 7) seats) then Some plan_error.Layer
     else None
 

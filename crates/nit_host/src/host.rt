@@ -1,7 +1,8 @@
 //! The server with the words of its clients.
 
 ghost use Rattle.std.specs.Prelude.{◌≡◌, ◌*◌, ◌<◌, All, length, ℕ};
-ghost use Rattle.nit_host.specs.Terms.{IsConfiguration, IsWord, ShowsLabels, frame, picture, scenery_of, sheet_in, size_at};
+ghost use Rattle.nit_host.specs.Terms.{IsConfiguration, IsWord, ShowsLabels, frame, picture};
+ghost use Rattle.nit_host.specs.Terms.{scenery_of, sheet_in, size_at};
 
 mod calls;
 mod handing;

@@ -3,7 +3,9 @@
 ghost use Rattle.std.specs.Prelude.{◌≡◌, ◌∷◌, ◌++◌, ◌<◌, List, length, ℕ};
 ghost use Rattle.nit_host.specs.Acts.{Act, after_acts, steps_of};
 ghost use Rattle.nit_host.specs.Terms.{HostModel};
-ghost use Rattle.nit_journal.specs.Terms.{AreLive, AreSteps, Gets, IsDown, Observation, after_steps, first_input, opening_of, projection, replies_from, replies_to, since_opening};
+ghost use Rattle.nit_journal.specs.Terms.{AreLive, AreSteps, Gets, IsDown, Observation};
+ghost use Rattle.nit_journal.specs.Terms.{after_steps, first_input, opening_of, projection};
+ghost use Rattle.nit_journal.specs.Terms.{replies_from, replies_to, since_opening};
 ghost use Rattle.nit_events.specs.declared.event.Event.TheVariants as event;
 ghost use Rattle.nit_events.specs.declared.event.Item.TheVariants as item;
 

@@ -31,7 +31,8 @@ pub enum Unseated {
 pub enum PlanError {
     /// Memory ran out.
     NoMemory,
-    /// The screen is not 1..=1024 pixels wide and 1..=768 high, or has a bar with fewer than 8 rows.
+    /// The screen is not 1..=1024 pixels wide and 1..=768 high, or has a bar with fewer than 8
+    /// rows.
     Screen,
     /// There are not 1 to 16 seats.
     Seats,

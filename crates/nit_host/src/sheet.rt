@@ -1,7 +1,9 @@
 //! The words of one seat, as they were handed in.
 
-ghost use Rattle.std.specs.Prelude.{◌≡◌, ◌+◌, ◌-◌, ◌*◌, ◌<◌, ◌≤◌, ◌%◌, ◌^◌, ◌++◌, All, IfOk, length, slice_index, vec_capacity, vec_len, ℕ};
-ghost use Rattle.nit_host.specs.Terms.{IsWord, SheetModel, blank_sheet, filled_up, handed_over, is_between, low_bytes, plain_sight, set_where, zeros};
+ghost use Rattle.std.specs.Prelude.{◌≡◌, ◌+◌, ◌-◌, ◌*◌, ◌<◌, ◌≤◌, ◌%◌, ◌^◌, ◌++◌, All, IfOk};
+ghost use Rattle.std.specs.Prelude.{length, slice_index, vec_capacity, vec_len, ℕ};
+ghost use Rattle.nit_host.specs.Terms.{IsWord, SheetModel, blank_sheet, filled_up, handed_over};
+ghost use Rattle.nit_host.specs.Terms.{is_between, low_bytes, plain_sight, set_where, zeros};
 
 use nit_rect::NoMemory;
 use nit_word::Glass;
@@ -11,9 +13,9 @@ use std::marker::Model;
 /// A word of a pixel is below this number.
 const WORDS: u32 = 1 << 24;
 
-/// The glass of a seat. Words from the first place that was never reached on are 0 and are not kept,
-/// so that a blank sheet takes no time, and one without room takes no memory: it is nothing but a
-/// size.
+/// The glass of a seat. Words from the first place that was never reached on are 0 and are not
+/// kept, so that a blank sheet takes no time, and one without room takes no memory: it is nothing
+/// but a size.
 #[derive(Drop)]
 pub(crate) struct Sheet {
     owner: u32,

@@ -1,6 +1,13 @@
 -- What it tells that a call is refused, and that no refusal meets it; and which replies are refusals.
-use Rattle.std.proofs.Common.{Bool, IfSome, List, None, Option, Some, [], false, length, nat_le, nat_lt, refl, subst, true, ℕ, ◌&&◌, ◌*◌, ◌∷◌, ◌≡◌, ◌≤◌}
-use Rattle.nit_journal.proofs.Basics.{Above, Back, Buffer, Call, Close, Destroy, Event, Front, Offset, Place, Refresh, Reply, Session, Status, Take, Title, Upgrade, View, accepted, answered, buffer_left, buffer_need, by_call, by_handle, by_quota, by_reserve, by_status, has_view, is_accepted, is_place, is_rectangle, is_side, is_title, leb-true, most_views, refusal, taking, unless, view_left, view_need, ◌orelse◌}
+use Rattle.std.proofs.Common.{Bool, IfSome, List, None, Option, Some, [], false, length, nat_le}
+use Rattle.std.proofs.Common.{nat_lt, refl, subst, true, ℕ, ◌&&◌, ◌*◌, ◌∷◌, ◌≡◌, ◌≤◌}
+use Rattle.nit_journal.proofs.Basics.{Above, Back, Buffer, Call, Close, Destroy, Event, Front}
+use Rattle.nit_journal.proofs.Basics.{Offset, Place, Refresh, Reply, Session, Status, Take, Title}
+use Rattle.nit_journal.proofs.Basics.{Upgrade, View, accepted, answered, buffer_left, buffer_need}
+use Rattle.nit_journal.proofs.Basics.{by_call, by_handle, by_quota, by_reserve, by_status, has_view}
+use Rattle.nit_journal.proofs.Basics.{is_accepted, is_place, is_rectangle, is_side, is_title}
+use Rattle.nit_journal.proofs.Basics.{leb-true, most_views, refusal, taking, unless, view_left}
+use Rattle.nit_journal.proofs.Basics.{view_need, ◌orelse◌}
 use Rattle.nit_journal.specs.Session.{serve}
 use Rattle.nit_events.specs.declared.call.Reply.TheVariants as reply
 use Rattle.nit_events.specs.declared.event.Status.TheVariants as status
@@ -64,14 +71,23 @@ of_quota need left = when (nat_le need left) (reply.OutOfQuota need left) refl
 
 of_call : (s : Session) (call : Call) → IsRefusal (by_call s call)
 unfolding IsRefusal
-of_call s (Buffer w h) = either (unless (is_side w && is_side h) reply.BadSize) (by_quota (buffer_need w h) (buffer_left s.donation (length s.handles))) (when (is_side w && is_side h) reply.BadSize refl) (of_quota (buffer_need w h) (buffer_left s.donation (length s.handles)))
-of_call s View = either (unless (nat_lt (length s.handles) most_views) reply.TooManyViews) (by_quota view_need (view_left s.donation (length s.handles) (s.bw * s.bh))) (when (nat_lt (length s.handles) most_views) reply.TooManyViews refl) (of_quota view_need (view_left s.donation (length s.handles) (s.bw * s.bh)))
-of_call s (Place v x y w h) = either (by_handle s v) (unless (is_rectangle x y w h) reply.BadRect) (of_handle s v) (when (is_rectangle x y w h) reply.BadRect refl)
-of_call s (Offset v ox oy) = either (by_handle s v) (unless (is_place ox && is_place oy) reply.BadRect) (of_handle s v) (when (is_place ox && is_place oy) reply.BadRect refl)
+of_call s (Buffer w h) = either (unless (is_side w && is_side h) reply.BadSize)
+    (by_quota (buffer_need w h) (buffer_left s.donation (length s.handles)))
+    (when (is_side w && is_side h) reply.BadSize refl)
+    (of_quota (buffer_need w h) (buffer_left s.donation (length s.handles)))
+of_call s View = either (unless (nat_lt (length s.handles) most_views) reply.TooManyViews)
+    (by_quota view_need (view_left s.donation (length s.handles) (s.bw * s.bh)))
+    (when (nat_lt (length s.handles) most_views) reply.TooManyViews refl)
+    (of_quota view_need (view_left s.donation (length s.handles) (s.bw * s.bh)))
+of_call s (Place v x y w h) = either (by_handle s v) (unless (is_rectangle x y w h) reply.BadRect) (of_handle s v)
+    (when (is_rectangle x y w h) reply.BadRect refl)
+of_call s (Offset v ox oy) = either (by_handle s v) (unless (is_place ox && is_place oy) reply.BadRect) (of_handle s v)
+    (when (is_place ox && is_place oy) reply.BadRect refl)
 of_call s (Front v) = of_handle s v
 of_call s (Back v) = of_handle s v
 of_call s (Above v n) = either (by_handle s v) (by_handle s n) (of_handle s v) (of_handle s n)
-of_call s (Title v text) = either (by_handle s v) (unless (is_title text) reply.BadTitle) (of_handle s v) (when (is_title text) reply.BadTitle refl)
+of_call s (Title v text) = either (by_handle s v) (unless (is_title text) reply.BadTitle) (of_handle s v)
+    (when (is_title text) reply.BadTitle refl)
 of_call s (Destroy v) = of_handle s v
 of_call s (Refresh x y w h) = when (is_rectangle x y w h) reply.BadRect refl
 of_call s Take = tt
@@ -80,7 +96,8 @@ of_call s Close = tt
 
 pub refused_reply : (s : Session) (call : Call) (r : Reply) → refusal s call ≡ Some r → is_accepted r ≡ false
 unfolding IsRefusal
-refused_reply s call r is = subst IsRefusal is (either (by_status s.status) (by_call s call) (of_status s.status) (of_call s call))
+refused_reply s call r is = subst IsRefusal is
+    (either (by_status s.status) (by_call s call) (of_status s.status) (of_call s call))
 
 -- ---- what an accepted call answers
 

@@ -1,6 +1,9 @@
 -- A device event gives at most three deliveries, and an entry keeps them all.
-use Rattle.std.proofs.Common.{Bool, List, None, Option, Some, [], arith, false, length, refl, true, ℕ, ◌&&◌, ◌++◌, ◌+◌, ◌==◌, ◌∷◌, ◌≡◌, ◌≤◌, if◌then◌else◌}
-use Rattle.nit_journal.proofs.Basics.{Configuration, Delivery, Device, Event, Flat, Kill, Mode, Xray, bar_rows, clicks_on, length-append, not, option_map, owner, point}
+use Rattle.std.proofs.Common.{Bool, List, None, Option, Some, [], arith, false, length, refl, true}
+use Rattle.std.proofs.Common.{ℕ, ◌&&◌, ◌++◌, ◌+◌, ◌==◌, ◌∷◌, ◌≡◌, ◌≤◌, if◌then◌else◌}
+use Rattle.nit_journal.proofs.Basics.{Configuration, Delivery, Device, Event, Flat, Kill, Mode}
+use Rattle.nit_journal.proofs.Basics.{Xray, bar_rows, clicks_on, length-append, not, option_map}
+use Rattle.nit_journal.proofs.Basics.{owner, point}
 use Rattle.nit_journal.specs.State.{route}
 use Rattle.nit_events.specs.declared.event.Event.TheVariants as event
 use Rattle.nit_events.specs.declared.device.Device.TheVariants as device
@@ -39,10 +42,12 @@ few_unless false s e = few_to s e
 
 few_hovering : (m : Mode) (pointed : Option ℕ) (i : Input.InputState) (e : Event) → Few 3 (Input.hovering m pointed i e)
 few_hovering Flat pointed i e =
-    few_more 2 3 (Input.hovering Flat pointed i e) (omega arith) (few_both 1 1 _ _ (few_unless (Input.is_same i.hover pointed) i.hover event.Leave) (few_to pointed e))
+    few_more 2 3 (Input.hovering Flat pointed i e) (omega arith)
+    (few_both 1 1 _ _ (few_unless (Input.is_same i.hover pointed) i.hover event.Leave) (few_to pointed e))
 few_hovering other pointed i e = omega arith
 
-few_moving : (held : List ℕ) (pointed : Option ℕ) (i : Input.InputState) (e : Event) → Few 3 (Input.moving held pointed i e)
+few_moving : (held : List ℕ) (pointed : Option ℕ) (i : Input.InputState) (e : Event)
+    → Few 3 (Input.moving held pointed i e)
 few_moving [] pointed i e = few_hovering i.mode pointed i e
 few_moving (k ∷ ks) pointed i e = few_more 1 3 (Input.moving (k ∷ ks) pointed i e) (omega arith) (few_to i.receiver e)
 
@@ -66,7 +71,8 @@ few_killing : (pointed : Option ℕ) (i : Input.InputState) → Few 3 (Input.kil
 few_killing None i = omega arith
 few_killing (Some s) i = omega arith
 
-few_first : (m : Mode) (clicks : Bool) (pointed : Option ℕ) (i : Input.InputState) (k : ℕ) → Few 3 (Input.first_press m clicks pointed i k)
+few_first : (m : Mode) (clicks : Bool) (pointed : Option ℕ) (i : Input.InputState) (k : ℕ)
+    → Few 3 (Input.first_press m clicks pointed i k)
 few_first Flat clicks pointed i k =
     few_either 3 (Input.is_button k) _ _
     (few_received pointed (event.Press k) (Input.focusing clicks pointed i) (few_focusing clicks pointed i))
@@ -74,11 +80,14 @@ few_first Flat clicks pointed i k =
 few_first Xray clicks pointed i k =
     few_either 3 (Input.is_button k) (Input.focusing clicks pointed i) (Input.ignored i)
     (few_more 2 3 (Input.focusing clicks pointed i) (omega arith) (few_focusing clicks pointed i)) (omega arith)
-few_first Kill clicks pointed i k = few_either 3 (k == Input.kill_button) (Input.killing pointed i) (Input.ignored i) (few_killing pointed i) (omega arith)
+few_first Kill clicks pointed i k = few_either 3 (k == Input.kill_button) (Input.killing pointed i) (Input.ignored i)
+    (few_killing pointed i) (omega arith)
 
-few_pressing : (held : List ℕ) (clicks : Bool) (pointed : Option ℕ) (i : Input.InputState) (k : ℕ) → Few 3 (Input.pressing held clicks pointed i k)
+few_pressing : (held : List ℕ) (clicks : Bool) (pointed : Option ℕ) (i : Input.InputState) (k : ℕ)
+    → Few 3 (Input.pressing held clicks pointed i k)
 few_pressing [] clicks pointed i k = few_first i.mode clicks pointed (Input.with_held i k) k
-few_pressing (j ∷ js) clicks pointed i k = few_more 1 3 (Input.pressing (j ∷ js) clicks pointed i k) (omega arith) (few_to i.receiver (event.Press k))
+few_pressing (j ∷ js) clicks pointed i k = few_more 1 3 (Input.pressing (j ∷ js) clicks pointed i k) (omega arith)
+    (few_to i.receiver (event.Press k))
 
 few_press : (clicks : Bool) (pointed : Option ℕ) (i : Input.InputState) (k : ℕ) → Few 3 (Input.press clicks pointed i k)
 few_press clicks pointed i k =
@@ -89,16 +98,20 @@ few_press clicks pointed i k =
 few_release : (i : Input.InputState) (k : ℕ) → Few 3 (Input.release i k)
 few_release i k =
     few_either 3 (Input.is_held i k) _ (Input.ignored i)
-    (few_more 1 3 (record { state = i; deliveries = Input.to i.receiver (event.Release k) }) (omega arith) (few_to i.receiver (event.Release k))) (omega arith)
+    (few_more 1 3 (record { state = i; deliveries = Input.to i.receiver (event.Release k) }) (omega arith)
+    (few_to i.receiver (event.Release k))) (omega arith)
 
-few_routed : (clicks : Bool) (pointed : Option ℕ) (i : Input.InputState) (dev : Device) → Few 3 (Input.routing clicks pointed i dev)
+few_routed : (clicks : Bool) (pointed : Option ℕ) (i : Input.InputState) (dev : Device)
+    → Few 3 (Input.routing clicks pointed i dev)
 few_routed clicks pointed i (device.Motion x y) = few_moving i.held pointed i (event.Motion i.x i.y)
 few_routed clicks pointed i (device.Wheel n) = few_moving i.held pointed i (event.Wheel n)
 few_routed clicks pointed i (device.Press k) = few_press clicks pointed i k
 few_routed clicks pointed i (device.Release k) = few_release i k
 
 -- an entry that keeps what was routed keeps all of it
-pub all_kept : (config : Configuration) (i : Input.InputState) (stack : List View) (dev : Device) → Input.deliveries_of (Input.routed_as (route config i stack dev).deliveries) ≡ (route config i stack dev).deliveries
+pub all_kept : (config : Configuration) (i : Input.InputState) (stack : List View) (dev : Device)
+    → Input.deliveries_of (Input.routed_as (route config i stack dev).deliveries)
+    ≡ (route config i stack dev).deliveries
 unfolding route
 all_kept config i stack dev =
     let moved = Input.pointer_after config.width config.height i dev in

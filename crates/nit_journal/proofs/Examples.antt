@@ -1,6 +1,14 @@
 -- Worked rows of one session and of a small journal, computed from the definitions.
-use Rattle.std.proofs.Common.{List, Some, [], arith, false, map, negsuc, pos, refl, suc, true, zero, ℕ, ◌++◌, ◌∷◌, ◌≡◌}
-use Rattle.nit_journal.proofs.Basics.{AreSteps, Bare, Buffer, Call, Calls, Close, Configuration, Destroy, Entry, IsFreeLabel, IsLegal, Member, Observation, Opens, Place, Refresh, Serves, Step, Take, Title, Upgrade, View, Word, after_steps, alone, codes, first_session, first_state, is_key, opened, opening_of, own_machine, point, replay, replies_to, routed_as, session, since_opening, source_of, still_configuration, to, under_pointer, vacant_state}
+use Rattle.std.proofs.Common.{List, Some, [], arith, false, map, negsuc, pos, refl, suc, true, zero}
+use Rattle.std.proofs.Common.{ℕ, ◌++◌, ◌∷◌, ◌≡◌}
+use Rattle.nit_journal.proofs.Basics.{AreSteps, Bare, Buffer, Call, Calls, Close, Configuration}
+use Rattle.nit_journal.proofs.Basics.{Destroy, Entry, IsFreeLabel, IsLegal, Member, Observation}
+use Rattle.nit_journal.proofs.Basics.{Opens, Place, Refresh, Serves, Step, Take, Title, Upgrade}
+use Rattle.nit_journal.proofs.Basics.{View, Word, after_steps, alone, codes, first_session}
+use Rattle.nit_journal.proofs.Basics.{first_state, is_key, opened, opening_of, own_machine, point}
+use Rattle.nit_journal.proofs.Basics.{replay, replies_to, routed_as, session, since_opening}
+use Rattle.nit_journal.proofs.Basics.{source_of, still_configuration, to, under_pointer}
+use Rattle.nit_journal.proofs.Basics.{vacant_state}
 use Rattle.nit_journal.specs.Session.{serve}
 use Rattle.nit_journal.specs.StackAfter.{stack_after_call}
 use Rattle.nit_journal.specs.State.{route}
@@ -13,7 +21,8 @@ use Rattle.nit_events.specs.declared.event.Status.TheVariants as status
 abbrev calls : List Call → List Observation
 calls xs = map (λ c. Calls c) xs
 
-three_views : alone 512 (calls (View ∷ View ∷ View ∷ [])) ≡ reply.Handle 1 ∷ reply.Handle 2 ∷ reply.OutOfQuota 256 0 ∷ []
+three_views : alone 512 (calls (View ∷ View ∷ View ∷ [])) ≡ reply.Handle 1 ∷ reply.Handle 2 ∷ reply.OutOfQuota 256 0
+    ∷ []
 unfolding serve
 three_views = refl
 
@@ -21,26 +30,32 @@ buffers : alone 512 (calls (Buffer 4 4 ∷ Buffer 8 8 ∷ [])) ≡ reply.Done �
 unfolding serve
 buffers = refl
 
-buffer_beside_view : alone 512 (calls (Buffer 4 4 ∷ View ∷ Buffer 8 8 ∷ [])) ≡ reply.Done ∷ reply.Handle 1 ∷ reply.OutOfQuota 512 256 ∷ []
+buffer_beside_view : alone 512 (calls (Buffer 4 4 ∷ View ∷ Buffer 8 8 ∷ [])) ≡ reply.Done ∷ reply.Handle 1
+    ∷ reply.OutOfQuota 512 256 ∷ []
 unfolding serve
 buffer_beside_view = refl
 
-handles_are_new : alone 8388608 (calls (View ∷ Destroy 1 ∷ View ∷ Place 1 (pos 0) (pos 0) 1 1 ∷ [])) ≡ reply.Handle 1 ∷ reply.Done ∷ reply.Handle 2 ∷ reply.NoSuchView 1 ∷ []
+handles_are_new : alone 8388608 (calls (View ∷ Destroy 1 ∷ View ∷ Place 1 (pos 0) (pos 0) 1 1 ∷ []))
+    ≡ reply.Handle 1 ∷ reply.Done ∷ reply.Handle 2 ∷ reply.NoSuchView 1 ∷ []
 unfolding serve
 handles_are_new = refl
 
-titles : alone 8388608 (calls (View ∷ Title 1 (codes "log 2") ∷ Title 1 (codes "Log") ∷ Title 1 (codes "abcdefghijklm") ∷ Title 2 [] ∷ []))
+titles : alone 8388608 (calls (View ∷ Title 1 (codes "log 2") ∷ Title 1 (codes "Log") ∷ Title 1 (codes "abcdefghijklm")
+    ∷ Title 2 [] ∷ []))
     ≡ reply.Handle 1 ∷ reply.Done ∷ reply.BadTitle ∷ reply.BadTitle ∷ reply.NoSuchView 2 ∷ []
 unfolding serve
 titles = refl
 
-ranges : alone 8388608 (calls (View ∷ Place 1 (pos 32767) (negsuc 32767) 32767 32767 ∷ Place 1 (pos 32768) (pos 0) 1 1 ∷ Refresh (pos 0) (pos 0) 32768 1 ∷ Buffer 4097 1 ∷ Buffer 0 1 ∷ Close ∷ Close ∷ Take ∷ []))
-    ≡ reply.Handle 1 ∷ reply.Done ∷ reply.BadRect ∷ reply.BadRect ∷ reply.BadSize ∷ reply.BadSize ∷ reply.Done ∷ reply.Closed ∷ reply.Closed ∷ []
+ranges : alone 8388608 (calls (View ∷ Place 1 (pos 32767) (negsuc 32767) 32767 32767 ∷ Place 1 (pos 32768) (pos 0) 1 1
+    ∷ Refresh (pos 0) (pos 0) 32768 1 ∷ Buffer 4097 1 ∷ Buffer 0 1 ∷ Close ∷ Close ∷ Take ∷ []))
+    ≡ reply.Handle 1 ∷ reply.Done ∷ reply.BadRect ∷ reply.BadRect ∷ reply.BadSize ∷ reply.BadSize ∷ reply.Done
+    ∷ reply.Closed ∷ reply.Closed ∷ []
 unfolding serve
 ranges = refl
 
 upgrades : alone 512 (calls (View ∷ View ∷ Upgrade 256 ∷ View ∷ Upgrade 257 ∷ Upgrade 256 ∷ Upgrade 1 ∷ []))
-    ≡ reply.Handle 1 ∷ reply.Handle 2 ∷ reply.Done ∷ reply.Handle 3 ∷ reply.NoReserve 257 256 ∷ reply.Done ∷ reply.NoReserve 1 0 ∷ []
+    ≡ reply.Handle 1 ∷ reply.Handle 2 ∷ reply.Done ∷ reply.Handle 3 ∷ reply.NoReserve 257 256 ∷ reply.Done
+    ∷ reply.NoReserve 1 0 ∷ []
 unfolding serve
 upgrades = refl
 
@@ -79,10 +94,14 @@ clicked =
 
 clicked_is_legal : IsLegal (still_configuration 8 4) clicked
 unfolding serve stack_after_call route
-clicked_is_legal = ((omega arith, refl), ((omega arith, refl), ((omega arith, refl), (refl, (refl, ((omega arith, refl), refl))))))
+clicked_is_legal = (
+  (omega arith, refl),
+  ((omega arith, refl), ((omega arith, refl), (refl, (refl, ((omega arith, refl), refl))))),
+)
 
 -- its own calls alone: the machine knows nothing of the user, and has no event to take
-clicked_by_itself : own_machine (still_configuration 8 4) 0 clicked ≡ record (first_session 8388608) { bw = 4; bh = 2; next = 2; handles = 1 ∷ [] }
+clicked_by_itself : own_machine (still_configuration 8 4) 0 clicked
+    ≡ record (first_session 8388608) { bw = 4; bh = 2; next = 2; handles = 1 ∷ [] }
 unfolding serve
 clicked_by_itself = refl
 
@@ -105,7 +124,8 @@ client label = record { label = label; donation = 512; script = codes "still"; l
 abbrev two_clients : Configuration
 two_clients = record (still_configuration 8 4) { clients = client (codes "log") ∷ client (codes "menu") ∷ [] }
 
--- the first session spends its donation and ends; it opens under another label, and has the donation and its handles anew
+-- the first session spends its donation and ends; it opens under another label, and has the donation and its handles
+-- anew
 abbrev opened_again : List Step
 opened_again =
     Serves (entry.Call 0 View (reply.Handle 1))
@@ -120,7 +140,22 @@ opened_again =
 
 are_steps : AreSteps (first_state two_clients) opened_again
 unfolding serve stack_after_call
-are_steps = ((0, (omega arith, refl)), ((0, (omega arith, refl)), ((0, (omega arith, refl)), ((0, (omega arith, refl)), ((0, (omega arith, refl)), ((omega arith, λ e. cc), ((0, (omega arith, refl)), ((0, (omega arith, refl)), tt))))))))
+are_steps = (
+  (0, (omega arith, refl)),
+  (
+    (0, (omega arith, refl)),
+    (
+      (0, (omega arith, refl)),
+      (
+        (0, (omega arith, refl)),
+        (
+          (0, (omega arith, refl)),
+          ((omega arith, λ e. cc), ((0, (omega arith, refl)), ((0, (omega arith, refl)), tt))),
+        ),
+      ),
+    ),
+  ),
+)
 
 replies_since_opening : replies_to 0 (since_opening 0 opened_again) ≡ reply.Handle 1 ∷ []
 replies_since_opening = refl
@@ -131,11 +166,13 @@ replies_of_the_other = refl
 opened_with : opening_of (first_state two_clients) 0 opened_again ≡ first_session 512
 opened_with = refl
 
-machine_since_opening : session (after_steps (first_state two_clients) opened_again) 0 ≡ record (first_session 512) { next = 2; handles = 1 ∷ [] }
+machine_since_opening : session (after_steps (first_state two_clients) opened_again) 0
+    ≡ record (first_session 512) { next = 2; handles = 1 ∷ [] }
 unfolding serve stack_after_call
 machine_since_opening = refl
 
-labels_then : map (λ m. m.label) (after_steps (first_state two_clients) opened_again).config.clients ≡ codes "clock" ∷ codes "menu" ∷ []
+labels_then : map (λ m. m.label) (after_steps (first_state two_clients) opened_again).config.clients
+    ≡ codes "clock" ∷ codes "menu" ∷ []
 unfolding serve stack_after_call
 labels_then = refl
 

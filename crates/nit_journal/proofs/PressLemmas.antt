@@ -1,6 +1,14 @@
 -- Each release that a session gets follows a press of the same code that it got, with no release of it between.
-use Rattle.nit_journal.proofs.Basics.{Call, Calls, Close, Configuration, Delivery, Device, Entry, Event, Flat, Gets, InputState, IsDown, IsLegal, Item, Kill, LegalFrom, Mode, Observation, Reply, Routing, State, Xray, after, bar_rows, clicks_on, either, eq-eqb, eqb-true, false≢true, first_state, input_after_call, is_accepted, is_release, items_to, list_any, not, option_map, or_from, or_parts, owner, point, projection, replay, replay_from}
-use Rattle.std.proofs.Common.{Bool, List, None, Option, Some, [], ap, append-nil, append_assoc, cond, false, filter, refl, subst, sym, true, ℕ, ◌&&◌, ◌++◌, ◌+◌, ◌==◌, ◌∙◌, ◌∷◌, ◌≡◌, if◌then◌else◌, ◌||◌}
+use Rattle.nit_journal.proofs.Basics.{Call, Calls, Close, Configuration, Delivery, Device, Entry}
+use Rattle.nit_journal.proofs.Basics.{Event, Flat, Gets, InputState, IsDown, IsLegal, Item, Kill}
+use Rattle.nit_journal.proofs.Basics.{LegalFrom, Mode, Observation, Reply, Routing, State, Xray}
+use Rattle.nit_journal.proofs.Basics.{after, bar_rows, clicks_on, either, eq-eqb, eqb-true}
+use Rattle.nit_journal.proofs.Basics.{false≢true, first_state, input_after_call, is_accepted}
+use Rattle.nit_journal.proofs.Basics.{is_release, items_to, list_any, not, option_map, or_from}
+use Rattle.nit_journal.proofs.Basics.{or_parts, owner, point, projection, replay, replay_from}
+use Rattle.std.proofs.Common.{Bool, List, None, Option, Some, [], ap, append-nil, append_assoc}
+use Rattle.std.proofs.Common.{cond, false, filter, refl, subst, sym, true, ℕ, ◌&&◌, ◌++◌, ◌+◌, ◌==◌}
+use Rattle.std.proofs.Common.{◌∙◌, ◌∷◌, ◌≡◌, if◌then◌else◌, ◌||◌}
 use Rattle.nit_journal.specs.State.{route}
 use Rattle.nit_events.specs.declared.event.Event.TheVariants as event
 use Rattle.nit_events.specs.declared.event.Item.TheVariants as item
@@ -27,51 +35,68 @@ abbrev pub Paired : ℕ → Bool → List Observation → Type 0
 Paired k b [] = Unit {0}
 Paired k b (m ∷ ms) = (is_release k m ≡ true → b ≡ true) × Paired k (next k m b) ms
 
-pub down_both : (k : ℕ) (b : Bool) (xs ys : List Observation) → down_after k b (xs ++ ys) ≡ down_after k (down_after k b xs) ys
+pub down_both : (k : ℕ) (b : Bool) (xs ys : List Observation)
+    → down_after k b (xs ++ ys) ≡ down_after k (down_after k b xs) ys
 down_both k b [] ys = refl
 down_both k b (x ∷ xs) ys = down_both k (next k x b) xs ys
 
-pub paired_both : (k : ℕ) (b : Bool) (xs ys : List Observation) → Paired k b xs → Paired k (down_after k b xs) ys → Paired k b (xs ++ ys)
+pub paired_both : (k : ℕ) (b : Bool) (xs ys : List Observation) → Paired k b xs → Paired k (down_after k b xs) ys
+    → Paired k b (xs ++ ys)
 paired_both k b [] ys p q = q
 paired_both k b (x ∷ xs) ys p q = (p.0, paired_both k (next k x b) xs ys p.1 q)
 
 -- where a release stands
-down_there : (k : ℕ) (b : Bool) (before rest : List Observation) → Paired k b (before ++ Gets (item.Event (event.Release k)) ∷ rest) → down_after k b before ≡ true
+down_there : (k : ℕ) (b : Bool) (before rest : List Observation)
+    → Paired k b (before ++ Gets (item.Event (event.Release k)) ∷ rest) → down_after k b before ≡ true
 down_there k b [] rest p = p.0 (eq-eqb k k refl)
 down_there k b (m ∷ before) rest p = down_there k (next k m b) before rest p.1
 
-none_both : (k : ℕ) (xs : List Observation) (m : Observation) → list_any (is_release k) xs ≡ false → is_release k m ≡ false → list_any (is_release k) (xs ++ m ∷ []) ≡ false
+none_both : (k : ℕ) (xs : List Observation) (m : Observation) → list_any (is_release k) xs ≡ false
+    → is_release k m ≡ false → list_any (is_release k) (xs ++ m ∷ []) ≡ false
 none_both k [] m p q = or_from (is_release k m) false q refl
 none_both k (x ∷ xs) m p q =
     let parts = or_parts (is_release k x) (list_any (is_release k) xs) p in
     or_from (is_release k x) (list_any (is_release k) (xs ++ m ∷ [])) parts.0 (none_both k xs m parts.1 q)
 
-still_down : (k : ℕ) (seen : List Observation) (m : Observation) → IsDown k seen → is_release k m ≡ false → IsDown k (seen ++ m ∷ [])
-still_down k seen m (early, late, is, none) q =
-    (early, late ++ m ∷ [], ap (λ (l : List Observation). l ++ m ∷ []) is ∙ append_assoc early (Gets (item.Event (event.Press k)) ∷ late) (m ∷ []), none_both k late m none q)
+still_down : (k : ℕ) (seen : List Observation) (m : Observation) → IsDown k seen → is_release k m ≡ false
+    → IsDown k (seen ++ m ∷ [])
+still_down k seen m (early, late, is, none) q = (
+  early,
+  late ++ m ∷ [],
+  ap (λ (l : List Observation). l ++ m ∷ []) is
+      ∙ append_assoc early (Gets (item.Event (event.Press k)) ∷ late) (m ∷ []),
+  none_both k late m none q,
+)
 
 -- one moment more
-more_down : (k : ℕ) (b : Bool) (seen : List Observation) (m : Observation) → (b ≡ true → IsDown k seen) → next k m b ≡ true → IsDown k (seen ++ m ∷ [])
+more_down : (k : ℕ) (b : Bool) (seen : List Observation) (m : Observation) → (b ≡ true → IsDown k seen)
+    → next k m b ≡ true → IsDown k (seen ++ m ∷ [])
 more_down k b seen (Gets (item.Event (event.Press j))) was e = go (j == k) refl e
   where
-    go : (c : Bool) → (j == k) ≡ c → (if c then true else b) ≡ true → IsDown k (seen ++ Gets (item.Event (event.Press j)) ∷ [])
+    go : (c : Bool) → (j == k) ≡ c → (if c then true else b) ≡ true
+        → IsDown k (seen ++ Gets (item.Event (event.Press j)) ∷ [])
     go true is t = (seen, [], ap (λ (n : ℕ). seen ++ Gets (item.Event (event.Press n)) ∷ []) (eqb-true j k is), refl)
     go false is t = still_down k seen (Gets (item.Event (event.Press j))) (was t) refl
 more_down k b seen (Gets (item.Event (event.Release j))) was e = go (j == k) refl e
   where
-    go : (c : Bool) → (j == k) ≡ c → (if c then false else b) ≡ true → IsDown k (seen ++ Gets (item.Event (event.Release j)) ∷ [])
+    go : (c : Bool) → (j == k) ≡ c → (if c then false else b) ≡ true
+        → IsDown k (seen ++ Gets (item.Event (event.Release j)) ∷ [])
     go true is t = cc
     go false is t = still_down k seen (Gets (item.Event (event.Release j))) (was t) is
 more_down k b seen other was e = still_down k seen other (was e) refl
 
-down_is : (k : ℕ) (b : Bool) (seen ms : List Observation) → (b ≡ true → IsDown k seen) → down_after k b ms ≡ true → IsDown k (seen ++ ms)
+down_is : (k : ℕ) (b : Bool) (seen ms : List Observation) → (b ≡ true → IsDown k seen) → down_after k b ms ≡ true
+    → IsDown k (seen ++ ms)
 down_is k b seen [] was e = subst (IsDown k) (sym (append-nil seen)) (was e)
 down_is k b seen (m ∷ ms) was e =
-    subst (IsDown k) (append_assoc seen (m ∷ []) ms) (down_is k (next k m b) (seen ++ m ∷ []) ms (more_down k b seen m was) e)
+    subst (IsDown k) (append_assoc seen (m ∷ []) ms)
+    (down_is k (next k m b) (seen ++ m ∷ []) ms (more_down k b seen m was) e)
 
 -- so where a release stands the code is down
-pub release_down : (k : ℕ) (ms before rest : List Observation) → Paired k false ms → ms ≡ before ++ Gets (item.Event (event.Release k)) ∷ rest → IsDown k before
-release_down k ms before rest paired is = down_is k false [] before (λ e. cc) (down_there k false before rest (subst (Paired k false) is paired))
+pub release_down : (k : ℕ) (ms before rest : List Observation) → Paired k false ms
+    → ms ≡ before ++ Gets (item.Event (event.Release k)) ∷ rest → IsDown k before
+release_down k ms before rest paired is =
+    down_is k false [] before (λ e. cc) (down_there k false before rest (subst (Paired k false) is paired))
 
 -- ---- one session and one code
 
@@ -110,12 +135,22 @@ ignored_aside i = record { calm = refl; held = refl; receiver = refl }
 focusing_aside : (clicks : Bool) (pointed : Option ℕ) (i : InputState) → IsAside i (Input.focusing clicks pointed i)
 focusing_aside clicks pointed i =
     either (IsAside i) (Input.takes_focus clicks pointed && not (Input.is_same pointed i.focus))
-    (record { state = record i { focus = pointed }; deliveries = Input.to i.focus event.FocusLeave ++ Input.to pointed event.FocusEnter }) (Input.ignored i)
-    (record { calm = calm_both (Input.to i.focus event.FocusLeave) (Input.to pointed event.FocusEnter) (calm_to i.focus event.FocusLeave refl) (calm_to pointed event.FocusEnter refl); held = refl; receiver = refl })
+    (record {
+      state = record i { focus = pointed };
+      deliveries =
+          Input.to i.focus event.FocusLeave ++ Input.to pointed event.FocusEnter;
+    }) (Input.ignored i)
+    (record {
+      calm = calm_both (Input.to i.focus event.FocusLeave) (Input.to pointed event.FocusEnter)
+          (calm_to i.focus event.FocusLeave refl) (calm_to pointed event.FocusEnter refl);
+      held = refl;
+      receiver = refl;
+    })
     (ignored_aside i)
 
 -- what is left of the held codes
-left_held : (k j : ℕ) (held : List ℕ) → list_any (λ y. y == k) (filter (λ y. not (y == j)) held) ≡ true → ((j == k) ≡ false) × (list_any (λ y. y == k) held ≡ true)
+left_held : (k j : ℕ) (held : List ℕ) → list_any (λ y. y == k) (filter (λ y. not (y == j)) held) ≡ true
+    → ((j == k) ≡ false) × (list_any (λ y. y == k) held ≡ true)
 left_held k j [] h = cc
 left_held k j (y ∷ ys) h = go (y == j) (y == k) refl refl h (left_held k j ys)
   where
@@ -123,13 +158,17 @@ left_held k j (y ∷ ys) h = go (y == j) (y == k) refl refl h (left_held k j ys)
     flip apart is true same = let e : (y == j) ≡ true = eq-eqb y j (eqb-true y k is ∙ sym (eqb-true j k same)) in cc
     flip apart is false same = refl
 
-    go : (a b : Bool) → (y == j) ≡ a → (y == k) ≡ b → list_any (λ z. z == k) (cond (not a) (y ∷ filter (λ z. not (z == j)) ys) (filter (λ z. not (z == j)) ys)) ≡ true
-        → (list_any (λ z. z == k) (filter (λ z. not (z == j)) ys) ≡ true → ((j == k) ≡ false) × (list_any (λ z. z == k) ys ≡ true))
+    go : (a b : Bool) → (y == j) ≡ a → (y == k) ≡ b
+        → list_any (λ z. z == k) (cond (not a) (y ∷ filter (λ z. not (z == j)) ys) (filter (λ z. not (z == j)) ys))
+        ≡ true
+        → (list_any (λ z. z == k) (filter (λ z. not (z == j)) ys) ≡ true → ((j == k) ≡ false)
+        × (list_any (λ z. z == k) ys ≡ true))
         → ((j == k) ≡ false) × ((b || list_any (λ z. z == k) ys) ≡ true)
     go true true p q h rest = let more = rest h in (more.0, refl)
     go true false p q h rest = rest h
     go false true p q h rest = (flip p q (j == k) refl, refl)
-    go false false p q h rest = rest (subst (λ (c : Bool). (c || list_any (λ z. z == k) (filter (λ z. not (z == j)) ys)) ≡ true) q h)
+    go false false p q h rest = rest
+        (subst (λ (c : Bool). (c || list_any (λ z. z == k) (filter (λ z. not (z == j)) ys)) ≡ true) q h)
 
 one_held : (k j : ℕ) (held : List ℕ) → held ≡ [] → list_any (λ y. y == k) (held ++ j ∷ []) ≡ true → (j == k) ≡ true
 one_held k j held none h = go (j == k) (subst (λ (l : List ℕ). list_any (λ y. y == k) (l ++ j ∷ []) ≡ true) none h)
@@ -138,11 +177,14 @@ one_held k j held none h = go (j == k) (subst (λ (l : List ℕ). list_any (λ y
     go true e = refl
     go false e = e
 
-last_held : (k j : ℕ) (held : List ℕ) → (j == k) ≡ false → list_any (λ y. y == k) (held ++ j ∷ []) ≡ true → list_any (λ y. y == k) held ≡ true
+last_held : (k j : ℕ) (held : List ℕ) → (j == k) ≡ false → list_any (λ y. y == k) (held ++ j ∷ []) ≡ true
+    → list_any (λ y. y == k) held ≡ true
 last_held k j [] apart h = subst (λ (b : Bool). (b || false) ≡ true) apart h
 last_held k j (y ∷ ys) apart h = go (y == k) h (last_held k j ys apart)
   where
-    go : (b : Bool) → (b || list_any (λ z. z == k) (ys ++ j ∷ [])) ≡ true → (list_any (λ z. z == k) (ys ++ j ∷ []) ≡ true → list_any (λ z. z == k) ys ≡ true) → (b || list_any (λ z. z == k) ys) ≡ true
+    go : (b : Bool) → (b || list_any (λ z. z == k) (ys ++ j ∷ [])) ≡ true
+        → (list_any (λ z. z == k) (ys ++ j ∷ []) ≡ true → list_any (λ z. z == k) ys ≡ true)
+        → (b || list_any (λ z. z == k) ys) ≡ true
     go true e rest = refl
     go false e rest = rest e
 
@@ -156,7 +198,8 @@ module _ (x k : ℕ) where
   items_both (d ∷ ds) es = go (d.sid == x) (items_both ds es)
     where
       go : (b : Bool) → items_to x (ds ++ es) ≡ items_to x ds ++ items_to x es
-          → (if b then Gets d.item ∷ items_to x (ds ++ es) else items_to x (ds ++ es)) ≡ (if b then Gets d.item ∷ items_to x ds else items_to x ds) ++ items_to x es
+          → (if b then Gets d.item ∷ items_to x (ds ++ es) else items_to x (ds ++ es))
+          ≡ (if b then Gets d.item ∷ items_to x ds else items_to x ds) ++ items_to x es
       go true e = ap (λ (l : List Observation). Gets d.item ∷ l) e
       go false e = e
 
@@ -165,16 +208,23 @@ module _ (x k : ℕ) where
   calm_one (item.Event (event.Release j)) b h = absurd (false≢true (sym h))
   calm_one other b h = (refl, refl)
 
-  calm_items : (ds : List Delivery) (b : Bool) → IsCalm ds → Paired k b (items_to x ds) × (down_after k b (items_to x ds) ≡ b)
+  calm_items : (ds : List Delivery) (b : Bool) → IsCalm ds → Paired k b (items_to x ds)
+      × (down_after k b (items_to x ds) ≡ b)
   calm_items [] b h = (tt, refl)
   calm_items (d ∷ ds) b h =
       let parts = or_parts (is_stroke d.item) (list_any (λ e. is_stroke e.item) ds) h in
       go (d.sid == x) (calm_one d.item b parts.0) (calm_items ds b parts.1)
     where
-      go : (c : Bool) → (is_release k (Gets d.item) ≡ false) × (next k (Gets d.item) b ≡ b) → Paired k b (items_to x ds) × (down_after k b (items_to x ds) ≡ b)
-          → Paired k b (if c then Gets d.item ∷ items_to x ds else items_to x ds) × (down_after k b (if c then Gets d.item ∷ items_to x ds else items_to x ds) ≡ b)
+      go : (c : Bool) → (is_release k (Gets d.item) ≡ false) × (next k (Gets d.item) b ≡ b) → Paired k b (items_to x ds)
+          × (down_after k b (items_to x ds) ≡ b)
+          → Paired k b (if c then Gets d.item ∷ items_to x ds else items_to x ds)
+          × (down_after k b (if c then Gets d.item ∷ items_to x ds else items_to x ds) ≡ b)
       go true one rest = (
-        ((λ e. absurd (false≢true (sym one.0 ∙ e))), subst (λ (a : Bool). Paired k a (items_to x ds)) (sym one.1) rest.0),
+        (
+          (λ e. absurd (false≢true (sym one.0 ∙ e))),
+          subst (λ (a : Bool). Paired k a (items_to x ds)) (sym one.1)
+              rest.0,
+        ),
         ap (λ (a : Bool). down_after k a (items_to x ds)) one.1 ∙ rest.1,
       )
       go false one rest = rest
@@ -182,21 +232,26 @@ module _ (x k : ℕ) where
   -- ---- the words of a device event
 
   abbrev IsStep : InputState → Routing → Type 0
-  IsStep i r = (b : Bool) → (Holds i → b ≡ true) → Paired k b (items_to x r.deliveries) × (Holds r.state → down_after k b (items_to x r.deliveries) ≡ true)
+  IsStep i r = (b : Bool) → (Holds i → b ≡ true) → Paired k b (items_to x r.deliveries)
+      × (Holds r.state → down_after k b (items_to x r.deliveries) ≡ true)
 
   calm : (i : InputState) (r : Routing) → IsCalm r.deliveries → (Holds r.state → Holds i) → IsStep i r
   calm i r h back = λ b was. let c = calm_items r.deliveries b h in (c.0, λ holds. c.1 ∙ was (back holds))
 
-  hovering : (m : Mode) (pointed : Option ℕ) (i : InputState) (e : Event) → is_stroke (item.Event e) ≡ false → IsStep i (Input.hovering m pointed i e)
+  hovering : (m : Mode) (pointed : Option ℕ) (i : InputState) (e : Event) → is_stroke (item.Event e) ≡ false
+      → IsStep i (Input.hovering m pointed i e)
   hovering Flat pointed i e h =
       calm i (Input.hovering Flat pointed i e)
       (calm_both (if Input.is_same i.hover pointed then [] else Input.to i.hover event.Leave) (Input.to pointed e)
-      (calm_unless (Input.is_same i.hover pointed) (Input.to i.hover event.Leave) (calm_to i.hover event.Leave refl)) (calm_to pointed e h)) (λ t. t)
+      (calm_unless (Input.is_same i.hover pointed) (Input.to i.hover event.Leave) (calm_to i.hover event.Leave refl))
+      (calm_to pointed e h)) (λ t. t)
   hovering other pointed i e h = calm i (Input.ignored i) refl (λ t. t)
 
-  moving : (held : List ℕ) (pointed : Option ℕ) (i : InputState) (e : Event) → is_stroke (item.Event e) ≡ false → IsStep i (Input.moving held pointed i e)
+  moving : (held : List ℕ) (pointed : Option ℕ) (i : InputState) (e : Event) → is_stroke (item.Event e) ≡ false
+      → IsStep i (Input.moving held pointed i e)
   moving [] pointed i e h = hovering i.mode pointed i e h
-  moving (j ∷ js) pointed i e h = calm i (record { state = i; deliveries = Input.to i.receiver e }) (calm_to i.receiver e h) (λ t. t)
+  moving (j ∷ js) pointed i e h =
+      calm i (record { state = i; deliveries = Input.to i.receiver e }) (calm_to i.receiver e h) (λ t. t)
 
   leaving : (m : Mode) (i : InputState) (new : Mode) → IsStep i (Input.leaving m i new)
   leaving Flat i new = calm i (Input.leaving Flat i new) (calm_to i.hover event.Leave refl) (λ t. t)
@@ -215,18 +270,21 @@ module _ (x k : ℕ) where
         | false ↦ tt
       ]
 
-  press_lowers : (s : Option ℕ) (j : ℕ) (b : Bool) → s ≡ Some x → down_after k b (items_to x (Input.to s (event.Press j))) ≡ (if j == k then true else b)
+  press_lowers : (s : Option ℕ) (j : ℕ) (b : Bool) → s ≡ Some x
+      → down_after k b (items_to x (Input.to s (event.Press j))) ≡ (if j == k then true else b)
   press_lowers s j b e =
       ap (λ (o : Option ℕ). down_after k b (items_to x (Input.to o (event.Press j)))) e
       ∙ ap (λ (c : Bool). down_after k b (if c then Gets (item.Event (event.Press j)) ∷ [] else [])) (eq-eqb x x refl)
 
   -- the first press
-  received : (i : InputState) (s : Option ℕ) (j : ℕ) (r : Routing) → IsCalm r.deliveries → (list_any (λ y. y == k) r.state.held ≡ true → (j == k) ≡ true) → IsStep i (Input.received s (event.Press j) r)
+  received : (i : InputState) (s : Option ℕ) (j : ℕ) (r : Routing) → IsCalm r.deliveries
+      → (list_any (λ y. y == k) r.state.held ≡ true → (j == k) ≡ true) → IsStep i (Input.received s (event.Press j) r)
   received i s j r h only = λ b was.
       let c = calm_items r.deliveries b h in
       let own = items_to x (Input.to s (event.Press j)) in
       let all = items_both r.deliveries (Input.to s (event.Press j)) in (
-        subst (Paired k b) (sym all) (paired_both k b (items_to x r.deliveries) own c.0 (press_pairs s j (down_after k b (items_to x r.deliveries)))),
+        subst (Paired k b) (sym all) (paired_both k b (items_to x r.deliveries) own c.0
+            (press_pairs s j (down_after k b (items_to x r.deliveries)))),
         λ holds. ap (down_after k b) all
             ∙ down_both k b (items_to x r.deliveries) own
             ∙ press_lowers s j (down_after k b (items_to x r.deliveries)) holds.0
@@ -240,35 +298,48 @@ module _ (x k : ℕ) where
   calm_killing None i = refl
   calm_killing (Some s) i = refl
 
-  calm_either : (b : Bool) (r t : Routing) → IsCalm r.deliveries → IsCalm t.deliveries → IsCalm (if b then r else t).deliveries
+  calm_either : (b : Bool) (r t : Routing) → IsCalm r.deliveries → IsCalm t.deliveries
+      → IsCalm (if b then r else t).deliveries
   calm_either b r t p q = either (λ z. IsCalm z.deliveries) b r t p q
 
-  first_press : (m : Mode) (clicks : Bool) (pointed : Option ℕ) (i : InputState) (j : ℕ) → i.held ≡ [] → IsStep i (Input.first_press m clicks pointed (Input.with_held i j) j)
+  first_press : (m : Mode) (clicks : Bool) (pointed : Option ℕ) (i : InputState) (j : ℕ) → i.held ≡ []
+      → IsStep i (Input.first_press m clicks pointed (Input.with_held i j) j)
   first_press Flat clicks pointed i j none =
       let now : InputState = Input.with_held i j in
       let click = Input.focusing clicks pointed now in
       let aside = focusing_aside clicks pointed now in
-      either (IsStep i) (Input.is_button j) (Input.received pointed (event.Press j) click) (Input.received now.focus (event.Press j) (Input.ignored now))
-      (received i pointed j click aside.calm (λ h. one_held k j i.held none (subst (λ (l : List ℕ). list_any (λ y. y == k) l ≡ true) aside.held h)))
+      either (IsStep i) (Input.is_button j) (Input.received pointed (event.Press j) click)
+      (Input.received now.focus (event.Press j) (Input.ignored now))
+      (received i pointed j click aside.calm
+      (λ h. one_held k j i.held none (subst (λ (l : List ℕ). list_any (λ y. y == k) l ≡ true) aside.held h)))
       (received i now.focus j (Input.ignored now) refl (one_held k j i.held none))
   first_press Xray clicks pointed i j none =
       let now : InputState = Input.with_held i j in
       nobody i (if Input.is_button j then Input.focusing clicks pointed now else Input.ignored now)
-      (calm_either (Input.is_button j) (Input.focusing clicks pointed now) (Input.ignored now) (focusing_aside clicks pointed now).calm refl)
+      (calm_either (Input.is_button j) (Input.focusing clicks pointed now) (Input.ignored now)
+      (focusing_aside clicks pointed now).calm refl)
   first_press Kill clicks pointed i j none =
       let now : InputState = Input.with_held i j in
       nobody i (if j == Input.kill_button then Input.killing pointed now else Input.ignored now)
-      (calm_either (j == Input.kill_button) (Input.killing pointed now) (Input.ignored now) (calm_killing pointed now) refl)
+      (calm_either (j == Input.kill_button) (Input.killing pointed now) (Input.ignored now) (calm_killing pointed now)
+      refl)
 
   -- a press while others are held
-  more_press : (i : InputState) (j : ℕ) → IsStep i (record { state = Input.with_held i j; deliveries = Input.to i.receiver (event.Press j) })
-  more_press i j = λ b was. (press_pairs i.receiver j b, λ holds. press_lowers i.receiver j b holds.0 ∙ go b was (j == k) refl holds)
+  more_press : (i : InputState) (j : ℕ)
+      → IsStep i (record { state = Input.with_held i j; deliveries = Input.to i.receiver (event.Press j) })
+  more_press i j = λ b was. (
+    press_pairs i.receiver j b,
+    λ holds. press_lowers i.receiver j b holds.0
+        ∙ go b was (j == k) refl holds,
+  )
     where
-      go : (b : Bool) → (Holds i → b ≡ true) → (c : Bool) → (j == k) ≡ c → Holds (Input.with_held i j) → (if c then true else b) ≡ true
+      go : (b : Bool) → (Holds i → b ≡ true) → (c : Bool) → (j == k) ≡ c → Holds (Input.with_held i j)
+          → (if c then true else b) ≡ true
       go b was true e holds = refl
       go b was false e holds = was (holds.0, last_held k j i.held e holds.1)
 
-  pressing : (held : List ℕ) (clicks : Bool) (pointed : Option ℕ) (i : InputState) (j : ℕ) → i.held ≡ held → IsStep i (Input.pressing held clicks pointed i j)
+  pressing : (held : List ℕ) (clicks : Bool) (pointed : Option ℕ) (i : InputState) (j : ℕ) → i.held ≡ held
+      → IsStep i (Input.pressing held clicks pointed i j)
   pressing [] clicks pointed i j is = first_press i.mode clicks pointed i j is
   pressing (y ∷ ys) clicks pointed i j is = more_press i j
 
@@ -276,10 +347,12 @@ module _ (x k : ℕ) where
   press clicks pointed i j =
       either (IsStep i) (j == Input.xray_key) _ _ (switching i.held i (Input.xray_mode i.mode))
       (either (IsStep i) (j == Input.kill_key) _ _ (switching i.held i (Input.kill_mode i.mode))
-      (either (IsStep i) (Input.is_held i j) (Input.ignored i) (Input.pressing i.held clicks pointed i j) (calm i (Input.ignored i) refl (λ t. t)) (pressing i.held clicks pointed i j refl)))
+      (either (IsStep i) (Input.is_held i j) (Input.ignored i) (Input.pressing i.held clicks pointed i j)
+      (calm i (Input.ignored i) refl (λ t. t)) (pressing i.held clicks pointed i j refl)))
 
   -- a release, to whom it goes
-  release_pairs : (s : Option ℕ) (j : ℕ) (b : Bool) → (s ≡ Some x → (j == k) ≡ true → b ≡ true) → Paired k b (items_to x (Input.to s (event.Release j)))
+  release_pairs : (s : Option ℕ) (j : ℕ) (b : Bool) → (s ≡ Some x → (j == k) ≡ true → b ≡ true)
+      → Paired k b (items_to x (Input.to s (event.Release j)))
   release_pairs None j b h = tt
   release_pairs (Some t) j b h = go (t == x) refl
     where
@@ -287,19 +360,26 @@ module _ (x k : ℕ) where
       go true e = ((λ is. h (ap (λ (n : ℕ). Some n) (eqb-true t x e)) is), tt)
       go false e = tt
 
-  release_lifts : (s : Option ℕ) (j : ℕ) (b : Bool) → s ≡ Some x → down_after k b (items_to x (Input.to s (event.Release j))) ≡ (if j == k then false else b)
+  release_lifts : (s : Option ℕ) (j : ℕ) (b : Bool) → s ≡ Some x
+      → down_after k b (items_to x (Input.to s (event.Release j))) ≡ (if j == k then false else b)
   release_lifts s j b e =
       ap (λ (o : Option ℕ). down_after k b (items_to x (Input.to o (event.Release j)))) e
       ∙ ap (λ (c : Bool). down_after k b (if c then Gets (item.Event (event.Release j)) ∷ [] else [])) (eq-eqb x x refl)
 
-  still_holds : (left : List ℕ) (i : InputState) → Holds (Input.letting_go left i) → (i.receiver ≡ Some x) × (list_any (λ y. y == k) left ≡ true)
+  still_holds : (left : List ℕ) (i : InputState) → Holds (Input.letting_go left i) → (i.receiver ≡ Some x)
+      × (list_any (λ y. y == k) left ≡ true)
   still_holds [] i h = let none = h.0 in cc
   still_holds (y ∷ ys) i h = h
 
   letting_go : (i : InputState) (j : ℕ) → Input.is_held i j ≡ true
-      → IsStep i (record { state = Input.letting_go (filter (λ y. not (y == j)) i.held) i; deliveries = Input.to i.receiver (event.Release j) })
+      → IsStep i (record {
+        state = Input.letting_go (filter (λ y. not (y == j)) i.held) i;
+        deliveries =
+            Input.to i.receiver (event.Release j);
+      })
   letting_go i j held = λ b was. (
-    release_pairs i.receiver j b (λ own same. was (own, subst (λ (n : ℕ). list_any (λ y. y == n) i.held ≡ true) (eqb-true j k same) held)),
+    release_pairs i.receiver j b (λ own same.
+        was (own, subst (λ (n : ℕ). list_any (λ y. y == n) i.held ≡ true) (eqb-true j k same) held)),
     λ holds.
         let still = still_holds (filter (λ y. not (y == j)) i.held) i holds in
         let more = left_held k j i.held still.1 in
@@ -310,11 +390,16 @@ module _ (x k : ℕ) where
   release i j = go (Input.is_held i j) refl
     where
       go : (b : Bool) → Input.is_held i j ≡ b
-          → IsStep i (if b then record { state = Input.letting_go (filter (λ y. not (y == j)) i.held) i; deliveries = Input.to i.receiver (event.Release j) } else Input.ignored i)
+          → IsStep i (if b then record {
+            state = Input.letting_go (filter (λ y. not (y == j)) i.held) i;
+            deliveries =
+                Input.to i.receiver (event.Release j);
+          } else Input.ignored i)
       go true e = letting_go i j e
       go false e = calm i (Input.ignored i) refl (λ t. t)
 
-  routing : (clicks : Bool) (pointed : Option ℕ) (i : InputState) (dev : Device) → IsStep i (Input.routing clicks pointed i dev)
+  routing : (clicks : Bool) (pointed : Option ℕ) (i : InputState) (dev : Device)
+      → IsStep i (Input.routing clicks pointed i dev)
   routing clicks pointed i (device.Motion h v) = moving i.held pointed i (event.Motion i.x i.y) refl
   routing clicks pointed i (device.Wheel n) = moving i.held pointed i (event.Wheel n) refl
   routing clicks pointed i (device.Press j) = press clicks pointed i j
@@ -327,7 +412,8 @@ module _ (x k : ℕ) where
   moved width height i (device.Press j) t = t
   moved width height i (device.Release j) t = t
 
-  route_step : (config : Configuration) (i : InputState) (stack : List View) (dev : Device) → IsStep i (route config i stack dev)
+  route_step : (config : Configuration) (i : InputState) (stack : List View) (dev : Device)
+      → IsStep i (route config i stack dev)
   unfolding route
   route_step config i stack dev = λ b was.
       let now = Input.pointer_after config.width config.height i dev in
@@ -352,12 +438,15 @@ module _ (x k : ℕ) where
   after_call sid Close r i t = after_close (is_accepted r) sid i t
   after_call sid other r i t = t
 
-  pub paired_from : (s : State) (taken : ℕ) (journal : List Entry) (b : Bool) → LegalFrom s taken journal → (Holds s.input → b ≡ true) → Paired k b (projection x journal)
+  pub paired_from : (s : State) (taken : ℕ) (journal : List Entry) (b : Bool) → LegalFrom s taken journal
+      → (Holds s.input → b ≡ true) → Paired k b (projection x journal)
   paired_from s taken [] b legal was = tt
   paired_from s taken (entry.Call sid call r ∷ rest) b legal was =
-      go (sid == x) (paired_from (after s (entry.Call sid call r)) taken rest b legal.1 (λ t. was (after_call sid call r s.input t)))
+      go (sid == x) (paired_from (after s (entry.Call sid call r)) taken rest b legal.1
+      (λ t. was (after_call sid call r s.input t)))
     where
-      go : (c : Bool) → Paired k b (projection x rest) → Paired k b (if c then Calls call ∷ projection x rest else projection x rest)
+      go : (c : Bool) → Paired k b (projection x rest)
+          → Paired k b (if c then Calls call ∷ projection x rest else projection x rest)
       go true p = ((λ e. cc), p)
       go false p = p
   paired_from s taken (entry.Input dev routed ∷ rest) b legal was =
@@ -365,18 +454,23 @@ module _ (x k : ℕ) where
       let step = route_step s.config s.input s.stack dev b was in
       let kept = entry_keeps_all s taken dev routed legal.0 in
       subst (λ (es : List Delivery). Paired k b (items_to x es ++ projection x rest)) (sym kept)
-      (paired_both k b (items_to x ds) (projection x rest) step.0 (paired_from (after s (entry.Input dev routed)) taken rest (down_after k b (items_to x ds)) legal.1 step.1))
+      (paired_both k b (items_to x ds) (projection x rest) step.0
+      (paired_from (after s (entry.Input dev routed)) taken rest (down_after k b (items_to x ds)) legal.1 step.1))
   paired_from s taken (entry.Shot number ∷ rest) b legal was = paired_from s (taken + 1) rest b legal.1 was
-  paired_from s taken (entry.Final ∷ rest) b legal was = subst (λ (js : List Entry). Paired k b (projection x js)) (sym legal) tt
+  paired_from s taken (entry.Final ∷ rest) b legal was =
+      subst (λ (js : List Entry). Paired k b (projection x js)) (sym legal) tt
 
   -- where the session receives what is held behind the journal, it is down for it
-  pub still_held : (s : State) (taken : ℕ) (journal : List Entry) (b : Bool) → LegalFrom s taken journal → (Holds s.input → b ≡ true) → Holds (replay_from s journal).input
+  pub still_held : (s : State) (taken : ℕ) (journal : List Entry) (b : Bool) → LegalFrom s taken journal
+      → (Holds s.input → b ≡ true) → Holds (replay_from s journal).input
       → down_after k b (projection x journal) ≡ true
   still_held s taken [] b legal was holds = was holds
   still_held s taken (entry.Call sid call r ∷ rest) b legal was holds =
-      go (sid == x) (still_held (after s (entry.Call sid call r)) taken rest b legal.1 (λ t. was (after_call sid call r s.input t)) holds)
+      go (sid == x) (still_held (after s (entry.Call sid call r)) taken rest b legal.1
+      (λ t. was (after_call sid call r s.input t)) holds)
     where
-      go : (c : Bool) → down_after k b (projection x rest) ≡ true → down_after k b (if c then Calls call ∷ projection x rest else projection x rest) ≡ true
+      go : (c : Bool) → down_after k b (projection x rest) ≡ true
+          → down_after k b (if c then Calls call ∷ projection x rest else projection x rest) ≡ true
       go true p = p
       go false p = p
   still_held s taken (entry.Input dev routed ∷ rest) b legal was holds =
@@ -388,12 +482,19 @@ module _ (x k : ℕ) where
       ∙ still_held (after s (entry.Input dev routed)) taken rest (down_after k b (items_to x ds)) legal.1 step.1 holds)
   still_held s taken (entry.Shot number ∷ rest) b legal was holds = still_held s (taken + 1) rest b legal.1 was holds
   still_held s taken (entry.Final ∷ rest) b legal was holds =
-      subst (λ (js : List Entry). Holds (replay_from s js).input → down_after k b (projection x js) ≡ true) (sym legal) was holds
+      subst (λ (js : List Entry). Holds (replay_from s js).input → down_after k b (projection x js) ≡ true) (sym legal)
+      was holds
 
-pub receiver_holds : (config : Configuration) (journal : List Entry) (x k : ℕ) → IsLegal config journal → let s = replay config journal in s.input.receiver ≡ Some x → Input.is_held s.input k ≡ true → IsDown k (projection x journal)
+pub receiver_holds : (config : Configuration) (journal : List Entry) (x k : ℕ) → IsLegal config journal
+    → let s = replay config journal in s.input.receiver ≡ Some x → Input.is_held s.input k ≡ true
+    → IsDown k (projection x journal)
 receiver_holds config journal x k legal = λ receives held.
-    down_is k false [] (projection x journal) (λ e. cc) (still_held x k (first_state config) 0 journal false legal (λ t. let none = t.0 in cc) (receives, held))
+    down_is k false [] (projection x journal) (λ e. cc)
+    (still_held x k (first_state config) 0 journal false legal (λ t. let none = t.0 in cc) (receives, held))
 
-pub releases_follow : (config : Configuration) (journal : List Entry) (s k : ℕ) (before rest : List Observation) → IsLegal config journal → projection s journal ≡ before ++ Gets (item.Event (event.Release k)) ∷ rest → IsDown k before
+pub releases_follow : (config : Configuration) (journal : List Entry) (s k : ℕ) (before rest : List Observation)
+    → IsLegal config journal → projection s journal ≡ before ++ Gets (item.Event (event.Release k)) ∷ rest
+    → IsDown k before
 releases_follow config journal s k before rest legal is =
-    release_down k (projection s journal) before rest (paired_from s k (first_state config) 0 journal false legal (λ t. let none = t.0 in cc)) is
+    release_down k (projection s journal) before rest
+    (paired_from s k (first_state config) 0 journal false legal (λ t. let none = t.0 in cc)) is

@@ -1,6 +1,14 @@
 -- Whom the user's input reaches.
-use Rattle.std.proofs.Common.{Bool, List, None, Option, Some, [], ap, arith, false, filter, inl, inr, refl, subst, sym, true, ℕ, ◌&&◌, ◌++◌, ◌==◌, ◌∙◌, ◌∷◌, ◌≡◌, ◌≢◌, ◌⊎◌, if◌then◌else◌, ◌||◌}
-use Rattle.nit_journal.proofs.Basics.{All, All-append, All-cons, All-nil, Call, Close, Configuration, Delivery, Device, Entry, Event, Flat, InputState, Kill, KillsPointed, Mode, Reply, Routing, State, TellsFocus, TellsLeave, Xray, after, and_parts, clicks_on, first_state, forget, input_after_call, is_accepted, is_key, is_mode_key, list_any, nat_tests, not, or_parts, replay, replay_from, under_pointer}
+use Rattle.std.proofs.Common.{Bool, List, None, Option, Some, [], ap, arith, false, filter, inl}
+use Rattle.std.proofs.Common.{inr, refl, subst, sym, true, ℕ, ◌&&◌, ◌++◌, ◌==◌, ◌∙◌, ◌∷◌, ◌≡◌, ◌≢◌}
+use Rattle.std.proofs.Common.{◌⊎◌, if◌then◌else◌, ◌||◌}
+use Rattle.nit_journal.proofs.Basics.{All, All-append, All-cons, All-nil, Call, Close}
+use Rattle.nit_journal.proofs.Basics.{Configuration, Delivery, Device, Entry, Event, Flat}
+use Rattle.nit_journal.proofs.Basics.{InputState, Kill, KillsPointed, Mode, Reply, Routing, State}
+use Rattle.nit_journal.proofs.Basics.{TellsFocus, TellsLeave, Xray, after, and_parts, clicks_on}
+use Rattle.nit_journal.proofs.Basics.{first_state, forget, input_after_call, is_accepted, is_key}
+use Rattle.nit_journal.proofs.Basics.{is_mode_key, list_any, nat_tests, not, or_parts, replay}
+use Rattle.nit_journal.proofs.Basics.{replay_from, under_pointer}
 use Rattle.nit_journal.specs.State.{route}
 use Rattle.nit_events.specs.declared.event.Event.TheVariants as event
 use Rattle.nit_events.specs.declared.event.Item.TheVariants as item
@@ -15,15 +23,18 @@ not_true true e = cc
 not_true false e = refl
 
 -- with nothing held, a code that is no mode key goes by the mode
-first_goes : (clicks : Bool) (pointed : Option ℕ) (i : InputState) (k : ℕ) → i.held ≡ [] → (k == Input.xray_key) ≡ false → (k == Input.kill_key) ≡ false
+first_goes : (clicks : Bool) (pointed : Option ℕ) (i : InputState) (k : ℕ) → i.held ≡ [] → (k == Input.xray_key) ≡ false
+    → (k == Input.kill_key) ≡ false
     → Input.press clicks pointed i k ≡ Input.first_press i.mode clicks pointed (Input.with_held i k) k
 first_goes clicks pointed i k none no_xray no_kill =
     let pressed = Input.pressing i.held clicks pointed i k in
     let new = if Input.is_held i k then Input.ignored i else pressed in
     let kill = Input.switching i.held i (Input.kill_mode i.mode) in
-    ap (λ (b : Bool). if b then Input.switching i.held i (Input.xray_mode i.mode) else if k == Input.kill_key then kill else new) no_xray
+    ap (λ (b : Bool). if b then Input.switching i.held i (Input.xray_mode i.mode) else if k == Input.kill_key then kill
+    else new) no_xray
     ∙ ap (λ (b : Bool). if b then kill else new) no_kill
-    ∙ ap (λ (held : List ℕ). if list_any (λ j. j == k) held then Input.ignored i else Input.pressing held clicks pointed i k) none
+    ∙ ap (λ (held : List ℕ). if list_any (λ j. j == k) held then Input.ignored i else Input.pressing held clicks pointed
+    i k) none
 
 key_goes : (clicks : Bool) (pointed : Option ℕ) (i : InputState) (k : ℕ) → i.mode ≡ Flat → i.held ≡ [] → is_key k ≡ true
     → (Input.press clicks pointed i k).deliveries ≡ Input.to i.focus (event.Press k)
@@ -33,41 +44,50 @@ key_goes clicks pointed i k flat none key =
     let now : InputState = Input.with_held i k in
     ap (λ (r : Routing). r.deliveries) (first_goes clicks pointed i k none modes.0 modes.1)
     ∙ ap (λ (m : Mode). (Input.first_press m clicks pointed now k).deliveries) flat
-    ∙ ap (λ (b : Bool). (if b then Input.received pointed (event.Press k) (Input.focusing clicks pointed now) else Input.received i.focus (event.Press k) (Input.ignored now)).deliveries)
+    ∙ ap (λ (b : Bool). (if b then Input.received pointed (event.Press k) (Input.focusing clicks pointed now) else
+    Input.received i.focus (event.Press k) (Input.ignored now)).deliveries)
     (not_true (Input.is_button k) parts.0)
 
 no_mode_key : (k : ℕ) → Input.is_button k ≡ true → ((k == Input.xray_key) ≡ false) × ((k == Input.kill_key) ≡ false)
 no_mode_key k button = (grind (arith, nat_tests), grind (arith, nat_tests))
 
-button_goes : (clicks : Bool) (pointed : Option ℕ) (i : InputState) (k : ℕ) → i.mode ≡ Flat → i.held ≡ [] → Input.is_button k ≡ true
-    → (Input.press clicks pointed i k).deliveries ≡ (Input.focusing clicks pointed (Input.with_held i k)).deliveries ++ Input.to pointed (event.Press k)
+button_goes : (clicks : Bool) (pointed : Option ℕ) (i : InputState) (k : ℕ) → i.mode ≡ Flat → i.held ≡ []
+    → Input.is_button k ≡ true
+    → (Input.press clicks pointed i k).deliveries ≡ (Input.focusing clicks pointed (Input.with_held i k)).deliveries
+    ++ Input.to pointed (event.Press k)
 button_goes clicks pointed i k flat none button =
     let modes = no_mode_key k button in
     let now : InputState = Input.with_held i k in
     ap (λ (r : Routing). r.deliveries) (first_goes clicks pointed i k none modes.0 modes.1)
     ∙ ap (λ (m : Mode). (Input.first_press m clicks pointed now k).deliveries) flat
-    ∙ ap (λ (b : Bool). (if b then Input.received pointed (event.Press k) (Input.focusing clicks pointed now) else Input.received i.focus (event.Press k) (Input.ignored now)).deliveries) button
+    ∙ ap (λ (b : Bool). (if b then Input.received pointed (event.Press k) (Input.focusing clicks pointed now) else
+    Input.received i.focus (event.Press k) (Input.ignored now)).deliveries) button
 
 -- ---- what is told of the focus
 
 abbrev Tells : Option ℕ → Option ℕ → Delivery → Type 0
-Tells focus pointed d = ((d.item ≡ item.Event event.FocusLeave) × (focus ≡ Some d.sid)) ⊎ ((d.item ≡ item.Event event.FocusEnter) × (pointed ≡ Some d.sid))
+Tells focus pointed d = ((d.item ≡ item.Event event.FocusLeave) × (focus ≡ Some d.sid))
+    ⊎ ((d.item ≡ item.Event event.FocusEnter) × (pointed ≡ Some d.sid))
 
 -- one event, to whom it goes
-one_to : (P : Delivery → Type 0) (s : Option ℕ) (e : Event) → ((t : ℕ) → s ≡ Some t → P (record { sid = t; item = item.Event e })) → All P (Input.to s e)
+one_to : (P : Delivery → Type 0) (s : Option ℕ) (e : Event)
+    → ((t : ℕ) → s ≡ Some t → P (record { sid = t; item = item.Event e })) → All P (Input.to s e)
 one_to P None e h = All-nil P
 one_to P (Some t) e h = All-cons P (record { sid = t; item = item.Event e }) [] (h t refl) (All-nil P)
 
-all_either : (P : Delivery → Type 0) (b : Bool) (r t : Routing) → All P r.deliveries → All P t.deliveries → All P (if b then r else t).deliveries
+all_either : (P : Delivery → Type 0) (b : Bool) (r t : Routing) → All P r.deliveries → All P t.deliveries
+    → All P (if b then r else t).deliveries
 all_either P true r t p q = p
 all_either P false r t p q = q
 
-focus_told : (clicks : Bool) (pointed : Option ℕ) (i : InputState) → All (Tells i.focus pointed) (Input.focusing clicks pointed i).deliveries
+focus_told : (clicks : Bool) (pointed : Option ℕ) (i : InputState)
+    → All (Tells i.focus pointed) (Input.focusing clicks pointed i).deliveries
 focus_told clicks pointed i =
     let P : Delivery → Type 0 = Tells i.focus pointed in
     all_either P (Input.takes_focus clicks pointed && not (Input.is_same pointed i.focus)) _ (Input.ignored i)
     (All-append P (Input.to i.focus event.FocusLeave) (Input.to pointed event.FocusEnter)
-    (one_to P i.focus event.FocusLeave (λ t e. inl (refl, e))) (one_to P pointed event.FocusEnter (λ t e. inr (refl, e))))
+    (one_to P i.focus event.FocusLeave (λ t e. inl (refl, e)))
+    (one_to P pointed event.FocusEnter (λ t e. inr (refl, e))))
     (All-nil P)
 
 -- ---- a mode key
@@ -79,23 +99,28 @@ leaving_tells : (m : Mode) (i : InputState) (new : Mode) → All (Leaves i.hover
 leaving_tells Flat i new = one_to (Leaves i.hover) i.hover event.Leave (λ t e. (refl, e))
 leaving_tells other i new = All-nil (Leaves i.hover)
 
-switching_tells : (held : List ℕ) (i : InputState) (new : Mode) → All (Leaves i.hover) (Input.switching held i new).deliveries
+switching_tells : (held : List ℕ) (i : InputState) (new : Mode)
+    → All (Leaves i.hover) (Input.switching held i new).deliveries
 switching_tells [] i new = leaving_tells i.mode i new
 switching_tells (k ∷ ks) i new = All-nil (Leaves i.hover)
 
-one_of_two : (P : Delivery → Type 0) (b c : Bool) (r t u : Routing) → (b || c) ≡ true → All P r.deliveries → All P t.deliveries → All P (if b then r else if c then t else u).deliveries
+one_of_two : (P : Delivery → Type 0) (b c : Bool) (r t u : Routing) → (b || c) ≡ true → All P r.deliveries
+    → All P t.deliveries → All P (if b then r else if c then t else u).deliveries
 one_of_two P true c r t u e p q = p
 one_of_two P false true r t u e p q = q
 one_of_two P false false r t u e p q = cc
 
-mode_key_tells : (clicks : Bool) (pointed : Option ℕ) (i : InputState) (k : ℕ) → is_mode_key k ≡ true → All (Leaves i.hover) (Input.press clicks pointed i k).deliveries
+mode_key_tells : (clicks : Bool) (pointed : Option ℕ) (i : InputState) (k : ℕ) → is_mode_key k ≡ true
+    → All (Leaves i.hover) (Input.press clicks pointed i k).deliveries
 mode_key_tells clicks pointed i k is =
-    one_of_two (Leaves i.hover) (k == Input.xray_key) (k == Input.kill_key) _ _ _ is (switching_tells i.held i (Input.xray_mode i.mode)) (switching_tells i.held i (Input.kill_mode i.mode))
+    one_of_two (Leaves i.hover) (k == Input.xray_key) (k == Input.kill_key) _ _ _ is
+    (switching_tells i.held i (Input.xray_mode i.mode)) (switching_tells i.held i (Input.kill_mode i.mode))
 
 -- ---- while something is held
 
 module _ (P : Delivery → Type 0) (i : InputState) (to_it : (e : Event) → All P (Input.to i.receiver e)) where
-  held_moving : (held : List ℕ) (pointed : Option ℕ) (e : Event) → held ≢ [] → All P (Input.moving held pointed i e).deliveries
+  held_moving : (held : List ℕ) (pointed : Option ℕ) (e : Event) → held ≢ []
+      → All P (Input.moving held pointed i e).deliveries
   held_moving [] pointed e some = absurd (some refl)
   held_moving (k ∷ ks) pointed e some = to_it e
 
@@ -103,11 +128,13 @@ module _ (P : Delivery → Type 0) (i : InputState) (to_it : (e : Event) → All
   held_switching [] new some = absurd (some refl)
   held_switching (k ∷ ks) new some = All-nil P
 
-  held_pressing : (held : List ℕ) (clicks : Bool) (pointed : Option ℕ) (k : ℕ) → held ≢ [] → All P (Input.pressing held clicks pointed i k).deliveries
+  held_pressing : (held : List ℕ) (clicks : Bool) (pointed : Option ℕ) (k : ℕ) → held ≢ []
+      → All P (Input.pressing held clicks pointed i k).deliveries
   held_pressing [] clicks pointed k some = absurd (some refl)
   held_pressing (j ∷ js) clicks pointed k some = to_it (event.Press k)
 
-  held_press : (clicks : Bool) (pointed : Option ℕ) (k : ℕ) → i.held ≢ [] → All P (Input.press clicks pointed i k).deliveries
+  held_press : (clicks : Bool) (pointed : Option ℕ) (k : ℕ) → i.held ≢ []
+      → All P (Input.press clicks pointed i k).deliveries
   held_press clicks pointed k some =
       all_either P (k == Input.xray_key) _ _ (held_switching i.held (Input.xray_mode i.mode) some)
       (all_either P (k == Input.kill_key) _ _ (held_switching i.held (Input.kill_mode i.mode) some)
@@ -116,7 +143,8 @@ module _ (P : Delivery → Type 0) (i : InputState) (to_it : (e : Event) → All
   let_go : (k : ℕ) → All P (Input.release i k).deliveries
   let_go k = all_either P (Input.is_held i k) _ (Input.ignored i) (to_it (event.Release k)) (All-nil P)
 
-  held_routed : (clicks : Bool) (pointed : Option ℕ) (dev : Device) → i.held ≢ [] → All P (Input.routing clicks pointed i dev).deliveries
+  held_routed : (clicks : Bool) (pointed : Option ℕ) (dev : Device) → i.held ≢ []
+      → All P (Input.routing clicks pointed i dev).deliveries
   held_routed clicks pointed (device.Motion x y) some = held_moving i.held pointed (event.Motion i.x i.y) some
   held_routed clicks pointed (device.Wheel n) some = held_moving i.held pointed (event.Wheel n) some
   held_routed clicks pointed (device.Press k) some = held_press clicks pointed k some
@@ -128,7 +156,8 @@ module _ (P : Delivery → Type 0) (i : InputState) (shut : i.mode ≢ Flat) (no
   none_told : (e : Event) → All P (Input.to i.receiver e)
   none_told e = subst (λ (o : Option ℕ). All P (Input.to o e)) (sym nobody) (All-nil P)
 
-  shut_hovering : (m : Mode) (pointed : Option ℕ) (e : Event) → m ≢ Flat → All P (Input.hovering m pointed i e).deliveries
+  shut_hovering : (m : Mode) (pointed : Option ℕ) (e : Event) → m ≢ Flat
+      → All P (Input.hovering m pointed i e).deliveries
   shut_hovering Flat pointed e no_flat = absurd (no_flat refl)
   shut_hovering other pointed e no_flat = All-nil P
 
@@ -144,24 +173,32 @@ module _ (P : Delivery → Type 0) (i : InputState) (shut : i.mode ≢ Flat) (no
   shut_switching [] new = shut_leaving i.mode new shut
   shut_switching (k ∷ ks) new = All-nil P
 
-  shut_pressing : (held : List ℕ) (clicks : Bool) (pointed : Option ℕ) (k : ℕ) → All P (Input.first_press i.mode clicks pointed (Input.with_held i k) k).deliveries
+  shut_pressing : (held : List ℕ) (clicks : Bool) (pointed : Option ℕ) (k : ℕ)
+      → All P (Input.first_press i.mode clicks pointed (Input.with_held i k) k).deliveries
       → All P (Input.pressing held clicks pointed i k).deliveries
   shut_pressing [] clicks pointed k first = first
   shut_pressing (j ∷ js) clicks pointed k first = none_told (event.Press k)
 
-  shut_routed : (clicks : Bool) (pointed : Option ℕ) (dev : Device) → ((k : ℕ) → dev ≡ device.Press k → All P (Input.first_press i.mode clicks pointed (Input.with_held i k) k).deliveries)
+  shut_routed : (clicks : Bool) (pointed : Option ℕ) (dev : Device)
+      → ((k : ℕ) → dev ≡ device.Press k
+      → All P (Input.first_press i.mode clicks pointed (Input.with_held i k) k).deliveries)
       → All P (Input.routing clicks pointed i dev).deliveries
   shut_routed clicks pointed (device.Motion x y) first = shut_moving i.held pointed (event.Motion i.x i.y)
   shut_routed clicks pointed (device.Wheel n) first = shut_moving i.held pointed (event.Wheel n)
   shut_routed clicks pointed (device.Press k) first =
       all_either P (k == Input.xray_key) _ _ (shut_switching i.held (Input.xray_mode i.mode))
       (all_either P (k == Input.kill_key) _ _ (shut_switching i.held (Input.kill_mode i.mode))
-      (all_either P (Input.is_held i k) (Input.ignored i) _ (All-nil P) (shut_pressing i.held clicks pointed k (first k refl))))
-  shut_routed clicks pointed (device.Release k) first = all_either P (Input.is_held i k) _ (Input.ignored i) (none_told (event.Release k)) (All-nil P)
+      (all_either P (Input.is_held i k) (Input.ignored i) _ (All-nil P)
+      (shut_pressing i.held clicks pointed k (first k refl))))
+  shut_routed clicks pointed (device.Release k) first =
+      all_either P (Input.is_held i k) _ (Input.ignored i) (none_told (event.Release k)) (All-nil P)
 
-first_in_xray : (m : Mode) (clicks : Bool) (pointed : Option ℕ) (i : InputState) (k : ℕ) → m ≡ Xray → All (Tells i.focus pointed) (Input.first_press m clicks pointed i k).deliveries
+first_in_xray : (m : Mode) (clicks : Bool) (pointed : Option ℕ) (i : InputState) (k : ℕ) → m ≡ Xray
+    → All (Tells i.focus pointed) (Input.first_press m clicks pointed i k).deliveries
 first_in_xray Flat clicks pointed i k is = cc
-first_in_xray Xray clicks pointed i k is = all_either (Tells i.focus pointed) (Input.is_button k) (Input.focusing clicks pointed i) (Input.ignored i) (focus_told clicks pointed i) (All-nil (Tells i.focus pointed))
+first_in_xray Xray clicks pointed i k is =
+    all_either (Tells i.focus pointed) (Input.is_button k) (Input.focusing clicks pointed i) (Input.ignored i)
+    (focus_told clicks pointed i) (All-nil (Tells i.focus pointed))
 first_in_xray Kill clicks pointed i k is = cc
 
 abbrev Kills : Option ℕ → Delivery → Type 0
@@ -169,12 +206,15 @@ Kills pointed d = (d.item ≡ item.Kill) × (pointed ≡ Some d.sid)
 
 killed : (pointed : Option ℕ) (i : InputState) → All (Kills pointed) (Input.killing pointed i).deliveries
 killed None i = All-nil (Kills None)
-killed (Some s) i = All-cons (Kills (Some s)) (record { sid = s; item = item.Kill }) [] (refl, refl) (All-nil (Kills (Some s)))
+killed (Some s) i = All-cons (Kills (Some s)) (record { sid = s; item = item.Kill }) [] (refl, refl)
+    (All-nil (Kills (Some s)))
 
-first_in_kill : (m : Mode) (clicks : Bool) (pointed : Option ℕ) (i : InputState) (k : ℕ) → m ≡ Kill → All (Kills pointed) (Input.first_press m clicks pointed i k).deliveries
+first_in_kill : (m : Mode) (clicks : Bool) (pointed : Option ℕ) (i : InputState) (k : ℕ) → m ≡ Kill
+    → All (Kills pointed) (Input.first_press m clicks pointed i k).deliveries
 first_in_kill Flat clicks pointed i k is = cc
 first_in_kill Xray clicks pointed i k is = cc
-first_in_kill Kill clicks pointed i k is = all_either (Kills pointed) (k == Input.kill_button) (Input.killing pointed i) (Input.ignored i) (killed pointed i) (All-nil (Kills pointed))
+first_in_kill Kill clicks pointed i k is = all_either (Kills pointed) (k == Input.kill_button) (Input.killing pointed i)
+    (Input.ignored i) (killed pointed i) (All-nil (Kills pointed))
 
 -- ---- nobody receives what is held where nothing is, nor in the modes Xray and Kill
 
@@ -193,11 +233,13 @@ quiet_either false r t p q = q
 quiet_none : (i : InputState) → i.receiver ≡ None → IsQuiet i
 quiet_none i none = record { idle = λ e. none; shut = λ e. none }
 
-quiet_hovering : (m : Mode) (pointed : Option ℕ) (i : InputState) (e : Event) → IsQuiet i → IsQuiet (Input.hovering m pointed i e).state
+quiet_hovering : (m : Mode) (pointed : Option ℕ) (i : InputState) (e : Event) → IsQuiet i
+    → IsQuiet (Input.hovering m pointed i e).state
 quiet_hovering Flat pointed i e q = record { idle = q.idle; shut = q.shut }
 quiet_hovering other pointed i e q = q
 
-quiet_moving : (held : List ℕ) (pointed : Option ℕ) (i : InputState) (e : Event) → IsQuiet i → IsQuiet (Input.moving held pointed i e).state
+quiet_moving : (held : List ℕ) (pointed : Option ℕ) (i : InputState) (e : Event) → IsQuiet i
+    → IsQuiet (Input.moving held pointed i e).state
 quiet_moving [] pointed i e q = quiet_hovering i.mode pointed i e q
 quiet_moving (k ∷ ks) pointed i e q = q
 
@@ -205,40 +247,59 @@ quiet_leaving : (m : Mode) (i : InputState) (new : Mode) → i.receiver ≡ None
 quiet_leaving Flat i new none = quiet_none (record i { mode = new; hover = None }) none
 quiet_leaving other i new none = quiet_none (record i { mode = new }) none
 
-quiet_switching : (held : List ℕ) (i : InputState) (new : Mode) → i.held ≡ held → IsQuiet i → IsQuiet (Input.switching held i new).state
+quiet_switching : (held : List ℕ) (i : InputState) (new : Mode) → i.held ≡ held → IsQuiet i
+    → IsQuiet (Input.switching held i new).state
 quiet_switching [] i new is q = quiet_leaving i.mode i new (q.idle is)
 quiet_switching (k ∷ ks) i new is q = q
 
 -- a click leaves the mode and what is held
-quiet_received : (s : Option ℕ) (e : Event) (r : Routing) → r.state.held ≢ [] → r.state.mode ≡ Flat → IsQuiet (Input.received s e r).state
+quiet_received : (s : Option ℕ) (e : Event) (r : Routing) → r.state.held ≢ [] → r.state.mode ≡ Flat
+    → IsQuiet (Input.received s e r).state
 quiet_received s e r some flat = record { idle = λ none. absurd (some none); shut = λ no_flat. absurd (no_flat flat) }
 
-focusing_stays : (clicks : Bool) (pointed : Option ℕ) (i : InputState) → ((Input.focusing clicks pointed i).state.held ≡ i.held) × ((Input.focusing clicks pointed i).state.mode ≡ i.mode)
+focusing_stays : (clicks : Bool) (pointed : Option ℕ) (i : InputState)
+    → ((Input.focusing clicks pointed i).state.held ≡ i.held) × ((Input.focusing clicks pointed i).state.mode ≡ i.mode)
 focusing_stays clicks pointed i = go (Input.takes_focus clicks pointed && not (Input.is_same pointed i.focus))
   where
-    go : (b : Bool) → ((if b then record { state = record i { focus = pointed }; deliveries = Input.to i.focus event.FocusLeave ++ Input.to pointed event.FocusEnter } else Input.ignored i).state.held ≡ i.held)
-        × ((if b then record { state = record i { focus = pointed }; deliveries = Input.to i.focus event.FocusLeave ++ Input.to pointed event.FocusEnter } else Input.ignored i).state.mode ≡ i.mode)
+    go : (b : Bool) → ((if b then record {
+      state = record i { focus = pointed };
+      deliveries =
+          Input.to i.focus event.FocusLeave ++ Input.to pointed event.FocusEnter;
+    } else Input.ignored i).state.held
+        ≡ i.held)
+        × ((if b then record {
+          state = record i { focus = pointed };
+          deliveries =
+              Input.to i.focus event.FocusLeave ++ Input.to pointed event.FocusEnter;
+        } else Input.ignored i).state.mode
+        ≡ i.mode)
     go true = (refl, refl)
     go false = (refl, refl)
 
-quiet_first : (m : Mode) (clicks : Bool) (pointed : Option ℕ) (i : InputState) (k : ℕ) → i.mode ≡ m → i.held ≢ [] → IsQuiet (Input.first_press m clicks pointed i k).state
+quiet_first : (m : Mode) (clicks : Bool) (pointed : Option ℕ) (i : InputState) (k : ℕ) → i.mode ≡ m → i.held ≢ []
+    → IsQuiet (Input.first_press m clicks pointed i k).state
 quiet_first Flat clicks pointed i k is some =
     let stays = focusing_stays clicks pointed i in
-    quiet_either (Input.is_button k) (Input.received pointed (event.Press k) (Input.focusing clicks pointed i)) (Input.received i.focus (event.Press k) (Input.ignored i))
-    (quiet_received pointed (event.Press k) (Input.focusing clicks pointed i) (λ none. some (sym stays.0 ∙ none)) (stays.1 ∙ is))
+    quiet_either (Input.is_button k) (Input.received pointed (event.Press k) (Input.focusing clicks pointed i))
+    (Input.received i.focus (event.Press k) (Input.ignored i))
+    (quiet_received pointed (event.Press k) (Input.focusing clicks pointed i) (λ none. some (sym stays.0 ∙ none))
+    (stays.1 ∙ is))
     (quiet_received i.focus (event.Press k) (Input.ignored i) some is)
 quiet_first Xray clicks pointed i k is some = record { idle = λ e. refl; shut = λ e. refl }
 quiet_first Kill clicks pointed i k is some = record { idle = λ e. refl; shut = λ e. refl }
 
-quiet_pressing : (held : List ℕ) (clicks : Bool) (pointed : Option ℕ) (i : InputState) (k : ℕ) → IsQuiet i → IsQuiet (Input.pressing held clicks pointed i k).state
-quiet_pressing [] clicks pointed i k q = quiet_first i.mode clicks pointed (Input.with_held i k) k refl (some_more i.held k)
+quiet_pressing : (held : List ℕ) (clicks : Bool) (pointed : Option ℕ) (i : InputState) (k : ℕ) → IsQuiet i
+    → IsQuiet (Input.pressing held clicks pointed i k).state
+quiet_pressing [] clicks pointed i k q =
+    quiet_first i.mode clicks pointed (Input.with_held i k) k refl (some_more i.held k)
 quiet_pressing (j ∷ js) clicks pointed i k q = record { idle = λ none. absurd (some_more i.held k none); shut = q.shut }
 
 quiet_letting_go : (held : List ℕ) (i : InputState) → IsQuiet i → IsQuiet (Input.letting_go held i)
 quiet_letting_go [] i q = record { idle = λ e. refl; shut = λ e. refl }
 quiet_letting_go (k ∷ ks) i q = record { idle = λ none. cc; shut = q.shut }
 
-quiet_routed : (clicks : Bool) (pointed : Option ℕ) (i : InputState) (dev : Device) → IsQuiet i → IsQuiet (Input.routing clicks pointed i dev).state
+quiet_routed : (clicks : Bool) (pointed : Option ℕ) (i : InputState) (dev : Device) → IsQuiet i
+    → IsQuiet (Input.routing clicks pointed i dev).state
 quiet_routed clicks pointed i (device.Motion x y) q = quiet_moving i.held pointed i (event.Motion i.x i.y) q
 quiet_routed clicks pointed i (device.Wheel n) q = quiet_moving i.held pointed i (event.Wheel n) q
 quiet_routed clicks pointed i (device.Press k) q =
@@ -247,14 +308,21 @@ quiet_routed clicks pointed i (device.Press k) q =
     (quiet_either (Input.is_held i k) (Input.ignored i) _ q (quiet_pressing i.held clicks pointed i k q)))
 quiet_routed clicks pointed i (device.Release k) q =
     let left = filter (λ j. not (j == k)) i.held in
-    quiet_either (Input.is_held i k) (record { state = Input.letting_go left i; deliveries = Input.to i.receiver (event.Release k) }) (Input.ignored i) (quiet_letting_go left i q) q
+    quiet_either (Input.is_held i k)
+    (record { state = Input.letting_go left i; deliveries = Input.to i.receiver (event.Release k) })
+    (Input.ignored i) (quiet_letting_go left i q) q
 
-quiet_pointer : (width height : ℕ) (i : InputState) (dev : Device) → IsQuiet i → IsQuiet (Input.pointer_after width height i dev)
+quiet_pointer : (width height : ℕ) (i : InputState) (dev : Device) → IsQuiet i
+    → IsQuiet (Input.pointer_after width height i dev)
 quiet_pointer width height i (device.Motion x y) q = record { idle = q.idle; shut = q.shut }
 quiet_pointer width height i other q = q
 
 quiet_forget : (i : InputState) (sid : ℕ) → IsQuiet i → IsQuiet (forget i sid)
-quiet_forget i sid q = record { idle = λ e. ap (Input.unless_it_is sid) (q.idle e); shut = λ e. ap (Input.unless_it_is sid) (q.shut e) }
+quiet_forget i sid q = record {
+  idle = λ e. ap (Input.unless_it_is sid) (q.idle e);
+  shut =
+      λ e. ap (Input.unless_it_is sid) (q.shut e);
+}
 
 quiet_call : (sid : ℕ) (call : Call) (r : Reply) (i : InputState) → IsQuiet i → IsQuiet (input_after_call sid call r i)
 quiet_call sid Close r i q = go (is_accepted r)
@@ -269,7 +337,8 @@ unfolding route
 quiet_input s dev q =
     let moved = Input.pointer_after s.config.width s.config.height s.input dev in
     let pointed = under_pointer (record s { input = moved }) in
-    quiet_routed (clicks_on s.config pointed) pointed moved dev (quiet_pointer s.config.width s.config.height s.input dev q)
+    quiet_routed (clicks_on s.config pointed) pointed moved dev
+    (quiet_pointer s.config.width s.config.height s.input dev q)
 
 quiet_after : (s : State) (e : Entry) → IsQuiet s.input → IsQuiet (after s e).input
 quiet_after s (entry.Call sid call r) q = quiet_call sid call r s.input q
@@ -286,12 +355,15 @@ quiet_behind config journal = quiet_along (first_state config) journal (record {
 
 -- ---- in a whole state
 
-pub keys_go : (s : State) (k : ℕ) → s.input.mode ≡ Flat → s.input.held ≡ [] → is_key k ≡ true → (route s.config s.input s.stack (device.Press k)).deliveries ≡ Input.to s.input.focus (event.Press k)
+pub keys_go : (s : State) (k : ℕ) → s.input.mode ≡ Flat → s.input.held ≡ [] → is_key k ≡ true
+    → (route s.config s.input s.stack (device.Press k)).deliveries ≡ Input.to s.input.focus (event.Press k)
 unfolding route
 keys_go s k flat none key = key_goes (clicks_on s.config (under_pointer s)) (under_pointer s) s.input k flat none key
 
 pub buttons_go : (s : State) (k : ℕ) → s.input.mode ≡ Flat → s.input.held ≡ [] → Input.is_button k ≡ true
-    → (told : List Delivery) × All (TellsFocus s) told × ((route s.config s.input s.stack (device.Press k)).deliveries ≡ told ++ Input.to (under_pointer s) (event.Press k))
+    → (told : List Delivery) × All (TellsFocus s) told
+    × ((route s.config s.input s.stack (device.Press k)).deliveries
+    ≡ told ++ Input.to (under_pointer s) (event.Press k))
 unfolding route
 buttons_go s k flat none button =
     let clicks = clicks_on s.config (under_pointer s) in (
@@ -300,37 +372,50 @@ buttons_go s k flat none button =
       button_goes clicks (under_pointer s) s.input k flat none button,
     )
 
-pub mode_keys_tell : (s : State) (k : ℕ) → is_mode_key k ≡ true → All (TellsLeave s) (route s.config s.input s.stack (device.Press k)).deliveries
+pub mode_keys_tell : (s : State) (k : ℕ) → is_mode_key k ≡ true
+    → All (TellsLeave s) (route s.config s.input s.stack (device.Press k)).deliveries
 unfolding route
 mode_keys_tell s k is = mode_key_tells (clicks_on s.config (under_pointer s)) (under_pointer s) s.input k is
 
-same_held : (width height : ℕ) (i : InputState) (dev : Device) → i.held ≢ [] → (Input.pointer_after width height i dev).held ≢ []
+same_held : (width height : ℕ) (i : InputState) (dev : Device) → i.held ≢ []
+    → (Input.pointer_after width height i dev).held ≢ []
 same_held width height i (device.Motion x y) some = some
 same_held width height i other some = some
 
-same_receiver : (width height : ℕ) (i : InputState) (dev : Device) (e : Event) → All (λ d. i.receiver ≡ Some d.sid) (Input.to (Input.pointer_after width height i dev).receiver e)
+same_receiver : (width height : ℕ) (i : InputState) (dev : Device) (e : Event)
+    → All (λ d. i.receiver ≡ Some d.sid) (Input.to (Input.pointer_after width height i dev).receiver e)
 same_receiver width height i (device.Motion x y) e = one_to (λ d. i.receiver ≡ Some d.sid) i.receiver e (λ t is. is)
 same_receiver width height i other e = one_to (λ d. i.receiver ≡ Some d.sid) i.receiver e (λ t is. is)
 
-pub held_goes : (s : State) (dev : Device) → s.input.held ≢ [] → All (λ d. s.input.receiver ≡ Some d.sid) (route s.config s.input s.stack dev).deliveries
+pub held_goes : (s : State) (dev : Device) → s.input.held ≢ []
+    → All (λ d. s.input.receiver ≡ Some d.sid) (route s.config s.input s.stack dev).deliveries
 unfolding route
 held_goes s dev some =
     let moved = Input.pointer_after s.config.width s.config.height s.input dev in
     let pointed = under_pointer (record s { input = moved }) in
-    held_routed (λ d. s.input.receiver ≡ Some d.sid) moved (same_receiver s.config.width s.config.height s.input dev) (clicks_on s.config pointed) pointed dev
+    held_routed (λ d. s.input.receiver ≡ Some d.sid) moved (same_receiver s.config.width s.config.height s.input dev)
+    (clicks_on s.config pointed) pointed dev
     (same_held s.config.width s.config.height s.input dev some)
 
 -- all but a press tells nobody, and a press leaves the pointer
 shut_goes : (P : Delivery → Type 0) (s : State) (dev : Device) → s.input.mode ≢ Flat → s.input.receiver ≡ None
-    → ((k : ℕ) → All P (Input.first_press s.input.mode (clicks_on s.config (under_pointer s)) (under_pointer s) (Input.with_held s.input k) k).deliveries)
+    → ((k : ℕ) → All P (Input.first_press s.input.mode (clicks_on s.config (under_pointer s)) (under_pointer s)
+    (Input.with_held s.input k) k).deliveries)
     → All P (route s.config s.input s.stack dev).deliveries
 unfolding route
 shut_goes P s (device.Motion x y) shut nobody first =
     let moved = Input.pointer_after s.config.width s.config.height s.input (device.Motion x y) in
-    shut_moving P moved shut nobody s.input.held (under_pointer (record s { input = moved })) (event.Motion moved.x moved.y)
-shut_goes P s (device.Wheel n) shut nobody first = shut_routed P s.input shut nobody (clicks_on s.config (under_pointer s)) (under_pointer s) (device.Wheel n) (λ k e. first k)
-shut_goes P s (device.Press k) shut nobody first = shut_routed P s.input shut nobody (clicks_on s.config (under_pointer s)) (under_pointer s) (device.Press k) (λ j e. first j)
-shut_goes P s (device.Release k) shut nobody first = shut_routed P s.input shut nobody (clicks_on s.config (under_pointer s)) (under_pointer s) (device.Release k) (λ j e. first j)
+    shut_moving P moved shut nobody s.input.held (under_pointer (record s { input = moved }))
+    (event.Motion moved.x moved.y)
+shut_goes P s (device.Wheel n) shut nobody first =
+    shut_routed P s.input shut nobody (clicks_on s.config (under_pointer s)) (under_pointer s) (device.Wheel n)
+    (λ k e. first k)
+shut_goes P s (device.Press k) shut nobody first =
+    shut_routed P s.input shut nobody (clicks_on s.config (under_pointer s)) (under_pointer s) (device.Press k)
+    (λ j e. first j)
+shut_goes P s (device.Release k) shut nobody first =
+    shut_routed P s.input shut nobody (clicks_on s.config (under_pointer s)) (under_pointer s) (device.Release k)
+    (λ j e. first j)
 
 xray_not_flat : (m : Mode) → m ≡ Xray → m ≢ Flat
 xray_not_flat m is flat = cc
@@ -338,16 +423,22 @@ xray_not_flat m is flat = cc
 kill_not_flat : (m : Mode) → m ≡ Kill → m ≢ Flat
 kill_not_flat m is flat = cc
 
-pub xray_tells : (config : Configuration) (journal : List Entry) (dev : Device) → let s = replay config journal in s.input.mode ≡ Xray → All (TellsFocus s) (route s.config s.input s.stack dev).deliveries
+pub xray_tells : (config : Configuration) (journal : List Entry) (dev : Device)
+    → let s = replay config journal in s.input.mode ≡ Xray
+    → All (TellsFocus s) (route s.config s.input s.stack dev).deliveries
 xray_tells config journal dev = λ is.
     let s = replay config journal in
     let shut = xray_not_flat s.input.mode is in
     shut_goes (TellsFocus s) s dev shut ((quiet_behind config journal).shut shut)
-    (λ k. first_in_xray s.input.mode (clicks_on s.config (under_pointer s)) (under_pointer s) (Input.with_held s.input k) k is)
+    (λ k. first_in_xray s.input.mode (clicks_on s.config (under_pointer s)) (under_pointer s)
+    (Input.with_held s.input k) k is)
 
-pub kill_tells : (config : Configuration) (journal : List Entry) (dev : Device) → let s = replay config journal in s.input.mode ≡ Kill → All (KillsPointed s) (route s.config s.input s.stack dev).deliveries
+pub kill_tells : (config : Configuration) (journal : List Entry) (dev : Device)
+    → let s = replay config journal in s.input.mode ≡ Kill
+    → All (KillsPointed s) (route s.config s.input s.stack dev).deliveries
 kill_tells config journal dev = λ is.
     let s = replay config journal in
     let shut = kill_not_flat s.input.mode is in
     shut_goes (KillsPointed s) s dev shut ((quiet_behind config journal).shut shut)
-    (λ k. first_in_kill s.input.mode (clicks_on s.config (under_pointer s)) (under_pointer s) (Input.with_held s.input k) k is)
+    (λ k. first_in_kill s.input.mode (clicks_on s.config (under_pointer s)) (under_pointer s)
+    (Input.with_held s.input k) k is)

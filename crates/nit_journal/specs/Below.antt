@@ -1,10 +1,15 @@
 -- The words of the library and of the crates below that are used here, and the crate's plain types.
-pub use Rattle.nit_config.specs.Configuration.{Configuration, bar_rows, donation_of, member, still_configuration}
+pub use Rattle.nit_config.specs.Configuration.{Configuration, bar_rows, donation_of, member}
+pub use Rattle.nit_config.specs.Configuration.{still_configuration}
 pub use Rattle.nit_config.specs.declared.config.Member.{Member}
-pub use Rattle.nit_events.specs.Input.{InputState, Routing, deliveries_of, first_input, forget, is_button, is_held, kill_key, pointer_after, routed_as, routing, to, xray_key}
+pub use Rattle.nit_events.specs.Input.{InputState, Routing, deliveries_of, first_input, forget}
+pub use Rattle.nit_events.specs.Input.{is_button, is_held, kill_key, pointer_after, routed_as}
+pub use Rattle.nit_events.specs.Input.{routing, to, xray_key}
 pub use Rattle.nit_events.specs.Ranges.{most_waiting}
 pub use Rattle.nit_events.specs.declared.call.Call.{Call}
-pub use Rattle.nit_events.specs.declared.call.Call.TheVariants.{Above, Back, Buffer, Close, Destroy, Front, Offset, Place, Refresh, Take, Title, Upgrade, View}
+pub use Rattle.nit_events.specs.declared.call.Call.TheVariants.{Above, Back, Buffer, Close, Destroy}
+pub use Rattle.nit_events.specs.declared.call.Call.TheVariants.{Front, Offset, Place, Refresh, Take}
+pub use Rattle.nit_events.specs.declared.call.Call.TheVariants.{Title, Upgrade, View}
 pub use Rattle.nit_events.specs.declared.call.Reply.{Reply}
 pub use Rattle.nit_events.specs.declared.device.Device.{Device}
 pub use Rattle.nit_events.specs.declared.device.Mode.{Mode}
@@ -19,10 +24,13 @@ pub use Rattle.nit_glyph.specs.Texts.{is_title}
 pub use Rattle.nit_rect.specs.Limits.{most_side}
 pub use Rattle.nit_rect.specs.Rectangle.{covers, is_place, is_rectangle, rectangle}
 pub use Rattle.nit_rect.specs.declared.point.Point.{Point}
-pub use Rattle.nit_slots.specs.Account.{buffer_left, buffer_need, most_views, room, view_left, view_need, view_slots}
+pub use Rattle.nit_slots.specs.Account.{buffer_left, buffer_need, most_views, room, view_left}
+pub use Rattle.nit_slots.specs.Account.{view_need, view_slots}
 pub use Rattle.nit_stack.specs.LabelPlaces.{is_view}
-pub use Rattle.nit_stack.specs.Orders.{changed, moved, put_above, put_again, put_back, put_front, without}
-pub use Rattle.nit_stack.specs.Sources.{Bare, PixelSource, Size, Word, in_bar, owner, point, source, source_under}
+pub use Rattle.nit_stack.specs.Orders.{changed, moved, put_above, put_again, put_back, put_front}
+pub use Rattle.nit_stack.specs.Orders.{without}
+pub use Rattle.nit_stack.specs.Sources.{Bare, PixelSource, Size, Word, in_bar, owner, point, source}
+pub use Rattle.nit_stack.specs.Sources.{source_under}
 pub use Rattle.std.specs.List.{insert, list_any}
 pub use Rattle.std.specs.List.Sorted.{IsNonDecreasing}
 pub use Rattle.std.specs.Prelude.{All, List, codes, not, option_map, slice_set, ℕ}

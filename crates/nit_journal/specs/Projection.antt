@@ -1,6 +1,7 @@
 -- What one session sees of a journal.
 use Rattle.std.specs.Prelude.{ℕ, ◌==◌, List, [], ◌∷◌, ◌++◌, map, sum, length, if◌then◌else◌}
-use Rattle.nit_journal.specs.Below.{Call, Configuration, Delivery, Entry, Item, Reply, deliveries_of, donation_of, view_slots}
+use Rattle.nit_journal.specs.Below.{Call, Configuration, Delivery, Entry, Item, Reply}
+use Rattle.nit_journal.specs.Below.{deliveries_of, donation_of, view_slots}
 use Rattle.nit_events.specs.declared.entry.Entry.TheVariants as entry
 use Rattle.nit_journal.specs.Session.{Session, first_session, serve, after_calls, receive}
 use Rattle.nit_journal.specs.State.{State}

@@ -1,6 +1,11 @@
 -- The machine of one session. It knows no other session, no stack and no slots.
-use Rattle.std.specs.Prelude.{ℕ, ◌+◌, ◌-◌, ◌*◌, Bool, ◌&&◌, not, nat_lt, nat_le, ◌==◌, List, [], ◌∷◌, ◌++◌, length, filter, fold, Option, Some, None, if◌then◌else◌}
-use Rattle.nit_journal.specs.Below.{Above, Back, Buffer, Call, Close, Destroy, Event, Front, Item, Offset, Place, Refresh, Reply, Status, Take, Title, Upgrade, View, buffer_left, buffer_need, is_place, is_rectangle, is_title, list_any, most_side, most_views, most_waiting, room, view_left, view_need}
+use Rattle.std.specs.Prelude.{ℕ, ◌+◌, ◌-◌, ◌*◌, Bool, ◌&&◌, not, nat_lt, nat_le, ◌==◌, List, []}
+use Rattle.std.specs.Prelude.{◌∷◌, ◌++◌, length, filter, fold, Option, Some, None, if◌then◌else◌}
+use Rattle.nit_journal.specs.Below.{Above, Back, Buffer, Call, Close, Destroy, Event, Front, Item}
+use Rattle.nit_journal.specs.Below.{Offset, Place, Refresh, Reply, Status, Take, Title, Upgrade}
+use Rattle.nit_journal.specs.Below.{View, buffer_left, buffer_need, is_place, is_rectangle}
+use Rattle.nit_journal.specs.Below.{is_title, list_any, most_side, most_views, most_waiting, room}
+use Rattle.nit_journal.specs.Below.{view_left, view_need}
 use Rattle.nit_events.specs.declared.event.Item.TheVariants as item
 use Rattle.nit_events.specs.declared.event.Status.TheVariants as status
 use Rattle.nit_events.specs.declared.call.Reply.TheVariants as reply

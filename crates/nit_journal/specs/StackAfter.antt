@@ -1,6 +1,8 @@
 -- The stack of all views after an entry of the journal.
 use Rattle.std.specs.Prelude.{ℕ, pos, Bool, true, false, ◌==◌, List, [], ◌∷◌, if◌then◌else◌}
-use Rattle.nit_journal.specs.Below.{Above, Back, Call, Close, Delivery, Destroy, Front, Item, Offset, Place, Reply, Title, View, changed, is_view, moved, put_above, put_back, put_front, rectangle, without}
+use Rattle.nit_journal.specs.Below.{Above, Back, Call, Close, Delivery, Destroy, Front, Item}
+use Rattle.nit_journal.specs.Below.{Offset, Place, Reply, Title, View, changed, is_view, moved}
+use Rattle.nit_journal.specs.Below.{put_above, put_back, put_front, rectangle, without}
 use Rattle.nit_events.specs.declared.event.Item.TheVariants as item
 use Rattle.nit_events.specs.declared.call.Reply.TheVariants as reply
 use Rattle.nit_stack.specs.declared.view.View.{View as ViewOf}

@@ -1,6 +1,10 @@
 -- The state that the entries of a journal lead to.
-use Rattle.std.specs.Prelude.{ℕ, Bool, false, List, [], ◌∷◌, map, slice_index_or, slice_set, Option, Some, None, option_map, if◌then◌else◌, ◌≡◌, ◌⊎◌, true}
-use Rattle.nit_journal.specs.Below.{Call, Close, Configuration, Delivery, Device, Entry, Flat, InputState, PixelSource, Point, Reply, Routing, Size, Xray, bar_rows, first_input, forget, is_button, member, owner, point, pointer_after, routing, source}
+use Rattle.std.specs.Prelude.{ℕ, Bool, false, List, [], ◌∷◌, map, slice_index_or, slice_set, Option}
+use Rattle.std.specs.Prelude.{Some, None, option_map, if◌then◌else◌, ◌≡◌, ◌⊎◌, true}
+use Rattle.nit_journal.specs.Below.{Call, Close, Configuration, Delivery, Device, Entry, Flat}
+use Rattle.nit_journal.specs.Below.{InputState, PixelSource, Point, Reply, Routing, Size, Xray}
+use Rattle.nit_journal.specs.Below.{bar_rows, first_input, forget, is_button, member, owner, point}
+use Rattle.nit_journal.specs.Below.{pointer_after, routing, source}
 use Rattle.nit_events.specs.declared.device.Device.TheVariants as device
 use Rattle.nit_events.specs.declared.entry.Entry.TheVariants as entry
 use Rattle.nit_stack.specs.declared.view.View.{View}

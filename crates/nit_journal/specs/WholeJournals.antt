@@ -1,6 +1,7 @@
 -- Journals that are whole for what the clients and the user are to do. What one of them is to do is
 -- a list of pairs: the number of a phase, and what is done in it.
-use Rattle.std.specs.Prelude.{◌≡◌, ℕ, ◌<◌, ◌==◌, List, [], ◌∷◌, ◌++◌, map, length, slice_index_or, slice_set, if◌then◌else◌}
+use Rattle.std.specs.Prelude.{◌≡◌, ℕ, ◌<◌, ◌==◌, List, [], ◌∷◌, ◌++◌, map, length, slice_index_or}
+use Rattle.std.specs.Prelude.{slice_set, if◌then◌else◌}
 use Rattle.nit_journal.specs.Below.{Call, Device, Entry, IsNonDecreasing}
 use Rattle.nit_events.specs.declared.entry.Entry.TheVariants as entry
 

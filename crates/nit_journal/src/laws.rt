@@ -1,7 +1,19 @@
 //! Laws of journals, over plain lists.
 
-ghost use Rattle.std.specs.Prelude.{All, ◌≡◌, ◌≢◌, ◌+◌, ◌++◌, ◌∷◌, [], ℕ, List, length, ◌<◌, ◌⊎◌, true, map, Some, None};
-ghost use Rattle.nit_journal.specs.Terms.{Agrees, AreLive, AreSteps, Call, Close, Configuration, Delivery, Device, Entry, Event, Flat, Gets, InputState, IsClickAt, IsDown, IsKillAlone, IsLegal, IsLive, IsOpen, Kill, KillsPointed, LegalFrom, Observation, Reply, Routed, State, Step, Take, TellsFocus, TellsLeave, Xray, action_of, after, after_observations, after_steps, alone, alone_machine, deliveries_of, donation_of, first_input, first_state, is_accepted, is_button, is_held, is_key, is_mode_key, opened, opening_of, own_machine, projection, replay, replay_from, replies_from, replies_to, route, serve, session, shots, since_opening, to, under_pointer, vacant_state};
+ghost use Rattle.std.specs.Prelude.{All, ◌≡◌, ◌≢◌, ◌+◌, ◌++◌, ◌∷◌, [], ℕ, List, length, ◌<◌, ◌⊎◌};
+ghost use Rattle.std.specs.Prelude.{true, map, Some, None};
+ghost use Rattle.nit_journal.specs.Terms.{Agrees, AreLive, AreSteps, Call, Close, Configuration};
+ghost use Rattle.nit_journal.specs.Terms.{Delivery, Device, Entry, Event, Flat, Gets, InputState};
+ghost use Rattle.nit_journal.specs.Terms.{IsClickAt, IsDown, IsKillAlone, IsLegal, IsLive, IsOpen};
+ghost use Rattle.nit_journal.specs.Terms.{Kill, KillsPointed, LegalFrom, Observation, Reply};
+ghost use Rattle.nit_journal.specs.Terms.{Routed, State, Step, Take, TellsFocus, TellsLeave, Xray};
+ghost use Rattle.nit_journal.specs.Terms.{action_of, after, after_observations, after_steps, alone};
+ghost use Rattle.nit_journal.specs.Terms.{alone_machine, deliveries_of, donation_of, first_input};
+ghost use Rattle.nit_journal.specs.Terms.{first_state, is_accepted, is_button, is_held, is_key};
+ghost use Rattle.nit_journal.specs.Terms.{is_mode_key, opened, opening_of, own_machine, projection};
+ghost use Rattle.nit_journal.specs.Terms.{replay, replay_from, replies_from, replies_to, route};
+ghost use Rattle.nit_journal.specs.Terms.{serve, session, shots, since_opening, to, under_pointer};
+ghost use Rattle.nit_journal.specs.Terms.{vacant_state};
 ghost use Rattle.nit_events.specs.declared.call.Reply.TheVariants as reply;
 ghost use Rattle.nit_events.specs.declared.device.Device.TheVariants as device;
 ghost use Rattle.nit_events.specs.declared.event.Event.TheVariants as event;
@@ -108,8 +120,8 @@ pub fn seats_stand_alone()
 {}
 
 /// Along any steps from a state in which the user has done nothing, each release that was routed to
-/// a session since it last opened follows a press of the same code that was routed to it since then,
-/// with no other release of it between.
+/// a session since it last opened follows a press of the same code that was routed to it since
+/// then, with no other release of it between.
 pub fn releases_follow_presses_since_opening()
     ensures { (s : State) (steps : List Step) (x k : ℕ) (before rest : List Observation)
         → AreLive s → s.input ≡ first_input → AreSteps s steps

@@ -1,7 +1,9 @@
 //! Why a call of a session is refused, each reason by itself.
 
 ghost use Rattle.std.specs.Prelude.{◌≡◌, ◌&&◌, nat_lt};
-ghost use Rattle.nit_journal.specs.Terms.{buffer_left, buffer_need, by_quota, by_reserve, by_status, is_place, is_rectangle, is_side, is_title, most_views, unless, view_left, view_need, ◌orelse◌};
+ghost use Rattle.nit_journal.specs.Terms.{buffer_left, buffer_need, by_quota, by_reserve};
+ghost use Rattle.nit_journal.specs.Terms.{by_status, is_place, is_rectangle, is_side, is_title};
+ghost use Rattle.nit_journal.specs.Terms.{most_views, unless, view_left, view_need, ◌orelse◌};
 
 use nit_events::{Reply, Status, Text};
 use nit_glyph::is_title;

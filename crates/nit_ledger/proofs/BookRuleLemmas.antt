@@ -1,25 +1,38 @@
 -- Each kind of step keeps the rule of a book.
-use Rattle.nit_ledger.proofs.Basics.{Allows, Bears, BearsShare, BookView, Entry, FitsView, IsBookAt, IsBookRule, IsTokenInStep, Joins, OfBook, OfShare, Spent, Splits, State, StepDone, Token, at_last, at_longer, at_set, book_at_rest, book_with_share, cases_eq, get_or-append_seam, get_or_append_left, keeps, length-set, opening, raised_by, set_else, set_here, step, token}
-use Rattle.std.proofs.Common.{List, None, Option, Some, [], ap, arith, cond, eq-eqb, eqb, get_or-set_other, get_or-set_same, inl, inr, length, length-append, ne_eqb, refl, set, slice_index, subst, suc, sym, zero, ℕ, ⊎_elim, ◌++◌, ◌+◌, ◌<◌, ◌∙◌, ◌∷◌, ◌≡◌, ◌≢◌, ◌⊎◌}
+use Rattle.nit_ledger.proofs.Basics.{Allows, Bears, BearsShare, BookView, Entry, FitsView, IsBookAt}
+use Rattle.nit_ledger.proofs.Basics.{IsBookRule, IsTokenInStep, Joins, OfBook, OfShare, Spent}
+use Rattle.nit_ledger.proofs.Basics.{Splits, State, StepDone, Token, at_last, at_longer, at_set}
+use Rattle.nit_ledger.proofs.Basics.{book_at_rest, book_with_share, cases_eq, get_or-append_seam}
+use Rattle.nit_ledger.proofs.Basics.{get_or_append_left, keeps, length-set, opening, raised_by}
+use Rattle.nit_ledger.proofs.Basics.{set_else, set_here, step, token}
+use Rattle.std.proofs.Common.{List, None, Option, Some, [], ap, arith, cond, eq-eqb, eqb}
+use Rattle.std.proofs.Common.{get_or-set_other, get_or-set_same, inl, inr, length, length-append}
+use Rattle.std.proofs.Common.{ne_eqb, refl, set, slice_index, subst, suc, sym, zero, ℕ, ⊎_elim}
+use Rattle.std.proofs.Common.{◌++◌, ◌+◌, ◌<◌, ◌∙◌, ◌∷◌, ◌≡◌, ◌≢◌, ◌⊎◌}
 use mathlib.Core.Option.{some, none, some-ne-none, some-injective}
 use lib.ListN.{get_elem?}
 use Rattle.nit_ledger.proofs.Prefixes.{front_self, front_trans}
 
-at_snoc : {A : Type 0} (l : List A) (a b : A) (j : ℕ) → get_elem? (l ++ a ∷ []) j ≡ some b → (get_elem? l j ≡ some b) ⊎ ((j ≡ length l) × (a ≡ b))
+at_snoc : {A : Type 0} (l : List A) (a b : A) (j : ℕ) → get_elem? (l ++ a ∷ []) j ≡ some b → (get_elem? l j ≡ some b)
+    ⊎ ((j ≡ length l) × (a ≡ b))
 at_snoc [] a b zero e = inr (refl, some-injective a b e)
 at_snoc [] a b (suc j) e = absurd (some-ne-none b (sym e))
 at_snoc (x ∷ xs) a b zero e = inl e
 at_snoc (x ∷ xs) a b (suc j) e = ⊎_elim (λ p. inl p) (λ q. inr (ap suc q.0, q.1)) (at_snoc xs a b j e)
 
 -- what holds of each other view, and of the new one, holds of all
-over_set : (F : ℕ → BookView → Type 0) (views : List BookView) (by : ℕ) (w : BookView) → ((j : ℕ) (u : BookView) → j ≢ by → get_elem? views j ≡ some u → F j u) → F by w → (j : ℕ) (u : BookView) → get_elem? (set views by w) j ≡ some u → F j u
+over_set : (F : ℕ → BookView → Type 0) (views : List BookView) (by : ℕ) (w : BookView)
+    → ((j : ℕ) (u : BookView) → j ≢ by → get_elem? views j ≡ some u → F j u) → F by w → (j : ℕ) (u : BookView)
+    → get_elem? (set views by w) j ≡ some u → F j u
 over_set F views by w others mine j u e =
     ⊎_elim
     (λ (x : (j ≡ by) × (w ≡ u)). subst (λ (y : ℕ × BookView). F y.0 y.1) (λ i. (sym x.0 i, x.1 i)) mine)
     (λ (x : (j ≢ by) × (get_elem? views j ≡ some u)). others j u x.0 x.1)
     (at_set views by j w u e)
 
-over_snoc : (F : ℕ → BookView → Type 0) (views : List BookView) (w : BookView) → ((j : ℕ) (u : BookView) → get_elem? views j ≡ some u → F j u) → F (length views) w → (j : ℕ) (u : BookView) → get_elem? (views ++ w ∷ []) j ≡ some u → F j u
+over_snoc : (F : ℕ → BookView → Type 0) (views : List BookView) (w : BookView)
+    → ((j : ℕ) (u : BookView) → get_elem? views j ≡ some u → F j u) → F (length views) w → (j : ℕ) (u : BookView)
+    → get_elem? (views ++ w ∷ []) j ≡ some u → F j u
 over_snoc F views w others mine j u e =
     ⊎_elim
     (λ (x : get_elem? views j ≡ some u). others j u x)
@@ -39,7 +52,8 @@ unfolding moved
 moved_else holder n to k e = rw ne_eqb
 
 -- the view of another seat is a share's or is spent, and a share's still fits where its number is none that moved
-other_fits : (es es' : List Entry) (cs cs' : List ℕ) (seat : ℕ) (holder holder' : ℕ → ℕ) (j : ℕ) (u : BookView) → j ≢ seat
+other_fits : (es es' : List Entry) (cs cs' : List ℕ) (seat : ℕ) (holder holder' : ℕ → ℕ) (j : ℕ) (u : BookView)
+    → j ≢ seat
     → ((t : Token) → holder t.number ≡ j → IsTokenInStep es cs t → (holder' t.number ≡ j) × IsTokenInStep es' cs' t)
     → FitsView es cs seat holder j u → FitsView es' cs' seat holder' j u
 other_fits es es' cs cs' seat holder holder' j (OfBook e c t) apart part f = absurd (apart f.0)
@@ -51,10 +65,12 @@ at_within [] i a e = absurd (some-ne-none a (sym e))
 at_within (x ∷ xs) zero a e = omega arith
 at_within (x ∷ xs) (suc i) a e = let h = at_within xs i a e in omega arith
 
-stands_set : (views : List BookView) (by : ℕ) (w : BookView) (j n : ℕ) → j ≢ by → BearsShare views j n → BearsShare (set views by w) j n
+stands_set : (views : List BookView) (by : ℕ) (w : BookView) (j n : ℕ) → j ≢ by → BearsShare views j n
+    → BearsShare (set views by w) j n
 stands_set views by w j n apart s = (s.0, set_else views by j w apart ∙ s.1, s.2)
 
-stands_here : (views : List BookView) (by : ℕ) (v w : BookView) (n : ℕ) → get_elem? views by ≡ some v → Bears n w → BearsShare (set views by w) by n
+stands_here : (views : List BookView) (by : ℕ) (v w : BookView) (n : ℕ) → get_elem? views by ≡ some v → Bears n w
+    → BearsShare (set views by w) by n
 stands_here views by v w n at b = (w, set_here views by w (at_within views by v at), b)
 
 stands_push : (views : List BookView) (w : BookView) (j n : ℕ) → BearsShare views j n → BearsShare (views ++ w ∷ []) j n
@@ -64,13 +80,15 @@ stands_last : (views : List BookView) (w : BookView) (n : ℕ) → Bears n w →
 stands_last views w n b = (w, at_last views w (length views) refl, b)
 
 -- a number is held elsewhere where the view does not hold it
-elsewhere : (views : List BookView) (by : ℕ) (v : BookView) (j n : ℕ) → get_elem? views by ≡ some v → (Bears n v → ⊥) → BearsShare views j n → j ≢ by
+elsewhere : (views : List BookView) (by : ℕ) (v : BookView) (j n : ℕ) → get_elem? views by ≡ some v → (Bears n v → ⊥)
+    → BearsShare views j n → j ≢ by
 elsewhere views by v j n at free s e =
     let there : get_elem? views by ≡ some s.0 = subst (λ (k : ℕ). get_elem? views k ≡ some s.0) e s.1 in
     free (subst (Bears n) (some-injective _ _ (sym there ∙ at)) s.2)
 
 -- the holder of a number, by whether it is the one that moved
-by_number : (holder : ℕ → ℕ) (views : List BookView) (m to n : ℕ) → (n ≡ m → BearsShare views to n) → (n ≢ m → BearsShare views (holder n) n) → BearsShare views (moved holder m to n) n
+by_number : (holder : ℕ → ℕ) (views : List BookView) (m to n : ℕ) → (n ≡ m → BearsShare views to n)
+    → (n ≢ m → BearsShare views (holder n) n) → BearsShare views (moved holder m to n) n
 by_number holder views m to n hit miss =
     ⊎_elim
     (λ (e : n ≡ m). subst (λ (k : ℕ). BearsShare views k n) (sym (moved_here holder m to n e)) (hit e))
@@ -78,31 +96,55 @@ by_number holder views m to n hit miss =
     (cases_eq n m)
 
 -- the book's view is at its seat after a step of that seat, where a view is put behind the others
-booked_push : (views : List BookView) (id : ℕ) (v w : BookView) (es : List Entry) (cs : List ℕ) (taken : Option Token) → get_elem? views id ≡ some v
+booked_push : (views : List BookView) (id : ℕ) (v w : BookView) (es : List Entry) (cs : List ℕ) (taken : Option Token)
+    → get_elem? views id ≡ some v
     → IsBookAt (set views id (OfBook es cs taken) ++ w ∷ []) id es cs
 booked_push views id v w es cs taken at =
     (taken, at_longer (set views id (OfBook es cs taken)) (w ∷ []) id _ (set_here views id _ (at_within views id v at)))
 
 pub begins : IsBookRule (opening {S = Unit {0}} (0 ∷ []) [] (OfBook [] [] None))
-begins = record { entries = []; counts = []; seat = 0; holder = λ n. 0; word = refl; book = (None, refl); fits = one; held = λ n lt. absurd (omega arith) }
+begins = record {
+  entries = [];
+  counts = [];
+  seat = 0;
+  holder = λ n. 0;
+  word = refl;
+  book = (None, refl);
+  fits =
+      one;
+  held = λ n lt. absurd (omega arith);
+}
   where
     one : (by : ℕ) (v : BookView) → get_elem? (OfBook [] [] None ∷ []) by ≡ some v → FitsView [] [] 0 (λ n. 0) by v
     one zero v e = subst (FitsView [] [] 0 (λ n. 0) 0) (some-injective _ _ e) (refl, refl, refl, tt)
     one (suc by) v e = absurd (some-ne-none v (sym e))
 
 -- the rule, at the view of the book's seat
-settled : (s : State (Unit {0}) BookView) (kept : IsBookRule s) (id : ℕ) (es : List Entry) (cs : List ℕ) (t : Option Token) → get_elem? s.views id ≡ some (OfBook es cs t) → (j : ℕ) (u : BookView) → get_elem? s.views j ≡ some u → FitsView es cs id kept.holder j u
+settled : (s : State (Unit {0}) BookView) (kept : IsBookRule s) (id : ℕ) (es : List Entry) (cs : List ℕ)
+    (t : Option Token) → get_elem? s.views id ≡ some (OfBook es cs t) → (j : ℕ) (u : BookView)
+    → get_elem? s.views j ≡ some u → FitsView es cs id kept.holder j u
 settled s kept id es cs t at j u e =
     let here = kept.fits id (OfBook es cs t) at in
-    subst (λ (y : List Entry × List ℕ × ℕ). FitsView y.0 y.1 y.2 kept.holder j u) (λ i. (sym here.1 i, sym here.2 i, sym here.0 i)) (kept.fits j u e)
+    subst (λ (y : List Entry × List ℕ × ℕ). FitsView y.0 y.1 y.2 kept.holder j u)
+    (λ i. (sym here.1 i, sym here.2 i, sym here.0 i)) (kept.fits j u e)
 
-opened_part : (es : List Entry) (cs : List ℕ) (holder : ℕ → ℕ) (to j : ℕ) (t : Token) → holder t.number ≡ j → IsTokenInStep es cs t → (moved holder (length cs) to t.number ≡ j) × IsTokenInStep es (cs ++ 0 ∷ []) t
+opened_part : (es : List Entry) (cs : List ℕ) (holder : ℕ → ℕ) (to j : ℕ) (t : Token) → holder t.number ≡ j
+    → IsTokenInStep es cs t → (moved holder (length cs) to t.number ≡ j) × IsTokenInStep es (cs ++ 0 ∷ []) t
 opened_part es cs holder to j t h a =
     let below = a.below in
-    let ne : t.number ≢ length cs = λ q. omega arith in
-    (moved_else holder (length cs) to t.number ne ∙ h, record { below = omega (arith, length-append cs (0 ∷ [])); counted = get_or_append_left cs (0 ∷ []) 0 t.number a.below ∙ a.counted; front = a.front })
+    let ne : t.number ≢ length cs = λ q. omega arith in (
+      moved_else holder (length cs) to t.number ne
+          ∙ h,
+      record {
+        below = omega (arith, length-append cs (0 ∷ []));
+        counted =
+            get_or_append_left cs (0 ∷ []) 0 t.number a.below ∙ a.counted;
+        front = a.front;
+      },
+    )
 
-pub opens : (id : ℕ) (es : List Entry) (cs : List ℕ) → Splits IsBookRule id (book_at_rest es cs) (book_at_rest es (cs ++ 0 ∷ [])) (OfShare (token (length cs) 0 es))
+pub opens : (id : ℕ) (es : List Entry) (cs : List ℕ)
+    → Splits IsBookRule id (book_at_rest es cs) (book_at_rest es (cs ++ 0 ∷ [])) (OfShare (token (length cs) 0 es))
 opens id es cs s kept at =
     let w : BookView = book_at_rest es (cs ++ 0 ∷ []) in
     let to : ℕ = length (set s.views id w) in
@@ -117,29 +159,45 @@ opens id es cs s kept at =
       book = booked_push s.views id (book_at_rest es cs) (OfShare (token (length cs) 0 es)) es (cs ++ 0 ∷ []) None at;
       fits = over_snoc F (set s.views id w) (OfShare (token (length cs) 0 es))
           (over_set F s.views id w
-          (λ j u apart e. other_fits es es cs (cs ++ 0 ∷ []) id kept.holder holder j u apart (opened_part es cs kept.holder to j) (settled s kept id es cs None at j u e))
-          (refl, refl, refl, tt))
-          (moved_here kept.holder (length cs) to (length cs) refl, record { below = omega (arith, length-append cs (0 ∷ [])); counted = get_or-append_seam cs 0 [] 0; front = front_self es });
+          (λ j u apart e. other_fits es es cs (cs ++ 0 ∷ []) id kept.holder holder j u apart
+          (opened_part es cs kept.holder to j) (settled s kept id es cs None at j u e))
+          (refl, refl, refl, tt)) (
+            moved_here kept.holder (length cs) to (length cs) refl,
+            record {
+              below = omega (arith, length-append cs (0 ∷ []));
+              counted = get_or-append_seam cs 0 [] 0;
+              front =
+                  front_self es;
+            },
+          );
       held = λ n lt. by_number kept.holder (set s.views id w ++ OfShare (token (length cs) 0 es) ∷ []) (length cs) to n
           (λ e. stands_last (set s.views id w) (OfShare (token (length cs) 0 es)) n (sym e))
           (λ ne.
           let less : n < length cs = let l = length-append cs (0 ∷ []) in omega arith in
           let counts : cs ≡ kept.counts = (kept.fits id (OfBook es cs None) at).2 in
           let was = kept.held n (subst (λ (c : List ℕ). n < length c) counts less) in
-          stands_push (set s.views id w) _ (kept.holder n) n (stands_set s.views id w (kept.holder n) n (elsewhere s.views id (OfBook es cs None) (kept.holder n) n at (λ b. b) was) was));
+          stands_push (set s.views id w) _ (kept.holder n) n
+          (stands_set s.views id w (kept.holder n) n
+          (elsewhere s.views id (OfBook es cs None) (kept.holder n) n at (λ b. b) was) was));
     }
 
-taken_part : (es : List Entry) (cs : List ℕ) (holder : ℕ → ℕ) (n to from j : ℕ) → holder n ≡ from → j ≢ from → (t : Token) → holder t.number ≡ j → IsTokenInStep es cs t → (moved holder n to t.number ≡ j) × IsTokenInStep es cs t
+taken_part : (es : List Entry) (cs : List ℕ) (holder : ℕ → ℕ) (n to from j : ℕ) → holder n ≡ from → j ≢ from
+    → (t : Token) → holder t.number ≡ j → IsTokenInStep es cs t → (moved holder n to t.number ≡ j)
+    × IsTokenInStep es cs t
 taken_part es cs holder n to from j is apart t h a =
     (moved_else holder n to t.number (λ q. apart (sym h ∙ ap holder q ∙ is)) ∙ h, a)
 
-pub takes : (id : ℕ) (es : List Entry) (cs : List ℕ) (other : ℕ) (t : Token) → Joins IsBookRule id (book_at_rest es cs) other (OfShare t) (book_with_share es cs t) Spent
+pub takes : (id : ℕ) (es : List Entry) (cs : List ℕ) (other : ℕ) (t : Token)
+    → Joins IsBookRule id (book_at_rest es cs) other (OfShare t) (book_with_share es cs t) Spent
 takes id es cs other t s kept at apart there =
     let w : BookView = book_with_share es cs t in
     let holder : ℕ → ℕ = moved kept.holder t.number id in
     let F : ℕ → BookView → Type 0 = FitsView es cs id holder in
     let all = settled s kept id es cs None at in
-    let was' : get_elem? s.views other ≡ some (OfShare t) = ⊎_elim (λ (x : (other ≡ id) × (w ≡ OfShare t)). absurd (apart x.0)) (λ (x : (other ≢ id) × (get_elem? s.views other ≡ some (OfShare t))). x.1) (at_set s.views id other w (OfShare t) there) in
+    let was' : get_elem? s.views other ≡ some (OfShare t) =
+    ⊎_elim (λ (x : (other ≡ id) × (w ≡ OfShare t)). absurd (apart x.0))
+    (λ (x : (other ≢ id) × (get_elem? s.views other ≡ some (OfShare t))). x.1)
+    (at_set s.views id other w (OfShare t) there) in
     let theirs = all other (OfShare t) was' in
     record {
       entries = es;
@@ -147,30 +205,43 @@ takes id es cs other t s kept at apart there =
       seat = id;
       holder = holder;
       word = kept.word;
-      book = (Some t, set_else (set s.views id w) other id Spent (λ q. apart (sym q)) ∙ set_here s.views id w (at_within s.views id (book_at_rest es cs) at));
+      book = (
+        Some t,
+        set_else (set s.views id w) other id Spent (λ q. apart (sym q))
+            ∙ set_here s.views id w (at_within s.views id (book_at_rest es cs) at),
+      );
       fits = λ j u e. last s.views id es cs other t kept.holder all theirs j u e;
       held = λ n lt. by_number kept.holder (set (set s.views id w) other Spent) t.number id n
-          (λ e. stands_set (set s.views id w) other Spent id n (λ q. apart (sym q)) (stands_here s.views id (OfBook es cs None) w n at (sym e)))
+          (λ e. stands_set (set s.views id w) other Spent id n (λ q. apart (sym q))
+          (stands_here s.views id (OfBook es cs None) w n at (sym e)))
           (λ ne.
           let counts : cs ≡ kept.counts = (kept.fits id (OfBook es cs None) at).2 in
           let was = kept.held n (subst (λ (c : List ℕ). n < length c) counts lt) in
           stands_set (set s.views id w) other Spent (kept.holder n) n
           (elsewhere s.views other (OfShare t) (kept.holder n) n was' (λ b. ne (sym b)) was)
-          (stands_set s.views id w (kept.holder n) n (elsewhere s.views id (OfBook es cs None) (kept.holder n) n at (λ b. b) was) was));
+          (stands_set s.views id w (kept.holder n) n
+          (elsewhere s.views id (OfBook es cs None) (kept.holder n) n at (λ b. b) was) was));
     }
   where
-    last : (views : List BookView) (id : ℕ) (es : List Entry) (cs : List ℕ) (other : ℕ) (t : Token) (holder : ℕ → ℕ) → ((j : ℕ) (u : BookView) → get_elem? views j ≡ some u → FitsView es cs id holder j u) → (holder t.number ≡ other) × IsTokenInStep es cs t → (j : ℕ) (u : BookView) → get_elem? (set (set views id (book_with_share es cs t)) other Spent) j ≡ some u → FitsView es cs id (moved holder t.number id) j u
+    last : (views : List BookView) (id : ℕ) (es : List Entry) (cs : List ℕ) (other : ℕ) (t : Token) (holder : ℕ → ℕ)
+        → ((j : ℕ) (u : BookView) → get_elem? views j ≡ some u → FitsView es cs id holder j u)
+        → (holder t.number ≡ other) × IsTokenInStep es cs t → (j : ℕ) (u : BookView)
+        → get_elem? (set (set views id (book_with_share es cs t)) other Spent) j ≡ some u
+        → FitsView es cs id (moved holder t.number id) j u
     last views id es cs other t holder all theirs j u e =
         ⊎_elim
         (λ (x : (j ≡ other) × (Spent ≡ u)). subst (FitsView es cs id (moved holder t.number id) j) x.1 tt)
         (λ (x : (j ≢ other) × (get_elem? (set views id (book_with_share es cs t)) j ≡ some u)).
         ⊎_elim
-        (λ (y : (j ≡ id) × (book_with_share es cs t ≡ u)). subst (FitsView es cs id (moved holder t.number id) j) y.1 (y.0, refl, refl, (theirs.1, moved_here holder t.number id t.number refl)))
-        (λ (y : (j ≢ id) × (get_elem? views j ≡ some u)). other_fits es es cs cs id holder (moved holder t.number id) j u y.0 (taken_part es cs holder t.number id other j theirs.0 x.0) (all j u y.1))
+        (λ (y : (j ≡ id) × (book_with_share es cs t ≡ u)). subst (FitsView es cs id (moved holder t.number id) j) y.1
+        (y.0, refl, refl, (theirs.1, moved_here holder t.number id t.number refl)))
+        (λ (y : (j ≢ id) × (get_elem? views j ≡ some u)). other_fits es es cs cs id holder (moved holder t.number id) j
+        u y.0 (taken_part es cs holder t.number id other j theirs.0 x.0) (all j u y.1))
         (at_set views id j (book_with_share es cs t) u x.1))
         (at_set (set views id (book_with_share es cs t)) other j Spent u e)
 
-pub gives : (id : ℕ) (es : List Entry) (cs : List ℕ) (t : Token) → Splits IsBookRule id (book_with_share es cs t) (book_at_rest es cs) (OfShare t)
+pub gives : (id : ℕ) (es : List Entry) (cs : List ℕ) (t : Token)
+    → Splits IsBookRule id (book_with_share es cs t) (book_at_rest es cs) (OfShare t)
 gives id es cs t s kept at =
     let w : BookView = book_at_rest es cs in
     let to : ℕ = length (set s.views id w) in
@@ -187,7 +258,8 @@ gives id es cs t s kept at =
       book = booked_push s.views id (book_with_share es cs t) (OfShare t) es cs None at;
       fits = over_snoc F (set s.views id w) (OfShare t)
           (over_set F s.views id w
-          (λ j u apart e. other_fits es es cs cs id kept.holder holder j u apart (taken_part es cs kept.holder t.number to id j mine.1 apart) (all j u e))
+          (λ j u apart e. other_fits es es cs cs id kept.holder holder j u apart
+          (taken_part es cs kept.holder t.number to id j mine.1 apart) (all j u e))
           (refl, refl, refl, tt))
           (moved_here kept.holder t.number to t.number refl, mine.0);
       held = λ n lt. by_number kept.holder (set s.views id w ++ OfShare t ∷ []) t.number to n
@@ -195,30 +267,47 @@ gives id es cs t s kept at =
           (λ ne.
           let counts : cs ≡ kept.counts = (kept.fits id (OfBook es cs (Some t)) at).2 in
           let was = kept.held n (subst (λ (c : List ℕ). n < length c) counts lt) in
-          stands_push (set s.views id w) (OfShare t) (kept.holder n) n (stands_set s.views id w (kept.holder n) n (elsewhere s.views id (OfBook es cs (Some t)) (kept.holder n) n at (λ b. ne (sym b)) was) was));
+          stands_push (set s.views id w) (OfShare t) (kept.holder n) n
+          (stands_set s.views id w (kept.holder n) n
+          (elsewhere s.views id (OfBook es cs (Some t)) (kept.holder n) n at (λ b. ne (sym b)) was) was));
     }
 
 -- another share, after the share n has added entries and counted
-grown_part : (es : List Entry) (cs : List ℕ) (added : List Entry) (risen : ℕ) (holder : ℕ → ℕ) (n id j : ℕ) → holder n ≡ id → j ≢ id → (t : Token) → holder t.number ≡ j → IsTokenInStep es cs t
+grown_part : (es : List Entry) (cs : List ℕ) (added : List Entry) (risen : ℕ) (holder : ℕ → ℕ) (n id j : ℕ)
+    → holder n ≡ id → j ≢ id → (t : Token) → holder t.number ≡ j → IsTokenInStep es cs t
     → (holder t.number ≡ j) × IsTokenInStep (es ++ added) (raised_by cs n risen) t
 grown_part es cs added risen holder n id j is apart t h a =
     let below = a.below in
-    let ne : t.number ≢ n = λ q. apart (sym h ∙ ap holder q ∙ is) in
-    (h, record { below = omega (arith, length-set cs n (slice_index cs n + risen)); counted = get_or-set_other cs n t.number (slice_index cs n + risen) 0 ne ∙ a.counted; front = front_trans t.seen es (es ++ added) a.front (added, refl) })
+    let ne : t.number ≢ n = λ q. apart (sym h ∙ ap holder q ∙ is) in (
+      h,
+      record {
+        below = omega (arith, length-set cs n (slice_index cs n + risen));
+        counted =
+            get_or-set_other cs n t.number (slice_index cs n + risen) 0 ne ∙ a.counted;
+        front =
+            front_trans t.seen es (es ++ added) a.front (added, refl);
+      },
+    )
 
 -- the seat that has taken a share in keeps its number
-holding_on : (s : State (Unit {0}) BookView) (kept : IsBookRule s) (id : ℕ) (es : List Entry) (cs : List ℕ) (t : Token) (w : BookView) → get_elem? s.views id ≡ some (OfBook es cs (Some t)) → kept.holder t.number ≡ id → Bears t.number w → (n : ℕ) → n < length cs → BearsShare (set s.views id w) (kept.holder n) n
+holding_on : (s : State (Unit {0}) BookView) (kept : IsBookRule s) (id : ℕ) (es : List Entry) (cs : List ℕ) (t : Token)
+    (w : BookView) → get_elem? s.views id ≡ some (OfBook es cs (Some t)) → kept.holder t.number ≡ id → Bears t.number w
+    → (n : ℕ) → n < length cs → BearsShare (set s.views id w) (kept.holder n) n
 holding_on s kept id es cs t w at is b n lt =
     ⊎_elim
-    (λ (e : n ≡ t.number). subst (λ (k : ℕ). BearsShare (set s.views id w) k n) (sym (ap kept.holder e ∙ is)) (stands_here s.views id (OfBook es cs (Some t)) w n at (subst (λ (k : ℕ). Bears k w) (sym e) b)))
+    (λ (e : n ≡ t.number). subst (λ (k : ℕ). BearsShare (set s.views id w) k n) (sym (ap kept.holder e ∙ is))
+    (stands_here s.views id (OfBook es cs (Some t)) w n at (subst (λ (k : ℕ). Bears k w) (sym e) b)))
     (λ (ne : n ≡ t.number → ⊥).
     let counts : cs ≡ kept.counts = (kept.fits id (OfBook es cs (Some t)) at).2 in
     let was = kept.held n (subst (λ (c : List ℕ). n < length c) counts lt) in
-    stands_set s.views id w (kept.holder n) n (elsewhere s.views id (OfBook es cs (Some t)) (kept.holder n) n at (λ q. ne (sym q)) was) was)
+    stands_set s.views id w (kept.holder n) n
+    (elsewhere s.views id (OfBook es cs (Some t)) (kept.holder n) n at (λ q. ne (sym q)) was) was)
     (cases_eq n t.number)
 
 -- the share that is taken in adds entries and counts
-pub does : (slots id : ℕ) (es : List Entry) (cs : List ℕ) (t : Token) (added : List Entry) (risen : ℕ) → Allows IsBookRule slots id (book_with_share es cs t, []) 0 (λ n. n) (StepDone added risen (step slots 0 0 0 none) (book_with_share es cs t, []))
+pub does : (slots id : ℕ) (es : List Entry) (cs : List ℕ) (t : Token) (added : List Entry) (risen : ℕ)
+    → Allows IsBookRule slots id (book_with_share es cs t, []) 0 (λ n. n)
+    (StepDone added risen (step slots 0 0 0 none) (book_with_share es cs t, []))
 does slots id es cs t added risen s kept homes at fits =
     let es' : List Entry = es ++ added in
     let cs' : List ℕ = raised_by cs t.number risen in
@@ -239,9 +328,25 @@ does slots id es cs t added risen s kept homes at fits =
         word = ap (λ (ws : List ℕ). set ws 0 (slice_index ws 0)) kept.word;
         book = (Some t', set_here s.views id w (at_within s.views id (book_with_share es cs t) at));
         fits = over_set F s.views id w
-            (λ j u apart x. other_fits es es' cs cs' id kept.holder kept.holder j u apart (grown_part es cs added risen kept.holder t.number id j mine.1 apart) (all j u x))
-            (refl, refl, refl, (record { below = omega (arith, length-set cs t.number (slice_index cs t.number + risen)); counted = get_or-set_same cs t.number (slice_index cs t.number + risen) 0 mine.0.below ∙ ap (λ (k : ℕ). k + risen) mine.0.counted; front = front_self es' }, mine.1));
-        held = λ n lt. holding_on s kept id es cs t w at mine.1 refl n (let l = length-set cs t.number (slice_index cs t.number + risen) in omega arith);
+            (λ j u apart x. other_fits es es' cs cs' id kept.holder kept.holder j u apart
+            (grown_part es cs added risen kept.holder t.number id j mine.1 apart) (all j u x)) (
+              refl,
+              refl,
+              refl,
+              (
+                record {
+                  below =
+                      omega (arith, length-set cs t.number (slice_index cs t.number + risen));
+                  counted =
+                      get_or-set_same cs t.number (slice_index cs t.number + risen) 0 mine.0.below
+                      ∙ ap (λ (k : ℕ). k + risen) mine.0.counted;
+                  front = front_self es';
+                },
+                mine.1,
+              ),
+            );
+        held = λ n lt. holding_on s kept id es cs t w at mine.1 refl n (let l =
+            length-set cs t.number (slice_index cs t.number + risen) in omega arith);
       },
       ((refl, mine.0), refl),
     )

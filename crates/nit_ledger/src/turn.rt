@@ -1,6 +1,8 @@
 //! The parts of a share's turn at the book: it is taken in, does its deed and is given back.
 ghost use Rattle.std.specs.Prelude.{◌≡◌, ◌+◌, [], ◌∷◌, ◌++◌, length};
-ghost use Rattle.nit_ledger.specs.Terms.{IsHolding, IsResting, IsSeatOf, IsShares, IsTokenInStep, OfShare, book_at_rest, book_with_share, counts_at, entries_at, raised_by, taken_token, token, token_at};
+ghost use Rattle.nit_ledger.specs.Terms.{IsHolding, IsResting, IsSeatOf, IsShares, IsTokenInStep};
+ghost use Rattle.nit_ledger.specs.Terms.{OfShare, book_at_rest, book_with_share, counts_at};
+ghost use Rattle.nit_ledger.specs.Terms.{entries_at, raised_by, taken_token, token, token_at};
 
 use crate::steps::{Carries, Deed, Does, Opens};
 use crate::view::{BookView, Pages};

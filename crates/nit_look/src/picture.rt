@@ -1,7 +1,8 @@
 //! A picture, and what changed in it.
 
 ghost use Rattle.std.specs.Prelude.{◌≡◌, ◌≤◌, ◌<◌, ◌+◌, ◌*◌, ◌↔◌, None, IfSome, IsSome, length};
-ghost use Rattle.nit_look.specs.Terms.{AreEdges, CoversChange, IsTouched, LiesOn, most_height, most_width, rectangle_between};
+ghost use Rattle.nit_look.specs.Terms.{AreEdges, CoversChange, IsTouched, LiesOn, most_height};
+ghost use Rattle.nit_look.specs.Terms.{most_width, rectangle_between};
 
 use crate::edges::{Edges, with_row};
 use crate::span::copy_row;

@@ -1,5 +1,17 @@
 -- What lemmas use: the words of clauses, the library's lemmas, and those of the crates below.
-pub use Rattle.nit_nested.specs.Terms.{All, AllByRecursion, Buffer, Call, CanPay, Close, Event, Fill, FitsColour, FitsLine, IsFrame, IsNest, IsScreenSize, Line, NestModel, Painting, Phases, Refresh, Reply, Run, Session, ShowsFrames, Stroke, Take, TooLong, after_line, blank, by_refusal, count_by, count_lines, enumerate_from, fills, first_forbidden, first_session, flat_map, frame_lines, frame_script, frames_behind, is_accepted, is_forbidden, is_phase, lines_before_end, lines_of_frames, most_lines, nest_script, next_frame, painted_from, phases, pos, prefix_len, refusal, row_lines, row_runs, rows_lines, run_joined, script_answer, session_size, taking, unless_forbidden, unless_long, word_after_stroke, words_left, words_of_lines, woven, zeros}
+pub use Rattle.nit_nested.specs.Terms.{All, AllByRecursion, Buffer, Call, CanPay, Close, Event}
+pub use Rattle.nit_nested.specs.Terms.{Fill, FitsColour, FitsLine, IsFrame, IsNest, IsScreenSize}
+pub use Rattle.nit_nested.specs.Terms.{Line, NestModel, Painting, Phases, Refresh, Reply, Run}
+pub use Rattle.nit_nested.specs.Terms.{Session, ShowsFrames, Stroke, Take, TooLong, after_line}
+pub use Rattle.nit_nested.specs.Terms.{blank, by_refusal, count_by, count_lines, enumerate_from}
+pub use Rattle.nit_nested.specs.Terms.{fills, first_forbidden, first_session, flat_map, frame_lines}
+pub use Rattle.nit_nested.specs.Terms.{frame_script, frames_behind, is_accepted, is_forbidden}
+pub use Rattle.nit_nested.specs.Terms.{is_phase, lines_before_end, lines_of_frames, most_lines}
+pub use Rattle.nit_nested.specs.Terms.{nest_script, next_frame, painted_from, phases, pos}
+pub use Rattle.nit_nested.specs.Terms.{prefix_len, refusal, row_lines, row_runs, rows_lines}
+pub use Rattle.nit_nested.specs.Terms.{run_joined, script_answer, session_size, taking}
+pub use Rattle.nit_nested.specs.Terms.{unless_forbidden, unless_long, word_after_stroke, words_left}
+pub use Rattle.nit_nested.specs.Terms.{words_of_lines, woven, zeros}
 pub use Rattle.nit_plan.proofs.ForCallers.{buffer_size}
 pub use Rattle.nit_rect.proofs.ForCallers.{all_append}
 pub use Rattle.nit_word.proofs.ForCallers.{length-zeros}
@@ -9,7 +21,10 @@ pub use Rattle.std.proofs.Math.Seq.{get_or-append_seam, take-append-add, take-le
 pub use Rattle.std.proofs.lemmas.Bool.{eq-eqb, eqb-true, le-ltb, lt-ltb}
 pub use Rattle.std.proofs.lemmas.Bool.Decides.{nat_tests}
 pub use Rattle.std.proofs.lemmas.Grind.{flat_map-append}
-pub use Rattle.std.proofs.lemmas.List.{append-nil, ext_get_or, get_or-append-add, get_or-drop, get_or-map, get_or-replicate, get_or-take, get_or_append_left, length-map, length-replicate, length-take-le, map-append, take-append-drop}
+pub use Rattle.std.proofs.lemmas.List.{append-nil, ext_get_or, get_or-append-add, get_or-drop}
+pub use Rattle.std.proofs.lemmas.List.{get_or-map, get_or-replicate, get_or-take}
+pub use Rattle.std.proofs.lemmas.List.{get_or_append_left, length-map, length-replicate}
+pub use Rattle.std.proofs.lemmas.List.{length-take-le, map-append, take-append-drop}
 pub use Rattle.std.proofs.lemmas.List.Elements.{recursion_from_All}
 pub use Rattle.std.proofs.lemmas.List.FromFn.{get_or-enumerate_from, length-enumerate_from}
 pub use Rattle.std.proofs.lemmas.List.Sums.{fold-append, sum_by-append}

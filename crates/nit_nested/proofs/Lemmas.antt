@@ -1,9 +1,13 @@
 -- What answers use: all that lemmas use, and this crate's lemmas.
-pub use Rattle.nit_nested.proofs.Basics.{Line, NestModel, arith, fills, first_forbidden, frame_lines, frame_script, length-map, lines_of_frames, phases, row_lines, row_runs, rows_lines, script_answer, sym, woven, ◌∙◌}
+pub use Rattle.nit_nested.proofs.Basics.{Line, NestModel, arith, fills, first_forbidden}
+pub use Rattle.nit_nested.proofs.Basics.{frame_lines, frame_script, length-map, lines_of_frames}
+pub use Rattle.nit_nested.proofs.Basics.{phases, row_lines, row_runs, rows_lines, script_answer}
+pub use Rattle.nit_nested.proofs.Basics.{sym, woven, ◌∙◌}
 pub use Rattle.nit_nested.proofs.BufferSizes.{made_bare, made_size}
 pub use Rattle.nit_nested.proofs.FramePhases.{last_end, last_frame, made_phases}
 pub use Rattle.nit_nested.proofs.FrameWords.{kept_more, told_frame, told_more}
 pub use Rattle.nit_nested.proofs.GrammarLemmas.{made_long}
-pub use Rattle.nit_nested.proofs.RunLemmas.{counted_more, row_more, rows_counted, rows_left, rows_more, runs_first}
+pub use Rattle.nit_nested.proofs.RunLemmas.{counted_more, row_more, rows_counted, rows_left}
+pub use Rattle.nit_nested.proofs.RunLemmas.{rows_more, runs_first}
 pub use Rattle.nit_nested.proofs.ScriptAnswers.{answered_long, answered_made, script_fits}
 pub use Rattle.nit_nested.proofs.ShownFrameLemmas.{kept_shows}

@@ -1,38 +1,58 @@
 -- What is answered for a script, by what is kept.
-use Rattle.std.proofs.Common.{Err, List, None, Ok, Option, ap, arith, cond, false, length, map, nat_lt, sym, true, ℕ, ◌+◌, ◌<◌, ◌∙◌, ◌≡◌, ◌≤◌}
-use Rattle.nit_nested.proofs.Basics.{AllByRecursion, FitsLine, IsNest, Line, NestModel, Phases, TooLong, eq-eqb, first_forbidden, frame_lines, frame_script, le-ltb, length-map, lt-ltb, most_lines, nest_script, phases, script_answer, unless_forbidden, unless_long, words_of_lines}
+use Rattle.std.proofs.Common.{Err, List, None, Ok, Option, ap, arith, cond, false, length, map}
+use Rattle.std.proofs.Common.{nat_lt, sym, true, ℕ, ◌+◌, ◌<◌, ◌∙◌, ◌≡◌, ◌≤◌}
+use Rattle.nit_nested.proofs.Basics.{AllByRecursion, FitsLine, IsNest, Line, NestModel, Phases}
+use Rattle.nit_nested.proofs.Basics.{TooLong, eq-eqb, first_forbidden, frame_lines, frame_script}
+use Rattle.nit_nested.proofs.Basics.{le-ltb, length-map, lt-ltb, most_lines, nest_script, phases}
+use Rattle.nit_nested.proofs.Basics.{script_answer, unless_forbidden, unless_long, words_of_lines}
 use Rattle.nit_nested.proofs.GrammarLemmas.{made_long, made_fits, frames_fit}
 
 -- the frames that are kept
 abbrev pub kept_frames : ℕ → ℕ → List (List Line) → NestModel
 kept_frames w h frames = record { w = w; h = h; frames = map words_of_lines frames }
 
-kept_script : (w h held : ℕ) (frames : List (List Line)) (own : List Line) → IsNest w h frames held → nest_script (kept_frames w h frames) own ≡ frame_script w h frames own
+kept_script : (w h held : ℕ) (frames : List (List Line)) (own : List Line) → IsNest w h frames held
+    → nest_script (kept_frames w h frames) own ≡ frame_script w h frames own
 kept_script w h held frames own kept = ap (λ (fs : List (List Line)). frame_script w h fs own) (sym kept.lines)
 
 -- no line is forbidden, and there are as many phases as frames
-answered : (w h held : ℕ) (frames : List (List Line)) (own : List Line) → IsNest w h frames held → None ≡ first_forbidden 1 own → phases own ≡ length frames
+answered : (w h held : ℕ) (frames : List (List Line)) (own : List Line) → IsNest w h frames held
+    → None ≡ first_forbidden 1 own → phases own ≡ length frames
     → script_answer (kept_frames w h frames) own ≡ unless_long (frame_script w h frames own)
 answered w h held frames own kept none counted =
     let same : phases own ≡ length (map words_of_lines frames) = counted ∙ sym (length-map frames words_of_lines) in
     ap (λ (o : Option ℕ). unless_forbidden o (kept_frames w h frames) own) (sym none)
-    ∙ ap (λ b. cond b (unless_long (nest_script (kept_frames w h frames) own)) (Err Phases)) (eq-eqb (phases own) (length (map words_of_lines frames)) same)
+    ∙ ap (λ b. cond b (unless_long (nest_script (kept_frames w h frames) own)) (Err Phases))
+    (eq-eqb (phases own) (length (map words_of_lines frames)) same)
     ∙ ap unless_long (kept_script w h held frames own kept)
 
-pub answered_long : (n : NestModel) (w h held : ℕ) (frames : List (List Line)) (own : List Line) → n ≡ kept_frames w h frames → IsNest w h frames held → None ≡ first_forbidden 1 own → phases own ≡ length frames
+pub answered_long : (n : NestModel) (w h held : ℕ) (frames : List (List Line)) (own : List Line)
+    → n ≡ kept_frames w h frames → IsNest w h frames held → None ≡ first_forbidden 1 own → phases own ≡ length frames
     → most_lines < 1 + held + length own → Err TooLong ≡ script_answer n own
 answered_long n w h held frames own is kept none counted long =
-    let over : nat_lt most_lines (length (frame_script w h frames own)) ≡ true = lt-ltb most_lines (length (frame_script w h frames own)) (omega (arith, long, made_long w h frames own counted, kept.counted)) in
-    sym (ap (λ (m : NestModel). script_answer m own) is ∙ answered w h held frames own kept none counted ∙ ap (λ b. cond b (Err TooLong) (Ok (frame_script w h frames own))) over)
+    let over : nat_lt most_lines (length (frame_script w h frames own)) ≡ true =
+    lt-ltb most_lines (length (frame_script w h frames own))
+    (omega (arith, long, made_long w h frames own counted, kept.counted)) in
+    sym (ap (λ (m : NestModel). script_answer m own) is ∙ answered w h held frames own kept none counted
+    ∙ ap (λ b. cond b (Err TooLong) (Ok (frame_script w h frames own))) over)
 
-pub answered_made : (n : NestModel) (w h held : ℕ) (frames : List (List Line)) (own lines : List Line) → n ≡ kept_frames w h frames → IsNest w h frames held → None ≡ first_forbidden 1 own → phases own ≡ length frames
+pub answered_made : (n : NestModel) (w h held : ℕ) (frames : List (List Line)) (own lines : List Line)
+    → n ≡ kept_frames w h frames → IsNest w h frames held → None ≡ first_forbidden 1 own → phases own ≡ length frames
     → 1 + held + length own ≤ most_lines → lines ≡ frame_script w h frames own → Ok lines ≡ script_answer n own
 answered_made n w h held frames own lines is kept none counted few are =
-    let under : nat_lt most_lines (length (frame_script w h frames own)) ≡ false = le-ltb most_lines (length (frame_script w h frames own)) (omega (arith, few, made_long w h frames own counted, kept.counted)) in
-    sym (ap (λ (m : NestModel). script_answer m own) is ∙ answered w h held frames own kept none counted ∙ ap (λ b. cond b (Err TooLong) (Ok (frame_script w h frames own))) under ∙ ap (λ (ls : List Line). Ok ls) (sym are))
+    let under : nat_lt most_lines (length (frame_script w h frames own)) ≡ false =
+    le-ltb most_lines (length (frame_script w h frames own))
+    (omega (arith, few, made_long w h frames own counted, kept.counted)) in
+    sym (ap (λ (m : NestModel). script_answer m own) is ∙ answered w h held frames own kept none counted
+    ∙ ap (λ b. cond b (Err TooLong) (Ok (frame_script w h frames own))) under
+    ∙ ap (λ (ls : List Line). Ok ls) (sym are))
 
-pub script_fits : (w h held : ℕ) (frames : List (List Line)) (own lines : List Line) → IsNest w h frames held → phases own ≡ length frames → 1 + held + length own ≤ most_lines
-    → AllByRecursion FitsLine own → lines ≡ frame_script w h frames own → AllByRecursion FitsLine lines × (length lines ≤ 65536)
+pub script_fits : (w h held : ℕ) (frames : List (List Line)) (own lines : List Line) → IsNest w h frames held
+    → phases own ≡ length frames → 1 + held + length own ≤ most_lines
+    → AllByRecursion FitsLine own → lines ≡ frame_script w h frames own → AllByRecursion FitsLine lines
+    × (length lines ≤ 65536)
 script_fits w h held frames own lines kept counted few fits are =
-    let all = frames_fit w h (map words_of_lines frames) kept.size kept.words in
-    (rw (are, kept.lines) (made_fits w h (map (frame_lines w h) (map words_of_lines frames)) own kept.size all fits), omega (arith, few, ap length are, made_long w h frames own counted, kept.counted))
+    let all = frames_fit w h (map words_of_lines frames) kept.size kept.words in (
+      rw (are, kept.lines) (made_fits w h (map (frame_lines w h) (map words_of_lines frames)) own kept.size all fits),
+      omega (arith, few, ap length are, made_long w h frames own counted, kept.counted),
+    )

@@ -1,6 +1,15 @@
 -- At the end of each phase the script's buffer has the phase's frame.
-use Rattle.nit_nested.proofs.Basics.{AllByRecursion, Buffer, CanPay, IsFrame, IsNest, Line, NestModel, Painting, Refresh, Run, ShowsFrames, after_line, blank, buffer_size, count_by, fills, first_forbidden, first_session, fold-append, frame_lines, frame_script, is_forbidden, is_phase, length-map, length-zeros, lines_before_end, painted_from, phases, pos, row_lines, row_runs, rows_lines, take-append-add, words_of_lines, woven, zeros}
-use Rattle.std.proofs.Common.{Bool, List, None, Some, [], ap, append_assoc, arith, cond, drop, false, get_or, length, length-append, map, refl, subst, suc, sym, take, true, zero, ℕ, ◌*◌, ◌++◌, ◌+◌, ◌<◌, ◌∙◌, ◌∷◌, ◌≡◌, ◌≤◌}
+use Rattle.nit_nested.proofs.Basics.{AllByRecursion, Buffer, CanPay, IsFrame, IsNest, Line}
+use Rattle.nit_nested.proofs.Basics.{NestModel, Painting, Refresh, Run, ShowsFrames, after_line}
+use Rattle.nit_nested.proofs.Basics.{blank, buffer_size, count_by, fills, first_forbidden}
+use Rattle.nit_nested.proofs.Basics.{first_session, fold-append, frame_lines, frame_script}
+use Rattle.nit_nested.proofs.Basics.{is_forbidden, is_phase, length-map, length-zeros}
+use Rattle.nit_nested.proofs.Basics.{lines_before_end, painted_from, phases, pos, row_lines}
+use Rattle.nit_nested.proofs.Basics.{row_runs, rows_lines, take-append-add, words_of_lines, woven}
+use Rattle.nit_nested.proofs.Basics.{zeros}
+use Rattle.std.proofs.Common.{Bool, List, None, Some, [], ap, append_assoc, arith, cond, drop}
+use Rattle.std.proofs.Common.{false, get_or, length, length-append, map, refl, subst, suc, sym}
+use Rattle.std.proofs.Common.{take, true, zero, ℕ, ◌*◌, ◌++◌, ◌+◌, ◌<◌, ◌∙◌, ◌∷◌, ◌≡◌, ◌≤◌}
 use Rattle.nit_plan.specs.Strokes.{cleared}
 use Rattle.nit_script.specs.declared.line.Line.TheVariants as line
 use Rattle.nit_nested.proofs.ScriptAnswers.{kept_frames}
@@ -9,11 +18,13 @@ use Rattle.nit_nested.proofs.FillLemmas.{Shows, line_shows, frame_shows}
 
 -- ---- where phases end
 
-fills_before : (k x y : ℕ) (rs : List Run) (more : List Line) → lines_before_end k (fills x y rs ++ more) ≡ length (fills x y rs) + lines_before_end k more
+fills_before : (k x y : ℕ) (rs : List Run) (more : List Line) → lines_before_end k (fills x y rs ++ more)
+    ≡ length (fills x y rs) + lines_before_end k more
 fills_before k x y [] more = omega arith
 fills_before k x y (r ∷ rs) more = omega (arith, fills_before k (x + r.long) y rs more)
 
-rows_before : (k w y n : ℕ) (words : List ℕ) (more : List Line) → lines_before_end k (rows_lines w y n words ++ more) ≡ length (rows_lines w y n words) + lines_before_end k more
+rows_before : (k w y n : ℕ) (words : List ℕ) (more : List Line) → lines_before_end k (rows_lines w y n words ++ more)
+    ≡ length (rows_lines w y n words) + lines_before_end k more
 rows_before k w y zero words more = omega arith
 rows_before k w y (suc n) words more =
     let row : List Line = row_lines y (take w words) in
@@ -22,11 +33,13 @@ rows_before k w y (suc n) words more =
     ∙ omega (arith, rows_before k w (y + 1) n (drop w words) more, length-append row rest)
 
 -- no phase ends within the lines of a frame
-frame_before : (k w h : ℕ) (frame : List ℕ) (more : List Line) → lines_before_end k (frame_lines w h frame ++ more) ≡ length (frame_lines w h frame) + lines_before_end k more
+frame_before : (k w h : ℕ) (frame : List ℕ) (more : List Line) → lines_before_end k (frame_lines w h frame ++ more)
+    ≡ length (frame_lines w h frame) + lines_before_end k more
 frame_before k w h frame more =
     let rows : List Line = rows_lines w 0 h frame in
     let last : List Line = line.Call (Refresh (pos 0) (pos 0) w h) ∷ [] in
-    ap (lines_before_end k) (append_assoc rows last more) ∙ rows_before k w 0 h frame (last ++ more) ∙ omega (arith, length-append rows last)
+    ap (lines_before_end k) (append_assoc rows last more) ∙ rows_before k w 0 h frame (last ++ more)
+    ∙ omega (arith, length-append rows last)
 
 -- ---- lines that may stand in the script
 
@@ -37,7 +50,8 @@ pub may_stand : (n : ℕ) (own : List Line) → first_forbidden n own ≡ None �
 may_stand n [] none = tt
 may_stand n (l ∷ own) none = go (is_forbidden l) refl (may_stand (n + 1) own) none
   where
-    go : (b : Bool) → is_forbidden l ≡ b → (first_forbidden (n + 1) own ≡ None → MayStand own) → cond b (Some n) (first_forbidden (n + 1) own) ≡ None → MayStand (l ∷ own)
+    go : (b : Bool) → is_forbidden l ≡ b → (first_forbidden (n + 1) own ≡ None → MayStand own)
+        → cond b (Some n) (first_forbidden (n + 1) own) ≡ None → MayStand (l ∷ own)
     go true is more none = cc
     go false is more none = (is, more none)
 
@@ -48,26 +62,34 @@ abbrev at_end : ℕ → Painting → List Line → Painting
 at_end k p lines = painted_from p (take (lines_before_end k lines) lines)
 
 -- behind a frame
-behind_frame : (k w h : ℕ) (frame : List ℕ) (more : List Line) (p : Painting) → at_end k p (frame_lines w h frame ++ more) ≡ at_end k (painted_from p (frame_lines w h frame)) more
+behind_frame : (k w h : ℕ) (frame : List ℕ) (more : List Line) (p : Painting)
+    → at_end k p (frame_lines w h frame ++ more) ≡ at_end k (painted_from p (frame_lines w h frame)) more
 behind_frame k w h frame more p =
     let lines : List Line = frame_lines w h frame in
     ap (λ (n : ℕ). painted_from p (take n (lines ++ more))) (frame_before k w h frame more)
     ∙ ap (λ (ls : List Line). painted_from p ls) (take-append-add lines more (lines_before_end k more))
     ∙ fold-append after_line p lines (take (lines_before_end k more) more)
 
-woven_shows : (w h k : ℕ) (current : List ℕ) (frames : List (List ℕ)) (own : List Line) (p : Painting) → 0 < w → AllByRecursion (IsFrame w h) frames → MayStand own → count_by is_phase own ≡ length frames
-    → k ≤ length frames → Shows w h current p → Shows w h (get_or (current ∷ frames) k []) (at_end k p (woven (map (frame_lines w h) frames) own))
+woven_shows : (w h k : ℕ) (current : List ℕ) (frames : List (List ℕ)) (own : List Line) (p : Painting) → 0 < w
+    → AllByRecursion (IsFrame w h) frames → MayStand own → count_by is_phase own ≡ length frames
+    → k ≤ length frames → Shows w h current p
+    → Shows w h (get_or (current ∷ frames) k []) (at_end k p (woven (map (frame_lines w h) frames) own))
 woven_shows w h zero current [] [] p some all may counted within shows = shows
 woven_shows w h (suc k) current [] own p some all may counted within shows = absurd (omega (arith, within))
 woven_shows w h k current (f ∷ fs) [] p some all may counted within shows = absurd (omega (arith, counted))
-woven_shows w h k current [] (line.Phase ∷ own) p some all may counted within shows = absurd (omega (arith, counted, phase_lines_more line.Phase own))
+woven_shows w h k current [] (line.Phase ∷ own) p some all may counted within shows =
+    absurd (omega (arith, counted, phase_lines_more line.Phase own))
 woven_shows w h zero current (f ∷ fs) (line.Phase ∷ own) p some all may counted within shows = shows
 woven_shows w h (suc k) current (f ∷ fs) (line.Phase ∷ own) p some all may counted within shows =
-    subst (λ (q : Painting). Shows w h (get_or (f ∷ fs) k []) q) (sym (behind_frame k w h f (woven (map (frame_lines w h) fs) own) p))
-    (woven_shows w h k f fs own (painted_from p (frame_lines w h f)) some all.1 may.1 (omega (arith, counted, phase_lines_more line.Phase own)) (omega (arith, within))
+    subst (λ (q : Painting). Shows w h (get_or (f ∷ fs) k []) q)
+    (sym (behind_frame k w h f (woven (map (frame_lines w h) fs) own) p))
+    (woven_shows w h k f fs own (painted_from p (frame_lines w h f)) some all.1 may.1
+    (omega (arith, counted, phase_lines_more line.Phase own)) (omega (arith, within))
     (frame_shows w h f p some all.0.0 shows.wide shows.tall shows.room))
 woven_shows w h k current frames (line.Call c ∷ own) p some all may counted within shows =
-    woven_shows w h k current frames own (after_line p (line.Call c)) some all may.1 (omega (arith, counted, phase_lines_more (line.Call c) own)) within (line_shows w h current p (line.Call c) may.0 shows)
+    woven_shows w h k current frames own (after_line p (line.Call c)) some all may.1
+    (omega (arith, counted, phase_lines_more (line.Call c) own)) within
+    (line_shows w h current p (line.Call c) may.0 shows)
 woven_shows w h k current frames (line.Stroke s ∷ own) p some all may counted within shows = absurd cc
 
 -- ---- the whole script
@@ -76,24 +98,34 @@ cleared_room : (w h : ℕ) (words : List ℕ) → w * h ≤ length (cleared w h 
 unfolding cleared
 cleared_room w h words = omega (arith, length-append (zeros (w * h)) (drop (w * h) words), length-zeros (w * h))
 
-pub made_shows : (w h : ℕ) (frames : List (List ℕ)) (own : List Line) (donation k : ℕ) → 0 < w → AllByRecursion (IsFrame w h) frames → first_forbidden 1 own ≡ None → phases own ≡ length frames → CanPay donation w h → k < length frames
+pub made_shows : (w h : ℕ) (frames : List (List ℕ)) (own : List Line) (donation k : ℕ) → 0 < w
+    → AllByRecursion (IsFrame w h) frames → first_forbidden 1 own ≡ None → phases own ≡ length frames
+    → CanPay donation w h → k < length frames
     → Shows w h (get_or frames k []) (at_end k (blank donation) (frame_script w h (map (frame_lines w h) frames) own))
 made_shows w h [] own donation k some all none counted pays within = absurd (omega (arith, within))
 made_shows w h (f ∷ fs) own donation k some all none counted pays within =
     let p : Painting = after_line (blank donation) (line.Call (Buffer w h)) in
     let size = buffer_size (first_session donation) w h pays in
     let room : w * h ≤ length p.words =
-    subst (λ b. w * h ≤ length (cond b (cleared w h (blank donation).words) (blank donation).words)) (sym pays) (cleared_room w h (blank donation).words) in
-    subst (λ (q : Painting). Shows w h (get_or (f ∷ fs) k []) q) (sym (behind_frame k w h f (woven (map (frame_lines w h) fs) own) p))
-    (woven_shows w h k f fs own (painted_from p (frame_lines w h f)) some all.1 (may_stand 1 own none) (omega (arith, counted)) (omega (arith, within))
+    subst (λ b. w * h ≤ length (cond b (cleared w h (blank donation).words) (blank donation).words)) (sym pays)
+    (cleared_room w h (blank donation).words) in
+    subst (λ (q : Painting). Shows w h (get_or (f ∷ fs) k []) q)
+    (sym (behind_frame k w h f (woven (map (frame_lines w h) fs) own) p))
+    (woven_shows w h k f fs own (painted_from p (frame_lines w h f)) some all.1 (may_stand 1 own none)
+    (omega (arith, counted)) (omega (arith, within))
     (frame_shows w h f p some all.0.0 size.0 size.1 room))
 
 -- the same, by what is kept
-pub kept_shows : (n : NestModel) (w h held : ℕ) (frames : List (List Line)) (own lines : List Line) → n ≡ kept_frames w h frames → IsNest w h frames held → first_forbidden 1 own ≡ None → phases own ≡ length frames
-    → lines ≡ frame_script w h frames own → (donation : ℕ) → CanPay donation n.w n.h → ShowsFrames n.w n.h n.frames lines donation
+pub kept_shows : (n : NestModel) (w h held : ℕ) (frames : List (List Line)) (own lines : List Line)
+    → n ≡ kept_frames w h frames → IsNest w h frames held → first_forbidden 1 own ≡ None → phases own ≡ length frames
+    → lines ≡ frame_script w h frames own → (donation : ℕ) → CanPay donation n.w n.h
+    → ShowsFrames n.w n.h n.frames lines donation
 kept_shows n w h held frames own lines is kept none counted are =
-    subst (λ (m : NestModel). (donation : ℕ) → CanPay donation m.w m.h → ShowsFrames m.w m.h m.frames lines donation) (sym is)
+    subst (λ (m : NestModel). (donation : ℕ) → CanPay donation m.w m.h → ShowsFrames m.w m.h m.frames lines donation)
+    (sym is)
     (λ donation pays k within.
-    let all : lines ≡ frame_script w h (map (frame_lines w h) (map words_of_lines frames)) own = are ∙ ap (λ (fs : List (List Line)). frame_script w h fs own) kept.lines in
+    let all : lines ≡ frame_script w h (map (frame_lines w h) (map words_of_lines frames)) own = are
+    ∙ ap (λ (fs : List (List Line)). frame_script w h fs own) kept.lines in
     ap (λ (ls : List Line). take (w * h) (at_end k (blank donation) ls).words) all
-    ∙ (made_shows w h (map words_of_lines frames) own donation k (omega (arith, kept.size.0)) kept.words none (counted ∙ sym (length-map frames words_of_lines)) pays within).shown)
+    ∙ (made_shows w h (map words_of_lines frames) own donation k (omega (arith, kept.size.0)) kept.words none (counted
+    ∙ sym (length-map frames words_of_lines)) pays within).shown)

@@ -1,6 +1,7 @@
 -- A frame as lines of a script: row by row a `fill` for each longest run of equal words, and then a
 -- `refresh` of the whole buffer.
-use Rattle.std.specs.Prelude.{◌≡◌, ℕ, zero, suc, ◌+◌, ◌*◌, ◌==◌, pos, List, [], ◌∷◌, ◌++◌, length, take, drop, replicate, if◌then◌else◌}
+use Rattle.std.specs.Prelude.{◌≡◌, ℕ, zero, suc, ◌+◌, ◌*◌, ◌==◌, pos, List, [], ◌∷◌, ◌++◌, length}
+use Rattle.std.specs.Prelude.{take, drop, replicate, if◌then◌else◌}
 use Rattle.nit_nested.specs.Below.{AllByRecursion, Fill, FitsColour, Line, Refresh, flat_map}
 use Rattle.nit_script.specs.declared.line.Line.TheVariants as line
 

@@ -1,6 +1,7 @@
 -- The script that shows frames: another script's lines, with each frame at the beginning of its
 -- phase.
-use Rattle.std.specs.Prelude.{ℕ, ◌+◌, Bool, true, false, List, [], ◌∷◌, ◌++◌, length, Option, Some, None, if◌then◌else◌}
+use Rattle.std.specs.Prelude.{ℕ, ◌+◌, Bool, true, false, List, [], ◌∷◌, ◌++◌, length, Option, Some}
+use Rattle.std.specs.Prelude.{None, if◌then◌else◌}
 use Rattle.nit_nested.specs.Below.{Buffer, Close, Line, sum_by}
 use Rattle.nit_script.specs.declared.line.Line.TheVariants as line
 

@@ -1,6 +1,8 @@
 -- A nest as contracts see it, and what it answers.
-use Rattle.std.specs.Prelude.{◌≡◌, ℕ, ◌+◌, ◌≤◌, ◌==◌, nat_lt, List, length, map, Option, Some, None, Result, Ok, Err, if◌then◌else◌}
-use Rattle.nit_nested.specs.Below.{AllByRecursion, Bad, IsScreenSize, Line, NestError, NoMemory, Phases, TooLong, most_lines, phases}
+use Rattle.std.specs.Prelude.{◌≡◌, ℕ, ◌+◌, ◌≤◌, ◌==◌, nat_lt, List, length, map, Option, Some, None}
+use Rattle.std.specs.Prelude.{Result, Ok, Err, if◌then◌else◌}
+use Rattle.nit_nested.specs.Below.{AllByRecursion, Bad, IsScreenSize, Line, NestError, NoMemory}
+use Rattle.nit_nested.specs.Below.{Phases, TooLong, most_lines, phases}
 use Rattle.nit_nested.specs.FrameLines.{frame_lines, words_of_lines, IsFrame}
 use Rattle.nit_nested.specs.FrameScript.{count_lines, first_forbidden, frame_script}
 

@@ -1,5 +1,6 @@
 -- What is seen in the buffer of the script that shows frames.
-use Rattle.std.specs.Prelude.{◌≡◌, ℕ, zero, suc, ◌*◌, ◌<◌, true, List, [], ◌∷◌, length, take, slice_index_or}
+use Rattle.std.specs.Prelude.{◌≡◌, ℕ, zero, suc, ◌*◌, ◌<◌, true, List, [], ◌∷◌, length, take}
+use Rattle.std.specs.Prelude.{slice_index_or}
 use Rattle.nit_nested.specs.Below.{Buffer, Line, first_session, is_accepted, serve, words_after}
 use Rattle.nit_script.specs.declared.line.Line.TheVariants as line
 

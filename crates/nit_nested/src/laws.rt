@@ -1,7 +1,11 @@
 //! What the definitions of frames and scripts say of each other.
 
-ghost use Rattle.std.specs.Prelude.{false, ◌≡◌, ◌≤◌, ◌+◌, ◌*◌, ◌++◌, ◌∷◌, [], ℕ, List, None, length, take};
-ghost use Rattle.nit_nested.specs.Terms.{Buffer, CanPay, Line, NestModel, ShowsFrames, count_lines, first_forbidden, first_session, frame_lines, is_accepted, lines_before_end, lines_of_frames, nest_script, phases, serve, static, words_left, words_of_lines};
+ghost use Rattle.std.specs.Prelude.{false, ◌≡◌, ◌≤◌, ◌+◌, ◌*◌, ◌++◌, ◌∷◌, [], ℕ, List, None};
+ghost use Rattle.std.specs.Prelude.{length, take};
+ghost use Rattle.nit_nested.specs.Terms.{Buffer, CanPay, Line, NestModel, ShowsFrames, count_lines};
+ghost use Rattle.nit_nested.specs.Terms.{first_forbidden, first_session, frame_lines, is_accepted};
+ghost use Rattle.nit_nested.specs.Terms.{lines_before_end, lines_of_frames, nest_script, phases};
+ghost use Rattle.nit_nested.specs.Terms.{serve, static, words_left, words_of_lines};
 
 /// The lines of a frame tell its words.
 pub fn lines_tell_their_frame()

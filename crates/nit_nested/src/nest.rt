@@ -1,7 +1,9 @@
 //! Frames, kept as lines of a script.
 
-ghost use Rattle.std.specs.Prelude.{◌≡◌, ◌++◌, ◌+◌, ◌*◌, ◌≤◌, ◌∷◌, [], ℕ, List, Option, Some, None, length, All, IfOk, OnOk, OnErr};
-ghost use Rattle.nit_nested.specs.Terms.{AllByRecursion, CanPay, FitsColour, IsScreenSize, ShowsFrames, UnlessMemory, frame_answer, script_answer};
+ghost use Rattle.std.specs.Prelude.{◌≡◌, ◌++◌, ◌+◌, ◌*◌, ◌≤◌, ◌∷◌, [], ℕ, List, Option, Some, None};
+ghost use Rattle.std.specs.Prelude.{length, All, IfOk, OnOk, OnErr};
+ghost use Rattle.nit_nested.specs.Terms.{AllByRecursion, CanPay, FitsColour, IsScreenSize};
+ghost use Rattle.nit_nested.specs.Terms.{ShowsFrames, UnlessMemory, frame_answer, script_answer};
 
 use crate::error::NestError;
 use crate::frame::Frame;

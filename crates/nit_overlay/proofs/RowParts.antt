@@ -16,7 +16,8 @@ nothing f raw row from = record {
 }
 
 -- what is painted by one rule is painted by another that gives the same words there
-pub painted_by : (f g : ℕ → ℕ → ℕ) (raw old now : List ℕ) (from to : ℕ) → ((k w : ℕ) → from ≤ k → k < to → f k w ≡ g k w)
+pub painted_by : (f g : ℕ → ℕ → ℕ) (raw old now : List ℕ) (from to : ℕ)
+    → ((k w : ℕ) → from ≤ k → k < to → f k w ≡ g k w)
     → IsPainted f raw old now from to → IsPainted g raw old now from to
 painted_by f g raw old now from to same row = record {
   painted = λ k le lt. row.painted k le lt ∙ same k (slice_index raw k) le lt;
@@ -37,7 +38,8 @@ joined f raw old now new from mid to le more first second = record {
   after = λ k ge. second.after k ge ∙ first.after k (omega arith);
 }
 
-pub further : (f : ℕ → ℕ → ℕ) (raw old now new : List ℕ) (from to at next : ℕ) → RowSoFar f raw old now from to at → at ≤ next → next ≤ to
+pub further : (f : ℕ → ℕ → ℕ) (raw old now new : List ℕ) (from to at next : ℕ) → RowSoFar f raw old now from to at
+    → at ≤ next → next ≤ to
     → IsPainted f raw now new at next → RowSoFar f raw old new from to next
 further f raw old now new from to at next far le short part = record {
   after = omega (arith, far.after);

@@ -1,5 +1,6 @@
 -- Parts of a screen.
-use Rattle.std.specs.Prelude.{◌≡◌, ℕ, ◌%◌, ◌/◌, ◌*◌, ◌<◌, ◌≤◌, Bool, ◌&&◌, nat_le, nat_lt, List, slice_index, if◌then◌else◌}
+use Rattle.std.specs.Prelude.{◌≡◌, ℕ, ◌%◌, ◌/◌, ◌*◌, ◌<◌, ◌≤◌, Bool, ◌&&◌, nat_le, nat_lt, List}
+use Rattle.std.specs.Prelude.{slice_index, if◌then◌else◌}
 use Rattle.nit_overlay.specs.Below.{Area, Look, pixel}
 use Rattle.nit_overlay.specs.Look.{scenery}
 use Rattle.nit_overlay.specs.Frame.{shown}

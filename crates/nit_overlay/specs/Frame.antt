@@ -1,6 +1,11 @@
 -- What a screen shows at a pixel.
-use Rattle.std.specs.Prelude.{ℕ, ◌-◌, ◌*◌, Bool, true, false, ◌&&◌, ◌||◌, ℤ, pos, negsuc, ◌+ℤ◌, ◌-ℤ◌, List, [], map, length, slice_index, slice_index_or, Option, Some, None, option_map, codes, if◌then◌else◌}
-use Rattle.nit_overlay.specs.Below.{Flat, Kill, Mode, Point, Rectangle, View, Xray, bar_text_of, bare_word, covers, dim, dot, in_bar, int_eq, is_same, label_place, label_text_of, owner, picture_height, picture_width, pixel, range_with_len, rectangle, tint}
+use Rattle.std.specs.Prelude.{ℕ, ◌-◌, ◌*◌, Bool, true, false, ◌&&◌, ◌||◌, ℤ, pos, negsuc, ◌+ℤ◌}
+use Rattle.std.specs.Prelude.{◌-ℤ◌, List, [], map, length, slice_index, slice_index_or, Option}
+use Rattle.std.specs.Prelude.{Some, None, option_map, codes, if◌then◌else◌}
+use Rattle.nit_overlay.specs.Below.{Flat, Kill, Mode, Point, Rectangle, View, Xray, bar_text_of}
+use Rattle.nit_overlay.specs.Below.{bare_word, covers, dim, dot, in_bar, int_eq, is_same}
+use Rattle.nit_overlay.specs.Below.{label_place, label_text_of, owner, picture_height}
+use Rattle.nit_overlay.specs.Below.{picture_width, pixel, range_with_len, rectangle, tint}
 
 -- what a frame is made by, but for the words of the clients: the screen's size and the rows of its
 -- status bar, all views, front first, the labels of the sessions, the mode, and the focused session

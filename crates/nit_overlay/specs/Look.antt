@@ -1,5 +1,6 @@
 -- What a look shows, and when it is one.
-use Rattle.std.specs.Prelude.{◌≡◌, ℕ, ◌<◌, Bool, true, false, length, slice_get, All, Some, option_map, IfSome, IsTrue}
+use Rattle.std.specs.Prelude.{◌≡◌, ℕ, ◌<◌, Bool, true, false, length, slice_get, All, Some}
+use Rattle.std.specs.Prelude.{option_map, IfSome, IsTrue}
 use Rattle.nit_overlay.specs.Below.{Flat, Look, Mode, Point, SlotView, point, views_of}
 use Rattle.nit_overlay.specs.Frame.{Scenery, label_place_of}
 

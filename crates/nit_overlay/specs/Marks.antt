@@ -1,7 +1,9 @@
 -- The server's own marks on the pixels of views.
-use Rattle.std.specs.Prelude.{◌≡◌, ◌⊎◌, ℕ, ◌<◌, ◌≤◌, Bool, true, false, ◌&&◌, List, ◌++◌, codes, Option, None, Some}
+use Rattle.std.specs.Prelude.{◌≡◌, ◌⊎◌, ℕ, ◌<◌, ◌≤◌, Bool, true, false, ◌&&◌, List, ◌++◌, codes}
+use Rattle.std.specs.Prelude.{Option, None, Some}
 use Rattle.nit_overlay.specs.Below.{Point, View, blue, green, owner, red}
-use Rattle.nit_overlay.specs.Frame.{Scenery, bar_text, grey_word, has_dot, is_in_picture, is_on_ring, label_of, label_place_of, view_text, white_word}
+use Rattle.nit_overlay.specs.Frame.{Scenery, bar_text, grey_word, has_dot, is_in_picture}
+use Rattle.nit_overlay.specs.Frame.{is_on_ring, label_of, label_place_of, view_text, white_word}
 
 -- ---- words
 

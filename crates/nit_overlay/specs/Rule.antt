@@ -1,6 +1,7 @@
 -- How a pixel is painted.
 use Rattle.std.specs.Prelude.{ℕ, ◌+◌, ◌-◌, ◌<◌, ◌≤◌, length}
-use Rattle.nit_overlay.specs.Below.{Dim, Fill, Raw, Rule, Tag, Text, Tint, dim, dot, picture_height, picture_width, tint}
+use Rattle.nit_overlay.specs.Below.{Dim, Fill, Raw, Rule, Tag, Text, Tint, dim, dot, picture_height}
+use Rattle.nit_overlay.specs.Below.{picture_width, tint}
 use Rattle.nit_overlay.specs.Frame.{ink_of}
 
 -- the word that a rule gives to the pixel in column x and row y, whose raw word is w

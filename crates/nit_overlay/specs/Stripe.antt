@@ -1,6 +1,8 @@
 -- The rules of the pixels of a view, in a row.
-use Rattle.std.specs.Prelude.{ℕ, ◌+◌, ◌<◌, ◌≤◌, ◌^◌, Bool, true, false, ◌&&◌, ◌||◌, nat_le, nat_lt, length, Option, None, Some, if◌then◌else◌}
-use Rattle.nit_overlay.specs.Below.{Dim, Fill, Flat, Kill, Mode, Raw, Rule, Stripe, Tag, Text, Tint, Xray, picture_height, picture_width}
+use Rattle.std.specs.Prelude.{ℕ, ◌+◌, ◌<◌, ◌≤◌, ◌^◌, Bool, true, false, ◌&&◌, ◌||◌, nat_le, nat_lt}
+use Rattle.std.specs.Prelude.{length, Option, None, Some, if◌then◌else◌}
+use Rattle.nit_overlay.specs.Below.{Dim, Fill, Flat, Kill, Mode, Raw, Rule, Stripe, Tag, Text, Tint}
+use Rattle.nit_overlay.specs.Below.{Xray, picture_height, picture_width}
 use Rattle.nit_overlay.specs.Frame.{white_word, grey_word, red_word}
 use Rattle.nit_overlay.specs.Span.{has_at_end}
 

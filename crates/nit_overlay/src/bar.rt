@@ -1,7 +1,9 @@
 //! The status bar.
 
-ghost use Rattle.std.specs.Prelude.{◌≡◌, ℕ, ◌*◌, ◌<◌, List, length, nat_lt, slice_index, if◌then◌else◌};
-ghost use Rattle.nit_overlay.specs.Terms.{IsLook, IsPainted, IsRowPart, bar_text, bar_word, mode_word, pixel, point, scenery};
+ghost use Rattle.std.specs.Prelude.{◌≡◌, ℕ, ◌*◌, ◌<◌, List, length, nat_lt, slice_index};
+ghost use Rattle.std.specs.Prelude.{if◌then◌else◌};
+ghost use Rattle.nit_overlay.specs.Terms.{IsLook, IsPainted, IsRowPart, bar_text, bar_word};
+ghost use Rattle.nit_overlay.specs.Terms.{mode_word, pixel, point, scenery};
 
 use crate::look::Look;
 use crate::paint::{Tag, fill_part, paint_tag};

@@ -1,7 +1,11 @@
 //! Laws of frames.
 
-ghost use Rattle.std.specs.Prelude.{◌≡◌, ◌⊎◌, ℕ, ◌*◌, ◌<◌, All, Bool, IsTrue, List, Some, false, true, length, slice_index};
-ghost use Rattle.nit_overlay.specs.Terms.{Flat, IsBright, IsMark, IsOfNamed, IsReddish, IsRenewed, IsWord, Kill, Point, Scenery, View, Xray, draws_labels, frame, in_bar, in_label, ink_of, is_label_dot, is_some, owner, pixel, shown, white_word};
+ghost use Rattle.std.specs.Prelude.{◌≡◌, ◌⊎◌, ℕ, ◌*◌, ◌<◌, All, Bool, IsTrue, List, Some, false};
+ghost use Rattle.std.specs.Prelude.{true, length, slice_index};
+ghost use Rattle.nit_overlay.specs.Terms.{Flat, IsBright, IsMark, IsOfNamed, IsReddish, IsRenewed};
+ghost use Rattle.nit_overlay.specs.Terms.{IsWord, Kill, Point, Scenery, View, Xray, draws_labels};
+ghost use Rattle.nit_overlay.specs.Terms.{frame, in_bar, in_label, ink_of, is_label_dot, is_some};
+ghost use Rattle.nit_overlay.specs.Terms.{owner, pixel, shown, white_word};
 
 /// A frame has one word for each pixel of the screen, row by row from the top: the word that is
 /// shown there. Where all raw words are below 2^24, so are its words. Equal raw words make equal
@@ -33,10 +37,11 @@ pub fn kept_frames()
 /// The server's marks on views are its own. In the modes that draw labels, a pixel in the label of
 /// the view that owns it is white or black, whatever the client painted there.
 ///
-/// In mode Xray a word with a channel of 128 or more stands nowhere but in the status bar, in pixels
-/// of the focused session, which the text of the bar names, and in two marks: the white dots of a
-/// view's label, and the grey ring of a view. So a session without the focus shows neither white nor
-/// the grey of rings, whatever it paints. Where its views and so its rings stand is its own choice.
+/// In mode Xray a word with a channel of 128 or more stands nowhere but in the status bar, in
+/// pixels of the focused session, which the text of the bar names, and in two marks: the white dots
+/// of a view's label, and the grey ring of a view. So a session without the focus shows neither
+/// white nor the grey of rings, whatever it paints. Where its views and so its rings stand is its
+/// own choice.
 ///
 /// In mode Kill each pixel that a view owns, outside its label, shows red of 128 or more, and green
 /// and blue below. So white and black below the status bar are those of labels. The red of rings is

@@ -30,10 +30,10 @@
 //! depends on the raw word, and on whether the pixel has an owner, alone. So there the raw words of
 //! what was painted are the frame's.
 //!
-//! Where owners are not known, a row is painted by pieces that have one owner or none, and a piece by
-//! runs that have one rule. So the stack is searched once for each piece of a row, and not for each
-//! pixel. Where a piece comes with its owner, nothing is searched: it is cut into bands of rows that
-//! are painted alike, at most five, and a band into runs of columns.
+//! Where owners are not known, a row is painted by pieces that have one owner or none, and a piece
+//! by runs that have one rule. So the stack is searched once for each piece of a row, and not for
+//! each pixel. Where a piece comes with its owner, nothing is searched: it is cut into bands of
+//! rows that are painted alike, at most five, and a band into runs of columns.
 #![tactic(auto)]
 
 mod area;

@@ -1,7 +1,8 @@
 //! Rectangles of the screen, and whole frames.
 
 ghost use Rattle.std.specs.Prelude.{◌≡◌, ℕ, ◌*◌, ◌<◌, length, slice_index, All, if◌then◌else◌};
-ghost use Rattle.nit_overlay.specs.Terms.{IsArea, IsLook, IsScreenSize, IsShownIn, IsWord, covers, frame, pixel, scenery, shown};
+ghost use Rattle.nit_overlay.specs.Terms.{IsArea, IsLook, IsScreenSize, IsShownIn, IsWord, covers};
+ghost use Rattle.nit_overlay.specs.Terms.{frame, pixel, scenery, shown};
 
 use crate::area::{Area, area_of};
 use crate::look::Look;

@@ -1,7 +1,10 @@
 //! Who owns the pixels of a row.
 
-ghost use Rattle.std.specs.Prelude.{◌≡◌, ℕ, ◌<◌, ◌≤◌, true, length, option_map, slice_get, Some, IfSome, IsTrue};
-ghost use Rattle.nit_overlay.specs.Terms.{IsLook, IsOwner, IsPlaced, IsStack, draws_labels, has_slot, label_place_of, most_height, most_width, owner, pixel_at, point, scenery, slot_view_in, views_of};
+ghost use Rattle.std.specs.Prelude.{◌≡◌, ℕ, ◌<◌, ◌≤◌, true, length, option_map, slice_get, Some};
+ghost use Rattle.std.specs.Prelude.{IfSome, IsTrue};
+ghost use Rattle.nit_overlay.specs.Terms.{IsLook, IsOwner, IsPlaced, IsStack, draws_labels};
+ghost use Rattle.nit_overlay.specs.Terms.{has_slot, label_place_of, most_height, most_width, owner};
+ghost use Rattle.nit_overlay.specs.Terms.{pixel_at, point, scenery, slot_view_in, views_of};
 
 use crate::look::Look;
 use crate::span::reach;

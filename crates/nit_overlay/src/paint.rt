@@ -1,7 +1,8 @@
 //! A run of pixels that have one rule.
 
 ghost use Rattle.std.specs.Prelude.{◌≡◌, ℕ, ◌+◌, ◌<◌, ◌≤◌, List, length, slice_index, All};
-ghost use Rattle.nit_overlay.specs.Terms.{IsInTag, IsPainted, IsRowPart, IsTagged, IsWord, most_width, word_by};
+ghost use Rattle.nit_overlay.specs.Terms.{IsInTag, IsPainted, IsRowPart, IsTagged, IsWord};
+ghost use Rattle.nit_overlay.specs.Terms.{most_width, word_by};
 
 use crate::row_part::RowPart;
 use nit_glyph::{LabelText, label_bit};

@@ -1,7 +1,13 @@
 //! Pieces of the screen, each of which has one owner or none.
 
-ghost use Rattle.std.specs.Prelude.{◌≡◌, ℕ, ◌*◌, ◌<◌, ◌≤◌, length, slice_index, All, IfSome, IsTrue, None, Some, true, if◌then◌else◌};
-ghost use Rattle.nit_overlay.specs.Terms.{IsArea, IsAreaBy, IsLook, IsOwner, IsPainted, IsRowOfTag, IsRowPart, IsScreenSize, IsShownIn, IsTagged, IsWord, Point, covers, has_slot, in_area, most_height, most_width, option_map, pixel, point, scenery, seat_owner, shown, stripe_rule, unowned_word, view_ref, view_word, word_by};
+ghost use Rattle.std.specs.Prelude.{◌≡◌, ℕ, ◌*◌, ◌<◌, ◌≤◌, length, slice_index, All, IfSome};
+ghost use Rattle.std.specs.Prelude.{IsTrue, None, Some, true, if◌then◌else◌};
+ghost use Rattle.nit_overlay.specs.Terms.{IsArea, IsAreaBy, IsLook, IsOwner, IsPainted, IsRowOfTag};
+ghost use Rattle.nit_overlay.specs.Terms.{IsRowPart, IsScreenSize, IsShownIn, IsTagged, IsWord};
+ghost use Rattle.nit_overlay.specs.Terms.{Point, covers, has_slot, in_area, most_height};
+ghost use Rattle.nit_overlay.specs.Terms.{most_width, option_map, pixel, point, scenery};
+ghost use Rattle.nit_overlay.specs.Terms.{seat_owner, shown, stripe_rule, unowned_word, view_ref};
+ghost use Rattle.nit_overlay.specs.Terms.{view_word, word_by};
 
 use crate::area::{Area, area_of};
 use crate::bar::overlay_bar;

@@ -1,7 +1,9 @@
 //! A row of the screen, by the pieces of it that have one owner.
 
 ghost use Rattle.std.specs.Prelude.{◌≡◌, ◌<◌, ◌≤◌, length, option_map, All, IfSome};
-ghost use Rattle.nit_overlay.specs.Terms.{IsLook, IsOwner, IsPainted, IsRowOfTag, IsRowPart, IsWord, most_height, owner, owner_word, point, scenery, shown, stripe_rule, word_by};
+ghost use Rattle.nit_overlay.specs.Terms.{IsLook, IsOwner, IsPainted, IsRowOfTag, IsRowPart};
+ghost use Rattle.nit_overlay.specs.Terms.{IsWord, most_height, owner, owner_word, point, scenery};
+ghost use Rattle.nit_overlay.specs.Terms.{shown, stripe_rule, word_by};
 
 use crate::bar::overlay_bar;
 use crate::look::Look;

@@ -1,7 +1,9 @@
 //! Columns or rows of a rectangle, counted so that none is below 0.
 
 ghost use Rattle.std.specs.Prelude.{◌≡◌, ℕ, ◌+◌, ◌<◌, ◌≤◌, ◌==◌, pos, negsuc, ◌+ℤ◌, ◌-ℤ◌, ◌≤ℤ◌};
-ghost use Rattle.nit_overlay.specs.Terms.{IsPlace, covers, has_at_end, int_eq, most_edge, most_height, most_length, most_width, moved_of, point, span_has, spans};
+ghost use Rattle.nit_overlay.specs.Terms.{IsPlace, covers, has_at_end, int_eq, most_edge};
+ghost use Rattle.nit_overlay.specs.Terms.{most_height, most_length, most_width, moved_of, point};
+ghost use Rattle.nit_overlay.specs.Terms.{span_has, spans};
 
 use nit_rect::Rect;
 

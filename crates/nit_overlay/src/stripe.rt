@@ -1,7 +1,12 @@
 //! A row of a view.
 
-ghost use Rattle.std.specs.Prelude.{◌≡◌, ℕ, ◌+◌, ◌<◌, ◌≤◌, ◌||◌, ◌==◌, true, false, length, Option, Some, None, IfSome};
-ghost use Rattle.nit_overlay.specs.Terms.{IsOwner, IsRowOfTag, IsTagged, Rule, by_label, draws_labels, has_at_end, is_on_ring, is_same, label_place_of, mode_rule, most_height, most_width, picture_width, point, scenery, stripe_rule, tag_rule, view_text, view_word, word_by};
+ghost use Rattle.std.specs.Prelude.{◌≡◌, ℕ, ◌+◌, ◌<◌, ◌≤◌, ◌||◌, ◌==◌, true, false, length, Option};
+ghost use Rattle.std.specs.Prelude.{Some, None, IfSome};
+ghost use Rattle.nit_overlay.specs.Terms.{IsOwner, IsRowOfTag, IsTagged, Rule, by_label};
+ghost use Rattle.nit_overlay.specs.Terms.{draws_labels, has_at_end, is_on_ring, is_same};
+ghost use Rattle.nit_overlay.specs.Terms.{label_place_of, mode_rule, most_height, most_width};
+ghost use Rattle.nit_overlay.specs.Terms.{picture_width, point, scenery, stripe_rule, tag_rule};
+ghost use Rattle.nit_overlay.specs.Terms.{view_text, view_word, word_by};
 
 use crate::look::Look;
 use crate::owner::Owner;

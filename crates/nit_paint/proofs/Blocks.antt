@@ -1,26 +1,36 @@
 -- Rows of a block of the screen, and the pixels of each.
-use Rattle.std.proofs.Common.{Bool, List, None, Option, Some, ap, arith, cond, false, length, nat_le, nat_lt, refl, subst, suc, sym, true, zero, ℕ, ◌%◌, ◌&&◌, ◌*◌, ◌+◌, ◌/◌, ◌<◌, ◌==◌, ◌||◌, ◌∙◌, ◌≡◌, ◌≤◌}
-use Rattle.nit_paint.proofs.Basics.{Block, PixelSource, Reach, Repainted, Sight, black_or_word, in_rows, in_run, index_at, index_from, long, mul-le-mul_right, nat_tests, option_map, reached, row_at, row_source}
+use Rattle.std.proofs.Common.{Bool, List, None, Option, Some, ap, arith, cond, false, length}
+use Rattle.std.proofs.Common.{nat_le, nat_lt, refl, subst, suc, sym, true, zero, ℕ, ◌%◌, ◌&&◌, ◌*◌}
+use Rattle.std.proofs.Common.{◌+◌, ◌/◌, ◌<◌, ◌==◌, ◌||◌, ◌∙◌, ◌≡◌, ◌≤◌}
+use Rattle.nit_paint.proofs.Basics.{Block, PixelSource, Reach, Repainted, Sight, black_or_word}
+use Rattle.nit_paint.proofs.Basics.{in_rows, in_run, index_at, index_from, long, mul-le-mul_right}
+use Rattle.nit_paint.proofs.Basics.{nat_tests, option_map, reached, row_at, row_source}
 use mathlib.Core.Logic.{dite}
 use native.Mathlib.Decide.{ℕ_discrete, dec_lt}
 use Rattle.nit_paint.proofs.RepaintLemmas.{other_count, repainted_none, repainted_union}
 
 -- the column and the row of a pixel say whether it is one of a run within a row
-run_in_row : (w y x n q r : ℕ) → r < w → x + n ≤ w → in_run (y * w + x) n (q * w + r) ≡ ((nat_le x r && nat_lt r (x + n)) && (q == y))
+run_in_row : (w y x n q r : ℕ) → r < w → x + n ≤ w
+    → in_run (y * w + x) n (q * w + r) ≡ ((nat_le x r && nat_lt r (x + n)) && (q == y))
 run_in_row w y x n q r inside fits = dite (ℕ_discrete q y)
-    (λ e. subst (λ (z : ℕ). in_run (y * w + x) n (z * w + r) ≡ ((nat_le x r && nat_lt r (x + n)) && (z == y))) (sym e) (grind (arith, nat_tests)))
+    (λ e. subst (λ (z : ℕ). in_run (y * w + x) n (z * w + r) ≡ ((nat_le x r && nat_lt r (x + n)) && (z == y))) (sym e)
+    (grind (arith, nat_tests)))
     (λ ne. dite (dec_lt q y)
-    (λ l. let m : suc q * w ≤ y * w = mul-le-mul_right w l in let p : suc q * w ≡ q * w + w = omega (arith, Rattle.std.proofs.Common.suc-mul q w) in grind (arith, nat_tests))
-    (λ l. let m : suc y * w ≤ q * w = mul-le-mul_right w (omega arith) in let p : suc y * w ≡ y * w + w = omega (arith, Rattle.std.proofs.Common.suc-mul y w) in grind (arith, nat_tests)))
+    (λ l. let m : suc q * w ≤ y * w = mul-le-mul_right w l in let p : suc q * w ≡ q * w + w =
+    omega (arith, Rattle.std.proofs.Common.suc-mul q w) in grind (arith, nat_tests))
+    (λ l. let m : suc y * w ≤ q * w = mul-le-mul_right w (omega arith) in let p : suc y * w ≡ y * w + w =
+    omega (arith, Rattle.std.proofs.Common.suc-mul y w) in grind (arith, nat_tests)))
 
 no_rows : (b : Block) (k : ℕ) → in_rows b 0 k ≡ false
 no_rows b k = grind (arith, nat_tests)
 
 module _ (b : Block) (fits : b.left + b.wide ≤ b.width) (some : 0 < b.width) (j k : ℕ) where
-  this_row : in_run (row_at b j) b.wide k ≡ ((nat_le b.left (k % b.width) && nat_lt (k % b.width) (b.left + b.wide)) && ((k / b.width) == (b.top + j)))
+  this_row : in_run (row_at b j) b.wide k
+      ≡ ((nat_le b.left (k % b.width) && nat_lt (k % b.width) (b.left + b.wide)) && ((k / b.width) == (b.top + j)))
   this_row =
       let whole : k / b.width * b.width + k % b.width ≡ k = omega arith in
-      ap (in_run (row_at b j) b.wide) (sym whole) ∙ run_in_row b.width (b.top + j) b.left b.wide (k / b.width) (k % b.width) (omega arith) fits
+      ap (in_run (row_at b j) b.wide) (sym whole)
+      ∙ run_in_row b.width (b.top + j) b.left b.wide (k / b.width) (k % b.width) (omega arith) fits
 
   row_next : (in_rows b j k || in_run (row_at b j) b.wide k) ≡ in_rows b (j + 1) k
   row_next = ap (λ t. in_rows b j k || t) this_row ∙ grind (arith, nat_tests)
@@ -28,23 +38,30 @@ module _ (b : Block) (fits : b.left + b.wide ≤ b.width) (some : 0 < b.width) (
   row_apart : (in_rows b j k && in_run (row_at b j) b.wide k) ≡ false
   row_apart = ap (λ t. in_rows b j k && t) this_row ∙ grind (arith, nat_tests)
 
-pub rows_none : (source : ℕ → PixelSource) (b : Block) (n : ℕ) (glasses : ℕ → Sight) (raw : List ℕ) → Repainted source (in_rows b 0) n glasses glasses raw raw
+pub rows_none : (source : ℕ → PixelSource) (b : Block) (n : ℕ) (glasses : ℕ → Sight) (raw : List ℕ)
+    → Repainted source (in_rows b 0) n glasses glasses raw raw
 rows_none source b n glasses raw = repainted_none source (in_rows b 0) n glasses raw (λ k l. no_rows b k)
 
-pub rows_more : (source : ℕ → PixelSource) (b : Block) (j at wide n m : ℕ) (before mid after : ℕ → Sight) (raw first last : List ℕ) → b.left + b.wide ≤ b.width → 0 < b.width
+pub rows_more : (source : ℕ → PixelSource) (b : Block) (j at wide n m : ℕ) (before mid after : ℕ → Sight)
+    (raw first last : List ℕ) → b.left + b.wide ≤ b.width → 0 < b.width
     → at ≡ row_at b j → wide ≡ b.wide → m ≡ n
-    → Repainted source (in_rows b j) n before mid raw first → Repainted source (in_run at wide) m mid after first last → Repainted source (in_rows b (j + 1)) n before after raw last
+    → Repainted source (in_rows b j) n before mid raw first → Repainted source (in_run at wide) m mid after first last
+    → Repainted source (in_rows b (j + 1)) n before after raw last
 rows_more source b j at wide n m before mid after raw first last fits some is all count r s =
-    repainted_union source (in_rows b j) (in_run (row_at b j) b.wide) (in_rows b (j + 1)) n before mid after raw first last (row_apart b fits some j) (row_next b fits some j) r row
+    repainted_union source (in_rows b j) (in_run (row_at b j) b.wide) (in_rows b (j + 1)) n before mid after raw first
+    last (row_apart b fits some j) (row_next b fits some j) r row
   where
     row : Repainted source (in_run (row_at b j) b.wide) n mid after first last
     row =
         subst (λ (z : ℕ). Repainted source (in_run z b.wide) n mid after first last) is
-        (subst (λ (z : ℕ). Repainted source (in_run at z) n mid after first last) all (other_count source (in_run at wide) m n mid after first last count s))
+        (subst (λ (z : ℕ). Repainted source (in_run at z) n mid after first last) all
+        (other_count source (in_run at wide) m n mid after first last count s))
 
-pub rows_end : (source : ℕ → PixelSource) (b : Block) (j rows n : ℕ) (before after : ℕ → Sight) (raw raw' : List ℕ) → j ≡ rows
+pub rows_end : (source : ℕ → PixelSource) (b : Block) (j rows n : ℕ) (before after : ℕ → Sight) (raw raw' : List ℕ)
+    → j ≡ rows
     → Repainted source (in_rows b j) n before after raw raw' → Repainted source (in_rows b rows) n before after raw raw'
-rows_end source b j rows n before after raw raw' e r = subst (λ (z : ℕ). Repainted source (in_rows b z) n before after raw raw') e r
+rows_end source b j rows n before after raw raw' e r =
+    subst (λ (z : ℕ). Repainted source (in_rows b z) n before after raw raw') e r
 
 -- the index of a word by its column, and by its row's first word
 by_start : (w : ℕ) (column row : Option ℕ) → index_at w column row ≡ index_from (option_map (λ y. y * w) row) column
@@ -54,7 +71,10 @@ by_start w None (Some y) = refl
 by_start w None None = refl
 
 -- what a row's pixels show, by the row's first word
-pub row_told : (source : ℕ → PixelSource) (at sid w n : ℕ) (r : Reach) (row start : Option ℕ) → start ≡ option_map (λ y. y * w) row → long r ≡ n
-    → ((i : ℕ) → i < n → source (at + i) ≡ black_or_word sid (index_at w (reached r i) row)) → (i : ℕ) → i < long r → source (at + i) ≡ row_source sid r start i
+pub row_told : (source : ℕ → PixelSource) (at sid w n : ℕ) (r : Reach) (row start : Option ℕ)
+    → start ≡ option_map (λ y. y * w) row → long r ≡ n
+    → ((i : ℕ) → i < n → source (at + i) ≡ black_or_word sid (index_at w (reached r i) row)) → (i : ℕ) → i < long r
+    → source (at + i) ≡ row_source sid r start i
 row_told source at sid w n r row start is all told i l =
-    told i (omega arith) ∙ ap (black_or_word sid) (by_start w (reached r i) row) ∙ ap (λ o. black_or_word sid (index_from o (reached r i))) (sym is)
+    told i (omega arith) ∙ ap (black_or_word sid) (by_start w (reached r i) row)
+    ∙ ap (λ o. black_or_word sid (index_from o (reached r i))) (sym is)

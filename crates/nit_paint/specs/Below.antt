@@ -5,8 +5,11 @@ pub use Rattle.nit_rect.specs.Rectangle.{IsPlace, Rectangle, covers, rectangle}
 pub use Rattle.nit_rect.specs.Strips.{IsScreenRectangle}
 pub use Rattle.nit_rect.specs.declared.point.Point.{Point}
 pub use Rattle.nit_stack.specs.SourceAnswers.{session_of, word_count}
-pub use Rattle.nit_stack.specs.Sources.{Bare, Black, PixelSource, Word, among, black_or_word, buffer_place, index_at, owner_in, pixel, point, shown_index, source}
-pub use Rattle.nit_stack.specs.Stack.{IsOnScreen, IsScreenSize, IsSlotView, IsStack, StackModel, has_slot, is_slot, size_of, slot_view_in, view_ref}
+pub use Rattle.nit_stack.specs.Sources.{Bare, Black, PixelSource, Word, among, black_or_word}
+pub use Rattle.nit_stack.specs.Sources.{buffer_place, index_at, owner_in, pixel, point, shown_index}
+pub use Rattle.nit_stack.specs.Sources.{source}
+pub use Rattle.nit_stack.specs.Stack.{IsOnScreen, IsScreenSize, IsSlotView, IsStack, StackModel}
+pub use Rattle.nit_stack.specs.Stack.{has_slot, is_slot, size_of, slot_view_in, view_ref}
 pub use Rattle.nit_stack.specs.ViewNames.{views_of}
 pub use Rattle.nit_stack.specs.declared.view.Piece.{Piece}
 pub use Rattle.nit_stack.specs.declared.view.View.{View}

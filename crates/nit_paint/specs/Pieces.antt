@@ -1,6 +1,8 @@
 -- Pieces of the screen, and what their pixels show.
 use Rattle.std.specs.Prelude.{◌≡◌, ℕ, pos, ◌+ℤ◌, ◌≤ℤ◌, Bool, IsTrue}
-use Rattle.nit_paint.specs.Below.{IsScreenRectangle, Piece, PixelSource, Point, Rectangle, StackModel, covers, option_map, option_map_or, owner_in, pixel, session_of, size_of, source, view_ref, views_of, word_count}
+use Rattle.nit_paint.specs.Below.{IsScreenRectangle, Piece, PixelSource, Point, Rectangle}
+use Rattle.nit_paint.specs.Below.{StackModel, covers, option_map, option_map_or, owner_in, pixel}
+use Rattle.nit_paint.specs.Below.{session_of, size_of, source, view_ref, views_of, word_count}
 
 -- the source of the pixel of a number
 abbrev pub source_of_number : StackModel → ℕ → PixelSource

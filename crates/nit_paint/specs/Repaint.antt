@@ -1,7 +1,8 @@
 -- Pixels that are loaded again: what each of them holds then, and what was loaded for it. The
 -- glasses are told by the numbers of their sessions, and the pixels by their numbers, row by row
 -- from the top.
-use Rattle.std.specs.Prelude.{◌≡◌, ℕ, zero, suc, ◌+◌, ◌<◌, ◌==◌, Bool, true, false, ◌&&◌, List, [], ◌∷◌, count_by, Contains, slice_index_or, None, if◌then◌else◌}
+use Rattle.std.specs.Prelude.{◌≡◌, ℕ, zero, suc, ◌+◌, ◌<◌, ◌==◌, Bool, true, false, ◌&&◌, List, []}
+use Rattle.std.specs.Prelude.{◌∷◌, count_by, Contains, slice_index_or, None, if◌then◌else◌}
 use Rattle.nit_paint.specs.Below.{Bare, Black, IsLoaded, PixelSource, Sight, Word, bare_word, seen}
 
 -- the sight where there is no glass

@@ -1,6 +1,8 @@
 -- Pixels that stand side by side, and what they show of one row of a buffer.
-use Rattle.std.specs.Prelude.{ℕ, ◌+◌, ◌-◌, ◌*◌, ◌&&◌, Bool, nat_le, nat_lt, pos, Option, Some, None, if◌then◌else◌}
-use Rattle.nit_paint.specs.Below.{Bare, Black, PixelSource, Word, bare_word, black_or_word, rectangle}
+use Rattle.std.specs.Prelude.{ℕ, ◌+◌, ◌-◌, ◌*◌, ◌&&◌, Bool, nat_le, nat_lt, pos, Option, Some, None}
+use Rattle.std.specs.Prelude.{if◌then◌else◌}
+use Rattle.nit_paint.specs.Below.{Bare, Black, PixelSource, Word, bare_word, black_or_word}
+use Rattle.nit_paint.specs.Below.{rectangle}
 use Rattle.nit_paint.specs.declared.reach.Reach.{Reach}
 use Rattle.nit_paint.specs.declared.block.Block.{Block}
 use Rattle.nit_paint.specs.Pieces.{has_pixel}

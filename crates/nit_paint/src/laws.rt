@@ -1,7 +1,11 @@
 //! Laws of repainting, over plain lists.
 
-ghost use Rattle.std.specs.Prelude.{◌≡◌, ℕ, ◌+◌, ◌<◌, Bool, List, All, false, true, IsTrue, option_map, length, slice_set, ◌&&◌, ◌||◌};
-ghost use Rattle.nit_paint.specs.Terms.{HasPixels, IsOnScreen, IsPiece, IsScreenSize, IsWord, IsWordOfSource, Piece, PixelSource, Point, Repainted, Sight, StackModel, covers, loads_of, owner_in, seen, view_ref};
+ghost use Rattle.std.specs.Prelude.{◌≡◌, ℕ, ◌+◌, ◌<◌, Bool, List, All, false, true, IsTrue};
+ghost use Rattle.std.specs.Prelude.{option_map, length, slice_set, ◌&&◌, ◌||◌};
+ghost use Rattle.nit_paint.specs.Terms.{HasPixels, IsOnScreen, IsPiece, IsScreenSize, IsWord};
+ghost use Rattle.nit_paint.specs.Terms.{IsWordOfSource, Piece, PixelSource, Point, Repainted};
+ghost use Rattle.nit_paint.specs.Terms.{Sight, StackModel, covers, loads_of, owner_in, seen};
+ghost use Rattle.nit_paint.specs.Terms.{view_ref};
 
 /// Where no pixel is marked, nothing is loaded and nothing changes.
 pub fn nothing_repainted()

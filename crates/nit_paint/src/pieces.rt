@@ -1,7 +1,12 @@
 //! Pieces of the screen, row by row.
 
-ghost use Rattle.std.specs.Prelude.{◌≡◌, ℕ, ◌+◌, ◌*◌, ◌<◌, ◌≤◌, All, List, length, pos, ◌+ℤ◌, ◌≤ℤ◌, IsSomeAnd, None, true};
-ghost use Rattle.nit_paint.specs.Terms.{Bare, IsPiece, IsWord, PixelSource, Repainted, Sight, among, black_or_word, has_pixel, has_slot, in_rows, index_at, least_place, long, most_place, most_side, reached, row_at, seen, session_shown, source_of_number, with_glass, words_shown};
+ghost use Rattle.std.specs.Prelude.{◌≡◌, ℕ, ◌+◌, ◌*◌, ◌<◌, ◌≤◌, All, List, length, pos, ◌+ℤ◌, ◌≤ℤ◌};
+ghost use Rattle.std.specs.Prelude.{IsSomeAnd, None, true};
+ghost use Rattle.nit_paint.specs.Terms.{Bare, IsPiece, IsWord, PixelSource, Repainted, Sight};
+ghost use Rattle.nit_paint.specs.Terms.{among, black_or_word, has_pixel, has_slot, in_rows};
+ghost use Rattle.nit_paint.specs.Terms.{index_at, least_place, long, most_place, most_side};
+ghost use Rattle.nit_paint.specs.Terms.{reached, row_at, seen, session_shown, source_of_number};
+ghost use Rattle.nit_paint.specs.Terms.{with_glass, words_shown};
 
 use crate::block::Block;
 use crate::reach::{Reach, buffer_place, row_start};

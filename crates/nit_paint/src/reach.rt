@@ -1,7 +1,8 @@
 //! How far a buffer reaches along a row of pixels and down a column of them.
 
 ghost use Rattle.std.specs.Prelude.{◌≡◌, ℕ, ◌+◌, ◌*◌, ◌<◌, ◌≤◌, pos, ◌+ℤ◌, ◌≤ℤ◌, IfSome};
-ghost use Rattle.nit_paint.specs.Below.{IsPlace, among, buffer_place, most_side, most_width, option_map};
+ghost use Rattle.nit_paint.specs.Below.{IsPlace, among, buffer_place, most_side, most_width};
+ghost use Rattle.nit_paint.specs.Below.{option_map};
 ghost use Rattle.nit_paint.specs.Ranges.{least_place, most_place};
 
 /// A row of pixels against a buffer's columns: first pixels that the buffer does not reach, then

@@ -1,7 +1,8 @@
 //! Pixels that stand side by side.
 
 ghost use Rattle.std.specs.Prelude.{◌≡◌, ℕ, ◌+◌, ◌<◌, ◌≤◌, length, IfSome, Some};
-ghost use Rattle.nit_paint.specs.Terms.{PixelSource, Repainted, Sight, Word, in_run, long, most_buffer, own_word, row_source, with_glass};
+ghost use Rattle.nit_paint.specs.Terms.{PixelSource, Repainted, Sight, Word, in_run, long};
+ghost use Rattle.nit_paint.specs.Terms.{most_buffer, own_word, row_source, with_glass};
 
 use crate::reach::Reach;
 use nit_word::Glass;

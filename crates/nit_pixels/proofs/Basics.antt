@@ -1,5 +1,9 @@
 -- What lemmas use: the words of clauses, the library's lemmas, and those of the crates below.
 pub use Rattle.atomic_table.proofs.Lists.{at_set, at_snoc, set_again}
-pub use Rattle.nit_pixels.specs.Terms.{Allows, End, Identity, IsInked, IsOwners, IsPixelRule, IsViewOf, IsWord, LoadStep, PixelSeat, PixelView, SeatState, Splits, StoreStep, keeps, new_sight, opening, option_map, owner_view, reader_view, sight_of, step, view_loaded, view_stored, zeros}
+pub use Rattle.nit_pixels.specs.Terms.{Allows, End, Identity, IsInked, IsOwners, IsPixelRule}
+pub use Rattle.nit_pixels.specs.Terms.{IsViewOf, IsWord, LoadStep, PixelSeat, PixelView, SeatState}
+pub use Rattle.nit_pixels.specs.Terms.{Splits, StoreStep, keeps, new_sight, opening, option_map}
+pub use Rattle.nit_pixels.specs.Terms.{owner_view, reader_view, sight_of, step, view_loaded}
+pub use Rattle.nit_pixels.specs.Terms.{view_stored, zeros}
 pub use Rattle.nit_word.proofs.ForCallers.{inked_fits, length-zeros, zero_inked}
 pub use Rattle.std.proofs.Common.{ap, arith, length, rules, subst, sym, ◌∙◌}

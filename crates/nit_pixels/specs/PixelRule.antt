@@ -1,7 +1,9 @@
 -- The rule of the pixel words, and what each kind of step does to the view of the seat that makes
 -- it.
-use Rattle.std.specs.Prelude.{◌≡◌, ℕ, List, [], ◌∷◌, ◌++◌, All, Some, None, IfSome, IsSome, slice_index, slice_set}
-use Rattle.nit_pixels.specs.Below.{Identity, IsInked, IsWord, Me, PixelView, State, Step, option_map, zeros}
+use Rattle.std.specs.Prelude.{◌≡◌, ℕ, List, [], ◌∷◌, ◌++◌, All, Some, None, IfSome, IsSome}
+use Rattle.std.specs.Prelude.{slice_index, slice_set}
+use Rattle.nit_pixels.specs.Below.{Identity, IsInked, IsWord, Me, PixelView, State, Step}
+use Rattle.nit_pixels.specs.Below.{option_map, zeros}
 use mathlib.Core.Option.{some}
 use lib.ListN.{get_elem?}
 

@@ -1,5 +1,6 @@
 -- Numbers below a bound, and tests that fail.
-use Rattle.std.proofs.Common.{Bool, arith, eqb, false, inl, inr, refl, subst, true, ℕ, ◌&&◌, ◌+◌, ◌<◌, ◌≡◌}
+use Rattle.std.proofs.Common.{Bool, arith, eqb, false, inl, inr, refl, subst, true, ℕ, ◌&&◌, ◌+◌}
+use Rattle.std.proofs.Common.{◌<◌, ◌≡◌}
 use Rattle.nit_place.proofs.Basics.{cases_lt, eqb-true, false_from_ne_true}
 
 -- a number below n + 1 is below n or is n

@@ -1,6 +1,11 @@
 -- A label fits by its pixels exactly where it is free by the edges of views.
-use Rattle.std.proofs.Common.{Bool, List, None, Option, ap₂, arith, cond, false, find, leb, ltb, max, refl, slice_index_or, subst, sym, true, ℕ, ◌&&◌, ◌+◌, ◌-◌, ◌<◌, ◌∙◌, ◌≡◌, ◌≤◌}
-use Rattle.nit_place.proofs.Basics.{IsFree, Part, Rectangle, View, area_of, bottom_of, covers, false_from_ne_true, fits, fresh, get_or_default, int_le, int_lt, is_owner, le-leb, le-ltb, lt-ltb, meets, nat_tests, negsuc, on_screen, owns, part_at, part_of, point, pos, right_of, ℤ}
+use Rattle.std.proofs.Common.{Bool, List, None, Option, ap₂, arith, cond, false, find, leb, ltb}
+use Rattle.std.proofs.Common.{max, refl, slice_index_or, subst, sym, true, ℕ, ◌&&◌, ◌+◌, ◌-◌, ◌<◌}
+use Rattle.std.proofs.Common.{◌∙◌, ◌≡◌, ◌≤◌}
+use Rattle.nit_place.proofs.Basics.{IsFree, Part, Rectangle, View, area_of, bottom_of, covers}
+use Rattle.nit_place.proofs.Basics.{false_from_ne_true, fits, fresh, get_or_default, int_le, int_lt}
+use Rattle.nit_place.proofs.Basics.{is_owner, le-leb, le-ltb, lt-ltb, meets, nat_tests, negsuc}
+use Rattle.nit_place.proofs.Basics.{on_screen, owns, part_at, part_of, point, pos, right_of, ℤ}
 use Rattle.nit_place.proofs.BoundLemmas.{three}
 use Rattle.nit_place.proofs.SearchLemmas.{Meets, meets-true, meets-of}
 use Rattle.nit_place.proofs.Grid.{all_in_grid, all_of_grid}
@@ -60,7 +65,8 @@ pub record IsOwn (width height rows : ℕ) (stack : List View) (n : ℕ) (v : Vi
   pub covered : Covers (part_of v.rect) x y
   pub clear : (k : ℕ) → k < n → Covers (part_at stack k) x y → ⊥
 
-not_none : (sid handle : ℕ) (b : Bool) (o : Option View) → is_owner sid handle (cond b None o) ≡ true → (b ≡ false) × (is_owner sid handle o ≡ true)
+not_none : (sid handle : ℕ) (b : Bool) (o : Option View) → is_owner sid handle (cond b None o) ≡ true
+    → (b ≡ false) × (is_owner sid handle o ≡ true)
 not_none sid handle true o e = cc
 not_none sid handle false o e = (refl, e)
 
@@ -69,7 +75,8 @@ pub owns_tells : (width height rows : ℕ) (stack : List View) (n : ℕ) (v : Vi
 owns_tells width height rows stack n v at x y owned =
     let parts = three (ltb x width) (ltb y height) _ owned in
     let free = not_none v.sid v.handle (ltb y rows) (find (λ u. covers u.rect (point x y)) stack) parts.2 in
-    let first : IsFirstAt (λ u. covers u.rect (point x y)) stack n v = owned_by (λ u. covers u.rect (point x y)) stack n v at free.1 in
+    let first : IsFirstAt (λ u. covers u.rect (point x y)) stack n v =
+    owned_by (λ u. covers u.rect (point x y)) stack n v at free.1 in
     let row : ltb y rows ≡ false = free.0 in
     let column_in : ltb x width ≡ true = parts.0 in
     let row_in : ltb y height ≡ true = parts.1 in
@@ -80,10 +87,12 @@ owns_tells width height rows stack n v at x y owned =
       covered = covers_tells v.rect x y first.holds;
       clear =
           λ k lt c.
-          let yes : covers (slice_index_or stack k (fresh 0 0)).rect (point x y) ≡ true = covers_holds (slice_index_or stack k (fresh 0 0)).rect x y c in
+          let yes : covers (slice_index_or stack k (fresh 0 0)).rect (point x y) ≡ true =
+          covers_holds (slice_index_or stack k (fresh 0 0)).rect x y c in
           let no : covers (slice_index_or stack k v).rect (point x y) ≡ false = first.fails k lt in
           let same = get_or_default stack k (fresh 0 0) v (omega (arith, at.within)) in
-          let again : covers (slice_index_or stack k v).rect (point x y) ≡ true = subst (λ (u : View). covers u.rect (point x y) ≡ true) same yes in
+          let again : covers (slice_index_or stack k v).rect (point x y) ≡ true =
+          subst (λ (u : View). covers u.rect (point x y) ≡ true) same yes in
           cc;
     }
 
@@ -97,7 +106,8 @@ owns_holds width height rows stack n v at x y own =
           false_from_ne_true (covers (slice_index_or stack k v).rect (point x y))
           (λ e.
           let same = get_or_default stack k v (fresh 0 0) (omega (arith, at.within)) in
-          own.clear k lt (covers_tells (slice_index_or stack k (fresh 0 0)).rect x y (subst (λ (u : View). covers u.rect (point x y) ≡ true) same e)));
+          own.clear k lt (covers_tells (slice_index_or stack k (fresh 0 0)).rect x y
+          (subst (λ (u : View). covers u.rect (point x y) ≡ true) same e)));
       holds = covers_holds v.rect x y own.covered;
     } in
     let owned = owner_of (λ u. covers u.rect (point x y)) stack n v at first in
@@ -105,12 +115,16 @@ owns_holds width height rows stack n v at x y own =
 
 -- ---- a label's rectangle
 
-pub fits_free : (width height rows : ℕ) (stack : List View) (n : ℕ) (v : View) → StandsAt stack n v → (w h x y : ℕ) → 1 ≤ w → 1 ≤ h
-    → fits width height rows stack v w h x y ≡ true → IsFree (part_at stack) n (area_of width height rows v.rect) w h x y
+pub fits_free : (width height rows : ℕ) (stack : List View) (n : ℕ) (v : View) → StandsAt stack n v → (w h x y : ℕ)
+    → 1 ≤ w → 1 ≤ h
+    → fits width height rows stack v w h x y ≡ true
+    → IsFree (part_at stack) n (area_of width height rows v.rect) w h x y
 fits_free width height rows stack n v at w h x y wide high all =
     let own = λ (i j : ℕ) (left : x ≤ i) (right : i < x + w) (top : y ≤ j) (bottom : j < y + h).
-    owns_tells width height rows stack n v at i j (all_in_grid (owns width height rows stack v) point x y w h all i j left right top bottom) in
-    let first : IsOwn width height rows stack n v x y = own x y (omega arith) (omega arith) (omega arith) (omega arith) in
+    owns_tells width height rows stack n v at i j
+    (all_in_grid (owns width height rows stack v) point x y w h all i j left right top bottom) in
+    let first : IsOwn width height rows stack n v x y =
+    own x y (omega arith) (omega arith) (omega arith) (omega arith) in
     let last : IsOwn width height rows stack n v (x + (w - 1)) (y + (h - 1)) =
     own (x + (w - 1)) (y + (h - 1)) (omega arith) (omega arith) (omega arith) (omega arith) in
     record {
@@ -128,11 +142,18 @@ fits_free width height rows stack n v at w h x y wide high all =
           let there : IsOwn width height rows stack n v px py =
           own px py (omega arith) (omega (arith, m.left)) (omega arith) (omega (arith, m.top)) in
           there.clear k lt
-          (record { left = omega arith; right = omega (arith, m.right, m.wide); top = omega arith; bottom = omega (arith, m.bottom, m.high) }));
+          (record {
+            left = omega arith;
+            right = omega (arith, m.right, m.wide);
+            top = omega arith;
+            bottom =
+                omega (arith, m.bottom, m.high);
+          }));
     }
 
 pub free_fits : (width height rows : ℕ) (stack : List View) (n : ℕ) (v : View) → StandsAt stack n v → (w h x y : ℕ)
-    → IsFree (part_at stack) n (area_of width height rows v.rect) w h x y → fits width height rows stack v w h x y ≡ true
+    → IsFree (part_at stack) n (area_of width height rows v.rect) w h x y → fits width height rows stack v w h x y
+    ≡ true
 free_fits width height rows stack n v at w h x y free =
     all_of_grid (owns width height rows stack v) point x y w h
     (λ i j left right top bottom.

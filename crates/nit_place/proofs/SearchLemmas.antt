@@ -1,6 +1,9 @@
 -- How the search moves on: what is free nowhere before a place is free nowhere before the next one.
-use Rattle.std.proofs.Common.{Bool, None, Option, Some, ap, arith, cond, false, inl, inr, ltb, min, refl, subst, sym, true, ℕ, ◌+◌, ◌<◌, ◌∙◌, ◌≡◌, ◌≤◌, ◌⊎◌}
-use Rattle.nit_place.proofs.Basics.{IfSome, IsBlocking, IsEdge, IsFree, IsFull, IsLeastInRow, IsSearched, Part, cases_lt, further, meets, nat_tests, nearer, point}
+use Rattle.std.proofs.Common.{Bool, None, Option, Some, ap, arith, cond, false, inl, inr, ltb, min}
+use Rattle.std.proofs.Common.{refl, subst, sym, true, ℕ, ◌+◌, ◌<◌, ◌∙◌, ◌≡◌, ◌≤◌, ◌⊎◌}
+use Rattle.nit_place.proofs.Basics.{IfSome, IsBlocking, IsEdge, IsFree, IsFull, IsLeastInRow}
+use Rattle.nit_place.proofs.Basics.{IsSearched, Part, cases_lt, further, meets, nat_tests, nearer}
+use Rattle.nit_place.proofs.Basics.{point}
 use Rattle.nit_place.proofs.BoundLemmas.{below_more}
 
 -- a part shares a pixel with a rectangle
@@ -36,7 +39,8 @@ pub record RowSoFar (front : ℕ → Part) (n : ℕ) (area : Part) (w h y x : �
   pub column : (x ≡ area.left) ⊎ IsEdge front n (λ r. r.right) x
   pub edge : IfSome next (λ b. (y < b) × (b ≤ 65535) × IsEdge front n (λ r. r.bottom) b)
 
-pub row_start : (front : ℕ → Part) (n : ℕ) (area : Part) (w h y : ℕ) → area.left ≤ 65535 → RowSoFar front n area w h y area.left None
+pub row_start : (front : ℕ → Part) (n : ℕ) (area : Part) (w h y : ℕ) → area.left ≤ 65535
+    → RowSoFar front n area w h y area.left None
 row_start front n area w h y le = record {
   small = le;
   from_left = omega arith;
@@ -60,8 +64,10 @@ nearer_is P (Some a) b here before =
     ]
 
 -- past the part that is in the way
-pub row_jump : (front : ℕ → Part) (n : ℕ) (area : Part) (w h y x : ℕ) (next : Option ℕ) (r : Part) (row : ℕ) → row ≡ nearer next r.bottom
-    → RowSoFar front n area w h y x next → IsBlocking front n x y w h (Some r) → RowSoFar front n area w h y r.right (Some row)
+pub row_jump : (front : ℕ → Part) (n : ℕ) (area : Part) (w h y x : ℕ) (next : Option ℕ) (r : Part) (row : ℕ)
+    → row ≡ nearer next r.bottom
+    → RowSoFar front n area w h y x next → IsBlocking front n x y w h (Some r)
+    → RowSoFar front n area w h y r.right (Some row)
 row_jump front n area w h y x next r row e far (k, lt, is, met, right, bottom) =
     let m : Meets r x y w h = meets-true x y w h r met in
     record {
@@ -74,7 +80,14 @@ row_jump front n area w h y x next r row e far (k, lt, is, met, right, bottom) =
             | inl less ↦ far.none x' y' less low both.1 free
             | inr le ↦
                 let there : meets x' y' w h r ≡ true =
-                meets-of x' y' w h r (record { left = omega (arith, m.left); right = before; top = omega (arith, m.top); bottom = both.0; wide = m.wide; high = m.high }) in
+                meets-of x' y' w h r (record {
+                  left = omega (arith, m.left);
+                  right = before;
+                  top = omega (arith, m.top);
+                  bottom = both.0;
+                  wide = m.wide;
+                  high = m.high;
+                }) in
                 let clear : meets x' y' w h r ≡ false = ap (meets x' y' w h) is ∙ free.clear k lt in
                 cc
           ];
@@ -86,10 +99,12 @@ row_jump front n area w h y x next r row e far (k, lt, is, met, right, bottom) =
     }
 
 pub jump_right : (front : ℕ → Part) (n x y w h : ℕ) (r : Part) → IsBlocking front n x y w h (Some r) → x < r.right
-jump_right front n x y w h r (k, lt, is, met, right, bottom) = let m : Meets r x y w h = meets-true x y w h r met in m.right
+jump_right front n x y w h r (k, lt, is, met, right, bottom) = let m : Meets r x y w h =
+    meets-true x y w h r met in m.right
 
 -- no part is in the way
-pub row_clear : (front : ℕ → Part) (n : ℕ) (area : Part) (w h y x : ℕ) (next : Option ℕ) → RowSoFar front n area w h y x next → x + w ≤ area.right
+pub row_clear : (front : ℕ → Part) (n : ℕ) (area : Part) (w h y x : ℕ) (next : Option ℕ)
+    → RowSoFar front n area w h y x next → x + w ≤ area.right
     → area.top ≤ y → y + h ≤ area.bottom → IsBlocking front n x y w h None → IsLeastInRow front n area w h y x
 row_clear front n area w h y x next far inside top bottom clear = record {
   small = far.small;
@@ -104,20 +119,24 @@ row_clear front n area w h y x next far inside top bottom clear = record {
   column = far.column;
 }
   where
-    before : (o : Option ℕ) → IfSome o (λ b. (y < b) × (b ≤ 65535) × IsEdge front n (λ p. p.bottom) b) → IfSome o (λ b. y < b)
+    before : (o : Option ℕ) → IfSome o (λ b. (y < b) × (b ≤ 65535) × IsEdge front n (λ p. p.bottom) b)
+        → IfSome o (λ b. y < b)
     before None h = tt
     before (Some b) h = h.0
 
 -- a row whose end is reached
-pub row_end : (front : ℕ → Part) (n : ℕ) (area : Part) (w h y x : ℕ) (next : Option ℕ) → RowSoFar front n area w h y x next → area.right < x + w
+pub row_end : (front : ℕ → Part) (n : ℕ) (area : Part) (w h y x : ℕ) (next : Option ℕ)
+    → RowSoFar front n area w h y x next → area.right < x + w
     → IsFull front n area w h y next
 row_end front n area w h y x next far out = record {
-  none = λ x' y' low above free. far.none x' y' (let f : x' + w ≤ area.right = free.to_right in omega arith) low above free;
+  none = λ x' y' low above free. far.none x' y' (let f : x' + w ≤ area.right = free.to_right in omega arith) low above
+      free;
   edge = far.edge;
 }
 
 -- one more part is looked at, and is in the way
-pub block_step : (front : ℕ → Part) (n x y w h : ℕ) (o : Option Part) (r now : Part) → r ≡ front n → meets x y w h r ≡ true → r.right ≤ 65535 → r.bottom ≤ 65535
+pub block_step : (front : ℕ → Part) (n x y w h : ℕ) (o : Option Part) (r now : Part) → r ≡ front n
+    → meets x y w h r ≡ true → r.right ≤ 65535 → r.bottom ≤ 65535
     → now ≡ further o r → IsBlocking front n x y w h o → IsBlocking front (n + 1) x y w h (Some now)
 block_step front n x y w h None r now is met right bottom e before =
     subst (λ (p : Part). IsBlocking front (n + 1) x y w h (Some p)) (sym e) (n, omega arith, is, met, right, bottom)
@@ -133,7 +152,8 @@ pub clear_step : (front : ℕ → Part) (n x y w h : ℕ) (o : Option Part) (r :
     → IsBlocking front n x y w h o → IsBlocking front (n + 1) x y w h o
 clear_step front n x y w h None r is clear before =
     below_more n (λ k. meets x y w h (front k) ≡ false) before (ap (meets x y w h) (sym is) ∙ clear)
-clear_step front n x y w h (Some q) r is clear (k, lt, same, met, right, bottom) = (k, omega arith, same, met, right, bottom)
+clear_step front n x y w h (Some q) r is clear (k, lt, same, met, right, bottom) =
+    (k, omega arith, same, met, right, bottom)
 
 -- ---- from row to row
 
@@ -144,7 +164,8 @@ pub record RowsSoFar (front : ℕ → Part) (n : ℕ) (area : Part) (w h y : ℕ
   pub none : (x' y' : ℕ) → y' < y → IsFree front n area w h x' y' → ⊥
   pub row : (y ≡ area.top) ⊎ IsEdge front n (λ r. r.bottom) y
 
-pub rows_start : (front : ℕ → Part) (n : ℕ) (area : Part) (w h : ℕ) → area.top ≤ 65535 → RowsSoFar front n area w h area.top
+pub rows_start : (front : ℕ → Part) (n : ℕ) (area : Part) (w h : ℕ) → area.top ≤ 65535
+    → RowsSoFar front n area w h area.top
 rows_start front n area w h le = record {
   small = le;
   from_top = omega arith;
@@ -153,27 +174,35 @@ rows_start front n area w h le = record {
 }
 
 -- from a row with nothing free to the next one
-pub rows_jump : (front : ℕ → Part) (n : ℕ) (area : Part) (w h y b : ℕ) → RowsSoFar front n area w h y → IsFull front n area w h y (Some b)
+pub rows_jump : (front : ℕ → Part) (n : ℕ) (area : Part) (w h y b : ℕ) → RowsSoFar front n area w h y
+    → IsFull front n area w h y (Some b)
     → RowsSoFar front n area w h b
 rows_jump front n area w h y b far full = record {
   small = full.edge.1;
   from_top = omega (arith, far.from_top, full.edge.0);
-  none = λ x' y' before free. elim (cases_lt y' y) [ inl less ↦ far.none x' y' less free | inr le ↦ full.none x' y' le before free ];
+  none = λ x' y' before free. elim (cases_lt y' y) [
+    | inl less ↦ far.none x' y' less free
+    | inr le ↦ full.none x' y' le before free
+  ];
   row = inr full.edge.2;
 }
 
 -- a row with nothing free, and no next one
-pub rows_end : (front : ℕ → Part) (n : ℕ) (area : Part) (w h y : ℕ) → RowsSoFar front n area w h y → IsFull front n area w h y None
+pub rows_end : (front : ℕ → Part) (n : ℕ) (area : Part) (w h y : ℕ) → RowsSoFar front n area w h y
+    → IsFull front n area w h y None
     → (x' y' : ℕ) → IsFree front n area w h x' y' → ⊥
-rows_end front n area w h y far full x' y' free = elim (cases_lt y' y) [ inl less ↦ far.none x' y' less free | inr le ↦ full.none x' y' le tt free ]
+rows_end front n area w h y far full x' y' free =
+    elim (cases_lt y' y) [ inl less ↦ far.none x' y' less free | inr le ↦ full.none x' y' le tt free ]
 
 -- nothing is free where the row is too low
-pub rows_below : (front : ℕ → Part) (n : ℕ) (area : Part) (w h y : ℕ) → RowsSoFar front n area w h y → area.bottom < y + h → (x' y' : ℕ)
+pub rows_below : (front : ℕ → Part) (n : ℕ) (area : Part) (w h y : ℕ) → RowsSoFar front n area w h y
+    → area.bottom < y + h → (x' y' : ℕ)
     → IsFree front n area w h x' y' → ⊥
 rows_below front n area w h y far low x' y' free =
     far.none x' y' (let f : y' + h ≤ area.bottom = free.to_bottom in omega arith) free
 
 -- the least free place of the row is the least one
-pub least_found : (front : ℕ → Part) (n : ℕ) (area : Part) (w h x y : ℕ) → RowsSoFar front n area w h y → IsLeastInRow front n area w h y x
+pub least_found : (front : ℕ → Part) (n : ℕ) (area : Part) (w h x y : ℕ) → RowsSoFar front n area w h y
+    → IsLeastInRow front n area w h y x
     → IsSearched front n area w h (Some (point x y))
 least_found front n area w h x y far found = (x, y, refl, record { in_row = found; above = far.none; row = far.row })

@@ -1,7 +1,8 @@
 //! What follows from the definition of a label's place alone.
 
 ghost use Rattle.std.specs.Prelude.{◌≡◌, ℕ, ◌+◌, ◌≤◌, List, Option, false, true, pos};
-ghost use Rattle.nit_place.specs.Terms.{IsApart, IsLeast, View, fits, is_view, label_place, rectangle};
+ghost use Rattle.nit_place.specs.Terms.{IsApart, IsLeast, View, fits, is_view, label_place};
+ghost use Rattle.nit_place.specs.Terms.{rectangle};
 
 /// Two labels that stand where they fit views of different names share no pixel. Each has a size of
 /// its own.

@@ -1,7 +1,9 @@
 //! The place of a label.
 
 ghost use Rattle.std.specs.Prelude.{◌≡◌, ◌≤◌, true, length, option_map, IfSome, Some};
-ghost use Rattle.nit_place.specs.Terms.{IsAtEdges, IsStack, IsWithinScreen, SlotView, area_of, has_slot, is_slot, label_place, most_edge, most_tag, point, position_or_len, slot_view_in, views_of};
+ghost use Rattle.nit_place.specs.Terms.{IsAtEdges, IsStack, IsWithinScreen, SlotView, area_of};
+ghost use Rattle.nit_place.specs.Terms.{has_slot, is_slot, label_place, most_edge, most_tag, point};
+ghost use Rattle.nit_place.specs.Terms.{position_or_len, slot_view_in, views_of};
 
 use crate::part::Part;
 use crate::search::search;

@@ -1,7 +1,8 @@
 //! The search for the least free place.
 
 ghost use Rattle.std.specs.Prelude.{◌≡◌, ◌+◌, ◌<◌, ◌≤◌, ◌^◌, length};
-ghost use Rattle.nit_place.specs.Terms.{IsBlocking, IsRowSearched, IsSearched, further, most_edge, most_tag, nearer, part_at, views_of};
+ghost use Rattle.nit_place.specs.Terms.{IsBlocking, IsRowSearched, IsSearched, further, most_edge};
+ghost use Rattle.nit_place.specs.Terms.{most_tag, nearer, part_at, views_of};
 
 use crate::part::Part;
 use nit_rect::Point;

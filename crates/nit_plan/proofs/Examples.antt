@@ -1,6 +1,8 @@
 -- Worked rows of scripts, computed from the definitions.
 use Rattle.std.proofs.Common.{List, [], refl, take, ℕ, ◌∷◌, ◌≡◌}
-use Rattle.nit_plan.proofs.Basics.{Buffer, Check, Close, Expect, Fill, Line, Nothing, Step, Take, Taken, View, calls_in, calls_to_make, ink, plan_of_script, words_left}
+use Rattle.nit_plan.proofs.Basics.{Buffer, Check, Close, Expect, Fill, Line, Nothing, Step, Take}
+use Rattle.nit_plan.proofs.Basics.{Taken, View, calls_in, calls_to_make, ink, plan_of_script}
+use Rattle.nit_plan.proofs.Basics.{words_left}
 use Rattle.nit_journal.specs.Session.{serve}
 use Rattle.nit_plan.specs.Strokes.{cleared, stroked}
 use Rattle.nit_word.specs.Zeros.{zeros}
@@ -9,7 +11,8 @@ use Rattle.nit_script.specs.declared.line.Line.TheVariants as line
 use Rattle.nit_plan.specs.declared.plan.Expect.TheVariants.{Reply}
 
 -- a check of two colours over a buffer of 4 by 2
-checks : stroked (record { w = 4; h = 2 }) (Check 0 0 4 2 7 9) (0 ∷ 0 ∷ 0 ∷ 0 ∷ 0 ∷ 0 ∷ 0 ∷ 0 ∷ 5 ∷ []) ≡ 7 ∷ 9 ∷ 7 ∷ 9 ∷ 9 ∷ 7 ∷ 9 ∷ 7 ∷ 5 ∷ []
+checks : stroked (record { w = 4; h = 2 }) (Check 0 0 4 2 7 9) (0 ∷ 0 ∷ 0 ∷ 0 ∷ 0 ∷ 0 ∷ 0 ∷ 0 ∷ 5 ∷ [])
+    ≡ 7 ∷ 9 ∷ 7 ∷ 9 ∷ 9 ∷ 7 ∷ 9 ∷ 7 ∷ 5 ∷ []
 unfolding stroked
 checks = refl
 
@@ -48,12 +51,15 @@ step w h e = record { w = w; h = h; expect = e }
 
 -- the plan of the same script: the second buffer needs 12800 units, and the view leaves 256
 steps : (plan_of_script script 512).steps
-    ≡ step 0 0 Nothing ∷ step 2 1 (Reply reply.Done) ∷ step 2 1 Nothing ∷ step 2 1 Nothing ∷ step 2 1 (Reply (reply.Handle 1)) ∷ step 2 1 (Reply (reply.OutOfQuota 12800 256)) ∷ step 2 1 Nothing ∷ []
+    ≡ step 0 0 Nothing ∷ step 2 1 (Reply reply.Done) ∷ step 2 1 Nothing ∷ step 2 1 Nothing
+    ∷ step 2 1 (Reply (reply.Handle 1)) ∷ step 2 1 (Reply (reply.OutOfQuota 12800 256)) ∷ step 2 1 Nothing ∷ []
 unfolding serve
 steps = refl
 
 -- a `Take` is open until the script closes its session, and the buffer is gone then
-closed : (plan_of_script (line.Call (Buffer 2 1) ∷ line.Call Take ∷ line.Call Close ∷ line.Call Take ∷ line.Call View ∷ []) 512).steps
-    ≡ step 2 1 (Reply reply.Done) ∷ step 2 1 Taken ∷ step 0 0 (Reply reply.Done) ∷ step 0 0 (Reply reply.Closed) ∷ step 0 0 (Reply reply.Closed) ∷ []
+closed : (plan_of_script (line.Call (Buffer 2 1) ∷ line.Call Take ∷ line.Call Close ∷ line.Call Take ∷ line.Call View
+    ∷ []) 512).steps
+    ≡ step 2 1 (Reply reply.Done) ∷ step 2 1 Taken ∷ step 0 0 (Reply reply.Done) ∷ step 0 0 (Reply reply.Closed)
+    ∷ step 0 0 (Reply reply.Closed) ∷ []
 unfolding serve
 closed = refl

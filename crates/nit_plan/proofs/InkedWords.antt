@@ -1,6 +1,11 @@
 -- The words that a script leaves are in its ink.
-use Rattle.nit_plan.proofs.Basics.{AllByRecursion, Buffer, IsInked, Line, Painting, Size, Stroke, after_line, blank, colours, enumerate_from, ink, is_accepted, one_of, painted_from, serve, session_size, slice_get, slice_index, stroke_colour, table_size, take_all, word_after_stroke, words_after, words_left}
-use Rattle.std.proofs.Common.{Bool, List, Some, [], arith, cond, drop, false, length, map, refl, subst, suc, take, true, zero, ℕ, ◌%◌, ◌*◌, ◌++◌, ◌+◌, ◌/◌, ◌∷◌, ◌≡◌}
+use Rattle.nit_plan.proofs.Basics.{AllByRecursion, Buffer, IsInked, Line, Painting, Size, Stroke}
+use Rattle.nit_plan.proofs.Basics.{after_line, blank, colours, enumerate_from, ink, is_accepted}
+use Rattle.nit_plan.proofs.Basics.{one_of, painted_from, serve, session_size, slice_get}
+use Rattle.nit_plan.proofs.Basics.{slice_index, stroke_colour, table_size, take_all}
+use Rattle.nit_plan.proofs.Basics.{word_after_stroke, words_after, words_left}
+use Rattle.std.proofs.Common.{Bool, List, Some, [], arith, cond, drop, false, length, map, refl}
+use Rattle.std.proofs.Common.{subst, suc, take, true, zero, ℕ, ◌%◌, ◌*◌, ◌++◌, ◌+◌, ◌/◌, ◌∷◌, ◌≡◌}
 use Rattle.nit_plan.specs.Strokes.{cleared, stroked}
 use Rattle.nit_word.specs.Zeros.{zeros}
 use Rattle.nit_script.specs.declared.line.Line.TheVariants as line
@@ -29,24 +34,33 @@ back_inked ink (suc n) (w ∷ words) inked = back_inked ink n words inked.1
 
 cleared_inked : (ink : List ℕ) (w h : ℕ) (words : List ℕ) → AreInked ink words → AreInked ink (cleared w h words)
 unfolding cleared
-cleared_inked ink w h words inked = both_inked ink (zeros (w * h)) (drop (w * h) words) (zeros_inked ink (w * h)) (back_inked ink (w * h) words inked)
+cleared_inked ink w h words inked = both_inked ink (zeros (w * h)) (drop (w * h) words) (zeros_inked ink (w * h))
+    (back_inked ink (w * h) words inked)
 
-stroked_from : (ink : List ℕ) (size : Size) (s : Stroke) (n : ℕ) (words : List ℕ) → AllByRecursion (IsInked ink) (colours (line.Stroke s)) → AreInked ink words
+stroked_from : (ink : List ℕ) (size : Size) (s : Stroke) (n : ℕ) (words : List ℕ)
+    → AllByRecursion (IsInked ink) (colours (line.Stroke s)) → AreInked ink words
     → AreInked ink (map (λ p. word_after_stroke size s p.0 p.1) (enumerate_from n words))
 stroked_from ink size s n [] named inked = tt
-stroked_from ink size s n (w ∷ words) named inked =
-    (one_of ink _ (stroke_colour s (n % size.w) (n / size.w)) w (colour_inked ink s (n % size.w) (n / size.w) named) inked.0, stroked_from ink size s (n + 1) words named inked.1)
+stroked_from ink size s n (w ∷ words) named inked = (
+  one_of ink _ (stroke_colour s (n % size.w) (n / size.w)) w (colour_inked ink s (n % size.w) (n / size.w) named)
+      inked.0,
+  stroked_from ink size s (n + 1) words named inked.1,
+)
 
-stroked_inked : (ink : List ℕ) (size : Size) (s : Stroke) (words : List ℕ) → AllByRecursion (IsInked ink) (colours (line.Stroke s)) → AreInked ink words → AreInked ink (stroked size s words)
+stroked_inked : (ink : List ℕ) (size : Size) (s : Stroke) (words : List ℕ)
+    → AllByRecursion (IsInked ink) (colours (line.Stroke s)) → AreInked ink words → AreInked ink (stroked size s words)
 unfolding stroked
 stroked_inked ink size s words named inked = stroked_from ink size s 0 words named inked
 
-buffer_inked : (ink : List ℕ) (took : Bool) (w h : ℕ) (words : List ℕ) → AreInked ink words → AreInked ink (cond took (cleared w h words) words)
+buffer_inked : (ink : List ℕ) (took : Bool) (w h : ℕ) (words : List ℕ) → AreInked ink words
+    → AreInked ink (cond took (cleared w h words) words)
 buffer_inked ink true w h words inked = cleared_inked ink w h words inked
 buffer_inked ink false w h words inked = inked
 
-line_inked : (ink : List ℕ) (p : Painting) (l : Line) → AllByRecursion (IsInked ink) (colours l) → AreInked ink p.words → AreInked ink (after_line p l).words
-line_inked ink p (line.Call (Buffer w h)) named inked = buffer_inked ink (is_accepted (serve p.session (Buffer w h)).reply) w h p.words inked
+line_inked : (ink : List ℕ) (p : Painting) (l : Line) → AllByRecursion (IsInked ink) (colours l) → AreInked ink p.words
+    → AreInked ink (after_line p l).words
+line_inked ink p (line.Call (Buffer w h)) named inked =
+    buffer_inked ink (is_accepted (serve p.session (Buffer w h)).reply) w h p.words inked
 line_inked ink p (line.Call other) named inked = inked
 line_inked ink p (line.Stroke s) named inked = stroked_inked ink (session_size p.session) s p.words named inked
 line_inked ink p line.Phase named inked = inked
@@ -57,23 +71,31 @@ line_inked ink p line.Phase named inked = inked
 abbrev AllNamed : List ℕ → List Line → Type 0
 AllNamed ink lines = (k : ℕ) (l : Line) → slice_get lines k ≡ Some l → AllByRecursion (IsInked ink) (colours l)
 
-lines_inked : (ink : List ℕ) (k : ℕ) (p : Painting) (lines : List Line) → AllNamed ink lines → AreInked ink p.words → AreInked ink (painted_from p (take k lines)).words
+lines_inked : (ink : List ℕ) (k : ℕ) (p : Painting) (lines : List Line) → AllNamed ink lines → AreInked ink p.words
+    → AreInked ink (painted_from p (take k lines)).words
 lines_inked ink zero p lines named inked = inked
 lines_inked ink (suc k) p [] named inked = inked
-lines_inked ink (suc k) p (l ∷ lines) named inked = lines_inked ink k (after_line p l) lines (λ j m here. named (suc j) m here) (line_inked ink p l (named zero l refl) inked)
+lines_inked ink (suc k) p (l ∷ lines) named inked =
+    lines_inked ink k (after_line p l) lines (λ j m here. named (suc j) m here)
+    (line_inked ink p l (named zero l refl) inked)
 
 at_place : (ink words : List ℕ) (i : ℕ) → AreInked ink words → IsInked ink (slice_index words i)
 at_place ink [] i inked = refl
 at_place ink (w ∷ words) zero inked = inked.0
 at_place ink (w ∷ words) (suc i) inked = at_place ink words i inked.1
 
-pub word_inked : (script : List Line) (donation k i : ℕ) → IsInked (ink script) (slice_index (words_after script donation k) i)
+pub word_inked : (script : List Line) (donation k i : ℕ)
+    → IsInked (ink script) (slice_index (words_after script donation k) i)
 word_inked script donation k i =
-    at_place (ink script) (words_after script donation k) i (lines_inked (ink script) k (blank donation) script (colours_inked script) (zeros_inked (ink script) (table_size donation)))
+    at_place (ink script) (words_after script donation k) i
+    (lines_inked (ink script) k (blank donation) script (colours_inked script)
+    (zeros_inked (ink script) (table_size donation)))
 
-pub left_inked : (script : List Line) (donation i : ℕ) → IsInked (ink script) (slice_index (words_left script donation) i)
+pub left_inked : (script : List Line) (donation i : ℕ)
+    → IsInked (ink script) (slice_index (words_left script donation) i)
 left_inked script donation i =
-    subst (λ (lines : List Line). IsInked (ink script) (slice_index (painted_from (blank donation) lines).words i)) (take_whole script) (word_inked script donation (length script) i)
+    subst (λ (lines : List Line). IsInked (ink script) (slice_index (painted_from (blank donation) lines).words i))
+    (take_whole script) (word_inked script donation (length script) i)
   where
     take_whole : (lines : List Line) → take (length lines) lines ≡ lines
     take_whole lines = take_all (length lines) lines (omega arith)

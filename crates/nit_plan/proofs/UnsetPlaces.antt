@@ -1,6 +1,12 @@
 -- The words of places that a line does not set.
-use Rattle.nit_plan.proofs.Basics.{Buffer, Line, Step, Stroke, accepts, column_and_row, get_or-append_right, get_or-drop, get_or-eq_default, is_set_by, is_stroked, length-zeros, nat_tests, place_colour, slice_get, slice_index, static, step_of, stroked, word_at, words_after, words_by_step, zeros}
-use Rattle.std.proofs.Common.{Bool, List, Some, ap, arith, cond, drop, false, get_or, length, nat_lt, refl, sym, true, ℕ, ◌%◌, ◌&&◌, ◌*◌, ◌+◌, ◌-◌, ◌/◌, ◌∙◌, ◌≡◌, ◌≤◌}
+use Rattle.nit_plan.proofs.Basics.{Buffer, Line, Step, Stroke, accepts, column_and_row}
+use Rattle.nit_plan.proofs.Basics.{get_or-append_right, get_or-drop, get_or-eq_default, is_set_by}
+use Rattle.nit_plan.proofs.Basics.{is_stroked, length-zeros, nat_tests, place_colour, slice_get}
+use Rattle.nit_plan.proofs.Basics.{slice_index, static, step_of, stroked, word_at, words_after}
+use Rattle.nit_plan.proofs.Basics.{words_by_step, zeros}
+use Rattle.std.proofs.Common.{Bool, List, Some, ap, arith, cond, drop, false, get_or, length}
+use Rattle.std.proofs.Common.{nat_lt, refl, sym, true, ℕ, ◌%◌, ◌&&◌, ◌*◌, ◌+◌, ◌-◌, ◌/◌, ◌∙◌, ◌≡◌}
+use Rattle.std.proofs.Common.{◌≤◌}
 use Rattle.nit_plan.specs.Strokes.{cleared}
 use mathlib.Core.Logic.{dite}
 use native.Mathlib.Decide.{dec_lt}
@@ -8,13 +14,15 @@ use Rattle.nit_script.specs.declared.line.Line.TheVariants as line
 use Rattle.nit_plan.proofs.Lines.{words_next}
 use Rattle.nit_plan.proofs.Places.{stroke_set, stroked_long, whole}
 
-none_stroked : (w h : ℕ) (s : Stroke) (n : ℕ) → (nat_lt (n % w) w && nat_lt (n / w) h && is_stroked s (n % w) (n / w)) ≡ false → whole w h s n ≡ false
+none_stroked : (w h : ℕ) (s : Stroke) (n : ℕ) → (nat_lt (n % w) w && nat_lt (n / w) h && is_stroked s (n % w) (n / w))
+    ≡ false → whole w h s n ≡ false
 none_stroked w h s n outside =
     dite (dec_lt n (w * h))
     (λ inside. let at = column_and_row w h n inside in grind (arith, nat_tests, at.0, at.1, outside))
     (λ behind. grind (arith, nat_tests))
 
-stroke_stays : (w h : ℕ) (s : Stroke) (words : List ℕ) (n : ℕ) → (nat_lt (n % w) w && nat_lt (n / w) h && is_stroked s (n % w) (n / w)) ≡ false
+stroke_stays : (w h : ℕ) (s : Stroke) (words : List ℕ) (n : ℕ)
+    → (nat_lt (n % w) w && nat_lt (n / w) h && is_stroked s (n % w) (n / w)) ≡ false
     → slice_index (stroked (record { w = w; h = h }) s words) n ≡ slice_index words n
 stroke_stays w h s words n outside =
     dite (dec_lt n (length words))
@@ -22,12 +30,14 @@ stroke_stays w h s words n outside =
     ap (λ (ws : List ℕ). get_or ws n 0) (stroke_set w h s words) ∙ word_at (whole w h s) (place_colour w s) words n told
     ∙ ap (λ b. cond b (place_colour w s n) (get_or words n 0)) (none_stroked w h s n outside))
     (λ past.
-    get_or-eq_default (stroked (record { w = w; h = h }) s words) 0 (omega (arith, stroked_long (record { w = w; h = h }) s words)) ∙ sym (get_or-eq_default words 0 (omega arith)))
+    get_or-eq_default (stroked (record { w = w; h = h }) s words) 0
+    (omega (arith, stroked_long (record { w = w; h = h }) s words)) ∙ sym (get_or-eq_default words 0 (omega arith)))
 
 cleared_stays : (w h : ℕ) (words : List ℕ) (n : ℕ) → w * h ≤ n → slice_index (cleared w h words) n ≡ slice_index words n
 unfolding cleared
 cleared_stays w h words n behind =
-    get_or-append_right (zeros (w * h)) (drop (w * h) words) (w * h) n 0 (length-zeros (w * h)) behind ∙ get_or-drop (w * h) words (n - w * h) 0 ∙ ap (λ (m : ℕ). get_or words m 0) (omega arith)
+    get_or-append_right (zeros (w * h)) (drop (w * h) words) (w * h) n 0 (length-zeros (w * h)) behind
+    ∙ get_or-drop (w * h) words (n - w * h) 0 ∙ ap (λ (m : ℕ). get_or words m 0) (omega arith)
 
 buffer_stays : (took : Bool) (w h : ℕ) (words : List ℕ) (n : ℕ) → (took && nat_lt (n % w) w && nat_lt (n / w) h) ≡ false
     → slice_index (cond took (cleared w h words) words) n ≡ slice_index words n
@@ -37,15 +47,19 @@ buffer_stays true w h words n outside =
     (λ inside. let at = column_and_row w h n inside in absurd (grind (arith, nat_tests, at.0, at.1, outside)))
     (λ behind. cleared_stays w h words n (omega arith))
 
-step_stays : (l : Line) (step : Step) (words : List ℕ) (n : ℕ) → is_set_by l step (n % step.w) (n / step.w) ≡ false → slice_index (words_by_step l step words) n ≡ slice_index words n
-step_stays (line.Call (Buffer w h)) step words n outside = buffer_stays (accepts step.expect) step.w step.h words n outside
+step_stays : (l : Line) (step : Step) (words : List ℕ) (n : ℕ) → is_set_by l step (n % step.w) (n / step.w) ≡ false
+    → slice_index (words_by_step l step words) n ≡ slice_index words n
+step_stays (line.Call (Buffer w h)) step words n outside =
+    buffer_stays (accepts step.expect) step.w step.h words n outside
 step_stays (line.Call other) step words n outside = refl
 step_stays (line.Stroke s) step words n outside = stroke_stays step.w step.h s words n outside
 step_stays line.Phase step words n outside = refl
 
 pub line_stays : (script : List Line) (donation k n : ℕ) (l : Line) → slice_get script k ≡ Some l
-    → let step = step_of (static script donation k) (static script donation (k + 1)) l in is_set_by l step (n % step.w) (n / step.w) ≡ false
+    → let step = step_of (static script donation k) (static script donation (k + 1)) l in is_set_by l step (n % step.w)
+    (n / step.w) ≡ false
     → slice_index (words_after script donation (k + 1)) n ≡ slice_index (words_after script donation k) n
 line_stays script donation k n l here outside =
     let step : Step = step_of (static script donation k) (static script donation (k + 1)) l in
-    ap (λ (ws : List ℕ). slice_index ws n) (sym (words_next script donation k l step here refl)) ∙ step_stays l step (words_after script donation k) n outside
+    ap (λ (ws : List ℕ). slice_index ws n) (sym (words_next script donation k l step here refl))
+    ∙ step_stays l step (words_after script donation k) n outside

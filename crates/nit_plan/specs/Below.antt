@@ -1,13 +1,17 @@
 -- The words of the library and of the crates below that are used here, and the crate's plain types.
 pub use Rattle.nit_config.specs.Configuration.{Configuration, donation_of}
 pub use Rattle.nit_events.specs.declared.call.Call.{Call}
-pub use Rattle.nit_events.specs.declared.call.Call.TheVariants.{Buffer, Close, Destroy, Take, Upgrade, View}
+pub use Rattle.nit_events.specs.declared.call.Call.TheVariants.{Buffer, Close, Destroy, Take}
+pub use Rattle.nit_events.specs.declared.call.Call.TheVariants.{Upgrade, View}
 pub use Rattle.nit_events.specs.declared.call.Reply.{Reply}
 pub use Rattle.nit_events.specs.declared.entry.Entry.{Entry}
 pub use Rattle.nit_events.specs.declared.event.Event.{Event}
 pub use Rattle.nit_events.specs.declared.event.Status.{Status}
 pub use Rattle.nit_journal.specs.Replay.{replay}
-pub use Rattle.nit_journal.specs.Session.{Answered, Session, accepted, after_calls, by_call, by_handle, by_quota, by_refusal, by_status, first_session, has_view, is_side, refusal, serve, taking, unless, ◌orelse◌}
+pub use Rattle.nit_journal.specs.Session.{Answered, Session, accepted, after_calls, by_call}
+pub use Rattle.nit_journal.specs.Session.{by_handle, by_quota, by_refusal, by_status, first_session}
+pub use Rattle.nit_journal.specs.Session.{has_view, is_side, refusal, serve, taking, unless}
+pub use Rattle.nit_journal.specs.Session.{◌orelse◌}
 pub use Rattle.nit_journal.specs.StackAfter.{is_accepted}
 pub use Rattle.nit_journal.specs.State.{session}
 pub use Rattle.nit_journal.specs.WholeJournals.{Does, Shoots, UserAction, calls_of, done}
@@ -22,7 +26,8 @@ pub use Rattle.nit_script.specs.declared.line.InputLine.{InputLine}
 pub use Rattle.nit_script.specs.declared.line.Line.{Line}
 pub use Rattle.nit_script.specs.declared.line.Stroke.{Stroke}
 pub use Rattle.nit_script.specs.declared.line.Stroke.TheVariants.{Check, Fill}
-pub use Rattle.nit_slots.specs.Account.{AccountModel, IsDonation, buffer_left, buffer_need, room, view_left}
+pub use Rattle.nit_slots.specs.Account.{AccountModel, IsDonation, buffer_left, buffer_need, room}
+pub use Rattle.nit_slots.specs.Account.{view_left}
 pub use Rattle.nit_slots.specs.Table.{last_handle}
 pub use Rattle.nit_stack.specs.Sources.{Size}
 pub use Rattle.nit_word.specs.Inks.{IsInked, IsWord}

@@ -1,7 +1,8 @@
 -- What a script alone says of each of its lines: the size of the buffer after it, and what is
 -- answered to it while the session is live.
 use Rattle.std.specs.Prelude.{◌≡◌, ℕ, nat_lt, Bool, ◌&&◌, false, List, [], ◌∷◌, if◌then◌else◌}
-use Rattle.nit_plan.specs.Below.{Buffer, Call, Expect, Line, Reply, Session, Status, Step, Take, first_session, is_accepted, serve}
+use Rattle.nit_plan.specs.Below.{Buffer, Call, Expect, Line, Reply, Session, Status, Step, Take}
+use Rattle.nit_plan.specs.Below.{first_session, is_accepted, serve}
 use Rattle.nit_events.specs.declared.event.Status.TheVariants as status
 use Rattle.nit_script.specs.declared.line.Line.TheVariants as line
 use Rattle.nit_plan.specs.declared.plan.Expect.TheVariants as expect

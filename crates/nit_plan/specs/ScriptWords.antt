@@ -1,7 +1,8 @@
 -- What a script alone says: its session, its colours, and the words that it leaves. The words do
 -- not depend on what happens to the session in a run.
 use Rattle.std.specs.Prelude.{ℕ, List, [], ◌∷◌, fold, take, if◌then◌else◌}
-use Rattle.nit_plan.specs.Below.{Buffer, Call, Check, Fill, Line, Reply, Session, Size, first_session, flat_map, is_accepted, serve, zeros}
+use Rattle.nit_plan.specs.Below.{Buffer, Call, Check, Fill, Line, Reply, Session, Size}
+use Rattle.nit_plan.specs.Below.{first_session, flat_map, is_accepted, serve, zeros}
 use Rattle.nit_script.specs.declared.line.Line.TheVariants as line
 use Rattle.nit_plan.specs.Strokes.{stroked, cleared}
 pub use Rattle.nit_slots.specs.Account.{table_size}

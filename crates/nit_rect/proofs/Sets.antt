@@ -1,9 +1,13 @@
 -- Rectangles by their columns and rows.
-use Rattle.std.proofs.Common.{Bool, ap, ap₂, arith, false, inl, inr, refl, sym, true, ℕ, ◌&&◌, ◌*◌, ◌+◌, ◌-◌, ◌<◌, ◌∙◌, ◌≡◌, ◌⊎◌, if◌then◌else◌, ◌+ℤ◌, ◌≤ℤ◌}
-use Rattle.nit_rect.proofs.Basics.{CoversBoth, HasPixels, IsApart, LiesIn, Point, Rectangle, and_parts, covers, empty_rectangle, int_le, ints, pos, rectangle, spans, times, times_among, ℤ}
+use Rattle.std.proofs.Common.{Bool, ap, ap₂, arith, false, inl, inr, refl, sym, true, ℕ, ◌&&◌, ◌*◌}
+use Rattle.std.proofs.Common.{◌+◌, ◌-◌, ◌<◌, ◌∙◌, ◌≡◌, ◌⊎◌, if◌then◌else◌, ◌+ℤ◌, ◌≤ℤ◌}
+use Rattle.nit_rect.proofs.Basics.{CoversBoth, HasPixels, IsApart, LiesIn, Point, Rectangle}
+use Rattle.nit_rect.proofs.Basics.{and_parts, covers, empty_rectangle, int_le, ints, pos, rectangle}
+use Rattle.nit_rect.proofs.Basics.{spans, times, times_among, ℤ}
 use mathlib.Core.Logic.{dite}
 use native.Mathlib.Decide.{ℕ_discrete, dec_lt}
-use Rattle.nit_rect.proofs.Spans.{no_place, regrouped, and_true, IsSpanned, spans_tells, spans_holds, le_tested}
+use Rattle.nit_rect.proofs.Spans.{no_place, regrouped, and_true, IsSpanned, spans_tells}
+use Rattle.nit_rect.proofs.Spans.{spans_holds, le_tested}
 
 -- the columns and the rows that both have
 pub covers_both : (a b : Rectangle) (x y : ℤ) (w h : ℕ)
@@ -11,7 +15,8 @@ pub covers_both : (a b : Rectangle) (x y : ℤ) (w h : ℕ)
     → ((at : ℤ) → spans y h at ≡ (spans a.y a.h at && spans b.y b.h at))
     → CoversBoth a b (rectangle x y w h)
 covers_both a b x y w h across down p =
-    ap₂ (λ s t. s && t) (across p.x) (down p.y) ∙ regrouped (spans a.x a.w p.x) (spans b.x b.w p.x) (spans a.y a.h p.y) (spans b.y b.h p.y)
+    ap₂ (λ s t. s && t) (across p.x) (down p.y) ∙ regrouped (spans a.x a.w p.x) (spans b.x b.w p.x) (spans a.y a.h p.y)
+    (spans b.y b.h p.y)
 
 and_false : (b : Bool) → (b && false) ≡ false
 and_false true = refl
@@ -82,7 +87,8 @@ lies_in a b edges p here =
 pub within : (a b : Rectangle) → HasPixels a → LiesIn a b → IsWithin a b
 within a b some lie =
     let first : IsCovered b (corner a) = covers_tells b (corner a) (lie (corner a) (covers_corner a some)) in
-    let last : IsCovered b (last_corner a) = covers_tells b (last_corner a) (lie (last_corner a) (covers_last_corner a some)) in
+    let last : IsCovered b (last_corner a) =
+    covers_tells b (last_corner a) (lie (last_corner a) (covers_last_corner a some)) in
     let across : 0 < a.w = some.0 in
     let down : 0 < a.h = some.1 in
     record { left = first.across.low; right = omega (arith, ints); top = first.down.low; bottom = omega (arith, ints) }
@@ -113,10 +119,12 @@ lies_down a b some lie =
 run_within : (x x' : ℤ) (w w' : ℕ) → is_run_within x w x' w' ≡ true → (x' ≤ℤ x) × ((x +ℤ pos w) ≤ℤ (x' +ℤ pos w'))
 run_within x x' w w' is =
     let begins : int_le x' x ≡ true = (and_parts (int_le x' x) (int_le (x +ℤ pos w) (x' +ℤ pos w')) is).0 in
-    let ends : int_le (x +ℤ pos w) (x' +ℤ pos w') ≡ true = (and_parts (int_le x' x) (int_le (x +ℤ pos w) (x' +ℤ pos w')) is).1 in
+    let ends : int_le (x +ℤ pos w) (x' +ℤ pos w') ≡ true =
+    (and_parts (int_le x' x) (int_le (x +ℤ pos w) (x' +ℤ pos w')) is).1 in
     (omega (arith, ints), omega (arith, ints))
 
-pub tests_lie : (a b : Rectangle) → is_run_within a.x a.w b.x b.w ≡ true → is_run_within a.y a.h b.y b.h ≡ true → LiesIn a b
+pub tests_lie : (a b : Rectangle) → is_run_within a.x a.w b.x b.w ≡ true → is_run_within a.y a.h b.y b.h ≡ true
+    → LiesIn a b
 tests_lie a b across down =
     let columns = run_within a.x b.x a.w b.w across in
     let rows = run_within a.y b.y a.h b.h down in
@@ -132,7 +140,8 @@ pub times_is : (r : Rectangle) (p : Point) → times r p ≡ times_among r.x r.w
 times_is r p = times_both_ways (spans r.x r.w p.x) (spans r.y r.h p.y)
 
 -- columns and rows that are divided into three parts each
-pub parts : (x x1 x2 x3 y y1 y2 y3 : ℕ) → x ≡ x1 + x3 + x2 → y ≡ y1 + y3 + y2 → x * y ≡ x * y1 + x1 * y2 + x3 * y2 + x * y3 + x2 * y2
+pub parts : (x x1 x2 x3 y y1 y2 y3 : ℕ) → x ≡ x1 + x3 + x2 → y ≡ y1 + y3 + y2
+    → x * y ≡ x * y1 + x1 * y2 + x3 * y2 + x * y3 + x2 * y2
 parts x x1 x2 x3 y y1 y2 y3 across down =
     omega (arith, ap (λ (n : ℕ). x * n) down, ap (λ (n : ℕ). n * y2) across)
 
@@ -140,11 +149,14 @@ parts x x1 x2 x3 y y1 y2 y3 across down =
 pub divided : (r cut : Rectangle) (left right top bottom : ℤ) (before after above below : ℕ) (p : Point)
     → times_among r.x r.w p.x ≡ times_among left before p.x + times_among right after p.x + times_among cut.x cut.w p.x
     → times_among r.y r.h p.y ≡ times_among top above p.y + times_among bottom below p.y + times_among cut.y cut.h p.y
-    → times r p ≡ times (rectangle r.x top r.w above) p + times (rectangle left cut.y before cut.h) p + times (rectangle right cut.y after cut.h) p
+    → times r p ≡ times (rectangle r.x top r.w above) p + times (rectangle left cut.y before cut.h) p + times
+    (rectangle right cut.y after cut.h) p
     + times (rectangle r.x bottom r.w below) p + times cut p
 divided r cut left right top bottom before after above below p across down =
-    let all = parts (times_among r.x r.w p.x) (times_among left before p.x) (times_among cut.x cut.w p.x) (times_among right after p.x)
-    (times_among r.y r.h p.y) (times_among top above p.y) (times_among cut.y cut.h p.y) (times_among bottom below p.y) across down in
+    let all = parts (times_among r.x r.w p.x) (times_among left before p.x) (times_among cut.x cut.w p.x)
+    (times_among right after p.x)
+    (times_among r.y r.h p.y) (times_among top above p.y) (times_among cut.y cut.h p.y) (times_among bottom below p.y)
+    across down in
     omega (
       arith,
       all,

@@ -1,6 +1,8 @@
 -- Places that follow one another.
-use Rattle.std.proofs.Common.{Bool, T, ap, arith, false, refl, sym, true, ℕ, ◌&&◌, ◌+◌, ◌<◌, ◌∙◌, ◌≡◌, ◌≤◌, ◌+ℤ◌, ◌<ℤ◌, ◌≤ℤ◌}
-use Rattle.nit_rect.proofs.Basics.{and_parts, by_lt_z, false_from_ne_true, int_le, int_lt, ints, pos, spans, times_among, ℤ}
+use Rattle.std.proofs.Common.{Bool, T, ap, arith, false, refl, sym, true, ℕ, ◌&&◌, ◌+◌, ◌<◌, ◌∙◌}
+use Rattle.std.proofs.Common.{◌≡◌, ◌≤◌, ◌+ℤ◌, ◌<ℤ◌, ◌≤ℤ◌}
+use Rattle.nit_rect.proofs.Basics.{and_parts, by_lt_z, false_from_ne_true, int_le, int_lt, ints}
+use Rattle.nit_rect.proofs.Basics.{pos, spans, times_among, ℤ}
 use mathlib.Core.Logic.{dite}
 use native.Mathlib.Decide.{dec_lt}
 
@@ -54,7 +56,8 @@ spans_before again from end at long short same fewer within reached = rw same (s
     (λ both.
     let here : IsSpanned from short at = spans_tells from short at both in
     let ends : (from +ℤ pos short) ≤ℤ end = within (omega (arith, ints)) in
-    and_true (spans_holds from long at record { low = here.low; high = omega (arith, ints) }) (lt_tested at end (omega (arith, ints))))
+    and_true (spans_holds from long at record { low = here.low; high = omega (arith, ints) })
+    (lt_tested at end (omega (arith, ints))))
     (λ both.
     let here : IsSpanned from long at = spans_tells from long at (and_parts _ _ both).0 in
     let before : int_lt at end ≡ true = (and_parts _ _ both).1 in
@@ -66,7 +69,8 @@ spans_before again from end at long short same fewer within reached = rw same (s
         (λ same_long. omega (arith, ints))
 
 -- of two runs, the one that begins later, as far as the other goes
-pub spans_later : (a b at : ℤ) (m n : ℕ) → a ≤ℤ b → (spans b n at && int_lt at (a +ℤ pos m)) ≡ (spans a m at && spans b n at)
+pub spans_later : (a b at : ℤ) (m n : ℕ) → a ≤ℤ b → (spans b n at && int_lt at (a +ℤ pos m))
+    ≡ (spans a m at && spans b n at)
 spans_later a b at m n later = same_tests _ _
     (λ both.
     let here : spans b n at ≡ true = (and_parts _ _ both).0 in
@@ -77,40 +81,49 @@ spans_later a b at m n later = same_tests _ _
     let in_a : IsSpanned a m at = spans_tells a m at (and_parts _ _ both).0 in
     and_true (and_parts _ _ both).1 (lt_tested at (a +ℤ pos m) in_a.high))
 
-pub spans_earlier : (a b end at : ℤ) (m n : ℕ) → end ≡ b +ℤ pos n → b ≤ℤ a → (spans a m at && int_lt at end) ≡ (spans a m at && spans b n at)
+pub spans_earlier : (a b end at : ℤ) (m n : ℕ) → end ≡ b +ℤ pos n → b ≤ℤ a
+    → (spans a m at && int_lt at end) ≡ (spans a m at && spans b n at)
 spans_earlier a b end at m n is later = rw is (spans_later b a at n m later ∙ and_turned (spans b n at) (spans a m at))
 
 pub spans_nowhere : (from : ℤ) (long : ℕ) (at : ℤ) → (IsSpanned from long at → ⊥) → spans from long at ≡ false
 spans_nowhere from long at no_way = false_from_ne_true _ (λ is. no_way (spans_tells from long at is))
 
 -- the same answer for two runs
-spans_alike : (a b at : ℤ) (m n : ℕ) → (IsSpanned a m at → IsSpanned b n at) → (IsSpanned b n at → IsSpanned a m at) → spans a m at ≡ spans b n at
+spans_alike : (a b at : ℤ) (m n : ℕ) → (IsSpanned a m at → IsSpanned b n at) → (IsSpanned b n at → IsSpanned a m at)
+    → spans a m at ≡ spans b n at
 spans_alike a b at m n f g = same_tests _ _
     (λ is. spans_holds b n at (f (spans_tells a m at is)))
     (λ is. spans_holds a m at (g (spans_tells b n at is)))
 
 -- a run, and the one that follows it
-times_both : (from at : ℤ) (long more : ℕ) → times_among from (long + more) at ≡ times_among from long at + times_among (from +ℤ pos long) more at
+times_both : (from at : ℤ) (long more : ℕ) → times_among from (long + more) at
+    ≡ times_among from long at + times_among (from +ℤ pos long) more at
 times_both from at long more = by_lt_z at (from +ℤ pos long)
     (λ lt.
     let here : spans from (long + more) at ≡ spans from long at = spans_alike from from at (long + more) long
     (λ is. record { low = is.low; high = lt }) (λ is. record { low = is.low; high = omega (arith, ints) }) in
-    let behind : spans (from +ℤ pos long) more at ≡ false = spans_nowhere (from +ℤ pos long) more at (λ is. omega (arith, ints)) in
+    let behind : spans (from +ℤ pos long) more at ≡ false =
+    spans_nowhere (from +ℤ pos long) more at (λ is. omega (arith, ints)) in
     rw (here, behind) (omega arith))
     (λ le.
-    let here : spans from (long + more) at ≡ spans (from +ℤ pos long) more at = spans_alike from (from +ℤ pos long) at (long + more) more
-    (λ is. record { low = le; high = omega (arith, ints) }) (λ is. record { low = omega (arith, ints); high = omega (arith, ints) }) in
+    let here : spans from (long + more) at ≡ spans (from +ℤ pos long) more at =
+    spans_alike from (from +ℤ pos long) at (long + more) more
+    (λ is. record { low = le; high = omega (arith, ints) })
+    (λ is. record { low = omega (arith, ints); high = omega (arith, ints) }) in
     let before : spans from long at ≡ false = spans_nowhere from long at (λ is. omega (arith, ints)) in
     rw (here, before) (omega arith))
 
 -- a run round a cut
-pub times_round : (from again cut behind at : ℤ) (long before within after : ℕ) → again ≡ from → cut ≡ from +ℤ pos before → behind ≡ cut +ℤ pos within
+pub times_round : (from again cut behind at : ℤ) (long before within after : ℕ) → again ≡ from
+    → cut ≡ from +ℤ pos before → behind ≡ cut +ℤ pos within
     → long ≡ before + (within + after)
     → times_among from long at ≡ times_among again before at + times_among behind after at + times_among cut within at
 times_round from again cut behind at long before within after same begins ends all =
-    let whole : times_among from long at ≡ times_among from before at + times_among (from +ℤ pos before) (within + after) at
+    let whole : times_among from long at ≡ times_among from before at + times_among (from +ℤ pos before)
+    (within + after) at
     = ap (λ (n : ℕ). times_among from n at) all ∙ times_both from at before (within + after) in
-    let rest : times_among cut (within + after) at ≡ times_among cut within at + times_among (cut +ℤ pos within) after at = times_both cut at within after in
+    let rest : times_among cut (within + after) at ≡ times_among cut within at + times_among (cut +ℤ pos within) after
+    at = times_both cut at within after in
     rw (same, ends) (omega (arith, whole, rest, ap (λ (z : ℤ). times_among z (within + after) at) begins))
 
 pub regrouped : (a b c d : Bool) → ((a && b) && (c && d)) ≡ ((a && c) && (b && d))

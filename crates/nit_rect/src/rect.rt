@@ -1,5 +1,7 @@
 ghost use Rattle.std.specs.Prelude.{◌≡◌, ◌↔◌, ◌≤◌, ◌*◌, IsTrue, IsSome, IfSome};
-ghost use Rattle.nit_rect.specs.Terms.{CoversBoth, HasPixels, IsApart, IsPlace, LiesIn, covers, empty_rectangle, is_rectangle, most_length, rectangle, spans};
+ghost use Rattle.nit_rect.specs.Terms.{CoversBoth, HasPixels, IsApart, IsPlace, LiesIn, covers};
+ghost use Rattle.nit_rect.specs.Terms.{empty_rectangle, is_rectangle, most_length, rectangle};
+ghost use Rattle.nit_rect.specs.Terms.{spans};
 
 use crate::limits::{FIRST_PLACE, LAST_PLACE, MOST_LENGTH};
 use crate::point::Point;

@@ -1,6 +1,7 @@
 //! Columns or rows that follow one another.
 
-ghost use Rattle.std.specs.Prelude.{◌≡◌, ℤ, ◌+◌, ◌≤◌, ◌&&◌, pos, negsuc, ◌+ℤ◌, ◌≤ℤ◌, int_le, int_lt};
+ghost use Rattle.std.specs.Prelude.{◌≡◌, ℤ, ◌+◌, ◌≤◌, ◌&&◌, pos, negsuc, ◌+ℤ◌, ◌≤ℤ◌, int_le};
+ghost use Rattle.nit_rect.specs.Below.{int_lt};
 ghost use Rattle.nit_rect.specs.Rectangle.{spans};
 ghost use Rattle.nit_rect.specs.Strips.{times_among};
 ghost use Rattle.nit_rect.specs.Limits.{most_length, most_edge, most_width};

@@ -1,22 +1,32 @@
 -- Where a view shows a part of its session's buffer.
-use Rattle.nit_repaint.proofs.Basics.{CoversBoth, IsOnScreen, IsSpanned, Point, Rectangle, View, among, buffer_place, column_of, covers, false≢true, index_at, int_le, ints, is_index_in, le_tested, nat_tests, negsuc, point, pos, rectangle, row_of, same_tests, shown_index, spans, spans_holds, spans_tells, ℤ}
-use Rattle.std.proofs.Common.{Bool, None, Some, ap, arith, cond, false, nat_le, nat_lt, refl, sym, true, ℕ, ◌&&◌, ◌-◌, ◌<◌, ◌∙◌, ◌≡◌, ◌≤◌, ◌+ℤ◌, ◌<ℤ◌, ◌≤ℤ◌}
+use Rattle.nit_repaint.proofs.Basics.{CoversBoth, IsOnScreen, IsSpanned, Point, Rectangle, View}
+use Rattle.nit_repaint.proofs.Basics.{among, buffer_place, column_of, covers, false≢true, index_at}
+use Rattle.nit_repaint.proofs.Basics.{int_le, ints, is_index_in, le_tested, nat_tests, negsuc}
+use Rattle.nit_repaint.proofs.Basics.{point, pos, rectangle, row_of, same_tests, shown_index, spans}
+use Rattle.nit_repaint.proofs.Basics.{spans_holds, spans_tells, ℤ}
+use Rattle.std.proofs.Common.{Bool, None, Some, ap, arith, cond, false, nat_le, nat_lt, refl, sym}
+use Rattle.std.proofs.Common.{true, ℕ, ◌&&◌, ◌-◌, ◌<◌, ◌∙◌, ◌≡◌, ◌≤◌, ◌+ℤ◌, ◌<ℤ◌, ◌≤ℤ◌}
 
 -- a place of the screen stands for a number of any sign
 module _ (n c : ℕ) (z : ℤ) (h : nat_le n c ≡ int_le z (pos c)) where
   at_or_behind : n ≤ c → z ≤ℤ pos c
-  at_or_behind l = let t : nat_le n c ≡ true = grind (arith, nat_tests) in let u : int_le z (pos c) ≡ true = sym h ∙ t in omega (arith, ints)
+  at_or_behind l = let t : nat_le n c ≡ true = grind (arith, nat_tests) in let u : int_le z (pos c) ≡ true = sym h
+      ∙ t in omega (arith, ints)
 
   in_front : c < n → pos c <ℤ z
-  in_front l = let t : nat_le n c ≡ false = grind (arith, nat_tests) in let u : int_le z (pos c) ≡ false = sym h ∙ t in omega (arith, ints)
+  in_front l = let t : nat_le n c ≡ false = grind (arith, nat_tests) in let u : int_le z (pos c) ≡ false = sym h
+      ∙ t in omega (arith, ints)
 
   behind : z ≤ℤ pos c → n ≤ c
-  behind l = let u : int_le z (pos c) ≡ true = le_tested z (pos c) l in let t : nat_le n c ≡ true = h ∙ u in grind (arith, nat_tests)
+  behind l = let u : int_le z (pos c) ≡ true = le_tested z (pos c) l in let t : nat_le n c ≡ true = h
+      ∙ u in grind (arith, nat_tests)
 
   before_it : pos c <ℤ z → c < n
-  before_it l = let u : int_le z (pos c) ≡ false = grind (arith, ints) in let t : nat_le n c ≡ false = h ∙ u in grind (arith, nat_tests)
+  before_it l = let u : int_le z (pos c) ≡ false = grind (arith, ints) in let t : nat_le n c ≡ false = h
+      ∙ u in grind (arith, nat_tests)
 
-pub run_same : (from corner offset first end : ℤ) (long left right c : ℕ) → first ≡ ((from +ℤ corner) +ℤ offset) → end ≡ (first +ℤ pos long)
+pub run_same : (from corner offset first end : ℤ) (long left right c : ℕ) → first ≡ ((from +ℤ corner) +ℤ offset)
+    → end ≡ (first +ℤ pos long)
     → nat_le left c ≡ int_le first (pos c) → nat_le right c ≡ int_le end (pos c) → left < right
     → spans (pos left) (right - left) (pos c) ≡ spans from long (buffer_place (pos c) corner offset)
 run_same from corner offset first end long left right c f e l r some = same_tests _ _
@@ -26,16 +36,22 @@ run_same from corner offset first end long left right c f e l r some = same_test
     let high = s.high in
     let a : first ≤ℤ pos c = at_or_behind left c first l (omega (arith, ints)) in
     let b : pos c <ℤ end = in_front right c end r (omega (arith, ints)) in
-    spans_holds from long (buffer_place (pos c) corner offset) record { low = omega (arith, ints); high = omega (arith, ints) })
+    spans_holds from long (buffer_place (pos c) corner offset) record {
+      low = omega (arith, ints);
+      high =
+          omega (arith, ints);
+    })
     (λ is.
-    let s : IsSpanned from long (buffer_place (pos c) corner offset) = spans_tells from long (buffer_place (pos c) corner offset) is in
+    let s : IsSpanned from long (buffer_place (pos c) corner offset) =
+    spans_tells from long (buffer_place (pos c) corner offset) is in
     let low = s.low in
     let high = s.high in
     let a : left ≤ c = behind left c first l (omega (arith, ints)) in
     let b : c < right = before_it right c end r (omega (arith, ints)) in
     spans_holds (pos left) (right - left) (pos c) record { low = omega (arith, ints); high = omega (arith, ints) })
 
-pub run_none : (from corner offset first end : ℤ) (long left right c : ℕ) → first ≡ ((from +ℤ corner) +ℤ offset) → end ≡ (first +ℤ pos long)
+pub run_none : (from corner offset first end : ℤ) (long left right c : ℕ) → first ≡ ((from +ℤ corner) +ℤ offset)
+    → end ≡ (first +ℤ pos long)
     → nat_le left c ≡ int_le first (pos c) → nat_le right c ≡ int_le end (pos c) → right ≤ left
     → spans (pos 0) 0 (pos c) ≡ spans from long (buffer_place (pos c) corner offset)
 run_none from corner offset first end long left right c f e l r none = same_tests _ _
@@ -44,7 +60,8 @@ run_none from corner offset first end long left right c f e l r none = same_test
     let high = s.high in
     absurd (omega (arith, ints)))
     (λ is.
-    let s : IsSpanned from long (buffer_place (pos c) corner offset) = spans_tells from long (buffer_place (pos c) corner offset) is in
+    let s : IsSpanned from long (buffer_place (pos c) corner offset) =
+    spans_tells from long (buffer_place (pos c) corner offset) is in
     let low = s.low in
     let high = s.high in
     let a : left ≤ c = behind left c first l (omega (arith, ints)) in
@@ -78,14 +95,20 @@ passes false = refl
 
 spans_all : (w m : ℕ) → spans (pos 0) w (pos m) ≡ nat_lt m w
 spans_all w m = same_tests _ _
-    (λ is. let s : IsSpanned (pos 0) w (pos m) = spans_tells (pos 0) w (pos m) is in let high = s.high in let l : m < w = omega (arith, ints) in grind (arith, nat_tests))
-    (λ is. let l : m < w = grind (arith, nat_tests) in spans_holds (pos 0) w (pos m) record { low = omega (arith, ints); high = omega (arith, ints) })
+    (λ is. let s : IsSpanned (pos 0) w (pos m) = spans_tells (pos 0) w (pos m) is in let high =
+    s.high in let l : m < w = omega (arith, ints) in grind (arith, nat_tests))
+    (λ is. let l : m < w = grind (arith, nat_tests) in spans_holds (pos 0) w (pos m) record {
+      low = omega (arith, ints);
+      high = omega (arith, ints);
+    })
 
 spans_no : (w m : ℕ) → spans (pos 0) w (negsuc m) ≡ false
 spans_no w m = refl
 
 -- a part covers a place of the buffer where it covers the place of its word
-pub index_in : (part : Rectangle) (w h : ℕ) (x y : ℤ) → (covers part (record { x = x; y = y }) && covers (rectangle (pos 0) (pos 0) w h) (record { x = x; y = y })) ≡ is_index_in part w (index_at w (among x w) (among y h))
+pub index_in : (part : Rectangle) (w h : ℕ) (x y : ℤ)
+    → (covers part (record { x = x; y = y }) && covers (rectangle (pos 0) (pos 0) w h) (record { x = x; y = y }))
+    ≡ is_index_in part w (index_at w (among x w) (among y h))
 index_in part w h (negsuc m) y = fails (covers part (record { x = negsuc m; y = y })) (spans (pos 0) h y)
 index_in part w h (pos m) (negsuc n) =
     ap (λ (b : Bool). covers part (record { x = pos m; y = negsuc n }) && (b && false)) (spans_all w m)
@@ -97,7 +120,8 @@ index_in part w h (pos m) (negsuc n) =
 index_in part w h (pos m) (pos n) =
     (λ i. covers part (point m n) && (spans_all w m i && spans_all h n i)) ∙ go (nat_lt m w) (nat_lt n h) refl
   where
-    go : (a b : Bool) → nat_lt m w ≡ a → (covers part (point m n) && (a && b)) ≡ is_index_in part w (index_at w (cond a (Some m) None) (cond b (Some n) None))
+    go : (a b : Bool) → nat_lt m w ≡ a → (covers part (point m n) && (a && b))
+        ≡ is_index_in part w (index_at w (cond a (Some m) None) (cond b (Some n) None))
     go false b e = fails (covers part (point m n)) b
     go true false e = fails_then (covers part (point m n)) true
     go true true e =
@@ -107,13 +131,19 @@ index_in part w h (pos m) (pos n) =
         passes (covers part (point m n)) ∙ (λ i. covers part (point (sym x i) (sym y i)))
 
 -- the pixels of the screen at which a view shows a part
-pub part_same : (part whole both rect : Rectangle) (view : View) (w h width height left wide top tall : ℕ) (p : Point) → CoversBoth part whole both → whole ≡ rectangle (pos 0) (pos 0) w h → rect ≡ rectangle (pos left) (pos top) wide tall
-    → ((c : ℕ) → c < width → spans (pos left) wide (pos c) ≡ spans both.x both.w (buffer_place (pos c) view.rect.x view.ox))
-    → ((c : ℕ) → c < height → spans (pos top) tall (pos c) ≡ spans both.y both.h (buffer_place (pos c) view.rect.y view.oy))
+pub part_same : (part whole both rect : Rectangle) (view : View) (w h width height left wide top tall : ℕ) (p : Point)
+    → CoversBoth part whole both → whole ≡ rectangle (pos 0) (pos 0) w h
+    → rect ≡ rectangle (pos left) (pos top) wide tall
+    → ((c : ℕ) → c < width → spans (pos left) wide (pos c)
+    ≡ spans both.x both.w (buffer_place (pos c) view.rect.x view.ox))
+    → ((c : ℕ) → c < height → spans (pos top) tall (pos c)
+    ≡ spans both.y both.h (buffer_place (pos c) view.rect.y view.oy))
     → IsOnScreen width height p → covers rect p ≡ is_index_in part w (shown_index (record { w = w; h = h }) view p)
-part_same part whole both rect view w h width height left wide top tall p meets whole_ rect_ across down on = go p.x p.y on
+part_same part whole both rect view w h width height left wide top tall p meets whole_ rect_ across down on =
+    go p.x p.y on
   where
-    go : (x y : ℤ) → IsOnScreen width height (record { x = x; y = y }) → covers rect (record { x = x; y = y }) ≡ is_index_in part w (shown_index (record { w = w; h = h }) view (record { x = x; y = y }))
+    go : (x y : ℤ) → IsOnScreen width height (record { x = x; y = y }) → covers rect (record { x = x; y = y })
+        ≡ is_index_in part w (shown_index (record { w = w; h = h }) view (record { x = x; y = y }))
     go (negsuc a) y on = let low = on.0 in absurd (omega (arith, ints))
     go (pos a) (negsuc b) on = let low = on.2 in absurd (omega (arith, ints))
     go (pos a) (pos b) on =
@@ -128,10 +158,16 @@ part_same part whole both rect view w h width height left wide top tall p meets 
         ∙ index_in part w h bx by
 
 -- the same, where the numbers were read
-pub across_told : (both : Rectangle) (from x corner ox offset : ℤ) (long width left wide : ℕ) → from ≡ both.x → long ≡ both.w → x ≡ corner → ox ≡ offset
-    → ((c : ℕ) → c < width → spans (pos left) wide (pos c) ≡ spans from long (buffer_place (pos c) x ox)) → (c : ℕ) → c < width → spans (pos left) wide (pos c) ≡ spans both.x both.w (buffer_place (pos c) corner offset)
-across_told both from x corner ox offset long width left wide e f g h same c l = same c l ∙ (λ i. spans (e i) (f i) (buffer_place (pos c) (g i) (h i)))
+pub across_told : (both : Rectangle) (from x corner ox offset : ℤ) (long width left wide : ℕ) → from ≡ both.x
+    → long ≡ both.w → x ≡ corner → ox ≡ offset
+    → ((c : ℕ) → c < width → spans (pos left) wide (pos c) ≡ spans from long (buffer_place (pos c) x ox)) → (c : ℕ)
+    → c < width → spans (pos left) wide (pos c) ≡ spans both.x both.w (buffer_place (pos c) corner offset)
+across_told both from x corner ox offset long width left wide e f g h same c l = same c l
+    ∙ (λ i. spans (e i) (f i) (buffer_place (pos c) (g i) (h i)))
 
-pub down_told : (both : Rectangle) (from y corner oy offset : ℤ) (long height top tall : ℕ) → from ≡ both.y → long ≡ both.h → y ≡ corner → oy ≡ offset
-    → ((c : ℕ) → c < height → spans (pos top) tall (pos c) ≡ spans from long (buffer_place (pos c) y oy)) → (c : ℕ) → c < height → spans (pos top) tall (pos c) ≡ spans both.y both.h (buffer_place (pos c) corner offset)
-down_told both from y corner oy offset long height top tall e f g h same c l = same c l ∙ (λ i. spans (e i) (f i) (buffer_place (pos c) (g i) (h i)))
+pub down_told : (both : Rectangle) (from y corner oy offset : ℤ) (long height top tall : ℕ) → from ≡ both.y
+    → long ≡ both.h → y ≡ corner → oy ≡ offset
+    → ((c : ℕ) → c < height → spans (pos top) tall (pos c) ≡ spans from long (buffer_place (pos c) y oy)) → (c : ℕ)
+    → c < height → spans (pos top) tall (pos c) ≡ spans both.y both.h (buffer_place (pos c) corner offset)
+down_told both from y corner oy offset long height top tall e f g h same c l = same c l
+    ∙ (λ i. spans (e i) (f i) (buffer_place (pos c) (g i) (h i)))

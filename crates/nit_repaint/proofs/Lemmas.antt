@@ -1,11 +1,26 @@
 -- What answers use: all that lemmas use, and this crate's lemmas.
-pub use Rattle.nit_repaint.proofs.Basics.{All_found, AreSet, FitsStack, IsSlotView, Point, Repainted, arith, eqb-true, found_passes, found_some, glasses_of_call, has_come, get_or_default, glass_in, ints, is_slot, is_wanted, length, list_any, map, no_sight, nothing_set, once, other_count, owner_passes, pieces_left, pixel, place_of, refl, same_Some, shown_at, slice_index_or, slot_owns_either, source_of_number, to_come, true, wanted_of_first, with_offset, with_rect, without, ◌∙◌}
-pub use Rattle.nit_repaint.proofs.BufferParts.{across_told, down_told, part_same, run_none, run_same}
+pub use Rattle.nit_repaint.proofs.Basics.{All_found, AreSet, FitsStack, IsSlotView, Point}
+pub use Rattle.nit_repaint.proofs.Basics.{Repainted, arith, eqb-true, found_passes, found_some}
+pub use Rattle.nit_repaint.proofs.Basics.{glasses_of_call, has_come, get_or_default, glass_in, ints}
+pub use Rattle.nit_repaint.proofs.Basics.{is_slot, is_wanted, length, list_any, map, no_sight}
+pub use Rattle.nit_repaint.proofs.Basics.{nothing_set, once, other_count, owner_passes, pieces_left}
+pub use Rattle.nit_repaint.proofs.Basics.{pixel, place_of, refl, same_Some, shown_at}
+pub use Rattle.nit_repaint.proofs.Basics.{slice_index_or, slot_owns_either, source_of_number}
+pub use Rattle.nit_repaint.proofs.Basics.{to_come, true, wanted_of_first, with_offset, with_rect}
+pub use Rattle.nit_repaint.proofs.Basics.{without, ◌∙◌}
+pub use Rattle.nit_repaint.proofs.BufferParts.{across_told, down_told, part_same, run_none}
+pub use Rattle.nit_repaint.proofs.BufferParts.{run_same}
 pub use Rattle.nit_repaint.proofs.ChangedOwners.{fallen_owns, gone_owns, moved_owns}
-pub use Rattle.nit_repaint.proofs.FrameCopies.{all_shown, first_shown, last_shown, next_shown, none_shown, one_shown, piece_shown, shown_as, whole_shown}
-pub use Rattle.nit_repaint.proofs.GlassLemmas.{all_painted, as_many, held_words, idle_at, left_at, listed_painted, scene_painted, screen_of, shown_session, still_held}
+pub use Rattle.nit_repaint.proofs.FrameCopies.{all_shown, first_shown, last_shown, next_shown}
+pub use Rattle.nit_repaint.proofs.FrameCopies.{none_shown, one_shown, piece_shown, shown_as}
+pub use Rattle.nit_repaint.proofs.FrameCopies.{whole_shown}
+pub use Rattle.nit_repaint.proofs.GlassLemmas.{all_painted, as_many, held_words, idle_at, left_at}
+pub use Rattle.nit_repaint.proofs.GlassLemmas.{listed_painted, scene_painted, screen_of}
+pub use Rattle.nit_repaint.proofs.GlassLemmas.{shown_session, still_held}
 pub use Rattle.nit_repaint.proofs.PieceLemmas.{all_came, none_came, one_came}
 pub use Rattle.nit_repaint.proofs.ViewChangeLemmas.{changes, moves_above, moves_back, moves_front}
 pub use Rattle.nit_repaint.proofs.ViewRemovalLemmas.{gone_change}
 pub use Rattle.nit_repaint.proofs.ViewsInFront.{stands_nowhere, stands_there}
-pub use Rattle.nit_repaint.proofs.WantedLemmas.{all_of_session, all_wanted, comes_as, none_wanted, one_wanted, part_of_session, seat_here, seat_set, seat_there, seat_unset, wanted_here}
+pub use Rattle.nit_repaint.proofs.WantedLemmas.{all_of_session, all_wanted, comes_as, none_wanted}
+pub use Rattle.nit_repaint.proofs.WantedLemmas.{one_wanted, part_of_session, seat_here, seat_set}
+pub use Rattle.nit_repaint.proofs.WantedLemmas.{seat_there, seat_unset, wanted_here}

@@ -1,6 +1,10 @@
 -- Pieces that come one after the other.
-use Rattle.nit_repaint.proofs.Basics.{CutterModel, IsTrue, PixelSource, Point, Rectangle, Repainted, Sight, StackModel, covers, has_come, has_pixel, is_to_come, nat_tests, pixel, repainted_none, repainted_same, repainted_union, times, to_come}
-use Rattle.std.proofs.Common.{Bool, List, ap, arith, cond, false, nat_lt, refl, true, ℕ, ◌&&◌, ◌+◌, ◌||◌, ◌≡◌, ◌≤◌}
+use Rattle.nit_repaint.proofs.Basics.{CutterModel, IsTrue, PixelSource, Point, Rectangle, Repainted}
+use Rattle.nit_repaint.proofs.Basics.{Sight, StackModel, covers, has_come, has_pixel, is_to_come}
+use Rattle.nit_repaint.proofs.Basics.{nat_tests, pixel, repainted_none, repainted_same}
+use Rattle.nit_repaint.proofs.Basics.{repainted_union, times, to_come}
+use Rattle.std.proofs.Common.{Bool, List, ap, arith, cond, false, nat_lt, refl, true, ℕ, ◌&&◌, ◌+◌}
+use Rattle.std.proofs.Common.{◌||◌, ◌≡◌, ◌≤◌}
 
 -- a pixel by the numbers of times that it is to come: before all, now, and after one more piece
 apart_count : (b now : ℕ) (c : Bool) → b ≤ 1 → (c ≡ true → now ≡ 1) → (nat_lt now b && c) ≡ false
@@ -11,8 +15,10 @@ apart_count b now false once came = go (nat_lt now b)
     go true = refl
     go false = refl
 
-pub all_count : (b now next : ℕ) (c : Bool) → now ≤ b → now ≡ next + cond c 1 0 → (c ≡ true → now ≡ 1) → (nat_lt now b || c) ≡ nat_lt next b
-all_count b now next true less count came = let e : now ≡ 1 = came refl in let z : next ≡ 0 = omega arith in grind (arith, nat_tests)
+pub all_count : (b now next : ℕ) (c : Bool) → now ≤ b → now ≡ next + cond c 1 0 → (c ≡ true → now ≡ 1)
+    → (nat_lt now b || c) ≡ nat_lt next b
+all_count b now next true less count came = let e : now ≡ 1 = came refl in let z : next ≡ 0 =
+    omega arith in grind (arith, nat_tests)
 all_count b now next false less count came = let e : now ≡ next = omega arith in rw e (go (nat_lt next b))
   where
     go : (x : Bool) → (x || false) ≡ x
@@ -20,8 +26,10 @@ all_count b now next false less count came = let e : now ≡ next = omega arith 
     go false = refl
 
 module _ (source : ℕ → PixelSource) (s : StackModel) (n : ℕ) where
-  pub none_came : (c : CutterModel) (glasses : ℕ → Sight) (raw : List ℕ) → Repainted source (has_come c c s) n glasses glasses raw raw
-  none_came c glasses raw = repainted_none source (has_come c c s) n glasses raw (λ k l. never (to_come c s (pixel s.width k)))
+  pub none_came : (c : CutterModel) (glasses : ℕ → Sight) (raw : List ℕ)
+      → Repainted source (has_come c c s) n glasses glasses raw raw
+  none_came c glasses raw = repainted_none source (has_come c c s) n glasses raw
+      (λ k l. never (to_come c s (pixel s.width k)))
     where
       never : (m : ℕ) → nat_lt m m ≡ false
       never m = grind (arith, nat_tests)
@@ -29,8 +37,10 @@ module _ (source : ℕ → PixelSource) (s : StackModel) (n : ℕ) where
   -- one more piece
   pub one_came : (before now next : CutterModel) (r : Rectangle) (a b c : ℕ → Sight) (raw mid last : List ℕ)
       → ((p : Point) → to_come before s p ≤ 1) → ((p : Point) → to_come now s p ≤ to_come before s p)
-      → ((p : Point) → to_come now s p ≡ to_come next s p + times r p) → ((p : Point) → IsTrue (covers r p) → to_come now s p ≡ 1)
-      → Repainted source (has_come before now s) n a b raw mid → Repainted source (has_pixel s.width r) n b c mid last → Repainted source (has_come before next s) n a c raw last
+      → ((p : Point) → to_come now s p ≡ to_come next s p + times r p)
+      → ((p : Point) → IsTrue (covers r p) → to_come now s p ≡ 1)
+      → Repainted source (has_come before now s) n a b raw mid → Repainted source (has_pixel s.width r) n b c mid last
+      → Repainted source (has_come before next s) n a c raw last
   one_came before now next r a b c raw mid last once less count came first second =
       repainted_union source (has_come before now s) (has_pixel s.width r) (has_come before next s) n a b c raw mid last
       (λ k. apart_count _ _ _ (once (pixel s.width k)) (came (pixel s.width k)))
@@ -42,4 +52,5 @@ module _ (source : ℕ → PixelSource) (s : StackModel) (n : ℕ) where
       → Repainted source (has_come before now s) n a b raw last → Repainted source (is_to_come before s) n a b raw last
   all_came before now a b raw last none painted =
       repainted_same source source (has_come before now s) (is_to_come before s) n a a b b raw last
-      (λ k l. ap (λ (m : ℕ). nat_lt m (to_come before s (pixel s.width k))) (none (pixel s.width k))) (λ k l m. refl) (λ t. refl) (λ t. refl) painted
+      (λ k l. ap (λ (m : ℕ). nat_lt m (to_come before s (pixel s.width k))) (none (pixel s.width k))) (λ k l m. refl)
+      (λ t. refl) (λ t. refl) painted

@@ -1,6 +1,12 @@
 -- Changes of one view leave the others as they stood.
-use Rattle.nit_repaint.proofs.Basics.{IsStack, IsViewChange, Put, Put-above, Put-back, Put-front, SlotView, StackModel, View, changed, found_passes, insert, is_slot, list_any, moved, moved_above, on_view, place_of, position_or_len, put_above, put_again, put_own_back, put_own_front, same_Some, slot_view_in, slot_view_layer, views_of, without}
-use Rattle.std.proofs.Common.{Bool, List, None, Option, Some, [], ap, cond, false, find, inl, inr, not, refl, suc, sym, true, zero, ℕ, ◌+◌, ◌==◌, ◌||◌, ◌∙◌, ◌∷◌, ◌≡◌}
+use Rattle.nit_repaint.proofs.Basics.{IsStack, IsViewChange, Put, Put-above, Put-back, Put-front}
+use Rattle.nit_repaint.proofs.Basics.{SlotView, StackModel, View, changed, found_passes, insert}
+use Rattle.nit_repaint.proofs.Basics.{is_slot, list_any, moved, moved_above, on_view, place_of}
+use Rattle.nit_repaint.proofs.Basics.{position_or_len, put_above, put_again, put_own_back}
+use Rattle.nit_repaint.proofs.Basics.{put_own_front, same_Some, slot_view_in, slot_view_layer}
+use Rattle.nit_repaint.proofs.Basics.{views_of, without}
+use Rattle.std.proofs.Common.{Bool, List, None, Option, Some, [], ap, cond, false, find, inl, inr}
+use Rattle.std.proofs.Common.{not, refl, suc, sym, true, zero, ℕ, ◌+◌, ◌==◌, ◌||◌, ◌∙◌, ◌∷◌, ◌≡◌}
 use Rattle.nit_repaint.proofs.ViewsInFront.{without_none}
 use Rattle.nit_repaint.proofs.ViewRemovalLemmas.{none_left}
 
@@ -17,7 +23,8 @@ module _ {A : Type 0} (is : A → Bool) where
   find_insert [] (suc i) v e none = ap (λ (b : Bool). cond b (Some v) None) e
   find_insert (x ∷ xs) (suc i) v e none = go (is x) none (find_insert xs i v e)
     where
-      go : (b : Bool) → (b || list_any is xs) ≡ false → (list_any is xs ≡ false → find is (insert xs i v) ≡ Some v) → cond b (Some x) (find is (insert xs i v)) ≡ Some v
+      go : (b : Bool) → (b || list_any is xs) ≡ false → (list_any is xs ≡ false → find is (insert xs i v) ≡ Some v)
+          → cond b (Some x) (find is (insert xs i v)) ≡ Some v
       go true m r = cc
       go false m r = r m
 
@@ -29,7 +36,8 @@ module _ {A : Type 0} (is : A → Bool) where
         go None e = refl
         go (Some v) e =
             let p = puts v (without is xs) in
-            ap (without is) p.is ∙ without_insert (without is xs) p.at v (found_passes is xs v e) ∙ without_none is (without is xs) (none_left is xs)
+            ap (without is) p.is ∙ without_insert (without is xs) p.at v (found_passes is xs v e)
+            ∙ without_none is (without is xs) (none_left is xs)
 
     pub find_moved : (xs : List A) → find is (moved is put xs) ≡ find is xs
     find_moved xs = go (find is xs) refl
@@ -45,55 +53,81 @@ module _ {A : Type 0} (is : A → Bool) where
     without_changed [] = refl
     without_changed (x ∷ xs) = go (is x) refl (without_changed xs)
       where
-        go : (b : Bool) → is x ≡ b → without is (changed is change xs) ≡ without is xs → without is (cond b (change x) x ∷ changed is change xs) ≡ cond (not b) (x ∷ without is xs) (without is xs)
-        go true e r = ap (λ (b : Bool). cond (not b) (change x ∷ without is (changed is change xs)) (without is (changed is change xs))) (same x ∙ e) ∙ r
-        go false e r = ap (λ (b : Bool). cond (not b) (x ∷ without is (changed is change xs)) (without is (changed is change xs))) e ∙ ap (λ (ys : List A). x ∷ ys) r
+        go : (b : Bool) → is x ≡ b → without is (changed is change xs) ≡ without is xs
+            → without is (cond b (change x) x ∷ changed is change xs) ≡ cond (not b) (x ∷ without is xs) (without is xs)
+        go true e r = ap (λ (b : Bool). cond (not b) (change x ∷ without is (changed is change xs))
+            (without is (changed is change xs))) (same x ∙ e) ∙ r
+        go false e r = ap (λ (b : Bool). cond (not b) (x ∷ without is (changed is change xs))
+            (without is (changed is change xs))) e ∙ ap (λ (ys : List A). x ∷ ys) r
 
     pub place_changed : (xs : List A) → position_or_len is (changed is change xs) ≡ position_or_len is xs
     place_changed [] = refl
     place_changed (x ∷ xs) = go (is x) refl (place_changed xs)
       where
-        go : (b : Bool) → is x ≡ b → position_or_len is (changed is change xs) ≡ position_or_len is xs → position_or_len is (cond b (change x) x ∷ changed is change xs) ≡ cond (not b) (1 + position_or_len is xs) 0
+        go : (b : Bool) → is x ≡ b → position_or_len is (changed is change xs) ≡ position_or_len is xs
+            → position_or_len is (cond b (change x) x ∷ changed is change xs)
+            ≡ cond (not b) (1 + position_or_len is xs) 0
         go true e r = ap (λ (b : Bool). cond (not b) (1 + position_or_len is (changed is change xs)) 0) (same x ∙ e)
-        go false e r = ap (λ (b : Bool). cond (not b) (1 + position_or_len is (changed is change xs)) 0) e ∙ ap (λ (n : ℕ). 1 + n) r
+        go false e r = ap (λ (b : Bool). cond (not b) (1 + position_or_len is (changed is change xs)) 0) e
+            ∙ ap (λ (n : ℕ). 1 + n) r
 
 -- ---- stacks
 
-module _ (s : StackModel) (k : ℕ) (seat : SlotView) (standing : IsStack s) (there : slot_view_in k s.views ≡ Some seat) where
-  -- it has another rectangle or offset, at its place
-  pub changes : (change : View → View) → IsViewChange k (place_of k s.views) seat.view.rect s (record s { views = changed (is_slot k) (on_view change) s.views })
-  changes change = record {
-    slots = standing.slots;
-    seat = (seat, there, refl);
-    place = refl;
-    bar = refl;
-    others = ap views_of (sym (without_changed (is_slot k) (on_view change) (λ x. refl) s.views));
-    kept = λ x e. inr (place_changed (is_slot k) (on_view change) (λ x. refl) s.views);
-  }
+module _ (s : StackModel) (k : ℕ) (seat : SlotView) (standing : IsStack s) (there : slot_view_in k s.views ≡ Some seat)
+  where
+    -- it has another rectangle or offset, at its place
+    pub changes : (change : View → View)
+        → IsViewChange k (place_of k s.views) seat.view.rect s
+        (record s { views = changed (is_slot k) (on_view change) s.views })
+    changes change = record {
+      slots = standing.slots;
+      seat = (seat, there, refl);
+      place = refl;
+      bar = refl;
+      others = ap views_of (sym (without_changed (is_slot k) (on_view change) (λ x. refl) s.views));
+      kept = λ x e. inr (place_changed (is_slot k) (on_view change) (λ x. refl) s.views);
+    }
 
-  -- it has another place
-  pub moves : (put : SlotView → List SlotView → List SlotView) → ((v : SlotView) (xs : List SlotView) → Put v xs (put v xs)) → IsViewChange k (place_of k s.views) seat.view.rect s (record s { views = moved (is_slot k) put s.views })
-  moves put puts = record {
-    slots = standing.slots;
-    seat = (seat, there, refl);
-    place = refl;
-    bar = refl;
-    others = ap views_of (sym (without_moved (is_slot k) put puts s.views));
-    kept = λ x e. inl (ap (λ (a : SlotView). a.view.rect) (same_Some _ _ (sym e ∙ find_moved (is_slot k) put puts s.views ∙ there)));
-  }
+    -- it has another place
+    pub moves : (put : SlotView → List SlotView → List SlotView)
+        → ((v : SlotView) (xs : List SlotView) → Put v xs (put v xs))
+        → IsViewChange k (place_of k s.views) seat.view.rect s (record s { views = moved (is_slot k) put s.views })
+    moves put puts = record {
+      slots = standing.slots;
+      seat = (seat, there, refl);
+      place = refl;
+      bar = refl;
+      others = ap views_of (sym (without_moved (is_slot k) put puts s.views));
+      kept = λ x e. inl (ap (λ (a : SlotView). a.view.rect)
+          (same_Some _ _ (sym e ∙ find_moved (is_slot k) put puts s.views ∙ there)));
+    }
 
-  stays : IsViewChange k (place_of k s.views) seat.view.rect s s
-  stays = record { slots = standing.slots; seat = (seat, there, refl); place = refl; bar = refl; others = refl; kept = λ x e. inr refl }
+    stays : IsViewChange k (place_of k s.views) seat.view.rect s s
+    stays = record {
+      slots = standing.slots;
+      seat = (seat, there, refl);
+      place = refl;
+      bar = refl;
+      others = refl;
+      kept =
+          λ x e. inr refl;
+    }
 
-  pub moves_above : (n : ℕ) → IsViewChange k (place_of k s.views) seat.view.rect s (record s { views = moved_above k n s.views })
-  moves_above n = go (k == n)
-    where
-      go : (b : Bool) → IsViewChange k (place_of k s.views) seat.view.rect s (record s { views = cond b s.views (moved (is_slot k) (put_above (is_slot n)) s.views) })
-      go true = stays
-      go false = moves (put_above (is_slot n)) (λ v xs. Put-above (is_slot n) v xs)
+    pub moves_above : (n : ℕ) → IsViewChange k (place_of k s.views) seat.view.rect s
+        (record s { views = moved_above k n s.views })
+    moves_above n = go (k == n)
+      where
+        go : (b : Bool) → IsViewChange k (place_of k s.views) seat.view.rect s
+            (record s { views = cond b s.views (moved (is_slot k) (put_above (is_slot n)) s.views) })
+        go true = stays
+        go false = moves (put_above (is_slot n)) (λ v xs. Put-above (is_slot n) v xs)
 
-  pub moves_front : IsViewChange k (place_of k s.views) seat.view.rect s (record s { views = moved (is_slot k) (put_own_front (slot_view_layer s.layers)) s.views })
-  moves_front = moves (put_own_front (slot_view_layer s.layers)) (λ v xs. Put-front (slot_view_layer s.layers) (slot_view_layer s.layers v) v xs)
+    pub moves_front : IsViewChange k (place_of k s.views) seat.view.rect s
+        (record s { views = moved (is_slot k) (put_own_front (slot_view_layer s.layers)) s.views })
+    moves_front = moves (put_own_front (slot_view_layer s.layers))
+        (λ v xs. Put-front (slot_view_layer s.layers) (slot_view_layer s.layers v) v xs)
 
-  pub moves_back : IsViewChange k (place_of k s.views) seat.view.rect s (record s { views = moved (is_slot k) (put_own_back (slot_view_layer s.layers)) s.views })
-  moves_back = moves (put_own_back (slot_view_layer s.layers)) (λ v xs. Put-back (slot_view_layer s.layers) (slot_view_layer s.layers v) v xs)
+    pub moves_back : IsViewChange k (place_of k s.views) seat.view.rect s
+        (record s { views = moved (is_slot k) (put_own_back (slot_view_layer s.layers)) s.views })
+    moves_back = moves (put_own_back (slot_view_layer s.layers))
+        (λ v xs. Put-back (slot_view_layer s.layers) (slot_view_layer s.layers v) v xs)

@@ -1,6 +1,16 @@
 -- What views uncover when they are taken away.
-use Rattle.nit_repaint.proofs.Basics.{HoldBuffers, IsRemovedFrom, IsViewChange, NoPair, Point, Repainted, Sight, SlotView, StackModel, View, drop_all, drop_at, eq-eqb, false≢true, found_fails, found_passes, in_bar, is_of_session, is_slot, list_any, ne_eqb, option_map, option_map_or, owner_of_views, owner_passes, pixel, place_of, repainted_same, repainted_union, same_slot, seen, size_of, slice_get, slot_owns_either, slot_view_covers, slot_view_in, source_in, source_of_number, source_under, uncovered, views_of, without, without_session}
-use Rattle.std.proofs.Common.{Bool, List, None, Option, Some, [], add-one, ap, arith, cond, drop, false, find, length, not, refl, subst, suc, sym, true, zero, ℕ, ◌&&◌, ◌*◌, ◌+◌, ◌<◌, ◌||◌, ◌∙◌, ◌∷◌, ◌≡◌, ◌≤◌}
+use Rattle.nit_repaint.proofs.Basics.{HoldBuffers, IsRemovedFrom, IsViewChange, NoPair, Point}
+use Rattle.nit_repaint.proofs.Basics.{Repainted, Sight, SlotView, StackModel, View, drop_all}
+use Rattle.nit_repaint.proofs.Basics.{drop_at, eq-eqb, false≢true, found_fails, found_passes}
+use Rattle.nit_repaint.proofs.Basics.{in_bar, is_of_session, is_slot, list_any, ne_eqb, option_map}
+use Rattle.nit_repaint.proofs.Basics.{option_map_or, owner_of_views, owner_passes, pixel, place_of}
+use Rattle.nit_repaint.proofs.Basics.{repainted_same, repainted_union, same_slot, seen, size_of}
+use Rattle.nit_repaint.proofs.Basics.{slice_get, slot_owns_either, slot_view_covers, slot_view_in}
+use Rattle.nit_repaint.proofs.Basics.{source_in, source_of_number, source_under, uncovered}
+use Rattle.nit_repaint.proofs.Basics.{views_of, without, without_session}
+use Rattle.std.proofs.Common.{Bool, List, None, Option, Some, [], add-one, ap, arith, cond, drop}
+use Rattle.std.proofs.Common.{false, find, length, not, refl, subst, suc, sym, true, zero, ℕ, ◌&&◌}
+use Rattle.std.proofs.Common.{◌*◌, ◌+◌, ◌<◌, ◌||◌, ◌∙◌, ◌∷◌, ◌≡◌, ◌≤◌}
 use Rattle.nit_repaint.proofs.GlassLemmas.{still_held}
 use Rattle.nit_repaint.proofs.ChangedOwners.{owned_not}
 use Rattle.nit_repaint.proofs.ViewsInFront.{other_slot, without_none}
@@ -11,12 +21,14 @@ pub none_left : {A : Type 0} (is : A → Bool) (xs : List A) → list_any is (wi
 none_left is [] = refl
 none_left is (x ∷ xs) = go (is x) refl (none_left is xs)
   where
-    go : (b : Bool) → is x ≡ b → list_any is (without is xs) ≡ false → list_any is (cond (not b) (x ∷ without is xs) (without is xs)) ≡ false
+    go : (b : Bool) → is x ≡ b → list_any is (without is xs) ≡ false
+        → list_any is (cond (not b) (x ∷ without is xs) (without is xs)) ≡ false
     go true e r = r
     go false e r = ap (λ (b : Bool). b || list_any is (without is xs)) e ∙ r
 
 -- it is a change of one view
-pub gone_change : (s s' : StackModel) (k at : ℕ) (view : View) → NoPair same_slot s.views → slot_view_in k s.views ≡ Some (record { slot = k; view = view }) → at ≡ place_of k s.views
+pub gone_change : (s s' : StackModel) (k at : ℕ) (view : View) → NoPair same_slot s.views
+    → slot_view_in k s.views ≡ Some (record { slot = k; view = view }) → at ≡ place_of k s.views
     → s' ≡ record s { views = without (is_slot k) s.views } → IsViewChange k at view.rect s s'
 gone_change s s' k at view apart there place now =
     subst (λ (t : StackModel). IsViewChange k at view.rect s t) (sym now) record {
@@ -24,8 +36,11 @@ gone_change s s' k at view apart there place now =
       seat = (record { slot = k; view = view }, there, refl);
       place = sym place;
       bar = refl;
-      others = ap views_of (sym (without_none (is_slot k) (without (is_slot k) s.views) (none_left (is_slot k) s.views)));
-      kept = λ x e. absurd (false≢true (sym (found_fails (is_slot k) (is_slot k) (without (is_slot k) s.views) x (none_left (is_slot k) s.views) e) ∙ found_passes (is_slot k) (without (is_slot k) s.views) x e));
+      others = ap views_of (sym (without_none (is_slot k) (without (is_slot k) s.views)
+          (none_left (is_slot k) s.views)));
+      kept = λ x e. absurd (false≢true
+          (sym (found_fails (is_slot k) (is_slot k) (without (is_slot k) s.views) x (none_left (is_slot k) s.views) e)
+          ∙ found_passes (is_slot k) (without (is_slot k) s.views) x e));
     }
 
 none_more : (b : Bool) → (b || false) ≡ b
@@ -33,34 +48,45 @@ none_more true = refl
 none_more false = refl
 
 -- and nothing that it owns is left
-pub gone_owned : (s s' : StackModel) (k : ℕ) (p : Point) → s' ≡ record s { views = without (is_slot k) s.views } → slot_owns_either k s s' p ≡ owner_passes (is_slot k) s p
+pub gone_owned : (s s' : StackModel) (k : ℕ) (p : Point) → s' ≡ record s { views = without (is_slot k) s.views }
+    → slot_owns_either k s s' p ≡ owner_passes (is_slot k) s p
 gone_owned s s' k p now =
     ap (λ (t : StackModel). owner_passes (is_slot k) s p || owner_passes (is_slot k) t p) now
-    ∙ ap (λ (b : Bool). owner_passes (is_slot k) s p || b) (owned_not (record s { views = without (is_slot k) s.views }) k p (none_left (is_slot k) s.views))
+    ∙ ap (λ (b : Bool). owner_passes (is_slot k) s p || b)
+    (owned_not (record s { views = without (is_slot k) s.views }) k p (none_left (is_slot k) s.views))
     ∙ none_more (owner_passes (is_slot k) s p)
 
 pub shorter : {A : Type 0} (is : A → Bool) (xs : List A) → length (without is xs) ≤ length xs
 shorter is [] = omega arith
 shorter is (x ∷ xs) = go (is x) (shorter is xs)
   where
-    go : (b : Bool) → length (without is xs) ≤ length xs → length (cond (not b) (x ∷ without is xs) (without is xs)) ≤ length (x ∷ xs)
+    go : (b : Bool) → length (without is xs) ≤ length xs
+        → length (cond (not b) (x ∷ without is xs) (without is xs)) ≤ length (x ∷ xs)
     go true r = omega (arith, r)
     go false r = omega (arith, r)
 
-pub gone_room : (s s' : StackModel) (k room : ℕ) → s' ≡ record s { views = without (is_slot k) s.views } → length s.views ≤ room → length s'.views ≤ room
-gone_room s s' k room now l = let few = shorter (is_slot k) s.views in subst (λ (t : StackModel). length t.views ≤ room) (sym now) (omega (arith, few, l))
+pub gone_room : (s s' : StackModel) (k room : ℕ) → s' ≡ record s { views = without (is_slot k) s.views }
+    → length s.views ≤ room → length s'.views ≤ room
+gone_room s s' k room now l = let few = shorter (is_slot k) s.views in subst (λ (t : StackModel). length t.views ≤ room)
+    (sym now) (omega (arith, few, l))
 
-pub gone_held : (s s' : StackModel) (k count : ℕ) (glasses : ℕ → Sight) → s' ≡ record s { views = without (is_slot k) s.views } → HoldBuffers s count glasses → HoldBuffers s' count glasses
+pub gone_held : (s s' : StackModel) (k count : ℕ) (glasses : ℕ → Sight)
+    → s' ≡ record s { views = without (is_slot k) s.views } → HoldBuffers s count glasses → HoldBuffers s' count glasses
 gone_held s s' k count glasses now h = subst (λ (t : StackModel). HoldBuffers t count glasses) (sym now) h
 
-pub gone_pixels : (s s' : StackModel) (k n : ℕ) → s' ≡ record s { views = without (is_slot k) s.views } → n ≡ s.width * s.height → n ≡ s'.width * s'.height
+pub gone_pixels : (s s' : StackModel) (k n : ℕ) → s' ≡ record s { views = without (is_slot k) s.views }
+    → n ≡ s.width * s.height → n ≡ s'.width * s'.height
 gone_pixels s s' k n now e = e ∙ ap (λ (t : StackModel). t.width * t.height) (sym now)
 
-pub gone_painted : (s s' : StackModel) (k n : ℕ) (a b : ℕ → Sight) (raw raw' : List ℕ) → s' ≡ record s { views = without (is_slot k) s.views }
-    → Repainted (source_of_number s') (λ j. slot_owns_either k s s' (pixel s'.width j)) n a b raw raw' → Repainted (source_of_number s') (λ j. owner_passes (is_slot k) s (pixel s.width j)) n a b raw raw'
+pub gone_painted : (s s' : StackModel) (k n : ℕ) (a b : ℕ → Sight) (raw raw' : List ℕ)
+    → s' ≡ record s { views = without (is_slot k) s.views }
+    → Repainted (source_of_number s') (λ j. slot_owns_either k s s' (pixel s'.width j)) n a b raw raw'
+    → Repainted (source_of_number s') (λ j. owner_passes (is_slot k) s (pixel s.width j)) n a b raw raw'
 gone_painted s s' k n a b raw raw' now painted =
     repainted_same _ _ _ _ n a a b b raw raw'
-    (λ j l. gone_owned s s' k (pixel s'.width j) now ∙ ap (λ (t : StackModel). owner_passes (is_slot k) s (pixel t.width j)) now) (λ j l m. refl) (λ t. refl) (λ t. refl) painted
+    (λ j l. gone_owned s s' k (pixel s'.width j) now
+    ∙ ap (λ (t : StackModel). owner_passes (is_slot k) s (pixel t.width j)) now) (λ j l m. refl) (λ t. refl)
+    (λ t. refl) painted
 
 -- ---- all views of a session go, from the rear one on
 
@@ -74,33 +100,46 @@ always false = refl
 
 -- what the rear-most view of a session leaves to be owned
 pub record Rear (is : SlotView → Bool) (k : ℕ) (q : SlotView → Bool) (xs : List SlotView) : Type 0 where
-  pub owned : option_map_or is (find q (without (is_slot k) xs)) false ≡ (option_map_or is (find q xs) false && not (option_map_or (is_slot k) (find q xs) false))
-  pub seen_through : option_map_or (is_slot k) (find q xs) false ≡ true → find q (without (is_slot k) xs) ≡ find q (without is xs)
+  pub owned : option_map_or is (find q (without (is_slot k) xs)) false
+      ≡ (option_map_or is (find q xs) false && not (option_map_or (is_slot k) (find q xs) false))
+  pub seen_through : option_map_or (is_slot k) (find q xs) false ≡ true
+      → find q (without (is_slot k) xs) ≡ find q (without is xs)
 
-found_not : (is q : SlotView → Bool) (xs : List SlotView) → list_any is xs ≡ false → option_map_or is (find q xs) false ≡ false
+found_not : (is q : SlotView → Bool) (xs : List SlotView) → list_any is xs ≡ false → option_map_or is (find q xs) false
+    ≡ false
 found_not is q xs none = go (find q xs) refl
   where
     go : (o : Option SlotView) → find q xs ≡ o → option_map_or is o false ≡ false
     go None e = refl
     go (Some x) e = found_fails q is xs x none e
 
-pub rear : (is : SlotView → Bool) (k : ℕ) (q : SlotView → Bool) (xs : List SlotView) (i : ℕ) (x : SlotView) → NoPair same_slot xs → slice_get xs i ≡ Some x → x.slot ≡ k → is x ≡ true → list_any is (drop (suc i) xs) ≡ false → Rear is k q xs
+pub rear : (is : SlotView → Bool) (k : ℕ) (q : SlotView → Bool) (xs : List SlotView) (i : ℕ) (x : SlotView)
+    → NoPair same_slot xs → slice_get xs i ≡ Some x → x.slot ≡ k → is x ≡ true → list_any is (drop (suc i) xs) ≡ false
+    → Rear is k q xs
 rear is k q [] i x apart at slot own none = cc
 rear is k q (y ∷ ys) zero x apart at slot own none =
     let same : y ≡ x = cc in
     let here : is_slot k y ≡ true = eq-eqb y.slot k (ap (λ (z : SlotView). z.slot) same ∙ slot) in
     let mine : is y ≡ true = ap is same ∙ own in
-    let others : list_any (is_slot k) ys ≡ false = subst (λ (n : ℕ). list_any (is_slot n) ys ≡ false) (ap (λ (z : SlotView). z.slot) same ∙ slot) apart.0 in
-    let left : without (is_slot k) (y ∷ ys) ≡ ys = ap (λ (b : Bool). cond (not b) (y ∷ without (is_slot k) ys) (without (is_slot k) ys)) here ∙ without_none (is_slot k) ys others in
-    let bare : without is (y ∷ ys) ≡ ys = ap (λ (b : Bool). cond (not b) (y ∷ without is ys) (without is ys)) mine ∙ without_none is ys none in
+    let others : list_any (is_slot k) ys ≡ false =
+    subst (λ (n : ℕ). list_any (is_slot n) ys ≡ false) (ap (λ (z : SlotView). z.slot) same ∙ slot) apart.0 in
+    let left : without (is_slot k) (y ∷ ys) ≡ ys =
+    ap (λ (b : Bool). cond (not b) (y ∷ without (is_slot k) ys) (without (is_slot k) ys)) here
+    ∙ without_none (is_slot k) ys others in
+    let bare : without is (y ∷ ys) ≡ ys = ap (λ (b : Bool). cond (not b) (y ∷ without is ys) (without is ys)) mine
+    ∙ without_none is ys none in
     record {
-      owned = ap (λ (zs : List SlotView). option_map_or is (find q zs) false) left ∙ found_not is q ys none ∙ sym (go (q y) here mine);
+      owned = ap (λ (zs : List SlotView). option_map_or is (find q zs) false) left ∙ found_not is q ys none
+          ∙ sym (go (q y) here mine);
       seen_through = λ e. ap (find q) left ∙ sym (ap (find q) bare);
     }
   where
-    go : (b : Bool) → is_slot k y ≡ true → is y ≡ true → (option_map_or is (cond b (Some y) (find q ys)) false && not (option_map_or (is_slot k) (cond b (Some y) (find q ys)) false)) ≡ false
+    go : (b : Bool) → is_slot k y ≡ true → is y ≡ true
+        → (option_map_or is (cond b (Some y) (find q ys)) false && not
+        (option_map_or (is_slot k) (cond b (Some y) (find q ys)) false)) ≡ false
     go true here mine = ap (λ (c : Bool). is y && not c) here ∙ never (is y)
-    go false here mine = ap (λ (c : Bool). c && not (option_map_or (is_slot k) (find q ys) false)) (found_not is q ys none)
+    go false here mine = ap (λ (c : Bool). c && not (option_map_or (is_slot k) (find q ys) false))
+        (found_not is q ys none)
 rear is k q (y ∷ ys) (suc i) x apart at slot own none =
     let other : is_slot k y ≡ false = subst (λ (n : ℕ). is_slot n y ≡ false) slot (other_slot ys i x y apart.0 at) in
     go (q y) refl other (rear is k q ys i x apart.1 at slot own none)
@@ -108,7 +147,8 @@ rear is k q (y ∷ ys) (suc i) x apart at slot own none =
     left : is_slot k y ≡ false → without (is_slot k) (y ∷ ys) ≡ y ∷ without (is_slot k) ys
     left other = ap (λ (b : Bool). cond (not b) (y ∷ without (is_slot k) ys) (without (is_slot k) ys)) other
 
-    skipped : (b : Bool) → q y ≡ false → find q (cond (not b) (y ∷ without is ys) (without is ys)) ≡ find q (without is ys)
+    skipped : (b : Bool) → q y ≡ false → find q (cond (not b) (y ∷ without is ys) (without is ys))
+        ≡ find q (without is ys)
     skipped true e = refl
     skipped false e = ap (λ (c : Bool). cond c (Some y) (find q (without is ys))) e
 
@@ -116,20 +156,26 @@ rear is k q (y ∷ ys) (suc i) x apart at slot own none =
     go true e other r = record {
       owned = ap (λ (zs : List SlotView). option_map_or is (find q zs) false) (left other)
           ∙ ap (λ (c : Bool). option_map_or is (cond c (Some y) (find q (without (is_slot k) ys))) false) e
-          ∙ sym (ap (λ (c : Bool). option_map_or is (cond c (Some y) (find q ys)) false && not (option_map_or (is_slot k) (cond c (Some y) (find q ys)) false)) e ∙ ap (λ (c : Bool). is y && not c) other ∙ always (is y));
-      seen_through = λ f. absurd (false≢true (sym (ap (λ (c : Bool). option_map_or (is_slot k) (cond c (Some y) (find q ys)) false) e ∙ other) ∙ f));
+          ∙ sym (ap (λ (c : Bool). option_map_or is (cond c (Some y) (find q ys)) false && not
+          (option_map_or (is_slot k) (cond c (Some y) (find q ys)) false)) e
+          ∙ ap (λ (c : Bool). is y && not c) other ∙ always (is y));
+      seen_through = λ f. absurd (false≢true
+          (sym (ap (λ (c : Bool). option_map_or (is_slot k) (cond c (Some y) (find q ys)) false) e ∙ other) ∙ f));
     }
     go false e other r = record {
       owned = ap (λ (zs : List SlotView). option_map_or is (find q zs) false) (left other)
           ∙ ap (λ (c : Bool). option_map_or is (cond c (Some y) (find q (without (is_slot k) ys))) false) e ∙ r.owned
-          ∙ sym (ap (λ (c : Bool). option_map_or is (cond c (Some y) (find q ys)) false && not (option_map_or (is_slot k) (cond c (Some y) (find q ys)) false)) e);
+          ∙ sym (ap (λ (c : Bool). option_map_or is (cond c (Some y) (find q ys)) false && not
+          (option_map_or (is_slot k) (cond c (Some y) (find q ys)) false)) e);
       seen_through = λ f.
           ap (find q) (left other) ∙ ap (λ (c : Bool). cond c (Some y) (find q (without (is_slot k) ys))) e
-          ∙ r.seen_through (sym (ap (λ (c : Bool). option_map_or (is_slot k) (cond c (Some y) (find q ys)) false) e) ∙ f) ∙ sym (skipped (is y) e);
+          ∙ r.seen_through (sym (ap (λ (c : Bool). option_map_or (is_slot k) (cond c (Some y) (find q ys)) false) e)
+          ∙ f) ∙ sym (skipped (is y) e);
     }
 
 -- what is found in the slot of a view is that view
-pub of_slot : (is : SlotView → Bool) (k : ℕ) (q : SlotView → Bool) (xs : List SlotView) (i : ℕ) (x : SlotView) → NoPair same_slot xs → slice_get xs i ≡ Some x → x.slot ≡ k → is x ≡ true
+pub of_slot : (is : SlotView → Bool) (k : ℕ) (q : SlotView → Bool) (xs : List SlotView) (i : ℕ) (x : SlotView)
+    → NoPair same_slot xs → slice_get xs i ≡ Some x → x.slot ≡ k → is x ≡ true
     → option_map_or (is_slot k) (find q xs) false ≡ true → option_map_or is (find q xs) false ≡ true
 of_slot is k q [] i x apart at slot own e = cc
 of_slot is k q (y ∷ ys) zero x apart at slot own e = go (q y) e
@@ -140,7 +186,8 @@ of_slot is k q (y ∷ ys) zero x apart at slot own e = go (q y) e
     others : list_any (is_slot k) ys ≡ false
     others = subst (λ (n : ℕ). list_any (is_slot n) ys ≡ false) (ap (λ (z : SlotView). z.slot) same ∙ slot) apart.0
 
-    go : (b : Bool) → option_map_or (is_slot k) (cond b (Some y) (find q ys)) false ≡ true → option_map_or is (cond b (Some y) (find q ys)) false ≡ true
+    go : (b : Bool) → option_map_or (is_slot k) (cond b (Some y) (find q ys)) false ≡ true
+        → option_map_or is (cond b (Some y) (find q ys)) false ≡ true
     go true e = ap is same ∙ own
     go false e = absurd (false≢true (sym (found_not (is_slot k) q ys others) ∙ e))
 of_slot is k q (y ∷ ys) (suc i) x apart at slot own e = go (q y) e (of_slot is k q ys i x apart.1 at slot own)
@@ -148,76 +195,99 @@ of_slot is k q (y ∷ ys) (suc i) x apart at slot own e = go (q y) e (of_slot is
     other : is_slot k y ≡ false
     other = subst (λ (n : ℕ). is_slot n y ≡ false) slot (other_slot ys i x y apart.0 at)
 
-    go : (b : Bool) → option_map_or (is_slot k) (cond b (Some y) (find q ys)) false ≡ true → (option_map_or (is_slot k) (find q ys) false ≡ true → option_map_or is (find q ys) false ≡ true)
+    go : (b : Bool) → option_map_or (is_slot k) (cond b (Some y) (find q ys)) false ≡ true
+        → (option_map_or (is_slot k) (find q ys) false ≡ true → option_map_or is (find q ys) false ≡ true)
         → option_map_or is (cond b (Some y) (find q ys)) false ≡ true
     go true e r = absurd (false≢true (sym other ∙ e))
     go false e r = r e
 
 -- ---- the list that is left
 
-pub left_behind : (is : SlotView → Bool) (k : ℕ) (xs : List SlotView) (i : ℕ) (x : SlotView) → NoPair same_slot xs → slice_get xs i ≡ Some x → x.slot ≡ k → drop i (without (is_slot k) xs) ≡ drop (suc i) xs
+pub left_behind : (is : SlotView → Bool) (k : ℕ) (xs : List SlotView) (i : ℕ) (x : SlotView) → NoPair same_slot xs
+    → slice_get xs i ≡ Some x → x.slot ≡ k → drop i (without (is_slot k) xs) ≡ drop (suc i) xs
 left_behind is k [] i x apart at slot = cc
 left_behind is k (y ∷ ys) zero x apart at slot =
     let same : y ≡ x = cc in
     let here : is_slot k y ≡ true = eq-eqb y.slot k (ap (λ (z : SlotView). z.slot) same ∙ slot) in
-    let others : list_any (is_slot k) ys ≡ false = subst (λ (n : ℕ). list_any (is_slot n) ys ≡ false) (ap (λ (z : SlotView). z.slot) same ∙ slot) apart.0 in
-    ap (λ (b : Bool). cond (not b) (y ∷ without (is_slot k) ys) (without (is_slot k) ys)) here ∙ without_none (is_slot k) ys others
+    let others : list_any (is_slot k) ys ≡ false =
+    subst (λ (n : ℕ). list_any (is_slot n) ys ≡ false) (ap (λ (z : SlotView). z.slot) same ∙ slot) apart.0 in
+    ap (λ (b : Bool). cond (not b) (y ∷ without (is_slot k) ys) (without (is_slot k) ys)) here
+    ∙ without_none (is_slot k) ys others
 left_behind is k (y ∷ ys) (suc i) x apart at slot =
     let other : is_slot k y ≡ false = subst (λ (n : ℕ). is_slot n y ≡ false) slot (other_slot ys i x y apart.0 at) in
-    ap (λ (b : Bool). drop (suc i) (cond (not b) (y ∷ without (is_slot k) ys) (without (is_slot k) ys))) other ∙ left_behind is k ys i x apart.1 at slot
+    ap (λ (b : Bool). drop (suc i) (cond (not b) (y ∷ without (is_slot k) ys) (without (is_slot k) ys))) other
+    ∙ left_behind is k ys i x apart.1 at slot
 
 -- the same views of others
-pub same_left : (is : SlotView → Bool) (k : ℕ) (xs : List SlotView) (i : ℕ) (x : SlotView) → NoPair same_slot xs → slice_get xs i ≡ Some x → x.slot ≡ k → is x ≡ true → without is (without (is_slot k) xs) ≡ without is xs
+pub same_left : (is : SlotView → Bool) (k : ℕ) (xs : List SlotView) (i : ℕ) (x : SlotView) → NoPair same_slot xs
+    → slice_get xs i ≡ Some x → x.slot ≡ k → is x ≡ true → without is (without (is_slot k) xs) ≡ without is xs
 same_left is k [] i x apart at slot own = cc
 same_left is k (y ∷ ys) zero x apart at slot own =
     let same : y ≡ x = cc in
     let here : is_slot k y ≡ true = eq-eqb y.slot k (ap (λ (z : SlotView). z.slot) same ∙ slot) in
     let mine : is y ≡ true = ap is same ∙ own in
-    let others : list_any (is_slot k) ys ≡ false = subst (λ (n : ℕ). list_any (is_slot n) ys ≡ false) (ap (λ (z : SlotView). z.slot) same ∙ slot) apart.0 in
-    ap (λ (b : Bool). without is (cond (not b) (y ∷ without (is_slot k) ys) (without (is_slot k) ys))) here ∙ ap (without is) (without_none (is_slot k) ys others)
+    let others : list_any (is_slot k) ys ≡ false =
+    subst (λ (n : ℕ). list_any (is_slot n) ys ≡ false) (ap (λ (z : SlotView). z.slot) same ∙ slot) apart.0 in
+    ap (λ (b : Bool). without is (cond (not b) (y ∷ without (is_slot k) ys) (without (is_slot k) ys))) here
+    ∙ ap (without is) (without_none (is_slot k) ys others)
     ∙ sym (ap (λ (b : Bool). cond (not b) (y ∷ without is ys) (without is ys)) mine)
 same_left is k (y ∷ ys) (suc i) x apart at slot own =
     let other : is_slot k y ≡ false = subst (λ (n : ℕ). is_slot n y ≡ false) slot (other_slot ys i x y apart.0 at) in
     ap (λ (b : Bool). without is (cond (not b) (y ∷ without (is_slot k) ys) (without (is_slot k) ys))) other
     ∙ ap (λ (zs : List SlotView). cond (not (is y)) (y ∷ zs) zs) (same_left is k ys i x apart.1 at slot own)
 
-pub one_less : (k : ℕ) (xs : List SlotView) (i : ℕ) (x : SlotView) → NoPair same_slot xs → slice_get xs i ≡ Some x → x.slot ≡ k → suc (length (without (is_slot k) xs)) ≡ length xs
+pub one_less : (k : ℕ) (xs : List SlotView) (i : ℕ) (x : SlotView) → NoPair same_slot xs → slice_get xs i ≡ Some x
+    → x.slot ≡ k → suc (length (without (is_slot k) xs)) ≡ length xs
 one_less k [] i x apart at slot = cc
 one_less k (y ∷ ys) zero x apart at slot =
     let same : y ≡ x = cc in
     let here : is_slot k y ≡ true = eq-eqb y.slot k (ap (λ (z : SlotView). z.slot) same ∙ slot) in
-    let others : list_any (is_slot k) ys ≡ false = subst (λ (n : ℕ). list_any (is_slot n) ys ≡ false) (ap (λ (z : SlotView). z.slot) same ∙ slot) apart.0 in
-    ap (λ (b : Bool). suc (length (cond (not b) (y ∷ without (is_slot k) ys) (without (is_slot k) ys)))) here ∙ ap (λ (zs : List SlotView). suc (length zs)) (without_none (is_slot k) ys others)
+    let others : list_any (is_slot k) ys ≡ false =
+    subst (λ (n : ℕ). list_any (is_slot n) ys ≡ false) (ap (λ (z : SlotView). z.slot) same ∙ slot) apart.0 in
+    ap (λ (b : Bool). suc (length (cond (not b) (y ∷ without (is_slot k) ys) (without (is_slot k) ys)))) here
+    ∙ ap (λ (zs : List SlotView). suc (length zs)) (without_none (is_slot k) ys others)
 one_less k (y ∷ ys) (suc i) x apart at slot =
     let other : is_slot k y ≡ false = subst (λ (n : ℕ). is_slot n y ≡ false) slot (other_slot ys i x y apart.0 at) in
-    ap (λ (b : Bool). suc (length (cond (not b) (y ∷ without (is_slot k) ys) (without (is_slot k) ys)))) other ∙ ap (λ (n : ℕ). suc n) (one_less k ys i x apart.1 at slot)
+    ap (λ (b : Bool). suc (length (cond (not b) (y ∷ without (is_slot k) ys) (without (is_slot k) ys)))) other
+    ∙ ap (λ (n : ℕ). suc n) (one_less k ys i x apart.1 at slot)
 
 -- ---- stacks
 
 -- what a view owns shows a view behind it when it goes, and so when all views of its session go
-pub same_source : (sid k : ℕ) (s : StackModel) (p : Point) → Rear (is_of_session sid) k (slot_view_covers p) s.views → owner_passes (is_slot k) s p ≡ true
+pub same_source : (sid k : ℕ) (s : StackModel) (p : Point) → Rear (is_of_session sid) k (slot_view_covers p) s.views
+    → owner_passes (is_slot k) s p ≡ true
     → source_in (record s { views = without (is_slot k) s.views }) p ≡ source_in (without_session sid s) p
-same_source sid k s p r owns = ap (source_under (size_of s.sizes) p) (owner_of_views s.bar (without (is_slot k) s.views) p ∙ ap (option_map (λ (a : SlotView). a.view)) (go (in_bar s.bar p) owns) ∙ sym (owner_of_views s.bar (without (is_of_session sid) s.views) p))
+same_source sid k s p r owns =
+    ap (source_under (size_of s.sizes) p) (owner_of_views s.bar (without (is_slot k) s.views) p
+    ∙ ap (option_map (λ (a : SlotView). a.view)) (go (in_bar s.bar p) owns)
+    ∙ sym (owner_of_views s.bar (without (is_of_session sid) s.views) p))
   where
     go : (b : Bool) → option_map_or (is_slot k) (cond b None (find (slot_view_covers p) s.views)) false ≡ true
-        → cond b None (find (slot_view_covers p) (without (is_slot k) s.views)) ≡ cond b None (find (slot_view_covers p) (without (is_of_session sid) s.views))
+        → cond b None (find (slot_view_covers p) (without (is_slot k) s.views))
+        ≡ cond b None (find (slot_view_covers p) (without (is_of_session sid) s.views))
     go true e = cc
     go false e = r.seen_through e
 
 pub less_owned : (sid k : ℕ) (s : StackModel) (p : Point) → Rear (is_of_session sid) k (slot_view_covers p) s.views
-    → owner_passes (is_of_session sid) (record s { views = without (is_slot k) s.views }) p ≡ (owner_passes (is_of_session sid) s p && not (owner_passes (is_slot k) s p))
+    → owner_passes (is_of_session sid) (record s { views = without (is_slot k) s.views }) p
+    ≡ (owner_passes (is_of_session sid) s p && not (owner_passes (is_slot k) s p))
 less_owned sid k s p r = go (in_bar s.bar p)
   where
-    go : (b : Bool) → option_map_or (is_of_session sid) (cond b None (find (slot_view_covers p) (without (is_slot k) s.views))) false
-        ≡ (option_map_or (is_of_session sid) (cond b None (find (slot_view_covers p) s.views)) false && not (option_map_or (is_slot k) (cond b None (find (slot_view_covers p) s.views)) false))
+    go : (b : Bool) → option_map_or (is_of_session sid)
+        (cond b None (find (slot_view_covers p) (without (is_slot k) s.views))) false
+        ≡ (option_map_or (is_of_session sid) (cond b None (find (slot_view_covers p) s.views)) false && not
+        (option_map_or (is_slot k) (cond b None (find (slot_view_covers p) s.views)) false))
     go true = refl
     go false = r.owned
 
-pub skip_behind : (is : SlotView → Bool) (views : List SlotView) (i : ℕ) (x : SlotView) → slice_get views i ≡ Some x → is x ≡ false → list_any is (drop (i + 1) views) ≡ false → list_any is (drop i views) ≡ false
-skip_behind is views i x at other none = ap (list_any is) (drop_at views i x at) ∙ ap (λ (b : Bool). b || list_any is (drop (i + 1) views)) other ∙ none
+pub skip_behind : (is : SlotView → Bool) (views : List SlotView) (i : ℕ) (x : SlotView) → slice_get views i ≡ Some x
+    → is x ≡ false → list_any is (drop (i + 1) views) ≡ false → list_any is (drop i views) ≡ false
+skip_behind is views i x at other none = ap (list_any is) (drop_at views i x at)
+    ∙ ap (λ (b : Bool). b || list_any is (drop (i + 1) views)) other ∙ none
 
 -- a view of another session stays
-pub stays : (sid i : ℕ) (s : StackModel) (x : SlotView) → slice_get s.views i ≡ Some x → (x.view.sid ≡ sid → ⊥) → i < length s.views → list_any (is_of_session sid) (drop (i + 1) s.views) ≡ false → IsRemovedFrom sid i s s
+pub stays : (sid i : ℕ) (s : StackModel) (x : SlotView) → slice_get s.views i ≡ Some x → (x.view.sid ≡ sid → ⊥)
+    → i < length s.views → list_any (is_of_session sid) (drop (i + 1) s.views) ≡ false → IsRemovedFrom sid i s s
 stays sid i s x at other l none = record {
   rest = refl;
   left = refl;
@@ -235,8 +305,10 @@ pub stays_clean : (sid : ℕ) (s : StackModel) (p : Point) → uncovered sid s s
 stays_clean sid s p = itself (owner_passes (is_of_session sid) s p)
 
 -- a view of the session goes
-module _ (sid i k : ℕ) (s s' : StackModel) (x : SlotView) (apart : NoPair same_slot s.views) (at : slice_get s.views i ≡ Some x) (slot : x.slot ≡ k) (own : x.view.sid ≡ sid)
-    (none : list_any (is_of_session sid) (drop (i + 1) s.views) ≡ false) (now : s' ≡ record s { views = without (is_slot k) s.views }) where
+module _ (sid i k : ℕ) (s s' : StackModel) (x : SlotView) (apart : NoPair same_slot s.views)
+    (at : slice_get s.views i ≡ Some x) (slot : x.slot ≡ k) (own : x.view.sid ≡ sid)
+    (none : list_any (is_of_session sid) (drop (i + 1) s.views) ≡ false)
+    (now : s' ≡ record s { views = without (is_slot k) s.views }) where
   mine : is_of_session sid x ≡ true
   mine = eq-eqb x.view.sid sid own
 
@@ -257,14 +329,16 @@ module _ (sid i k : ℕ) (s s' : StackModel) (x : SlotView) (apart : NoPair same
     behind = ap (list_any (is_of_session sid)) (left_behind (is_of_session sid) k s.views i x apart at slot) ∙ behind;
     within = let less = one_less k s.views i x apart at slot in omega (arith, less, l);
     fewer = let less = one_less k s.views i x apart at slot in omega (arith, less);
-    owned = λ p e. part (owner_passes (is_of_session sid) s p) (not (owner_passes (is_slot k) s p)) (sym (less_owned sid k s p (it p)) ∙ e);
+    owned = λ p e. part (owner_passes (is_of_session sid) s p) (not (owner_passes (is_slot k) s p))
+        (sym (less_owned sid k s p (it p)) ∙ e);
   }
 
   -- it owned the pixel for its session
   of_session : (p : Point) → owner_passes (is_slot k) s p ≡ true → owner_passes (is_of_session sid) s p ≡ true
   of_session p e = go (in_bar s.bar p) e
     where
-      go : (b : Bool) → option_map_or (is_slot k) (cond b None (find (slot_view_covers p) s.views)) false ≡ true → option_map_or (is_of_session sid) (cond b None (find (slot_view_covers p) s.views)) false ≡ true
+      go : (b : Bool) → option_map_or (is_slot k) (cond b None (find (slot_view_covers p) s.views)) false ≡ true
+          → option_map_or (is_of_session sid) (cond b None (find (slot_view_covers p) s.views)) false ≡ true
       go true e = cc
       go false e = of_slot (is_of_session sid) k (slot_view_covers p) s.views i x apart at slot mine e
 
@@ -277,18 +351,22 @@ module _ (sid i k : ℕ) (s s' : StackModel) (x : SlotView) (apart : NoPair same
   pub goes_uncovered : (p : Point) → owner_passes (is_slot k) s p ≡ uncovered sid s s' p
   goes_uncovered p =
       table (owner_passes (is_of_session sid) s p) (owner_passes (is_slot k) s p) (of_session p)
-      ∙ sym (ap (λ (t : StackModel). uncovered sid s t p) now ∙ ap (λ (b : Bool). owner_passes (is_of_session sid) s p && not b) (less_owned sid k s p (it p)))
+      ∙ sym (ap (λ (t : StackModel). uncovered sid s t p) now
+      ∙ ap (λ (b : Bool). owner_passes (is_of_session sid) s p && not b) (less_owned sid k s p (it p)))
 
   pub goes_painted : (n : ℕ) (a b : ℕ → Sight) (raw raw' : List ℕ)
-      → Repainted (source_of_number s') (λ j. owner_passes (is_slot k) s (pixel s.width j)) n a b raw raw' → Repainted (source_of_number (without_session sid s)) (λ j. uncovered sid s s' (pixel s.width j)) n a b raw raw'
+      → Repainted (source_of_number s') (λ j. owner_passes (is_slot k) s (pixel s.width j)) n a b raw raw'
+      → Repainted (source_of_number (without_session sid s)) (λ j. uncovered sid s s' (pixel s.width j)) n a b raw raw'
   goes_painted n a b raw raw' painted =
       repainted_same _ _ _ _ n a a b b raw raw'
       (λ j l. goes_uncovered (pixel s.width j))
-      (λ j l m. ap (λ (t : StackModel). source_of_number t j) now ∙ same_source sid k s (pixel s.width j) (it (pixel s.width j)) m) (λ t. refl) (λ t. refl) painted
+      (λ j l m. ap (λ (t : StackModel). source_of_number t j) now
+      ∙ same_source sid k s (pixel s.width j) (it (pixel s.width j)) m) (λ t. refl) (λ t. refl) painted
 
 -- ---- one after the other
 
-two_steps : (a b c : Bool) → (b ≡ true → a ≡ true) → (c ≡ true → b ≡ true) → ((a && not b) || (b && not c)) ≡ (a && not c)
+two_steps : (a b c : Bool) → (b ≡ true → a ≡ true) → (c ≡ true → b ≡ true)
+    → ((a && not b) || (b && not c)) ≡ (a && not c)
 two_steps true true c h g = refl
 two_steps true false true h g = let no = g refl in cc
 two_steps true false false h g = refl
@@ -301,8 +379,11 @@ two_apart true false c = refl
 two_apart false b c = refl
 
 -- the same views of others stand in both
-same_rest : (sid : ℕ) (before now : StackModel) → now ≡ record before { views = now.views } → without (is_of_session sid) now.views ≡ without (is_of_session sid) before.views → without_session sid now ≡ without_session sid before
-same_rest sid before now rest left = ap (λ (t : StackModel). record t { views = without (is_of_session sid) now.views }) rest ∙ ap (λ (vs : List SlotView). record before { views = vs }) left
+same_rest : (sid : ℕ) (before now : StackModel) → now ≡ record before { views = now.views }
+    → without (is_of_session sid) now.views ≡ without (is_of_session sid) before.views
+    → without_session sid now ≡ without_session sid before
+same_rest sid before now rest left = ap (λ (t : StackModel). record t { views = without (is_of_session sid) now.views })
+    rest ∙ ap (λ (vs : List SlotView). record before { views = vs }) left
 
 pub taken_none : (sid : ℕ) (s : StackModel) → IsRemovedFrom sid (length s.views) s s
 taken_none sid s = record {
@@ -314,7 +395,8 @@ taken_none sid s = record {
   owned = λ p e. e;
 }
 
-pub taken_more : (sid i : ℕ) (before now next : StackModel) → IsRemovedFrom sid (i + 1) before now → IsRemovedFrom sid i now next → IsRemovedFrom sid i before next
+pub taken_more : (sid i : ℕ) (before now next : StackModel) → IsRemovedFrom sid (i + 1) before now
+    → IsRemovedFrom sid i now next → IsRemovedFrom sid i before next
 taken_more sid i before now next a b = record {
   rest = b.rest ∙ ap (λ (t : StackModel). record t { views = next.views }) a.rest;
   left = b.left ∙ a.left;
@@ -324,37 +406,58 @@ taken_more sid i before now next a b = record {
   owned = λ p e. a.owned p (b.owned p e);
 }
 
-pub painted_more : (sid i n : ℕ) (before now next : StackModel) (a b c : ℕ → Sight) (raw mid last : List ℕ) → IsRemovedFrom sid (i + 1) before now → IsRemovedFrom sid i now next
-    → Repainted (source_of_number (without_session sid before)) (λ k. uncovered sid before now (pixel before.width k)) n a b raw mid
-    → Repainted (source_of_number (without_session sid now)) (λ k. uncovered sid now next (pixel now.width k)) n b c mid last
-    → Repainted (source_of_number (without_session sid before)) (λ k. uncovered sid before next (pixel before.width k)) n a c raw last
+pub painted_more : (sid i n : ℕ) (before now next : StackModel) (a b c : ℕ → Sight) (raw mid last : List ℕ)
+    → IsRemovedFrom sid (i + 1) before now → IsRemovedFrom sid i now next
+    → Repainted (source_of_number (without_session sid before)) (λ k. uncovered sid before now (pixel before.width k)) n
+    a b raw mid
+    → Repainted (source_of_number (without_session sid now)) (λ k. uncovered sid now next (pixel now.width k)) n b c mid
+    last
+    → Repainted (source_of_number (without_session sid before)) (λ k. uncovered sid before next (pixel before.width k))
+    n a c raw last
 painted_more sid i n before now next a b c raw mid last first second one two =
     repainted_union _ _ _ _ n a b c raw mid last
-    (λ k. two_apart (owner_passes (is_of_session sid) before (pixel before.width k)) (owner_passes (is_of_session sid) now (pixel before.width k)) (owner_passes (is_of_session sid) next (pixel before.width k)))
-    (λ k. two_steps (owner_passes (is_of_session sid) before (pixel before.width k)) (owner_passes (is_of_session sid) now (pixel before.width k)) (owner_passes (is_of_session sid) next (pixel before.width k))
+    (λ k. two_apart (owner_passes (is_of_session sid) before (pixel before.width k))
+    (owner_passes (is_of_session sid) now (pixel before.width k))
+    (owner_passes (is_of_session sid) next (pixel before.width k)))
+    (λ k. two_steps (owner_passes (is_of_session sid) before (pixel before.width k))
+    (owner_passes (is_of_session sid) now (pixel before.width k))
+    (owner_passes (is_of_session sid) next (pixel before.width k))
     (first.owned (pixel before.width k)) (second.owned (pixel before.width k)))
     one
     (repainted_same _ _ _ _ n b b c c mid last
     (λ k l. ap (λ (t : StackModel). uncovered sid now next (pixel t.width k)) first.rest)
-    (λ k l m. ap (λ (t : StackModel). source_of_number t k) (same_rest sid before now first.rest first.left)) (λ t. refl) (λ t. refl) two)
+    (λ k l m. ap (λ (t : StackModel). source_of_number t k) (same_rest sid before now first.rest first.left))
+    (λ t. refl) (λ t. refl) two)
 
-pub taken_held : (sid i count count' : ℕ) (before now : StackModel) (a b : ℕ → Sight) (loads : ℕ → List (ℕ × ℕ)) → IsRemovedFrom sid i before now → count' ≡ count → ((t : ℕ) → b t ≡ seen (a t) (loads t)) → HoldBuffers before count a → HoldBuffers now count' b
-taken_held sid i count count' before now a b loads taken same e h = subst (λ (t : StackModel). HoldBuffers t count' b) (sym taken.rest) (still_held before count count' a b loads same e h)
+pub taken_held : (sid i count count' : ℕ) (before now : StackModel) (a b : ℕ → Sight) (loads : ℕ → List (ℕ × ℕ))
+    → IsRemovedFrom sid i before now → count' ≡ count → ((t : ℕ) → b t ≡ seen (a t) (loads t))
+    → HoldBuffers before count a → HoldBuffers now count' b
+taken_held sid i count count' before now a b loads taken same e h =
+    subst (λ (t : StackModel). HoldBuffers t count' b) (sym taken.rest)
+    (still_held before count count' a b loads same e h)
 
 pub all_taken : (sid : ℕ) (before now : StackModel) → IsRemovedFrom sid 0 before now → now ≡ without_session sid before
-all_taken sid before now taken = taken.rest ∙ ap (λ (vs : List SlotView). record before { views = vs }) (sym (without_none (is_of_session sid) now.views taken.behind) ∙ taken.left)
+all_taken sid before now taken = taken.rest
+    ∙ ap (λ (vs : List SlotView). record before { views = vs })
+    (sym (without_none (is_of_session sid) now.views taken.behind) ∙ taken.left)
 
-no_owner : (sid : ℕ) (s : StackModel) (p : Point) → list_any (is_of_session sid) s.views ≡ false → owner_passes (is_of_session sid) s p ≡ false
+no_owner : (sid : ℕ) (s : StackModel) (p : Point) → list_any (is_of_session sid) s.views ≡ false
+    → owner_passes (is_of_session sid) s p ≡ false
 no_owner sid s p none = go (in_bar s.bar p)
   where
     go : (b : Bool) → option_map_or (is_of_session sid) (cond b None (find (slot_view_covers p) s.views)) false ≡ false
     go true = refl
     go false = found_not (is_of_session sid) (slot_view_covers p) s.views none
 
-pub all_painted : (sid n : ℕ) (before now : StackModel) (a b : ℕ → Sight) (raw last : List ℕ) → IsRemovedFrom sid 0 before now
-    → Repainted (source_of_number (without_session sid before)) (λ k. uncovered sid before now (pixel before.width k)) n a b raw last
-    → Repainted (source_of_number (without_session sid before)) (λ k. owner_passes (is_of_session sid) before (pixel before.width k)) n a b raw last
+pub all_painted : (sid n : ℕ) (before now : StackModel) (a b : ℕ → Sight) (raw last : List ℕ)
+    → IsRemovedFrom sid 0 before now
+    → Repainted (source_of_number (without_session sid before)) (λ k. uncovered sid before now (pixel before.width k)) n
+    a b raw last
+    → Repainted (source_of_number (without_session sid before))
+    (λ k. owner_passes (is_of_session sid) before (pixel before.width k)) n a b raw last
 all_painted sid n before now a b raw last taken painted =
     repainted_same _ _ _ _ n a a b b raw last
-    (λ k l. ap (λ (c : Bool). owner_passes (is_of_session sid) before (pixel before.width k) && not c) (no_owner sid now (pixel before.width k) taken.behind) ∙ always (owner_passes (is_of_session sid) before (pixel before.width k)))
+    (λ k l. ap (λ (c : Bool). owner_passes (is_of_session sid) before (pixel before.width k) && not c)
+    (no_owner sid now (pixel before.width k) taken.behind)
+    ∙ always (owner_passes (is_of_session sid) before (pixel before.width k)))
     (λ k l m. refl) (λ t. refl) (λ t. refl) painted

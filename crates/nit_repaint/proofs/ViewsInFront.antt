@@ -1,23 +1,31 @@
 -- The views in front of a place, when one view is taken out.
-use Rattle.std.proofs.Common.{Bool, List, Some, [], ap, arith, cond, false, get_or, length, not, refl, suc, sym, take, true, zero, ℕ, ◌+◌, ◌<◌, ◌||◌, ◌∙◌, ◌∷◌, ◌≡◌, ◌≤◌}
-use Rattle.nit_repaint.proofs.Basics.{Point, SlotView, View, covered, eq-eqb, eqb-true, false≢true, get_or_from_slice_get, is_slot, list_any, list_any_at, position_or_len, same_slot, slice_get, slice_get_within, slot_view_covers, views_of, without}
+use Rattle.std.proofs.Common.{Bool, List, Some, [], ap, arith, cond, false, get_or, length, not}
+use Rattle.std.proofs.Common.{refl, suc, sym, take, true, zero, ℕ, ◌+◌, ◌<◌, ◌||◌, ◌∙◌, ◌∷◌, ◌≡◌}
+use Rattle.std.proofs.Common.{◌≤◌}
+use Rattle.nit_repaint.proofs.Basics.{Point, SlotView, View, covered, eq-eqb, eqb-true, false≢true}
+use Rattle.nit_repaint.proofs.Basics.{get_or_from_slice_get, is_slot, list_any, list_any_at}
+use Rattle.nit_repaint.proofs.Basics.{position_or_len, same_slot, slice_get, slice_get_within}
+use Rattle.nit_repaint.proofs.Basics.{slot_view_covers, views_of, without}
 
 one_more : (n : ℕ) → 1 + n ≡ suc n
 one_more n = omega arith
 
 -- what stands in front of the first that is meant does not know of it
-pub take_front : {A : Type 0} (is : A → Bool) (xs : List A) (i : ℕ) → i ≤ position_or_len is xs → take i xs ≡ take i (without is xs)
+pub take_front : {A : Type 0} (is : A → Bool) (xs : List A) (i : ℕ) → i ≤ position_or_len is xs
+    → take i xs ≡ take i (without is xs)
 take_front is [] i l = refl
 take_front is (x ∷ xs) zero l = refl
 take_front is (x ∷ xs) (suc i) l = go (is x) l (take_front is xs i)
   where
-    go : (b : Bool) → suc i ≤ cond (not b) (1 + position_or_len is xs) 0 → (i ≤ position_or_len is xs → take i xs ≡ take i (without is xs))
+    go : (b : Bool) → suc i ≤ cond (not b) (1 + position_or_len is xs) 0
+        → (i ≤ position_or_len is xs → take i xs ≡ take i (without is xs))
         → take (suc i) (x ∷ xs) ≡ take (suc i) (cond (not b) (x ∷ without is xs) (without is xs))
     go true m r = absurd (omega arith)
     go false m r = ap (λ (ys : List _). x ∷ ys) (r (omega arith))
 
 -- which views cover a pixel is told by the views without their slots
-pub same_covered : (p : Point) (i : ℕ) (xs ys : List SlotView) → views_of xs ≡ views_of ys → covered (take i xs) p ≡ covered (take i ys) p
+pub same_covered : (p : Point) (i : ℕ) (xs ys : List SlotView) → views_of xs ≡ views_of ys
+    → covered (take i xs) p ≡ covered (take i ys) p
 same_covered p i [] [] e = refl
 same_covered p i [] (y ∷ ys) e = cc
 same_covered p i (x ∷ xs) [] e = cc
@@ -26,11 +34,13 @@ same_covered p (suc i) (x ∷ xs) (y ∷ ys) e =
     let first : x.view ≡ y.view = cc in
     let rest : views_of xs ≡ views_of ys = cc in
     let more = same_covered p i xs ys rest in
-    let here : slot_view_covers p x ≡ slot_view_covers p y = ap (λ (v : View). slot_view_covers p (record { slot = 0; view = v })) first in
+    let here : slot_view_covers p x ≡ slot_view_covers p y =
+    ap (λ (v : View). slot_view_covers p (record { slot = 0; view = v })) first in
     λ j. here j || more j
 
 -- more views cover more
-pub covers_more : (p : Point) (xs : List SlotView) (i j : ℕ) → i ≤ j → covered (take i xs) p ≡ true → covered (take j xs) p ≡ true
+pub covers_more : (p : Point) (xs : List SlotView) (i j : ℕ) → i ≤ j → covered (take i xs) p ≡ true
+    → covered (take j xs) p ≡ true
 covers_more p [] zero zero l h = h
 covers_more p [] zero (suc j) l h = h
 covers_more p [] (suc i) zero l h = h
@@ -39,35 +49,42 @@ covers_more p (x ∷ xs) zero j l h = cc
 covers_more p (x ∷ xs) (suc i) zero l h = absurd (omega arith)
 covers_more p (x ∷ xs) (suc i) (suc j) l h = go (slot_view_covers p x) h (covers_more p xs i j (omega arith))
   where
-    go : (b : Bool) → (b || covered (take i xs) p) ≡ true → (covered (take i xs) p ≡ true → covered (take j xs) p ≡ true) → (b || covered (take j xs) p) ≡ true
+    go : (b : Bool) → (b || covered (take i xs) p) ≡ true
+        → (covered (take i xs) p ≡ true → covered (take j xs) p ≡ true) → (b || covered (take j xs) p) ≡ true
     go true m r = refl
     go false m r = r m
 
 -- a view that is apart from the others stands in another slot than each of them
-pub other_slot : (views : List SlotView) (i : ℕ) (s x : SlotView) → list_any (same_slot x) views ≡ false → slice_get views i ≡ Some s → is_slot s.slot x ≡ false
+pub other_slot : (views : List SlotView) (i : ℕ) (s x : SlotView) → list_any (same_slot x) views ≡ false
+    → slice_get views i ≡ Some s → is_slot s.slot x ≡ false
 other_slot views i s x apart at = other (is_slot s.slot x) refl
   where
     other : (b : Bool) → is_slot s.slot x ≡ b → is_slot s.slot x ≡ false
     other false e = e
     other true e =
         let here = get_or_from_slice_get views i s s at in
-        let equal : same_slot x (get_or views i s) ≡ true = eq-eqb _ _ (ap (λ (y : SlotView). y.slot) here ∙ sym (eqb-true x.slot s.slot e)) in
+        let equal : same_slot x (get_or views i s) ≡ true =
+        eq-eqb _ _ (ap (λ (y : SlotView). y.slot) here ∙ sym (eqb-true x.slot s.slot e)) in
         absurd (false≢true (sym apart ∙ list_any_at (same_slot x) views i s (slice_get_within views i s at) equal))
 
 -- a place in front of the end is that of a view
-pub stands_there : {A : Type 0} (is : A → Bool) (xs : List A) → position_or_len is xs < length xs → list_any is xs ≡ true
+pub stands_there : {A : Type 0} (is : A → Bool) (xs : List A) → position_or_len is xs < length xs
+    → list_any is xs ≡ true
 stands_there is [] l = absurd (omega arith)
 stands_there is (x ∷ xs) l = go (is x) l (stands_there is xs)
   where
-    go : (b : Bool) → cond (not b) (1 + position_or_len is xs) 0 < length (x ∷ xs) → (position_or_len is xs < length xs → list_any is xs ≡ true) → (b || list_any is xs) ≡ true
+    go : (b : Bool) → cond (not b) (1 + position_or_len is xs) 0 < length (x ∷ xs)
+        → (position_or_len is xs < length xs → list_any is xs ≡ true) → (b || list_any is xs) ≡ true
     go true m r = refl
     go false m r = r (omega arith)
 
-pub stands_nowhere : {A : Type 0} (is : A → Bool) (xs : List A) → length xs ≤ position_or_len is xs → list_any is xs ≡ false
+pub stands_nowhere : {A : Type 0} (is : A → Bool) (xs : List A) → length xs ≤ position_or_len is xs
+    → list_any is xs ≡ false
 stands_nowhere is [] l = refl
 stands_nowhere is (x ∷ xs) l = go (is x) l (stands_nowhere is xs)
   where
-    go : (b : Bool) → length (x ∷ xs) ≤ cond (not b) (1 + position_or_len is xs) 0 → (length xs ≤ position_or_len is xs → list_any is xs ≡ false) → (b || list_any is xs) ≡ false
+    go : (b : Bool) → length (x ∷ xs) ≤ cond (not b) (1 + position_or_len is xs) 0
+        → (length xs ≤ position_or_len is xs → list_any is xs ≡ false) → (b || list_any is xs) ≡ false
     go true m r = absurd (omega arith)
     go false m r = r (omega arith)
 
@@ -75,6 +92,7 @@ pub without_none : {A : Type 0} (is : A → Bool) (xs : List A) → list_any is 
 without_none is [] h = refl
 without_none is (x ∷ xs) h = go (is x) h (without_none is xs)
   where
-    go : (b : Bool) → (b || list_any is xs) ≡ false → (list_any is xs ≡ false → without is xs ≡ xs) → cond (not b) (x ∷ without is xs) (without is xs) ≡ x ∷ xs
+    go : (b : Bool) → (b || list_any is xs) ≡ false → (list_any is xs ≡ false → without is xs ≡ xs)
+        → cond (not b) (x ∷ without is xs) (without is xs) ≡ x ∷ xs
     go true m r = cc
     go false m r = ap (λ (ys : List _). x ∷ ys) (r m)

@@ -1,6 +1,18 @@
 -- What is wanted of views, one after the other.
-use Rattle.nit_repaint.proofs.Basics.{CutterModel, IsOnScreen, NoPair, PixelSource, Point, Rectangle, Repainted, Sight, SlotView, StackModel, View, ViewRef, and_parts, black_or_word, covered, covers, eq-eqb, eqb-true, in_bar, is_index_in, is_of_session, is_owned, is_slot, is_to_come, is_wanted, is_word_in, list_any, ne_eqb, once, option_map, option_map_or, owned_is, owner_in, owner_of_views, owner_passes, pixel, place_is, place_of, repainted_none, repainted_same, repainted_union, same_slot, shown_index, size_of, slice_get, slot_view_covers, slot_view_in, source_in, source_under, to_come, wanted, wanted_of_first, wants}
-use Rattle.std.proofs.Common.{Bool, List, None, Option, Some, [], add-one, ap, arith, cond, false, find, length, nat_lt, not, refl, subst, suc, sym, take, take_all, true, zero, ℕ, ◌&&◌, ◌*◌, ◌+◌, ◌<◌, ◌==◌, ◌||◌, ◌∙◌, ◌∷◌, ◌≡◌, ◌≤◌}
+use Rattle.nit_repaint.proofs.Basics.{CutterModel, IsOnScreen, NoPair, PixelSource, Point}
+use Rattle.nit_repaint.proofs.Basics.{Rectangle, Repainted, Sight, SlotView, StackModel, View}
+use Rattle.nit_repaint.proofs.Basics.{ViewRef, and_parts, black_or_word, covered, covers, eq-eqb}
+use Rattle.nit_repaint.proofs.Basics.{eqb-true, in_bar, is_index_in, is_of_session, is_owned}
+use Rattle.nit_repaint.proofs.Basics.{is_slot, is_to_come, is_wanted, is_word_in, list_any, ne_eqb}
+use Rattle.nit_repaint.proofs.Basics.{once, option_map, option_map_or, owned_is, owner_in}
+use Rattle.nit_repaint.proofs.Basics.{owner_of_views, owner_passes, pixel, place_is, place_of}
+use Rattle.nit_repaint.proofs.Basics.{repainted_none, repainted_same, repainted_union, same_slot}
+use Rattle.nit_repaint.proofs.Basics.{shown_index, size_of, slice_get, slot_view_covers}
+use Rattle.nit_repaint.proofs.Basics.{slot_view_in, source_in, source_under, to_come, wanted}
+use Rattle.nit_repaint.proofs.Basics.{wanted_of_first, wants}
+use Rattle.std.proofs.Common.{Bool, List, None, Option, Some, [], add-one, ap, arith, cond, false}
+use Rattle.std.proofs.Common.{find, length, nat_lt, not, refl, subst, suc, sym, take, take_all}
+use Rattle.std.proofs.Common.{true, zero, ℕ, ◌&&◌, ◌*◌, ◌+◌, ◌<◌, ◌==◌, ◌||◌, ◌∙◌, ◌∷◌, ◌≡◌, ◌≤◌}
 use Rattle.nit_repaint.proofs.Screen.{on_screen}
 use Rattle.nit_repaint.proofs.ChangedOwners.{owned_by}
 use Rattle.nit_repaint.proofs.ViewsInFront.{other_slot}
@@ -12,12 +24,15 @@ lt_once true = refl
 lt_once false = refl
 
 -- what comes by a set of pixels is that set
-pub comes_as : (source : ℕ → PixelSource) (s : StackModel) (c : CutterModel) (set : Point → Bool) (n : ℕ) (a b : ℕ → Sight) (raw raw' : List ℕ) → n ≡ s.width * s.height
+pub comes_as : (source : ℕ → PixelSource) (s : StackModel) (c : CutterModel) (set : Point → Bool) (n : ℕ) (a b : ℕ
+    → Sight) (raw raw' : List ℕ) → n ≡ s.width * s.height
     → ((p : Point) → IsOnScreen s.width s.height p → to_come c s p ≡ once (set p))
     → Repainted source (is_to_come c s) n a b raw raw' → Repainted source (λ k. set (pixel s.width k)) n a b raw raw'
 comes_as source s c set n a b raw raw' count come painted =
     repainted_same source source (is_to_come c s) (λ k. set (pixel s.width k)) n a a b b raw raw'
-    (λ k l. ap (λ (m : ℕ). nat_lt 0 m) (come (pixel s.width k) (on_screen s.width s.height k (subst (λ (m : ℕ). k < m) count l))) ∙ lt_once (set (pixel s.width k)))
+    (λ k l. ap (λ (m : ℕ). nat_lt 0 m)
+    (come (pixel s.width k) (on_screen s.width s.height k (subst (λ (m : ℕ). k < m) count l)))
+    ∙ lt_once (set (pixel s.width k)))
     (λ k l m. refl) (λ t. refl) (λ t. refl) painted
 
 -- ---- one view more
@@ -26,13 +41,15 @@ abbrev or_else : {A : Type 0} → Option A → Option A → Option A
 or_else (Some a) o = Some a
 or_else None o = o
 
-find_more : {A : Type 0} (q : A → Bool) (xs : List A) (i : ℕ) (x : A) → slice_get xs i ≡ Some x → find q (take (suc i) xs) ≡ or_else (find q (take i xs)) (cond (q x) (Some x) None)
+find_more : {A : Type 0} (q : A → Bool) (xs : List A) (i : ℕ) (x : A) → slice_get xs i ≡ Some x
+    → find q (take (suc i) xs) ≡ or_else (find q (take i xs)) (cond (q x) (Some x) None)
 find_more q [] i x at = cc
 find_more {A} q (y ∷ ys) zero x at = let same : y ≡ x = cc in ap (λ (z : A). cond (q z) (Some z) None) same
 find_more q (y ∷ ys) (suc i) x at = go (q y) (find_more q ys i x at)
   where
     go : (b : Bool) → find q (take (suc i) ys) ≡ or_else (find q (take i ys)) (cond (q x) (Some x) None)
-        → cond b (Some y) (find q (take (suc i) ys)) ≡ or_else (cond b (Some y) (find q (take i ys))) (cond (q x) (Some x) None)
+        → cond b (Some y) (find q (take (suc i) ys))
+        ≡ or_else (cond b (Some y) (find q (take i ys))) (cond (q x) (Some x) None)
     go true r = refl
     go false r = r
 
@@ -40,7 +57,8 @@ found_any : {A : Type 0} (q : A → Bool) (xs : List A) (a : A) → find q xs �
 found_any q [] a e = cc
 found_any q (x ∷ xs) a e = go (q x) e (found_any q xs a)
   where
-    go : (b : Bool) → cond b (Some x) (find q xs) ≡ Some a → (find q xs ≡ Some a → list_any q xs ≡ true) → (b || list_any q xs) ≡ true
+    go : (b : Bool) → cond b (Some x) (find q xs) ≡ Some a → (find q xs ≡ Some a → list_any q xs ≡ true)
+        → (b || list_any q xs) ≡ true
     go true e r = refl
     go false e r = r e
 
@@ -48,14 +66,18 @@ found_none : {A : Type 0} (q : A → Bool) (xs : List A) → find q xs ≡ None 
 found_none q [] e = refl
 found_none q (x ∷ xs) e = go (q x) e (found_none q xs)
   where
-    go : (b : Bool) → cond b (Some x) (find q xs) ≡ None → (find q xs ≡ None → list_any q xs ≡ false) → (b || list_any q xs) ≡ false
+    go : (b : Bool) → cond b (Some x) (find q xs) ≡ None → (find q xs ≡ None → list_any q xs ≡ false)
+        → (b || list_any q xs) ≡ false
     go true e r = cc
     go false e r = r e
 
 -- the owner among one view more, and that the one of fewer is another
 pub record OneMore (test : SlotView → Bool) (s : StackModel) (p : Point) (i : ℕ) (x : SlotView) : Type 0 where
-  pub all : (option_map_or test (owner_in (λ a. a.view) s.bar (take i s.views) p) false || (owner_passes (is_slot x.slot) s p && test x)) ≡ option_map_or test (owner_in (λ a. a.view) s.bar (take (i + 1) s.views) p) false
-  pub apart : (option_map_or test (owner_in (λ a. a.view) s.bar (take i s.views) p) false && (owner_passes (is_slot x.slot) s p && test x)) ≡ false
+  pub all : (option_map_or test (owner_in (λ a. a.view) s.bar (take i s.views) p)
+      false || (owner_passes (is_slot x.slot) s p && test x))
+      ≡ option_map_or test (owner_in (λ a. a.view) s.bar (take (i + 1) s.views) p) false
+  pub apart : (option_map_or test (owner_in (λ a. a.view) s.bar (take i s.views) p)
+      false && (owner_passes (is_slot x.slot) s p && test x)) ≡ false
 
 never : (b : Bool) → (b && false) ≡ false
 never true = refl
@@ -69,22 +91,32 @@ none_more : (b : Bool) → b ≡ (b || false)
 none_more true = refl
 none_more false = refl
 
-pub one_more : (test : SlotView → Bool) (s : StackModel) (p : Point) (i : ℕ) (x : SlotView) → NoPair same_slot s.views → slot_view_in x.slot s.views ≡ Some x → slice_get s.views i ≡ Some x → OneMore test s p i x
+pub one_more : (test : SlotView → Bool) (s : StackModel) (p : Point) (i : ℕ) (x : SlotView) → NoPair same_slot s.views
+    → slot_view_in x.slot s.views ≡ Some x → slice_get s.views i ≡ Some x → OneMore test s p i x
 one_more test s p i x apart there at = let r = go (in_bar s.bar p) in record { all = r.0; apart = r.1 }
   where
-    own : option_map_or (is_slot x.slot) (find (slot_view_covers p) s.views) false ≡ (slot_view_covers p x && not (covered (take i s.views) p))
-    own = owned_is x.slot p s.views x apart there ∙ ap (λ (n : ℕ). slot_view_covers p x && not (covered (take n s.views) p)) (place_is s.views i x apart at)
+    own : option_map_or (is_slot x.slot) (find (slot_view_covers p) s.views) false
+        ≡ (slot_view_covers p x && not (covered (take i s.views) p))
+    own = owned_is x.slot p s.views x apart there
+        ∙ ap (λ (n : ℕ). slot_view_covers p x && not (covered (take n s.views) p)) (place_is s.views i x apart at)
 
-    more : find (slot_view_covers p) (take (i + 1) s.views) ≡ or_else (find (slot_view_covers p) (take i s.views)) (cond (slot_view_covers p x) (Some x) None)
-    more = ap (λ (n : ℕ). find (slot_view_covers p) (take n s.views)) (add-one i) ∙ find_more (slot_view_covers p) s.views i x at
+    more : find (slot_view_covers p) (take (i + 1) s.views) ≡ or_else (find (slot_view_covers p) (take i s.views))
+        (cond (slot_view_covers p x) (Some x) None)
+    more = ap (λ (n : ℕ). find (slot_view_covers p) (take n s.views)) (add-one i)
+        ∙ find_more (slot_view_covers p) s.views i x at
 
     found : (o : Option SlotView) → find (slot_view_covers p) (take i s.views) ≡ o
-        → ((option_map_or test o false || ((slot_view_covers p x && not (covered (take i s.views) p)) && test x)) ≡ option_map_or test (or_else o (cond (slot_view_covers p x) (Some x) None)) false)
-        × ((option_map_or test o false && ((slot_view_covers p x && not (covered (take i s.views) p)) && test x)) ≡ false)
+        → ((option_map_or test o false || ((slot_view_covers p x && not (covered (take i s.views) p)) && test x))
+        ≡ option_map_or test (or_else o (cond (slot_view_covers p x) (Some x) None)) false)
+        × ((option_map_or test o false && ((slot_view_covers p x && not (covered (take i s.views) p)) && test x))
+        ≡ false)
     found (Some a) e =
         let any = found_any (slot_view_covers p) (take i s.views) a e in
-        let out : (slot_view_covers p x && not (covered (take i s.views) p)) ≡ false = ap (λ (b : Bool). slot_view_covers p x && not b) any ∙ never (slot_view_covers p x) in
-        (ap (λ (b : Bool). test a || (b && test x)) out ∙ sym (none_more (test a)), ap (λ (b : Bool). test a && (b && test x)) out ∙ never (test a))
+        let out : (slot_view_covers p x && not (covered (take i s.views) p)) ≡ false =
+        ap (λ (b : Bool). slot_view_covers p x && not b) any ∙ never (slot_view_covers p x) in (
+          ap (λ (b : Bool). test a || (b && test x)) out ∙ sym (none_more (test a)),
+          ap (λ (b : Bool). test a && (b && test x)) out ∙ never (test a),
+        )
     found None e =
         let any = found_none (slot_view_covers p) (take i s.views) e in
         (ap (λ (b : Bool). (slot_view_covers p x && not b) && test x) any ∙ go_none (slot_view_covers p x), refl)
@@ -94,21 +126,29 @@ one_more test s p i x apart there at = let r = go (in_bar s.bar p) in record { a
         go_none false = refl
 
     go : (b : Bool)
-        → ((option_map_or test (cond b None (find (slot_view_covers p) (take i s.views))) false || (option_map_or (is_slot x.slot) (cond b None (find (slot_view_covers p) s.views)) false && test x)) ≡ option_map_or test (cond b None (find (slot_view_covers p) (take (i + 1) s.views))) false)
-        × ((option_map_or test (cond b None (find (slot_view_covers p) (take i s.views))) false && (option_map_or (is_slot x.slot) (cond b None (find (slot_view_covers p) s.views)) false && test x)) ≡ false)
+        → ((option_map_or test (cond b None (find (slot_view_covers p) (take i s.views)))
+        false || (option_map_or (is_slot x.slot) (cond b None (find (slot_view_covers p) s.views)) false && test x))
+        ≡ option_map_or test (cond b None (find (slot_view_covers p) (take (i + 1) s.views))) false)
+        × ((option_map_or test (cond b None (find (slot_view_covers p) (take i s.views)))
+        false && (option_map_or (is_slot x.slot) (cond b None (find (slot_view_covers p) s.views)) false && test x))
+        ≡ false)
     go true = (refl, refl)
     go false =
         let f = found (find (slot_view_covers p) (take i s.views)) refl in (
-          ap (λ (b : Bool). option_map_or test (find (slot_view_covers p) (take i s.views)) false || (b && test x)) own ∙ f.0 ∙ ap (λ (o : Option SlotView). option_map_or test o false) (sym more),
-          ap (λ (b : Bool). option_map_or test (find (slot_view_covers p) (take i s.views)) false && (b && test x)) own ∙ f.1,
+          ap (λ (b : Bool). option_map_or test (find (slot_view_covers p) (take i s.views)) false || (b && test x)) own
+              ∙ f.0 ∙ ap (λ (o : Option SlotView). option_map_or test o false) (sym more),
+          ap (λ (b : Bool). option_map_or test (find (slot_view_covers p) (take i s.views)) false && (b && test x)) own
+              ∙ f.1,
         )
 
 -- ---- one view
 
-owned_covers : (s : StackModel) (k : ℕ) (seat : SlotView) (p : Point) → NoPair same_slot s.views → slot_view_in k s.views ≡ Some seat → owner_passes (is_slot k) s p ≡ true → covers seat.view.rect p ≡ true
+owned_covers : (s : StackModel) (k : ℕ) (seat : SlotView) (p : Point) → NoPair same_slot s.views
+    → slot_view_in k s.views ≡ Some seat → owner_passes (is_slot k) s p ≡ true → covers seat.view.rect p ≡ true
 owned_covers s k seat p apart there owns = go (in_bar s.bar p) (sym (owned_by s k seat p apart there) ∙ owns)
   where
-    go : (b : Bool) → cond b false (covers seat.view.rect p && not (covered (take (place_of k s.views) s.views) p)) ≡ true → covers seat.view.rect p ≡ true
+    go : (b : Bool) → cond b false (covers seat.view.rect p && not (covered (take (place_of k s.views) s.views) p))
+        ≡ true → covers seat.view.rect p ≡ true
     go true e = cc
     go false e = (and_parts (covers seat.view.rect p) (not (covered (take (place_of k s.views) s.views) p)) e).0
 
@@ -116,42 +156,57 @@ owned_covers s k seat p apart there owns = go (in_bar s.bar p) (sym (owned_by s 
 pub wanted_here : (s : StackModel) (view : View) (sid : ℕ) (part : Option Rectangle) (p : Point) → view.sid ≡ sid
     → wants part (size_of s.sizes view.sid) view p ≡ ((view.sid == sid) && wants part (size_of s.sizes sid) view p)
 wanted_here s view sid part p own =
-    ap (λ (t : ℕ). wants part (size_of s.sizes t) view p) own ∙ ap (λ (b : Bool). b && wants part (size_of s.sizes sid) view p) (sym (eq-eqb view.sid sid own))
+    ap (λ (t : ℕ). wants part (size_of s.sizes t) view p) own
+    ∙ ap (λ (b : Bool). b && wants part (size_of s.sizes sid) view p) (sym (eq-eqb view.sid sid own))
 
 -- a view of another session
-pub seat_unset : (s : StackModel) (view : View) (x : SlotView) (sid : ℕ) (part : Option Rectangle) (p : Point) → (view.sid ≡ sid → ⊥) → x.view ≡ view
+pub seat_unset : (s : StackModel) (view : View) (x : SlotView) (sid : ℕ) (part : Option Rectangle) (p : Point)
+    → (view.sid ≡ sid → ⊥) → x.view ≡ view
     → (owner_passes (is_slot x.slot) s p && is_wanted sid part s p x) ≡ false
 seat_unset s view x sid part p other same =
-    ap (λ (b : Bool). owner_passes (is_slot x.slot) s p && (b && wants part (size_of s.sizes sid) x.view p)) (ap (λ (v : View). v.sid == sid) same ∙ ne_eqb view.sid sid other)
+    ap (λ (b : Bool). owner_passes (is_slot x.slot) s p && (b && wants part (size_of s.sizes sid) x.view p))
+    (ap (λ (v : View). v.sid == sid) same ∙ ne_eqb view.sid sid other)
     ∙ nothing (owner_passes (is_slot x.slot) s p) (wants part (size_of s.sizes sid) x.view p)
   where
     nothing : (b c : Bool) → (b && (false && c)) ≡ false
     nothing true c = refl
     nothing false c = refl
 
-pub seat_set : (s : StackModel) (rect : Rectangle) (v : ViewRef) (view : View) (x : SlotView) (sid : ℕ) (part : Option Rectangle) (p : Point) → NoPair same_slot s.views → slot_view_in v.0 s.views ≡ Some (record { slot = v.0; view = view })
-    → record { slot = v.0; view = view } ≡ x → (covers view.rect p ≡ true → covers rect p ≡ ((view.sid == sid) && wants part (size_of s.sizes sid) view p))
+pub seat_set : (s : StackModel) (rect : Rectangle) (v : ViewRef) (view : View) (x : SlotView) (sid : ℕ)
+    (part : Option Rectangle) (p : Point) → NoPair same_slot s.views
+    → slot_view_in v.0 s.views ≡ Some (record { slot = v.0; view = view })
+    → record { slot = v.0; view = view } ≡ x
+    → (covers view.rect p ≡ true → covers rect p ≡ ((view.sid == sid) && wants part (size_of s.sizes sid) view p))
     → is_owned v s rect p ≡ (owner_passes (is_slot x.slot) s p && is_wanted sid part s p x)
 seat_set s rect v view x sid part p apart there same shows =
-    subst (λ (y : SlotView). is_owned v s rect p ≡ (owner_passes (is_slot y.slot) s p && is_wanted sid part s p y)) same (go (owner_passes (is_slot v.0) s p) refl)
+    subst (λ (y : SlotView). is_owned v s rect p ≡ (owner_passes (is_slot y.slot) s p && is_wanted sid part s p y)) same
+    (go (owner_passes (is_slot v.0) s p) refl)
   where
-    go : (b : Bool) → owner_passes (is_slot v.0) s p ≡ b → (covers rect p && b) ≡ (b && (is_of_session sid (record { slot = v.0; view = view }) && wants part (size_of s.sizes sid) view p))
+    go : (b : Bool) → owner_passes (is_slot v.0) s p ≡ b
+        → (covers rect p && b) ≡ (b && (is_of_session sid (record { slot = v.0; view = view }) && wants part
+        (size_of s.sizes sid) view p))
     go false e = never (covers rect p)
-    go true e = sym (none_and (covers rect p)) ∙ shows (owned_covers s v.0 (record { slot = v.0; view = view }) p apart there e)
+    go true e = sym (none_and (covers rect p))
+        ∙ shows (owned_covers s v.0 (record { slot = v.0; view = view }) p apart there e)
 
 -- ---- the first so many views
 
 module _ (source : ℕ → PixelSource) (s : StackModel) (n sid : ℕ) (part : Option Rectangle) where
-  pub none_wanted : (glasses : ℕ → Sight) (raw : List ℕ) → Repainted source (λ k. wanted_of_first 0 sid part s (pixel s.width k)) n glasses glasses raw raw
-  none_wanted glasses raw = repainted_none source _ n glasses raw (λ k l. go (in_bar s.bar (pixel s.width k)) (is_wanted sid part s (pixel s.width k)))
+  pub none_wanted : (glasses : ℕ → Sight) (raw : List ℕ)
+      → Repainted source (λ k. wanted_of_first 0 sid part s (pixel s.width k)) n glasses glasses raw raw
+  none_wanted glasses raw = repainted_none source _ n glasses raw
+      (λ k l. go (in_bar s.bar (pixel s.width k)) (is_wanted sid part s (pixel s.width k)))
     where
-      go : (b : Bool) (test : SlotView → Bool) → option_map_or test (cond {A = Option SlotView} b None None) false ≡ false
+      go : (b : Bool) (test : SlotView → Bool) → option_map_or test (cond {A = Option SlotView} b None None) false
+          ≡ false
       go true test = refl
       go false test = refl
 
-  pub one_wanted : (i : ℕ) (x : SlotView) (a b c : ℕ → Sight) (raw mid last : List ℕ) → NoPair same_slot s.views → slot_view_in x.slot s.views ≡ Some x → slice_get s.views i ≡ Some x
+  pub one_wanted : (i : ℕ) (x : SlotView) (a b c : ℕ → Sight) (raw mid last : List ℕ) → NoPair same_slot s.views
+      → slot_view_in x.slot s.views ≡ Some x → slice_get s.views i ≡ Some x
       → Repainted source (λ k. wanted_of_first i sid part s (pixel s.width k)) n a b raw mid
-      → Repainted source (λ k. let p = pixel s.width k in owner_passes (is_slot x.slot) s p && is_wanted sid part s p x) n b c mid last
+      → Repainted source (λ k. let p = pixel s.width k in owner_passes (is_slot x.slot) s p && is_wanted sid part s p x)
+      n b c mid last
       → Repainted source (λ k. wanted_of_first (i + 1) sid part s (pixel s.width k)) n a c raw last
   one_wanted i x a b c raw mid last apart there at first second =
       repainted_union source _ _ (λ k. wanted_of_first (i + 1) sid part s (pixel s.width k)) n a b c raw mid last
@@ -159,10 +214,14 @@ module _ (source : ℕ → PixelSource) (s : StackModel) (n sid : ℕ) (part : O
       (λ k. (one_more (is_wanted sid part s (pixel s.width k)) s (pixel s.width k) i x apart there at).all)
       first second
 
-  pub all_wanted : (i : ℕ) (a b : ℕ → Sight) (raw last : List ℕ) → length s.views ≤ i → Repainted source (λ k. wanted_of_first i sid part s (pixel s.width k)) n a b raw last → Repainted source (λ k. wanted sid part s (pixel s.width k)) n a b raw last
+  pub all_wanted : (i : ℕ) (a b : ℕ → Sight) (raw last : List ℕ) → length s.views ≤ i
+      → Repainted source (λ k. wanted_of_first i sid part s (pixel s.width k)) n a b raw last
+      → Repainted source (λ k. wanted sid part s (pixel s.width k)) n a b raw last
   all_wanted i a b raw last all painted =
       repainted_same source source _ _ n a a b b raw last
-      (λ k l. ap (λ (xs : List SlotView). option_map_or (is_wanted sid part s (pixel s.width k)) (owner_in (λ a. a.view) s.bar xs (pixel s.width k)) false) (take_all i s.views all)) (λ k l m. refl) (λ t. refl) (λ t. refl) painted
+      (λ k l. ap (λ (xs : List SlotView). option_map_or (is_wanted sid part s (pixel s.width k))
+      (owner_in (λ a. a.view) s.bar xs (pixel s.width k)) false) (take_all i s.views all)) (λ k l m. refl)
+      (λ t. refl) (λ t. refl) painted
 
 -- the view at a place
 pub seat_there : (views : List SlotView) (i : ℕ) → i < length views → (x : SlotView) × (slice_get views i ≡ Some x)
@@ -170,30 +229,38 @@ seat_there [] i l = absurd (omega arith)
 seat_there (x ∷ views) zero l = (x, refl)
 seat_there (x ∷ views) (suc i) l = seat_there views i (omega arith)
 
-pub seat_here : (views : List SlotView) (i : ℕ) (x : SlotView) → NoPair same_slot views → slice_get views i ≡ Some x → slot_view_in x.slot views ≡ Some x
+pub seat_here : (views : List SlotView) (i : ℕ) (x : SlotView) → NoPair same_slot views → slice_get views i ≡ Some x
+    → slot_view_in x.slot views ≡ Some x
 seat_here [] i x apart at = cc
 seat_here (y ∷ views) zero x apart at =
     let same : y ≡ x = cc in
     let here : is_slot x.slot y ≡ true = eq-eqb y.slot x.slot (ap (λ (z : SlotView). z.slot) same) in
     ap (λ (b : Bool). cond b (Some y) (slot_view_in x.slot views)) here ∙ ap (λ (z : SlotView). Some z) same
 seat_here (y ∷ views) (suc i) x apart at =
-    ap (λ (b : Bool). cond b (Some y) (slot_view_in x.slot views)) (other_slot views i x y apart.0 at) ∙ seat_here views i x apart.1 at
+    ap (λ (b : Bool). cond b (Some y) (slot_view_in x.slot views)) (other_slot views i x y apart.0 at)
+    ∙ seat_here views i x apart.1 at
 
 -- ---- what is wanted, in other words
 
 pub all_of_session : (sid : ℕ) (s : StackModel) (p : Point) → wanted sid None s p ≡ owner_passes (is_of_session sid) s p
 all_of_session sid s p = go (owner_in (λ a. a.view) s.bar s.views p)
   where
-    go : (o : Option SlotView) → option_map_or (is_wanted sid None s p) o false ≡ option_map_or (is_of_session sid) o false
+    go : (o : Option SlotView) → option_map_or (is_wanted sid None s p) o false
+        ≡ option_map_or (is_of_session sid) o false
     go None = refl
     go (Some x) = sym (none_and (is_of_session sid x))
 
-pub part_of_session : (sid : ℕ) (part : Rectangle) (s : StackModel) (p : Point) → wanted sid (Some part) s p ≡ is_word_in sid (size_of s.sizes sid).w part (source_in s p)
+pub part_of_session : (sid : ℕ) (part : Rectangle) (s : StackModel) (p : Point)
+    → wanted sid (Some part) s p ≡ is_word_in sid (size_of s.sizes sid).w part (source_in s p)
 part_of_session sid part s p =
-    go (owner_in (λ a. a.view) s.bar s.views p) ∙ ap (λ (o : Option View). is_word_in sid (size_of s.sizes sid).w part (source_under (size_of s.sizes) p o)) (sym (owner_of_views s.bar s.views p))
+    go (owner_in (λ a. a.view) s.bar s.views p)
+    ∙ ap (λ (o : Option View). is_word_in sid (size_of s.sizes sid).w part (source_under (size_of s.sizes) p o))
+    (sym (owner_of_views s.bar s.views p))
   where
-    shows : (x : SlotView) (b : Bool) → (x.view.sid == sid) ≡ b → (b && is_index_in part (size_of s.sizes sid).w (shown_index (size_of s.sizes sid) x.view p))
-        ≡ is_word_in sid (size_of s.sizes sid).w part (black_or_word x.view.sid (shown_index (size_of s.sizes x.view.sid) x.view p))
+    shows : (x : SlotView) (b : Bool) → (x.view.sid == sid) ≡ b
+        → (b && is_index_in part (size_of s.sizes sid).w (shown_index (size_of s.sizes sid) x.view p))
+        ≡ is_word_in sid (size_of s.sizes sid).w part
+        (black_or_word x.view.sid (shown_index (size_of s.sizes x.view.sid) x.view p))
     shows x false e = sym (other (shown_index (size_of s.sizes x.view.sid) x.view p))
       where
         other : (o : Option ℕ) → is_word_in sid (size_of s.sizes sid).w part (black_or_word x.view.sid o) ≡ false
@@ -201,12 +268,17 @@ part_of_session sid part s p =
         other (Some i) = ap (λ (b : Bool). b && covers part (pixel (size_of s.sizes sid).w i)) e
     shows x true e =
         let same = eqb-true x.view.sid sid e in
-        own (shown_index (size_of s.sizes sid) x.view p) ∙ ap (λ (t : ℕ). is_word_in sid (size_of s.sizes sid).w part (black_or_word x.view.sid (shown_index (size_of s.sizes t) x.view p))) (sym same)
+        own (shown_index (size_of s.sizes sid) x.view p)
+        ∙ ap (λ (t : ℕ). is_word_in sid (size_of s.sizes sid).w part
+        (black_or_word x.view.sid (shown_index (size_of s.sizes t) x.view p))) (sym same)
       where
-        own : (o : Option ℕ) → is_index_in part (size_of s.sizes sid).w o ≡ is_word_in sid (size_of s.sizes sid).w part (black_or_word x.view.sid o)
+        own : (o : Option ℕ) → is_index_in part (size_of s.sizes sid).w o
+            ≡ is_word_in sid (size_of s.sizes sid).w part (black_or_word x.view.sid o)
         own None = refl
         own (Some i) = ap (λ (b : Bool). b && covers part (pixel (size_of s.sizes sid).w i)) (sym e)
 
-    go : (o : Option SlotView) → option_map_or (is_wanted sid (Some part) s p) o false ≡ is_word_in sid (size_of s.sizes sid).w part (source_under (size_of s.sizes) p (option_map (λ (a : SlotView). a.view) o))
+    go : (o : Option SlotView) → option_map_or (is_wanted sid (Some part) s p) o false
+        ≡ is_word_in sid (size_of s.sizes sid).w part
+        (source_under (size_of s.sizes) p (option_map (λ (a : SlotView). a.view) o))
     go None = refl
     go (Some x) = shows x (x.view.sid == sid) refl

@@ -1,11 +1,13 @@
 -- The words of the library and of the crates below that are used here, and the crate's plain types.
 pub use Rattle.nit_damage.specs.Cutter.{CutterModel, FitsStack, pieces_left, to_come}
-pub use Rattle.nit_damage.specs.Damage.{covered, is_behind, is_of_moved, is_owned, once, slot_view_covers}
+pub use Rattle.nit_damage.specs.Damage.{covered, is_behind, is_of_moved, is_owned, once}
+pub use Rattle.nit_damage.specs.Damage.{slot_view_covers}
 pub use Rattle.nit_overlay.specs.Frame.{frame, shown}
 pub use Rattle.nit_overlay.specs.Look.{IsLook, scenery}
 pub use Rattle.nit_overlay.specs.declared.look.Look.{Look}
 pub use Rattle.nit_paint.specs.FrameCopy.{AreSet}
-pub use Rattle.nit_paint.specs.Pieces.{IsPiece, has_pixel, session_shown, source_of_number, words_shown}
+pub use Rattle.nit_paint.specs.Pieces.{IsPiece, has_pixel, session_shown, source_of_number}
+pub use Rattle.nit_paint.specs.Pieces.{words_shown}
 pub use Rattle.nit_paint.specs.Repaint.{Repainted, no_sight, with_glass}
 pub use Rattle.nit_rect.specs.Intersection.{CoversBoth}
 pub use Rattle.nit_rect.specs.Limits.{most_length, most_sessions, most_side}
@@ -14,8 +16,14 @@ pub use Rattle.nit_rect.specs.Strips.{times}
 pub use Rattle.nit_rect.specs.declared.point.Point.{Point}
 pub use Rattle.nit_stack.specs.Orders.{changed, moved, put_above, put_again, without}
 pub use Rattle.nit_stack.specs.SourceAnswers.{session_of, word_count}
-pub use Rattle.nit_stack.specs.Sources.{PixelSource, Size, Word, among, black_or_word, buffer_place, in_bar, index_at, owner_in, pixel, point, shown_index, source, source_under}
-pub use Rattle.nit_stack.specs.Stack.{IsOnScreen, IsScreenSize, IsSlotView, IsStack, NoPair, SlotView, StackModel, has_slot, is_of_session, is_slot, moved_above, on_view, place_of, put_own_back, put_own_front, same_slot, size_of, slot_view_in, slot_view_layer, with_offset, with_rect}
+pub use Rattle.nit_stack.specs.Sources.{PixelSource, Size, Word, among, black_or_word, buffer_place}
+pub use Rattle.nit_stack.specs.Sources.{in_bar, index_at, owner_in, pixel, point, shown_index}
+pub use Rattle.nit_stack.specs.Sources.{source, source_under}
+pub use Rattle.nit_stack.specs.Stack.{IsOnScreen, IsScreenSize, IsSlotView, IsStack, NoPair}
+pub use Rattle.nit_stack.specs.Stack.{SlotView, StackModel, has_slot, is_of_session, is_slot}
+pub use Rattle.nit_stack.specs.Stack.{moved_above, on_view, place_of, put_own_back, put_own_front}
+pub use Rattle.nit_stack.specs.Stack.{same_slot, size_of, slot_view_in, slot_view_layer}
+pub use Rattle.nit_stack.specs.Stack.{with_offset, with_rect}
 pub use Rattle.nit_stack.specs.ViewNames.{views_of}
 pub use Rattle.nit_stack.specs.declared.view.Piece.{Piece}
 pub use Rattle.nit_stack.specs.declared.view.View.{View}
@@ -24,4 +32,5 @@ pub use Rattle.nit_word.specs.Inks.{IsWord}
 pub use Rattle.nit_word.specs.Sight.{Sight, seen}
 pub use Rattle.std.specs.List.{insert, list_any, position_or_len}
 pub use Rattle.std.specs.Option.{option_map, option_map_or}
-pub use Rattle.std.specs.Prelude.{Bool, IsTrue, List, int_le, nat_lt, negsuc, pos, slice_get, slice_index, ℕ, ℤ}
+pub use Rattle.std.specs.Prelude.{Bool, IsTrue, List, int_le, nat_lt, negsuc, pos, slice_get}
+pub use Rattle.std.specs.Prelude.{slice_index, ℕ, ℤ}

@@ -1,6 +1,8 @@
 -- What owns and what shows a pixel of a stack of views with slots.
 use Rattle.std.specs.Prelude.{ℕ, ◌==◌, Bool, false, ◌&&◌}
-use Rattle.nit_repaint.specs.Below.{PixelSource, Point, Rectangle, SlotView, StackModel, Word, covers, option_map_or, owner_in, pixel, size_of, source, views_of}
+use Rattle.nit_repaint.specs.Below.{PixelSource, Point, Rectangle, SlotView, StackModel, Word}
+use Rattle.nit_repaint.specs.Below.{covers, option_map_or, owner_in, pixel, size_of, source}
+use Rattle.nit_repaint.specs.Below.{views_of}
 
 -- the view that owns the pixel passes this test
 abbrev pub owner_passes : (SlotView → Bool) → StackModel → Point → Bool

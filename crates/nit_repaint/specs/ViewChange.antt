@@ -1,6 +1,7 @@
 -- A change of one view of a stack, told by the view's slot.
 use Rattle.std.specs.Prelude.{◌≡◌, ℕ, ◌⊎◌, Bool, ◌||◌, Some}
-use Rattle.nit_repaint.specs.Below.{NoPair, Point, Rectangle, SlotView, StackModel, is_slot, place_of, same_slot, slot_view_in, views_of, without}
+use Rattle.nit_repaint.specs.Below.{NoPair, Point, Rectangle, SlotView, StackModel, is_slot}
+use Rattle.nit_repaint.specs.Below.{place_of, same_slot, slot_view_in, views_of, without}
 use Rattle.nit_repaint.specs.PixelOwners.{owner_passes}
 
 -- The view in slot k stood at a place with a rectangle before. All other views stand as they stood.

@@ -1,6 +1,8 @@
 -- The pixels of a session's views that are wanted.
 use Rattle.std.specs.Prelude.{ℕ, Bool, true, false, ◌&&◌, take, Option, Some, None}
-use Rattle.nit_repaint.specs.Below.{Point, Rectangle, Size, SlotView, StackModel, View, covers, is_of_session, option_map_or, owner_in, pixel, shown_index, size_of}
+use Rattle.nit_repaint.specs.Below.{Point, Rectangle, Size, SlotView, StackModel, View, covers}
+use Rattle.nit_repaint.specs.Below.{is_of_session, option_map_or, owner_in, pixel, shown_index}
+use Rattle.nit_repaint.specs.Below.{size_of}
 use Rattle.nit_repaint.specs.PixelOwners.{owner_passes}
 
 -- the word at this index of a buffer of so many columns lies in a part of the buffer

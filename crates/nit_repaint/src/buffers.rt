@@ -1,7 +1,11 @@
 //! Loading again what views of one session show.
 
-ghost use Rattle.std.specs.Prelude.{false, ◌≡◌, ◌*◌, ◌<◌, ◌≤◌, ◌&&◌, Some, length, map, slice_get, true};
-ghost use Rattle.nit_repaint.specs.Terms.{FitsStack, HoldBuffers, IsOnScreen, IsPlace, Point, Repainted, SlotView, covers, glass_in, glasses_of_call, is_slot, is_wanted, once, owner_passes, pixel, size_of, source_of_number, to_come, wanted, wants};
+ghost use Rattle.std.specs.Prelude.{false, ◌≡◌, ◌*◌, ◌<◌, ◌≤◌, ◌&&◌, Some, length, map, slice_get};
+ghost use Rattle.std.specs.Prelude.{true};
+ghost use Rattle.nit_repaint.specs.Terms.{FitsStack, HoldBuffers, IsOnScreen, IsPlace, Point};
+ghost use Rattle.nit_repaint.specs.Terms.{Repainted, SlotView, covers, glass_in, glasses_of_call};
+ghost use Rattle.nit_repaint.specs.Terms.{is_slot, is_wanted, once, owner_passes, pixel, size_of};
+ghost use Rattle.nit_repaint.specs.Terms.{source_of_number, to_come, wanted, wants};
 
 use crate::painter::Painter;
 use crate::part::shown_part;

@@ -1,7 +1,9 @@
 //! Loading again what one view owned before a change of it, or owns after it.
 
 ghost use Rattle.std.specs.Prelude.{◌≡◌, ◌*◌, ◌≤◌, length, map};
-ghost use Rattle.nit_repaint.specs.Terms.{FitsStack, HoldBuffers, IsOnScreen, IsViewChange, Point, Repainted, StackModel, glass_in, glasses_of_call, once, pixel, slot_owns_either, source_of_number, to_come};
+ghost use Rattle.nit_repaint.specs.Terms.{FitsStack, HoldBuffers, IsOnScreen, IsViewChange, Point};
+ghost use Rattle.nit_repaint.specs.Terms.{Repainted, StackModel, glass_in, glasses_of_call, once};
+ghost use Rattle.nit_repaint.specs.Terms.{pixel, slot_owns_either, source_of_number, to_come};
 
 use crate::painter::Painter;
 use nit_damage::Cutter;

@@ -1,7 +1,12 @@
 //! What each change of a stack changes of its views, and what is wanted of a session's views.
 
 ghost use Rattle.std.specs.Prelude.{◌≡◌, ℕ, ℤ, None, Some};
-ghost use Rattle.nit_repaint.specs.Terms.{IsStack, IsViewChange, Point, Rectangle, SlotView, StackModel, changed, is_of_session, is_slot, is_word_in, moved, moved_above, on_view, owner_passes, place_of, put_own_back, put_own_front, size_of, slot_view_in, slot_view_layer, source_in, wanted, with_offset, with_rect, without};
+ghost use Rattle.nit_repaint.specs.Terms.{IsStack, IsViewChange, Point, Rectangle, SlotView};
+ghost use Rattle.nit_repaint.specs.Terms.{StackModel, changed, is_of_session, is_slot, is_word_in};
+ghost use Rattle.nit_repaint.specs.Terms.{moved, moved_above, on_view, owner_passes, place_of};
+ghost use Rattle.nit_repaint.specs.Terms.{put_own_back, put_own_front, size_of, slot_view_in};
+ghost use Rattle.nit_repaint.specs.Terms.{slot_view_layer, source_in, wanted, with_offset};
+ghost use Rattle.nit_repaint.specs.Terms.{with_rect, without};
 
 /// Each of these changes one view alone, which keeps its place or its rectangle.
 pub fn one_view_changes()

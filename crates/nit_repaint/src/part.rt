@@ -1,7 +1,9 @@
 //! Where a view shows a part of its session's buffer.
 
 ghost use Rattle.std.specs.Prelude.{◌≡◌, ℕ, ◌+◌, ◌<◌, ◌≤◌, nat_le, int_le, pos};
-ghost use Rattle.nit_repaint.specs.Terms.{IsOnScreen, IsPlace, IsScreenSize, Point, buffer_place, covers, is_index_in, most_length, most_side, rectangle, shown_index, spans};
+ghost use Rattle.nit_repaint.specs.Terms.{IsOnScreen, IsPlace, IsScreenSize, Point, buffer_place};
+ghost use Rattle.nit_repaint.specs.Terms.{covers, is_index_in, most_length, most_side, rectangle};
+ghost use Rattle.nit_repaint.specs.Terms.{shown_index, spans};
 
 use nit_rect::Rect;
 use nit_stack::View;

@@ -1,7 +1,11 @@
 //! Loading pieces of the screen again: the caller's by its own glass, all others by the scene's.
 
-ghost use Rattle.std.specs.Prelude.{◌≡◌, ◌*◌, ◌<◌, ◌≤◌, Some, None, IfSome, IsSomeAnd, length, map, true, ℕ};
-ghost use Rattle.nit_repaint.specs.Terms.{FitsStack, HoldBuffers, IsPiece, Repainted, glass_in, glasses_of_call, has_pixel, has_slot, is_to_come, session_of, session_shown, source_of_number, words_shown, Sight, with_glass};
+ghost use Rattle.std.specs.Prelude.{◌≡◌, ◌*◌, ◌<◌, ◌≤◌, Some, None, IfSome, IsSomeAnd, length, map};
+ghost use Rattle.std.specs.Prelude.{true, ℕ};
+ghost use Rattle.nit_repaint.specs.Terms.{FitsStack, HoldBuffers, IsPiece, Repainted, glass_in};
+ghost use Rattle.nit_repaint.specs.Terms.{glasses_of_call, has_pixel, has_slot, is_to_come};
+ghost use Rattle.nit_repaint.specs.Terms.{session_of, session_shown, source_of_number, words_shown};
+ghost use Rattle.nit_repaint.specs.Terms.{Sight, with_glass};
 
 use crate::painter::Painter;
 use nit_paint::laws::pieces_of_owners;

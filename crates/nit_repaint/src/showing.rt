@@ -1,7 +1,8 @@
 //! Showing again, where more is shown than raw words, what views of one session show.
 
 ghost use Rattle.std.specs.Prelude.{◌≡◌, ◌*◌, ◌<◌, ◌≤◌, All, Some, length};
-ghost use Rattle.nit_repaint.specs.Terms.{AreSet, FitsStack, IsLook, IsWord, frame, is_to_come, pixel, scenery, shown_at, wanted};
+ghost use Rattle.nit_repaint.specs.Terms.{AreSet, FitsStack, IsLook, IsWord, frame, is_to_come};
+ghost use Rattle.nit_repaint.specs.Terms.{pixel, scenery, shown_at, wanted};
 
 use crate::buffers::begin_seat;
 use crate::painter::Painter;

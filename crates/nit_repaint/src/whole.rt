@@ -1,7 +1,8 @@
 //! Loading by one list of glasses alone, where no session calls.
 
 ghost use Rattle.std.specs.Prelude.{◌≡◌, ◌*◌, ◌≤◌, IfSome, length, map, true};
-ghost use Rattle.nit_repaint.specs.Terms.{FitsStack, HoldBuffers, IsPiece, Repainted, glass_in, has_pixel, has_slot, is_to_come, source_of_number};
+ghost use Rattle.nit_repaint.specs.Terms.{FitsStack, HoldBuffers, IsPiece, Repainted, glass_in};
+ghost use Rattle.nit_repaint.specs.Terms.{has_pixel, has_slot, is_to_come, source_of_number};
 
 use crate::painter::Painter;
 use crate::pieces::{load_bare, load_view, session_of};

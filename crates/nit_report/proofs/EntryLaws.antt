@@ -1,7 +1,13 @@
 -- Entries are read exactly.
-use Rattle.nit_report.proofs.Basics.{Call, Device, Entry, Exact, FitsCall, FitsDevice, FitsEntry, HasOneReading, IsKind, IsReader, Reply, Routed, Takes, anything, both, call_again, call_at, call_spelling, call_takes, codes, deliveries_of, device_again, device_at, device_spelling, device_takes, ended_again, ended_takes, entry_spelling, first_takes, kind, nothing, one_reading, spaced, stops}
+use Rattle.nit_report.proofs.Basics.{Call, Device, Entry, Exact, FitsCall, FitsDevice, FitsEntry}
+use Rattle.nit_report.proofs.Basics.{HasOneReading, IsKind, IsReader, Reply, Routed, Takes}
+use Rattle.nit_report.proofs.Basics.{anything, both, call_again, call_at, call_spelling, call_takes}
+use Rattle.nit_report.proofs.Basics.{codes, deliveries_of, device_again, device_at, device_spelling}
+use Rattle.nit_report.proofs.Basics.{device_takes, ended_again, ended_takes, entry_spelling}
+use Rattle.nit_report.proofs.Basics.{first_takes, kind, nothing, one_reading, spaced, stops}
 use Rattle.std.proofs.Common.{List, Some, ap, refl, sym, ℕ, ◌++◌, ◌∙◌, ◌∷◌, ◌≡◌}
-use Rattle.nit_report.specs.EntryReaders.{answered_at, behind_reply_at, entry_at, entry_front_at, final_at, input_entry_at, shot_entry_at}
+use Rattle.nit_report.specs.EntryReaders.{answered_at, behind_reply_at, entry_at, entry_front_at}
+use Rattle.nit_report.specs.EntryReaders.{final_at, input_entry_at, shot_entry_at}
 use Rattle.nit_events.specs.declared.entry.Entry.TheVariants as entry
 use Rattle.nit_report.proofs.EventLaws.{first_some, sessions, shots}
 use Rattle.nit_report.proofs.DeliveryLaws.{ends, line_end, routes, stops_behind}
@@ -13,11 +19,16 @@ calls = record {
   takes = λ bytes c rest e. call_takes bytes c rest e;
   again = λ c rest fits ok.
       let e = line_end rest ok in
-      ap (λ (r : List ℕ). call_at (call_spelling c ++ r)) e.1 ∙ call_again c e.0 fits ∙ ap (λ (r : List ℕ). Some (c, r)) (sym e.1);
+      ap (λ (r : List ℕ). call_at (call_spelling c ++ r)) e.1 ∙ call_again c e.0 fits
+      ∙ ap (λ (r : List ℕ). Some (c, r)) (sym e.1);
 }
 
 devices : Exact device_at device_spelling FitsDevice stops
-devices = record { takes = λ bytes d rest e. device_takes bytes d rest e; again = λ d rest fits ok. device_again d rest fits ok }
+devices = record {
+  takes = λ bytes d rest e. device_takes bytes d rest e;
+  again =
+      λ d rest fits ok. device_again d rest fits ok;
+}
 
 abbrev behind : Call → List ℕ
 behind c = codes " < " ++ call_spelling c
@@ -27,17 +38,23 @@ unfolding behind_reply_at
 behind_kind = kind calls behind FitsCall (codes " < ") _ (λ c h. h) (λ c h. h) (λ c. refl)
 
 behind_replies : Exact behind_reply_at behind FitsCall ends
-behind_replies = record { takes = λ bytes c rest e. behind_kind.takes bytes c rest e; again = λ c rest fits ok. behind_kind.again c rest fits ok }
+behind_replies = record {
+  takes = λ bytes c rest e. behind_kind.takes bytes c rest e;
+  again =
+      λ c rest fits ok. behind_kind.again c rest fits ok;
+}
 
 -- ---- kinds of entries
 
 answers : IsKind answered_at entry_spelling FitsEntry ends (λ (p : ℕ × (Reply × Call)). entry.Call p.0 p.1.1 p.1.0)
 unfolding answered_at
-answers = kind (both sessions (both (spaced replies) behind_replies (λ _ _ _. refl)) (λ _ _ _. refl)) entry_spelling FitsEntry (codes "call") _ (λ p h. (h.0, h.1.0, h.1.1)) (λ p h. (h.0, (h.1, h.2))) (λ p. refl)
+answers = kind (both sessions (both (spaced replies) behind_replies (λ _ _ _. refl)) (λ _ _ _. refl)) entry_spelling
+    FitsEntry (codes "call") _ (λ p h. (h.0, h.1.0, h.1.1)) (λ p h. (h.0, (h.1, h.2))) (λ p. refl)
 
 inputs : IsKind input_entry_at entry_spelling FitsEntry ends (λ (p : Device × Routed). entry.Input p.0 p.1)
 unfolding input_entry_at
-inputs = kind (both devices routes (λ r rest ok. stops_behind (deliveries_of r) rest ok)) entry_spelling FitsEntry (codes "input ") _ (λ p h. h) (λ p h. h) (λ p. refl)
+inputs = kind (both devices routes (λ r rest ok. stops_behind (deliveries_of r) rest ok)) entry_spelling FitsEntry
+    (codes "input ") _ (λ p h. h) (λ p h. h) (λ p. refl)
 
 shots_taken : IsKind shot_entry_at entry_spelling FitsEntry stops (λ (n : ℕ). entry.Shot n)
 unfolding shot_entry_at
@@ -51,9 +68,11 @@ front_takes : Takes entry_front_at entry_spelling FitsEntry
 unfolding entry_front_at
 front_takes =
     first_takes answered_at _ entry_spelling FitsEntry answers.takes
-    (first_takes input_entry_at _ entry_spelling FitsEntry inputs.takes (first_takes shot_entry_at final_at entry_spelling FitsEntry shots_taken.takes finals.takes))
+    (first_takes input_entry_at _ entry_spelling FitsEntry inputs.takes
+    (first_takes shot_entry_at final_at entry_spelling FitsEntry shots_taken.takes finals.takes))
 
-front_again : (e : Entry) (rest : List ℕ) → FitsEntry e → entry_front_at (entry_spelling e ++ 10 ∷ rest) ≡ Some (e, 10 ∷ rest)
+front_again : (e : Entry) (rest : List ℕ) → FitsEntry e → entry_front_at (entry_spelling e ++ 10 ∷ rest)
+    ≡ Some (e, 10 ∷ rest)
 unfolding entry_front_at answered_at input_entry_at shot_entry_at final_at
 front_again (entry.Call sid c r) rest fits = first_some _ _ _ (answers.again (sid, (r, c)) (10 ∷ rest) fits refl)
 front_again (entry.Input dev routed) rest fits = first_some _ _ _ (inputs.again (dev, routed) (10 ∷ rest) fits refl)

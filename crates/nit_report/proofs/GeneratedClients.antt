@@ -1,6 +1,10 @@
 -- The configuration of a generated run is within the ranges of the format.
-use Rattle.std.proofs.Common.{IsTrue, ap, arith, drop, get_or, le-leb, map, refl, subst, sym, true, ℕ, ◌+◌, ◌<◌, ◌∙◌, ◌≡◌, ◌≢◌}
-use Rattle.nit_report.proofs.Basics.{IsConfiguration, IsMember, Member, client_label, decimal_digit, decimal_injective, false≢true, generated_member, get_or-map-range_with_len, is_file_name, is_label, is_label_byte, range_with_len, script_name}
+use Rattle.std.proofs.Common.{IsTrue, ap, arith, drop, get_or, le-leb, map, refl, subst, sym, true}
+use Rattle.std.proofs.Common.{ℕ, ◌+◌, ◌<◌, ◌∙◌, ◌≡◌, ◌≢◌}
+use Rattle.nit_report.proofs.Basics.{IsConfiguration, IsMember, Member, client_label, decimal_digit}
+use Rattle.nit_report.proofs.Basics.{decimal_injective, false≢true, generated_member}
+use Rattle.nit_report.proofs.Basics.{get_or-map-range_with_len, is_file_name, is_label}
+use Rattle.nit_report.proofs.Basics.{is_label_byte, range_with_len, script_name}
 use Rattle.nit_report.specs.Generator.{generated_configuration}
 use Rattle.nit_report.proofs.Titles.{digit_is_printable}
 
@@ -14,7 +18,8 @@ name_is : (c : ℕ) → c < 10 → IsTrue (is_file_name (script_name c))
 name_is c lt = rw (decimal_digit c lt, digit_is_printable c lt) refl
 
 labels_differ : (i j : ℕ) → i < j → j < 8 → client_label i ≢ client_label j
-labels_differ i j less few same = let e = decimal_injective i j (omega arith) (omega arith) (ap (drop 1) same) in absurd (omega arith)
+labels_differ i j less few same = let e = decimal_injective i j (omega arith) (omega arith) (ap (drop 1) same) in absurd
+    (omega arith)
 
 member_configured : (c : ℕ) → c < 8 → IsMember (generated_member c)
 member_configured c few = record {
@@ -37,5 +42,7 @@ generated_is_configured = record {
   input = refl;
   count = (omega arith, omega arith);
   clients = λ k d few. subst IsMember (sym (client_at k d few)) (member_configured k few);
-  labels = λ i j d less few same. labels_differ i j less few (ap (λ (m : Member). m.label) (sym (client_at i d (omega arith))) ∙ same ∙ ap (λ (m : Member). m.label) (client_at j d few));
+  labels = λ i j d less few same. labels_differ i j less few
+      (ap (λ (m : Member). m.label) (sym (client_at i d (omega arith))) ∙ same
+      ∙ ap (λ (m : Member). m.label) (client_at j d few));
 }

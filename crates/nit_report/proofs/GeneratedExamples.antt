@@ -1,13 +1,16 @@
 -- Worked rows of a generated run: what these lines are was worked out apart from the definitions.
 use Rattle.std.proofs.Common.{[], drop, refl, ◌++◌, ◌∷◌, ◌≡◌}
-use Rattle.nit_report.proofs.Basics.{buffer_lines, busy, click, codes, draws_in_turn, first_phase, flat_map, input_spelling, line_spelling, seed, spelled, user_phase_end, xray_shot}
+use Rattle.nit_report.proofs.Basics.{buffer_lines, busy, click, codes, draws_in_turn, first_phase}
+use Rattle.nit_report.proofs.Basics.{flat_map, input_spelling, line_spelling, seed, spelled}
+use Rattle.nit_report.proofs.Basics.{user_phase_end, xray_shot}
 use Rattle.nit_report.specs.Draw.{following, for_each}
 use Rattle.nit_report.specs.Generator.{config_text, from_outside, placed, some_colour, some_part}
 use Rattle.nit_script.specs.Spelling.{hex_digits}
 use Rattle.std.specs.Fmt.{digits}
 
 -- run 7, client 3: its buffer and the place of its first view
-begun : flat_map (spelled line_spelling) (draws_in_turn (buffer_lines ++ for_each 1 1 (λ v. placed v ∷ [])) (seed 7 3)).0
+begun : flat_map (spelled line_spelling)
+    (draws_in_turn (buffer_lines ++ for_each 1 1 (λ v. placed v ∷ [])) (seed 7 3)).0
     ≡ codes "buffer 128 96\n"
     ++ codes "fill 0 0 128 96 FBD8A1\n"
     ++ codes "place 1 111 104 37 25\n"
@@ -15,7 +18,8 @@ unfolding following for_each some_colour from_outside placed digits hex_digits
 begun = refl
 
 -- the end of its first phase, and a line of each kind
-kinds : flat_map (spelled line_spelling) (drop 49 (draws_in_turn (first_phase ++ for_each 0 8 (λ j. busy j ∷ [])) (seed 7 3)).0)
+kinds : flat_map (spelled line_spelling)
+    (drop 49 (draws_in_turn (first_phase ++ for_each 0 8 (λ j. busy j ∷ [])) (seed 7 3)).0)
     ≡ codes "title 16 =w16\n"
     ++ codes "phase\n"
     ++ codes "fill 76 68 41 29 F2C817\n"

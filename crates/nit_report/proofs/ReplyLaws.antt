@@ -1,11 +1,15 @@
 -- Replies are read exactly.
-use Rattle.nit_report.proofs.Basics.{Event, Exact, FitsReply, IsKind, Reply, Takes, anything, both, codes, first_of, first_takes, kind, nat_fields, nothing, plain_at, reply_spelling, spaced, stops}
+use Rattle.nit_report.proofs.Basics.{Event, Exact, FitsReply, IsKind, Reply, Takes, anything, both}
+use Rattle.nit_report.proofs.Basics.{codes, first_of, first_takes, kind, nat_fields, nothing}
+use Rattle.nit_report.proofs.Basics.{plain_at, reply_spelling, spaced, stops}
 use Rattle.std.proofs.Common.{List, Option, Some, [], refl, true, ℕ, ◌++◌, ◌≡◌}
-use Rattle.nit_report.specs.EntryReaders.{bad_at, done_at, event_reply_at, handle_at, holding_at, no_view_at, quota_at, reply_at, reserve_at}
+use Rattle.nit_report.specs.EntryReaders.{bad_at, done_at, event_reply_at, handle_at, holding_at}
+use Rattle.nit_report.specs.EntryReaders.{no_view_at, quota_at, reply_at, reserve_at}
 use Rattle.nit_events.specs.declared.call.Reply.TheVariants as reply
 use Rattle.nit_report.proofs.EventLaws.{events}
 
-plain_takes : (w : List ℕ) (r : Reply) → w ++ [] ≡ reply_spelling r → FitsReply r → Takes (plain_at w r) reply_spelling FitsReply
+plain_takes : (w : List ℕ) (r : Reply) → w ++ [] ≡ reply_spelling r → FitsReply r
+    → Takes (plain_at w r) reply_spelling FitsReply
 plain_takes w r is fits = plain.takes
   where
     plain : IsKind (plain_at w r) reply_spelling FitsReply anything (λ (_ : Unit {0}). r)
@@ -25,13 +29,16 @@ no_views = kind nat_fields reply_spelling FitsReply (codes "no-such-view") _ (λ
 
 quotas : IsKind quota_at reply_spelling FitsReply stops (λ (p : ℕ × ℕ). reply.OutOfQuota p.0 p.1)
 unfolding quota_at
-quotas = kind (both nat_fields nat_fields (λ _ _ _. refl)) reply_spelling FitsReply (codes "out-of-quota") _ (λ p h. h) (λ p h. h) (λ p. refl)
+quotas = kind (both nat_fields nat_fields (λ _ _ _. refl)) reply_spelling FitsReply (codes "out-of-quota") _ (λ p h. h)
+    (λ p h. h) (λ p. refl)
 
 reserves : IsKind reserve_at reply_spelling FitsReply stops (λ (p : ℕ × ℕ). reply.NoReserve p.0 p.1)
 unfolding reserve_at
-reserves = kind (both nat_fields nat_fields (λ _ _ _. refl)) reply_spelling FitsReply (codes "no-reserve") _ (λ p h. h) (λ p h. h) (λ p. refl)
+reserves = kind (both nat_fields nat_fields (λ _ _ _. refl)) reply_spelling FitsReply (codes "no-reserve") _ (λ p h. h)
+    (λ p h. h) (λ p. refl)
 
-first : (f g : List ℕ → Option (Reply × List ℕ)) → Takes f reply_spelling FitsReply → Takes g reply_spelling FitsReply → Takes (λ bytes. first_of (f bytes) (g bytes)) reply_spelling FitsReply
+first : (f g : List ℕ → Option (Reply × List ℕ)) → Takes f reply_spelling FitsReply → Takes g reply_spelling FitsReply
+    → Takes (λ bytes. first_of (f bytes) (g bytes)) reply_spelling FitsReply
 first f g p q = first_takes f g reply_spelling FitsReply p q
 
 done_takes : Takes done_at reply_spelling FitsReply
@@ -39,24 +46,30 @@ unfolding done_at
 done_takes =
     first (plain_at (codes "done") reply.Done) _ (plain_takes (codes "done") reply.Done refl tt)
     (first (plain_at (codes "no-event") reply.NoEvent) _ (plain_takes (codes "no-event") reply.NoEvent refl tt)
-    (first (plain_at (codes "closed") reply.Closed) (plain_at (codes "killed") reply.Killed) (plain_takes (codes "closed") reply.Closed refl tt) (plain_takes (codes "killed") reply.Killed refl tt)))
+    (first (plain_at (codes "closed") reply.Closed) (plain_at (codes "killed") reply.Killed)
+    (plain_takes (codes "closed") reply.Closed refl tt) (plain_takes (codes "killed") reply.Killed refl tt)))
 
 bad_takes : Takes bad_at reply_spelling FitsReply
 unfolding bad_at
 bad_takes =
     first (plain_at (codes "bad-rect") reply.BadRect) _ (plain_takes (codes "bad-rect") reply.BadRect refl tt)
     (first (plain_at (codes "bad-size") reply.BadSize) _ (plain_takes (codes "bad-size") reply.BadSize refl tt)
-    (first (plain_at (codes "bad-title") reply.BadTitle) (plain_at (codes "too-many-views") reply.TooManyViews) (plain_takes (codes "bad-title") reply.BadTitle refl tt) (plain_takes (codes "too-many-views") reply.TooManyViews refl tt)))
+    (first (plain_at (codes "bad-title") reply.BadTitle) (plain_at (codes "too-many-views") reply.TooManyViews)
+    (plain_takes (codes "bad-title") reply.BadTitle refl tt)
+    (plain_takes (codes "too-many-views") reply.TooManyViews refl tt)))
 
 holding_takes : Takes holding_at reply_spelling FitsReply
 unfolding holding_at
-holding_takes = first event_reply_at _ takings.takes (first handle_at _ handles.takes (first no_view_at _ no_views.takes (first quota_at reserve_at quotas.takes reserves.takes)))
+holding_takes = first event_reply_at _ takings.takes
+    (first handle_at _ handles.takes
+    (first no_view_at _ no_views.takes (first quota_at reserve_at quotas.takes reserves.takes)))
 
 reply_takes : Takes reply_at reply_spelling FitsReply
 unfolding reply_at
 reply_takes = first done_at _ done_takes (first bad_at holding_at bad_takes holding_takes)
 
-reply_again : (r : Reply) (rest : List ℕ) → FitsReply r → stops rest ≡ true → reply_at (reply_spelling r ++ rest) ≡ Some (r, rest)
+reply_again : (r : Reply) (rest : List ℕ) → FitsReply r → stops rest ≡ true → reply_at (reply_spelling r ++ rest)
+    ≡ Some (r, rest)
 unfolding reply_at done_at bad_at holding_at event_reply_at handle_at no_view_at quota_at reserve_at
 reply_again reply.Done rest fits ok = refl
 reply_again (reply.Handle v) rest fits ok = rw (handles.again v rest fits ok) refl
@@ -73,4 +86,8 @@ reply_again reply.Closed rest fits ok = refl
 reply_again reply.Killed rest fits ok = refl
 
 pub replies : Exact reply_at reply_spelling FitsReply stops
-replies = record { takes = λ bytes r rest e. reply_takes bytes r rest e; again = λ r rest fits ok. reply_again r rest fits ok }
+replies = record {
+  takes = λ bytes r rest e. reply_takes bytes r rest e;
+  again =
+      λ r rest fits ok. reply_again r rest fits ok;
+}

@@ -23,11 +23,15 @@ pub use Rattle.nit_report.specs.declared.error.JournalError.{JournalError}
 pub use Rattle.nit_report.specs.declared.error.JournalError.TheVariants.{Bad, NoMemory}
 pub use Rattle.nit_report.specs.declared.events.Ending.{Ending}
 pub use Rattle.nit_script.specs.CallReaders.{call_at}
-pub use Rattle.nit_script.specs.FieldReaders.{at_both, at_ended, at_kind, at_made, at_spaced, at_tested, first_of, nat_field, nothing_at}
-pub use Rattle.nit_script.specs.Grammar.{Begins, HasNoReading, HasOneReading, Reads, ReadsClient, ReadsInput, most_lines, spelled}
+pub use Rattle.nit_script.specs.FieldReaders.{at_both, at_ended, at_kind, at_made, at_spaced}
+pub use Rattle.nit_script.specs.FieldReaders.{at_tested, first_of, nat_field, nothing_at}
+pub use Rattle.nit_script.specs.Grammar.{Begins, HasNoReading, HasOneReading, Reads, ReadsClient}
+pub use Rattle.nit_script.specs.Grammar.{ReadsInput, most_lines, spelled}
 pub use Rattle.nit_script.specs.InputReaders.{device_at}
 pub use Rattle.nit_script.specs.Phases.{input_phases, is_input_phase, is_phase, phases}
-pub use Rattle.nit_script.specs.Spelling.{FitsCall, FitsDevice, FitsInputLine, FitsInt, FitsLine, FitsNat, FitsPointerPlace, call_spelling, device_spelling, input_spelling, int, line_spelling, nat}
+pub use Rattle.nit_script.specs.Spelling.{FitsCall, FitsDevice, FitsInputLine, FitsInt, FitsLine}
+pub use Rattle.nit_script.specs.Spelling.{FitsNat, FitsPointerPlace, call_spelling, device_spelling}
+pub use Rattle.nit_script.specs.Spelling.{input_spelling, int, line_spelling, nat}
 pub use Rattle.nit_script.specs.declared.line.InputLine.{InputLine}
 pub use Rattle.nit_script.specs.declared.line.Line.{Line}
 pub use Rattle.nit_script.specs.declared.line.Stroke.{Stroke}

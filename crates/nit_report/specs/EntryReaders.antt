@@ -1,6 +1,10 @@
 -- Entries of a journal read from left to right, each as its value and the rest.
-use Rattle.std.specs.Prelude.{ℕ, zero, suc, Bool, ◌&&◌, nat_le, List, [], ◌∷◌, Option, Some, None, codes}
-use Rattle.nit_report.specs.Below.{Call, Delivery, Device, Entry, Event, Item, Reply, Routed, at_both, at_ended, at_kind, at_made, at_spaced, at_tested, call_at, device_at, first_of, most_lines, nat_field, nothing_at, routed_as}
+use Rattle.std.specs.Prelude.{ℕ, zero, suc, Bool, ◌&&◌, nat_le, List, [], ◌∷◌, Option, Some, None}
+use Rattle.std.specs.Prelude.{codes}
+use Rattle.nit_report.specs.Below.{Call, Delivery, Device, Entry, Event, Item, Reply, Routed}
+use Rattle.nit_report.specs.Below.{at_both, at_ended, at_kind, at_made, at_spaced, at_tested}
+use Rattle.nit_report.specs.Below.{call_at, device_at, first_of, most_lines, nat_field, nothing_at}
+use Rattle.nit_report.specs.Below.{routed_as}
 use Rattle.nit_events.specs.declared.call.Reply.TheVariants as reply
 use Rattle.nit_events.specs.declared.device.Device.TheVariants as device
 use Rattle.nit_events.specs.declared.event.Event.TheVariants as event

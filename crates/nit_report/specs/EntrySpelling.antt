@@ -1,7 +1,8 @@
 -- How the entries of a journal are spelled, and what they hold: events, items, deliveries and
 -- replies.
 use Rattle.std.specs.Prelude.{ℕ, List, ◌∷◌, ◌++◌, codes}
-use Rattle.nit_report.specs.Below.{Delivery, Entry, Event, Item, Reply, call_spelling, deliveries_of, device_spelling, flat_map, int, nat}
+use Rattle.nit_report.specs.Below.{Delivery, Entry, Event, Item, Reply, call_spelling}
+use Rattle.nit_report.specs.Below.{deliveries_of, device_spelling, flat_map, int, nat}
 use Rattle.nit_events.specs.declared.event.Event.TheVariants as event
 use Rattle.nit_events.specs.declared.event.Item.TheVariants as item
 use Rattle.nit_events.specs.declared.call.Reply.TheVariants as reply

@@ -1,7 +1,10 @@
 -- The files of a generated run: a configuration, the scripts of eight clients, and the user's
 -- script. The lines of each script are drawn from a stream of its own.
-use Rattle.std.specs.Prelude.{ℕ, ◌+◌, ◌*◌, ◌%◌, ◌^◌, ℤ, pos, ◌-ℤ◌, Bool, true, false, List, [], ◌∷◌, ◌++◌, map, slice_index_or, codes}
-use Rattle.nit_report.specs.Below.{Check, Configuration, Fill, InputLine, Line, Member, Part, decimal, flat_map, input_spelling, line_spelling, range_with_len, spelled}
+use Rattle.std.specs.Prelude.{ℕ, ◌+◌, ◌*◌, ◌%◌, ◌^◌, ℤ, pos, ◌-ℤ◌, Bool, true, false, List, [], ◌∷◌}
+use Rattle.std.specs.Prelude.{◌++◌, map, slice_index_or, codes}
+use Rattle.nit_report.specs.Below.{Check, Configuration, Fill, InputLine, Line, Member, Part}
+use Rattle.nit_report.specs.Below.{decimal, flat_map, input_spelling, line_spelling, range_with_len}
+use Rattle.nit_report.specs.Below.{spelled}
 use Rattle.nit_events.specs.declared.call.Call.TheVariants as call
 use Rattle.nit_events.specs.declared.device.Device.TheVariants as device
 use Rattle.nit_script.specs.declared.line.Line.TheVariants as line

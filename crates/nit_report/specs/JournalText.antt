@@ -1,6 +1,9 @@
 -- The text of a journal, and the entries that it can tell.
 use Rattle.std.specs.Prelude.{◌≡◌, ◌≢◌, ◌≤◌, ℕ, ◌+◌, List, [], length, Result, Ok, Err}
-use Rattle.nit_report.specs.Below.{AllByRecursion, Bad, Begins, Delivery, Entry, Event, FitsCall, FitsDevice, FitsNat, FitsPointerPlace, HasNoReading, IsCode, IsWheel, Item, JournalError, NoMemory, Reads, Reply, Routed, deliveries_of, flat_map, most_lines, routed_as, spelled}
+use Rattle.nit_report.specs.Below.{AllByRecursion, Bad, Begins, Delivery, Entry, Event, FitsCall}
+use Rattle.nit_report.specs.Below.{FitsDevice, FitsNat, FitsPointerPlace, HasNoReading, IsCode}
+use Rattle.nit_report.specs.Below.{IsWheel, Item, JournalError, NoMemory, Reads, Reply, Routed}
+use Rattle.nit_report.specs.Below.{deliveries_of, flat_map, most_lines, routed_as, spelled}
 use Rattle.nit_events.specs.declared.event.Event.TheVariants as event
 use Rattle.nit_events.specs.declared.event.Item.TheVariants as item
 use Rattle.nit_events.specs.declared.call.Reply.TheVariants as reply

@@ -1,7 +1,9 @@
 //! Lines of generated scripts, each drawn from a stream.
 
 ghost use Rattle.std.specs.Prelude.{◌≡◌, ◌<◌, ◌≤◌};
-ghost use Rattle.nit_report.specs.Terms.{Draws, backdrop, checked, filled, from_outside, placed, refreshed, shifted, some_colour, some_motion, some_part, some_view};
+ghost use Rattle.nit_report.specs.Terms.{Draws, backdrop, checked, filled, from_outside, placed};
+ghost use Rattle.nit_report.specs.Terms.{refreshed, shifted, some_colour, some_motion, some_part};
+ghost use Rattle.nit_report.specs.Terms.{some_view};
 
 use crate::stream::Stream;
 use nit_events::{Call, Device};

@@ -1,6 +1,7 @@
 //! An entry's line in front of bytes, and what follows it.
 
-ghost use Rattle.nit_report.specs.Terms.{Gives, answered_at, behind_reply_at, entry_at, entry_front_at, final_at, input_entry_at, shot_entry_at};
+ghost use Rattle.nit_report.specs.Terms.{Gives, answered_at, behind_reply_at, entry_at};
+ghost use Rattle.nit_report.specs.Terms.{entry_front_at, final_at, input_entry_at, shot_entry_at};
 
 use crate::reading::{session_field, shot_field, take_routed};
 use crate::replies::take_reply;

@@ -1,7 +1,8 @@
 //! The text of the events that a session has taken.
 
 ghost use Rattle.std.specs.Prelude.{◌≡◌, ◌++◌, IfOk, OnOk};
-ghost use Rattle.nit_report.specs.Terms.{ending_text, event_spelling, events_text, flat_map, spelled, status_spelling, taken};
+ghost use Rattle.nit_report.specs.Terms.{ending_text, event_spelling, events_text, flat_map};
+ghost use Rattle.nit_report.specs.Terms.{spelled, status_spelling, taken};
 
 use crate::spelling::{put_counted, put_event, put_text};
 use nit_events::{Call, Entry, Event, Reply, Status};

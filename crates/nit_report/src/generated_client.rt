@@ -1,7 +1,8 @@
 //! The script of a client of a generated run.
 
 ghost use Rattle.std.specs.Prelude.{◌≡◌, ◌≤◌, ◌++◌, ℕ, [], ◌∷◌, codes, IfOk, OnOk};
-ghost use Rattle.nit_report.specs.Terms.{AppendsDraws, Draws, busy, client_script, decimal, first_phase, places, second_phase, titles, views};
+ghost use Rattle.nit_report.specs.Terms.{AppendsDraws, Draws, busy, client_script, decimal};
+ghost use Rattle.nit_report.specs.Terms.{first_phase, places, second_phase, titles, views};
 
 use crate::drawn_lines::{
     BUFFER, VIEWS, backdrop, checked, filled, placed, refreshed, shifted, some_view,

@@ -1,7 +1,9 @@
 //! The configuration of a generated run, as a value and as a text.
 
 ghost use Rattle.std.specs.Prelude.{◌≡◌, ◌+◌, ◌≤◌, [], ◌∷◌, ◌++◌, IsTrue, IfOk, OnOk};
-ghost use Rattle.nit_report.specs.Terms.{IsConfiguration, client_block, client_label, config_text, decimal, generated_configuration, generated_member, is_label, script_name};
+ghost use Rattle.nit_report.specs.Terms.{IsConfiguration, client_block, client_label, config_text};
+ghost use Rattle.nit_report.specs.Terms.{decimal, generated_configuration, generated_member};
+ghost use Rattle.nit_report.specs.Terms.{is_label, script_name};
 
 use crate::spelling::put_text;
 use nit_config::{Config, FileName, Member};

@@ -1,7 +1,9 @@
 //! The files of a generated run.
 
 ghost use Rattle.std.specs.Prelude.{◌≡◌, ◌≤◌, map, IfOk};
-ghost use Rattle.nit_report.specs.Terms.{AllZip, ReadsClient, ReadsInput, client_script, client_text, generated, range_with_len, user_script, user_text};
+ghost use Rattle.nit_report.specs.Terms.{AllZip, ReadsClient, ReadsInput, client_script};
+ghost use Rattle.nit_report.specs.Terms.{client_text, generated, range_with_len, user_script};
+ghost use Rattle.nit_report.specs.Terms.{user_text};
 
 use crate::generated_client::client_script;
 use crate::generated_config::{CLIENTS, config_text};

@@ -1,7 +1,9 @@
 //! The text of a journal.
 
 ghost use Rattle.std.specs.Prelude.{◌≡◌, ◌++◌, IfOk, OnOk};
-ghost use Rattle.nit_report.specs.Terms.{AllByRecursion, FitsEntry, ReadsJournal, deliveries_of, delivery, delivery_spelling, entry_spelling, flat_map, journal_text};
+ghost use Rattle.nit_report.specs.Terms.{AllByRecursion, FitsEntry, ReadsJournal, deliveries_of};
+ghost use Rattle.nit_report.specs.Terms.{delivery, delivery_spelling, entry_spelling, flat_map};
+ghost use Rattle.nit_report.specs.Terms.{journal_text};
 ghost use Rattle.nit_events.specs.declared.entry.Entry.TheVariants as entry;
 
 use crate::spelling::{put_counted, put_delivery, put_reply, put_text};

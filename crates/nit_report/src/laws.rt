@@ -2,7 +2,9 @@
 //! of a generated run have.
 
 ghost use Rattle.std.specs.Prelude.{◌≡◌, ℕ, List, length, count_by};
-ghost use Rattle.nit_report.specs.Terms.{Entry, IsFirstBadEntry, ReadsJournal, client_script, input_phases, is_call, is_device, is_shot_line, phases, user_script};
+ghost use Rattle.nit_report.specs.Terms.{Entry, IsFirstBadEntry, ReadsJournal, client_script};
+ghost use Rattle.nit_report.specs.Terms.{input_phases, is_call, is_device, is_shot_line, phases};
+ghost use Rattle.nit_report.specs.Terms.{user_script};
 
 /// A text has one reading as a journal at most, and a list of entries has one text.
 pub fn journal_reading_is_one()

@@ -1,7 +1,8 @@
 //! Journals, line by line.
 
 ghost use Rattle.std.specs.Prelude.{◌≡◌, ◌≤◌, ℕ, List, length, Err, IfOk, IsOkAnd};
-ghost use Rattle.nit_report.specs.Terms.{Entry, IsFirstBadEntry, IsJournalAnswer, ReadsJournal, UnlessNoMemory, most_read};
+ghost use Rattle.nit_report.specs.Terms.{Entry, IsFirstBadEntry, IsJournalAnswer, ReadsJournal};
+ghost use Rattle.nit_report.specs.Terms.{UnlessNoMemory, most_read};
 
 use crate::entries::take_entry;
 use crate::error::JournalError;

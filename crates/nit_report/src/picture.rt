@@ -1,7 +1,8 @@
 //! Pictures in the P6 form: <https://netpbm.sourceforge.net/doc/ppm.html>.
 
 ghost use Rattle.std.specs.Prelude.{◌≡◌, ◌+◌, ◌*◌, ◌<◌, ◌≤◌, ◌^◌, ◌++◌, length, take, All};
-ghost use Rattle.nit_report.specs.Terms.{IsWord, channels, decimal, flat_map, most_height, most_width, picture, picture_header, picture_length};
+ghost use Rattle.nit_report.specs.Terms.{IsWord, channels, decimal, flat_map, most_height};
+ghost use Rattle.nit_report.specs.Terms.{most_width, picture, picture_header, picture_length};
 
 use crate::write::{number, text};
 

@@ -1,7 +1,8 @@
 //! Numbers, events and deliveries in front of bytes, each with what follows it.
 
 ghost use Rattle.std.specs.Prelude.{◌≡◌, Some};
-ghost use Rattle.nit_report.specs.Terms.{Gives, delivery_at, event_at, item_at, routed_at, session_field, shot_field, told};
+ghost use Rattle.nit_report.specs.Terms.{Gives, delivery_at, event_at, item_at, routed_at};
+ghost use Rattle.nit_report.specs.Terms.{session_field, shot_field, told};
 
 use nit_events::{Delivery, Device, Event, Item, Routed};
 use nit_script::{natural_field, take_byte, take_device, take_word};

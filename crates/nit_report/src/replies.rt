@@ -1,6 +1,7 @@
 //! Replies in front of bytes, each with what follows it.
 
-ghost use Rattle.nit_report.specs.Terms.{Gives, bad_at, done_at, event_reply_at, handle_at, holding_at, no_view_at, quota_at, reply_at, reserve_at};
+ghost use Rattle.nit_report.specs.Terms.{Gives, bad_at, done_at, event_reply_at, handle_at};
+ghost use Rattle.nit_report.specs.Terms.{holding_at, no_view_at, quota_at, reply_at, reserve_at};
 
 use crate::reading::take_event;
 use nit_events::Reply;

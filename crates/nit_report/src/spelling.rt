@@ -1,7 +1,8 @@
 //! Words of a report at the end of bytes.
 
 ghost use Rattle.std.specs.Prelude.{◌≡◌, ◌++◌, OnOk};
-ghost use Rattle.nit_report.specs.Terms.{decimal, delivery_spelling, event_spelling, flat_map, item_spelling, nat, reply_spelling};
+ghost use Rattle.nit_report.specs.Terms.{decimal, delivery_spelling, event_spelling, flat_map};
+ghost use Rattle.nit_report.specs.Terms.{item_spelling, nat, reply_spelling};
 ghost use Rattle.nit_events.specs.declared.call.Reply.TheVariants as reply;
 
 use nit_events::{Delivery, Device, Event, Item, Reply};

@@ -12,16 +12,19 @@ pub use Rattle.nit_events.specs.declared.event.Delivery.{Delivery}
 pub use Rattle.nit_journal.specs.Deliveries.{IsLive, kills}
 pub use Rattle.nit_journal.specs.Journal.{JournalModel}
 pub use Rattle.nit_journal.specs.Presses.{IsDown}
-pub use Rattle.nit_journal.specs.Projection.{Gets, Observation, alone, projection, replies_to, reserved, views_in_use}
+pub use Rattle.nit_journal.specs.Projection.{Gets, Observation, alone, projection, replies_to}
+pub use Rattle.nit_journal.specs.Projection.{reserved, views_in_use}
 pub use Rattle.nit_journal.specs.Replay.{Agrees, IsLegal, IsOpen, replay, shots}
-pub use Rattle.nit_journal.specs.Session.{Session, accepted, by_refusal, first_session, refusal, serve}
+pub use Rattle.nit_journal.specs.Session.{Session, accepted, by_refusal, first_session, refusal}
+pub use Rattle.nit_journal.specs.Session.{serve}
 pub use Rattle.nit_journal.specs.StackAfter.{is_accepted}
 pub use Rattle.nit_journal.specs.State.{State, after, first_state, route, session, session_in}
 pub use Rattle.nit_overlay.specs.Frame.{Scenery, frame}
 pub use Rattle.nit_paint.specs.Repaint.{no_sight}
 pub use Rattle.nit_repaint.specs.Glasses.{glasses_of_call}
 pub use Rattle.nit_screen.specs.FrameLabels.{ShowsLabels}
-pub use Rattle.nit_screen.specs.RawWords.{AreInked, AreRaw, IsRawOf, Painted, glass_in, pixel_count, source_at}
+pub use Rattle.nit_screen.specs.RawWords.{AreInked, AreRaw, IsRawOf, Painted, glass_in, pixel_count}
+pub use Rattle.nit_screen.specs.RawWords.{source_at}
 pub use Rattle.nit_screen.specs.Screen.{IsGlass}
 pub use Rattle.nit_screen.specs.StateScenery.{scenery_of}
 pub use Rattle.nit_server.specs.Server.{ServerModel, state_of}

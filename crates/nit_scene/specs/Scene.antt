@@ -1,6 +1,7 @@
 -- What contracts see of a scene, and what holds of it.
 use Rattle.std.specs.Prelude.{◌≡◌, ℕ, ◌+◌, ◌*◌, ◌≤◌, List, length}
-use Rattle.nit_scene.specs.Below.{AreRaw, Configuration, Entry, IsLegal, ServerModel, State, replay, session_in, shots, state_of}
+use Rattle.nit_scene.specs.Below.{AreRaw, Configuration, Entry, IsLegal, ServerModel, State, replay}
+use Rattle.nit_scene.specs.Below.{session_in, shots, state_of}
 
 -- the configuration, the entries of the journal and for how many more there is room, the raw words
 -- of the screen's pixels, and the glasses through which the sessions' words are loaded

@@ -1,6 +1,7 @@
 -- What a journal says of each session by itself.
 use Rattle.std.specs.Prelude.{◌≡◌, ℕ, ◌<◌, ◌++◌, ◌∷◌, List, length}
-use Rattle.nit_scene.specs.Below.{Configuration, Entry, Gets, IsDown, Observation, alone, member, projection, replies_to}
+use Rattle.nit_scene.specs.Below.{Configuration, Entry, Gets, IsDown, Observation, alone, member}
+use Rattle.nit_scene.specs.Below.{projection, replies_to}
 use Rattle.nit_events.specs.declared.event.Event.TheVariants as event
 use Rattle.nit_events.specs.declared.event.Item.TheVariants as item
 

@@ -1,6 +1,12 @@
 -- The sizes of the sessions' buffers after a call or an item, and the sources of pixels by them.
-use Rattle.std.proofs.Common.{Bool, List, None, Option, Some, [], ap, false, get_or, get_or-set_other, length, nat_lt, refl, set, sym, true, ℕ, ◌++◌, ◌+◌, ◌∙◌, ◌∷◌, ◌≡◌, if◌then◌else◌}
-use Rattle.nit_screen.proofs.Basics.{Buffer, Call, Close, Event, IsSpared, Point, Reply, Session, Size, Status, Take, accepted, accepted_reply, buffer_size, by_life, by_refusal, eqb-false, first_session, get_or-map, is_accepted, is_session, map-set_same, receive, refusal, session_in, source_under, taking}
+use Rattle.std.proofs.Common.{Bool, List, None, Option, Some, [], ap, false, get_or}
+use Rattle.std.proofs.Common.{get_or-set_other, length, nat_lt, refl, set, sym, true, ℕ, ◌++◌, ◌+◌}
+use Rattle.std.proofs.Common.{◌∙◌, ◌∷◌, ◌≡◌, if◌then◌else◌}
+use Rattle.nit_screen.proofs.Basics.{Buffer, Call, Close, Event, IsSpared, Point, Reply, Session}
+use Rattle.nit_screen.proofs.Basics.{Size, Status, Take, accepted, accepted_reply, buffer_size}
+use Rattle.nit_screen.proofs.Basics.{by_life, by_refusal, eqb-false, first_session, get_or-map}
+use Rattle.nit_screen.proofs.Basics.{is_accepted, is_session, map-set_same, receive, refusal}
+use Rattle.nit_screen.proofs.Basics.{session_in, source_under, taking}
 use Rattle.nit_journal.specs.Session.{serve}
 use Rattle.nit_events.specs.declared.event.Item.TheVariants as item
 use Rattle.nit_events.specs.declared.event.Status.TheVariants as status
@@ -28,7 +34,8 @@ accepted_keeps_size t Close no_resize = cc
 accepted_keeps_size t Take no_resize = taking_keeps_size t.queue t
 accepted_keeps_size t other no_resize = refl
 
-kept_unless_refused : (t : Session) (call : Call) (refused : Option Reply) → resizes call ≡ false → size_of (by_refusal t call refused).session ≡ size_of t
+kept_unless_refused : (t : Session) (call : Call) (refused : Option Reply) → resizes call ≡ false
+    → size_of (by_refusal t call refused).session ≡ size_of t
 kept_unless_refused t call (Some r) no_resize = refl
 kept_unless_refused t call None no_resize = accepted_keeps_size t call no_resize
 
@@ -36,16 +43,19 @@ pub serve_keeps_size : (t : Session) (call : Call) → resizes call ≡ false �
 unfolding serve
 serve_keeps_size t call no_resize = kept_unless_refused t call (refusal t call) no_resize
 
-refused_by : (t : Session) (call : Call) (refused : Option Reply) → is_accepted (by_refusal t call refused).reply ≡ false → (by_refusal t call refused).session ≡ t
+refused_by : (t : Session) (call : Call) (refused : Option Reply) → is_accepted (by_refusal t call refused).reply
+    ≡ false → (by_refusal t call refused).session ≡ t
 refused_by t call (Some r) h = refl
 refused_by t call None h = let yes_ = accepted_reply t call in cc
 
 -- a call that is refused changes nothing
-pub refused_is_unchanged : (t : Session) (call : Call) → is_accepted (serve t call).reply ≡ false → (serve t call).session ≡ t
+pub refused_is_unchanged : (t : Session) (call : Call) → is_accepted (serve t call).reply ≡ false
+    → (serve t call).session ≡ t
 unfolding serve
 refused_is_unchanged t call h = refused_by t call (refusal t call) h
 
-queued_keeps_size : (room : Bool) (e : Event) (t : Session) → size_of (if room then record t { queue = t.queue ++ e ∷ [] } else record t { lost = t.lost + 1 }) ≡ size_of t
+queued_keeps_size : (room : Bool) (e : Event) (t : Session)
+    → size_of (if room then record t { queue = t.queue ++ e ∷ [] } else record t { lost = t.lost + 1 }) ≡ size_of t
 queued_keeps_size true e t = refl
 queued_keeps_size false e t = refl
 
@@ -60,26 +70,32 @@ event_keeps_size t e = by_life_keeps_size t.status e t
 -- ---- all sessions
 
 -- what does not tell one session of a list from another
-pub alike_at : {B : Type 0} (f : Session → B) (sessions : List Session) (sid : ℕ) (now : Session) → f now ≡ f (session_in sessions sid) → (t : ℕ) → f (session_in (set sessions sid now) t) ≡ f (session_in sessions t)
+pub alike_at : {B : Type 0} (f : Session → B) (sessions : List Session) (sid : ℕ) (now : Session)
+    → f now ≡ f (session_in sessions sid) → (t : ℕ) → f (session_in (set sessions sid now) t)
+    ≡ f (session_in sessions t)
 alike_at {B} f sessions sid now same t =
     sym (get_or-map f (set sessions sid now) t (first_session 0))
     ∙ ap (λ (all : List B). get_or all t (f (first_session 0))) (map-set_same f sessions sid now (first_session 0) same)
     ∙ get_or-map f sessions t (first_session 0)
 
-pub sizes_stay : (sessions : List Session) (sid : ℕ) (now : Session) → size_of now ≡ size_of (session_in sessions sid) → (t : ℕ) → buffer_size (set sessions sid now) t ≡ buffer_size sessions t
+pub sizes_stay : (sessions : List Session) (sid : ℕ) (now : Session) → size_of now ≡ size_of (session_in sessions sid)
+    → (t : ℕ) → buffer_size (set sessions sid now) t ≡ buffer_size sessions t
 sizes_stay sessions sid now same = alike_at size_of sessions sid now same
 
-pub others_stay : (sessions : List Session) (sid : ℕ) (now : Session) (t : ℕ) → (t ≡ sid → ⊥) → buffer_size (set sessions sid now) t ≡ buffer_size sessions t
+pub others_stay : (sessions : List Session) (sid : ℕ) (now : Session) (t : ℕ) → (t ≡ sid → ⊥)
+    → buffer_size (set sessions sid now) t ≡ buffer_size sessions t
 others_stay sessions sid now t other = ap size_of (get_or-set_other sessions sid t now (first_session 0) other)
 
 -- ---- sources
 
 -- by the same sizes
-pub by_sizes : (sizes sizes' : ℕ → Size) (p : Point) (o : Option ViewOf) → ((t : ℕ) → sizes' t ≡ sizes t) → source_under sizes' p o ≡ source_under sizes p o
+pub by_sizes : (sizes sizes' : ℕ → Size) (p : Point) (o : Option ViewOf) → ((t : ℕ) → sizes' t ≡ sizes t)
+    → source_under sizes' p o ≡ source_under sizes p o
 by_sizes sizes sizes' p o same = ap (λ (f : ℕ → Size). source_under f p o) (λ i t. same t i)
 
 -- by the same sizes but for one session, where the owner is of another
-pub by_other_sizes : (sid : ℕ) (sizes sizes' : ℕ → Size) (p : Point) (o : Option ViewOf) → ((t : ℕ) → (t ≡ sid → ⊥) → sizes' t ≡ sizes t) → IsSpared (is_session sid) o
+pub by_other_sizes : (sid : ℕ) (sizes sizes' : ℕ → Size) (p : Point) (o : Option ViewOf)
+    → ((t : ℕ) → (t ≡ sid → ⊥) → sizes' t ≡ sizes t) → IsSpared (is_session sid) o
     → source_under sizes' p o ≡ source_under sizes p o
 by_other_sizes sid sizes sizes' p None same spared = refl
 by_other_sizes sid sizes sizes' p (Some v) same spared = rw (same v.sid (eqb-false v.sid sid spared)) refl

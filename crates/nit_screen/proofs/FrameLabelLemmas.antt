@@ -1,6 +1,17 @@
 -- Labels in a frame: each stands in pixels of its own view, so nothing covers it.
-use Rattle.nit_screen.proofs.Basics.{AreLabelsApart, Configuration, Entry, Flat, HaveOwnNames, IsLabelShown, IsLegal, Kill, Mode, Point, Scenery, ShowsLabels, State, Xray, apart, bar_word, covering, covers, dot, draws_labels, fits, fits_within, found_passes, frame, get_or-frame, has_dot, in_bar, ink_of, is_in_picture, is_owner, is_view, label_place_of, label_width, list_any, list_any_at, mul-le-mul_right, name_both, nat_tests, owner, owner_word, picture_height, picture_width, pixel, pixel_owned, point, replay, rows, scenery_of, shown, slice_index, view_text, view_word}
-use Rattle.std.proofs.Common.{Bool, IfSome, IsTrue, List, None, Option, Some, [], ap, arith, cond, false, find, length, refl, slice_index_or, subst, suc, sym, true, zero, ℕ, ◌%◌, ◌*◌, ◌+◌, ◌-◌, ◌/◌, ◌<◌, ◌||◌, ◌∙◌, ◌∷◌, ◌≡◌, ◌≤◌}
+use Rattle.nit_screen.proofs.Basics.{AreLabelsApart, Configuration, Entry, Flat, HaveOwnNames}
+use Rattle.nit_screen.proofs.Basics.{IsLabelShown, IsLegal, Kill, Mode, Point, Scenery, ShowsLabels}
+use Rattle.nit_screen.proofs.Basics.{State, Xray, apart, bar_word, covering, covers, dot}
+use Rattle.nit_screen.proofs.Basics.{draws_labels, fits, fits_within, found_passes, frame}
+use Rattle.nit_screen.proofs.Basics.{get_or-frame, has_dot, in_bar, ink_of, is_in_picture, is_owner}
+use Rattle.nit_screen.proofs.Basics.{is_view, label_place_of, label_width, list_any, list_any_at}
+use Rattle.nit_screen.proofs.Basics.{mul-le-mul_right, name_both, nat_tests, owner, owner_word}
+use Rattle.nit_screen.proofs.Basics.{picture_height, picture_width, pixel, pixel_owned, point}
+use Rattle.nit_screen.proofs.Basics.{replay, rows, scenery_of, shown, slice_index, view_text}
+use Rattle.nit_screen.proofs.Basics.{view_word}
+use Rattle.std.proofs.Common.{Bool, IfSome, IsTrue, List, None, Option, Some, [], ap, arith, cond}
+use Rattle.std.proofs.Common.{false, find, length, refl, slice_index_or, subst, suc, sym, true}
+use Rattle.std.proofs.Common.{zero, ℕ, ◌%◌, ◌*◌, ◌+◌, ◌-◌, ◌/◌, ◌<◌, ◌||◌, ◌∙◌, ◌∷◌, ◌≡◌, ◌≤◌}
 use Rattle.nit_stack.specs.declared.view.View.{View}
 use Rattle.nit_screen.proofs.Handles.{named_throughout}
 
@@ -25,18 +36,22 @@ found_itself : (p : View → Bool) (xs : List View) → HaveOwnNames xs → (i :
 found_itself p [] own i d v within at found = absurd (omega arith)
 found_itself p (x ∷ xs) own zero d v within at found = go (p x) found
   where
-    go : (b : Bool) → is_owner v.sid v.handle (cond b (Some x) (find p xs)) ≡ true → cond b (Some x) (find p xs) ≡ Some v
+    go : (b : Bool) → is_owner v.sid v.handle (cond b (Some x) (find p xs)) ≡ true
+        → cond b (Some x) (find p xs) ≡ Some v
     go true h = ap (λ (u : View). Some u) at
     go false h =
         let some = is_among v p xs h in
-        let none : list_any (is_view v.sid v.handle) xs ≡ false = subst (λ (u : View). list_any (is_view u.sid u.handle) xs ≡ false) at own.0 in
+        let none : list_any (is_view v.sid v.handle) xs ≡ false =
+        subst (λ (u : View). list_any (is_view u.sid u.handle) xs ≡ false) at own.0 in
         cc
-found_itself p (x ∷ xs) own (suc i) d v within at found = go (p x) found (found_itself p xs own.1 i d v (omega arith) at)
+found_itself p (x ∷ xs) own (suc i) d v within at found =
+    go (p x) found (found_itself p xs own.1 i d v (omega arith) at)
   where
     go : (b : Bool) → is_owner v.sid v.handle (cond b (Some x) (find p xs)) ≡ true
         → (is_owner v.sid v.handle (find p xs) ≡ true → find p xs ≡ Some v) → cond b (Some x) (find p xs) ≡ Some v
     go true h later =
-        let named : is_view x.sid x.handle (slice_index_or xs i d) ≡ true = ap (is_view x.sid x.handle) at ∙ name_both x v ∙ h in
+        let named : is_view x.sid x.handle (slice_index_or xs i d) ≡ true = ap (is_view x.sid x.handle) at
+        ∙ name_both x v ∙ h in
         let some = list_any_at (is_view x.sid x.handle) xs i d (omega arith) named in
         let none = own.0 in
         cc
@@ -62,11 +77,13 @@ differ (x ∷ xs) own (suc i) (suc j) d less within = differ xs own.1 i j d (ome
 
 placed : (s : Scenery) (v : View) (q : ℕ × ℕ) → label_place_of s v ≡ Some q
     → fits s.width s.height s.bar s.stack v (label_width s v) picture_height q.0 q.1 ≡ true
-placed s v q at = found_passes (λ (q : ℕ × ℕ). fits s.width s.height s.bar s.stack v (label_width s v) picture_height q.0 q.1) _ q at
+placed s v q at = found_passes (λ (q : ℕ × ℕ). fits s.width s.height s.bar s.stack v (label_width s v) picture_height
+    q.0 q.1) _ q at
 
 -- ---- a pixel of a label
 
-by_label : (m : Mode) (s : Scenery) (v : View) (q : ℕ × ℕ) (p : Point) (w : ℕ) → draws_labels m ≡ true → label_place_of s v ≡ Some q
+by_label : (m : Mode) (s : Scenery) (v : View) (q : ℕ × ℕ) (p : Point) (w : ℕ) → draws_labels m ≡ true
+    → label_place_of s v ≡ Some q
     → is_in_picture (view_text s v) q.0 q.1 p ≡ true → view_word m s v p w ≡ ink_of (has_dot (view_text s v) q.0 q.1 p)
 by_label Flat s v q p w draws at inside = cc
 by_label Xray s v q p w draws at inside = rw at (rw inside refl)
@@ -74,12 +91,14 @@ by_label Kill s v q p w draws at inside = rw at (rw inside refl)
 
 -- a pixel that a view owns shows the view's word, and not the bar's
 shown_by : (s : Scenery) (p : Point) (w : ℕ) (v : View)
-    → (is_owner v.sid v.handle (covering (λ (u : View). u) s.stack p) ≡ true → covering (λ (u : View). u) s.stack p ≡ Some v)
+    → (is_owner v.sid v.handle (covering (λ (u : View). u) s.stack p) ≡ true → covering (λ (u : View). u) s.stack p
+    ≡ Some v)
     → is_owner v.sid v.handle (owner s.bar s.stack p) ≡ true → shown s p w ≡ view_word s.mode s v p w
 shown_by s p w v found owned = go (in_bar s.bar p) owned
   where
     go : (b : Bool) → is_owner v.sid v.handle (cond b None (covering (λ (u : View). u) s.stack p)) ≡ true
-        → cond b (bar_word s p) (owner_word s p w (cond b None (covering (λ (u : View). u) s.stack p))) ≡ view_word s.mode s v p w
+        → cond b (bar_word s p) (owner_word s p w (cond b None (covering (λ (u : View). u) s.stack p)))
+        ≡ view_word s.mode s v p w
     go true h = cc
     go false h = ap (owner_word s p w) (found h)
 
@@ -107,11 +126,13 @@ dot_there text left top x y =
 
 -- ---- the labels of a frame
 
-label_shown : (s : Scenery) (raw : List ℕ) → IsTrue (draws_labels s.mode) → HaveOwnNames s.stack → (i : ℕ) (d v : View) → i < length s.stack
+label_shown : (s : Scenery) (raw : List ℕ) → IsTrue (draws_labels s.mode) → HaveOwnNames s.stack → (i : ℕ) (d v : View)
+    → i < length s.stack
     → slice_index_or s.stack i d ≡ v → (q : ℕ × ℕ) → label_place_of s v ≡ Some q → IsLabelShown s (frame s raw) v q
 label_shown s raw draws own i d v within at q place =
     let all = placed s v q place in
-    let inside = fits_within s.width s.height s.bar s.stack v (label_width s v) picture_height q.0 q.1 (omega arith) (omega arith) all in
+    let inside = fits_within s.width s.height s.bar s.stack v (label_width s v) picture_height q.0 q.1 (omega arith)
+    (omega arith) all in
     record {
       right = inside.0;
       bottom = inside.1;
@@ -119,7 +140,8 @@ label_shown s raw draws own i d v within at q place =
           let p = point (q.0 + x) (q.1 + y) in
           let k = (q.1 + y) * s.width + (q.0 + x) in
           let w = slice_index raw k in
-          let mine = pixel_owned s.width s.height s.bar s.stack v (label_width s v) picture_height q.0 q.1 all (q.0 + x) (q.1 + y) (omega arith) (omega arith) (omega arith) (omega arith) in
+          let mine = pixel_owned s.width s.height s.bar s.stack v (label_width s v) picture_height q.0 q.1 all (q.0 + x)
+          (q.1 + y) (omega arith) (omega arith) (omega arith) (omega arith) in
           get_or-frame s raw k (number_fits s.width s.height (q.0 + x) (q.1 + y) mine.in_width mine.in_height)
           ∙ ap (λ (p : Point). shown s p w) (pixel_of s.width (q.0 + x) (q.1 + y) mine.in_width)
           ∙ shown_by s p w v (found_itself (λ (u : View). covers u.rect p) s.stack own i d v within at) mine.owner
@@ -136,17 +158,20 @@ labels_apart : (s : Scenery) (v u : View) → is_view v.sid v.handle u ≡ false
 labels_apart s v u other =
     if_some _ (label_place_of s v) (λ q at.
     if_some _ (label_place_of s u) (λ r there.
-    apart s.width s.height s.bar s.stack v u (label_width s v) picture_height q.0 q.1 (label_width s u) picture_height r.0 r.1 other (placed s v q at) (placed s u r there)))
+    apart s.width s.height s.bar s.stack v u (label_width s v) picture_height q.0 q.1 (label_width s u) picture_height
+    r.0 r.1 other (placed s v q at) (placed s u r there)))
 
 pub labels_shown : (s : Scenery) (raw : List ℕ) → HaveOwnNames s.stack → ShowsLabels s (frame s raw)
 labels_shown s raw own = λ draws. record {
   each = λ i d within.
       let v = slice_index_or s.stack i d in
       if_some (IsLabelShown s (frame s raw) v) (label_place_of s v) (label_shown s raw draws own i d v within refl);
-  apart = λ i j d less within. labels_apart s (slice_index_or s.stack i d) (slice_index_or s.stack j d) (differ s.stack own i j d less within);
+  apart = λ i j d less within. labels_apart s (slice_index_or s.stack i d) (slice_index_or s.stack j d)
+      (differ s.stack own i j d less within);
 }
 
 -- in a state that a legal journal leads to
 pub labels_stand : (config : Configuration) (journal : List Entry) (raw : List ℕ) → IsLegal config journal
     → ShowsLabels (scenery_of (replay config journal)) (frame (scenery_of (replay config journal)) raw)
-labels_stand config journal raw legal = labels_shown (scenery_of (replay config journal)) raw (named_throughout config journal legal).0
+labels_stand config journal raw legal =
+    labels_shown (scenery_of (replay config journal)) raw (named_throughout config journal legal).0

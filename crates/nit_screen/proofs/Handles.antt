@@ -1,6 +1,16 @@
 -- Handles count up: each view's is below the next one of its session.
-use Rattle.nit_screen.proofs.Basics.{Agrees, All-changed, All-filter, All-head, All-nil, All-put, All-tail, All-weaker, All_found, AreBelowNext, Call, Configuration, Delivery, Entry, Event, HaveOwnNames, IsLegal, IsNewlyNamed, IsPutIn, IsSpared, Item, LegalFrom, Reply, Session, State, Status, Take, View, accepted, after, by_life, by_refusal, by_status, delivered, first_session, first_state, is_accepted, is_view, list_any, new_view, or_from, put_again, receive, refusal, replay, replay_from, route, session, session_in, taking, unless, without, ◌orelse◌}
-use Rattle.std.proofs.Common.{All, Bool, List, None, Option, Some, [], ap, arith, false, find, get_or, get_or-set_same, length, nat_lt, not, refl, set, subst, suc, sym, true, zero, ℕ, ◌++◌, ◌+◌, ◌<◌, ◌∙◌, ◌∷◌, ◌≡◌, ◌≤◌, if◌then◌else◌}
+use Rattle.nit_screen.proofs.Basics.{Agrees, All-changed, All-filter, All-head, All-nil, All-put}
+use Rattle.nit_screen.proofs.Basics.{All-tail, All-weaker, All_found, AreBelowNext, Call}
+use Rattle.nit_screen.proofs.Basics.{Configuration, Delivery, Entry, Event, HaveOwnNames, IsLegal}
+use Rattle.nit_screen.proofs.Basics.{IsNewlyNamed, IsPutIn, IsSpared, Item, LegalFrom, Reply}
+use Rattle.nit_screen.proofs.Basics.{Session, State, Status, Take, View, accepted, after, by_life}
+use Rattle.nit_screen.proofs.Basics.{by_refusal, by_status, delivered, first_session, first_state}
+use Rattle.nit_screen.proofs.Basics.{is_accepted, is_view, list_any, new_view, or_from, put_again}
+use Rattle.nit_screen.proofs.Basics.{receive, refusal, replay, replay_from, route, session}
+use Rattle.nit_screen.proofs.Basics.{session_in, taking, unless, without, ◌orelse◌}
+use Rattle.std.proofs.Common.{All, Bool, List, None, Option, Some, [], ap, arith, false, find}
+use Rattle.std.proofs.Common.{get_or, get_or-set_same, length, nat_lt, not, refl, set, subst, suc}
+use Rattle.std.proofs.Common.{sym, true, zero, ℕ, ◌++◌, ◌+◌, ◌<◌, ◌∙◌, ◌∷◌, ◌≡◌, ◌≤◌, if◌then◌else◌}
 use Rattle.nit_journal.specs.Session.{serve}
 use Rattle.nit_events.specs.declared.event.Item.TheVariants as item
 use Rattle.nit_events.specs.declared.event.Status.TheVariants as status
@@ -22,7 +32,8 @@ accepted_counts t View = omega arith
 accepted_counts t Take = let same = taking_keeps_next t.queue t in omega arith
 accepted_counts t other = omega arith
 
-counts_unless_refused : (t : Session) (call : Call) (refused : Option Reply) → t.next ≤ (by_refusal t call refused).session.next
+counts_unless_refused : (t : Session) (call : Call) (refused : Option Reply)
+    → t.next ≤ (by_refusal t call refused).session.next
 counts_unless_refused t call (Some r) = omega arith
 counts_unless_refused t call None = accepted_counts t call
 
@@ -30,7 +41,8 @@ serve_counts : (t : Session) (call : Call) → t.next ≤ (serve t call).session
 unfolding serve
 serve_counts t call = counts_unless_refused t call (refusal t call)
 
-queued_keeps_next : (room : Bool) (e : Event) (t : Session) → (if room then record t { queue = t.queue ++ e ∷ [] } else record t { lost = t.lost + 1 }).next ≡ t.next
+queued_keeps_next : (room : Bool) (e : Event) (t : Session)
+    → (if room then record t { queue = t.queue ++ e ∷ [] } else record t { lost = t.lost + 1 }).next ≡ t.next
 queued_keeps_next true e t = refl
 queued_keeps_next false e t = refl
 
@@ -45,7 +57,8 @@ receive_keeps_next t i = by_life_keeps_next t.status i t
 -- ---- the handle that is answered
 
 -- a refusal is no acceptance
-pub either_refuses : (o q : Option Reply) → IsSpared is_accepted o → IsSpared is_accepted q → IsSpared is_accepted (o orelse q)
+pub either_refuses : (o q : Option Reply) → IsSpared is_accepted o → IsSpared is_accepted q
+    → IsSpared is_accepted (o orelse q)
 either_refuses None q a b = b
 either_refuses (Some r) q a b = a
 
@@ -61,45 +74,55 @@ status_refuses status.Killed = refl
 view_refuses : (t : Session) → IsSpared is_accepted (refusal t View)
 view_refuses t =
     either_refuses (by_status t.status) _ (status_refuses t.status)
-    (either_refuses (unless (nat_lt (length t.handles) 64) reply.TooManyViews) _ (unless_refuses (nat_lt (length t.handles) 64) reply.TooManyViews refl)
+    (either_refuses (unless (nat_lt (length t.handles) 64) reply.TooManyViews) _
+    (unless_refuses (nat_lt (length t.handles) 64) reply.TooManyViews refl)
     (unless_refuses _ _ refl))
 
-answers_next : (t : Session) (h : ℕ) (refused : Option Reply) → IsSpared is_accepted refused → (by_refusal t View refused).reply ≡ reply.Handle h
+answers_next : (t : Session) (h : ℕ) (refused : Option Reply) → IsSpared is_accepted refused
+    → (by_refusal t View refused).reply ≡ reply.Handle h
     → (h ≡ t.next) × ((by_refusal t View refused).session.next ≡ t.next + 1)
 answers_next t h None spared e = (cc, refl)
 answers_next t h (Some r) spared e = let accepted_too : is_accepted r ≡ true = ap is_accepted e in cc
 
 -- the new handle is the next one, and the next one counts up
-new_handle : (t : Session) (h : ℕ) → (serve t View).reply ≡ reply.Handle h → (h ≡ t.next) × ((serve t View).session.next ≡ t.next + 1)
+new_handle : (t : Session) (h : ℕ) → (serve t View).reply ≡ reply.Handle h
+    → (h ≡ t.next) × ((serve t View).session.next ≡ t.next + 1)
 unfolding serve
 new_handle t h e = answers_next t h (refusal t View) (view_refuses t) e
 
 -- ---- all sessions
 
 -- a larger number in one place of a list
-grows_at : {A : Type 0} (f : A → ℕ) (xs : List A) (i : ℕ) (y d : A) → f (get_or xs i d) ≤ f y → (j : ℕ) → f (get_or xs j d) ≤ f (get_or (set xs i y) j d)
+grows_at : {A : Type 0} (f : A → ℕ) (xs : List A) (i : ℕ) (y d : A) → f (get_or xs i d) ≤ f y → (j : ℕ)
+    → f (get_or xs j d) ≤ f (get_or (set xs i y) j d)
 grows_at f [] i y d h j = omega arith
 grows_at f (x ∷ xs) zero y d h zero = h
 grows_at f (x ∷ xs) zero y d h (suc j) = omega arith
 grows_at f (x ∷ xs) (suc i) y d h zero = omega arith
 grows_at f (x ∷ xs) (suc i) y d h (suc j) = grows_at f xs i y d h j
 
-pub delivered_keeps_next : (ds : List Delivery) (sessions : List Session) (t : ℕ) → (session_in (delivered ds sessions) t).next ≡ (session_in sessions t).next
+pub delivered_keeps_next : (ds : List Delivery) (sessions : List Session) (t : ℕ)
+    → (session_in (delivered ds sessions) t).next ≡ (session_in sessions t).next
 delivered_keeps_next [] sessions t = refl
 delivered_keeps_next (d ∷ ds) sessions t =
     delivered_keeps_next ds (set sessions d.sid (receive (session_in sessions d.sid) d.item)) t
-    ∙ alike_at (λ (u : Session). u.next) sessions d.sid (receive (session_in sessions d.sid) d.item) (receive_keeps_next (session_in sessions d.sid) d.item) t
+    ∙ alike_at (λ (u : Session). u.next) sessions d.sid (receive (session_in sessions d.sid) d.item)
+    (receive_keeps_next (session_in sessions d.sid) d.item) t
 
 counts_up : (s : State) (e : Entry) (t : ℕ) → (session s t).next ≤ (session (after s e) t).next
-counts_up s (entry.Call sid call r) t = grows_at (λ (u : Session). u.next) s.sessions sid (serve (session s sid) call).session (first_session 0) (serve_counts (session s sid) call) t
-counts_up s (entry.Input dev routed) t = let same = delivered_keeps_next (route s.config s.input s.stack dev).deliveries s.sessions t in omega arith
+counts_up s (entry.Call sid call r) t =
+    grows_at (λ (u : Session). u.next) s.sessions sid (serve (session s sid) call).session (first_session 0)
+    (serve_counts (session s sid) call) t
+counts_up s (entry.Input dev routed) t = let same =
+    delivered_keeps_next (route s.config s.input s.stack dev).deliveries s.sessions t in omega arith
 counts_up s (entry.Shot number) t = omega arith
 counts_up s entry.Final t = omega arith
 
 -- ---- new names
 
 -- a view whose handle is below a bound at its session has no name from there on
-none_named : (bound : ℕ → ℕ) (sid h : ℕ) (views : List ViewOf) → h ≡ bound sid → All (λ v. v.handle < bound v.sid) views → list_any (is_view sid h) views ≡ false
+none_named : (bound : ℕ → ℕ) (sid h : ℕ) (views : List ViewOf) → h ≡ bound sid → All (λ v. v.handle < bound v.sid) views
+    → list_any (is_view sid h) views ≡ false
 none_named bound sid h [] at all = refl
 none_named bound sid h (v ∷ views) at all =
     or_from (is_view sid h v) (list_any (is_view sid h) views) (go (is_view sid h v) refl)
@@ -136,29 +159,40 @@ below_is_kept s = record {
     renamed : (change : ViewOf → ViewOf) → KeepsName change → (v : ViewOf) → IsBelow s v → IsBelow s (change v)
     renamed change same v below = let name = same v in rw (name.0, name.1) below
 
-    go : (sid v : ℕ) (put : ViewOf → List ViewOf → List ViewOf) → ((x : ViewOf) (xs : List ViewOf) → IsPutIn x xs (put x xs)) → (xs : List ViewOf) → All (IsBelow s) xs
-        → (o : Option ViewOf) → find (is_view sid v) xs ≡ o → All (IsBelow s) (put_again put (without (is_view sid v) xs) xs o)
+    go : (sid v : ℕ) (put : ViewOf → List ViewOf → List ViewOf)
+        → ((x : ViewOf) (xs : List ViewOf) → IsPutIn x xs (put x xs)) → (xs : List ViewOf) → All (IsBelow s) xs
+        → (o : Option ViewOf) → find (is_view sid v) xs ≡ o
+        → All (IsBelow s) (put_again put (without (is_view sid v) xs) xs o)
     go sid v put puts xs all None found = all
     go sid v put puts xs all (Some a) found =
         let others = without (is_view sid v) xs in
-        All-put (IsBelow s) a others (put a others) (puts a others) (All_found (IsBelow s) (is_view sid v) xs a all found) (All-filter (λ x. not (is_view sid v x)) (IsBelow s) xs all)
+        All-put (IsBelow s) a others (put a others) (puts a others)
+        (All_found (IsBelow s) (is_view sid v) xs a all found)
+        (All-filter (λ x. not (is_view sid v x)) (IsBelow s) xs all)
 
-below_takes_new : (s : State) (taken : ℕ) (e : Entry) → Agrees s taken e → All (IsBelow (after s e)) s.stack → TakesNew (All (IsBelow (after s e))) e s.stack
+below_takes_new : (s : State) (taken : ℕ) (e : Entry) → Agrees s taken e → All (IsBelow (after s e)) s.stack
+    → TakesNew (All (IsBelow (after s e))) e s.stack
 below_takes_new s taken (entry.Call sid View (reply.Handle h)) agrees all =
-    λ xs puts. All-put (IsBelow (after s (entry.Call sid View (reply.Handle h)))) (new_view sid h) s.stack xs puts here all
+    λ xs puts. All-put (IsBelow (after s (entry.Call sid View (reply.Handle h)))) (new_view sid h) s.stack xs puts here
+    all
   where
     here : h < (session (after s (entry.Call sid View (reply.Handle h))) sid).next
     here =
         let new = new_handle (session s sid) h (sym agrees.1) in
-        let its : session (after s (entry.Call sid View (reply.Handle h))) sid ≡ (serve (session s sid) View).session = get_or-set_same s.sessions sid (serve (session s sid) View).session (first_session 0) agrees.0 in
-        let counted : (session (after s (entry.Call sid View (reply.Handle h))) sid).next ≡ (session s sid).next + 1 = ap (λ (u : Session). u.next) its ∙ new.1 in
+        let its : session (after s (entry.Call sid View (reply.Handle h))) sid ≡ (serve (session s sid) View).session =
+        get_or-set_same s.sessions sid (serve (session s sid) View).session (first_session 0) agrees.0 in
+        let counted : (session (after s (entry.Call sid View (reply.Handle h))) sid).next ≡ (session s sid).next + 1 =
+        ap (λ (u : Session). u.next) its ∙ new.1 in
         omega (arith, counted, new.0)
 below_takes_new s taken other agrees all = tt
 
 pub keeps_below : (s : State) (taken : ℕ) (e : Entry) → AreBelowNext s → Agrees s taken e → AreBelowNext (after s e)
 keeps_below s taken e below agrees =
-    let still : All (IsBelow (after s e)) s.stack = All-weaker (IsBelow s) (IsBelow (after s e)) (λ v lt. let up = counts_up s e v.sid in omega arith) s.stack below in
-    entry_keeps (All (IsBelow (after s e))) (below_is_kept (after s e)) s e (below_takes_new s taken e agrees still) still
+    let still : All (IsBelow (after s e)) s.stack =
+    All-weaker (IsBelow s) (IsBelow (after s e)) (λ v lt. let up = counts_up s e v.sid in omega arith) s.stack
+    below in
+    entry_keeps (All (IsBelow (after s e))) (below_is_kept (after s e)) s e (below_takes_new s taken e agrees still)
+    still
 
 -- ---- a whole journal
 
@@ -166,14 +200,23 @@ abbrev AreNamed : State → Type 0
 AreNamed s = HaveOwnNames s.stack × AreBelowNext s
 
 named_after : (s : State) (taken : ℕ) (e : Entry) → AreNamed s → Agrees s taken e → AreNamed (after s e)
-named_after s taken e named agrees = (keeps_own s e named.0 (names_anew s taken e named.1 agrees), keeps_below s taken e named.1 agrees)
+named_after s taken e named agrees =
+    (keeps_own s e named.0 (names_anew s taken e named.1 agrees), keeps_below s taken e named.1 agrees)
 
-replayed : (s : State) (taken : ℕ) (journal : List Entry) → LegalFrom s taken journal → AreNamed s → AreNamed (replay_from s journal)
+replayed : (s : State) (taken : ℕ) (journal : List Entry) → LegalFrom s taken journal → AreNamed s
+    → AreNamed (replay_from s journal)
 replayed s taken [] legal named = named
-replayed s taken (entry.Call sid call r ∷ rest) legal named = replayed (after s (entry.Call sid call r)) taken rest legal.1 (named_after s taken (entry.Call sid call r) named legal.0)
-replayed s taken (entry.Input dev routed ∷ rest) legal named = replayed (after s (entry.Input dev routed)) taken rest legal.1 (named_after s taken (entry.Input dev routed) named legal.0)
+replayed s taken (entry.Call sid call r ∷ rest) legal named =
+    replayed (after s (entry.Call sid call r)) taken rest legal.1
+    (named_after s taken (entry.Call sid call r) named legal.0)
+replayed s taken (entry.Input dev routed ∷ rest) legal named =
+    replayed (after s (entry.Input dev routed)) taken rest legal.1
+    (named_after s taken (entry.Input dev routed) named legal.0)
 replayed s taken (entry.Shot number ∷ rest) legal named = replayed s (taken + 1) rest legal.1 named
-replayed s taken (entry.Final ∷ rest) legal named = subst (λ (js : List Entry). AreNamed (replay_from s js)) (sym legal) named
+replayed s taken (entry.Final ∷ rest) legal named =
+    subst (λ (js : List Entry). AreNamed (replay_from s js)) (sym legal) named
 
-pub named_throughout : (config : Configuration) (journal : List Entry) → IsLegal config journal → HaveOwnNames (replay config journal).stack × AreBelowNext (replay config journal)
-named_throughout config journal legal = replayed (first_state config) 0 journal legal (tt, All-nil (IsBelow (first_state config)))
+pub named_throughout : (config : Configuration) (journal : List Entry) → IsLegal config journal
+    → HaveOwnNames (replay config journal).stack × AreBelowNext (replay config journal)
+named_throughout config journal legal =
+    replayed (first_state config) 0 journal legal (tt, All-nil (IsBelow (first_state config)))

@@ -1,6 +1,17 @@
 -- What a device event does to a screen.
-use Rattle.nit_screen.proofs.Basics.{All-head, Configuration, Delivery, Device, InputState, IsForgottenIfKilled, IsGlass, IsKillAlone, IsLive, Item, Painted, Point, Repainted, Routed, Routing, ServerModel, Session, Sight, State, Status, after, after_deliveries, after_delivery, by_life, delivered, deliveries_of, dirty, ended, false_from_ne_true, forget, forgotten_again, glass_in, is_kill, is_killed, killed_by, killed_in, kills, list_any, or_parts, pixel, pixel_count, receive, repainted_same, route, routed_as, routing_of, seen, session_in, session_owns, source_at, state_of, views_closed, views_of, with_delivered, with_ended, with_routed}
-use Rattle.std.proofs.Common.{All, Bool, List, None, Option, Some, [], ap, false, length, refl, set, subst, sym, true, ℕ, ◌<◌, ◌||◌, ◌∙◌, ◌∷◌, ◌≡◌}
+use Rattle.nit_screen.proofs.Basics.{All-head, Configuration, Delivery, Device, InputState}
+use Rattle.nit_screen.proofs.Basics.{IsForgottenIfKilled, IsGlass, IsKillAlone, IsLive, Item}
+use Rattle.nit_screen.proofs.Basics.{Painted, Point, Repainted, Routed, Routing, ServerModel}
+use Rattle.nit_screen.proofs.Basics.{Session, Sight, State, Status, after, after_deliveries}
+use Rattle.nit_screen.proofs.Basics.{after_delivery, by_life, delivered, deliveries_of, dirty}
+use Rattle.nit_screen.proofs.Basics.{ended, false_from_ne_true, forget, forgotten_again, glass_in}
+use Rattle.nit_screen.proofs.Basics.{is_kill, is_killed, killed_by, killed_in, kills, list_any}
+use Rattle.nit_screen.proofs.Basics.{or_parts, pixel, pixel_count, receive, repainted_same, route}
+use Rattle.nit_screen.proofs.Basics.{routed_as, routing_of, seen, session_in, session_owns}
+use Rattle.nit_screen.proofs.Basics.{source_at, state_of, views_closed, views_of, with_delivered}
+use Rattle.nit_screen.proofs.Basics.{with_ended, with_routed}
+use Rattle.std.proofs.Common.{All, Bool, List, None, Option, Some, [], ap, false, length, refl, set}
+use Rattle.std.proofs.Common.{subst, sym, true, ℕ, ◌<◌, ◌||◌, ◌∙◌, ◌∷◌, ◌≡◌}
 use Rattle.nit_events.specs.declared.event.Item.TheVariants as item
 use Rattle.nit_events.specs.declared.event.Status.TheVariants as status
 use Rattle.nit_events.specs.declared.entry.Entry.TheVariants as entry
@@ -29,7 +40,8 @@ is_telling item.Kill t e = cc
 is_telling (item.Event x) t e = refl
 
 -- it is the only delivery
-pub killed_alone : (ds : List Delivery) (sid : ℕ) → IsKillAlone ds → killed_in (routed_as ds).a ≡ Some sid → ds ≡ kill_of sid ∷ []
+pub killed_alone : (ds : List Delivery) (sid : ℕ) → IsKillAlone ds → killed_in (routed_as ds).a ≡ Some sid
+    → ds ≡ kill_of sid ∷ []
 killed_alone [] sid alone e = cc
 killed_alone (d ∷ []) sid alone e = ap (λ (x : Delivery). x ∷ []) (first_kills d sid e)
 killed_alone (d ∷ f ∷ []) sid alone e =
@@ -44,14 +56,18 @@ none_killed (d ∷ f ∷ ds) alone e = false_from_ne_true (kills (d ∷ f ∷ ds
 
 -- what a law on kills says
 abbrev pub KillsStandAlone : Type 0
-KillsStandAlone = (config : Configuration) (i : InputState) (stack : List View) (dev : Device) → IsKillAlone (route config i stack dev).deliveries
+KillsStandAlone = (config : Configuration) (i : InputState) (stack : List View) (dev : Device)
+    → IsKillAlone (route config i stack dev).deliveries
 
-module _ (law : KillsStandAlone) (s : ServerModel) (dev : Device) (routed : Routed) (is : routed ≡ routed_as (routing_of s dev).deliveries) (o : Option ℕ) (found : o ≡ killed_in routed.a) where
+module _ (law : KillsStandAlone) (s : ServerModel) (dev : Device) (routed : Routed)
+    (is : routed ≡ routed_as (routing_of s dev).deliveries) (o : Option ℕ) (found : o ≡ killed_in routed.a) where
   pub kill_alone : (sid : ℕ) → o ≡ Some sid → (routing_of s dev).deliveries ≡ kill_of sid ∷ []
-  kill_alone sid e = killed_alone (routing_of s dev).deliveries sid (law s.config s.input (views_of s.stack.views) dev) (ap (λ (r : Routed). killed_in r.a) (sym is) ∙ sym found ∙ e)
+  kill_alone sid e = killed_alone (routing_of s dev).deliveries sid (law s.config s.input (views_of s.stack.views) dev)
+      (ap (λ (r : Routed). killed_in r.a) (sym is) ∙ sym found ∙ e)
 
   pub no_kill : o ≡ None → kills (routing_of s dev).deliveries ≡ false
-  no_kill e = none_killed (routing_of s dev).deliveries (law s.config s.input (views_of s.stack.views) dev) (ap (λ (r : Routed). killed_in r.a) (sym is) ∙ sym found ∙ e)
+  no_kill e = none_killed (routing_of s dev).deliveries (law s.config s.input (views_of s.stack.views) dev)
+      (ap (λ (r : Routed). killed_in r.a) (sym is) ∙ sym found ∙ e)
 
 -- ---- nobody is killed
 
@@ -66,7 +82,8 @@ kept_stack (d ∷ ds) stack e = kept_stack ds (after_delivery d stack) parts.1 �
     one sid (item.Event x) f = refl
     one sid item.Kill f = cc
 
-pub told_state : (s : ServerModel) (dev : Device) (routed : Routed) → deliveries_of routed ≡ (routing_of s dev).deliveries → kills (deliveries_of routed) ≡ false
+pub told_state : (s : ServerModel) (dev : Device) (routed : Routed)
+    → deliveries_of routed ≡ (routing_of s dev).deliveries → kills (deliveries_of routed) ≡ false
     → state_of (with_delivered (deliveries_of routed) (with_routed dev s)) ≡ after (state_of s) (entry.Input dev routed)
 told_state s dev routed all none =
     let r : Routing = routing_of s dev in
@@ -77,9 +94,11 @@ told_state s dev routed all none =
       input = r.state;
     }
 
-none_dirty : (s : State) (p : Point) (ds : List Delivery) → kills ds ≡ false → list_any (λ d. is_killed s p d.sid d.item) ds ≡ false
+none_dirty : (s : State) (p : Point) (ds : List Delivery) → kills ds ≡ false
+    → list_any (λ d. is_killed s p d.sid d.item) ds ≡ false
 none_dirty s p [] e = refl
-none_dirty s p (d ∷ ds) e = ap (λ (b : Bool). b || list_any (λ d. is_killed s p d.sid d.item) ds) (one d.item parts.0) ∙ none_dirty s p ds parts.1
+none_dirty s p (d ∷ ds) e = ap (λ (b : Bool). b || list_any (λ d. is_killed s p d.sid d.item) ds) (one d.item parts.0)
+    ∙ none_dirty s p ds parts.1
   where
     parts : (is_kill d.item ≡ false) × (kills ds ≡ false)
     parts = or_parts (is_kill d.item) (kills ds) e
@@ -88,23 +107,33 @@ none_dirty s p (d ∷ ds) e = ap (λ (b : Bool). b || list_any (λ d. is_killed 
     one (item.Event x) f = refl
     one item.Kill f = cc
 
-pub told_paints_nothing : (s s' : State) (dev : Device) (routed : Routed) (glasses : ℕ → Sight) (raw : List ℕ) → kills (deliveries_of routed) ≡ false → Painted s (entry.Input dev routed) s' glasses glasses raw raw
-told_paints_nothing s s' dev routed glasses raw none = unpainted s (entry.Input dev routed) s' glasses raw (λ p. none_dirty s p (deliveries_of routed) none)
+pub told_paints_nothing : (s s' : State) (dev : Device) (routed : Routed) (glasses : ℕ → Sight) (raw : List ℕ)
+    → kills (deliveries_of routed) ≡ false → Painted s (entry.Input dev routed) s' glasses glasses raw raw
+told_paints_nothing s s' dev routed glasses raw none =
+    unpainted s (entry.Input dev routed) s' glasses raw (λ p. none_dirty s p (deliveries_of routed) none)
 
 -- ---- a session is killed
 
 killed_machine : (u : Session) → u.status ≡ status.Live → receive u item.Kill ≡ ended status.Killed u
 killed_machine u live = ap (λ (st : Status). by_life st item.Kill u) live
 
-forgotten_one : (i : InputState) (sid : ℕ) (ds : List Delivery) → ds ≡ kill_of sid ∷ [] → All (λ d. IsForgottenIfKilled i d.sid d.item) ds → forget i sid ≡ i
+forgotten_one : (i : InputState) (sid : ℕ) (ds : List Delivery) → ds ≡ kill_of sid ∷ []
+    → All (λ d. IsForgottenIfKilled i d.sid d.item) ds → forget i sid ≡ i
 forgotten_one i sid ds alone h =
-    forgotten_again i sid (All-head (λ d. IsForgottenIfKilled i d.sid d.item) (kill_of sid) [] (subst (λ (es : List Delivery). All (λ d. IsForgottenIfKilled i d.sid d.item) es) alone h))
+    forgotten_again i sid (All-head (λ d. IsForgottenIfKilled i d.sid d.item) (kill_of sid) []
+    (subst (λ (es : List Delivery). All (λ d. IsForgottenIfKilled i d.sid d.item) es) alone h))
 
-pub kill_is_live : (s : ServerModel) (sid : ℕ) (ds : List Delivery) → ds ≡ kill_of sid ∷ [] → All (λ d. IsLive (state_of s) d.sid) ds → IsLive (state_of s) sid
-kill_is_live s sid ds alone live = All-head (λ d. IsLive (state_of s) d.sid) (kill_of sid) [] (subst (λ (es : List Delivery). All (λ d. IsLive (state_of s) d.sid) es) alone live)
+pub kill_is_live : (s : ServerModel) (sid : ℕ) (ds : List Delivery) → ds ≡ kill_of sid ∷ []
+    → All (λ d. IsLive (state_of s) d.sid) ds → IsLive (state_of s) sid
+kill_is_live s sid ds alone live =
+    All-head (λ d. IsLive (state_of s) d.sid) (kill_of sid) []
+    (subst (λ (es : List Delivery). All (λ d. IsLive (state_of s) d.sid) es) alone live)
 
-pub killed_state : (s mid s' : ServerModel) (dev : Device) (routed : Routed) (sid : ℕ) → mid ≡ with_routed dev s → s' ≡ with_ended sid status.Killed mid → deliveries_of routed ≡ (routing_of s dev).deliveries
-    → (routing_of s dev).deliveries ≡ kill_of sid ∷ [] → All (λ d. IsLive (state_of s) d.sid) (routing_of s dev).deliveries → All (λ d. IsForgottenIfKilled mid.input d.sid d.item) (deliveries_of routed)
+pub killed_state : (s mid s' : ServerModel) (dev : Device) (routed : Routed) (sid : ℕ) → mid ≡ with_routed dev s
+    → s' ≡ with_ended sid status.Killed mid → deliveries_of routed ≡ (routing_of s dev).deliveries
+    → (routing_of s dev).deliveries ≡ kill_of sid ∷ []
+    → All (λ d. IsLive (state_of s) d.sid) (routing_of s dev).deliveries
+    → All (λ d. IsForgottenIfKilled mid.input d.sid d.item) (deliveries_of routed)
     → state_of s' ≡ after (state_of s) (entry.Input dev routed)
 killed_state s mid s' dev routed sid first second all alone live forgotten =
     let r : Routing = routing_of s dev in
@@ -115,28 +144,45 @@ killed_state s mid s' dev routed sid first second all alone live forgotten =
       config = s.config;
       sessions = set s.sessions sid (sym (killed_machine (session_in s.sessions sid) lives.1) i);
       stack = views_closed sid s.stack.views i;
-      input = forgotten_one r.state sid (deliveries_of routed) (all ∙ alone) (subst (λ (z : ServerModel). All (λ d. IsForgottenIfKilled z.input d.sid d.item) (deliveries_of routed)) first forgotten) i;
+      input = forgotten_one r.state sid (deliveries_of routed) (all ∙ alone)
+          (subst (λ (z : ServerModel). All (λ d. IsForgottenIfKilled z.input d.sid d.item) (deliveries_of routed)) first
+          forgotten) i;
     })
-    ∙ (λ i. record { config = s.config; sessions = delivered (sym alone i) s.sessions; stack = after_deliveries (sym alone i) (views_of s.stack.views); input = r.state })
+    ∙ (λ i. record {
+      config = s.config;
+      sessions = delivered (sym alone i) s.sessions;
+      stack =
+          after_deliveries (sym alone i) (views_of s.stack.views);
+      input = r.state;
+    })
 
 -- they are those that the entry makes dirty
-pub killed_painted : (s mid s' : ServerModel) (dev : Device) (routed : Routed) (sid : ℕ) (glasses glasses' : ℕ → Sight) (raw raw' : List ℕ) → mid ≡ with_routed dev s → deliveries_of routed ≡ kill_of sid ∷ []
-    → Repainted (source_at (state_of s')) (λ k. session_owns sid (state_of mid) (pixel mid.config.width k)) (pixel_count (state_of mid)) glasses glasses' raw raw'
+pub killed_painted : (s mid s' : ServerModel) (dev : Device) (routed : Routed) (sid : ℕ) (glasses glasses' : ℕ → Sight)
+    (raw raw' : List ℕ) → mid ≡ with_routed dev s → deliveries_of routed ≡ kill_of sid ∷ []
+    → Repainted (source_at (state_of s')) (λ k. session_owns sid (state_of mid) (pixel mid.config.width k))
+    (pixel_count (state_of mid)) glasses glasses' raw raw'
     → Painted (state_of s) (entry.Input dev routed) (state_of s') glasses glasses' raw raw'
 killed_painted s mid s' dev routed sid glasses glasses' raw raw' first alone painted =
-    repainted_same _ _ _ _ (pixel_count (state_of s)) glasses glasses glasses' glasses' raw raw' (λ k l. is_dirty (pixel s.config.width k)) (λ k l m. refl) (λ t. refl) (λ t. refl)
-    (subst (λ (z : ServerModel). Repainted (source_at (state_of s')) (λ k. session_owns sid (state_of z) (pixel z.config.width k)) (pixel_count (state_of z)) glasses glasses' raw raw') first painted)
+    repainted_same _ _ _ _ (pixel_count (state_of s)) glasses glasses glasses' glasses' raw raw'
+    (λ k l. is_dirty (pixel s.config.width k)) (λ k l m. refl) (λ t. refl) (λ t. refl)
+    (subst (λ (z : ServerModel). Repainted (source_at (state_of s'))
+    (λ k. session_owns sid (state_of z) (pixel z.config.width k)) (pixel_count (state_of z)) glasses glasses' raw
+    raw') first painted)
   where
     one : (b : Bool) → b ≡ (b || false)
     one true = refl
     one false = refl
 
-    is_dirty : (p : Point) → session_owns sid (state_of s) p ≡ dirty (state_of s) (entry.Input dev routed) (state_of s') p
-    is_dirty p = one (session_owns sid (state_of s) p) ∙ ap (list_any (λ (d : Delivery). is_killed (state_of s) p d.sid d.item)) (sym alone)
+    is_dirty : (p : Point) → session_owns sid (state_of s) p ≡ dirty (state_of s) (entry.Input dev routed) (state_of s')
+        p
+    is_dirty p = one (session_owns sid (state_of s) p)
+        ∙ ap (list_any (λ (d : Delivery). is_killed (state_of s) p d.sid d.item)) (sym alone)
 
 -- loads leave the owners and sizes of the scene's glasses
-pub glasses_kept : (config : Configuration) (sights sights' : List Sight) (loads : ℕ → List (ℕ × ℕ)) → ((t : ℕ) → glass_in sights' t ≡ seen (glass_in sights t) (loads t))
-    → ((t : ℕ) → t < length config.clients → IsGlass config t (glass_in sights t)) → (t : ℕ) → t < length config.clients → IsGlass config t (glass_in sights' t)
+pub glasses_kept : (config : Configuration) (sights sights' : List Sight) (loads : ℕ → List (ℕ × ℕ))
+    → ((t : ℕ) → glass_in sights' t ≡ seen (glass_in sights t) (loads t))
+    → ((t : ℕ) → t < length config.clients → IsGlass config t (glass_in sights t)) → (t : ℕ) → t < length config.clients
+    → IsGlass config t (glass_in sights' t)
 glasses_kept config sights sights' loads seen_ tables t l =
     let old = tables t l in
     (ap (λ (x : Sight). x.owner) (seen_ t) ∙ old.0, ap (λ (x : Sight). x.size) (seen_ t) ∙ old.1)

@@ -1,29 +1,43 @@
 -- Places of labels that are written one after the other, each at the slot of its view.
-use Rattle.nit_screen.proofs.Basics.{AreLabelled, IsLabelled, IsSlotView, IsStack, NoPair, Point, SlotView, StackModel, ViewRef, cases_lt, eq-eqb, false≢true, get_or_from_slice_get, label_place, label_place_of, label_scenery, label_text_of, length-set, list_any_at, picture_height, picture_width, pixel_at, same_slot, slice_get, slice_get-get_or, slice_get_within, slot_at, view_ref, views_of}
-use Rattle.std.proofs.Common.{All, List, Option, Some, [], ap, arith, inl, inr, length, map, option_map, refl, set, slice_index_or, subst, suc, sym, zero, ℕ, ◌+◌, ◌<◌, ◌∙◌, ◌∷◌, ◌≡◌, ◌≢◌, ◌≤◌}
+use Rattle.nit_screen.proofs.Basics.{AreLabelled, IsLabelled, IsSlotView, IsStack, NoPair, Point}
+use Rattle.nit_screen.proofs.Basics.{SlotView, StackModel, ViewRef, cases_lt, eq-eqb, false≢true}
+use Rattle.nit_screen.proofs.Basics.{get_or_from_slice_get, label_place, label_place_of}
+use Rattle.nit_screen.proofs.Basics.{label_scenery, label_text_of, length-set, list_any_at}
+use Rattle.nit_screen.proofs.Basics.{picture_height, picture_width, pixel_at, same_slot, slice_get}
+use Rattle.nit_screen.proofs.Basics.{slice_get-get_or, slice_get_within, slot_at, view_ref}
+use Rattle.nit_screen.proofs.Basics.{views_of}
+use Rattle.std.proofs.Common.{All, List, Option, Some, [], ap, arith, inl, inr, length, map}
+use Rattle.std.proofs.Common.{option_map, refl, set, slice_index_or, subst, suc, sym, zero, ℕ, ◌+◌}
+use Rattle.std.proofs.Common.{◌<◌, ◌∙◌, ◌∷◌, ◌≡◌, ◌≢◌, ◌≤◌}
 
 -- ---- views by their places in the stack
 
 -- what holds of each view holds of the one at a place
-pub holds_at : (P : SlotView → Type 0) (views : List SlotView) (i : ℕ) (s : SlotView) → All P views → slice_get views i ≡ Some s → P s
+pub holds_at : (P : SlotView → Type 0) (views : List SlotView) (i : ℕ) (s : SlotView) → All P views
+    → slice_get views i ≡ Some s → P s
 holds_at P views i s all at = subst P (get_or_from_slice_get views i s s at) (all i s (slice_get_within views i s at))
 
 -- two views at different places have different slots
-pub slots_differ : (views : List SlotView) (k i : ℕ) (s t : SlotView) → NoPair same_slot views → k < i → slice_get views k ≡ Some s → slice_get views i ≡ Some t → s.slot ≢ t.slot
+pub slots_differ : (views : List SlotView) (k i : ℕ) (s t : SlotView) → NoPair same_slot views → k < i
+    → slice_get views k ≡ Some s → slice_get views i ≡ Some t → s.slot ≢ t.slot
 slots_differ [] k i s t apart lt at_k at_i same = cc
 slots_differ (a ∷ views) k zero s t apart lt at_k at_i same = absurd (omega arith)
 slots_differ (a ∷ views) zero (suc i) s t apart lt at_k at_i same =
     let first : a ≡ s = cc in
     let here = get_or_from_slice_get views i t t at_i in
-    let equal = eq-eqb _ _ (ap (λ (x : SlotView). x.slot) here ∙ sym same ∙ ap (λ (x : SlotView). x.slot) (sym first)) in
+    let equal = eq-eqb _ _ (ap (λ (x : SlotView). x.slot) here ∙ sym same
+    ∙ ap (λ (x : SlotView). x.slot) (sym first)) in
     false≢true (sym apart.0 ∙ list_any_at (same_slot a) views i t (slice_get_within views i t at_i) equal)
-slots_differ (a ∷ views) (suc k) (suc i) s t apart lt at_k at_i same = slots_differ views k i s t apart.1 (omega arith) at_k at_i same
+slots_differ (a ∷ views) (suc k) (suc i) s t apart lt at_k at_i same =
+    slots_differ views k i s t apart.1 (omega arith) at_k at_i same
 
 -- the slot of a view is one of the stack's
-pub slot_within : (stack : StackModel) (i : ℕ) (v : ViewRef) → IsStack stack → slice_get (map view_ref stack.views) i ≡ Some v → v.0 < stack.most
+pub slot_within : (stack : StackModel) (i : ℕ) (v : ViewRef) → IsStack stack → slice_get (map view_ref stack.views) i
+    ≡ Some v → v.0 < stack.most
 slot_within stack i v standing at =
     let seat = slot_at stack.views i v at in
-    subst (λ (m : ℕ). m < stack.most) seat.2 (holds_at (IsSlotView stack.most (length stack.sizes)) stack.views i seat.0 standing.seats seat.1).slot
+    subst (λ (m : ℕ). m < stack.most) seat.2
+    (holds_at (IsSlotView stack.most (length stack.sizes)) stack.views i seat.0 standing.seats seat.1).slot
 
 -- ---- a value written at a place
 
@@ -42,30 +56,40 @@ written_elsewhere (x ∷ xs) (suc i) (suc j) a other = written_elsewhere xs i j 
 -- ---- one label
 
 -- the place of a label of this size is the one of the view's own label
-pub own_label : (stack : StackModel) (labels : List (List ℕ)) (a s : SlotView) (label text : List ℕ) (n : ℕ) (size : ℕ × ℕ) (o : Option Point) → Some a ≡ Some s
-    → label ≡ slice_index_or labels a.view.sid [] → text ≡ label_text_of label a.view.title → n ≡ length text → size ≡ (picture_width n, picture_height)
-    → o ≡ option_map pixel_at (label_place stack.width stack.height stack.bar (views_of stack.views) a.view size.0 size.1) → o ≡ option_map pixel_at (label_place_of (label_scenery stack labels) s.view)
+pub own_label : (stack : StackModel) (labels : List (List ℕ)) (a s : SlotView) (label text : List ℕ) (n : ℕ) (size : ℕ
+    × ℕ) (o : Option Point) → Some a ≡ Some s
+    → label ≡ slice_index_or labels a.view.sid [] → text ≡ label_text_of label a.view.title → n ≡ length text
+    → size ≡ (picture_width n, picture_height)
+    → o ≡ option_map pixel_at (label_place stack.width stack.height stack.bar (views_of stack.views) a.view size.0
+    size.1) → o ≡ option_map pixel_at (label_place_of (label_scenery stack labels) s.view)
 own_label stack labels a s label text n size o same label_ text_ n_ size_ o_ =
     let one : a ≡ s = cc in
-    o_ ∙ subst (λ (x : SlotView). option_map pixel_at (label_place stack.width stack.height stack.bar (views_of stack.views) a.view size.0 size.1) ≡ option_map pixel_at (label_place_of (label_scenery stack labels) x.view)) one
+    o_ ∙ subst (λ (x : SlotView). option_map pixel_at
+    (label_place stack.width stack.height stack.bar (views_of stack.views) a.view size.0 size.1)
+    ≡ option_map pixel_at (label_place_of (label_scenery stack labels) x.view)) one
     (rw (size_, n_, text_, label_) refl)
 
 -- ---- one place after the other
 
 -- the first n views have their labels' places, of so many places
-pub record LabelledSoFar (stack : StackModel) (labels : List (List ℕ)) (n room : ℕ) (places : List (Option Point)) : Type 0 where
+pub record LabelledSoFar (stack : StackModel) (labels : List (List ℕ)) (n room : ℕ)
+    (places : List (Option Point)) : Type 0 where
   pub count : length places ≡ room
   pub done : (k : ℕ) (s : SlotView) → k < n → slice_get stack.views k ≡ Some s → IsLabelled stack labels places s
 
-pub labelled_more : (stack : StackModel) (labels : List (List ℕ)) (n room : ℕ) (places : List (Option Point)) (v : ViewRef) (o : Option Point) → IsStack stack → stack.most ≤ room
-    → slice_get (map view_ref stack.views) n ≡ Some v → ((s : SlotView) → slice_get stack.views n ≡ Some s → o ≡ option_map pixel_at (label_place_of (label_scenery stack labels) s.view))
+pub labelled_more : (stack : StackModel) (labels : List (List ℕ)) (n room : ℕ) (places : List (Option Point))
+    (v : ViewRef) (o : Option Point) → IsStack stack → stack.most ≤ room
+    → slice_get (map view_ref stack.views) n ≡ Some v
+    → ((s : SlotView) → slice_get stack.views n ≡ Some s
+    → o ≡ option_map pixel_at (label_place_of (label_scenery stack labels) s.view))
     → LabelledSoFar stack labels n room places → LabelledSoFar stack labels (n + 1) room (set places v.0 o)
 labelled_more stack labels n room places v o standing slots at placed far =
     record {
       count = length-set places v.0 o ∙ far.count;
       done = λ k s lt at_k. elim (cases_lt k n) [
         | inl less ↦ written_elsewhere places v.0 s.slot o (other k s less at_k) ∙ far.done k s less at_k
-        | inr le ↦ let same : n ≡ k = omega arith in here s (subst (λ (m : ℕ). slice_get stack.views m ≡ Some s) (sym same) at_k)
+        | inr le ↦ let same : n ≡ k =
+            omega arith in here s (subst (λ (m : ℕ). slice_get stack.views m ≡ Some s) (sym same) at_k)
       ];
     }
   where
@@ -78,15 +102,18 @@ labelled_more stack labels n room places v o standing slots at placed far =
     other : (k : ℕ) (s : SlotView) → k < n → slice_get stack.views k ≡ Some s → s.slot ≢ v.0
     other k s less at_k e = slots_differ stack.views k n s seat.0 standing.slots less at_k seat.1 (e ∙ sym seat.2)
 
-    here : (s : SlotView) → slice_get stack.views n ≡ Some s → slice_get (set places v.0 o) s.slot ≡ Some (option_map pixel_at (label_place_of (label_scenery stack labels) s.view))
+    here : (s : SlotView) → slice_get stack.views n ≡ Some s → slice_get (set places v.0 o) s.slot
+        ≡ Some (option_map pixel_at (label_place_of (label_scenery stack labels) s.view))
     here s at_n =
         let both : Some seat.0 ≡ Some s = sym seat.1 ∙ at_n in
         let one : seat.0 ≡ s = cc in
         let slot : s.slot ≡ v.0 = sym (ap (λ (x : SlotView). x.slot) one) ∙ seat.2 in
-        subst (λ (m : ℕ). slice_get (set places v.0 o) m ≡ Some (option_map pixel_at (label_place_of (label_scenery stack labels) s.view))) (sym slot)
+        subst (λ (m : ℕ). slice_get (set places v.0 o) m
+        ≡ Some (option_map pixel_at (label_place_of (label_scenery stack labels) s.view))) (sym slot)
         (written_there places v.0 o within ∙ ap (λ (x : Option Point). Some x) (placed s at_n))
 
 -- all of them
-pub all_labelled : (stack : StackModel) (labels : List (List ℕ)) (n room : ℕ) (places : List (Option Point)) → length stack.views ≤ n → LabelledSoFar stack labels n room places → AreLabelled stack labels places
+pub all_labelled : (stack : StackModel) (labels : List (List ℕ)) (n room : ℕ) (places : List (Option Point))
+    → length stack.views ≤ n → LabelledSoFar stack labels n room places → AreLabelled stack labels places
 all_labelled stack labels n room places all far =
     λ k d lt. far.done k _ (omega arith) (slice_get-get_or stack.views k d lt)

@@ -1,8 +1,12 @@
 -- Which pixels a call means, told by slots: those before it and those after it make its dirty ones.
 use Rattle.std.proofs.Common.{Bool, None, Option, Some, ℕ, ◌≡◌}
-use Rattle.nit_screen.proofs.Basics.{Above, Back, Buffer, Call, Close, Destroy, Front, IsNamedBy, Offset, Place, Point, Rectangle, Refresh, ServerModel, StackModel, ViewRef, is_of_session, is_slot, is_word_in, owner_passes, rectangle, size_of, source_in}
+use Rattle.nit_screen.proofs.Basics.{Above, Back, Buffer, Call, Close, Destroy, Front, IsNamedBy}
+use Rattle.nit_screen.proofs.Basics.{Offset, Place, Point, Rectangle, Refresh, ServerModel}
+use Rattle.nit_screen.proofs.Basics.{StackModel, ViewRef, is_of_session, is_slot, is_word_in}
+use Rattle.nit_screen.proofs.Basics.{owner_passes, rectangle, size_of, source_in}
 
--- which pixels are meant: those that a view owns, those that views of a session own, those that show a word of this part of a session's buffer
+-- which pixels are meant: those that a view owns, those that views of a session own, those that show a word of this
+-- part of a session's buffer
 pub data Mark : Type 0 where
   OfView : ViewRef → Mark
   OfSession : ℕ → Mark

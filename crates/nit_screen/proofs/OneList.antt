@@ -1,37 +1,62 @@
 -- One list that is both the raw words and the frame: they differ in the first words, where the bar stands.
-use Rattle.nit_screen.proofs.Basics.{All-append, All-drop, All-replicate, AreRaw, Bare, Call, CanShow, Close, Configuration, Entry, Flat, IsAmongLoads, IsCopied, IsRawOf, IsServed, IsWord, IsWordOfSource, Kill, Mode, Painted, PixelSource, Point, Repainted, Reply, Scenery, ServerModel, ShowsBelow, Sight, State, Xray, bar_rows, bar_word, bare_word, buffer_size, covering, dirty, draws_labels, ext_get_or, false≢true, flat_same, flat_shown, frame, frame_fits, get_or-append_right, get_or-drop, get_or-frame, get_or-replicate, get_or_append_left, in_bar, ints, length-append, length-drop, length-frame, length-replicate, mul-le-mul_right, nat_tests, owner, owner_word, pixel, pixel_count, raw_in, rows, scenery_of, shown, slice_index, source_at, source_under, state_of, unbarred}
-use Rattle.std.proofs.Common.{All, Bool, IsTrue, List, None, Option, ap, arith, cond, drop, false, get_or, length, nat_lt, refl, replicate, subst, suc, sym, true, zero, ℕ, ◌%◌, ◌*◌, ◌+◌, ◌-◌, ◌/◌, ◌<◌, ◌∙◌, ◌≡◌, ◌≤◌}
+use Rattle.nit_screen.proofs.Basics.{All-append, All-drop, All-replicate, AreRaw, Bare, Call}
+use Rattle.nit_screen.proofs.Basics.{CanShow, Close, Configuration, Entry, Flat, IsAmongLoads}
+use Rattle.nit_screen.proofs.Basics.{IsCopied, IsRawOf, IsServed, IsWord, IsWordOfSource, Kill}
+use Rattle.nit_screen.proofs.Basics.{Mode, Painted, PixelSource, Point, Repainted, Reply, Scenery}
+use Rattle.nit_screen.proofs.Basics.{ServerModel, ShowsBelow, Sight, State, Xray, bar_rows}
+use Rattle.nit_screen.proofs.Basics.{bar_word, bare_word, buffer_size, covering, dirty}
+use Rattle.nit_screen.proofs.Basics.{draws_labels, ext_get_or, false≢true, flat_same, flat_shown}
+use Rattle.nit_screen.proofs.Basics.{frame, frame_fits, get_or-append_right, get_or-drop}
+use Rattle.nit_screen.proofs.Basics.{get_or-frame, get_or-replicate, get_or_append_left, in_bar}
+use Rattle.nit_screen.proofs.Basics.{ints, length-append, length-drop, length-frame}
+use Rattle.nit_screen.proofs.Basics.{length-replicate, mul-le-mul_right, nat_tests, owner}
+use Rattle.nit_screen.proofs.Basics.{owner_word, pixel, pixel_count, raw_in, rows, scenery_of}
+use Rattle.nit_screen.proofs.Basics.{shown, slice_index, source_at, source_under, state_of}
+use Rattle.nit_screen.proofs.Basics.{unbarred}
+use Rattle.std.proofs.Common.{All, Bool, IsTrue, List, None, Option, ap, arith, cond, drop, false}
+use Rattle.std.proofs.Common.{get_or, length, nat_lt, refl, replicate, subst, suc, sym, true, zero}
+use Rattle.std.proofs.Common.{ℕ, ◌%◌, ◌*◌, ◌+◌, ◌-◌, ◌/◌, ◌<◌, ◌∙◌, ◌≡◌, ◌≤◌}
 use Rattle.nit_events.specs.declared.entry.Entry.TheVariants as entry
 use Rattle.nit_stack.specs.declared.view.View.{View as ViewOf}
-use Rattle.nit_screen.proofs.KeptFrames.{bar_clean, bare_source, has_owner, kept_served, owned, still}
+use Rattle.nit_screen.proofs.KeptFrames.{bar_clean, bare_source, has_owner, kept_served, owned}
+use Rattle.nit_screen.proofs.KeptFrames.{still}
 
 -- ---- the raw words of such a list
 
-pub unbarred_at : (n : ℕ) (xs : List ℕ) (k : ℕ) → slice_index (unbarred n xs) k ≡ cond (nat_lt k n) bare_word (slice_index xs k)
+pub unbarred_at : (n : ℕ) (xs : List ℕ) (k : ℕ)
+    → slice_index (unbarred n xs) k ≡ cond (nat_lt k n) bare_word (slice_index xs k)
 unbarred_at n xs k = go (nat_lt k n) refl
   where
     go : (b : Bool) → nat_lt k n ≡ b → slice_index (unbarred n xs) k ≡ cond b bare_word (slice_index xs k)
     go true e =
         let l : k < n = grind (arith, nat_tests) in
-        get_or_append_left (replicate n bare_word) (drop n xs) 0 k (subst (λ (m : ℕ). k < m) (sym (length-replicate n bare_word)) l) ∙ get_or-replicate n k bare_word 0 l
+        get_or_append_left (replicate n bare_word) (drop n xs) 0 k
+        (subst (λ (m : ℕ). k < m) (sym (length-replicate n bare_word)) l) ∙ get_or-replicate n k bare_word 0 l
     go false e =
         let l : n ≤ k = grind (arith, nat_tests) in
-        get_or-append_right (replicate n bare_word) (drop n xs) n k 0 (length-replicate n bare_word) l ∙ get_or-drop n xs (k - n) 0 ∙ ap (λ (i : ℕ). get_or xs i 0) (omega arith)
+        get_or-append_right (replicate n bare_word) (drop n xs) n k 0 (length-replicate n bare_word) l
+        ∙ get_or-drop n xs (k - n) 0 ∙ ap (λ (i : ℕ). get_or xs i 0) (omega arith)
 
 pub unbarred_long : (n : ℕ) (xs : List ℕ) → n ≤ length xs → length (unbarred n xs) ≡ length xs
-unbarred_long n xs fits = let a = length-append (replicate n bare_word) (drop n xs) in let b = length-replicate n bare_word in let c = length-drop n xs in omega (arith, a, b, c)
+unbarred_long n xs fits = let a = length-append (replicate n bare_word) (drop n xs) in let b =
+    length-replicate n bare_word in let c = length-drop n xs in omega (arith, a, b, c)
 
 pub unbarred_words : (n : ℕ) (xs : List ℕ) → All IsWord xs → All IsWord (unbarred n xs)
-unbarred_words n xs words = All-append IsWord (replicate n bare_word) (drop n xs) (All-replicate IsWord n bare_word (omega arith)) (All-drop IsWord n xs words)
+unbarred_words n xs words = All-append IsWord (replicate n bare_word) (drop n xs)
+    (All-replicate IsWord n bare_word (omega arith)) (All-drop IsWord n xs words)
 
 -- lists that differ in the bar alone
-pub unbarred_same : (n : ℕ) (xs ys : List ℕ) → n ≤ length xs → length ys ≡ length xs → ((k : ℕ) → nat_lt k n ≡ false → slice_index ys k ≡ slice_index xs k) → unbarred n ys ≡ unbarred n xs
+pub unbarred_same : (n : ℕ) (xs ys : List ℕ) → n ≤ length xs → length ys ≡ length xs
+    → ((k : ℕ) → nat_lt k n ≡ false → slice_index ys k ≡ slice_index xs k) → unbarred n ys ≡ unbarred n xs
 unbarred_same n xs ys fits long same =
-    ext_get_or 0 (unbarred n ys) (unbarred n xs) (unbarred_long n ys (subst (λ (m : ℕ). n ≤ m) (sym long) fits) ∙ long ∙ sym (unbarred_long n xs fits))
+    ext_get_or 0 (unbarred n ys) (unbarred n xs) (unbarred_long n ys (subst (λ (m : ℕ). n ≤ m) (sym long) fits) ∙ long
+    ∙ sym (unbarred_long n xs fits))
     (λ k l. unbarred_at n ys k ∙ go k (nat_lt k n) refl ∙ sym (unbarred_at n xs k))
   where
-    go : (k : ℕ) (b : Bool) → nat_lt k n ≡ b → cond (nat_lt k n) bare_word (slice_index ys k) ≡ cond (nat_lt k n) bare_word (slice_index xs k)
-    go k true e = ap (λ (b : Bool). cond b bare_word (slice_index ys k)) e ∙ ap (λ (b : Bool). cond b bare_word (slice_index xs k)) (sym e)
+    go : (k : ℕ) (b : Bool) → nat_lt k n ≡ b → cond (nat_lt k n) bare_word (slice_index ys k)
+        ≡ cond (nat_lt k n) bare_word (slice_index xs k)
+    go k true e = ap (λ (b : Bool). cond b bare_word (slice_index ys k)) e
+        ∙ ap (λ (b : Bool). cond b bare_word (slice_index xs k)) (sym e)
     go k false e = ap (λ (w : ℕ). cond (nat_lt k n) bare_word w) (same k e)
 
 -- both kinds
@@ -52,7 +77,8 @@ pub bar_below : (width bar k : ℕ) → 0 < width → in_bar bar (pixel width k)
 bar_below width bar k some is =
     let row : k / width < bar = grind (arith, ints) in
     let m : suc (k / width) * width ≤ bar * width = mul-le-mul_right width row in
-    let p : suc (k / width) * width ≡ k / width * width + width = omega (arith, Rattle.std.proofs.Common.suc-mul (k / width) width) in
+    let p : suc (k / width) * width ≡ k / width * width + width =
+    omega (arith, Rattle.std.proofs.Common.suc-mul (k / width) width) in
     let whole : k / width * width + k % width ≡ k = omega arith in
     let column : k % width < width = omega arith in
     omega arith
@@ -66,68 +92,91 @@ bar_first width bar k some = go (in_bar bar (pixel width k)) refl
       where
         below : (b : Bool) → nat_lt k (width * bar) ≡ b → nat_lt k (width * bar) ≡ false
         below false f = f
-        below true f = let l : k < width * bar = grind (arith, nat_tests) in absurd (false≢true (sym e ∙ bar_at width bar k l))
+        below true f = let l : k < width * bar =
+            grind (arith, nat_tests) in absurd (false≢true (sym e ∙ bar_at width bar k l))
 
 pub bar_is_bare : (s : State) (k : ℕ) → k < s.config.width * bar_rows s.config → source_at s k ≡ Bare
 bar_is_bare s k l =
-    ap (λ (b : Bool). source_under (buffer_size s.sessions) (pixel s.config.width k) (cond b None (covering (λ (v : ViewOf). v) s.stack (pixel s.config.width k)))) (bar_at s.config.width (bar_rows s.config) k l)
+    ap (λ (b : Bool). source_under (buffer_size s.sessions) (pixel s.config.width k)
+    (cond b None (covering (λ (v : ViewOf). v) s.stack (pixel s.config.width k))))
+    (bar_at s.config.width (bar_rows s.config) k l)
 
 -- as many pixels, where the configuration stays
-pub bar_kept : (s s' : ServerModel) (bar : ℕ) → s'.config ≡ s.config → bar ≡ s.config.width * bar_rows s.config → bar ≡ s'.config.width * bar_rows s'.config
+pub bar_kept : (s s' : ServerModel) (bar : ℕ) → s'.config ≡ s.config → bar ≡ s.config.width * bar_rows s.config
+    → bar ≡ s'.config.width * bar_rows s'.config
 bar_kept s s' bar same is = is ∙ ap (λ (c : Configuration). c.width * bar_rows c) (sym same)
 
 -- ---- painting
 
 -- where the pixels of the bar are bare, what was loaded of such a list was loaded of its raw words
-unbarred_painted : (source : ℕ → PixelSource) (marked : ℕ → Bool) (n m : ℕ) (a b : ℕ → Sight) (raw raw' : List ℕ) → ((k : ℕ) → k < m → source k ≡ Bare)
+unbarred_painted : (source : ℕ → PixelSource) (marked : ℕ → Bool) (n m : ℕ) (a b : ℕ → Sight) (raw raw' : List ℕ)
+    → ((k : ℕ) → k < m → source k ≡ Bare)
     → Repainted source marked n a b raw raw' → Repainted source marked n a b (unbarred m raw) (unbarred m raw')
 unbarred_painted source marked n m a b raw raw' bare p = record {
   loads = p.loads;
   sights = p.sights;
   marked = λ k l d. go k l d (nat_lt k m) refl;
-  others = λ k out. unbarred_at m raw' k ∙ ap (λ (w : ℕ). cond (nat_lt k m) bare_word w) (p.others k out) ∙ sym (unbarred_at m raw k);
+  others = λ k out. unbarred_at m raw' k ∙ ap (λ (w : ℕ). cond (nat_lt k m) bare_word w) (p.others k out)
+      ∙ sym (unbarred_at m raw k);
   counts = p.counts;
 }
   where
-    go : (k : ℕ) → k < n → marked k ≡ true → (c : Bool) → nat_lt k m ≡ c → IsWordOfSource a (source k) (slice_index (unbarred m raw') k) × IsAmongLoads p.loads (source k) (slice_index (unbarred m raw') k)
+    go : (k : ℕ) → k < n → marked k ≡ true → (c : Bool) → nat_lt k m ≡ c
+        → IsWordOfSource a (source k) (slice_index (unbarred m raw') k)
+        × IsAmongLoads p.loads (source k) (slice_index (unbarred m raw') k)
     go k l d true e =
         let is = unbarred_at m raw' k ∙ ap (λ (c : Bool). cond c bare_word (slice_index raw' k)) e in
-        subst (λ (x : PixelSource). IsWordOfSource a x (slice_index (unbarred m raw') k) × IsAmongLoads p.loads x (slice_index (unbarred m raw') k)) (sym (bare k (grind (arith, nat_tests)))) (is, tt)
+        subst (λ (x : PixelSource). IsWordOfSource a x (slice_index (unbarred m raw') k)
+        × IsAmongLoads p.loads x (slice_index (unbarred m raw') k)) (sym (bare k (grind (arith, nat_tests))))
+        (is, tt)
     go k l d false e =
         let is = unbarred_at m raw' k ∙ ap (λ (c : Bool). cond c bare_word (slice_index raw' k)) e in
         subst (λ (w : ℕ). IsWordOfSource a (source k) w × IsAmongLoads p.loads (source k) w) (sym is) (p.marked k l d)
 
-pub painted_in : (c : Bool) (source : ℕ → PixelSource) (marked : ℕ → Bool) (n m : ℕ) (a b : ℕ → Sight) (raw raw' : List ℕ) → ((k : ℕ) → k < m → source k ≡ Bare)
+pub painted_in : (c : Bool) (source : ℕ → PixelSource) (marked : ℕ → Bool) (n m : ℕ) (a b : ℕ → Sight)
+    (raw raw' : List ℕ) → ((k : ℕ) → k < m → source k ≡ Bare)
     → Repainted source marked n a b raw raw' → Repainted source marked n a b (raw_in c m raw) (raw_in c m raw')
 painted_in true source marked n m a b raw raw' bare p = p
 painted_in false source marked n m a b raw raw' bare p = unbarred_painted source marked n m a b raw raw' bare p
 
 -- the same of an entry
-pub entry_painted_in : (c : Bool) (bar : ℕ) (s : State) (e : Entry) (s' : State) (a b : ℕ → Sight) (raw raw' : List ℕ) → bar ≡ s'.config.width * bar_rows s'.config
+pub entry_painted_in : (c : Bool) (bar : ℕ) (s : State) (e : Entry) (s' : State) (a b : ℕ → Sight) (raw raw' : List ℕ)
+    → bar ≡ s'.config.width * bar_rows s'.config
     → Painted s e s' a b raw raw' → Painted s e s' a b (raw_in c bar raw) (raw_in c bar raw')
-entry_painted_in c bar s e s' a b raw raw' is p = painted_in c _ _ _ bar a b raw raw' (λ k l. bar_is_bare s' k (subst (λ (m : ℕ). k < m) is l)) p
+entry_painted_in c bar s e s' a b raw raw' is p =
+    painted_in c _ _ _ bar a b raw raw' (λ k l. bar_is_bare s' k (subst (λ (m : ℕ). k < m) is l)) p
 
 -- what was set of the list are its raw words then
-pub one_copied : (chosen : ℕ → Bool) (n m : ℕ) (raw raw' : List ℕ) → ((k : ℕ) → k < n → chosen k ≡ true → nat_lt k m ≡ false) → ((k : ℕ) → k < n → chosen k ≡ false → slice_index raw' k ≡ slice_index raw k) → length raw' ≡ length raw
+pub one_copied : (chosen : ℕ → Bool) (n m : ℕ) (raw raw' : List ℕ)
+    → ((k : ℕ) → k < n → chosen k ≡ true → nat_lt k m ≡ false)
+    → ((k : ℕ) → k < n → chosen k ≡ false → slice_index raw' k ≡ slice_index raw k) → length raw' ≡ length raw
     → IsCopied chosen n (unbarred m raw') raw raw'
 one_copied chosen n m raw raw' below others long = record { words = λ k l. go k l (chosen k) refl; count = long }
   where
-    go : (k : ℕ) → k < n → (b : Bool) → chosen k ≡ b → slice_index raw' k ≡ cond b (slice_index (unbarred m raw') k) (slice_index raw k)
+    go : (k : ℕ) → k < n → (b : Bool) → chosen k ≡ b
+        → slice_index raw' k ≡ cond b (slice_index (unbarred m raw') k) (slice_index raw k)
     go k l true e = sym (unbarred_at m raw' k ∙ ap (λ (c : Bool). cond c bare_word (slice_index raw' k)) (below k l e))
     go k l false e = others k l e
 
 -- a pixel that is bare and was loaded has the bare word
-pub painted_bare : (source : ℕ → PixelSource) (marked : ℕ → Bool) (n : ℕ) (a b : ℕ → Sight) (raw raw' : List ℕ) (k : ℕ) → Repainted source marked n a b raw raw' → k < n → marked k ≡ true → source k ≡ Bare → slice_index raw' k ≡ bare_word
-painted_bare source marked n a b raw raw' k p l m bare = subst (λ (x : PixelSource). IsWordOfSource a x (slice_index raw' k)) bare (p.marked k l m).0
+pub painted_bare : (source : ℕ → PixelSource) (marked : ℕ → Bool) (n : ℕ) (a b : ℕ → Sight) (raw raw' : List ℕ) (k : ℕ)
+    → Repainted source marked n a b raw raw' → k < n → marked k ≡ true → source k ≡ Bare
+    → slice_index raw' k ≡ bare_word
+painted_bare source marked n a b raw raw' k p l m bare =
+    subst (λ (x : PixelSource). IsWordOfSource a x (slice_index raw' k)) bare (p.marked k l m).0
 
 -- ---- the frame
 
 -- the raw words of the frame in mode Flat are those that it was made of
-pub flat_raw : (s : State) (bar : ℕ) (raw : List ℕ) → s.input.mode ≡ Flat → 0 < s.config.width → bar ≡ s.config.width * bar_rows s.config → bar ≤ length raw → length raw ≡ pixel_count s → AreRaw s raw
+pub flat_raw : (s : State) (bar : ℕ) (raw : List ℕ) → s.input.mode ≡ Flat → 0 < s.config.width
+    → bar ≡ s.config.width * bar_rows s.config → bar ≤ length raw → length raw ≡ pixel_count s → AreRaw s raw
     → unbarred bar (frame (scenery_of s) raw) ≡ raw
 flat_raw s bar raw flat some is fits many raws =
-    ext_get_or 0 (unbarred bar (frame (scenery_of s) raw)) raw (unbarred_long bar (frame (scenery_of s) raw) (subst (λ (n : ℕ). bar ≤ n) (sym long) fits) ∙ long)
-    (λ k l. let m = subst (λ (n : ℕ). k < n) (unbarred_long bar (frame (scenery_of s) raw) (subst (λ (n : ℕ). bar ≤ n) (sym long) fits) ∙ long ∙ many) l in unbarred_at bar (frame (scenery_of s) raw) k ∙ go k m (nat_lt k bar) refl)
+    ext_get_or 0 (unbarred bar (frame (scenery_of s) raw)) raw
+    (unbarred_long bar (frame (scenery_of s) raw) (subst (λ (n : ℕ). bar ≤ n) (sym long) fits) ∙ long)
+    (λ k l. let m = subst (λ (n : ℕ). k < n)
+    (unbarred_long bar (frame (scenery_of s) raw) (subst (λ (n : ℕ). bar ≤ n) (sym long) fits) ∙ long ∙ many) l in
+    unbarred_at bar (frame (scenery_of s) raw) k ∙ go k m (nat_lt k bar) refl)
   where
     long : length (frame (scenery_of s) raw) ≡ length raw
     long = length-frame (scenery_of s) raw ∙ sym many
@@ -135,29 +184,44 @@ flat_raw s bar raw flat some is fits many raws =
     bare : (k : ℕ) → k < pixel_count s → source_at s k ≡ Bare → bare_word ≡ slice_index raw k
     bare k l e = sym (subst (λ (x : PixelSource). IsRawOf x (slice_index raw k)) e (raws k l))
 
-    here : (k : ℕ) → k < pixel_count s → (o : Bool) → has_owner (source_at s k) ≡ o → cond o (slice_index raw k) bare_word ≡ slice_index raw k
+    here : (k : ℕ) → k < pixel_count s → (o : Bool) → has_owner (source_at s k) ≡ o
+        → cond o (slice_index raw k) bare_word ≡ slice_index raw k
     here k l true o = refl
     here k l false o = bare k l (bare_source (source_at s k) o)
 
-    go : (k : ℕ) → k < pixel_count s → (b : Bool) → nat_lt k bar ≡ b → cond b bare_word (slice_index (frame (scenery_of s) raw) k) ≡ slice_index raw k
-    go k l true e = bare k l (bar_is_bare s k (let m : k < bar = grind (arith, nat_tests) in subst (λ (n : ℕ). k < n) is m))
+    go : (k : ℕ) → k < pixel_count s → (b : Bool) → nat_lt k bar ≡ b
+        → cond b bare_word (slice_index (frame (scenery_of s) raw) k) ≡ slice_index raw k
+    go k l true e = bare k l (bar_is_bare s k (let m : k < bar =
+        grind (arith, nat_tests) in subst (λ (n : ℕ). k < n) is m))
     go k l false e =
         get_or-frame (scenery_of s) raw k l
-        ∙ flat_shown (scenery_of s) (pixel s.config.width k) (slice_index raw k) flat (sym (bar_first s.config.width (bar_rows s.config) k some) ∙ ap (nat_lt k) (sym is) ∙ e)
-        ∙ ap (λ (o : Bool). cond o (slice_index raw k) bare_word) (owned s (pixel s.config.width k)) ∙ here k l (has_owner (source_at s k)) refl
+        ∙ flat_shown (scenery_of s) (pixel s.config.width k) (slice_index raw k) flat
+        (sym (bar_first s.config.width (bar_rows s.config) k some) ∙ ap (nat_lt k) (sym is) ∙ e)
+        ∙ ap (λ (o : Bool). cond o (slice_index raw k) bare_word) (owned s (pixel s.config.width k))
+        ∙ here k l (has_owner (source_at s k)) refl
 
 -- the frame takes the place of the raw words, in mode Flat
-pub made_one : (s : ServerModel) (apart : Bool) (bar : ℕ) (raw shown : List ℕ) (reached most least room : ℕ) (labels : List (List ℕ)) (places : ℕ) → apart ≡ true → s.input.mode ≡ Flat → 0 < s.config.width → length raw ≤ least
-    → CanShow s raw reached most room labels places bar → cond apart shown raw ≡ frame (scenery_of (state_of s)) (raw_in apart bar raw) → AreRaw (state_of s) (raw_in apart bar raw)
-    → CanShow s shown (length raw) least room labels places bar × (shown ≡ frame (scenery_of (state_of s)) (unbarred bar shown)) × (unbarred bar shown ≡ raw_in apart bar raw)
+pub made_one : (s : ServerModel) (apart : Bool) (bar : ℕ) (raw shown : List ℕ) (reached most least room : ℕ)
+    (labels : List (List ℕ)) (places : ℕ) → apart ≡ true → s.input.mode ≡ Flat → 0 < s.config.width → length raw ≤ least
+    → CanShow s raw reached most room labels places bar
+    → cond apart shown raw ≡ frame (scenery_of (state_of s)) (raw_in apart bar raw)
+    → AreRaw (state_of s) (raw_in apart bar raw)
+    → CanShow s shown (length raw) least room labels places bar
+    × (shown ≡ frame (scenery_of (state_of s)) (unbarred bar shown)) × (unbarred bar shown ≡ raw_in apart bar raw)
 made_one s apart bar raw shown reached most least room labels places is flat some spare h was raws =
-    subst (λ (b : Bool). cond b shown raw ≡ frame (scenery_of (state_of s)) (raw_in b bar raw) → AreRaw (state_of s) (raw_in b bar raw)
-    → CanShow s shown (length raw) least room labels places bar × (shown ≡ frame (scenery_of (state_of s)) (unbarred bar shown)) × (unbarred bar shown ≡ raw_in b bar raw)) (sym is) go was raws
+    subst (λ (b : Bool). cond b shown raw ≡ frame (scenery_of (state_of s)) (raw_in b bar raw)
+    → AreRaw (state_of s) (raw_in b bar raw)
+    → CanShow s shown (length raw) least room labels places bar
+    × (shown ≡ frame (scenery_of (state_of s)) (unbarred bar shown)) × (unbarred bar shown ≡ raw_in b bar raw)) (sym is)
+    go was raws
   where
-    go : shown ≡ frame (scenery_of (state_of s)) raw → AreRaw (state_of s) raw → CanShow s shown (length raw) least room labels places bar × (shown ≡ frame (scenery_of (state_of s)) (unbarred bar shown)) × (unbarred bar shown ≡ raw)
+    go : shown ≡ frame (scenery_of (state_of s)) raw → AreRaw (state_of s) raw
+        → CanShow s shown (length raw) least room labels places bar
+        × (shown ≡ frame (scenery_of (state_of s)) (unbarred bar shown)) × (unbarred bar shown ≡ raw)
     go e f =
         let many : length shown ≡ pixel_count (state_of s) = ap length e ∙ length-frame (scenery_of (state_of s)) raw in
-        let back : unbarred bar shown ≡ raw = ap (unbarred bar) e ∙ flat_raw (state_of s) bar raw flat some h.bar h.fits h.pixels f in (
+        let back : unbarred bar shown ≡ raw = ap (unbarred bar) e
+        ∙ flat_raw (state_of s) bar raw flat some h.bar h.fits h.pixels f in (
           record {
             words = subst (All IsWord) (sym e) (frame_fits (scenery_of (state_of s)) raw h.pixels h.words);
             pixels = many;
@@ -180,9 +244,13 @@ in_the_bar : (t : Scenery) (p : Point) (w : ℕ) → in_bar t.bar p ≡ true →
 in_the_bar t p w e = ap (λ (b : Bool). cond b (bar_word t p) (owner_word t p w (owner t.bar t.stack p))) e
 
 -- below the bar, in mode Flat, a word is shown where a view has the pixel, and the bare one where none has
-pub flat_below : (s : State) (words : List ℕ) → s.input.mode ≡ Flat → ((k : ℕ) → k < pixel_count s → in_bar (bar_rows s.config) (pixel s.config.width k) ≡ false → source_at s k ≡ Bare → slice_index words k ≡ bare_word) → ShowsBelow s words
+pub flat_below : (s : State) (words : List ℕ) → s.input.mode ≡ Flat
+    → ((k : ℕ) → k < pixel_count s → in_bar (bar_rows s.config) (pixel s.config.width k) ≡ false → source_at s k ≡ Bare
+    → slice_index words k ≡ bare_word) → ShowsBelow s words
 flat_below s words flat bare k l below =
-    flat_shown (scenery_of s) (pixel s.config.width k) (slice_index words k) flat below ∙ ap (λ (o : Bool). cond o (slice_index words k) bare_word) (owned s (pixel s.config.width k)) ∙ here (has_owner (source_at s k)) refl
+    flat_shown (scenery_of s) (pixel s.config.width k) (slice_index words k) flat below
+    ∙ ap (λ (o : Bool). cond o (slice_index words k) bare_word) (owned s (pixel s.config.width k))
+    ∙ here (has_owner (source_at s k)) refl
   where
     here : (o : Bool) → has_owner (source_at s k) ≡ o → cond o (slice_index words k) bare_word ≡ slice_index words k
     here true o = refl
@@ -193,21 +261,27 @@ some_columns zero height k l = absurd (omega arith)
 some_columns (suc width) height k l = omega arith
 
 -- so the frame of another focus is shown below the bar
-pub other_focus : (s : State) (focus : Option ℕ) (bar : ℕ) (words : List ℕ) → s.input.mode ≡ Flat → bar ≡ s.config.width * bar_rows s.config → words ≡ frame (record (scenery_of s) { focus = focus }) (unbarred bar words)
+pub other_focus : (s : State) (focus : Option ℕ) (bar : ℕ) (words : List ℕ) → s.input.mode ≡ Flat
+    → bar ≡ s.config.width * bar_rows s.config
+    → words ≡ frame (record (scenery_of s) { focus = focus }) (unbarred bar words)
     → ShowsBelow s words
 other_focus s focus bar words flat is was k l below =
     let some : 0 < s.config.width = some_columns s.config.width s.config.height k l in
     let past : nat_lt k bar ≡ false = ap (nat_lt k) is ∙ bar_first s.config.width (bar_rows s.config) k some ∙ below in
-    let raw : slice_index (unbarred bar words) k ≡ slice_index words k = unbarred_at bar words k ∙ ap (λ (b : Bool). cond b bare_word (slice_index words k)) past in
+    let raw : slice_index (unbarred bar words) k ≡ slice_index words k = unbarred_at bar words k
+    ∙ ap (λ (b : Bool). cond b bare_word (slice_index words k)) past in
     let other : Scenery = record (scenery_of s) { focus = focus } in
     flat_same other (scenery_of s) (pixel s.config.width k) (slice_index words k) flat flat refl below refl
-    ∙ ap (shown other (pixel s.config.width k)) (sym raw) ∙ sym (get_or-frame other (unbarred bar words) k l) ∙ sym (ap (λ (ws : List ℕ). slice_index ws k) was)
+    ∙ ap (shown other (pixel s.config.width k)) (sym raw) ∙ sym (get_or-frame other (unbarred bar words) k l)
+    ∙ sym (ap (λ (ws : List ℕ). slice_index ws k) was)
 
 -- of bare words alone, too
 pub bare_unbarred : (m n : ℕ) → m ≤ n → unbarred m (replicate n bare_word) ≡ replicate n bare_word
 bare_unbarred m n fits =
     ext_get_or 0 (unbarred m (replicate n bare_word)) (replicate n bare_word) long
-    (λ k l. let is = get_or-replicate n k bare_word 0 (subst (λ (c : ℕ). k < c) (long ∙ length-replicate n bare_word) l) in unbarred_at m (replicate n bare_word) k ∙ ap (λ (w : ℕ). cond (nat_lt k m) bare_word w) is ∙ both (nat_lt k m) ∙ sym is)
+    (λ k l. let is = get_or-replicate n k bare_word 0
+    (subst (λ (c : ℕ). k < c) (long ∙ length-replicate n bare_word) l) in unbarred_at m (replicate n bare_word) k
+    ∙ ap (λ (w : ℕ). cond (nat_lt k m) bare_word w) is ∙ both (nat_lt k m) ∙ sym is)
   where
     long : length (unbarred m (replicate n bare_word)) ≡ length (replicate n bare_word)
     long = unbarred_long m (replicate n bare_word) (subst (λ (c : ℕ). m ≤ c) (sym (length-replicate n bare_word)) fits)
@@ -217,42 +291,61 @@ bare_unbarred m n fits =
     both false = refl
 
 -- the list with the bar in it is the frame of its raw words, which stay
-module _ (s : State) (bar : ℕ) (raw now : List ℕ) (some : 0 < s.config.width) (is : bar ≡ s.config.width * bar_rows s.config) (fits : bar ≤ length raw) (many : length raw ≡ pixel_count s) (long : length now ≡ length raw)
-    (drawn : (k : ℕ) → slice_index now k ≡ cond (nat_lt k (s.config.width * bar_rows s.config)) (bar_word (scenery_of s) (pixel s.config.width k)) (slice_index raw k)) where
+module _ (s : State) (bar : ℕ) (raw now : List ℕ) (some : 0 < s.config.width)
+    (is : bar ≡ s.config.width * bar_rows s.config) (fits : bar ≤ length raw) (many : length raw ≡ pixel_count s)
+    (long : length now ≡ length raw)
+    (drawn : (k : ℕ) → slice_index now k ≡ cond (nat_lt k (s.config.width * bar_rows s.config))
+    (bar_word (scenery_of s) (pixel s.config.width k)) (slice_index raw k)) where
   past_bar : (k : ℕ) → nat_lt k bar ≡ false → slice_index now k ≡ slice_index raw k
-  past_bar k past = drawn k ∙ ap (λ (b : Bool). cond b (bar_word (scenery_of s) (pixel s.config.width k)) (slice_index raw k)) (ap (nat_lt k) (sym is) ∙ past)
+  past_bar k past = drawn k ∙ ap
+      (λ (b : Bool). cond b (bar_word (scenery_of s) (pixel s.config.width k)) (slice_index raw k))
+      (ap (nat_lt k) (sym is) ∙ past)
 
   pub drawn_raw : unbarred bar now ≡ unbarred bar raw
   drawn_raw = unbarred_same bar raw now fits long past_bar
 
-  drawn_at : ShowsBelow s raw → (k : ℕ) → k < pixel_count s → (b : Bool) → nat_lt k bar ≡ b → slice_index now k ≡ shown (scenery_of s) (pixel s.config.width k) (slice_index (unbarred bar now) k)
+  drawn_at : ShowsBelow s raw → (k : ℕ) → k < pixel_count s → (b : Bool) → nat_lt k bar ≡ b
+      → slice_index now k ≡ shown (scenery_of s) (pixel s.config.width k) (slice_index (unbarred bar now) k)
   drawn_at below k l true e =
-      let in_ : in_bar (bar_rows s.config) (pixel s.config.width k) ≡ true = sym (bar_first s.config.width (bar_rows s.config) k some) ∙ ap (nat_lt k) (sym is) ∙ e in
-      drawn k ∙ ap (λ (b : Bool). cond b (bar_word (scenery_of s) (pixel s.config.width k)) (slice_index raw k)) (ap (nat_lt k) (sym is) ∙ e)
+      let in_ : in_bar (bar_rows s.config) (pixel s.config.width k) ≡ true =
+      sym (bar_first s.config.width (bar_rows s.config) k some) ∙ ap (nat_lt k) (sym is) ∙ e in
+      drawn k ∙ ap (λ (b : Bool). cond b (bar_word (scenery_of s) (pixel s.config.width k)) (slice_index raw k))
+      (ap (nat_lt k) (sym is) ∙ e)
       ∙ sym (in_the_bar (scenery_of s) (pixel s.config.width k) (slice_index (unbarred bar now) k) in_)
   drawn_at below k l false e =
-      let out : in_bar (bar_rows s.config) (pixel s.config.width k) ≡ false = sym (bar_first s.config.width (bar_rows s.config) k some) ∙ ap (nat_lt k) (sym is) ∙ e in
-      let same : slice_index (unbarred bar now) k ≡ slice_index raw k = unbarred_at bar now k ∙ ap (λ (b : Bool). cond b bare_word (slice_index now k)) e ∙ past_bar k e in
+      let out : in_bar (bar_rows s.config) (pixel s.config.width k) ≡ false =
+      sym (bar_first s.config.width (bar_rows s.config) k some) ∙ ap (nat_lt k) (sym is) ∙ e in
+      let same : slice_index (unbarred bar now) k ≡ slice_index raw k = unbarred_at bar now k
+      ∙ ap (λ (b : Bool). cond b bare_word (slice_index now k)) e ∙ past_bar k e in
       past_bar k e ∙ sym (below k l out) ∙ ap (shown (scenery_of s) (pixel s.config.width k)) (sym same)
 
   pub bar_drawn : ShowsBelow s raw → now ≡ frame (scenery_of s) (unbarred bar now)
   bar_drawn below =
-      ext_get_or 0 now (frame (scenery_of s) (unbarred bar now)) (long ∙ many ∙ sym (length-frame (scenery_of s) (unbarred bar now)))
-      (λ k l. let m : k < pixel_count s = omega (arith, l, long, many) in drawn_at below k m (nat_lt k bar) refl ∙ sym (get_or-frame (scenery_of s) (unbarred bar now) k m))
+      ext_get_or 0 now (frame (scenery_of s) (unbarred bar now)) (long ∙ many
+      ∙ sym (length-frame (scenery_of s) (unbarred bar now)))
+      (λ k l. let m : k < pixel_count s = omega (arith, l, long, many) in drawn_at below k m (nat_lt k bar) refl
+      ∙ sym (get_or-frame (scenery_of s) (unbarred bar now) k m))
 
 -- so a server's frame can be made of it again
-pub bar_again : (s : ServerModel) (apart : Bool) (bar : ℕ) (raw shown_ now : List ℕ) (reached most room : ℕ) (labels : List (List ℕ)) (places : ℕ) → apart ≡ false → s.input.mode ≡ Flat → 0 < s.config.width
+pub bar_again : (s : ServerModel) (apart : Bool) (bar : ℕ) (raw shown_ now : List ℕ) (reached most room : ℕ)
+    (labels : List (List ℕ)) (places : ℕ) → apart ≡ false → s.input.mode ≡ Flat → 0 < s.config.width
     → CanShow s raw reached most room labels places bar → length now ≡ length raw
-    → ((k : ℕ) → slice_index now k ≡ cond (nat_lt k (s.config.width * bar_rows s.config)) (bar_word (scenery_of (state_of s)) (pixel s.config.width k)) (slice_index raw k))
+    → ((k : ℕ) → slice_index now k ≡ cond (nat_lt k (s.config.width * bar_rows s.config))
+    (bar_word (scenery_of (state_of s)) (pixel s.config.width k)) (slice_index raw k))
     → ShowsBelow (state_of s) raw
-    → (CanShow s now reached most room labels places bar × (cond apart shown_ now ≡ frame (scenery_of (state_of s)) (raw_in apart bar now)) × (IsTrue (draws_labels s.input.mode) → apart ≡ true))
+    → (CanShow s now reached most room labels places bar
+    × (cond apart shown_ now ≡ frame (scenery_of (state_of s)) (raw_in apart bar now))
+    × (IsTrue (draws_labels s.input.mode) → apart ≡ true))
     × (raw_in apart bar now ≡ raw_in apart bar raw)
 bar_again s apart bar raw shown_ now reached most room labels places one flat some h long drawn below =
     let is = bar_drawn (state_of s) bar raw now some h.bar h.fits h.pixels long drawn below in
     let same = drawn_raw (state_of s) bar raw now some h.bar h.fits h.pixels long drawn in (
       (
         record {
-          words = subst (All IsWord) (sym is) (frame_fits (scenery_of (state_of s)) (unbarred bar now) (unbarred_long bar now (let f = h.fits in omega (arith, f, long)) ∙ long ∙ h.pixels) (subst (All IsWord) (sym same) (unbarred_words bar raw h.words)));
+          words = subst (All IsWord) (sym is)
+              (frame_fits (scenery_of (state_of s)) (unbarred bar now)
+              (unbarred_long bar now (let f = h.fits in omega (arith, f, long)) ∙ long ∙ h.pixels)
+              (subst (All IsWord) (sym same) (unbarred_words bar raw h.words)));
           pixels = long ∙ h.pixels;
           few = h.few;
           spare = h.spare;
@@ -276,22 +369,34 @@ by_mode Xray flat labelled = labelled refl
 by_mode Kill flat labelled = labelled refl
 
 -- no call but `Close` changes the mode
-pub mode_stays : (before after' : ServerModel) (sid : ℕ) (call : Call) (r : Reply) → (call ≡ Close → ⊥) → IsServed sid call r before after' → after'.input.mode ≡ before.input.mode
-mode_stays before after' sid call r other served = ap (λ (t : State). t.input.mode) served.state ∙ ap (λ i. i.mode) (still (state_of before) sid call r other)
+pub mode_stays : (before after' : ServerModel) (sid : ℕ) (call : Call) (r : Reply) → (call ≡ Close → ⊥)
+    → IsServed sid call r before after' → after'.input.mode ≡ before.input.mode
+mode_stays before after' sid call r other served = ap (λ (t : State). t.input.mode) served.state
+    ∙ ap (λ i. i.mode) (still (state_of before) sid call r other)
 
 -- in mode Flat the one list is the frame of what was loaded
-pub flat_kept : (before after' : ServerModel) (sid : ℕ) (call : Call) (r : Reply) (glasses glasses' : ℕ → Sight) (apart : Bool) (bar : ℕ) (raw raw' shown_ : List ℕ) (reached most room : ℕ) (labels : List (List ℕ)) (places : ℕ) (chosen : ℕ → Bool)
-    → sid < length before.sessions → (call ≡ Close → ⊥) → IsServed sid call r before after' → 0 < before.config.width → CanShow before raw reached most room labels places bar → length raw' ≡ length raw
-    → bar ≡ after'.config.width * bar_rows after'.config → Painted (state_of before) (entry.Call sid call r) (state_of after') glasses glasses' raw raw'
-    → ((k : ℕ) → chosen k ≡ dirty (state_of before) (entry.Call sid call r) (state_of after') (pixel before.config.width k))
+pub flat_kept : (before after' : ServerModel) (sid : ℕ) (call : Call) (r : Reply) (glasses glasses' : ℕ → Sight)
+    (apart : Bool) (bar : ℕ) (raw raw' shown_ : List ℕ) (reached most room : ℕ) (labels : List (List ℕ)) (places : ℕ)
+    (chosen : ℕ → Bool)
+    → sid < length before.sessions → (call ≡ Close → ⊥) → IsServed sid call r before after' → 0 < before.config.width
+    → CanShow before raw reached most room labels places bar → length raw' ≡ length raw
+    → bar ≡ after'.config.width * bar_rows after'.config
+    → Painted (state_of before) (entry.Call sid call r) (state_of after') glasses glasses' raw raw'
+    → ((k : ℕ) → chosen k ≡ dirty (state_of before) (entry.Call sid call r) (state_of after')
+    (pixel before.config.width k))
     → (before.input.mode ≡ Flat → apart ≡ false) → after'.input.mode ≡ Flat
-    → cond apart shown_ raw ≡ frame (scenery_of (state_of before)) (raw_in apart bar raw) → cond apart shown_ raw' ≡ frame (scenery_of (state_of after')) (raw_in apart bar raw')
-flat_kept before after' sid call r glasses glasses' apart bar raw raw' shown_ reached most room labels places chosen within other served some h long bar_ painted same one flat was =
+    → cond apart shown_ raw ≡ frame (scenery_of (state_of before)) (raw_in apart bar raw)
+    → cond apart shown_ raw' ≡ frame (scenery_of (state_of after')) (raw_in apart bar raw')
+flat_kept before after' sid call r glasses glasses' apart bar raw raw' shown_ reached most room labels places chosen
+    within other served some h long bar_ painted same one flat was =
     subst (λ (b : Bool). cond b shown_ raw' ≡ frame (scenery_of (state_of after')) (raw_in b bar raw')) (sym is)
-    (kept_served before after' sid call r glasses glasses' (unbarred bar raw) (unbarred bar raw') raw raw' chosen within other served
-    (entry_painted_in false bar (state_of before) (entry.Call sid call r) (state_of after') glasses glasses' raw raw' bar_ painted)
+    (kept_served before after' sid call r glasses glasses' (unbarred bar raw) (unbarred bar raw') raw raw' chosen within
+    other served
+    (entry_painted_in false bar (state_of before) (entry.Call sid call r) (state_of after') glasses glasses' raw raw'
+    bar_ painted)
     (unbarred_long bar raw' (let f = h.fits in omega (arith, f, long)) ∙ long ∙ h.pixels) same
-    (λ m. one_copied chosen (length (unbarred bar raw')) bar raw raw' (λ k l e. below k e (nat_lt k bar) refl) (λ k l e. painted.others k (λ lt. sym (same k) ∙ e)) long)
+    (λ m. one_copied chosen (length (unbarred bar raw')) bar raw raw' (λ k l e. below k e (nat_lt k bar) refl)
+    (λ k l e. painted.others k (λ lt. sym (same k) ∙ e)) long)
     (λ d. absurd (false≢true (sym (ap draws_labels flat) ∙ d)))
     (subst (λ (b : Bool). cond b shown_ raw ≡ frame (scenery_of (state_of before)) (raw_in b bar raw)) is was))
   where
@@ -302,5 +407,7 @@ flat_kept before after' sid call r glasses glasses' apart bar raw raw' shown_ re
     below k e false f = f
     below k e true f =
         let in_ = sym (bar_first before.config.width (bar_rows before.config) k some) ∙ ap (nat_lt k) (sym h.bar) ∙ f in
-        let clean = subst (λ (t : State). dirty (state_of before) (entry.Call sid call r) t (pixel before.config.width k) ≡ false) (sym served.state) (bar_clean (state_of before) sid call r (pixel before.config.width k) in_) in
+        let clean = subst (λ (t : State). dirty (state_of before) (entry.Call sid call r) t
+        (pixel before.config.width k) ≡ false) (sym served.state)
+        (bar_clean (state_of before) sid call r (pixel before.config.width k) in_) in
         absurd (false≢true (sym clean ∙ sym (same k) ∙ e))

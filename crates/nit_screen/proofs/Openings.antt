@@ -1,6 +1,16 @@
 -- A session that is over opens again: what stays, where whoever has a view is live.
-use Rattle.nit_screen.proofs.Basics.{All-head, All-tail, All_found, AreBelowNext, AreLive, AreRaw, IsLive, IsRawOf, PixelSource, Point, Repainted, ServerModel, Session, Sight, State, bar_rows, buffer_size, covers, ended, eq-eqb, eqb-true, ext_get_or, first_session, forget, in_bar, is_session, loads_at, member, opened, option_map_or, owner_of, pixel, relabelled, seen, seen_none, session, session_in, session_owns, set-set, source_of, state_of, sum_by-cons, times_shown, unless_it_is, views_closed, views_of, with_reopened, without}
-use Rattle.std.proofs.Common.{All, Bool, IfSome, List, None, Option, Some, [], ap, arith, cond, false, find, get_or, get_or-set_other, length, not, refl, set, subst, suc, sym, true, zero, ℕ, ◌<◌, ◌==◌, ◌∙◌, ◌∷◌, ◌≡◌, ◌≢◌}
+use Rattle.nit_screen.proofs.Basics.{All-head, All-tail, All_found, AreBelowNext, AreLive, AreRaw}
+use Rattle.nit_screen.proofs.Basics.{IsLive, IsRawOf, PixelSource, Point, Repainted, ServerModel}
+use Rattle.nit_screen.proofs.Basics.{Session, Sight, State, bar_rows, buffer_size, covers, ended}
+use Rattle.nit_screen.proofs.Basics.{eq-eqb, eqb-true, ext_get_or, first_session, forget, in_bar}
+use Rattle.nit_screen.proofs.Basics.{is_session, loads_at, member, opened, option_map_or, owner_of}
+use Rattle.nit_screen.proofs.Basics.{pixel, relabelled, seen, seen_none, session, session_in}
+use Rattle.nit_screen.proofs.Basics.{session_owns, set-set, source_of, state_of, sum_by-cons}
+use Rattle.nit_screen.proofs.Basics.{times_shown, unless_it_is, views_closed, views_of}
+use Rattle.nit_screen.proofs.Basics.{with_reopened, without}
+use Rattle.std.proofs.Common.{All, Bool, IfSome, List, None, Option, Some, [], ap, arith, cond}
+use Rattle.std.proofs.Common.{false, find, get_or, get_or-set_other, length, not, refl, set, subst}
+use Rattle.std.proofs.Common.{suc, sym, true, zero, ℕ, ◌<◌, ◌==◌, ◌∙◌, ◌∷◌, ◌≡◌, ◌≢◌}
 use Rattle.nit_events.specs.declared.event.Status.TheVariants as status
 use Rattle.nit_stack.specs.declared.view.View.{View}
 use Rattle.nit_screen.proofs.BufferSizes.{by_other_sizes, others_stay}
@@ -21,7 +31,8 @@ module _ (s : State) (sid : ℕ) (over : (session s sid).status ≢ status.Live)
   pub no_views : (stack : List View) → All (λ v. IsLive s v.sid) stack → without (λ v. v.sid == sid) stack ≡ stack
   no_views [] all = refl
   no_views (v ∷ rest) all =
-      ap (λ (b : Bool). cond (not b) (v ∷ without (λ v. v.sid == sid) rest) (without (λ v. v.sid == sid) rest)) (other v.sid (All-head (λ v. IsLive s v.sid) v rest all))
+      ap (λ (b : Bool). cond (not b) (v ∷ without (λ v. v.sid == sid) rest) (without (λ v. v.sid == sid) rest))
+      (other v.sid (All-head (λ v. IsLive s v.sid) v rest all))
       ∙ ap (λ (l : List View). v ∷ l) (no_views rest (All-tail (λ v. IsLive s v.sid) v rest all))
 
   -- and the input does not know it
@@ -45,7 +56,8 @@ module _ (s : State) (sid : ℕ) (over : (session s sid).status ≢ status.Live)
     pub owns_none : (p : Point) → session_owns sid s p ≡ false
     owns_none p = go (in_bar (bar_rows s.config) p) (find (λ v. covers v.rect p) s.stack) refl
       where
-        go : (b : Bool) (o : Option View) → find (λ v. covers v.rect p) s.stack ≡ o → option_map_or (is_session sid) (cond b None o) false ≡ false
+        go : (b : Bool) (o : Option View) → find (λ v. covers v.rect p) s.stack ≡ o
+            → option_map_or (is_session sid) (cond b None o) false ≡ false
         go true o e = refl
         go false None e = refl
         go false (Some v) e = other v.sid (All_found (λ v. IsLive s v.sid) (λ v. covers v.rect p) s.stack v h.views e)
@@ -56,26 +68,33 @@ module _ (s : State) (sid : ℕ) (over : (session s sid).status ≢ status.Live)
 
       -- each pixel has the same source
       pub opens_sources : (p : Point) → source_of (opened sid label s) p ≡ source_of s p
-      opens_sources p = by_other_sizes sid (buffer_size s.sessions) (buffer_size (set s.sessions sid begun)) p (owner_of s p) (others_stay s.sessions sid begun) (owns_none p)
+      opens_sources p = by_other_sizes sid (buffer_size s.sessions) (buffer_size (set s.sessions sid begun)) p
+          (owner_of s p) (others_stay s.sessions sid begun) (owns_none p)
 
       pub opens_raw : (raw : List ℕ) → AreRaw s raw → AreRaw (opened sid label s) raw
-      opens_raw raw all = λ k l. subst (λ (source : PixelSource). IsRawOf source (get_or raw k 0)) (sym (opens_sources (pixel s.config.width k))) (all k l)
+      opens_raw raw all = λ k l. subst (λ (source : PixelSource). IsRawOf source (get_or raw k 0))
+          (sym (opens_sources (pixel s.config.width k))) (all k l)
 
       -- and each view's handle is below the same one
       pub opens_below : AreBelowNext s → AreBelowNext (opened sid label s)
       opens_below all = λ k v l.
           let w = get_or s.stack k v in
-          subst (λ (u : Session). w.handle < u.next) (sym (get_or-set_other s.sessions sid w.sid begun (first_session 0) (apart w.sid (h.views k v l)))) (all k v l)
+          subst (λ (u : Session). w.handle < u.next)
+          (sym (get_or-set_other s.sessions sid w.sid begun (first_session 0) (apart w.sid (h.views k v l))))
+          (all k v l)
 
 -- ---- at a screen
 
 -- nothing goes before it opens
-pub only_opens : (s s' : ServerModel) (sid : ℕ) (label : List ℕ) → s' ≡ with_reopened sid label s → (session (state_of s) sid).status ≢ status.Live → AreLive (state_of s) → state_of s' ≡ opened sid label (state_of s)
+pub only_opens : (s s' : ServerModel) (sid : ℕ) (label : List ℕ) → s' ≡ with_reopened sid label s
+    → (session (state_of s) sid).status ≢ status.Live → AreLive (state_of s)
+    → state_of s' ≡ opened sid label (state_of s)
 only_opens s s' sid label is over h =
     ap state_of is
     ∙ (λ i. record {
       config = relabelled sid label s.config;
-      sessions = set-set s.sessions sid (ended status.Killed (session_in s.sessions sid)) (first_session (member s.config sid).donation) i;
+      sessions = set-set s.sessions sid (ended status.Killed (session_in s.sessions sid))
+          (first_session (member s.config sid).donation) i;
       stack = (views_closed sid s.stack.views ∙ no_views (state_of s) sid over (views_of s.stack.views) h.views) i;
       input = forgotten (state_of s) sid over h i;
     })
@@ -83,10 +102,14 @@ only_opens s s' sid label is over h =
 -- ---- where no pixel is marked
 
 -- no raw word changes
-pub clean_words : (source : ℕ → PixelSource) (is_marked : ℕ → Bool) (n : ℕ) (a b : ℕ → Sight) (raw raw' : List ℕ) → ((k : ℕ) → is_marked k ≡ false) → length raw' ≡ length raw → Repainted source is_marked n a b raw raw' → raw' ≡ raw
-clean_words source is_marked n a b raw raw' clean long painted = ext_get_or 0 raw' raw long (λ k l. painted.others k (λ m. clean k))
+pub clean_words : (source : ℕ → PixelSource) (is_marked : ℕ → Bool) (n : ℕ) (a b : ℕ → Sight) (raw raw' : List ℕ)
+    → ((k : ℕ) → is_marked k ≡ false) → length raw' ≡ length raw → Repainted source is_marked n a b raw raw'
+    → raw' ≡ raw
+clean_words source is_marked n a b raw raw' clean long painted =
+    ext_get_or 0 raw' raw long (λ k l. painted.others k (λ m. clean k))
 
-none_shown : (source : ℕ → PixelSource) (is_marked : ℕ → Bool) (t i n : ℕ) → ((k : ℕ) → is_marked k ≡ false) → times_shown source is_marked t i n ≡ 0
+none_shown : (source : ℕ → PixelSource) (is_marked : ℕ → Bool) (t i n : ℕ) → ((k : ℕ) → is_marked k ≡ false)
+    → times_shown source is_marked t i n ≡ 0
 none_shown source is_marked t i zero clean = refl
 none_shown source is_marked t i (suc n) clean =
     let before = none_shown source is_marked t i n clean in
@@ -102,7 +125,8 @@ no_loads (load ∷ rest) none =
     absurd (omega (arith, none load.0, count, first))
 
 -- and no glass tells a load
-pub clean_seen : (source : ℕ → PixelSource) (is_marked : ℕ → Bool) (n : ℕ) (a b : ℕ → Sight) (raw raw' : List ℕ) → ((k : ℕ) → is_marked k ≡ false) → Repainted source is_marked n a b raw raw' → (t : ℕ) → b t ≡ a t
+pub clean_seen : (source : ℕ → PixelSource) (is_marked : ℕ → Bool) (n : ℕ) (a b : ℕ → Sight) (raw raw' : List ℕ)
+    → ((k : ℕ) → is_marked k ≡ false) → Repainted source is_marked n a b raw raw' → (t : ℕ) → b t ≡ a t
 clean_seen source is_marked n a b raw raw' clean painted t =
     let none = no_loads (painted.loads t) (λ i. painted.counts t i ∙ none_shown source is_marked t i n clean) in
     painted.sights t ∙ ap (seen (a t)) none ∙ sym (seen_none (a t))

@@ -1,6 +1,13 @@
 -- What a call does to a screen.
-use Rattle.nit_screen.proofs.Basics.{Call, Configuration, Entry, HoldBuffers, IsGlassOf, IsServed, IsServer, Painted, Point, Repainted, Reply, ServerModel, Sight, State, dirty, dirty_by_call, eqb-true, glass_in, glasses_of_call, is_accepted, length-map, member, no_sight, pixel, pixel_count, repainted_none, repainted_same, seen, session_in, size_of_buffer, source_at, state_of, table_size, word_count}
-use Rattle.std.proofs.Common.{Bool, List, None, ap, cond, false, length, refl, slice_index_or, subst, sym, true, ℕ, ◌&&◌, ◌*◌, ◌<◌, ◌==◌, ◌∙◌, ◌≡◌, ◌≤◌}
+use Rattle.nit_screen.proofs.Basics.{Call, Configuration, Entry, HoldBuffers, IsGlassOf, IsServed}
+use Rattle.nit_screen.proofs.Basics.{IsServer, Painted, Point, Repainted, Reply, ServerModel, Sight}
+use Rattle.nit_screen.proofs.Basics.{State, dirty, dirty_by_call, eqb-true, glass_in}
+use Rattle.nit_screen.proofs.Basics.{glasses_of_call, is_accepted, length-map, member, no_sight}
+use Rattle.nit_screen.proofs.Basics.{pixel, pixel_count, repainted_none, repainted_same, seen}
+use Rattle.nit_screen.proofs.Basics.{session_in, size_of_buffer, source_at, state_of, table_size}
+use Rattle.nit_screen.proofs.Basics.{word_count}
+use Rattle.std.proofs.Common.{Bool, List, None, ap, cond, false, length, refl, slice_index_or}
+use Rattle.std.proofs.Common.{subst, sym, true, ℕ, ◌&&◌, ◌*◌, ◌<◌, ◌==◌, ◌∙◌, ◌≡◌, ◌≤◌}
 use Rattle.nit_events.specs.declared.entry.Entry.TheVariants as entry
 use Rattle.nit_paint.specs.Pieces as pieces
 use Rattle.nit_screen.proofs.Marks.{IsMarkOf}
@@ -8,65 +15,90 @@ use Rattle.nit_screen.proofs.MarkLemmas.{size_at, source_of_number, unmeant}
 use Rattle.nit_screen.proofs.CleanCalls.{right_fails}
 
 -- an entry that makes nothing dirty
-pub unpainted : (s : State) (e : Entry) (s' : State) (glasses : ℕ → Sight) (raw : List ℕ) → ((p : Point) → dirty s e s' p ≡ false) → Painted s e s' glasses glasses raw raw
-unpainted s e s' glasses raw clean = repainted_none (source_at s') _ (pixel_count s) glasses raw (λ k l. clean (pixel s.config.width k))
+pub unpainted : (s : State) (e : Entry) (s' : State) (glasses : ℕ → Sight) (raw : List ℕ)
+    → ((p : Point) → dirty s e s' p ≡ false) → Painted s e s' glasses glasses raw raw
+unpainted s e s' glasses raw clean =
+    repainted_none (source_at s') _ (pixel_count s) glasses raw (λ k l. clean (pixel s.config.width k))
 
-pub refused_clean : (s s' : State) (sid : ℕ) (call : Call) (r : Reply) (p : Point) → is_accepted r ≡ false → dirty s (entry.Call sid call r) s' p ≡ false
+pub refused_clean : (s s' : State) (sid : ℕ) (call : Call) (r : Reply) (p : Point) → is_accepted r ≡ false
+    → dirty s (entry.Call sid call r) s' p ≡ false
 refused_clean s s' sid call r p e = ap (λ (b : Bool). b && dirty_by_call sid call s s' p) e
 
-pub unmarked_clean : (s : ServerModel) (before after' : State) (sid : ℕ) (call : Call) (r : Reply) (p : Point) → IsMarkOf s sid call None → dirty before (entry.Call sid call r) after' p ≡ false
+pub unmarked_clean : (s : ServerModel) (before after' : State) (sid : ℕ) (call : Call) (r : Reply) (p : Point)
+    → IsMarkOf s sid call None → dirty before (entry.Call sid call r) after' p ≡ false
 unmarked_clean s before after' sid call r p is = right_fails (is_accepted r) _ (unmeant s sid call is before after' p)
 
 -- ---- the glasses
 
 -- the configuration stays
-pub same_config : (sid : ℕ) (call : Call) (r : Reply) (before after' : ServerModel) → IsServed sid call r before after' → after'.config ≡ before.config
+pub same_config : (sid : ℕ) (call : Call) (r : Reply) (before after' : ServerModel) → IsServed sid call r before after'
+    → after'.config ≡ before.config
 same_config sid call r before after' s = ap (λ (t : State). t.config) s.state
 
 -- each session has a glass with a word for each of its buffer's
 pub holds : (s : ServerModel) (glasses : ℕ → Sight) (count : ℕ) → IsServer s → count ≡ length s.config.clients
-    → ((t : ℕ) → t < length s.config.clients → (glasses t).size ≡ table_size (member s.config t).donation) → HoldBuffers s.stack count glasses
+    → ((t : ℕ) → t < length s.config.clients → (glasses t).size ≡ table_size (member s.config t).donation)
+    → HoldBuffers s.stack count glasses
 holds s glasses count h count_ sizes_ = λ t l.
-    let sessions_ : t < length s.sessions = subst (λ (n : ℕ). t < n) (ap length h.sizes ∙ length-map s.sessions size_of_buffer) l in
+    let sessions_ : t < length s.sessions =
+    subst (λ (n : ℕ). t < n) (ap length h.sizes ∙ length-map s.sessions size_of_buffer) l in
     let clients_ : t < length s.config.clients = subst (λ (n : ℕ). t < n) h.each sessions_ in
     let words = ap word_count (size_at s h t) in (
       subst (λ (n : ℕ). t < n) (sym count_) clients_,
-      subst (λ (n : ℕ). n ≤ (glasses t).size) (sym words) (subst (λ (n : ℕ). (session_in s.sessions t).bw * (session_in s.sessions t).bh ≤ n) (sym (sizes_ t clients_)) (h.within t sessions_)),
+      subst (λ (n : ℕ). n ≤ (glasses t).size) (sym words)
+          (subst (λ (n : ℕ). (session_in s.sessions t).bw * (session_in s.sessions t).bh ≤ n) (sym (sizes_ t clients_))
+          (h.within t sessions_)),
     )
 
-pub held_by_glasses : (before after' : ServerModel) (sights : List Sight) (count sid : ℕ) (own : Sight) → IsServer after' → after'.config ≡ before.config
-    → count ≡ length before.config.clients → ((t : ℕ) → t < length before.config.clients → IsGlassOf before t (glass_in sights t)) → IsGlassOf before sid own
+pub held_by_glasses : (before after' : ServerModel) (sights : List Sight) (count sid : ℕ) (own : Sight)
+    → IsServer after' → after'.config ≡ before.config
+    → count ≡ length before.config.clients
+    → ((t : ℕ) → t < length before.config.clients → IsGlassOf before t (glass_in sights t)) → IsGlassOf before sid own
     → HoldBuffers after'.stack count (glasses_of_call sights sid own)
 held_by_glasses before after' sights count sid own h config_ count_ tables own_ =
-    holds after' (glasses_of_call sights sid own) count h (count_ ∙ ap (λ (c : Configuration). length c.clients) (sym config_))
-    (λ t l. glass_size t (subst (λ (c : Configuration). t < length c.clients) config_ l) ∙ ap (λ (c : Configuration). table_size (member c t).donation) (sym config_))
+    holds after' (glasses_of_call sights sid own) count h
+    (count_ ∙ ap (λ (c : Configuration). length c.clients) (sym config_))
+    (λ t l. glass_size t (subst (λ (c : Configuration). t < length c.clients) config_ l)
+    ∙ ap (λ (c : Configuration). table_size (member c t).donation) (sym config_))
   where
-    glass_size : (t : ℕ) → t < length before.config.clients → (glasses_of_call sights sid own t).size ≡ table_size (member before.config t).donation
+    glass_size : (t : ℕ) → t < length before.config.clients → (glasses_of_call sights sid own t).size
+        ≡ table_size (member before.config t).donation
     glass_size t l = go (t == sid) refl
       where
-        go : (b : Bool) → (t == sid) ≡ b → (cond b own (slice_index_or sights t no_sight)).size ≡ table_size (member before.config t).donation
+        go : (b : Bool) → (t == sid) ≡ b → (cond b own (slice_index_or sights t no_sight)).size
+            ≡ table_size (member before.config t).donation
         go true e = own_.1 ∙ ap (λ (n : ℕ). table_size (member before.config n).donation) (sym (eqb-true t sid e))
         go false e = (tables t l).1
 
 -- all pixels loaded again are those of the last picture
-pub painted_whole : (s : ServerModel) (n : ℕ) (glasses glasses' : ℕ → Sight) (raw raw' : List ℕ) → IsServer s → n ≡ pixel_count (state_of s)
-    → Repainted (pieces.source_of_number s.stack) (λ k. true) n glasses glasses' raw raw' → Painted (state_of s) entry.Final (state_of s) glasses glasses' raw raw'
+pub painted_whole : (s : ServerModel) (n : ℕ) (glasses glasses' : ℕ → Sight) (raw raw' : List ℕ) → IsServer s
+    → n ≡ pixel_count (state_of s)
+    → Repainted (pieces.source_of_number s.stack) (λ k. true) n glasses glasses' raw raw'
+    → Painted (state_of s) entry.Final (state_of s) glasses glasses' raw raw'
 painted_whole s n glasses glasses' raw raw' h count painted =
     subst (λ (c : ℕ). Repainted (source_at (state_of s)) (λ k. true) c glasses glasses' raw raw') count
-    (repainted_same _ _ _ _ n glasses glasses glasses' glasses' raw raw' (λ k l. refl) (λ k l m. source_of_number s h k) (λ t. refl) (λ t. refl) painted)
+    (repainted_same _ _ _ _ n glasses glasses glasses' glasses' raw raw' (λ k l. refl) (λ k l m. source_of_number s h k)
+    (λ t. refl) (λ t. refl) painted)
 
 -- loads leave the owners and sizes of the glasses
-pub tables_kept : (before after' : ServerModel) (sights sights' : List Sight) (sid : ℕ) (own own' : Sight) (loads : ℕ → List (ℕ × ℕ)) → after'.config ≡ before.config
-    → ((t : ℕ) → glasses_of_call sights' sid own' t ≡ seen (glasses_of_call sights sid own t) (loads t)) → glass_in sights' sid ≡ glass_in sights sid
-    → ((t : ℕ) → t < length before.config.clients → IsGlassOf before t (glass_in sights t)) → (t : ℕ) → t < length after'.config.clients → IsGlassOf after' t (glass_in sights' t)
+pub tables_kept : (before after' : ServerModel) (sights sights' : List Sight) (sid : ℕ) (own own' : Sight) (loads : ℕ
+    → List (ℕ × ℕ)) → after'.config ≡ before.config
+    → ((t : ℕ) → glasses_of_call sights' sid own' t ≡ seen (glasses_of_call sights sid own t) (loads t))
+    → glass_in sights' sid ≡ glass_in sights sid
+    → ((t : ℕ) → t < length before.config.clients → IsGlassOf before t (glass_in sights t)) → (t : ℕ)
+    → t < length after'.config.clients → IsGlassOf after' t (glass_in sights' t)
 tables_kept before after' sights sights' sid own own' loads config_ seen_ idle_ tables t l =
     let l' = subst (λ (c : Configuration). t < length c.clients) config_ l in
     let old = tables t l' in
     let to = ap (λ (c : Configuration). table_size (member c t).donation) (sym config_) in
     go (t == sid) refl old.0 (old.1 ∙ to)
   where
-    go : (b : Bool) → (t == sid) ≡ b → (glass_in sights t).owner ≡ t → (glass_in sights t).size ≡ table_size (member after'.config t).donation → IsGlassOf after' t (glass_in sights' t)
-    go true e o z = let is = eqb-true t sid e in let kept = ap (glass_in sights') is ∙ idle_ ∙ sym (ap (glass_in sights) is) in (ap (λ (x : Sight). x.owner) kept ∙ o, ap (λ (x : Sight). x.size) kept ∙ z)
+    go : (b : Bool) → (t == sid) ≡ b → (glass_in sights t).owner ≡ t
+        → (glass_in sights t).size ≡ table_size (member after'.config t).donation
+        → IsGlassOf after' t (glass_in sights' t)
+    go true e o z = let is = eqb-true t sid e in let kept = ap (glass_in sights') is ∙ idle_
+        ∙ sym (ap (glass_in sights) is) in (ap (λ (x : Sight). x.owner) kept ∙ o, ap (λ (x : Sight). x.size) kept ∙ z)
     go false e o z =
-        let kept = subst (λ (b : Bool). cond b own' (slice_index_or sights' t no_sight) ≡ seen (cond b own (slice_index_or sights t no_sight)) (loads t)) e (seen_ t) in
+        let kept = subst (λ (b : Bool). cond b own' (slice_index_or sights' t no_sight)
+        ≡ seen (cond b own (slice_index_or sights t no_sight)) (loads t)) e (seen_ t) in
         (ap (λ (x : Sight). x.owner) kept ∙ o, ap (λ (x : Sight). x.size) kept ∙ z)

@@ -1,12 +1,21 @@
 -- What holds of a screen stays so when a session, of which nothing is left, opens again.
-use Rattle.std.proofs.Common.{Bool, List, ap, false, get_or-set_other, get_or-set_same, length, map, refl, set, subst, sym, true, ℕ, ◌<◌, ◌==◌, ◌∙◌, ◌≡◌}
-use Rattle.nit_screen.proofs.Basics.{CanShow, Configuration, IsGlass, IsGlassOf, IsServer, Member, ServerModel, Session, Sight, bar_rows, buffer_size, client_kept, ended, eqb-false, eqb-true, first_session, glass_in, length-map, length-set, map-set, member, no_sight, no_size, pixel, relabelled, renamed, seen, session_in, size_of_buffer, source, source_at, state_of, table_size, views_of, with_ended, with_opened}
+use Rattle.std.proofs.Common.{Bool, List, ap, false, get_or-set_other, get_or-set_same, length, map}
+use Rattle.std.proofs.Common.{refl, set, subst, sym, true, ℕ, ◌<◌, ◌==◌, ◌∙◌, ◌≡◌}
+use Rattle.nit_screen.proofs.Basics.{CanShow, Configuration, IsGlass, IsGlassOf, IsServer, Member}
+use Rattle.nit_screen.proofs.Basics.{ServerModel, Session, Sight, bar_rows, buffer_size}
+use Rattle.nit_screen.proofs.Basics.{client_kept, ended, eqb-false, eqb-true, first_session}
+use Rattle.nit_screen.proofs.Basics.{glass_in, length-map, length-set, map-set, member, no_sight}
+use Rattle.nit_screen.proofs.Basics.{no_size, pixel, relabelled, renamed, seen, session_in}
+use Rattle.nit_screen.proofs.Basics.{size_of_buffer, source, source_at, state_of, table_size}
+use Rattle.nit_screen.proofs.Basics.{views_of, with_ended, with_opened}
 use Rattle.nit_screen.proofs.BufferSizes.{sizes_stay}
 use Rattle.nit_events.specs.declared.event.Status.TheVariants as status
 
 -- a frame can still be made, with the new label
-pub can_relabel : (mid s' : ServerModel) (sid : ℕ) (label raw : List ℕ) (reached most_ room : ℕ) (labels : List (List ℕ)) (places bar : ℕ) → s' ≡ with_opened sid label mid
-    → CanShow mid raw reached most_ room labels places bar → CanShow s' raw reached most_ room (set labels sid label) places bar
+pub can_relabel : (mid s' : ServerModel) (sid : ℕ) (label raw : List ℕ) (reached most_ room : ℕ)
+    (labels : List (List ℕ)) (places bar : ℕ) → s' ≡ with_opened sid label mid
+    → CanShow mid raw reached most_ room labels places bar
+    → CanShow s' raw reached most_ room (set labels sid label) places bar
 can_relabel mid s' sid label raw reached most_ room labels places bar is h =
     subst (λ (z : ServerModel). CanShow z raw reached most_ room (set labels sid label) places bar) (sym is) (record {
       words = h.words;
@@ -14,26 +23,34 @@ can_relabel mid s' sid label raw reached most_ room labels places bar is h =
       few = h.few;
       spare = h.spare;
       cuts = h.cuts;
-      named = ap (λ (l : List (List ℕ)). set l sid label) h.named ∙ sym (map-set (λ (m : Member). m.label) mid.config.clients sid (renamed mid.config sid label));
+      named = ap (λ (l : List (List ℕ)). set l sid label) h.named
+          ∙ sym (map-set (λ (m : Member). m.label) mid.config.clients sid (renamed mid.config sid label));
       placed = h.placed;
       bar = h.bar;
       fits = h.fits;
     })
 
 -- there is a label for each session
-pub label_there : (s mid : ServerModel) (sid : ℕ) (texts : List (List ℕ)) → IsServer s → mid ≡ with_ended sid status.Killed s → texts ≡ map (λ m. m.label) mid.config.clients → sid < length s.sessions → sid < length texts
+pub label_there : (s mid : ServerModel) (sid : ℕ) (texts : List (List ℕ)) → IsServer s
+    → mid ≡ with_ended sid status.Killed s → texts ≡ map (λ m. m.label) mid.config.clients → sid < length s.sessions
+    → sid < length texts
 label_there s mid sid texts h is named lt =
-    let as_many : length texts ≡ length s.sessions = ap length named ∙ length-map mid.config.clients (λ (m : Member). m.label) ∙ ap (λ (z : ServerModel). length z.config.clients) is ∙ sym h.each in
+    let as_many : length texts ≡ length s.sessions = ap length named
+    ∙ length-map mid.config.clients (λ (m : Member). m.label) ∙ ap (λ (z : ServerModel). length z.config.clients) is
+    ∙ sym h.each in
     subst (λ (n : ℕ). sid < n) (sym as_many) lt
 
 -- a session that is over has no buffer, and none when it opens
-no_buffer : (s mid : ServerModel) (sid : ℕ) → mid ≡ with_ended sid status.Killed s → sid < length s.sessions → size_of_buffer (session_in mid.sessions sid) ≡ no_size
+no_buffer : (s mid : ServerModel) (sid : ℕ) → mid ≡ with_ended sid status.Killed s → sid < length s.sessions
+    → size_of_buffer (session_in mid.sessions sid) ≡ no_size
 no_buffer s mid sid is lt =
     ap (λ (z : ServerModel). size_of_buffer (session_in z.sessions sid)) is
-    ∙ ap size_of_buffer (get_or-set_same s.sessions sid (ended status.Killed (session_in s.sessions sid)) (first_session 0) lt)
+    ∙ ap size_of_buffer (get_or-set_same s.sessions sid (ended status.Killed (session_in s.sessions sid))
+    (first_session 0) lt)
 
 -- so each pixel has the same source
-pub same_source : (s mid s' : ServerModel) (sid : ℕ) (label : List ℕ) → mid ≡ with_ended sid status.Killed s → s' ≡ with_opened sid label mid → sid < length s.sessions → source_at (state_of s') ≡ source_at (state_of mid)
+pub same_source : (s mid s' : ServerModel) (sid : ℕ) (label : List ℕ) → mid ≡ with_ended sid status.Killed s
+    → s' ≡ with_opened sid label mid → sid < length s.sessions → source_at (state_of s') ≡ source_at (state_of mid)
 same_source s mid s' sid label over is lt =
     ap (λ (z : ServerModel). source_at (state_of z)) is
     ∙ (λ i k. source (sizes i) (bar_rows mid.config) (views_of mid.stack.views) (pixel mid.config.width k))
@@ -45,34 +62,51 @@ same_source s mid s' sid label over is lt =
     sizes = λ i t. sizes_stay mid.sessions sid fresh (sym (no_buffer s mid sid over lt)) t i
 
 -- each session has its glass as before
-pub tables_stay : (s mid s' : ServerModel) (sid : ℕ) (label : List ℕ) (sights sights' : List Sight) (loads : ℕ → List (ℕ × ℕ)) → IsServer s → mid ≡ with_ended sid status.Killed s → s' ≡ with_opened sid label mid → sid < length s.sessions
+pub tables_stay : (s mid s' : ServerModel) (sid : ℕ) (label : List ℕ) (sights sights' : List Sight) (loads : ℕ
+    → List (ℕ × ℕ)) → IsServer s → mid ≡ with_ended sid status.Killed s → s' ≡ with_opened sid label mid
+    → sid < length s.sessions
     → ((t : ℕ) → glass_in sights' t ≡ seen (glass_in sights t) (loads t))
     → ((t : ℕ) → t < length s.config.clients → IsGlassOf s t (glass_in sights t))
     → (t : ℕ) → t < length s'.config.clients → IsGlassOf s' t (glass_in sights' t)
 tables_stay s mid s' sid label sights sights' loads h over is lt seen_ tables t l =
-    let config_ : s'.config ≡ relabelled sid label s.config = ap (λ (z : ServerModel). z.config) is ∙ ap (λ (z : ServerModel). relabelled sid label z.config) over in
+    let config_ : s'.config ≡ relabelled sid label s.config = ap (λ (z : ServerModel). z.config) is
+    ∙ ap (λ (z : ServerModel). relabelled sid label z.config) over in
     let there : sid < length s.config.clients = subst (λ (n : ℕ). sid < n) h.each lt in
-    let many : length s'.config.clients ≡ length s.config.clients = ap (λ (c : Configuration). length c.clients) config_ ∙ length-set s.config.clients sid (renamed s.config sid label) in
+    let many : length s'.config.clients ≡ length s.config.clients = ap (λ (c : Configuration). length c.clients) config_
+    ∙ length-set s.config.clients sid (renamed s.config sid label) in
     let old = tables t (subst (λ (n : ℕ). t < n) many l) in
-    let kept : (member s'.config t).donation ≡ (member s.config t).donation = ap (λ (c : Configuration). (member c t).donation) config_ ∙ client_kept s.config sid label (λ m. m.donation) refl t there in
-    (ap (λ (x : Sight). x.owner) (seen_ t) ∙ old.0, ap (λ (x : Sight). x.size) (seen_ t) ∙ old.1 ∙ ap table_size (sym kept))
+    let kept : (member s'.config t).donation ≡ (member s.config t).donation =
+    ap (λ (c : Configuration). (member c t).donation) config_
+    ∙ client_kept s.config sid label (λ m. m.donation) refl t there in (
+      ap (λ (x : Sight). x.owner) (seen_ t) ∙ old.0,
+      ap (λ (x : Sight). x.size) (seen_ t) ∙ old.1
+          ∙ ap table_size (sym kept),
+    )
 
 -- as many clients as before
-pub as_many : (s mid s' : ServerModel) (sid : ℕ) (label : List ℕ) → mid ≡ with_ended sid status.Killed s → s' ≡ with_opened sid label mid → length s.config.clients ≡ length s'.config.clients
+pub as_many : (s mid s' : ServerModel) (sid : ℕ) (label : List ℕ) → mid ≡ with_ended sid status.Killed s
+    → s' ≡ with_opened sid label mid → length s.config.clients ≡ length s'.config.clients
 as_many s mid s' sid label over is =
-    sym (ap (λ (z : ServerModel). length z.config.clients) is ∙ length-set mid.config.clients sid (renamed mid.config sid label) ∙ ap (λ (z : ServerModel). length z.config.clients) over)
+    sym (ap (λ (z : ServerModel). length z.config.clients) is
+    ∙ length-set mid.config.clients sid (renamed mid.config sid label)
+    ∙ ap (λ (z : ServerModel). length z.config.clients) over)
 
 -- each session has a glass of its own when one of them is exchanged for another of its session
-pub exchanged : {G : Type 0} (sight : G → Sight) (config : Configuration) (glasses : List G) (sid : ℕ) (x : G) → IsGlass config sid (sight x) → sid < length glasses
-    → ((t : ℕ) → t < length config.clients → IsGlass config t (glass_in (map sight glasses) t)) → (t : ℕ) → t < length config.clients → IsGlass config t (glass_in (map sight (set glasses sid x)) t)
+pub exchanged : {G : Type 0} (sight : G → Sight) (config : Configuration) (glasses : List G) (sid : ℕ) (x : G)
+    → IsGlass config sid (sight x) → sid < length glasses
+    → ((t : ℕ) → t < length config.clients → IsGlass config t (glass_in (map sight glasses) t)) → (t : ℕ)
+    → t < length config.clients → IsGlass config t (glass_in (map sight (set glasses sid x)) t)
 exchanged sight config glasses sid x is inside tables t l =
-    subst (λ (ss : List Sight). IsGlass config t (glass_in ss t)) (sym (map-set sight glasses sid x)) (go (t == sid) refl)
+    subst (λ (ss : List Sight). IsGlass config t (glass_in ss t)) (sym (map-set sight glasses sid x))
+    (go (t == sid) refl)
   where
     within : sid < length (map sight glasses)
     within = subst (λ (n : ℕ). sid < n) (sym (length-map glasses sight)) inside
 
     go : (b : Bool) → (t == sid) ≡ b → IsGlass config t (glass_in (set (map sight glasses) sid (sight x)) t)
     go true e =
-        subst (λ (n : ℕ). IsGlass config n (glass_in (set (map sight glasses) sid (sight x)) n)) (sym (eqb-true t sid e))
+        subst (λ (n : ℕ). IsGlass config n (glass_in (set (map sight glasses) sid (sight x)) n))
+        (sym (eqb-true t sid e))
         (subst (IsGlass config sid) (sym (get_or-set_same (map sight glasses) sid (sight x) no_sight within)) is)
-    go false e = subst (IsGlass config t) (sym (get_or-set_other (map sight glasses) sid t (sight x) no_sight (eqb-false t sid e))) (tables t l)
+    go false e = subst (IsGlass config t)
+        (sym (get_or-set_other (map sight glasses) sid t (sight x) no_sight (eqb-false t sid e))) (tables t l)

@@ -1,15 +1,24 @@
 -- A call that draws the views of a session makes their pixels dirty, and paints them.
-use Rattle.nit_screen.proofs.Basics.{Above, Back, Buffer, Call, Close, Destroy, Front, IsPartOf, IsServed, IsServer, Offset, Painted, Place, Point, Rectangle, Refresh, Repainted, Reply, ServerModel, Sight, State, Take, Title, Upgrade, View, all_of_session, dirty, dirty_by_call, is_accepted, part_of_session, pixel, pixel_count, rectangle, refusal, repainted_same, session, source_at, state_of, wanted}
+use Rattle.nit_screen.proofs.Basics.{Above, Back, Buffer, Call, Close, Destroy, Front, IsPartOf}
+use Rattle.nit_screen.proofs.Basics.{IsServed, IsServer, Offset, Painted, Place, Point, Rectangle}
+use Rattle.nit_screen.proofs.Basics.{Refresh, Repainted, Reply, ServerModel, Sight, State, Take}
+use Rattle.nit_screen.proofs.Basics.{Title, Upgrade, View, all_of_session, dirty, dirty_by_call}
+use Rattle.nit_screen.proofs.Basics.{is_accepted, part_of_session, pixel, pixel_count, rectangle}
+use Rattle.nit_screen.proofs.Basics.{refusal, repainted_same, session, source_at, state_of, wanted}
 use Rattle.std.proofs.Common.{Bool, List, None, Option, ap, refl, subst, sym, ℕ, ◌&&◌, ◌∙◌, ◌≡◌}
 use Rattle.nit_events.specs.declared.entry.Entry.TheVariants as entry
 use Rattle.nit_paint.specs.Pieces as pieces
 use Rattle.nit_screen.proofs.MarkLemmas.{part_meant, session_meant, source_of_number}
 use Rattle.nit_screen.proofs.CallAnswers.{unrefused_reply}
 
-wanted_dirty : (before after' : ServerModel) (sid : ℕ) (part : Option Rectangle) (call : Call) (p : Point) → IsServer after' → IsPartOf part call → wanted sid part after'.stack p ≡ dirty_by_call sid call (state_of before) (state_of after') p
-wanted_dirty before after' sid part (Buffer w h) p ha on = ap (λ (o : Option Rectangle). wanted sid o after'.stack p) on ∙ all_of_session sid after'.stack p ∙ session_meant after' ha sid p
+wanted_dirty : (before after' : ServerModel) (sid : ℕ) (part : Option Rectangle) (call : Call) (p : Point)
+    → IsServer after' → IsPartOf part call
+    → wanted sid part after'.stack p ≡ dirty_by_call sid call (state_of before) (state_of after') p
+wanted_dirty before after' sid part (Buffer w h) p ha on = ap (λ (o : Option Rectangle). wanted sid o after'.stack p) on
+    ∙ all_of_session sid after'.stack p ∙ session_meant after' ha sid p
 wanted_dirty before after' sid part (Refresh x y w h) p ha on =
-    ap (λ (o : Option Rectangle). wanted sid o after'.stack p) on ∙ part_of_session sid (rectangle x y w h) after'.stack p
+    ap (λ (o : Option Rectangle). wanted sid o after'.stack p) on
+    ∙ part_of_session sid (rectangle x y w h) after'.stack p
     ∙ part_meant after' ha sid (rectangle x y w h) p
 wanted_dirty before after' sid part (Place v x y w h) p ha on = absurd on
 wanted_dirty before after' sid part (Offset v ox oy) p ha on = absurd on
@@ -23,17 +32,26 @@ wanted_dirty before after' sid part Take p ha on = absurd on
 wanted_dirty before after' sid part (Upgrade n) p ha on = absurd on
 wanted_dirty before after' sid part Close p ha on = absurd on
 
-module _ (before after' : ServerModel) (sid : ℕ) (part : Option Rectangle) (call : Call) (r : Reply) (ha : IsServer after') (none : refusal (session (state_of before) sid) call ≡ None)
+module _ (before after' : ServerModel) (sid : ℕ) (part : Option Rectangle) (call : Call) (r : Reply)
+    (ha : IsServer after') (none : refusal (session (state_of before) sid) call ≡ None)
     (s : IsServed sid call r before after') (on : IsPartOf part call) where
-  pub dirty_by_views : (k : ℕ) → wanted sid part after'.stack (pixel after'.stack.width k) ≡ dirty (state_of before) (entry.Call sid call r) (state_of after') (pixel before.config.width k)
+  pub dirty_by_views : (k : ℕ) → wanted sid part after'.stack (pixel after'.stack.width k)
+      ≡ dirty (state_of before) (entry.Call sid call r) (state_of after') (pixel before.config.width k)
   dirty_by_views k =
-      ap (λ (w : ℕ). wanted sid part after'.stack (pixel w k)) (ha.screen.0 ∙ ap (λ (t : State). t.config.width) s.state)
+      ap (λ (w : ℕ). wanted sid part after'.stack (pixel w k)) (ha.screen.0
+      ∙ ap (λ (t : State). t.config.width) s.state)
       ∙ wanted_dirty before after' sid part call (pixel before.config.width k) ha on
-      ∙ sym (ap (λ (b : Bool). b && dirty_by_call sid call (state_of before) (state_of after') (pixel before.config.width k)) (ap is_accepted s.replied ∙ unrefused_reply (session (state_of before) sid) call none))
+      ∙ sym (ap (λ (b : Bool). b && dirty_by_call sid call (state_of before) (state_of after')
+      (pixel before.config.width k)) (ap is_accepted s.replied
+      ∙ unrefused_reply (session (state_of before) sid) call none))
 
   pub painted_by_views : (n : ℕ) (glasses glasses' : ℕ → Sight) (raw raw' : List ℕ) → n ≡ pixel_count (state_of before)
-      → Repainted (pieces.source_of_number after'.stack) (λ k. wanted sid part after'.stack (pixel after'.stack.width k)) n glasses glasses' raw raw'
+      → Repainted (pieces.source_of_number after'.stack)
+      (λ k. wanted sid part after'.stack (pixel after'.stack.width k)) n glasses glasses' raw raw'
       → Painted (state_of before) (entry.Call sid call r) (state_of after') glasses glasses' raw raw'
   painted_by_views n glasses glasses' raw raw' count painted =
-      subst (λ (c : ℕ). Repainted (source_at (state_of after')) (λ k. dirty (state_of before) (entry.Call sid call r) (state_of after') (pixel before.config.width k)) c glasses glasses' raw raw') count
-      (repainted_same _ _ _ _ n glasses glasses glasses' glasses' raw raw' (λ k l. dirty_by_views k) (λ k l m. source_of_number after' ha k) (λ t. refl) (λ t. refl) painted)
+      subst (λ (c : ℕ). Repainted (source_at (state_of after'))
+      (λ k. dirty (state_of before) (entry.Call sid call r) (state_of after') (pixel before.config.width k)) c
+      glasses glasses' raw raw') count
+      (repainted_same _ _ _ _ n glasses glasses glasses' glasses' raw raw' (λ k l. dirty_by_views k)
+      (λ k l m. source_of_number after' ha k) (λ t. refl) (λ t. refl) painted)

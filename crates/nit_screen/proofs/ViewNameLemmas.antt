@@ -1,6 +1,10 @@
 -- No two views have the same session and handle.
-use Rattle.nit_screen.proofs.Basics.{Entry, HaveOwnNames, IsNewlyNamed, IsPutIn, NoPair-map, NoPair-put, NoPair-without, State, View, after, and_parts, eqb-true, flip, found_passes, is_view, list_any, none_left, put_again, without}
-use Rattle.std.proofs.Common.{Bool, List, None, Option, Some, ap, cond, false, find, refl, subst, sym, true, ℕ, ◌&&◌, ◌==◌, ◌∙◌, ◌≡◌}
+use Rattle.nit_screen.proofs.Basics.{Entry, HaveOwnNames, IsNewlyNamed, IsPutIn, NoPair-map}
+use Rattle.nit_screen.proofs.Basics.{NoPair-put, NoPair-without, State, View, after, and_parts}
+use Rattle.nit_screen.proofs.Basics.{eqb-true, flip, found_passes, is_view, list_any, none_left}
+use Rattle.nit_screen.proofs.Basics.{put_again, without}
+use Rattle.std.proofs.Common.{Bool, List, None, Option, Some, ap, cond, false, find, refl, subst}
+use Rattle.std.proofs.Common.{sym, true, ℕ, ◌&&◌, ◌==◌, ◌∙◌, ◌≡◌}
 use Rattle.nit_events.specs.declared.call.Reply.TheVariants as reply
 use Rattle.nit_events.specs.declared.entry.Entry.TheVariants as entry
 use Rattle.nit_stack.specs.declared.view.View.{View as ViewOf}
@@ -11,9 +15,11 @@ abbrev same_name : ViewOf → ViewOf → Bool
 same_name v other = is_view v.sid v.handle other
 
 both_ways : (a b : ViewOf) → same_name a b ≡ same_name b a
-both_ways a b = ap (λ t. t && (b.handle == a.handle)) (flip b.sid a.sid) ∙ ap (λ t. (a.sid == b.sid) && t) (flip b.handle a.handle)
+both_ways a b = ap (λ t. t && (b.handle == a.handle)) (flip b.sid a.sid)
+    ∙ ap (λ t. (a.sid == b.sid) && t) (flip b.handle a.handle)
 
-change_or_not : (is : ViewOf → Bool) (change : ViewOf → ViewOf) → KeepsName change → KeepsName (λ v. cond (is v) (change v) v)
+change_or_not : (is : ViewOf → Bool) (change : ViewOf → ViewOf) → KeepsName change
+    → KeepsName (λ v. cond (is v) (change v) v)
 change_or_not is change same v = go (is v)
   where
     go : (b : Bool) → ((cond b (change v) v).sid ≡ v.sid) × ((cond b (change v) v).handle ≡ v.handle)
@@ -26,8 +32,10 @@ its_name sid handle v named =
     let parts = and_parts (v.sid == sid) (v.handle == handle) named in
     (eqb-true v.sid sid parts.0, eqb-true v.handle handle parts.1)
 
-own_again : (sid handle : ℕ) (put : ViewOf → List ViewOf → List ViewOf) → ((x : ViewOf) (xs : List ViewOf) → IsPutIn x xs (put x xs)) → (xs : List ViewOf) (o : Option ViewOf)
-    → find (is_view sid handle) xs ≡ o → HaveOwnNames xs → HaveOwnNames (put_again put (without (is_view sid handle) xs) xs o)
+own_again : (sid handle : ℕ) (put : ViewOf → List ViewOf → List ViewOf)
+    → ((x : ViewOf) (xs : List ViewOf) → IsPutIn x xs (put x xs)) → (xs : List ViewOf) (o : Option ViewOf)
+    → find (is_view sid handle) xs ≡ o → HaveOwnNames xs
+    → HaveOwnNames (put_again put (without (is_view sid handle) xs) xs o)
 own_again sid handle put puts xs None found own = own
 own_again sid handle put puts xs (Some v) found own =
     let name = its_name sid handle v (found_passes (is_view sid handle) xs v found) in
@@ -35,18 +43,22 @@ own_again sid handle put puts xs (Some v) found own =
     let none : list_any (is_view v.sid v.handle) others ≡ false =
     subst (λ (n : ℕ). list_any (is_view n v.handle) others ≡ false) (sym name.0)
     (subst (λ (n : ℕ). list_any (is_view sid n) others ≡ false) (sym name.1) (none_left (is_view sid handle) xs)) in
-    NoPair-put same_name both_ways v others (put v others) (puts v others) none (NoPair-without same_name (is_view sid handle) xs own)
+    NoPair-put same_name both_ways v others (put v others) (puts v others) none
+    (NoPair-without same_name (is_view sid handle) xs own)
 
 own_is_kept : IsKept HaveOwnNames
 own_is_kept = record {
   out = λ is xs own. NoPair-without same_name is xs own;
   change = λ is change same xs own. NoPair-map same_name (λ v. cond (is v) (change v) v)
-      (λ a b. let n = change_or_not is change same a in let m = change_or_not is change same b in rw (n.0, n.1, m.0, m.1) refl) xs own;
+      (λ a b. let n = change_or_not is change same a in let m =
+      change_or_not is change same b in rw (n.0, n.1, m.0, m.1) refl) xs own;
   again = λ sid handle put puts xs own. own_again sid handle put puts xs (find (is_view sid handle) xs) refl own;
 }
 
-own_takes_new : (e : Entry) (stack : List ViewOf) → HaveOwnNames stack → IsNewlyNamed e stack → TakesNew HaveOwnNames e stack
-own_takes_new (entry.Call sid View (reply.Handle h)) stack own new = λ xs puts. NoPair-put same_name both_ways _ stack xs puts new own
+own_takes_new : (e : Entry) (stack : List ViewOf) → HaveOwnNames stack → IsNewlyNamed e stack
+    → TakesNew HaveOwnNames e stack
+own_takes_new (entry.Call sid View (reply.Handle h)) stack own new =
+    λ xs puts. NoPair-put same_name both_ways _ stack xs puts new own
 own_takes_new other stack own new = tt
 
 pub keeps_own : (s : State) (e : Entry) → HaveOwnNames s.stack → IsNewlyNamed e s.stack → HaveOwnNames (after s e).stack

@@ -2,10 +2,13 @@
 pub use Rattle.nit_config.specs.Configuration.{Configuration, bar_rows, member}
 pub use Rattle.nit_config.specs.ConfigurationRanges.{IsConfiguration}
 pub use Rattle.nit_config.specs.declared.config.Member.{Member}
-pub use Rattle.nit_events.specs.Input.{InputState, Routing, deliveries_of, forget, routed_as, unless_it_is}
+pub use Rattle.nit_events.specs.Input.{InputState, Routing, deliveries_of, forget, routed_as}
+pub use Rattle.nit_events.specs.Input.{unless_it_is}
 pub use Rattle.nit_events.specs.Ranges.{IsDevice}
 pub use Rattle.nit_events.specs.declared.call.Call.{Call}
-pub use Rattle.nit_events.specs.declared.call.Call.TheVariants.{Above, Back, Buffer, Close, Destroy, Front, Offset, Place, Refresh, Take, Title, Upgrade, View}
+pub use Rattle.nit_events.specs.declared.call.Call.TheVariants.{Above, Back, Buffer, Close, Destroy}
+pub use Rattle.nit_events.specs.declared.call.Call.TheVariants.{Front, Offset, Place, Refresh, Take}
+pub use Rattle.nit_events.specs.declared.call.Call.TheVariants.{Title, Upgrade, View}
 pub use Rattle.nit_events.specs.declared.call.Reply.{Reply}
 pub use Rattle.nit_events.specs.declared.device.Device.{Device}
 pub use Rattle.nit_events.specs.declared.device.Mode.{Mode}
@@ -22,15 +25,22 @@ pub use Rattle.nit_glyph.specs.Texts.{label_text_of}
 pub use Rattle.nit_journal.specs.Deliveries.{IsKillAlone, IsLive, is_kill, kills}
 pub use Rattle.nit_journal.specs.Live.{AreLive}
 pub use Rattle.nit_journal.specs.Replay.{Agrees, IsLegal, LegalFrom, replay, replay_from}
-pub use Rattle.nit_journal.specs.Session.{Session, accepted, by_life, by_refusal, by_status, ended, first_session, has_view, receive, refusal, serve, taking, unless, ◌orelse◌}
-pub use Rattle.nit_journal.specs.StackAfter.{after_accepted, after_deliveries, after_delivery, is_accepted, new_view, with_new}
-pub use Rattle.nit_journal.specs.State.{State, after, buffer_size, delivered, first_state, input_after_call, layer, owner_of, route, session, session_in, source_of}
+pub use Rattle.nit_journal.specs.Session.{Session, accepted, by_life, by_refusal, by_status, ended}
+pub use Rattle.nit_journal.specs.Session.{first_session, has_view, receive, refusal, serve, taking}
+pub use Rattle.nit_journal.specs.Session.{unless, ◌orelse◌}
+pub use Rattle.nit_journal.specs.StackAfter.{after_accepted, after_deliveries, after_delivery}
+pub use Rattle.nit_journal.specs.StackAfter.{is_accepted, new_view, with_new}
+pub use Rattle.nit_journal.specs.State.{State, after, buffer_size, delivered, first_state}
+pub use Rattle.nit_journal.specs.State.{input_after_call, layer, owner_of, route, session}
+pub use Rattle.nit_journal.specs.State.{session_in, source_of}
 pub use Rattle.nit_journal.specs.Steps.{IsFreeLabel, opened, relabelled}
-pub use Rattle.nit_overlay.specs.Frame.{Scenery, bar_word, frame, has_dot, ink_of, is_in_picture, label_place_of, owner_word, shown, view_text, view_word}
+pub use Rattle.nit_overlay.specs.Frame.{Scenery, bar_word, frame, has_dot, ink_of, is_in_picture}
+pub use Rattle.nit_overlay.specs.Frame.{label_place_of, owner_word, shown, view_text, view_word}
 pub use Rattle.nit_overlay.specs.Look.{draws_labels, pixel_at}
 pub use Rattle.nit_paint.specs.FrameCopy.{AreSet, IsCopied}
 pub use Rattle.nit_paint.specs.Pieces.{source_of_number}
-pub use Rattle.nit_paint.specs.Repaint.{IsAmongLoads, IsWordOfSource, Repainted, loads_at, no_sight, times_shown}
+pub use Rattle.nit_paint.specs.Repaint.{IsAmongLoads, IsWordOfSource, Repainted, loads_at, no_sight}
+pub use Rattle.nit_paint.specs.Repaint.{times_shown}
 pub use Rattle.nit_rect.specs.Intersection.{IsApart}
 pub use Rattle.nit_rect.specs.Limits.{most_slots}
 pub use Rattle.nit_rect.specs.Rectangle.{Rectangle, covers, is_rectangle, rectangle, spans}
@@ -43,14 +53,20 @@ pub use Rattle.nit_repaint.specs.WantedPixels.{wanted}
 pub use Rattle.nit_screen.specs.declared.screen.pixels.Pixels.{Pixels}
 pub use Rattle.nit_server.specs.Seats.{with_opened, with_reopened}
 pub use Rattle.nit_server.specs.Server.{IsServed, IsServer, ServerModel, size_of_buffer, state_of}
-pub use Rattle.nit_server.specs.ServerInput.{MayLose, killed_by, killed_in, routing_of, with_delivered, with_routed}
+pub use Rattle.nit_server.specs.ServerInput.{MayLose, killed_by, killed_in, routing_of}
+pub use Rattle.nit_server.specs.ServerInput.{with_delivered, with_routed}
 pub use Rattle.nit_server.specs.ViewsTaken.{with_ended, without_view, without_views}
 pub use Rattle.nit_slots.specs.Account.{table_size, view_slots}
 pub use Rattle.nit_stack.specs.LabelPlaces.{fits, is_owner, is_view, label_place}
-pub use Rattle.nit_stack.specs.Orders.{changed, moved, put_above, put_again, put_back, put_front, without}
+pub use Rattle.nit_stack.specs.Orders.{changed, moved, put_above, put_again, put_back, put_front}
+pub use Rattle.nit_stack.specs.Orders.{without}
 pub use Rattle.nit_stack.specs.SourceAnswers.{word_count}
-pub use Rattle.nit_stack.specs.Sources.{Bare, Black, PixelSource, Size, Word, black_or_word, covering, in_bar, no_size, owner, pixel, point, shown_index, source, source_under}
-pub use Rattle.nit_stack.specs.Stack.{IsSlotView, IsStack, NoPair, SlotView, StackModel, has_slot, is_named, is_of_session, is_slot, place_of, same_slot, size_of, slot_view_in, view_ref}
+pub use Rattle.nit_stack.specs.Sources.{Bare, Black, PixelSource, Size, Word, black_or_word}
+pub use Rattle.nit_stack.specs.Sources.{covering, in_bar, no_size, owner, pixel, point, shown_index}
+pub use Rattle.nit_stack.specs.Sources.{source, source_under}
+pub use Rattle.nit_stack.specs.Stack.{IsSlotView, IsStack, NoPair, SlotView, StackModel, has_slot}
+pub use Rattle.nit_stack.specs.Stack.{is_named, is_of_session, is_slot, place_of, same_slot}
+pub use Rattle.nit_stack.specs.Stack.{size_of, slot_view_in, view_ref}
 pub use Rattle.nit_stack.specs.ViewNames.{IsNamedBy, MeanSame, is_session, name_of, views_of}
 pub use Rattle.nit_stack.specs.declared.view.ViewRef.{ViewRef}
 pub use Rattle.nit_word.specs.Channels.{bare_word}

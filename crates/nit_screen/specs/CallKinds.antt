@@ -1,7 +1,8 @@
 -- Calls by the pixels that they make dirty: those of one view, those of the session's views, or
 -- none.
 use Rattle.std.specs.Prelude.{◌≡◌, ℕ, Option, Some, None}
-use Rattle.nit_screen.specs.Below.{Above, Back, Buffer, Call, Destroy, Front, Offset, Place, Rectangle, Refresh, Take, Title, Upgrade, View, rectangle}
+use Rattle.nit_screen.specs.Below.{Above, Back, Buffer, Call, Destroy, Front, Offset, Place}
+use Rattle.nit_screen.specs.Below.{Rectangle, Refresh, Take, Title, Upgrade, View, rectangle}
 
 -- a call on the session's view of this handle
 abbrev pub IsOn : ℕ → Call → Type 0

@@ -1,6 +1,7 @@
 -- Where the labels of views stand, slot by slot.
 use Rattle.std.specs.Prelude.{◌≡◌, ℕ, List, All, slice_get, Option, Some, None, option_map}
-use Rattle.nit_screen.specs.Below.{Point, Scenery, SlotView, StackModel, Xray, label_place_of, pixel_at, views_of}
+use Rattle.nit_screen.specs.Below.{Point, Scenery, SlotView, StackModel, Xray, label_place_of}
+use Rattle.nit_screen.specs.Below.{pixel_at, views_of}
 
 -- the views of a stack with the labels of their sessions, by which labels are placed; the mode and
 -- the focus do not matter

@@ -1,6 +1,9 @@
 -- A frame that is kept, with what it is made by.
-use Rattle.std.specs.Prelude.{◌≡◌, ℕ, ◌*◌, ◌<◌, ◌≤◌, ◌++◌, Bool, true, false, All, IsTrue, List, drop, length, map, replicate, slice_index, vec_capacity, if◌then◌else◌}
-use Rattle.nit_screen.specs.Below.{IsWord, Pixels, ServerModel, State, bar_rows, bare_word, draws_labels, frame, in_bar, pixel, shown, state_of}
+use Rattle.std.specs.Prelude.{◌≡◌, ℕ, ◌*◌, ◌<◌, ◌≤◌, ◌++◌, Bool, true, false, All, IsTrue, List}
+use Rattle.std.specs.Prelude.{drop, length, map, replicate, slice_index, vec_capacity}
+use Rattle.std.specs.Prelude.{if◌then◌else◌}
+use Rattle.nit_screen.specs.Below.{IsWord, Pixels, ServerModel, State, bar_rows, bare_word}
+use Rattle.nit_screen.specs.Below.{draws_labels, frame, in_bar, pixel, shown, state_of}
 use Rattle.nit_screen.specs.StateScenery.{scenery_of}
 
 -- the words with the bare word in place of the first so many, where the bar stands
@@ -19,8 +22,10 @@ raw_of p = raw_in p.is_apart p.bar p.painter.raw.items
 abbrev pub kept_frame : {G : Type 0} → Pixels G → List ℕ
 kept_frame p = if p.is_apart then p.frame.items else p.painter.raw.items
 
--- A frame can be made: a word below 2^24 for each pixel, room for as many words of a frame apart, of
--- which some are there, room to cut out every view, the label of each session, room for the place of
+-- A frame can be made: a word below 2^24 for each pixel, room for as many words of a frame apart,
+-- of
+-- which some are there, room to cut out every view, the label of each session, room for the place
+-- of
 -- each view's label, and the number of pixels that the bar has.
 pub record CanShow (s : ServerModel) (raw : List ℕ) (reached most room : ℕ)
     (labels : List (List ℕ)) (places first : ℕ) : Type 0 where

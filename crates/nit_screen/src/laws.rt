@@ -2,7 +2,13 @@
 //! labels.
 
 ghost use Rattle.std.specs.Prelude.{◌≡◌, ◌≢◌, ℕ, List, None, Some, false};
-ghost use Rattle.nit_screen.specs.Terms.{Agrees, AreBelowNext, AreInked, AreLive, AreRaw, Call, Configuration, Entry, HaveOwnNames, IsLegal, IsNamedBy, IsNewlyNamed, IsOn, IsServed, IsServer, IsViewChange, Painted, Point, Reply, Scenery, ServerModel, ShowsLabels, Sight, SlotView, State, after, dirty, frame, opened, place_of, refusal, replay, scenery_of, session, slot_view_in, source_of, state_of};
+ghost use Rattle.nit_screen.specs.Terms.{Agrees, AreBelowNext, AreInked, AreLive, AreRaw, Call};
+ghost use Rattle.nit_screen.specs.Terms.{Configuration, Entry, HaveOwnNames, IsLegal, IsNamedBy};
+ghost use Rattle.nit_screen.specs.Terms.{IsNewlyNamed, IsOn, IsServed, IsServer, IsViewChange};
+ghost use Rattle.nit_screen.specs.Terms.{Painted, Point, Reply, Scenery, ServerModel, ShowsLabels};
+ghost use Rattle.nit_screen.specs.Terms.{Sight, SlotView, State, after, dirty, frame, opened};
+ghost use Rattle.nit_screen.specs.Terms.{place_of, refusal, replay, scenery_of, session};
+ghost use Rattle.nit_screen.specs.Terms.{slot_view_in, source_of, state_of};
 ghost use Rattle.nit_events.specs.declared.event.Status.TheVariants as status;
 
 use nit_journal::laws::deliveries_fit;

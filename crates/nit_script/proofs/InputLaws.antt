@@ -1,11 +1,18 @@
 -- Lines of an input script are read exactly.
 use Rattle.std.proofs.Common.{List, Some, arith, negsuc, pos, refl, true, ℕ, ℤ, ◌++◌, ◌∷◌, ◌≡◌}
-use Rattle.nit_script.proofs.Basics.{Device, FitsDevice, FitsInputLine, FitsInt, FitsPointerPlace, HasOneReading, InputLine, IsCode, IsWheel, Motion, Press, Release, Wheel, at_made, code_field, codes, device_spelling, input_phase_at, input_spelling, int, ints, is_code, is_pointer_place, is_wheel, le-leb, leb-true, nat, nat_tests, pointer_field, shot_at, wheel_field}
-use Rattle.nit_script.specs.InputReaders.{device_at, input_at, input_front_at, motion_at, press_at, release_at, wheel_at}
+use Rattle.nit_script.proofs.Basics.{Device, FitsDevice, FitsInputLine, FitsInt, FitsPointerPlace}
+use Rattle.nit_script.proofs.Basics.{HasOneReading, InputLine, IsCode, IsWheel, Motion, Press}
+use Rattle.nit_script.proofs.Basics.{Release, Wheel, at_made, code_field, codes, device_spelling}
+use Rattle.nit_script.proofs.Basics.{input_phase_at, input_spelling, int, ints, is_code}
+use Rattle.nit_script.proofs.Basics.{is_pointer_place, is_wheel, le-leb, leb-true, nat, nat_tests}
+use Rattle.nit_script.proofs.Basics.{pointer_field, shot_at, wheel_field}
+use Rattle.nit_script.specs.InputReaders.{device_at, input_at, input_front_at, motion_at, press_at}
+use Rattle.nit_script.specs.InputReaders.{release_at, wheel_at}
 use Rattle.nit_script.specs.declared.line.InputLine.TheVariants as input
 use Rattle.nit_script.proofs.Digits.{stops}
 use Rattle.nit_script.proofs.Exact.{Exact, both, tested, nothing, anything, nat_fields, int_fields}
-use Rattle.nit_script.proofs.LineKinds.{Takes, IsKind, kind, first_takes, made_takes, ended_takes, ended_again}
+use Rattle.nit_script.proofs.LineKinds.{Takes, IsKind, kind, first_takes, made_takes, ended_takes}
+use Rattle.nit_script.proofs.LineKinds.{ended_again}
 use Rattle.nit_script.proofs.Scripts.{IsReader, one_reading}
 
 -- ---- numbers within their bounds
@@ -14,7 +21,8 @@ codes_in_range : Exact code_field nat IsCode stops
 codes_in_range = tested nat_fields is_code IsCode (λ k h. leb-true _ _ h) (λ k h. (omega arith, le-leb _ _ h))
 
 places_in_range : Exact pointer_field nat FitsPointerPlace stops
-places_in_range = tested nat_fields is_pointer_place FitsPointerPlace (λ k h. leb-true _ _ h) (λ k h. (omega arith, le-leb _ _ h))
+places_in_range = tested nat_fields is_pointer_place FitsPointerPlace (λ k h. leb-true _ _ h)
+    (λ k h. (omega arith, le-leb _ _ h))
 
 turn_is : (z : ℤ) → is_wheel z ≡ true → IsWheel z
 turn_is (pos n) h = (grind (arith, nat_tests), grind (arith, nat_tests))
@@ -39,7 +47,8 @@ releases = kind codes_in_range device_spelling FitsDevice (codes "release") _ (�
 
 motions : IsKind motion_at device_spelling FitsDevice stops (λ (p : ℕ × ℕ). Motion p.0 p.1)
 unfolding motion_at
-motions = kind (both places_in_range places_in_range (λ _ _ _. refl)) device_spelling FitsDevice (codes "motion") _ (λ p h. h) (λ p h. h) (λ p. refl)
+motions = kind (both places_in_range places_in_range (λ _ _ _. refl)) device_spelling FitsDevice (codes "motion") _
+    (λ p h. h) (λ p h. h) (λ p. refl)
 
 wheels : IsKind wheel_at device_spelling FitsDevice stops (λ (z : ℤ). Wheel z)
 unfolding wheel_at
@@ -50,10 +59,12 @@ pub device_takes : Takes device_at device_spelling FitsDevice
 unfolding device_at
 device_takes =
     first_takes press_at _ device_spelling FitsDevice presses.takes
-    (first_takes release_at _ device_spelling FitsDevice releases.takes (first_takes motion_at wheel_at device_spelling FitsDevice motions.takes wheels.takes))
+    (first_takes release_at _ device_spelling FitsDevice releases.takes
+    (first_takes motion_at wheel_at device_spelling FitsDevice motions.takes wheels.takes))
 
 -- what is spelled as a device event is read so, where no digit stands behind it
-pub device_again : (d : Device) (rest : List ℕ) → FitsDevice d → stops rest ≡ true → device_at (device_spelling d ++ rest) ≡ Some (d, rest)
+pub device_again : (d : Device) (rest : List ℕ) → FitsDevice d → stops rest ≡ true
+    → device_at (device_spelling d ++ rest) ≡ Some (d, rest)
 unfolding device_at press_at release_at motion_at wheel_at
 device_again (Press k) rest fits ok = rw (presses.again k rest fits ok) refl
 device_again (Release k) rest fits ok = rw (releases.again k rest fits ok) refl
@@ -71,10 +82,13 @@ phases = kind nothing input_spelling FitsInputLine (codes "phase") _ (λ p h. tt
 front_takes : Takes input_front_at input_spelling FitsInputLine
 unfolding input_front_at
 front_takes =
-    first_takes (at_made input.Device device_at) _ input_spelling FitsInputLine (made_takes device_at device_spelling FitsDevice input.Device input_spelling FitsInputLine device_takes (λ d. refl) (λ d h. h))
+    first_takes (at_made input.Device device_at) _ input_spelling FitsInputLine
+    (made_takes device_at device_spelling FitsDevice input.Device input_spelling FitsInputLine device_takes
+    (λ d. refl) (λ d h. h))
     (first_takes shot_at input_phase_at input_spelling FitsInputLine shots.takes phases.takes)
 
-front_again : (l : InputLine) (rest : List ℕ) → FitsInputLine l → input_front_at (input_spelling l ++ 10 ∷ rest) ≡ Some (l, 10 ∷ rest)
+front_again : (l : InputLine) (rest : List ℕ) → FitsInputLine l → input_front_at (input_spelling l ++ 10 ∷ rest)
+    ≡ Some (l, 10 ∷ rest)
 unfolding input_front_at device_at press_at release_at motion_at wheel_at
 front_again (input.Device d) rest fits = rw (device_again d (10 ∷ rest) fits refl) refl
 front_again input.Shot rest fits = refl

@@ -1,12 +1,14 @@
 -- Lines written piece by piece.
-use Rattle.std.proofs.Common.{List, [], arith, length, refl, take, ℕ, ◌%◌, ◌*◌, ◌++◌, ◌+◌, ◌/◌, ◌∷◌, ◌≡◌}
+use Rattle.std.proofs.Common.{List, [], arith, length, refl, take, ℕ, ◌%◌, ◌*◌, ◌++◌, ◌+◌, ◌/◌, ◌∷◌}
+use Rattle.std.proofs.Common.{◌≡◌}
 use Rattle.nit_script.proofs.Basics.{KeepsBytes, append-nil, hex, take-append_seam, take-length}
 use Rattle.nit_script.specs.Spelling.{hex_digits}
 
 pub ruleset ends = (append-nil)
 
 -- six digits in base 16
-pub six_digits : (c : ℕ) → hex_digits 6 c ≡ hex (c / 1048576 % 16) ∷ hex (c / 65536 % 16) ∷ hex (c / 4096 % 16) ∷ hex (c / 256 % 16) ∷ hex (c / 16 % 16) ∷ hex (c % 16) ∷ []
+pub six_digits : (c : ℕ) → hex_digits 6 c ≡ hex (c / 1048576 % 16) ∷ hex (c / 65536 % 16) ∷ hex (c / 4096 % 16)
+    ∷ hex (c / 256 % 16) ∷ hex (c / 16 % 16) ∷ hex (c % 16) ∷ []
 unfolding hex_digits
 six_digits c = rw (two c, three c, four c, five c) refl
   where

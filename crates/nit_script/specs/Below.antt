@@ -1,8 +1,11 @@
 -- The words of the library and of the crates below that are used here, and the crate's plain types.
-pub use Rattle.nit_events.specs.Ranges.{IsCode, IsWheel, least_turn, most_code, most_pointer, most_turn}
+pub use Rattle.nit_events.specs.Ranges.{IsCode, IsWheel, least_turn, most_code, most_pointer}
+pub use Rattle.nit_events.specs.Ranges.{most_turn}
 pub use Rattle.nit_events.specs.Text.{is_printable, is_text}
 pub use Rattle.nit_events.specs.declared.call.Call.{Call}
-pub use Rattle.nit_events.specs.declared.call.Call.TheVariants.{Above, Back, Buffer, Close, Destroy, Front, Offset, Place, Refresh, Take, Title, Upgrade, View}
+pub use Rattle.nit_events.specs.declared.call.Call.TheVariants.{Above, Back, Buffer, Close, Destroy}
+pub use Rattle.nit_events.specs.declared.call.Call.TheVariants.{Front, Offset, Place, Refresh, Take}
+pub use Rattle.nit_events.specs.declared.call.Call.TheVariants.{Title, Upgrade, View}
 pub use Rattle.nit_events.specs.declared.device.Device.{Device}
 pub use Rattle.nit_events.specs.declared.device.Device.TheVariants.{Motion, Press, Release, Wheel}
 pub use Rattle.nit_rect.specs.Options.{Gives}

@@ -1,6 +1,8 @@
 -- Calls read from left to right, up to their line feed.
-use Rattle.nit_script.specs.Below.{Above, Back, Buffer, Call, Close, Destroy, Front, List, Offset, Option, Place, Refresh, Take, Title, Upgrade, View, codes, ℕ}
-use Rattle.nit_script.specs.FieldReaders.{first_of, nothing_at, at_both, at_kind, nat_field, int_field, text_field}
+use Rattle.nit_script.specs.Below.{Above, Back, Buffer, Call, Close, Destroy, Front, List, Offset}
+use Rattle.nit_script.specs.Below.{Option, Place, Refresh, Take, Title, Upgrade, View, codes, ℕ}
+use Rattle.nit_script.specs.FieldReaders.{first_of, nothing_at, at_both, at_kind, nat_field}
+use Rattle.nit_script.specs.FieldReaders.{int_field, text_field}
 
 -- ---- calls that name no view
 

@@ -1,6 +1,9 @@
 -- Fields read from left to right, each as its value and the rest.
-use Rattle.std.specs.Prelude.{ℕ, zero, suc, ◌+◌, ◌-◌, ◌*◌, ℤ, pos, negsuc, Bool, ◌&&◌, ◌||◌, not, List, [], ◌∷◌, length, take, drop, Option, Some, None, nat_lt, nat_le, nat_eq, ◌==◌, if◌then◌else◌, slice_index}
-use Rattle.nit_script.specs.Below.{digits_value, is_ascii_digit, is_in_range, is_printable, is_text, prefix_len, starts_with}
+use Rattle.std.specs.Prelude.{ℕ, zero, suc, ◌+◌, ◌-◌, ◌*◌, ℤ, pos, negsuc, Bool, ◌&&◌, ◌||◌, not}
+use Rattle.std.specs.Prelude.{List, [], ◌∷◌, length, take, drop, Option, Some, None, nat_lt, nat_le}
+use Rattle.std.specs.Prelude.{nat_eq, ◌==◌, if◌then◌else◌, slice_index}
+use Rattle.nit_script.specs.Below.{digits_value, is_ascii_digit, is_in_range, is_printable, is_text}
+use Rattle.nit_script.specs.Below.{prefix_len, starts_with}
 pub use Rattle.nit_rect.specs.Options.{◌>>=◌}
 
 -- the first of two that is there

@@ -1,6 +1,8 @@
 -- Scripts and their texts, for any kind of line: which lines fit, and how each is spelled.
-use Rattle.std.specs.Prelude.{◌≡◌, ◌≢◌, ◌≤◌, ℕ, ◌+◌, List, [], ◌∷◌, ◌++◌, length, Result, Ok, Err, Vec}
-use Rattle.nit_script.specs.Below.{AllByRecursion, Bad, Global, InputLine, Line, NoMemory, ScriptError, TooLong, flat_map}
+use Rattle.std.specs.Prelude.{◌≡◌, ◌≢◌, ◌≤◌, ℕ, ◌+◌, List, [], ◌∷◌, ◌++◌, length, Result, Ok, Err}
+use Rattle.std.specs.Prelude.{Vec}
+use Rattle.nit_script.specs.Below.{AllByRecursion, Bad, Global, InputLine, Line, NoMemory}
+use Rattle.nit_script.specs.Below.{ScriptError, TooLong, flat_map}
 use Rattle.nit_script.specs.Spelling.{FitsLine, FitsInputLine, line_spelling, input_spelling}
 
 -- how many lines a script has at most

@@ -1,8 +1,10 @@
 -- Lines of an input script read from left to right.
 use Rattle.std.specs.Prelude.{ℕ, ℤ, Bool, ◌&&◌, nat_le, int_le, List, Option, codes}
-use Rattle.nit_script.specs.Below.{Device, InputLine, Motion, Press, Release, Wheel, least_turn, most_code, most_pointer, most_turn}
+use Rattle.nit_script.specs.Below.{Device, InputLine, Motion, Press, Release, Wheel, least_turn}
+use Rattle.nit_script.specs.Below.{most_code, most_pointer, most_turn}
 use Rattle.nit_script.specs.declared.line.InputLine.TheVariants as input
-use Rattle.nit_script.specs.FieldReaders.{first_of, nothing_at, at_both, at_made, at_tested, at_kind, at_ended, nat_field, int_field}
+use Rattle.nit_script.specs.FieldReaders.{first_of, nothing_at, at_both, at_made, at_tested}
+use Rattle.nit_script.specs.FieldReaders.{at_kind, at_ended, nat_field, int_field}
 
 -- the code of a key or button
 abbrev pub is_code : ℕ → Bool

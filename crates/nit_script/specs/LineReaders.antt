@@ -1,7 +1,8 @@
 -- Lines read from left to right.
 use Rattle.nit_script.specs.Below.{Check, Fill, Line, List, Option, Stroke, codes, ℕ}
 use Rattle.nit_script.specs.declared.line.Line.TheVariants as line
-use Rattle.nit_script.specs.FieldReaders.{first_of, nothing_at, at_both, at_made, at_kind, at_ended, nat_field, colour_field}
+use Rattle.nit_script.specs.FieldReaders.{first_of, nothing_at, at_both, at_made, at_kind, at_ended}
+use Rattle.nit_script.specs.FieldReaders.{nat_field, colour_field}
 use Rattle.nit_script.specs.CallReaders.{call_at}
 
 -- `fill`, a place, a width, a height and a colour

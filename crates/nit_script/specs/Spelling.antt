@@ -1,6 +1,8 @@
 -- What each line of a script is spelled as, and which lines have a spelling.
-use Rattle.std.specs.Prelude.{◌≤◌, ◌<◌, ℕ, zero, suc, ◌+◌, ◌/◌, ◌%◌, ◌^◌, ℤ, pos, negsuc, IsTrue, List, [], ◌∷◌, ◌++◌, codes, nat_lt, if◌then◌else◌}
-use Rattle.nit_script.specs.Below.{Call, Check, Device, Fill, InputLine, IsCode, IsWheel, Line, Stroke, decimal, is_text, most_pointer, signed_decimal}
+use Rattle.std.specs.Prelude.{◌≤◌, ◌<◌, ℕ, zero, suc, ◌+◌, ◌/◌, ◌%◌, ◌^◌, ℤ, pos, negsuc, IsTrue}
+use Rattle.std.specs.Prelude.{List, [], ◌∷◌, ◌++◌, codes, nat_lt, if◌then◌else◌}
+use Rattle.nit_script.specs.Below.{Call, Check, Device, Fill, InputLine, IsCode, IsWheel, Line}
+use Rattle.nit_script.specs.Below.{Stroke, decimal, is_text, most_pointer, signed_decimal}
 use Rattle.nit_events.specs.declared.call.Call.TheVariants as call
 use Rattle.nit_events.specs.declared.device.Device.TheVariants as device
 use Rattle.nit_script.specs.declared.line.Line.TheVariants as line

@@ -1,6 +1,7 @@
 //! What the user does, each line read from its first word to its last.
 
-ghost use Rattle.nit_script.specs.Terms.{Gives, code_field, device_at, motion_at, pointer_field, press_at, release_at, wheel_at, wheel_field};
+ghost use Rattle.nit_script.specs.Terms.{Gives, code_field, device_at, motion_at, pointer_field};
+ghost use Rattle.nit_script.specs.Terms.{press_at, release_at, wheel_at, wheel_field};
 
 use crate::bytes::take_word;
 use crate::fields::{integer_field, natural_field};

@@ -1,7 +1,9 @@
 //! Colours, texts, and the fields of a line, each with the space before it.
 
 ghost use Rattle.std.specs.Prelude.{◌≡◌, ◌<◌, IfSome};
-ghost use Rattle.nit_script.specs.Terms.{Gives, colour_at, colour_field, hex_value, int_field, is_printable, nat_field, nibble_at, prefix_len, text_at, text_field};
+ghost use Rattle.nit_script.specs.Terms.{Gives, colour_at, colour_field, hex_value, int_field};
+ghost use Rattle.nit_script.specs.Terms.{is_printable, nat_field, nibble_at, prefix_len, text_at};
+ghost use Rattle.nit_script.specs.Terms.{text_field};
 
 use crate::bytes::take_byte;
 use crate::numbers::{take_integer, take_natural};

@@ -1,7 +1,8 @@
 //! Numbers in front of bytes.
 
 ghost use Rattle.std.specs.Prelude.{◌≡◌, ◌<◌, ◌≤◌, ◌^◌, length, IfSome, IfNone, ℕ};
-ghost use Rattle.nit_script.specs.Terms.{AllDigits, Gives, decimal, digits_value, int_at, is_ascii_digit, is_number, nat_at, prefix_len};
+ghost use Rattle.nit_script.specs.Terms.{AllDigits, Gives, decimal, digits_value, int_at};
+ghost use Rattle.nit_script.specs.Terms.{is_ascii_digit, is_number, nat_at, prefix_len};
 
 use crate::bytes::take_byte;
 

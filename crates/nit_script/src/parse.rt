@@ -1,7 +1,10 @@
 //! Scripts, line by line.
 
 ghost use Rattle.std.specs.Prelude.{◌≡◌, ◌≤◌, ℕ, List, length, Ok, Err, IfOk};
-ghost use Rattle.nit_script.specs.Terms.{InputLine, IsFirstBad, IsFirstBadClient, IsFirstBadInput, IsOkAnd, IsScriptAnswer, IsTooLong, IsTooLongClient, IsTooLongInput, Line, Reads, ReadsClient, ReadsInput, UnlessMemory, most_lines};
+ghost use Rattle.nit_script.specs.Terms.{InputLine, IsFirstBad, IsFirstBadClient, IsFirstBadInput};
+ghost use Rattle.nit_script.specs.Terms.{IsOkAnd, IsScriptAnswer, IsTooLong, IsTooLongClient};
+ghost use Rattle.nit_script.specs.Terms.{IsTooLongInput, Line, Reads, ReadsClient, ReadsInput};
+ghost use Rattle.nit_script.specs.Terms.{UnlessMemory, most_lines};
 
 use crate::error::ScriptError;
 use crate::script::{Client, Input};
@@ -65,8 +68,8 @@ pub fn parse_input(alloc: Global, bytes: &[u8]) -> Result<Input, ScriptError>
     }
 }
 
-/// The lines that the bytes spell, of one kind. It refuses as [`parse_client`] does, by the lines of
-/// this kind.
+/// The lines that the bytes spell, of one kind. It refuses as [`parse_client`] does, by the lines
+/// of this kind.
 pub fn parse_lines<L: ScriptLine>(alloc: Global, bytes: &[u8]) -> Result<Vec<L>, ScriptError>
     // What is read is spelled so, and what is spelled so is read, unless memory runs out.
     ensures read { IfOk result (λ v. Reads L.Fits L.spelling bytes.now v.items

@@ -1,7 +1,9 @@
 //! Scripts written as bytes.
 
 ghost use Rattle.std.specs.Prelude.{◌≡◌, ◌++◌, IfOk, OnOk, OnErr};
-ghost use Rattle.nit_script.specs.Terms.{ReadsClient, ReadsInput, call_spelling, device_spelling, flat_map, input_spelling, line_spelling, spelled, stroke_spelling};
+ghost use Rattle.nit_script.specs.Terms.{ReadsClient, ReadsInput, call_spelling, device_spelling};
+ghost use Rattle.nit_script.specs.Terms.{flat_map, input_spelling, line_spelling, spelled};
+ghost use Rattle.nit_script.specs.Terms.{stroke_spelling};
 
 use crate::line::{InputLine, Line, Stroke};
 use crate::script::{Client, Input};

@@ -1,7 +1,8 @@
 //! Words and fields at the end of bytes.
 
 ghost use Rattle.std.specs.Prelude.{◌≡◌, ◌++◌, ◌%◌, OnOk, OnErr};
-ghost use Rattle.nit_script.specs.Terms.{KeepsBytes, colour, field_spelling, flat_map, hex, hex_digits, int, nat, text};
+ghost use Rattle.nit_script.specs.Terms.{KeepsBytes, colour, field_spelling, flat_map, hex};
+ghost use Rattle.nit_script.specs.Terms.{hex_digits, int, nat, text};
 
 use nit_events::Text;
 use nit_rect::NoMemory;

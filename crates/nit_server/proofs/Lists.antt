@@ -1,19 +1,25 @@
 -- What holds of each element of a list, or of no pair of them, where elements are taken out, changed or put in.
-use Rattle.nit_server.proofs.Basics.{All-insert, All-map, All-weaker, AllByRecursion, NoPair, changed, insert_apart, list_any, none_kept, or_from, or_parts, without}
-use Rattle.std.proofs.Common.{All, Bool, List, [], ap, arith, cond, false, get_or, map, not, refl, set, subst, suc, sym, true, zero, ℕ, ◌+◌, ◌∙◌, ◌∷◌, ◌≡◌, ◌≤◌}
+use Rattle.nit_server.proofs.Basics.{All-insert, All-map, All-weaker, AllByRecursion, NoPair}
+use Rattle.nit_server.proofs.Basics.{changed, insert_apart, list_any, none_kept, or_from, or_parts}
+use Rattle.nit_server.proofs.Basics.{without}
+use Rattle.std.proofs.Common.{All, Bool, List, [], ap, arith, cond, false, get_or, map, not, refl}
+use Rattle.std.proofs.Common.{set, subst, suc, sym, true, zero, ℕ, ◌+◌, ◌∙◌, ◌∷◌, ◌≡◌, ◌≤◌}
 use Rattle.nit_server.proofs.FirstFound.{IsPutIn}
 
 -- ---- tests
 
 -- elements go by a test, or by one that says the same of each
-pub without_same : {A : Type 0} (p q : A → Bool) (xs : List A) → AllByRecursion (λ x. p x ≡ q x) xs → without p xs ≡ without q xs
+pub without_same : {A : Type 0} (p q : A → Bool) (xs : List A) → AllByRecursion (λ x. p x ≡ q x) xs
+    → without p xs ≡ without q xs
 without_same p q [] h = refl
 without_same {A} p q (x ∷ xs) h =
-    ap (λ (b : Bool). cond (not b) (x ∷ without p xs) (without p xs)) h.0 ∙ ap (λ (l : List A). cond (not (q x)) (x ∷ l) l) (without_same p q xs h.1)
+    ap (λ (b : Bool). cond (not b) (x ∷ without p xs) (without p xs)) h.0
+    ∙ ap (λ (l : List A). cond (not (q x)) (x ∷ l) l) (without_same p q xs h.1)
 
 -- ---- no pair
 
-pub NoPair-without : {A : Type 0} (r : A → A → Bool) (is : A → Bool) (xs : List A) → NoPair r xs → NoPair r (without is xs)
+pub NoPair-without : {A : Type 0} (r : A → A → Bool) (is : A → Bool) (xs : List A) → NoPair r xs
+    → NoPair r (without is xs)
 NoPair-without r is [] h = tt
 NoPair-without r is (x ∷ xs) h = go (is x) (NoPair-without r is xs h.1)
   where
@@ -21,7 +27,8 @@ NoPair-without r is (x ∷ xs) h = go (is x) (NoPair-without r is xs h.1)
     go true t = t
     go false t = (none_kept (λ y. not (is y)) (r x) xs h.0, t)
 
-pub NoPair-map : {A : Type 0} (r : A → A → Bool) (f : A → A) → ((a b : A) → r (f a) (f b) ≡ r a b) → (xs : List A) → NoPair r xs → NoPair r (map f xs)
+pub NoPair-map : {A : Type 0} (r : A → A → Bool) (f : A → A) → ((a b : A) → r (f a) (f b) ≡ r a b) → (xs : List A)
+    → NoPair r xs → NoPair r (map f xs)
 NoPair-map r f same [] h = tt
 NoPair-map {A = A} r f same (x ∷ xs) h = (along xs h.0, NoPair-map r f same xs h.1)
   where
@@ -32,7 +39,8 @@ NoPair-map {A = A} r f same (x ∷ xs) h = (along xs h.0, NoPair-map r f same xs
         or_from (r (f x) (f y)) (list_any (r (f x)) (map f ys)) (same x y ∙ parts.0) (along ys parts.1)
 
 -- one that is related to none can be put anywhere
-pub NoPair-put : {A : Type 0} (r : A → A → Bool) → ((a b : A) → r a b ≡ r b a) → (v : A) (xs ys : List A) → IsPutIn v xs ys → list_any (r v) xs ≡ false → NoPair r xs → NoPair r ys
+pub NoPair-put : {A : Type 0} (r : A → A → Bool) → ((a b : A) → r a b ≡ r b a) → (v : A) (xs ys : List A)
+    → IsPutIn v xs ys → list_any (r v) xs ≡ false → NoPair r xs → NoPair r ys
 NoPair-put r both v xs ys p n h = subst (λ l. NoPair r l) (sym p.is) (insert_apart r both xs p.at v n h)
 
 -- ---- each
@@ -40,15 +48,19 @@ NoPair-put r both v xs ys p n h = subst (λ l. NoPair r l) (sym p.is) (insert_ap
 pub All-put : {A : Type 0} (P : A → Type 0) (v : A) (xs ys : List A) → IsPutIn v xs ys → P v → All P xs → All P ys
 All-put P v xs ys p h all = subst (λ l. All P l) (sym p.is) (All-insert P xs p.at v h all)
 
-pub All-changed : {A : Type 0} (P : A → Type 0) (is : A → Bool) (change : A → A) → ((x : A) → P x → P (change x)) → (xs : List A) → All P xs → All P (changed is change xs)
-All-changed {A} P is change keeps xs all = All-map P (λ x. cond (is x) (change x) x) xs (All-weaker P (λ x. P (cond (is x) (change x) x)) (λ x h. go x (is x) h) xs all)
+pub All-changed : {A : Type 0} (P : A → Type 0) (is : A → Bool) (change : A → A) → ((x : A) → P x → P (change x))
+    → (xs : List A) → All P xs → All P (changed is change xs)
+All-changed {A} P is change keeps xs all =
+    All-map P (λ x. cond (is x) (change x) x) xs
+    (All-weaker P (λ x. P (cond (is x) (change x) x)) (λ x h. go x (is x) h) xs all)
   where
     go : (x : A) (b : Bool) → P x → P (cond b (change x) x)
     go x true h = keeps x h
     go x false h = h
 
 -- one place of a list grows by one at most
-pub adds_at : {A : Type 0} (f : A → ℕ) (xs : List A) (i : ℕ) (y d : A) → f y ≤ f (get_or xs i d) + 1 → (j : ℕ) → f (get_or (set xs i y) j d) ≤ f (get_or xs j d) + 1
+pub adds_at : {A : Type 0} (f : A → ℕ) (xs : List A) (i : ℕ) (y d : A) → f y ≤ f (get_or xs i d) + 1 → (j : ℕ)
+    → f (get_or (set xs i y) j d) ≤ f (get_or xs j d) + 1
 adds_at f [] i y d h j = omega arith
 adds_at f (x ∷ xs) zero y d h zero = h
 adds_at f (x ∷ xs) zero y d h (suc j) = omega arith

@@ -1,6 +1,12 @@
 -- How many events a session loses at most.
-use Rattle.nit_server.proofs.Basics.{All-head, All-tail, Call, Delivery, Entry, Event, Item, MayLose, Reply, Routed, ServerModel, Session, State, Status, Take, accepted, after, all_kept, at_most_one, by_life, by_refusal, delivered, deliveries_of, delivery, first_session, receive, refusal, route, routed_as, session, session_in, taking, with_delivered}
-use Rattle.std.proofs.Common.{All, Bool, IfSome, List, None, Option, Some, [], ap, arith, false, length, nat_lt, set, true, ℕ, ◌++◌, ◌+◌, ◌∷◌, ◌≡◌, ◌≤◌, if◌then◌else◌}
+use Rattle.nit_server.proofs.Basics.{All-head, All-tail, Call, Delivery, Entry, Event, Item}
+use Rattle.nit_server.proofs.Basics.{MayLose, Reply, Routed, ServerModel, Session, State, Status}
+use Rattle.nit_server.proofs.Basics.{Take, accepted, after, all_kept, at_most_one, by_life}
+use Rattle.nit_server.proofs.Basics.{by_refusal, delivered, deliveries_of, delivery, first_session}
+use Rattle.nit_server.proofs.Basics.{receive, refusal, route, routed_as, session, session_in}
+use Rattle.nit_server.proofs.Basics.{taking, with_delivered}
+use Rattle.std.proofs.Common.{All, Bool, IfSome, List, None, Option, Some, [], ap, arith, false}
+use Rattle.std.proofs.Common.{length, nat_lt, set, true, ℕ, ◌++◌, ◌+◌, ◌∷◌, ◌≡◌, ◌≤◌, if◌then◌else◌}
 use Rattle.nit_journal.specs.Session.{serve}
 use Rattle.nit_events.specs.declared.event.Item.TheVariants as item
 use Rattle.nit_events.specs.declared.event.Status.TheVariants as status
@@ -9,7 +15,8 @@ use Rattle.nit_server.proofs.Lists.{adds_at}
 
 -- ---- deliveries
 
-queued_loses : (room : Bool) (e : Event) (u : Session) → (if room then record u { queue = u.queue ++ e ∷ [] } else record u { lost = u.lost + 1 }).lost ≤ u.lost + 1
+queued_loses : (room : Bool) (e : Event) (u : Session)
+    → (if room then record u { queue = u.queue ++ e ∷ [] } else record u { lost = u.lost + 1 }).lost ≤ u.lost + 1
 queued_loses true e u = omega arith
 queued_loses false e u = omega arith
 
@@ -18,16 +25,19 @@ life_loses status.Live (item.Event e) u = queued_loses (nat_lt (length u.queue) 
 life_loses status.Live item.Kill u = omega arith
 life_loses other i u = omega arith
 
-delivered_loses : (ds : List Delivery) (sessions : List Session) (t : ℕ) → (session_in (delivered ds sessions) t).lost ≤ (session_in sessions t).lost + length ds
+delivered_loses : (ds : List Delivery) (sessions : List Session) (t : ℕ)
+    → (session_in (delivered ds sessions) t).lost ≤ (session_in sessions t).lost + length ds
 delivered_loses [] sessions t = omega arith
 delivered_loses (d ∷ ds) sessions t =
     let now : Session = receive (session_in sessions d.sid) d.item in
-    let one = adds_at (λ (u : Session). u.lost) sessions d.sid now (first_session 0) (life_loses (session_in sessions d.sid).status d.item (session_in sessions d.sid)) t in
+    let one = adds_at (λ (u : Session). u.lost) sessions d.sid now (first_session 0)
+    (life_loses (session_in sessions d.sid).status d.item (session_in sessions d.sid)) t in
     let rest = delivered_loses ds (set sessions d.sid now) t in
     omega (arith, one, rest)
 
 -- what one delivery takes of what may be lost
-pub may_lose : (n : ℕ) (told : Option Delivery) (s : ServerModel) → MayLose (n + 1) s → MayLose n (with_delivered (delivery told) s)
+pub may_lose : (n : ℕ) (told : Option Delivery) (s : ServerModel) → MayLose (n + 1) s
+    → MayLose n (with_delivered (delivery told) s)
 may_lose n told s h t =
     let was = h t in
     let few = at_most_one told in
@@ -39,7 +49,8 @@ last_one : (P : Delivery → Type 0) (told : Option Delivery) → All P (deliver
 last_one P None h = tt
 last_one P (Some d) h = All-head P d [] h
 
-pub each_one : (P : Delivery → Type 0) (a b c : Option Delivery) → All P ((delivery a ++ delivery b) ++ delivery c) → IfSome a P × IfSome b P × IfSome c P
+pub each_one : (P : Delivery → Type 0) (a b c : Option Delivery) → All P ((delivery a ++ delivery b) ++ delivery c)
+    → IfSome a P × IfSome b P × IfSome c P
 each_one P None None c h = (tt, tt, last_one P c h)
 each_one P None (Some b) c h = (tt, All-head P b (delivery c) h, last_one P c (All-tail P b (delivery c) h))
 each_one P (Some a) None c h = (All-head P a (delivery c) h, tt, last_one P c (All-tail P a (delivery c) h))
@@ -57,7 +68,8 @@ accepted_loses : (u : Session) (call : Call) → (accepted u call).session.lost 
 accepted_loses u Take = taking_loses u.queue u
 accepted_loses u other = omega arith
 
-loses_unless_refused : (u : Session) (call : Call) (refused : Option Reply) → (by_refusal u call refused).session.lost ≤ u.lost + 1
+loses_unless_refused : (u : Session) (call : Call) (refused : Option Reply)
+    → (by_refusal u call refused).session.lost ≤ u.lost + 1
 loses_unless_refused u call (Some r) = omega arith
 loses_unless_refused u call None = accepted_loses u call
 
@@ -77,7 +89,8 @@ at_most_three (Some a) (Some b) (Some c) = omega arith
 
 pub entry_loses : (s : State) (e : Entry) (t : ℕ) → (session (after s e) t).lost ≤ (session s t).lost + 3
 entry_loses s (entry.Call sid call r) t =
-    let one = adds_at (λ (u : Session). u.lost) s.sessions sid (serve (session s sid) call).session (first_session 0) (serve_loses (session s sid) call) t in
+    let one = adds_at (λ (u : Session). u.lost) s.sessions sid (serve (session s sid) call).session (first_session 0)
+    (serve_loses (session s sid) call) t in
     omega (arith, one)
 entry_loses s (entry.Input dev routed) t =
     let ds : List Delivery = (route s.config s.input s.stack dev).deliveries in

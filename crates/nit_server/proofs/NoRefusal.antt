@@ -1,5 +1,6 @@
 -- What it tells that no refusal meets a call.
-use Rattle.nit_server.proofs.Basics.{Call, Session, by_call, by_handle, by_status, has_view, holds_of, refusal, second_none}
+use Rattle.nit_server.proofs.Basics.{Call, Session, by_call, by_handle, by_status, has_view}
+use Rattle.nit_server.proofs.Basics.{holds_of, refusal, second_none}
 use Rattle.std.proofs.Common.{None, true, ℕ, ◌≡◌}
 use Rattle.nit_events.specs.declared.call.Reply.TheVariants as reply
 

@@ -1,6 +1,16 @@
 -- What holds of a server stays so when a session, of which nothing is left, opens again.
-use Rattle.std.proofs.Common.{Bool, IsTrue, List, [], ap, arith, cond, false, get_or, get_or-set_other, get_or-set_same, length, map, refl, set, subst, sum, sym, true, ℕ, ◌+◌, ◌-◌, ◌<◌, ◌==◌, ◌∙◌, ◌≡◌, ◌≢◌, ◌≤◌}
-use Rattle.nit_server.proofs.Basics.{All-from_get_or, All-get_or, AllOfInput, AllPairs, AreServerParts, Configuration, FocusModel, IsConfiguration, IsFreeLabel, IsMember, IsServerInput, IsSessionOfClient, KeptSessionModel, Member, ServerModel, Session, Size, SlotsModel, StackModel, client_in, eqb-false, eqb-true, first_session, get_or-map, get_or_default, is_label, kept_session_at, length-set, map-set, map-set_same, member, no_kept_session, relabelled, room, server_of, session_in, set-get_or, size_of_buffer, view_slots, with_opened}
+use Rattle.std.proofs.Common.{Bool, IsTrue, List, [], ap, arith, cond, false, get_or}
+use Rattle.std.proofs.Common.{get_or-set_other, get_or-set_same, length, map, refl, set, subst, sum}
+use Rattle.std.proofs.Common.{sym, true, ℕ, ◌+◌, ◌-◌, ◌<◌, ◌==◌, ◌∙◌, ◌≡◌, ◌≢◌, ◌≤◌}
+use Rattle.nit_server.proofs.Basics.{All-from_get_or, All-get_or, AllOfInput, AllPairs}
+use Rattle.nit_server.proofs.Basics.{AreServerParts, Configuration, FocusModel, IsConfiguration}
+use Rattle.nit_server.proofs.Basics.{IsFreeLabel, IsMember, IsServerInput, IsSessionOfClient}
+use Rattle.nit_server.proofs.Basics.{KeptSessionModel, Member, ServerModel, Session, Size}
+use Rattle.nit_server.proofs.Basics.{SlotsModel, StackModel, client_in, eqb-false, eqb-true}
+use Rattle.nit_server.proofs.Basics.{first_session, get_or-map, get_or_default, is_label}
+use Rattle.nit_server.proofs.Basics.{kept_session_at, length-set, map-set, map-set_same, member}
+use Rattle.nit_server.proofs.Basics.{no_kept_session, relabelled, room, server_of, session_in}
+use Rattle.nit_server.proofs.Basics.{set-get_or, size_of_buffer, view_slots, with_opened}
 use Rattle.nit_server.proofs.KeptSessionLemmas.{none_of}
 use Rattle.nit_server.proofs.ServedCalls.{repaid}
 use Rattle.nit_server.proofs.ServerLemmas.{has_member, machine_is, no_client}
@@ -14,7 +24,8 @@ module _ (config : Configuration) (sid : ℕ) (label : List ℕ) where
   now = relabelled sid label config
 
   -- what knows no label is as before
-  each_kept : {B : Type 0} (f : Member → B) → f renamed ≡ f (member config sid) → map f now.clients ≡ map f config.clients
+  each_kept : {B : Type 0} (f : Member → B) → f renamed ≡ f (member config sid)
+      → map f now.clients ≡ map f config.clients
   each_kept f e = map-set_same f config.clients sid renamed no_client e
 
   -- the client of each session
@@ -26,7 +37,8 @@ module _ (config : Configuration) (sid : ℕ) (label : List ℕ) where
       go false e = get_or-set_other config.clients sid t renamed no_client (eqb-false t sid e)
 
   -- and what of it is no label
-  pub client_kept : {B : Type 0} (f : Member → B) → f renamed ≡ f (member config sid) → (t : ℕ) → sid < length config.clients → f (member now t) ≡ f (member config t)
+  pub client_kept : {B : Type 0} (f : Member → B) → f renamed ≡ f (member config sid) → (t : ℕ)
+      → sid < length config.clients → f (member now t) ≡ f (member config t)
   client_kept f e t there = ap f (client_now t there) ∙ go (t == sid) refl
     where
       go : (b : Bool) → (t == sid) ≡ b → f (cond b renamed (member config t)) ≡ f (member config t)
@@ -34,14 +46,16 @@ module _ (config : Configuration) (sid : ℕ) (label : List ℕ) where
       go false h = refl
 
   -- the configuration is still within its ranges
-  pub still_configured : IsConfiguration config → sid < length config.clients → IsTrue (is_label label) → IsFreeLabel config sid label → IsConfiguration now
+  pub still_configured : IsConfiguration config → sid < length config.clients → IsTrue (is_label label)
+      → IsFreeLabel config sid label → IsConfiguration now
   still_configured h there good free = record {
     width = h.width;
     height = h.height;
     bar = h.bar;
     input = h.input;
     count = subst (λ (n : ℕ). (1 ≤ n) × (n ≤ 16)) (sym (length-set config.clients sid renamed)) h.count;
-    clients = All-from_get_or IsMember now.clients no_client (λ t lt. each t (subst (λ (n : ℕ). t < n) (length-set config.clients sid renamed) lt));
+    clients = All-from_get_or IsMember now.clients no_client
+        (λ t lt. each t (subst (λ (n : ℕ). t < n) (length-set config.clients sid renamed) lt));
     labels = apart;
   }
     where
@@ -72,25 +86,31 @@ module _ (config : Configuration) (sid : ℕ) (label : List ℕ) where
           plain t l = get_or_default config.clients t d no_client l
 
           same : (t : ℕ) → (t == sid) ≡ true → get_or now.clients t d ≡ renamed
-          same t e = ap (λ (n : ℕ). get_or now.clients n d) (eqb-true t sid e) ∙ get_or-set_same config.clients sid renamed d there
+          same t e = ap (λ (n : ℕ). get_or now.clients n d) (eqb-true t sid e)
+              ∙ get_or-set_same config.clients sid renamed d there
 
           kept : (t : ℕ) → (t == sid) ≡ false → get_or now.clients t d ≡ get_or config.clients t d
           kept t e = get_or-set_other config.clients sid t renamed d (eqb-false t sid e)
 
-          go : (a : Bool) → (i == sid) ≡ a → (b : Bool) → (j == sid) ≡ b → (get_or now.clients i d).label ≢ (get_or now.clients j d).label
+          go : (a : Bool) → (i == sid) ≡ a → (b : Bool) → (j == sid) ≡ b
+              → (get_or now.clients i d).label ≢ (get_or now.clients j d).label
           go true e true f = absurd (let x = eqb-true i sid e in let y = eqb-true j sid f in omega (arith, lt, x, y))
           go true e false f = λ eq.
               free j below_j (eqb-false j sid f)
-              (sym (ap (λ (m : Member). m.label) (kept j f ∙ plain j below_j)) ∙ sym eq ∙ ap (λ (m : Member). m.label) (same i e))
+              (sym (ap (λ (m : Member). m.label) (kept j f ∙ plain j below_j)) ∙ sym eq
+              ∙ ap (λ (m : Member). m.label) (same i e))
           go false e true f = λ eq.
               free i below_i (eqb-false i sid e)
-              (sym (ap (λ (m : Member). m.label) (kept i e ∙ plain i below_i)) ∙ eq ∙ ap (λ (m : Member). m.label) (same j f))
+              (sym (ap (λ (m : Member). m.label) (kept i e ∙ plain i below_i)) ∙ eq
+              ∙ ap (λ (m : Member). m.label) (same j f))
           go false e false f = λ eq.
               h.labels i j d lt below_j
               (sym (ap (λ (m : Member). m.label) (kept i e)) ∙ eq ∙ ap (λ (m : Member). m.label) (kept j f))
 
   -- so are the parts of a server
-  pub relabelled_parts : (stack : StackModel) (members : List KeptSessionModel) (slots : SlotsModel) → AreServerParts config stack members slots → sid < length members → IsTrue (is_label label) → IsFreeLabel config sid label
+  pub relabelled_parts : (stack : StackModel) (members : List KeptSessionModel) (slots : SlotsModel)
+      → AreServerParts config stack members slots → sid < length members → IsTrue (is_label label)
+      → IsFreeLabel config sid label
       → AreServerParts now stack members slots
   relabelled_parts stack members slots h below good free =
       let there : sid < length config.clients = subst (λ (n : ℕ). sid < n) h.each below in
@@ -101,13 +121,15 @@ module _ (config : Configuration) (sid : ℕ) (label : List ℕ) where
         layers = h.layers ∙ sym (each_kept (λ m. m.layer) refl);
         each = h.each ∙ sym (length-set config.clients sid renamed);
         sizes = h.sizes;
-        clients = λ t lt. subst (λ (n : ℕ). IsSessionOfClient n (kept_session_at members t)) (sym (client_kept (λ m. m.donation) refl t there)) (h.clients t lt);
+        clients = λ t lt. subst (λ (n : ℕ). IsSessionOfClient n (kept_session_at members t))
+            (sym (client_kept (λ m. m.donation) refl t there)) (h.clients t lt);
         seated = h.seated;
         counted = h.counted;
         places = (h.places.0, h.places.1 ∙ ap sum (sym (each_kept (λ m. view_slots m.donation) refl)));
       }
 
-  pub relabelled_input : (focus : FocusModel) → IsServerInput config focus → sid < length config.clients → IsServerInput now focus
+  pub relabelled_input : (focus : FocusModel) → IsServerInput config focus → sid < length config.clients
+      → IsServerInput now focus
   relabelled_input focus h there = record {
     screen = h.screen;
     clicks = λ t lt. h.clicks t (subst (λ (n : ℕ). t < n) as_many lt) ∙ sym (client_kept (λ m. m.clicks) refl t there);
@@ -122,13 +144,20 @@ abbrev pub begun : ℕ → KeptSessionModel
 begun d = record { session = first_session d; pairs = []; most = view_slots d }
 
 -- a session of which nothing is left opens again
-pub opened_parts : (config : Configuration) (stack : StackModel) (members : List KeptSessionModel) (slots : SlotsModel) (sid : ℕ) → AreServerParts config stack members slots → sid < length members
+pub opened_parts : (config : Configuration) (stack : StackModel) (members : List KeptSessionModel) (slots : SlotsModel)
+    (sid : ℕ) → AreServerParts config stack members slots → sid < length members
     → (kept_session_at members sid).pairs ≡ []
     → size_of_buffer (kept_session_at members sid).session ≡ record { w = 0; h = 0 }
     → AreServerParts config stack (set members sid (begun (member config sid).donation)) slots
 opened_parts config stack members slots sid h there bare none =
     repaid config stack members slots sid (begun d) stack.sizes h there
-    (record { pairs = sym bare; most = sym own.most; sum = total ∙ sym own.sum; paid = record { used = omega (arith, low); bounded = bounded } })
+    (record {
+      pairs = sym bare;
+      most = sym own.most;
+      sum = total ∙ sym own.sum;
+      paid =
+          record { used = omega (arith, low); bounded = bounded };
+    })
     h.standing
     (sym (ap (λ (l : List Size). set l sid (record { w = 0; h = 0 })) h.sizes
     ∙ ap (set (map f members) sid) (sym none ∙ sym (get_or-map f members sid no_kept_session))
@@ -145,7 +174,8 @@ opened_parts config stack members slots sid h there bare none =
     own = h.clients sid there
 
     mine : IsMember (member config sid)
-    mine = All-get_or IsMember config.clients sid no_client (subst (λ (n : ℕ). sid < n) h.each there) h.configured.clients
+    mine = All-get_or IsMember config.clients sid no_client (subst (λ (n : ℕ). sid < n) h.each there)
+        h.configured.clients
 
     low : 256 ≤ d
     low = mine.donation.0
@@ -159,39 +189,60 @@ opened_parts config stack members slots sid h there bare none =
     bounded : d + (room d - d) ≤ 8388608
     bounded = omega (arith, high)
 
-module _ (config : Configuration) (stack : StackModel) (members : List KeptSessionModel) (slots : SlotsModel) (focus : FocusModel) (sid : ℕ) (label : List ℕ) (s : ServerModel)
-    (h : AreServerParts config stack members slots) (is : server_of config stack members focus.input ≡ s) (lt : sid < length s.sessions)
-    (config' : Configuration) (m' : KeptSessionModel) (config_ : config' ≡ relabelled sid label config) (m_ : m' ≡ begun (member config sid).donation) where
+module _ (config : Configuration) (stack : StackModel) (members : List KeptSessionModel) (slots : SlotsModel)
+    (focus : FocusModel) (sid : ℕ) (label : List ℕ) (s : ServerModel)
+    (h : AreServerParts config stack members slots) (is : server_of config stack members focus.input ≡ s)
+    (lt : sid < length s.sessions)
+    (config' : Configuration) (m' : KeptSessionModel) (config_ : config' ≡ relabelled sid label config)
+    (m_ : m' ≡ begun (member config sid).donation) where
   there : sid < length members
   there = has_member config stack members sid s is lt
 
   machine : session_in s.sessions sid ≡ (kept_session_at members sid).session
   machine = machine_is config stack members sid s is
 
-  pub seat_holds : IsServerInput config focus → IsTrue (is_label label) → IsFreeLabel s.config sid label → (session_in s.sessions sid).handles ≡ []
+  pub seat_holds : IsServerInput config focus → IsTrue (is_label label) → IsFreeLabel s.config sid label
+      → (session_in s.sessions sid).handles ≡ []
       → (kept_session_at members sid).session.handles ≡ map (λ p. p.0) (kept_session_at members sid).pairs
       → size_of_buffer (session_in s.sessions sid) ≡ record { w = 0; h = 0 }
       → AreServerParts config' stack (set members sid m') slots × IsServerInput config' focus
   seat_holds attending good free bare paired none =
-      let free_ : IsFreeLabel config sid label = subst (λ (c : Configuration). IsFreeLabel c sid label) (ap (λ (z : ServerModel). z.config) (sym is)) free in
-      let pairs : (kept_session_at members sid).pairs ≡ [] = none_of (kept_session_at members sid).pairs (sym paired ∙ sym (ap (λ (t : Session). t.handles) machine) ∙ bare) in
-      let size : size_of_buffer (kept_session_at members sid).session ≡ record { w = 0; h = 0 } = sym (ap size_of_buffer machine) ∙ none in
+      let free_ : IsFreeLabel config sid label =
+      subst (λ (c : Configuration). IsFreeLabel c sid label) (ap (λ (z : ServerModel). z.config) (sym is)) free in
+      let pairs : (kept_session_at members sid).pairs ≡ [] =
+      none_of (kept_session_at members sid).pairs (sym paired ∙ sym (ap (λ (t : Session). t.handles) machine)
+      ∙ bare) in
+      let size : size_of_buffer (kept_session_at members sid).session ≡ record { w = 0; h = 0 } =
+      sym (ap size_of_buffer machine) ∙ none in
       let opened = opened_parts config stack members slots sid h there pairs size in
-      let still : sid < length (set members sid (begun (member config sid).donation)) = subst (λ (n : ℕ). sid < n) (sym (length-set members sid (begun (member config sid).donation))) there in
-      subst (λ (c : Configuration). AreServerParts c stack (set members sid m') slots × IsServerInput c focus) (sym config_) (
-        subst (λ (m : KeptSessionModel). AreServerParts (relabelled sid label config) stack (set members sid m) slots) (sym m_)
-            (relabelled_parts config sid label stack (set members sid (begun (member config sid).donation)) slots opened still good free_),
+      let still : sid < length (set members sid (begun (member config sid).donation)) =
+      subst (λ (n : ℕ). sid < n) (sym (length-set members sid (begun (member config sid).donation))) there in
+      subst (λ (c : Configuration). AreServerParts c stack (set members sid m') slots × IsServerInput c focus)
+      (sym config_) (
+        subst (λ (m : KeptSessionModel). AreServerParts (relabelled sid label config) stack (set members sid m) slots)
+            (sym m_)
+            (relabelled_parts config sid label stack (set members sid (begun (member config sid).donation)) slots opened
+            still good free_),
         relabelled_input config sid label focus attending (subst (λ (n : ℕ). sid < n) h.each there),
       )
 
   pub seat_leaves : server_of config' stack (set members sid m') focus.input ≡ with_opened sid label s
   seat_leaves =
       (λ i. server_of (config_ i) stack (set members sid (m_ i)) focus.input)
-      ∙ (λ i. record { config = relabelled sid label config; sessions = map-set (λ (m : KeptSessionModel). m.session) members sid (begun (member config sid).donation) i; stack = stack; input = focus.input })
+      ∙ (λ i. record {
+        config = relabelled sid label config;
+        sessions =
+            map-set (λ (m : KeptSessionModel). m.session) members sid (begun (member config sid).donation) i;
+        stack =
+            stack;
+        input = focus.input;
+      })
       ∙ ap (with_opened sid label) is
 
 -- one client more has another label
-pub one_more : (clients : List Member) (sid i : ℕ) (label : List ℕ) → ((t : ℕ) → t < i → t ≢ sid → (client_in clients t).label ≢ label) → (i ≢ sid → (client_in clients i).label ≢ label)
+pub one_more : (clients : List Member) (sid i : ℕ) (label : List ℕ)
+    → ((t : ℕ) → t < i → t ≢ sid → (client_in clients t).label ≢ label)
+    → (i ≢ sid → (client_in clients i).label ≢ label)
     → (t : ℕ) → t < i + 1 → t ≢ sid → (client_in clients t).label ≢ label
 one_more clients sid i label before here t lt apart = go (t == i) refl
   where

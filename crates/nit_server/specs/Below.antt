@@ -1,11 +1,14 @@
 -- The words of the library and of the crates below that are used here, and the crate's plain types.
-pub use Rattle.nit_config.specs.Configuration.{Configuration, bar_rows, donation_of, is_file_name, member}
+pub use Rattle.nit_config.specs.Configuration.{Configuration, bar_rows, donation_of, is_file_name}
+pub use Rattle.nit_config.specs.Configuration.{member}
 pub use Rattle.nit_config.specs.ConfigurationRanges.{IsConfiguration, IsMember}
 pub use Rattle.nit_config.specs.declared.config.Member.{Member}
-pub use Rattle.nit_events.specs.Input.{InputState, Routing, deliveries_of, delivery, first_input, forget, pointer_after, routed_as, routing, unless_it_is}
+pub use Rattle.nit_events.specs.Input.{InputState, Routing, deliveries_of, delivery, first_input}
+pub use Rattle.nit_events.specs.Input.{forget, pointer_after, routed_as, routing, unless_it_is}
 pub use Rattle.nit_events.specs.Ranges.{IsDevice, most_waiting}
 pub use Rattle.nit_events.specs.declared.call.Call.{Call}
-pub use Rattle.nit_events.specs.declared.call.Call.TheVariants.{Buffer, Close, Destroy, Take, Upgrade}
+pub use Rattle.nit_events.specs.declared.call.Call.TheVariants.{Buffer, Close, Destroy, Take}
+pub use Rattle.nit_events.specs.declared.call.Call.TheVariants.{Upgrade}
 pub use Rattle.nit_events.specs.declared.call.Reply.{Reply}
 pub use Rattle.nit_events.specs.declared.call.Reply.TheVariants.{Done}
 pub use Rattle.nit_events.specs.declared.device.Device.{Device}
@@ -20,22 +23,37 @@ pub use Rattle.nit_focus.specs.Reach.{HasForgotten, IsForgottenIfKilled, IsWithi
 pub use Rattle.nit_glyph.specs.Texts.{is_label}
 pub use Rattle.nit_journal.specs.Deliveries.{is_kill, kills}
 pub use Rattle.nit_journal.specs.Projection.{reserved, views_in_use}
-pub use Rattle.nit_journal.specs.Session.{Answered, Session, accepted, answered, by_call, by_handle, by_life, by_quota, by_refusal, by_status, ended, first_session, has_view, is_side, queued, receive, refusal, serve, taking, unless}
+pub use Rattle.nit_journal.specs.Session.{Answered, Session, accepted, answered, by_call, by_handle}
+pub use Rattle.nit_journal.specs.Session.{by_life, by_quota, by_refusal, by_status, ended}
+pub use Rattle.nit_journal.specs.Session.{first_session, has_view, is_side, queued, receive}
+pub use Rattle.nit_journal.specs.Session.{refusal, serve, taking, unless}
 pub use Rattle.nit_journal.specs.StackAfter.{after_accepted, is_accepted, stack_after_call}
-pub use Rattle.nit_journal.specs.State.{State, after, clicks_on, delivered, first_state, input_after_call, layer, route, session, session_in}
+pub use Rattle.nit_journal.specs.State.{State, after, clicks_on, delivered, first_state}
+pub use Rattle.nit_journal.specs.State.{input_after_call, layer, route, session, session_in}
 pub use Rattle.nit_journal.specs.Steps.{IsFreeLabel, relabelled}
 pub use Rattle.nit_rect.specs.Limits.{most_sessions, most_side, most_slots, most_units}
-pub use Rattle.nit_rect.specs.Rectangle.{IsPlace, Rectangle, is_length, is_place, is_rectangle, rectangle}
+pub use Rattle.nit_rect.specs.Rectangle.{IsPlace, Rectangle, is_length, is_place, is_rectangle}
+pub use Rattle.nit_rect.specs.Rectangle.{rectangle}
 pub use Rattle.nit_rect.specs.declared.point.Point.{Point}
-pub use Rattle.nit_slots.specs.Account.{AccountModel, IsDonation, buffer_left, buffer_need, most_views, room, table_size, view_slots}
-pub use Rattle.nit_slots.specs.Slots.{SlotsModel, is_among, is_taken, spare, with_slot, without_slot}
+pub use Rattle.nit_slots.specs.Account.{AccountModel, IsDonation, buffer_left, buffer_need}
+pub use Rattle.nit_slots.specs.Account.{most_views, room, table_size, view_slots}
+pub use Rattle.nit_slots.specs.Slots.{SlotsModel, is_among, is_taken, spare, with_slot}
+pub use Rattle.nit_slots.specs.Slots.{without_slot}
 pub use Rattle.nit_slots.specs.Table.{IsTable, TableModel, has_handle, slot_of, without_handle}
 pub use Rattle.nit_stack.specs.LabelPlaces.{is_view}
-pub use Rattle.nit_stack.specs.Orders.{changed, moved, put_above, put_again, put_back, put_front, without}
+pub use Rattle.nit_stack.specs.Orders.{changed, moved, put_above, put_again, put_back, put_front}
+pub use Rattle.nit_stack.specs.Orders.{without}
 pub use Rattle.nit_stack.specs.Sources.{Size, no_size, owner, owner_in, point}
-pub use Rattle.nit_stack.specs.Stack.{IsBar, IsBufferSize, IsRectInRange, IsSlotView, IsStack, NoPair, SlotView, StackModel, fresh, fresh_in, has_slot, is_named, is_of_session, is_slot, layer_of, moved_above, on_view, put_own_back, put_own_front, slot_layer, slot_view_in, slot_view_layer, view_ref, with_offset, with_rect, with_title}
-pub use Rattle.nit_stack.specs.ViewNames.{IsNamedBy, MeanSame, name_in, name_of, view_layer, views_of}
+pub use Rattle.nit_stack.specs.Stack.{IsBar, IsBufferSize, IsRectInRange, IsSlotView, IsStack}
+pub use Rattle.nit_stack.specs.Stack.{NoPair, SlotView, StackModel, fresh, fresh_in, has_slot}
+pub use Rattle.nit_stack.specs.Stack.{is_named, is_of_session, is_slot, layer_of, moved_above}
+pub use Rattle.nit_stack.specs.Stack.{on_view, put_own_back, put_own_front, slot_layer}
+pub use Rattle.nit_stack.specs.Stack.{slot_view_in, slot_view_layer, view_ref, with_offset}
+pub use Rattle.nit_stack.specs.Stack.{with_rect, with_title}
+pub use Rattle.nit_stack.specs.ViewNames.{IsNamedBy, MeanSame, name_in, name_of, view_layer}
+pub use Rattle.nit_stack.specs.ViewNames.{views_of}
 pub use Rattle.nit_stack.specs.declared.view.View.{View}
 pub use Rattle.std.specs.List.{AllByRecursion, AllPairs, list_any}
 pub use Rattle.std.specs.Option.{is_some, option_map_or}
-pub use Rattle.std.specs.Prelude.{IfNone, IsSomeAnd, List, [], int_le, length, map, nat_le, negsuc, pos, replicate, slice_set, sum, ℕ, ℤ}
+pub use Rattle.std.specs.Prelude.{IfNone, IsSomeAnd, List, [], int_le, length, map, nat_le, negsuc}
+pub use Rattle.std.specs.Prelude.{pos, replicate, slice_set, sum, ℕ, ℤ}

@@ -1,6 +1,7 @@
 -- One session as the server keeps it: the machine of the session, and the slots of its views.
 use Rattle.std.specs.Prelude.{ℕ, ◌≡◌, ◌+◌, ◌*◌, ◌/◌, ◌≤◌, min, List, length, map}
-use Rattle.nit_server.specs.Below.{AccountModel, Event, Session, Status, TableModel, most_side, most_units}
+use Rattle.nit_server.specs.Below.{AccountModel, Event, Session, Status, TableModel, most_side}
+use Rattle.nit_server.specs.Below.{most_units}
 
 -- the machine of a session; its views, each as its handle and its slot; and the most views that it
 -- has slots for

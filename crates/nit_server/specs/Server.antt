@@ -1,7 +1,12 @@
 -- All sessions and their views, without the pixels: what contracts see of a server, and what holds
 -- of it.
-use Rattle.std.specs.Prelude.{◌≡◌, ℕ, ◌+◌, ◌*◌, ◌<◌, ◌≤◌, List, [], length, map, sum, slice_index_or, Some}
-use Rattle.nit_server.specs.Below.{AllOfInput, Call, Configuration, InputState, IsConfiguration, IsNamedBy, IsStack, MeanSame, Reply, Session, Size, SlotView, SlotsModel, StackModel, State, after, bar_rows, first_session, has_slot, is_taken, member, name_in, room, serve, session, session_in, slot_of, table_size, view_slots, views_of}
+use Rattle.std.specs.Prelude.{◌≡◌, ℕ, ◌+◌, ◌*◌, ◌<◌, ◌≤◌, List, [], length, map, sum}
+use Rattle.std.specs.Prelude.{slice_index_or, Some}
+use Rattle.nit_server.specs.Below.{AllOfInput, Call, Configuration, InputState, IsConfiguration}
+use Rattle.nit_server.specs.Below.{IsNamedBy, IsStack, MeanSame, Reply, Session, Size, SlotView}
+use Rattle.nit_server.specs.Below.{SlotsModel, StackModel, State, after, bar_rows, first_session}
+use Rattle.nit_server.specs.Below.{has_slot, is_taken, member, name_in, room, serve, session}
+use Rattle.nit_server.specs.Below.{session_in, slot_of, table_size, view_slots, views_of}
 use Rattle.nit_events.specs.declared.entry.Entry.TheVariants as entry
 use Rattle.nit_server.specs.KeptSession.{IsPaid, KeptSessionModel}
 

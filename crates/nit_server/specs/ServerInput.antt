@@ -1,6 +1,9 @@
 -- Where the user's input goes at a server.
-use Rattle.std.specs.Prelude.{◌≡◌, ℕ, ◌+◌, ◌<◌, ◌^◌, false, List, [], length, slice_index_or, Option, Some, None, option_map}
-use Rattle.nit_server.specs.Below.{AllOfInput, Configuration, Delivery, Device, FocusModel, Item, Member, Routing, bar_rows, delivered, member, owner, point, pointer_after, route, session_in, views_of}
+use Rattle.std.specs.Prelude.{◌≡◌, ℕ, ◌+◌, ◌<◌, ◌^◌, false, List, [], length, slice_index_or}
+use Rattle.std.specs.Prelude.{Option, Some, None, option_map}
+use Rattle.nit_server.specs.Below.{AllOfInput, Configuration, Delivery, Device, FocusModel, Item}
+use Rattle.nit_server.specs.Below.{Member, Routing, bar_rows, delivered, member, owner, point}
+use Rattle.nit_server.specs.Below.{pointer_after, route, session_in, views_of}
 use Rattle.nit_events.specs.declared.event.Item.TheVariants as item
 use Rattle.nit_server.specs.Server.{ServerModel}
 

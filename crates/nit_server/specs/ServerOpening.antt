@@ -1,5 +1,7 @@
 -- A server before its first entry.
-use Rattle.nit_server.specs.Below.{Configuration, List, Member, StackModel, [], bar_rows, first_session, length, map, no_size, replicate, sum, view_slots, ℕ}
+use Rattle.nit_server.specs.Below.{Configuration, List, Member, StackModel, [], bar_rows}
+use Rattle.nit_server.specs.Below.{first_session, length, map, no_size, replicate, sum, view_slots}
+use Rattle.nit_server.specs.Below.{ℕ}
 use Rattle.nit_server.specs.KeptSession.{KeptSessionModel}
 
 -- a client's session as it opens: it has no view yet

@@ -1,5 +1,6 @@
 -- What is left of a server when views go.
-use Rattle.nit_server.specs.Below.{Destroy, Status, [], accepted, ended, forget, is_named, is_of_session, no_size, session_in, slice_set, without, ℕ}
+use Rattle.nit_server.specs.Below.{Destroy, Status, [], accepted, ended, forget, is_named}
+use Rattle.nit_server.specs.Below.{is_of_session, no_size, session_in, slice_set, without, ℕ}
 use Rattle.nit_server.specs.Server.{ServerModel}
 
 -- the server without the view of this session and handle

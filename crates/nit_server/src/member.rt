@@ -1,7 +1,13 @@
 //! One session as the server keeps it.
 
-ghost use Rattle.std.specs.Prelude.{◌≡◌, ◌+◌, ◌-◌, ◌*◌, ◌^◌, ◌<◌, ◌≤◌, ◌↔◌, [], ◌∷◌, ◌++◌, false, true, None, IfOk, IfSome, IsNone, IsSomeAnd, length, map};
-ghost use Rattle.nit_server.specs.Terms.{Buffer, Destroy, IsDonation, IsPaid, IsTable, Take, Upgrade, accepted, by_call, by_handle, ended, first_session, has_handle, has_view, is_taken, most_side, most_views, most_waiting, queued, receive, refusal, slot_of, spare, view_slots, with_slot, without_handle, without_slot};
+ghost use Rattle.std.specs.Prelude.{◌≡◌, ◌+◌, ◌-◌, ◌*◌, ◌^◌, ◌<◌, ◌≤◌, ◌↔◌, [], ◌∷◌, ◌++◌, false};
+ghost use Rattle.std.specs.Prelude.{true, None, IfOk, IfSome, IsNone, IsSomeAnd, length, map};
+ghost use Rattle.nit_server.specs.Terms.{Buffer, Destroy, IsDonation, IsPaid, IsTable, Take};
+ghost use Rattle.nit_server.specs.Terms.{Upgrade, accepted, by_call, by_handle, ended};
+ghost use Rattle.nit_server.specs.Terms.{first_session, has_handle, has_view, is_taken, most_side};
+ghost use Rattle.nit_server.specs.Terms.{most_views, most_waiting, queued, receive, refusal};
+ghost use Rattle.nit_server.specs.Terms.{slot_of, spare, view_slots, with_slot, without_handle};
+ghost use Rattle.nit_server.specs.Terms.{without_slot};
 ghost use Rattle.nit_events.specs.declared.call.Call.TheVariants.{View};
 ghost use Rattle.nit_events.specs.declared.event.Item.TheVariants as item;
 
@@ -28,7 +34,8 @@ pub(crate) struct Member {
 }
 
 impl Model for Member {
-    ghost use Rattle.nit_server.specs.KeptSession.{KeptSessionModel, IsKeptSession, session_of_parts};
+    ghost use Rattle.nit_server.specs.KeptSession.{KeptSessionModel, IsKeptSession};
+    ghost use Rattle.nit_server.specs.KeptSession.{session_of_parts};
 
     ghost Value = { KeptSessionModel };
 

@@ -2,7 +2,8 @@
 
 ghost use Rattle.std.specs.Prelude.{◌≡◌, ◌-◌, ◌<◌, true, None, length, Some};
 ghost use Rattle.nit_events.specs.declared.call.Call.TheVariants as call;
-ghost use Rattle.nit_server.specs.Terms.{IsNamedBy, IsServer, IsServerInput, ServerModel, has_view, refusal, session, session_in};
+ghost use Rattle.nit_server.specs.Terms.{IsNamedBy, IsServer, IsServerInput, ServerModel, has_view};
+ghost use Rattle.nit_server.specs.Terms.{refusal, session, session_in};
 
 mod calls;
 mod copy;

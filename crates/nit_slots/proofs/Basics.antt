@@ -1,7 +1,12 @@
 -- What lemmas use: the words of clauses, the library's lemmas, and those of the crates below.
-pub use Rattle.nit_slots.specs.Terms.{AreSlots, Differ, IsFreeList, IsStrictlyIncreasing, IsTable, Rises, has_handle, is_among, list_any, range_with_len, slot_of, taken_beside, with_slot, without_handle, without_slot}
+pub use Rattle.nit_slots.specs.Terms.{AreSlots, Differ, IsFreeList, IsStrictlyIncreasing, IsTable}
+pub use Rattle.nit_slots.specs.Terms.{Rises, has_handle, is_among, list_any, range_with_len}
+pub use Rattle.nit_slots.specs.Terms.{slot_of, taken_beside, with_slot, without_handle}
+pub use Rattle.nit_slots.specs.Terms.{without_slot}
 pub use Rattle.std.proofs.Common.{ap, arith, length, refl}
-pub use Rattle.std.proofs.lemmas.Bool.{both_ways, cases_eq, cases_lt, eq-eqb, eqb-false, eqb-true, false_from_ne_true, false≢true, le-ltb, lt-ltb, ne_eqb, not-true, or_cases, or_from, or_parts, or_right}
+pub use Rattle.std.proofs.lemmas.Bool.{both_ways, cases_eq, cases_lt, eq-eqb, eqb-false, eqb-true}
+pub use Rattle.std.proofs.lemmas.Bool.{false_from_ne_true, false≢true, le-ltb, lt-ltb, ne_eqb}
+pub use Rattle.std.proofs.lemmas.Bool.{not-true, or_cases, or_from, or_parts, or_right}
 pub use Rattle.std.proofs.lemmas.Fn.{filter_same}
 pub use Rattle.std.proofs.lemmas.Iterator.{YieldsList-from_range, items_from_collect}
 pub use Rattle.std.proofs.lemmas.List.Elements.{All-filter, All-pop, All-push}

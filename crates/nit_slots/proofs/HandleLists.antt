@@ -1,23 +1,32 @@
 -- Lists of pairs of a handle and a slot, along which the handles rise.
-use Rattle.std.proofs.Common.{All, Bool, IfSome, IsNone, List, None, Option, Some, [], ap, arith, cond, false, filter, find, get_or, is_some, length, not, option_map, refl, rules, slice_get, suc, sym, true, zero, ℕ, ◌++◌, ◌+◌, ◌-◌, ◌<◌, ◌==◌, ◌||◌, ◌∙◌, ◌∷◌, ◌≡◌, ◌≢◌, ◌≤◌}
-use Rattle.nit_slots.proofs.Basics.{IsTable, Rises, eq-eqb, eqb-true, false≢true, has_handle, list_any, list_any_at, ne_eqb, or_from, same_Some, slice_get-get_or, slot_of, without_handle}
+use Rattle.std.proofs.Common.{All, Bool, IfSome, IsNone, List, None, Option, Some, [], ap, arith}
+use Rattle.std.proofs.Common.{cond, false, filter, find, get_or, is_some, length, not, option_map}
+use Rattle.std.proofs.Common.{refl, rules, slice_get, suc, sym, true, zero, ℕ, ◌++◌, ◌+◌, ◌-◌, ◌<◌}
+use Rattle.std.proofs.Common.{◌==◌, ◌||◌, ◌∙◌, ◌∷◌, ◌≡◌, ◌≢◌, ◌≤◌}
+use Rattle.nit_slots.proofs.Basics.{IsTable, Rises, eq-eqb, eqb-true, false≢true, has_handle}
+use Rattle.nit_slots.proofs.Basics.{list_any, list_any_at, ne_eqb, or_from, same_Some}
+use Rattle.nit_slots.proofs.Basics.{slice_get-get_or, slot_of, without_handle}
 
 -- a new pair with the next handle
-pub Rises-push : (low : ℕ) (pairs : List (ℕ × ℕ)) (next slot : ℕ) → Rises low pairs next → Rises low (pairs ++ (next, slot) ∷ []) (next + 1)
+pub Rises-push : (low : ℕ) (pairs : List (ℕ × ℕ)) (next slot : ℕ) → Rises low pairs next
+    → Rises low (pairs ++ (next, slot) ∷ []) (next + 1)
 Rises-push low [] next slot h = (h, omega arith)
 Rises-push low (p ∷ pairs) next slot h = (h.0, Rises-push (p.0 + 1) pairs next slot h.1)
 
 -- a lower beginning
-Rises-lower : (low from : ℕ) (pairs : List (ℕ × ℕ)) (next : ℕ) → low ≤ from → Rises from pairs next → Rises low pairs next
+Rises-lower : (low from : ℕ) (pairs : List (ℕ × ℕ)) (next : ℕ) → low ≤ from → Rises from pairs next
+    → Rises low pairs next
 Rises-lower low from [] next l h = omega arith
 Rises-lower low from (p ∷ pairs) next l h = (omega (arith, h.0), h.1)
 
 -- some of the pairs
-Rises-filter : (test : ℕ × ℕ → Bool) (low : ℕ) (pairs : List (ℕ × ℕ)) (next : ℕ) → Rises low pairs next → Rises low (filter test pairs) next
+Rises-filter : (test : ℕ × ℕ → Bool) (low : ℕ) (pairs : List (ℕ × ℕ)) (next : ℕ) → Rises low pairs next
+    → Rises low (filter test pairs) next
 Rises-filter test low [] next h = h
 Rises-filter test low (p ∷ pairs) next h = go (test p) (Rises-filter test (p.0 + 1) pairs next h.1)
   where
-    go : (b : Bool) → Rises (p.0 + 1) (filter test pairs) next → Rises low (cond b (p ∷ filter test pairs) (filter test pairs)) next
+    go : (b : Bool) → Rises (p.0 + 1) (filter test pairs) next
+        → Rises low (cond b (p ∷ filter test pairs) (filter test pairs)) next
     go true r = (h.0, r)
     go false r = Rises-lower low (p.0 + 1) (filter test pairs) next (omega (arith, h.0)) r
 
@@ -26,7 +35,8 @@ found_any : {A : Type 0} (test : A → Bool) (xs : List A) → is_some (find tes
 found_any test [] = refl
 found_any test (x ∷ xs) = go (test x) (found_any test xs)
   where
-    go : (b : Bool) → is_some (find test xs) ≡ list_any test xs → is_some (cond b (Some x) (find test xs)) ≡ (b || list_any test xs)
+    go : (b : Bool) → is_some (find test xs) ≡ list_any test xs → is_some (cond b (Some x) (find test xs))
+        ≡ (b || list_any test xs)
     go true r = refl
     go false r = r
 
@@ -39,7 +49,8 @@ slot_held pairs h = go (find (λ p. p.0 == h) pairs) (found_any (λ p. p.0 == h)
     go (Some p) e = e
 
 -- no slot is found exactly where the handle is not held
-pub none_held : (pairs : List (ℕ × ℕ)) (h : ℕ) (found : Option ℕ) → found ≡ slot_of pairs h → (IsNone found → has_handle pairs h ≡ false) × (has_handle pairs h ≡ false → IsNone found)
+pub none_held : (pairs : List (ℕ × ℕ)) (h : ℕ) (found : Option ℕ) → found ≡ slot_of pairs h
+    → (IsNone found → has_handle pairs h ≡ false) × (has_handle pairs h ≡ false → IsNone found)
 none_held pairs h found e = go found (has_handle pairs h) (ap is_some e ∙ slot_held pairs h)
   where
     go : (found : Option ℕ) (b : Bool) → is_some found ≡ b → (IsNone found → b ≡ false) × (b ≡ false → IsNone found)
@@ -51,21 +62,25 @@ pub held_found : (pairs : List (ℕ × ℕ)) (h slot : ℕ) → slot_of pairs h 
 held_found pairs h slot e = sym (slot_held pairs h) ∙ ap is_some e
 
 -- a handle below all others stands in no pair
-without_below : (low : ℕ) (pairs : List (ℕ × ℕ)) (next h : ℕ) → h < low → Rises low pairs next → without_handle pairs h ≡ pairs
+without_below : (low : ℕ) (pairs : List (ℕ × ℕ)) (next h : ℕ) → h < low → Rises low pairs next
+    → without_handle pairs h ≡ pairs
 without_below low [] next h l r = refl
 without_below low (p ∷ pairs) next h l r =
     let other : p.0 ≢ h = λ e. omega (arith, r.0) in
     rw (ne_eqb p.0 h other, without_below (p.0 + 1) pairs next h (omega (arith, r.0)) r.1) refl
 
 -- a handle that is held stands in one pair
-pub length-without_handle : (low : ℕ) (pairs : List (ℕ × ℕ)) (next h : ℕ) → Rises low pairs next → has_handle pairs h ≡ true → length (without_handle pairs h) + 1 ≡ length pairs
+pub length-without_handle : (low : ℕ) (pairs : List (ℕ × ℕ)) (next h : ℕ) → Rises low pairs next
+    → has_handle pairs h ≡ true → length (without_handle pairs h) + 1 ≡ length pairs
 length-without_handle low [] next h r held = absurd (false≢true held)
-length-without_handle low (p ∷ pairs) next h r held = go (p.0 == h) refl held (length-without_handle (p.0 + 1) pairs next h r.1)
+length-without_handle low (p ∷ pairs) next h r held =
+    go (p.0 == h) refl held (length-without_handle (p.0 + 1) pairs next h r.1)
   where
     rest : List (ℕ × ℕ)
     rest = without_handle pairs h
 
-    go : (b : Bool) → (p.0 == h) ≡ b → (b || has_handle pairs h) ≡ true → (has_handle pairs h ≡ true → length rest + 1 ≡ length pairs)
+    go : (b : Bool) → (p.0 == h) ≡ b → (b || has_handle pairs h) ≡ true
+        → (has_handle pairs h ≡ true → length rest + 1 ≡ length pairs)
         → length (cond (not b) (p ∷ rest) rest) + 1 ≡ length (p ∷ pairs)
     go true e held more =
         let at = eqb-true p.0 h e in
@@ -82,10 +97,12 @@ pub next_not_held : (low : ℕ) (pairs : List (ℕ × ℕ)) (next : ℕ) → Ris
 next_not_held low [] next r = refl
 next_not_held low (p ∷ pairs) next r =
     let below = Rises-next (p.0 + 1) pairs next r.1 in
-    or_from (p.0 == next) (has_handle pairs next) (ne_eqb p.0 next (λ e. omega arith)) (next_not_held (p.0 + 1) pairs next r.1)
+    or_from (p.0 == next) (has_handle pairs next) (ne_eqb p.0 next (λ e. omega arith))
+    (next_not_held (p.0 + 1) pairs next r.1)
 
 -- the table without one of its handles
-pub IsTable-without : (pairs : List (ℕ × ℕ)) (next most h : ℕ) → IsTable (record { pairs = pairs; next = next; most = most }) → has_handle pairs h ≡ true
+pub IsTable-without : (pairs : List (ℕ × ℕ)) (next most h : ℕ)
+    → IsTable (record { pairs = pairs; next = next; most = most }) → has_handle pairs h ≡ true
     → IsTable (record { pairs = without_handle pairs h; next = next; most = most })
 IsTable-without pairs next most h t held = record {
   rising = Rises-filter (λ p. not (p.0 == h)) 1 pairs next t.rising;
@@ -93,40 +110,51 @@ IsTable-without pairs next most h t held = record {
 }
 
 -- no handle is below the first
-Rises-from : (low : ℕ) (pairs : List (ℕ × ℕ)) (next k : ℕ) (d : ℕ × ℕ) → Rises low pairs next → k < length pairs → low ≤ (get_or pairs k d).0
+Rises-from : (low : ℕ) (pairs : List (ℕ × ℕ)) (next k : ℕ) (d : ℕ × ℕ) → Rises low pairs next → k < length pairs
+    → low ≤ (get_or pairs k d).0
 Rises-from low [] next k d h l = absurd (omega arith)
 Rises-from low (p ∷ pairs) next zero d h l = h.0
-Rises-from low (p ∷ pairs) next (suc k) d h l = omega (arith, h.0, Rises-from (p.0 + 1) pairs next k d h.1 (omega arith))
+Rises-from low (p ∷ pairs) next (suc k) d h l =
+    omega (arith, h.0, Rises-from (p.0 + 1) pairs next k d h.1 (omega arith))
 
 -- a later pair has no smaller handle
-Rises-le : (low : ℕ) (pairs : List (ℕ × ℕ)) (next j k : ℕ) (d e : ℕ × ℕ) → Rises low pairs next → j ≤ k → k < length pairs → (get_or pairs j e).0 ≤ (get_or pairs k d).0
+Rises-le : (low : ℕ) (pairs : List (ℕ × ℕ)) (next j k : ℕ) (d e : ℕ × ℕ) → Rises low pairs next → j ≤ k
+    → k < length pairs → (get_or pairs j e).0 ≤ (get_or pairs k d).0
 Rises-le low [] next j k d e h m l = absurd (omega arith)
 Rises-le low (p ∷ pairs) next zero zero d e h m l = omega arith
-Rises-le low (p ∷ pairs) next zero (suc k) d e h m l = omega (arith, Rises-from (p.0 + 1) pairs next k d h.1 (omega arith))
+Rises-le low (p ∷ pairs) next zero (suc k) d e h m l =
+    omega (arith, Rises-from (p.0 + 1) pairs next k d h.1 (omega arith))
 Rises-le low (p ∷ pairs) next (suc j) zero d e h m l = absurd (omega arith)
-Rises-le low (p ∷ pairs) next (suc j) (suc k) d e h m l = Rises-le (p.0 + 1) pairs next j k d e h.1 (omega arith) (omega arith)
+Rises-le low (p ∷ pairs) next (suc j) (suc k) d e h m l =
+    Rises-le (p.0 + 1) pairs next j k d e h.1 (omega arith) (omega arith)
 
 -- the handle of the last pair
 abbrev pub last_handle : List (ℕ × ℕ) → Option ℕ
 last_handle pairs = option_map (λ p. p.0) (slice_get pairs (length pairs - 1))
 
 -- where the last handle stands
-last_at : (pairs : List (ℕ × ℕ)) (h : ℕ) → last_handle pairs ≡ Some h → (length pairs - 1 < length pairs) × ((get_or pairs (length pairs - 1) (0, 0)).0 ≡ h)
+last_at : (pairs : List (ℕ × ℕ)) (h : ℕ) → last_handle pairs ≡ Some h → (length pairs - 1 < length pairs)
+    × ((get_or pairs (length pairs - 1) (0, 0)).0 ≡ h)
 last_at [] h e = cc
 last_at (p ∷ rest) h e =
     let pairs : List (ℕ × ℕ) = p ∷ rest in
-    let within : length pairs - 1 < length pairs = omega arith in
-    (within, same_Some (get_or pairs (length pairs - 1) (0, 0)).0 h (sym (ap (option_map (λ (q : ℕ × ℕ). q.0)) (slice_get-get_or pairs (length pairs - 1) (0, 0) within)) ∙ e))
+    let within : length pairs - 1 < length pairs = omega arith in (
+      within,
+      same_Some (get_or pairs (length pairs - 1) (0, 0)).0 h
+          (sym (ap (option_map (λ (q : ℕ × ℕ). q.0)) (slice_get-get_or pairs (length pairs - 1) (0, 0) within)) ∙ e),
+    )
 
 -- the last handle is held
-pub last_held : (pairs : List (ℕ × ℕ)) (found : Option ℕ) → found ≡ last_handle pairs → IfSome found (λ h. list_any (λ p. p.0 == h) pairs ≡ true)
+pub last_held : (pairs : List (ℕ × ℕ)) (found : Option ℕ) → found ≡ last_handle pairs
+    → IfSome found (λ h. list_any (λ p. p.0 == h) pairs ≡ true)
 last_held pairs None e = tt
 last_held pairs (Some h) e =
     let at = last_at pairs h (sym e) in
     list_any_at (λ p. p.0 == h) pairs (length pairs - 1) (0, 0) at.0 (eq-eqb _ h at.1)
 
 -- and no handle is greater
-pub last_greatest : (low : ℕ) (pairs : List (ℕ × ℕ)) (next : ℕ) (found : Option ℕ) → Rises low pairs next → found ≡ last_handle pairs → IfSome found (λ h. All (λ p. p.0 ≤ h) pairs)
+pub last_greatest : (low : ℕ) (pairs : List (ℕ × ℕ)) (next : ℕ) (found : Option ℕ) → Rises low pairs next
+    → found ≡ last_handle pairs → IfSome found (λ h. All (λ p. p.0 ≤ h) pairs)
 last_greatest low pairs next None r e = tt
 last_greatest low pairs next (Some h) r e =
     let at = last_at pairs h (sym e) in

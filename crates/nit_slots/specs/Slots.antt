@@ -1,5 +1,6 @@
 -- The slots that all views stand in, as their number and the list of those that are taken.
-use Rattle.std.specs.Prelude.{ℕ, ◌-◌, ◌<◌, Bool, not, List, [], ◌∷◌, length, filter, All, ◌==◌, nat_lt, if◌then◌else◌}
+use Rattle.std.specs.Prelude.{ℕ, ◌-◌, ◌<◌, Bool, not, List, [], ◌∷◌, length, filter, All, ◌==◌}
+use Rattle.std.specs.Prelude.{nat_lt, if◌then◌else◌}
 use Rattle.nit_slots.specs.Below.{IsStrictlyIncreasing, list_any}
 
 -- how many slots there are, and the numbers of the taken ones in rising order

@@ -1,5 +1,6 @@
 -- The views that a session holds, each as its handle and its slot.
-use Rattle.std.specs.Prelude.{ℕ, ◌+◌, ◌≤◌, Bool, not, List, [], ◌∷◌, length, filter, find, Option, option_map, ◌==◌, ◌^◌, ◌-◌}
+use Rattle.std.specs.Prelude.{ℕ, ◌+◌, ◌≤◌, Bool, not, List, [], ◌∷◌, length, filter, find, Option}
+use Rattle.std.specs.Prelude.{option_map, ◌==◌, ◌^◌, ◌-◌}
 use Rattle.nit_slots.specs.Below.{list_any}
 
 -- the pairs of a handle and its slot in the order of creation, the next handle, and the most pairs

@@ -1,5 +1,7 @@
 ghost use Rattle.std.specs.Prelude.{◌≡◌, ◌+◌, ◌-◌, ◌*◌, ◌<◌, ◌≤◌, OnOk, IfErr};
-ghost use Rattle.nit_slots.specs.Terms.{IsAccount, IsDonation, IsShort, buffer_left, buffer_need, first_account, most_side, most_views, room, upgraded, view_left, view_need, view_slots};
+ghost use Rattle.nit_slots.specs.Terms.{IsAccount, IsDonation, IsShort, buffer_left, buffer_need};
+ghost use Rattle.nit_slots.specs.Terms.{first_account, most_side, most_views, room, upgraded};
+ghost use Rattle.nit_slots.specs.Terms.{view_left, view_need, view_slots};
 
 use crate::need::Need;
 use nit_rect::MOST_UNITS;

@@ -1,5 +1,7 @@
-ghost use Rattle.std.specs.Prelude.{◌≡◌, ◌+◌, ◌<◌, ◌≤◌, true, false, [], IfOk, length, vec_capacity};
-ghost use Rattle.nit_slots.specs.Terms.{AreSlots, is_taken, most_slots, range_with_len, spare, with_slot, without_slot};
+ghost use Rattle.std.specs.Prelude.{◌≡◌, ◌+◌, ◌<◌, ◌≤◌, true, false, [], IfOk, length};
+ghost use Rattle.std.specs.Prelude.{vec_capacity};
+ghost use Rattle.nit_slots.specs.Terms.{AreSlots, is_taken, most_slots, range_with_len, spare};
+ghost use Rattle.nit_slots.specs.Terms.{with_slot, without_slot};
 
 use nit_rect::NoMemory;
 use std::alloc::{AllocError, Global};

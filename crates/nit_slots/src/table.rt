@@ -1,5 +1,8 @@
-ghost use Rattle.std.specs.Prelude.{◌≡◌, ◌+◌, ◌-◌, ◌^◌, ◌<◌, ◌≤◌, ◌↔◌, true, false, [], ◌∷◌, ◌++◌, IfOk, IsSome, IsNone, IfSome, IsSomeAnd, All, length, vec_capacity};
-ghost use Rattle.nit_slots.specs.Terms.{IsTable, has_handle, is_taken, last_handle, most_views, slot_of, spare, with_slot, without_handle, without_slot};
+ghost use Rattle.std.specs.Prelude.{◌≡◌, ◌+◌, ◌-◌, ◌^◌, ◌<◌, ◌≤◌, ◌↔◌, true, false, [], ◌∷◌, ◌++◌};
+ghost use Rattle.std.specs.Prelude.{IfOk, IsSome, IsNone, IfSome, IsSomeAnd, All, length};
+ghost use Rattle.std.specs.Prelude.{vec_capacity};
+ghost use Rattle.nit_slots.specs.Terms.{IsTable, has_handle, is_taken, last_handle, most_views};
+ghost use Rattle.nit_slots.specs.Terms.{slot_of, spare, with_slot, without_handle, without_slot};
 
 use crate::slots::Slots;
 use nit_rect::NoMemory;

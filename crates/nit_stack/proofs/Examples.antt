@@ -1,10 +1,19 @@
 -- Worked rows of the stack, computed from the definitions.
 use Rattle.std.proofs.Common.{Bool, [], eqb, false, negsuc, pos, refl, true, ℕ, ◌∷◌, ◌≡◌}
-use Rattle.nit_stack.proofs.Basics.{Bare, Black, Size, View, Word, moved, point, put_above, put_back, put_front, rectangle, source}
+use Rattle.nit_stack.proofs.Basics.{Bare, Black, Size, View, Word, moved, point, put_above}
+use Rattle.nit_stack.proofs.Basics.{put_back, put_front, rectangle, source}
 
 -- a view that shows a buffer of 4 by 2 from (-2, -1) on
 abbrev reaching : View
-reaching = record { sid = 0; handle = 1; rect = rectangle (negsuc 1) (negsuc 0) 4 2; ox = pos 0; oy = pos 0; title = [] }
+reaching = record {
+  sid = 0;
+  handle = 1;
+  rect = rectangle (negsuc 1) (negsuc 0) 4 2;
+  ox = pos 0;
+  oy = pos 0;
+  title =
+      [];
+}
 
 abbrev four_by_two : ℕ → Size
 four_by_two s = record { w = 4; h = 2 }

@@ -1,19 +1,24 @@
 -- A stack as it is opened.
-use Rattle.std.proofs.Common.{List, [], ap, arith, inl, length, map, refl, replicate, suc, sym, zero, ℕ, ◌∙◌, ◌∷◌, ◌≡◌, ◌≤◌}
-use Rattle.nit_stack.proofs.Basics.{All-nil, All-replicate, IsBufferSize, IsScreenSize, IsSlotView, IsStack, View, empty_stack, length-replicate, no_size, size, slot_view, stack_model}
+use Rattle.nit_stack.proofs.Basics.{All-nil, All-replicate, IsBufferSize, IsScreenSize, IsSlotView}
+use Rattle.nit_stack.proofs.Basics.{IsStack, List, View, [], ap, arith, empty_stack, inl, length}
+use Rattle.nit_stack.proofs.Basics.{length-replicate, map, no_size, refl, replicate, size}
+use Rattle.nit_stack.proofs.Basics.{slot_view, stack_model, suc, sym}
+use Rattle.std.proofs.Common.{zero, ℕ, ◌∙◌, ◌∷◌, ◌≡◌, ◌≤◌}
 
 sizes_are : (n : ℕ) → map size (replicate n (0, 0)) ≡ replicate n no_size
 sizes_are zero = refl
 sizes_are (suc n) = ap (λ l. no_size ∷ l) (sizes_are n)
 
-pub opened_as : (order : List ℕ) (slots : List View) (sizes : List (ℕ × ℕ)) (layers : List ℕ) (w h sessions most : ℕ) → order ≡ [] → length slots ≡ most → sizes ≡ replicate sessions (0, 0) → layers ≡ replicate sessions 0
+pub opened_as : (order : List ℕ) (slots : List View) (sizes : List (ℕ × ℕ)) (layers : List ℕ) (w h sessions most : ℕ)
+    → order ≡ [] → length slots ≡ most → sizes ≡ replicate sessions (0, 0) → layers ≡ replicate sessions 0
     → stack_model order slots sizes layers w h 0 ≡ empty_stack w h sessions most
 opened_as order slots sizes layers w h sessions most none room no_sizes no_layers =
     let s = ap (map size) no_sizes ∙ sizes_are sessions in
     let v = ap (map (slot_view slots)) none in
     λ i. record { views = v i; sizes = s i; layers = no_layers i; width = w; height = h; bar = 0; most = room i }
 
-pub opened_stands : (w h sessions most : ℕ) → IsScreenSize w h → (1 ≤ sessions) × (sessions ≤ 16) → most ≤ 1024 → IsStack (empty_stack w h sessions most)
+pub opened_stands : (w h sessions most : ℕ) → IsScreenSize w h → (1 ≤ sessions) × (sessions ≤ 16) → most ≤ 1024
+    → IsStack (empty_stack w h sessions most)
 opened_stands w h sessions most screen many few =
     let n = length-replicate sessions no_size in
     let m = length-replicate {A = ℕ} sessions 0 in

@@ -1,6 +1,6 @@
 -- Where a label stands on the screen.
-use Rattle.std.specs.Prelude.{ℕ, ◌==◌, Bool, false, ◌&&◌, pos, int_lt, List, map, find, Option, Some, None}
-use Rattle.nit_stack.specs.Below.{Point, View, flat_map, list_all, range_with_len}
+use Rattle.std.specs.Prelude.{ℕ, ◌==◌, Bool, false, ◌&&◌, pos, int_lt, List, map, find, Option}
+use Rattle.nit_stack.specs.Below.{None, Point, Some, View, flat_map, list_all, range_with_len}
 use Rattle.nit_stack.specs.Sources.{point, owner}
 
 -- the pixels of a rectangle from a column and a row on, row by row from the top

@@ -1,5 +1,6 @@
 -- How views move in an ordered list, front first. Layer 0 is the front-most.
-use Rattle.std.specs.Prelude.{ℕ, Bool, not, nat_le, List, [], ◌∷◌, map, filter, find, Option, Some, None, if◌then◌else◌}
+use Rattle.std.specs.Prelude.{ℕ, Bool, not, nat_le, List, [], ◌∷◌, map, filter, find, Option, Some}
+use Rattle.std.specs.Prelude.{None, if◌then◌else◌}
 use Rattle.nit_stack.specs.Below.{list_any}
 
 -- directly in front of the first one of this layer or of a layer behind, or last where there is

@@ -1,6 +1,7 @@
 -- Who owns a pixel of the screen, and where its word comes from. A stack of views is a list, front
 -- first.
-use Rattle.std.specs.Prelude.{ℕ, ◌+◌, ◌*◌, ◌/◌, ◌%◌, Bool, nat_lt, ℤ, pos, negsuc, ◌-ℤ◌, int_lt, List, find, Option, Some, None, if◌then◌else◌}
+use Rattle.std.specs.Prelude.{ℕ, ◌+◌, ◌*◌, ◌/◌, ◌%◌, Bool, nat_lt, ℤ, pos, negsuc, ◌-ℤ◌, int_lt}
+use Rattle.std.specs.Prelude.{List, find, Option, Some, None, if◌then◌else◌}
 use Rattle.nit_stack.specs.Below.{Point, View, covers}
 
 -- the pixel in this column and row

@@ -1,7 +1,11 @@
 -- What contracts see of a stack: its views with their slots, front first, and what the screen and
 -- the sessions have.
-use Rattle.std.specs.Prelude.{◌≡◌, ℕ, ◌<◌, ◌≤◌, ◌⊎◌, ◌==◌, Bool, false, nat_lt, ℤ, pos, List, [], ◌∷◌, length, find, replicate, slice_index, slice_index_or, All, Option, if◌then◌else◌}
-use Rattle.nit_stack.specs.Below.{IsPlace, Point, Rectangle, View, ViewRef, list_any, most_height, most_length, most_sessions, most_side, most_slots, most_width, option_map, position_or_len, rectangle}
+use Rattle.std.specs.Prelude.{◌≡◌, ℕ, ◌<◌, ◌≤◌, ◌⊎◌, ◌==◌, Bool, false, nat_lt, ℤ, pos, List, []}
+use Rattle.std.specs.Prelude.{◌∷◌, length, find, replicate, slice_index, slice_index_or, All}
+use Rattle.std.specs.Prelude.{Option, if◌then◌else◌}
+use Rattle.nit_stack.specs.Below.{IsPlace, Point, Rectangle, View, ViewRef, list_any, most_height}
+use Rattle.nit_stack.specs.Below.{most_length, most_sessions, most_side, most_slots, most_width}
+use Rattle.nit_stack.specs.Below.{option_map, position_or_len, rectangle}
 pub use Rattle.nit_rect.specs.Screen.{IsOnScreen}
 use Rattle.nit_stack.specs.LabelPlaces.{is_view}
 use Rattle.nit_stack.specs.Orders.{put_front, put_back, put_above, moved}

@@ -3,7 +3,8 @@ use Rattle.std.specs.Prelude.{◌≡◌, ℕ, ◌==◌, Bool, List, map, Option,
 use Rattle.nit_stack.specs.Below.{AllByRecursion, View, option_map}
 use Rattle.nit_stack.specs.LabelPlaces.{is_view}
 use Rattle.nit_stack.specs.Orders.{moved, put_above}
-use Rattle.nit_stack.specs.Stack.{NoPair, SlotView, is_named, is_slot, same_name, same_slot, slot_view_in}
+use Rattle.nit_stack.specs.Stack.{NoPair, SlotView, is_named, is_slot, same_name, same_slot}
+use Rattle.nit_stack.specs.Stack.{slot_view_in}
 
 -- the views without their slots
 abbrev pub views_of : List SlotView → List View

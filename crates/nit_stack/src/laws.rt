@@ -1,7 +1,15 @@
 //! What ties changes of views by their slots to changes of the same views by session and handle.
 
-ghost use Rattle.std.specs.Prelude.{◌≡◌, ℕ, ◌+◌, ◌==◌, ◌&&◌, ◌||◌, List, ◌∷◌, None, Some, drop, false, if◌then◌else◌, map, not, option_map, slice_get, true};
-ghost use Rattle.nit_stack.specs.Terms.{IsNamedBy, MeanSame, NoPair, Point, SlotView, View, ViewRef, changed, has_slot, is_named, is_of_session, is_session, is_slot, is_some, is_view, layer_of_slot_view, list_any, moved, moved_above, name_in, name_of, on_view, option_map_or, owner, place_of, put_back, put_front, put_own_back, put_own_front, same_slot, seat_owner, slot_view_in, view_above, view_layer, view_ref, views_of, without};
+ghost use Rattle.std.specs.Prelude.{◌≡◌, ℕ, ◌+◌, ◌==◌, ◌&&◌, ◌||◌, List, ◌∷◌, None, Some, drop};
+ghost use Rattle.std.specs.Prelude.{false, if◌then◌else◌, map, not, option_map, slice_get, true};
+ghost use Rattle.nit_stack.specs.Terms.{IsNamedBy, MeanSame, NoPair, Point, SlotView, View};
+ghost use Rattle.nit_stack.specs.Terms.{ViewRef, changed, has_slot, is_named, is_of_session};
+ghost use Rattle.nit_stack.specs.Terms.{is_session, is_slot, is_some, is_view, layer_of_slot_view};
+ghost use Rattle.nit_stack.specs.Terms.{list_any, moved, moved_above, name_in, name_of, on_view};
+ghost use Rattle.nit_stack.specs.Terms.{option_map_or, owner, place_of, put_back, put_front};
+ghost use Rattle.nit_stack.specs.Terms.{put_own_back, put_own_front, same_slot, seat_owner};
+ghost use Rattle.nit_stack.specs.Terms.{slot_view_in, view_above, view_layer, view_ref, views_of};
+ghost use Rattle.nit_stack.specs.Terms.{without};
 
 /// A change of the view in a slot is the same change of the view with that session and handle,
 /// among the views without their slots.

@@ -1,7 +1,10 @@
 //! Places in the order of the slots, front first.
 
-ghost use Rattle.std.specs.Prelude.{◌≡◌, ℕ, ◌<◌, ◌≤◌, ◌==◌, All, filter, find, length, nat_le, not, option_map, slice_get, vec_capacity, vec_len};
-ghost use Rattle.nit_stack.specs.Terms.{HasLayer, covers, insert, layer_in, position_or_len, put_above, put_back, put_own_back, put_own_front, slot_view, without};
+ghost use Rattle.std.specs.Prelude.{◌≡◌, ℕ, ◌<◌, ◌≤◌, ◌==◌, All, filter, find, length, nat_le, not};
+ghost use Rattle.nit_stack.specs.Terms.{HasLayer, covers, insert, layer_in, option_map};
+ghost use Rattle.nit_stack.specs.Terms.{position_or_len, put_above, put_back, put_own_back};
+ghost use Rattle.nit_stack.specs.Terms.{put_own_front, slice_get, slot_view, vec_capacity, vec_len};
+ghost use Rattle.nit_stack.specs.Terms.{without};
 
 use crate::view::{View, ViewRef};
 use nit_rect::Point;

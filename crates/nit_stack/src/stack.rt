@@ -1,7 +1,16 @@
 //! The stack.
 
-ghost use Rattle.std.specs.Prelude.{◌≡◌, ℕ, ◌+◌, ◌<◌, ◌≤◌, [], false, true, length, map, nat_lt, option_map, slice_get, slice_set, IfOk, IfSome, Some};
-ghost use Rattle.nit_stack.specs.Terms.{IfWord, IsBar, IsOnScreen, IsPlace, IsRectInRange, IsScreenSize, IsStack, changed, empty_stack, fresh, fresh_in, has_slot, is_named, is_of_session, is_slot, layer_of, list_any, most_sessions, most_side, most_slots, moved, moved_above, on_view, pixel_source, place_of, put_front, put_own_back, put_own_front, seat_owner, session_of, size_of, slot_layer, slot_view_in, slot_view_layer, source, source_owner, view_ref, views_of, with_offset, with_rect, with_title, without, word_count};
+ghost use Rattle.std.specs.Prelude.{◌≡◌, ℕ, ◌+◌, ◌<◌, ◌≤◌, [], false, true, length, map, nat_lt};
+ghost use Rattle.nit_stack.specs.Terms.{IfOk, IfSome, IfWord, IsBar, IsOnScreen, IsPlace};
+ghost use Rattle.nit_stack.specs.Terms.{IsRectInRange, IsScreenSize, IsStack, Some, changed};
+ghost use Rattle.nit_stack.specs.Terms.{empty_stack, fresh, fresh_in, has_slot, is_named};
+ghost use Rattle.nit_stack.specs.Terms.{is_of_session, is_slot, layer_of, list_any, most_sessions};
+ghost use Rattle.nit_stack.specs.Terms.{most_side, most_slots, moved, moved_above, on_view};
+ghost use Rattle.nit_stack.specs.Terms.{option_map, pixel_source, place_of, put_front};
+ghost use Rattle.nit_stack.specs.Terms.{put_own_back, put_own_front, seat_owner, session_of};
+ghost use Rattle.nit_stack.specs.Terms.{size_of, slice_get, slice_set, slot_layer, slot_view_in};
+ghost use Rattle.nit_stack.specs.Terms.{slot_view_layer, source, source_owner, view_ref, views_of};
+ghost use Rattle.nit_stack.specs.Terms.{with_offset, with_rect, with_title, without, word_count};
 
 use crate::order::{covering, place_of, put_in_above, put_in_back, put_in_front, ref_at, take_out};
 use crate::showing::shown_index;

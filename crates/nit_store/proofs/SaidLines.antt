@@ -2,7 +2,9 @@
 use Rattle.std.proofs.Common.{List, None, Option, Some, [], ap, append_assoc, refl, ℕ, ◌++◌, ◌≡◌}
 use Rattle.nit_store.proofs.Basics.{StoreModel, append-nil, option_map, with_said}
 
-said_twice : (said : Option (List ℕ)) (a b : List ℕ) → option_map (λ (t : List ℕ). t ++ b) (option_map (λ (t : List ℕ). t ++ a) said) ≡ option_map (λ (t : List ℕ). t ++ (a ++ b)) said
+said_twice : (said : Option (List ℕ)) (a b : List ℕ)
+    → option_map (λ (t : List ℕ). t ++ b) (option_map (λ (t : List ℕ). t ++ a) said)
+    ≡ option_map (λ (t : List ℕ). t ++ (a ++ b)) said
 said_twice None a b = refl
 said_twice (Some t) a b = ap (λ (x : List ℕ). Some x) (append_assoc t a b)
 

@@ -5,5 +5,6 @@ pub use Rattle.nit_store.specs.declared.store.ReadError.{ReadError}
 pub use Rattle.std.specs.Global.{Global}
 pub use Rattle.std.specs.List.{position, position_or_len}
 pub use Rattle.std.specs.Option.{option_copied}
-pub use Rattle.std.specs.Prelude.{Contains, IfOk, IsErr, IsErrOf, IsTrue, List, None, OnErr, OnOk, Some, String, Vec, is_none, nat_lt, option_map, string_bytes, ℕ}
+pub use Rattle.std.specs.Prelude.{Contains, IfOk, IsErr, IsErrOf, IsTrue, List, None, OnErr, OnOk}
+pub use Rattle.std.specs.Prelude.{Some, String, Vec, is_none, nat_lt, option_map, string_bytes, ℕ}
 pub use Rattle.std.specs.Str.{bytes_eq}

@@ -1,5 +1,6 @@
 -- Files and names as lists.
-use Rattle.std.specs.Prelude.{ℕ, Bool, true, ◌&&◌, IsTrue, List, [], ◌∷◌, map, is_none, Vec, String, string_bytes, if◌then◌else◌}
+use Rattle.std.specs.Prelude.{ℕ, Bool, true, ◌&&◌, IsTrue, List, [], ◌∷◌, map, is_none, Vec, String}
+use Rattle.std.specs.Prelude.{string_bytes, if◌then◌else◌}
 use Rattle.nit_store.specs.Below.{Global, bytes_eq}
 use Rattle.nit_store.specs.Store.{File, file_at}
 

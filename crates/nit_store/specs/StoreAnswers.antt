@@ -3,7 +3,8 @@ use Rattle.std.specs.Prelude.{◌≡◌, ℕ, ◌<◌, ◌≤◌, ◌⊎◌, Lis
 use Rattle.nit_store.specs.Below.{Global, PutError, ReadError}
 use Rattle.nit_store.specs.declared.store.ReadError.TheVariants as read
 use Rattle.nit_store.specs.declared.store.PutError.TheVariants as put
-use Rattle.nit_store.specs.Store.{StoreModel, bytes_of, with_said, with_asked, ReadFaulted, WriteFaulted, PutIn}
+use Rattle.nit_store.specs.Store.{StoreModel, bytes_of, with_said, with_asked, ReadFaulted}
+use Rattle.nit_store.specs.Store.{WriteFaulted, PutIn}
 
 -- nothing changed, but that the name may stand among those that were asked for
 abbrev pub AskedAtMost : StoreModel → List ℕ → StoreModel → Type 0

@@ -1,7 +1,8 @@
 //! Files in memory.
 
 ghost use Rattle.std.specs.Prelude.{◌≡◌, IfOk, OnOk, OnErr, string_bytes};
-ghost use Rattle.nit_store.specs.Terms.{HasDifferentNames, bytes_eq, file_at, files_of, have_different_names, option_copied, position, with_file};
+ghost use Rattle.nit_store.specs.Terms.{HasDifferentNames, bytes_eq, file_at, files_of};
+ghost use Rattle.nit_store.specs.Terms.{have_different_names, option_copied, position, with_file};
 
 use std::alloc::{AllocError, Global};
 use std::marker::Model;

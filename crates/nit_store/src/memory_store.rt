@@ -1,7 +1,8 @@
 //! A store in memory, of which chosen calls fail.
 
 ghost use Rattle.std.specs.Prelude.{◌≡◌, ◌≢◌, ◌+◌, ◌≤◌, ◌↔◌, ◌⊎◌, [], ◌∷◌, ◌++◌};
-ghost use Rattle.nit_store.specs.Terms.{Contains, HasDifferentNames, IfOk, IsErr, IsErrOf, IsTrue, OnErr, OnOk, files_of, names_of, one_more};
+ghost use Rattle.nit_store.specs.Terms.{Contains, HasDifferentNames, IfOk, IsErr, IsErrOf, IsTrue};
+ghost use Rattle.nit_store.specs.Terms.{OnErr, OnOk, files_of, names_of, one_more};
 
 use crate::files::{FileList, copy_of};
 use crate::store::{PutError, ReadError, Store};
@@ -142,7 +143,8 @@ fn is_next_of(numbers: &[u64], made: u64) -> bool
 }
 
 impl Store for MemoryStore {
-    ghost use Rattle.nit_store.specs.MemoryStore.{memory_store_shown, FailsNext, FailsToRead, CountsCall};
+    ghost use Rattle.nit_store.specs.MemoryStore.{memory_store_shown, FailsNext, FailsToRead};
+    ghost use Rattle.nit_store.specs.MemoryStore.{CountsCall};
     ghost use Rattle.nit_store.specs.Files.{with_file};
     ghost use Rattle.nit_store.specs.StoreAnswers.{AfterRead, AfterPut, AfterSay};
 

@@ -9,7 +9,8 @@ use Rattle.nit_hall.specs.ClipOpening.{AreFirstClipPasses}
 use Rattle.nit_hall.specs.Room.{RoomModel}
 use Rattle.nit_actor.specs.ClipRole.{GoTogether}
 
--- The lines of this opening can be done: its journal is open, all passes are of it, and each client's
+-- The lines of this opening can be done: its journal is open, all passes are of it, and each
+-- client's
 -- clip pass goes with its pass, with no line done.
 pub record IsOpenRoom (parts : OpeningParts) (r : RoomModel) (ps : List PassModel)
     (u : UserPassModel) (qs : List ClipPassModel) : Type 0 where

@@ -3,7 +3,8 @@ use Rattle.std.specs.Prelude.{ℤ, pos, [], ◌∷◌}
 use Rattle.nit_rect.specs.Rectangle.{Rectangle}
 use Rattle.nit_stack.specs.Stack.{StackModel, empty_stack}
 
--- One view on a screen of 8 by 4: it has this rectangle and offset, and its session has a buffer of 4 by 2
+-- One view on a screen of 8 by 4: it has this rectangle and offset, and its session has a buffer of
+-- 4 by 2
 abbrev pub one_view : Rectangle → ℤ → ℤ → StackModel
 one_view rect ox oy =
     record (empty_stack 8 4 1 1) {
@@ -14,7 +15,8 @@ one_view rect ox oy =
       sizes = record { w = 4; h = 2 } ∷ [];
     }
 
--- Two views of two sessions on a screen of 12 by 7: these rectangles, with buffers of 12 by 7 and of
+-- Two views of two sessions on a screen of 12 by 7: these rectangles, with buffers of 12 by 7 and
+-- of
 -- 4 by 7 behind them.
 abbrev pub two_views : Rectangle → Rectangle → StackModel
 two_views back front =

@@ -1,19 +1,27 @@
 -- What follows of a run that was begun, and that an audit begins none and puts nothing.
-use Rattle.std.proofs.Common.{◌≡◌, List, [], ◌∷◌, ◌++◌, Option, Some, None, refl, ap, subst, ◌∙◌, inl, inr, ◌⊎◌}
-use Rattle.nit_top.proofs.Basics.{Audit, AuditOr, Begun, Capture, Clip, Command, Course, Entry, File, Gen, IsAudit, IsCommandRun, IsSetupOf, Nested, NoCommand, NotBegun, PutFiles, Run, Setup, Still, StoreModel, WithRun, WithoutRun, made_by}
+use Rattle.std.proofs.Common.{◌≡◌, List, [], ◌∷◌, ◌++◌, Option, Some, None, refl, ap, subst, ◌∙◌}
+use Rattle.std.proofs.Common.{inl, inr, ◌⊎◌}
+use Rattle.nit_top.proofs.Basics.{Audit, AuditOr, Begun, Capture, Clip, Command, Course, Entry}
+use Rattle.nit_top.proofs.Basics.{File, Gen, IsAudit, IsCommandRun, IsSetupOf, Nested, NoCommand}
+use Rattle.nit_top.proofs.Basics.{NotBegun, PutFiles, Run, Setup, Still, StoreModel, WithRun}
+use Rattle.nit_top.proofs.Basics.{WithoutRun, made_by}
 
 -- ---- the run
 
 -- what follows of a run
-pub with_run : {old : StoreModel} {c : Command} {journal : List Entry} (course : Course old c journal) (P Q : IsCommandRun old c journal → Type 0) → ((run : IsCommandRun old c journal) → P run → Q run) → WithRun course P → WithRun course Q
+pub with_run : {old : StoreModel} {c : Command} {journal : List Entry} (course : Course old c journal)
+    (P Q : IsCommandRun old c journal → Type 0) → ((run : IsCommandRun old c journal) → P run → Q run)
+    → WithRun course P → WithRun course Q
 with_run (Begun run) P Q f h = f run h
 with_run (NotBegun empty) P Q f h = h
 
-pub with_run_not : {old : StoreModel} {c : Command} {journal : List Entry} (course : Course old c journal) (P : IsCommandRun old c journal → Type 0) → ((run : IsCommandRun old c journal) → P run → ⊥) → WithRun course P → ⊥
+pub with_run_not : {old : StoreModel} {c : Command} {journal : List Entry} (course : Course old c journal)
+    (P : IsCommandRun old c journal → Type 0) → ((run : IsCommandRun old c journal) → P run → ⊥) → WithRun course P → ⊥
 with_run_not (Begun run) P f h = f run h
 with_run_not (NotBegun empty) P f h = h
 
-pub without_run : {old : StoreModel} {c : Command} {journal : List Entry} (course : Course old c journal) → WithoutRun course → journal ≡ []
+pub without_run : {old : StoreModel} {c : Command} {journal : List Entry} (course : Course old c journal)
+    → WithoutRun course → journal ≡ []
 without_run (Begun run) h = absurd h
 without_run (NotBegun empty) h = empty
 
@@ -43,7 +51,8 @@ runs_none NoCommand s is of = is
 pub not_run : {old : StoreModel} {c : Command} {journal : List Entry} → IsCommandRun old c journal → IsAudit c → ⊥
 not_run {c = c} run is = runs_none c run.setup is run.files_are.of_command
 
-pub empty_course : {old : StoreModel} {c : Command} {journal : List Entry} → IsAudit c → Course old c journal → journal ≡ []
+pub empty_course : {old : StoreModel} {c : Command} {journal : List Entry} → IsAudit c → Course old c journal
+    → journal ≡ []
 empty_course is (Begun run) = absurd (not_run run is)
 empty_course is (NotBegun empty) = empty
 
@@ -56,11 +65,13 @@ none_put : (old new : Option (List File)) → PutFiles [] old new → new ≡ ol
 none_put None new p = p
 none_put (Some all) new p = p.1 ∙ ap (λ (fs : List File). Some fs) p.2
 
-pub front_same : {new : Option (List File)} (front : List File) (old : Option (List File)) → front ≡ [] → PutFiles front old new → new ≡ old
+pub front_same : {new : Option (List File)} (front : List File) (old : Option (List File)) → front ≡ []
+    → PutFiles front old new → new ≡ old
 front_same {new = new} front old none p = none_put old new (subst (λ (fs : List File). PutFiles fs old new) none p)
 
 -- a fact of an audit, or one of a run, by what the command is
-pub by_command : {OfAudit OfRun : Type 0} (c : Command) → (OfAudit × IsAudit c) ⊎ (OfRun × (IsAudit c → ⊥)) → AuditOr c OfAudit OfRun
+pub by_command : {OfAudit OfRun : Type 0} (c : Command) → (OfAudit × IsAudit c) ⊎ (OfRun × (IsAudit c → ⊥))
+    → AuditOr c OfAudit OfRun
 by_command (Audit configuration journal) (inl a) = a.0
 by_command (Audit configuration journal) (inr r) = absurd (r.1 tt)
 by_command (Still width height script) (inl a) = absurd a.1

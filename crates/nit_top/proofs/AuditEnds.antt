@@ -1,6 +1,13 @@
 -- How an audit comes to its end: as a run of its configuration does before it is begun, or at the journal.
-use Rattle.std.proofs.Common.{◌≡◌, ℕ, false, List, [], Option, Some, None, refl, sym, ap, subst, ◌∙◌, inl, inr}
-use Rattle.nit_top.proofs.Basics.{AllFiles, AllScripts, AreAllFiles, AreAllScripts, AreSetup, Audit, BothFiles, Command, End, Ends, Entry, Fault, File, FilesRead, FirstFiles, HasRead, IfSome, InnerFiles, IsAuditEnd, IsJournalFault, IsJournalText, IsNoJournalText, IsValid, Judged, NoFile, NotBegun, OuterFiles, Refused, Run, Setup, Stop, StoppedAt, StoreModel, Worked, asking_all, bytes_of, name_text, names_read, next_name, reads, with_asked}
+use Rattle.std.proofs.Common.{◌≡◌, ℕ, false, List, [], Option, Some, None, refl, sym, ap, subst}
+use Rattle.std.proofs.Common.{◌∙◌, inl, inr}
+use Rattle.nit_top.proofs.Basics.{AllFiles, AllScripts, AreAllFiles, AreAllScripts, AreSetup, Audit}
+use Rattle.nit_top.proofs.Basics.{BothFiles, Command, End, Ends, Entry, Fault, File, FilesRead}
+use Rattle.nit_top.proofs.Basics.{FirstFiles, HasRead, IfSome, InnerFiles, IsAuditEnd}
+use Rattle.nit_top.proofs.Basics.{IsJournalFault, IsJournalText, IsNoJournalText, IsValid, Judged}
+use Rattle.nit_top.proofs.Basics.{NoFile, NotBegun, OuterFiles, Refused, Run, Setup, Stop}
+use Rattle.nit_top.proofs.Basics.{StoppedAt, StoreModel, Worked, asking_all, bytes_of, name_text}
+use Rattle.nit_top.proofs.Basics.{names_read, next_name, reads, with_asked}
 use Rattle.nit_top.specs.declared.report.finish.End.TheVariants as ends
 use Rattle.nit_top.specs.declared.report.finish.Fault.TheVariants as fault
 use Rattle.nit_top.proofs.AskedNames.{asking_more}
@@ -28,7 +35,11 @@ module _ (name journal : List ℕ) where
   as_read (BothFiles o i) = BothFiles o i
 
   pub scripts_too : (told : Option (List File)) (s : Setup) → AreAllFiles run told s → AreAllScripts name told s
-  scripts_too told s a = record { runnable = a.runnable; valid = told_so (λ files. IsValid run files s) (λ files. AreSetup name files s) told (λ files v. (v.0, v.1)) a.valid }
+  scripts_too told s a = record {
+    runnable = a.runnable;
+    valid =
+        told_so (λ files. IsValid run files s) (λ files. AreSetup name files s) told (λ files v. (v.0, v.1)) a.valid;
+  }
 
   read_too : (told : Option (List File)) (r : FilesRead) → HasRead run told r → HasRead audit told (as_read r)
   read_too told NoFile h = tt
@@ -39,7 +50,8 @@ module _ (name journal : List ℕ) where
   read_too told (InnerFiles o config scripts) h = absurd h
   read_too told (BothFiles o i) h = absurd h
 
-  names_too : (told : Option (List File)) (r : FilesRead) → HasRead run told r → names_read run r ≡ names_read audit (as_read r)
+  names_too : (told : Option (List File)) (r : FilesRead) → HasRead run told r
+      → names_read run r ≡ names_read audit (as_read r)
   names_too told NoFile h = refl
   names_too told (FirstFiles config scripts) h = refl
   names_too told (AllScripts s) h = absurd h
@@ -73,7 +85,8 @@ module _ (name journal : List ℕ) where
   }
 
   -- the work ended before the journal was read
-  pub ends_before : (old new : StoreModel) (w : Worked) → w.journal.items ≡ [] → Ends run old new w → Ends audit old new w
+  pub ends_before : (old new : StoreModel) (w : Worked) → w.journal.items ≡ [] → Ends run old new w
+      → Ends audit old new w
   ends_before = ends_as false name audit reads_as
 
   -- ---- at the journal
@@ -90,24 +103,34 @@ module _ (name journal : List ℕ) where
   text_fault s bytes fault.PhasesDiffer r = absurd r
   text_fault s bytes fault.FramesTooLong r = absurd r
 
-  module _ (old mid : StoreModel) (s : Setup) (asked : mid ≡ asking_all old (reads run s)) (all : AreAllFiles run old.files s) where
+  module _ (old mid : StoreModel) (s : Setup) (asked : mid ≡ asking_all old (reads run s))
+      (all : AreAllFiles run old.files s) where
     -- the journal has a fault, or was not read
-    fault_ends : (Faulty : List ℕ → Fault → Type 0) → ((bytes : List ℕ) (f : Fault) → Faulty bytes f → IsJournalFault s bytes f) → (new : StoreModel) (stop : Stop) (w : Worked)
-        → name_text stop.name ≡ journal → StoppedAt Faulty mid journal new stop.end → w.stop ≡ stop → w.journal.items ≡ [] → Ends audit old new w
+    fault_ends : (Faulty : List ℕ → Fault → Type 0)
+        → ((bytes : List ℕ) (f : Fault) → Faulty bytes f → IsJournalFault s bytes f)
+        → (new : StoreModel) (stop : Stop) (w : Worked)
+        → name_text stop.name ≡ journal → StoppedAt Faulty mid journal new stop.end → w.stop ≡ stop
+        → w.journal.items ≡ [] → Ends audit old new w
     fault_ends Faulty faulty new stop w is h at none =
         let scripts = scripts_too old.files s all in
         stopped_ends audit old (AllScripts s) scripts journal refl Faulty new
-        (λ f p. told_so_both (λ files. AreSetup name files s) (λ files. Faulty (bytes_of journal files) f) (λ files. Judged audit files (Refused journal f)) old.files (λ files a q. inr (refl, (s, a, faulty (bytes_of journal files) f q))) scripts.valid p)
+        (λ f p. told_so_both (λ files. AreSetup name files s) (λ files. Faulty (bytes_of journal files) f)
+        (λ files. Judged audit files (Refused journal f)) old.files
+        (λ files a q. inr (refl, (s, a, faulty (bytes_of journal files) f q))) scripts.valid p)
         mid stop w asked is h at none
 
-    pub text_ends : (new : StoreModel) (stop : Stop) (w : Worked) → name_text stop.name ≡ journal → StoppedAt IsNoJournalText mid journal new stop.end → w.stop ≡ stop → w.journal.items ≡ [] → Ends audit old new w
+    pub text_ends : (new : StoreModel) (stop : Stop) (w : Worked) → name_text stop.name ≡ journal
+        → StoppedAt IsNoJournalText mid journal new stop.end → w.stop ≡ stop → w.journal.items ≡ []
+        → Ends audit old new w
     text_ends new stop w is h at none = fault_ends IsNoJournalText (text_fault s) new stop w is h at none
 
     -- ---- at its entries
 
-    module _ (new : StoreModel) (read : new ≡ with_asked mid journal) (entries : List Entry) (text : IfSome mid.files (λ files. IsJournalText (bytes_of journal files) entries)) where
+    module _ (new : StoreModel) (read : new ≡ with_asked mid journal) (entries : List Entry)
+        (text : IfSome mid.files (λ files. IsJournalText (bytes_of journal files) entries)) where
       text_here : IfSome old.files (λ files. IsJournalText (bytes_of journal files) entries)
-      text_here = subst (λ (t : StoreModel). IfSome t.files (λ files. IsJournalText (bytes_of journal files) entries)) asked text
+      text_here = subst (λ (t : StoreModel). IfSome t.files (λ files. IsJournalText (bytes_of journal files) entries))
+          asked text
 
       all_asked : new ≡ asking_all old (reads audit s)
       all_asked = read ∙ ap (λ (t : StoreModel). with_asked t journal) asked ∙ asking_more old (reads run s) journal
@@ -127,7 +150,8 @@ module _ (name journal : List ℕ) where
       found_fault bytes fault.PhasesDiffer p = absurd p.1
       found_fault bytes fault.FramesTooLong p = absurd p.1
 
-      yes_ends : (count : ℕ) (stop : Stop) (w : Worked) → IsAuditEnd s entries (ends.Audited count) → w.stop.end ≡ ends.Audited count → w.journal.items ≡ [] → Ends audit old new w
+      yes_ends : (count : ℕ) (stop : Stop) (w : Worked) → IsAuditEnd s entries (ends.Audited count)
+          → w.stop.end ≡ ends.Audited count → w.journal.items ≡ [] → Ends audit old new w
       yes_ends count stop w found end none =
           let here : CameTo audit old new [] (ends.Audited count) (name_text w.stop.name) (totals_on w) = record {
             course = NotBegun refl;
@@ -141,20 +165,34 @@ module _ (name journal : List ℕ) where
                 entries = entries;
                 counted = found.0;
                 of_a_run = found.1;
-                told = told_so_both (λ files. AreSetup name files s) (λ files. IsJournalText (bytes_of journal files) entries) (λ files. AreSetup name files s × IsJournalText (bytes_of journal files) entries) old.files (λ files a q. (a, q)) (scripts_too old.files s all).valid text_here;
+                told = told_so_both (λ files. AreSetup name files s)
+                    (λ files. IsJournalText (bytes_of journal files) entries) (λ files. AreSetup name files s
+                    × IsJournalText (bytes_of journal files) entries) old.files (λ files a q. (a, q))
+                    (scripts_too old.files s all).valid text_here;
                 asks = ap (λ (t : StoreModel). t.asked) all_asked;
               },
               refl,
             );
-            counts = (ap (λ (t : StoreModel). t.read_faults) all_asked, ap (λ (t : StoreModel). t.write_faults) all_asked);
+            counts = (
+              ap (λ (t : StoreModel). t.read_faults) all_asked,
+              ap (λ (t : StoreModel). t.write_faults) all_asked,
+            );
             said = ap (λ (t : StoreModel). t.said) all_asked;
           } in
-          let so : CameTo audit old new [] w.stop.end (name_text w.stop.name) (totals_on w) = subst (λ (e : End). CameTo audit old new [] e (name_text w.stop.name) (totals_on w)) (sym end) here in
-          ends_by audit old new w (subst (λ (k : List Entry). CameTo audit old new k w.stop.end (name_text w.stop.name) (totals_on w)) (sym none) so)
+          let so : CameTo audit old new [] w.stop.end (name_text w.stop.name) (totals_on w) =
+          subst (λ (e : End). CameTo audit old new [] e (name_text w.stop.name) (totals_on w)) (sym end) here in
+          ends_by audit old new w (subst
+          (λ (k : List Entry). CameTo audit old new k w.stop.end (name_text w.stop.name) (totals_on w)) (sym none)
+          so)
 
       -- the verdict, or want of memory
-      stopped_found : (end : End) → IsAuditEnd s entries end → ((count : ℕ) → end ≡ ends.Audited count → ⊥) → StoppedAt IsFound mid journal new end
-      stopped_found (ends.Refused f) found other = (read, told_so (λ files. IsJournalText (bytes_of journal files) entries) (λ files. IsFound (bytes_of journal files) f) mid.files (λ files q. (q, found)) text)
+      stopped_found : (end : End) → IsAuditEnd s entries end → ((count : ℕ) → end ≡ ends.Audited count → ⊥)
+          → StoppedAt IsFound mid journal new end
+      stopped_found (ends.Refused f) found other = (
+        read,
+        told_so (λ files. IsJournalText (bytes_of journal files) entries)
+            (λ files. IsFound (bytes_of journal files) f) mid.files (λ files q. (q, found)) text,
+      )
       stopped_found ends.NoMemory found other = inl read
       stopped_found (ends.Audited count) found other = absurd (other count refl)
       stopped_found ends.Usage found other = absurd found
@@ -164,17 +202,22 @@ module _ (name journal : List ℕ) where
       stopped_found ends.Whole found other = absurd found
       stopped_found (ends.Unfit f) found other = absurd found
 
-      pub found_ends : (stop : Stop) (w : Worked) → name_text stop.name ≡ journal → IsAuditEnd s entries stop.end → w.stop ≡ stop → w.journal.items ≡ [] → Ends audit old new w
+      pub found_ends : (stop : Stop) (w : Worked) → name_text stop.name ≡ journal → IsAuditEnd s entries stop.end
+          → w.stop ≡ stop → w.journal.items ≡ [] → Ends audit old new w
       found_ends stop w is found at none = by_end stop.end refl
         where
-          not_audited : (e : End) (count : ℕ) → stop.end ≡ e → ((k : ℕ) → e ≡ ends.Audited k → ⊥) → stop.end ≡ ends.Audited count → ⊥
+          not_audited : (e : End) (count : ℕ) → stop.end ≡ e → ((k : ℕ) → e ≡ ends.Audited k → ⊥)
+              → stop.end ≡ ends.Audited count → ⊥
           not_audited e count is_e not_e x = not_e count (sym is_e ∙ x)
 
           other_end : (e : End) → stop.end ≡ e → ((k : ℕ) → e ≡ ends.Audited k → ⊥) → Ends audit old new w
-          other_end e is_e not_e = fault_ends IsFound found_fault new stop w is (stopped_found stop.end found (λ count x. not_audited e count is_e not_e x)) at none
+          other_end e is_e not_e = fault_ends IsFound found_fault new stop w is
+              (stopped_found stop.end found (λ count x. not_audited e count is_e not_e x)) at none
 
           by_end : (e : End) → stop.end ≡ e → Ends audit old new w
-          by_end (ends.Audited count) is_e = yes_ends count stop w (subst (λ (e : End). IsAuditEnd s entries e) is_e found) (ap (λ (t : Stop). t.end) at ∙ is_e) none
+          by_end (ends.Audited count) is_e =
+              yes_ends count stop w (subst (λ (e : End). IsAuditEnd s entries e) is_e found)
+              (ap (λ (t : Stop). t.end) at ∙ is_e) none
           by_end (ends.Refused f) is_e = other_end (ends.Refused f) is_e (λ k x. absurd cc)
           by_end ends.NoMemory is_e = other_end ends.NoMemory is_e (λ k x. absurd cc)
           by_end ends.Usage is_e = other_end ends.Usage is_e (λ k x. absurd cc)

@@ -1,7 +1,11 @@
 -- How the work of a capture comes to its end: as that of a run does before it is begun, and with the film behind
 -- the files of one that was.
 use Rattle.std.proofs.Common.{◌≡◌, ℕ, true, false, List, [], ◌∷◌, ◌++◌, Option, refl, ◌∙◌, inl, inr}
-use Rattle.nit_top.proofs.Basics.{AllFiles, AllScripts, AreAllFiles, BothFiles, Capture, Command, Ends, File, FilesRead, FirstFiles, HasRead, InnerFiles, NoFile, OuterFiles, PerformedFilmed, Region, Run, Setup, StoreModel, Worked, asking_all, film_name, film_of, is_outside_of, names_read, next_name, pictures_in, reads}
+use Rattle.nit_top.proofs.Basics.{AllFiles, AllScripts, AreAllFiles, BothFiles, Capture, Command}
+use Rattle.nit_top.proofs.Basics.{Ends, File, FilesRead, FirstFiles, HasRead, InnerFiles, NoFile}
+use Rattle.nit_top.proofs.Basics.{OuterFiles, PerformedFilmed, Region, Run, Setup, StoreModel}
+use Rattle.nit_top.proofs.Basics.{Worked, asking_all, film_name, film_of, is_outside_of, names_read}
+use Rattle.nit_top.proofs.Basics.{next_name, pictures_in, reads}
 use Rattle.nit_top.proofs.BeforeRun.{ReadsAs, ends_as}
 use Rattle.nit_top.proofs.WorkLemmas.{run_ends, unbegun_ends}
 
@@ -60,7 +64,9 @@ module _ (name : List ℕ) (region : Region) where
 
   -- ---- a run
 
-  pub film_ends : (old mid new : StoreModel) (s : Setup) (w : Worked) → mid ≡ asking_all old (reads run s) → AreAllFiles run old.files s → is_outside_of film s.config ≡ false → PerformedFilmed region mid s new w → Ends film old new w
+  pub film_ends : (old mid new : StoreModel) (s : Setup) (w : Worked) → mid ≡ asking_all old (reads run s)
+      → AreAllFiles run old.files s → is_outside_of film s.config ≡ false → PerformedFilmed region mid s new w
+      → Ends film old new w
   film_ends old mid new s w asked files_are inside (inl after) =
       let r = after.has_run in
       run_ends film old mid new s w asked (all_too old.files s files_are) (record {
@@ -81,4 +87,5 @@ module _ (name : List ℕ) (region : Region) where
         clients_are = after.clients_are;
         frames_are = after.frames_are ∙ r.frames_are;
       })
-  film_ends old mid new s w asked files_are inside (inr (end, same, none)) = unbegun_ends film old mid new s w asked (all_too old.files s files_are) end same none
+  film_ends old mid new s w asked files_are inside (inr (end, same, none)) =
+      unbegun_ends film old mid new s w asked (all_too old.files s files_are) end same none

@@ -1,6 +1,8 @@
 -- The codes of the ways that a command ends, and what the counts of faults say of them.
-use Rattle.std.proofs.Common.{◌≡◌, ℕ, ◌≤◌, Bool, true, false, [], ◌∷◌, refl, subst, arith, inl, inr, ◌⊎◌, ◌==◌}
-use Rattle.nit_top.proofs.Basics.{Counts, End, Fault, IsEarly, IsTrue, Rose, StoreModel, code_of, fault_code, list_any, not_both}
+use Rattle.std.proofs.Common.{◌≡◌, ℕ, ◌≤◌, Bool, true, false, [], ◌∷◌, refl, subst, arith, inl, inr}
+use Rattle.std.proofs.Common.{◌⊎◌, ◌==◌}
+use Rattle.nit_top.proofs.Basics.{Counts, End, Fault, IsEarly, IsTrue, Rose, StoreModel, code_of}
+use Rattle.nit_top.proofs.Basics.{fault_code, list_any, not_both}
 use Rattle.nit_top.specs.declared.report.finish.End.TheVariants as ends
 use Rattle.nit_top.specs.declared.report.finish.Fault.TheVariants as fault
 
@@ -63,7 +65,8 @@ not_early_7 h = cc
 
 -- ---- the counts
 
-pub reads_by : (old mid : StoreModel) (e : End) → Counts old mid e → ((code_of e ≡ 3) × Rose old.read_faults mid.read_faults) ⊎ (mid.read_faults ≡ old.read_faults)
+pub reads_by : (old mid : StoreModel) (e : End) → Counts old mid e
+    → ((code_of e ≡ 3) × Rose old.read_faults mid.read_faults) ⊎ (mid.read_faults ≡ old.read_faults)
 reads_by old mid ends.Usage h = inr h.0
 reads_by old mid ends.ReadFault h = inl (refl, h.0)
 reads_by old mid (ends.Refused f) h = inr h.0
@@ -74,13 +77,15 @@ reads_by old mid ends.Outside h = inr h.0
 reads_by old mid ends.Whole h = inr h.0
 reads_by old mid (ends.Audited n) h = inr h.0
 
-pub read_rose : (old mid : StoreModel) (e : End) → Counts old mid e → code_of e ≡ 3 → Rose old.read_faults mid.read_faults
+pub read_rose : (old mid : StoreModel) (e : End) → Counts old mid e → code_of e ≡ 3
+    → Rose old.read_faults mid.read_faults
 read_rose old mid ends.ReadFault h c = h.0
 read_rose old mid (ends.Refused f) h c = absurd (not_fault f 3 c refl)
 read_rose old mid (ends.Unfit f) h c = absurd (not_fault f 3 c refl)
 read_rose old mid e h c = absurd (omega arith)
 
-pub writes_by : (old mid : StoreModel) (e : End) → Counts old mid e → ((code_of e ≡ 4) × Rose old.write_faults mid.write_faults) ⊎ (mid.write_faults ≡ old.write_faults)
+pub writes_by : (old mid : StoreModel) (e : End) → Counts old mid e
+    → ((code_of e ≡ 4) × Rose old.write_faults mid.write_faults) ⊎ (mid.write_faults ≡ old.write_faults)
 writes_by old mid ends.Usage h = inr h.1
 writes_by old mid ends.ReadFault h = inr h.1
 writes_by old mid (ends.Refused f) h = inr h.1
@@ -91,7 +96,8 @@ writes_by old mid ends.Outside h = inr h.1
 writes_by old mid ends.Whole h = inr h.1
 writes_by old mid (ends.Audited n) h = inr h.1
 
-pub write_rose : (old mid : StoreModel) (e : End) → Counts old mid e → code_of e ≡ 4 → Rose old.write_faults mid.write_faults
+pub write_rose : (old mid : StoreModel) (e : End) → Counts old mid e → code_of e ≡ 4
+    → Rose old.write_faults mid.write_faults
 write_rose old mid ends.WriteFault h c = h.1
 write_rose old mid (ends.Refused f) h c = absurd (not_fault f 4 c refl)
 write_rose old mid (ends.Unfit f) h c = absurd (not_fault f 4 c refl)

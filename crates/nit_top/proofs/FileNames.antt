@@ -1,6 +1,12 @@
 -- Files with different names, and what stands under these once the files are put.
-use Rattle.std.proofs.Common.{◌≡◌, ◌≢◌, ℕ, Bool, true, false, cond, List, [], ◌∷◌, ◌++◌, length, Option, Some, None, refl, sym, ap, ◌∙◌, subst, suc, ◌+◌, ◌<◌, ◌^◌, arith, is_none}
-use Rattle.nit_top.proofs.Basics.{All, All-from_recursion, AllByRecursion, Entry, File, HasDifferentNames, LegalFrom, PutEach, PutFiles, ShotsBehind, Stand, StandIn, State, after, all_append, and_parts, bytes_eq, bytes_eq-Decides, file_at, have_different_names, shot_name, shots, slice_index}
+use Rattle.std.proofs.Common.{◌≡◌, ◌≢◌, ℕ, Bool, true, false, cond, List, [], ◌∷◌, ◌++◌, length}
+use Rattle.std.proofs.Common.{Option, Some, None, refl, sym, ap, ◌∙◌, subst, suc, ◌+◌, ◌<◌, ◌^◌}
+use Rattle.std.proofs.Common.{arith, is_none}
+use Rattle.nit_top.proofs.Basics.{All, All-from_recursion, AllByRecursion, Entry, File}
+use Rattle.nit_top.proofs.Basics.{HasDifferentNames, LegalFrom, PutEach, PutFiles, ShotsBehind}
+use Rattle.nit_top.proofs.Basics.{Stand, StandIn, State, after, all_append, and_parts, bytes_eq}
+use Rattle.nit_top.proofs.Basics.{bytes_eq-Decides, file_at, have_different_names, shot_name, shots}
+use Rattle.nit_top.proofs.Basics.{slice_index}
 use Rattle.nit_events.specs.declared.entry.Entry.TheVariants as entry
 use Rattle.nit_top.proofs.FilmPictures.{shots_apart}
 
@@ -42,9 +48,14 @@ other_than : (name : List ℕ) (files : List File) → is_none (file_at name fil
 other_than name [] none = tt
 other_than name (f ∷ files) none = by (bytes_eq f.0 name) refl none (λ h. other_than name files h)
   where
-    by : (b : Bool) → bytes_eq f.0 name ≡ b → is_none (cond b (Some f.1) (file_at name files)) ≡ true → (is_none (file_at name files) ≡ true → OtherThan name files) → OtherThan name (f ∷ files)
+    by : (b : Bool) → bytes_eq f.0 name ≡ b → is_none (cond b (Some f.1) (file_at name files)) ≡ true
+        → (is_none (file_at name files) ≡ true → OtherThan name files) → OtherThan name (f ∷ files)
     by true same none rest = absurd cc
-    by false same none rest = ((λ is. let equal : bytes_eq f.0 name ≡ true = (bytes_eq-Decides f.0 name).1 (sym is) in cc), rest none)
+    by false same none rest = (
+      (λ is. let equal : bytes_eq f.0 name ≡ true =
+          (bytes_eq-Decides f.0 name).1 (sym is) in cc),
+      rest none,
+    )
 
 pub apart_of : (files : List File) → HasDifferentNames files → Apart files
 apart_of [] different = tt
@@ -54,17 +65,21 @@ apart_of (f ∷ files) different =
 
 -- ---- once they are put
 
-pub stays : (files : List File) (name : List ℕ) (old new : List File) → PutEach files old new → OtherThan name files → file_at name new ≡ file_at name old
+pub stays : (files : List File) (name : List ℕ) (old new : List File) → PutEach files old new → OtherThan name files
+    → file_at name new ≡ file_at name old
 stays [] name old new puts other = ap (λ (fs : List File). file_at name fs) puts
 stays (f ∷ files) name old new (mid, p, puts) other = stays files name mid new puts other.1 ∙ p.others name other.0
 
-each_stands : (files old new : List File) → Apart files → PutEach files old new → AllByRecursion (λ f. file_at f.0 new ≡ Some f.1) files
+each_stands : (files old new : List File) → Apart files → PutEach files old new
+    → AllByRecursion (λ f. file_at f.0 new ≡ Some f.1) files
 each_stands [] old new apart puts = tt
-each_stands (f ∷ files) old new apart (mid, p, puts) = (stays files f.0 mid new puts apart.0 ∙ p.this, each_stands files mid new apart.1 puts)
+each_stands (f ∷ files) old new apart (mid, p, puts) =
+    (stays files f.0 mid new puts apart.0 ∙ p.this, each_stands files mid new apart.1 puts)
 
 none_is : (name : List ℕ) (files : List File) → All (λ f. f.0 ≢ name) files → OtherThan name files
 none_is name [] other = tt
-none_is name (f ∷ files) other = ((λ same. other 0 f (omega arith) (sym same)), none_is name files (λ k d inside. other (suc k) d (omega arith)))
+none_is name (f ∷ files) other =
+    ((λ same. other 0 f (omega arith) (sym same)), none_is name files (λ k d inside. other (suc k) d (omega arith)))
 
 pub stand : (files old new : List File) → Apart files → PutEach files old new → Stand files old new
 stand files old new apart puts = record {
@@ -72,7 +87,8 @@ stand files old new apart puts = record {
   others = λ name other. stays files name old new puts (none_is name files other);
 }
 
-pub stand_in : (files : List File) (old new : Option (List File)) → Apart files → PutFiles files old new → StandIn files old new
+pub stand_in : (files : List File) (old new : Option (List File)) → Apart files → PutFiles files old new
+    → StandIn files old new
 stand_in files None new apart puts = puts
 stand_in files (Some old) new apart puts = (puts.0, puts.1, stand files old puts.0 apart puts.2)
 
@@ -86,20 +102,30 @@ Begin letter files = AllByRecursion (λ f. slice_index f.0 0 ≡ letter) files
 abbrev pub BeginOther : ℕ → List File → Type 0
 BeginOther letter files = AllByRecursion (λ f. slice_index f.0 0 ≢ letter) files
 
-pub begin_other : (letter other : ℕ) (files : List File) → Begin letter files → (letter ≡ other → ⊥) → BeginOther other files
+pub begin_other : (letter other : ℕ) (files : List File) → Begin letter files → (letter ≡ other → ⊥)
+    → BeginOther other files
 begin_other letter other [] begin apart = tt
-begin_other letter other (f ∷ files) begin apart = ((λ is. apart (sym begin.0 ∙ is)), begin_other letter other files begin.1 apart)
+begin_other letter other (f ∷ files) begin apart =
+    ((λ is. apart (sym begin.0 ∙ is)), begin_other letter other files begin.1 apart)
 
-pub other_letter : (name : List ℕ) (letter : ℕ) (files : List File) → slice_index name 0 ≡ letter → BeginOther letter files → OtherThan name files
+pub other_letter : (name : List ℕ) (letter : ℕ) (files : List File) → slice_index name 0 ≡ letter
+    → BeginOther letter files → OtherThan name files
 other_letter name letter [] is other = tt
-other_letter name letter (f ∷ files) is other = ((λ same. other.0 (ap (λ (n : List ℕ). slice_index n 0) (sym same) ∙ is)), other_letter name letter files is other.1)
+other_letter name letter (f ∷ files) is other = (
+  (λ same. other.0 (ap (λ (n : List ℕ). slice_index n 0) (sym same) ∙ is)),
+  other_letter name letter files is other.1,
+)
 
 pub other_both : (name : List ℕ) (xs ys : List File) → OtherThan name xs → OtherThan name ys → OtherThan name (xs ++ ys)
 other_both name xs ys a b = all_append (λ f. name ≢ f.0) xs ys a b
 
-pub apart_by : (letter : ℕ) (xs ys : List File) → Begin letter xs → BeginOther letter ys → Apart xs → Apart ys → Apart (xs ++ ys)
+pub apart_by : (letter : ℕ) (xs ys : List File) → Begin letter xs → BeginOther letter ys → Apart xs → Apart ys
+    → Apart (xs ++ ys)
 apart_by letter [] ys begin other apart more = more
-apart_by letter (x ∷ xs) ys begin other apart more = (other_both x.0 xs ys apart.0 (other_letter x.0 letter ys begin.0 other), apart_by letter xs ys begin.1 other apart.1 more)
+apart_by letter (x ∷ xs) ys begin other apart more = (
+  other_both x.0 xs ys apart.0 (other_letter x.0 letter ys begin.0 other),
+  apart_by letter xs ys begin.1 other apart.1 more,
+)
 
 -- ---- the files of shots
 
@@ -109,29 +135,42 @@ Numbered first [] = Unit {0}
 Numbered first (f ∷ files) = (f.0 ≡ shot_name first) × Numbered (first + 1) files
 
 -- so it is with those of a legal journal
-pub numbered : (P : List Entry → List ℕ → Type 0) (s : State) (taken : ℕ) (before es : List Entry) (files : List File) → LegalFrom s taken es → ShotsBehind P before es files → Numbered (taken + 1) files × (length files ≡ shots es)
-numbered P s taken before [] files legal is = (subst (λ (fs : List File). Numbered (taken + 1) fs) (sym is) tt, ap (λ (fs : List File). length fs) is)
-numbered P s taken before (entry.Call sid call r ∷ es) files legal are = numbered P (after s (entry.Call sid call r)) taken (before ++ entry.Call sid call r ∷ []) es files legal.1 are
-numbered P s taken before (entry.Input dev routed ∷ es) files legal are = numbered P (after s (entry.Input dev routed)) taken (before ++ entry.Input dev routed ∷ []) es files legal.1 are
+pub numbered : (P : List Entry → List ℕ → Type 0) (s : State) (taken : ℕ) (before es : List Entry) (files : List File)
+    → LegalFrom s taken es → ShotsBehind P before es files → Numbered (taken + 1) files × (length files ≡ shots es)
+numbered P s taken before [] files legal is =
+    (subst (λ (fs : List File). Numbered (taken + 1) fs) (sym is) tt, ap (λ (fs : List File). length fs) is)
+numbered P s taken before (entry.Call sid call r ∷ es) files legal are =
+    numbered P (after s (entry.Call sid call r)) taken (before ++ entry.Call sid call r ∷ []) es files legal.1 are
+numbered P s taken before (entry.Input dev routed ∷ es) files legal are =
+    numbered P (after s (entry.Input dev routed)) taken (before ++ entry.Input dev routed ∷ []) es files legal.1 are
 numbered P s taken before (entry.Shot number ∷ es) files legal (bytes, more, is, picture, rest) =
     let others = numbered P s (taken + 1) (before ++ entry.Shot number ∷ []) es more legal.1 rest in (
       subst (λ (fs : List File). Numbered (taken + 1) fs) (sym is) (ap shot_name legal.0, others.0),
       ap (λ (fs : List File). length fs) is ∙ ap (λ (n : ℕ). suc n) others.1,
     )
 numbered P s taken before (entry.Final ∷ es) files legal are =
-    let none : files ≡ [] = subst (λ (rest : List Entry). ShotsBehind P (before ++ entry.Final ∷ []) rest files) legal are in
-    (subst (λ (fs : List File). Numbered (taken + 1) fs) (sym none) tt, ap (λ (fs : List File). length fs) none ∙ sym (ap (λ (rest : List Entry). shots rest) legal))
+    let none : files ≡ [] = subst (λ (rest : List Entry). ShotsBehind P (before ++ entry.Final ∷ []) rest files) legal
+    are in (
+      subst (λ (fs : List File). Numbered (taken + 1) fs) (sym none) tt,
+      ap (λ (fs : List File). length fs) none
+          ∙ sym (ap (λ (rest : List Entry). shots rest) legal),
+    )
 
 -- the shots behind one have other names
-pub later_shots : (n first : ℕ) (files : List File) → n < first → first + length files < 2 ^ 64 → Numbered first files → OtherThan (shot_name n) files
+pub later_shots : (n first : ℕ) (files : List File) → n < first → first + length files < 2 ^ 64 → Numbered first files
+    → OtherThan (shot_name n) files
 later_shots n first [] less few is = tt
-later_shots n first (f ∷ files) less few is =
-    (λ same. let e : n ≡ first = shots_apart n first (omega arith) (omega arith) (same ∙ is.0) in omega arith, later_shots n (first + 1) files (omega arith) (omega arith) is.1)
+later_shots n first (f ∷ files) less few is = (
+  λ same. let e : n ≡ first = shots_apart n first (omega arith) (omega arith) (same ∙ is.0) in omega arith,
+  later_shots n (first + 1) files (omega arith) (omega arith) is.1,
+)
 
-pub shots_apart_all : (first : ℕ) (files : List File) → first + length files < 2 ^ 64 → Numbered first files → Apart files
+pub shots_apart_all : (first : ℕ) (files : List File) → first + length files < 2 ^ 64 → Numbered first files
+    → Apart files
 shots_apart_all first [] few is = tt
 shots_apart_all first (f ∷ files) few is = (
-  subst (λ (name : List ℕ). OtherThan name files) (sym is.0) (later_shots first (first + 1) files (omega arith) (omega arith) is.1),
+  subst (λ (name : List ℕ). OtherThan name files) (sym is.0)
+      (later_shots first (first + 1) files (omega arith) (omega arith) is.1),
   shots_apart_all (first + 1) files (omega arith) is.1,
 )
 

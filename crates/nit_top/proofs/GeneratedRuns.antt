@@ -1,6 +1,22 @@
 -- Generated runs: they can be run, and how their work comes to its end.
-use Rattle.std.proofs.Common.{◌≡◌, ℕ, ◌<◌, ◌≤◌, zero, suc, ◌+◌, true, List, [], ◌∷◌, ◌++◌, length, map, Option, Some, None, refl, sym, ap, subst, ◌∙◌, arith, inl, inr, zero-add}
-use Rattle.nit_top.proofs.Basics.{AllByRecursion, AllZip, AreAllFiles, AreOutputs, Configuration, Course, End, Ends, Entry, File, FitsInputLine, FitsLine, Gen, Global, HasRun, Headline, IfSome, InputLine, IsAfterRun, IsAscii, IsConfiguration, IsJournal, IsMadeUpTo, IsRunnable, IsUtf8, IsUtf8-from_ascii, Line, NoFile, NotBegun, Performed, PutError, PutFault, PutFiles, PutState, PutsAll, PutsNext, ReadsClient, Rose, Setup, StoreModel, Totals, Vec, Worked, append-nil, asked_also, client_script, client_text, codes, decimal_digit, end_of_put, end_of_run, file_names, generated_files, generated_setup, get_or-map, get_or-map-range_with_len, input_phases, is_some, length-map, length-map-range_with_len, map-range_with_len_more, name_text, output_name, phases, put_state_of_run, puts_more, range_with_len, refusal_of, script_files, script_name, setup_of, slice_index_or, unrefused, user_script}
+use Rattle.std.proofs.Common.{◌≡◌, ℕ, ◌<◌, ◌≤◌, zero, suc, ◌+◌, true, List, [], ◌∷◌, ◌++◌, length}
+use Rattle.std.proofs.Common.{map, Option, Some, None, refl, sym, ap, subst, ◌∙◌, arith, inl, inr}
+use Rattle.std.proofs.Common.{zero-add}
+use Rattle.nit_top.proofs.Basics.{AllByRecursion, AllZip, AreAllFiles, AreOutputs, Configuration}
+use Rattle.nit_top.proofs.Basics.{Course, End, Ends, Entry, File, FitsInputLine, FitsLine, Gen}
+use Rattle.nit_top.proofs.Basics.{Global, HasRun, Headline, IfSome, InputLine, IsAfterRun, IsAscii}
+use Rattle.nit_top.proofs.Basics.{IsConfiguration, IsJournal, IsMadeUpTo, IsRunnable, IsUtf8}
+use Rattle.nit_top.proofs.Basics.{IsUtf8-from_ascii, Line, NoFile, NotBegun, Performed, PutError}
+use Rattle.nit_top.proofs.Basics.{PutFault, PutFiles, PutState, PutsAll, PutsNext, ReadsClient}
+use Rattle.nit_top.proofs.Basics.{Rose, Setup, StoreModel, Totals, Vec, Worked, append-nil}
+use Rattle.nit_top.proofs.Basics.{asked_also, client_script, client_text, codes, decimal_digit}
+use Rattle.nit_top.proofs.Basics.{end_of_put, end_of_run, file_names, generated_files}
+use Rattle.nit_top.proofs.Basics.{generated_setup, get_or-map, get_or-map-range_with_len}
+use Rattle.nit_top.proofs.Basics.{input_phases, is_some, length-map, length-map-range_with_len}
+use Rattle.nit_top.proofs.Basics.{map-range_with_len_more, name_text, output_name, phases}
+use Rattle.nit_top.proofs.Basics.{put_state_of_run, puts_more, range_with_len, refusal_of}
+use Rattle.nit_top.proofs.Basics.{script_files, script_name, setup_of, slice_index_or, unrefused}
+use Rattle.nit_top.proofs.Basics.{user_script}
 use Rattle.nit_report.specs.Generator.{generated_configuration}
 use Rattle.nit_store.specs.declared.store.PutError.TheVariants as put
 use Rattle.nit_top.specs.declared.report.finish.End.TheVariants as ends
@@ -11,7 +27,8 @@ use Rattle.nit_top.proofs.PutLemmas.{PutAll, PutUntil, PutRefused, all_put}
 
 -- ---- it can be run
 
-all_mapped : {A : Type 0} (P : A → Type 0) (f : ℕ → A) → ((c : ℕ) → P (f c)) → (first count : ℕ) → AllByRecursion P (map f (range_with_len first count))
+all_mapped : {A : Type 0} (P : A → Type 0) (f : ℕ → A) → ((c : ℕ) → P (f c)) → (first count : ℕ)
+    → AllByRecursion P (map f (range_with_len first count))
 all_mapped P f each first zero = tt
 all_mapped P f each first (suc count) = (each first, all_mapped P f each (first + 1) count)
 
@@ -25,7 +42,8 @@ pub record GeneratorLaws (n : ℕ) : Type 0 where
   pub input_fits : AllByRecursion FitsInputLine (user_script n)
   pub configured : IsConfiguration generated_configuration
 
-both_all : {A : Type 0} (P Q : A → Type 0) (xs : List A) → AllByRecursion P xs → AllByRecursion Q xs → AllByRecursion (λ x. P x × Q x) xs
+both_all : {A : Type 0} (P Q : A → Type 0) (xs : List A) → AllByRecursion P xs → AllByRecursion Q xs
+    → AllByRecursion (λ x. P x × Q x) xs
 both_all P Q [] p q = tt
 both_all P Q (x ∷ xs) p q = ((p.0, q.0), both_all P Q xs p.1 q.1)
 
@@ -37,10 +55,12 @@ unfolding generated_configuration
 generated_runnable n laws = record {
   configured = laws.configured;
   scripts = refl;
-  phases = all_mapped (λ (ls : List Line). phases ls ≡ input_phases (user_script n)) (client_script n) (λ c. laws.phases_are c ∙ sym laws.input_phases_are) 0 8;
+  phases = all_mapped (λ (ls : List Line). phases ls ≡ input_phases (user_script n)) (client_script n)
+      (λ c. laws.phases_are c ∙ sym laws.input_phases_are) 0 8;
   lines =
       both_all (AllByRecursion FitsLine) (λ (ls : List Line). length ls ≤ 65536) (scripts_of n) laws.fits
-      (all_mapped (λ (ls : List Line). length ls ≤ 65536) (client_script n) (λ c. let e = laws.lines c in omega arith) 0 8);
+      (all_mapped (λ (ls : List Line). length ls ≤ 65536) (client_script n) (λ c. let e = laws.lines c in omega arith) 0
+      8);
   input_lines = (laws.input_fits, let e = laws.input_lines in omega arith);
   clips_each = inl refl;
 }
@@ -50,9 +70,18 @@ abbrev pub unmade : ℕ → Setup
 unmade n = setup_of generated_configuration (scripts_of n) (user_script n) true true
 
 pub unmade_runnable : (n : ℕ) → IsRunnable (generated_setup n) → IsRunnable (unmade n)
-unmade_runnable n r = record { configured = r.configured; scripts = r.scripts; phases = r.phases; lines = r.lines; input_lines = r.input_lines; clips_each = inl refl }
+unmade_runnable n r = record {
+  configured = r.configured;
+  scripts = r.scripts;
+  phases = r.phases;
+  lines =
+      r.lines;
+  input_lines = r.input_lines;
+  clips_each = inl refl;
+}
 
-files_are : (n : ℕ) (told : Option (List File)) → IsRunnable (generated_setup n) → AreAllFiles (Gen n) told (generated_setup n)
+files_are : (n : ℕ) (told : Option (List File)) → IsRunnable (generated_setup n)
+    → AreAllFiles (Gen n) told (generated_setup n)
 files_are n told r = record { runnable = r; of_command = refl; valid = told_all told }
   where
     told_all : (told : Option (List File)) → IfSome told (λ files. generated_setup n ≡ generated_setup n)
@@ -60,38 +89,52 @@ files_are n told r = record { runnable = r; of_command = refl; valid = told_all 
     told_all (Some files) = refl
 
 -- what the bytes of its files say of its scripts
-pub clients_fit : (texts : List (List ℕ)) (scripts : List (List Line)) → AllZip ReadsClient texts scripts → AllByRecursion (AllByRecursion FitsLine) scripts
+pub clients_fit : (texts : List (List ℕ)) (scripts : List (List Line)) → AllZip ReadsClient texts scripts
+    → AllByRecursion (AllByRecursion FitsLine) scripts
 clients_fit [] [] reads = tt
 clients_fit [] (s ∷ scripts) reads = absurd reads
 clients_fit (t ∷ texts) [] reads = absurd reads
 clients_fit (t ∷ texts) (s ∷ scripts) reads = (reads.0.0, clients_fit texts scripts reads.1)
 
 -- the same setup in other words
-pub same_unmade : (n : ℕ) (config : Configuration) (scripts : List (List Line)) (lines : List InputLine) → config ≡ generated_configuration → scripts ≡ scripts_of n → lines ≡ user_script n → setup_of config scripts lines true true ≡ unmade n
+pub same_unmade : (n : ℕ) (config : Configuration) (scripts : List (List Line)) (lines : List InputLine)
+    → config ≡ generated_configuration → scripts ≡ scripts_of n → lines ≡ user_script n
+    → setup_of config scripts lines true true ≡ unmade n
 same_unmade n config scripts lines a b c = λ i. setup_of (a i) (b i) (c i) true true
 
 -- ---- its files
 
 -- the text of a client among all texts
-pub text_at : (texts : List (Vec ℕ Global)) (n c : ℕ) (v : Vec ℕ Global) → map (λ (t : Vec ℕ Global). t.items) texts ≡ map (client_text n) (range_with_len 0 8) → c < 8 → v ≡ slice_index_or texts c v → v.items ≡ client_text n c
+pub text_at : (texts : List (Vec ℕ Global)) (n c : ℕ) (v : Vec ℕ Global) → map (λ (t : Vec ℕ Global). t.items) texts
+    ≡ map (client_text n) (range_with_len 0 8) → c < 8 → v ≡ slice_index_or texts c v → v.items ≡ client_text n c
 text_at texts n c v are inside is =
-    let long : length texts ≡ 8 = sym (length-map texts (λ (t : Vec ℕ Global). t.items)) ∙ ap length are ∙ length-map-range_with_len (client_text n) 0 8 in
-    ap (λ (t : Vec ℕ Global). t.items) is ∙ sym (get_or-map (λ (t : Vec ℕ Global). t.items) texts c v [] (omega (arith, long, inside))) ∙ ap (λ (ts : List (List ℕ)). slice_index_or ts c []) are
+    let long : length texts ≡ 8 = sym (length-map texts (λ (t : Vec ℕ Global). t.items)) ∙ ap length are
+    ∙ length-map-range_with_len (client_text n) 0 8 in
+    ap (λ (t : Vec ℕ Global). t.items) is
+    ∙ sym (get_or-map (λ (t : Vec ℕ Global). t.items) texts c v [] (omega (arith, long, inside)))
+    ∙ ap (λ (ts : List (List ℕ)). slice_index_or ts c []) are
     ∙ get_or-map-range_with_len (client_text n) 0 8 c c [] inside (zero-add c)
 
 abbrev script_file : ℕ → ℕ → File
 script_file n c = (script_name c, client_text n c)
 
 -- one script more is put
-pub one_script_more : (n c : ℕ) (bytes : List ℕ) (old mid new : PutState) → bytes ≡ client_text n c → PutsAll (script_files n c) old mid → PutsNext (script_name c, bytes) mid new → PutsAll (script_files n (c + 1)) old new
+pub one_script_more : (n c : ℕ) (bytes : List ℕ) (old mid new : PutState) → bytes ≡ client_text n c
+    → PutsAll (script_files n c) old mid → PutsNext (script_name c, bytes) mid new
+    → PutsAll (script_files n (c + 1)) old new
 one_script_more n c bytes old mid new is puts next =
     subst (λ (fs : List File). PutsAll fs old new) (sym (map-range_with_len_more (script_file n) 0 c c (zero-add c)))
-    (puts_more (script_files n c) (script_file n c) old mid new puts (subst (λ (b : List ℕ). PutsNext (script_name c, b) mid new) is next))
+    (puts_more (script_files n c) (script_file n c) old mid new puts
+    (subst (λ (b : List ℕ). PutsNext (script_name c, b) mid new) is next))
 
 -- one script more is read
-pub one_script_read : (n c : ℕ) (before after : List (List Line)) (script : List Line) → before ≡ map (client_script n) (range_with_len 0 c) → script ≡ client_script n c → after ≡ before ++ script ∷ [] → after ≡ map (client_script n) (range_with_len 0 (c + 1))
+pub one_script_read : (n c : ℕ) (before after : List (List Line)) (script : List Line)
+    → before ≡ map (client_script n) (range_with_len 0 c) → script ≡ client_script n c → after ≡ before ++ script ∷ []
+    → after ≡ map (client_script n) (range_with_len 0 (c + 1))
 one_script_read n c before after script are is more =
-    more ∙ ap (λ (ss : List (List Line)). ss ++ script ∷ []) are ∙ ap (λ (s : List Line). map (client_script n) (range_with_len 0 c) ++ s ∷ []) is ∙ sym (map-range_with_len_more (client_script n) 0 c c (zero-add c))
+    more ∙ ap (λ (ss : List (List Line)). ss ++ script ∷ []) are
+    ∙ ap (λ (s : List Line). map (client_script n) (range_with_len 0 c) ++ s ∷ []) is
+    ∙ sym (map-range_with_len_more (client_script n) 0 c c (zero-add c))
 
 -- the name of a client's script is text
 pub name_bytes : (c : ℕ) → c < 8 → script_name c ≡ 103 ∷ (48 + c) ∷ 46 ∷ 110 ∷ 105 ∷ 116 ∷ []
@@ -107,17 +150,20 @@ name_ascii c small (suc (suc (suc (suc (suc zero))))) = omega arith
 name_ascii c small (suc (suc (suc (suc (suc (suc i)))))) = omega arith
 
 pub name_is_text : (c : ℕ) → c < 8 → IsUtf8 (script_name c)
-name_is_text c small = subst IsUtf8 (sym (name_bytes c small)) (IsUtf8-from_ascii (103 ∷ (48 + c) ∷ 46 ∷ 110 ∷ 105 ∷ 116 ∷ []) (name_ascii c small))
+name_is_text c small = subst IsUtf8 (sym (name_bytes c small))
+    (IsUtf8-from_ascii (103 ∷ (48 + c) ∷ 46 ∷ 110 ∷ 105 ∷ 116 ∷ []) (name_ascii c small))
 
 -- ---- its work
 
 -- what the law of the headline says
 abbrev pub HeadlineLaw : Type 0
-HeadlineLaw = (s : Setup) (journal : List Entry) (outputs : List File) → IsRunnable s → IsJournal s journal → AreOutputs s journal outputs → Headline s journal outputs
+HeadlineLaw = (s : Setup) (journal : List Entry) (outputs : List File) → IsRunnable s → IsJournal s journal
+    → AreOutputs s journal outputs → Headline s journal outputs
 
 -- what the law of puts says
 abbrev pub BothLaw : Type 0
-BothLaw = (front back : List File) (old mid new : PutState) → PutsAll front old mid → PutsAll back mid new → PutsAll (front ++ back) old new
+BothLaw = (front back : List File) (old mid new : PutState) → PutsAll front old mid → PutsAll back mid new
+    → PutsAll (front ++ back) old new
 
 module _ (n : ℕ) (old : StoreModel) where
   abbrev s : Setup
@@ -126,21 +172,30 @@ module _ (n : ℕ) (old : StoreModel) where
   journal_too : (journal : List Entry) → IsJournal (unmade n) journal → IsJournal s journal
   journal_too journal j = record { legal = j.legal; whole = j.whole; rounds = j.rounds }
 
-  outputs_too : (journal : List Entry) (outputs : List File) → AreOutputs (unmade n) journal outputs → AreOutputs s journal (generated_files n ++ outputs)
-  outputs_too journal outputs are = (are.0, record { by_rounds = are.1.by_rounds; beside = are.1.beside }, ap (λ (files : List File). generated_files n ++ files) are.2)
+  outputs_too : (journal : List Entry) (outputs : List File) → AreOutputs (unmade n) journal outputs
+      → AreOutputs s journal (generated_files n ++ outputs)
+  outputs_too journal outputs are = (
+    are.0,
+    record { by_rounds = are.1.by_rounds; beside = are.1.beside },
+    ap (λ (files : List File). generated_files n ++ files) are.2,
+  )
 
   -- a run behind the files that were made
-  run_too : IsRunnable s → BothLaw → HeadlineLaw → (mid new : StoreModel) (w : Worked) → PutsAll (generated_files n) (unrefused old) (unrefused mid) → IsAfterRun mid (unmade n) new w → IsAfterRun old s new w
+  run_too : IsRunnable s → BothLaw → HeadlineLaw → (mid new : StoreModel) (w : Worked)
+      → PutsAll (generated_files n) (unrefused old) (unrefused mid) → IsAfterRun mid (unmade n) new w
+      → IsAfterRun old s new w
   run_too runnable both headline mid new w made after =
       let r = after.has_run in
       let j : IsJournal s after.ran.journal.items = journal_too after.ran.journal.items r.journal in
-      let are : AreOutputs s after.ran.journal.items (generated_files n ++ r.outputs) = outputs_too after.ran.journal.items r.outputs r.are in
+      let are : AreOutputs s after.ran.journal.items (generated_files n ++ r.outputs) =
+      outputs_too after.ran.journal.items r.outputs r.are in
       let run : HasRun old s new after.ran = record {
         journal = j;
         frames = r.frames;
         outputs = generated_files n ++ r.outputs;
         are = are;
-        puts = both (generated_files n) r.outputs (unrefused old) (unrefused mid) (put_state_of_run new after.ran.fault) made r.puts;
+        puts = both (generated_files n) r.outputs (unrefused old) (unrefused mid) (put_state_of_run new after.ran.fault)
+            made r.puts;
       } in
       record {
         ran = after.ran;
@@ -159,10 +214,13 @@ module _ (n : ℕ) (old : StoreModel) where
   none = NotBegun refl
 
   -- what the end of the work means where no run was begun
-  ended_so : (new : StoreModel) (w : Worked) (end : End) → w.journal.items ≡ [] → w.stop.end ≡ end → CameTo (Gen n) old new [] end (name_text w.stop.name) (totals_on w) → Ends (Gen n) old new w
+  ended_so : (new : StoreModel) (w : Worked) (end : End) → w.journal.items ≡ [] → w.stop.end ≡ end
+      → CameTo (Gen n) old new [] end (name_text w.stop.name) (totals_on w) → Ends (Gen n) old new w
   ended_so new w end empty is here =
-      let so : CameTo (Gen n) old new [] w.stop.end (name_text w.stop.name) (totals_on w) = subst (λ (e : End). CameTo (Gen n) old new [] e (name_text w.stop.name) (totals_on w)) (sym is) here in
-      ends_by (Gen n) old new w (subst (λ (j : List Entry). CameTo (Gen n) old new j w.stop.end (name_text w.stop.name) (totals_on w)) (sym empty) so)
+      let so : CameTo (Gen n) old new [] w.stop.end (name_text w.stop.name) (totals_on w) =
+      subst (λ (e : End). CameTo (Gen n) old new [] e (name_text w.stop.name) (totals_on w)) (sym is) here in
+      ends_by (Gen n) old new w (subst (λ (j : List Entry). CameTo (Gen n) old new j w.stop.end (name_text w.stop.name)
+      (totals_on w)) (sym empty) so)
 
   -- memory ran out before a file was put
   pub nothing_made : (w : Worked) → w.stop.end ≡ ends.NoMemory → w.journal.items ≡ [] → Ends (Gen n) old old w
@@ -174,11 +232,13 @@ module _ (n : ℕ) (old : StoreModel) where
   })
 
   -- all files were put
-  made_all : (mid : StoreModel) → PutsAll (generated_files n) (unrefused old) (unrefused mid) → PutAll old (generated_files n) mid
+  made_all : (mid : StoreModel) → PutsAll (generated_files n) (unrefused old) (unrefused mid)
+      → PutAll old (generated_files n) mid
   made_all mid puts = all_put old (generated_files n) (unrefused mid) puts
 
   -- memory ran out when they were
-  pub made_whole : (mid : StoreModel) (w : Worked) → PutsAll (generated_files n) (unrefused old) (unrefused mid) → w.stop.end ≡ ends.NoMemory → w.journal.items ≡ [] → Ends (Gen n) old mid w
+  pub made_whole : (mid : StoreModel) (w : Worked) → PutsAll (generated_files n) (unrefused old) (unrefused mid)
+      → w.stop.end ≡ ends.NoMemory → w.journal.items ≡ [] → Ends (Gen n) old mid w
   made_whole mid w puts is empty =
       let p = made_all mid puts in
       ended_so mid w ends.NoMemory empty is (record {
@@ -191,7 +251,9 @@ module _ (n : ℕ) (old : StoreModel) where
               front = generated_files n;
               parts = sym (append-nil (generated_files n));
               put = p.put;
-              asks = ap (λ (t : StoreModel). t.asked) p.rest ∙ ap (λ (ns : List (List ℕ)). asked_also old.asked ns) (sym (append-nil (file_names (generated_files n))));
+              asks = ap (λ (t : StoreModel). t.asked) p.rest
+                  ∙ ap (λ (ns : List (List ℕ)). asked_also old.asked ns)
+                  (sym (append-nil (file_names (generated_files n))));
             },
           ))),
           refl,
@@ -201,21 +263,37 @@ module _ (n : ℕ) (old : StoreModel) where
       })
 
   -- the put of one of them was refused
-  module _ (new : StoreModel) (name bytes : List ℕ) (front back : List File) (parts : generated_files n ≡ front ++ (name, bytes) ∷ back) (mid : StoreModel) (p : PutAll old front mid) (t : Totals) where
-    up_to : (more : List (List ℕ)) → new.files ≡ mid.files → new.asked ≡ asked_also mid.asked more → IsMadeUpTo none new.files new.asked ((name, bytes) ∷ back) more
+  module _ (new : StoreModel) (name bytes : List ℕ) (front back : List File) (parts : generated_files n
+      ≡ front ++ (name, bytes) ∷ back) (mid : StoreModel) (p : PutAll old front mid) (t : Totals) where
+    up_to : (more : List (List ℕ)) → new.files ≡ mid.files → new.asked ≡ asked_also mid.asked more
+        → IsMadeUpTo none new.files new.asked ((name, bytes) ∷ back) more
     up_to more same asked = record {
       none = tt;
       front = front;
       parts = parts;
       put = subst (λ (f : Option (List File)). PutFiles front old.files f) (sym same) p.put;
-      asks = asked ∙ ap (λ (o : Option (List (List ℕ))). asked_also o more) (ap (λ (u : StoreModel). u.asked) p.rest) ∙ also_more old.asked (file_names front) more;
+      asks = asked ∙ ap (λ (o : Option (List (List ℕ))). asked_also o more) (ap (λ (u : StoreModel). u.asked) p.rest)
+          ∙ also_more old.asked (file_names front) more;
     }
 
     made_refused : (e : PutError) → PutRefused mid name new e → CameTo (Gen n) old new [] (end_of_put e) name t
     made_refused put.Failed h = record {
       course = none;
-      came = (name, inl (bytes, back, up_to (name ∷ []) (ap (λ (u : StoreModel). u.files) h.rest) (ap (λ (u : StoreModel). u.asked) h.rest)), refl);
-      counts = (ap (λ (u : StoreModel). u.read_faults) h.rest ∙ ap (λ (u : StoreModel). u.read_faults) p.rest, rose, later);
+      came = (
+        name,
+        inl (
+          bytes,
+          back,
+          up_to (name ∷ []) (ap (λ (u : StoreModel). u.files) h.rest)
+              (ap (λ (u : StoreModel). u.asked) h.rest),
+        ),
+        refl,
+      );
+      counts = (
+        ap (λ (u : StoreModel). u.read_faults) h.rest ∙ ap (λ (u : StoreModel). u.read_faults) p.rest,
+        rose,
+        later,
+      );
       said = ap (λ (u : StoreModel). u.said) h.rest ∙ ap (λ (u : StoreModel). u.said) p.rest;
     }
       where
@@ -229,29 +307,63 @@ module _ (n : ℕ) (old : StoreModel) where
         later = subst (λ (k : ℕ). k ≤ new.write_faults) writes h.later
     made_refused put.NoMemory (inl e) = record {
       course = none;
-      came = (inr (inl (inl (name, (bytes, back, up_to (name ∷ []) (ap (λ (u : StoreModel). u.files) e) (ap (λ (u : StoreModel). u.asked) e))))), refl);
-      counts = (ap (λ (u : StoreModel). u.read_faults) e ∙ ap (λ (u : StoreModel). u.read_faults) p.rest, ap (λ (u : StoreModel). u.write_faults) e ∙ ap (λ (u : StoreModel). u.write_faults) p.rest);
+      came = (
+        inr (inl (inl (
+          name,
+          (
+            bytes,
+            back,
+            up_to (name ∷ []) (ap (λ (u : StoreModel). u.files) e)
+                (ap (λ (u : StoreModel). u.asked) e),
+          ),
+        ))),
+        refl,
+      );
+      counts = (
+        ap (λ (u : StoreModel). u.read_faults) e ∙ ap (λ (u : StoreModel). u.read_faults) p.rest,
+        ap (λ (u : StoreModel). u.write_faults) e ∙ ap (λ (u : StoreModel). u.write_faults) p.rest,
+      );
       said = ap (λ (u : StoreModel). u.said) e ∙ ap (λ (u : StoreModel). u.said) p.rest;
     }
     made_refused put.NoMemory (inr e) = record {
       course = none;
-      came = (inr (inl (inr ((name, bytes) ∷ back, up_to [] (ap (λ (u : StoreModel). u.files) e) (ap (λ (u : StoreModel). u.asked) e ∙ also_none mid.asked)))), refl);
-      counts = (ap (λ (u : StoreModel). u.read_faults) e ∙ ap (λ (u : StoreModel). u.read_faults) p.rest, ap (λ (u : StoreModel). u.write_faults) e ∙ ap (λ (u : StoreModel). u.write_faults) p.rest);
+      came = (
+        inr (inl (inr (
+          (name, bytes) ∷ back,
+          up_to [] (ap (λ (u : StoreModel). u.files) e) (ap (λ (u : StoreModel). u.asked) e ∙ also_none mid.asked),
+        ))),
+        refl,
+      );
+      counts = (
+        ap (λ (u : StoreModel). u.read_faults) e ∙ ap (λ (u : StoreModel). u.read_faults) p.rest,
+        ap (λ (u : StoreModel). u.write_faults) e ∙ ap (λ (u : StoreModel). u.write_faults) p.rest,
+      );
       said = ap (λ (u : StoreModel). u.said) e ∙ ap (λ (u : StoreModel). u.said) p.rest;
     }
 
   -- the put of one of the files was refused
-  pub made_in_part : (new : StoreModel) (fault : Option PutFault) (w : Worked) → is_some fault ≡ true → PutsAll (generated_files n) (unrefused old) (put_state_of_run new fault) → w.stop.end ≡ end_of_run fault → IfSome fault (λ g. w.stop.name ≡ file_name.Put g.file) → w.journal.items ≡ []
+  pub made_in_part : (new : StoreModel) (fault : Option PutFault) (w : Worked) → is_some fault ≡ true
+      → PutsAll (generated_files n) (unrefused old) (put_state_of_run new fault) → w.stop.end ≡ end_of_run fault
+      → IfSome fault (λ g. w.stop.name ≡ file_name.Put g.file) → w.journal.items ≡ []
       → Ends (Gen n) old new w
   made_in_part new None w some puts is named empty = absurd cc
   made_in_part new (Some g) w some puts is named empty =
-      let u : PutUntil old (generated_files n) new (refusal_of g) = all_put old (generated_files n) (put_state_of_run new (Some g)) puts in
-      let here : CameTo (Gen n) old new [] (end_of_put g.error) (output_name g.file) (totals_on w) = made_refused new (output_name g.file) u.bytes u.front u.back u.parts u.mid u.put (totals_on w) g.error u.refused in
+      let u : PutUntil old (generated_files n) new (refusal_of g) =
+      all_put old (generated_files n) (put_state_of_run new (Some g)) puts in
+      let here : CameTo (Gen n) old new [] (end_of_put g.error) (output_name g.file) (totals_on w) =
+      made_refused new (output_name g.file) u.bytes u.front u.back u.parts u.mid u.put (totals_on w) g.error
+      u.refused in
       let name_is : name_text w.stop.name ≡ output_name g.file = ap name_text named in
-      ended_so new w (end_of_put g.error) empty is (subst (λ (m : List ℕ). CameTo (Gen n) old new [] (end_of_put g.error) m (totals_on w)) (sym name_is) here)
+      ended_so new w (end_of_put g.error) empty is
+      (subst (λ (m : List ℕ). CameTo (Gen n) old new [] (end_of_put g.error) m (totals_on w)) (sym name_is) here)
 
   -- ---- the whole
 
-  pub generated_ends : IsRunnable s → BothLaw → HeadlineLaw → (mid new : StoreModel) (w : Worked) → PutsAll (generated_files n) (unrefused old) (unrefused mid) → Performed mid (unmade n) new w → Ends (Gen n) old new w
-  generated_ends runnable both headline mid new w made (inl after) = performed_ends (Gen n) old old new s w (λ s journal files are. refl, λ config. refl) (asking_none old) (files_are n old.files runnable) (inl (run_too runnable both headline mid new w made after))
-  generated_ends runnable both headline mid new w made (inr (is, same, empty)) = subst (λ (t : StoreModel). Ends (Gen n) old t w) (sym same) (made_whole mid w made is empty)
+  pub generated_ends : IsRunnable s → BothLaw → HeadlineLaw → (mid new : StoreModel) (w : Worked)
+      → PutsAll (generated_files n) (unrefused old) (unrefused mid) → Performed mid (unmade n) new w
+      → Ends (Gen n) old new w
+  generated_ends runnable both headline mid new w made (inl after) =
+      performed_ends (Gen n) old old new s w (λ s journal files are. refl, λ config. refl) (asking_none old)
+      (files_are n old.files runnable) (inl (run_too runnable both headline mid new w made after))
+  generated_ends runnable both headline mid new w made (inr (is, same, empty)) =
+      subst (λ (t : StoreModel). Ends (Gen n) old t w) (sym same) (made_whole mid w made is empty)

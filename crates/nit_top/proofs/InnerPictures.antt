@@ -1,6 +1,12 @@
 -- The frames of an inner run are those of the pictures that a run by turns puts.
 use Rattle.std.proofs.Common.{◌≡◌, ◌∙◌, ℕ, List, [], ◌∷◌, ◌++◌, map, fold, refl, sym, ap, subst}
-use Rattle.nit_top.proofs.Basics.{ActorLine, AllByRecursion, AreOutputs, ByClient, ByUser, Configuration, Drawing, Entry, File, InputLine, IsJournal, IsLegal, Line, LineTurn, RunFiles, ShotFrame, State, after, after_turn, all_append, by_turns, drawn_shot, final_picture, frame_of, frames_of, last_frame, map-append, opening_drawing, picture, picture_of, pictures_in, raw_word, replay, rounds, shot_file, shot_frames_of, shots_after, tables_left}
+use Rattle.nit_top.proofs.Basics.{ActorLine, AllByRecursion, AreOutputs, ByClient, ByUser}
+use Rattle.nit_top.proofs.Basics.{Configuration, Drawing, Entry, File, InputLine, IsJournal}
+use Rattle.nit_top.proofs.Basics.{IsLegal, Line, LineTurn, RunFiles, ShotFrame, State, after}
+use Rattle.nit_top.proofs.Basics.{after_turn, all_append, by_turns, drawn_shot, final_picture}
+use Rattle.nit_top.proofs.Basics.{frame_of, frames_of, last_frame, map-append, opening_drawing}
+use Rattle.nit_top.proofs.Basics.{picture, picture_of, pictures_in, raw_word, replay, rounds}
+use Rattle.nit_top.proofs.Basics.{shot_file, shot_frames_of, shots_after, tables_left}
 use Rattle.nit_events.specs.declared.entry.Entry.TheVariants as entry
 use Rattle.nit_script.specs.declared.line.InputLine.TheVariants as input
 use Rattle.nit_actor.specs.Drawing.{drawn}
@@ -12,49 +18,67 @@ use Rattle.nit_top.proofs.InnerLemmas.{DrawnLaw}
 abbrev HaveSize : ℕ → ℕ → List ShotFrame → Type 0
 HaveSize w h shots = AllByRecursion (λ f. (f.width ≡ w) × (f.height ≡ h)) shots
 
-sized_more : (config : Configuration) (doing : ActorLine) (d : Drawing) → HaveSize config.width config.height d.shots → HaveSize config.width config.height (shots_after config doing d)
+sized_more : (config : Configuration) (doing : ActorLine) (d : Drawing) → HaveSize config.width config.height d.shots
+    → HaveSize config.width config.height (shots_after config doing d)
 sized_more config (ByClient sid l) d all = all
-sized_more config (ByUser input.Shot) d all = all_append (λ (f : ShotFrame). (f.width ≡ config.width) × (f.height ≡ config.height)) d.shots (drawn_shot config d ∷ []) all ((refl, refl), tt)
+sized_more config (ByUser input.Shot) d all =
+    all_append (λ (f : ShotFrame). (f.width ≡ config.width) × (f.height ≡ config.height)) d.shots
+    (drawn_shot config d ∷ []) all ((refl, refl), tt)
 sized_more config (ByUser (input.Device dev)) d all = all
 sized_more config (ByUser input.Phase) d all = all
 
-sized_from : (config : Configuration) (scripts : List (List Line)) (moves : List LineTurn) (d : Drawing) → HaveSize config.width config.height d.shots → HaveSize config.width config.height (fold (after_turn config scripts) d moves).shots
+sized_from : (config : Configuration) (scripts : List (List Line)) (moves : List LineTurn) (d : Drawing)
+    → HaveSize config.width config.height d.shots
+    → HaveSize config.width config.height (fold (after_turn config scripts) d moves).shots
 sized_from config scripts [] d all = all
-sized_from config scripts (m ∷ moves) d all = sized_from config scripts moves (after_turn config scripts d m) (sized_more config m.doing d all)
+sized_from config scripts (m ∷ moves) d all =
+    sized_from config scripts moves (after_turn config scripts d m) (sized_more config m.doing d all)
 
-sized : (config : Configuration) (scripts : List (List Line)) (lines : List InputLine) → HaveSize config.width config.height (shot_frames_of config scripts lines)
+sized : (config : Configuration) (scripts : List (List Line)) (lines : List InputLine)
+    → HaveSize config.width config.height (shot_frames_of config scripts lines)
 unfolding drawn
 sized config scripts lines = sized_from config scripts (rounds scripts lines) (opening_drawing config) tt
 
-pictures_are : (w h : ℕ) (shots : List ShotFrame) → HaveSize w h shots → map (λ (f : File). f.1) (map shot_file shots) ≡ map (picture w h) (map (λ (f : ShotFrame). f.words) shots)
+pictures_are : (w h : ℕ) (shots : List ShotFrame) → HaveSize w h shots → map (λ (f : File). f.1) (map shot_file shots)
+    ≡ map (picture w h) (map (λ (f : ShotFrame). f.words) shots)
 pictures_are w h [] all = refl
-pictures_are w h (f ∷ shots) ((wide, tall), all) = let rest = pictures_are w h shots all in λ k. picture (wide k) (tall k) f.words ∷ rest k
+pictures_are w h (f ∷ shots) ((wide, tall), all) = let rest =
+    pictures_are w h shots all in λ k. picture (wide k) (tall k) f.words ∷ rest k
 
 -- ---- the last frame is that of the state at the end of the journal
 
 -- what the law of one more entry says
 abbrev pub MoreLaw : Type 0
-MoreLaw = (config : Configuration) (front : List Entry) (e : Entry) → replay config (front ++ e ∷ []) ≡ after (replay config front) e
+MoreLaw = (config : Configuration) (front : List Entry) (e : Entry)
+    → replay config (front ++ e ∷ []) ≡ after (replay config front) e
 
-module _ (law : DrawnLaw) (more : MoreLaw) (fronts : FrontsLaw) (i : RunFiles) (journal : List Entry) (stays : (replay i.config journal).config ≡ i.config) (is_journal : IsJournal (by_turns i) journal) where
+module _ (law : DrawnLaw) (more : MoreLaw) (fronts : FrontsLaw) (i : RunFiles) (journal : List Entry)
+    (stays : (replay i.config journal).config ≡ i.config) (is_journal : IsJournal (by_turns i) journal) where
   state_is : replay i.config journal ≡ (drawn i.config i.scripts (rounds i.scripts i.input)).state
   state_is =
       let of_rounds = is_journal.rounds refl in
       let entries : List Entry = of_rounds.0 in
-      let legal : IsLegal i.config (entries ++ entry.Final ∷ []) = subst (λ (es : List Entry). IsLegal i.config es) of_rounds.2 is_journal.legal in
+      let legal : IsLegal i.config (entries ++ entry.Final ∷ []) =
+      subst (λ (es : List Entry). IsLegal i.config es) of_rounds.2 is_journal.legal in
       ap (λ (es : List Entry). replay i.config es) of_rounds.2 ∙ more i.config entries entry.Final
-      ∙ sym (law i.config i.scripts (rounds i.scripts i.input) entries (fronts i.config entries (entry.Final ∷ []) legal) of_rounds.1)
+      ∙ sym (law i.config i.scripts (rounds i.scripts i.input) entries
+      (fronts i.config entries (entry.Final ∷ []) legal) of_rounds.1)
 
   pub last_pictured : final_picture (by_turns i) journal ≡ picture i.config.width i.config.height (last_frame i)
   last_pictured =
-      ap (λ (c : Configuration). picture_of c (replay i.config journal) (raw_word (replay i.config journal) (tables_left i.config i.scripts))) stays
-      ∙ ap (λ (t : State). picture i.config.width i.config.height (frame_of t (raw_word t (tables_left i.config i.scripts)))) state_is
+      ap (λ (c : Configuration). picture_of c (replay i.config journal)
+      (raw_word (replay i.config journal) (tables_left i.config i.scripts))) stays
+      ∙ ap (λ (t : State). picture i.config.width i.config.height
+      (frame_of t (raw_word t (tables_left i.config i.scripts)))) state_is
 
-  pub frames_pictured : (files : List File) (are : AreOutputs (by_turns i) journal files) → pictures_in are ≡ map (picture i.config.width i.config.height) (frames_of i)
+  pub frames_pictured : (files : List File) (are : AreOutputs (by_turns i) journal files)
+      → pictures_in are ≡ map (picture i.config.width i.config.height) (frames_of i)
   frames_pictured files are =
       let shots : List ShotFrame = shot_frames_of i.config i.scripts i.input in
       let pictured : List ℕ → List ℕ = picture i.config.width i.config.height in
-      ap (λ (fs : List File). map (λ (f : File). f.1) fs ++ final_picture (by_turns i) journal ∷ []) (are.1.by_rounds refl)
-      ∙ ap (λ (ps : List (List ℕ)). ps ++ final_picture (by_turns i) journal ∷ []) (pictures_are i.config.width i.config.height shots (sized i.config i.scripts i.input))
+      ap (λ (fs : List File). map (λ (f : File). f.1) fs ++ final_picture (by_turns i) journal ∷ [])
+      (are.1.by_rounds refl)
+      ∙ ap (λ (ps : List (List ℕ)). ps ++ final_picture (by_turns i) journal ∷ [])
+      (pictures_are i.config.width i.config.height shots (sized i.config i.scripts i.input))
       ∙ ap (λ (p : List ℕ). map pictured (map (λ (f : ShotFrame). f.words) shots) ++ p ∷ []) last_pictured
       ∙ sym (map-append pictured (map (λ (f : ShotFrame). f.words) shots) (last_frame i ∷ []))

@@ -1,13 +1,20 @@
 -- The names of the files that are made before a run differ.
-use Rattle.std.proofs.Common.{◌≡◌, ◌≢◌, ℕ, zero, suc, ◌+◌, ◌<◌, ◌≤◌, List, [], ◌∷◌, ◌++◌, map, refl, sym, ap, ◌∙◌, subst, arith}
-use Rattle.nit_top.proofs.Basics.{Audit, Capture, Clip, Command, File, Gen, HasDifferentNames, IsSetupOf, Nested, NoCommand, Run, Setup, Still, all_append, append_cancel_left, append_cancel_right, client_text, codes, decimal, decimal_digit, decimal_injective, generated_files, made_by, range_with_len, script_name, slice_index, user_text}
+use Rattle.std.proofs.Common.{◌≡◌, ◌≢◌, ℕ, zero, suc, ◌+◌, ◌<◌, ◌≤◌, List, [], ◌∷◌, ◌++◌, map, refl}
+use Rattle.std.proofs.Common.{sym, ap, ◌∙◌, subst, arith}
+use Rattle.nit_top.proofs.Basics.{Audit, Capture, Clip, Command, File, Gen, HasDifferentNames}
+use Rattle.nit_top.proofs.Basics.{IsSetupOf, Nested, NoCommand, Run, Setup, Still, all_append}
+use Rattle.nit_top.proofs.Basics.{append_cancel_left, append_cancel_right, client_text, codes}
+use Rattle.nit_top.proofs.Basics.{decimal, decimal_digit, decimal_injective, generated_files}
+use Rattle.nit_top.proofs.Basics.{made_by, range_with_len, script_name, slice_index, user_text}
 use Rattle.nit_top.proofs.FileNames.{Apart, Begin, OtherThan, differ, other_both}
 
 -- ---- the scripts of a generated run
 
 scripts_differ : (i j : ℕ) → i < j → j < 8 → script_name i ≢ script_name j
 scripts_differ i j before inside same =
-    let digits : decimal i ≡ decimal j = append_cancel_left (codes "g") (decimal i) (decimal j) (append_cancel_right (codes "g" ++ decimal i) (codes "g" ++ decimal j) (codes ".nit") same) in
+    let digits : decimal i ≡ decimal j =
+    append_cancel_left (codes "g") (decimal i) (decimal j)
+    (append_cancel_right (codes "g" ++ decimal i) (codes "g" ++ decimal j) (codes ".nit") same) in
     let e : i ≡ j = decimal_injective i j (omega arith) (omega arith) digits in
     omega arith
 
@@ -32,18 +39,22 @@ module _ (n : ℕ) where
 
   later : (i first count : ℕ) → i < first → first + count ≤ 8 → OtherThan (script_name i) (scripts_from first count)
   later i first zero before inside = tt
-  later i first (suc count) before inside = (scripts_differ i first before (omega arith), later i (first + 1) count (omega arith) (omega arith))
+  later i first (suc count) before inside =
+      (scripts_differ i first before (omega arith), later i (first + 1) count (omega arith) (omega arith))
 
   scripts_apart : (first count : ℕ) → first + count ≤ 8 → Apart (scripts_from first count ++ input ∷ [])
   scripts_apart first zero inside = (tt, tt)
   scripts_apart first (suc count) inside = (
-    other_both (script_name first) (scripts_from (first + 1) count) (input ∷ []) (later first (first + 1) count (omega arith) (omega arith)) ((λ same. no_script (codes "gen.in") refl first (omega arith) (sym same)), tt),
+    other_both (script_name first) (scripts_from (first + 1) count) (input ∷ [])
+        (later first (first + 1) count (omega arith) (omega arith))
+        ((λ same. no_script (codes "gen.in") refl first (omega arith) (sym same)), tt),
     scripts_apart (first + 1) count (omega arith),
   )
 
   config_other : (first count : ℕ) → first + count ≤ 8 → OtherThan (codes "gen.toml") (scripts_from first count)
   config_other first zero inside = tt
-  config_other first (suc count) inside = (no_script (codes "gen.toml") refl first (omega arith), config_other (first + 1) count (omega arith))
+  config_other first (suc count) inside =
+      (no_script (codes "gen.toml") refl first (omega arith), config_other (first + 1) count (omega arith))
 
   config_input : codes "gen.toml" ≢ codes "gen.in"
   config_input same = let e : ◌≡◌ {A = ℕ} 116 105 = ap (λ (name : List ℕ). slice_index name 4) same in omega arith
@@ -59,7 +70,11 @@ module _ (n : ℕ) where
   scripts_begin first (suc count) = (refl, scripts_begin (first + 1) count)
 
   generated_begin : Begin 103 (generated_files n)
-  generated_begin = (refl, all_append (λ f. slice_index f.0 0 ≡ 103) (scripts_from 0 8) (input ∷ []) (scripts_begin 0 8) (refl, tt))
+  generated_begin = (
+    refl,
+    all_append (λ f. slice_index f.0 0 ≡ 103) (scripts_from 0 8) (input ∷ []) (scripts_begin 0 8)
+        (refl, tt),
+  )
 
 pub made_differ : (c : Command) → HasDifferentNames (made_by c)
 made_differ (Gen number) = differ (generated_files number) (generated_apart number)
@@ -83,7 +98,8 @@ none_made made none = subst IsMade (sym none) (tt, tt)
 pub made_apart : (c : Command) (s : Setup) → IsSetupOf c s → IsMade s.made
 made_apart (Still width height script) s of = none_made s.made (ap (λ (t : Setup). t.made) of.1)
 made_apart (Run beside configuration) s of = none_made s.made of.2
-made_apart (Gen number) s of = subst IsMade (sym (ap (λ (t : Setup). t.made) of)) (generated_begin number, generated_apart number)
+made_apart (Gen number) s of =
+    subst IsMade (sym (ap (λ (t : Setup). t.made) of)) (generated_begin number, generated_apart number)
 made_apart (Audit configuration journal) s of = absurd of
 made_apart (Clip configuration) s of = none_made s.made of.2
 made_apart (Capture configuration region) s of = none_made s.made of.2

@@ -1,6 +1,16 @@
 -- The run whose first client shows what another run has shown: that it can be run, and what it leaves.
-use Rattle.std.proofs.Common.{◌≡◌, ◌∙◌, ℕ, ◌+◌, true, false, List, [], ◌∷◌, length, Option, Some, None, refl, sym, ap, subst, inl, arith, get_or, ◌<◌, ◌≤◌}
-use Rattle.nit_top.proofs.Basics.{AllByRecursion, AreLines, AreOutputs, Entry, File, FirstShows, FitsLine, HasRun, Headline, IfSome, InputLine, IsAfterNested, IsJournal, IsOuter, IsRunnable, Line, MayShowFrames, NestModel, PutFault, PutsNext, Ran, RunFiles, Setup, ShowsNest, StoreModel, Worked, count_by, end_of_run, first_forbidden, first_other, frames_of, inner_journal_name, input_phases, is_shot_line, is_too_long, journal_text, length-map, misfit, names_in, nest_of, nest_script, nested_setup, phase_counts, phases, put_state_of_run, puts_more, script_names, setup_of, shots, shown_first, too_long_for, unless_other, unrefused}
+use Rattle.std.proofs.Common.{◌≡◌, ◌∙◌, ℕ, ◌+◌, true, false, List, [], ◌∷◌, length, Option, Some}
+use Rattle.std.proofs.Common.{None, refl, sym, ap, subst, inl, arith, get_or, ◌<◌, ◌≤◌}
+use Rattle.nit_top.proofs.Basics.{AllByRecursion, AreLines, AreOutputs, Entry, File, FirstShows}
+use Rattle.nit_top.proofs.Basics.{FitsLine, HasRun, Headline, IfSome, InputLine, IsAfterNested}
+use Rattle.nit_top.proofs.Basics.{IsJournal, IsOuter, IsRunnable, Line, MayShowFrames, NestModel}
+use Rattle.nit_top.proofs.Basics.{PutFault, PutsNext, Ran, RunFiles, Setup, ShowsNest, StoreModel}
+use Rattle.nit_top.proofs.Basics.{Worked, count_by, end_of_run, first_forbidden, first_other}
+use Rattle.nit_top.proofs.Basics.{frames_of, inner_journal_name, input_phases, is_shot_line}
+use Rattle.nit_top.proofs.Basics.{is_too_long, journal_text, length-map, misfit, names_in, nest_of}
+use Rattle.nit_top.proofs.Basics.{nest_script, nested_setup, phase_counts, phases, put_state_of_run}
+use Rattle.nit_top.proofs.Basics.{puts_more, script_names, setup_of, shots, shown_first}
+use Rattle.nit_top.proofs.Basics.{too_long_for, unless_other, unrefused}
 use Rattle.nit_top.specs.declared.report.finish.Name.TheVariants as file_name
 use Rattle.nit_top.proofs.InnerLemmas.{UserOnce, frames_counted}
 use Rattle.nit_top.proofs.Misfits.{all_wanted, by_length, one_wanted}
@@ -9,53 +19,72 @@ use Rattle.nit_top.proofs.SetupLemmas.{all_so}
 -- ---- the setup of the outer run
 
 -- a list begins with its item of number 0
-pub begins_with : {A : Type 0} (xs : List A) (x : A) → 0 < length xs → x ≡ get_or xs 0 x → (rest : List A) × (xs ≡ x ∷ rest)
+pub begins_with : {A : Type 0} (xs : List A) (x : A) → 0 < length xs → x ≡ get_or xs 0 x → (rest : List A)
+    × (xs ≡ x ∷ rest)
 begins_with [] x some is = absurd (omega (arith, some))
 begins_with (y ∷ ys) x some is = (ys, ap (λ z. z ∷ ys) (sym is))
 
 -- there is a first script
 pub begun_first : (o : RunFiles) → IsOuter o → (own : List Line) × (rest : List (List Line)) × (o.scripts ≡ own ∷ rest)
-begun_first o is_outer = go o.scripts (let some = is_outer.configured.count.0 in let same = is_outer.count in omega (arith, some, same))
+begun_first o is_outer = go o.scripts (let some = is_outer.configured.count.0 in let same =
+    is_outer.count in omega (arith, some, same))
   where
-    go : (scripts : List (List Line)) → 1 ≤ length scripts → (own : List Line) × (rest : List (List Line)) × (scripts ≡ own ∷ rest)
+    go : (scripts : List (List Line)) → 1 ≤ length scripts → (own : List Line) × (rest : List (List Line))
+        × (scripts ≡ own ∷ rest)
     go [] some = absurd (omega (arith, some))
     go (own ∷ rest) some = (own, rest, refl)
 
 -- where no file is to blame, none has another number of phases
-pub fits_first : (inner : List ℕ) (o i : RunFiles) → misfit inner o i ≡ None → first_other (length (frames_of i)) (names_in o.config) (phase_counts o) ≡ None
+pub fits_first : (inner : List ℕ) (o i : RunFiles) → misfit inner o i ≡ None
+    → first_other (length (frames_of i)) (names_in o.config) (phase_counts o) ≡ None
 fits_first inner o i fits = go (first_other (length (frames_of i)) (names_in o.config) (phase_counts o)) fits
   where
-    go : (other : Option (List ℕ)) → unless_other other (too_long_for inner (is_too_long (nest_of i) o.scripts)) ≡ None → other ≡ None
+    go : (other : Option (List ℕ)) → unless_other other (too_long_for inner (is_too_long (nest_of i) o.scripts)) ≡ None
+        → other ≡ None
     go None e = refl
     go (Some name) e = absurd cc
 
 -- the first script has as many phases as there are frames
-pub first_counts : (o i : RunFiles) (own : List Line) (rest : List (List Line)) → o.scripts ≡ own ∷ rest → IsOuter o → first_other (length (frames_of i)) (names_in o.config) (phase_counts o) ≡ None → phases own ≡ length (frames_of i)
+pub first_counts : (o i : RunFiles) (own : List Line) (rest : List (List Line)) → o.scripts ≡ own ∷ rest → IsOuter o
+    → first_other (length (frames_of i)) (names_in o.config) (phase_counts o) ≡ None → phases own ≡ length (frames_of i)
 first_counts o i own rest parts is_outer none =
     let wanted : ℕ = length (frames_of i) in
-    let counts = all_wanted wanted (script_names o.config) o.scripts (o.config.input ∷ []) (input_phases o.input ∷ []) (length-map o.config.clients (λ m. m.script) ∙ sym is_outer.count) none in
+    let counts = all_wanted wanted (script_names o.config) o.scripts (o.config.input ∷ []) (input_phases o.input ∷ [])
+    (length-map o.config.clients (λ m. m.script) ∙ sym is_outer.count) none in
     (subst (λ (ss : List (List Line)). AllByRecursion (λ (ls : List Line). phases ls ≡ wanted) ss) parts counts.0).0
 
 -- its lines may stand there
-pub first_may : (scripts : List (List Line)) (own : List Line) (rest : List (List Line)) → scripts ≡ own ∷ rest → MayShowFrames scripts → first_forbidden 1 own ≡ None
+pub first_may : (scripts : List (List Line)) (own : List Line) (rest : List (List Line)) → scripts ≡ own ∷ rest
+    → MayShowFrames scripts → first_forbidden 1 own ≡ None
 first_may scripts own rest parts may = subst MayShowFrames parts may
 
 abbrev pub PhasesStay : Type 0
 PhasesStay = (n : NestModel) (own : List Line) → phases (nest_script n own) ≡ phases own
 
-pub nested_runnable : PhasesStay → (o i : RunFiles) (own : List Line) (rest : List (List Line)) → o.scripts ≡ own ∷ rest → IsOuter o → first_other (length (frames_of i)) (names_in o.config) (phase_counts o) ≡ None
-    → AreLines FitsLine (nest_script (nest_of i) own) → IsRunnable (setup_of o.config (nest_script (nest_of i) own ∷ rest) o.input true true)
+pub nested_runnable : PhasesStay → (o i : RunFiles) (own : List Line) (rest : List (List Line)) → o.scripts ≡ own ∷ rest
+    → IsOuter o → first_other (length (frames_of i)) (names_in o.config) (phase_counts o) ≡ None
+    → AreLines FitsLine (nest_script (nest_of i) own)
+    → IsRunnable (setup_of o.config (nest_script (nest_of i) own ∷ rest) o.input true true)
 nested_runnable stay o i own rest parts is_outer none fits =
     let wanted : ℕ = length (frames_of i) in
-    let counts : AllByRecursion (λ (ls : List Line). phases ls ≡ wanted) o.scripts × (first_other wanted (o.config.input ∷ []) (input_phases o.input ∷ []) ≡ None) =
-    all_wanted wanted (script_names o.config) o.scripts (o.config.input ∷ []) (input_phases o.input ∷ []) (length-map o.config.clients (λ m. m.script) ∙ sym is_outer.count) none in
+    let counts : AllByRecursion (λ (ls : List Line). phases ls ≡ wanted) o.scripts
+    × (first_other wanted (o.config.input ∷ []) (input_phases o.input ∷ []) ≡ None) =
+    all_wanted wanted (script_names o.config) o.scripts (o.config.input ∷ []) (input_phases o.input ∷ [])
+    (length-map o.config.clients (λ m. m.script) ∙ sym is_outer.count) none in
     let input_is : input_phases o.input ≡ wanted = one_wanted wanted o.config.input (input_phases o.input) counts.1 in
-    let each : AllByRecursion (λ (ls : List Line). phases ls ≡ wanted) (own ∷ rest) = subst (λ (ss : List (List Line)). AllByRecursion (λ (ls : List Line). phases ls ≡ wanted) ss) parts counts.0 in
-    let lines : AllByRecursion (AreLines FitsLine) (own ∷ rest) = subst (λ (ss : List (List Line)). AllByRecursion (AreLines FitsLine) ss) parts is_outer.lines in
+    let each : AllByRecursion (λ (ls : List Line). phases ls ≡ wanted) (own ∷ rest) =
+    subst (λ (ss : List (List Line)). AllByRecursion (λ (ls : List Line). phases ls ≡ wanted) ss) parts counts.0 in
+    let lines : AllByRecursion (AreLines FitsLine) (own ∷ rest) =
+    subst (λ (ss : List (List Line)). AllByRecursion (AreLines FitsLine) ss) parts is_outer.lines in
     record {
       configured = is_outer.configured;
       scripts = ap (λ (ss : List (List Line)). length ss) (sym parts) ∙ is_outer.count;
-      phases = (stay (nest_of i) own ∙ each.0 ∙ sym input_is, all_so (λ ls. phases ls ≡ wanted) (λ ls. phases ls ≡ input_phases o.input) rest (λ ls e. e ∙ sym input_is) each.1);
+      phases = (
+        stay (nest_of i) own ∙ each.0
+            ∙ sym input_is,
+        all_so (λ ls. phases ls ≡ wanted) (λ ls. phases ls ≡ input_phases o.input) rest (λ ls e. e
+            ∙ sym input_is) each.1,
+      );
       lines = (fits, lines.1);
       input_lines = is_outer.input_lines;
       clips_each = inl refl;
@@ -63,13 +92,16 @@ nested_runnable stay o i own rest parts is_outer none fits =
 
 -- ---- both configurations are read, and no outer script has another number of phases than there are frames
 
-module _ (once : UserOnce) (o i : RunFiles) (own : List Line) (is_outer : IsOuter o) (at : own ≡ get_or o.scripts 0 own) (count : ℕ) (counted : count ≡ count_by is_shot_line i.input + 1)
+module _ (once : UserOnce) (o i : RunFiles) (own : List Line) (is_outer : IsOuter o) (at : own ≡ get_or o.scripts 0 own)
+    (count : ℕ) (counted : count ≡ count_by is_shot_line i.input + 1)
     (none : first_other count (names_in o.config) (phase_counts o) ≡ None) where
   pub no_other : first_other (length (frames_of i)) (names_in o.config) (phase_counts o) ≡ None
-  no_other = subst (λ (n : ℕ). first_other n (names_in o.config) (phase_counts o) ≡ None) (counted ∙ sym (frames_counted once i)) none
+  no_other = subst (λ (n : ℕ). first_other n (names_in o.config) (phase_counts o) ≡ None) (counted
+      ∙ sym (frames_counted once i)) none
 
   pub begun : (rest : List (List Line)) × (o.scripts ≡ own ∷ rest)
-  begun = begins_with o.scripts own (let some = is_outer.configured.count.0 in let same = is_outer.count in omega (arith, some, same)) at
+  begun = begins_with o.scripts own (let some = is_outer.configured.count.0 in let same =
+      is_outer.count in omega (arith, some, same)) at
 
   pub own_counts : phases own ≡ length (frames_of i)
   own_counts = first_counts o i own begun.0 begun.1 is_outer no_other
@@ -78,9 +110,12 @@ module _ (once : UserOnce) (o i : RunFiles) (own : List Line) (is_outer : IsOute
   own_may = first_may o.scripts own begun.0 begun.1 is_outer.may
 
   pub they_fit : (inner : List ℕ) → is_too_long (nest_of i) (own ∷ []) ≡ false → misfit inner o i ≡ None
-  they_fit inner short = by_length inner o i false no_other (ap (λ (ss : List (List Line)). is_too_long (nest_of i) ss) begun.1 ∙ short)
+  they_fit inner short = by_length inner o i false no_other
+      (ap (λ (ss : List (List Line)). is_too_long (nest_of i) ss) begun.1 ∙ short)
 
-  module _ (stay : PhasesStay) (script : List Line) (made : script ≡ nest_script (nest_of i) own) (scripts : List (List Line)) (input : List InputLine) (placed : (own : List Line) (rest : List (List Line)) → o.scripts ≡ own ∷ rest → scripts ≡ script ∷ rest) (same : input ≡ o.input) where
+  module _ (stay : PhasesStay) (script : List Line) (made : script ≡ nest_script (nest_of i) own)
+      (scripts : List (List Line)) (input : List InputLine) (placed : (own : List Line) (rest : List (List Line))
+      → o.scripts ≡ own ∷ rest → scripts ≡ script ∷ rest) (same : input ≡ o.input) where
     scripts_are : scripts ≡ nest_script (nest_of i) own ∷ begun.0
     scripts_are = placed own begun.0 begun.1 ∙ ap (λ (ls : List Line). ls ∷ begun.0) made
 
@@ -88,47 +123,68 @@ module _ (once : UserOnce) (o i : RunFiles) (own : List Line) (is_outer : IsOute
     outer_runnable fits =
         subst (λ (ls : List InputLine). IsRunnable (setup_of o.config scripts ls true true)) (sym same)
         (subst (λ (ss : List (List Line)). IsRunnable (setup_of o.config ss o.input true true)) (sym scripts_are)
-        (nested_runnable stay o i own begun.0 begun.1 is_outer no_other (subst (λ (ls : List Line). AreLines FitsLine ls) made fits)))
+        (nested_runnable stay o i own begun.0 begun.1 is_outer no_other
+        (subst (λ (ls : List Line). AreLines FitsLine ls) made fits)))
 
     -- the setup of the outer run is the one that the files make
     pub setup_is : record (setup_of o.config scripts input true true) { inner = Some i } ≡ nested_setup o i
     setup_is =
         ap (λ (ls : List InputLine). record (setup_of o.config scripts ls true true) { inner = Some i }) same
-        ∙ ap (λ (ss : List (List Line)). record (setup_of o.config ss o.input true true) { inner = Some i }) (scripts_are ∙ sym (ap (λ (ss : List (List Line)). shown_first (nest_of i) ss) begun.1))
+        ∙ ap (λ (ss : List (List Line)). record (setup_of o.config ss o.input true true) { inner = Some i })
+        (scripts_are ∙ sym (ap (λ (ss : List (List Line)). shown_first (nest_of i) ss) begun.1))
 
     pub first_shows : ShowsNest (nest_of i) script → FirstShows (nest_of i) (nested_setup o i).scripts
     first_shows shows =
-        subst (λ (ss : List (List Line)). FirstShows (nest_of i) ss) (ap (λ (ls : List Line). ls ∷ begun.0) made ∙ sym (ap (λ (ss : List (List Line)). shown_first (nest_of i) ss) begun.1)) shows
+        subst (λ (ss : List (List Line)). FirstShows (nest_of i) ss) (ap (λ (ls : List Line). ls ∷ begun.0) made
+        ∙ sym (ap (λ (ss : List (List Line)). shown_first (nest_of i) ss) begun.1)) shows
 
 -- ---- the outer run
 
 -- what the law of the headline says of this setup
 abbrev pub HeadlineLaw : Setup → Type 0
-HeadlineLaw s = (journal : List Entry) (outputs : List File) → IsJournal s journal → AreOutputs s journal outputs → Headline s journal outputs
+HeadlineLaw s = (journal : List Entry) (outputs : List File) → IsJournal s journal → AreOutputs s journal outputs
+    → Headline s journal outputs
 
 -- what is run within a client changes nothing of the journal and of the files
-journal_of : (s : Setup) (x : Option RunFiles) (journal : List Entry) → IsJournal s journal → IsJournal (record s { inner = x }) journal
+journal_of : (s : Setup) (x : Option RunFiles) (journal : List Entry) → IsJournal s journal
+    → IsJournal (record s { inner = x }) journal
 journal_of s x journal j = record { legal = j.legal; whole = j.whole; rounds = j.rounds }
 
-outputs_of : (s : Setup) (x : Option RunFiles) (journal : List Entry) (files : List File) → AreOutputs s journal files → AreOutputs (record s { inner = x }) journal files
+outputs_of : (s : Setup) (x : Option RunFiles) (journal : List Entry) (files : List File) → AreOutputs s journal files
+    → AreOutputs (record s { inner = x }) journal files
 outputs_of s x journal files are = (are.0, record { by_rounds = are.1.by_rounds; beside = are.1.beside }, are.2)
 
 pub runnable_of : (s : Setup) (x : Option RunFiles) → IsRunnable s → IsRunnable (record s { inner = x })
-runnable_of s x r = record { configured = r.configured; scripts = r.scripts; phases = r.phases; lines = r.lines; input_lines = r.input_lines; clips_each = r.clips_each }
+runnable_of s x r = record {
+  configured = r.configured;
+  scripts = r.scripts;
+  phases = r.phases;
+  lines =
+      r.lines;
+  input_lines = r.input_lines;
+  clips_each = r.clips_each;
+}
 
-pub nested_leaves : (inner : List Entry) (s : Setup) (x : Option RunFiles) (first mid new : StoreModel) (ran : Ran) (fault : Option PutFault) (w : Worked) → HeadlineLaw (record s { inner = x }) → HasRun first s mid ran
-    → PutsNext (inner_journal_name, journal_text inner) (put_state_of_run mid ran.fault) (put_state_of_run new fault) → w.stop.end ≡ end_of_run fault → IfSome fault (λ f. w.stop.name ≡ file_name.Put f.file)
-    → w.journal.items ≡ ran.journal.items → w.clients ≡ length s.scripts → w.frames ≡ ran.frames → IsAfterNested inner first (record s { inner = x }) new w
+pub nested_leaves : (inner : List Entry) (s : Setup) (x : Option RunFiles) (first mid new : StoreModel) (ran : Ran)
+    (fault : Option PutFault) (w : Worked) → HeadlineLaw (record s { inner = x }) → HasRun first s mid ran
+    → PutsNext (inner_journal_name, journal_text inner) (put_state_of_run mid ran.fault) (put_state_of_run new fault)
+    → w.stop.end ≡ end_of_run fault → IfSome fault (λ f. w.stop.name ≡ file_name.Put f.file)
+    → w.journal.items ≡ ran.journal.items → w.clients ≡ length s.scripts → w.frames ≡ ran.frames
+    → IsAfterNested inner first (record s { inner = x }) new w
 nested_leaves inner s x first mid new ran fault w law has put end name journal clients frames =
-    let is_journal : IsJournal (record s { inner = x }) w.journal.items = journal_of s x w.journal.items (subst (λ (j : List Entry). IsJournal s j) (sym journal) has.journal) in
-    let are : AreOutputs (record s { inner = x }) w.journal.items has.outputs = outputs_of s x w.journal.items has.outputs (subst (λ (j : List Entry). AreOutputs s j has.outputs) (sym journal) has.are) in
+    let is_journal : IsJournal (record s { inner = x }) w.journal.items =
+    journal_of s x w.journal.items (subst (λ (j : List Entry). IsJournal s j) (sym journal) has.journal) in
+    let are : AreOutputs (record s { inner = x }) w.journal.items has.outputs =
+    outputs_of s x w.journal.items has.outputs
+    (subst (λ (j : List Entry). AreOutputs s j has.outputs) (sym journal) has.are) in
     record {
       fault = fault;
       has_run = record {
         is_journal = is_journal;
         outputs = has.outputs;
         are = are;
-        puts = puts_more has.outputs (inner_journal_name, journal_text inner) (unrefused first) (put_state_of_run mid ran.fault) (put_state_of_run new fault) has.puts put;
+        puts = puts_more has.outputs (inner_journal_name, journal_text inner) (unrefused first)
+            (put_state_of_run mid ran.fault) (put_state_of_run new fault) has.puts put;
       };
       headline = law w.journal.items has.outputs is_journal are;
       end_is = end;

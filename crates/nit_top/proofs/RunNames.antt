@@ -1,8 +1,20 @@
 -- The names of the files that a run puts differ.
-use Rattle.std.proofs.Common.{◌≡◌, ◌≢◌, ℕ, zero, suc, ◌+◌, ◌<◌, ◌≤◌, Bool, true, false, cond, List, [], ◌∷◌, ◌++◌, map, length, Option, Some, None, refl, sym, ap, ◌∙◌, subst, arith, append_assoc, inl, inr, ◌⊎◌}
-use Rattle.nit_top.proofs.Basics.{AreAdded, AreOutputs, Audit, Capture, Clip, Command, Configuration, Entry, File, Gen, HasDifferentNames, IsCommandRun, IsConfiguration, IsInnerJournal, IsJournal, IsNearPicture, IsRunnable, IsSetupOf, Member, Nested, NoCommand, Run, RunFiles, Setup, Still, StoreModel, all_append, append_cancel_left, append_cancel_right, codes, done, events_file, events_files, events_name, film_name, final_name, final_picture, first_state, inner_journal_name, journal_file, member, range_with_len, shots, slice_index, text_files, user_actions_from, user_actions_of}
+use Rattle.std.proofs.Common.{◌≡◌, ◌≢◌, ℕ, zero, suc, ◌+◌, ◌<◌, ◌≤◌, Bool, true, false, cond, List}
+use Rattle.std.proofs.Common.{[], ◌∷◌, ◌++◌, map, length, Option, Some, None, refl, sym, ap, ◌∙◌}
+use Rattle.std.proofs.Common.{subst, arith, append_assoc, inl, inr, ◌⊎◌}
+use Rattle.nit_top.proofs.Basics.{AreAdded, AreOutputs, Audit, Capture, Clip, Command}
+use Rattle.nit_top.proofs.Basics.{Configuration, Entry, File, Gen, HasDifferentNames, IsCommandRun}
+use Rattle.nit_top.proofs.Basics.{IsConfiguration, IsInnerJournal, IsJournal, IsNearPicture}
+use Rattle.nit_top.proofs.Basics.{IsRunnable, IsSetupOf, Member, Nested, NoCommand, Run, RunFiles}
+use Rattle.nit_top.proofs.Basics.{Setup, Still, StoreModel, all_append, append_cancel_left}
+use Rattle.nit_top.proofs.Basics.{append_cancel_right, codes, done, events_file, events_files}
+use Rattle.nit_top.proofs.Basics.{events_name, film_name, final_name, final_picture, first_state}
+use Rattle.nit_top.proofs.Basics.{inner_journal_name, journal_file, member, range_with_len, shots}
+use Rattle.nit_top.proofs.Basics.{slice_index, text_files, user_actions_from, user_actions_of}
 use Rattle.nit_events.specs.declared.entry.Entry.TheVariants as entry
-use Rattle.nit_top.proofs.FileNames.{Apart, Begin, BeginOther, Numbered, OtherThan, apart_by, apart_front, begin_other, differ, numbered, other_letter, shots_apart_all, shots_begin}
+use Rattle.nit_top.proofs.FileNames.{Apart, Begin, BeginOther, Numbered, OtherThan, apart_by}
+use Rattle.nit_top.proofs.FileNames.{apart_front, begin_other, differ, numbered, other_letter}
+use Rattle.nit_top.proofs.FileNames.{shots_apart_all, shots_begin}
 use Rattle.nit_top.proofs.HeadlineLemmas.{FrontsLaw, ShotsLaw, drawn_along}
 use Rattle.nit_top.proofs.JournalsFit.{deeds_few}
 use Rattle.nit_top.proofs.MadeNames.{IsMade, made_apart}
@@ -22,50 +34,71 @@ none_more = record { letter = 99; own = inl refl; begin = tt; apart = tt }
 one_more : (f : File) (letter : ℕ) → (letter ≡ 99) ⊎ (letter ≡ 105) → slice_index f.0 0 ≡ letter → IsMore (f ∷ [])
 one_more f letter own is = record { letter = letter; own = own; begin = (is, tt); apart = (tt, tt) }
 
-added_more : (c : Command) (s : Setup) (journal : List Entry) (files : List File) (are : AreOutputs s journal files) (added : List File) → AreAdded c are added → IsMore added
-added_more (Clip configuration) s journal files are added (f, (clips, list, is), one) = subst IsMore (sym one) (one_more f 99 (inl refl) (ap (λ (g : File). slice_index g.0 0) is))
+added_more : (c : Command) (s : Setup) (journal : List Entry) (files : List File) (are : AreOutputs s journal files)
+    (added : List File) → AreAdded c are added → IsMore added
+added_more (Clip configuration) s journal files are added (f, (clips, list, is), one) =
+    subst IsMore (sym one) (one_more f 99 (inl refl) (ap (λ (g : File). slice_index g.0 0) is))
 added_more (Nested outer inner) s journal files are added is = by s.inner is
   where
     by : (inner : Option RunFiles) → IsInnerJournal inner added → IsMore added
     by None is = absurd is
-    by (Some i) (journal, is_journal, one) = subst IsMore (sym one) (one_more (inner_journal_name, _) 105 (inr refl) refl)
-added_more (Capture configuration region) s journal files are added one = subst IsMore (sym one) (one_more (film_name, _) 99 (inl refl) refl)
+    by (Some i) (journal, is_journal, one) =
+        subst IsMore (sym one) (one_more (inner_journal_name, _) 105 (inr refl) refl)
+added_more (Capture configuration region) s journal files are added one =
+    subst IsMore (sym one) (one_more (film_name, _) 99 (inl refl) refl)
 added_more (Still width height script) s journal files are added none = subst IsMore (sym none) none_more
 added_more (Run beside configuration) s journal files are added none = subst IsMore (sym none) none_more
 added_more (Gen number) s journal files are added none = subst IsMore (sym none) none_more
 added_more (Audit configuration journal') s journal files are added none = subst IsMore (sym none) none_more
 added_more NoCommand s journal files are added none = subst IsMore (sym none) none_more
 
-more_other : (added : List File) → IsMore added → (other : ℕ) → ◌≢◌ {A = ℕ} 99 other → ◌≢◌ {A = ℕ} 105 other → BeginOther other added
-more_other added more other c i = begin_other more.letter other added more.begin (λ is. elim more.own [ inl own ↦ c (sym own ∙ is) | inr own ↦ i (sym own ∙ is) ])
+more_other : (added : List File) → IsMore added → (other : ℕ) → ◌≢◌ {A = ℕ} 99 other → ◌≢◌ {A = ℕ} 105 other
+    → BeginOther other added
+more_other added more other c i =
+    begin_other more.letter other added more.begin
+    (λ is. elim more.own [ inl own ↦ c (sym own ∙ is) | inr own ↦ i (sym own ∙ is) ])
 
 -- ---- the texts
 
 abbrev no_member : Member
 no_member = record { label = []; donation = 0; script = []; layer = 0; clicks = false }
 
-events_apart : (config : Configuration) → IsConfiguration config → (i j : ℕ) → i < j → j < length config.clients → events_name (member config i).label ≢ events_name (member config j).label
+events_apart : (config : Configuration) → IsConfiguration config → (i j : ℕ) → i < j → j < length config.clients
+    → events_name (member config i).label ≢ events_name (member config j).label
 events_apart config is i j before inside same =
-    is.labels i j no_member before inside (append_cancel_right (member config i).label (member config j).label (codes ".txt") (append_cancel_left (codes "events-") ((member config i).label ++ codes ".txt") ((member config j).label ++ codes ".txt") same))
+    is.labels i j no_member before inside
+    (append_cancel_right (member config i).label (member config j).label (codes ".txt")
+    (append_cancel_left (codes "events-") ((member config i).label ++ codes ".txt")
+    ((member config j).label ++ codes ".txt") same))
 
 module _ (config : Configuration) (is : IsConfiguration config) (journal : List Entry) where
-  later_events : (i first count : ℕ) → i < first → first + count ≤ length config.clients → OtherThan (events_name (member config i).label) (map (events_file config journal) (range_with_len first count))
+  later_events : (i first count : ℕ) → i < first → first + count ≤ length config.clients
+      → OtherThan (events_name (member config i).label) (map (events_file config journal) (range_with_len first count))
   later_events i first zero before inside = tt
-  later_events i first (suc count) before inside = (events_apart config is i first before (omega arith), later_events i (first + 1) count (omega arith) (omega arith))
+  later_events i first (suc count) before inside = (
+    events_apart config is i first before (omega arith),
+    later_events i (first + 1) count (omega arith) (omega arith),
+  )
 
-  some_apart : (first count : ℕ) → first + count ≤ length config.clients → Apart (map (events_file config journal) (range_with_len first count))
+  some_apart : (first count : ℕ) → first + count ≤ length config.clients
+      → Apart (map (events_file config journal) (range_with_len first count))
   some_apart first zero inside = tt
-  some_apart first (suc count) inside = (later_events first (first + 1) count (omega arith) (omega arith), some_apart (first + 1) count (omega arith))
+  some_apart first (suc count) inside =
+      (later_events first (first + 1) count (omega arith) (omega arith), some_apart (first + 1) count (omega arith))
 
 -- the names of events begin with an e
-pub events_begin : (config : Configuration) (journal : List Entry) (first count : ℕ) → Begin 101 (map (events_file config journal) (range_with_len first count))
+pub events_begin : (config : Configuration) (journal : List Entry) (first count : ℕ)
+    → Begin 101 (map (events_file config journal) (range_with_len first count))
 events_begin config journal first zero = tt
 events_begin config journal first (suc count) = (refl, events_begin config journal (first + 1) count)
 
 -- and that of the journal with a j
-pub texts_other : (config : Configuration) (journal : List Entry) (letter : ℕ) → ◌≢◌ {A = ℕ} 101 letter → ◌≢◌ {A = ℕ} 106 letter → BeginOther letter (events_files config journal ++ journal_file journal ∷ [])
+pub texts_other : (config : Configuration) (journal : List Entry) (letter : ℕ) → ◌≢◌ {A = ℕ} 101 letter
+    → ◌≢◌ {A = ℕ} 106 letter → BeginOther letter (events_files config journal ++ journal_file journal ∷ [])
 texts_other config journal letter e j =
-    all_append (λ f. slice_index f.0 0 ≢ letter) (events_files config journal) (journal_file journal ∷ []) (begin_other 101 letter (events_files config journal) (events_begin config journal 0 (length config.clients)) e) (j, tt)
+    all_append (λ f. slice_index f.0 0 ≢ letter) (events_files config journal) (journal_file journal ∷ [])
+    (begin_other 101 letter (events_files config journal) (events_begin config journal 0 (length config.clients)) e)
+    (j, tt)
 
 -- ---- the shots
 
@@ -78,11 +111,13 @@ shots_few (entry.Final ∷ es) = shots_few es
 
 -- ---- all files of a run
 
-module _ (s : Setup) (runnable : IsRunnable s) (journal : List Entry) (j : IsJournal s journal) (law : ShotsLaw) (fronts : FrontsLaw) where
+module _ (s : Setup) (runnable : IsRunnable s) (journal : List Entry) (j : IsJournal s journal) (law : ShotsLaw)
+    (fronts : FrontsLaw) where
   few : shots journal ≤ 65536
   few =
       let some = shots_few journal in
-      let deeds : length (user_actions_of journal) ≡ length (done (user_actions_from 0 s.input)) = ap length j.whole.deeds in
+      let deeds : length (user_actions_of journal) ≡ length (done (user_actions_from 0 s.input)) =
+      ap length j.whole.deeds in
       let short = deeds_few 0 s.input in
       let lines = runnable.input_lines.1 in
       omega arith
@@ -91,8 +126,10 @@ module _ (s : Setup) (runnable : IsRunnable s) (journal : List Entry) (j : IsJou
   shots_are files are = by s.beside refl
     where
       by : (b : Bool) → s.beside ≡ b → Numbered 1 are.0 × (length are.0 ≡ shots journal)
-      by false alone = numbered _ (first_state s.config) 0 [] journal are.0 j.legal (drawn_along s journal files j are alone law fronts)
-      by true together = numbered (IsNearPicture s.config s.scripts) (first_state s.config) 0 [] journal are.0 j.legal (are.1.beside together)
+      by false alone = numbered _ (first_state s.config) 0 [] journal are.0 j.legal
+          (drawn_along s journal files j are alone law fronts)
+      by true together = numbered (IsNearPicture s.config s.scripts) (first_state s.config) 0 [] journal are.0 j.legal
+          (are.1.beside together)
 
   module _ (added : List File) (more : IsMore added) where
     texts_apart : Apart (text_files s journal ++ added)
@@ -104,11 +141,16 @@ module _ (s : Setup) (runnable : IsRunnable s) (journal : List Entry) (j : IsJou
             let events = events_files s.config journal in
             let last = journal_file journal ∷ [] in
             subst Apart (sym (append_assoc events last added))
-            (apart_by 101 events (last ++ added) (events_begin s.config journal 0 (length s.config.clients)) ((λ e. omega arith), more_other added more 101 (λ e. omega arith) (λ e. omega arith)) (some_apart s.config runnable.configured journal 0 (length s.config.clients) (omega arith))
-            (apart_by 106 last added (refl, tt) (more_other added more 106 (λ e. omega arith) (λ e. omega arith)) (tt, tt) more.apart))
+            (apart_by 101 events (last ++ added) (events_begin s.config journal 0 (length s.config.clients))
+            ((λ e. omega arith), more_other added more 101 (λ e. omega arith) (λ e. omega arith))
+            (some_apart s.config runnable.configured journal 0 (length s.config.clients) (omega arith))
+            (apart_by 106 last added (refl, tt) (more_other added more 106 (λ e. omega arith) (λ e. omega arith))
+            (tt, tt) more.apart))
 
-    behind_other : (letter : ℕ) → ◌≢◌ {A = ℕ} 101 letter → ◌≢◌ {A = ℕ} 106 letter → ◌≢◌ {A = ℕ} 99 letter → ◌≢◌ {A = ℕ} 105 letter → BeginOther letter (text_files s journal ++ added)
-    behind_other letter e j c i = all_append (λ f. slice_index f.0 0 ≢ letter) (text_files s journal) added (by s.texts) (more_other added more letter c i)
+    behind_other : (letter : ℕ) → ◌≢◌ {A = ℕ} 101 letter → ◌≢◌ {A = ℕ} 106 letter → ◌≢◌ {A = ℕ} 99 letter
+        → ◌≢◌ {A = ℕ} 105 letter → BeginOther letter (text_files s journal ++ added)
+    behind_other letter e j c i = all_append (λ f. slice_index f.0 0 ≢ letter) (text_files s journal) added (by s.texts)
+        (more_other added more letter c i)
       where
         by : (b : Bool) → BeginOther letter (cond b (events_files s.config journal ++ journal_file journal ∷ []) [])
         by false = tt
@@ -118,9 +160,14 @@ module _ (s : Setup) (runnable : IsRunnable s) (journal : List Entry) (j : IsJou
     last_on = (final_name, final_picture s journal) ∷ (text_files s journal ++ added)
 
     last_apart : Apart last_on
-    last_apart = (other_letter final_name 102 (text_files s journal ++ added) refl (behind_other 102 (λ e. omega arith) (λ e. omega arith) (λ e. omega arith) (λ e. omega arith)), texts_apart)
+    last_apart = (
+      other_letter final_name 102 (text_files s journal ++ added) refl
+          (behind_other 102 (λ e. omega arith) (λ e. omega arith) (λ e. omega arith) (λ e. omega arith)),
+      texts_apart,
+    )
 
-    last_other : (letter : ℕ) → ◌≢◌ {A = ℕ} 102 letter → ◌≢◌ {A = ℕ} 101 letter → ◌≢◌ {A = ℕ} 106 letter → ◌≢◌ {A = ℕ} 99 letter → ◌≢◌ {A = ℕ} 105 letter → BeginOther letter last_on
+    last_other : (letter : ℕ) → ◌≢◌ {A = ℕ} 102 letter → ◌≢◌ {A = ℕ} 101 letter → ◌≢◌ {A = ℕ} 106 letter
+        → ◌≢◌ {A = ℕ} 99 letter → ◌≢◌ {A = ℕ} 105 letter → BeginOther letter last_on
     last_other letter f e j c i = (f, behind_other letter e j c i)
 
     outputs_apart : (files : List File) → AreOutputs s journal files → IsMade s.made → Apart (files ++ added)
@@ -130,23 +177,35 @@ module _ (s : Setup) (runnable : IsRunnable s) (journal : List Entry) (j : IsJou
         let long = counted.1 in
         let small = few in
         let begin : Begin 115 shown = shots_begin 1 shown counted.0 in
-        let own : Apart (shown ++ last_on) = apart_by 115 shown last_on begin (last_other 115 (λ e. omega arith) (λ e. omega arith) (λ e. omega arith) (λ e. omega arith) (λ e. omega arith)) (shots_apart_all 1 shown (omega arith) counted.0) last_apart in
+        let own : Apart (shown ++ last_on) =
+        apart_by 115 shown last_on begin
+        (last_other 115 (λ e. omega arith) (λ e. omega arith) (λ e. omega arith) (λ e. omega arith)
+        (λ e. omega arith)) (shots_apart_all 1 shown (omega arith) counted.0) last_apart in
         let other : BeginOther 103 (shown ++ last_on) =
-        all_append (λ f. slice_index f.0 0 ≢ 103) shown last_on (begin_other 115 103 shown begin (λ e. omega arith)) (last_other 103 (λ e. omega arith) (λ e. omega arith) (λ e. omega arith) (λ e. omega arith) (λ e. omega arith)) in
+        all_append (λ f. slice_index f.0 0 ≢ 103) shown last_on (begin_other 115 103 shown begin (λ e. omega arith))
+        (last_other 103 (λ e. omega arith) (λ e. omega arith) (λ e. omega arith) (λ e. omega arith)
+        (λ e. omega arith)) in
         subst Apart (sym (parts files are)) (apart_by 103 s.made (shown ++ last_on) made.0 other made.1 own)
       where
         parts : (files : List File) (are : AreOutputs s journal files) → files ++ added ≡ s.made ++ (are.0 ++ last_on)
         parts files are =
             let last : File = (final_name, final_picture s journal) in
-            ap (λ (fs : List File). fs ++ added) are.2 ∙ append_assoc s.made (are.0 ++ last ∷ text_files s journal) added
+            ap (λ (fs : List File). fs ++ added) are.2
+            ∙ append_assoc s.made (are.0 ++ last ∷ text_files s journal) added
             ∙ ap (λ (fs : List File). s.made ++ fs) (append_assoc are.0 (last ∷ text_files s journal) added)
 
-pub outputs_differ : ShotsLaw → FrontsLaw → (c : Command) (s : Setup) (journal : List Entry) (files : List File) → IsRunnable s → IsSetupOf c s → IsJournal s journal → AreOutputs s journal files → HasDifferentNames files
-outputs_differ law fronts c s journal files runnable of j are = differ files (apart_front files [] (outputs_apart s runnable journal j law fronts [] none_more files are (made_apart c s of)))
+pub outputs_differ : ShotsLaw → FrontsLaw → (c : Command) (s : Setup) (journal : List Entry) (files : List File)
+    → IsRunnable s → IsSetupOf c s → IsJournal s journal → AreOutputs s journal files → HasDifferentNames files
+outputs_differ law fronts c s journal files runnable of j are =
+    differ files (apart_front files []
+    (outputs_apart s runnable journal j law fronts [] none_more files are (made_apart c s of)))
 
-pub puts_differ : ShotsLaw → FrontsLaw → (old : StoreModel) (c : Command) (journal : List Entry) (run : IsCommandRun old c journal) → HasDifferentNames run.puts
+pub puts_differ : ShotsLaw → FrontsLaw
+    → (old : StoreModel) (c : Command) (journal : List Entry) (run : IsCommandRun old c journal)
+    → HasDifferentNames run.puts
 puts_differ law fronts old c journal run =
     let s = run.setup in
     let more = added_more c s journal run.outputs run.are run.added run.added_are in
-    let all : Apart (run.outputs ++ run.added) = outputs_apart s run.files_are.runnable journal run.headline.one_journal law fronts run.added more run.outputs run.are (made_apart c s run.files_are.of_command) in
+    let all : Apart (run.outputs ++ run.added) = outputs_apart s run.files_are.runnable journal run.headline.one_journal
+    law fronts run.added more run.outputs run.are (made_apart c s run.files_are.of_command) in
     differ run.puts (subst Apart (sym run.puts_are) all)

@@ -1,6 +1,10 @@
 -- A machine that is not served has no buffer.
-use Rattle.std.proofs.Common.{◌≡◌, Bool, true, false, cond, ◌+◌, List, [], ◌∷◌, ◌++◌, length, nat_lt, Option, Some, None, refl, inl, inr, ◌⊎◌}
-use Rattle.nit_top.proofs.Basics.{Call, Calls, Close, Event, Gets, Item, Observation, Reply, Session, Status, Take, accepted, after_observations, by_call, by_life, by_refusal, by_status, first_none, receive, refusal, taking}
+use Rattle.std.proofs.Common.{◌≡◌, Bool, true, false, cond, ◌+◌, List, [], ◌∷◌, ◌++◌, length}
+use Rattle.std.proofs.Common.{nat_lt, Option, Some, None, refl, inl, inr, ◌⊎◌}
+use Rattle.nit_top.proofs.Basics.{Call, Calls, Close, Event, Gets, Item, Observation, Reply}
+use Rattle.nit_top.proofs.Basics.{Session, Status, Take, accepted, after_observations, by_call}
+use Rattle.nit_top.proofs.Basics.{by_life, by_refusal, by_status, first_none, receive, refusal}
+use Rattle.nit_top.proofs.Basics.{taking}
 use Rattle.nit_events.specs.declared.event.Item.TheVariants as item
 use Rattle.nit_events.specs.declared.event.Status.TheVariants as status
 use Rattle.nit_journal.specs.Session.{serve}
@@ -19,7 +23,8 @@ accepted_keeps s Close live = inr refl
 accepted_keeps s Take live = taking_keeps s.queue s (inl live)
 accepted_keeps s other live = inl live
 
-refusal_keeps : (s : Session) (call : Call) (o : Option Reply) → (o ≡ None → s.status ≡ status.Live) → IsServedOrBare s → IsServedOrBare (by_refusal s call o).session
+refusal_keeps : (s : Session) (call : Call) (o : Option Reply) → (o ≡ None → s.status ≡ status.Live) → IsServedOrBare s
+    → IsServedOrBare (by_refusal s call o).session
 refusal_keeps s call (Some r) live h = h
 refusal_keeps s call None live h = accepted_keeps s call (live refl)
 
@@ -30,11 +35,13 @@ live_if status.Killed e = absurd cc
 
 serve_keeps : (s : Session) (call : Call) → IsServedOrBare s → IsServedOrBare (serve s call).session
 unfolding serve
-serve_keeps s call h = refusal_keeps s call (refusal s call) (λ e. live_if s.status (first_none (by_status s.status) (by_call s call) e)) h
+serve_keeps s call h = refusal_keeps s call (refusal s call)
+    (λ e. live_if s.status (first_none (by_status s.status) (by_call s call) e)) h
 
 -- ---- an item
 
-queued_keeps : (b : Bool) (e : Event) (s : Session) → IsServedOrBare s → IsServedOrBare (cond b (record s { queue = s.queue ++ e ∷ [] }) (record s { lost = s.lost + 1 }))
+queued_keeps : (b : Bool) (e : Event) (s : Session) → IsServedOrBare s
+    → IsServedOrBare (cond b (record s { queue = s.queue ++ e ∷ [] }) (record s { lost = s.lost + 1 }))
 queued_keeps true e s h = h
 queued_keeps false e s h = h
 
@@ -45,7 +52,8 @@ life_keeps other i s h = h
 
 -- ---- along what a session sees
 
-pub served_or_bare : (s : Session) (moments : List Observation) → IsServedOrBare s → IsServedOrBare (after_observations s moments)
+pub served_or_bare : (s : Session) (moments : List Observation) → IsServedOrBare s
+    → IsServedOrBare (after_observations s moments)
 served_or_bare s [] h = h
 served_or_bare s (Calls call ∷ rest) h = served_or_bare (serve s call).session rest (serve_keeps s call h)
 served_or_bare s (Gets i ∷ rest) h = served_or_bare (receive s i) rest (life_keeps s.status i s h)

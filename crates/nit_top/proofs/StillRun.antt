@@ -1,6 +1,14 @@
 -- A run of one client whose user does nothing: its beginning, and what it leaves.
-use Rattle.std.proofs.Common.{◌≡◌, ◌∙◌, true, false, ◌+◌, ◌<◌, List, [], ◌∷◌, ◌++◌, length, map, Some, refl, sym, ap, subst, arith}
-use Rattle.nit_top.proofs.Basics.{AreOutputs, AreRoundsOf, Belongs, Configuration, Entry, File, HasRun, InputLine, IsAlone, IsJournal, IsLegal, IsOpening, IsReady, IsReadyAlone, IsWhole, Line, OpeningParts, PassModel, PlanModel, PutsNext, Ran, RoomModel, Setup, StepTogether, StoreModel, UserPassModel, calls_to_make, count_by, drawn, drop, final_name, final_picture, idle_user, is_phase, put_state_of_run, rounds, setup_of, shot_file, shots, slice_get, slice_index_or, unrefused, user_actions_to_do}
+use Rattle.std.proofs.Common.{◌≡◌, ◌∙◌, true, false, ◌+◌, ◌<◌, List, [], ◌∷◌, ◌++◌, length, map}
+use Rattle.std.proofs.Common.{Some, refl, sym, ap, subst, arith}
+use Rattle.nit_top.proofs.Basics.{AreOutputs, AreRoundsOf, Belongs, Configuration, Entry, File}
+use Rattle.nit_top.proofs.Basics.{HasRun, InputLine, IsAlone, IsJournal, IsLegal, IsOpening}
+use Rattle.nit_top.proofs.Basics.{IsReady, IsReadyAlone, IsWhole, Line, OpeningParts, PassModel}
+use Rattle.nit_top.proofs.Basics.{PlanModel, PutsNext, Ran, RoomModel, Setup, StepTogether}
+use Rattle.nit_top.proofs.Basics.{StoreModel, UserPassModel, calls_to_make, count_by, drawn, drop}
+use Rattle.nit_top.proofs.Basics.{final_name, final_picture, idle_user, is_phase, put_state_of_run}
+use Rattle.nit_top.proofs.Basics.{rounds, setup_of, shot_file, shots, slice_get, slice_index_or}
+use Rattle.nit_top.proofs.Basics.{unrefused, user_actions_to_do}
 use Rattle.nit_events.specs.declared.entry.Entry.TheVariants as entry
 use Rattle.nit_pixels.specs.End.{End}
 use Rattle.nit_top.proofs.RoomRunLemmas.{get_at, is_ready}
@@ -8,8 +16,10 @@ use Rattle.nit_top.proofs.NoShots.{UserOnce, no_picture}
 
 -- ---- the beginning
 
-module _ (config : Configuration) (scripts : List (List Line)) (plans : List PlanModel) (input : List InputLine) (canvases : List End) (r : RoomModel) (ps : List PassModel) (u : UserPassModel)
-    (sessions : length scripts ≡ length config.clients) (plans_each : length plans ≡ length scripts) (o : IsOpening config scripts plans input canvases r ps u) (alone : IsAlone scripts input) where
+module _ (config : Configuration) (scripts : List (List Line)) (plans : List PlanModel) (input : List InputLine)
+    (canvases : List End) (r : RoomModel) (ps : List PassModel) (u : UserPassModel)
+    (sessions : length scripts ≡ length config.clients) (plans_each : length plans ≡ length scripts)
+    (o : IsOpening config scripts plans input canvases r ps u) (alone : IsAlone scripts input) where
   ready : IsReady r.parts r ps u
   ready = is_ready config scripts plans input canvases r ps u sessions plans_each o
 
@@ -28,7 +38,8 @@ module _ (config : Configuration) (scripts : List (List Line)) (plans : List Pla
   in_step : (p : PassModel) → slice_get ps 0 ≡ Some p → StepTogether r p u
   in_step p at =
       let first = o.passes 0 p at in
-      let belongs : Belongs r.parts p = subst (λ (q : PassModel). Belongs r.parts q) (here p at) (ready.belong 0 p (inside p at)) in
+      let belongs : Belongs r.parts p =
+      subst (λ (q : PassModel). Belongs r.parts q) (here p at) (ready.belong 0 p (inside p at)) in
       record {
         one = ap (λ (ss : List (List Line)). length ss) scripts_are ∙ one;
         belongs = belongs;
@@ -37,7 +48,8 @@ module _ (config : Configuration) (scripts : List (List Line)) (plans : List Pla
         user_phase = ap (λ (v : UserPassModel). v.phase) o.user ∙ sym o.room.phase.0;
         arrived = o.room.phase.1;
         idle =
-            ap (λ (v : UserPassModel). drop v.next v.input) o.user ∙ input_is ∙ ap idle_user (sym script_is) ∙ ap (λ (q : PassModel). idle_user (drop q.next q.script)) (sym first.2);
+            ap (λ (v : UserPassModel). drop v.next v.input) o.user ∙ input_is ∙ ap idle_user (sym script_is)
+            ∙ ap (λ (q : PassModel). idle_user (drop q.next q.script)) (sym first.2);
       }
     where
       inside : (p : PassModel) → slice_get ps 0 ≡ Some p → 0 < length ps
@@ -65,21 +77,37 @@ one_pass (q ∷ x ∷ ps) p long at = absurd (omega arith)
 
 -- what the law of one client says
 abbrev pub OneClient : Type 0
-OneClient = (config : Configuration) (script : List Line) (lines : List InputLine) (journal : List Entry) → length config.clients ≡ 1 → user_actions_to_do lines ≡ [] → IsLegal config journal → IsWhole (map calls_to_make (script ∷ [])) (user_actions_to_do lines) journal
+OneClient = (config : Configuration) (script : List Line) (lines : List InputLine) (journal : List Entry)
+    → length config.clients ≡ 1 → user_actions_to_do lines ≡ [] → IsLegal config journal
+    → IsWhole (map calls_to_make (script ∷ [])) (user_actions_to_do lines) journal
     → (entries : List Entry) × AreRoundsOf entries (script ∷ []) lines × (journal ≡ entries ++ entry.Final ∷ [])
 
 abbrev pub IdleDoes : Type 0
 IdleDoes = (lines : List Line) → user_actions_to_do (idle_user lines) ≡ []
 
-pub alone_leaves : OneClient → IdleDoes → UserOnce → (config : Configuration) (scripts : List (List Line)) (lines : List InputLine) (first new : StoreModel) (journal : List Entry) (ran : Ran) → IsAlone scripts lines → length config.clients ≡ 1 → IsLegal config journal
-    → IsWhole (map calls_to_make scripts) (user_actions_to_do lines) journal → PutsNext (final_name, final_picture (setup_of config scripts lines false false) journal) (unrefused first) (put_state_of_run new ran.fault) → ran.journal.items ≡ journal → ran.frames ≡ shots journal + 1
+pub alone_leaves : OneClient → IdleDoes → UserOnce
+    → (config : Configuration) (scripts : List (List Line)) (lines : List InputLine) (first new : StoreModel)
+    (journal : List Entry) (ran : Ran) → IsAlone scripts lines → length config.clients ≡ 1 → IsLegal config journal
+    → IsWhole (map calls_to_make scripts) (user_actions_to_do lines) journal
+    → PutsNext (final_name, final_picture (setup_of config scripts lines false false) journal) (unrefused first)
+    (put_state_of_run new ran.fault) → ran.journal.items ≡ journal → ran.frames ≡ shots journal + 1
     → HasRun first (setup_of config scripts lines false false) new ran
-alone_leaves one_client idle once config scripts lines first new journal ran (script, are, quiet) one legal whole puts is frames =
+alone_leaves one_client idle once config scripts lines first new journal ran (script, are, quiet) one legal whole puts
+    is frames =
     record {
-      journal = subst (λ (es : List Entry). IsJournal s es) (sym is) (record { legal = legal; whole = whole; rounds = λ together. by_rounds });
+      journal = subst (λ (es : List Entry). IsJournal s es) (sym is)
+          (record { legal = legal; whole = whole; rounds = λ together. by_rounds });
       frames = frames ∙ ap (λ (es : List Entry). shots es + 1) (sym is);
       outputs = outputs;
-      are = subst (λ (es : List Entry). AreOutputs s es outputs) (sym is) ([], record { by_rounds = λ together. sym (ap (map shot_file) no_shots); beside = λ together. absurd (false_true together) }, refl);
+      are = subst (λ (es : List Entry). AreOutputs s es outputs) (sym is) (
+        [],
+        record {
+          by_rounds = λ together. sym (ap (map shot_file) no_shots);
+          beside =
+              λ together. absurd (false_true together);
+        },
+        refl,
+      );
       puts = (put_state_of_run new ran.fault, puts, refl);
     }
   where
@@ -96,8 +124,11 @@ alone_leaves one_client idle once config scripts lines first new journal ran (sc
     no_deeds = ap user_actions_to_do quiet ∙ idle script
 
     by_rounds : (entries : List Entry) × AreRoundsOf entries scripts lines × (journal ≡ entries ++ entry.Final ∷ [])
-    by_rounds = subst (λ (ss : List (List Line)). (entries : List Entry) × AreRoundsOf entries ss lines × (journal ≡ entries ++ entry.Final ∷ [])) (sym are)
-        (one_client config script lines journal one no_deeds legal (subst (λ (ss : List (List Line)). IsWhole (map calls_to_make ss) (user_actions_to_do lines) journal) are whole))
+    by_rounds = subst (λ (ss : List (List Line)). (entries : List Entry) × AreRoundsOf entries ss lines
+        × (journal ≡ entries ++ entry.Final ∷ [])) (sym are)
+        (one_client config script lines journal one no_deeds legal
+        (subst (λ (ss : List (List Line)). IsWhole (map calls_to_make ss) (user_actions_to_do lines) journal) are
+        whole))
 
     no_shots : (drawn config scripts (rounds scripts lines)).shots ≡ []
     no_shots = no_picture config scripts (rounds scripts lines) (count_by is_phase script) (once scripts lines ∙ quiet)

@@ -1,6 +1,11 @@
 -- The files that a command has put stand in the store at the end.
-use Rattle.std.proofs.Common.{◌≡◌, ℕ, List, [], ◌∷◌, ◌++◌, Option, Some, None, refl, sym, subst, ◌∙◌, arith, inl, inr, ◌⊎◌}
-use Rattle.nit_top.proofs.Basics.{AreStored, Begun, Came, Command, Course, End, Entry, File, HasDifferentNames, IsAudited, IsCommandRun, IsCutShort, IsMadeInPart, IsMadeUpTo, IsNotBegun, IsPutBefore, IsPutWhole, NotBegun, PutFiles, StoreModel, WithRun, WithoutRun, append-nil, code_of, made_by, summary_line, to_put, totals}
+use Rattle.std.proofs.Common.{◌≡◌, ℕ, List, [], ◌∷◌, ◌++◌, Option, Some, None, refl, sym, subst}
+use Rattle.std.proofs.Common.{◌∙◌, arith, inl, inr, ◌⊎◌}
+use Rattle.nit_top.proofs.Basics.{AreStored, Begun, Came, Command, Course, End, Entry, File}
+use Rattle.nit_top.proofs.Basics.{HasDifferentNames, IsAudited, IsCommandRun, IsCutShort}
+use Rattle.nit_top.proofs.Basics.{IsMadeInPart, IsMadeUpTo, IsNotBegun, IsPutBefore, IsPutWhole}
+use Rattle.nit_top.proofs.Basics.{NotBegun, PutFiles, StoreModel, WithRun, WithoutRun, append-nil}
+use Rattle.nit_top.proofs.Basics.{code_of, made_by, summary_line, to_put, totals}
 use Rattle.nit_top.specs.declared.report.finish.End.TheVariants as ends
 use Rattle.nit_top.proofs.AuditCourse.{audit_makes_none, with_run}
 use Rattle.nit_top.proofs.EndCauses.{so_far}
@@ -10,14 +15,17 @@ use Rattle.nit_top.proofs.FileNames.{Apart, apart_front, apart_of, stand_in}
 -- what the law of names says
 pub record NamesLaw : Type 0 where
   pub made : (c : Command) → HasDifferentNames (made_by c)
-  pub puts : (old : StoreModel) (c : Command) (journal : List Entry) (run : IsCommandRun old c journal) → HasDifferentNames run.puts
+  pub puts : (old : StoreModel) (c : Command) (journal : List Entry) (run : IsCommandRun old c journal)
+      → HasDifferentNames run.puts
 
-different : NamesLaw → {old : StoreModel} {c : Command} {journal : List Entry} (course : Course old c journal) → HasDifferentNames (to_put course)
+different : NamesLaw → {old : StoreModel} {c : Command} {journal : List Entry} (course : Course old c journal)
+    → HasDifferentNames (to_put course)
 different law {old = old} {c = c} {journal = journal} (Begun run) = law.puts old c journal run
 different law {c = c} (NotBegun empty) = law.made c
 
 -- where no run was begun, the files that the command makes are to be put
-made_then : {old : StoreModel} {c : Command} {journal : List Entry} (course : Course old c journal) → WithoutRun course → to_put course ≡ made_by c
+made_then : {old : StoreModel} {c : Command} {journal : List Entry} (course : Course old c journal) → WithoutRun course
+    → to_put course ≡ made_by c
 made_then (Begun run) none = absurd none
 made_then (NotBegun empty) none = refl
 
@@ -25,53 +33,79 @@ none_put : (old new : Option (List File)) → new ≡ old → PutFiles [] old ne
 none_put None new same = same
 none_put (Some all) new same = (all, same, refl)
 
-module _ (law : NamesLaw) (c : Command) (old : StoreModel) (files : Option (List File)) (asked : Option (List (List ℕ))) (journal : List Entry) (status : ℕ) where
-  first_put : (course : Course old c journal) (front back : List File) → to_put course ≡ front ++ back → (status ≡ 0 → back ≡ []) → PutFiles front old.files files → AreStored (to_put course) status old.files files
+module _ (law : NamesLaw) (c : Command) (old : StoreModel) (files : Option (List File)) (asked : Option (List (List ℕ)))
+    (journal : List Entry) (status : ℕ) where
+  first_put : (course : Course old c journal) (front back : List File) → to_put course ≡ front ++ back
+      → (status ≡ 0 → back ≡ []) → PutFiles front old.files files → AreStored (to_put course) status old.files files
   first_put course front back parts whole put = record {
     front = front;
     back = back;
     parts = parts;
     whole = whole;
     put = put;
-    stand = stand_in front old.files files (apart_front front back (subst Apart parts (apart_of (to_put course) (different law course)))) put;
+    stand = stand_in front old.files files
+        (apart_front front back (subst Apart parts (apart_of (to_put course) (different law course)))) put;
   }
 
-  all_stored : (course : Course old c journal) → WithRun course (λ run. IsPutWhole run files asked) → AreStored (to_put course) status old.files files
+  all_stored : (course : Course old c journal) → WithRun course (λ run. IsPutWhole run files asked)
+      → AreStored (to_put course) status old.files files
   all_stored (Begun run) h = first_put (Begun run) run.puts [] (sym (append-nil run.puts)) (λ s. refl) h.put
   all_stored (NotBegun empty) h = absurd h
 
-  audit_stored : (course : Course old c journal) (count : ℕ) → IsAudited course files asked count → AreStored (to_put course) status old.files files
-  audit_stored course count a = first_put course [] [] (made_then course a.none ∙ audit_makes_none c a.audit) (λ s. refl) (none_put old.files files a.same)
+  audit_stored : (course : Course old c journal) (count : ℕ) → IsAudited course files asked count
+      → AreStored (to_put course) status old.files files
+  audit_stored course count a = first_put course [] [] (made_then course a.none ∙ audit_makes_none c a.audit)
+      (λ s. refl) (none_put old.files files a.same)
 
   -- at a status that is not 0
   module _ (some : status ≡ 0 → ⊥) where
-    none_stored : (course : Course old c journal) → IsNotBegun course files asked → AreStored (to_put course) status old.files files
-    none_stored course n = first_put course [] (to_put course) refl (λ s. absurd (some s)) (none_put old.files files n.same)
+    none_stored : (course : Course old c journal) → IsNotBegun course files asked
+        → AreStored (to_put course) status old.files files
+    none_stored course n = first_put course [] (to_put course) refl (λ s. absurd (some s))
+        (none_put old.files files n.same)
 
-    made_stored : (course : Course old c journal) (last : List File) (more : List (List ℕ)) → IsMadeUpTo course files asked last more → AreStored (to_put course) status old.files files
-    made_stored course last more m = first_put course m.front last (made_then course m.none ∙ m.parts) (λ s. absurd (some s)) m.put
+    made_stored : (course : Course old c journal) (last : List File) (more : List (List ℕ))
+        → IsMadeUpTo course files asked last more → AreStored (to_put course) status old.files files
+    made_stored course last more m =
+        first_put course m.front last (made_then course m.none ∙ m.parts) (λ s. absurd (some s)) m.put
 
-    part_stored : (course : Course old c journal) → IsMadeInPart course files asked → AreStored (to_put course) status old.files files
+    part_stored : (course : Course old c journal) → IsMadeInPart course files asked
+        → AreStored (to_put course) status old.files files
     part_stored course (inl (name, (bytes, behind, m))) = made_stored course ((name, bytes) ∷ behind) (name ∷ []) m
     part_stored course (inr (last, m)) = made_stored course last [] m
 
-    before_stored : (run : IsCommandRun old c journal) (name : List ℕ) (more : List (List ℕ)) → IsPutBefore run files asked name more → AreStored run.puts status old.files files
-    before_stored run name more b = first_put (Begun run) b.front ((name, b.bytes) ∷ b.back) b.parts (λ s. absurd (some s)) b.put
+    before_stored : (run : IsCommandRun old c journal) (name : List ℕ) (more : List (List ℕ))
+        → IsPutBefore run files asked name more → AreStored run.puts status old.files files
+    before_stored run name more b =
+        first_put (Begun run) b.front ((name, b.bytes) ∷ b.back) b.parts (λ s. absurd (some s)) b.put
 
-    run_stored : (course : Course old c journal) → WithRun course (λ run. IsPutWhole run files asked ⊎ IsCutShort run files asked) → AreStored (to_put course) status old.files files
+    run_stored : (course : Course old c journal)
+        → WithRun course (λ run. IsPutWhole run files asked ⊎ IsCutShort run files asked)
+        → AreStored (to_put course) status old.files files
     run_stored (Begun run) (inl whole) = all_stored (Begun run) whole
     run_stored (Begun run) (inr (name, inl b)) = before_stored run name (name ∷ []) b
     run_stored (Begun run) (inr (name, inr b)) = before_stored run name [] b
     run_stored (NotBegun empty) h = absurd h
 
-    far_stored : (course : Course old c journal) → IsNotBegun course files asked ⊎ (IsMadeInPart course files asked ⊎ WithRun course (λ run. IsPutWhole run files asked ⊎ IsCutShort run files asked)) → AreStored (to_put course) status old.files files
+    far_stored : (course : Course old c journal) → IsNotBegun course files asked
+        ⊎ (IsMadeInPart course files asked
+        ⊎ WithRun course (λ run. IsPutWhole run files asked ⊎ IsCutShort run files asked))
+        → AreStored (to_put course) status old.files files
     far_stored course (inl n) = none_stored course n
     far_stored course (inr (inl m)) = part_stored course m
     far_stored course (inr (inr r)) = run_stored course r
 
-  pub stored : (course : Course old c journal) (e : End) (line : List ℕ) → Came course files asked e line → (status ≡ 0 → code_of e ≡ 0) → AreStored (to_put course) status old.files files
-  stored course ends.Whole line h zero = all_stored course (with_run course (λ run. IsPutWhole run files asked × (line ≡ summary_line (totals run))) (λ run. IsPutWhole run files asked) (λ run p. p.0) h)
+  pub stored : (course : Course old c journal) (e : End) (line : List ℕ) → Came course files asked e line
+      → (status ≡ 0 → code_of e ≡ 0) → AreStored (to_put course) status old.files files
+  stored course ends.Whole line h zero =
+      all_stored course (with_run course (λ run. IsPutWhole run files asked × (line ≡ summary_line (totals run)))
+      (λ run. IsPutWhole run files asked) (λ run p. p.0) h)
   stored course (ends.Audited count) line h zero = audit_stored course count h.0
-  stored course (ends.Refused f) line h zero = far_stored (λ s. not_fault f 0 (zero s) refl) course (so_far c old files asked journal course (ends.Refused f) line h)
-  stored course (ends.Unfit f) line h zero = far_stored (λ s. not_fault f 0 (zero s) refl) course (so_far c old files asked journal course (ends.Unfit f) line h)
-  stored course e line h zero = far_stored (λ s. let is = zero s in omega arith) course (so_far c old files asked journal course e line h)
+  stored course (ends.Refused f) line h zero =
+      far_stored (λ s. not_fault f 0 (zero s) refl) course
+      (so_far c old files asked journal course (ends.Refused f) line h)
+  stored course (ends.Unfit f) line h zero =
+      far_stored (λ s. not_fault f 0 (zero s) refl) course
+      (so_far c old files asked journal course (ends.Unfit f) line h)
+  stored course e line h zero =
+      far_stored (λ s. let is = zero s in omega arith) course (so_far c old files asked journal course e line h)

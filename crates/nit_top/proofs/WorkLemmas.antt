@@ -1,6 +1,16 @@
 -- How the work comes to its end: before a run is begun, and after one.
-use Rattle.std.proofs.Common.{◌≡◌, ℕ, ◌+◌, ◌≤◌, true, false, List, [], ◌∷◌, ◌++◌, length, Option, Some, None, refl, sym, ap, subst, ◌∙◌, inl, inr}
-use Rattle.nit_top.proofs.Basics.{AllFiles, AreAdded, AreAllFiles, AreOutputs, Begun, Came, Command, Configuration, Counts, Course, End, Ends, Entry, Fault, File, FilesRead, HasRead, Headline, IfSome, IsCommandRun, IsLastRead, IsPutBefore, Judged, Name, NoCommand, NoFile, NotBegun, Performed, PutError, PutFault, PutFiles, PutsAll, Refused, Rose, Setup, Stop, StoppedAt, StoreModel, Totals, Worked, append-nil, asked_also, asking_all, bytes_of, end_of_put, end_of_run, file_names, is_outside_of, line_of, name_text, names_read, next_name, option_map, output_name, put_state_of_run, reads, refusal_of, shots, unrefused}
+use Rattle.std.proofs.Common.{◌≡◌, ℕ, ◌+◌, ◌≤◌, true, false, List, [], ◌∷◌, ◌++◌, length, Option}
+use Rattle.std.proofs.Common.{Some, None, refl, sym, ap, subst, ◌∙◌, inl, inr}
+use Rattle.nit_top.proofs.Basics.{AllFiles, AreAdded, AreAllFiles, AreOutputs, Begun, Came, Command}
+use Rattle.nit_top.proofs.Basics.{Configuration, Counts, Course, End, Ends, Entry, Fault, File}
+use Rattle.nit_top.proofs.Basics.{FilesRead, HasRead, Headline, IfSome, IsCommandRun, IsLastRead}
+use Rattle.nit_top.proofs.Basics.{IsPutBefore, Judged, Name, NoCommand, NoFile, NotBegun, Performed}
+use Rattle.nit_top.proofs.Basics.{PutError, PutFault, PutFiles, PutsAll, Refused, Rose, Setup, Stop}
+use Rattle.nit_top.proofs.Basics.{StoppedAt, StoreModel, Totals, Worked, append-nil, asked_also}
+use Rattle.nit_top.proofs.Basics.{asking_all, bytes_of, end_of_put, end_of_run, file_names}
+use Rattle.nit_top.proofs.Basics.{is_outside_of, line_of, name_text, names_read, next_name}
+use Rattle.nit_top.proofs.Basics.{option_map, output_name, put_state_of_run, reads, refusal_of}
+use Rattle.nit_top.proofs.Basics.{shots, unrefused}
 use Rattle.nit_store.specs.declared.store.PutError.TheVariants as put
 use Rattle.nit_top.specs.declared.report.finish.End.TheVariants as ends
 use Rattle.nit_top.specs.declared.report.finish.Name.TheVariants as file_name
@@ -8,7 +18,8 @@ use Rattle.nit_top.proofs.AskedNames.{also_none, also_more}
 use Rattle.nit_top.proofs.PutLemmas.{PutAll, PutRefused, PutSo, all_put}
 
 -- what the end of the work means, whatever the totals of the line
-pub record CameTo (c : Command) (old new : StoreModel) (journal : List Entry) (end : End) (name : List ℕ) (t : Totals) : Type 0 where
+pub record CameTo (c : Command) (old new : StoreModel) (journal : List Entry) (end : End) (name : List ℕ)
+    (t : Totals) : Type 0 where
   pub course : Course old c journal
   pub came : Came course new.files new.asked end (line_of end name t)
   pub counts : Counts old new end
@@ -16,18 +27,30 @@ pub record CameTo (c : Command) (old new : StoreModel) (journal : List Entry) (e
 
 -- ---- before a run
 
-module _ (c : Command) (old : StoreModel) (read : FilesRead) (valid : HasRead c old.files read) (name : List ℕ) (next : next_name c read ≡ Some name) (Faulty : List ℕ → Fault → Type 0) (new : StoreModel)
-    (judged : (f : Fault) → IfSome old.files (λ files. Faulty (bytes_of name files) f) → IfSome old.files (λ files. Judged c files (Refused name f))) where
+module _ (c : Command) (old : StoreModel) (read : FilesRead) (valid : HasRead c old.files read) (name : List ℕ)
+    (next : next_name c read ≡ Some name) (Faulty : List ℕ → Fault → Type 0) (new : StoreModel)
+    (judged : (f : Fault) → IfSome old.files (λ files. Faulty (bytes_of name files) f)
+    → IfSome old.files (λ files. Judged c files (Refused name f))) where
   abbrev names : List (List ℕ)
   names = names_read c read
 
   abbrev none : Course old c []
   none = NotBegun refl
 
-  last_read : new.asked ≡ asked_also (asked_also old.asked names) (name ∷ []) → new.files ≡ old.files → IsLastRead none new.files new.asked name
-  last_read asked same = record { none = tt; same = same; read = read; valid = valid; next = next; asks = asked ∙ also_more old.asked names (name ∷ []) }
+  last_read : new.asked ≡ asked_also (asked_also old.asked names) (name ∷ []) → new.files ≡ old.files
+      → IsLastRead none new.files new.asked name
+  last_read asked same = record {
+    none = tt;
+    same = same;
+    read = read;
+    valid = valid;
+    next = next;
+    asks = asked
+        ∙ also_more old.asked names (name ∷ []);
+  }
 
-  stopped : (t : Totals) (end : End) → StoppedAt Faulty (asking_all old names) name new end → CameTo c old new [] end name t
+  stopped : (t : Totals) (end : End) → StoppedAt Faulty (asking_all old names) name new end
+      → CameTo c old new [] end name t
   stopped t ends.ReadFault h = record {
     course = none;
     came = (name, last_read (ap (λ (s : StoreModel). s.asked) h.rest) (ap (λ (s : StoreModel). s.files) h.rest), refl);
@@ -36,7 +59,12 @@ module _ (c : Command) (old : StoreModel) (read : FilesRead) (valid : HasRead c 
   }
   stopped t (ends.Refused f) h = record {
     course = none;
-    came = (name, last_read (ap (λ (s : StoreModel). s.asked) h.0) (ap (λ (s : StoreModel). s.files) h.0), judged f h.1, refl);
+    came = (
+      name,
+      last_read (ap (λ (s : StoreModel). s.asked) h.0) (ap (λ (s : StoreModel). s.files) h.0),
+      judged f h.1,
+      refl,
+    );
     counts = (ap (λ (s : StoreModel). s.read_faults) h.0, ap (λ (s : StoreModel). s.write_faults) h.0);
     said = ap (λ (s : StoreModel). s.said) h.0;
   }
@@ -57,7 +85,17 @@ module _ (c : Command) (old : StoreModel) (read : FilesRead) (valid : HasRead c 
   }
   stopped t ends.NoMemory (inr e) = record {
     course = none;
-    came = (inl (record { none = tt; same = ap (λ (s : StoreModel). s.files) e; read = read; valid = valid; asks = inl (ap (λ (s : StoreModel). s.asked) e) }), refl);
+    came = (
+      inl (record {
+        none = tt;
+        same = ap (λ (s : StoreModel). s.files) e;
+        read = read;
+        valid = valid;
+        asks =
+            inl (ap (λ (s : StoreModel). s.asked) e);
+      }),
+      refl,
+    );
     counts = (ap (λ (s : StoreModel). s.read_faults) e, ap (λ (s : StoreModel). s.write_faults) e);
     said = ap (λ (s : StoreModel). s.said) e;
   }
@@ -69,13 +107,19 @@ module _ (c : Command) (old : StoreModel) (read : FilesRead) (valid : HasRead c 
   stopped t (ends.Audited n) h = absurd h
 
   -- the work of a command stopped at a file
-  pub stopped_ends : (mid : StoreModel) (stop : Stop) (w : Worked) → mid ≡ asking_all old names → name_text stop.name ≡ name → StoppedAt Faulty mid name new stop.end → w.stop ≡ stop → w.journal.items ≡ [] → Ends c old new w
+  pub stopped_ends : (mid : StoreModel) (stop : Stop) (w : Worked) → mid ≡ asking_all old names
+      → name_text stop.name ≡ name → StoppedAt Faulty mid name new stop.end → w.stop ≡ stop → w.journal.items ≡ []
+      → Ends c old new w
   stopped_ends mid stop w asked is h at none =
       let t : Totals = record { clients = w.clients; entries = length w.journal.items; frames = w.frames } in
-      let here : CameTo c old new [] stop.end name t = stopped t stop.end (subst (λ (s : StoreModel). StoppedAt Faulty s name new stop.end) asked h) in
-      let named : CameTo c old new [] stop.end (name_text stop.name) t = subst (λ (n : List ℕ). CameTo c old new [] stop.end n t) (sym is) here in
-      let so : CameTo c old new [] w.stop.end (name_text w.stop.name) t = subst (λ (s : Stop). CameTo c old new [] s.end (name_text s.name) t) (sym at) named in
-      let all : CameTo c old new w.journal.items w.stop.end (name_text w.stop.name) t = subst (λ (j : List Entry). CameTo c old new j w.stop.end (name_text w.stop.name) t) (sym none) so in
+      let here : CameTo c old new [] stop.end name t =
+      stopped t stop.end (subst (λ (s : StoreModel). StoppedAt Faulty s name new stop.end) asked h) in
+      let named : CameTo c old new [] stop.end (name_text stop.name) t =
+      subst (λ (n : List ℕ). CameTo c old new [] stop.end n t) (sym is) here in
+      let so : CameTo c old new [] w.stop.end (name_text w.stop.name) t =
+      subst (λ (s : Stop). CameTo c old new [] s.end (name_text s.name) t) (sym at) named in
+      let all : CameTo c old new w.journal.items w.stop.end (name_text w.stop.name) t =
+      subst (λ (j : List Entry). CameTo c old new j w.stop.end (name_text w.stop.name) t) (sym none) so in
       record { course = all.course; came = all.came; counts = all.counts; said = all.said }
 
 -- ---- after a run
@@ -84,8 +128,10 @@ module _ (c : Command) (old : StoreModel) (read : FilesRead) (valid : HasRead c 
 abbrev totals_of : Setup → List Entry → Totals
 totals_of s journal = record { clients = length s.config.clients; entries = length journal; frames = shots journal + 1 }
 
-module _ (c : Command) (old : StoreModel) (s : Setup) (files_are : AreAllFiles c old.files s) (journal : List Entry) (outputs : List File) (are : AreOutputs s journal outputs) (headline : Headline s journal outputs)
-    (inside : is_outside_of c s.config ≡ false) (added : List File) (added_are : AreAdded c are added) (puts : List File) (puts_are : puts ≡ outputs ++ added) (new : StoreModel) where
+module _ (c : Command) (old : StoreModel) (s : Setup) (files_are : AreAllFiles c old.files s) (journal : List Entry)
+    (outputs : List File) (are : AreOutputs s journal outputs) (headline : Headline s journal outputs)
+    (inside : is_outside_of c s.config ≡ false) (added : List File) (added_are : AreAdded c are added)
+    (puts : List File) (puts_are : puts ≡ outputs ++ added) (new : StoreModel) where
   abbrev start : StoreModel
   start = asking_all old (reads c s)
 
@@ -115,8 +161,10 @@ module _ (c : Command) (old : StoreModel) (s : Setup) (files_are : AreAllFiles c
     said = ap (λ (t : StoreModel). t.said) p.rest;
   }
 
-  module _ (name : List ℕ) (front : List File) (bytes : List ℕ) (back : List File) (parts : puts ≡ front ++ (name, bytes) ∷ back) (mid : StoreModel) (p : PutAll start front mid) (t : Totals) where
-    before : (more : List (List ℕ)) → new.files ≡ mid.files → new.asked ≡ asked_also mid.asked more → IsPutBefore run new.files new.asked name more
+  module _ (name : List ℕ) (front : List File) (bytes : List ℕ) (back : List File)
+      (parts : puts ≡ front ++ (name, bytes) ∷ back) (mid : StoreModel) (p : PutAll start front mid) (t : Totals) where
+    before : (more : List (List ℕ)) → new.files ≡ mid.files → new.asked ≡ asked_also mid.asked more
+        → IsPutBefore run new.files new.asked name more
     before more same asked = record {
       front = front;
       bytes = bytes;
@@ -124,7 +172,8 @@ module _ (c : Command) (old : StoreModel) (s : Setup) (files_are : AreAllFiles c
       parts = parts;
       put = subst (λ (f : Option (List File)). PutFiles front old.files f) (sym same) p.put;
       asks =
-          asked ∙ ap (λ (o : Option (List (List ℕ))). asked_also o more) (ap (λ (u : StoreModel). u.asked) p.rest) ∙ also_more start.asked (file_names front) more
+          asked ∙ ap (λ (o : Option (List (List ℕ))). asked_also o more) (ap (λ (u : StoreModel). u.asked) p.rest)
+          ∙ also_more start.asked (file_names front) more
           ∙ behind (file_names front ++ more);
     }
 
@@ -134,8 +183,17 @@ module _ (c : Command) (old : StoreModel) (s : Setup) (files_are : AreAllFiles c
     refused : (e : PutError) → PutRefused mid name new e → CameTo c old new journal (end_of_put e) name t
     refused put.Failed h = record {
       course = Begun run;
-      came = (name, inr (before (name ∷ []) (ap (λ (u : StoreModel). u.files) h.rest) (ap (λ (u : StoreModel). u.asked) h.rest)), refl);
-      counts = (ap (λ (u : StoreModel). u.read_faults) h.rest ∙ ap (λ (u : StoreModel). u.read_faults) p.rest, rose, later);
+      came = (
+        name,
+        inr (before (name ∷ []) (ap (λ (u : StoreModel). u.files) h.rest)
+            (ap (λ (u : StoreModel). u.asked) h.rest)),
+        refl,
+      );
+      counts = (
+        ap (λ (u : StoreModel). u.read_faults) h.rest ∙ ap (λ (u : StoreModel). u.read_faults) p.rest,
+        rose,
+        later,
+      );
       said = ap (λ (u : StoreModel). u.said) h.rest ∙ ap (λ (u : StoreModel). u.said) p.rest;
     }
       where
@@ -149,32 +207,69 @@ module _ (c : Command) (old : StoreModel) (s : Setup) (files_are : AreAllFiles c
         later = subst (λ (n : ℕ). n ≤ new.write_faults) writes h.later
     refused put.NoMemory (inl e) = record {
       course = Begun run;
-      came = (inr (inr (name, inl (before (name ∷ []) (ap (λ (u : StoreModel). u.files) e) (ap (λ (u : StoreModel). u.asked) e)))), refl);
-      counts = (ap (λ (u : StoreModel). u.read_faults) e ∙ ap (λ (u : StoreModel). u.read_faults) p.rest, ap (λ (u : StoreModel). u.write_faults) e ∙ ap (λ (u : StoreModel). u.write_faults) p.rest);
+      came = (
+        inr (inr (
+          name,
+          inl (before (name ∷ []) (ap (λ (u : StoreModel). u.files) e)
+              (ap (λ (u : StoreModel). u.asked) e)),
+        )),
+        refl,
+      );
+      counts = (
+        ap (λ (u : StoreModel). u.read_faults) e ∙ ap (λ (u : StoreModel). u.read_faults) p.rest,
+        ap (λ (u : StoreModel). u.write_faults) e ∙ ap (λ (u : StoreModel). u.write_faults) p.rest,
+      );
       said = ap (λ (u : StoreModel). u.said) e ∙ ap (λ (u : StoreModel). u.said) p.rest;
     }
     refused put.NoMemory (inr e) = record {
       course = Begun run;
-      came = (inr (inr (name, inr (before [] (ap (λ (u : StoreModel). u.files) e) (ap (λ (u : StoreModel). u.asked) e ∙ not_asked)))), refl);
-      counts = (ap (λ (u : StoreModel). u.read_faults) e ∙ ap (λ (u : StoreModel). u.read_faults) p.rest, ap (λ (u : StoreModel). u.write_faults) e ∙ ap (λ (u : StoreModel). u.write_faults) p.rest);
+      came = (
+        inr (inr (
+          name,
+          inr (before [] (ap (λ (u : StoreModel). u.files) e) (ap (λ (u : StoreModel). u.asked) e
+              ∙ not_asked)),
+        )),
+        refl,
+      );
+      counts = (
+        ap (λ (u : StoreModel). u.read_faults) e ∙ ap (λ (u : StoreModel). u.read_faults) p.rest,
+        ap (λ (u : StoreModel). u.write_faults) e ∙ ap (λ (u : StoreModel). u.write_faults) p.rest,
+      );
       said = ap (λ (u : StoreModel). u.said) e ∙ ap (λ (u : StoreModel). u.said) p.rest;
     }
 
   -- a line without a name is the same for each name
-  whole_line : (name : List ℕ) (t : Totals) → t ≡ totals_of s journal → CameTo c old new journal ends.Whole [] (totals_of s journal) → CameTo c old new journal ends.Whole name t
-  whole_line name t is h = subst (λ (u : Totals). CameTo c old new journal ends.Whole name u) (sym is) (record { course = h.course; came = h.came; counts = h.counts; said = h.said })
+  whole_line : (name : List ℕ) (t : Totals) → t ≡ totals_of s journal
+      → CameTo c old new journal ends.Whole [] (totals_of s journal) → CameTo c old new journal ends.Whole name t
+  whole_line name t is h = subst (λ (u : Totals). CameTo c old new journal ends.Whole name u) (sym is)
+      (record { course = h.course; came = h.came; counts = h.counts; said = h.said })
 
   -- the run went to its end
-  puts_end : (fault : Option PutFault) (name : Name) (t : Totals) → t ≡ totals_of s journal → IfSome fault (λ f. name ≡ file_name.Put f.file) → PutSo start puts new (option_map refusal_of fault) → CameTo c old new journal (end_of_run fault) (name_text name) t
+  puts_end : (fault : Option PutFault) (name : Name) (t : Totals) → t ≡ totals_of s journal
+      → IfSome fault (λ f. name ≡ file_name.Put f.file) → PutSo start puts new (option_map refusal_of fault)
+      → CameTo c old new journal (end_of_run fault) (name_text name) t
   puts_end None name t is named p = whole_line (name_text name) t is (all_put_too p)
   puts_end (Some f) name t is named p =
-      subst (λ (n : Name). CameTo c old new journal (end_of_put f.error) (name_text n) t) (sym named) (refused (output_name f.file) p.front p.bytes p.back p.parts p.mid p.put t f.error p.refused)
+      subst (λ (n : Name). CameTo c old new journal (end_of_put f.error) (name_text n) t) (sym named)
+      (refused (output_name f.file) p.front p.bytes p.back p.parts p.mid p.put t f.error p.refused)
 
 -- memory ran out before the first round
-unbegun : (c : Command) (old : StoreModel) (s : Setup) → AreAllFiles c old.files s → (new : StoreModel) (name : List ℕ) (t : Totals) → new ≡ asking_all old (reads c s) → CameTo c old new [] ends.NoMemory name t
+unbegun : (c : Command) (old : StoreModel) (s : Setup) → AreAllFiles c old.files s
+    → (new : StoreModel) (name : List ℕ) (t : Totals) → new ≡ asking_all old (reads c s)
+    → CameTo c old new [] ends.NoMemory name t
 unbegun c old s files_are new name t e = record {
   course = NotBegun refl;
-  came = (inl (record { none = tt; same = ap (λ (s : StoreModel). s.files) e; read = AllFiles s; valid = files_are; asks = inl (ap (λ (s : StoreModel). s.asked) e) }), refl);
+  came = (
+    inl (record {
+      none = tt;
+      same = ap (λ (s : StoreModel). s.files) e;
+      read = AllFiles s;
+      valid =
+          files_are;
+      asks = inl (ap (λ (s : StoreModel). s.asked) e);
+    }),
+    refl,
+  );
   counts = (ap (λ (s : StoreModel). s.read_faults) e, ap (λ (s : StoreModel). s.write_faults) e);
   said = ap (λ (s : StoreModel). s.said) e;
 }
@@ -182,10 +277,13 @@ unbegun c old s files_are new name t e = record {
 abbrev pub totals_on : Worked → Totals
 totals_on w = record { clients = w.clients; entries = length w.journal.items; frames = w.frames }
 
-pub ends_by : (c : Command) (old new : StoreModel) (w : Worked) → CameTo c old new w.journal.items w.stop.end (name_text w.stop.name) (totals_on w) → Ends c old new w
+pub ends_by : (c : Command) (old new : StoreModel) (w : Worked)
+    → CameTo c old new w.journal.items w.stop.end (name_text w.stop.name) (totals_on w) → Ends c old new w
 ends_by c old new w h = record { course = h.course; came = h.came; counts = h.counts; said = h.said }
 
-same_totals : (s : Setup) (w : Worked) (journal : List Entry) → length s.scripts ≡ length s.config.clients → w.clients ≡ length s.scripts → w.journal.items ≡ journal → w.frames ≡ shots journal + 1 → totals_on w ≡ totals_of s journal
+same_totals : (s : Setup) (w : Worked) (journal : List Entry) → length s.scripts ≡ length s.config.clients
+    → w.clients ≡ length s.scripts → w.journal.items ≡ journal → w.frames ≡ shots journal + 1
+    → totals_on w ≡ totals_of s journal
 same_totals s w journal counted clients is frames =
     let a : w.clients ≡ length s.config.clients = clients ∙ counted in
     let b : length w.journal.items ≡ length journal = ap (λ (j : List Entry). length j) is in
@@ -211,42 +309,69 @@ pub record IsRunOf (c : Command) (mid : StoreModel) (s : Setup) (new : StoreMode
   pub frames_are : w.frames ≡ shots journal + 1
 
 -- the work of a command whose files are read and valid, and whose run went to its end
-pub run_ends : (c : Command) (old mid new : StoreModel) (s : Setup) (w : Worked) → mid ≡ asking_all old (reads c s) → AreAllFiles c old.files s → IsRunOf c mid s new w → Ends c old new w
+pub run_ends : (c : Command) (old mid new : StoreModel) (s : Setup) (w : Worked) → mid ≡ asking_all old (reads c s)
+    → AreAllFiles c old.files s → IsRunOf c mid s new w → Ends c old new w
 run_ends c old mid new s w asked files_are r =
     let j = r.journal in
     let start = asking_all old (reads c s) in
-    let puts : PutSo start r.puts new (option_map refusal_of r.fault) = all_put start r.puts (put_state_of_run new r.fault) (subst (λ (m : StoreModel). PutsAll r.puts (unrefused m) (put_state_of_run new r.fault)) asked r.put) in
+    let puts : PutSo start r.puts new (option_map refusal_of r.fault) =
+    all_put start r.puts (put_state_of_run new r.fault)
+    (subst (λ (m : StoreModel). PutsAll r.puts (unrefused m) (put_state_of_run new r.fault)) asked r.put) in
     let totals = same_totals s w j files_are.runnable.scripts r.clients_are r.journal_is r.frames_are in
     let here : CameTo c old new j (end_of_run r.fault) (name_text w.stop.name) (totals_on w) =
-    puts_end c old s files_are j r.outputs r.are r.headline r.inside r.added r.added_are r.puts r.puts_are new r.fault w.stop.name (totals_on w) totals r.name_is puts in
-    let so : CameTo c old new j w.stop.end (name_text w.stop.name) (totals_on w) = subst (λ (e : End). CameTo c old new j e (name_text w.stop.name) (totals_on w)) (sym r.end_is) here in
-    ends_by c old new w (subst (λ (k : List Entry). CameTo c old new k w.stop.end (name_text w.stop.name) (totals_on w)) (sym r.journal_is) so)
+    puts_end c old s files_are j r.outputs r.are r.headline r.inside r.added r.added_are r.puts r.puts_are new r.fault
+    w.stop.name (totals_on w) totals r.name_is puts in
+    let so : CameTo c old new j w.stop.end (name_text w.stop.name) (totals_on w) =
+    subst (λ (e : End). CameTo c old new j e (name_text w.stop.name) (totals_on w)) (sym r.end_is) here in
+    ends_by c old new w (subst (λ (k : List Entry). CameTo c old new k w.stop.end (name_text w.stop.name) (totals_on w))
+    (sym r.journal_is) so)
 
 -- the work of a command whose files are read and valid, where memory ran out before the run
-pub unbegun_ends : (c : Command) (old mid new : StoreModel) (s : Setup) (w : Worked) → mid ≡ asking_all old (reads c s) → AreAllFiles c old.files s → w.stop.end ≡ ends.NoMemory → new ≡ mid → w.journal.items ≡ [] → Ends c old new w
+pub unbegun_ends : (c : Command) (old mid new : StoreModel) (s : Setup) (w : Worked) → mid ≡ asking_all old (reads c s)
+    → AreAllFiles c old.files s → w.stop.end ≡ ends.NoMemory → new ≡ mid → w.journal.items ≡ [] → Ends c old new w
 unbegun_ends c old mid new s w asked files_are end same none =
-    let here : CameTo c old new [] ends.NoMemory (name_text w.stop.name) (totals_on w) = unbegun c old s files_are new (name_text w.stop.name) (totals_on w) (same ∙ asked) in
-    let so : CameTo c old new [] w.stop.end (name_text w.stop.name) (totals_on w) = subst (λ (e : End). CameTo c old new [] e (name_text w.stop.name) (totals_on w)) (sym end) here in
-    ends_by c old new w (subst (λ (k : List Entry). CameTo c old new k w.stop.end (name_text w.stop.name) (totals_on w)) (sym none) so)
+    let here : CameTo c old new [] ends.NoMemory (name_text w.stop.name) (totals_on w) =
+    unbegun c old s files_are new (name_text w.stop.name) (totals_on w) (same ∙ asked) in
+    let so : CameTo c old new [] w.stop.end (name_text w.stop.name) (totals_on w) =
+    subst (λ (e : End). CameTo c old new [] e (name_text w.stop.name) (totals_on w)) (sym end) here in
+    ends_by c old new w (subst (λ (k : List Entry). CameTo c old new k w.stop.end (name_text w.stop.name) (totals_on w))
+    (sym none) so)
 
 -- the region that is to be filmed does not lie on the screen
-pub outside_ends : (c : Command) (old new : StoreModel) (s : Setup) (w : Worked) → new ≡ asking_all old (reads c s) → AreAllFiles c old.files s → is_outside_of c s.config ≡ true → w.stop.end ≡ ends.Outside → w.journal.items ≡ [] → Ends c old new w
+pub outside_ends : (c : Command) (old new : StoreModel) (s : Setup) (w : Worked) → new ≡ asking_all old (reads c s)
+    → AreAllFiles c old.files s → is_outside_of c s.config ≡ true → w.stop.end ≡ ends.Outside → w.journal.items ≡ []
+    → Ends c old new w
 outside_ends c old new s w asked files_are outside end none =
     let here : CameTo c old new [] ends.Outside (name_text w.stop.name) (totals_on w) = record {
       course = NotBegun refl;
-      came = (record { none = tt; same = ap (λ (s : StoreModel). s.files) asked; setup = s; valid = files_are; outside = outside; asks = ap (λ (s : StoreModel). s.asked) asked }, refl);
+      came = (
+        record {
+          none = tt;
+          same = ap (λ (s : StoreModel). s.files) asked;
+          setup = s;
+          valid = files_are;
+          outside =
+              outside;
+          asks = ap (λ (s : StoreModel). s.asked) asked;
+        },
+        refl,
+      );
       counts = (ap (λ (s : StoreModel). s.read_faults) asked, ap (λ (s : StoreModel). s.write_faults) asked);
       said = ap (λ (s : StoreModel). s.said) asked;
     } in
-    let so : CameTo c old new [] w.stop.end (name_text w.stop.name) (totals_on w) = subst (λ (e : End). CameTo c old new [] e (name_text w.stop.name) (totals_on w)) (sym end) here in
-    ends_by c old new w (subst (λ (k : List Entry). CameTo c old new k w.stop.end (name_text w.stop.name) (totals_on w)) (sym none) so)
+    let so : CameTo c old new [] w.stop.end (name_text w.stop.name) (totals_on w) =
+    subst (λ (e : End). CameTo c old new [] e (name_text w.stop.name) (totals_on w)) (sym end) here in
+    ends_by c old new w (subst (λ (k : List Entry). CameTo c old new k w.stop.end (name_text w.stop.name) (totals_on w))
+    (sym none) so)
 
 -- the command films nothing: it adds no file, and no region lies outside
 abbrev pub FilmsNothing : Command → Type 0
-FilmsNothing c = ((s : Setup) (journal : List Entry) (files : List File) (are : AreOutputs s journal files) → AreAdded c are []) × ((config : Configuration) → is_outside_of c config ≡ false)
+FilmsNothing c = ((s : Setup) (journal : List Entry) (files : List File) (are : AreOutputs s journal files)
+    → AreAdded c are []) × ((config : Configuration) → is_outside_of c config ≡ false)
 
 -- the work of a command whose files are read and valid, and which films nothing
-pub performed_ends : (c : Command) (old mid new : StoreModel) (s : Setup) (w : Worked) → FilmsNothing c → mid ≡ asking_all old (reads c s) → AreAllFiles c old.files s → Performed mid s new w → Ends c old new w
+pub performed_ends : (c : Command) (old mid new : StoreModel) (s : Setup) (w : Worked) → FilmsNothing c
+    → mid ≡ asking_all old (reads c s) → AreAllFiles c old.files s → Performed mid s new w → Ends c old new w
 performed_ends c old mid new s w nothing asked files_are (inl after) =
     let r = after.has_run in
     run_ends c old mid new s w asked files_are (record {
@@ -267,16 +392,24 @@ performed_ends c old mid new s w nothing asked files_are (inl after) =
       clients_are = after.clients_are;
       frames_are = after.frames_are ∙ r.frames;
     })
-performed_ends c old mid new s w nothing asked files_are (inr (end, same, none)) = unbegun_ends c old mid new s w asked files_are end same none
+performed_ends c old mid new s w nothing asked files_are (inr (end, same, none)) =
+    unbegun_ends c old mid new s w asked files_are end same none
 
 -- the words are no command
-pub usage_ends : (old : StoreModel) (w : Worked) → w.stop.end ≡ ends.Usage → w.journal.items ≡ [] → Ends NoCommand old old w
+pub usage_ends : (old : StoreModel) (w : Worked) → w.stop.end ≡ ends.Usage → w.journal.items ≡ []
+    → Ends NoCommand old old w
 usage_ends old w end none =
     let here : CameTo NoCommand old old [] ends.Usage (name_text w.stop.name) (totals_on w) = record {
       course = NotBegun refl;
-      came = (refl, record { none = tt; same = refl; read = NoFile; valid = tt; asks = inl (also_none old.asked) }, refl);
+      came = (
+        refl,
+        record { none = tt; same = refl; read = NoFile; valid = tt; asks = inl (also_none old.asked) },
+        refl,
+      );
       counts = (refl, refl);
       said = refl;
     } in
-    let so : CameTo NoCommand old old [] w.stop.end (name_text w.stop.name) (totals_on w) = subst (λ (e : End). CameTo NoCommand old old [] e (name_text w.stop.name) (totals_on w)) (sym end) here in
-    ends_by NoCommand old old w (subst (λ (k : List Entry). CameTo NoCommand old old k w.stop.end (name_text w.stop.name) (totals_on w)) (sym none) so)
+    let so : CameTo NoCommand old old [] w.stop.end (name_text w.stop.name) (totals_on w) =
+    subst (λ (e : End). CameTo NoCommand old old [] e (name_text w.stop.name) (totals_on w)) (sym end) here in
+    ends_by NoCommand old old w (subst
+    (λ (k : List Entry). CameTo NoCommand old old k w.stop.end (name_text w.stop.name) (totals_on w)) (sym none) so)

@@ -9,7 +9,8 @@ use Rattle.nit_top.specs.RunClips.{IsClipFile}
 use Rattle.nit_top.specs.RunInner.{IsInnerJournal}
 
 -- The files that a command adds behind those of its run: for `clip` the text of its clip list, for
--- `capture` the film of the run's pictures, for `nested` the journal of the inner run; and else none.
+-- `capture` the film of the run's pictures, for `nested` the journal of the inner run; and else
+-- none.
 abbrev pub AreAdded : Command → {s : Setup} → {journal : List Entry} → {files : List File}
     → AreOutputs s journal files → List File → Type 0
 AreAdded (Clip configuration) {s = s} {journal = journal} are added =

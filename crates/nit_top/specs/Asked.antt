@@ -2,7 +2,8 @@
 use Rattle.std.specs.Prelude.{◌<◌, ◌≤◌, true, false}
 use Rattle.nit_top.specs.Below.{Asked, most_height, most_width}
 use Rattle.nit_top.specs.declared.command.words.Asked.TheVariants as asked
-use Rattle.nit_top.specs.Command.{Command, Still, Run, Gen, Audit, Clip, Capture, Nested, number_end}
+use Rattle.nit_top.specs.Command.{Command, Still, Run, Gen, Audit, Clip, Capture, Nested}
+use Rattle.nit_top.specs.Command.{number_end}
 use Rattle.nit_top.specs.Region.{IsRegionWords}
 
 -- the command that is asked for

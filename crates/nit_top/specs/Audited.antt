@@ -1,6 +1,8 @@
 -- A journal that was audited, and found to be one of a run.
 use Rattle.std.specs.Prelude.{◌≡◌, ℕ, ◌<◌, List, length, map, Option, IfSome}
-use Rattle.nit_top.specs.Below.{End, Entry, File, IsLegal, IsWhole, StoreModel, alone, bytes_of, calls_to_make, donation_of, projection, replies_to, user_actions_to_do}
+use Rattle.nit_top.specs.Below.{End, Entry, File, IsLegal, IsWhole, StoreModel, alone, bytes_of}
+use Rattle.nit_top.specs.Below.{calls_to_make, donation_of, projection, replies_to}
+use Rattle.nit_top.specs.Below.{user_actions_to_do}
 use Rattle.nit_audit.specs.declared.auditing.Verdict.TheVariants as verdict
 use Rattle.nit_top.specs.declared.report.finish.End.TheVariants as end
 use Rattle.nit_top.specs.declared.report.finish.Fault.TheVariants as fault

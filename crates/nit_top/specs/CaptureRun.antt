@@ -1,6 +1,8 @@
 -- What a run leaves that is filmed.
-use Rattle.std.specs.Prelude.{◌≡◌, ◌⊎◌, ℕ, ◌+◌, List, [], ◌∷◌, ◌++◌, length, Option, Result, Ok, Err, IfSome}
-use Rattle.nit_top.specs.Below.{CaptureModel, Configuration, Entry, File, NoMemory, PutsAll, Region, StoreModel, first_capture, shots, unrefused}
+use Rattle.std.specs.Prelude.{◌≡◌, ◌⊎◌, ℕ, ◌+◌, List, [], ◌∷◌, ◌++◌, length, Option, Result, Ok}
+use Rattle.std.specs.Prelude.{Err, IfSome}
+use Rattle.nit_top.specs.Below.{CaptureModel, Configuration, Entry, File, NoMemory, PutsAll, Region}
+use Rattle.nit_top.specs.Below.{StoreModel, first_capture, shots, unrefused}
 use Rattle.nit_top.specs.Region.{rectangle_of}
 use Rattle.nit_top.specs.declared.report.finish.End.TheVariants as end
 use Rattle.nit_top.specs.declared.report.finish.Name.TheVariants as name

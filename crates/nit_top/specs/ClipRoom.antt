@@ -1,6 +1,9 @@
 -- A run in a room with clip scripts: what it begins with, and its clip list at its end.
-use Rattle.std.specs.Prelude.{◌≡◌, ℕ, ◌≤◌, true, List, [], All, length, map, Result, IfOk, Vec, vec_capacity}
-use Rattle.nit_top.specs.Below.{ClipEntry, ClipLine, Configuration, Entry, Global, InputLine, IsPairIn, Line, NoMemory, OpeningParts, Pair, Paired, RoomModel, UserPassModel, clip_text}
+use Rattle.std.specs.Prelude.{◌≡◌, ℕ, ◌≤◌, true, List, [], All, length, map, Result, IfOk, Vec}
+use Rattle.std.specs.Prelude.{vec_capacity}
+use Rattle.nit_top.specs.Below.{ClipEntry, ClipLine, Configuration, Entry, Global, InputLine}
+use Rattle.nit_top.specs.Below.{IsPairIn, Line, NoMemory, OpeningParts, Pair, Paired, RoomModel}
+use Rattle.nit_top.specs.Below.{UserPassModel, clip_text}
 use Rattle.nit_top.specs.Setup.{Setup}
 use Rattle.nit_top.specs.RunClips.{IsClipList}
 use Rattle.nit_top.specs.RoomRun.{IsReady}

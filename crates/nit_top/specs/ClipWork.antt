@@ -1,6 +1,8 @@
 -- What the parts of the work of a run with clip scripts leave.
-use Rattle.std.specs.Prelude.{◌≡◌, ◌⊎◌, ℕ, ◌+◌, List, [], ◌∷◌, ◌++◌, length, map, Option, None, Result, Ok, Err, IfSome, Vec}
-use Rattle.nit_top.specs.Below.{AllByRecursion, ClipLine, Configuration, Entry, File, Global, NoMemory, PutsAll, Scripts, StoreModel, shots, unrefused}
+use Rattle.std.specs.Prelude.{◌≡◌, ◌⊎◌, ℕ, ◌+◌, List, [], ◌∷◌, ◌++◌, length, map, Option, None}
+use Rattle.std.specs.Prelude.{Result, Ok, Err, IfSome, Vec}
+use Rattle.nit_top.specs.Below.{AllByRecursion, ClipLine, Configuration, Entry, File, Global}
+use Rattle.nit_top.specs.Below.{NoMemory, PutsAll, Scripts, StoreModel, shots, unrefused}
 use Rattle.nit_top.specs.declared.report.finish.Name.TheVariants as name
 use Rattle.nit_top.specs.declared.report.finish.Worked.{Worked}
 use Rattle.nit_top.specs.declared.report.ran.PutFault.{PutFault}

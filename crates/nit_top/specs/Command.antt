@@ -1,6 +1,8 @@
 -- What the words of the command line ask for.
-use Rattle.std.specs.Prelude.{ℕ, ◌^◌, Bool, true, false, List, [], ◌∷◌, map, find, codes, Option, Some, None, String, if◌then◌else◌}
-use Rattle.nit_top.specs.Below.{Region, bytes_eq, decimal, most_height, most_width, range_with_len, string_bytes}
+use Rattle.std.specs.Prelude.{ℕ, ◌^◌, Bool, true, false, List, [], ◌∷◌, map, find, codes, Option}
+use Rattle.std.specs.Prelude.{Some, None, String, if◌then◌else◌}
+use Rattle.nit_top.specs.Below.{Region, bytes_eq, decimal, most_height, most_width, range_with_len}
+use Rattle.nit_top.specs.Below.{string_bytes}
 
 -- the words as lists of bytes
 abbrev pub texts : {Z : Type 0} → List (String Z) → List (List ℕ)

@@ -1,10 +1,12 @@
 -- How far a command came: the files that it read, the run, and the files that were put.
-use Rattle.std.specs.Prelude.{◌≡◌, ◌⊎◌, ℕ, ◌+◌, true, false, List, [], ◌∷◌, ◌++◌, length, map, Option, Some, None, option_map}
+use Rattle.std.specs.Prelude.{◌≡◌, ◌⊎◌, ℕ, ◌+◌, true, false, List, [], ◌∷◌, ◌++◌, length, map}
+use Rattle.std.specs.Prelude.{Option, Some, None, option_map}
 use Rattle.nit_top.specs.Below.{Entry, File, IsPut, StoreModel, shots}
 use Rattle.nit_top.specs.Command.{Command, Gen}
 use Rattle.nit_top.specs.Setup.{RunFiles, Setup, generated_files}
 use Rattle.nit_top.specs.Judgement.{reads}
-use Rattle.nit_top.specs.FilesRead.{FilesRead, BothFiles, HasRead, AreAllFiles, names_read, next_name}
+use Rattle.nit_top.specs.FilesRead.{FilesRead, BothFiles, HasRead, AreAllFiles, names_read}
+use Rattle.nit_top.specs.FilesRead.{next_name}
 use Rattle.nit_top.specs.Outputs.{AreOutputs}
 use Rattle.nit_top.specs.RunFilm.{is_outside_of}
 use Rattle.nit_top.specs.AddedFiles.{AreAdded}

@@ -1,10 +1,15 @@
 -- How far a command has read its files.
-use Rattle.std.specs.Prelude.{◌≡◌, ℕ, ◌≤◌, true, List, [], ◌∷◌, ◌++◌, length, take, slice_get, Option, Some, None, IfSome}
-use Rattle.nit_top.specs.Below.{AllByRecursion, Configuration, File, FitsInputLine, FitsLine, IsConfiguration, Line, bytes_of, clip_phases, input_phases}
+use Rattle.std.specs.Prelude.{◌≡◌, ℕ, ◌≤◌, true, List, [], ◌∷◌, ◌++◌, length, take, slice_get}
+use Rattle.std.specs.Prelude.{Option, Some, None, IfSome}
+use Rattle.nit_top.specs.Below.{AllByRecursion, Configuration, File, FitsInputLine, FitsLine}
+use Rattle.nit_top.specs.Below.{IsConfiguration, Line, bytes_of, clip_phases, input_phases}
 use Rattle.nit_top.specs.Command.{Command, Still, Run, Gen, Audit, Clip, Capture, Nested, NoCommand}
-use Rattle.nit_top.specs.Setup.{RunFiles, Setup, AreLines, HaveSamePhases, IsRunnable, by_turns, generated_setup, still_setup}
+use Rattle.nit_top.specs.Setup.{RunFiles, Setup, AreLines, HaveSamePhases, IsRunnable, by_turns}
+use Rattle.nit_top.specs.Setup.{generated_setup, still_setup}
 use Rattle.nit_top.specs.InnerFrames.{FirstShows, nest_of, nested_setup}
-use Rattle.nit_top.specs.Judgement.{IsConfig, AreClipScripts, AreOuterFiles, AreOuterScripts, AreScripts, AreSetup, IsValid, MayShowFrames, clip_names, misfit, names_in, reads, script_names, wanted_by}
+use Rattle.nit_top.specs.Judgement.{IsConfig, AreClipScripts, AreOuterFiles, AreOuterScripts}
+use Rattle.nit_top.specs.Judgement.{AreScripts, AreSetup, IsValid, MayShowFrames, clip_names}
+use Rattle.nit_top.specs.Judgement.{misfit, names_in, reads, script_names, wanted_by}
 
 -- The files that a command has read, each of which is valid: none; its configuration, and the
 -- scripts of the first clients; the configuration and all scripts, which make this setup, where
@@ -93,7 +98,8 @@ pub record AreFirstFiles (configuration : List ℕ) (told : Option (List File))
   pub valid : IfSome told (λ files. IsConfig (bytes_of configuration files) config
       × AreScripts files (first_names config scripts) scripts)
 
--- Each script is within the grammar, and the first holds no line that may not stand there. Where the
+-- Each script is within the grammar, and the first holds no line that may not stand there. Where
+-- the
 -- store tells its files, these are the outer configuration and the first scripts that it names.
 pub record AreFirstOuterFiles (outer : List ℕ) (told : Option (List File))
     (config : Configuration) (scripts : List (List Line)) : Type 0 where
@@ -131,7 +137,8 @@ pub record IsNested (inner : List ℕ) (s : Setup) : Type 0 where
 
 -- for `still` the setup is that of a picture of this size, whatever the script; for `turns` and
 -- `run` it has texts, makes no file, and its clients are beside each other for `run` alone; for
--- `gen` it is that of the number; for `clip` it is as for `run`, with a clip script for each client;
+-- `gen` it is that of the number; for `clip` it is as for `run`, with a clip script for each
+-- client;
 -- for `capture` it is as for `run`; for `nested` it is that in which the first client shows frames;
 -- and `audit` runs none
 abbrev pub IsSetupOf : Command → Setup → Type 0

@@ -1,6 +1,8 @@
 -- A film that is made of the pictures that a store is given.
-use Rattle.std.specs.Prelude.{◌≡◌, ℕ, Bool, true, List, [], ◌∷◌, ◌++◌, map, Option, Some, if◌then◌else◌}
-use Rattle.nit_top.specs.Below.{CaptureModel, File, bytes_of, cropped_bytes, film_header, final_name, range_with_len, records, shot_name}
+use Rattle.std.specs.Prelude.{◌≡◌, ℕ, Bool, true, List, [], ◌∷◌, ◌++◌, map, Option, Some}
+use Rattle.std.specs.Prelude.{if◌then◌else◌}
+use Rattle.nit_top.specs.Below.{CaptureModel, File, bytes_of, cropped_bytes, film_header}
+use Rattle.nit_top.specs.Below.{final_name, range_with_len, records, shot_name}
 
 -- the names of the pictures of so many shots, and of the last picture, if that was taken
 abbrev pub picture_names : ℕ → Bool → List (List ℕ)

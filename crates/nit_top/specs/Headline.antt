@@ -1,13 +1,25 @@
 -- The headline: what a run promises of its journal and of its pictures.
-use Rattle.std.specs.Prelude.{◌≡◌, ◌≢◌, ◌⊎◌, ℕ, ◌+◌, ◌<◌, Bool, true, false, List, [], ◌∷◌, ◌++◌, length, slice_index, All, Contains, Option, Some, None, option_map, if◌then◌else◌}
-use Rattle.nit_top.specs.Below.{Call, Close, Configuration, Delivery, Device, Entry, Event, File, Flat, Gets, IsDown, IsLive, IsNear, Kill, KillsPointed, Line, Observation, ReadsJournal, Reply, Routed, State, TellsFocus, TellsLeave, Xray, alone, alone_machine, calls_of, calls_to_make, deliveries_of, donation_of, done, drawn_by_shot, events_text, final_name, flat_map, is_accepted, is_button, is_held, is_key, is_mode_key, journal_text, member, own_machine, owner_of, picture, pixel, pixel_count, point, projection, replay, replies_to, scenery_of, script_in, serve, shot_name, shots, shown, taken, to, under_pointer}
+use Rattle.std.specs.Prelude.{◌≡◌, ◌≢◌, ◌⊎◌, ℕ, ◌+◌, ◌<◌, Bool, true, false, List, [], ◌∷◌, ◌++◌}
+use Rattle.std.specs.Prelude.{length, slice_index, All, Contains, Option, Some, None, option_map}
+use Rattle.std.specs.Prelude.{if◌then◌else◌}
+use Rattle.nit_top.specs.Below.{Call, Close, Configuration, Delivery, Device, Entry, Event, File}
+use Rattle.nit_top.specs.Below.{Flat, Gets, IsDown, IsLive, IsNear, Kill, KillsPointed, Line}
+use Rattle.nit_top.specs.Below.{Observation, ReadsJournal, Reply, Routed, State, TellsFocus}
+use Rattle.nit_top.specs.Below.{TellsLeave, Xray, alone, alone_machine, calls_of, calls_to_make}
+use Rattle.nit_top.specs.Below.{deliveries_of, donation_of, done, drawn_by_shot, events_text}
+use Rattle.nit_top.specs.Below.{final_name, flat_map, is_accepted, is_button, is_held, is_key}
+use Rattle.nit_top.specs.Below.{is_mode_key, journal_text, member, own_machine, owner_of, picture}
+use Rattle.nit_top.specs.Below.{pixel, pixel_count, point, projection, replay, replies_to}
+use Rattle.nit_top.specs.Below.{scenery_of, script_in, serve, shot_name, shots, shown, taken, to}
+use Rattle.nit_top.specs.Below.{under_pointer}
 use Rattle.nit_events.specs.declared.call.Reply.TheVariants as reply
 use Rattle.nit_events.specs.declared.device.Device.TheVariants as device
 use Rattle.nit_events.specs.declared.entry.Entry.TheVariants as entry
 use Rattle.nit_events.specs.declared.event.Event.TheVariants as event
 use Rattle.nit_events.specs.declared.event.Item.TheVariants as item
 use Rattle.nit_top.specs.Setup.{Setup}
-use Rattle.nit_top.specs.Outputs.{AreOutputs, IsJournal, ending_of, events_name, journal_file, raw_word, tables_left}
+use Rattle.nit_top.specs.Outputs.{AreOutputs, IsJournal, ending_of, events_name, journal_file}
+use Rattle.nit_top.specs.Outputs.{raw_word, tables_left}
 
 -- ---- each client
 

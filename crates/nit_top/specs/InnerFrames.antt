@@ -1,7 +1,9 @@
--- A server within a client: what a run by turns shows, as frames, and the setup of a run whose first
+-- A server within a client: what a run by turns shows, as frames, and the setup of a run whose
+-- first
 -- client's script shows these frames.
 use Rattle.std.specs.Prelude.{ℕ, true, List, [], ◌∷◌, ◌++◌, map, Some}
-use Rattle.nit_top.specs.Below.{CanPay, Line, NestModel, ShowsFrames, drawn, frame_of, nest_script, rounds, shot_frames_of}
+use Rattle.nit_top.specs.Below.{CanPay, Line, NestModel, ShowsFrames, drawn, frame_of, nest_script}
+use Rattle.nit_top.specs.Below.{rounds, shot_frames_of}
 use Rattle.nit_top.specs.Setup.{RunFiles, Setup}
 use Rattle.nit_top.specs.Outputs.{raw_word, tables_left}
 

@@ -1,6 +1,8 @@
 -- What an inner run leaves: frames in a nest, the script that shows them, and the journal.
-use Rattle.std.specs.Prelude.{◌≡◌, ◌⊎◌, ℕ, ◌++◌, ◌∷◌, [], false, true, List, Option, Some, None, Result, Ok, Err}
-use Rattle.nit_top.specs.Below.{Configuration, End, Inner, InputLine, Line, NestError, NestModel, TooLong, frame_answer, nest_script}
+use Rattle.std.specs.Prelude.{◌≡◌, ◌⊎◌, ℕ, ◌++◌, ◌∷◌, [], false, true, List, Option, Some, None}
+use Rattle.std.specs.Prelude.{Result, Ok, Err}
+use Rattle.nit_top.specs.Below.{Configuration, End, Inner, InputLine, Line, NestError, NestModel}
+use Rattle.nit_top.specs.Below.{TooLong, frame_answer, nest_script}
 use Rattle.nit_nested.specs.declared.error.NestError.TheVariants.{NoMemory}
 use Rattle.nit_top.specs.declared.report.finish.End.TheVariants as end
 use Rattle.nit_top.specs.declared.report.finish.Fault.TheVariants as fault

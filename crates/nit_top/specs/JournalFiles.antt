@@ -1,6 +1,7 @@
 -- What the bytes of a journal's file make of an audit.
 use Rattle.std.specs.Prelude.{ℕ, ◌^◌, ◌<◌, ◌≤◌, List, length}
-use Rattle.nit_top.specs.Below.{Entry, Fault, IsFirstBadEntry, IsGood, IsVerdict, ReadsJournal, Verdict}
+use Rattle.nit_top.specs.Below.{Entry, Fault, IsFirstBadEntry, IsGood, IsVerdict, ReadsJournal}
+use Rattle.nit_top.specs.Below.{Verdict}
 use Rattle.nit_audit.specs.declared.auditing.Verdict.TheVariants as verdict
 use Rattle.nit_top.specs.declared.report.finish.Fault.TheVariants as fault
 use Rattle.nit_top.specs.Setup.{Setup}

@@ -1,13 +1,21 @@
 -- What the files make of the command that names them. They are judged one by one, in the order in
 -- which they are read.
-use Rattle.std.specs.Prelude.{◌≡◌, ◌⊎◌, ℕ, ◌+◌, ◌<◌, ◌≤◌, ◌==◌, nat_lt, Bool, true, false, List, [], ◌∷◌, ◌++◌, length, map, codes, Option, Some, None, option_map, if◌then◌else◌}
-use Rattle.nit_top.specs.Below.{AllZip, ClipLine, Configuration, Fault, File, FitsClipLine, FitsInputLine, FitsLine, InputLine, IsConfigurationOf, IsFirstBad, IsTooLong, Line, NestModel, Reads, bytes_of, clip_line_spelling, count_lines, first_forbidden, input_phases, input_spelling, is_clip_phase, is_input_phase, is_phase, line_spelling, lines_of_frames, most_lines, phases, phases_by}
+use Rattle.std.specs.Prelude.{◌≡◌, ◌⊎◌, ℕ, ◌+◌, ◌<◌, ◌≤◌, ◌==◌, nat_lt, Bool, true, false, List, []}
+use Rattle.std.specs.Prelude.{◌∷◌, ◌++◌, length, map, codes, Option, Some, None, option_map}
+use Rattle.std.specs.Prelude.{if◌then◌else◌}
+use Rattle.nit_top.specs.Below.{AllZip, ClipLine, Configuration, Fault, File, FitsClipLine}
+use Rattle.nit_top.specs.Below.{FitsInputLine, FitsLine, InputLine, IsConfigurationOf, IsFirstBad}
+use Rattle.nit_top.specs.Below.{IsTooLong, Line, NestModel, Reads, bytes_of, clip_line_spelling}
+use Rattle.nit_top.specs.Below.{count_lines, first_forbidden, input_phases, input_spelling}
+use Rattle.nit_top.specs.Below.{is_clip_phase, is_input_phase, is_phase, line_spelling}
+use Rattle.nit_top.specs.Below.{lines_of_frames, most_lines, phases, phases_by}
 use Rattle.nit_config.specs.ConfigurationText.{MeetsRefusal as IsRefusedConfig}
 use Rattle.nit_top.specs.declared.report.finish.Fault.TheVariants as fault
 use Rattle.nit_top.specs.Command.{Command, Still, Run, Gen, Audit, Clip, Capture, Nested, NoCommand}
 use Rattle.nit_audit.specs.declared.auditing.Verdict.TheVariants as verdict
 use Rattle.nit_top.specs.JournalFiles.{HasVerdict, IsJournalFault}
-use Rattle.nit_top.specs.Setup.{RunFiles, Setup, by_turns, generated_setup, still_setup, HaveSamePhases}
+use Rattle.nit_top.specs.Setup.{RunFiles, Setup, by_turns, generated_setup, still_setup}
+use Rattle.nit_top.specs.Setup.{HaveSamePhases}
 use Rattle.nit_top.specs.InnerFrames.{frames_of, nest_of, nested_setup}
 
 -- the bytes of a configuration's file, and of a script's

@@ -1,6 +1,7 @@
 -- What the work on two configurations leaves, part by part.
 use Rattle.std.specs.Prelude.{◌≡◌, ◌⊎◌, ℕ, ◌+◌, List, [], ◌∷◌, ◌++◌, length, Option, IfSome}
-use Rattle.nit_top.specs.Below.{Configuration, Entry, File, PutsAll, StoreModel, bytes_of, journal_text, shots, unrefused, with_asked}
+use Rattle.nit_top.specs.Below.{Configuration, Entry, File, PutsAll, StoreModel, bytes_of}
+use Rattle.nit_top.specs.Below.{journal_text, shots, unrefused, with_asked}
 use Rattle.nit_top.specs.declared.report.finish.End.TheVariants as end
 use Rattle.nit_top.specs.declared.report.finish.Name.TheVariants as name
 use Rattle.nit_top.specs.declared.report.finish.Worked.{Worked}

@@ -1,9 +1,12 @@
 -- How the files of the outer configuration are read and judged, one after the other.
-use Rattle.std.specs.Prelude.{◌≡◌, ◌⊎◌, ℕ, List, ◌∷◌, ◌++◌, length, None, Result, Ok, Err, IfSome, Vec}
-use Rattle.nit_top.specs.Below.{AllByRecursion, Configuration, FitsLine, Global, InputLine, Line, Scripts, StoreModel, bytes_of, with_asked}
+use Rattle.std.specs.Prelude.{◌≡◌, ◌⊎◌, ℕ, List, ◌∷◌, ◌++◌, length, None, Result, Ok, Err, IfSome}
+use Rattle.std.specs.Prelude.{Vec}
+use Rattle.nit_top.specs.Below.{AllByRecursion, Configuration, FitsLine, Global, InputLine, Line}
+use Rattle.nit_top.specs.Below.{Scripts, StoreModel, bytes_of, with_asked}
 use Rattle.nit_top.specs.declared.report.finish.Stop.{Stop}
 use Rattle.nit_top.specs.Setup.{AreLines}
-use Rattle.nit_top.specs.Judgement.{SpellScripts, script_names, MayShowFrames, AreOuterScripts, IsOuterFault, IsInputScript, IsInputFault}
+use Rattle.nit_top.specs.Judgement.{SpellScripts, script_names, MayShowFrames, AreOuterScripts}
+use Rattle.nit_top.specs.Judgement.{IsOuterFault, IsInputScript, IsInputFault}
 use Rattle.nit_top.specs.ProgramLines.{name_text}
 use Rattle.nit_top.specs.Work.{StoppedAt, asking_all}
 

@@ -1,6 +1,7 @@
 -- The lines that the program says.
 use Rattle.std.specs.Prelude.{ℕ, List, ◌++◌, take, codes}
-use Rattle.nit_top.specs.Below.{ConfigError, End, Fault, LabelBytes, decimal, picture_name, script_name}
+use Rattle.nit_top.specs.Below.{ConfigError, End, Fault, LabelBytes, decimal, picture_name}
+use Rattle.nit_top.specs.Below.{script_name}
 use Rattle.nit_config.specs.declared.error.ConfigError.TheVariants as config
 use Rattle.nit_top.specs.declared.report.finish.End.TheVariants as end
 use Rattle.nit_top.specs.declared.report.finish.Fault.TheVariants as fault

@@ -1,7 +1,11 @@
 -- A run in a room: what it begins with, with its clients beside each other or one alone, and what
 -- its user knows at its end.
-use Rattle.std.specs.Prelude.{◌∷◌, ◌≡◌, ◌++◌, ℕ, ◌*◌, ◌≤◌, List, [], All, length, map, slice_get, Some, vec_len, vec_capacity}
-use Rattle.nit_top.specs.Below.{Belongs, BufferName, Configuration, Entry, InputLine, IsOpen, Line, Memory, OpeningParts, PassModel, PlanModel, RoomModel, StepTogether, UserBelongs, UserPassModel, donation_of, idle_user, new_sight, picture_length, plan_in, table_size, user_actions_of}
+use Rattle.std.specs.Prelude.{◌∷◌, ◌≡◌, ◌++◌, ℕ, ◌*◌, ◌≤◌, List, [], All, length, map, slice_get}
+use Rattle.std.specs.Prelude.{Some, vec_len, vec_capacity}
+use Rattle.nit_top.specs.Below.{Belongs, BufferName, Configuration, Entry, InputLine, IsOpen, Line}
+use Rattle.nit_top.specs.Below.{Memory, OpeningParts, PassModel, PlanModel, RoomModel, StepTogether}
+use Rattle.nit_top.specs.Below.{UserBelongs, UserPassModel, donation_of, idle_user, new_sight}
+use Rattle.nit_top.specs.Below.{picture_length, plan_in, table_size, user_actions_of}
 use Rattle.nit_pixels.specs.End.{End}
 
 -- the key of this number is to words 0, one for each place of the table of its session, with the
@@ -17,7 +21,8 @@ pub record AreBuffers (config : Configuration) (plans : List PlanModel) (buffers
   pub own : map (λ (key : End). key.stand.buffer) keys ≡ buffers
   pub blank : AreKeysBlank config plans keys
 
--- A flag for each client, room for what all clients' threads are given to wait, and a word and bytes
+-- A flag for each client, room for what all clients' threads are given to wait, and a word and
+-- bytes
 -- for each pixel of the screen.
 pub record IsMemory {T : Type 0} (config : Configuration) (m : Memory T) : Type 0 where
   pub flags : vec_len m.raised ≡ length config.clients

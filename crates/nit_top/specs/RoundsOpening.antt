@@ -1,6 +1,8 @@
 -- A run before its first round.
 use Rattle.std.specs.Prelude.{◌≡◌, ◌+◌, ◌≤◌, List, [], length, map}
-use Rattle.nit_top.specs.Below.{Configuration, InputLine, IsSetUp, Line, Opened, PlanModel, Sight, actions_of_turns, donation_of, glass_after, picture_length, plan_of_script, range_with_len, rounds, script_in}
+use Rattle.nit_top.specs.Below.{Configuration, InputLine, IsSetUp, Line, Opened, PlanModel, Sight}
+use Rattle.nit_top.specs.Below.{actions_of_turns, donation_of, glass_after, picture_length}
+use Rattle.nit_top.specs.Below.{plan_of_script, range_with_len, rounds, script_in}
 
 -- the plan of each client's script, in order
 abbrev pub plans_of : Configuration → List (List Line) → List PlanModel

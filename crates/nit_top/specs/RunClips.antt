@@ -1,10 +1,13 @@
 -- The clip list of a run, which a command puts behind the files of the run.
 use Rattle.std.specs.Prelude.{◌≡◌, ℕ, ◌≤◌, List, map, take, codes, Some}
-use Rattle.nit_top.specs.Below.{AllByRecursion, ClipEntry, Configuration, Entry, File, IsLegalClips, IsWholeClips, before_final, calls_to_make, clip_text, clips_to_make, replay, user_actions_to_do}
+use Rattle.nit_top.specs.Below.{AllByRecursion, ClipEntry, Configuration, Entry, File, IsLegalClips}
+use Rattle.nit_top.specs.Below.{IsWholeClips, before_final, calls_to_make, clip_text, clips_to_make}
+use Rattle.nit_top.specs.Below.{replay, user_actions_to_do}
 use Rattle.nit_clip.specs.declared.call.ClipReply.TheVariants as reply
 use Rattle.nit_top.specs.Setup.{Setup}
 
--- The clip list is legal for the journal, and whole: the clip calls of each client in it are those of
+-- The clip list is legal for the journal, and whole: the clip calls of each client in it are those
+-- of
 -- its clip script, in order, each once, and each stands in its phase.
 pub record IsClipList (s : Setup) (journal : List Entry) (clips : List ClipEntry) : Type 0 where
   pub legal : IsLegalClips s.config journal clips

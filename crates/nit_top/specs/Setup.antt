@@ -1,6 +1,11 @@
 -- What a run is made of.
-use Rattle.std.specs.Prelude.{◌≡◌, ◌⊎◌, ℕ, ◌≤◌, Bool, false, true, List, [], ◌∷◌, ◌++◌, length, map, codes, Option, None}
-use Rattle.nit_top.specs.Below.{AllByRecursion, ClipLine, Configuration, File, FitsInputLine, FitsLine, InputLine, IsConfiguration, Line, client_script, client_text, clip_phases, config_text, generated_configuration, idle_user, input_phases, most_lines, phases, range_with_len, script_name, still_configuration, user_script, user_text}
+use Rattle.std.specs.Prelude.{◌≡◌, ◌⊎◌, ℕ, ◌≤◌, Bool, false, true, List, [], ◌∷◌, ◌++◌, length, map}
+use Rattle.std.specs.Prelude.{codes, Option, None}
+use Rattle.nit_top.specs.Below.{AllByRecursion, ClipLine, Configuration, File, FitsInputLine}
+use Rattle.nit_top.specs.Below.{FitsLine, InputLine, IsConfiguration, Line, client_script}
+use Rattle.nit_top.specs.Below.{client_text, clip_phases, config_text, generated_configuration}
+use Rattle.nit_top.specs.Below.{idle_user, input_phases, most_lines, phases, range_with_len}
+use Rattle.nit_top.specs.Below.{script_name, still_configuration, user_script, user_text}
 
 -- a configuration, the clients' scripts in its order, and the input script
 pub record RunFiles : Type 0 where
@@ -87,7 +92,8 @@ AreClipsOf scripts wanted clips = (clips ≡ [])
     ⊎ ((length clips ≡ length scripts) × AllByRecursion (λ lines. clip_phases lines ≡ wanted) clips)
 
 -- The configuration is within its ranges, and there is a script for each client. All scripts have
--- as many phases as the input script, and each has at most 65,536 lines, all within the grammar. Clip
+-- as many phases as the input script, and each has at most 65,536 lines, all within the grammar.
+-- Clip
 -- scripts have as many phases too, and where there are some there is one for each client.
 pub record IsRunnable (s : Setup) : Type 0 where
   pub configured : IsConfiguration s.config

@@ -1,6 +1,10 @@
 -- How the work of a command comes to its end, before the line is said.
-use Rattle.std.specs.Prelude.{◌≡◌, ◌⊎◌, ℕ, ◌+◌, ◌<◌, ◌≤◌, Bool, true, false, List, [], ◌∷◌, ◌++◌, length, Option, Some, None, option_map, Result, Ok, Err, IfSome, Vec}
-use Rattle.nit_top.specs.Below.{AllByRecursion, AskedAtMost, Configuration, End, Entry, Fault, File, FitsLine, Global, InputLine, JournalError, Line, NoMemory, PutError, PutRefusal, PutState, PutsAll, ReadFaulted, ScriptError, Scripts, StoreModel, bytes_of, shots, unrefused, with_asked}
+use Rattle.std.specs.Prelude.{◌≡◌, ◌⊎◌, ℕ, ◌+◌, ◌<◌, ◌≤◌, Bool, true, false, List, [], ◌∷◌, ◌++◌}
+use Rattle.std.specs.Prelude.{length, Option, Some, None, option_map, Result, Ok, Err, IfSome, Vec}
+use Rattle.nit_top.specs.Below.{AllByRecursion, AskedAtMost, Configuration, End, Entry, Fault, File}
+use Rattle.nit_top.specs.Below.{FitsLine, Global, InputLine, JournalError, Line, NoMemory, PutError}
+use Rattle.nit_top.specs.Below.{PutRefusal, PutState, PutsAll, ReadFaulted, ScriptError, Scripts}
+use Rattle.nit_top.specs.Below.{StoreModel, bytes_of, shots, unrefused, with_asked}
 use Rattle.nit_events.specs.declared.entry.Entry.TheVariants as entry
 use Rattle.nit_script.specs.declared.error.ScriptError.TheVariants as script
 use Rattle.nit_report.specs.declared.error.JournalError.TheVariants as journal
@@ -13,7 +17,8 @@ use Rattle.nit_top.specs.declared.report.finish.Worked.{Worked}
 use Rattle.nit_top.specs.declared.report.ran.PutFault.{PutFault}
 use Rattle.nit_top.specs.declared.report.ran.Ran.{Ran}
 use Rattle.nit_top.specs.Command.{Command}
-use Rattle.nit_top.specs.Judgement.{SpellScripts, wanted_by, script_names, IsClientFault, IsInputScript, IsInputFault, AreScripts}
+use Rattle.nit_top.specs.Judgement.{SpellScripts, wanted_by, script_names, IsClientFault}
+use Rattle.nit_top.specs.Judgement.{IsInputScript, IsInputFault, AreScripts}
 use Rattle.nit_top.specs.Setup.{Setup, AreLines, HaveSamePhases}
 use Rattle.nit_top.specs.Outputs.{IsJournal, AreOutputs}
 use Rattle.nit_top.specs.Headline.{Headline}

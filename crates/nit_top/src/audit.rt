@@ -1,7 +1,9 @@
 //! The audit of a journal: whether it is one of a run of a configuration's scripts.
 
 ghost use Rattle.std.specs.Prelude.{◌≡◌, ℕ, List, IfSome, false, true, ◌≤◌, length};
-ghost use Rattle.nit_top.specs.Terms.{Audit, Ends, IsAuditEnd, IsConfig, IsConfiguration, IsRunnable, StoreModel, bytes_of, most_journal_bytes, setup_of, with_asked};
+ghost use Rattle.nit_top.specs.Terms.{Audit, Ends, IsAuditEnd, IsConfig, IsConfiguration};
+ghost use Rattle.nit_top.specs.Terms.{IsRunnable, StoreModel, bytes_of, most_journal_bytes};
+ghost use Rattle.nit_top.specs.Terms.{setup_of, with_asked};
 
 use crate::{End, Fault, Scripts, Worked, at, load_journal, read_scripts, unbegun};
 use nit_audit::{Verdict, audit};

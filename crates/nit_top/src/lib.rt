@@ -1,20 +1,17 @@
 //! The top call: from the words of the command line to the files that are put and the line that is
 //! said.
 //!
-//! | words | what is done |
-//! |---|---|
-//! | `still W H SCRIPT` | the run of one client's script, whose user does nothing, on a screen of W
-//! by H |
-//! | `turns CONFIG` | the run of a configuration's clients and its input script, all by turns |
-//! | `run CONFIG` | the same, with each client on a thread of its own |
-//! | `gen N` | the files of the generated run of number N are put, and then run as `run` does |
-//! | `audit CONFIG JOURNAL` | whether the journal is one of a run of the scripts; nothing is put |
-//! | `clip CONFIG` | the same as `run`, with a clip script for each client; what these asked and were
-//! answered is put last |
-//! | `capture CONFIG X Y W H` | the same as `run`, and the film of a region of the screen is put
-//! last |
-//! | `nested OUTER INNER` | the same as `run` for OUTER, whose first client shows the frames of a run
-//! by turns of INNER; the journal of that one is put last |
+//! - `still W H SCRIPT`: the run of one client's script, whose user does nothing, on a screen of W by
+//!   H.
+//! - `turns CONFIG`: the run of a configuration's clients and its input script, all by turns.
+//! - `run CONFIG`: the same, with each client on a thread of its own.
+//! - `gen N`: the files of the generated run of number N are put, and then run as `run` does.
+//! - `audit CONFIG JOURNAL`: whether the journal is one of a run of the scripts; nothing is put.
+//! - `clip CONFIG`: the same as `run`, with a clip script for each client; what these asked and were
+//!   answered is put last.
+//! - `capture CONFIG X Y W H`: the same as `run`, and the film of a region of the screen is put last.
+//! - `nested OUTER INNER`: the same as `run` for OUTER, whose first client shows the frames of a run
+//!   by turns of INNER; the journal of that one is put last.
 //!
 //! The words and what they ask for stand in `command`; reading files and taking memory, of which a
 //! run's setup is made, in `setup`; the ways to perform a run in `run`; its last files, the end of
@@ -23,8 +20,8 @@
 //! In each case the work is: read the files and judge them one by one; take all memory of the run;
 //! run, and put the files; say how it went. What a run is made of, its configuration and its
 //! scripts, is called its setup. A generated run reads no file: its files are made, and put before
-//! the run. An audit reads the files of a setup and a journal, and begins no run. A nested run reads
-//! the files of two, and keeps those back that the inner run would put.
+//! the run. An audit reads the files of a setup and a journal, and begins no run. A nested run
+//! reads the files of two, and keeps those back that the inner run would put.
 //!
 //! `still` and `turns` go by rounds on one scene, on the calling thread. `run` opens a hall, in
 //! which the clients' calls are served one at a time, and each client draws on words of its own

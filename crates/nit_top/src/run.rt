@@ -1,4 +1,5 @@
-//! Performing what a command asks for: by turns, alone, on threads, with clips, with a film, or with another run within it.
+//! Performing what a command asks for: by turns, alone, on threads, with clips, with a film, or
+//! with another run within it.
 
 pub mod alone;
 pub mod beside;

@@ -1,7 +1,9 @@
 //! The top call.
 
 ghost use Rattle.std.specs.Prelude.{◌<◌, false, ◌≡◌, true};
-ghost use Rattle.nit_top.specs.Terms.{Answer, Audit, Capture, Clip, Ended, Finished, Gen, IsRegionWords, Nested, Run, command, number_end, starts_threads, texts};
+ghost use Rattle.nit_top.specs.Terms.{Answer, Audit, Capture, Clip, Ended, Finished, Gen};
+ghost use Rattle.nit_top.specs.Terms.{IsRegionWords, Nested, Run, command, number_end};
+ghost use Rattle.nit_top.specs.Terms.{starts_threads, texts};
 
 use crate::audit::audited;
 use crate::command::region::Region;

@@ -1,6 +1,8 @@
 -- Words that are 0 or in an ink of words.
-use Rattle.std.proofs.Common.{All, Bool, List, arith, false, get_or, length, refl, true, ℕ, ◌+◌, ◌<◌, ◌==◌, ◌≡◌, ◌≤◌}
-use Rattle.nit_word.proofs.Basics.{Any-from_list_any, IsInked, IsLoaded, IsLoadedRow, IsWord, inked_sight, list_any, nat_tests, slice_index}
+use Rattle.std.proofs.Common.{All, Bool, List, arith, false, get_or, length, refl, true, ℕ, ◌+◌}
+use Rattle.std.proofs.Common.{◌<◌, ◌==◌, ◌≡◌, ◌≤◌}
+use Rattle.nit_word.proofs.Basics.{Any-from_list_any, IsInked, IsLoaded, IsLoadedRow, IsWord}
+use Rattle.nit_word.proofs.Basics.{inked_sight, list_any, nat_tests, slice_index}
 
 among_fits : (ink : List ℕ) (w : ℕ) → All IsWord ink → list_any (λ y. y == w) ink ≡ true → IsWord w
 among_fits ink w fit found =
@@ -20,7 +22,8 @@ pub all_fit : (ink words : List ℕ) → All IsWord ink → All (IsInked ink) wo
 all_fit ink words fit inked i d lt = inked_fits ink (get_or words i d) fit (inked i d lt)
 
 -- what stands at a place of an inked glass may be loaded there
-pub place_loaded : (owner : ℕ) (words ink : List ℕ) (i w : ℕ) → All IsWord ink → All (IsInked ink) words → i < length words → w ≡ slice_index words i
+pub place_loaded : (owner : ℕ) (words ink : List ℕ) (i w : ℕ) → All IsWord ink → All (IsInked ink) words
+    → i < length words → w ≡ slice_index words i
     → IsLoaded (inked_sight owner words ink) i w
 place_loaded owner words ink i w fit inked room is =
     let here : IsInked ink w = rw is (inked i 0 room) in record {
@@ -30,6 +33,9 @@ place_loaded owner words ink i w fit inked room is =
     }
 
 -- what stands side by side there may be loaded as a row
-pub row_loaded : (owner : ℕ) (words ink row : List ℕ) (from : ℕ) → All IsWord ink → All (IsInked ink) words → from + length row ≤ length words
-    → ((j : ℕ) → j < length row → slice_index row j ≡ slice_index words (from + j)) → IsLoadedRow (inked_sight owner words ink) from row
-row_loaded owner words ink row from fit inked room is j inside = place_loaded owner words ink (from + j) (slice_index row j) fit inked (omega arith) (is j inside)
+pub row_loaded : (owner : ℕ) (words ink row : List ℕ) (from : ℕ) → All IsWord ink → All (IsInked ink) words
+    → from + length row ≤ length words
+    → ((j : ℕ) → j < length row → slice_index row j ≡ slice_index words (from + j))
+    → IsLoadedRow (inked_sight owner words ink) from row
+row_loaded owner words ink row from fit inked room is j inside =
+    place_loaded owner words ink (from + j) (slice_index row j) fit inked (omega arith) (is j inside)

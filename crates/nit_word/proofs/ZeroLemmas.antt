@@ -1,5 +1,6 @@
 -- Words that are all 0.
-use Rattle.std.proofs.Common.{List, ap, arith, length, refl, replicate, subst, suc, sym, zero, zero-add, ℕ, ◌++◌, ◌+◌, ◌∙◌, ◌∷◌, ◌≡◌}
+use Rattle.std.proofs.Common.{List, ap, arith, length, refl, replicate, subst, suc, sym, zero}
+use Rattle.std.proofs.Common.{zero-add, ℕ, ◌++◌, ◌+◌, ◌∙◌, ◌∷◌, ◌≡◌}
 use Rattle.nit_word.proofs.Basics.{IsInked, length-replicate, slice_index}
 use Rattle.nit_word.specs.Zeros.{zeros}
 
@@ -25,4 +26,5 @@ zero_inked ink n i = subst (IsInked ink) (sym (zero_at n i)) refl
 pub zeros_joined : (m n : ℕ) → zeros m ++ zeros n ≡ zeros (m + n)
 unfolding zeros
 zeros_joined zero n = ap (λ k. replicate k 0) (sym (zero-add n))
-zeros_joined (suc m) n = let one : suc (m + n) ≡ suc m + n = omega arith in ap (λ ws. 0 ∷ ws) (zeros_joined m n) ∙ ap (λ k. replicate k 0) one
+zeros_joined (suc m) n = let one : suc (m + n) ≡ suc m + n = omega arith in ap (λ ws. 0 ∷ ws) (zeros_joined m n)
+    ∙ ap (λ k. replicate k 0) one

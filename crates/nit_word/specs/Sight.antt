@@ -1,5 +1,6 @@
 -- What contracts see of a glass.
-use Rattle.std.specs.Prelude.{◌≡◌, ℕ, List, [], ◌+◌, ◌<◌, ◌++◌, length, slice_index, slice_set, Option, None, Some, IfSome}
+use Rattle.std.specs.Prelude.{◌≡◌, ℕ, List, [], ◌+◌, ◌<◌, ◌++◌, length, slice_index, slice_set}
+use Rattle.std.specs.Prelude.{Option, None, Some, IfSome}
 use Rattle.nit_word.specs.Below.{option_map}
 use Rattle.nit_word.specs.Inks.{IsInked, IsWord}
 

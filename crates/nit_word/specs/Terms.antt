@@ -2,6 +2,7 @@
 pub use Rattle.nit_word.specs.Below.{enumerate_from, list_any, option_map, slice_index}
 pub use Rattle.nit_word.specs.Channels.{dim, tint}
 pub use Rattle.nit_word.specs.Inks.{IsInked, IsWord}
-pub use Rattle.nit_word.specs.Sight.{IsLoaded, IsLoadedRow, Sight, TellsAll, inked_sight, plain_sight, plain_stored, seen, stored, told_at}
+pub use Rattle.nit_word.specs.Sight.{IsLoaded, IsLoadedRow, Sight, TellsAll, inked_sight}
+pub use Rattle.nit_word.specs.Sight.{plain_sight, plain_stored, seen, stored, told_at}
 pub use Rattle.nit_word.specs.Updates.{in_turn, is_between, set_where, with_words}
 pub use Rattle.nit_word.specs.Zeros.{filled_up, zeros}

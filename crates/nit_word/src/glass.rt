@@ -1,6 +1,7 @@
 //! What every glass promises of a load.
 ghost use Rattle.std.specs.Prelude.{◌≡◌, ◌+◌, ◌^◌, ◌<◌, ◌≤◌, [], ◌∷◌, length};
-ghost use Rattle.nit_word.specs.Terms.{IsLoaded, IsLoadedRow, Sight, TellsAll, enumerate_from, seen};
+ghost use Rattle.nit_word.specs.Terms.{IsLoaded, IsLoadedRow, Sight, TellsAll, enumerate_from};
+ghost use Rattle.nit_word.specs.Terms.{seen};
 
 /// Words of one owner, to be loaded one at a time.
 pub trait Glass {

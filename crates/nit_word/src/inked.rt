@@ -1,6 +1,7 @@
 //! A glass over words of its own that shows a fixed ink alone.
 ghost use Rattle.std.specs.Prelude.{◌≡◌, ℕ, ◌<◌, ◌≤◌, All, IfOk};
-ghost use Rattle.nit_word.specs.Terms.{IsInked, IsWord, Sight, filled_up, in_turn, inked_sight, is_between, set_where, stored, told_at, with_words, zeros};
+ghost use Rattle.nit_word.specs.Terms.{IsInked, IsWord, Sight, filled_up, in_turn, inked_sight};
+ghost use Rattle.nit_word.specs.Terms.{is_between, set_where, stored, told_at, with_words, zeros};
 
 use crate::glass::Glass;
 use crate::words::Words;

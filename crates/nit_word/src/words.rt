@@ -1,5 +1,6 @@
 //! Words of which those that were never reached take no time.
-ghost use Rattle.std.specs.Prelude.{◌≡◌, ℕ, ◌+◌, ◌-◌, ◌<◌, ◌≤◌, ◌++◌, IfOk, length, slice_index, slice_set, vec_capacity, vec_len};
+ghost use Rattle.std.specs.Prelude.{◌≡◌, ℕ, ◌+◌, ◌-◌, ◌<◌, ◌≤◌, ◌++◌, IfOk, length, slice_index};
+ghost use Rattle.std.specs.Prelude.{slice_set, vec_capacity, vec_len};
 ghost use Rattle.nit_word.specs.Terms.{filled_up, in_turn, is_between, set_where, zeros};
 
 use crate::setting::{alternate_words, copy_words, fill_words, read_words};

@@ -1,7 +1,10 @@
 //! A desktop before its first step.
 
-ghost use Rattle.std.specs.Prelude.{◌≡◌, ◌-◌, ◌<◌, ◌≤◌, ◌*◌, IfOk, [], length, map, replicate, slice_set, ℕ};
-ghost use Rattle.nit_desktop.specs.Terms.{IsConfiguration, IsDonation, IsGlass, bare_word, ended, first_input, first_session, first_state, glass_in, member, session, vacant_state};
+ghost use Rattle.std.specs.Prelude.{◌≡◌, ◌-◌, ◌<◌, ◌≤◌, ◌*◌, IfOk, [], length, map, replicate};
+ghost use Rattle.std.specs.Prelude.{slice_set, ℕ};
+ghost use Rattle.nit_desktop.specs.Terms.{IsConfiguration, IsDonation, IsGlass, bare_word, ended};
+ghost use Rattle.nit_desktop.specs.Terms.{first_input, first_session, first_state, glass_in};
+ghost use Rattle.nit_desktop.specs.Terms.{member, session, vacant_state};
 ghost use Rattle.nit_events.specs.declared.event.Status.TheVariants as status;
 
 use crate::blank::Blank;

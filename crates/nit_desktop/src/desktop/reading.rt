@@ -1,7 +1,8 @@
 //! What can be read of a desktop.
 
 ghost use Rattle.std.specs.Prelude.{◌≡◌, ◌<◌, ◌≤◌, ◌*◌, IfSome, IsTrue, false, length, map, ℕ};
-ghost use Rattle.nit_desktop.specs.Terms.{AreLive, IsConfiguration, IsFreeLabel, IsGlass, glass_in, member, refusal, session, table_size};
+ghost use Rattle.nit_desktop.specs.Terms.{AreLive, IsConfiguration, IsFreeLabel, IsGlass, glass_in};
+ghost use Rattle.nit_desktop.specs.Terms.{member, refusal, session, table_size};
 
 use crate::desktop::Desktop;
 use nit_events::{Call, Mode, Reply, Status};

@@ -2,7 +2,10 @@
 
 ghost use Rattle.std.specs.Prelude.{◌≡◌, ◌+◌, length, take, slice_index, false};
 ghost use mathlib.Core.List.{IsPrefix};
-ghost use Rattle.nit_hall.specs.Terms.{Belongs, HasLoaded, IsAtCall, IsLegal, IsOpen, Painted, call_entry, glass_in, glasses_of_call, is_accepted, lenses, next_call, serve, served, session, sight_after_line, stands, state_now, with_entry};
+ghost use Rattle.nit_hall.specs.Terms.{Belongs, HasLoaded, IsAtCall, IsLegal, IsOpen, Painted};
+ghost use Rattle.nit_hall.specs.Terms.{call_entry, glass_in, glasses_of_call, is_accepted, lenses};
+ghost use Rattle.nit_hall.specs.Terms.{next_call, serve, served, session, sight_after_line, stands};
+ghost use Rattle.nit_hall.specs.Terms.{state_now, with_entry};
 
 use crate::laws::clips_stay;
 use crate::pass::Pass;

@@ -1,7 +1,10 @@
 //! A room that gets clip scripts, before its first entry.
 
 ghost use Rattle.std.specs.Prelude.{◌≡◌, ◌+◌, ◌≤◌, ◌++◌, ℕ, IfOk, Some};
-ghost use Rattle.nit_hall.specs.Terms.{AreFirstClipPasses, ClipPassModel, IsUnserved, clip_script_in, length, lines_of_clips, most_clips, most_sessions, most_shares, replicate, slice_get, with_clip_scripts};
+ghost use Rattle.nit_hall.specs.Terms.{AreFirstClipPasses, ClipPassModel, IsUnserved};
+ghost use Rattle.nit_hall.specs.Terms.{clip_script_in, length, lines_of_clips, most_clips};
+ghost use Rattle.nit_hall.specs.Terms.{most_sessions, most_shares, replicate, slice_get};
+ghost use Rattle.nit_hall.specs.Terms.{with_clip_scripts};
 
 use crate::clip_pass::ClipPass;
 use crate::opening::Opened;

@@ -2,7 +2,12 @@
 
 ghost use Rattle.std.specs.Prelude.{◌≡◌, ◌+◌, ℕ, length, map, slice_get, slice_index, Some, take};
 ghost use mathlib.Core.List.{IsPrefix};
-ghost use Rattle.nit_hall.specs.Terms.{AreDoneClips, AreTogether, Belongs, ClipBelongs, ClipPassModel, IsAtClip, IsAtPhaseEnd, IsLegal, IsLegalClips, IsOpen, IsWholeClips, calls_to_make, clip_answer, clip_calls_in, clip_entry, clipboard_of, clips_to_make, knowing_clip, next_clip, state_now, user_actions_to_do, with_clip, without_final};
+ghost use Rattle.nit_hall.specs.Terms.{AreDoneClips, AreTogether, Belongs, ClipBelongs};
+ghost use Rattle.nit_hall.specs.Terms.{ClipPassModel, IsAtClip, IsAtPhaseEnd, IsLegal};
+ghost use Rattle.nit_hall.specs.Terms.{IsLegalClips, IsOpen, IsWholeClips, calls_to_make};
+ghost use Rattle.nit_hall.specs.Terms.{clip_answer, clip_calls_in, clip_entry, clipboard_of};
+ghost use Rattle.nit_hall.specs.Terms.{clips_to_make, knowing_clip, next_clip, state_now};
+ghost use Rattle.nit_hall.specs.Terms.{user_actions_to_do, with_clip, without_final};
 
 use crate::clip_pass::ClipPass;
 use crate::pass::Pass;

@@ -2,7 +2,10 @@
 
 ghost use Rattle.std.specs.Prelude.{◌≡◌, ◌+◌, ◌*◌, All, false, length, slice_index};
 ghost use mathlib.Core.List.{IsPrefix};
-ghost use Rattle.nit_hall.specs.Terms.{IsAtDevice, IsAtShot, IsLegal, IsNearFrame, IsOpen, IsWord, Painted, UserBelongs, deliveries_of, device_entry, frame, glass_in, kills, lenses, next_device, route, routed_as, scenery_of, shots, stands, state_now, with_entry};
+ghost use Rattle.nit_hall.specs.Terms.{IsAtDevice, IsAtShot, IsLegal, IsNearFrame, IsOpen, IsWord};
+ghost use Rattle.nit_hall.specs.Terms.{Painted, UserBelongs, deliveries_of, device_entry, frame};
+ghost use Rattle.nit_hall.specs.Terms.{glass_in, kills, lenses, next_device, route, routed_as};
+ghost use Rattle.nit_hall.specs.Terms.{scenery_of, shots, stands, state_now, with_entry};
 ghost use Rattle.nit_events.specs.declared.entry.Entry.TheVariants as entry;
 
 use crate::laws::clips_stay;

@@ -2,7 +2,11 @@
 
 ghost use Rattle.std.specs.Prelude.{◌≡◌, ℕ, ◌*◌, All, length, map, slice_get, Some};
 ghost use mathlib.Core.List.{IsPrefix};
-ghost use Rattle.nit_hall.specs.Terms.{AreDone, IsDonePass, IsDoneUser, IsKnownPass, IsLegal, IsOpen, IsWhole, IsWord, Painted, PassModel, calls_to_make, frame, glass_in, knowing, rest_of, scenery_of, state_now, user_actions_to_do, with_final, without_final, words_left_in};
+ghost use Rattle.nit_hall.specs.Terms.{AreDone, IsDonePass, IsDoneUser, IsKnownPass, IsLegal};
+ghost use Rattle.nit_hall.specs.Terms.{IsOpen, IsWhole, IsWord, Painted, PassModel, calls_to_make};
+ghost use Rattle.nit_hall.specs.Terms.{frame, glass_in, knowing, rest_of, scenery_of, state_now};
+ghost use Rattle.nit_hall.specs.Terms.{user_actions_to_do, with_final, without_final};
+ghost use Rattle.nit_hall.specs.Terms.{words_left_in};
 ghost use Rattle.nit_events.specs.declared.entry.Entry.TheVariants as entry;
 
 use crate::laws::clips_stay;

@@ -2,7 +2,9 @@
 
 ghost use Rattle.std.specs.Prelude.{◌≡◌, ◌+◌, ◌<◌, ◌≤◌, length, take, slice_index};
 ghost use mathlib.Core.List.{IsPrefix};
-ghost use Rattle.nit_hall.specs.Terms.{Belongs, IsAtPhase, IsAtUserPhase, IsLegal, IsOpen, UserBelongs, after_arrival, arrived_one, most_lines, most_sessions, served};
+ghost use Rattle.nit_hall.specs.Terms.{Belongs, IsAtPhase, IsAtUserPhase, IsLegal, IsOpen};
+ghost use Rattle.nit_hall.specs.Terms.{UserBelongs, after_arrival, arrived_one, most_lines};
+ghost use Rattle.nit_hall.specs.Terms.{most_sessions, served};
 
 use crate::pass::Pass;
 use crate::room::Room;

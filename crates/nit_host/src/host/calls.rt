@@ -1,7 +1,11 @@
 //! Calls of the clients at their seats.
 
-ghost use Rattle.std.specs.Prelude.{◌≡◌, ◌-◌, ◌*◌, ◌^◌, ◌<◌, ◌≤◌, None, Some, Ok, Err, length, map, nat_lt, slice_get, slice_set, true};
-ghost use Rattle.nit_host.specs.Terms.{AreQuiet, IsPlainOf, Painted, Reply, Unserved, after, asks_view, called, glass_in, refreshed, refusal, rectangle, reply_to, serve, session, unserved_call, unserved_refresh, worn_out};
+ghost use Rattle.std.specs.Prelude.{◌≡◌, ◌-◌, ◌*◌, ◌^◌, ◌<◌, ◌≤◌, None, Some, Ok, Err, length, map};
+ghost use Rattle.std.specs.Prelude.{nat_lt, slice_get, slice_set, true};
+ghost use Rattle.nit_host.specs.Terms.{AreQuiet, IsPlainOf, Painted, Reply, Unserved, after};
+ghost use Rattle.nit_host.specs.Terms.{asks_view, called, glass_in, refreshed, refusal, rectangle};
+ghost use Rattle.nit_host.specs.Terms.{reply_to, serve, session, unserved_call, unserved_refresh};
+ghost use Rattle.nit_host.specs.Terms.{worn_out};
 ghost use Rattle.nit_events.specs.declared.call.Call.TheVariants as call;
 ghost use Rattle.nit_events.specs.declared.entry.Entry.TheVariants as entry;
 
@@ -51,13 +55,13 @@ impl Host {
     /// pixels wide and `size.1` high, from `words`, which has the words of its whole buffer, row by
     /// row, and serves the client's call `Refresh` of that part: what its views show of it is shown
     /// as it is handed in here. The highest byte of a word is left out. The words are read during
-    /// this call alone, and only those of the part. Where the call is refused nothing is taken over,
-    /// and where it is not served nothing changes.
+    /// this call alone, and only those of the part. Where the call is refused nothing is taken
+    /// over, and where it is not served nothing changes.
     ///
     /// # Errors
     ///
-    /// `NoSeat`, `ShortWords` (there are fewer words than the buffer has) and `WornOut`, the first of
-    /// them that applies.
+    /// `NoSeat`, `ShortWords` (there are fewer words than the buffer has) and `WornOut`, the first
+    /// of them that applies.
     pub fn refresh(
         &mut self,
         seat: u32,
@@ -164,8 +168,9 @@ fn refresh_of(place: (i32, i32), size: (u32, u32)) -> Call
     Call::Refresh(place.0, place.1, size.0, size.1)
 }
 
-/// Serves a call of the client at a seat. Its sheet, `own`, stood in the desktop before a hollow one
-/// took its place; it is seen as the client's own, and changes places with the hollow one again.
+/// Serves a call of the client at a seat. Its sheet, `own`, stood in the desktop before a hollow
+/// one took its place; it is seen as the client's own, and changes places with the hollow one
+/// again.
 fn serve(desktop: &mut Desktop<Sheet>, seat: u32, call: &Call, own: &mut Sheet) -> Reply
     requires session { seat < length desktop.old.state.sessions }
     requires left { 1 ≤ desktop.old.left }

@@ -1,7 +1,8 @@
 //! Words that a client hands in.
 
 ghost use Rattle.std.specs.Prelude.{◌≡◌, ◌*◌, ◌<◌, ◌≤◌, ℕ, int_le, length, nat_le, pos};
-ghost use Rattle.nit_host.specs.Terms.{IsPlace, after_handing, is_between, is_in_rows, low_bytes, most_length, plain_sight, set_where, spans, told_words};
+ghost use Rattle.nit_host.specs.Terms.{IsPlace, after_handing, is_between, is_in_rows, low_bytes};
+ghost use Rattle.nit_host.specs.Terms.{most_length, plain_sight, set_where, spans, told_words};
 
 use crate::sheet::Sheet;
 use nit_rect::Rect;

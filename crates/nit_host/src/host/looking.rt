@@ -1,7 +1,8 @@
 //! A look at what of the frame changed, and at the last entry.
 
 ghost use Rattle.std.specs.Prelude.{◌≡◌, ◌*◌, ◌↔◌, None, IfOk, IfSome, length};
-ghost use Rattle.nit_host.specs.Terms.{CoversChange, IsTouched, LiesOn, frame, last_text, picture, scenery_of};
+ghost use Rattle.nit_host.specs.Terms.{CoversChange, IsTouched, LiesOn, frame, last_text, picture};
+ghost use Rattle.nit_host.specs.Terms.{scenery_of};
 
 use crate::host::Host;
 use nit_look::look;

@@ -1,7 +1,9 @@
 //! A host before its first step.
 
 ghost use Rattle.std.specs.Prelude.{◌≡◌, ◌≤◌, ◌<◌, IfOk, length, ℕ};
-ghost use Rattle.nit_host.specs.Terms.{AreHollow, AreSheets, IsConfiguration, IsDonation, blank_sheet, first_host, first_state, sheet_at, size_at, table_size, vacant_state};
+ghost use Rattle.nit_host.specs.Terms.{AreHollow, AreSheets, IsConfiguration, IsDonation};
+ghost use Rattle.nit_host.specs.Terms.{blank_sheet, first_host, first_state, sheet_at, size_at};
+ghost use Rattle.nit_host.specs.Terms.{table_size, vacant_state};
 
 use crate::host::Host;
 use crate::sheet::Sheet;
@@ -15,9 +17,9 @@ use std::alloc::Global;
 const WORD_UNITS: u32 = 8;
 
 impl Host {
-    /// A host whose seats are all free. A seat has the donation, the layer and the setting on clicks
-    /// of its client in the configuration; its label waits there until a client brings another. All
-    /// memory that the host will ever use is taken here.
+    /// A host whose seats are all free. A seat has the donation, the layer and the setting on
+    /// clicks of its client in the configuration; its label waits there until a client brings
+    /// another. All memory that the host will ever use is taken here.
     pub fn vacant(alloc: Global, config: &Config) -> Result<Host, NoMemory>
         requires { IsConfiguration config.now }
         ensures { IfOk result (λ h. h ≡ first_host (vacant_state config.now) config.now) }

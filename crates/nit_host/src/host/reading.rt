@@ -1,7 +1,9 @@
 //! What can be read of a host.
 
-ghost use Rattle.std.specs.Prelude.{◌≡◌, ◌<◌, false, find, length, IfSome, IsTrue, not, None, Some, if◌then◌else◌};
-ghost use Rattle.nit_host.specs.Terms.{IsFreeLabel, has_label, is_taken, member, seat_for, seats_of, session};
+ghost use Rattle.std.specs.Prelude.{◌≡◌, ◌<◌, false, find, length, IfSome, IsTrue, not, None, Some};
+ghost use Rattle.std.specs.Prelude.{if◌then◌else◌};
+ghost use Rattle.nit_host.specs.Terms.{IsFreeLabel, has_label, is_taken, member, seat_for};
+ghost use Rattle.nit_host.specs.Terms.{seats_of, session};
 
 use crate::host::Host;
 use nit_events::{Mode, Status};

@@ -10,8 +10,9 @@ use nit_screen::laws::openings_keep_all;
 
 impl Host {
     /// Gives a free seat to a client, under a label that no other seat has or had last. The client
-    /// begins with the seat's donation, no view, no buffer and no event; its handles begin at 1, and
-    /// its words are 0. Nothing of an earlier client of the seat is left, and nothing else changes.
+    /// begins with the seat's donation, no view, no buffer and no event; its handles begin at 1,
+    /// and its words are 0. Nothing of an earlier client of the seat is left, and nothing else
+    /// changes.
     ///
     /// # Errors
     ///

@@ -15,9 +15,9 @@ const MOST_CODE: u16 = 767;
 const LEAST_TURN: i8 = -127;
 
 impl Host {
-    /// Serves what the user does, and answers who is told what: each item goes to one seat's client,
-    /// which takes it by the call `Take`, or is locked out. An event that is not served changes
-    /// nothing.
+    /// Serves what the user does, and answers who is told what: each item goes to one seat's
+    /// client, which takes it by the call `Take`, or is locked out. An event that is not served
+    /// changes nothing.
     ///
     /// # Errors
     ///

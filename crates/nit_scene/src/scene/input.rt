@@ -1,7 +1,9 @@
 //! What the user does.
 
 ghost use Rattle.std.specs.Prelude.{◌≡◌, ◌-◌, ◌≤◌, All, false, map, [], ◌++◌, ◌∷◌};
-ghost use Rattle.nit_scene.specs.Terms.{AreAlone, AreInked, AreRaw, FollowPresses, IsDevice, IsLegal, IsLive, IsOpen, Painted, deliveries_of, glass_in, kills, route, routed_as, state_now};
+ghost use Rattle.nit_scene.specs.Terms.{AreAlone, AreInked, AreRaw, FollowPresses, IsDevice};
+ghost use Rattle.nit_scene.specs.Terms.{IsLegal, IsLive, IsOpen, Painted, deliveries_of, glass_in};
+ghost use Rattle.nit_scene.specs.Terms.{kills, route, routed_as, state_now};
 ghost use Rattle.nit_events.specs.declared.entry.Entry.TheVariants as entry;
 
 use crate::scene::Scene;

@@ -1,7 +1,9 @@
 //! A scene before its first entry.
 
-ghost use Rattle.std.specs.Prelude.{◌≡◌, ◌+◌, ◌-◌, ◌<◌, ◌≤◌, IfOk, length, ℕ, ◌*◌, map, [], replicate};
-ghost use Rattle.nit_scene.specs.Terms.{IsConfiguration, IsGlass, bare_word, glass_in, shots, spare};
+ghost use Rattle.std.specs.Prelude.{◌≡◌, ◌+◌, ◌-◌, ◌<◌, ◌≤◌, IfOk, length, ℕ, ◌*◌, map, []};
+ghost use Rattle.std.specs.Prelude.{replicate};
+ghost use Rattle.nit_scene.specs.Terms.{IsConfiguration, IsGlass, bare_word, glass_in, shots};
+ghost use Rattle.nit_scene.specs.Terms.{spare};
 
 use crate::scene::Scene;
 use nit_config::Config;

@@ -1,7 +1,8 @@
 //! What can be read of a scene.
 
 ghost use Rattle.std.specs.Prelude.{◌≡◌, ◌+◌, ◌-◌, ◌<◌, length};
-ghost use Rattle.nit_scene.specs.Terms.{IsConfiguration, reserved, session, state_now, views_in_use};
+ghost use Rattle.nit_scene.specs.Terms.{IsConfiguration, reserved, session, state_now};
+ghost use Rattle.nit_scene.specs.Terms.{views_in_use};
 
 use crate::scene::Scene;
 use nit_events::Status;

@@ -1,7 +1,11 @@
 //! Calls of sessions, and exactly the pixels that they make dirty.
 
-ghost use Rattle.std.specs.Prelude.{◌≡◌, ◌+◌, ◌-◌, ◌^◌, ◌<◌, true, None, length, ℕ, ◌*◌, List, false, Some, map};
-ghost use Rattle.nit_screen.specs.Terms.{ArePixels, AreRaw, Flat, IsClean, IsGlassOf, IsQuiet, IsServed, Painted, Sight, accepted, after, glass_in, glasses_of_call, is_accepted, is_rectangle, raw_of, rectangle, refusal, serve, session, session_in, state_of};
+ghost use Rattle.std.specs.Prelude.{◌≡◌, ◌+◌, ◌-◌, ◌^◌, ◌<◌, true, None, length, ℕ, ◌*◌, List};
+ghost use Rattle.std.specs.Prelude.{false, Some, map};
+ghost use Rattle.nit_screen.specs.Terms.{ArePixels, AreRaw, Flat, IsClean, IsGlassOf, IsQuiet};
+ghost use Rattle.nit_screen.specs.Terms.{IsServed, Painted, Sight, accepted, after, glass_in};
+ghost use Rattle.nit_screen.specs.Terms.{glasses_of_call, is_accepted, is_rectangle, raw_of};
+ghost use Rattle.nit_screen.specs.Terms.{rectangle, refusal, serve, session, session_in, state_of};
 ghost use Rattle.nit_events.specs.declared.call.Call.TheVariants as call;
 ghost use Rattle.nit_events.specs.declared.entry.Entry.TheVariants as entry;
 

@@ -1,7 +1,8 @@
 //! Words that are set in the screen's own glasses, where these are such that can be drawn in.
 
 ghost use Rattle.std.specs.Prelude.{◌≡◌, ◌<◌, ◌≤◌, length, slice_index_or, slice_set};
-ghost use Rattle.nit_screen.specs.Terms.{IsInked, is_between, no_sight, set_where, stored, told_at, with_words};
+ghost use Rattle.nit_screen.specs.Terms.{IsInked, is_between, no_sight, set_where, stored, told_at};
+ghost use Rattle.nit_screen.specs.Terms.{with_words};
 
 use crate::screen::Screen;
 use nit_word::Inked;
@@ -21,9 +22,9 @@ impl Screen<Inked> {
         self.pixels.painter.glasses[sid as usize].store(i, w);
     }
 
-    /// Sets the words at the places from `from` to before `to` of the screen's glass for the session
-    /// `sid`, which has these places, to those that `own`, a glass of the same ink, tells there.
-    /// Nothing else changes, and nothing is loaded.
+    /// Sets the words at the places from `from` to before `to` of the screen's glass for the
+    /// session `sid`, which has these places, to those that `own`, a glass of the same ink, tells
+    /// there. Nothing else changes, and nothing is loaded.
     pub fn draw_row(&mut self, sid: u32, from: usize, to: usize, own: &Inked)
         requires session { sid < length self.old.glasses }
         requires order { from ≤ to }

@@ -1,7 +1,8 @@
 //! What the user does, and exactly the pixels that it makes dirty.
 
 ghost use Rattle.std.specs.Prelude.{◌≡◌, ◌+◌, ◌-◌, ◌<◌, All, false, Some, map};
-ghost use Rattle.nit_screen.specs.Terms.{IsDevice, IsLive, MayLose, Painted, after, deliveries_of, glass_in, kills, route, routed_as, routing_of, state_of};
+ghost use Rattle.nit_screen.specs.Terms.{IsDevice, IsLive, MayLose, Painted, after, deliveries_of};
+ghost use Rattle.nit_screen.specs.Terms.{glass_in, kills, route, routed_as, routing_of, state_of};
 ghost use Rattle.nit_events.specs.declared.entry.Entry.TheVariants as entry;
 ghost use Rattle.nit_events.specs.declared.event.Status.TheVariants as status;
 

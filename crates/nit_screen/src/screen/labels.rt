@@ -1,7 +1,9 @@
 //! Where the labels of the views stand.
 
-ghost use Rattle.std.specs.Prelude.{◌≡◌, ◌-◌, ◌<◌, ◌≤◌, length, IsTrue, Some, slice_get, option_map};
-ghost use Rattle.nit_screen.specs.Terms.{AreLabelled, Point, SlotView, draws_labels, label_place_of, label_scenery, pixel_at};
+ghost use Rattle.std.specs.Prelude.{◌≡◌, ◌-◌, ◌<◌, ◌≤◌, length, IsTrue, Some, slice_get};
+ghost use Rattle.std.specs.Prelude.{option_map};
+ghost use Rattle.nit_screen.specs.Terms.{AreLabelled, Point, SlotView, draws_labels};
+ghost use Rattle.nit_screen.specs.Terms.{label_place_of, label_scenery, pixel_at};
 
 use nit_events::Mode;
 use nit_glyph::{Label, label_size, label_text};

@@ -1,7 +1,8 @@
 //! The whole screen, for the last picture.
 
 ghost use Rattle.std.specs.Prelude.{◌≡◌, ◌+◌, ◌<◌, ◌≤◌, true, length, ℕ, ◌*◌, map};
-ghost use Rattle.nit_screen.specs.Terms.{HoldBuffers, IsGlassOf, IsServer, Painted, Repainted, glass_in, source_of_number, state_of};
+ghost use Rattle.nit_screen.specs.Terms.{HoldBuffers, IsGlassOf, IsServer, Painted, Repainted};
+ghost use Rattle.nit_screen.specs.Terms.{glass_in, source_of_number, state_of};
 ghost use Rattle.nit_events.specs.declared.entry.Entry.TheVariants as entry;
 
 use crate::screen::Screen;

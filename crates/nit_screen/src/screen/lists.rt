@@ -1,7 +1,8 @@
 //! The raw words and the frame, in two lists or in one.
 
 ghost use Rattle.std.specs.Prelude.{◌≡◌, ◌≤◌, false, length, vec_capacity};
-ghost use Rattle.nit_screen.specs.Terms.{ArePixels, AreRaw, Flat, raw_in, raw_of, state_of, unbarred};
+ghost use Rattle.nit_screen.specs.Terms.{ArePixels, AreRaw, Flat, raw_in, raw_of, state_of};
+ghost use Rattle.nit_screen.specs.Terms.{unbarred};
 
 use crate::screen::pixels::Pixels;
 use nit_events::Mode;

@@ -1,7 +1,11 @@
 //! The pixels of a screen, and the frame that is kept of them.
 
-ghost use Rattle.std.specs.Prelude.{◌≡◌, ℕ, ◌*◌, ◌<◌, ◌≤◌, All, IsTrue, Option, false, length, map, nat_lt, slice_index, true, if◌then◌else◌};
-ghost use Rattle.nit_screen.specs.Terms.{ArePixels, AreSet, CanShowBy, Flat, IsServer, IsWord, ShowsBelow, bar_rows, bar_word, draws_labels, frame, kept_frame, pixel, raw_of, scenery_of, shown_by, state_of, wanted};
+ghost use Rattle.std.specs.Prelude.{◌≡◌, ℕ, ◌*◌, ◌<◌, ◌≤◌, All, IsTrue, Option, false, length, map};
+ghost use Rattle.std.specs.Prelude.{nat_lt, slice_index, true, if◌then◌else◌};
+ghost use Rattle.nit_screen.specs.Terms.{ArePixels, AreSet, CanShowBy, Flat, IsServer, IsWord};
+ghost use Rattle.nit_screen.specs.Terms.{ShowsBelow, bar_rows, bar_word, draws_labels, frame};
+ghost use Rattle.nit_screen.specs.Terms.{kept_frame, pixel, raw_of, scenery_of, shown_by, state_of};
+ghost use Rattle.nit_screen.specs.Terms.{wanted};
 
 use crate::screen::labels::Labels;
 use crate::screen::lists::{reach, take_bar_off};

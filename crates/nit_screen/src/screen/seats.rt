@@ -2,7 +2,8 @@
 //! exchanged for others.
 
 ghost use Rattle.std.specs.Prelude.{◌≡◌, ◌<◌, Some, length, map, slice_get, slice_set};
-ghost use Rattle.nit_screen.specs.Terms.{IsFreeLabel, IsGlassOf, Repainted, glass_in, pixel, pixel_count, session_owns, state_of, with_reopened};
+ghost use Rattle.nit_screen.specs.Terms.{IsFreeLabel, IsGlassOf, Repainted, glass_in, pixel};
+ghost use Rattle.nit_screen.specs.Terms.{pixel_count, session_owns, state_of, with_reopened};
 ghost use Rattle.nit_screen.specs.RawWords.{source_at as scene_source_at};
 
 use crate::screen::Screen;

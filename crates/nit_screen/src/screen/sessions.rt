@@ -4,7 +4,11 @@ ghost use Rattle.std.specs.Prelude.{◌≡◌, ◌-◌, ◌^◌, ◌<◌, ◌≤
 ghost use Rattle.nit_events.specs.declared.call.Call.TheVariants as call;
 ghost use Rattle.nit_events.specs.declared.entry.Entry.TheVariants as entry;
 ghost use Rattle.nit_events.specs.declared.event.Status.TheVariants as status;
-ghost use Rattle.nit_screen.specs.Terms.{ArePixels, CanShowBy, Flat, HoldBuffers, IsGlassOf, IsPartOf, IsServed, IsServer, Painted, Repainted, accepted, glass_in, glasses_of_call, pixel, pixel_count, raw_of, refusal, session, session_in, session_owns, source_of_number, state_of, wanted, with_ended};
+ghost use Rattle.nit_screen.specs.Terms.{ArePixels, CanShowBy, Flat, HoldBuffers, IsGlassOf};
+ghost use Rattle.nit_screen.specs.Terms.{IsPartOf, IsServed, IsServer, Painted, Repainted};
+ghost use Rattle.nit_screen.specs.Terms.{accepted, glass_in, glasses_of_call, pixel, pixel_count};
+ghost use Rattle.nit_screen.specs.Terms.{raw_of, refusal, session, session_in, session_owns};
+ghost use Rattle.nit_screen.specs.Terms.{source_of_number, state_of, wanted, with_ended};
 ghost use Rattle.nit_screen.specs.RawWords.{source_at as scene_source_at};
 
 use crate::screen::pixels::{Pixels, redraw, show_part};

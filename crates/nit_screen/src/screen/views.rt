@@ -1,7 +1,14 @@
 //! Calls on one view, and exactly the pixels that they make dirty.
 
-ghost use Rattle.nit_screen.specs.Terms.{ArePixels, Flat, HoldBuffers, IsGlassOf, IsNamedBy, IsOn, IsRemovedFrom, IsServed, IsViewChange, Painted, Repainted, SlotView, StackModel, accepted, glass_in, glasses_of_call, has_view, is_of_session, list_any, owner_passes, pixel, place_of, raw_of, refusal, session, session_in, slot_owns_either, slot_view_in, source_of_number, state_of, uncovered, without_session, without_views};
-ghost use Rattle.std.specs.Prelude.{◌≡◌, ◌+◌, ◌-◌, ◌^◌, ◌<◌, ◌≤◌, true, None, length, ℕ, ◌*◌, false, drop, Some, map};
+ghost use Rattle.nit_screen.specs.Terms.{ArePixels, Flat, HoldBuffers, IsGlassOf, IsNamedBy, IsOn};
+ghost use Rattle.nit_screen.specs.Terms.{IsRemovedFrom, IsServed, IsViewChange, Painted, Repainted};
+ghost use Rattle.nit_screen.specs.Terms.{SlotView, StackModel, accepted, glass_in, glasses_of_call};
+ghost use Rattle.nit_screen.specs.Terms.{has_view, is_of_session, list_any, owner_passes, pixel};
+ghost use Rattle.nit_screen.specs.Terms.{place_of, raw_of, refusal, session, session_in};
+ghost use Rattle.nit_screen.specs.Terms.{slot_owns_either, slot_view_in, source_of_number};
+ghost use Rattle.nit_screen.specs.Terms.{state_of, uncovered, without_session, without_views};
+ghost use Rattle.std.specs.Prelude.{◌≡◌, ◌+◌, ◌-◌, ◌^◌, ◌<◌, ◌≤◌, true, None, length, ℕ, ◌*◌};
+ghost use Rattle.std.specs.Prelude.{false, drop, Some, map};
 ghost use Rattle.nit_events.specs.declared.entry.Entry.TheVariants as entry;
 
 use crate::screen::pixels::{Pixels, show_views};

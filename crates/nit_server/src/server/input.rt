@@ -1,7 +1,12 @@
 //! The user's input at a server: who is pointed at, and who is told what.
 
-ghost use Rattle.std.specs.Prelude.{◌≡◌, ◌-◌, ◌<◌, ◌≤◌, true, None, length, All, ℕ, false, Some, slice_index_or, [], IfSome, ◌∷◌};
-ghost use Rattle.nit_server.specs.Terms.{IsConfiguration, IsDevice, IsForgottenIfKilled, IsServerInput, MayLose, client_in, deliveries_of, delivery, first_input, is_kill, killed_in, kills, most_sessions, pointed_by, route, routed_as, routing_of, session, with_delivered, with_routed};
+ghost use Rattle.std.specs.Prelude.{◌≡◌, ◌-◌, ◌<◌, ◌≤◌, true, None, length, All, ℕ, false, Some};
+ghost use Rattle.std.specs.Prelude.{slice_index_or, [], IfSome, ◌∷◌};
+ghost use Rattle.nit_server.specs.Terms.{IsConfiguration, IsDevice, IsForgottenIfKilled};
+ghost use Rattle.nit_server.specs.Terms.{IsServerInput, MayLose, client_in, deliveries_of};
+ghost use Rattle.nit_server.specs.Terms.{delivery, first_input, is_kill, killed_in, kills};
+ghost use Rattle.nit_server.specs.Terms.{most_sessions, pointed_by, route, routed_as, routing_of};
+ghost use Rattle.nit_server.specs.Terms.{session, with_delivered, with_routed};
 ghost use Rattle.nit_events.specs.declared.event.Item.TheVariants as item;
 
 use crate::server::Server;

@@ -1,7 +1,10 @@
 //! A server before its first entry.
 
-ghost use Rattle.std.specs.Prelude.{◌≡◌, ◌+◌, ◌-◌, ◌<◌, ◌≤◌, IfOk, length, All, IsTrue, map, [], if◌then◌else◌};
-ghost use Rattle.nit_server.specs.Terms.{IsConfiguration, IsMember, first_kept_session, first_stack, first_state, most_sessions, most_slots, slots_of_all, state_of, view_slots};
+ghost use Rattle.std.specs.Prelude.{◌≡◌, ◌+◌, ◌-◌, ◌<◌, ◌≤◌, IfOk, length, All, IsTrue, map, []};
+ghost use Rattle.std.specs.Prelude.{if◌then◌else◌};
+ghost use Rattle.nit_server.specs.Terms.{IsConfiguration, IsMember, first_kept_session};
+ghost use Rattle.nit_server.specs.Terms.{first_stack, first_state, most_sessions, most_slots};
+ghost use Rattle.nit_server.specs.Terms.{slots_of_all, state_of, view_slots};
 ghost use Rattle.nit_events.specs.declared.entry.Entry.TheVariants as entry;
 
 use crate::member::Member;

@@ -1,7 +1,8 @@
 //! What can be read of a server.
 
 ghost use Rattle.std.specs.Prelude.{◌≡◌, ◌+◌, ◌-◌, ◌<◌, length};
-ghost use Rattle.nit_server.specs.Terms.{IsServer, reserved, session_in, slots_of_all, state_of, views_in_use};
+ghost use Rattle.nit_server.specs.Terms.{IsServer, reserved, session_in, slots_of_all, state_of};
+ghost use Rattle.nit_server.specs.Terms.{views_in_use};
 
 use crate::server::{Server, slots_of_all};
 use nit_events::Status;

@@ -1,7 +1,9 @@
 //! Sessions that open again, and what tells whether one may.
 
 ghost use Rattle.std.specs.Prelude.{◌≡◌, ◌≢◌, ◌<◌, ◌≤◌, IsTrue, [], false, length, ℕ};
-ghost use Rattle.nit_server.specs.Terms.{IsFreeLabel, client_in, donation_of, member, most_sessions, no_size, relabelled, session_in, size_of_buffer, with_opened};
+ghost use Rattle.nit_server.specs.Terms.{IsFreeLabel, client_in, donation_of, member};
+ghost use Rattle.nit_server.specs.Terms.{most_sessions, no_size, relabelled, session_in};
+ghost use Rattle.nit_server.specs.Terms.{size_of_buffer, with_opened};
 
 use crate::server::Server;
 use nit_config::{Config, Member};

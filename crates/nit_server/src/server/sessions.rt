@@ -1,7 +1,9 @@
 //! Accepted calls that change a session alone, and its end.
 
-ghost use Rattle.nit_server.specs.Terms.{IsServed, accepted, has_view, is_of_session, list_any, refusal, session, session_in, with_ended, without_views};
-ghost use Rattle.std.specs.Prelude.{◌≡◌, ◌-◌, ◌<◌, true, None, length, false, Some, [], IfSome, IfNone};
+ghost use Rattle.nit_server.specs.Terms.{IsServed, accepted, has_view, is_of_session, list_any};
+ghost use Rattle.nit_server.specs.Terms.{refusal, session, session_in, with_ended, without_views};
+ghost use Rattle.std.specs.Prelude.{◌≡◌, ◌-◌, ◌<◌, true, None, length, false, Some, [], IfSome};
+ghost use Rattle.std.specs.Prelude.{IfNone};
 ghost use Rattle.nit_events.specs.declared.call.Call.TheVariants as call;
 
 use crate::server::Server;

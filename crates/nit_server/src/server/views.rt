@@ -2,7 +2,8 @@
 
 ghost use Rattle.std.specs.Prelude.{◌≡◌, ◌-◌, ◌^◌, ◌<◌, true, None, length, Some, slice_get};
 ghost use Rattle.nit_events.specs.declared.call.Call.TheVariants as call;
-ghost use Rattle.nit_server.specs.Terms.{IsNamedBy, IsServed, accepted, has_view, refusal, session, session_in, without_view};
+ghost use Rattle.nit_server.specs.Terms.{IsNamedBy, IsServed, accepted, has_view, refusal, session};
+ghost use Rattle.nit_server.specs.Terms.{session_in, without_view};
 
 use crate::server::Server;
 use nit_events::{Reply, Text};

@@ -1,7 +1,8 @@
 //! Regions of a screen.
 
 ghost use Rattle.std.specs.Prelude.{◌≡◌, ◌≤◌, false};
-ghost use Rattle.nit_top.specs.Terms.{HasPixels, IsRegionWords, LiesIn, is_off_screen, most_height, most_width, rectangle_of, screen};
+ghost use Rattle.nit_top.specs.Terms.{HasPixels, IsRegionWords, LiesIn, is_off_screen, most_height};
+ghost use Rattle.nit_top.specs.Terms.{most_width, rectangle_of, screen};
 
 use nit_rect::Rect;
 

@@ -1,7 +1,10 @@
 //! The words of the command line.
 
 ghost use Rattle.std.specs.Prelude.{◌<◌, ◌≡◌, IfSome, IfNone, Some, ◌≤◌};
-ghost use Rattle.nit_top.specs.Terms.{IsAskedInRange, NoCommand, asks_for, capture, capture_command, command, gen, most_height, most_width, natural_of, number_end, number_up_to, pair_of, run_of, still, still_of, texts};
+ghost use Rattle.nit_top.specs.Terms.{IsAskedInRange, NoCommand, asks_for, capture};
+ghost use Rattle.nit_top.specs.Terms.{capture_command, command, gen, most_height, most_width};
+ghost use Rattle.nit_top.specs.Terms.{natural_of, number_end, number_up_to, pair_of, run_of, still};
+ghost use Rattle.nit_top.specs.Terms.{still_of, texts};
 
 use crate::command::region::Region;
 use nit_rect::{MOST_HEIGHT, MOST_WIDTH};

@@ -1,7 +1,8 @@
 //! The files that a command adds behind those of its run: a clip list, a film, or an inner journal.
 
 ghost use Rattle.std.specs.Prelude.{◌≡◌, [], ℕ, List, IfOk, false, true, ◌+◌, ◌++◌, ◌∷◌};
-ghost use Rattle.nit_top.specs.Terms.{PutsNext, clips_name, film_name, inner_journal_name, journal_text, put_state_of_run};
+ghost use Rattle.nit_top.specs.Terms.{PutsNext, clips_name, film_name, inner_journal_name};
+ghost use Rattle.nit_top.specs.Terms.{journal_text, put_state_of_run};
 
 use crate::report::film::Film;
 use crate::report::puts::put_made;
@@ -70,8 +71,8 @@ fn put_film<S: Store>(
     }
 }
 
-/// Puts the journal of an inner run, unless a put was refused before. Gives the put that was refused,
-/// if there is one. Want of memory for the text counts as a put that is refused.
+/// Puts the journal of an inner run, unless a put was refused before. Gives the put that was
+/// refused, if there is one. Want of memory for the text counts as a put that is refused.
 pub fn put_inner_journal<S: Store>(
     alloc: Global,
     store: &mut S,

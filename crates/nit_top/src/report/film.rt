@@ -1,7 +1,9 @@
 //! A film while it is made.
 
-ghost use Rattle.std.specs.Prelude.{◌≡◌, ◌<◌, ◌≤◌, ◌*◌, true, false, ◌++◌, ◌∷◌, [], IfOk, OnOk, length};
-ghost use Rattle.nit_top.specs.Below.{HasPixels, IsPictureSize, LiesIn, cropped_bytes, film_header, first_capture, most_pixels, next_record, screen, with_last};
+ghost use Rattle.std.specs.Prelude.{◌≡◌, ◌<◌, ◌≤◌, ◌*◌, true, false, ◌++◌, ◌∷◌, [], IfOk, OnOk};
+ghost use Rattle.std.specs.Prelude.{length};
+ghost use Rattle.nit_top.specs.Below.{HasPixels, IsPictureSize, LiesIn, cropped_bytes, film_header};
+ghost use Rattle.nit_top.specs.Below.{first_capture, most_pixels, next_record, screen, with_last};
 
 use nit_capture::Capture;
 use nit_rect::{NoMemory, Rect};

@@ -1,7 +1,9 @@
 //! A put of a picture that is filmed.
 
-ghost use Rattle.std.specs.Prelude.{◌≡◌, ◌≢◌, ◌≤◌, ◌*◌, ◌+◌, ◌++◌, OnOk, false, length, true, ℕ, take};
-ghost use Rattle.nit_top.specs.Terms.{AfterPut, cropped_bytes, final_name, next_record, shot_name, with_last};
+ghost use Rattle.std.specs.Prelude.{◌≡◌, ◌≢◌, ◌≤◌, ◌*◌, ◌+◌, ◌++◌, OnOk, false, length, true, ℕ};
+ghost use Rattle.std.specs.Prelude.{take};
+ghost use Rattle.nit_top.specs.Terms.{AfterPut, cropped_bytes, final_name, next_record, shot_name};
+ghost use Rattle.nit_top.specs.Terms.{with_last};
 
 use crate::report::film::Film;
 use nit_report::write::{number, text};

@@ -45,7 +45,8 @@ pub enum Fault {
     BadEntry(u32),
     /// This entry of the journal, from 1, is the first with which it is none of a run.
     NotARun(u32),
-    /// The frames of the run of this configuration are too long for the script that is to show them.
+    /// The frames of the run of this configuration are too long for the script that is to show
+    /// them.
     FramesTooLong,
 }
 

@@ -1,7 +1,13 @@
 //! The last picture of a run.
 
-ghost use Rattle.std.specs.Prelude.{◌≡◌, ◌<◌, ◌≤◌, ◌++◌, ◌∷◌, [], List, ℕ, length, true, ◌*◌, map, All};
-ghost use Rattle.nit_top.specs.Terms.{AreDone, AreDoneClips, HaveTables, IsClipListText, IsDoneUser, IsGlass, IsKnownWhole, IsLegal, IsOpen, IsWhole, IsWord, PutsNext, calls_to_make, clips_setup_in, final_name, final_picture, frame, glass_in, picture_by, picture_length, put_state_of_desk, raw_words, scenery_of, setup_of, state_now, user_actions_to_do, words_left_in};
+ghost use Rattle.std.specs.Prelude.{◌≡◌, ◌<◌, ◌≤◌, ◌++◌, ◌∷◌, [], List, ℕ, length, true, ◌*◌, map};
+ghost use Rattle.std.specs.Prelude.{All};
+ghost use Rattle.nit_top.specs.Terms.{AreDone, AreDoneClips, HaveTables, IsClipListText};
+ghost use Rattle.nit_top.specs.Terms.{IsDoneUser, IsGlass, IsKnownWhole, IsLegal, IsOpen, IsWhole};
+ghost use Rattle.nit_top.specs.Terms.{IsWord, PutsNext, calls_to_make, clips_setup_in, final_name};
+ghost use Rattle.nit_top.specs.Terms.{final_picture, frame, glass_in, picture_by, picture_length};
+ghost use Rattle.nit_top.specs.Terms.{put_state_of_desk, raw_words, scenery_of, setup_of};
+ghost use Rattle.nit_top.specs.Terms.{state_now, user_actions_to_do, words_left_in};
 ghost use mathlib.Core.List.{IsPrefix};
 ghost use Rattle.nit_events.specs.declared.entry.Entry.TheVariants as entry;
 

@@ -29,8 +29,8 @@ pub fn put_next<S: Store>(
     }
 }
 
-/// Puts a file that was made under its name, unless a put was refused before. Gives the put that was
-/// refused, if there is one. A file for which memory ran out is not put, and counts as refused.
+/// Puts a file that was made under its name, unless a put was refused before. Gives the put that
+/// was refused, if there is one. A file for which memory ran out is not put, and counts as refused.
 pub fn put_made<S: Store>(
     store: &mut S,
     fault: Option<PutFault>,

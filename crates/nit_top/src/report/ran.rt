@@ -1,7 +1,8 @@
 //! What a run leaves, and how the work ends by it.
 
 ghost use Rattle.std.specs.Prelude.{◌≡◌, ◌+◌, ◌≤◌, length, ◌<◌, IfSome};
-ghost use Rattle.nit_top.specs.Terms.{StoreModel, end_of_run, is_shot_entry, put_state_of_desk, put_state_of_run, shots};
+ghost use Rattle.nit_top.specs.Terms.{StoreModel, end_of_run, is_shot_entry, put_state_of_desk};
+ghost use Rattle.nit_top.specs.Terms.{put_state_of_run, shots};
 
 use crate::{End, Name, Output, Stop, Worked, at};
 use nit_actor::PictureName;
@@ -58,8 +59,8 @@ impl Ran {
         }
     }
 
-    /// What the run leaves once a file was put behind its own, with the put that was refused, if there
-    /// is one.
+    /// What the run leaves once a file was put behind its own, with the put that was refused, if
+    /// there is one.
     pub fn with_fault(self, fault: Option<PutFault>) -> Ran
         ensures journal { result.journal.items ≡ self.journal.items }
         ensures frames { result.frames ≡ self.frames }

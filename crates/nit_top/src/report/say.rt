@@ -1,7 +1,11 @@
 //! Lines that are said in pieces, without memory.
 
 ghost use Rattle.std.specs.Prelude.{◌≡◌};
-ghost use Rattle.nit_top.specs.Terms.{Says, audited_line, bad_configuration_line, clip_name, decimal, events_name, fault_line, flat_map, kind_text, label_text, line_on, name_text, numbered_line, output_name, picture_name, piece_text, script_name, shot_name, summary_line};
+ghost use Rattle.nit_top.specs.Terms.{Says, audited_line, bad_configuration_line, clip_name};
+ghost use Rattle.nit_top.specs.Terms.{decimal, events_name, fault_line, flat_map, kind_text};
+ghost use Rattle.nit_top.specs.Terms.{label_text, line_on, name_text, numbered_line, output_name};
+ghost use Rattle.nit_top.specs.Terms.{picture_name, piece_text, script_name, shot_name};
+ghost use Rattle.nit_top.specs.Terms.{summary_line};
 
 use crate::{End, Fault, LabelBytes, Name, Output, Worked};
 use nit_actor::PictureName;

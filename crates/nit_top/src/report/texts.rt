@@ -1,7 +1,9 @@
 //! The texts that a run puts behind its pictures: the events of each client, and the journal.
 
 ghost use Rattle.std.specs.Prelude.{◌≡◌, ◌+◌, ◌++◌, ◌∷◌, [], ◌<◌, length, ◌≤◌, take};
-ghost use Rattle.nit_top.specs.Terms.{PutsAll, PutsFile, PutsNext, ending_of, events_files, events_name, events_text, journal_file, output_name, put_state_of_run, session, shots, state_now, unrefused};
+ghost use Rattle.nit_top.specs.Terms.{PutsAll, PutsFile, PutsNext, ending_of, events_files};
+ghost use Rattle.nit_top.specs.Terms.{events_name, events_text, journal_file, output_name};
+ghost use Rattle.nit_top.specs.Terms.{put_state_of_run, session, shots, state_now, unrefused};
 
 use crate::report::puts::put_made;
 use crate::{LabelBytes, Output, PutFault, Ran, left};

@@ -1,7 +1,8 @@
 //! The run of one client whose user does nothing, on the calling thread.
 
 ghost use Rattle.std.specs.Prelude.{false, ◌≡◌, ◌*◌, length};
-ghost use Rattle.nit_top.specs.Terms.{AreDone, HasRun, IsAlone, IsDoneUser, IsOpen, IsReadyAlone, IsRunnable, Runs, picture_length, setup_of};
+ghost use Rattle.nit_top.specs.Terms.{AreDone, HasRun, IsAlone, IsDoneUser, IsOpen, IsReadyAlone};
+ghost use Rattle.nit_top.specs.Terms.{IsRunnable, Runs, picture_length, setup_of};
 ghost use Rattle.nit_events.specs.declared.entry.Entry.TheVariants as entry;
 
 use crate::setup::memory::{buffers_of, canvases_of};

@@ -1,7 +1,10 @@
 //! The run of a configuration that is filmed.
 
 ghost use Rattle.std.specs.Prelude.{◌≡◌, ◌+◌, ℕ, List, IfSome, false, true, ◌≤◌};
-ghost use Rattle.nit_top.specs.Terms.{Capture, Ends, IsConfig, IsConfiguration, IsFilmOf, IsRegionWords, IsRunnable, PerformedFilmed, Region, Runs, RunsFilmed, StoreModel, begun_of, bytes_of, film_header, is_off_screen, picture_names, setup_of, with_asked};
+ghost use Rattle.nit_top.specs.Terms.{Capture, Ends, IsConfig, IsConfiguration, IsFilmOf};
+ghost use Rattle.nit_top.specs.Terms.{IsRegionWords, IsRunnable, PerformedFilmed, Region, Runs};
+ghost use Rattle.nit_top.specs.Terms.{RunsFilmed, StoreModel, begun_of, bytes_of, film_header};
+ghost use Rattle.nit_top.specs.Terms.{is_off_screen, picture_names, setup_of, with_asked};
 
 use crate::command::region::Region;
 use crate::report::added::end_film;

@@ -2,7 +2,10 @@
 //! calling thread.
 
 ghost use Rattle.std.specs.Prelude.{◌≡◌, ℕ, List, IfSome, length};
-ghost use Rattle.nit_top.specs.Terms.{Clip, Ends, HasRoomBack, HasRunClips, IsConfig, IsConfiguration, IsMemory, IsReadyWithClips, IsRunnable, PerformedClips, RunsClips, StoreModel, bytes_of, clips_setup_in, clips_setup_of, with_asked};
+ghost use Rattle.nit_top.specs.Terms.{Clip, Ends, HasRoomBack, HasRunClips, IsConfig};
+ghost use Rattle.nit_top.specs.Terms.{IsConfiguration, IsMemory, IsReadyWithClips, IsRunnable};
+ghost use Rattle.nit_top.specs.Terms.{PerformedClips, RunsClips, StoreModel, bytes_of};
+ghost use Rattle.nit_top.specs.Terms.{clips_setup_in, clips_setup_of, with_asked};
 
 use crate::report::added::put_clips;
 use crate::report::texts::leave_texts;

@@ -1,7 +1,9 @@
 //! The inner run: by turns, with its frames taken into a nest.
 
 ghost use Rattle.std.specs.Prelude.{◌≡◌, ◌*◌, All, length, Err, Ok, None, []};
-ghost use Rattle.nit_top.specs.Terms.{IsInnerEnd, IsJournal, IsRoundsOpening, IsRunnable, IsWord, MayCome, TakesAll, TakesNext, by_turns, end_of_nest, first_forbidden, frames_of, phases, run_files};
+ghost use Rattle.nit_top.specs.Terms.{IsInnerEnd, IsJournal, IsRoundsOpening, IsRunnable, IsWord};
+ghost use Rattle.nit_top.specs.Terms.{MayCome, TakesAll, TakesNext, by_turns, end_of_nest};
+ghost use Rattle.nit_top.specs.Terms.{first_forbidden, frames_of, phases, run_files};
 
 use crate::{End, Fault, Opened, open, take_last};
 use nit_actor::laws::{drawn_as_replayed, rounds_are_whole};
@@ -66,8 +68,8 @@ impl Nesting {
 }
 
 /// Runs the scripts of a configuration by turns, keeping its files back, and makes the script in
-/// which this one shows the run's frames. This one has as many phases as there are frames, and holds
-/// no line that may not stand there.
+/// which this one shows the run's frames. This one has as many phases as there are frames, and
+/// holds no line that may not stand there.
 ///
 /// # Errors
 ///

@@ -1,7 +1,11 @@
 //! A run whose first client shows what another run has shown.
 
-ghost use Rattle.std.specs.Prelude.{◌+◌, ℕ, List, Some, ◌≡◌, count_by, ◌≤◌, length, None, IfNone, IfSome, map, ◌∷◌, true};
-ghost use Rattle.nit_top.specs.Terms.{Ends, IsAfterOuter, IsConfiguration, IsOuter, IsRunnable, Line, Nested, PerformedNested, RunFiles, StoreModel, first_other, is_shot_line, names_in, phase_counts, phases, run_files, setup_of};
+ghost use Rattle.std.specs.Prelude.{◌+◌, ℕ, List, Some, ◌≡◌, count_by, ◌≤◌, length, None, IfNone};
+ghost use Rattle.std.specs.Prelude.{IfSome, map, ◌∷◌, true};
+ghost use Rattle.nit_top.specs.Terms.{Ends, IsAfterOuter, IsConfiguration, IsOuter, IsRunnable};
+ghost use Rattle.nit_top.specs.Terms.{Line, Nested, PerformedNested, RunFiles, StoreModel};
+ghost use Rattle.nit_top.specs.Terms.{first_other, is_shot_line, names_in, phase_counts, phases};
+ghost use Rattle.nit_top.specs.Terms.{run_files, setup_of};
 
 use crate::report::added::put_inner_journal;
 use crate::run::beside::run_beside;
@@ -139,8 +143,8 @@ fn with_first(scripts: Scripts, first: Client) -> Scripts
     Scripts { clients, input }
 }
 
-/// Runs a setup with texts, each client on a thread of its own, and puts the journal of an inner run
-/// behind its files. A run that is not begun leaves everything.
+/// Runs a setup with texts, each client on a thread of its own, and puts the journal of an inner
+/// run behind its files. A run that is not begun leaves everything.
 fn perform_nested<'a, R: Threads + Wait + Sync, S: Store, G: Gate>(
     host: &Host<R, G>,
     store: &mut S,

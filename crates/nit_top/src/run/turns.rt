@@ -1,6 +1,7 @@
 //! A run by turns.
 
-ghost use Rattle.nit_top.specs.Terms.{HasRun, IsRoundsOpening, IsRunnable, Runs, false, setup_of, true};
+ghost use Rattle.nit_top.specs.Terms.{HasRun, IsRoundsOpening, IsRunnable, Runs, false, setup_of};
+ghost use Rattle.nit_top.specs.Terms.{true};
 
 use crate::report::texts::leave_texts;
 use crate::{Opened, PutFault, Ran, open, put_last};

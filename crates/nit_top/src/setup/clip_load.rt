@@ -1,7 +1,8 @@
 //! Reading clip scripts, and judging them.
 
 ghost use Rattle.std.specs.Prelude.{map, ◌≡◌, None, IfOk, string_bytes};
-ghost use Rattle.nit_top.specs.Terms.{FileLoaded, IsClipFault, IsClipScript, LoadedClips, clip_name, wrong_clip};
+ghost use Rattle.nit_top.specs.Terms.{FileLoaded, IsClipFault, IsClipScript, LoadedClips};
+ghost use Rattle.nit_top.specs.Terms.{clip_name, wrong_clip};
 
 use crate::{End, Name, Stop, load_lines};
 use nit_clip::ClipScript;

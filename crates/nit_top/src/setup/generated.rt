@@ -1,7 +1,10 @@
 //! The files of a generated run: putting them, and reading their scripts.
 
 ghost use Rattle.std.specs.Prelude.{◌≡◌, ◌<◌, map, ℕ, IfOk};
-ghost use Rattle.nit_top.specs.Terms.{PutsAll, PutsNext, ReadsClient, ReadsInput, client_script, client_text, generated, generated_files, put_state_of_run, range_with_len, script_files, script_name, unrefused, user_script};
+ghost use Rattle.nit_top.specs.Terms.{PutsAll, PutsNext, ReadsClient, ReadsInput, client_script};
+ghost use Rattle.nit_top.specs.Terms.{client_text, generated, generated_files, put_state_of_run};
+ghost use Rattle.nit_top.specs.Terms.{range_with_len, script_files, script_name, unrefused};
+ghost use Rattle.nit_top.specs.Terms.{user_script};
 
 use crate::report::puts::put_next;
 use crate::{Output, PutFault, Scripts};

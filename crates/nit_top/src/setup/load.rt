@@ -1,6 +1,12 @@
 //! Reading files, and judging them.
 
-ghost use Rattle.nit_top.specs.Terms.{AreLines, FileJudged, FileLoaded, FitsInputLine, FitsLine, IsClientFault, IsClientScript, IsConfig, IsConfigFault, IsConfiguration, IsInputFault, IsInputScript, IsJournalText, IsNoJournalText, IsPhasedFault, IsPhasedScript, JudgedBytes, ReadFor, end_of_journal, end_of_script, most_bytes, most_journal_bytes, most_lines, wrong_client, wrong_input, wrong_lines};
+ghost use Rattle.nit_top.specs.Terms.{AreLines, FileJudged, FileLoaded, FitsInputLine, FitsLine};
+ghost use Rattle.nit_top.specs.Terms.{IsClientFault, IsClientScript, IsConfig, IsConfigFault};
+ghost use Rattle.nit_top.specs.Terms.{IsConfiguration, IsInputFault, IsInputScript, IsJournalText};
+ghost use Rattle.nit_top.specs.Terms.{IsNoJournalText, IsPhasedFault, IsPhasedScript, JudgedBytes};
+ghost use Rattle.nit_top.specs.Terms.{ReadFor, end_of_journal, end_of_script, most_bytes};
+ghost use Rattle.nit_top.specs.Terms.{most_journal_bytes, most_lines, wrong_client, wrong_input};
+ghost use Rattle.nit_top.specs.Terms.{wrong_lines};
 ghost use Rattle.std.specs.Prelude.{IfOk, ◌≡◌, None, ◌≤◌, length};
 
 use crate::{End, Fault, Stop, at};

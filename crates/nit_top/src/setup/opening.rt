@@ -1,7 +1,9 @@
 //! The memory of a run, all of which is taken before its first round.
 
 ghost use Rattle.std.specs.Prelude.{◌<◌, ◌≡◌, ◌+◌, IfOk, length, All, List, ◌≤◌, ◌*◌};
-ghost use Rattle.nit_top.specs.Terms.{IsConfiguration, IsDonation, IsPlanOf, IsRoundsOpening, IsWord, Line, glass_after, glasses_of, most_words, picture_length, plans_of, table_size};
+ghost use Rattle.nit_top.specs.Terms.{IsConfiguration, IsDonation, IsPlanOf, IsRoundsOpening};
+ghost use Rattle.nit_top.specs.Terms.{IsWord, Line, glass_after, glasses_of, most_words};
+ghost use Rattle.nit_top.specs.Terms.{picture_length, plans_of, table_size};
 
 use nit_actor::laws::each_line_once;
 use nit_config::Config;

@@ -1,7 +1,9 @@
 //! Reading the scripts of a configuration whose first client is to show frames.
 
 ghost use Rattle.std.specs.Prelude.{None, IfOk, map, ◌≡◌};
-ghost use Rattle.nit_top.specs.Terms.{AreLines, FileLoaded, FitsLine, IsConfiguration, IsOuter, IsOuterFault, IsOuterScript, OuterLoaded, ReadOuter, run_files, wrong_outer};
+ghost use Rattle.nit_top.specs.Terms.{AreLines, FileLoaded, FitsLine, IsConfiguration, IsOuter};
+ghost use Rattle.nit_top.specs.Terms.{IsOuterFault, IsOuterScript, OuterLoaded, ReadOuter};
+ghost use Rattle.nit_top.specs.Terms.{run_files, wrong_outer};
 
 use crate::{End, Fault, Scripts, Stop, at, load_client, load_input};
 use nit_config::{Config, Member};

@@ -1,7 +1,9 @@
 //! Passes and clip passes as pairs, each of which goes to one thread, and as lists again.
 
-ghost use Rattle.std.specs.Prelude.{◌≡◌, IfOk, length, ◌≤◌, [], map, vec_capacity, vec_len, ◌+◌, ◌++◌};
-ghost use Rattle.nit_top.specs.Terms.{AreBlank, HasRoomBack, IsReadyWithClips, IsRunnable, IsSetting, clips_setup, clips_setup_in};
+ghost use Rattle.std.specs.Prelude.{◌≡◌, IfOk, length, ◌≤◌, [], map, vec_capacity, vec_len, ◌+◌};
+ghost use Rattle.std.specs.Prelude.{◌++◌};
+ghost use Rattle.nit_top.specs.Terms.{AreBlank, HasRoomBack, IsReadyWithClips, IsRunnable};
+ghost use Rattle.nit_top.specs.Terms.{IsSetting, clips_setup, clips_setup_in};
 
 use nit_actor::Pair;
 use nit_clip::ClipScript;

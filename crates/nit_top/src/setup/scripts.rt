@@ -1,7 +1,8 @@
 //! Reading the scripts of a configuration.
 
 ghost use Rattle.std.specs.Prelude.{◌<◌, true, Bool, IfOk, map, ◌≡◌};
-ghost use Rattle.nit_top.specs.Terms.{IsConfiguration, IsRunnable, LoadedAll, ReadScripts, phases, setup_of, wanted_by};
+ghost use Rattle.nit_top.specs.Terms.{IsConfiguration, IsRunnable, LoadedAll, ReadScripts, phases};
+ghost use Rattle.nit_top.specs.Terms.{setup_of, wanted_by};
 
 use crate::{End, Stop, at, load_client, load_input};
 use nit_config::{Config, Member};

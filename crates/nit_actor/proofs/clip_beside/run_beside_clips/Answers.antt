@@ -3,7 +3,9 @@ use Rattle.nit_actor.proofs.clip_beside.run_beside_clips.Goals as goal
 
 pub run_left-requires-clause-pairs : goal.run_left-requires-clause-pairs
 run_left-requires-clause-pairs g c =
-    roles_again g.N.Name.parts c.run_crew-mine.new.passes.items c.args.pairs.now.items (pairs_back _ _ c.run_crew-mine.ensures.passes) (pairs_fit g.N.Name.parts c.args.pairs.now.items c.requires.pairs)
+    roles_again g.N.Name.parts c.run_crew-mine.new.passes.items c.args.pairs.now.items
+    (pairs_back _ _ c.run_crew-mine.ensures.passes)
+    (pairs_fit g.N.Name.parts c.args.pairs.now.items c.requires.pairs)
 
 pub returns-clause-same : goal.returns-clause-same
 returns-clause-same g c = c.run_left.ensures.same ∙ pairs_back _ _ c.run_crew-mine.ensures.passes

@@ -1,10 +1,12 @@
 use Rattle.std.proofs.Common.{length, map, ◌≡◌}
-use Rattle.nit_actor.proofs.Lemmas.{All, IsPairRoleIn, Pair, PutsShotsBehind, pair_role_of, put_state_of_desk, user_role_of}
+use Rattle.nit_actor.proofs.Lemmas.{All, IsPairRoleIn, Pair, PutsShotsBehind, pair_role_of}
+use Rattle.nit_actor.proofs.Lemmas.{put_state_of_desk, user_role_of}
 use Rattle.nit_actor.proofs.clip_beside.run_pairs.Given as goal
 
 abbrev pub invariant-turns : goal.invariant-turns
 invariant-turns g l = record {
-  same : map (λ (b : Pair). pair_role_of b.pass b.clip) l.pairs ≡ map (λ (b : Pair). pair_role_of b.pass b.clip) l.initial.pairs;
+  same : map (λ (b : Pair). pair_role_of b.pass b.clip) l.pairs
+      ≡ map (λ (b : Pair). pair_role_of b.pass b.clip) l.initial.pairs;
   fit : All (λ (b : Pair). IsPairRoleIn g.N.Name.parts (pair_role_of b.pass b.clip)) l.pairs;
   user_same : user_role_of l.user ≡ user_role_of l.initial.user;
   frame : length l.desk.frame.items ≡ length l.initial.desk.frame.items;

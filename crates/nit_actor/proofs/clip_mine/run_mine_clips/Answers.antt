@@ -1,4 +1,6 @@
-use Rattle.nit_actor.proofs.Lemmas.{ClipPassModel, IsPairIn, PassModel, all_pairs, none_before, pair_phase_left, pairs_all_ended, puts_also, puts_none, refl, zip, zip_long, ◌∙◌}
+use Rattle.nit_actor.proofs.Lemmas.{ClipPassModel, IsPairIn, PassModel, all_pairs, none_before}
+use Rattle.nit_actor.proofs.Lemmas.{pair_phase_left, pairs_all_ended, puts_also, puts_none, refl}
+use Rattle.nit_actor.proofs.Lemmas.{zip, zip_long, ◌∙◌}
 use Rattle.nit_actor.proofs.clip_mine.run_mine_clips.Goals as goal
 
 pub turns-preserved : goal.turns-preserved
@@ -30,13 +32,21 @@ turns-init g c = record {
 }
 
 pub returns-in_default-clause-done : goal.returns-in_default-clause-done
-returns-in_default-clause-done g c = (pairs_all_ended c.turns.passes c.turns.clips c.turns.user (zip_long (IsPairIn g.N.Name.parts) c.turns.passes c.turns.clips c.turns.invariant.fit) c.in_default.ensures).0
+returns-in_default-clause-done g c =
+    (pairs_all_ended c.turns.passes c.turns.clips c.turns.user
+    (zip_long (IsPairIn g.N.Name.parts) c.turns.passes c.turns.clips c.turns.invariant.fit) c.in_default.ensures).0
 
 pub returns-in_default-clause-clips_done : goal.returns-in_default-clause-clips_done
-returns-in_default-clause-clips_done g c = (pairs_all_ended c.turns.passes c.turns.clips c.turns.user (zip_long (IsPairIn g.N.Name.parts) c.turns.passes c.turns.clips c.turns.invariant.fit) c.in_default.ensures).1
+returns-in_default-clause-clips_done g c =
+    (pairs_all_ended c.turns.passes c.turns.clips c.turns.user
+    (zip_long (IsPairIn g.N.Name.parts) c.turns.passes c.turns.clips c.turns.invariant.fit) c.in_default.ensures).1
 
 pub do_turn-requires-clause-least : goal.do_turn-requires-clause-least
-do_turn-requires-clause-least g c = (none_before (λ (b : PassModel × ClipPassModel). pair_phase_left b.0 b.1) (zip c.turns.passes c.turns.clips) c.turns.user _ _ c.least_phase.ensures c.in-Some-least_phase.is).0
+do_turn-requires-clause-least g c =
+    (none_before (λ (b : PassModel × ClipPassModel). pair_phase_left b.0 b.1) (zip c.turns.passes c.turns.clips)
+    c.turns.user _ _ c.least_phase.ensures c.in-Some-least_phase.is).0
 
 pub do_user_turn-requires-clause-least : goal.do_user_turn-requires-clause-least
-do_user_turn-requires-clause-least g c = (none_before (λ (b : PassModel × ClipPassModel). pair_phase_left b.0 b.1) (zip c.turns.passes c.turns.clips) c.turns.user _ _ c.least_phase.ensures c.in-Some-least_phase.is).1
+do_user_turn-requires-clause-least g c =
+    (none_before (λ (b : PassModel × ClipPassModel). pair_phase_left b.0 b.1) (zip c.turns.passes c.turns.clips)
+    c.turns.user _ _ c.least_phase.ensures c.in-Some-least_phase.is).1

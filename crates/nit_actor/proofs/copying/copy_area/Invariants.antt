@@ -4,4 +4,8 @@ use Rattle.nit_actor.proofs.copying.copy_area.Given as goal
 
 abbrev pub invariant-rows : goal.invariant-rows
 invariant-rows l =
-    l.scene ≡ record l.initial.scene { glasses = set l.initial.scene.glasses l.sid (with_words (rows_to l.w l.area (told_at l.own) l.j) (glass_in l.initial.scene.glasses l.sid)) }
+    l.scene ≡ record l.initial.scene {
+      glasses =
+          set l.initial.scene.glasses l.sid
+          (with_words (rows_to l.w l.area (told_at l.own) l.j) (glass_in l.initial.scene.glasses l.sid));
+    }

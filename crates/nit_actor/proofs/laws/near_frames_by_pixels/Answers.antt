@@ -1,8 +1,10 @@
-use Rattle.nit_actor.proofs.Lemmas.{Configuration, List, ap, length, pixel, replay, same_throughout, scenery_of, shown, slice_index, slice_index_or, ℕ, ◌∙◌}
+use Rattle.nit_actor.proofs.Lemmas.{Configuration, List, ap, length, pixel, replay, same_throughout}
+use Rattle.nit_actor.proofs.Lemmas.{scenery_of, shown, slice_index, slice_index_or, ℕ, ◌∙◌}
 use Rattle.nit_actor.proofs.laws.near_frames_by_pixels.Goals as goal
 
 pub returns-clause-count : goal.returns-clause-count
-returns-clause-count c = λ config scripts journal words (raw, near, is). ap (λ (ws : List ℕ). length ws) is ∙ c.frame_pixels.ensures.count (scenery_of (replay config journal)) raw
+returns-clause-count c = λ config scripts journal words (raw, near, is). ap (λ (ws : List ℕ). length ws) is
+    ∙ c.frame_pixels.ensures.count (scenery_of (replay config journal)) raw
 
 pub returns-clause-each : goal.returns-clause-each
 returns-clause-each c = λ config scripts journal words k (raw, near, is) inside.

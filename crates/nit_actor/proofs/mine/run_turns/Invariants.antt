@@ -1,5 +1,6 @@
 use Rattle.std.proofs.Common.{length, map, ◌≡◌}
-use Rattle.nit_actor.proofs.Lemmas.{All, IsRoleIn, PassModel, PutsShotsBehind, put_state_of_desk, role_of, user_role_of}
+use Rattle.nit_actor.proofs.Lemmas.{All, IsRoleIn, PassModel, PutsShotsBehind, put_state_of_desk}
+use Rattle.nit_actor.proofs.Lemmas.{role_of, user_role_of}
 use Rattle.nit_actor.proofs.mine.run_turns.Given as goal
 
 abbrev pub invariant-turns : goal.invariant-turns

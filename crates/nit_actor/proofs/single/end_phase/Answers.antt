@@ -2,9 +2,12 @@ use Rattle.nit_actor.proofs.Lemmas.{phase_ended, user_at_phase}
 use Rattle.nit_actor.proofs.single.end_phase.Goals as goal
 
 pub arrive_user-requires-clause-next : goal.arrive_user-requires-clause-next
-arrive_user-requires-clause-next c = user_at_phase c.args.room.now c.args.pass.now c.args.user.now c.requires.step c.requires.next
+arrive_user-requires-clause-next c = user_at_phase c.args.room.now c.args.pass.now c.args.user.now c.requires.step
+    c.requires.next
 
 pub returns-clause-step : goal.returns-clause-step
 returns-clause-step c =
-    phase_ended c.args.room.now c.arrive.new.self c.arrive_user.new.self c.args.pass.now c.arrive.new.pass c.args.user.now c.arrive_user.new.user _ _ _ _
-    c.requires.step c.requires.next c.arrive.ensures.room c.arrive_user.ensures.room c.arrive.ensures.pass c.arrive_user.ensures.user
+    phase_ended c.args.room.now c.arrive.new.self c.arrive_user.new.self c.args.pass.now c.arrive.new.pass
+    c.args.user.now c.arrive_user.new.user _ _ _ _
+    c.requires.step c.requires.next c.arrive.ensures.room c.arrive_user.ensures.room c.arrive.ensures.pass
+    c.arrive_user.ensures.user

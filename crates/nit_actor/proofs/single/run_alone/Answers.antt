@@ -15,4 +15,5 @@ lines-preserved c =
     }
 
 pub returns-clause-user_done : goal.returns-clause-user_done
-returns-clause-user_done c = user_ended c.lines.room c.lines.pass c.lines.user c.lines.invariant.step c.in_default.ensures.end c.done-within.ensures.within
+returns-clause-user_done c = user_ended c.lines.room c.lines.pass c.lines.user c.lines.invariant.step
+    c.in_default.ensures.end c.done-within.ensures.within

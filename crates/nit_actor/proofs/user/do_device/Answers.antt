@@ -1,4 +1,5 @@
-use Rattle.nit_actor.proofs.Lemmas.{UserPassModel, ap, next_device, quiet_device, take, user_actions_in, ◌∙◌}
+use Rattle.nit_actor.proofs.Lemmas.{UserPassModel, ap, next_device, quiet_device, take}
+use Rattle.nit_actor.proofs.Lemmas.{user_actions_in, ◌∙◌}
 use Rattle.nit_actor.proofs.user.do_device.Goals as goal
 
 pub returns-clause-seen : goal.returns-clause-seen
@@ -8,6 +9,7 @@ returns-clause-seen g c =
     (record {
       line_is = c.requires.next;
       before_is = c.next-known.ensures.known;
-      after_is = c.next-known-2.ensures.known ∙ ap (λ (v : UserPassModel). user_actions_in (take v.next v.input)) c.user_next.ensures.user;
+      after_is = c.next-known-2.ensures.known
+          ∙ ap (λ (v : UserPassModel). user_actions_in (take v.next v.input)) c.user_next.ensures.user;
     })
     c.user_next.ensures.told

@@ -8,6 +8,7 @@ returns-clause-seen g c =
     (record {
       line_is = c.requires.next;
       before_is = c.next-known.ensures.known;
-      after_is = c.next-known-2.ensures.known ∙ ap (λ (v : UserPassModel). user_actions_in (take v.next v.input)) c.arrive_user.ensures.user;
+      after_is = c.next-known-2.ensures.known
+          ∙ ap (λ (v : UserPassModel). user_actions_in (take v.next v.input)) c.arrive_user.ensures.user;
     })
     c.arrive_user.ensures.grows

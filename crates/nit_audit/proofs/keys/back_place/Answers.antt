@@ -6,7 +6,9 @@ pub returns-clause-place : goal.returns-clause-place
 returns-clause-place c v =
     let on : ℕ → ℕ = λ k. layer c.args.config.now (view_under c.args.records.now k).sid in
     let none : c.loop-i.i ≡ 0 = omega arith in
-    back_none on c.args.high v c.args.keys.now (subst (λ (n : ℕ). list_any (λ k. nat_le (on k) c.args.high) (drop n c.args.keys.now) ≡ false) none c.loop-i.invariant)
+    back_none on c.args.high v c.args.keys.now
+    (subst (λ (n : ℕ). list_any (λ k. nat_le (on k) c.args.high) (drop n c.args.keys.now) ≡ false) none
+    c.loop-i.invariant)
 
 pub returns-then-layer_of-high-clause-place : goal.returns-then-layer_of-high-clause-place
 returns-then-layer_of-high-clause-place c v =
@@ -14,4 +16,6 @@ returns-then-layer_of-high-clause-place c v =
     let more : c.loop-i.i ≡ c.loop-i.i - 1 + 1 = omega arith in
     let same = rw c.view_under.ensures at c.layer_of.ensures in
     let low : on (get_or c.args.keys.now (c.loop-i.i - 1) 0) ≤ c.args.high = omega (arith, same) in
-    back_at on c.args.high v c.args.keys.now (c.loop-i.i - 1) 0 (omega arith) low (subst (λ (n : ℕ). list_any (λ k. nat_le (on k) c.args.high) (drop n c.args.keys.now) ≡ false) more c.loop-i.invariant)
+    back_at on c.args.high v c.args.keys.now (c.loop-i.i - 1) 0 (omega arith) low
+    (subst (λ (n : ℕ). list_any (λ k. nat_le (on k) c.args.high) (drop n c.args.keys.now) ≡ false) more
+    c.loop-i.invariant)

@@ -1,4 +1,5 @@
-use Rattle.nit_clip.proofs.Lemmas.{all_calls, arith, one_more_call, one_more_phase, phase_of_clip, ◌∙◌}
+use Rattle.nit_clip.proofs.Lemmas.{all_calls, arith, one_more_call, one_more_phase, phase_of_clip}
+use Rattle.nit_clip.proofs.Lemmas.{◌∙◌}
 use Rattle.nit_clip.proofs.laws.calls_of_a_clip_script.Goals as goal
 
 pub returns-clause-all : goal.returns-clause-all

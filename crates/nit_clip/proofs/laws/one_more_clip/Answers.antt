@@ -5,4 +5,5 @@ pub returns-clause-place : goal.returns-clause-place
 returns-clause-place c config journal clips legal = last_within config journal clips legal
 
 pub returns-clause-legal : goal.returns-clause-legal
-returns-clause-legal c config journal clips e legal opened at session focus is = legal_more config journal clips e legal opened at session focus is
+returns-clause-legal c config journal clips e legal opened at session focus is =
+    legal_more config journal clips e legal opened at session focus is

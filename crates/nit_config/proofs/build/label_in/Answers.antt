@@ -5,4 +5,6 @@ pub text_at-requires : goal.text_at-requires
 text_at-requires c = label_length _ (label_is_label _ c.requires)
 
 pub unreachable-requires : goal.unreachable-requires
-unreachable-requires c = false≢true (c.in-None.ensures.exactly.1 (ap is_label (c.as_bytes.ensures.value ∙ c.text_at.ensures.same) ∙ label_is_label _ c.requires))
+unreachable-requires c = false≢true
+    (c.in-None.ensures.exactly.1 (ap is_label (c.as_bytes.ensures.value ∙ c.text_at.ensures.same)
+    ∙ label_is_label _ c.requires))

@@ -5,4 +5,5 @@ use Rattle.nit_host.proofs.planning.plan.Goals as goal
 
 pub returns-in-Ok-clause-configured : goal.returns-in-Ok-clause-configured
 returns-in-Ok-clause-configured c =
-    subst IsConfiguration (sym c.in-Ok.ensures) (plan_configured c.args.width c.args.height c.args.bar c.args.seats.now (sym c.in_default.ensures))
+    subst IsConfiguration (sym c.in-Ok.ensures)
+    (plan_configured c.args.width c.args.height c.args.bar c.args.seats.now (sym c.in_default.ensures))

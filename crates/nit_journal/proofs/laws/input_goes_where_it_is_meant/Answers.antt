@@ -1,4 +1,5 @@
-use Rattle.nit_journal.proofs.Lemmas.{buttons_go, held_goes, keys_go, kill_tells, mode_keys_tell, receiver_holds, xray_tells}
+use Rattle.nit_journal.proofs.Lemmas.{buttons_go, held_goes, keys_go, kill_tells, mode_keys_tell}
+use Rattle.nit_journal.proofs.Lemmas.{receiver_holds, xray_tells}
 use Rattle.nit_journal.proofs.laws.input_goes_where_it_is_meant.Goals as goal
 
 pub returns-clause-keys : goal.returns-clause-keys

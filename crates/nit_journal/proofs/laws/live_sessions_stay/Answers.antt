@@ -1,4 +1,5 @@
-use Rattle.nit_journal.proofs.Lemmas.{live_after, live_along, live_first, live_opened, live_vacant, told_next}
+use Rattle.nit_journal.proofs.Lemmas.{live_after, live_along, live_first, live_opened, live_vacant}
+use Rattle.nit_journal.proofs.Lemmas.{told_next}
 use Rattle.nit_journal.proofs.laws.live_sessions_stay.Goals as goal
 
 pub returns-clause-first : goal.returns-clause-first

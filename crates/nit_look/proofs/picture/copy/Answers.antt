@@ -18,7 +18,8 @@ loop-row-preserved c =
     record {
       copied = row_copied width row _ frame out part wide room long known.copied copied;
       rest = rows_below width row _ frame out c.args.out.now part wide room long known.rest copied;
-      edges = c.with_row-found.ensures width frame c.args.out.now known.edges (rw (wide, known.rest) at c.copy_row-span.ensures.span);
+      edges = c.with_row-found.ensures width frame c.args.out.now known.edges
+          (rw (wide, known.rest) at c.copy_row-span.ensures.span);
     }
 
 pub returns-clause-edges : goal.returns-clause-edges

@@ -6,7 +6,8 @@ abbrev pub invariant-runs : goal.invariant-runs
 invariant-runs l = record {
   after : l.area.left ≤ l.x;
   inside : l.x ≤ l.area.right;
-  painted : IsAreaBy (λ x y w. word_by (stripe_rule l.stripe x) x y w) (part_at l.area.left l.area.top l.x l.area.bottom) l.width l.raw l.initial.out l.out (length l.raw);
+  painted : IsAreaBy (λ x y w. word_by (stripe_rule l.stripe x) x y w)
+      (part_at l.area.left l.area.top l.x l.area.bottom) l.width l.raw l.initial.out l.out (length l.raw);
 }
 
 abbrev pub decreases-runs : goal.decreases-runs

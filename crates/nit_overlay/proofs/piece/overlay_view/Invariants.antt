@@ -6,7 +6,8 @@ abbrev pub invariant-bands : goal.invariant-bands
 invariant-bands l = record {
   after : l.area.top ≤ l.y;
   inside : l.y ≤ l.area.bottom;
-  painted : IsAreaBy (λ x y w. view_word l.look.mode (scenery l.look) l.owner.view (point x y) w) (part_at l.area.left l.area.top l.area.right l.y) l.width l.raw l.initial.out l.out (length l.raw);
+  painted : IsAreaBy (λ x y w. view_word l.look.mode (scenery l.look) l.owner.view (point x y) w)
+      (part_at l.area.left l.area.top l.area.right l.y) l.width l.raw l.initial.out l.out (length l.raw);
 }
 
 abbrev pub decreases-bands : goal.decreases-bands

@@ -1,4 +1,5 @@
-use Rattle.nit_paint.proofs.Lemmas.{other_count, repainted_both, repainted_same, repainted_union, repainted_words}
+use Rattle.nit_paint.proofs.Lemmas.{other_count, repainted_both, repainted_same, repainted_union}
+use Rattle.nit_paint.proofs.Lemmas.{repainted_words}
 use Rattle.nit_paint.proofs.laws.repainted_parts.Goals as goal
 
 pub returns-clause-both : goal.returns-clause-both

@@ -5,8 +5,11 @@ pub returns-clause-painted : goal.returns-clause-painted
 returns-clause-painted c glasses =
     let b = c.new-block.result in
     let is = c.new-block.ensures.rectangle in
-    let width = width_is b.width c.size-width.result c.args.stack.now.width c.args.stack.now.height c.new-block.ensures.width c.size-width.ensures.size in
-    whole_piece _ b _ _ _ _ _ _ _ is width (c.bare_rows.ensures _ glasses (bare_told c.args.stack.now c.args.piece.now b is width b.across c.requires.piece c.requires.bare))
+    let width = width_is b.width c.size-width.result c.args.stack.now.width c.args.stack.now.height
+    c.new-block.ensures.width c.size-width.ensures.size in
+    whole_piece _ b _ _ _ _ _ _ _ is width
+    (c.bare_rows.ensures _ glasses (bare_told c.args.stack.now c.args.piece.now b is width b.across c.requires.piece
+    c.requires.bare))
 
 pub returns-clause-words : goal.returns-clause-words
 returns-clause-words c = repainted_words _ _ _ _ _ _ _ c.bare_rows.auto.raw (returns-clause-painted c (λ t. no_sight))

@@ -1,11 +1,17 @@
 use Rattle.std.proofs.Common.{ap, arith, pos, refl, sym, ◌*◌, ◌∙◌, ◌≡◌, ◌+ℤ◌}
-use Rattle.nit_paint.proofs.Lemmas.{among, black_or_word, index_at, ints, option_map, reached, row_told, rows_end, rows_more, rows_none, to_z-of_z}
+use Rattle.nit_paint.proofs.Lemmas.{among, black_or_word, index_at, ints, option_map, reached}
+use Rattle.nit_paint.proofs.Lemmas.{row_told, rows_end, rows_more, rows_none, to_z-of_z}
 use mir.Syntax.{w32}
 use mir.Val.{of_z, to_z}
 use Rattle.nit_paint.proofs.pieces.paint_rows.Goals as goal
 
 pub rows-init : goal.rows-init
-rows-init g c = record { painted = λ source sid others told. rows_none source c.args.block.now _ _ _; size = refl; rest = refl }
+rows-init g c = record {
+  painted = λ source sid others told. rows_none source c.args.block.now _ _ _;
+  size =
+      refl;
+  rest = refl;
+}
 
 pub rows-preserved : goal.rows-preserved
 rows-preserved g c =
@@ -13,9 +19,12 @@ rows-preserved g c =
     let e = c.paint_row.ensures in
     record {
       painted = λ source sid others told.
-          let start = c.row_start-start.ensures.start ∙ ap (λ z. option_map (λ y. y * c.args.size.0) (among z c.args.size.1)) (omega (arith, ints)) in
-          rows_more source c.args.block.now c.rows.j _ _ _ _ _ _ _ _ _ _ (omega arith) (omega arith) refl c.requires.long c.rows.auto.raw (i.painted source sid others told)
-          (e.painted source sid others (row_told source _ sid c.args.size.0 c.args.block.now.wide c.args.reach.now _ _ start c.requires.long (λ k l. told c.rows.j k c.rows-test.true l)));
+          let start = c.row_start-start.ensures.start
+          ∙ ap (λ z. option_map (λ y. y * c.args.size.0) (among z c.args.size.1)) (omega (arith, ints)) in
+          rows_more source c.args.block.now c.rows.j _ _ _ _ _ _ _ _ _ _ (omega arith) (omega arith) refl
+          c.requires.long c.rows.auto.raw (i.painted source sid others told)
+          (e.painted source sid others (row_told source _ sid c.args.size.0 c.args.block.now.wide c.args.reach.now _ _
+          start c.requires.long (λ k l. told c.rows.j k c.rows-test.true l)));
       size = e.size ∙ i.size;
       rest = e.rest ∙ i.rest;
     }
@@ -25,4 +34,6 @@ returns-clause-painted g c source sid others told =
     let same : c.args.row ≡ to_z w32 (of_z w32 c.args.row) = sym (to_z-of_z w32 c.args.row c.ranges.row) in
     rows_end source c.args.block.now _ _ _ _ _ _ _ (omega arith)
     (c.rows.invariant.painted source sid others
-    (λ j i l m. told j i l m ∙ ap (λ z. black_or_word sid (index_at c.args.size.0 (reached c.args.reach.now i) (among (z +ℤ pos j) c.args.size.1))) same))
+    (λ j i l m. told j i l m ∙ ap
+    (λ z. black_or_word sid (index_at c.args.size.0 (reached c.args.reach.now i)
+    (among (z +ℤ pos j) c.args.size.1))) same))

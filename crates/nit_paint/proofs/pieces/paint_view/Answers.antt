@@ -1,4 +1,5 @@
-use Rattle.nit_paint.proofs.Lemmas.{arith, ints, no_sight, own_seen_by, repainted_words, rows_fit, seat_stands, session_shown, view_told, whole_piece, width_is}
+use Rattle.nit_paint.proofs.Lemmas.{arith, ints, no_sight, own_seen_by, repainted_words, rows_fit}
+use Rattle.nit_paint.proofs.Lemmas.{seat_stands, session_shown, view_told, whole_piece, width_is}
 use Rattle.nit_paint.proofs.pieces.paint_view.Goals as goal
 
 pub buffer-w-requires : goal.buffer-w-requires
@@ -9,31 +10,37 @@ buffer-w-requires g c =
 
 pub buffer_place-column-requires-clause-offset : goal.buffer_place-column-requires-clause-offset
 buffer_place-column-requires-clause-offset g c =
-    let seat = seat_stands c.args.stack.now c.in-Some.v c.view-view.result c.view-view.ensures.standing c.view-view.ensures.value in
+    let seat = seat_stands c.args.stack.now c.in-Some.v c.view-view.result c.view-view.ensures.standing
+    c.view-view.ensures.value in
     let column = seat.column in
     (omega (arith, ints), omega (arith, ints))
 
 pub buffer_place-row-requires-clause-offset : goal.buffer_place-row-requires-clause-offset
 buffer_place-row-requires-clause-offset g c =
-    let seat = seat_stands c.args.stack.now c.in-Some.v c.view-view.result c.view-view.ensures.standing c.view-view.ensures.value in
+    let seat = seat_stands c.args.stack.now c.in-Some.v c.view-view.result c.view-view.ensures.standing
+    c.view-view.ensures.value in
     let row = seat.row in
     (omega (arith, ints), omega (arith, ints))
 
 pub paint_rows-requires-clause-pixels : goal.paint_rows-requires-clause-pixels
 paint_rows-requires-clause-pixels g c =
     let b = c.new-block.result in
-    let width = width_is b.width c.size-width.result c.args.stack.now.width c.args.stack.now.height c.new-block.ensures.width c.size-width.ensures.size in
-    let fit = rows_fit c.args.stack.now c.args.piece.now b c.new-block.ensures.rectangle width b.across c.requires.piece in
+    let width = width_is b.width c.size-width.result c.args.stack.now.width c.args.stack.now.height
+    c.new-block.ensures.width c.size-width.ensures.size in
+    let fit = rows_fit c.args.stack.now c.args.piece.now b c.new-block.ensures.rectangle width b.across
+    c.requires.piece in
     rw c.requires.raw fit
 
 pub returns-clause-painted : goal.returns-clause-painted
 returns-clause-painted g c others =
     let b = c.new-block.result in
     let is = c.new-block.ensures.rectangle in
-    let width = width_is b.width c.size-width.result c.args.stack.now.width c.args.stack.now.height c.new-block.ensures.width c.size-width.ensures.size in
+    let width = width_is b.width c.size-width.result c.args.stack.now.width c.args.stack.now.height
+    c.new-block.ensures.width c.size-width.ensures.size in
     whole_piece _ b _ _ _ _ _ _ _ is width
     (c.paint_rows.ensures.painted _ _ others
-    (view_told c.args.stack.now c.args.piece.now b is width b.across c.requires.piece c.in-Some.v c.view-view.result _ _ _ _ c.new-reach.result c.in-Some.is c.view-view.ensures.standing c.view-view.ensures.value
+    (view_told c.args.stack.now c.args.piece.now b is width b.across c.requires.piece c.in-Some.v c.view-view.result _ _
+    _ _ c.new-reach.result c.in-Some.is c.view-view.ensures.standing c.view-view.ensures.value
     c.buffer-w.ensures.size (omega (arith, ints)) (omega (arith, ints)) c.new-reach.ensures.places))
 
 pub returns-clause-kept : goal.returns-clause-kept
@@ -43,4 +50,5 @@ returns-clause-kept g c =
     (r.loads sid, own_seen_by (λ t. no_sight) sid _ _ r.loads r.sights)
 
 pub returns-clause-words : goal.returns-clause-words
-returns-clause-words g c = repainted_words _ _ _ _ _ _ _ c.paint_rows.auto.raw (returns-clause-painted g c (λ t. no_sight))
+returns-clause-words g c = repainted_words _ _ _ _ _ _ _ c.paint_rows.auto.raw
+    (returns-clause-painted g c (λ t. no_sight))

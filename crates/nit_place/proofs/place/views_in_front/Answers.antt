@@ -1,5 +1,6 @@
 use Rattle.std.proofs.Common.{arith, false, slice_index_or, sym, ◌∙◌, ◌≡◌}
-use Rattle.nit_place.proofs.Lemmas.{below_more, eq-eqb, fresh_in, is_slot, other_slot, position_or_len_is, slot_at}
+use Rattle.nit_place.proofs.Lemmas.{below_more, eq-eqb, fresh_in, is_slot, other_slot}
+use Rattle.nit_place.proofs.Lemmas.{position_or_len_is, slot_at}
 use Rattle.nit_place.proofs.place.views_in_front.Goals as goal
 
 pub returns-then-at-v-clause-count : goal.returns-then-at-v-clause-count
@@ -7,7 +8,8 @@ returns-then-at-v-clause-count c =
     sym (position_or_len_is (is_slot c.args.v.0) c.args.stack.now.views c.views.i (fresh_in 0 0 0)
     (omega (arith, c.len-count.ensures.count))
     (λ k lt. c.views.invariant k (fresh_in 0 0 0) lt)
-    (λ within. eq-eqb _ _ (slot_at c.args.stack.now.views c.views.i c.at.result (fresh_in 0 0 0) c.at.ensures.place ∙ c.if-at-v.true)))
+    (λ within. eq-eqb _ _ (slot_at c.args.stack.now.views c.views.i c.at.result (fresh_in 0 0 0) c.at.ensures.place
+    ∙ c.if-at-v.true)))
 
 pub views-preserved : goal.views-preserved
 views-preserved c =

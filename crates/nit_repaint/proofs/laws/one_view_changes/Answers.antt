@@ -1,4 +1,6 @@
-use Rattle.nit_repaint.proofs.Lemmas.{changes, eqb-true, found_passes, gone_change, is_slot, moves_above, moves_back, moves_front, place_of, with_offset, with_rect, without}
+use Rattle.nit_repaint.proofs.Lemmas.{changes, eqb-true, found_passes, gone_change, is_slot}
+use Rattle.nit_repaint.proofs.Lemmas.{moves_above, moves_back, moves_front, place_of, with_offset}
+use Rattle.nit_repaint.proofs.Lemmas.{with_rect, without}
 use Rattle.std.proofs.Common.{Some, ap, refl, ℕ, ◌∙◌, ◌≡◌}
 use Rattle.nit_repaint.proofs.laws.one_view_changes.Goals as goal
 
@@ -20,4 +22,5 @@ returns-clause-above c s k n seat standing there = moves_above s k seat standing
 pub returns-clause-gone : goal.returns-clause-gone
 returns-clause-gone c s k seat standing there =
     let same : seat.slot ≡ k = eqb-true seat.slot k (found_passes (is_slot k) s.views seat there) in
-    gone_change s (record s { views = without (is_slot k) s.views }) k (place_of k s.views) seat.view standing.slots (there ∙ ap (λ (n : ℕ). Some (record { slot = n; view = seat.view })) same) refl refl
+    gone_change s (record s { views = without (is_slot k) s.views }) k (place_of k s.views) seat.view standing.slots
+    (there ∙ ap (λ (n : ℕ). Some (record { slot = n; view = seat.view })) same) refl refl

@@ -1,4 +1,5 @@
-use Rattle.nit_repaint.proofs.Lemmas.{all_shown, arith, length, none_shown, one_shown, piece_shown, refl, shown_at, ◌∙◌}
+use Rattle.nit_repaint.proofs.Lemmas.{all_shown, arith, length, none_shown, one_shown, piece_shown}
+use Rattle.nit_repaint.proofs.Lemmas.{refl, shown_at, ◌∙◌}
 use Rattle.nit_repaint.proofs.showing.show_to_come.Goals as goal
 
 pub pieces-init : goal.pieces-init
@@ -6,7 +7,8 @@ pieces-init c = record {
   fits = c.requires.fits;
   room = refl;
   less = λ p. omega arith;
-  shown = none_shown c.args.look.now.stack.now (length c.args.raw.now) c.args.cutter.now (shown_at c.args.look.now c.args.raw.now) c.args.frame.now;
+  shown = none_shown c.args.look.now.stack.now (length c.args.raw.now) c.args.cutter.now
+      (shown_at c.args.look.now c.args.raw.now) c.args.frame.now;
 }
 
 pub overlay_piece-requires-clause-out : goal.overlay_piece-requires-clause-out
@@ -22,11 +24,16 @@ pieces-preserved c =
       fits = e.fits;
       room = e.room ∙ i.room;
       less = λ p. let was = i.less p in let now = e.count p in omega arith;
-      shown = one_shown s n c.args.cutter.now c.pieces.cutter c.next.new.self c.in-Some.piece.rect (shown_at c.args.look.now c.args.raw.now) (shown_at c.args.look.now c.args.raw.now) c.args.frame.now c.pieces.frame c.overlay_piece.new.out
+      shown = one_shown s n c.args.cutter.now c.pieces.cutter c.next.new.self c.in-Some.piece.rect
+          (shown_at c.args.look.now c.args.raw.now) (shown_at c.args.look.now c.args.raw.now) c.args.frame.now
+          c.pieces.frame c.overlay_piece.new.out
           i.less e.count e.came (λ k out. refl) i.shown
-          (piece_shown s n c.in-Some.piece.rect (shown_at c.args.look.now c.args.raw.now) c.pieces.frame c.overlay_piece.new.out c.requires.pixels c.overlay_piece.ensures.pixels c.overlay_piece.ensures.length);
+          (piece_shown s n c.in-Some.piece.rect (shown_at c.args.look.now c.args.raw.now) c.pieces.frame
+          c.overlay_piece.new.out c.requires.pixels c.overlay_piece.ensures.pixels c.overlay_piece.ensures.length);
     }
 
 pub returns-clause-shown : goal.returns-clause-shown
 returns-clause-shown c =
-    all_shown c.args.look.now.stack.now (length c.args.raw.now) c.args.cutter.now c.pieces.cutter (shown_at c.args.look.now c.args.raw.now) c.args.frame.now c.pieces.frame c.in_default.ensures.came c.pieces.invariant.shown
+    all_shown c.args.look.now.stack.now (length c.args.raw.now) c.args.cutter.now c.pieces.cutter
+    (shown_at c.args.look.now c.args.raw.now) c.args.frame.now c.pieces.frame c.in_default.ensures.came
+    c.pieces.invariant.shown

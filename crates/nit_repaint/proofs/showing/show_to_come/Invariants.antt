@@ -1,5 +1,6 @@
 use Rattle.std.proofs.Common.{length, ◌≡◌, ◌≤◌}
-use Rattle.nit_repaint.proofs.Lemmas.{AreSet, FitsStack, Point, has_come, pieces_left, shown_at, to_come}
+use Rattle.nit_repaint.proofs.Lemmas.{AreSet, FitsStack, Point, has_come, pieces_left, shown_at}
+use Rattle.nit_repaint.proofs.Lemmas.{to_come}
 use Rattle.nit_repaint.proofs.showing.show_to_come.Given as goal
 
 abbrev pub invariant-pieces : goal.invariant-pieces
@@ -7,7 +8,8 @@ invariant-pieces l = record {
   fits : FitsStack l.cutter l.look.stack.now;
   room : l.cutter.room ≡ l.initial.cutter.room;
   less : (p : Point) → to_come l.cutter l.look.stack.now p ≤ to_come l.initial.cutter l.look.stack.now p;
-  shown : AreSet (has_come l.initial.cutter l.cutter l.look.stack.now) (length l.raw) (shown_at l.look l.raw) l.initial.frame l.frame;
+  shown : AreSet (has_come l.initial.cutter l.cutter l.look.stack.now) (length l.raw) (shown_at l.look l.raw)
+      l.initial.frame l.frame;
 }
 
 abbrev pub decreases-pieces : goal.decreases-pieces

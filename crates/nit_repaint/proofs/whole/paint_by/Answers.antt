@@ -1,4 +1,5 @@
-use Rattle.nit_repaint.proofs.Lemmas.{all_came, arith, none_came, one_came, other_count, refl, screen_of, source_of_number, still_held, ◌∙◌}
+use Rattle.nit_repaint.proofs.Lemmas.{all_came, arith, none_came, one_came, other_count, refl}
+use Rattle.nit_repaint.proofs.Lemmas.{screen_of, source_of_number, still_held, ◌∙◌}
 use Rattle.nit_repaint.proofs.whole.paint_by.Goals as goal
 
 pub pieces-init : goal.pieces-init
@@ -14,11 +15,14 @@ pieces-init g c = record {
 pub paint_piece_by-requires-clause-piece : goal.paint_piece_by-requires-clause-piece
 paint_piece_by-requires-clause-piece g c =
     let e = c.in-Some.ensures in
-    c.pieces_of_owners.ensures c.args.stack.now c.in-Some.piece (screen_of c.size-screen.result c.args.stack.now c.size-screen.ensures.size c.size-screen.ensures.range) e.pixels e.on_screen e.owner
+    c.pieces_of_owners.ensures c.args.stack.now c.in-Some.piece
+    (screen_of c.size-screen.result c.args.stack.now c.size-screen.ensures.size c.size-screen.ensures.range)
+    e.pixels e.on_screen e.owner
 
 pub paint_piece_by-requires-clause-held : goal.paint_piece_by-requires-clause-held
 paint_piece_by-requires-clause-held g c =
-    still_held c.args.stack.now _ _ _ _ c.pieces.invariant.painted.loads c.pieces.auto.owns c.pieces.invariant.painted.sights c.requires.held
+    still_held c.args.stack.now _ _ _ _ c.pieces.invariant.painted.loads c.pieces.auto.owns
+    c.pieces.invariant.painted.sights c.requires.held
 
 pub pieces-preserved : goal.pieces-preserved
 pieces-preserved g c =
@@ -29,7 +33,8 @@ pieces-preserved g c =
       fits = e.fits;
       room = e.room ∙ i.room;
       less = λ p. let was = i.less p in let now = e.count p in omega arith;
-      painted = one_came (source_of_number c.args.stack.now) c.args.stack.now _ c.args.cutter.now c.pieces.cutter c.next.new.self c.in-Some.piece.rect _ _ _ _ _ _
+      painted = one_came (source_of_number c.args.stack.now) c.args.stack.now _ c.args.cutter.now c.pieces.cutter
+          c.next.new.self c.in-Some.piece.rect _ _ _ _ _ _
           c.requires.fits.once i.less e.count e.came i.painted (other_count _ _ _ _ _ _ _ _ i.count p'.painted);
       count = p'.count ∙ i.count;
       rests = p'.rests ∙ i.rests;
@@ -37,4 +42,5 @@ pieces-preserved g c =
 
 pub returns-clause-painted : goal.returns-clause-painted
 returns-clause-painted g c =
-    all_came (source_of_number c.args.stack.now) c.args.stack.now _ c.args.cutter.now c.pieces.cutter _ _ _ _ c.in_default.ensures.came c.pieces.invariant.painted
+    all_came (source_of_number c.args.stack.now) c.args.stack.now _ c.args.cutter.now c.pieces.cutter _ _ _ _
+    c.in_default.ensures.came c.pieces.invariant.painted

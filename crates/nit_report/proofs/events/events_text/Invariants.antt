@@ -4,4 +4,5 @@ use Rattle.nit_report.proofs.events.events_text.Given as goal
 
 abbrev pub invariant-loop-entry : goal.invariant-loop-entry
 invariant-loop-entry l =
-    l.out.items ++ flat_map (spelled event_spelling) (flat_map (taken l.sid) (drop l.entry-index l.entries)) ≡ flat_map (spelled event_spelling) (flat_map (taken l.sid) l.entries)
+    l.out.items ++ flat_map (spelled event_spelling) (flat_map (taken l.sid) (drop l.entry-index l.entries))
+    ≡ flat_map (spelled event_spelling) (flat_map (taken l.sid) l.entries)

@@ -11,7 +11,10 @@ pub loop-view-preserved : goal.loop-view-preserved
 loop-view-preserved c =
     let v = c.loop-view.view in
     λ s.
-    each_more 1 (v - 1) _ v (λ k. just (titled k) ∷ []) (c.loop-view.invariant s) (appends_one (just (titled v)) (ap (λ (t : List ℕ). line.Call (call.Title v t)) c.title.ensures, refl) c.in_ok-push.ensures) (omega arith) (omega arith)
+    each_more 1 (v - 1) _ v (λ k. just (titled k) ∷ []) (c.loop-view.invariant s)
+    (appends_one (just (titled v)) (ap (λ (t : List ℕ). line.Call (call.Title v t)) c.title.ensures, refl)
+    c.in_ok-push.ensures) (omega arith) (omega arith)
 
 pub returns : goal.returns
-returns c = λ s. each_done 1 (c.loop-view.view - 1) 16 (λ v. just (titled v) ∷ []) (c.loop-view.invariant s) (omega arith)
+returns c = λ s. each_done 1 (c.loop-view.view - 1) 16 (λ v. just (titled v) ∷ []) (c.loop-view.invariant s)
+    (omega arith)

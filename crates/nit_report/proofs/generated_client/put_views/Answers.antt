@@ -11,7 +11,9 @@ pub loop-view-preserved : goal.loop-view-preserved
 loop-view-preserved c =
     let v = c.loop-view._view in
     λ s.
-    each_more 1 (v - 1) _ v (λ k. just (line.Call call.View) ∷ []) (c.loop-view.invariant s) (appends_one (just (line.Call call.View)) (refl, refl) c.in_ok-push.ensures) (omega arith) (omega arith)
+    each_more 1 (v - 1) _ v (λ k. just (line.Call call.View) ∷ []) (c.loop-view.invariant s)
+    (appends_one (just (line.Call call.View)) (refl, refl) c.in_ok-push.ensures) (omega arith) (omega arith)
 
 pub returns : goal.returns
-returns c = λ s. each_done 1 (c.loop-view._view - 1) 16 (λ v. just (line.Call call.View) ∷ []) (c.loop-view.invariant s) (omega arith)
+returns c = λ s. each_done 1 (c.loop-view._view - 1) 16 (λ v. just (line.Call call.View) ∷ []) (c.loop-view.invariant s)
+    (omega arith)

@@ -7,5 +7,6 @@ returns-then-n-lt10 t c = record { count = omega (arith, one_digit c.args.n c.if
 
 pub returns-else-n-lt10 : goal.returns-else-n-lt10
 returns-else-n-lt10 t c =
-    let count : c.digit_count.result + 1 ≡ length (decimal c.args.n) = omega (arith, one_digit_more c.args.n c.if-n-lt10.false (omega arith), c.digit_count.ensures.count) in
+    let count : c.digit_count.result + 1 ≡ length (decimal c.args.n) =
+    omega (arith, one_digit_more c.args.n c.if-n-lt10.false (omega arith), c.digit_count.ensures.count) in
     record { count = count; few = omega (arith, few_digits c.args.n (omega arith)) }

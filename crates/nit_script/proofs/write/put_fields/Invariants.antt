@@ -4,5 +4,6 @@ use Rattle.nit_script.proofs.write.put_fields.Given as goal
 
 abbrev pub invariant-loop-field : goal.invariant-loop-field
 invariant-loop-field l =
-    (l.out.items ++ flat_map field_spelling (drop l.field-index l.fields) ≡ l.fn.out.items ++ flat_map field_spelling l.fields)
+    (l.out.items ++ flat_map field_spelling (drop l.field-index l.fields)
+    ≡ l.fn.out.items ++ flat_map field_spelling l.fields)
     × KeepsBytes l.fn.out.items l.out.items

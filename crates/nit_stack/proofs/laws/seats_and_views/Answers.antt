@@ -1,4 +1,5 @@
-use Rattle.nit_stack.proofs.Lemmas.{any_named, any_session, owner_of_views, views_closed, views_put_back, views_put_front}
+use Rattle.nit_stack.proofs.Lemmas.{any_named, any_session, owner_of_views, views_closed}
+use Rattle.nit_stack.proofs.Lemmas.{views_put_back, views_put_front}
 use Rattle.nit_stack.proofs.laws.seats_and_views.Goals as goal
 
 pub returns-clause-put_front : goal.returns-clause-put_front

@@ -1,4 +1,5 @@
-use Rattle.nit_stack.proofs.Lemmas.{has-above, has-back, has-changed, has-front, has-put_front, has-without, without_none, without_one}
+use Rattle.nit_stack.proofs.Lemmas.{has-above, has-back, has-changed, has-front, has-put_front}
+use Rattle.nit_stack.proofs.Lemmas.{has-without, without_none, without_one}
 use Rattle.nit_stack.proofs.laws.slots_after.Goals as goal
 
 pub returns-clause-push_front : goal.returns-clause-push_front

@@ -1,4 +1,5 @@
-use Rattle.nit_stack.proofs.Lemmas.{views_above, views_backed, views_changed, views_fronted, views_moved, views_without}
+use Rattle.nit_stack.proofs.Lemmas.{views_above, views_backed, views_changed, views_fronted}
+use Rattle.nit_stack.proofs.Lemmas.{views_moved, views_without}
 use Rattle.nit_stack.proofs.laws.slots_and_names.Goals as goal
 
 pub returns-clause-removed : goal.returns-clause-removed

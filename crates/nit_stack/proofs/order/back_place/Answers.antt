@@ -7,10 +7,14 @@ returns-then-layer_at-layer-clause-place c v =
     let layer = layer_in c.args.slots.now c.args.layers.now in
     let more : c.loop-i.i ≡ c.loop-i.i - 1 + 1 = omega arith in
     let low : layer (get_or c.args.order.now (c.loop-i.i - 1) 0) ≤ c.args.layer = omega (arith, c.layer_at.ensures) in
-    back_at layer c.args.layer v c.args.order.now (c.loop-i.i - 1) 0 (omega arith) low (subst (λ (n : ℕ). list_any (λ k. nat_le (layer k) c.args.layer) (drop n c.args.order.now) ≡ false) more c.loop-i.invariant)
+    back_at layer c.args.layer v c.args.order.now (c.loop-i.i - 1) 0 (omega arith) low
+    (subst (λ (n : ℕ). list_any (λ k. nat_le (layer k) c.args.layer) (drop n c.args.order.now) ≡ false) more
+    c.loop-i.invariant)
 
 pub returns-clause-place : goal.returns-clause-place
 returns-clause-place c v =
     let layer = layer_in c.args.slots.now c.args.layers.now in
     let none : c.loop-i.i ≡ 0 = omega arith in
-    back_none layer c.args.layer v c.args.order.now (subst (λ (n : ℕ). list_any (λ k. nat_le (layer k) c.args.layer) (drop n c.args.order.now) ≡ false) none c.loop-i.invariant)
+    back_none layer c.args.layer v c.args.order.now
+    (subst (λ (n : ℕ). list_any (λ k. nat_le (layer k) c.args.layer) (drop n c.args.order.now) ≡ false) none
+    c.loop-i.invariant)

@@ -1,5 +1,9 @@
 use Rattle.std.proofs.Common.{◌≡◌, ◌∙◌, true, false, List, ◌∷◌, ◌++◌, refl, ap, subst, Option, Some}
-use Rattle.nit_top.proofs.Lemmas.{AreOutputs, AreShots, Entry, File, FirstShows, IsInnerJournal, Line, RunFiles, SeenLaws, Setup, begun_first, by_turns, final_name, final_picture, first_counts, first_may, first_state, fits_first, frames_pictured, nest_of, seen, shots_of, shown_first, text_files}
+use Rattle.nit_top.proofs.Lemmas.{AreOutputs, AreShots, Entry, File, FirstShows, IsInnerJournal}
+use Rattle.nit_top.proofs.Lemmas.{Line, RunFiles, SeenLaws, Setup, begun_first, by_turns}
+use Rattle.nit_top.proofs.Lemmas.{final_name, final_picture, first_counts, first_may, first_state}
+use Rattle.nit_top.proofs.Lemmas.{fits_first, frames_pictured, nest_of, seen, shots_of, shown_first}
+use Rattle.nit_top.proofs.Lemmas.{text_files}
 use Rattle.nit_top.proofs.laws.inner_runs_are_seen.Goals as goal
 
 not_both : false ≡ true → ⊥
@@ -9,20 +13,26 @@ not_both e = cc
 turns_put : (i : RunFiles) (journal : List Entry) → (files : List File) × AreOutputs (by_turns i) journal files
 turns_put i journal =
     let shots : List File = shots_of i.config i.scripts i.input in
-    let are : AreShots (by_turns i) journal shots = record { by_rounds = λ is. refl; beside = λ together. absurd (not_both together) } in
+    let are : AreShots (by_turns i) journal shots =
+    record { by_rounds = λ is. refl; beside = λ together. absurd (not_both together) } in
     (shots ++ (final_name, final_picture (by_turns i) journal) ∷ text_files (by_turns i) journal, (shots, are, refl))
 
 pub returns-clause-told : goal.returns-clause-told
 returns-clause-told c = λ old outer inner journal run.
     let n = run.files_are.of_command in
-    let is : IsInnerJournal (Some n.i) run.added = subst (λ (x : Option RunFiles). IsInnerJournal x run.added) (ap (λ (s : Setup). s.inner) n.setup) run.added_are in
+    let is : IsInnerJournal (Some n.i) run.added =
+    subst (λ (x : Option RunFiles). IsInnerJournal x run.added) (ap (λ (s : Setup). s.inner) n.setup)
+    run.added_are in
     let put = turns_put n.i is.0 in
     record {
       journal = is.0;
       added_is = is.2;
       is_journal = is.1;
       clients = (c.headline.ensures (by_turns n.i) is.0 put.0 n.runnable is.1 put.1).clients;
-      frames = frames_pictured c.drawn_as_replayed.ensures (λ config front e. c.one_more_entry.ensures.replayed (first_state config) front e) c.fronts_are_legal.ensures.legal n.i is.0 (c.configuration_stays.ensures.configuration n.i.config is.0) is.1;
+      frames = frames_pictured c.drawn_as_replayed.ensures
+          (λ config front e. c.one_more_entry.ensures.replayed (first_state config) front e)
+          c.fronts_are_legal.ensures.legal n.i is.0 (c.configuration_stays.ensures.configuration n.i.config is.0)
+          is.1;
     }
 
 pub returns-clause-seen : goal.returns-clause-seen
@@ -55,8 +65,11 @@ returns-clause-seen c = λ old outer inner journal run.
               (
                 e.1,
                 λ j at.
-                    seen laws s journal run.headline.one_journal n.i own rest scripts run.files_are.runnable.configured.count.0 (first_may n.o.scripts own rest begun.2 n.is_outer.may)
-                    (first_counts n.o n.i own rest begun.2 n.is_outer none) (subst (λ (ss : List (List Line)). FirstShows (nest_of n.i) ss) scripts n.shows) k e.0 j e.1 at,
+                    seen laws s journal run.headline.one_journal n.i own rest scripts
+                    run.files_are.runnable.configured.count.0
+                    (first_may n.o.scripts own rest begun.2 n.is_outer.may)
+                    (first_counts n.o n.i own rest begun.2 n.is_outer none)
+                    (subst (λ (ss : List (List Line)). FirstShows (nest_of n.i) ss) scripts n.shows) k e.0 j e.1 at,
               ),
               e.2,
             );

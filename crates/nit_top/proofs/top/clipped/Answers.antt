@@ -7,8 +7,11 @@ returns-in-Err g c =
     record {
       mid = g.S.Store.shown c.load_config.new.store;
       worked = c.unbegun.result;
-      ends = ends_before c.args.name.now (g.S.Store.shown c.args.store.now) (g.S.Store.shown c.load_config.new.store) c.unbegun.result c.unbegun.ensures.journal
-          (config_stopped true c.args.name.now (g.S.Store.shown c.args.store.now) (g.S.Store.shown c.load_config.new.store) c.in-Err.stop c.unbegun.result loaded.0 loaded.1 c.unbegun.ensures.stop c.unbegun.ensures.journal);
+      ends = ends_before c.args.name.now (g.S.Store.shown c.args.store.now) (g.S.Store.shown c.load_config.new.store)
+          c.unbegun.result c.unbegun.ensures.journal
+          (config_stopped true c.args.name.now (g.S.Store.shown c.args.store.now)
+          (g.S.Store.shown c.load_config.new.store) c.in-Err.stop c.unbegun.result loaded.0 loaded.1
+          c.unbegun.ensures.stop c.unbegun.ensures.journal);
       finished = c.finish.ensures.said;
       journal_is = c.finish.ensures.journal;
     }

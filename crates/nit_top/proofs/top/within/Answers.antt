@@ -1,4 +1,5 @@
-use Rattle.nit_top.proofs.Lemmas.{ap, inner_config_stopped, outer_config_stopped, outer_not_read, outer_read, run_files, with_asked, ◌∙◌}
+use Rattle.nit_top.proofs.Lemmas.{ap, inner_config_stopped, outer_config_stopped, outer_not_read}
+use Rattle.nit_top.proofs.Lemmas.{outer_read, run_files, with_asked, ◌∙◌}
 use Rattle.nit_top.proofs.top.within.Goals as goal
 
 pub returns-in-Err : goal.returns-in-Err
@@ -7,7 +8,9 @@ returns-in-Err g c =
     record {
       mid = g.S.Store.shown c.load_config.new.store;
       worked = c.unbegun.result;
-      ends = outer_config_stopped c.args.outer.now c.args.inner.now (g.S.Store.shown c.args.store.now) (g.S.Store.shown c.load_config.new.store) c.in-Err.stop c.unbegun.result loaded.0 loaded.1 c.unbegun.ensures.stop c.unbegun.ensures.journal;
+      ends = outer_config_stopped c.args.outer.now c.args.inner.now (g.S.Store.shown c.args.store.now)
+          (g.S.Store.shown c.load_config.new.store) c.in-Err.stop c.unbegun.result loaded.0 loaded.1
+          c.unbegun.ensures.stop c.unbegun.ensures.journal;
       finished = c.finish.ensures.said;
       journal_is = c.finish.ensures.journal;
     }
@@ -18,8 +21,11 @@ returns-in-Err-read_outer g c =
     record {
       mid = g.S.Store.shown c.read_outer.new.store;
       worked = c.unbegun-in-Err-read_outer.result;
-      ends = outer_not_read c.args.outer.now c.args.inner.now (g.S.Store.shown c.args.store.now) c.in-Ok.config c.in-Ok.ensures.configured loaded.1 (g.S.Store.shown c.load_config.new.store) loaded.0 (g.S.Store.shown c.read_outer.new.store) c.in-Err-read_outer.stop
-          c.unbegun-in-Err-read_outer.result c.in-Err-read_outer.ensures.read c.unbegun-in-Err-read_outer.ensures.stop c.unbegun-in-Err-read_outer.ensures.journal;
+      ends = outer_not_read c.args.outer.now c.args.inner.now (g.S.Store.shown c.args.store.now) c.in-Ok.config
+          c.in-Ok.ensures.configured loaded.1 (g.S.Store.shown c.load_config.new.store) loaded.0
+          (g.S.Store.shown c.read_outer.new.store) c.in-Err-read_outer.stop
+          c.unbegun-in-Err-read_outer.result c.in-Err-read_outer.ensures.read c.unbegun-in-Err-read_outer.ensures.stop
+          c.unbegun-in-Err-read_outer.ensures.journal;
       finished = c.finish-in-Err-read_outer.ensures.said;
       journal_is = c.finish-in-Err-read_outer.ensures.journal;
     }
@@ -32,11 +38,15 @@ returns-in-Err-load_config g c =
     let again = c.in-Err-load_config.ensures.loaded in
     let s = c.in-Ok-read_outer.shown in
     let o = run_files c.in-Ok.config s.clients.items s.input in
-    let read = outer_read c.args.outer.now c.args.inner.now first c.in-Ok.config c.in-Ok.ensures.configured loaded.1 (g.S.Store.shown c.load_config.new.store) loaded.0 s.clients.items s.input mid c.in-Ok-read_outer.ensures.read c.in-Ok-read_outer.ensures.outer in
+    let read = outer_read c.args.outer.now c.args.inner.now first c.in-Ok.config c.in-Ok.ensures.configured loaded.1
+    (g.S.Store.shown c.load_config.new.store) loaded.0 s.clients.items s.input mid c.in-Ok-read_outer.ensures.read
+    c.in-Ok-read_outer.ensures.outer in
     record {
       mid = g.S.Store.shown c.load_config-2.new.store;
       worked = c.unbegun-in-Err-load_config.result;
-      ends = (inner_config_stopped c.args.outer.now c.args.inner.now o first read.1 (g.S.Store.shown c.load_config-2.new.store) c.in-Err-load_config.stop c.unbegun-in-Err-load_config.result again.0 (rw read.0 at again.1)
+      ends = (inner_config_stopped c.args.outer.now c.args.inner.now o first read.1
+          (g.S.Store.shown c.load_config-2.new.store) c.in-Err-load_config.stop c.unbegun-in-Err-load_config.result
+          again.0 (rw read.0 at again.1)
           c.unbegun-in-Err-load_config.ensures.stop c.unbegun-in-Err-load_config.ensures.journal);
       finished = c.finish-in-Err-load_config.ensures.said;
       journal_is = c.finish-in-Err-load_config.ensures.journal;
@@ -48,12 +58,20 @@ returns g c =
     let loaded = c.in-Ok.ensures.loaded in
     let again = c.in-Ok-load_config.ensures.loaded in
     let s = c.in-Ok-read_outer.shown in
-    let read = outer_read c.args.outer.now c.args.inner.now first c.in-Ok.config c.in-Ok.ensures.configured loaded.1 (g.S.Store.shown c.load_config.new.store) loaded.0 s.clients.items s.input (g.S.Store.shown c.read_outer.new.store) c.in-Ok-read_outer.ensures.read
+    let read = outer_read c.args.outer.now c.args.inner.now first c.in-Ok.config c.in-Ok.ensures.configured loaded.1
+    (g.S.Store.shown c.load_config.new.store) loaded.0 s.clients.items s.input
+    (g.S.Store.shown c.read_outer.new.store) c.in-Ok-read_outer.ensures.read
     c.in-Ok-read_outer.ensures.outer in
     record {
       mid = g.S.Store.shown c.nested-worked.new.store;
       worked = c.nested-worked.result;
-      ends = c.nested-worked.ensures c.args.outer.now first (record { files = read.1; asked = again.0 ∙ ap (λ s. with_asked s c.args.inner.now) read.0; valid = rw read.0 at again.1 });
+      ends = c.nested-worked.ensures c.args.outer.now first
+          (record {
+            files = read.1;
+            asked = again.0 ∙ ap (λ s. with_asked s c.args.inner.now) read.0;
+            valid =
+                rw read.0 at again.1;
+          });
       finished = c.finish-2.ensures.said;
       journal_is = c.finish-2.ensures.journal;
     }

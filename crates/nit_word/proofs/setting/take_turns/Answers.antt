@@ -1,4 +1,5 @@
-use Rattle.nit_word.proofs.Lemmas.{List, ap, arith, first_turn, in_turn, next_between, none_between, second_turn, set, ℕ, ◌∙◌}
+use Rattle.nit_word.proofs.Lemmas.{List, ap, arith, first_turn, in_turn, next_between, none_between}
+use Rattle.nit_word.proofs.Lemmas.{second_turn, set, ℕ, ◌∙◌}
 use Rattle.nit_word.proofs.setting.take_turns.Goals.{then-i-eq0, else-i-eq0}
 use Rattle.nit_word.proofs.setting.take_turns.Goals as goal
 

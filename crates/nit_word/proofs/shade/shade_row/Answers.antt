@@ -1,4 +1,5 @@
-use Rattle.nit_word.proofs.Lemmas.{All-take, IsWord, all_mapped, arith, block_mapped, more_mapped, rest_all}
+use Rattle.nit_word.proofs.Lemmas.{All-take, IsWord, all_mapped, arith, block_mapped, more_mapped}
+use Rattle.nit_word.proofs.Lemmas.{rest_all}
 use Rattle.nit_word.proofs.shade.shade_row.Goals as goal
 
 pub block-requires : goal.block-requires
@@ -12,4 +13,5 @@ shade_words-requires g c = All-take IsWord _ _ (rest_all IsWord _ _ _ _ c.blocks
 
 pub returns : goal.returns
 returns g c =
-    all_mapped _ _ _ _ (more_mapped _ _ _ c.shade_words.new.row _ _ c.blocks-2.invariant (omega (arith, c.blocks-2.auto.row)) c.shade_words.ensures) (omega (arith, c.blocks-2.auto.row))
+    all_mapped _ _ _ _ (more_mapped _ _ _ c.shade_words.new.row _ _ c.blocks-2.invariant
+    (omega (arith, c.blocks-2.auto.row)) c.shade_words.ensures) (omega (arith, c.blocks-2.auto.row))

@@ -1,14 +1,18 @@
 use Rattle.std.proofs.Common.{Option, arith, false, refl, subst, sym, ℕ, ◌<◌, ◌∙◌, ◌≡◌}
-use Rattle.nit_audit.proofs.Lemmas.{IfSome, covers, in_bar, ints, owner_below, owner_small, view_under}
+use Rattle.nit_audit.proofs.Lemmas.{IfSome, covers, in_bar, ints, owner_below, owner_small}
+use Rattle.nit_audit.proofs.Lemmas.{view_under}
 use Rattle.nit_audit.proofs.views.Views.owner.Goals as goal
 
 pub returns-clause-owner : goal.returns-clause-owner
 returns-clause-owner c =
     let below : in_bar c.args.rows c.args.p ≡ false = grind (arith, ints) in
     let found = rw c.as_slice.ensures.value at c.covering.ensures in
-    rw (← c.self.view_is) (found ∙ owner_below c.args.rows c.args.p c.self.inside.records c.self.inside.keys.items below)
+    rw (← c.self.view_is) (found ∙ owner_below c.args.rows c.args.p c.self.inside.records c.self.inside.keys.items
+    below)
 
 pub returns-clause-known : goal.returns-clause-known
 returns-clause-known c =
     let found = rw c.as_slice.ensures.value at c.covering.ensures in
-    subst (λ (o : Option ℕ). IfSome o (λ s. s < 16)) (sym found) (owner_small c.self.inside.records c.self.inside.keys.items (λ k. covers (view_under c.self.inside.records k).rect c.args.p) _ c.self.invariant refl)
+    subst (λ (o : Option ℕ). IfSome o (λ s. s < 16)) (sym found)
+    (owner_small c.self.inside.records c.self.inside.keys.items
+    (λ k. covers (view_under c.self.inside.records k).rect c.args.p) _ c.self.invariant refl)

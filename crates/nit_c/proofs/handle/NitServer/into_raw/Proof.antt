@@ -4,7 +4,8 @@ use Rattle.std.proofs.raw_atomic.Walks.{proved}
 use base.Fml.{ftrue, fsep}
 use mir.Val.{Val, vstruct, vcons, vnil}
 use contract.Monad.{fact}
-use types.Kit.{‵, raw, ◌⊛◌, ◌$◌, ◌∵◌, !, qed, move, keep, drop, split, join, fsplit, rewrite, suffices, done}
+use types.Kit.{‵, raw, ◌⊛◌, ◌$◌, ◌∵◌, !, qed, move, keep, drop, split, join, fsplit, rewrite}
+use types.Kit.{suffices, done}
 use types.Part.{whole, sub, agg}
 use types.Run.{enter, of_opd, stop, fld, no_more, and_then, returns}
 use types.ByLocal.{alloc_all, pass_all, free_all, look_at, get, get_in, sets}
@@ -41,11 +42,16 @@ into_raw_spec 𝓤 𝓛 𝓜 𝓡 wired =
     let is_made : Is (Struct (shape To)) (to To made) (w ∷ []) = ((ptr_val h.at ∷ [], tt), (refl, (refl, tt))) in
     qed 𝓛 ((‵ ftrue ⊛ ‵ (fsep (NitServer.the_row.own_val h (v ∷ [])) ftrue)) ∷ raw (fact 𝓤 (h.mark ≡ live_mark)) ∷ []) ∵
     move ! (1 ∷ []) $ heard ! _ (λ is_live. split ! $ drop ! $ fsplit ! $ fsplit ! $ keep ! (1 ∷ []) $
-    rewrite ! 0 (λ n. ‵ (held_owns n h.at h.value)) is_live refl $ owner_in To ! (λ p vs. tt, tt) made (w ∷ []) is_made $
-    enter ! _ _ _ _ _ $ alloc_all ! (λ l. pass_all ! refl ((owner_typed 𝓛 NitServer.the_type laws.the_laws h (v ∷ []) are.0.0).0, tt) $
-    sets ! (of_opd ! (get_in ! (fld ! refl (stop !)) (sub ! 0 refl (whole !)))) refl ((rawptr_Lawful 𝓛).typed h.at _ refl).0 $
+    rewrite ! 0 (λ n. ‵ (held_owns n h.at h.value)) is_live refl $ owner_in To ! (λ p vs. tt, tt) made (w ∷ []) is_made
+    $
+    enter ! _ _ _ _ _ $ alloc_all !
+    (λ l. pass_all ! refl ((owner_typed 𝓛 NitServer.the_type laws.the_laws h (v ∷ []) are.0.0).0, tt) $
+    sets ! (of_opd ! (get_in ! (fld ! refl (stop !)) (sub ! 0 refl (whole !)))) refl
+    ((rawptr_Lawful 𝓛).typed h.at _ refl).0 $
     sets ! (of_opd ! (get ! refl)) refl ((rawptr_Lawful 𝓛).typed h.at _ refl).0 $
-    sets ! (agg ! (and_then ! (get ! refl) (no_more !))) refl (owner_typed 𝓛 To (RawPtr-laws, tt) made (w ∷ []) is_made).0 $
+    sets ! (agg ! (and_then ! (get ! refl) (no_more !))) refl
+    (owner_typed 𝓛 To (RawPtr-laws, tt) made (w ∷ []) is_made).0 $
     returns ! (look_at ! 0 refl) $ free_all ! refl $
-    suffices ! _ (ends_at 𝓛 f.ended stayed c ((κs, qs, bounds, a, (v ∷ [], tt)), tt) w made (tt, tt) (tt, tt)) $ says ! refl $
+    suffices ! _ (ends_at 𝓛 f.ended stayed c ((κs, qs, bounds, a, (v ∷ [], tt)), tt) w made (tt, tt) (tt, tt)) $ says !
+    refl $
     nothing ! $ nothing ! $ join ! $ nothing ! $ done !)))

@@ -6,7 +6,8 @@ use base.Fml.{ftrue, flft}
 use base.Fraction.{full_share}
 use mir.Syntax.{named, w64}
 use mir.Val.{Val, vint}
-use types.Kit.{‵, ◌⊛◌, ◌$◌, ◌∵◌, !, qed, done, move, keep, split, join, fsplit3, rewrite, suffices, frame, group}
+use types.Kit.{‵, ◌⊛◌, ◌$◌, ◌∵◌, !, qed, done, move, keep, split, join, fsplit3, rewrite, suffices}
+use types.Kit.{frame, group}
 use types.Run.{enter, of_opd, load, stop, fld, returns}
 use types.Part.{whole, sub, look_in}
 use types.ByLocal.{alloc_all, pass_all, free_all, look_at, through, sets}
@@ -44,9 +45,11 @@ mark_spec 𝓤 𝓛 𝓜 𝓡 wired =
     let Cell = λ (ws : List Val). ‵ (cell_at full_share R.mir ws b o) in
     move ! (1 ∷ []) $ rewrite ! 0 Cell word refl $
     -- [the struct's cell; the struct; the open borrow, in three entries]
-    sets ! (of_opd ! (load ! (through ! refl (fld ! refl (stop !))) (look_in ! 0 (sub ! 1 refl (whole !))))) refl (tt, record { fits = is.0.1.1.1.0.1 }) $
+    sets ! (of_opd ! (load ! (through ! refl (fld ! refl (stop !))) (look_in ! 0 (sub ! 1 refl (whole !))))) refl
+    (tt, record { fits = is.0.1.1.1.0.1 }) $
     rewrite ! 0 Cell (sym word) refl $ closes ! tt R h us b o $
     returns ! (look_at ! 0 refl) $ free_all ! refl $ move ! (3 ∷ []) $
     suffices ! _ (ends_at 𝓛 f.ended stayed c y (vint w64 h.mark) h.mark (h, tt) (tt, tt)) $ says_two ! (refl, refl) $
-    group ! 3 $ nothing ! $ move ! (1 ∷ 0 ∷ []) $ join ! $ nothing ! $ move ! (2 ∷ 0 ∷ []) $ join ! $ frame ! $ frame ! $
+    group ! 3 $ nothing ! $ move ! (1 ∷ 0 ∷ []) $ join ! $ nothing ! $ move ! (2 ∷ 0 ∷ []) $ join ! $ frame ! $ frame !
+    $
     owned ! u64 _ (uint_Makes 𝓛 w64) h.mark _ (refl, is.0.1.1.1.0.1) $ done !))))

@@ -6,7 +6,8 @@ use base.Fml.{ftrue, fsep}
 use mir.Syntax.{w64}
 use mir.Val.{Val, vint, vstruct, vcons, vnil}
 use contract.Monad.{fact}
-use types.Kit.{‵, raw, ◌⊛◌, ◌$◌, ◌∵◌, !, qed, move, keep, drop, split, join, fsplit, rewrite, suffices, done}
+use types.Kit.{‵, raw, ◌⊛◌, ◌$◌, ◌∵◌, !, qed, move, keep, drop, split, join, fsplit, rewrite}
+use types.Kit.{suffices, done}
 use types.Part.{whole, sub, agg}
 use types.Run.{enter, of_opd, stop, fld, no_more, and_then, returns}
 use types.ByLocal.{alloc_all, pass_all, free_all, look_at, get, get_in, sets}
@@ -44,20 +45,34 @@ stayed = (stay_dropped (plain (λ _. row From)) yes, (stay_dropped (plain (λ _.
 pub of_raw_spec : {M : Type 1} → statement M
 of_raw_spec 𝓤 𝓛 𝓜 𝓡 wired =
     let c = f.clauses 𝓛 𝓜.mem 𝓡.returns in
-    proved 𝓛 f.ended stayed c 𝓜 𝓡 (Goes-dropped 𝓛 0 (plain (λ _. row From)) yes (λ κs x w. refl), (Goes-dropped 𝓛 0 (plain (λ _. u64)) yes (λ κs x w. refl), tt))
+    proved 𝓛 f.ended stayed c 𝓜 𝓡 (
+      Goes-dropped 𝓛 0 (plain (λ _. row From)) yes (λ κs x w. refl),
+      (Goes-dropped 𝓛 0 (plain (λ _. u64)) yes (λ κs x w. refl), tt),
+    )
     f.Key.name code.function (code.unfolded 𝓤 𝓛.H 𝓜 𝓡 wired)
-    (λ κs. (raw_vals, (uint_vals w64, tt))) (λ κs. (Tells-lowered From (RawPtr-laws, tt), (uint_Tells w64, tt))) (λ κs qs bounds a _ are.
+    (λ κs. (raw_vals, (uint_vals w64, tt))) (λ κs. (Tells-lowered From (RawPtr-laws, tt), (uint_Tells w64, tt)))
+    (λ κs qs bounds a _ are.
     let p = a.0 in let n = a.1.0 in let vs = raw_vals p in
     let To = NitServer.the_type in let made : To.D = record { at = p.at; mark = n; value = p.value } in
     let w : Val = laws.lowered made in
-    let is_made : Is (Struct (shape To)) (to To made) (w ∷ []) = ((ptr_val p.at ∷ [], (vint w64 n ∷ [], tt)), (refl, (refl, ((refl, are.1.0.1), tt)))) in
-    qed 𝓛 ((‵ ftrue ⊛ ‵ (fsep ((row From).own_val p vs) (fsep (u64.own_val n (vint w64 n ∷ [])) ftrue))) ∷ raw (fact 𝓤 (n ≡ live_mark)) ∷ []) ∵
+    let is_made : Is (Struct (shape To)) (to To made) (w ∷ []) =
+    ((ptr_val p.at ∷ [], (vint w64 n ∷ [], tt)), (refl, (refl, ((refl, are.1.0.1), tt)))) in
+    qed 𝓛 ((‵ ftrue ⊛ ‵ (fsep ((row From).own_val p vs) (fsep (u64.own_val n (vint w64 n ∷ [])) ftrue)))
+    ∷ raw (fact 𝓤 (n ≡ live_mark)) ∷ []) ∵
     move ! (1 ∷ []) $ heard ! _ (λ is_live. split ! $ drop ! $ fsplit ! $ fsplit ! $ keep ! (1 ∷ []) $
-    rewrite ! 0 (λ m. ‵ (held_owns m p.at p.value)) (sym is_live) refl $ owner_in To ! (λ p vs. tt, (λ n vs. (tt, tt), tt)) made (w ∷ []) is_made $
-    enter ! _ _ _ _ _ $ alloc_all ! (λ l. pass_all ! refl ((owner_typed 𝓛 From (RawPtr-laws, tt) p vs are.0.0).0, ((tt, record { fits = are.1.0.1 }), tt)) $
-    sets ! (of_opd ! (get_in ! (fld ! refl (stop !)) (sub ! 0 refl (whole !)))) refl ((rawptr_Lawful 𝓛).typed p.at _ refl).0 $
+    rewrite ! 0 (λ m. ‵ (held_owns m p.at p.value)) (sym is_live) refl $ owner_in To !
+    (λ p vs. tt, (λ n vs. (tt, tt), tt)) made (w ∷ []) is_made $
+    enter ! _ _ _ _ _ $ alloc_all !
+    (λ l. pass_all ! refl (
+      (owner_typed 𝓛 From (RawPtr-laws, tt) p vs are.0.0).0,
+      ((tt, record { fits = are.1.0.1 }), tt),
+    ) $
+    sets ! (of_opd ! (get_in ! (fld ! refl (stop !)) (sub ! 0 refl (whole !)))) refl
+    ((rawptr_Lawful 𝓛).typed p.at _ refl).0 $
     sets ! (of_opd ! (get ! refl)) refl ((rawptr_Lawful 𝓛).typed p.at _ refl).0 $
-    sets ! (agg ! (and_then ! (get ! refl) (and_then ! (get ! refl) (no_more !)))) refl (owner_typed 𝓛 To laws.the_laws made (w ∷ []) is_made).0 $
+    sets ! (agg ! (and_then ! (get ! refl) (and_then ! (get ! refl) (no_more !)))) refl
+    (owner_typed 𝓛 To laws.the_laws made (w ∷ []) is_made).0 $
     returns ! (look_at ! 0 refl) $ free_all ! refl $
-    suffices ! _ (ends_at 𝓛 f.ended stayed c ((κs, qs, bounds, a, (vs, (vint w64 n ∷ [], tt))), tt) w made (tt, (tt, tt)) (tt, (tt, tt))) $ says_two ! (is_live, refl) $
+    suffices ! _ (ends_at 𝓛 f.ended stayed c ((κs, qs, bounds, a, (vs, (vint w64 n ∷ [], tt))), tt) w made
+    (tt, (tt, tt)) (tt, (tt, tt))) $ says_two ! (is_live, refl) $
     nothing ! $ nothing ! $ join ! $ nothing ! $ join ! $ nothing ! $ done !)))

@@ -10,10 +10,18 @@ invariant_of-self g c =
     let s = state_of c.self.inside.screen.serving in
     let e = entry.Call c.args.sid c.args.call.now c.call.result in
     let agrees : Agrees s 0 e = (rw (← c.self.view_is) at c.requires.session, c.call.ensures.reply) in
-    goes_on s (state_of c.call.new.self.serving) e c.self.inside.left c.self.inside.screen.raw c.call.new.self.raw c.self.invariant c.call.ensures.state agrees _ _ c.call.ensures.painted
+    goes_on s (state_of c.call.new.self.serving) e c.self.inside.left c.self.inside.screen.raw c.call.new.self.raw
+    c.self.invariant c.call.ensures.state agrees _ _ c.call.ensures.painted
     c.live_sessions_stay.ensures.entry c.raw_stays_raw.ensures
-    (record { own = c.names_stay_own.ensures.own; new = c.names_stay_own.ensures.new; below = c.names_stay_own.ensures.below })
-    (λ t. subst (λ (u : State). (session u t).next < 2 ^ 32 - 1) (sym c.call.ensures.state) (call_keeps_handles s c.args.sid c.args.call.now c.call.result t (rw (← c.self.view_is) at c.requires.session) c.self.invariant.handles (rw (← c.self.view_is) at c.requires.handles)))
+    (record {
+      own = c.names_stay_own.ensures.own;
+      new = c.names_stay_own.ensures.new;
+      below =
+          c.names_stay_own.ensures.below;
+    })
+    (λ t. subst (λ (u : State). (session u t).next < 2 ^ 32 - 1) (sym c.call.ensures.state)
+    (call_keeps_handles s c.args.sid c.args.call.now c.call.result t (rw (← c.self.view_is) at c.requires.session)
+    c.self.invariant.handles (rw (← c.self.view_is) at c.requires.handles)))
     (rw (← c.self.view_is) at c.requires.left)
 
 pub returns-clause-raw : goal.returns-clause-raw
@@ -21,7 +29,8 @@ returns-clause-raw g c =
     let s = state_of c.self.inside.screen.serving in
     let e = entry.Call c.args.sid c.args.call.now c.call.result in
     let agrees : Agrees s 0 e = (rw (← c.self.view_is) at c.requires.session, c.call.ensures.reply) in
-    raw_again s (state_of c.call.new.self.serving) e c.self.inside.left c.self.inside.screen.raw c.call.new.self.raw c.self.invariant c.call.ensures.state agrees _ _ c.call.ensures.painted
+    raw_again s (state_of c.call.new.self.serving) e c.self.inside.left c.self.inside.screen.raw c.call.new.self.raw
+    c.self.invariant c.call.ensures.state agrees _ _ c.call.ensures.painted
     c.raw_stays_raw.ensures
 
 pub returns-clause-inked : goal.returns-clause-inked
@@ -29,11 +38,18 @@ returns-clause-inked g c = λ inks.
     let s = state_of c.self.inside.screen.serving in
     let e = entry.Call c.args.sid c.args.call.now c.call.result in
     let agrees : Agrees s 0 e = (rw (← c.self.view_is) at c.requires.session, c.call.ensures.reply) in
-    inks_again s (state_of c.call.new.self.serving) e c.self.inside.left c.self.inside.screen.raw c.call.new.self.raw c.self.invariant c.call.ensures.state agrees _ _ c.call.ensures.painted
+    inks_again s (state_of c.call.new.self.serving) e c.self.inside.left c.self.inside.screen.raw c.call.new.self.raw
+    c.self.invariant c.call.ensures.state agrees _ _ c.call.ensures.painted
     c.ink_stays.ensures (rw (← c.self.view_is) at inks)
 
 pub returns-clause-refused : goal.returns-clause-refused
 returns-clause-refused g c = λ no_.
     let s = state_of c.self.inside.screen.serving in
     let r = c.call.ensures.refused no_ in
-    rw (← c.self.view_is) (c.call.ensures.state ∙ sym (unaccepted_state s c.args.sid c.args.call.now c.call.result c.call.ensures.reply no_), r.0, r.1, r.2)
+    rw (← c.self.view_is) (
+      c.call.ensures.state
+          ∙ sym (unaccepted_state s c.args.sid c.args.call.now c.call.result c.call.ensures.reply no_),
+      r.0,
+      r.1,
+      r.2,
+    )

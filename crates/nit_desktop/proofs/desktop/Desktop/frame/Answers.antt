@@ -5,4 +5,5 @@ use Rattle.nit_desktop.proofs.desktop.Desktop.frame.Goals as goal
 pub returns-clause-labels : goal.returns-clause-labels
 returns-clause-labels g c =
     let s = state_of c.self.inside.screen.serving in
-    rw (← c.self.view_is) (subst (λ (words : List ℕ). ShowsLabels (scenery_of s) words) (sym c.frame.ensures.frame) (c.own_names_show_labels.ensures (scenery_of s) c.self.inside.screen.raw c.self.invariant.named.0))
+    rw (← c.self.view_is) (subst (λ (words : List ℕ). ShowsLabels (scenery_of s) words) (sym c.frame.ensures.frame)
+    (c.own_names_show_labels.ensures (scenery_of s) c.self.inside.screen.raw c.self.invariant.named.0))

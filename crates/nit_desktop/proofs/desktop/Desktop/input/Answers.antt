@@ -10,10 +10,17 @@ invariant_of-self g c =
     let s = state_of c.self.inside.screen.serving in
     let e = entry.Input c.args.dev c.input.result in
     let agrees : Agrees s 0 e = c.input.ensures.routed in
-    goes_on s (state_of c.input.new.self.serving) e c.self.inside.left c.self.inside.screen.raw c.input.new.self.raw c.self.invariant c.input.ensures.state agrees _ _ c.input.ensures.painted
+    goes_on s (state_of c.input.new.self.serving) e c.self.inside.left c.self.inside.screen.raw c.input.new.self.raw
+    c.self.invariant c.input.ensures.state agrees _ _ c.input.ensures.painted
     c.live_sessions_stay.ensures.entry c.raw_stays_raw.ensures
-    (record { own = c.names_stay_own.ensures.own; new = c.names_stay_own.ensures.new; below = c.names_stay_own.ensures.below })
-    (λ t. subst (λ (u : State). (session u t).next < 2 ^ 32 - 1) (sym c.input.ensures.state) (input_keeps_handles s c.args.dev c.input.result t c.self.invariant.handles))
+    (record {
+      own = c.names_stay_own.ensures.own;
+      new = c.names_stay_own.ensures.new;
+      below =
+          c.names_stay_own.ensures.below;
+    })
+    (λ t. subst (λ (u : State). (session u t).next < 2 ^ 32 - 1) (sym c.input.ensures.state)
+    (input_keeps_handles s c.args.dev c.input.result t c.self.invariant.handles))
     (rw (← c.self.view_is) at c.requires.left)
 
 pub returns-clause-raw : goal.returns-clause-raw
@@ -21,21 +28,25 @@ returns-clause-raw g c =
     let s = state_of c.self.inside.screen.serving in
     let e = entry.Input c.args.dev c.input.result in
     let agrees : Agrees s 0 e = c.input.ensures.routed in
-    raw_again s (state_of c.input.new.self.serving) e c.self.inside.left c.self.inside.screen.raw c.input.new.self.raw c.self.invariant c.input.ensures.state agrees _ _ c.input.ensures.painted
+    raw_again s (state_of c.input.new.self.serving) e c.self.inside.left c.self.inside.screen.raw c.input.new.self.raw
+    c.self.invariant c.input.ensures.state agrees _ _ c.input.ensures.painted
     c.raw_stays_raw.ensures
 
 pub input-requires-clause-live : goal.input-requires-clause-live
-input-requires-clause-live g c = c.live_sessions_stay.ensures.told (state_of c.self.inside.screen.serving) c.args.dev c.self.invariant.live
+input-requires-clause-live g c = c.live_sessions_stay.ensures.told (state_of c.self.inside.screen.serving) c.args.dev
+    c.self.invariant.live
 
 pub returns-clause-live : goal.returns-clause-live
 returns-clause-live g c =
     let s = state_of c.self.inside.screen.serving in
-    rw (← c.self.view_is) (subst (λ (ds : List Delivery). All (λ d. IsLive s d.sid) ds) (sym c.input.ensures.delivered) (c.live_sessions_stay.ensures.told s c.args.dev c.self.invariant.live))
+    rw (← c.self.view_is) (subst (λ (ds : List Delivery). All (λ d. IsLive s d.sid) ds) (sym c.input.ensures.delivered)
+    (c.live_sessions_stay.ensures.told s c.args.dev c.self.invariant.live))
 
 pub returns-clause-inked : goal.returns-clause-inked
 returns-clause-inked g c = λ inks.
     let s = state_of c.self.inside.screen.serving in
     let e = entry.Input c.args.dev c.input.result in
     let agrees : Agrees s 0 e = c.input.ensures.routed in
-    inks_again s (state_of c.input.new.self.serving) e c.self.inside.left c.self.inside.screen.raw c.input.new.self.raw c.self.invariant c.input.ensures.state agrees _ _ c.input.ensures.painted
+    inks_again s (state_of c.input.new.self.serving) e c.self.inside.left c.self.inside.screen.raw c.input.new.self.raw
+    c.self.invariant c.input.ensures.state agrees _ _ c.input.ensures.painted
     c.ink_stays.ensures (rw (← c.self.view_is) at inks)

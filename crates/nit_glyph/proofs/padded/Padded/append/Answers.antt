@@ -5,7 +5,8 @@ use Rattle.nit_glyph.proofs.padded.Padded.append.Goals as goal
 pub invariant_of-self : goal.invariant_of-self
 invariant_of-self g c =
     rw c.copy_from_slice.ensures.after
-    (padded-append _ _ _ _ _ c.self.invariant (omega (arith, ap length c.self.view_is, c.self.invariant.counted)) (omega arith))
+    (padded-append _ _ _ _ _ c.self.invariant (omega (arith, ap length c.self.view_is, c.self.invariant.counted))
+    (omega arith))
 
 pub returns : goal.returns
 returns g c =

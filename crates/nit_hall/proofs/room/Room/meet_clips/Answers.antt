@@ -1,5 +1,7 @@
 use Rattle.std.proofs.Common.{Some, arith, length, slice_get, ℕ, ◌<◌, ◌∙◌, ◌≡◌}
-use Rattle.nit_hall.proofs.Lemmas.{ClipPassModel, IsKnownClip, clip_far, clip_met, clips_met_below, clips_whole, knowing_clip, long_same, slice_get_within, still_there, without_final}
+use Rattle.nit_hall.proofs.Lemmas.{ClipPassModel, IsKnownClip, clip_far, clip_met, clips_met_below}
+use Rattle.nit_hall.proofs.Lemmas.{clips_whole, knowing_clip, long_same, slice_get_within}
+use Rattle.nit_hall.proofs.Lemmas.{still_there, without_final}
 use Rattle.nit_hall.proofs.room.Room.meet_clips.Goals as goal
 
 pub meet_clip-requires : goal.meet_clip-requires
@@ -15,8 +17,11 @@ clips-preserved c =
     let e = c.meet_clip.ensures in
     record {
       room = e.room ∙ i.room;
-      so_far = clip_far c.args.self.now c.clips.self _ _ _ c.clip-item.result c.meet_clip.new.clip i.room at.0 i.so_far c.clip-item.is e.clip;
-      met = clips_met_below _ _ _ _ i.met at.1 (clip_met c.args.self.now c.clips.self _ c.clip-item.result _ i.room c.clip-item.is e.before e.counted (c.requires.done_all _ _ at.1));
+      so_far = clip_far c.args.self.now c.clips.self _ _ _ c.clip-item.result c.meet_clip.new.clip i.room at.0 i.so_far
+          c.clip-item.is e.clip;
+      met = clips_met_below _ _ _ _ i.met at.1
+          (clip_met c.args.self.now c.clips.self _ c.clip-item.result _ i.room c.clip-item.is e.before e.counted
+          (c.requires.done_all _ _ at.1));
     }
 
 pub returns-clause-legal : goal.returns-clause-legal
@@ -24,13 +29,19 @@ returns-clause-legal c = c.scene-kept.ensures.kept.clips_follow.legal
 
 pub returns-clause-before : goal.returns-clause-before
 returns-clause-before c = λ k q at.
-    let long : length c.clips.clips ≡ length c.args.clips.now = long_same (knowing_clip (without_final c.args.self.now.scene.entries)) c.args.clips.now c.clips.clips c.clips.clip-index c.clips.invariant.so_far in
+    let long : length c.clips.clips ≡ length c.args.clips.now =
+    long_same (knowing_clip (without_final c.args.self.now.scene.entries)) c.args.clips.now c.clips.clips
+    c.clips.clip-index c.clips.invariant.so_far in
     let inside : k < length c.args.clips.now = slice_get_within _ k q at in
     (c.clips.invariant.met k q (omega (arith, long, inside)) at).front
 
 pub returns-clause-whole : goal.returns-clause-whole
 returns-clause-whole c =
-    let long : length c.clips.clips ≡ length c.args.clips.now = long_same (knowing_clip (without_final c.args.self.now.scene.entries)) c.args.clips.now c.clips.clips c.clips.clip-index c.clips.invariant.so_far in
+    let long : length c.clips.clips ≡ length c.args.clips.now =
+    long_same (knowing_clip (without_final c.args.self.now.scene.entries)) c.args.clips.now c.clips.clips
+    c.clips.clip-index c.clips.invariant.so_far in
     let met : (k : ℕ) (q : ClipPassModel) → slice_get c.args.clips.now k ≡ Some q → IsKnownClip c.args.self.now k q =
-    λ k q at. let inside : k < length c.args.clips.now = slice_get_within _ k q at in c.clips.invariant.met k q (omega (arith, long, inside)) at in
-    clips_whole c.calls_of_a_clip_script.ensures.all c.args.self.now c.args.clips.now c.scene-kept.ensures.kept c.requires met
+    λ k q at. let inside : k < length c.args.clips.now =
+    slice_get_within _ k q at in c.clips.invariant.met k q (omega (arith, long, inside)) at in
+    clips_whole c.calls_of_a_clip_script.ensures.all c.args.self.now c.args.clips.now c.scene-kept.ensures.kept
+    c.requires met

@@ -5,8 +5,11 @@ use Rattle.nit_host.proofs.host.Host.first_free.Goals as goal
 
 pub returns-then-not-is_taken : goal.returns-then-not-is_taken
 returns-then-not-is_taken c =
-    sym (first_seat (λ seat. not (is_taken c.args.self.now.state seat)) _ c.seats.seat (omega (arith, c.seats-test.true, c.seats-seat-end.ensures)) c.seats.invariant (ap not (sym c.if-not-is_taken.ensures)))
+    sym (first_seat (λ seat. not (is_taken c.args.self.now.state seat)) _ c.seats.seat
+    (omega (arith, c.seats-test.true, c.seats-seat-end.ensures)) c.seats.invariant
+    (ap not (sym c.if-not-is_taken.ensures)))
 
 pub returns : goal.returns
 returns c =
-    sym (no_seat (λ seat. not (is_taken c.args.self.now.state seat)) _ c.seats.seat (omega (arith, c.seats-test.false, c.seats.auto.seat-end, c.seats-seat-end.ensures)) c.seats.invariant)
+    sym (no_seat (λ seat. not (is_taken c.args.self.now.state seat)) _ c.seats.seat
+    (omega (arith, c.seats-test.false, c.seats.auto.seat-end, c.seats-seat-end.ensures)) c.seats.invariant)

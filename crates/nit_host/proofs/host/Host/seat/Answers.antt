@@ -13,56 +13,74 @@ pub exchange-requires-clause-glass : goal.exchange-requires-clause-glass
 exchange-requires-clause-glass c =
     let d = c.self.inside.desktop in
     let may = may_sit c.args.self.now c.args.seat c.args.label (sym c.in_default.ensures) in
-    let known : c.args.seat < length d.state.sessions = subst (λ (h : HostModel). c.args.seat < length h.state.sessions) (sym c.self.view_is) may.inside in
+    let known : c.args.seat < length d.state.sessions =
+    subst (λ (h : HostModel). c.args.seat < length h.state.sessions) (sym c.self.view_is) may.inside in
     let inside : c.args.seat < length d.state.config.clients = omega (arith, known, c.facts.ensures.sessions) in
     let hollows = c.self.invariant.hollow in
     hollow_glass d.state.config c.self.inside.hollows.items c.args.seat c.index_mut-own.result.now hollows inside
-    (there_at c.self.inside.hollows.items c.args.seat c.index_mut-own.result.now c.index_mut-own.ensures.value (omega (arith, inside, hollows.count)))
+    (there_at c.self.inside.hollows.items c.args.seat c.index_mut-own.result.now c.index_mut-own.ensures.value
+    (omega (arith, inside, hollows.count)))
 
 pub reopen-requires-clause-free : goal.reopen-requires-clause-free
 reopen-requires-clause-free c =
     let d = c.self.inside.desktop in
     let may = may_sit c.args.self.now c.args.seat c.args.label (sym c.in_default.ensures) in
-    let free : is_label_taken d.state c.args.seat c.args.label ≡ false = subst (λ (h : HostModel). is_label_taken h.state c.args.seat c.args.label ≡ false) (sym c.self.view_is) may.free in
-    subst (λ (x : DesktopModel SheetModel). IsFreeLabel x.state.config c.args.seat c.args.label) (sym c.exchange.ensures.desktop) (free_of d.state c.args.seat c.args.label c.facts.ensures.sessions free)
+    let free : is_label_taken d.state c.args.seat c.args.label ≡ false =
+    subst (λ (h : HostModel). is_label_taken h.state c.args.seat c.args.label ≡ false) (sym c.self.view_is)
+    may.free in
+    subst (λ (x : DesktopModel SheetModel). IsFreeLabel x.state.config c.args.seat c.args.label)
+    (sym c.exchange.ensures.desktop) (free_of d.state c.args.seat c.args.label c.facts.ensures.sessions free)
 
 pub reopen-requires-clause-glass : goal.reopen-requires-clause-glass
 reopen-requires-clause-glass c =
     let d = c.self.inside.desktop in
     let may = may_sit c.args.self.now c.args.seat c.args.label (sym c.in_default.ensures) in
-    let known : c.args.seat < length d.state.sessions = subst (λ (h : HostModel). c.args.seat < length h.state.sessions) (sym c.self.view_is) may.inside in
+    let known : c.args.seat < length d.state.sessions =
+    subst (λ (h : HostModel). c.args.seat < length h.state.sessions) (sym c.self.view_is) may.inside in
     let inside : c.args.seat < length d.state.config.clients = omega (arith, known, c.facts.ensures.sessions) in
-    subst (λ (x : DesktopModel SheetModel). IsGlass x.state.config c.args.seat c.wipe.new.self.sight) (sym c.exchange.ensures.desktop)
-    (blank_glass d.state.config d.glasses c.args.seat c.exchange.new.glass c.wipe.new.self c.self.invariant.sheets inside c.exchange.ensures.out c.wipe.ensures.sight)
+    subst (λ (x : DesktopModel SheetModel). IsGlass x.state.config c.args.seat c.wipe.new.self.sight)
+    (sym c.exchange.ensures.desktop)
+    (blank_glass d.state.config d.glasses c.args.seat c.exchange.new.glass c.wipe.new.self c.self.invariant.sheets
+    inside c.exchange.ensures.out c.wipe.ensures.sight)
 
 pub invariant_of-self : goal.invariant_of-self
 invariant_of-self c =
     let d = c.self.inside.desktop in
     let may = may_sit c.args.self.now c.args.seat c.args.label (sym c.in_default.ensures) in
-    let known : c.args.seat < length d.state.sessions = subst (λ (h : HostModel). c.args.seat < length h.state.sessions) (sym c.self.view_is) may.inside in
+    let known : c.args.seat < length d.state.sessions =
+    subst (λ (h : HostModel). c.args.seat < length h.state.sessions) (sym c.self.view_is) may.inside in
     let inside : c.args.seat < length d.state.config.clients = omega (arith, known, c.facts.ensures.sessions) in
     let hollows = c.self.invariant.hollow in
-    let over : (session d.state c.args.seat).status ≢ status.Live = subst (λ (h : HostModel). (session h.state c.args.seat).status ≢ status.Live) (sym c.self.view_is) may.over in
+    let over : (session d.state c.args.seat).status ≢ status.Live =
+    subst (λ (h : HostModel). (session h.state c.args.seat).status ≢ status.Live) (sym c.self.view_is) may.over in
     let o = c.reopen.ensures in
-    let done = was_seated d c.exchange.new.self c.reopen.new.self c.self.inside.hollows.items c.args.seat c.args.label c.index_mut-own.result.now c.exchange.new.glass c.wipe.new.self c.reopen.new.glass c.self.inside.last
+    let done = was_seated d c.exchange.new.self c.reopen.new.self c.self.inside.hollows.items c.args.seat c.args.label
+    c.index_mut-own.result.now c.exchange.new.glass c.wipe.new.self c.reopen.new.glass c.self.inside.last
     c.self.invariant inside c.facts.ensures.live over c.exchange.ensures.desktop
-    (there_at c.self.inside.hollows.items c.args.seat c.index_mut-own.result.now c.index_mut-own.ensures.value (omega (arith, inside, hollows.count)))
+    (there_at c.self.inside.hollows.items c.args.seat c.index_mut-own.result.now c.index_mut-own.ensures.value
+    (omega (arith, inside, hollows.count)))
     c.exchange.ensures.out c.wipe.ensures.sight c.wipe.ensures.room
-    (record { state = o.state; left = o.left; raw = o.raw; sights_now = o.sights; rooms_now = o.rests; out = o.out }) c.openings_keep_all.ensures.sources c.args.self.now c.self.view_is in
+    (record { state = o.state; left = o.left; raw = o.raw; sights_now = o.sights; rooms_now = o.rests; out = o.out })
+    c.openings_keep_all.ensures.sources c.args.self.now c.self.view_is in
     done.host
 
 pub returns-clause-seated : goal.returns-clause-seated
 returns-clause-seated c = λ _.
     let d = c.self.inside.desktop in
     let may = may_sit c.args.self.now c.args.seat c.args.label (sym c.in_default.ensures) in
-    let known : c.args.seat < length d.state.sessions = subst (λ (h : HostModel). c.args.seat < length h.state.sessions) (sym c.self.view_is) may.inside in
+    let known : c.args.seat < length d.state.sessions =
+    subst (λ (h : HostModel). c.args.seat < length h.state.sessions) (sym c.self.view_is) may.inside in
     let inside : c.args.seat < length d.state.config.clients = omega (arith, known, c.facts.ensures.sessions) in
     let hollows = c.self.invariant.hollow in
-    let over : (session d.state c.args.seat).status ≢ status.Live = subst (λ (h : HostModel). (session h.state c.args.seat).status ≢ status.Live) (sym c.self.view_is) may.over in
+    let over : (session d.state c.args.seat).status ≢ status.Live =
+    subst (λ (h : HostModel). (session h.state c.args.seat).status ≢ status.Live) (sym c.self.view_is) may.over in
     let o = c.reopen.ensures in
-    let done = was_seated d c.exchange.new.self c.reopen.new.self c.self.inside.hollows.items c.args.seat c.args.label c.index_mut-own.result.now c.exchange.new.glass c.wipe.new.self c.reopen.new.glass c.self.inside.last
+    let done = was_seated d c.exchange.new.self c.reopen.new.self c.self.inside.hollows.items c.args.seat c.args.label
+    c.index_mut-own.result.now c.exchange.new.glass c.wipe.new.self c.reopen.new.glass c.self.inside.last
     c.self.invariant inside c.facts.ensures.live over c.exchange.ensures.desktop
-    (there_at c.self.inside.hollows.items c.args.seat c.index_mut-own.result.now c.index_mut-own.ensures.value (omega (arith, inside, hollows.count)))
+    (there_at c.self.inside.hollows.items c.args.seat c.index_mut-own.result.now c.index_mut-own.ensures.value
+    (omega (arith, inside, hollows.count)))
     c.exchange.ensures.out c.wipe.ensures.sight c.wipe.ensures.room
-    (record { state = o.state; left = o.left; raw = o.raw; sights_now = o.sights; rooms_now = o.rests; out = o.out }) c.openings_keep_all.ensures.sources c.args.self.now c.self.view_is in
+    (record { state = o.state; left = o.left; raw = o.raw; sights_now = o.sights; rooms_now = o.rests; out = o.out })
+    c.openings_keep_all.ensures.sources c.args.self.now c.self.view_is in
     (refl, done.now)

@@ -5,16 +5,22 @@ use Rattle.nit_host.proofs.SheetLists.{same_sheets}
 use Rattle.nit_host.proofs.host.Host.vacant.Goals as goal
 
 pub vacant-requires-clause-tables : goal.vacant-requires-clause-tables
-vacant-requires-clause-tables c = blank_glasses c.args.config.now c.in_ok-sheets.sheets.items c.in_ok-sheets.ensures.blank
+vacant-requires-clause-tables c =
+    blank_glasses c.args.config.now c.in_ok-sheets.sheets.items c.in_ok-sheets.ensures.blank
 
 pub invariant_of-result : goal.invariant_of-result
 invariant_of-result c =
     let made = c.in_ok-vacant.ensures in
-    begun (vacant_state c.args.config.now) c.args.config.now c.in_ok-vacant.field-0 c.in_ok-sheets.sheets.items c.in_ok-hollows.hollows.items refl refl made.state made.raw
-    (same_sheets c.in_ok-vacant.field-0.glasses c.in_ok-sheets.sheets.items (λ t. ap (λ (ss : List Sight). glass_in ss t) made.sights) made.rests) c.in_ok-sheets.ensures.room c.in_ok-hollows.ensures
+    begun (vacant_state c.args.config.now) c.args.config.now c.in_ok-vacant.field-0 c.in_ok-sheets.sheets.items
+    c.in_ok-hollows.hollows.items refl refl made.state made.raw
+    (same_sheets c.in_ok-vacant.field-0.glasses c.in_ok-sheets.sheets.items
+    (λ t. ap (λ (ss : List Sight). glass_in ss t) made.sights) made.rests) c.in_ok-sheets.ensures.room
+    c.in_ok-hollows.ensures
 
 pub returns : goal.returns
 returns c =
     let made = c.in_ok-vacant.ensures in
-    first_now (vacant_state c.args.config.now) c.args.config.now c.in_ok-vacant.field-0 c.in_ok-sheets.sheets.items made.state made.left
-    (same_sheets c.in_ok-vacant.field-0.glasses c.in_ok-sheets.sheets.items (λ t. ap (λ (ss : List Sight). glass_in ss t) made.sights) made.rests) c.in_ok-sheets.ensures.blank
+    first_now (vacant_state c.args.config.now) c.args.config.now c.in_ok-vacant.field-0 c.in_ok-sheets.sheets.items
+    made.state made.left
+    (same_sheets c.in_ok-vacant.field-0.glasses c.in_ok-sheets.sheets.items
+    (λ t. ap (λ (ss : List Sight). glass_in ss t) made.sights) made.rests) c.in_ok-sheets.ensures.blank

@@ -9,22 +9,27 @@ use Rattle.nit_host.proofs.host.calls.serve.Goals as goal
 abbrev stay : (c : goal.After-exchange) → c.call-reply.new.self.glasses ≡ c.args.desktop.now.glasses
 stay c =
     let e = c.call-reply.ensures in
-    sheets_stay c.args.desktop.now.glasses c.call-reply.new.self.glasses c.args.seat c.args.own.now c.call-reply.new.own c.requires.quiet (plain_quiet c.args.seat c.args.own.now.sight c.requires.own.0)
+    sheets_stay c.args.desktop.now.glasses c.call-reply.new.self.glasses c.args.seat c.args.own.now c.call-reply.new.own
+    c.requires.quiet (plain_quiet c.args.seat c.args.own.now.sight c.requires.own.0)
     (λ t. (e.painted.loads t, e.painted.sights t)) e.idle e.rest e.rests
 
 abbrev own_stay : (c : goal.After-exchange) → c.call-reply.new.own ≡ c.args.own.now
 own_stay c =
     let e = c.call-reply.ensures in
-    own_stays c.args.desktop.now.glasses c.call-reply.new.self.glasses c.args.seat c.args.own.now c.call-reply.new.own c.requires.quiet (plain_quiet c.args.seat c.args.own.now.sight c.requires.own.0)
+    own_stays c.args.desktop.now.glasses c.call-reply.new.self.glasses c.args.seat c.args.own.now c.call-reply.new.own
+    c.requires.quiet (plain_quiet c.args.seat c.args.own.now.sight c.requires.own.0)
     (λ t. (e.painted.loads t, e.painted.sights t)) e.idle e.rest e.rests
 
 pub returns-clause-glasses : goal.returns-clause-glasses
-returns-clause-glasses c = ap (λ (d : DesktopModel SheetModel). d.glasses) c.exchange.ensures.desktop ∙ (λ i. set (stay c i) c.args.seat (own_stay c i))
+returns-clause-glasses c = ap (λ (d : DesktopModel SheetModel). d.glasses) c.exchange.ensures.desktop
+    ∙ (λ i. set (stay c i) c.args.seat (own_stay c i))
 
 pub returns-clause-own : goal.returns-clause-own
 returns-clause-own c = ap (λ (gs : List SheetModel). slice_get gs c.args.seat) (sym (stay c)) ∙ c.exchange.ensures.out
 
 pub returns-clause-painted : goal.returns-clause-painted
 returns-clause-painted c =
-    painted_by_all c.args.desktop.now.state (entry.Call c.args.seat c.args.call.now c.call-reply.result) c.args.desktop.now c.call-reply.new.self c.exchange.new.self c.args.seat c.args.own.now c.call-reply.new.own
-    (stay c) (own_stay c) (omega (arith, c.requires.session, c.facts.ensures.sessions, c.facts.ensures.glasses)) c.exchange.ensures.desktop c.call-reply.ensures.painted
+    painted_by_all c.args.desktop.now.state (entry.Call c.args.seat c.args.call.now c.call-reply.result)
+    c.args.desktop.now c.call-reply.new.self c.exchange.new.self c.args.seat c.args.own.now c.call-reply.new.own
+    (stay c) (own_stay c) (omega (arith, c.requires.session, c.facts.ensures.sessions, c.facts.ensures.glasses))
+    c.exchange.ensures.desktop c.call-reply.ensures.painted

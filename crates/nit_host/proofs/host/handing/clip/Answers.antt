@@ -4,8 +4,10 @@ use Rattle.nit_host.proofs.Rows.{clip_order, clipped}
 use Rattle.nit_host.proofs.host.handing.clip.Goals as goal
 
 pub returns-clause-order : goal.returns-clause-order
-returns-clause-order c = clip_order _ _ c.args.most _ _ (omega (arith, ints)) c.first_from.ensures.most c.first_from.ensures.place c.first_from-2.ensures.place
+returns-clause-order c = clip_order _ _ c.args.most _ _ (omega (arith, ints)) c.first_from.ensures.most
+    c.first_from.ensures.place c.first_from-2.ensures.place
 
 pub returns-clause-same : goal.returns-clause-same
 returns-clause-same c = λ n inside.
-    clipped _ _ c.args.from c.args.long n _ _ (omega (arith, ints)) (omega (arith, ints)) (c.first_from.ensures.place n inside) (c.first_from-2.ensures.place n inside)
+    clipped _ _ c.args.from c.args.long n _ _ (omega (arith, ints)) (omega (arith, ints))
+    (c.first_from.ensures.place n inside) (c.first_from-2.ensures.place n inside)

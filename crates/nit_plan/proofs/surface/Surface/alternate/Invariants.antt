@@ -4,6 +4,7 @@ use Rattle.nit_plan.proofs.surface.Surface.alternate.Given as goal
 
 abbrev pub invariant-places : goal.invariant-places
 invariant-places g l = record {
-  sight : g.Self.Glass.sight l.self ≡ with_words (set_where (is_between l.from l.i) (in_turn l.from l.c l.d)) (g.Self.Glass.sight l.initial.self);
+  sight : g.Self.Glass.sight l.self ≡ with_words (set_where (is_between l.from l.i) (in_turn l.from l.c l.d))
+      (g.Self.Glass.sight l.initial.self);
   rest : g.Self.Glass.rest l.self ≡ g.Self.Glass.rest l.initial.self;
 }

@@ -4,6 +4,7 @@ use Rattle.nit_plan.proofs.surface.Surface.fill.Given as goal
 
 abbrev pub invariant-places : goal.invariant-places
 invariant-places g l = record {
-  sight : g.Self.Glass.sight l.self ≡ with_words (set_where (is_between l.from l.i) (λ n. l.w)) (g.Self.Glass.sight l.initial.self);
+  sight : g.Self.Glass.sight l.self ≡ with_words (set_where (is_between l.from l.i) (λ n. l.w))
+      (g.Self.Glass.sight l.initial.self);
   rest : g.Self.Glass.rest l.self ≡ g.Self.Glass.rest l.initial.self;
 }

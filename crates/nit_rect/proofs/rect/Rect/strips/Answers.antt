@@ -3,16 +3,23 @@ use Rattle.nit_rect.proofs.rect.Rect.strips.Goals as goal
 
 pub without-columns-requires-clause-begins : goal.without-columns-requires-clause-begins
 without-columns-requires-clause-begins c =
-    rw (c.columns-wide.ensures.from, c.columns-cut_wide.ensures.from) (within c.args.cut.now c.args.self.now c.requires.pixels c.requires.inside).left
+    rw (c.columns-wide.ensures.from, c.columns-cut_wide.ensures.from)
+    (within c.args.cut.now c.args.self.now c.requires.pixels c.requires.inside).left
 
 pub without-columns-requires-clause-ends : goal.without-columns-requires-clause-ends
 without-columns-requires-clause-ends c =
-    rw (c.columns-wide.ensures.from, c.columns-wide.ensures.long, c.columns-cut_wide.ensures.from, c.columns-cut_wide.ensures.long)
+    rw (
+      c.columns-wide.ensures.from,
+      c.columns-wide.ensures.long,
+      c.columns-cut_wide.ensures.from,
+      c.columns-cut_wide.ensures.long,
+    )
     (within c.args.cut.now c.args.self.now c.requires.pixels c.requires.inside).right
 
 pub without-rows-requires-clause-begins : goal.without-rows-requires-clause-begins
 without-rows-requires-clause-begins c =
-    rw (c.rows-high.ensures.from, c.rows-cut_high.ensures.from) (within c.args.cut.now c.args.self.now c.requires.pixels c.requires.inside).top
+    rw (c.rows-high.ensures.from, c.rows-cut_high.ensures.from)
+    (within c.args.cut.now c.args.self.now c.requires.pixels c.requires.inside).top
 
 pub without-rows-requires-clause-ends : goal.without-rows-requires-clause-ends
 without-rows-requires-clause-ends c =
@@ -22,7 +29,22 @@ without-rows-requires-clause-ends c =
 pub returns : goal.returns
 returns c =
     λ p.
-    rw (c.of_runs.ensures, c.of_runs-2.ensures, c.of_runs-3.ensures, c.of_runs-4.ensures, c.columns-wide.ensures.from, c.columns-wide.ensures.long, c.rows-cut_high.ensures.from, c.rows-cut_high.ensures.long)
+    rw (
+      c.of_runs.ensures,
+      c.of_runs-2.ensures,
+      c.of_runs-3.ensures,
+      c.of_runs-4.ensures,
+      c.columns-wide.ensures.from,
+      c.columns-wide.ensures.long,
+      c.rows-cut_high.ensures.from,
+      c.rows-cut_high.ensures.long,
+    )
     (divided c.args.self.now c.args.cut.now _ _ _ _ _ _ _ _ p
-    (rw (c.columns-wide.ensures.from, c.columns-wide.ensures.long, c.columns-cut_wide.ensures.from, c.columns-cut_wide.ensures.long) at (c.without-columns.ensures p.x))
-    (rw (c.rows-high.ensures.from, c.rows-high.ensures.long, c.rows-cut_high.ensures.from, c.rows-cut_high.ensures.long) at (c.without-rows.ensures p.y)))
+    (rw (
+      c.columns-wide.ensures.from,
+      c.columns-wide.ensures.long,
+      c.columns-cut_wide.ensures.from,
+      c.columns-cut_wide.ensures.long,
+    ) at (c.without-columns.ensures p.x))
+    (rw (c.rows-high.ensures.from, c.rows-high.ensures.long, c.rows-cut_high.ensures.from, c.rows-cut_high.ensures.long)
+    at (c.without-rows.ensures p.y)))

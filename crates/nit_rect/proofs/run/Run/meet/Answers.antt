@@ -3,4 +3,5 @@ use Rattle.nit_rect.proofs.run.Run.meet.Goals as goal
 
 pub returns-else-self-other : goal.returns-else-self-other
 returns-else-self-other c =
-    λ at. c.before-else-self-other.ensures at ∙ spans_earlier c.args.self.from c.args.other.from _ at _ _ (omega (arith, ints)) (omega (arith, ints))
+    λ at. c.before-else-self-other.ensures at
+    ∙ spans_earlier c.args.self.from c.args.other.from _ at _ _ (omega (arith, ints)) (omega (arith, ints))

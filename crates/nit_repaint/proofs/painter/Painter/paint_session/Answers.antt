@@ -1,12 +1,16 @@
 use Rattle.std.proofs.Common.{◌&&◌}
 use Rattle.nit_repaint.proofs.Basics.{pixel, repainted_none}
-use Rattle.nit_repaint.proofs.Lemmas.{Point, all_wanted, arith, as_many, comes_as, is_slot, is_wanted, none_wanted, one_wanted, other_count, owner_passes, refl, seat_here, seat_there, source_of_number, still_held, ◌∙◌}
+use Rattle.nit_repaint.proofs.Lemmas.{Point, all_wanted, arith, as_many, comes_as, is_slot}
+use Rattle.nit_repaint.proofs.Lemmas.{is_wanted, none_wanted, one_wanted, other_count, owner_passes}
+use Rattle.nit_repaint.proofs.Lemmas.{refl, seat_here, seat_there, source_of_number, still_held}
+use Rattle.nit_repaint.proofs.Lemmas.{◌∙◌}
 use Rattle.nit_repaint.proofs.painter.Painter.paint_session.Goals as goal
 
 pub views-init : goal.views-init
 views-init g c = record {
   room = refl;
-  painted = none_wanted (source_of_number c.args.stack.now) c.args.stack.now _ c.args.of c.args.part.now _ c.args.self.now.raw.items;
+  painted = none_wanted (source_of_number c.args.stack.now) c.args.stack.now _ c.args.of c.args.part.now _
+      c.args.self.now.raw.items;
   count = refl;
   many = refl;
   idle = refl;
@@ -16,7 +20,8 @@ views-init g c = record {
 
 pub paint_to_come-requires-clause-held : goal.paint_to_come-requires-clause-held
 paint_to_come-requires-clause-held g c =
-    still_held c.args.stack.now _ _ _ _ c.views.invariant.painted.loads c.views.invariant.many c.views.invariant.painted.sights c.requires.held
+    still_held c.args.stack.now _ _ _ _ c.views.invariant.painted.loads c.views.invariant.many
+    c.views.invariant.painted.sights c.requires.held
 
 pub views-preserved : goal.views-preserved
 views-preserved g c =
@@ -26,9 +31,14 @@ views-preserved g c =
     let x = seat_there s.views c.views.i (omega (arith, c.views-test.true, c.len-views.ensures.count)) in
     record {
       room = e.room ∙ c.begin_seat-is_of_session.ensures.room ∙ v.room;
-      painted = one_wanted (source_of_number s) s _ c.args.of c.args.part.now c.views.i x.0 _ _ _ _ _ _ c.len-views.ensures.standing.slots (seat_here s.views c.views.i x.0 c.len-views.ensures.standing.slots x.1) x.1 v.painted
+      painted = one_wanted (source_of_number s) s _ c.args.of c.args.part.now c.views.i x.0 _ _ _ _ _ _
+          c.len-views.ensures.standing.slots (seat_here s.views c.views.i x.0 c.len-views.ensures.standing.slots x.1)
+          x.1 v.painted
           (other_count _ _ _ _ _ _ _ _ v.count
-          (comes_as _ s c.begin_seat-is_of_session.new.cutter (λ (p : Point). owner_passes (is_slot x.0.slot) s p && is_wanted c.args.of c.args.part.now s p x.0) _ _ _ _ _ (v.count ∙ c.requires.pixels) (c.begin_seat-is_of_session.ensures.to_come c.if-not-is_of_session.false x.0 x.1) e.painted));
+          (comes_as _ s c.begin_seat-is_of_session.new.cutter
+          (λ (p : Point). owner_passes (is_slot x.0.slot) s p && is_wanted c.args.of c.args.part.now s p x.0) _ _ _
+          _ _ (v.count ∙ c.requires.pixels)
+          (c.begin_seat-is_of_session.ensures.to_come c.if-not-is_of_session.false x.0 x.1) e.painted));
       count = e.count ∙ v.count;
       many = as_many g.G.Glass.rest c.paint_to_come.new.self.glasses.items c.views.self.glasses.items e.rests ∙ v.many;
       idle = e.idle ∙ v.idle;
@@ -43,8 +53,11 @@ views-preserved-then-not-is_of_session g c =
     let x = seat_there s.views c.views.i (omega (arith, c.views-test.true, c.len-views.ensures.count)) in
     record {
       room = c.begin_seat-is_of_session.ensures.room ∙ v.room;
-      painted = one_wanted (source_of_number s) s _ c.args.of c.args.part.now c.views.i x.0 _ _ _ _ _ _ c.len-views.ensures.standing.slots (seat_here s.views c.views.i x.0 c.len-views.ensures.standing.slots x.1) x.1 v.painted
-          (repainted_none _ _ _ _ _ (λ k l. c.begin_seat-is_of_session.ensures.none c.if-not-is_of_session.true x.0 x.1 (pixel s.width k)));
+      painted = one_wanted (source_of_number s) s _ c.args.of c.args.part.now c.views.i x.0 _ _ _ _ _ _
+          c.len-views.ensures.standing.slots (seat_here s.views c.views.i x.0 c.len-views.ensures.standing.slots x.1)
+          x.1 v.painted
+          (repainted_none _ _ _ _ _ (λ k l. c.begin_seat-is_of_session.ensures.none c.if-not-is_of_session.true x.0 x.1
+          (pixel s.width k)));
       count = v.count;
       many = v.many;
       idle = v.idle;
@@ -54,4 +67,5 @@ views-preserved-then-not-is_of_session g c =
 
 pub returns-clause-painted : goal.returns-clause-painted
 returns-clause-painted g c =
-    all_wanted (source_of_number c.args.stack.now) c.args.stack.now _ c.args.of c.args.part.now c.views.i _ _ _ _ (omega (arith, c.views-test.false, c.len-views.ensures.count)) c.views.invariant.painted
+    all_wanted (source_of_number c.args.stack.now) c.args.stack.now _ c.args.of c.args.part.now c.views.i _ _ _ _
+    (omega (arith, c.views-test.false, c.len-views.ensures.count)) c.views.invariant.painted

@@ -1,4 +1,5 @@
-use Rattle.nit_repaint.proofs.Lemmas.{all_came, arith, as_many, none_came, one_came, other_count, refl, screen_of, source_of_number, still_held, ◌∙◌}
+use Rattle.nit_repaint.proofs.Lemmas.{all_came, arith, as_many, none_came, one_came, other_count}
+use Rattle.nit_repaint.proofs.Lemmas.{refl, screen_of, source_of_number, still_held, ◌∙◌}
 use Rattle.nit_repaint.proofs.painter.Painter.paint_to_come.Goals as goal
 
 pub pieces-init : goal.pieces-init
@@ -6,7 +7,8 @@ pieces-init g c = record {
   fits = c.requires.fits;
   room = refl;
   less = λ p. omega arith;
-  painted = none_came (source_of_number c.args.stack.now) c.args.stack.now _ c.args.self.now.cutter _ c.args.self.now.raw.items;
+  painted = none_came (source_of_number c.args.stack.now) c.args.stack.now _ c.args.self.now.cutter _
+      c.args.self.now.raw.items;
   count = refl;
   many = refl;
   idle = refl;
@@ -17,11 +19,14 @@ pieces-init g c = record {
 pub paint_piece-requires-clause-piece : goal.paint_piece-requires-clause-piece
 paint_piece-requires-clause-piece g c =
     let e = c.in-Some.ensures in
-    c.pieces_of_owners.ensures c.args.stack.now c.in-Some.piece (screen_of c.size-screen.result c.args.stack.now c.size-screen.ensures.size c.size-screen.ensures.range) e.pixels e.on_screen e.owner
+    c.pieces_of_owners.ensures c.args.stack.now c.in-Some.piece
+    (screen_of c.size-screen.result c.args.stack.now c.size-screen.ensures.size c.size-screen.ensures.range)
+    e.pixels e.on_screen e.owner
 
 pub paint_piece-requires-clause-held : goal.paint_piece-requires-clause-held
 paint_piece-requires-clause-held g c =
-    still_held c.args.stack.now _ _ _ _ c.pieces.invariant.painted.loads c.pieces.invariant.many c.pieces.invariant.painted.sights c.requires.held
+    still_held c.args.stack.now _ _ _ _ c.pieces.invariant.painted.loads c.pieces.invariant.many
+    c.pieces.invariant.painted.sights c.requires.held
 
 pub pieces-preserved : goal.pieces-preserved
 pieces-preserved g c =
@@ -32,7 +37,8 @@ pieces-preserved g c =
       fits = e.fits;
       room = e.room ∙ i.room;
       less = λ p. let was = i.less p in let now = e.count p in omega arith;
-      painted = one_came (source_of_number c.args.stack.now) c.args.stack.now _ c.args.self.now.cutter c.pieces.self.cutter c.next.new.self c.in-Some.piece.rect _ _ _ _ _ _
+      painted = one_came (source_of_number c.args.stack.now) c.args.stack.now _ c.args.self.now.cutter
+          c.pieces.self.cutter c.next.new.self c.in-Some.piece.rect _ _ _ _ _ _
           c.requires.fits.once i.less e.count e.came i.painted (other_count _ _ _ _ _ _ _ _ i.count p'.painted);
       count = p'.count ∙ i.count;
       many = as_many g.G.Glass.rest c.paint_piece.new.self.glasses.items c.pieces.self.glasses.items p'.rests ∙ i.many;
@@ -43,4 +49,5 @@ pieces-preserved g c =
 
 pub returns-clause-painted : goal.returns-clause-painted
 returns-clause-painted g c =
-    all_came (source_of_number c.args.stack.now) c.args.stack.now _ c.args.self.now.cutter c.pieces.self.cutter _ _ _ _ c.in_default.ensures.came c.pieces.invariant.painted
+    all_came (source_of_number c.args.stack.now) c.args.stack.now _ c.args.self.now.cutter c.pieces.self.cutter _ _ _ _
+    c.in_default.ensures.came c.pieces.invariant.painted

@@ -1,4 +1,7 @@
-use Rattle.nit_screen.proofs.Lemmas.{Mode, Scenery, ServerModel, can_still, deliveries_of, draws_labels, frame, input_scenery, kill_alone, kill_is_live, killed_painted, killed_state, kills, no_kill, raw_of, scenery_of, state_of, told_paints_nothing, vec_capacity}
+use Rattle.nit_screen.proofs.Lemmas.{Mode, Scenery, ServerModel, can_still, deliveries_of}
+use Rattle.nit_screen.proofs.Lemmas.{draws_labels, frame, input_scenery, kill_alone, kill_is_live}
+use Rattle.nit_screen.proofs.Lemmas.{killed_painted, killed_state, kills, no_kill, raw_of}
+use Rattle.nit_screen.proofs.Lemmas.{scenery_of, state_of, told_paints_nothing, vec_capacity}
 use Rattle.std.proofs.Common.{IsTrue, ap, length, refl, subst, sym, ◌<◌, ◌∙◌}
 use Rattle.nit_screen.proofs.screen.Screen.input.Goals as goal
 
@@ -6,7 +9,8 @@ pub kill_session-requires-clause-session : goal.kill_session-requires-clause-ses
 kill_session-requires-clause-session g c =
     let s = c.self.inside.server in
     let r = c.route-routed.ensures in
-    let alone = kill_alone c.kills_stand_alone.ensures s c.args.dev c.route-routed.result r.routed c.killed.result c.killed.ensures c.in-Some.sid c.in-Some.is in
+    let alone = kill_alone c.kills_stand_alone.ensures s c.args.dev c.route-routed.result r.routed c.killed.result
+    c.killed.ensures c.in-Some.sid c.in-Some.is in
     let live = kill_is_live s c.in-Some.sid _ alone (rw (← c.self.view_is) at c.requires.live) in
     subst (λ (z : ServerModel). c.in-Some.sid < length z.sessions) (sym r.server) live.0
 
@@ -15,8 +19,11 @@ kill_session-requires-clause-can g c =
     let s = c.self.inside.server in
     let p = c.self.inside.pixels in
     let r = c.route-routed.ensures in
-    can_still s c.route-routed.new.self p.painter.raw.items p.painter.raw.items (length p.frame.items) (vec_capacity p.frame) p.painter.cutter.room p.painter.cutter.room p.labels.texts.items (length p.labels.places.items) p.bar
-    (ap (λ (t : ServerModel). t.config) r.server) (ap (λ (t : ServerModel). t.stack.most) r.server) refl c.self.invariant.shown.0.words refl c.self.invariant.shown.0
+    can_still s c.route-routed.new.self p.painter.raw.items p.painter.raw.items (length p.frame.items)
+    (vec_capacity p.frame) p.painter.cutter.room p.painter.cutter.room p.labels.texts.items
+    (length p.labels.places.items) p.bar
+    (ap (λ (t : ServerModel). t.config) r.server) (ap (λ (t : ServerModel). t.stack.most) r.server) refl
+    c.self.invariant.shown.0.words refl c.self.invariant.shown.0
 
 pub show_input-requires-clause-can : goal.show_input-requires-clause-can
 show_input-requires-clause-can g c =
@@ -24,37 +31,57 @@ show_input-requires-clause-can g c =
     let p = c.self.inside.pixels in
     let r = c.route-routed.ensures in
     let e = c.tell_all.ensures in
-    can_still s c.tell_all.new.self p.painter.raw.items p.painter.raw.items (length p.frame.items) (vec_capacity p.frame) p.painter.cutter.room p.painter.cutter.room p.labels.texts.items (length p.labels.places.items) p.bar
-    (ap (λ (t : ServerModel). t.config) e ∙ ap (λ (t : ServerModel). t.config) r.server) (ap (λ (t : ServerModel). t.stack.most) e ∙ ap (λ (t : ServerModel). t.stack.most) r.server) refl c.self.invariant.shown.0.words refl c.self.invariant.shown.0
+    can_still s c.tell_all.new.self p.painter.raw.items p.painter.raw.items (length p.frame.items)
+    (vec_capacity p.frame) p.painter.cutter.room p.painter.cutter.room p.labels.texts.items
+    (length p.labels.places.items) p.bar
+    (ap (λ (t : ServerModel). t.config) e ∙ ap (λ (t : ServerModel). t.config) r.server)
+    (ap (λ (t : ServerModel). t.stack.most) e ∙ ap (λ (t : ServerModel). t.stack.most) r.server) refl
+    c.self.invariant.shown.0.words refl c.self.invariant.shown.0
 
 pub show_input-requires-clause-before : goal.show_input-requires-clause-before
 show_input-requires-clause-before g c =
     let s = c.self.inside.server in
     let p = c.self.inside.pixels in
     let s' = c.tell_all.new.self in
-    c.self.invariant.shown.1 ∙ ap (λ (sc : Scenery). frame sc (raw_of p)) (input_scenery s c.route-routed.new.self s' c.args.dev (deliveries_of c.route-routed.result) c.route-routed.ensures.server c.tell_all.ensures)
-    ∙ (λ i. frame (record (scenery_of (state_of s')) { mode = sym c.mode-mode.ensures i; focus = sym c.focus-focus.ensures.focus i }) (raw_of p))
+    c.self.invariant.shown.1 ∙ ap (λ (sc : Scenery). frame sc (raw_of p))
+    (input_scenery s c.route-routed.new.self s' c.args.dev (deliveries_of c.route-routed.result)
+    c.route-routed.ensures.server c.tell_all.ensures)
+    ∙ (λ i. frame (record (scenery_of (state_of s')) {
+      mode = sym c.mode-mode.ensures i;
+      focus =
+          sym c.focus-focus.ensures.focus i;
+    }) (raw_of p))
 
 pub show_input-requires-clause-apart : goal.show_input-requires-clause-apart
-show_input-requires-clause-apart g c = λ d. c.self.invariant.shown.2 (subst (λ (m : Mode). IsTrue (draws_labels m)) c.mode-mode.ensures d)
+show_input-requires-clause-apart g c =
+    λ d. c.self.invariant.shown.2 (subst (λ (m : Mode). IsTrue (draws_labels m)) c.mode-mode.ensures d)
 
 pub returns-in-Some-clause-state : goal.returns-in-Some-clause-state
 returns-in-Some-clause-state g c =
     let s = c.self.inside.server in
     let r = c.route-routed.ensures in
-    let alone = kill_alone c.kills_stand_alone.ensures s c.args.dev c.route-routed.result r.routed c.killed.result c.killed.ensures c.in-Some.sid c.in-Some.is in
-    rw (← c.self.view_is) (killed_state s c.route-routed.new.self c.kill_session.new.server c.args.dev c.route-routed.result c.in-Some.sid r.server c.kill_session.ensures.server r.all alone (rw (← c.self.view_is) at c.requires.live) r.forgotten)
+    let alone = kill_alone c.kills_stand_alone.ensures s c.args.dev c.route-routed.result r.routed c.killed.result
+    c.killed.ensures c.in-Some.sid c.in-Some.is in
+    rw (← c.self.view_is) (killed_state s c.route-routed.new.self c.kill_session.new.server c.args.dev
+    c.route-routed.result c.in-Some.sid r.server c.kill_session.ensures.server r.all alone
+    (rw (← c.self.view_is) at c.requires.live) r.forgotten)
 
 pub returns-in-Some-clause-painted : goal.returns-in-Some-clause-painted
 returns-in-Some-clause-painted g c =
     let s = c.self.inside.server in
     let r = c.route-routed.ensures in
-    let alone = kill_alone c.kills_stand_alone.ensures s c.args.dev c.route-routed.result r.routed c.killed.result c.killed.ensures c.in-Some.sid c.in-Some.is in
-    rw (← c.self.view_is) (killed_painted s c.route-routed.new.self c.kill_session.new.server c.args.dev c.route-routed.result c.in-Some.sid _ _ (raw_of c.self.inside.pixels) (raw_of c.kill_session.new.pixels) r.server (r.all ∙ alone) c.kill_session.ensures.painted)
+    let alone = kill_alone c.kills_stand_alone.ensures s c.args.dev c.route-routed.result r.routed c.killed.result
+    c.killed.ensures c.in-Some.sid c.in-Some.is in
+    rw (← c.self.view_is) (killed_painted s c.route-routed.new.self c.kill_session.new.server c.args.dev
+    c.route-routed.result c.in-Some.sid _ _ (raw_of c.self.inside.pixels) (raw_of c.kill_session.new.pixels)
+    r.server (r.all ∙ alone) c.kill_session.ensures.painted)
 
 pub returns-clause-painted : goal.returns-clause-painted
 returns-clause-painted g c =
     let s = c.self.inside.server in
     let r = c.route-routed.ensures in
-    let none = no_kill c.kills_stand_alone.ensures s c.args.dev c.route-routed.result r.routed c.killed.result c.killed.ensures c.in_default.is in
-    rw (← c.self.view_is) (rw c.show_input.ensures.glasses (rw c.show_input.ensures.raw (told_paints_nothing (state_of s) (state_of c.tell_all.new.self) c.args.dev c.route-routed.result _ (raw_of c.self.inside.pixels) (ap kills r.all ∙ none))))
+    let none = no_kill c.kills_stand_alone.ensures s c.args.dev c.route-routed.result r.routed c.killed.result
+    c.killed.ensures c.in_default.is in
+    rw (← c.self.view_is) (rw c.show_input.ensures.glasses
+    (rw c.show_input.ensures.raw (told_paints_nothing (state_of s) (state_of c.tell_all.new.self) c.args.dev
+    c.route-routed.result _ (raw_of c.self.inside.pixels) (ap kills r.all ∙ none))))

@@ -1,9 +1,14 @@
-use Rattle.nit_screen.proofs.Lemmas.{PixelSource, Repainted, ap, arith, as_many, can_relabel, glass_in, label_there, length, length-map, map, pixel, pixel_count, raw_of, same_source, session_owns, state_of, subst, sym, tables_stay, vec_capacity, ℕ, ◌∙◌}
+use Rattle.nit_screen.proofs.Lemmas.{PixelSource, Repainted, ap, arith, as_many, can_relabel}
+use Rattle.nit_screen.proofs.Lemmas.{glass_in, label_there, length, length-map, map, pixel}
+use Rattle.nit_screen.proofs.Lemmas.{pixel_count, raw_of, same_source, session_owns, state_of}
+use Rattle.nit_screen.proofs.Lemmas.{subst, sym, tables_stay, vec_capacity, ℕ, ◌∙◌}
 use Rattle.nit_screen.proofs.screen.Screen.reopen.Goals as goal
 
 pub index_mut-requires : goal.index_mut-requires
 index_mut-requires g c =
-    let below = label_there c.self.inside.server c.kill_session.new.server c.args.sid c.kill_session.new.pixels.labels.texts.items c.facts.ensures c.kill_session.ensures.server c.kill_session.ensures.pixels.0.named
+    let below = label_there c.self.inside.server c.kill_session.new.server c.args.sid
+    c.kill_session.new.pixels.labels.texts.items c.facts.ensures c.kill_session.ensures.server
+    c.kill_session.ensures.pixels.0.named
     (rw (← c.self.view_is) at c.requires.session) in
     omega (arith, below, c.kill_session.new.pixels.labels.texts.ok.0)
 
@@ -11,7 +16,9 @@ pub redraw-requires : goal.redraw-requires
 redraw-requires g c =
     let p = c.kill_session.new.pixels in
     record {
-      can = can_relabel c.kill_session.new.server c.open.new.self c.args.sid c.args.label p.painter.raw.items (length p.frame.items) (vec_capacity p.frame) p.painter.cutter.room p.labels.texts.items (length p.labels.places.items) p.bar
+      can = can_relabel c.kill_session.new.server c.open.new.self c.args.sid c.args.label p.painter.raw.items
+          (length p.frame.items) (vec_capacity p.frame) p.painter.cutter.room p.labels.texts.items
+          (length p.labels.places.items) p.bar
           c.open.ensures c.kill_session.ensures.pixels.0;
     }
 
@@ -26,9 +33,12 @@ invariant_of-self g c =
     let lt = rw (← c.self.view_is) at c.requires.session in
     rw c.redraw.ensures.glasses (record {
       shown = c.redraw.ensures.pixels;
-      glasses = length-map gs' g.G.Glass.sight ∙ sym (length-map gs' g.G.Glass.rest) ∙ ap length e.rests ∙ length-map gs g.G.Glass.rest
-          ∙ sym (length-map gs g.G.Glass.sight) ∙ c.self.invariant.glasses ∙ as_many s mid s' c.args.sid c.args.label e.server c.open.ensures;
-      tables = tables_stay s mid s' c.args.sid c.args.label (map g.G.Glass.sight gs) (map g.G.Glass.sight gs') e.painted.loads c.facts.ensures e.server c.open.ensures lt e.painted.sights c.self.invariant.tables;
+      glasses = length-map gs' g.G.Glass.sight ∙ sym (length-map gs' g.G.Glass.rest) ∙ ap length e.rests
+          ∙ length-map gs g.G.Glass.rest
+          ∙ sym (length-map gs g.G.Glass.sight) ∙ c.self.invariant.glasses
+          ∙ as_many s mid s' c.args.sid c.args.label e.server c.open.ensures;
+      tables = tables_stay s mid s' c.args.sid c.args.label (map g.G.Glass.sight gs) (map g.G.Glass.sight gs')
+          e.painted.loads c.facts.ensures e.server c.open.ensures lt e.painted.sights c.self.invariant.tables;
     })
 
 pub returns-clause-painted : goal.returns-clause-painted
@@ -41,5 +51,7 @@ returns-clause-painted g c =
     let e = c.kill_session.ensures in
     let lt = rw (← c.self.view_is) at c.requires.session in
     rw (← c.self.view_is) (rw c.redraw.ensures.glasses (rw c.redraw.ensures.raw
-    (subst (λ (f : ℕ → PixelSource). Repainted f (λ k. session_owns c.args.sid (state_of s) (pixel s.config.width k)) (pixel_count (state_of s)) (glass_in (map g.G.Glass.sight gs)) (glass_in (map g.G.Glass.sight gs')) (raw_of c.self.inside.pixels) (raw_of c.kill_session.new.pixels))
+    (subst (λ (f : ℕ → PixelSource). Repainted f (λ k. session_owns c.args.sid (state_of s) (pixel s.config.width k))
+    (pixel_count (state_of s)) (glass_in (map g.G.Glass.sight gs)) (glass_in (map g.G.Glass.sight gs'))
+    (raw_of c.self.inside.pixels) (raw_of c.kill_session.new.pixels))
     (sym (same_source s mid s' c.args.sid c.args.label e.server c.open.ensures lt)) e.painted)))

@@ -10,9 +10,11 @@ bounds-places-slot c =
 
 pub views-preserved : goal.views-preserved
 views-preserved c =
-    labelled_more c.args.stack.now c.args.labels.now c.views.i (length c.args.places.now) c.views.places c.at-v.result c.place_of_view.result
+    labelled_more c.args.stack.now c.args.labels.now c.views.i (length c.args.places.now) c.views.places c.at-v.result
+    c.place_of_view.result
     c.len-i-end.ensures.standing c.requires.slots c.at-v.ensures.place c.place_of_view.ensures c.views.invariant
 
 pub returns-clause-placed : goal.returns-clause-placed
 returns-clause-placed c =
-    all_labelled c.args.stack.now c.args.labels.now c.views.i (length c.args.places.now) c.views.places (omega (arith, c.len-i-end.ensures.count)) c.views.invariant
+    all_labelled c.args.stack.now c.args.labels.now c.views.i (length c.args.places.now) c.views.places
+    (omega (arith, c.len-i-end.ensures.count)) c.views.invariant

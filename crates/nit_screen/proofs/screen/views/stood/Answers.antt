@@ -3,8 +3,14 @@ use Rattle.nit_screen.proofs.Lemmas.{StackModel, named_stands, slot_view_in}
 use Rattle.nit_screen.proofs.screen.views.stood.Goals as goal
 
 pub view-requires : goal.view-requires
-view-requires c = rw c.stack-stack.ensures.stack (named_stands c.slot-view.result.0 c.args.sid c.args.handle c.args.server.now.stack.views c.slot-view.ensures)
+view-requires c = rw c.stack-stack.ensures.stack
+    (named_stands c.slot-view.result.0 c.args.sid c.args.handle c.args.server.now.stack.views c.slot-view.ensures)
 
 pub returns-clause-seat : goal.returns-clause-seat
-returns-clause-seat c =
-    (record { slot = c.slot-view.result.0; view = c.view.result }, subst (λ (t : StackModel). slot_view_in c.slot-view.result.0 t.views ≡ Some (record { slot = c.slot-view.result.0; view = c.view.result })) c.stack-stack.ensures.stack c.view.ensures.value, refl)
+returns-clause-seat c = (
+  record { slot = c.slot-view.result.0; view = c.view.result },
+  subst (λ (t : StackModel). slot_view_in c.slot-view.result.0 t.views
+      ≡ Some (record { slot = c.slot-view.result.0; view = c.view.result })) c.stack-stack.ensures.stack
+      c.view.ensures.value,
+  refl,
+)

@@ -5,5 +5,6 @@ use Rattle.nit_server.proofs.member.Member.find.Goals as goal
 pub returns-clause-none : goal.returns-clause-none
 returns-clause-none c =
     let held : has_handle c.self.inside.table.pairs c.args.h ≡ has_view c.args.self.now.session c.args.h =
-    sym (has_as_held c.self.inside.table.pairs c.args.h) ∙ ap (λ (m : KeptSessionModel). has_view m.session c.args.h) c.self.view_is in
+    sym (has_as_held c.self.inside.table.pairs c.args.h)
+    ∙ ap (λ (m : KeptSessionModel). has_view m.session c.args.h) c.self.view_is in
     subst (λ (b : Bool). IsNone c.find.result ↔ (b ≡ false)) held c.find.ensures.none

@@ -10,7 +10,12 @@ above-requires c =
     }
 
 pub invariant_of-self : goal.invariant_of-self
-invariant_of-self c = ((put_above_next _ _ _ _ _ _ c.self.invariant.0 c.self.view_is _ _ _ c.slot-v.ensures _ _ _ c.slot-n.ensures c.requires.accepted c.above.ensures).server, c.self.invariant.1)
+invariant_of-self c = (
+  (put_above_next _ _ _ _ _ _ c.self.invariant.0 c.self.view_is _ _ _ c.slot-v.ensures _ _ _
+      c.slot-n.ensures c.requires.accepted c.above.ensures).server,
+  c.self.invariant.1,
+)
 
 pub returns : goal.returns
-returns c = (put_above_next _ _ _ _ _ _ c.self.invariant.0 c.self.view_is _ _ _ c.slot-v.ensures _ _ _ c.slot-n.ensures c.requires.accepted c.above.ensures).served
+returns c = (put_above_next _ _ _ _ _ _ c.self.invariant.0 c.self.view_is _ _ _ c.slot-v.ensures _ _ _ c.slot-n.ensures
+    c.requires.accepted c.above.ensures).served

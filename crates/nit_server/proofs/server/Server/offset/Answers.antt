@@ -6,17 +6,20 @@ offset-requires-clause-view c = there _ _ _ _ _ _ c.self.invariant.0 c.self.view
 
 pub offset-requires-clause-range : goal.offset-requires-clause-range
 offset-requires-clause-range c =
-    offset_range _ _ _ _ _ _ c.self.invariant.0 c.self.view_is _ c.args.sid c.args.handle c.slot-v.ensures c.args.ox c.args.oy _ _ c.requires.accepted
+    offset_range _ _ _ _ _ _ c.self.invariant.0 c.self.view_is _ c.args.sid c.args.handle c.slot-v.ensures c.args.ox
+    c.args.oy _ _ c.requires.accepted
     (to_z-of_z _ _ c.ranges.ox) (to_z-of_z _ _ c.ranges.oy)
 
 pub invariant_of-self : goal.invariant_of-self
 invariant_of-self c = (
-  (offset_by _ _ _ _ _ _ c.self.invariant.0 c.self.view_is _ c.args.sid c.args.handle c.slot-v.ensures _ c.args.ox c.args.oy _ _ c.requires.accepted
+  (offset_by _ _ _ _ _ _ c.self.invariant.0 c.self.view_is _ c.args.sid c.args.handle c.slot-v.ensures _ c.args.ox
+      c.args.oy _ _ c.requires.accepted
       (to_z-of_z _ _ c.ranges.ox) (to_z-of_z _ _ c.ranges.oy) c.offset.ensures).server,
   c.self.invariant.1,
 )
 
 pub returns : goal.returns
 returns c =
-    (offset_by _ _ _ _ _ _ c.self.invariant.0 c.self.view_is _ c.args.sid c.args.handle c.slot-v.ensures _ c.args.ox c.args.oy _ _ c.requires.accepted
+    (offset_by _ _ _ _ _ _ c.self.invariant.0 c.self.view_is _ c.args.sid c.args.handle c.slot-v.ensures _ c.args.ox
+    c.args.oy _ _ c.requires.accepted
     (to_z-of_z _ _ c.ranges.ox) (to_z-of_z _ _ c.ranges.oy) c.offset.ensures).served

@@ -1,4 +1,5 @@
-use Rattle.nit_server.proofs.Lemmas.{All_found, IsSlotView, is_client, is_few, is_slot, no_owner, owner_is, pointed_is}
+use Rattle.nit_server.proofs.Lemmas.{All_found, IsSlotView, is_client, is_few, is_slot, no_owner}
+use Rattle.nit_server.proofs.Lemmas.{owner_is, pointed_is}
 use Rattle.std.proofs.Common.{length, sym, ◌<◌, ◌∙◌}
 use Rattle.nit_server.proofs.server.Server.pointed.Goals as goal
 
@@ -6,26 +7,32 @@ use Rattle.nit_server.proofs.server.Server.pointed.Goals as goal
 seated : (c : goal.After-view) → c.view.result.sid < length c.self.inside.stack.sizes
 seated c =
     let s = c.self.inside.stack in
-    (All_found (IsSlotView s.most (length s.sizes)) (is_slot c.in-Some.v.0) s.views _ c.view.ensures.standing.seats c.view.ensures.value).session
+    (All_found (IsSlotView s.most (length s.sizes)) (is_slot c.in-Some.v.0) s.views _ c.view.ensures.standing.seats
+    c.view.ensures.value).session
 
 pub returns-in-Some-clause-session : goal.returns-in-Some-clause-session
 returns-in-Some-clause-session c =
     let i = c.self.inside in
-    pointed_is i.config i.stack i.members.items i.slots i.focus c.self.invariant.0 c.self.invariant.1 c.args.dev c.args.self.now c.self.view_is c.clamp.result c.clamp.ensures.place _
-    (owner_is i.stack.bar i.stack.views c.clamp.result c.in-Some.v c.view.result c.view.ensures.standing.slots (sym c.in-Some.is ∙ c.owner.ensures.owner) c.view.ensures.value)
+    pointed_is i.config i.stack i.members.items i.slots i.focus c.self.invariant.0 c.self.invariant.1 c.args.dev
+    c.args.self.now c.self.view_is c.clamp.result c.clamp.ensures.place _
+    (owner_is i.stack.bar i.stack.views c.clamp.result c.in-Some.v c.view.result c.view.ensures.standing.slots
+    (sym c.in-Some.is ∙ c.owner.ensures.owner) c.view.ensures.value)
 
 pub returns-in-Some-clause-known : goal.returns-in-Some-clause-known
 returns-in-Some-clause-known c =
     let i = c.self.inside in
-    is_client i.config i.stack i.members.items i.slots i.focus c.self.invariant.0 c.self.invariant.1 c.args.dev c.args.self.now c.self.view_is c.view.result.sid (seated c)
+    is_client i.config i.stack i.members.items i.slots i.focus c.self.invariant.0 c.self.invariant.1 c.args.dev
+    c.args.self.now c.self.view_is c.view.result.sid (seated c)
 
 pub returns-in-Some-clause-few : goal.returns-in-Some-clause-few
 returns-in-Some-clause-few c =
     let i = c.self.inside in
-    is_few i.config i.stack i.members.items i.slots i.focus c.self.invariant.0 c.self.invariant.1 c.args.dev c.args.self.now c.self.view_is c.view.result.sid (seated c)
+    is_few i.config i.stack i.members.items i.slots i.focus c.self.invariant.0 c.self.invariant.1 c.args.dev
+    c.args.self.now c.self.view_is c.view.result.sid (seated c)
 
 pub returns-in-None-clause-session : goal.returns-in-None-clause-session
 returns-in-None-clause-session c =
     let i = c.self.inside in
-    pointed_is i.config i.stack i.members.items i.slots i.focus c.self.invariant.0 c.self.invariant.1 c.args.dev c.args.self.now c.self.view_is c.clamp.result c.clamp.ensures.place _
+    pointed_is i.config i.stack i.members.items i.slots i.focus c.self.invariant.0 c.self.invariant.1 c.args.dev
+    c.args.self.now c.self.view_is c.clamp.result c.clamp.ensures.place _
     (no_owner _ (sym c.in-None.is ∙ c.owner.ensures.owner))

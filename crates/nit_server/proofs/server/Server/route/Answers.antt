@@ -4,10 +4,13 @@ use Rattle.nit_focus.specs.Focus as focusing
 use Rattle.nit_server.proofs.server.Server.route.Goals as goal
 
 -- the step of the focus is the one of the state
-step : (c : goal.After-input) → focusing.routing_at c.self.inside.focus c.pointed-pointed.result c.args.dev ≡ routing_of c.args.self.now c.args.dev
+step : (c : goal.After-input) → focusing.routing_at c.self.inside.focus c.pointed-pointed.result c.args.dev
+    ≡ routing_of c.args.self.now c.args.dev
 step c =
     let i = c.self.inside in
-    routed_is i.config i.stack i.members.items i.slots i.focus c.self.invariant.0 c.self.invariant.1 c.args.dev c.args.self.now c.self.view_is c.pointed-pointed.result c.pointed-pointed.ensures.session c.pointed-pointed.ensures.known
+    routed_is i.config i.stack i.members.items i.slots i.focus c.self.invariant.0 c.self.invariant.1 c.args.dev
+    c.args.self.now c.self.view_is c.pointed-pointed.result c.pointed-pointed.ensures.session
+    c.pointed-pointed.ensures.known
 
 pub returns-clause-server : goal.returns-clause-server
 returns-clause-server c =

@@ -1,4 +1,5 @@
-use Rattle.nit_slots.proofs.Lemmas.{all_free, ap, arith, free_at_first, length, length-range_with_len}
+use Rattle.nit_slots.proofs.Lemmas.{all_free, ap, arith, free_at_first, length}
+use Rattle.nit_slots.proofs.Lemmas.{length-range_with_len}
 use Rattle.nit_slots.proofs.slots.Slots.new.Goals as goal
 
 pub invariant_of-result : goal.invariant_of-result

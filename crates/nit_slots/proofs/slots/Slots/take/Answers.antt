@@ -1,5 +1,6 @@
 use Rattle.std.proofs.Common.{ap, option_to_list, sym, ◌++◌, ◌∙◌}
-use Rattle.nit_slots.proofs.Lemmas.{free_front, last_below, last_not_taken, length_taken_less, taken_more}
+use Rattle.nit_slots.proofs.Lemmas.{free_front, last_below, last_not_taken, length_taken_less}
+use Rattle.nit_slots.proofs.Lemmas.{taken_more}
 use Rattle.nit_slots.proofs.slots.Slots.take.Goals as goal
 
 pub invariant_of-self : goal.invariant_of-self
@@ -28,4 +29,5 @@ pub returns-clause-more : goal.returns-clause-more
 returns-clause-more c =
     let was = c.pop.ensures.items ∙ ap (λ o. c.pop.new.self.items ++ option_to_list o) c.unwrap.ensures in
     let last = last_below c.pop.new.self.items c.unwrap.result c.self.inside.total (rw was at c.self.invariant.free) in
-    rw (← c.self.view_is, was) (sym (length_taken_less c.pop.new.self.items c.unwrap.result c.self.inside.total last.0 last.1))
+    rw (← c.self.view_is, was) (sym (length_taken_less c.pop.new.self.items c.unwrap.result c.self.inside.total last.0
+    last.1))

@@ -11,4 +11,5 @@ returns-clause-held c =
 pub returns-clause-greatest : goal.returns-clause-greatest
 returns-clause-greatest c =
     let e : c.map.result ≡ last_handle c.self.inside.pairs.items = search rules in
-    rw (← c.self.view_is) (last_greatest 1 c.self.inside.pairs.items c.self.inside.next c.map.result c.self.invariant.table.rising e)
+    rw (← c.self.view_is) (last_greatest 1 c.self.inside.pairs.items c.self.inside.next c.map.result
+    c.self.invariant.table.rising e)

@@ -6,10 +6,15 @@ pub invariant_of-result : goal.invariant_of-result
 invariant_of-result c =
     let sizes = c.in_ok-sizes.ensures.items_if_clones_equal (λ y h. search rules) in
     let layers = c.in_ok-layers.ensures.items_if_clones_equal (λ y h. search rules) in
-    let room : length c.in_ok-slots.slots.items ≡ c.args.most = omega (arith, c.in_ok-slots.ensures.len, c.in_ok-slots.slots.ok.0) in
+    let room : length c.in_ok-slots.slots.items ≡ c.args.most =
+    omega (arith, c.in_ok-slots.ensures.len, c.in_ok-slots.slots.ok.0) in
     record {
-      standing = subst (λ s. IsStack s) (sym (opened_as c.in_ok-order.order.items c.in_ok-slots.slots.items c.in_ok-sizes.sizes.items c.in_ok-layers.layers.items c.args.width c.args.height c.args.sessions c.args.most c.in_ok-order.ensures.items room sizes layers))
-          (opened_stands c.args.width c.args.height c.args.sessions c.args.most c.requires.screen c.requires.sessions c.requires.most);
+      standing = subst (λ s. IsStack s)
+          (sym (opened_as c.in_ok-order.order.items c.in_ok-slots.slots.items c.in_ok-sizes.sizes.items
+          c.in_ok-layers.layers.items c.args.width c.args.height c.args.sessions c.args.most
+          c.in_ok-order.ensures.items room sizes layers))
+          (opened_stands c.args.width c.args.height c.args.sessions c.args.most c.requires.screen c.requires.sessions
+          c.requires.most);
       space = omega (arith, room, c.in_ok-order.ensures.capacity);
     }
 
@@ -17,5 +22,7 @@ pub returns : goal.returns
 returns c =
     let sizes = c.in_ok-sizes.ensures.items_if_clones_equal (λ y h. search rules) in
     let layers = c.in_ok-layers.ensures.items_if_clones_equal (λ y h. search rules) in
-    let room : length c.in_ok-slots.slots.items ≡ c.args.most = omega (arith, c.in_ok-slots.ensures.len, c.in_ok-slots.slots.ok.0) in
-    opened_as c.in_ok-order.order.items c.in_ok-slots.slots.items c.in_ok-sizes.sizes.items c.in_ok-layers.layers.items c.args.width c.args.height c.args.sessions c.args.most c.in_ok-order.ensures.items room sizes layers
+    let room : length c.in_ok-slots.slots.items ≡ c.args.most =
+    omega (arith, c.in_ok-slots.ensures.len, c.in_ok-slots.slots.ok.0) in
+    opened_as c.in_ok-order.order.items c.in_ok-slots.slots.items c.in_ok-sizes.sizes.items c.in_ok-layers.layers.items
+    c.args.width c.args.height c.args.sessions c.args.most c.in_ok-order.ensures.items room sizes layers

@@ -1,5 +1,6 @@
 use Rattle.std.proofs.Common.{Some, ap, arith, length, map, nat_lt, subst, sym, ℕ, ◌∙◌, ◌≡◌}
-use Rattle.nit_stack.proofs.Lemmas.{few, place_found, place_in_order, place_within, slice_get, slot_view, view_ref}
+use Rattle.nit_stack.proofs.Lemmas.{few, place_found, place_in_order, place_within, slice_get}
+use Rattle.nit_stack.proofs.Lemmas.{slot_view, view_ref}
 use Rattle.nit_stack.proofs.stack.Stack.place_of.Goals as goal
 
 pub overflow_cast-result : goal.overflow_cast-result
@@ -26,4 +27,5 @@ returns-clause-view c =
     let views = map (slot_view c.self.inside.slots.items) c.self.inside.order.items in
     let found = rw c.as_slice.ensures.value at c.place_of.ensures.place in
     let place = found ∙ place_in_order c.self.inside.slots.items c.self.inside.order.items c.args.v.0 in
-    rw (← c.self.view_is) (λ there. subst (λ (n : ℕ). slice_get (map view_ref views) n ≡ Some c.args.v) (sym place) (place_found views c.args.v there))
+    rw (← c.self.view_is) (λ there. subst (λ (n : ℕ). slice_get (map view_ref views) n ≡ Some c.args.v) (sym place)
+    (place_found views c.args.v there))

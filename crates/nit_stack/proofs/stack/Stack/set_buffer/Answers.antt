@@ -4,7 +4,8 @@ use Rattle.nit_stack.proofs.stack.Stack.set_buffer.Goals as goal
 pub invariant_of-self : goal.invariant_of-self
 invariant_of-self c =
     record {
-      standing = rw (map-set size c.self.inside.sizes.items c.args.sid (c.args.w, c.args.h)) (keeps_size _ c.args.sid (size (c.args.w, c.args.h)) c.self.invariant.standing c.requires.size);
+      standing = rw (map-set size c.self.inside.sizes.items c.args.sid (c.args.w, c.args.h))
+          (keeps_size _ c.args.sid (size (c.args.w, c.args.h)) c.self.invariant.standing c.requires.size);
       space = c.self.invariant.space;
     }
 

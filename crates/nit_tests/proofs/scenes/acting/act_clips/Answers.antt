@@ -10,6 +10,8 @@ clips-requires g c =
     let parts = g.N.Name.parts in
     let before = c.args.actors.1.items in
     let after' = c.run_clips_here.new.clips in
-    let same : map clip_role_of after' ≡ map clip_role_of before = subst (λ (qs : List ClipPassModel). map clip_role_of after' ≡ map clip_role_of qs) c.as_mut_slice-clips.ensures.value c.run_clips_here.ensures.same in
+    let same : map clip_role_of after' ≡ map clip_role_of before =
+    subst (λ (qs : List ClipPassModel). map clip_role_of after' ≡ map clip_role_of qs)
+    c.as_mut_slice-clips.ensures.value c.run_clips_here.ensures.same in
     subst (λ (q : OpeningParts). AreDoneClips q after') (sym c.into_room-room.ensures.parts)
     (clips_done parts before after' c.requires.first c.requires.clips same c.run_clips_here.ensures.done)

@@ -1,4 +1,5 @@
-use Rattle.std.proofs.Common.{◌≡◌, ◌∙◌, ◌+◌, ◌<◌, ◌++◌, ◌∷◌, [], ℕ, List, length, map, ap, sym, subst}
+use Rattle.std.proofs.Common.{◌≡◌, ◌∙◌, ◌+◌, ◌<◌, ◌++◌, ◌∷◌, [], ℕ, List, length, map, ap, sym}
+use Rattle.std.proofs.Common.{subst}
 use Rattle.std.specs.Prelude.{slice_index_or}
 use Rattle.std.proofs.lemmas.List.{length_push, get_or_default, map_push}
 use Rattle.nit_config.specs.Configuration.{Configuration, donation_of}
@@ -18,17 +19,28 @@ loop-sid-preserved c =
     let buffer : BufferName = c.in_ok-buffer.buffer in
     let more = c.in_ok-push-2.ensures.items in
     let inside : k < length config.clients = subst (λ (n : ℕ). k < n) c.requires.each c.loop-sid-test.true in
-    let client : (slice_index_or c.as_slice-clients.result.now k c.index-clients-sid.result).donation ≡ donation_of config k =
-    donation_at config c.as_slice-clients.result.now k c.index-clients-sid.result (c.as_slice-clients.ensures.value ∙ ap (λ (x : Configuration). x.clients) c.config.view_is) inside in
-    let size : c.table_words-words.result ≡ table_size (donation_of config k) = c.table_words-words.ensures.size ∙ ap table_size client in
-    let plan : c.index-plans-sid.result ≡ plan_in c.args.plans.now k = c.index-plans-sid.is ∙ get_or_default c.args.plans.now k c.index-plans-sid.result (record { steps = []; ink = [] }) c.loop-sid-test.true in
-    let ink : c.ink.result.now ≡ (plan_in c.args.plans.now k).ink = c.ink.ensures ∙ ap (λ (p : PlanModel). p.ink) plan in
+    let client : (slice_index_or c.as_slice-clients.result.now k c.index-clients-sid.result).donation
+    ≡ donation_of config k =
+    donation_at config c.as_slice-clients.result.now k c.index-clients-sid.result (c.as_slice-clients.ensures.value
+    ∙ ap (λ (x : Configuration). x.clients) c.config.view_is) inside in
+    let size : c.table_words-words.result ≡ table_size (donation_of config k) = c.table_words-words.ensures.size
+    ∙ ap table_size client in
+    let plan : c.index-plans-sid.result ≡ plan_in c.args.plans.now k = c.index-plans-sid.is
+    ∙ get_or_default c.args.plans.now k c.index-plans-sid.result (record { steps = []; ink = [] })
+    c.loop-sid-test.true in
+    let ink : c.ink.result.now ≡ (plan_in c.args.plans.now k).ink = c.ink.ensures
+    ∙ ap (λ (p : PlanModel). p.ink) plan in
     record {
-      counted = ap (λ (es : List End). length es) more ∙ length_push keys key ∙ ap (λ (n : ℕ). n + 1) c.loop-sid.invariant.counted;
-      own = ap (λ (es : List End). map (λ (e : End). e.stand.buffer) es) more ∙ map_push (λ (e : End). e.stand.buffer) keys key
+      counted = ap (λ (es : List End). length es) more ∙ length_push keys key
+          ∙ ap (λ (n : ℕ). n + 1) c.loop-sid.invariant.counted;
+      own = ap (λ (es : List End). map (λ (e : End). e.stand.buffer) es) more
+          ∙ map_push (λ (e : End). e.stand.buffer) keys key
           ∙ ap (λ (bs : List BufferName). bs ++ key.stand.buffer ∷ []) c.loop-sid.invariant.own
           ∙ ap (λ (b : BufferName). c.loop-sid.buffers.items ++ b ∷ []) c.in_ok-buffer.ensures.key
           ∙ sym c.in_ok-push.ensures.items;
-      blank = one_more (λ n (e : End). e.sight ≡ new_sight n (table_size (donation_of config n)) (plan_in c.args.plans.now n).ink) keys key k _ c.loop-sid.invariant.counted more c.loop-sid.invariant.blank
-          (c.in_ok-buffer.ensures.sight ∙ ap (λ (n : ℕ). new_sight k n c.ink.result.now) size ∙ ap (λ (ws : List ℕ). new_sight k (table_size (donation_of config k)) ws) ink);
+      blank = one_more (λ n (e : End). e.sight
+          ≡ new_sight n (table_size (donation_of config n)) (plan_in c.args.plans.now n).ink) keys key k _
+          c.loop-sid.invariant.counted more c.loop-sid.invariant.blank
+          (c.in_ok-buffer.ensures.sight ∙ ap (λ (n : ℕ). new_sight k n c.ink.result.now) size
+          ∙ ap (λ (ws : List ℕ). new_sight k (table_size (donation_of config k)) ws) ink);
     }

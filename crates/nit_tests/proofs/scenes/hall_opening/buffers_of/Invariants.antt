@@ -9,5 +9,6 @@ abbrev pub invariant-loop-sid : goal.invariant-loop-sid
 invariant-loop-sid l = record {
   counted : length l.keys.items ≡ l.sid;
   own : map (λ (key : End). key.stand.buffer) l.keys.items ≡ l.buffers.items;
-  blank : (k : ℕ) (key : End) → slice_get l.keys.items k ≡ Some key → key.sight ≡ new_sight k (table_size (donation_of l.config k)) (plan_in l.plans k).ink;
+  blank : (k : ℕ) (key : End) → slice_get l.keys.items k ≡ Some key
+      → key.sight ≡ new_sight k (table_size (donation_of l.config k)) (plan_in l.plans k).ink;
 }

@@ -11,6 +11,7 @@ pub loop-line-preserved : goal.loop-line-preserved
 loop-line-preserved c = record {
   told =
       ap (λ (s : Sight). s.words) (c.stroke.ensures.sight c.args.donation c.loop-line.invariant.painted)
-      ∙ ap (option_map (λ (ws : List ℕ). words_after c.args.client.now c.args.donation (c.loop-line.line + 1))) c.loop-line.invariant.told;
+      ∙ ap (option_map (λ (ws : List ℕ). words_after c.args.client.now c.args.donation (c.loop-line.line + 1)))
+      c.loop-line.invariant.told;
   painted = c.stroke.ensures.after c.args.donation c.loop-line.invariant.painted;
 }

@@ -1,7 +1,10 @@
-use Rattle.std.proofs.Common.{◌≡◌, ◌∙◌, ◌<◌, nat_lt, true, false, ℕ, List, [], ◌∷◌, length, refl, subst, sym, arith}
+use Rattle.std.proofs.Common.{◌≡◌, ◌∙◌, ◌<◌, nat_lt, true, false, ℕ, List, [], ◌∷◌, length, refl}
+use Rattle.std.proofs.Common.{subst, sym, arith}
 use Rattle.nit_top.proofs.Lemmas.{NoCommand, command, length-map, lt-ltb, ltb-true, texts}
 use Rattle.nit_top.proofs.command.words.parse_words.Goals as goal
-use Rattle.nit_top.proofs.command.words.parse_words.Goals.{in_default-via-then-words-lt2, in_default-via-else-words-lt2+else-words-lt3+else-words-lt4+else-words-lt5+then-words-lt6, in_default-via-else-words-lt2+else-words-lt3+else-words-lt4+else-words-lt5+else-words-lt6+else-words-lt7}
+use Rattle.nit_top.proofs.command.words.parse_words.Goals.{in_default-via-then-words-lt2}
+use Rattle.nit_top.proofs.command.words.parse_words.Goals.{in_default-via-else-words-lt2+else-words-lt3+else-words-lt4+else-words-lt5+then-words-lt6}
+use Rattle.nit_top.proofs.command.words.parse_words.Goals.{in_default-via-else-words-lt2+else-words-lt3+else-words-lt4+else-words-lt5+else-words-lt6+else-words-lt7}
 
 not_less : (a b : ℕ) → nat_lt a b ≡ false → a < b → ⊥
 not_less a b is less = let both : true ≡ false = sym (lt-ltb a b less) ∙ is in cc
@@ -37,7 +40,12 @@ pub returns-in_default-clause-none : goal.returns-in_default-clause-none
 returns-in_default-clause-none c =
     let count = length-map c.args.words.now _ in
     elim c.in_default.branch [
-      | in_default-via-then-words-lt2 w ↦ few (texts c.args.words.now) (subst (λ (n : ℕ). n < 2) (sym count) (ltb-true _ 2 w.if-words-lt2-1.true))
-      | in_default-via-else-words-lt2+else-words-lt3+else-words-lt4+else-words-lt5+then-words-lt6 w ↦ five (texts c.args.words.now) (λ short. not_less _ 5 w.if-words-lt5-1.false (subst (λ (n : ℕ). n < 5) count short)) (subst (λ (n : ℕ). n < 6) (sym count) (ltb-true _ 6 w.if-words-lt6-1.true))
-      | in_default-via-else-words-lt2+else-words-lt3+else-words-lt4+else-words-lt5+else-words-lt6+else-words-lt7 w ↦ many (texts c.args.words.now) (λ short. not_less _ 7 w.if-words-lt7-1.false (subst (λ (n : ℕ). n < 7) count short))
+      | in_default-via-then-words-lt2 w ↦ few (texts c.args.words.now)
+          (subst (λ (n : ℕ). n < 2) (sym count) (ltb-true _ 2 w.if-words-lt2-1.true))
+      | in_default-via-else-words-lt2+else-words-lt3+else-words-lt4+else-words-lt5+then-words-lt6 w ↦ five
+          (texts c.args.words.now) (λ short. not_less _ 5 w.if-words-lt5-1.false (subst (λ (n : ℕ). n < 5) count short))
+          (subst (λ (n : ℕ). n < 6) (sym count) (ltb-true _ 6 w.if-words-lt6-1.true))
+      | in_default-via-else-words-lt2+else-words-lt3+else-words-lt4+else-words-lt5+else-words-lt6+else-words-lt7
+          w ↦ many (texts c.args.words.now)
+          (λ short. not_less _ 7 w.if-words-lt7-1.false (subst (λ (n : ℕ). n < 7) count short))
     ]

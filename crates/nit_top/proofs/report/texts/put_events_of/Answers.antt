@@ -3,5 +3,9 @@ use Rattle.nit_top.proofs.report.texts.put_events_of.Goals as goal
 
 pub returns-in-Err : goal.returns-in-Err
 returns-in-Err g c =
-    no_put (events_name c.args.label.now, events_text c.args.scene.now.entries c.args.sid (ending_of (session (state_now c.args.scene.now) c.args.sid))) (g.S.Store.shown c.args.store.now) c.refused_events.result
+    no_put (
+      events_name c.args.label.now,
+      events_text c.args.scene.now.entries c.args.sid (ending_of (session (state_now c.args.scene.now) c.args.sid)),
+    )
+    (g.S.Store.shown c.args.store.now) c.refused_events.result
     c.refused_events.ensures.file c.refused_events.ensures.error

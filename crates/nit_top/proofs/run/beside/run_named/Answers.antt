@@ -1,16 +1,22 @@
 use Rattle.std.proofs.Common.{rules, ◌≡◌, ◌∙◌, ◌++◌, ◌∷◌, [], map, ap, sym, subst}
-use Rattle.nit_top.proofs.Lemmas.{AreDone, Configuration, HasRun, IsDoneUser, IsLegal, IsWhole, OpeningParts, PutState, PutsAll, PutsNext, StoreModel, all_done, beside_leaves, calls_to_make, events_files, final_name, final_picture, journal_file, put_state_of_desk, put_state_of_run, setup_in, user_actions_to_do, user_done}
+use Rattle.nit_top.proofs.Lemmas.{AreDone, Configuration, HasRun, IsDoneUser, IsLegal, IsWhole}
+use Rattle.nit_top.proofs.Lemmas.{OpeningParts, PutState, PutsAll, PutsNext, StoreModel, all_done}
+use Rattle.nit_top.proofs.Lemmas.{beside_leaves, calls_to_make, events_files, final_name}
+use Rattle.nit_top.proofs.Lemmas.{final_picture, journal_file, put_state_of_desk, put_state_of_run}
+use Rattle.nit_top.proofs.Lemmas.{setup_in, user_actions_to_do, user_done}
 use Rattle.nit_top.proofs.run.beside.run_named.Goals as goal
 
 pub last_picture-scene-requires-clause-done : goal.last_picture-scene-requires-clause-done
 last_picture-scene-requires-clause-done g c =
     subst (λ (q : OpeningParts). AreDone q c.run_beside-mine.new.passes.items) (sym c.into_room.ensures.parts)
-    (all_done g.N.Name.parts c.args.opened.room c.args.opened.passes.items c.run_beside-mine.new.passes.items c.args.opened.user c.requires.ready c.run_beside-mine.ensures.same c.run_beside-mine.ensures.done)
+    (all_done g.N.Name.parts c.args.opened.room c.args.opened.passes.items c.run_beside-mine.new.passes.items
+    c.args.opened.user c.requires.ready c.run_beside-mine.ensures.same c.run_beside-mine.ensures.done)
 
 pub last_picture-scene-requires-clause-user : goal.last_picture-scene-requires-clause-user
 last_picture-scene-requires-clause-user g c =
     subst (λ (q : OpeningParts). IsDoneUser q c.run_beside-mine.result.user) (sym c.into_room.ensures.parts)
-    (user_done g.N.Name.parts c.args.opened.user c.run_beside-mine.result.user c.requires.ready.user_belongs c.run_beside-mine.ensures.user_same c.run_beside-mine.ensures.user_done)
+    (user_done g.N.Name.parts c.args.opened.user c.run_beside-mine.result.user c.requires.ready.user_belongs
+    c.run_beside-mine.ensures.user_same c.run_beside-mine.ensures.user_done)
 
 pub returns : goal.returns
 returns g c =
@@ -29,13 +35,17 @@ returns g c =
     let new = put_state_of_run (shown c.leave_texts.new.store) c.leave_texts.result.fault in
     let config : scene.config ≡ parts.config = ended.config ∙ ap (λ (q : OpeningParts). q.config) is in
     let behind : PutsAll (events_files scene.config journal ++ journal_file journal ∷ []) final new =
-    subst (λ (o : PutState). PutsAll (events_files scene.config journal ++ journal_file journal ∷ []) o new) (c.of_picture-fault.ensures (shown left.store.now)) c.leave_texts.ensures.puts in
+    subst (λ (o : PutState). PutsAll (events_files scene.config journal ++ journal_file journal ∷ []) o new)
+    (c.of_picture-fault.ensures (shown left.store.now)) c.leave_texts.ensures.puts in
     let texts : PutsAll (events_files parts.config journal ++ journal_file journal ∷ []) final new =
-    subst (λ (k : Configuration). PutsAll (events_files k journal ++ journal_file journal ∷ []) final new) config behind in
+    subst (λ (k : Configuration). PutsAll (events_files k journal ++ journal_file journal ∷ []) final new) config
+    behind in
     subst (λ (last : StoreModel). HasRun first (setup_in parts) last c.leave_texts.result) (search rules)
-    (beside_leaves parts c.args.opened.user.seen mine.result.user.seen first (shown c.leave_texts.new.store) at final journal c.leave_texts.result
+    (beside_leaves parts c.args.opened.user.seen mine.result.user.seen first (shown c.leave_texts.new.store) at final
+    journal c.leave_texts.result
     c.requires.ready.fresh mine.ensures.put ended.known
     (subst (λ (q : OpeningParts). IsLegal q.config journal) is ended.legal)
-    (subst (λ (q : OpeningParts). IsWhole (map calls_to_make q.scripts) (user_actions_to_do q.input) journal) is ended.whole)
+    (subst (λ (q : OpeningParts). IsWhole (map calls_to_make q.scripts) (user_actions_to_do q.input) journal) is
+    ended.whole)
     (subst (λ (q : OpeningParts). PutsNext (final_name, final_picture (setup_in q) journal) at final) is ended.put)
     texts c.leave_texts.ensures.journal c.leave_texts.ensures.frames)

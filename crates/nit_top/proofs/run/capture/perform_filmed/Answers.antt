@@ -1,5 +1,6 @@
 use Rattle.std.proofs.Common.{◌≡◌, ◌∙◌, List, length, true, ap, inl}
-use Rattle.nit_top.proofs.Lemmas.{Configuration, HasFilmed, Line, Rectangle, begun_of, first_capture, rectangle_of, setup_of}
+use Rattle.nit_top.proofs.Lemmas.{Configuration, HasFilmed, Line, Rectangle, begun_of}
+use Rattle.nit_top.proofs.Lemmas.{first_capture, rectangle_of, setup_of}
 use Rattle.nit_top.proofs.run.capture.perform_filmed.Goals as goal
 
 pub returns : goal.returns
@@ -9,8 +10,11 @@ returns g c =
     let s = setup_of config c.args.scripts.now.clients.items c.args.scripts.now.input true true in
     let ran = c.in-Ok-run_filmed.ran in
     let same : c.in-Ok.film.capture ≡ begun_of region config =
-    c.in-Ok.ensures.capture ∙ ap (λ (r : Rectangle). first_capture c.config.inside.width c.config.inside.height r) c.rect-rect.ensures.value ∙ ap (λ (k : Configuration). first_capture k.width k.height (rectangle_of region)) c.config.view_is in
-    let has : HasFilmed region (g.S.Store.shown c.args.store.now) s (g.S.Store.shown c.run_filmed.new.store) ran.journal.items ran.frames ran.fault = c.in-Ok-run_filmed.ensures region same in
+    c.in-Ok.ensures.capture ∙ ap (λ (r : Rectangle). first_capture c.config.inside.width c.config.inside.height r)
+    c.rect-rect.ensures.value ∙ ap (λ (k : Configuration). first_capture k.width k.height (rectangle_of region))
+    c.config.view_is in
+    let has : HasFilmed region (g.S.Store.shown c.args.store.now) s (g.S.Store.shown c.run_filmed.new.store)
+    ran.journal.items ran.frames ran.fault = c.in-Ok-run_filmed.ensures region same in
     inl (record {
       ran = ran;
       has_run = has;
@@ -18,6 +22,7 @@ returns g c =
       end_is = c.worked.ensures.end;
       name_is = c.worked.ensures.name;
       journal_is = c.worked.ensures.journal;
-      clients_are = c.worked.ensures.clients ∙ ap (λ (ls : List (List Line)). length ls) c.as_slice-clients.ensures.value;
+      clients_are = c.worked.ensures.clients
+          ∙ ap (λ (ls : List (List Line)). length ls) c.as_slice-clients.ensures.value;
       frames_are = c.worked.ensures.frames;
     })

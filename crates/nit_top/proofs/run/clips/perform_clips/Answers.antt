@@ -5,7 +5,8 @@ pub returns : goal.returns
 returns g c =
     let s = clips_setup_of c.args.config.now c.args.scripts.now c.args.clips.now in
     let ran = c.in-Ok.ran in
-    let has : HasRunClips (g.S.Store.shown c.args.store.now) s (g.S.Store.shown c.run_with_clips.new.store) ran.journal.items ran.frames ran.fault = c.in-Ok.ensures in
+    let has : HasRunClips (g.S.Store.shown c.args.store.now) s (g.S.Store.shown c.run_with_clips.new.store)
+    ran.journal.items ran.frames ran.fault = c.in-Ok.ensures in
     inl (record {
       ran = ran;
       has_run = has;
@@ -13,6 +14,7 @@ returns g c =
       end_is = c.worked.ensures.end;
       name_is = c.worked.ensures.name;
       journal_is = c.worked.ensures.journal;
-      clients_are = c.worked.ensures.clients ∙ ap (λ (ls : List (List Line)). length ls) c.as_slice-clients.ensures.value;
+      clients_are = c.worked.ensures.clients
+          ∙ ap (λ (ls : List (List Line)). length ls) c.as_slice-clients.ensures.value;
       frames_are = c.worked.ensures.frames;
     })

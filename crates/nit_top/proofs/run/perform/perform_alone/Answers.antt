@@ -5,7 +5,8 @@ pub returns : goal.returns
 returns g c = inl (record {
   ran = c.in-Ok.ran;
   has_run = c.in-Ok.ensures;
-  headline = c.headline.ensures (setup_of c.args.config.now c.args.scripts.now c.args.input.now false false) c.in-Ok.ran.journal.items c.in-Ok.ensures.outputs c.requires.runnable c.in-Ok.ensures.journal c.in-Ok.ensures.are;
+  headline = c.headline.ensures (setup_of c.args.config.now c.args.scripts.now c.args.input.now false false)
+      c.in-Ok.ran.journal.items c.in-Ok.ensures.outputs c.requires.runnable c.in-Ok.ensures.journal c.in-Ok.ensures.are;
   end_is = c.worked.ensures.end;
   name_is = c.worked.ensures.name;
   journal_is = c.worked.ensures.journal;

@@ -6,7 +6,9 @@ returns g c =
     let config = c.args.config.now in
     let s = setup_of config c.args.scripts.now.clients.items c.args.scripts.now.input true true in
     let has : HasRun (g.S.Store.shown c.args.store.now) s (g.S.Store.shown c.run_beside.new.store) c.in-Ok.ran =
-    subst (λ (ls : List (List Line)). HasRun (g.S.Store.shown c.args.store.now) (setup_of config ls c.args.scripts.now.input true true) (g.S.Store.shown c.run_beside.new.store) c.in-Ok.ran) c.as_slice-clients.ensures.value c.in-Ok.ensures in
+    subst (λ (ls : List (List Line)). HasRun (g.S.Store.shown c.args.store.now)
+    (setup_of config ls c.args.scripts.now.input true true) (g.S.Store.shown c.run_beside.new.store) c.in-Ok.ran)
+    c.as_slice-clients.ensures.value c.in-Ok.ensures in
     inl (record {
       ran = c.in-Ok.ran;
       has_run = has;
@@ -14,6 +16,7 @@ returns g c =
       end_is = c.worked.ensures.end;
       name_is = c.worked.ensures.name;
       journal_is = c.worked.ensures.journal;
-      clients_are = c.worked.ensures.clients ∙ ap (λ (ls : List (List Line)). length ls) c.as_slice-clients.ensures.value;
+      clients_are = c.worked.ensures.clients
+          ∙ ap (λ (ls : List (List Line)). length ls) c.as_slice-clients.ensures.value;
       frames_are = c.worked.ensures.frames;
     })
