@@ -13,31 +13,31 @@ pub use Rattle.nit_audit.specs.Terms.{Offset, Ok, OnOk, Place, Point, Refresh, R
 pub use Rattle.nit_audit.specs.Terms.{Result, Routed, Routing, Session, Shoots, Slab, State, Status}
 pub use Rattle.nit_audit.specs.Terms.{Take, Title, UnderwayModel, Updates, Upgrade, UserAction}
 pub use Rattle.nit_audit.specs.Terms.{Verdict, View, Which, accepted, after, after_accepted}
-pub use Rattle.nit_audit.specs.Terms.{after_deliveries, answered, audited, bar_rows, buffer_left}
-pub use Rattle.nit_audit.specs.Terms.{buffer_need, by_call, by_handle, by_life, by_quota, by_status}
-pub use Rattle.nit_audit.specs.Terms.{calls_from, calls_of, calls_to_make, changed, changed_if}
-pub use Rattle.nit_audit.specs.Terms.{clicks_on, clicks_on_list, covers, delivered, deliveries_of}
-pub use Rattle.nit_audit.specs.Terms.{delivery, done, first_audited, first_session, first_state}
-pub use Rattle.nit_audit.specs.Terms.{followed, get, given, has_key, has_view, in_bar}
-pub use Rattle.nit_audit.specs.Terms.{input_after_call, input_closing, insert, is_accepted}
-pub use Rattle.nit_audit.specs.Terms.{is_meant, is_place, is_rectangle, is_side, is_some, is_title}
-pub use Rattle.nit_audit.specs.Terms.{is_view, layer, left, list_any, member, moved, new_view}
+pub use Rattle.nit_audit.specs.Terms.{after_deliveries, answered, audited, bar_rows, by_call}
+pub use Rattle.nit_audit.specs.Terms.{by_handle, by_life, by_status, calls_from, calls_of}
+pub use Rattle.nit_audit.specs.Terms.{calls_to_make, changed, changed_if, clicks_on, clicks_on_list}
+pub use Rattle.nit_audit.specs.Terms.{covers, delivered, deliveries_of, delivery, done}
+pub use Rattle.nit_audit.specs.Terms.{first_audited, first_session, first_state, followed, get}
+pub use Rattle.nit_audit.specs.Terms.{given, has_key, in_bar, input_after_call, input_closing}
+pub use Rattle.nit_audit.specs.Terms.{insert, is_accepted, is_meant, is_rectangle, is_some}
+pub use Rattle.nit_audit.specs.Terms.{is_title, is_view, layer, left, member, moved, new_view}
 pub use Rattle.nit_audit.specs.Terms.{next_phase, option_map, owner, phases_along, pointer}
 pub use Rattle.nit_audit.specs.Terms.{pointer_after, position_or_len, put_above, put_again}
 pub use Rattle.nit_audit.specs.Terms.{put_back, put_front, receive, refusal, replay_routing}
 pub use Rattle.nit_audit.specs.Terms.{routed_as, routing, serve, session_in, state_of_replay, swept}
-pub use Rattle.nit_audit.specs.Terms.{taken_if, taking, to_do, unless, user_actions_from}
-pub use Rattle.nit_audit.specs.Terms.{user_actions_of, user_actions_to_do, view_left, view_need}
-pub use Rattle.nit_audit.specs.Terms.{view_or, view_under, views_at, with_change, with_pointer}
-pub use Rattle.nit_audit.specs.Terms.{without, ◌orelse◌}
+pub use Rattle.nit_audit.specs.Terms.{taken_if, taking, to_do, user_actions_from, user_actions_of}
+pub use Rattle.nit_audit.specs.Terms.{user_actions_to_do, view_or, view_under, views_at}
+pub use Rattle.nit_audit.specs.Terms.{with_change, with_pointer, without}
 pub use Rattle.nit_journal.proofs.ForCallers.{accepted_reply, delivered_length, holds_of}
 pub use Rattle.nit_journal.proofs.ForCallers.{refused_reply, second_none, serve_accepted}
 pub use Rattle.nit_journal.proofs.ForCallers.{serve_refused}
-pub use Rattle.nit_plan.proofs.ForCallers.{destroyed_held, kept_fewer, kept_more, kept_none}
 pub use Rattle.nit_stack.proofs.ForCallers.{above_is, back_at, back_none, find-map, front_is}
 pub use Rattle.nit_stack.proofs.ForCallers.{map-insert, map-map, map-put_above, map-put_back}
 pub use Rattle.nit_stack.proofs.ForCallers.{map-put_front, map-without, map_twice, moved_found}
-pub use Rattle.std.proofs.Common.{List, SFits, ap, arith, map, rules, subst, sym, w32, ◌∙◌}
+pub use Rattle.std.proofs.Common.{Bool, List, None, Option, SFits, Some, [], add-one, ap, arith}
+pub use Rattle.std.proofs.Common.{cond, drop, drop-cons, false, filter, find, get_or}
+pub use Rattle.std.proofs.Common.{get_or-set_other, get_or-set_same, inl, inr, length, map, nat_lt}
+pub use Rattle.std.proofs.Common.{refl, rules, set, subst, suc, sym, w32, ◌∙◌}
 pub use Rattle.std.proofs.lemmas.Bool.{cases_lt, eq-eqb, eqb-true, false≢true}
 pub use Rattle.std.proofs.lemmas.Fn.{filter_same}
 pub use Rattle.std.proofs.lemmas.Int.{ints, to_z-of_z}

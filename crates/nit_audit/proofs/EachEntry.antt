@@ -1,12 +1,12 @@
 -- The audit, entry by entry.
-use Rattle.std.proofs.Common.{Bool, List, [], add-one, ap, arith, drop, drop-cons, false, get_or}
+use Rattle.nit_audit.proofs.Basics.{Audited, Bool, Call, Configuration, Entry, Err, IfOk, IsAhead}
+use Rattle.nit_audit.proofs.Basics.{IsFollowed, IsFollowing, IsGoodFor, IsGoodFrom, IsMatched}
+use Rattle.nit_audit.proofs.Basics.{IsNothingLeft, IsReplay, IsVerdict, IsVerdictFrom, List}
+use Rattle.nit_audit.proofs.Basics.{MayFollow, Ok, Result, UnderwayModel, UserAction, Verdict, []}
+use Rattle.nit_audit.proofs.Basics.{add-one, ap, arith, audited, drop, drop-cons, false}
+use Rattle.nit_audit.proofs.Basics.{first_audited, followed, get_or, left, length-set, to_do}
 use Rattle.std.proofs.Common.{inl, inr, length, refl, subst, suc, sym, true, zero, ℕ, ◌+◌, ◌<◌, ◌∙◌}
 use Rattle.std.proofs.Common.{◌∷◌, ◌≡◌, ◌≢◌, ◌⊎◌}
-use Rattle.nit_audit.proofs.Basics.{Audited, Call, Configuration, Entry, Err, IfOk, IsAhead}
-use Rattle.nit_audit.proofs.Basics.{IsFollowed, IsFollowing, IsGoodFor, IsGoodFrom, IsMatched}
-use Rattle.nit_audit.proofs.Basics.{IsNothingLeft, IsReplay, IsVerdict, IsVerdictFrom, MayFollow}
-use Rattle.nit_audit.proofs.Basics.{Ok, Result, UnderwayModel, UserAction, Verdict, audited}
-use Rattle.nit_audit.proofs.Basics.{first_audited, followed, left, length-set, to_do}
 use mathlib.Core.List.{cons≢nil}
 use Rattle.nit_events.specs.declared.entry.Entry.TheVariants as entry
 use Rattle.nit_audit.specs.declared.auditing.Verdict.TheVariants as verdict

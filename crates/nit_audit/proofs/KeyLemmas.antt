@@ -1,14 +1,14 @@
 -- The views of keys, when keys and records change.
-use Rattle.nit_audit.proofs.Basics.{AllByRecursion, AllHaveViews, Change, Err, HasView, IfSome}
-use Rattle.nit_audit.proofs.Basics.{IsSomeAnd, Ok, OnOk, Point, Result, Slab, Updates, View, Which}
-use Rattle.nit_audit.proofs.Basics.{above_is, changed, changed_if, covers, eq-eqb, eqb-true}
-use Rattle.nit_audit.proofs.Basics.{false≢true, find-map, front_is, get, has_key, in_bar, insert}
+use Rattle.nit_audit.proofs.Basics.{AllByRecursion, AllHaveViews, Bool, Change, Err, HasView}
+use Rattle.nit_audit.proofs.Basics.{IfSome, IsSomeAnd, List, None, Ok, OnOk, Option, Point, Result}
+use Rattle.nit_audit.proofs.Basics.{Slab, Some, Updates, View, Which, [], above_is, ap, changed}
+use Rattle.nit_audit.proofs.Basics.{changed_if, cond, covers, eq-eqb, eqb-true, false, false≢true}
+use Rattle.nit_audit.proofs.Basics.{filter, find, find-map, front_is, get, has_key, in_bar, insert}
 use Rattle.nit_audit.proofs.Basics.{is_meant, is_some, map-insert, map-map, map-put_above}
 use Rattle.nit_audit.proofs.Basics.{map-put_back, map-put_front, map-without, map_twice, moved}
 use Rattle.nit_audit.proofs.Basics.{moved_found, option_map, owner, position_or_len, put_above}
 use Rattle.nit_audit.proofs.Basics.{put_again, put_back, put_front, swept, taken_if, view_or}
 use Rattle.nit_audit.proofs.Basics.{view_under, views_at, with_change, without}
-use Rattle.std.proofs.Common.{Bool, List, None, Option, Some, [], ap, cond, false, filter, find}
 use Rattle.std.proofs.Common.{map, nat_le, not, refl, subst, suc, sym, true, zero, ℕ, ◌+◌, ◌<◌}
 use Rattle.std.proofs.Common.{◌==◌, ◌||◌, ◌∙◌, ◌∷◌, ◌≡◌, ◌≢◌}
 use Rattle.nit_audit.specs.declared.keys.Change.TheVariants as change

@@ -1,10 +1,10 @@
 -- What is answered of entries, one at a time.
-use Rattle.std.proofs.Common.{Bool, List, [], ap, arith, false, inl, inr, refl, subst, suc, sym}
+use Rattle.nit_audit.proofs.Basics.{Bool, Call, Device, Entry, Err, IfOk, IsEnded, IsLeastBad}
+use Rattle.nit_audit.proofs.Basics.{IsOpen, IsVerdict, IsVerdictFrom, List, Ok, Reply, Result}
+use Rattle.nit_audit.proofs.Basics.{Routed, Verdict, [], ap, arith, cases_lt, false, false≢true}
+use Rattle.nit_audit.proofs.Basics.{inl, inr, refl, subst, suc, sym}
 use Rattle.std.proofs.Common.{take, true, zero, ℕ, ◌++◌, ◌+◌, ◌<◌, ◌∙◌, ◌∷◌, ◌≡◌, ◌≤◌, ◌↔◌, ◌≢◌}
 use Rattle.std.proofs.Common.{◌⊎◌}
-use Rattle.nit_audit.proofs.Basics.{Call, Device, Entry, Err, IfOk, IsEnded, IsLeastBad, IsOpen}
-use Rattle.nit_audit.proofs.Basics.{IsVerdict, IsVerdictFrom, Ok, Reply, Result, Routed, Verdict}
-use Rattle.nit_audit.proofs.Basics.{cases_lt, false≢true}
 use mathlib.Core.List.{cons≢nil}
 use Rattle.nit_events.specs.declared.entry.Entry.TheVariants as entry
 use Rattle.nit_audit.specs.declared.auditing.Verdict.TheVariants as verdict

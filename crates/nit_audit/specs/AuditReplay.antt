@@ -1,10 +1,9 @@
 -- What an audit keeps of a run, and what holds of it.
 use Rattle.std.specs.Prelude.{◌≡◌, ℕ, ◌+◌, ◌*◌, ◌<◌, ◌≤◌, Bool, true, false, List, length, drop}
-use Rattle.std.specs.Prelude.{slice_index_or, IsTrue}
 use Rattle.nit_audit.specs.Below.{Agrees, Call, Close, Configuration, Device, Entry, FocusModel}
-use Rattle.nit_audit.specs.Below.{InputState, Place, Routing, Session, State, Title, UserAction}
-use Rattle.nit_audit.specs.Below.{Verdict, View, after, forget, is_rectangle, is_title, member}
-use Rattle.nit_audit.specs.Below.{most_sessions, route, session_in}
+use Rattle.nit_audit.specs.Below.{InputState, IsTrue, Place, Routing, Session, State, Title}
+use Rattle.nit_audit.specs.Below.{UserAction, Verdict, View, after, forget, is_rectangle, is_title}
+use Rattle.nit_audit.specs.Below.{member, most_sessions, route, session_in, slice_index_or}
 use Rattle.nit_events.specs.declared.entry.Entry.TheVariants as entry
 use Rattle.nit_audit.specs.Underway.{Audited, IsGoodFrom, MayFollow, followed}
 use Rattle.nit_audit.specs.Verdict.{IsVerdictFrom}

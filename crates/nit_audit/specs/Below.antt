@@ -25,9 +25,8 @@ pub use Rattle.nit_glyph.specs.Texts.{is_title}
 pub use Rattle.nit_journal.specs.Projection.{alone, projection, replies_to}
 pub use Rattle.nit_journal.specs.Replay.{Agrees, IsLegal, IsOpen, LegalFrom}
 pub use Rattle.nit_journal.specs.Session.{Answered, Session, accepted, answered, by_call, by_handle}
-pub use Rattle.nit_journal.specs.Session.{by_life, by_quota, by_status, ended, first_session, given}
-pub use Rattle.nit_journal.specs.Session.{has_view, is_side, queued, receive, refusal, serve}
-pub use Rattle.nit_journal.specs.Session.{taking, unless, ◌orelse◌}
+pub use Rattle.nit_journal.specs.Session.{by_life, by_status, first_session, given, receive}
+pub use Rattle.nit_journal.specs.Session.{refusal, serve, taking}
 pub use Rattle.nit_journal.specs.StackAfter.{after_accepted, after_deliveries, is_accepted}
 pub use Rattle.nit_journal.specs.StackAfter.{new_view}
 pub use Rattle.nit_journal.specs.State.{State, after, clicks_on, delivered, first_state}
@@ -38,20 +37,20 @@ pub use Rattle.nit_journal.specs.WholeJournals.{user_actions_of}
 pub use Rattle.nit_plan.specs.Calls.{calls_from, calls_to_make, user_actions_from}
 pub use Rattle.nit_plan.specs.Calls.{user_actions_to_do}
 pub use Rattle.nit_rect.specs.Limits.{most_sessions}
-pub use Rattle.nit_rect.specs.Rectangle.{covers, is_place, is_rectangle, rectangle}
+pub use Rattle.nit_rect.specs.Rectangle.{covers, is_rectangle, rectangle}
 pub use Rattle.nit_rect.specs.declared.point.Point.{Point}
 pub use Rattle.nit_script.specs.Grammar.{most_lines}
 pub use Rattle.nit_script.specs.Spelling.{FitsInputLine}
 pub use Rattle.nit_script.specs.declared.line.InputLine.{InputLine}
 pub use Rattle.nit_script.specs.declared.line.Line.{Line}
-pub use Rattle.nit_slots.specs.Account.{IsDonation, buffer_left, buffer_need, view_left, view_need}
 pub use Rattle.nit_stack.specs.LabelPlaces.{is_view}
 pub use Rattle.nit_stack.specs.Orders.{changed, moved, put_above, put_again, put_back, put_front}
 pub use Rattle.nit_stack.specs.Orders.{without}
 pub use Rattle.nit_stack.specs.Sources.{in_bar, owner}
 pub use Rattle.nit_stack.specs.declared.view.View.{View}
 pub use Rattle.slab.specs.Slab.{Slab, Updates, get}
-pub use Rattle.std.specs.List.{AllByRecursion, insert, list_any, position_or_len}
+pub use Rattle.std.specs.List.{AllByRecursion, insert, position_or_len}
 pub use Rattle.std.specs.List.Sorted.{IsNonDecreasing}
 pub use Rattle.std.specs.Option.{option_map}
 pub use Rattle.std.specs.Prelude.{Err, IfOk, IfSome, IsSomeAnd, IsTrue, Ok, OnOk, Result, is_some}
+pub use Rattle.std.specs.Prelude.{slice_index_or, slice_set, vec_len}

@@ -1,13 +1,13 @@
 //! The audit.
 
 ghost use Rattle.std.specs.Prelude.{◌≡◌, ◌≢◌, ℕ, ◌<◌, ◌≤◌, ◌↔◌, ◌⊎◌, ◌+◌, [], length, map};
-ghost use Rattle.std.specs.Prelude.{slice_set, IsTrue, IfOk, Ok};
+ghost use Rattle.nit_audit.specs.Terms.{Does, IfOk, IsConfiguration, IsDevice, IsFollowing, IsGone};
+ghost use Rattle.nit_audit.specs.Terms.{IsGood, IsLegal, IsNext, IsNothingLeft, IsReplay, IsTrue};
+ghost use Rattle.nit_audit.specs.Terms.{IsVerdict, IsWhole, Ok, Shoots, alone, audited};
+ghost use Rattle.nit_audit.specs.Terms.{calls_to_make, donation_of, first_audited, left, most_read};
+ghost use Rattle.nit_audit.specs.Terms.{next_phase, projection, replies_to, slice_set, to_do};
+ghost use Rattle.nit_audit.specs.Terms.{user_actions_to_do};
 ghost use Rattle.nit_events.specs.declared.entry.Entry.TheVariants as entry;
-ghost use Rattle.nit_audit.specs.Terms.{Does, IsConfiguration, IsDevice, IsFollowing, IsGone};
-ghost use Rattle.nit_audit.specs.Terms.{IsGood, IsLegal, IsNext, IsNothingLeft, IsReplay};
-ghost use Rattle.nit_audit.specs.Terms.{IsVerdict, IsWhole, Shoots, alone, audited, calls_to_make};
-ghost use Rattle.nit_audit.specs.Terms.{donation_of, first_audited, left, most_read, next_phase};
-ghost use Rattle.nit_audit.specs.Terms.{projection, replies_to, to_do, user_actions_to_do};
 
 use crate::client_course::ClientCourse;
 use crate::laws::{yes_is_legal_and_whole, yes_is_served_alone};

@@ -1,11 +1,10 @@
 //! Records of views under their keys, and the order of the keys, front first.
 
 ghost use Rattle.std.specs.Prelude.{◌≡◌, ◌≢◌, ◌≤◌, ℕ, filter, find, length, nat_le, option_map};
-ghost use Rattle.std.specs.Prelude.{is_some, OnOk, vec_len};
-ghost use Rattle.nit_audit.specs.Terms.{AllHaveViews, HasView, changed_if, covers, get, insert};
-ghost use Rattle.nit_audit.specs.Terms.{is_meant, layer, member, new_view, position_or_len};
-ghost use Rattle.nit_audit.specs.Terms.{put_back, swept, taken_if, view_under, with_change};
-ghost use Rattle.nit_audit.specs.Terms.{without};
+ghost use Rattle.nit_audit.specs.Terms.{AllHaveViews, HasView, OnOk, changed_if, covers, get};
+ghost use Rattle.nit_audit.specs.Terms.{insert, is_meant, is_some, layer, member, new_view};
+ghost use Rattle.nit_audit.specs.Terms.{position_or_len, put_back, swept, taken_if, vec_len};
+ghost use Rattle.nit_audit.specs.Terms.{view_under, with_change, without};
 ghost use Rattle.slab.specs.Slab.{Slab as SlabOf};
 ghost use Rattle.nit_stack.specs.declared.view.View.{View as ViewOf};
 

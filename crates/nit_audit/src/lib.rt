@@ -7,15 +7,15 @@
 //! Otherwise it names the first entry with which they are not good, counted from 1, or the place
 //! behind them where only the last picture is lacking.
 //!
-//! The views stand in a plain list here, front first, and not in the stack of the server. So a
-//! mistake of the server's stack does not show in both.
+//! The audit is independent of the server's stack and slots: the views stand in a plain list here,
+//! front first, and have no slots. So a mistake of the server's stack or slots does not show in
+//! both. Each session is a [`nit_session::Machine`], which knows neither.
 #![tactic(auto)]
 
 mod auditing;
 mod client_course;
 mod keys;
 pub mod laws;
-mod machine;
 mod replay;
 mod same;
 mod user_course;

@@ -14,7 +14,6 @@ ghost use Rattle.nit_audit.specs.Terms.{rectangle, refusal, replay_routing, rout
 ghost use Rattle.nit_audit.specs.Terms.{state_of_replay};
 
 use crate::keys::{Change, Which};
-use crate::machine::Machine;
 use crate::same::{same_deliveries, same_reply};
 use crate::views::Views;
 use nit_config::Config;
@@ -22,6 +21,7 @@ use nit_events::{Call, Delivery, Device, Item, Reply, Routed, Text};
 use nit_focus::Focus;
 use nit_glyph::Title;
 use nit_rect::{NoMemory, Rect};
+use nit_session::Machine;
 use std::alloc::Global;
 use std::marker::Model;
 

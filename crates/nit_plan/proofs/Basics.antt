@@ -1,35 +1,35 @@
 -- What lemmas use: the words of clauses, the library's lemmas, and those of the crates below.
 pub use Rattle.nit_journal.proofs.ForCallers.{as_its_calls_have_it, first_none, holds_of}
-pub use Rattle.nit_journal.proofs.ForCallers.{second_none, serve_accepted, serve_refused}
-pub use Rattle.nit_journal.proofs.ForCallers.{within_quota, within_reserve}
-pub use Rattle.nit_plan.specs.Terms.{AccountModel, AllByRecursion, Answered, AreRising, Buffer}
-pub use Rattle.nit_plan.specs.Terms.{Call, Check, Close, Configuration, Destroy, Entry, Event}
-pub use Rattle.nit_plan.specs.Terms.{Expect, Fill, FitsLine, IsInked, IsMachine, IsPaintedTo}
-pub use Rattle.nit_plan.specs.Terms.{IsWord, Line, List, Nothing, Painting, PlanModel, Reply}
-pub use Rattle.nit_plan.specs.Terms.{Session, Sight, Size, Status, Step, Stroke, Take, Taken}
-pub use Rattle.nit_plan.specs.Terms.{TellsAll, Upgrade, View, accepted, accepts, after_calls}
+pub use Rattle.nit_journal.proofs.ForCallers.{second_none, within_quota, within_reserve}
+pub use Rattle.nit_plan.specs.Terms.{AllByRecursion, Buffer, Call, Check, Close, Configuration}
+pub use Rattle.nit_plan.specs.Terms.{Destroy, Entry, Event, Expect, Fill, FitsLine, IsInked}
+pub use Rattle.nit_plan.specs.Terms.{IsPaintedTo, IsWord, Line, List, Nothing, Painting, PlanModel}
+pub use Rattle.nit_plan.specs.Terms.{Reply, Session, Sight, Size, Status, Step, Stroke, Take, Taken}
+pub use Rattle.nit_plan.specs.Terms.{TellsAll, Upgrade, View, [], accepted, accepts, after_calls}
 pub use Rattle.nit_plan.specs.Terms.{after_line, blank, buffer_left, buffer_need, by_call, by_quota}
 pub use Rattle.nit_plan.specs.Terms.{by_refusal, by_status, calls_from, calls_in, calls_of}
 pub use Rattle.nit_plan.specs.Terms.{calls_to_make, cleared, colours, donation_of, done}
-pub use Rattle.nit_plan.specs.Terms.{enumerate_from, first_session, has_view, in_turn, ink}
-pub use Rattle.nit_plan.specs.Terms.{is_accepted, is_between, is_set_by, is_side, is_stroked}
-pub use Rattle.nit_plan.specs.Terms.{is_within, list_any, option_map, painted_from, place_colour}
+pub use Rattle.nit_plan.specs.Terms.{enumerate_from, first_session, in_turn, ink, is_accepted}
+pub use Rattle.nit_plan.specs.Terms.{is_between, is_set_by, is_side, is_stroked, is_within}
+pub use Rattle.nit_plan.specs.Terms.{list_any, option_map, painted_from, place_colour}
 pub use Rattle.nit_plan.specs.Terms.{plan_of_script, refusal, replay, room, serve, session}
-pub use Rattle.nit_plan.specs.Terms.{session_after, session_size, set_where, slice_get, slice_index}
-pub use Rattle.nit_plan.specs.Terms.{static, step_of, steps_from, stroke_colour, stroked}
-pub use Rattle.nit_plan.specs.Terms.{table_size, taking, unless, view_left, with_words}
-pub use Rattle.nit_plan.specs.Terms.{word_after_stroke, words_after, words_after_call}
-pub use Rattle.nit_plan.specs.Terms.{words_by_step, words_left, zeros, ◌orelse◌}
+pub use Rattle.nit_plan.specs.Terms.{session_after, session_of_script, session_size, set_where}
+pub use Rattle.nit_plan.specs.Terms.{slice_get, slice_index, static, step_of, steps_from}
+pub use Rattle.nit_plan.specs.Terms.{stroke_colour, stroked, table_size, take, taking, unless}
+pub use Rattle.nit_plan.specs.Terms.{view_left, with_words, word_after_stroke, words_after}
+pub use Rattle.nit_plan.specs.Terms.{words_after_call, words_by_step, words_left, zeros, ℕ}
+pub use Rattle.nit_plan.specs.Terms.{◌orelse◌}
 pub use Rattle.nit_word.proofs.ForCallers.{are_set, before_row, both_set, column_and_row}
 pub use Rattle.nit_word.proofs.ForCallers.{length-zeros, next_between, none_between, none_set}
 pub use Rattle.nit_word.proofs.ForCallers.{one_of, same_colours, same_set, set_long, turn_there}
 pub use Rattle.nit_word.proofs.ForCallers.{word_at, zero_at}
-pub use Rattle.std.proofs.Common.{ap, arith, length, refl, rules, sym, ◌∙◌}
+pub use Rattle.std.proofs.Common.{All, Bool, IfSome, None, Option, Some, ap, append-nil, ap₂, arith}
+pub use Rattle.std.proofs.Common.{cond, drop, false, filter, fold, get_or, length, length-append}
+pub use Rattle.std.proofs.Common.{map, min, nat_le, nat_lt, not, refl, suc, sym, true, ◌∙◌}
 pub use Rattle.std.proofs.Math.ListN.{get_or-eq_default}
 pub use Rattle.std.proofs.Math.Nat.{mul-le-mul_right}
-pub use Rattle.std.proofs.lemmas.Bool.{eq-eqb, eqb-true, false≢true, ltb-true, ne_eqb}
+pub use Rattle.std.proofs.lemmas.Bool.{eq-eqb, ltb-true, ne_eqb}
 pub use Rattle.std.proofs.lemmas.Bool.Decides.{nat_tests}
-pub use Rattle.std.proofs.lemmas.Fn.{filter_same}
 pub use Rattle.std.proofs.lemmas.Grind.{flat_map-append}
 pub use Rattle.std.proofs.lemmas.List.{get_or-append_right, get_or-drop, get_or_append_left}
 pub use Rattle.std.proofs.lemmas.List.{take_all, take_more}

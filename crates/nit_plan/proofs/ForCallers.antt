@@ -3,4 +3,3 @@ pub use Rattle.nit_plan.proofs.Lines.{buffer_size, line_here}
 pub use Rattle.nit_plan.proofs.Places.{above, none_begun, row_added, rows_done, whole}
 pub use Rattle.nit_plan.proofs.ScriptSession.{calls_done}
 pub use Rattle.nit_plan.proofs.Sights.{alike, changed, for_any, unchanged}
-pub use Rattle.nit_plan.proofs.MachineLemmas.{destroyed_held, kept_fewer, kept_more, kept_none}

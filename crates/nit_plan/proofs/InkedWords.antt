@@ -1,10 +1,10 @@
 -- The words that a script leaves are in its ink.
-use Rattle.nit_plan.proofs.Basics.{AllByRecursion, Buffer, IsInked, Line, Painting, Size, Stroke}
-use Rattle.nit_plan.proofs.Basics.{after_line, blank, colours, enumerate_from, ink, is_accepted}
-use Rattle.nit_plan.proofs.Basics.{one_of, painted_from, serve, session_size, slice_get}
+use Rattle.nit_plan.proofs.Basics.{AllByRecursion, Bool, Buffer, IsInked, Line, List, Painting}
+use Rattle.nit_plan.proofs.Basics.{Size, Some, Stroke, [], after_line, arith, blank, colours, cond}
+use Rattle.nit_plan.proofs.Basics.{drop, enumerate_from, false, ink, is_accepted, length, map}
+use Rattle.nit_plan.proofs.Basics.{one_of, painted_from, refl, serve, session_size, slice_get}
 use Rattle.nit_plan.proofs.Basics.{slice_index, stroke_colour, table_size, take_all}
 use Rattle.nit_plan.proofs.Basics.{word_after_stroke, words_after, words_left}
-use Rattle.std.proofs.Common.{Bool, List, Some, [], arith, cond, drop, false, length, map, refl}
 use Rattle.std.proofs.Common.{subst, suc, take, true, zero, ℕ, ◌%◌, ◌*◌, ◌++◌, ◌+◌, ◌/◌, ◌∷◌, ◌≡◌}
 use Rattle.nit_plan.specs.Strokes.{cleared, stroked}
 use Rattle.nit_word.specs.Zeros.{zeros}

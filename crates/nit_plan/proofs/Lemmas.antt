@@ -1,16 +1,14 @@
 -- What answers use: all that lemmas use, and this crate's lemmas.
-pub use Rattle.nit_plan.proofs.Basics.{Answered, Check, Line, List, Session, Step, Stroke, ap}
-pub use Rattle.nit_plan.proofs.Basics.{arith, blank, cleared, filter_same, first_session, has_view}
-pub use Rattle.nit_plan.proofs.Basics.{in_turn, ink, is_between, is_stroked, length}
+pub use Rattle.nit_plan.proofs.Basics.{Check, Line, List, Step, Stroke, ap, arith, blank, cleared}
+pub use Rattle.nit_plan.proofs.Basics.{first_session, in_turn, ink, is_between, is_stroked, length}
 pub use Rattle.nit_plan.proofs.Basics.{mul-le-mul_right, next_between, none_between, place_colour}
-pub use Rattle.nit_plan.proofs.Basics.{refl, rules, serve_refused, set_where, stroked, sym}
-pub use Rattle.nit_plan.proofs.Basics.{take_all, turn_there, with_words, ◌∙◌}
+pub use Rattle.nit_plan.proofs.Basics.{refl, set_where, stroked, take_all, turn_there, with_words}
+pub use Rattle.nit_plan.proofs.Basics.{◌∙◌}
 pub use Rattle.nit_plan.proofs.InkedWords.{left_inked, word_inked}
 pub use Rattle.nit_plan.proofs.LineColours.{colours_inked, ink_fits, line_fits}
 pub use Rattle.nit_plan.proofs.LineWords.{buffer_in_table, in_table, last_line, next_line}
 pub use Rattle.nit_plan.proofs.Lines.{at_line, line_here, painted_next, sight_next, steps_counted}
 pub use Rattle.nit_plan.proofs.Lines.{tells_all}
-pub use Rattle.nit_plan.proofs.MachineLemmas.{destroyed_held, kept_fewer, kept_more, kept_none}
 pub use Rattle.nit_plan.proofs.Places.{above, corner_left, no_place, none_begun, row_added}
 pub use Rattle.nit_plan.proofs.Places.{row_even, row_odd, rows_done, stroke_set}
 pub use Rattle.nit_plan.proofs.ScriptSession.{calls_done, static_called, static_in_a_run}

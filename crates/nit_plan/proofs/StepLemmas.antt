@@ -1,9 +1,9 @@
 -- The steps of a script's lines.
-use Rattle.std.proofs.Common.{All, List, Some, [], ap, ap₂, arith, fold, get_or, length, refl, suc}
+use Rattle.nit_plan.proofs.Basics.{All, All-cons, Line, List, Painting, Session, Some, Step, []}
+use Rattle.nit_plan.proofs.Basics.{after_line, ap, ap₂, arith, first_session, fold, fold-append}
+use Rattle.nit_plan.proofs.Basics.{get_or, length, painted_from, refl, session_after, slice_get}
+use Rattle.nit_plan.proofs.Basics.{step_of, steps_from, suc, table_size, take_all, take_more}
 use Rattle.std.proofs.Common.{sym, take, zero, ℕ, ◌*◌, ◌++◌, ◌+◌, ◌<◌, ◌∙◌, ◌∷◌, ◌≡◌, ◌≤◌}
-use Rattle.nit_plan.proofs.Basics.{All-cons, Line, Painting, Session, Step, after_line}
-use Rattle.nit_plan.proofs.Basics.{first_session, fold-append, painted_from, session_after}
-use Rattle.nit_plan.proofs.Basics.{slice_get, step_of, steps_from, table_size, take_all, take_more}
 use Rattle.nit_script.specs.declared.line.Line.TheVariants as line
 use Rattle.nit_plan.proofs.Donations.{PaidFor, opened_paid, serve_paid}
 use Rattle.nit_plan.proofs.LineWords.{buffer_in_table}

@@ -1,10 +1,10 @@
 -- The words of places that a line does not set.
-use Rattle.nit_plan.proofs.Basics.{Buffer, Line, Step, Stroke, accepts, column_and_row}
-use Rattle.nit_plan.proofs.Basics.{get_or-append_right, get_or-drop, get_or-eq_default, is_set_by}
-use Rattle.nit_plan.proofs.Basics.{is_stroked, length-zeros, nat_tests, place_colour, slice_get}
-use Rattle.nit_plan.proofs.Basics.{slice_index, static, step_of, stroked, word_at, words_after}
-use Rattle.nit_plan.proofs.Basics.{words_by_step, zeros}
-use Rattle.std.proofs.Common.{Bool, List, Some, ap, arith, cond, drop, false, get_or, length}
+use Rattle.nit_plan.proofs.Basics.{Bool, Buffer, Line, List, Some, Step, Stroke, accepts, ap, arith}
+use Rattle.nit_plan.proofs.Basics.{column_and_row, cond, drop, false, get_or, get_or-append_right}
+use Rattle.nit_plan.proofs.Basics.{get_or-drop, get_or-eq_default, is_set_by, is_stroked, length}
+use Rattle.nit_plan.proofs.Basics.{length-zeros, nat_tests, place_colour, slice_get, slice_index}
+use Rattle.nit_plan.proofs.Basics.{static, step_of, stroked, word_at, words_after, words_by_step}
+use Rattle.nit_plan.proofs.Basics.{zeros}
 use Rattle.std.proofs.Common.{nat_lt, refl, sym, true, ℕ, ◌%◌, ◌&&◌, ◌*◌, ◌+◌, ◌-◌, ◌/◌, ◌∙◌, ◌≡◌}
 use Rattle.std.proofs.Common.{◌≤◌}
 use Rattle.nit_plan.specs.Strokes.{cleared}

@@ -8,10 +8,9 @@ pub use Rattle.nit_events.specs.declared.entry.Entry.{Entry}
 pub use Rattle.nit_events.specs.declared.event.Event.{Event}
 pub use Rattle.nit_events.specs.declared.event.Status.{Status}
 pub use Rattle.nit_journal.specs.Replay.{replay}
-pub use Rattle.nit_journal.specs.Session.{Answered, Session, accepted, after_calls, by_call}
-pub use Rattle.nit_journal.specs.Session.{by_handle, by_quota, by_refusal, by_status, first_session}
-pub use Rattle.nit_journal.specs.Session.{has_view, is_side, refusal, serve, taking, unless}
-pub use Rattle.nit_journal.specs.Session.{◌orelse◌}
+pub use Rattle.nit_journal.specs.Session.{Session, accepted, after_calls, by_call, by_quota}
+pub use Rattle.nit_journal.specs.Session.{by_refusal, by_status, first_session, is_side, refusal}
+pub use Rattle.nit_journal.specs.Session.{serve, taking, unless, ◌orelse◌}
 pub use Rattle.nit_journal.specs.StackAfter.{is_accepted}
 pub use Rattle.nit_journal.specs.State.{session}
 pub use Rattle.nit_journal.specs.WholeJournals.{Does, Shoots, UserAction, calls_of, done}
@@ -26,8 +25,7 @@ pub use Rattle.nit_script.specs.declared.line.InputLine.{InputLine}
 pub use Rattle.nit_script.specs.declared.line.Line.{Line}
 pub use Rattle.nit_script.specs.declared.line.Stroke.{Stroke}
 pub use Rattle.nit_script.specs.declared.line.Stroke.TheVariants.{Check, Fill}
-pub use Rattle.nit_slots.specs.Account.{AccountModel, IsDonation, buffer_left, buffer_need, room}
-pub use Rattle.nit_slots.specs.Account.{view_left}
+pub use Rattle.nit_slots.specs.Account.{IsDonation, buffer_left, buffer_need, room, view_left}
 pub use Rattle.nit_slots.specs.Table.{last_handle}
 pub use Rattle.nit_stack.specs.Sources.{Size}
 pub use Rattle.nit_word.specs.Inks.{IsInked, IsWord}
@@ -36,5 +34,5 @@ pub use Rattle.nit_word.specs.Updates.{in_turn, is_between, set_where, with_word
 pub use Rattle.nit_word.specs.Zeros.{zeros}
 pub use Rattle.std.specs.List.{AllByRecursion, enumerate_from, flat_map, list_any, slice_get}
 pub use Rattle.std.specs.Option.{option_map}
-pub use Rattle.std.specs.Prelude.{List, [], slice_index, slice_index_or, ℕ}
+pub use Rattle.std.specs.Prelude.{List, [], slice_index, slice_index_or, take, ℕ}
 pub use Rattle.std.specs.Result.{OnOk}
