@@ -75,6 +75,7 @@ impl<'a, N: Name> Kept<'a, N> {
     }
 
     fn admit(&self, pass: &mut Pass<'a>)
+        requires belongs { Belongs N.parts pass.old }
         requires ready { pass.old.phase ≡ self.now.phase }
         ensures { pass.new ≡ record pass.old { met = pass.old.phase } }
     {
@@ -357,6 +358,7 @@ impl<'a, N: Name> Hall<'a, N> {
     /// Waits until the pass is ready, and lets it find its phase served ([`Room::admit`]). It may
     /// make the strokes of this phase then, and they wait for nobody.
     pub fn wait_ready<R: Wait>(&self, rt: &R, pass: &mut Pass<'a>)
+        requires belongs { Belongs N.parts pass.old }
         ensures { pass.new ≡ record pass.old { met = pass.old.phase } }
     {
         let kept = self.room.lock(rt);

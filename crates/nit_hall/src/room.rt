@@ -135,6 +135,7 @@ impl<'a> Room<'a> {
     /// ready.
     #[tactic(auto, using(crate::proofs::PhaseEnds::pass_admitted))]
     pub fn admit(&self, pass: &mut Pass<'a>)
+        requires belongs { Belongs self.now.parts pass.old }
         requires ready { pass.old.phase ≡ self.now.phase }
         ensures { pass.new ≡ record pass.old { met = pass.old.phase } }
     {
