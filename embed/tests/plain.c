@@ -340,16 +340,35 @@ static void paint(uint32_t *out, const struct view *view)
                (size_t)(right - left) * sizeof *out);
 }
 
-struct nit_rect nit_look(struct nit_server *server, uint32_t *out, size_t size)
+/* Whether the words of a view are shown at each pixel of the damage, but for views in front. */
+static bool fills(const struct view *view)
 {
-    (void)server, (void)size;
-    struct nit_rect part = { NIT_DONE, (uint32_t)damage.left, (uint32_t)damage.top,
-                             (uint32_t)(damage.right - damage.left),
-                             (uint32_t)(damage.bottom - damage.top) };
+    int32_t x = view->x + view->across, y = view->y + view->down;
+    const struct seat *of = &seats[view->seat];
+    return damage.left >= most(view->x, x) && damage.top >= most(view->y, y) &&
+           damage.right <= least(view->x + (int32_t)view->w, x + (int32_t)of->w) &&
+           damage.bottom <= least(view->y + (int32_t)view->h, y + (int32_t)of->h);
+}
+
+static void clear(uint32_t *out)
+{
     for (int32_t y = damage.top; y < damage.bottom; y++)
         for (int32_t x = damage.left; x < damage.right; x++)
             out[y * (int32_t)width + x] = BARE;
-    for (uint32_t at = count; at-- > 0;)
+}
+
+struct nit_rect nit_look(struct nit_server *server, uint32_t *out, size_t size)
+{
+    (void)server, (void)size;
+    uint32_t behind = 0;
+    struct nit_rect part = { NIT_DONE, (uint32_t)damage.left, (uint32_t)damage.top,
+                             (uint32_t)(damage.right - damage.left),
+                             (uint32_t)(damage.bottom - damage.top) };
+    while (behind < count && !fills(&views[behind]))
+        behind++;
+    if (behind == count)
+        clear(out);
+    for (uint32_t at = behind < count ? behind + 1 : count; at-- > 0;)
         paint(out, &views[at]);
     damage = (struct damage){ 0, 0, 0, 0 };
     return part;
