@@ -20,9 +20,9 @@ pub use Rattle.nit_audit.specs.Terms.{covers, delivered, deliveries_of, delivery
 pub use Rattle.nit_audit.specs.Terms.{first_audited, first_session, first_state, followed, get}
 pub use Rattle.nit_audit.specs.Terms.{given, has_key, in_bar, input_after_call, input_closing}
 pub use Rattle.nit_audit.specs.Terms.{insert, is_accepted, is_meant, is_rectangle, is_some}
-pub use Rattle.nit_audit.specs.Terms.{is_title, is_view, layer, left, member, moved, new_view}
-pub use Rattle.nit_audit.specs.Terms.{next_phase, option_map, owner, phases_along, pointer}
-pub use Rattle.nit_audit.specs.Terms.{pointer_after, position_or_len, put_above, put_again}
+pub use Rattle.nit_audit.specs.Terms.{is_title, is_view, layer, left, list_any, member, moved}
+pub use Rattle.nit_audit.specs.Terms.{new_view, next_phase, option_map, owner, phases_along}
+pub use Rattle.nit_audit.specs.Terms.{pointer, pointer_after, position_or_len, put_above, put_again}
 pub use Rattle.nit_audit.specs.Terms.{put_back, put_front, receive, refusal, replay_routing}
 pub use Rattle.nit_audit.specs.Terms.{routed_as, routing, serve, session_in, state_of_replay, swept}
 pub use Rattle.nit_audit.specs.Terms.{taken_if, taking, to_do, user_actions_from, user_actions_of}

@@ -49,7 +49,7 @@ pub use Rattle.nit_stack.specs.Orders.{without}
 pub use Rattle.nit_stack.specs.Sources.{in_bar, owner}
 pub use Rattle.nit_stack.specs.declared.view.View.{View}
 pub use Rattle.slab.specs.Slab.{Slab, Updates, get}
-pub use Rattle.std.specs.List.{AllByRecursion, insert, position_or_len}
+pub use Rattle.std.specs.List.{AllByRecursion, insert, list_any, position_or_len}
 pub use Rattle.std.specs.List.Sorted.{IsNonDecreasing}
 pub use Rattle.std.specs.Option.{option_map}
 pub use Rattle.std.specs.Prelude.{Err, IfOk, IfSome, IsSomeAnd, IsTrue, Ok, OnOk, Result, is_some}

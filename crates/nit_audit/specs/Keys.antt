@@ -1,9 +1,8 @@
 -- The views as the audit keeps them: the records under their keys, and the keys, front first.
 use Rattle.std.specs.Prelude.{ℕ, ◌<◌, ◌==◌, Bool, List, map, Option, Some, None, option_map}
 use Rattle.std.specs.Prelude.{IsSomeAnd, if◌then◌else◌}
-use Rattle.nit_audit.specs.Below.{AllByRecursion, Change, Slab, View, Which, get, is_view}
+use Rattle.nit_audit.specs.Below.{AllByRecursion, Change, Slab, View, Which, get, is_view, list_any}
 use Rattle.nit_audit.specs.Below.{most_sessions, new_view}
-use Rattle.std.specs.List.{list_any}
 use Rattle.nit_audit.specs.declared.keys.Change.TheVariants as change
 use Rattle.nit_audit.specs.declared.keys.Which.TheVariants as which
 

@@ -18,12 +18,12 @@ pub use Rattle.nit_audit.specs.Below.{calls_to_make, changed, clicks_on, clicks_
 pub use Rattle.nit_audit.specs.Below.{delivered, deliveries_of, delivery, donation_of, done}
 pub use Rattle.nit_audit.specs.Below.{first_input, first_session, first_state, get, given, in_bar}
 pub use Rattle.nit_audit.specs.Below.{input_after_call, insert, is_accepted, is_rectangle, is_some}
-pub use Rattle.nit_audit.specs.Below.{is_title, is_view, layer, left, member, most_lines, most_read}
-pub use Rattle.nit_audit.specs.Below.{most_sessions, moved, new_view, next_phase, option_map, owner}
-pub use Rattle.nit_audit.specs.Below.{phases_along, pointer, pointer_after, position_or_len}
-pub use Rattle.nit_audit.specs.Below.{projection, put_above, put_again, put_back, put_front}
-pub use Rattle.nit_audit.specs.Below.{receive, rectangle, refusal, replies_to, routed_as, routing}
-pub use Rattle.nit_audit.specs.Below.{serve, session_in, slice_set, taking, to_do}
+pub use Rattle.nit_audit.specs.Below.{is_title, is_view, layer, left, list_any, member, most_lines}
+pub use Rattle.nit_audit.specs.Below.{most_read, most_sessions, moved, new_view, next_phase}
+pub use Rattle.nit_audit.specs.Below.{option_map, owner, phases_along, pointer, pointer_after}
+pub use Rattle.nit_audit.specs.Below.{position_or_len, projection, put_above, put_again, put_back}
+pub use Rattle.nit_audit.specs.Below.{put_front, receive, rectangle, refusal, replies_to, routed_as}
+pub use Rattle.nit_audit.specs.Below.{routing, serve, session_in, slice_set, taking, to_do}
 pub use Rattle.nit_audit.specs.Below.{user_actions_from, user_actions_of, user_actions_to_do}
 pub use Rattle.nit_audit.specs.Below.{vec_len, with_pointer, without}
 pub use Rattle.nit_audit.specs.GoodEntries.{IsAllDone, IsGood, IsGoodFor}
