@@ -236,7 +236,7 @@ def do_capture(folder, name, *region):
     if what:
         right = f"X + W is at most {across}, Y + H at most {down}, W and H at least 1"
         raise Refused(10, "capture outside", Note("the words", what, right,
-                                                  "docs/FORMATS.md, Statuses and lines"))
+                                                  "docs/FORMATS.md, What the program says"))
     return on_threads(folder, setup, ["capture.ncap"])
 
 
