@@ -138,9 +138,11 @@ fn read_row(words: &[u32], from: usize, row: &mut [u32])
     ensures words { (j : ℕ) → j < length row.old
         → slice_index row.new j ≡ slice_index words.now (from + j) }
 {
-    row.fill(0);
-    if from < words.len() {
-        let known = row.len().min(words.len() - from);
-        row[..known].copy_from_slice(&words[from..from + known]);
+    if words.len() <= from {
+        row.fill(0);
+        return;
     }
+    let known = row.len().min(words.len() - from);
+    row[known..].fill(0);
+    row[..known].copy_from_slice(&words[from..from + known]);
 }
