@@ -126,4 +126,23 @@ impl Glass for Sheet {
             0
         }
     }
+
+    fn load_row(&mut self, from: usize, row: &mut [u32]) {
+        read_row(&self.reached, from, row);
+    }
+}
+
+/// Sets a row to the words from the place `from` on, and to 0 behind the last of them.
+fn read_row(words: &[u32], from: usize, row: &mut [u32])
+    ensures count { length row.new ≡ length row.old }
+    ensures words { (j : ℕ) → j < length row.old
+        → slice_index row.new j ≡ slice_index words.now (from + j) }
+{
+    if words.len() <= from {
+        row.fill(0);
+        return;
+    }
+    let known = row.len().min(words.len() - from);
+    row[known..].fill(0);
+    row[..known].copy_from_slice(&words[from..from + known]);
 }
