@@ -8,7 +8,6 @@ use nit_actor::PictureName;
 use nit_events::Entry;
 use nit_run::Output;
 use nit_store::{PutError, Store};
-use nit_top::Worked;
 
 /// A put that was refused.
 #[derive(Clone, Copy, Debug)]

@@ -34,6 +34,24 @@ pub struct Worked<'a> {
     pub frames: usize,
 }
 
+impl<'a> Worked<'a> {
+    /// What the work leaves after a run, which had so many clients.
+    pub fn after(ran: Ran, clients: usize) -> Worked<'a>
+        ensures end { result.stop.end ≡ end_of_run ran.fault }
+        ensures name { IfSome ran.fault (λ f. result.stop.name ≡ Name.Put f.file) }
+        ensures journal { result.journal.items ≡ ran.journal.items }
+        ensures clients { result.clients ≡ clients }
+        ensures frames { result.frames ≡ ran.frames }
+    {
+        Worked {
+            stop: stop_after(ran.fault),
+            journal: ran.journal,
+            clients,
+            frames: ran.frames,
+        }
+    }
+}
+
 /// The work ended before a run was begun.
 pub fn unbegun(alloc: Global, stop: Stop<'_>) -> Worked<'_>
     ensures stop { result.stop ≡ stop.entry }
@@ -85,22 +103,6 @@ pub fn status(end: End, said: Result<(), PutError>) -> u8
         Err(PutError::NoMemory) => 7,
         Err(PutError::Failed) if code == 0 => 4,
         Err(PutError::Failed) => code,
-    }
-}
-
-/// What the work leaves after a run, which had so many clients.
-pub fn worked<'a>(ran: Ran, clients: usize) -> Worked<'a>
-    ensures end { result.stop.end ≡ end_of_run ran.fault }
-    ensures name { IfSome ran.fault (λ f. result.stop.name ≡ Name.Put f.file) }
-    ensures journal { result.journal.items ≡ ran.journal.items }
-    ensures clients { result.clients ≡ clients }
-    ensures frames { result.frames ≡ ran.frames }
-{
-    Worked {
-        stop: stop_after(ran.fault),
-        journal: ran.journal,
-        clients,
-        frames: ran.frames,
     }
 }
 

@@ -5,7 +5,7 @@ ghost use Rattle.nit_top.specs.Terms.{Capture, Ends, IsConfig, IsConfiguration, 
 ghost use Rattle.nit_top.specs.Terms.{IsRunnable, PerformedFilmed, Region, Runs, StoreModel};
 ghost use Rattle.nit_top.specs.Terms.{bytes_of, is_off_screen, setup_of, with_asked};
 
-use crate::report::finish::{Worked, unbegun, worked};
+use crate::report::finish::{Worked, unbegun};
 use nit_actor::Gate;
 use nit_config::Config;
 use nit_perform::{Film, Host, run_filmed};
@@ -66,5 +66,5 @@ fn perform_filmed<'a, R: Threads + Wait + Sync, S: Store, G: Gate>(
     let Ok(ran) = run_filmed(host, config, scripts, film, store) else {
         return unbegun(host.alloc, at(End::NoMemory, ""));
     };
-    worked(ran, clients.len())
+    Worked::after(ran, clients.len())
 }

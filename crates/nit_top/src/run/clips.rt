@@ -6,7 +6,7 @@ ghost use Rattle.nit_top.specs.Terms.{Clip, Ends, IsConfig, IsConfiguration, IsR
 ghost use Rattle.nit_top.specs.Terms.{PerformedClips, StoreModel, bytes_of, clips_setup_of};
 ghost use Rattle.nit_top.specs.Terms.{with_asked};
 
-use crate::report::finish::{Worked, unbegun, worked};
+use crate::report::finish::{Worked, unbegun};
 use nit_actor::Gate;
 use nit_clip::ClipScript;
 use nit_config::Config;
@@ -62,5 +62,5 @@ fn perform_clips<'a, R: Threads + Wait + Sync, S: Store, G: Gate>(
     let Ok(ran) = run_with_clips(host, config, scripts, clips, store) else {
         return unbegun(host.alloc, at(End::NoMemory, ""));
     };
-    worked(ran, clients.len())
+    Worked::after(ran, clients.len())
 }

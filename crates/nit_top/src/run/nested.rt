@@ -5,7 +5,7 @@ ghost use Rattle.nit_top.specs.Terms.{Ends, IsAfterOuter, IsConfiguration, IsOut
 ghost use Rattle.nit_top.specs.Terms.{Line, Nested, PerformedNested, RunFiles, StoreModel};
 ghost use Rattle.nit_top.specs.Terms.{first_other, run_files, setup_of};
 
-use crate::report::finish::{Worked, unbegun, worked};
+use crate::report::finish::{Worked, unbegun};
 use crate::run::inner::run_inner;
 use nit_actor::Gate;
 use nit_actor::laws::each_line_once;
@@ -100,5 +100,5 @@ fn perform_nested<'a, R: Threads + Wait + Sync, S: Store, G: Gate>(
         return unbegun(host.alloc, at(End::NoMemory, ""));
     };
     let fault = put_inner_journal(host.alloc, store, ran.fault, journal);
-    worked(ran.with_fault(fault), clients.len())
+    Worked::after(ran.with_fault(fault), clients.len())
 }

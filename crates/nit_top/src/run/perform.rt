@@ -6,7 +6,7 @@ ghost use Rattle.nit_top.specs.Terms.{Performed, Run, Still, StoreModel, bytes_o
 ghost use Rattle.nit_top.specs.Terms.{most_height, most_width, number_end, setup_of};
 ghost use Rattle.nit_top.specs.Terms.{still_configuration, with_asked};
 
-use crate::report::finish::{Worked, stop_after, unbegun, worked};
+use crate::report::finish::{Worked, stop_after, unbegun};
 use nit_actor::Gate;
 use nit_config::Config;
 use nit_perform::{Host, put_files, run_beside, run_one, run_turns};
@@ -125,7 +125,7 @@ fn perform<'a, S: Store>(
     let Ok(ran) = run_turns(alloc, config, scripts, input, store) else {
         return unbegun(alloc, at(End::NoMemory, ""));
     };
-    worked(ran, scripts.len())
+    Worked::after(ran, scripts.len())
 }
 
 /// Runs one client whose user does nothing, without texts. A run that is not begun leaves
@@ -146,7 +146,7 @@ fn perform_alone<'a, S: Store>(
     let Ok(ran) = run_one(alloc, config, scripts, input, store) else {
         return unbegun(alloc, at(End::NoMemory, ""));
     };
-    worked(ran, scripts.len())
+    Worked::after(ran, scripts.len())
 }
 
 /// Runs a setup with texts, each client on a thread of its own. A run that is not begun leaves
@@ -168,5 +168,5 @@ pub fn perform_beside<'a, R: Threads + Wait + Sync, S: Store, G: Gate>(
     let Ok(ran) = run_beside(host, config, clients, &scripts.input, store) else {
         return unbegun(host.alloc, at(End::NoMemory, ""));
     };
-    worked(ran, clients.len())
+    Worked::after(ran, clients.len())
 }
