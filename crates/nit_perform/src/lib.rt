@@ -6,13 +6,13 @@
 //! journal is one of the setup, and the files are those that a run of the setup puts with this
 //! journal, up to the refused one.
 //!
-//! - [`run_turns`] goes by rounds on one scene, and puts each shot, the last picture and the texts.
+//! - [`run_turns`] goes by rounds on one scene. It puts each shot, the last picture and the texts.
 //! - [`run_one`] does one client whose user does nothing, and puts the last picture.
 //! - [`run_beside`] has each client on a thread of its own, over a hall in which the calls are
 //!   served one at a time. Each client draws on words of its own without a lock; the user is on the
 //!   calling thread.
-//! - [`run_with_clips`] is the same with a clip script for each client, and puts the clip list last.
-//! - [`run_filmed`] is the same through a store that films the pictures, and puts the [`Film`] last.
+//! - [`run_with_clips`] does the same with a clip script for each client, and puts the clip list.
+//! - [`run_filmed`] does the same through a store that films the pictures, and puts the [`Film`].
 //! - [`nest_run`] goes by rounds and puts nothing: it makes the script that shows the frames.
 //!
 //! [`put_files`] puts the files of a generated run before it, and [`put_inner_journal`] a journal

@@ -19,6 +19,7 @@ file_names files = map (λ f. f.0) files
 abbrev pub asked_also : Option (List (List ℕ)) → List (List ℕ) → Option (List (List ℕ))
 asked_also asked names = option_map (λ before. before ++ names) asked
 
--- what the store shows, with these names at the end of those that were asked for, where they are told
+-- what the store shows, with these names at the end of those that were asked for, where they are
+-- told
 abbrev pub asking_all : StoreModel → List (List ℕ) → StoreModel
 asking_all old names = record old { asked = asked_also old.asked names }

@@ -1,4 +1,4 @@
-use Rattle.std.proofs.Common.{◌≡◌, Option, Some, None, Err, refl, subst}
+use Rattle.std.proofs.Common.{◌≡◌, Option, Some, None, refl, subst}
 use Rattle.nit_perform.proofs.Lemmas.{NestError, NestModel, ShowsNest, Took, all_taken}
 use Rattle.nit_perform.proofs.Lemmas.{frame_refused, frames_of, nest_of, no_frames, run_files}
 use Rattle.nit_perform.proofs.Lemmas.{script_made, script_refused}
