@@ -6,14 +6,13 @@ use Rattle.nit_top.proofs.Basics.{BothFiles, Command, End, Ends, Entry, Fault, F
 use Rattle.nit_top.proofs.Basics.{FirstFiles, HasRead, IfSome, InnerFiles, IsAuditEnd}
 use Rattle.nit_top.proofs.Basics.{IsJournalFault, IsJournalText, IsNoJournalText, IsValid, Judged}
 use Rattle.nit_top.proofs.Basics.{NoFile, NotBegun, OuterFiles, Refused, Run, Setup, Stop}
-use Rattle.nit_top.proofs.Basics.{StoppedAt, StoreModel, Worked, asking_all, bytes_of, name_text}
-use Rattle.nit_top.proofs.Basics.{names_read, next_name, reads, with_asked}
-use Rattle.nit_top.specs.declared.report.finish.End.TheVariants as ends
-use Rattle.nit_top.specs.declared.report.finish.Fault.TheVariants as fault
-use Rattle.nit_top.proofs.AskedNames.{asking_more}
-use Rattle.nit_top.proofs.Scripts.{told_so, told_so_both}
+use Rattle.nit_top.proofs.Basics.{StoppedAt, StoreModel, Worked, asking_all, asking_more, bytes_of}
+use Rattle.nit_top.proofs.Basics.{name_text, names_read, next_name, reads, told_so, told_so_both}
+use Rattle.nit_top.proofs.Basics.{with_asked}
 use Rattle.nit_top.proofs.BeforeRun.{ReadsAs, ends_as}
 use Rattle.nit_top.proofs.WorkLemmas.{CameTo, stopped_ends, totals_on, ends_by}
+use Rattle.nit_setup.specs.declared.stop.End.TheVariants as ends
+use Rattle.nit_setup.specs.declared.stop.Fault.TheVariants as fault
 
 module _ (name journal : List ℕ) where
   abbrev run : Command

@@ -5,10 +5,9 @@ use Rattle.nit_top.proofs.Basics.{Begun, Came, Command, Course, End, Ends, Entry
 use Rattle.nit_top.proofs.Basics.{FilesRead, HasRead, IsJournal, IsLastRead, IsMadeBefore}
 use Rattle.nit_top.proofs.Basics.{IsMadeInPart, IsMadeUpTo, IsNotBegun, Judged, NoCommand, NotBegun}
 use Rattle.nit_top.proofs.Basics.{Refused, Run, Setup, StoreModel, Worked, asked_also, line_on}
-use Rattle.nit_top.proofs.Basics.{made_by, names_read, next_name}
+use Rattle.nit_top.proofs.Basics.{made_by, names_read, next_name, told_so}
 use Rattle.nit_events.specs.declared.entry.Entry.TheVariants as entry
-use Rattle.nit_top.specs.declared.report.finish.End.TheVariants as ends
-use Rattle.nit_top.proofs.Scripts.{told_so}
+use Rattle.nit_setup.specs.declared.stop.End.TheVariants as ends
 
 -- a run has entries
 pub never_empty : (s : Setup) (journal : List Entry) → IsJournal s journal → journal ≡ [] → ⊥

@@ -8,13 +8,12 @@ use Rattle.nit_top.proofs.Basics.{Command, Configuration, Ends, File, FilesRead,
 use Rattle.nit_top.proofs.Basics.{HasRead, IfSome, InnerFiles, InputLine, IsClipFault, IsRunnable}
 use Rattle.nit_top.proofs.Basics.{IsValid, Judged, Line, NoFile, OuterFiles, PerformedClips}
 use Rattle.nit_top.proofs.Basics.{Refused, Run, Setup, Stop, StoppedAtClip, StoreModel, Worked}
-use Rattle.nit_top.proofs.Basics.{append-nil, asking_all, bytes_of, clip_name, clip_names}
-use Rattle.nit_top.proofs.Basics.{clip_phases, input_phases, length-map, map-append, names_in}
-use Rattle.nit_top.proofs.Basics.{names_read, next_name, phases, reads, script_names, setup_of}
-use Rattle.nit_top.proofs.Basics.{slice_get, wanted_by, wrong_clip}
-use Rattle.nit_top.proofs.AskedNames.{asking_both}
-use Rattle.nit_top.proofs.Scripts.{phases_are, told_so, told_so_both}
-use Rattle.nit_top.proofs.SetupLemmas.{all_so, get_behind, take_front}
+use Rattle.nit_top.proofs.Basics.{all_so, append-nil, asking_all, asking_both, bytes_of, clip_name}
+use Rattle.nit_top.proofs.Basics.{clip_names, clip_phases, input_phases, length-map, map-append}
+use Rattle.nit_top.proofs.Basics.{names_in, names_read, next_name, phases, phases_are, reads}
+use Rattle.nit_top.proofs.Basics.{script_names, setup_of, slice_get, told_so, told_so_both}
+use Rattle.nit_top.proofs.Basics.{wanted_by, wrong_clip}
+use Rattle.nit_top.proofs.SetupLemmas.{get_behind, take_front}
 use Rattle.nit_top.proofs.BeforeRun.{ReadsAs, ends_as}
 use Rattle.nit_top.proofs.WorkLemmas.{run_ends, stopped_ends, unbegun_ends}
 

@@ -11,14 +11,13 @@ use Rattle.nit_top.proofs.Basics.{IsSetupOf, IsSomeAnd, IsValid, IsValidSo, Judg
 use Rattle.nit_top.proofs.Basics.{NoCommand, NoFile, OuterFiles, Refused, Run, RunFiles, Still}
 use Rattle.nit_top.proofs.Basics.{StoreModel, WithRun, asked_also, audited_line, code_of}
 use Rattle.nit_top.proofs.Basics.{is_outside_of, made_by, names_read, next_name, not_both, reads}
-use Rattle.nit_top.proofs.Basics.{summary_line, totals}
-use Rattle.nit_top.specs.declared.report.finish.End.TheVariants as ends
-use Rattle.nit_top.proofs.Scripts.{told_so}
-use Rattle.nit_top.proofs.JudgementLemmas.{told_valid, told_refused, told_codes, told_side}
-use Rattle.nit_top.proofs.JudgementLemmas.{told_outside, no_refusal, no_setup}
+use Rattle.nit_top.proofs.Basics.{summary_line, told_so, totals}
+use Rattle.nit_top.proofs.ToldJudgements.{told_valid, told_refused, told_codes, told_side}
+use Rattle.nit_top.proofs.ToldJudgements.{told_outside, no_refusal, no_setup}
 use Rattle.nit_top.proofs.EndCodes.{is_fault_code, not_fault, not_early_0, not_early_4, not_early_7}
 use Rattle.nit_top.proofs.AuditCourse.{with_run, with_run_not, audit_makes_none, not_run}
 use Rattle.nit_top.proofs.AuditCourse.{empty_course, front_none, front_same}
+use Rattle.nit_setup.specs.declared.stop.End.TheVariants as ends
 
 -- ---- what came, by its code
 

@@ -3,8 +3,8 @@ use Rattle.std.proofs.Common.{◌≡◌, ℕ, ◌≤◌, Bool, true, false, [], 
 use Rattle.std.proofs.Common.{◌⊎◌, ◌==◌}
 use Rattle.nit_top.proofs.Basics.{Counts, End, Fault, IsEarly, IsTrue, Rose, StoreModel, code_of}
 use Rattle.nit_top.proofs.Basics.{fault_code, list_any, not_both}
-use Rattle.nit_top.specs.declared.report.finish.End.TheVariants as ends
-use Rattle.nit_top.specs.declared.report.finish.Fault.TheVariants as fault
+use Rattle.nit_setup.specs.declared.stop.End.TheVariants as ends
+use Rattle.nit_setup.specs.declared.stop.Fault.TheVariants as fault
 
 -- ---- codes
 

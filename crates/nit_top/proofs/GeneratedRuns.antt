@@ -1,29 +1,22 @@
 -- Generated runs: they can be run, and how their work comes to its end.
-use Rattle.std.proofs.Common.{◌≡◌, ℕ, ◌<◌, ◌≤◌, zero, suc, ◌+◌, true, List, [], ◌∷◌, ◌++◌, length}
-use Rattle.std.proofs.Common.{map, Option, Some, None, refl, sym, ap, subst, ◌∙◌, arith, inl, inr}
-use Rattle.std.proofs.Common.{zero-add}
+use Rattle.std.proofs.Common.{◌≡◌, ℕ, ◌≤◌, zero, suc, ◌+◌, true, List, [], ◌∷◌, ◌++◌, length, map}
+use Rattle.std.proofs.Common.{Option, Some, None, refl, sym, ap, subst, ◌∙◌, arith, inl, inr}
 use Rattle.nit_top.proofs.Basics.{AllByRecursion, AllZip, AreAllFiles, AreOutputs, Configuration}
 use Rattle.nit_top.proofs.Basics.{Course, End, Ends, Entry, File, FitsInputLine, FitsLine, Gen}
-use Rattle.nit_top.proofs.Basics.{Global, HasRun, Headline, IfSome, InputLine, IsAfterRun, IsAscii}
-use Rattle.nit_top.proofs.Basics.{IsConfiguration, IsJournal, IsMadeUpTo, IsRunnable, IsUtf8}
-use Rattle.nit_top.proofs.Basics.{IsUtf8-from_ascii, Line, NoFile, NotBegun, Performed, PutError}
-use Rattle.nit_top.proofs.Basics.{PutFault, PutFiles, PutState, PutsAll, PutsNext, ReadsClient}
-use Rattle.nit_top.proofs.Basics.{Rose, Setup, StoreModel, Totals, Vec, Worked, append-nil}
-use Rattle.nit_top.proofs.Basics.{asked_also, client_script, client_text, codes, decimal_digit}
-use Rattle.nit_top.proofs.Basics.{end_of_put, end_of_run, file_names, generated_files}
-use Rattle.nit_top.proofs.Basics.{generated_setup, get_or-map, get_or-map-range_with_len}
-use Rattle.nit_top.proofs.Basics.{input_phases, is_some, length-map, length-map-range_with_len}
-use Rattle.nit_top.proofs.Basics.{map-range_with_len_more, name_text, output_name, phases}
-use Rattle.nit_top.proofs.Basics.{put_state_of_run, puts_more, range_with_len, refusal_of}
-use Rattle.nit_top.proofs.Basics.{script_files, script_name, setup_of, slice_index_or, unrefused}
-use Rattle.nit_top.proofs.Basics.{user_script}
+use Rattle.nit_top.proofs.Basics.{HasRun, Headline, IfSome, InputLine, IsAfterRun, IsConfiguration}
+use Rattle.nit_top.proofs.Basics.{IsJournal, IsMadeUpTo, IsRunnable, Line, NoFile, NotBegun}
+use Rattle.nit_top.proofs.Basics.{Performed, PutAll, PutError, PutFault, PutFiles, PutRefused}
+use Rattle.nit_top.proofs.Basics.{PutState, PutUntil, PutsAll, ReadsClient, Rose, Setup, StoreModel}
+use Rattle.nit_top.proofs.Basics.{Totals, Worked, all_put, also_more, also_none, append-nil}
+use Rattle.nit_top.proofs.Basics.{asked_also, asking_none, client_script, end_of_put, end_of_run}
+use Rattle.nit_top.proofs.Basics.{file_names, generated_files, generated_setup, input_phases}
+use Rattle.nit_top.proofs.Basics.{is_some, name_text, output_name, phases, put_state_of_run}
+use Rattle.nit_top.proofs.Basics.{range_with_len, refusal_of, setup_of, unrefused, user_script}
 use Rattle.nit_report.specs.Generator.{generated_configuration}
-use Rattle.nit_store.specs.declared.store.PutError.TheVariants as put
-use Rattle.nit_top.specs.declared.report.finish.End.TheVariants as ends
-use Rattle.nit_top.specs.declared.report.finish.Name.TheVariants as file_name
-use Rattle.nit_top.proofs.AskedNames.{also_none, also_more, asking_none}
 use Rattle.nit_top.proofs.WorkLemmas.{CameTo, ends_by, performed_ends, totals_on}
-use Rattle.nit_top.proofs.PutLemmas.{PutAll, PutUntil, PutRefused, all_put}
+use Rattle.nit_store.specs.declared.store.PutError.TheVariants as put
+use Rattle.nit_setup.specs.declared.stop.End.TheVariants as ends
+use Rattle.nit_setup.specs.declared.stop.Name.TheVariants as file_name
 
 -- ---- it can be run
 
@@ -101,57 +94,6 @@ pub same_unmade : (n : ℕ) (config : Configuration) (scripts : List (List Line)
     → config ≡ generated_configuration → scripts ≡ scripts_of n → lines ≡ user_script n
     → setup_of config scripts lines true true ≡ unmade n
 same_unmade n config scripts lines a b c = λ i. setup_of (a i) (b i) (c i) true true
-
--- ---- its files
-
--- the text of a client among all texts
-pub text_at : (texts : List (Vec ℕ Global)) (n c : ℕ) (v : Vec ℕ Global) → map (λ (t : Vec ℕ Global). t.items) texts
-    ≡ map (client_text n) (range_with_len 0 8) → c < 8 → v ≡ slice_index_or texts c v → v.items ≡ client_text n c
-text_at texts n c v are inside is =
-    let long : length texts ≡ 8 = sym (length-map texts (λ (t : Vec ℕ Global). t.items)) ∙ ap length are
-    ∙ length-map-range_with_len (client_text n) 0 8 in
-    ap (λ (t : Vec ℕ Global). t.items) is
-    ∙ sym (get_or-map (λ (t : Vec ℕ Global). t.items) texts c v [] (omega (arith, long, inside)))
-    ∙ ap (λ (ts : List (List ℕ)). slice_index_or ts c []) are
-    ∙ get_or-map-range_with_len (client_text n) 0 8 c c [] inside (zero-add c)
-
-abbrev script_file : ℕ → ℕ → File
-script_file n c = (script_name c, client_text n c)
-
--- one script more is put
-pub one_script_more : (n c : ℕ) (bytes : List ℕ) (old mid new : PutState) → bytes ≡ client_text n c
-    → PutsAll (script_files n c) old mid → PutsNext (script_name c, bytes) mid new
-    → PutsAll (script_files n (c + 1)) old new
-one_script_more n c bytes old mid new is puts next =
-    subst (λ (fs : List File). PutsAll fs old new) (sym (map-range_with_len_more (script_file n) 0 c c (zero-add c)))
-    (puts_more (script_files n c) (script_file n c) old mid new puts
-    (subst (λ (b : List ℕ). PutsNext (script_name c, b) mid new) is next))
-
--- one script more is read
-pub one_script_read : (n c : ℕ) (before after : List (List Line)) (script : List Line)
-    → before ≡ map (client_script n) (range_with_len 0 c) → script ≡ client_script n c → after ≡ before ++ script ∷ []
-    → after ≡ map (client_script n) (range_with_len 0 (c + 1))
-one_script_read n c before after script are is more =
-    more ∙ ap (λ (ss : List (List Line)). ss ++ script ∷ []) are
-    ∙ ap (λ (s : List Line). map (client_script n) (range_with_len 0 c) ++ s ∷ []) is
-    ∙ sym (map-range_with_len_more (client_script n) 0 c c (zero-add c))
-
--- the name of a client's script is text
-pub name_bytes : (c : ℕ) → c < 8 → script_name c ≡ 103 ∷ (48 + c) ∷ 46 ∷ 110 ∷ 105 ∷ 116 ∷ []
-name_bytes c small = ap (λ (d : List ℕ). codes "g" ++ d ++ codes ".nit") (decimal_digit c (omega arith))
-
-name_ascii : (c : ℕ) → c < 8 → IsAscii (103 ∷ (48 + c) ∷ 46 ∷ 110 ∷ 105 ∷ 116 ∷ [])
-name_ascii c small zero = omega arith
-name_ascii c small (suc zero) = omega arith
-name_ascii c small (suc (suc zero)) = omega arith
-name_ascii c small (suc (suc (suc zero))) = omega arith
-name_ascii c small (suc (suc (suc (suc zero)))) = omega arith
-name_ascii c small (suc (suc (suc (suc (suc zero))))) = omega arith
-name_ascii c small (suc (suc (suc (suc (suc (suc i)))))) = omega arith
-
-pub name_is_text : (c : ℕ) → c < 8 → IsUtf8 (script_name c)
-name_is_text c small = subst IsUtf8 (sym (name_bytes c small))
-    (IsUtf8-from_ascii (103 ∷ (48 + c) ∷ 46 ∷ 110 ∷ 105 ∷ 116 ∷ []) (name_ascii c small))
 
 -- ---- its work
 

@@ -1,17 +1,16 @@
 -- The frames of an inner run are those of the pictures that a run by turns puts.
 use Rattle.std.proofs.Common.{◌≡◌, ◌∙◌, ℕ, List, [], ◌∷◌, ◌++◌, map, fold, refl, sym, ap, subst}
 use Rattle.nit_top.proofs.Basics.{ActorLine, AllByRecursion, AreOutputs, ByClient, ByUser}
-use Rattle.nit_top.proofs.Basics.{Configuration, Drawing, Entry, File, InputLine, IsJournal}
-use Rattle.nit_top.proofs.Basics.{IsLegal, Line, LineTurn, RunFiles, ShotFrame, State, after}
-use Rattle.nit_top.proofs.Basics.{after_turn, all_append, by_turns, drawn_shot, final_picture}
-use Rattle.nit_top.proofs.Basics.{frame_of, frames_of, last_frame, map-append, opening_drawing}
-use Rattle.nit_top.proofs.Basics.{picture, picture_of, pictures_in, raw_word, replay, rounds}
-use Rattle.nit_top.proofs.Basics.{shot_file, shot_frames_of, shots_after, tables_left}
+use Rattle.nit_top.proofs.Basics.{Configuration, Drawing, DrawnLaw, Entry, File, FrontsLaw}
+use Rattle.nit_top.proofs.Basics.{InputLine, IsJournal, IsLegal, Line, LineTurn, RunFiles}
+use Rattle.nit_top.proofs.Basics.{ShotFrame, State, after, after_turn, all_append, by_turns}
+use Rattle.nit_top.proofs.Basics.{drawn_shot, final_picture, frame_of, frames_of, last_frame}
+use Rattle.nit_top.proofs.Basics.{map-append, opening_drawing, picture, picture_of, pictures_in}
+use Rattle.nit_top.proofs.Basics.{raw_word, replay, rounds, shot_file, shot_frames_of, shots_after}
+use Rattle.nit_top.proofs.Basics.{tables_left}
+use Rattle.nit_actor.specs.Drawing.{drawn}
 use Rattle.nit_events.specs.declared.entry.Entry.TheVariants as entry
 use Rattle.nit_script.specs.declared.line.InputLine.TheVariants as input
-use Rattle.nit_actor.specs.Drawing.{drawn}
-use Rattle.nit_top.proofs.HeadlineLemmas.{FrontsLaw}
-use Rattle.nit_top.proofs.InnerLemmas.{DrawnLaw}
 
 -- ---- the frames of shots have the size of the screen
 

@@ -1,12 +1,12 @@
 -- The names of the files that are made before a run differ.
 use Rattle.std.proofs.Common.{◌≡◌, ◌≢◌, ℕ, zero, suc, ◌+◌, ◌<◌, ◌≤◌, List, [], ◌∷◌, ◌++◌, map, refl}
 use Rattle.std.proofs.Common.{sym, ap, ◌∙◌, subst, arith}
-use Rattle.nit_top.proofs.Basics.{Audit, Capture, Clip, Command, File, Gen, HasDifferentNames}
-use Rattle.nit_top.proofs.Basics.{IsSetupOf, Nested, NoCommand, Run, Setup, Still, all_append}
-use Rattle.nit_top.proofs.Basics.{append_cancel_left, append_cancel_right, client_text, codes}
-use Rattle.nit_top.proofs.Basics.{decimal, decimal_digit, decimal_injective, generated_files}
-use Rattle.nit_top.proofs.Basics.{made_by, range_with_len, script_name, slice_index, user_text}
-use Rattle.nit_top.proofs.FileNames.{Apart, Begin, OtherThan, differ, other_both}
+use Rattle.nit_top.proofs.Basics.{Apart, Audit, Begin, Capture, Clip, Command, File, Gen}
+use Rattle.nit_top.proofs.Basics.{HasDifferentNames, IsSetupOf, Nested, NoCommand, OtherThan, Run}
+use Rattle.nit_top.proofs.Basics.{Setup, Still, all_append, append_cancel_left, append_cancel_right}
+use Rattle.nit_top.proofs.Basics.{client_text, codes, decimal, decimal_digit, decimal_injective}
+use Rattle.nit_top.proofs.Basics.{differ, generated_files, made_by, other_both, range_with_len}
+use Rattle.nit_top.proofs.Basics.{script_name, slice_index, user_text}
 
 -- ---- the scripts of a generated run
 

@@ -9,19 +9,17 @@ use Rattle.nit_top.proofs.Basics.{FirstFiles, FirstShows, HasRead, InnerFiles, I
 use Rattle.nit_top.proofs.Basics.{IsInnerEnd, IsJournal, IsLastRead, IsMadeUpTo, IsNotBegun}
 use Rattle.nit_top.proofs.Basics.{IsRunnable, IsValid, Judged, Line, Nested, NoCommand, NoFile}
 use Rattle.nit_top.proofs.Basics.{NotBegun, OuterFiles, PerformedNested, Refused, Run, RunFiles}
-use Rattle.nit_top.proofs.Basics.{Setup, Stop, StoppedAt, StoreModel, Worked, append-nil}
-use Rattle.nit_top.proofs.Basics.{asked_also, asking_all, by_turns, bytes_of, file_names}
+use Rattle.nit_top.proofs.Basics.{Setup, Stop, StoppedAt, StoreModel, Worked, also_more, append-nil}
+use Rattle.nit_top.proofs.Basics.{asked_also, asking_all, by_length, by_turns, bytes_of, file_names}
 use Rattle.nit_top.proofs.Basics.{first_other, frames_of, inner_journal_name, is_too_long}
 use Rattle.nit_top.proofs.Basics.{journal_text, line_on, misfit, name_text, names_in, names_read}
 use Rattle.nit_top.proofs.Basics.{nest_of, nested_setup, next_name, phase_counts, run_files}
-use Rattle.nit_top.specs.declared.report.finish.End.TheVariants as ends
-use Rattle.nit_top.specs.declared.report.finish.Fault.TheVariants as fault
-use Rattle.nit_top.proofs.AskedNames.{also_more}
+use Rattle.nit_top.proofs.Basics.{told_so, told_so_both}
 use Rattle.nit_top.proofs.AuditCourse.{front_none, front_same}
 use Rattle.nit_top.proofs.BeforeRun.{never_empty}
-use Rattle.nit_top.proofs.Scripts.{told_so, told_so_both}
-use Rattle.nit_top.proofs.Misfits.{by_length}
 use Rattle.nit_top.proofs.WorkLemmas.{CameTo, ends_by, run_ends, stopped_ends, totals_on}
+use Rattle.nit_setup.specs.declared.stop.End.TheVariants as ends
+use Rattle.nit_setup.specs.declared.stop.Fault.TheVariants as fault
 
 -- ---- the inner files
 

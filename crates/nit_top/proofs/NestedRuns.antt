@@ -5,16 +5,14 @@ use Rattle.nit_top.proofs.Basics.{AllByRecursion, AreLines, AreOutputs, Entry, F
 use Rattle.nit_top.proofs.Basics.{FitsLine, HasRun, Headline, IfSome, InputLine, IsAfterNested}
 use Rattle.nit_top.proofs.Basics.{IsJournal, IsOuter, IsRunnable, Line, MayShowFrames, NestModel}
 use Rattle.nit_top.proofs.Basics.{PutFault, PutsNext, Ran, RunFiles, Setup, ShowsNest, StoreModel}
-use Rattle.nit_top.proofs.Basics.{Worked, count_by, end_of_run, first_forbidden, first_other}
+use Rattle.nit_top.proofs.Basics.{UserOnce, Worked, all_so, all_wanted, by_length, count_by}
+use Rattle.nit_top.proofs.Basics.{end_of_run, first_forbidden, first_other, frames_counted}
 use Rattle.nit_top.proofs.Basics.{frames_of, inner_journal_name, input_phases, is_shot_line}
 use Rattle.nit_top.proofs.Basics.{is_too_long, journal_text, length-map, misfit, names_in, nest_of}
-use Rattle.nit_top.proofs.Basics.{nest_script, nested_setup, phase_counts, phases, put_state_of_run}
-use Rattle.nit_top.proofs.Basics.{puts_more, script_names, setup_of, shots, shown_first}
-use Rattle.nit_top.proofs.Basics.{too_long_for, unless_other, unrefused}
-use Rattle.nit_top.specs.declared.report.finish.Name.TheVariants as file_name
-use Rattle.nit_top.proofs.InnerLemmas.{UserOnce, frames_counted}
-use Rattle.nit_top.proofs.Misfits.{all_wanted, by_length, one_wanted}
-use Rattle.nit_top.proofs.SetupLemmas.{all_so}
+use Rattle.nit_top.proofs.Basics.{nest_script, nested_setup, one_wanted, phase_counts, phases}
+use Rattle.nit_top.proofs.Basics.{put_state_of_run, puts_more, script_names, setup_of, shots}
+use Rattle.nit_top.proofs.Basics.{shown_first, too_long_for, unless_other, unrefused}
+use Rattle.nit_setup.specs.declared.stop.Name.TheVariants as file_name
 
 -- ---- the setup of the outer run
 

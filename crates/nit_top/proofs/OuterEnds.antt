@@ -7,10 +7,9 @@ use Rattle.nit_top.proofs.Basics.{IsConfig, IsConfigFault, IsConfiguration, IsIn
 use Rattle.nit_top.proofs.Basics.{IsInputScript, IsOuter, IsOuterFault, Judged, Line, Nested}
 use Rattle.nit_top.proofs.Basics.{NoFile, OuterSoFar, OuterStopped, ReadOuter, Refused}
 use Rattle.nit_top.proofs.Basics.{SpellScripts, Stop, StoppedAt, StoreModel, Worked, asking_all}
-use Rattle.nit_top.proofs.Basics.{bytes_of, first_names, name_text, names_in, run_files}
-use Rattle.nit_top.proofs.Basics.{script_names, slice_get, take_all, with_asked}
-use Rattle.nit_top.proofs.AskedNames.{asking_both, asking_more, asking_none}
-use Rattle.nit_top.proofs.Scripts.{told_so, told_so_both}
+use Rattle.nit_top.proofs.Basics.{asking_both, asking_more, asking_none, bytes_of, first_names}
+use Rattle.nit_top.proofs.Basics.{name_text, names_in, run_files, script_names, slice_get, take_all}
+use Rattle.nit_top.proofs.Basics.{told_so, told_so_both, with_asked}
 use Rattle.nit_top.proofs.SetupLemmas.{take_front, get_behind}
 use Rattle.nit_top.proofs.WorkLemmas.{stopped_ends}
 

@@ -2,22 +2,21 @@
 use Rattle.std.proofs.Common.{◌≡◌, ◌≢◌, ℕ, zero, suc, ◌+◌, ◌<◌, ◌≤◌, Bool, true, false, cond, List}
 use Rattle.std.proofs.Common.{[], ◌∷◌, ◌++◌, map, length, Option, Some, None, refl, sym, ap, ◌∙◌}
 use Rattle.std.proofs.Common.{subst, arith, append_assoc, inl, inr, ◌⊎◌}
-use Rattle.nit_top.proofs.Basics.{AreAdded, AreOutputs, Audit, Capture, Clip, Command}
-use Rattle.nit_top.proofs.Basics.{Configuration, Entry, File, Gen, HasDifferentNames, IsCommandRun}
-use Rattle.nit_top.proofs.Basics.{IsConfiguration, IsInnerJournal, IsJournal, IsNearPicture}
-use Rattle.nit_top.proofs.Basics.{IsRunnable, IsSetupOf, Member, Nested, NoCommand, Run, RunFiles}
-use Rattle.nit_top.proofs.Basics.{Setup, Still, StoreModel, all_append, append_cancel_left}
-use Rattle.nit_top.proofs.Basics.{append_cancel_right, codes, done, events_file, events_files}
-use Rattle.nit_top.proofs.Basics.{events_name, film_name, final_name, final_picture, first_state}
-use Rattle.nit_top.proofs.Basics.{inner_journal_name, journal_file, member, range_with_len, shots}
-use Rattle.nit_top.proofs.Basics.{slice_index, text_files, user_actions_from, user_actions_of}
-use Rattle.nit_events.specs.declared.entry.Entry.TheVariants as entry
-use Rattle.nit_top.proofs.FileNames.{Apart, Begin, BeginOther, Numbered, OtherThan, apart_by}
-use Rattle.nit_top.proofs.FileNames.{apart_front, begin_other, differ, numbered, other_letter}
-use Rattle.nit_top.proofs.FileNames.{shots_apart_all, shots_begin}
-use Rattle.nit_top.proofs.HeadlineLemmas.{FrontsLaw, ShotsLaw, drawn_along}
-use Rattle.nit_top.proofs.JournalsFit.{deeds_few}
+use Rattle.nit_top.proofs.Basics.{Apart, AreAdded, AreOutputs, Audit, Begin, BeginOther, Capture}
+use Rattle.nit_top.proofs.Basics.{Clip, Command, Configuration, Entry, File, FrontsLaw, Gen}
+use Rattle.nit_top.proofs.Basics.{HasDifferentNames, IsCommandRun, IsConfiguration, IsInnerJournal}
+use Rattle.nit_top.proofs.Basics.{IsJournal, IsNearPicture, IsRunnable, IsSetupOf, Member, Nested}
+use Rattle.nit_top.proofs.Basics.{NoCommand, Numbered, OtherThan, Run, RunFiles, Setup, ShotsLaw}
+use Rattle.nit_top.proofs.Basics.{Still, StoreModel, all_append, apart_by, apart_front}
+use Rattle.nit_top.proofs.Basics.{append_cancel_left, append_cancel_right, begin_other, codes}
+use Rattle.nit_top.proofs.Basics.{deeds_few, differ, done, drawn_along, events_begin, events_file}
+use Rattle.nit_top.proofs.Basics.{events_files, events_name, film_name, final_name, final_picture}
+use Rattle.nit_top.proofs.Basics.{first_state, inner_journal_name, journal_file, member, numbered}
+use Rattle.nit_top.proofs.Basics.{other_letter, range_with_len, shots, shots_apart_all, shots_begin}
+use Rattle.nit_top.proofs.Basics.{slice_index, text_files, texts_other, user_actions_from}
+use Rattle.nit_top.proofs.Basics.{user_actions_of}
 use Rattle.nit_top.proofs.MadeNames.{IsMade, made_apart}
+use Rattle.nit_events.specs.declared.entry.Entry.TheVariants as entry
 
 -- ---- the files that a command adds
 
@@ -85,20 +84,6 @@ module _ (config : Configuration) (is : IsConfiguration config) (journal : List 
   some_apart first zero inside = tt
   some_apart first (suc count) inside =
       (later_events first (first + 1) count (omega arith) (omega arith), some_apart (first + 1) count (omega arith))
-
--- the names of events begin with an e
-pub events_begin : (config : Configuration) (journal : List Entry) (first count : ℕ)
-    → Begin 101 (map (events_file config journal) (range_with_len first count))
-events_begin config journal first zero = tt
-events_begin config journal first (suc count) = (refl, events_begin config journal (first + 1) count)
-
--- and that of the journal with a j
-pub texts_other : (config : Configuration) (journal : List Entry) (letter : ℕ) → ◌≢◌ {A = ℕ} 101 letter
-    → ◌≢◌ {A = ℕ} 106 letter → BeginOther letter (events_files config journal ++ journal_file journal ∷ [])
-texts_other config journal letter e j =
-    all_append (λ f. slice_index f.0 0 ≢ letter) (events_files config journal) (journal_file journal ∷ [])
-    (begin_other 101 letter (events_files config journal) (events_begin config journal 0 (length config.clients)) e)
-    (j, tt)
 
 -- ---- the shots
 

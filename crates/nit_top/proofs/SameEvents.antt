@@ -4,9 +4,8 @@ use Rattle.nit_top.proofs.Basics.{AreTexts, Configuration, Contains, Entry, Even
 use Rattle.nit_top.proofs.Basics.{HaveSameEvents, IsLegal, IsSameClient, Reply, Session}
 use Rattle.nit_top.proofs.Basics.{alone_machine, donation_of, ending_of, ending_text}
 use Rattle.nit_top.proofs.Basics.{event_spelling, events_among, events_file, events_name}
-use Rattle.nit_top.proofs.Basics.{events_text, first_state, flat_map, member, projection, replay}
-use Rattle.nit_top.proofs.Basics.{replies_to, session, spelled, taken}
-use Rattle.nit_top.proofs.Events.{events_taken}
+use Rattle.nit_top.proofs.Basics.{events_taken, events_text, first_state, flat_map, member}
+use Rattle.nit_top.proofs.Basics.{projection, replay, replies_to, session, spelled, taken}
 
 -- what the law of machines says
 abbrev pub StandAlone : Type 0

@@ -3,20 +3,19 @@ use Rattle.std.proofs.Common.{◌≡◌, ◌∙◌, ℕ, suc, ◌+◌, ◌*◌, 
 use Rattle.std.proofs.Common.{length, take, get_or, None, false, refl, sym, ap, subst, inl, inr}
 use Rattle.std.proofs.Common.{arith, length-append}
 use Rattle.nit_top.proofs.Basics.{Buffer, CanPay, Configuration, Entry, HoldsAtEnd, IsJournal, Line}
-use Rattle.nit_top.proofs.Basics.{NestModel, RunFiles, Session, Setup, ShotFrame, ShowsFrames}
-use Rattle.nit_top.proofs.Basics.{ShowsNest, State, Word, buffer_size, calls_in, calls_of}
-use Rattle.nit_top.proofs.Basics.{calls_to_make, cases_Bool, donation_of, done, first_forbidden}
-use Rattle.nit_top.proofs.Basics.{first_session, frames_behind, frames_of, get_or-take, is_accepted}
-use Rattle.nit_top.proofs.Basics.{last_frame, lines_of_frames, nest_of, nest_script, next_frame}
-use Rattle.nit_top.proofs.Basics.{owner_of, phases, pixel, projection, replay, script_in, serve}
-use Rattle.nit_top.proofs.Basics.{session, shot_frames_of, slice_index, source_at, static}
-use Rattle.nit_top.proofs.Basics.{tables_left, take_all, to_do, words_left, woven}
-use Rattle.nit_events.specs.declared.event.Status.TheVariants as status
-use Rattle.nit_scene.specs.RawWords.{word_from}
-use Rattle.nit_top.proofs.HeadlineLemmas.{MachinesLaw}
+use Rattle.nit_top.proofs.Basics.{MachinesLaw, NestModel, RunFiles, Session, Setup, ShotFrame}
+use Rattle.nit_top.proofs.Basics.{ShowsFrames, ShowsNest, State, Word, buffer_size, calls_in}
+use Rattle.nit_top.proofs.Basics.{calls_of, calls_to_make, cases_Bool, donation_of, done}
+use Rattle.nit_top.proofs.Basics.{first_forbidden, first_session, frames_behind, frames_of}
+use Rattle.nit_top.proofs.Basics.{get_or-take, is_accepted, last_frame, lines_of_frames, nest_of}
+use Rattle.nit_top.proofs.Basics.{nest_script, next_frame, owner_of, phases, pixel, projection}
+use Rattle.nit_top.proofs.Basics.{replay, script_in, serve, session, shot_frames_of, slice_index}
+use Rattle.nit_top.proofs.Basics.{source_at, static, tables_left, take_all, to_do, word_from}
+use Rattle.nit_top.proofs.Basics.{words_left, woven}
 use Rattle.nit_top.proofs.NestedRuns.{PhasesStay}
 use Rattle.nit_top.proofs.ServedMachines.{IsServedOrBare, served_or_bare}
 use Rattle.nit_top.proofs.WordSources.{word_within}
+use Rattle.nit_events.specs.declared.event.Status.TheVariants as status
 
 -- what the laws of scripts and nests say
 pub record SeenLaws : Type 0 where

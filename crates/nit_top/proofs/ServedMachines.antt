@@ -5,9 +5,9 @@ use Rattle.nit_top.proofs.Basics.{Call, Calls, Close, Event, Gets, Item, Observa
 use Rattle.nit_top.proofs.Basics.{Session, Status, Take, accepted, after_observations, by_call}
 use Rattle.nit_top.proofs.Basics.{by_life, by_refusal, by_status, first_none, receive, refusal}
 use Rattle.nit_top.proofs.Basics.{taking}
+use Rattle.nit_journal.specs.Session.{serve}
 use Rattle.nit_events.specs.declared.event.Item.TheVariants as item
 use Rattle.nit_events.specs.declared.event.Status.TheVariants as status
-use Rattle.nit_journal.specs.Session.{serve}
 
 abbrev pub IsServedOrBare : Session → Type 0
 IsServedOrBare s = (s.status ≡ status.Live) ⊎ (s.bw ≡ 0)

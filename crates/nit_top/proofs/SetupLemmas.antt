@@ -9,57 +9,19 @@ use Rattle.nit_top.proofs.Basics.{IsClientFault, IsClientScript, IsConfig, IsCon
 use Rattle.nit_top.proofs.Basics.{IsConfiguration, IsInputFault, IsInputScript, IsRunnable, IsValid}
 use Rattle.nit_top.proofs.Basics.{Judged, Line, NoFile, Performed, ReadScripts, Refused, Run, SoFar}
 use Rattle.nit_top.proofs.Basics.{SpellScripts, Still, Stop, StoppedAmong, StoppedAt, StoreModel}
-use Rattle.nit_top.proofs.Basics.{Worked, asking_all, bytes_of, count_by, count_by-le-length}
-use Rattle.nit_top.proofs.Basics.{first_names, idle_user, input_phases, is_input_phase, is_phase}
-use Rattle.nit_top.proofs.Basics.{length-map, length-replicate, name_text, names_in, phases, reads}
-use Rattle.nit_top.proofs.Basics.{script_names, setup_of, slice_get, still_configured, still_setup}
-use Rattle.nit_top.proofs.Basics.{sum_by-replicate, take-append_seam, take_all, wanted_by}
-use Rattle.nit_top.proofs.Basics.{with_asked, wrong_input, wrong_phases}
-use Rattle.nit_script.specs.declared.line.InputLine.TheVariants as input
-use Rattle.nit_top.proofs.AskedNames.{asking_none, asking_both, asking_more}
-use Rattle.nit_top.proofs.Scripts.{told_so, told_so_both, phases_are}
+use Rattle.nit_top.proofs.Basics.{Worked, asking_all, asking_both, asking_more, asking_none}
+use Rattle.nit_top.proofs.Basics.{bytes_of, count_by, count_by-le-length, first_names, idle_user}
+use Rattle.nit_top.proofs.Basics.{is_input_phase, is_phase, length-replicate, name_text, names_in}
+use Rattle.nit_top.proofs.Basics.{phases, reads, script_names, setup_of, slice_get}
+use Rattle.nit_top.proofs.Basics.{still_configured, still_setup, sum_by-replicate, take-append_seam}
+use Rattle.nit_top.proofs.Basics.{take_all, told_so, told_so_both, wanted_by, with_asked}
 use Rattle.nit_top.proofs.WorkLemmas.{stopped_ends, performed_ends}
+use Rattle.nit_script.specs.declared.line.InputLine.TheVariants as input
 
 -- ---- what can be run
 
 some_none : (f : Fault) → Some f ≡ None → ⊥
 some_none f e = cc
-
-pub all_so : {A : Type 0} (P Q : A → Type 0) (xs : List A) → ((x : A) → P x → Q x) → AllByRecursion P xs
-    → AllByRecursion Q xs
-all_so P Q [] f all = tt
-all_so P Q (x ∷ xs) f all = (f x all.0, all_so P Q xs f all.1)
-
--- each script has as many phases as the input script, where that has as many as the first
-all_phases : (scripts : List (List Line)) (lines : List InputLine) → 1 ≤ length scripts → HaveSamePhases scripts
-    → wrong_phases (wanted_by scripts) (input_phases lines) ≡ None
-    → AllByRecursion (λ ls. phases ls ≡ input_phases lines) scripts
-all_phases [] lines some same right = absurd (omega arith)
-all_phases (first ∷ rest) lines some same right =
-    let is : input_phases lines ≡ phases first = phases_are (phases first) (input_phases lines) right in (
-      sym is,
-      all_so (λ ls. phases ls ≡ phases first) (λ ls. phases ls ≡ input_phases lines) rest (λ ls e. e ∙ sym is)
-          same,
-    )
-
--- the setup of a configuration
-pub run_runnable : (beside : Bool) (config : Configuration) (scripts : List (List Line)) (lines : List InputLine)
-    → IsConfiguration config → length scripts ≡ length (script_names config)
-    → AllByRecursion (AreLines FitsLine) scripts → HaveSamePhases scripts
-    → AreLines FitsInputLine lines → wrong_input (wanted_by scripts) lines ≡ None
-    → IsRunnable (setup_of config scripts lines true beside)
-run_runnable beside config scripts lines configured counted fit same input_fits right =
-    let count : length scripts ≡ length config.clients = counted ∙ length-map config.clients (λ m. m.script) in
-    let some : 1 ≤ length scripts = let c = configured.count.0 in omega arith in
-    record {
-      configured = configured;
-      scripts = count;
-      phases = all_phases scripts lines some same right;
-      lines =
-          fit;
-      input_lines = input_fits;
-      clips_each = inl refl;
-    }
 
 -- ---- a user who does nothing
 

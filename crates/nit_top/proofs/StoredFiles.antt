@@ -1,16 +1,39 @@
 -- The files that a command has put stand in the store at the end.
-use Rattle.std.proofs.Common.{◌≡◌, ℕ, List, [], ◌∷◌, ◌++◌, Option, Some, None, refl, sym, subst}
-use Rattle.std.proofs.Common.{◌∙◌, arith, inl, inr, ◌⊎◌}
-use Rattle.nit_top.proofs.Basics.{AreStored, Begun, Came, Command, Course, End, Entry, File}
-use Rattle.nit_top.proofs.Basics.{HasDifferentNames, IsAudited, IsCommandRun, IsCutShort}
-use Rattle.nit_top.proofs.Basics.{IsMadeInPart, IsMadeUpTo, IsNotBegun, IsPutBefore, IsPutWhole}
-use Rattle.nit_top.proofs.Basics.{NotBegun, PutFiles, StoreModel, WithRun, WithoutRun, append-nil}
-use Rattle.nit_top.proofs.Basics.{code_of, made_by, summary_line, to_put, totals}
-use Rattle.nit_top.specs.declared.report.finish.End.TheVariants as ends
+use Rattle.std.proofs.Common.{◌≡◌, ◌≢◌, ℕ, List, [], ◌∷◌, Option, Some, None, sym, ◌∙◌, suc, arith}
+use Rattle.std.proofs.Common.{◌++◌, refl, subst, inl, inr, ◌⊎◌}
+use Rattle.nit_top.proofs.Basics.{All, All-from_recursion, AllByRecursion, Apart, AreStored, Begun}
+use Rattle.nit_top.proofs.Basics.{Came, Command, Course, End, Entry, File, HasDifferentNames}
+use Rattle.nit_top.proofs.Basics.{IsAudited, IsCommandRun, IsCutShort, IsMadeInPart, IsMadeUpTo}
+use Rattle.nit_top.proofs.Basics.{IsNotBegun, IsPutBefore, IsPutWhole, NotBegun, OtherThan, PutEach}
+use Rattle.nit_top.proofs.Basics.{PutFiles, Stand, StandIn, StoreModel, WithRun, WithoutRun}
+use Rattle.nit_top.proofs.Basics.{apart_front, apart_of, append-nil, code_of, file_at, made_by}
+use Rattle.nit_top.proofs.Basics.{stays, summary_line, to_put, totals}
 use Rattle.nit_top.proofs.AuditCourse.{audit_makes_none, with_run}
 use Rattle.nit_top.proofs.EndCauses.{so_far}
 use Rattle.nit_top.proofs.EndCodes.{not_fault}
-use Rattle.nit_top.proofs.FileNames.{Apart, apart_front, apart_of, stand_in}
+use Rattle.nit_setup.specs.declared.stop.End.TheVariants as ends
+
+each_stands : (files old new : List File) → Apart files → PutEach files old new
+    → AllByRecursion (λ f. file_at f.0 new ≡ Some f.1) files
+each_stands [] old new apart puts = tt
+each_stands (f ∷ files) old new apart (mid, p, puts) =
+    (stays files f.0 mid new puts apart.0 ∙ p.this, each_stands files mid new apart.1 puts)
+
+none_is : (name : List ℕ) (files : List File) → All (λ f. f.0 ≢ name) files → OtherThan name files
+none_is name [] other = tt
+none_is name (f ∷ files) other =
+    ((λ same. other 0 f (omega arith) (sym same)), none_is name files (λ k d inside. other (suc k) d (omega arith)))
+
+pub stand : (files old new : List File) → Apart files → PutEach files old new → Stand files old new
+stand files old new apart puts = record {
+  each = All-from_recursion (λ f. file_at f.0 new ≡ Some f.1) files (each_stands files old new apart puts);
+  others = λ name other. stays files name old new puts (none_is name files other);
+}
+
+pub stand_in : (files : List File) (old new : Option (List File)) → Apart files → PutFiles files old new
+    → StandIn files old new
+stand_in files None new apart puts = puts
+stand_in files (Some old) new apart puts = (puts.0, puts.1, stand files old puts.0 apart puts.2)
 
 -- what the law of names says
 pub record NamesLaw : Type 0 where

@@ -5,17 +5,16 @@ use Rattle.nit_top.proofs.Basics.{AllFiles, AreAdded, AreAllFiles, AreOutputs, B
 use Rattle.nit_top.proofs.Basics.{Configuration, Counts, Course, End, Ends, Entry, Fault, File}
 use Rattle.nit_top.proofs.Basics.{FilesRead, HasRead, Headline, IfSome, IsCommandRun, IsLastRead}
 use Rattle.nit_top.proofs.Basics.{IsPutBefore, Judged, Name, NoCommand, NoFile, NotBegun, Performed}
-use Rattle.nit_top.proofs.Basics.{PutError, PutFault, PutFiles, PutsAll, Refused, Rose, Setup, Stop}
-use Rattle.nit_top.proofs.Basics.{StoppedAt, StoreModel, Totals, Worked, append-nil, asked_also}
-use Rattle.nit_top.proofs.Basics.{asking_all, bytes_of, end_of_put, end_of_run, file_names}
-use Rattle.nit_top.proofs.Basics.{is_outside_of, line_of, name_text, names_read, next_name}
-use Rattle.nit_top.proofs.Basics.{option_map, output_name, put_state_of_run, reads, refusal_of}
-use Rattle.nit_top.proofs.Basics.{shots, unrefused}
+use Rattle.nit_top.proofs.Basics.{PutAll, PutError, PutFault, PutFiles, PutRefused, PutSo, PutsAll}
+use Rattle.nit_top.proofs.Basics.{Refused, Rose, Setup, Stop, StoppedAt, StoreModel, Totals, Worked}
+use Rattle.nit_top.proofs.Basics.{all_put, also_more, also_none, append-nil, asked_also, asking_all}
+use Rattle.nit_top.proofs.Basics.{bytes_of, end_of_put, end_of_run, file_names, is_outside_of}
+use Rattle.nit_top.proofs.Basics.{line_of, name_text, names_read, next_name, option_map}
+use Rattle.nit_top.proofs.Basics.{output_name, put_state_of_run, reads, refusal_of, shots}
+use Rattle.nit_top.proofs.Basics.{unrefused}
 use Rattle.nit_store.specs.declared.store.PutError.TheVariants as put
-use Rattle.nit_top.specs.declared.report.finish.End.TheVariants as ends
-use Rattle.nit_top.specs.declared.report.finish.Name.TheVariants as file_name
-use Rattle.nit_top.proofs.AskedNames.{also_none, also_more}
-use Rattle.nit_top.proofs.PutLemmas.{PutAll, PutRefused, PutSo, all_put}
+use Rattle.nit_setup.specs.declared.stop.End.TheVariants as ends
+use Rattle.nit_setup.specs.declared.stop.Name.TheVariants as file_name
 
 -- what the end of the work means, whatever the totals of the line
 pub record CameTo (c : Command) (old new : StoreModel) (journal : List Entry) (end : End) (name : List ℕ)

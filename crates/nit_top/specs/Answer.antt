@@ -2,13 +2,10 @@
 use Rattle.std.specs.Prelude.{◌≡◌, ◌⊎◌, ℕ, ◌<◌, ◌≤◌, ◌==◌, Bool, true, false, IsTrue, List, [], ◌∷◌}
 use Rattle.std.specs.Prelude.{◌++◌, Option, option_map, Result, Ok, Err, IfSome, IsSomeAnd}
 use Rattle.std.specs.Prelude.{if◌then◌else◌}
-use Rattle.nit_top.specs.Below.{End, Entry, File, PutError, Rose, StoreModel, list_any}
-use Rattle.nit_store.specs.declared.store.PutError.TheVariants as put
-use Rattle.nit_top.specs.declared.report.finish.End.TheVariants as ends
-use Rattle.nit_top.specs.Command.{Gen, NoCommand, Command, command}
-use Rattle.nit_top.specs.Setup.{Setup}
-use Rattle.nit_top.specs.Judgement.{Refused, Judged, IsRefusedWith, IsValid, fault_code}
-use Rattle.nit_top.specs.RunFilm.{is_outside_of}
+use Rattle.nit_top.specs.Below.{Command, End, Entry, File, Gen, IsRefusedWith, IsValid, Judged}
+use Rattle.nit_top.specs.Below.{NoCommand, PutError, Refused, Rose, Setup, StoreModel, command}
+use Rattle.nit_top.specs.Below.{fault_code, list_any}
+use Rattle.nit_top.specs.AddedFiles.{is_outside_of}
 use Rattle.nit_top.specs.ProgramLines.{usage_line, read_fault_line, write_fault_line, outside_line}
 use Rattle.nit_top.specs.ProgramLines.{fault_line, audited_line, generated_line, summary_line}
 use Rattle.nit_top.specs.ProgramLines.{no_memory_line}
@@ -17,6 +14,8 @@ use Rattle.nit_top.specs.Course.{IsMadeBefore, IsMadeInPart, IsPutWhole, IsRefus
 use Rattle.nit_top.specs.Course.{totals}
 use Rattle.nit_top.specs.Stored.{AreStored, to_put}
 use Rattle.nit_top.specs.Audited.{IsAudit, AuditOr, IsAudited}
+use Rattle.nit_store.specs.declared.store.PutError.TheVariants as put
+use Rattle.nit_setup.specs.declared.stop.End.TheVariants as ends
 
 -- ---- how the work came to its end
 

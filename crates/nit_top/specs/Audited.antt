@@ -1,16 +1,13 @@
 -- A journal that was audited, and found to be one of a run.
 use Rattle.std.specs.Prelude.{◌≡◌, ℕ, ◌<◌, List, length, map, Option, IfSome}
-use Rattle.nit_top.specs.Below.{End, Entry, File, IsLegal, IsWhole, StoreModel, alone, bytes_of}
-use Rattle.nit_top.specs.Below.{calls_to_make, donation_of, projection, replies_to}
-use Rattle.nit_top.specs.Below.{user_actions_to_do}
+use Rattle.nit_top.specs.Below.{AreSetup, Audit, Command, End, Entry, File, IsJournalText, IsLegal}
+use Rattle.nit_top.specs.Below.{IsRunnable, IsVerdictOn, IsWhole, Setup, StoreModel, alone}
+use Rattle.nit_top.specs.Below.{asked_also, bytes_of, calls_to_make, donation_of, projection, reads}
+use Rattle.nit_top.specs.Below.{replies_to, user_actions_to_do}
+use Rattle.nit_top.specs.Course.{Course, WithoutRun}
 use Rattle.nit_audit.specs.declared.auditing.Verdict.TheVariants as verdict
-use Rattle.nit_top.specs.declared.report.finish.End.TheVariants as end
-use Rattle.nit_top.specs.declared.report.finish.Fault.TheVariants as fault
-use Rattle.nit_top.specs.Command.{Command, Audit}
-use Rattle.nit_top.specs.Setup.{Setup, IsRunnable}
-use Rattle.nit_top.specs.JournalFiles.{IsJournalText, IsVerdictOn}
-use Rattle.nit_top.specs.Judgement.{AreSetup, reads}
-use Rattle.nit_top.specs.Course.{Course, WithoutRun, asked_also}
+use Rattle.nit_setup.specs.declared.stop.End.TheVariants as end
+use Rattle.nit_setup.specs.declared.stop.Fault.TheVariants as fault
 
 -- the command is an audit
 abbrev pub IsAudit : Command → Type 0

@@ -1,8 +1,6 @@
 -- The work of a command, and then the line on it.
 use Rattle.std.specs.Prelude.{◌≡◌, ℕ, List, Result}
-use Rattle.nit_top.specs.Below.{Entry, PutError, StoreModel}
-use Rattle.nit_top.specs.declared.report.finish.Worked.{Worked}
-use Rattle.nit_top.specs.Command.{Command}
+use Rattle.nit_top.specs.Below.{Command, Entry, PutError, StoreModel, Worked}
 use Rattle.nit_top.specs.SaidText.{Says}
 use Rattle.nit_top.specs.Work.{Ends, line_on}
 use Rattle.nit_top.specs.Answer.{code_of, status_of}

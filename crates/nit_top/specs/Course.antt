@@ -1,36 +1,12 @@
 -- How far a command came: the files that it read, the run, and the files that were put.
-use Rattle.std.specs.Prelude.{◌≡◌, ◌⊎◌, ℕ, ◌+◌, true, false, List, [], ◌∷◌, ◌++◌, length, map}
-use Rattle.std.specs.Prelude.{Option, Some, None, option_map}
-use Rattle.nit_top.specs.Below.{Entry, File, IsPut, StoreModel, shots}
-use Rattle.nit_top.specs.Command.{Command, Gen}
-use Rattle.nit_top.specs.Setup.{RunFiles, Setup, generated_files}
-use Rattle.nit_top.specs.Judgement.{reads}
-use Rattle.nit_top.specs.FilesRead.{FilesRead, BothFiles, HasRead, AreAllFiles, names_read}
-use Rattle.nit_top.specs.FilesRead.{next_name}
-use Rattle.nit_top.specs.Outputs.{AreOutputs}
-use Rattle.nit_top.specs.RunFilm.{is_outside_of}
-use Rattle.nit_top.specs.AddedFiles.{AreAdded}
-use Rattle.nit_top.specs.Headline.{Headline}
+use Rattle.std.specs.Prelude.{◌≡◌, ◌⊎◌, ℕ, ◌+◌, true, false, List, [], ◌∷◌, ◌++◌, length, Option}
+use Rattle.std.specs.Prelude.{Some}
+use Rattle.nit_top.specs.Below.{AreAllFiles, AreOutputs, BothFiles, Command, Entry, File, FilesRead}
+use Rattle.nit_top.specs.Below.{Gen, HasRead, Headline, PutFiles, RunFiles, Setup, StoreModel}
+use Rattle.nit_top.specs.Below.{asked_also, file_names, generated_files, names_read, next_name}
+use Rattle.nit_top.specs.Below.{reads, shots}
+use Rattle.nit_top.specs.AddedFiles.{is_outside_of, AreAdded}
 use Rattle.nit_top.specs.ProgramLines.{Totals}
-
--- ---- files, and names that are asked for
-
--- files are put one after the other
-abbrev pub PutEach : List File → List File → List File → Type 0
-PutEach [] old new = new ≡ old
-PutEach (f ∷ fs) old new = (mid : List File) × IsPut f.0 f.1 old mid × PutEach fs mid new
-
--- where the store tells its files, it has these files more, put one after the other
-abbrev pub PutFiles : List File → Option (List File) → Option (List File) → Type 0
-PutFiles files None new = new ≡ None
-PutFiles files (Some old) new = (all : List File) × (new ≡ Some all) × PutEach files old all
-
-abbrev pub file_names : List File → List (List ℕ)
-file_names files = map (λ f. f.0) files
-
--- the names that were asked for, and these behind them
-abbrev pub asked_also : Option (List (List ℕ)) → List (List ℕ) → Option (List (List ℕ))
-asked_also asked names = option_map (λ before. before ++ names) asked
 
 -- ---- the run
 

@@ -1,18 +1,12 @@
 -- What the work on two configurations leaves, part by part.
 use Rattle.std.specs.Prelude.{◌≡◌, ◌⊎◌, ℕ, ◌+◌, List, [], ◌∷◌, ◌++◌, length, Option, IfSome}
-use Rattle.nit_top.specs.Below.{Configuration, Entry, File, PutsAll, StoreModel, bytes_of}
-use Rattle.nit_top.specs.Below.{journal_text, shots, unrefused, with_asked}
-use Rattle.nit_top.specs.declared.report.finish.End.TheVariants as end
-use Rattle.nit_top.specs.declared.report.finish.Name.TheVariants as name
-use Rattle.nit_top.specs.declared.report.finish.Worked.{Worked}
-use Rattle.nit_top.specs.declared.report.ran.PutFault.{PutFault}
-use Rattle.nit_top.specs.Setup.{RunFiles, Setup}
-use Rattle.nit_top.specs.Judgement.{IsConfig, names_in}
-use Rattle.nit_top.specs.Outputs.{IsJournal, AreOutputs}
-use Rattle.nit_top.specs.RunInner.{inner_journal_name}
-use Rattle.nit_top.specs.Headline.{Headline}
-use Rattle.nit_top.specs.FilesRead.{AreAllOuterFiles}
-use Rattle.nit_top.specs.Work.{asking_all, end_of_run, put_state_of_run}
+use Rattle.nit_top.specs.Below.{AreAllOuterFiles, AreOutputs, Configuration, Entry, File, Headline}
+use Rattle.nit_top.specs.Below.{IsConfig, IsJournal, PutFault, PutsAll, RunFiles, Setup, StoreModel}
+use Rattle.nit_top.specs.Below.{Worked, asking_all, bytes_of, inner_journal_name, journal_text}
+use Rattle.nit_top.specs.Below.{names_in, put_state_of_run, shots, unrefused, with_asked}
+use Rattle.nit_top.specs.Work.{end_of_run}
+use Rattle.nit_setup.specs.declared.stop.End.TheVariants as end
+use Rattle.nit_setup.specs.declared.stop.Name.TheVariants as name
 
 -- the outer files were read and are valid, and then the inner configuration
 pub record IsAfterOuter (outer inner : List ℕ) (first : StoreModel) (o : RunFiles)

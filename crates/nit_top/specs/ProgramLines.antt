@@ -1,43 +1,10 @@
 -- The lines that the program says.
-use Rattle.std.specs.Prelude.{ℕ, List, ◌++◌, take, codes}
-use Rattle.nit_top.specs.Below.{ConfigError, End, Fault, LabelBytes, decimal, picture_name}
-use Rattle.nit_top.specs.Below.{script_name}
+use Rattle.std.specs.Prelude.{ℕ, List, ◌++◌, codes}
+use Rattle.nit_top.specs.Below.{ConfigError, End, Fault, Piece, decimal, name_text}
 use Rattle.nit_config.specs.declared.error.ConfigError.TheVariants as config
-use Rattle.nit_top.specs.declared.report.finish.End.TheVariants as end
-use Rattle.nit_top.specs.declared.report.finish.Fault.TheVariants as fault
-use Rattle.nit_top.specs.declared.report.finish.Output.{Output}
-use Rattle.nit_top.specs.declared.report.finish.Output.TheVariants as output
-use Rattle.nit_top.specs.declared.report.finish.Name.{Name}
-use Rattle.nit_top.specs.declared.report.finish.Name.TheVariants as name
-use Rattle.nit_top.specs.declared.report.say.Piece.{Piece}
+use Rattle.nit_setup.specs.declared.stop.End.TheVariants as end
+use Rattle.nit_setup.specs.declared.stop.Fault.TheVariants as fault
 use Rattle.nit_top.specs.declared.report.say.Piece.TheVariants as piece
-use Rattle.nit_top.specs.Outputs.{events_name, journal_name}
-use Rattle.nit_top.specs.RunFilm.{film_name}
-use Rattle.nit_top.specs.RunInner.{inner_journal_name}
-use Rattle.nit_top.specs.RunClips.{clips_name}
-use Rattle.nit_top.specs.Judgement.{clip_name}
-
--- the text of a label that is kept as a plain value
-abbrev pub label_text : LabelBytes → List ℕ
-label_text label = take label.length label.bytes
-
--- the name of a file that a run puts
-abbrev pub output_name : Output → List ℕ
-output_name (output.Picture picture) = picture_name picture
-output_name (output.Events label) = events_name (label_text label)
-output_name output.Journal = journal_name
-output_name output.GeneratedConfig = codes "gen.toml"
-output_name (output.GeneratedScript client) = script_name client
-output_name output.GeneratedInput = codes "gen.in"
-output_name output.Film = film_name
-output_name output.Clips = clips_name
-output_name output.InnerJournal = inner_journal_name
-
--- the text of a name
-abbrev pub name_text : Name → List ℕ
-name_text (name.Text text) = text.now
-name_text (name.ClipsOf script) = clip_name script.now
-name_text (name.Put file) = output_name file
 
 -- the bytes of a part of a line
 abbrev pub piece_text : Piece → List ℕ

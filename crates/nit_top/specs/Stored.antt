@@ -1,8 +1,7 @@
 -- What the store holds at the end.
 use Rattle.std.specs.Prelude.{◌≡◌, ◌≢◌, ℕ, List, [], ◌++◌, Option, Some, None, All}
-use Rattle.nit_top.specs.Below.{Entry, File, StoreModel, file_at}
-use Rattle.nit_top.specs.Command.{Command}
-use Rattle.nit_top.specs.Course.{Begun, Course, NotBegun, PutFiles, made_by}
+use Rattle.nit_top.specs.Below.{Command, Entry, File, PutFiles, StoreModel, file_at}
+use Rattle.nit_top.specs.Course.{Begun, Course, NotBegun, made_by}
 
 -- Each of these files stands under its name, with its bytes. What has another name is as it was.
 pub record Stand (files old new : List File) : Type 0 where

@@ -5,10 +5,12 @@ ghost use Rattle.nit_top.specs.Terms.{Audit, Ends, IsAuditEnd, IsConfig, IsConfi
 ghost use Rattle.nit_top.specs.Terms.{IsRunnable, StoreModel, bytes_of, most_journal_bytes};
 ghost use Rattle.nit_top.specs.Terms.{setup_of, with_asked};
 
-use crate::{End, Fault, Scripts, Worked, at, load_journal, read_scripts, unbegun};
+use crate::report::finish::{Worked, unbegun};
 use nit_audit::{Verdict, audit};
 use nit_config::Config;
 use nit_events::Entry;
+use nit_run::Scripts;
+use nit_setup::{End, Fault, at, load_journal, read_scripts};
 use nit_store::Store;
 use std::alloc::Global;
 

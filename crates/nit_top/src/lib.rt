@@ -13,9 +13,10 @@
 //! - `nested OUTER INNER`: the same as `run` for OUTER, whose first client shows the frames of a run
 //!   by turns of INNER; the journal of that one is put last.
 //!
-//! The words and what they ask for stand in `command`; reading files and taking memory, of which a
-//! run's setup is made, in `setup`; the ways to perform a run in `run`; its last files, the end of
-//! the work and the line that is said in `report`.
+//! What the words ask for, and reading files, of which a run's setup is made, stand in `nit_setup`;
+//! what a run is and promises in `nit_run`; the ways to perform one, and the files that it puts, in
+//! `nit_perform`. Here `run` has the work of each command, and `report` its end and the line that
+//! is said. The tests are those of whole commands, in `nit_tests`.
 //!
 //! In each case the work is: read the files and judge them one by one; take all memory of the run;
 //! run, and put the files; say how it went. What a run is made of, its configuration and its
@@ -33,20 +34,10 @@
 #![tactic(auto)]
 
 mod audit;
-mod command;
 pub mod laws;
 mod report;
 mod run;
-mod setup;
 mod top;
 
-use laws::{generated_runs_count, headline, names_differ};
 pub use report::finish::Done;
-use report::finish::{End, Fault, LabelBytes, Name, Output, Stop, Worked, at, status, unbegun};
-use report::last::{last_picture, last_with_clips, put_last, take_last};
-use report::ran::{PutFault, Ran, leave_pictures, left, stop_after};
-use run::host::Host;
-use setup::load::{load_client, load_config, load_input, load_journal, load_lines};
-use setup::opening::{Opened, blank_frame, blank_text, open, plans_of, table_words};
-use setup::scripts::{Scripts, read_scripts, wanted_by};
 pub use top::{nitpicker, nitpicker_alone, starts_threads};

@@ -6,18 +6,18 @@ ghost use Rattle.nit_top.specs.Terms.{IsRegionWords, Nested, Run, command, numbe
 ghost use Rattle.nit_top.specs.Terms.{starts_threads, texts};
 
 use crate::audit::audited;
-use crate::command::region::Region;
-use crate::command::words::{Asked, parse_words};
+use crate::laws::names_differ;
+use crate::report::finish::{Done, Worked, status, unbegun};
 use crate::report::say::tell;
 use crate::run::capture::capture;
 use crate::run::clips::clip;
 use crate::run::nested::nested;
 use crate::run::perform;
-use crate::setup::outer::read_outer;
-use crate::{
-    Done, End, Host, Worked, at, generated_runs_count, load_config, names_differ, status, unbegun,
-};
 use nit_actor::Gate;
+use nit_perform::Host;
+use nit_run::Region;
+use nit_run::laws::generated_runs_count;
+use nit_setup::{Asked, End, at, load_config, parse_words, read_outer};
 use nit_store::Store;
 use std::alloc::Global;
 use std::sync::Wait;

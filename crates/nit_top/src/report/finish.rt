@@ -1,17 +1,13 @@
 //! How a command comes to its end.
 
-ghost use Rattle.std.specs.Prelude.{◌≡◌, []};
-ghost use Rattle.nit_top.specs.Terms.{code_of, fault_code, label_text, status_of};
+ghost use Rattle.std.specs.Prelude.{◌≡◌, [], IfSome};
+ghost use Rattle.nit_top.specs.Terms.{code_of, end_of_run, fault_code, status_of};
 
-use nit_actor::PictureName;
-use nit_config::ConfigError;
 use nit_events::Entry;
-use nit_glyph::Label;
+use nit_perform::{PutFault, Ran};
+use nit_setup::{End, Fault, Name, Stop, at};
 use nit_store::PutError;
 use std::alloc::Global;
-
-/// The most bytes that a label has.
-const MAX_LABEL: usize = 20;
 
 /// What a call of the program answers.
 #[derive(Debug, Drop)]
@@ -26,123 +22,6 @@ pub struct Done {
     pub journal: Vec<Entry>,
 }
 
-/// Why a file is refused.
-#[derive(Clone, Copy, Debug)]
-pub enum Fault {
-    /// The bytes are no configuration.
-    BadConfig(ConfigError),
-    /// The configuration has too many bytes.
-    LongConfig,
-    /// This line of the script, from 1, is the first that is refused.
-    BadLine(u32),
-    /// The script has too many bytes or lines.
-    TooLong,
-    /// The script has another number of phases than the first client's.
-    PhasesDiffer,
-    /// The journal has too many bytes.
-    LongJournal,
-    /// This line of the journal, from 1, is the first that is refused.
-    BadEntry(u32),
-    /// This entry of the journal, from 1, is the first with which it is none of a run.
-    NotARun(u32),
-    /// The frames of the run of this configuration are too long for the script that is to show
-    /// them.
-    FramesTooLong,
-}
-
-/// How the work came to its end, before the line is said.
-#[derive(Clone, Copy, Debug)]
-pub enum End {
-    /// The words are no command.
-    Usage,
-    /// A file could not be read.
-    ReadFault,
-    /// A file was read, and is refused.
-    Refused(Fault),
-    /// All files were read and each is valid, and the files of two configurations do not fit
-    /// together.
-    Unfit(Fault),
-    /// The region that is to be filmed has no pixels, or does not lie on the screen.
-    Outside,
-    /// A file could not be put.
-    WriteFault,
-    NoMemory,
-    /// All is put.
-    Whole,
-    /// The journal, which has so many entries, is one of a run.
-    Audited(u32),
-}
-
-/// A file that a run puts.
-#[derive(Clone, Copy, Debug)]
-pub enum Output {
-    /// The picture of this name.
-    Picture(PictureName),
-    /// The events of the client of this label.
-    Events(LabelBytes),
-    Journal,
-    /// The configuration of a generated run.
-    GeneratedConfig,
-    /// The script of this client of a generated run.
-    GeneratedScript(u32),
-    /// The input script of a generated run.
-    GeneratedInput,
-    /// The film of a region.
-    Film,
-    /// The clip list.
-    Clips,
-    /// The journal of an inner run.
-    InnerJournal,
-}
-
-/// The bytes of a label, as a plain value: the first `length` of them are its text.
-#[derive(Clone, Copy, Debug)]
-pub struct LabelBytes {
-    pub bytes: [u8; MAX_LABEL],
-    pub length: usize,
-}
-
-impl LabelBytes {
-    /// The bytes of this label.
-    pub fn new(label: &Label) -> LabelBytes
-        ensures { label_text result ≡ label.now }
-    {
-        let text = label.as_bytes();
-        let mut bytes = [0; MAX_LABEL];
-        bytes[..text.len()].copy_from_slice(text);
-        LabelBytes {
-            bytes,
-            length: text.len(),
-        }
-    }
-
-    /// The text of the label.
-    pub fn as_bytes(&self) -> &[u8]
-        ensures { result.now ≡ label_text self.now }
-    {
-        &self.bytes[..self.length.min(MAX_LABEL)]
-    }
-}
-
-/// The name of a file.
-#[derive(Clone, Copy, Debug)]
-pub enum Name<'a> {
-    /// This text.
-    Text(&'a str),
-    /// The name of the clip script of the client with the script of this name.
-    ClipsOf(&'a str),
-    /// The name of a file that a run puts.
-    Put(Output),
-}
-
-/// How the work came to its end, and the file that it ended at, with an empty name where there is
-/// none.
-#[derive(Clone, Copy, Debug)]
-pub struct Stop<'a> {
-    pub end: End,
-    pub name: Name<'a>,
-}
-
 /// What the work of a command leaves.
 #[derive(Drop)]
 pub struct Worked<'a> {
@@ -155,13 +34,21 @@ pub struct Worked<'a> {
     pub frames: usize,
 }
 
-/// The work ended at this file.
-pub fn at(end: End, name: &str) -> Stop<'_>
-    ensures { (result.end ≡ end) × (result.name ≡ Name.Text name.entry) }
-{
-    Stop {
-        end,
-        name: Name::Text(name),
+impl<'a> Worked<'a> {
+    /// What the work leaves after a run, which had so many clients.
+    pub fn after(ran: Ran, clients: usize) -> Worked<'a>
+        ensures end { result.stop.end ≡ end_of_run ran.fault }
+        ensures name { IfSome ran.fault (λ f. result.stop.name ≡ Name.Put f.file) }
+        ensures journal { result.journal.items ≡ ran.journal.items }
+        ensures clients { result.clients ≡ clients }
+        ensures frames { result.frames ≡ ran.frames }
+    {
+        Worked {
+            stop: stop_after(ran.fault),
+            journal: ran.journal,
+            clients,
+            frames: ran.frames,
+        }
     }
 }
 
@@ -216,5 +103,22 @@ pub fn status(end: End, said: Result<(), PutError>) -> u8
         Err(PutError::NoMemory) => 7,
         Err(PutError::Failed) if code == 0 => 4,
         Err(PutError::Failed) => code,
+    }
+}
+
+/// How the work ends after a run, by the put that was refused.
+pub fn stop_after<'a>(fault: Option<PutFault>) -> Stop<'a>
+    ensures end { result.end ≡ end_of_run fault }
+    ensures name { IfSome fault (λ f. result.name ≡ Name.Put f.file) }
+{
+    let Some(fault) = fault else {
+        return at(End::Whole, "");
+    };
+    Stop {
+        end: match fault.error {
+            PutError::Failed => End::WriteFault,
+            PutError::NoMemory => End::NoMemory,
+        },
+        name: Name::Put(fault.file),
     }
 }

@@ -7,9 +7,11 @@ ghost use Rattle.nit_top.specs.Terms.{label_text, line_on, name_text, numbered_l
 ghost use Rattle.nit_top.specs.Terms.{picture_name, piece_text, script_name, shot_name};
 ghost use Rattle.nit_top.specs.Terms.{summary_line};
 
-use crate::{End, Fault, LabelBytes, Name, Output, Worked};
+use crate::report::finish::Worked;
 use nit_actor::PictureName;
 use nit_config::ConfigError;
+use nit_run::{LabelBytes, Output};
+use nit_setup::{End, Fault, Name};
 use nit_store::{PutError, Store};
 
 /// A part of a line.

@@ -2,28 +2,20 @@
 //! calling thread.
 
 ghost use Rattle.std.specs.Prelude.{◌≡◌, ℕ, List, IfSome, length};
-ghost use Rattle.nit_top.specs.Terms.{Clip, Ends, HasRoomBack, HasRunClips, IsConfig};
-ghost use Rattle.nit_top.specs.Terms.{IsConfiguration, IsMemory, IsReadyWithClips, IsRunnable};
-ghost use Rattle.nit_top.specs.Terms.{PerformedClips, RunsClips, StoreModel, bytes_of};
-ghost use Rattle.nit_top.specs.Terms.{clips_setup_in, clips_setup_of, with_asked};
+ghost use Rattle.nit_top.specs.Terms.{Clip, Ends, IsConfig, IsConfiguration, IsRunnable};
+ghost use Rattle.nit_top.specs.Terms.{PerformedClips, StoreModel, bytes_of, clips_setup_of};
+ghost use Rattle.nit_top.specs.Terms.{with_asked};
 
-use crate::report::added::put_clips;
-use crate::report::texts::leave_texts;
-use crate::setup::clip_load::load_clips;
-use crate::setup::memory::{Memory, buffers_of, canvases_of};
-use crate::setup::pairs::{Paired, open_pairs, take_apart};
-use crate::{
-    End, Host, PutFault, Ran, Scripts, Worked, at, headline, last_with_clips, plans_of,
-    read_scripts, unbegun, wanted_by,
-};
-use nit_actor::{Desk, Gate, GatedHall, Mine, Pair, PictureName, Unstarted, run_beside_clips};
+use crate::report::finish::{Worked, unbegun};
+use nit_actor::Gate;
 use nit_clip::ClipScript;
-use nit_config::{Config, Member};
-use nit_hall::{Hall, Name, Parts};
+use nit_config::Config;
+use nit_perform::{Host, run_with_clips};
 use nit_rect::NoMemory;
+use nit_run::Scripts;
+use nit_run::laws::headline;
+use nit_setup::{End, at, load_clips, read_scripts, wanted_by};
 use nit_store::Store;
-use std::alloc::Global;
-use std::marker::Brand;
 use std::sync::Wait;
 use std::thread::Threads;
 
@@ -70,98 +62,5 @@ fn perform_clips<'a, R: Threads + Wait + Sync, S: Store, G: Gate>(
     let Ok(ran) = run_with_clips(host, config, scripts, clips, store) else {
         return unbegun(host.alloc, at(End::NoMemory, ""));
     };
-    ran.worked(clients.len())
-}
-
-/// Takes all memory of a run, and does it up to its end. The clip list is put behind the texts,
-/// unless a put was refused. Where memory runs out before the first thread, nothing was done.
-fn run_with_clips<R: Threads + Wait + Sync, S: Store, G: Gate>(
-    host: &Host<R, G>,
-    config: &Config,
-    scripts: &Scripts,
-    clips: &[ClipScript],
-    store: &mut S,
-) -> Result<Ran, NoMemory>
-    requires runnable { IsRunnable (clips_setup_of config.now scripts.now clips.now) }
-    requires each { length clips.now ≡ length scripts.now.clients.items }
-    ensures { RunsClips (S.shown store.old) (clips_setup_of config.now scripts.now clips.now)
-        (S.shown store.new) result }
-{
-    let alloc = host.alloc;
-    let clients = scripts.clients.as_slice();
-    let plans = plans_of(alloc, config, clients)?;
-    let (buffers, keys) = buffers_of(alloc, config, &plans)?;
-    let canvases = canvases_of(alloc, &buffers, keys)?;
-    let parts = Parts {
-        scripts: clients,
-        plans: &plans,
-        input: &scripts.input,
-    };
-    let actors = open_pairs(alloc, config, parts, canvases, clips)?;
-    let memory = Memory::new(alloc, config)?;
-    let members = config.clients.as_slice();
-    Ok(run_clips_named::<Brand, R, S, G>(host, members, actors, memory, store))
-}
-
-/// Runs the actors of an opening that N names, takes the last picture, and puts what is to be put
-/// behind the pictures of the shots. Until the texts it takes no memory.
-fn run_clips_named<'a, N: Name + Send + Sync, R: Threads + Wait + Sync, S: Store, G: Gate>(
-    host: &Host<R, G>,
-    clients: &[Member],
-    actors: Paired<'a>,
-    memory: Memory<Pair<'a>>,
-    store: &mut S,
-) -> Ran
-    requires ready { IsReadyWithClips N.parts actors.room actors.pairs.items actors.user }
-    requires back { HasRoomBack actors }
-    requires memory { IsMemory N.parts.config memory }
-    requires clients { clients.now ≡ N.parts.config.clients }
-    ensures { HasRunClips (S.shown store.old) (clips_setup_in N.parts) (S.shown store.new)
-        result.journal.items result.frames result.fault }
-{
-    let Paired {
-        room,
-        user,
-        mut pairs,
-        mut passes,
-        mut clips,
-    } = actors;
-    let Memory {
-        raised,
-        waiting,
-        frame,
-        text,
-    } = memory;
-    let desk = Desk {
-        store,
-        frame,
-        text,
-        fault: None,
-        tried: PictureName::Final,
-    };
-    let mine = Mine { user, desk };
-    let hall: Hall<'a, N> = Hall::new(room);
-    let unstarted = Unstarted {
-        raised: &raised,
-        waiting,
-    };
-    let gated = GatedHall {
-        hall: &hall,
-        gate: host.gate,
-    };
-    let mine = run_beside_clips(host.rt, gated, unstarted, &mut pairs, mine);
-    let Mine { user, mut desk } = mine;
-    take_apart(&mut pairs, &mut passes, &mut clips);
-    let room = hall.into_room();
-    let (scene, list) = last_with_clips(host.alloc, room, passes, clips, user, &mut desk);
-    let Desk {
-        store,
-        frame: _frame,
-        text: _text,
-        fault,
-        tried,
-    } = desk;
-    let fault = PutFault::of_picture(fault, tried);
-    let ran = leave_texts(host.alloc, store, fault, clients, scene);
-    put_clips(store, ran, list)
+    Worked::after(ran, clients.len())
 }

@@ -1,22 +1,22 @@
 //! A run whose first client shows what another run has shown.
 
-ghost use Rattle.std.specs.Prelude.{◌+◌, ℕ, List, Some, ◌≡◌, count_by, ◌≤◌, length, None, IfNone};
-ghost use Rattle.std.specs.Prelude.{IfSome, map, ◌∷◌, true};
+ghost use Rattle.std.specs.Prelude.{◌+◌, ℕ, List, Some, ◌≡◌, ◌≤◌, length, ◌∷◌, true};
 ghost use Rattle.nit_top.specs.Terms.{Ends, IsAfterOuter, IsConfiguration, IsOuter, IsRunnable};
 ghost use Rattle.nit_top.specs.Terms.{Line, Nested, PerformedNested, RunFiles, StoreModel};
-ghost use Rattle.nit_top.specs.Terms.{first_other, is_shot_line, names_in, phase_counts, phases};
-ghost use Rattle.nit_top.specs.Terms.{run_files, setup_of};
+ghost use Rattle.nit_top.specs.Terms.{first_other, run_files, setup_of};
 
-use crate::report::added::put_inner_journal;
-use crate::run::beside::run_beside;
+use crate::report::finish::{Worked, unbegun};
 use crate::run::inner::run_inner;
-use crate::{End, Fault, Host, Ran, Scripts, Worked, at, headline, read_scripts, unbegun};
 use nit_actor::Gate;
 use nit_actor::laws::each_line_once;
-use nit_config::{Config, Member};
+use nit_config::Config;
 use nit_events::Entry;
 use nit_nested::laws::phases_stay;
-use nit_script::{Client, Input, InputLine, phases};
+use nit_perform::{Host, put_inner_journal, run_beside};
+use nit_run::Scripts;
+use nit_run::laws::headline;
+use nit_script::Client;
+use nit_setup::{End, Fault, at, first_other, frame_count, read_scripts};
 use nit_store::Store;
 use std::sync::Wait;
 use std::thread::Threads;
@@ -66,71 +66,6 @@ pub fn nested<'a, R: Threads + Wait + Sync, S: Store, G: Gate>(
     }
 }
 
-/// How many frames a run by turns has with this input script: one for each shot, and the last one.
-fn frame_count(input: &Input) -> usize
-    ensures { result ≡ count_by is_shot_line input.now + 1 }
-{
-    shot_lines(input.lines()) + 1
-}
-
-/// How many lines of an input script take a shot.
-fn shot_lines(lines: &[InputLine]) -> usize
-    ensures count { result ≡ count_by is_shot_line lines.now }
-    ensures most { result ≤ length lines.now }
-{
-    lines.iter().filter(|line| is_shot(line)).count()
-}
-
-fn is_shot(line: &InputLine) -> bool
-    ensures { result ≡ is_shot_line line.now }
-{
-    matches!(line, InputLine::Shot)
-}
-
-/// The name of the first script of a configuration that has not so many phases, in the order of the
-/// clients and then the input script.
-fn first_other<'a>(wanted: usize, config: &'a Config, scripts: &Scripts) -> Option<&'a str>
-    requires { length scripts.now.clients.items ≡ length config.now.clients }
-    ensures some { IfSome result (λ name. first_other wanted (names_in config.entry.now)
-        (phase_counts (run_files config.entry.now scripts.now.clients.items scripts.now.input))
-        ≡ Some name.now) }
-    ensures none { IfNone result (first_other wanted (names_in config.entry.now)
-        (phase_counts (run_files config.entry.now scripts.now.clients.items scripts.now.input))
-        ≡ None) }
-{
-    let other = first_other_client(wanted, &config.clients, &scripts.clients);
-    if other.is_some() {
-        return other;
-    }
-    if phases(scripts.input.lines()) == wanted {
-        None
-    } else {
-        Some(config.input.as_str())
-    }
-}
-
-/// The same among the clients' scripts.
-fn first_other_client<'a>(
-    wanted: usize,
-    clients: &'a [Member],
-    scripts: &[Client],
-) -> Option<&'a str>
-    requires { length scripts.now ≡ length clients.now }
-    ensures some { IfSome result (λ name.
-        first_other wanted (map (λ m. m.script) clients.entry.now) (map phases scripts.now)
-        ≡ Some name.now) }
-    ensures none { IfNone result
-        (first_other wanted (map (λ m. m.script) clients.entry.now) (map phases scripts.now)
-        ≡ None) }
-{
-    for (k, script) in scripts.iter().enumerate() {
-        if phases(script.lines()) != wanted {
-            return Some(clients[k].script.as_str());
-        }
-    }
-    None
-}
-
 /// The scripts, with this one in the first client's place.
 fn with_first(scripts: Scripts, first: Client) -> Scripts
     requires { 1 ≤ length scripts.clients.items }
@@ -165,5 +100,5 @@ fn perform_nested<'a, R: Threads + Wait + Sync, S: Store, G: Gate>(
         return unbegun(host.alloc, at(End::NoMemory, ""));
     };
     let fault = put_inner_journal(host.alloc, store, ran.fault, journal);
-    ran.with_fault(fault).worked(clients.len())
+    Worked::after(ran.with_fault(fault), clients.len())
 }

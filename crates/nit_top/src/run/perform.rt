@@ -6,19 +6,16 @@ ghost use Rattle.nit_top.specs.Terms.{Performed, Run, Still, StoreModel, bytes_o
 ghost use Rattle.nit_top.specs.Terms.{most_height, most_width, number_end, setup_of};
 ghost use Rattle.nit_top.specs.Terms.{still_configuration, with_asked};
 
-use crate::run::alone::run_one;
-use crate::run::beside::run_beside;
-use crate::run::turns::run_turns;
-use crate::setup::generated::{put_files, read_files};
-use crate::setup::still::{idle_user, still_configuration};
-use crate::{
-    End, Host, Scripts, Worked, at, headline, load_client, read_scripts, stop_after, unbegun,
-};
+use crate::report::finish::{Worked, stop_after, unbegun};
 use nit_actor::Gate;
 use nit_config::Config;
+use nit_perform::{Host, put_files, run_beside, run_one, run_turns};
 use nit_rect::NoMemory;
 use nit_report::{gen_config, generate, generated_client_counts, generated_user_counts};
+use nit_run::Scripts;
+use nit_run::laws::headline;
 use nit_script::{Client, Input};
+use nit_setup::{End, at, idle_user, load_client, read_files, read_scripts, still_configuration};
 use nit_store::Store;
 use nit_store::laws::puts_go_on;
 use std::alloc::Global;
@@ -128,7 +125,7 @@ fn perform<'a, S: Store>(
     let Ok(ran) = run_turns(alloc, config, scripts, input, store) else {
         return unbegun(alloc, at(End::NoMemory, ""));
     };
-    ran.worked(scripts.len())
+    Worked::after(ran, scripts.len())
 }
 
 /// Runs one client whose user does nothing, without texts. A run that is not begun leaves
@@ -149,7 +146,7 @@ fn perform_alone<'a, S: Store>(
     let Ok(ran) = run_one(alloc, config, scripts, input, store) else {
         return unbegun(alloc, at(End::NoMemory, ""));
     };
-    ran.worked(scripts.len())
+    Worked::after(ran, scripts.len())
 }
 
 /// Runs a setup with texts, each client on a thread of its own. A run that is not begun leaves
@@ -171,5 +168,5 @@ pub fn perform_beside<'a, R: Threads + Wait + Sync, S: Store, G: Gate>(
     let Ok(ran) = run_beside(host, config, clients, &scripts.input, store) else {
         return unbegun(host.alloc, at(End::NoMemory, ""));
     };
-    ran.worked(clients.len())
+    Worked::after(ran, clients.len())
 }

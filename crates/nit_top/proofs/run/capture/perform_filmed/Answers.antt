@@ -19,10 +19,10 @@ returns g c =
       ran = ran;
       has_run = has;
       headline = c.headline.ensures s ran.journal.items has.outputs c.requires.runnable has.is_journal has.are;
-      end_is = c.worked.ensures.end;
-      name_is = c.worked.ensures.name;
-      journal_is = c.worked.ensures.journal;
-      clients_are = c.worked.ensures.clients
+      end_is = c.after.ensures.end;
+      name_is = c.after.ensures.name;
+      journal_is = c.after.ensures.journal;
+      clients_are = c.after.ensures.clients
           ∙ ap (λ (ls : List (List Line)). length ls) c.as_slice-clients.ensures.value;
-      frames_are = c.worked.ensures.frames;
+      frames_are = c.after.ensures.frames;
     })

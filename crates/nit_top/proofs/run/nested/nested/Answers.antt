@@ -1,13 +1,12 @@
 use Rattle.std.proofs.Common.{◌≡◌, ◌∙◌, ◌∷◌, Some, Ok, Err, true, false, ℕ, List, length, ap, sym}
-use Rattle.std.proofs.Common.{subst}
 use Rattle.nit_top.proofs.Lemmas.{AreLines, Entry, FitsLine, IsInnerEnd, IsRunnable, Line}
 use Rattle.nit_top.proofs.Lemmas.{PerformedNested, Setup, Stop, asking_all, asking_both, begun}
 use Rattle.nit_top.proofs.Lemmas.{by_turns, first_other, first_shows, frames_counted, frames_of}
 use Rattle.nit_top.proofs.Lemmas.{inner_before, inner_scripts, inner_stopped, name_text, names_in}
 use Rattle.nit_top.proofs.Lemmas.{nested_ends, no_other, not_read, other_phases, outer_runnable}
 use Rattle.nit_top.proofs.Lemmas.{own_counts, phase_counts, phases, read_whole, run_files}
-use Rattle.nit_top.proofs.Lemmas.{runnable_of, setup_is, setup_of, they_fit, unfit_ends}
-use Rattle.nit_top.specs.declared.report.finish.Fault.TheVariants as fault
+use Rattle.nit_top.proofs.Lemmas.{runnable_of, setup_is, setup_of, subst, they_fit, unfit_ends}
+use Rattle.nit_setup.specs.declared.stop.Fault.TheVariants as fault
 use Rattle.nit_top.proofs.run.nested.nested.Goals as goal
 
 pub run_inner-requires-clause-runnable : goal.run_inner-requires-clause-runnable

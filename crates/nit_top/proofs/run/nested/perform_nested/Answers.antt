@@ -1,7 +1,7 @@
 use Rattle.nit_top.proofs.Lemmas.{HasRun, IfSome, Line, List, PutFault, Some, ap, end_of_run, inl}
 use Rattle.nit_top.proofs.Lemmas.{length, nested_leaves, runnable_of, setup_of, subst, true, ◌∙◌}
 use Rattle.std.proofs.Common.{Option, ◌≡◌}
-use Rattle.nit_top.specs.declared.report.finish.Name.TheVariants as file_name
+use Rattle.nit_setup.specs.declared.stop.Name.TheVariants as file_name
 use Rattle.nit_top.proofs.run.nested.perform_nested.Goals as goal
 
 pub returns : goal.returns
@@ -15,11 +15,11 @@ returns g c = λ i.
     c.as_slice-clients.ensures.value c.in-Ok.ensures in
     inl (nested_leaves c.args.journal.now s (Some i) (g.S.Store.shown c.args.store.now)
     (g.S.Store.shown c.run_beside.new.store) (g.S.Store.shown c.put_inner_journal-fault.new.store) ran
-    c.put_inner_journal-fault.result c.worked.result
+    c.put_inner_journal-fault.result c.after.result
     (λ journal outputs j are. c.headline.ensures (record s { inner = Some i }) journal outputs
-    (runnable_of s (Some i) c.requires) j are) has c.put_inner_journal-fault.ensures (c.worked.ensures.end
+    (runnable_of s (Some i) c.requires) j are) has c.put_inner_journal-fault.ensures (c.after.ensures.end
     ∙ ap end_of_run c.with_fault.ensures.fault)
-    (subst (λ (o : Option PutFault). IfSome o (λ f. c.worked.result.stop.name ≡ file_name.Put f.file))
-    c.with_fault.ensures.fault c.worked.ensures.name) (c.worked.ensures.journal ∙ c.with_fault.ensures.journal)
-    (c.worked.ensures.clients ∙ ap (λ (ls : List (List Line)). length ls) c.as_slice-clients.ensures.value)
-    (c.worked.ensures.frames ∙ c.with_fault.ensures.frames))
+    (subst (λ (o : Option PutFault). IfSome o (λ f. c.after.result.stop.name ≡ file_name.Put f.file))
+    c.with_fault.ensures.fault c.after.ensures.name) (c.after.ensures.journal ∙ c.with_fault.ensures.journal)
+    (c.after.ensures.clients ∙ ap (λ (ls : List (List Line)). length ls) c.as_slice-clients.ensures.value)
+    (c.after.ensures.frames ∙ c.with_fault.ensures.frames))

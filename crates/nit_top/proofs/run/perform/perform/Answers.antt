@@ -7,9 +7,9 @@ returns g c = inl (record {
   has_run = c.in-Ok.ensures;
   headline = c.headline.ensures (setup_of c.args.config.now c.args.scripts.now c.args.input.now true false)
       c.in-Ok.ran.journal.items c.in-Ok.ensures.outputs c.requires c.in-Ok.ensures.journal c.in-Ok.ensures.are;
-  end_is = c.worked.ensures.end;
-  name_is = c.worked.ensures.name;
-  journal_is = c.worked.ensures.journal;
-  clients_are = c.worked.ensures.clients;
-  frames_are = c.worked.ensures.frames;
+  end_is = c.after.ensures.end;
+  name_is = c.after.ensures.name;
+  journal_is = c.after.ensures.journal;
+  clients_are = c.after.ensures.clients;
+  frames_are = c.after.ensures.frames;
 })

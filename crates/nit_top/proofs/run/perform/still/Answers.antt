@@ -1,9 +1,8 @@
 use Rattle.std.proofs.Common.{◌≡◌, ◌∙◌, false, ◌∷◌, [], ℕ, List, None, sym, ap, subst, inl, refl}
-use Rattle.std.proofs.Common.{arith}
 use Rattle.nit_top.proofs.Lemmas.{Configuration, End, InputLine, IsClientFault, IsRunnable, Line}
-use Rattle.nit_top.proofs.Lemmas.{Performed, Setup, StoppedAt, idle_user, name_text, setup_of}
-use Rattle.nit_top.proofs.Lemmas.{still_configuration, still_ends, still_runnable, still_setup}
-use Rattle.nit_top.proofs.Lemmas.{still_stopped}
+use Rattle.nit_top.proofs.Lemmas.{Performed, Setup, StoppedAt, arith, idle_user, name_text}
+use Rattle.nit_top.proofs.Lemmas.{setup_of, still_configuration, still_ends, still_runnable}
+use Rattle.nit_top.proofs.Lemmas.{still_setup, still_stopped}
 use Rattle.nit_top.proofs.run.perform.still.Goals as goal
 
 same_setup : (width height : ℕ) (config : Configuration) (lines read : List Line) (input : List InputLine)

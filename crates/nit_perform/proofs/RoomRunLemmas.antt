@@ -1,0 +1,253 @@
+-- A run whose clients are beside each other: its beginning, and what it leaves.
+use Rattle.std.proofs.Common.{◌≡◌, ◌∙◌, true, false, ℕ, zero, suc, ◌+◌, ◌<◌, List, [], ◌∷◌, ◌++◌}
+use Rattle.std.proofs.Common.{length, length-append, map, take, Some, refl, sym, ap, subst, arith}
+use Rattle.std.proofs.Common.{append_assoc, zero-add}
+use Rattle.nit_perform.proofs.Basics.{All, AreBlank, AreBuffers, AreDone, AreKeysBlank}
+use Rattle.nit_perform.proofs.Basics.{AreNearShots, AreOutputs, Bare, Belongs, Black, BufferName}
+use Rattle.nit_perform.proofs.Basics.{Configuration, End, Entry, File, HasRun, InputLine}
+use Rattle.nit_perform.proofs.Basics.{IsDoneUser, IsJournal, IsKnownWhole, IsLegal, IsNearPicture}
+use Rattle.nit_perform.proofs.Basics.{IsOpen, IsOpening, IsReady, IsSetting, IsWhole, Line}
+use Rattle.nit_perform.proofs.Basics.{OpeningParts, PassModel, PixelSource, PlanModel, PutState}
+use Rattle.nit_perform.proofs.Basics.{PutsAll, PutsNext, PutsShotsBehind, Ran, Role, RoomModel}
+use Rattle.nit_perform.proofs.Basics.{Setup, ShotsBehind, State, StoreModel, UserAction}
+use Rattle.nit_perform.proofs.Basics.{UserBelongs, UserPassModel, UserRole, Word, append-nil}
+use Rattle.nit_perform.proofs.Basics.{calls_to_make, deeds_done, deeds_of-append, donation_of}
+use Rattle.nit_perform.proofs.Basics.{events_files, files_both, final_name, final_picture}
+use Rattle.nit_perform.proofs.Basics.{first_pass, first_state, fit_again, fits_belongs, frame}
+use Rattle.nit_perform.proofs.Basics.{get_or-map-range_with_len, journal_file, left_word, new_sight}
+use Rattle.nit_perform.proofs.Basics.{no_files, no_shots, parts_of, picture, picture_of}
+use Rattle.nit_perform.proofs.Basics.{pixel_count, plan_in, plans_of, put_state_of_run, puts_both}
+use Rattle.nit_perform.proofs.Basics.{range_with_len, raw_word, replay, role_at, role_of, roles_fit}
+use Rattle.nit_perform.proofs.Basics.{roles_long, same_throughout, scenery_of, setup_of, shots}
+use Rattle.nit_perform.proofs.Basics.{slice_get, slice_index_or, source_at, table_size, tables_left}
+use Rattle.nit_perform.proofs.Basics.{take_all, text_files, unrefused, user_actions_in}
+use Rattle.nit_perform.proofs.Basics.{user_actions_of, user_actions_to_do, user_role_of, word_from}
+use Rattle.nit_perform.proofs.Basics.{words_left_in, words_of}
+use mathlib.Core.List.{IsPrefix}
+use Rattle.nit_perform.proofs.FinalWords.{OneMore}
+use Rattle.nit_perform.proofs.PerClient.{plans_long}
+use Rattle.nit_events.specs.declared.entry.Entry.TheVariants as entry
+
+-- the setup of an opening, as it runs
+abbrev pub setup_in : OpeningParts → Setup
+setup_in parts = setup_of parts.config parts.scripts parts.input true true
+
+-- ---- lists
+
+pub at_get : {X : Type 0} (xs : List X) (k : ℕ) (x d : X) → slice_get xs k ≡ Some x → (k < length xs)
+    × (slice_index_or xs k d ≡ x)
+at_get [] k x d e = absurd cc
+at_get (y ∷ ys) zero x d e = (omega arith, cc)
+at_get (y ∷ ys) (suc k) x d e = let rest = at_get ys k x d e in (let n = rest.0 in omega (arith, n), rest.1)
+
+pub get_at : {X : Type 0} (xs : List X) (k : ℕ) (d : X) → k < length xs → slice_get xs k ≡ Some (slice_index_or xs k d)
+get_at [] k d inside = absurd (omega arith)
+get_at (y ∷ ys) zero d inside = refl
+get_at (y ∷ ys) (suc k) d inside = get_at ys k d (omega arith)
+
+-- what holds of all elements by their numbers, and of one more
+all_push : {X : Type 0} (P : ℕ → X → Type 0) (xs : List X) (x : X) → ((k : ℕ) (y : X) → slice_get xs k ≡ Some y → P k y)
+    → P (length xs) x → (k : ℕ) (y : X) → slice_get (xs ++ x ∷ []) k ≡ Some y → P k y
+all_push P [] x all here zero y at = let same : x ≡ y = cc in subst (P 0) same here
+all_push P [] x all here (suc k) y at = absurd cc
+all_push P (z ∷ xs) x all here zero y at = all zero y at
+all_push P (z ∷ xs) x all here (suc k) y at = all_push (λ n. P (suc n)) xs x (λ n w e. all (suc n) w e) here k y at
+
+-- ---- the buffers
+
+-- one key more
+pub one_key : (config : Configuration) (plans : List PlanModel) (k : ℕ) (keys keys' : List End) (key : End)
+    → length keys ≡ k → AreKeysBlank config plans keys
+    → key.sight ≡ new_sight k (table_size (donation_of config k)) (plan_in plans k).ink → keys' ≡ keys ++ key ∷ []
+    → AreKeysBlank config plans keys'
+one_key config plans k keys keys' key counted all is more =
+    subst (λ (es : List End). AreKeysBlank config plans es) (sym more)
+    (all_push (λ n (e : End). e.sight ≡ new_sight n (table_size (donation_of config n)) (plan_in plans n).ink) keys key
+    all
+    (subst (λ (n : ℕ). key.sight ≡ new_sight n (table_size (donation_of config n)) (plan_in plans n).ink) (sym counted)
+    is))
+
+-- ---- the beginning
+
+module _ (config : Configuration) (scripts : List (List Line)) (plans : List PlanModel) (input : List InputLine)
+    (canvases : List End) (r : RoomModel) (ps : List PassModel) (u : UserPassModel)
+    (sessions : length scripts ≡ length config.clients) (plans_each : length plans ≡ length scripts)
+    (o : IsOpening config scripts plans input canvases r ps u) where
+  abbrev parts : OpeningParts
+  parts = parts_of r.parts.name config scripts plans input
+
+  first_belongs : (k : ℕ) → k < length scripts → (canvas : End) → Belongs parts (first_pass parts k canvas)
+  first_belongs k inside canvas = record {
+    name = refl;
+    script = get_at scripts k [] inside;
+    plan = get_at plans k (record { steps = []; ink = [] }) (omega (arith, inside, plans_each));
+    donation = refl;
+  }
+
+  pub is_ready : IsReady r.parts r ps u
+  is_ready = record {
+    parts_are = refl;
+    open_now = subst IsOpen (sym o.room.entries) tt;
+    clients = subst (λ (q : OpeningParts). length q.scripts ≡ length q.config.clients) (sym o.room.parts_are) sessions;
+    each = o.each ∙ ap (λ (q : OpeningParts). length q.scripts) (sym o.room.parts_are);
+    belong = λ k d inside.
+        let first = o.passes k (slice_index_or ps k d) (get_at ps k d inside) in
+        let each = o.each in
+        subst (λ (q : OpeningParts). Belongs q (slice_index_or ps k d)) (sym o.room.parts_are)
+        (subst (λ (p : PassModel). Belongs parts p)
+        (sym (first.2 ∙ ap (λ (q : OpeningParts). first_pass q k first.0) o.room.parts_are))
+        (first_belongs k (omega (arith, inside, each)) first.0));
+    numbers = λ k p at. ap (λ (q : PassModel). q.sid) (o.passes k p at).2;
+    user_belongs = subst (λ (v : UserPassModel). UserBelongs r.parts v) (sym o.user)
+        (record { number = refl; name = refl; input = refl });
+    fresh = ap (λ (v : UserPassModel). v.seen) o.user;
+  }
+
+-- ---- what it is opened with
+
+pub setting : (config : Configuration) (scripts : List (List Line)) (plans : List PlanModel)
+    → length scripts ≡ length config.clients → plans ≡ plans_of config scripts → IsSetting config scripts plans
+setting config scripts plans sessions are = record {
+  sessions = sessions;
+  plans_each = plans_long config scripts plans are;
+  planned = λ k inside. ap (λ (ps : List PlanModel). plan_in ps k) are
+      ∙ get_or-map-range_with_len _ 0 (length scripts) k k (record { steps = []; ink = [] }) inside (zero-add k);
+}
+
+pub blank_ends : (config : Configuration) (plans : List PlanModel) (buffers : List BufferName)
+    (keys canvases : List End) → AreBuffers config plans buffers keys → canvases ≡ keys → AreBlank config plans canvases
+blank_ends config plans buffers keys canvases b are =
+    subst (λ (es : List End). AreBlank config plans es) (sym are) (record { canvas_each = b.each; blank = b.blank })
+
+-- ---- the passes come back done
+
+pub all_done : (parts : OpeningParts) (r : RoomModel) (ps qs : List PassModel) (u : UserPassModel)
+    → IsReady parts r ps u → map (λ (q : PassModel). role_of q) qs ≡ map (λ (q : PassModel). role_of q) ps
+    → All (λ (p : PassModel). p.next ≡ length p.script) qs → AreDone parts qs
+all_done parts r ps qs u ready same ended = record {
+  each = roles_long qs ps same ∙ ready.each;
+  done_all = λ k p at.
+      let here = at_get qs k p p at in
+      let inside = here.0 in
+      let long = roles_long qs ps same in
+      let there : k < length ps = omega (arith, long, inside) in
+      let fits = fit_again parts qs ps same (roles_fit parts ps ready.belong) k p inside in
+      let role : role_of p ≡ role_of (slice_index_or ps k p) = ap role_of (sym here.1) ∙ role_at qs k p
+      ∙ ap (λ (rs : List Role). slice_index_or rs k (role_of p)) same ∙ sym (role_at ps k p) in
+      record {
+        belongs = subst (λ (q : PassModel). Belongs parts q) here.1 (fits_belongs parts (slice_index_or qs k p) fits);
+        number = ap (λ (x : Role). x.sid) role ∙ ready.numbers k (slice_index_or ps k p) (get_at ps k p there);
+        ended = subst (λ (q : PassModel). q.next ≡ length q.script) here.1 (ended k p inside);
+      };
+}
+
+-- so is the user's
+pub user_done : (p : OpeningParts) (u v : UserPassModel) → UserBelongs p u → user_role_of v ≡ user_role_of u
+    → v.next ≡ length v.input → IsDoneUser p v
+user_done p u v belongs same ended = record {
+  belongs = record {
+    number = ap (λ (x : UserRole). x.number) same ∙ belongs.number;
+    name = ap (λ (x : UserRole). x.name) same ∙ belongs.name;
+    input = ap (λ (x : UserRole). x.input) same ∙ belongs.input;
+  };
+  ended = ended;
+}
+
+-- ---- what the user knows
+
+empty : (ds : List UserAction) → length ds ≡ 0 → ds ≡ []
+empty [] e = refl
+empty (d ∷ ds) e = absurd (omega (arith, e))
+
+pub known_whole : (scripts : List (List Line)) (input : List InputLine) (next : ℕ) (known entries journal : List Entry)
+    → IsPrefix known entries → journal ≡ entries ++ entry.Final ∷ []
+    → user_actions_of known ≡ user_actions_in (take next input) → next ≡ length input
+    → IsWhole (map calls_to_make scripts) (user_actions_to_do input) journal → IsKnownWhole known journal
+known_whole scripts input next known entries journal (more, front) ended is all whole =
+    let rest = more ++ entry.Final ∷ [] in
+    let parts : journal ≡ known ++ rest = ended ∙ ap (λ (es : List Entry). es ++ entry.Final ∷ []) (sym front)
+    ∙ append_assoc known more (entry.Final ∷ []) in
+    let deeds : user_actions_of known ≡ user_actions_of journal = is
+    ∙ ap user_actions_in (take_all next input (omega (arith, all))) ∙ deeds_done 0 input ∙ sym whole.deeds in
+    let n = ap length (deeds ∙ ap user_actions_of parts ∙ deeds_of-append known rest) in (
+      rest,
+      parts,
+      empty (user_actions_of rest)
+          (omega (arith, n, length-append (user_actions_of known) (user_actions_of rest))),
+    )
+
+-- ---- the last picture
+
+word_is : (config : Configuration) (scripts : List (List Line)) (source : PixelSource)
+    → left_word config scripts source ≡ word_from (tables_left config scripts) source
+word_is config scripts Bare = refl
+word_is config scripts Black = refl
+word_is config scripts (Word t i) = refl
+
+words_are : (config : Configuration) (scripts : List (List Line)) (s : State)
+    → words_left_in config scripts s ≡ words_of s (raw_word s (tables_left config scripts))
+words_are config scripts s = λ j. map (λ (k : ℕ). word_is config scripts (source_at s k) j)
+    (range_with_len 0 (pixel_count s))
+
+-- what the room shows at its end is the last picture of the whole journal
+pub last_is : OneMore → (parts : OpeningParts) (config : Configuration) (entries journal : List Entry) (size : ℕ × ℕ)
+    (out text : List ℕ) → config ≡ parts.config → size ≡ (parts.config.width, parts.config.height)
+    → journal ≡ entries ++ entry.Final ∷ []
+    → out ≡ frame (scenery_of (replay config entries))
+    (words_left_in parts.config parts.scripts (replay config entries)) → text ≡ picture size.0 size.1 out
+    → text ≡ final_picture (setup_in parts) journal
+last_is more parts config entries journal size out text same sized ended shown bytes =
+    let s = replay parts.config journal in
+    let left = tables_left parts.config parts.scripts in
+    let state_is : replay config entries ≡ s =
+    ap (λ (k : Configuration). replay k entries) same
+    ∙ sym (ap (λ (j : List Entry). replay parts.config j) ended
+    ∙ more (first_state parts.config) entries entry.Final) in
+    bytes ∙ ap (λ (n : ℕ × ℕ). picture n.0 n.1 out) sized ∙ ap (picture parts.config.width parts.config.height) shown
+    ∙ ap (λ (t : State). picture parts.config.width parts.config.height
+    (frame (scenery_of t) (words_left_in parts.config parts.scripts t))) state_is
+    ∙ ap (λ (ws : List ℕ). picture parts.config.width parts.config.height (frame (scenery_of s) ws))
+    (words_are parts.config parts.scripts s)
+    ∙ ap (λ (k : Configuration). picture_of k s (raw_word s left)) (sym (same_throughout parts.config journal))
+
+-- ---- the run
+
+true_false : true ≡ false → ⊥
+true_false e = cc
+
+pub beside_leaves : (parts : OpeningParts) (known known' : List Entry) (first new : StoreModel) (at final : PutState)
+    (journal : List Entry) (ran : Ran)
+    → known ≡ [] → PutsShotsBehind parts known known' (unrefused first) at → IsKnownWhole known' journal
+    → IsLegal parts.config journal
+    → IsWhole (map calls_to_make parts.scripts) (user_actions_to_do parts.input) journal
+    → PutsNext (final_name, final_picture (setup_in parts) journal) at final
+    → PutsAll (events_files parts.config journal ++ journal_file journal ∷ []) final (put_state_of_run new ran.fault)
+    → ran.journal.items ≡ journal → ran.frames ≡ shots journal + 1 → HasRun first (setup_in parts) new ran
+beside_leaves parts known known' first new at final journal ran none puts (rest, front, quiet) legal whole last texts is
+    frames =
+    let s = setup_in parts in
+    let outputs = puts.files ++ (final_name, final_picture s journal) ∷ text_files s journal in
+    record {
+      journal = subst (λ (es : List Entry). IsJournal s es) (sym is)
+          (record { legal = legal; whole = whole; rounds = λ alone. absurd (true_false alone) });
+      frames = frames ∙ ap (λ (es : List Entry). shots es + 1) (sym is);
+      outputs = outputs;
+      are = subst (λ (es : List Entry). AreOutputs s es outputs) (sym is)
+          (puts.files, record { by_rounds = λ alone. absurd (true_false alone); beside = λ together. near }, refl);
+      puts = puts_both puts.files ((final_name, final_picture s journal) ∷ text_files s journal) (unrefused first) at
+          (put_state_of_run new ran.fault) puts.put
+          (final, last, texts);
+    }
+  where
+    Pic : List Entry → List ℕ → Type 0
+    Pic = IsNearPicture parts.config parts.scripts
+
+    shown_then : ShotsBehind Pic [] known' puts.files
+    shown_then = subst (λ (es : List Entry). ShotsBehind Pic [] es puts.files)
+        (sym (puts.grown ∙ ap (λ (es : List Entry). es ++ puts.more) none))
+        (subst (λ (es : List Entry). ShotsBehind Pic es puts.more puts.files) none puts.are)
+
+    near : AreNearShots parts.config parts.scripts journal puts.files
+    near = subst (λ (es : List Entry). ShotsBehind Pic [] es puts.files) (sym front)
+        (subst (λ (fs : List File). ShotsBehind Pic [] (known' ++ rest) fs) (append-nil puts.files)
+        (files_both Pic [] known' rest puts.files [] shown_then (no_files Pic known' rest (no_shots rest quiet))))

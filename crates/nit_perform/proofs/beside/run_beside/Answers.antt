@@ -1,0 +1,20 @@
+use Rattle.nit_perform.proofs.Lemmas.{List, PlanModel, ap, is_ready, length, plans_long, setting}
+use Rattle.nit_perform.proofs.Lemmas.{◌∙◌}
+use Rattle.nit_perform.proofs.beside.run_beside.Goals as goal
+
+pub buffers_of-requires-clause-each : goal.buffers_of-requires-clause-each
+buffers_of-requires-clause-each g c =
+    ap (λ (ps : List PlanModel). length ps) c.deref.ensures.value
+    ∙ plans_long c.args.config.now c.args.scripts.now c.in_ok-plans.plans.items c.in_ok-plans.ensures.plans
+    ∙ c.requires.scripts
+
+pub open-requires-clause-setting : goal.open-requires-clause-setting
+open-requires-clause-setting g c = setting c.args.config.now c.args.scripts.now c.deref-3.result.now c.requires.scripts
+    (c.deref-3.ensures.value ∙ c.in_ok-plans.ensures.plans)
+
+pub run_named-requires-clause-ready : goal.run_named-requires-clause-ready
+run_named-requires-clause-ready g c κs within =
+    is_ready c.args.config.now c.args.scripts.now c.deref-3.result.now c.args.input.now c.in_ok-canvases.canvases.items
+    c.in_ok-opened.opened.room c.in_ok-opened.opened.passes.items c.in_ok-opened.opened.user
+    c.requires.scripts (plans_long c.args.config.now c.args.scripts.now c.deref-3.result.now (c.deref-3.ensures.value
+    ∙ c.in_ok-plans.ensures.plans)) c.in_ok-opened.ensures

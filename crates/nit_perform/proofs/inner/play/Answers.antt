@@ -1,0 +1,80 @@
+use Rattle.std.proofs.Common.{◌≡◌, ◌∙◌, ◌<◌, List, [], length, map, ℕ, ap, sym, subst, None}
+use Rattle.nit_perform.proofs.Lemmas.{AreLeft, Configuration, Entry, HaveTables, IsGlass, IsJournal}
+use Rattle.nit_perform.proofs.Lemmas.{JournalModel, NestModel, NestState, ShotFrame, Sight}
+use Rattle.nit_perform.proofs.Lemmas.{TakesAll, TakesNext, by_turns, glass_in, last_frame}
+use Rattle.nit_perform.proofs.Lemmas.{left_glass, left_tables, no_frames, rounds_journal, run_files}
+use Rattle.nit_perform.proofs.Lemmas.{shot_frames_of, tables_left, taken_all, takes_more}
+use Rattle.nit_perform.proofs.Lemmas.{written_whole}
+use Rattle.nit_perform.proofs.InnerLemmas.{last_is}
+use Rattle.nit_perform.proofs.inner.play.Goals as goal
+
+pub take_last-requires-clause-tables : goal.take_last-requires-clause-tables
+take_last-requires-clause-tables c = λ t inside.
+    let opened = c.args.opened in
+    let run = c.run_viewed.ensures.run in
+    let owns : c.deref_mut-2.result.now ≡ c.run_viewed.new.owns = c.deref_mut-2.ensures.value
+    ∙ written_whole opened.owns.len c.run_viewed.new.owns opened.owns.items (c.run_viewed.auto.owns
+    ∙ c.deref_mut.ensures.len) in
+    let there : t < length c.args.scripts.now =
+    subst (λ (n : ℕ). t < n) (ap (λ (gs : List Sight). length gs) owns ∙ run.owns_each) inside in
+    let are : AreLeft c.args.config.now c.args.scripts.now c.run_viewed.new.owns =
+    subst (λ (k : Configuration). AreLeft k c.args.scripts.now c.run_viewed.new.owns)
+    c.requires.opened.configuration run.words in
+    subst (λ (k : Configuration). IsGlass k t (glass_in c.deref_mut-2.result.now t))
+    (sym (run.config ∙ c.requires.opened.configuration))
+    (subst (λ (gs : List Sight). IsGlass c.args.config.now t (glass_in gs t)) (sym owns)
+    (left_glass c.buffer_within_table.ensures.words c.one_more_line.ensures.done c.args.config.now c.args.scripts.now
+    c.run_viewed.new.owns t c.requires.runnable.configured c.requires.runnable.scripts are there))
+
+pub returns-clause-journal : goal.returns-clause-journal
+returns-clause-journal c =
+    let i = run_files c.args.config.now c.args.scripts.now c.args.input.now in
+    let run = c.run_viewed.ensures.run in
+    let last = c.take_last.new.scene in
+    subst (λ (es : List Entry). IsJournal (by_turns i) es)
+    (sym (c.into_entries.ensures ∙ ap (λ (j : JournalModel). j.entries) c.into_journal.ensures.entries))
+    (rounds_journal c.rounds_are_whole.ensures i c.run_viewed.new.scene last (run.config
+    ∙ c.requires.opened.configuration) run.entries c.take_last.ensures.recorded c.take_last.ensures.config
+    c.take_last.ensures.legal)
+
+pub returns-clause-frames : goal.returns-clause-frames
+returns-clause-frames c =
+    let config = c.args.config.now in
+    let scripts = c.args.scripts.now in
+    let i = run_files config scripts c.args.input.now in
+    let opened = c.args.opened in
+    let mid = c.run_viewed.new.scene in
+    let run = c.run_viewed.ensures.run in
+    let viewer = c.run_viewed.new.viewer in
+    let at : NestState = record { nest = viewer.nest; fault = viewer.fault } in
+    let now : NestState = record { nest = c.take.new.self.nest; fault = c.take.new.self.fault } in
+    let begun : opened.scene.config ≡ config = c.requires.opened.configuration in
+    let owns : c.deref_mut-2.result.now ≡ c.run_viewed.new.owns = c.deref_mut-2.ensures.value
+    ∙ written_whole opened.owns.len c.run_viewed.new.owns opened.owns.items (c.run_viewed.auto.owns
+    ∙ c.deref_mut.ensures.len) in
+    let tables : HaveTables c.run_viewed.new.owns (tables_left config scripts) =
+    subst (λ (k : Configuration). HaveTables c.run_viewed.new.owns (tables_left k scripts)) begun
+    (left_tables opened.scene.config scripts c.run_viewed.new.owns run.owns_each run.words) in
+    let out : c.frame.result.now ≡ last_frame i =
+    c.frame.ensures.frame ∙ c.take_last.ensures.frame (tables_left config scripts)
+    (subst (λ (gs : List Sight). HaveTables gs (tables_left config scripts)) (sym owns) tables)
+    ∙ last_is c.drawn_as_replayed.ensures i mid (run.config ∙ begun) run.legal run.entries in
+    let next : TakesNext (last_frame i) at now =
+    subst (λ (ws : List ℕ). TakesNext ws at now) out c.take.ensures.taken in
+    let nest_is : c.new.result ≡ no_frames i = c.new.ensures
+    ∙ ap (λ (k : Configuration). record { w = k.width; h = k.height; frames = [] }) c.config.view_is in
+    let shots : TakesAll (map (λ (f : ShotFrame). f.words)
+    (shot_frames_of opened.scene.config scripts c.args.input.now)) (record { nest = c.new.result; fault = None })
+    at =
+    taken_all _ (λ v. record { nest = v.nest; fault = v.fault }) (λ f before after' s. s)
+    (shot_frames_of opened.scene.config scripts c.args.input.now) _ _ c.run_viewed.ensures.shown in
+    let from : TakesAll (map (λ (f : ShotFrame). f.words) (shot_frames_of config scripts c.args.input.now))
+    (record { nest = no_frames i; fault = None }) at =
+    subst (λ (k : Configuration).
+    TakesAll (map (λ (f : ShotFrame). f.words) (shot_frames_of k scripts c.args.input.now))
+    (record { nest = no_frames i; fault = None }) at) begun
+    (subst (λ (n : NestModel). TakesAll
+    (map (λ (f : ShotFrame). f.words) (shot_frames_of opened.scene.config scripts c.args.input.now))
+    (record { nest = n; fault = None }) at) nest_is shots) in
+    takes_more (map (λ (f : ShotFrame). f.words) (shot_frames_of config scripts c.args.input.now)) (last_frame i)
+    (record { nest = no_frames i; fault = None }) at now from next

@@ -1,0 +1,43 @@
+use Rattle.std.proofs.Common.{◌≡◌, ◌+◌, ◌≤◌, ◌∙◌, length, ap, sym, arith}
+use Rattle.nit_perform.proofs.Lemmas.{SceneModel, Sight, actions_of_turns, blank_glass}
+use Rattle.nit_perform.proofs.Lemmas.{glasses_long, plans_long, rounds, set_up}
+use Rattle.nit_perform.proofs.opening.open.Goals as goal
+
+pub glasses_of-requires-clause-long : goal.glasses_of-requires-clause-long
+glasses_of-requires-clause-long c =
+    plans_long c.args.config.now c.args.scripts.now c.deref.result.now (c.deref.ensures.value
+    ∙ c.in_ok-plans.ensures.plans) ∙ c.requires.each
+
+pub glasses_of-requires-2-clause-long : goal.glasses_of-requires-2-clause-long
+glasses_of-requires-2-clause-long c =
+    plans_long c.args.config.now c.args.scripts.now c.deref-2.result.now (c.deref-2.ensures.value
+    ∙ c.in_ok-plans.ensures.plans) ∙ c.requires.each
+
+pub new-requires-clause-glasses : goal.new-requires-clause-glasses
+new-requires-clause-glasses c = glasses_long c.args.config.now c.args.scripts.now c.in_ok-glasses.glasses.items
+    c.requires.each c.in_ok-glasses.ensures
+
+pub new-requires-clause-tables : goal.new-requires-clause-tables
+new-requires-clause-tables c = λ t inside.
+    blank_glass c.buffer_within_table.ensures.words c.args.config.now c.args.scripts.now c.in_ok-glasses.glasses.items t
+    c.requires.configured c.requires.each c.in_ok-glasses.ensures inside
+
+pub returns : goal.returns
+returns c =
+    let scripts = c.args.scripts.now in
+    let moves = rounds scripts c.args.input.now in
+    let scene = c.in_ok-scene.scene in
+    let made = c.in_ok-scene.ensures in
+    let spare : scene.spare ≡ c.line_count-lines.result + 1 = ap (λ (p : SceneModel Sight). p.spare) made in
+    let few : length (actions_of_turns moves) ≤ length moves = c.each_line_once.ensures.acts moves in
+    let lines : length moves ≡ c.line_count-lines.result = c.each_line_once.ensures.count scripts c.args.input.now
+    ∙ sym c.line_count-lines.ensures.count in
+    record {
+      configuration = ap (λ (p : SceneModel Sight). p.config) made;
+      entries = ap (λ (p : SceneModel Sight). p.entries) made;
+      spare = omega (arith, spare, few, lines);
+      set_up = set_up c.args.config.now scripts c.in_ok-plans.plans.items scene.glasses c.in_ok-owns.owns.items
+          c.requires.each c.in_ok-plans.ensures.plans (ap (λ (p : SceneModel Sight). p.glasses) made
+          ∙ c.in_ok-glasses.ensures) c.in_ok-owns.ensures;
+      text = c.in_ok-text.ensures;
+    }

@@ -1,0 +1,37 @@
+use Rattle.std.proofs.Common.{arith, ◌<◌, List, length, not, subst, ap, ◌∙◌}
+use Rattle.nit_perform.proofs.Lemmas.{File, Member, PutsNext, ending_of, events_name, events_text}
+use Rattle.nit_perform.proofs.Lemmas.{next_goes, next_stays, one_more_text, put_state_of_run}
+use Rattle.nit_perform.proofs.Lemmas.{session, state_now}
+use Rattle.nit_perform.proofs.texts.put_events.Goals.{then-is_none, else-is_none}
+use Rattle.nit_perform.proofs.texts.put_events.Goals as goal
+
+pub overflow_cast-sid : goal.overflow_cast-sid
+overflow_cast-sid g c =
+    let inside = subst (λ (ms : List Member). c.loop-sid.sid < length ms) c.requires c.loop-sid-test.true in
+    let few = c.size.ensures.configured.count.1 in
+    omega arith
+
+pub loop-sid-preserved : goal.loop-sid-preserved
+loop-sid-preserved g c =
+    let shown = g.S.Store.shown in
+    let file : File = (
+      events_name c.index-clients-sid.result.label,
+      events_text c.args.scene.now.entries c.loop-sid.sid
+          (ending_of (session (state_now c.args.scene.now) c.loop-sid.sid)),
+    ) in
+    let step : PutsNext file (put_state_of_run (shown c.loop-sid.store) c.loop-sid.fault)
+    (put_state_of_run (shown c.if-is_none.store) c.if-is_none.fault) =
+    elim c.if-is_none.branch [
+      | then-is_none w ↦ rw w.store-is
+          (rw w.fault-is (next_goes file (shown c.loop-sid.store) c.loop-sid.fault
+          (put_state_of_run (shown w.put_events_of-fault.new.store) w.put_events_of-fault.result) (c.is_none.ensures
+          ∙ ap not w.if-is_none.true) w.put_events_of-fault.ensures))
+      | else-is_none w ↦ rw w.store-is
+          (rw w.fault-is (next_stays (shown c.loop-sid.store) file c.loop-sid.fault (c.is_none.ensures
+          ∙ ap not w.if-is_none.false)))
+    ] in
+    one_more_text c.args.scene.now.config c.args.scene.now.entries c.args.clients.now c.loop-sid.sid
+    c.index-clients-sid.result (put_state_of_run (shown c.args.store.now) c.args.fault)
+    (put_state_of_run (shown c.loop-sid.store) c.loop-sid.fault)
+    (put_state_of_run (shown c.if-is_none.store) c.if-is_none.fault)
+    c.requires c.loop-sid-test.true c.index-clients-sid.is c.loop-sid.invariant step

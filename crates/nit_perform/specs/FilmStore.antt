@@ -1,0 +1,34 @@
+-- A film that is made of the pictures that a store is given.
+use Rattle.std.specs.Prelude.{◌≡◌, ℕ, Bool, true, List, [], ◌∷◌, ◌++◌, map, Option, Some}
+use Rattle.std.specs.Prelude.{if◌then◌else◌}
+use Rattle.nit_perform.specs.Below.{CaptureModel, File, bytes_of, cropped_bytes, film_header}
+use Rattle.nit_perform.specs.Below.{final_name, range_with_len, records, shot_name}
+
+-- the names of the pictures of so many shots, and of the last picture, if that was taken
+abbrev pub picture_names : ℕ → Bool → List (List ℕ)
+picture_names count ended =
+    map shot_name (range_with_len 1 count) ++ (if ended then final_name ∷ [] else [])
+
+-- the bytes under these names
+abbrev pub bytes_under : List File → List (List ℕ) → List (List ℕ)
+bytes_under files names = map (λ name. bytes_of name files) names
+
+-- the last of some pictures, or the one before them
+abbrev pub last_of : List ℕ → List (List ℕ) → List ℕ
+last_of before [] = before
+last_of before (now ∷ more) = last_of now more
+
+-- A capture has taken these pictures since it was begun, and the bytes are the film of them without
+-- its end.
+pub record HasTaken (begun now : CaptureModel) (pictures : List (List ℕ))
+    (bytes : List ℕ) : Type 0 where
+  pub last : now.before ≡ last_of begun.before (map (cropped_bytes begun) pictures)
+  pub bytes_are : bytes ≡ film_header begun.rect.w begun.rect.h
+      ++ records begun.rect.w begun.rect.h begun.before (map (cropped_bytes begun) pictures)
+
+-- While a film is whole, it is that of the files under the names of its pictures, where files are
+-- told.
+abbrev pub IsFilmOf : Bool → CaptureModel → CaptureModel → List (List ℕ) → Option (List File)
+    → List ℕ → Type 0
+IsFilmOf whole begun now names told bytes = whole ≡ true → (files : List File) → told ≡ Some files
+    → HasTaken begun now (bytes_under files names) bytes

@@ -1,0 +1,67 @@
+-- The words that clauses use: those that come from outside, and those of this crate.
+pub use Rattle.nit_perform.specs.Below.{ActorLine, AfterPut, All, AllByRecursion, AreBlank}
+pub use Rattle.nit_perform.specs.Below.{AreClipsOf, AreDone, AreDoneClips, AreFirstClipPasses}
+pub use Rattle.nit_perform.specs.Below.{AreNearShots, AreOutputs, AreRoundsOf, AskedAtMost, Bad}
+pub use Rattle.nit_perform.specs.Below.{Bare, Belongs, Black, BufferName, ByClient, ByUser}
+pub use Rattle.nit_perform.specs.Below.{CaptureModel, ClipBelongs, ClipLine, ClipPassModel}
+pub use Rattle.nit_perform.specs.Below.{ClipRole, Configuration, Drawing, End, Entry, File, Global}
+pub use Rattle.nit_perform.specs.Below.{HaveTables, IfOk, InputLine, IsAscii, IsConfiguration}
+pub use Rattle.nit_perform.specs.Below.{IsDonation, IsDoneClip, IsDoneUser, IsGlass, IsJournal}
+pub use Rattle.nit_perform.specs.Below.{IsLegal, IsNearPicture, IsOpen, IsOpening, IsPairIn}
+pub use Rattle.nit_perform.specs.Below.{IsPlanOf, IsPut, IsRoundsRun, IsRunnable, IsSetUp}
+pub use Rattle.nit_perform.specs.Below.{IsSetting, IsUtf8, IsWhole, IsWord, IsWordOfSource}
+pub use Rattle.nit_perform.specs.Below.{JournalModel, Line, LineTurn, Member, NestError, NestModel}
+pub use Rattle.nit_perform.specs.Below.{NoMemory, OpeningParts, Painted, Painting, Pair, PairRole}
+pub use Rattle.nit_perform.specs.Below.{PassModel, Phases, PixelSource, PlanModel, Point, PutEach}
+pub use Rattle.nit_perform.specs.Below.{PutError, PutFault, PutFiles, PutIn, PutRefusal, PutState}
+pub use Rattle.nit_perform.specs.Below.{PutsAll, PutsFile, PutsNext, PutsShots, PutsShotsBehind}
+pub use Rattle.nit_perform.specs.Below.{PutsUnless, Ran, Region, Role, RoomModel, RunFiles}
+pub use Rattle.nit_perform.specs.Below.{SceneModel, Session, Setup, ShotFrame, ShotsBehind}
+pub use Rattle.nit_perform.specs.Below.{ShowsEach, ShowsNest, Sight, Size, State, StepTogether}
+pub use Rattle.nit_perform.specs.Below.{StoreModel, TooLong, UnlessMemory, UserAction, UserBelongs}
+pub use Rattle.nit_perform.specs.Below.{UserPassModel, UserRole, Vec, View, Word, WriteFaulted}
+pub use Rattle.nit_perform.specs.Below.{action_of, actions_of_turns, after, after_turn, among}
+pub use Rattle.nit_perform.specs.Below.{asked_also, asking_all, bar_rows, black_or_word, blank}
+pub use Rattle.nit_perform.specs.Below.{buffer_place, buffer_size, by_turns, bytes_of}
+pub use Rattle.nit_perform.specs.Below.{calls_to_make, client_text, clip_number, clip_phases}
+pub use Rattle.nit_perform.specs.Below.{clip_role_of, clip_text, clips_name, codes, count_by}
+pub use Rattle.nit_perform.specs.Below.{count_lines, cropped_bytes, decimal, donation_of, drawn}
+pub use Rattle.nit_perform.specs.Below.{drawn_shot, drop, ending_of, events_file, events_files}
+pub use Rattle.nit_perform.specs.Below.{events_name, events_text, false, file_at, film_header}
+pub use Rattle.nit_perform.specs.Below.{film_name, film_of, final_name, final_picture}
+pub use Rattle.nit_perform.specs.Below.{first_clip_pass, first_forbidden, first_pass, first_session}
+pub use Rattle.nit_perform.specs.Below.{first_state, frame, frame_answer, frame_lines, frames_of}
+pub use Rattle.nit_perform.specs.Below.{generated, generated_files, glass_after, glass_in}
+pub use Rattle.nit_perform.specs.Below.{idle_user, index_at, ink, inked_sight, inner_journal_name}
+pub use Rattle.nit_perform.specs.Below.{input_by_user, input_lines_of, input_phases}
+pub use Rattle.nit_perform.specs.Below.{into_iter_items, is_label, is_label_byte, is_phase}
+pub use Rattle.nit_perform.specs.Below.{is_shot_line, is_some, is_too_long, journal_file}
+pub use Rattle.nit_perform.specs.Below.{journal_text, last_frame, left_word, lines_of_frames}
+pub use Rattle.nit_perform.specs.Below.{list_all, member, most_lines, most_words, nat_lt, negsuc}
+pub use Rattle.nit_perform.specs.Below.{nest_of, nest_script, new_sight, next_record, no_sight}
+pub use Rattle.nit_perform.specs.Below.{opening_drawing, option_map, output_name, owner}
+pub use Rattle.nit_perform.specs.Below.{painted_from, pair_role_of, parts_of, phases, picture}
+pub use Rattle.nit_perform.specs.Below.{picture_by, picture_length, picture_of, pictures_in, pixel}
+pub use Rattle.nit_perform.specs.Below.{pixel_count, plan_in, plan_of_script, pos}
+pub use Rattle.nit_perform.specs.Below.{put_state_of_desk, range_with_len, raw_word, raw_words}
+pub use Rattle.nit_perform.specs.Below.{record_of, records, refusal_by, replay, replay_from}
+pub use Rattle.nit_perform.specs.Below.{role_of, rounds, run_files, scenery_of, script_answer}
+pub use Rattle.nit_perform.specs.Below.{script_files, script_in, script_name, session, session_in}
+pub use Rattle.nit_perform.specs.Below.{setup_of, shot_file, shot_frames_of, shot_name, shots}
+pub use Rattle.nit_perform.specs.Below.{shots_after, shots_of, shown_index, slice_get, slice_index}
+pub use Rattle.nit_perform.specs.Below.{slice_index_or, source_at, source_under, state_now}
+pub use Rattle.nit_perform.specs.Below.{table_size, tables_left, text_files, true, unrefused}
+pub use Rattle.nit_perform.specs.Below.{unwrap_or, user_actions_in, user_actions_of}
+pub use Rattle.nit_perform.specs.Below.{user_actions_to_do, user_role_of, vec_len, with_asked}
+pub use Rattle.nit_perform.specs.Below.{with_clip_scripts, with_last, word_from, words_after}
+pub use Rattle.nit_perform.specs.Below.{words_left, words_left_in, words_of, ℤ}
+pub use Rattle.nit_perform.specs.CaptureRun.{HasFilmed, RunsFilmed, begun_of}
+pub use Rattle.nit_perform.specs.ClipRoom.{HasRoomBack, IsClipListText, IsReadyWithClips}
+pub use Rattle.nit_perform.specs.ClipRoom.{clips_setup, clips_setup_in}
+pub use Rattle.nit_perform.specs.ClipRun.{HasRunClips, RunsClips, clips_setup_of}
+pub use Rattle.nit_perform.specs.FilmStore.{HasTaken, IsFilmOf, bytes_under, last_of, picture_names}
+pub use Rattle.nit_perform.specs.InnerRun.{NestState, NestsRun, TakesAll, TakesNext, TakesUnless}
+pub use Rattle.nit_perform.specs.RoomRun.{AreBuffers, AreKeysBlank, IsAlone, IsKnownWhole, IsMemory}
+pub use Rattle.nit_perform.specs.RoomRun.{IsReady, IsReadyAlone}
+pub use Rattle.nit_perform.specs.RoundsOpening.{IsRoundsOpening, glasses_of, plans_of}
+pub use Rattle.nit_perform.specs.Runs.{HasRun, Runs, is_shot_entry, put_state_of_run, refusal_of}

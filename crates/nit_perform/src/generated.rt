@@ -1,0 +1,82 @@
+//! The files of a generated run, which are put before it.
+
+ghost use Rattle.std.specs.Prelude.{◌≡◌, ◌<◌, map};
+ghost use Rattle.nit_perform.specs.Terms.{PutsAll, PutsNext, client_text, generated};
+ghost use Rattle.nit_perform.specs.Terms.{generated_files, put_state_of_run, range_with_len};
+ghost use Rattle.nit_perform.specs.Terms.{script_files, script_name, unrefused};
+
+use crate::puts::put_next;
+use crate::ran::PutFault;
+use nit_report::Files;
+use nit_run::Output;
+use nit_store::Store;
+use nit_store::laws::puts_go_on;
+
+/// How many clients a generated run has.
+const CLIENTS: u32 = 8;
+
+/// Puts the files of the generated run of this number, in order, until a put is refused. Gives that
+/// put, if there is one.
+pub fn put_files<S: Store>(store: &mut S, number: u32, files: &Files) -> Option<PutFault>
+    requires { files.now ≡ generated number }
+    ensures { PutsAll (generated_files number) (unrefused (S.shown store.old))
+        (put_state_of_run (S.shown store.new) result) }
+{
+    puts_go_on();
+    let fault = put_next(
+        store,
+        None,
+        Output::GeneratedConfig,
+        "gen.toml",
+        &files.config,
+    );
+    let fault = put_scripts(store, fault, number, &files.clients);
+    put_next(store, fault, Output::GeneratedInput, "gen.in", &files.input)
+}
+
+/// Puts the scripts of the clients, in order, unless a put was refused before, and until one is
+/// refused. Gives that put, if there is one.
+fn put_scripts<S: Store>(
+    store: &mut S,
+    fault: Option<PutFault>,
+    number: u32,
+    texts: &[Vec<u8>],
+) -> Option<PutFault>
+    requires { map (λ v. v.items) texts.now ≡ map (client_text number) (range_with_len 0 8) }
+    ensures { PutsAll (script_files number 8) (put_state_of_run (S.shown store.old) fault)
+        (put_state_of_run (S.shown store.new) result) }
+{
+    puts_go_on();
+    let mut refused = fault;
+    'clients: for client in 0..CLIENTS {
+        refused = put_script(store, refused, client, &texts[client as usize]);
+    }
+    refused
+}
+
+/// Puts the script of one client, unless a put was refused before. Gives the put that was refused,
+/// if there is one.
+fn put_script<S: Store>(
+    store: &mut S,
+    fault: Option<PutFault>,
+    client: u32,
+    bytes: &[u8],
+) -> Option<PutFault>
+    requires { client < 8 }
+    ensures { PutsNext (script_name client, bytes.now)
+        (put_state_of_run (S.shown store.old) fault) (put_state_of_run (S.shown store.new) result) }
+{
+    let name = script_name(client);
+    let Ok(name) = str::from_utf8(&name) else {
+        unreachable!()
+    };
+    put_next(store, fault, Output::GeneratedScript(client), name, bytes)
+}
+
+/// The name of the script of a client.
+fn script_name(client: u32) -> [u8; 6]
+    requires { client < 8 }
+    ensures { result ≡ script_name client }
+{
+    [b'g', b'0' + client as u8, b'.', b'n', b'i', b't']
+}

@@ -1,0 +1,137 @@
+//! The memory of a run, all of which is taken before its first round.
+
+ghost use Rattle.std.specs.Prelude.{◌≡◌, ◌+◌, IfOk, length, All, List, ◌≤◌, ◌*◌};
+ghost use Rattle.nit_perform.specs.Terms.{IsConfiguration, IsDonation, IsPlanOf, IsRoundsOpening};
+ghost use Rattle.nit_perform.specs.Terms.{IsWord, Line, glass_after, glasses_of, most_words};
+ghost use Rattle.nit_perform.specs.Terms.{picture_length, plans_of, table_size};
+
+use nit_actor::laws::each_line_once;
+use nit_config::Config;
+use nit_hall::line_count;
+use nit_plan::laws::{buffer_within_table, one_more_line};
+use nit_plan::{Plan, plan_of};
+use nit_rect::NoMemory;
+use nit_report::ppm_len;
+use nit_scene::Scene;
+use nit_script::{Client, Input};
+use nit_slots::room;
+use nit_word::Inked;
+use std::alloc::Global;
+
+/// How many units a word of a session's table costs.
+const WORD_UNITS: u32 = 8;
+
+/// A run before its first round: the scene, and for each client its plan and its own glass; and the
+/// room for the bytes of a picture's file.
+#[derive(Drop)]
+pub struct Opened {
+    pub scene: Scene<Inked>,
+    pub owns: Vec<Inked>,
+    pub plans: Vec<Plan>,
+    pub text: Vec<u8>,
+}
+
+/// Takes all memory of a run. The journal has room for an entry for each line of the scripts, and
+/// for the last picture.
+pub fn open(
+    alloc: Global,
+    config: &Config,
+    scripts: &[Client],
+    input: &Input,
+) -> Result<Opened, NoMemory>
+    requires configured { IsConfiguration config.now }
+    requires each { length scripts.now ≡ length config.now.clients }
+    ensures { IfOk result (λ o. IsRoundsOpening config.now scripts.now input.now o) }
+{
+    each_line_once();
+    buffer_within_table();
+    let plans = plans_of(alloc, config, scripts)?;
+    let owns = glasses_of(alloc, config, scripts, &plans)?;
+    let glasses = glasses_of(alloc, config, scripts, &plans)?;
+    let lines = line_count(scripts, input);
+    let scene = Scene::new(alloc, config, glasses, lines + 1)?;
+    let text = blank_text(alloc, config)?;
+    Ok(Opened {
+        scene,
+        owns,
+        plans,
+        text,
+    })
+}
+
+/// The plan of each client's script. Its ink is of words below 2^24.
+pub fn plans_of(alloc: Global, config: &Config, scripts: &[Client]) -> Result<Vec<Plan>, NoMemory>
+    requires configured { IsConfiguration config.now }
+    requires each { length scripts.now ≡ length config.now.clients }
+    ensures plans { IfOk result (λ v. v.items ≡ plans_of config.now scripts.now) }
+    ensures words { IfOk result (λ v. All (λ p. All IsWord p.ink) v.items) }
+{
+    let clients = config.clients.as_slice();
+    let mut plans = Vec::new(alloc);
+    for (sid, script) in scripts.iter().enumerate() {
+        plans.push(plan_of(alloc, script, clients[sid].donation)?)?;
+    }
+    Ok(plans)
+}
+
+/// A glass for each client, in order, on which no line is done. The plans are those of the scripts.
+fn glasses_of(
+    alloc: Global,
+    config: &Config,
+    scripts: &[Client],
+    plans: &[Plan],
+) -> Result<Vec<Inked>, NoMemory>
+    requires configured { IsConfiguration config.now }
+    requires each { length scripts.now ≡ length config.now.clients }
+    requires long { length plans.now ≡ length config.now.clients }
+    requires plans { plans.now ≡ plans_of config.now scripts.now }
+    requires words { All (λ p. All IsWord p.ink) plans.now }
+    ensures { IfOk result (λ v. v.items ≡ glasses_of config.now scripts.now) }
+{
+    let clients = config.clients.as_slice();
+    let mut glasses = Vec::new(alloc);
+    for (sid, plan) in plans.iter().enumerate() {
+        glasses.push(glass(alloc, sid as u32, plan, clients[sid].donation)?)?;
+    }
+    Ok(glasses)
+}
+
+/// The glass of a session that opens with this donation: the words of its table are 0, and its ink
+/// is that of the plan.
+fn glass(alloc: Global, sid: u32, plan: &Plan, donation: u32) -> Result<Inked, NoMemory>
+    requires donation { IsDonation donation }
+    requires words { All IsWord plan.now.ink }
+    ensures { (script : List Line) → IsPlanOf script donation plan.now
+        → IfOk result (λ g. g ≡ glass_after sid script donation 0) }
+{
+    one_more_line();
+    let ink = plan.ink().to_vec(alloc)?;
+    Ok(Inked::blank(alloc, sid, table_words(donation) as usize, ink)?)
+}
+
+/// How many words the table of a session has that opens with this donation.
+pub fn table_words(donation: u32) -> u32
+    requires { IsDonation donation }
+    ensures size { result ≡ table_size donation }
+    ensures range { (1 ≤ result) × (result ≤ most_words) }
+{
+    room(donation) / WORD_UNITS
+}
+
+/// A word for each pixel of the screen.
+pub fn blank_frame(alloc: Global, config: &Config) -> Result<Vec<u32>, NoMemory>
+    requires { IsConfiguration config.now }
+    ensures { IfOk result (λ v. length v.items ≡ config.now.width * config.now.height) }
+{
+    let pixels = config.width as usize * config.height as usize;
+    Ok(vec![in alloc; 0; pixels]?)
+}
+
+/// A byte for each of a picture of the screen.
+pub fn blank_text(alloc: Global, config: &Config) -> Result<Vec<u8>, NoMemory>
+    requires { IsConfiguration config.now }
+    ensures { IfOk result (λ v. length v.items
+        ≡ picture_length config.now.width config.now.height) }
+{
+    Ok(vec![in alloc; 0; ppm_len(config.width, config.height)]?)
+}

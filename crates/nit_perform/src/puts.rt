@@ -1,0 +1,57 @@
+//! How a file is put behind others.
+
+ghost use Rattle.std.specs.Prelude.{◌≡◌, ℕ, List, IfOk};
+ghost use Rattle.nit_perform.specs.Terms.{PutsNext, output_name, put_state_of_run};
+
+use crate::ran::PutFault;
+use nit_rect::NoMemory;
+use nit_run::Output;
+use nit_store::{PutError, Store};
+
+/// Puts a file under its name, unless a put was refused before. Gives the put that was refused, if
+/// there is one.
+pub fn put_next<S: Store>(
+    store: &mut S,
+    fault: Option<PutFault>,
+    file: Output,
+    name: &str,
+    bytes: &[u8],
+) -> Option<PutFault>
+    requires { output_name file ≡ name.now }
+    ensures { PutsNext (name.now, bytes.now)
+        (put_state_of_run (S.shown store.old) fault) (put_state_of_run (S.shown store.new) result) }
+{
+    if fault.is_some() {
+        return fault;
+    }
+    match store.put(name, bytes) {
+        Ok(()) => None,
+        Err(error) => Some(PutFault { file, error }),
+    }
+}
+
+/// Puts a file that was made under its name, unless a put was refused before. Gives the put that
+/// was refused, if there is one. A file for which memory ran out is not put, and counts as refused.
+pub fn put_made<S: Store>(
+    store: &mut S,
+    fault: Option<PutFault>,
+    file: Output,
+    name: &str,
+    made: Result<Vec<u8>, NoMemory>,
+) -> Option<PutFault>
+    requires { output_name file ≡ name.now }
+    ensures { (bytes : List ℕ) → IfOk made (λ v. v.items ≡ bytes)
+        → PutsNext (name.now, bytes)
+        (put_state_of_run (S.shown store.old) fault) (put_state_of_run (S.shown store.new) result) }
+{
+    if fault.is_some() {
+        return fault;
+    }
+    match made {
+        Ok(bytes) => put_next(store, fault, file, name, &bytes),
+        Err(_) => Some(PutFault {
+            file,
+            error: PutError::NoMemory,
+        }),
+    }
+}

@@ -1,0 +1,96 @@
+//! What a run leaves.
+
+ghost use Rattle.std.specs.Prelude.{◌≡◌, ◌+◌, ◌≤◌, length};
+ghost use Rattle.nit_perform.specs.Terms.{StoreModel, is_shot_entry, put_state_of_desk};
+ghost use Rattle.nit_perform.specs.Terms.{put_state_of_run, shots};
+
+use nit_actor::PictureName;
+use nit_events::Entry;
+use nit_run::Output;
+use nit_store::{PutError, Store};
+
+/// A put that was refused.
+#[derive(Clone, Copy, Debug)]
+pub struct PutFault {
+    pub file: Output,
+    pub error: PutError,
+}
+
+impl PutFault {
+    /// The put that a desk met as refused, if there is one, at the picture that it tried last.
+    pub fn of_picture(refused: Option<PutError>, tried: PictureName) -> Option<PutFault>
+        ensures { (shown : StoreModel)
+            → put_state_of_run shown result ≡ put_state_of_desk shown refused tried }
+    {
+        let error = refused?;
+        Some(PutFault {
+            file: Output::Picture(tried),
+            error,
+        })
+    }
+}
+
+/// What a run leaves.
+#[derive(Drop)]
+pub struct Ran {
+    /// The whole journal.
+    pub journal: Vec<Entry>,
+    /// How many pictures were taken, the last one counted.
+    pub frames: usize,
+    /// The put that was refused, if there is one. No later one is tried.
+    pub fault: Option<PutFault>,
+}
+
+impl Ran {
+    /// What the run leaves once a file was put behind its own, with the put that was refused, if
+    /// there is one.
+    pub fn with_fault(self, fault: Option<PutFault>) -> Ran
+        ensures journal { result.journal.items ≡ self.journal.items }
+        ensures frames { result.frames ≡ self.frames }
+        ensures fault { result.fault ≡ fault }
+    {
+        Ran {
+            journal: self.journal,
+            frames: self.frames,
+            fault,
+        }
+    }
+}
+
+/// What a run leaves that has this journal.
+pub fn left(journal: Vec<Entry>, fault: Option<PutFault>) -> Ran
+    ensures journal { result.journal.items ≡ journal.items }
+    ensures frames { result.frames ≡ shots journal.items + 1 }
+    ensures fault { result.fault ≡ fault }
+{
+    Ran {
+        frames: shot_count(&journal) + 1,
+        journal,
+        fault,
+    }
+}
+
+/// The same of a run that puts nothing behind its pictures: the store stays as it is.
+pub fn leave_pictures<S: Store>(_store: &mut S, journal: Vec<Entry>, fault: Option<PutFault>) -> Ran
+    ensures stays { S.shown _store.new ≡ S.shown _store.old }
+    ensures journal { result.journal.items ≡ journal.items }
+    ensures frames { result.frames ≡ shots journal.items + 1 }
+    ensures fault { result.fault ≡ fault }
+{
+    left(journal, fault)
+}
+
+/// How many shots were taken.
+#[tactic(auto, using(crate::proofs::RunLemmas::shots_counted))]
+fn shot_count(entries: &[Entry]) -> usize
+    ensures count { result ≡ shots entries.now }
+    ensures most { result ≤ length entries.now }
+{
+    entries.iter().filter(|entry| is_shot(entry)).count()
+}
+
+fn is_shot(entry: &Entry) -> bool
+    ensures { result ≡ is_shot_entry entry.now }
+{
+    matches!(entry, Entry::Shot { .. })
+}

@@ -1,0 +1,88 @@
+//! A run by turns.
+
+ghost use Rattle.nit_perform.specs.Terms.{HasRun, IsRoundsOpening, IsRunnable, Runs, false};
+ghost use Rattle.nit_perform.specs.Terms.{setup_of, true};
+
+use crate::last::put_last;
+use crate::opening::{Opened, open};
+use crate::ran::{PutFault, Ran};
+use crate::texts::leave_texts;
+use nit_actor::laws::rounds_are_whole;
+use nit_actor::{Desk, PictureName, run_rounds};
+use nit_config::Config;
+use nit_hall::Parts;
+use nit_journal::laws::one_more_entry;
+use nit_plan::laws::{buffer_within_table, one_more_line};
+use nit_rect::NoMemory;
+use nit_script::{Client, Input};
+use nit_store::Store;
+use std::alloc::Global;
+
+/// Takes all memory of a run, and does it by rounds, up to its end. Each shot is put as it is
+/// taken, then the last picture, and then the texts, until a put is refused. Where memory runs out
+/// before the first round, nothing was done.
+pub fn run_turns<S: Store>(
+    alloc: Global,
+    config: &Config,
+    scripts: &[Client],
+    input: &Input,
+    store: &mut S,
+) -> Result<Ran, NoMemory>
+    requires { IsRunnable (setup_of config.now scripts.now input.now true false) }
+    ensures { Runs (S.shown store.old) (setup_of config.now scripts.now input.now true false)
+        (S.shown store.new) result }
+{
+    let Ok(opened) = open(alloc, config, scripts, input) else {
+        return Err(NoMemory);
+    };
+    Ok(play(alloc, opened, config, scripts, input, store))
+}
+
+/// Does the rounds, takes the last picture, and puts the texts. The rounds take no memory.
+fn play<S: Store>(
+    alloc: Global,
+    opened: Opened,
+    config: &Config,
+    scripts: &[Client],
+    input: &Input,
+    store: &mut S,
+) -> Ran
+    requires runnable { IsRunnable (setup_of config.now scripts.now input.now true false) }
+    requires opened { IsRoundsOpening config.now scripts.now input.now opened }
+    ensures { HasRun (S.shown store.old) (setup_of config.now scripts.now input.now true false)
+        (S.shown store.new) result }
+{
+    rounds_are_whole();
+    one_more_entry();
+    one_more_line();
+    buffer_within_table();
+    let Opened {
+        mut scene,
+        mut owns,
+        plans,
+        text,
+    } = opened;
+    let mut desk = Desk {
+        store,
+        frame: Vec::new(alloc),
+        text,
+        fault: None,
+        tried: PictureName::Final,
+    };
+    let parts = Parts {
+        scripts,
+        plans: &plans,
+        input,
+    };
+    run_rounds(&mut scene, &mut owns, parts, &mut desk);
+    put_last(&mut scene, &mut owns, &mut desk);
+    let Desk {
+        store,
+        frame: _frame,
+        text: _text,
+        fault,
+        tried,
+    } = desk;
+    let fault = PutFault::of_picture(fault, tried);
+    leave_texts(alloc, store, fault, &config.clients, scene)
+}

@@ -1,0 +1,181 @@
+-- The names of files that a run puts: those of its shots, and all by their first letters.
+use Rattle.std.proofs.Common.{◌≡◌, ℕ, ◌<◌, ◌^◌, ◌++◌, ◌≢◌, Bool, true, false, cond, List, [], ◌∷◌}
+use Rattle.std.proofs.Common.{length, Some, refl, sym, ap, ◌∙◌, subst, suc, ◌+◌, arith, is_none}
+use Rattle.std.proofs.Common.{zero, map}
+use Rattle.nit_run.proofs.Basics.{AllByRecursion, Configuration, Entry, File, HasDifferentNames}
+use Rattle.nit_run.proofs.Basics.{LegalFrom, PutEach, ShotsBehind, State, after, all_append}
+use Rattle.nit_run.proofs.Basics.{and_parts, append_cancel_left, append_cancel_right, bytes_eq}
+use Rattle.nit_run.proofs.Basics.{bytes_eq-Decides, codes, decimal, decimal_injective, events_file}
+use Rattle.nit_run.proofs.Basics.{events_files, file_at, have_different_names, journal_file}
+use Rattle.nit_run.proofs.Basics.{range_with_len, shot_name, shots, slice_index}
+use Rattle.nit_events.specs.declared.entry.Entry.TheVariants as entry
+
+-- ---- names
+
+-- shots of different numbers have different names
+pub shots_apart : (m n : ℕ) → m < 2 ^ 64 → n < 2 ^ 64 → shot_name m ≡ shot_name n → m ≡ n
+shots_apart m n small few same =
+    decimal_injective m n small few
+    (append_cancel_right (decimal m) (decimal n) (codes ".ppm")
+    (append_cancel_left (codes "shot-") (decimal m ++ codes ".ppm") (decimal n ++ codes ".ppm") same))
+
+-- none of these files has this name
+abbrev pub OtherThan : List ℕ → List File → Type 0
+OtherThan name files = AllByRecursion (λ f. name ≢ f.0) files
+
+-- no two of these files have one name
+abbrev pub Apart : List File → Type 0
+Apart [] = Unit {0}
+Apart (f ∷ files) = OtherThan f.0 files × Apart files
+
+other_front : (name : List ℕ) (front back : List File) → OtherThan name (front ++ back) → OtherThan name front
+other_front name [] back other = tt
+other_front name (f ∷ front) back other = (other.0, other_front name front back other.1)
+
+pub apart_front : (front back : List File) → Apart (front ++ back) → Apart front
+apart_front [] back apart = tt
+apart_front (f ∷ front) back apart = (other_front f.0 front back apart.0, apart_front front back apart.1)
+
+-- ---- as the store says it
+
+other_name : (a name : List ℕ) → a ≢ name → bytes_eq a name ≡ false
+other_name a name other = by (bytes_eq a name) refl
+  where
+    by : (b : Bool) → bytes_eq a name ≡ b → b ≡ false
+    by true same = absurd (other ((bytes_eq-Decides a name).0 same))
+    by false same = refl
+
+absent : (name : List ℕ) (files : List File) → OtherThan name files → is_none (file_at name files) ≡ true
+absent name [] other = refl
+absent name (f ∷ files) other = rw (other_name f.0 name (λ same. other.0 (sym same))) (absent name files other.1)
+
+pub differ : (files : List File) → Apart files → HasDifferentNames files
+differ [] apart = refl
+differ (f ∷ files) apart = rw (absent f.0 files apart.0) (differ files apart.1)
+
+other_than : (name : List ℕ) (files : List File) → is_none (file_at name files) ≡ true → OtherThan name files
+other_than name [] none = tt
+other_than name (f ∷ files) none = by (bytes_eq f.0 name) refl none (λ h. other_than name files h)
+  where
+    by : (b : Bool) → bytes_eq f.0 name ≡ b → is_none (cond b (Some f.1) (file_at name files)) ≡ true
+        → (is_none (file_at name files) ≡ true → OtherThan name files) → OtherThan name (f ∷ files)
+    by true same none rest = absurd cc
+    by false same none rest = (
+      (λ is. let equal : bytes_eq f.0 name ≡ true =
+          (bytes_eq-Decides f.0 name).1 (sym is) in cc),
+      rest none,
+    )
+
+pub apart_of : (files : List File) → HasDifferentNames files → Apart files
+apart_of [] different = tt
+apart_of (f ∷ files) different =
+    let parts = and_parts (is_none (file_at f.0 files)) (have_different_names files) different in
+    (other_than f.0 files parts.0, apart_of files parts.1)
+
+-- ---- once they are put
+
+pub stays : (files : List File) (name : List ℕ) (old new : List File) → PutEach files old new → OtherThan name files
+    → file_at name new ≡ file_at name old
+stays [] name old new puts other = ap (λ (fs : List File). file_at name fs) puts
+stays (f ∷ files) name old new (mid, p, puts) other = stays files name mid new puts other.1 ∙ p.others name other.0
+
+-- ---- names by their first letter
+
+-- each name begins with this letter
+abbrev pub Begin : ℕ → List File → Type 0
+Begin letter files = AllByRecursion (λ f. slice_index f.0 0 ≡ letter) files
+
+-- none does
+abbrev pub BeginOther : ℕ → List File → Type 0
+BeginOther letter files = AllByRecursion (λ f. slice_index f.0 0 ≢ letter) files
+
+pub begin_other : (letter other : ℕ) (files : List File) → Begin letter files → (letter ≡ other → ⊥)
+    → BeginOther other files
+begin_other letter other [] begin apart = tt
+begin_other letter other (f ∷ files) begin apart =
+    ((λ is. apart (sym begin.0 ∙ is)), begin_other letter other files begin.1 apart)
+
+pub other_letter : (name : List ℕ) (letter : ℕ) (files : List File) → slice_index name 0 ≡ letter
+    → BeginOther letter files → OtherThan name files
+other_letter name letter [] is other = tt
+other_letter name letter (f ∷ files) is other = (
+  (λ same. other.0 (ap (λ (n : List ℕ). slice_index n 0) (sym same) ∙ is)),
+  other_letter name letter files is other.1,
+)
+
+pub other_both : (name : List ℕ) (xs ys : List File) → OtherThan name xs → OtherThan name ys → OtherThan name (xs ++ ys)
+other_both name xs ys a b = all_append (λ f. name ≢ f.0) xs ys a b
+
+pub apart_by : (letter : ℕ) (xs ys : List File) → Begin letter xs → BeginOther letter ys → Apart xs → Apart ys
+    → Apart (xs ++ ys)
+apart_by letter [] ys begin other apart more = more
+apart_by letter (x ∷ xs) ys begin other apart more = (
+  other_both x.0 xs ys apart.0 (other_letter x.0 letter ys begin.0 other),
+  apart_by letter xs ys begin.1 other apart.1 more,
+)
+
+-- ---- the files of shots
+
+-- the files have the names of shots that are numbered on from this one
+abbrev pub Numbered : ℕ → List File → Type 0
+Numbered first [] = Unit {0}
+Numbered first (f ∷ files) = (f.0 ≡ shot_name first) × Numbered (first + 1) files
+
+-- so it is with those of a legal journal
+pub numbered : (P : List Entry → List ℕ → Type 0) (s : State) (taken : ℕ) (before es : List Entry) (files : List File)
+    → LegalFrom s taken es → ShotsBehind P before es files → Numbered (taken + 1) files × (length files ≡ shots es)
+numbered P s taken before [] files legal is =
+    (subst (λ (fs : List File). Numbered (taken + 1) fs) (sym is) tt, ap (λ (fs : List File). length fs) is)
+numbered P s taken before (entry.Call sid call r ∷ es) files legal are =
+    numbered P (after s (entry.Call sid call r)) taken (before ++ entry.Call sid call r ∷ []) es files legal.1 are
+numbered P s taken before (entry.Input dev routed ∷ es) files legal are =
+    numbered P (after s (entry.Input dev routed)) taken (before ++ entry.Input dev routed ∷ []) es files legal.1 are
+numbered P s taken before (entry.Shot number ∷ es) files legal (bytes, more, is, picture, rest) =
+    let others = numbered P s (taken + 1) (before ++ entry.Shot number ∷ []) es more legal.1 rest in (
+      subst (λ (fs : List File). Numbered (taken + 1) fs) (sym is) (ap shot_name legal.0, others.0),
+      ap (λ (fs : List File). length fs) is ∙ ap (λ (n : ℕ). suc n) others.1,
+    )
+numbered P s taken before (entry.Final ∷ es) files legal are =
+    let none : files ≡ [] = subst (λ (rest : List Entry). ShotsBehind P (before ++ entry.Final ∷ []) rest files) legal
+    are in (
+      subst (λ (fs : List File). Numbered (taken + 1) fs) (sym none) tt,
+      ap (λ (fs : List File). length fs) none
+          ∙ sym (ap (λ (rest : List Entry). shots rest) legal),
+    )
+
+-- the shots behind one have other names
+pub later_shots : (n first : ℕ) (files : List File) → n < first → first + length files < 2 ^ 64 → Numbered first files
+    → OtherThan (shot_name n) files
+later_shots n first [] less few is = tt
+later_shots n first (f ∷ files) less few is = (
+  λ same. let e : n ≡ first = shots_apart n first (omega arith) (omega arith) (same ∙ is.0) in omega arith,
+  later_shots n (first + 1) files (omega arith) (omega arith) is.1,
+)
+
+pub shots_apart_all : (first : ℕ) (files : List File) → first + length files < 2 ^ 64 → Numbered first files
+    → Apart files
+shots_apart_all first [] few is = tt
+shots_apart_all first (f ∷ files) few is = (
+  subst (λ (name : List ℕ). OtherThan name files) (sym is.0)
+      (later_shots first (first + 1) files (omega arith) (omega arith) is.1),
+  shots_apart_all (first + 1) files (omega arith) is.1,
+)
+
+-- their names begin with an s
+pub shots_begin : (first : ℕ) (files : List File) → Numbered first files → Begin 115 files
+shots_begin first [] is = tt
+shots_begin first (f ∷ files) is = (ap (λ (name : List ℕ). slice_index name 0) is.0, shots_begin (first + 1) files is.1)
+
+-- the names of events begin with an e
+pub events_begin : (config : Configuration) (journal : List Entry) (first count : ℕ)
+    → Begin 101 (map (events_file config journal) (range_with_len first count))
+events_begin config journal first zero = tt
+events_begin config journal first (suc count) = (refl, events_begin config journal (first + 1) count)
+
+-- and that of the journal with a j
+pub texts_other : (config : Configuration) (journal : List Entry) (letter : ℕ) → ◌≢◌ {A = ℕ} 101 letter
+    → ◌≢◌ {A = ℕ} 106 letter → BeginOther letter (events_files config journal ++ journal_file journal ∷ [])
+texts_other config journal letter e j =
+    all_append (λ f. slice_index f.0 0 ≢ letter) (events_files config journal) (journal_file journal ∷ [])
+    (begin_other 101 letter (events_files config journal) (events_begin config journal 0 (length config.clients)) e)
+    (j, tt)

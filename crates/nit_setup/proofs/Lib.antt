@@ -1,0 +1,12 @@
+pub mod ClipScripts
+pub mod ForCallers
+pub mod JudgementLemmas
+pub mod Misfits
+pub mod NestedJudgements
+pub mod NumberWords
+pub mod OuterScripts
+pub mod RunnableSetups
+pub mod ScriptsRead
+pub mod SetupJudgements
+pub mod Basics
+pub mod Lemmas

@@ -1,0 +1,48 @@
+use Rattle.std.proofs.Common.{◌≡◌, ◌∙◌, ℕ, List, Option, None, length, map, ap, subst, inl}
+use Rattle.nit_setup.proofs.Lemmas.{Configuration, IfSome, IsInputScript, Member, SoFar}
+use Rattle.nit_setup.proofs.Lemmas.{StoppedAmong, bytes_of, run_runnable, script_names, wanted_by}
+use Rattle.nit_setup.proofs.Lemmas.{with_asked, wrong_input}
+use Rattle.nit_setup.proofs.scripts.read_scripts.Goals as goal
+
+pub returns-in-Err-clause-read : goal.returns-in-Err-clause-read
+returns-in-Err-clause-read g c =
+    let names : map (λ m. m.script) c.deref.result.now ≡ script_names c.args.config.now =
+    ap (λ (ms : List Member). map (λ m. m.script) ms) c.deref.ensures.value ∙ ap script_names c.config.view_is in
+    inl (subst (λ (ns : List (List ℕ)). StoppedAmong (g.S.Store.shown c.args.store.now) ns
+    (g.S.Store.shown c.load_scripts.new.store) c.in-Err.stop) names c.in-Err.ensures)
+
+pub returns-in-Ok-load_input-clause-read : goal.returns-in-Ok-load_input-clause-read
+returns-in-Ok-load_input-clause-read g c =
+    let old = g.S.Store.shown c.args.store.now in
+    let mid = g.S.Store.shown c.load_scripts.new.store in
+    let config = c.args.config.now in
+    let scripts = c.in-Ok.clients.items in
+    let lines = c.in-Ok-load_input.input in
+    let loaded = c.in-Ok-load_input.ensures.loaded in
+    let names : map (λ m. m.script) c.deref.result.now ≡ script_names config =
+    ap (λ (ms : List Member). map (λ m. m.script) ms) c.deref.ensures.value ∙ ap script_names c.config.view_is in
+    let wanted : c.wanted_by.result ≡ wanted_by scripts = c.wanted_by.ensures ∙ ap wanted_by c.deref-2.ensures.value in
+    let input : c.as_str.result.now ≡ config.input = c.as_str.ensures
+    ∙ ap (λ (k : Configuration). k.input) c.config.view_is in
+    record {
+      between = mid;
+      clients = subst (λ (ns : List (List ℕ)). SoFar old ns scripts mid) names c.in-Ok.ensures;
+      asked = loaded.0 ∙ ap (with_asked mid) input;
+      valid = subst (λ (w : Option ℕ). IfSome mid.files (λ files. IsInputScript w (bytes_of config.input files) lines))
+          wanted
+          (subst (λ (n : List ℕ). IfSome mid.files (λ files. IsInputScript c.wanted_by.result (bytes_of n files) lines))
+          input loaded.1);
+    }
+
+pub returns-in-Ok-load_input-clause-runnable : goal.returns-in-Ok-load_input-clause-runnable
+returns-in-Ok-load_input-clause-runnable g c = λ beside.
+    let config = c.args.config.now in
+    let scripts = c.in-Ok.clients.items in
+    let lines = c.in-Ok-load_input.input in
+    let names : map (λ m. m.script) c.deref.result.now ≡ script_names config =
+    ap (λ (ms : List Member). map (λ m. m.script) ms) c.deref.ensures.value ∙ ap script_names c.config.view_is in
+    let wanted : c.wanted_by.result ≡ wanted_by scripts = c.wanted_by.ensures ∙ ap wanted_by c.deref-2.ensures.value in
+    run_runnable beside config scripts lines c.requires (c.in-Ok.ensures.count
+    ∙ ap (λ (ns : List (List ℕ)). length ns) names) c.in-Ok.ensures.lines c.in-Ok.ensures.phases
+    c.in-Ok-load_input.ensures.lines
+    (subst (λ (w : Option ℕ). wrong_input w lines ≡ None) wanted c.in-Ok-load_input.ensures.right)

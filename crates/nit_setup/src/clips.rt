@@ -1,0 +1,79 @@
+//! Reading clip scripts, and judging them.
+
+ghost use Rattle.std.specs.Prelude.{map, ◌≡◌, None, IfOk, string_bytes};
+ghost use Rattle.nit_setup.specs.Terms.{FileLoaded, IsClipFault, IsClipScript, LoadedClips};
+ghost use Rattle.nit_setup.specs.Terms.{clip_name, wrong_clip};
+
+use crate::load::load_lines;
+use crate::stop::{End, Name, Stop};
+use nit_clip::ClipScript;
+use nit_config::Member;
+use nit_rect::NoMemory;
+use nit_store::Store;
+use std::alloc::Global;
+
+/// Reads the clip scripts of these clients in order, and judges each as it is read: it is to have
+/// so many phases, where a number is given.
+pub fn load_clips<'a, S: Store>(
+    alloc: Global,
+    store: &mut S,
+    clients: &'a [Member],
+    wanted: Option<usize>,
+) -> Result<Vec<ClipScript>, Stop<'a>>
+    ensures { LoadedClips wanted (S.shown store.old) (map (λ m. m.script) clients.entry.now)
+        (S.shown store.new) result }
+{
+    let mut clips = Vec::new(alloc);
+    for client in clients {
+        let script = client.script.as_str();
+        let clip = match load_clip(alloc, store, script, wanted) {
+            Ok(clip) => clip,
+            Err(stop) => return Err(stop),
+        };
+        if clips.reserve(1).is_err() {
+            return Err(at_clips_of(End::NoMemory, script));
+        }
+        clips.push_reserved(clip);
+    }
+    Ok(clips)
+}
+
+/// Reads the clip script of the client with the script of this name, and judges it: it is to have
+/// so many phases, where a number is given.
+fn load_clip<'a, S: Store>(
+    alloc: Global,
+    store: &mut S,
+    script: &'a str,
+    wanted: Option<usize>,
+) -> Result<ClipScript, Stop<'a>>
+    ensures loaded { FileLoaded (IsClipScript wanted) (IsClipFault wanted) (S.shown store.old)
+        (clip_name script.entry.now) (S.shown store.new) result }
+    ensures right { IfOk result (λ lines. wrong_clip wanted lines ≡ None) }
+{
+    let Ok(name) = clip_name(alloc, script) else {
+        return Err(at_clips_of(End::NoMemory, script));
+    };
+    match load_lines(alloc, store, name.as_str(), wanted) {
+        Ok(lines) => Ok(ClipScript { lines }),
+        Err(end) => Err(at_clips_of(end, script)),
+    }
+}
+
+/// The work ended at the clip script of the client with the script of this name.
+fn at_clips_of(end: End, script: &str) -> Stop<'_>
+    ensures { (result.end ≡ end) × (result.name ≡ Name.ClipsOf script.entry) }
+{
+    Stop {
+        end,
+        name: Name::ClipsOf(script),
+    }
+}
+
+/// The name of the clip script of the client with the script of this name.
+fn clip_name(alloc: Global, script: &str) -> Result<String, NoMemory>
+    ensures { IfOk result (λ name. string_bytes name ≡ clip_name script.now) }
+{
+    let mut name = String::from_str(alloc, script)?;
+    name.push_str(".clip")?;
+    Ok(name)
+}

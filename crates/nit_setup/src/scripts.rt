@@ -1,0 +1,68 @@
+//! Reading the scripts of a configuration.
+
+ghost use Rattle.std.specs.Prelude.{true, Bool, IfOk, map, ◌≡◌};
+ghost use Rattle.nit_setup.specs.Terms.{IsConfiguration, IsRunnable, LoadedAll, ReadScripts};
+ghost use Rattle.nit_setup.specs.Terms.{phases, setup_of, wanted_by};
+
+use crate::load::{load_client, load_input};
+use crate::stop::{End, Stop, at};
+use nit_config::{Config, Member};
+use nit_run::Scripts;
+use nit_script::{Client, phases};
+use nit_store::Store;
+use std::alloc::Global;
+
+/// Reads the scripts of a configuration, and judges each as it is read.
+pub fn read_scripts<'a, S: Store>(
+    alloc: Global,
+    store: &mut S,
+    config: &'a Config,
+) -> Result<Scripts, Stop<'a>>
+    requires { IsConfiguration config.now }
+    ensures read { ReadScripts config.entry.now (S.shown store.old) (S.shown store.new) result }
+    ensures runnable { IfOk result (λ s. (beside : Bool)
+        → IsRunnable (setup_of config.entry.now s.clients.items s.input true beside)) }
+{
+    let clients = match load_scripts(alloc, store, &config.clients) {
+        Ok(clients) => clients,
+        Err(stop) => return Err(stop),
+    };
+    match load_input(alloc, store, config.input.as_str(), wanted_by(&clients)) {
+        Ok(input) => Ok(Scripts { clients, input }),
+        Err(stop) => Err(stop),
+    }
+}
+
+// ---- the scripts of all clients
+
+/// Reads the scripts of these clients in order, and judges each as it is read.
+pub fn load_scripts<'a, S: Store>(
+    alloc: Global,
+    store: &mut S,
+    clients: &'a [Member],
+) -> Result<Vec<Client>, Stop<'a>>
+    ensures { LoadedAll (S.shown store.old) (map (λ m. m.script) clients.entry.now)
+        (S.shown store.new) result }
+{
+    let mut scripts = Vec::new(alloc);
+    for client in clients {
+        let name = client.script.as_str();
+        let script = match load_client(alloc, store, name, wanted_by(&scripts)) {
+            Ok(script) => script,
+            Err(stop) => return Err(stop),
+        };
+        if scripts.reserve(1).is_err() {
+            return Err(at(End::NoMemory, name));
+        }
+        scripts.push_reserved(script);
+    }
+    Ok(scripts)
+}
+
+/// How many phases the scripts behind these are to have: as many as the first.
+pub fn wanted_by(scripts: &[Client]) -> Option<usize>
+    ensures { result ≡ wanted_by scripts.now }
+{
+    let first = scripts.first()?;
+    Some(phases(first.lines()))
+}

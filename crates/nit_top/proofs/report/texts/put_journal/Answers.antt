@@ -1,5 +1,0 @@
-use Rattle.nit_top.proofs.Lemmas.{journal_text}
-use Rattle.nit_top.proofs.report.texts.put_journal.Goals as goal
-
-pub returns : goal.returns
-returns g c = c.put_made.ensures (journal_text c.args.journal.now) c.journal_text-text.ensures.text

@@ -1,4 +1,0 @@
-use Rattle.nit_top.proofs.run.beside.run_beside.Given as goal
-
-abbrev pub ghosts-run_named : goal.ghosts-run_named
-ghosts-run_named g a = record { parts = a.opened.room.parts }

@@ -1,5 +1,0 @@
-use Rattle.nit_top.proofs.Lemmas.{sym, ◌∙◌}
-use Rattle.nit_top.proofs.run.capture.film_named.Goals as goal
-
-pub returns-clause-same_store : goal.returns-clause-same_store
-returns-clause-same_store g c = c.run_beside-ran.new.store.same ∙ sym c.requires.name

@@ -1,4 +1,0 @@
-use Rattle.nit_top.proofs.run.clips.run_with_clips.Given as goal
-
-abbrev pub ghosts-run_clips_named : goal.ghosts-run_clips_named
-ghosts-run_clips_named g a = record { parts = a.actors.room.parts }

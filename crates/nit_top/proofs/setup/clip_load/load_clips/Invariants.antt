@@ -1,6 +1,0 @@
-use Rattle.nit_top.proofs.Lemmas.{AreClipsRead, map, take}
-use Rattle.nit_top.proofs.setup.clip_load.load_clips.Given as goal
-
-abbrev pub invariant-loop-client : goal.invariant-loop-client
-invariant-loop-client g l = AreClipsRead l.wanted (g.S.Store.shown l.initial.store)
-    (map (λ m. m.script) (take l.client-index l.clients)) l.clips.items (g.S.Store.shown l.store)

@@ -1,5 +1,0 @@
-use Rattle.nit_top.proofs.Lemmas.{length}
-use Rattle.nit_top.proofs.setup.pairs.+pair_up.Given as goal
-
-abbrev pub decreases-pair_up : goal.decreases-pair_up
-decreases-pair_up l = length l.passes.now.items

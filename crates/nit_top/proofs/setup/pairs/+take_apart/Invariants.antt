@@ -1,5 +1,0 @@
-use Rattle.nit_top.proofs.Lemmas.{length}
-use Rattle.nit_top.proofs.setup.pairs.+take_apart.Given as goal
-
-abbrev pub decreases-take_apart : goal.decreases-take_apart
-decreases-take_apart l = length l.pairs.now.items

@@ -1,6 +1,0 @@
-use Rattle.nit_top.proofs.Lemmas.{SoFar, map, take}
-use Rattle.nit_top.proofs.setup.scripts.load_scripts.Given as goal
-
-abbrev pub invariant-loop-client : goal.invariant-loop-client
-invariant-loop-client g l = SoFar (g.S.Store.shown l.initial.store)
-    (map (λ m. m.script) (take l.client-index l.clients)) l.scripts.items (g.S.Store.shown l.store)

@@ -1,4 +1,0 @@
-//! What the words of the command line ask for.
-
-pub mod region;
-pub mod words;
