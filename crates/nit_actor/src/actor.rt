@@ -78,6 +78,7 @@ fn wait_for_stroke<'a, N: Name, R: Wait>(
     pass: &mut Pass<'a>,
     line: &Line,
 )
+    requires belongs { Belongs N.parts pass.old }
     ensures pass { pass.new ≡ record pass.old { met = pass.new.met } }
     ensures stroke { (stroke : Stroke) → line.now ≡ lines.Stroke stroke → HasMetPhase pass.new }
 {

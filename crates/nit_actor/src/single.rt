@@ -1,8 +1,8 @@
 //! A run of one client, without a lock and on the calling thread.
 
 ghost use Rattle.std.specs.Prelude.{◌≡◌, ◌+◌, ◌++◌, Some, drop, length, map, slice_get};
-ghost use Rattle.nit_actor.specs.Terms.{Calls, IsAtPhase, IsAtStroke, IsOpen, StepTogether};
-ghost use Rattle.nit_actor.specs.Terms.{action_of, actions_to_be, calls_in, role_of};
+ghost use Rattle.nit_actor.specs.Terms.{Belongs, Calls, IsAtPhase, IsAtStroke, IsOpen};
+ghost use Rattle.nit_actor.specs.Terms.{StepTogether, action_of, actions_to_be, calls_in, role_of};
 ghost use Rattle.nit_actor.specs.Terms.{sight_after_line, user_role_of};
 
 use nit_hall::{Pass, Room, UserPass};
@@ -55,6 +55,7 @@ fn do_line<'a>(room: &mut Room<'a>, pass: &mut Pass<'a>, user: &mut UserPass<'a>
 
 /// The client makes its next line, which is a stroke, in the phase that is served.
 fn stroke<'a>(room: &Room<'a>, pass: &mut Pass<'a>)
+    requires belongs { Belongs room.now.parts pass.old }
     requires next { IsAtStroke pass.old }
     requires ready { pass.old.phase ≡ room.now.phase }
     ensures { pass.new ≡ record pass.old {
