@@ -13,9 +13,9 @@ pub use Rattle.nit_actor.specs.Terms.{IsNearPicture, IsNonDecreasing, IsOpen, Is
 pub use Rattle.nit_actor.specs.Terms.{IsPairRoleIn, IsPlanOf, IsPlanned, IsRawOf, IsRecorded}
 pub use Rattle.nit_actor.specs.Terms.{IsRoleIn, IsRoundsRun, IsSetUp, IsShowing, IsTrue, IsUnderWay}
 pub use Rattle.nit_actor.specs.Terms.{IsUserRecorded, IsUtf8, IsWhole, IsWordOfSource, LegalFrom}
-pub use Rattle.nit_actor.specs.Terms.{Line, LineTurn, Motion, NoneHas, NoneIsBefore, OnePairRole}
+pub use Rattle.nit_actor.specs.Terms.{Line, LineTurn, Motion, NoneHas, NoneIsBefore}
 pub use Rattle.nit_actor.specs.Terms.{OpeningParts, Painted, Painting, Pair, PairRole, PassModel}
-pub use Rattle.nit_actor.specs.Terms.{PassRole, PixelSource, Place, Places, PlanModel, Point}
+pub use Rattle.nit_actor.specs.Terms.{PixelSource, Place, Places, PlanModel, Point}
 pub use Rattle.nit_actor.specs.Terms.{PutState, PutsAll, PutsNext, PutsShotsBehind, Refresh, Reply}
 pub use Rattle.nit_actor.specs.Terms.{Role, RoomModel, Routed, SceneModel, Shoots, ShotFrame}
 pub use Rattle.nit_actor.specs.Terms.{ShotsBehind, ShowsEach, ShowsLine, Sight, Size, Stale}

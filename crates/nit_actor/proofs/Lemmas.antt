@@ -22,9 +22,8 @@ pub use Rattle.nit_actor.proofs.EntryEffects.{input_moved, served_moved, shot_mo
 pub use Rattle.nit_actor.proofs.FirstPlaces.{kept_first, left_first_of}
 pub use Rattle.nit_actor.proofs.IdleUserLemmas.{at_call, at_line, idle_deeds, nothing_recorded}
 pub use Rattle.nit_actor.proofs.IdleUserLemmas.{phase_ended, step_on, user_at_phase, user_ended}
-pub use Rattle.nit_actor.proofs.LeastPhases.{all_ended, client_ended, left_in_all, left_more}
-pub use Rattle.nit_actor.proofs.LeastPhases.{none_before, pair_ended, pairs_all_ended, zip_get}
-pub use Rattle.nit_actor.proofs.LeastPhases.{zip_length}
+pub use Rattle.nit_actor.proofs.LeastPhases.{all_ended, clients_done, left_in_all, left_more}
+pub use Rattle.nit_actor.proofs.LeastPhases.{none_before, pairs_done}
 pub use Rattle.nit_actor.proofs.LineOnGlass.{after_stroke, fits, painted_to, step_there}
 pub use Rattle.nit_actor.proofs.LineRecords.{behind_still, call_counted, call_moved, call_recorded}
 pub use Rattle.nit_actor.proofs.LineRecords.{glasses_still, is_glass, none_moved, none_recorded}
@@ -34,16 +33,13 @@ pub use Rattle.nit_actor.proofs.Names.{name_is_text}
 pub use Rattle.nit_actor.proofs.NextActor.{all_done, client_turn, step_ends, to_actor, to_phase}
 pub use Rattle.nit_actor.proofs.NextActor.{to_round, user_turn}
 pub use Rattle.nit_actor.proofs.OneClient.{by_rounds_alone}
-pub use Rattle.nit_actor.proofs.PairLists.{all_pairs, pairs_back, pairs_carried, pairs_fit}
-pub use Rattle.nit_actor.proofs.PairLists.{pairs_set, role_of_pair, roles_again}
-pub use Rattle.nit_actor.proofs.PhaseCounts.{same_set, zip_at, zip_long}
+pub use Rattle.nit_actor.proofs.Pairs.{pairs_again, pairs_fit}
 pub use Rattle.nit_actor.proofs.PictureLemmas.{as_many_files, file_of_a_shot, puts_also, puts_none}
 pub use Rattle.nit_actor.proofs.PictureLemmas.{puts_quietly, puts_shot, quiet_device, quiet_phase}
 pub use Rattle.nit_actor.proofs.PlaceLemmas.{client_end, client_inside, client_long, user_end}
 pub use Rattle.nit_actor.proofs.PlaceLemmas.{user_inside, user_long}
 pub use Rattle.nit_actor.proofs.QuietGlasses.{same_glasses, same_own, same_seen}
-pub use Rattle.nit_actor.proofs.RoleLemmas.{fit_again, roles_back, roles_carried, roles_fit}
-pub use Rattle.nit_actor.proofs.RoleLemmas.{roles_set}
+pub use Rattle.nit_actor.proofs.RoleLemmas.{all_again, roles_fit, same_set, user_again}
 pub use Rattle.nit_actor.proofs.RunStateLemmas.{after_client, after_user, begun, clients_move}
 pub use Rattle.nit_actor.proofs.RunStateLemmas.{users_move}
 pub use Rattle.nit_actor.proofs.ShotFiles.{drawn_counted, drawn_each, shots_drawn}

@@ -1,5 +1,5 @@
 -- The words of the library and of the crates below that are used here, and the crate's plain types.
-pub use Rattle.nit_actor.specs.declared.clip_beside.Pair.{Pair}
+pub use Rattle.nit_actor.specs.declared.pair.Pair.{Pair}
 pub use Rattle.nit_actor.specs.declared.desk.PictureName.{PictureName}
 pub use Rattle.nit_actor.specs.declared.places.Place.{Place}
 pub use Rattle.nit_actor.specs.declared.places.Places.{Places}

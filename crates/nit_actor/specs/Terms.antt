@@ -41,8 +41,8 @@ pub use Rattle.nit_actor.specs.Drawing.{drawn_shot, entry_of, frame_of, opening_
 pub use Rattle.nit_actor.specs.Drawing.{shot_frames_of, shots_after, shots_of, state_after}
 pub use Rattle.nit_actor.specs.Drawing.{tables_after, word_after_entry, word_from}
 pub use Rattle.nit_actor.specs.IdleUser.{StepTogether, actions_to_be, idle_user}
-pub use Rattle.nit_actor.specs.PhasesLeft.{IsLeastOf, NoneIsBefore, lesser, pair_phase_left}
-pub use Rattle.nit_actor.specs.PhasesLeft.{phase_left, phases_left, user_phase_left}
+pub use Rattle.nit_actor.specs.PhasesLeft.{IsLeastOf, NoneIsBefore, PairSteps, lesser}
+pub use Rattle.nit_actor.specs.PhasesLeft.{pair_phase_left, phase_left, phases_left, user_phase_left}
 pub use Rattle.nit_actor.specs.Pictures.{AreNearShots, GrowsQuietly, IsNearPicture, PutsShotsBehind}
 pub use Rattle.nit_actor.specs.Places.{ArePlaces, HasTurn, IsAtTurn, IsFirstActive, IsNextTurn}
 pub use Rattle.nit_actor.specs.Places.{NoneHas, StandsAt, is_active, left_at, left_from, lefts}
@@ -66,5 +66,3 @@ pub use Rattle.nit_actor.specs.Turn.{ActorLine, ByClient, ByUser, LineTurn, acto
 pub use Rattle.nit_actor.specs.Turn.{ends_phase, turns_from, turns_of}
 pub use Rattle.nit_actor.specs.TurnActions.{AreRoundsOf, actions_of_line, actions_of_turns}
 pub use Rattle.nit_actor.specs.TurnActions.{input_by_user, input_lines_of, line_by, lines_of}
-pub use Rattle.nit_actor.specs.declared.beside.PassRole.{PassRole}
-pub use Rattle.nit_actor.specs.declared.clip_beside.OnePairRole.{OnePairRole}

@@ -17,13 +17,13 @@ use std::{mem, thread};
 pub(crate) trait Crew<P> {
     ghost use Rattle.std.specs.Prelude.{◌≡◌};
 
-    /// What no run changes of a pass. No value of it is made.
-    type Role;
+    /// What no run changes of a pass.
+    ghost Role: { Type 0 };
 
-    ghost role: { P → Self.Role };
+    ghost role: { P → Role };
 
     /// A pass of this role may be run.
-    ghost fits: { Self.Role → Type 0 };
+    ghost fits: { Role → Type 0 };
 
     /// Nothing of the pass is left to run.
     ghost ended: { P → Type 0 };
@@ -50,6 +50,12 @@ pub(crate) trait Own<P, W: Crew<P>> {
         ensures same { map W.role passes.new ≡ map W.role passes.old }
         ensures done { All W.ended passes.new }
         ensures kept { kept self result };
+
+    /// Behind one run there may be another, and what each of the two keeps, both together keep.
+    fn kept_twice()
+        ensures ready { (own after' : Self) → ready own → kept own after' → ready after' }
+        ensures kept { (own between after' : Self)
+            → kept own between → kept between after' → kept own after' };
 }
 
 /// The pass that comes back has the role of the one that went.
@@ -219,8 +225,9 @@ fn run_all<P: Send + Drop, U: Own<P, W> + Drop, W: Crew<P> + Sync, R: Threads + 
     )
 }
 
-/// The same with passes that are lent, and what is the caller's own alone as the result: a store
-/// that it lends keeps its last value only so.
+/// Runs each pass on a thread of its own, and then what the threads left over on this one. The
+/// passes are lent, and the result is what is the caller's own alone: a store that it lends keeps
+/// its last value only so.
 pub(crate) fn run_crew<
     P: Send + Drop,
     U: Own<P, W> + Drop,
@@ -232,11 +239,13 @@ pub(crate) fn run_crew<
     requires ready { U.ready own }
     requires flags { vec_len passes.old ≤ length unstarted.raised.now }
     requires room { vec_len passes.old ≤ vec_capacity unstarted.waiting }
-    ensures passes { map W.role passes.new.items ≡ map W.role passes.old.items }
+    ensures same { map W.role passes.new.items ≡ map W.role passes.old.items }
+    ensures done { All W.ended passes.new.items }
     ensures kept { U.kept own result }
 {
     let none = Vec::new(*passes.allocator());
     let (ran, own) = run_all(rt, crew, unstarted, mem::replace(passes, none), own);
     *passes = ran;
-    own
+    U::kept_twice();
+    own.run_mine(rt, crew, passes)
 }
