@@ -10,18 +10,18 @@ use nit_hall::{Hall, Name, Pass};
 use nit_script::Line;
 use std::sync::Wait;
 
-/// A client as its thread steps it, alone or with its clips.
-pub(crate) trait Actor<'a> {
+/// A client as one thread steps it, alone or with its clips. What it shares with all actors of its
+/// run is a `W`.
+pub(crate) trait Actor<W> {
     ghost use Rattle.std.specs.Prelude.{◌≡◌, ℕ, Option, None, IsSome};
-    ghost use Rattle.nit_hall.specs.OpeningParts.{OpeningParts};
 
     /// Who the actor is and what it has to do. No step changes this.
     ghost Role: { Type 0 };
 
     ghost role: { Self → Role };
 
-    /// An actor of this role is of this opening.
-    ghost fits: { OpeningParts → Role → Type 0 };
+    /// An actor of this role is one of the run.
+    ghost fits: { Role → Type 0 };
 
     /// The phase that it is in, or `None` where it is done.
     ghost left: { Self → Option ℕ };
@@ -34,21 +34,21 @@ pub(crate) trait Actor<'a> {
         ensures { result ≡ left self.now };
 
     /// Does what is next. It may wait until the room serves the actor's phase.
-    fn step<N: Name, K: Checkpoint, R: Wait>(&mut self, rt: &R, work: &Work<'_, 'a, N, K>)
-        requires fits { fits N.parts (role self.old) }
+    fn step<R: Wait>(&mut self, rt: &R, work: &W)
+        requires fits { fits (role self.old) }
         requires left { IsSome (left self.old) }
         ensures same { role self.new ≡ role self.old }
         ensures steps { steps self.old self.new };
 
     /// Does all that is left.
-    fn run<N: Name, K: Checkpoint, R: Wait>(&mut self, rt: &R, work: &Work<'_, 'a, N, K>)
-        requires fits { fits N.parts (role self.old) }
+    fn run<R: Wait>(&mut self, rt: &R, work: &W)
+        requires fits { fits (role self.old) }
         ensures same { role self.new ≡ role self.old }
         ensures done { left self.new ≡ None };
 }
 
 /// A client alone: each step does a line.
-impl<'a> Actor<'a> for Pass<'a> {
+impl<'h, 'a, N: Name, K: Checkpoint> Actor<Work<'h, 'a, N, K>> for Pass<'a> {
     ghost use Rattle.std.specs.Prelude.{◌≡◌, ◌+◌};
     ghost use Rattle.nit_actor.specs.Role.{Role, IsRoleIn, role_of};
     ghost use Rattle.nit_actor.specs.PhasesLeft.{phase_left};
@@ -57,7 +57,7 @@ impl<'a> Actor<'a> for Pass<'a> {
 
     ghost role = { role_of };
 
-    ghost fits = { IsRoleIn };
+    ghost fits = { IsRoleIn N.parts };
 
     ghost left = { phase_left };
 
@@ -71,14 +71,14 @@ impl<'a> Actor<'a> for Pass<'a> {
         }
     }
 
-    fn step<N: Name, K: Checkpoint, R: Wait>(&mut self, rt: &R, work: &Work<'_, 'a, N, K>) {
+    fn step<R: Wait>(&mut self, rt: &R, work: &Work<'h, 'a, N, K>) {
         if let Some(line) = self.next() {
             do_line(rt, work, self, &line);
         }
     }
 
     #[tactic(auto, using(crate::proofs::LeastPhases::client_none))]
-    fn run<N: Name, K: Checkpoint, R: Wait>(&mut self, rt: &R, work: &Work<'_, 'a, N, K>) {
+    fn run<R: Wait>(&mut self, rt: &R, work: &Work<'h, 'a, N, K>) {
         run_lines(rt, work, self);
     }
 }

@@ -9,7 +9,7 @@ ghost use Rattle.nit_actor.specs.ClipRole.{IsPairIn, pair_role_of};
 ghost use Rattle.nit_actor.specs.Pictures.{PutsShotsBehind};
 
 use crate::actor::Actor;
-use crate::crew::{Crew, Own, Unstarted, run_crew};
+use crate::crew::{Own, Unstarted, run_crew};
 use crate::desk::Desk;
 use crate::gate::{Checkpoint, Gate};
 use crate::mine::run_turns;
@@ -28,24 +28,8 @@ pub struct Mine<'a, 's, S> {
     pub desk: Desk<'s, S>,
 }
 
-impl<'h, 'a, A: Actor<'a>, N: Name, K: Checkpoint> Crew<A> for Work<'h, 'a, N, K> {
-    ghost use Rattle.std.specs.Prelude.{◌≡◌, None};
-
-    ghost Role = { A.Role };
-
-    ghost role = { A.role };
-
-    ghost fits = { A.fits N.parts };
-
-    ghost ended = { λ a. A.left a ≡ None };
-
-    fn run<R: Wait>(&self, rt: &R, actor: &mut A) {
-        actor.run(rt, self);
-    }
-}
-
-impl<'h, 'a, 's, A: Actor<'a>, N: Name, K: Checkpoint, S: Store> Own<A, Work<'h, 'a, N, K>>
-    for Mine<'a, 's, S> {
+impl<'h, 'a, 's, N: Name, K: Checkpoint, A: Actor<Work<'h, 'a, N, K>>, S: Store>
+    Own<A, Work<'h, 'a, N, K>> for Mine<'a, 's, S> {
     ghost use Rattle.std.specs.Prelude.{◌≡◌, ◌*◌, length};
     ghost use Rattle.nit_report.specs.Picture.{picture_length};
     ghost use Rattle.nit_hall.specs.Pass.{UserBelongs};

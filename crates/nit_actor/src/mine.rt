@@ -85,14 +85,22 @@ pub fn run_mine_clips<'a, N: Name, G: Gate, S: Store, R: Wait>(
 
 /// Does all that is left of these actors and of the user, by turns. In each turn those of the least
 /// phase that has a line left do what is next.
-pub(crate) fn run_turns<'a, A: Actor<'a>, N: Name, K: Checkpoint, S: Store, R: Wait>(
+pub(crate) fn run_turns<
+    'h,
+    'a,
+    N: Name,
+    K: Checkpoint,
+    A: Actor<Work<'h, 'a, N, K>>,
+    S: Store,
+    R: Wait,
+>(
     rt: &R,
-    work: &Work<'_, 'a, N, K>,
+    work: &Work<'h, 'a, N, K>,
     actors: &mut [A],
     user: &mut UserPass<'a>,
     desk: &mut Desk<S>,
 )
-    requires fits { All (λ a. A.fits N.parts (A.role a)) actors.old }
+    requires fits { All (λ a. A.fits (A.role a)) actors.old }
     requires user { UserBelongs N.parts user.old }
     requires frame { length desk.old.frame.items ≡ N.parts.config.width * N.parts.config.height }
     requires text { length desk.old.text.items
@@ -120,16 +128,16 @@ pub(crate) fn run_turns<'a, A: Actor<'a>, N: Name, K: Checkpoint, S: Store, R: W
 
 /// Each actor that is in this phase does what is next, if it is not done. No actor that is not done
 /// is in a lesser phase.
-fn do_turn<'a, A: Actor<'a>, N: Name, K: Checkpoint, R: Wait>(
+fn do_turn<A: Actor<W>, W, R: Wait>(
     rt: &R,
-    work: &Work<'_, 'a, N, K>,
+    work: &W,
     actors: &mut [A],
     phase: u32,
 )
-    requires fits { All (λ a. A.fits N.parts (A.role a)) actors.old }
+    requires fits { All (λ a. A.fits (A.role a)) actors.old }
     requires least { NoneIsBefore A.left phase actors.old }
     ensures same { map A.role actors.new ≡ map A.role actors.old }
-    ensures fits { All (λ a. A.fits N.parts (A.role a)) actors.new }
+    ensures fits { All (λ a. A.fits (A.role a)) actors.new }
 {
     'actors: for actor in actors.iter_mut() {
         do_one_turn(rt, work, actor, phase);
@@ -137,13 +145,13 @@ fn do_turn<'a, A: Actor<'a>, N: Name, K: Checkpoint, R: Wait>(
 }
 
 /// The actor does what is next, if it is not done and is in this phase.
-fn do_one_turn<'a, A: Actor<'a>, N: Name, K: Checkpoint, R: Wait>(
+fn do_one_turn<A: Actor<W>, W, R: Wait>(
     rt: &R,
-    work: &Work<'_, 'a, N, K>,
+    work: &W,
     actor: &mut A,
     phase: u32,
 )
-    requires fits { A.fits N.parts (A.role actor.old) }
+    requires fits { A.fits (A.role actor.old) }
     ensures same { A.role actor.new ≡ A.role actor.old }
     ensures in_phase { A.left actor.old ≡ Some phase → A.steps actor.old actor.new }
     ensures others { (A.left actor.old ≡ Some phase → ⊥) → actor.new ≡ actor.old }
@@ -186,7 +194,7 @@ fn do_user_turn<'a, N: Name, K: Checkpoint, S: Store, R: Wait>(
 }
 
 /// The least phase of those that are not done, or `None` where all are done.
-fn least_phase<'a, A: Actor<'a>>(actors: &[A], user: &UserPass<'_>) -> Option<u32>
+fn least_phase<A: Actor<W>, W>(actors: &[A], user: &UserPass<'_>) -> Option<u32>
     ensures { IsLeastOf result (phases_left A.left actors.now user.now) }
 {
     let mut least = None;

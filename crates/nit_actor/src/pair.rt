@@ -21,7 +21,7 @@ pub struct Pair<'a> {
 
 /// A client with its clips: a step does a line of the pass, and with a line that ends a phase the
 /// clip calls of the phase; where the pass is done, a step does the rest of the clip script.
-impl<'a> Actor<'a> for Pair<'a> {
+impl<'h, 'a, N: Name, K: Checkpoint> Actor<Work<'h, 'a, N, K>> for Pair<'a> {
     ghost use Rattle.nit_actor.specs.ClipRole.{PairRole, IsPairRoleIn, pair_role_of};
     ghost use Rattle.nit_actor.specs.PhasesLeft.{PairSteps, pair_phase_left};
 
@@ -29,7 +29,7 @@ impl<'a> Actor<'a> for Pair<'a> {
 
     ghost role = { λ b. pair_role_of b.pass b.clip };
 
-    ghost fits = { IsPairRoleIn };
+    ghost fits = { IsPairRoleIn N.parts };
 
     ghost left = { λ b. pair_phase_left b.pass b.clip };
 
@@ -44,7 +44,7 @@ impl<'a> Actor<'a> for Pair<'a> {
     }
 
     #[tactic(auto, using(crate::proofs::Pairs::fits_pair, crate::proofs::Pairs::pair_role_again))]
-    fn step<N: Name, K: Checkpoint, R: Wait>(&mut self, rt: &R, work: &Work<'_, 'a, N, K>) {
+    fn step<R: Wait>(&mut self, rt: &R, work: &Work<'h, 'a, N, K>) {
         match self.pass.next() {
             Some(line) => do_pair_line(rt, work, &mut self.pass, &mut self.clip, &line),
             None => do_last_clips(rt, work.hall, &mut self.pass, &mut self.clip),
@@ -52,7 +52,7 @@ impl<'a> Actor<'a> for Pair<'a> {
     }
 
     #[tactic(auto, using(crate::proofs::Pairs::fits_pair, crate::proofs::Pairs::pair_role_again, crate::proofs::LeastPhases::pair_none))]
-    fn run<N: Name, K: Checkpoint, R: Wait>(&mut self, rt: &R, work: &Work<'_, 'a, N, K>) {
+    fn run<R: Wait>(&mut self, rt: &R, work: &Work<'h, 'a, N, K>) {
         run_pair(rt, work, &mut self.pass, &mut self.clip);
     }
 }

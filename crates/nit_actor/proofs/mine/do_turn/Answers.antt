@@ -8,6 +8,6 @@ actors-preserved g c =
     let k = c.actors.actor-index in
     record {
       same = same_set g.A.Actor.role c.actors.actors k c.do_one_turn.new.actor _ (omega arith) e ∙ i.same;
-      fit = All-set (λ a. g.A.Actor.fits g.N.Name.parts (g.A.Actor.role a)) c.actors.actors k c.do_one_turn.new.actor
-          (subst (g.A.Actor.fits g.N.Name.parts) (sym e) (i.fit k _ (omega arith))) i.fit;
+      fit = All-set (λ a. g.A.Actor.fits (g.A.Actor.role a)) c.actors.actors k c.do_one_turn.new.actor
+          (subst g.A.Actor.fits (sym e) (i.fit k _ (omega arith))) i.fit;
     }

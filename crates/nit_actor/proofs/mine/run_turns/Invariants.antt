@@ -5,7 +5,7 @@ use Rattle.nit_actor.proofs.mine.run_turns.Given as goal
 abbrev pub invariant-turns : goal.invariant-turns
 invariant-turns g l = record {
   same : map g.A.Actor.role l.actors ≡ map g.A.Actor.role l.initial.actors;
-  fit : All (λ a. g.A.Actor.fits g.N.Name.parts (g.A.Actor.role a)) l.actors;
+  fit : All (λ a. g.A.Actor.fits (g.A.Actor.role a)) l.actors;
   user_same : user_role_of l.user ≡ user_role_of l.initial.user;
   frame : length l.desk.frame.items ≡ length l.initial.desk.frame.items;
   text : length l.desk.text.items ≡ length l.initial.desk.text.items;
