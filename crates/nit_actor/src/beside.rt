@@ -11,10 +11,10 @@ ghost use Rattle.nit_actor.specs.Pictures.{PutsShotsBehind};
 use crate::actor::Actor;
 use crate::crew::{Own, Unstarted, run_crew};
 use crate::desk::Desk;
-use crate::gate::{Checkpoint, Gate};
-use crate::mine::run_turns;
+use crate::gate::Gate;
+use crate::mine::{UserTurns, run_turns};
 use crate::pair::Pair;
-use crate::work::{GatedHall, Work};
+use crate::work::GatedHall;
 use nit_hall::{Name, Pass, UserPass};
 use nit_store::Store;
 use std::sync::Wait;
@@ -28,8 +28,7 @@ pub struct Mine<'a, 's, S> {
     pub desk: Desk<'s, S>,
 }
 
-impl<'h, 'a, 's, N: Name, K: Checkpoint, A: Actor<Work<'h, 'a, N, K>>, S: Store>
-    Own<A, Work<'h, 'a, N, K>> for Mine<'a, 's, S> {
+impl<'a, 's, W: UserTurns<'a>, A: Actor<W>, S: Store> Own<A, W> for Mine<'a, 's, S> {
     ghost use Rattle.std.specs.Prelude.{◌≡◌, ◌*◌, length};
     ghost use Rattle.nit_report.specs.Picture.{picture_length};
     ghost use Rattle.nit_hall.specs.Pass.{UserBelongs};
@@ -37,23 +36,23 @@ impl<'h, 'a, 's, N: Name, K: Checkpoint, A: Actor<Work<'h, 'a, N, K>>, S: Store>
     ghost use Rattle.nit_actor.specs.Role.{user_role_of};
     ghost use Rattle.nit_actor.specs.Pictures.{PutsShotsBehind};
 
-    ghost ready = { λ m. UserBelongs N.parts m.user
-        × (length m.desk.frame.items ≡ N.parts.config.width * N.parts.config.height)
-        × (length m.desk.text.items ≡ picture_length N.parts.config.width N.parts.config.height) };
+    ghost ready = { λ m. UserBelongs W.parts m.user
+        × (length m.desk.frame.items ≡ W.parts.config.width * W.parts.config.height)
+        × (length m.desk.text.items ≡ picture_length W.parts.config.width W.parts.config.height) };
 
     ghost kept = { λ before after'.
         (user_role_of after'.user ≡ user_role_of before.user)
         × (after'.user.next ≡ length after'.user.input)
-        × PutsShotsBehind N.parts before.user.seen after'.user.seen
+        × PutsShotsBehind W.parts before.user.seen after'.user.seen
         (put_state_of_desk (S.shown before.desk.store.now) before.desk.fault before.desk.tried)
         (put_state_of_desk (S.shown after'.desk.store.now) after'.desk.fault after'.desk.tried)
         × (length after'.desk.frame.items ≡ length before.desk.frame.items)
         × (length after'.desk.text.items ≡ length before.desk.text.items)
         × (after'.desk.store.ghost_name ≡ before.desk.store.ghost_name) };
 
-    fn run_mine<R: Wait>(self, rt: &R, crew: &Work<'h, 'a, N, K>, actors: &mut [A]) -> Self {
+    fn run_mine<R: Wait>(self, rt: &R, work: &W, actors: &mut [A]) -> Self {
         let Mine { mut user, mut desk } = self;
-        run_turns(rt, crew, actors, &mut user, &mut desk);
+        run_turns(rt, work, actors, &mut user, &mut desk);
         Mine { user, desk }
     }
 

@@ -53,7 +53,7 @@ pub fn run_mine<'a, N: Name, G: Gate, S: Store, R: Wait>(
 /// turn in which the pass's own next line ends the phase, or behind its last line; they pass no
 /// gate. Of each pair the pass and the clip pass are of this opening, of one client and in one
 /// phase, and its two scripts have as many phases; so it is again when all are done.
-#[tactic(auto, using(crate::proofs::Pairs::pairs_fit, crate::proofs::Pairs::pairs_again, crate::proofs::LeastPhases::pairs_done))]
+#[tactic(auto, using(crate::proofs::Pairs::pairs_fit, crate::proofs::LeastPhases::pairs_done))]
 pub fn run_mine_clips<'a, N: Name, G: Gate, S: Store, R: Wait>(
     rt: &R,
     gated: GatedHall<'_, 'a, N, G>,
@@ -85,31 +85,23 @@ pub fn run_mine_clips<'a, N: Name, G: Gate, S: Store, R: Wait>(
 
 /// Does all that is left of these actors and of the user, by turns. In each turn those of the least
 /// phase that has a line left do what is next.
-pub(crate) fn run_turns<
-    'h,
-    'a,
-    N: Name,
-    K: Checkpoint,
-    A: Actor<Work<'h, 'a, N, K>>,
-    S: Store,
-    R: Wait,
->(
+pub(crate) fn run_turns<'a, W: UserTurns<'a>, A: Actor<W>, S: Store, R: Wait>(
     rt: &R,
-    work: &Work<'h, 'a, N, K>,
+    work: &W,
     actors: &mut [A],
     user: &mut UserPass<'a>,
     desk: &mut Desk<S>,
 )
     requires fits { All (λ a. A.fits (A.role a)) actors.old }
-    requires user { UserBelongs N.parts user.old }
-    requires frame { length desk.old.frame.items ≡ N.parts.config.width * N.parts.config.height }
+    requires user { UserBelongs W.parts user.old }
+    requires frame { length desk.old.frame.items ≡ W.parts.config.width * W.parts.config.height }
     requires text { length desk.old.text.items
-        ≡ picture_length N.parts.config.width N.parts.config.height }
+        ≡ picture_length W.parts.config.width W.parts.config.height }
     ensures same { map A.role actors.new ≡ map A.role actors.old }
     ensures done { All (λ a. A.left a ≡ None) actors.new }
     ensures user_same { user_role_of user.new ≡ user_role_of user.old }
     ensures user_done { user.new.next ≡ length user.new.input }
-    ensures put { PutsShotsBehind N.parts user.old.seen user.new.seen
+    ensures put { PutsShotsBehind W.parts user.old.seen user.new.seen
         (put_state_of_desk (S.shown desk.old.store.now) desk.old.fault desk.old.tried)
         (put_state_of_desk (S.shown desk.new.store.now) desk.new.fault desk.new.tried) }
     ensures frame { length desk.new.frame.items ≡ length desk.old.frame.items }
@@ -121,7 +113,7 @@ pub(crate) fn run_turns<
             return;
         };
         do_turn(rt, work, actors, phase);
-        do_user_turn(rt, work, user, phase, desk);
+        work.user_turn(rt, user, phase, desk);
     }
     unreachable!()
 }
@@ -161,35 +153,62 @@ fn do_one_turn<A: Actor<W>, W, R: Wait>(
     }
 }
 
-/// The user does its next line, if it has one and is in this phase. It is done, or in no lesser
-/// phase.
-fn do_user_turn<'a, N: Name, K: Checkpoint, S: Store, R: Wait>(
-    rt: &R,
-    work: &Work<'_, 'a, N, K>,
-    user: &mut UserPass<'a>,
-    phase: u32,
-    desk: &mut Desk<S>,
-)
-    requires belongs { UserBelongs N.parts user.old }
-    requires least { NoneIsBefore user_phase_left phase (user.old ∷ []) }
-    requires frame { length desk.old.frame.items ≡ N.parts.config.width * N.parts.config.height }
-    requires text { length desk.old.text.items
-        ≡ picture_length N.parts.config.width N.parts.config.height }
-    ensures same { user_role_of user.new ≡ user_role_of user.old }
-    ensures in_phase { user_phase_left user.old ≡ Some phase → user.new.next ≡ user.old.next + 1 }
-    ensures others { (user.old.phase ≡ phase → ⊥) → user.new ≡ user.old }
-    ensures put { PutsShotsBehind N.parts user.old.seen user.new.seen
-        (put_state_of_desk (S.shown desk.old.store.now) desk.old.fault desk.old.tried)
-        (put_state_of_desk (S.shown desk.new.store.now) desk.new.fault desk.new.tried) }
-    ensures frame { length desk.new.frame.items ≡ length desk.old.frame.items }
-    ensures text { length desk.new.text.items ≡ length desk.old.text.items }
-    ensures same_store { desk.new.store.ghost_name ≡ desk.old.store.ghost_name }
-{
-    if user.phase() != phase {
-        return;
-    }
-    if let Some(line) = user.next() {
-        do_user_line(rt, work, user, &line, desk);
+/// What all actors of a run share, as the turns of the user go through it.
+pub(crate) trait UserTurns<'a> {
+    ghost use Rattle.std.specs.Prelude.{◌≡◌, ◌*◌, ◌+◌, ◌∷◌, [], Some, length};
+    ghost use Rattle.nit_hall.specs.OpeningParts.{OpeningParts};
+    ghost use Rattle.nit_report.specs.Picture.{picture_length};
+    ghost use Rattle.nit_hall.specs.Pass.{UserBelongs};
+    ghost use Rattle.nit_actor.specs.PhasesLeft.{NoneIsBefore, user_phase_left};
+    ghost use Rattle.nit_actor.specs.Pictures.{PutsShotsBehind};
+    ghost use Rattle.nit_actor.specs.Role.{user_role_of};
+    ghost use Rattle.nit_actor.specs.RoundsRun.{put_state_of_desk};
+
+    /// Of which opening the run is.
+    ghost parts: { OpeningParts };
+
+    /// The user does its next line, if it has one and is in this phase. It is done, or in no lesser
+    /// phase.
+    fn user_turn<S: Store, R: Wait>(
+        &self,
+        rt: &R,
+        user: &mut UserPass<'a>,
+        phase: u32,
+        desk: &mut Desk<S>,
+    )
+        requires belongs { UserBelongs parts user.old }
+        requires least { NoneIsBefore user_phase_left phase (user.old ∷ []) }
+        requires frame { length desk.old.frame.items ≡ parts.config.width * parts.config.height }
+        requires text { length desk.old.text.items
+            ≡ picture_length parts.config.width parts.config.height }
+        ensures same { user_role_of user.new ≡ user_role_of user.old }
+        ensures in_phase { user_phase_left user.old ≡ Some phase
+            → user.new.next ≡ user.old.next + 1 }
+        ensures others { (user.old.phase ≡ phase → ⊥) → user.new ≡ user.old }
+        ensures put { PutsShotsBehind parts user.old.seen user.new.seen
+            (put_state_of_desk (S.shown desk.old.store.now) desk.old.fault desk.old.tried)
+            (put_state_of_desk (S.shown desk.new.store.now) desk.new.fault desk.new.tried) }
+        ensures frame { length desk.new.frame.items ≡ length desk.old.frame.items }
+        ensures text { length desk.new.text.items ≡ length desk.old.text.items }
+        ensures same_store { desk.new.store.ghost_name ≡ desk.old.store.ghost_name };
+}
+
+impl<'h, 'a, N: Name, K: Checkpoint> UserTurns<'a> for Work<'h, 'a, N, K> {
+    ghost parts = { N.parts };
+
+    fn user_turn<S: Store, R: Wait>(
+        &self,
+        rt: &R,
+        user: &mut UserPass<'a>,
+        phase: u32,
+        desk: &mut Desk<S>,
+    ) {
+        if user.phase() != phase {
+            return;
+        }
+        if let Some(line) = user.next() {
+            do_user_line(rt, self, user, &line, desk);
+        }
     }
 }
 

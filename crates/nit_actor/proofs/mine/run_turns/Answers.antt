@@ -1,18 +1,18 @@
-use Rattle.nit_actor.proofs.Lemmas.{all_ended, none_before, puts_also, ◌∙◌}
+use Rattle.nit_actor.proofs.Lemmas.{all_ended, none_before, puts_also, user_again, ◌∙◌}
 use Rattle.nit_actor.proofs.mine.run_turns.Goals as goal
 
 pub turns-preserved : goal.turns-preserved
 turns-preserved g c =
     let i = c.turns.invariant in
     let t = c.do_turn.ensures in
-    let u = c.do_user_turn.ensures in
+    let u = c.user_turn.ensures in
     record {
       same = t.same ∙ i.same;
       fit = t.fits;
       user_same = u.same ∙ i.user_same;
       frame = u.frame ∙ i.frame;
       text = u.text ∙ i.text;
-      put = puts_also g.N.Name.parts _ _ _ _ _ _ i.put u.put;
+      put = puts_also g.W.UserTurns.parts _ _ _ _ _ _ i.put u.put;
       same_store = u.same_store ∙ i.same_store;
     }
 
@@ -23,6 +23,13 @@ pub do_turn-requires-clause-least : goal.do_turn-requires-clause-least
 do_turn-requires-clause-least g c =
     (none_before g.A.Actor.left c.turns.actors c.turns.user _ _ c.least_phase.ensures c.in-Some-least_phase.is).0
 
-pub do_user_turn-requires-clause-least : goal.do_user_turn-requires-clause-least
-do_user_turn-requires-clause-least g c =
-    (none_before g.A.Actor.left c.turns.actors c.turns.user _ _ c.least_phase.ensures c.in-Some-least_phase.is).1
+pub user_turn-requires : goal.user_turn-requires
+user_turn-requires g c =
+    let i = c.turns.invariant in
+    record {
+      belongs = user_again g.W.UserTurns.parts _ _ c.requires.user i.user_same;
+      least = (none_before g.A.Actor.left c.turns.actors c.turns.user _ _ c.least_phase.ensures
+          c.in-Some-least_phase.is).1;
+      frame = i.frame ∙ c.requires.frame;
+      text = i.text ∙ c.requires.text;
+    }

@@ -9,7 +9,7 @@ invariant-turns g l = record {
   user_same : user_role_of l.user ≡ user_role_of l.initial.user;
   frame : length l.desk.frame.items ≡ length l.initial.desk.frame.items;
   text : length l.desk.text.items ≡ length l.initial.desk.text.items;
-  put : PutsShotsBehind g.N.Name.parts l.initial.user.seen l.user.seen
+  put : PutsShotsBehind g.W.UserTurns.parts l.initial.user.seen l.user.seen
       (put_state_of_desk (g.S.Store.shown l.initial.desk.store.now) l.initial.desk.fault l.initial.desk.tried)
       (put_state_of_desk (g.S.Store.shown l.desk.store.now) l.desk.fault l.desk.tried);
   same_store : l.desk.store.ghost_name ≡ l.initial.desk.store.ghost_name;
