@@ -76,17 +76,21 @@ each_after h n (x ∷ xs) ms all =
     let rest = each_after h n xs ms here.1 in
     (All-cons (λ y. IfSome (h y) (λ m. n ≤ m)) x xs here.0 rest.0, rest.1)
 
--- before the least phase nobody is
+-- before the least phase no client is
 pub none_before : {X : Type 0} (h : X → Option ℕ) (xs : List X) (u : UserPassModel) (a : Option ℕ) (n : ℕ)
-    → IsLeastOf a (phases_left h xs u) → a ≡ Some n
-    → NoneIsBefore h n xs × NoneIsBefore user_phase_left n (u ∷ [])
+    → IsLeastOf a (phases_left h xs u) → a ≡ Some n → NoneIsBefore h n xs
 none_before h xs u a n least is =
+    (each_after h n xs (filter_map user_phase_left (u ∷ []))
+    (subst (λ o. IsLeastOf o (phases_left h xs u)) is least).1).0
+
+-- nor is the user
+pub user_not_before : {X : Type 0} (h : X → Option ℕ) (xs : List X) (u : UserPassModel) (a : Option ℕ) (n : ℕ)
+    → IsLeastOf a (phases_left h xs u) → a ≡ Some n → NoneIsBefore user_phase_left n (u ∷ [])
+user_not_before h xs u a n least is =
     let all = each_after h n xs (filter_map user_phase_left (u ∷ []))
-    (subst (λ o. IsLeastOf o (phases_left h xs u)) is least).1 in (
-      all.0,
-      (each_after user_phase_left n (u ∷ []) []
-          (subst (λ ms. All (λ m. n ≤ m) ms) (sym (append-nil (filter_map user_phase_left (u ∷ [])))) all.1)).0,
-    )
+    (subst (λ o. IsLeastOf o (phases_left h xs u)) is least).1 in
+    (each_after user_phase_left n (u ∷ []) []
+    (subst (λ ms. All (λ m. n ≤ m) ms) (sym (append-nil (filter_map user_phase_left (u ∷ [])))) all.1)).0
 
 -- ---- none
 

@@ -23,7 +23,7 @@ pub use Rattle.nit_actor.proofs.FirstPlaces.{kept_first, left_first_of}
 pub use Rattle.nit_actor.proofs.IdleUserLemmas.{at_call, at_line, idle_deeds, nothing_recorded}
 pub use Rattle.nit_actor.proofs.IdleUserLemmas.{phase_ended, step_on, user_at_phase, user_ended}
 pub use Rattle.nit_actor.proofs.LeastPhases.{all_ended, clients_done, left_in_all, left_more}
-pub use Rattle.nit_actor.proofs.LeastPhases.{none_before, pairs_done}
+pub use Rattle.nit_actor.proofs.LeastPhases.{pairs_done}
 pub use Rattle.nit_actor.proofs.LineOnGlass.{after_stroke, fits, painted_to, step_there}
 pub use Rattle.nit_actor.proofs.LineRecords.{behind_still, call_counted, call_moved, call_recorded}
 pub use Rattle.nit_actor.proofs.LineRecords.{glasses_still, is_glass, none_moved, none_recorded}

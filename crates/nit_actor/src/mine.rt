@@ -85,6 +85,7 @@ pub fn run_mine_clips<'a, N: Name, G: Gate, S: Store, R: Wait>(
 
 /// Does all that is left of these actors and of the user, by turns. In each turn those of the least
 /// phase that has a line left do what is next.
+#[tactic(auto, using(crate::proofs::LeastPhases::none_before, crate::proofs::LeastPhases::user_not_before))]
 pub(crate) fn run_turns<'a, W: UserTurns<'a>, A: Actor<W>, S: Store, R: Wait>(
     rt: &R,
     work: &W,
