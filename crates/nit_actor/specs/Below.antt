@@ -77,9 +77,9 @@ pub use Rattle.nit_word.specs.Sight.{IsLoaded, Sight, inked_sight, seen, told_at
 pub use Rattle.nit_word.specs.Updates.{is_between, set_where, with_words}
 pub use Rattle.nit_word.specs.Zeros.{zeros}
 pub use Rattle.std.specs.Fmt.{decimal}
-pub use Rattle.std.specs.List.{AllByRecursion, AllZip, cons_option, flat_map, range_with_len}
+pub use Rattle.std.specs.List.{AllByRecursion, cons_option, flat_map, range_with_len}
 pub use Rattle.std.specs.List.{slice_get, slice_index_or}
 pub use Rattle.std.specs.List.Sorted.{IsNonDecreasing}
 pub use Rattle.std.specs.Option.{option_map}
-pub use Rattle.std.specs.Prelude.{All, IsTrue, codes, slice_index, vec_capacity}
+pub use Rattle.std.specs.Prelude.{All, IsTrue, codes, slice_index}
 pub use Rattle.std.specs.Str.{IsUtf8}

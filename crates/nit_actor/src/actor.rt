@@ -100,7 +100,7 @@ pub fn run_actor<'a, N: Name, G: Gate, R: Wait>(
 }
 
 /// The same, with what is called before each line.
-pub(crate) fn run_lines<'a, N: Name, K: Checkpoint, R: Wait>(
+fn run_lines<'a, N: Name, K: Checkpoint, R: Wait>(
     rt: &R,
     work: &Work<'_, 'a, N, K>,
     pass: &mut Pass<'a>,

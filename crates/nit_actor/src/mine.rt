@@ -85,7 +85,7 @@ pub fn run_mine_clips<'a, N: Name, G: Gate, S: Store, R: Wait>(
 
 /// Does all that is left of these actors and of the user, by turns. In each turn those of the least
 /// phase that has a line left do what is next.
-#[tactic(auto, using(crate::proofs::LeastPhases::none_before, crate::proofs::LeastPhases::user_not_before))]
+#[tactic(auto, using(crate::proofs::LeastPhases::user_not_before))]
 pub(crate) fn run_turns<'a, W: UserTurns<'a>, A: Actor<W>, S: Store, R: Wait>(
     rt: &R,
     work: &W,
@@ -121,12 +121,7 @@ pub(crate) fn run_turns<'a, W: UserTurns<'a>, A: Actor<W>, S: Store, R: Wait>(
 
 /// Each actor that is in this phase does what is next, if it is not done. No actor that is not done
 /// is in a lesser phase.
-fn do_turn<A: Actor<W>, W, R: Wait>(
-    rt: &R,
-    work: &W,
-    actors: &mut [A],
-    phase: u32,
-)
+fn do_turn<A: Actor<W>, W, R: Wait>(rt: &R, work: &W, actors: &mut [A], phase: u32)
     requires fits { All (λ a. A.fits (A.role a)) actors.old }
     requires least { NoneIsBefore A.left phase actors.old }
     ensures same { map A.role actors.new ≡ map A.role actors.old }
@@ -138,12 +133,7 @@ fn do_turn<A: Actor<W>, W, R: Wait>(
 }
 
 /// The actor does what is next, if it is not done and is in this phase.
-fn do_one_turn<A: Actor<W>, W, R: Wait>(
-    rt: &R,
-    work: &W,
-    actor: &mut A,
-    phase: u32,
-)
+fn do_one_turn<A: Actor<W>, W, R: Wait>(rt: &R, work: &W, actor: &mut A, phase: u32)
     requires fits { A.fits (A.role actor.old) }
     ensures same { A.role actor.new ≡ A.role actor.old }
     ensures in_phase { A.left actor.old ≡ Some phase → A.steps actor.old actor.new }

@@ -51,7 +51,7 @@ impl<'h, 'a, N: Name, K: Checkpoint> Actor<Work<'h, 'a, N, K>> for Pair<'a> {
         }
     }
 
-    #[tactic(auto, using(crate::proofs::Pairs::fits_pair, crate::proofs::Pairs::pair_role_again, crate::proofs::LeastPhases::pair_none))]
+    #[tactic(auto, using(crate::proofs::Pairs::fits_pair, crate::proofs::Pairs::pair_role_again))]
     fn run<R: Wait>(&mut self, rt: &R, work: &Work<'h, 'a, N, K>) {
         run_pair(rt, work, &mut self.pass, &mut self.clip);
     }
@@ -81,7 +81,7 @@ pub fn run_clips<'a, N: Name, G: Gate, R: Wait>(
 }
 
 /// The same, with what is called before each line.
-pub(crate) fn run_pair<'a, N: Name, K: Checkpoint, R: Wait>(
+fn run_pair<'a, N: Name, K: Checkpoint, R: Wait>(
     rt: &R,
     work: &Work<'_, 'a, N, K>,
     pass: &mut Pass<'a>,
@@ -103,7 +103,7 @@ pub(crate) fn run_pair<'a, N: Name, K: Checkpoint, R: Wait>(
 /// Does the next line of the pass, which is this one. Where it ends a phase, the clip calls of the
 /// phase are done before it, and the clip script's line `phase` behind it.
 #[tactic(auto, using(crate::proofs::Pairs::line_together))]
-pub(crate) fn do_pair_line<'a, N: Name, K: Checkpoint, R: Wait>(
+fn do_pair_line<'a, N: Name, K: Checkpoint, R: Wait>(
     rt: &R,
     work: &Work<'_, 'a, N, K>,
     pass: &mut Pass<'a>,
@@ -172,7 +172,7 @@ fn do_phase_clips<'a, N: Name, R: Wait>(
 
 /// Does the clip calls that are left behind the last line of the pass.
 #[tactic(auto, using(crate::proofs::Pairs::clip_done_too))]
-pub(crate) fn do_last_clips<'a, N: Name, R: Wait>(
+fn do_last_clips<'a, N: Name, R: Wait>(
     rt: &R,
     hall: &Hall<'a, N>,
     pass: &mut Pass<'a>,

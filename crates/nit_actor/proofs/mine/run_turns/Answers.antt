@@ -1,4 +1,4 @@
-use Rattle.nit_actor.proofs.Lemmas.{all_ended, puts_also, ◌∙◌}
+use Rattle.nit_actor.proofs.Lemmas.{all_ended, none_before, puts_also, ◌∙◌}
 use Rattle.nit_actor.proofs.mine.run_turns.Goals as goal
 
 pub turns-preserved : goal.turns-preserved
@@ -18,3 +18,7 @@ turns-preserved g c =
 
 pub returns-in_default-clause-done : goal.returns-in_default-clause-done
 returns-in_default-clause-done g c = (all_ended g.A.Actor.left c.turns.actors c.turns.user c.in_default.ensures).0
+
+pub do_turn-requires-clause-least : goal.do_turn-requires-clause-least
+do_turn-requires-clause-least g c =
+    none_before g.A.Actor.left c.turns.actors c.turns.user _ _ c.least_phase.ensures c.in-Some-least_phase.is
