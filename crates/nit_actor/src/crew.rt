@@ -24,7 +24,7 @@ pub(crate) trait Own<P: Actor<W>, W> {
     ghost kept: { Self → Self → Type 0 };
 
     /// Runs the passes whose threads could not be started, by turns with what is the caller's own.
-    fn run_mine<R: Wait>(self, rt: &R, crew: &W, passes: &mut [P]) -> Self
+    fn run_mine<R: Wait>(self, rt: &R, work: &W, passes: &mut [P]) -> Self
         requires fits { All (λ p. P.fits (P.role p)) passes.old }
         requires ready { ready self }
         ensures same { map P.role passes.new ≡ map P.role passes.old }
@@ -71,13 +71,13 @@ pub struct Unstarted<'r, P> {
 }
 
 /// Runs a pass, unless its flag is raised.
-fn stepped<P: Actor<W>, W, R: Wait>(rt: &R, crew: &W, raised: &AtomicBool, pass: P) -> P
+fn stepped<P: Actor<W>, W, R: Wait>(rt: &R, work: &W, raised: &AtomicBool, pass: P) -> P
     requires { P.fits (P.role pass) }
     ensures { P.role result ≡ P.role pass }
 {
     let mut pass = pass;
     if !raised.load(Ordering::SeqCst) {
-        pass.run(rt, crew);
+        pass.run(rt, work);
     }
     pass
 }
@@ -87,7 +87,7 @@ fn stepped<P: Actor<W>, W, R: Wait>(rt: &R, crew: &W, raised: &AtomicBool, pass:
 fn start<'s, E, P: Actor<W> + Send + Drop + 's, W: Sync, R: Threads + Wait + Sync>(
     scope: &Scope<'s, E>,
     rt: &'s R,
-    crew: &'s W,
+    work: &'s W,
     raised: &'s AtomicBool,
     pass: P,
 ) -> Started<P, W>
@@ -103,7 +103,7 @@ fn start<'s, E, P: Actor<W> + Send + Drop + 's, W: Sync, R: Threads + Wait + Syn
         move || -> P
             requires { P.fits (P.role pass) }
             ensures { P.role result ≡ P.role pass }
-        { stepped::<P, W, R>(rt, crew, raised, pass) },
+        { stepped::<P, W, R>(rt, work, raised, pass) },
     ) {
         Ok(child) => Started::There(child),
         Err(refused) => {
@@ -127,7 +127,7 @@ fn run_rest<
 >(
     scope: &Scope<'s, E>,
     rt: &'s R,
-    crew: &'s W,
+    work: &'s W,
     unstarted: &mut Unstarted<'r, P>,
     passes: &mut Vec<P>,
     own: U,
@@ -147,18 +147,18 @@ fn run_rest<
         ≡ vec_capacity unstarted.old.waiting }
 {
     let Some(pass) = passes.pop() else {
-        return own.run_mine(rt, crew, unstarted.waiting.as_mut_slice());
+        return own.run_mine(rt, work, unstarted.waiting.as_mut_slice());
     };
     let flag = &unstarted.raised[passes.len()];
-    match start::<E, P, W, R>(scope, rt, crew, flag, pass) {
+    match start::<E, P, W, R>(scope, rt, work, flag, pass) {
         Started::There(child) => {
-            let own = run_rest(scope, rt, crew, unstarted, passes, own);
+            let own = run_rest(scope, rt, work, unstarted, passes, own);
             passes.push_reserved(child.join(rt));
             own
         }
         Started::Here(pass) => {
             unstarted.waiting.push_reserved(pass);
-            let own = run_rest(scope, rt, crew, unstarted, passes, own);
+            let own = run_rest(scope, rt, work, unstarted, passes, own);
             let Some(pass) = unstarted.waiting.pop() else {
                 unreachable!()
             };
@@ -172,7 +172,7 @@ fn run_rest<
 /// in order, and what is the caller's own beside them.
 fn run_all<P: Actor<W> + Send + Drop, U: Own<P, W> + Drop, W: Sync, R: Threads + Wait + Sync>(
     rt: &R,
-    crew: &W,
+    work: &W,
     unstarted: Unstarted<'_, P>,
     passes: Vec<P>,
     own: U,
@@ -199,7 +199,7 @@ fn run_all<P: Actor<W> + Send + Drop, U: Own<P, W> + Drop, W: Sync, R: Threads +
         {
             let mut passes = passes;
             let mut unstarted = unstarted;
-            let own = run_rest(scope, rt, crew, &mut unstarted, &mut passes, own);
+            let own = run_rest(scope, rt, work, &mut unstarted, &mut passes, own);
             (passes, own)
         },
     )
@@ -213,7 +213,7 @@ pub(crate) fn run_crew<
     U: Own<P, W> + Drop,
     W: Sync,
     R: Threads + Wait + Sync,
->(rt: &R, crew: &W, unstarted: Unstarted<'_, P>, passes: &mut Vec<P>, own: U) -> U
+>(rt: &R, work: &W, unstarted: Unstarted<'_, P>, passes: &mut Vec<P>, own: U) -> U
     requires fits { All (λ p. P.fits (P.role p)) passes.old.items }
     requires waiting { unstarted.waiting.items ≡ [] }
     requires ready { U.ready own }
@@ -224,8 +224,8 @@ pub(crate) fn run_crew<
     ensures kept { U.kept own result }
 {
     let none = Vec::new(*passes.allocator());
-    let (ran, own) = run_all(rt, crew, unstarted, mem::replace(passes, none), own);
+    let (ran, own) = run_all(rt, work, unstarted, mem::replace(passes, none), own);
     *passes = ran;
     U::kept_twice();
-    own.run_mine(rt, crew, passes)
+    own.run_mine(rt, work, passes)
 }

@@ -9,10 +9,10 @@ ghost use Rattle.nit_actor.specs.Terms.{user_phase_left, user_role_of};
 
 use crate::actor::Actor;
 use crate::desk::Desk;
-use crate::gate::{Checkpoint, Gate};
+use crate::gate::Gate;
 use crate::pair::Pair;
-use crate::user::do_user_line;
-use crate::work::{GatedHall, Work};
+use crate::user::{UserTurns, user_phase_left};
+use crate::work::GatedHall;
 use nit_hall::{Name, Pass, UserPass};
 use nit_store::Store;
 use std::sync::Wait;
@@ -144,65 +144,6 @@ fn do_one_turn<A: Actor<W>, W, R: Wait>(rt: &R, work: &W, actor: &mut A, phase: 
     }
 }
 
-/// What all actors of a run share, as the turns of the user go through it.
-pub(crate) trait UserTurns<'a> {
-    ghost use Rattle.std.specs.Prelude.{◌≡◌, ◌*◌, ◌+◌, ◌∷◌, [], Some, length};
-    ghost use Rattle.nit_hall.specs.OpeningParts.{OpeningParts};
-    ghost use Rattle.nit_report.specs.Picture.{picture_length};
-    ghost use Rattle.nit_hall.specs.Pass.{UserBelongs};
-    ghost use Rattle.nit_actor.specs.PhasesLeft.{NoneIsBefore, user_phase_left};
-    ghost use Rattle.nit_actor.specs.Pictures.{PutsShotsBehind};
-    ghost use Rattle.nit_actor.specs.Role.{user_role_of};
-    ghost use Rattle.nit_actor.specs.RoundsRun.{put_state_of_desk};
-
-    /// Of which opening the run is.
-    ghost parts: { OpeningParts };
-
-    /// The user does its next line, if it has one and is in this phase. It is done, or in no lesser
-    /// phase.
-    fn user_turn<S: Store, R: Wait>(
-        &self,
-        rt: &R,
-        user: &mut UserPass<'a>,
-        phase: u32,
-        desk: &mut Desk<S>,
-    )
-        requires belongs { UserBelongs parts user.old }
-        requires least { NoneIsBefore user_phase_left phase (user.old ∷ []) }
-        requires frame { length desk.old.frame.items ≡ parts.config.width * parts.config.height }
-        requires text { length desk.old.text.items
-            ≡ picture_length parts.config.width parts.config.height }
-        ensures same { user_role_of user.new ≡ user_role_of user.old }
-        ensures in_phase { user_phase_left user.old ≡ Some phase
-            → user.new.next ≡ user.old.next + 1 }
-        ensures others { (user.old.phase ≡ phase → ⊥) → user.new ≡ user.old }
-        ensures put { PutsShotsBehind parts user.old.seen user.new.seen
-            (put_state_of_desk (S.shown desk.old.store.now) desk.old.fault desk.old.tried)
-            (put_state_of_desk (S.shown desk.new.store.now) desk.new.fault desk.new.tried) }
-        ensures frame { length desk.new.frame.items ≡ length desk.old.frame.items }
-        ensures text { length desk.new.text.items ≡ length desk.old.text.items }
-        ensures same_store { desk.new.store.ghost_name ≡ desk.old.store.ghost_name };
-}
-
-impl<'h, 'a, N: Name, K: Checkpoint> UserTurns<'a> for Work<'h, 'a, N, K> {
-    ghost parts = { N.parts };
-
-    fn user_turn<S: Store, R: Wait>(
-        &self,
-        rt: &R,
-        user: &mut UserPass<'a>,
-        phase: u32,
-        desk: &mut Desk<S>,
-    ) {
-        if user.phase() != phase {
-            return;
-        }
-        if let Some(line) = user.next() {
-            do_user_line(rt, self, user, &line, desk);
-        }
-    }
-}
-
 /// The least phase of those that are not done, or `None` where all are done.
 fn least_phase<A: Actor<W>, W>(actors: &[A], user: &UserPass<'_>) -> Option<u32>
     ensures { IsLeastOf result (phases_left A.left actors.now user.now) }
@@ -212,17 +153,6 @@ fn least_phase<A: Actor<W>, W>(actors: &[A], user: &UserPass<'_>) -> Option<u32>
         least = lesser(least, actor.phase_left());
     }
     lesser(least, user_phase_left(user))
-}
-
-/// The phase that the user is in, or `None` where it is done.
-fn user_phase_left(user: &UserPass<'_>) -> Option<u32>
-    ensures { result ≡ user_phase_left user.now }
-{
-    if user.done() {
-        None
-    } else {
-        Some(user.phase())
-    }
 }
 
 /// The lesser of two numbers, of which each may be missing.
