@@ -1,7 +1,7 @@
 //! What the calling thread does: the user, and the clients whose threads could not be started, by
 //! turns.
 
-ghost use Rattle.std.specs.Prelude.{◌≡◌, ◌*◌, ◌+◌, ◌∷◌, [], All, None, Some, length, map};
+ghost use Rattle.std.specs.Prelude.{◌≡◌, ◌*◌, All, None, Some, length, map};
 ghost use Rattle.nit_actor.specs.Terms.{Belongs, IsLeastOf, IsPairIn, NoneIsBefore};
 ghost use Rattle.nit_actor.specs.Terms.{PutsShotsBehind, UserBelongs, lesser, pair_role_of};
 ghost use Rattle.nit_actor.specs.Terms.{phases_left, picture_length, put_state_of_desk, role_of};
