@@ -1,9 +1,9 @@
 -- What lemmas use: the words of clauses, the library's lemmas, and those of the crates below.
-pub use Rattle.nit_actor.specs.Terms.{Action, ActorLine, Acts, All, AllByRecursion, AllZip}
+pub use Rattle.nit_actor.specs.Terms.{Action, ActorLine, Acts, All, AllByRecursion}
 pub use Rattle.nit_actor.specs.Terms.{AreBehind, AreLoaded, ArePlaces, AreQuiet, AreQuietBut}
 pub use Rattle.nit_actor.specs.Terms.{AreRaw, AreRoundsOf, AreShotsOf, Area, Bare, Belongs, Black}
-pub use Rattle.nit_actor.specs.Terms.{Buffer, ByClient, ByUser, Call, Calls, Client, ClipBelongs}
-pub use Rattle.nit_actor.specs.Terms.{ClipPassModel, ClipRole, Configuration, Device, Does, Drawing}
+pub use Rattle.nit_actor.specs.Terms.{Buffer, ByClient, ByUser, Call, Calls, Client}
+pub use Rattle.nit_actor.specs.Terms.{ClipPassModel, Configuration, Device, Does, Drawing}
 pub use Rattle.nit_actor.specs.Terms.{Entry, File, Fill, FitsInto, GoTogether, GrowsQuietly}
 pub use Rattle.nit_actor.specs.Terms.{HasTurn, InputLine, IsAtClipPhase, IsAtPhase, IsAtPhaseEnd}
 pub use Rattle.nit_actor.specs.Terms.{IsAtTurn, IsBehind, IsBehindBy, IsButFor, IsConfiguration}
@@ -13,9 +13,9 @@ pub use Rattle.nit_actor.specs.Terms.{IsNearPicture, IsNonDecreasing, IsOpen, Is
 pub use Rattle.nit_actor.specs.Terms.{IsPairRoleIn, IsPlanOf, IsPlanned, IsRawOf, IsRecorded}
 pub use Rattle.nit_actor.specs.Terms.{IsRoleIn, IsRoundsRun, IsSetUp, IsShowing, IsTrue, IsUnderWay}
 pub use Rattle.nit_actor.specs.Terms.{IsUserRecorded, IsUtf8, IsWhole, IsWordOfSource, LegalFrom}
-pub use Rattle.nit_actor.specs.Terms.{Line, LineTurn, Motion, NoneHas, NoneIsBefore, OnePairRole}
+pub use Rattle.nit_actor.specs.Terms.{Line, LineTurn, Motion, NoneHas, NoneIsBefore}
 pub use Rattle.nit_actor.specs.Terms.{OpeningParts, Painted, Painting, Pair, PairRole, PassModel}
-pub use Rattle.nit_actor.specs.Terms.{PassRole, PixelSource, Place, Places, PlanModel, Point}
+pub use Rattle.nit_actor.specs.Terms.{PixelSource, Place, Places, PlanModel, Point}
 pub use Rattle.nit_actor.specs.Terms.{PutState, PutsAll, PutsNext, PutsShotsBehind, Refresh, Reply}
 pub use Rattle.nit_actor.specs.Terms.{Role, RoomModel, Routed, SceneModel, Shoots, ShotFrame}
 pub use Rattle.nit_actor.specs.Terms.{ShotsBehind, ShowsEach, ShowsLine, Sight, Size, Stale}
@@ -25,7 +25,7 @@ pub use Rattle.nit_actor.specs.Terms.{Word, action_of, actions_of_line, actions_
 pub use Rattle.nit_actor.specs.Terms.{actions_to_be, actors, after, after_arrival, after_turn}
 pub use Rattle.nit_actor.specs.Terms.{all_rounds, arrived_one, bar_rows, bare_word, blank}
 pub use Rattle.nit_actor.specs.Terms.{buffer_size, call_of_line, calls_from, calls_in, calls_of}
-pub use Rattle.nit_actor.specs.Terms.{calls_to_make, clients_from, clip_number, clip_phases}
+pub use Rattle.nit_actor.specs.Terms.{calls_to_make, clients_from, clip_phases}
 pub use Rattle.nit_actor.specs.Terms.{clip_phases_before, clip_role_of, codes, cons_option, decimal}
 pub use Rattle.nit_actor.specs.Terms.{dirty, donation_of, done, done_after, drawn, drawn_by_shot}
 pub use Rattle.nit_actor.specs.Terms.{drawn_shot, ends_phase, entry_of, first_state, flat_map}
@@ -63,7 +63,7 @@ pub use Rattle.nit_stack.proofs.ForCallers.{drop_at}
 pub use Rattle.nit_store.proofs.ForCallers.{puts_both}
 pub use Rattle.nit_word.proofs.ForCallers.{before_row, set_long, word_at, zero_at}
 pub use Rattle.std.proofs.Common.{List, Some, [], ap, arith, filter_map, length, refl, subst, sym}
-pub use Rattle.std.proofs.Common.{take, zip, ℕ, ◌∙◌}
+pub use Rattle.std.proofs.Common.{take, ℕ, ◌∙◌}
 pub use Rattle.std.proofs.Math.Nat.{min-eq_left, min-eq_right, min-le_left, min-le_right}
 pub use Rattle.std.proofs.Math.Nat.{mul-le-mul_right}
 pub use Rattle.std.proofs.lemmas.Bool.{and_parts, cases_Bool, cases_eq, cases_lt, eq-eqb, eqb-true}

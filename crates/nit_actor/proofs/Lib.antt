@@ -29,7 +29,6 @@ pub mod ShotFiles
 pub mod RoleLemmas
 pub mod PhaseCounts
 pub mod Pairs
-pub mod PairLists
 pub mod LeastPhases
 pub mod PictureLemmas
 pub mod IdleUserLemmas

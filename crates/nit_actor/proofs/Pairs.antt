@@ -1,15 +1,15 @@
 -- A pass and its clip pass, when one or both of them did a line.
-use Rattle.std.proofs.Common.{List, Some, ap, arith, false, inl, inr, length, refl, subst, sym, ℕ}
+use Rattle.std.proofs.Common.{List, Some, ap, arith, false, inl, inr, length, map, refl, sym, ℕ}
 use Rattle.std.proofs.Common.{◌+◌, ◌==◌, ◌∙◌, ◌≡◌, ◌⊎◌}
-use Rattle.nit_actor.proofs.Basics.{ClipBelongs, ClipPassModel, ClipRole, GoTogether, IsAtClipPhase}
-use Rattle.nit_actor.proofs.Basics.{IsAtPhase, IsPairIn, IsPairRoleIn, IsRoleIn, Line, OpeningParts}
-use Rattle.nit_actor.proofs.Basics.{PassModel, Role, clip_number, clip_phases, clip_phases_before}
-use Rattle.nit_actor.proofs.Basics.{clip_role_of, counted_more, counted_same, eq-eqb, eqb-true}
-use Rattle.nit_actor.proofs.Basics.{is_clip_phase, is_phase, pair_role_of, phases, phases_before}
-use Rattle.nit_actor.proofs.Basics.{role_of, slice_get}
+use Rattle.nit_actor.proofs.Basics.{All, ClipPassModel, GoTogether, IsAtClipPhase, IsAtPhase}
+use Rattle.nit_actor.proofs.Basics.{IsPairIn, IsPairRoleIn, Line, OpeningParts, Pair, PairRole}
+use Rattle.nit_actor.proofs.Basics.{PassModel, Role, clip_phases, clip_phases_before, clip_role_of}
+use Rattle.nit_actor.proofs.Basics.{counted_more, counted_same, eq-eqb, eqb-true, is_clip_phase}
+use Rattle.nit_actor.proofs.Basics.{is_phase, pair_role_of, phases, phases_before, role_of}
+use Rattle.nit_actor.proofs.Basics.{slice_get, slice_index_or}
 use Rattle.nit_script.specs.declared.line.Line.TheVariants as line
 use Rattle.nit_clip.specs.declared.line.ClipLine.TheVariants as clip
-use Rattle.nit_actor.proofs.RoleLemmas.{role_fits, fits_belongs}
+use Rattle.nit_actor.proofs.RoleLemmas.{all_again, role_fits, fits_belongs}
 use Rattle.nit_actor.proofs.PhaseCounts.{counted_all, counted_fewer}
 
 -- ---- phases
@@ -85,24 +85,6 @@ clip_done_too p q t done counted clips (inr end) = end
 
 -- ---- roles
 
--- both passes keep their roles, and go together still
-pub pair_again : (parts : OpeningParts) (p p' : PassModel) (q q' : ClipPassModel) → IsPairIn parts p q
-    → role_of p' ≡ role_of p → clip_role_of q' ≡ clip_role_of q
-    → GoTogether p' q' → IsPairIn parts p' q'
-pair_again parts p p' q q' pair e f t =
-    record {
-      pass = fits_belongs parts p' (subst (λ (r : Role). IsRoleIn parts r) (sym e) (role_fits parts p pair.pass));
-      clip = clip_again;
-      together = t;
-    }
-  where
-    clip_again : ClipBelongs parts q'
-    clip_again = record {
-      name = ap (λ (r : ClipRole). r.name) f ∙ pair.clip.name;
-      script = subst (λ (r : ClipRole). slice_get parts.clips r.sid ≡ Some r.script) (sym f) pair.clip.script;
-      number = subst (λ (r : ClipRole). r.number ≡ clip_number parts r.sid) (sym f) pair.clip.number;
-    }
-
 pub pair_fits : (parts : OpeningParts) (p : PassModel) (q : ClipPassModel) → IsPairIn parts p q
     → IsPairRoleIn parts (pair_role_of p q)
 pair_fits parts p q pair =
@@ -136,3 +118,17 @@ pair_role_again p p' q q' t u e f =
     let is : (p'.phase == q'.phase) ≡ (p.phase == q.phase) = eq-eqb p'.phase q'.phase u.now.phase
     ∙ sym (eq-eqb p.phase q.phase t.now.phase) in
     λ i. record { client = e i; clip = f i; in_phase = is i }
+
+pub pairs_fit : (parts : OpeningParts) (bs : List Pair) → All (λ (b : Pair). IsPairIn parts b.pass b.clip) bs
+    → All (λ (b : Pair). IsPairRoleIn parts (pair_role_of b.pass b.clip)) bs
+pairs_fit parts bs all = λ k d inside. let b = slice_index_or bs k d in pair_fits parts b.pass b.clip (all k d inside)
+
+-- pairs of the same roles are of the same opening
+pub pairs_again : (parts : OpeningParts) (bs cs : List Pair)
+    → map (λ (b : Pair). pair_role_of b.pass b.clip) bs ≡ map (λ (b : Pair). pair_role_of b.pass b.clip) cs
+    → All (λ (b : Pair). IsPairIn parts b.pass b.clip) cs → All (λ (b : Pair). IsPairIn parts b.pass b.clip) bs
+pairs_again parts bs cs e all = λ k d inside.
+    let b = slice_index_or bs k d in
+    fits_pair parts b.pass b.clip
+    (all_again (λ (b : Pair). pair_role_of b.pass b.clip) (λ (r : PairRole). IsPairRoleIn parts r) bs cs e
+    (pairs_fit parts cs all) k d inside)

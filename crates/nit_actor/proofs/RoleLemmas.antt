@@ -1,46 +1,53 @@
--- The roles of passes, one of which did a line.
+-- The roles of actors, one of which did a line.
 use Rattle.std.proofs.Common.{List, [], ap, arith, get_or, length, map, refl, set, subst, suc, sym}
 use Rattle.std.proofs.Common.{zero, ℕ, ◌<◌, ◌∙◌, ◌∷◌, ◌≡◌}
-use Rattle.nit_actor.proofs.Basics.{All, Belongs, IsRoleIn, OpeningParts, PassModel, PassRole, Role}
-use Rattle.nit_actor.proofs.Basics.{role_of, slice_index_or}
+use Rattle.nit_actor.proofs.Basics.{All, Belongs, IsRoleIn, OpeningParts, PassModel, Role}
+use Rattle.nit_actor.proofs.Basics.{UserBelongs, UserPassModel, role_of, slice_index_or}
+use Rattle.nit_actor.proofs.Basics.{user_role_of}
+use Rattle.nit_actor.specs.Role.{UserRole}
+
+-- ---- lists of any actors
+
+-- where one keeps its role, all do
+pub same_set : {X R : Type 0} (f : X → R) (xs : List X) (i : ℕ) (x d : X) → i < length xs → f x ≡ f (get_or xs i d)
+    → map f (set xs i x) ≡ map f xs
+same_set f [] i x d h e = absurd (omega arith)
+same_set f (y ∷ xs) zero x d h e = ap (λ (r : _). r ∷ map f xs) e
+same_set f (y ∷ xs) (suc i) x d h e = ap (λ (rs : _). f y ∷ rs) (same_set f xs i x d (omega arith) e)
+
+image_at : {X R : Type 0} (f : X → R) (xs : List X) (k : ℕ) (d : X)
+    → f (slice_index_or xs k d) ≡ slice_index_or (map f xs) k (f d)
+image_at f [] k d = refl
+image_at f (x ∷ xs) zero d = refl
+image_at f (x ∷ xs) (suc k) d = image_at f xs k d
+
+image_long : {X R : Type 0} (f : X → R) (xs : List X) → length (map f xs) ≡ length xs
+image_long f [] = refl
+image_long f (x ∷ xs) = ap suc (image_long f xs)
+
+same_long : {X R : Type 0} (f : X → R) (xs ys : List X) → map f xs ≡ map f ys → length xs ≡ length ys
+same_long {R = R} f xs ys e = sym (image_long f xs) ∙ ap (λ (rs : List R). length rs) e ∙ image_long f ys
+
+-- what holds of some roles holds of the same roles
+pub all_again : {X R : Type 0} (f : X → R) (P : R → Type 0) (xs ys : List X) → map f xs ≡ map f ys
+    → All (λ y. P (f y)) ys → All (λ x. P (f x)) xs
+all_again {R = R} f P xs ys e all = λ k d inside.
+    let long = same_long f xs ys e in
+    let same : f (slice_index_or xs k d) ≡ f (slice_index_or ys k d) =
+    image_at f xs k d ∙ ap (λ (rs : List R). slice_index_or rs k (f d)) e ∙ sym (image_at f ys k d) in
+    subst P (sym same) (all k d (omega (arith, long, inside)))
+
+-- ---- passes
 
 abbrev roles : List PassModel → List Role
 roles ps = map (λ (p : PassModel). role_of p) ps
 
--- where one pass keeps its role, all do
-pub roles_set : (ps : List PassModel) (i : ℕ) (p d : PassModel) → i < length ps → role_of p ≡ role_of (get_or ps i d)
-    → roles (set ps i p) ≡ roles ps
-roles_set [] i p d h e = absurd (omega arith)
-roles_set (q ∷ ps) zero p d h e = ap (λ (r : Role). r ∷ roles ps) e
-roles_set (q ∷ ps) (suc i) p d h e = ap (λ (rs : List Role). role_of q ∷ rs) (roles_set ps i p d (omega arith) e)
+pub role_at : (ps : List PassModel) (k : ℕ) (d : PassModel)
+    → role_of (slice_index_or ps k d) ≡ slice_index_or (roles ps) k (role_of d)
+role_at ps k d = image_at role_of ps k d
 
--- ---- the roles as what threads carry
-
-abbrev pub pass_role : PassModel → PassRole
-pass_role p = record { role = role_of p }
-
-abbrev pass_roles : List PassModel → List PassRole
-pass_roles ps = map (λ (p : PassModel). pass_role p) ps
-
-pub roles_carried : (ps qs : List PassModel) → roles ps ≡ roles qs → pass_roles ps ≡ pass_roles qs
-roles_carried ps qs e = parts ps ∙ ap (λ (rs : List Role). map carried rs) e ∙ sym (parts qs)
-  where
-    carried : Role → PassRole
-    carried r = record { role = r }
-
-    parts : (ps : List PassModel) → pass_roles ps ≡ map carried (roles ps)
-    parts [] = refl
-    parts (p ∷ ps) = ap (λ (rs : List PassRole). pass_role p ∷ rs) (parts ps)
-
-pub roles_back : (ps qs : List PassModel) → pass_roles ps ≡ pass_roles qs → roles ps ≡ roles qs
-roles_back ps qs e = parts ps ∙ ap (λ (rs : List PassRole). map inside rs) e ∙ sym (parts qs)
-  where
-    inside : PassRole → Role
-    inside r = r.role
-
-    parts : (ps : List PassModel) → roles ps ≡ map inside (pass_roles ps)
-    parts [] = refl
-    parts (p ∷ ps) = ap (λ (rs : List Role). role_of p ∷ rs) (parts ps)
+pub roles_long : (ps qs : List PassModel) → roles ps ≡ roles qs → length ps ≡ length qs
+roles_long ps qs e = same_long role_of ps qs e
 
 -- ---- of one opening
 
@@ -54,24 +61,16 @@ pub roles_fit : (parts : OpeningParts) (ps : List PassModel) → All (λ (p : Pa
     → All (λ (p : PassModel). IsRoleIn parts (role_of p)) ps
 roles_fit parts ps all = λ k d inside. role_fits parts (slice_index_or ps k d) (all k d inside)
 
-pub role_at : (ps : List PassModel) (k : ℕ) (d : PassModel)
-    → role_of (slice_index_or ps k d) ≡ slice_index_or (roles ps) k (role_of d)
-role_at [] k d = refl
-role_at (p ∷ ps) zero d = refl
-role_at (p ∷ ps) (suc k) d = role_at ps k d
-
-pub roles_long : (ps qs : List PassModel) → roles ps ≡ roles qs → length ps ≡ length qs
-roles_long ps qs e = sym (long ps) ∙ ap (λ (rs : List Role). length rs) e ∙ long qs
-  where
-    long : (ps : List PassModel) → length (roles ps) ≡ length ps
-    long [] = refl
-    long (p ∷ ps) = ap suc (long ps)
-
 -- passes of the same roles belong to the same opening
 pub fit_again : (parts : OpeningParts) (ps qs : List PassModel) → roles ps ≡ roles qs
     → All (λ (p : PassModel). IsRoleIn parts (role_of p)) qs → All (λ (p : PassModel). IsRoleIn parts (role_of p)) ps
-fit_again parts ps qs e all = λ k d inside.
-    let long = roles_long ps qs e in
-    let same : role_of (slice_index_or ps k d) ≡ role_of (slice_index_or qs k d) =
-    role_at ps k d ∙ ap (λ (rs : List Role). slice_index_or rs k (role_of d)) e ∙ sym (role_at qs k d) in
-    subst (λ (r : Role). IsRoleIn parts r) (sym same) (all k d (omega (arith, long, inside)))
+fit_again parts ps qs e all = all_again role_of (λ (r : Role). IsRoleIn parts r) ps qs e all
+
+-- and so does the user
+pub user_again : (parts : OpeningParts) (u v : UserPassModel) → UserBelongs parts u → user_role_of v ≡ user_role_of u
+    → UserBelongs parts v
+user_again parts u v b e = record {
+  number = ap (λ (r : UserRole). r.number) e ∙ b.number;
+  name = ap (λ (r : UserRole). r.name) e ∙ b.name;
+  input = ap (λ (r : UserRole). r.input) e ∙ b.input;
+}

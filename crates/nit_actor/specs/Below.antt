@@ -1,5 +1,5 @@
 -- The words of the library and of the crates below that are used here, and the crate's plain types.
-pub use Rattle.nit_actor.specs.declared.clip_beside.Pair.{Pair}
+pub use Rattle.nit_actor.specs.declared.pair.Pair.{Pair}
 pub use Rattle.nit_actor.specs.declared.desk.PictureName.{PictureName}
 pub use Rattle.nit_actor.specs.declared.places.Place.{Place}
 pub use Rattle.nit_actor.specs.declared.places.Places.{Places}
@@ -77,9 +77,9 @@ pub use Rattle.nit_word.specs.Sight.{IsLoaded, Sight, inked_sight, seen, told_at
 pub use Rattle.nit_word.specs.Updates.{is_between, set_where, with_words}
 pub use Rattle.nit_word.specs.Zeros.{zeros}
 pub use Rattle.std.specs.Fmt.{decimal}
-pub use Rattle.std.specs.List.{AllByRecursion, AllZip, cons_option, flat_map, range_with_len}
+pub use Rattle.std.specs.List.{AllByRecursion, cons_option, flat_map, range_with_len}
 pub use Rattle.std.specs.List.{slice_get, slice_index_or}
 pub use Rattle.std.specs.List.Sorted.{IsNonDecreasing}
 pub use Rattle.std.specs.Option.{option_map}
-pub use Rattle.std.specs.Prelude.{All, IsTrue, codes, slice_index, vec_capacity}
+pub use Rattle.std.specs.Prelude.{All, IsTrue, codes, slice_index}
 pub use Rattle.std.specs.Str.{IsUtf8}

@@ -1,7 +1,7 @@
--- The phases of the actors that are not done, and the least of them.
-use Rattle.std.specs.Prelude.{◌≡◌, ◌==◌, ◌&&◌, ◌≤◌, ◌++◌, ◌∷◌, [], ℕ, List, Option, Some, None, All}
+-- The phases of the actors that are not done, the least of them, and what an actor does next.
+use Rattle.std.specs.Prelude.{◌≡◌, ◌==◌, ◌&&◌, ◌≤◌, ◌+◌, ◌++◌, ◌∷◌, [], ℕ, List, Option, Some, None, All}
 use Rattle.std.specs.Prelude.{Contains, IfSome, filter_map, if◌then◌else◌, length, min}
-use Rattle.nit_actor.specs.Below.{ClipPassModel, PassModel, UserPassModel}
+use Rattle.nit_actor.specs.Below.{ClipPassModel, Pair, PassModel, UserPassModel}
 
 -- the phase that a client is in, where it is not done: a line of its script is left
 abbrev pub phase_left : PassModel → Option ℕ
@@ -11,6 +11,14 @@ phase_left p = if p.next == length p.script then None else Some p.phase
 abbrev pub pair_phase_left : PassModel → ClipPassModel → Option ℕ
 pair_phase_left p q =
     if (p.next == length p.script) && (q.next == length q.script) then None else Some p.phase
+
+-- a client with a clip script did what is next: a line of its script; where no line of that is
+-- left, all that is left of the clip script
+abbrev pub PairSteps : Pair → Pair → Type 0
+PairSteps before after' =
+    ((before.pass.next ≡ length before.pass.script → ⊥) → after'.pass.next ≡ before.pass.next + 1)
+    × (before.pass.next ≡ length before.pass.script
+    → (after'.pass.next ≡ length after'.pass.script) × (after'.clip.next ≡ length after'.clip.script))
 
 -- the same of the user
 abbrev pub user_phase_left : UserPassModel → Option ℕ

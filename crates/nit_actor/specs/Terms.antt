@@ -1,5 +1,5 @@
 -- The words that clauses use: those that come from outside, and those of this crate.
-pub use Rattle.nit_actor.specs.Below.{Action, Acts, All, AllByRecursion, AllZip, AreRaw, Area, Bare}
+pub use Rattle.nit_actor.specs.Below.{Action, Acts, All, AllByRecursion, AreRaw, Area, Bare}
 pub use Rattle.nit_actor.specs.Below.{Belongs, Black, Buffer, Call, Calls, Client, ClipBelongs}
 pub use Rattle.nit_actor.specs.Below.{ClipPassModel, Configuration, Device, Does, Entry, File, Fill}
 pub use Rattle.nit_actor.specs.Below.{FitsInputLine, HasMetPhase, InputLine, IsAtClipPhase}
@@ -16,7 +16,7 @@ pub use Rattle.nit_actor.specs.Below.{State, Step, Stroke, Tells, TellsShot, Tur
 pub use Rattle.nit_actor.specs.Below.{UserBelongs, UserPassModel, View, Word, action_of, after}
 pub use Rattle.nit_actor.specs.Below.{after_arrival, arrived_one, bar_rows, bare_word, blank}
 pub use Rattle.nit_actor.specs.Below.{buffer_size, call_of_line, calls_from, calls_in, calls_of}
-pub use Rattle.nit_actor.specs.Below.{calls_to_make, clip_number, clip_phases, clip_phases_before}
+pub use Rattle.nit_actor.specs.Below.{calls_to_make, clip_phases, clip_phases_before}
 pub use Rattle.nit_actor.specs.Below.{codes, cons_option, decimal, dirty, donation_of, done}
 pub use Rattle.nit_actor.specs.Below.{first_state, flat_map, frame, glass_in, glasses_of_call}
 pub use Rattle.nit_actor.specs.Below.{in_bar, ink, inked_sight, is_between, is_clip_phase}
@@ -33,7 +33,7 @@ pub use Rattle.nit_actor.specs.Below.{table_size, to_do, told_at, told_words, un
 pub use Rattle.nit_actor.specs.Below.{user_actions_from, user_actions_in, user_actions_of}
 pub use Rattle.nit_actor.specs.Below.{user_actions_to_do, with_words, words_after, words_left}
 pub use Rattle.nit_actor.specs.Below.{zeros}
-pub use Rattle.nit_actor.specs.ClipRole.{ClipRole, GoTogether, IsPairIn, IsPairRoleIn, PairRole}
+pub use Rattle.nit_actor.specs.ClipRole.{GoTogether, IsPairIn, IsPairRoleIn, PairRole}
 pub use Rattle.nit_actor.specs.ClipRole.{clip_role_of, pair_role_of}
 pub use Rattle.nit_actor.specs.Crew.{IsStarted}
 pub use Rattle.nit_actor.specs.Drawing.{Drawing, PutsShots, after_turn, done_after, drawn}
@@ -41,8 +41,8 @@ pub use Rattle.nit_actor.specs.Drawing.{drawn_shot, entry_of, frame_of, opening_
 pub use Rattle.nit_actor.specs.Drawing.{shot_frames_of, shots_after, shots_of, state_after}
 pub use Rattle.nit_actor.specs.Drawing.{tables_after, word_after_entry, word_from}
 pub use Rattle.nit_actor.specs.IdleUser.{StepTogether, actions_to_be, idle_user}
-pub use Rattle.nit_actor.specs.PhasesLeft.{IsLeastOf, NoneIsBefore, lesser, pair_phase_left}
-pub use Rattle.nit_actor.specs.PhasesLeft.{phase_left, phases_left, user_phase_left}
+pub use Rattle.nit_actor.specs.PhasesLeft.{IsLeastOf, NoneIsBefore, lesser}
+pub use Rattle.nit_actor.specs.PhasesLeft.{pair_phase_left, phase_left, phases_left, user_phase_left}
 pub use Rattle.nit_actor.specs.Pictures.{AreNearShots, GrowsQuietly, IsNearPicture, PutsShotsBehind}
 pub use Rattle.nit_actor.specs.Places.{ArePlaces, HasTurn, IsAtTurn, IsFirstActive, IsNextTurn}
 pub use Rattle.nit_actor.specs.Places.{NoneHas, StandsAt, is_active, left_at, left_from, lefts}
@@ -66,5 +66,3 @@ pub use Rattle.nit_actor.specs.Turn.{ActorLine, ByClient, ByUser, LineTurn, acto
 pub use Rattle.nit_actor.specs.Turn.{ends_phase, turns_from, turns_of}
 pub use Rattle.nit_actor.specs.TurnActions.{AreRoundsOf, actions_of_line, actions_of_turns}
 pub use Rattle.nit_actor.specs.TurnActions.{input_by_user, input_lines_of, line_by, lines_of}
-pub use Rattle.nit_actor.specs.declared.beside.PassRole.{PassRole}
-pub use Rattle.nit_actor.specs.declared.clip_beside.OnePairRole.{OnePairRole}

@@ -1,14 +1,87 @@
-//! What a client's thread does.
+//! What an actor is, and what a client's thread does.
 
 ghost use Rattle.std.specs.Prelude.{◌≡◌, ◌+◌, Some, length, slice_get};
 ghost use Rattle.nit_actor.specs.Terms.{Belongs, HasMetPhase, Stroke, role_of};
 ghost use Rattle.nit_script.specs.declared.line.Line.TheVariants as lines;
 
-use crate::gate::{AtGate, Checkpoint, Gate};
+use crate::gate::{Checkpoint, Gate};
 use crate::work::{GatedHall, Work};
 use nit_hall::{Hall, Name, Pass};
 use nit_script::Line;
 use std::sync::Wait;
+
+/// A client as one thread steps it, alone or with its clips. What it shares with all actors of its
+/// run is a `W`.
+pub(crate) trait Actor<W> {
+    ghost use Rattle.std.specs.Prelude.{◌≡◌, ℕ, Option, None, IsSome};
+
+    /// Who the actor is and what it has to do. No step changes this.
+    ghost Role: { Type 0 };
+
+    ghost role: { Self → Role };
+
+    /// An actor of this role is one of the run.
+    ghost fits: { Role → Type 0 };
+
+    /// The phase that it is in, or `None` where it is done.
+    ghost left: { Self → Option ℕ };
+
+    /// A step makes the second of the first.
+    ghost steps: { Self → Self → Type 0 };
+
+    /// The phase that it is in, or `None` where it is done.
+    fn phase_left(&self) -> Option<u32>
+        ensures { result ≡ left self.now };
+
+    /// Does what is next. It may wait until the room serves the actor's phase.
+    fn step<R: Wait>(&mut self, rt: &R, work: &W)
+        requires fits { fits (role self.old) }
+        requires left { IsSome (left self.old) }
+        ensures same { role self.new ≡ role self.old }
+        ensures steps { steps self.old self.new };
+
+    /// Does all that is left.
+    fn run<R: Wait>(&mut self, rt: &R, work: &W)
+        requires fits { fits (role self.old) }
+        ensures same { role self.new ≡ role self.old }
+        ensures done { left self.new ≡ None };
+}
+
+/// A client alone: each step does a line.
+impl<'h, 'a, N: Name, K: Checkpoint> Actor<Work<'h, 'a, N, K>> for Pass<'a> {
+    ghost use Rattle.std.specs.Prelude.{◌≡◌, ◌+◌};
+    ghost use Rattle.nit_actor.specs.Role.{Role, IsRoleIn, role_of};
+    ghost use Rattle.nit_actor.specs.PhasesLeft.{phase_left};
+
+    ghost Role = { Role };
+
+    ghost role = { role_of };
+
+    ghost fits = { IsRoleIn N.parts };
+
+    ghost left = { phase_left };
+
+    ghost steps = { λ before after'. after'.next ≡ before.next + 1 };
+
+    fn phase_left(&self) -> Option<u32> {
+        if self.done() {
+            None
+        } else {
+            Some(self.phase())
+        }
+    }
+
+    fn step<R: Wait>(&mut self, rt: &R, work: &Work<'h, 'a, N, K>) {
+        if let Some(line) = self.next() {
+            do_line(rt, work, self, &line);
+        }
+    }
+
+    #[tactic(auto, using(crate::proofs::LeastPhases::client_none))]
+    fn run<R: Wait>(&mut self, rt: &R, work: &Work<'h, 'a, N, K>) {
+        run_lines(rt, work, self);
+    }
+}
 
 /// Does all lines of the pass that are left, and passes the gate before each, outside the lock. A
 /// call and the end of a phase wait until the room serves the pass's phase. A stroke waits so
@@ -23,16 +96,11 @@ pub fn run_actor<'a, N: Name, G: Gate, R: Wait>(
     ensures same { role_of pass.new ≡ role_of pass.old }
     ensures done { pass.new.next ≡ length pass.new.script }
 {
-    let GatedHall { hall, gate } = gated;
-    let work = Work {
-        hall,
-        checkpoint: AtGate(gate),
-    };
-    run_lines(rt, &work, pass)
+    run_lines(rt, &gated.work(), pass)
 }
 
 /// The same, with what is called before each line.
-pub(crate) fn run_lines<'a, N: Name, K: Checkpoint, R: Wait>(
+fn run_lines<'a, N: Name, K: Checkpoint, R: Wait>(
     rt: &R,
     work: &Work<'_, 'a, N, K>,
     pass: &mut Pass<'a>,

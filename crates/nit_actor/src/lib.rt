@@ -28,9 +28,9 @@
 //! is up to the threads; that each actor's lines are done in order, each once, is kept by the hall
 //! and shows when all passes are done.
 //!
-//! [`run_clips`], [`run_mine_clips`] and [`run_beside_clips`] are their twins where each client has
-//! a clip script too. They do a client's clip calls of a phase when its own next line ends the
-//! phase, or behind its last line.
+//! [`run_clips`], [`run_mine_clips`] and [`run_beside_clips`] do the same where each client has a
+//! clip script too. They do a client's clip calls of a phase when its own next line ends the phase,
+//! or behind its last line.
 //!
 //! # Alone
 //!
@@ -40,9 +40,6 @@
 
 mod actor;
 mod beside;
-mod clip_actor;
-mod clip_beside;
-mod clip_mine;
 mod copying;
 mod crew;
 mod desk;
@@ -50,6 +47,7 @@ mod drawing;
 mod gate;
 pub mod laws;
 mod mine;
+mod pair;
 mod part;
 mod places;
 mod running;
@@ -62,14 +60,12 @@ mod viewer;
 mod work;
 
 pub use actor::run_actor;
-pub use beside::{Mine, run_beside};
-pub use clip_actor::run_clips;
-pub use clip_beside::{Pair, run_beside_clips};
-pub use clip_mine::run_mine_clips;
+pub use beside::{Mine, run_beside, run_beside_clips};
 pub use crew::Unstarted;
 pub use desk::{Desk, PictureName};
 pub use gate::{Gate, Open};
-pub use mine::run_mine;
+pub use mine::{run_mine, run_mine_clips};
+pub use pair::{Pair, run_clips};
 pub use running::{run_rounds, run_viewed};
 pub use single::run_alone;
 pub use turn::Turn;

@@ -1,17 +1,18 @@
-//! What the calling thread does: the user, and the passes whose threads could not be started, by
+//! What the calling thread does: the user, and the clients whose threads could not be started, by
 //! turns.
 
-ghost use Rattle.std.specs.Prelude.{◌≡◌, ◌*◌, ◌+◌, ◌∷◌, [], All, Some, length, map};
-ghost use Rattle.nit_actor.specs.Terms.{Belongs, IsLeastOf, IsRoleIn, NoneIsBefore};
-ghost use Rattle.nit_actor.specs.Terms.{PutsShotsBehind, UserBelongs, lesser, phase_left};
+ghost use Rattle.std.specs.Prelude.{◌≡◌, ◌*◌, All, None, Some, length, map};
+ghost use Rattle.nit_actor.specs.Terms.{Belongs, IsLeastOf, IsPairIn, NoneIsBefore};
+ghost use Rattle.nit_actor.specs.Terms.{PutsShotsBehind, UserBelongs, lesser, pair_role_of};
 ghost use Rattle.nit_actor.specs.Terms.{phases_left, picture_length, put_state_of_desk, role_of};
 ghost use Rattle.nit_actor.specs.Terms.{user_phase_left, user_role_of};
 
-use crate::actor::do_line;
+use crate::actor::Actor;
 use crate::desk::Desk;
-use crate::gate::{AtGate, Checkpoint, Gate};
-use crate::user::do_user_line;
-use crate::work::{GatedHall, Work};
+use crate::gate::Gate;
+use crate::pair::Pair;
+use crate::user::{UserTurns, user_phase_left};
+use crate::work::GatedHall;
 use nit_hall::{Name, Pass, UserPass};
 use nit_store::Store;
 use std::sync::Wait;
@@ -20,6 +21,7 @@ use std::sync::Wait;
 /// the shots until a put is refused. In each turn those of the least phase that has a line left do
 /// a line each, so the thread waits only where each that is not done has ended its phase. Each
 /// passes the gate before its line, outside the lock.
+#[tactic(auto, using(crate::proofs::LeastPhases::clients_done))]
 pub fn run_mine<'a, N: Name, G: Gate, S: Store, R: Wait>(
     rt: &R,
     gated: GatedHall<'_, 'a, N, G>,
@@ -43,29 +45,32 @@ pub fn run_mine<'a, N: Name, G: Gate, S: Store, R: Wait>(
     ensures text { length desk.new.text.items ≡ length desk.old.text.items }
     ensures same_store { desk.new.store.ghost_name ≡ desk.old.store.ghost_name }
 {
-    let GatedHall { hall, gate } = gated;
-    let work = Work {
-        hall,
-        checkpoint: AtGate(gate),
-    };
-    run_turns(rt, &work, passes, user, desk)
+    run_turns(rt, &gated.work(), passes, user, desk)
 }
 
-/// The same, with what is called before each line.
-pub(crate) fn run_turns<'a, N: Name, K: Checkpoint, S: Store, R: Wait>(
+/// Does all lines of these pairs, of their clip scripts and of the user that are left, by turns, as
+/// [`run_mine`] does those of passes and of the user. The clip calls of a phase are done in the
+/// turn in which the pass's own next line ends the phase, or behind its last line; they pass no
+/// gate. Of each pair the pass and the clip pass are of this opening, of one client and in one
+/// phase, and its two scripts have as many phases; so it is again when all are done.
+#[tactic(auto, using(crate::proofs::Pairs::pairs_fit, crate::proofs::LeastPhases::pairs_done))]
+pub fn run_mine_clips<'a, N: Name, G: Gate, S: Store, R: Wait>(
     rt: &R,
-    work: &Work<'_, 'a, N, K>,
-    passes: &mut [Pass<'a>],
+    gated: GatedHall<'_, 'a, N, G>,
+    pairs: &mut [Pair<'a>],
     user: &mut UserPass<'a>,
     desk: &mut Desk<S>,
 )
-    requires passes { All (λ p. IsRoleIn N.parts (role_of p)) passes.old }
+    requires pairs { All (λ b. IsPairIn N.parts b.pass b.clip) pairs.old }
     requires user { UserBelongs N.parts user.old }
     requires frame { length desk.old.frame.items ≡ N.parts.config.width * N.parts.config.height }
     requires text { length desk.old.text.items
         ≡ picture_length N.parts.config.width N.parts.config.height }
-    ensures same { map role_of passes.new ≡ map role_of passes.old }
-    ensures done { All (λ p. p.next ≡ length p.script) passes.new }
+    ensures same { map (λ b. pair_role_of b.pass b.clip) pairs.new
+        ≡ map (λ b. pair_role_of b.pass b.clip) pairs.old }
+    ensures pairs { All (λ b. IsPairIn N.parts b.pass b.clip) pairs.new }
+    ensures done { All (λ b. (b.pass.next ≡ length b.pass.script)
+        × (b.clip.next ≡ length b.clip.script)) pairs.new }
     ensures user_same { user_role_of user.new ≡ user_role_of user.old }
     ensures user_done { user.new.next ≡ length user.new.input }
     ensures put { PutsShotsBehind N.parts user.old.seen user.new.seen
@@ -75,121 +80,83 @@ pub(crate) fn run_turns<'a, N: Name, K: Checkpoint, S: Store, R: Wait>(
     ensures text { length desk.new.text.items ≡ length desk.old.text.items }
     ensures same_store { desk.new.store.ghost_name ≡ desk.old.store.ghost_name }
 {
-    'turns: for _ in rt.forever() {
-        let Some(phase) = least_phase(passes, user) else {
-            return;
-        };
-        do_turn(rt, work, passes, phase);
-        do_user_turn(rt, work, user, phase, desk);
-    }
-    unreachable!()
+    run_turns(rt, &gated.work(), pairs, user, desk)
 }
 
-/// Each pass that is in this phase does its next line, if it has one. No pass that is not done is
-/// in a lesser phase.
-fn do_turn<'a, N: Name, K: Checkpoint, R: Wait>(
+/// Does all that is left of these actors and of the user, by turns. In each turn those of the least
+/// phase that has a line left do what is next.
+#[tactic(auto, using(crate::proofs::LeastPhases::user_not_before))]
+pub(crate) fn run_turns<'a, W: UserTurns<'a>, A: Actor<W>, S: Store, R: Wait>(
     rt: &R,
-    work: &Work<'_, 'a, N, K>,
-    passes: &mut [Pass<'a>],
-    phase: u32,
-)
-    requires fits { All (λ p. IsRoleIn N.parts (role_of p)) passes.old }
-    requires least { NoneIsBefore phase_left phase passes.old }
-    ensures same { map role_of passes.new ≡ map role_of passes.old }
-    ensures fits { All (λ p. IsRoleIn N.parts (role_of p)) passes.new }
-{
-    'passes: for pass in passes.iter_mut() {
-        do_pass_turn(rt, work, pass, phase);
-    }
-}
-
-/// The pass does its next line, if it has one and is in this phase.
-fn do_pass_turn<'a, N: Name, K: Checkpoint, R: Wait>(
-    rt: &R,
-    work: &Work<'_, 'a, N, K>,
-    pass: &mut Pass<'a>,
-    phase: u32,
-)
-    requires fits { IsRoleIn N.parts (role_of pass.old) }
-    ensures same { role_of pass.new ≡ role_of pass.old }
-    ensures in_phase { phase_left pass.old ≡ Some phase → pass.new.next ≡ pass.old.next + 1 }
-    ensures others { (pass.old.phase ≡ phase → ⊥) → pass.new ≡ pass.old }
-{
-    if pass.phase() != phase {
-        return;
-    }
-    if let Some(line) = pass.next() {
-        do_line(rt, work, pass, &line);
-    }
-}
-
-/// The user does its next line, if it has one and is in this phase. It is done, or in no lesser
-/// phase.
-pub(crate) fn do_user_turn<'a, N: Name, K: Checkpoint, S: Store, R: Wait>(
-    rt: &R,
-    work: &Work<'_, 'a, N, K>,
+    work: &W,
+    actors: &mut [A],
     user: &mut UserPass<'a>,
-    phase: u32,
     desk: &mut Desk<S>,
 )
-    requires belongs { UserBelongs N.parts user.old }
-    requires least { NoneIsBefore user_phase_left phase (user.old ∷ []) }
-    requires frame { length desk.old.frame.items ≡ N.parts.config.width * N.parts.config.height }
+    requires fits { All (λ a. A.fits (A.role a)) actors.old }
+    requires user { UserBelongs W.parts user.old }
+    requires frame { length desk.old.frame.items ≡ W.parts.config.width * W.parts.config.height }
     requires text { length desk.old.text.items
-        ≡ picture_length N.parts.config.width N.parts.config.height }
-    ensures same { user_role_of user.new ≡ user_role_of user.old }
-    ensures in_phase { user_phase_left user.old ≡ Some phase → user.new.next ≡ user.old.next + 1 }
-    ensures others { (user.old.phase ≡ phase → ⊥) → user.new ≡ user.old }
-    ensures put { PutsShotsBehind N.parts user.old.seen user.new.seen
+        ≡ picture_length W.parts.config.width W.parts.config.height }
+    ensures same { map A.role actors.new ≡ map A.role actors.old }
+    ensures done { All (λ a. A.left a ≡ None) actors.new }
+    ensures user_same { user_role_of user.new ≡ user_role_of user.old }
+    ensures user_done { user.new.next ≡ length user.new.input }
+    ensures put { PutsShotsBehind W.parts user.old.seen user.new.seen
         (put_state_of_desk (S.shown desk.old.store.now) desk.old.fault desk.old.tried)
         (put_state_of_desk (S.shown desk.new.store.now) desk.new.fault desk.new.tried) }
     ensures frame { length desk.new.frame.items ≡ length desk.old.frame.items }
     ensures text { length desk.new.text.items ≡ length desk.old.text.items }
     ensures same_store { desk.new.store.ghost_name ≡ desk.old.store.ghost_name }
 {
-    if user.phase() != phase {
-        return;
+    'turns: for _ in rt.forever() {
+        let Some(phase) = least_phase(actors, user) else {
+            return;
+        };
+        do_turn(rt, work, actors, phase);
+        work.user_turn(rt, user, phase, desk);
     }
-    if let Some(line) = user.next() {
-        do_user_line(rt, work, user, &line, desk);
+    unreachable!()
+}
+
+/// Each actor that is in this phase does what is next, if it is not done. No actor that is not done
+/// is in a lesser phase.
+fn do_turn<A: Actor<W>, W, R: Wait>(rt: &R, work: &W, actors: &mut [A], phase: u32)
+    requires fits { All (λ a. A.fits (A.role a)) actors.old }
+    requires least { NoneIsBefore A.left phase actors.old }
+    ensures same { map A.role actors.new ≡ map A.role actors.old }
+    ensures fits { All (λ a. A.fits (A.role a)) actors.new }
+{
+    'actors: for actor in actors.iter_mut() {
+        do_one_turn(rt, work, actor, phase);
+    }
+}
+
+/// The actor does what is next, if it is not done and is in this phase.
+fn do_one_turn<A: Actor<W>, W, R: Wait>(rt: &R, work: &W, actor: &mut A, phase: u32)
+    requires fits { A.fits (A.role actor.old) }
+    ensures same { A.role actor.new ≡ A.role actor.old }
+    ensures in_phase { A.left actor.old ≡ Some phase → A.steps actor.old actor.new }
+    ensures others { (A.left actor.old ≡ Some phase → ⊥) → actor.new ≡ actor.old }
+{
+    if actor.phase_left() == Some(phase) {
+        actor.step(rt, work);
     }
 }
 
 /// The least phase of those that are not done, or `None` where all are done.
-fn least_phase(passes: &[Pass<'_>], user: &UserPass<'_>) -> Option<u32>
-    ensures { IsLeastOf result (phases_left phase_left passes.now user.now) }
+fn least_phase<A: Actor<W>, W>(actors: &[A], user: &UserPass<'_>) -> Option<u32>
+    ensures { IsLeastOf result (phases_left A.left actors.now user.now) }
 {
     let mut least = None;
-    'passes: for pass in passes {
-        least = lesser(least, phase_left(pass));
+    'actors: for actor in actors {
+        least = lesser(least, actor.phase_left());
     }
     lesser(least, user_phase_left(user))
 }
 
-/// The phase that the client is in, or `None` where it is done.
-fn phase_left(pass: &Pass<'_>) -> Option<u32>
-    ensures { result ≡ phase_left pass.now }
-{
-    if pass.done() {
-        None
-    } else {
-        Some(pass.phase())
-    }
-}
-
-/// The phase that the user is in, or `None` where it is done.
-pub(crate) fn user_phase_left(user: &UserPass<'_>) -> Option<u32>
-    ensures { result ≡ user_phase_left user.now }
-{
-    if user.done() {
-        None
-    } else {
-        Some(user.phase())
-    }
-}
-
 /// The lesser of two numbers, of which each may be missing.
-pub(crate) fn lesser(one: Option<u32>, other: Option<u32>) -> Option<u32>
+fn lesser(one: Option<u32>, other: Option<u32>) -> Option<u32>
     ensures { result ≡ lesser one other }
 {
     match (one, other) {

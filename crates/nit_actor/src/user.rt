@@ -1,9 +1,9 @@
-//! The user's lines, over a hall.
+//! The user's turns and lines, over a hall.
 
 ghost use Rattle.std.specs.Prelude.{◌≡◌, ◌*◌, ◌+◌, All, Some, length, slice_get};
 ghost use Rattle.nit_actor.specs.Terms.{GrowsQuietly, IsAtDevice, IsAtShot, IsAtUserPhase, IsWord};
 ghost use Rattle.nit_actor.specs.Terms.{PutsShotsBehind, TellsShot, UserBelongs, picture_length};
-ghost use Rattle.nit_actor.specs.Terms.{put_state_of_desk, user_role_of};
+ghost use Rattle.nit_actor.specs.Terms.{put_state_of_desk, user_phase_left, user_role_of};
 
 use crate::desk::{Desk, PictureName};
 use crate::gate::Checkpoint;
@@ -12,6 +12,76 @@ use nit_hall::{Hall, Name, UserPass};
 use nit_script::InputLine;
 use nit_store::Store;
 use std::sync::Wait;
+
+/// What all actors of a run share, as the turns of the user go through it.
+pub(crate) trait UserTurns<'a> {
+    ghost use Rattle.std.specs.Prelude.{◌≡◌, ◌*◌, ◌+◌, ◌∷◌, [], Some, length};
+    ghost use Rattle.nit_hall.specs.OpeningParts.{OpeningParts};
+    ghost use Rattle.nit_report.specs.Picture.{picture_length};
+    ghost use Rattle.nit_hall.specs.Pass.{UserBelongs};
+    ghost use Rattle.nit_actor.specs.PhasesLeft.{NoneIsBefore, user_phase_left};
+    ghost use Rattle.nit_actor.specs.Pictures.{PutsShotsBehind};
+    ghost use Rattle.nit_actor.specs.Role.{user_role_of};
+    ghost use Rattle.nit_actor.specs.RoundsRun.{put_state_of_desk};
+
+    /// Of which opening the run is.
+    ghost parts: { OpeningParts };
+
+    /// The user does its next line, if it has one and is in this phase. It is done, or in no lesser
+    /// phase.
+    fn user_turn<S: Store, R: Wait>(
+        &self,
+        rt: &R,
+        user: &mut UserPass<'a>,
+        phase: u32,
+        desk: &mut Desk<S>,
+    )
+        requires belongs { UserBelongs parts user.old }
+        requires least { NoneIsBefore user_phase_left phase (user.old ∷ []) }
+        requires frame { length desk.old.frame.items ≡ parts.config.width * parts.config.height }
+        requires text { length desk.old.text.items
+            ≡ picture_length parts.config.width parts.config.height }
+        ensures same { user_role_of user.new ≡ user_role_of user.old }
+        ensures in_phase { user_phase_left user.old ≡ Some phase
+            → user.new.next ≡ user.old.next + 1 }
+        ensures others { (user.old.phase ≡ phase → ⊥) → user.new ≡ user.old }
+        ensures put { PutsShotsBehind parts user.old.seen user.new.seen
+            (put_state_of_desk (S.shown desk.old.store.now) desk.old.fault desk.old.tried)
+            (put_state_of_desk (S.shown desk.new.store.now) desk.new.fault desk.new.tried) }
+        ensures frame { length desk.new.frame.items ≡ length desk.old.frame.items }
+        ensures text { length desk.new.text.items ≡ length desk.old.text.items }
+        ensures same_store { desk.new.store.ghost_name ≡ desk.old.store.ghost_name };
+}
+
+impl<'h, 'a, N: Name, K: Checkpoint> UserTurns<'a> for Work<'h, 'a, N, K> {
+    ghost parts = { N.parts };
+
+    fn user_turn<S: Store, R: Wait>(
+        &self,
+        rt: &R,
+        user: &mut UserPass<'a>,
+        phase: u32,
+        desk: &mut Desk<S>,
+    ) {
+        if user.phase() != phase {
+            return;
+        }
+        if let Some(line) = user.next() {
+            do_user_line(rt, self, user, &line, desk);
+        }
+    }
+}
+
+/// The phase that the user is in, or `None` where it is done.
+pub(crate) fn user_phase_left(user: &UserPass<'_>) -> Option<u32>
+    ensures { result ≡ user_phase_left user.now }
+{
+    if user.done() {
+        None
+    } else {
+        Some(user.phase())
+    }
+}
 
 /// Does the user's next line, which is of a device.
 fn do_device<'a, N: Name, R: Wait>(rt: &R, hall: &Hall<'a, N>, user: &mut UserPass<'a>)
@@ -89,7 +159,7 @@ fn shoot<'a, N: Name, S: Store, R: Wait>(
 
 /// Does the user's next line, which is this one, and passes the gate before it. The picture of a
 /// shot is put, unless a put was refused before.
-pub(crate) fn do_user_line<'a, N: Name, K: Checkpoint, S: Store, R: Wait>(
+fn do_user_line<'a, N: Name, K: Checkpoint, S: Store, R: Wait>(
     rt: &R,
     work: &Work<'_, 'a, N, K>,
     user: &mut UserPass<'a>,

@@ -19,7 +19,9 @@ use Rattle.nit_hall.specs.ClipPass.{AreDoneClips, ClipBelongs, ClipPassModel, cl
 use Rattle.nit_hall.specs.Opening.{IsOpening, first_pass, first_user}
 use Rattle.nit_hall.specs.ClipOpening.{AreFirstClipPasses, first_clip_pass, with_clip_scripts}
 use Rattle.nit_hall.specs.Room.{RoomModel}
-use Rattle.nit_actor.specs.ClipRole.{ClipRole, GoTogether, clip_role_of}
+use Rattle.nit_actor.specs.ClipRole.{ClipRole, GoTogether, IsPairIn, PairRole, clip_role_of}
+use Rattle.nit_actor.specs.ClipRole.{pair_role_of}
+use Rattle.std.proofs.lemmas.List.Elements.{All-cons}
 use Rattle.nit_clip.specs.ClipGrammar.{clip_phases}
 use Rattle.nit_script.specs.Phases.{phases}
 use Rattle.nit_tests.specs.HallOpening.{IsOpenRoom}
@@ -196,3 +198,29 @@ clips_done parts qs qs' first belong same ended = record {
             (ended k q (slice_get_within qs' k q at));
       };
 }
+
+-- ---- one client
+
+pub last_alone : {X : Type 0} (xs ys : List X) (x : X) → ys ≡ xs ++ x ∷ [] → length ys ≡ 1 → ys ≡ x ∷ []
+last_alone [] ys x e long = e
+last_alone (z ∷ xs) ys x e long = absurd (let a = ap length e in let b = length-append xs (x ∷ []) in omega (arith, a, b, long))
+
+-- a pass and a clip pass that are alone
+pub one_pair : (parts : OpeningParts) (ps : List PassModel) (qs : List ClipPassModel) (p : PassModel) (q : ClipPassModel)
+    → ps ≡ p ∷ [] → qs ≡ q ∷ [] → All (Belongs parts) ps → All (ClipBelongs parts) qs → AllZip GoTogether ps qs
+    → IsPairIn parts p q
+one_pair parts ps qs p q e f belong clip_belong together = record {
+  pass = subst (All (Belongs parts)) e belong 0 p (omega arith);
+  clip = subst (All (ClipBelongs parts)) f clip_belong 0 q (omega arith);
+  together = (subst (λ (xs : List ClipPassModel). AllZip GoTogether (p ∷ []) xs) f
+      (subst (λ (xs : List PassModel). AllZip GoTogether xs qs) e together)).0;
+}
+
+-- a clip pass that was alone, and is done in a pair of the same role
+pub one_done : (parts : OpeningParts) (qs : List ClipPassModel) (p p' : PassModel) (q q' : ClipPassModel) → qs ≡ q ∷ []
+    → AreFirstClipPasses parts qs → All (ClipBelongs parts) qs → pair_role_of p' q' ≡ pair_role_of p q
+    → q'.next ≡ length q'.script → AreDoneClips parts (q' ∷ [])
+one_done parts qs p p' q q' e first belong same ended =
+    clips_done parts (q ∷ []) (q' ∷ []) (subst (AreFirstClipPasses parts) e first) (subst (All (ClipBelongs parts)) e belong)
+    (ap (λ (r : PairRole). r.clip ∷ []) same)
+    (All-cons (λ (x : ClipPassModel). x.next ≡ length x.script) q' [] ended (λ k d inside. absurd (omega arith)))

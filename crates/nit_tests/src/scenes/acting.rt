@@ -1,18 +1,18 @@
 //! Whole runs through a hall: of each client's lines some are done on a thread, and the others on
 //! the calling one, by turns with the user, as where a thread could not be started.
 
-ghost use Rattle.std.specs.Prelude.{◌≡◌, ◌*◌, All, length, map};
+ghost use Rattle.std.specs.Prelude.{◌≡◌, ◌*◌, ◌∷◌, [], All, length, map};
 ghost use Rattle.std.specs.List.{AllZip};
 ghost use Rattle.nit_report.specs.Picture.{picture_length};
 ghost use Rattle.nit_hall.specs.Pass.{Belongs, UserBelongs};
-ghost use Rattle.nit_hall.specs.ClipPass.{ClipBelongs};
+ghost use Rattle.nit_hall.specs.ClipPass.{AreDoneClips, ClipBelongs};
 ghost use Rattle.nit_hall.specs.ClipOpening.{AreFirstClipPasses};
-ghost use Rattle.nit_actor.specs.ClipRole.{GoTogether, clip_role_of};
+ghost use Rattle.nit_actor.specs.ClipRole.{GoTogether, IsPairIn, pair_role_of};
 
 use crate::checks::{must, same};
 use crate::words::repeated;
 use nit_actor::{
-    Desk, GatedHall, Mine, Open, PictureName, run_actor, run_clips, run_mine, run_mine_clips,
+    Desk, GatedHall, Mine, Open, Pair, PictureName, run_actor, run_clips, run_mine, run_mine_clips,
 };
 use nit_clip::{ClipEntry, clip_text};
 use nit_hall::{ClipPass, Hall, Name, Pass, UserPass};
@@ -88,7 +88,6 @@ fn mine<'a, 's, N: Name>(
 
 /// Does all lines and clip calls of one client and of the user, and looks at the text of the clip
 /// list.
-#[tactic(auto, using(crate::proofs::OpeningLemmas::clips_done))]
 pub fn act_clips<'a, N: Name + Send + Sync, R: Abort + Threads + Wait + Sync>(
     rt: &R,
     alloc: Global,
@@ -106,14 +105,54 @@ pub fn act_clips<'a, N: Name + Send + Sync, R: Abort + Threads + Wait + Sync>(
     let (way, list) = wanted;
     let mut store = MemoryStore::new(alloc, Vec::new(alloc), Vec::new(alloc));
     let mine = mine(rt, alloc, &hall, user, &mut store);
-    let (passes, clips) = (passes.as_mut_slice(), clips.as_mut_slice());
     if let Way::ClipsThere = way {
+        let (passes, clips) = (passes.as_mut_slice(), clips.as_mut_slice());
         run_parted_clips(rt, &hall, passes, clips, mine);
         return assert_list(rt, alloc, hall.into_room().clip_list(), list);
     }
-    run_clips_here(rt, &hall, passes, clips, mine);
+    let mut clips = [run_one_here(rt, &hall, passes, clips, mine)];
     let mut room = hall.into_room();
-    assert_list(rt, alloc, room.clips(clips), list);
+    assert_list(rt, alloc, room.clips(&mut clips), list);
+}
+
+/// The one element of a list, which has no other.
+#[tactic(auto, using(crate::proofs::OpeningLemmas::last_alone))]
+fn only<T: Drop>(rt: &impl Abort, list: Vec<T>) -> T
+    ensures { list.entry.items ≡ result ∷ [] }
+{
+    let mut list = list;
+    must(rt, "one client", list.len() == 1);
+    let Some(one) = list.pop() else {
+        unreachable!()
+    };
+    one
+}
+
+/// Does all of the one client and of the user on the calling thread.
+fn run_one_here<'a, N: Name, R: Abort + Wait>(
+    rt: &R,
+    hall: &Hall<'a, N>,
+    passes: Vec<Pass<'a>>,
+    clips: Vec<ClipPass<'a>>,
+    mine: Mine<'a, '_, MemoryStore>,
+) -> ClipPass<'a>
+    requires passes { All (Belongs N.parts) passes.items }
+    requires clips { All (ClipBelongs N.parts) clips.items }
+    requires together { AllZip GoTogether passes.items clips.items }
+    requires first { AreFirstClipPasses N.parts clips.items }
+    requires user { UserBelongs N.parts mine.user }
+    requires frame { length mine.desk.frame.items ≡ N.parts.config.width * N.parts.config.height }
+    requires text { length mine.desk.text.items
+        ≡ picture_length N.parts.config.width N.parts.config.height }
+    ensures { AreDoneClips N.parts (result ∷ []) }
+{
+    let pass = only(rt, passes);
+    let clip = only(rt, clips);
+    let mut pairs = [Pair { pass, clip }];
+    run_clips_here(rt, hall, &mut pairs, mine);
+    let [pair] = pairs;
+    let Pair { pass: _pass, clip } = pair;
+    clip
 }
 
 fn assert_list(rt: &impl Abort, alloc: Global, entries: &[ClipEntry], wanted: &[u8]) {
@@ -125,23 +164,21 @@ fn assert_list(rt: &impl Abort, alloc: Global, entries: &[ClipEntry], wanted: &[
 fn run_clips_here<'a, N: Name, R: Wait>(
     rt: &R,
     hall: &Hall<'a, N>,
-    passes: &mut [Pass<'a>],
-    clips: &mut [ClipPass<'a>],
+    pairs: &mut [Pair<'a>],
     mine: Mine<'a, '_, MemoryStore>,
 )
-    requires passes { All (Belongs N.parts) passes.old }
-    requires clips { All (ClipBelongs N.parts) clips.old }
-    requires together { AllZip GoTogether passes.old clips.old }
+    requires pairs { All (λ b. IsPairIn N.parts b.pass b.clip) pairs.old }
     requires user { UserBelongs N.parts mine.user }
     requires frame { length mine.desk.frame.items ≡ N.parts.config.width * N.parts.config.height }
     requires text { length mine.desk.text.items
         ≡ picture_length N.parts.config.width N.parts.config.height }
-    ensures same { map clip_role_of clips.new ≡ map clip_role_of clips.old }
-    ensures done { All (λ q. q.next ≡ length q.script) clips.new }
+    ensures same { map (λ b. pair_role_of b.pass b.clip) pairs.new
+        ≡ map (λ b. pair_role_of b.pass b.clip) pairs.old }
+    ensures done { All (λ b. b.clip.next ≡ length b.clip.script) pairs.new }
 {
     let Mine { mut user, mut desk } = mine;
     let gated = GatedHall { hall, gate: &Open };
-    run_mine_clips(rt, gated, passes, clips, &mut user, &mut desk);
+    run_mine_clips(rt, gated, pairs, &mut user, &mut desk);
 }
 
 /// Does the lines and clip calls of the client on a thread, and the user's on the calling one.
@@ -163,7 +200,7 @@ fn run_parted_clips<'a, N: Name + Send + Sync, R: Threads + Wait + Sync>(
     join(
         rt,
         || run_first_pair(rt, hall, passes, clips),
-        || run_clips_here(rt, hall, &mut [], &mut [], mine),
+        || run_clips_here(rt, hall, &mut [], mine),
     );
 }
 

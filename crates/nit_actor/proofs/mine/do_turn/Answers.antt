@@ -1,14 +1,13 @@
-use Rattle.nit_actor.proofs.Lemmas.{All-set, IsRoleIn, PassModel, Role, arith, role_of, roles_set}
-use Rattle.nit_actor.proofs.Lemmas.{subst, sym, ◌∙◌}
+use Rattle.nit_actor.proofs.Lemmas.{All-set, arith, same_set, subst, sym, ◌∙◌}
 use Rattle.nit_actor.proofs.mine.do_turn.Goals as goal
 
-pub passes-preserved : goal.passes-preserved
-passes-preserved g c =
-    let i = c.passes.invariant in
-    let e = c.do_pass_turn.ensures.same in
+pub actors-preserved : goal.actors-preserved
+actors-preserved g c =
+    let i = c.actors.invariant in
+    let e = c.do_one_turn.ensures.same in
+    let k = c.actors.actor-index in
     record {
-      same = roles_set c.passes.passes c.passes.pass-index c.do_pass_turn.new.pass _ (omega arith) e ∙ i.same;
-      fit = All-set (λ (p : PassModel). IsRoleIn g.N.Name.parts (role_of p)) c.passes.passes c.passes.pass-index
-          c.do_pass_turn.new.pass
-          (subst (λ (r : Role). IsRoleIn g.N.Name.parts r) (sym e) (i.fit c.passes.pass-index _ (omega arith))) i.fit;
+      same = same_set g.A.Actor.role c.actors.actors k c.do_one_turn.new.actor _ (omega arith) e ∙ i.same;
+      fit = All-set (λ a. g.A.Actor.fits (g.A.Actor.role a)) c.actors.actors k c.do_one_turn.new.actor
+          (subst g.A.Actor.fits (sym e) (i.fit k _ (omega arith))) i.fit;
     }

@@ -1,16 +1,61 @@
-//! What a client's thread does where the client has a clip script too.
+//! A client with its clip script, and what its thread does.
 
 ghost use Rattle.std.specs.Prelude.{◌≡◌, ◌+◌, ◌⊎◌, Some, length, slice_get};
 ghost use Rattle.nit_actor.specs.Terms.{Belongs, ClipBelongs, GoTogether, IsAtClipPhase, IsAtPhase};
 ghost use Rattle.nit_actor.specs.Terms.{IsAtPhaseEnd, IsPairIn, clip_role_of, role_of};
 
-use crate::actor::do_line;
-use crate::gate::{AtGate, Checkpoint, Gate};
+use crate::actor::{Actor, do_line};
+use crate::gate::{Checkpoint, Gate};
 use crate::work::{GatedHall, Work};
 use nit_clip::ClipLine;
 use nit_hall::{ClipPass, Hall, Name, Pass};
 use nit_script::Line;
 use std::sync::Wait;
+
+/// A client's pass and its clip pass. They go to one thread.
+#[derive(Drop)]
+pub struct Pair<'a> {
+    pub pass: Pass<'a>,
+    pub clip: ClipPass<'a>,
+}
+
+/// A client with its clips: a step does a line of the pass, and with a line that ends a phase the
+/// clip calls of the phase; where the pass is done, a step does the rest of the clip script.
+impl<'h, 'a, N: Name, K: Checkpoint> Actor<Work<'h, 'a, N, K>> for Pair<'a> {
+    ghost use Rattle.nit_actor.specs.ClipRole.{PairRole, IsPairRoleIn, pair_role_of};
+    ghost use Rattle.nit_actor.specs.PhasesLeft.{PairSteps, pair_phase_left};
+
+    ghost Role = { PairRole };
+
+    ghost role = { λ b. pair_role_of b.pass b.clip };
+
+    ghost fits = { IsPairRoleIn N.parts };
+
+    ghost left = { λ b. pair_phase_left b.pass b.clip };
+
+    ghost steps = { PairSteps };
+
+    fn phase_left(&self) -> Option<u32> {
+        if self.pass.done() && self.clip.done() {
+            None
+        } else {
+            Some(self.pass.phase())
+        }
+    }
+
+    #[tactic(auto, using(crate::proofs::Pairs::fits_pair, crate::proofs::Pairs::pair_role_again))]
+    fn step<R: Wait>(&mut self, rt: &R, work: &Work<'h, 'a, N, K>) {
+        match self.pass.next() {
+            Some(line) => do_pair_line(rt, work, &mut self.pass, &mut self.clip, &line),
+            None => do_last_clips(rt, work.hall, &mut self.pass, &mut self.clip),
+        }
+    }
+
+    #[tactic(auto, using(crate::proofs::Pairs::fits_pair, crate::proofs::Pairs::pair_role_again))]
+    fn run<R: Wait>(&mut self, rt: &R, work: &Work<'h, 'a, N, K>) {
+        run_pair(rt, work, &mut self.pass, &mut self.clip);
+    }
+}
 
 /// Does all lines of the pass that are left, as [`run_actor`](crate::run_actor) does, and all of
 /// the client's clip script. The clip calls of a phase are done when the pass's own next line ends
@@ -32,16 +77,11 @@ pub fn run_clips<'a, N: Name, G: Gate, R: Wait>(
     ensures clip_done { clip.new.next ≡ length clip.new.script }
     ensures together { GoTogether pass.new clip.new }
 {
-    let GatedHall { hall, gate } = gated;
-    let work = Work {
-        hall,
-        checkpoint: AtGate(gate),
-    };
-    run_pair(rt, &work, pass, clip)
+    run_pair(rt, &gated.work(), pass, clip)
 }
 
 /// The same, with what is called before each line.
-pub(crate) fn run_pair<'a, N: Name, K: Checkpoint, R: Wait>(
+fn run_pair<'a, N: Name, K: Checkpoint, R: Wait>(
     rt: &R,
     work: &Work<'_, 'a, N, K>,
     pass: &mut Pass<'a>,
@@ -63,7 +103,7 @@ pub(crate) fn run_pair<'a, N: Name, K: Checkpoint, R: Wait>(
 /// Does the next line of the pass, which is this one. Where it ends a phase, the clip calls of the
 /// phase are done before it, and the clip script's line `phase` behind it.
 #[tactic(auto, using(crate::proofs::Pairs::line_together))]
-pub(crate) fn do_pair_line<'a, N: Name, K: Checkpoint, R: Wait>(
+fn do_pair_line<'a, N: Name, K: Checkpoint, R: Wait>(
     rt: &R,
     work: &Work<'_, 'a, N, K>,
     pass: &mut Pass<'a>,
@@ -132,7 +172,7 @@ fn do_phase_clips<'a, N: Name, R: Wait>(
 
 /// Does the clip calls that are left behind the last line of the pass.
 #[tactic(auto, using(crate::proofs::Pairs::clip_done_too))]
-pub(crate) fn do_last_clips<'a, N: Name, R: Wait>(
+fn do_last_clips<'a, N: Name, R: Wait>(
     rt: &R,
     hall: &Hall<'a, N>,
     pass: &mut Pass<'a>,

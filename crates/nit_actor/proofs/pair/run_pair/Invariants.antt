@@ -1,6 +1,6 @@
 use Rattle.std.proofs.Common.{length, ◌-◌, ◌≡◌}
 use Rattle.nit_actor.proofs.Lemmas.{IsPairIn, clip_role_of, role_of}
-use Rattle.nit_actor.proofs.clip_actor.run_pair.Given as goal
+use Rattle.nit_actor.proofs.pair.run_pair.Given as goal
 
 abbrev pub invariant-lines : goal.invariant-lines
 invariant-lines g l = record {

@@ -1,6 +1,6 @@
 use Rattle.std.proofs.Common.{length, ◌-◌, ◌≡◌}
 use Rattle.nit_actor.proofs.Lemmas.{IsAtPhaseEnd, IsPairIn}
-use Rattle.nit_actor.proofs.clip_actor.do_clips.Given as goal
+use Rattle.nit_actor.proofs.pair.do_clips.Given as goal
 
 abbrev pub invariant-calls : goal.invariant-calls
 invariant-calls g l = record {
