@@ -1,4 +1,4 @@
-use Rattle.std.proofs.Common.{Err, sym, subst}
+use Rattle.std.proofs.Common.{List, Err, sym, subst}
 use Rattle.nit_top.proofs.Lemmas.{Bad, End, IsInnerEnd, Line, MayCome, NestError, NestsRun}
 use Rattle.nit_top.proofs.Lemmas.{NoMemory, Phases, RunFiles, TooLong, end_of_nest, run_files}
 use Rattle.nit_top.proofs.run.inner.run_inner.Goals as goal
