@@ -13,7 +13,6 @@ pub use Rattle.nit_journal.specs.WholeJournals
 pub use Rattle.nit_config.specs.Configuration
 pub use Rattle.nit_config.specs.ConfigurationRanges
 pub use Rattle.nit_config.specs.ConfigurationText
-pub use Rattle.nit_overlay.specs.Frame as Frames
 pub use Rattle.nit_report.specs.Picture
 pub use Rattle.nit_report.specs.EventsText
 pub use Rattle.nit_report.specs.JournalText

@@ -1,4 +1,4 @@
-use Rattle.std.proofs.Common.{◌≡◌, List, Err, sym, subst}
+use Rattle.std.proofs.Common.{List, Err, sym, subst}
 use Rattle.nit_top.proofs.Lemmas.{Bad, End, IsInnerEnd, Line, MayCome, NestError, NestsRun}
 use Rattle.nit_top.proofs.Lemmas.{NoMemory, Phases, RunFiles, TooLong, end_of_nest, run_files}
 use Rattle.nit_top.proofs.run.inner.run_inner.Goals as goal
@@ -21,8 +21,8 @@ end_of_nest-requires c =
     may_come (run_files c.args.config.now c.args.scripts.now c.args.input.now) c.args.own.now c.in-Err.refusal
     c.in-Err.ensures
 
-pub returns : goal.returns
-returns c =
+pub returns-in-Err : goal.returns-in-Err
+returns-in-Err c =
     let i = run_files c.args.config.now c.args.scripts.now c.args.input.now in
     subst (λ (e : End). IsInnerEnd i c.args.own.now (Err e)) (sym c.end_of_nest.ensures)
     (ends_so i c.args.own.now c.in-Err.refusal c.in-Err.ensures)
