@@ -1,5 +1,6 @@
 -- What lemmas use: the words of clauses, the library's lemmas, and those of the crates below.
 pub use Rattle.nit_look.specs.Terms.{AreEdges, Bound, CoversChange, Differs, DiffersWhere, Edges}
+pub use Rattle.nit_look.specs.Terms.{AgreeIn, AgreeOutside, IsMerged, is_among, is_in_rows, place_at}
 pub use Rattle.nit_look.specs.Terms.{IsBetween, IsSpan, IsTouched, LiesOn, Span, Spans, pos}
 pub use Rattle.nit_look.specs.Terms.{rectangle_between, picture_row}
 pub use Rattle.nit_rect.proofs.ForCallers.{and_true, spans_holds}

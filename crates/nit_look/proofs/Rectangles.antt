@@ -69,3 +69,10 @@ pub holds_of_it : {A : Type 0} (P : A → Type 0) (found : Option A) (x : A) →
     → IfSome found P
 holds_of_it P (Some y) x is holds = subst P (sym is) holds
 holds_of_it P None x is holds = tt
+
+-- the last edge is in the rows that have all
+pub bottom_below : (width rows : ℕ) (a b : List ℕ) (e : Edges) → 1 ≤ width → Bound width (rows * width) a b e
+    → e.bottom < rows
+bottom_below width rows a b e some is =
+    let lt = div_below is.bottom.0 width rows some is.bottom.1 in
+    omega (arith, lt, is.bottom.3)
