@@ -11,3 +11,4 @@ mod Inputs
 mod ActLemmas
 mod Seatings
 mod Refreshing
+mod Areas
