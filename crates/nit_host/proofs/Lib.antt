@@ -12,3 +12,5 @@ mod ActLemmas
 mod Seatings
 mod Refreshing
 mod Areas
+mod Touching
+mod Changes

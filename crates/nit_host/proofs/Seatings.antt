@@ -154,10 +154,11 @@ pub record Opens (seat : ℕ) (label : List ℕ) (blank back : SheetModel) (d d'
 pub record WasSeated (seat : ℕ) (label : List ℕ) (h : HostModel) (d : DesktopModel SheetModel)
     (hollows : List SheetModel) : Type 0 where
   pub host : IsHost d hollows
-  pub now : record { state = d.state; sheets = sheets_of d.glasses; left = d.left; last = None } ≡ seated seat label h
+  pub now : record { state = d.state; sheets = sheets_of d.glasses; left = d.left; last = None; seen = h.seen }
+      ≡ seated seat label h
 
 module _ (d d1 d2 : DesktopModel SheetModel) (hollows : List SheetModel) (seat : ℕ) (label : List ℕ)
-    (hollow own blank back : SheetModel) (kept : Option Entry)
+    (hollow own blank back : SheetModel) (kept : Option Entry) (seen : Option (List ℕ))
     (host : IsHost d hollows) (inside : seat < length d.state.config.clients) (live : AreLive d.state)
     (over : (session d.state seat).status ≢ status.Live) (swapped : d1 ≡ with_sheet d seat hollow)
     (there : sheet_at hollows seat ≡ hollow) (out : slice_get d.glasses seat ≡ Some own)
@@ -214,7 +215,7 @@ module _ (d d1 d2 : DesktopModel SheetModel) (hollows : List SheetModel) (seat :
       ∙ ap (word_from (sheet_in (sheets_of (set d.glasses seat blank)))) (sym (keep d.state seat label p live over))
 
   pub was_seated : (h : HostModel)
-      → record { state = d.state; sheets = sheets_of d.glasses; left = d.left; last = kept } ≡ h
+      → record { state = d.state; sheets = sheets_of d.glasses; left = d.left; last = kept; seen = seen } ≡ h
       → WasSeated seat label h d2 (set hollows seat back)
   was_seated h view =
       let config_now : d2.state.config ≡ relabelled seat label d.state.config = ap (λ (s : State). s.config) o0.state in
@@ -239,6 +240,7 @@ module _ (d d1 d2 : DesktopModel SheetModel) (hollows : List SheetModel) (seat :
               ∙ ap (set (sheets_of d.glasses) seat) blank_words) i;
           left = o0.left i;
           last = None;
+          seen = seen;
         };
       })
 

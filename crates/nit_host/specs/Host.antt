@@ -159,13 +159,14 @@ told dev h = behind (entry.Input dev (routed_of h dev)) h
 
 -- ---- a look
 
+-- the words are those that were seen, or nothing was
+abbrev pub IsOneOf : Option (List ℕ) → List ℕ → Type 0
+IsOneOf None out = Unit {0}
+IsOneOf (Some seen) out = out ≡ seen
+
 -- the words are as the last look left them, or no look was yet
 abbrev pub IsAsSeen : HostModel → List ℕ → Type 0
-IsAsSeen h out = IsOneOf h.seen
-  where
-    IsOneOf : Option (List ℕ) → Type 0
-    IsOneOf None = Unit {0}
-    IsOneOf (Some words) = out ≡ words
+IsAsSeen h out = IsOneOf h.seen out
 
 -- the host behind a look: all that changes is what was seen
 abbrev pub looked : HostModel → HostModel

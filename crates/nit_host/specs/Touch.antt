@@ -71,13 +71,12 @@ pub record HoldsTouched (s : State) (seat : ℕ) (t : Touch) (a : Area) : Type 0
   pub views : (i x y : ℕ) (v : View) → slice_get s.stack i ≡ Some v → x < s.config.width
       → y < s.config.height → is_touched t seat v (point x y) ≡ true → in_area a x y ≡ true
 
--- the area has the status bar, and in other modes than Flat the whole screen
+-- the area has the status bar of a screen of this size; in other modes than Flat the whole screen
+abbrev pub HoldsBarIn : Mode → ℕ → ℕ → ℕ → Area → Type 0
+HoldsBarIn mode.Flat width height rows a =
+    (x y : ℕ) → x < width → y < height → in_bar rows (point x y) ≡ true → in_area a x y ≡ true
+HoldsBarIn other width height rows a =
+    (x y : ℕ) → x < width → y < height → in_area a x y ≡ true
+
 abbrev pub HoldsBar : State → Area → Type 0
-HoldsBar s a = HoldsIn s.input.mode
-  where
-    HoldsIn : Mode → Type 0
-    HoldsIn mode.Flat =
-        (x y : ℕ) → x < s.config.width → y < s.config.height
-        → in_bar (bar_rows s.config) (point x y) ≡ true → in_area a x y ≡ true
-    HoldsIn other =
-        (x y : ℕ) → x < s.config.width → y < s.config.height → in_area a x y ≡ true
+HoldsBar s a = HoldsBarIn s.input.mode s.config.width s.config.height (bar_rows s.config) a

@@ -21,7 +21,7 @@ exchange-requires-clause-glass c =
     let known : c.args.seat < length d.state.sessions =
     subst (λ (h : HostModel). c.args.seat < length h.state.sessions) (sym c.self.view_is) may.inside in
     let inside : c.args.seat < length d.state.config.clients = omega (arith, known, c.facts.ensures.sessions) in
-    let hollows = c.self.invariant.hollow in
+    let hollows = c.self.invariant.0.hollow in
     hollow_glass d.state.config c.self.inside.hollows.items c.args.seat c.index_mut-own.result.now hollows inside
     (there_at c.self.inside.hollows.items c.args.seat c.index_mut-own.result.now c.index_mut-own.ensures.value
     (omega (arith, inside, hollows.count)))
@@ -33,7 +33,7 @@ hand_in-requires-clause-places c =
     let known : c.args.seat < length d.state.sessions =
     subst (λ (h : HostModel). c.args.seat < length h.state.sessions) (sym c.self.view_is) may.inside in
     let inside : c.args.seat < length d.state.config.clients = omega (arith, known, c.facts.ensures.sessions) in
-    let plain = own_plain d.state.config d.glasses c.args.seat c.exchange.new.glass c.self.invariant.sheets inside
+    let plain = own_plain d.state.config d.glasses c.args.seat c.exchange.new.glass c.self.invariant.0.sheets inside
     c.exchange.ensures.out in
     omega (arith, plain.1, c.buffer-buffer.ensures.within)
 
@@ -44,9 +44,9 @@ hand_in-requires-clause-room c =
     let known : c.args.seat < length d.state.sessions =
     subst (λ (h : HostModel). c.args.seat < length h.state.sessions) (sym c.self.view_is) may.inside in
     let inside : c.args.seat < length d.state.config.clients = omega (arith, known, c.facts.ensures.sessions) in
-    let plain = own_plain d.state.config d.glasses c.args.seat c.exchange.new.glass c.self.invariant.sheets inside
+    let plain = own_plain d.state.config d.glasses c.args.seat c.exchange.new.glass c.self.invariant.0.sheets inside
     c.exchange.ensures.out in
-    let room = own_room d.state.config d.glasses c.args.seat c.exchange.new.glass c.self.invariant.sheets inside
+    let room = own_room d.state.config d.glasses c.args.seat c.exchange.new.glass c.self.invariant.0.sheets inside
     c.exchange.ensures.out in
     omega (arith, plain.1, room)
 
@@ -57,7 +57,7 @@ hand_in-requires-clause-plain c =
     let known : c.args.seat < length d.state.sessions =
     subst (λ (h : HostModel). c.args.seat < length h.state.sessions) (sym c.self.view_is) may.inside in
     let inside : c.args.seat < length d.state.config.clients = omega (arith, known, c.facts.ensures.sessions) in
-    let plain = own_plain d.state.config d.glasses c.args.seat c.exchange.new.glass c.self.invariant.sheets inside
+    let plain = own_plain d.state.config d.glasses c.args.seat c.exchange.new.glass c.self.invariant.0.sheets inside
     c.exchange.ensures.out in
     plain_by_owner d.state.config c.args.seat c.exchange.new.glass.sight plain
 
@@ -68,7 +68,7 @@ serve-reply-requires-clause-own c =
     let known : c.args.seat < length d.state.sessions =
     subst (λ (h : HostModel). c.args.seat < length h.state.sessions) (sym c.self.view_is) may.inside in
     let inside : c.args.seat < length d.state.config.clients = omega (arith, known, c.facts.ensures.sessions) in
-    let plain = own_plain d.state.config d.glasses c.args.seat c.exchange.new.glass c.self.invariant.sheets inside
+    let plain = own_plain d.state.config d.glasses c.args.seat c.exchange.new.glass c.self.invariant.0.sheets inside
     c.exchange.ensures.out in
     let handed : c.hand_in.new.sheet.sight
     ≡ plain_sight c.exchange.new.glass.sight.owner
@@ -90,10 +90,10 @@ serve-reply-requires-clause-quiet c =
     let known : c.args.seat < length d.state.sessions =
     subst (λ (h : HostModel). c.args.seat < length h.state.sessions) (sym c.self.view_is) may.inside in
     let inside : c.args.seat < length d.state.config.clients = omega (arith, known, c.facts.ensures.sessions) in
-    let hollows = c.self.invariant.hollow in
+    let hollows = c.self.invariant.0.hollow in
     subst (λ (x : DesktopModel SheetModel). AreQuiet x.glasses) (sym c.exchange.ensures.desktop)
     (quiet_with d.glasses c.args.seat c.index_mut-own.result.now
-    (quiet_sheets d.state.config d.glasses c.self.invariant.sheets)
+    (quiet_sheets d.state.config d.glasses c.self.invariant.0.sheets)
     (hollow_quiet d.state.config c.self.inside.hollows.items c.args.seat c.index_mut-own.result.now hollows inside
     (there_at c.self.inside.hollows.items c.args.seat c.index_mut-own.result.now c.index_mut-own.ensures.value
     (omega (arith, inside, hollows.count)))))
@@ -113,13 +113,13 @@ invariant_of-self c =
     ∙ ap (λ (size : ℕ × ℕ). plain_sight c.exchange.new.glass.sight.owner
     (after_handing size.0 size.1 c.part-part.result c.args.words.now (told_words c.exchange.new.glass.sight.words)))
     c.buffer-buffer.ensures.size in
-    let hollows = c.self.invariant.hollow in
+    let hollows = c.self.invariant.0.hollow in
     let s = c.serve-reply.ensures in
     let done = was_refreshed d c.exchange.new.self c.serve-reply.new.desktop c.self.inside.hollows.items c.args.seat
     c.args.place.0 c.args.place.1 c.args.size.0 c.args.size.1 c.args.words.now c.part-part.result
     c.serve-reply.result
-    c.index_mut-own.result.now c.exchange.new.glass c.hand_in.new.sheet c.serve-reply.new.own c.self.inside.last
-    c.self.invariant known c.facts.ensures.sessions c.exchange.ensures.desktop
+    c.index_mut-own.result.now c.exchange.new.glass c.hand_in.new.sheet c.serve-reply.new.own c.self.inside.last _
+    c.self.invariant.0 known c.facts.ensures.sessions c.exchange.ensures.desktop
     (there_at c.self.inside.hollows.items c.args.seat c.index_mut-own.result.now c.index_mut-own.ensures.value
     (omega (arith, inside, hollows.count)))
     c.exchange.ensures.out handed c.hand_in.ensures.room
@@ -159,13 +159,13 @@ returns-clause-served c = λ _.
     ∙ ap (λ (size : ℕ × ℕ). plain_sight c.exchange.new.glass.sight.owner
     (after_handing size.0 size.1 c.part-part.result c.args.words.now (told_words c.exchange.new.glass.sight.words)))
     c.buffer-buffer.ensures.size in
-    let hollows = c.self.invariant.hollow in
+    let hollows = c.self.invariant.0.hollow in
     let s = c.serve-reply.ensures in
     let done = was_refreshed d c.exchange.new.self c.serve-reply.new.desktop c.self.inside.hollows.items c.args.seat
     c.args.place.0 c.args.place.1 c.args.size.0 c.args.size.1 c.args.words.now c.part-part.result
     c.serve-reply.result
-    c.index_mut-own.result.now c.exchange.new.glass c.hand_in.new.sheet c.serve-reply.new.own c.self.inside.last
-    c.self.invariant known c.facts.ensures.sessions c.exchange.ensures.desktop
+    c.index_mut-own.result.now c.exchange.new.glass c.hand_in.new.sheet c.serve-reply.new.own c.self.inside.last _
+    c.self.invariant.0 known c.facts.ensures.sessions c.exchange.ensures.desktop
     (there_at c.self.inside.hollows.items c.args.seat c.index_mut-own.result.now c.index_mut-own.ensures.value
     (omega (arith, inside, hollows.count)))
     c.exchange.ensures.out handed c.hand_in.ensures.room

@@ -16,7 +16,7 @@ exchange-requires-clause-glass c =
     let known : c.args.seat < length d.state.sessions =
     subst (λ (h : HostModel). c.args.seat < length h.state.sessions) (sym c.self.view_is) may.inside in
     let inside : c.args.seat < length d.state.config.clients = omega (arith, known, c.facts.ensures.sessions) in
-    let hollows = c.self.invariant.hollow in
+    let hollows = c.self.invariant.0.hollow in
     hollow_glass d.state.config c.self.inside.hollows.items c.args.seat c.index_mut-own.result.now hollows inside
     (there_at c.self.inside.hollows.items c.args.seat c.index_mut-own.result.now c.index_mut-own.ensures.value
     (omega (arith, inside, hollows.count)))
@@ -40,7 +40,7 @@ reopen-requires-clause-glass c =
     let inside : c.args.seat < length d.state.config.clients = omega (arith, known, c.facts.ensures.sessions) in
     subst (λ (x : DesktopModel SheetModel). IsGlass x.state.config c.args.seat c.wipe.new.self.sight)
     (sym c.exchange.ensures.desktop)
-    (blank_glass d.state.config d.glasses c.args.seat c.exchange.new.glass c.wipe.new.self c.self.invariant.sheets
+    (blank_glass d.state.config d.glasses c.args.seat c.exchange.new.glass c.wipe.new.self c.self.invariant.0.sheets
     inside c.exchange.ensures.out c.wipe.ensures.sight)
 
 pub invariant_of-self : goal.invariant_of-self
@@ -50,13 +50,13 @@ invariant_of-self c =
     let known : c.args.seat < length d.state.sessions =
     subst (λ (h : HostModel). c.args.seat < length h.state.sessions) (sym c.self.view_is) may.inside in
     let inside : c.args.seat < length d.state.config.clients = omega (arith, known, c.facts.ensures.sessions) in
-    let hollows = c.self.invariant.hollow in
+    let hollows = c.self.invariant.0.hollow in
     let over : (session d.state c.args.seat).status ≢ status.Live =
     subst (λ (h : HostModel). (session h.state c.args.seat).status ≢ status.Live) (sym c.self.view_is) may.over in
     let o = c.reopen.ensures in
     let done = was_seated d c.exchange.new.self c.reopen.new.self c.self.inside.hollows.items c.args.seat c.args.label
-    c.index_mut-own.result.now c.exchange.new.glass c.wipe.new.self c.reopen.new.glass c.self.inside.last
-    c.self.invariant inside c.facts.ensures.live over c.exchange.ensures.desktop
+    c.index_mut-own.result.now c.exchange.new.glass c.wipe.new.self c.reopen.new.glass c.self.inside.last _
+    c.self.invariant.0 inside c.facts.ensures.live over c.exchange.ensures.desktop
     (there_at c.self.inside.hollows.items c.args.seat c.index_mut-own.result.now c.index_mut-own.ensures.value
     (omega (arith, inside, hollows.count)))
     c.exchange.ensures.out c.wipe.ensures.sight c.wipe.ensures.room
@@ -71,13 +71,13 @@ returns-clause-seated c = λ _.
     let known : c.args.seat < length d.state.sessions =
     subst (λ (h : HostModel). c.args.seat < length h.state.sessions) (sym c.self.view_is) may.inside in
     let inside : c.args.seat < length d.state.config.clients = omega (arith, known, c.facts.ensures.sessions) in
-    let hollows = c.self.invariant.hollow in
+    let hollows = c.self.invariant.0.hollow in
     let over : (session d.state c.args.seat).status ≢ status.Live =
     subst (λ (h : HostModel). (session h.state c.args.seat).status ≢ status.Live) (sym c.self.view_is) may.over in
     let o = c.reopen.ensures in
     let done = was_seated d c.exchange.new.self c.reopen.new.self c.self.inside.hollows.items c.args.seat c.args.label
-    c.index_mut-own.result.now c.exchange.new.glass c.wipe.new.self c.reopen.new.glass c.self.inside.last
-    c.self.invariant inside c.facts.ensures.live over c.exchange.ensures.desktop
+    c.index_mut-own.result.now c.exchange.new.glass c.wipe.new.self c.reopen.new.glass c.self.inside.last _
+    c.self.invariant.0 inside c.facts.ensures.live over c.exchange.ensures.desktop
     (there_at c.self.inside.hollows.items c.args.seat c.index_mut-own.result.now c.index_mut-own.ensures.value
     (omega (arith, inside, hollows.count)))
     c.exchange.ensures.out c.wipe.ensures.sight c.wipe.ensures.room

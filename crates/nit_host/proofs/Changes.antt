@@ -1,0 +1,281 @@
+-- What of the frame a step changes.
+use Rattle.std.proofs.Common.{Bool, List, None, Option, Some, ap, arith, cond, false, length, refl}
+use Rattle.std.proofs.Common.{slice_index, subst, sym, true, ℕ, ◌%◌, ◌&&◌, ◌*◌, ◌+◌, ◌/◌, ◌<◌}
+use Rattle.std.proofs.Common.{◌∙◌, ◌≡◌}
+use Rattle.std.proofs.lemmas.Bool.{false≢true}
+use Rattle.std.proofs.lemmas.List.FromFn.{get_or-map-range_with_len}
+use Rattle.nit_events.specs.declared.call.Call.TheVariants as call
+use Rattle.nit_events.specs.declared.device.Mode.TheVariants as mode
+use Rattle.nit_events.specs.declared.entry.Entry.TheVariants as entry
+use Rattle.nit_journal.specs.State.{buffer_size, input_after_call, owner_of}
+use Rattle.nit_overlay.specs.Frame.{bar_word, shown}
+use Rattle.nit_overlay.specs.Terms.{is_some}
+use Rattle.nit_overlay.proofs.ForCallers.{flat_shown, get_or-frame}
+use Rattle.nit_screen.specs.DirtyPixels.{dirty, dirty_by_call}
+use Rattle.nit_screen.proofs.ForCallers.{unaccepted_state}
+use Rattle.nit_stack.specs.Sources.{source_under}
+use Rattle.nit_word.specs.Channels.{bare_word}
+use Rattle.nit_word.proofs.ForCallers.{column_and_row}
+use Rattle.nit_host.specs.Below.{Call, Entry, Mode, Point, Reply, State, View, after, bar_rows}
+use Rattle.nit_host.specs.Below.{in_bar, is_accepted, pixel, pixel_count, point, refusal}
+use Rattle.nit_host.specs.Below.{scenery_of, serve, session, source_at, word_from}
+use Rattle.nit_journal.proofs.ForCallers.{refused_reply, serve_refused}
+use Rattle.nit_journal.specs.Session.{Answered}
+use Rattle.nit_host.specs.Area.{StaysOutside, in_area, is_inside}
+use Rattle.nit_host.specs.Host.{frame_by, picture_by, sheet_in}
+use Rattle.nit_host.specs.Looked.{IsSeenBut}
+use Rattle.nit_host.specs.Touch.{HoldsBar, HoldsBarIn, HoldsTouched, touch_of, touched_by, touched_in}
+use Rattle.nit_host.specs.Touch.{touched_unless}
+use Rattle.nit_host.specs.declared.host.area.Area.{Area}
+use Rattle.nit_host.specs.declared.host.touch.Touch.{Touch}
+use Rattle.nit_host.specs.declared.host.touch.Touch.TheVariants as touch
+use Rattle.nit_host.proofs.Areas.{first_test, second_test}
+use Rattle.nit_host.proofs.Steps.{KeepSources}
+use Rattle.nit_host.proofs.Touching.{call_inside, touched_more}
+
+-- ---- one pixel of a frame
+
+pub frame_pixel : (s : State) (sheets : List (List ℕ)) (k : ℕ) → k < pixel_count s
+    → slice_index (frame_by s sheets) k
+    ≡ shown (scenery_of s) (pixel s.config.width k) (word_from (sheet_in sheets) (source_at s k))
+frame_pixel s sheets k less =
+    get_or-frame (scenery_of s) (picture_by s sheets) k less
+    ∙ ap (shown (scenery_of s) (pixel s.config.width k))
+    (get_or-map-range_with_len (λ n. word_from (sheet_in sheets) (source_at s n)) 0 (pixel_count s) k k 0 less
+    (omega arith))
+
+-- in mode Flat and below the bar it is the word of its source
+flat_pixel : (s : State) (sheets : List (List ℕ)) (k : ℕ) → k < pixel_count s → s.input.mode ≡ mode.Flat
+    → in_bar (bar_rows s.config) (pixel s.config.width k) ≡ false
+    → slice_index (frame_by s sheets) k ≡ word_from (sheet_in sheets) (source_at s k)
+flat_pixel s sheets k less flat below =
+    frame_pixel s sheets k less
+    ∙ flat_shown (scenery_of s) (pixel s.config.width k) (word_from (sheet_in sheets) (source_at s k)) flat below
+    ∙ go (owner_of s (pixel s.config.width k))
+  where
+    go : (o : Option View) → cond (is_some o)
+        (word_from (sheet_in sheets) (source_under (buffer_size s.sessions) (pixel s.config.width k) o)) bare_word
+        ≡ word_from (sheet_in sheets) (source_under (buffer_size s.sessions) (pixel s.config.width k) o)
+    go None = refl
+    go (Some v) = refl
+
+-- in the bar it is the bar's
+bar_pixel : (s : State) (sheets : List (List ℕ)) (k : ℕ) → k < pixel_count s
+    → in_bar (bar_rows s.config) (pixel s.config.width k) ≡ true
+    → slice_index (frame_by s sheets) k ≡ bar_word (scenery_of s) (pixel s.config.width k)
+bar_pixel s sheets k less inside =
+    frame_pixel s sheets k less
+    ∙ ap (λ (b : Bool). cond b (bar_word (scenery_of s) (pixel s.config.width k))
+    (Rattle.nit_overlay.specs.Frame.owner_word (scenery_of s) (pixel s.config.width k)
+    (word_from (sheet_in sheets) (source_at s k)) (owner_of s (pixel s.config.width k)))) inside
+
+-- ---- all pixels outside of an area
+
+-- where the area is the whole screen
+pub whole_stays : (width height : ℕ) (a : Area) (before now : List ℕ)
+    → ((x y : ℕ) → x < width → y < height → in_area a x y ≡ true)
+    → StaysOutside width (width * height) a before now
+whole_stays width height a before now whole k less off =
+    let at = column_and_row width height k less in
+    absurd (false≢true (sym off ∙ whole (k % width) (k / width) at.0 at.1))
+
+module _ (s s' : State) (sheets sheets' : List (List ℕ)) (a : Area) (width : s'.config.width ≡ s.config.width)
+    (height : s'.config.height ≡ s.config.height) (bar : bar_rows s'.config ≡ bar_rows s.config) where
+  count : (k : ℕ) → k < pixel_count s → k < pixel_count s'
+  count k less = subst (λ (n : ℕ). k < n) (sym (λ i. width i * height i)) less
+
+  -- where the mode is Flat before and after
+  pub flat_stays : s.input.mode ≡ mode.Flat → s'.input.mode ≡ mode.Flat
+      → ((k : ℕ) → k < pixel_count s → is_inside s.config.width a k ≡ false
+      → word_from (sheet_in sheets) (source_at s k) ≡ word_from (sheet_in sheets') (source_at s' k))
+      → ((k : ℕ) → k < pixel_count s → is_inside s.config.width a k ≡ false
+      → in_bar (bar_rows s.config) (pixel s.config.width k) ≡ true
+      → bar_word (scenery_of s) (pixel s.config.width k) ≡ bar_word (scenery_of s') (pixel s.config.width k))
+      → StaysOutside s.config.width (pixel_count s) a (frame_by s sheets) (frame_by s' sheets')
+  flat_stays flat flat' words bars k less off = go (in_bar (bar_rows s.config) (pixel s.config.width k)) refl
+    where
+      go : (b : Bool) → in_bar (bar_rows s.config) (pixel s.config.width k) ≡ b
+          → slice_index (frame_by s sheets) k ≡ slice_index (frame_by s' sheets') k
+      go false below =
+          flat_pixel s sheets k less flat below ∙ words k less off
+          ∙ sym (flat_pixel s' sheets' k (count k less) flat' ((λ i. in_bar (bar i) (pixel (width i) k)) ∙ below))
+      go true inside =
+          bar_pixel s sheets k less inside ∙ bars k less off inside
+          ∙ ap (λ (n : ℕ). bar_word (scenery_of s') (pixel n k)) (sym width)
+          ∙ sym (bar_pixel s' sheets' k (count k less) ((λ i. in_bar (bar i) (pixel (width i) k)) ∙ inside))
+
+  -- what was seen is still the frame, but for an area with what changed
+  pub seen_after : (a0 : Area) (seen : Option (List ℕ)) → IsSeenBut s sheets a0 seen
+      → ((x y : ℕ) → in_area a0 x y ≡ true → in_area a x y ≡ true)
+      → StaysOutside s.config.width (pixel_count s) a (frame_by s sheets) (frame_by s' sheets')
+      → IsSeenBut s' sheets' a seen
+  seen_after a0 None all more stays = λ k less.
+      more (k % s'.config.width) (k / s'.config.width)
+      (subst (λ (n : ℕ). in_area a0 (k % n) (k / n) ≡ true) (sym width)
+      (all k (subst (λ (n : ℕ). k < n) (λ i. width i * height i) less)))
+  seen_after a0 (Some seen) all more stays = (
+    all.0 ∙ sym (λ i. width i * height i),
+    λ k less off.
+        let less_ : k < pixel_count s = subst (λ (n : ℕ). k < n) (λ i. width i * height i) less in
+        let off_ : is_inside s.config.width a k ≡ false = ap (λ (n : ℕ). is_inside n a k) (sym width) ∙ off in
+        all.1 k less_ (outside (in_area a0 (k % s.config.width) (k / s.config.width))
+        (in_area a (k % s.config.width) (k / s.config.width)) (more (k % s.config.width) (k / s.config.width)) off_)
+            ∙ stays k less_ off_,
+  )
+    where
+      outside : (b c : Bool) → (b ≡ true → c ≡ true) → c ≡ false → b ≡ false
+      outside false c more_ off = refl
+      outside true c more_ off = absurd (false≢true (sym off ∙ more_ refl))
+
+-- ---- a call
+
+-- no call but `Close` changes what the input knows, and none the mode
+call_mode : (seat : ℕ) (c : Call) (r : Reply) (s : State) → (input_after_call seat c r s.input).mode ≡ s.input.mode
+call_mode seat call.Close r s = go (is_accepted r)
+  where
+    go : (b : Bool) → (cond b (Rattle.nit_events.specs.Input.forget s.input seat) s.input).mode ≡ s.input.mode
+    go true = refl
+    go false = refl
+call_mode seat (call.Place v x y w h) r s = refl
+call_mode seat (call.Offset v ox oy) r s = refl
+call_mode seat (call.Front v) r s = refl
+call_mode seat (call.Back v) r s = refl
+call_mode seat (call.Above v n) r s = refl
+call_mode seat (call.Destroy v) r s = refl
+call_mode seat (call.Buffer w h) r s = refl
+call_mode seat (call.Refresh x y w h) r s = refl
+call_mode seat call.View r s = refl
+call_mode seat (call.Title v text) r s = refl
+call_mode seat call.Take r s = refl
+call_mode seat (call.Upgrade n) r s = refl
+
+-- what pixels show that the call does not make dirty stands where it stood
+abbrev pub Words : State → ℕ → Reply → List (List ℕ) → List (List ℕ) → Call → Type 0
+Words s seat r sheets sheets' c =
+    (k : ℕ) → dirty s (entry.Call seat c r) (after s (entry.Call seat c r)) (pixel s.config.width k) ≡ false
+    → word_from (sheet_in sheets) (source_at (after s (entry.Call seat c r)) k)
+    ≡ word_from (sheet_in sheets') (source_at (after s (entry.Call seat c r)) k)
+
+module _ (s : State) (seat : ℕ) (r : Reply) (sheets sheets' : List (List ℕ)) (a : Area)
+    (inside : seat < length s.sessions) (keep : KeepSources) where
+  clean_stays : (c : Call) → r ≡ (serve (session s seat) c).reply → Words s seat r sheets sheets' c → (k : ℕ)
+      → dirty s (entry.Call seat c r) (after s (entry.Call seat c r)) (pixel s.config.width k) ≡ false
+      → word_from (sheet_in sheets) (source_at s k)
+      ≡ word_from (sheet_in sheets') (source_at (after s (entry.Call seat c r)) k)
+  clean_stays c replied words k clean =
+      ap (word_from (sheet_in sheets)) (sym (keep s 0 (entry.Call seat c r) (pixel s.config.width k) (inside, replied)
+      clean)) ∙ words k clean
+
+  -- a refused call
+  refused_stays : (c : Call) (why : Reply) → refusal (session s seat) c ≡ Some why
+      → r ≡ (serve (session s seat) c).reply → Words s seat r sheets sheets' c
+      → StaysOutside s.config.width (pixel_count s) a (frame_by s sheets)
+      (frame_by (after s (entry.Call seat c r)) sheets')
+  refused_stays c why is replied words k less off =
+      let no_ : is_accepted r ≡ false =
+      ap is_accepted (replied ∙ ap (λ (x : Answered). x.reply) (serve_refused (session s seat) c why is))
+      ∙ refused_reply (session s seat) c why is in
+      let same = unaccepted_state s seat c r replied no_ in
+      let clean : dirty s (entry.Call seat c r) (after s (entry.Call seat c r)) (pixel s.config.width k) ≡ false =
+      ap (λ (b : Bool). b && dirty_by_call seat c s (after s (entry.Call seat c r)) (pixel s.config.width k)) no_ in
+      frame_pixel s sheets k less
+      ∙ ap (shown (scenery_of s) (pixel s.config.width k)) (clean_stays c replied words k clean)
+      ∙ ap (λ (t : State). shown (scenery_of t) (pixel t.config.width k)
+      (word_from (sheet_in sheets') (source_at (after s (entry.Call seat c r)) k))) same
+      ∙ sym (frame_pixel (after s (entry.Call seat c r)) sheets' k less)
+
+  -- outside of the area nothing is dirty
+  clean_outside : (c : Call) → HoldsTouched s seat (touched_by c) a
+      → HoldsTouched (after s (entry.Call seat c r)) seat (touched_by c) a → (k : ℕ) → k < pixel_count s
+      → is_inside s.config.width a k ≡ false
+      → dirty s (entry.Call seat c r) (after s (entry.Call seat c r)) (pixel s.config.width k) ≡ false
+  clean_outside c holds holds' k less off =
+      go (dirty s (entry.Call seat c r) (after s (entry.Call seat c r)) (pixel s.config.width k)) refl
+    where
+      go : (b : Bool) → dirty s (entry.Call seat c r) (after s (entry.Call seat c r)) (pixel s.config.width k) ≡ b
+          → dirty s (entry.Call seat c r) (after s (entry.Call seat c r)) (pixel s.config.width k) ≡ false
+      go false is = is
+      go true is =
+          let at = column_and_row s.config.width s.config.height k less in
+          absurd (false≢true (sym off ∙ call_inside s (after s (entry.Call seat c r)) seat a (k % s.config.width)
+          (k / s.config.width) at.0 at.1 at.0 at.1 c holds holds'
+          (second_test (is_accepted r) (dirty_by_call seat c s (after s (entry.Call seat c r))
+          (pixel s.config.width k)) is)))
+
+  -- the bar of a call that is not in the area
+  bar_stays : (c : Call) → HoldsTouched s seat (touched_by c) a → (k : ℕ) → k < pixel_count s
+      → is_inside s.config.width a k ≡ false → in_bar (bar_rows s.config) (pixel s.config.width k) ≡ true
+      → bar_word (scenery_of s) (pixel s.config.width k)
+      ≡ bar_word (scenery_of (after s (entry.Call seat c r))) (pixel s.config.width k)
+  bar_stays call.Close holds k less off in_ =
+      let at = column_and_row s.config.width s.config.height k less in
+      absurd (false≢true (sym off ∙ holds.bare (k % s.config.width) (k / s.config.width) at.0 at.1 in_))
+  bar_stays (call.Place v x y w h) holds k less off in_ = refl
+  bar_stays (call.Offset v ox oy) holds k less off in_ = refl
+  bar_stays (call.Front v) holds k less off in_ = refl
+  bar_stays (call.Back v) holds k less off in_ = refl
+  bar_stays (call.Above v n) holds k less off in_ = refl
+  bar_stays (call.Destroy v) holds k less off in_ = refl
+  bar_stays (call.Buffer w h) holds k less off in_ = refl
+  bar_stays (call.Refresh x y w h) holds k less off in_ = refl
+  bar_stays call.View holds k less off in_ = refl
+  bar_stays (call.Title v text) holds k less off in_ = refl
+  bar_stays call.Take holds k less off in_ = refl
+  bar_stays (call.Upgrade n) holds k less off in_ = refl
+
+  accepted_stays : (c : Call) (m : Mode) → s.input.mode ≡ m → r ≡ (serve (session s seat) c).reply → Words s seat r sheets sheets' c
+      → HoldsTouched s seat (touched_in m c) a → HoldsTouched (after s (entry.Call seat c r)) seat (touched_in m c) a
+      → StaysOutside s.config.width (pixel_count s) a (frame_by s sheets)
+      (frame_by (after s (entry.Call seat c r)) sheets')
+  accepted_stays c mode.Flat is replied words holds holds' =
+      flat_stays s (after s (entry.Call seat c r)) sheets sheets' a refl refl refl is (call_mode seat c r s ∙ is)
+      (λ k less off. clean_stays c replied words k (clean_outside c holds holds' k less off)) (bar_stays c holds)
+  accepted_stays c mode.Xray is replied words holds holds' = whole_stays s.config.width s.config.height a _ _
+      (λ x y wide high. holds.bare x y wide high refl)
+  accepted_stays c mode.Kill is replied words holds holds' = whole_stays s.config.width s.config.height a _ _
+      (λ x y wide high. holds.bare x y wide high refl)
+
+  pub call_stays : (c : Call) → r ≡ (serve (session s seat) c).reply → Words s seat r sheets sheets' c
+      → HoldsTouched s seat (touch_of s seat c) a
+      → HoldsTouched (after s (entry.Call seat c r)) seat (touch_of s seat c) a
+      → StaysOutside s.config.width (pixel_count s) a (frame_by s sheets)
+      (frame_by (after s (entry.Call seat c r)) sheets')
+  call_stays c replied words holds holds' = go (refusal (session s seat) c) refl
+    where
+      go : (o : Option Reply) → refusal (session s seat) c ≡ o
+          → StaysOutside s.config.width (pixel_count s) a (frame_by s sheets)
+          (frame_by (after s (entry.Call seat c r)) sheets')
+      go None is =
+          accepted_stays c s.input.mode refl replied words
+          (subst (λ (o : Option Reply). HoldsTouched s seat (touched_unless o s.input.mode c) a) is holds)
+          (subst (λ (o : Option Reply). HoldsTouched (after s (entry.Call seat c r)) seat
+          (touched_unless o s.input.mode c) a) is holds')
+      go (Some why) is = refused_stays c why is replied words
+
+-- what a call left of what was seen
+pub seen_called : (s s' : State) (seat : ℕ) (c : Call) (r : Reply) (sheets sheets' : List (List ℕ)) (t : Touch)
+    (a0 before now a1 a2 : Area) (seen : Option (List ℕ)) → seat < length s.sessions → KeepSources
+    → s' ≡ after s (entry.Call seat c r) → r ≡ (serve (session s seat) c).reply
+    → Words s seat r sheets sheets' c
+    → t ≡ touch_of s seat c → HoldsTouched s seat t before → HoldsTouched s' seat t now
+    → ((x y : ℕ) → in_area a0 x y ≡ true → in_area a1 x y ≡ true)
+    → ((x y : ℕ) → in_area before x y ≡ true → in_area a1 x y ≡ true)
+    → ((x y : ℕ) → in_area a1 x y ≡ true → in_area a2 x y ≡ true)
+    → ((x y : ℕ) → in_area now x y ≡ true → in_area a2 x y ≡ true) → IsSeenBut s sheets a0 seen
+    → IsSeenBut s' sheets' a2 seen
+seen_called s s' seat c r sheets sheets' t a0 before now a1 a2 seen inside keep is replied words touch_is holds holds'
+    own others own' others' known =
+    subst (λ (x : State). IsSeenBut x sheets' a2 seen) (sym is)
+    (seen_after s (after s (entry.Call seat c r)) sheets sheets' a2 refl refl refl a0 seen known
+    (λ x y in_. own' x y (own x y in_))
+    (call_stays s seat r sheets sheets' a2 inside keep c replied words
+    (subst (λ (u : Touch). HoldsTouched s seat u a2) touch_is
+    (touched_more s seat t before a2 holds (λ x y in_. own' x y (others x y in_))))
+    (subst (λ (u : Touch). HoldsTouched (after s (entry.Call seat c r)) seat u a2) touch_is
+    (subst (λ (x : State). HoldsTouched x seat t a2) is (touched_more s' seat t now a2 holds' others')))))
+
+-- the same words are shown where the sheets are the same
+pub words_stay : (s : State) (seat : ℕ) (r : Reply) (c : Call) (sheets sheets' : List (List ℕ)) → sheets' ≡ sheets
+    → Words s seat r sheets sheets' c
+words_stay s seat r c sheets sheets' same = λ k clean.
+    ap (λ (ss : List (List ℕ)). word_from (sheet_in ss) (source_at (after s (entry.Call seat c r)) k)) (sym same)
