@@ -235,28 +235,8 @@ module _ (d d1 d2 : DesktopModel SheetModel) (hollows : List SheetModel) (seat :
       ((λ i. record { state = d.state; sheets = set (sheets_of d.glasses) seat (part i); left = d.left; last = kept; seen = seen })
       ∙ ap (with_handed seat (rectangle x y w h) words) view) done
 
-  pub was_refreshed : (h0 : HostModel)
-      → record { state = d.state; sheets = sheets_of d.glasses; left = d.left; last = kept; seen = seen } ≡ h0
-      → WasRefreshed seat x y w h words r h0 d2 (set hollows seat last)
-  was_refreshed h0 view = by (refusal (session d.state seat) (call.Refresh x y w h)) refl
-    where
-      replied : (a : Answered) → serve (session d.state seat) (call.Refresh x y w h) ≡ a
-          → reply_to h0 seat (call.Refresh x y w h) ≡ a.reply
-      replied a is = ap (λ (m : HostModel). (serve (session m.state seat) (call.Refresh x y w h)).reply) (sym view)
-          ∙ ap (λ (b : Answered). b.reply) is
-
-      by : (o : Option Reply) → refusal (session d.state seat) (call.Refresh x y w h) ≡ o
-          → WasRefreshed seat x y w h words r h0 d2 (set hollows seat last)
-      by None is = by_answer seat x y w h words r h0 d2 (set hollows seat last) true
-          (ap is_accepted (replied _ (answer is))) (accepted_ h0 view is)
-      by (Some why) is =
-          by_answer seat x y w h words r h0 d2 (set hollows seat last) false
-          (ap is_accepted (replied _ (serve_refused (session d.state seat) (call.Refresh x y w h) why is))
-          ∙ refused_reply (session d.state seat) (call.Refresh x y w h) why is)
-          (refused h0 view why is)
-
   -- what pixels show that the refresh does not make dirty stands where it stood
-  pub words_handed : Words d.state seat r (sheets_of d.glasses) (sheets_of d2.glasses) (call.Refresh x y w h)
+  words_handed : Words d.state seat r (sheets_of d.glasses) (sheets_of d2.glasses) (call.Refresh x y w h)
   words_handed = subst (λ (gs : List SheetModel). Words d.state seat r (sheets_of d.glasses) (sheets_of gs)
       (call.Refresh x y w h))
       (sym (glasses_now d d1 d2 hollows seat (call.Refresh x y w h) r hollow own own' last kept seen host inside swapped
@@ -278,3 +258,24 @@ module _ (d d1 d2 : DesktopModel SheetModel) (hollows : List SheetModel) (seat :
           words_stay d.state seat r (call.Refresh x y w h) (sheets_of d.glasses) (sheets_of (set d.glasses seat own'))
           (words_with d.state.config d.glasses seat own'
           ∙ same_words (sheets_of d.glasses) seat (told_words own'.sight.words) same)
+
+  pub was_refreshed : (h0 : HostModel)
+      → record { state = d.state; sheets = sheets_of d.glasses; left = d.left; last = kept; seen = seen } ≡ h0
+      → WasRefreshed seat x y w h words r h0 d2 (set hollows seat last)
+      × Words d.state seat r (sheets_of d.glasses) (sheets_of d2.glasses) (call.Refresh x y w h)
+  was_refreshed h0 view = (by (refusal (session d.state seat) (call.Refresh x y w h)) refl, words_handed)
+    where
+      replied : (a : Answered) → serve (session d.state seat) (call.Refresh x y w h) ≡ a
+          → reply_to h0 seat (call.Refresh x y w h) ≡ a.reply
+      replied a is = ap (λ (m : HostModel). (serve (session m.state seat) (call.Refresh x y w h)).reply) (sym view)
+          ∙ ap (λ (b : Answered). b.reply) is
+
+      by : (o : Option Reply) → refusal (session d.state seat) (call.Refresh x y w h) ≡ o
+          → WasRefreshed seat x y w h words r h0 d2 (set hollows seat last)
+      by None is = by_answer seat x y w h words r h0 d2 (set hollows seat last) true
+          (ap is_accepted (replied _ (answer is))) (accepted_ h0 view is)
+      by (Some why) is =
+          by_answer seat x y w h words r h0 d2 (set hollows seat last) false
+          (ap is_accepted (replied _ (serve_refused (session d.state seat) (call.Refresh x y w h) why is))
+          ∙ refused_reply (session d.state seat) (call.Refresh x y w h) why is)
+          (refused h0 view why is)

@@ -1,12 +1,15 @@
 use Rattle.std.proofs.Common.{None, Ok, Some, ap, arith, length, subst, sym, ℕ, ◌<◌, ◌∙◌, ◌≡◌}
-use Rattle.nit_host.specs.Below.{Call, DesktopModel, Reply, plain_sight, rectangle, refusal}
-use Rattle.nit_host.specs.Below.{session, told_words}
+use Rattle.nit_host.specs.Area.{IsAreaOf}
+use Rattle.nit_host.specs.Below.{Call, Configuration, DesktopModel, Reply, State, after}
+use Rattle.nit_host.specs.Below.{plain_sight, rectangle, refusal, serve, session, told_words}
+use Rattle.nit_host.specs.Touch.{touch_of}
 use Rattle.nit_events.specs.declared.call.Call.TheVariants as call
 use Rattle.nit_events.specs.declared.entry.Entry.TheVariants as entry
 use Rattle.nit_host.specs.Fresh.{AreQuiet, IsPlainOf, sheets_of}
 use Rattle.nit_host.specs.Handing.{after_handing}
 use Rattle.nit_host.specs.Host.{HostModel}
 use Rattle.nit_host.specs.Sheet.{SheetModel}
+use Rattle.nit_host.proofs.Changes.{seen_called}
 use Rattle.nit_host.proofs.Refreshing.{handed_plain, was_refreshed}
 use Rattle.nit_host.proofs.Served.{may_refresh}
 use Rattle.nit_host.proofs.SheetLists.{hollow_glass, hollow_quiet, own_plain, own_room}
@@ -142,7 +145,31 @@ invariant_of-self c =
       painted =
           s.painted;
     })) c.clean_pixels_keep_their_source.ensures c.args.self.now c.self.view_is in
-    done.is_host
+    let call_is = c.refresh_of-call.ensures in
+    let config = ap (λ (t : State). t.config) s.state
+    ∙ ap (λ (x : DesktopModel SheetModel). x.state.config) c.exchange.ensures.desktop in
+    (
+      done.0.is_host,
+      seen_called d.state c.serve-reply.new.desktop.state c.args.seat
+          (call.Refresh c.args.place.0 c.args.place.1 c.args.size.0 c.args.size.1) c.serve-reply.result
+          (sheets_of d.glasses) (sheets_of c.serve-reply.new.desktop.glasses) c.touch_of-touch.result
+          c.self.inside.changed c.touched-before.result c.touched-after.result c.join.result
+          c.join-self-inside.result _ known c.clean_pixels_keep_their_source.ensures
+          (s.state ∙ (λ i. after (c.exchange.ensures.desktop i).state (entry.Call c.args.seat (call_is i)
+          c.serve-reply.result)))
+          (s.reply ∙ (λ i. (serve (session (c.exchange.ensures.desktop i).state c.args.seat) (call_is i)).reply))
+          done.1
+          (c.touch_of-touch.ensures ∙ ap (touch_of d.state c.args.seat) call_is)
+          c.touched-before.ensures.touched c.touched-after.ensures.touched
+          c.join.ensures.own c.join.ensures.others c.join-self-inside.ensures.own c.join-self-inside.ensures.others
+          c.self.invariant.1,
+      c.join-self-inside.ensures.area c.serve-reply.new.desktop.state.config.width
+          c.serve-reply.new.desktop.state.config.height
+          (subst (λ (k : Configuration). IsAreaOf k.width k.height c.join.result) (sym config)
+          (c.join.ensures.area d.state.config.width d.state.config.height c.self.invariant.2
+          c.touched-before.ensures.area))
+          c.touched-after.ensures.area,
+    )
 
 pub returns-clause-served : goal.returns-clause-served
 returns-clause-served c = λ _.
@@ -188,12 +215,13 @@ returns-clause-served c = λ _.
       painted =
           s.painted;
     })) c.clean_pixels_keep_their_source.ensures c.args.self.now c.self.view_is in (
-      ap Ok done.replied,
+      ap Ok done.0.replied,
       (λ i. record {
         state = c.serve-reply.new.desktop.state;
         sheets = sheets_of c.serve-reply.new.desktop.glasses;
         left = c.serve-reply.new.desktop.left;
         last =
             Some (entry.Call c.args.seat (c.refresh_of-call.ensures i) c.serve-reply.result);
-      }) ∙ done.now,
+        seen = ap (λ (m : HostModel). m.seen) c.self.view_is i;
+      }) ∙ done.0.now,
     )
