@@ -1,5 +1,5 @@
 -- What a device event leaves.
-use Rattle.std.proofs.Common.{List, Option, Some, ap, refl, subst, sym, ◌-◌, ◌∙◌, ◌≡◌}
+use Rattle.std.proofs.Common.{List, Option, Some, ap, refl, subst, sym, ℕ, ◌-◌, ◌∙◌, ◌≡◌}
 use Rattle.nit_events.specs.declared.entry.Entry.TheVariants as entry
 use Rattle.nit_host.specs.Below.{Configuration, DesktopModel, Device, Entry, Painted, Routed, State}
 use Rattle.nit_host.specs.Below.{after, glass_in, pixel, route, routed_as}

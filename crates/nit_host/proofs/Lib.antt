@@ -14,3 +14,4 @@ mod Refreshing
 mod Areas
 mod Touching
 mod Changes
+mod Looking

@@ -214,10 +214,29 @@ module _ (d d1 d2 : DesktopModel SheetModel) (hollows : List SheetModel) (seat :
       (sheet_in (sheets_of (set d.glasses seat blank))) others (owns_none d.state seat over live p)
       ∙ ap (word_from (sheet_in (sheets_of (set d.glasses seat blank)))) (sym (keep d.state seat label p live over))
 
+  words_now : (k : ℕ) → word_from (sheet_in (sheets_of d.glasses)) (source_of d.state (pixel d.state.config.width k))
+      ≡ word_from (sheet_in (sheets_of d2.glasses))
+      (source_of (opened seat label d.state) (pixel d.state.config.width k))
+  words_now k =
+      let p : Point = pixel d.state.config.width k in
+      subst (λ (gs : List SheetModel). word_from (sheet_in (sheets_of d.glasses)) (source_of d.state p)
+      ≡ word_from (sheet_in (sheets_of gs)) (source_of (opened seat label d.state) p)) (sym glasses_now)
+      (word_stays d.state seat p (sheet_in (sheets_of d.glasses)) (sheet_in (sheets_of (set d.glasses seat blank)))
+      others (owns_none d.state seat over live p)
+      ∙ ap (word_from (sheet_in (sheets_of (set d.glasses seat blank)))) (sym (keep d.state seat label p live over)))
+
   pub was_seated : (h : HostModel)
       → record { state = d.state; sheets = sheets_of d.glasses; left = d.left; last = kept; seen = seen } ≡ h
       → WasSeated seat label h d2 (set hollows seat back)
-  was_seated h view =
+      × ((k : ℕ) → word_from (sheet_in (sheets_of d.glasses)) (source_of d.state (pixel d.state.config.width k))
+      ≡ word_from (sheet_in (sheets_of d2.glasses))
+      (source_of (opened seat label d.state) (pixel d.state.config.width k)))
+  was_seated h view = (seated_now h view, words_now)
+    where
+    seated_now : (h : HostModel)
+      → record { state = d.state; sheets = sheets_of d.glasses; left = d.left; last = kept; seen = seen } ≡ h
+      → WasSeated seat label h d2 (set hollows seat back)
+    seated_now h view =
       let config_now : d2.state.config ≡ relabelled seat label d.state.config = ap (λ (s : State). s.config) o0.state in
       subst (λ (x : HostModel). WasSeated seat label x d2 (set hollows seat back)) view
       (record {

@@ -1,6 +1,11 @@
+use Rattle.std.proofs.Common.{None, ap, ◌∙◌}
 use Rattle.std.proofs.Common.{arith, false, length, refl, subst, sym, ◌<◌, ◌≡◌, ◌≢◌}
 use Rattle.nit_events.specs.declared.event.Status.TheVariants as status
-use Rattle.nit_host.specs.Below.{DesktopModel, IsFreeLabel, IsGlass, session}
+use Rattle.nit_host.specs.Area.{IsAreaOf}
+use Rattle.nit_host.specs.Below.{Configuration, DesktopModel, IsFreeLabel, IsGlass, State, opened}
+use Rattle.nit_host.specs.Below.{relabelled, session}
+use Rattle.nit_host.specs.Fresh.{sheets_of}
+use Rattle.nit_host.proofs.Changes.{seen_seated}
 use Rattle.nit_host.specs.Host.{HostModel}
 use Rattle.nit_host.specs.Seats.{is_label_taken}
 use Rattle.nit_host.specs.Sheet.{SheetModel}
@@ -62,7 +67,21 @@ invariant_of-self c =
     c.exchange.ensures.out c.wipe.ensures.sight c.wipe.ensures.room
     (record { state = o.state; left = o.left; raw = o.raw; sights_now = o.sights; rooms_now = o.rests; out = o.out })
     c.openings_keep_all.ensures.sources c.args.self.now c.self.view_is in
-    done.host
+    let config = ap (λ (t : State). t.config) o.state
+    ∙ ap (λ (x : DesktopModel SheetModel). relabelled c.args.seat c.args.label x.state.config)
+    c.exchange.ensures.desktop in
+    (
+      done.0.host,
+      seen_seated d.state c.reopen.new.self.state c.args.seat c.args.label (sheets_of d.glasses)
+          (sheets_of c.reopen.new.self.glasses) c.self.inside.changed c.bar_or_screen-part.result c.join-self-inside.result _
+          (o.state ∙ ap (λ (x : DesktopModel SheetModel). opened c.args.seat c.args.label x.state)
+          c.exchange.ensures.desktop)
+          (λ k less. done.1 k) c.bar_or_screen-part.ensures.bar c.join-self-inside.ensures.own c.join-self-inside.ensures.others
+          c.self.invariant.1,
+      subst (λ (k : Configuration). IsAreaOf k.width k.height c.join-self-inside.result) (sym config)
+          (c.join-self-inside.ensures.area d.state.config.width d.state.config.height c.self.invariant.2
+          c.bar_or_screen-part.ensures.area),
+    )
 
 pub returns-clause-seated : goal.returns-clause-seated
 returns-clause-seated c = λ _.
@@ -83,4 +102,13 @@ returns-clause-seated c = λ _.
     c.exchange.ensures.out c.wipe.ensures.sight c.wipe.ensures.room
     (record { state = o.state; left = o.left; raw = o.raw; sights_now = o.sights; rooms_now = o.rests; out = o.out })
     c.openings_keep_all.ensures.sources c.args.self.now c.self.view_is in
-    (refl, done.now)
+    (
+      refl,
+      (λ i. record {
+        state = c.reopen.new.self.state;
+        sheets = sheets_of c.reopen.new.self.glasses;
+        left = c.reopen.new.self.left;
+        last = None;
+        seen = ap (λ (m : HostModel). m.seen) c.self.view_is i;
+      }) ∙ done.0.now,
+    )
