@@ -125,7 +125,7 @@ module _ (s s' : State) (sheets sheets' : List (List ℕ)) (a : Area) (width : s
         let off_ : is_inside s.config.width a k ≡ false = ap (λ (n : ℕ). is_inside n a k) (sym width) ∙ off in
         all.1 k less_ (outside (in_area a0 (k % s.config.width) (k / s.config.width))
         (in_area a (k % s.config.width) (k / s.config.width)) (more (k % s.config.width) (k / s.config.width)) off_)
-            ∙ stays k less_ off_,
+        ∙ stays k less_ off_,
   )
     where
       outside : (b c : Bool) → (b ≡ true → c ≡ true) → c ≡ false → b ≡ false

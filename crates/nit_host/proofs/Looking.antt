@@ -61,8 +61,11 @@ agree_outside s sheets a seen out on known one long k off =
 
 -- nothing has changed since the look
 pub seen_now : (s : State) (sheets : List (List ℕ)) (a : Area) → IsSeenBut s sheets a (Some (frame_by s sheets))
-seen_now s sheets a = (length-frame (scenery_of s) (picture_by s sheets), λ k less off. λ i. slice_index
-    (frame_by s sheets) k)
+seen_now s sheets a = (
+  length-frame (scenery_of s) (picture_by s sheets),
+  λ k less off. λ i. slice_index
+      (frame_by s sheets) k,
+)
 
 -- before the first look
 pub nothing_seen : (s : State) (config : Configuration) (sheets : List (List ℕ)) (a : Area) → s.config ≡ config

@@ -233,35 +233,35 @@ module _ (d d1 d2 : DesktopModel SheetModel) (hollows : List SheetModel) (seat :
       (source_of (opened seat label d.state) (pixel d.state.config.width k)))
   was_seated h view = (seated_now h view, words_now)
     where
-    seated_now : (h : HostModel)
-      → record { state = d.state; sheets = sheets_of d.glasses; left = d.left; last = kept; seen = seen } ≡ h
-      → WasSeated seat label h d2 (set hollows seat back)
-    seated_now h view =
-      let config_now : d2.state.config ≡ relabelled seat label d.state.config = ap (λ (s : State). s.config) o0.state in
-      subst (λ (x : HostModel). WasSeated seat label x d2 (set hollows seat back)) view
-      (record {
-        host = record {
-          sheets = subst (λ (k : Configuration). AreSheets k d2.glasses) (sym config_now)
-              (subst (AreSheets (relabelled seat label d.state.config)) (sym glasses_now)
-              (sheets_relabelled d.state.config seat label (set d.glasses seat blank) all));
-          hollow = subst (λ (k : Configuration). AreHollow k (set hollows seat back)) (sym config_now)
-              (hollow_relabelled d.state.config seat label (set hollows seat back)
-              (hollow_with d.state.config hollows seat back host.hollow back_is));
-          fresh = subst (λ (s : State). IsFresh s (sheet_in (sheets_of d2.glasses)) d2.raw) (sym o0.state)
-              (subst (λ (gs : List SheetModel). IsFresh (opened seat label d.state) (sheet_in (sheets_of gs)) d2.raw)
-              (sym glasses_now)
-              (subst (IsFresh (opened seat label d.state) (sheet_in (sheets_of (set d.glasses seat blank))))
-              (sym o0.raw) fresh_now));
-        };
-        now = λ i. record {
-          state = o0.state i;
-          sheets = (ap sheets_of glasses_now ∙ words_with d.state.config d.glasses seat blank
-              ∙ ap (set (sheets_of d.glasses) seat) blank_words) i;
-          left = o0.left i;
-          last = None;
-          seen = seen;
-        };
-      })
+      seated_now : (h : HostModel)
+          → record { state = d.state; sheets = sheets_of d.glasses; left = d.left; last = kept; seen = seen } ≡ h
+          → WasSeated seat label h d2 (set hollows seat back)
+      seated_now h view =
+          let config_now : d2.state.config ≡ relabelled seat label d.state.config = ap (λ (s : State). s.config) o0.state in
+          subst (λ (x : HostModel). WasSeated seat label x d2 (set hollows seat back)) view
+          (record {
+            host = record {
+              sheets = subst (λ (k : Configuration). AreSheets k d2.glasses) (sym config_now)
+                  (subst (AreSheets (relabelled seat label d.state.config)) (sym glasses_now)
+                  (sheets_relabelled d.state.config seat label (set d.glasses seat blank) all));
+              hollow = subst (λ (k : Configuration). AreHollow k (set hollows seat back)) (sym config_now)
+                  (hollow_relabelled d.state.config seat label (set hollows seat back)
+                  (hollow_with d.state.config hollows seat back host.hollow back_is));
+              fresh = subst (λ (s : State). IsFresh s (sheet_in (sheets_of d2.glasses)) d2.raw) (sym o0.state)
+                  (subst (λ (gs : List SheetModel). IsFresh (opened seat label d.state) (sheet_in (sheets_of gs)) d2.raw)
+                  (sym glasses_now)
+                  (subst (IsFresh (opened seat label d.state) (sheet_in (sheets_of (set d.glasses seat blank))))
+                  (sym o0.raw) fresh_now));
+            };
+            now = λ i. record {
+              state = o0.state i;
+              sheets = (ap sheets_of glasses_now ∙ words_with d.state.config d.glasses seat blank
+                  ∙ ap (set (sheets_of d.glasses) seat) blank_words) i;
+              left = o0.left i;
+              last = None;
+              seen = seen;
+            };
+          })
 
 -- the new client's glass
 pub blank_glass : (config : Configuration) (sheets : List SheetModel) (seat : ℕ) (own blank : SheetModel)

@@ -59,8 +59,7 @@ invariant_of-self c =
     }) c.clean_pixels_keep_their_source.ensures c.args.self.now c.self.view_is in
     let same = ap (λ (m : HostModel). m.sheets) done.now ∙ ap (λ (m : HostModel). m.sheets) (sym c.self.view_is) in
     let config = ap (λ (t : State). t.config) s.state
-    ∙ ap (λ (x : DesktopModel SheetModel). x.state.config) c.exchange.ensures.desktop in
-    (
+    ∙ ap (λ (x : DesktopModel SheetModel). x.state.config) c.exchange.ensures.desktop in (
       done.host,
       seen_called d.state c.serve-reply.new.desktop.state c.args.seat c.args.call.now c.serve-reply.result
           (sheets_of d.glasses) (sheets_of c.serve-reply.new.desktop.glasses) c.touch_of-touch.result
@@ -104,8 +103,7 @@ returns-clause-served c = λ _.
       out =
           s.own;
       painted = s.painted;
-    }) c.clean_pixels_keep_their_source.ensures c.args.self.now c.self.view_is in
-    (
+    }) c.clean_pixels_keep_their_source.ensures c.args.self.now c.self.view_is in (
       ap Ok done.reply,
       (λ i. record {
         state = c.serve-reply.new.desktop.state;

@@ -16,8 +16,7 @@ invariant_of-self c =
     let done = was_told c.self.inside.desktop c.input-routed.new.self c.self.inside.hollows.items c.args.device
     c.input-routed.result c.self.inside.last _ c.self.invariant.0
     e.routed e.state e.left e.painted e.rests c.clean_pixels_keep_their_source.ensures c.args.self.now c.self.view_is in
-    let same = ap (λ (m : HostModel). m.sheets) done.now ∙ ap (λ (m : HostModel). m.sheets) (sym c.self.view_is) in
-    (
+    let same = ap (λ (m : HostModel). m.sheets) done.now ∙ ap (λ (m : HostModel). m.sheets) (sym c.self.view_is) in (
       done.host,
       seen_told d.state d2.state c.args.device c.input-routed.result (sheets_of d.glasses) (sheets_of d2.glasses)
           c.self.inside.changed c.bar_or_screen-before.result c.told-after.result c.join.result
@@ -38,8 +37,7 @@ returns-clause-served c = λ _.
     let e = c.input-routed.ensures in
     let done = was_told c.self.inside.desktop c.input-routed.new.self c.self.inside.hollows.items c.args.device
     c.input-routed.result c.self.inside.last _ c.self.invariant.0
-    e.routed e.state e.left e.painted e.rests c.clean_pixels_keep_their_source.ensures c.args.self.now c.self.view_is in
-    (
+    e.routed e.state e.left e.painted e.rests c.clean_pixels_keep_their_source.ensures c.args.self.now c.self.view_is in (
       ap Ok done.routed_now,
       (λ i. record {
         state = c.input-routed.new.self.state;

@@ -147,8 +147,7 @@ invariant_of-self c =
     })) c.clean_pixels_keep_their_source.ensures c.args.self.now c.self.view_is in
     let call_is = c.refresh_of-call.ensures in
     let config = ap (λ (t : State). t.config) s.state
-    ∙ ap (λ (x : DesktopModel SheetModel). x.state.config) c.exchange.ensures.desktop in
-    (
+    ∙ ap (λ (x : DesktopModel SheetModel). x.state.config) c.exchange.ensures.desktop in (
       done.0.is_host,
       seen_called d.state c.serve-reply.new.desktop.state c.args.seat
           (call.Refresh c.args.place.0 c.args.place.1 c.args.size.0 c.args.size.1) c.serve-reply.result

@@ -69,8 +69,7 @@ invariant_of-self c =
     c.openings_keep_all.ensures.sources c.args.self.now c.self.view_is in
     let config = ap (λ (t : State). t.config) o.state
     ∙ ap (λ (x : DesktopModel SheetModel). relabelled c.args.seat c.args.label x.state.config)
-    c.exchange.ensures.desktop in
-    (
+    c.exchange.ensures.desktop in (
       done.0.host,
       seen_seated d.state c.reopen.new.self.state c.args.seat c.args.label (sheets_of d.glasses)
           (sheets_of c.reopen.new.self.glasses) c.self.inside.changed c.bar_or_screen-part.result c.join-self-inside.result _
@@ -101,8 +100,7 @@ returns-clause-seated c = λ _.
     (omega (arith, inside, hollows.count)))
     c.exchange.ensures.out c.wipe.ensures.sight c.wipe.ensures.room
     (record { state = o.state; left = o.left; raw = o.raw; sights_now = o.sights; rooms_now = o.rests; out = o.out })
-    c.openings_keep_all.ensures.sources c.args.self.now c.self.view_is in
-    (
+    c.openings_keep_all.ensures.sources c.args.self.now c.self.view_is in (
       refl,
       (λ i. record {
         state = c.reopen.new.self.state;
