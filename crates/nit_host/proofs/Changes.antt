@@ -8,7 +8,8 @@ use Rattle.std.proofs.lemmas.List.FromFn.{get_or-map-range_with_len}
 use Rattle.nit_events.specs.declared.call.Call.TheVariants as call
 use Rattle.nit_events.specs.declared.device.Mode.TheVariants as mode
 use Rattle.nit_events.specs.declared.entry.Entry.TheVariants as entry
-use Rattle.nit_journal.specs.State.{buffer_size, input_after_call, owner_of}
+use Rattle.nit_journal.specs.State.{buffer_size, input_after_call, layer, owner_of}
+use Rattle.nit_journal.specs.StackAfter.{after_accepted, stack_after_call}
 use Rattle.nit_overlay.specs.Frame.{bar_word, shown}
 use Rattle.nit_overlay.specs.Terms.{is_some}
 use Rattle.nit_overlay.proofs.ForCallers.{flat_shown, get_or-frame}
@@ -30,7 +31,7 @@ use Rattle.nit_host.specs.Area.{StaysOutside, in_area, is_inside}
 use Rattle.nit_host.specs.Host.{frame_by, picture_by, sheet_in}
 use Rattle.nit_host.specs.Looked.{IsSeenBut}
 use Rattle.nit_host.specs.Touch.{HoldsBar, HoldsBarIn, HoldsTouched, touch_of, touched_by, touched_in}
-use Rattle.nit_host.specs.Touch.{touched_unless}
+use Rattle.nit_host.specs.Touch.{touched_over, touched_unless}
 use Rattle.nit_host.specs.declared.host.area.Area.{Area}
 use Rattle.nit_host.specs.declared.host.touch.Touch.{Touch}
 use Rattle.nit_host.specs.declared.host.touch.Touch.TheVariants as touch
@@ -134,6 +135,16 @@ module _ (s s' : State) (sheets sheets' : List (List ℕ)) (a : Area) (width : s
 
 -- ---- a call
 
+-- a stack that an accepted call leaves as it is stays, be it accepted or not
+stack_steady : (layers : ℕ → ℕ) (seat : ℕ) (c : Call) (r : Reply) (stack : List View)
+    → after_accepted layers seat c r stack ≡ stack → stack_after_call layers seat c r stack ≡ stack
+unfolding stack_after_call
+stack_steady layers seat c r stack same = go (is_accepted r)
+  where
+    go : (b : Bool) → cond b (after_accepted layers seat c r stack) stack ≡ stack
+    go true = same
+    go false = refl
+
 -- no call but `Close` changes what the input knows, and none the mode
 call_mode : (seat : ℕ) (c : Call) (r : Reply) (s : State) → (input_after_call seat c r s.input).mode ≡ s.input.mode
 call_mode seat call.Close r s = go (is_accepted r)
@@ -228,6 +239,49 @@ module _ (s : State) (seat : ℕ) (r : Reply) (sheets sheets' : List (List ℕ))
   bar_stays call.Take holds k less off in_ = refl
   bar_stays (call.Upgrade n) holds k less off in_ = refl
 
+  by_whole : (c : Call) → HoldsTouched s seat touch.Screen a
+      → StaysOutside s.config.width (pixel_count s) a (frame_by s sheets)
+      (frame_by (after s (entry.Call seat c r)) sheets')
+  by_whole c holds = whole_stays s.config.width s.config.height a (frame_by s sheets)
+      (frame_by (after s (entry.Call seat c r)) sheets') (λ x y wide high. holds.bare x y wide high refl)
+
+  -- a call that changes nothing of what is shown but words
+  steady_stays : (c : Call) → after_accepted (layer s.config) seat c r s.stack ≡ s.stack
+      → input_after_call seat c r s.input ≡ s.input → r ≡ (serve (session s seat) c).reply
+      → Words s seat r sheets sheets' c → HoldsTouched s seat (touched_by c) a
+      → HoldsTouched (after s (entry.Call seat c r)) seat (touched_by c) a
+      → StaysOutside s.config.width (pixel_count s) a (frame_by s sheets)
+      (frame_by (after s (entry.Call seat c r)) sheets')
+  steady_stays c stack input replied words holds holds' k less off =
+      let views = stack_steady (layer s.config) seat c r s.stack stack in
+      frame_pixel s sheets k less
+      ∙ ap (shown (scenery_of s) (pixel s.config.width k))
+      (clean_stays c replied words k (clean_outside c holds holds' k less off))
+      ∙ (λ i. shown (record (scenery_of s) { stack = sym views i; mode = (sym input i).mode; focus = (sym input i).focus })
+      (pixel s.config.width k) (word_from (sheet_in sheets') (source_at (after s (entry.Call seat c r)) k)))
+      ∙ sym (frame_pixel (after s (entry.Call seat c r)) sheets' k less)
+
+  over_stays : (c : Call) → r ≡ (serve (session s seat) c).reply → Words s seat r sheets sheets' c
+      → HoldsTouched s seat (touched_over c) a → HoldsTouched (after s (entry.Call seat c r)) seat (touched_over c) a
+      → StaysOutside s.config.width (pixel_count s) a (frame_by s sheets)
+      (frame_by (after s (entry.Call seat c r)) sheets')
+  over_stays (call.Buffer w h) replied words holds holds' =
+      steady_stays (call.Buffer w h) refl refl replied words holds holds'
+  over_stays (call.Refresh x y w h) replied words holds holds' =
+      steady_stays (call.Refresh x y w h) refl refl replied words holds holds'
+  over_stays call.Take replied words holds holds' = steady_stays call.Take refl refl replied words holds holds'
+  over_stays (call.Upgrade n) replied words holds holds' =
+      steady_stays (call.Upgrade n) refl refl replied words holds holds'
+  over_stays call.View replied words holds holds' = by_whole call.View holds
+  over_stays (call.Place v x y w h) replied words holds holds' = by_whole (call.Place v x y w h) holds
+  over_stays (call.Offset v ox oy) replied words holds holds' = by_whole (call.Offset v ox oy) holds
+  over_stays (call.Front v) replied words holds holds' = by_whole (call.Front v) holds
+  over_stays (call.Back v) replied words holds holds' = by_whole (call.Back v) holds
+  over_stays (call.Above v n) replied words holds holds' = by_whole (call.Above v n) holds
+  over_stays (call.Title v text) replied words holds holds' = by_whole (call.Title v text) holds
+  over_stays (call.Destroy v) replied words holds holds' = by_whole (call.Destroy v) holds
+  over_stays call.Close replied words holds holds' = by_whole call.Close holds
+
   accepted_stays : (c : Call) (m : Mode) → s.input.mode ≡ m → r ≡ (serve (session s seat) c).reply → Words s seat r sheets sheets' c
       → HoldsTouched s seat (touched_in m c) a → HoldsTouched (after s (entry.Call seat c r)) seat (touched_in m c) a
       → StaysOutside s.config.width (pixel_count s) a (frame_by s sheets)
@@ -235,10 +289,8 @@ module _ (s : State) (seat : ℕ) (r : Reply) (sheets sheets' : List (List ℕ))
   accepted_stays c mode.Flat is replied words holds holds' =
       flat_stays s (after s (entry.Call seat c r)) sheets sheets' a refl refl refl is (call_mode seat c r s ∙ is)
       (λ k less off. clean_stays c replied words k (clean_outside c holds holds' k less off)) (bar_stays c holds)
-  accepted_stays c mode.Xray is replied words holds holds' = whole_stays s.config.width s.config.height a _ _
-      (λ x y wide high. holds.bare x y wide high refl)
-  accepted_stays c mode.Kill is replied words holds holds' = whole_stays s.config.width s.config.height a _ _
-      (λ x y wide high. holds.bare x y wide high refl)
+  accepted_stays c mode.Xray is replied words holds holds' = over_stays c replied words holds holds'
+  accepted_stays c mode.Kill is replied words holds holds' = over_stays c replied words holds holds'
 
   pub call_stays : (c : Call) → r ≡ (serve (session s seat) c).reply → Words s seat r sheets sheets' c
       → HoldsTouched s seat (touch_of s seat c) a

@@ -35,4 +35,4 @@ pub use Rattle.nit_host.specs.Below.{in_bar, option_map_or, point}
 pub use Rattle.nit_host.specs.Host.{IsAsSeen, frame_by, frame_of, looked}
 pub use Rattle.nit_host.specs.Looked.{IsSeenBut, frame_at}
 pub use Rattle.nit_host.specs.Touch.{HoldsBar, HoldsTouched, is_touched, part_touched, shows_place}
-pub use Rattle.nit_host.specs.Touch.{touch_of, touched_by, touched_in}
+pub use Rattle.nit_host.specs.Touch.{touch_of, touched_by, touched_in, touched_over}

@@ -29,10 +29,18 @@ touched_by call.Close = touch.Views
 touched_by (call.Refresh x y w h) = part_touched x y w h
 touched_by other = touch.Nothing
 
+-- what it can change in the modes that draw labels: a change of the views may move them
+abbrev pub touched_over : Call → Touch
+touched_over (call.Buffer w h) = touch.Views
+touched_over (call.Refresh x y w h) = part_touched x y w h
+touched_over call.Take = touch.Nothing
+touched_over (call.Upgrade n) = touch.Nothing
+touched_over other = touch.Screen
+
 -- what it can change in a mode
 abbrev pub touched_in : Mode → Call → Touch
 touched_in mode.Flat call = touched_by call
-touched_in other call = touch.Screen
+touched_in other call = touched_over call
 
 -- a refused call changes nothing
 abbrev pub touched_unless : Option Reply → Mode → Call → Touch

@@ -4,7 +4,7 @@ ghost use Rattle.std.specs.Prelude.{◌≡◌, ◌<◌, ◌≤◌, ℕ, Some, fa
 ghost use Rattle.nit_host.specs.Terms.{HoldsBar, HoldsTouched, IsAreaOf, IsPlace, in_area};
 ghost use Rattle.nit_host.specs.Terms.{is_kill, is_touched, kills, part_touched, point, touch_of};
 ghost use Rattle.nit_host.specs.Terms.{View, covers, deliveries_of, option_map_or, shows_place};
-ghost use Rattle.nit_host.specs.Terms.{touched_by, touched_in};
+ghost use Rattle.nit_host.specs.Terms.{touched_by, touched_in, touched_over};
 
 use crate::host::area::Area;
 use crate::host::handing::clip;
@@ -49,7 +49,27 @@ fn touched_in(mode: Mode, call: &Call) -> Touch
 {
     match mode {
         Mode::Flat => touched_by(call),
-        Mode::Xray | Mode::Kill => Touch::Screen,
+        Mode::Xray | Mode::Kill => touched_over(call),
+    }
+}
+
+/// What an accepted call can change in the modes that draw labels.
+fn touched_over(call: &Call) -> Touch
+    ensures { result ≡ touched_over call.now }
+{
+    match *call {
+        Call::Buffer(..) => Touch::Views,
+        Call::Refresh(x, y, w, h) => part_touched(x, y, w, h),
+        Call::Take | Call::Upgrade(_) => Touch::Nothing,
+        Call::View
+        | Call::Place(..)
+        | Call::Offset(..)
+        | Call::Front(_)
+        | Call::Back(_)
+        | Call::Above(..)
+        | Call::Title(..)
+        | Call::Destroy(_)
+        | Call::Close => Touch::Screen,
     }
 }
 
