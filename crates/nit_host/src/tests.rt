@@ -4,6 +4,7 @@ use crate::{Host, SeatPlan, plan};
 use nit_events::{Call, Reply};
 use nit_glyph::Label;
 use nit_rect::Rect;
+use std::alloc::Global;
 use std::process::Abort;
 use std::rt::HostRuntime;
 
@@ -20,7 +21,7 @@ const SHOWN: [u32; 24] = [
 
 #[test]
 fn a_look_brings_words_up_to_date(rt: HostRuntime) {
-    let mut host = opened(&rt);
+    let mut host = opened(&rt, rt.alloc());
     let mut out = [7; 24];
     let all = host.look(&mut out);
     assert!(rt; all == Rect::new(0, 0, 6, 4));
@@ -33,14 +34,14 @@ fn a_look_brings_words_up_to_date(rt: HostRuntime) {
 }
 
 /// A host with one free seat.
-fn opened(rt: &HostRuntime) -> Host {
+fn opened(rt: &impl Abort, alloc: Global) -> Host {
     let seats = [SeatPlan {
         donation: 65536,
         layer: 0,
         clicks: true,
     }];
-    let config = plan(rt.alloc(), 6, 4, false, &seats).expect(rt, "a plan");
-    Host::vacant(rt.alloc(), &config).expect(rt, "memory")
+    let config = plan(alloc, 6, 4, false, &seats).expect(rt, "a plan");
+    Host::vacant(alloc, &config).expect(rt, "memory")
 }
 
 /// A client with a buffer and a view.
