@@ -1,10 +1,9 @@
 -- A row, some columns of which were copied.
-use Rattle.std.proofs.Common.{Bool, List, ap, arith, cond, false, inl, inr, length, sym, take, drop}
+use Rattle.nit_look.proofs.Basics.{Bool, Differs, IsMerged, List, Span, Spans, ap, arith, cases_lt}
+use Rattle.nit_look.proofs.Basics.{cond, drop, ext_get_or, false, get_or-drop, get_or-take}
+use Rattle.nit_look.proofs.Basics.{get_or_past, inl, inr, is_among, length, length-drop}
+use Rattle.nit_look.proofs.Basics.{length-take, nat_tests, places, sym, take}
 use Rattle.std.proofs.Common.{true, ℕ, ◌+◌, ◌-◌, ◌<◌, ◌∙◌, ◌≡◌, ◌≤◌, slice_index, rules}
-use Rattle.std.proofs.lemmas.Bool.Decides.{nat_tests}
-use Rattle.nit_look.proofs.Basics.{Differs, Span, Spans, cases_lt, ext_get_or, get_or-drop}
-use Rattle.nit_look.proofs.Basics.{get_or-take, get_or_past, length-drop, length-take, places}
-use Rattle.nit_look.proofs.Basics.{IsMerged, is_among}
 use borrow.Rule.Slice.PartMut.{put_mid}
 
 pub among : (from to n : ℕ) → from ≤ n → n < to → is_among from to n ≡ true

@@ -1,13 +1,11 @@
 -- The part of a picture that was copied, and the rectangle of what differed.
-use Rattle.std.proofs.Common.{Bool, List, Option, Some, None, ap, arith, cond, false, inl, inr}
-use Rattle.std.proofs.Common.{length, refl, subst, sym, true, ℕ, ◌&&◌, ◌*◌, ◌+◌, ◌-◌, ◌/◌, ◌%◌}
-use Rattle.std.proofs.Common.{◌<◌, ◌∙◌, ◌≡◌, ◌≤◌, slice_index, nat_le, nat_lt}
-use Rattle.std.proofs.Common.{ℤ, ◌+ℤ◌, ◌≤ℤ◌}
-use Rattle.std.proofs.lemmas.Nat.{mul-le}
-use Rattle.nit_rect.specs.Rectangle.{Rectangle, covers, rectangle, spans}
-use Rattle.nit_look.proofs.Basics.{AgreeIn, AgreeOutside, AreEdges, Bound, Differs, Edges, IsMerged}
-use Rattle.nit_look.proofs.Basics.{cases_lt, ext_get_or, ints, is_among, is_in_rows, place_at, pos}
-use Rattle.nit_look.proofs.Basics.{LiesOn, rectangle_between}
+use Rattle.nit_look.proofs.Basics.{AgreeIn, AgreeOutside, AreEdges, Bool, Bound, Differs, Edges}
+use Rattle.nit_look.proofs.Basics.{IsMerged, LiesOn, List, None, Option, Some, ap, arith, cases_lt}
+use Rattle.nit_look.proofs.Basics.{cond, ext_get_or, false, inl, inr, ints, is_among, is_in_rows}
+use Rattle.nit_look.proofs.Basics.{mul-le, place_at, pos, rectangle_between, spans}
+use Rattle.std.proofs.Common.{length, refl, subst, sym, true, ℕ, ◌&&◌, ◌*◌, ◌+◌, ◌-◌, ◌/◌, ◌%◌, ◌<◌}
+use Rattle.std.proofs.Common.{◌∙◌, ◌≡◌, ◌≤◌, slice_index, nat_le, nat_lt, ℤ, ◌+ℤ◌, ◌≤ℤ◌}
+use Rattle.nit_rect.specs.Rectangle.{Rectangle, covers, rectangle}
 use Rattle.nit_look.proofs.Patches.{edges_below, not_below}
 use Rattle.nit_look.proofs.Rectangles.{ordered}
 use Rattle.nit_look.proofs.Merging.{among, by_test, high_of, low_of}

@@ -1,12 +1,11 @@
 -- A picture, some columns of some rows of which were copied.
-use Rattle.std.proofs.Common.{Bool, List, Option, Some, None, ap, arith, cond, false, inl, inr}
-use Rattle.std.proofs.Common.{drop, length, refl, rules, sym, true, ℕ, ◌&&◌, ◌*◌, ◌+◌, ◌-◌, ◌/◌, ◌%◌}
-use Rattle.std.proofs.Common.{◌<◌, ◌∙◌, ◌≡◌, ◌≤◌, slice_index}
-use Rattle.std.proofs.Math.Nat.{le-div_iff_mul-le}
-use Rattle.std.proofs.lemmas.Bool.Decides.{nat_tests}
-use Rattle.nit_look.proofs.Basics.{AreEdges, Differs, DiffersWhere, Edges, IsMerged, cases_lt}
-use Rattle.nit_look.proofs.Basics.{div-mul-add, ext_get_or, is_among, is_in_rows, length-drop}
-use Rattle.nit_look.proofs.Basics.{length-take, picture_row, places}
+use Rattle.nit_look.proofs.Basics.{AreEdges, Bool, Differs, DiffersWhere, Edges, IsMerged, List}
+use Rattle.nit_look.proofs.Basics.{None, Option, Some, ap, arith, cases_lt, cond, div-mul-add}
+use Rattle.nit_look.proofs.Basics.{ext_get_or, false, inl, inr, is_among, is_in_rows}
+use Rattle.nit_look.proofs.Basics.{le-div_iff_mul-le, length-drop, length-take, nat_tests}
+use Rattle.nit_look.proofs.Basics.{picture_row, places}
+use Rattle.std.proofs.Common.{drop, length, refl, rules, sym, true, ℕ, ◌&&◌, ◌*◌, ◌+◌, ◌-◌, ◌/◌}
+use Rattle.std.proofs.Common.{◌%◌, ◌<◌, ◌∙◌, ◌≡◌, ◌≤◌, slice_index}
 use Rattle.nit_look.proofs.Merging.{behind, by_test}
 use Rattle.nit_look.proofs.Rows.{in_row, row_above, word_of_row}
 use borrow.Rule.Slice.PartMut.{put_mid}

@@ -1,9 +1,9 @@
 -- The rectangle that the edges of two pictures bound.
-use Rattle.std.proofs.Common.{List, Option, Some, None, IfSome, ap, arith, inl, inr, length, subst}
+use Rattle.nit_look.proofs.Basics.{Bound, CoversChange, Differs, Edges, IfSome, IsTouched, LiesOn}
+use Rattle.nit_look.proofs.Basics.{List, None, Option, Some, and_true, ap, arith, cases_lt}
+use Rattle.nit_look.proofs.Basics.{div_below, get_or_past, inl, inr, ints, length, mod_below, pos}
+use Rattle.nit_look.proofs.Basics.{rectangle_between, spans_holds, subst}
 use Rattle.std.proofs.Common.{sym, ℕ, ◌*◌, ◌+◌, ◌-◌, ◌/◌, ◌%◌, ◌<◌, ◌∙◌, ◌≡◌, ◌≤◌, ◌≤ℤ◌, ◌+ℤ◌}
-use Rattle.nit_look.proofs.Basics.{Bound, CoversChange, Differs, Edges, IsTouched, LiesOn, and_true}
-use Rattle.nit_look.proofs.Basics.{cases_lt, div_below, get_or_past, ints, mod_below, pos}
-use Rattle.nit_look.proofs.Basics.{rectangle_between, spans_holds}
 
 -- the place of a difference is one of the picture
 inside : (count k : ℕ) (a b : List ℕ) → length a ≡ count → length b ≡ count → Differs a b k → k < count

@@ -1,10 +1,10 @@
 -- One row more of two pictures.
-use Rattle.std.proofs.Common.{List, Option, Some, None, ap, arith, inl, inr, max, min, refl, subst}
-use Rattle.std.proofs.Common.{sym, drop, ℕ, ◌*◌, ◌+◌, ◌-◌, ◌/◌, ◌%◌, ◌<◌, ◌∙◌, ◌≡◌, ◌≤◌}
-use Rattle.std.proofs.Common.{slice_index}
 use Rattle.nit_look.proofs.Basics.{AreEdges, Bound, Differs, DiffersWhere, Edges, IsBetween, IsSpan}
-use Rattle.nit_look.proofs.Basics.{Span, cases_lt, div-mul-add, div_below, get_or-drop, get_or-take}
-use Rattle.nit_look.proofs.Basics.{get_or_past, length-take, mod-mul-add, picture_row}
+use Rattle.nit_look.proofs.Basics.{List, None, Option, Some, Span, ap, arith, cases_lt, div-mul-add}
+use Rattle.nit_look.proofs.Basics.{div_below, get_or-drop, get_or-take, get_or_past, inl, inr}
+use Rattle.nit_look.proofs.Basics.{length-take, max, min, mod-mul-add, picture_row, refl}
+use Rattle.nit_look.proofs.Basics.{slice_index, subst}
+use Rattle.std.proofs.Common.{sym, drop, ℕ, ◌*◌, ◌+◌, ◌-◌, ◌/◌, ◌%◌, ◌<◌, ◌∙◌, ◌≡◌, ◌≤◌}
 
 -- where a pixel lies of the row behind so many rows
 pub record InRow (width row k : ℕ) : Type 0 where

@@ -1,7 +1,6 @@
 -- The least rectangle that has all pixels at which two pictures differ.
 use Rattle.std.specs.Prelude.{◌≡◌, ◌%◌, ◌/◌, ℕ, List, IsTrue, pos, ◌+ℤ◌, ◌≤ℤ◌, false, true}
-use Rattle.std.specs.Prelude.{slice_index}
-use Rattle.nit_look.specs.Below.{Point, Rectangle, covers}
+use Rattle.nit_look.specs.Below.{Point, Rectangle, covers, slice_index}
 use Rattle.nit_look.specs.Span.{Differs}
 
 -- the pixel of a number, row by row from the top, on a screen of this width

@@ -1,7 +1,7 @@
 use Rattle.std.proofs.Common.{arith, length, mul_comm, ◌*◌, ◌+◌, ◌-◌, ◌∙◌, ◌≡◌, ◌≤◌, refl}
-use Rattle.std.proofs.Common.{List, drop, sym, take, ℕ}
-use Rattle.nit_look.proofs.Basics.{IsMerged, IsSpan, is_among, length-drop, length-take, picture_row}
-use Rattle.nit_look.proofs.Lemmas.{kept_above, merged_more, nothing_yet, row_fits, row_old, row_put, same_edges}
+use Rattle.nit_look.proofs.Lemmas.{IsMerged, IsSpan, List, drop, is_among, kept_above, length-drop}
+use Rattle.nit_look.proofs.Lemmas.{length-take, merged_more, nothing_yet, picture_row, row_fits}
+use Rattle.nit_look.proofs.Lemmas.{row_old, row_put, same_edges, sym, take, ℕ}
 use Rattle.nit_look.proofs.picture.copy.Goals as goal
 
 pub loop-row-init : goal.loop-row-init

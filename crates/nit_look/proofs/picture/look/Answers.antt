@@ -1,7 +1,8 @@
 use Rattle.std.proofs.Common.{None, Some, arith, length, ◌≡◌, ◌*◌, ◌+◌}
-use Rattle.nit_look.proofs.Basics.{ints, pos}
-use Rattle.nit_look.proofs.Lemmas.{AgreeIn, CoversChange, IsTouched, LiesOn, all_edges, bottom_below, copied_in, covers_change, ends_at}
-use Rattle.nit_look.proofs.Lemmas.{holds_of_it, kept_outside, lies_on, mul_comm, none_differs, shown_between, touched, whole_frame, ◌∙◌}
+use Rattle.nit_look.proofs.Lemmas.{AgreeIn, CoversChange, IsTouched, LiesOn, all_edges}
+use Rattle.nit_look.proofs.Lemmas.{bottom_below, copied_in, covers_change, ends_at, holds_of_it}
+use Rattle.nit_look.proofs.Lemmas.{ints, kept_outside, lies_on, mul_comm, none_differs, pos}
+use Rattle.nit_look.proofs.Lemmas.{shown_between, touched, whole_frame, ◌∙◌}
 use Rattle.nit_look.proofs.picture.look.Goals as goal
 
 pub returns-in_err-copy-clause-frame : goal.returns-in_err-copy-clause-frame

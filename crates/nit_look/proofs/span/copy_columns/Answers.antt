@@ -1,5 +1,4 @@
-use Rattle.nit_look.proofs.Lemmas.{row_merged, span_shifted}
-use Rattle.std.proofs.Common.{refl}
+use Rattle.nit_look.proofs.Lemmas.{refl, row_merged, span_shifted}
 use Rattle.nit_look.proofs.span.copy_columns.Goals as goal
 
 pub returns-in_err-span-clause-copied : goal.returns-in_err-span-clause-copied
