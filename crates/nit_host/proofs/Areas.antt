@@ -1,5 +1,5 @@
 -- What of a view is touched, as an area.
-use Rattle.std.proofs.Common.{Bool, ap, arith, false, refl, sym, true, ℕ, ℤ, pos, ◌&&◌, ◌+ℤ◌, ◌-ℤ◌, ◌<◌}
+use Rattle.std.proofs.Common.{Bool, ap, arith, false, refl, sym, true, ℕ, ℤ, pos, ◌&&◌, ◌+ℤ◌, ◌<◌}
 use Rattle.std.proofs.Common.{◌∙◌, ◌≡◌}
 use Rattle.std.proofs.lemmas.Bool.Decides.{nat_tests}
 use Rattle.std.proofs.lemmas.Int.{ints}

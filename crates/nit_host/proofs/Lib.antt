@@ -13,5 +13,7 @@ mod Seatings
 mod Refreshing
 mod Areas
 mod Touching
-mod Changes
+mod Frames
+mod CallChanges
+mod OtherChanges
 mod Looking

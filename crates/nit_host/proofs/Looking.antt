@@ -1,6 +1,6 @@
 -- A look at what can have changed.
-use Rattle.std.proofs.Common.{Bool, List, None, Option, Some, ap, arith, false, inl, inr, length}
-use Rattle.std.proofs.Common.{slice_index, subst, sym, true, pos, ℕ, ◌%◌, ◌&&◌, ◌*◌, ◌+◌, ◌-◌, ◌/◌, ◌<◌}
+use Rattle.std.proofs.Common.{List, None, Option, Some, ap, arith, false, inl, inr, length}
+use Rattle.std.proofs.Common.{slice_index, subst, sym, true, pos, ℕ, ◌%◌, ◌&&◌, ◌+◌, ◌-◌, ◌/◌, ◌<◌}
 use Rattle.std.proofs.Common.{◌∙◌, ◌≡◌, ◌≤◌}
 use Rattle.std.proofs.lemmas.Bool.{cases_lt, false≢true}
 use Rattle.std.proofs.lemmas.Int.{ints}

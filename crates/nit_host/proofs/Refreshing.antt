@@ -24,7 +24,7 @@ use Rattle.nit_host.specs.Host.{with_handed}
 use Rattle.nit_host.specs.Sheet.{SheetModel, low_bytes}
 use Rattle.nit_host.proofs.SheetLists.{own_plain, own_room, own_words, put_elsewhere, put_there}
 use Rattle.nit_host.proofs.SheetLists.{words_at}
-use Rattle.nit_host.proofs.Changes.{Words, words_stay}
+use Rattle.nit_host.proofs.CallChanges.{Words, words_stay}
 use Rattle.nit_host.proofs.Steps.{KeepSources, Serves, WasCalled, called_now, glasses_now}
 use Rattle.nit_host.proofs.Steps.{same_words}
 use Rattle.nit_host.proofs.Steps.{with_sheet, words_with}

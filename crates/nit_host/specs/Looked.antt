@@ -1,5 +1,5 @@
 -- What the last look at a host left.
-use Rattle.std.specs.Prelude.{◌≡◌, ◌<◌, ℕ, List, Option, Some, None, length, option_map, true}
+use Rattle.std.specs.Prelude.{◌≡◌, ◌<◌, ℕ, List, Option, Some, None, length, true}
 use Rattle.nit_host.specs.Area.{StaysOutside, is_inside}
 use Rattle.nit_host.specs.Below.{DesktopModel, State, pixel_count}
 use Rattle.nit_host.specs.Fresh.{sheets_of}

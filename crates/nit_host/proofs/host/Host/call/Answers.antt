@@ -1,11 +1,11 @@
-use Rattle.std.proofs.Common.{List, Ok, Some, ap, arith, length, subst, sym, ℕ, ◌<◌, ◌∙◌}
+use Rattle.std.proofs.Common.{Ok, Some, ap, arith, length, subst, sym, ◌<◌, ◌∙◌}
 use Rattle.nit_host.specs.Area.{IsAreaOf}
 use Rattle.nit_host.specs.Fresh.{IsPlainOf, sheets_of}
 use Rattle.nit_host.specs.Host.{HostModel}
 use Rattle.nit_host.specs.Sheet.{SheetModel}
 use Rattle.nit_events.specs.declared.entry.Entry.TheVariants as entry
 use Rattle.nit_host.specs.Below.{Configuration, DesktopModel, State, after, serve, session as session_}
-use Rattle.nit_host.proofs.Changes.{seen_called, words_stay}
+use Rattle.nit_host.proofs.CallChanges.{seen_called, words_stay}
 use Rattle.nit_host.proofs.Served.{may_call}
 use Rattle.nit_host.proofs.SheetLists.{hollow_glass, own_plain, there_at}
 use Rattle.nit_host.proofs.Steps.{only_called}

@@ -4,7 +4,7 @@ use Rattle.nit_host.specs.Area.{IsAreaOf}
 use Rattle.nit_host.specs.Below.{Configuration, State}
 use Rattle.nit_host.specs.Fresh.{sheets_of}
 use Rattle.nit_host.specs.Host.{HostModel}
-use Rattle.nit_host.proofs.Changes.{seen_told}
+use Rattle.nit_host.proofs.OtherChanges.{seen_told}
 use Rattle.nit_host.proofs.Inputs.{was_told}
 use Rattle.nit_host.proofs.host.Host.input.Goals as goal
 

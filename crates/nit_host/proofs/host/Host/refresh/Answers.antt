@@ -9,7 +9,7 @@ use Rattle.nit_host.specs.Fresh.{AreQuiet, IsPlainOf, sheets_of}
 use Rattle.nit_host.specs.Handing.{after_handing}
 use Rattle.nit_host.specs.Host.{HostModel}
 use Rattle.nit_host.specs.Sheet.{SheetModel}
-use Rattle.nit_host.proofs.Changes.{seen_called}
+use Rattle.nit_host.proofs.CallChanges.{seen_called}
 use Rattle.nit_host.proofs.Refreshing.{handed_plain, was_refreshed}
 use Rattle.nit_host.proofs.Served.{may_refresh}
 use Rattle.nit_host.proofs.SheetLists.{hollow_glass, hollow_quiet, own_plain, own_room}

@@ -5,7 +5,7 @@ use Rattle.nit_host.specs.Area.{IsAreaOf}
 use Rattle.nit_host.specs.Below.{Configuration, DesktopModel, IsFreeLabel, IsGlass, State, opened}
 use Rattle.nit_host.specs.Below.{relabelled, session}
 use Rattle.nit_host.specs.Fresh.{sheets_of}
-use Rattle.nit_host.proofs.Changes.{seen_seated}
+use Rattle.nit_host.proofs.OtherChanges.{seen_seated}
 use Rattle.nit_host.specs.Host.{HostModel}
 use Rattle.nit_host.specs.Seats.{is_label_taken}
 use Rattle.nit_host.specs.Sheet.{SheetModel}

@@ -1,4 +1,4 @@
-use Rattle.std.proofs.Common.{arith, pos, ◌+ℤ◌, ◌≡◌, ℤ}
+use Rattle.std.proofs.Common.{arith}
 use Rattle.std.proofs.lemmas.Int.{ints}
 use Rattle.nit_host.proofs.Areas.{shown_there}
 use Rattle.nit_host.proofs.host.touch.part_shown.Goals as goal

@@ -1,4 +1,4 @@
-use Rattle.std.proofs.Common.{Option, Some, arith, inl, inr, subst, sym, ◌∙◌, ℕ, ◌≡◌, slice_get}
+use Rattle.std.proofs.Common.{arith, inl, inr, subst, ℕ, ◌≡◌}
 use Rattle.std.proofs.lemmas.Bool.{cases_lt}
 use Rattle.std.proofs.lemmas.Option.{slice_get_within}
 use Rattle.nit_host.specs.Terms.{View}

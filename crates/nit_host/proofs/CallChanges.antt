@@ -1,137 +1,34 @@
--- What of the frame a step changes.
-use Rattle.std.proofs.Common.{[], ◌∷◌, ◌||◌}
-use Rattle.std.proofs.Common.{Bool, List, None, Option, Some, ap, arith, cond, false, length, refl}
-use Rattle.std.proofs.Common.{slice_index, subst, sym, true, ℕ, ◌%◌, ◌&&◌, ◌*◌, ◌+◌, ◌/◌, ◌<◌}
+-- What of the frame a call changes.
+use Rattle.std.proofs.Common.{Bool, List, None, Option, Some, ap, cond, false, length, refl}
+use Rattle.std.proofs.Common.{subst, sym, true, ℕ, ◌%◌, ◌&&◌, ◌/◌, ◌<◌}
 use Rattle.std.proofs.Common.{◌∙◌, ◌≡◌}
 use Rattle.std.proofs.lemmas.Bool.{false≢true}
-use Rattle.std.proofs.lemmas.List.FromFn.{get_or-map-range_with_len}
 use Rattle.nit_events.specs.declared.call.Call.TheVariants as call
 use Rattle.nit_events.specs.declared.device.Mode.TheVariants as mode
 use Rattle.nit_events.specs.declared.entry.Entry.TheVariants as entry
-use Rattle.nit_journal.specs.State.{buffer_size, input_after_call, layer, owner_of}
+use Rattle.nit_journal.specs.State.{input_after_call, layer}
 use Rattle.nit_journal.specs.StackAfter.{after_accepted, stack_after_call}
 use Rattle.nit_overlay.specs.Frame.{bar_word, shown}
-use Rattle.nit_overlay.specs.Terms.{is_some}
-use Rattle.nit_overlay.proofs.ForCallers.{flat_shown, get_or-frame}
-use Rattle.nit_events.specs.declared.event.Item.{Item}
-use Rattle.nit_events.specs.declared.event.Item.TheVariants as item
-use Rattle.nit_screen.specs.DirtyPixels.{dirty, dirty_by_call, is_killed}
+use Rattle.nit_screen.specs.DirtyPixels.{dirty, dirty_by_call}
 use Rattle.nit_screen.proofs.ForCallers.{unaccepted_state}
-use Rattle.nit_stack.specs.Sources.{source_under}
-use Rattle.nit_word.specs.Channels.{bare_word}
 use Rattle.nit_word.proofs.ForCallers.{column_and_row}
-use Rattle.nit_host.specs.Below.{Call, Entry, Mode, Point, Reply, State, View, after, bar_rows}
-use Rattle.nit_host.specs.Below.{Delivery, Device, Routed, deliveries_of, is_kill, kills, list_any}
-use Rattle.nit_host.specs.Below.{opened, route, routed_as}
-use Rattle.nit_host.specs.Below.{in_bar, is_accepted, pixel, pixel_count, point, refusal}
+use Rattle.nit_host.specs.Below.{Call, Mode, Reply, State, View, after, bar_rows}
+use Rattle.nit_host.specs.Below.{in_bar, is_accepted, pixel, pixel_count, refusal}
 use Rattle.nit_host.specs.Below.{scenery_of, serve, session, source_at, word_from}
 use Rattle.nit_journal.proofs.ForCallers.{refused_reply, serve_refused}
 use Rattle.nit_journal.specs.Session.{Answered}
 use Rattle.nit_host.specs.Area.{StaysOutside, in_area, is_inside}
-use Rattle.nit_host.specs.Host.{frame_by, picture_by, sheet_in}
+use Rattle.nit_host.specs.Host.{frame_by, sheet_in}
 use Rattle.nit_host.specs.Looked.{IsSeenBut}
-use Rattle.nit_host.specs.Touch.{HoldsBar, HoldsBarIn, HoldsTouched, touch_of, touched_by, touched_in}
+use Rattle.nit_host.specs.Touch.{HoldsTouched, touch_of, touched_by, touched_in}
 use Rattle.nit_host.specs.Touch.{touched_over, touched_unless}
 use Rattle.nit_host.specs.declared.host.area.Area.{Area}
 use Rattle.nit_host.specs.declared.host.touch.Touch.{Touch}
 use Rattle.nit_host.specs.declared.host.touch.Touch.TheVariants as touch
-use Rattle.nit_host.proofs.Areas.{first_test, second_test}
+use Rattle.nit_host.proofs.Areas.{second_test}
 use Rattle.nit_host.proofs.Steps.{KeepSources}
 use Rattle.nit_host.proofs.Touching.{call_inside, touched_more}
-
--- ---- one pixel of a frame
-
-pub frame_pixel : (s : State) (sheets : List (List ℕ)) (k : ℕ) → k < pixel_count s
-    → slice_index (frame_by s sheets) k
-    ≡ shown (scenery_of s) (pixel s.config.width k) (word_from (sheet_in sheets) (source_at s k))
-frame_pixel s sheets k less =
-    get_or-frame (scenery_of s) (picture_by s sheets) k less
-    ∙ ap (shown (scenery_of s) (pixel s.config.width k))
-    (get_or-map-range_with_len (λ n. word_from (sheet_in sheets) (source_at s n)) 0 (pixel_count s) k k 0 less
-    (omega arith))
-
--- in mode Flat and below the bar it is the word of its source
-flat_pixel : (s : State) (sheets : List (List ℕ)) (k : ℕ) → k < pixel_count s → s.input.mode ≡ mode.Flat
-    → in_bar (bar_rows s.config) (pixel s.config.width k) ≡ false
-    → slice_index (frame_by s sheets) k ≡ word_from (sheet_in sheets) (source_at s k)
-flat_pixel s sheets k less flat below =
-    frame_pixel s sheets k less
-    ∙ flat_shown (scenery_of s) (pixel s.config.width k) (word_from (sheet_in sheets) (source_at s k)) flat below
-    ∙ go (owner_of s (pixel s.config.width k))
-  where
-    go : (o : Option View) → cond (is_some o)
-        (word_from (sheet_in sheets) (source_under (buffer_size s.sessions) (pixel s.config.width k) o)) bare_word
-        ≡ word_from (sheet_in sheets) (source_under (buffer_size s.sessions) (pixel s.config.width k) o)
-    go None = refl
-    go (Some v) = refl
-
--- in the bar it is the bar's
-bar_pixel : (s : State) (sheets : List (List ℕ)) (k : ℕ) → k < pixel_count s
-    → in_bar (bar_rows s.config) (pixel s.config.width k) ≡ true
-    → slice_index (frame_by s sheets) k ≡ bar_word (scenery_of s) (pixel s.config.width k)
-bar_pixel s sheets k less inside =
-    frame_pixel s sheets k less
-    ∙ ap (λ (b : Bool). cond b (bar_word (scenery_of s) (pixel s.config.width k))
-    (Rattle.nit_overlay.specs.Frame.owner_word (scenery_of s) (pixel s.config.width k)
-    (word_from (sheet_in sheets) (source_at s k)) (owner_of s (pixel s.config.width k)))) inside
-
--- ---- all pixels outside of an area
-
--- where the area is the whole screen
-pub whole_stays : (width height : ℕ) (a : Area) (before now : List ℕ)
-    → ((x y : ℕ) → x < width → y < height → in_area a x y ≡ true)
-    → StaysOutside width (width * height) a before now
-whole_stays width height a before now whole k less off =
-    let at = column_and_row width height k less in
-    absurd (false≢true (sym off ∙ whole (k % width) (k / width) at.0 at.1))
-
-module _ (s s' : State) (sheets sheets' : List (List ℕ)) (a : Area) (width : s'.config.width ≡ s.config.width)
-    (height : s'.config.height ≡ s.config.height) (bar : bar_rows s'.config ≡ bar_rows s.config) where
-  count : (k : ℕ) → k < pixel_count s → k < pixel_count s'
-  count k less = subst (λ (n : ℕ). k < n) (sym (λ i. width i * height i)) less
-
-  -- where the mode is Flat before and after
-  pub flat_stays : s.input.mode ≡ mode.Flat → s'.input.mode ≡ mode.Flat
-      → ((k : ℕ) → k < pixel_count s → is_inside s.config.width a k ≡ false
-      → word_from (sheet_in sheets) (source_at s k) ≡ word_from (sheet_in sheets') (source_at s' k))
-      → ((k : ℕ) → k < pixel_count s → is_inside s.config.width a k ≡ false
-      → in_bar (bar_rows s.config) (pixel s.config.width k) ≡ true
-      → bar_word (scenery_of s) (pixel s.config.width k) ≡ bar_word (scenery_of s') (pixel s.config.width k))
-      → StaysOutside s.config.width (pixel_count s) a (frame_by s sheets) (frame_by s' sheets')
-  flat_stays flat flat' words bars k less off = go (in_bar (bar_rows s.config) (pixel s.config.width k)) refl
-    where
-      go : (b : Bool) → in_bar (bar_rows s.config) (pixel s.config.width k) ≡ b
-          → slice_index (frame_by s sheets) k ≡ slice_index (frame_by s' sheets') k
-      go false below =
-          flat_pixel s sheets k less flat below ∙ words k less off
-          ∙ sym (flat_pixel s' sheets' k (count k less) flat' ((λ i. in_bar (bar i) (pixel (width i) k)) ∙ below))
-      go true inside =
-          bar_pixel s sheets k less inside ∙ bars k less off inside
-          ∙ ap (λ (n : ℕ). bar_word (scenery_of s') (pixel n k)) (sym width)
-          ∙ sym (bar_pixel s' sheets' k (count k less) ((λ i. in_bar (bar i) (pixel (width i) k)) ∙ inside))
-
-  -- what was seen is still the frame, but for an area with what changed
-  pub seen_after : (a0 : Area) (seen : Option (List ℕ)) → IsSeenBut s sheets a0 seen
-      → ((x y : ℕ) → in_area a0 x y ≡ true → in_area a x y ≡ true)
-      → StaysOutside s.config.width (pixel_count s) a (frame_by s sheets) (frame_by s' sheets')
-      → IsSeenBut s' sheets' a seen
-  seen_after a0 None all more stays = λ k less.
-      more (k % s'.config.width) (k / s'.config.width)
-      (subst (λ (n : ℕ). in_area a0 (k % n) (k / n) ≡ true) (sym width)
-      (all k (subst (λ (n : ℕ). k < n) (λ i. width i * height i) less)))
-  seen_after a0 (Some seen) all more stays = (
-    all.0 ∙ sym (λ i. width i * height i),
-    λ k less off.
-        let less_ : k < pixel_count s = subst (λ (n : ℕ). k < n) (λ i. width i * height i) less in
-        let off_ : is_inside s.config.width a k ≡ false = ap (λ (n : ℕ). is_inside n a k) (sym width) ∙ off in
-        all.1 k less_ (outside (in_area a0 (k % s.config.width) (k / s.config.width))
-        (in_area a (k % s.config.width) (k / s.config.width)) (more (k % s.config.width) (k / s.config.width)) off_)
-        ∙ stays k less_ off_,
-  )
-    where
-      outside : (b c : Bool) → (b ≡ true → c ≡ true) → c ≡ false → b ≡ false
-      outside false c more_ off = refl
-      outside true c more_ off = absurd (false≢true (sym off ∙ more_ refl))
+use Rattle.nit_host.proofs.Frames.{flat_stays, frame_pixel, seen_after, whole_stays}
 
 -- ---- a call
 
@@ -336,119 +233,3 @@ pub words_stay : (s : State) (seat : ℕ) (r : Reply) (c : Call) (sheets sheets'
     → Words s seat r sheets sheets' c
 words_stay s seat r c sheets sheets' same = λ k clean.
     ap (λ (ss : List (List ℕ)). word_from (sheet_in ss) (source_at (after s (entry.Call seat c r)) k)) (sym same)
-
--- ---- steps that show each pixel's word where it was
-
-module _ (s s' : State) (sheets sheets' : List (List ℕ)) (a : Area) (width : s'.config.width ≡ s.config.width)
-    (height : s'.config.height ≡ s.config.height) (bar : bar_rows s'.config ≡ bar_rows s.config)
-    (words : (k : ℕ) → k < pixel_count s → word_from (sheet_in sheets) (source_at s k)
-    ≡ word_from (sheet_in sheets') (source_at s' k)) where
-  -- the mode was another one
-  by_screen : ((x y : ℕ) → x < s.config.width → y < s.config.height → in_area a x y ≡ true)
-      → StaysOutside s.config.width (pixel_count s) a (frame_by s sheets) (frame_by s' sheets')
-  by_screen whole = whole_stays s.config.width s.config.height a (frame_by s sheets) (frame_by s' sheets') whole
-
-  by_screen' : ((x y : ℕ) → x < s'.config.width → y < s'.config.height → in_area a x y ≡ true)
-      → StaysOutside s.config.width (pixel_count s) a (frame_by s sheets) (frame_by s' sheets')
-  by_screen' whole = by_screen (λ x y wide high. whole x y (subst (λ (n : ℕ). x < n) (sym width) wide)
-      (subst (λ (n : ℕ). y < n) (sym height) high))
-
-  by_modes : (m m' : Mode) → s.input.mode ≡ m → s'.input.mode ≡ m'
-      → HoldsBarIn m s.config.width s.config.height (bar_rows s.config) a
-      → HoldsBarIn m' s'.config.width s'.config.height (bar_rows s'.config) a
-      → StaysOutside s.config.width (pixel_count s) a (frame_by s sheets) (frame_by s' sheets')
-  by_modes mode.Xray m' is is' holds holds' = by_screen holds
-  by_modes mode.Kill m' is is' holds holds' = by_screen holds
-  by_modes mode.Flat mode.Xray is is' holds holds' = by_screen' holds'
-  by_modes mode.Flat mode.Kill is is' holds holds' = by_screen' holds'
-  by_modes mode.Flat mode.Flat is is' holds holds' =
-      flat_stays s s' sheets sheets' a width height bar is is' (λ k less off. words k less)
-      (λ k less off in_.
-      let at = column_and_row s.config.width s.config.height k less in
-      absurd (false≢true (sym off ∙ holds (k % s.config.width) (k / s.config.width) at.0 at.1 in_)))
-
-  -- all that changes is the bar
-  pub bar_changes : HoldsBar s a → HoldsBar s' a
-      → StaysOutside s.config.width (pixel_count s) a (frame_by s sheets) (frame_by s' sheets')
-  bar_changes holds holds' = by_modes s.input.mode s'.input.mode refl refl holds holds'
-
-bar_in_more : (m : Mode) (width height rows : ℕ) (a b : Area) → HoldsBarIn m width height rows a
-    → ((x y : ℕ) → in_area a x y ≡ true → in_area b x y ≡ true) → HoldsBarIn m width height rows b
-bar_in_more mode.Flat width height rows a b holds more = λ x y wide high in_. more x y (holds x y wide high in_)
-bar_in_more mode.Xray width height rows a b holds more = λ x y wide high. more x y (holds x y wide high)
-bar_in_more mode.Kill width height rows a b holds more = λ x y wide high. more x y (holds x y wide high)
-
-pub bar_more : (s : State) (a b : Area) → HoldsBar s a → ((x y : ℕ) → in_area a x y ≡ true → in_area b x y ≡ true)
-    → HoldsBar s b
-bar_more s a b holds more =
-    bar_in_more s.input.mode s.config.width s.config.height (bar_rows s.config) a b holds more
-
--- ---- what the user does
-
-none_killed : (s : State) (p : Point) (ds : List Delivery) → kills ds ≡ false
-    → list_any (λ d. is_killed s p d.sid d.item) ds ≡ false
-none_killed s p [] none = refl
-none_killed s p (d ∷ ds) none = go d.item (none_killed s p ds) none
-  where
-    go : (i : Item) → (kills ds ≡ false → list_any (λ d. is_killed s p d.sid d.item) ds ≡ false)
-        → (is_kill i || kills ds) ≡ false
-        → (is_killed s p d.sid i || list_any (λ d. is_killed s p d.sid d.item) ds) ≡ false
-    go (item.Event e) further rest = further rest
-    go item.Kill further rest = cc
-
-pub seen_told : (s s' : State) (dev : Device) (routed : Routed) (sheets sheets' : List (List ℕ))
-    (a0 before now a1 a2 : Area) (seen : Option (List ℕ))
-    → routed ≡ routed_as (route s.config s.input s.stack dev).deliveries → KeepSources
-    → s' ≡ after s (entry.Input dev routed) → sheets' ≡ sheets → HoldsBar s before → HoldsBar s' now
-    → (kills (deliveries_of routed) ≡ true → (x y : ℕ) → x < s'.config.width → y < s'.config.height
-    → in_area now x y ≡ true)
-    → ((x y : ℕ) → in_area a0 x y ≡ true → in_area a1 x y ≡ true)
-    → ((x y : ℕ) → in_area before x y ≡ true → in_area a1 x y ≡ true)
-    → ((x y : ℕ) → in_area a1 x y ≡ true → in_area a2 x y ≡ true)
-    → ((x y : ℕ) → in_area now x y ≡ true → in_area a2 x y ≡ true) → IsSeenBut s sheets a0 seen
-    → IsSeenBut s' sheets' a2 seen
-seen_told s s' dev routed sheets sheets' a0 before now a1 a2 seen agrees keep is same holds holds' killed own others
-    own' others' known =
-    subst (λ (x : State). IsSeenBut x sheets' a2 seen) (sym is)
-    (seen_after s (after s (entry.Input dev routed)) sheets sheets' a2 refl refl refl a0 seen known
-    (λ x y in_. own' x y (own x y in_))
-    (go (kills (deliveries_of routed)) refl))
-  where
-    holds'' : HoldsBar (after s (entry.Input dev routed)) a2
-    holds'' = subst (λ (x : State). HoldsBar x a2) is (bar_more s' now a2 holds' others')
-
-    words : kills (deliveries_of routed) ≡ false → (k : ℕ) → k < pixel_count s
-        → word_from (sheet_in sheets) (source_at s k)
-        ≡ word_from (sheet_in sheets') (source_at (after s (entry.Input dev routed)) k)
-    words none k less =
-        ap (word_from (sheet_in sheets)) (sym (keep s 0 (entry.Input dev routed) (pixel s.config.width k) agrees
-        (none_killed s (pixel s.config.width k) (deliveries_of routed) none)))
-        ∙ ap (λ (ss : List (List ℕ)). word_from (sheet_in ss) (source_at (after s (entry.Input dev routed)) k)) (sym same)
-
-    go : (b : Bool) → kills (deliveries_of routed) ≡ b
-        → StaysOutside s.config.width (pixel_count s) a2 (frame_by s sheets)
-        (frame_by (after s (entry.Input dev routed)) sheets')
-    go true there =
-        let all = subst (λ (x : State). (u v : ℕ) → u < x.config.width → v < x.config.height → in_area now u v ≡ true) is
-        (killed there) in
-        whole_stays s.config.width s.config.height a2 (frame_by s sheets)
-        (frame_by (after s (entry.Input dev routed)) sheets') (λ x y wide high. others' x y (all x y wide high))
-    go false none =
-        bar_changes s (after s (entry.Input dev routed)) sheets sheets' a2 refl refl refl (words none)
-        (bar_more s before a2 holds (λ x y in_. own' x y (others x y in_))) holds''
-
--- ---- a client that comes
-
-pub seen_seated : (s s' : State) (seat : ℕ) (label : List ℕ) (sheets sheets' : List (List ℕ)) (a0 part a1 : Area)
-    (seen : Option (List ℕ)) → s' ≡ opened seat label s
-    → ((k : ℕ) → k < pixel_count s → word_from (sheet_in sheets) (source_at s k)
-    ≡ word_from (sheet_in sheets') (source_at (opened seat label s) k))
-    → HoldsBar s part
-    → ((x y : ℕ) → in_area a0 x y ≡ true → in_area a1 x y ≡ true)
-    → ((x y : ℕ) → in_area part x y ≡ true → in_area a1 x y ≡ true) → IsSeenBut s sheets a0 seen
-    → IsSeenBut s' sheets' a1 seen
-seen_seated s s' seat label sheets sheets' a0 part a1 seen is words holds own others known =
-    let all = bar_more s part a1 holds others in
-    subst (λ (x : State). IsSeenBut x sheets' a1 seen) (sym is)
-    (seen_after s (opened seat label s) sheets sheets' a1 refl refl refl a0 seen known own
-    (bar_changes s (opened seat label s) sheets sheets' a1 refl refl refl words all all))
