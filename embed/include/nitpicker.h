@@ -325,9 +325,13 @@ struct nit_routed nit_wheel(struct nit_server *server, int32_t turn);
 
 /* ---- Looking */
 
-/* Copies what the screen shows to `out`, which has `count` words, width times height, row by row
- * from the top: of these only those that differ, and answers the least rectangle outside of which
- * nothing was written. So whoever keeps `out` as a look left it gets what changed since. */
+/* Brings `out`, which has `count` words, width times height, row by row from the top, up to date
+ * with what the screen shows, and answers the least rectangle outside of which nothing was written.
+ *
+ * The words have to be as the last look left them; before the first look they may be any. Then they
+ * are what the screen shows, and the rectangle has just what changed since. Of other words only
+ * those in the rectangle are surely so, for what cannot have changed is not looked at: a host that
+ * shows its frame in two places copies it there. A look at a wrong number of words is none. */
 struct nit_rect nit_look(struct nit_server *server, uint32_t *out, size_t count);
 
 struct nit_state nit_state(struct nit_server *server);

@@ -61,8 +61,10 @@ static void looks(void)
     CHECK(at(10, 20) == 0x123456 && at(13, 22) == 0x123456);
     CHECK(at(9, 20) == BARE && at(14, 22) == BARE && at(10, 19) == BARE && at(13, 23) == BARE);
     RECT(look(), .kind = NIT_DONE);
-    frame[5] = 1;
-    RECT(look(), .kind = NIT_DONE, .x = 5, .y = 0, .w = 1, .h = 1);
+    frame[5] = 1;             /* not as the look left it, and nothing changed there */
+    RECT(look(), .kind = NIT_DONE);
+    CHECK(at(5, 0) == 1);
+    frame[5] = BARE;
     REPLY(nit_place(&server, 0, 1, 11, 20, 4, 3), .kind = NIT_DONE);
     RECT(look(), .kind = NIT_DONE, .x = 10, .y = 20, .w = 5, .h = 3);
     CHECK(at(10, 20) == BARE && at(14, 22) == 0x123456);

@@ -1,12 +1,11 @@
 -- A look at the screen, and at the last step.
 use Rattle.std.specs.Prelude.{◌≡◌, ◌≢◌, ◌*◌, ◌≤◌, ◌<◌, ◌-◌, ◌^◌, ◌++◌, ◌⊎◌, ℕ, pos, List, length}
-use Rattle.std.specs.Prelude.{drop, Option, Some, None}
-use Rattle.nit_look.specs.Look.{CoversChange, IsTouched, LiesOn}
-use Rattle.nit_overlay.specs.Frame.{frame}
+use Rattle.std.specs.Prelude.{drop, Option, Some, None, IfSome}
+use Rattle.nit_look.specs.Look.{AgreeIn, CoversChange, IsTouched, LiesOn}
 use Rattle.nit_rect.specs.Rectangle.{Rectangle, rectangle}
 use Rattle.nit_screen.specs.FrameLabels.{ShowsLabels}
 use Rattle.nit_screen.specs.StateScenery.{scenery_of}
-use Rattle.nit_host.specs.Host.{HostModel, last_text, picture}
+use Rattle.nit_host.specs.Host.{HostModel, IsAsSeen, frame_of, last_text, looked}
 use Rattle.nit_c.specs.Steps.{Steps}
 use Rattle.nit_c.specs.declared.looking.NitRect.{NitRect}
 
@@ -31,27 +30,30 @@ abbrev pub IsLook : ℕ → ℕ → List ℕ → List ℕ → Option Rectangle �
 IsLook width height now before (Some r) = IsChange width height now before r
 IsLook width height now before None = before ≡ now
 
--- The words became the frame that the screen shows; the answer is the least rectangle that has all
--- places at which they were another word, or says that there is none.
+-- The answer is the least rectangle that has all places at which the words became others, or says
+-- that there is none; in it they are those of the frame that the screen shows. Where they were as
+-- the last look left them, or no look was yet, they are the frame everywhere.
 pub record ShowsFrame (h : HostModel) (before now : List ℕ) (answer : NitRect) : Type 0 where
   pub changed : Option Rectangle
-  pub shown : now ≡ frame (scenery_of h.state) (picture h)
-  pub labels : ShowsLabels (scenery_of h.state) now
   pub look : IsLook h.state.config.width h.state.config.height now before changed
   pub told : IsRect changed answer
+  pub inside : IfSome changed (AgreeIn h.state.config.width now (frame_of h))
+  pub shown : IsAsSeen h before → now ≡ frame_of h
+  pub labels : IsAsSeen h before → ShowsLabels (scenery_of h.state) now
 
--- a look: a copy where there are as many words as the screen has pixels, and else a refusal
-pub record IsLooked (h : HostModel) (before now : List ℕ) (answer : NitRect) : Type 0 where
+-- a look: where there are as many words as the screen has pixels the host has been looked at, and
+-- else it is a refusal
+pub record IsLooked (h g : HostModel) (before now : List ℕ) (answer : NitRect) : Type 0 where
   pub copied : length before ≡ h.state.config.width * h.state.config.height
-      → ShowsFrame h before now answer
+      → ShowsFrame h before now answer × (g ≡ looked h)
   pub refused : length before ≢ h.state.config.width * h.state.config.height
-      → (now ≡ before) × (answer ≡ only_rect 39)
+      → (now ≡ before) × (answer ≡ only_rect 39) × (g ≡ h)
 
 -- a look by a handle
 abbrev pub IsLookedBy : Option HostModel → Option HostModel → List ℕ → List ℕ → NitRect → Type 0
 IsLookedBy old new before now answer =
     Steps old new ((now ≡ before) × (answer ≡ only_rect 0))
-    (λ h g. (g ≡ h) × IsLooked h before now answer)
+    (λ h g. IsLooked h g before now answer)
 
 -- ---- the last step
 

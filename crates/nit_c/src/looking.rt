@@ -62,9 +62,9 @@ fn rect_of(rect: &Option<Rect>) -> NitRect
     }
 }
 
-/// Copies what the screen shows, where `out` has as many words as the screen has pixels.
-fn show(host: &Host, out: &mut [u32]) -> NitRect
-    ensures { IsLooked host.now out.old out.new result }
+/// Brings `out` up to date, where it has as many words as the screen has pixels.
+fn show(host: &mut Host, out: &mut [u32]) -> NitRect
+    ensures { IsLooked host.old host.new out.old out.new result }
 {
     if host.frame().len() == out.len() {
         rect_of(&host.look(out))
@@ -88,8 +88,8 @@ fn put_entry(alloc: Global, host: &Host, out: &mut [u8]) -> usize
     count
 }
 
-/// Copies what the screen shows to `out`, which has `width * height` words: of these only those
-/// that differ. Answers the least rectangle outside of which nothing was written.
+/// Brings `out`, which has `width * height` words and is as the last look left it, up to date with
+/// what the screen shows. Answers the least rectangle outside of which nothing was written.
 #[unsafe(no_mangle)]
 pub extern "C" fn nit_look(alloc: Global, server: &mut NitServer, out: &mut [u32]) -> NitRect
     ensures { IsLookedBy (host_of server.old.mark server.old.value)
@@ -98,8 +98,8 @@ pub extern "C" fn nit_look(alloc: Global, server: &mut NitServer, out: &mut [u32
     if !server.is_live() {
         return only_rect(NO_SERVER);
     }
-    let host = server.take(alloc);
-    let rect = show(host.as_ref(), out);
+    let mut host = server.take(alloc);
+    let rect = show(host.as_mut(), out);
     *server = NitServer::of(host);
     rect
 }

@@ -16,6 +16,7 @@ pub use Rattle.nit_journal.specs.StackAfter.{is_accepted}
 pub use Rattle.nit_journal.specs.State.{State, after, first_state, route, session, session_in}
 pub use Rattle.nit_journal.specs.Steps.{IsFreeLabel, opened, relabelled, vacant_state}
 pub use Rattle.nit_overlay.specs.Frame.{Scenery, frame}
+pub use Rattle.nit_rect.specs.Rectangle.{IsPlace}
 pub use Rattle.nit_repaint.specs.Glasses.{glass_in, glasses_of_call}
 pub use Rattle.nit_screen.specs.FrameLabels.{ShowsLabels}
 pub use Rattle.nit_screen.specs.RawWords.{AreInked, AreRaw, IsRawOf, Painted, pixel_count}

@@ -2,6 +2,7 @@
 pub use Rattle.nit_desktop.specs.Below.{Agrees, AreBelowNext, AreInked, AreLive, AreRaw}
 pub use Rattle.nit_desktop.specs.Below.{Configuration, Delivery, Entry, HaveOwnNames}
 pub use Rattle.nit_desktop.specs.Below.{IsConfiguration, IsDevice, IsDonation, IsFreeLabel, IsGlass}
+pub use Rattle.nit_desktop.specs.Below.{IsPlace}
 pub use Rattle.nit_desktop.specs.Below.{IsLive, IsRawOf, IsWord, Member, Painted, PixelSource}
 pub use Rattle.nit_desktop.specs.Below.{Scenery, ServerModel, Session, ShowsLabels, Sight, State}
 pub use Rattle.nit_desktop.specs.Below.{after, bare_word, deliveries_of, ended, first_input}

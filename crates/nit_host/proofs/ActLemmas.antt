@@ -3,7 +3,8 @@ use Rattle.std.proofs.Common.{Bool, List, None, Option, Some, [], ap, cond, fals
 use Rattle.std.proofs.Common.{not, refl, subst, sym, true, ℕ, ◌++◌, ◌<◌, ◌∙◌, ◌∷◌, ◌≡◌, ◌≢◌}
 use Rattle.std.proofs.Common.{if◌then◌else◌}
 use Rattle.std.proofs.lemmas.Bool.{ltb-true}
-use Rattle.nit_host.specs.Acts.{Act, Calls, Comes, Does, Refreshes, after_act, after_acts, step_of}
+use Rattle.nit_host.specs.Acts.{Act, Calls, Comes, Does, Looks, Refreshes, after_act, after_acts}
+use Rattle.nit_host.specs.Acts.{step_of}
 use Rattle.nit_host.specs.Acts.{step_unless, steps_of, unless_for}
 use Rattle.nit_host.specs.Terms.{HostModel, State, called, is_accepted, is_label_taken, is_live}
 use Rattle.nit_host.specs.Terms.{is_taken, refreshed, reply_to, session, unseated, unserved_call}
@@ -83,6 +84,7 @@ one_act h (Refreshes seat x y w height words) =
     (same_call h seat x y w height words)
 one_act h (Does dev) = one h _ _ (Rattle.nit_host.specs.Terms.unserved_input h dev) (λ none. (0, refl)) refl
 one_act h (Comes seat label) = one h _ _ (unseated h seat label) (given h seat label) refl
+one_act h Looks = (tt, refl)
 
 -- steps behind steps
 both : (s : State) (xs ys : List Step) → AreSteps s xs → AreSteps (after_steps s xs) ys → AreSteps s (xs ++ ys)

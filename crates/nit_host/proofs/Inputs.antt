@@ -1,5 +1,5 @@
 -- What a device event leaves.
-use Rattle.std.proofs.Common.{List, Option, Some, ap, refl, subst, sym, ◌-◌, ◌∙◌, ◌≡◌}
+use Rattle.std.proofs.Common.{List, Option, Some, ap, refl, subst, sym, ℕ, ◌-◌, ◌∙◌, ◌≡◌}
 use Rattle.nit_events.specs.declared.entry.Entry.TheVariants as entry
 use Rattle.nit_host.specs.Below.{Configuration, DesktopModel, Device, Entry, Painted, Routed, State}
 use Rattle.nit_host.specs.Below.{after, glass_in, pixel, route, routed_as}
@@ -21,10 +21,11 @@ pub record WasTold (dev : Device) (routed : Routed) (h : HostModel) (d : Desktop
     left = d.left;
     last =
         Some (entry.Input dev routed);
+    seen = h.seen;
   } ≡ told dev h
 
 module _ (d d2 : DesktopModel SheetModel) (hollows : List SheetModel) (dev : Device) (routed : Routed)
-    (kept : Option Entry) (host : IsHost d hollows)
+    (kept : Option Entry) (seen : Option (List ℕ)) (host : IsHost d hollows)
     (is : routed ≡ routed_as (route d.state.config d.state.input d.state.stack dev).deliveries)
     (state : d2.state ≡ after d.state (entry.Input dev routed)) (left : d2.left ≡ d.left - 1)
     (painted : Painted d.state (entry.Input dev routed) d2.state (glass_in (sights d.glasses))
@@ -63,7 +64,7 @@ module _ (d d2 : DesktopModel SheetModel) (hollows : List SheetModel) (dev : Dev
     }
 
     pub was_told : (h : HostModel)
-        → record { state = d.state; sheets = sheets_of d.glasses; left = d.left; last = kept }
+        → record { state = d.state; sheets = sheets_of d.glasses; left = d.left; last = kept; seen = seen }
         ≡ h → WasTold dev routed h d2 hollows
     was_told h view =
         subst (λ (x : HostModel). WasTold dev routed x d2 hollows) view
@@ -75,5 +76,6 @@ module _ (d d2 : DesktopModel SheetModel) (hollows : List SheetModel) (dev : Dev
             sheets = sheets_of (stay i);
             left = left i;
             last = Some (entry.Input dev (is i));
+            seen = seen;
           };
         })

@@ -11,3 +11,9 @@ mod Inputs
 mod ActLemmas
 mod Seatings
 mod Refreshing
+mod Areas
+mod Touching
+mod Frames
+mod CallChanges
+mod OtherChanges
+mod Looking

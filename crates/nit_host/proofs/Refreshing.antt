@@ -24,7 +24,9 @@ use Rattle.nit_host.specs.Host.{with_handed}
 use Rattle.nit_host.specs.Sheet.{SheetModel, low_bytes}
 use Rattle.nit_host.proofs.SheetLists.{own_plain, own_room, own_words, put_elsewhere, put_there}
 use Rattle.nit_host.proofs.SheetLists.{words_at}
-use Rattle.nit_host.proofs.Steps.{KeepSources, Serves, WasCalled, called_now, same_words}
+use Rattle.nit_host.proofs.CallChanges.{Words, words_stay}
+use Rattle.nit_host.proofs.Steps.{KeepSources, Serves, WasCalled, called_now, glasses_now}
+use Rattle.nit_host.proofs.Steps.{same_words}
 use Rattle.nit_host.proofs.Steps.{with_sheet, words_with}
 use mathlib.Core.Logic.{dite}
 use native.Mathlib.Decide.{dec_lt}
@@ -76,6 +78,7 @@ pub record WasRefreshed (seat : ℕ) (x y : ℤ) (w h : ℕ) (words : List ℕ) 
     left = d.left;
     last =
         Some (entry.Call seat (call.Refresh x y w h) r);
+    seen = host.seen;
   } ≡ refreshed seat x y w h words host
 
 module _ (seat : ℕ) (x y : ℤ) (w h : ℕ) (words : List ℕ) (r : Reply) (host : HostModel) (d : DesktopModel SheetModel)
@@ -119,7 +122,7 @@ handed_plain config seat columns rows part words own own' plain is = (
     as_many (Some r) = set_long (is_handed columns rows r) (low_bytes words) (told_words own.sight.words)
 
 module _ (d d1 d2 : DesktopModel SheetModel) (hollows : List SheetModel) (seat : ℕ) (x y : ℤ) (w h : ℕ) (words : List ℕ)
-    (found : Option Rectangle) (r : Reply) (hollow own own' last : SheetModel) (kept : Option Entry)
+    (found : Option Rectangle) (r : Reply) (hollow own own' last : SheetModel) (kept : Option Entry) (seen : Option (List ℕ))
     (host : IsHost d hollows) (inside : seat < length d.state.sessions) (long : length d.state.sessions
     ≡ length d.state.config.clients) (swapped : d1 ≡ with_sheet d seat hollow) (there : sheet_at hollows seat
     ≡ hollow)
@@ -162,7 +165,7 @@ module _ (d d1 d2 : DesktopModel SheetModel) (hollows : List SheetModel) (seat :
       (put_there d.glasses seat own' (subst (λ (n : ℕ). seat < n) (sym host.sheets.count) client))
 
   -- a refused one
-  refused : (h0 : HostModel) → record { state = d.state; sheets = sheets_of d.glasses; left = d.left; last = kept } ≡ h0
+  refused : (h0 : HostModel) → record { state = d.state; sheets = sheets_of d.glasses; left = d.left; last = kept; seen = seen } ≡ h0
       → (why : Reply) → refusal (session d.state seat) (call.Refresh x y w h) ≡ Some why
       → WasCalled seat (call.Refresh x y w h) r h0 d2 (set hollows seat last)
   refused h0 view why is =
@@ -172,7 +175,7 @@ module _ (d d1 d2 : DesktopModel SheetModel) (hollows : List SheetModel) (seat :
       let sheets : sheets_of (set d.glasses seat own') ≡ sheets_of d.glasses =
       words_with d.state.config d.glasses seat own'
       ∙ same_words (sheets_of d.glasses) seat (told_words own'.sight.words) same in
-      let done = called_now d d1 d2 hollows seat (call.Refresh x y w h) r hollow own own' last kept host inside swapped
+      let done = called_now d d1 d2 hollows seat (call.Refresh x y w h) r hollow own own' last kept seen host inside swapped
       there out served plain enough keep
       (λ k clean. ap (λ (ss : List (List ℕ)). word_from (sheet_in ss)
       (source_at (after d.state (entry.Call seat (call.Refresh x y w h) r)) k)) (sym sheets)) in
@@ -183,6 +186,7 @@ module _ (d d1 d2 : DesktopModel SheetModel) (hollows : List SheetModel) (seat :
             i;
         left = d.left;
         last = kept;
+        seen = seen;
       }) ∙ view) done
 
   -- an accepted one
@@ -212,7 +216,7 @@ module _ (d d1 d2 : DesktopModel SheetModel) (hollows : List SheetModel) (seat :
       (source_at (after d.state (entry.Call seat (call.Refresh x y w h) r)) k)) (sym (columns_stay none))
       ∙ second_off (is_accepted r) _ yes_ clean
 
-  accepted_ : (h0 : HostModel) → record { state = d.state; sheets = sheets_of d.glasses; left = d.left; last = kept }
+  accepted_ : (h0 : HostModel) → record { state = d.state; sheets = sheets_of d.glasses; left = d.left; last = kept; seen = seen }
       ≡ h0 → refusal (session d.state seat) (call.Refresh x y w h) ≡ None
       → WasCalled seat (call.Refresh x y w h) r (with_handed seat (rectangle x y w h) words h0) d2
       (set hollows seat last)
@@ -221,20 +225,45 @@ module _ (d d1 d2 : DesktopModel SheetModel) (hollows : List SheetModel) (seat :
       (sheet_in (sheets_of d.glasses) seat) =
       new_words ∙ ap (λ (o : Option Rectangle). after_handing (session d.state seat).bw (session d.state seat).bh o
       words (sheet_in (sheets_of d.glasses) seat)) (accepts none) in
-      let done = called_now d d1 d2 hollows seat (call.Refresh x y w h) r hollow own own' last kept host inside swapped
+      let done = called_now d d1 d2 hollows seat (call.Refresh x y w h) r hollow own own' last kept seen host inside swapped
       there out served plain enough keep
       (λ k clean. clean_word seat (session d.state seat).bw (session d.state seat).bh (rectangle x y w h)
       (low_bytes words) (sheet_in (sheets_of d.glasses)) (sheet_in (sheets_of (set d.glasses seat own')))
       (source_at (after d.state (entry.Call seat (call.Refresh x y w h) r)) k) others (own_now ∙ part)
       (off_now none k clean)) in
       subst (λ (m : HostModel). WasCalled seat (call.Refresh x y w h) r m d2 (set hollows seat last))
-      ((λ i. record { state = d.state; sheets = set (sheets_of d.glasses) seat (part i); left = d.left; last = kept })
+      ((λ i. record { state = d.state; sheets = set (sheets_of d.glasses) seat (part i); left = d.left; last = kept; seen = seen })
       ∙ ap (with_handed seat (rectangle x y w h) words) view) done
 
+  -- what pixels show that the refresh does not make dirty stands where it stood
+  words_handed : Words d.state seat r (sheets_of d.glasses) (sheets_of d2.glasses) (call.Refresh x y w h)
+  words_handed = subst (λ (gs : List SheetModel). Words d.state seat r (sheets_of d.glasses) (sheets_of gs)
+      (call.Refresh x y w h))
+      (sym (glasses_now d d1 d2 hollows seat (call.Refresh x y w h) r hollow own own' last kept seen host inside swapped
+      there out served plain enough keep)) (by (refusal (session d.state seat) (call.Refresh x y w h)) refl)
+    where
+      by : (o : Option Reply) → refusal (session d.state seat) (call.Refresh x y w h) ≡ o
+          → Words d.state seat r (sheets_of d.glasses) (sheets_of (set d.glasses seat own')) (call.Refresh x y w h)
+      by None is =
+          let part = new_words
+          ∙ ap (λ (o : Option Rectangle). after_handing (session d.state seat).bw (session d.state seat).bh o words
+          (sheet_in (sheets_of d.glasses) seat)) (accepts is) in
+          λ k clean. clean_word seat (session d.state seat).bw (session d.state seat).bh (rectangle x y w h)
+          (low_bytes words) (sheet_in (sheets_of d.glasses)) (sheet_in (sheets_of (set d.glasses seat own')))
+          (source_at (after d.state (entry.Call seat (call.Refresh x y w h) r)) k) others (own_now ∙ part)
+          (off_now is k clean)
+      by (Some why) is =
+          let same = new_words ∙ ap (λ (o : Option Rectangle). after_handing (session d.state seat).bw
+          (session d.state seat).bh o words (sheet_in (sheets_of d.glasses) seat)) (refuses why is) in
+          words_stay d.state seat r (call.Refresh x y w h) (sheets_of d.glasses) (sheets_of (set d.glasses seat own'))
+          (words_with d.state.config d.glasses seat own'
+          ∙ same_words (sheets_of d.glasses) seat (told_words own'.sight.words) same)
+
   pub was_refreshed : (h0 : HostModel)
-      → record { state = d.state; sheets = sheets_of d.glasses; left = d.left; last = kept } ≡ h0
+      → record { state = d.state; sheets = sheets_of d.glasses; left = d.left; last = kept; seen = seen } ≡ h0
       → WasRefreshed seat x y w h words r h0 d2 (set hollows seat last)
-  was_refreshed h0 view = by (refusal (session d.state seat) (call.Refresh x y w h)) refl
+      × Words d.state seat r (sheets_of d.glasses) (sheets_of d2.glasses) (call.Refresh x y w h)
+  was_refreshed h0 view = (by (refusal (session d.state seat) (call.Refresh x y w h)) refl, words_handed)
     where
       replied : (a : Answered) → serve (session d.state seat) (call.Refresh x y w h) ≡ a
           → reply_to h0 seat (call.Refresh x y w h) ≡ a.reply

@@ -154,10 +154,11 @@ pub record Opens (seat : ℕ) (label : List ℕ) (blank back : SheetModel) (d d'
 pub record WasSeated (seat : ℕ) (label : List ℕ) (h : HostModel) (d : DesktopModel SheetModel)
     (hollows : List SheetModel) : Type 0 where
   pub host : IsHost d hollows
-  pub now : record { state = d.state; sheets = sheets_of d.glasses; left = d.left; last = None } ≡ seated seat label h
+  pub now : record { state = d.state; sheets = sheets_of d.glasses; left = d.left; last = None; seen = h.seen }
+      ≡ seated seat label h
 
 module _ (d d1 d2 : DesktopModel SheetModel) (hollows : List SheetModel) (seat : ℕ) (label : List ℕ)
-    (hollow own blank back : SheetModel) (kept : Option Entry)
+    (hollow own blank back : SheetModel) (kept : Option Entry) (seen : Option (List ℕ))
     (host : IsHost d hollows) (inside : seat < length d.state.config.clients) (live : AreLive d.state)
     (over : (session d.state seat).status ≢ status.Live) (swapped : d1 ≡ with_sheet d seat hollow)
     (there : sheet_at hollows seat ≡ hollow) (out : slice_get d.glasses seat ≡ Some own)
@@ -213,34 +214,54 @@ module _ (d d1 d2 : DesktopModel SheetModel) (hollows : List SheetModel) (seat :
       (sheet_in (sheets_of (set d.glasses seat blank))) others (owns_none d.state seat over live p)
       ∙ ap (word_from (sheet_in (sheets_of (set d.glasses seat blank)))) (sym (keep d.state seat label p live over))
 
+  words_now : (k : ℕ) → word_from (sheet_in (sheets_of d.glasses)) (source_of d.state (pixel d.state.config.width k))
+      ≡ word_from (sheet_in (sheets_of d2.glasses))
+      (source_of (opened seat label d.state) (pixel d.state.config.width k))
+  words_now k =
+      let p : Point = pixel d.state.config.width k in
+      subst (λ (gs : List SheetModel). word_from (sheet_in (sheets_of d.glasses)) (source_of d.state p)
+      ≡ word_from (sheet_in (sheets_of gs)) (source_of (opened seat label d.state) p)) (sym glasses_now)
+      (word_stays d.state seat p (sheet_in (sheets_of d.glasses)) (sheet_in (sheets_of (set d.glasses seat blank)))
+      others (owns_none d.state seat over live p)
+      ∙ ap (word_from (sheet_in (sheets_of (set d.glasses seat blank)))) (sym (keep d.state seat label p live over)))
+
   pub was_seated : (h : HostModel)
-      → record { state = d.state; sheets = sheets_of d.glasses; left = d.left; last = kept } ≡ h
+      → record { state = d.state; sheets = sheets_of d.glasses; left = d.left; last = kept; seen = seen } ≡ h
       → WasSeated seat label h d2 (set hollows seat back)
-  was_seated h view =
-      let config_now : d2.state.config ≡ relabelled seat label d.state.config = ap (λ (s : State). s.config) o0.state in
-      subst (λ (x : HostModel). WasSeated seat label x d2 (set hollows seat back)) view
-      (record {
-        host = record {
-          sheets = subst (λ (k : Configuration). AreSheets k d2.glasses) (sym config_now)
-              (subst (AreSheets (relabelled seat label d.state.config)) (sym glasses_now)
-              (sheets_relabelled d.state.config seat label (set d.glasses seat blank) all));
-          hollow = subst (λ (k : Configuration). AreHollow k (set hollows seat back)) (sym config_now)
-              (hollow_relabelled d.state.config seat label (set hollows seat back)
-              (hollow_with d.state.config hollows seat back host.hollow back_is));
-          fresh = subst (λ (s : State). IsFresh s (sheet_in (sheets_of d2.glasses)) d2.raw) (sym o0.state)
-              (subst (λ (gs : List SheetModel). IsFresh (opened seat label d.state) (sheet_in (sheets_of gs)) d2.raw)
-              (sym glasses_now)
-              (subst (IsFresh (opened seat label d.state) (sheet_in (sheets_of (set d.glasses seat blank))))
-              (sym o0.raw) fresh_now));
-        };
-        now = λ i. record {
-          state = o0.state i;
-          sheets = (ap sheets_of glasses_now ∙ words_with d.state.config d.glasses seat blank
-              ∙ ap (set (sheets_of d.glasses) seat) blank_words) i;
-          left = o0.left i;
-          last = None;
-        };
-      })
+      × ((k : ℕ) → word_from (sheet_in (sheets_of d.glasses)) (source_of d.state (pixel d.state.config.width k))
+      ≡ word_from (sheet_in (sheets_of d2.glasses))
+      (source_of (opened seat label d.state) (pixel d.state.config.width k)))
+  was_seated h view = (seated_now h view, words_now)
+    where
+      seated_now : (h : HostModel)
+          → record { state = d.state; sheets = sheets_of d.glasses; left = d.left; last = kept; seen = seen } ≡ h
+          → WasSeated seat label h d2 (set hollows seat back)
+      seated_now h view =
+          let config_now : d2.state.config ≡ relabelled seat label d.state.config = ap (λ (s : State). s.config) o0.state in
+          subst (λ (x : HostModel). WasSeated seat label x d2 (set hollows seat back)) view
+          (record {
+            host = record {
+              sheets = subst (λ (k : Configuration). AreSheets k d2.glasses) (sym config_now)
+                  (subst (AreSheets (relabelled seat label d.state.config)) (sym glasses_now)
+                  (sheets_relabelled d.state.config seat label (set d.glasses seat blank) all));
+              hollow = subst (λ (k : Configuration). AreHollow k (set hollows seat back)) (sym config_now)
+                  (hollow_relabelled d.state.config seat label (set hollows seat back)
+                  (hollow_with d.state.config hollows seat back host.hollow back_is));
+              fresh = subst (λ (s : State). IsFresh s (sheet_in (sheets_of d2.glasses)) d2.raw) (sym o0.state)
+                  (subst (λ (gs : List SheetModel). IsFresh (opened seat label d.state) (sheet_in (sheets_of gs)) d2.raw)
+                  (sym glasses_now)
+                  (subst (IsFresh (opened seat label d.state) (sheet_in (sheets_of (set d.glasses seat blank))))
+                  (sym o0.raw) fresh_now));
+            };
+            now = λ i. record {
+              state = o0.state i;
+              sheets = (ap sheets_of glasses_now ∙ words_with d.state.config d.glasses seat blank
+                  ∙ ap (set (sheets_of d.glasses) seat) blank_words) i;
+              left = o0.left i;
+              last = None;
+              seen = seen;
+            };
+          })
 
 -- the new client's glass
 pub blank_glass : (config : Configuration) (sheets : List SheetModel) (seat : ℕ) (own blank : SheetModel)

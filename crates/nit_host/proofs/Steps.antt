@@ -51,6 +51,7 @@ pub record WasCalled (seat : ℕ) (call : Call) (r : Reply) (h : HostModel) (d :
     left = d.left;
     last =
         Some (entry.Call seat call r);
+    seen = h.seen;
   } ≡ called seat call h
 
 -- ---- sheets, one of which is another
@@ -96,7 +97,7 @@ same_words sheets seat words is = ap (set sheets seat) is ∙ set-get_or sheets 
 -- ---- the host after a call
 
 module _ (d d1 d2 : DesktopModel SheetModel) (hollows : List SheetModel) (seat : ℕ) (call : Call) (r : Reply)
-    (hollow own own' last : SheetModel) (kept : Option Entry)
+    (hollow own own' last : SheetModel) (kept : Option Entry) (seen : Option (List ℕ))
     (host : IsHost d hollows) (inside : seat < length d.state.sessions) (swapped : d1 ≡ with_sheet d seat hollow)
     (there : sheet_at hollows seat ≡ hollow) (out : slice_get d.glasses seat ≡ Some own)
     (served : Serves seat call own' last d1 d2 r) (plain : IsPlainOf d.state.config seat own'.sight)
@@ -107,7 +108,7 @@ module _ (d d1 d2 : DesktopModel SheetModel) (hollows : List SheetModel) (seat :
   s0 : Serves seat call own' last (with_sheet d seat hollow) d2 r
   s0 = subst (λ (x : DesktopModel SheetModel). Serves seat call own' last x d2 r) swapped served
 
-  glasses_now : d2.glasses ≡ set d.glasses seat own'
+  pub glasses_now : d2.glasses ≡ set d.glasses seat own'
   glasses_now = s0.glasses ∙ set-set d.glasses seat hollow own'
 
   last_is : last ≡ hollow
@@ -164,6 +165,7 @@ module _ (d d1 d2 : DesktopModel SheetModel) (hollows : List SheetModel) (seat :
             set (sheets_of d.glasses) seat (told_words own'.sight.words);
         left = d.left;
         last = kept;
+        seen = seen;
       }) d2
       (set hollows seat last)
   called_now stays =
@@ -176,6 +178,7 @@ module _ (d d1 d2 : DesktopModel SheetModel) (hollows : List SheetModel) (seat :
           sheets = (ap sheets_of glasses_now ∙ words_with d.state.config d.glasses seat own') i;
           left = s0.left i;
           last = Some (entry.Call seat call (replied i));
+          seen = seen;
         };
       }
 
@@ -202,17 +205,17 @@ painted_by_all s e d d2 d3 seat own own' stay own_stay inside put painted =
 
 -- a call that takes nothing over
 module _ (d d1 d2 : DesktopModel SheetModel) (hollows : List SheetModel) (seat : ℕ) (call : Call) (r : Reply)
-    (hollow own last : SheetModel) (kept : Option Entry)
+    (hollow own last : SheetModel) (kept : Option Entry) (seen : Option (List ℕ))
     (host : IsHost d hollows) (inside : seat < length d.state.sessions) (long : length d.state.sessions
     ≡ length d.state.config.clients) (swapped : d1 ≡ with_sheet d seat hollow) (there : sheet_at hollows seat
     ≡ hollow)
     (out : slice_get d.glasses seat ≡ Some own) (served : Serves seat call own last d1 d2 r) (keep : KeepSources) where
   pub only_called : (h : HostModel)
-      → record { state = d.state; sheets = sheets_of d.glasses; left = d.left; last = kept } ≡ h
+      → record { state = d.state; sheets = sheets_of d.glasses; left = d.left; last = kept; seen = seen } ≡ h
       → WasCalled seat call r h d2 (set hollows seat last)
   only_called h view =
       let client : seat < length d.state.config.clients = subst (λ (n : ℕ). seat < n) long inside in
-      let done = called_now d d1 d2 hollows seat call r hollow own own last kept host inside swapped there out served
+      let done = called_now d d1 d2 hollows seat call r hollow own own last kept seen host inside swapped there out served
       (own_plain d.state.config d.glasses seat own host.sheets client out)
       (own_room d.state.config d.glasses seat own host.sheets client out) keep
       (λ k clean. ap (λ (gs : List SheetModel). word_from (sheet_in (sheets_of gs))
@@ -225,4 +228,5 @@ module _ (d d1 d2 : DesktopModel SheetModel) (hollows : List SheetModel) (seat :
             same_words (sheets_of d.glasses) seat (told_words own.sight.words) (own_words d.glasses seat own out) i;
         left = d.left;
         last = kept;
+        seen = seen;
       }) ∙ view) done

@@ -4,17 +4,18 @@ use Rattle.nit_host.specs.Below.{Call, Device}
 use Rattle.nit_journal.specs.Steps.{Opens, Serves, Step}
 use Rattle.nit_events.specs.declared.call.Call.TheVariants as call
 use Rattle.nit_events.specs.declared.entry.Entry.TheVariants as entry
-use Rattle.nit_host.specs.Host.{HostModel, called, refreshed, reply_to, routed_of, told}
+use Rattle.nit_host.specs.Host.{HostModel, called, looked, refreshed, reply_to, routed_of, told}
 use Rattle.nit_host.specs.Host.{unserved_call, unserved_input, unserved_refresh}
 use Rattle.nit_host.specs.Seats.{seated, unseated}
 
--- a seat's client calls, or hands in words of a part of its buffer; the user does something; or a
--- client of this label comes to a seat
+-- a seat's client calls, or hands in words of a part of its buffer; the user does something; a
+-- client of this label comes to a seat; or the host program looks at the screen
 pub data Act : Type 0 where
   Calls : ℕ → Call → Act
   Refreshes : ℕ → ℤ → ℤ → ℕ → ℕ → List ℕ → Act
   Does : Device → Act
   Comes : ℕ → List ℕ → Act
+  Looks : Act
 
 -- the host as it is served, and as it was where there is a reason not to
 abbrev pub unless_for : {A : Type 0} → Option A → HostModel → HostModel → HostModel
@@ -28,6 +29,7 @@ after_act h (Refreshes seat x y w height words) =
     unless_for (unserved_refresh h seat words) (refreshed seat x y w height words h) h
 after_act h (Does dev) = unless_for (unserved_input h dev) (told dev h) h
 after_act h (Comes seat label) = unless_for (unseated h seat label) (seated seat label h) h
+after_act h Looks = looked h
 
 -- the host behind all of them
 abbrev pub after_acts : HostModel → List Act → HostModel
@@ -38,7 +40,7 @@ abbrev pub step_unless : {A : Type 0} → Option A → Step → List Step
 step_unless None step = step ∷ []
 step_unless (Some why) step = []
 
--- the step that an act is, if it is served
+-- the step that an act is, if it is served; a look is none
 abbrev pub step_of : HostModel → Act → List Step
 step_of h (Calls seat call) =
     step_unless (unserved_call h seat call) (Serves (entry.Call seat call (reply_to h seat call)))
@@ -49,6 +51,7 @@ step_of h (Refreshes seat x y w height words) =
 step_of h (Does dev) =
     step_unless (unserved_input h dev) (Serves (entry.Input dev (routed_of h dev)))
 step_of h (Comes seat label) = step_unless (unseated h seat label) (Opens seat label)
+step_of h Looks = []
 
 -- the steps of all acts
 abbrev pub steps_of : HostModel → List Act → List Step

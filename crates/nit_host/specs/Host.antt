@@ -1,9 +1,10 @@
 -- A host as a value, and what each of its calls makes of it.
-use Rattle.std.specs.Prelude.{ℕ, ◌-◌, ◌*◌, ◌^◌, ℤ, Bool, true, ◌&&◌, ◌==◌, nat_le, nat_lt, negsuc}
+use Rattle.std.specs.Prelude.{◌≡◌, ℕ, ◌-◌, ◌*◌, ◌^◌, ℤ, Bool, true, ◌&&◌, ◌==◌, nat_le, nat_lt, negsuc}
 use Rattle.std.specs.Prelude.{int_le, not, List, [], ◌∷◌, length, map, slice_index_or, slice_set}
 use Rattle.std.specs.Prelude.{Option, Some, None, if◌then◌else◌}
 use Rattle.nit_host.specs.Below.{Call, Configuration, Device, Entry, Rectangle, Reply, Routed}
 use Rattle.nit_host.specs.Below.{Session, State, after, asks_view, covers, is_accepted}
+use Rattle.nit_host.specs.Below.{frame, scenery_of}
 use Rattle.nit_host.specs.Below.{journal_text, most_code, pixel, rectangle, route, routed_as, serve}
 use Rattle.nit_host.specs.Below.{session, set_where, source_at, table_size, word_from, words_of}
 use Rattle.nit_host.specs.Below.{zeros}
@@ -15,12 +16,14 @@ use Rattle.nit_host.specs.declared.refusal.Unserved.{Unserved}
 use Rattle.nit_host.specs.declared.refusal.Unserved.TheVariants as unserved
 
 -- the state; the words that each seat's client handed in, by their places in its buffer; how many
--- more entries are served; and the last entry, where the last step was one
+-- more entries are served; the last entry, where the last step was one; and the frame of the last
+-- look, where there was one
 pub record HostModel : Type 0 where
   pub state : State
   pub sheets : List (List ℕ)
   pub left : ℕ
   pub last : Option Entry
+  pub seen : Option (List ℕ)
 
 -- the words of a seat
 abbrev pub sheet_in : List (List ℕ) → ℕ → List ℕ
@@ -28,8 +31,18 @@ sheet_in sheets seat = slice_index_or sheets seat []
 
 -- The word of each pixel, before the mode lays anything over it: the one that its session handed in
 -- last for the place, 0 where a view is larger than its buffer, and the bare word where no view is.
+abbrev pub picture_by : State → List (List ℕ) → List ℕ
+picture_by s sheets = words_of s (λ k. word_from (sheet_in sheets) (source_at s k))
+
 abbrev pub picture : HostModel → List ℕ
-picture h = words_of h.state (λ k. word_from (sheet_in h.sheets) (source_at h.state k))
+picture h = picture_by h.state h.sheets
+
+-- the frame: what the screen shows of it
+abbrev pub frame_by : State → List (List ℕ) → List ℕ
+frame_by s sheets = frame (scenery_of s) (picture_by s sheets)
+
+abbrev pub frame_of : HostModel → List ℕ
+frame_of h = frame_by h.state h.sheets
 
 -- ---- before the first step
 
@@ -40,7 +53,13 @@ blank_sheets config = map (λ m. zeros (table_size m.donation)) config.clients
 -- a host in this state that has served nothing
 abbrev pub first_host : State → Configuration → HostModel
 first_host s config =
-    record { state = s; sheets = blank_sheets config; left = 2 ^ 62; last = None }
+    record {
+      state = s;
+      sheets = blank_sheets config;
+      left = 2 ^ 62;
+      last = None;
+      seen = None;
+    }
 
 -- ---- one entry
 
@@ -137,3 +156,18 @@ routed_of h dev = routed_as (route h.state.config h.state.input h.state.stack de
 -- the host behind a device event
 abbrev pub told : Device → HostModel → HostModel
 told dev h = behind (entry.Input dev (routed_of h dev)) h
+
+-- ---- a look
+
+-- the words are those that were seen, or nothing was
+abbrev pub IsOneOf : Option (List ℕ) → List ℕ → Type 0
+IsOneOf None out = Unit {0}
+IsOneOf (Some seen) out = out ≡ seen
+
+-- the words are as the last look left them, or no look was yet
+abbrev pub IsAsSeen : HostModel → List ℕ → Type 0
+IsAsSeen h out = IsOneOf h.seen out
+
+-- the host behind a look: all that changes is what was seen
+abbrev pub looked : HostModel → HostModel
+looked h = record h { seen = Some (frame_of h) }

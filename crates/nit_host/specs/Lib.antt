@@ -5,5 +5,8 @@ pub mod Handing
 pub mod Seats
 pub mod Fresh
 pub mod Acts
+pub mod Area
+pub mod Touch
+pub mod Looked
 pub mod Below
 pub mod Terms

@@ -4,21 +4,25 @@ ghost use Rattle.std.specs.Prelude.{◌≡◌, ◌*◌, ◌<◌, All, length, �
 ghost use Rattle.nit_host.specs.Terms.{IsConfiguration, IsWord, ShowsLabels, frame, picture};
 ghost use Rattle.nit_host.specs.Terms.{scenery_of, sheet_in, size_at};
 
+mod area;
 mod calls;
 mod handing;
 mod looking;
 mod opening;
 mod reading;
 mod seats;
+mod touch;
 mod user;
 
+use crate::host::area::Area;
 use crate::sheet::Sheet;
 use nit_desktop::Desktop;
 use nit_events::Entry;
 use std::marker::Model;
+use std::snapshot::Snapshot;
 
 /// A display server that a host program drives: its seats with the words that their clients handed
-/// in, and the last entry.
+/// in, the last entry, and what changed since the last look.
 #[derive(Drop)]
 pub struct Host {
     pub(crate) desktop: Desktop<Sheet>,
@@ -26,11 +30,18 @@ pub struct Host {
     /// seat's sheet while that is another's, as the client's own during a call.
     pub(crate) hollows: Vec<Sheet>,
     pub(crate) last: Option<Entry>,
+    /// Outside of it no pixel of the frame has changed since the last look.
+    pub(crate) changed: Area,
+    /// The desktop at the last look, for contracts alone.
+    pub(crate) seen: Option<Snapshot<Desktop<Sheet>>>,
 }
 
 impl Model for Host {
+    ghost use Rattle.std.specs.Prelude.{option_map};
+    ghost use Rattle.nit_host.specs.Area.{IsAreaOf};
     ghost use Rattle.nit_host.specs.Fresh.{IsHost, sheets_of};
     ghost use Rattle.nit_host.specs.Host.{HostModel};
+    ghost use Rattle.nit_host.specs.Looked.{IsSeenBut, frame_at};
 
     ghost Value = { HostModel };
 
@@ -39,9 +50,13 @@ impl Model for Host {
       sheets = sheets_of h.desktop.glasses;
       left = h.desktop.left;
       last = h.last;
+      seen = option_map (λ s. frame_at s.value) h.seen;
     } };
 
-    ghost invariant = { λ h. IsHost h.desktop h.hollows.items };
+    ghost invariant = { λ h. IsHost h.desktop h.hollows.items
+        × IsSeenBut h.desktop.state (sheets_of h.desktop.glasses) h.changed
+        (option_map (λ s. frame_at s.value) h.seen)
+        × IsAreaOf h.desktop.state.config.width h.desktop.state.config.height h.changed };
 }
 
 impl Host {

@@ -32,37 +32,3 @@ part_copied now out part s same order fits spans is =
         | inr here ↦ grind (arith, places, is)
       ]
     ])
-
--- a row of a picture has its width
-row_long : (width row wide : ℕ) (frame part : List ℕ) → wide ≡ width → (row + 1) * width ≤ length frame
-    → part ≡ take wide (drop (row * width) frame) → length part ≡ width
-row_long width row wide frame part same room is =
-    rw is (omega (arith, length-take wide (drop (row * width) frame), length-drop (row * width) frame))
-
--- a row that was copied behind the rows above it
-pub row_copied : (width row wide : ℕ) (frame out part : List ℕ) → wide ≡ width → (row + 1) * width ≤ length frame
-    → length out ≡ length frame
-    → take (row * width) out ≡ take (row * width) frame → part ≡ take wide (drop (row * width) frame)
-    → take ((row + 1) * width) (put_mid (row * width) wide out part) ≡ take ((row + 1) * width) frame
-row_copied width row wide frame out part same room long above is =
-    let next : (row + 1) * width ≡ row * width + width = omega arith in
-    take-put_mid (row * width) wide out part ((row + 1) * width)
-    (omega (arith, row_long width row wide frame part same room is)) (omega arith)
-    ∙ ap₂ (λ (x y : List ℕ). x ++ y) above (is ∙ ap (λ (n : ℕ). take n (drop (row * width) frame)) same)
-    ∙ sym (take-add (row * width) width frame)
-    ∙ ap (λ (n : ℕ). take n frame) (sym next)
-
--- the rows below it are as they were
-pub rows_below : (width row wide : ℕ) (frame out old part : List ℕ) → wide ≡ width → (row + 1) * width ≤ length frame
-    → length out ≡ length frame
-    → drop (row * width) out ≡ drop (row * width) old → part ≡ take wide (drop (row * width) frame)
-    → drop ((row + 1) * width) (put_mid (row * width) wide out part) ≡ drop ((row + 1) * width) old
-rows_below width row wide frame out old part same room long below is =
-    let next : (row + 1) * width ≡ row * width + width = omega arith in
-    drop-put_mid (row * width) wide out part ((row + 1) * width) (omega arith) (omega arith)
-    (row_long width row wide frame part same room is ∙ sym same)
-    ∙ ap (λ (n : ℕ). drop n out) next
-    ∙ sym (drop-drop width (row * width) out)
-    ∙ ap (drop width) below
-    ∙ drop-drop width (row * width) old
-    ∙ ap (λ (n : ℕ). drop n old) (sym next)

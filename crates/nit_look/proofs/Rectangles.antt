@@ -1,9 +1,9 @@
 -- The rectangle that the edges of two pictures bound.
-use Rattle.std.proofs.Common.{List, Option, Some, None, IfSome, ap, arith, inl, inr, length, subst}
+use Rattle.nit_look.proofs.Basics.{Bound, CoversChange, Differs, Edges, IfSome, IsTouched, LiesOn}
+use Rattle.nit_look.proofs.Basics.{List, None, Option, Some, and_true, ap, arith, cases_lt}
+use Rattle.nit_look.proofs.Basics.{div_below, get_or_past, inl, inr, ints, length, mod_below, pos}
+use Rattle.nit_look.proofs.Basics.{rectangle_between, spans_holds, subst}
 use Rattle.std.proofs.Common.{sym, ℕ, ◌*◌, ◌+◌, ◌-◌, ◌/◌, ◌%◌, ◌<◌, ◌∙◌, ◌≡◌, ◌≤◌, ◌≤ℤ◌, ◌+ℤ◌}
-use Rattle.nit_look.proofs.Basics.{Bound, CoversChange, Differs, Edges, IsTouched, LiesOn, and_true}
-use Rattle.nit_look.proofs.Basics.{cases_lt, div_below, get_or_past, ints, mod_below, pos}
-use Rattle.nit_look.proofs.Basics.{rectangle_between, spans_holds}
 
 -- the place of a difference is one of the picture
 inside : (count k : ℕ) (a b : List ℕ) → length a ≡ count → length b ≡ count → Differs a b k → k < count
@@ -69,3 +69,10 @@ pub holds_of_it : {A : Type 0} (P : A → Type 0) (found : Option A) (x : A) →
     → IfSome found P
 holds_of_it P (Some y) x is holds = subst P (sym is) holds
 holds_of_it P None x is holds = tt
+
+-- the last edge is in the rows that have all
+pub bottom_below : (width rows : ℕ) (a b : List ℕ) (e : Edges) → 1 ≤ width → Bound width (rows * width) a b e
+    → e.bottom < rows
+bottom_below width rows a b e some is =
+    let lt = div_below is.bottom.0 width rows some is.bottom.1 in
+    omega (arith, lt, is.bottom.3)

@@ -1,22 +1,22 @@
 -- One row more of two pictures.
-use Rattle.std.proofs.Common.{List, Option, Some, None, ap, arith, inl, inr, max, min, refl, subst}
-use Rattle.std.proofs.Common.{sym, drop, ℕ, ◌*◌, ◌+◌, ◌-◌, ◌/◌, ◌%◌, ◌<◌, ◌∙◌, ◌≡◌, ◌≤◌}
-use Rattle.std.proofs.Common.{slice_index}
 use Rattle.nit_look.proofs.Basics.{AreEdges, Bound, Differs, DiffersWhere, Edges, IsBetween, IsSpan}
-use Rattle.nit_look.proofs.Basics.{Span, cases_lt, div-mul-add, div_below, get_or-drop, get_or-take}
-use Rattle.nit_look.proofs.Basics.{get_or_past, length-take, mod-mul-add, picture_row}
+use Rattle.nit_look.proofs.Basics.{List, None, Option, Some, Span, ap, arith, cases_lt, div-mul-add}
+use Rattle.nit_look.proofs.Basics.{div_below, get_or-drop, get_or-take, get_or_past, inl, inr}
+use Rattle.nit_look.proofs.Basics.{length-take, max, min, mod-mul-add, picture_row, refl}
+use Rattle.nit_look.proofs.Basics.{slice_index, subst}
+use Rattle.std.proofs.Common.{sym, drop, ℕ, ◌*◌, ◌+◌, ◌-◌, ◌/◌, ◌%◌, ◌<◌, ◌∙◌, ◌≡◌, ◌≤◌}
 
 -- where a pixel lies of the row behind so many rows
-record InRow (width row k : ℕ) : Type 0 where
-  below : k - row * width < width
-  is : row * width + (k - row * width) ≡ k
-  column : k % width ≡ k - row * width
-  row_is : k / width ≡ row
+pub record InRow (width row k : ℕ) : Type 0 where
+  pub below : k - row * width < width
+  pub is : row * width + (k - row * width) ≡ k
+  pub column : k % width ≡ k - row * width
+  pub row_is : k / width ≡ row
 
 next_row : (row width : ℕ) → (row + 1) * width ≡ row * width + width
 next_row row width = omega arith
 
-in_row : (width row k : ℕ) → row * width ≤ k → k < (row + 1) * width → InRow width row k
+pub in_row : (width row k : ℕ) → row * width ≤ k → k < (row + 1) * width → InRow width row k
 in_row width row k low high =
     let below : k - row * width < width = omega (arith, next_row row width) in
     let is : row * width + (k - row * width) ≡ k = omega arith in
@@ -27,7 +27,7 @@ in_row width row k low high =
       row_is = ap (λ (n : ℕ). n / width) (sym is) ∙ div-mul-add row width (k - row * width) below;
     }
 
-word_of_row : (width row j : ℕ) (a : List ℕ) → j < width → slice_index (picture_row width row a) j
+pub word_of_row : (width row j : ℕ) (a : List ℕ) → j < width → slice_index (picture_row width row a) j
     ≡ slice_index a (row * width + j)
 word_of_row width row j a lt = get_or-take width (drop (row * width) a) j 0 lt ∙ get_or-drop (row * width) a j 0
 
@@ -119,7 +119,7 @@ first_found width row a b s is span = record {
   bottom = found width row s.first a b (λ x y. y ≡ row) span.first refl;
 }
 
-row_above : (width row k : ℕ) → k < row * width → k / width < row
+pub row_above : (width row k : ℕ) → k < row * width → k / width < row
 row_above width row k lt = elim (cases_lt 0 width) [
   | inl some ↦ div_below k width row some lt
   | inr none ↦ let z : width ≡ 0 = omega arith in let no_pixel : k < row * 0 =

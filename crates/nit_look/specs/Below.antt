@@ -2,6 +2,7 @@
 pub use Rattle.nit_look.specs.declared.edges.Edges.{Edges}
 pub use Rattle.nit_look.specs.declared.span.Span.{Span}
 pub use Rattle.nit_rect.specs.Limits.{most_height, most_width}
+pub use Rattle.nit_rect.specs.Rectangle.{spans}
 pub use Rattle.nit_rect.specs.Terms.{Rectangle, covers, rectangle}
 pub use Rattle.nit_rect.specs.declared.point.Point.{Point}
-pub use Rattle.std.specs.Prelude.{pos}
+pub use Rattle.std.specs.Prelude.{None, drop, pos, slice_index, take}

@@ -1,7 +1,6 @@
 -- The outermost columns and rows in which two pictures differ.
 use Rattle.std.specs.Prelude.{◌≡◌, ◌≤◌, ◌<◌, ◌+◌, ◌-◌, ◌*◌, ◌/◌, ◌%◌, ℕ, pos, List, Option, Some}
-use Rattle.std.specs.Prelude.{None, take, drop, slice_index}
-use Rattle.nit_look.specs.Below.{Edges, Rectangle, rectangle}
+use Rattle.nit_look.specs.Below.{Edges, None, Rectangle, drop, rectangle, slice_index, take}
 use Rattle.nit_look.specs.Span.{Differs}
 
 -- a row of a picture

@@ -1,6 +1,6 @@
 -- The least rectangle that has all pixels at which two pictures differ.
-use Rattle.std.specs.Prelude.{◌≡◌, ◌%◌, ◌/◌, ℕ, List, IsTrue, pos, ◌+ℤ◌, ◌≤ℤ◌}
-use Rattle.nit_look.specs.Below.{Point, Rectangle, covers}
+use Rattle.std.specs.Prelude.{◌≡◌, ◌%◌, ◌/◌, ℕ, List, IsTrue, pos, ◌+ℤ◌, ◌≤ℤ◌, false, true}
+use Rattle.nit_look.specs.Below.{Point, Rectangle, covers, slice_index}
 use Rattle.nit_look.specs.Span.{Differs}
 
 -- the pixel of a number, row by row from the top, on a screen of this width
@@ -28,3 +28,13 @@ pub record IsTouched (width : ℕ) (a b : List ℕ) (r : Rectangle) : Type 0 whe
   pub right : DiffersAt width a b (λ p. (p.x +ℤ pos 1) ≡ (r.x +ℤ pos r.w))
   pub top : DiffersAt width a b (λ p. p.y ≡ r.y)
   pub bottom : DiffersAt width a b (λ p. (p.y +ℤ pos 1) ≡ (r.y +ℤ pos r.h))
+
+-- they agree at each pixel in it
+abbrev pub AgreeIn : ℕ → List ℕ → List ℕ → Rectangle → Type 0
+AgreeIn width a b r =
+    (k : ℕ) → covers r (place_at width k) ≡ true → slice_index a k ≡ slice_index b k
+
+-- they agree at each pixel outside of it
+abbrev pub AgreeOutside : ℕ → List ℕ → List ℕ → Rectangle → Type 0
+AgreeOutside width a b r =
+    (k : ℕ) → covers r (place_at width k) ≡ false → slice_index a k ≡ slice_index b k

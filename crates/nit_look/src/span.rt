@@ -1,7 +1,7 @@
 //! The places at which two rows differ.
 
 ghost use Rattle.std.specs.Prelude.{◌≡◌, ◌≢◌, ◌≤◌, ◌<◌, ℕ, length, true, false};
-ghost use Rattle.nit_look.specs.Terms.{Differs, IsSpan};
+ghost use Rattle.nit_look.specs.Terms.{Differs, IsMerged, IsSpan, is_among};
 
 /// The first and the last place at which two rows differ.
 #[derive(Clone, Copy)]
@@ -10,8 +10,25 @@ pub(crate) struct Span {
     pub last: usize,
 }
 
+/// Copies what of a row differs in the columns from the first to before the second, and gives its
+/// span. None where nothing differs there.
+pub(crate) fn copy_columns(now: &[u32], out: &mut [u32], columns: (usize, usize)) -> Option<Span>
+    requires long { length out.old ≡ length now.now }
+    requires order { columns.0 ≤ columns.1 }
+    requires fits { columns.1 ≤ length now.now }
+    ensures copied { IsMerged (is_among columns.0 columns.1) now.now out.old out.new }
+    ensures span { IsSpan out.new out.old result }
+{
+    let (from, to) = columns;
+    let span = copy_row(&now[from..to], &mut out[from..to])?;
+    Some(Span {
+        first: from + span.first,
+        last: from + span.last,
+    })
+}
+
 /// Copies the part of a row that differs, and gives its span. None where nothing differs.
-pub(crate) fn copy_row(now: &[u32], out: &mut [u32]) -> Option<Span>
+fn copy_row(now: &[u32], out: &mut [u32]) -> Option<Span>
     requires { length out.old ≡ length now.now }
     ensures copied { out.new ≡ now.now }
     ensures span { IsSpan now.now out.old result }

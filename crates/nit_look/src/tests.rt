@@ -25,19 +25,38 @@ const CORNERS: [u32; 12] = [
     1, 1, 1, 2,
 ];
 
+/// The last pixel alone differs.
+const LAST: [u32; 12] = [
+    1, 1, 1, 1, //
+    1, 1, 1, 1, //
+    1, 1, 1, 2,
+];
+
 #[test]
 fn the_least_rectangle_is_found(rt: HostRuntime) {
-    expect(&rt, &TWO, Rect::new(1, 1, 3, 2));
-    expect(&rt, &CORNERS, Rect::new(0, 0, 4, 3));
-    expect(&rt, &BEFORE, None);
+    let all = part(&rt, 0, 0, 4, 3);
+    expect(&rt, &TWO, &all, &TWO, Rect::new(1, 1, 3, 2));
+    expect(&rt, &CORNERS, &all, &CORNERS, Rect::new(0, 0, 4, 3));
+    expect(&rt, &BEFORE, &all, &BEFORE, None);
 }
 
-/// Looks at the picture twice. The second time nothing differs.
-fn expect(rt: &impl Abort, now: &[u32; 12], want: Option<Rect>) {
+#[test]
+fn a_part_alone_is_looked_at(rt: HostRuntime) {
+    let corner = part(&rt, 2, 1, 2, 2);
+    expect(&rt, &CORNERS, &corner, &LAST, Rect::new(3, 2, 1, 1));
+    expect(&rt, &CORNERS, &part(&rt, 1, 0, 2, 3), &BEFORE, None);
+}
+
+fn part(rt: &impl Abort, x: i32, y: i32, w: u32, h: u32) -> Rect {
+    Rect::new(x, y, w, h).expect(rt, "numbers in range")
+}
+
+/// Looks twice at the part of a picture. The second time nothing differs.
+fn expect(rt: &impl Abort, now: &[u32; 12], part: &Rect, left: &[u32; 12], want: Option<Rect>) {
     let mut out = BEFORE;
-    let found = look(now, 4, 3, &mut out);
+    let found = look(now, 4, 3, part, &mut out);
     assert!(rt; found == want);
-    let again = look(now, 4, 3, &mut out);
+    let again = look(now, 4, 3, part, &mut out);
     assert!(rt; again.is_none());
-    assert!(rt; out == *now);
+    assert!(rt; out == *left);
 }

@@ -262,8 +262,10 @@ impl Server {
         Deliveries::of(&unsafe { raw::nit_wheel(&mut self.raw, turn) })
     }
 
-    /// Copies what the screen shows to the words, one for each pixel, row by row from the top. The
-    /// least part outside of which nothing changed is answered; none where nothing did.
+    /// Brings the words, one for each pixel, row by row from the top, up to date with what the
+    /// screen shows. They have to be as the last look left them; before the first look they may be
+    /// any. The least part outside of which nothing was written is answered; none where nothing was.
+    /// Of words that are not as the last look left them, only those in the part are surely right.
     ///
     /// # Errors
     /// [`Refusal::WrongFrame`].

@@ -1,12 +1,14 @@
 //! What can be read of a desktop.
 
 ghost use Rattle.std.specs.Prelude.{◌≡◌, ◌<◌, ◌≤◌, ◌*◌, IfSome, IsTrue, false, length, map, ℕ};
-ghost use Rattle.nit_desktop.specs.Terms.{AreLive, IsConfiguration, IsFreeLabel, IsGlass, glass_in};
-ghost use Rattle.nit_desktop.specs.Terms.{member, refusal, session, table_size};
+ghost use Rattle.std.specs.Prelude.{Some, slice_get};
+ghost use Rattle.nit_desktop.specs.Terms.{AreLive, IsConfiguration, IsFreeLabel, IsGlass, IsPlace};
+ghost use Rattle.nit_desktop.specs.Terms.{glass_in, member, refusal, session, table_size};
 
 use crate::desktop::Desktop;
 use nit_events::{Call, Mode, Reply, Status};
 use nit_glyph::Label;
+use nit_stack::View;
 use nit_word::Glass;
 
 impl<G: Glass + Drop> Desktop<G> {
@@ -104,6 +106,23 @@ impl<G: Glass + Drop> Desktop<G> {
             ≤ table_size (member self.now.state.config sid).donation }
     {
         self.screen.server().stack().buffer(sid)
+    }
+
+    /// How many views there are.
+    pub fn views(&self) -> u32
+        ensures { result ≡ length self.now.state.stack }
+    {
+        self.screen.server().stack().len()
+    }
+
+    /// The view at place `i` from the front.
+    pub fn view(&self, i: u32) -> View
+        requires { i < length self.now.state.stack }
+        ensures view { slice_get self.now.state.stack i ≡ Some result }
+        ensures offset { IsPlace result.ox × IsPlace result.oy }
+    {
+        let stack = self.screen.server().stack();
+        stack.view(stack.at(i))
     }
 
     /// The mode of the user's input.

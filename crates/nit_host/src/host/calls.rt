@@ -11,6 +11,7 @@ ghost use Rattle.nit_events.specs.declared.entry.Entry.TheVariants as entry;
 
 use crate::host::Host;
 use crate::host::handing::hand_in;
+use crate::host::touch::{touch_of, touched};
 use crate::refusal::Unserved;
 use crate::sheet::Sheet;
 use nit_desktop::Desktop;
@@ -40,9 +41,13 @@ impl Host {
         }
         clean_pixels_keep_their_source();
         self.desktop.facts();
+        let touch = touch_of(&self.desktop, seat, call);
+        let before = touched(&self.desktop, seat, &touch);
         let own = &mut self.hollows[seat as usize];
         self.desktop.exchange(seat, own);
         let reply = serve(&mut self.desktop, seat, call, own);
+        let after = touched(&self.desktop, seat, &touch);
+        self.changed = self.changed.join(&before).join(&after);
         self.last = Some(Entry::Call {
             sid: seat,
             call: *call,
@@ -84,10 +89,14 @@ impl Host {
         let call = refresh_of(place, size);
         let part = self.part(seat, place, size);
         let buffer = self.desktop.buffer(seat);
+        let touch = touch_of(&self.desktop, seat, &call);
+        let before = touched(&self.desktop, seat, &touch);
         let own = &mut self.hollows[seat as usize];
         self.desktop.exchange(seat, own);
         hand_in(own, buffer, &part, words);
         let reply = serve(&mut self.desktop, seat, &call, own);
+        let after = touched(&self.desktop, seat, &touch);
+        self.changed = self.changed.join(&before).join(&after);
         self.last = Some(Entry::Call {
             sid: seat,
             call,

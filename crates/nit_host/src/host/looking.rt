@@ -1,34 +1,46 @@
 //! A look at what of the frame changed, and at the last entry.
 
 ghost use Rattle.std.specs.Prelude.{◌≡◌, ◌*◌, ◌↔◌, None, IfOk, IfSome, length};
-ghost use Rattle.nit_host.specs.Terms.{CoversChange, IsTouched, LiesOn, frame, last_text, picture};
-ghost use Rattle.nit_host.specs.Terms.{scenery_of};
+ghost use Rattle.nit_host.specs.Terms.{AgreeIn, CoversChange, IsAsSeen, IsTouched, LiesOn};
+ghost use Rattle.nit_host.specs.Terms.{frame_of, last_text, looked};
 
 use crate::host::Host;
+use crate::host::area::Area;
 use nit_look::look;
 use nit_rect::{NoMemory, Rect};
 use nit_report::journal_text;
 use std::alloc::Global;
+use std::snapshot::Snapshot;
 
 impl Host {
-    /// Copies of the frame what differs from `out`, which has a word for each pixel, into `out`,
-    /// which then is the frame, and answers the least rectangle of pixels outside of which nothing
-    /// was written. `None` exactly where nothing differs. A host program that hands in the same
-    /// words at each look so learns what changed since the last one.
-    pub fn look(&self, out: &mut [u32]) -> Option<Rect>
-        requires { length out.old ≡ self.now.state.config.width * self.now.state.config.height }
-        ensures frame { out.new ≡ frame (scenery_of self.now.state) (picture self.now) }
+    /// Brings `out`, which has a word for each pixel and is as the last look left it, up to date,
+    /// and answers the least rectangle of pixels outside of which nothing was written. `None`
+    /// exactly where nothing was. Then `out` is the frame. Before the first look it may be any
+    /// words.
+    ///
+    /// Only what can have changed since the last look is looked at. So in words that are not as
+    /// that left them, only those in the rectangle are surely the frame's.
+    pub fn look(&mut self, out: &mut [u32]) -> Option<Rect>
+        requires { length out.old ≡ self.old.state.config.width * self.old.state.config.height }
+        ensures frame { IsAsSeen self.old out.old → out.new ≡ frame_of self.old }
         ensures none { result ≡ None ↔ out.old ≡ out.new }
-        ensures screen { let config = self.now.state.config in
+        ensures screen { let config = self.old.state.config in
             IfSome result (λ r. LiesOn config.width config.height r) }
-        ensures inside { let config = self.now.state.config in
+        ensures inside { let config = self.old.state.config in
             IfSome result (λ r. CoversChange config.width out.new out.old r) }
-        ensures least { let config = self.now.state.config in
+        ensures least { let config = self.old.state.config in
             IfSome result (λ r. IsTouched config.width out.new out.old r) }
+        ensures shown { let config = self.old.state.config in
+            IfSome result (λ r. AgreeIn config.width out.new (frame_of self.old) r) }
+        ensures host { self.new ≡ looked self.old }
     {
         self.desktop.facts();
         let (width, height) = self.desktop.size();
-        look(self.frame(), width as usize, height as usize, out)
+        let part = self.changed.rect();
+        let found = look(self.frame(), width as usize, height as usize, &part, out);
+        self.changed = Area::none();
+        self.seen = Some(Snapshot::of(&self.desktop));
+        found
     }
 
     /// The last step as a line of the journal's text, where it was an entry: no text where the last

@@ -6,6 +6,7 @@ ghost use Rattle.nit_host.specs.Terms.{blank_sheet, first_host, first_state, she
 ghost use Rattle.nit_host.specs.Terms.{table_size, vacant_state};
 
 use crate::host::Host;
+use crate::host::area::Area;
 use crate::sheet::Sheet;
 use nit_config::Config;
 use nit_desktop::Desktop;
@@ -30,6 +31,8 @@ impl Host {
             desktop: Desktop::vacant(alloc, config, sheets)?,
             hollows,
             last: None,
+            changed: Area::of_rows(config.width, config.height),
+            seen: None,
         })
     }
 
@@ -45,6 +48,8 @@ impl Host {
             desktop: Desktop::new(alloc, config, sheets)?,
             hollows,
             last: None,
+            changed: Area::of_rows(config.width, config.height),
+            seen: None,
         })
     }
 }

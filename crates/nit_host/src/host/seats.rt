@@ -4,6 +4,7 @@ ghost use Rattle.std.specs.Prelude.{◌≡◌, None, Some, Ok, Err};
 ghost use Rattle.nit_host.specs.Terms.{Unseated, seated, unseated};
 
 use crate::host::Host;
+use crate::host::touch::bar_or_screen;
 use crate::refusal::Unseated;
 use nit_glyph::Label;
 use nit_screen::laws::openings_keep_all;
@@ -28,10 +29,12 @@ impl Host {
         }
         openings_keep_all();
         self.desktop.facts();
+        let part = bar_or_screen(&self.desktop);
         let own = &mut self.hollows[seat as usize];
         self.desktop.exchange(seat, own);
         own.wipe();
         self.desktop.reopen(seat, label, own);
+        self.changed = self.changed.join(&part);
         self.last = None;
         Ok(())
     }

@@ -4,6 +4,7 @@ ghost use Rattle.std.specs.Prelude.{◌≡◌, None, Some, Ok, Err};
 ghost use Rattle.nit_host.specs.Terms.{Unserved, is_device, routed_of, told, unserved_input};
 
 use crate::host::Host;
+use crate::host::touch::{bar_or_screen, told};
 use crate::refusal::Unserved;
 use nit_events::{Device, Entry, Routed};
 use nit_screen::laws::clean_pixels_keep_their_source;
@@ -33,7 +34,10 @@ impl Host {
         }
         clean_pixels_keep_their_source();
         self.desktop.facts();
+        let before = bar_or_screen(&self.desktop);
         let routed = self.desktop.input(device);
+        let after = told(&self.desktop, &routed);
+        self.changed = self.changed.join(&before).join(&after);
         self.last = Some(Entry::Input {
             dev: device,
             routed,

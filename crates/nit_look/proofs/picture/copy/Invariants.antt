@@ -1,10 +1,8 @@
-use Rattle.std.proofs.Common.{◌*◌, ◌≡◌, take, drop}
-use Rattle.nit_look.proofs.Lemmas.{AreEdges}
+use Rattle.nit_look.proofs.Lemmas.{AreEdges, IsMerged, is_in_rows}
 use Rattle.nit_look.proofs.picture.copy.Given as goal
 
 abbrev pub invariant-loop-row : goal.invariant-loop-row
 invariant-loop-row l = record {
-  copied : take (l.row * l.width) l.out ≡ take (l.row * l.width) l.frame;
-  rest : drop (l.row * l.width) l.out ≡ drop (l.row * l.width) l.initial.out;
-  edges : AreEdges l.width l.row l.frame l.initial.out l.found;
+  copied : IsMerged (is_in_rows l.width l.columns.0 l.columns.1 l.fn.rows.0 l.row) l.frame l.initial.out l.out;
+  edges : AreEdges l.width l.row l.out l.initial.out l.found;
 }

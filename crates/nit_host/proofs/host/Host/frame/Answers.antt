@@ -8,5 +8,5 @@ use Rattle.nit_host.proofs.host.Host.frame.Goals as goal
 pub returns-clause-frame : goal.returns-clause-frame
 returns-clause-frame c =
     let d = c.self.inside.desktop in
-    c.frame.ensures.frame ∙ shown_fresh d.state (sheet_in (sheets_of d.glasses)) d.raw c.self.invariant.fresh
+    c.frame.ensures.frame ∙ shown_fresh d.state (sheet_in (sheets_of d.glasses)) d.raw c.self.invariant.0.fresh
     ∙ ap (λ (h : HostModel). frame (scenery_of h.state) (picture h)) c.self.view_is

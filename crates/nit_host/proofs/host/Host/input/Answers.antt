@@ -1,19 +1,49 @@
-use Rattle.std.proofs.Common.{Ok, ap}
+use Rattle.std.proofs.Common.{Ok, Some, ap, subst, sym, ◌∙◌}
+use Rattle.nit_events.specs.declared.entry.Entry.TheVariants as entry
+use Rattle.nit_host.specs.Area.{IsAreaOf}
+use Rattle.nit_host.specs.Below.{Configuration, State}
+use Rattle.nit_host.specs.Fresh.{sheets_of}
+use Rattle.nit_host.specs.Host.{HostModel}
+use Rattle.nit_host.proofs.OtherChanges.{seen_told}
 use Rattle.nit_host.proofs.Inputs.{was_told}
 use Rattle.nit_host.proofs.host.Host.input.Goals as goal
 
 pub invariant_of-self : goal.invariant_of-self
 invariant_of-self c =
+    let d = c.self.inside.desktop in
+    let d2 = c.input-routed.new.self in
     let e = c.input-routed.ensures in
-    (was_told c.self.inside.desktop c.input-routed.new.self c.self.inside.hollows.items c.args.device
-    c.input-routed.result c.self.inside.last c.self.invariant
-    e.routed e.state e.left e.painted e.rests c.clean_pixels_keep_their_source.ensures c.args.self.now
-    c.self.view_is).host
+    let done = was_told c.self.inside.desktop c.input-routed.new.self c.self.inside.hollows.items c.args.device
+    c.input-routed.result c.self.inside.last _ c.self.invariant.0
+    e.routed e.state e.left e.painted e.rests c.clean_pixels_keep_their_source.ensures c.args.self.now c.self.view_is in
+    let same = ap (λ (m : HostModel). m.sheets) done.now ∙ ap (λ (m : HostModel). m.sheets) (sym c.self.view_is) in (
+      done.host,
+      seen_told d.state d2.state c.args.device c.input-routed.result (sheets_of d.glasses) (sheets_of d2.glasses)
+          c.self.inside.changed c.bar_or_screen-before.result c.told-after.result c.join.result
+          c.join-self-inside.result _ e.routed c.clean_pixels_keep_their_source.ensures e.state same
+          c.bar_or_screen-before.ensures.bar c.told-after.ensures.bar c.told-after.ensures.screen c.join.ensures.own
+          c.join.ensures.others c.join-self-inside.ensures.own c.join-self-inside.ensures.others
+          c.self.invariant.1,
+      c.join-self-inside.ensures.area d2.state.config.width d2.state.config.height
+          (subst (λ (k : Configuration). IsAreaOf k.width k.height c.join.result)
+          (sym (ap (λ (t : State). t.config) e.state))
+          (c.join.ensures.area d.state.config.width d.state.config.height c.self.invariant.2
+          c.bar_or_screen-before.ensures.area))
+          c.told-after.ensures.area,
+    )
 
 pub returns-clause-served : goal.returns-clause-served
 returns-clause-served c = λ _.
     let e = c.input-routed.ensures in
     let done = was_told c.self.inside.desktop c.input-routed.new.self c.self.inside.hollows.items c.args.device
-    c.input-routed.result c.self.inside.last c.self.invariant
-    e.routed e.state e.left e.painted e.rests c.clean_pixels_keep_their_source.ensures c.args.self.now c.self.view_is in
-    (ap Ok done.routed_now, done.now)
+    c.input-routed.result c.self.inside.last _ c.self.invariant.0
+    e.routed e.state e.left e.painted e.rests c.clean_pixels_keep_their_source.ensures c.args.self.now c.self.view_is in (
+      ap Ok done.routed_now,
+      (λ i. record {
+        state = c.input-routed.new.self.state;
+        sheets = sheets_of c.input-routed.new.self.glasses;
+        left = c.input-routed.new.self.left;
+        last = Some (entry.Input c.args.device c.input-routed.result);
+        seen = ap (λ (m : HostModel). m.seen) c.self.view_is i;
+      }) ∙ done.now,
+    )

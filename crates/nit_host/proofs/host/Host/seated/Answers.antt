@@ -1,7 +1,10 @@
-use Rattle.std.proofs.Common.{ap, refl}
-use Rattle.nit_host.specs.Below.{DesktopModel, first_state}
+use Rattle.std.proofs.Common.{true, ℕ, ◌<◌, ◌∙◌, ◌≡◌, ap, arith, refl, subst, sym}
+use Rattle.nit_host.specs.Area.{IsAreaOf, in_area}
+use Rattle.nit_host.specs.Below.{Configuration, DesktopModel, first_state}
+use Rattle.nit_host.specs.Fresh.{sheets_of}
 use Rattle.nit_host.specs.Sheet.{SheetModel}
 use Rattle.nit_host.proofs.Beginnings.{begun, blank_glasses, first_now}
+use Rattle.nit_host.proofs.Looking.{nothing_seen}
 use Rattle.nit_host.proofs.host.Host.seated.Goals as goal
 
 pub new-requires-clause-tables : goal.new-requires-clause-tables
@@ -10,11 +13,20 @@ new-requires-clause-tables c = blank_glasses c.args.config.now c.in_ok-sheets.sh
 pub invariant_of-result : goal.invariant_of-result
 invariant_of-result c =
     let made = c.in_ok-new.ensures in
-    begun (first_state c.args.config.now) c.args.config.now c.in_ok-new.field-0 c.in_ok-sheets.sheets.items
+    let config = ap (λ (d : DesktopModel SheetModel). d.state.config) made in
+    let host = begun (first_state c.args.config.now) c.args.config.now c.in_ok-new.field-0 c.in_ok-sheets.sheets.items
     c.in_ok-hollows.hollows.items refl refl
     (ap (λ (d : DesktopModel SheetModel). d.state) made) (ap (λ (d : DesktopModel SheetModel). d.raw) made)
     (ap (λ (d : DesktopModel SheetModel). d.glasses) made)
-    c.in_ok-sheets.ensures.room c.in_ok-hollows.ensures
+    c.in_ok-sheets.ensures.room c.in_ok-hollows.ensures in (
+      host,
+      nothing_seen c.in_ok-new.field-0.state c.args.config.now (sheets_of c.in_ok-new.field-0.glasses)
+          c.of_rows.result config
+          (subst (λ (k : Configuration). (x y : ℕ) → x < k.width → y < k.height → in_area c.of_rows.result x y ≡ true)
+          c.config.view_is c.of_rows.ensures.all),
+      subst (λ (k : Configuration). IsAreaOf k.width k.height c.of_rows.result) (c.config.view_is ∙ sym config)
+          (c.of_rows.ensures.area c.config.inside.height (omega arith)),
+    )
 
 pub returns : goal.returns
 returns c =

@@ -1,0 +1,140 @@
+-- What of the frame the user changes, and a client that comes.
+use Rattle.std.proofs.Common.{[], ◌∷◌, ◌||◌}
+use Rattle.std.proofs.Common.{Bool, List, Option, ap, false, refl}
+use Rattle.std.proofs.Common.{subst, sym, true, ℕ, ◌%◌, ◌/◌, ◌<◌}
+use Rattle.std.proofs.Common.{◌∙◌, ◌≡◌}
+use Rattle.std.proofs.lemmas.Bool.{false≢true}
+use Rattle.nit_events.specs.declared.device.Mode.TheVariants as mode
+use Rattle.nit_events.specs.declared.entry.Entry.TheVariants as entry
+use Rattle.nit_events.specs.declared.event.Item.{Item}
+use Rattle.nit_events.specs.declared.event.Item.TheVariants as item
+use Rattle.nit_screen.specs.DirtyPixels.{is_killed}
+use Rattle.nit_word.proofs.ForCallers.{column_and_row}
+use Rattle.nit_host.specs.Below.{Mode, Point, State, after, bar_rows}
+use Rattle.nit_host.specs.Below.{Delivery, Device, Routed, deliveries_of, is_kill, kills, list_any}
+use Rattle.nit_host.specs.Below.{opened, route, routed_as}
+use Rattle.nit_host.specs.Below.{pixel, pixel_count}
+use Rattle.nit_host.specs.Below.{source_at, word_from}
+use Rattle.nit_host.specs.Area.{StaysOutside, in_area}
+use Rattle.nit_host.specs.Host.{frame_by, sheet_in}
+use Rattle.nit_host.specs.Looked.{IsSeenBut}
+use Rattle.nit_host.specs.Touch.{HoldsBar, HoldsBarIn}
+use Rattle.nit_host.specs.declared.host.area.Area.{Area}
+use Rattle.nit_host.proofs.Steps.{KeepSources}
+use Rattle.nit_host.proofs.Frames.{flat_stays, seen_after, whole_stays}
+
+-- ---- steps that show each pixel's word where it was
+
+module _ (s s' : State) (sheets sheets' : List (List ℕ)) (a : Area) (width : s'.config.width ≡ s.config.width)
+    (height : s'.config.height ≡ s.config.height) (bar : bar_rows s'.config ≡ bar_rows s.config)
+    (words : (k : ℕ) → k < pixel_count s → word_from (sheet_in sheets) (source_at s k)
+    ≡ word_from (sheet_in sheets') (source_at s' k)) where
+  -- the mode was another one
+  by_screen : ((x y : ℕ) → x < s.config.width → y < s.config.height → in_area a x y ≡ true)
+      → StaysOutside s.config.width (pixel_count s) a (frame_by s sheets) (frame_by s' sheets')
+  by_screen whole = whole_stays s.config.width s.config.height a (frame_by s sheets) (frame_by s' sheets') whole
+
+  by_screen' : ((x y : ℕ) → x < s'.config.width → y < s'.config.height → in_area a x y ≡ true)
+      → StaysOutside s.config.width (pixel_count s) a (frame_by s sheets) (frame_by s' sheets')
+  by_screen' whole = by_screen (λ x y wide high. whole x y (subst (λ (n : ℕ). x < n) (sym width) wide)
+      (subst (λ (n : ℕ). y < n) (sym height) high))
+
+  by_modes : (m m' : Mode) → s.input.mode ≡ m → s'.input.mode ≡ m'
+      → HoldsBarIn m s.config.width s.config.height (bar_rows s.config) a
+      → HoldsBarIn m' s'.config.width s'.config.height (bar_rows s'.config) a
+      → StaysOutside s.config.width (pixel_count s) a (frame_by s sheets) (frame_by s' sheets')
+  by_modes mode.Xray m' is is' holds holds' = by_screen holds
+  by_modes mode.Kill m' is is' holds holds' = by_screen holds
+  by_modes mode.Flat mode.Xray is is' holds holds' = by_screen' holds'
+  by_modes mode.Flat mode.Kill is is' holds holds' = by_screen' holds'
+  by_modes mode.Flat mode.Flat is is' holds holds' =
+      flat_stays s s' sheets sheets' a width height bar is is' (λ k less off. words k less)
+      (λ k less off in_.
+      let at = column_and_row s.config.width s.config.height k less in
+      absurd (false≢true (sym off ∙ holds (k % s.config.width) (k / s.config.width) at.0 at.1 in_)))
+
+  -- all that changes is the bar
+  pub bar_changes : HoldsBar s a → HoldsBar s' a
+      → StaysOutside s.config.width (pixel_count s) a (frame_by s sheets) (frame_by s' sheets')
+  bar_changes holds holds' = by_modes s.input.mode s'.input.mode refl refl holds holds'
+
+bar_in_more : (m : Mode) (width height rows : ℕ) (a b : Area) → HoldsBarIn m width height rows a
+    → ((x y : ℕ) → in_area a x y ≡ true → in_area b x y ≡ true) → HoldsBarIn m width height rows b
+bar_in_more mode.Flat width height rows a b holds more = λ x y wide high in_. more x y (holds x y wide high in_)
+bar_in_more mode.Xray width height rows a b holds more = λ x y wide high. more x y (holds x y wide high)
+bar_in_more mode.Kill width height rows a b holds more = λ x y wide high. more x y (holds x y wide high)
+
+pub bar_more : (s : State) (a b : Area) → HoldsBar s a → ((x y : ℕ) → in_area a x y ≡ true → in_area b x y ≡ true)
+    → HoldsBar s b
+bar_more s a b holds more =
+    bar_in_more s.input.mode s.config.width s.config.height (bar_rows s.config) a b holds more
+
+-- ---- what the user does
+
+none_killed : (s : State) (p : Point) (ds : List Delivery) → kills ds ≡ false
+    → list_any (λ d. is_killed s p d.sid d.item) ds ≡ false
+none_killed s p [] none = refl
+none_killed s p (d ∷ ds) none = go d.item (none_killed s p ds) none
+  where
+    go : (i : Item) → (kills ds ≡ false → list_any (λ d. is_killed s p d.sid d.item) ds ≡ false)
+        → (is_kill i || kills ds) ≡ false
+        → (is_killed s p d.sid i || list_any (λ d. is_killed s p d.sid d.item) ds) ≡ false
+    go (item.Event e) further rest = further rest
+    go item.Kill further rest = cc
+
+pub seen_told : (s s' : State) (dev : Device) (routed : Routed) (sheets sheets' : List (List ℕ))
+    (a0 before now a1 a2 : Area) (seen : Option (List ℕ))
+    → routed ≡ routed_as (route s.config s.input s.stack dev).deliveries → KeepSources
+    → s' ≡ after s (entry.Input dev routed) → sheets' ≡ sheets → HoldsBar s before → HoldsBar s' now
+    → (kills (deliveries_of routed) ≡ true → (x y : ℕ) → x < s'.config.width → y < s'.config.height
+    → in_area now x y ≡ true)
+    → ((x y : ℕ) → in_area a0 x y ≡ true → in_area a1 x y ≡ true)
+    → ((x y : ℕ) → in_area before x y ≡ true → in_area a1 x y ≡ true)
+    → ((x y : ℕ) → in_area a1 x y ≡ true → in_area a2 x y ≡ true)
+    → ((x y : ℕ) → in_area now x y ≡ true → in_area a2 x y ≡ true) → IsSeenBut s sheets a0 seen
+    → IsSeenBut s' sheets' a2 seen
+seen_told s s' dev routed sheets sheets' a0 before now a1 a2 seen agrees keep is same holds holds' killed own others
+    own' others' known =
+    subst (λ (x : State). IsSeenBut x sheets' a2 seen) (sym is)
+    (seen_after s (after s (entry.Input dev routed)) sheets sheets' a2 refl refl refl a0 seen known
+    (λ x y in_. own' x y (own x y in_))
+    (go (kills (deliveries_of routed)) refl))
+  where
+    holds'' : HoldsBar (after s (entry.Input dev routed)) a2
+    holds'' = subst (λ (x : State). HoldsBar x a2) is (bar_more s' now a2 holds' others')
+
+    words : kills (deliveries_of routed) ≡ false → (k : ℕ) → k < pixel_count s
+        → word_from (sheet_in sheets) (source_at s k)
+        ≡ word_from (sheet_in sheets') (source_at (after s (entry.Input dev routed)) k)
+    words none k less =
+        ap (word_from (sheet_in sheets)) (sym (keep s 0 (entry.Input dev routed) (pixel s.config.width k) agrees
+        (none_killed s (pixel s.config.width k) (deliveries_of routed) none)))
+        ∙ ap (λ (ss : List (List ℕ)). word_from (sheet_in ss) (source_at (after s (entry.Input dev routed)) k)) (sym same)
+
+    go : (b : Bool) → kills (deliveries_of routed) ≡ b
+        → StaysOutside s.config.width (pixel_count s) a2 (frame_by s sheets)
+        (frame_by (after s (entry.Input dev routed)) sheets')
+    go true there =
+        let all = subst (λ (x : State). (u v : ℕ) → u < x.config.width → v < x.config.height → in_area now u v ≡ true) is
+        (killed there) in
+        whole_stays s.config.width s.config.height a2 (frame_by s sheets)
+        (frame_by (after s (entry.Input dev routed)) sheets') (λ x y wide high. others' x y (all x y wide high))
+    go false none =
+        bar_changes s (after s (entry.Input dev routed)) sheets sheets' a2 refl refl refl (words none)
+        (bar_more s before a2 holds (λ x y in_. own' x y (others x y in_))) holds''
+
+-- ---- a client that comes
+
+pub seen_seated : (s s' : State) (seat : ℕ) (label : List ℕ) (sheets sheets' : List (List ℕ)) (a0 part a1 : Area)
+    (seen : Option (List ℕ)) → s' ≡ opened seat label s
+    → ((k : ℕ) → k < pixel_count s → word_from (sheet_in sheets) (source_at s k)
+    ≡ word_from (sheet_in sheets') (source_at (opened seat label s) k))
+    → HoldsBar s part
+    → ((x y : ℕ) → in_area a0 x y ≡ true → in_area a1 x y ≡ true)
+    → ((x y : ℕ) → in_area part x y ≡ true → in_area a1 x y ≡ true) → IsSeenBut s sheets a0 seen
+    → IsSeenBut s' sheets' a1 seen
+seen_seated s s' seat label sheets sheets' a0 part a1 seen is words holds own others known =
+    let all = bar_more s part a1 holds others in
+    subst (λ (x : State). IsSeenBut x sheets' a1 seen) (sym is)
+    (seen_after s (opened seat label s) sheets sheets' a1 refl refl refl a0 seen known own
+    (bar_changes s (opened seat label s) sheets sheets' a1 refl refl refl words all all))

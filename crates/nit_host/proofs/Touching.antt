@@ -1,0 +1,186 @@
+-- What a call makes dirty lies in the areas of what it touches.
+use Rattle.std.proofs.Common.{Bool, List, None, Option, Some, [], ap, arith, cond, false, find, inl}
+use Rattle.std.proofs.Common.{inr, nat_lt, negsuc, pos, refl, slice_get, suc, sym, true}
+use Rattle.std.proofs.Common.{ℕ, ℤ, ◌%◌, ◌&&◌, ◌*◌, ◌+◌, ◌/◌, ◌<◌, ◌==◌, ◌||◌, ◌∙◌, ◌∷◌, ◌≡◌, ◌⊎◌}
+use Rattle.std.proofs.lemmas.Bool.{eqb-true, false≢true}
+use Rattle.std.proofs.lemmas.Bool.Decides.{nat_tests}
+use Rattle.std.proofs.lemmas.Nat.{div-mul-add, mod-mul-add}
+use Rattle.std.proofs.lemmas.Option.{same_Some}
+use Rattle.nit_events.specs.declared.call.Call.TheVariants as call
+use Rattle.nit_journal.specs.State.{buffer_size, owner_of}
+use Rattle.nit_repaint.specs.PixelOwners.{is_word_in}
+use Rattle.nit_screen.specs.DirtyPixels.{dirty_by_call, is_owned_by, owns_either}
+use Rattle.nit_screen.specs.DirtyPixels.{shows_part, view_owns}
+use Rattle.nit_stack.specs.Sources.{Size, among, black_or_word}
+use Rattle.nit_stack.specs.Sources.{index_at, shown_index, source_under}
+use Rattle.nit_host.specs.Below.{Call, Point, Rectangle, State, View, bar_rows}
+use Rattle.nit_host.specs.Below.{buffer_place, covers, in_bar, is_rectangle, is_session}
+use Rattle.nit_host.specs.Below.{is_view, option_map_or, pixel, point, rectangle, session, spans}
+use Rattle.nit_host.specs.Area.{in_area}
+use Rattle.nit_host.specs.Touch.{HoldsTouched, shows_place, touched_by}
+use Rattle.nit_host.specs.declared.host.area.Area.{Area}
+use Rattle.nit_host.specs.declared.host.touch.Touch.{Touch}
+use Rattle.nit_host.specs.declared.host.touch.Touch.TheVariants as touch
+use Rattle.nit_host.proofs.Areas.{first_test, second_test}
+
+-- ---- the view that owns a pixel stands in the stack
+
+record Stands (test : View → Bool) (stack : List View) (v : View) : Type 0 where
+  pub place : ℕ
+  pub there : slice_get stack place ≡ Some v
+  pub passes : test v ≡ true
+
+found_there : (test : View → Bool) (stack : List View) (v : View) → find test stack ≡ Some v → Stands test stack v
+found_there test [] v is = cc
+found_there test (u ∷ rest) v is = go (found_there test rest v) (test u) refl is
+  where
+    go : (find test rest ≡ Some v → Stands test rest v) → (b : Bool) → test u ≡ b
+        → cond b (Some u) (find test rest) ≡ Some v → Stands test (u ∷ rest) v
+    go further true passes here = record {
+      place = 0;
+      there = here;
+      passes = ap test (sym (same_Some u v here)) ∙ passes;
+    }
+    go further false fails behind = let s = further behind in record {
+      place = suc s.place;
+      there = s.there;
+      passes = s.passes;
+    }
+
+owner_there : (s : State) (p : Point) (v : View) → owner_of s p ≡ Some v → Stands (λ v. covers v.rect p) s.stack v
+owner_there s p v is = go (in_bar (bar_rows s.config) p) is
+  where
+    go : (b : Bool) → cond b None (find (λ v. covers v.rect p) s.stack) ≡ Some v
+        → Stands (λ v. covers v.rect p) s.stack v
+    go true none = cc
+    go false found = found_there (λ v. covers v.rect p) s.stack v found
+
+-- a pixel whose owner passes a test lies in an area that has each view's pixels that pass it
+owned_inside : (test : View → Bool) (s : State) (p : Point) (inside : Bool)
+    → ((i : ℕ) (v : View) → slice_get s.stack i ≡ Some v → test v ≡ true → covers v.rect p ≡ true → inside ≡ true)
+    → is_owned_by test s p ≡ true → inside ≡ true
+owned_inside test s p inside holds owned = go (owner_of s p) refl owned
+  where
+    go : (o : Option View) → owner_of s p ≡ o → option_map_or test o false ≡ true → inside ≡ true
+    go None is none = absurd (false≢true none)
+    go (Some v) is passes = let at = owner_there s p v is in holds at.place v at.there passes at.passes
+
+-- ---- a pixel that shows a part
+
+among_is : (z : ℤ) (most n : ℕ) → among z most ≡ Some n → (z ≡ pos n) × (n < most)
+among_is (pos m) most n is = go (nat_lt m most) refl is
+  where
+    go : (b : Bool) → nat_lt m most ≡ b → cond b (Some m) None ≡ Some n → (pos m ≡ pos n) × (n < most)
+    go true less here = let same : m ≡ n = same_Some m n here in
+        (ap pos same, (let lt : m < most = grind (arith, nat_tests) in omega (arith, lt, same)))
+    go false more none = cc
+among_is (negsuc m) most n is = cc
+
+record IsPlaceOf (columns i : ℕ) (a b : ℤ) : Type 0 where
+  pub column : a ≡ pos (i % columns)
+  pub row : b ≡ pos (i / columns)
+
+index_is : (columns rows i : ℕ) (a b : ℤ) → index_at columns (among a columns) (among b rows) ≡ Some i
+    → IsPlaceOf columns i a b
+index_is columns rows i a b is = go (among a columns) (among b rows) refl refl is
+  where
+    go : (x y : Option ℕ) → among a columns ≡ x → among b rows ≡ y → index_at columns x y ≡ Some i
+        → IsPlaceOf columns i a b
+    go None y ax bx none = cc
+    go (Some x) None ax bx none = cc
+    go (Some x) (Some y) ax bx here =
+        let same : y * columns + x ≡ i = same_Some (y * columns + x) i here in
+        let ax_is = among_is a columns x ax in
+        let bx_is = among_is b rows y bx in
+        record {
+          column = ax_is.0 ∙ ap pos (sym (mod-mul-add y columns x ax_is.1) ∙ ap (λ (n : ℕ). n % columns) same);
+          row = bx_is.0 ∙ ap pos (sym (div-mul-add y columns x ax_is.1) ∙ ap (λ (n : ℕ). n / columns) same);
+        }
+
+shown_part : (part : Rectangle) (size : Size) (v : View) (p : Point) (i : ℕ) → shown_index size v p ≡ Some i
+    → covers part (pixel size.w i) ≡ true → shows_place part v p ≡ true
+shown_part part size v p i is covered =
+    let at = index_is size.w size.h i (buffer_place p.x v.rect.x v.ox) (buffer_place p.y v.rect.y v.oy) is in
+    (λ k. spans part.x part.w (at.column k) && spans part.y part.h (at.row k)) ∙ covered
+
+part_inside : (seat : ℕ) (part : Rectangle) (s : State) (p : Point) (inside : Bool)
+    → ((i : ℕ) (v : View) → slice_get s.stack i ≡ Some v
+    → (is_session seat v && (covers v.rect p && shows_place part v p)) ≡ true → inside ≡ true)
+    → shows_part seat part s p ≡ true → inside ≡ true
+part_inside seat part s p inside holds shows = go (owner_of s p) refl shows
+  where
+    by_index : (v : View) → Stands (λ v. covers v.rect p) s.stack v → (o : Option ℕ)
+        → shown_index (buffer_size s.sessions v.sid) v p ≡ o
+        → is_word_in seat (session s seat).bw part (black_or_word v.sid o) ≡ true → inside ≡ true
+    by_index v at None is none = absurd (false≢true none)
+    by_index v at (Some i) is word =
+        let own = first_test (v.sid == seat) (covers part (pixel (session s seat).bw i)) word in
+        let covered = second_test (v.sid == seat) (covers part (pixel (session s seat).bw i)) word in
+        let same : v.sid ≡ seat = eqb-true v.sid seat own in
+        let there : shows_place part v p ≡ true = shown_part part (buffer_size s.sessions v.sid) v p i is
+        (ap (λ (t : ℕ). covers part (pixel (session s t).bw i)) same ∙ covered) in
+        holds at.place v at.there (λ k. own k && (at.passes k && there k))
+
+    go : (o : Option View) → owner_of s p ≡ o
+        → is_word_in seat (session s seat).bw part (source_under (buffer_size s.sessions) p o) ≡ true → inside ≡ true
+    go None is none = absurd (false≢true none)
+    go (Some v) is word = by_index v (owner_there s p v is) (shown_index (buffer_size s.sessions v.sid) v p) refl word
+
+-- ---- an accepted call
+
+either : (a b : Bool) → (a || b) ≡ true → (a ≡ true) ⊎ (b ≡ true)
+either true b is = inl refl
+either false b is = inr is
+
+module _ (s s' : State) (seat : ℕ) (a : Area) (x y : ℕ) (wide : x < s.config.width) (high : y < s.config.height)
+    (wide' : x < s'.config.width) (high' : y < s'.config.height) where
+  of_view : (v : ℕ) → HoldsTouched s seat (touch.View v) a → view_owns seat v s (point x y) ≡ true
+      → in_area a x y ≡ true
+  of_view v holds owned = owned_inside (is_view seat v) s (point x y) (in_area a x y)
+      (λ i u there own covered. holds.views i x y u there wide high (λ k. own k && covered k)) owned
+
+  of_view' : (v : ℕ) → HoldsTouched s' seat (touch.View v) a → view_owns seat v s' (point x y) ≡ true
+      → in_area a x y ≡ true
+  of_view' v holds owned = owned_inside (is_view seat v) s' (point x y) (in_area a x y)
+      (λ i u there own covered. holds.views i x y u there wide' high' (λ k. own k && covered k)) owned
+
+  on_view : (v : ℕ) → HoldsTouched s seat (touch.View v) a → HoldsTouched s' seat (touch.View v) a
+      → owns_either seat v s s' (point x y) ≡ true → in_area a x y ≡ true
+  on_view v holds holds' owned = elim (either (view_owns seat v s (point x y)) (view_owns seat v s' (point x y)) owned) [
+    | inl e ↦ of_view v holds e
+    | inr e ↦ of_view' v holds' e
+  ]
+
+  of_part : (px py : ℤ) (w h : ℕ) (b : Bool)
+      → HoldsTouched s' seat (cond b (touch.Part (rectangle px py w h)) touch.Screen) a
+      → shows_part seat (rectangle px py w h) s' (point x y) ≡ true → in_area a x y ≡ true
+  of_part px py w h true holds shows = part_inside seat (rectangle px py w h) s' (point x y) (in_area a x y)
+      (λ i u there is. holds.views i x y u there wide' high' is) shows
+  of_part px py w h false holds shows = holds.bare x y wide' high' refl
+
+  -- a pixel that an accepted call makes dirty in mode Flat
+  pub call_inside : (c : Call) → HoldsTouched s seat (touched_by c) a → HoldsTouched s' seat (touched_by c) a
+      → dirty_by_call seat c s s' (point x y) ≡ true → in_area a x y ≡ true
+  call_inside (call.Place v px py w h) holds holds' is = on_view v holds holds' is
+  call_inside (call.Offset v ox oy) holds holds' is = on_view v holds holds' is
+  call_inside (call.Front v) holds holds' is = on_view v holds holds' is
+  call_inside (call.Back v) holds holds' is = on_view v holds holds' is
+  call_inside (call.Above v n) holds holds' is = on_view v holds holds' is
+  call_inside (call.Destroy v) holds holds' is = on_view v holds holds' is
+  call_inside call.Close holds holds' is = owned_inside (is_session seat) s (point x y) (in_area a x y)
+      (λ i u there own covered. holds.views i x y u there wide high (λ k. own k && covered k)) is
+  call_inside (call.Buffer w h) holds holds' is = owned_inside (is_session seat) s' (point x y) (in_area a x y)
+      (λ i u there own covered. holds'.views i x y u there wide' high' (λ k. own k && covered k)) is
+  call_inside (call.Refresh px py w h) holds holds' is = of_part px py w h (is_rectangle px py w h) holds' is
+  call_inside call.View holds holds' is = absurd (false≢true is)
+  call_inside (call.Title v text) holds holds' is = absurd (false≢true is)
+  call_inside call.Take holds holds' is = absurd (false≢true is)
+  call_inside (call.Upgrade n) holds holds' is = absurd (false≢true is)
+
+-- more than what is touched
+pub touched_more : (s : State) (seat : ℕ) (t : Touch) (a b : Area) → HoldsTouched s seat t a
+    → ((x y : ℕ) → in_area a x y ≡ true → in_area b x y ≡ true) → HoldsTouched s seat t b
+touched_more s seat t a b holds more = record {
+  bare = λ x y wide high is. more x y (holds.bare x y wide high is);
+  views = λ i x y v there wide high is. more x y (holds.views i x y v there wide high is);
+}

@@ -1,0 +1,90 @@
+-- What of the frame a call of a seat's client can change.
+use Rattle.std.specs.Prelude.{ℕ, ℤ, Bool, true, false, ◌&&◌, ◌≡◌, ◌<◌, Option, Some, None}
+use Rattle.std.specs.Prelude.{slice_get, if◌then◌else◌}
+use Rattle.nit_host.specs.Below.{Call, Mode, Point, Rectangle, Reply, State, View, bar_rows, buffer_place}
+use Rattle.nit_host.specs.Below.{covers, in_bar, is_rectangle, is_session, is_view}
+use Rattle.nit_host.specs.Below.{point, rectangle, refusal, session, spans}
+use Rattle.nit_events.specs.declared.call.Call.TheVariants as call
+use Rattle.nit_events.specs.declared.device.Mode.TheVariants as mode
+use Rattle.nit_host.specs.Area.{in_area}
+use Rattle.nit_host.specs.declared.host.area.Area.{Area}
+use Rattle.nit_host.specs.declared.host.touch.Touch.{Touch}
+use Rattle.nit_host.specs.declared.host.touch.Touch.TheVariants as touch
+
+-- a part of a buffer, and the screen where there is no such part
+abbrev pub part_touched : ℤ → ℤ → ℕ → ℕ → Touch
+part_touched x y w h =
+    if is_rectangle x y w h then touch.Part (rectangle x y w h) else touch.Screen
+
+-- what an accepted call can change in mode Flat
+abbrev pub touched_by : Call → Touch
+touched_by (call.Place v x y w h) = touch.View v
+touched_by (call.Offset v ox oy) = touch.View v
+touched_by (call.Front v) = touch.View v
+touched_by (call.Back v) = touch.View v
+touched_by (call.Above v n) = touch.View v
+touched_by (call.Destroy v) = touch.View v
+touched_by (call.Buffer w h) = touch.Views
+touched_by call.Close = touch.Views
+touched_by (call.Refresh x y w h) = part_touched x y w h
+touched_by other = touch.Nothing
+
+-- what it can change in the modes that draw labels: a change of the views may move them
+abbrev pub touched_over : Call → Touch
+touched_over (call.Buffer w h) = touch.Views
+touched_over (call.Refresh x y w h) = part_touched x y w h
+touched_over call.Take = touch.Nothing
+touched_over (call.Upgrade n) = touch.Nothing
+touched_over other = touch.Screen
+
+-- what it can change in a mode
+abbrev pub touched_in : Mode → Call → Touch
+touched_in mode.Flat call = touched_by call
+touched_in other call = touched_over call
+
+-- a refused call changes nothing
+abbrev pub touched_unless : Option Reply → Mode → Call → Touch
+touched_unless None m call = touched_in m call
+touched_unless (Some why) m call = touch.Nothing
+
+-- what a call of a seat's client can change
+abbrev pub touch_of : State → ℕ → Call → Touch
+touch_of s seat call = touched_unless (refusal (session s seat) call) s.input.mode call
+
+-- the pixel of a view shows a place of this part of the buffer
+abbrev pub shows_place : Rectangle → View → Point → Bool
+shows_place part v p =
+    spans part.x part.w (buffer_place p.x v.rect.x v.ox)
+    && spans part.y part.h (buffer_place p.y v.rect.y v.oy)
+
+-- a view of the seat is touched at a pixel
+abbrev pub is_touched : Touch → ℕ → View → Point → Bool
+is_touched touch.Nothing seat v p = false
+is_touched (touch.View handle) seat v p = is_view seat handle v && covers v.rect p
+is_touched touch.Views seat v p = is_session seat v && covers v.rect p
+is_touched (touch.Part part) seat v p =
+    is_session seat v && (covers v.rect p && shows_place part v p)
+is_touched touch.Screen seat v p = true
+
+-- a pixel is touched where no view is
+abbrev pub is_touched_bare : Touch → State → Point → Bool
+is_touched_bare touch.Views s p = in_bar (bar_rows s.config) p
+is_touched_bare touch.Screen s p = true
+is_touched_bare other s p = false
+
+-- the area has all pixels of the screen that are touched as the views stand
+pub record HoldsTouched (s : State) (seat : ℕ) (t : Touch) (a : Area) : Type 0 where
+  pub bare : (x y : ℕ) → x < s.config.width → y < s.config.height
+      → is_touched_bare t s (point x y) ≡ true → in_area a x y ≡ true
+  pub views : (i x y : ℕ) (v : View) → slice_get s.stack i ≡ Some v → x < s.config.width
+      → y < s.config.height → is_touched t seat v (point x y) ≡ true → in_area a x y ≡ true
+
+-- the area has the status bar of a screen of this size; in other modes than Flat the whole screen
+abbrev pub HoldsBarIn : Mode → ℕ → ℕ → ℕ → Area → Type 0
+HoldsBarIn mode.Flat width height rows a =
+    (x y : ℕ) → x < width → y < height → in_bar rows (point x y) ≡ true → in_area a x y ≡ true
+HoldsBarIn other width height rows a =
+    (x y : ℕ) → x < width → y < height → in_area a x y ≡ true
+
+abbrev pub HoldsBar : State → Area → Type 0
+HoldsBar s a = HoldsBarIn s.input.mode s.config.width s.config.height (bar_rows s.config) a

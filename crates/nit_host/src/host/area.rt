@@ -1,0 +1,133 @@
+//! A part of the screen, as columns and rows.
+
+ghost use Rattle.std.specs.Prelude.{◌≡◌, ◌+◌, ◌-◌, ◌≤◌, ◌<◌, ℕ, pos, false, true};
+ghost use Rattle.nit_host.specs.Terms.{IsAreaOf, covers, in_area, most_height, most_width, point};
+ghost use Rattle.nit_host.specs.Terms.{rectangle_of};
+
+use crate::host::handing::clip;
+use nit_rect::Rect;
+
+/// The pixels of the columns from `left` to before `right`, in the rows from `top` to before
+/// `bottom`.
+#[derive(Clone, Copy)]
+pub(crate) struct Area {
+    pub left: u32,
+    pub top: u32,
+    pub right: u32,
+    pub bottom: u32,
+}
+
+impl Area {
+    /// No pixel.
+    pub(crate) fn none() -> Area
+        ensures area { (width height : ℕ) → IsAreaOf width height result }
+        ensures none { (x y : ℕ) → in_area result x y ≡ false }
+    {
+        Area::of_rows(0, 0)
+    }
+
+    /// The topmost rows of a screen of this width, so many of them.
+    pub(crate) fn of_rows(width: u32, rows: u32) -> Area
+        ensures area { (height : ℕ) → rows ≤ height → IsAreaOf width height result }
+        ensures all { (x y : ℕ) → x < width → y < rows → in_area result x y ≡ true }
+        ensures none { (x y : ℕ) → rows ≤ y → in_area result x y ≡ false }
+    {
+        Area {
+            left: 0,
+            top: 0,
+            right: width,
+            bottom: rows,
+        }
+    }
+
+    /// What the rectangle covers of a screen of this size.
+    pub(crate) fn of_rect(rect: &Rect, size: (u32, u32)) -> Area
+        ensures area { IsAreaOf size.0 size.1 result }
+        ensures covered { (x y : ℕ) → x < size.0 → y < size.1
+            → covers rect.now (point x y) ≡ true → in_area result x y ≡ true }
+    {
+        let (left, right) = clip(rect.x(), rect.w(), size.0);
+        let (top, bottom) = clip(rect.y(), rect.h(), size.1);
+        Area {
+            left,
+            top,
+            right,
+            bottom,
+        }
+    }
+
+    /// An area that has all pixels of both, the least one.
+    pub(crate) fn join(&self, other: &Area) -> Area
+        ensures area { (width height : ℕ) → IsAreaOf width height self.now
+            → IsAreaOf width height other.now → IsAreaOf width height result }
+        ensures own { (x y : ℕ) → in_area self.now x y ≡ true → in_area result x y ≡ true }
+        ensures others { (x y : ℕ) → in_area other.now x y ≡ true → in_area result x y ≡ true }
+    {
+        if self.is_empty() {
+            *other
+        } else if other.is_empty() {
+            *self
+        } else {
+            self.around(other)
+        }
+    }
+
+    /// The area that is bounded by the outermost edges of both.
+    fn around(&self, other: &Area) -> Area
+        ensures area { (width height : ℕ) → IsAreaOf width height self.now
+            → IsAreaOf width height other.now → IsAreaOf width height result }
+        ensures own { (x y : ℕ) → in_area self.now x y ≡ true → in_area result x y ≡ true }
+        ensures others { (x y : ℕ) → in_area other.now x y ≡ true → in_area result x y ≡ true }
+    {
+        Area {
+            left: self.left.min(other.left),
+            top: self.top.min(other.top),
+            right: self.right.max(other.right),
+            bottom: self.bottom.max(other.bottom),
+        }
+    }
+
+    /// An area that has all pixels that both have.
+    pub(crate) fn meet(&self, other: &Area) -> Area
+        ensures area { (width height : ℕ) → IsAreaOf width height self.now
+            → IsAreaOf width height other.now → IsAreaOf width height result }
+        ensures both { (x y : ℕ) → in_area self.now x y ≡ true → in_area other.now x y ≡ true
+            → in_area result x y ≡ true }
+    {
+        let left = self.left.max(other.left);
+        let top = self.top.max(other.top);
+        Area {
+            left,
+            top,
+            right: self.right.min(other.right).max(left),
+            bottom: self.bottom.min(other.bottom).max(top),
+        }
+    }
+
+    /// Whether it has no pixel.
+    fn is_empty(&self) -> bool
+        ensures { result ≡ true → (x y : ℕ) → in_area self.now x y ≡ false }
+    {
+        self.right <= self.left || self.bottom <= self.top
+    }
+
+    /// The same as a rectangle.
+    pub(crate) fn rect(&self) -> Rect
+        requires left { self.now.left ≤ self.now.right }
+        requires top { self.now.top ≤ self.now.bottom }
+        requires wide { self.now.right ≤ most_width }
+        requires high { self.now.bottom ≤ most_height }
+        ensures { result ≡ rectangle_of self.now }
+    {
+        let made = Rect::new(
+            self.left as i32,
+            self.top as i32,
+            self.right - self.left,
+            self.bottom - self.top,
+        );
+        match made {
+            Some(rect) => rect,
+            None => unreachable!(),
+        }
+    }
+}

@@ -1,0 +1,233 @@
+//! What of the frame a step can change.
+
+ghost use Rattle.std.specs.Prelude.{◌≡◌, ◌<◌, ◌≤◌, ℕ, Some, false, length, slice_get, true};
+ghost use Rattle.nit_host.specs.Terms.{HoldsBar, HoldsTouched, IsAreaOf, IsPlace, in_area};
+ghost use Rattle.nit_host.specs.Terms.{is_kill, is_touched, kills, part_touched, point, touch_of};
+ghost use Rattle.nit_host.specs.Terms.{View, covers, deliveries_of, option_map_or, shows_place};
+ghost use Rattle.nit_host.specs.Terms.{touched_by, touched_in, touched_over};
+
+use crate::host::area::Area;
+use crate::host::handing::clip;
+use crate::sheet::Sheet;
+use nit_desktop::Desktop;
+use nit_events::{Call, Delivery, Item, Mode, Routed};
+use nit_rect::Rect;
+use nit_stack::View;
+
+/// The rows of the status bar, where there is one.
+const BAR_ROWS: u32 = 7;
+
+/// What of the frame a call of a seat's client can change: pixels of its views, as they stand
+/// before it and after it.
+#[derive(Clone, Copy)]
+pub(crate) enum Touch {
+    Nothing,
+    /// Those of the view of this handle.
+    View(u32),
+    /// Those of all views, and the status bar.
+    Views,
+    /// Those that show this part of the buffer.
+    Part(Rect),
+    /// All pixels of the screen.
+    Screen,
+}
+
+/// What a call of a seat's client can change.
+pub(crate) fn touch_of(desktop: &Desktop<Sheet>, seat: u32, call: &Call) -> Touch
+    requires { seat < length desktop.now.state.sessions }
+    ensures { result ≡ touch_of desktop.now.state seat call.now }
+{
+    match desktop.refused(seat, call) {
+        Some(_refusal) => Touch::Nothing,
+        None => touched_in(desktop.mode(), call),
+    }
+}
+
+/// What an accepted call can change in this mode.
+fn touched_in(mode: Mode, call: &Call) -> Touch
+    ensures { result ≡ touched_in mode call.now }
+{
+    match mode {
+        Mode::Flat => touched_by(call),
+        Mode::Xray | Mode::Kill => touched_over(call),
+    }
+}
+
+/// What an accepted call can change in the modes that draw labels.
+fn touched_over(call: &Call) -> Touch
+    ensures { result ≡ touched_over call.now }
+{
+    match *call {
+        Call::Buffer(..) => Touch::Views,
+        Call::Refresh(x, y, w, h) => part_touched(x, y, w, h),
+        Call::Take | Call::Upgrade(_) => Touch::Nothing,
+        Call::View
+        | Call::Place(..)
+        | Call::Offset(..)
+        | Call::Front(_)
+        | Call::Back(_)
+        | Call::Above(..)
+        | Call::Title(..)
+        | Call::Destroy(_)
+        | Call::Close => Touch::Screen,
+    }
+}
+
+/// What an accepted call can change in mode Flat.
+fn touched_by(call: &Call) -> Touch
+    ensures { result ≡ touched_by call.now }
+{
+    match *call {
+        Call::Place(handle, ..)
+        | Call::Offset(handle, ..)
+        | Call::Front(handle)
+        | Call::Back(handle)
+        | Call::Above(handle, _)
+        | Call::Destroy(handle) => Touch::View(handle),
+        Call::Buffer(..) | Call::Close => Touch::Views,
+        Call::Refresh(x, y, w, h) => part_touched(x, y, w, h),
+        Call::View | Call::Title(..) | Call::Take | Call::Upgrade(_) => Touch::Nothing,
+    }
+}
+
+/// A part of a buffer.
+fn part_touched(x: i32, y: i32, w: u32, h: u32) -> Touch
+    ensures { result ≡ part_touched x y w h }
+{
+    match Rect::new(x, y, w, h) {
+        Some(part) => Touch::Part(part),
+        None => Touch::Screen,
+    }
+}
+
+/// An area with all pixels of the screen that are touched as the views stand.
+pub(crate) fn touched(desktop: &Desktop<Sheet>, seat: u32, touch: &Touch) -> Area
+    ensures area { IsAreaOf desktop.now.state.config.width desktop.now.state.config.height result }
+    ensures touched { HoldsTouched desktop.now.state seat touch.now result }
+{
+    let size = desktop.size();
+    match touch {
+        Touch::Nothing => Area::none(),
+        Touch::Screen => Area::of_rows(size.0, size.1),
+        Touch::Views => views_touched(desktop, seat, touch, &bar(size)),
+        Touch::View(_) | Touch::Part(_) => views_touched(desktop, seat, touch, &Area::none()),
+    }
+}
+
+/// An area with that of a screen and all pixels of the views that are touched.
+fn views_touched(desktop: &Desktop<Sheet>, seat: u32, touch: &Touch, bare: &Area) -> Area
+    requires { IsAreaOf desktop.now.state.config.width desktop.now.state.config.height bare.now }
+    ensures area { IsAreaOf desktop.now.state.config.width desktop.now.state.config.height result }
+    ensures bare { (x y : ℕ) → in_area bare.now x y ≡ true → in_area result x y ≡ true }
+    ensures views { (i x y : ℕ) (v : View) → slice_get desktop.now.state.stack i ≡ Some v
+        → x < desktop.now.state.config.width → y < desktop.now.state.config.height
+        → is_touched touch.now seat v (point x y) ≡ true → in_area result x y ≡ true }
+{
+    let size = desktop.size();
+    let mut area = *bare;
+    'views: for i in 0..desktop.views() {
+        let view = desktop.view(i);
+        area = area.join(&view_touched(touch, seat, &view, size));
+    }
+    area
+}
+
+/// An area with all pixels of the screen at which a view is touched.
+fn view_touched(touch: &Touch, seat: u32, view: &View, size: (u32, u32)) -> Area
+    requires { IsPlace view.now.ox × IsPlace view.now.oy }
+    ensures area { IsAreaOf size.0 size.1 result }
+    ensures touched { (x y : ℕ) → x < size.0 → y < size.1
+        → is_touched touch.now seat view.now (point x y) ≡ true → in_area result x y ≡ true }
+{
+    match touch {
+        Touch::Nothing => Area::none(),
+        Touch::View(handle) => where_named(view.sid == seat && view.handle == *handle, view, size),
+        Touch::Views => where_named(view.sid == seat, view, size),
+        Touch::Part(part) => part_shown(view.sid == seat, part, view, size),
+        Touch::Screen => Area::of_rows(size.0, size.1),
+    }
+}
+
+/// The pixels of a view, where it is meant.
+fn where_named(is_meant: bool, view: &View, size: (u32, u32)) -> Area
+    ensures area { IsAreaOf size.0 size.1 result }
+    ensures covered { (x y : ℕ) → x < size.0 → y < size.1 → is_meant ≡ true
+        → covers view.now.rect (point x y) ≡ true → in_area result x y ≡ true }
+{
+    if is_meant {
+        Area::of_rect(&view.rect, size)
+    } else {
+        Area::none()
+    }
+}
+
+/// The pixels of a view that show this part of its session's buffer, where the view is meant.
+fn part_shown(is_meant: bool, part: &Rect, view: &View, size: (u32, u32)) -> Area
+    requires { IsPlace view.now.ox × IsPlace view.now.oy }
+    ensures area { IsAreaOf size.0 size.1 result }
+    ensures shown { (x y : ℕ) → x < size.0 → y < size.1 → is_meant ≡ true
+        → covers view.now.rect (point x y) ≡ true
+        → shows_place part.now view.now (point x y) ≡ true → in_area result x y ≡ true }
+{
+    let column = view.rect.x() + view.ox + part.x();
+    let row = view.rect.y() + view.oy + part.y();
+    let (left, right) = clip(column, part.w(), size.0);
+    let (top, bottom) = clip(row, part.h(), size.1);
+    where_named(is_meant, view, size).meet(&Area {
+        left,
+        top,
+        right,
+        bottom,
+    })
+}
+
+/// The rows of the status bar.
+fn bar(size: (u32, u32)) -> Area
+    ensures area { IsAreaOf size.0 size.1 result }
+    ensures rows { (x y : ℕ) → x < size.0 → y < size.1 → y < 7 → in_area result x y ≡ true }
+{
+    Area::of_rows(size.0, BAR_ROWS.min(size.1))
+}
+
+/// An area with the status bar, and in the modes that draw over the whole screen with all of it.
+pub(crate) fn bar_or_screen(desktop: &Desktop<Sheet>) -> Area
+    ensures area { IsAreaOf desktop.now.state.config.width desktop.now.state.config.height result }
+    ensures bar { HoldsBar desktop.now.state result }
+{
+    let size = desktop.size();
+    match desktop.mode() {
+        Mode::Flat => bar(size),
+        Mode::Xray | Mode::Kill => Area::of_rows(size.0, size.1),
+    }
+}
+
+/// The same, and all of the screen where a client is locked out.
+pub(crate) fn told(desktop: &Desktop<Sheet>, routed: &Routed) -> Area
+    ensures area { IsAreaOf desktop.now.state.config.width desktop.now.state.config.height result }
+    ensures bar { HoldsBar desktop.now.state result }
+    ensures screen { kills (deliveries_of routed.now) ≡ true → (x y : ℕ)
+        → x < desktop.now.state.config.width → y < desktop.now.state.config.height
+        → in_area result x y ≡ true }
+{
+    if kills(&routed.a) || kills(&routed.b) || kills(&routed.c) {
+        let size = desktop.size();
+        Area::of_rows(size.0, size.1)
+    } else {
+        bar_or_screen(desktop)
+    }
+}
+
+/// Whether it locks a client out.
+fn kills(told: &Option<Delivery>) -> bool
+    ensures { result ≡ option_map_or (λ d. is_kill d.item) told.now false }
+{
+    match told {
+        Some(
+            Delivery {
+                sid: _,
+                item: Item::Kill,
+            },
+        ) => true,
+        _ => false,
+    }
+}
