@@ -18,7 +18,8 @@ abbrev pub PairSteps : Pair → Pair → Type 0
 PairSteps before after' =
     ((before.pass.next ≡ length before.pass.script → ⊥) → after'.pass.next ≡ before.pass.next + 1)
     × (before.pass.next ≡ length before.pass.script
-    → (after'.pass.next ≡ length after'.pass.script) × (after'.clip.next ≡ length after'.clip.script))
+    → (after'.pass.next ≡ length after'.pass.script)
+    × (after'.clip.next ≡ length after'.clip.script))
 
 -- the same of the user
 abbrev pub user_phase_left : UserPassModel → Option ℕ
