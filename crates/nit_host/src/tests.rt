@@ -23,14 +23,22 @@ const SHOWN: [u32; 24] = [
 fn a_look_brings_words_up_to_date(rt: HostRuntime) {
     let mut host = opened(&rt, rt.alloc());
     let mut out = [7; 24];
-    let all = host.look(&mut out);
+    let all = look(&rt, &mut host, &mut out);
     assert!(rt; all == Rect::new(0, 0, 6, 4));
     client(&rt, &mut host);
-    let part = host.look(&mut out);
+    let part = look(&rt, &mut host, &mut out);
     assert!(rt; part == Rect::new(1, 1, 2, 2));
     assert!(rt; out == SHOWN);
-    let none = host.look(&mut out);
+    let none = look(&rt, &mut host, &mut out);
     assert!(rt; none.is_none());
+}
+
+/// A look at a screen of this size.
+fn look(rt: &impl Abort, host: &mut Host, out: &mut [u32; 24]) -> Option<Rect> {
+    let (width, height) = host.size();
+    assert!(rt; width == 6);
+    assert!(rt; height == 4);
+    host.look(out)
 }
 
 /// A host with one free seat.
