@@ -1,5 +1,8 @@
 //! Pictures of four columns and three rows. The rectangles were found by hand.
 
+ghost use Rattle.nit_look.specs.Below.{rectangle};
+ghost use Rattle.nit_look.specs.Terms.{LiesOn};
+
 use crate::look;
 use nit_rect::Rect;
 use std::process::Abort;
@@ -47,12 +50,18 @@ fn a_part_alone_is_looked_at(rt: HostRuntime) {
     expect(&rt, &CORNERS, &part(&rt, 1, 0, 2, 3), &BEFORE, None);
 }
 
-fn part(rt: &impl Abort, x: i32, y: i32, w: u32, h: u32) -> Rect {
+/// A part of a picture.
+fn part(rt: &impl Abort, x: i32, y: i32, w: u32, h: u32) -> Rect
+    requires { LiesOn 4 3 (rectangle x y w h) }
+    ensures { LiesOn 4 3 result }
+{
     Rect::new(x, y, w, h).expect(rt, "numbers in range")
 }
 
 /// Looks twice at the part of a picture. The second time nothing differs.
-fn expect(rt: &impl Abort, now: &[u32; 12], part: &Rect, left: &[u32; 12], want: Option<Rect>) {
+fn expect(rt: &impl Abort, now: &[u32; 12], part: &Rect, left: &[u32; 12], want: Option<Rect>)
+    requires { LiesOn 4 3 part.now }
+{
     let mut out = BEFORE;
     let found = look(now, 4, 3, part, &mut out);
     assert!(rt; found == want);
