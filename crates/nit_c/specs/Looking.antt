@@ -5,7 +5,7 @@ use Rattle.nit_look.specs.Look.{AgreeIn, CoversChange, IsTouched, LiesOn}
 use Rattle.nit_rect.specs.Rectangle.{Rectangle, rectangle}
 use Rattle.nit_screen.specs.FrameLabels.{ShowsLabels}
 use Rattle.nit_screen.specs.StateScenery.{scenery_of}
-use Rattle.nit_host.specs.Host.{HostModel, IsAsSeen, frame_of, last_text, looked}
+use Rattle.nit_host.specs.Host.{HostModel, IsAsSeen, frame_shown, last_text, looked}
 use Rattle.nit_c.specs.Steps.{Steps}
 use Rattle.nit_c.specs.declared.looking.NitRect.{NitRect}
 
@@ -37,8 +37,8 @@ pub record ShowsFrame (h : HostModel) (before now : List ℕ) (answer : NitRect)
   pub changed : Option Rectangle
   pub look : IsLook h.state.config.width h.state.config.height now before changed
   pub told : IsRect changed answer
-  pub inside : IfSome changed (AgreeIn h.state.config.width now (frame_of h))
-  pub shown : IsAsSeen h before → now ≡ frame_of h
+  pub inside : IfSome changed (AgreeIn h.state.config.width now (frame_shown h))
+  pub shown : IsAsSeen h before → now ≡ frame_shown h
   pub labels : IsAsSeen h before → ShowsLabels (scenery_of h.state) now
 
 -- a look: where there are as many words as the screen has pixels the host has been looked at, and

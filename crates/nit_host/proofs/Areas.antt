@@ -5,7 +5,7 @@ use Rattle.std.proofs.lemmas.Bool.Decides.{nat_tests}
 use Rattle.std.proofs.lemmas.Int.{ints}
 use Rattle.nit_host.specs.Below.{Rectangle, View, buffer_place, is_between, point, spans}
 use Rattle.nit_host.specs.Touch.{is_touched, shows_place}
-use Rattle.nit_host.specs.Area.{in_area}
+use Rattle.nit_host.specs.Area.{has_place}
 use Rattle.nit_host.specs.declared.host.area.Area.{Area}
 use Rattle.nit_host.specs.declared.host.touch.Touch.{Touch}
 use Rattle.std.proofs.Common.{List, Some, slice_get, subst}
@@ -44,8 +44,8 @@ shown_there part v x y w h left right top bottom column row column_is row_is w_i
 pub same_view : (stack : List View) (i k : ℕ) (v w : View) (t : Touch) (seat : ℕ) (size : ℕ × ℕ) (width height : ℕ)
     (a : Area) (x y : ℕ) → i ≡ k → slice_get stack i ≡ Some v → slice_get stack k ≡ Some w
     → ◌≡◌ {A = ℕ × ℕ} size (width, height)
-    → ((x y : ℕ) → x < size.0 → y < size.1 → is_touched t seat w (point x y) ≡ true → in_area a x y ≡ true)
-    → x < width → y < height → is_touched t seat v (point x y) ≡ true → in_area a x y ≡ true
+    → ((x y : ℕ) → x < size.0 → y < size.1 → is_touched t seat w (point x y) ≡ true → has_place a x y ≡ true)
+    → x < width → y < height → is_touched t seat v (point x y) ≡ true → has_place a x y ≡ true
 same_view stack i k v w t seat size width height a x y at there read sized holds wide high is =
     let same : v ≡ w = same_Some v w (sym there ∙ ap (slice_get stack) at ∙ read) in
     holds x y (subst (λ (s : ℕ × ℕ). x < s.0) (sym sized) wide) (subst (λ (s : ℕ × ℕ). y < s.1) (sym sized) high)

@@ -169,7 +169,8 @@ begun s config d sheets hollows configured bare is raw glasses are hollow =
 
 pub first_now : (s : State) (config : Configuration) (d : DesktopModel SheetModel) (sheets : List SheetModel)
     → d.state ≡ s → d.left ≡ 4611686018427387904 → d.glasses ≡ sheets → AreHollow config sheets
-    → record { state = d.state; sheets = sheets_of d.glasses; left = d.left; last = None; seen = None } ≡ first_host s config
+    → record { state = d.state; sheets = sheets_of d.glasses; left = d.left; last = None; seen = None }
+    ≡ first_host s config
 first_now s config d sheets is left glasses blank =
     λ i. record {
       state = is i;

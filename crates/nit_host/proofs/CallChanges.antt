@@ -17,7 +17,7 @@ use Rattle.nit_host.specs.Below.{in_bar, is_accepted, pixel, pixel_count, refusa
 use Rattle.nit_host.specs.Below.{scenery_of, serve, session, source_at, word_from}
 use Rattle.nit_journal.proofs.ForCallers.{refused_reply, serve_refused}
 use Rattle.nit_journal.specs.Session.{Answered}
-use Rattle.nit_host.specs.Area.{StaysOutside, in_area, is_inside}
+use Rattle.nit_host.specs.Area.{StaysOutside, has_place, is_inside}
 use Rattle.nit_host.specs.Host.{frame_by, sheet_in}
 use Rattle.nit_host.specs.Looked.{IsSeenBut}
 use Rattle.nit_host.specs.Touch.{HoldsTouched, touch_of, touched_by, touched_in}
@@ -154,7 +154,12 @@ module _ (s : State) (seat : ℕ) (r : Reply) (sheets sheets' : List (List ℕ))
       frame_pixel s sheets k less
       ∙ ap (shown (scenery_of s) (pixel s.config.width k))
       (clean_stays c replied words k (clean_outside c holds holds' k less off))
-      ∙ (λ i. shown (record (scenery_of s) { stack = sym views i; mode = (sym input i).mode; focus = (sym input i).focus })
+      ∙ (λ i. shown (record (scenery_of s) {
+        stack = sym views i;
+        mode = (sym input i).mode;
+        focus =
+            (sym input i).focus;
+      })
       (pixel s.config.width k) (word_from (sheet_in sheets') (source_at (after s (entry.Call seat c r)) k)))
       ∙ sym (frame_pixel (after s (entry.Call seat c r)) sheets' k less)
 
@@ -179,7 +184,8 @@ module _ (s : State) (seat : ℕ) (r : Reply) (sheets sheets' : List (List ℕ))
   over_stays (call.Destroy v) replied words holds holds' = by_whole (call.Destroy v) holds
   over_stays call.Close replied words holds holds' = by_whole call.Close holds
 
-  accepted_stays : (c : Call) (m : Mode) → s.input.mode ≡ m → r ≡ (serve (session s seat) c).reply → Words s seat r sheets sheets' c
+  accepted_stays : (c : Call) (m : Mode) → s.input.mode ≡ m → r ≡ (serve (session s seat) c).reply
+      → Words s seat r sheets sheets' c
       → HoldsTouched s seat (touched_in m c) a → HoldsTouched (after s (entry.Call seat c r)) seat (touched_in m c) a
       → StaysOutside s.config.width (pixel_count s) a (frame_by s sheets)
       (frame_by (after s (entry.Call seat c r)) sheets')
@@ -212,10 +218,10 @@ pub seen_called : (s s' : State) (seat : ℕ) (c : Call) (r : Reply) (sheets she
     → s' ≡ after s (entry.Call seat c r) → r ≡ (serve (session s seat) c).reply
     → Words s seat r sheets sheets' c
     → t ≡ touch_of s seat c → HoldsTouched s seat t before → HoldsTouched s' seat t now
-    → ((x y : ℕ) → in_area a0 x y ≡ true → in_area a1 x y ≡ true)
-    → ((x y : ℕ) → in_area before x y ≡ true → in_area a1 x y ≡ true)
-    → ((x y : ℕ) → in_area a1 x y ≡ true → in_area a2 x y ≡ true)
-    → ((x y : ℕ) → in_area now x y ≡ true → in_area a2 x y ≡ true) → IsSeenBut s sheets a0 seen
+    → ((x y : ℕ) → has_place a0 x y ≡ true → has_place a1 x y ≡ true)
+    → ((x y : ℕ) → has_place before x y ≡ true → has_place a1 x y ≡ true)
+    → ((x y : ℕ) → has_place a1 x y ≡ true → has_place a2 x y ≡ true)
+    → ((x y : ℕ) → has_place now x y ≡ true → has_place a2 x y ≡ true) → IsSeenBut s sheets a0 seen
     → IsSeenBut s' sheets' a2 seen
 seen_called s s' seat c r sheets sheets' t a0 before now a1 a2 seen inside keep is replied words touch_is holds holds'
     own others own' others' known =

@@ -15,8 +15,8 @@ use Rattle.nit_word.proofs.ForCallers.{column_and_row}
 use Rattle.nit_host.specs.Below.{State, View, bar_rows}
 use Rattle.nit_host.specs.Below.{in_bar, pixel, pixel_count}
 use Rattle.nit_host.specs.Below.{scenery_of, source_at, word_from}
-use Rattle.nit_host.specs.Area.{StaysOutside, in_area, is_inside}
-use Rattle.nit_host.specs.Host.{frame_by, picture_by, sheet_in}
+use Rattle.nit_host.specs.Area.{StaysOutside, has_place, is_inside}
+use Rattle.nit_host.specs.Host.{frame_by, picture_from, sheet_in}
 use Rattle.nit_host.specs.Looked.{IsSeenBut}
 use Rattle.nit_host.specs.declared.host.area.Area.{Area}
 
@@ -26,7 +26,7 @@ pub frame_pixel : (s : State) (sheets : List (List ℕ)) (k : ℕ) → k < pixel
     → slice_index (frame_by s sheets) k
     ≡ shown (scenery_of s) (pixel s.config.width k) (word_from (sheet_in sheets) (source_at s k))
 frame_pixel s sheets k less =
-    get_or-frame (scenery_of s) (picture_by s sheets) k less
+    get_or-frame (scenery_of s) (picture_from s sheets) k less
     ∙ ap (shown (scenery_of s) (pixel s.config.width k))
     (get_or-map-range_with_len (λ n. word_from (sheet_in sheets) (source_at s n)) 0 (pixel_count s) k k 0 less
     (omega arith))
@@ -60,7 +60,7 @@ bar_pixel s sheets k less inside =
 
 -- where the area is the whole screen
 pub whole_stays : (width height : ℕ) (a : Area) (before now : List ℕ)
-    → ((x y : ℕ) → x < width → y < height → in_area a x y ≡ true)
+    → ((x y : ℕ) → x < width → y < height → has_place a x y ≡ true)
     → StaysOutside width (width * height) a before now
 whole_stays width height a before now whole k less off =
     let at = column_and_row width height k less in
@@ -93,20 +93,20 @@ module _ (s s' : State) (sheets sheets' : List (List ℕ)) (a : Area) (width : s
 
   -- what was seen is still the frame, but for an area with what changed
   pub seen_after : (a0 : Area) (seen : Option (List ℕ)) → IsSeenBut s sheets a0 seen
-      → ((x y : ℕ) → in_area a0 x y ≡ true → in_area a x y ≡ true)
+      → ((x y : ℕ) → has_place a0 x y ≡ true → has_place a x y ≡ true)
       → StaysOutside s.config.width (pixel_count s) a (frame_by s sheets) (frame_by s' sheets')
       → IsSeenBut s' sheets' a seen
   seen_after a0 None all more stays = λ k less.
       more (k % s'.config.width) (k / s'.config.width)
-      (subst (λ (n : ℕ). in_area a0 (k % n) (k / n) ≡ true) (sym width)
+      (subst (λ (n : ℕ). has_place a0 (k % n) (k / n) ≡ true) (sym width)
       (all k (subst (λ (n : ℕ). k < n) (λ i. width i * height i) less)))
   seen_after a0 (Some seen) all more stays = (
     all.0 ∙ sym (λ i. width i * height i),
     λ k less off.
         let less_ : k < pixel_count s = subst (λ (n : ℕ). k < n) (λ i. width i * height i) less in
         let off_ : is_inside s.config.width a k ≡ false = ap (λ (n : ℕ). is_inside n a k) (sym width) ∙ off in
-        all.1 k less_ (outside (in_area a0 (k % s.config.width) (k / s.config.width))
-        (in_area a (k % s.config.width) (k / s.config.width)) (more (k % s.config.width) (k / s.config.width)) off_)
+        all.1 k less_ (outside (has_place a0 (k % s.config.width) (k / s.config.width))
+        (has_place a (k % s.config.width) (k / s.config.width)) (more (k % s.config.width) (k / s.config.width)) off_)
         ∙ stays k less_ off_,
   )
     where

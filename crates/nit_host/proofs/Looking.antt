@@ -10,8 +10,8 @@ use Rattle.nit_overlay.proofs.ForCallers.{length-frame}
 use Rattle.nit_word.proofs.ForCallers.{column_and_row}
 use Rattle.nit_host.specs.Below.{Configuration, State, covers, is_between, pixel_count, scenery_of}
 use Rattle.nit_host.specs.Below.{spans}
-use Rattle.nit_host.specs.Area.{IsAreaOf, in_area, is_inside, rectangle_of}
-use Rattle.nit_host.specs.Host.{IsOneOf, frame_by, picture_by}
+use Rattle.nit_host.specs.Area.{IsAreaOf, has_place, is_inside, rectangle_over}
+use Rattle.nit_host.specs.Host.{IsOneOf, frame_by, picture_from}
 use Rattle.nit_host.specs.Looked.{IsSeenBut}
 use Rattle.nit_host.specs.declared.host.area.Area.{Area}
 
@@ -22,11 +22,11 @@ spans_between from to n order =
     ap (λ (m : ℕ). is_between from m n) same
 
 pub covers_inside : (width height k : ℕ) (a : Area) → IsAreaOf width height a
-    → covers (rectangle_of a) (place_at width k) ≡ is_inside width a k
+    → covers (rectangle_over a) (place_at width k) ≡ is_inside width a k
 covers_inside width height k a on =
     λ i. spans_between a.left a.right (k % width) on.across i && spans_between a.top a.bottom (k / width) on.down i
 
-pub lies_on : (width height : ℕ) (a : Area) → IsAreaOf width height a → LiesOn width height (rectangle_of a)
+pub lies_on : (width height : ℕ) (a : Area) → IsAreaOf width height a → LiesOn width height (rectangle_over a)
 lies_on width height a on =
     let across = on.across in
     let down = on.down in
@@ -42,13 +42,13 @@ lies_on width height a on =
 -- words that are as the last look left them are the frame but for the area
 pub agree_outside : (s : State) (sheets : List (List ℕ)) (a : Area) (seen : Option (List ℕ)) (out : List ℕ)
     → IsAreaOf s.config.width s.config.height a → IsSeenBut s sheets a seen → IsOneOf seen out
-    → length out ≡ pixel_count s → AgreeOutside s.config.width out (frame_by s sheets) (rectangle_of a)
+    → length out ≡ pixel_count s → AgreeOutside s.config.width out (frame_by s sheets) (rectangle_over a)
 agree_outside s sheets a seen out on known one long k off =
     elim (cases_lt k (pixel_count s)) [
       | inl less ↦ go seen known one less
       | inr past ↦ get_or_past out k 0 (omega (arith, past, long))
           ∙ sym (get_or_past (frame_by s sheets) k 0
-          (omega (arith, past, length-frame (scenery_of s) (picture_by s sheets))))
+          (omega (arith, past, length-frame (scenery_of s) (picture_from s sheets))))
     ]
   where
     off_ : is_inside s.config.width a k ≡ false
@@ -62,14 +62,14 @@ agree_outside s sheets a seen out on known one long k off =
 -- nothing has changed since the look
 pub seen_now : (s : State) (sheets : List (List ℕ)) (a : Area) → IsSeenBut s sheets a (Some (frame_by s sheets))
 seen_now s sheets a = (
-  length-frame (scenery_of s) (picture_by s sheets),
+  length-frame (scenery_of s) (picture_from s sheets),
   λ k less off. λ i. slice_index
       (frame_by s sheets) k,
 )
 
 -- before the first look
 pub nothing_seen : (s : State) (config : Configuration) (sheets : List (List ℕ)) (a : Area) → s.config ≡ config
-    → ((x y : ℕ) → x < config.width → y < config.height → in_area a x y ≡ true) → IsSeenBut s sheets a None
+    → ((x y : ℕ) → x < config.width → y < config.height → has_place a x y ≡ true) → IsSeenBut s sheets a None
 nothing_seen s config sheets a is all k less =
     let at = column_and_row s.config.width s.config.height k less in
     all (k % s.config.width) (k / s.config.width)

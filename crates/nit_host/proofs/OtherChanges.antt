@@ -15,7 +15,7 @@ use Rattle.nit_host.specs.Below.{Delivery, Device, Routed, deliveries_of, is_kil
 use Rattle.nit_host.specs.Below.{opened, route, routed_as}
 use Rattle.nit_host.specs.Below.{pixel, pixel_count}
 use Rattle.nit_host.specs.Below.{source_at, word_from}
-use Rattle.nit_host.specs.Area.{StaysOutside, in_area}
+use Rattle.nit_host.specs.Area.{StaysOutside, has_place}
 use Rattle.nit_host.specs.Host.{frame_by, sheet_in}
 use Rattle.nit_host.specs.Looked.{IsSeenBut}
 use Rattle.nit_host.specs.Touch.{HoldsBar, HoldsBarIn}
@@ -30,11 +30,11 @@ module _ (s s' : State) (sheets sheets' : List (List ℕ)) (a : Area) (width : s
     (words : (k : ℕ) → k < pixel_count s → word_from (sheet_in sheets) (source_at s k)
     ≡ word_from (sheet_in sheets') (source_at s' k)) where
   -- the mode was another one
-  by_screen : ((x y : ℕ) → x < s.config.width → y < s.config.height → in_area a x y ≡ true)
+  by_screen : ((x y : ℕ) → x < s.config.width → y < s.config.height → has_place a x y ≡ true)
       → StaysOutside s.config.width (pixel_count s) a (frame_by s sheets) (frame_by s' sheets')
   by_screen whole = whole_stays s.config.width s.config.height a (frame_by s sheets) (frame_by s' sheets') whole
 
-  by_screen' : ((x y : ℕ) → x < s'.config.width → y < s'.config.height → in_area a x y ≡ true)
+  by_screen' : ((x y : ℕ) → x < s'.config.width → y < s'.config.height → has_place a x y ≡ true)
       → StaysOutside s.config.width (pixel_count s) a (frame_by s sheets) (frame_by s' sheets')
   by_screen' whole = by_screen (λ x y wide high. whole x y (subst (λ (n : ℕ). x < n) (sym width) wide)
       (subst (λ (n : ℕ). y < n) (sym height) high))
@@ -59,12 +59,12 @@ module _ (s s' : State) (sheets sheets' : List (List ℕ)) (a : Area) (width : s
   bar_changes holds holds' = by_modes s.input.mode s'.input.mode refl refl holds holds'
 
 bar_in_more : (m : Mode) (width height rows : ℕ) (a b : Area) → HoldsBarIn m width height rows a
-    → ((x y : ℕ) → in_area a x y ≡ true → in_area b x y ≡ true) → HoldsBarIn m width height rows b
+    → ((x y : ℕ) → has_place a x y ≡ true → has_place b x y ≡ true) → HoldsBarIn m width height rows b
 bar_in_more mode.Flat width height rows a b holds more = λ x y wide high in_. more x y (holds x y wide high in_)
 bar_in_more mode.Xray width height rows a b holds more = λ x y wide high. more x y (holds x y wide high)
 bar_in_more mode.Kill width height rows a b holds more = λ x y wide high. more x y (holds x y wide high)
 
-pub bar_more : (s : State) (a b : Area) → HoldsBar s a → ((x y : ℕ) → in_area a x y ≡ true → in_area b x y ≡ true)
+pub bar_more : (s : State) (a b : Area) → HoldsBar s a → ((x y : ℕ) → has_place a x y ≡ true → has_place b x y ≡ true)
     → HoldsBar s b
 bar_more s a b holds more =
     bar_in_more s.input.mode s.config.width s.config.height (bar_rows s.config) a b holds more
@@ -87,11 +87,11 @@ pub seen_told : (s s' : State) (dev : Device) (routed : Routed) (sheets sheets' 
     → routed ≡ routed_as (route s.config s.input s.stack dev).deliveries → KeepSources
     → s' ≡ after s (entry.Input dev routed) → sheets' ≡ sheets → HoldsBar s before → HoldsBar s' now
     → (kills (deliveries_of routed) ≡ true → (x y : ℕ) → x < s'.config.width → y < s'.config.height
-    → in_area now x y ≡ true)
-    → ((x y : ℕ) → in_area a0 x y ≡ true → in_area a1 x y ≡ true)
-    → ((x y : ℕ) → in_area before x y ≡ true → in_area a1 x y ≡ true)
-    → ((x y : ℕ) → in_area a1 x y ≡ true → in_area a2 x y ≡ true)
-    → ((x y : ℕ) → in_area now x y ≡ true → in_area a2 x y ≡ true) → IsSeenBut s sheets a0 seen
+    → has_place now x y ≡ true)
+    → ((x y : ℕ) → has_place a0 x y ≡ true → has_place a1 x y ≡ true)
+    → ((x y : ℕ) → has_place before x y ≡ true → has_place a1 x y ≡ true)
+    → ((x y : ℕ) → has_place a1 x y ≡ true → has_place a2 x y ≡ true)
+    → ((x y : ℕ) → has_place now x y ≡ true → has_place a2 x y ≡ true) → IsSeenBut s sheets a0 seen
     → IsSeenBut s' sheets' a2 seen
 seen_told s s' dev routed sheets sheets' a0 before now a1 a2 seen agrees keep is same holds holds' killed own others
     own' others' known =
@@ -109,13 +109,15 @@ seen_told s s' dev routed sheets sheets' a0 before now a1 a2 seen agrees keep is
     words none k less =
         ap (word_from (sheet_in sheets)) (sym (keep s 0 (entry.Input dev routed) (pixel s.config.width k) agrees
         (none_killed s (pixel s.config.width k) (deliveries_of routed) none)))
-        ∙ ap (λ (ss : List (List ℕ)). word_from (sheet_in ss) (source_at (after s (entry.Input dev routed)) k)) (sym same)
+        ∙ ap (λ (ss : List (List ℕ)). word_from (sheet_in ss) (source_at (after s (entry.Input dev routed)) k))
+        (sym same)
 
     go : (b : Bool) → kills (deliveries_of routed) ≡ b
         → StaysOutside s.config.width (pixel_count s) a2 (frame_by s sheets)
         (frame_by (after s (entry.Input dev routed)) sheets')
     go true there =
-        let all = subst (λ (x : State). (u v : ℕ) → u < x.config.width → v < x.config.height → in_area now u v ≡ true) is
+        let all = subst (λ (x : State). (u v : ℕ) → u < x.config.width → v < x.config.height → has_place now u v ≡ true)
+        is
         (killed there) in
         whole_stays s.config.width s.config.height a2 (frame_by s sheets)
         (frame_by (after s (entry.Input dev routed)) sheets') (λ x y wide high. others' x y (all x y wide high))
@@ -130,8 +132,8 @@ pub seen_seated : (s s' : State) (seat : ℕ) (label : List ℕ) (sheets sheets'
     → ((k : ℕ) → k < pixel_count s → word_from (sheet_in sheets) (source_at s k)
     ≡ word_from (sheet_in sheets') (source_at (opened seat label s) k))
     → HoldsBar s part
-    → ((x y : ℕ) → in_area a0 x y ≡ true → in_area a1 x y ≡ true)
-    → ((x y : ℕ) → in_area part x y ≡ true → in_area a1 x y ≡ true) → IsSeenBut s sheets a0 seen
+    → ((x y : ℕ) → has_place a0 x y ≡ true → has_place a1 x y ≡ true)
+    → ((x y : ℕ) → has_place part x y ≡ true → has_place a1 x y ≡ true) → IsSeenBut s sheets a0 seen
     → IsSeenBut s' sheets' a1 seen
 seen_seated s s' seat label sheets sheets' a0 part a1 seen is words holds own others known =
     let all = bar_more s part a1 holds others in

@@ -122,7 +122,8 @@ handed_plain config seat columns rows part words own own' plain is = (
     as_many (Some r) = set_long (is_handed columns rows r) (low_bytes words) (told_words own.sight.words)
 
 module _ (d d1 d2 : DesktopModel SheetModel) (hollows : List SheetModel) (seat : ℕ) (x y : ℤ) (w h : ℕ) (words : List ℕ)
-    (found : Option Rectangle) (r : Reply) (hollow own own' last : SheetModel) (kept : Option Entry) (seen : Option (List ℕ))
+    (found : Option Rectangle) (r : Reply) (hollow own own' last : SheetModel) (kept : Option Entry)
+    (seen : Option (List ℕ))
     (host : IsHost d hollows) (inside : seat < length d.state.sessions) (long : length d.state.sessions
     ≡ length d.state.config.clients) (swapped : d1 ≡ with_sheet d seat hollow) (there : sheet_at hollows seat
     ≡ hollow)
@@ -165,7 +166,14 @@ module _ (d d1 d2 : DesktopModel SheetModel) (hollows : List SheetModel) (seat :
       (put_there d.glasses seat own' (subst (λ (n : ℕ). seat < n) (sym host.sheets.count) client))
 
   -- a refused one
-  refused : (h0 : HostModel) → record { state = d.state; sheets = sheets_of d.glasses; left = d.left; last = kept; seen = seen } ≡ h0
+  refused : (h0 : HostModel) → record {
+    state = d.state;
+    sheets = sheets_of d.glasses;
+    left = d.left;
+    last =
+        kept;
+    seen = seen;
+  } ≡ h0
       → (why : Reply) → refusal (session d.state seat) (call.Refresh x y w h) ≡ Some why
       → WasCalled seat (call.Refresh x y w h) r h0 d2 (set hollows seat last)
   refused h0 view why is =
@@ -175,7 +183,8 @@ module _ (d d1 d2 : DesktopModel SheetModel) (hollows : List SheetModel) (seat :
       let sheets : sheets_of (set d.glasses seat own') ≡ sheets_of d.glasses =
       words_with d.state.config d.glasses seat own'
       ∙ same_words (sheets_of d.glasses) seat (told_words own'.sight.words) same in
-      let done = called_now d d1 d2 hollows seat (call.Refresh x y w h) r hollow own own' last kept seen host inside swapped
+      let done = called_now d d1 d2 hollows seat (call.Refresh x y w h) r hollow own own' last kept seen host inside
+      swapped
       there out served plain enough keep
       (λ k clean. ap (λ (ss : List (List ℕ)). word_from (sheet_in ss)
       (source_at (after d.state (entry.Call seat (call.Refresh x y w h) r)) k)) (sym sheets)) in
@@ -216,7 +225,14 @@ module _ (d d1 d2 : DesktopModel SheetModel) (hollows : List SheetModel) (seat :
       (source_at (after d.state (entry.Call seat (call.Refresh x y w h) r)) k)) (sym (columns_stay none))
       ∙ second_off (is_accepted r) _ yes_ clean
 
-  accepted_ : (h0 : HostModel) → record { state = d.state; sheets = sheets_of d.glasses; left = d.left; last = kept; seen = seen }
+  accepted_ : (h0 : HostModel) → record {
+    state = d.state;
+    sheets = sheets_of d.glasses;
+    left = d.left;
+    last =
+        kept;
+    seen = seen;
+  }
       ≡ h0 → refusal (session d.state seat) (call.Refresh x y w h) ≡ None
       → WasCalled seat (call.Refresh x y w h) r (with_handed seat (rectangle x y w h) words h0) d2
       (set hollows seat last)
@@ -225,14 +241,22 @@ module _ (d d1 d2 : DesktopModel SheetModel) (hollows : List SheetModel) (seat :
       (sheet_in (sheets_of d.glasses) seat) =
       new_words ∙ ap (λ (o : Option Rectangle). after_handing (session d.state seat).bw (session d.state seat).bh o
       words (sheet_in (sheets_of d.glasses) seat)) (accepts none) in
-      let done = called_now d d1 d2 hollows seat (call.Refresh x y w h) r hollow own own' last kept seen host inside swapped
+      let done = called_now d d1 d2 hollows seat (call.Refresh x y w h) r hollow own own' last kept seen host inside
+      swapped
       there out served plain enough keep
       (λ k clean. clean_word seat (session d.state seat).bw (session d.state seat).bh (rectangle x y w h)
       (low_bytes words) (sheet_in (sheets_of d.glasses)) (sheet_in (sheets_of (set d.glasses seat own')))
       (source_at (after d.state (entry.Call seat (call.Refresh x y w h) r)) k) others (own_now ∙ part)
       (off_now none k clean)) in
       subst (λ (m : HostModel). WasCalled seat (call.Refresh x y w h) r m d2 (set hollows seat last))
-      ((λ i. record { state = d.state; sheets = set (sheets_of d.glasses) seat (part i); left = d.left; last = kept; seen = seen })
+      ((λ i. record {
+        state = d.state;
+        sheets = set (sheets_of d.glasses) seat (part i);
+        left = d.left;
+        last =
+            kept;
+        seen = seen;
+      })
       ∙ ap (with_handed seat (rectangle x y w h) words) view) done
 
   -- what pixels show that the refresh does not make dirty stands where it stood

@@ -237,7 +237,8 @@ module _ (d d1 d2 : DesktopModel SheetModel) (hollows : List SheetModel) (seat :
           → record { state = d.state; sheets = sheets_of d.glasses; left = d.left; last = kept; seen = seen } ≡ h
           → WasSeated seat label h d2 (set hollows seat back)
       seated_now h view =
-          let config_now : d2.state.config ≡ relabelled seat label d.state.config = ap (λ (s : State). s.config) o0.state in
+          let config_now : d2.state.config ≡ relabelled seat label d.state.config =
+          ap (λ (s : State). s.config) o0.state in
           subst (λ (x : HostModel). WasSeated seat label x d2 (set hollows seat back)) view
           (record {
             host = record {
@@ -248,7 +249,8 @@ module _ (d d1 d2 : DesktopModel SheetModel) (hollows : List SheetModel) (seat :
                   (hollow_relabelled d.state.config seat label (set hollows seat back)
                   (hollow_with d.state.config hollows seat back host.hollow back_is));
               fresh = subst (λ (s : State). IsFresh s (sheet_in (sheets_of d2.glasses)) d2.raw) (sym o0.state)
-                  (subst (λ (gs : List SheetModel). IsFresh (opened seat label d.state) (sheet_in (sheets_of gs)) d2.raw)
+                  (subst (λ (gs : List SheetModel). IsFresh (opened seat label d.state) (sheet_in (sheets_of gs))
+                  d2.raw)
                   (sym glasses_now)
                   (subst (IsFresh (opened seat label d.state) (sheet_in (sheets_of (set d.glasses seat blank))))
                   (sym o0.raw) fresh_now));

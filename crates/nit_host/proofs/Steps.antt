@@ -215,7 +215,8 @@ module _ (d d1 d2 : DesktopModel SheetModel) (hollows : List SheetModel) (seat :
       → WasCalled seat call r h d2 (set hollows seat last)
   only_called h view =
       let client : seat < length d.state.config.clients = subst (λ (n : ℕ). seat < n) long inside in
-      let done = called_now d d1 d2 hollows seat call r hollow own own last kept seen host inside swapped there out served
+      let done = called_now d d1 d2 hollows seat call r hollow own own last kept seen host inside swapped there out
+      served
       (own_plain d.state.config d.glasses seat own host.sheets client out)
       (own_room d.state.config d.glasses seat own host.sheets client out) keep
       (λ k clean. ap (λ (gs : List SheetModel). word_from (sheet_in (sheets_of gs))

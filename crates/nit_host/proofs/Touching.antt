@@ -16,7 +16,7 @@ use Rattle.nit_stack.specs.Sources.{index_at, shown_index, source_under}
 use Rattle.nit_host.specs.Below.{Call, Point, Rectangle, State, View, bar_rows}
 use Rattle.nit_host.specs.Below.{buffer_place, covers, in_bar, is_rectangle, is_session}
 use Rattle.nit_host.specs.Below.{is_view, option_map_or, pixel, point, rectangle, session, spans}
-use Rattle.nit_host.specs.Area.{in_area}
+use Rattle.nit_host.specs.Area.{has_place}
 use Rattle.nit_host.specs.Touch.{HoldsTouched, shows_place, touched_by}
 use Rattle.nit_host.specs.declared.host.area.Area.{Area}
 use Rattle.nit_host.specs.declared.host.touch.Touch.{Touch}
@@ -135,17 +135,17 @@ either false b is = inr is
 module _ (s s' : State) (seat : ℕ) (a : Area) (x y : ℕ) (wide : x < s.config.width) (high : y < s.config.height)
     (wide' : x < s'.config.width) (high' : y < s'.config.height) where
   of_view : (v : ℕ) → HoldsTouched s seat (touch.View v) a → view_owns seat v s (point x y) ≡ true
-      → in_area a x y ≡ true
-  of_view v holds owned = owned_inside (is_view seat v) s (point x y) (in_area a x y)
+      → has_place a x y ≡ true
+  of_view v holds owned = owned_inside (is_view seat v) s (point x y) (has_place a x y)
       (λ i u there own covered. holds.views i x y u there wide high (λ k. own k && covered k)) owned
 
   of_view' : (v : ℕ) → HoldsTouched s' seat (touch.View v) a → view_owns seat v s' (point x y) ≡ true
-      → in_area a x y ≡ true
-  of_view' v holds owned = owned_inside (is_view seat v) s' (point x y) (in_area a x y)
+      → has_place a x y ≡ true
+  of_view' v holds owned = owned_inside (is_view seat v) s' (point x y) (has_place a x y)
       (λ i u there own covered. holds.views i x y u there wide' high' (λ k. own k && covered k)) owned
 
   on_view : (v : ℕ) → HoldsTouched s seat (touch.View v) a → HoldsTouched s' seat (touch.View v) a
-      → owns_either seat v s s' (point x y) ≡ true → in_area a x y ≡ true
+      → owns_either seat v s s' (point x y) ≡ true → has_place a x y ≡ true
   on_view v holds holds' owned = elim (either (view_owns seat v s (point x y)) (view_owns seat v s' (point x y)) owned) [
     | inl e ↦ of_view v holds e
     | inr e ↦ of_view' v holds' e
@@ -153,23 +153,23 @@ module _ (s s' : State) (seat : ℕ) (a : Area) (x y : ℕ) (wide : x < s.config
 
   of_part : (px py : ℤ) (w h : ℕ) (b : Bool)
       → HoldsTouched s' seat (cond b (touch.Part (rectangle px py w h)) touch.Screen) a
-      → shows_part seat (rectangle px py w h) s' (point x y) ≡ true → in_area a x y ≡ true
-  of_part px py w h true holds shows = part_inside seat (rectangle px py w h) s' (point x y) (in_area a x y)
+      → shows_part seat (rectangle px py w h) s' (point x y) ≡ true → has_place a x y ≡ true
+  of_part px py w h true holds shows = part_inside seat (rectangle px py w h) s' (point x y) (has_place a x y)
       (λ i u there is. holds.views i x y u there wide' high' is) shows
   of_part px py w h false holds shows = holds.bare x y wide' high' refl
 
   -- a pixel that an accepted call makes dirty in mode Flat
   pub call_inside : (c : Call) → HoldsTouched s seat (touched_by c) a → HoldsTouched s' seat (touched_by c) a
-      → dirty_by_call seat c s s' (point x y) ≡ true → in_area a x y ≡ true
+      → dirty_by_call seat c s s' (point x y) ≡ true → has_place a x y ≡ true
   call_inside (call.Place v px py w h) holds holds' is = on_view v holds holds' is
   call_inside (call.Offset v ox oy) holds holds' is = on_view v holds holds' is
   call_inside (call.Front v) holds holds' is = on_view v holds holds' is
   call_inside (call.Back v) holds holds' is = on_view v holds holds' is
   call_inside (call.Above v n) holds holds' is = on_view v holds holds' is
   call_inside (call.Destroy v) holds holds' is = on_view v holds holds' is
-  call_inside call.Close holds holds' is = owned_inside (is_session seat) s (point x y) (in_area a x y)
+  call_inside call.Close holds holds' is = owned_inside (is_session seat) s (point x y) (has_place a x y)
       (λ i u there own covered. holds.views i x y u there wide high (λ k. own k && covered k)) is
-  call_inside (call.Buffer w h) holds holds' is = owned_inside (is_session seat) s' (point x y) (in_area a x y)
+  call_inside (call.Buffer w h) holds holds' is = owned_inside (is_session seat) s' (point x y) (has_place a x y)
       (λ i u there own covered. holds'.views i x y u there wide' high' (λ k. own k && covered k)) is
   call_inside (call.Refresh px py w h) holds holds' is = of_part px py w h (is_rectangle px py w h) holds' is
   call_inside call.View holds holds' is = absurd (false≢true is)
@@ -179,7 +179,7 @@ module _ (s s' : State) (seat : ℕ) (a : Area) (x y : ℕ) (wide : x < s.config
 
 -- more than what is touched
 pub touched_more : (s : State) (seat : ℕ) (t : Touch) (a b : Area) → HoldsTouched s seat t a
-    → ((x y : ℕ) → in_area a x y ≡ true → in_area b x y ≡ true) → HoldsTouched s seat t b
+    → ((x y : ℕ) → has_place a x y ≡ true → has_place b x y ≡ true) → HoldsTouched s seat t b
 touched_more s seat t a b holds more = record {
   bare = λ x y wide high is. more x y (holds.bare x y wide high is);
   views = λ i x y v there wide high is. more x y (holds.views i x y v there wide high is);

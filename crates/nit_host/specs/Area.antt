@@ -5,12 +5,12 @@ use Rattle.nit_host.specs.Below.{Rectangle, is_between, rectangle}
 use Rattle.nit_host.specs.declared.host.area.Area.{Area}
 
 -- the pixel of this column and row lies in the area
-abbrev pub in_area : Area → ℕ → ℕ → Bool
-in_area a x y = is_between a.left a.right x && is_between a.top a.bottom y
+abbrev pub has_place : Area → ℕ → ℕ → Bool
+has_place a x y = is_between a.left a.right x && is_between a.top a.bottom y
 
 -- the pixel of a number does, on a screen of this width
 abbrev pub is_inside : ℕ → Area → ℕ → Bool
-is_inside width a k = in_area a (k % width) (k / width)
+is_inside width a k = has_place a (k % width) (k / width)
 
 -- it lies on the screen of this width and height
 pub record IsAreaOf (width height : ℕ) (a : Area) : Type 0 where
@@ -20,8 +20,8 @@ pub record IsAreaOf (width height : ℕ) (a : Area) : Type 0 where
   pub high : a.bottom ≤ height
 
 -- the same as a rectangle
-abbrev pub rectangle_of : Area → Rectangle
-rectangle_of a = rectangle (pos a.left) (pos a.top) (a.right - a.left) (a.bottom - a.top)
+abbrev pub rectangle_over : Area → Rectangle
+rectangle_over a = rectangle (pos a.left) (pos a.top) (a.right - a.left) (a.bottom - a.top)
 
 -- of so many pixels those outside of the area are the same in both pictures
 abbrev pub StaysOutside : ℕ → ℕ → Area → List ℕ → List ℕ → Type 0
@@ -30,5 +30,5 @@ StaysOutside width count a before after =
     → slice_index before k ≡ slice_index after k
 
 -- a column or row that is not further off than three places together
-abbrev pub IsNear : ℤ → Type 0
-IsNear z = (negsuc 98303 ≤ℤ z) × (z ≤ℤ pos 98303)
+abbrev pub IsInReach : ℤ → Type 0
+IsInReach z = (negsuc 98303 ≤ℤ z) × (z ≤ℤ pos 98303)

@@ -1,5 +1,6 @@
 -- A host as a value, and what each of its calls makes of it.
-use Rattle.std.specs.Prelude.{◌≡◌, ℕ, ◌-◌, ◌*◌, ◌^◌, ℤ, Bool, true, ◌&&◌, ◌==◌, nat_le, nat_lt, negsuc}
+use Rattle.std.specs.Prelude.{◌≡◌, ℕ, ◌-◌, ◌*◌, ◌^◌, ℤ, Bool, true, ◌&&◌, ◌==◌, nat_le, nat_lt}
+use Rattle.std.specs.Prelude.{negsuc}
 use Rattle.std.specs.Prelude.{int_le, not, List, [], ◌∷◌, length, map, slice_index_or, slice_set}
 use Rattle.std.specs.Prelude.{Option, Some, None, if◌then◌else◌}
 use Rattle.nit_host.specs.Below.{Call, Configuration, Device, Entry, Rectangle, Reply, Routed}
@@ -31,18 +32,18 @@ sheet_in sheets seat = slice_index_or sheets seat []
 
 -- The word of each pixel, before the mode lays anything over it: the one that its session handed in
 -- last for the place, 0 where a view is larger than its buffer, and the bare word where no view is.
-abbrev pub picture_by : State → List (List ℕ) → List ℕ
-picture_by s sheets = words_of s (λ k. word_from (sheet_in sheets) (source_at s k))
+abbrev pub picture_from : State → List (List ℕ) → List ℕ
+picture_from s sheets = words_of s (λ k. word_from (sheet_in sheets) (source_at s k))
 
 abbrev pub picture : HostModel → List ℕ
-picture h = picture_by h.state h.sheets
+picture h = picture_from h.state h.sheets
 
 -- the frame: what the screen shows of it
 abbrev pub frame_by : State → List (List ℕ) → List ℕ
-frame_by s sheets = frame (scenery_of s) (picture_by s sheets)
+frame_by s sheets = frame (scenery_of s) (picture_from s sheets)
 
-abbrev pub frame_of : HostModel → List ℕ
-frame_of h = frame_by h.state h.sheets
+abbrev pub frame_shown : HostModel → List ℕ
+frame_shown h = frame_by h.state h.sheets
 
 -- ---- before the first step
 
@@ -170,4 +171,4 @@ IsAsSeen h out = IsOneOf h.seen out
 
 -- the host behind a look: all that changes is what was seen
 abbrev pub looked : HostModel → HostModel
-looked h = record h { seen = Some (frame_of h) }
+looked h = record h { seen = Some (frame_shown h) }

@@ -29,10 +29,10 @@ pub use Rattle.nit_host.specs.Sheet.{SheetModel, blank_sheet, handed_over, low_b
 pub use Rattle.nit_host.specs.declared.refusal.PlanError.{PlanError}
 pub use Rattle.nit_host.specs.declared.refusal.Unseated.{Unseated}
 pub use Rattle.nit_host.specs.declared.refusal.Unserved.{Unserved}
-pub use Rattle.nit_host.specs.Area.{IsAreaOf, IsNear, in_area, is_inside, rectangle_of}
+pub use Rattle.nit_host.specs.Area.{IsAreaOf, IsInReach, has_place, is_inside, rectangle_over}
 pub use Rattle.nit_host.specs.Below.{AgreeIn, Delivery, Point, View, deliveries_of, is_kill, kills}
 pub use Rattle.nit_host.specs.Below.{in_bar, option_map_or, point}
-pub use Rattle.nit_host.specs.Host.{IsAsSeen, frame_by, frame_of, looked}
+pub use Rattle.nit_host.specs.Host.{IsAsSeen, frame_by, frame_shown, looked}
 pub use Rattle.nit_host.specs.Looked.{IsSeenBut, frame_at}
 pub use Rattle.nit_host.specs.Touch.{HoldsBar, HoldsTouched, is_touched, part_touched, shows_place}
 pub use Rattle.nit_host.specs.Touch.{touch_of, touched_by, touched_in, touched_over}

@@ -1,12 +1,13 @@
 -- What of the frame a call of a seat's client can change.
 use Rattle.std.specs.Prelude.{ℕ, ℤ, Bool, true, false, ◌&&◌, ◌≡◌, ◌<◌, Option, Some, None}
 use Rattle.std.specs.Prelude.{slice_get, if◌then◌else◌}
-use Rattle.nit_host.specs.Below.{Call, Mode, Point, Rectangle, Reply, State, View, bar_rows, buffer_place}
+use Rattle.nit_host.specs.Below.{Call, Mode, Point, Rectangle, Reply, State, View, bar_rows}
+use Rattle.nit_host.specs.Below.{buffer_place}
 use Rattle.nit_host.specs.Below.{covers, in_bar, is_rectangle, is_session, is_view}
 use Rattle.nit_host.specs.Below.{point, rectangle, refusal, session, spans}
 use Rattle.nit_events.specs.declared.call.Call.TheVariants as call
 use Rattle.nit_events.specs.declared.device.Mode.TheVariants as mode
-use Rattle.nit_host.specs.Area.{in_area}
+use Rattle.nit_host.specs.Area.{has_place}
 use Rattle.nit_host.specs.declared.host.area.Area.{Area}
 use Rattle.nit_host.specs.declared.host.touch.Touch.{Touch}
 use Rattle.nit_host.specs.declared.host.touch.Touch.TheVariants as touch
@@ -75,16 +76,16 @@ is_touched_bare other s p = false
 -- the area has all pixels of the screen that are touched as the views stand
 pub record HoldsTouched (s : State) (seat : ℕ) (t : Touch) (a : Area) : Type 0 where
   pub bare : (x y : ℕ) → x < s.config.width → y < s.config.height
-      → is_touched_bare t s (point x y) ≡ true → in_area a x y ≡ true
+      → is_touched_bare t s (point x y) ≡ true → has_place a x y ≡ true
   pub views : (i x y : ℕ) (v : View) → slice_get s.stack i ≡ Some v → x < s.config.width
-      → y < s.config.height → is_touched t seat v (point x y) ≡ true → in_area a x y ≡ true
+      → y < s.config.height → is_touched t seat v (point x y) ≡ true → has_place a x y ≡ true
 
 -- the area has the status bar of a screen of this size; in other modes than Flat the whole screen
 abbrev pub HoldsBarIn : Mode → ℕ → ℕ → ℕ → Area → Type 0
 HoldsBarIn mode.Flat width height rows a =
-    (x y : ℕ) → x < width → y < height → in_bar rows (point x y) ≡ true → in_area a x y ≡ true
+    (x y : ℕ) → x < width → y < height → in_bar rows (point x y) ≡ true → has_place a x y ≡ true
 HoldsBarIn other width height rows a =
-    (x y : ℕ) → x < width → y < height → in_area a x y ≡ true
+    (x y : ℕ) → x < width → y < height → has_place a x y ≡ true
 
 abbrev pub HoldsBar : State → Area → Type 0
 HoldsBar s a = HoldsBarIn s.input.mode s.config.width s.config.height (bar_rows s.config) a

@@ -1,8 +1,8 @@
 //! A part of the screen, as columns and rows.
 
 ghost use Rattle.std.specs.Prelude.{◌≡◌, ◌+◌, ◌-◌, ◌≤◌, ◌<◌, ℕ, pos, false, true};
-ghost use Rattle.nit_host.specs.Terms.{IsAreaOf, covers, in_area, most_height, most_width, point};
-ghost use Rattle.nit_host.specs.Terms.{rectangle_of};
+ghost use Rattle.nit_host.specs.Terms.{IsAreaOf, covers, has_place, most_height, most_width, point};
+ghost use Rattle.nit_host.specs.Terms.{rectangle_over};
 
 use crate::host::handing::clip;
 use nit_rect::Rect;
@@ -21,7 +21,7 @@ impl Area {
     /// No pixel.
     pub(crate) fn none() -> Area
         ensures area { (width height : ℕ) → IsAreaOf width height result }
-        ensures none { (x y : ℕ) → in_area result x y ≡ false }
+        ensures none { (x y : ℕ) → has_place result x y ≡ false }
     {
         Area::of_rows(0, 0)
     }
@@ -29,8 +29,8 @@ impl Area {
     /// The topmost rows of a screen of this width, so many of them.
     pub(crate) fn of_rows(width: u32, rows: u32) -> Area
         ensures area { (height : ℕ) → rows ≤ height → IsAreaOf width height result }
-        ensures all { (x y : ℕ) → x < width → y < rows → in_area result x y ≡ true }
-        ensures none { (x y : ℕ) → rows ≤ y → in_area result x y ≡ false }
+        ensures all { (x y : ℕ) → x < width → y < rows → has_place result x y ≡ true }
+        ensures none { (x y : ℕ) → rows ≤ y → has_place result x y ≡ false }
     {
         Area {
             left: 0,
@@ -44,7 +44,7 @@ impl Area {
     pub(crate) fn of_rect(rect: &Rect, size: (u32, u32)) -> Area
         ensures area { IsAreaOf size.0 size.1 result }
         ensures covered { (x y : ℕ) → x < size.0 → y < size.1
-            → covers rect.now (point x y) ≡ true → in_area result x y ≡ true }
+            → covers rect.now (point x y) ≡ true → has_place result x y ≡ true }
     {
         let (left, right) = clip(rect.x(), rect.w(), size.0);
         let (top, bottom) = clip(rect.y(), rect.h(), size.1);
@@ -60,8 +60,8 @@ impl Area {
     pub(crate) fn join(&self, other: &Area) -> Area
         ensures area { (width height : ℕ) → IsAreaOf width height self.now
             → IsAreaOf width height other.now → IsAreaOf width height result }
-        ensures own { (x y : ℕ) → in_area self.now x y ≡ true → in_area result x y ≡ true }
-        ensures others { (x y : ℕ) → in_area other.now x y ≡ true → in_area result x y ≡ true }
+        ensures own { (x y : ℕ) → has_place self.now x y ≡ true → has_place result x y ≡ true }
+        ensures others { (x y : ℕ) → has_place other.now x y ≡ true → has_place result x y ≡ true }
     {
         if self.is_empty() {
             *other
@@ -76,8 +76,8 @@ impl Area {
     fn around(&self, other: &Area) -> Area
         ensures area { (width height : ℕ) → IsAreaOf width height self.now
             → IsAreaOf width height other.now → IsAreaOf width height result }
-        ensures own { (x y : ℕ) → in_area self.now x y ≡ true → in_area result x y ≡ true }
-        ensures others { (x y : ℕ) → in_area other.now x y ≡ true → in_area result x y ≡ true }
+        ensures own { (x y : ℕ) → has_place self.now x y ≡ true → has_place result x y ≡ true }
+        ensures others { (x y : ℕ) → has_place other.now x y ≡ true → has_place result x y ≡ true }
     {
         Area {
             left: self.left.min(other.left),
@@ -91,8 +91,8 @@ impl Area {
     pub(crate) fn meet(&self, other: &Area) -> Area
         ensures area { (width height : ℕ) → IsAreaOf width height self.now
             → IsAreaOf width height other.now → IsAreaOf width height result }
-        ensures both { (x y : ℕ) → in_area self.now x y ≡ true → in_area other.now x y ≡ true
-            → in_area result x y ≡ true }
+        ensures both { (x y : ℕ) → has_place self.now x y ≡ true → has_place other.now x y ≡ true
+            → has_place result x y ≡ true }
     {
         let left = self.left.max(other.left);
         let top = self.top.max(other.top);
@@ -106,7 +106,7 @@ impl Area {
 
     /// Whether it has no pixel.
     fn is_empty(&self) -> bool
-        ensures { result ≡ true → (x y : ℕ) → in_area self.now x y ≡ false }
+        ensures { result ≡ true → (x y : ℕ) → has_place self.now x y ≡ false }
     {
         self.right <= self.left || self.bottom <= self.top
     }
@@ -117,7 +117,7 @@ impl Area {
         requires top { self.now.top ≤ self.now.bottom }
         requires wide { self.now.right ≤ most_width }
         requires high { self.now.bottom ≤ most_height }
-        ensures { result ≡ rectangle_of self.now }
+        ensures { result ≡ rectangle_over self.now }
     {
         let made = Rect::new(
             self.left as i32,

@@ -1,7 +1,7 @@
 //! Words that a client hands in.
 
 ghost use Rattle.std.specs.Prelude.{◌≡◌, ◌*◌, ◌<◌, ◌≤◌, ℕ, int_le, length, nat_le, pos};
-ghost use Rattle.nit_host.specs.Terms.{IsNear, after_handing, is_between, is_in_rows, low_bytes};
+ghost use Rattle.nit_host.specs.Terms.{IsInReach, after_handing, is_between, is_in_rows, low_bytes};
 ghost use Rattle.nit_host.specs.Terms.{most_length, plain_sight, set_where, spans, told_words};
 
 use crate::sheet::Sheet;
@@ -53,7 +53,7 @@ fn hand_in_rows(sheet: &mut Sheet, width: u32, columns: (u32, u32), rows: (u32, 
 /// Those of the `long` places from `from` on that are among the first so many: from the first of
 /// these numbers to before the second.
 pub(crate) fn clip(from: i32, long: u32, most: u32) -> (u32, u32)
-    requires from { IsNear from }
+    requires from { IsInReach from }
     requires long { long ≤ most_length }
     ensures order { result.0 ≤ result.1 }
     ensures most { result.1 ≤ most }

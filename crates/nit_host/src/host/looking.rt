@@ -2,7 +2,7 @@
 
 ghost use Rattle.std.specs.Prelude.{◌≡◌, ◌*◌, ◌↔◌, None, IfOk, IfSome, length};
 ghost use Rattle.nit_host.specs.Terms.{AgreeIn, CoversChange, IsAsSeen, IsTouched, LiesOn};
-ghost use Rattle.nit_host.specs.Terms.{frame_of, last_text, looked};
+ghost use Rattle.nit_host.specs.Terms.{frame_shown, last_text, looked};
 
 use crate::host::Host;
 use crate::host::area::Area;
@@ -22,7 +22,7 @@ impl Host {
     /// that left them, only those in the rectangle are surely the frame's.
     pub fn look(&mut self, out: &mut [u32]) -> Option<Rect>
         requires { length out.old ≡ self.old.state.config.width * self.old.state.config.height }
-        ensures frame { IsAsSeen self.old out.old → out.new ≡ frame_of self.old }
+        ensures frame { IsAsSeen self.old out.old → out.new ≡ frame_shown self.old }
         ensures none { result ≡ None ↔ out.old ≡ out.new }
         ensures screen { let config = self.old.state.config in
             IfSome result (λ r. LiesOn config.width config.height r) }
@@ -31,7 +31,7 @@ impl Host {
         ensures least { let config = self.old.state.config in
             IfSome result (λ r. IsTouched config.width out.new out.old r) }
         ensures shown { let config = self.old.state.config in
-            IfSome result (λ r. AgreeIn config.width out.new (frame_of self.old) r) }
+            IfSome result (λ r. AgreeIn config.width out.new (frame_shown self.old) r) }
         ensures host { self.new ≡ looked self.old }
     {
         self.desktop.facts();

@@ -1,7 +1,7 @@
 //! What of the frame a step can change.
 
 ghost use Rattle.std.specs.Prelude.{◌≡◌, ◌<◌, ◌≤◌, ℕ, Some, false, length, slice_get, true};
-ghost use Rattle.nit_host.specs.Terms.{HoldsBar, HoldsTouched, IsAreaOf, IsPlace, in_area};
+ghost use Rattle.nit_host.specs.Terms.{HoldsBar, HoldsTouched, IsAreaOf, IsPlace, has_place};
 ghost use Rattle.nit_host.specs.Terms.{is_kill, is_touched, kills, part_touched, point, touch_of};
 ghost use Rattle.nit_host.specs.Terms.{View, covers, deliveries_of, option_map_or, shows_place};
 ghost use Rattle.nit_host.specs.Terms.{touched_by, touched_in, touched_over};
@@ -118,10 +118,10 @@ pub(crate) fn touched(desktop: &Desktop<Sheet>, seat: u32, touch: &Touch) -> Are
 fn views_touched(desktop: &Desktop<Sheet>, seat: u32, touch: &Touch, bare: &Area) -> Area
     requires { IsAreaOf desktop.now.state.config.width desktop.now.state.config.height bare.now }
     ensures area { IsAreaOf desktop.now.state.config.width desktop.now.state.config.height result }
-    ensures bare { (x y : ℕ) → in_area bare.now x y ≡ true → in_area result x y ≡ true }
+    ensures bare { (x y : ℕ) → has_place bare.now x y ≡ true → has_place result x y ≡ true }
     ensures views { (i x y : ℕ) (v : View) → slice_get desktop.now.state.stack i ≡ Some v
         → x < desktop.now.state.config.width → y < desktop.now.state.config.height
-        → is_touched touch.now seat v (point x y) ≡ true → in_area result x y ≡ true }
+        → is_touched touch.now seat v (point x y) ≡ true → has_place result x y ≡ true }
 {
     let size = desktop.size();
     let mut area = *bare;
@@ -137,7 +137,7 @@ fn view_touched(touch: &Touch, seat: u32, view: &View, size: (u32, u32)) -> Area
     requires { IsPlace view.now.ox × IsPlace view.now.oy }
     ensures area { IsAreaOf size.0 size.1 result }
     ensures touched { (x y : ℕ) → x < size.0 → y < size.1
-        → is_touched touch.now seat view.now (point x y) ≡ true → in_area result x y ≡ true }
+        → is_touched touch.now seat view.now (point x y) ≡ true → has_place result x y ≡ true }
 {
     match touch {
         Touch::Nothing => Area::none(),
@@ -152,7 +152,7 @@ fn view_touched(touch: &Touch, seat: u32, view: &View, size: (u32, u32)) -> Area
 fn where_named(is_meant: bool, view: &View, size: (u32, u32)) -> Area
     ensures area { IsAreaOf size.0 size.1 result }
     ensures covered { (x y : ℕ) → x < size.0 → y < size.1 → is_meant ≡ true
-        → covers view.now.rect (point x y) ≡ true → in_area result x y ≡ true }
+        → covers view.now.rect (point x y) ≡ true → has_place result x y ≡ true }
 {
     if is_meant {
         Area::of_rect(&view.rect, size)
@@ -167,7 +167,7 @@ fn part_shown(is_meant: bool, part: &Rect, view: &View, size: (u32, u32)) -> Are
     ensures area { IsAreaOf size.0 size.1 result }
     ensures shown { (x y : ℕ) → x < size.0 → y < size.1 → is_meant ≡ true
         → covers view.now.rect (point x y) ≡ true
-        → shows_place part.now view.now (point x y) ≡ true → in_area result x y ≡ true }
+        → shows_place part.now view.now (point x y) ≡ true → has_place result x y ≡ true }
 {
     let column = view.rect.x() + view.ox + part.x();
     let row = view.rect.y() + view.oy + part.y();
@@ -184,7 +184,7 @@ fn part_shown(is_meant: bool, part: &Rect, view: &View, size: (u32, u32)) -> Are
 /// The rows of the status bar.
 fn bar(size: (u32, u32)) -> Area
     ensures area { IsAreaOf size.0 size.1 result }
-    ensures rows { (x y : ℕ) → x < size.0 → y < size.1 → y < 7 → in_area result x y ≡ true }
+    ensures rows { (x y : ℕ) → x < size.0 → y < size.1 → y < 7 → has_place result x y ≡ true }
 {
     Area::of_rows(size.0, BAR_ROWS.min(size.1))
 }
@@ -207,7 +207,7 @@ pub(crate) fn told(desktop: &Desktop<Sheet>, routed: &Routed) -> Area
     ensures bar { HoldsBar desktop.now.state result }
     ensures screen { kills (deliveries_of routed.now) ≡ true → (x y : ℕ)
         → x < desktop.now.state.config.width → y < desktop.now.state.config.height
-        → in_area result x y ≡ true }
+        → has_place result x y ≡ true }
 {
     if kills(&routed.a) || kills(&routed.b) || kills(&routed.c) {
         let size = desktop.size();

@@ -4,7 +4,8 @@ use Rattle.nit_host.specs.Fresh.{IsPlainOf, sheets_of}
 use Rattle.nit_host.specs.Host.{HostModel}
 use Rattle.nit_host.specs.Sheet.{SheetModel}
 use Rattle.nit_events.specs.declared.entry.Entry.TheVariants as entry
-use Rattle.nit_host.specs.Below.{Configuration, DesktopModel, State, after, serve, session as session_}
+use Rattle.nit_host.specs.Below.{Configuration, DesktopModel, State, after, serve}
+use Rattle.nit_host.specs.Below.{session as session_}
 use Rattle.nit_host.proofs.CallChanges.{seen_called, words_stay}
 use Rattle.nit_host.proofs.Served.{may_call}
 use Rattle.nit_host.proofs.SheetLists.{hollow_glass, own_plain, there_at}
@@ -43,7 +44,8 @@ invariant_of-self c =
     let session : c.args.seat < length d.state.sessions =
     subst (λ (h : HostModel). c.args.seat < length h.state.sessions) (sym c.self.view_is)
     (may_call c.args.self.now c.args.seat c.args.call.now (sym c.in_default.ensures)).inside in
-    let done = only_called d c.exchange.new.self c.serve-reply.new.desktop c.self.inside.hollows.items c.args.seat c.args.call.now
+    let done = only_called d c.exchange.new.self c.serve-reply.new.desktop c.self.inside.hollows.items c.args.seat
+    c.args.call.now
     c.serve-reply.result c.index_mut-own.result.now c.exchange.new.glass c.serve-reply.new.own
     c.self.inside.last _ c.self.invariant.0 session c.facts.ensures.sessions c.exchange.ensures.desktop
     (there_at c.self.inside.hollows.items c.args.seat c.index_mut-own.result.now c.index_mut-own.ensures.value

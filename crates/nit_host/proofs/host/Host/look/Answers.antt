@@ -2,7 +2,7 @@ use Rattle.std.proofs.Common.{List, Some, ap, subst, sym, ℕ, ◌*◌, ◌∙�
 use Rattle.nit_look.specs.Look.{AgreeOutside}
 use Rattle.nit_host.specs.Below.{DesktopModel, Rectangle}
 use Rattle.nit_host.specs.Fresh.{sheets_of}
-use Rattle.nit_host.specs.Host.{HostModel, IsAsSeen, frame_by, frame_of}
+use Rattle.nit_host.specs.Host.{HostModel, IsAsSeen, frame_by, frame_shown}
 use Rattle.nit_host.specs.Looked.{IsSeenBut, frame_at}
 use Rattle.nit_host.specs.Sheet.{SheetModel}
 use Rattle.nit_host.proofs.Looking.{agree_outside, seen_now}
@@ -22,7 +22,7 @@ pub returns-clause-frame : goal.returns-clause-frame
 returns-clause-frame c = λ as_seen.
     let d = c.self.inside.desktop in
     let framed : c.frame.result.now ≡ frame_by d.state (sheets_of d.glasses) =
-    c.frame.ensures.frame ∙ ap frame_of (sym c.self.view_is) in
+    c.frame.ensures.frame ∙ ap frame_shown (sym c.self.view_is) in
     let agree = agree_outside d.state (sheets_of d.glasses) c.self.inside.changed _ c.args.out.now c.self.invariant.2
     c.self.invariant.1 (subst (λ (h : HostModel). IsAsSeen h c.args.out.now) (sym c.self.view_is) as_seen)
     (c.requires ∙ ap (λ (h : HostModel). h.state.config.width * h.state.config.height) (sym c.self.view_is)) in

@@ -72,10 +72,12 @@ invariant_of-self c =
     c.exchange.ensures.desktop in (
       done.0.host,
       seen_seated d.state c.reopen.new.self.state c.args.seat c.args.label (sheets_of d.glasses)
-          (sheets_of c.reopen.new.self.glasses) c.self.inside.changed c.bar_or_screen-part.result c.join-self-inside.result _
+          (sheets_of c.reopen.new.self.glasses) c.self.inside.changed c.bar_or_screen-part.result
+          c.join-self-inside.result _
           (o.state ∙ ap (λ (x : DesktopModel SheetModel). opened c.args.seat c.args.label x.state)
           c.exchange.ensures.desktop)
-          (λ k less. done.1 k) c.bar_or_screen-part.ensures.bar c.join-self-inside.ensures.own c.join-self-inside.ensures.others
+          (λ k less. done.1 k) c.bar_or_screen-part.ensures.bar c.join-self-inside.ensures.own
+          c.join-self-inside.ensures.others
           c.self.invariant.1,
       subst (λ (k : Configuration). IsAreaOf k.width k.height c.join-self-inside.result) (sym config)
           (c.join-self-inside.ensures.area d.state.config.width d.state.config.height c.self.invariant.2

@@ -1,5 +1,5 @@
 use Rattle.std.proofs.Common.{true, ℕ, ◌<◌, ◌∙◌, ◌≡◌, ap, arith, refl, subst, sym}
-use Rattle.nit_host.specs.Area.{IsAreaOf, in_area}
+use Rattle.nit_host.specs.Area.{IsAreaOf, has_place}
 use Rattle.nit_host.specs.Below.{Configuration, DesktopModel, first_state}
 use Rattle.nit_host.specs.Fresh.{sheets_of}
 use Rattle.nit_host.specs.Sheet.{SheetModel}
@@ -22,7 +22,7 @@ invariant_of-result c =
       host,
       nothing_seen c.in_ok-new.field-0.state c.args.config.now (sheets_of c.in_ok-new.field-0.glasses)
           c.of_rows.result config
-          (subst (λ (k : Configuration). (x y : ℕ) → x < k.width → y < k.height → in_area c.of_rows.result x y ≡ true)
+          (subst (λ (k : Configuration). (x y : ℕ) → x < k.width → y < k.height → has_place c.of_rows.result x y ≡ true)
           c.config.view_is c.of_rows.ensures.all),
       subst (λ (k : Configuration). IsAreaOf k.width k.height c.of_rows.result) (c.config.view_is ∙ sym config)
           (c.of_rows.ensures.area c.config.inside.height (omega arith)),

@@ -1,5 +1,5 @@
 use Rattle.std.proofs.Common.{true, ℕ, ◌<◌, ◌∙◌, ◌≡◌, List, ap, arith, refl, subst, sym}
-use Rattle.nit_host.specs.Area.{IsAreaOf, in_area}
+use Rattle.nit_host.specs.Area.{IsAreaOf, has_place}
 use Rattle.nit_host.specs.Below.{Configuration, Sight, State, glass_in, vacant_state}
 use Rattle.nit_host.specs.Fresh.{sheets_of}
 use Rattle.nit_host.proofs.Beginnings.{begun, blank_glasses, first_now}
@@ -15,7 +15,8 @@ pub invariant_of-result : goal.invariant_of-result
 invariant_of-result c =
     let made = c.in_ok-vacant.ensures in
     let config = ap (λ (s : State). s.config) made.state in
-    let host = begun (vacant_state c.args.config.now) c.args.config.now c.in_ok-vacant.field-0 c.in_ok-sheets.sheets.items
+    let host = begun (vacant_state c.args.config.now) c.args.config.now c.in_ok-vacant.field-0
+    c.in_ok-sheets.sheets.items
     c.in_ok-hollows.hollows.items refl refl made.state made.raw
     (same_sheets c.in_ok-vacant.field-0.glasses c.in_ok-sheets.sheets.items
     (λ t. ap (λ (ss : List Sight). glass_in ss t) made.sights) made.rests) c.in_ok-sheets.ensures.room
@@ -23,7 +24,7 @@ invariant_of-result c =
       host,
       nothing_seen c.in_ok-vacant.field-0.state c.args.config.now (sheets_of c.in_ok-vacant.field-0.glasses)
           c.of_rows.result config
-          (subst (λ (k : Configuration). (x y : ℕ) → x < k.width → y < k.height → in_area c.of_rows.result x y ≡ true)
+          (subst (λ (k : Configuration). (x y : ℕ) → x < k.width → y < k.height → has_place c.of_rows.result x y ≡ true)
           c.config.view_is c.of_rows.ensures.all),
       subst (λ (k : Configuration). IsAreaOf k.width k.height c.of_rows.result) (c.config.view_is ∙ sym config)
           (c.of_rows.ensures.area c.config.inside.height (omega arith)),

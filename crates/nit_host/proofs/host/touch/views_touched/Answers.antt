@@ -28,5 +28,11 @@ views-preserved c =
 pub returns-clause-views : goal.returns-clause-views
 returns-clause-views c = λ i x y v there wide high is.
     c.views.invariant.views i x y v
-    (omega (arith, slice_get_within c.args.desktop.now.state.stack i v there, c.views-test.false, c.views.auto.i-end, c.views-i-end.ensures))
+    (omega (
+      arith,
+      slice_get_within c.args.desktop.now.state.stack i v there,
+      c.views-test.false,
+      c.views.auto.i-end,
+      c.views-i-end.ensures,
+    ))
     there wide high is

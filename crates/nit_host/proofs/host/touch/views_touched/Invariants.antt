@@ -1,12 +1,12 @@
 use Rattle.std.proofs.Common.{Some, slice_get, true, ℕ, ◌<◌, ◌≡◌}
-use Rattle.nit_host.specs.Terms.{IsAreaOf, View, in_area, is_touched, point}
+use Rattle.nit_host.specs.Terms.{IsAreaOf, View, has_place, is_touched, point}
 use Rattle.nit_host.proofs.host.touch.views_touched.Given as goal
 
 abbrev pub invariant-views : goal.invariant-views
 invariant-views l = record {
   area : IsAreaOf l.desktop.state.config.width l.desktop.state.config.height l.area;
-  bare : (x y : ℕ) → in_area l.bare x y ≡ true → in_area l.area x y ≡ true;
+  bare : (x y : ℕ) → has_place l.bare x y ≡ true → has_place l.area x y ≡ true;
   views : (i x y : ℕ) (v : View) → i < l.i → slice_get l.desktop.state.stack i ≡ Some v
       → x < l.desktop.state.config.width → y < l.desktop.state.config.height
-      → is_touched l.touch l.seat v (point x y) ≡ true → in_area l.area x y ≡ true;
+      → is_touched l.touch l.seat v (point x y) ≡ true → has_place l.area x y ≡ true;
 }
