@@ -107,14 +107,24 @@ module _ (width left right top row wide : ℕ) (frame old out part : List ℕ) (
   row_old long_old =
       ext_get_or 0 (picture_row width row out) (picture_row width row old)
       (grind (arith, places)) (λ j inside.
-      let lt : j < width = omega (arith, inside, length-take width (drop (row * width) out), length-drop (row * width) out) in
+      let lt : j < width = omega (
+        arith,
+        inside,
+        length-take width (drop (row * width) out),
+        length-drop (row * width) out,
+      ) in
       word_of_row width row j out lt ∙ not_yet (row * width + j) (div-mul-add row width j lt)
       ∙ sym (word_of_row width row j old lt))
 
   pub row_put : picture_row width row (put_mid (row * width) wide out part) ≡ part
-  row_put = ext_get_or 0 (picture_row width row (put_mid (row * width) wide out part)) part (grind (arith, places, next))
+  row_put = ext_get_or 0 (picture_row width row (put_mid (row * width) wide out part)) part
+      (grind (arith, places, next))
       (λ j inside.
-      let lt : j < width = omega (arith, inside, length-take width (drop (row * width) (put_mid (row * width) wide out part))) in
+      let lt : j < width = omega (
+        arith,
+        inside,
+        length-take width (drop (row * width) (put_mid (row * width) wide out part)),
+      ) in
       word_of_row width row j (put_mid (row * width) wide out part) lt ∙ put_here j lt)
 
   pub merged_more : IsMerged (is_in_rows width left right top (row + 1)) frame old
@@ -134,7 +144,8 @@ module _ (width left right top row wide : ℕ) (frame old out part : List ℕ) (
           ∙ (λ i. cond (is_among left right (k - row * width))
           ((word_of_row width row (k - row * width) frame at.below ∙ ap (slice_index frame) at.is) i)
           ((word_of_row width row (k - row * width) out at.below ∙ ap (slice_index out) at.is ∙ not_yet k at.row_is) i))
-          ∙ sym (ap (λ (b : Bool). cond (is_among left right (k % width) && b) (slice_index frame k) (slice_index old k))
+          ∙ sym (ap (λ (b : Bool). cond (is_among left right (k % width) && b) (slice_index frame k)
+          (slice_index old k))
           down
           ∙ ap (λ (b : Bool). cond b (slice_index frame k) (slice_index old k))
           (both (is_among left right (k % width)) ∙ ap (is_among left right) at.column))
@@ -142,7 +153,8 @@ module _ (width left right top row wide : ℕ) (frame old out part : List ℕ) (
           let y : row + 1 ≤ k / width = (le-div_iff_mul-le some).1 far in
           let same : is_among top row (k / width) ≡ is_among top (row + 1) (k / width) = grind (arith, nat_tests, y) in
           kept_below k far ∙ known k
-          ∙ ap (λ (b : Bool). cond (is_among left right (k % width) && b) (slice_index frame k) (slice_index old k)) same
+          ∙ ap (λ (b : Bool). cond (is_among left right (k % width) && b) (slice_index frame k) (slice_index old k))
+          same
     ]
   ]
     where

@@ -203,10 +203,12 @@ clips_done parts qs qs' first belong same ended = record {
 
 pub last_alone : {X : Type 0} (xs ys : List X) (x : X) → ys ≡ xs ++ x ∷ [] → length ys ≡ 1 → ys ≡ x ∷ []
 last_alone [] ys x e long = e
-last_alone (z ∷ xs) ys x e long = absurd (let a = ap length e in let b = length-append xs (x ∷ []) in omega (arith, a, b, long))
+last_alone (z ∷ xs) ys x e long =
+    absurd (let a = ap length e in let b = length-append xs (x ∷ []) in omega (arith, a, b, long))
 
 -- a pass and a clip pass that are alone
-pub one_pair : (parts : OpeningParts) (ps : List PassModel) (qs : List ClipPassModel) (p : PassModel) (q : ClipPassModel)
+pub one_pair : (parts : OpeningParts) (ps : List PassModel) (qs : List ClipPassModel) (p : PassModel)
+    (q : ClipPassModel)
     → ps ≡ p ∷ [] → qs ≡ q ∷ [] → All (Belongs parts) ps → All (ClipBelongs parts) qs → AllZip GoTogether ps qs
     → IsPairIn parts p q
 one_pair parts ps qs p q e f belong clip_belong together = record {
@@ -221,6 +223,7 @@ pub one_done : (parts : OpeningParts) (qs : List ClipPassModel) (p p' : PassMode
     → AreFirstClipPasses parts qs → All (ClipBelongs parts) qs → pair_role_of p' q' ≡ pair_role_of p q
     → q'.next ≡ length q'.script → AreDoneClips parts (q' ∷ [])
 one_done parts qs p p' q q' e first belong same ended =
-    clips_done parts (q ∷ []) (q' ∷ []) (subst (AreFirstClipPasses parts) e first) (subst (All (ClipBelongs parts)) e belong)
+    clips_done parts (q ∷ []) (q' ∷ []) (subst (AreFirstClipPasses parts) e first)
+    (subst (All (ClipBelongs parts)) e belong)
     (ap (λ (r : PairRole). r.clip ∷ []) same)
     (All-cons (λ (x : ClipPassModel). x.next ≡ length x.script) q' [] ended (λ k d inside. absurd (omega arith)))

@@ -1,17 +1,18 @@
 //! The top call: from the words of the command line to the files that are put and the line that is
 //! said.
 //!
-//! - `still W H SCRIPT`: the run of one client's script, whose user does nothing, on a screen of W by
-//!   H.
+//! - `still W H SCRIPT`: the run of one client's script, whose user does nothing, on a screen of W
+//!   by H.
 //! - `turns CONFIG`: the run of a configuration's clients and its input script, all by turns.
 //! - `run CONFIG`: the same, with each client on a thread of its own.
 //! - `gen N`: the files of the generated run of number N are put, and then run as `run` does.
 //! - `audit CONFIG JOURNAL`: whether the journal is one of a run of the scripts; nothing is put.
-//! - `clip CONFIG`: the same as `run`, with a clip script for each client; what these asked and were
-//!   answered is put last.
-//! - `capture CONFIG X Y W H`: the same as `run`, and the film of a region of the screen is put last.
-//! - `nested OUTER INNER`: the same as `run` for OUTER, whose first client shows the frames of a run
-//!   by turns of INNER; the journal of that one is put last.
+//! - `clip CONFIG`: the same as `run`, with a clip script for each client; what these asked and
+//!   were answered is put last.
+//! - `capture CONFIG X Y W H`: the same as `run`, and the film of a region of the screen is put
+//!   last.
+//! - `nested OUTER INNER`: the same as `run` for OUTER, whose first client shows the frames of a
+//!   run by turns of INNER; the journal of that one is put last.
 //!
 //! What the words ask for, and reading files, of which a run's setup is made, stand in `nit_setup`;
 //! what a run is and promises in `nit_run`; the ways to perform one, and the files that it puts, in

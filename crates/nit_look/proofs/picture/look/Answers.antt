@@ -15,7 +15,8 @@ returns-in_err-copy-clause-frame c =
     omega (arith, ints, c.range-rows.ensures.from, c.y.ensures.value, c.y.ensures.range.0, c.y.ensures.range.1) in
     let h : c.range-rows.result.1 ≡ c.range-rows.result.0 + c.args.part.now.h =
     omega (arith, c.range-rows.ensures.long, c.h.ensures.value) in
-    whole_frame c.args.width c.range-columns.result.0 c.range-columns.result.1 c.range-rows.result.0 c.range-rows.result.1 c.args.part.now
+    whole_frame c.args.width c.range-columns.result.0 c.range-columns.result.1 c.range-rows.result.0
+    c.range-rows.result.1 c.args.part.now
     c.args.frame.now c.args.out.now c.copy.new.out x w y h c.copy.ensures.copied (c.copy.auto.out ∙ c.requires.out)
 
 pub returns-in_err-copy-clause-none : goal.returns-in_err-copy-clause-none
@@ -31,7 +32,8 @@ returns-in_err-copy-clause-none c =
     let long = c.requires.frame ∙ mul_comm c.args.width c.args.height in
     let old = c.requires.out ∙ long in
     let new = c.copy.auto.out ∙ old in
-    let same = none_differs c.args.width c.args.height c.copy.new.out c.args.out.now new old (all_edges c.args.width c.args.height c.range-columns.result.0 c.range-columns.result.1 c.range-rows.result.0
+    let same = none_differs c.args.width c.args.height c.copy.new.out c.args.out.now new old
+    (all_edges c.args.width c.args.height c.range-columns.result.0 c.range-columns.result.1 c.range-rows.result.0
     c.range-rows.result.1 c.args.part.now c.args.frame.now c.args.out.now c.copy.new.out None x w y h
     c.copy.ensures.copied c.requires.some c.requires.part c.in_err-copy.ensures.edges) in
     ((λ _. same), (λ _. c.from_residual.ensures))
@@ -67,7 +69,8 @@ returns-clause-copied c =
     omega (arith, ints, c.range-rows.ensures.from, c.y.ensures.value, c.y.ensures.range.0, c.y.ensures.range.1) in
     let h : c.range-rows.result.1 ≡ c.range-rows.result.0 + c.args.part.now.h =
     omega (arith, c.range-rows.ensures.long, c.h.ensures.value) in
-    copied_in c.args.width c.range-columns.result.0 c.range-columns.result.1 c.range-rows.result.0 c.range-rows.result.1 c.args.part.now
+    copied_in c.args.width c.range-columns.result.0 c.range-columns.result.1 c.range-rows.result.0 c.range-rows.result.1
+    c.args.part.now
     c.args.frame.now c.args.out.now c.copy.new.out x w y h c.copy.ensures.copied
 
 pub returns-clause-kept : goal.returns-clause-kept
@@ -80,7 +83,8 @@ returns-clause-kept c =
     omega (arith, ints, c.range-rows.ensures.from, c.y.ensures.value, c.y.ensures.range.0, c.y.ensures.range.1) in
     let h : c.range-rows.result.1 ≡ c.range-rows.result.0 + c.args.part.now.h =
     omega (arith, c.range-rows.ensures.long, c.h.ensures.value) in
-    kept_outside c.args.width c.range-columns.result.0 c.range-columns.result.1 c.range-rows.result.0 c.range-rows.result.1 c.args.part.now
+    kept_outside c.args.width c.range-columns.result.0 c.range-columns.result.1 c.range-rows.result.0
+    c.range-rows.result.1 c.args.part.now
     c.args.frame.now c.args.out.now c.copy.new.out x w y h c.copy.ensures.copied
 
 pub returns-clause-frame : goal.returns-clause-frame
@@ -93,7 +97,8 @@ returns-clause-frame c =
     omega (arith, ints, c.range-rows.ensures.from, c.y.ensures.value, c.y.ensures.range.0, c.y.ensures.range.1) in
     let h : c.range-rows.result.1 ≡ c.range-rows.result.0 + c.args.part.now.h =
     omega (arith, c.range-rows.ensures.long, c.h.ensures.value) in
-    whole_frame c.args.width c.range-columns.result.0 c.range-columns.result.1 c.range-rows.result.0 c.range-rows.result.1 c.args.part.now
+    whole_frame c.args.width c.range-columns.result.0 c.range-columns.result.1 c.range-rows.result.0
+    c.range-rows.result.1 c.args.part.now
     c.args.frame.now c.args.out.now c.copy.new.out x w y h c.copy.ensures.copied (c.copy.auto.out ∙ c.requires.out)
 
 pub returns-clause-screen : goal.returns-clause-screen
@@ -106,8 +111,10 @@ returns-clause-screen c =
     omega (arith, ints, c.range-rows.ensures.from, c.y.ensures.value, c.y.ensures.range.0, c.y.ensures.range.1) in
     let h : c.range-rows.result.1 ≡ c.range-rows.result.0 + c.args.part.now.h =
     omega (arith, c.range-rows.ensures.long, c.h.ensures.value) in
-    let edges = all_edges c.args.width c.args.height c.range-columns.result.0 c.range-columns.result.1 c.range-rows.result.0
-    c.range-rows.result.1 c.args.part.now c.args.frame.now c.args.out.now c.copy.new.out (Some c.in_ok-copy.field-0) x w y h
+    let edges = all_edges c.args.width c.args.height c.range-columns.result.0 c.range-columns.result.1
+    c.range-rows.result.0
+    c.range-rows.result.1 c.args.part.now c.args.frame.now c.args.out.now c.copy.new.out (Some c.in_ok-copy.field-0) x w
+    y h
     c.copy.ensures.copied c.requires.some c.requires.part c.in_ok-copy.ensures.edges in
     holds_of_it (LiesOn c.args.width c.args.height) _ _ c.rectangle_of.ensures.value
     (lies_on c.args.width c.args.height c.copy.new.out c.args.out.now _ c.requires.some edges)
@@ -125,8 +132,10 @@ returns-clause-inside c =
     let long = c.requires.frame ∙ mul_comm c.args.width c.args.height in
     let old = c.requires.out ∙ long in
     let new = c.copy.auto.out ∙ old in
-    let edges = all_edges c.args.width c.args.height c.range-columns.result.0 c.range-columns.result.1 c.range-rows.result.0
-    c.range-rows.result.1 c.args.part.now c.args.frame.now c.args.out.now c.copy.new.out (Some c.in_ok-copy.field-0) x w y h
+    let edges = all_edges c.args.width c.args.height c.range-columns.result.0 c.range-columns.result.1
+    c.range-rows.result.0
+    c.range-rows.result.1 c.args.part.now c.args.frame.now c.args.out.now c.copy.new.out (Some c.in_ok-copy.field-0) x w
+    y h
     c.copy.ensures.copied c.requires.some c.requires.part c.in_ok-copy.ensures.edges in
     holds_of_it (CoversChange c.args.width c.copy.new.out c.args.out.now) _ _ c.rectangle_of.ensures.value
     (covers_change c.args.width c.args.height c.copy.new.out c.args.out.now _ new old edges)
@@ -141,8 +150,10 @@ returns-clause-least c =
     omega (arith, ints, c.range-rows.ensures.from, c.y.ensures.value, c.y.ensures.range.0, c.y.ensures.range.1) in
     let h : c.range-rows.result.1 ≡ c.range-rows.result.0 + c.args.part.now.h =
     omega (arith, c.range-rows.ensures.long, c.h.ensures.value) in
-    let edges = all_edges c.args.width c.args.height c.range-columns.result.0 c.range-columns.result.1 c.range-rows.result.0
-    c.range-rows.result.1 c.args.part.now c.args.frame.now c.args.out.now c.copy.new.out (Some c.in_ok-copy.field-0) x w y h
+    let edges = all_edges c.args.width c.args.height c.range-columns.result.0 c.range-columns.result.1
+    c.range-rows.result.0
+    c.range-rows.result.1 c.args.part.now c.args.frame.now c.args.out.now c.copy.new.out (Some c.in_ok-copy.field-0) x w
+    y h
     c.copy.ensures.copied c.requires.some c.requires.part c.in_ok-copy.ensures.edges in
     holds_of_it (IsTouched c.args.width c.copy.new.out c.args.out.now) _ _ c.rectangle_of.ensures.value
     (touched c.args.width c.args.height c.copy.new.out c.args.out.now _ edges)
@@ -157,9 +168,12 @@ returns-clause-shown c =
     omega (arith, ints, c.range-rows.ensures.from, c.y.ensures.value, c.y.ensures.range.0, c.y.ensures.range.1) in
     let h : c.range-rows.result.1 ≡ c.range-rows.result.0 + c.args.part.now.h =
     omega (arith, c.range-rows.ensures.long, c.h.ensures.value) in
-    let edges = all_edges c.args.width c.args.height c.range-columns.result.0 c.range-columns.result.1 c.range-rows.result.0
-    c.range-rows.result.1 c.args.part.now c.args.frame.now c.args.out.now c.copy.new.out (Some c.in_ok-copy.field-0) x w y h
+    let edges = all_edges c.args.width c.args.height c.range-columns.result.0 c.range-columns.result.1
+    c.range-rows.result.0
+    c.range-rows.result.1 c.args.part.now c.args.frame.now c.args.out.now c.copy.new.out (Some c.in_ok-copy.field-0) x w
+    y h
     c.copy.ensures.copied c.requires.some c.requires.part c.in_ok-copy.ensures.edges in
     holds_of_it (AgreeIn c.args.width c.copy.new.out c.args.frame.now) _ _ c.rectangle_of.ensures.value
-    (shown_between c.args.width c.range-columns.result.0 c.range-columns.result.1 c.range-rows.result.0 c.range-rows.result.1 c.args.part.now
+    (shown_between c.args.width c.range-columns.result.0 c.range-columns.result.1 c.range-rows.result.0
+    c.range-rows.result.1 c.args.part.now
     c.args.frame.now c.args.out.now c.copy.new.out x w y h c.copy.ensures.copied c.args.height _ edges)
