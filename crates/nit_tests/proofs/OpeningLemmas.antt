@@ -21,6 +21,7 @@ use Rattle.nit_hall.specs.ClipOpening.{AreFirstClipPasses, first_clip_pass, with
 use Rattle.nit_hall.specs.Room.{RoomModel}
 use Rattle.nit_actor.specs.ClipRole.{ClipRole, GoTogether, IsPairIn, PairRole, clip_role_of}
 use Rattle.nit_actor.specs.ClipRole.{pair_role_of}
+use Rattle.nit_actor.specs.declared.pair.Pair.{Pair}
 use Rattle.std.proofs.lemmas.List.Elements.{All-cons}
 use Rattle.nit_clip.specs.ClipGrammar.{clip_phases}
 use Rattle.nit_script.specs.Phases.{phases}
@@ -218,12 +219,27 @@ one_pair parts ps qs p q e f belong clip_belong together = record {
       (subst (λ (xs : List PassModel). AllZip GoTogether xs qs) e together)).0;
 }
 
--- a clip pass that was alone, and is done in a pair of the same role
-pub one_done : (parts : OpeningParts) (qs : List ClipPassModel) (p p' : PassModel) (q q' : ClipPassModel) → qs ≡ q ∷ []
-    → AreFirstClipPasses parts qs → All (ClipBelongs parts) qs → pair_role_of p' q' ≡ pair_role_of p q
-    → q'.next ≡ length q'.script → AreDoneClips parts (q' ∷ [])
-one_done parts qs p p' q q' e first belong same ended =
-    clips_done parts (q ∷ []) (q' ∷ []) (subst (AreFirstClipPasses parts) e first)
-    (subst (All (ClipBelongs parts)) e belong)
-    (ap (λ (r : PairRole). r.clip ∷ []) same)
-    (All-cons (λ (x : ClipPassModel). x.next ≡ length x.script) q' [] ended (λ k d inside. absurd (omega arith)))
+-- and then so are all pairs of a list that has no other
+pub one_of : (parts : OpeningParts) (bs : List Pair) (b : Pair) → bs ≡ b ∷ [] → IsPairIn parts b.pass b.clip
+    → All (λ (c : Pair). IsPairIn parts c.pass c.clip) bs
+one_of parts bs b e pair =
+    subst (λ (cs : List Pair). All (λ (c : Pair). IsPairIn parts c.pass c.clip) cs) (sym e)
+    (All-cons (λ (c : Pair). IsPairIn parts c.pass c.clip) b [] pair (λ k d inside. absurd (omega arith)))
+
+abbrev role_of_pair : Pair → PairRole
+role_of_pair b = pair_role_of b.pass b.clip
+
+-- the clip pass of a pair that is alone, and has its role and is done
+pub one_done : (parts : OpeningParts) (qs : List ClipPassModel) (bs cs : List Pair) (b c : Pair) → qs ≡ b.clip ∷ []
+    → bs ≡ b ∷ [] → cs ≡ c ∷ [] → AreFirstClipPasses parts qs → All (ClipBelongs parts) qs
+    → map role_of_pair cs ≡ map role_of_pair bs → All (λ (b : Pair). b.clip.next ≡ length b.clip.script) cs
+    → AreDoneClips parts (c.clip ∷ [])
+one_done parts qs bs cs b c q e f first belong same ended =
+    let roles : map role_of_pair (c ∷ []) ≡ map role_of_pair (b ∷ []) =
+    sym (ap (λ (xs : List Pair). map role_of_pair xs) f) ∙ same ∙ ap (λ (xs : List Pair). map role_of_pair xs) e in
+    let done = subst (λ (xs : List Pair). All (λ (b : Pair). b.clip.next ≡ length b.clip.script) xs) f ended in
+    clips_done parts (b.clip ∷ []) (c.clip ∷ []) (subst (AreFirstClipPasses parts) q first)
+    (subst (All (ClipBelongs parts)) q belong)
+    (ap (λ (rs : List PairRole). map (λ (r : PairRole). r.clip) rs) roles)
+    (All-cons (λ (x : ClipPassModel). x.next ≡ length x.script) c.clip [] (done 0 c (omega arith))
+    (λ k d inside. absurd (omega arith)))

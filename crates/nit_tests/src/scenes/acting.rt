@@ -118,7 +118,7 @@ pub fn act_clips<'a, N: Name + Send + Sync, R: Abort + Threads + Wait + Sync>(
 /// The one element of a list, which has no other.
 #[tactic(auto, using(crate::proofs::OpeningLemmas::last_alone))]
 fn only<T: Drop>(rt: &impl Abort, list: Vec<T>) -> T
-    ensures { list.entry.items ≡ result ∷ [] }
+    ensures { list.items ≡ result ∷ [] }
 {
     let mut list = list;
     must(rt, "one client", list.len() == 1);
@@ -146,13 +146,32 @@ fn run_one_here<'a, N: Name, R: Abort + Wait>(
         ≡ picture_length N.parts.config.width N.parts.config.height }
     ensures { AreDoneClips N.parts (result ∷ []) }
 {
+    let alloc = *passes.allocator();
     let pass = only(rt, passes);
     let clip = only(rt, clips);
-    let mut pairs = [Pair { pass, clip }];
-    run_clips_here(rt, hall, &mut pairs, mine);
-    let [pair] = pairs;
-    let Pair { pass: _pass, clip } = pair;
+    let mut pairs = Vec::from_array(alloc, [Pair { pass, clip }]).expect(rt, "memory");
+    run_pairs_here(rt, hall, &mut pairs, mine);
+    let Pair { pass: _pass, clip } = only(rt, pairs);
     clip
+}
+
+/// Does all of these clients and of the user on the calling thread.
+fn run_pairs_here<'a, N: Name, R: Wait>(
+    rt: &R,
+    hall: &Hall<'a, N>,
+    pairs: &mut Vec<Pair<'a>>,
+    mine: Mine<'a, '_, MemoryStore>,
+)
+    requires pairs { All (λ b. IsPairIn N.parts b.pass b.clip) pairs.old.items }
+    requires user { UserBelongs N.parts mine.user }
+    requires frame { length mine.desk.frame.items ≡ N.parts.config.width * N.parts.config.height }
+    requires text { length mine.desk.text.items
+        ≡ picture_length N.parts.config.width N.parts.config.height }
+    ensures same { map (λ b. pair_role_of b.pass b.clip) pairs.new.items
+        ≡ map (λ b. pair_role_of b.pass b.clip) pairs.old.items }
+    ensures done { All (λ b. b.clip.next ≡ length b.clip.script) pairs.new.items }
+{
+    run_clips_here(rt, hall, pairs, mine);
 }
 
 fn assert_list(rt: &impl Abort, alloc: Global, entries: &[ClipEntry], wanted: &[u8]) {
