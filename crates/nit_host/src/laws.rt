@@ -13,8 +13,9 @@ use nit_journal::laws::{
     live_sessions_stay, releases_follow_presses_since_opening, seats_stand_alone,
 };
 
-/// Whatever a host is asked, what it serves are steps, each of the state before it: an entry that
-/// agrees with it, or the opening of a session that is over. They lead to the host's state.
+/// Whatever a host is asked, with looks wherever, what it serves are steps, each of the state
+/// before it: an entry that agrees with it, or the opening of a session that is over. They lead to
+/// the host's state. A look is no step.
 pub fn hosts_go_by_steps()
     ensures steps { (h : HostModel) (acts : List Act) → AreSteps h.state (steps_of h acts) }
     ensures state { (h : HostModel) (acts : List Act)
