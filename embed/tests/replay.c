@@ -6,8 +6,8 @@
  * `seat DONATION LAYER CLICKS LABEL` for each client, and `begin`; then the run in order: each
  * entry of its journal, `stroke CLIENT LINE` for what a client draws, and `picture NAME` where all
  * clients refresh all they have and the screen is to show the picture of that name. The run is made
- * with two servers in turn, one that the configuration opens and one that the seats open. The first
- * difference ends it with status 1. */
+ * with two servers in turn, one that the configuration opens and one that the seats open and that
+ * is looked at behind each step. The first difference ends it with status 1. */
 #include "replay_read.h"
 
 enum { SEATS = 16, LINE = 400 };
@@ -35,6 +35,11 @@ static void wrong(const struct run *run, const char *line, const char *what)
 {
     fprintf(stderr, "%s:%u: %s: %s\n", name_of_play, run->line, line, what);
     exit(1);
+}
+
+static struct nit_rect look_at(struct run *run, int k)
+{
+    return nit_look(&run->server[k], run->frame[k], (size_t)run->width * run->height);
 }
 
 /* ---- Calls. */
@@ -142,6 +147,7 @@ static void play_call(struct run *run, const char *line)
             wrong(run, line, "another reply");
         is_entry(run, &run->server[k], line);
     }
+    look_at(run, 1);
     if (want.kind == NIT_DONE && sscanf(asked, "buffer %u %u", &w, &h) == 2)
         has_buffer(&run->drawing[seat], w, h);
     if (want.kind == NIT_DONE && begins(asked, "close"))
@@ -157,6 +163,7 @@ static void play_input(struct run *run, const char *line)
             wrong(run, line, "it goes elsewhere");
         is_entry(run, &run->server[k], line);
     }
+    look_at(run, 1);
 }
 
 static void play_stroke(struct run *run, const char *line)
@@ -224,21 +231,31 @@ static void look(struct run *run, int k, const uint8_t *pixels, const char *line
     uint32_t *before = malloc(4 * count), *frame = run->frame[k];
     CHECK(before != NULL);
     memcpy(before, frame, 4 * count);
-    struct nit_rect part = nit_look(&run->server[k], frame, count);
+    struct nit_rect part = look_at(run, k);
     if (part.kind != NIT_DONE || !is_least(run, part, before, frame))
         wrong(run, line, "a look tells another part than the least that changed");
     for (size_t n = 0; n < count; n++)
         if (frame[n] != ((uint32_t)pixels[3 * n] << 16 | (uint32_t)pixels[3 * n + 1] << 8
                          | pixels[3 * n + 2]))
             wrong(run, line, "the screen shows something else");
-    if (nit_look(&run->server[k], frame, count).w != 0)
+    if (look_at(run, k).w != 0)
         wrong(run, line, "a second look tells a change");
     free(before);
+}
+
+/* The second server was looked at behind each step, and the first is looked at now. */
+static void show_the_same(struct run *run, const char *line)
+{
+    look_at(run, 0);
+    look_at(run, 1);
+    if (memcmp(run->frame[0], run->frame[1], 4 * (size_t)run->width * run->height) != 0)
+        wrong(run, line, "looks behind each step miss something");
 }
 
 static void play_picture(struct run *run, const char *line)
 {
     uint8_t *pixels = picture_at(run, line, line + 8);
+    show_the_same(run, line);
     for (int k = 0; k < 2; k++) {
         refresh_all(run, &run->server[k], line);
         look(run, k, pixels, line);
