@@ -14,7 +14,7 @@ pub use Rattle.nit_actor.specs.Shots.{ShotsBehind}
 pub use Rattle.nit_actor.specs.Turn.{ActorLine, ByClient, ByUser, LineTurn}
 pub use Rattle.nit_actor.specs.TurnActions.{AreRoundsOf, actions_of_turns, input_by_user}
 pub use Rattle.nit_actor.specs.TurnActions.{input_lines_of}
-pub use Rattle.nit_actor.specs.declared.clip_beside.Pair.{Pair}
+pub use Rattle.nit_actor.specs.declared.pair.Pair.{Pair}
 pub use Rattle.nit_capture.specs.Capture.{CaptureModel, cropped_bytes, first_capture, next_record}
 pub use Rattle.nit_capture.specs.Capture.{with_last}
 pub use Rattle.nit_capture.specs.Crop.{screen}
