@@ -77,13 +77,13 @@ struct work {
 };
 
 static const struct work works[] = {
-    { "a refresh of 200 by 200, and a look", small_refresh, 50 },
-    { "a refresh of 1000 by 700, and a look", large_refresh, 5 },
-    { "a call that changes nothing", no_event, 2000 },
     { "one of 64 views moved, and a look", moved_view, 1000 },
+    { "a refresh of 1000 by 700, and a look", large_refresh, 5 },
+    { "a refresh of 200 by 200, and a look", small_refresh, 50 },
+    { "a call that changes nothing", no_event, 2000 },
 };
 
-static double time_of(const struct work *work)
+static void tell(const struct work *work)
 {
     double least = 1e18;
     work->step();
@@ -94,7 +94,7 @@ static double time_of(const struct work *work)
         double took = (now() - begun) / work->steps;
         least = took < least ? took : least;
     }
-    return least;
+    printf("%s\t%.1f\n", work->name, least);
 }
 
 /* ---- The screen: one client's large view, and another one's 64 small ones behind it. */
@@ -129,12 +129,12 @@ int main(void)
 {
     open_screen();
     open_views();
-    printf("%s\t%.1f\n", works[3].name, time_of(&works[3]));
+    tell(&works[0]);
     must(nit_view(&server, 0).handle == 1, "no view");
     must(nit_place(&server, 0, 1, 10, 20, 1000, 700).kind == NIT_DONE, "not placed");
     refresh(1000, 700);
-    for (int k = 0; k < 3; k++)
-        printf("%s\t%.1f\n", works[k].name, time_of(&works[k]));
+    for (int k = 1; k < 4; k++)
+        tell(&works[k]);
     nit_close(&server);
     return 0;
 }
