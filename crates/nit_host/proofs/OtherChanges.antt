@@ -1,6 +1,6 @@
 -- What of the frame the user changes, and a client that comes.
 use Rattle.std.proofs.Common.{[], ◌∷◌, ◌||◌}
-use Rattle.std.proofs.Common.{Bool, List, Option, ap, false, refl}
+use Rattle.std.proofs.Common.{Bool, List, Option, ap, false, map, refl}
 use Rattle.std.proofs.Common.{subst, sym, true, ℕ, ◌%◌, ◌/◌, ◌<◌}
 use Rattle.std.proofs.Common.{◌∙◌, ◌≡◌}
 use Rattle.std.proofs.lemmas.Bool.{false≢true}
@@ -14,14 +14,18 @@ use Rattle.nit_host.specs.Below.{Mode, Point, State, after, bar_rows}
 use Rattle.nit_host.specs.Below.{Delivery, Device, Routed, deliveries_of, is_kill, kills, list_any}
 use Rattle.nit_host.specs.Below.{opened, route, routed_as}
 use Rattle.nit_host.specs.Below.{pixel, pixel_count}
-use Rattle.nit_host.specs.Below.{source_at, word_from}
+use Rattle.nit_host.specs.Below.{scenery_of, source_at, word_from}
+use Rattle.nit_host.specs.Below.{View}
+use Rattle.nit_journal.specs.StackAfter.{after_deliveries, after_delivery}
+use Rattle.nit_overlay.specs.Frame.{Scenery, shown}
+use Rattle.std.proofs.lemmas.Bool.{or_parts}
 use Rattle.nit_host.specs.Area.{StaysOutside, has_place}
 use Rattle.nit_host.specs.Host.{frame_by, sheet_in}
 use Rattle.nit_host.specs.Looked.{IsSeenBut}
 use Rattle.nit_host.specs.Touch.{HoldsBar, HoldsBarIn}
 use Rattle.nit_host.specs.declared.host.area.Area.{Area}
 use Rattle.nit_host.proofs.Steps.{KeepSources}
-use Rattle.nit_host.proofs.Frames.{flat_stays, seen_after, whole_stays}
+use Rattle.nit_host.proofs.Frames.{flat_stays, frame_pixel, seen_after, whole_stays}
 
 -- ---- steps that show each pixel's word where it was
 
@@ -82,7 +86,7 @@ none_killed s p (d ∷ ds) none = go d.item (none_killed s p ds) none
     go (item.Event e) further rest = further rest
     go item.Kill further rest = cc
 
-pub seen_told : (s s' : State) (dev : Device) (routed : Routed) (sheets sheets' : List (List ℕ))
+seen_told : (s s' : State) (dev : Device) (routed : Routed) (sheets sheets' : List (List ℕ))
     (a0 before now a1 a2 : Area) (seen : Option (List ℕ))
     → routed ≡ routed_as (route s.config s.input s.stack dev).deliveries → KeepSources
     → s' ≡ after s (entry.Input dev routed) → sheets' ≡ sheets → HoldsBar s before → HoldsBar s' now
@@ -124,6 +128,90 @@ seen_told s s' dev routed sheets sheets' a0 before now a1 a2 seen agrees keep is
     go false none =
         bar_changes s (after s (entry.Input dev routed)) sheets sheets' a2 refl refl refl (words none)
         (bar_more s before a2 holds (λ x y in_. own' x y (others x y in_))) holds''
+
+-- ---- a step of the user that changes nothing of what is shown
+
+kept_views : (ds : List Delivery) (stack : List View) → kills ds ≡ false → after_deliveries ds stack ≡ stack
+kept_views [] stack e = refl
+kept_views (d ∷ ds) stack e = kept_views ds (after_delivery d stack) parts.1 ∙ one d.sid d.item parts.0
+  where
+    parts : (is_kill d.item ≡ false) × (kills ds ≡ false)
+    parts = or_parts (is_kill d.item) (kills ds) e
+
+    one : (sid : ℕ) (i : Item) → is_kill i ≡ false → after_delivery (record { sid = sid; item = i }) stack ≡ stack
+    one sid (item.Event x) f = refl
+    one sid item.Kill f = cc
+
+told_words : (s : State) (dev : Device) (routed : Routed) (sheets sheets' : List (List ℕ))
+    → routed ≡ routed_as (route s.config s.input s.stack dev).deliveries → KeepSources → sheets' ≡ sheets
+    → kills (deliveries_of routed) ≡ false → (k : ℕ) → word_from (sheet_in sheets) (source_at s k)
+    ≡ word_from (sheet_in sheets') (source_at (after s (entry.Input dev routed)) k)
+told_words s dev routed sheets sheets' agrees keep same none k =
+    ap (word_from (sheet_in sheets)) (sym (keep s 0 (entry.Input dev routed) (pixel s.config.width k) agrees
+    (none_killed s (pixel s.config.width k) (deliveries_of routed) none)))
+    ∙ ap (λ (ss : List (List ℕ)). word_from (sheet_in ss) (source_at (after s (entry.Input dev routed)) k))
+    (sym same)
+
+seen_quiet : (s s' : State) (dev : Device) (routed : Routed) (sheets sheets' : List (List ℕ)) (a0 a1 : Area)
+    (seen : Option (List ℕ)) → routed ≡ routed_as (route s.config s.input s.stack dev).deliveries
+    → deliveries_of routed ≡ (route s.config s.input s.stack dev).deliveries → KeepSources
+    → s' ≡ after s (entry.Input dev routed) → sheets' ≡ sheets → kills (deliveries_of routed) ≡ false
+    → s.input.mode ≡ s'.input.mode → s.input.focus ≡ s'.input.focus
+    → ((x y : ℕ) → has_place a0 x y ≡ true → has_place a1 x y ≡ true) → IsSeenBut s sheets a0 seen
+    → IsSeenBut s' sheets' a1 seen
+seen_quiet s s' dev routed sheets sheets' a0 a1 seen agrees told keep is same none mode_is focus_is own known =
+    subst (λ (x : State). IsSeenBut x sheets' a1 seen) (sym is)
+    (seen_after s (after s (entry.Input dev routed)) sheets sheets' a1 refl refl refl a0 seen known own
+    (λ k less off.
+    frame_pixel s sheets k less
+    ∙ ap (shown (scenery_of s) (pixel s.config.width k))
+    (told_words s dev routed sheets sheets' agrees keep same none k)
+    ∙ ap (λ (c : Scenery). shown c (pixel s.config.width k)
+    (word_from (sheet_in sheets') (source_at (after s (entry.Input dev routed)) k))) shows
+    ∙ sym (frame_pixel (after s (entry.Input dev routed)) sheets' k less)))
+  where
+    stays : s.stack ≡ (after s (entry.Input dev routed)).stack
+    stays = sym (kept_views (route s.config s.input s.stack dev).deliveries s.stack (sym (ap kills told) ∙ none))
+
+    modes : s.input.mode ≡ (after s (entry.Input dev routed)).input.mode
+    modes = mode_is ∙ ap (λ (x : State). x.input.mode) is
+
+    focuses : s.input.focus ≡ (after s (entry.Input dev routed)).input.focus
+    focuses = focus_is ∙ ap (λ (x : State). x.input.focus) is
+
+    shows : scenery_of s ≡ scenery_of (after s (entry.Input dev routed))
+    shows i = record {
+      width = s.config.width;
+      height = s.config.height;
+      bar = bar_rows s.config;
+      stack = stays i;
+      labels = map (λ m. m.label) s.config.clients;
+      mode = modes i;
+      focus = focuses i;
+    }
+
+-- what the user does, by whether the screen shows the same
+pub seen_input : (is_same : Bool) (s s' : State) (dev : Device) (routed : Routed) (sheets sheets' : List (List ℕ))
+    (a0 before now a1 : Area) (seen : Option (List ℕ))
+    → routed ≡ routed_as (route s.config s.input s.stack dev).deliveries
+    → deliveries_of routed ≡ (route s.config s.input s.stack dev).deliveries → KeepSources
+    → s' ≡ after s (entry.Input dev routed) → sheets' ≡ sheets → HoldsBar s before → HoldsBar s' now
+    → (kills (deliveries_of routed) ≡ true → (x y : ℕ) → x < s'.config.width → y < s'.config.height
+    → has_place now x y ≡ true)
+    → (is_same ≡ true → kills (deliveries_of routed) ≡ false) → (is_same ≡ true → s.input.mode ≡ s'.input.mode)
+    → (is_same ≡ true → s.input.focus ≡ s'.input.focus)
+    → ((x y : ℕ) → has_place a0 x y ≡ true → has_place a1 x y ≡ true)
+    → (is_same ≡ false → (x y : ℕ) → has_place before x y ≡ true → has_place a1 x y ≡ true)
+    → (is_same ≡ false → (x y : ℕ) → has_place now x y ≡ true → has_place a1 x y ≡ true)
+    → IsSeenBut s sheets a0 seen → IsSeenBut s' sheets' a1 seen
+seen_input true s s' dev routed sheets sheets' a0 before now a1 seen agrees told keep is same holds holds' killed none
+    modes focuses own others others' known =
+    seen_quiet s s' dev routed sheets sheets' a0 a1 seen agrees told keep is same (none refl) (modes refl)
+    (focuses refl) own known
+seen_input false s s' dev routed sheets sheets' a0 before now a1 seen agrees told keep is same holds holds' killed none
+    modes focuses own others others' known =
+    seen_told s s' dev routed sheets sheets' a0 before now a1 a1 seen agrees keep is same holds holds' killed own
+    (others refl) (λ x y in_. in_) (others' refl) known
 
 -- ---- a client that comes
 

@@ -72,6 +72,25 @@ impl Area {
         }
     }
 
+    /// An area that has all pixels of it, and those of both others unless nothing changed.
+    pub(crate) fn join_unless(&self, is_same: bool, before: &Area, after: &Area) -> Area
+        ensures area { (width height : ℕ) → IsAreaOf width height self.now
+            → IsAreaOf width height before.now → IsAreaOf width height after.now
+            → IsAreaOf width height result }
+        ensures same { is_same ≡ true → result ≡ self.now }
+        ensures own { (x y : ℕ) → has_place self.now x y ≡ true → has_place result x y ≡ true }
+        ensures before { is_same ≡ false → (x y : ℕ) → has_place before.now x y ≡ true
+            → has_place result x y ≡ true }
+        ensures after { is_same ≡ false → (x y : ℕ) → has_place after.now x y ≡ true
+            → has_place result x y ≡ true }
+    {
+        if is_same {
+            *self
+        } else {
+            self.join(before).join(after)
+        }
+    }
+
     /// The area that is bounded by the outermost edges of both.
     fn around(&self, other: &Area) -> Area
         ensures area { (width height : ℕ) → IsAreaOf width height self.now

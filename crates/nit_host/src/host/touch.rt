@@ -209,12 +209,41 @@ pub(crate) fn told(desktop: &Desktop<Sheet>, routed: &Routed) -> Area
         → x < desktop.now.state.config.width → y < desktop.now.state.config.height
         → has_place result x y ≡ true }
 {
-    if kills(&routed.a) || kills(&routed.b) || kills(&routed.c) {
+    if locks_out(routed) {
         let size = desktop.size();
         Area::of_rows(size.0, size.1)
     } else {
         bar_or_screen(desktop)
     }
+}
+
+/// The mode, and who has the focus: what the bar tells.
+pub(crate) fn bar_tells(desktop: &Desktop<Sheet>) -> (Mode, Option<u32>)
+    ensures mode { result.0 ≡ desktop.now.state.input.mode }
+    ensures focus { result.1 ≡ desktop.now.state.input.focus }
+{
+    (desktop.mode(), desktop.focus())
+}
+
+/// Whether the user has changed nothing of what is shown: nobody is locked out, and the bar tells
+/// the same.
+pub(crate) fn shows_the_same(
+    before: (Mode, Option<u32>),
+    after: (Mode, Option<u32>),
+    routed: &Routed,
+) -> bool
+    ensures told { result ≡ true → kills (deliveries_of routed.now) ≡ false }
+    ensures mode { result ≡ true → before.0 ≡ after.0 }
+    ensures focus { result ≡ true → before.1 ≡ after.1 }
+{
+    before.0 == after.0 && before.1 == after.1 && !locks_out(routed)
+}
+
+/// Whether a client is locked out.
+fn locks_out(routed: &Routed) -> bool
+    ensures { result ≡ kills (deliveries_of routed.now) }
+{
+    kills(&routed.a) || kills(&routed.b) || kills(&routed.c)
 }
 
 /// Whether it locks a client out.

@@ -4,7 +4,7 @@ ghost use Rattle.std.specs.Prelude.{◌≡◌, None, Some, Ok, Err};
 ghost use Rattle.nit_host.specs.Terms.{Unserved, is_device, routed_of, told, unserved_input};
 
 use crate::host::Host;
-use crate::host::touch::{bar_or_screen, told};
+use crate::host::touch::{bar_or_screen, bar_tells, shows_the_same, told};
 use crate::refusal::Unserved;
 use nit_events::{Device, Entry, Routed};
 use nit_screen::laws::clean_pixels_keep_their_source;
@@ -34,10 +34,12 @@ impl Host {
         }
         clean_pixels_keep_their_source();
         self.desktop.facts();
+        let bar = bar_tells(&self.desktop);
         let before = bar_or_screen(&self.desktop);
         let routed = self.desktop.input(device);
         let after = told(&self.desktop, &routed);
-        self.changed = self.changed.join(&before).join(&after);
+        let is_same = shows_the_same(bar, bar_tells(&self.desktop), &routed);
+        self.changed = self.changed.join_unless(is_same, &before, &after);
         self.last = Some(Entry::Input {
             dev: device,
             routed,
