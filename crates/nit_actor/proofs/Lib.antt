@@ -1,4 +1,5 @@
 pub mod RunStateLemmas
+pub mod OneMove
 pub mod TurnPremises
 pub mod ShotLemmas
 pub mod LineRecords

@@ -1,20 +1,20 @@
 -- A run that is under way: how it begins, what one turn does, and what holds at its end.
-use Rattle.std.proofs.Common.{Bool, List, None, Option, Some, [], add-zero, ap, append-nil}
+use Rattle.std.proofs.Common.{Bool, List, None, Option, Some, [], ap, append-nil}
 use Rattle.std.proofs.Common.{append_assoc, arith, cond, false, get_or-set_other, get_or-set_same}
 use Rattle.std.proofs.Common.{inl, inr, length, length-append, length-set, map, refl, set, subst}
 use Rattle.std.proofs.Common.{sym, take, true, zero-add, ℕ, ◌++◌, ◌+◌, ◌<◌, ◌∙◌, ◌∷◌, ◌≡◌, ◌≢◌, ◌≤◌}
-use Rattle.nit_actor.proofs.Basics.{Action, ActorLine, AreQuiet, AreRaw, Bare, ByClient, ByUser}
+use Rattle.nit_actor.proofs.Basics.{Action, ActorLine, AreRaw, Bare, ByClient, ByUser}
 use Rattle.nit_actor.proofs.Basics.{Configuration, Drawing, Entry, InputLine, IsDrawn, IsLegal}
 use Rattle.nit_actor.proofs.Basics.{IsMoved, IsOpen, IsRawOf, IsRecorded, IsRoundsRun, IsSetUp}
 use Rattle.nit_actor.proofs.Basics.{IsShowing, IsUnderWay, IsUserRecorded, Line, LineTurn, Painting}
 use Rattle.nit_actor.proofs.Basics.{PixelSource, PlanModel, Point, SceneModel, ShotFrame, ShowsEach}
 use Rattle.nit_actor.proofs.Basics.{ShowsLine, Sight, Size, State, View, action_of, actions_of_line}
 use Rattle.nit_actor.proofs.Basics.{actions_of_turns, after_turn, bar_rows, bare_word, blank}
-use Rattle.nit_actor.proofs.Basics.{buffer_size, cases_eq, cases_lt, donation_of, done_after, drawn}
-use Rattle.nit_actor.proofs.Basics.{drawn_shot, entry_of, eq-eqb, first_state, flat_map-append}
-use Rattle.nit_actor.proofs.Basics.{get_or_past, glass_after, glass_in, in_bar, ink, input_lines_of}
-use Rattle.nit_actor.proofs.Basics.{length-map, length-take-le, line_by, lines_of, map-append}
-use Rattle.nit_actor.proofs.Basics.{ne_eqb, no_sight, painted_from, pixel, pixel_count, replay}
+use Rattle.nit_actor.proofs.Basics.{buffer_size, cases_eq, donation_of, done_after, drawn}
+use Rattle.nit_actor.proofs.Basics.{drawn_shot, entry_of, first_state}
+use Rattle.nit_actor.proofs.Basics.{glass_after, glass_in, in_bar, ink, input_lines_of}
+use Rattle.nit_actor.proofs.Basics.{length-take-le, line_by, lines_of, map-append}
+use Rattle.nit_actor.proofs.Basics.{no_sight, painted_from, pixel, pixel_count, replay}
 use Rattle.nit_actor.proofs.Basics.{rounds, script_in, shot_frames_of, shots, shots_after}
 use Rattle.nit_actor.proofs.Basics.{slice_get, slice_get_within, slice_index_or, source_at}
 use Rattle.nit_actor.proofs.Basics.{source_under, state_now, tables_after, turn_of, words_after}
@@ -26,77 +26,8 @@ use Rattle.nit_actor.specs.declared.turn.Turn.TheVariants as turn
 use Rattle.nit_actor.proofs.DrawingLemmas.{done_more, drawn_more, moved_on, none_drawn, shows_drawn}
 use Rattle.nit_actor.proofs.TableWords.{AreOf, tables_told}
 use Rattle.nit_actor.proofs.ShotLemmas.{device_shots, line_shots, shot_counted}
-
--- ---- one move more
-
-lines_more : (t : ℕ) (front : List LineTurn) (m : LineTurn) → length (lines_of t (front ++ m ∷ []))
-    ≡ length (lines_of t front) + length (line_by t m.doing)
-lines_more t front m =
-    ap (λ (ls : List Line). length ls) (flat_map-append (λ (x : LineTurn). line_by t x.doing) front (m ∷ [])
-    ∙ ap (λ (ls : List Line). lines_of t front ++ ls) (append-nil (line_by t m.doing)))
-    ∙ length-append (lines_of t front) (line_by t m.doing)
-
--- a move of another actor
-none_more : (t : ℕ) (front : List LineTurn) (m : LineTurn) → length (line_by t m.doing) ≡ 0
-    → length (lines_of t (front ++ m ∷ [])) ≡ length (lines_of t front)
-none_more t front m none = lines_more t front m ∙ ap (λ (n : ℕ). length (lines_of t front) + n) none
-    ∙ add-zero (length (lines_of t front))
-
-acts_more : (front : List LineTurn) (m : LineTurn) → actions_of_turns (front ++ m ∷ []) ≡ actions_of_turns front
-    ++ actions_of_line m.doing
-acts_more front m = flat_map-append (λ (x : LineTurn). actions_of_line x.doing) front (m ∷ [])
-    ∙ ap (λ (xs : List Action). actions_of_turns front ++ xs) (append-nil (actions_of_line m.doing))
-
-own_line : (s : ℕ) (l : Line) (d : ActorLine) → d ≡ ByClient s l → length (line_by s d) ≡ 1
-own_line s l d is = ap (λ (x : ActorLine). length (line_by s x)) is ∙ rw (eq-eqb s s refl) refl
-
-other_line : (s t : ℕ) (l : Line) (d : ActorLine) → t ≢ s → d ≡ ByClient s l → length (line_by t d) ≡ 0
-other_line s t l d other is = ap (λ (x : ActorLine). length (line_by t x)) is
-    ∙ rw (ne_eqb s t (λ e. other (sym e))) refl
-
-user_line : (t : ℕ) (l : InputLine) (d : ActorLine) → d ≡ ByUser l → length (line_by t d) ≡ 0
-user_line t l d is = ap (λ (x : ActorLine). length (line_by t x)) is
-
-recorded_acts : (sid : ℕ) (l : Line) (before after' : List Entry) → IsRecorded sid l before after'
-    → map action_of after' ≡ map action_of before ++ actions_of_line (ByClient sid l)
-recorded_acts sid (line.Call call) before after' recorded = ap (map action_of) recorded.1
-    ∙ map-append action_of before (entry.Call sid call recorded.0 ∷ [])
-recorded_acts sid (line.Stroke s) before after' recorded = ap (map action_of) recorded
-    ∙ sym (append-nil (map action_of before))
-recorded_acts sid line.Phase before after' recorded = ap (map action_of) recorded
-    ∙ sym (append-nil (map action_of before))
-
--- an entry for a move that is left fits
-pub room_for : (scripts : List (List Line)) (lines : List InputLine) (before now : SceneModel Sight) (owns : List Sight)
-    (m : LineTurn) (left : List LineTurn) (a : Action) → IsUnderWay scripts lines before now owns (m ∷ left)
-    → actions_of_line m.doing ≡ a ∷ []
-    → length (actions_of_turns (rounds scripts lines)) ≤ before.spare → 1 ≤ now.spare
-room_for scripts lines before now owns m left a w one room =
-    let all : length (actions_of_turns (rounds scripts lines))
-    ≡ length (actions_of_turns w.front) + length (actions_of_turns (m ∷ left)) =
-    ap (λ (ms : List LineTurn). length (actions_of_turns ms)) w.parts
-    ∙ ap (λ (xs : List Action). length xs)
-    (flat_map-append (λ (x : LineTurn). actions_of_line x.doing) w.front (m ∷ left))
-    ∙ length-append (actions_of_turns w.front) (actions_of_turns (m ∷ left)) in
-    let more : length (actions_of_turns (m ∷ left))
-    ≡ length (actions_of_line m.doing) + length (actions_of_turns left) =
-    length-append (actions_of_line m.doing) (actions_of_turns left) in
-    let here : length (actions_of_line m.doing) ≡ 1 = ap (λ (xs : List Action). length xs) one in
-    let long : length now.entries ≡ length (actions_of_turns w.front) = sym (length-map now.entries action_of)
-    ∙ ap (λ (xs : List Action). length xs) w.entries in
-    let sum' : length now.entries + now.spare ≡ before.spare = w.spare in
-    omega (arith, all, more, here, long, sum', room)
-
--- no glass tells a log
-pub quiet_now : (scripts : List (List Line)) (lines : List InputLine) (before now : SceneModel Sight)
-    (owns : List Sight) (left : List LineTurn) → IsUnderWay scripts lines before now owns left → AreQuiet now.glasses
-quiet_now scripts lines before now owns left w t =
-    ap (λ (gs : List Sight). (glass_in gs t).log) w.same
-    ∙ elim (cases_lt t (length scripts)) [
-      | inl inside ↦ ap (λ (g : Sight). g.log) (w.done t inside)
-      | inr past ↦ ap (λ (g : Sight). g.log)
-          (get_or_past owns t no_sight (subst (λ (n : ℕ). n ≤ t) (sym w.owns_each) past))
-    ]
+use Rattle.nit_actor.proofs.OneMove.{acts_more, lines_more, none_more, other_line, own_line}
+use Rattle.nit_actor.proofs.OneMove.{recorded_acts, user_line}
 
 -- ---- a turn
 

@@ -15,7 +15,8 @@ use Rattle.nit_script.specs.declared.line.InputLine.TheVariants as input
 use Rattle.nit_actor.specs.declared.turn.Turn.TheVariants as turn
 use Rattle.nit_actor.proofs.RunStateLemmas.{ClientTells, ClientDone, UserTells, UserDone}
 use Rattle.nit_actor.proofs.RunStateLemmas.{IsClientsMove, IsUsersMove, clients_move, users_move}
-use Rattle.nit_actor.proofs.RunStateLemmas.{own_glass, room_for}
+use Rattle.nit_actor.proofs.RunStateLemmas.{own_glass}
+use Rattle.nit_actor.proofs.OneMove.{room_for}
 
 -- ---- a client's turn
 

@@ -1,4 +1,5 @@
 pub mod GoodEntryLemmas
+pub mod ActorTasks
 pub mod VerdictLemmas
 mod GoodAndWhole
 mod KeyLemmas

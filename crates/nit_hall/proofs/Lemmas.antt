@@ -40,9 +40,12 @@ pub use Rattle.nit_hall.proofs.ScriptsFollowed.{calls_front_of, deeds_front_of, 
 pub use Rattle.nit_hall.proofs.ServedCalls.{booked_more, calls_made, calls_then, found, next_at}
 pub use Rattle.nit_hall.proofs.ServedCalls.{own_seen, pass_call, pass_met, room_call, sight_as}
 pub use Rattle.nit_hall.proofs.ServedCalls.{spare_left, state_later, still_open, told_between}
-pub use Rattle.nit_hall.proofs.ServedClips.{CallLaws, IsKnownClip, clip_counted, clip_far, clip_met}
-pub use Rattle.nit_hall.proofs.ServedClips.{clip_pass_call, clip_pass_phase, clips_met_below}
-pub use Rattle.nit_hall.proofs.ServedClips.{clips_whole, follows_then, found_clip, number_is}
-pub use Rattle.nit_hall.proofs.ServedClips.{room_clip, room_left, served_clip}
+pub use Rattle.nit_hall.proofs.ServedClips.{CallLaws}
+pub use Rattle.nit_hall.proofs.ClipAlong.{IsKnownClip, clip_counted, clip_far, clip_met}
+pub use Rattle.nit_hall.proofs.ClipAlong.{clip_pass_call, clip_pass_phase, clips_met_below}
+pub use Rattle.nit_hall.proofs.ServedClips.{follows_then}
+pub use Rattle.nit_hall.proofs.ClipAlong.{clips_whole, found_clip, number_is}
+pub use Rattle.nit_hall.proofs.ServedClips.{room_clip, room_left}
+pub use Rattle.nit_hall.proofs.ClipAlong.{served_clip}
 pub use Rattle.nit_hall.proofs.UserActions.{adds_input, adds_shot, done_input, done_shot}
 pub use Rattle.nit_hall.proofs.UserActions.{found_user, room_deed, user_deed, user_met}

@@ -18,8 +18,6 @@ pub mod laws;
 mod planning;
 mod refusal;
 mod sheet;
-#[cfg(test)]
-mod tests;
 
 pub use host::Host;
 pub use planning::{SeatPlan, plan};

@@ -5,17 +5,17 @@ pub use Rattle.nit_journal.proofs.Isolation.{entry_keeps_all, served_alone, two_
 pub use Rattle.nit_journal.proofs.JournalFronts.{agrees_behind, front_legal, front_open, legal_more}
 pub use Rattle.nit_journal.proofs.JournalFronts.{next_agrees, replay_more}
 pub use Rattle.nit_journal.proofs.KnownSessions.{kills_alone}
-pub use Rattle.nit_journal.proofs.LiveSessions.{deliveries_are_live, live_after, live_along}
-pub use Rattle.nit_journal.proofs.LiveSessions.{live_first, live_opened, live_vacant, told_are_live}
-pub use Rattle.nit_journal.proofs.LiveSessions.{told_next}
+pub use Rattle.nit_journal.proofs.LiveAlong.{deliveries_are_live, live_after, live_along}
+pub use Rattle.nit_journal.proofs.LiveAlong.{live_first, live_opened, live_vacant, told_are_live}
+pub use Rattle.nit_journal.proofs.LiveAlong.{told_next}
 pub use Rattle.nit_journal.proofs.Machines.{stands_alone}
 pub use Rattle.nit_journal.proofs.OwnCalls.{answered_alike, as_its_calls_have_it}
 pub use Rattle.nit_journal.proofs.PressLemmas.{receiver_holds, releases_follow}
 pub use Rattle.nit_journal.proofs.PressesSince.{releases_since}
 pub use Rattle.nit_journal.proofs.Queues.{only_taken}
 pub use Rattle.nit_journal.proofs.QuotaRefusals.{lacks_by_itself}
-pub use Rattle.nit_journal.proofs.ReachLemmas.{buttons_go, held_goes, keys_go, kill_tells}
-pub use Rattle.nit_journal.proofs.ReachLemmas.{mode_keys_tell, xray_tells}
+pub use Rattle.nit_journal.proofs.QuietInput.{buttons_go, held_goes, keys_go, kill_tells}
+pub use Rattle.nit_journal.proofs.QuietInput.{mode_keys_tell, xray_tells}
 pub use Rattle.nit_journal.proofs.SameActions.{same_journal}
 pub use Rattle.nit_journal.proofs.SessionLists.{as_many_as_clients, call_of_another, same_config}
 pub use Rattle.nit_journal.proofs.SessionLists.{same_throughout}

@@ -11,11 +11,15 @@ pub mod QuotaRefusals
 pub mod Focus
 pub mod KnownSessions
 pub mod LiveSessions
+pub mod LiveAlong
 pub mod ProjectionLemmas
 pub mod StepLemmas
 pub mod PressLemmas
+pub mod HeldInput
+pub mod HeldCodes
 pub mod PressesSince
 pub mod ReachLemmas
+pub mod QuietInput
 pub mod Examples
 pub mod Machines
 pub mod CallRefusals

@@ -4,10 +4,10 @@ use Rattle.nit_journal.proofs.Basics.{Event, Flat, Gets, InputState, IsDown, IsL
 use Rattle.nit_journal.proofs.Basics.{LegalFrom, Mode, Observation, Reply, Routing, State, Xray}
 use Rattle.nit_journal.proofs.Basics.{after, bar_rows, clicks_on, either, eq-eqb, eqb-true}
 use Rattle.nit_journal.proofs.Basics.{false≢true, first_state, input_after_call, is_accepted}
-use Rattle.nit_journal.proofs.Basics.{is_release, items_to, list_any, not, option_map, or_from}
+use Rattle.nit_journal.proofs.Basics.{is_release, items_to, list_any, not, option_map}
 use Rattle.nit_journal.proofs.Basics.{or_parts, owner, point, projection, replay, replay_from}
-use Rattle.std.proofs.Common.{Bool, List, None, Option, Some, [], ap, append-nil, append_assoc}
-use Rattle.std.proofs.Common.{cond, false, filter, refl, subst, sym, true, ℕ, ◌&&◌, ◌++◌, ◌+◌, ◌==◌}
+use Rattle.std.proofs.Common.{Bool, List, None, Option, Some, [], ap}
+use Rattle.std.proofs.Common.{false, filter, refl, subst, sym, true, ℕ, ◌&&◌, ◌++◌, ◌+◌, ◌==◌}
 use Rattle.std.proofs.Common.{◌∙◌, ◌∷◌, ◌≡◌, if◌then◌else◌, ◌||◌}
 use Rattle.nit_journal.specs.State.{route}
 use Rattle.nit_events.specs.declared.event.Event.TheVariants as event
@@ -17,176 +17,10 @@ use Rattle.nit_events.specs.declared.entry.Entry.TheVariants as entry
 use Rattle.nit_events.specs.Input
 use Rattle.nit_stack.specs.declared.view.View.{View}
 use Rattle.nit_journal.proofs.Isolation.{entry_keeps_all}
-
--- ---- whether a code is down
-
--- after one moment more
-abbrev pub next : ℕ → Observation → Bool → Bool
-next k (Gets (item.Event (event.Press j))) b = if j == k then true else b
-next k (Gets (item.Event (event.Release j))) b = if j == k then false else b
-next k other b = b
-
-abbrev pub down_after : ℕ → Bool → List Observation → Bool
-down_after k b [] = b
-down_after k b (m ∷ ms) = down_after k (next k m b) ms
-
--- each release comes where the code is down
-abbrev pub Paired : ℕ → Bool → List Observation → Type 0
-Paired k b [] = Unit {0}
-Paired k b (m ∷ ms) = (is_release k m ≡ true → b ≡ true) × Paired k (next k m b) ms
-
-pub down_both : (k : ℕ) (b : Bool) (xs ys : List Observation)
-    → down_after k b (xs ++ ys) ≡ down_after k (down_after k b xs) ys
-down_both k b [] ys = refl
-down_both k b (x ∷ xs) ys = down_both k (next k x b) xs ys
-
-pub paired_both : (k : ℕ) (b : Bool) (xs ys : List Observation) → Paired k b xs → Paired k (down_after k b xs) ys
-    → Paired k b (xs ++ ys)
-paired_both k b [] ys p q = q
-paired_both k b (x ∷ xs) ys p q = (p.0, paired_both k (next k x b) xs ys p.1 q)
-
--- where a release stands
-down_there : (k : ℕ) (b : Bool) (before rest : List Observation)
-    → Paired k b (before ++ Gets (item.Event (event.Release k)) ∷ rest) → down_after k b before ≡ true
-down_there k b [] rest p = p.0 (eq-eqb k k refl)
-down_there k b (m ∷ before) rest p = down_there k (next k m b) before rest p.1
-
-none_both : (k : ℕ) (xs : List Observation) (m : Observation) → list_any (is_release k) xs ≡ false
-    → is_release k m ≡ false → list_any (is_release k) (xs ++ m ∷ []) ≡ false
-none_both k [] m p q = or_from (is_release k m) false q refl
-none_both k (x ∷ xs) m p q =
-    let parts = or_parts (is_release k x) (list_any (is_release k) xs) p in
-    or_from (is_release k x) (list_any (is_release k) (xs ++ m ∷ [])) parts.0 (none_both k xs m parts.1 q)
-
-still_down : (k : ℕ) (seen : List Observation) (m : Observation) → IsDown k seen → is_release k m ≡ false
-    → IsDown k (seen ++ m ∷ [])
-still_down k seen m (early, late, is, none) q = (
-  early,
-  late ++ m ∷ [],
-  ap (λ (l : List Observation). l ++ m ∷ []) is
-      ∙ append_assoc early (Gets (item.Event (event.Press k)) ∷ late) (m ∷ []),
-  none_both k late m none q,
-)
-
--- one moment more
-more_down : (k : ℕ) (b : Bool) (seen : List Observation) (m : Observation) → (b ≡ true → IsDown k seen)
-    → next k m b ≡ true → IsDown k (seen ++ m ∷ [])
-more_down k b seen (Gets (item.Event (event.Press j))) was e = go (j == k) refl e
-  where
-    go : (c : Bool) → (j == k) ≡ c → (if c then true else b) ≡ true
-        → IsDown k (seen ++ Gets (item.Event (event.Press j)) ∷ [])
-    go true is t = (seen, [], ap (λ (n : ℕ). seen ++ Gets (item.Event (event.Press n)) ∷ []) (eqb-true j k is), refl)
-    go false is t = still_down k seen (Gets (item.Event (event.Press j))) (was t) refl
-more_down k b seen (Gets (item.Event (event.Release j))) was e = go (j == k) refl e
-  where
-    go : (c : Bool) → (j == k) ≡ c → (if c then false else b) ≡ true
-        → IsDown k (seen ++ Gets (item.Event (event.Release j)) ∷ [])
-    go true is t = cc
-    go false is t = still_down k seen (Gets (item.Event (event.Release j))) (was t) is
-more_down k b seen other was e = still_down k seen other (was e) refl
-
-down_is : (k : ℕ) (b : Bool) (seen ms : List Observation) → (b ≡ true → IsDown k seen) → down_after k b ms ≡ true
-    → IsDown k (seen ++ ms)
-down_is k b seen [] was e = subst (IsDown k) (sym (append-nil seen)) (was e)
-down_is k b seen (m ∷ ms) was e =
-    subst (IsDown k) (append_assoc seen (m ∷ []) ms)
-    (down_is k (next k m b) (seen ++ m ∷ []) ms (more_down k b seen m was) e)
-
--- so where a release stands the code is down
-pub release_down : (k : ℕ) (ms before rest : List Observation) → Paired k false ms
-    → ms ≡ before ++ Gets (item.Event (event.Release k)) ∷ rest → IsDown k before
-release_down k ms before rest paired is =
-    down_is k false [] before (λ e. cc) (down_there k false before rest (subst (Paired k false) is paired))
-
--- ---- one session and one code
-
-abbrev is_stroke : Item → Bool
-is_stroke (item.Event (event.Press j)) = true
-is_stroke (item.Event (event.Release j)) = true
-is_stroke other = false
-
--- nothing is pressed or released
-abbrev IsCalm : List Delivery → Type 0
-IsCalm ds = list_any (λ d. is_stroke d.item) ds ≡ false
-
-calm_to : (s : Option ℕ) (e : Event) → is_stroke (item.Event e) ≡ false → IsCalm (Input.to s e)
-calm_to None e h = refl
-calm_to (Some t) e h = or_from (is_stroke (item.Event e)) false h refl
-
-calm_both : (ds es : List Delivery) → IsCalm ds → IsCalm es → IsCalm (ds ++ es)
-calm_both [] es p q = q
-calm_both (d ∷ ds) es p q =
-    let parts = or_parts (is_stroke d.item) (list_any (λ x. is_stroke x.item) ds) p in
-    or_from (is_stroke d.item) (list_any (λ x. is_stroke x.item) (ds ++ es)) parts.0 (calm_both ds es parts.1 q)
-
-calm_unless : (b : Bool) (ds : List Delivery) → IsCalm ds → IsCalm (if b then [] else ds)
-calm_unless true ds h = refl
-calm_unless false ds h = h
-
--- a click tells of the focus alone, and leaves who holds what
-record IsAside (i : InputState) (r : Routing) : Type 0 where
-  calm : IsCalm r.deliveries
-  held : r.state.held ≡ i.held
-  receiver : r.state.receiver ≡ i.receiver
-
-ignored_aside : (i : InputState) → IsAside i (Input.ignored i)
-ignored_aside i = record { calm = refl; held = refl; receiver = refl }
-
-focusing_aside : (clicks : Bool) (pointed : Option ℕ) (i : InputState) → IsAside i (Input.focusing clicks pointed i)
-focusing_aside clicks pointed i =
-    either (IsAside i) (Input.takes_focus clicks pointed && not (Input.is_same pointed i.focus))
-    (record {
-      state = record i { focus = pointed };
-      deliveries =
-          Input.to i.focus event.FocusLeave ++ Input.to pointed event.FocusEnter;
-    }) (Input.ignored i)
-    (record {
-      calm = calm_both (Input.to i.focus event.FocusLeave) (Input.to pointed event.FocusEnter)
-          (calm_to i.focus event.FocusLeave refl) (calm_to pointed event.FocusEnter refl);
-      held = refl;
-      receiver = refl;
-    })
-    (ignored_aside i)
-
--- what is left of the held codes
-left_held : (k j : ℕ) (held : List ℕ) → list_any (λ y. y == k) (filter (λ y. not (y == j)) held) ≡ true
-    → ((j == k) ≡ false) × (list_any (λ y. y == k) held ≡ true)
-left_held k j [] h = cc
-left_held k j (y ∷ ys) h = go (y == j) (y == k) refl refl h (left_held k j ys)
-  where
-    flip : (y == j) ≡ false → (y == k) ≡ true → (b : Bool) → (j == k) ≡ b → b ≡ false
-    flip apart is true same = let e : (y == j) ≡ true = eq-eqb y j (eqb-true y k is ∙ sym (eqb-true j k same)) in cc
-    flip apart is false same = refl
-
-    go : (a b : Bool) → (y == j) ≡ a → (y == k) ≡ b
-        → list_any (λ z. z == k) (cond (not a) (y ∷ filter (λ z. not (z == j)) ys) (filter (λ z. not (z == j)) ys))
-        ≡ true
-        → (list_any (λ z. z == k) (filter (λ z. not (z == j)) ys) ≡ true → ((j == k) ≡ false)
-        × (list_any (λ z. z == k) ys ≡ true))
-        → ((j == k) ≡ false) × ((b || list_any (λ z. z == k) ys) ≡ true)
-    go true true p q h rest = let more = rest h in (more.0, refl)
-    go true false p q h rest = rest h
-    go false true p q h rest = (flip p q (j == k) refl, refl)
-    go false false p q h rest = rest
-        (subst (λ (c : Bool). (c || list_any (λ z. z == k) (filter (λ z. not (z == j)) ys)) ≡ true) q h)
-
-one_held : (k j : ℕ) (held : List ℕ) → held ≡ [] → list_any (λ y. y == k) (held ++ j ∷ []) ≡ true → (j == k) ≡ true
-one_held k j held none h = go (j == k) (subst (λ (l : List ℕ). list_any (λ y. y == k) (l ++ j ∷ []) ≡ true) none h)
-  where
-    go : (b : Bool) → (b || false) ≡ true → b ≡ true
-    go true e = refl
-    go false e = e
-
-last_held : (k j : ℕ) (held : List ℕ) → (j == k) ≡ false → list_any (λ y. y == k) (held ++ j ∷ []) ≡ true
-    → list_any (λ y. y == k) held ≡ true
-last_held k j [] apart h = subst (λ (b : Bool). (b || false) ≡ true) apart h
-last_held k j (y ∷ ys) apart h = go (y == k) h (last_held k j ys apart)
-  where
-    go : (b : Bool) → (b || list_any (λ z. z == k) (ys ++ j ∷ [])) ≡ true
-        → (list_any (λ z. z == k) (ys ++ j ∷ []) ≡ true → list_any (λ z. z == k) ys ≡ true)
-        → (b || list_any (λ z. z == k) ys) ≡ true
-    go true e rest = refl
-    go false e rest = rest e
+use Rattle.nit_journal.proofs.HeldCodes.{Paired, down_after, down_both, down_is, next, paired_both}
+use Rattle.nit_journal.proofs.HeldCodes.{release_down}
+use Rattle.nit_journal.proofs.HeldInput.{IsCalm, calm_both, calm_to, calm_unless, focusing_aside}
+use Rattle.nit_journal.proofs.HeldInput.{is_stroke, last_held, left_held, one_held}
 
 module _ (x k : ℕ) where
   -- the session receives what is held, and the code is held

@@ -9,9 +9,11 @@ use Rattle.nit_events.specs.declared.event.Event.TheVariants as event
 use Rattle.nit_events.specs.declared.event.Item.TheVariants as item
 use Rattle.nit_events.specs.declared.event.Status.TheVariants as status
 use Rattle.nit_journal.proofs.JournalFronts.{legal_alone}
-use Rattle.nit_journal.proofs.LiveSessions.{live_after, live_opened}
-use Rattle.nit_journal.proofs.PressLemmas.{Holds, Paired, down_after, down_both, paired_both}
-use Rattle.nit_journal.proofs.PressLemmas.{paired_from, release_down, still_held}
+use Rattle.nit_journal.proofs.LiveAlong.{live_after, live_opened}
+use Rattle.nit_journal.proofs.PressLemmas.{Holds}
+use Rattle.nit_journal.proofs.HeldCodes.{Paired, down_after, down_both, paired_both}
+use Rattle.nit_journal.proofs.PressLemmas.{paired_from, still_held}
+use Rattle.nit_journal.proofs.HeldCodes.{release_down}
 use Rattle.nit_journal.proofs.ProjectionLemmas.{projection_both}
 
 -- where a session is known, it has what is known of all

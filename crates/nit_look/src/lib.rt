@@ -7,7 +7,5 @@
 mod edges;
 mod picture;
 mod span;
-#[cfg(test)]
-mod tests;
 
 pub use picture::look;

@@ -6,7 +6,8 @@ pub use Rattle.nit_repaint.proofs.ViewChangeLemmas.{find_moved, place_changed, w
 pub use Rattle.nit_repaint.proofs.ViewChangeLemmas.{without_moved}
 pub use Rattle.nit_repaint.proofs.Screen.{on_screen}
 pub use Rattle.nit_repaint.proofs.ViewRemovalLemmas.{all_painted, all_taken, goes, goes_painted}
-pub use Rattle.nit_repaint.proofs.ViewRemovalLemmas.{gone_change, gone_painted, gone_room}
-pub use Rattle.nit_repaint.proofs.ViewRemovalLemmas.{none_left, painted_more, stays, stays_clean}
+pub use Rattle.nit_repaint.proofs.OneViewGone.{gone_change, gone_painted, gone_room}
+pub use Rattle.nit_repaint.proofs.ViewRemovalLemmas.{painted_more, stays, stays_clean}
+pub use Rattle.nit_repaint.proofs.OneViewGone.{none_left}
 pub use Rattle.nit_repaint.proofs.ViewRemovalLemmas.{taken_held, taken_more, taken_none}
 pub use Rattle.nit_repaint.proofs.WantedLemmas.{all_of_session, part_of_session, seat_here}

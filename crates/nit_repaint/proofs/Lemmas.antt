@@ -19,7 +19,7 @@ pub use Rattle.nit_repaint.proofs.GlassLemmas.{listed_painted, scene_painted, sc
 pub use Rattle.nit_repaint.proofs.GlassLemmas.{shown_session, still_held}
 pub use Rattle.nit_repaint.proofs.PieceLemmas.{all_came, none_came, one_came}
 pub use Rattle.nit_repaint.proofs.ViewChangeLemmas.{changes, moves_above, moves_back, moves_front}
-pub use Rattle.nit_repaint.proofs.ViewRemovalLemmas.{gone_change}
+pub use Rattle.nit_repaint.proofs.OneViewGone.{gone_change}
 pub use Rattle.nit_repaint.proofs.ViewsInFront.{stands_nowhere, stands_there}
 pub use Rattle.nit_repaint.proofs.WantedLemmas.{all_of_session, all_wanted, comes_as, none_wanted}
 pub use Rattle.nit_repaint.proofs.WantedLemmas.{one_wanted, part_of_session, seat_here, seat_set}

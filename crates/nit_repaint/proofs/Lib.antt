@@ -4,6 +4,7 @@ pub mod PieceLemmas
 pub mod ViewsInFront
 pub mod ChangedOwners
 pub mod ViewRemovalLemmas
+pub mod OneViewGone
 pub mod ViewChangeLemmas
 pub mod WantedLemmas
 pub mod BufferParts

@@ -8,7 +8,7 @@ use Rattle.nit_repaint.proofs.Basics.{views_of, without}
 use Rattle.std.proofs.Common.{Bool, List, None, Option, Some, [], ap, cond, false, find, inl, inr}
 use Rattle.std.proofs.Common.{not, refl, suc, sym, true, zero, ℕ, ◌+◌, ◌==◌, ◌||◌, ◌∙◌, ◌∷◌, ◌≡◌}
 use Rattle.nit_repaint.proofs.ViewsInFront.{without_none}
-use Rattle.nit_repaint.proofs.ViewRemovalLemmas.{none_left}
+use Rattle.nit_repaint.proofs.OneViewGone.{none_left}
 
 -- ---- lists
 

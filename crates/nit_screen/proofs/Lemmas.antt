@@ -30,10 +30,11 @@ pub use Rattle.nit_screen.proofs.Kills.{no_kill, told_paints_nothing}
 pub use Rattle.nit_screen.proofs.LabelSlotLemmas.{LabelledSoFar, all_labelled, holds_at}
 pub use Rattle.nit_screen.proofs.LabelSlotLemmas.{labelled_more, own_label, slot_within}
 pub use Rattle.nit_screen.proofs.Loads.{keeps_inked, keeps_raw}
-pub use Rattle.nit_screen.proofs.OneList.{bar_again, bar_is_bare, bar_kept, bare_unbarred, by_mode}
+pub use Rattle.nit_screen.proofs.OneList.{bar_again, bare_unbarred, by_mode}
+pub use Rattle.nit_screen.proofs.RawWithBar.{bar_is_bare, bar_kept}
 pub use Rattle.nit_screen.proofs.OneList.{entry_painted_in, flat_below, flat_kept, made_one}
 pub use Rattle.nit_screen.proofs.OneList.{mode_stays, other_focus, painted_bare, painted_in}
-pub use Rattle.nit_screen.proofs.OneList.{raw_long}
+pub use Rattle.nit_screen.proofs.RawWithBar.{raw_long}
 pub use Rattle.nit_screen.proofs.OneViewChanges.{change_of_call, change_stood, dirty_by_change}
 pub use Rattle.nit_screen.proofs.OneViewChanges.{gone_by_slot, named_stands, painted_by_change}
 pub use Rattle.nit_screen.proofs.Openings.{opens_below, opens_raw, opens_sources}

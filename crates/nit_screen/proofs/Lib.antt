@@ -13,6 +13,7 @@ pub mod Loads
 pub mod MarkLemmas
 pub mod Marks
 pub mod OneList
+pub mod RawWithBar
 pub mod OneViewChanges
 pub mod QuietCalls
 pub mod ScreenLemmas

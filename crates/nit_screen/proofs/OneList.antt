@@ -1,110 +1,26 @@
 -- One list that is both the raw words and the frame: they differ in the first words, where the bar stands.
-use Rattle.nit_screen.proofs.Basics.{All-append, All-drop, All-replicate, AreRaw, Bare, Call}
-use Rattle.nit_screen.proofs.Basics.{CanShow, Close, Configuration, Entry, Flat, IsAmongLoads}
+use Rattle.nit_screen.proofs.Basics.{AreRaw, Bare, Call}
+use Rattle.nit_screen.proofs.Basics.{CanShow, Close, Entry, Flat, IsAmongLoads}
 use Rattle.nit_screen.proofs.Basics.{IsCopied, IsRawOf, IsServed, IsWord, IsWordOfSource, Kill}
 use Rattle.nit_screen.proofs.Basics.{Mode, Painted, PixelSource, Point, Repainted, Reply, Scenery}
 use Rattle.nit_screen.proofs.Basics.{ServerModel, ShowsBelow, Sight, State, Xray, bar_rows}
-use Rattle.nit_screen.proofs.Basics.{bar_word, bare_word, buffer_size, covering, dirty}
+use Rattle.nit_screen.proofs.Basics.{bar_word, bare_word, dirty}
 use Rattle.nit_screen.proofs.Basics.{draws_labels, ext_get_or, false≢true, flat_same, flat_shown}
-use Rattle.nit_screen.proofs.Basics.{frame, frame_fits, get_or-append_right, get_or-drop}
-use Rattle.nit_screen.proofs.Basics.{get_or-frame, get_or-replicate, get_or_append_left, in_bar}
-use Rattle.nit_screen.proofs.Basics.{ints, length-append, length-drop, length-frame}
-use Rattle.nit_screen.proofs.Basics.{length-replicate, mul-le-mul_right, nat_tests, owner}
-use Rattle.nit_screen.proofs.Basics.{owner_word, pixel, pixel_count, raw_in, rows, scenery_of}
-use Rattle.nit_screen.proofs.Basics.{shown, slice_index, source_at, source_under, state_of}
+use Rattle.nit_screen.proofs.Basics.{frame, frame_fits}
+use Rattle.nit_screen.proofs.Basics.{get_or-frame, get_or-replicate, in_bar}
+use Rattle.nit_screen.proofs.Basics.{length-frame}
+use Rattle.nit_screen.proofs.Basics.{length-replicate, nat_tests, owner}
+use Rattle.nit_screen.proofs.Basics.{owner_word, pixel, pixel_count, raw_in, scenery_of}
+use Rattle.nit_screen.proofs.Basics.{shown, slice_index, source_at, state_of}
 use Rattle.nit_screen.proofs.Basics.{unbarred}
-use Rattle.std.proofs.Common.{All, Bool, IsTrue, List, None, Option, ap, arith, cond, drop, false}
-use Rattle.std.proofs.Common.{get_or, length, nat_lt, refl, replicate, subst, suc, sym, true, zero}
+use Rattle.std.proofs.Common.{All, Bool, IsTrue, List, Option, ap, arith, cond, false}
+use Rattle.std.proofs.Common.{length, nat_lt, refl, replicate, subst, suc, sym, true, zero}
 use Rattle.std.proofs.Common.{ℕ, ◌%◌, ◌*◌, ◌+◌, ◌-◌, ◌/◌, ◌<◌, ◌∙◌, ◌≡◌, ◌≤◌}
 use Rattle.nit_events.specs.declared.entry.Entry.TheVariants as entry
-use Rattle.nit_stack.specs.declared.view.View.{View as ViewOf}
 use Rattle.nit_screen.proofs.KeptFrames.{bar_clean, bare_source, has_owner, kept_served, owned}
 use Rattle.nit_screen.proofs.KeptFrames.{still}
-
--- ---- the raw words of such a list
-
-pub unbarred_at : (n : ℕ) (xs : List ℕ) (k : ℕ)
-    → slice_index (unbarred n xs) k ≡ cond (nat_lt k n) bare_word (slice_index xs k)
-unbarred_at n xs k = go (nat_lt k n) refl
-  where
-    go : (b : Bool) → nat_lt k n ≡ b → slice_index (unbarred n xs) k ≡ cond b bare_word (slice_index xs k)
-    go true e =
-        let l : k < n = grind (arith, nat_tests) in
-        get_or_append_left (replicate n bare_word) (drop n xs) 0 k
-        (subst (λ (m : ℕ). k < m) (sym (length-replicate n bare_word)) l) ∙ get_or-replicate n k bare_word 0 l
-    go false e =
-        let l : n ≤ k = grind (arith, nat_tests) in
-        get_or-append_right (replicate n bare_word) (drop n xs) n k 0 (length-replicate n bare_word) l
-        ∙ get_or-drop n xs (k - n) 0 ∙ ap (λ (i : ℕ). get_or xs i 0) (omega arith)
-
-pub unbarred_long : (n : ℕ) (xs : List ℕ) → n ≤ length xs → length (unbarred n xs) ≡ length xs
-unbarred_long n xs fits = let a = length-append (replicate n bare_word) (drop n xs) in let b =
-    length-replicate n bare_word in let c = length-drop n xs in omega (arith, a, b, c)
-
-pub unbarred_words : (n : ℕ) (xs : List ℕ) → All IsWord xs → All IsWord (unbarred n xs)
-unbarred_words n xs words = All-append IsWord (replicate n bare_word) (drop n xs)
-    (All-replicate IsWord n bare_word (omega arith)) (All-drop IsWord n xs words)
-
--- lists that differ in the bar alone
-pub unbarred_same : (n : ℕ) (xs ys : List ℕ) → n ≤ length xs → length ys ≡ length xs
-    → ((k : ℕ) → nat_lt k n ≡ false → slice_index ys k ≡ slice_index xs k) → unbarred n ys ≡ unbarred n xs
-unbarred_same n xs ys fits long same =
-    ext_get_or 0 (unbarred n ys) (unbarred n xs) (unbarred_long n ys (subst (λ (m : ℕ). n ≤ m) (sym long) fits) ∙ long
-    ∙ sym (unbarred_long n xs fits))
-    (λ k l. unbarred_at n ys k ∙ go k (nat_lt k n) refl ∙ sym (unbarred_at n xs k))
-  where
-    go : (k : ℕ) (b : Bool) → nat_lt k n ≡ b → cond (nat_lt k n) bare_word (slice_index ys k)
-        ≡ cond (nat_lt k n) bare_word (slice_index xs k)
-    go k true e = ap (λ (b : Bool). cond b bare_word (slice_index ys k)) e
-        ∙ ap (λ (b : Bool). cond b bare_word (slice_index xs k)) (sym e)
-    go k false e = ap (λ (w : ℕ). cond (nat_lt k n) bare_word w) (same k e)
-
--- both kinds
-pub raw_long : (b : Bool) (n : ℕ) (xs : List ℕ) → n ≤ length xs → length (raw_in b n xs) ≡ length xs
-raw_long true n xs fits = refl
-raw_long false n xs fits = unbarred_long n xs fits
-
-pub raw_words : (b : Bool) (n : ℕ) (xs : List ℕ) → All IsWord xs → All IsWord (raw_in b n xs)
-raw_words true n xs words = words
-raw_words false n xs words = unbarred_words n xs words
-
--- ---- the pixels of the bar
-
-pub bar_at : (width bar k : ℕ) → k < width * bar → in_bar bar (pixel width k) ≡ true
-bar_at width bar k l = let row : k / width < bar = grind (arith, rows) in grind (arith, ints)
-
-pub bar_below : (width bar k : ℕ) → 0 < width → in_bar bar (pixel width k) ≡ true → k < width * bar
-bar_below width bar k some is =
-    let row : k / width < bar = grind (arith, ints) in
-    let m : suc (k / width) * width ≤ bar * width = mul-le-mul_right width row in
-    let p : suc (k / width) * width ≡ k / width * width + width =
-    omega (arith, Rattle.std.proofs.Common.suc-mul (k / width) width) in
-    let whole : k / width * width + k % width ≡ k = omega arith in
-    let column : k % width < width = omega arith in
-    omega arith
-
-pub bar_first : (width bar k : ℕ) → 0 < width → nat_lt k (width * bar) ≡ in_bar bar (pixel width k)
-bar_first width bar k some = go (in_bar bar (pixel width k)) refl
-  where
-    go : (b : Bool) → in_bar bar (pixel width k) ≡ b → nat_lt k (width * bar) ≡ b
-    go true e = let l = bar_below width bar k some e in grind (arith, nat_tests)
-    go false e = below (nat_lt k (width * bar)) refl
-      where
-        below : (b : Bool) → nat_lt k (width * bar) ≡ b → nat_lt k (width * bar) ≡ false
-        below false f = f
-        below true f = let l : k < width * bar =
-            grind (arith, nat_tests) in absurd (false≢true (sym e ∙ bar_at width bar k l))
-
-pub bar_is_bare : (s : State) (k : ℕ) → k < s.config.width * bar_rows s.config → source_at s k ≡ Bare
-bar_is_bare s k l =
-    ap (λ (b : Bool). source_under (buffer_size s.sessions) (pixel s.config.width k)
-    (cond b None (covering (λ (v : ViewOf). v) s.stack (pixel s.config.width k))))
-    (bar_at s.config.width (bar_rows s.config) k l)
-
--- as many pixels, where the configuration stays
-pub bar_kept : (s s' : ServerModel) (bar : ℕ) → s'.config ≡ s.config → bar ≡ s.config.width * bar_rows s.config
-    → bar ≡ s'.config.width * bar_rows s'.config
-bar_kept s s' bar same is = is ∙ ap (λ (c : Configuration). c.width * bar_rows c) (sym same)
+use Rattle.nit_screen.proofs.RawWithBar.{bar_first, bar_is_bare, unbarred_at, unbarred_long}
+use Rattle.nit_screen.proofs.RawWithBar.{unbarred_same, unbarred_words}
 
 -- ---- painting
 

@@ -10,7 +10,8 @@ use Rattle.nit_top.proofs.Basics.{StoppedAt, StoreModel, Worked, asking_all, ask
 use Rattle.nit_top.proofs.Basics.{name_text, names_read, next_name, reads, told_so, told_so_both}
 use Rattle.nit_top.proofs.Basics.{with_asked}
 use Rattle.nit_top.proofs.BeforeRun.{ReadsAs, ends_as}
-use Rattle.nit_top.proofs.WorkLemmas.{CameTo, stopped_ends, totals_on, ends_by}
+use Rattle.nit_top.proofs.WorkLemmas.{CameTo, stopped_ends}
+use Rattle.nit_top.proofs.EndsAfterRun.{totals_on, ends_by}
 use Rattle.nit_setup.specs.declared.stop.End.TheVariants as ends
 use Rattle.nit_setup.specs.declared.stop.Fault.TheVariants as fault
 

@@ -7,7 +7,7 @@ use Rattle.nit_top.proofs.Basics.{OuterFiles, PerformedFilmed, Region, Run, Setu
 use Rattle.nit_top.proofs.Basics.{Worked, asking_all, film_name, film_of, is_outside_of, names_read}
 use Rattle.nit_top.proofs.Basics.{next_name, pictures_in, reads}
 use Rattle.nit_top.proofs.BeforeRun.{ReadsAs, ends_as}
-use Rattle.nit_top.proofs.WorkLemmas.{run_ends, unbegun_ends}
+use Rattle.nit_top.proofs.EndsAfterRun.{run_ends, unbegun_ends}
 
 module _ (name : List ℕ) (region : Region) where
   abbrev run : Command

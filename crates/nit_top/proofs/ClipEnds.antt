@@ -15,7 +15,8 @@ use Rattle.nit_top.proofs.Basics.{script_names, setup_of, slice_get, told_so, to
 use Rattle.nit_top.proofs.Basics.{wanted_by, wrong_clip}
 use Rattle.nit_top.proofs.SetupLemmas.{get_behind, take_front}
 use Rattle.nit_top.proofs.BeforeRun.{ReadsAs, ends_as}
-use Rattle.nit_top.proofs.WorkLemmas.{run_ends, stopped_ends, unbegun_ends}
+use Rattle.nit_top.proofs.WorkLemmas.{stopped_ends}
+use Rattle.nit_top.proofs.EndsAfterRun.{run_ends, unbegun_ends}
 
 -- ---- phases
 

@@ -13,7 +13,8 @@ use Rattle.nit_top.proofs.Basics.{file_names, generated_files, generated_setup, 
 use Rattle.nit_top.proofs.Basics.{is_some, name_text, output_name, phases, put_state_of_run}
 use Rattle.nit_top.proofs.Basics.{range_with_len, refusal_of, setup_of, unrefused, user_script}
 use Rattle.nit_report.specs.Generator.{generated_configuration}
-use Rattle.nit_top.proofs.WorkLemmas.{CameTo, ends_by, performed_ends, totals_on}
+use Rattle.nit_top.proofs.WorkLemmas.{CameTo}
+use Rattle.nit_top.proofs.EndsAfterRun.{ends_by, performed_ends, totals_on}
 use Rattle.nit_store.specs.declared.store.PutError.TheVariants as put
 use Rattle.nit_setup.specs.declared.stop.End.TheVariants as ends
 use Rattle.nit_setup.specs.declared.stop.Name.TheVariants as file_name

@@ -46,4 +46,4 @@ pub use Rattle.nit_top.proofs.SetupLemmas.{all_read, config_stopped, not_read, r
 pub use Rattle.nit_top.proofs.SetupLemmas.{still_ends, still_runnable, still_stopped}
 pub use Rattle.nit_top.proofs.StoredFiles.{stand}
 pub use Rattle.nit_top.proofs.TextFragments.{flat_map_at, says_stop, says_then}
-pub use Rattle.nit_top.proofs.WorkLemmas.{outside_ends, usage_ends}
+pub use Rattle.nit_top.proofs.EndsAfterRun.{outside_ends, usage_ends}

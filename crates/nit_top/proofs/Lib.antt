@@ -24,5 +24,6 @@ pub mod TextFragments
 pub mod ToldJudgements
 pub mod WordSources
 pub mod WorkLemmas
+pub mod EndsAfterRun
 pub mod Basics
 pub mod Lemmas

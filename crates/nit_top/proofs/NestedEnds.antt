@@ -17,7 +17,8 @@ use Rattle.nit_top.proofs.Basics.{nest_of, nested_setup, next_name, phase_counts
 use Rattle.nit_top.proofs.Basics.{told_so, told_so_both}
 use Rattle.nit_top.proofs.AuditCourse.{front_none, front_same}
 use Rattle.nit_top.proofs.BeforeRun.{never_empty}
-use Rattle.nit_top.proofs.WorkLemmas.{CameTo, ends_by, run_ends, stopped_ends, totals_on}
+use Rattle.nit_top.proofs.WorkLemmas.{CameTo, stopped_ends}
+use Rattle.nit_top.proofs.EndsAfterRun.{ends_by, run_ends, totals_on}
 use Rattle.nit_setup.specs.declared.stop.End.TheVariants as ends
 use Rattle.nit_setup.specs.declared.stop.Fault.TheVariants as fault
 

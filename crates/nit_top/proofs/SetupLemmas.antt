@@ -15,7 +15,8 @@ use Rattle.nit_top.proofs.Basics.{is_input_phase, is_phase, length-replicate, na
 use Rattle.nit_top.proofs.Basics.{phases, reads, script_names, setup_of, slice_get}
 use Rattle.nit_top.proofs.Basics.{still_configured, still_setup, sum_by-replicate, take-append_seam}
 use Rattle.nit_top.proofs.Basics.{take_all, told_so, told_so_both, wanted_by, with_asked}
-use Rattle.nit_top.proofs.WorkLemmas.{stopped_ends, performed_ends}
+use Rattle.nit_top.proofs.WorkLemmas.{stopped_ends}
+use Rattle.nit_top.proofs.EndsAfterRun.{performed_ends}
 use Rattle.nit_script.specs.declared.line.InputLine.TheVariants as input
 
 -- ---- what can be run

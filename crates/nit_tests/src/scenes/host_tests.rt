@@ -1,8 +1,8 @@
 //! One client on a screen of six columns and four rows. The words were worked out by hand.
 
-use crate::{Host, SeatPlan, plan};
 use nit_events::{Call, Reply};
 use nit_glyph::Label;
+use nit_host::{Host, SeatPlan, plan};
 use nit_rect::Rect;
 use std::alloc::Global;
 use std::process::Abort;

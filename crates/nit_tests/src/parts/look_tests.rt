@@ -1,9 +1,9 @@
 //! Pictures of four columns and three rows. The rectangles were found by hand.
 
-ghost use Rattle.nit_look.specs.Below.{rectangle};
-ghost use Rattle.nit_look.specs.Terms.{LiesOn};
+ghost use Rattle.nit_rect.specs.Rectangle.{rectangle};
+ghost use Rattle.nit_look.specs.Look.{LiesOn};
 
-use crate::look;
+use nit_look::look;
 use nit_rect::Rect;
 use std::process::Abort;
 use std::rt::HostRuntime;
