@@ -36,6 +36,8 @@
 //!
 //! [`run_alone`] does the lines of one client, on a room without a lock. The user only ends phases
 //! with it.
+//!
+//! The tests are in `nit_tests`: `scenes/hall_tests`, `top/gate_tests`.
 #![tactic(auto)]
 
 mod actor;

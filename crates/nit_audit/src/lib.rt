@@ -10,6 +10,8 @@
 //! The audit is independent of the server's stack and slots: the views stand in a plain list here,
 //! front first, and have no slots. So a mistake of the server's stack or slots does not show in
 //! both. Each session is a [`nit_session::Machine`], which knows neither.
+//!
+//! The tests are in `nit_tests`: `top/audit_tests`, `top/edit_tests`.
 #![tactic(auto)]
 
 mod auditing;

@@ -4,6 +4,8 @@
 //! export. An export takes the server out of its handle, does one call of `nit_host` and puts it
 //! back. It tests whatever a C program may get wrong, and answers it by a number; where a handle
 //! has no server it does nothing.
+//!
+//! The tests are in C, in `embed/tests`.
 #![tactic(auto)]
 
 mod calls;

@@ -10,6 +10,8 @@
 //!
 //! The clipboard is no part of the server's state: a journal has no entry of it. A clip list stands
 //! beside a journal, and each of its entries says how many entries of the journal stand before it.
+//!
+//! The tests are in `nit_tests`: `scenes/hall_tests`, and `top/clip_tests` by whole runs.
 #![tactic(auto)]
 
 mod call;

@@ -25,6 +25,8 @@
 //! ([`configuration_is_one`], [`refusal_is_one`], [`each_text_is_judged`]). What is read is within
 //! the ranges above, which
 //! `IsConfigured` says in the contracts.
+//!
+//! The tests are in `nit_tests`: `scripts/text_tests`, and `top/bad_config_tests` by whole runs.
 #![tactic(auto)]
 
 mod build;

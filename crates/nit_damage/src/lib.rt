@@ -13,6 +13,8 @@
 //! It cuts a rectangle by the views in front, one view after the other, and keeps what is left of
 //! it round each cut as further rectangles. All room is taken by [`Cutter::with_room`]; no other
 //! call takes memory.
+//!
+//! The tests are in `nit_tests`: `parts/damage_tests`.
 #![tactic(auto)]
 
 mod cutter;

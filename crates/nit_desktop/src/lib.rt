@@ -7,6 +7,8 @@
 //! presses, and the user's input goes to live sessions (`nit_journal::laws`).
 //!
 //! All memory is taken by [`Desktop::new`]. A refused call changes nothing.
+//!
+//! The tests are those of a host in `nit_tests`: `scenes/host_tests`.
 #![tactic(auto)]
 
 mod blank;

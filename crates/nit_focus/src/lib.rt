@@ -18,6 +18,8 @@
 //! - A session that is killed or closed is forgotten: it gets nothing more.
 //!
 //! Codes are at most 767, sessions are below 16, and no call takes memory.
+//!
+//! The tests are those of whole runs in `nit_tests`: `top/input_tests`, `top/mode_tests`.
 #![tactic(auto)]
 
 mod focus;

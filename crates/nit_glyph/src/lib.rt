@@ -13,6 +13,8 @@
 //! No two texts look alike: where two pictures have the same size and the same dots, their texts
 //! are the same ([`pictures_tell_texts`]). This holds of all texts of the 41 glyphs, and so of each
 //! text that the server writes ([`texts_have_glyphs`]).
+//!
+//! The tests are in `nit_tests`: `parts/text_tests`.
 #![tactic(auto)]
 
 mod characters;

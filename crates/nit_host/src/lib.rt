@@ -11,6 +11,8 @@
 //! in last for the place, so that no word is ever stale.
 //!
 //! All memory is taken at opening. A call that is not served changes nothing.
+//!
+//! The tests are in `nit_tests`: `scenes/host_tests`; those of `embed/tests` run all of it.
 #![tactic(auto)]
 
 mod host;

@@ -2,6 +2,8 @@
 //!
 //! [`look`] brings an old copy of a picture up to date, and tells the least rectangle that has all
 //! pixels at which the two differed.
+//!
+//! The tests are in `nit_tests`: `parts/look_tests`.
 #![tactic(auto)]
 
 mod edges;

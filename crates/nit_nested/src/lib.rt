@@ -5,6 +5,8 @@
 //! phase. So a client shows what another server's screen has shown. [`find_forbidden`] finds the
 //! first line that may not stand in the other script, since it would change the buffer or its
 //! words.
+//!
+//! The tests are in `nit_tests`: `scenes/nest_tests`, and `top/nested_tests` by whole runs.
 #![tactic(auto)]
 
 mod error;

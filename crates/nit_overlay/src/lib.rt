@@ -34,6 +34,8 @@
 //! by runs that have one rule. So the stack is searched once for each piece of a row, and not for
 //! each pixel. Where a piece comes with its owner, nothing is searched: it is cut into bands of
 //! rows that are painted alike, at most five, and a band into runs of columns.
+//!
+//! The tests are in `nit_tests`: `parts/overlay_tests`.
 #![tactic(auto)]
 
 mod area;

@@ -8,6 +8,8 @@
 //! `Repainted` tells pixels by their numbers and glasses by the numbers of their sessions. [`laws`]
 //! has what follows of it alone: how two parts of a screen that are painted one after the other
 //! make one.
+//!
+//! The tests are in `nit_tests`: `parts/paint_tests`.
 #![tactic(auto)]
 
 mod block;

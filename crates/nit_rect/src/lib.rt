@@ -4,6 +4,8 @@
 //! A [`Rect`] is seen as its four numbers. It covers the pixel (px, py) exactly where
 //! `x <= px < x + w` and `y <= py < y + h`. Rectangles meet, lie in one another and are cut as
 //! these sets.
+//!
+//! The tests are in `nit_tests`: `parts/row_tests`.
 #![tactic(auto)]
 
 mod limits;

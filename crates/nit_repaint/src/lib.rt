@@ -27,6 +27,8 @@
 //! All of it is done on one [`Painter`], which has the cutter, the raw words and the glasses.
 //!
 //! Nothing is known here of sessions' rights, of the journal or of input. No call takes memory.
+//!
+//! The tests are those of scenes in `nit_tests`: `scenes/load_tests`.
 #![tactic(auto)]
 
 mod buffers;

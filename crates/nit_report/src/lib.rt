@@ -18,6 +18,8 @@
 //! `bad-size`, `bad-title`, `too-many-views`, `out-of-quota NEED LEFT`, `no-reserve NEED LEFT`,
 //! `closed` or `killed`. An item is an event or `kill`. An event is a device's line or `leave`,
 //! `focus-enter` or `focus-leave`.
+//!
+//! The tests are in `nit_tests`: `scripts/text_tests`, `scripts/generated_tests`.
 #![tactic(auto)]
 
 mod drawn_lines;

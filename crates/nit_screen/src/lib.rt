@@ -9,6 +9,8 @@
 //! screen's glasses. Pixels that are not dirty keep their source and their word ([`laws`]).
 //!
 //! All memory is taken by [`Screen::new`]. A refused call changes nothing.
+//!
+//! The tests are those of scenes in `nit_tests`: `scenes/anew_tests`, `scenes/load_tests`.
 #![tactic(auto)]
 
 pub mod laws;

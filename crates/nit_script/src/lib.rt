@@ -20,6 +20,8 @@
 //! The lines of an input script are `press NAT` and `release NAT` with a code of at most 767,
 //! `motion NAT NAT` with places of at most 65535, `wheel INT` with a turn of -127..=127, `shot` and
 //! `phase`. A line with a number past its bound has no reading.
+//!
+//! The tests are in `nit_tests`: `scripts/print_tests`, and `top/refused_tests` by whole runs.
 #![tactic(auto)]
 
 mod bytes;

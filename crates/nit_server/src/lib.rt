@@ -8,6 +8,9 @@
 //!
 //! All memory is taken by [`Server::new`]. What a caller has to know is asked for by
 //! [`Server::refused`]: a call that it names no refusal for is accepted.
+//!
+//! The tests are those of scenes and of whole runs in `nit_tests`: `scenes/count_tests`,
+//! `top/reply_tests`.
 #![tactic(auto)]
 
 mod member;

@@ -8,6 +8,9 @@
 //! A [`Table`] gives a session's views their handles 1, 2, 3 and so on, and puts each view into a
 //! free slot of the [`Slots`] that all tables share. A slot is used again, a handle never. Only
 //! [`Slots::new`] and [`Table::new`] take memory.
+//!
+//! The tests are those of plans and scenes in `nit_tests`: `scripts/plan_tests`,
+//! `scenes/count_tests`.
 #![tactic(auto)]
 
 mod account;

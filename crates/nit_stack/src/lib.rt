@@ -16,6 +16,8 @@
 //! to the view of a slot is the same as what is done to the view of that session and handle:
 //! [`slots_and_names`] and [`seats_and_views`] say so. A view's place is how many views stand in
 //! front of it ([`Stack::place_of`]).
+//!
+//! The tests are in `nit_tests`: `parts/row_tests`, and `top/view_tests` by whole runs.
 #![tactic(auto)]
 
 mod laws;

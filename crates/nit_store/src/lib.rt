@@ -7,6 +7,8 @@
 //!
 //! [`MemoryStore`] fails at chosen calls, [`NeverFails`] at none, and [`DiskStore`] is the real
 //! files and the standard output.
+//!
+//! The tests are those of stores that fail, in `nit_tests`: `top/failing_tests`.
 #![tactic(auto)]
 
 mod disk_store;
