@@ -38,7 +38,7 @@ calm_unless true ds h = refl
 calm_unless false ds h = h
 
 -- a click tells of the focus alone, and leaves who holds what
-record IsAside (i : InputState) (r : Routing) : Type 0 where
+pub record IsAside (i : InputState) (r : Routing) : Type 0 where
   calm : IsCalm r.deliveries
   held : r.state.held ≡ i.held
   receiver : r.state.receiver ≡ i.receiver
