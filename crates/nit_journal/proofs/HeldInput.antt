@@ -39,9 +39,9 @@ calm_unless false ds h = h
 
 -- a click tells of the focus alone, and leaves who holds what
 pub record IsAside (i : InputState) (r : Routing) : Type 0 where
-  calm : IsCalm r.deliveries
-  held : r.state.held ≡ i.held
-  receiver : r.state.receiver ≡ i.receiver
+  pub calm : IsCalm r.deliveries
+  pub held : r.state.held ≡ i.held
+  pub receiver : r.state.receiver ≡ i.receiver
 
 ignored_aside : (i : InputState) → IsAside i (Input.ignored i)
 ignored_aside i = record { calm = refl; held = refl; receiver = refl }
