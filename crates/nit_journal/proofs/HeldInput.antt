@@ -6,7 +6,7 @@ use Rattle.nit_journal.proofs.Basics.{either, eq-eqb, eqb-true}
 use Rattle.nit_journal.proofs.Basics.{list_any, not, or_from}
 use Rattle.nit_journal.proofs.Basics.{or_parts}
 use Rattle.std.proofs.Common.{Bool, List, None, Option, Some, []}
-use Rattle.std.proofs.Common.{cond, false, filter, refl, subst, sym, true, ℕ, ◌&&◌, ◌++◌, ◌+◌, ◌==◌}
+use Rattle.std.proofs.Common.{cond, false, filter, refl, subst, sym, true, ℕ, ◌&&◌, ◌++◌, ◌==◌}
 use Rattle.std.proofs.Common.{◌∙◌, ◌∷◌, ◌≡◌, if◌then◌else◌, ◌||◌}
 use Rattle.nit_events.specs.declared.event.Event.TheVariants as event
 use Rattle.nit_events.specs.declared.event.Item.TheVariants as item
