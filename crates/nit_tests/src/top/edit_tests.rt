@@ -9,8 +9,8 @@
 //! behind all.
 
 use crate::checks::{fail, found, must, same};
-use crate::top::case::{assert_alone, assert_cases, bytes_of, files};
-use crate::top::table::{Case, lines_of, number, worded};
+use crate::top::cases::table::{Case, lines_of, number, worded};
+use crate::top::cases::{assert_alone, assert_cases, bytes_of, files};
 use std::alloc::Global;
 use std::process::Abort;
 

@@ -9,10 +9,16 @@
 //! (`want`, `journals`), but for `cut FIRST LAST` and `edits EDITS`, which `two_tests` and
 //! `edit_tests` read.
 
+pub mod journals;
+mod sessions;
+mod shared;
+pub mod table;
+mod want;
+
 use crate::checks::{fail, must, same};
-use crate::top::journals::assert_journal;
-use crate::top::table::{Case, lines, number, worded};
-use crate::top::want::assert_file;
+use crate::top::cases::journals::assert_journal;
+use crate::top::cases::table::{Case, lines, number, worded};
+use crate::top::cases::want::assert_file;
 use nit_actor::{Gate, Open};
 use nit_store::{MemoryStore, Store, have_different_names};
 use nit_top::{Done, nitpicker, nitpicker_alone, starts_threads};

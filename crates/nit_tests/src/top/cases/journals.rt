@@ -6,9 +6,9 @@
 //! gives by itself.
 
 use crate::checks::{must, same};
-use crate::top::case::{assert_text, owned};
-use crate::top::sessions::assert_sessions;
-use crate::top::table::{Case, number, worded};
+use crate::top::cases::sessions::assert_sessions;
+use crate::top::cases::table::{Case, number, worded};
+use crate::top::cases::{assert_text, owned};
 use nit_events::{Entry, Reply};
 use nit_report::parse_journal;
 use std::alloc::Global;

@@ -8,8 +8,8 @@
 //! and `is NAME marked N MARK`, so many bytes with this mark in hexadecimal digits.
 
 use crate::checks::{fail, found, same};
-use crate::top::case::bytes_of;
-use crate::top::table::{Case, number, worded};
+use crate::top::cases::bytes_of;
+use crate::top::cases::table::{Case, number, worded};
 use std::alloc::Global;
 use std::process::Abort;
 
