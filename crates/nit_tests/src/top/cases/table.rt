@@ -1,9 +1,4 @@
-//! Tables of cases: texts of blocks, with an empty line in front of each and behind it.
-//!
-//! A block is a head and lines. `text NAME` is a text: behind `|` stands one line of it, and behind
-//! `=` a piece, as often as the number in front of it says. `base NAME` has lines that some cases
-//! begin with. `case` is a case, with a title or none; its line `with NAME` says which base it has.
-//! What the other lines of a case mean is said in `cases`, `want` and `journals`.
+//! Tables, as text: their blocks and texts. `cases` has the language.
 //!
 //! Where a table cannot be read so, the test fails, and says what it is that it cannot read.
 
