@@ -36,7 +36,8 @@ static bool open_server(struct host *host, const char *size, char **words, int c
 {
     struct nit_seat_plan seats[SEATS];
     struct nit_plan plan = { 1024, 768, 1, SEATS, seats };
-    if (size && sscanf(size, "%ux%u", &plan.width, &plan.height) != 2)
+    char more;
+    if (size && sscanf(size, "%ux%u%c", &plan.width, &plan.height, &more) != 2)
         return false;
     for (int seat = 0; seat < SEATS; seat++) {
         bool front = seat < count && words[seat][0] == '^';
@@ -95,7 +96,8 @@ static bool open_signals(struct host *host)
     sigaddset(&some, SIGCHLD);
     sigaddset(&some, SIGTERM);
     sigaddset(&some, SIGINT);
-    sigprocmask(SIG_BLOCK, &some, NULL);
+    if (sigprocmask(SIG_BLOCK, &some, NULL) < 0)
+        return false;
     host->signals = signalfd(-1, &some, SFD_CLOEXEC | SFD_NONBLOCK);
     host->listens = true;
     return host->signals >= 0;
