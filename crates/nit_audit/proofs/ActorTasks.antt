@@ -1,10 +1,7 @@
 -- What one actor is to do, and phases that never fall.
-use Rattle.nit_audit.proofs.Basics.{IsNonDecreasing, List}
-use Rattle.nit_audit.proofs.Basics.{None, Option, Some, []}
-use Rattle.nit_audit.proofs.Basics.{arith, done}
+use Rattle.nit_audit.proofs.Basics.{IsNonDecreasing, List, None, Option, Some, [], arith, done}
 use Rattle.nit_audit.proofs.Basics.{left}
-use Rattle.std.proofs.Common.{suc, zero, ℕ, ◌++◌, ◌<◌, ◌==◌, ◌∙◌, ◌∷◌, ◌≡◌, ◌≤◌}
-use Rattle.std.proofs.Common.{if◌then◌else◌, ◌≢◌, ◌⊎◌}
+use Rattle.std.proofs.Common.{suc, zero, ℕ, ◌++◌, ◌∷◌, ◌≡◌, ◌≤◌}
 use mathlib.Core.List.{IsPrefix, cons≢nil}
 use Rattle.nit_events.specs.declared.entry.Entry.TheVariants as entry
 

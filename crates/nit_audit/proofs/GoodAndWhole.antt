@@ -1,6 +1,5 @@
 -- Good entries that end are a legal and whole journal, and only they are.
-use Rattle.std.proofs.Common.{List, [], ap, cond, refl, subst, sym, ℕ, ◌++◌, ◌+◌, ◌==◌, ◌∙◌, ◌∷◌}
-use Rattle.std.proofs.Common.{◌≡◌}
+use Rattle.std.proofs.Common.{List, [], refl, ℕ, ◌++◌, ◌+◌, ◌∙◌, ◌∷◌, ◌≡◌}
 use Rattle.nit_audit.proofs.Basics.{Call, Configuration, Entry, IsAllDone, IsEnded, IsGoodFor}
 use Rattle.nit_audit.proofs.Basics.{IsLegal, IsWhole, LegalFrom, State, UserAction, after}
 use Rattle.nit_audit.proofs.Basics.{append-nil, calls_of, first_state, user_actions_of}
@@ -12,7 +11,7 @@ use Rattle.nit_events.specs.declared.entry.Entry.TheVariants as entry
 calls_ended : (s : ℕ) (front : List Entry) → calls_of s (front ++ entry.Final ∷ []) ≡ calls_of s front
 calls_ended s [] = refl
 calls_ended s (entry.Call sid call r ∷ front) =
-    ap (λ (cs : List Call). cond (sid == s) (call ∷ cs) cs) (calls_ended s front)
+    rw (calls_ended s front) refl
 calls_ended s (entry.Input dev routed ∷ front) = calls_ended s front
 calls_ended s (entry.Shot number ∷ front) = calls_ended s front
 calls_ended s (entry.Final ∷ front) = calls_ended s front
@@ -31,8 +30,8 @@ pub whole : (config : Configuration) (clients : List (List (ℕ × Call))) (user
 whole config clients user entries g ended =
     let all : IsAllDone clients user ended.0 = g.final ended.0 [] ended.1 in
     record {
-      calls = λ s lt. ap (calls_of s) ended.1 ∙ calls_ended s ended.0 ∙ all.calls s lt;
-      deeds = ap user_actions_of ended.1 ∙ deeds_ended ended.0 ∙ all.deeds;
+      calls = λ s lt. rw (ended.1, calls_ended) (all.calls s lt);
+      deeds = rw (ended.1, deeds_ended) all.deeds;
       phases = g.phases;
       ends = ended;
     }
@@ -59,13 +58,11 @@ all_before : (config : Configuration) (clients : List (List (ℕ × Call))) (use
     (entries front rest : List Entry) → IsLegal config entries → IsWhole clients user entries
     → entries ≡ front ++ entry.Final ∷ rest → IsAllDone clients user front
 all_before config clients user entries front rest legal w is =
-    let none : rest ≡ [] = last_of (first_state config) 0 front rest
-    (subst (λ (es : List Entry). IsLegal config es) is legal) in
-    let ends : entries ≡ front ++ entry.Final ∷ [] =
-    subst (λ (r : List Entry). entries ≡ front ++ entry.Final ∷ r) none is in
+    let none = last_of (first_state config) 0 front rest (rw is at legal) in
+    let ends = rw none at is in
     record {
-      calls = λ s lt. sym (calls_ended s front) ∙ sym (ap (calls_of s) ends) ∙ w.calls s lt;
-      deeds = sym (deeds_ended front) ∙ sym (ap user_actions_of ends) ∙ w.deeds;
+      calls = λ s lt. rw (← calls_ended s front, ← ends) (w.calls s lt);
+      deeds = rw (← deeds_ended front, ← ends) w.deeds;
     }
 
 pub good : (config : Configuration) (clients : List (List (ℕ × Call))) (user : List (ℕ × UserAction))

@@ -1,48 +1,38 @@
 -- The views of keys, when keys and records change.
 use Rattle.nit_audit.proofs.Basics.{AllByRecursion, AllHaveViews, Bool, Change, Err, HasView}
 use Rattle.nit_audit.proofs.Basics.{IfSome, IsSomeAnd, List, None, Ok, OnOk, Option, Point, Result}
-use Rattle.nit_audit.proofs.Basics.{Slab, Some, Updates, View, Which, [], above_is, ap, changed}
-use Rattle.nit_audit.proofs.Basics.{changed_if, cond, covers, eq-eqb, eqb-true, false, false≢true}
-use Rattle.nit_audit.proofs.Basics.{filter, find, find-map, front_is, get, has_key, in_bar, insert}
-use Rattle.nit_audit.proofs.Basics.{is_meant, is_some, map-insert, map-map, map-put_above}
-use Rattle.nit_audit.proofs.Basics.{map-put_back, map-put_front, map-without, map_twice, moved}
-use Rattle.nit_audit.proofs.Basics.{moved_found, option_map, owner, position_or_len, put_above}
-use Rattle.nit_audit.proofs.Basics.{put_again, put_back, put_front, swept, taken_if, view_or}
-use Rattle.nit_audit.proofs.Basics.{view_under, views_at, with_change, without}
-use Rattle.std.proofs.Common.{map, nat_le, not, refl, subst, suc, sym, true, zero, ℕ, ◌+◌, ◌<◌}
-use Rattle.std.proofs.Common.{◌==◌, ◌||◌, ◌∙◌, ◌∷◌, ◌≡◌, ◌≢◌}
+use Rattle.nit_audit.proofs.Basics.{Slab, Some, Updates, View, Which, [], above_is, ap, cases_Bool}
+use Rattle.nit_audit.proofs.Basics.{cases_eq, changed, changed_if, cond, covers, eq-eqb, false}
+use Rattle.nit_audit.proofs.Basics.{false≢true, filter, find, find-map, front_is, get, has_key}
+use Rattle.nit_audit.proofs.Basics.{in_bar, insert, is_meant, is_some, map-insert, map-map}
+use Rattle.nit_audit.proofs.Basics.{map-put_above, map-put_back, map-put_front, map-without}
+use Rattle.nit_audit.proofs.Basics.{map_twice, moved, moved_found, ne_eqb, option_map, owner}
+use Rattle.nit_audit.proofs.Basics.{position_or_len, put_above, put_back, put_front, swept}
+use Rattle.nit_audit.proofs.Basics.{taken_if, view_or, view_under, views_at, with_change, without}
+use Rattle.std.proofs.Common.{arith, inl, inr, map, nat_le, refl, suc, sym, true, zero, ℕ, ◌<◌, ◌∙◌}
+use Rattle.std.proofs.Common.{◌∷◌, ◌≡◌, ◌≢◌}
 use Rattle.nit_audit.specs.declared.keys.Change.TheVariants as change
 
 -- ---- what holds of the keys of a list
 
-or_true : (b : Bool) → (b || true) ≡ true
-or_true true = refl
-or_true false = refl
-
 pub all_among : (P : ℕ → Type 0) (ks : List ℕ) → ((k : ℕ) → has_key ks k ≡ true → P k) → AllByRecursion P ks
 all_among P [] h = tt
-all_among P (k ∷ ks) h = (
-  h k (ap (λ (b : Bool). b || has_key ks k) (eq-eqb k k refl)),
-  all_among P ks (λ j m. h j (ap (λ (b : Bool). (k == j) || b) m ∙ or_true (k == j))),
-)
+all_among P (k ∷ ks) h = (h k (rw (eq-eqb k k refl) refl), all_among P ks (λ j m. h j (rw m (grind arith))))
 
 pub one_among : (P : ℕ → Type 0) (ks : List ℕ) (k : ℕ) → AllByRecursion P ks → has_key ks k ≡ true → P k
 one_among P [] k all m = absurd (false≢true m)
-one_among P (j ∷ ks) k all m = go (j == k) refl m (λ n. one_among P ks k all.1 n)
-  where
-    go : (b : Bool) → (j == k) ≡ b → (b || has_key ks k) ≡ true → (has_key ks k ≡ true → P k) → P k
-    go true e m more = subst P (eqb-true j k e) all.0
-    go false e m more = more m
+one_among P (j ∷ ks) k all m = elim (cases_eq j k) [
+  | inl same ↦ rw (← same) all.0
+  | inr other ↦ one_among P ks k all.1 (rw (ne_eqb j k other) at m)
+]
 
 pub all_filter : (P : ℕ → Type 0) (test : ℕ → Bool) (ks : List ℕ) → AllByRecursion P ks
     → AllByRecursion P (filter test ks)
 all_filter P test [] all = tt
-all_filter P test (k ∷ ks) all = go (test k) (all_filter P test ks all.1)
-  where
-    go : (b : Bool) → AllByRecursion P (filter test ks)
-        → AllByRecursion P (cond b (k ∷ filter test ks) (filter test ks))
-    go true more = (all.0, more)
-    go false more = more
+all_filter P test (k ∷ ks) all = elim (cases_Bool (test k)) [
+  | inl is ↦ rw is (all.0, all_filter P test ks all.1)
+  | inr is ↦ rw is (all_filter P test ks all.1)
+]
 
 pub all_insert : (P : ℕ → Type 0) (ks : List ℕ) (i k : ℕ) → P k → AllByRecursion P ks → AllByRecursion P (insert ks i k)
 all_insert P ks zero k p all = (p, all)
@@ -56,11 +46,10 @@ all_weaker P Q f (k ∷ ks) all = (f k all.0, all_weaker P Q f ks all.1)
 pub found_all : (P : ℕ → Type 0) (test : ℕ → Bool) (ks : List ℕ) (k : ℕ) → AllByRecursion P ks → find test ks ≡ Some k
     → P k
 found_all P test [] k all is = absurd (cc)
-found_all P test (j ∷ ks) k all is = go (test j) is (λ more. found_all P test ks k all.1 more)
-  where
-    go : (b : Bool) → cond b (Some j) (find test ks) ≡ Some k → (find test ks ≡ Some k → P k) → P k
-    go true is more = let same : j ≡ k = cc in subst P same all.0
-    go false is more = more is
+found_all P test (j ∷ ks) k all is = elim (cases_Bool (test j)) [
+  | inl yes_ ↦ let same : j ≡ k = cc in rw (← same) all.0
+  | inr no_ ↦ found_all P test ks k all.1 (rw no_ at is)
+]
 
 map_same : {A : Type 0} (f g : ℕ → A) (ks : List ℕ) → AllByRecursion (λ k. f k ≡ g k) ks → map f ks ≡ map g ks
 map_same f g [] same = refl
@@ -82,16 +71,18 @@ changed_view w c v = cond (is_meant w v) (with_change c v) v
 there : (o : Option View) (w : Which) (c : Change) → IsSomeAnd o (λ v. v.sid < 16)
     → (view_or (changed_if w c o) ≡ changed_view w c (view_or o)) × IsSomeAnd (changed_if w c o) (λ v. v.sid < 16)
 there None w c h = absurd h
-there (Some v) w c h = (refl, go (is_meant w v))
-  where
-    go : (b : Bool) → (cond b (with_change c v) v).sid < 16
-    go true = subst (λ (n : ℕ). n < 16) (sym (session_still c v)) h
-    go false = h
+there (Some v) w c h = (
+  refl,
+  elim (cases_Bool (is_meant w v)) [
+    | inl is ↦ rw (is, session_still c v) h
+    | inr is ↦ rw is h
+  ],
+)
 
 swept_one : (w : Which) (c : Change) (keys : List ℕ) (old new : Slab View)
     → ((k : ℕ) → get new k ≡ swept (changed_if w c) keys old k) → (k : ℕ) → has_key keys k ≡ true
     → get new k ≡ changed_if w c (get old k)
-swept_one w c keys old new h k m = h k ∙ ap (λ (b : Bool). cond b (changed_if w c (get old k)) (get old k)) m
+swept_one w c keys old new h k m = rw m at (h k)
 
 pub changed_views : (w : Which) (c : Change) (keys : List ℕ) (old new : Slab View) → AllHaveViews old keys
     → ((k : ℕ) → get new k ≡ swept (changed_if w c) keys old k)
@@ -105,8 +96,7 @@ changed_views w c keys old new kept h =
 pub changed_kept : (w : Which) (c : Change) (keys : List ℕ) (old new : Slab View) → AllHaveViews old keys
     → ((k : ℕ) → get new k ≡ swept (changed_if w c) keys old k) → AllHaveViews new keys
 changed_kept w c keys old new kept h = all_among (HasView new) keys (λ k m.
-    subst (λ (o : Option View). IsSomeAnd o (λ v. v.sid < 16)) (sym (swept_one w c keys old new h k m))
-    (there (get old k) w c (one_among (HasView old) keys k kept m)).1)
+    rw (swept_one w c keys old new h k m) (there (get old k) w c (one_among (HasView old) keys k kept m)).1)
 
 -- ---- views that are taken out
 
@@ -122,32 +112,23 @@ abbrev LeftViews : Which → Slab View → List ℕ → List View → Type 0
 LeftViews w new ks views = (views_at new ks ≡ without (is_meant w) views) × AllHaveViews new ks
 
 small_some : (new : Slab View) (k : ℕ) (v : View) → get new k ≡ Some v → v.sid < 16 → HasView new k
-small_some new k v is small = subst (λ (o : Option View). IsSomeAnd o (λ v. v.sid < 16)) (sym is) small
+small_some new k v is small = rw is small
 
 -- one more key in front, under which a view stood
 left_more : (w : Which) (new : Slab View) (k : ℕ) (v : View) (now : Option View) (b : Bool) (ks : List ℕ)
     (views : List View) → get new k ≡ now → is_meant w v ≡ b → now ≡ cond b None (Some v) → v.sid < 16
     → LeftViews w new ks views → LeftViews w new (cond (is_some now) (k ∷ ks) ks) (v ∷ views)
-left_more w new k v now true ks views at e is small more =
-    subst (λ (o : Option View). LeftViews w new (cond (is_some o) (k ∷ ks) ks) (v ∷ views)) (sym is) (
-      more.0 ∙ ap (λ (b : Bool). cond (not b) (v ∷ without (is_meant w) views) (without (is_meant w) views)) (sym e),
-      more.1,
-    )
+left_more w new k v now true ks views at e is small more = rw (is, e) more
 left_more w new k v now false ks views at e is small more =
-    subst (λ (o : Option View). LeftViews w new (cond (is_some o) (k ∷ ks) ks) (v ∷ views)) (sym is) (
-      (λ i. view_or ((at ∙ is) i) ∷ more.0 i)
-          ∙ ap (λ (b : Bool). cond (not b) (v ∷ without (is_meant w) views) (without (is_meant w) views)) (sym e),
-      (small_some new k v (at ∙ is) small, more.1),
-    )
+    rw (is, e) ((λ i. view_or ((at ∙ is) i) ∷ more.0 i), (small_some new k v (at ∙ is) small, more.1))
 
 left_front : (w : Which) (old new : Slab View) (k : ℕ) (o : Option View) (ks : List ℕ) (views : List View)
     → o ≡ get old k → HasView old k → Left w old new k → LeftViews w new ks views
     → LeftViews w new (cond (is_some (get new k)) (k ∷ ks) ks) (view_or o ∷ views)
 left_front w old new k None ks views was has left more =
-    absurd (subst (λ (o : Option View). IsSomeAnd o (λ v. v.sid < 16)) (sym was) has)
+    absurd (rw (← was) at has)
 left_front w old new k (Some v) ks views was has left more =
-    left_more w new k v (get new k) (is_meant w v) ks views refl refl (left ∙ ap (taken_if w) (sym was))
-    (subst (λ (o : Option View). IsSomeAnd o (λ v. v.sid < 16)) (sym was) has) more
+    left_more w new k v (get new k) (is_meant w v) ks views refl refl (rw (← was) at left) (rw (← was) at has) more
 
 left_views : (w : Which) (old new : Slab View) (ks : List ℕ) → AllByRecursion (HasView old) ks
     → AllByRecursion (Left w old new) ks → LeftViews w new (kept_keys new ks) (views_at old ks)
@@ -157,8 +138,7 @@ left_views w old new (k ∷ ks) kept left = left_front w old new k (get old k) (
 
 pub left_all : (w : Which) (keys : List ℕ) (old new : Slab View) → ((k : ℕ) → get new k ≡ swept (taken_if w) keys old k)
     → AllByRecursion (Left w old new) keys
-left_all w keys old new h = all_among (Left w old new) keys (λ k m. h k
-    ∙ ap (λ (b : Bool). cond b (taken_if w (get old k)) (get old k)) m)
+left_all w keys old new h = all_among (Left w old new) keys (λ k m. rw m at (h k))
 
 pub removed_views : (w : Which) (keys : List ℕ) (old new : Slab View) → AllHaveViews old keys
     → ((k : ℕ) → get new k ≡ swept (taken_if w) keys old k) → views_at new (filter (λ k. is_some (get new k)) keys)
@@ -173,8 +153,7 @@ removed_kept w keys old new kept h = (left_views w old new keys kept (left_all w
 
 -- the key of a new record is none of those before
 other_key : (old : Slab View) (key k : ℕ) → get old key ≡ None → HasView old k → k ≢ key
-other_key old key k vacant has is =
-    subst (λ (o : Option View). IsSomeAnd o (λ v. v.sid < 16)) (ap (get old) is ∙ vacant) has
+other_key old key k vacant has is = rw (is, vacant) at has
 
 same_record : (old new : Slab View) (key : ℕ) (v : View) (keys : List ℕ) → get old key ≡ None
     → Updates old new key (Some v) → AllHaveViews old keys → AllByRecursion (λ k. get new k ≡ get old k) keys
@@ -185,13 +164,7 @@ same_record old new key v keys vacant up kept =
 position_map : (f : ℕ → View) (test : View → Bool) (ks : List ℕ)
     → position_or_len test (map f ks) ≡ position_or_len (λ k. test (f k)) ks
 position_map f test [] = refl
-position_map f test (k ∷ ks) = go (test (f k)) (position_map f test ks)
-  where
-    go : (b : Bool) → position_or_len test (map f ks) ≡ position_or_len (λ k. test (f k)) ks
-        → cond (not b) (1 + position_or_len test (map f ks)) 0 ≡ cond (not b) (1 + position_or_len (λ k. test (f k)) ks)
-        0
-    go true e = refl
-    go false e = ap (λ n. 1 + n) e
+position_map f test (k ∷ ks) = rw (position_map f test ks) refl
 
 pub created_views : (layer : View → ℕ) (l place key : ℕ) (v : View) (keys : List ℕ) (old new : Slab View)
     → AllHaveViews old keys → get old key ≡ None → Updates old new key (Some v)
@@ -205,21 +178,11 @@ created_views layer l place key v keys old new kept vacant up at =
     ((at ∙ sym (position_map (view_under old) (λ w. nat_le l (layer w)) keys)) i) (view_or (up.changed i)))
     ∙ sym (front_is layer l v (views_at old keys))
 
-pub created_kept : (place key : ℕ) (v : View) (keys : List ℕ) (old new : Slab View) → AllHaveViews old keys
-    → get old key ≡ None → Updates old new key (Some v) → v.sid < 16 → AllHaveViews new (insert keys place key)
-created_kept place key v keys old new kept vacant up small =
-    all_insert (HasView new) keys place key
-    (subst (λ (o : Option View). IsSomeAnd o (λ v. v.sid < 16)) (sym up.changed) small)
-    (all_among (HasView new) keys (λ k m.
-    let has : HasView old k = one_among (HasView old) keys k kept m in
-    subst (λ (o : Option View). IsSomeAnd o (λ v. v.sid < 16)) (sym (up.others k (other_key old key k vacant has)))
-    has))
-
 -- ---- views that move
 
 moved_none : (is : View → Bool) (put : View → List View → List View) (xs : List View) → find is xs ≡ None
     → moved is put xs ≡ xs
-moved_none is put xs none = ap (put_again put (without is xs) xs) none
+moved_none is put xs none = rw none refl
 
 pub stays : (is : View → Bool) (put : View → List View → List View) (records : Slab View) (keys : List ℕ)
     → find (λ k. is (view_under records k)) keys ≡ None → moved is put (views_at records keys) ≡ views_at records keys
@@ -236,14 +199,6 @@ moves is put put_key records keys key found puts =
     ∙ ap (put (view_under records key)) (map-without (view_under records) is keys)
     ∙ sym (moved_found is put (views_at records keys) (view_under records key) (find-map is (view_under records) keys
     ∙ ap (option_map (view_under records)) found))
-
-pub moved_kept : (is : View → Bool) (records : Slab View) (keys : List ℕ) (key place : ℕ) → AllHaveViews records keys
-    → find (λ k. is (view_under records k)) keys ≡ Some key
-    → AllHaveViews records (insert (without (λ k. is (view_under records k)) keys) place key)
-moved_kept is records keys key place kept found =
-    all_insert (HasView records) (without (λ k. is (view_under records k)) keys) place key
-    (found_all (HasView records) (λ k. is (view_under records k)) keys key kept found)
-    (all_filter (HasView records) (λ k. not (is (view_under records k))) keys kept)
 
 pub fronted : (is : View → Bool) (layer : View → ℕ) (l : ℕ) (records : Slab View) (keys : List ℕ) (key place : ℕ)
     → find (λ k. is (view_under records k)) keys ≡ Some key
@@ -285,10 +240,8 @@ pub owner_below : (rows : ℕ) (p : Point) (records : Slab View) (keys : List �
     → option_map (λ k. (view_under records k).sid) (find (λ k. covers (view_under records k).rect p) keys)
     ≡ option_map (λ v. v.sid) (owner rows (views_at records keys) p)
 owner_below rows p records keys below =
-    sym (ap (λ (b : Bool). option_map (λ (v : View). v.sid)
-    (cond b None (find (λ (v : View). covers v.rect p) (views_at records keys)))) below
-    ∙ ap (option_map (λ (v : View). v.sid)) (find-map (λ (v : View). covers v.rect p) (view_under records) keys)
-    ∙ map_twice (λ (v : View). v.sid) (view_under records) (find (λ k. covers (view_under records k).rect p) keys))
+    rw (below, find-map (λ (v : View). covers v.rect p) (view_under records) keys)
+    (sym (map_twice (λ (v : View). v.sid) (view_under records) (find (λ k. covers (view_under records k).rect p) keys)))
 
 small_at : (o : Option View) → IsSomeAnd o (λ v. v.sid < 16) → (view_or o).sid < 16
 small_at None h = absurd h

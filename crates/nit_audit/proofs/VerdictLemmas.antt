@@ -1,10 +1,8 @@
 -- What is answered of entries, one at a time.
-use Rattle.nit_audit.proofs.Basics.{Bool, Call, Device, Entry, Err, IfOk, IsEnded, IsLeastBad}
-use Rattle.nit_audit.proofs.Basics.{IsOpen, IsVerdict, IsVerdictFrom, List, Ok, Reply, Result}
-use Rattle.nit_audit.proofs.Basics.{Routed, Verdict, [], ap, arith, cases_lt, false, false≢true}
-use Rattle.nit_audit.proofs.Basics.{inl, inr, refl, subst, suc, sym}
-use Rattle.std.proofs.Common.{take, true, zero, ℕ, ◌++◌, ◌+◌, ◌<◌, ◌∙◌, ◌∷◌, ◌≡◌, ◌≤◌, ◌↔◌, ◌≢◌}
-use Rattle.std.proofs.Common.{◌⊎◌}
+use Rattle.nit_audit.proofs.Basics.{Call, Entry, Err, IfOk, IsEnded, IsLeastBad, IsOpen, IsVerdict}
+use Rattle.nit_audit.proofs.Basics.{IsVerdictFrom, List, Ok, Result, Verdict, [], ap, arith}
+use Rattle.nit_audit.proofs.Basics.{cases_lt, inl, inr, refl, subst, suc, sym}
+use Rattle.std.proofs.Common.{take, zero, ℕ, ◌++◌, ◌+◌, ◌<◌, ◌∙◌, ◌∷◌, ◌≡◌, ◌↔◌, ◌≢◌}
 use mathlib.Core.List.{cons≢nil}
 use Rattle.nit_events.specs.declared.entry.Entry.TheVariants as entry
 use Rattle.nit_audit.specs.declared.auditing.Verdict.TheVariants as verdict
@@ -93,19 +91,6 @@ verdict_for G H entries (verdict.No k) on back (j, is, inr un) =
 
 -- ---- one verdict
 
-abbrev is_final : Entry → Bool
-is_final entry.Final = true
-is_final other = false
-
-not_call : (sid : ℕ) (call : Call) (r : Reply) → entry.Call sid call r ≡ entry.Final → ⊥
-not_call sid call r is = false≢true (ap is_final is)
-
-not_input : (dev : Device) (routed : Routed) → entry.Input dev routed ≡ entry.Final → ⊥
-not_input dev routed is = false≢true (ap is_final is)
-
-not_shot : (number : ℕ) → entry.Shot number ≡ entry.Final → ⊥
-not_shot number is = false≢true (ap is_final is)
-
 not_ended_more : (e : Entry) (rest : List Entry) → e ≢ entry.Final → (IsEnded rest → ⊥) → IsEnded (e ∷ rest) → ⊥
 not_ended_more e rest o again (front, is) = shorter front is
   where
@@ -124,23 +109,21 @@ open_not_ended : (entries : List Entry) → IsOpen entries → IsEnded entries �
 open_not_ended [] o h = not_ended_none h
 open_not_ended (entry.Final ∷ rest) o h = o
 open_not_ended (entry.Call sid call r ∷ rest) o h =
-    not_ended_more (entry.Call sid call r) rest (λ is. absurd (not_call sid call r is))
+    not_ended_more (entry.Call sid call r) rest (λ is. absurd cc)
     (λ again. open_not_ended rest o again) h
 open_not_ended (entry.Input dev routed ∷ rest) o h =
-    not_ended_more (entry.Input dev routed) rest (λ is. absurd (not_input dev routed is))
+    not_ended_more (entry.Input dev routed) rest (λ is. absurd cc)
     (λ again. open_not_ended rest o again) h
 open_not_ended (entry.Shot number ∷ rest) o h =
-    not_ended_more (entry.Shot number) rest (λ is. absurd (not_shot number is)) (λ again. open_not_ended rest o again) h
+    not_ended_more (entry.Shot number) rest (λ is. absurd cc) (λ again. open_not_ended rest o again) h
 
 -- the first bad place is one
 one_place : (G : List Entry → Type 0) (entries : List Entry) (j k : ℕ) → IsLeastBad G entries j → IsLeastBad G entries k
     → j ≡ k
-one_place G entries j k a b = go (cases_lt j k) (cases_lt k j)
-  where
-    go : (j < k) ⊎ (k ≤ j) → (k < j) ⊎ (j ≤ k) → j ≡ k
-    go (inl lt) other = absurd (a.bad (b.before j lt))
-    go (inr le) (inl lt) = absurd (b.bad (a.before k lt))
-    go (inr le) (inr ge) = omega (arith, le, ge)
+one_place G entries j k a b = elim (cases_lt j k) [
+  | inl lt ↦ absurd (a.bad (b.before j lt))
+  | inr le ↦ elim (cases_lt k j) [ inl lt ↦ absurd (b.bad (a.before k lt)) | inr ge ↦ omega (arith, le, ge) ]
+]
 
 pub one_verdict : (G : List Entry → Type 0) → ((k : ℕ) (xs : List Entry) → G xs → G (take k xs))
     → (entries : List Entry) (a b : Verdict) → IsVerdict G entries a → IsVerdict G entries b → a ≡ b
@@ -159,7 +142,7 @@ one_verdict G fewer entries (verdict.No j) (verdict.No k) (inr a) (inr b) = ap v
 -- a verdict that was answered holds
 pub answered_yes : {E : Type 0} (Is : Verdict → Type 0) (r : Result Verdict E) → IfOk r Is → r ≡ Ok verdict.Yes
     → Is verdict.Yes
-answered_yes {E} Is r h e = subst (λ (q : Result Verdict E). IfOk q Is) e h
+answered_yes {E} Is r h e = rw e at h
 
 -- `Yes` is answered exactly where something holds that follows from it and gives it
 pub if_ok_yes : {E : Type 0} (Is : Verdict → Type 0) (Says : Type 0) (r : Result Verdict E) → IfOk r Is

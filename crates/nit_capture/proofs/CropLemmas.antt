@@ -1,13 +1,13 @@
 -- The part of a picture inside a rectangle.
-use Rattle.nit_capture.proofs.Basics.{All, HasPixels, IsPicture, IsPlace, IsWord, LiesIn, Rectangle}
-use Rattle.nit_capture.proofs.Basics.{Shows, blue, channels, crop, crop_pixel, div-mul-add}
-use Rattle.nit_capture.proofs.Basics.{div_below, flat_map, get_or-drop, get_or-take, green, ints}
-use Rattle.nit_capture.proofs.Basics.{mod-mul-add, mod_below, mul-add-lt, nat_abs, negsuc, pos}
-use Rattle.nit_capture.proofs.Basics.{range_with_len, red, screen, slice_index, take_all, to_z-of_z}
-use Rattle.nit_capture.proofs.Basics.{within, word_of, ℤ}
-use Rattle.std.proofs.Common.{List, [], ap, ap₂, arith, drop, length, length-append, map, mul_comm}
-use Rattle.std.proofs.Common.{of_z, refl, subst, suc, sym, take, to_z, w32, zero, ℕ, ◌%◌, ◌*◌, ◌++◌}
-use Rattle.std.proofs.Common.{◌+◌, ◌-◌, ◌/◌, ◌<◌, ◌^◌, ◌∙◌, ◌∷◌, ◌≡◌, ◌≤◌, ◌+ℤ◌, ◌≤ℤ◌}
+use Rattle.nit_capture.proofs.Basics.{All, HasPixels, IsPicture, IsPlace, IsWord, LiesIn, List}
+use Rattle.nit_capture.proofs.Basics.{Rectangle, Shows, add-zero, add_assoc, ap, ap₂, arith}
+use Rattle.nit_capture.proofs.Basics.{channels, crop, crop_pixel, div-mul-add, div_below, drop}
+use Rattle.nit_capture.proofs.Basics.{flat_map, get_or-drop, get_or-take, get_or_append_left, ints}
+use Rattle.nit_capture.proofs.Basics.{length, length-append, lit<, map, mod-mul-add, mod_below}
+use Rattle.nit_capture.proofs.Basics.{mul-add-lt, mul_comm, nat_abs, negsuc, pos, range_with_len}
+use Rattle.nit_capture.proofs.Basics.{screen, slice_index, take_all, to_z-of_z, within, ℤ}
+use Rattle.std.proofs.Common.{[], of_z, refl, suc, take, to_z, w32, zero, zero-add, ℕ, ◌%◌, ◌*◌}
+use Rattle.std.proofs.Common.{◌++◌, ◌+◌, ◌-◌, ◌/◌, ◌<◌, ◌^◌, ◌∙◌, ◌∷◌, ◌≡◌, ◌≤◌, ◌+ℤ◌, ◌≤ℤ◌}
 use Rattle.nit_capture.specs.Crop.{crop_bytes, crop_place, crop_row_place, word_of_bytes}
 use Rattle.nit_capture.proofs.RunsRead.{AreBytes}
 use Rattle.nit_capture.proofs.TileDifferences.{same_map}
@@ -73,16 +73,9 @@ pub pixel_in_part : (bytes : List ℕ) (from n j : ℕ) → 3 * j + 3 ≤ n → 
     ≡ word_of_bytes bytes (from + 3 * j)
 unfolding word_of_bytes
 pixel_in_part bytes from n j le =
-    let part : List ℕ = take n (drop from bytes) in
-    let at : (i : ℕ) → i < n → slice_index part i ≡ slice_index bytes (from + i) =
+    let at : (i : ℕ) → i < n → slice_index (take n (drop from bytes)) i ≡ slice_index bytes (from + i) =
     λ i lt. get_or-take n (drop from bytes) i 0 lt ∙ get_or-drop from bytes i 0 in
-    let r = at (3 * j) (omega arith) in
-    let g : slice_index part (3 * j + 1) ≡ slice_index bytes (from + 3 * j + 1) = at (3 * j + 1) (omega arith)
-    ∙ ap (slice_index bytes) (omega arith) in
-    let b : slice_index part (3 * j + 2) ≡ slice_index bytes (from + 3 * j + 2) = at (3 * j + 2) (omega arith)
-    ∙ ap (slice_index bytes) (omega arith) in
-    ap₂ (λ (x y : ℕ). word_of x y (slice_index part (3 * j + 2))) r g
-    ∙ ap (word_of (slice_index bytes (from + 3 * j)) (slice_index bytes (from + 3 * j + 1))) b
+    rw (at (3 * j) (omega arith), at (3 * j + 1) (omega arith), at (3 * j + 2) (omega arith)) (simp add_assoc)
 
 pub pixel_in_row : (width height : ℕ) (r : Rectangle) (bytes : List ℕ) (row j : ℕ) → j < r.w
     → word_of_bytes (take (3 * r.w) (drop (length bytes - 3 * (width * height) + 3 * crop_row_place width r row) bytes))
@@ -91,8 +84,7 @@ pixel_in_row width height r bytes row j lt =
     let first : ℕ = length bytes - 3 * (width * height) in
     let at : ℕ = crop_row_place width r row in
     let e : first + 3 * at + 3 * j ≡ first + 3 * (at + j) = omega arith in
-    pixel_in_part bytes (first + 3 * at) (3 * r.w) j (omega arith)
-    ∙ ap (word_of_bytes bytes) (e ∙ ap (λ (n : ℕ). first + 3 * n) (sym (cut_in_row width r row j lt)))
+    rw (cut_in_row width r row j lt, ← e) (pixel_in_part bytes (first + 3 * at) (3 * r.w) j (omega arith))
 
 pub pixel_fits : (bytes : List ℕ) (i : ℕ) → AreBytes bytes → word_of_bytes bytes i < 2 ^ 24
 unfolding word_of_bytes
@@ -102,68 +94,38 @@ pub cut_bytes_fit : (width height : ℕ) (r : Rectangle) (bytes : List ℕ) → 
     → All IsWord (crop_bytes width height r bytes)
 unfolding crop_bytes
 cut_bytes_fit width height r bytes are =
-    map_fits (λ k. word_of_bytes bytes (length bytes - 3 * (width * height) + 3 * crop_place width r k)) (r.w * r.h)
-    (λ k. pixel_fits bytes (length bytes - 3 * (width * height) + 3 * crop_place width r k) are)
+    map_fits (crop_pixel width height r bytes) (r.w * r.h) (λ k. pixel_fits bytes _ are)
 
-red_at : (frame : List ℕ) (i : ℕ) → i < length frame → slice_index (flat_map channels frame) (3 * i)
-    ≡ red (slice_index frame i)
-red_at [] i lt = absurd (omega arith)
-red_at (x ∷ xs) zero lt = refl
-red_at (x ∷ xs) (suc i) lt = let e : 3 * suc i ≡ suc (suc (suc (3 * i))) =
-    omega arith in ap (slice_index (flat_map channels (x ∷ xs))) e ∙ red_at xs i (omega arith)
-
-green_at : (frame : List ℕ) (i : ℕ) → i < length frame → slice_index (flat_map channels frame) (3 * i + 1)
-    ≡ green (slice_index frame i)
-green_at [] i lt = absurd (omega arith)
-green_at (x ∷ xs) zero lt = refl
-green_at (x ∷ xs) (suc i) lt = let e : 3 * suc i + 1 ≡ suc (suc (suc (3 * i + 1))) =
-    omega arith in ap (slice_index (flat_map channels (x ∷ xs))) e ∙ green_at xs i (omega arith)
-
-blue_at : (frame : List ℕ) (i : ℕ) → i < length frame → slice_index (flat_map channels frame) (3 * i + 2)
-    ≡ blue (slice_index frame i)
-blue_at [] i lt = absurd (omega arith)
-blue_at (x ∷ xs) zero lt = refl
-blue_at (x ∷ xs) (suc i) lt = let e : 3 * suc i + 2 ≡ suc (suc (suc (3 * i + 2))) =
-    omega arith in ap (slice_index (flat_map channels (x ∷ xs))) e ∙ blue_at xs i (omega arith)
+-- the three bytes of a pixel
+channel_at : (frame : List ℕ) (i c : ℕ) → i < length frame → c < 3
+    → slice_index (flat_map channels frame) (3 * i + c) ≡ slice_index (channels (slice_index frame i)) c
+channel_at [] i c lt few = absurd (omega arith)
+channel_at (x ∷ xs) zero c lt few = rw zero-add (get_or_append_left (channels x) (flat_map channels xs) 0 c few)
+channel_at (x ∷ xs) (suc i) c lt few =
+    let e : 3 * suc i + c ≡ suc (suc (suc (3 * i + c))) = omega arith in
+    rw e (channel_at xs i c (omega arith) few)
 
 length_channels : (frame : List ℕ) → length (flat_map channels frame) ≡ 3 * length frame
 length_channels [] = refl
 length_channels (x ∷ xs) = let e = length_channels xs in omega arith
 
 behind : (front bytes : List ℕ) (i : ℕ) → slice_index (front ++ bytes) (length front + i) ≡ slice_index bytes i
-behind [] bytes i = let e : 0 + i ≡ i = omega arith in ap (slice_index bytes) e
-behind (x ∷ front) bytes i = let e : length (x ∷ front) + i ≡ suc (length front + i) =
-    omega arith in ap (slice_index ((x ∷ front) ++ bytes)) e ∙ behind front bytes i
+behind [] bytes i = let e : 0 + i ≡ i = omega arith in rw e refl
+behind (x ∷ front) bytes i =
+    let e : length (x ∷ front) + i ≡ suc (length front + i) = omega arith in
+    rw e (behind front bytes i)
 
 pixel_shown : (front frame : List ℕ) (i : ℕ) → All IsWord frame → i < length frame
     → word_of_bytes (front ++ flat_map channels frame) (length front + 3 * i) ≡ slice_index frame i
 unfolding word_of_bytes
 pixel_shown front frame i all lt =
-    let all_bytes : List ℕ = front ++ flat_map channels frame in
-    let one : length front + 3 * i + 1 ≡ length front + (3 * i + 1) = omega arith in
-    let two_bytes : length front + 3 * i + 2 ≡ length front + (3 * i + 2) = omega arith in
-    let r : slice_index all_bytes (length front + 3 * i) ≡ red (slice_index frame i) =
-    behind front (flat_map channels frame) (3 * i) ∙ red_at frame i lt in
-    let g : slice_index all_bytes (length front + 3 * i + 1) ≡ green (slice_index frame i) =
-    ap (slice_index all_bytes) one ∙ behind front (flat_map channels frame) (3 * i + 1) ∙ green_at frame i lt in
-    let b : slice_index all_bytes (length front + 3 * i + 2) ≡ blue (slice_index frame i) =
-    ap (slice_index all_bytes) two_bytes ∙ behind front (flat_map channels frame) (3 * i + 2)
-    ∙ blue_at frame i lt in
-    let whole : word_of (red (slice_index frame i)) (green (slice_index frame i)) (blue (slice_index frame i))
-    ≡ slice_index frame i = let fits = words_fit frame all i in omega arith in
-    ap₂ (λ (x y : ℕ). word_of x y (slice_index all_bytes (length front + 3 * i + 2))) r g
-    ∙ ap (word_of (red (slice_index frame i)) (green (slice_index frame i))) b ∙ whole
-
-pub shows_long : (width height : ℕ) (bytes frame : List ℕ) → Shows width height bytes frame
-    → 3 * (width * height) ≤ length bytes
-shows_long width height bytes frame s =
-    omega (
-      arith,
-      ap length s.bytes_are,
-      length-append s.front (flat_map channels frame),
-      length_channels frame,
-      s.picture.size,
-    )
+    let at : (c : ℕ) → c < 3 → slice_index (front ++ flat_map channels frame) (length front + (3 * i + c))
+    ≡ slice_index (channels (slice_index frame i)) c =
+    λ c few. behind front (flat_map channels frame) (3 * i + c) ∙ channel_at frame i c lt few in
+    let r = rw add-zero at (at 0 (lit< tt)) in
+    let fits = words_fit frame all i in
+    let e : (c : ℕ) → length front + 3 * i + c ≡ length front + (3 * i + c) = λ c. omega arith in
+    rw (r, e 1, at 1 (lit< tt), e 2, at 2 (lit< tt)) (omega arith)
 
 pub cut_shown : (width height : ℕ) (r : Rectangle) (bytes frame : List ℕ) → HasPixels r → OnScreen width height r
     → Shows width height bytes frame → crop_bytes width height r bytes ≡ crop width r frame
@@ -177,12 +139,11 @@ cut_shown width height r bytes frame some on s =
       length_channels frame,
       s.picture.size,
     ) in
-    same_map (λ k. word_of_bytes bytes (length bytes - 3 * (width * height) + 3 * crop_place width r k))
-    (λ k. slice_index frame (crop_place width r k)) 0 (r.w * r.h)
+    same_map (crop_pixel width height r bytes) (λ k. slice_index frame (crop_place width r k)) 0 (r.w * r.h)
     (λ k low high.
-    ap₂ (λ (l : List ℕ) (n : ℕ). word_of_bytes l (n + 3 * crop_place width r k)) s.bytes_are first
-    ∙ pixel_shown s.front frame (crop_place width r k) s.picture.words (let lt =
-    cut_within width height r k some on (omega arith) in omega (arith, lt, s.picture.size)))
+    let lt = cut_within width height r k some on (omega arith) in
+    rw (first, s.bytes_are) (pixel_shown s.front frame (crop_place width r k) s.picture.words
+    (omega (arith, s.picture.size))))
 
 -- all rows are cut
 pub all_cut : (width height : ℕ) (r : Rectangle) (bytes into : List ℕ) (rows : ℕ) → length into ≡ r.w * r.h → rows ≤ r.h
@@ -192,14 +153,14 @@ pub all_cut : (width height : ℕ) (r : Rectangle) (bytes into : List ℕ) (rows
 unfolding crop_bytes
 all_cut width height r bytes into rows size le ge e =
     let same : rows ≡ r.h = omega arith in
-    let all : rows * r.w ≡ r.w * r.h = ap (λ (n : ℕ). n * r.w) same ∙ mul_comm r.h r.w in
-    sym (take_all (rows * r.w) into (omega (arith, all, size))) ∙ e
-    ∙ ap (λ (n : ℕ). map (crop_pixel width height r bytes) (range_with_len 0 n)) all
+    let all : rows * r.w ≡ length into = rw (same, size) (mul_comm r.h r.w) in
+    let whole = rw (all, take_all (length into) into (omega arith)) at e in
+    rw (← size) whole
 
 pub cut_is_picture : (width height : ℕ) (r : Rectangle) (bytes into : List ℕ) → AreBytes bytes → length into ≡ r.w * r.h
     → into ≡ crop_bytes width height r bytes → IsPicture r.w r.h into
 cut_is_picture width height r bytes into are size is =
-    record { size = size; words = subst (All IsWord) (sym is) (cut_bytes_fit width height r bytes are) }
+    record { size = size; words = rw is (cut_bytes_fit width height r bytes are) }
 
 -- a place is a number of 32 bits
 pub place_is : (z : ℤ) → IsPlace z → to_z w32 (of_z w32 z) ≡ z

@@ -1,12 +1,11 @@
 -- What the definitions of films say of each other.
 use Rattle.nit_capture.proofs.Basics.{AgreeInside, AllAgree, AllByRecursion, HasPixels, HasRecord}
-use Rattle.nit_capture.proofs.Basics.{IsPicture, IsPictureSize, LiesIn, Rectangle, and_true, black}
-use Rattle.nit_capture.proofs.Basics.{crop, ints, length-replicate, nat_abs, negsuc, pos, record_of}
-use Rattle.nit_capture.proofs.Basics.{records, screen, slice_index, spans, spans_holds, stream}
-use Rattle.nit_capture.proofs.Basics.{within, ℤ}
-use Rattle.std.proofs.Common.{List, [], ap, append_assoc, ap₂, arith, drop, length, map, refl}
-use Rattle.std.proofs.Common.{subst, sym, true, ℕ, ◌%◌, ◌*◌, ◌++◌, ◌+◌, ◌/◌, ◌<◌, ◌∙◌, ◌∷◌, ◌≡◌}
-use Rattle.std.proofs.Common.{◌≤ℤ◌}
+use Rattle.nit_capture.proofs.Basics.{IsPicture, IsPictureSize, LiesIn, List, Rectangle, and_true}
+use Rattle.nit_capture.proofs.Basics.{ap, append_assoc, arith, black, crop, drop, ints, length}
+use Rattle.nit_capture.proofs.Basics.{length-replicate, map, nat_abs, negsuc, pos, record_of}
+use Rattle.nit_capture.proofs.Basics.{records, refl, screen, slice_index, spans, spans_holds}
+use Rattle.nit_capture.proofs.Basics.{stream, within, ℤ}
+use Rattle.std.proofs.Common.{[], sym, true, ℕ, ◌%◌, ◌*◌, ◌++◌, ◌+◌, ◌/◌, ◌<◌, ◌∙◌, ◌∷◌, ◌≡◌, ◌≤ℤ◌}
 use Rattle.nit_capture.specs.Crop.{crop_place}
 use Rattle.nit_capture.proofs.TileDifferences.{same_map}
 use Rattle.nit_capture.proofs.RecordsRead.{one_record, no_record}
@@ -30,14 +29,12 @@ one_film : (w h : ℕ) (before : List ℕ) (a b : List (List ℕ)) → IsPicture
 one_film w h before [] [] s size all_a all_b e = refl
 one_film w h before [] (y ∷ b) s size all_a all_b e = absurd (no_more_records w h before y b all_b.0 e)
 one_film w h before (x ∷ a) [] s size all_a all_b e = absurd (no_more_records w h before x a all_a.0 (sym e))
-one_film w h before (x ∷ a) (y ∷ b) s size all_a all_b e =
-    let p = goes_on w h before x a all_a.0 in
-    let q = goes_on w h before y b all_b.0 in
-    let same = one_record w h before (records w h before (x ∷ a) ++ 0 ∷ []) x y (records w h x a ++ 0 ∷ [])
-    (records w h y b ++ 0 ∷ []) s.some_columns size p (record { bytes_are = e ∙ q.bytes_are; picture = all_b.0 }) in
-    let rest : records w h x a ++ 0 ∷ [] ≡ records w h x b ++ 0 ∷ [] = same.1
-    ∙ ap (λ (z : List ℕ). records w h z b ++ 0 ∷ []) (sym same.0) in
-    ap₂ (λ (z : List ℕ) (zs : List (List ℕ)). z ∷ zs) same.0 (one_film w h x a b s all_a.0.size all_a.1 all_b.1 rest)
+one_film w h before (x ∷ a) (y ∷ b) s size (all_x, all_a) (all_y, all_b) e =
+    let p = goes_on w h before x a all_x in
+    let q = goes_on w h before y b all_y in
+    let (same, rest) = one_record w h before (records w h before (x ∷ a) ++ 0 ∷ []) x y (records w h x a ++ 0 ∷ [])
+    (records w h y b ++ 0 ∷ []) s.some_columns size p (record { bytes_are = e ∙ q.bytes_are; picture = all_y }) in
+    rw (← same, one_film w h x a b s all_x.size all_a all_b (rw (← same) at rest)) refl
 
 same_number : (m n : ℕ) → m % 256 ≡ n % 256 → m / 256 ≡ n / 256 → m ≡ n
 same_number m n p q = omega arith
@@ -52,16 +49,11 @@ one_stream w h v g a b s s' all_a all_b e =
     let h1 : h / 256 ≡ g / 256 = ap (λ (l : List ℕ). slice_index l 7) e in
     let width : w ≡ v = same_number w v w0 w1 in
     let height : h ≡ g = same_number h g h0 h1 in
-    let rest : records w h (black w h) a ++ 0 ∷ [] ≡ records v g (black v g) b ++ 0 ∷ [] = ap (drop 8) e in
-    let moved : records v g (black v g) b ≡ records w h (black w h) b =
-    ap₂ (λ (x y : ℕ). records x y (black x y) b) (sym width) (sym height) in
-    let fits : AllByRecursion (IsPicture w h) b =
-    subst (λ (x : ℕ). AllByRecursion (IsPicture x h) b) (sym width)
-    (subst (λ (y : ℕ). AllByRecursion (IsPicture v y) b) (sym height) all_b) in (
+    let rest : records w h (black w h) a ++ 0 ∷ [] ≡ records v g (black v g) b ++ 0 ∷ [] = ap (drop 8) e in (
       width,
       height,
-      one_film w h (black w h) a b s (length-replicate (w * h) 0) all_a fits
-          (rest ∙ ap (λ (l : List ℕ). l ++ 0 ∷ []) moved),
+      one_film w h (black w h) a b s (length-replicate (w * h) 0) all_a (rw (width, height) all_b)
+          (rw (← width, ← height) at rest),
     )
 
 -- ---- what a film tells
@@ -87,9 +79,8 @@ same_cuts : (width height : ℕ) (r : Rectangle) (a b : List (List ℕ)) → Lie
 same_cuts width height r [] [] lies some all = refl
 same_cuts width height r [] (y ∷ b) lies some all = absurd all
 same_cuts width height r (x ∷ a) [] lies some all = absurd all
-same_cuts width height r (x ∷ a) (y ∷ b) lies some all =
-    ap₂ (λ (z : List ℕ) (zs : List (List ℕ)). z ∷ zs) (same_cut width height r x y lies some all.0)
-    (same_cuts width height r a b lies some all.1)
+same_cuts width height r (x ∷ a) (y ∷ b) lies some (all_x, all) =
+    rw (same_cut width height r x y lies some all_x, same_cuts width height r a b lies some all) refl
 
 pub same_film : (width height : ℕ) (r : Rectangle) (a b : List (List ℕ)) → LiesIn r (screen width height) → HasPixels r
     → AllAgree width r a b → stream r.w r.h (map (crop width r) a) ≡ stream r.w r.h (map (crop width r) b)

@@ -2,7 +2,6 @@ pub mod Tiles
 pub mod TileDifferences
 pub mod PixelRows
 pub mod ReaderSteps
-pub mod NumbersRead
 pub mod Pictures
 pub mod RunsRead
 pub mod TilesRead

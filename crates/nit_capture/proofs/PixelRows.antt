@@ -1,18 +1,22 @@
 -- Pixels that stand side by side in a row.
-use Rattle.std.proofs.Common.{Bool, List, [], ap, append_assoc, ap₂, arith, drop, false, inl, inr}
-use Rattle.std.proofs.Common.{length, map, mul_comm, refl, suc, sym, take, true, zero, ℕ, ◌*◌, ◌++◌}
-use Rattle.std.proofs.Common.{◌+◌, ◌-◌, ◌<◌, ◌∙◌, ◌∷◌, ◌≡◌, ◌≤◌}
-use Rattle.nit_capture.proofs.Basics.{IsPictureSize, append-nil, cases_lt, differs, div-mul-add}
-use Rattle.nit_capture.proofs.Basics.{ext_get_or, get_or-drop, get_or-map-range_with_len}
-use Rattle.nit_capture.proofs.Basics.{get_or-take, high, left_of, length-drop}
+use Rattle.nit_capture.proofs.Basics.{IsPictureSize, List, ap, append-nil, append_assoc, arith}
+use Rattle.nit_capture.proofs.Basics.{cases_Bool, cases_lt, differs, div-mul-add, drop, ext_get_or}
+use Rattle.nit_capture.proofs.Basics.{false, get_or-drop, get_or-map-range_with_len, get_or-take}
+use Rattle.nit_capture.proofs.Basics.{high, inl, inr, left_of, length-drop}
 use Rattle.nit_capture.proofs.Basics.{length-map-range_with_len, length-take}
 use Rattle.nit_capture.proofs.Basics.{map-range_with_len_more, mod-mul-add, mul-add-lt, mul-le}
 use Rattle.nit_capture.proofs.Basics.{range_with_len, slice_index, take-put_mid, tile_count}
 use Rattle.nit_capture.proofs.Basics.{tile_pixels, top_of, wide}
+use Rattle.std.proofs.Common.{[], length, map, mul_comm, refl, suc, sym, take, true, zero, ℕ, ◌*◌}
+use Rattle.std.proofs.Common.{◌++◌, ◌+◌, ◌-◌, ◌<◌, ◌∙◌, ◌∷◌, ◌≡◌, ◌≤◌}
 use Rattle.nit_capture.specs.Tiles.{area, place, row_place}
 use borrow.Rule.Slice.PartMut.{put_mid}
 use Rattle.nit_capture.proofs.Tiles.{wide_some, high_some}
 use Rattle.nit_capture.proofs.TileDifferences.{same_tile, same_pixel, same_map}
+
+-- a part that ends so far behind its start is so long
+pub span_is : (at wide : ℕ) → at + wide - at ≡ wide
+span_is at wide = omega arith
 
 pub next_row : (row wide : ℕ) → (row + 1) * wide ≡ row * wide + wide
 next_row row wide = omega arith
@@ -20,18 +24,14 @@ next_row row wide = omega arith
 -- what is given for so many numbers, and for as many more
 pub map_joined : (f g : ℕ → ℕ) (m n : ℕ) → ((j : ℕ) → j < n → f (m + j) ≡ g j)
     → map f (range_with_len 0 (m + n)) ≡ map f (range_with_len 0 m) ++ map g (range_with_len 0 n)
-map_joined f g m zero same = let e : m + 0 ≡ m = omega arith in ap (λ (n : ℕ). map f (range_with_len 0 n)) e
-    ∙ sym (append-nil (map f (range_with_len 0 m)))
+map_joined f g m zero same = let e : m + 0 ≡ m = omega arith in rw (e, append-nil) refl
 map_joined f g m (suc n) same =
     let e : m + suc n ≡ (m + n) + 1 = omega arith in
-    let one : n + 1 ≡ suc n = omega arith in
-    ap (λ (k : ℕ). map f (range_with_len 0 k)) e
-    ∙ map-range_with_len_more f 0 (m + n) (m + n) (omega arith)
-    ∙ ap₂ (λ (l : List ℕ) (x : ℕ). l ++ x ∷ []) (map_joined f g m n (λ j lt. same j (omega arith)))
-    (same n (omega arith))
-    ∙ append_assoc (map f (range_with_len 0 m)) (map g (range_with_len 0 n)) (g n ∷ [])
-    ∙ ap (λ (l : List ℕ). map f (range_with_len 0 m) ++ l) (sym (map-range_with_len_more g 0 n n (omega arith))
-    ∙ ap (λ (k : ℕ). map g (range_with_len 0 k)) one)
+    let one : suc n ≡ n + 1 = omega arith in
+    let last = ap (λ (k : ℕ). map g (range_with_len 0 k)) one ∙ map-range_with_len_more g 0 n n (omega arith) in
+    let front = map_joined f g m n (λ j lt. same j (omega arith)) in
+    rw (e, last, map-range_with_len_more f 0 (m + n) (m + n) (omega arith), same n (omega arith), front)
+    (append_assoc (map f (range_with_len 0 m)) (map g (range_with_len 0 n)) (g n ∷ []))
 
 pub part_long : (p : List ℕ) (at n : ℕ) → at + n ≤ length p → length (take n (drop at p)) ≡ n
 part_long p at n le = omega (arith, length-take n (drop at p), length-drop at p)
@@ -42,19 +42,17 @@ pub part_is : (p : List ℕ) (at n : ℕ) → at + n ≤ length p
 part_is p at n le =
     let long = part_long p at n le in
     ext_get_or 0 (take n (drop at p)) (map (λ j. slice_index p (at + j)) (range_with_len 0 n))
-    (long ∙ sym (length-map-range_with_len (λ j. slice_index p (at + j)) 0 n))
-    (λ i lt. let below : i < n = omega (arith, long) in
-    get_or-take n (drop at p) i 0 below ∙ get_or-drop at p i 0
-    ∙ sym (get_or-map-range_with_len (λ j. slice_index p (at + j)) 0 n i i 0 below (omega arith)))
+    (rw (long, length-map-range_with_len) refl) (λ i lt.
+    let below : i < n = omega (arith, long) in
+    rw (get_or-take n (drop at p) i 0 below, get_or-drop at p i 0)
+    (sym (get_or-map-range_with_len (λ j. slice_index p (at + j)) 0 n i i 0 below (omega arith))))
 
 -- ---- the rows of a tile
 
 pub place_in_row : (w t row j : ℕ) → j < wide w t → place w t (row * wide w t + j) ≡ row_place w t row + j
 unfolding place row_place
 place_in_row w t row j lt =
-    let down = div-mul-add row (wide w t) j lt in
-    let across = mod-mul-add row (wide w t) j lt in
-    ap₂ (λ (a b : ℕ). (top_of w t + a) * w + (left_of w t + b)) down across ∙ omega arith
+    rw (div-mul-add row (wide w t) j lt, mod-mul-add row (wide w t) j lt) (omega arith)
 
 pub row_within : (w h t row : ℕ) → 1 ≤ w → t < tile_count w h → row < high w h t → row_place w t row + wide w t ≤ w * h
 unfolding row_place
@@ -67,11 +65,8 @@ row_within w h t row some below lt =
 
 -- ---- rows of two pictures
 
-same_at : (a b : List ℕ) (at n j : ℕ) → j < n → take n (drop at a) ≡ take n (drop at b)
-    → slice_index a (at + j) ≡ slice_index b (at + j)
-same_at a b at n j lt e =
-    sym (get_or-take n (drop at a) j 0 lt ∙ get_or-drop at a j 0) ∙ ap (λ (l : List ℕ). slice_index l j) e
-    ∙ get_or-take n (drop at b) j 0 lt ∙ get_or-drop at b j 0
+part_at : (p : List ℕ) (at n j : ℕ) → j < n → slice_index (take n (drop at p)) j ≡ slice_index p (at + j)
+part_at p at n j lt = get_or-take n (drop at p) j 0 lt ∙ get_or-drop at p j 0
 
 -- two pictures have the same pixels in the first rows of tile t
 abbrev pub SameRows : ℕ → ℕ → ℕ → List ℕ → List ℕ → Type 0
@@ -84,9 +79,10 @@ one_more_row w t row a b same e k lt = elim (cases_lt k (row * wide w t)) [
   | inr here ↦
       let j : ℕ = k - row * wide w t in
       let within : j < wide w t = omega (arith, next_row row (wide w t)) in
-      let is : row * wide w t + j ≡ k = omega arith in
-      let at : place w t k ≡ row_place w t row + j = ap (place w t) (sym is) ∙ place_in_row w t row j within in
-      ap (slice_index a) at ∙ same_at a b (row_place w t row) (wide w t) j within e ∙ ap (slice_index b) (sym at)
+      let is : k ≡ row * wide w t + j = omega arith in
+      let at : ℕ = row_place w t row in
+      let at_k = rw (← is) at (place_in_row w t row j within) in
+      rw (at_k, ← part_at a at (wide w t) j within, ← part_at b at (wide w t) j within, e) refl
 ]
 
 pub all_rows : (w h t rows : ℕ) (a b : List ℕ) → high w h t ≤ rows → SameRows w t rows a b → differs w h a b t ≡ false
@@ -100,22 +96,18 @@ pub row_differs : (w h t row : ℕ) (a b : List ℕ) → 1 ≤ w → t < tile_co
     → (take (wide w t) (drop (row_place w t row) a) ≡ take (wide w t) (drop (row_place w t row) b) → ⊥)
     → differs w h a b t ≡ true
 unfolding area
-row_differs w h t row a b some below lt size_a size_b ne = either (differs w h a b t) refl
-  where
-    either : (test : Bool) → differs w h a b t ≡ test → differs w h a b t ≡ true
-    either true e = e
-    either false e =
-        let at : ℕ = row_place w t row in
-        let within = row_within w h t row some below lt in
-        absurd (ne (
-        part_is a at (wide w t) (omega (arith, within, size_a))
-        ∙ same_map (λ j. slice_index a (at + j)) (λ j. slice_index b (at + j)) 0 (wide w t) (λ j low high_.
-        let is = place_in_row w t row j (omega arith) in
-        let inside : row * wide w t + j < high w h t * wide w t = let m =
-        mul-add-lt row (wide w t) j (high w h t) lt (omega arith) in omega
-        (arith, m, mul_comm (wide w t) (high w h t)) in
-        ap (slice_index a) (sym is) ∙ same_pixel w h a b t e (row * wide w t + j) inside ∙ ap (slice_index b) is)
-        ∙ sym (part_is b at (wide w t) (omega (arith, within, size_b)))))
+row_differs w h t row a b some below lt size_a size_b ne = elim (cases_Bool (differs w h a b t)) [
+  | inl differ ↦ differ
+  | inr alike ↦
+      let at : ℕ = row_place w t row in
+      let within = row_within w h t row some below lt in
+      absurd (ne (
+      rw (part_is a at (wide w t) (omega (arith, size_a)), part_is b at (wide w t) (omega (arith, size_b)))
+      (same_map (λ j. slice_index a (at + j)) (λ j. slice_index b (at + j)) 0 (wide w t) (λ j low high_.
+      let inside = mul-add-lt row (wide w t) j (high w h t) lt (omega arith) in
+      rw (← place_in_row w t row j (omega arith)) (same_pixel w h a b t alike (row * wide w t + j)
+      (omega (arith, mul_comm (wide w t) (high w h t))))))))
+]
 
 -- ---- bounds
 
@@ -136,12 +128,10 @@ pub row_put : (f g : ℕ → ℕ) (row wide k : ℕ) (words part : List ℕ) →
     → part ≡ map g (range_with_len 0 wide) → ((j : ℕ) → j < wide → f (row * wide + j) ≡ g j)
     → take ((row + 1) * wide) (put_mid (row * wide) k words part) ≡ map f (range_with_len 0 ((row + 1) * wide))
 row_put f g row wide k words part room before is same =
-    let long : length part ≡ wide = ap (length {A = ℕ}) is ∙ length-map-range_with_len g 0 wide in
+    let long : length part ≡ wide = rw is (length-map-range_with_len g 0 wide) in
     let next = next_row row wide in
     take-put_mid (row * wide) k words part ((row + 1) * wide) (omega (arith, next, long)) (omega (arith, room))
-    ∙ ap₂ (λ (a b : List ℕ). a ++ b) before is
-    ∙ sym (map_joined f g (row * wide) wide same)
-    ∙ ap (λ (n : ℕ). map f (range_with_len 0 n)) (sym next)
+    ∙ rw (before, is, next) (sym (map_joined f g (row * wide) wide same))
 
 pub row_copied : (w h t row k : ℕ) (p words part : List ℕ) → 1 ≤ w → t < tile_count w h → row < high w h t
     → length p ≡ w * h → row * wide w t + wide w t ≤ length words
@@ -152,7 +142,7 @@ row_copied w h t row k p words part some below lt size room before is =
     row_put (λ j. slice_index p (place w t j)) (λ j. slice_index p (row_place w t row + j)) row (wide w t) k words part
     room before
     (is ∙ part_is p (row_place w t row) (wide w t) (omega (arith, row_within w h t row some below lt, size)))
-    (λ j lt. ap (slice_index p) (place_in_row w t row j lt))
+    (λ j lt. rw (place_in_row w t row j lt) refl)
 
 -- a row of a tile has room among so many words
 pub row_room : (w h t row : ℕ) → 1 ≤ w → t < tile_count w h → row < high w h t → row * wide w t + wide w t ≤ 256

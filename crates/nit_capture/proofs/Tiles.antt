@@ -1,6 +1,5 @@
 -- Where the pixels of tiles lie: each place of a picture is that of one pixel of one tile.
-use Rattle.std.proofs.Common.{ap, ap₂, arith, min, mul_comm, sym, ℕ, ◌%◌, ◌*◌, ◌+◌, ◌-◌, ◌/◌, ◌<◌}
-use Rattle.std.proofs.Common.{◌∙◌, ◌≡◌, ◌≤◌}
+use Rattle.std.proofs.Common.{arith, min, mul_comm, refl, ℕ, ◌%◌, ◌*◌, ◌+◌, ◌-◌, ◌/◌, ◌<◌, ◌≡◌, ◌≤◌}
 use Rattle.nit_capture.proofs.Basics.{div-add-mod', div-mul-add, div_below, mod-mul-add, mod_below}
 use Rattle.nit_capture.proofs.Basics.{mul-add-lt, same_from_place}
 use Rattle.nit_capture.specs.Tiles.{area, high, left_of, place, tile_count, tiles_along, top_of}
@@ -63,13 +62,20 @@ pixel_within w h t k some lt =
     let W = wide_some w t some in
     record { down = div_below k (wide w t) (high w h t) W.some lt; across = mod_below k (wide w t) W.some }
 
+-- the row of a pixel is one of the picture's
+pub place_down : (w h t k : ℕ) → 1 ≤ w → t < tile_count w h → k < area w h t → top_of w t + k / wide w t < h
+place_down w h t k some lt below =
+    let H = high_some w h t some lt in
+    let p = pixel_within w h t k some below in
+    omega arith
+
 pub place_within : (w h t k : ℕ) → 1 ≤ w → t < tile_count w h → k < area w h t → place w t k < w * h
 unfolding place
 place_within w h t k some lt below =
     let W = wide_some w t some in
-    let H = high_some w h t some lt in
     let p = pixel_within w h t k some below in
-    mul-add-lt (top_of w t + k / wide w t) w (left_of w t + k % wide w t) h (omega arith) (omega arith)
+    mul-add-lt (top_of w t + k / wide w t) w (left_of w t + k % wide w t) h (place_down w h t k some lt below)
+    (omega arith)
 
 -- two sums of sixteens and a rest
 same_parts : (a b r s : ℕ) → r < 16 → s < 16 → 16 * a + r ≡ 16 * b + s → (a ≡ b) × (r ≡ s)
@@ -77,7 +83,7 @@ same_parts a b r s p q e = (omega arith, omega arith)
 
 -- two numbers of one quotient and one rest
 same_whole : (a b m : ℕ) → a / m ≡ b / m → a % m ≡ b % m → a ≡ b
-same_whole a b m p q = sym (div-add-mod' a m) ∙ ap₂ (λ (x y : ℕ). x * m + y) p q ∙ div-add-mod' b m
+same_whole a b m p q = rw (← div-add-mod' a m, ← div-add-mod' b m, p, q) refl
 
 pub same_place : (w h t u j k : ℕ) → 1 ≤ w → t < tile_count w h → u < tile_count w h → j < area w h t → k < area w h u
     → place w t j ≡ place w u k → (t ≡ u) × (j ≡ k)
@@ -96,11 +102,7 @@ same_place w h t u j k some below_t below_u below_j below_k e =
     let columns = same_parts (t % tiles_along w) (u % tiles_along w) (j % wide w t) (k % wide w u) (omega arith)
     (omega arith) s.1 in
     let tiles : t ≡ u = same_whole t u (tiles_along w) rows.0 columns.0 in
-    let widths : wide w u ≡ wide w t = ap (wide w) (sym tiles) in (
-      tiles,
-      same_whole j k (wide w t) (rows.1 ∙ ap (λ (m : ℕ). k / m) widths) (columns.1
-          ∙ ap (λ (m : ℕ). k % m) widths),
-    )
+    (tiles, same_whole j k (wide w t) (rw (← tiles) at rows.1) (rw (← tiles) at columns.1))
 
 -- the pixel of a tile that lies at a place
 pub record LiesAt (w h i : ℕ) : Type 0 where
@@ -142,5 +144,5 @@ lies_at w h i some lt =
       pixel = k;
       tile_below = mul-add-lt (i / w / 16) (tiles_along w) (i % w / 16) (tiles_along h) row column;
       pixel_below = omega (arith, small, mul_comm W H);
-      is = ap₂ (λ (a b : ℕ). a * w + b) y_is x_is ∙ div-add-mod' i w;
+      is = rw (y_is, x_is) (div-add-mod' i w);
     }

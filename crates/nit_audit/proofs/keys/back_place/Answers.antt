@@ -1,14 +1,12 @@
-use Rattle.nit_audit.proofs.Lemmas.{back_at, back_none, layer, list_any, view_under}
-use Rattle.std.proofs.Common.{arith, drop, false, get_or, nat_le, subst, ℕ, ◌+◌, ◌-◌, ◌≡◌, ◌≤◌}
+use Rattle.nit_audit.proofs.Lemmas.{back_at, back_none, layer, view_under}
+use Rattle.std.proofs.Common.{arith, get_or, ℕ, ◌+◌, ◌-◌, ◌≡◌, ◌≤◌}
 use Rattle.nit_audit.proofs.keys.back_place.Goals as goal
 
 pub returns-clause-place : goal.returns-clause-place
 returns-clause-place c v =
     let on : ℕ → ℕ = λ k. layer c.args.config.now (view_under c.args.records.now k).sid in
     let none : c.loop-i.i ≡ 0 = omega arith in
-    back_none on c.args.high v c.args.keys.now
-    (subst (λ (n : ℕ). list_any (λ k. nat_le (on k) c.args.high) (drop n c.args.keys.now) ≡ false) none
-    c.loop-i.invariant)
+    back_none on c.args.high v c.args.keys.now (rw none at c.loop-i.invariant)
 
 pub returns-then-layer_of-high-clause-place : goal.returns-then-layer_of-high-clause-place
 returns-then-layer_of-high-clause-place c v =
@@ -17,5 +15,4 @@ returns-then-layer_of-high-clause-place c v =
     let same = rw c.view_under.ensures at c.layer_of.ensures in
     let low : on (get_or c.args.keys.now (c.loop-i.i - 1) 0) ≤ c.args.high = omega (arith, same) in
     back_at on c.args.high v c.args.keys.now (c.loop-i.i - 1) 0 (omega arith) low
-    (subst (λ (n : ℕ). list_any (λ k. nat_le (on k) c.args.high) (drop n c.args.keys.now) ≡ false) more
-    c.loop-i.invariant)
+    (rw more at c.loop-i.invariant)

@@ -12,51 +12,33 @@ pub overflow_mul-result : goal.overflow_mul-result
 unfolding crop_row_place
 overflow_mul-result c =
     let on = on_screen c.args.grid.width c.args.grid.height c.args.rect.now c.requires.pixels c.requires.inside in
-    let within = cut_row_within c.args.grid.width c.args.grid.height c.args.rect.now c.args.row c.requires.pixels on
-    c.requires.row in
-    let small = place_small c.args.grid.width c.args.grid.height c.args.grid.size in
-    rw (c.natural.ensures, place_is c.y.result c.y.ensures.range, c.y.ensures.value) (omega (arith, within, small))
+    let within = cut_row_within _ _ _ c.args.row c.requires.pixels on c.requires.row in
+    rw (c.natural.ensures, place_is c.y.result c.y.ensures.range, c.y.ensures.value)
+    (omega (arith, place_small _ _ c.args.grid.size))
 
 pub overflow_add-result-2 : goal.overflow_add-result-2
 unfolding crop_row_place
 overflow_add-result-2 c =
     let on = on_screen c.args.grid.width c.args.grid.height c.args.rect.now c.requires.pixels c.requires.inside in
-    let within = cut_row_within c.args.grid.width c.args.grid.height c.args.rect.now c.args.row c.requires.pixels on
-    c.requires.row in
-    let small = place_small c.args.grid.width c.args.grid.height c.args.grid.size in
-    rw (
-      c.natural.ensures,
-      place_is c.y.result c.y.ensures.range,
-      c.y.ensures.value,
-      c.natural-2.ensures,
-      place_is c.x.result c.x.ensures.range,
-      c.x.ensures.value,
-    ) (omega (arith, within, small))
+    let within = cut_row_within _ _ _ c.args.row c.requires.pixels on c.requires.row in
+    let y = rw (place_is c.y.result c.y.ensures.range, c.y.ensures.value) at c.natural.ensures in
+    let x = rw (place_is c.x.result c.x.ensures.range, c.x.ensures.value) at c.natural-2.ensures in
+    rw (y, x) (omega (arith, place_small _ _ c.args.grid.size))
 
 pub returns-clause-value : goal.returns-clause-value
 unfolding crop_row_place
-returns-clause-value c = rw (
-  c.natural.ensures,
-  place_is c.y.result c.y.ensures.range,
-  c.y.ensures.value,
-  c.natural-2.ensures,
-  place_is c.x.result c.x.ensures.range,
-  c.x.ensures.value,
-) refl
+returns-clause-value c =
+    let y = rw (place_is c.y.result c.y.ensures.range, c.y.ensures.value) at c.natural.ensures in
+    let x = rw (place_is c.x.result c.x.ensures.range, c.x.ensures.value) at c.natural-2.ensures in
+    rw (y, x) refl
 
 pub returns-clause-within : goal.returns-clause-within
 unfolding crop_row_place
 returns-clause-within c =
     let on = on_screen c.args.grid.width c.args.grid.height c.args.rect.now c.requires.pixels c.requires.inside in
-    rw (
-      c.natural.ensures,
-      place_is c.y.result c.y.ensures.range,
-      c.y.ensures.value,
-      c.natural-2.ensures,
-      place_is c.x.result c.x.ensures.range,
-      c.x.ensures.value,
-    )
-    (cut_row_within c.args.grid.width c.args.grid.height c.args.rect.now c.args.row c.requires.pixels on c.requires.row)
+    let y = rw (place_is c.y.result c.y.ensures.range, c.y.ensures.value) at c.natural.ensures in
+    let x = rw (place_is c.x.result c.x.ensures.range, c.x.ensures.value) at c.natural-2.ensures in
+    rw (y, x) (cut_row_within _ _ _ c.args.row c.requires.pixels on c.requires.row)
 
 pub returns-clause-small : goal.returns-clause-small
 returns-clause-small c = place_small c.args.grid.width c.args.grid.height c.args.grid.size

@@ -1,16 +1,13 @@
-use Rattle.nit_audit.proofs.Lemmas.{List, View, ap, changed, changed_kept, changed_views, is_meant}
-use Rattle.nit_audit.proofs.Lemmas.{with_change, ◌∙◌}
+use Rattle.nit_audit.proofs.Lemmas.{changed_kept, changed_views}
 use Rattle.nit_audit.specs.declared.keys.Which.TheVariants as which
 use Rattle.nit_audit.proofs.views.Views.change.Goals as goal
 
 pub invariant_of-self : goal.invariant_of-self
-invariant_of-self c = changed_kept (which.One c.args.sid c.args.handle) c.args.change c.self.inside.keys.items
+invariant_of-self c = changed_kept (which.One c.args.sid c.args.handle) c.args.change _
     c.self.inside.records c.change_all.new.records c.self.invariant
     (rw c.as_slice.ensures.value at c.change_all.ensures)
 
 pub returns : goal.returns
-returns c =
-    changed_views (which.One c.args.sid c.args.handle) c.args.change c.self.inside.keys.items c.self.inside.records
-    c.change_all.new.records c.self.invariant (rw c.as_slice.ensures.value at c.change_all.ensures)
-    ∙ ap (λ (vs : List View). changed (is_meant (which.One c.args.sid c.args.handle)) (with_change c.args.change) vs)
-    c.self.view_is
+returns c = rw (← c.self.view_is) (changed_views (which.One c.args.sid c.args.handle) c.args.change _
+    c.self.inside.records c.change_all.new.records c.self.invariant
+    (rw c.as_slice.ensures.value at c.change_all.ensures))

@@ -1,46 +1,28 @@
-use Rattle.std.proofs.Common.{List, None, Some, ap, find, not, subst, sym, ℕ, ◌∙◌, ◌≡◌}
-use Rattle.nit_audit.proofs.Lemmas.{AllHaveViews, HasView, View, all_filter, found_all, fronted}
-use Rattle.nit_audit.proofs.Lemmas.{insert, is_view, layer, moved, on_ok, put_front, stays}
-use Rattle.nit_audit.proofs.Lemmas.{view_under, views_at}
+use Rattle.nit_audit.proofs.Lemmas.{HasView, all_filter, ap, found_all, fronted, is_view, layer}
+use Rattle.nit_audit.proofs.Lemmas.{on_ok, put_front, stays, sym, views_at, ◌∙◌}
 use Rattle.nit_audit.proofs.views.Views.front.Goals as goal
 
 pub returns-in_default : goal.returns-in_default
 returns-in_default c =
-    let none : find (λ k. is_view c.args.sid c.args.handle (view_under c.self.inside.records k))
-    c.self.inside.keys.items ≡ None = sym (rw c.as_slice.ensures.value at c.first_key.ensures) ∙ c.in_default.is in
-    subst (λ (vs : List View). vs
-    ≡ moved (is_view c.args.sid c.args.handle)
-    (put_front (λ v. layer c.args.config.now v.sid) (layer c.args.config.now c.args.sid)) vs) c.self.view_is
-    (sym (stays (is_view c.args.sid c.args.handle)
-    (put_front (λ v. layer c.args.config.now v.sid) (layer c.args.config.now c.args.sid)) c.self.inside.records
-    c.self.inside.keys.items none))
+    let none = sym (rw c.as_slice.ensures.value at c.first_key.ensures) ∙ c.in_default.is in
+    rw (← c.self.view_is) (sym (stays (is_view c.args.sid c.args.handle)
+    (put_front (λ v. layer c.args.config.now v.sid) (layer c.args.config.now c.args.sid))
+    c.self.inside.records c.self.inside.keys.items none))
 
 pub invariant_of-self : goal.invariant_of-self
 invariant_of-self c =
-    let found : find (λ k. is_view c.args.sid c.args.handle (view_under c.self.inside.records k))
-    c.self.inside.keys.items ≡ Some c.in-Some.key = sym (rw c.as_slice.ensures.value at c.first_key.ensures)
-    ∙ c.in-Some.is in
-    c.put_in.ensures.kept c.self.inside.records
-    (found_all (HasView c.self.inside.records)
-    (λ k. is_view c.args.sid c.args.handle (view_under c.self.inside.records k)) c.self.inside.keys.items
-    c.in-Some.key c.self.invariant found)
-    (subst (AllHaveViews c.self.inside.records) (sym c.take_out.ensures)
-    (all_filter (HasView c.self.inside.records)
-    (λ k. not (is_view c.args.sid c.args.handle (view_under c.self.inside.records k))) c.self.inside.keys.items
-    c.self.invariant))
+    let found = sym (rw c.as_slice.ensures.value at c.first_key.ensures) ∙ c.in-Some.is in
+    let has = found_all (HasView c.self.inside.records) _ c.self.inside.keys.items _ c.self.invariant found in
+    c.put_in.ensures.kept c.self.inside.records has
+    (rw c.take_out.ensures (all_filter (HasView c.self.inside.records) _ _ c.self.invariant))
 
 pub returns : goal.returns
 returns c =
-    let found : find (λ k. is_view c.args.sid c.args.handle (view_under c.self.inside.records k))
-    c.self.inside.keys.items ≡ Some c.in-Some.key = sym (rw c.as_slice.ensures.value at c.first_key.ensures)
-    ∙ c.in-Some.is in
+    let found = sym (rw c.as_slice.ensures.value at c.first_key.ensures) ∙ c.in-Some.is in
     let at = rw (c.as_slice-2.ensures.value, c.take_out.ensures, c.layer_of.ensures) at
     c.front_place-place.ensures.place in
-    on_ok c.put_in.result (λ put. ap (views_at c.self.inside.records)
-    (put ∙ ap (λ (ks : List ℕ). insert ks c.front_place-place.result c.in-Some.key) c.take_out.ensures)
-    ∙ fronted (is_view c.args.sid c.args.handle) (λ v. layer c.args.config.now v.sid)
-    (layer c.args.config.now c.args.sid) c.self.inside.records c.self.inside.keys.items c.in-Some.key
-    c.front_place-place.result found at
-    ∙ ap (λ (vs : List View). moved (is_view c.args.sid c.args.handle)
-    (put_front (λ v. layer c.args.config.now v.sid) (layer c.args.config.now c.args.sid)) vs) c.self.view_is)
+    on_ok c.put_in.result (λ put. ap (views_at c.self.inside.records) put
+    ∙ rw (c.take_out.ensures, ← c.self.view_is) (fronted
+    (is_view c.args.sid c.args.handle) (λ v. layer c.args.config.now v.sid) (layer c.args.config.now c.args.sid)
+    c.self.inside.records c.self.inside.keys.items c.in-Some.key c.front_place-place.result found at))
     c.put_in.ensures.put

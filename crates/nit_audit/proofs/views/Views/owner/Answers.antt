@@ -1,6 +1,5 @@
-use Rattle.std.proofs.Common.{Option, arith, false, refl, subst, sym, ℕ, ◌<◌, ◌∙◌, ◌≡◌}
-use Rattle.nit_audit.proofs.Lemmas.{IfSome, covers, in_bar, ints, owner_below, owner_small}
-use Rattle.nit_audit.proofs.Lemmas.{view_under}
+use Rattle.std.proofs.Common.{arith, false, refl, ◌∙◌, ◌≡◌}
+use Rattle.nit_audit.proofs.Lemmas.{covers, in_bar, ints, owner_below, owner_small, view_under}
 use Rattle.nit_audit.proofs.views.Views.owner.Goals as goal
 
 pub returns-clause-owner : goal.returns-clause-owner
@@ -13,6 +12,5 @@ returns-clause-owner c =
 pub returns-clause-known : goal.returns-clause-known
 returns-clause-known c =
     let found = rw c.as_slice.ensures.value at c.covering.ensures in
-    subst (λ (o : Option ℕ). IfSome o (λ s. s < 16)) (sym found)
-    (owner_small c.self.inside.records c.self.inside.keys.items
+    rw found (owner_small c.self.inside.records c.self.inside.keys.items
     (λ k. covers (view_under c.self.inside.records k).rect c.args.p) _ c.self.invariant refl)
