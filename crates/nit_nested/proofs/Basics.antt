@@ -6,19 +6,22 @@ pub use Rattle.nit_nested.specs.Terms.{Session, ShowsFrames, Stroke, Take, TooLo
 pub use Rattle.nit_nested.specs.Terms.{blank, by_refusal, count_by, count_lines, enumerate_from}
 pub use Rattle.nit_nested.specs.Terms.{fills, first_forbidden, first_session, flat_map, frame_lines}
 pub use Rattle.nit_nested.specs.Terms.{frame_script, frames_behind, is_accepted, is_forbidden}
-pub use Rattle.nit_nested.specs.Terms.{is_phase, lines_before_end, lines_of_frames, most_lines}
-pub use Rattle.nit_nested.specs.Terms.{nest_script, next_frame, painted_from, phases, pos}
-pub use Rattle.nit_nested.specs.Terms.{prefix_len, refusal, row_lines, row_runs, rows_lines}
+pub use Rattle.nit_nested.specs.Terms.{is_phase, lines_before_end, lines_of_frames}
+pub use Rattle.nit_nested.specs.Terms.{most_lines, nest_script, next_frame, painted_from, phases}
+pub use Rattle.nit_nested.specs.Terms.{pos, prefix_len, refusal, row_lines, row_runs, rows_lines}
 pub use Rattle.nit_nested.specs.Terms.{run_joined, script_answer, session_size, taking}
 pub use Rattle.nit_nested.specs.Terms.{unless_forbidden, unless_long, word_after_stroke, words_left}
 pub use Rattle.nit_nested.specs.Terms.{words_of_lines, woven, zeros}
 pub use Rattle.nit_plan.proofs.ForCallers.{buffer_size}
 pub use Rattle.nit_rect.proofs.ForCallers.{all_append}
 pub use Rattle.nit_word.proofs.ForCallers.{length-zeros}
-pub use Rattle.std.proofs.Common.{arith, sym, ◌∙◌}
+pub use Rattle.std.proofs.Common.{length, take}
+pub use Rattle.std.proofs.Common.{Bool, Err, List, None, Ok, Option, Some, [], add-one, add-zero}
+pub use Rattle.std.proofs.Common.{ap, append_assoc, arith, cond, drop, false, get_or, inl, inr}
+pub use Rattle.std.proofs.Common.{length-append, map, refl, replicate, subst, suc, sym, ◌∙◌}
 pub use Rattle.std.proofs.Math.Nat.{mul-le-mul_right, mul-suc, mul_comm}
 pub use Rattle.std.proofs.Math.Seq.{get_or-append_seam, take-append-add, take-length}
-pub use Rattle.std.proofs.lemmas.Bool.{eq-eqb, eqb-true, le-ltb, lt-ltb}
+pub use Rattle.std.proofs.lemmas.Bool.{cases_Bool, cases_eq, eq-eqb, le-ltb, lt-ltb, ne_eqb}
 pub use Rattle.std.proofs.lemmas.Bool.Decides.{nat_tests}
 pub use Rattle.std.proofs.lemmas.Grind.{flat_map-append}
 pub use Rattle.std.proofs.lemmas.List.{append-nil, ext_get_or, get_or-append-add, get_or-drop}

@@ -1,8 +1,7 @@
 -- What answers use: all that lemmas use, and this crate's lemmas.
-pub use Rattle.nit_nested.proofs.Basics.{Line, NestModel, arith, fills, first_forbidden}
-pub use Rattle.nit_nested.proofs.Basics.{frame_lines, frame_script, length-map, lines_of_frames}
-pub use Rattle.nit_nested.proofs.Basics.{phases, row_lines, row_runs, rows_lines, script_answer}
-pub use Rattle.nit_nested.proofs.Basics.{sym, woven, ◌∙◌}
+pub use Rattle.nit_nested.proofs.Basics.{Line, List, ap, arith, fills, first_forbidden, frame_lines}
+pub use Rattle.nit_nested.proofs.Basics.{frame_script, length-map, lines_of_frames, refl, row_lines}
+pub use Rattle.nit_nested.proofs.Basics.{row_runs, rows_lines, script_answer, sym, woven, ◌∙◌}
 pub use Rattle.nit_nested.proofs.BufferSizes.{made_bare, made_size}
 pub use Rattle.nit_nested.proofs.FramePhases.{last_end, last_frame, made_phases}
 pub use Rattle.nit_nested.proofs.FrameWords.{kept_more, told_frame, told_more}

@@ -1,10 +1,11 @@
 -- What is answered for a script, by what is kept.
-use Rattle.std.proofs.Common.{Err, List, None, Ok, Option, ap, arith, cond, false, length, map}
+use Rattle.nit_nested.proofs.Basics.{AllByRecursion, Err, FitsLine, IsNest, Line, List, NestModel}
+use Rattle.nit_nested.proofs.Basics.{None, Ok, Option, Phases, TooLong, ap, arith, cond, eq-eqb}
+use Rattle.nit_nested.proofs.Basics.{false, first_forbidden, frame_lines, frame_script, le-ltb}
+use Rattle.nit_nested.proofs.Basics.{length, length-map, lt-ltb, map, most_lines, nest_script}
+use Rattle.nit_nested.proofs.Basics.{phases, script_answer, unless_forbidden, unless_long}
+use Rattle.nit_nested.proofs.Basics.{words_of_lines}
 use Rattle.std.proofs.Common.{nat_lt, sym, true, ℕ, ◌+◌, ◌<◌, ◌∙◌, ◌≡◌, ◌≤◌}
-use Rattle.nit_nested.proofs.Basics.{AllByRecursion, FitsLine, IsNest, Line, NestModel, Phases}
-use Rattle.nit_nested.proofs.Basics.{TooLong, eq-eqb, first_forbidden, frame_lines, frame_script}
-use Rattle.nit_nested.proofs.Basics.{le-ltb, length-map, lt-ltb, most_lines, nest_script, phases}
-use Rattle.nit_nested.proofs.Basics.{script_answer, unless_forbidden, unless_long, words_of_lines}
 use Rattle.nit_nested.proofs.GrammarLemmas.{made_long, made_fits, frames_fit}
 
 -- the frames that are kept

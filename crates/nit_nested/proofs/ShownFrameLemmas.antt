@@ -1,15 +1,14 @@
 -- At the end of each phase the script's buffer has the phase's frame.
-use Rattle.nit_nested.proofs.Basics.{AllByRecursion, Buffer, CanPay, IsFrame, IsNest, Line}
-use Rattle.nit_nested.proofs.Basics.{NestModel, Painting, Refresh, Run, ShowsFrames, after_line}
-use Rattle.nit_nested.proofs.Basics.{blank, buffer_size, count_by, fills, first_forbidden}
-use Rattle.nit_nested.proofs.Basics.{first_session, fold-append, frame_lines, frame_script}
-use Rattle.nit_nested.proofs.Basics.{is_forbidden, is_phase, length-map, length-zeros}
-use Rattle.nit_nested.proofs.Basics.{lines_before_end, painted_from, phases, pos, row_lines}
-use Rattle.nit_nested.proofs.Basics.{row_runs, rows_lines, take-append-add, words_of_lines, woven}
-use Rattle.nit_nested.proofs.Basics.{zeros}
-use Rattle.std.proofs.Common.{Bool, List, None, Some, [], ap, append_assoc, arith, cond, drop}
-use Rattle.std.proofs.Common.{false, get_or, length, length-append, map, refl, subst, suc, sym}
-use Rattle.std.proofs.Common.{take, true, zero, ℕ, ◌*◌, ◌++◌, ◌+◌, ◌<◌, ◌∙◌, ◌∷◌, ◌≡◌, ◌≤◌}
+use Rattle.nit_nested.proofs.Basics.{AllByRecursion, Buffer, CanPay, IsFrame, IsNest, Line, List}
+use Rattle.nit_nested.proofs.Basics.{NestModel, None, Painting, Refresh, Run, ShowsFrames, []}
+use Rattle.nit_nested.proofs.Basics.{after_line, ap, append_assoc, arith, blank, buffer_size}
+use Rattle.nit_nested.proofs.Basics.{cases_Bool, cond, count_by, drop, false, fills}
+use Rattle.nit_nested.proofs.Basics.{first_forbidden, first_session, fold-append, frame_lines}
+use Rattle.nit_nested.proofs.Basics.{frame_script, get_or, inl, inr, is_forbidden, is_phase, length}
+use Rattle.nit_nested.proofs.Basics.{length-append, length-map, length-zeros, lines_before_end, map}
+use Rattle.nit_nested.proofs.Basics.{painted_from, phases, pos, row_lines, row_runs, rows_lines}
+use Rattle.nit_nested.proofs.Basics.{subst, suc, sym, take-append-add, words_of_lines, woven, zeros}
+use Rattle.std.proofs.Common.{take, zero, ℕ, ◌*◌, ◌++◌, ◌+◌, ◌<◌, ◌∙◌, ◌∷◌, ◌≡◌, ◌≤◌}
 use Rattle.nit_plan.specs.Strokes.{cleared}
 use Rattle.nit_script.specs.declared.line.Line.TheVariants as line
 use Rattle.nit_nested.proofs.ScriptAnswers.{kept_frames}
@@ -29,8 +28,8 @@ rows_before k w y zero words more = omega arith
 rows_before k w y (suc n) words more =
     let row : List Line = row_lines y (take w words) in
     let rest : List Line = rows_lines w (y + 1) n (drop w words) in
-    ap (lines_before_end k) (append_assoc row rest more) ∙ fills_before k 0 y (row_runs (take w words)) (rest ++ more)
-    ∙ omega (arith, rows_before k w (y + 1) n (drop w words) more, length-append row rest)
+    rw (append_assoc, fills_before k 0 y (row_runs (take w words)) (rest ++ more), length-append)
+    (omega (arith, rows_before k w (y + 1) n (drop w words) more))
 
 -- no phase ends within the lines of a frame
 frame_before : (k w h : ℕ) (frame : List ℕ) (more : List Line) → lines_before_end k (frame_lines w h frame ++ more)
@@ -38,8 +37,7 @@ frame_before : (k w h : ℕ) (frame : List ℕ) (more : List Line) → lines_bef
 frame_before k w h frame more =
     let rows : List Line = rows_lines w 0 h frame in
     let last : List Line = line.Call (Refresh (pos 0) (pos 0) w h) ∷ [] in
-    ap (lines_before_end k) (append_assoc rows last more) ∙ rows_before k w 0 h frame (last ++ more)
-    ∙ omega (arith, length-append rows last)
+    rw (append_assoc, rows_before k w 0 h frame (last ++ more), length-append) (omega arith)
 
 -- ---- lines that may stand in the script
 
@@ -48,12 +46,10 @@ MayStand own = AllByRecursion (λ l. is_forbidden l ≡ false) own
 
 pub may_stand : (n : ℕ) (own : List Line) → first_forbidden n own ≡ None → MayStand own
 may_stand n [] none = tt
-may_stand n (l ∷ own) none = go (is_forbidden l) refl (may_stand (n + 1) own) none
-  where
-    go : (b : Bool) → is_forbidden l ≡ b → (first_forbidden (n + 1) own ≡ None → MayStand own)
-        → cond b (Some n) (first_forbidden (n + 1) own) ≡ None → MayStand (l ∷ own)
-    go true is more none = cc
-    go false is more none = (is, more none)
+may_stand n (l ∷ own) none = elim (cases_Bool (is_forbidden l)) [
+  | inl is ↦ let some = rw is at none in absurd cc
+  | inr is ↦ (is, may_stand (n + 1) own (rw is at none))
+]
 
 -- ---- phase by phase
 
@@ -66,9 +62,8 @@ behind_frame : (k w h : ℕ) (frame : List ℕ) (more : List Line) (p : Painting
     → at_end k p (frame_lines w h frame ++ more) ≡ at_end k (painted_from p (frame_lines w h frame)) more
 behind_frame k w h frame more p =
     let lines : List Line = frame_lines w h frame in
-    ap (λ (n : ℕ). painted_from p (take n (lines ++ more))) (frame_before k w h frame more)
-    ∙ ap (λ (ls : List Line). painted_from p ls) (take-append-add lines more (lines_before_end k more))
-    ∙ fold-append after_line p lines (take (lines_before_end k more) more)
+    rw (frame_before k w h frame more, take-append-add lines more (lines_before_end k more))
+    (fold-append after_line p lines (take (lines_before_end k more) more))
 
 woven_shows : (w h k : ℕ) (current : List ℕ) (frames : List (List ℕ)) (own : List Line) (p : Painting) → 0 < w
     → AllByRecursion (IsFrame w h) frames → MayStand own → count_by is_phase own ≡ length frames
@@ -81,8 +76,7 @@ woven_shows w h k current [] (line.Phase ∷ own) p some all may counted within 
     absurd (omega (arith, counted, phase_lines_more line.Phase own))
 woven_shows w h zero current (f ∷ fs) (line.Phase ∷ own) p some all may counted within shows = shows
 woven_shows w h (suc k) current (f ∷ fs) (line.Phase ∷ own) p some all may counted within shows =
-    subst (λ (q : Painting). Shows w h (get_or (f ∷ fs) k []) q)
-    (sym (behind_frame k w h f (woven (map (frame_lines w h) fs) own) p))
+    rw (behind_frame k w h f (woven (map (frame_lines w h) fs) own) p)
     (woven_shows w h k f fs own (painted_from p (frame_lines w h f)) some all.1 may.1
     (omega (arith, counted, phase_lines_more line.Phase own)) (omega (arith, within))
     (frame_shows w h f p some all.0.0 shows.wide shows.tall shows.room))
@@ -109,8 +103,7 @@ made_shows w h (f ∷ fs) own donation k some all none counted pays within =
     let room : w * h ≤ length p.words =
     subst (λ b. w * h ≤ length (cond b (cleared w h (blank donation).words) (blank donation).words)) (sym pays)
     (cleared_room w h (blank donation).words) in
-    subst (λ (q : Painting). Shows w h (get_or (f ∷ fs) k []) q)
-    (sym (behind_frame k w h f (woven (map (frame_lines w h) fs) own) p))
+    rw (behind_frame k w h f (woven (map (frame_lines w h) fs) own) p)
     (woven_shows w h k f fs own (painted_from p (frame_lines w h f)) some all.1 (may_stand 1 own none)
     (omega (arith, counted)) (omega (arith, within))
     (frame_shows w h f p some all.0.0 size.0 size.1 room))
