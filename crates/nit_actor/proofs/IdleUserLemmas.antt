@@ -1,12 +1,12 @@
 -- One client and a user who does nothing, stepped together.
-use Rattle.nit_actor.proofs.Basics.{Action, Belongs, Call, Calls, Entry, Line, PassModel, Reply}
-use Rattle.nit_actor.proofs.Basics.{Role, RoomModel, Sight, StepTogether, UserBelongs}
-use Rattle.nit_actor.proofs.Basics.{UserPassModel, action_of, actions_to_be, after_arrival}
-use Rattle.nit_actor.proofs.Basics.{arrived_one, call_of_line, calls_in, drop_at, idle_user}
-use Rattle.nit_actor.proofs.Basics.{is_phase, role_of, slice_get, sum_by-cons, user_actions_from}
+use Rattle.nit_actor.proofs.Basics.{Action, Belongs, Bool, Call, Calls, Entry, Line, List, Option}
+use Rattle.nit_actor.proofs.Basics.{PassModel, Reply, Role, RoomModel, Sight, Some, StepTogether}
+use Rattle.nit_actor.proofs.Basics.{UserBelongs, UserPassModel, [], action_of, actions_to_be}
+use Rattle.nit_actor.proofs.Basics.{after_arrival, ap, ap₂, arith, arrived_one, call_of_line}
+use Rattle.nit_actor.proofs.Basics.{calls_in, cond, count_by, drop, drop_at, false, idle_user}
+use Rattle.nit_actor.proofs.Basics.{is_phase, length, length-drop, map, refl, replicate, role_of}
+use Rattle.nit_actor.proofs.Basics.{slice_get, subst, suc, sum_by-cons, sym, user_actions_from}
 use Rattle.nit_actor.proofs.Basics.{user_actions_to_do}
-use Rattle.std.proofs.Common.{Bool, List, Option, Some, [], ap, ap₂, arith, cond, count_by, drop}
-use Rattle.std.proofs.Common.{false, length, length-drop, map, refl, replicate, subst, suc, sym}
 use Rattle.std.proofs.Common.{zero, ℕ, ◌++◌, ◌+◌, ◌∙◌, ◌∷◌, ◌≡◌, ◌≤◌}
 use Rattle.nit_events.specs.declared.entry.Entry.TheVariants as entry
 use Rattle.nit_script.specs.declared.line.Line.TheVariants as line

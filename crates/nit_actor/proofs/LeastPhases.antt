@@ -1,15 +1,15 @@
 -- The least of the phases of those that are not done.
-use Rattle.std.proofs.Common.{All, Bool, Contains, IfSome, List, None, Option, Some, [], ap, arith}
-use Rattle.std.proofs.Common.{cond, filter_map, get_or, inl, inr, length, false, min, refl, subst}
-use Rattle.std.proofs.Common.{suc, sym, take, true, ℕ, ◌&&◌, ◌++◌, ◌+◌, ◌<◌, ◌==◌, ◌∙◌}
-use Rattle.std.proofs.Common.{◌∷◌, ◌≡◌, ◌≤◌}
-use Rattle.nit_actor.proofs.Basics.{All-cons, All-push, ClipPassModel, Contains-append_left}
-use Rattle.nit_actor.proofs.Basics.{Contains-push, IsLeastOf, NoneIsBefore, Pair, PassModel}
-use Rattle.nit_actor.proofs.Basics.{UserPassModel, and_parts, append-nil, cases_lt, cons_option}
-use Rattle.nit_actor.proofs.Basics.{eq-eqb, eqb-true, filter_map-append, lesser, min-eq_left}
-use Rattle.nit_actor.proofs.Basics.{min-eq_right, min-le_left, min-le_right, none-some}
-use Rattle.nit_actor.proofs.Basics.{pair_phase_left, phase_left, phases_left, slice_index_or}
-use Rattle.nit_actor.proofs.Basics.{take_all, take_more, user_phase_left}
+use Rattle.nit_actor.proofs.Basics.{All, All-cons, All-push, Bool, ClipPassModel, Contains}
+use Rattle.nit_actor.proofs.Basics.{Contains-append_left, Contains-push, IfSome, IsLeastOf, List}
+use Rattle.nit_actor.proofs.Basics.{None, NoneIsBefore, Option, Pair, PassModel, Some}
+use Rattle.nit_actor.proofs.Basics.{UserPassModel, [], and_parts, ap, append-nil, arith, cases_lt}
+use Rattle.nit_actor.proofs.Basics.{cond, cons_option, eq-eqb, eqb-true, false, filter_map}
+use Rattle.nit_actor.proofs.Basics.{filter_map-append, get_or, inl, inr, length, lesser, min}
+use Rattle.nit_actor.proofs.Basics.{min-eq_left, min-eq_right, min-le_left, min-le_right, none-some}
+use Rattle.nit_actor.proofs.Basics.{pair_phase_left, phase_left, phases_left, refl, slice_index_or}
+use Rattle.nit_actor.proofs.Basics.{subst, take_all, take_more, user_phase_left}
+use Rattle.std.proofs.Common.{suc, sym, take, true, ℕ, ◌&&◌, ◌++◌, ◌+◌, ◌<◌, ◌==◌, ◌∙◌, ◌∷◌, ◌≡◌}
+use Rattle.std.proofs.Common.{◌≤◌}
 
 -- ---- one more
 

@@ -1,12 +1,12 @@
 -- A pass and its clip pass, when one or both of them did a line.
-use Rattle.std.proofs.Common.{List, Some, ap, arith, false, inl, inr, length, map, refl, sym, ℕ}
-use Rattle.std.proofs.Common.{◌+◌, ◌==◌, ◌∙◌, ◌≡◌, ◌⊎◌}
-use Rattle.nit_actor.proofs.Basics.{All, ClipPassModel, GoTogether, IsAtClipPhase, IsAtPhase}
-use Rattle.nit_actor.proofs.Basics.{IsPairIn, IsPairRoleIn, Line, OpeningParts, Pair, PairRole}
-use Rattle.nit_actor.proofs.Basics.{PassModel, Role, clip_phases, clip_phases_before, clip_role_of}
-use Rattle.nit_actor.proofs.Basics.{counted_more, counted_same, eq-eqb, eqb-true, is_clip_phase}
-use Rattle.nit_actor.proofs.Basics.{is_phase, pair_role_of, phases, phases_before, role_of}
-use Rattle.nit_actor.proofs.Basics.{slice_get, slice_index_or}
+use Rattle.nit_actor.proofs.Basics.{ClipPassModel, GoTogether, IsAtClipPhase, IsAtPhase, IsPairIn}
+use Rattle.nit_actor.proofs.Basics.{IsPairRoleIn, Line, List, OpeningParts, Pair, PairRole}
+use Rattle.nit_actor.proofs.Basics.{PassModel, Role, Some, ap, arith, clip_phases}
+use Rattle.nit_actor.proofs.Basics.{clip_phases_before, clip_role_of, counted_more, counted_same}
+use Rattle.nit_actor.proofs.Basics.{eq-eqb, eqb-true, false, inl, inr, is_clip_phase, is_phase}
+use Rattle.nit_actor.proofs.Basics.{length, map, pair_role_of, phases, phases_before, refl, role_of}
+use Rattle.nit_actor.proofs.Basics.{slice_get, slice_index_or, sym, ℕ}
+use Rattle.std.proofs.Common.{◌+◌, ◌==◌, ◌∙◌, ◌≡◌, ◌⊎◌, All}
 use Rattle.nit_script.specs.declared.line.Line.TheVariants as line
 use Rattle.nit_clip.specs.declared.line.ClipLine.TheVariants as clip
 use Rattle.nit_actor.proofs.RoleLemmas.{all_again, role_fits, fits_belongs}

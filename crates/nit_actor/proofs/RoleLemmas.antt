@@ -1,10 +1,9 @@
 -- The roles of actors, one of which did a line.
-use Rattle.std.proofs.Common.{List, [], ap, arith, get_or, length, map, refl, set, subst, suc, sym}
-use Rattle.std.proofs.Common.{zero, ℕ, ◌<◌, ◌∙◌, ◌∷◌, ◌≡◌}
-use Rattle.nit_actor.proofs.Basics.{All, Belongs, IsRoleIn, OpeningParts, PassModel, Role}
-use Rattle.nit_actor.proofs.Basics.{UserBelongs, UserPassModel, role_of, slice_index_or}
-use Rattle.nit_actor.proofs.Basics.{user_role_of}
-use Rattle.nit_actor.specs.Role.{UserRole}
+use Rattle.nit_actor.proofs.Basics.{Belongs, IsRoleIn, List, OpeningParts, PassModel, Role}
+use Rattle.nit_actor.proofs.Basics.{UserBelongs, UserPassModel, UserRole, [], ap, arith, get_or}
+use Rattle.nit_actor.proofs.Basics.{length, map, refl, role_of, set, slice_index_or, subst, suc}
+use Rattle.nit_actor.proofs.Basics.{sym, user_role_of}
+use Rattle.std.proofs.Common.{zero, ℕ, ◌<◌, ◌∙◌, ◌∷◌, ◌≡◌, All}
 
 -- ---- lists of any actors
 

@@ -1,6 +1,6 @@
 -- The phases of the actors that are not done, the least of them, and what an actor does next.
-use Rattle.std.specs.Prelude.{◌≡◌, ◌==◌, ◌&&◌, ◌≤◌, ◌+◌, ◌++◌, ◌∷◌, [], ℕ, List, Option, Some, None, All}
-use Rattle.std.specs.Prelude.{Contains, IfSome, filter_map, if◌then◌else◌, length, min}
+use Rattle.std.specs.Prelude.{◌≡◌, ◌==◌, ◌&&◌, ◌≤◌, ◌+◌, ◌++◌, ◌∷◌, [], ℕ, List, Option, Some, None}
+use Rattle.std.specs.Prelude.{All, Contains, IfSome, filter_map, if◌then◌else◌, length, min}
 use Rattle.nit_actor.specs.Below.{ClipPassModel, Pair, PassModel, UserPassModel}
 
 -- the phase that a client is in, where it is not done: a line of its script is left

@@ -1,8 +1,7 @@
 -- The pictures of the shots of a journal that threads made, and which of them were put.
 use Rattle.std.specs.Prelude.{◌≡◌, ℕ, List, ◌++◌}
-use Rattle.nit_actor.specs.Below.{Configuration, Entry, File, IsNearFrame, Line, OpeningParts}
-use Rattle.nit_actor.specs.Below.{PutState, PutsAll, picture, shots}
-use Rattle.nit_actor.specs.Shots.{ShotsBehind, AreShotsOf}
+use Rattle.nit_actor.specs.Below.{AreShotsOf, Configuration, Entry, File, IsNearFrame, Line}
+use Rattle.nit_actor.specs.Below.{OpeningParts, PutState, PutsAll, ShotsBehind, picture, shots}
 
 -- The bytes are the picture of a frame of the state that these entries lead to, in which each pixel
 -- holds a word that it may hold after them.

@@ -2,21 +2,19 @@
 //! calling one.
 
 ghost use Rattle.std.specs.Prelude.{◌≡◌, ◌*◌, ◌≤◌, All, [], length, map, vec_len, vec_capacity};
-ghost use Rattle.nit_actor.specs.Below.{Belongs, UserBelongs, picture_length};
-ghost use Rattle.nit_actor.specs.RoundsRun.{put_state_of_desk};
-ghost use Rattle.nit_actor.specs.Role.{role_of, user_role_of};
-ghost use Rattle.nit_actor.specs.ClipRole.{IsPairIn, pair_role_of};
-ghost use Rattle.nit_actor.specs.Pictures.{PutsShotsBehind};
+ghost use Rattle.nit_actor.specs.Terms.{Belongs, IsPairIn, PutsShotsBehind, UserBelongs};
+ghost use Rattle.nit_actor.specs.Terms.{pair_role_of, picture_length, put_state_of_desk, role_of};
+ghost use Rattle.nit_actor.specs.Terms.{user_role_of};
 
 use crate::actor::Actor;
 use crate::crew::{Own, Unstarted, run_crew};
-use crate::desk::Desk;
 use crate::gate::Gate;
 use crate::mine::run_turns;
 use crate::pair::Pair;
 use crate::user::UserTurns;
 use crate::work::GatedHall;
 use nit_hall::{Name, Pass, UserPass};
+use nit_rounds::Desk;
 use nit_store::Store;
 use std::sync::Wait;
 use std::thread::Threads;
@@ -33,7 +31,7 @@ impl<'a, 's, W: UserTurns<'a>, A: Actor<W>, S: Store> Own<A, W> for Mine<'a, 's,
     ghost use Rattle.std.specs.Prelude.{◌≡◌, ◌*◌, length};
     ghost use Rattle.nit_report.specs.Picture.{picture_length};
     ghost use Rattle.nit_hall.specs.Pass.{UserBelongs};
-    ghost use Rattle.nit_actor.specs.RoundsRun.{put_state_of_desk};
+    ghost use Rattle.nit_rounds.specs.RoundsRun.{put_state_of_desk};
     ghost use Rattle.nit_actor.specs.Role.{user_role_of};
     ghost use Rattle.nit_actor.specs.Pictures.{PutsShotsBehind};
 

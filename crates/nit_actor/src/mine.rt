@@ -8,12 +8,12 @@ ghost use Rattle.nit_actor.specs.Terms.{phases_left, picture_length, put_state_o
 ghost use Rattle.nit_actor.specs.Terms.{user_phase_left, user_role_of};
 
 use crate::actor::Actor;
-use crate::desk::Desk;
 use crate::gate::Gate;
 use crate::pair::Pair;
 use crate::user::{UserTurns, user_phase_left};
 use crate::work::GatedHall;
 use nit_hall::{Name, Pass, UserPass};
+use nit_rounds::Desk;
 use nit_store::Store;
 use std::sync::Wait;
 

@@ -5,10 +5,10 @@ ghost use Rattle.nit_actor.specs.Terms.{GrowsQuietly, IsAtDevice, IsAtShot, IsAt
 ghost use Rattle.nit_actor.specs.Terms.{PutsShotsBehind, TellsShot, UserBelongs, picture_length};
 ghost use Rattle.nit_actor.specs.Terms.{put_state_of_desk, user_phase_left, user_role_of};
 
-use crate::desk::{Desk, PictureName};
 use crate::gate::Checkpoint;
 use crate::work::Work;
 use nit_hall::{Hall, Name, UserPass};
+use nit_rounds::{Desk, PictureName};
 use nit_script::InputLine;
 use nit_store::Store;
 use std::sync::Wait;
@@ -22,7 +22,7 @@ pub(crate) trait UserTurns<'a> {
     ghost use Rattle.nit_actor.specs.PhasesLeft.{NoneIsBefore, user_phase_left};
     ghost use Rattle.nit_actor.specs.Pictures.{PutsShotsBehind};
     ghost use Rattle.nit_actor.specs.Role.{user_role_of};
-    ghost use Rattle.nit_actor.specs.RoundsRun.{put_state_of_desk};
+    ghost use Rattle.nit_rounds.specs.RoundsRun.{put_state_of_desk};
 
     /// Of which opening the run is.
     ghost parts: { OpeningParts };

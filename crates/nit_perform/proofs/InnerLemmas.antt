@@ -18,7 +18,7 @@ use Rattle.nit_perform.proofs.Basics.{phases, raw_words, replay, rounds, scenery
 use Rattle.nit_perform.proofs.Basics.{shot_frames_of, shots_after, state_now, sum_by-append}
 use Rattle.nit_perform.proofs.Basics.{sum_by-cons, tables_left, user_actions_to_do}
 use Rattle.nit_nested.specs.declared.error.NestError.TheVariants.{NoMemory}
-use Rattle.nit_actor.specs.Drawing.{drawn}
+use Rattle.nit_rounds.specs.Drawing.{drawn}
 use Rattle.nit_perform.proofs.RunLemmas.{WholeLaw}
 use Rattle.nit_events.specs.declared.entry.Entry.TheVariants as entry
 use Rattle.nit_script.specs.declared.line.InputLine.TheVariants as input

@@ -1,19 +1,19 @@
 -- The words of the library and of the crates below that are used here, and the crate's plain types.
 pub use Rattle.nit_actor.specs.ClipRole.{ClipRole, IsPairIn, PairRole, clip_role_of, pair_role_of}
-pub use Rattle.nit_actor.specs.Drawing.{Drawing, PutsShots, after_turn, drawn, drawn_shot}
-pub use Rattle.nit_actor.specs.Drawing.{opening_drawing, picture_of, shot_frames_of, shots_after}
-pub use Rattle.nit_actor.specs.Drawing.{shots_of, word_from, words_of}
+pub use Rattle.nit_rounds.specs.Drawing.{Drawing, PutsShots, after_turn, drawn, drawn_shot}
+pub use Rattle.nit_rounds.specs.Drawing.{opening_drawing, picture_of, shot_frames_of, shots_after}
+pub use Rattle.nit_rounds.specs.Drawing.{shots_of, word_from, words_of}
 pub use Rattle.nit_actor.specs.IdleUser.{StepTogether, idle_user}
 pub use Rattle.nit_actor.specs.Pictures.{AreNearShots, IsNearPicture, PutsShotsBehind}
 pub use Rattle.nit_actor.specs.Role.{Role, UserRole, role_of, user_role_of}
-pub use Rattle.nit_actor.specs.Rounds.{rounds}
-pub use Rattle.nit_actor.specs.RoundsRun.{IsRoundsRun, IsSetUp, final_name, glass_after}
-pub use Rattle.nit_actor.specs.RoundsRun.{put_state_of_desk, shot_name}
-pub use Rattle.nit_actor.specs.ShotFrames.{ShotFrame, ShowsEach, shot_file}
-pub use Rattle.nit_actor.specs.Shots.{ShotsBehind}
-pub use Rattle.nit_actor.specs.Turn.{ActorLine, ByClient, ByUser, LineTurn}
-pub use Rattle.nit_actor.specs.TurnActions.{AreRoundsOf, actions_of_turns, input_by_user}
-pub use Rattle.nit_actor.specs.TurnActions.{input_lines_of}
+pub use Rattle.nit_rounds.specs.Rounds.{rounds}
+pub use Rattle.nit_rounds.specs.RoundsRun.{IsRoundsRun, IsSetUp, final_name, glass_after}
+pub use Rattle.nit_rounds.specs.RoundsRun.{put_state_of_desk, shot_name}
+pub use Rattle.nit_rounds.specs.ShotFrames.{ShotFrame, ShowsEach, shot_file}
+pub use Rattle.nit_rounds.specs.Shots.{ShotsBehind}
+pub use Rattle.nit_rounds.specs.Turn.{ActorLine, ByClient, ByUser, LineTurn}
+pub use Rattle.nit_rounds.specs.TurnActions.{AreRoundsOf, actions_of_turns, input_by_user}
+pub use Rattle.nit_rounds.specs.TurnActions.{input_lines_of}
 pub use Rattle.nit_actor.specs.declared.pair.Pair.{Pair}
 pub use Rattle.nit_capture.specs.Capture.{CaptureModel, cropped_bytes, first_capture, next_record}
 pub use Rattle.nit_capture.specs.Capture.{with_last}

@@ -15,8 +15,8 @@ pub use Rattle.nit_report.specs.Picture
 pub use Rattle.nit_report.specs.EventsText
 pub use Rattle.nit_report.specs.JournalText
 pub use Rattle.nit_scene.specs.Scene
-pub use Rattle.nit_actor.specs.TurnActions
-pub use Rattle.nit_actor.specs.RoundsRun
+pub use Rattle.nit_rounds.specs.TurnActions
+pub use Rattle.nit_rounds.specs.RoundsRun
 pub use Rattle.nit_capture.specs.Tiles
 pub use Rattle.nit_capture.specs.Film
 pub use Rattle.nit_capture.specs.Crop

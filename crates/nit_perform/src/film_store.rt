@@ -68,7 +68,7 @@ pub struct FilmStore<'s, S: Store, F: Filming> {
 impl<S: Store, F: Filming> FilmStore<'_, S, F> {
     ghost use Rattle.std.specs.Prelude.{true, false, ◌≡◌, ◌+◌, ◌*◌, ◌<◌, ◌≤◌, length};
     ghost use Rattle.nit_store.specs.StoreAnswers.{AfterPut};
-    ghost use Rattle.nit_actor.specs.RoundsRun.{final_name, shot_name};
+    ghost use Rattle.nit_rounds.specs.RoundsRun.{final_name, shot_name};
 
     /// Whether these bytes can be the film's next picture: it is whole and not ended, and they have
     /// enough bytes.

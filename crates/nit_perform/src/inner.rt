@@ -7,8 +7,6 @@ ghost use Rattle.nit_perform.specs.Terms.{frames_of, phases, run_files};
 
 use crate::last::take_last;
 use crate::opening::{Opened, open};
-use nit_actor::laws::{drawn_as_replayed, rounds_are_whole};
-use nit_actor::{Viewer, run_viewed};
 use nit_config::Config;
 use nit_events::Entry;
 use nit_hall::Parts;
@@ -16,6 +14,8 @@ use nit_journal::laws::one_more_entry;
 use nit_nested::laws::lines_are_counted;
 use nit_nested::{Nest, NestError};
 use nit_plan::laws::{buffer_within_table, one_more_line};
+use nit_rounds::laws::{drawn_as_replayed, rounds_are_whole};
+use nit_rounds::{Viewer, run_viewed};
 use nit_scene::Scene;
 use nit_script::{Client, Input};
 use nit_word::Inked;

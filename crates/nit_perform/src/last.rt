@@ -11,12 +11,12 @@ ghost use Rattle.nit_perform.specs.Terms.{setup_of, state_now, user_actions_to_d
 ghost use mathlib.Core.List.{IsPrefix};
 ghost use Rattle.nit_events.specs.declared.entry.Entry.TheVariants as entry;
 
-use nit_actor::{Desk, PictureName};
 use nit_clip::clip_text;
 use nit_hall::{ClipPass, Pass, Room, UserPass};
 use nit_journal::laws::one_more_entry;
 use nit_pixels::Lens;
 use nit_rect::NoMemory;
+use nit_rounds::{Desk, PictureName};
 use nit_scene::Scene;
 use nit_store::Store;
 use nit_word::Inked;

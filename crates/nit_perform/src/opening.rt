@@ -5,13 +5,13 @@ ghost use Rattle.nit_perform.specs.Terms.{IsConfiguration, IsDonation, IsPlanOf,
 ghost use Rattle.nit_perform.specs.Terms.{IsWord, Line, glass_after, glasses_of, most_words};
 ghost use Rattle.nit_perform.specs.Terms.{picture_length, plans_of, table_size};
 
-use nit_actor::laws::each_line_once;
 use nit_config::Config;
 use nit_hall::line_count;
 use nit_plan::laws::{buffer_within_table, one_more_line};
 use nit_plan::{Plan, plan_of};
 use nit_rect::NoMemory;
 use nit_report::ppm_len;
+use nit_rounds::laws::each_line_once;
 use nit_scene::Scene;
 use nit_script::{Client, Input};
 use nit_slots::room;

@@ -4,8 +4,8 @@ ghost use Rattle.std.specs.Prelude.{◌≡◌, ◌+◌, ◌≤◌, length};
 ghost use Rattle.nit_perform.specs.Terms.{StoreModel, is_shot_entry, put_state_of_desk};
 ghost use Rattle.nit_perform.specs.Terms.{put_state_of_run, shots};
 
-use nit_actor::PictureName;
 use nit_events::Entry;
+use nit_rounds::PictureName;
 use nit_run::Output;
 use nit_store::{PutError, Store};
 

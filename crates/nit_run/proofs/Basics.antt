@@ -1,5 +1,5 @@
 -- What lemmas use: the words of clauses, the library's lemmas, and those of the crates below.
-pub use Rattle.nit_actor.proofs.ForCallers.{as_many_files, each_at, file_of_a_shot}
+pub use Rattle.nit_rounds.proofs.ForCallers.{as_many_files, each_at, file_of_a_shot}
 pub use Rattle.nit_journal.proofs.ForCallers.{as_many, as_many_as_clients, calls_of-append}
 pub use Rattle.nit_journal.proofs.ForCallers.{front_open, same_throughout, second_none}
 pub use Rattle.nit_rect.proofs.ForCallers.{all_append}

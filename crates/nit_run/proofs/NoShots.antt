@@ -6,7 +6,7 @@ use Rattle.nit_run.proofs.Basics.{count_by, done, final_name, final_picture, fol
 use Rattle.nit_run.proofs.Basics.{input_lines_of, is_phase, opening_drawing, rounds, shot_file}
 use Rattle.nit_run.proofs.Basics.{shots, shots_after, still_setup, user_actions_from}
 use Rattle.nit_run.proofs.Basics.{user_actions_of}
-use Rattle.nit_actor.specs.Drawing.{drawn}
+use Rattle.nit_rounds.specs.Drawing.{drawn}
 use Rattle.nit_events.specs.declared.entry.Entry.TheVariants as entry
 use Rattle.nit_script.specs.declared.line.InputLine.TheVariants as input
 

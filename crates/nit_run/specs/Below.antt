@@ -1,16 +1,16 @@
 -- The words of the library and of the crates below that are used here, and the crate's plain types.
-pub use Rattle.nit_actor.specs.Drawing.{Drawing, after_turn, drawn, frame_of, opening_drawing}
-pub use Rattle.nit_actor.specs.Drawing.{picture_of, shot_frames_of, shots_after, shots_of}
-pub use Rattle.nit_actor.specs.Drawing.{word_from, words_of}
+pub use Rattle.nit_rounds.specs.Drawing.{Drawing, after_turn, drawn, frame_of, opening_drawing}
+pub use Rattle.nit_rounds.specs.Drawing.{picture_of, shot_frames_of, shots_after, shots_of}
+pub use Rattle.nit_rounds.specs.Drawing.{word_from, words_of}
 pub use Rattle.nit_actor.specs.IdleUser.{idle_user}
 pub use Rattle.nit_actor.specs.Pictures.{AreNearShots, IsNearPicture}
-pub use Rattle.nit_actor.specs.Rounds.{rounds}
-pub use Rattle.nit_actor.specs.RoundsRun.{final_name, picture_name, shot_name}
-pub use Rattle.nit_actor.specs.ShotFrames.{shot_file}
-pub use Rattle.nit_actor.specs.Shots.{AreShotsOf, IsDrawnPicture, ShotsBehind, drawn_by_shot}
-pub use Rattle.nit_actor.specs.Turn.{ActorLine, ByClient, ByUser, LineTurn}
-pub use Rattle.nit_actor.specs.TurnActions.{AreRoundsOf, actions_of_turns, input_by_user}
-pub use Rattle.nit_actor.specs.TurnActions.{input_lines_of}
+pub use Rattle.nit_rounds.specs.Rounds.{rounds}
+pub use Rattle.nit_rounds.specs.RoundsRun.{final_name, picture_name, shot_name}
+pub use Rattle.nit_rounds.specs.ShotFrames.{shot_file}
+pub use Rattle.nit_rounds.specs.Shots.{AreShotsOf, IsDrawnPicture, ShotsBehind, drawn_by_shot}
+pub use Rattle.nit_rounds.specs.Turn.{ActorLine, ByClient, ByUser, LineTurn}
+pub use Rattle.nit_rounds.specs.TurnActions.{AreRoundsOf, actions_of_turns, input_by_user}
+pub use Rattle.nit_rounds.specs.TurnActions.{input_lines_of}
 pub use Rattle.nit_capture.specs.Crop.{crop_bytes, screen, word_of_bytes}
 pub use Rattle.nit_capture.specs.Film.{stream}
 pub use Rattle.nit_clip.specs.ClipGrammar.{clip_phases}

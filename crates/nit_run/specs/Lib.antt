@@ -14,10 +14,10 @@ pub use Rattle.nit_overlay.specs.Frame as Frames
 pub use Rattle.nit_report.specs.Picture
 pub use Rattle.nit_report.specs.EventsText
 pub use Rattle.nit_report.specs.JournalText
-pub use Rattle.nit_actor.specs.TurnActions
-pub use Rattle.nit_actor.specs.RoundsRun
-pub use Rattle.nit_actor.specs.Drawing
-pub use Rattle.nit_actor.specs.Shots
+pub use Rattle.nit_rounds.specs.TurnActions
+pub use Rattle.nit_rounds.specs.RoundsRun
+pub use Rattle.nit_rounds.specs.Drawing
+pub use Rattle.nit_rounds.specs.Shots
 pub use Rattle.nit_actor.specs.Pictures
 pub use Rattle.nit_hall.specs.NearWords
 pub use Rattle.nit_journal.specs.Projection

@@ -5,9 +5,7 @@ ghost use Rattle.nit_run.specs.Terms.{AllByRecursion, AreOutputs, Entry, File, F
 ghost use Rattle.nit_run.specs.Terms.{IsJournal, IsRunnable, Line, Setup, final_name};
 ghost use Rattle.nit_run.specs.Terms.{final_picture, generated_setup, picture, shots, still_setup};
 
-use nit_actor::laws::{
-    each_line_once, each_shot_has_its_file, near_frames_by_pixels, shots_as_replayed,
-};
+use nit_actor::laws::{each_shot_has_its_file, near_frames_by_pixels};
 use nit_journal::laws::{
     configuration_stays, deliveries_fit, deliveries_go_to_live_sessions, focus_is_the_users,
     fronts_are_legal, input_goes_where_it_is_meant, isolation, machines_stand_alone,
@@ -15,6 +13,7 @@ use nit_journal::laws::{
 };
 use nit_overlay::laws::frame_pixels;
 use nit_report::{generated_client_counts, generated_user_counts};
+use nit_rounds::laws::{each_line_once, shots_as_replayed};
 
 /// A picture of one client's script puts `final.ppm` alone, and its journal has no shot.
 pub fn still_puts_one_file()

@@ -3,8 +3,8 @@
 ghost use Rattle.std.specs.Prelude.{◌≡◌};
 ghost use Rattle.nit_run.specs.Terms.{label_text};
 
-use nit_actor::PictureName;
 use nit_glyph::Label;
+use nit_rounds::PictureName;
 
 /// The most bytes that a label has.
 const MAX_LABEL: usize = 20;

@@ -8,7 +8,7 @@ use Rattle.nit_top.proofs.Basics.{drawn_shot, final_picture, frame_of, frames_of
 use Rattle.nit_top.proofs.Basics.{map-append, opening_drawing, picture, picture_of, pictures_in}
 use Rattle.nit_top.proofs.Basics.{raw_word, replay, rounds, shot_file, shot_frames_of, shots_after}
 use Rattle.nit_top.proofs.Basics.{tables_left}
-use Rattle.nit_actor.specs.Drawing.{drawn}
+use Rattle.nit_rounds.specs.Drawing.{drawn}
 use Rattle.nit_events.specs.declared.entry.Entry.TheVariants as entry
 use Rattle.nit_script.specs.declared.line.InputLine.TheVariants as input
 

@@ -1,12 +1,12 @@
 -- The words of the library and of the crates below that are used here, and the crate's plain types.
-pub use Rattle.nit_actor.specs.Drawing.{Drawing, after_turn, drawn_shot, frame_of, opening_drawing}
-pub use Rattle.nit_actor.specs.Drawing.{picture_of, shot_frames_of, shots_after, shots_of}
+pub use Rattle.nit_rounds.specs.Drawing.{Drawing, after_turn, drawn_shot, frame_of, opening_drawing}
+pub use Rattle.nit_rounds.specs.Drawing.{picture_of, shot_frames_of, shots_after, shots_of}
 pub use Rattle.nit_actor.specs.IdleUser.{idle_user}
 pub use Rattle.nit_actor.specs.Pictures.{IsNearPicture}
-pub use Rattle.nit_actor.specs.Rounds.{rounds}
-pub use Rattle.nit_actor.specs.RoundsRun.{final_name, picture_name, shot_name}
-pub use Rattle.nit_actor.specs.ShotFrames.{ShotFrame, shot_file}
-pub use Rattle.nit_actor.specs.Turn.{ActorLine, ByClient, ByUser, LineTurn}
+pub use Rattle.nit_rounds.specs.Rounds.{rounds}
+pub use Rattle.nit_rounds.specs.RoundsRun.{final_name, picture_name, shot_name}
+pub use Rattle.nit_rounds.specs.ShotFrames.{ShotFrame, shot_file}
+pub use Rattle.nit_rounds.specs.Turn.{ActorLine, ByClient, ByUser, LineTurn}
 pub use Rattle.nit_capture.specs.Capture.{first_capture}
 pub use Rattle.nit_capture.specs.Crop.{Shows, crop, crop_pixel, screen, word_of_bytes}
 pub use Rattle.nit_capture.specs.Film.{stream}

@@ -11,12 +11,11 @@ ghost use Rattle.nit_actor.specs.ClipRole.{GoTogether, IsPairIn, pair_role_of};
 
 use crate::checks::{must, same};
 use crate::words::repeated;
-use nit_actor::{
-    Desk, GatedHall, Mine, Open, Pair, PictureName, run_actor, run_clips, run_mine, run_mine_clips,
-};
+use nit_actor::{GatedHall, Mine, Open, Pair, run_actor, run_clips, run_mine, run_mine_clips};
 use nit_clip::{ClipEntry, clip_text};
 use nit_hall::{ClipPass, Hall, Name, Pass, UserPass};
 use nit_report::{journal_text, ppm_len};
+use nit_rounds::{Desk, PictureName};
 use nit_store::MemoryStore;
 use std::alloc::Global;
 use std::process::Abort;

@@ -1,7 +1,7 @@
 //! The rounds of scripts, turn by turn.
 
 use crate::checks::{must, same};
-use nit_actor::{Turn, Turns};
+use nit_rounds::{Turn, Turns};
 use nit_script::{Client, parse_client, parse_input};
 use std::alloc::Global;
 use std::process::Abort;

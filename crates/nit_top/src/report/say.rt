@@ -8,8 +8,8 @@ ghost use Rattle.nit_top.specs.Terms.{picture_name, piece_text, script_name, sho
 ghost use Rattle.nit_top.specs.Terms.{summary_line};
 
 use crate::report::finish::Worked;
-use nit_actor::PictureName;
 use nit_config::ConfigError;
+use nit_rounds::PictureName;
 use nit_run::{LabelBytes, Output};
 use nit_setup::{End, Fault, Name};
 use nit_store::{PutError, Store};

@@ -1,5 +1,5 @@
-use Rattle.std.proofs.Common.{map, ◌≡◌}
-use Rattle.nit_actor.proofs.Lemmas.{all_again, subst, sym}
+use Rattle.std.proofs.Common.{map, ◌≡◌, subst, sym}
+use Rattle.nit_actor.proofs.Lemmas.{all_again}
 use Rattle.nit_actor.proofs.crew.run_crew.Goals as goal
 
 pub run_mine-requires-clause-fits : goal.run_mine-requires-clause-fits

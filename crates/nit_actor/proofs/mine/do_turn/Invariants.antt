@@ -1,5 +1,4 @@
-use Rattle.std.proofs.Common.{map, ◌≡◌}
-use Rattle.nit_actor.proofs.Lemmas.{All}
+use Rattle.std.proofs.Common.{map, ◌≡◌, All}
 use Rattle.nit_actor.proofs.mine.do_turn.Given as goal
 
 abbrev pub invariant-actors : goal.invariant-actors

@@ -1,5 +1,5 @@
-use Rattle.std.proofs.Common.{length, map, ◌≡◌}
-use Rattle.nit_actor.proofs.Lemmas.{All, PutsShotsBehind, put_state_of_desk, user_role_of}
+use Rattle.std.proofs.Common.{length, map, ◌≡◌, All}
+use Rattle.nit_actor.proofs.Lemmas.{PutsShotsBehind, put_state_of_desk, user_role_of}
 use Rattle.nit_actor.proofs.mine.run_turns.Given as goal
 
 abbrev pub invariant-turns : goal.invariant-turns

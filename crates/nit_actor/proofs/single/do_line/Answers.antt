@@ -1,7 +1,6 @@
-use Rattle.nit_actor.proofs.Lemmas.{PassModel, RoomModel, ap, at_call, at_line, nothing_recorded}
-use Rattle.nit_actor.proofs.Lemmas.{refl, role_of, step_on}
+use Rattle.nit_actor.proofs.Lemmas.{PassModel, RoomModel, ap, at_call, at_line, call_recorded}
+use Rattle.nit_actor.proofs.Lemmas.{nothing_recorded, refl, role_of, step_on}
 use Rattle.nit_script.specs.declared.line.Line.TheVariants as line
-use Rattle.nit_actor.proofs.IdleUserLemmas.{call_recorded}
 use Rattle.nit_actor.proofs.single.do_line.Goals as goal
 
 pub returns-in-Call-clause-step : goal.returns-in-Call-clause-step

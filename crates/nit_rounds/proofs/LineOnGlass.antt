@@ -1,0 +1,81 @@
+-- A line of a script, done on the own glass of its session.
+use Rattle.nit_rounds.proofs.Basics.{Area, FitsInto, IsDonation, IsPaintedTo, IsPlanOf, Line, List}
+use Rattle.nit_rounds.proofs.Basics.{None, PlanModel, Sight, Some, Step, ap, ap₂, arith, false}
+use Rattle.nit_rounds.proofs.Basics.{get_or, get_or_from_slice_get, glass_after, ink, is_set_by}
+use Rattle.nit_rounds.proofs.Basics.{length, mul-le-mul_right, plan_of_script, refl, slice_get}
+use Rattle.nit_rounds.proofs.Basics.{static, step_of, subst, table_size, with_words, words_after}
+use Rattle.std.proofs.Common.{sym, ℕ, ◌%◌, ◌*◌, ◌+◌, ◌/◌, ◌∙◌, ◌≡◌, ◌≤◌, slice_index}
+
+-- what the laws of scripts say
+abbrev pub AreLong : Type 0
+AreLong = (script : List Line) (donation k : ℕ) → donation ≤ 8388608 → length (words_after script donation k)
+    ≡ table_size donation
+
+pub painted_to : AreLong → (t : ℕ) (script : List Line) (donation k : ℕ) (plan : PlanModel) (g : Sight)
+    → IsDonation donation → IsPlanOf script donation plan → g ≡ glass_after t script donation k
+    → IsPaintedTo script donation plan k g
+painted_to long t script donation k plan g opens of is =
+    subst (λ (x : Sight). IsPaintedTo script donation plan k x) (sym is)
+    (record { opens = opens; planned = of; ink = refl; size = long script donation k opens.1; words = refl })
+
+-- the glass of so many words
+abbrev sized : ℕ → List Line → List ℕ → ℕ → Sight
+sized t script words size = record { owner = t; size = size; ink = ink script; words = Some words; log = None }
+
+pub after_stroke : AreLong → (t : ℕ) (script : List Line) (donation k : ℕ) (g g' : Sight) → IsDonation donation
+    → g ≡ glass_after t script donation k → g' ≡ with_words (λ words. words_after script donation (k + 1)) g
+    → g' ≡ glass_after t script donation (k + 1)
+after_stroke long t script donation k g g' opens was is =
+    is ∙ ap (λ (x : Sight). with_words (λ words. words_after script donation (k + 1)) x) was
+    ∙ ap (λ (n : ℕ). sized t script (words_after script donation (k + 1)) n) (long script donation k opens.1
+    ∙ sym (long script donation (k + 1) opens.1))
+
+-- ---- the step of a line
+
+-- what the laws of plans and buffers say
+abbrev pub HaveSteps : Type 0
+HaveSteps = (script : List Line) (donation k : ℕ) (l : Line) → slice_get script k ≡ Some l
+    → slice_get (plan_of_script script donation).steps k
+    ≡ Some (step_of (static script donation k) (static script donation (k + 1)) l)
+
+abbrev pub AreWithin : Type 0
+AreWithin = (script : List Line) (donation k : ℕ) → donation ≤ 8388608
+    → (static script donation k).bw * (static script donation k).bh ≤ table_size donation
+
+abbrev pub StayElsewhere : Type 0
+StayElsewhere = (script : List Line) (donation k n : ℕ) (l : Line) → slice_get script k ≡ Some l
+    → let step = step_of (static script donation k) (static script donation (k + 1)) l in is_set_by l step (n % step.w)
+    (n / step.w) ≡ false
+    → slice_index (words_after script donation (k + 1)) n ≡ slice_index (words_after script donation k) n
+
+-- the step that the plan has for the line
+pub step_there : HaveSteps → (script : List Line) (donation k : ℕ) (plan : PlanModel) (steps : List Step) (d : Step)
+    (l : Line) → IsPlanOf script donation plan → steps ≡ plan.steps → slice_get script k ≡ Some l
+    → get_or steps k d ≡ step_of (static script donation k) (static script donation (k + 1)) l
+step_there have script donation k plan steps d l of are here =
+    let listed : slice_get steps k ≡ Some (step_of (static script donation k) (static script donation (k + 1)) l) =
+    ap (λ (ss : List Step). slice_get ss k) (are ∙ ap (λ (p : PlanModel). p.steps) of)
+    ∙ have script donation k l here in
+    get_or_from_slice_get steps k _ d listed
+
+-- the area is within the glass
+pub fits : AreLong → AreWithin
+    → ((script : List Line) (donation k : ℕ) → donation ≤ 8388608 → (static script donation k).bw ≤ 4096)
+    → ((script : List Line) (donation k : ℕ) → donation ≤ 8388608 → (static script donation k).bh ≤ 4096)
+    → (t : ℕ) (script : List Line) (donation k : ℕ) (l : Line) (step : Step) (area : Area) (own : Sight)
+    → donation ≤ 8388608 → step ≡ step_of (static script donation k) (static script donation (k + 1)) l
+    → area.x + area.w ≤ step.w → area.y + area.h ≤ step.h → own ≡ glass_after t script donation (k + 1)
+    → FitsInto own.size (record { sid = t; w = step.w; area = area })
+fits long within wide tall t script donation k l step area own most is across down now =
+    let w : step.w ≡ (static script donation (k + 1)).bw = ap (λ (st : Step). st.w) is in
+    let h : step.h ≡ (static script donation (k + 1)).bh = ap (λ (st : Step). st.h) is in
+    let size : own.size ≡ table_size donation = ap (λ (x : Sight). x.size) now ∙ long script donation (k + 1) most in
+    let rows : (area.y + area.h) * step.w ≤ step.h * step.w = mul-le-mul_right step.w down in
+    let all : step.w * step.h ≤ table_size donation =
+    subst (λ n. n ≤ table_size donation) (sym (ap₂ (λ (a b : ℕ). a * b) w h))
+    (within script donation (k + 1) most) in record {
+      wide = omega (arith, w, wide script donation (k + 1) most);
+      tall = omega (arith, h, down, tall script donation (k + 1) most);
+      columns = across;
+      room = omega (arith, rows, all, size);
+    }

@@ -1,0 +1,171 @@
+-- What of the rounds is one actor's: its moves in order, each once.
+use Rattle.nit_rounds.proofs.Basics.{ActorLine, AllByRecursion, Bool, LineTurn, List, [], add-one}
+use Rattle.nit_rounds.proofs.Basics.{ap, append-nil, ap₂, arith, cond, drop, ends_phase, eq-eqb}
+use Rattle.nit_rounds.proofs.Basics.{false, flat_map, flat_map-append, get_or, greatest, in_phase}
+use Rattle.nit_rounds.proofs.Basics.{length, length-drop, map, ne_eqb, nil_from_length}
+use Rattle.nit_rounds.proofs.Basics.{phase_rounds, range_with_len, refl, subst, suc, sym, take}
+use Rattle.nit_rounds.proofs.Basics.{turns_from}
+use Rattle.std.proofs.Common.{take-append-drop, true, zero, ℕ, ◌++◌, ◌+◌, ◌<◌, ◌==◌, ◌∙◌, ◌∷◌, ◌≡◌}
+use Rattle.std.proofs.Common.{◌≤◌}
+use Rattle.nit_rounds.proofs.RoundWalks.{walk, all_walk, short_greatest, short_at}
+
+-- ---- lists of which nothing is taken
+
+-- g takes nothing of the moves
+abbrev pub Silent : {B : Type 0} → (LineTurn → List B) → List LineTurn → Type 0
+Silent g moves = AllByRecursion (λ m. g m ≡ []) moves
+
+pub taken_silent : {B : Type 0} (g : LineTurn → List B) (moves : List LineTurn) → Silent g moves → flat_map g moves ≡ []
+taken_silent g [] h = refl
+taken_silent g (m ∷ moves) h = rw (h.0, taken_silent g moves h.1) refl
+
+-- a function that keeps silent what was
+abbrev Quiet : {B : Type 0} → (LineTurn → List B) → (List LineTurn → List LineTurn) → Type 0
+Quiet g f = (moves : List LineTurn) → Silent g moves → Silent g (f moves)
+
+quiet_take : {B : Type 0} (g : LineTurn → List B) (n : ℕ) → Quiet g (take n)
+quiet_take g zero moves h = tt
+quiet_take g (suc n) [] h = tt
+quiet_take g (suc n) (m ∷ moves) h = (h.0, quiet_take g n moves h.1)
+
+quiet_drop : {B : Type 0} (g : LineTurn → List B) (n : ℕ) → Quiet g (drop n)
+quiet_drop g zero moves h = h
+quiet_drop g (suc n) [] h = tt
+quiet_drop g (suc n) (m ∷ moves) h = quiet_drop g n moves h.1
+
+quiet_cond : {B : Type 0} (g : LineTurn → List B) (b : Bool) (m : LineTurn) (moves : List LineTurn) → g m ≡ []
+    → Silent g moves → Silent g (cond b (m ∷ moves) moves)
+quiet_cond g true m moves h hs = (h, hs)
+quiet_cond g false m moves h hs = hs
+
+quiet_phase : {B : Type 0} (g : LineTurn → List B) (p : ℕ) → Quiet g (in_phase p)
+quiet_phase g p [] h = tt
+quiet_phase g p (m ∷ moves) h = quiet_cond g (m.phase == p) m (in_phase p moves) h.0 (quiet_phase g p moves h.1)
+
+-- ---- one actor of whom something is taken
+
+-- g takes nothing of any list but the one at place k
+abbrev pub OnlyAt : {B : Type 0} → (LineTurn → List B) → ℕ → List (List LineTurn) → Type 0
+OnlyAt g k [] = Unit {0}
+OnlyAt g zero (l ∷ all) = AllByRecursion (Silent g) all
+OnlyAt g (suc k) (l ∷ all) = Silent g l × OnlyAt g k all
+
+silent_map : {B : Type 0} (g : LineTurn → List B) (f : List LineTurn → List LineTurn) → Quiet g f
+    → (all : List (List LineTurn)) → AllByRecursion (Silent g) all → AllByRecursion (Silent g) (map f all)
+silent_map g f quiet [] h = tt
+silent_map g f quiet (l ∷ all) h = (quiet l h.0, silent_map g f quiet all h.1)
+
+only_map : {B : Type 0} (g : LineTurn → List B) (f : List LineTurn → List LineTurn) → Quiet g f
+    → (k : ℕ) (all : List (List LineTurn)) → OnlyAt g k all → OnlyAt g k (map f all)
+only_map g f quiet k [] h = tt
+only_map g f quiet zero (l ∷ all) h = silent_map g f quiet all h
+only_map g f quiet (suc k) (l ∷ all) h = (quiet l h.0, only_map g f quiet k all h.1)
+
+pub get_map : {X Y : Type 0} (f : List X → List Y) → f [] ≡ [] → (k : ℕ) (all : List (List X))
+    → get_or (map f all) k [] ≡ f (get_or all k [])
+get_map f none k [] = sym none
+get_map f none zero (l ∷ all) = refl
+get_map f none (suc k) (l ∷ all) = get_map f none k all
+
+-- what is taken of the first moves of all
+silent_firsts : {B : Type 0} (g : LineTurn → List B) (all : List (List LineTurn)) → AllByRecursion (Silent g) all
+    → flat_map g (flat_map (take 1) all) ≡ []
+silent_firsts g [] h = refl
+silent_firsts g (l ∷ all) h = flat_map-append g (take 1 l) (flat_map (take 1) all)
+    ∙ rw (taken_silent g (take 1 l) (quiet_take g 1 l h.0), silent_firsts g all h.1) refl
+
+only_firsts : {B : Type 0} (g : LineTurn → List B) (k : ℕ) (all : List (List LineTurn)) → OnlyAt g k all
+    → flat_map g (flat_map (take 1) all) ≡ flat_map g (take 1 (get_or all k []))
+only_firsts g k [] h = refl
+only_firsts g zero (l ∷ all) h = flat_map-append g (take 1 l) (flat_map (take 1) all)
+    ∙ rw (silent_firsts g all h) (append-nil (flat_map g (take 1 l)))
+only_firsts g (suc k) (l ∷ all) h = flat_map-append g (take 1 l) (flat_map (take 1) all)
+    ∙ rw (taken_silent g (take 1 l) (quiet_take g 1 l h.0)) (only_firsts g k all h.1)
+
+only_walk : {B : Type 0} (g : LineTurn → List B) (n k : ℕ) (all : List (List LineTurn)) → OnlyAt g k all
+    → length (get_or all k []) ≤ n → flat_map g (walk n all) ≡ flat_map g (get_or all k [])
+only_walk {B = B} g zero k all h short = sym (ap (flat_map g) (nil_from_length (get_or all k []) (omega arith)))
+only_walk {B = B} g (suc n) k all h short =
+    let rest_is : get_or (map (drop 1) all) k [] ≡ drop 1 (get_or all k []) = get_map (drop 1) refl k all in
+    let shorter : length (get_or (map (drop 1) all) k []) ≤ n =
+    rw rest_is (omega (arith, length-drop 1 (get_or all k []))) in
+    flat_map-append g (flat_map (take 1) all) (walk n (map (drop 1) all))
+    ∙ ap₂ (λ (a b : List B). a ++ b) (only_firsts g k all h)
+    (only_walk g n k (map (drop 1) all) (only_map g (drop 1) (quiet_drop g 1) k all h) shorter
+    ∙ ap (flat_map g) rest_is)
+    ∙ sym (flat_map-append g (take 1 (get_or all k [])) (drop 1 (get_or all k [])))
+    ∙ ap (flat_map g) (take-append-drop 1 (get_or all k []))
+
+only_phase : {B : Type 0} (g : LineTurn → List B) (k : ℕ) (all : List (List LineTurn)) → OnlyAt g k all → (p : ℕ)
+    → flat_map g (phase_rounds all p) ≡ flat_map g (in_phase p (get_or all k []))
+only_phase g k all h p =
+    ap (flat_map g) (all_walk (map (in_phase p) all))
+    ∙ only_walk g (greatest (map length (map (in_phase p) all))) k (map (in_phase p) all)
+    (only_map g (in_phase p) (quiet_phase g p) k all h)
+    (short_at (greatest (map length (map (in_phase p) all))) k (map (in_phase p) all)
+    (short_greatest (map (in_phase p) all)))
+    ∙ ap (flat_map g) (get_map (in_phase p) refl k all)
+
+pub only_phases : {B : Type 0} (g : LineTurn → List B) (k : ℕ) (all : List (List LineTurn)) → OnlyAt g k all
+    → (ps : List ℕ) →
+    flat_map g (flat_map (phase_rounds all) ps) ≡ flat_map g (flat_map (λ p. in_phase p (get_or all k [])) ps)
+only_phases {B = B} g k all h [] = refl
+only_phases {B = B} g k all h (p ∷ ps) =
+    flat_map-append g (phase_rounds all p) (flat_map (phase_rounds all) ps)
+    ∙ ap₂ (λ (a b : List B). a ++ b) (only_phase g k all h p) (only_phases g k all h ps)
+    ∙ sym (flat_map-append g (in_phase p (get_or all k [])) (flat_map (λ q. in_phase q (get_or all k [])) ps))
+
+-- ---- the phases of a script make it whole
+
+-- all moves are in a phase below this one
+abbrev pub Below : ℕ → List LineTurn → Type 0
+Below count moves = AllByRecursion (λ m. m.phase < count) moves
+
+onward : (b : Bool) (q p : ℕ) → q < p → q < cond b (suc p) p
+onward true q p h = omega arith
+onward false q p h = h
+
+-- a script that goes on in a later phase has no move in this one
+pub later : (q p k : ℕ) (ds : List ActorLine) → q < p → in_phase q (turns_from p k ds) ≡ []
+later q p k [] h = refl
+later q p k (d ∷ ds) h = rw (ne_eqb p q (λ e. omega arith))
+    (later q (cond (ends_phase d) (suc p) p) (suc k) ds (onward (ends_phase d) q p h))
+
+passed : (m : LineTurn) (moves : List LineTurn) (p n : ℕ) → m.phase < p
+    → flat_map (λ q. in_phase q (m ∷ moves)) (range_with_len p n)
+    ≡ flat_map (λ q. in_phase q moves) (range_with_len p n)
+passed m moves p zero h = refl
+passed m moves p (suc n) h =
+    ap₂ (λ (a b : List LineTurn). a ++ b)
+    (rw (ne_eqb m.phase p (λ e. omega arith)) refl)
+    (passed m moves (p + 1) n (omega arith))
+
+no_phases : (ps : List ℕ) → flat_map (λ q. in_phase q []) ps ≡ []
+no_phases [] = refl
+no_phases (p ∷ ps) = no_phases ps
+
+-- the phases of the rest make the rest whole, in whichever phase it begins
+abbrev RestWhole : List ActorLine → Type 0
+RestWhole ds = (p k n : ℕ) → Below (p + n) (turns_from p k ds)
+    → flat_map (λ q. in_phase q (turns_from p k ds)) (range_with_len p n) ≡ turns_from p k ds
+
+rest_first : (b : Bool) (p k n : ℕ) (ds : List ActorLine) → RestWhole ds
+    → Below (p + suc n) (turns_from (cond b (suc p) p) k ds) →
+    in_phase p (turns_from (cond b (suc p) p) k ds) ++ flat_map (λ q. in_phase q (turns_from (cond b (suc p) p) k ds))
+    (range_with_len (p + 1) n) ≡ turns_from (cond b (suc p) p) k ds
+rest_first true p k n ds whole h =
+    let more : p + suc n ≡ suc p + n = omega arith in
+    rw (later p (suc p) k ds (omega arith), add-one)
+    (whole (suc p) k n (subst (λ (c : ℕ). Below c (turns_from (suc p) k ds)) more h))
+rest_first false p k n ds whole h = whole p k (suc n) h
+
+pub phases_whole : (ds : List ActorLine) → RestWhole ds
+phases_whole [] p k n h = no_phases (range_with_len p n)
+phases_whole (d ∷ ds) p k zero h = absurd (let out : p < p + 0 = h.0 in omega arith)
+phases_whole (d ∷ ds) p k (suc n) h =
+    let m : LineTurn = record { phase = p; number = k; doing = d } in
+    let next : ℕ = cond (ends_phase d) (suc p) p in
+    rw (eq-eqb p p refl)
+    (ap (λ (t : List LineTurn). m ∷ (in_phase p (turns_from (cond (ends_phase d) (suc p) p) (suc k) ds) ++ t))
+    (passed m (turns_from (cond (ends_phase d) (suc p) p) (suc k) ds) (p + 1) n (omega arith))
+    ∙ ap (λ (t : List LineTurn). m ∷ t) (rest_first (ends_phase d) p (suc k) n ds (phases_whole ds) h.1))

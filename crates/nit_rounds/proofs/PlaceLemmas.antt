@@ -1,0 +1,193 @@
+-- Actors at places of their scripts: what each has left, and how places go on.
+use Rattle.nit_rounds.proofs.Basics.{ActorLine, AllByRecursion, Bool, ByClient, ByUser, InputLine}
+use Rattle.nit_rounds.proofs.Basics.{Line, LineTurn, List, Place, Some, StandsAt, [], actors}
+use Rattle.nit_rounds.proofs.Basics.{add-one, and_parts, ap, ap₂, arith, cases_eq, cases_lt}
+use Rattle.nit_rounds.proofs.Basics.{clients_from, cond, drop, drop_all, drop_more, ends_phase}
+use Rattle.nit_rounds.proofs.Basics.{eq-eqb, eqb-true, false, false≢true, get_or, get_or_default}
+use Rattle.nit_rounds.proofs.Basics.{in_phase, inl, inr, is_active, is_input_phase, is_phase}
+use Rattle.nit_rounds.proofs.Basics.{left_at, lefts, length, length-append, length-map, lt-ltb}
+use Rattle.nit_rounds.proofs.Basics.{ltb-true, map, nat_lt, refl, script_of, set, slice_get}
+use Rattle.nit_rounds.proofs.Basics.{stepped, turns_from}
+use Rattle.std.proofs.Common.{subst, suc, sym, true, zero, zero-add, ℕ, ◌+◌, ◌<◌, ◌==◌, ◌∙◌, ◌∷◌}
+use Rattle.std.proofs.Common.{◌≡◌, ◌≤◌}
+use Rattle.nit_rounds.proofs.OneActor.{later}
+use Rattle.nit_rounds.proofs.Scripts.{script_of_client, script_of_user}
+
+-- ---- scripts
+
+pub script_client : (scripts : List (List Line)) (input : List InputLine) (k : ℕ) → k < length scripts
+    → script_of scripts input k ≡ map (ByClient k) (get_or scripts k [])
+script_client scripts input k inside = script_of_client 0 k scripts (map ByUser input ∷ []) inside
+    ∙ ap (λ (t : ℕ). map (ByClient t) (get_or scripts k [])) (zero-add k)
+
+pub script_user : (scripts : List (List Line)) (input : List InputLine) (k : ℕ) → length scripts ≤ k
+    → k ≤ length scripts → script_of scripts input k ≡ map ByUser input
+script_user scripts input k low high =
+    let same : length scripts ≡ k = omega arith in
+    subst (λ (n : ℕ). script_of scripts input n ≡ map ByUser input) same (script_of_user 0 scripts (map ByUser input))
+
+pub client_long : (scripts : List (List Line)) (input : List InputLine) (k : ℕ) (x : List Line) → k < length scripts
+    → x ≡ get_or scripts k x → length x ≡ length (script_of scripts input k)
+client_long scripts input k x inside is =
+    sym (ap length (script_client scripts input k inside) ∙ length-map (get_or scripts k []) (ByClient k)
+    ∙ ap length (get_or_default scripts k [] x inside ∙ sym is))
+
+pub user_long : (scripts : List (List Line)) (input : List InputLine) (k : ℕ) → length scripts ≤ k → k ≤ length scripts
+    → length input ≡ length (script_of scripts input k)
+user_long scripts input k low high = sym (ap length (script_user scripts input k low high) ∙ length-map input ByUser)
+
+some_same : {X : Type 0} (x y : X) → Some x ≡ Some y → x ≡ y
+some_same x y e = cc
+
+end_in : {L : Type 0} (f : L → ActorLine) (ls : List L) (n : ℕ) (l : L) (d : ActorLine) → n < length ls
+    → l ≡ get_or ls n l → slice_get (map f ls) n ≡ Some d → f l ≡ d
+end_in f [] n l d inside is e = absurd (omega arith)
+end_in f (x ∷ ls) zero l d inside is e = ap f is ∙ some_same (f x) d e
+end_in f (x ∷ ls) (suc n) l d inside is e = end_in f ls n l d (omega arith) is e
+
+pub client_inside : (scripts : List (List Line)) (input : List InputLine) (k n : ℕ) (x y : List Line)
+    → k < length scripts → x ≡ get_or scripts k x → y ≡ x → n < length (script_of scripts input k) → n < length y
+client_inside scripts input k n x y inside is same h =
+    subst (λ (m : ℕ). n < m) (sym (ap length same ∙ client_long scripts input k x inside is)) h
+
+pub user_inside : (scripts : List (List Line)) (input : List InputLine) (k n : ℕ) (y : List InputLine)
+    → length scripts ≤ k → k ≤ length scripts → y ≡ input → n < length (script_of scripts input k) → n < length y
+user_inside scripts input k n y low high same h =
+    subst (λ (m : ℕ). n < m) (sym (ap length same ∙ user_long scripts input k low high)) h
+
+pub client_end : (scripts : List (List Line)) (input : List InputLine) (k n : ℕ) (x y : List Line) (l : Line)
+    (d : ActorLine) → k < length scripts → x ≡ get_or scripts k x → y ≡ x → n < length (script_of scripts input k)
+    → l ≡ get_or y n l → slice_get (script_of scripts input k) n ≡ Some d → is_phase l ≡ ends_phase d
+client_end scripts input k n x y l d inside is same h at e =
+    let here : script_of scripts input k ≡ map (ByClient k) y = script_client scripts input k inside
+    ∙ ap (map (ByClient k)) (get_or_default scripts k [] x inside ∙ sym is ∙ sym same) in
+    ap ends_phase (end_in (ByClient k) y n l d (client_inside scripts input k n x y inside is same h) at
+    (subst (λ (ds : List ActorLine). slice_get ds n ≡ Some d) here e))
+
+pub user_end : (scripts : List (List Line)) (input : List InputLine) (k n : ℕ) (y : List InputLine) (other : InputLine)
+    (d : ActorLine) → length scripts ≤ k → k ≤ length scripts → y ≡ input → n < length (script_of scripts input k)
+    → slice_get (script_of scripts input k) n ≡ Some d → is_input_phase (get_or y n other) ≡ ends_phase d
+user_end scripts input k n y other d low high same h e =
+    let here : script_of scripts input k ≡ map ByUser y = script_user scripts input k low high
+    ∙ ap (map ByUser) (sym same) in
+    ap ends_phase (end_in ByUser y n (get_or y n other) d (user_inside scripts input k n y low high same h)
+    (get_or_default y n other (get_or y n other) (user_inside scripts input k n y low high same h))
+    (subst (λ (ds : List ActorLine). slice_get ds n ≡ Some d) here e))
+
+clients_long : (sid : ℕ) (scripts : List (List Line)) → length (clients_from sid scripts) ≡ length scripts
+clients_long sid [] = refl
+clients_long sid (x ∷ scripts) = ap (λ (n : ℕ). suc n) (clients_long (suc sid) scripts)
+
+pub actors_long : (scripts : List (List Line)) (input : List InputLine)
+    → length (actors scripts input) ≡ length scripts + 1
+actors_long scripts input = length-append (clients_from 0 scripts) (map ByUser input ∷ [])
+    ∙ ap (λ (n : ℕ). n + 1) (clients_long 0 scripts)
+
+-- ---- what each actor has left
+
+pub get_lefts : (k : ℕ) (places : List Place) (all : List (List ActorLine)) (d : Place) → k < length places
+    → k < length all → get_or (lefts places all) k [] ≡ left_at (get_or places k d) (get_or all k [])
+get_lefts k [] all d h hs = absurd (omega arith)
+get_lefts k (p ∷ places) [] d h hs = absurd (omega arith)
+get_lefts zero (p ∷ places) (ds ∷ all) d h hs = refl
+get_lefts (suc k) (p ∷ places) (ds ∷ all) d h hs = get_lefts k places all d (omega arith) (omega arith)
+
+pub lefts_long : (places : List Place) (all : List (List ActorLine)) → length all ≤ length places
+    → length (lefts places all) ≡ length all
+lefts_long [] [] h = refl
+lefts_long [] (ds ∷ all) h = absurd (omega arith)
+lefts_long (p ∷ places) [] h = refl
+lefts_long (p ∷ places) (ds ∷ all) h = ap (λ (n : ℕ). suc n) (lefts_long places all (omega arith))
+
+pub set_lefts : (k : ℕ) (place : Place) (places : List Place) (all : List (List ActorLine))
+    → set (lefts places all) k (left_at place (get_or all k [])) ≡ lefts (set places k place) all
+set_lefts k place [] all = refl
+set_lefts zero place (p ∷ places) [] = refl
+set_lefts (suc k) place (p ∷ places) [] = refl
+set_lefts zero place (p ∷ places) (ds ∷ all) = refl
+set_lefts (suc k) place (p ∷ places) (ds ∷ all) =
+    ap (λ (t : List (List LineTurn)). left_at p ds ∷ t) (set_lefts k place places all)
+
+-- ---- who has a line to do
+
+pub active_parts : (phase : ℕ) (place : Place) (ds : List ActorLine) → is_active phase place ds ≡ true
+    → (place.phase ≡ phase) × (place.line < length ds)
+active_parts phase place ds e =
+    let both = and_parts (place.phase == phase) (nat_lt place.line (length ds)) e in
+    (eqb-true place.phase phase both.0, ltb-true place.line (length ds) both.1)
+
+is_active_at : (phase : ℕ) (place : Place) (ds : List ActorLine) → place.phase ≡ phase → place.line < length ds
+    → is_active phase place ds ≡ true
+is_active_at phase place ds same inside = rw (eq-eqb place.phase phase same, lt-ltb place.line (length ds) inside) refl
+
+pub not_in_phase : (phase : ℕ) (place : Place) (ds : List ActorLine) → is_active phase place ds ≡ false
+    → place.line < length ds → place.phase ≡ phase → ⊥
+not_in_phase phase place ds idle inside same = false≢true (sym idle ∙ is_active_at phase place ds same inside)
+
+-- an actor without a line to do has no move in the phase
+pub idle : (phase : ℕ) (place : Place) (ds : List ActorLine) → is_active phase place ds ≡ false
+    → (place.line < length ds → phase ≤ place.phase) → in_phase phase (left_at place ds) ≡ []
+idle phase place ds none reached =
+    elim (cases_lt place.line (length ds)) [
+      | inl inside ↦
+          let up : phase ≤ place.phase = reached inside in
+          let other : place.phase ≡ phase → ⊥ = not_in_phase phase place ds none inside in
+          elim (cases_eq place.phase phase) [
+            | inl same ↦ absurd (other same)
+            | inr differs ↦ later phase place.phase place.line (drop place.line ds) (omega arith)
+          ]
+      | inr past ↦ ap (λ (t : List ActorLine). in_phase phase (turns_from place.phase place.line t))
+          (drop_all place.line ds past)
+    ]
+
+pub nothing_more : (place : Place) (ds : List ActorLine) → length ds ≤ place.line → left_at place ds ≡ []
+nothing_more place ds past = ap (turns_from place.phase place.line) (drop_all place.line ds past)
+
+-- ---- a step
+
+on_by_one : (b : Bool) (p : ℕ) → cond b (suc p) p ≡ cond b (p + 1) p
+on_by_one true p = sym (add-one p)
+on_by_one false p = refl
+
+pub left_first : (place : Place) (ds : List ActorLine) (d : ActorLine) → place.line < length ds →
+    left_at place ds ≡ record { phase = place.phase; number = place.line; doing = get_or ds place.line d }
+    ∷ left_at (stepped place (ends_phase (get_or ds place.line d))) ds
+left_first place ds d inside =
+    ap (turns_from place.phase place.line) (drop_more ds place.line d inside)
+    ∙ ap₂ (λ (p n : ℕ). record { phase = place.phase; number = place.line; doing = get_or ds place.line d }
+    ∷ turns_from p n (drop (place.line + 1) ds))
+    (on_by_one (ends_phase (get_or ds place.line d)) place.phase) (sym (add-one place.line))
+
+stepped_up : (b : Bool) (p : ℕ) → (p ≤ cond b (p + 1) p) × (cond b (p + 1) p ≤ suc p)
+stepped_up true p = (omega arith, omega arith)
+stepped_up false p = (omega arith, omega arith)
+
+pub step_stands : (count phase : ℕ) (place : Place) (ds : List ActorLine) (d : ActorLine) → place.line < length ds
+    → place.phase ≡ phase → StandsAt count phase place ds
+    → StandsAt count phase (stepped place (ends_phase (get_or ds place.line d))) ds
+step_stands count phase place ds d inside same stands =
+    let up = stepped_up (ends_phase (get_or ds place.line d)) place.phase in
+    let low : place.phase ≤ cond (ends_phase (get_or ds place.line d)) (place.phase + 1) place.phase = up.0 in
+    let high : cond (ends_phase (get_or ds place.line d)) (place.phase + 1) place.phase ≤ suc place.phase = up.1 in
+    let small : place.phase ≤ place.line = stands.small in
+    let parts : AllByRecursion (λ m. m.phase < count)
+    (record { phase = place.phase; number = place.line; doing = get_or ds place.line d }
+    ∷ left_at (stepped place (ends_phase (get_or ds place.line d))) ds) =
+    subst (λ (t : List LineTurn). AllByRecursion (λ m. m.phase < count) t) (left_first place ds d inside)
+    stands.within in
+    record { reached = λ _. omega arith; near = λ _. omega arith; small = omega arith; within = parts.1 }
+
+-- the phase ends for an actor that has no line to do in it
+pub phase_stands : (count phase : ℕ) (place : Place) (ds : List ActorLine) → is_active phase place ds ≡ false
+    → StandsAt count phase place ds → StandsAt count (phase + 1) place ds
+phase_stands count phase place ds none stands =
+    record {
+      reached = λ (inside : place.line < length ds).
+          let up : phase ≤ place.phase = stands.reached inside in
+          let other : place.phase ≡ phase → ⊥ = not_in_phase phase place ds none inside in
+          elim (cases_eq place.phase phase) [ inl same ↦ absurd (other same) | inr differs ↦ omega arith ];
+      near = λ (inside : place.line < length ds). let high : place.phase ≤ suc phase =
+          stands.near inside in omega arith;
+      small = stands.small;
+      within = stands.within;
+    }

@@ -1,0 +1,55 @@
+-- Words by the tables of the sessions.
+use Rattle.nit_rounds.proofs.Basics.{Bare, Black, Bool, Configuration, IsInked, IsLoaded, IsTrue}
+use Rattle.nit_rounds.proofs.Basics.{IsWordOfSource, Line, List, PixelSource, Sight, Word, [], ap}
+use Rattle.nit_rounds.proofs.Basics.{cases_lt, donation_of, eqb-true, false, get_or_past}
+use Rattle.nit_rounds.proofs.Basics.{glass_after, glass_in, inl, inr, length, no_sight, script_in}
+use Rattle.nit_rounds.proofs.Basics.{slice_index, table_size, tables_after, word_from, words_after}
+use Rattle.nit_rounds.proofs.Basics.{zero_at, zeros}
+use Rattle.std.proofs.Common.{refl, subst, suc, sym, true, zero, ℕ, ◌<◌, ◌==◌, ◌||◌, ◌∙◌, ◌≡◌, ◌≤◌}
+
+-- ---- words
+
+-- what is loaded from each glass is the word of its session's table
+abbrev pub AreOf : (ℕ → Sight) → (ℕ → List ℕ) → Type 0
+AreOf glasses tables = (t i w : ℕ) → IsLoaded (glasses t) i w → w ≡ slice_index (tables t) i
+
+pub held_word : (glasses : ℕ → Sight) (tables : ℕ → List ℕ) (source : PixelSource) (w : ℕ) → AreOf glasses tables
+    → IsWordOfSource glasses source w → w ≡ word_from tables source
+held_word glasses tables Bare w are held = held
+held_word glasses tables Black w are held = held
+held_word glasses tables (Word t i) w are held = are t i w held
+
+-- nothing but 0 is in no ink
+no_ink : (w : ℕ) → IsInked [] w → w ≡ 0
+no_ink w inked = eqb-true w 0 (left w inked)
+  where
+    first : (b : Bool) → IsTrue (b || false) → b ≡ true
+    first true h = refl
+    first false h = h
+
+    left : (n : ℕ) → IsInked [] n → (n == 0) ≡ true
+    left n h = first (n == 0) h
+
+no_lines : (donation k : ℕ) → words_after [] donation k ≡ zeros (table_size donation)
+no_lines donation zero = refl
+no_lines donation (suc k) = refl
+
+-- where each glass tells the words that so many lines of its script leave, each word is of these
+pub tables_told : (config : Configuration) (scripts : List (List Line)) (owns : List Sight) (done : ℕ → ℕ)
+    → length owns ≡ length scripts
+    → ((t : ℕ) → t < length scripts
+    → glass_in owns t ≡ glass_after t (script_in scripts t) (donation_of config t) (done t))
+    → AreOf (glass_in owns) (tables_after config scripts done)
+tables_told config scripts owns done each tell t i w loaded =
+    elim (cases_lt t (length scripts)) [
+      | inl inside ↦ (subst (λ (g : Sight). IsLoaded g i w) (tell t inside) loaded).told
+      | inr past ↦
+          let none : glass_in owns t ≡ no_sight =
+          get_or_past owns t no_sight (subst (λ (n : ℕ). n ≤ t) (sym each) past) in
+          let script : script_in scripts t ≡ [] = get_or_past scripts t [] past in
+          no_ink w (subst (λ (g : Sight). IsLoaded g i w) none loaded).inked
+          ∙ sym (zero_at (table_size (donation_of config t)) i)
+          ∙ sym (ap (λ (ws : List ℕ). slice_index ws i)
+          (ap (λ (ls : List Line). words_after ls (donation_of config t) (done t)) script
+          ∙ no_lines (donation_of config t) (done t)))
+    ]

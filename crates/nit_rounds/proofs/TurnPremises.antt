@@ -1,0 +1,169 @@
+-- What a turn finds: all that the line of its actor asks for.
+use Rattle.nit_rounds.proofs.Basics.{Action, ActorLine, Acts, All-get_or, AllByRecursion, ByClient}
+use Rattle.nit_rounds.proofs.Basics.{ByUser, Call, Calls, Configuration, Does, Entry, InputLine}
+use Rattle.nit_rounds.proofs.Basics.{IsConfiguration, IsDonation, IsMember, IsMoved, IsPlanOf}
+use Rattle.nit_rounds.proofs.Basics.{IsPlanned, IsUnderWay, Line, LineTurn, List, None, Option}
+use Rattle.nit_rounds.proofs.Basics.{PlanModel, SceneModel, Shoots, Sight, Some, State, Turn, []}
+use Rattle.nit_rounds.proofs.Basics.{actions_of_line, actions_of_turns, ap, arith, donation_of}
+use Rattle.nit_rounds.proofs.Basics.{drop, get_or, get_or_default, get_or_from_slice_get}
+use Rattle.nit_rounds.proofs.Basics.{glass_after, glass_in, length, option_map, plan_in, rounds}
+use Rattle.nit_rounds.proofs.Basics.{script_in, settled, slice_get, slice_get_within, state_now}
+use Rattle.nit_rounds.proofs.Basics.{takes_place, turn_of}
+use Rattle.std.proofs.Common.{length-set, refl, set, subst, suc, sym, true, zero, ℕ, ◌<◌, ◌∙◌, ◌∷◌}
+use Rattle.std.proofs.Common.{◌≡◌, ◌≤◌}
+use Rattle.nit_script.specs.declared.line.Line.TheVariants as line
+use Rattle.nit_script.specs.declared.line.InputLine.TheVariants as input
+use Rattle.nit_rounds.specs.declared.turn.Turn.TheVariants as turn
+use Rattle.nit_rounds.proofs.RunStateLemmas.{ClientTells, ClientDone, UserTells, UserDone}
+use Rattle.nit_rounds.proofs.RunStateLemmas.{IsClientsMove, IsUsersMove, clients_move, users_move}
+use Rattle.nit_rounds.proofs.RunStateLemmas.{own_glass}
+use Rattle.nit_rounds.proofs.OneMove.{room_for}
+
+-- ---- a client's turn
+
+-- all that the next line of a client's script asks for
+pub record MayDoLine (scripts : List (List Line)) (plans : List PlanModel) (scene : SceneModel Sight)
+    (owns : List Sight) (sid number : ℕ) : Type 0 where
+  pub in_owns : sid < length owns
+  pub in_scripts : sid < length scripts
+  pub in_plans : sid < length plans
+  pub session : sid < length scene.config.clients
+  pub glasses : sid < length scene.glasses
+  pub here : number < length (script_in scripts sid)
+  pub donation : IsDonation (donation_of scene.config sid)
+  pub plan : IsPlanOf (script_in scripts sid) (donation_of scene.config sid) (plan_in plans sid)
+  pub own : glass_in owns sid ≡ glass_after sid (script_in scripts sid) (donation_of scene.config sid) number
+  pub same : glass_in scene.glasses sid ≡ glass_in owns sid
+  pub spare : (call : Call) → slice_get (script_in scripts sid) number ≡ Some (line.Call call) → 1 ≤ scene.spare
+
+member_donates : (config : Configuration) (sid : ℕ) → IsConfiguration config → sid < length config.clients
+    → IsDonation (donation_of config sid)
+member_donates config sid within inside = (All-get_or IsMember config.clients sid _ inside within.clients).donation
+
+same_some : (a b : Line) → Some a ≡ Some b → a ≡ b
+same_some a b e = cc
+
+pub clients_turn : ClientTells → ClientDone
+    → (scripts : List (List Line)) (lines : List InputLine) (plans : List PlanModel) (before now : SceneModel Sight)
+    (owns : List Sight) (m : LineTurn) (left : List LineTurn) (sid number : ℕ)
+    → IsPlanned now.config scripts plans → (w : IsUnderWay scripts lines before now owns (m ∷ left))
+    → turn_of m ≡ turn.Client sid number → length (actions_of_turns (rounds scripts lines)) ≤ before.spare
+    → MayDoLine scripts plans now owns sid number
+clients_turn tells done scripts lines plans before now owns m left sid number planned w is room =
+    record {
+      in_owns = in_owns;
+      in_scripts = move.inside;
+      in_plans = subst (λ (n : ℕ). sid < n) (sym planned.plans_each) move.inside;
+      session = session;
+      glasses = subst (λ (gs : List Sight). sid < length gs) (sym w.same) in_owns;
+      here = slice_get_within (script_in scripts sid) number move.l move.here;
+      donation = member_donates now.config sid planned.configured session;
+      plan = planned.planned sid move.inside;
+      own = own_glass scripts lines before now owns m left sid number w move;
+      same = ap (λ (gs : List Sight). glass_in gs sid) w.same;
+      spare = λ call found. room_for scripts lines before now owns m left (Calls sid call) w (one call found) room;
+    }
+  where
+    move : IsClientsMove scripts w.front m sid number
+    move = clients_move tells done scripts lines before now owns m left sid number w is
+
+    in_owns : sid < length owns
+    in_owns = subst (λ (n : ℕ). sid < n) (sym w.owns_each) move.inside
+
+    session : sid < length now.config.clients
+    session = subst (λ (n : ℕ). sid < n) planned.sessions move.inside
+
+    one : (call : Call) → slice_get (script_in scripts sid) number ≡ Some (line.Call call)
+        → actions_of_line m.doing ≡ Calls sid call ∷ []
+    one call found =
+        let l : move.l ≡ line.Call call = same_some move.l (line.Call call) (sym move.here ∙ found) in
+        ap (λ (d : ActorLine). actions_of_line d) (move.doing ∙ ap (λ (x : Line). ByClient sid x) l)
+
+-- the same once what is stale of others was copied: the scene's glasses are the own ones, but for that of the session
+pub settled_turn : ClientTells → ClientDone
+    → (scripts : List (List Line)) (lines : List InputLine) (plans : List PlanModel) (before s s' : SceneModel Sight)
+    (owns : List Sight) (m : LineTurn) (left : List LineTurn) (sid number : ℕ)
+    → IsPlanned s.config scripts plans → IsUnderWay scripts lines before (settled s owns) owns (m ∷ left)
+    → s' ≡ record s { glasses = s'.glasses } → turn_of m ≡ turn.Client sid number
+    → length (actions_of_turns (rounds scripts lines)) ≤ before.spare
+    → MayDoLine scripts plans (settled s' owns) owns sid number
+settled_turn tells done scripts lines plans before s s' owns m left sid number planned w same is room =
+    clients_turn tells done scripts lines plans before (settled s' owns) owns m left sid number
+    (subst (λ (c : Configuration). IsPlanned c scripts plans) (sym (ap (λ (p : SceneModel Sight). p.config) same))
+    planned)
+    (subst (λ (p : SceneModel Sight). IsUnderWay scripts lines before p owns (m ∷ left))
+    (sym (ap (λ (p : SceneModel Sight). settled p owns) same)) w) is room
+
+-- the scene has a glass for each own one
+pub as_many : (glasses owns : List Sight) (sid : ℕ) (g : Sight) → set glasses sid g ≡ owns → sid < length owns
+    → sid < length glasses
+as_many glasses owns sid g others inside =
+    subst (λ (n : ℕ). sid < n) (sym (ap length others) ∙ length-set glasses sid g) inside
+
+-- what was loaded by equal glasses
+pub moved_settled : (e : State → Option Entry) (mid new : SceneModel Sight) (owns glasses owns' : List Sight)
+    → glasses ≡ owns' → IsMoved (e (state_now mid)) mid (record new { glasses = glasses })
+    → IsMoved (e (state_now (settled mid owns))) (settled mid owns) (settled new owns')
+moved_settled e mid new owns glasses owns' same moved =
+    let m : IsMoved (e (state_now mid)) mid (settled new owns') =
+    subst (λ (gs : List Sight). IsMoved (e (state_now mid)) mid (record new { glasses = gs })) same moved in
+    record { state = m.state; words = m.words }
+
+-- what is read from an equal list, under any default
+pub read_same : {X : Type 0} → (xs ys : List X) (k : ℕ) (d : X) → ys ≡ xs → k < length xs
+    → get_or ys k d ≡ get_or xs k (get_or ys k d)
+read_same {X = X} xs ys k d same inside = ap (λ (zs : List X). get_or zs k d) same
+    ∙ get_or_default xs k d (get_or ys k d) inside
+
+-- what stands in a list at a place is what was found there
+pub found_here : {X : Type 0} → (xs : List X) (k : ℕ) (x y : X) → slice_get xs k ≡ Some x → y ≡ get_or xs k y → x ≡ y
+found_here xs k x y found got = sym (get_or_from_slice_get xs k x y found) ∙ sym got
+
+-- ---- the user's turn
+
+-- all that the next line of the input script asks for
+pub record MayDoUserLine (lines : List InputLine) (scene : SceneModel Sight) (number : ℕ) : Type 0 where
+  pub here : number < length lines
+  pub spare : (l : InputLine) → l ≡ get_or lines number l → takes_place l ≡ true → 1 ≤ scene.spare
+
+-- what holds of each element holds of the one at a place
+pub each_at : {X : Type 0} (P : X → Type 0) (xs : List X) (k : ℕ) (d : X) → k < length xs → AllByRecursion P xs
+    → P (get_or xs k d)
+each_at P [] k d inside all = absurd (omega (arith, inside))
+each_at P (x ∷ xs) zero d inside all = all.0
+each_at P (x ∷ xs) (suc k) d inside all = each_at P xs k d (omega (arith, inside)) all.1
+
+-- a line that takes a place has one act
+one_act : (l : InputLine) → takes_place l ≡ true → (a : Action) × (actions_of_line (ByUser l) ≡ a ∷ [])
+one_act (input.Device dev) takes = (Acts (Does dev), refl)
+one_act input.Shot takes = (Acts Shoots, refl)
+one_act input.Phase takes = absurd (cc)
+
+pub users_turn : UserTells → UserDone
+    → (scripts : List (List Line)) (lines : List InputLine) (before now : SceneModel Sight) (owns : List Sight)
+    (m : LineTurn) (left : List LineTurn) (number : ℕ)
+    → (w : IsUnderWay scripts lines before now owns (m ∷ left)) → turn_of m ≡ turn.User number
+    → length (actions_of_turns (rounds scripts lines)) ≤ before.spare
+    → MayDoUserLine lines now number
+users_turn tells done scripts lines before now owns m left number w is room =
+    record {
+      here = slice_get_within lines number move.l move.here;
+      spare = λ l got takes.
+          let (a, one) = one_act l takes in
+          room_for scripts lines before now owns m left a w
+          (ap (λ (d : ActorLine). actions_of_line d) (move.doing
+          ∙ ap ByUser (found_here lines number move.l l move.here got)) ∙ one) room;
+    }
+  where
+    move : IsUsersMove lines m number
+    move = users_move tells done scripts lines before now owns m left number w is
+
+-- ---- the next turn
+
+-- a turn that comes next is that of the move in front
+pub front_move : (moves rest : List LineTurn) (result : Option Turn) (t : Turn)
+    → result ≡ option_map turn_of (slice_get moves 0) → rest ≡ drop 1 moves → result ≡ Some t
+    → (m : LineTurn) × (moves ≡ m ∷ rest) × (turn_of m ≡ t)
+front_move [] rest result t next left some = absurd (let e : None ≡ Some t = sym next ∙ some in cc)
+front_move (m ∷ moves) rest result t next left some =
+    (m, ap (λ (ms : List LineTurn). m ∷ ms) (sym left), let e : Some (turn_of m) ≡ Some t = sym next ∙ some in cc)

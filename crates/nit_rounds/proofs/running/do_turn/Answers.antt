@@ -1,0 +1,196 @@
+use Rattle.std.proofs.Common.{List, [], ap, arith, length, refl, set, subst, sym, ◌+◌, ◌<◌, ◌∙◌}
+use Rattle.std.proofs.Common.{◌∷◌}
+use Rattle.nit_rounds.proofs.Lemmas.{ByClient, ByUser, InputLine, IsBehind, IsPlanOf, IsShowing}
+use Rattle.nit_rounds.proofs.Lemmas.{IsUnderWay, Line, PlanModel, SceneModel, Sight, after_client}
+use Rattle.nit_rounds.proofs.Lemmas.{after_user, all_own, as_many, behind_again, clients_move}
+use Rattle.nit_rounds.proofs.Lemmas.{donation_of, entry_of, found_here, get_or_default, glass_after}
+use Rattle.nit_rounds.proofs.Lemmas.{glass_in, moved_settled, no_sight, read_same, script_in}
+use Rattle.nit_rounds.proofs.Lemmas.{settled, settled_turn, slice_get, slice_index_or, users_move}
+use Rattle.nit_rounds.proofs.Lemmas.{users_turn}
+use Rattle.nit_rounds.proofs.running.do_turn.Goals as goal
+
+-- ---- a client's turn
+
+pub bounds-owns-sid : goal.bounds-owns-sid
+bounds-owns-sid g c =
+    let (before, m, left, w, is, room) = c.requires.next in
+    let t = settled_turn c.turns_tell.ensures.client c.lines_done.ensures.client _ _ _ before c.args.scene.now
+    c.settle_others-stale.new.scene _ m left _ _ c.requires.planned w c.settle_others-stale.ensures.scene
+    (is ∙ c.in-Client.is) room in
+    t.in_owns
+
+pub bounds-parts-sid : goal.bounds-parts-sid
+bounds-parts-sid g c =
+    let (before, m, left, w, is, room) = c.requires.next in
+    let t = settled_turn c.turns_tell.ensures.client c.lines_done.ensures.client _ _ _ before c.args.scene.now
+    c.settle_others-stale.new.scene _ m left _ _ c.requires.planned w c.settle_others-stale.ensures.scene
+    (is ∙ c.in-Client.is) room in
+    t.in_scripts
+
+pub bounds-parts-sid-in-Client : goal.bounds-parts-sid-in-Client
+bounds-parts-sid-in-Client g c =
+    let (before, m, left, w, is, room) = c.requires.next in
+    let t = settled_turn c.turns_tell.ensures.client c.lines_done.ensures.client _ _ _ before c.args.scene.now
+    c.settle_others-stale.new.scene _ m left _ _ c.requires.planned w c.settle_others-stale.ensures.scene
+    (is ∙ c.in-Client.is) room in
+    t.in_plans
+
+pub client_line-requires-clause-session : goal.client_line-requires-clause-session
+client_line-requires-clause-session g c =
+    let (before, m, left, w, is, room) = c.requires.next in
+    let t = settled_turn c.turns_tell.ensures.client c.lines_done.ensures.client _ _ _ before c.args.scene.now
+    c.settle_others-stale.new.scene _ m left _ _ c.requires.planned w c.settle_others-stale.ensures.scene
+    (is ∙ c.in-Client.is) room in
+    t.session
+
+pub client_line-requires-clause-glasses : goal.client_line-requires-clause-glasses
+client_line-requires-clause-glasses g c =
+    let (before, m, left, w, is, room) = c.requires.next in
+    let t = settled_turn c.turns_tell.ensures.client c.lines_done.ensures.client _ _ _ before c.args.scene.now
+    c.settle_others-stale.new.scene _ m left _ _ c.requires.planned w c.settle_others-stale.ensures.scene
+    (is ∙ c.in-Client.is) room in
+    as_many c.settle_others-stale.new.scene.glasses c.args.owns.now c.in-Client.sid _
+    c.settle_others-stale.ensures.others t.in_owns
+
+pub client_line-requires-clause-line : goal.client_line-requires-clause-line
+client_line-requires-clause-line g c =
+    let (before, m, left, w, is, room) = c.requires.next in
+    let t = settled_turn c.turns_tell.ensures.client c.lines_done.ensures.client _ _ _ before c.args.scene.now
+    c.settle_others-stale.new.scene _ m left _ _ c.requires.planned w c.settle_others-stale.ensures.scene
+    (is ∙ c.in-Client.is) room in
+    subst (λ (ls : List Line). c.in-Client.line < length ls)
+    (get_or_default c.args.parts.scripts.now c.in-Client.sid [] c.index-parts-sid.result t.in_scripts) t.here
+
+pub client_line-requires-clause-donation : goal.client_line-requires-clause-donation
+client_line-requires-clause-donation g c =
+    let (before, m, left, w, is, room) = c.requires.next in
+    let t = settled_turn c.turns_tell.ensures.client c.lines_done.ensures.client _ _ _ before c.args.scene.now
+    c.settle_others-stale.new.scene _ m left _ _ c.requires.planned w c.settle_others-stale.ensures.scene
+    (is ∙ c.in-Client.is) room in
+    t.donation
+
+pub client_line-requires-clause-plan : goal.client_line-requires-clause-plan
+client_line-requires-clause-plan g c =
+    let (before, m, left, w, is, room) = c.requires.next in
+    let t = settled_turn c.turns_tell.ensures.client c.lines_done.ensures.client _ _ _ before c.args.scene.now
+    c.settle_others-stale.new.scene _ m left _ _ c.requires.planned w c.settle_others-stale.ensures.scene
+    (is ∙ c.in-Client.is) room in
+    let donation = donation_of c.settle_others-stale.new.scene.config c.in-Client.sid in
+    subst (λ (ls : List Line). IsPlanOf ls donation
+    (slice_index_or c.args.parts.plans.now c.in-Client.sid c.index-parts-sid-in-Client.result))
+    (get_or_default c.args.parts.scripts.now c.in-Client.sid [] c.index-parts-sid.result t.in_scripts)
+    (subst (λ (p : PlanModel). IsPlanOf (script_in c.args.parts.scripts.now c.in-Client.sid) donation p)
+    (get_or_default c.args.parts.plans.now c.in-Client.sid _ c.index-parts-sid-in-Client.result t.in_plans) t.plan)
+
+pub client_line-requires-clause-own : goal.client_line-requires-clause-own
+client_line-requires-clause-own g c =
+    let (before, m, left, w, is, room) = c.requires.next in
+    let t = settled_turn c.turns_tell.ensures.client c.lines_done.ensures.client _ _ _ before c.args.scene.now
+    c.settle_others-stale.new.scene _ m left _ _ c.requires.planned w c.settle_others-stale.ensures.scene
+    (is ∙ c.in-Client.is) room in
+    get_or_default c.args.owns.now c.in-Client.sid _ no_sight t.in_owns ∙ t.own
+    ∙ ap (λ (ls : List Line). glass_after c.in-Client.sid ls
+    (donation_of c.settle_others-stale.new.scene.config c.in-Client.sid) c.in-Client.line)
+    (get_or_default c.args.parts.scripts.now c.in-Client.sid [] c.index-parts-sid.result t.in_scripts)
+
+pub client_line-requires-clause-behind : goal.client_line-requires-clause-behind
+client_line-requires-clause-behind g c =
+    let (before, m, left, w, is, room) = c.requires.next in
+    let t = settled_turn c.turns_tell.ensures.client c.lines_done.ensures.client _ _ _ before c.args.scene.now
+    c.settle_others-stale.new.scene _ m left _ _ c.requires.planned w c.settle_others-stale.ensures.scene
+    (is ∙ c.in-Client.is) room in
+    subst (λ (g : Sight). IsBehind c.settle_others-stale.result c.in-Client.sid
+    (glass_in c.settle_others-stale.new.scene.glasses c.in-Client.sid) g)
+    (get_or_default c.args.owns.now c.in-Client.sid no_sight _ t.in_owns) c.settle_others-stale.ensures.behind
+
+pub client_line-requires-clause-spare : goal.client_line-requires-clause-spare
+client_line-requires-clause-spare g c =
+    let (before, m, left, w, is, room) = c.requires.next in
+    let t = settled_turn c.turns_tell.ensures.client c.lines_done.ensures.client _ _ _ before c.args.scene.now
+    c.settle_others-stale.new.scene _ m left _ _ c.requires.planned w c.settle_others-stale.ensures.scene
+    (is ∙ c.in-Client.is) room in
+    λ call found. t.spare call (ap (λ (ls : List Line). slice_get ls c.in-Client.line)
+    (get_or_default c.args.parts.scripts.now c.in-Client.sid [] c.index-parts-sid.result t.in_scripts) ∙ found)
+
+pub returns-in-Client-clause-behind : goal.returns-in-Client-clause-behind
+returns-in-Client-clause-behind g c =
+    let (before, m, left, w, is, room) = c.requires.next in
+    let t = settled_turn c.turns_tell.ensures.client c.lines_done.ensures.client _ _ _ before c.args.scene.now
+    c.settle_others-stale.new.scene _ m left _ _ c.requires.planned w c.settle_others-stale.ensures.scene
+    (is ∙ c.in-Client.is) room in
+    behind_again c.client_line.result c.settle_others-stale.new.scene.glasses c.client_line.new.scene.glasses
+    c.args.owns.now _ c.in-Client.sid _ c.client_line.new.own t.in_owns
+    c.settle_others-stale.ensures.others c.client_line.ensures.glasses refl c.client_line.ensures.behind
+
+pub returns-in-Client-clause-way : goal.returns-in-Client-clause-way
+returns-in-Client-clause-way g c before m left first p is =
+    let mid = c.settle_others-stale.new.scene in
+    let new = c.client_line.new.scene in
+    let owns = c.args.owns.now in
+    let own' = c.client_line.new.own in
+    let sid = c.in-Client.sid in
+    let all = all_own mid.glasses new.glasses owns (set owns sid own') sid _ own' c.settle_others-stale.ensures.others
+    c.client_line.ensures.glasses refl in
+    let there = ap (λ (s : SceneModel Sight). settled s owns) c.settle_others-stale.ensures.scene in
+    let p' = subst (λ (s : SceneModel Sight). IsShowing g.V.Viewer.shows c.args.parts.scripts.now c.args.parts.input.now
+    before s owns (m ∷ left) first c.args.viewer.now) (sym there) p in
+    let move = clients_move c.turns_tell.ensures.client c.lines_done.ensures.client _ _ before _ _ m left _ _ p'.way
+    (is ∙ c.in-Client.is) in
+    let script = get_or_default c.args.parts.scripts.now sid c.index-parts-sid.result [] move.inside in
+    let here = ap (λ (ls : List Line). slice_get ls c.in-Client.line) script ∙ move.here in
+    after_client g.V.Viewer.shows _ _ before (settled mid owns) (settled new (set owns sid own')) owns _ m left sid
+    c.in-Client.line own' first _ p' move refl
+    (c.client_line.ensures.own ∙ ap
+    (λ (ls : List Line). glass_after sid ls (donation_of mid.config sid) (c.in-Client.line + 1)) script)
+    refl c.client_line.ensures.config c.client_line.ensures.«open» c.client_line.ensures.spare
+    (c.client_line.ensures.recorded move.l here)
+    (moved_settled (λ s. entry_of s (ByClient sid move.l)) mid new owns (set new.glasses sid own')
+    (set owns sid own') all (c.client_line.ensures.moved move.l here))
+
+-- ---- the user's turn
+
+pub bounds-lines-line : goal.bounds-lines-line
+bounds-lines-line g c =
+    let (before, m, left, w, is, room) = c.requires.next in
+    let w' = subst (λ (s : SceneModel Sight). IsUnderWay c.args.parts.scripts.now c.args.parts.input.now before s
+    c.args.owns.now (m ∷ left)) (sym c.settle.ensures) w in
+    let t = users_turn c.turns_tell.ensures.user c.lines_done.ensures.user _ _ before _ _ m left _ w'
+    (is ∙ c.in-User.is) room in
+    subst (λ (ls : List InputLine). c.in-User.line < length ls) (sym c.lines.ensures.value) t.here
+
+pub offset_bounds-lines-line : goal.offset_bounds-lines-line
+offset_bounds-lines-line g c =
+    let here = bounds-lines-line g c in
+    omega (arith, here, c.lines.ensures.length)
+
+pub user_line-requires-clause-spare : goal.user_line-requires-clause-spare
+user_line-requires-clause-spare g c takes =
+    let (before, m, left, w, is, room) = c.requires.next in
+    let w' = subst (λ (s : SceneModel Sight). IsUnderWay c.args.parts.scripts.now c.args.parts.input.now before s
+    c.args.owns.now (m ∷ left)) (sym c.settle.ensures) w in
+    let t = users_turn c.turns_tell.ensures.user c.lines_done.ensures.user _ _ before _ _ m left _ w'
+    (is ∙ c.in-User.is) room in
+    t.spare _ (read_same c.args.parts.input.now c.lines.result.now c.in-User.line _ c.lines.ensures.value t.here) takes
+
+pub returns-in-User-clause-way : goal.returns-in-User-clause-way
+returns-in-User-clause-way g c before m left first p is =
+    let owns = c.args.owns.now in
+    let new = c.user_line.new.scene in
+    let last = c.user_line.new.viewer in
+    let p' = subst (λ (s : SceneModel Sight). IsShowing g.V.Viewer.shows c.args.parts.scripts.now c.args.parts.input.now
+    before s owns (m ∷ left) first c.args.viewer.now) (sym c.settle.ensures) p in
+    let (before', m', left', w', is', room) = c.requires.next in
+    let w'' = subst (λ (s : SceneModel Sight). IsUnderWay c.args.parts.scripts.now c.args.parts.input.now before' s owns
+    (m' ∷ left')) (sym c.settle.ensures) w' in
+    let t = users_turn c.turns_tell.ensures.user c.lines_done.ensures.user _ _ before' _ _ m' left' _ w''
+    (is' ∙ c.in-User.is) room in
+    let same = read_same c.args.parts.input.now c.lines.result.now c.in-User.line _ c.lines.ensures.value t.here in
+    let move = users_move c.turns_tell.ensures.user c.lines_done.ensures.user _ _ before _ _ m left _ p'.way
+    (is ∙ c.in-User.is) in
+    let does = c.user_line.ensures in
+    let glasses = does.glasses ∙ ap (λ (s : SceneModel Sight). s.glasses) c.settle.ensures in
+    subst (λ (s : SceneModel Sight). IsShowing g.V.Viewer.shows c.args.parts.scripts.now c.args.parts.input.now before s
+    owns left first last) (ap (λ (gs : List Sight). record new { glasses = gs }) glasses)
+    (after_user g.V.Viewer.shows _ _ before c.settle.new.scene new owns m left _ first _ _ p' (move.doing
+    ∙ ap ByUser (found_here c.args.parts.input.now c.in-User.line move.l _ move.here same))
+    does.glasses does.config does.«open» does.spare does.recorded does.moved does.shown)

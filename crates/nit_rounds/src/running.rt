@@ -1,0 +1,264 @@
+//! A run by rounds, on one thread.
+
+ghost use Rattle.std.specs.Prelude.{true, ◌≡◌, ◌+◌, ◌-◌, ◌*◌, ◌<◌, ◌≤◌, ◌++◌, ◌∷◌, [], List, None};
+ghost use Rattle.nit_rounds.specs.Terms.{AreBehind, AreQuiet, AreQuietBut, ByClient, ByUser};
+ghost use Rattle.nit_rounds.specs.Terms.{FitsInputLine, IsBehind, IsDevice, IsDonation, IsGlass};
+ghost use Rattle.nit_rounds.specs.Terms.{IsMoved, IsOpen, IsPlanOf, IsPlanned, IsRecorded};
+ghost use Rattle.nit_rounds.specs.Terms.{IsRoundsRun, IsSetUp, IsShowing, IsUnderWay};
+ghost use Rattle.nit_rounds.specs.Terms.{IsUserRecorded, Line, LineTurn, Option, PutsShots};
+ghost use Rattle.nit_rounds.specs.Terms.{SceneModel, ShowsEach, ShowsLine, Sight, Some};
+ghost use Rattle.nit_rounds.specs.Terms.{actions_of_turns, donation_of, entry_of, glass_after};
+ghost use Rattle.nit_rounds.specs.Terms.{glass_in, length, picture_length, put_state_of_desk};
+ghost use Rattle.nit_rounds.specs.Terms.{rounds, settled, shot_frames_of, slice_get, slice_set};
+ghost use Rattle.nit_rounds.specs.Terms.{state_now, takes_place, turn_of};
+ghost use Rattle.nit_events.specs.declared.call.Call.{Call as CallOf};
+ghost use Rattle.nit_events.specs.declared.call.Reply.{Reply as ReplyOf};
+ghost use Rattle.nit_events.specs.declared.event.Routed.{Routed as RoutedOf};
+ghost use Rattle.nit_events.specs.declared.entry.Entry.TheVariants as entry;
+ghost use Rattle.nit_script.specs.declared.line.Line.TheVariants as lines;
+ghost use Rattle.nit_script.specs.declared.line.InputLine.TheVariants as inputs;
+
+use crate::desk::Desk;
+use crate::drawing::draw_line;
+use crate::laws::{each_line_once, lines_done, turns_tell};
+use crate::part::Part;
+use crate::stale::{Stale, settle, settle_others};
+use crate::turn::Turn;
+use crate::turns::Turns;
+use crate::viewer::Viewer;
+use nit_events::{Call, Device};
+use nit_hall::Parts;
+use nit_journal::laws::one_more_entry;
+use nit_plan::laws::{buffer_within_table, one_more_line};
+use nit_scene::Scene;
+use nit_script::{InputLine, Line};
+use nit_store::Store;
+use nit_word::Inked;
+
+/// Does the line of this number of a client's script, and gives what is stale then, of its session
+/// alone. What it draws is made on the session's own glass; then a call is a call of the scene, by
+/// the own glass.
+fn client_line(
+    scene: &mut Scene<Inked>,
+    own: &mut Inked,
+    part: Part<'_>,
+    line: usize,
+    stale: Option<Stale>,
+) -> Option<Stale>
+    requires session { part.sid < length scene.old.config.clients }
+    requires glasses { part.sid < length scene.old.glasses }
+    requires line { line < length part.script.now }
+    requires donation { IsDonation (donation_of scene.old.config part.sid) }
+    requires plan { IsPlanOf part.script.now (donation_of scene.old.config part.sid) part.plan.now }
+    requires own { own.old
+        ≡ glass_after part.sid part.script.now (donation_of scene.old.config part.sid) line }
+    requires behind { IsBehind stale part.sid (glass_in scene.old.glasses part.sid) own.old }
+    requires quiet { AreQuietBut part.sid scene.old.glasses }
+    requires spare { (call : CallOf) → slice_get part.script.now line ≡ Some (lines.Call call)
+        → 1 ≤ scene.old.spare }
+    requires open { IsOpen scene.old.entries }
+    ensures own { own.new
+        ≡ glass_after part.entry.sid part.entry.script.now
+        (donation_of scene.old.config part.entry.sid) (line + 1) }
+    ensures glasses { scene.new.glasses
+        ≡ slice_set scene.old.glasses part.entry.sid (glass_in scene.new.glasses part.entry.sid) }
+    ensures behind { IsBehind result part.entry.sid
+        (glass_in scene.new.glasses part.entry.sid) own.new }
+    ensures config { scene.new.config ≡ scene.old.config }
+    ensures open { IsOpen scene.new.entries }
+    ensures spare { length scene.new.entries + scene.new.spare
+        ≡ length scene.old.entries + scene.old.spare }
+    ensures recorded { (l : Line) → slice_get part.entry.script.now line ≡ Some l
+        → IsRecorded part.entry.sid l scene.old.entries scene.new.entries }
+    ensures moved { (l : Line) → slice_get part.entry.script.now line ≡ Some l
+        → IsMoved (entry_of (state_now scene.old) (ByClient part.entry.sid l)) scene.old
+        (record scene.new { glasses = slice_set scene.new.glasses part.entry.sid own.new }) }
+{
+    buffer_within_table();
+    let stale = draw_line(scene, own, part, line, stale);
+    if let Line::Call(call) = &part.script.lines()[line] {
+        call_scene(scene, own, part.sid, call);
+    }
+    stale
+}
+
+/// A session's call of the scene, by the session's own glass.
+fn call_scene(scene: &mut Scene<Inked>, own: &mut Inked, sid: u32, call: &Call)
+    requires session { sid < length scene.old.config.clients }
+    requires glasses { sid < length scene.old.glasses }
+    requires own { IsGlass scene.old.config sid own.old }
+    requires quiet_own { own.old.log ≡ None }
+    requires quiet { AreQuietBut sid scene.old.glasses }
+    requires spare { 1 ≤ scene.old.spare }
+    requires open { IsOpen scene.old.entries }
+    ensures own { own.new ≡ own.old }
+    ensures glasses { scene.new.glasses ≡ scene.old.glasses }
+    ensures config { scene.new.config ≡ scene.old.config }
+    ensures open { IsOpen scene.new.entries }
+    ensures spare { scene.new.spare ≡ scene.old.spare - 1 }
+    ensures recorded { (r : ReplyOf)
+        × (scene.new.entries ≡ scene.old.entries ++ entry.Call sid call.now r ∷ []) }
+    ensures moved { IsMoved (entry_of (state_now scene.old) (ByClient sid (lines.Call call.now)))
+        scene.old (record scene.new { glasses = slice_set scene.new.glasses sid own.new }) }
+{
+    one_more_entry();
+    let _ = scene.call(sid, call, own);
+}
+
+/// Does a line of the input script: what a device did and a shot are events of the scene.
+fn user_line<V: Viewer>(scene: &mut Scene<Inked>, line: &InputLine, viewer: &mut V)
+    requires fits { FitsInputLine line.now }
+    requires quiet { AreQuiet scene.old.glasses }
+    requires spare { takes_place line.now ≡ true → 1 ≤ scene.old.spare }
+    requires open { IsOpen scene.old.entries }
+    requires viewer { V.fits scene.old.config.width scene.old.config.height viewer.old }
+    ensures glasses { scene.new.glasses ≡ scene.old.glasses }
+    ensures config { scene.new.config ≡ scene.old.config }
+    ensures open { IsOpen scene.new.entries }
+    ensures spare { length scene.new.entries + scene.new.spare
+        ≡ length scene.old.entries + scene.old.spare }
+    ensures recorded { IsUserRecorded line.now scene.old.entries scene.new.entries }
+    ensures moved { IsMoved (entry_of (state_now scene.old) (ByUser line.now)) scene.old scene.new }
+    ensures shown { ShowsLine V.shows line.now scene.old viewer.old viewer.new }
+    ensures viewer { V.fits scene.old.config.width scene.old.config.height viewer.new }
+{
+    one_more_entry();
+    match line {
+        InputLine::Device(dev) => serve_device(scene, *dev),
+        InputLine::Shot => viewer.shoot(scene),
+        InputLine::Phase => {}
+    }
+}
+
+/// Serves what a device did. No glass of the scene tells a log, so the glasses stay as they are.
+fn serve_device(scene: &mut Scene<Inked>, dev: Device)
+    requires device { IsDevice dev }
+    requires quiet { AreQuiet scene.old.glasses }
+    requires spare { 1 ≤ scene.old.spare }
+    requires open { IsOpen scene.old.entries }
+    ensures glasses { scene.new.glasses ≡ scene.old.glasses }
+    ensures config { scene.new.config ≡ scene.old.config }
+    ensures open { IsOpen scene.new.entries }
+    ensures spare { scene.new.spare ≡ scene.old.spare - 1 }
+    ensures recorded { (routed : RoutedOf)
+        × (scene.new.entries ≡ scene.old.entries ++ entry.Input dev routed ∷ []) }
+    ensures moved { IsMoved
+        (entry_of (state_now scene.old) (ByUser (inputs.Device dev))) scene.old scene.new }
+{
+    one_more_entry();
+    let _ = scene.input(dev);
+}
+
+/// Does the line of a turn, and gives what is stale then.
+fn do_turn<V: Viewer>(
+    scene: &mut Scene<Inked>,
+    owns: &mut [Inked],
+    parts: Parts<'_>,
+    viewer: &mut V,
+    stale: Option<Stale>,
+    turn: Turn,
+) -> Option<Stale>
+    requires planned { IsPlanned scene.old.config parts.scripts.now parts.plans.now }
+    requires viewer { V.fits scene.old.config.width scene.old.config.height viewer.old }
+    requires behind { AreBehind stale scene.old.glasses owns.old }
+    requires next { (before : SceneModel Sight) × (m : LineTurn) × (left : List LineTurn)
+        × IsUnderWay parts.scripts.now parts.input.now before (settled scene.old owns.old)
+        owns.old (m ∷ left)
+        × (turn_of m ≡ turn)
+        × (length (actions_of_turns (rounds parts.scripts.now parts.input.now)) ≤ before.spare) }
+    ensures behind { AreBehind result scene.new.glasses owns.new }
+    ensures way { (before : SceneModel Sight) (m : LineTurn) (left : List LineTurn) (first : V)
+        → IsShowing V.shows parts.entry.scripts.now parts.entry.input.now before
+        (settled scene.old owns.old) owns.old (m ∷ left) first viewer.old
+        → turn_of m ≡ turn
+        → IsShowing V.shows parts.entry.scripts.now parts.entry.input.now before
+        (settled scene.new owns.new) owns.new left first viewer.new }
+    ensures viewer { V.fits scene.old.config.width scene.old.config.height viewer.new }
+{
+    lines_done();
+    turns_tell();
+    one_more_entry();
+    match turn {
+        Turn::Client { sid, line } => {
+            let stale = settle_others(scene, owns, stale, sid);
+            let own = &mut owns[sid as usize];
+            let script = &parts.scripts[sid as usize];
+            let plan = &parts.plans[sid as usize];
+            let part = Part { sid, script, plan };
+            client_line(scene, own, part, line, stale)
+        }
+        Turn::User { line } => {
+            settle(scene, owns, stale);
+            user_line(scene, &parts.input.lines()[line], viewer);
+            None
+        }
+    }
+}
+
+/// Does all lines of the scripts by rounds, on the calling thread. The scene has no entry, and room
+/// for one for each call, device event and shot. For each session, in order, there are its script,
+/// its plan, and its own glass, which is equal to the scene's and on which no line is done.
+///
+/// Each stroke, and each clearing of an accepted `buffer` line, is made on the own glass, and
+/// stands on the scene's too at the end. The frame of each shot is shown to the viewer. It is what
+/// the scripts have drawn by then, so it depends on the configuration and the scripts alone. The
+/// last picture is not taken.
+pub fn run_viewed<V: Viewer>(
+    scene: &mut Scene<Inked>,
+    owns: &mut [Inked],
+    parts: Parts<'_>,
+    viewer: &mut V,
+)
+    requires set_up { IsSetUp scene.old.config parts.scripts.now parts.plans.now
+        scene.old.glasses owns.old }
+    requires entries { scene.old.entries ≡ [] }
+    requires spare { length (actions_of_turns (rounds parts.scripts.now parts.input.now))
+        ≤ scene.old.spare }
+    requires viewer { V.fits scene.old.config.width scene.old.config.height viewer.old }
+    ensures run { IsRoundsRun parts.entry.scripts.now parts.entry.input.now scene.old scene.new
+        owns.new }
+    ensures shown { ShowsEach V.shows
+        (shot_frames_of scene.old.config parts.entry.scripts.now parts.entry.input.now)
+        viewer.old viewer.new }
+    ensures viewer { V.fits scene.old.config.width scene.old.config.height viewer.new }
+{
+    each_line_once();
+    one_more_line();
+    let _ = scene.size();
+    let _ = scene.journal();
+    let mut turns = Turns::new(parts.scripts, parts.input);
+    let mut stale = None;
+    'lines: while let Some(turn) = turns.next() {
+        stale = do_turn(scene, owns, parts, viewer, stale, turn);
+    }
+    settle(scene, owns, stale);
+    let _ = scene.journal();
+}
+
+/// The same, with a desk that puts the picture of each shot until a put is refused. The desk's text
+/// has a byte for each of a picture. Its frame is not used.
+pub fn run_rounds<S: Store>(
+    scene: &mut Scene<Inked>,
+    owns: &mut [Inked],
+    parts: Parts<'_>,
+    desk: &mut Desk<S>,
+)
+    requires set_up { IsSetUp scene.old.config parts.scripts.now parts.plans.now
+        scene.old.glasses owns.old }
+    requires entries { scene.old.entries ≡ [] }
+    requires spare { length (actions_of_turns (rounds parts.scripts.now parts.input.now))
+        ≤ scene.old.spare }
+    requires text { length desk.old.text.items
+        ≡ picture_length scene.old.config.width scene.old.config.height }
+    ensures run { IsRoundsRun parts.entry.scripts.now parts.entry.input.now scene.old scene.new
+        owns.new }
+    ensures shots { PutsShots scene.old.config parts.entry.scripts.now
+        (rounds parts.entry.scripts.now parts.entry.input.now)
+        (put_state_of_desk (S.shown desk.old.store.now) desk.old.fault desk.old.tried)
+        (put_state_of_desk (S.shown desk.new.store.now) desk.new.fault desk.new.tried) }
+    ensures frame { length desk.new.frame.items ≡ length desk.old.frame.items }
+    ensures text { length desk.new.text.items ≡ length desk.old.text.items }
+    ensures same_store { desk.new.store.ghost_name ≡ desk.old.store.ghost_name }
+{
+    run_viewed(scene, owns, parts, desk);
+}
