@@ -1,7 +1,6 @@
-/* Processes and the seats that they sit on. Not proved.
- *
- * A label is what the host's words say, never what a client says of itself. A client knows its
- * socket and nothing else of the host: no other descriptor, no environment. */
+/* Processes and the seats that they sit on. Not proved. A label is what the host's words say, never
+ * what a client says of itself. A client knows its socket and nothing else of the host: no other
+ * descriptor, no environment. */
 #include "host.h"
 #include "protocol.h"
 #include <errno.h>
@@ -16,17 +15,13 @@
 
 /* ---- Starting */
 
-/* What a client has of the host: this socket and the standard error. 0, or why it cannot be so. */
-static int lend(posix_spawn_file_actions_t *actions, int socket)
+/* What a client has of the host: this socket and the standard error. False where memory ends. */
+static bool lend(posix_spawn_file_actions_t *actions, int socket)
 {
-    int refused = posix_spawn_file_actions_addopen(actions, 0, "/dev/null", O_RDONLY, 0);
-    if (!refused)
-        refused = posix_spawn_file_actions_addopen(actions, 1, "/dev/null", O_WRONLY, 0);
-    if (!refused)
-        refused = posix_spawn_file_actions_adddup2(actions, socket, PROTOCOL_SOCKET);
-    if (!refused)
-        refused = posix_spawn_file_actions_addclosefrom_np(actions, PROTOCOL_SOCKET + 1);
-    return refused;
+    return posix_spawn_file_actions_addopen(actions, 0, "/dev/null", O_RDONLY, 0) == 0 &&
+           posix_spawn_file_actions_addopen(actions, 1, "/dev/null", O_WRONLY, 0) == 0 &&
+           posix_spawn_file_actions_adddup2(actions, socket, PROTOCOL_SOCKET) == 0 &&
+           posix_spawn_file_actions_addclosefrom_np(actions, PROTOCOL_SOCKET + 1) == 0;
 }
 
 /* Starts a program with this socket, the standard error and nothing else. Its number, or 0. */
@@ -43,9 +38,8 @@ static pid_t spawn(const char *program, int socket)
     posix_spawnattr_init(&attributes);
     posix_spawnattr_setflags(&attributes, POSIX_SPAWN_SETSIGMASK);
     posix_spawnattr_setsigmask(&attributes, &none);
-    int refused = lend(&actions, socket);
-    if (!refused)
-        refused = posix_spawn(&process, program, &actions, &attributes, words, nothing);
+    int refused = !lend(&actions, socket) ? ENOMEM :
+        posix_spawn(&process, program, &actions, &attributes, words, nothing);
     posix_spawnattr_destroy(&attributes);
     posix_spawn_file_actions_destroy(&actions);
     errno = refused;

@@ -1,9 +1,8 @@
 /* A host of the Nitpicker core: a window on the desk, whose clients are processes.
  *
  * THIS PROGRAM IS AN EXAMPLE, AND NOT PROVED. What is proved is the library below it, and who sees
- * and gets what is decided there: which pixel is whose, what the modes show, to whom a key or a
- * click goes, what a client's call may do. Here is what a library cannot do: a window, the
- * devices, processes and their sockets.
+ * and gets what is decided there: whose a pixel is, what the modes show, where a key or a click
+ * goes, what a call may do. Here is the rest: a window, devices, processes and their sockets.
  *
  *     window [--size=WxH] [--xray=KEY] [--kill=KEY] [^]NAME=PROGRAM ... (see README.md) */
 #include "host.h"
@@ -96,11 +95,9 @@ static bool open_signals(struct host *host)
     sigaddset(&some, SIGCHLD);
     sigaddset(&some, SIGTERM);
     sigaddset(&some, SIGINT);
-    if (sigprocmask(SIG_BLOCK, &some, NULL) < 0)
-        return false;
-    host->signals = signalfd(-1, &some, SFD_CLOEXEC | SFD_NONBLOCK);
     host->listens = true;
-    return host->signals >= 0;
+    host->signals = signalfd(-1, &some, SFD_CLOEXEC | SFD_NONBLOCK);
+    return sigprocmask(SIG_BLOCK, &some, NULL) == 0 && host->signals >= 0;
 }
 
 /* ---- A turn */
