@@ -9,6 +9,7 @@ mod Rows
 mod Beginnings
 mod Inputs
 mod ActLemmas
+mod Clicks
 mod Seatings
 mod Refreshing
 mod Areas
