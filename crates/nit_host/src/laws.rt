@@ -1,4 +1,5 @@
-//! Laws of a host's whole life, over plain lists of what it is asked.
+//! Laws of a host's whole life, over plain lists of what it is asked, and of the words that it
+//! shows.
 
 ghost use Rattle.std.specs.Prelude.{All, ◌≡◌, ◌≢◌, ◌∷◌, ◌++◌, ◌<◌, ◌≤◌, ◌+◌, ◌*◌, ◌/◌, ◌%◌};
 ghost use Rattle.std.specs.Prelude.{◌^◌, ◌⊎◌, ◌-ℤ◌, List, [], length, slice_index, None, Some};
@@ -8,12 +9,17 @@ ghost use Rattle.nit_host.specs.Acts.{after_act, after_acts, steps_of};
 ghost use Rattle.nit_host.specs.Terms.{HostModel, deliveries_of, is_accepted, picture, pixel};
 ghost use Rattle.nit_host.specs.Terms.{pixel_count, reply_to, routed_of, session, sheet_in};
 ghost use Rattle.nit_host.specs.Terms.{source_at, unseated, unserved_refresh};
+ghost use Rattle.nit_host.specs.Words.{IsInPart, word_of};
+ghost use Rattle.nit_word.specs.Channels.{bare_word};
+ghost use Rattle.nit_stack.specs.Sources.{Black, Word};
+ghost use Rattle.nit_stack.specs.declared.view.View.{View};
 ghost use Rattle.nit_journal.specs.Terms.{AreLive, AreSteps, Call, Delivery, Device, Flat, Gets};
 ghost use Rattle.nit_journal.specs.Terms.{IsDown, IsLive, Kill, KillsPointed, Observation};
 ghost use Rattle.nit_journal.specs.Terms.{TellsFocus, Xray, after_steps, first_input, is_button};
 ghost use Rattle.nit_journal.specs.Terms.{is_held, is_key, opening_of, owner_of, projection};
 ghost use Rattle.nit_journal.specs.Terms.{replies_from, replies_to, since_opening, to};
 ghost use Rattle.nit_journal.specs.Terms.{under_pointer};
+ghost use Rattle.nit_events.specs.declared.call.Call.TheVariants as call;
 ghost use Rattle.nit_events.specs.declared.device.Device.TheVariants as device;
 ghost use Rattle.nit_events.specs.declared.event.Event.TheVariants as event;
 ghost use Rattle.nit_events.specs.declared.event.Item.TheVariants as item;
@@ -106,3 +112,55 @@ pub fn input_goes_where_it_is_meant()
     nit_journal::laws::input_goes_where_it_is_meant();
     input_goes_where_it_is_meant_along_steps();
 }
+
+/// What a client has handed in, word by word. A refresh that is served and accepted sets the words
+/// of the part, each by its index in the buffer, to the low three bytes of those that stand there,
+/// and no other word of any seat; one that is refused sets none. Neither does a call, what the user
+/// does, or a look. A client that comes finds each of its words 0, and no other seat's changed.
+///
+/// A seat has at least the words of its buffer ([`Host::buffer`](crate::Host::buffer)).
+pub fn words_are_those_handed_in()
+    ensures handed { (h : HostModel) (seat : ℕ) (x y : ℤ) (w height : ℕ) (words : List ℕ) (i j : ℕ)
+        → unserved_refresh h seat words ≡ None
+        → is_accepted (reply_to h seat (call.Refresh x y w height)) ≡ true
+        → let s = session h.state seat in
+        s.bw * s.bh ≤ length (sheet_in h.sheets seat) → IsInPart s x y w height i j
+        → word_of (after_act h (Refreshes seat x y w height words)) seat (j * s.bw + i)
+        ≡ slice_index words (j * s.bw + i) % 2 ^ 24 }
+    ensures others { (h : HostModel) (seat : ℕ) (x y : ℤ) (w height : ℕ) (words : List ℕ) (t n : ℕ)
+        → let s = session h.state seat in
+        (t ≡ seat → (i j : ℕ) → IsInPart s x y w height i j → n ≢ j * s.bw + i)
+        → word_of (after_act h (Refreshes seat x y w height words)) t n ≡ word_of h t n }
+    ensures refused { (h : HostModel) (seat : ℕ) (x y : ℤ) (w height : ℕ) (words : List ℕ)
+        → is_accepted (reply_to h seat (call.Refresh x y w height)) ≡ false
+        → (after_act h (Refreshes seat x y w height words)).sheets ≡ h.sheets }
+    ensures calls { (h : HostModel) (seat : ℕ) (call : Call)
+        → (after_act h (Calls seat call)).sheets ≡ h.sheets }
+    ensures user { (h : HostModel) (dev : Device) → (after_act h (Does dev)).sheets ≡ h.sheets }
+    ensures looks { (h : HostModel) → (after_act h Looks).sheets ≡ h.sheets }
+    ensures comes { (h : HostModel) (seat : ℕ) (label : List ℕ) (n : ℕ)
+        → unseated h seat label ≡ None → word_of (after_act h (Comes seat label)) seat n ≡ 0 }
+    ensures stay { (h : HostModel) (seat : ℕ) (label : List ℕ) (t n : ℕ)
+        → t ≢ seat → word_of (after_act h (Comes seat label)) t n ≡ word_of h t n }
+{}
+
+/// Which of these words each pixel shows, before the mode lays anything over it. Where a view is
+/// the front-most one at a pixel below the bar, that is the word of the view's seat at the place of
+/// its buffer which lies under the pixel, by column and row: counted from the view's corner, and
+/// moved by its offset. It is 0 where the buffer does not reach, and the bare word where no view
+/// is.
+pub fn pixels_show_words_of_their_seats()
+    ensures source { (h : HostModel) (k seat n : ℕ) → k < pixel_count h.state
+        → source_at h.state k ≡ Word seat n → slice_index (picture h) k ≡ word_of h seat n }
+    ensures shown { (h : HostModel) (k i j : ℕ) (v : View) → k < pixel_count h.state
+        → let width = h.state.config.width in let s = session h.state v.sid in
+        owner_of h.state (pixel width k) ≡ Some v
+        → (pos (k % width) -ℤ v.rect.x) -ℤ v.ox ≡ pos i → i < s.bw
+        → (pos (k / width) -ℤ v.rect.y) -ℤ v.oy ≡ pos j → j < s.bh
+        → slice_index (picture h) k ≡ word_of h v.sid (j * s.bw + i) }
+    ensures black { (h : HostModel) (k : ℕ) → k < pixel_count h.state
+        → source_at h.state k ≡ Black → slice_index (picture h) k ≡ 0 }
+    ensures bare { (h : HostModel) (k : ℕ) → k < pixel_count h.state
+        → owner_of h.state (pixel h.state.config.width k) ≡ None
+        → slice_index (picture h) k ≡ bare_word }
+{}
