@@ -36,6 +36,7 @@ impl Host {
         self.desktop.exchange(seat, own);
         own.wipe();
         self.desktop.reopen(seat, label, own);
+        own.hollow_out();
         self.changed = self.changed.join(&part);
         self.last = None;
         Ok(())

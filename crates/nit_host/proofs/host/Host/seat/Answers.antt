@@ -61,12 +61,14 @@ invariant_of-self c =
     subst (λ (h : HostModel). (session h.state c.args.seat).status ≢ status.Live) (sym c.self.view_is) may.over in
     let o = c.reopen.ensures in
     let done = was_seated d c.exchange.new.self c.reopen.new.self c.self.inside.hollows.items c.args.seat c.args.label
-    c.index_mut-own.result.now c.exchange.new.glass c.wipe.new.self c.reopen.new.glass c.self.inside.last _
+    c.index_mut-own.result.now c.exchange.new.glass c.wipe.new.self c.reopen.new.glass
+    c.hollow_out.new.self c.self.inside.last _
     c.self.invariant.0 inside c.facts.ensures.live over c.exchange.ensures.desktop
     (there_at c.self.inside.hollows.items c.args.seat c.index_mut-own.result.now c.index_mut-own.ensures.value
     (omega (arith, inside, hollows.count)))
     c.exchange.ensures.out c.wipe.ensures.sight c.wipe.ensures.room
     (record { state = o.state; left = o.left; raw = o.raw; sights_now = o.sights; rooms_now = o.rests; out = o.out })
+    c.hollow_out.ensures.sight c.hollow_out.ensures.room
     c.openings_keep_all.ensures.sources c.args.self.now c.self.view_is in
     let config = ap (λ (t : State). t.config) o.state
     ∙ ap (λ (x : DesktopModel SheetModel). relabelled c.args.seat c.args.label x.state.config)
@@ -97,12 +99,14 @@ returns-clause-seated c = λ _.
     subst (λ (h : HostModel). (session h.state c.args.seat).status ≢ status.Live) (sym c.self.view_is) may.over in
     let o = c.reopen.ensures in
     let done = was_seated d c.exchange.new.self c.reopen.new.self c.self.inside.hollows.items c.args.seat c.args.label
-    c.index_mut-own.result.now c.exchange.new.glass c.wipe.new.self c.reopen.new.glass c.self.inside.last _
+    c.index_mut-own.result.now c.exchange.new.glass c.wipe.new.self c.reopen.new.glass
+    c.hollow_out.new.self c.self.inside.last _
     c.self.invariant.0 inside c.facts.ensures.live over c.exchange.ensures.desktop
     (there_at c.self.inside.hollows.items c.args.seat c.index_mut-own.result.now c.index_mut-own.ensures.value
     (omega (arith, inside, hollows.count)))
     c.exchange.ensures.out c.wipe.ensures.sight c.wipe.ensures.room
     (record { state = o.state; left = o.left; raw = o.raw; sights_now = o.sights; rooms_now = o.rests; out = o.out })
+    c.hollow_out.ensures.sight c.hollow_out.ensures.room
     c.openings_keep_all.ensures.sources c.args.self.now c.self.view_is in (
       refl,
       (λ i. record {
@@ -126,12 +130,14 @@ returns-clause-act c =
     subst (λ (h : HostModel). (session h.state c.args.seat).status ≢ status.Live) (sym c.self.view_is) may.over in
     let o = c.reopen.ensures in
     let done = was_seated d c.exchange.new.self c.reopen.new.self c.self.inside.hollows.items c.args.seat c.args.label
-    c.index_mut-own.result.now c.exchange.new.glass c.wipe.new.self c.reopen.new.glass c.self.inside.last _
+    c.index_mut-own.result.now c.exchange.new.glass c.wipe.new.self c.reopen.new.glass
+    c.hollow_out.new.self c.self.inside.last _
     c.self.invariant.0 inside c.facts.ensures.live over c.exchange.ensures.desktop
     (there_at c.self.inside.hollows.items c.args.seat c.index_mut-own.result.now c.index_mut-own.ensures.value
     (omega (arith, inside, hollows.count)))
     c.exchange.ensures.out c.wipe.ensures.sight c.wipe.ensures.room
     (record { state = o.state; left = o.left; raw = o.raw; sights_now = o.sights; rooms_now = o.rests; out = o.out })
+    c.hollow_out.ensures.sight c.hollow_out.ensures.room
     c.openings_keep_all.ensures.sources c.args.self.now c.self.view_is in
     when_served (unseated c.args.self.now c.args.seat c.args.label)
     (seated c.args.seat c.args.label c.args.self.now) c.args.self.now _ (sym c.in_default.ensures)
