@@ -5,7 +5,9 @@ ghost use Rattle.nit_c.specs.Reading.{IsSeatStateOf, IsStateOf, c_seat_state, c_
 ghost use Rattle.nit_c.specs.Reading.{no_seat_state, no_state};
 
 use crate::handle::NitServer;
-use crate::numbers::{DONE, NO_SEAT, NO_SERVER, mode_number, seat_number, status_number};
+use crate::numbers::{
+    DONE, NO_SEAT, NO_SERVER, SEAT_NONE, mode_number, seat_number, status_number,
+};
 use nit_host::Host;
 use std::alloc::Global;
 
@@ -89,7 +91,7 @@ fn no_seat_state(kind: u32) -> NitSeatState
 {
     NitSeatState {
         kind,
-        status: 0,
+        status: SEAT_NONE,
         waiting: 0,
         lost: 0,
     }
