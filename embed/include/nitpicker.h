@@ -14,14 +14,20 @@
  * Duties of the host. Nothing tests these; all else that a host can get wrong is answered by name.
  *   1. A handle begins as NIT_CLOSED, and none but this library changes it from then on. It is
  *      never copied; between two calls it may be moved.
- *   2. A pointer is not null, also where its count is 0. Behind it lie as many words or bytes as
- *      the count says, set to values, and no other thread writes them while a call runs. What a
- *      call writes to (`server`, `out`) overlaps nothing else that it gets.
+ *   2. A pointer is not null, also where its count is 0, and is aligned for what it points to.
+ *      Behind it lie as many words or bytes as the count says, and those that are read are set.
+ *      While a call runs no other thread writes what it reads, nor reads or writes what it writes
+ *      to (`server`, `out`), and that overlaps nothing else that the call gets.
  *   3. All calls for one server come from the thread that opened it, and never from a signal
- *      handler or from the child of a fork. Several servers may each have a thread of their own.
+ *      handler or from the child of a fork. Several servers may each have a thread of their own,
+ *      where malloc, realloc and free may be called from several threads.
  *   4. malloc, realloc and free are of one allocator, which aligns a block to each power of two
  *      up to 16 that divides its size, as each C library's does.
- *   5. The header and the archive are of one version.
+ *   5. The header and the archive are of one version, and the machine is an x86-64 one.
+ *   6. The words of nit_look are as the last look left them; before the first one they may be any.
+ *   7. While nit_state says NIT_MODE_KILL no client's call is served, and no client sits down. So
+ *      what the user points at stays where it is until the click.
+ * Where 6 or 7 is not kept the user sees what is not so, and nothing else goes wrong.
  */
 #ifndef NITPICKER_H
 #define NITPICKER_H
@@ -35,8 +41,9 @@ extern "C" {
 
 /* ---- The handle */
 
-/* A server, or none. Where `mark` is not the library's own, it is none, and each call but the two
- * that open answers NIT_NO_SERVER and does nothing. */
+/* A server, or none. Where `mark` is not the library's own, it is none. Then each call but the two
+ * that open leaves it as it is, and answers NIT_NO_SERVER; nit_seat_for answers NIT_NONE, and
+ * nit_entry 0. */
 struct nit_server {
     void *at;
     uint64_t mark;
@@ -53,12 +60,13 @@ struct nit_server {
 
 /* ---- Answers */
 
-/* What a call answers, in the field `kind` or by itself. */
+/* What a call answers, in the field `kind` or by itself. But nit_seat_for answers a seat, and
+ * nit_entry a length. */
 enum nit_answer {
     NIT_NO_SERVER = 0,        /* the handle is closed, or was never one of a server */
 
-    /* Served: replies of a client's session. Each is a step, also a refusal. Every call that is
-     * none of a client's answers NIT_DONE where it is done. */
+    /* Served: replies of a client's session. Each is a step, also a refusal. The other calls with
+     * an answer of this kind say NIT_DONE where they are done. */
     NIT_DONE = 1,
     NIT_HANDLE = 2,           /* the new view has the handle `handle` */
     NIT_EVENT = 3,            /* `event` was the oldest that waited, and waits no more */
@@ -107,7 +115,7 @@ enum nit_event_kind {
     NIT_RELEASE = 2,          /* `code` */
     NIT_MOTION = 3,           /* `x`, `y`: the pointer's place on the screen */
     NIT_WHEEL = 4,            /* `turn` */
-    NIT_LEAVE = 5,            /* the pointer has left the client's pixels */
+    NIT_LEAVE = 5,            /* at a motion or a turn the pointer is elsewhere, or a mode began */
     NIT_FOCUS_ENTER = 6,
     NIT_FOCUS_LEAVE = 7,
     NIT_KILL = 8              /* in a delivery alone: the user has locked the client out */
@@ -136,20 +144,22 @@ struct nit_delivery {
 };
 
 /* The answer to what the user did. It went to the first `count` of `to`, in their order; the
- * others are 0. An event waits at its seat until nit_take, unless 64 wait there already: then it
- * is lost, and stands here all the same. */
+ * others are 0. An event waits at its seat until nit_take, or until its client leaves or is locked
+ * out; unless 64 wait there already: then it is lost, and stands here all the same. Behind NIT_KILL
+ * the seat is free: what speaks for its client speaks for nobody any more. */
 struct nit_routed {
     uint32_t kind;            /* NIT_DONE, NIT_NO_SERVER, NIT_BAD_DEVICE, NIT_WORN_OUT */
     uint32_t count;           /* 0..3 */
     struct nit_delivery to[3];
 };
 
-/* The part of the screen that a look wrote: x <= column < x + w, y <= row < y + h. */
+/* The part of the screen that a look changed: x <= column < x + w, y <= row < y + h. */
 struct nit_rect {
     uint32_t kind;            /* NIT_DONE, NIT_NO_SERVER, NIT_WRONG_FRAME */
     uint32_t x, y, w, h;      /* all 0 where nothing changed */
 };
 
+/* How the screen is shown. */
 enum nit_mode { NIT_MODE_FLAT = 0, NIT_MODE_XRAY = 1, NIT_MODE_KILL = 2 };
 
 /* What can be read of a server. All but `kind` is 0 where there is none. */
@@ -163,6 +173,7 @@ struct nit_state {
     uint32_t x, y;            /* the pointer's place on the screen */
 };
 
+/* Whether a client sits on a seat. */
 enum nit_status { NIT_SEAT_NONE = 0, NIT_SEAT_LIVE = 1, NIT_SEAT_CLOSED = 2, NIT_SEAT_KILLED = 3 };
 
 /* What can be read of a seat. All but `kind` is 0 where there is none. A seat that was never taken
@@ -229,27 +240,28 @@ uint32_t nit_close(struct nit_server *server);
 /* ---- Seats */
 
 /* A new client sits down on a free seat. Its label is written where the user has to know whom a
- * view belongs to. It has no view, no buffer and no event; the donation of the seat is as in the
- * plan, its next view has the handle 1, and all words that it has not handed in yet are 0. Nothing
- * of an earlier client of the seat is left. A seat of a plan that was never taken has its number as
- * a label: `.0` to `.9`, `.a` to `.f`.
+ * view belongs to. It has no view, no buffer and no event, and has lost none; the donation of the
+ * seat is as in the plan, its next view has the handle 1, and all words that it has not handed in
+ * yet are 0. Nothing of an earlier client of the seat is left. A seat of a plan that was never
+ * taken has its number as a label: `.0` to `.9`, `.a` to `.f`.
  * Answers NIT_DONE; and the first that applies of NIT_NO_SERVER, NIT_NO_SEAT, NIT_BAD_LABEL,
  * NIT_SEAT_TAKEN, NIT_LABEL_TAKEN. */
 uint32_t nit_seat(struct nit_server *server, uint32_t seat, const char *label, size_t length);
 
 /* The seat that takes a new client of this label: the free one that had the label last, else the
- * first free one. NIT_NONE where no seat is free, where a seat that is taken has the label, where
- * it is no label, and where there is no server. So nit_seat on the answer is done. */
+ * first free one, whatever its layer, donation and clicks are. NIT_NONE where no seat is free,
+ * where a seat that is taken has the label, where it is no label, and where there is no server. So
+ * nit_seat on the answer is done. */
 uint32_t nit_seat_for(struct nit_server *server, const char *label, size_t length);
 
 /* ---- Calls of a client
  *
- * The client of the seat `seat` asks for this. Where one of NIT_NO_SERVER, NIT_NO_SEAT, what
- * stands at the call, and NIT_WORN_OUT applies, the first of them is answered, and its session is
- * not asked. Else it is a step, and the answer is the reply of docs/RULES.md; for a refusal the
- * first that applies of NIT_SESSION_CLOSED or NIT_SESSION_KILLED, NIT_NO_SUCH_VIEW, NIT_BAD_RECT,
- * NIT_BAD_SIZE, NIT_BAD_TITLE, NIT_TOO_MANY_VIEWS, NIT_OUT_OF_QUOTA, NIT_NO_RESERVE. Any number
- * may be handed in. */
+ * The client of the seat `seat` asks for this. Where one of NIT_NO_SERVER, NIT_NO_SEAT, what stands
+ * at the call, and NIT_WORN_OUT applies, the first of them is answered (but NIT_BAD_TEXT only
+ * behind NIT_WORN_OUT), and its session is not asked. Else it is a step, and the answer is the
+ * reply of docs/RULES.md; for a refusal the first that applies of NIT_SESSION_CLOSED or
+ * NIT_SESSION_KILLED, NIT_NO_SUCH_VIEW, NIT_BAD_RECT, NIT_BAD_SIZE, NIT_BAD_TITLE,
+ * NIT_TOO_MANY_VIEWS, NIT_OUT_OF_QUOTA, NIT_NO_RESERVE. Any number may be handed in. */
 
 /* The client's buffer has this width and height, in words, each 1..4096. A word stays by its
  * index, which is row * w + column, whatever w was before, and is 0 until it is handed in. So a
@@ -274,12 +286,12 @@ struct nit_reply nit_front(struct nit_server *server, uint32_t seat, uint32_t vi
 /* The view stands behind all of its layer. */
 struct nit_reply nit_back(struct nit_server *server, uint32_t seat, uint32_t view);
 
-/* The view stands directly in front of `other`. */
+/* The view stands directly in front of `other`, which is one of the client's too. Nothing changes
+ * where the two are the same. */
 struct nit_reply nit_above(struct nit_server *server, uint32_t seat, uint32_t view, uint32_t other);
 
 /* The view has this title, 0 to 12 of a..z, 0..9, '-', '.', '_' and the space.
- * NIT_BAD_TEXT: the bytes are no text, so its session is not asked. It is answered behind
- * NIT_NO_SEAT and NIT_WORN_OUT. */
+ * NIT_BAD_TEXT: the bytes are no text, so its session is not asked. */
 struct nit_reply nit_title(struct nit_server *server, uint32_t seat, uint32_t view,
                            const char *text, size_t length);
 
@@ -292,16 +304,18 @@ struct nit_reply nit_take(struct nit_server *server, uint32_t seat);
 /* So many units of the client's reserve become donation. */
 struct nit_reply nit_upgrade(struct nit_server *server, uint32_t seat, uint32_t units);
 
-/* The client leaves. Its views are gone, and its seat is free. */
+/* The client leaves. Its views, its buffer and the events that wait for it are gone, and its seat
+ * is free. */
 struct nit_reply nit_leave(struct nit_server *server, uint32_t seat);
 
 /* What the client has drawn in this part of its buffer is shown: x and y -32768..32767, w and h
  * 0..32767. `words` has the words of its whole buffer, row by row from the top, each row as wide as
  * the buffer, and `count` is at least their number. Those of the part are read, during the call
- * alone, and kept: they are what the screen shows of this client until it refreshes them again,
- * whoever moves or closes a view above. No other word is read. A reply but NIT_DONE keeps nothing.
- * NIT_SHORT_WORDS: `count` is below the number of words of the buffer, so its session is not
- * asked. It is answered behind NIT_NO_SEAT. */
+ * alone, and kept: each by its index is what the screen shows of this client, whoever moves or
+ * closes a view above, until it refreshes that index again or leaves. No other word is read. A
+ * reply but NIT_DONE keeps nothing.
+ * NIT_SHORT_WORDS: `count` is below the number of words of the buffer, so its session is not asked.
+ */
 struct nit_reply nit_refresh(struct nit_server *server, uint32_t seat, int32_t x, int32_t y,
                              uint32_t w, uint32_t h, const uint32_t *words, size_t count);
 
@@ -326,7 +340,7 @@ struct nit_routed nit_wheel(struct nit_server *server, int32_t turn);
 /* ---- Looking */
 
 /* Brings `out`, which has `count` words, width times height, row by row from the top, up to date
- * with what the screen shows, and answers the least rectangle outside of which nothing was written.
+ * with what the screen shows, and answers the least rectangle outside of which no word changed.
  *
  * The words have to be as the last look left them; before the first look they may be any. Then they
  * are what the screen shows, and the rectangle has just what changed since. Of other words only
@@ -334,8 +348,10 @@ struct nit_routed nit_wheel(struct nit_server *server, int32_t turn);
  * shows its frame in two places copies it there. A look at a wrong number of words is none. */
 struct nit_rect nit_look(struct nit_server *server, uint32_t *out, size_t count);
 
+/* What can be read of the server. */
 struct nit_state nit_state(struct nit_server *server);
 
+/* What can be read of a seat. */
 struct nit_seat_state nit_seat_state(struct nit_server *server, uint32_t seat);
 
 /* Puts the last step as a line of docs/FORMATS.md's journal, with its line feed, at the head of
@@ -343,6 +359,23 @@ struct nit_seat_state nit_seat_state(struct nit_server *server, uint32_t seat);
  * not, nothing is put. 0 where there is no step to tell: no server, none done yet, or a client sat
  * down since. SIZE_MAX where memory ran out: this call takes some for its time. */
 size_t nit_entry(struct nit_server *server, char *out, size_t room);
+
+/* ---- How many bytes the structs have */
+
+#ifdef __cplusplus
+#define NIT_BYTES(type, bytes) static_assert(sizeof(type) == (bytes), #type)
+#else
+#define NIT_BYTES(type, bytes) _Static_assert(sizeof(type) == (bytes), #type)
+#endif
+NIT_BYTES(struct nit_server, 16);
+NIT_BYTES(struct nit_event, 16);
+NIT_BYTES(struct nit_reply, 40);
+NIT_BYTES(struct nit_delivery, 20);
+NIT_BYTES(struct nit_routed, 68);
+NIT_BYTES(struct nit_rect, 20);
+NIT_BYTES(struct nit_state, 36);
+NIT_BYTES(struct nit_seat_state, 24);
+#undef NIT_BYTES
 
 #ifdef __cplusplus
 }

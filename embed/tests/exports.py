@@ -14,8 +14,9 @@ compared where one is given. What is compared:
   sources: the names and types of its fields in their order, but for ghost ones. An array may be as
   many fields there, of any names. C's compiler says by `_Static_assert` that its size and the place
   of each field are those that Rust's rules for `#[repr(C)]` give.
-- each constant of the sources that has the name of one of the header, without NIT_, has its value.
-- `raw.rs` of embed/rust says the same of functions, structs and constants.
+- each number of an enum of the header is a constant of the sources, of that name without NIT_ and
+  of that value.
+- `raw.rs` of embed/rust says the same of functions, structs and those numbers that it has.
 - the archive defines the functions of the header and no other name that another object sees, and
   wants nothing but malloc, realloc, free, memcpy, memmove, memset, memcmp and bcmp.
 
@@ -271,6 +272,11 @@ def struct_faults(header, sources, folder):
     return faults
 
 
+def missing_constants(header, sources):
+    return [f"constant {name}: in the header alone" for name in sorted(header.constants)
+            if name.removeprefix("NIT_") not in sources.constants]
+
+
 def constant_faults(header, sources):
     pairs = {f"NIT_{name}": value for name, value in sources.constants.items()}
     return [f"{name} is {header.constants[name]} and not {pairs[name]}"
@@ -301,7 +307,7 @@ def code_faults(ours, theirs, folder):
 def faults_of(header, text, archive, binding=None):
     """What differs, and what was compared."""
     ours, theirs = Header(header.read_text()), Sources(text)
-    faults = code_faults(ours, theirs, header.parent)
+    faults = code_faults(ours, theirs, header.parent) + missing_constants(ours, theirs)
     if binding:
         faults += [f"raw.rs: {fault}"
                    for fault in code_faults(ours, Binding(binding), header.parent)]

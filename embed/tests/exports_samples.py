@@ -71,6 +71,7 @@ CHANGES = [
     ("    pub to: [NitPair; 3],", "    pub a: NitPair,\n    pub b: NitPair,", "struct nit_told is"),
     ("    mark: u64,\n", "", "struct nit_server is"),
     ("LATE: u32 = 32", "LATE: u32 = 33", "NIT_LATE is 32 and not 33"),
+    ("const LATE: u32 = 32;\n", "", "constant NIT_LATE: in the header alone"),
     ("uint32_t nit_put(", "uint32_t nit_set(", "nit_set: in the header alone"),
     ("#include <stddef.h>", "#include <stddef.h>\n#pragma pack(1)", "place of nit_told.need"),
 ]

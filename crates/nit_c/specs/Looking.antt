@@ -6,6 +6,7 @@ use Rattle.nit_rect.specs.Rectangle.{Rectangle, rectangle}
 use Rattle.nit_screen.specs.FrameLabels.{ShowsLabels}
 use Rattle.nit_screen.specs.StateScenery.{scenery_of}
 use Rattle.nit_host.specs.Host.{HostModel, IsAsSeen, frame_shown, last_text, looked}
+use Rattle.nit_c.specs.declared.handle.NitServer.{NitServer}
 use Rattle.nit_c.specs.Steps.{Steps}
 use Rattle.nit_c.specs.declared.looking.NitRect.{NitRect}
 
@@ -50,7 +51,7 @@ pub record IsLooked (h g : HostModel) (before now : List ℕ) (answer : NitRect)
       → (now ≡ before) × (answer ≡ only_rect 39) × (g ≡ h)
 
 -- a look by a handle
-abbrev pub IsLookedBy : Option HostModel → Option HostModel → List ℕ → List ℕ → NitRect → Type 0
+abbrev pub IsLookedBy : NitServer → NitServer → List ℕ → List ℕ → NitRect → Type 0
 IsLookedBy old new before now answer =
     Steps old new ((now ≡ before) × (answer ≡ only_rect 0))
     (λ h g. IsLooked h g before now answer)
@@ -73,7 +74,7 @@ IsLineOrNone text before now answer =
     ((now ≡ before) × (answer ≡ no_room)) ⊎ IsLine text before now answer
 
 -- the line of the last step, by a handle
-abbrev pub IsEntry : Option HostModel → Option HostModel → List ℕ → List ℕ → ℕ → Type 0
+abbrev pub IsEntry : NitServer → NitServer → List ℕ → List ℕ → ℕ → Type 0
 IsEntry old new before now answer =
     Steps old new ((now ≡ before) × (answer ≡ 0))
     (λ h g. (g ≡ h) × IsLineOrNone (last_text h.last) before now answer)

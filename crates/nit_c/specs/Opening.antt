@@ -125,7 +125,7 @@ IsOpenedBy None new text answer = IsReadWhole text new answer
 
 -- ---- closing
 
--- a server is freed, where there is one, and then there is none
+-- there is no server afterwards, and the answer says whether there was one
 abbrev pub IsShut : Option HostModel → Option HostModel → ℕ → Type 0
 IsShut None new answer = (new ≡ None) × (answer ≡ 0)
 IsShut (Some h) new answer = (new ≡ None) × (answer ≡ 1)

@@ -1,8 +1,9 @@
 -- What can be read of a server, as C reads it.
-use Rattle.std.specs.Prelude.{◌≡◌, ℕ, nat_lt, length, Option, if◌then◌else◌}
+use Rattle.std.specs.Prelude.{◌≡◌, ℕ, nat_lt, length, if◌then◌else◌}
 use Rattle.nit_journal.specs.State.{session}
 use Rattle.nit_host.specs.Host.{HostModel}
 use Rattle.nit_c.specs.Numbers.{mode_number, seat_number, status_number}
+use Rattle.nit_c.specs.declared.handle.NitServer.{NitServer}
 use Rattle.nit_c.specs.Steps.{Steps}
 use Rattle.nit_c.specs.declared.reading.NitState.{NitState}
 use Rattle.nit_c.specs.declared.reading.NitSeatState.{NitSeatState}
@@ -52,11 +53,11 @@ c_seat_state h seat =
     else no_seat_state 32
 
 -- the server is read, by a handle
-abbrev pub IsStateOf : Option HostModel → Option HostModel → NitState → Type 0
+abbrev pub IsStateOf : NitServer → NitServer → NitState → Type 0
 IsStateOf old new answer =
     Steps old new (answer ≡ no_state) (λ h g. (g ≡ h) × (answer ≡ c_state h))
 
 -- a seat is read, by a handle
-abbrev pub IsSeatStateOf : Option HostModel → Option HostModel → ℕ → NitSeatState → Type 0
+abbrev pub IsSeatStateOf : NitServer → NitServer → ℕ → NitSeatState → Type 0
 IsSeatStateOf old new seat answer =
     Steps old new (answer ≡ no_seat_state 0) (λ h g. (g ≡ h) × (answer ≡ c_seat_state h seat))

@@ -12,6 +12,7 @@ use Rattle.nit_host.specs.Host.{HostModel, called, refreshed, reply_to, unserved
 use Rattle.nit_host.specs.Host.{unserved_refresh}
 use Rattle.nit_host.specs.declared.refusal.Unserved.{Unserved}
 use Rattle.nit_c.specs.Numbers.{unserved_number}
+use Rattle.nit_c.specs.declared.handle.NitServer.{NitServer}
 use Rattle.nit_c.specs.Steps.{Steps, Unless}
 use Rattle.nit_c.specs.declared.reply.NitEvent.{NitEvent}
 use Rattle.nit_c.specs.declared.reply.NitReply.{NitReply}
@@ -62,7 +63,7 @@ IsAnswered refusal reply behind old new answer =
     (λ why. (new ≡ old) × (answer ≡ only_kind (unserved_number why)))
 
 -- a call of a seat's client by a handle
-abbrev pub IsCalled : Option HostModel → Option HostModel → ℕ → Call → NitReply → Type 0
+abbrev pub IsCalled : NitServer → NitServer → ℕ → Call → NitReply → Type 0
 IsCalled old new seat call answer =
     Steps old new (answer ≡ only_kind 0)
     (λ h g. IsAnswered (unserved_call h seat call) (reply_to h seat call) (called seat call h) h g
@@ -75,7 +76,7 @@ IsRedrawn old new seat x y w h words answer =
     (refreshed seat x y w h words old) old new answer
 
 -- the same by a handle
-abbrev pub IsRefreshed : Option HostModel → Option HostModel → ℕ → ℤ → ℤ → ℕ → ℕ → List ℕ → NitReply
+abbrev pub IsRefreshed : NitServer → NitServer → ℕ → ℤ → ℤ → ℕ → ℕ → List ℕ → NitReply
     → Type 0
 IsRefreshed old new seat x y w h words answer =
     Steps old new (answer ≡ only_kind 0)
@@ -91,13 +92,13 @@ untitled h seat =
     else 36
 
 -- a title that is no text, by a handle
-abbrev pub IsUntitled : Option HostModel → Option HostModel → ℕ → NitReply → Type 0
+abbrev pub IsUntitled : NitServer → NitServer → ℕ → NitReply → Type 0
 IsUntitled old new seat answer =
     Steps old new (answer ≡ only_kind 0)
     (λ h g. (g ≡ h) × (answer ≡ only_kind (untitled h seat)))
 
 -- a title by a handle: a call where the bytes are a text, and else nothing but a refusal
-pub record IsTitled (old new : Option HostModel) (seat view : ℕ) (text : List ℕ) (r : NitReply)
+pub record IsTitled (old new : NitServer) (seat view : ℕ) (text : List ℕ) (r : NitReply)
     : Type 0 where
   pub called : IsTrue (is_text text) → IsCalled old new seat (call.Title view text) r
   pub refused : is_text text ≡ false → IsUntitled old new seat r

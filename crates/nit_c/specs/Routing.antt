@@ -12,6 +12,7 @@ use Rattle.nit_host.specs.Host.{HostModel, routed_of, told, unserved_input}
 use Rattle.nit_host.specs.declared.refusal.Unserved.{Unserved}
 use Rattle.nit_c.specs.Numbers.{unserved_number}
 use Rattle.nit_c.specs.Replies.{c_event, no_event}
+use Rattle.nit_c.specs.declared.handle.NitServer.{NitServer}
 use Rattle.nit_c.specs.Steps.{Steps, Unless}
 use Rattle.nit_c.specs.declared.reply.NitEvent.{NitEvent}
 use Rattle.nit_c.specs.declared.routed.NitDelivery.{NitDelivery}
@@ -73,5 +74,5 @@ IsTold (Some dev) old new answer =
     (λ why. (new ≡ old) × (answer ≡ only_routed (unserved_number why)))
 
 -- the same by a handle
-abbrev pub IsInput : Option HostModel → Option HostModel → Option Device → NitRouted → Type 0
+abbrev pub IsInput : NitServer → NitServer → Option Device → NitRouted → Type 0
 IsInput old new dev answer = Steps old new (answer ≡ only_routed 0) (λ h g. IsTold dev h g answer)

@@ -5,6 +5,7 @@ use Rattle.nit_host.specs.Host.{HostModel}
 use Rattle.nit_host.specs.Seats.{seat_for, seated, unseated}
 use Rattle.nit_host.specs.declared.refusal.Unseated.{Unseated}
 use Rattle.nit_c.specs.Numbers.{seat_number, unseated_number}
+use Rattle.nit_c.specs.declared.handle.NitServer.{NitServer}
 use Rattle.nit_c.specs.Steps.{Steps, Unless}
 
 -- the number of a refusal, where there is one
@@ -30,12 +31,12 @@ abbrev pub seat_of : HostModel → List ℕ → Option ℕ
 seat_of h label = if is_label label then seat_for h.state label else None
 
 -- a client sits down, by a handle
-abbrev pub IsSeatedBy : Option HostModel → Option HostModel → ℕ → List ℕ → ℕ → Type 0
+abbrev pub IsSeatedBy : NitServer → NitServer → ℕ → List ℕ → ℕ → Type 0
 IsSeatedBy old new seat label answer =
     Steps old new (answer ≡ 0) (λ h g. IsSeated h g seat label answer)
 
 -- a seat is looked for, by a handle
-abbrev pub IsSeatFor : Option HostModel → Option HostModel → List ℕ → ℕ → Type 0
+abbrev pub IsSeatFor : NitServer → NitServer → List ℕ → ℕ → Type 0
 IsSeatFor old new label answer =
     Steps old new (answer ≡ seat_number None)
     (λ h g. (g ≡ h) × (answer ≡ seat_number (seat_of h label)))

@@ -3,7 +3,6 @@
 ghost use Rattle.std.specs.Prelude.{◌≡◌};
 ghost use Rattle.nit_c.specs.Replies.{IsCalled, IsRedrawn, IsRefreshed, IsTitled, IsUntitled};
 ghost use Rattle.nit_c.specs.Replies.{untitled};
-ghost use Rattle.nit_c.specs.Steps.{host_of};
 ghost use Rattle.nit_events.specs.declared.call.Call.TheVariants as call;
 
 use crate::handle::NitServer;
@@ -15,8 +14,7 @@ use std::alloc::Global;
 
 /// Serves a call of a seat's client.
 fn serve(alloc: Global, server: &mut NitServer, seat: u32, call: &Call) -> NitReply
-    ensures { IsCalled (host_of server.old.mark server.old.value)
-        (host_of server.new.mark server.new.value) seat call.now result }
+    ensures { IsCalled server.old server.new seat call.now result }
 {
     if !server.is_live() {
         return only_kind(NO_SERVER);
@@ -42,8 +40,7 @@ fn refresh(
 
 /// Refuses a title that is no text.
 fn refuse_title(alloc: Global, server: &mut NitServer, seat: u32) -> NitReply
-    ensures { IsUntitled (host_of server.old.mark server.old.value)
-        (host_of server.new.mark server.new.value) seat result }
+    ensures { IsUntitled server.old server.new seat result }
 {
     if !server.is_live() {
         return only_kind(NO_SERVER);
@@ -76,8 +73,7 @@ pub extern "C" fn nit_buffer(
     w: u32,
     h: u32,
 ) -> NitReply
-    ensures { IsCalled (host_of server.old.mark server.old.value)
-        (host_of server.new.mark server.new.value) seat (call.Buffer w h) result }
+    ensures { IsCalled server.old server.new seat (call.Buffer w h) result }
 {
     serve(alloc, server, seat, &Call::Buffer(w, h))
 }
@@ -85,8 +81,7 @@ pub extern "C" fn nit_buffer(
 /// A new view, in front of its layer.
 #[unsafe(no_mangle)]
 pub extern "C" fn nit_view(alloc: Global, server: &mut NitServer, seat: u32) -> NitReply
-    ensures { IsCalled (host_of server.old.mark server.old.value)
-        (host_of server.new.mark server.new.value) seat call.View result }
+    ensures { IsCalled server.old server.new seat call.View result }
 {
     serve(alloc, server, seat, &Call::View)
 }
@@ -103,8 +98,7 @@ pub extern "C" fn nit_place(
     w: u32,
     h: u32,
 ) -> NitReply
-    ensures { IsCalled (host_of server.old.mark server.old.value)
-        (host_of server.new.mark server.new.value) seat (call.Place view x y w h) result }
+    ensures { IsCalled server.old server.new seat (call.Place view x y w h) result }
 {
     serve(alloc, server, seat, &Call::Place(view, x, y, w, h))
 }
@@ -119,8 +113,7 @@ pub extern "C" fn nit_offset(
     x: i32,
     y: i32,
 ) -> NitReply
-    ensures { IsCalled (host_of server.old.mark server.old.value)
-        (host_of server.new.mark server.new.value) seat (call.Offset view x y) result }
+    ensures { IsCalled server.old server.new seat (call.Offset view x y) result }
 {
     serve(alloc, server, seat, &Call::Offset(view, x, y))
 }
@@ -128,8 +121,7 @@ pub extern "C" fn nit_offset(
 /// The view stands in front of all of its layer.
 #[unsafe(no_mangle)]
 pub extern "C" fn nit_front(alloc: Global, server: &mut NitServer, seat: u32, view: u32) -> NitReply
-    ensures { IsCalled (host_of server.old.mark server.old.value)
-        (host_of server.new.mark server.new.value) seat (call.Front view) result }
+    ensures { IsCalled server.old server.new seat (call.Front view) result }
 {
     serve(alloc, server, seat, &Call::Front(view))
 }
@@ -137,8 +129,7 @@ pub extern "C" fn nit_front(alloc: Global, server: &mut NitServer, seat: u32, vi
 /// The view stands behind all of its layer.
 #[unsafe(no_mangle)]
 pub extern "C" fn nit_back(alloc: Global, server: &mut NitServer, seat: u32, view: u32) -> NitReply
-    ensures { IsCalled (host_of server.old.mark server.old.value)
-        (host_of server.new.mark server.new.value) seat (call.Back view) result }
+    ensures { IsCalled server.old server.new seat (call.Back view) result }
 {
     serve(alloc, server, seat, &Call::Back(view))
 }
@@ -152,8 +143,7 @@ pub extern "C" fn nit_above(
     view: u32,
     other: u32,
 ) -> NitReply
-    ensures { IsCalled (host_of server.old.mark server.old.value)
-        (host_of server.new.mark server.new.value) seat (call.Above view other) result }
+    ensures { IsCalled server.old server.new seat (call.Above view other) result }
 {
     serve(alloc, server, seat, &Call::Above(view, other))
 }
@@ -166,8 +156,7 @@ pub extern "C" fn nit_destroy(
     seat: u32,
     view: u32,
 ) -> NitReply
-    ensures { IsCalled (host_of server.old.mark server.old.value)
-        (host_of server.new.mark server.new.value) seat (call.Destroy view) result }
+    ensures { IsCalled server.old server.new seat (call.Destroy view) result }
 {
     serve(alloc, server, seat, &Call::Destroy(view))
 }
@@ -175,8 +164,7 @@ pub extern "C" fn nit_destroy(
 /// Takes the oldest event that waits.
 #[unsafe(no_mangle)]
 pub extern "C" fn nit_take(alloc: Global, server: &mut NitServer, seat: u32) -> NitReply
-    ensures { IsCalled (host_of server.old.mark server.old.value)
-        (host_of server.new.mark server.new.value) seat call.Take result }
+    ensures { IsCalled server.old server.new seat call.Take result }
 {
     serve(alloc, server, seat, &Call::Take)
 }
@@ -189,8 +177,7 @@ pub extern "C" fn nit_upgrade(
     seat: u32,
     units: u32,
 ) -> NitReply
-    ensures { IsCalled (host_of server.old.mark server.old.value)
-        (host_of server.new.mark server.new.value) seat (call.Upgrade units) result }
+    ensures { IsCalled server.old server.new seat (call.Upgrade units) result }
 {
     serve(alloc, server, seat, &Call::Upgrade(units))
 }
@@ -198,8 +185,7 @@ pub extern "C" fn nit_upgrade(
 /// The client leaves. Its views are gone, and its seat is free.
 #[unsafe(no_mangle)]
 pub extern "C" fn nit_leave(alloc: Global, server: &mut NitServer, seat: u32) -> NitReply
-    ensures { IsCalled (host_of server.old.mark server.old.value)
-        (host_of server.new.mark server.new.value) seat call.Close result }
+    ensures { IsCalled server.old server.new seat call.Close result }
 {
     serve(alloc, server, seat, &Call::Close)
 }
@@ -213,8 +199,7 @@ pub extern "C" fn nit_title(
     view: u32,
     text: &[u8],
 ) -> NitReply
-    ensures { IsTitled (host_of server.old.mark server.old.value)
-        (host_of server.new.mark server.new.value) seat view text.now result }
+    ensures { IsTitled server.old server.new seat view text.now result }
 {
     match Text::new(text) {
         Some(title) => serve(alloc, server, seat, &Call::Title(view, title)),
@@ -236,8 +221,7 @@ pub extern "C" fn nit_refresh(
     h: u32,
     words: &[u32],
 ) -> NitReply
-    ensures { IsRefreshed (host_of server.old.mark server.old.value)
-        (host_of server.new.mark server.new.value) seat x y w h words.now result }
+    ensures { IsRefreshed server.old server.new seat x y w h words.now result }
 {
     if !server.is_live() {
         return only_kind(NO_SERVER);

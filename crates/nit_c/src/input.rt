@@ -2,7 +2,6 @@
 
 ghost use Rattle.std.specs.Prelude.{◌≡◌};
 ghost use Rattle.nit_c.specs.Routing.{IsInput, IsTold, moved_to, pressed, released, turned};
-ghost use Rattle.nit_c.specs.Steps.{host_of};
 
 use crate::handle::NitServer;
 use crate::numbers::{BAD_DEVICE, NO_SERVER};
@@ -32,8 +31,7 @@ fn tell(host: &mut Host, device: Option<Device>) -> NitRouted
 
 /// The same by a handle.
 fn feed(alloc: Global, server: &mut NitServer, device: Option<Device>) -> NitRouted
-    ensures { IsInput (host_of server.old.mark server.old.value)
-        (host_of server.new.mark server.new.value) device result }
+    ensures { IsInput server.old server.new device result }
 {
     if !server.is_live() {
         return only_routed(NO_SERVER);
@@ -91,8 +89,7 @@ fn turned(turn: i32) -> Option<Device>
 /// A key or a button goes down: 0..=767.
 #[unsafe(no_mangle)]
 pub extern "C" fn nit_press(alloc: Global, server: &mut NitServer, code: u32) -> NitRouted
-    ensures { IsInput (host_of server.old.mark server.old.value)
-        (host_of server.new.mark server.new.value) (pressed code) result }
+    ensures { IsInput server.old server.new (pressed code) result }
 {
     feed(alloc, server, pressed(code))
 }
@@ -100,8 +97,7 @@ pub extern "C" fn nit_press(alloc: Global, server: &mut NitServer, code: u32) ->
 /// A key or a button goes up: 0..=767.
 #[unsafe(no_mangle)]
 pub extern "C" fn nit_release(alloc: Global, server: &mut NitServer, code: u32) -> NitRouted
-    ensures { IsInput (host_of server.old.mark server.old.value)
-        (host_of server.new.mark server.new.value) (released code) result }
+    ensures { IsInput server.old server.new (released code) result }
 {
     feed(alloc, server, released(code))
 }
@@ -109,8 +105,7 @@ pub extern "C" fn nit_release(alloc: Global, server: &mut NitServer, code: u32) 
 /// The pointer moves to this column and row, each 0..=65535.
 #[unsafe(no_mangle)]
 pub extern "C" fn nit_motion(alloc: Global, server: &mut NitServer, x: u32, y: u32) -> NitRouted
-    ensures { IsInput (host_of server.old.mark server.old.value)
-        (host_of server.new.mark server.new.value) (moved_to x y) result }
+    ensures { IsInput server.old server.new (moved_to x y) result }
 {
     feed(alloc, server, moved_to(x, y))
 }
@@ -118,8 +113,7 @@ pub extern "C" fn nit_motion(alloc: Global, server: &mut NitServer, x: u32, y: u
 /// The wheel turns by -127..=127.
 #[unsafe(no_mangle)]
 pub extern "C" fn nit_wheel(alloc: Global, server: &mut NitServer, turn: i32) -> NitRouted
-    ensures { IsInput (host_of server.old.mark server.old.value)
-        (host_of server.new.mark server.new.value) (turned turn) result }
+    ensures { IsInput server.old server.new (turned turn) result }
 {
     feed(alloc, server, turned(turn))
 }

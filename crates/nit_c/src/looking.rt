@@ -3,7 +3,6 @@
 ghost use Rattle.std.specs.Prelude.{◌≡◌, ◌≤ℤ◌, IfSome, pos};
 ghost use Rattle.nit_c.specs.Looking.{IsEntry, IsLineOrNone, IsLooked, IsLookedBy, IsRect};
 ghost use Rattle.nit_c.specs.Looking.{only_rect};
-ghost use Rattle.nit_c.specs.Steps.{host_of};
 ghost use Rattle.nit_host.specs.Terms.{last_text};
 
 use crate::handle::NitServer;
@@ -92,8 +91,7 @@ fn put_entry(alloc: Global, host: &Host, out: &mut [u8]) -> usize
 /// what the screen shows. Answers the least rectangle outside of which nothing was written.
 #[unsafe(no_mangle)]
 pub extern "C" fn nit_look(alloc: Global, server: &mut NitServer, out: &mut [u32]) -> NitRect
-    ensures { IsLookedBy (host_of server.old.mark server.old.value)
-        (host_of server.new.mark server.new.value) out.old out.new result }
+    ensures { IsLookedBy server.old server.new out.old out.new result }
 {
     if !server.is_live() {
         return only_rect(NO_SERVER);
@@ -109,8 +107,7 @@ pub extern "C" fn nit_look(alloc: Global, server: &mut NitServer, out: &mut [u32
 /// greatest number where memory runs out.
 #[unsafe(no_mangle)]
 pub extern "C" fn nit_entry(alloc: Global, server: &mut NitServer, out: &mut [u8]) -> usize
-    ensures { IsEntry (host_of server.old.mark server.old.value)
-        (host_of server.new.mark server.new.value) out.old out.new result }
+    ensures { IsEntry server.old server.new out.old out.new result }
 {
     if !server.is_live() {
         return 0;

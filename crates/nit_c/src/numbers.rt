@@ -14,8 +14,54 @@ pub(crate) const NO_SERVER: u32 = 0;
 /// It is done.
 pub(crate) const DONE: u32 = 1;
 
+// Replies of a session.
+
+/// A new view.
+pub(crate) const HANDLE: u32 = 2;
+
+/// An event was taken.
+pub(crate) const EVENT: u32 = 3;
+
+/// No event waits.
+pub(crate) const NO_EVENT: u32 = 4;
+
+/// The client has no such view.
+pub(crate) const NO_SUCH_VIEW: u32 = 5;
+
+/// A number of a rectangle or an offset is out of range.
+pub(crate) const BAD_RECT: u32 = 6;
+
+/// A side of a buffer is out of range.
+pub(crate) const BAD_SIZE: u32 = 7;
+
+/// The text is no title.
+pub(crate) const BAD_TITLE: u32 = 8;
+
+/// The client has all views that it may have.
+pub(crate) const TOO_MANY_VIEWS: u32 = 9;
+
+/// Too little is left of the donation.
+pub(crate) const OUT_OF_QUOTA: u32 = 10;
+
+/// Too little is left of the reserve.
+pub(crate) const NO_RESERVE: u32 = 11;
+
+/// The client has left.
+pub(crate) const SESSION_CLOSED: u32 = 12;
+
+/// The user has locked the client out.
+pub(crate) const SESSION_KILLED: u32 = 13;
+
+// What is not served.
+
 /// The server has no seat of this number.
 pub(crate) const NO_SEAT: u32 = 32;
+
+/// A client sits there.
+pub(crate) const SEAT_TAKEN: u32 = 33;
+
+/// Another seat has the label, or had it last.
+pub(crate) const LABEL_TAKEN: u32 = 34;
 
 /// The bytes are no label.
 pub(crate) const BAD_LABEL: u32 = 35;
@@ -26,8 +72,14 @@ pub(crate) const BAD_TEXT: u32 = 36;
 /// A number of a device event is out of range.
 pub(crate) const BAD_DEVICE: u32 = 37;
 
+/// There are fewer words than the client's buffer has.
+pub(crate) const SHORT_WORDS: u32 = 38;
+
 /// The words of a frame are not as many as the screen has pixels.
 pub(crate) const WRONG_FRAME: u32 = 39;
+
+/// The client has made all views that it ever may.
+pub(crate) const HANDLES_USED_UP: u32 = 40;
 
 /// The server has served all entries that it will ever serve.
 pub(crate) const WORN_OUT: u32 = 41;
@@ -41,8 +93,88 @@ pub(crate) const IS_OPEN: u32 = 43;
 /// A number of a plan is out of range.
 pub(crate) const BAD_PLAN: u32 = 44;
 
-/// The text of a configuration is too long.
+// Refusals of the text of a configuration.
+
+/// It is too long.
 pub(crate) const CONFIG_TOO_LONG: u32 = 64;
+
+/// It is no TOML.
+pub(crate) const CONFIG_SYNTAX: u32 = 65;
+
+/// A value is of another kind.
+pub(crate) const CONFIG_KIND: u32 = 66;
+
+/// A required key is not there, or there is no client.
+pub(crate) const CONFIG_MISSING: u32 = 67;
+
+/// There is a key that is none of a configuration.
+pub(crate) const CONFIG_UNKNOWN: u32 = 68;
+
+/// There are too many clients.
+pub(crate) const CONFIG_TOO_MANY: u32 = 69;
+
+/// A number, a name or a word is out of range.
+pub(crate) const CONFIG_RANGE: u32 = 70;
+
+/// A label is none.
+pub(crate) const CONFIG_LABEL: u32 = 71;
+
+/// Two clients have the same label.
+pub(crate) const CONFIG_TWICE: u32 = 72;
+
+// Kinds of what a client is told, or what becomes of it.
+
+/// Nothing.
+pub(crate) const NOTHING: u32 = 0;
+
+/// A key or a button goes down.
+pub(crate) const PRESS: u32 = 1;
+
+/// It goes up.
+pub(crate) const RELEASE: u32 = 2;
+
+/// The pointer moves.
+pub(crate) const MOTION: u32 = 3;
+
+/// The wheel turns.
+pub(crate) const WHEEL: u32 = 4;
+
+/// The pointer is another's.
+pub(crate) const LEAVE: u32 = 5;
+
+/// The client has the focus.
+pub(crate) const FOCUS_ENTER: u32 = 6;
+
+/// It has lost the focus.
+pub(crate) const FOCUS_LEAVE: u32 = 7;
+
+/// It is locked out.
+pub(crate) const KILL: u32 = 8;
+
+// Modes.
+
+/// Flat.
+pub(crate) const MODE_FLAT: u32 = 0;
+
+/// X-ray.
+pub(crate) const MODE_XRAY: u32 = 1;
+
+/// Kill.
+pub(crate) const MODE_KILL: u32 = 2;
+
+// States of a seat.
+
+/// There is no such seat.
+pub(crate) const SEAT_NONE: u32 = 0;
+
+/// A client sits there.
+pub(crate) const SEAT_LIVE: u32 = 1;
+
+/// It was never taken, or the last client left.
+pub(crate) const SEAT_CLOSED: u32 = 2;
+
+/// The last client was locked out.
+pub(crate) const SEAT_KILLED: u32 = 3;
 
 /// The number of no seat.
 const NO_SEAT_AT_ALL: u32 = u32::MAX;
@@ -64,8 +196,8 @@ pub(crate) fn unserved_number(why: Unserved) -> u32
     match why {
         Unserved::NoSeat => NO_SEAT,
         Unserved::BadDevice => BAD_DEVICE,
-        Unserved::ShortWords => 38,
-        Unserved::HandlesUsedUp => 40,
+        Unserved::ShortWords => SHORT_WORDS,
+        Unserved::HandlesUsedUp => HANDLES_USED_UP,
         Unserved::WornOut => WORN_OUT,
     }
 }
@@ -76,8 +208,8 @@ pub(crate) fn unseated_number(why: Unseated) -> u32
 {
     match why {
         Unseated::NoSeat => NO_SEAT,
-        Unseated::Taken => 33,
-        Unseated::LabelTaken => 34,
+        Unseated::Taken => SEAT_TAKEN,
+        Unseated::LabelTaken => LABEL_TAKEN,
     }
 }
 
@@ -87,14 +219,14 @@ pub(crate) fn config_number(error: ConfigError) -> u32
 {
     match error {
         ConfigError::NoMemory => NO_MEMORY,
-        ConfigError::Syntax => 65,
-        ConfigError::Kind => 66,
-        ConfigError::Missing => 67,
-        ConfigError::Unknown => 68,
-        ConfigError::TooMany => 69,
-        ConfigError::Range => 70,
-        ConfigError::Label => 71,
-        ConfigError::Twice => 72,
+        ConfigError::Syntax => CONFIG_SYNTAX,
+        ConfigError::Kind => CONFIG_KIND,
+        ConfigError::Missing => CONFIG_MISSING,
+        ConfigError::Unknown => CONFIG_UNKNOWN,
+        ConfigError::TooMany => CONFIG_TOO_MANY,
+        ConfigError::Range => CONFIG_RANGE,
+        ConfigError::Label => CONFIG_LABEL,
+        ConfigError::Twice => CONFIG_TWICE,
     }
 }
 
@@ -103,9 +235,9 @@ pub(crate) fn mode_number(mode: Mode) -> u32
     ensures { result ≡ mode_number mode }
 {
     match mode {
-        Mode::Flat => 0,
-        Mode::Xray => 1,
-        Mode::Kill => 2,
+        Mode::Flat => MODE_FLAT,
+        Mode::Xray => MODE_XRAY,
+        Mode::Kill => MODE_KILL,
     }
 }
 
@@ -114,8 +246,8 @@ pub(crate) fn status_number(status: Status) -> u32
     ensures { result ≡ status_number status }
 {
     match status {
-        Status::Live => 1,
-        Status::Closed => 2,
-        Status::Killed => 3,
+        Status::Live => SEAT_LIVE,
+        Status::Closed => SEAT_CLOSED,
+        Status::Killed => SEAT_KILLED,
     }
 }

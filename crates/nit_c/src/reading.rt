@@ -3,10 +3,11 @@
 ghost use Rattle.std.specs.Prelude.{◌≡◌};
 ghost use Rattle.nit_c.specs.Reading.{IsSeatStateOf, IsStateOf, c_seat_state, c_state};
 ghost use Rattle.nit_c.specs.Reading.{no_seat_state, no_state};
-ghost use Rattle.nit_c.specs.Steps.{host_of};
 
 use crate::handle::NitServer;
-use crate::numbers::{DONE, NO_SEAT, NO_SERVER, mode_number, seat_number, status_number};
+use crate::numbers::{
+    DONE, NO_SEAT, NO_SERVER, SEAT_NONE, mode_number, seat_number, status_number,
+};
 use nit_host::Host;
 use std::alloc::Global;
 
@@ -90,7 +91,7 @@ fn no_seat_state(kind: u32) -> NitSeatState
 {
     NitSeatState {
         kind,
-        status: 0,
+        status: SEAT_NONE,
         waiting: 0,
         lost: 0,
     }
@@ -114,8 +115,7 @@ fn seat_state_of(host: &Host, seat: u32) -> NitSeatState
 /// What can be read of the server.
 #[unsafe(no_mangle)]
 pub extern "C" fn nit_state(alloc: Global, server: &mut NitServer) -> NitState
-    ensures { IsStateOf (host_of server.old.mark server.old.value)
-        (host_of server.new.mark server.new.value) result }
+    ensures { IsStateOf server.old server.new result }
 {
     if !server.is_live() {
         return no_state();
@@ -129,8 +129,7 @@ pub extern "C" fn nit_state(alloc: Global, server: &mut NitServer) -> NitState
 /// What can be read of a seat.
 #[unsafe(no_mangle)]
 pub extern "C" fn nit_seat_state(alloc: Global, server: &mut NitServer, seat: u32) -> NitSeatState
-    ensures { IsSeatStateOf (host_of server.old.mark server.old.value)
-        (host_of server.new.mark server.new.value) seat result }
+    ensures { IsSeatStateOf server.old server.new seat result }
 {
     if !server.is_live() {
         return no_seat_state(NO_SERVER);

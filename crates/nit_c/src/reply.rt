@@ -3,7 +3,12 @@
 ghost use Rattle.std.specs.Prelude.{◌≡◌};
 ghost use Rattle.nit_c.specs.Replies.{c_answer, c_event, c_reply, no_event, only_kind};
 
-use crate::numbers::unserved_number;
+use crate::numbers;
+use crate::numbers::{
+    BAD_RECT, BAD_SIZE, BAD_TITLE, DONE, FOCUS_ENTER, FOCUS_LEAVE, HANDLE, LEAVE, MOTION, NO_EVENT,
+    NO_RESERVE, NO_SUCH_VIEW, NOTHING, OUT_OF_QUOTA, PRESS, RELEASE, SESSION_CLOSED,
+    SESSION_KILLED, TOO_MANY_VIEWS, WHEEL, unserved_number,
+};
 use nit_events::{Event, Reply};
 use nit_host::Unserved;
 
@@ -42,9 +47,9 @@ pub struct NitReply {
     pub left: u64,
 }
 
-/// No event.
-pub(crate) const NO_EVENT: NitEvent = NitEvent {
-    kind: 0,
+/// An event that is none.
+pub(crate) const EMPTY: NitEvent = NitEvent {
+    kind: NOTHING,
     code: 0,
     x: 0,
     y: 0,
@@ -58,7 +63,7 @@ pub(crate) fn only_kind(kind: u32) -> NitReply
     NitReply {
         kind,
         handle: 0,
-        event: NO_EVENT,
+        event: EMPTY,
         need: 0,
         left: 0,
     }
@@ -71,7 +76,7 @@ fn of_code(kind: u32, code: u16) -> NitEvent
     NitEvent {
         kind,
         code: u32::from(code),
-        ..NO_EVENT
+        ..EMPTY
     }
 }
 
@@ -80,22 +85,22 @@ pub(crate) fn event_of(event: &Event) -> NitEvent
     ensures { result ≡ c_event event.now }
 {
     match *event {
-        Event::Press(code) => of_code(1, code),
-        Event::Release(code) => of_code(2, code),
+        Event::Press(code) => of_code(PRESS, code),
+        Event::Release(code) => of_code(RELEASE, code),
         Event::Motion(x, y) => NitEvent {
-            kind: 3,
+            kind: MOTION,
             x,
             y,
-            ..NO_EVENT
+            ..EMPTY
         },
         Event::Wheel(turn) => NitEvent {
-            kind: 4,
+            kind: WHEEL,
             turn: i32::from(turn),
-            ..NO_EVENT
+            ..EMPTY
         },
-        Event::Leave => of_code(5, 0),
-        Event::FocusEnter => of_code(6, 0),
-        Event::FocusLeave => of_code(7, 0),
+        Event::Leave => of_code(LEAVE, 0),
+        Event::FocusEnter => of_code(FOCUS_ENTER, 0),
+        Event::FocusLeave => of_code(FOCUS_LEAVE, 0),
     }
 }
 
@@ -104,36 +109,36 @@ fn reply_of(reply: &Reply) -> NitReply
     ensures { result ≡ c_reply reply.now }
 {
     match *reply {
-        Reply::Done => only_kind(1),
+        Reply::Done => only_kind(DONE),
         Reply::Handle(handle) => NitReply {
             handle,
-            ..only_kind(2)
+            ..only_kind(HANDLE)
         },
         Reply::Event(event) => NitReply {
             event: event_of(&event),
-            ..only_kind(3)
+            ..only_kind(numbers::EVENT)
         },
-        Reply::NoEvent => only_kind(4),
+        Reply::NoEvent => only_kind(NO_EVENT),
         Reply::NoSuchView(handle) => NitReply {
             handle,
-            ..only_kind(5)
+            ..only_kind(NO_SUCH_VIEW)
         },
-        Reply::BadRect => only_kind(6),
-        Reply::BadSize => only_kind(7),
-        Reply::BadTitle => only_kind(8),
-        Reply::TooManyViews => only_kind(9),
+        Reply::BadRect => only_kind(BAD_RECT),
+        Reply::BadSize => only_kind(BAD_SIZE),
+        Reply::BadTitle => only_kind(BAD_TITLE),
+        Reply::TooManyViews => only_kind(TOO_MANY_VIEWS),
         Reply::OutOfQuota { need, left } => NitReply {
             need,
             left,
-            ..only_kind(10)
+            ..only_kind(OUT_OF_QUOTA)
         },
         Reply::NoReserve { need, left } => NitReply {
             need,
             left,
-            ..only_kind(11)
+            ..only_kind(NO_RESERVE)
         },
-        Reply::Closed => only_kind(12),
-        Reply::Killed => only_kind(13),
+        Reply::Closed => only_kind(SESSION_CLOSED),
+        Reply::Killed => only_kind(SESSION_KILLED),
     }
 }
 

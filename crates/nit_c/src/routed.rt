@@ -3,8 +3,8 @@
 ghost use Rattle.std.specs.Prelude.{◌≡◌};
 ghost use Rattle.nit_c.specs.Routing.{c_delivery, c_item, c_routed, c_told, one_of, only_routed};
 
-use crate::numbers::{DONE, unserved_number};
-use crate::reply::{NO_EVENT, NitEvent, event_of};
+use crate::numbers::{DONE, KILL, unserved_number};
+use crate::reply::{EMPTY, NitEvent, event_of};
 use nit_events::{Delivery, Item, Routed};
 use nit_host::Unserved;
 
@@ -37,7 +37,7 @@ pub struct NitRouted {
 /// No delivery.
 const NOBODY: NitDelivery = NitDelivery {
     seat: 0,
-    event: NO_EVENT,
+    event: EMPTY,
 };
 
 /// An answer that is its kind alone.
@@ -60,8 +60,8 @@ fn item_of(item: &Item) -> NitEvent
     match item {
         Item::Event(event) => event_of(event),
         Item::Kill => NitEvent {
-            kind: 8,
-            ..NO_EVENT
+            kind: KILL,
+            ..EMPTY
         },
     }
 }

@@ -2,7 +2,6 @@
 
 ghost use Rattle.std.specs.Prelude.{◌≡◌};
 ghost use Rattle.nit_c.specs.Seating.{IsSeatFor, IsSeated, IsSeatedBy, seat_of};
-ghost use Rattle.nit_c.specs.Steps.{host_of};
 
 use crate::handle::NitServer;
 use crate::numbers::{BAD_LABEL, DONE, NO_SEAT, NO_SERVER, seat_number, unseated_number};
@@ -39,8 +38,7 @@ fn seat_of(host: &Host, label: &[u8]) -> Option<u32>
 /// A new client sits down on a free seat, under this label.
 #[unsafe(no_mangle)]
 pub extern "C" fn nit_seat(alloc: Global, server: &mut NitServer, seat: u32, label: &[u8]) -> u32
-    ensures { IsSeatedBy (host_of server.old.mark server.old.value)
-        (host_of server.new.mark server.new.value) seat label.now result }
+    ensures { IsSeatedBy server.old server.new seat label.now result }
 {
     if !server.is_live() {
         return NO_SERVER;
@@ -55,8 +53,7 @@ pub extern "C" fn nit_seat(alloc: Global, server: &mut NitServer, seat: u32, lab
 /// first free one. 4,294,967,295 where there is none.
 #[unsafe(no_mangle)]
 pub extern "C" fn nit_seat_for(alloc: Global, server: &mut NitServer, label: &[u8]) -> u32
-    ensures { IsSeatFor (host_of server.old.mark server.old.value)
-        (host_of server.new.mark server.new.value) label.now result }
+    ensures { IsSeatFor server.old server.new label.now result }
 {
     if !server.is_live() {
         return seat_number(None);

@@ -54,6 +54,11 @@ given h seat label none =
       over (session h.state seat).status (free (is_taken h.state seat) _ first.1),
     )
 
+-- what a call of a host leaves, where there is no reason not to serve it
+pub when_served : {A : Type 0} (o : Option A) (served old new : HostModel) → o ≡ None → new ≡ served
+    → new ≡ unless_for o served old
+when_served o served old new none is = is ∙ ap (λ x. unless_for x served old) (sym none)
+
 -- one act
 abbrev Goes : HostModel → HostModel → List Step → Type 0
 Goes h h' steps = AreSteps h.state steps × (h'.state ≡ after_steps h.state steps)
@@ -63,7 +68,7 @@ one : {A : Type 0} (h served : HostModel) (step : Step) (o : Option A) → (o �
 one h served step None is same = ((is refl, tt), same)
 one h served step (Some why) is same = (tt, refl)
 
-same_call : (h : HostModel) (seat : ℕ) (x y : Rattle.std.specs.Prelude.ℤ) (w height : ℕ) (words : List ℕ)
+pub same_call : (h : HostModel) (seat : ℕ) (x y : Rattle.std.specs.Prelude.ℤ) (w height : ℕ) (words : List ℕ)
     → (refreshed seat x y w height words h).state
     ≡ after_step h.state (Serves (entry.Call seat (call.Refresh x y w height)
     (reply_to h seat (call.Refresh x y w height))))

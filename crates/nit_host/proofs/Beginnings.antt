@@ -16,8 +16,8 @@ use Rattle.nit_word.specs.Sight.{Sight, plain_sight, told_words}
 use Rattle.nit_word.specs.Zeros.{zeros}
 use Rattle.nit_word.proofs.ForCallers.{length-zeros}
 use Rattle.nit_host.specs.Below.{Configuration, DesktopModel, IsGlass, State, glass_in, table_size}
-use Rattle.nit_host.specs.Fresh.{AreHollow, AreSheets, IsFresh, IsHost, sheet_at, sheets_of}
-use Rattle.nit_host.specs.Fresh.{size_at}
+use Rattle.nit_host.specs.Fresh.{AreBlank, AreHollow, AreSheets, IsFresh, IsHost, sheet_at}
+use Rattle.nit_host.specs.Fresh.{sheets_of, size_at}
 use Rattle.nit_host.specs.Host.{blank_sheets, first_host, sheet_in}
 use Rattle.nit_host.specs.Sheet.{SheetModel, blank_sheet}
 use Rattle.nit_host.proofs.SheetLists.{no_sheet, sight_at, sights}
@@ -80,6 +80,25 @@ one_room config n size sheets sheet have is fits sized = record {
       (subst (λ (k : ℕ). k ≤ sheet.room) sized fits)));
 }
 
+-- without room
+pub record AreHollowTo (config : Configuration) (n : ℕ) (sheets : List SheetModel) : Type 0 where
+  pub blank : AreBlankTo config n sheets
+  pub room : (t : ℕ) → t < n → (sheet_at sheets t).room ≡ 0
+
+pub one_hollow : (config : Configuration) (n size : ℕ) (sheets : List SheetModel) (sheet : SheetModel)
+    → AreHollowTo config n sheets → sheet.sight ≡ blank_sheet n size → sheet.room ≡ 0 → size ≡ size_at config n
+    → AreHollowTo config (n + 1) (sheets ++ sheet ∷ [])
+one_hollow config n size sheets sheet have is none sized = record {
+  blank = one_blank config n size sheets sheet have.blank is sized;
+  room = λ t below. dite (dec_lt t n)
+      (λ before. ap (λ (g : SheetModel). g.room)
+      (those_before sheets sheet t (omega (arith, before, have.blank.count))) ∙ have.room t before)
+      (λ past.
+      let here : t ≡ n = omega arith in
+      ap (λ (k : ℕ). (sheet_at (sheets ++ sheet ∷ []) k).room) here
+      ∙ ap (λ (g : SheetModel). g.room) (last_of sheets sheet n have.blank.count) ∙ none);
+}
+
 -- the size of a seat's table
 pub sized_at : (config : Configuration) (clients : List Member) (seat size : ℕ) (m : Member) → clients ≡ config.clients
     → seat < length clients → size ≡ table_size (get_or clients seat m).donation → size ≡ size_at config seat
@@ -90,10 +109,18 @@ sized_at config clients seat size m same inside is =
 -- ---- all sheets
 
 pub all_blank : (config : Configuration) (n : ℕ) (sheets : List SheetModel) → AreBlankTo config n sheets
-    → n ≡ length config.clients → AreHollow config sheets
+    → n ≡ length config.clients → AreBlank config sheets
 all_blank config n sheets are far = record {
   count = are.count ∙ far;
   blank = λ t inside. are.blank t (omega (arith, inside, far));
+}
+
+pub all_hollow : (config : Configuration) (n : ℕ) (sheets : List SheetModel) → AreHollowTo config n sheets
+    → n ≡ length config.clients → AreHollow config sheets
+all_hollow config n sheets are far = record {
+  count = are.blank.count ∙ far;
+  blank = λ t inside. are.blank.blank t (omega (arith, inside, far));
+  room = λ t inside. are.room t (omega (arith, inside, far));
 }
 
 pub blank_plain : (seat size : ℕ) (sight : Sight) → sight ≡ blank_sheet seat size
@@ -114,14 +141,14 @@ all_sheets config n sheets have far = record {
 }
 
 -- and they are glasses of the seats
-pub blank_glasses : (config : Configuration) (sheets : List SheetModel) → AreHollow config sheets → (t : ℕ)
+pub blank_glasses : (config : Configuration) (sheets : List SheetModel) → AreBlank config sheets → (t : ℕ)
     → t < length config.clients → IsGlass config t (glass_in (sights sheets) t)
 blank_glasses config sheets are t inside =
     let is : glass_in (sights sheets) t ≡ blank_sheet t (size_at config t) = sight_at sheets t ∙ are.blank t inside in
     (ap (λ (s : Sight). s.owner) is, ap (λ (s : Sight). s.size) is ∙ length-zeros (size_at config t))
 
 -- their words are 0
-pub words_blank : (config : Configuration) (sheets : List SheetModel) → AreHollow config sheets
+pub words_blank : (config : Configuration) (sheets : List SheetModel) → AreBlank config sheets
     → sheets_of sheets ≡ blank_sheets config
 words_blank config sheets are =
     let long : length (sheets_of sheets) ≡ length sheets =
@@ -168,7 +195,7 @@ begun s config d sheets hollows configured bare is raw glasses are hollow =
     }
 
 pub first_now : (s : State) (config : Configuration) (d : DesktopModel SheetModel) (sheets : List SheetModel)
-    → d.state ≡ s → d.left ≡ 4611686018427387904 → d.glasses ≡ sheets → AreHollow config sheets
+    → d.state ≡ s → d.left ≡ 4611686018427387904 → d.glasses ≡ sheets → AreBlank config sheets
     → record { state = d.state; sheets = sheets_of d.glasses; left = d.left; last = None; seen = None }
     ≡ first_host s config
 first_now s config d sheets is left glasses blank =

@@ -9,6 +9,9 @@ mod Rows
 mod Beginnings
 mod Inputs
 mod ActLemmas
+mod HandedWords
+mod ShownWords
+mod Clicks
 mod Seatings
 mod Refreshing
 mod Areas

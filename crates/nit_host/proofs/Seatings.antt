@@ -96,13 +96,14 @@ module _ (config : Configuration) (seat : ℕ) (label : List ℕ) where
     count = are.count ∙ sym same_count;
     blank = λ t inside. are.blank t (subst (λ (n : ℕ). t < n) same_count inside)
         ∙ ap (blank_sheet t) (sym (same_size t));
+    room = λ t inside. are.room t (subst (λ (n : ℕ). t < n) same_count inside);
   }
 
 -- another hollow sheet of the seat
 pub hollow_with : (config : Configuration) (hollows : List SheetModel) (seat : ℕ) (sheet : SheetModel)
-    → AreHollow config hollows → sheet.sight ≡ blank_sheet seat (size_at config seat)
+    → AreHollow config hollows → sheet.sight ≡ blank_sheet seat (size_at config seat) → sheet.room ≡ 0
     → AreHollow config (set hollows seat sheet)
-hollow_with config hollows seat sheet are is = record {
+hollow_with config hollows seat sheet are is none = record {
   count = length-set hollows seat sheet ∙ are.count;
   blank = λ t inside.
       elim (cases_eq t seat) [
@@ -112,6 +113,14 @@ hollow_with config hollows seat sheet are is = record {
             ap (λ (n : ℕ). (sheet_at (set hollows seat sheet) n).sight) e ∙ ap (λ (g : SheetModel). g.sight) here ∙ is
             ∙ ap (λ (n : ℕ). blank_sheet n (size_at config n)) (sym e)
         | inr other ↦ ap (λ (g : SheetModel). g.sight) (put_elsewhere hollows seat t sheet other) ∙ are.blank t inside
+      ];
+  room = λ t inside.
+      elim (cases_eq t seat) [
+        | inl e ↦
+            let here = put_there hollows seat sheet
+            (subst (λ (n : ℕ). seat < n) (sym are.count) (subst (λ (n : ℕ). n < length config.clients) e inside)) in
+            ap (λ (n : ℕ). (sheet_at (set hollows seat sheet) n).room) e ∙ ap (λ (g : SheetModel). g.room) here ∙ none
+        | inr other ↦ ap (λ (g : SheetModel). g.room) (put_elsewhere hollows seat t sheet other) ∙ are.room t inside
       ];
 }
 
@@ -158,12 +167,14 @@ pub record WasSeated (seat : ℕ) (label : List ℕ) (h : HostModel) (d : Deskto
       ≡ seated seat label h
 
 module _ (d d1 d2 : DesktopModel SheetModel) (hollows : List SheetModel) (seat : ℕ) (label : List ℕ)
-    (hollow own blank back : SheetModel) (kept : Option Entry) (seen : Option (List ℕ))
+    (hollow own blank back gone : SheetModel) (kept : Option Entry) (seen : Option (List ℕ))
     (host : IsHost d hollows) (inside : seat < length d.state.config.clients) (live : AreLive d.state)
     (over : (session d.state seat).status ≢ status.Live) (swapped : d1 ≡ with_sheet d seat hollow)
     (there : sheet_at hollows seat ≡ hollow) (out : slice_get d.glasses seat ≡ Some own)
     (wiped : blank.sight ≡ blank_sheet own.sight.owner own.sight.size) (room : own.room ≤ blank.room)
-    (opens : Opens seat label blank back d1 d2) (keep : OpeningsKeep) where
+    (opens : Opens seat label blank back d1 d2)
+    (emptied : gone.sight ≡ blank_sheet back.sight.owner back.sight.size) (nothing : gone.room ≡ 0)
+    (keep : OpeningsKeep) where
   config : Configuration
   config = d.state.config
 
@@ -193,6 +204,10 @@ module _ (d d1 d2 : DesktopModel SheetModel) (hollows : List SheetModel) (seat :
       ∙ ap (λ (g : SheetModel). g.sight)
       (put_there d.glasses seat hollow (subst (λ (n : ℕ). seat < n) (sym host.sheets.count) inside) ∙ sym there)
       ∙ host.hollow.blank seat inside
+
+  gone_is : gone.sight ≡ blank_sheet seat (size_at d.state.config seat)
+  gone_is = emptied ∙ (λ i. blank_sheet (ap (λ (s : Sight). s.owner) back_is i)
+      ((ap (λ (s : Sight). s.size) back_is ∙ length-zeros (size_at d.state.config seat)) i))
 
   all : AreSheets d.state.config (set d.glasses seat blank)
   all = sheets_with d.state.config d.glasses seat blank host.sheets (
@@ -227,7 +242,7 @@ module _ (d d1 d2 : DesktopModel SheetModel) (hollows : List SheetModel) (seat :
 
   pub was_seated : (h : HostModel)
       → record { state = d.state; sheets = sheets_of d.glasses; left = d.left; last = kept; seen = seen } ≡ h
-      → WasSeated seat label h d2 (set hollows seat back)
+      → WasSeated seat label h d2 (set hollows seat gone)
       × ((k : ℕ) → word_from (sheet_in (sheets_of d.glasses)) (source_of d.state (pixel d.state.config.width k))
       ≡ word_from (sheet_in (sheets_of d2.glasses))
       (source_of (opened seat label d.state) (pixel d.state.config.width k)))
@@ -235,19 +250,19 @@ module _ (d d1 d2 : DesktopModel SheetModel) (hollows : List SheetModel) (seat :
     where
       seated_now : (h : HostModel)
           → record { state = d.state; sheets = sheets_of d.glasses; left = d.left; last = kept; seen = seen } ≡ h
-          → WasSeated seat label h d2 (set hollows seat back)
+          → WasSeated seat label h d2 (set hollows seat gone)
       seated_now h view =
           let config_now : d2.state.config ≡ relabelled seat label d.state.config =
           ap (λ (s : State). s.config) o0.state in
-          subst (λ (x : HostModel). WasSeated seat label x d2 (set hollows seat back)) view
+          subst (λ (x : HostModel). WasSeated seat label x d2 (set hollows seat gone)) view
           (record {
             host = record {
               sheets = subst (λ (k : Configuration). AreSheets k d2.glasses) (sym config_now)
                   (subst (AreSheets (relabelled seat label d.state.config)) (sym glasses_now)
                   (sheets_relabelled d.state.config seat label (set d.glasses seat blank) all));
-              hollow = subst (λ (k : Configuration). AreHollow k (set hollows seat back)) (sym config_now)
-                  (hollow_relabelled d.state.config seat label (set hollows seat back)
-                  (hollow_with d.state.config hollows seat back host.hollow back_is));
+              hollow = subst (λ (k : Configuration). AreHollow k (set hollows seat gone)) (sym config_now)
+                  (hollow_relabelled d.state.config seat label (set hollows seat gone)
+                  (hollow_with d.state.config hollows seat gone host.hollow gone_is nothing));
               fresh = subst (λ (s : State). IsFresh s (sheet_in (sheets_of d2.glasses)) d2.raw) (sym o0.state)
                   (subst (λ (gs : List SheetModel). IsFresh (opened seat label d.state) (sheet_in (sheets_of gs))
                   d2.raw)

@@ -35,10 +35,17 @@ abbrev pub AreQuiet : List SheetModel → Type 0
 AreQuiet sheets = (t : ℕ) → (sheet_at sheets t).sight.log ≡ None
 
 -- each seat has a sheet, all of whose words are 0
+pub record AreBlank (config : Configuration) (sheets : List SheetModel) : Type 0 where
+  pub count : length sheets ≡ length config.clients
+  pub blank : (t : ℕ) → t < length config.clients → (sheet_at sheets t).sight ≡ blank_sheet t
+      (size_at config t)
+
+-- each seat has one that takes no memory
 pub record AreHollow (config : Configuration) (sheets : List SheetModel) : Type 0 where
   pub count : length sheets ≡ length config.clients
   pub blank : (t : ℕ) → t < length config.clients → (sheet_at sheets t).sight ≡ blank_sheet t
       (size_at config t)
+  pub room : (t : ℕ) → t < length config.clients → (sheet_at sheets t).room ≡ 0
 
 -- each raw word is the one that the session of its source has handed in last
 abbrev pub IsFresh : State → (ℕ → List ℕ) → List ℕ → Type 0

@@ -2,6 +2,7 @@ pub mod Sheet
 pub mod Plan
 pub mod Host
 pub mod Handing
+pub mod Words
 pub mod Seats
 pub mod Fresh
 pub mod Acts

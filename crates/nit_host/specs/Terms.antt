@@ -13,8 +13,8 @@ pub use Rattle.nit_host.specs.Below.{range_with_len, rectangle, refusal, relabel
 pub use Rattle.nit_host.specs.Below.{routed_as, scenery_of, serve, session, set_where, source_at}
 pub use Rattle.nit_host.specs.Below.{spans, table_size, told_words, vacant_state, word_from}
 pub use Rattle.nit_host.specs.Below.{words_of, zeros}
-pub use Rattle.nit_host.specs.Fresh.{AreHollow, AreQuiet, AreSheets, IsFresh, IsHost, IsPlainOf}
-pub use Rattle.nit_host.specs.Fresh.{sheet_at, sheets_of, size_at}
+pub use Rattle.nit_host.specs.Fresh.{AreBlank, AreHollow, AreQuiet, AreSheets, IsFresh, IsHost}
+pub use Rattle.nit_host.specs.Fresh.{IsPlainOf, sheet_at, sheets_of, size_at}
 pub use Rattle.nit_host.specs.Area.{StaysOutside}
 pub use Rattle.nit_host.specs.Handing.{after_handing, is_in_rows}
 pub use Rattle.nit_host.specs.Host.{HostModel, behind, blank_sheets, called, first_host, handed}

@@ -1,15 +1,31 @@
-//! Laws of a host's whole life, over plain lists of what it is asked.
+//! Laws of a host's whole life, over plain lists of what it is asked, and of the words that it
+//! shows.
 
-ghost use Rattle.std.specs.Prelude.{◌≡◌, ◌∷◌, ◌++◌, ◌<◌, List, length, ℕ};
-ghost use Rattle.nit_host.specs.Acts.{Act, after_acts, steps_of};
-ghost use Rattle.nit_host.specs.Terms.{HostModel};
-ghost use Rattle.nit_journal.specs.Terms.{AreLive, AreSteps, Gets, IsDown, Observation};
-ghost use Rattle.nit_journal.specs.Terms.{after_steps, first_input, opening_of, projection};
-ghost use Rattle.nit_journal.specs.Terms.{replies_from, replies_to, since_opening};
+ghost use Rattle.std.specs.Prelude.{All, ◌≡◌, ◌≢◌, ◌∷◌, ◌++◌, ◌<◌, ◌≤◌, ◌+◌, ◌*◌, ◌/◌, ◌%◌};
+ghost use Rattle.std.specs.Prelude.{◌^◌, ◌⊎◌, ◌-ℤ◌, List, [], length, slice_index, None, Some};
+ghost use Rattle.std.specs.Prelude.{false, pos, true, ℕ, ℤ};
+ghost use Rattle.nit_host.specs.Acts.{Act, Calls, Comes, Does, IsClickBy, Looks, Refreshes};
+ghost use Rattle.nit_host.specs.Acts.{after_act, after_acts, steps_of};
+ghost use Rattle.nit_host.specs.Terms.{HostModel, deliveries_of, is_accepted, picture, pixel};
+ghost use Rattle.nit_host.specs.Terms.{pixel_count, reply_to, routed_of, session, sheet_in};
+ghost use Rattle.nit_host.specs.Terms.{source_at, unseated, unserved_refresh};
+ghost use Rattle.nit_host.specs.Words.{IsInPart, word_of};
+ghost use Rattle.nit_word.specs.Channels.{bare_word};
+ghost use Rattle.nit_stack.specs.Sources.{Black, Word};
+ghost use Rattle.nit_stack.specs.declared.view.View.{View};
+ghost use Rattle.nit_journal.specs.Terms.{AreLive, AreSteps, Call, Delivery, Device, Flat, Gets};
+ghost use Rattle.nit_journal.specs.Terms.{IsDown, IsLive, Kill, KillsPointed, Observation};
+ghost use Rattle.nit_journal.specs.Terms.{TellsFocus, Xray, after_steps, first_input, is_button};
+ghost use Rattle.nit_journal.specs.Terms.{is_held, is_key, opening_of, owner_of, projection};
+ghost use Rattle.nit_journal.specs.Terms.{replies_from, replies_to, since_opening, to};
+ghost use Rattle.nit_journal.specs.Terms.{under_pointer};
+ghost use Rattle.nit_events.specs.declared.call.Call.TheVariants as call;
+ghost use Rattle.nit_events.specs.declared.device.Device.TheVariants as device;
 ghost use Rattle.nit_events.specs.declared.event.Event.TheVariants as event;
 ghost use Rattle.nit_events.specs.declared.event.Item.TheVariants as item;
 
 use nit_journal::laws::{
+    deliveries_fit, focus_is_the_users, input_goes_where_it_is_meant_along_steps,
     live_sessions_stay, releases_follow_presses_since_opening, seats_stand_alone,
 };
 
@@ -47,3 +63,104 @@ pub fn clients_are_served_alone()
     releases_follow_presses_since_opening();
     live_sessions_stay();
 }
+
+/// Where keys and buttons go, by what [`Host::input`](crate::Host::input) answers.
+///
+/// In the mode Flat, with nothing held down, a key goes to the client that has the focus, and a
+/// button to the one under the pointer; no other is told anything, but for the news of the focus.
+/// While codes are held, all goes to one client, the receiver. Only the user's click on one of its
+/// pixels gives a client the focus. Each item goes to a client that sits.
+///
+/// Of a host that has opened, whatever it was asked since: the receiver got the press of each code
+/// that is held, since it came. In the modes Xray and Kill, whatever the user does next, no client
+/// gets a key, a button, a motion or a turn of the wheel: all that is told is, in Xray, who lost
+/// the focus and who has it now, and in Kill, to the one under the pointer, that it is locked out.
+pub fn input_goes_where_it_is_meant()
+    ensures keys { (h : HostModel) (k : ℕ)
+        → h.state.input.mode ≡ Flat → h.state.input.held ≡ [] → is_key k ≡ true
+        → deliveries_of (routed_of h (device.Press k)) ≡ to h.state.input.focus (event.Press k) }
+    ensures buttons { (h : HostModel) (k : ℕ)
+        → h.state.input.mode ≡ Flat → h.state.input.held ≡ [] → is_button k ≡ true
+        → (news : List Delivery) × All (TellsFocus h.state) news
+        × (deliveries_of (routed_of h (device.Press k))
+        ≡ news ++ to (under_pointer h.state) (event.Press k)) }
+    ensures held { (h : HostModel) (dev : Device) → h.state.input.held ≢ []
+        → All (λ d. h.state.input.receiver ≡ Some d.sid) (deliveries_of (routed_of h dev)) }
+    ensures focus { (h : HostModel) (act : Act) (seat : ℕ)
+        → (after_act h act).state.input.focus ≡ Some seat
+        → (h.state.input.focus ≡ Some seat) ⊎ IsClickBy act h.state seat }
+    ensures live { (h : HostModel) (acts : List Act) (dev : Device)
+        → AreLive h.state → let now = after_acts h acts in
+        All (λ d. IsLive now.state d.sid) (deliveries_of (routed_of now dev)) }
+    ensures receiver { (h : HostModel) (acts : List Act) (seat k : ℕ)
+        → AreLive h.state → h.state.input ≡ first_input → let now = after_acts h acts in
+        now.state.input.receiver ≡ Some seat → is_held now.state.input k ≡ true
+        → IsDown k (projection seat (since_opening seat (steps_of h acts))) }
+    ensures xray { (h : HostModel) (acts : List Act) (dev : Device)
+        → h.state.input ≡ first_input → let now = after_acts h acts in
+        now.state.input.mode ≡ Xray
+        → All (TellsFocus now.state) (deliveries_of (routed_of now dev)) }
+    ensures kill { (h : HostModel) (acts : List Act) (dev : Device)
+        → h.state.input ≡ first_input → let now = after_acts h acts in
+        now.state.input.mode ≡ Kill
+        → All (KillsPointed now.state) (deliveries_of (routed_of now dev)) }
+{
+    hosts_go_by_steps();
+    deliveries_fit();
+    focus_is_the_users();
+    live_sessions_stay();
+    nit_journal::laws::input_goes_where_it_is_meant();
+    input_goes_where_it_is_meant_along_steps();
+}
+
+/// What a client has handed in, word by word. A refresh that is served and accepted sets the words
+/// of the part, each by its index in the buffer, to the low three bytes of those that stand there,
+/// and no other word of any seat; one that is refused sets none. Neither does a call, what the user
+/// does, or a look. A client that comes finds each of its words 0, and no other seat's changed.
+///
+/// A seat has at least the words of its buffer ([`Host::buffer`](crate::Host::buffer)).
+pub fn words_are_those_handed_in()
+    ensures handed { (h : HostModel) (seat : ℕ) (x y : ℤ) (w height : ℕ) (words : List ℕ) (i j : ℕ)
+        → unserved_refresh h seat words ≡ None
+        → is_accepted (reply_to h seat (call.Refresh x y w height)) ≡ true
+        → let s = session h.state seat in
+        s.bw * s.bh ≤ length (sheet_in h.sheets seat) → IsInPart s x y w height i j
+        → word_of (after_act h (Refreshes seat x y w height words)) seat (j * s.bw + i)
+        ≡ slice_index words (j * s.bw + i) % 2 ^ 24 }
+    ensures others { (h : HostModel) (seat : ℕ) (x y : ℤ) (w height : ℕ) (words : List ℕ) (t n : ℕ)
+        → let s = session h.state seat in
+        (t ≡ seat → (i j : ℕ) → IsInPart s x y w height i j → n ≢ j * s.bw + i)
+        → word_of (after_act h (Refreshes seat x y w height words)) t n ≡ word_of h t n }
+    ensures refused { (h : HostModel) (seat : ℕ) (x y : ℤ) (w height : ℕ) (words : List ℕ)
+        → is_accepted (reply_to h seat (call.Refresh x y w height)) ≡ false
+        → (after_act h (Refreshes seat x y w height words)).sheets ≡ h.sheets }
+    ensures calls { (h : HostModel) (seat : ℕ) (call : Call)
+        → (after_act h (Calls seat call)).sheets ≡ h.sheets }
+    ensures user { (h : HostModel) (dev : Device) → (after_act h (Does dev)).sheets ≡ h.sheets }
+    ensures looks { (h : HostModel) → (after_act h Looks).sheets ≡ h.sheets }
+    ensures comes { (h : HostModel) (seat : ℕ) (label : List ℕ) (n : ℕ)
+        → unseated h seat label ≡ None → word_of (after_act h (Comes seat label)) seat n ≡ 0 }
+    ensures stay { (h : HostModel) (seat : ℕ) (label : List ℕ) (t n : ℕ)
+        → t ≢ seat → word_of (after_act h (Comes seat label)) t n ≡ word_of h t n }
+{}
+
+/// Which of these words each pixel shows, before the mode lays anything over it. Where a view is
+/// the front-most one at a pixel below the bar, that is the word of the view's seat at the place of
+/// its buffer which lies under the pixel, by column and row: counted from the view's corner, and
+/// moved by its offset. It is 0 where the buffer does not reach, and the bare word where no view
+/// is.
+pub fn pixels_show_words_of_their_seats()
+    ensures source { (h : HostModel) (k seat n : ℕ) → k < pixel_count h.state
+        → source_at h.state k ≡ Word seat n → slice_index (picture h) k ≡ word_of h seat n }
+    ensures shown { (h : HostModel) (k i j : ℕ) (v : View) → k < pixel_count h.state
+        → let width = h.state.config.width in let s = session h.state v.sid in
+        owner_of h.state (pixel width k) ≡ Some v
+        → (pos (k % width) -ℤ v.rect.x) -ℤ v.ox ≡ pos i → i < s.bw
+        → (pos (k / width) -ℤ v.rect.y) -ℤ v.oy ≡ pos j → j < s.bh
+        → slice_index (picture h) k ≡ word_of h v.sid (j * s.bw + i) }
+    ensures black { (h : HostModel) (k : ℕ) → k < pixel_count h.state
+        → source_at h.state k ≡ Black → slice_index (picture h) k ≡ 0 }
+    ensures bare { (h : HostModel) (k : ℕ) → k < pixel_count h.state
+        → owner_of h.state (pixel h.state.config.width k) ≡ None
+        → slice_index (picture h) k ≡ bare_word }
+{}

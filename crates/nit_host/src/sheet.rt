@@ -53,13 +53,25 @@ impl Sheet {
 
     /// A sheet that is nothing but its size: its words are 0, and it has no room for others.
     pub(crate) fn hollow(alloc: Global, owner: u32, size: usize) -> Sheet
-        ensures { result.sight ≡ blank_sheet owner size }
+        ensures sight { result.sight ≡ blank_sheet owner size }
+        ensures room { result.room ≡ 0 }
     {
+        let mut reached = Vec::new(alloc);
+        reached.shrink_to_fit();
         Sheet {
             owner,
             size,
-            reached: Vec::new(alloc),
+            reached,
         }
+    }
+
+    /// Each word is 0 again, and what memory it has is freed. A hollow one stays as it is.
+    pub(crate) fn hollow_out(&mut self)
+        ensures sight { self.new.sight ≡ blank_sheet self.old.sight.owner self.old.sight.size }
+        ensures room { self.new.room ≡ 0 }
+    {
+        self.reached.clear();
+        self.reached.shrink_to_fit();
     }
 
     /// Each word is 0 again.

@@ -8,7 +8,8 @@ use std::ops::Deref;
 /// What a call answers: its result, or why it was refused.
 pub type Reply<T = ()> = Result<T, Refusal>;
 
-/// Why a call was refused. Nothing changed.
+/// Why a call was refused. No view, no word and no event changed. Those of a client's session, down
+/// to [`Refusal::Killed`], are steps of the server all the same.
 #[derive(Clone, Copy, Debug, PartialEq, Eq, Hash)]
 #[non_exhaustive]
 pub enum Refusal {
@@ -66,7 +67,7 @@ pub enum Refusal {
     BadPlan,
     /// The text of the configuration is refused.
     Config(ConfigRefusal),
-    /// No seat is free, a seat that is taken has the label, or it is no label.
+    /// No seat is free, or a seat that is taken has the label.
     NoFreeSeat,
     /// The library answers a number that this crate does not know.
     Unknown(u32),
@@ -97,11 +98,18 @@ pub enum ConfigRefusal {
 
 impl ConfigRefusal {
     fn of(kind: u32) -> Option<Self> {
-        use ConfigRefusal::*;
-        let all = [
-            TooLong, Syntax, Kind, Missing, Unknown, TooMany, Range, Label, Twice,
-        ];
-        all.get(kind.checked_sub(64)? as usize).copied()
+        Some(match kind {
+            raw::CONFIG_TOO_LONG => ConfigRefusal::TooLong,
+            raw::CONFIG_SYNTAX => ConfigRefusal::Syntax,
+            raw::CONFIG_KIND => ConfigRefusal::Kind,
+            raw::CONFIG_MISSING => ConfigRefusal::Missing,
+            raw::CONFIG_UNKNOWN => ConfigRefusal::Unknown,
+            raw::CONFIG_TOO_MANY => ConfigRefusal::TooMany,
+            raw::CONFIG_RANGE => ConfigRefusal::Range,
+            raw::CONFIG_LABEL => ConfigRefusal::Label,
+            raw::CONFIG_TWICE => ConfigRefusal::Twice,
+            _ => return None,
+        })
     }
 }
 
@@ -109,24 +117,24 @@ impl Refusal {
     /// The refusal of a number that is none of those with fields.
     pub(crate) fn of(kind: u32) -> Self {
         match kind {
-            6 => Refusal::BadRect,
-            7 => Refusal::BadSize,
-            8 => Refusal::BadTitle,
-            9 => Refusal::TooManyViews,
-            12 => Refusal::Closed,
-            13 => Refusal::Killed,
-            32 => Refusal::NoSeat,
-            33 => Refusal::SeatTaken,
-            34 => Refusal::LabelTaken,
-            35 => Refusal::BadLabel,
-            36 => Refusal::BadText,
-            37 => Refusal::BadDevice,
-            38 => Refusal::ShortWords,
-            39 => Refusal::WrongFrame,
-            40 => Refusal::HandlesUsedUp,
-            41 => Refusal::WornOut,
-            42 => Refusal::NoMemory,
-            44 => Refusal::BadPlan,
+            raw::BAD_RECT => Refusal::BadRect,
+            raw::BAD_SIZE => Refusal::BadSize,
+            raw::BAD_TITLE => Refusal::BadTitle,
+            raw::TOO_MANY_VIEWS => Refusal::TooManyViews,
+            raw::SESSION_CLOSED => Refusal::Closed,
+            raw::SESSION_KILLED => Refusal::Killed,
+            raw::NO_SEAT => Refusal::NoSeat,
+            raw::SEAT_TAKEN => Refusal::SeatTaken,
+            raw::LABEL_TAKEN => Refusal::LabelTaken,
+            raw::BAD_LABEL => Refusal::BadLabel,
+            raw::BAD_TEXT => Refusal::BadText,
+            raw::BAD_DEVICE => Refusal::BadDevice,
+            raw::SHORT_WORDS => Refusal::ShortWords,
+            raw::WRONG_FRAME => Refusal::WrongFrame,
+            raw::HANDLES_USED_UP => Refusal::HandlesUsedUp,
+            raw::WORN_OUT => Refusal::WornOut,
+            raw::NO_MEMORY => Refusal::NoMemory,
+            raw::BAD_PLAN => Refusal::BadPlan,
             other => match ConfigRefusal::of(other) {
                 Some(refusal) => Refusal::Config(refusal),
                 None => Refusal::Unknown(other),
@@ -138,9 +146,9 @@ impl Refusal {
     pub(crate) fn of_reply(reply: &raw::Reply) -> Self {
         let (need, left) = (reply.need, reply.left);
         match reply.kind {
-            5 => Refusal::NoSuchView(reply.handle),
-            10 => Refusal::OutOfQuota { need, left },
-            11 => Refusal::NoReserve { need, left },
+            raw::NO_SUCH_VIEW => Refusal::NoSuchView(reply.handle),
+            raw::OUT_OF_QUOTA => Refusal::OutOfQuota { need, left },
+            raw::NO_RESERVE => Refusal::NoReserve { need, left },
             other => Refusal::of(other),
         }
     }
@@ -203,7 +211,8 @@ pub enum Event {
     Motion(u16, u16),
     /// The wheel turns by -127..=127.
     Wheel(i32),
-    /// The pointer has left the client's pixels.
+    /// The pointer is another's from here on: it went to other pixels, or a mode began in which
+    /// clients are told nothing of it.
     Leave,
     /// The client has the focus now.
     FocusEnter,
@@ -214,13 +223,13 @@ pub enum Event {
 impl Event {
     pub(crate) fn of(event: &raw::Event) -> Option<Self> {
         Some(match event.kind {
-            1 => Event::Press(event.code),
-            2 => Event::Release(event.code),
-            3 => Event::Motion(event.x, event.y),
-            4 => Event::Wheel(event.turn),
-            5 => Event::Leave,
-            6 => Event::FocusEnter,
-            7 => Event::FocusLeave,
+            raw::PRESS => Event::Press(event.code),
+            raw::RELEASE => Event::Release(event.code),
+            raw::MOTION => Event::Motion(event.x, event.y),
+            raw::WHEEL => Event::Wheel(event.turn),
+            raw::LEAVE => Event::Leave,
+            raw::FOCUS_ENTER => Event::FocusEnter,
+            raw::FOCUS_LEAVE => Event::FocusLeave,
             _ => return None,
         })
     }
@@ -229,7 +238,8 @@ impl Event {
 /// What something that the user did is to a client.
 #[derive(Clone, Copy, Debug, PartialEq, Eq, Hash)]
 pub enum Item {
-    /// The event waits at its seat, unless 64 wait there already.
+    /// The event waits at its seat until it is taken, or its client leaves or is locked out; unless
+    /// 64 wait there already: then it is lost.
     Event(Event),
     /// The client is locked out.
     Kill,

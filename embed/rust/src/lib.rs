@@ -177,7 +177,7 @@ impl Server {
     }
 
     /// A new client sits down: on the free seat that had this label last, or else on the first free
-    /// one. The number of the seat is answered.
+    /// one, whatever its layer, donation and clicks. The number of the seat is answered.
     ///
     /// # Errors
     /// [`Refusal::BadLabel`], [`Refusal::NoFreeSeat`].
@@ -264,8 +264,9 @@ impl Server {
 
     /// Brings the words, one for each pixel, row by row from the top, up to date with what the
     /// screen shows. They have to be as the last look left them; before the first look they may be
-    /// any. The least part outside of which nothing was written is answered; none where nothing was.
-    /// Of words that are not as the last look left them, only those in the part are surely right.
+    /// any. The least part outside of which no word changed is answered; none where none did. Of
+    /// words that are not as the last look left them, only those in the part are surely right, and
+    /// nothing tests that they are.
     ///
     /// # Errors
     /// [`Refusal::WrongFrame`].
@@ -288,8 +289,8 @@ impl Server {
             height: state.height,
             seats: state.seats,
             mode: match state.mode {
-                0 => Mode::Flat,
-                1 => Mode::Xray,
+                raw::MODE_FLAT => Mode::Flat,
+                raw::MODE_XRAY => Mode::Xray,
                 _ => Mode::Kill,
             },
             focus: some_seat(state.focus),

@@ -6,8 +6,53 @@ pub const DONE: u32 = 1;
 pub const HANDLE: u32 = 2;
 pub const EVENT: u32 = 3;
 pub const NO_EVENT: u32 = 4;
-pub const NONE: u32 = u32::MAX;
+pub const NO_SUCH_VIEW: u32 = 5;
+pub const BAD_RECT: u32 = 6;
+pub const BAD_SIZE: u32 = 7;
+pub const BAD_TITLE: u32 = 8;
+pub const TOO_MANY_VIEWS: u32 = 9;
+pub const OUT_OF_QUOTA: u32 = 10;
+pub const NO_RESERVE: u32 = 11;
+pub const SESSION_CLOSED: u32 = 12;
+pub const SESSION_KILLED: u32 = 13;
+pub const NO_SEAT: u32 = 32;
+pub const SEAT_TAKEN: u32 = 33;
+pub const LABEL_TAKEN: u32 = 34;
+pub const BAD_LABEL: u32 = 35;
+pub const BAD_TEXT: u32 = 36;
+pub const BAD_DEVICE: u32 = 37;
+pub const SHORT_WORDS: u32 = 38;
+pub const WRONG_FRAME: u32 = 39;
+pub const HANDLES_USED_UP: u32 = 40;
+pub const WORN_OUT: u32 = 41;
+pub const NO_MEMORY: u32 = 42;
+pub const BAD_PLAN: u32 = 44;
+
+pub const CONFIG_TOO_LONG: u32 = 64;
+pub const CONFIG_SYNTAX: u32 = 65;
+pub const CONFIG_KIND: u32 = 66;
+pub const CONFIG_MISSING: u32 = 67;
+pub const CONFIG_UNKNOWN: u32 = 68;
+pub const CONFIG_TOO_MANY: u32 = 69;
+pub const CONFIG_RANGE: u32 = 70;
+pub const CONFIG_LABEL: u32 = 71;
+pub const CONFIG_TWICE: u32 = 72;
+
+pub const PRESS: u32 = 1;
+pub const RELEASE: u32 = 2;
+pub const MOTION: u32 = 3;
+pub const WHEEL: u32 = 4;
+pub const LEAVE: u32 = 5;
+pub const FOCUS_ENTER: u32 = 6;
+pub const FOCUS_LEAVE: u32 = 7;
 pub const KILL: u32 = 8;
+
+pub const MODE_FLAT: u32 = 0;
+pub const MODE_XRAY: u32 = 1;
+pub const SEAT_LIVE: u32 = 1;
+pub const SEAT_CLOSED: u32 = 2;
+
+pub const NONE: u32 = u32::MAX;
 
 #[repr(C)]
 #[derive(Debug)]

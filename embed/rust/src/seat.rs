@@ -64,8 +64,8 @@ impl<'a> Seat<'a> {
         let state = unsafe { raw::nit_seat_state(self.server, self.number) };
         (state.kind == raw::DONE).then_some(SeatState {
             status: match state.status {
-                1 => Status::Live,
-                2 => Status::Closed,
+                raw::SEAT_LIVE => Status::Live,
+                raw::SEAT_CLOSED => Status::Closed,
                 _ => Status::Killed,
             },
             waiting: state.waiting,
@@ -178,7 +178,8 @@ impl<'a> Seat<'a> {
 
     /// What the client has drawn in this part of its buffer is shown: x and y -32768..=32767, w and
     /// h 0..=32767. The words are those of its whole buffer, row by row, each row as wide as the
-    /// buffer; those of the part are kept until they are refreshed again.
+    /// buffer. Those of the part are kept by their index until they are refreshed again, or the
+    /// client leaves.
     ///
     /// # Errors
     /// [`Refusal::ShortWords`], [`Refusal::BadRect`].

@@ -2,6 +2,7 @@
 
 ghost use Rattle.std.specs.Prelude.{◌≡◌, ◌-◌, ◌*◌, ◌^◌, ◌<◌, ◌≤◌, None, Some, Ok, Err, length, map};
 ghost use Rattle.std.specs.Prelude.{nat_lt, slice_get, slice_set, true};
+ghost use Rattle.nit_host.specs.Acts.{Calls, Refreshes, after_act};
 ghost use Rattle.nit_host.specs.Terms.{AreQuiet, IsPlainOf, Painted, Reply, Unserved, after};
 ghost use Rattle.nit_host.specs.Terms.{asks_view, called, glass_in, refreshed, refusal, rectangle};
 ghost use Rattle.nit_host.specs.Terms.{reply_to, serve, session, unserved_call, unserved_refresh};
@@ -35,6 +36,7 @@ impl Host {
             (self.new ≡ called seat call.now self.old) }
         ensures unserved { (why : Unserved) → unserved_call self.old seat call.now ≡ Some why
             → (result ≡ Err why) × (self.new ≡ self.old) }
+        ensures act { self.new ≡ after_act self.old (Calls seat call.now) }
     {
         if let Some(why) = self.unserved_call(seat, call) {
             return Err(why);
@@ -80,6 +82,8 @@ impl Host {
             (self.new ≡ refreshed seat place.0 place.1 size.0 size.1 words.now self.old) }
         ensures unserved { (why : Unserved) → unserved_refresh self.old seat words.now ≡ Some why
             → (result ≡ Err why) × (self.new ≡ self.old) }
+        ensures act { self.new ≡ after_act self.old
+            (Refreshes seat place.0 place.1 size.0 size.1 words.now) }
     {
         if let Some(why) = self.unserved_refresh(seat, words) {
             return Err(why);

@@ -1,6 +1,7 @@
 //! A look at what of the frame changed, and at the last entry.
 
 ghost use Rattle.std.specs.Prelude.{◌≡◌, ◌*◌, ◌↔◌, None, IfOk, IfSome, length};
+ghost use Rattle.nit_host.specs.Acts.{Looks, after_act};
 ghost use Rattle.nit_host.specs.Terms.{AgreeIn, CoversChange, IsAsSeen, IsTouched, LiesOn};
 ghost use Rattle.nit_host.specs.Terms.{frame_shown, last_text, looked};
 
@@ -33,6 +34,7 @@ impl Host {
         ensures shown { let config = self.old.state.config in
             IfSome result (λ r. AgreeIn config.width out.new (frame_shown self.old) r) }
         ensures host { self.new ≡ looked self.old }
+        ensures act { self.new ≡ after_act self.old Looks }
     {
         self.desktop.facts();
         let (width, height) = self.desktop.size();

@@ -1,7 +1,7 @@
 //! A host before its first step.
 
 ghost use Rattle.std.specs.Prelude.{◌≡◌, ◌≤◌, ◌<◌, IfOk, length, ℕ};
-ghost use Rattle.nit_host.specs.Terms.{AreHollow, AreSheets, IsConfiguration, IsDonation};
+ghost use Rattle.nit_host.specs.Terms.{AreBlank, AreHollow, AreSheets, IsConfiguration, IsDonation};
 ghost use Rattle.nit_host.specs.Terms.{blank_sheet, first_host, first_state, sheet_at, size_at};
 ghost use Rattle.nit_host.specs.Terms.{table_size, vacant_state};
 
@@ -57,7 +57,7 @@ impl Host {
 /// A sheet for each seat, in order, whose words are 0.
 fn sheets(alloc: Global, config: &Config) -> Result<Vec<Sheet>, NoMemory>
     requires { IsConfiguration config.now }
-    ensures blank { IfOk result (λ v. AreHollow config.now v.items) }
+    ensures blank { IfOk result (λ v. AreBlank config.now v.items) }
     ensures room { IfOk result (λ v. AreSheets config.now v.items) }
 {
     let clients = config.clients.as_slice();

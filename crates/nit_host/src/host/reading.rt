@@ -1,9 +1,9 @@
 //! What can be read of a host.
 
-ghost use Rattle.std.specs.Prelude.{◌≡◌, ◌<◌, false, find, length, IfSome, IsTrue, not, None, Some};
-ghost use Rattle.std.specs.Prelude.{if◌then◌else◌};
+ghost use Rattle.std.specs.Prelude.{◌≡◌, ◌<◌, ◌≤◌, ◌*◌, false, find, length, IfSome, IsTrue};
+ghost use Rattle.std.specs.Prelude.{not, None, Some, if◌then◌else◌};
 ghost use Rattle.nit_host.specs.Terms.{IsFreeLabel, has_label, is_taken, member, seat_for};
-ghost use Rattle.nit_host.specs.Terms.{seats_of, session};
+ghost use Rattle.nit_host.specs.Terms.{seats_of, session, sheet_in};
 
 use crate::host::Host;
 use nit_events::{Mode, Status};
@@ -56,11 +56,14 @@ impl Host {
     }
 
     /// The width and the height of the buffer of a seat's client, in words: 0 by 0 before it has
-    /// one.
+    /// one. The seat has at least as many words.
     pub fn buffer(&self, seat: u32) -> (u32, u32)
         requires { seat < length self.now.state.sessions }
-        ensures { result ≡ ((session self.now.state seat).bw, (session self.now.state seat).bh) }
+        ensures size { result
+            ≡ ((session self.now.state seat).bw, (session self.now.state seat).bh) }
+        ensures within { result.0 * result.1 ≤ length (sheet_in self.now.sheets seat) }
     {
+        self.facts();
         self.desktop.buffer(seat)
     }
 

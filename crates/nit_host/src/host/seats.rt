@@ -1,6 +1,7 @@
 //! Clients that come.
 
 ghost use Rattle.std.specs.Prelude.{◌≡◌, None, Some, Ok, Err};
+ghost use Rattle.nit_host.specs.Acts.{Comes, after_act};
 ghost use Rattle.nit_host.specs.Terms.{Unseated, seated, unseated};
 
 use crate::host::Host;
@@ -23,6 +24,7 @@ impl Host {
             → (result ≡ Ok tt) × (self.new ≡ seated seat label self.old) }
         ensures unseated { (why : Unseated) → unseated self.old seat label ≡ Some why
             → (result ≡ Err why) × (self.new ≡ self.old) }
+        ensures act { self.new ≡ after_act self.old (Comes seat label) }
     {
         if let Some(why) = self.unseated(seat, &label) {
             return Err(why);
@@ -34,6 +36,7 @@ impl Host {
         self.desktop.exchange(seat, own);
         own.wipe();
         self.desktop.reopen(seat, label, own);
+        own.hollow_out();
         self.changed = self.changed.join(&part);
         self.last = None;
         Ok(())

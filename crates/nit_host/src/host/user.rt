@@ -1,6 +1,7 @@
 //! What the user does.
 
 ghost use Rattle.std.specs.Prelude.{◌≡◌, None, Some, Ok, Err};
+ghost use Rattle.nit_host.specs.Acts.{Does, after_act};
 ghost use Rattle.nit_host.specs.Terms.{Unserved, is_device, routed_of, told, unserved_input};
 
 use crate::host::Host;
@@ -28,6 +29,7 @@ impl Host {
             → (result ≡ Ok (routed_of self.old device)) × (self.new ≡ told device self.old) }
         ensures unserved { (why : Unserved) → unserved_input self.old device ≡ Some why
             → (result ≡ Err why) × (self.new ≡ self.old) }
+        ensures act { self.new ≡ after_act self.old (Does device) }
     {
         if let Some(why) = self.unserved_input(device) {
             return Err(why);

@@ -1,7 +1,7 @@
 use Rattle.std.proofs.Common.{Ok, Some, ap, arith, length, subst, sym, ◌<◌, ◌∙◌}
 use Rattle.nit_host.specs.Area.{IsAreaOf}
 use Rattle.nit_host.specs.Fresh.{IsPlainOf, sheets_of}
-use Rattle.nit_host.specs.Host.{HostModel}
+use Rattle.nit_host.specs.Host.{HostModel, called, unserved_call}
 use Rattle.nit_host.specs.Sheet.{SheetModel}
 use Rattle.nit_events.specs.declared.entry.Entry.TheVariants as entry
 use Rattle.nit_host.specs.Below.{Configuration, DesktopModel, State, after, serve}
@@ -10,6 +10,7 @@ use Rattle.nit_host.proofs.CallChanges.{seen_called, words_stay}
 use Rattle.nit_host.proofs.Served.{may_call}
 use Rattle.nit_host.proofs.SheetLists.{hollow_glass, own_plain, there_at}
 use Rattle.nit_host.proofs.Steps.{only_called}
+use Rattle.nit_host.proofs.ActLemmas.{when_served}
 use Rattle.nit_host.proofs.host.Host.call.Goals as goal
 
 pub exchange-requires-clause-glass : goal.exchange-requires-clause-glass
@@ -115,3 +116,35 @@ returns-clause-served c = λ _.
         seen = ap (λ (m : HostModel). m.seen) c.self.view_is i;
       }) ∙ done.now,
     )
+
+pub returns-clause-act : goal.returns-clause-act
+returns-clause-act c =
+    let d = c.self.inside.desktop in
+    let hollows = c.self.invariant.0.hollow in
+    let s = c.serve-reply.ensures in
+    let session : c.args.seat < length d.state.sessions =
+    subst (λ (h : HostModel). c.args.seat < length h.state.sessions) (sym c.self.view_is)
+    (may_call c.args.self.now c.args.seat c.args.call.now (sym c.in_default.ensures)).inside in
+    let done = only_called d c.exchange.new.self c.serve-reply.new.desktop c.self.inside.hollows.items c.args.seat
+    c.args.call.now c.serve-reply.result c.index_mut-own.result.now c.exchange.new.glass c.serve-reply.new.own
+    c.self.inside.last _ c.self.invariant.0 session c.facts.ensures.sessions c.exchange.ensures.desktop
+    (there_at c.self.inside.hollows.items c.args.seat c.index_mut-own.result.now c.index_mut-own.ensures.value
+    (omega (arith, session, c.facts.ensures.sessions, hollows.count)))
+    c.exchange.ensures.out (record {
+      reply = s.reply;
+      state = s.state;
+      left = s.left;
+      glasses = s.glasses;
+      out =
+          s.own;
+      painted = s.painted;
+    }) c.clean_pixels_keep_their_source.ensures c.args.self.now c.self.view_is in
+    when_served (unserved_call c.args.self.now c.args.seat c.args.call.now)
+    (called c.args.seat c.args.call.now c.args.self.now) c.args.self.now _ (sym c.in_default.ensures)
+    ((λ i. record {
+      state = c.serve-reply.new.desktop.state;
+      sheets = sheets_of c.serve-reply.new.desktop.glasses;
+      left = c.serve-reply.new.desktop.left;
+      last = Some (entry.Call c.args.seat c.args.call.now c.serve-reply.result);
+      seen = ap (λ (m : HostModel). m.seen) c.self.view_is i;
+    }) ∙ done.now)

@@ -3,9 +3,10 @@ use Rattle.nit_events.specs.declared.entry.Entry.TheVariants as entry
 use Rattle.nit_host.specs.Area.{IsAreaOf}
 use Rattle.nit_host.specs.Below.{Configuration, State}
 use Rattle.nit_host.specs.Fresh.{sheets_of}
-use Rattle.nit_host.specs.Host.{HostModel}
+use Rattle.nit_host.specs.Host.{HostModel, told, unserved_input}
 use Rattle.nit_host.proofs.OtherChanges.{seen_input}
 use Rattle.nit_host.proofs.Inputs.{was_told}
+use Rattle.nit_host.proofs.ActLemmas.{when_served}
 use Rattle.nit_host.proofs.host.Host.input.Goals as goal
 
 pub invariant_of-self : goal.invariant_of-self
@@ -42,7 +43,8 @@ returns-clause-served c = λ _.
     let e = c.input-routed.ensures in
     let done = was_told c.self.inside.desktop c.input-routed.new.self c.self.inside.hollows.items c.args.device
     c.input-routed.result c.self.inside.last _ c.self.invariant.0
-    e.routed e.state e.left e.painted e.rests c.clean_pixels_keep_their_source.ensures c.args.self.now c.self.view_is in (
+    e.routed e.state e.left e.painted e.rests c.clean_pixels_keep_their_source.ensures c.args.self.now
+    c.self.view_is in (
       ap Ok done.routed_now,
       (λ i. record {
         state = c.input-routed.new.self.state;
@@ -52,3 +54,19 @@ returns-clause-served c = λ _.
         seen = ap (λ (m : HostModel). m.seen) c.self.view_is i;
       }) ∙ done.now,
     )
+
+pub returns-clause-act : goal.returns-clause-act
+returns-clause-act c =
+    let e = c.input-routed.ensures in
+    let done = was_told c.self.inside.desktop c.input-routed.new.self c.self.inside.hollows.items c.args.device
+    c.input-routed.result c.self.inside.last _ c.self.invariant.0
+    e.routed e.state e.left e.painted e.rests c.clean_pixels_keep_their_source.ensures c.args.self.now c.self.view_is in
+    when_served (unserved_input c.args.self.now c.args.device) (told c.args.device c.args.self.now) c.args.self.now _
+    (sym c.in_default.ensures)
+    ((λ i. record {
+      state = c.input-routed.new.self.state;
+      sheets = sheets_of c.input-routed.new.self.glasses;
+      left = c.input-routed.new.self.left;
+      last = Some (entry.Input c.args.device c.input-routed.result);
+      seen = ap (λ (m : HostModel). m.seen) c.self.view_is i;
+    }) ∙ done.now)

@@ -7,7 +7,7 @@ use Rattle.nit_events.specs.declared.call.Call.TheVariants as call
 use Rattle.nit_events.specs.declared.entry.Entry.TheVariants as entry
 use Rattle.nit_host.specs.Fresh.{AreQuiet, IsPlainOf, sheets_of}
 use Rattle.nit_host.specs.Handing.{after_handing}
-use Rattle.nit_host.specs.Host.{HostModel}
+use Rattle.nit_host.specs.Host.{HostModel, refreshed, unserved_refresh}
 use Rattle.nit_host.specs.Sheet.{SheetModel}
 use Rattle.nit_host.proofs.CallChanges.{seen_called}
 use Rattle.nit_host.proofs.Refreshing.{handed_plain, was_refreshed}
@@ -15,6 +15,7 @@ use Rattle.nit_host.proofs.Served.{may_refresh}
 use Rattle.nit_host.proofs.SheetLists.{hollow_glass, hollow_quiet, own_plain, own_room}
 use Rattle.nit_host.proofs.SheetLists.{plain_by_owner, quiet_sheets, quiet_with, there_at}
 use Rattle.nit_host.proofs.Steps.{Serves}
+use Rattle.nit_host.proofs.ActLemmas.{when_served}
 use Rattle.nit_host.proofs.host.Host.refresh.Goals as goal
 
 pub exchange-requires-clause-glass : goal.exchange-requires-clause-glass
@@ -224,3 +225,59 @@ returns-clause-served c = λ _.
         seen = ap (λ (m : HostModel). m.seen) c.self.view_is i;
       }) ∙ done.0.now,
     )
+
+pub returns-clause-act : goal.returns-clause-act
+returns-clause-act c =
+    let d = c.self.inside.desktop in
+    let may = may_refresh c.args.self.now c.args.seat c.args.words.now (sym c.in_default.ensures) in
+    let known : c.args.seat < length d.state.sessions =
+    subst (λ (h : HostModel). c.args.seat < length h.state.sessions) (sym c.self.view_is) may.inside in
+    let inside : c.args.seat < length d.state.config.clients = omega (arith, known, c.facts.ensures.sessions) in
+    let handed : c.hand_in.new.sheet.sight
+    ≡ plain_sight c.exchange.new.glass.sight.owner
+    (after_handing (session d.state c.args.seat).bw (session d.state c.args.seat).bh c.part-part.result
+    c.args.words.now (told_words c.exchange.new.glass.sight.words)) =
+    c.hand_in.ensures.sight
+    ∙ ap (λ (size : ℕ × ℕ). plain_sight c.exchange.new.glass.sight.owner
+    (after_handing size.0 size.1 c.part-part.result c.args.words.now (told_words c.exchange.new.glass.sight.words)))
+    c.buffer-buffer.ensures.size in
+    let hollows = c.self.invariant.0.hollow in
+    let s = c.serve-reply.ensures in
+    let done = was_refreshed d c.exchange.new.self c.serve-reply.new.desktop c.self.inside.hollows.items c.args.seat
+    c.args.place.0 c.args.place.1 c.args.size.0 c.args.size.1 c.args.words.now c.part-part.result
+    c.serve-reply.result
+    c.index_mut-own.result.now c.exchange.new.glass c.hand_in.new.sheet c.serve-reply.new.own c.self.inside.last _
+    c.self.invariant.0 known c.facts.ensures.sessions c.exchange.ensures.desktop
+    (there_at c.self.inside.hollows.items c.args.seat c.index_mut-own.result.now c.index_mut-own.ensures.value
+    (omega (arith, inside, hollows.count)))
+    c.exchange.ensures.out handed c.hand_in.ensures.room
+    (subst (λ (h : HostModel). refusal (session h.state c.args.seat)
+    (call.Refresh c.args.place.0 c.args.place.1 c.args.size.0 c.args.size.1) ≡ None
+    → c.part-part.result ≡ Some (rectangle c.args.place.0 c.args.place.1 c.args.size.0 c.args.size.1))
+    (sym c.self.view_is) c.part-part.ensures.accepted)
+    (subst (λ (h : HostModel). (why : Reply)
+    → refusal (session h.state c.args.seat) (call.Refresh c.args.place.0 c.args.place.1 c.args.size.0 c.args.size.1)
+    ≡ Some why → c.part-part.result ≡ None)
+    (sym c.self.view_is) c.part-part.ensures.refused)
+    (subst (λ (k : Call). Serves c.args.seat k c.hand_in.new.sheet c.serve-reply.new.own c.exchange.new.self
+    c.serve-reply.new.desktop c.serve-reply.result) c.refresh_of-call.ensures
+    (record {
+      reply = s.reply;
+      state = s.state;
+      left = s.left;
+      glasses = s.glasses;
+      out = s.own;
+      painted =
+          s.painted;
+    })) c.clean_pixels_keep_their_source.ensures c.args.self.now c.self.view_is in
+    when_served (unserved_refresh c.args.self.now c.args.seat c.args.words.now)
+    (refreshed c.args.seat c.args.place.0 c.args.place.1 c.args.size.0 c.args.size.1 c.args.words.now c.args.self.now)
+    c.args.self.now _ (sym c.in_default.ensures)
+    ((λ i. record {
+      state = c.serve-reply.new.desktop.state;
+      sheets = sheets_of c.serve-reply.new.desktop.glasses;
+      left = c.serve-reply.new.desktop.left;
+      last =
+          Some (entry.Call c.args.seat (c.refresh_of-call.ensures i) c.serve-reply.result);
+      seen = ap (λ (m : HostModel). m.seen) c.self.view_is i;
+    }) ∙ done.0.now)

@@ -7,11 +7,12 @@ use Rattle.nit_host.specs.Below.{relabelled, session}
 use Rattle.nit_host.specs.Fresh.{sheets_of}
 use Rattle.nit_host.proofs.OtherChanges.{seen_seated}
 use Rattle.nit_host.specs.Host.{HostModel}
-use Rattle.nit_host.specs.Seats.{is_label_taken}
+use Rattle.nit_host.specs.Seats.{is_label_taken, seated, unseated}
 use Rattle.nit_host.specs.Sheet.{SheetModel}
 use Rattle.nit_host.proofs.FirstSeats.{free_of}
 use Rattle.nit_host.proofs.Seatings.{blank_glass, may_sit, was_seated}
 use Rattle.nit_host.proofs.SheetLists.{hollow_glass, there_at}
+use Rattle.nit_host.proofs.ActLemmas.{when_served}
 use Rattle.nit_host.proofs.host.Host.seat.Goals as goal
 
 pub exchange-requires-clause-glass : goal.exchange-requires-clause-glass
@@ -60,12 +61,14 @@ invariant_of-self c =
     subst (λ (h : HostModel). (session h.state c.args.seat).status ≢ status.Live) (sym c.self.view_is) may.over in
     let o = c.reopen.ensures in
     let done = was_seated d c.exchange.new.self c.reopen.new.self c.self.inside.hollows.items c.args.seat c.args.label
-    c.index_mut-own.result.now c.exchange.new.glass c.wipe.new.self c.reopen.new.glass c.self.inside.last _
+    c.index_mut-own.result.now c.exchange.new.glass c.wipe.new.self c.reopen.new.glass
+    c.hollow_out.new.self c.self.inside.last _
     c.self.invariant.0 inside c.facts.ensures.live over c.exchange.ensures.desktop
     (there_at c.self.inside.hollows.items c.args.seat c.index_mut-own.result.now c.index_mut-own.ensures.value
     (omega (arith, inside, hollows.count)))
     c.exchange.ensures.out c.wipe.ensures.sight c.wipe.ensures.room
     (record { state = o.state; left = o.left; raw = o.raw; sights_now = o.sights; rooms_now = o.rests; out = o.out })
+    c.hollow_out.ensures.sight c.hollow_out.ensures.room
     c.openings_keep_all.ensures.sources c.args.self.now c.self.view_is in
     let config = ap (λ (t : State). t.config) o.state
     ∙ ap (λ (x : DesktopModel SheetModel). relabelled c.args.seat c.args.label x.state.config)
@@ -96,12 +99,14 @@ returns-clause-seated c = λ _.
     subst (λ (h : HostModel). (session h.state c.args.seat).status ≢ status.Live) (sym c.self.view_is) may.over in
     let o = c.reopen.ensures in
     let done = was_seated d c.exchange.new.self c.reopen.new.self c.self.inside.hollows.items c.args.seat c.args.label
-    c.index_mut-own.result.now c.exchange.new.glass c.wipe.new.self c.reopen.new.glass c.self.inside.last _
+    c.index_mut-own.result.now c.exchange.new.glass c.wipe.new.self c.reopen.new.glass
+    c.hollow_out.new.self c.self.inside.last _
     c.self.invariant.0 inside c.facts.ensures.live over c.exchange.ensures.desktop
     (there_at c.self.inside.hollows.items c.args.seat c.index_mut-own.result.now c.index_mut-own.ensures.value
     (omega (arith, inside, hollows.count)))
     c.exchange.ensures.out c.wipe.ensures.sight c.wipe.ensures.room
     (record { state = o.state; left = o.left; raw = o.raw; sights_now = o.sights; rooms_now = o.rests; out = o.out })
+    c.hollow_out.ensures.sight c.hollow_out.ensures.room
     c.openings_keep_all.ensures.sources c.args.self.now c.self.view_is in (
       refl,
       (λ i. record {
@@ -112,3 +117,34 @@ returns-clause-seated c = λ _.
         seen = ap (λ (m : HostModel). m.seen) c.self.view_is i;
       }) ∙ done.0.now,
     )
+
+pub returns-clause-act : goal.returns-clause-act
+returns-clause-act c =
+    let d = c.self.inside.desktop in
+    let may = may_sit c.args.self.now c.args.seat c.args.label (sym c.in_default.ensures) in
+    let known : c.args.seat < length d.state.sessions =
+    subst (λ (h : HostModel). c.args.seat < length h.state.sessions) (sym c.self.view_is) may.inside in
+    let inside : c.args.seat < length d.state.config.clients = omega (arith, known, c.facts.ensures.sessions) in
+    let hollows = c.self.invariant.0.hollow in
+    let over : (session d.state c.args.seat).status ≢ status.Live =
+    subst (λ (h : HostModel). (session h.state c.args.seat).status ≢ status.Live) (sym c.self.view_is) may.over in
+    let o = c.reopen.ensures in
+    let done = was_seated d c.exchange.new.self c.reopen.new.self c.self.inside.hollows.items c.args.seat c.args.label
+    c.index_mut-own.result.now c.exchange.new.glass c.wipe.new.self c.reopen.new.glass
+    c.hollow_out.new.self c.self.inside.last _
+    c.self.invariant.0 inside c.facts.ensures.live over c.exchange.ensures.desktop
+    (there_at c.self.inside.hollows.items c.args.seat c.index_mut-own.result.now c.index_mut-own.ensures.value
+    (omega (arith, inside, hollows.count)))
+    c.exchange.ensures.out c.wipe.ensures.sight c.wipe.ensures.room
+    (record { state = o.state; left = o.left; raw = o.raw; sights_now = o.sights; rooms_now = o.rests; out = o.out })
+    c.hollow_out.ensures.sight c.hollow_out.ensures.room
+    c.openings_keep_all.ensures.sources c.args.self.now c.self.view_is in
+    when_served (unseated c.args.self.now c.args.seat c.args.label)
+    (seated c.args.seat c.args.label c.args.self.now) c.args.self.now _ (sym c.in_default.ensures)
+    ((λ i. record {
+      state = c.reopen.new.self.state;
+      sheets = sheets_of c.reopen.new.self.glasses;
+      left = c.reopen.new.self.left;
+      last = None;
+      seen = ap (λ (m : HostModel). m.seen) c.self.view_is i;
+    }) ∙ done.0.now)

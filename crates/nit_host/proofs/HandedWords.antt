@@ -1,0 +1,203 @@
+-- Words that a client hands in, by their columns and rows.
+use Rattle.std.proofs.Common.{Bool, List, None, Option, Some, [], ap, arith, cond, false}
+use Rattle.std.proofs.Common.{get_or-set_other, get_or-set_same, inl, inr, length, nat_lt, pos}
+use Rattle.std.proofs.Common.{refl, set, slice_index, sym, true, ℕ, ℤ, ◌%◌, ◌&&◌, ◌*◌, ◌+◌, ◌/◌}
+use Rattle.std.proofs.Common.{◌<◌, ◌^◌, ◌∙◌, ◌≡◌, ◌≢◌, ◌≤◌, ◌+ℤ◌, ◌<ℤ◌, ◌≤ℤ◌, int_le, int_lt}
+use Rattle.std.proofs.Math.ListN.{length-set}
+use Rattle.std.proofs.lemmas.Bool.{and_parts, cases_eq, false_from_ne_true}
+use Rattle.std.proofs.lemmas.Bool.Decides.{nat_tests}
+use Rattle.std.proofs.lemmas.Int.{ints}
+use Rattle.std.proofs.lemmas.List.{get_or_past}
+use Rattle.std.proofs.lemmas.Nat.{div-add-mod', div-mul-add, mod-mul-add, mul-add-lt}
+use Rattle.nit_events.specs.declared.call.Call.TheVariants as call
+use Rattle.nit_word.proofs.ForCallers.{column_and_row, set_long, word_at, zero_at}
+use Rattle.nit_host.specs.Acts.{Calls, Comes, Does, Refreshes, after_act, unless_for}
+use Rattle.nit_host.specs.Below.{Call, Device, Rectangle, Session, covers, donation_of}
+use Rattle.nit_host.specs.Below.{is_accepted, pixel, rectangle, session, set_where, spans}
+use Rattle.nit_host.specs.Below.{table_size, zeros}
+use Rattle.nit_host.specs.Host.{HostModel, called, handed, is_handed, refreshed, reply_to, sheet_in}
+use Rattle.nit_host.specs.Host.{unserved_call, unserved_input, unserved_refresh, with_handed}
+use Rattle.nit_host.specs.Seats.{seated, unseated}
+use Rattle.nit_host.specs.Sheet.{low_bytes}
+use Rattle.nit_host.specs.Words.{IsInPart, word_of}
+use Rattle.nit_host.specs.declared.refusal.Unseated.{Unseated}
+use Rattle.nit_host.specs.declared.refusal.Unserved.{Unserved}
+use mathlib.Core.Logic.{dite}
+use native.Mathlib.Decide.{dec_lt}
+
+-- ---- a place that is handed in
+
+pub both_hold : {b c : Bool} → b ≡ true → c ≡ true → (b && c) ≡ true
+both_hold p q = rw (p, q) refl
+
+pub in_part : (s : Session) (x y : ℤ) (w height i j : ℕ) → IsInPart s x y w height i j
+    → is_handed s.bw s.bh (rectangle x y w height) (j * s.bw + i) ≡ true
+in_part s x y w height i j is =
+    let before : j * s.bw + i < s.bw * s.bh = mul-add-lt j s.bw i s.bh is.row is.column in
+    let test : nat_lt (j * s.bw + i) (s.bw * s.bh) ≡ true = grind (arith, nat_tests) in
+    let low = is.left in let high = is.right in let above = is.top in let below = is.bottom in
+    let across : spans x w (pos i) ≡ true = grind (arith, nat_tests, ints) in
+    let down : spans y height (pos j) ≡ true = grind (arith, nat_tests, ints) in
+    both_hold test (both_hold
+    (ap (λ (n : ℕ). spans x w (pos n)) (mod-mul-add j s.bw i is.column) ∙ across)
+    (ap (λ (n : ℕ). spans y height (pos n)) (div-mul-add j s.bw i is.column) ∙ down))
+
+pub part_in : (s : Session) (x y : ℤ) (w height n : ℕ) → is_handed s.bw s.bh (rectangle x y w height) n ≡ true
+    → IsInPart s x y w height (n % s.bw) (n / s.bw)
+part_in s x y w height n is =
+    let two = and_parts (nat_lt n (s.bw * s.bh)) (covers (rectangle x y w height) (pixel s.bw n)) is in
+    let sides = and_parts (spans x w (pos (n % s.bw))) (spans y height (pos (n / s.bw))) two.1 in
+    let before : n < s.bw * s.bh = (let test = two.0 in grind (arith, nat_tests)) in
+    let at = column_and_row s.bw s.bh n before in
+    let across = spanned x (n % s.bw) w sides.0 in
+    let down = spanned y (n / s.bw) height sides.1 in
+    record { column = at.0; row = at.1; left = across.0; right = across.1; top = down.0; bottom = down.1 }
+  where
+    spanned : (from : ℤ) (at long : ℕ) → spans from long (pos at) ≡ true
+        → (from ≤ℤ pos at) × (pos at <ℤ (from +ℤ pos long))
+    spanned from at long test =
+        let tests = and_parts (int_le from (pos at)) (int_lt (pos at) (from +ℤ pos long)) test in
+        let low = tests.0 in
+        let high = tests.1 in
+        (grind (arith, nat_tests, ints), grind (arith, nat_tests, ints))
+
+pub not_handed : (s : Session) (x y : ℤ) (w height n : ℕ)
+    → ((i j : ℕ) → IsInPart s x y w height i j → n ≢ j * s.bw + i)
+    → is_handed s.bw s.bh (rectangle x y w height) n ≡ false
+not_handed s x y w height n none =
+    false_from_ne_true (is_handed s.bw s.bh (rectangle x y w height) n)
+    (λ is. none (n % s.bw) (n / s.bw) (part_in s x y w height n is) (omega (arith, div-add-mod' n s.bw)))
+
+-- ---- one word of a list
+
+pub set_here : (p : ℕ → Bool) (c : ℕ → ℕ) (words : List ℕ) (n : ℕ) → n < length words → p n ≡ true
+    → slice_index (set_where p c words) n ≡ c n
+set_here p c words n inside is =
+    word_at p c words n inside ∙ ap (λ (b : Bool). cond b (c n) (slice_index words n)) is
+
+pub not_here : (p : ℕ → Bool) (c : ℕ → ℕ) (words : List ℕ) (n : ℕ) → p n ≡ false
+    → slice_index (set_where p c words) n ≡ slice_index words n
+not_here p c words n off =
+    dite (dec_lt n (length words))
+    (λ inside. word_at p c words n inside ∙ ap (λ (b : Bool). cond b (c n) (slice_index words n)) off)
+    (λ behind.
+    get_or_past (set_where p c words) n 0 (omega (arith, set_long p c words, behind))
+    ∙ sym (get_or_past words n 0 (omega (arith, behind))))
+
+-- the words of one seat are others
+pub word_elsewhere : (sheets : List (List ℕ)) (seat t n : ℕ) (now : List ℕ)
+    → (t ≡ seat → slice_index now n ≡ slice_index (sheet_in sheets seat) n)
+    → slice_index (sheet_in (set sheets seat now) t) n ≡ slice_index (sheet_in sheets t) n
+word_elsewhere sheets seat t n now same =
+    elim (cases_eq t seat) [
+      | inl e ↦
+          dite (dec_lt seat (length sheets))
+          (λ inside. ap (λ (m : ℕ). slice_index (sheet_in (set sheets seat now) m) n) e
+          ∙ ap (λ (ws : List ℕ). slice_index ws n) (get_or-set_same sheets seat now [] inside) ∙ same e
+          ∙ ap (λ (m : ℕ). slice_index (sheet_in sheets m) n) (sym e))
+          (λ behind.
+          let long = length-set sheets seat now in
+          ap (λ (ws : List ℕ). slice_index ws n)
+          (get_or_past (set sheets seat now) t [] (omega (arith, e, long, behind))
+          ∙ sym (get_or_past sheets t [] (omega (arith, e, behind)))))
+      | inr other ↦ ap (λ (ws : List ℕ). slice_index ws n) (get_or-set_other sheets seat t now [] other)
+    ]
+
+-- ---- a refresh
+
+module _ (h : HostModel) (seat : ℕ) (x y : ℤ) (w height : ℕ) (words : List ℕ) where
+  abbrev s : Session
+  s = session h.state seat
+
+  abbrev part : Rectangle
+  part = rectangle x y w height
+
+  abbrev asked : Call
+  asked = call.Refresh x y w height
+
+  abbrev refreshed_if : Bool → HostModel
+  refreshed_if b = cond b (called seat asked (with_handed seat part words h)) (called seat asked h)
+
+  pub handed_word : (i j : ℕ) → unserved_refresh h seat words ≡ None → is_accepted (reply_to h seat asked) ≡ true
+      → s.bw * s.bh ≤ length (sheet_in h.sheets seat) → IsInPart s x y w height i j
+      → word_of (after_act h (Refreshes seat x y w height words)) seat (j * s.bw + i)
+      ≡ slice_index words (j * s.bw + i) % 2 ^ 24
+  handed_word i j none accepted fits is =
+      ap (λ o. word_of (unless_for o (refreshed seat x y w height words h) h) seat (j * s.bw + i)) none
+      ∙ ap (λ (b : Bool). word_of (refreshed_if b) seat (j * s.bw + i)) accepted
+      ∙ ap (λ (ws : List ℕ). slice_index ws (j * s.bw + i))
+      (get_or-set_same h.sheets seat (handed s part words (sheet_in h.sheets seat)) [] inside)
+      ∙ set_here (is_handed s.bw s.bh part) (low_bytes words) (sheet_in h.sheets seat) (j * s.bw + i)
+      (omega (arith, before, fits)) (in_part s x y w height i j is)
+    where
+      before : j * s.bw + i < s.bw * s.bh
+      before = mul-add-lt j s.bw i s.bh is.row is.column
+
+      inside : seat < length h.sheets
+      inside =
+          dite (dec_lt seat (length h.sheets)) (λ here. here)
+          (λ past.
+          let none_there = ap length (get_or_past h.sheets seat [] (omega (arith, past))) in
+          absurd (omega (arith, none_there, fits, before)))
+
+  pub other_word : (t n : ℕ) → (t ≡ seat → (i j : ℕ) → IsInPart s x y w height i j → n ≢ j * s.bw + i)
+      → word_of (after_act h (Refreshes seat x y w height words)) t n ≡ word_of h t n
+  other_word t n none = served (unserved_refresh h seat words)
+    where
+      taken : (b : Bool) → word_of (refreshed_if b) t n ≡ word_of h t n
+      taken true =
+          word_elsewhere h.sheets seat t n (handed s part words (sheet_in h.sheets seat))
+          (λ e. not_here (is_handed s.bw s.bh part) (low_bytes words) (sheet_in h.sheets seat) n
+          (not_handed s x y w height n (none e)))
+      taken false = refl
+
+      served : (o : Option Unserved) → word_of (unless_for o (refreshed seat x y w height words h) h) t n
+          ≡ word_of h t n
+      served None = taken (is_accepted (reply_to h seat asked))
+      served (Some why) = refl
+
+  pub refused_words : is_accepted (reply_to h seat asked) ≡ false
+      → (after_act h (Refreshes seat x y w height words)).sheets ≡ h.sheets
+  refused_words refused = served (unserved_refresh h seat words)
+    where
+      served : (o : Option Unserved) → (unless_for o (refreshed seat x y w height words h) h).sheets ≡ h.sheets
+      served None = ap (λ (b : Bool). (refreshed_if b).sheets) refused
+      served (Some why) = refl
+
+-- ---- what is no refresh
+
+same_sheets_for : {A : Type 0} (o : Option A) (served h : HostModel) → served.sheets ≡ h.sheets
+    → (unless_for o served h).sheets ≡ h.sheets
+same_sheets_for None served h same = same
+same_sheets_for (Some why) served h same = refl
+
+pub called_words : (h : HostModel) (seat : ℕ) (c : Call) → (after_act h (Calls seat c)).sheets ≡ h.sheets
+called_words h seat c = same_sheets_for (unserved_call h seat c) (called seat c h) h refl
+
+pub user_words : (h : HostModel) (dev : Device) → (after_act h (Does dev)).sheets ≡ h.sheets
+user_words h dev = same_sheets_for (unserved_input h dev) (Rattle.nit_host.specs.Host.told dev h) h refl
+
+-- ---- a client that comes
+
+pub come_word : (h : HostModel) (seat : ℕ) (label : List ℕ) (n : ℕ) → unseated h seat label ≡ None
+    → word_of (after_act h (Comes seat label)) seat n ≡ 0
+come_word h seat label n none =
+    ap (λ o. word_of (unless_for o (seated seat label h) h) seat n) none
+    ∙ dite (dec_lt seat (length h.sheets))
+    (λ inside. ap (λ (ws : List ℕ). slice_index ws n) (get_or-set_same h.sheets seat blank [] inside)
+    ∙ zero_at (table_size (donation_of h.state.config seat)) n)
+    (λ behind. let long = length-set h.sheets seat blank in
+    ap (λ (ws : List ℕ). slice_index ws n)
+    (get_or_past (set h.sheets seat blank) seat [] (omega (arith, long, behind))))
+  where
+    blank : List ℕ
+    blank = zeros (table_size (donation_of h.state.config seat))
+
+pub stay_word : (h : HostModel) (seat : ℕ) (label : List ℕ) (t n : ℕ) → t ≢ seat
+    → word_of (after_act h (Comes seat label)) t n ≡ word_of h t n
+stay_word h seat label t n other = go (unseated h seat label)
+  where
+    go : (o : Option Unseated) → word_of (unless_for o (seated seat label h) h) t n ≡ word_of h t n
+    go None = ap (λ (ws : List ℕ). slice_index ws n)
+        (get_or-set_other h.sheets seat t (zeros (table_size (donation_of h.state.config seat))) [] other)
+    go (Some why) = refl
