@@ -35,7 +35,10 @@
 //! send::<nitpicker::Server>();
 //! ```
 //!
-//! It cannot be copied either, and a seat borrows it as long as it is used.
+//! It cannot be copied either, and a seat borrows it as long as it is used. So of the duties that
+//! the header lists three are left to a host: the words of [`Server::look`] are as the last look
+//! left them, no client is served or seated while the mode is [`Mode::Kill`], and the archive that
+//! is linked is of this version.
 //!
 //! ```compile_fail
 //! fn copy<T: Clone>() {}

@@ -148,7 +148,8 @@ impl<'a> Seat<'a> {
         done(unsafe { raw::nit_back(self.server, self.number, view.0) })
     }
 
-    /// The view stands directly in front of the other one.
+    /// The view stands directly in front of the other one of the client. Nothing changes where the
+    /// two are the same.
     ///
     /// # Errors
     /// [`Refusal::NoSuchView`], of the first before the second.
@@ -215,7 +216,8 @@ impl<'a> Seat<'a> {
         done(unsafe { raw::nit_upgrade(self.server, self.number, units) })
     }
 
-    /// The client leaves. Its views are gone, and its seat is free.
+    /// The client leaves. Its views, its buffer and the events that wait for it are gone, and its
+    /// seat is free.
     ///
     /// # Errors
     /// Those of each call.
